@@ -6,22 +6,28 @@ For the crates above it a library is made of contracts alone: there the goal of 
 is declared and stands nowhere."""
 import glob
 import os
+import re
 
-from edits import HEADER, Place, text_of
+from edits import HEADER, TOP, Place, text_of
 
 BODY = "unreachable!()"
 ASSUMED = "let _ = crate::never(0);\n{}    unreachable!()"
+# What calls a function, or imports some.
+NAMED = re.compile(r"(?<!fn )\b\w+\(|^(?:pub(?:\([^)]*\))? )?use [^;]*;", re.M)
+TACTIC = re.compile(r"^ *#\[tactic\((?:[^\n]*|\n.*?\n *)\)\]\n", re.M | re.S)
 NEVER = 'unsafe extern "C" {\n    pub(crate) safe fn never(x: u8) -> u8\n        ensures { ⊥ };\n}\n'
 ANSWER = "use Rattle.{}.Goals as goal\n\npub unreachable-requires : goal.unreachable-requires\nunreachable-requires = ?\n"
 
 
 def body_at(lines, head, indent, heads):
-    """Returns the lines of the braces around the body of a function in rt fmt's layout, or None where it has none."""
+    """Returns the lines of the braces around the body of a function in rt fmt's layout, the same for an empty one, or None where it has none."""
     for at in range(head, len(lines)):
         line = lines[at]
         if at > head and at in heads:
             return None
         if line.startswith(indent) and not line[len(indent) :].startswith(" "):
+            if line == f"{indent}{{}}":
+                return at, at
             if line.endswith("{"):
                 return at, lines.index(f"{indent}}}", at)
             if line.endswith((";", "}")):
@@ -29,20 +35,33 @@ def body_at(lines, head, indent, heads):
     return None
 
 
-def without_bodies(text, crate, folder, file, kept, body_of=lambda indent: BODY):
+def without_bodies(text, crate, folder, file, kept, body_of=lambda indent: BODY, named=None):
     """Returns a file's text without the bodies of its functions, and these. Those of the places in kept stay, and so do constant functions,
-    which types may need, and methods of traits with arguments, whose proofs stand in folders of other names."""
+    which types may need, and methods of traits with arguments, whose proofs stand in folders of other names. If names are given that are still
+    called or imported, private functions of a module with other names go, and the attributes that say how the others are proved."""
     lines, places, end, made = text.split("\n"), [], -1, []
     heads = {text.count("\n", 0, it.start(2)): it for it in HEADER.finditer(text)}
     for at, line in enumerate(lines):
         if at > end:
             made.append(line)
             body = body_at(lines, at, heads[at][1], heads) if at in heads and "const fn" not in line else None
+            if body and body[0] == body[1] and named is None:
+                # An empty one costs nothing where only other functions are checked.
+                body = None
             place = Place(crate, folder, file, text[: heads[at].end()]) if body else None
             if place and place not in kept and not place.has_arguments:
                 places.append(place)
-                made += [*lines[at + 1 : body[0] + 1], f"{heads[at][1]}    {body_of(heads[at][1])}", lines[body[1]]]
-                end = body[1]
+                end, above = body[1], len(made) - 1
+                if named is not None:
+                    while above and made[above - 1]:
+                        above -= 1
+                    made[above:] = TACTIC.sub("", "\n".join(made[above:])).split("\n")
+                if named is None or heads[at][1] or "pub" in heads[at][0] or place.name in named:
+                    indent, is_empty = heads[at][1], body[0] == body[1]
+                    made += [*lines[at + 1 : body[0] + (not is_empty)], *[f"{indent}{{"] * is_empty, f"{indent}    {body_of(indent)}", f"{indent}}}"]
+                else:
+                    # Its head goes, with its attributes and comment.
+                    del made[above:]
     return "\n".join(made), places
 
 
@@ -69,14 +88,54 @@ def bodiless(crate, folder, texts, kept):
     return texts
 
 
+def lemmas(folder, module=()):
+    """Returns the files of lemmas by their modules, as proofs/Lib.antt and the files that it names declare them."""
+    found = {}
+    for name in re.findall(r"^(?:pub )?mod (\w+)", text_of(f"{folder}/proofs/{'/'.join(module) or 'Lib'}.antt"), re.M):
+        found[*module, name] = f"proofs/{'/'.join((*module, name))}.antt"
+        found.update(lemmas(folder, (*module, name)))
+    return found
+
+
+def all_texts(folder):
+    """Returns the texts of all files of a crate that its proof reads, by their paths in it."""
+    paths = [path for part in ("src", "specs", "proofs") for path in glob.glob(f"{folder}/{part}/**/*.*t", recursive=True)]
+    return {os.path.relpath(path, folder): text_of(path) for path in paths}
+
+
+def without_lemmas(crate, folder, texts):
+    """Returns the given texts of a crate's files, also with those of its lemmas: None for a file that nothing cites, in the crate as these texts
+    make it or in another one, and else the text without its lines for such files."""
+    files, own = lemmas(folder), {it: text for it, text in {**all_texts(folder), **texts}.items() if text is not None}
+    cites = re.compile(rf"\b(?:Rattle\.{crate}\.proofs|(?:crate|{crate})::proofs)((?:(?:\.|::)\w+)+)")
+    left = [text for it, text in own.items() if it not in files.values() and it != "proofs/Lib.antt"]
+    others = [it for it in glob.glob(f"{TOP}/crates/*") if os.path.basename(it) != crate]
+    left += [text for it in others for text in all_texts(it).values() if crate in text]
+    cited = set()
+    while left:
+        for words in cites.findall(left.pop()):
+            names = tuple(re.findall(r"\w+", words))
+            modules = {names[:it] for it in range(1, len(names) + 1)} & {*files} - cited
+            cited |= modules
+            left += [own[files[it]] for it in modules]
+    texts = {**texts, **{files[it]: None for it in files if it not in cited}}
+    for module in [(), *cited]:
+        file = files[module] if module else "proofs/Lib.antt"
+        texts[file] = re.sub(r"^(?:pub )?mod (\w+)\n", lambda line: line[0] if (*module, line[1]) in cited else "", own[file], flags=re.M)
+    return texts
+
+
 def contracts(crate, folder):
-    """Returns the texts of the files of a library of which the contracts alone are left; None for a file that goes."""
+    """Returns the texts of the files of a library of which the contracts alone are left; None for a file that goes. Private functions go
+    that nothing calls or imports any more, and lemmas that nothing cites any more."""
+    files = {it: text for it, text in all_texts(folder).items() if it.endswith(".rt")}
+    bare = [without_bodies(text, crate, folder, file, (), ASSUMED.format)[0] for file, text in files.items()]
+    named = {name for text in bare for it in NAMED.finditer(text) for name in re.findall(r"\w+", it[0])}
     # A folder named with a plus has the proofs of several functions.
     texts = gone(folder, "proofs/**/+*")
-    for path in sorted(glob.glob(f"{folder}/src/**/*.rt", recursive=True)):
-        file = os.path.relpath(path, folder)
-        texts[file], places = without_bodies(text_of(path), crate, folder, file, (), ASSUMED.format)
+    for file, text in files.items():
+        texts[file], places = without_bodies(text, crate, folder, file, (), ASSUMED.format, named)
         for it in places:
             texts.update(gone(folder, proofs_of(it)))
     texts["src/lib.rt"] += NEVER
-    return texts
+    return without_lemmas(crate, folder, texts)

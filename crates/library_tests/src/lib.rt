@@ -1,4 +1,4 @@
-//! The tests of the libraries `semver_core` and `nodejs_semver`.
+//! The tests of the library `nodejs_semver`.
 #![tactic(auto)]
 
 #[cfg(test)]

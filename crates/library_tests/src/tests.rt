@@ -3,17 +3,13 @@ mod borrowed_ranges;
 mod calling;
 mod calling_laws;
 mod choice;
-mod cuts;
 mod diagnosis;
-mod difference;
+mod documented;
 mod error;
 mod fast_ranges;
-mod fast_versions;
-mod increment;
 mod json;
 mod kinds;
 mod laws;
-mod lent;
 mod lists;
 mod npm;
 mod npm_flaws;
@@ -25,12 +21,11 @@ mod outside;
 mod print;
 mod range;
 mod readme;
-mod scan;
-mod version;
 
-use nodejs_semver::{Failure, Identifier, SemverError, Version};
+use nodejs_semver::{Failure, SemverError};
 use std::alloc::{AllocError, Global};
 use std::fmt::Display;
+use std::hash::{DefaultHasher, Hash, Hasher};
 
 // A function that owns several values is dear to prove, since each of its exits lets go of all of
 // them. So a test asserts what helpers return, and each of these owns one value and lends it.
@@ -81,34 +76,9 @@ fn long_text(alloc: Global, head: &str, rest: &str, count: usize) -> Result<Stri
     Ok(text)
 }
 
-// An identifier of this text, whatever its characters.
-fn text_identifier(alloc: Global, text: &str) -> Option<Identifier> {
-    match String::from_str(alloc, text) {
-        Ok(text) => Some(Identifier::AlphaNumeric(text)),
-        Err(_) => None,
-    }
-}
-
-// The list of one identifier.
-fn one_identifier(alloc: Global, identifier: Option<Identifier>) -> Option<Vec<Identifier>> {
-    match identifier {
-        Some(identifier) => vec![in alloc; identifier].ok(),
-        None => None,
-    }
-}
-
-// The version that begins with 1 and has these numbers and lists.
-fn made_by_hand(
-    alloc: Global,
-    minor: u64,
-    patch: u64,
-    pre_release: Option<Vec<Identifier>>,
-    build: Option<Vec<Identifier>>,
-) -> Option<Version> {
-    match (pre_release, build) {
-        (Some(pre_release), Some(build)) => {
-            Version::new(alloc, 1, minor, patch, pre_release, build).ok()
-        }
-        (_, _) => None,
-    }
+// What the value hashes to.
+fn hash_of<T: Hash>(value: &T) -> u64 {
+    let mut state = DefaultHasher::new();
+    value.hash(&mut state);
+    state.finish()
 }

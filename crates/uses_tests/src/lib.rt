@@ -1,4 +1,4 @@
-//! The tests of the library `uses`, and the examples in the comments of the libraries below it.
+//! The tests of the library `uses`, and examples of the pages that call the libraries.
 #![tactic(auto)]
 
 #[cfg(test)]

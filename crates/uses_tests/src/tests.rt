@@ -1,4 +1,3 @@
-mod documented;
 mod errors;
 mod laws;
 mod newest;

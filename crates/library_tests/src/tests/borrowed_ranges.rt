@@ -1,7 +1,6 @@
 // Ranges that borrow their text.
 
-use super::lent::hash_of;
-use super::{is_same, prints};
+use super::{hash_of, is_same, prints};
 use nodejs_semver::{OutsideDirection, Range, RangeRef, SemverError, Version, VersionRef};
 use std::alloc::Global;
 

@@ -1,14 +1,11 @@
 // JSON values and texts of versions and ranges.
 
-use super::{
-    found_prints, is_refused, is_same, is_text, long_text, made_by_hand, one_identifier,
-    text_identifier,
-};
+use super::{found_prints, is_refused, is_same, is_text, long_text};
 use nodejs_semver::json::{
     range_from_json_text, range_from_value, range_to_json_text, range_to_value,
     version_from_json_text, version_from_value, version_to_json_text, version_to_value,
 };
-use nodejs_semver::{Range, Version};
+use nodejs_semver::{Identifier, Range, Version};
 use serde_json::Value;
 use std::alloc::Global;
 
@@ -26,10 +23,20 @@ fn version_to_json_text_has_quotes(rt: HostRuntime) {
     assert!(rt; writes(rt.alloc(), version, "\"1.2.3-abc.123+build\""));
 }
 
+// The list of one identifier of this text, whatever its characters.
+fn one_identifier(alloc: Global, text: &str) -> Option<Vec<Identifier>> {
+    match String::from_str(alloc, text) {
+        Ok(text) => vec![in alloc; Identifier::AlphaNumeric(text)].ok(),
+        Err(_) => None,
+    }
+}
+
 // The version 1.2.3 with this text as the one identifier of its pre-release.
 fn with_identifier(alloc: Global, text: &str) -> Option<Version> {
-    let pre_release = one_identifier(alloc, text_identifier(alloc, text));
-    made_by_hand(alloc, 2, 3, pre_release, Some(Vec::new(alloc)))
+    match one_identifier(alloc, text) {
+        Some(pre_release) => Version::new(alloc, 1, 2, 3, pre_release, Vec::new(alloc)).ok(),
+        None => None,
+    }
 }
 
 #[test]

@@ -1,50 +1,9 @@
 // Each law that is a function, called once with ample memory, and what it returns.
 
 use super::is_text;
-use nodejs_semver::cuts::Interval;
 use nodejs_semver::laws::headline::{Findings, FindingsAt, headline, headline_at};
-use nodejs_semver::{Identifier, OutsideDirection, Range, Version, laws};
-use semver_core::laws as core_laws;
+use nodejs_semver::{OutsideDirection, Range, Version, laws};
 use std::alloc::Global;
-use std::cmp::Ordering;
-
-#[test]
-fn laws_of_texts_of_versions(rt: HostRuntime) {
-    core_laws::whitespace_ends();
-    core_laws::order_and_increments();
-    core_laws::least_increments();
-    core_laws::one_reading("1.2.3");
-    core_laws::larger_limits("1.2.900719925474099");
-    core_laws::common_reads_alike("1.2.3-a");
-    core_laws::printed_versions_come_back("1.2.3");
-    assert!(rt; core_laws::constants() == (9_007_199_254_740_991, 256));
-}
-
-fn everything_equals_itself() -> bool {
-    let all = Interval::<Version>::default();
-    core_laws::intervals_equal(&all, &all)
-}
-
-fn ranks(alloc: Global, text: &str, release: &Version) -> Option<(Ordering, bool)> {
-    match Version::parse(alloc, text) {
-        Ok(version) => Some(core_laws::versions_in_order(&version, release)),
-        Err(_) => None,
-    }
-}
-
-// How the version of a text ranks beside 1.2.3.
-fn ranks_beside_a_release(alloc: Global, text: &str) -> Option<(Ordering, bool)> {
-    ranks(alloc, text, &Version::from((1u8, 2, 3)))
-}
-
-#[test]
-fn laws_of_the_order(rt: HostRuntime) {
-    assert!(rt; everything_equals_itself());
-    let (one, two) = (&Identifier::Numeric(1), &Identifier::Numeric(2));
-    assert!(rt; core_laws::identifiers_in_order(one, two) == (Ordering::Less, false));
-    let ranked = ranks_beside_a_release(rt.alloc(), "1.2.3+a");
-    assert!(rt; ranked == Some((Ordering::Equal, true)));
-}
 
 #[test]
 fn laws_of_range_texts(rt: HostRuntime) {

@@ -1,15 +1,8 @@
 // Ranges: what no line can ask of them.
 
-use super::{is_same, is_text, long_text};
+use super::{hash_of, is_same, is_text, long_text};
 use nodejs_semver::{Range, Version};
 use std::alloc::Global;
-use std::hash::{DefaultHasher, Hash, Hasher};
-
-fn hash_of(range: &Range) -> u64 {
-    let mut state = DefaultHasher::new();
-    range.hash(&mut state);
-    state.finish()
-}
 
 // Whether the range equals the one of this text.
 fn equals(alloc: Global, range: &Range, text: &str) -> bool {

@@ -1,0 +1,5 @@
+//! The tests of the library `semver_core`.
+#![tactic(auto)]
+
+#[cfg(test)]
+mod tests;

@@ -1,0 +1,68 @@
+// The examples in the comments of the library: `tools/readme --check` compares them.
+
+use semver_core::{Identifier, Version, VersionDiff, VersionRef};
+use std::test::Fail;
+
+#[test]
+fn version_parse(rt: HostRuntime) -> Result<(), Fail> {
+    let alloc = rt.alloc();
+    let version = Version::parse(alloc, "v1.2.3-beta.1, the second beta")?;
+    assert!(rt; version == Version::parse(alloc, "1.2.3-beta.1+another.build")?);
+    assert!(rt; Version::parse(alloc, "1.2").is_err());
+    Ok(())
+}
+
+#[test]
+fn version_ref_parse(rt: HostRuntime) -> Result<(), Fail> {
+    let beta = VersionRef::parse("v1.2.3-beta.1, the second beta")?;
+    assert!(rt; beta < VersionRef::parse("1.2.3+build")?);
+    assert!(rt; VersionRef::parse("1.2").is_err());
+    Ok(())
+}
+
+#[test]
+fn from_texts(rt: HostRuntime) {
+    let alloc = rt.alloc();
+    let (pre_release, build) = (b"rc.1", b"exp");
+    if Identifier::is_list(pre_release) && Identifier::is_list(build) {
+        let version = Version::from_texts(alloc, 1, 2, 3, pre_release, build).ok();
+        assert!(rt; version == Version::parse(alloc, "1.2.3-rc.1+exp").ok());
+    }
+}
+
+#[test]
+fn into_parts(rt: HostRuntime) -> Result<(), Fail> {
+    let alloc = rt.alloc();
+    let version = Version::parse(alloc, "1.2.3-beta.1+exp")?;
+    match version.into_parts(alloc) {
+        Ok(parts) => assert!(rt; parts.patch == 3 && parts.pre_release.len() == 2),
+        Err(version) => assert!(rt; version.is_prerelease()),
+    }
+    Ok(())
+}
+
+#[test]
+fn diff(rt: HostRuntime) -> Result<(), Fail> {
+    let alloc = rt.alloc();
+    let beta = Version::parse(alloc, "1.3.0-beta")?;
+    let kind = Version::from((1u64, 2, 3)).diff(&beta);
+    assert!(rt; kind == Some(VersionDiff::PreMinor));
+    Ok(())
+}
+
+#[test]
+fn inc(rt: HostRuntime) {
+    let alloc = rt.alloc();
+    let release = Version::from((1u64, 2, 3));
+    let beta = release.inc(alloc, "prerelease", Some("beta"), None).ok();
+    assert!(rt; beta == Version::parse(alloc, "1.2.4-beta.0").ok());
+}
+
+#[test]
+fn version_ref_inc(rt: HostRuntime) -> Result<(), Fail> {
+    let alloc = rt.alloc();
+    let release = VersionRef::parse("1.2.3")?;
+    let beta = release.inc(alloc, "prerelease", Some("beta"), None).ok();
+    assert!(rt; beta == Version::parse(alloc, "1.2.4-beta.0").ok());
+    Ok(())
+}
