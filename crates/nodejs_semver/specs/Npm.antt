@@ -9,6 +9,7 @@ pub mod Malformed
 pub mod RangeText
 pub mod Table
 pub mod Ranges
+pub mod Readings
 pub mod Alike
 pub mod Flaws
 pub mod Messages
