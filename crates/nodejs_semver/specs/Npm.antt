@@ -6,6 +6,7 @@ pub mod Grammar
 pub mod Coerced
 pub mod VersionText
 pub mod Malformed
+pub mod MalformedWords
 pub mod RangeText
 pub mod Table
 pub mod Ranges

@@ -16,6 +16,7 @@ mod flaws;
 mod hyphens;
 mod loose_versions;
 mod malformed;
+mod malformed_words;
 mod messages;
 mod partial;
 mod places;

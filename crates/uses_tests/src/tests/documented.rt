@@ -363,8 +363,13 @@ fn npm_version_flaw(rt: HostRuntime) {
 #[test]
 fn npm_range_flaw(rt: HostRuntime) {
     assert!(rt; npm::range_flaw("^1.2 || >=2.0.0 <3", false).is_none());
-    let flaw = npm::range_flaw("^1.2 || >=2.0.0, <3 || 4", false);
-    assert!(rt; flaw == Some(RangeFlaw { start: 8, end: 19 }));
+    let flaw = RangeFlaw {
+        start: 8,
+        end: 19,
+        word_start: 8,
+        word_end: 16,
+    };
+    assert!(rt; npm::range_flaw("^1.2 || >=2.0.0, <3 || 4", false) == Some(flaw));
 }
 
 #[test]
