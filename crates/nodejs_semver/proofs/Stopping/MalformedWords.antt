@@ -1,7 +1,7 @@
 -- The first word of an alternative that is malformed.
-use Rattle.nodejs_semver.proofs.Common.{◌≡◌, ◌<◌, ◌≤◌, ◌+◌, ℕ, Bool, List, [], ◌++◌, length, refl, sym, ap, ◌∙◌, arith}
-use Rattle.nodejs_semver.proofs.Common.{true, false, Some, None, IsUtf8, subst, list_all, bind_some, cases_Bool, inl, inr}
-use Rattle.nodejs_semver.proofs.Common.{drop_spaces, length-append, same_Some, MAX_SAFE_INTEGER}
+use Rattle.nodejs_semver.proofs.Common.{◌≡◌, ◌<◌, ◌≤◌, ◌+◌, ℕ, Bool, List, [], length, refl, sym, ap, ◌∙◌, arith}
+use Rattle.nodejs_semver.proofs.Common.{true, false, Some, None, IsUtf8, subst, list_all, bind_some, cases_Bool}
+use Rattle.nodejs_semver.proofs.Common.{inl, inr, drop_spaces, length-append, same_Some, MAX_SAFE_INTEGER}
 use Rattle.semver_core.specs.Failures.{NoValue}
 use Rattle.nodejs_semver.specs.Internal.Fronts.{Front}
 use Rattle.nodejs_semver.specs.Internal.NpmWords.{Signed, any_word, is_small, limited_word, word_front}
@@ -34,14 +34,16 @@ right-read include text behind r =
 
 right-once : (include : Bool) (text x y : List ℕ) → Right include text x → Right include text y → x ≡ y
 right-once include text x y r s =
-    ap (λ (q : List Comparison × List ℕ). q.1) (same_Some _ _ (sym (right-read include text x r) ∙ right-read include text y s))
+    ap (λ (q : List Comparison × List ℕ). q.1)
+    (same_Some _ _ (sym (right-read include text x r) ∙ right-read include text y s))
 
 right-utf8 : (include : Bool) (text behind : List ℕ) → IsUtf8 text → Right include text behind → IsUtf8 behind
 right-utf8 include text behind u r = boundary-utf8 r.word behind (subst (λ (t : List ℕ). IsUtf8 t) r.divided u) r.ended
 
 -- the word that is found has the comparators of a right one
 right-found : (include : Bool) (text behind : List ℕ) → Right include text behind
-    → (w : Signed × List ℕ) × (any_word false text ≡ Some w) × (list_all (is_valid MAX_SAFE_INTEGER) (row_of include w.0) ≡ true)
+    → (w : Signed × List ℕ) × (any_word false text ≡ Some w)
+    × (list_all (is_valid MAX_SAFE_INTEGER) (row_of include w.0) ≡ true)
 unfolding word_front
 right-found include text behind r =
     let b = bind_some (any_word false text) _ (r.comparators, behind) (right-read include text behind r) in
@@ -63,7 +65,8 @@ no-word include text e = λ behind r.
     let great = limited-none (any_word false text) e w f.1 in
     cc (sym f.2 ∙ table-invalid MAX_SAFE_INTEGER include w.0.0 w.0.1 w.0.2 great)
 
-limited-is : (o : Front Signed) (w : Signed × List ℕ) → o ≡ Some w → (v : Signed × List ℕ) → limited_word MAX_SAFE_INTEGER o ≡ Some v → w ≡ v
+limited-is : (o : Front Signed) (w : Signed × List ℕ) → o ≡ Some w → (v : Signed × List ℕ)
+    → limited_word MAX_SAFE_INTEGER o ≡ Some v → w ≡ v
 limited-is None w e v h = cc h
 limited-is (Some x) w e v h = elim (cases_Bool (is_small MAX_SAFE_INTEGER x.0.1)) [
   | inl small ↦ same_Some _ _ (sym e ∙ rw small at h)
@@ -77,7 +80,8 @@ invalid-word include text w e bad = λ behind r.
     let same = limited-is (any_word false text) f.0 f.1 w e in
     cc (sym f.2 ∙ ap (λ (v : Signed × List ℕ). list_all (is_valid MAX_SAFE_INTEGER) (row_of include v.0)) same ∙ bad)
 
-pub right-word : (include : Bool) (text : List ℕ) (w : Signed × List ℕ) → IsUtf8 text → word_at_front false text ≡ Some w
+pub right-word : (include : Bool) (text : List ℕ) (w : Signed × List ℕ) → IsUtf8 text
+    → word_at_front false text ≡ Some w
     → list_all (is_valid MAX_SAFE_INTEGER) (row_of include w.0) ≡ true → Right include text w.1
 right-word include text w u e good =
     let x = word-at false include text w u e in
@@ -98,7 +102,8 @@ left-more include left text behind rest here r s = on left behind rest r s here
 left-more include left text behind rest (on t b x k z h) r s = on t b x k z (left-more include left x behind rest h r s)
 
 -- one word more
-pub left-next : (include : Bool) (text left behind : List ℕ) → IsUtf8 left → Left include left text → Right include left behind
+pub left-next : (include : Bool) (text left behind : List ℕ) → IsUtf8 left → Left include left text
+    → Right include left behind
     → Left include (drop_spaces behind) text × IsUtf8 (drop_spaces behind)
 left-next include text left behind u h r =
     let v = right-utf8 include left behind u r in
@@ -143,7 +148,8 @@ left-once include l m text u (on t b x r s h) (on t' c y q v k) w z =
 
 left-utf8 : (include : Bool) (left text : List ℕ) → IsUtf8 text → Left include left text → IsUtf8 left
 left-utf8 include left text u here = u
-left-utf8 include left text u (on t b x r s h) = left-utf8 include left x (skips-utf8 b x s (right-utf8 include t b u r)) h
+left-utf8 include left text u (on t b x r s h) =
+    left-utf8 include left x (skips-utf8 b x s (right-utf8 include t b u r)) h
 
 -- ---- the malformed word
 
@@ -166,7 +172,8 @@ boundary-fits left u =
     omega (arith, ap length f.1, length-append f.0 (from_boundary left))
 
 pub one_malformed_word : (include : Bool) (text : List ℕ) (a b c d : ℕ) → IsUtf8 text
-    → IsMalformedWord MAX_SAFE_INTEGER include text a b → IsMalformedWord MAX_SAFE_INTEGER include text c d → (a ≡ c) × (b ≡ d)
+    → IsMalformedWord MAX_SAFE_INTEGER include text a b → IsMalformedWord MAX_SAFE_INTEGER include text c d
+    → (a ≡ c) × (b ≡ d)
 one_malformed_word include text a b c d u x y =
     let left = left-once include x.left y.left text u x.right y.right x.wrong y.wrong in
     let behind : x.behind ≡ y.behind =
