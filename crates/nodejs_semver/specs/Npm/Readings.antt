@@ -1,5 +1,5 @@
 -- Statement: what a range text accepts, by how it is read.
-use Rattle.std.specs.Prelude.{◌≡◌, ℕ, Bool, List}
+use Rattle.std.specs.Prelude.{ℕ, Bool, List}
 use Rattle.semver_core.specs.Values.Versions.{VersionValue}
 use Rattle.nodejs_semver.specs.Npm.Ranges.{HasAlternativesIn, accepts}
 use Rattle.nodejs_semver.specs.Npm.Table.{Comparison}
