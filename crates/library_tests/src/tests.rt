@@ -15,6 +15,7 @@ mod npm;
 mod npm_flaws;
 mod npm_loose_ranges;
 mod npm_ranges;
+mod npm_readings;
 mod npm_texts;
 mod npm_versions;
 mod outside;

@@ -5,4 +5,5 @@ pub mod Fronts
 pub mod Lasts
 pub mod Wrongs
 pub mod Stops
+pub mod MalformedWords
 pub mod Ranges

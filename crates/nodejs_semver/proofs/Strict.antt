@@ -26,3 +26,4 @@ pub mod Normal
 pub mod WordSteps
 pub mod AlternativeReads
 pub mod RangeReads
+pub mod Readings

@@ -6,9 +6,11 @@ pub mod Grammar
 pub mod Coerced
 pub mod VersionText
 pub mod Malformed
+pub mod MalformedWords
 pub mod RangeText
 pub mod Table
 pub mod Ranges
+pub mod Readings
 pub mod Alike
 pub mod Flaws
 pub mod Messages

@@ -22,5 +22,5 @@ pub(crate) use crate::readers::partial::{build_front, marked_list, pre_release_f
 pub(crate) use crate::readers::spaces::{skip_spaces, space_len};
 pub(crate) use crate::readers::syntax::{Bounds, Comparator};
 pub(crate) use crate::readers::table::{lowest, release};
-pub(crate) use crate::readers::words::{after_some_space, is_boundary};
+pub(crate) use crate::readers::words::{after_some_space, is_boundary, skip_to_boundary};
 pub use semver_core::readers::{version_fast, version_loose};

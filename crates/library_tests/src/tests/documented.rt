@@ -3,7 +3,7 @@
 use nodejs_semver::diagnosis::{
     Expected, IgnoredKind, IgnoredWord, VersionFlaw, ignored_words, version_flaw,
 };
-use nodejs_semver::npm::{Flaw, RangeFlaw, Wrong};
+use nodejs_semver::npm::{Flaw, RangeFlaw, ReadRange, Reading, Wrong};
 use nodejs_semver::{Failure, Range, Version, VersionRef, newest_release, npm};
 use std::cmp::Ordering;
 use std::test::Fail;
@@ -46,6 +46,20 @@ fn npm_range(rt: HostRuntime) -> Result<(), Fail> {
     let range = npm::range(alloc, ">=1.0.0 <2 || ~3.1", false)?;
     assert!(rt; range.satisfies(&version));
     assert!(rt; npm::range(alloc, ">=1.0.0, <2.0.0", false).is_err());
+    Ok(())
+}
+
+#[test]
+fn npm_read_range(rt: HostRuntime) -> Result<(), Fail> {
+    let alloc = rt.alloc();
+    let beta = VersionRef::parse("1.3.0-beta")?;
+    let reading = Reading {
+        loose: false,
+        include_prerelease: true,
+    };
+    assert!(rt; ReadRange::parse(alloc, "^1.2", reading)?.satisfies(&beta));
+    let range = ReadRange::parse(alloc, "^1.2", Reading::default())?;
+    assert!(rt; !range.satisfies(&beta));
     Ok(())
 }
 
@@ -283,8 +297,13 @@ fn npm_version_flaw(rt: HostRuntime) {
 #[test]
 fn npm_range_flaw(rt: HostRuntime) {
     assert!(rt; npm::range_flaw("^1.2 || >=2.0.0 <3", false).is_none());
-    let flaw = npm::range_flaw("^1.2 || >=2.0.0, <3 || 4", false);
-    assert!(rt; flaw == Some(RangeFlaw { start: 8, end: 19 }));
+    let flaw = RangeFlaw {
+        start: 8,
+        end: 19,
+        word_start: 8,
+        word_end: 16,
+    };
+    assert!(rt; npm::range_flaw("^1.2 || >=2.0.0, <3 || 4", false) == Some(flaw));
 }
 
 #[test]

@@ -146,14 +146,18 @@ const RANGES: &[&str] = &[
     ">1 <1",
 ];
 
-// Others, and the bytes of the first alternative that is rejected.
-const FLAWED_RANGES: &[(&str, usize, usize)] = &[
-    ("latest", 0, 6),
-    (">=1.0.0, <2.0.0", 0, 15),
-    ("^1.2 || >=2.0.0, <3 || 4", 8, 19),
-    ("1 ||  ^01.2  || foo", 6, 11),
-    ("||\u{3000}==1.2.3", 5, 12),
-    ("^1 || >9007199254740991", 6, 23),
+// Others, with the bytes of the first alternative that is rejected and of its first malformed word.
+const FLAWED_RANGES: &[(&str, usize, usize, usize, usize)] = &[
+    ("latest", 0, 6, 0, 6),
+    (">=1.0.0, <2.0.0", 0, 15, 0, 8),
+    ("^1.2 || >=2.0.0, <3 || 4", 8, 19, 8, 16),
+    ("1 ||  ^01.2  || foo", 6, 11, 6, 11),
+    ("||\u{3000}==1.2.3", 5, 12, 5, 12),
+    ("^1 || >9007199254740991", 6, 23, 6, 23),
+    (" 1\u{3000}2- <3", 1, 10, 5, 7),
+    ("^1 ~> >1.2 <", 0, 12, 11, 12),
+    ("1 - 2 3", 0, 7, 2, 3),
+    ("1.2 >9007199254740991 foo", 0, 25, 4, 21),
 ];
 
 #[test]
@@ -161,10 +165,12 @@ fn a_range_flaw_has_its_place(rt: HostRuntime) {
     for text in RANGES {
         assert!(rt; npm::range_flaw(text, false).is_none());
     }
-    for (text, start, end) in FLAWED_RANGES {
+    for &(text, start, end, word_start, word_end) in FLAWED_RANGES {
         let flaw = RangeFlaw {
-            start: *start,
-            end: *end,
+            start,
+            end,
+            word_start,
+            word_end,
         };
         assert!(rt; npm::range_flaw(text, false) == Some(flaw));
     }

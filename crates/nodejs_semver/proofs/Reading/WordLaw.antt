@@ -92,7 +92,7 @@ rest-utf8 : (limit : ℕ) (text : List ℕ) (p : Partial) (rest : List ℕ) → 
     → IsBoundary rest → IsUtf8 rest
 rest-utf8 limit text p rest u h b = boundary-utf8 h.0 rest (subst (λ (t : List ℕ). IsUtf8 t) h.1.0 u) b
 
-boundary-of : (rest : List ℕ) → IsBoundary rest → is_boundary rest ≡ true
+pub boundary-of : (rest : List ℕ) → IsBoundary rest → is_boundary rest ≡ true
 unfolding is_boundary
 boundary-of rest h = grind (arith, blank-len)
 
@@ -329,7 +329,7 @@ form-of limit text w rest u (caret_form t p r h) =
 
 -- ---- the next boundary
 
-first-is : (front text : List ℕ) → IsUtf8 (front ++ text) → IsFirstBoundary text (from_boundary text)
+pub first-is : (front text : List ℕ) → IsUtf8 (front ++ text) → IsFirstBoundary text (from_boundary text)
 first-is front [] u = rw from_boundary-nil ([], refl, inl refl, λ x y e h. omega arith)
 first-is front (b ∷ text) u = elim (cases_Bool (is_boundary (b ∷ text))) [
   | inl here ↦
@@ -348,7 +348,7 @@ first-is front (b ∷ text) u = elim (cases_Bool (is_boundary (b ∷ text))) [
         first [] after e h = cc (sym goes ∙ (ap (λ (t : List ℕ). is_boundary t) e ∙ boundary-of after h))
         first (c ∷ before) after e h = let less = f.3 before after (ap (λ (t : List ℕ). drop 1 t) e) h in omega arith
 
-first-of : (text rest : List ℕ) → IsUtf8 text → IsFirstBoundary text rest → from_boundary text ≡ rest
+pub first-of : (text rest : List ℕ) → IsUtf8 text → IsFirstBoundary text rest → from_boundary text ≡ rest
 first-of text rest u h =
     let f = first-is [] text u in
     let one = f.3 h.0 rest h.1 h.2 in

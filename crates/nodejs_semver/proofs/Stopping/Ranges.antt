@@ -8,6 +8,7 @@ use Rattle.nodejs_semver.specs.Internal.NpmReads.{IsFound, valid_alternative}
 use Rattle.nodejs_semver.specs.Internal.NpmWords.{alternative_of, valid_only}
 use Rattle.nodejs_semver.specs.Internal.PartFronts.{front_part}
 use Rattle.nodejs_semver.specs.Internal.Parts.{cut_bars}
+use Rattle.nodejs_semver.specs.Npm.MalformedWords.{IsMalformedWord}
 use Rattle.nodejs_semver.specs.Npm.RangeFlaws.{IsAlternativeText, IsRangeFlaw, bytes_of}
 use Rattle.nodejs_semver.specs.Npm.RangeText.{AreAlternatives, next, none}
 use Rattle.nodejs_semver.specs.Npm.Ranges.{HasAlternatives, is_valid}
@@ -20,6 +21,7 @@ use Rattle.nodejs_semver.proofs.Dividing.BarLemmas.{cut_bars-front, parts_after}
 use Rattle.nodejs_semver.proofs.Dividing.BarsDivide.{bars_divide, bars_once}
 use Rattle.nodejs_semver.proofs.Dividing.MeaningLaw.{pieces-utf8}
 use Rattle.nodejs_semver.proofs.Reading.WordLaw.{trim-utf8}
+use Rattle.nodejs_semver.proofs.Stopping.MalformedWords.{one_malformed_word}
 use Rattle.nodejs_semver.proofs.Strict.AlternativeLaw.{alternative-found, alternative-read}
 
 pub trimmed_fits : (text middle : List ℕ) (start : ℕ) → IsUtf8 text → IsAfterBlank text 0 start → IsTrim text middle
@@ -151,13 +153,15 @@ pub passed_room : (include : Bool) (text rest : List ℕ) (cut : List ℕ × Opt
     → cut ≡ front_part rest → (length rest ≤ length text) × (length cut.0 ≤ length rest)
 passed_room include text rest cut h e = (omega (arith, h.leaves), (sizes_of rest cut e).front)
 
-pub passed_wrong : (include : Bool) (text rest : List ℕ) (cut : List ℕ × Option (List ℕ)) (part : List ℕ) (blank : ℕ) (flaw : RangeFlaw)
+passed_wrong : (include : Bool) (text rest : List ℕ) (cut : List ℕ × Option (List ℕ)) (part : List ℕ) (blank at to : ℕ) (flaw : RangeFlaw)
     → Passed include text (Some rest)
     → cut ≡ front_part rest → IsAfterBlank cut.0 0 blank → IsTrim cut.0 part
     → NoValue (IsAlternativeText MAX_SAFE_INTEGER include cut.0)
+    → IsMalformedWord MAX_SAFE_INTEGER include part at to
     → flaw.start ≡ length text - length rest + blank → flaw.end ≡ flaw.start + length part
+    → flaw.word_start ≡ flaw.start + at → flaw.word_end ≡ flaw.start + to
     → IsRangeFlaw MAX_SAFE_INTEGER include text flaw
-passed_wrong include text rest cut part blank flaw h e a t w start end = record {
+passed_wrong include text rest cut part blank at to flaw h e a t w word start end word_start word_end = record {
   front = h.front;
   piece = cut.0;
   behind = parts_after cut.1;
@@ -170,6 +174,11 @@ passed_wrong include text rest cut part blank flaw h e a t w start end = record 
   trimmed = t;
   start = omega (arith, start, h.leaves);
   end = end;
+  at = at;
+  to = to;
+  word = word;
+  word_start = word_start;
+  word_end = word_end;
 }
 
 -- a piece is UTF-8 as the text is
@@ -186,16 +195,19 @@ next-utf8 include text rest cut u h e =
     (pieces-utf8 text (cut_bars false text) (bars_divide text) u))
 
 -- what is read of the next piece
-pub wrong_here : (include : Bool) (text rest : List ℕ) (cut : List ℕ × Option (List ℕ)) (part bytes : List ℕ) (blank : ℕ)
+pub wrong_here : (include : Bool) (text rest : List ℕ) (cut : List ℕ × Option (List ℕ)) (part bytes : List ℕ) (blank at to : ℕ)
     (found : Option Alternative) (flaw : RangeFlaw) → IsUtf8 text → Passed include text (Some rest) → cut ≡ front_part rest
     → IsAfterBlank cut.0 0 blank → IsTrim cut.0 part → bytes ≡ part → IsFound include (valid_alternative false include bytes) found
-    → is_none found ≡ true → flaw.start ≡ length text - length rest + blank → flaw.end ≡ flaw.start + length part
-    → IsRangeFlaw MAX_SAFE_INTEGER include text flaw
-wrong_here include text rest cut part bytes blank None flaw u h e a t same found empty start end =
-    passed_wrong include text rest cut part blank flaw h e a t
+    → is_none found ≡ true → IsMalformedWord MAX_SAFE_INTEGER include bytes at to
+    → flaw.start ≡ length text - length rest + blank → flaw.end ≡ flaw.start + length part
+    → flaw.word_start ≡ flaw.start + at → flaw.word_end ≡ flaw.start + to → IsRangeFlaw MAX_SAFE_INTEGER include text flaw
+wrong_here include text rest cut part bytes blank at to None flaw u h e a t same found empty word start end word_start word_end =
+    passed_wrong include text rest cut part blank at to flaw h e a t
     (piece_wrong include cut.0 part (next-utf8 include text rest cut u h e) t
-    (subst (λ (x : List ℕ). IsFound include (valid_alternative false include x) None) same found)) start end
-wrong_here include text rest cut part bytes blank (Some x) flaw u h e a t same found empty start end = cc empty
+    (subst (λ (x : List ℕ). IsFound include (valid_alternative false include x) None) same found))
+    (subst (λ (x : List ℕ). IsMalformedWord MAX_SAFE_INTEGER include x at to) same word) start end word_start word_end
+wrong_here include text rest cut part bytes blank at to (Some x) flaw u h e a t same found empty word start end word_start word_end =
+    cc empty
 
 pub right_here : (include : Bool) (text rest : List ℕ) (cut : List ℕ × Option (List ℕ)) (part bytes : List ℕ)
     (found : Option Alternative) → IsUtf8 text → Passed include text (Some rest) → cut ≡ front_part rest
@@ -263,12 +275,18 @@ one_range_flaw include text f g u x y =
     middle_is_trim x.piece x.middle x.trimmed ∙ (ap trim same.1 ∙ sym (middle_is_trim y.piece y.middle y.trimmed)) in
     let start : f.start ≡ g.start = omega (arith, x.start, y.start, ap bytes_of same.0, blank) in
     let end : f.end ≡ g.end = omega (arith, x.end, y.end, start, ap length middle) in
-    flaws-same f g start end
+    let word = one_malformed_word include x.middle x.at x.to y.at y.to (trim-utf8 x.piece x.middle utf8 x.trimmed) x.word
+    (subst (λ (m : List ℕ). IsMalformedWord MAX_SAFE_INTEGER include m y.at y.to) (sym middle) y.word) in
+    let word_start : f.word_start ≡ g.word_start = omega (arith, x.word_start, y.word_start, start, word.0) in
+    let word_end : f.word_end ≡ g.word_end = omega (arith, x.word_end, y.word_end, start, word.1) in
+    flaws-same f g start end word_start word_end
   where
-    flaws-same : (f g : RangeFlaw) → f.start ≡ g.start → f.end ≡ g.end → f ≡ g
-    flaws-same f g s e =
-        let both : record { start = f.start; end = f.end } ≡ record { start = g.start; end = g.end } =
-        rw (s, e) refl in
+    flaws-same : (f g : RangeFlaw) → f.start ≡ g.start → f.end ≡ g.end → f.word_start ≡ g.word_start → f.word_end ≡ g.word_end
+        → f ≡ g
+    flaws-same f g s e v w =
+        let both : record { start = f.start; end = f.end; word_start = f.word_start; word_end = f.word_end }
+        ≡ record { start = g.start; end = g.end; word_start = g.word_start; word_end = g.word_end } =
+        rw (s, e, v, w) refl in
         both
 
 -- what the call says

@@ -25,4 +25,4 @@ flaw_text (At wrong at) = wrong_text wrong ++ decimal at
 
 abbrev pub range_flaw_text : RangeFlaw → List ℕ
 range_flaw_text flaw =
-    codes "malformed alternative at bytes " ++ decimal flaw.start ++ codes " to " ++ decimal flaw.end
+    codes "malformed word at bytes " ++ decimal flaw.word_start ++ codes " to " ++ decimal flaw.word_end

@@ -3,6 +3,7 @@ use Rattle.std.specs.Prelude.{◌≡◌, ◌+◌, ℕ, Bool, true, false, List, 
 use Rattle.std.specs.List.{AllByRecursion, list_all}
 use Rattle.semver_core.specs.Failures.{NoValue}
 use Rattle.semver_core.specs.Text.Characters.{IsAfterBlank, IsTrim}
+use Rattle.nodejs_semver.specs.Npm.MalformedWords.{IsMalformedWord}
 use Rattle.nodejs_semver.specs.Npm.RangeText.{IsAlternative}
 use Rattle.nodejs_semver.specs.Npm.Ranges.{is_valid}
 use Rattle.nodejs_semver.specs.Npm.Table.{Comparison}
@@ -22,8 +23,8 @@ abbrev pub bytes_of : List (List ℕ) → ℕ
 bytes_of [] = 0
 bytes_of (piece ∷ others) = length piece + 2 + bytes_of others
 
--- the first piece between the bars of a text that is no alternative, without the whitespace around it, stands
--- at these bytes
+-- the first piece between the bars of a text that is no alternative, without the whitespace around it, and its
+-- first malformed word stand at these bytes
 pub record IsRangeFlaw (limit : ℕ) (include : Bool) (text : List ℕ) (flaw : RangeFlaw) : Type 0 where
   pub front : List (List ℕ)
   pub piece : List ℕ
@@ -37,3 +38,8 @@ pub record IsRangeFlaw (limit : ℕ) (include : Bool) (text : List ℕ) (flaw : 
   pub trimmed : IsTrim piece middle
   pub start : flaw.start ≡ bytes_of front + blank
   pub end : flaw.end ≡ flaw.start + length middle
+  pub at : ℕ
+  pub to : ℕ
+  pub word : IsMalformedWord limit include middle at to
+  pub word_start : flaw.word_start ≡ flaw.start + at
+  pub word_end : flaw.word_end ≡ flaw.start + to

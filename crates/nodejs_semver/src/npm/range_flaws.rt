@@ -7,17 +7,23 @@ ghost use Rattle.nodejs_semver.specs.Npm.Table.{Comparison};
 ghost use Rattle.semver_core.specs.Text.Characters.{IsAfterBlank, IsTrim};
 ghost use Rattle.semver_core.specs.declared.TheConstants.{MAX_SAFE_INTEGER};
 
+use crate::npm::malformed_words::malformed_word;
 use crate::npm::ranges::alternative;
 use crate::readers::cut_part;
 use semver_core::scan;
 
-/// An alternative of a range text that is malformed. A place is a byte index.
+/// An alternative of a range text that is malformed, and its first malformed word. A place is a
+/// byte index.
 #[derive(Clone, Copy, PartialEq, Eq, Debug)]
 pub struct RangeFlaw {
     /// Where the alternative begins.
     pub start: usize,
     /// Where it ends: the place behind its last byte.
     pub end: usize,
+    /// Where the word begins.
+    pub word_start: usize,
+    /// Where the word ends.
+    pub word_end: usize,
 }
 
 // Where a text begins without the whitespace around it, and that text.
@@ -30,23 +36,29 @@ fn trimmed(text: &str) -> (usize, &str)
     (scan::skip_whitespace(text, 0), scan::trim(text))
 }
 
-/// Returns the first alternative for which [`range`](crate::npm::range) rejects a text, or `None`
-/// if it reads the text. Allocates nothing.
+/// Returns the first alternative for which [`range`](crate::npm::range) rejects a text, with the
+/// first malformed word of it, or `None` if it reads the text. Allocates nothing.
 ///
-/// An alternative is what stands between bars `||`, without the whitespace around it. It is
-/// rejected for a malformed word, for a number above `MAX_SAFE_INTEGER`, or for a version of more
-/// than `MAX_LENGTH` characters.
+/// An alternative is what stands between bars `||`, without the whitespace around it. A word is
+/// malformed also for a number above `MAX_SAFE_INTEGER`, or for a version of more than `MAX_LENGTH`
+/// characters. It ends before whitespace, and the words before it are well-formed. A `-` is a word
+/// of hyphen ranges alone: of `1 - 2 3` it is the malformed one.
 ///
 /// ```rust
 /// assert!(rt; npm::range_flaw("^1.2 || >=2.0.0 <3", false).is_none());
-/// let flaw = npm::range_flaw("^1.2 || >=2.0.0, <3 || 4", false);
-/// assert!(rt; flaw == Some(RangeFlaw { start: 8, end: 19 }));
+/// let flaw = RangeFlaw {
+///     start: 8,
+///     end: 19,
+///     word_start: 8,
+///     word_end: 16,
+/// };
+/// assert!(rt; npm::range_flaw("^1.2 || >=2.0.0, <3 || 4", false) == Some(flaw));
 /// ```
 pub fn range_flaw(text: &str, include_prerelease: bool) -> Option<RangeFlaw>
     // None exactly if the text has alternatives, as `range` reads them.
     ensures none { (result ≡ None) ↔ ((alternatives : List (List Comparison))
         × HasAlternatives MAX_SAFE_INTEGER include_prerelease text.now alternatives) }
-    // What is returned is the first alternative that is none.
+    // What is returned is the first alternative that is none, and its first word that is none.
     ensures flaw { IfSome result (IsRangeFlaw MAX_SAFE_INTEGER include_prerelease text.now) }
     // A text has one such flaw: no other would be right.
     ensures only { (flaw : RangeFlaw)
@@ -56,10 +68,16 @@ pub fn range_flaw(text: &str, include_prerelease: bool) -> Option<RangeFlaw>
     'pieces: while let Some(left) = rest {
         let (piece, behind) = cut_part(left);
         let (blank, part) = trimmed(piece);
-        if alternative(false, include_prerelease, part.as_bytes()).is_none() {
+        let bytes = part.as_bytes();
+        if alternative(false, include_prerelease, bytes).is_none() {
             let start = text.len() - left.len() + blank;
-            let end = start + part.len();
-            return Some(RangeFlaw { start, end });
+            let (word_start, word_end) = malformed_word(include_prerelease, bytes);
+            return Some(RangeFlaw {
+                start,
+                end: start + part.len(),
+                word_start: start + word_start,
+                word_end: start + word_end,
+            });
         }
         rest = behind;
     }

@@ -127,8 +127,8 @@ fn intervals<'a>(
     }
 }
 
-// The range of a text, read strictly or loosely.
-fn read_range(
+/// The range of a text, read strictly or loosely.
+pub(crate) fn read_range(
     alloc: Global,
     loose: bool,
     include: bool,
@@ -154,10 +154,11 @@ fn read_range(
 /// above `MAX_SAFE_INTEGER`, or more than `MAX_LENGTH` characters of its version.
 ///
 /// With pre-releases included, ask the range by `satisfies_with_prerelease(version, true)`, and
-/// else by `satisfies`: so asked it accepts the versions that node-semver's range does. Where the
-/// cuts of an alternative do not meet, as in `>1 <1`, that alternative accepts nothing; a range
-/// of such alternatives alone prints `<0.0.0-0`. Without pre-releases included, an alternative in
-/// which no comparator counts, such as `*`, leaves the others out: `* || 1.0.0-a` rejects 1.0.0-a.
+/// else by `satisfies`: so asked it accepts the versions that node-semver's range does, and so a
+/// [`ReadRange`](crate::npm::ReadRange) is asked. Where the cuts of an alternative do not meet, as
+/// in `>1 <1`, that alternative accepts nothing; a range of such alternatives alone prints
+/// `<0.0.0-0`. Without pre-releases included, an alternative in which no comparator counts, such as
+/// `*`, leaves the others out: `* || 1.0.0-a` rejects 1.0.0-a.
 ///
 /// The range borrows the text. One interval stands inline, so that allocation fails only for a text
 /// of two alternatives or more.

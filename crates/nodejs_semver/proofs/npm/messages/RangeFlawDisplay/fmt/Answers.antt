@@ -8,5 +8,5 @@ returns-clause-styled g c flush ok =
     let begin = c.in_ok-write_at.ensures flush refl in
     let end = c.write_at-2.ensures begin.flush ok in
     has_written_styled_of_eq _ _ _ _ _
-    (sym (append_assoc (codes "malformed alternative at bytes " ++ decimal flaw.start) (codes " to ") (decimal flaw.end)))
+    (sym (append_assoc (codes "malformed word at bytes " ++ decimal flaw.word_start) (codes " to ") (decimal flaw.word_end)))
     (has_written_styled_append _ _ _ _ _ _ begin end)

@@ -1,0 +1,26 @@
+use Rattle.nodejs_semver.proofs.Common.{ℕ, List, false, sym}
+use Rattle.nodejs_semver.specs.Internal.NpmViews.{signed_view}
+use Rattle.nodejs_semver.specs.Internal.NpmWords.{Signed}
+use Rattle.nodejs_semver.proofs.Stopping.MalformedWords.{invalid-word, no-word, right-word}
+use Rattle.nodejs_semver.proofs.Strict.Normal.{word-normal}
+use Rattle.nodejs_semver.proofs.npm.malformed_words.right_word.Goals as goal
+
+pub returns-in_err-word-clause-none : goal.returns-in_err-word-clause-none
+returns-in_err-word-clause-none c =
+    rw c.from_residual.ensures (no-word c.args.include c.args.text.now (sym c.in_err-word.ensures))
+
+pub meet-requires : goal.meet-requires
+meet-requires c =
+    let w : Signed × List ℕ = (signed_view c.in_ok-word.word, c.in_ok-word.behind.now) in
+    word-normal false c.args.text.now w (sym c.in_ok-word.ensures)
+
+pub returns-in_err-meet-clause-none : goal.returns-in_err-meet-clause-none
+returns-in_err-meet-clause-none c =
+    let w : Signed × List ℕ = (signed_view c.in_ok-word.word, c.in_ok-word.behind.now) in
+    rw c.from_residual-in_err-meet.ensures
+    (invalid-word c.args.include c.args.text.now w (sym c.in_ok-word.ensures) c.in_err-meet.ensures.narrowed)
+
+pub returns-clause-some : goal.returns-clause-some
+returns-clause-some c =
+    let w : Signed × List ℕ = (signed_view c.in_ok-word.word, c.in_ok-word.behind.now) in
+    right-word c.args.include c.args.text.now w c.requires (sym c.in_ok-word.ensures) c.in_ok-meet.ensures.narrowed.0

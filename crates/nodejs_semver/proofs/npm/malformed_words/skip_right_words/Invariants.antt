@@ -1,0 +1,10 @@
+use Rattle.std.specs.Str.{IsUtf8}
+use Rattle.nodejs_semver.proofs.Common.{MAX_SAFE_INTEGER, length}
+use Rattle.nodejs_semver.specs.Npm.MalformedWords.{IsLeft}
+use Rattle.nodejs_semver.proofs.npm.malformed_words.skip_right_words.Given as goal
+
+abbrev pub invariant-words : goal.invariant-words
+invariant-words l = IsLeft MAX_SAFE_INTEGER l.include l.rest l.text × IsUtf8 l.rest
+
+abbrev pub decreases-words : goal.decreases-words
+decreases-words l = length l.rest

@@ -1,0 +1,34 @@
+-- Statement: which word of an alternative node-semver's strict reading rejects first, and where it stands.
+use Rattle.std.specs.Prelude.{◌≡◌, ◌+◌, ℕ, Bool, true, false, List, ◌++◌, length}
+use Rattle.std.specs.List.{list_all}
+use Rattle.semver_core.specs.Failures.{NoValue}
+use Rattle.nodejs_semver.specs.Npm.RangeText.{IsWord}
+use Rattle.nodejs_semver.specs.Npm.Ranges.{is_valid}
+use Rattle.nodejs_semver.specs.Npm.Table.{Comparison}
+use Rattle.nodejs_semver.specs.Text.WordText.{IsBoundary, IsFirstBoundary, SkipsBlank}
+
+-- a word of valid comparators stands at the front of the text, up to whitespace or the end, and this behind it
+pub record IsRightWord (limit : ℕ) (include : Bool) (text behind : List ℕ) : Type 0 where
+  pub word : List ℕ
+  pub comparators : List Comparison
+  pub divided : text ≡ word ++ behind
+  pub is : IsWord false include word comparators
+  pub valid : list_all (is_valid limit) comparators ≡ true
+  pub ended : IsBoundary behind
+
+-- this is left of a text behind some such words, and the whitespace behind each
+pub data IsLeft (limit : ℕ) (include : Bool) (left : List ℕ) : List ℕ → Type 0 where
+  here : IsLeft limit include left left
+  on : (text behind rest : List ℕ) → IsRightWord limit include text behind → SkipsBlank behind rest
+      → IsLeft limit include left rest → IsLeft limit include left text
+
+-- the first word of the text that is not right stands at these bytes: those before it are right, and it goes on
+-- up to whitespace or the end
+pub record IsMalformedWord (limit : ℕ) (include : Bool) (text : List ℕ) (start end : ℕ) : Type 0 where
+  pub left : List ℕ
+  pub behind : List ℕ
+  pub right : IsLeft limit include left text
+  pub wrong : NoValue (IsRightWord limit include left)
+  pub ended : IsFirstBoundary left behind
+  pub start_is : start + length left ≡ length text
+  pub end_is : end + length behind ≡ length text

@@ -1,0 +1,217 @@
+// Ranges with how they were read, by which they are asked.
+
+ghost use Rattle.std.specs.Prelude.{◌≡◌, ℕ, IfOk, List, map, option_map};
+ghost use Rattle.std.specs.Prelude.{◌<◌, length};
+ghost use Rattle.std.specs.Ordering.{is_le, is_lt};
+ghost use Rattle.nodejs_semver.specs.Npm.Readings.{HasAlternativesAs, OfAccepted};
+ghost use Rattle.nodejs_semver.specs.Npm.Table.{Comparison};
+ghost use Rattle.nodejs_semver.specs.Ranges.Best.{IsMax, IsMin, replaces};
+ghost use Rattle.nodejs_semver.specs.Ranges.Gate as Gate;
+ghost use Rattle.nodejs_semver.specs.Text.Bars.{IsCutAtBars};
+ghost use Rattle.semver_core.specs.Failures.{MemoryOnlyIf, NoValue, RefusedOnlyIf};
+ghost use Rattle.semver_core.specs.Values.Order.{precedence};
+ghost use Rattle.semver_core.specs.Values.Versions.{VersionValue};
+ghost use Rattle.semver_core.specs.declared.TheConstants.{MAX_SAFE_INTEGER};
+
+use crate::RangeRef;
+use crate::npm::ranges::read_range;
+use semver_core::{Failure, MAX_SAFE_INTEGER, SemverError, Versioned};
+use std::alloc::Global;
+use std::marker::Model;
+
+/// How a range text is read: the two options of node-semver's `Range`. By default neither is set.
+#[derive(Clone, Copy, PartialEq, Eq, Debug, Default)]
+pub struct Reading {
+    /// Whether the text is read as [`range_loose`](crate::npm::range_loose) does, and not as
+    /// [`range`](crate::npm::range).
+    pub loose: bool,
+    /// Whether pre-releases are accepted like releases: `^1.2` then accepts 1.3.0-beta.
+    pub include_prerelease: bool,
+}
+
+/// A range that was read as node-semver reads it, with the text and the reading. It is asked with
+/// pre-releases included exactly if it was read so, which a [`RangeRef`] does not know.
+#[derive(Drop)]
+pub struct ReadRange<'a> {
+    text: &'a str,
+    reading: Reading,
+    range: RangeRef<'a>,
+}
+
+/// In clauses, this is the text and how it was read.
+impl<'a> Model for ReadRange<'a> {
+    ghost use Rattle.nodejs_semver.specs.Npm.Ranges.{IsRangeIn};
+    ghost use Rattle.nodejs_semver.specs.Npm.Readings.{ReadText};
+    ghost use Rattle.semver_core.specs.declared.TheConstants.{MAX_SAFE_INTEGER};
+
+    ghost Value = { ReadText };
+
+    ghost view = { λ r. record { reading = r.reading; text = r.text.now } };
+
+    ghost invariant = { λ r. IsRangeIn r.reading.loose MAX_SAFE_INTEGER
+        r.reading.include_prerelease r.text.now r.range };
+}
+
+impl<'a> ReadRange<'a> {
+    /// Reads a range text as [`range`](crate::npm::range) does, or loosely as
+    /// [`range_loose`](crate::npm::range_loose) does. The range borrows the text.
+    ///
+    /// ```rust
+    /// let beta = VersionRef::parse("1.3.0-beta")?;
+    /// let reading = Reading {
+    ///     loose: false,
+    ///     include_prerelease: true,
+    /// };
+    /// assert!(rt; ReadRange::parse(alloc, "^1.2", reading)?.satisfies(&beta));
+    /// let range = ReadRange::parse(alloc, "^1.2", Reading::default())?;
+    /// assert!(rt; !range.satisfies(&beta));
+    /// ```
+    pub fn parse(
+        alloc: Global,
+        text: &'a str,
+        reading: Reading,
+    ) -> Result<ReadRange<'a>, Failure<SemverError>>
+        // It is this text, so read, and the text has alternatives.
+        ensures value { IfOk result (λ r. r ≡ record { reading = reading; text = text.now }) }
+        ensures ok { IfOk result (λ r. (alternatives : List (List Comparison))
+            × HasAlternativesAs MAX_SAFE_INTEGER r alternatives) }
+        // A text is rejected only if it has none. The one other error is a failed allocation.
+        ensures refused { RefusedOnlyIf result (NoValue (HasAlternativesAs MAX_SAFE_INTEGER
+            (record { reading = reading; text = text.now }))) }
+        // Allocation fails only if the text has two alternatives or more.
+        ensures memory { MemoryOnlyIf result ((pieces : List (List ℕ)) →
+            IsCutAtBars text.now pieces → 1 < length pieces) }
+    {
+        let range = read_range(alloc, reading.loose, reading.include_prerelease, text)?;
+        Ok(ReadRange {
+            text,
+            reading,
+            range,
+        })
+    }
+
+    /// The text that was read.
+    pub fn text(&self) -> &'a str
+        ensures { result.now ≡ self.now.text }
+    {
+        self.text
+    }
+
+    /// How the text was read.
+    pub fn reading(&self) -> Reading
+        ensures { result ≡ self.now.reading }
+    {
+        self.reading
+    }
+
+    /// The range without its reading, for the calls that compute with ranges. Asked by
+    /// `satisfies_with_prerelease` with the flag of the reading, it accepts the same versions.
+    pub fn range(&self) -> &RangeRef<'a>
+        ensures { OfAccepted MAX_SAFE_INTEGER self.now (λ accepted. (v : VersionValue)
+            → Gate.accepts result.now v self.now.reading.include_prerelease ≡ accepted v) }
+    {
+        &self.range
+    }
+
+    /// Whether the range accepts this version, with pre-releases included exactly if it was read
+    /// so: what node-semver's `Range.test` returns.
+    pub fn satisfies<W: Versioned>(&self, version: &W) -> bool
+        ensures { OfAccepted MAX_SAFE_INTEGER self.now
+            (λ accepted. result ≡ accepted (W.value version.now)) }
+    {
+        self.range
+            .satisfies_with_prerelease(version, self.reading.include_prerelease)
+    }
+
+    /// The greatest of the versions that the range accepts by `satisfies`. Returns `None` exactly
+    /// where it accepts none. Of equal versions it is the last.
+    pub fn max_satisfying<'v, W: Versioned>(&self, versions: &'v [W]) -> Option<&'v W>
+        ensures { OfAccepted MAX_SAFE_INTEGER self.now (λ accepted. IsMax accepted
+            (map W.value versions.now) (option_map (λ v. W.value v.now) result)) }
+    {
+        greatest(&self.range, self.reading.include_prerelease, versions)
+    }
+
+    /// The smallest of the versions that the range accepts by `satisfies`. Returns `None` exactly
+    /// where it accepts none. Of equal versions it is the first.
+    pub fn min_satisfying<'v, W: Versioned>(&self, versions: &'v [W]) -> Option<&'v W>
+        ensures { OfAccepted MAX_SAFE_INTEGER self.now (λ accepted. IsMin accepted
+            (map W.value versions.now) (option_map (λ v. W.value v.now) result)) }
+    {
+        least(&self.range, self.reading.include_prerelease, versions)
+    }
+}
+
+// The last of the greatest of the versions that a range accepts.
+fn greatest<'v, W: Versioned>(
+    range: &RangeRef<'_>,
+    include: bool,
+    versions: &'v [W],
+) -> Option<&'v W>
+    ensures { IsMax (λ v. Gate.accepts range.now v include)
+        (map W.value versions.now) (option_map (λ v. W.value v.now) result) }
+{
+    let mut best = None;
+    for version in versions {
+        if is_new_max(range, include, version, best) {
+            best = Some(version);
+        }
+    }
+    best
+}
+
+// Whether a range accepts a version, and the best so far is not above it.
+#[inline(always)]
+fn is_new_max<W: Versioned>(
+    range: &RangeRef<'_>,
+    include: bool,
+    version: &W,
+    best: Option<&W>,
+) -> bool
+    ensures { result ≡ replaces (λ b v. is_le (precedence b v))
+        (λ v. Gate.accepts range.now v include)
+        (option_map (λ v. W.value v.now) best.entry) (W.value version.now) }
+{
+    match best {
+        Some(best) => {
+            best.cmp_precedence(version).is_le()
+                && range.satisfies_with_prerelease(version, include)
+        }
+        None => range.satisfies_with_prerelease(version, include),
+    }
+}
+
+// The first of the least of the versions that a range accepts.
+fn least<'v, W: Versioned>(range: &RangeRef<'_>, include: bool, versions: &'v [W]) -> Option<&'v W>
+    ensures { IsMin (λ v. Gate.accepts range.now v include)
+        (map W.value versions.now) (option_map (λ v. W.value v.now) result) }
+{
+    let mut best = None;
+    for version in versions {
+        if is_new_min(range, include, version, best) {
+            best = Some(version);
+        }
+    }
+    best
+}
+
+// Whether a range accepts a version, and the best so far is above it.
+#[inline(always)]
+fn is_new_min<W: Versioned>(
+    range: &RangeRef<'_>,
+    include: bool,
+    version: &W,
+    best: Option<&W>,
+) -> bool
+    ensures { result ≡ replaces (λ b v. is_lt (precedence v b))
+        (λ v. Gate.accepts range.now v include)
+        (option_map (λ v. W.value v.now) best.entry) (W.value version.now) }
+{
+    match best {
+        Some(best) => {
+            version.cmp_precedence(best).is_lt()
+                && range.satisfies_with_prerelease(version, include)
+        }
+        None => range.satisfies_with_prerelease(version, include),
+    }
+}
