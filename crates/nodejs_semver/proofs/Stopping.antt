@@ -2,7 +2,6 @@ pub mod Steps
 pub mod Read
 pub mod Written
 pub mod Fronts
-pub mod Lasts
 pub mod Wrongs
 pub mod Stops
 pub mod MalformedWords

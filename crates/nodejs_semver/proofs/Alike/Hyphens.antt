@@ -1,19 +1,21 @@
 -- Hyphen ranges: their ends, and both together.
-use Rattle.nodejs_semver.proofs.Common.{◌≡◌, ◌+◌, ◌⊎◌, refl, sym, ◌∙◌, subst, ℕ, Bool, true, false, ◌&&◌, ◌||◌, not, List, []}
-use Rattle.nodejs_semver.proofs.Common.{◌∷◌, ◌++◌, Option, Some, None, arith, and_parts, cases_Bool, first_so, inl, inr, is_empty, list_all}
-use Rattle.nodejs_semver.proofs.Common.{After, Before, Bound, Id, MAX_SAFE_INTEGER, Partial, Span, VersionValue, hyphen, interval}
-use Rattle.nodejs_semver.proofs.Common.{is_interval, is_release, list_all-append, names, precedence, table}
-use Rattle.std.specs.Prelude.{is_some}
+use Rattle.std.proofs.Math.Bool.{or-true}
+use Rattle.nodejs_semver.proofs.Common.{common_steps, nat_tests, ◌≡◌, ◌+◌, ◌⊎◌, refl, sym, ◌∙◌, subst, ℕ, Bool, true}
+use Rattle.nodejs_semver.proofs.Common.{false, ◌&&◌, ◌||◌, List, [], ◌∷◌, ◌++◌, Option, Some, arith, and_parts}
+use Rattle.nodejs_semver.proofs.Common.{cases_Bool, first_so, inl, inr, is_empty, list_all, After, Before, Bound, Id}
+use Rattle.nodejs_semver.proofs.Common.{MAX_SAFE_INTEGER, Partial, Span, VersionValue, hyphen, interval, is_interval}
+use Rattle.nodejs_semver.proofs.Common.{is_release, list_all-append, names, precedence, table, is_some, version_of}
+use Rattle.nodejs_semver.proofs.Common.{at_most}
 use Rattle.nodejs_semver.specs.Npm.Alike.{IsPlainPartial, is_plain, npm_partial}
 use Rattle.nodejs_semver.specs.Npm.RangeText.{IsPartial, partial_of}
 use Rattle.nodejs_semver.specs.Npm.Ranges.{is_valid}
 use Rattle.nodejs_semver.specs.Npm.Table.{Comparison, from, hyphen_lower, hyphen_upper, lowest, made, no_build, under}
-use Rattle.nodejs_semver.specs.Text.Table.{version_of}
-use Rattle.nodejs_semver.specs.Text.WordText.{at_most}
-use Rattle.nodejs_semver.proofs.Alike.Ends.{OpenLow, any-tame, counted-exact, exact-tame, from-firm, from-tame, lower-before, not_named}
-use Rattle.nodejs_semver.proofs.Alike.Ends.{open-named, under-exact, under-tame, upper-after, whole_from-either, whole_from-tame}
-use Rattle.nodejs_semver.proofs.Alike.Ends.{whole_most-exact, zero-release, zero_from}
-use Rattle.nodejs_semver.proofs.Alike.Rows.{Form, SameWord, any, exact-word, form, one, partial, tame-word, text-spelled, three, two}
+use Rattle.nodejs_semver.proofs.Alike.Ends.{OpenLow, counted-exact, exact-tame, from-firm, from-tame}
+use Rattle.nodejs_semver.proofs.Alike.Ends.{lower-before, not_named, open-named, under-exact, under-tame, upper-after}
+use Rattle.nodejs_semver.proofs.Alike.Ends.{whole_from-either, whole_from-tame, whole_most-exact, zero-release}
+use Rattle.nodejs_semver.proofs.Alike.Ends.{zero_from}
+use Rattle.nodejs_semver.proofs.Alike.Rows.{Form, SameWord, any, exact-word, form, one, partial, tame-word}
+use Rattle.nodejs_semver.proofs.Alike.Rows.{text-spelled, three, two}
 use Rattle.nodejs_semver.proofs.Alike.Tests.{Alike, Exact, Tame, from_lower, meets-both, named_by, passed, to_upper}
 
 -- ---- the lower end
@@ -26,10 +28,7 @@ low-form : (pre : Bool) (v : VersionValue) (text : List ℕ) (a b c : Option ℕ
     → IsPartial false text (partial_of a b c x y)
     → list_all (is_valid MAX_SAFE_INTEGER) (hyphen_lower false (partial_of a b c x y) text) ≡ true
     → Low v (version_of (partial a b c x y)) (hyphen_lower false (partial_of a b c x y) text)
-low-form pre v text a b c x y any t h = record {
-  tame = λ _. any-tame v;
-  firm = inr (record { zero = refl; all = refl; none = refl });
-}
+low-form pre v text a b c x y any t h = grind (arith, nat_tests, common_steps)
 low-form pre v text a b c x y (one M) t h =
     let k = first_so (is_valid MAX_SAFE_INTEGER (from false (M, 0, 0))) _ h in
     record { tame = λ _. from-tame v (M, 0, 0) k; firm = from-firm v (M, 0, 0) k }
@@ -37,9 +36,7 @@ low-form pre v text a b c x y (two M m) t h =
     let k = first_so (is_valid MAX_SAFE_INTEGER (from false (M, m, 0))) _ h in
     record { tame = λ _. from-tame v (M, m, 0) k; firm = from-firm v (M, m, 0) k }
 low-form pre v text a b c x y (three M m p x' y' e) t h =
-    let w : VersionValue = record { major = M; minor = m; patch = p; pre_release = x'; build = y' } in
-    let s = text-spelled text w t in
-    record { tame = whole_from-tame v w text s; firm = whole_from-either v w text s }
+    grind (arith, nat_tests, common_steps, text-spelled, whole_from-tame, whole_from-either)
 
 -- ---- both ends
 
@@ -115,20 +112,7 @@ open-alike v w z cs ds o h i k =
 -- ---- hyphen ranges
 
 plain-written : (pre : Bool) (p : Partial) → is_plain pre p ≡ true → (pre || is_empty p.pre_release) ≡ true
-plain-written pre p h = by p.patch h
-  where
-    first : (a b c : Bool) → (a && (b && c)) ≡ true → c ≡ true
-    first a b c h = grind arith
-
-    second : (q a b c : Bool) → (a && (b && c)) ≡ true → (q || b) ≡ true
-    second q a b c h = grind arith
-
-    by : (c : Option ℕ) → is_plain pre (partial p.major p.minor c p.pre_release p.build) ≡ true → (pre || is_empty p.pre_release) ≡ true
-    by (Some n) h = first (is_some p.major) (is_some p.minor) (pre || is_empty p.pre_release) h
-    by None h = second pre (is_some p.major || not (is_some p.minor)) (is_empty p.pre_release) (is_empty p.build) h
-
-either_true : (a : Bool) → (a || true) ≡ true
-either_true a = grind arith
+plain-written pre p h = grind (arith, nat_tests, common_steps)
 
 hyphen-form : (pre : Bool) (v : VersionValue) (p : Partial) (cs : List Comparison) (text : List ℕ) (s : Span VersionValue)
     (a b c : Option ℕ) (x y : List Id) → Low v (version_of p) cs → (pre || is_release (version_of p)) ≡ true → Form pre a b c x y
@@ -137,16 +121,16 @@ hyphen-form : (pre : Bool) (v : VersionValue) (p : Partial) (cs : List Compariso
 unfolding table
 hyphen-form pre v p cs text s a b c x y low w any m e = cc m
 hyphen-form pre v p cs text s a b c x y low w (one M) m e =
-    ends pre v (version_of p) (Before (lowest (M + 1, 0, 0))) true cs (under (M + 1, 0, 0) ∷ []) low (under-up v (M + 1, 0, 0)) w (either_true pre)
+    ends pre v (version_of p) (Before (lowest (M + 1, 0, 0))) true cs (under (M + 1, 0, 0) ∷ []) low (under-up v (M + 1, 0, 0)) w (or-true pre)
     (λ f. absurd (differ true refl f)) s e
 hyphen-form pre v p cs text s a b c x y low w (two M n) m e =
-    ends pre v (version_of p) (Before (lowest (M, n + 1, 0))) true cs (under (M, n + 1, 0) ∷ []) low (under-up v (M, n + 1, 0)) w (either_true pre)
+    ends pre v (version_of p) (Before (lowest (M, n + 1, 0))) true cs (under (M, n + 1, 0) ∷ []) low (under-up v (M, n + 1, 0)) w (or-true pre)
     (λ f. absurd (differ true refl f)) s e
 hyphen-form pre v p cs text s a b c x y low w (three M n o [] y' q) m e =
     let z : VersionValue = record { major = M; minor = n; patch = o; pre_release = []; build = y' } in
     let exact = whole_most-exact v z text in
     ends pre v (version_of p) (After z) true cs (record { sign = at_most; version = z; text = text } ∷ []) low
-    (record { tame = λ _. exact-tame v _ _ _ exact refl; exact = exact }) w (either_true pre)
+    (record { tame = λ _. exact-tame v _ _ _ exact refl; exact = exact }) w (or-true pre)
     (λ f. absurd (differ true refl f)) s e
 hyphen-form pre v p cs text s a b c x y low w (three M n o (i ∷ x') y' q) m e =
     let z : VersionValue = record { major = M; minor = n; patch = o; pre_release = i ∷ x'; build = y' } in

@@ -1,17 +1,15 @@
 -- The longest tuple of numbers at a place of a text, the leftmost one, and the one that ends last.
-use Rattle.nodejs_semver.proofs.Common.{◌≡◌, ◌⊎◌, ◌<◌, ◌≤◌, ◌+◌, ◌-◌, ℕ, suc, Bool, List, [], ◌∷◌, ◌++◌, length, drop, take, refl, sym, ap, ◌∙◌, arith}
-use Rattle.nodejs_semver.proofs.Common.{true, false, inl, inr, append_assoc, cases_Bool, length-append, nat_tests, begins, ends, is_ascii_digit}
-use Rattle.nodejs_semver.proofs.Common.{take_at, drop_at, eqb-true}
-use Rattle.std.proofs.Common.{get_or, length-drop}
-use Rattle.std.proofs.lemmas.Bool.{cases_lt}
-use Rattle.std.proofs.lemmas.List.{length-take-le}
+use Rattle.nodejs_semver.proofs.Common.{common_steps, ◌≡◌, ◌⊎◌, ◌<◌, ◌≤◌, ◌+◌, ◌-◌, ℕ, Bool, List, [], ◌∷◌, ◌++◌}
+use Rattle.nodejs_semver.proofs.Common.{length, drop, take, refl, sym, ap, ◌∙◌, arith, true, false, inl, inr}
+use Rattle.nodejs_semver.proofs.Common.{append_assoc, cases_Bool, length-append, nat_tests, begins, ends}
+use Rattle.nodejs_semver.proofs.Common.{is_ascii_digit, take_at, drop_at, eqb-true, get_or, length-drop, cases_lt}
+use Rattle.nodejs_semver.proofs.Common.{length-take-le, ◌==◌, prefix_len, take-append-drop}
 use Rattle.std.proofs.lemmas.List.Folds.{length-prefix_len}
-use Rattle.std.specs.Prelude.{◌==◌, nat_le}
-use Rattle.std.specs.List.{prefix_len}
+use Rattle.std.specs.Prelude.{nat_le}
 use Rattle.std.proofs.Math.Seq.{drop-append-add}
-use Rattle.std.proofs.lemmas.List.{take-append-drop}
 use Rattle.semver_core.proofs.Text.Pieces.{rest_at}
-use Rattle.nodejs_semver.specs.Internal.NpmTuples.{IsLastBefore, IsLongestAt, behind_first, dotted_len, run_len, tuple_len}
+use Rattle.nodejs_semver.specs.Internal.NpmTuples.{IsLastBefore, IsLongestAt, behind_first, dotted_len, run_len}
+use Rattle.nodejs_semver.specs.Internal.NpmTuples.{tuple_len}
 use Rattle.nodejs_semver.specs.Npm.Coerced.{IsLeftmost, IsRightmost, IsRun, IsTuple, IsTupleIn, one, three, two}
 use Rattle.nodejs_semver.proofs.Strict.Places.{digits-of}
 use Rattle.nodejs_semver.proofs.Reading.Numbers.{digits-taken, run-ends}
@@ -35,21 +33,14 @@ run-at text n e some = elim (cases_Bool (nat_le (prefix_len is_ascii_digit text)
         run = take (prefix_len is_ascii_digit text) text;
         rest = drop (prefix_len is_ascii_digit text) text;
         split = sym (take-append-drop (prefix_len is_ascii_digit text) text);
-        is = record {
-          some = omega (arith, length-prefix_len is_ascii_digit text, some, same);
-          short = grind (arith, nat_tests, length-prefix_len);
-          each = digits-of (prefix_len is_ascii_digit text) text (omega arith);
-        };
+        is = grind (arith, nat_tests, common_steps, length-prefix_len, digits-of);
         long = length-prefix_len is_ascii_digit text;
         ended = run-ends text;
       })
 ]
 
 run-long : (a z : List ℕ) → IsRun a → begins is_ascii_digit z ≡ false → run_len (a ++ z) ≡ length a
-run-long a z h stop =
-    let n : prefix_len is_ascii_digit (a ++ z) ≡ length a = digits-taken a z h.each stop in
-    let short : nat_le (length a) 16 ≡ true = grind (arith, nat_tests, h.short) in
-    rw (n, short) refl
+run-long a z h stop = grind (arith, nat_tests, common_steps, digits-taken)
 
 record DottedAt (text : List ℕ) (n : ℕ) : Type 0 where
   run : List ℕ
@@ -79,9 +70,7 @@ dotted-at (b ∷ text) n e some = elim (cases_Bool (b == 46)) [
 ]
 
 dotted-long : (a z : List ℕ) → IsRun a → begins is_ascii_digit z ≡ false → dotted_len (46 ∷ (a ++ z)) ≡ 1 + length a
-dotted-long a z h stop =
-    let some : (length a == 0) ≡ false = grind (arith, nat_tests, h.some) in
-    rw (run-long a z h stop, some) refl
+dotted-long a z h stop = grind (arith, nat_tests, common_steps, run-long)
 
 -- ---- the longest tuple at the front
 
@@ -142,12 +131,9 @@ span-at text n e some = elim (cases_Bool (run_len text == 0)) [
                 tuple = r.run ++ (46 ∷ (d.run ++ (46 ∷ p.run)));
                 rest = p.rest;
                 runs = r.run ∷ d.run ∷ p.run ∷ [];
-                split = r.split ∙ ap (λ (t : List ℕ). r.run ++ t) (d.split ∙ ap (λ (t : List ℕ). 46 ∷ t)
-                    (ap (λ (t : List ℕ). d.run ++ t) p.split ∙ sym (append_assoc d.run (46 ∷ p.run) p.rest)))
-                    ∙ sym (append_assoc r.run (46 ∷ (d.run ++ (46 ∷ p.run))) p.rest);
+                split = grind (arith, nat_tests, common_steps);
                 is = three r.run d.run p.run r.is d.is p.is;
-                long = length-append r.run (46 ∷ (d.run ++ (46 ∷ p.run)))
-                    ∙ omega (arith, length-append d.run (46 ∷ p.run), r.long, d.long, p.long, e);
+                long = grind (arith, nat_tests, common_steps);
                 ended = p.ended;
               }
         ]
@@ -155,17 +141,9 @@ span-at text n e some = elim (cases_Bool (run_len text == 0)) [
 -- no tuple at the front is longer
 span-longest : (y z : List ℕ) (runs : List (List ℕ)) → IsTuple y runs → begins is_ascii_digit z ≡ false → length y ≤ tuple_len (y ++ z)
 unfolding tuple_len
-span-longest y z runs (one a h) stop =
-    let some : (length a == 0) ≡ false = grind (arith, nat_tests, h.some) in
-    rw (run-long a z h stop, some) (least (a ++ z) (length a) (dotted_len (drop (length a) (a ++ z))))
-  where
-    least : (text : List ℕ) (n m : ℕ) → n ≤ behind_first text n m
-    least text n m = elim (cases_Bool (m == 0)) [ inl none ↦ rw none (omega arith) | inr more ↦ rw more (omega arith) ]
+span-longest y z runs (one a h) stop = grind (arith, nat_tests, common_steps, run-long)
 span-longest y z runs (two a b h k) stop =
-    let some : (length a == 0) ≡ false = grind (arith, nat_tests, h.some) in
-    let more : (1 + length b == 0) ≡ false = grind (arith, nat_tests) in
-    rw (append_assoc a (46 ∷ b) z, run-long a (46 ∷ (b ++ z)) h refl, some, drop_at a (46 ∷ (b ++ z)) (length a) refl, dotted-long b z k stop, more)
-    (omega (arith, length-append a (46 ∷ b)))
+    grind (arith, nat_tests, common_steps, append_assoc, run-long, drop_at, dotted-long, length-append)
 span-longest y z runs (three a b c h k m) stop =
     let some : (length a == 0) ≡ false = grind (arith, nat_tests, h.some) in
     let more : (1 + length b == 0) ≡ false = grind (arith, nat_tests) in
@@ -187,17 +165,10 @@ span-longest y z runs (three a b c h k m) stop =
 
 -- ---- the longest tuple at a place
 
-tuple-some : (y : List ℕ) (runs : List (List ℕ)) → IsTuple y runs → 0 < length y
-tuple-some y runs (one a h) = h.some
-tuple-some y runs (two a b h k) = omega (arith, length-append a (46 ∷ b), h.some)
-tuple-some y runs (three a b c h k m) = omega (arith, length-append a (46 ∷ (b ++ (46 ∷ c))), h.some)
-
 last-byte : (p : ℕ → Bool) (x rest : List ℕ) (d : ℕ) → 0 < length x → p (get_or (x ++ rest) (length x - 1) d) ≡ ends p x
 last-byte p [] rest d some = absurd (omega (arith, some))
 last-byte p (c ∷ []) rest d some = refl
-last-byte p (c ∷ e ∷ x) rest d some =
-    let k : length (c ∷ e ∷ x) - 1 ≡ suc (length (e ∷ x) - 1) = omega arith in
-    rw k (last-byte p (e ∷ x) rest d (omega arith))
+last-byte p (c ∷ e ∷ x) rest d some = grind (arith, last-byte p (e ∷ x) rest d (omega arith))
 
 pub last_before : (text : List ℕ) (at d : ℕ) → 0 < at → at ≤ length text
     → is_ascii_digit (get_or text (at - 1) d) ≡ ends is_ascii_digit (take at text)
@@ -207,13 +178,7 @@ last_before text at d some fits =
 
 -- where a digit stands before, no tuple begins
 pub longest_none : (text : List ℕ) (at : ℕ) → at ≤ length text → ends is_ascii_digit (take at text) ≡ true → IsLongestAt text at 0
-longest_none text at fits digit = record {
-  fits = omega arith;
-  here = λ h. absurd (omega (arith, h));
-  longest = λ x y z is e.
-      let same : take at text ≡ x = ap (λ (t : List ℕ). take at t) is.divided ∙ take_at x (y ++ z) at e in
-      cc (rw same at digit, is.begun);
-}
+longest_none text at fits digit = grind (arith, nat_tests, common_steps)
 
 pub longest_some : (text : List ℕ) (at len : ℕ) → at ≤ length text → ends is_ascii_digit (take at text) ≡ false
     → len ≡ tuple_len (drop at text) → len ≤ length (drop at text) → IsLongestAt text at len
@@ -230,9 +195,7 @@ longest_some text at len inside dark e short = record {
         begun = dark;
         ended = rw left s.ended;
       };
-  longest = λ x y z is same.
-      let rest : drop at text ≡ y ++ z = ap (λ (t : List ℕ). drop at t) is.divided ∙ drop_at x (y ++ z) at same in
-      rw (e, rest) (span-longest y z is.runs is.is is.ended);
+  longest = grind (arith, nat_tests, common_steps, drop_at, span-longest);
 }
 
 record Parts (text x y z : List ℕ) : Type 0 where
@@ -240,10 +203,7 @@ record Parts (text x y z : List ℕ) : Type 0 where
   some : 0 < length y
 
 parts : (text x y z : List ℕ) → IsTupleIn text x y z → Parts text x y z
-parts text x y z is = record {
-  whole = ap length is.divided ∙ length-append x (y ++ z) ∙ omega (arith, length-append y z);
-  some = tuple-some y is.runs is.is;
-}
+parts text x y z is = grind (arith, nat_tests, common_steps)
 
 -- ---- the leftmost tuple
 
@@ -287,14 +247,7 @@ pub ruleset firsts = (first_found)
 -- ---- the tuple that ends last
 
 pub last_begin : (text : List ℕ) → IsLastBefore text 0 0 0
-last_begin text = record {
-  before = omega arith;
-  order = omega arith;
-  fits = omega arith;
-  here = λ h. absurd (omega (arith, h));
-  last = λ x y z is h. absurd (omega (arith, h));
-  longest = λ x y z is h e. absurd (omega (arith, h));
-}
+last_begin text = grind (arith, nat_tests, common_steps)
 
 pub last_kept : (text : List ℕ) (at len start end : ℕ) → IsLongestAt text at len → (len ≤ 0) ⊎ (at + len ≤ end)
     → IsLastBefore text at start end → IsLastBefore text (at + 1) start end

@@ -1,28 +1,21 @@
 -- The order that counts builds is total, and versions that tie in it are equal.
-use Rattle.std.proofs.Common.{◌≡◌, ◌∙◌, ◌↔◌, ◌||◌, ap, not, sym, true, refl, Ordering}
-use Rattle.std.proofs.lemmas.Bool.{not-true}
-use Rattle.std.specs.Cmp.{IsTotalOrder, on_total, then_total, tied_itself, upto}
+use Rattle.nodejs_semver.proofs.Common.{arith, common_steps, nat_tests, ◌≡◌, ◌∙◌, ◌↔◌, ◌||◌, ap, not, sym, true}
+use Rattle.nodejs_semver.proofs.Common.{Ordering, not-true, IsTotalOrder, tied_itself, is_le, ordering_reverse}
+use Rattle.nodejs_semver.proofs.Common.{ordering_then, Equal, tells, precedence_total, VersionValue}
+use Rattle.std.specs.Cmp.{on_total, then_total, upto}
 use Rattle.std.specs.Cmp.Lexicographic.{lists_total}
 use Rattle.std.specs.FinMap.{slice_cmp-IsAntisymmetric}
-use Rattle.std.specs.Ordering.{is_le, ordering_reverse, ordering_then}
-use Rattle.std.specs.declared.cmp.Ordering.TheVariants.{Less, Equal, Greater}
-use Rattle.semver_core.proofs.CutLaws.{tells}
-use Rattle.semver_core.specs.Internal.OrderLaws.{id_same, id_total, precedence_total, same_key}
-use Rattle.semver_core.specs.Values.Versions.{VersionValue}
+use Rattle.semver_core.specs.Internal.OrderLaws.{id_same, id_total, same_key}
 use Rattle.nodejs_semver.specs.Npm.Builds.{build_order}
 
 build_total : IsTotalOrder build_order
 build_total = then_total precedence_total (on_total (λ (v : VersionValue). v.build) (lists_total id_total))
 
 both_equal : (r s : Ordering) → ordering_then r s ≡ Equal → (r ≡ Equal) × (s ≡ Equal)
-both_equal Less s e = cc
-both_equal Equal s e = (refl, e)
-both_equal Greater s e = cc
+both_equal r s e = grind (arith, nat_tests, common_steps)
 
 both_ways : (r s : Ordering) → r ≡ ordering_reverse s → is_le r ≡ true → is_le s ≡ true → r ≡ Equal
-both_ways r Less e h k = cc (rw e at h)
-both_ways r Equal e h k = e
-both_ways r Greater e h k = cc
+both_ways r s e h k = grind (arith, nat_tests, common_steps)
 
 same_value : (v w : VersionValue) → build_order v w ≡ Equal → v ≡ w
 same_value v w e =
@@ -43,9 +36,7 @@ transitive u v w h k =
     (tells _).0 ∙ ap not (upto build_total u v w (not-true _ (sym (tells _).0 ∙ h)) (not-true _ (sym (tells _).0 ∙ k)))
 
 one_way : (r s : Ordering) → r ≡ ordering_reverse s → (is_le r || is_le s) ≡ true
-one_way r Less e = rw e refl
-one_way r Equal e = rw e refl
-one_way r Greater e = rw e refl
+one_way r s e = grind (arith, nat_tests, common_steps)
 
 pub total : (v w : VersionValue) → (is_le (build_order v w) || is_le (build_order w v)) ≡ true
 total v w = one_way (build_order v w) (build_order w v) (build_total.antisymm v w)

@@ -1,22 +1,12 @@
 -- A range of those intervals that accept one of some versions.
-use Rattle.std.proofs.Common.{◌≡◌, ◌∙◌, ◌≤◌, refl, sym, ap, Bool, true, false, ℕ, ◌+◌, List, [], ◌∷◌, filter, length, map}
-use Rattle.std.proofs.Common.{All, None, Some, arith, ◌&&◌, ◌||◌, if◌then◌else◌, inl, inr, ◌<◌}
-use Rattle.std.proofs.lemmas.List.{length-map}
-use Rattle.std.proofs.lemmas.Bool.{or_left, or_right}
-use Rattle.std.proofs.lemmas.List.Elements.{All-from_recursion}
-use Rattle.std.specs.List.{AllByRecursion, list_all, list_any}
-use Rattle.semver_core.specs.Cuts.{Span, holds}
-use Rattle.semver_core.specs.Values.Order.{precedence}
-use Rattle.semver_core.specs.Lists.{if_any, is_empty}
-use Rattle.semver_core.specs.Values.Versions.{VersionValue}
-use Rattle.nodejs_semver.proofs.Algebra.FlatMaps.{list_any-map}
+use Rattle.nodejs_semver.proofs.Common.{◌≡◌, ◌∙◌, ◌≤◌, refl, sym, ap, Bool, true, false, ℕ, ◌+◌, List, [], ◌∷◌, filter}
+use Rattle.nodejs_semver.proofs.Common.{length, map, All, None, Some, arith, ◌&&◌, ◌||◌, if◌then◌else◌, inl, inr, ◌<◌}
+use Rattle.nodejs_semver.proofs.Common.{length-map, or_left, or_right, All-from_recursion, AllByRecursion, list_all}
+use Rattle.nodejs_semver.proofs.Common.{list_any, Span, holds, precedence, if_any, is_empty, VersionValue, list_any-map}
+use Rattle.nodejs_semver.proofs.Common.{AreTaking, is_range_span, accepts, lets_in, IsRange, span_of, spans_of}
 use Rattle.nodejs_semver.proofs.Questions.Unions.{all-filter, filtered, map-filter}
 use Rattle.nodejs_semver.specs.Internal.Questions.{admits, is_used}
-use Rattle.nodejs_semver.specs.Internal.Sets.{AreTaking, is_range_span}
 use Rattle.nodejs_semver.specs.Npm.Simple.{simplified}
-use Rattle.nodejs_semver.specs.Ranges.Gate.{accepts, lets_in}
-use Rattle.nodejs_semver.specs.Ranges.View.{IsRange, span_of}
-use Rattle.nodejs_semver.specs.Internal.Shorthands.{spans_of}
 
 -- the spans that admit one of the versions
 abbrev used_of : List VersionValue → List (Span VersionValue) → List (Span VersionValue)

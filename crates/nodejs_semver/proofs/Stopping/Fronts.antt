@@ -1,9 +1,10 @@
 -- What is read of a version text goes on to a version.
-use Rattle.std.proofs.Common.{◌≡◌, ◌≤◌, ◌++◌, ◌∷◌, ◌∙◌, ℕ, zero, suc, List, [], Some, None, refl, sym, true}
+use Rattle.nodejs_semver.proofs.Common.{◌≡◌, ◌≤◌, ◌++◌, ◌∷◌, ◌∙◌, ℕ, zero, suc, List, [], Some, None, refl, sym, true}
 use Rattle.nodejs_semver.specs.Internal.NpmStates.{is_whole, next, run}
 use Rattle.nodejs_semver.specs.Npm.Flaws.{IsFront}
 use Rattle.nodejs_semver.specs.declared.npm.flaws.State.{State}
-use Rattle.nodejs_semver.specs.declared.npm.flaws.State.TheVariants.{Start, Digit, Number, Dash, Zero, Padded, PreRelease, Plus, Build, End}
+use Rattle.nodejs_semver.specs.declared.npm.flaws.State.TheVariants.{Start, Digit, Number, Dash, Zero, Padded}
+use Rattle.nodejs_semver.specs.declared.npm.flaws.State.TheVariants.{PreRelease, Plus, Build, End}
 use Rattle.nodejs_semver.proofs.Stopping.Steps.{run-nil, run-none, run-step, run-then}
 use Rattle.nodejs_semver.proofs.Stopping.Read.{Whole}
 use Rattle.nodejs_semver.proofs.Stopping.Written.{read-spelled}

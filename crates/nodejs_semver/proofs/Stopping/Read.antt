@@ -1,24 +1,23 @@
 -- A text that is written as a version is read to its end as one.
-use Rattle.std.proofs.Common.{◌≡◌, ◌⊎◌, ◌<◌, ◌≤◌, ◌+◌, ◌*◌, ◌&&◌, ◌||◌, ℕ, Bool, true, false, Some, List, [], ◌∷◌, ◌++◌, refl, sym, ap, ◌∙◌, arith, inl, inr, nat_lt, append_assoc, append-nil}
-use Rattle.std.specs.Prelude.{◌==◌, encode_utf8_all}
-use Rattle.std.specs.Char.{digit_value, is_ascii_digit}
-use Rattle.std.specs.List.{list_all, onto_first}
+use Rattle.nodejs_semver.proofs.Common.{common_steps, ◌≡◌, ◌⊎◌, ◌<◌, ◌≤◌, ◌+◌, ◌*◌, ◌&&◌, ◌||◌, ℕ, Bool, true, false}
+use Rattle.nodejs_semver.proofs.Common.{Some, List, [], ◌∷◌, ◌++◌, refl, sym, ap, ◌∙◌, arith, inl, inr, nat_lt}
+use Rattle.nodejs_semver.proofs.Common.{append-nil, ◌==◌, encode_utf8_all, is_ascii_digit, list_all, onto_first}
+use Rattle.nodejs_semver.proofs.Common.{and_from, and_parts, cases_Bool, eqb-true, nat_tests, list_all-append}
+use Rattle.nodejs_semver.proofs.Common.{is_identifier_char, Id, is_identifier, pieces, VersionValue}
+use Rattle.std.specs.Char.{digit_value}
 use Rattle.std.specs.Str.Parse.{digits_value_after}
-use Rattle.std.proofs.lemmas.Bool.{and_from, and_parts, cases_Bool, eqb-true}
-use Rattle.std.proofs.lemmas.Bool.Decides.{nat_tests}
-use Rattle.std.proofs.lemmas.List.Folds.{list_all-append}
 use Rattle.std.proofs.lemmas.Str.{encode_ascii, encodes_same}
-use Rattle.semver_core.specs.Text.Characters.{is_identifier_char}
-use Rattle.semver_core.specs.Text.Identifiers.{Id, is_identifier, pieces}
-use Rattle.semver_core.specs.Values.Versions.{VersionValue}
 use Rattle.semver_core.proofs.Text.Pieces.{digits_grow, runs_tail, tail_runs}
 use Rattle.nodejs_semver.specs.Internal.NpmStates.{is_whole, next, run}
 use Rattle.nodejs_semver.specs.Npm.Flaws.{IsSpelled}
-use Rattle.nodejs_semver.specs.Npm.Grammar.{IsStrictBuild, IsStrictNumber, IsStrictPreRelease, dashed, is_strict_identifier, no_build, no_pre_release, plus}
+use Rattle.nodejs_semver.specs.Npm.Grammar.{IsStrictBuild, IsStrictNumber, IsStrictPreRelease, dashed}
+use Rattle.nodejs_semver.specs.Npm.Grammar.{is_strict_identifier, no_build, no_pre_release, plus}
 use Rattle.nodejs_semver.specs.Npm.VersionText.{IsStrictVersion}
 use Rattle.nodejs_semver.specs.declared.npm.flaws.State.{State}
-use Rattle.nodejs_semver.specs.declared.npm.flaws.State.TheVariants.{Start, Digit, Number, Dash, Zero, PreRelease, Plus, Build}
-use Rattle.nodejs_semver.proofs.Stopping.Steps.{digit-plain, identifier-more, identifier_read, run-nil, run-step, run-then, spaces-behind, spaces-start, start-digit}
+use Rattle.nodejs_semver.specs.declared.npm.flaws.State.TheVariants.{Start, Digit, Number, Dash, Zero, PreRelease, Plus}
+use Rattle.nodejs_semver.specs.declared.npm.flaws.State.TheVariants.{Build}
+use Rattle.nodejs_semver.proofs.Stopping.Steps.{digit-plain, identifier-more, identifier_read, run-nil, run-step}
+use Rattle.nodejs_semver.proofs.Stopping.Steps.{run-then, spaces-behind, spaces-start, start-digit}
 
 -- ---- numbers
 
@@ -28,18 +27,13 @@ unfolding run next
 digits-read limit left v [] each some safe = refl
 digits-read limit left v (c ∷ ds) each some safe =
     let h = and_parts (is_ascii_digit c) (list_all is_ascii_digit ds) each in
-    let grows = digits_grow (v * 10 + digit_value c) ds in
-    let small : (v == 0 || nat_lt limit (v * 10 + digit_value c)) ≡ false = grind (arith, nat_tests) in
-    rw (h.0, small) (digits-read limit left (v * 10 + digit_value c) ds h.1 (omega arith) safe)
+    grind (arith, digits_grow, nat_lt, digits-read limit left (v * 10 + digit_value c) ds h.1 (omega arith) safe)
 
 number-read : (limit left n : ℕ) (digits : List ℕ) → IsStrictNumber limit digits n
     → run limit (Digit left) digits ≡ Some (Number left n)
 unfolding run next
 number-read limit left n [] h = absurd (omega (arith, h.number.some))
-number-read limit left n (c ∷ []) h =
-    let digit = (and_parts (is_ascii_digit c) true h.number.each).0 in
-    let first : 0 * 10 + digit_value c ≡ digit_value c = omega arith in
-    rw digit (ap (λ (m : ℕ). Some (Number left m)) (sym (h.number.value ∙ first)))
+number-read limit left n (c ∷ []) h = grind (arith, nat_tests, common_steps)
 number-read limit left n (c ∷ d ∷ ds) h =
     let each = and_parts (is_ascii_digit c) (list_all is_ascii_digit (d ∷ ds)) h.number.each in
     let first : 0 * 10 + digit_value c ≡ digit_value c = omega arith in
@@ -68,10 +62,7 @@ numbers-read limit a b c x y z rest ha hb hc =
 marked-read : (limit a : ℕ) (mark x rest : List ℕ) → (mark ≡ []) ⊎ (mark ≡ 118 ∷ []) → IsStrictNumber limit x a
     → run limit Start (mark ++ (x ++ rest)) ≡ run limit (Digit 2) (x ++ rest)
 unfolding next
-marked-read limit a mark x rest (inr e) h = rw e (run-step limit Start (Digit 2) 118 (x ++ rest) refl)
-marked-read limit a mark [] rest (inl e) h = absurd (omega (arith, h.number.some))
-marked-read limit a mark (c ∷ x) rest (inl e) h =
-    rw e (start-digit limit c (x ++ rest) (and_parts (is_ascii_digit c) (list_all is_ascii_digit x) h.number.each).0)
+marked-read limit a mark x rest k h = grind (arith, nat_tests, common_steps, run-step, start-digit, and_parts)
 
 -- ---- identifiers
 
@@ -82,30 +73,18 @@ strict_behind x (p ∷ ps) = is_strict_identifier (x ++ p) && list_all is_strict
 
 pub runs-first : (c : ℕ) (ps : List (List ℕ)) → tail_runs (onto_first c ps) ≡ true
     → (is_identifier_char c ≡ true) × (tail_runs ps ≡ true)
-runs-first c [] h = ((and_parts (is_identifier_char c) true (and_parts (is_identifier_char c && true) true h).0).0, refl)
-runs-first c (p ∷ ps) h =
-    let both = and_parts (is_identifier_char c && list_all is_identifier_char p) (list_all is_identifier ps) h in
-    let first = and_parts (is_identifier_char c) (list_all is_identifier_char p) both.0 in
-    (first.0, and_from (list_all is_identifier_char p) (list_all is_identifier ps) first.1 both.1)
+runs-first c ps h = grind (arith, nat_tests, common_steps)
 
 pub strict-onto : (x : List ℕ) (c : ℕ) (ps : List (List ℕ))
     → strict_behind x (onto_first c ps) ≡ strict_behind (x ++ c ∷ []) ps
-strict-onto x c [] = grind arith
-strict-onto x c (p ∷ ps) = rw (append_assoc x (c ∷ []) p) refl
+strict-onto x c ps = grind (arith, nat_tests, common_steps)
 
 -- the build metadata: behind a character of an identifier, and behind `+` or a dot
 builds : (limit : ℕ) (t : List ℕ) → (tail_runs (pieces t) ≡ true → run limit Build t ≡ Some Build)
     × (list_all is_identifier (pieces t) ≡ true → run limit Plus t ≡ Some Build)
 unfolding run next
 builds limit [] = (λ h. refl, λ h. cc h)
-builds limit (c ∷ t) = elim (cases_Bool (c == 46)) [
-  | inl dot ↦ rw (eqb-true c 46 dot) (λ h. (builds limit t).1 h, λ h. cc h)
-  | inr other ↦ (
-    λ h. let f = runs-first c (pieces t) (rw other at h) in rw f.0 ((builds limit t).0 f.1),
-    λ h. let f = runs-first c (pieces t) (runs_tail (onto_first c (pieces t)) (rw other at h)) in
-        rw f.0 ((builds limit t).0 f.1),
-  )
-]
+builds limit (c ∷ t) = grind (arith, nat_tests, common_steps, eqb-true, runs-first, runs_tail, builds limit t)
 
 -- a pre-release ends here
 abbrev IsEnd : State → Type 0
@@ -113,15 +92,11 @@ IsEnd s = (s ≡ Zero) ⊎ (s ≡ PreRelease)
 
 read-end : (a : ℕ) (x : List ℕ) → is_strict_identifier (a ∷ x) ≡ true → IsEnd (identifier_read (a ∷ x))
 read-end a [] h = elim (cases_Bool (a == 48)) [ inl none ↦ rw none (inl refl) | inr other ↦ rw other (inr refl) ]
-read-end a (b ∷ x) h = elim (cases_Bool (list_all is_ascii_digit (a ∷ b ∷ x) && a == 48)) [
-  | inl padded ↦ cc (rw padded at h)
-  | inr other ↦ rw other (inr refl)
-]
+read-end a (b ∷ x) h = grind (arith, nat_tests, common_steps)
 
 end-dot : (limit : ℕ) (s : State) → IsEnd s → next limit s 46 ≡ Some Dash
 unfolding next
-end-dot limit s (inl e) = rw e refl
-end-dot limit s (inr e) = rw e refl
+end-dot limit s h = grind (arith, nat_tests, common_steps)
 
 -- it is read so far
 record Ended (limit : ℕ) (s : State) (t : List ℕ) : Type 0 where
@@ -137,14 +112,7 @@ identifiers : (limit : ℕ) (t : List ℕ)
     → ((a : ℕ) (x : List ℕ) → tail_runs (pieces t) ≡ true → strict_behind (a ∷ x) (pieces t) ≡ true
     → Ended limit (identifier_read (a ∷ x)) t)
     × (list_all is_identifier (pieces t) ≡ true → list_all is_strict_identifier (pieces t) ≡ true → Ended limit Dash t)
-identifiers limit [] = (
-  λ a x h k. record {
-    state = identifier_read (a ∷ x);
-    reads = run-nil limit (identifier_read (a ∷ x));
-    is = read-end a x (rw (append-nil x) at (and_parts (is_strict_identifier ((a ∷ x) ++ [])) true k).0);
-  },
-  λ h k. cc h,
-)
+identifiers limit [] = grind (arith, nat_tests, common_steps, identifier_read, run-nil, read-end, append-nil, and_parts)
 identifiers limit (c ∷ t) = elim (cases_Bool (c == 46)) [
   | inl dot ↦ rw (eqb-true c 46 dot) (
     λ a x h k.
@@ -186,9 +154,7 @@ pre_release-read limit n p l no_pre_release =
     record { state = Number 0 n; reads = run-nil limit (Number 0 n); whole = refl; plus = refl }
 pre_release-read limit n p l (dashed text list h strict) =
     let e = (identifiers limit text).1 h.runs strict in
-    let reads : run limit (Number 0 n) (45 ∷ text) ≡ Some e.state =
-    run-step limit (Number 0 n) Dash 45 text refl ∙ e.reads in
-    go e.state reads e.is
+    grind (arith, nat_tests, common_steps, run-step)
   where
     go : (s : State) → run limit (Number 0 n) (45 ∷ text) ≡ Some s → IsEnd s → Ready limit (Number 0 n) (45 ∷ text)
     go s reads (inl e) = record { state = Zero; reads = reads ∙ ap Some e; whole = refl; plus = refl }
@@ -212,8 +178,7 @@ middle-read limit middle v h =
     ∙ marked-read limit v.major h.mark h.major _ h.mark_is h.major_is
     ∙ numbers-read limit v.major v.minor v.patch h.major h.minor h.patch behind h.major_is h.minor_is h.patch_is in
     let p = pre_release-read limit v.patch h.pre_release v.pre_release h.pre_release_is in
-    let b = build-read limit p.state h.build v.build p.whole p.plus h.build_is in
-    (b.0, numbers ∙ run-then limit (Number 0 v.patch) p.state h.pre_release h.build p.reads ∙ b.1, b.2)
+    grind (arith, nat_tests, common_steps, build-read, run-then)
 
 -- ---- its characters are bytes
 
@@ -245,10 +210,10 @@ plain-runs (c ∷ t) h = elim (cases_Bool (c == 46)) [
       rw (f.0, plain-runs t f.1) refl
 ]
 
-plain-both : (x y : List ℕ) → list_all is_plain x ≡ true → list_all is_plain y ≡ true → list_all is_plain (x ++ y) ≡ true
+pub plain-both : (x y : List ℕ) → list_all is_plain x ≡ true → list_all is_plain y ≡ true → list_all is_plain (x ++ y) ≡ true
 plain-both x y h k = list_all-append is_plain x y ∙ and_from (list_all is_plain x) (list_all is_plain y) h k
 
-plain-middle : (limit : ℕ) (middle : List ℕ) (v : VersionValue) → IsStrictVersion limit middle v → list_all is_plain middle ≡ true
+pub plain-middle : (limit : ℕ) (middle : List ℕ) (v : VersionValue) → IsStrictVersion limit middle v → list_all is_plain middle ≡ true
 plain-middle limit middle v h =
     rw h.divided (plain-both h.mark _ (mark h.mark h.mark_is)
     (plain-both h.major _ (plain-digits h.major h.major_is.number.each)

@@ -1,24 +1,20 @@
 -- What is read of a version text, character by character: single steps.
-use Rattle.std.proofs.Common.{◌≡◌, ◌&&◌, ℕ, zero, suc, Bool, true, false, Option, Some, None, List, [], ◌∷◌, ◌++◌, refl, ap, ◌∙◌, arith, inl, inr}
-use Rattle.std.specs.Prelude.{◌==◌, if◌then◌else◌}
-use Rattle.std.specs.Char.{is_ascii_digit}
-use Rattle.std.specs.List.{list_all}
-use Rattle.std.proofs.lemmas.Bool.{and_parts, cases_Bool, eqb-true}
-use Rattle.std.proofs.lemmas.Bool.Decides.{nat_tests}
-use Rattle.std.proofs.lemmas.List.Folds.{list_all-append}
+use Rattle.nodejs_semver.proofs.Common.{common_steps, ◌≡◌, ◌&&◌, ℕ, zero, suc, true, false, Option, Some, None, List}
+use Rattle.nodejs_semver.proofs.Common.{[], ◌∷◌, ◌++◌, refl, ap, ◌∙◌, arith, inl, inr, ◌==◌, if◌then◌else◌}
+use Rattle.nodejs_semver.proofs.Common.{is_ascii_digit, list_all, and_parts, cases_Bool, nat_tests, list_all-append}
+use Rattle.nodejs_semver.proofs.Common.{is_identifier_char, is_whitespace}
 use Rattle.semver_core.specs.Internal.Reading.{◌>>?◌}
-use Rattle.semver_core.specs.Text.Characters.{is_identifier_char, is_whitespace}
 use Rattle.nodejs_semver.specs.Internal.NpmStates.{is_whole, next, run}
 use Rattle.nodejs_semver.specs.declared.npm.flaws.State.{State}
-use Rattle.nodejs_semver.specs.declared.npm.flaws.State.TheVariants.{Start, Digit, Number, Dash, Zero, Padded, PreRelease, Plus, Build, End}
+use Rattle.nodejs_semver.specs.declared.npm.flaws.State.TheVariants.{Start, Digit, Number, Dash, Zero, Padded}
+use Rattle.nodejs_semver.specs.declared.npm.flaws.State.TheVariants.{PreRelease, Build, End}
 
 -- ---- runs
 
 bind-append : (limit : ℕ) (o : Option State) (xs ys : List ℕ)
     → ((t : State) → run limit t (xs ++ ys) ≡ (run limit t xs >>? λ u. run limit u ys))
     → (o >>? λ t. run limit t (xs ++ ys)) ≡ ((o >>? λ t. run limit t xs) >>? λ u. run limit u ys)
-bind-append limit None xs ys h = refl
-bind-append limit (Some t) xs ys h = h t
+bind-append limit o xs ys h = grind (arith, nat_tests, common_steps)
 
 run-append : (limit : ℕ) (xs ys : List ℕ) (s : State) → run limit s (xs ++ ys) ≡ (run limit s xs >>? λ t. run limit t ys)
 unfolding run
@@ -84,11 +80,7 @@ whole-space limit Zero c w h = let p = space-plain c h in rw (p.0, p.1, p.2, p.4
 whole-space limit PreRelease c w h = let p = space-plain c h in rw (p.0, p.2, p.4, h) refl
 whole-space limit Build c w h = let p = space-plain c h in rw (p.0, p.2, h) refl
 whole-space limit End c w h = rw h refl
-whole-space limit Start c w h = cc w
-whole-space limit (Digit k) c w h = cc w
-whole-space limit Dash c w h = cc w
-whole-space limit Padded c w h = cc w
-whole-space limit Plus c w h = cc w
+whole-space limit s c w h = cc w
 
 -- whitespace behind a version
 pub spaces-behind : (limit : ℕ) (s : State) (cs : List ℕ) → is_whole s ≡ true → list_all is_whitespace cs ≡ true
@@ -110,16 +102,7 @@ pub identifier-more : (limit : ℕ) (x : List ℕ) (c : ℕ) → is_identifier_c
     → next limit (identifier_read x) c ≡ Some (identifier_read (x ++ c ∷ []))
 unfolding next
 identifier-more limit [] c h = elim (cases_Bool (c == 48)) [ inl none ↦ rw none refl | inr other ↦ rw (other, h) refl ]
-identifier-more limit (a ∷ []) c h = elim (cases_Bool (a == 48)) [
-  | inr other ↦ rw (other, h) (ap Some (rw (and-false (list_all is_ascii_digit (a ∷ c ∷ []))) refl))
-  | inl none ↦ rw (eqb-true a 48 none) (elim (cases_Bool (is_ascii_digit c)) [
-    | inl digit ↦ rw digit refl
-    | inr letter ↦ rw (h, letter) refl
-  ])
-]
-  where
-    and-false : (b : Bool) → (b && false) ≡ false
-    and-false b = grind arith
+identifier-more limit (a ∷ []) c h = grind (arith, nat_tests, common_steps)
 identifier-more limit (a ∷ b ∷ x) c h = rw (list_all-append is_ascii_digit (a ∷ b ∷ x) (c ∷ [])) (grind arith)
 
 -- ---- numbers

@@ -1,12 +1,12 @@
 -- Where a text stops being a version text.
-use Rattle.std.proofs.Common.{◌≡◌, ◌⊎◌, inl, inr, ◌≤◌, ◌+◌, ◌↔◌, ◌++◌, ◌∷◌, ℕ, List, [], Option, Some, None, length, refl, sym, ap, ◌∙◌, subst, arith, true, false, append_assoc, append-nil, length-append, IsUtf8}
-use Rattle.std.specs.Prelude.{encode_utf8_all}
-use Rattle.std.specs.Char.{encode_utf8, len_utf8}
+use Rattle.nodejs_semver.proofs.Common.{common_steps, nat_tests, ◌≡◌, ◌⊎◌, inl, inr, ◌≤◌, ◌+◌, ◌↔◌, ◌++◌, ◌∷◌, ℕ, List}
+use Rattle.nodejs_semver.proofs.Common.{[], Option, Some, None, length, refl, sym, ap, ◌∙◌, subst, arith, true, false}
+use Rattle.nodejs_semver.proofs.Common.{append_assoc, append-nil, length-append, IsUtf8, encode_utf8_all, encode_utf8}
+use Rattle.nodejs_semver.proofs.Common.{same_Some, encodes-append, length-encode, VersionValue, MAX_SAFE_INTEGER}
+use Rattle.std.specs.Char.{len_utf8}
 use Rattle.std.specs.Str.{chars}
-use Rattle.std.proofs.lemmas.Option.{same_Some}
-use Rattle.std.proofs.lemmas.Str.{cons_from_encodes, encodes-append, encodes_same, length-encode}
-use Rattle.semver_core.specs.Values.Versions.{VersionValue}
-use Rattle.semver_core.specs.declared.TheConstants.{MAX_LENGTH, MAX_SAFE_INTEGER}
+use Rattle.std.proofs.lemmas.Str.{cons_from_encodes, encodes_same}
+use Rattle.semver_core.specs.declared.TheConstants.{MAX_LENGTH}
 use Rattle.nodejs_semver.specs.Internal.NpmStates.{is_whole, next, run, wrong_at}
 use Rattle.nodejs_semver.specs.Npm.Flaws.{GoesOn, IsFlaw, IsFront, IsSpelled, IsStop, IsWrong, wrong_of}
 use Rattle.nodejs_semver.specs.Npm.VersionText.{IsVersionText}
@@ -88,8 +88,7 @@ behind : (passed all rest : List ℕ) → encode_utf8_all all ≡ encode_utf8_al
 behind [] all rest e = (all, refl, e)
 behind (c ∷ passed) all rest e =
     let first = cons_from_encodes all (encode_utf8_all passed ++ rest) c (e ∙ append_assoc (encode_utf8 c) (encode_utf8_all passed) rest) in
-    let r = behind passed first.0 rest first.2 in
-    (r.0, first.1 ∙ ap (λ (t : List ℕ). c ∷ t) r.1, r.2)
+    grind (arith, nat_tests, common_steps, behind passed first.0 rest first.2)
 
 pub passed_none : (text rest : List ℕ) → rest ≡ text → Passed text 0 Start rest []
 passed_none text rest e = record { divided = sym e; place = refl; reads = run-nil MAX_SAFE_INTEGER Start }
@@ -101,8 +100,7 @@ passed_more text at s t rest passed next-rest c n p e size h =
     let one : encode_utf8_all (passed ++ c ∷ []) ≡ encode_utf8_all passed ++ encode_utf8 c =
     encodes-append passed (c ∷ []) ∙ ap (λ (x : List ℕ). encode_utf8_all passed ++ x) (append-nil (encode_utf8 c)) in
     record {
-      divided = p.divided ∙ (ap (λ (x : List ℕ). encode_utf8_all passed ++ x) e
-          ∙ (sym (append_assoc (encode_utf8_all passed) (encode_utf8 c) next-rest) ∙ ap (λ (x : List ℕ). x ++ next-rest) (sym one)));
+      divided = grind (arith, nat_tests, common_steps);
       place = omega (arith, p.place, size, length-encode c, ap length one, length-append (encode_utf8_all passed) (encode_utf8 c));
       reads = run-then MAX_SAFE_INTEGER Start s passed (c ∷ []) p.reads
           ∙ (run-step MAX_SAFE_INTEGER s t c [] h ∙ run-nil MAX_SAFE_INTEGER t);
@@ -111,16 +109,7 @@ passed_more text at s t rest passed next-rest c n p e size h =
 pub passed_room : (text : List ℕ) (at : ℕ) (s : State) (rest passed next-rest : List ℕ) (c n : ℕ) → Passed text at s rest passed
     → rest ≡ encode_utf8 c ++ next-rest → n ≡ len_utf8 c → at + n ≤ length text
 passed_room text at s rest passed next-rest c n p e size =
-    omega (
-      arith,
-      p.place,
-      size,
-      length-encode c,
-      ap length p.divided,
-      ap length e,
-      length-append (encode_utf8_all passed) rest,
-      length-append (encode_utf8 c) next-rest,
-    )
+    grind (arith, nat_tests, common_steps, length-encode, length, length-append)
 
 pub passed_stop : (text : List ℕ) (at : ℕ) (s : State) (rest passed next-rest : List ℕ) (c : ℕ) (w : Wrong) → IsUtf8 text
     → Passed text at s rest passed → rest ≡ encode_utf8 c ++ next-rest → next MAX_SAFE_INTEGER s c ≡ None
@@ -134,8 +123,7 @@ passed_stop text at s rest passed next-rest c w u p e none is =
 
 at-end : (text : List ℕ) (at : ℕ) (s : State) (rest passed : List ℕ) → Passed text at s rest passed → length rest ≡ 0
     → text ≡ encode_utf8_all passed
-at-end text at s [] passed p h = p.divided ∙ append-nil (encode_utf8_all passed)
-at-end text at s (c ∷ rest) passed p h = absurd (omega (arith, h))
+at-end text at s rest passed p h = grind (arith, nat_tests, common_steps)
 
 pub passed_end : (text : List ℕ) (at : ℕ) (s : State) (rest passed : List ℕ) (w : Wrong) → Passed text at s rest passed
     → length rest ≡ 0 → is_whole s ≡ false → w ≡ wrong_at s None → IsWrong MAX_SAFE_INTEGER text w at
@@ -145,9 +133,7 @@ passed_end text at s rest passed w p h none is =
 
 pub passed_whole : (text : List ℕ) (at : ℕ) (s : State) (rest passed : List ℕ) → Passed text at s rest passed
     → length rest ≡ 0 → is_whole s ≡ true → IsSpelled MAX_SAFE_INTEGER text
-passed_whole text at s rest passed p h whole =
-    subst (λ (t : List ℕ). IsSpelled MAX_SAFE_INTEGER t) (sym (at-end text at s rest passed p h))
-    (read-spelled MAX_SAFE_INTEGER passed (omega arith) (s, p.reads, whole))
+passed_whole text at s rest passed p h whole = grind (arith, nat_tests, common_steps, at-end, read-spelled)
 
 pub ruleset stops = (passed_none, passed_more, passed_room, passed_stop, passed_end, passed_whole)
 
@@ -160,13 +146,7 @@ divisions : (xs us ys vs : List ℕ) → xs ++ us ≡ ys ++ vs → ((xs ≡ ys) 
 divisions [] us [] vs e = inl (refl, e)
 divisions [] us (c ∷ ys) vs e = inr (inl (c, ys, refl, e))
 divisions (c ∷ xs) us [] vs e = inr (inr (c, xs, refl, sym e))
-divisions (c ∷ xs) us (d ∷ ys) vs e =
-    let first : c ≡ d = cc e in
-    elim (divisions xs us ys vs (cc e)) [
-      | inl same ↦ inl (cc (first, same.0), same.1)
-      | inr (inl m) ↦ inr (inl (m.0, m.1, cc (first, m.2), m.3))
-      | inr (inr m) ↦ inr (inr (m.0, m.1, cc (first, m.2), m.3))
-    ]
+divisions (c ∷ xs) us (d ∷ ys) vs e = grind (arith, nat_tests, common_steps, divisions xs us ys vs (cc e))
 
 -- no front goes further than a stop
 not-behind : (limit : ℕ) (text : List ℕ) (a c : ℕ) (r front vs : List ℕ) → (x : IsStop limit text a) → front ≡ x.before ++ c ∷ r
@@ -225,12 +205,10 @@ flaw_only limit text f x g y = ap (λ (h : Flaw). Some h) (one_flaw limit text f
 
 pub spelled_none : (limit : ℕ) (text : List ℕ) (found : Option Flaw) → length (chars text) ≤ MAX_LENGTH → IsSpelled limit text
     → found ≡ None → (found ≡ None) ↔ ((v : VersionValue) × IsVersionText limit text v)
-spelled_none limit text found short h e =
-    (λ k. (h.version, record { short = short; middle = h.middle; trimmed = h.trimmed; is = h.is }), λ k. e)
+spelled_none limit text found short h e = grind (arith, nat_tests, common_steps)
 
 pub spelled_only : (limit : ℕ) (text : List ℕ) (found : Option Flaw) → length (chars text) ≤ MAX_LENGTH → IsSpelled limit text
     → (f : Flaw) → IsFlaw limit text f → found ≡ Some f
-spelled_only limit text found short h f x =
-    absurd (no_flaw limit text f h.version (record { short = short; middle = h.middle; trimmed = h.trimmed; is = h.is }) x)
+spelled_only limit text found short h f x = grind (arith, nat_tests, common_steps)
 
 pub ruleset flaws = (flaw_none, flaw_only, spelled_none, spelled_only)

@@ -1,28 +1,25 @@
 -- A text that is read to its end as a version is written as one.
-use Rattle.std.proofs.Common.{◌≡◌, ◌⊎◌, ◌≤◌, ◌+◌, ◌*◌, ◌&&◌, ◌||◌, not, ℕ, zero, suc, Bool, true, false, Option, Some, None, List, [], ◌∷◌, ◌++◌, refl, sym, ap, ◌∙◌, arith, inl, inr, nat_lt, append_assoc, append-nil, length-append, subst}
-use Rattle.std.specs.Prelude.{◌==◌, encode_utf8_all, if◌then◌else◌, map, reverse}
-use Rattle.std.specs.Char.{digit_value, is_ascii_digit}
-use Rattle.std.specs.List.{list_all, onto_first}
-use Rattle.std.specs.Str.Parse.{digits_value}
-use Rattle.std.proofs.lemmas.Bool.{and_from, and_parts, cases_Bool, eqb-true}
-use Rattle.std.proofs.lemmas.Bool.Decides.{nat_tests}
+use Rattle.nodejs_semver.proofs.Common.{common_steps, ◌≡◌, ◌⊎◌, ◌≤◌, ◌+◌, ◌*◌, ◌||◌, ℕ, zero, suc, Bool, true, false}
+use Rattle.nodejs_semver.proofs.Common.{Option, Some, None, List, [], ◌∷◌, ◌++◌, refl, sym, ap, ◌∙◌, arith, inl, inr}
+use Rattle.nodejs_semver.proofs.Common.{nat_lt, append_assoc, append-nil, length-append, subst, ◌==◌, encode_utf8_all}
+use Rattle.nodejs_semver.proofs.Common.{if◌then◌else◌, map, is_ascii_digit, list_all, onto_first, and_parts, cases_Bool}
+use Rattle.nodejs_semver.proofs.Common.{eqb-true, nat_tests, list_all-append, same_Some, begins, is_identifier_char}
+use Rattle.nodejs_semver.proofs.Common.{is_whitespace, Id, identifier_of, is_identifier, pieces, VersionValue}
+use Rattle.std.specs.Prelude.{reverse}
+use Rattle.std.specs.Char.{digit_value}
 use Rattle.std.proofs.lemmas.Int.Digits.{digits_value_push}
 use Rattle.std.proofs.lemmas.List.{reverse-append}
-use Rattle.std.proofs.lemmas.List.Folds.{list_all-append}
-use Rattle.std.proofs.lemmas.Option.{same_Some}
-use Rattle.semver_core.specs.Internal.Reading.{◌>>?◌}
-use Rattle.semver_core.specs.Text.Characters.{begins, is_identifier_char, is_whitespace}
-use Rattle.semver_core.specs.Text.Identifiers.{Id, identifier_of, is_identifier, pieces}
-use Rattle.semver_core.specs.Values.Versions.{VersionValue}
 use Rattle.semver_core.proofs.Text.Pieces.{onto_tail, runs_tail, tail_runs}
 use Rattle.nodejs_semver.specs.Internal.NpmStates.{ended, is_whole, next, run}
 use Rattle.nodejs_semver.specs.Npm.Flaws.{IsSpelled}
-use Rattle.nodejs_semver.specs.Npm.Grammar.{IsStrictBuild, IsStrictNumber, IsStrictPreRelease, dashed, has_leading_zero, is_strict_identifier, no_build, no_pre_release, plus}
+use Rattle.nodejs_semver.specs.Npm.Grammar.{IsStrictBuild, IsStrictNumber, IsStrictPreRelease, dashed}
+use Rattle.nodejs_semver.specs.Npm.Grammar.{is_strict_identifier, no_build, no_pre_release, plus}
 use Rattle.nodejs_semver.specs.Npm.VersionText.{IsStrictVersion}
 use Rattle.nodejs_semver.specs.declared.npm.flaws.State.{State}
-use Rattle.nodejs_semver.specs.declared.npm.flaws.State.TheVariants.{Start, Digit, Number, Dash, Zero, Padded, PreRelease, Plus, Build, End}
+use Rattle.nodejs_semver.specs.declared.npm.flaws.State.TheVariants.{Start, Digit, Number, Dash, Zero, Padded}
+use Rattle.nodejs_semver.specs.declared.npm.flaws.State.TheVariants.{PreRelease, Plus, Build, End}
 use Rattle.nodejs_semver.proofs.Stopping.Steps.{digit-plain, identifier-more, identifier_read}
-use Rattle.nodejs_semver.proofs.Stopping.Read.{Whole, is_plain, plain-encodes, strict-onto, strict_behind}
+use Rattle.nodejs_semver.proofs.Stopping.Read.{Whole, is_plain, plain-both, plain-encodes, strict-onto, strict_behind}
 
 -- ---- steps
 
@@ -33,11 +30,7 @@ From limit (Some t) cs = Whole limit t cs
 
 from : (limit : ℕ) (s : State) (c : ℕ) (cs : List ℕ) → Whole limit s (c ∷ cs) → From limit (next limit s c) cs
 unfolding run
-from limit s c cs w = go (next limit s c) w.1
-  where
-    go : (o : Option State) → (o >>? λ t. run limit t cs) ≡ Some w.0 → From limit o cs
-    go None e = cc e
-    go (Some t) e = (w.0, e, w.2)
+from limit s c cs w = grind (arith, nat_tests, common_steps)
 
 none-whole : (limit : ℕ) (s : State) → is_whole s ≡ false → Whole limit s [] → ⊥
 unfolding run
@@ -69,14 +62,7 @@ none-spaced cs Is h k = record { text = []; after = cs; divided = refl; plain = 
 
 more-spaced : (c : ℕ) (cs : List ℕ) (Is As : List ℕ → Type 0) → is_plain c ≡ true → ((t : List ℕ) → Is t → As (c ∷ t))
     → Spaced cs Is → Spaced (c ∷ cs) As
-more-spaced c cs Is As h along s = record {
-  text = c ∷ s.text;
-  after = s.after;
-  divided = ap (λ (t : List ℕ). c ∷ t) s.divided;
-  plain = and_from (is_plain c) (list_all is_plain s.text) h s.plain;
-  blank = s.blank;
-  is = along s.text s.is;
-}
+more-spaced c cs Is As h along s = grind (arith, nat_tests, common_steps)
 
 identifier-plain : (c : ℕ) → is_identifier_char c ≡ true → (is_plain c ≡ true) × ((c == 46) ≡ false)
 identifier-plain c h = (rw h refl, grind (arith, nat_tests))
@@ -131,17 +117,7 @@ record Qualified (cs : List ℕ) (Is : List ℕ → Type 0) : Type 0 where
 
 more-qualified : (c : ℕ) (cs : List ℕ) (Is As : List ℕ → Type 0) → is_plain c ≡ true → ((t : List ℕ) → Is t → As (c ∷ t))
     → Qualified cs Is → Qualified (c ∷ cs) As
-more-qualified c cs Is As h along q = record {
-  text = c ∷ q.text;
-  build = q.build;
-  after = q.after;
-  divided = ap (λ (t : List ℕ). c ∷ t) q.divided;
-  plain = and_from (is_plain c) (list_all is_plain q.text) h q.plain;
-  plain_build = q.plain_build;
-  blank = q.blank;
-  build_is = q.build_is;
-  is = along q.text q.is;
-}
+more-qualified c cs Is As h along q = grind (arith, nat_tests, common_steps)
 
 -- nothing stands before the build metadata
 blank-qualified : (cs : List ℕ) (Is : List ℕ → Type 0) → list_all is_whitespace cs ≡ true → Is [] → Qualified cs Is
@@ -191,17 +167,8 @@ data Reads (a : ℕ) (x : List ℕ) (s : State) : Type 0 where
   padded : s ≡ Padded → Reads a x s
 
 reads : (a : ℕ) (x : List ℕ) → Reads a x (identifier_read (a ∷ x))
-reads a [] = elim (cases_Bool (a == 48)) [
-  | inl none ↦ rw none (ends (inl refl) (strict-one (is_ascii_digit a && true)))
-  | inr other ↦ rw other (ends (inr refl) (strict-one (is_ascii_digit a && true)))
-]
-  where
-    strict-one : (b : Bool) → not (b && false) ≡ true
-    strict-one b = grind arith
-reads a (b ∷ x) = elim (cases_Bool (list_all is_ascii_digit (a ∷ b ∷ x) && a == 48)) [
-  | inl zeros ↦ rw zeros (padded refl)
-  | inr other ↦ rw other (ends (inr refl) (ap not other))
-]
+reads a [] = grind (arith, nat_tests, common_steps)
+reads a (b ∷ x) = grind (arith, nat_tests, common_steps)
 
 letter-digit : (c : ℕ) → is_identifier_char c ≡ false → is_ascii_digit c ≡ false
 letter-digit c h = grind (arith, nat_tests)
@@ -224,9 +191,7 @@ behind-written limit a x s c cs (ends e strict) other later w = go e
   where
     step : (From limit (if c == 46 then Some Dash else ended c) cs) → Qualified (c ∷ cs) (IsTail a x)
     step w = elim (cases_Bool (c == 46)) [
-      | inl dot ↦
-          more-qualified c cs IsList (IsTail a x) (rw (other, dot) refl)
-          (λ t k. (rw dot k.0, rw (dot, append-nil x, strict) k.1)) (later (rw dot at w))
+      | inl dot ↦ grind (arith, nat_tests, common_steps, more-qualified, append-nil)
       | inr apart ↦ ended-written limit c cs (IsTail a x) (rw apart at w) (tail-end a x strict)
     ]
 
@@ -235,12 +200,10 @@ behind-written limit a x s c cs (ends e strict) other later w = go e
     go (inr e) = step (rw (e, other) at w)
 
 list-onto : (c : ℕ) (ps : List (List ℕ)) → strict_behind (c ∷ []) ps ≡ true → list_all is_strict_identifier (onto_first c ps) ≡ true
-list-onto c [] h = rw h refl
-list-onto c (p ∷ ps) h = h
+list-onto c ps h = grind (arith, nat_tests, common_steps)
 
 whole-strict : (a : ℕ) (x : List ℕ) (s : State) → Reads a x s → is_whole s ≡ true → is_strict_identifier (a ∷ x) ≡ true
-whole-strict a x s (ends e strict) w = strict
-whole-strict a x s (padded e) w = cc (rw e at w)
+whole-strict a x s h w = grind (arith, nat_tests, common_steps)
 
 whole-now : (limit : ℕ) (s : State) → Whole limit s [] → is_whole s ≡ true
 unfolding run
@@ -279,9 +242,7 @@ identifiers limit (c ∷ cs) = elim (cases_Bool (is_identifier_char c)) [
 ]
   where
     dash-stops : (c : ℕ) → is_identifier_char c ≡ false → From limit (next limit Dash c) cs → ⊥
-    dash-stops c h w =
-        let zero_letter : (c == 48) ≡ false = grind (arith, nat_tests) in
-        rw (zero_letter, h) at w
+    dash-stops c h w = grind (arith, nat_tests, common_steps)
 
 -- ---- numbers
 
@@ -309,10 +270,7 @@ behind-number limit zero n c cs other w = elim (cases_Bool (c == 45)) [
       subst (λ (b : ℕ). Qualified (b ∷ cs) Pre) (sym (eqb-true c 45 dash)) (more-qualified 45 cs IsList Pre refl dashed-pre q)
   | inr apart ↦ ended-written limit c cs Pre (rw (other, apart) at w) ([], no_pre_release)
 ]
-behind-number limit (suc k) n c cs other w = elim (cases_Bool (c == 46)) [
-  | inl dot ↦ (cs, ap (λ (b : ℕ). b ∷ cs) (eqb-true c 46 dot), rw (other, dot) at w)
-  | inr apart ↦ absurd (rw (other, apart) at w)
-]
+behind-number limit (suc k) n c cs other w = grind (arith, nat_tests, common_steps)
 
 -- the text is digits, which go on with those before, and what stands behind a number
 record Numeral (limit left : ℕ) (x cs : List ℕ) : Type 0 where
@@ -326,25 +284,8 @@ record Numeral (limit left : ℕ) (x cs : List ℕ) : Type 0 where
 
 strict-push : (limit n c : ℕ) (x : List ℕ) → IsStrictNumber limit x n → (n == 0) ≡ false → is_ascii_digit c ≡ true
     → n * 10 + digit_value c ≤ limit → IsStrictNumber limit (x ++ c ∷ []) (n * 10 + digit_value c)
-strict-push limit n c x h some digit safe = record {
-  number = record {
-    some = omega (arith, length-append x (c ∷ []));
-    each = list_all-append is_ascii_digit x (c ∷ []) ∙ and_from (list_all is_ascii_digit x) (is_ascii_digit c && true) h.number.each (rw digit refl);
-    value = ap (λ (m : ℕ). m * 10 + digit_value c) h.number.value ∙ sym (digits_value_push 10 x c);
-    safe = safe;
-  };
-  shortest = short x h;
-}
-  where
-    short : (x : List ℕ) → IsStrictNumber limit x n → has_leading_zero (x ++ c ∷ []) ≡ false
-    short [] h = refl
-    short (a ∷ []) h = elim (cases_Bool (a == 48)) [
-      | inr other ↦ other
-      | inl none ↦
-          let value : n ≡ 0 = h.number.value ∙ ap (λ (b : ℕ). digits_value 10 (b ∷ [])) (eqb-true a 48 none) in
-          cc (rw value at some)
-    ]
-    short (a ∷ b ∷ x) h = h.shortest
+strict-push limit n c x h some digit safe =
+    grind (arith, nat_tests, common_steps, length-append, list_all-append, ℕ, digits_value_push, eqb-true)
 
 numerals : (limit left n : ℕ) (x cs : List ℕ) → IsStrictNumber limit x n → Whole limit (Number left n) cs → Numeral limit left x cs
 unfolding next
@@ -409,10 +350,7 @@ number-written limit left (c ∷ cs) nine w = elim (cases_Bool (is_ascii_digit c
   | inl digit ↦
       let first : 0 * 10 + digit_value c ≡ digit_value c = omega arith in
       let small : digit_value c ≤ limit = at-most c digit in
-      let number : IsStrictNumber limit (c ∷ []) (digit_value c) = record {
-        number = record { some = omega arith; each = rw digit refl; value = sym first; safe = small };
-        shortest = refl;
-      } in
+      let number : IsStrictNumber limit (c ∷ []) (digit_value c) = grind (arith, nat_tests, common_steps) in
       let r = numerals limit left (digit_value c) (c ∷ []) cs number (rw digit at (from limit (Digit left) c cs w)) in
       record {
         digits = c ∷ r.digits;
@@ -440,9 +378,6 @@ record Written (limit : ℕ) (cs : List ℕ) : Type 0 where
   blank : list_all is_whitespace after ≡ true
   is : IsStrictVersion limit middle version
 
-plain-both : (x y : List ℕ) → list_all is_plain x ≡ true → list_all is_plain y ≡ true → list_all is_plain (x ++ y) ≡ true
-plain-both x y h k = list_all-append is_plain x y ∙ and_from (list_all is_plain x) (list_all is_plain y) h k
-
 joined : (m cs a r s b t u c v p q w : List ℕ) → cs ≡ a ++ r → r ≡ 46 ∷ s → s ≡ b ++ t → t ≡ 46 ∷ u → u ≡ c ++ v
     → v ≡ p ++ (q ++ w) → m ++ cs ≡ (m ++ (a ++ 46 ∷ (b ++ 46 ∷ (c ++ (p ++ q))))) ++ w
 joined m cs a r s b t u c v p q w f g h i j k = rw (f, g, h, i, j, k) (simp append_assoc)
@@ -468,25 +403,9 @@ version-written limit mark cs nine plain is w =
       };
       divided = joined mark cs a.digits a.rest a.behind.0 b.digits b.rest b.behind.0 c.digits c.rest q.text q.build q.after
           a.divided a.behind.1 b.divided b.behind.1 c.divided q.divided;
-      plain = plain-both mark _ plain
-          (plain-both a.digits _ a.plain (plain-both b.digits _ b.plain (plain-both c.digits _ c.plain
-          (plain-both q.text q.build q.plain q.plain_build))));
+      plain = grind (arith, plain-both);
       blank = q.blank;
-      is = record {
-        mark = mark;
-        major = a.digits;
-        minor = b.digits;
-        patch = c.digits;
-        pre_release = q.text;
-        build = q.build;
-        divided = refl;
-        mark_is = is;
-        major_is = a.is;
-        minor_is = b.is;
-        patch_is = c.is;
-        pre_release_is = q.is.1;
-        build_is = q.build_is.1;
-      };
+      is = grind (arith, nat_tests, common_steps);
     }
 
 -- the same behind whitespace
@@ -523,14 +442,10 @@ fronted limit (c ∷ cs) nine w = elim (cases_Bool (is_whitespace c)) [
 
 -- ---- texts
 
-plain-dark : (cs : List ℕ) → list_all is_plain cs ≡ true → begins is_whitespace cs ≡ false
-plain-dark [] h = refl
-plain-dark (c ∷ cs) h = dark c (and_parts (is_plain c) (list_all is_plain cs) h).0
-  where
-    dark : (c : ℕ) → is_plain c ≡ true → is_whitespace c ≡ false
-    dark c h = grind (arith, nat_tests)
+pub plain-dark : (cs : List ℕ) → list_all is_plain cs ≡ true → begins is_whitespace cs ≡ false
+plain-dark cs h = grind (arith, nat_tests, common_steps)
 
-plain-reverse : (cs : List ℕ) → list_all is_plain cs ≡ true → list_all is_plain (reverse cs) ≡ true
+pub plain-reverse : (cs : List ℕ) → list_all is_plain cs ≡ true → list_all is_plain (reverse cs) ≡ true
 plain-reverse [] h = refl
 plain-reverse (c ∷ cs) h =
     let each = and_parts (is_plain c) (list_all is_plain cs) h in
@@ -539,20 +454,4 @@ plain-reverse (c ∷ cs) h =
 pub read-spelled : (limit : ℕ) (cs : List ℕ) → 9 ≤ limit → Whole limit Start cs → IsSpelled limit (encode_utf8_all cs)
 read-spelled limit cs nine w =
     let f = fronted limit cs nine w in
-    let v = f.written in
-    record {
-      version = v.version;
-      middle = v.middle;
-      trimmed = record {
-        before = f.before;
-        characters = v.middle;
-        after = v.after;
-        divided = ap encode_utf8_all (f.divided ∙ ap (λ (t : List ℕ). f.before ++ t) v.divided);
-        middle_is = sym (plain-encodes v.middle v.plain);
-        blank_before = f.blank;
-        blank_after = v.blank;
-        begins_dark = plain-dark v.middle v.plain;
-        ends_dark = plain-dark (reverse v.middle) (plain-reverse v.middle v.plain);
-      };
-      is = v.is;
-    }
+    grind (arith, encode_utf8_all, plain-encodes, plain-dark, plain-reverse)

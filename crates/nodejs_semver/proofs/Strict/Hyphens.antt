@@ -1,19 +1,20 @@
 -- Hyphen ranges of node-semver's range texts: the functions that read them find exactly what the statement has.
-use Rattle.nodejs_semver.proofs.Common.{◌≡◌, ◌⊎◌, ◌<◌, ◌-◌, ℕ, zero, suc, Bool, List, [], ◌∷◌, ◌++◌, length, drop, take, refl, sym, ap, ◌∙◌, arith}
-use Rattle.nodejs_semver.proofs.Common.{true, false, Some, inl, inr, ◌||◌, and_parts, append_assoc, append-nil, bind_some, cases_Bool}
-use Rattle.nodejs_semver.proofs.Common.{cond_some, eqb-true, drop_at, list_all, nat_tests, same_Some, subst, begins, IsUtf8, is_empty}
-use Rattle.nodejs_semver.proofs.Common.{drop_spaces, space_len, space_len-nil, is_whitespace}
-use Rattle.std.specs.Prelude.{encode_utf8_all}
-use Rattle.std.specs.Char.{encode_utf8, len_utf8}
-use Rattle.std.proofs.lemmas.Bool.{lt-ltb}
-use Rattle.std.proofs.lemmas.Str.{IsUtf8-past_char, encode_ascii, encode_same, len_utf8_bounds, length-encode}
-use Rattle.semver_core.specs.Text.Characters.{IsBlank}
+use Rattle.nodejs_semver.proofs.Common.{common_steps, ◌≡◌, ◌⊎◌, ◌<◌, ◌-◌, ℕ, zero, suc, Bool, List, [], ◌∷◌, ◌++◌}
+use Rattle.nodejs_semver.proofs.Common.{length, drop, take, refl, sym, ap, ◌∙◌, arith, true, false, Some, inl, inr}
+use Rattle.nodejs_semver.proofs.Common.{◌||◌, and_parts, append_assoc, append-nil, bind_some, cases_Bool, cond_some}
+use Rattle.nodejs_semver.proofs.Common.{drop_at, list_all, nat_tests, subst, begins, IsUtf8, is_empty}
+use Rattle.nodejs_semver.proofs.Common.{drop_spaces, space_len, space_len-nil, is_whitespace, encode_utf8_all}
+use Rattle.nodejs_semver.proofs.Common.{encode_utf8, len_utf8_bounds, length-encode, IsBlank}
+use Rattle.std.specs.Char.{len_utf8}
+use Rattle.std.proofs.lemmas.Str.{IsUtf8-past_char, encode_ascii, encode_same}
 use Rattle.semver_core.proofs.Text.SpaceLaw.{space_len-dark, space_len-white}
 use Rattle.nodejs_semver.specs.Internal.Fronts.{after_byte}
-use Rattle.nodejs_semver.specs.Internal.NpmWords.{Ended, after_dash, after_ends, drop_ends, end_front, ended_end, hyphen_comparisons, hyphen_ends, last_end, partial_front}
+use Rattle.nodejs_semver.specs.Internal.NpmWords.{Ended, after_dash, after_ends, drop_ends, end_front, ended_end}
+use Rattle.nodejs_semver.specs.Internal.NpmWords.{hyphen_comparisons, hyphen_ends, last_end, partial_front}
 use Rattle.nodejs_semver.specs.Internal.Words.{after_some_space}
-use Rattle.nodejs_semver.specs.Npm.RangeText.{AreEndMarks, IsAlternative, IsPartial, are_whole_marks, hyphen, is_free_lower, is_free_upper, is_mark, is_one_v}
-use Rattle.nodejs_semver.specs.Npm.Table.{Partial, hyphen_lower, hyphen_upper}
+use Rattle.nodejs_semver.specs.Npm.RangeText.{AreEndMarks, IsAlternative, IsPartial, are_whole_marks, hyphen}
+use Rattle.nodejs_semver.specs.Npm.RangeText.{is_free_lower, is_free_upper, is_mark, is_one_v}
+use Rattle.nodejs_semver.specs.Npm.Table.{Partial}
 use Rattle.nodejs_semver.proofs.Dividing.MeaningLaw.{no_characters}
 use Rattle.nodejs_semver.proofs.Reading.Bytes.{begins_component, component-solid, is_solid, solid-dark}
 use Rattle.nodejs_semver.proofs.Reading.WordLaw.{byte-is, tail-utf8}
@@ -21,7 +22,8 @@ use Rattle.nodejs_semver.proofs.Strict.PartialLaw.{partial-found, partial-read}
 use Rattle.nodejs_semver.proofs.Strict.Signs.{blank-at}
 use Rattle.nodejs_semver.proofs.Strict.SignsRead.{blank-skipped}
 use Rattle.nodejs_semver.proofs.Strict.VersionLaw.{empty-is}
-use Rattle.nodejs_semver.proofs.Strict.Words.{blank-some, blank-space, front-text, partial-begins, rest-utf8, space-boundary}
+use Rattle.nodejs_semver.proofs.Strict.Words.{blank-some, blank-space, front-text, partial-begins, rest-utf8}
+use Rattle.nodejs_semver.proofs.Strict.Words.{space-boundary}
 
 -- ---- marks and whitespace at the front
 
@@ -48,20 +50,11 @@ pub mark-dark : (b : ℕ) (rest : List ℕ) → is_mark b ≡ true → space_len
 mark-dark b rest h = solid-dark (b ∷ rest) (grind (arith, nat_tests))
 
 pub ends-more : (text : List ℕ) → 0 < space_len text → drop_ends (drop (space_len text) text) ≡ drop_ends text
-ends-more [] some = absurd (omega (arith, some, space_len-nil))
-ends-more (b ∷ rest) some = elim (cases_Bool (is_mark b)) [
-  | inl mark ↦ absurd (omega (arith, some, mark-dark b rest mark))
-  | inr other ↦ go other (space_len (b ∷ rest)) refl some
-]
-  where
-    go : is_mark b ≡ false → (n : ℕ) → space_len (b ∷ rest) ≡ n → 0 < n → drop_ends (drop n (b ∷ rest)) ≡ drop_ends (b ∷ rest)
-    go h zero e k = absurd (omega arith)
-    go h (suc n) e k = sym (ends-space b rest n h e)
+ends-more text some = grind (arith, nat_tests, common_steps, space_len-nil, mark-dark, ends-space)
 
 pub ends-none : (text : List ℕ) → begins is_mark text ≡ false → space_len text ≡ 0 → drop_ends text ≡ text
 unfolding after_ends
-ends-none [] h k = refl
-ends-none (b ∷ rest) h k = ends-stop b rest h k
+ends-none text h k = grind (arith, nat_tests, common_steps)
 
 -- a character
 ends-white : (c : ℕ) (rest : List ℕ) → is_whitespace c ≡ true → drop_ends (encode_utf8 c ++ rest) ≡ drop_ends rest
@@ -78,10 +71,7 @@ abbrev is_end : ℕ → Bool
 is_end c = is_mark c || is_whitespace c
 
 ends-char : (c : ℕ) (rest : List ℕ) → is_end c ≡ true → drop_ends (encode_utf8 c ++ rest) ≡ drop_ends rest
-ends-char c rest h = elim (cases_Bool (is_mark c)) [
-  | inl mark ↦ rw (encode_ascii c (mark-ascii c mark)) (ends-mark c rest mark)
-  | inr other ↦ ends-white c rest (rw other at h)
-]
+ends-char c rest h = grind (arith, nat_tests, common_steps, encode_ascii, mark-ascii, ends-mark, ends-white)
 
 ends-dark : (c : ℕ) (rest : List ℕ) → is_end c ≡ false → drop_ends (encode_utf8 c ++ rest) ≡ encode_utf8 c ++ rest
 ends-dark c rest h =
@@ -111,17 +101,14 @@ ends-from [] text u e = rw (← e) (record { characters = []; each = refl; split
 ends-from (c ∷ cs) text u e =
     let rest = encode_utf8_all cs in
     elim (cases_Bool (is_end c)) [
-      | inr other ↦
-          let stop : drop_ends text ≡ text = ap drop_ends (sym e) ∙ ends-dark c rest other ∙ e in
-          record { characters = []; each = refl; split = sym stop; utf8 = rw stop u }
+      | inr other ↦ grind (arith, ends-dark)
       | inl passed ↦
           let step : drop_ends text ≡ drop_ends rest = ap drop_ends (sym e) ∙ ends-char c rest passed in
           let r = ends-from cs rest (IsUtf8-past_char text rest c u (sym e)) refl in
           record {
             characters = c ∷ r.characters;
             each = rw passed r.each;
-            split = sym e ∙ ap (λ (t : List ℕ). encode_utf8 c ++ t) (r.split ∙ ap (λ (t : List ℕ). encode_utf8_all r.characters ++ t) (sym step))
-                ∙ sym (append_assoc (encode_utf8 c) (encode_utf8_all r.characters) (drop_ends text));
+            split = grind (arith, nat_tests, common_steps);
             utf8 = rw step r.utf8;
           }
     ]
@@ -139,16 +126,10 @@ ends-read (c ∷ cs) u h other dark =
 -- ---- one `v`, as characters and as bytes
 
 one-bytes : (cs : List ℕ) → is_one_v cs ≡ true → is_one_v (encode_utf8_all cs) ≡ true
-one-bytes [] h = refl
-one-bytes (c ∷ []) h =
-    let e : c ≡ 118 = eqb-true c 118 h in
-    rw (e, encode_ascii 118 (omega arith)) refl
-one-bytes (c ∷ d ∷ cs) h = cc h
+one-bytes cs h = grind (arith, nat_tests, common_steps)
 
 one-first : (text : List ℕ) → is_one_v text ≡ true → (text ≡ []) ⊎ (text ≡ 118 ∷ [])
-one-first [] h = inl refl
-one-first (b ∷ []) h = inr (ap (λ (n : ℕ). n ∷ []) (eqb-true b 118 h))
-one-first (b ∷ c ∷ text) h = cc h
+one-first text h = grind (arith, nat_tests, common_steps)
 
 one-characters : (cs : List ℕ) → is_one_v (encode_utf8_all cs) ≡ true → is_one_v cs ≡ true
 one-characters [] h = refl
@@ -180,12 +161,10 @@ all-characters (c ∷ cs) h = go (λ k. all-characters cs k) (encode_utf8_all (c
         rw (same.0, each.0) (f (rw same.1 each.1))
 
 whole-bytes : (loose : Bool) (cs : List ℕ) → are_whole_marks loose cs ≡ true → are_whole_marks loose (encode_utf8_all cs) ≡ true
-whole-bytes true cs h = all-bytes cs h
-whole-bytes false cs h = one-bytes cs h
+whole-bytes loose cs h = grind (arith, nat_tests, common_steps, all-bytes, one-bytes)
 
 whole-characters : (loose : Bool) (cs : List ℕ) → are_whole_marks loose (encode_utf8_all cs) ≡ true → are_whole_marks loose cs ≡ true
-whole-characters true cs h = all-characters cs h
-whole-characters false cs h = one-characters cs h
+whole-characters loose cs h = grind (arith, nat_tests, common_steps, all-characters, one-characters)
 
 -- ---- an end: what is written is read
 
@@ -199,8 +178,7 @@ pub marks-passed : (loose free : Bool) (a u : List ℕ) → AreEndMarks loose fr
 marks-passed loose free a u h k = rw h.spelled (ends-read h.characters u h.each (component-end u k) (component-dark u k))
 
 pub marks-whole : (loose free : Bool) (a : List ℕ) → AreEndMarks loose free a → (free || are_whole_marks loose a) ≡ true
-marks-whole loose true a h = refl
-marks-whole loose false a h = rw h.spelled (whole-bytes loose h.characters h.whole)
+marks-whole loose free a h = grind (arith, nat_tests, common_steps, whole-bytes)
 
 pub end-read : (loose : Bool) (free : Partial → Bool) (a x rest : List ℕ) (p : Partial) → AreEndMarks loose (free p) a → IsPartial loose x p
     → begins is_solid rest ≡ false → end_front loose free (a ++ (x ++ rest)) ≡ Some ((p, a ++ x), rest)
@@ -242,10 +220,7 @@ end-found loose free text e u h =
     ∙ front-text (marks ++ part.piece) p.0.1 in
     let written : (free p.0.0 || are_whole_marks loose ends.characters) ≡ true =
     characters-whole (free p.0.0) ends.characters (subst (λ (x : List ℕ). (free p.0.0 || are_whole_marks loose x) ≡ true) front_is t.0) in
-    let are : AreEndMarks loose (free p.0.0) marks = record { characters = ends.characters; spelled = refl; each = ends.each; whole = written } in
-    let found : EndAt loose (free p.0.0) text p.0.0 taken p.0.1 =
-    record { marks = marks; piece = part.piece; split = whole; are = are; is = part.is; text_is = taken_is } in
-    subst (λ (q : Ended × List ℕ). EndAt loose (free q.0.0) text q.0.0 q.0.1 q.1) t.1 found
+    grind (arith, nat_tests, common_steps)
   where
     characters-whole : (free : Bool) (cs : List ℕ) → (free || are_whole_marks loose (encode_utf8_all cs)) ≡ true
         → (free || are_whole_marks loose cs) ≡ true
@@ -255,10 +230,7 @@ end-found loose free text e u h =
 -- ---- what stands between the ends
 
 pub dash-read : (blank z : List ℕ) → IsBlank blank → 0 < length blank → 0 < space_len z → after_dash (blank ++ (45 ∷ z)) ≡ Some (drop_spaces z)
-dash-read blank z h some more =
-    let space : 0 < space_len (blank ++ (45 ∷ z)) = blank-space blank (45 ∷ z) h some in
-    let dark : space_len (45 ∷ z) ≡ 0 = solid-dark (45 ∷ z) refl in
-    rw (lt-ltb 0 (space_len (blank ++ (45 ∷ z))) space, blank-skipped blank (45 ∷ z) h dark, lt-ltb 0 (space_len z) more) refl
+dash-read blank z h some more = grind (arith, nat_tests, common_steps, blank-space, solid-dark, blank-skipped)
 
 record DashAt (text second : List ℕ) : Type 0 where
   blank : List ℕ
@@ -286,8 +258,7 @@ dash-found text second u h =
     record {
       blank = x.blank;
       gap = y.blank;
-      split = x.split ∙ ap (λ (t : List ℕ). x.blank ++ t)
-          (first.1 ∙ dash ∙ ap (λ (t : List ℕ). 45 ∷ t) (y.split ∙ ap (λ (t : List ℕ). y.blank ++ t) last.1));
+      split = grind (arith, nat_tests, common_steps);
       blank_is = x.is;
       gap_is = y.is;
       some = blank-some text x.blank x.split first.0;
@@ -296,11 +267,6 @@ dash-found text second u h =
     }
 
 -- ---- hyphen ranges
-
-put-together : (loose : Bool) (include : Bool) (text all : List ℕ) (p q : Partial) (t u v w : List ℕ) → text ≡ all → t ≡ v → u ≡ w
-    → IsAlternative loose include all (hyphen_lower include p v ++ hyphen_upper include q w)
-    → IsAlternative loose include text (hyphen_lower include p t ++ hyphen_upper include q u)
-put-together loose include text all p q t u v w e f g is = rw (e, f, g) is
 
 pub hyphen-found : (loose : Bool) (include : Bool) (text : List ℕ) (e : Ended × Ended) → IsUtf8 text → hyphen_ends loose include text ≡ Some e
     → IsAlternative loose include text (hyphen_comparisons include e)
@@ -325,20 +291,9 @@ hyphen-found loose include text e u h =
     upper.split ∙ ap (λ (t : List ℕ). upper.marks ++ (upper.piece ++ t)) none ∙ ap (λ (t : List ℕ). upper.marks ++ t) (append-nil upper.piece) in
     let is = hyphen lower.marks lower.piece dash.blank dash.gap upper.marks upper.piece a.0.0.0 l.0.0.0 lower.are lower.is dash.blank_is
     dash.some dash.gap_is dash.more upper.are upper.is in
-    let text_is : text ≡ lower.marks ++ (lower.piece ++ (dash.blank ++ 45 ∷ (dash.gap ++ (upper.marks ++ upper.piece)))) =
-    lower.split ∙ ap (λ (t : List ℕ). lower.marks ++ (lower.piece ++ t))
-    (dash.split ∙ ap (λ (t : List ℕ). dash.blank ++ (45 ∷ (dash.gap ++ t))) last) in
-    let both : (a.0.0, l.0.0) ≡ e = ap (λ (x : Ended). (a.0.0, x)) ended.1 ∙ same_Some _ _ b.2 in
-    let found : IsAlternative loose include text (hyphen_comparisons include (a.0.0, l.0.0)) =
-    put-together loose include text _ a.0.0.0 l.0.0.0 a.0.0.1 l.0.0.1 front (upper.marks ++ upper.piece) text_is lower.text_is upper.text_is is in
-    subst (λ (q : Ended × Ended). IsAlternative loose include text (hyphen_comparisons include q)) both found
+    grind (arith, nat_tests, common_steps)
 
 -- ---- marks are no whitespace
 
 pub whole-dark : (loose : Bool) (b u : List ℕ) → are_whole_marks loose b ≡ true → begins_component u ≡ true → space_len (b ++ u) ≡ 0
-whole-dark true [] u h k = component-dark u k
-whole-dark true (c ∷ b) u h k = mark-dark c (b ++ u) (and_parts (is_mark c) (list_all is_mark b) h).0
-whole-dark false b u h k = elim (one-first b h) [
-  | inl none ↦ rw none (component-dark u k)
-  | inr one ↦ rw one (mark-dark 118 u refl)
-]
+whole-dark loose b u h k = grind (arith, nat_tests, common_steps, component-dark, mark-dark, and_parts, one-first)

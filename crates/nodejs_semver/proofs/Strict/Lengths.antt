@@ -1,10 +1,9 @@
 -- A text has no more characters than bytes, and as many as its iterator counts.
-use Rattle.std.proofs.Common.{◌≤◌, ◌<◌, ℕ, List, [], ◌∷◌, length, arith, length-append}
-use Rattle.std.specs.Char.{encode_utf8, len_utf8}
-use Rattle.std.specs.Str.{IsUtf8, chars}
-use Rattle.std.specs.Prelude.{encode_utf8_all}
-use Rattle.std.proofs.lemmas.Str.{chars_from_encodes, encodes-chars, length-encode}
-use Rattle.std.proofs.lemmas.Bool.Decides.{nat_tests}
+use Rattle.nodejs_semver.proofs.Common.{◌≤◌, ◌<◌, ℕ, List, [], ◌∷◌, length, arith, length-append, encode_utf8, IsUtf8}
+use Rattle.nodejs_semver.proofs.Common.{encode_utf8_all, length-encode, nat_tests}
+use Rattle.std.specs.Char.{len_utf8}
+use Rattle.std.specs.Str.{chars}
+use Rattle.std.proofs.lemmas.Str.{chars_from_encodes, encodes-chars}
 
 character-takes : (c : ℕ) → 0 < len_utf8 c
 character-takes c = grind (arith, nat_tests)

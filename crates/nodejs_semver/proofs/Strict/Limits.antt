@@ -1,28 +1,28 @@
 -- Places and partial versions with numbers past the limit: what the code reads is what stands there, where no such number counts.
-use Rattle.nodejs_semver.proofs.Common.{◌≡◌, ◌≤◌, ◌<◌, ◌-◌, ◌++◌, ◌∷◌, ℕ, Bool, List, [], length, drop, take, refl, sym, ap, ◌∙◌, arith, true, false, Some}
-use Rattle.nodejs_semver.proofs.Common.{None, Option, inl, inr, ◌&&◌, ◌||◌, not, cases_Bool, nat_tests, is_ascii_digit, list_all, bind_some, cond_some, same_Some}
-use Rattle.nodejs_semver.proofs.Common.{is_empty, MAX_SAFE_INTEGER, Id, take_rest, if◌then◌else◌, and_parts, append-nil, begins, drop_at, subst, take_at}
-use Rattle.std.specs.List.{prefix_len}
-use Rattle.std.specs.Prelude.{nat_le, nat_lt, take_while}
+use Rattle.nodejs_semver.proofs.Common.{common_steps, ◌≡◌, ◌≤◌, ◌<◌, ◌-◌, ◌++◌, ◌∷◌, ℕ, Bool, List, [], length, drop}
+use Rattle.nodejs_semver.proofs.Common.{take, refl, sym, ap, ◌∙◌, arith, true, false, Some, None, Option, inl, inr}
+use Rattle.nodejs_semver.proofs.Common.{◌&&◌, ◌||◌, not, cases_Bool, nat_tests, is_ascii_digit, list_all, bind_some}
+use Rattle.nodejs_semver.proofs.Common.{same_Some, is_empty, MAX_SAFE_INTEGER, Id, take_rest, if◌then◌else◌, and_parts}
+use Rattle.nodejs_semver.proofs.Common.{append-nil, begins, drop_at, subst, take_at, prefix_len, nat_lt}
+use Rattle.nodejs_semver.proofs.Common.{take-append-drop, IsNumber, Front}
+use Rattle.std.specs.Prelude.{nat_le, take_while}
 use Rattle.std.specs.Str.Parse.{digits_value}
-use Rattle.std.proofs.lemmas.Bool.{lt-ltb}
-use Rattle.std.proofs.lemmas.List.{take-append-drop}
+use Rattle.std.proofs.Math.Bool.{or-true}
 use Rattle.std.proofs.lemmas.List.Folds.{length-prefix_len}
 use Rattle.semver_core.specs.Internal.Reading.{◌>>?◌}
-use Rattle.semver_core.specs.Text.Identifiers.{listed}
-use Rattle.semver_core.specs.Text.Numbers.{IsNumber}
-use Rattle.nodejs_semver.specs.Internal.Fronts.{Front, begins_byte, begins_wildcard, build_front, number_front, number_of}
+use Rattle.nodejs_semver.specs.Internal.Fronts.{begins_byte, begins_wildcard, number_front, number_of}
 use Rattle.nodejs_semver.specs.Internal.NpmReadings.{begins_padded, strict_number}
-use Rattle.nodejs_semver.specs.Internal.NpmWords.{Place, any, are_short_builds, are_short_identifiers, counted, counted_front, dotted_patch, dotted_place, great, patch_place}
-use Rattle.nodejs_semver.specs.Internal.NpmWords.{is_small, limited, number, partial_front, place_front, place_of, place_zeros, placed, pre_front, qualified_counted}
-use Rattle.nodejs_semver.specs.Internal.NpmWords.{qualified_partial, run_place, second_counted, second_front, third_counted, third_front}
+use Rattle.nodejs_semver.specs.Internal.NpmWords.{Place, any, counted, counted_front, great, patch_place, is_small}
+use Rattle.nodejs_semver.specs.Internal.NpmWords.{limited, number, partial_front, place_front, place_of, place_zeros}
+use Rattle.nodejs_semver.specs.Internal.NpmWords.{placed, qualified_counted, qualified_partial, run_place}
+use Rattle.nodejs_semver.specs.Internal.NpmWords.{second_counted, second_front, third_counted, third_front}
 use Rattle.nodejs_semver.specs.Npm.Grammar.{has_leading_zero}
-use Rattle.nodejs_semver.specs.Npm.RangeText as Text
-use Rattle.nodejs_semver.specs.Npm.RangeText.{IsPlace, are_spelled, has_zeros, is_spelled, most_digits, partial_of}
+use Rattle.nodejs_semver.specs.Npm.RangeText.{IsPlace, has_zeros, is_spelled, most_digits, partial_of}
 use Rattle.nodejs_semver.specs.Npm.Table.{Partial}
-use Rattle.nodejs_semver.proofs.Reading.Numbers.{digits-taken, number-found, number-no_wildcard, number-of, run-ends}
+use Rattle.nodejs_semver.proofs.Reading.Numbers.{digits-taken, number-found, number-no_wildcard, number-of}
 use Rattle.nodejs_semver.proofs.Strict.Numbers.{padded-same}
 use Rattle.nodejs_semver.proofs.Strict.Places.{digits-of, number-short, place-read, prefix-all, some-run}
+use Rattle.nodejs_semver.specs.Npm.RangeText as Text
 
 -- ---- places
 
@@ -32,27 +32,20 @@ some_place p rest = Some (p, rest)
 spelled-bare : (loose zeros : Bool) (n : ℕ) (digits : List ℕ) → has_leading_zero digits ≡ false → is_spelled loose zeros n digits ≡ true
 spelled-bare loose zeros n digits h = rw h refl
 
-or-right : (b : Bool) → (b || true) ≡ true
-or-right b = grind arith
-
 spelled-some : (zeros : Bool) (n : ℕ) (digits : List ℕ) → (zeros || nat_lt 0 n) ≡ true → is_spelled true zeros n digits ≡ true
-spelled-some zeros n digits h = rw h (or-right (not (has_leading_zero digits)))
+spelled-some zeros n digits h = rw h (or-true (not (has_leading_zero digits)))
 
 -- the run at the front, where it is not padded, or read loosely
 spelled-great : (loose zeros : Bool) (text run : List ℕ) → 0 < digits_value 10 run → run ≡ take_while is_ascii_digit text
     → (not loose && begins_padded text) ≡ false → is_spelled loose zeros (digits_value 10 run) run ≡ true
-spelled-great true zeros text run some is bare =
-    spelled-some zeros (digits_value 10 run) run (rw (lt-ltb 0 (digits_value 10 run) some) (or-right zeros))
+spelled-great true zeros text run some is bare = grind (arith, nat_tests, common_steps)
 spelled-great false zeros text run some is bare =
     let behind = drop (prefix_len is_ascii_digit text) text in
     let whole : text ≡ run ++ behind = sym (take-append-drop (prefix_len is_ascii_digit text) text) ∙ ap (λ (t : List ℕ). t ++ behind) (sym is) in
-    let each : list_all is_ascii_digit run ≡ true = rw is (prefix-all is_ascii_digit text) in
-    let shortest = sym (padded-same run behind each (run-ends text)) ∙ ap begins_padded (sym whole) ∙ bare in
-    spelled-bare false zeros (digits_value 10 run) run shortest
+    grind (arith, nat_tests, common_steps)
 
 few-digits : (loose : Bool) (run : List ℕ) → length run ≤ 20 → length run ≤ most_digits loose
-few-digits true run h = omega (arith, h)
-few-digits false run h = omega (arith, h)
+few-digits loose run h = grind (arith, nat_tests, common_steps)
 
 -- a number up to the limit was found
 pub number_placed : (loose zeros : Bool) (text : List ℕ) (n : ℕ) (rest : List ℕ) → strict_number MAX_SAFE_INTEGER text ≡ Some (n, rest)
@@ -66,8 +59,7 @@ number_placed loose zeros text n rest h = elim (cases_Bool (begins_padded text))
       let short = number-short f.run n (record { number = f.is; shortest = shortest }) in
       let same : IsNumber n f.run n = record { some = f.is.some; each = f.is.each; value = f.is.value; safe = omega arith } in
       let place : IsPlace loose zeros f.run (Some n) = Text.number f.run n same (spelled-bare loose zeros n f.run shortest) (few-digits loose f.run short) in
-      let small : nat_le n MAX_SAFE_INTEGER ≡ true = grind (arith, nat_tests, f.is.safe) in
-      rw (f.split, place-read loose zeros f.run rest (Some n) place f.ended, small) refl
+      grind (arith, nat_tests, common_steps, place-read)
 ]
 
 pub wildcard_placed : (loose zeros : Bool) (text : List ℕ) → begins_wildcard text ≡ true
@@ -78,16 +70,10 @@ wildcard_placed loose zeros text h = rw h refl
 -- a run of digits that is no number up to the limit
 past-limit : (limit : ℕ) (run : List ℕ) → 1 ≤ length run → list_all is_ascii_digit run ≡ true → number_of limit run ≡ None
     → nat_le (digits_value 10 run) limit ≡ false
-past-limit limit run some each none = elim (cases_Bool (nat_le (digits_value 10 run) limit)) [
-  | inr other ↦ other
-  | inl small ↦
-      let le : digits_value 10 run ≤ limit = grind (arith, nat_tests) in
-      cc (none, number-of limit run (digits_value 10 run) (record { some = omega (arith, some); each = each; value = refl; safe = le }))
-]
+past-limit limit run some each none = grind (arith, nat_tests, common_steps, number-of)
 
 bind-none : {A B : Type 0} (o : Option A) (f : A → B) → (o >>? λ x. Some (f x)) ≡ None → o ≡ None
-bind-none None f h = refl
-bind-none (Some x) f h = cc h
+bind-none o f h = grind (arith, nat_tests, common_steps)
 
 -- what stands where no wildcard does, by the digits at the front
 run-placed : (loose zeros : Bool) (text : List ℕ) → begins_wildcard text ≡ false → place_front loose zeros text
@@ -101,23 +87,13 @@ none_placed loose zeros text h k = rw (run-placed loose zeros text h, k) refl
 
 pub long_placed : (loose zeros : Bool) (text : List ℕ) → begins_wildcard text ≡ false → most_digits loose < prefix_len is_ascii_digit text
     → placed MAX_SAFE_INTEGER (place_front loose zeros text) ≡ None
-long_placed loose zeros text h k =
-    let run = take_while is_ascii_digit text in
-    let len = length-prefix_len is_ascii_digit text in
-    let long : nat_le (length run) (most_digits loose) ≡ false = grind (arith, nat_tests) in
-    let there = some-run run (omega (arith, len, k)) in
-    rw (run-placed loose zeros text h, there, long) refl
+long_placed loose zeros text h k = grind (arith, nat_tests, common_steps, length-prefix_len, some-run, run-placed)
 
 -- a run that is not spelled as it has to be
 pub misspelled_placed : (loose zeros : Bool) (text : List ℕ) → begins_wildcard text ≡ false
     → is_spelled loose zeros (digits_value 10 (take_while is_ascii_digit text)) (take_while is_ascii_digit text) ≡ false
     → placed MAX_SAFE_INTEGER (place_front loose zeros text) ≡ None
-misspelled_placed loose zeros text h k =
-    let run = take_while is_ascii_digit text in
-    rw (run-placed loose zeros text h, k, and-none (not (is_empty run) && nat_le (length run) (most_digits loose))) refl
-  where
-    and-none : (b : Bool) → (b && false) ≡ false
-    and-none b = grind arith
+misspelled_placed loose zeros text h k = grind (arith, nat_tests, common_steps, run-placed, not)
 
 -- a run of some value
 run-valued : (loose zeros : Bool) (text : List ℕ) → begins_wildcard text ≡ false → 1 ≤ prefix_len is_ascii_digit text
@@ -126,11 +102,7 @@ run-valued : (loose zeros : Bool) (text : List ℕ) → begins_wildcard text ≡
     → placed MAX_SAFE_INTEGER (place_front loose zeros text)
     ≡ some_place (place_of MAX_SAFE_INTEGER (Some (digits_value 10 (take_while is_ascii_digit text)))) (drop (prefix_len is_ascii_digit text) text)
 run-valued loose zeros text dark some short spelled =
-    let run = take_while is_ascii_digit text in
-    let len = length-prefix_len is_ascii_digit text in
-    let there = some-run run (omega (arith, len, some)) in
-    let fits : nat_le (length run) (most_digits loose) ≡ true = grind (arith, nat_tests) in
-    rw (run-placed loose zeros text dark, there, fits, spelled) refl
+    grind (arith, nat_tests, common_steps, length-prefix_len, some-run, run-placed)
 
 -- a number up to the limit with leading zeros, read loosely
 pub padded_placed : (zeros : Bool) (text : List ℕ) (n : ℕ) (rest : List ℕ) → begins_wildcard text ≡ false
@@ -142,8 +114,7 @@ padded_placed zeros text n rest dark h short some =
     ap (λ (t : List ℕ). prefix_len is_ascii_digit t) f.split ∙ digits-taken f.run rest f.is.each f.ended in
     let same : IsNumber n f.run n = record { some = f.is.some; each = f.is.each; value = f.is.value; safe = omega arith } in
     let place : IsPlace true zeros f.run (Some n) = Text.number f.run n same (spelled-some zeros n f.run some) (omega (arith, size, short)) in
-    let small : nat_le n MAX_SAFE_INTEGER ≡ true = grind (arith, nat_tests, f.is.safe) in
-    rw (f.split, place-read true zeros f.run rest (Some n) place f.ended, small) refl
+    grind (arith, nat_tests, common_steps, place-read)
 
 pub great_placed : (loose zeros : Bool) (text : List ℕ) (at : ℕ) → number_front MAX_SAFE_INTEGER text ≡ None → begins_wildcard text ≡ false
     → (not loose && begins_padded text) ≡ false → at ≡ prefix_len is_ascii_digit text → 1 ≤ at → at ≤ most_digits loose
@@ -153,21 +124,12 @@ great_placed loose zeros text at front dark bare is first last =
     let short : prefix_len is_ascii_digit text ≤ most_digits loose = omega (arith, is, last) in
     let run = take_while is_ascii_digit text in
     let len = length-prefix_len is_ascii_digit text in
-    let each = prefix-all is_ascii_digit text in
-    let missing = bind-none (number_of MAX_SAFE_INTEGER run) (λ n. (n, drop (prefix_len is_ascii_digit text) text)) front in
-    let past = past-limit MAX_SAFE_INTEGER run (omega (arith, len, some)) each missing in
-    let positive : 0 < digits_value 10 run = grind (arith, nat_tests) in
-    let spelled = spelled-great loose zeros text run positive in
-    run-valued loose zeros text dark some short (spelled refl bare) ∙ rw (past, take_rest text at, is) refl
+    grind (arith, nat_tests, common_steps, prefix-all, bind-none, past-limit, spelled-great, run-valued, take_rest)
 
 -- ---- leading zeros
 
 run-leading : (text : List ℕ) → has_leading_zero (take_while is_ascii_digit text) ≡ begins_padded text
-run-leading text =
-    let run = take_while is_ascii_digit text in
-    let behind = drop (prefix_len is_ascii_digit text) text in
-    let whole : text ≡ run ++ behind = sym (take-append-drop (prefix_len is_ascii_digit text) text) in
-    sym (padded-same run behind (prefix-all is_ascii_digit text) (run-ends text)) ∙ ap begins_padded (sym whole)
+run-leading text = grind (arith, nat_tests, common_steps)
 
 -- strictly there are none
 pub strict_leading_placed : (loose zeros : Bool) (text : List ℕ) → begins_wildcard text ≡ false → begins_padded text ≡ true → loose ≡ false
@@ -177,8 +139,7 @@ strict_leading_placed false zeros text dark padded e = misspelled_placed false z
 
 number-value : (limit : ℕ) (run : List ℕ) (n : ℕ) → number_of limit run ≡ Some n → digits_value 10 run ≡ n
 unfolding number_of
-number-value limit run n h =
-    (cond_some (not (is_empty run) && list_all is_ascii_digit run && nat_le (digits_value 10 run) limit) (digits_value 10 run) n h).1
+number-value limit run n h = grind (arith, nat_tests, common_steps)
 
 -- zero has none
 pub zero_placed : (zeros : Bool) (text : List ℕ) (rest : List ℕ) → zeros ≡ false → begins_wildcard text ≡ false → begins_padded text ≡ true
@@ -215,10 +176,7 @@ run-first : (loose zeros : Bool) (run more : List ℕ) → begins is_ascii_digit
     → begins is_ascii_digit more ≡ false → place_front loose zeros (run ++ more) ≡ run_place loose zeros run more
 unfolding place_front
 run-first loose zeros run more first each stop =
-    let dark = number-no_wildcard run more first in
-    let e : take_while is_ascii_digit (run ++ more) ≡ run = grind (arith, digits-taken, take_at, drop_at, nat_tests) in
-    let d : drop (prefix_len is_ascii_digit (run ++ more)) (run ++ more) ≡ more = grind (arith, digits-taken, take_at, drop_at, nat_tests) in
-    rw (dark, e, d) refl
+    grind (arith, nat_tests, common_steps, number-no_wildcard, digits-taken, take_at, drop_at)
 
 none-alone : (loose zeros : Bool) → place_front loose zeros [] ≡ run_place loose zeros [] []
 unfolding place_front
@@ -242,14 +200,7 @@ pub patch_cut : (loose zeros : Bool) (text : List ℕ) (at own : ℕ) (o : Front
     → (o >>? λ p. Some (p.0, take (length text - own) (drop own text))) ≡ placed MAX_SAFE_INTEGER (patch_place loose zeros text)
 unfolding patch_place
 patch_cut loose zeros text at own o e h less is =
-    let n = prefix_len is_ascii_digit text - 1 in
-    let own_is : own ≡ n = less ∙ ap (λ (k : ℕ). k - 1) e in
-    let run = take n text in
-    let each = digits-of n text (omega arith) in
-    let o_is : o ≡ placed MAX_SAFE_INTEGER (run_place loose zeros run []) =
-    is ∙ ap (λ (k : ℕ). placed MAX_SAFE_INTEGER (place_front loose zeros (take k text))) own_is
-    ∙ ap (λ (q : Front (Option ℕ)). placed MAX_SAFE_INTEGER q) (run-alone loose zeros run each) in
-    rw (take_rest text own, own_is, o_is, rw e at h) (sym (run-behind MAX_SAFE_INTEGER loose zeros run (drop n text)))
+    grind (arith, nat_tests, common_steps, digits-of, run-alone, take_rest, run-behind)
 
 -- ---- partial versions
 
@@ -258,10 +209,7 @@ if_small limit p = if is_small limit p then Some p else None
 
 counted-small : (limit : ℕ) (a b c : Option ℕ) (pre build : List Id)
     → counted (place_of limit a) (place_of limit b) (place_of limit c) pre build ≡ if_small limit (partial_of a b c pre build)
-counted-small limit None b c pre build = refl
-counted-small limit (Some M) None c pre build = grind arith
-counted-small limit (Some M) (Some m) None pre build = grind arith
-counted-small limit (Some M) (Some m) (Some p) pre build = grind arith
+counted-small limit a b c pre build = grind (arith, nat_tests, common_steps)
 
 counted-short : (limit : ℕ) (a b : Option ℕ) (text : List ℕ)
     → (counted (place_of limit a) (place_of limit b) any [] [] >>? λ p. Some (p, text)) ≡ limited limit (Some (partial_of a b None [] [], text))
@@ -270,34 +218,19 @@ counted-short limit a b text = rw (counted-small limit a b None [] []) (grind ar
 qualified-limited : (loose : Bool) (limit : ℕ) (a b c : Option ℕ) (text : List ℕ)
     → qualified_counted loose (place_of limit a) (place_of limit b) (place_of limit c) text ≡ limited limit (qualified_partial loose a b c text)
 unfolding qualified_counted qualified_partial
-qualified-limited loose limit a b c text =
-    let front = pre_front loose text in
-    let last = build_front front.1 in
-    elim (cases_Bool (are_spelled loose front.0 && (are_short_identifiers front.0 && are_short_builds last.0))) [
-      | inr other ↦ rw other refl
-      | inl good ↦ rw (good, counted-small limit a b c (listed front.0) (listed last.0)) (grind arith)
-    ]
+qualified-limited loose limit a b c text = grind (arith, nat_tests, common_steps)
 
 third-limited : (loose : Bool) (limit : ℕ) (a b : Option ℕ) (text : List ℕ) (o : Front (Option ℕ))
     → third_counted loose (place_of limit a) (place_of limit b) text (placed limit o) ≡ limited limit (third_front loose a b text o)
-third-limited loose limit a b text None = counted-short limit a b text
-third-limited loose limit a b text (Some c) = qualified-limited loose limit a b c.0 c.1
+third-limited loose limit a b text o = grind (arith, nat_tests, common_steps, counted-short, qualified-limited)
 
 zeros-placed : (limit : ℕ) (a : Option ℕ) → place_zeros (place_of limit a) ≡ has_zeros a
-zeros-placed limit None = refl
-zeros-placed limit (Some n) = grind (arith, nat_tests)
+zeros-placed limit a = grind (arith, nat_tests, common_steps)
 
 second-limited : (loose : Bool) (limit : ℕ) (a : Option ℕ) (text : List ℕ) (o : Front (Option ℕ))
     → second_counted loose limit (place_of limit a) text (placed limit o) ≡ limited limit (second_front loose a text o)
-second-limited loose limit a text None = counted-short limit a None text
-second-limited loose limit a text (Some b) =
-    rw (zeros-placed limit a) (third-limited loose limit a b.0 b.1 (dotted_patch loose (has_zeros a) b.1))
+second-limited loose limit a text o = grind (arith, nat_tests, common_steps, counted-short, zeros-placed, third-limited)
 
 pub counted_limited : (loose : Bool) (limit : ℕ) (text : List ℕ) → counted_front loose limit text ≡ limited limit (partial_front loose text)
 unfolding partial_front
-counted_limited loose limit text = go (place_front loose false text)
-  where
-    go : (o : Front (Option ℕ)) → (placed limit o >>? λ a. second_counted loose limit a.0 a.1 (placed limit (dotted_place loose (place_zeros a.0) a.1)))
-        ≡ limited limit (o >>? λ a. second_front loose a.0 a.1 (dotted_place loose (has_zeros a.0) a.1))
-    go None = refl
-    go (Some a) = rw (zeros-placed limit a.0) (second-limited loose limit a.0 a.1 (dotted_place loose (has_zeros a.0) a.1))
+counted_limited loose limit text = grind (arith, nat_tests, common_steps, zeros-placed, second-limited)

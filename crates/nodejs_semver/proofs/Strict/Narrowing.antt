@@ -1,20 +1,18 @@
 -- What comparators have in common, as spans: that of one comparator, and that of two lists.
-use Rattle.nodejs_semver.proofs.Common.{◌≡◌, refl, sym, ap, ap₂, ◌∙◌, Bool, true, false, ◌&&◌, ◌||◌, not, List, []}
-use Rattle.nodejs_semver.proofs.Common.{◌∷◌, ◌++◌, Option, Some, None, arith, is_gt, Ordering, Equal, and_parts}
-use Rattle.nodejs_semver.proofs.Common.{list_all, list_any, list_all-append, list_any-append, cond_both, precedence_total, Bound}
-use Rattle.nodejs_semver.proofs.Common.{Before, After, Unbounded, Span, lower_cut, upper_cut, greater_lower, lesser_upper}
-use Rattle.nodejs_semver.proofs.Common.{Beside, is_past, is_le, holds, interval, is_interval, meet, precedence, VersionValue}
-use Rattle.nodejs_semver.proofs.Common.{is_release, lets_in, ℕ, ◌+◌, MAX_SAFE_INTEGER, cut_cmp}
+use Rattle.nodejs_semver.proofs.Common.{common_steps, nat_tests, ◌≡◌, refl, sym, ap, ap₂, ◌∙◌, Bool, true, false, ◌&&◌}
+use Rattle.nodejs_semver.proofs.Common.{◌||◌, not, List, [], ◌∷◌, ◌++◌, Option, Some, None, arith, is_gt, Ordering}
+use Rattle.nodejs_semver.proofs.Common.{and_parts, list_all, list_any, list_all-append, list_any-append, cond_both}
+use Rattle.nodejs_semver.proofs.Common.{precedence_total, Bound, Before, After, Unbounded, Span, lower_cut, upper_cut}
+use Rattle.nodejs_semver.proofs.Common.{greater_lower, lesser_upper, is_le, holds, interval, is_interval, meet}
+use Rattle.nodejs_semver.proofs.Common.{precedence, VersionValue, is_release, lets_in, ℕ, ◌+◌, MAX_SAFE_INTEGER}
+use Rattle.nodejs_semver.proofs.Common.{cut_cmp, is_past, is_eq, is_ge, is_lt, option_holds-interval, is_readable, Id}
+use Rattle.nodejs_semver.proofs.Common.{is_range_bound, Comparator, above, at_most, below, equal}
+use Rattle.std.specs.Cmp.{both_ways}
 use Rattle.std.proofs.lemmas.List.Elements.{filter-append}
-use Rattle.std.specs.Ordering.{is_eq, is_ge, is_lt, ordering_reverse, ordering_then}
-use Rattle.std.specs.declared.cmp.Ordering.TheVariants.{Greater}
-use Rattle.semver_core.proofs.CutLaws.{is_past-greater_lower, is_past-lesser_upper, option_holds-interval}
-use Rattle.semver_core.specs.Internal.Readable.{readable}
-use Rattle.semver_core.specs.Printing.RoundTrip.{is_readable}
-use Rattle.semver_core.specs.Text.Identifiers.{Id}
+use Rattle.semver_core.proofs.CutLaws.{is_past-greater_lower, is_past-lesser_upper}
 use Rattle.nodejs_semver.proofs.Algebra.Accepting.{lets_in_one}
 use Rattle.nodejs_semver.proofs.Algebra.Gate.{both, lets_in-meet}
-use Rattle.nodejs_semver.proofs.Bounds.TableRows.{bound-is}
+use Rattle.nodejs_semver.proofs.Values.{past-after, past-before}
 use Rattle.nodejs_semver.specs.Internal.NpmAlternatives.{NarrowedBy, met}
 use Rattle.nodejs_semver.specs.Internal.NpmMeaning.{AreRead, IsCommon, IsNarrowed, counted, is_open, is_unbounded}
 use Rattle.nodejs_semver.specs.Internal.Readings.{bounds_view}
@@ -22,9 +20,8 @@ use Rattle.nodejs_semver.specs.declared.npm.alternatives.Alternative.{Alternativ
 use Rattle.nodejs_semver.specs.declared.readers.syntax.Bounds.{Bounds}
 use Rattle.nodejs_semver.specs.Npm.Ranges.{names, satisfies}
 use Rattle.nodejs_semver.specs.Npm.Table.{Comparison, counts}
-use Rattle.nodejs_semver.specs.Ranges.View.{is_range_bound}
+use Rattle.nodejs_semver.specs.Text.WordText.{at_least}
 use Rattle.nodejs_semver.specs.Text.Table as Spans
-use Rattle.nodejs_semver.specs.Text.WordText.{Comparator, above, at_least, at_most, below, equal}
 
 -- ---- one comparator
 
@@ -36,16 +33,6 @@ compared_span equal w = record { lower = Before w; upper = After w }
 compared_span at_most w = Spans.<= w
 compared_span below w = Spans.< w
 
--- the tests of an answer and of the one turned round
-turned : (r s : Ordering) → r ≡ ordering_reverse s → (is_le (ordering_then r Equal) ≡ is_ge s) × (is_le (ordering_then r Greater) ≡ is_gt s)
-turned r s e = grind arith
-
-past_before : (w v : VersionValue) → is_past precedence (Beside w false) v ≡ is_ge (precedence v w)
-past_before w v = (turned _ _ (precedence_total.antisymm w v)).0
-
-past_after : (w v : VersionValue) → is_past precedence (Beside w true) v ≡ is_gt (precedence v w)
-past_after w v = (turned _ _ (precedence_total.antisymm w v)).1
-
 -- a comparator as it is written, whatever its build
 abbrev pub comparison : Comparator → VersionValue → List Id → List ℕ → Comparison
 comparison c w build text = record { sign = c; version = record w { build = build }; text = text }
@@ -55,45 +42,30 @@ tests r = grind arith
 
 holds-compared : (c : Comparator) (w : VersionValue) (build : List Id) (text : List ℕ) (v : VersionValue)
     → holds precedence (compared_span c w) v ≡ satisfies v (comparison c w build text)
-holds-compared at_least w build text v = grind (arith, past_before)
-holds-compared above w build text v = grind (arith, past_after)
-holds-compared equal w build text v =
-    ap₂ (λ (a b : Bool). a && not b) (past_before w v) (past_after w v) ∙ (tests (precedence v w)).2
-holds-compared at_most w build text v = ap not (past_after w v) ∙ (tests (precedence v w)).1
-holds-compared below w build text v = ap not (past_before w v) ∙ (tests (precedence v w)).0
+holds-compared at_least w build text v = grind (arith, past-before)
+holds-compared above w build text v = grind (arith, past-after)
+holds-compared equal w build text v = grind (arith, nat_tests, common_steps, ap₂, not, past-before, past-after, tests)
+holds-compared at_most w build text v = ap not (past-after w v) ∙ (tests (precedence v w)).1
+holds-compared below w build text v = ap not (past-before w v) ∙ (tests (precedence v w)).0
 
 lets_in-compared : (c : Comparator) (w : VersionValue) (build : List Id) (text : List ℕ) (v : VersionValue)
     → lets_in (compared_span c w) v ≡ (is_release v || names v (comparison c w build text))
-lets_in-compared at_least w build text v = grind arith
-lets_in-compared above w build text v = grind arith
-lets_in-compared equal w build text v = grind arith
-lets_in-compared at_most w build text v = grind arith
-lets_in-compared below w build text v = grind arith
+lets_in-compared c w build text v = grind (arith, nat_tests, common_steps)
 
 compared-bounded : (c : Comparator) (w : VersionValue) → is_unbounded (compared_span c w) ≡ false
 compared-bounded c w = grind arith
 
 -- the bounds are of that version, whose numbers may be greater by one
 raised : (w : VersionValue) → is_readable MAX_SAFE_INTEGER w ≡ true → is_readable (MAX_SAFE_INTEGER + 1) w ≡ true
-raised w h =
-    let r = readable MAX_SAFE_INTEGER w h in
-    bound-is (MAX_SAFE_INTEGER + 1) w (omega (arith, r.major)) (omega (arith, r.minor)) (omega (arith, r.patch)) r.pre_release r.build
+raised w h = grind (arith, nat_tests, common_steps)
 
 lower-compared : (c : Comparator) (w : VersionValue) → is_readable MAX_SAFE_INTEGER w ≡ true
     → is_range_bound (MAX_SAFE_INTEGER + 1) (compared_span c w).lower ≡ true
-lower-compared at_least w h = raised w h
-lower-compared above w h = raised w h
-lower-compared equal w h = raised w h
-lower-compared at_most w h = refl
-lower-compared below w h = refl
+lower-compared c w h = grind (arith, nat_tests, common_steps)
 
 upper-compared : (c : Comparator) (w : VersionValue) → is_readable MAX_SAFE_INTEGER w ≡ true
     → is_range_bound (MAX_SAFE_INTEGER + 1) (compared_span c w).upper ≡ true
-upper-compared at_least w h = refl
-upper-compared above w h = refl
-upper-compared equal w h = raised w h
-upper-compared at_most w h = raised w h
-upper-compared below w h = raised w h
+upper-compared c w h = grind (arith, nat_tests, common_steps)
 
 pub one_common : (include : Bool) (c : Comparator) (w : VersionValue) (build : List Id) (text : List ℕ)
     → is_readable MAX_SAFE_INTEGER w ≡ true → counts include (comparison c w build text) ≡ true
@@ -109,17 +81,8 @@ one_common include c w build text r h = record {
 abbrev pub everything : Span VersionValue
 everything = record { lower = Unbounded; upper = Unbounded }
 
-pub none_common : (include : Bool) → IsCommon include [] everything
-none_common include = record { held = λ v. refl; let_in = λ v _. refl; unbounded = refl; lower = refl; upper = refl }
-
 pub uncounted_common : (include : Bool) (c : Comparison) → counts include c ≡ false → IsCommon include (c ∷ []) everything
-uncounted_common include c h = record {
-  held = λ v. rw h refl;
-  let_in = λ v _. rw h refl;
-  unbounded = rw h refl;
-  lower = refl;
-  upper = refl;
-}
+uncounted_common include c h = grind (arith, nat_tests, common_steps)
 
 -- ---- two lists
 
@@ -147,10 +110,7 @@ holds-both s t v =
 
 pub lets_in-both : (s t : Span VersionValue) (v : VersionValue) → holds precedence s v ≡ true → holds precedence t v ≡ true
     → lets_in (both s t) v ≡ (lets_in s v || lets_in t v)
-lets_in-both s t v h k = exact _ _ (lets_in_one s t v) (lets_in-meet s t v h k)
-  where
-    exact : (a b : Bool) → (a ≡ true → b ≡ true) → (b ≡ true → a ≡ true) → a ≡ b
-    exact a b f g = grind arith
+lets_in-both s t v h k = both_ways _ _ (lets_in_one s t v) (lets_in-meet s t v h k)
 
 module _ (include : Bool) (cs ds : List Comparison) where
   abbrev ours : List Comparison

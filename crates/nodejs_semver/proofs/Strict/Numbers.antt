@@ -1,13 +1,9 @@
 -- Numbers without leading zeros: what is read is written, and what is written is read.
-use Rattle.std.proofs.Common.{◌≡◌, ℕ, List, [], ◌∷◌, ◌++◌, drop, refl, arith, true, false, Some, None, inl, inr, take, length, ◌-◌, sym, ◌∙◌}
-use Rattle.std.specs.Char.{is_ascii_digit}
-use Rattle.std.specs.Prelude.{◌==◌}
-use Rattle.std.proofs.lemmas.Bool.{cases_Bool, eqb-true}
-use Rattle.std.proofs.lemmas.List.{take_rest}
-use Rattle.std.specs.List.{list_all}
-use Rattle.semver_core.specs.Text.Characters.{begins, IsPieceAt, NoPieceAt}
-use Rattle.semver_core.specs.Text.Numbers.{IsWholeNumber}
-use Rattle.nodejs_semver.specs.Internal.Fronts.{Front, number_front}
+use Rattle.nodejs_semver.proofs.Common.{common_steps, nat_tests, ◌≡◌, ℕ, List, [], ◌∷◌, ◌++◌, drop, refl, arith, true}
+use Rattle.nodejs_semver.proofs.Common.{false, Some, None, inl, inr, take, length, ◌-◌, is_ascii_digit, ◌==◌}
+use Rattle.nodejs_semver.proofs.Common.{cases_Bool, eqb-true, take_rest, list_all, begins, IsPieceAt, NoPieceAt}
+use Rattle.nodejs_semver.proofs.Common.{IsWholeNumber, Front}
+use Rattle.nodejs_semver.specs.Internal.Fronts.{number_front}
 use Rattle.nodejs_semver.specs.Internal.NpmReadings.{begins_padded, dotted_number, strict_number}
 use Rattle.nodejs_semver.specs.Npm.Grammar.{IsStrictNumber, has_leading_zero}
 use Rattle.nodejs_semver.proofs.Reading.Numbers.{front_none, front_some, number-found, number-read}
@@ -49,12 +45,7 @@ pub ruleset numbers_in = (front_missing, front_there)
 
 pub padded-same : (digits rest : List ℕ) → list_all is_ascii_digit digits ≡ true → begins is_ascii_digit rest ≡ false
     → begins_padded (digits ++ rest) ≡ has_leading_zero digits
-padded-same [] [] h k = refl
-padded-same [] (c ∷ []) h k = refl
-padded-same [] (c ∷ d ∷ rest) h k = grind arith
-padded-same (c ∷ []) [] h k = refl
-padded-same (c ∷ []) (d ∷ rest) h k = grind arith
-padded-same (c ∷ d ∷ digits) rest h k = grind arith
+padded-same digits rest h k = grind (arith, nat_tests, common_steps)
 
 pub record StrictNumberAt (limit : ℕ) (text : List ℕ) (n : ℕ) (rest : List ℕ) : Type 0 where
   pub digits : List ℕ
@@ -68,12 +59,7 @@ strict-found limit text n rest h = elim (cases_Bool (begins_padded text)) [
   | inl padded ↦ cc (rw padded at h)
   | inr other ↦
       let f = number-found limit text n rest (rw other at h) in
-      let e : begins_padded (f.run ++ rest) ≡ false = rw f.split at other in
-      record {
-        digits = f.run;
-        split = f.split;
-        is = record { number = f.is; shortest = sym (padded-same f.run rest f.is.each f.ended) ∙ e };
-      }
+      grind (arith, nat_tests, common_steps, padded-same)
 ]
 
 pub strict-read : (limit : ℕ) (digits rest : List ℕ) (n : ℕ) → IsStrictNumber limit digits n → begins is_ascii_digit rest ≡ false

@@ -1,8 +1,6 @@
 -- A text is one version at most, and has one list of alternatives at most.
-use Rattle.std.proofs.Common.{◌≡◌, ◌∙◌, ℕ, Bool, List, IsUtf8, ap, sym}
-use Rattle.std.proofs.lemmas.Option.{same_Some}
-use Rattle.semver_core.specs.Values.Versions.{VersionValue}
-use Rattle.semver_core.proofs.Text.Trims.{middle_is_trim}
+use Rattle.nodejs_semver.proofs.Common.{◌≡◌, ◌∙◌, ℕ, Bool, List, IsUtf8, ap, sym, same_Some, VersionValue}
+use Rattle.nodejs_semver.proofs.Common.{middle_is_trim}
 use Rattle.nodejs_semver.specs.Internal.NpmReadings.{strict_version}
 use Rattle.nodejs_semver.specs.Npm.Ranges.{HasAlternativesIn}
 use Rattle.nodejs_semver.specs.Npm.Table.{Comparison}

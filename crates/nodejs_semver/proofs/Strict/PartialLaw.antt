@@ -1,64 +1,54 @@
 -- Partial versions of node-semver's range texts: the function that reads them finds exactly what the statement has.
-use Rattle.nodejs_semver.proofs.Common.{Bool, ◌≡◌, ℕ, List, [], ◌∷◌, ◌++◌, drop, refl, sym, ap, ◌∙◌, arith, true, false, Some, None, Option, inl, inr}
-use Rattle.nodejs_semver.proofs.Common.{◌&&◌, and_parts, cases_Bool, nat_tests, append_assoc, begins, bind_some, is_ascii_digit, list_all, same_Some}
-use Rattle.nodejs_semver.proofs.Common.{subst, Id}
-use Rattle.semver_core.specs.Text.Identifiers.{goes_on, listed, pieces}
+use Rattle.nodejs_semver.proofs.Common.{common_steps, Bool, ◌≡◌, ℕ, List, ◌∷◌, ◌++◌, drop, refl, sym, ap, ◌∙◌, arith}
+use Rattle.nodejs_semver.proofs.Common.{true, false, Some, None, Option, inl, inr, ◌&&◌, and_parts, cases_Bool}
+use Rattle.nodejs_semver.proofs.Common.{nat_tests, append_assoc, begins, bind_some, is_ascii_digit, list_all, same_Some}
+use Rattle.nodejs_semver.proofs.Common.{subst, Id, pieces, Front}
+use Rattle.semver_core.specs.Text.Identifiers.{goes_on}
 use Rattle.semver_core.proofs.Text.Runs.{list_len_stop}
-use Rattle.nodejs_semver.specs.Internal.Fronts.{Front, begins_byte, build_front}
-use Rattle.nodejs_semver.specs.Internal.NpmWords.{pre_front}
-use Rattle.nodejs_semver.specs.Internal.NpmWords.{are_short_builds, are_short_identifiers, dotted_patch, dotted_place, partial_front, place_front}
-use Rattle.nodejs_semver.specs.Internal.NpmWords.{qualified_partial, second_front, third_front}
+use Rattle.nodejs_semver.specs.Internal.Fronts.{begins_byte, build_front}
+use Rattle.nodejs_semver.specs.Internal.NpmWords.{pre_front, are_short_builds, are_short_identifiers, dotted_patch}
+use Rattle.nodejs_semver.specs.Internal.NpmWords.{dotted_place, partial_front, place_front, qualified_partial}
+use Rattle.nodejs_semver.specs.Internal.NpmWords.{second_front, third_front}
 use Rattle.nodejs_semver.specs.Internal.Words.{is_boundary}
 use Rattle.nodejs_semver.specs.Npm.Grammar.{IsStrictBuild}
-use Rattle.nodejs_semver.specs.Npm.RangeText.{IsPartial, IsPlace, IsPreRelease, are_spelled, begins_undashed, has_zeros, is_short_build, is_short_identifier, one, partial_of, three, two, undashed}
+use Rattle.nodejs_semver.specs.Npm.RangeText.{IsPartial, IsPlace, IsPreRelease, are_spelled, begins_undashed, has_zeros}
+use Rattle.nodejs_semver.specs.Npm.RangeText.{is_short_build, is_short_identifier, one, partial_of, three, two}
+use Rattle.nodejs_semver.specs.Npm.RangeText.{undashed}
 use Rattle.nodejs_semver.specs.Npm.Table.{Partial}
 use Rattle.nodejs_semver.proofs.Reading.Bytes.{is_solid, solid-dark}
-use Rattle.nodejs_semver.proofs.Strict.Places.{dotted_patch-found, dotted_place-found, dotted_place-read, patch-read, place-found, place-read}
+use Rattle.nodejs_semver.proofs.Strict.Places.{dotted_patch-found, dotted_place-found, dotted_place-read, patch-read}
+use Rattle.nodejs_semver.proofs.Strict.Places.{place-found, place-read}
 use Rattle.nodejs_semver.proofs.Strict.Qualifiers.{Ends, build-found, build-taken, pre-follows, pre-found, pre-taken}
 
 -- ---- nothing goes on at a boundary
 
 pub boundary-quiet : (more : List ℕ) → is_boundary more ≡ true → begins is_solid more ≡ false
 unfolding is_boundary
-boundary-quiet [] h = refl
-boundary-quiet (b ∷ rest) h = elim (cases_Bool (begins is_solid (b ∷ rest))) [
-  | inl solid ↦ cc (rw (solid-dark (b ∷ rest) solid) at h)
-  | inr other ↦ other
-]
+boundary-quiet more h = grind (arith, nat_tests, common_steps, is_solid, solid-dark)
 
 quiet-on : (more : List ℕ) → begins is_solid more ≡ false → goes_on more ≡ false
-quiet-on [] h = refl
-quiet-on (b ∷ rest) h = grind (arith, nat_tests)
+quiet-on more h = grind (arith, nat_tests, common_steps)
 
 quiet-digit : (more : List ℕ) → begins is_solid more ≡ false → begins is_ascii_digit more ≡ false
 quiet-digit more h = grind (arith, nat_tests)
 
 quiet-letter : (more : List ℕ) → begins is_solid more ≡ false → begins_undashed more ≡ false
-quiet-letter [] h = refl
-quiet-letter (b ∷ more) h = grind (arith, nat_tests)
+quiet-letter more h = grind (arith, nat_tests, common_steps)
 
 quiet-byte : (c : ℕ) (more : List ℕ) → is_solid c ≡ true → begins is_solid more ≡ false → begins_byte c more ≡ false
 quiet-byte c more s h = grind (arith, nat_tests)
 
 quiet-ends : (more : List ℕ) → begins is_solid more ≡ false → Ends more
-quiet-ends more h = record {
-  run = list_len_stop more (quiet-on more h);
-  dash = quiet-byte 45 more refl h;
-  plus = quiet-byte 43 more refl h;
-  digit = quiet-digit more h;
-  letter = quiet-letter more h;
-  dot = quiet-byte 46 more refl h;
-}
+quiet-ends more h =
+    grind (arith, nat_tests, common_steps, list_len_stop, quiet-on, quiet-byte, quiet-digit, quiet-letter)
 
 quiet-patch : (loose zeros : Bool) (more : List ℕ) → begins is_solid more ≡ false → dotted_patch loose zeros more ≡ None
 unfolding dotted_patch
-quiet-patch loose zeros [] h = refl
-quiet-patch loose zeros (b ∷ rest) h = rw (quiet-byte 46 (b ∷ rest) refl h) refl
+quiet-patch loose zeros more h = grind (arith, nat_tests, common_steps)
 
 quiet-dot : (loose zeros : Bool) (more : List ℕ) → begins is_solid more ≡ false → dotted_place loose zeros more ≡ None
 unfolding dotted_place
-quiet-dot loose zeros [] h = refl
-quiet-dot loose zeros (b ∷ rest) h = rw (quiet-byte 46 (b ∷ rest) refl h) refl
+quiet-dot loose zeros more h = grind (arith, nat_tests, common_steps)
 
 -- ---- what is written is read
 
@@ -67,34 +57,16 @@ qualified-read : (loose : Bool) (a b c : Option ℕ) (pre build more : List ℕ)
     → list_all is_short_build (pieces (drop 1 build)) ≡ true → Ends more
     → qualified_partial loose a b c (pre ++ (build ++ more)) ≡ Some (partial_of a b c l m, more)
 unfolding qualified_partial
-qualified-read loose a b c pre build more l m h s k t e =
-    let front = pre-taken loose pre build more l m h k e in
-    let last = build-taken build more m k e in
-    rw (front.0, last.0, front.2, s, t, front.1, last.1) refl
+qualified-read loose a b c pre build more l m h s k t e = grind (arith, nat_tests, common_steps, pre-taken, build-taken)
 
 pub partial-read : (loose : Bool) (x more : List ℕ) (p : Partial) → IsPartial loose x p → begins is_solid more ≡ false
     → partial_front loose (x ++ more) ≡ Some (p, more)
 unfolding partial_front
 partial-read loose x more p (one x1 a h) quiet = rw (place-read loose false x more a h (quiet-digit more quiet), quiet-dot loose (has_zeros a) more quiet) refl
 partial-read loose x more p (two x1 y a b h k) quiet =
-    rw (
-      append_assoc x1 (46 ∷ y) more,
-      place-read loose false x1 (46 ∷ (y ++ more)) a h refl,
-      dotted_place-read loose (has_zeros a) y more b k (quiet-digit more quiet),
-      quiet-patch loose (has_zeros a) more quiet,
-    ) refl
+    grind (arith, nat_tests, common_steps, append_assoc, place-read, dotted_place-read, quiet-digit, quiet-patch)
 partial-read loose x more p (three x1 y z pre build a b c ids builds h k l m s n t) quiet =
-    let ends = quiet-ends more quiet in
-    let behind = pre ++ (build ++ more) in
-    let last = z ++ behind in
-    let whole : (x1 ++ 46 ∷ (y ++ 46 ∷ (z ++ (pre ++ build)))) ++ more ≡ x1 ++ (46 ∷ (y ++ (46 ∷ last))) = simp append_assoc refl in
-    rw (
-      whole,
-      place-read loose false x1 (46 ∷ (y ++ (46 ∷ last))) a h refl,
-      dotted_place-read loose (has_zeros a) y (46 ∷ last) b k refl,
-      patch-read loose (has_zeros a) z behind c l (pre-follows loose pre build more ids builds m n ends),
-      qualified-read loose a b c pre build more ids builds m s n t ends,
-    ) refl
+    grind (arith, quiet-ends, append_assoc, place-read, dotted_place-read, patch-read, pre-follows, qualified-read)
 
 -- ---- what is read is written
 
@@ -124,19 +96,7 @@ qualified-found loose a b c text p rest h =
           let shorts = and_parts (are_short_identifiers front.0) (are_short_builds last.0) parts.1 in
           let f = pre-found loose text parts.0 in
           let g = build-found front.1 in
-          let e = same_Some _ _ (rw good at h) in
-          record {
-            pre = f.0;
-            build = g.0;
-            ids = listed front.0;
-            builds = listed last.0;
-            split = f.1 ∙ ap (λ (t : List ℕ). f.0 ++ t) (g.1 ∙ ap (λ (q : Partial × List ℕ). g.0 ++ q.1) e);
-            pre_is = f.2;
-            pre_short = rw f.3 shorts.0;
-            build_is = g.2;
-            build_short = rw g.3 shorts.1;
-            same = ap (λ (q : Partial × List ℕ). q.0) e;
-          }
+          grind (arith, nat_tests, common_steps)
     ]
 
 pub record PartialAt (loose : Bool) (text : List ℕ) (p : Partial) (rest : List ℕ) : Type 0 where

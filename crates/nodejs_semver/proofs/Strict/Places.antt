@@ -1,43 +1,37 @@
 -- Places of node-semver's partial versions: what is read is written, and what is written is read.
-use Rattle.nodejs_semver.proofs.Common.{◌≡◌, ◌≤◌, ◌<◌, ◌+◌, ◌-◌, ◌||◌, ℕ, zero, suc, Bool, List, [], ◌∷◌, ◌++◌, length, drop, take, refl, sym, ap, ◌∙◌, arith}
-use Rattle.nodejs_semver.proofs.Common.{true, false, None, Some, Option, inl, inr, ◌&&◌, not, and_parts, cases_Bool, nat_tests, take_at, drop_at}
-use Rattle.nodejs_semver.proofs.Common.{begins, is_ascii_digit, list_all, same_Some, is_empty, MAX_SAFE_INTEGER, eqb-true}
-use Rattle.std.proofs.Common.{◌*◌}
+use Rattle.nodejs_semver.proofs.Common.{common_steps, ◌≡◌, ◌≤◌, ◌<◌, ◌+◌, ◌-◌, ◌||◌, ℕ, zero, suc, Bool, List, [], ◌∷◌}
+use Rattle.nodejs_semver.proofs.Common.{◌++◌, length, drop, take, refl, sym, ap, ◌∙◌, arith, true, false, None, Some}
+use Rattle.nodejs_semver.proofs.Common.{Option, inl, inr, ◌&&◌, not, and_parts, cases_Bool, nat_tests, take_at, drop_at}
+use Rattle.nodejs_semver.proofs.Common.{begins, is_ascii_digit, list_all, same_Some, is_empty, MAX_SAFE_INTEGER}
+use Rattle.nodejs_semver.proofs.Common.{eqb-true, ◌*◌, prefix_len, ◌==◌, take-append-drop, IsNumber}
 use Rattle.std.specs.Char.{digit_value}
-use Rattle.std.specs.List.{prefix_len}
-use Rattle.std.specs.Prelude.{◌==◌, nat_le, take_while}
+use Rattle.std.specs.Prelude.{nat_le, take_while}
 use Rattle.std.specs.Str.Parse.{digits_value, digits_value_after}
 use Rattle.std.proofs.Math.Seq.{drop-append-add}
-use Rattle.std.proofs.lemmas.List.{take-append-drop}
+use Rattle.std.proofs.Math.Bool.{and-false}
 use Rattle.std.proofs.lemmas.List.Sums.{prefix_len-drop_all, prefix_len-drop_no, prefix_len-drop_yes}
-use Rattle.semver_core.specs.Text.Numbers.{IsNumber}
 use Rattle.semver_core.proofs.Text.Pieces.{digits_grow}
 use Rattle.nodejs_semver.specs.Internal.Fronts.{begins_byte, begins_wildcard}
 use Rattle.nodejs_semver.specs.Internal.NpmWords.{dotted_patch, dotted_place, patch_place, place_front, run_place}
 use Rattle.nodejs_semver.specs.Npm.Grammar.{IsStrictNumber}
-use Rattle.nodejs_semver.specs.Npm.RangeText as Text
 use Rattle.nodejs_semver.specs.Npm.RangeText.{IsPlace, is_spelled, most_digits}
 use Rattle.nodejs_semver.proofs.Reading.Numbers.{digits-taken, number-no_wildcard}
 use Rattle.nodejs_semver.proofs.Strict.Qualifiers.{Follows}
+use Rattle.nodejs_semver.specs.Npm.RangeText as Text
 
 pub ruleset prefix_steps = (prefix_len-drop_all, prefix_len-drop_no, prefix_len-drop_yes)
 
 -- ---- what is written is read
 
 pub some-run : (run : List ℕ) → 1 ≤ length run → not (is_empty run) ≡ true
-some-run [] h = absurd (omega arith)
-some-run (c ∷ run) h = refl
+some-run run h = grind (arith, nat_tests, common_steps)
 
 run-read : (loose zeros : Bool) (digits more : List ℕ) → 0 < length digits → list_all is_ascii_digit digits ≡ true → length digits ≤ most_digits loose
     → is_spelled loose zeros (digits_value 10 digits) digits ≡ true → begins is_ascii_digit more ≡ false
     → run_place loose zeros (take_while is_ascii_digit (digits ++ more)) (drop (prefix_len is_ascii_digit (digits ++ more)) (digits ++ more))
     ≡ Some (Some (digits_value 10 digits), more)
 run-read loose zeros digits more some each short spelled stop =
-    let e : take_while is_ascii_digit (digits ++ more) ≡ digits = grind (arith, digits-taken, take_at, drop_at, nat_tests) in
-    let d : drop (prefix_len is_ascii_digit (digits ++ more)) (digits ++ more) ≡ more = grind (arith, digits-taken, take_at, drop_at, nat_tests) in
-    let there = some-run digits (omega (arith, some)) in
-    let fits : nat_le (length digits) (most_digits loose) ≡ true = grind (arith, nat_tests) in
-    rw (e, d, there, fits, spelled) refl
+    grind (arith, nat_tests, common_steps, digits-taken, take_at, drop_at, some-run)
 
 pub digits-begin : (digits : List ℕ) → 0 < length digits → list_all is_ascii_digit digits ≡ true → begins is_ascii_digit digits ≡ true
 digits-begin digits some each = grind arith
@@ -47,9 +41,7 @@ pub place-read : (loose zeros : Bool) (x more : List ℕ) (a : Option ℕ) → I
 unfolding place_front
 place-read loose zeros x more a (Text.any b h) stop = rw h refl
 place-read loose zeros x more a (Text.number digits n k spelled short) stop =
-    let dark = number-no_wildcard digits more (digits-begin digits k.some k.each) in
-    let written = ap (λ (m : ℕ). is_spelled loose zeros m digits) (sym k.value) ∙ spelled in
-    rw (dark, run-read loose zeros digits more k.some k.each short written stop, k.value) refl
+    grind (arith, nat_tests, common_steps, number-no_wildcard, digits-begin, run-read)
 
 pub dotted_place-read : (loose zeros : Bool) (x more : List ℕ) (a : Option ℕ) → IsPlace loose zeros x a → begins is_ascii_digit more ≡ false
     → dotted_place loose zeros (46 ∷ (x ++ more)) ≡ Some (a, more)
@@ -74,8 +66,7 @@ prefix-all p (c ∷ text) = elim (cases_Bool (p c)) [
 
 run-number : (run : List ℕ) → not (is_empty run) ≡ true → list_all is_ascii_digit run ≡ true
     → IsNumber (digits_value 10 run) run (digits_value 10 run)
-run-number [] h k = cc h
-run-number (c ∷ run) h k = record { some = omega arith; each = k; value = refl; safe = omega arith }
+run-number run h k = grind (arith, nat_tests, common_steps)
 
 run-found : (loose zeros : Bool) (run rest : List ℕ) (a : Option ℕ) (left : List ℕ) → run_place loose zeros run rest ≡ Some (a, left)
     → list_all is_ascii_digit run ≡ true → IsPlace loose zeros run a × (rest ≡ left)
@@ -141,9 +132,6 @@ digits-many_on (c ∷ digits) rest h =
 no-digit : (b : ℕ) → (b == 120 || b == 88 || b == 42) ≡ true → (is_ascii_digit b ≡ false) × ((b == 46) ≡ false)
 no-digit b h = (grind (arith, nat_tests), grind (arith, nat_tests))
 
-and-none : (b : Bool) → (b && false) ≡ false
-and-none b = grind arith
-
 wild-read : (loose zeros : Bool) (b : ℕ) (rest : List ℕ) → (b == 120 || b == 88 || b == 42) ≡ true
     → place_front loose zeros (b ∷ rest) ≡ Some (None, rest)
 unfolding place_front
@@ -152,29 +140,14 @@ wild-read loose zeros b rest h = rw h refl
 pub patch-read : (loose zeros : Bool) (x rest : List ℕ) (a : Option ℕ) → IsPlace loose zeros x a → Follows loose rest
     → dotted_patch loose zeros (46 ∷ (x ++ rest)) ≡ Some (a, rest)
 unfolding dotted_patch patch_place
-patch-read loose zeros x rest a (Text.any b h) f =
-    let dark = no-digit b h in
-    rw (dark.0, dark.1, and-none loose) (wild-read loose zeros b rest h)
+patch-read loose zeros x rest a (Text.any b h) f = grind (arith, nat_tests, common_steps, no-digit, and-false, wild-read)
 patch-read loose zeros x rest a (Text.number digits n k spelled short) (inl stop) =
     let len : prefix_len is_ascii_digit (digits ++ rest) ≡ length digits = digits-taken digits rest k.each stop.0 in
     let e : drop (length digits) (digits ++ rest) ≡ rest = drop_at digits rest (length digits) refl in
     let read = place-read loose zeros digits rest (Some n) (Text.number digits n k spelled short) stop.0 in
-    rw (len, e, stop.1, and-none loose) read
+    rw (len, e, stop.1, and-false loose) read
 patch-read loose zeros x rest a (Text.number digits n k spelled short) (inr lone) =
-    let c = lone.0 in
-    let behind = 46 ∷ lone.1 in
-    let one : prefix_len is_ascii_digit rest ≡ 1 = rw (lone.2, lone.3) refl in
-    let len : prefix_len is_ascii_digit (digits ++ rest) ≡ length digits + 1 = rw one at (digits-many_on digits rest k.each) in
-    let e : drop (length digits + 1) (digits ++ rest) ≡ behind = rw lone.2 (drop-append-add digits (c ∷ behind) 1) in
-    let cut : (loose && begins_byte 46 (drop (prefix_len is_ascii_digit (digits ++ rest)) (digits ++ rest))) ≡ true =
-    rw (len, e, lone.4) refl in
-    let less : length digits + 1 - 1 ≡ length digits = omega arith in
-    let own : take (length digits) (digits ++ rest) ≡ digits = take_at digits rest (length digits) refl in
-    let left : drop (length digits) (digits ++ rest) ≡ rest = drop_at digits rest (length digits) refl in
-    let there = some-run digits (omega (arith, k.some)) in
-    let fits : nat_le (length digits) (most_digits loose) ≡ true = grind (arith, nat_tests) in
-    let written = ap (λ (m : ℕ). is_spelled loose zeros m digits) (sym k.value) ∙ spelled in
-    rw (cut, len, less, own, left, there, fits, written, k.value) refl
+    grind (arith, nat_tests, common_steps, digits-many_on, drop-append-add, take_at, drop_at, some-run)
 
 pub dotted_patch-found : (loose zeros : Bool) (text : List ℕ) (a : Option ℕ) (rest : List ℕ) → dotted_patch loose zeros text ≡ Some (a, rest)
     → (x : List ℕ) × (text ≡ 46 ∷ (x ++ rest)) × IsPlace loose zeros x a
@@ -211,11 +184,7 @@ unfolding tens
 digits-many zero v d h = digits_grow v d
 digits-many (suc k) v [] h = absurd (omega arith)
 digits-many (suc k) v (c ∷ d) h =
-    omega (
-      arith,
-      digits-many k (v * 10 + digit_value c) d (omega arith),
-      tens-mono k (v * 10) (v * 10 + digit_value c) (omega arith),
-    )
+    grind (arith, nat_tests, common_steps, tens-mono, digits-many k (v * 10 + digit_value c) d (omega arith))
 
 some-digit : (c : ℕ) → is_ascii_digit c ≡ true → (c == 48) ≡ false → 1 ≤ digit_value c
 some-digit c h k = grind (arith, nat_tests)

@@ -1,18 +1,16 @@
 -- How long versions print, and which one prints `0.0.0`.
-use Rattle.nodejs_semver.proofs.Common.{◌≡◌, ◌≤◌, ◌<◌, ◌+◌, ◌&&◌, ◌==◌, refl, sym, ◌∙◌, ℕ, Bool, true, false, List, [], ◌∷◌, ◌++◌}
-use Rattle.nodejs_semver.proofs.Common.{length, length-append, arith, Id, VersionValue, is_release, is_empty, and_parts}
-use Rattle.nodejs_semver.proofs.Common.{list_all, is_ascii_digit, MAX_SAFE_INTEGER, nat_tests}
-use Rattle.nodejs_semver.proofs.Common.{eqb-true, ◌||◌}
-use Rattle.std.specs.Fmt.{decimal}
-use Rattle.std.specs.Prelude.{◌^◌, codes, nat_le}
+use Rattle.nodejs_semver.proofs.Common.{common_steps, ◌≡◌, ◌≤◌, ◌<◌, ◌+◌, ◌&&◌, sym, ◌∙◌, ℕ, Bool, true, List, [], ◌∷◌}
+use Rattle.nodejs_semver.proofs.Common.{◌++◌, length, length-append, arith, Id, VersionValue, is_release, and_parts}
+use Rattle.nodejs_semver.proofs.Common.{list_all, is_ascii_digit, MAX_SAFE_INTEGER, nat_tests, eqb-true, decimal}
+use Rattle.nodejs_semver.proofs.Common.{◌^◌, codes, Numeric, empty_is}
+use Rattle.std.specs.Prelude.{nat_le}
 use Rattle.std.specs.Str.{bytes_eq}
 use Rattle.std.proofs.lemmas.Slice.Eq.{bytes_eq-Decides}
+use Rattle.std.specs.Cmp.{both_ways}
 use Rattle.std.proofs.lemmas.Fmt.{decimal_digit, decimal_injective, length-decimal-le}
 use Rattle.semver_core.proofs.Printing.Returns.{decimal_digits, decimal_some}
 use Rattle.semver_core.specs.Printing.Text.{id_text, marked_list, version_text}
-use Rattle.semver_core.specs.Text.Identifiers.{Numeric}
 use Rattle.semver_core.specs.declared.TheConstants.{MAX_LENGTH}
-use Rattle.nodejs_semver.proofs.Algebra.FlatMaps.{empty_is}
 use Rattle.nodejs_semver.specs.Internal.NpmMeaning.{is_zero}
 use Rattle.nodejs_semver.specs.Internal.NpmParts.{within}
 use Rattle.nodejs_semver.specs.Npm.Ranges.{is_valid}
@@ -22,23 +20,14 @@ use Rattle.nodejs_semver.specs.Npm.Table.{Numbers, first, from, lowest, no_build
 
 pub marked_more : (x : Id) (xs : List Id)
     → length (marked_list (45 ∷ []) (x ∷ xs)) ≡ 1 + length (id_text x) + length (marked_list (45 ∷ []) xs)
-marked_more x [] = omega arith
-marked_more x (y ∷ ys) = grind (arith, length-append)
+marked_more x xs = grind (arith, nat_tests, common_steps)
 
 decimal_short : (n : ℕ) → n ≤ MAX_SAFE_INTEGER → length (decimal n) ≤ 16
 decimal_short n h = length-decimal-le 16 n (omega arith) (omega arith) (omega arith)
 
 -- what numbers up to the limit print, with the dots between them
 pub numbers_short : (n : Numbers) → within n ≡ true → length (decimal n.0) + length (decimal n.1) + length (decimal n.2) + 2 ≤ 50
-numbers_short n h =
-    let (first, third) = and_parts (nat_le n.0 MAX_SAFE_INTEGER && nat_le n.1 MAX_SAFE_INTEGER) (nat_le n.2 MAX_SAFE_INTEGER) h in
-    let (a, b) = and_parts (nat_le n.0 MAX_SAFE_INTEGER) (nat_le n.1 MAX_SAFE_INTEGER) first in
-    omega (
-      arith,
-      decimal_short n.0 (grind (arith, nat_tests)),
-      decimal_short n.1 (grind (arith, nat_tests)),
-      decimal_short n.2 (grind (arith, nat_tests)),
-    )
+numbers_short n h = grind (arith, nat_tests, common_steps, and_parts, decimal_short)
 
 pub text_length : (v : VersionValue) → length (version_text (no_build v))
     ≡ (length (decimal v.major) + length (decimal v.minor) + length (decimal v.patch) + 2) + length (marked_list (45 ∷ []) v.pre_release)
@@ -64,45 +53,23 @@ zero_from : (n : ℕ) → n < 2 ^ 64 → decimal n ≡ 48 ∷ [] → n ≡ 0
 zero_from n h e = decimal_injective n 0 h (omega arith) (e ∙ sym (decimal_digit 0 (omega arith)))
 
 front_zero : (n : ℕ) (rest t : List ℕ) → n < 2 ^ 64 → decimal n ++ 46 ∷ rest ≡ 48 ∷ (46 ∷ t) → (n ≡ 0) × (rest ≡ t)
-front_zero n rest t h e =
-    let (digit, same) = front_digit (decimal n) rest t (decimal_digits n h) (decimal_some n h) e in (zero_from n h digit, same)
+front_zero n rest t h e = grind (arith, nat_tests, common_steps, front_digit, decimal_digits, decimal_some, zero_from)
 
 unmarked : (ids builds : List Id) → marked_list (45 ∷ []) ids ++ marked_list (43 ∷ []) builds ≡ [] → (ids ≡ []) × (builds ≡ [])
-unmarked [] [] e = (refl, refl)
-unmarked [] (y ∷ ys) e = cc
-unmarked (x ∷ xs) ys e = cc
+unmarked ids builds e = grind (arith, nat_tests, common_steps)
 
 zero_parts : (v : VersionValue) → v.major < 2 ^ 64 → v.minor < 2 ^ 64 → v.patch < 2 ^ 64 → version_text v ≡ codes "0.0.0"
     → is_zero v ≡ true
-zero_parts v a b c e =
-    let (major, second) = front_zero v.major _ _ a e in
-    let (minor, third) = front_zero v.minor _ _ b second in
-    let (digit, none) = last_digit (decimal v.patch) _ (decimal_some v.patch c) third in
-    let (pre, build) = unmarked v.pre_release v.build none in
-    rw (major, minor, zero_from v.patch c digit, pre, build) refl
+zero_parts v a b c e = grind (arith, nat_tests, common_steps, front_zero, last_digit, decimal_some, unmarked, zero_from)
 
 zero_text : (v : VersionValue) → is_zero v ≡ true → version_text v ≡ codes "0.0.0"
-zero_text v h =
-    let (major, behind_major) = and_parts (v.major == 0) _ h in
-    let (minor, behind_minor) = and_parts (v.minor == 0) _ behind_major in
-    let (patch, lists) = and_parts (v.patch == 0) _ behind_minor in
-    let (pre, build) = and_parts (is_release v) (is_empty v.build) lists in
-    rw (eqb-true _ _ major, eqb-true _ _ minor, eqb-true _ _ patch, empty_is v.pre_release pre, empty_is v.build build)
-    (rw (decimal_digit 0 (omega arith)) refl)
-
-same_tests : (a b : Bool) → (a ≡ true → b ≡ true) → (b ≡ true → a ≡ true) → a ≡ b
-same_tests a b f g = grind arith
+zero_text v h = grind (arith, nat_tests, common_steps, and_parts, eqb-true, empty_is, decimal_digit)
 
 pub prints_zero : (v : VersionValue) → v.major < 2 ^ 64 → v.minor < 2 ^ 64 → v.patch < 2 ^ 64
     → bytes_eq (version_text v) (codes "0.0.0") ≡ is_zero v
-prints_zero v a b c =
-    let law = bytes_eq-Decides (version_text v) (codes "0.0.0") in
-    same_tests _ (is_zero v) (λ e. zero_parts v a b c (law.0 e)) (λ e. law.1 (zero_text v e))
+prints_zero v a b c = grind (arith, nat_tests, common_steps, bytes_eq-Decides, both_ways, zero_parts, zero_text)
 
 -- ---- what is valid
-
-either_true : (a : Bool) → (a || true) ≡ true
-either_true a = grind arith
 
 release_short : (n : Numbers) → within n ≡ true → nat_le (length (version_text (release n))) MAX_LENGTH ≡ true
 release_short n h = grind (arith, nat_tests, text_length (release n), numbers_short n h)
@@ -114,8 +81,7 @@ valid_if : (a b : Bool) → (a ≡ true → b ≡ true) → (a && b) ≡ a
 valid_if a b f = grind arith
 
 pub from_valid : (include : Bool) (n : Numbers) → is_valid MAX_SAFE_INTEGER (from include n) ≡ within n
-from_valid true n = valid_if (within n) _ (lowest_short n)
-from_valid false n = valid_if (within n) _ (release_short n)
+from_valid include n = grind (arith, nat_tests, common_steps, valid_if, lowest_short, release_short)
 
 pub under_valid : (n : Numbers) → is_valid MAX_SAFE_INTEGER (under n) ≡ within n
 under_valid n = valid_if (within n) _ (lowest_short n)

@@ -1,19 +1,20 @@
 -- The pre-release and the build behind the numbers: what is read is written, and what is written is read.
-use Rattle.std.proofs.Common.{◌≡◌, ◌&&◌, ◌||◌, ◌==◌, ◌⊎◌, ℕ, suc, Bool, subst, List, [], ◌∷◌, ◌++◌, drop, take, refl, sym, ap, ◌∙◌, arith, true, false, inl, inr}
-use Rattle.std.specs.Char.{is_ascii_digit}
-use Rattle.std.proofs.lemmas.Bool.{and_parts, cases_Bool, eqb-true}
-use Rattle.std.proofs.lemmas.Bool.Decides.{nat_tests}
-use Rattle.std.proofs.lemmas.List.{take-append-drop}
-use Rattle.semver_core.specs.Text.Characters.{begins, is_identifier_char}
-use Rattle.semver_core.specs.Text.Identifiers.{Id, IsIdentifiers, goes_on, listed}
+use Rattle.std.proofs.Math.Bool.{and-false, or-true}
+use Rattle.nodejs_semver.proofs.Common.{common_steps, ◌≡◌, ◌&&◌, ◌||◌, ◌==◌, ◌⊎◌, ℕ, suc, Bool, subst, List, [], ◌∷◌}
+use Rattle.nodejs_semver.proofs.Common.{◌++◌, drop, take, refl, sym, ap, ◌∙◌, arith, true, false, inl, inr}
+use Rattle.nodejs_semver.proofs.Common.{is_ascii_digit, and_parts, cases_Bool, nat_tests, take-append-drop, begins}
+use Rattle.nodejs_semver.proofs.Common.{is_identifier_char, Id, IsIdentifiers, begins_identifier}
+use Rattle.semver_core.specs.Text.Identifiers.{goes_on, listed}
 use Rattle.semver_core.specs.Internal.Reading.{list_len}
-use Rattle.nodejs_semver.specs.Internal.Fronts.{begins_byte, begins_identifier, build_front, pre_release_front}
+use Rattle.nodejs_semver.specs.Internal.Fronts.{begins_byte, build_front, pre_release_front}
 use Rattle.nodejs_semver.specs.Internal.NpmReadings.{dashed_front, is_strict_list}
 use Rattle.nodejs_semver.specs.Internal.NpmWords.{pre_front}
-use Rattle.nodejs_semver.specs.Npm.Grammar as Grammar
 use Rattle.nodejs_semver.specs.Npm.Grammar.{IsStrictBuild, IsStrictPreRelease, no_build, plus}
-use Rattle.nodejs_semver.specs.Npm.RangeText.{IsPreRelease, are_spelled, bare, begins_undashed, dashed, is_letter, no_pre_release, undashed}
-use Rattle.nodejs_semver.proofs.Reading.IdentifierLists.{front-identifiers, written-begins, written-exact, written-spelled}
+use Rattle.nodejs_semver.specs.Npm.RangeText.{IsPreRelease, are_spelled, bare, begins_undashed, dashed, is_letter}
+use Rattle.nodejs_semver.specs.Npm.RangeText.{no_pre_release, undashed}
+use Rattle.nodejs_semver.proofs.Reading.IdentifierLists.{front-identifiers, written-begins, written-exact}
+use Rattle.nodejs_semver.proofs.Reading.IdentifierLists.{written-spelled}
+use Rattle.nodejs_semver.specs.Npm.Grammar as Grammar
 
 -- ---- what is read is written
 
@@ -87,8 +88,7 @@ build-quiet b more l (plus t list h) e = (refl, refl, refl)
 
 pub quiet-behind : (p b more : List ℕ) (l m : List Id) → IsStrictPreRelease p l → IsStrictBuild b m → Ends more
     → begins is_ascii_digit (p ++ (b ++ more)) ≡ false
-quiet-behind p b more l m Grammar.no_pre_release k e = (build-quiet b more m k e).2
-quiet-behind p b more l m (Grammar.dashed t list h s) k e = refl
+quiet-behind p b more l m h k e = grind (arith, nat_tests, common_steps)
 
 pub build-taken : (b more : List ℕ) (l : List Id) → IsStrictBuild b l → Ends more
     → (build_front (b ++ more) ≡ (drop 1 b, more)) × (listed (drop 1 b) ≡ l)
@@ -111,14 +111,10 @@ dashed-taken p b more l m (Grammar.dashed t list h s) k e =
 -- ---- the pre-releases of range texts
 
 letter-first : (text : List ℕ) → begins_undashed text ≡ true → (begins_byte 45 text ≡ false) × (begins_identifier text ≡ true)
-letter-first [] h = cc h
-letter-first (b ∷ text) h = (grind (arith, nat_tests), grind (arith, nat_tests))
+letter-first text h = grind (arith, nat_tests, common_steps)
 
 letter-on : (text more : List ℕ) → begins_undashed text ≡ true → begins_undashed (text ++ more) ≡ true
-letter-on [] more h = cc h
-letter-on (b ∷ []) more h = grind arith
-letter-on (b ∷ c ∷ []) more h = grind arith
-letter-on (b ∷ c ∷ d ∷ text) more h = h
+letter-on text more h = grind (arith, nat_tests, common_steps)
 
 or-right : (a b : Bool) → (a || b) ≡ true → a ≡ false → b ≡ true
 or-right a b h k = grind arith
@@ -137,30 +133,17 @@ letter-take (b ∷ text) h = elim (cases_Bool (is_letter b)) [
     lone : (text : List ℕ) → is_identifier_char b ≡ true
         → (is_ascii_digit b && (begins_byte 46 text && begins_identifier (drop 1 text))) ≡ true
         → begins_undashed (take (list_len (b ∷ text)) (b ∷ text)) ≡ true
-    lone [] some k = absurd (none (is_ascii_digit b) k)
-      where
-        none : (a : Bool) → (a && false) ≡ true → ⊥
-        none a k = grind arith
-    lone (c ∷ []) some k = absurd (none (is_ascii_digit b) (c == 46) k)
-      where
-        none : (a d : Bool) → (a && (d && false)) ≡ true → ⊥
-        none a d k = grind arith
+    lone [] some k = grind (arith, nat_tests, common_steps)
+    lone (c ∷ []) some k = grind (arith, nat_tests, common_steps)
     lone (c ∷ d ∷ text) some k =
         let digit = and_parts (is_ascii_digit b) _ k in
         let dot = and_parts (c == 46) (is_identifier_char d) digit.1 in
         let goes : goes_on (c ∷ d ∷ text) ≡ true = rw (dot.0, dot.1) (or-true (is_identifier_char c)) in
         let three : list_len (b ∷ c ∷ d ∷ text) ≡ suc (suc (suc (list_len text))) = rw (some, goes, dot.1) (omega arith) in
         rw three (rw k (or-true (is_letter b)))
-      where
-        or-true : (a : Bool) → (a || true) ≡ true
-        or-true a = grind arith
-
-and-none : (b : Bool) → (b && false) ≡ false
-and-none b = grind arith
 
 spelled-nil : (loose : Bool) → are_spelled loose [] ≡ true
-spelled-nil true = refl
-spelled-nil false = refl
+spelled-nil loose = grind (arith, nat_tests, common_steps)
 
 undashed-bare : (text : List ℕ) → begins_byte 45 text ≡ false → undashed text ≡ text
 undashed-bare text h = rw h refl
@@ -217,9 +200,7 @@ unfolding pre_front
 pre-found false text h = dashed_front-found false text h
 pre-found true text h = elim (cases_Bool (begins_undashed text)) [
   | inr other ↦ rw other (dashed_front-found true text (rw other at h))
-  | inl letter ↦
-      let e = letter_front text letter in
-      rw (letter, e) (without-dash text letter (rw (letter, e) at h))
+  | inl letter ↦ grind (arith, nat_tests, common_steps, letter_front, without-dash)
 ]
 
 -- build metadata, or nothing, begins with no letter
@@ -251,9 +232,7 @@ pre-follows loose p b more l m (bare t list x f h s) k e = go t f
     behind : (c : ℕ) (t : List ℕ) → is_ascii_digit c ≡ true → (begins_byte 46 t && begins_identifier (drop 1 t)) ≡ true
         → Follows loose (c ∷ (t ++ (b ++ more)))
     behind c [] digit h = cc h
-    behind c (d ∷ t) digit h =
-        let dot = (and_parts (d == 46) _ h).0 in
-        inr (c, t ++ (b ++ more), rw (eqb-true d 46 dot) refl, digit, x)
+    behind c (d ∷ t) digit h = grind (arith, nat_tests, common_steps)
 
     go : (t : List ℕ) → begins_undashed t ≡ true → Follows loose (t ++ (b ++ more))
     go [] f = cc f
@@ -280,11 +259,11 @@ pub pre-taken : (loose : Bool) (p b more : List ℕ) (l m : List Id) → IsPreRe
     → PreTaken loose p (b ++ more) l
 unfolding pre_front dashed_front pre_release_front listed
 pre-taken loose p b more l m no_pre_release k e =
-    (rw (build-letter b more m k e, and-none loose, (build-quiet b more m k e).1) refl, refl, spelled-nil loose)
+    (rw (build-letter b more m k e, and-false loose, (build-quiet b more m k e).1) refl, refl, spelled-nil loose)
 pre-taken loose p b more l m (dashed t list h s) k e =
     let begins = written-begins t (b ++ more) list h in
     let exact = written-exact t (b ++ more) list h (build-quiet b more m k e).0 in
-    (rw (and-none loose, begins, exact) refl, written-spelled t list h, s)
+    (rw (and-false loose, begins, exact) refl, written-spelled t list h, s)
 pre-taken loose p b more l m (bare t list x f h s) k e =
     let read : PreTaken true t (b ++ more) list = bare-taken t (b ++ more) list f h (rw x at s) (build-quiet b more m k e).0 in
     subst (λ (r : Bool). PreTaken r t (b ++ more) list) (sym x) read

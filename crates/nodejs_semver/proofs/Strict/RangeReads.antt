@@ -1,25 +1,23 @@
 -- The alternatives of a range text, read one after another.
-use Rattle.nodejs_semver.proofs.Common.{◌≡◌, ◌<◌, ◌≤◌, ◌+◌, ℕ, Bool, List, [], ◌∷◌, ◌++◌, length, refl, sym, ap, ◌∙◌, arith, true, false, subst, IsUtf8}
-use Rattle.nodejs_semver.proofs.Common.{Some, None, Option, append_assoc, append-nil, flat_map, length-append, option_to_list, Span, VersionValue, MAX_SAFE_INTEGER}
-use Rattle.nodejs_semver.proofs.Common.{◌&&◌, not, is_empty, IsCutAtBars, bind_some, if◌then◌else◌, cases_Bool, cond_some, inl, inr, list_all, map, trim}
-use Rattle.std.proofs.Common.{Err, Ok, Result}
-use Rattle.semver_core.specs.Failures.{MemoryOnlyIf, NoValue, RefusedOnlyIf}
-use Rattle.semver_core.specs.declared.error.Failure.{Failure}
-use Rattle.semver_core.specs.declared.error.Failure.TheVariants.{Memory, Refused}
+use Rattle.nodejs_semver.proofs.Common.{common_steps, nat_tests, ◌≡◌, ◌<◌, ◌≤◌, ◌+◌, ℕ, Bool, List, [], ◌∷◌, ◌++◌}
+use Rattle.nodejs_semver.proofs.Common.{length, refl, sym, ap, ◌∙◌, arith, true, false, subst, IsUtf8, Some, None}
+use Rattle.nodejs_semver.proofs.Common.{Option, append_assoc, append-nil, flat_map, length-append, option_to_list, Span}
+use Rattle.nodejs_semver.proofs.Common.{VersionValue, MAX_SAFE_INTEGER, ◌&&◌, not, is_empty, IsCutAtBars, if◌then◌else◌}
+use Rattle.nodejs_semver.proofs.Common.{cases_Bool, cond_some, inl, inr, list_all, Err, Ok, Result, MemoryOnlyIf}
+use Rattle.nodejs_semver.proofs.Common.{Failure, Memory, Refused, later_parts, parts, is_range_span}
+use Rattle.semver_core.specs.Failures.{NoValue, RefusedOnlyIf}
 use Rattle.semver_core.specs.Internal.Reading.{◌>>?◌}
 use Rattle.nodejs_semver.specs.Internal.NpmAlternatives.{AcceptAsRanged, AreNarrowed}
 use Rattle.nodejs_semver.specs.Internal.NpmMeaning.{IsNarrowed}
-use Rattle.nodejs_semver.specs.Internal.NpmReads.{AddsOne, AddsPart, AreAllFound, AreFound, IsFound, some_only, valid_alternative, valid_alternatives, valid_range}
+use Rattle.nodejs_semver.specs.Internal.NpmReads.{AddsOne, AddsPart, AreAllFound, AreFound, IsFound, valid_alternative}
+use Rattle.nodejs_semver.specs.Internal.NpmReads.{valid_alternatives, valid_range}
 use Rattle.nodejs_semver.specs.Internal.NpmWords.{alternative_of, alternatives_of, kept, valid_only}
 use Rattle.nodejs_semver.specs.Npm.Malformed.{begins_malformed, ends_malformed}
 use Rattle.nodejs_semver.specs.Npm.RangeText.{is_lost}
-use Rattle.nodejs_semver.specs.Internal.PartFronts.{later_parts}
-use Rattle.nodejs_semver.specs.Internal.Parts.{cut_bars, parts}
 use Rattle.nodejs_semver.specs.Npm.Ranges.{HasAlternativesIn, IsRangeIn, is_valid}
 use Rattle.nodejs_semver.specs.Npm.Table.{Comparison}
 use Rattle.nodejs_semver.specs.declared.npm.alternatives.Alternative.{Alternative}
 use Rattle.nodejs_semver.proofs.Dividing.BarsDivide.{bars_once}
-use Rattle.nodejs_semver.specs.Internal.Sets.{is_range_span}
 use Rattle.nodejs_semver.proofs.Strict.Alternatives.{found_spans}
 use Rattle.nodejs_semver.proofs.Strict.RangesLaw.{alternatives_are}
 
@@ -34,9 +32,7 @@ narrowed-append include (c ∷ ls) (p ∷ os) cs o h k = (h.0, narrowed-append i
 
 flat-append : (os : List (Option (Span VersionValue))) (o : Option (Span VersionValue))
     → flat_map option_to_list (os ++ o ∷ []) ≡ flat_map option_to_list os ++ option_to_list o
-flat-append [] o = append-nil (option_to_list o)
-flat-append (p ∷ os) o = ap (λ (l : List (Span VersionValue)). option_to_list p ++ l) (flat-append os o)
-    ∙ sym (append_assoc (option_to_list p) (flat_map option_to_list os) (option_to_list o))
+flat-append os o = grind (arith, nat_tests, common_steps)
 
 same-end : (loose : Bool) (text : List ℕ) (a : Alternative) (cs : List Comparison) → a.is_bare ≡ is_empty cs
     → (loose && (a.is_bare && (begins_malformed text && ends_malformed text))) ≡ is_lost loose text cs
@@ -47,13 +43,7 @@ pub part-lost : (loose : Bool) (include : Bool) (text : List ℕ) (a : Alternati
     → IsFound include (valid_alternative loose include text) (Some a)
     → (loose && (a.is_bare && (begins_malformed text && ends_malformed text))) ≡ true
     → AddsPart loose include text (valid_alternative loose include text) was was before before
-part-lost loose include text a was before h l = go (valid_alternative loose include text) h
-  where
-    go : (o : Option (List Comparison)) → IsFound include o (Some a) → AddsPart loose include text o was was before before
-    go None k = absurd k
-    go (Some cs) k =
-        let lost : is_lost loose text cs ≡ true = sym (same-end loose text a cs k.1) ∙ l in
-        rw lost (refl, refl)
+part-lost loose include text a was before h l = grind (arith, nat_tests, common_steps)
 
 pub part-added : (loose : Bool) (include : Bool) (text : List ℕ) (a : Alternative) (was : Bool) (before after : List (Span VersionValue))
     → IsFound include (valid_alternative loose include text) (Some a)
@@ -76,11 +66,7 @@ part-added loose include text a was before after h l e = go (valid_alternative l
         )
 
 pub none-found : (loose : Bool) (include : Bool) (text : List ℕ) → IsFound include (valid_alternative loose include text) None → valid_alternative loose include text ≡ None
-none-found loose include text h = go (valid_alternative loose include text) h
-  where
-    go : (o : Option (List Comparison)) → IsFound include o None → o ≡ None
-    go None k = refl
-    go (Some cs) k = absurd k
+none-found loose include text h = grind (arith, nat_tests, common_steps)
 
 -- ---- the alternatives, up to a rest of the text
 
@@ -92,22 +78,8 @@ pub record AreReadTo (loose : Bool) (include : Bool) (text : List ℕ) (is_some 
   pub count : length read + length (later_parts rest) ≤ length (parts text)
   pub some : is_some ≡ not (is_empty read)
 
-pub read-none : (loose : Bool) (include : Bool) (text : List ℕ) → AreReadTo loose include text false [] (Some text)
-read-none loose include text = record {
-  read = [];
-  are = record { intervals = []; narrowed = tt; are = refl };
-  same = whole (valid_alternatives loose include (parts text));
-  count = omega arith;
-  some = refl;
-}
-  where
-    whole : (o : Option (List (List Comparison))) → o ≡ (o >>? λ ls. Some ([] ++ ls))
-    whole None = refl
-    whole (Some ls) = refl
-
 some-end : (ls : List (List Comparison)) (cs : List Comparison) → true ≡ not (is_empty (ls ++ cs ∷ []))
-some-end [] cs = refl
-some-end (l ∷ ls) cs = refl
+some-end ls cs = grind (arith, nat_tests, common_steps)
 
 alternatives-step : (loose : Bool) (include : Bool) (part : List ℕ) (others : List (List ℕ)) → valid_alternatives loose include (part ∷ others)
     ≡ (valid_alternative loose include part >>? λ cs. valid_alternatives loose include others >>? λ rest. Some (kept loose part cs rest))
@@ -118,8 +90,7 @@ alternatives-step loose include part others = refl
 rest-step : (loose : Bool) (include : Bool) (rest part : List ℕ) (behind : Option (List ℕ)) (o : Option (List Comparison))
     → part ∷ later_parts behind ≡ parts rest → valid_alternative loose include part ≡ o → valid_alternatives loose include (parts rest)
     ≡ (o >>? λ cs. valid_alternatives loose include (later_parts behind) >>? λ ls. Some (kept loose part cs ls))
-rest-step loose include rest part behind o e d =
-    ap (λ (l : List (List ℕ)). valid_alternatives loose include l) (sym e) ∙ alternatives-step loose include part (later_parts behind) ∙ rw d refl
+rest-step loose include rest part behind o e d = grind (arith, nat_tests, common_steps, alternatives-step)
 
 -- one part more
 pub read-part : (loose : Bool) (include : Bool) (text : List ℕ) (was is : Bool) (found after : List (Span VersionValue)) (rest : List ℕ) (part : List ℕ)
@@ -175,8 +146,7 @@ read-refused loose (Ok v) include text was found rest part behind h e k = tt
 read-refused loose (Err (Memory x)) include text was found rest part behind h e k = tt
 read-refused loose (Err (Refused x)) include text was found rest part behind h e k =
     let step : valid_alternatives loose include (parts rest) ≡ None = rest-step loose include rest part behind None e k in
-    let whole : valid_alternatives loose include (parts text) ≡ None = h.same ∙ rw step refl in
-    rw whole refl
+    grind (arith, nat_tests, common_steps)
 
 all-read : (loose : Bool) (include : Bool) (text : List ℕ) (is_some : Bool) (found : List (Span VersionValue)) (h : AreReadTo loose include text is_some found None)
     → valid_alternatives loose include (parts text) ≡ Some h.read
@@ -207,27 +177,7 @@ narrowed-length include [] (p ∷ os) h = absurd h
 narrowed-length include (c ∷ ls) [] h = absurd h
 narrowed-length include (c ∷ ls) (p ∷ os) h = omega (arith, narrowed-length include ls os h.1)
 
-pub two-parts : (loose : Bool) (include : Bool) (text : List ℕ) (was : Bool) (found : List (Span VersionValue)) (rest : List ℕ) (part : List ℕ)
-    (behind : Option (List ℕ)) → AreReadTo loose include text was found (Some rest) → part ∷ later_parts behind ≡ parts rest
-    → 0 < length found → 1 < length (parts text)
-two-parts loose include text was found rest part behind h e some =
-    omega (
-      arith,
-      h.count,
-      ap length e,
-      some,
-      ap length h.are.are,
-      short-flat h.are.intervals,
-      narrowed-length include h.read h.are.intervals h.are.narrowed,
-    )
-
 -- ---- the range of a text
-
--- an alternative that is lost has no comparators, and so none that is not valid
-lost-valid : (loose : Bool) (text : List ℕ) (cs : List Comparison) → is_lost loose text cs ≡ true → list_all (is_valid MAX_SAFE_INTEGER) cs ≡ true
-lost-valid loose text [] h = refl
-lost-valid true text (c ∷ cs) h = cc h
-lost-valid false text (c ∷ cs) h = cc h
 
 all-valid : (loose : Bool) (include : Bool) (texts : List (List ℕ)) → valid_alternatives loose include texts
     ≡ (alternatives_of loose include texts >>? λ ls. if list_all (list_all (is_valid MAX_SAFE_INTEGER)) ls then Some ls else None)
@@ -257,10 +207,7 @@ all-valid loose include (text ∷ texts) = go (all-valid loose include texts) (a
     invalid cs (Some ls) h k = rw (k, h) refl
 
     regular-of : (cs : List Comparison) → list_all (is_valid MAX_SAFE_INTEGER) cs ≡ false → is_lost loose text cs ≡ false
-    regular-of cs h = elim (cases_Bool (is_lost loose text cs)) [
-      | inr regular ↦ regular
-      | inl lost ↦ cc (h, lost-valid loose text cs lost)
-    ]
+    regular-of cs h = grind (arith, nat_tests, common_steps)
 
     go : (valid_alternatives loose include texts
         ≡ (alternatives_of loose include texts >>? λ ls. if list_all (list_all (is_valid MAX_SAFE_INTEGER)) ls then Some ls else None))
@@ -275,29 +222,19 @@ all-valid loose include (text ∷ texts) = go (all-valid loose include texts) (a
     ]
 
 not-false : (b : Bool) → not b ≡ true → b ≡ false
-not-false true h = cc h
-not-false false h = refl
+not-false b h = grind (arith, nat_tests, common_steps)
 
 -- the alternatives that are read are those of the text
 pub alternatives-read : (loose : Bool) (include : Bool) (text : List ℕ) (ls : List (List Comparison)) → IsUtf8 text
     → valid_range loose include text ≡ Some ls → HasAlternativesIn loose MAX_SAFE_INTEGER include text ls
 alternatives-read loose include text ls u h =
-    let a = bind_some (valid_alternatives loose include (parts text)) (λ all. some_only all) ls h in
-    let s = cond_some (not (is_empty a.0)) a.0 ls a.2 in
-    let e = sym (all-valid loose include (parts text)) ∙ a.1 in
-    let l = bind_some (alternatives_of loose include (parts text)) (λ ls. if list_all (list_all (is_valid MAX_SAFE_INTEGER)) ls then Some ls else None) a.0 e in
-    let k = cond_some (list_all (list_all (is_valid MAX_SAFE_INTEGER)) l.0) l.0 a.0 l.2 in
-    let some : is_empty l.0 ≡ false = ap (λ (x : List (List Comparison)). is_empty x) k.1 ∙ not-false (is_empty a.0) s.0 in
-    subst (λ (x : List (List Comparison)). HasAlternativesIn loose MAX_SAFE_INTEGER include text x) (k.1 ∙ s.1)
-    ((alternatives_are loose MAX_SAFE_INTEGER include text l.0 u).1 (l.1, k.0, some))
+    grind (arith, nat_tests, common_steps, cond_some, not, all-valid, not-false, alternatives_are)
 
 pub none-read : (loose : Bool) (include : Bool) (text : List ℕ) → IsUtf8 text → valid_range loose include text ≡ None
     → NoValue (HasAlternativesIn loose MAX_SAFE_INTEGER include text)
 none-read loose include text u h ls has =
     let k = (alternatives_are loose MAX_SAFE_INTEGER include text ls u).0 has in
-    let read : valid_alternatives loose include (parts text) ≡ Some ls = all-valid loose include (parts text) ∙ rw (k.0, k.1) refl in
-    let some : valid_range loose include text ≡ Some ls = rw (read, k.2) refl in
-    differ ls (sym h ∙ some)
+    grind (arith, nat_tests, common_steps, all-valid)
   where
     differ : (ls : List (List Comparison)) → ◌≡◌ {A = Option (List (List Comparison))} None (Some ls) → ⊥
     differ ls e = cc e
@@ -305,23 +242,10 @@ none-read loose include text u h ls has =
 pub range-read : (loose : Bool) (include : Bool) (text : List ℕ) (found range : List (Span VersionValue)) → IsUtf8 text
     → AreAllFound include (valid_range loose include text) found → AcceptAsRanged found range
     → IsRangeIn loose MAX_SAFE_INTEGER include text range
-range-read loose include text found range u h a = go (valid_range loose include text) refl h
-  where
-    go : (o : Option (List (List Comparison))) → valid_range loose include text ≡ o → AreAllFound include o found
-        → IsRangeIn loose MAX_SAFE_INTEGER include text range
-    go None e k = absurd k
-    go (Some ls) e k = record {
-      alternatives = ls;
-      has = alternatives-read loose include text ls u e;
-      accepted = a include ls k.intervals k.narrowed k.are;
-    }
+range-read loose include text found range u h a = grind (arith, nat_tests, common_steps, alternatives-read)
 
 pub two-pieces : (text : List ℕ) → 1 < length (parts text) → (pieces : List (List ℕ)) → IsCutAtBars text pieces → 1 < length pieces
-two-pieces text h pieces cut = omega (arith, h, ap length (bars_once text pieces cut), map-length (cut_bars false text))
-  where
-    map-length : (l : List (List ℕ)) → length (map trim l) ≡ length l
-    map-length [] = refl
-    map-length (t ∷ l) = omega (arith, map-length l)
+two-pieces text h pieces cut = grind (arith, nat_tests, common_steps, bars_once)
 
 pub refused-none : (loose : Bool) {A E : Type 0} (r : Result A (Failure E)) (include : Bool) (text : List ℕ) → IsUtf8 text
     → RefusedOnlyIf r (valid_range loose include text ≡ None) → RefusedOnlyIf r (NoValue (HasAlternativesIn loose MAX_SAFE_INTEGER include text))
@@ -331,14 +255,8 @@ refused-none loose (Err (Memory x)) include text u k = tt
 
 pub memory-pieces : {A E : Type 0} (r : Result A (Failure E)) (text : List ℕ) → MemoryOnlyIf r (1 < length (parts text))
     → MemoryOnlyIf r ((pieces : List (List ℕ)) → IsCutAtBars text pieces → 1 < length pieces)
-memory-pieces (Ok v) text k = tt
-memory-pieces (Err (Refused x)) text k = tt
-memory-pieces (Err (Memory x)) text k = two-pieces text k
+memory-pieces r text k = grind (arith, nat_tests, common_steps, two-pieces)
 
 pub all-spans : (loose : Bool) (include : Bool) (text : List ℕ) (found : List (Span VersionValue)) → AreAllFound include (valid_range loose include text) found
     → list_all (is_range_span (MAX_SAFE_INTEGER + 1)) found ≡ true
-all-spans loose include text found h = go (valid_range loose include text) h
-  where
-    go : (o : Option (List (List Comparison))) → AreAllFound include o found → list_all (is_range_span (MAX_SAFE_INTEGER + 1)) found ≡ true
-    go None k = absurd k
-    go (Some ls) k = found_spans include ls k.intervals found k.narrowed k.are
+all-spans loose include text found h = grind (arith, nat_tests, common_steps, found_spans)

@@ -1,9 +1,9 @@
 -- Range texts as node-semver reads them: the function that reads the alternatives finds exactly what the statement has.
-use Rattle.nodejs_semver.proofs.Common.{◌≡◌, ℕ, Bool, List, [], ◌∷◌, refl, sym, ap, ◌∙◌, true, false, Some, ◌↔◌, AllByRecursion, IsUtf8}
-use Rattle.nodejs_semver.proofs.Common.{is_empty, bind_some, list_all, map, same_Some, subst, trim}
-use Rattle.semver_core.proofs.Text.Trims.{middle_is_trim, trim_is_middle}
+use Rattle.std.proofs.Common.{arith}
+use Rattle.nodejs_semver.proofs.Common.{◌≡◌, ℕ, Bool, List, [], ◌∷◌, refl, sym, ap, ◌∙◌, true, false, Some, ◌↔◌}
+use Rattle.nodejs_semver.proofs.Common.{AllByRecursion, IsUtf8, is_empty, bind_some, list_all, map, same_Some, subst}
+use Rattle.nodejs_semver.proofs.Common.{trim, middle_is_trim, trim_is_middle, cut_bars}
 use Rattle.nodejs_semver.specs.Internal.NpmWords.{alternative_of, alternatives_of, kept, npm_alternatives}
-use Rattle.nodejs_semver.specs.Internal.Parts.{cut_bars}
 use Rattle.nodejs_semver.specs.Npm.RangeText.{AreAlternatives, next, none}
 use Rattle.nodejs_semver.specs.Npm.Ranges.{HasAlternativesIn, is_valid}
 use Rattle.nodejs_semver.specs.Npm.Table.{Comparison}
@@ -19,9 +19,7 @@ each-read loose include pieces ls u none = refl
 each-read loose include pieces ls u (next piece text others cs rest is_trim is more) =
     let v = trim-utf8 piece text u.0 is_trim in
     let same : text ≡ trim piece = middle_is_trim piece text is_trim in
-    let read : alternative_of loose include (trim piece) ≡ Some cs =
-    ap (λ (t : List ℕ). alternative_of loose include t) (sym same) ∙ alternative-read loose include text cs v is in
-    rw (read, each-read loose include others rest u.1 more) (ap (λ (t : List ℕ). Some (kept loose t cs rest)) (sym same))
+    grind (arith, alternative-read, each-read loose include others rest u.1 more)
 
 each-found : (loose : Bool) (include : Bool) (pieces : List (List ℕ)) (ls : List (List Comparison)) → AllByRecursion IsUtf8 pieces
     → alternatives_of loose include (map trim pieces) ≡ Some ls → AreAlternatives loose include pieces ls

@@ -1,10 +1,10 @@
 -- The rows of node-semver's table: the bounds that the comparators of a word have in common.
-use Rattle.nodejs_semver.proofs.Common.{◌≡◌, refl, ap, ◌∙◌, ℕ, Bool, true, false, not, List, [], ◌∷◌, ◌&&◌, ◌||◌}
-use Rattle.nodejs_semver.proofs.Common.{arith, VersionValue, Bound, Before, Unbounded, Span, greater_lower, precedence}
-use Rattle.nodejs_semver.proofs.Common.{list_all, MAX_SAFE_INTEGER, Option, cond_both, is_release, nat_tests, ◌==◌, ◌+◌, length, ◌≤◌}
-use Rattle.std.specs.Prelude.{codes, nat_le}
+use Rattle.nodejs_semver.proofs.Common.{◌≡◌, refl, ap, ◌∙◌, ℕ, Bool, true, false, not, List, [], ◌∷◌, ◌&&◌, ◌||◌, arith}
+use Rattle.nodejs_semver.proofs.Common.{VersionValue, Bound, Before, Unbounded, Span, greater_lower, precedence}
+use Rattle.nodejs_semver.proofs.Common.{list_all, MAX_SAFE_INTEGER, Option, cond_both, is_release, nat_tests, ◌==◌, ◌+◌}
+use Rattle.nodejs_semver.proofs.Common.{length, ◌≤◌, codes, is_readable, Comparator, above, at_most, below, equal}
+use Rattle.std.specs.Prelude.{nat_le}
 use Rattle.std.specs.Str.{bytes_eq}
-use Rattle.semver_core.specs.Printing.RoundTrip.{is_readable}
 use Rattle.semver_core.specs.Printing.Text.{version_text}
 use Rattle.semver_core.specs.Values.Versions.{IsVersion}
 use Rattle.semver_core.specs.declared.TheConstants.{MAX_LENGTH}
@@ -12,20 +12,21 @@ use Rattle.nodejs_semver.specs.Internal.NpmMeaning.{AreRead, IsCommon, is_part, 
 use Rattle.nodejs_semver.specs.Internal.NpmParts.{are_normal, npm_partial_view, npm_sign_view, within}
 use Rattle.nodejs_semver.specs.Internal.Readings.{comparator_view}
 use Rattle.nodejs_semver.specs.Npm.Ranges.{is_valid}
-use Rattle.nodejs_semver.specs.Npm.Table.{Comparison, Numbers, Partial, caret, caret_from, compared, counts, first, from, hyphen_upper, lowest}
-use Rattle.nodejs_semver.specs.Npm.Table.{made, major, minor, next, next_changed, no_build, table, tilde, under, whole}
-use Rattle.nodejs_semver.specs.Npm.Table.{wildcard}
+use Rattle.nodejs_semver.specs.Npm.Table.{Comparison, Numbers, Partial, caret, caret_from, compared, counts, first}
+use Rattle.nodejs_semver.specs.Npm.Table.{from, hyphen_upper, lowest, made, major, minor, next, next_changed, no_build}
+use Rattle.nodejs_semver.specs.Npm.Table.{table, tilde, under, whole, wildcard}
+use Rattle.nodejs_semver.specs.Text.WordText.{at_least}
+use Rattle.nodejs_semver.specs.declared.readers.syntax.Bounds.{Bounds}
+use Rattle.nodejs_semver.proofs.Strict.Narrowing.{both_common, compared_span, comparison, everything, one_common}
+use Rattle.nodejs_semver.proofs.Strict.Narrowing.{uncounted_common}
+use Rattle.nodejs_semver.proofs.Strict.Printed.{from_valid, prints_zero, under_valid}
 use Rattle.nodejs_semver.specs.Text.Table as Spans
-use Rattle.nodejs_semver.specs.Text.WordText.{Comparator, above, at_least, at_most, below, equal}
 use Rattle.nodejs_semver.specs.declared.npm.partial.Partial as Declared
 use Rattle.nodejs_semver.specs.declared.npm.partial.Partial.TheVariants as Partials
 use Rattle.nodejs_semver.specs.declared.npm.partial.Sign as DeclaredSign
 use Rattle.nodejs_semver.specs.declared.npm.partial.Sign.TheVariants as Signs
-use Rattle.nodejs_semver.specs.declared.readers.syntax.Bounds.{Bounds}
 use Rattle.nodejs_semver.specs.declared.readers.syntax.Comparator as DeclaredComparator
 use Rattle.nodejs_semver.specs.declared.readers.syntax.Comparator.TheVariants as Comparators
-use Rattle.nodejs_semver.proofs.Strict.Narrowing.{both_common, compared_span, comparison, everything, one_common, uncounted_common}
-use Rattle.nodejs_semver.proofs.Strict.Printed.{from_valid, prints_zero, under_valid}
 
 pub either_true : (a : Bool) → (a || true) ≡ true
 either_true a = grind arith
@@ -71,10 +72,6 @@ pub until_valid : (c : Comparison) (n : Numbers) → is_valid MAX_SAFE_INTEGER c
     → list_all (is_valid MAX_SAFE_INTEGER) (c ∷ (under n ∷ [])) ≡ true
 until_valid c n h k = rw (h, under_valid n, k) refl
 
-pub until_invalid : (c : Comparison) (n : Numbers) → is_valid MAX_SAFE_INTEGER c ≡ true → within n ≡ false
-    → list_all (is_valid MAX_SAFE_INTEGER) (c ∷ (under n ∷ [])) ≡ false
-until_invalid c n h k = rw (h, under_valid n, k) refl
-
 pub under_read : (include : Bool) (n : Numbers) (s : Span VersionValue) → within n ≡ true → s ≡ Spans.< (lowest n)
     → (list_all (is_valid MAX_SAFE_INTEGER) (under n ∷ []) ≡ true) × IsCommon include (under n ∷ []) s
 under_read include n s h e = (rw (under_valid n, h) refl, rw e (under_common include n h))
@@ -104,20 +101,6 @@ module _ (include : Bool) (text : List ℕ) (a b : Numbers) (r : Option Bounds) 
   part_tilde (whole v) i e f h = cc
 
 module _ (include : Bool) (text : List ℕ) (a : Numbers) (r : Option Bounds) where
-  pub part_at_least : (p : Partial) (d : DeclaredComparator.Comparator) → d ≡ Comparators.AtLeast → is_part p ≡ true → a ≡ first p
-      → AreRead include (from include a ∷ []) r → AreRead include (table include (compared (comparator_view d)) p text) r
-  part_at_least (major M) d g i e h = rw g (rw e at h)
-  part_at_least (minor M m) d g i e h = rw g (rw e at h)
-  part_at_least wildcard d g i e h = cc
-  part_at_least (whole v) d g i e h = cc
-
-  pub part_above : (p : Partial) (d : DeclaredComparator.Comparator) → d ≡ Comparators.Above → is_part p ≡ true → a ≡ next p
-      → AreRead include (from include a ∷ []) r → AreRead include (table include (compared (comparator_view d)) p text) r
-  part_above (major M) d g i e h = rw g (rw e at h)
-  part_above (minor M m) d g i e h = rw g (rw e at h)
-  part_above wildcard d g i e h = cc
-  part_above (whole v) d g i e h = cc
-
   pub part_below : (p : Partial) (d : DeclaredComparator.Comparator) → d ≡ Comparators.Below → is_part p ≡ true → a ≡ first p
       → AreRead include (under a ∷ []) r → AreRead include (table include (compared (comparator_view d)) p text) r
   part_below (major M) d g i e h = rw g (rw e at h)
@@ -171,20 +154,11 @@ caret_valid include v w l =
     cond_both (include && (is_release v && (v.major == 0))) (from true (first (whole v))) (made at_least (no_build v))
     (λ c. is_valid MAX_SAFE_INTEGER c ≡ true) (λ _. from_valid true (first (whole v)) ∙ w) (λ _. rw (w, l) refl)
 
-pub printed_valid : (c : Comparator) (v : VersionValue) → within (first (whole v)) ≡ true
-    → nat_le (length (version_text (no_build v))) MAX_LENGTH ≡ true → is_valid MAX_SAFE_INTEGER (made c (no_build v)) ≡ true
-printed_valid c v w l = rw (w, l) refl
-
 module _ (include : Bool) (text : List ℕ) (p : Declared.Partial) (v : VersionValue) (n : Numbers) (r : Option Bounds) (e : p ≡ Partials.Whole v) where
   pub whole_caret : n ≡ next_changed (npm_partial_view p) → AreRead include (caret_from include v ∷ (under n ∷ [])) r
       → AreRead include (table include caret (npm_partial_view p) text) r
   whole_caret f h =
       let g : n ≡ next_changed (whole v) = f ∙ ap (λ q. next_changed (npm_partial_view q)) e in rw e (rw g at h)
-
-  pub whole_tilde : n ≡ next (npm_partial_view p) → AreRead include (made at_least (no_build v) ∷ (under n ∷ [])) r
-      → AreRead include (table include tilde (npm_partial_view p) text) r
-  whole_tilde f h =
-      let g : n ≡ next (whole v) = f ∙ ap (λ q. next (npm_partial_view q)) e in rw e (rw g at h)
 
 pub within_whole : (p : Declared.Partial) (v : VersionValue) → p ≡ Partials.Whole v → within (first (npm_partial_view p)) ≡ true
     → within (first (whole v)) ≡ true
@@ -196,10 +170,6 @@ module _ (include : Bool) (v : VersionValue) (text : List ℕ) (r : Option Bound
   pub upper_under : (a b c : ℕ) → is_release v ≡ true → include ≡ true → a ≡ v.major → b ≡ v.minor → c ≡ v.patch
       → AreRead include (under (a, b, c + 1) ∷ []) r → AreRead include (hyphen_upper include (whole v) text) r
   upper_under a b c i j e f g h = rw (i, j) (rw (j, e, f, g) at h)
-
-  pub upper_whole : is_release v ≡ true → include ≡ false → AreRead include (table include (compared at_most) (whole v) text) r
-      → AreRead include (hyphen_upper include (whole v) text) r
-  upper_whole i j h = rw (i, j) (rw j at h)
 
   pub upper_printed : is_release v ≡ false → AreRead include (made at_most (no_build v) ∷ []) r
       → AreRead include (hyphen_upper include (whole v) text) r

@@ -1,13 +1,14 @@
 -- The signs of node-semver's words, with the whitespace behind them: what is read is written.
-use Rattle.nodejs_semver.proofs.Common.{◌≡◌, ◌⊎◌, ◌<◌, ℕ, List, [], ◌∷◌, ◌++◌, length, drop, refl, sym, ap, ◌∙◌, arith, true, inl, inr}
-use Rattle.nodejs_semver.proofs.Common.{◌&&◌, ◌==◌, IsUtf8, and_parts, append_assoc, cases_Bool, eqb-true, drop_spaces, space_len, subst}
-use Rattle.std.specs.Prelude.{nat_lt}
-use Rattle.semver_core.specs.Text.Characters.{IsBlank}
+use Rattle.nodejs_semver.proofs.Common.{common_steps, nat_tests, ◌≡◌, ◌⊎◌, ◌<◌, ℕ, List, [], ◌∷◌, ◌++◌, length, drop}
+use Rattle.nodejs_semver.proofs.Common.{refl, sym, ap, ◌∙◌, arith, true, inl, inr, ◌&&◌, ◌==◌, IsUtf8, and_parts}
+use Rattle.nodejs_semver.proofs.Common.{append_assoc, cases_Bool, eqb-true, drop_spaces, space_len, subst, nat_lt}
+use Rattle.nodejs_semver.proofs.Common.{IsBlank, Comparator, above, at_most, below, equal}
 use Rattle.nodejs_semver.specs.Internal.Fronts.{begins_byte}
 use Rattle.nodejs_semver.specs.Internal.NpmWords.{npm_sign, or_late, skip_equal, skip_greater, skip_tilde, skip_twice}
-use Rattle.nodejs_semver.specs.Npm.RangeText.{IsSignText, caret_equal, late_above, late_below, no_sign, sign, spelling, tilde_sign, tilde_twice}
+use Rattle.nodejs_semver.specs.Npm.RangeText.{IsSignText, caret_equal, late_above, late_below, no_sign, sign, spelling}
+use Rattle.nodejs_semver.specs.Npm.RangeText.{tilde_sign, tilde_twice}
 use Rattle.nodejs_semver.specs.Npm.Table.{Sign, caret, compared, tilde}
-use Rattle.nodejs_semver.specs.Text.WordText.{Comparator, above, at_least, at_most, below, equal}
+use Rattle.nodejs_semver.specs.Text.WordText.{at_least}
 use Rattle.nodejs_semver.proofs.Reading.WordLaw.{skips-is, skips-utf8, tail-utf8}
 
 -- ---- whitespace
@@ -127,8 +128,7 @@ greater-found text u = elim (cases_Bool (begins_byte 61 text)) [
 ]
 
 to-three : (c : Comparator) → (c ≡ above) ⊎ (c ≡ at_least) → (c ≡ above) ⊎ (c ≡ at_least) ⊎ (c ≡ equal)
-to-three c (inl h) = inl h
-to-three c (inr h) = inr (inl h)
+to-three c h = grind (arith, nat_tests, common_steps)
 
 -- `~`, whitespace, and `>` or `>=`
 tilde-greater : (x text : List ℕ) → IsBlank x → IsUtf8 text → SignAt (126 ∷ (x ++ (62 ∷ text))) tilde (skip_greater text)
@@ -137,16 +137,14 @@ tilde-greater x text blank u =
     let front = spelling (compared g.sign_is) ++ g.blank in
     record {
       signs = 126 ∷ (x ++ front);
-      split = ap (λ (t : List ℕ). 126 ∷ t)
-          (ap (λ (t : List ℕ). x ++ t) g.split ∙ sym (append_assoc x front (skip_greater text)));
+      split = grind (arith, nat_tests, common_steps);
       is = tilde_sign g.sign_is x g.blank blank g.is (to-three g.sign_is g.either);
       utf8 = g.utf8;
     }
 
 some-blank : (text x rest : List ℕ) → nat_lt 0 (space_len text) ≡ true → text ≡ x ++ (62 ∷ rest) → 0 < length x
 unfolding space_len
-some-blank text [] rest h e = cc (rw e at h)
-some-blank text (c ∷ x) rest h e = omega arith
+some-blank text x rest h e = grind (arith, nat_tests, common_steps)
 
 -- behind `~>`
 twice-found : (text : List ℕ) → IsUtf8 text → SignAt (126 ∷ (62 ∷ text)) tilde (skip_twice text (drop_spaces text))
@@ -162,8 +160,7 @@ twice-found text u = elim (cases_Bool (nat_lt 0 (space_len text) && begins_byte 
       let front = spelling (compared g.sign_is) ++ g.blank in
       rw more (record {
         signs = 126 ∷ (62 ∷ (x.blank ++ front));
-        split = ap (λ (t : List ℕ). 126 ∷ (62 ∷ t))
-            (whole ∙ ap (λ (t : List ℕ). x.blank ++ t) g.split ∙ sym (append_assoc x.blank front (skip_greater behind)));
+        split = grind (arith, nat_tests, common_steps);
         is = tilde_twice g.sign_is x.blank g.blank x.is (some-blank text x.blank behind parts.0 whole) g.is g.either;
         utf8 = g.utf8;
       })
@@ -183,8 +180,7 @@ tilde-found text u =
             let behind = drop 1 (drop_spaces text) in
             let f = tilde-greater x.blank behind x.is
             (tail-utf8 62 behind (omega arith) (subst (λ (t : List ℕ). IsUtf8 t) e x.utf8)) in
-            let whole = x.split ∙ ap (λ (t : List ℕ). x.blank ++ t) e in
-            rw (other, mark) (record { signs = f.signs; split = ap (λ (t : List ℕ). 126 ∷ t) whole ∙ f.split; is = f.is; utf8 = f.utf8 })
+            grind (arith, nat_tests, common_steps)
         | inr none ↦
             let f = equal-found 126 x.blank (drop_spaces text) tilde x.is x.utf8 (sign tilde x.blank x.is)
             (λ y h. tilde_sign equal x.blank y x.is h (inr (inr refl))) in

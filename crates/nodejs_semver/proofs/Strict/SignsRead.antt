@@ -1,20 +1,17 @@
 -- The signs of node-semver's words before marks and a partial version: what is written is read, or means the same.
-use Rattle.nodejs_semver.proofs.Common.{◌≡◌, ◌⊎◌, ◌<◌, ℕ, Bool, List, [], ◌∷◌, ◌++◌, length, drop, refl, ap, ◌∙◌, arith, true, false, inl, inr}
-use Rattle.nodejs_semver.proofs.Common.{◌&&◌, ◌==◌, ◌||◌, not, and_parts, append_assoc, cases_Bool, eqb-true, nat_tests, begins, list_all}
-use Rattle.nodejs_semver.proofs.Common.{drop_spaces, drop_spaces-none, space_len, is_whitespace, is_empty}
-use Rattle.std.specs.Prelude.{nat_lt, encode_utf8_all, if◌then◌else◌}
-use Rattle.std.specs.Char.{encode_utf8}
-use Rattle.std.proofs.lemmas.Bool.{lt-ltb}
-use Rattle.std.proofs.lemmas.Str.{len_utf8_bounds}
-use Rattle.semver_core.specs.Text.Characters.{IsBlank}
+use Rattle.nodejs_semver.proofs.Common.{common_steps, ◌≡◌, ◌⊎◌, ◌<◌, ℕ, Bool, List, [], ◌∷◌, ◌++◌, length, refl}
+use Rattle.nodejs_semver.proofs.Common.{arith, true, false, inl, inr, ◌&&◌, ◌==◌, ◌||◌, not, and_parts, append_assoc}
+use Rattle.nodejs_semver.proofs.Common.{cases_Bool, eqb-true, nat_tests, begins, list_all, drop_spaces}
+use Rattle.nodejs_semver.proofs.Common.{drop_spaces-none, space_len, is_whitespace, is_empty, encode_utf8_all}
+use Rattle.nodejs_semver.proofs.Common.{len_utf8_bounds, IsBlank, drop_spaces-blank, Comparator, above}
+use Rattle.nodejs_semver.proofs.Common.{at_most, below, equal}
 use Rattle.semver_core.proofs.Text.SpaceLaw.{space_len-white}
-use Rattle.semver_core.proofs.Text.Trims.{drop_spaces-blank}
 use Rattle.nodejs_semver.specs.Internal.Fronts.{begins_byte}
 use Rattle.nodejs_semver.specs.Internal.NpmWords.{npm_sign, or_late, skip_equal, skip_greater, skip_tilde}
-use Rattle.nodejs_semver.specs.Npm.RangeText.{IsSignText, are_marks, caret_equal, is_mark, is_one_v, late_above, late_below, no_sign, sign}
-use Rattle.nodejs_semver.specs.Npm.RangeText.{spelling, tilde_sign, tilde_twice}
-use Rattle.nodejs_semver.specs.Npm.Table.{Partial, Sign, caret, compared, major, minor, table, tilde, whole, wildcard}
-use Rattle.nodejs_semver.specs.Text.WordText.{Comparator, above, at_least, at_most, below, equal}
+use Rattle.nodejs_semver.specs.Npm.RangeText.{IsSignText, are_marks, caret_equal, is_mark, is_one_v, late_above}
+use Rattle.nodejs_semver.specs.Npm.RangeText.{late_below, no_sign, sign, spelling, tilde_sign, tilde_twice}
+use Rattle.nodejs_semver.specs.Npm.Table.{Partial, Sign, caret, compared, table, tilde}
+use Rattle.nodejs_semver.specs.Text.WordText.{at_least}
 use Rattle.nodejs_semver.proofs.Reading.Bytes.{begins_component, is_solid, solid-dark}
 
 -- ---- whitespace before marks and a partial
@@ -25,22 +22,14 @@ blank-cases x h = go h.characters h.each h.spelled
   where
     go : (cs : List ℕ) → list_all is_whitespace cs ≡ true → x ≡ encode_utf8_all cs → (x ≡ []) ⊎ ((rest : List ℕ) → 0 < space_len (x ++ rest))
     go [] each e = inl e
-    go (c ∷ cs) each e = inr (λ rest.
-        let white = (and_parts (is_whitespace c) (list_all is_whitespace cs) each).0 in
-        let text : x ++ rest ≡ encode_utf8 c ++ (encode_utf8_all cs ++ rest) =
-        ap (λ (t : List ℕ). t ++ rest) e ∙ append_assoc (encode_utf8 c) (encode_utf8_all cs) rest in
-        omega (arith, ap space_len text ∙ space_len-white c (encode_utf8_all cs ++ rest) white, (len_utf8_bounds c).0))
+    go (c ∷ cs) each e =
+        grind (arith, nat_tests, common_steps, and_parts, append_assoc, space_len-white, len_utf8_bounds)
 
 pub blank-skipped : (x text : List ℕ) → IsBlank x → space_len text ≡ 0 → drop_spaces (x ++ text) ≡ text
-blank-skipped x text h dark =
-    ap (λ (t : List ℕ). drop_spaces (t ++ text)) h.spelled ∙ drop_spaces-blank h.characters text h.each ∙ drop_spaces-none text dark
+blank-skipped x text h dark = grind (arith, nat_tests, common_steps, drop_spaces-blank, drop_spaces-none)
 
 space-byte : (c : ℕ) (text : List ℕ) → is_solid c ≡ true → 0 < space_len text → begins_byte c text ≡ false
-space-byte c [] s h = refl
-space-byte c (b ∷ rest) s h = elim (cases_Bool (b == c)) [
-  | inr other ↦ other
-  | inl same ↦ absurd (omega (arith, h, solid-dark (b ∷ rest) (rw (eqb-true b c same) s)))
-]
+space-byte c text s h = grind (arith, nat_tests, common_steps, solid-dark, eqb-true)
 
 pub blank-byte : (c : ℕ) (x text : List ℕ) → is_solid c ≡ true → IsBlank x → begins_byte c text ≡ false → begins_byte c (x ++ text) ≡ false
 blank-byte c x text s h other = elim (blank-cases x h) [
@@ -94,9 +83,7 @@ greater-left : (y marks u : List ℕ) → IsBlank y → list_all is_mark marks �
 greater-left y marks u blank h k =
     let o = opens marks u h k in
     elim (blank-cases y blank) [
-      | inr some ↦
-          rw (space-byte 61 (y ++ (marks ++ u)) refl (some (marks ++ u)))
-          (record { left = marks; is = blank-skipped y (marks ++ u) blank o.dark; each = h })
+      | inr some ↦ grind (arith, nat_tests, common_steps, space-byte, blank-skipped)
       | inl none ↦ rw none (bare o.dark)
     ]
   where
@@ -115,100 +102,36 @@ pub record SignTaken (loose : Bool) (s : Sign) (p : Partial) (marks x : List ℕ
   pub marked : are_marks loose r.0 p left ≡ true
   pub same : (include : Bool) → table include r.0 p (left ++ x) ≡ table include s p (marks ++ x)
 
-all-caret : (include : Bool) (p : Partial) (text other : List ℕ) → table include caret p text ≡ table include caret p other
-all-caret include wildcard text other = refl
-all-caret include (major M) text other = refl
-all-caret include (minor M m) text other = refl
-all-caret include (whole v) text other = refl
-
-all-tilde : (include : Bool) (p : Partial) (text other : List ℕ) → table include tilde p text ≡ table include tilde p other
-all-tilde include wildcard text other = refl
-all-tilde include (major M) text other = refl
-all-tilde include (minor M m) text other = refl
-all-tilde include (whole v) text other = refl
-
--- any marks may stand behind `^` and `~`
-free-caret : (loose : Bool) (p : Partial) (marks : List ℕ) → list_all is_mark marks ≡ true → are_marks loose caret p marks ≡ true
-free-caret true p marks h = h
-free-caret false p marks h = h
-
 free-tilde : (loose : Bool) (p : Partial) (marks : List ℕ) → list_all is_mark marks ≡ true → are_marks loose tilde p marks ≡ true
-free-tilde true p marks h = h
-free-tilde false p marks h = h
+free-tilde loose p marks h = grind (arith, nat_tests, common_steps)
 
 caret-taken : (loose : Bool) (p : Partial) (marks x text u : List ℕ) → MarksLeft text u → SignTaken loose caret p marks x (caret, text) u
-caret-taken loose p marks x text u l =
-    record { left = l.left; is = l.is; marked = free-caret loose p l.left l.each; same = λ include. all-caret include p (l.left ++ x) (marks ++ x) }
+caret-taken loose p marks x text u l = grind (arith, nat_tests, common_steps)
 
 tilde-taken : (loose : Bool) (p : Partial) (marks x text u : List ℕ) → MarksLeft text u → SignTaken loose tilde p marks x (tilde, text) u
-tilde-taken loose p marks x text u l =
-    record { left = l.left; is = l.is; marked = free-tilde loose p l.left l.each; same = λ include. all-tilde include p (l.left ++ x) (marks ++ x) }
+tilde-taken loose p marks x text u l = grind (arith, nat_tests, common_steps)
 
 kept : (loose : Bool) (s : Sign) (p : Partial) (marks x text u : List ℕ) → text ≡ marks ++ u → are_marks loose s p marks ≡ true
     → SignTaken loose s p marks x (s, text) u
 kept loose s p marks x text u e h = record { left = marks; is = e; marked = h; same = λ include. refl }
 
-one-marks : (marks : List ℕ) → is_one_v marks ≡ true → list_all is_mark marks ≡ true
-one-marks [] h = refl
-one-marks (b ∷ []) h = grind (arith, nat_tests)
-one-marks (b ∷ c ∷ marks) h = cc h
-
 pub marks-all : (loose : Bool) (s : Sign) (p : Partial) (marks : List ℕ) → are_marks loose s p marks ≡ true → list_all is_mark marks ≡ true
-marks-all false (compared above) (whole v) marks h = one-marks marks h
-marks-all false (compared at_least) (whole v) marks h = one-marks marks h
-marks-all false (compared equal) (whole v) marks h = one-marks marks h
-marks-all false (compared at_most) (whole v) marks h = one-marks marks h
-marks-all false (compared below) (whole v) marks h = one-marks marks h
-marks-all false (compared above) wildcard marks h = (and_parts _ _ h).0
-marks-all false (compared above) (major M) marks h = (and_parts _ _ h).0
-marks-all false (compared above) (minor M m) marks h = (and_parts _ _ h).0
-marks-all false (compared below) wildcard marks h = (and_parts _ _ h).0
-marks-all false (compared below) (major M) marks h = (and_parts _ _ h).0
-marks-all false (compared below) (minor M m) marks h = (and_parts _ _ h).0
-marks-all false (compared at_least) wildcard marks h = h
-marks-all false (compared at_least) (major M) marks h = h
-marks-all false (compared at_least) (minor M m) marks h = h
-marks-all false (compared equal) wildcard marks h = h
-marks-all false (compared equal) (major M) marks h = h
-marks-all false (compared equal) (minor M m) marks h = h
-marks-all false (compared at_most) wildcard marks h = h
-marks-all false (compared at_most) (major M) marks h = h
-marks-all false (compared at_most) (minor M m) marks h = h
-marks-all true (compared above) p marks h = (and_parts _ _ h).0
-marks-all true (compared below) p marks h = (and_parts _ _ h).0
-marks-all true (compared at_least) p marks h = h
-marks-all true (compared equal) p marks h = h
-marks-all true (compared at_most) p marks h = h
-marks-all false caret p marks h = h
-marks-all false tilde p marks h = h
-marks-all true caret p marks h = h
-marks-all true tilde p marks h = h
+marks-all loose s p marks h = grind (arith, nat_tests, common_steps)
 
 -- `>` and `<` are followed by no `=` among the marks
 one-other : (marks u : List ℕ) → is_one_v marks ≡ true → begins_component u ≡ true → begins_byte 61 (marks ++ u) ≡ false
-one-other [] u h k = component-other u k
-one-other (b ∷ []) u h k = grind (arith, nat_tests)
-one-other (b ∷ c ∷ marks) u h k = cc h
+one-other marks u h k = grind (arith, nat_tests, common_steps)
 
 not-other : (marks u : List ℕ) → not (begins (λ b. b == 61) marks) ≡ true → begins_component u ≡ true → begins_byte 61 (marks ++ u) ≡ false
-not-other [] u h k = component-other u k
-not-other (b ∷ marks) u h k = grind (arith, nat_tests)
+not-other marks u h k = grind (arith, nat_tests, common_steps)
 
 above-other : (loose : Bool) (p : Partial) (marks u : List ℕ) → are_marks loose (compared above) p marks ≡ true
     → begins_component u ≡ true → begins_byte 61 (marks ++ u) ≡ false
-above-other true p marks u h k = not-other marks u (and_parts _ _ h).1 k
-above-other false wildcard marks u h k = not-other marks u (and_parts _ _ h).1 k
-above-other false (major M) marks u h k = not-other marks u (and_parts _ _ h).1 k
-above-other false (minor M m) marks u h k = not-other marks u (and_parts _ _ h).1 k
-above-other false (whole v) marks u h k = one-other marks u h k
+above-other loose p marks u h k = grind (arith, nat_tests, common_steps, not-other, and_parts, one-other)
 
 below-other : (loose : Bool) (p : Partial) (marks u : List ℕ) → are_marks loose (compared below) p marks ≡ true
     → begins_component u ≡ true → begins_byte 61 (marks ++ u) ≡ false
-below-other true p marks u h k = not-other marks u (and_parts _ _ h).1 k
-below-other false wildcard marks u h k = not-other marks u (and_parts _ _ h).1 k
-below-other false (major M) marks u h k = not-other marks u (and_parts _ _ h).1 k
-below-other false (minor M m) marks u h k = not-other marks u (and_parts _ _ h).1 k
-below-other false (whole v) marks u h k = one-other marks u h k
+below-other loose p marks u h k = grind (arith, nat_tests, common_steps, not-other, and_parts, one-other)
 
 -- ---- no sign
 
@@ -227,11 +150,8 @@ Taken loose s p marks x u text = SignTaken loose s p marks x (npm_sign text) u
 none-taken : (loose : Bool) (p : Partial) (marks x u : List ℕ) → are_marks loose (compared equal) p marks ≡ true
     → begins_byte 61 marks ≡ false → begins_component u ≡ true → Taken loose (compared equal) p marks x u (marks ++ u)
 none-taken loose p [] x [] h e k = cc k
-none-taken loose p [] x (b ∷ u) h e k =
-    rw (plain-front b u (grind (arith, nat_tests)) (component-other (b ∷ u) k)) (kept loose (compared equal) p [] x (b ∷ u) (b ∷ u) refl h)
-none-taken loose p (b ∷ marks) x u h e k =
-    let each = and_parts (is_mark b) (list_all is_mark marks) (marks-all loose (compared equal) p (b ∷ marks) h) in
-    rw (plain-front b (marks ++ u) (grind arith) e) (kept loose (compared equal) p (b ∷ marks) x (b ∷ (marks ++ u)) u refl h)
+none-taken loose p [] x (b ∷ u) h e k = grind (arith, nat_tests, common_steps, plain-front, component-other)
+none-taken loose p (b ∷ marks) x u h e k = grind (arith, nat_tests, common_steps, and_parts, marks-all, plain-front)
 
 -- ---- behind a tilde
 
@@ -250,22 +170,12 @@ dark-byte b rest h = solid-dark (b ∷ rest) h
 -- one `>` stands there
 one_greater-left : (x t rest : List ℕ) → IsBlank x → drop_spaces t ≡ rest → begins_byte 62 rest ≡ false
     → skip_tilde (x ++ (62 ∷ t)) (drop_spaces (x ++ (62 ∷ t))) ≡ skip_greater t
-one_greater-left x t rest h e other = elim (blank-cases x h) [
-  | inl none ↦ rw (none, e, other) (and-none (nat_lt 0 (space_len t)))
-  | inr some ↦
-      rw (blank-skipped x (62 ∷ t) h (dark-byte 62 t refl), space-byte 62 (x ++ (62 ∷ t)) refl (some (62 ∷ t))) refl
-]
-  where
-    and-none : (b : Bool) → (if b && false then skip_greater (drop 1 rest) else skip_greater t) ≡ skip_greater t
-    and-none b = grind arith
+one_greater-left x t rest h e other = grind (arith, blank-cases, blank-skipped, dark-byte, space-byte)
 
 -- `~>` and one `>` more
 twice-left : (y v : List ℕ) → IsBlank y → 0 < length y
     → skip_tilde (62 ∷ (y ++ (62 ∷ v))) (drop_spaces (62 ∷ (y ++ (62 ∷ v)))) ≡ skip_greater v
-twice-left y v h some = elim (blank-cases y h) [
-  | inl none ↦ absurd (omega (arith, some, ap length none))
-  | inr more ↦ rw (blank-skipped y (62 ∷ v) h (dark-byte 62 v refl), lt-ltb 0 (space_len (y ++ (62 ∷ v))) (more (62 ∷ v))) refl
-]
+twice-left y v h some = grind (arith, nat_tests, common_steps, blank-cases, blank-skipped, dark-byte)
 
 tilde-above : (loose : Bool) (p : Partial) (y z marks x u : List ℕ) → IsBlank y → IsBlank z → list_all is_mark marks ≡ true → begins_component u ≡ true
     → Taken loose tilde p marks x u ((126 ∷ (y ++ (62 ∷ z))) ++ (marks ++ u))
@@ -302,9 +212,7 @@ tilde-equal loose p y z marks x u hy hz each k =
 twice-above : (loose : Bool) (p : Partial) (y z marks x u : List ℕ) → IsBlank y → 0 < length y → IsBlank z → list_all is_mark marks ≡ true
     → begins_component u ≡ true → Taken loose tilde p marks x u ((126 ∷ (62 ∷ (y ++ (62 ∷ z)))) ++ (marks ++ u))
 twice-above loose p y z marks x u hy some hz each k =
-    let t = marks ++ u in
-    rw (append_assoc y (62 ∷ z) t, tilde-front (62 ∷ (y ++ (62 ∷ (z ++ t)))), twice-left y (z ++ t) hy some)
-    (tilde-taken loose p marks x (skip_greater (z ++ t)) u (greater-left z marks u hz each k))
+    grind (arith, nat_tests, common_steps, append_assoc, tilde-front, twice-left, tilde-taken, greater-left)
 
 twice-least : (loose : Bool) (p : Partial) (y z marks x u : List ℕ) → IsBlank y → 0 < length y → IsBlank z → list_all is_mark marks ≡ true
     → begins_component u ≡ true → Taken loose tilde p marks x u ((126 ∷ (62 ∷ (y ++ (62 ∷ (61 ∷ z))))) ++ (marks ++ u))
@@ -322,10 +230,8 @@ one-read one two y t h dark other = rw (blank-byte 61 y t refl h other, blank-sk
 
 late-read : (one two : Comparator) (y t : List ℕ) → IsBlank y → space_len t ≡ 0
     → or_late one two (y ++ (61 ∷ t)) (drop_spaces (y ++ (61 ∷ t))) ≡ (compared two, t)
-late-read one two y t h dark = elim (blank-cases y h) [
-  | inl none ↦ rw (none, drop_spaces-none t dark) refl
-  | inr some ↦ rw (space-byte 61 (y ++ (61 ∷ t)) refl (some (61 ∷ t)), blank-skipped y (61 ∷ t) h (dark-byte 61 t refl)) refl
-]
+late-read one two y t h dark =
+    grind (arith, nat_tests, common_steps, blank-cases, drop_spaces-none, space-byte, blank-skipped, dark-byte)
 
 above-front : (rest : List ℕ) → npm_sign (62 ∷ rest) ≡ or_late above at_least rest (drop_spaces rest)
 unfolding npm_sign

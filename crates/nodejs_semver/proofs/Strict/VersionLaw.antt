@@ -1,19 +1,11 @@
 -- Version texts of the strict reading: the function that reads them finds exactly what the statement has.
-use Rattle.std.proofs.Common.{◌≡◌, ◌≤◌, ◌⊎◌, ◌&&◌, ℕ, List, [], ◌∷◌, ◌++◌, drop, length, append-nil, refl, subst, sym, ap, ◌∙◌, arith, true, false, Some, None, inl, inr}
-use Rattle.std.specs.Char.{is_ascii_digit}
-use Rattle.std.specs.List.{prefix_len}
+use Rattle.nodejs_semver.proofs.Common.{common_steps, ◌≡◌, ◌≤◌, ◌⊎◌, ◌&&◌, ℕ, List, [], ◌∷◌, ◌++◌, drop, length}
+use Rattle.nodejs_semver.proofs.Common.{append-nil, refl, subst, sym, ap, ◌∙◌, arith, true, false, Some, None, inl, inr}
+use Rattle.nodejs_semver.proofs.Common.{is_ascii_digit, prefix_len, ◌==◌, and_parts, cases_Bool, eqb-true, nat_tests}
+use Rattle.nodejs_semver.proofs.Common.{same_Some, is_empty, IsTrim, begins, VersionValue, bind_some, middle_is_trim}
 use Rattle.std.specs.Str.{chars}
-use Rattle.std.specs.Prelude.{◌==◌}
-use Rattle.std.proofs.lemmas.Bool.{and_parts, cases_Bool, eqb-true}
-use Rattle.std.proofs.lemmas.Bool.Decides.{nat_tests}
-use Rattle.std.proofs.lemmas.Option.{same_Some}
 use Rattle.semver_core.specs.Failures.{NoValue}
-use Rattle.semver_core.specs.Lists.{is_empty}
-use Rattle.semver_core.specs.Text.Characters.{IsTrim, begins}
-use Rattle.semver_core.specs.Values.Versions.{VersionValue}
 use Rattle.semver_core.specs.declared.TheConstants.{MAX_LENGTH}
-use Rattle.semver_core.proofs.Text.Texts.{bind_some}
-use Rattle.semver_core.proofs.Text.Trims.{middle_is_trim}
 use Rattle.nodejs_semver.specs.Internal.Fronts.{build_front, drop_v}
 use Rattle.nodejs_semver.specs.Internal.NpmReadings.{dashed_front, dotted_number, is_strict_list, qualified_version}
 use Rattle.nodejs_semver.specs.Internal.NpmReadings.{strict_number, strict_version}
@@ -21,13 +13,13 @@ use Rattle.nodejs_semver.specs.Npm.Grammar.{IsStrictBuild, IsStrictNumber, IsStr
 use Rattle.nodejs_semver.specs.Npm.RangeText.{is_mark}
 use Rattle.nodejs_semver.specs.Npm.VersionText.{IsClean, IsStrictVersion, IsVersionText}
 use Rattle.nodejs_semver.proofs.Strict.Numbers.{dotted-found, dotted-read, strict-found, strict-read}
-use Rattle.nodejs_semver.proofs.Strict.Qualifiers.{build-found, build-taken, dashed-found, dashed-taken, ends-nil, quiet-behind}
+use Rattle.nodejs_semver.proofs.Strict.Qualifiers.{build-found, build-taken, dashed-found, dashed-taken, ends-nil}
+use Rattle.nodejs_semver.proofs.Strict.Qualifiers.{quiet-behind}
 
 -- ---- what is read is written
 
 pub empty-is : (t : List ℕ) → is_empty t ≡ true → t ≡ []
-empty-is [] h = refl
-empty-is (c ∷ t) h = cc h
+empty-is t h = grind (arith, nat_tests, common_steps)
 
 record Qualified (text : List ℕ) (v : VersionValue) (major minor patch : ℕ) : Type 0 where
   pre : List ℕ
@@ -102,18 +94,11 @@ qualified-read : (p b : List ℕ) (v : VersionValue) → IsStrictPreRelease p v.
 unfolding qualified_version
 qualified-read p b v h k =
     let front = dashed-taken p b [] v.pre_release v.build h k ends-nil in
-    let build = build-taken b [] v.build k ends-nil in
-    let behind : p ++ (b ++ []) ≡ p ++ b = rw (append-nil b) refl in
-    rw (← behind, front.0, build.0, front.2, front.1, build.1) refl
+    grind (arith, nat_tests, common_steps, build-taken, ends-nil, append-nil)
 
 unmarked : (limit : ℕ) (mark digits rest : List ℕ) (n : ℕ) → (mark ≡ []) ⊎ (mark ≡ 118 ∷ []) → IsStrictNumber limit digits n
     → drop_v (mark ++ (digits ++ rest)) ≡ digits ++ rest
-unmarked limit mark digits rest n (inr e) h = rw e refl
-unmarked limit mark [] rest n (inl e) h = absurd (omega (arith, h.number.some))
-unmarked limit mark (c ∷ digits) rest n (inl e) h = rw e (rw (digit-other c (and_parts _ _ h.number.each).0) refl)
-  where
-    digit-other : (c : ℕ) → is_ascii_digit c ≡ true → (c == 118) ≡ false
-    digit-other c h = grind (arith, nat_tests)
+unmarked limit mark digits rest n k h = grind (arith, nat_tests, common_steps)
 
 pub strict-read-version : (limit : ℕ) (text : List ℕ) (v : VersionValue) → IsStrictVersion limit text v → strict_version limit text ≡ Some v
 unfolding strict_version
@@ -127,8 +112,7 @@ strict-read-version limit text v h =
     let a = strict-read limit h.major (46 ∷ middle) v.major h.major_is refl in
     let b = dotted-read limit h.minor (46 ∷ last) v.minor h.minor_is refl in
     let c = dotted-read limit h.patch behind v.patch h.patch_is quiet in
-    let q = qualified-read h.pre_release h.build v h.pre_release_is h.build_is in
-    rw (h.divided, front, a, b, c, q) refl
+    grind (arith, nat_tests, common_steps, qualified-read)
 
 -- ---- whole texts
 

@@ -1,13 +1,13 @@
 -- The words of an alternative, read one after another: what was read, and what is left.
-use Rattle.nodejs_semver.proofs.Common.{◌≡◌, ◌<◌, ◌≤◌, ℕ, zero, suc, Bool, List, [], ◌∷◌, ◌++◌, length, refl, sym, ap, ◌∙◌, arith, true, false}
-use Rattle.nodejs_semver.proofs.Common.{Some, None, Option, append_assoc, cond_some, length-append, if◌then◌else◌, is_empty, IsUtf8, Span, VersionValue}
-use Rattle.nodejs_semver.proofs.Common.{drop_spaces, ◌==◌, ◌&&◌, MAX_SAFE_INTEGER}
+use Rattle.nodejs_semver.proofs.Common.{common_steps, nat_tests, ◌≡◌, ◌<◌, ◌≤◌, ℕ, zero, suc, Bool, List, [], ◌∷◌, ◌++◌}
+use Rattle.nodejs_semver.proofs.Common.{length, refl, sym, ap, ◌∙◌, arith, true, false, Some, None, Option}
+use Rattle.nodejs_semver.proofs.Common.{append_assoc, length-append, if◌then◌else◌, is_empty, IsUtf8, Span}
+use Rattle.nodejs_semver.proofs.Common.{VersionValue, drop_spaces, ◌==◌, ◌&&◌, MAX_SAFE_INTEGER, Front}
 use Rattle.semver_core.specs.Internal.Reading.{◌>>?◌}
-use Rattle.nodejs_semver.specs.Internal.Fronts.{Front}
 use Rattle.nodejs_semver.specs.Internal.NpmAlternatives.{NarrowedBy}
 use Rattle.nodejs_semver.specs.Internal.NpmMeaning.{IsNarrowed}
 use Rattle.nodejs_semver.specs.Internal.NpmReads.{IsFound, words_of}
-use Rattle.nodejs_semver.specs.Internal.NpmWords.{Signed, any_word, is_small, limited_word, valid_only, valid_words, word_front}
+use Rattle.nodejs_semver.specs.Internal.NpmWords.{Signed, any_word, limited_word, valid_only, valid_words, word_front}
 use Rattle.nodejs_semver.specs.Npm.Table.{Comparison, table}
 use Rattle.nodejs_semver.specs.declared.npm.alternatives.Alternative.{Alternative}
 use Rattle.nodejs_semver.proofs.Reading.Bytes.{begins-some}
@@ -22,8 +22,7 @@ abbrev pub row_of : Bool → Signed → List Comparison
 row_of include w = table include w.0 w.1 w.2
 
 limited-some : (o : Front Signed) (w : Signed × List ℕ) → limited_word MAX_SAFE_INTEGER o ≡ Some w → o ≡ Some w
-limited-some None w h = cc h
-limited-some (Some q) w h = ap (λ (x : Signed × List ℕ). Some x) (cond_some (is_small MAX_SAFE_INTEGER q.0.1) q w h).1
+limited-some o w h = grind (arith, nat_tests, common_steps)
 
 pub word-at : (loose : Bool) (include : Bool) (text : List ℕ) (w : Signed × List ℕ) → IsUtf8 text → word_at_front loose text ≡ Some w
     → WordAt loose include text (row_of include w.0) w.1
@@ -93,8 +92,7 @@ words-step loose include (b ∷ text) u (Some w) e =
     rw (e, enough loose include (length text) (length (drop_spaces w.1)) (drop_spaces w.1) left (omega (arith, less)) (omega arith)) refl
 
 pub empty-append : (cs ds : List Comparison) → is_empty (cs ++ ds) ≡ (is_empty cs && is_empty ds)
-empty-append [] ds = refl
-empty-append (c ∷ cs) ds = refl
+empty-append cs ds = grind (arith, nat_tests, common_steps)
 
 -- what was read of a text, and what is left
 pub record AreWordsTo (loose : Bool) (include : Bool) (text : List ℕ) (all : Option (Span VersionValue)) (is_bare : Bool) (rest : List ℕ)
@@ -107,11 +105,7 @@ pub record AreWordsTo (loose : Bool) (include : Bool) (text : List ℕ) (all : O
 
 pub words-begin : (loose : Bool) (include : Bool) (text : List ℕ) (all : Option (Span VersionValue)) (is_bare : Bool) → IsUtf8 text
     → IsNarrowed include [] all → is_bare ≡ true → AreWordsTo loose include text all is_bare text
-words-begin loose include text all is_bare u h b = record { read = []; bare = b; narrowed = h; same = whole (words_of loose include text); utf8 = u }
-  where
-    whole : (o : Option (List Comparison)) → o ≡ (o >>? λ ds. Some ([] ++ ds))
-    whole None = refl
-    whole (Some ds) = refl
+words-begin loose include text all is_bare u h b = grind (arith, nat_tests, common_steps)
 
 -- one word more
 pub words-next : (loose : Bool) (include : Bool) (text rest : List ℕ) (all : Option (Span VersionValue)) (is_bare : Bool) (w : Signed × List ℕ)
@@ -141,27 +135,18 @@ pub words-end : (loose : Bool) (include : Bool) (text rest : List ℕ) (all : Op
     → NarrowedBy include all (row_of include w.0) (Some a) → a.is_bare ≡ (is_bare && is_empty (row_of include w.0))
     → is_empty w.1 ≡ true → IsFound include (words_of loose include text) (Some a)
 words-end loose include text rest all is_bare w a h e n b ended =
-    let row = row_of include w.0 in
-    let step : words_of loose include rest ≡ Some row = words-step loose include rest h.utf8 (Some w) e ∙ rw (n.0, ended) refl in
-    let whole : words_of loose include text ≡ Some (h.read ++ row) = h.same ∙ rw step refl in
-    rw whole (n.1 h.read h.narrowed, b ∙ rw h.bare (sym (empty-append h.read row)))
+    grind (arith, nat_tests, common_steps, words-step, empty-append)
 
 -- no word where one is to be
 pub words-none : (loose : Bool) (include : Bool) (text rest : List ℕ) (all : Option (Span VersionValue)) (is_bare : Bool)
     → AreWordsTo loose include text all is_bare rest → word_at_front loose rest ≡ None → IsFound include (words_of loose include text) None
-words-none loose include text rest all is_bare h e =
-    let whole : words_of loose include text ≡ None = h.same ∙ rw (words-step loose include rest h.utf8 None e) refl in
-    rw whole tt
+words-none loose include text rest all is_bare h e = grind (arith, nat_tests, common_steps, words-step)
 
 -- a comparator that is not valid
 pub words-invalid : (loose : Bool) (include : Bool) (text rest : List ℕ) (all : Option (Span VersionValue)) (is_bare : Bool)
     (w : Signed × List ℕ) → AreWordsTo loose include text all is_bare rest → word_at_front loose rest ≡ Some w → NarrowedBy include all (row_of include w.0) None
     → IsFound include (words_of loose include text) None
-words-invalid loose include text rest all is_bare w h e n =
-    let step : words_of loose include rest ≡ None = words-step loose include rest h.utf8 (Some w) e ∙ rw n refl in
-    let whole : words_of loose include text ≡ None = h.same ∙ rw step refl in
-    rw whole tt
+words-invalid loose include text rest all is_bare w h e n = grind (arith, nat_tests, common_steps, words-step)
 
 pub empty-length : (text : List ℕ) → is_empty text ≡ (length text == 0)
-empty-length [] = refl
-empty-length (b ∷ text) = grind arith
+empty-length text = grind (arith, nat_tests, common_steps)
