@@ -22,7 +22,7 @@ use Rattle.nodejs_semver.proofs.Reading.Bytes.{begins-on, begins-some, begins_co
 use Rattle.nodejs_semver.proofs.Reading.PartialLaw.{spaces-gone, spaces-le}
 use Rattle.nodejs_semver.proofs.Reading.Steps.{option-cases}
 use Rattle.nodejs_semver.proofs.Reading.WordLaw.{boundary-utf8, suffix-boundary}
-use Rattle.nodejs_semver.proofs.Strict.Malformed.{boundary-dark, ignored-read, malformed-visible, visible-dark, word-regular}
+use Rattle.nodejs_semver.proofs.Strict.Malformed.{boundary-dark, ignored-read, malformed-visible, sign-visible, visible-dark, word-regular}
 use Rattle.nodejs_semver.proofs.Strict.PartialLaw.{boundary-quiet, partial-found, partial-read}
 use Rattle.nodejs_semver.proofs.Strict.Places.{digits-begin}
 use Rattle.nodejs_semver.proofs.Strict.VersionLaw.{empty-is}
@@ -73,8 +73,8 @@ unfolding ignored_front
 none-ignored true text h = rw h refl
 none-ignored false text h = refl
 
-pub word-read : (loose : Bool) (include : Bool) (w rest : List ℕ) (cs : List Comparison) → IsWord loose include w cs → is_boundary rest ≡ true
-    → word_front loose include (w ++ rest) ≡ Some (cs, rest)
+pub word-read : (loose : Bool) (include : Bool) (w rest : List ℕ) (cs : List Comparison) → IsWord loose include (is_empty rest) w cs
+    → is_boundary rest ≡ true → word_front loose include (w ++ rest) ≡ Some (cs, rest)
 unfolding word_front any_word signed_word ignored_front
 word-read loose include w rest cs (ignored x l h) b = rw (ignored-read loose x rest l h b) refl
 word-read loose include w rest cs (word signs marks x s p h m e k) b =
@@ -91,7 +91,7 @@ word-read loose include w rest cs (word signs marks x s p h m e k) b =
 pub record WordAt (loose : Bool) (include : Bool) (text : List ℕ) (cs : List Comparison) (rest : List ℕ) : Type 0 where
   pub piece : List ℕ
   pub split : text ≡ piece ++ rest
-  pub is : IsWord loose include piece cs
+  pub is : IsWord loose include (is_empty rest) piece cs
   pub ended : is_boundary rest ≡ true
   pub utf8 : IsUtf8 rest
 
@@ -143,7 +143,7 @@ signed-found loose include text cs rest u h =
     ap (λ (x : Signed × List ℕ). (table include x.0.0 x.0.1 x.0.2, x.1)) t.1 ∙ same_Some _ _ w.2 in
     let split : text ≡ (at_sign.signs ++ front) ++ p.0.1 =
     at_sign.split ∙ ap (λ (t : List ℕ). at_sign.signs ++ t) behind ∙ sym (append_assoc at_sign.signs front p.0.1) in
-    let is : IsWord loose include (at_sign.signs ++ front) (table include s.0 p.0.0 whole_text) =
+    let is : IsWord loose include (is_empty p.0.1) (at_sign.signs ++ front) (table include s.0 p.0.0 whole_text) =
     rw front_is (word at_sign.signs marks part.piece s.0 p.0.0 at_sign.is tests.0 (unsigned text at_sign.signs n at_sign.split) part.is) in
     let read : WordAt loose include text (table include s.0 p.0.0 whole_text) p.0.1 = record {
       piece = at_sign.signs ++ front;
@@ -187,29 +187,15 @@ word-found loose include text cs rest u h = elim (option-cases (ignored_front lo
 
 -- ---- words
 
-sign-visible : (signs : List ℕ) (s : Sign) → IsSignText signs s → (signs ≡ []) ⊎ (begins is_visible signs ≡ true)
-sign-visible signs s no_sign = inl refl
-sign-visible signs s (sign (compared above) y h) = inr refl
-sign-visible signs s (sign (compared at_least) y h) = inr refl
-sign-visible signs s (sign (compared equal) y h) = inr refl
-sign-visible signs s (sign (compared at_most) y h) = inr refl
-sign-visible signs s (sign (compared below) y h) = inr refl
-sign-visible signs s (sign caret y h) = inr refl
-sign-visible signs s (sign tilde y h) = inr refl
-sign-visible signs s (late_above y h) = inr refl
-sign-visible signs s (late_below y h) = inr refl
-sign-visible signs s (caret_equal y z h k) = inr refl
-sign-visible signs s (tilde_sign c y z h k which) = inr refl
-sign-visible signs s (tilde_twice c y z h some k which) = inr refl
-
 marks-visible : (marks u : List ℕ) → list_all is_mark marks ≡ true → begins_component u ≡ true → begins is_visible (marks ++ u) ≡ true
 marks-visible [] [] h k = cc k
 marks-visible [] (b ∷ u) h k = grind (arith, nat_tests)
 marks-visible (b ∷ marks) u h k = grind (arith, nat_tests)
 
-pub word-visible : (loose : Bool) (include : Bool) (w : List ℕ) (cs : List Comparison) → IsWord loose include w cs → begins is_visible w ≡ true
-word-visible loose include w cs (ignored x l h) = malformed-visible x h
-word-visible loose include w cs (word signs marks x s p h m e k) =
+pub word-visible : (loose : Bool) (include : Bool) (is_last : Bool) (w : List ℕ) (cs : List Comparison) → IsWord loose include is_last w cs
+    → begins is_visible w ≡ true
+word-visible loose include is_last w cs (ignored x l h) = malformed-visible is_last x h
+word-visible loose include is_last w cs (word signs marks x s p h m e k) =
     let u : begins_component x ≡ true = rw (append-nil x) at (partial-begins loose x [] p k) in
     elim (sign-visible signs s h) [
       | inl none ↦ rw none (marks-visible marks x (marks-all loose s p marks m) u)
@@ -217,9 +203,9 @@ word-visible loose include w cs (word signs marks x s p h m e k) =
     ]
 
 pub words-visible : (loose : Bool) (include : Bool) (text : List ℕ) (cs : List Comparison) → AreWords loose include text cs → begins is_visible text ≡ true
-words-visible loose include text cs (last t ds h) = word-visible loose include t ds h
+words-visible loose include text cs (last t ds h) = word-visible loose include true t ds h
 words-visible loose include text cs (more t blank rest ds es h hb some k) =
-    begins-on is_visible t (blank ++ rest) (word-visible loose include t ds h)
+    begins-on is_visible t (blank ++ rest) (word-visible loose include false t ds h)
 
 pub blank-space : (blank rest : List ℕ) → IsBlank blank → 0 < length blank → 0 < space_len (blank ++ rest)
 blank-space blank rest h some = elim (blank-cases blank h) [
@@ -235,7 +221,7 @@ space-boundary (b ∷ text) h = rw (lt-ltb 0 (space_len (b ∷ text)) h) refl
 pub blank-boundary : (blank rest : List ℕ) → IsBlank blank → 0 < length blank → is_boundary (blank ++ rest) ≡ true
 blank-boundary blank rest h some = space-boundary (blank ++ rest) (blank-space blank rest h some)
 
-not-empty : (blank rest : List ℕ) → 0 < length blank → is_empty (blank ++ rest) ≡ false
+pub not-empty : (blank rest : List ℕ) → 0 < length blank → is_empty (blank ++ rest) ≡ false
 not-empty [] rest some = absurd (omega arith)
 not-empty (b ∷ blank) rest some = refl
 
@@ -252,7 +238,8 @@ words-read loose include (suc n) text cs (last t ds h) le =
     let read : word_front loose include t ≡ Some (ds, []) = rw (append-nil t) at (word-read loose include t [] ds h nil-boundary) in
     rw read refl
 words-read loose include (suc n) text cs (more t blank rest ds es h hb some k) le =
-    let read = word-read loose include t (blank ++ rest) ds h (blank-boundary blank rest hb some) in
+    let here = subst (λ (l : Bool). IsWord loose include l t ds) (sym (not-empty blank rest some)) h in
+    let read = word-read loose include t (blank ++ rest) ds here (blank-boundary blank rest hb some) in
     let dark = visible-dark rest (words-visible loose include rest es k) in
     let shorter : length rest ≤ n = omega (arith, le, length-append t (blank ++ rest), length-append blank rest, some) in
     rw (read, not-empty blank rest some, blank-skipped blank rest hb dark, words-read loose include n rest es k shorter) refl
@@ -276,7 +263,8 @@ words-found loose include (suc n) text cs u h =
       | inl ended ↦
           let e : text ≡ at_word.piece = at_word.split ∙ ap (λ (t : List ℕ). at_word.piece ++ t) (empty-is w.0.1 ended)
           ∙ append-nil at_word.piece in
-          let is : AreWords loose include at_word.piece w.0.0 = last at_word.piece w.0.0 at_word.is in
+          let is : AreWords loose include at_word.piece w.0.0 = last at_word.piece w.0.0
+          (subst (λ (l : Bool). IsWord loose include l at_word.piece w.0.0) ended at_word.is) in
           let same : w.0.0 ≡ cs = same_Some _ _ (rw ended at w.2) in
           subst (λ (ds : List Comparison). AreWords loose include text ds) same
           (subst (λ (t : List ℕ). AreWords loose include t w.0.0) (sym e) is)
@@ -286,7 +274,8 @@ words-found loose include (suc n) text cs u h =
           let x = blank-at w.0.1 at_word.utf8 in
           let some = blank-some w.0.1 x.blank x.split (some-space w.0.1 at_word.ended goes) in
           let e : text ≡ at_word.piece ++ (x.blank ++ rest) = at_word.split ∙ ap (λ (t : List ℕ). at_word.piece ++ t) x.split in
-          let is = more at_word.piece x.blank rest w.0.0 d.0 at_word.is x.is some (words-found loose include n rest d.0 x.utf8 d.1) in
+          let here = subst (λ (l : Bool). IsWord loose include l at_word.piece w.0.0) goes at_word.is in
+          let is = more at_word.piece x.blank rest w.0.0 d.0 here x.is some (words-found loose include n rest d.0 x.utf8 d.1) in
           subst (λ (ds : List Comparison). AreWords loose include text ds) (same_Some _ _ d.2)
           (subst (λ (t : List ℕ). AreWords loose include t (w.0.0 ++ d.0)) (sym e) is)
     ]

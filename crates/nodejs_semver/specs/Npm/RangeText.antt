@@ -141,21 +141,21 @@ are_marks loose (compared above) p marks = list_all is_mark marks && not (begins
 are_marks loose (compared below) p marks = list_all is_mark marks && not (begins (λ b. b == 61) marks)
 are_marks loose s p marks = list_all is_mark marks
 
--- a word: a sign, marks and a partial. Without a sign the first mark is no `=`, since that would be the sign.
--- Loosely it may also be malformed, and has then no comparators.
-pub data IsWord (loose include : Bool) : List ℕ → List Comparison → Type 0 where
-  ignored : (x : List ℕ) → loose ≡ true → is_malformed x ≡ true → IsWord loose include x []
+-- a word, the last one or not: a sign, marks and a partial. Without a sign the first mark is no `=`, since that
+-- would be the sign. Loosely it may also be malformed, and has then no comparators.
+pub data IsWord (loose include is_last : Bool) : List ℕ → List Comparison → Type 0 where
+  ignored : (x : List ℕ) → loose ≡ true → is_malformed is_last x ≡ true → IsWord loose include is_last x []
   word : (signs marks text : List ℕ) (s : Sign) (p : Partial) → IsSignText signs s
       → are_marks loose s p marks ≡ true → (is_empty signs && begins (λ b. b == 61) marks) ≡ false
       → IsPartial loose text p
-      → IsWord loose include (signs ++ (marks ++ text)) (table include s p (marks ++ text))
+      → IsWord loose include is_last (signs ++ (marks ++ text)) (table include s p (marks ++ text))
 
 -- ---- alternatives
 
 -- one word or more, with whitespace between them
 pub data AreWords (loose include : Bool) : List ℕ → List Comparison → Type 0 where
-  last : (x : List ℕ) (cs : List Comparison) → IsWord loose include x cs → AreWords loose include x cs
-  more : (x blank rest : List ℕ) (cs ds : List Comparison) → IsWord loose include x cs → IsBlank blank
+  last : (x : List ℕ) (cs : List Comparison) → IsWord loose include true x cs → AreWords loose include x cs
+  more : (x blank rest : List ℕ) (cs ds : List Comparison) → IsWord loose include false x cs → IsBlank blank
       → 0 < length blank → AreWords loose include rest ds
       → AreWords loose include (x ++ (blank ++ rest)) (cs ++ ds)
 
