@@ -5,7 +5,8 @@ use Rattle.nodejs_semver.proofs.Common.{cases_Bool, eqb-true, list_all, nat_test
 use Rattle.std.proofs.Common.{◌/◌, ◌%◌}
 use Rattle.std.specs.Prelude.{◌-◌, encode_utf8_all, get_or, take_while}
 use Rattle.std.specs.Char.{encode_utf8}
-use Rattle.std.specs.List.{onto_first, prefix_len}
+use Rattle.std.specs.List.{list_any, onto_first, prefix_len}
+use Rattle.std.proofs.lemmas.List.Folds.{list_all-append}
 use Rattle.std.specs.Str.{bytes_eq}
 use Rattle.semver_core.specs.Lists.{is_empty}
 use Rattle.semver_core.specs.Text.Characters.{ends}
@@ -18,7 +19,7 @@ use Rattle.nodejs_semver.specs.Internal.Fronts.{is_wildcard}
 use Rattle.nodejs_semver.specs.Internal.NpmWords.{ignored_front}
 use Rattle.nodejs_semver.specs.Internal.Words.{is_boundary}
 use Rattle.nodejs_semver.specs.Npm.Grammar.{IsStrictBuild, no_build, plus}
-use Rattle.nodejs_semver.specs.Npm.Malformed.{after_dot, are_first, begins_malformed, begins_place, begins_places, has_four_parts, is_first, is_inner}
+use Rattle.nodejs_semver.specs.Npm.Malformed.{after_dot, are_first, behind_sign, begins_malformed, begins_place, begins_places, has_four_parts, is_first, is_inner}
 use Rattle.nodejs_semver.specs.Npm.Malformed.{is_last, is_malformed, is_mark_or_sign, is_open, is_regular, is_sign, is_visible, last_visible}
 use Rattle.nodejs_semver.specs.Npm.RangeText as Text
 use Rattle.nodejs_semver.specs.Npm.RangeText.{IsPartial, IsPlace, IsPreRelease, IsSignText, bare, dashed, has_zeros}
@@ -351,6 +352,85 @@ partial-places loose x p (three x1 y z pre build a b c ids builds h k l m s n t)
     all-begins [] h some = absurd (omega (arith, some))
     all-begins (b ∷ z) h some = (and_parts (is_first b) (list_all is_first z) h).0
 
+-- ---- the signs of a well-formed word
+
+-- no character of a sign but `=`
+abbrev is_unsigned : ℕ → Bool
+is_unsigned b = not (is_sign b) || b == 61
+
+part-unsigned : (b : ℕ) → is_part b ≡ true → is_unsigned b ≡ true
+part-unsigned b h = grind (arith, nat_tests)
+
+mark-unsigned : (b : ℕ) → is_mark b ≡ true → is_unsigned b ≡ true
+mark-unsigned b h = grind (arith, nat_tests)
+
+unsigned-behind : (v : List ℕ) → list_all is_unsigned v ≡ true → list_all is_unsigned (behind_sign v) ≡ true
+unsigned-behind [] h = refl
+unsigned-behind (c ∷ []) h = refl
+unsigned-behind (c ∷ d ∷ v) h = elim (cases_Bool (c == 126 && d == 62)) [
+  | inl both ↦ rw both ((and_parts (is_unsigned d) (list_all is_unsigned v) (and_parts (is_unsigned c) _ h).1).1)
+  | inr other ↦ rw other ((and_parts (is_unsigned c) (list_all is_unsigned (d ∷ v)) h).1)
+]
+
+one-sign : (b : ℕ) (v : List ℕ) → list_all is_unsigned v ≡ true → list_all is_unsigned (behind_sign (b ∷ v)) ≡ true
+one-sign b [] h = refl
+one-sign b (c ∷ v) h = elim (cases_Bool (b == 126 && c == 62)) [
+  | inl both ↦ rw both ((and_parts (is_unsigned c) (list_all is_unsigned v) h).1)
+  | inr other ↦ rw other h
+]
+
+-- whitespace that is signs is none
+blank-none : (y : List ℕ) → IsBlank y → list_all is_sign y ≡ true → y ≡ []
+blank-none y h k = go y (blank-dark y h) k
+  where
+    dark-sign : (b : ℕ) → is_dark b ≡ true → is_sign b ≡ true → ⊥
+    dark-sign b h k = grind (arith, nat_tests)
+
+    go : (y : List ℕ) → list_all is_dark y ≡ true → list_all is_sign y ≡ true → y ≡ []
+    go [] h k = refl
+    go (b ∷ y) h k =
+        absurd (dark-sign b (and_parts (is_dark b) (list_all is_dark y) h).0 (and_parts (is_sign b) (list_all is_sign y) k).0)
+
+spelling-one : (s : Sign) (v : List ℕ) → list_all is_unsigned v ≡ true → list_all is_unsigned (behind_sign (spelling s ++ v)) ≡ true
+spelling-one (compared above) v h = one-sign 62 v h
+spelling-one (compared at_least) v h = h
+spelling-one (compared equal) v h = one-sign 61 v h
+spelling-one (compared at_most) v h = h
+spelling-one (compared below) v h = one-sign 60 v h
+spelling-one caret v h = one-sign 94 v h
+spelling-one tilde v h = one-sign 126 v h
+
+all-front : (u v : List ℕ) → list_all is_sign (u ++ v) ≡ true → (list_all is_sign u ≡ true) × (list_all is_sign v ≡ true)
+all-front u v h = and_parts (list_all is_sign u) (list_all is_sign v) (sym (list_all-append is_sign u v) ∙ h)
+
+sign-one : (signs v : List ℕ) (s : Sign) → IsSignText signs s → list_all is_sign signs ≡ true → list_all is_unsigned v ≡ true
+    → list_all is_unsigned (behind_sign (signs ++ v)) ≡ true
+sign-one signs v s no_sign a h = unsigned-behind v h
+sign-one signs v s (sign t y b) a h =
+    rw (blank-none y b (all-front (spelling t) y a).1, append-nil (spelling t)) (spelling-one t v h)
+sign-one signs v s (late_above y b) a h = rw (blank-none y b (all-front y (61 ∷ []) a).0) h
+sign-one signs v s (late_below y b) a h = rw (blank-none y b (all-front y (61 ∷ []) a).0) h
+sign-one signs v s (caret_equal y z b c) a h =
+    let front = all-front y (61 ∷ z) a in
+    rw (blank-none y b front.0, blank-none z c front.1) h
+sign-one signs v s (tilde_sign above y z b c which) a h =
+    let front = all-front y (62 ∷ z) a in
+    rw (blank-none y b front.0, blank-none z c front.1) h
+sign-one signs v s (tilde_sign at_least y z b c which) a h =
+    let front = all-front y (62 ∷ 61 ∷ z) a in
+    rw (blank-none y b front.0, blank-none z c front.1) h
+sign-one signs v s (tilde_sign equal y z b c which) a h =
+    let front = all-front y (61 ∷ z) a in
+    rw (blank-none y b front.0, blank-none z c front.1) h
+sign-one signs v s (tilde_sign at_most y z b c (inl e)) a h = cc e
+sign-one signs v s (tilde_sign at_most y z b c (inr (inl e))) a h = cc e
+sign-one signs v s (tilde_sign at_most y z b c (inr (inr e))) a h = cc e
+sign-one signs v s (tilde_sign below y z b c (inl e)) a h = cc e
+sign-one signs v s (tilde_sign below y z b c (inr (inl e))) a h = cc e
+sign-one signs v s (tilde_sign below y z b c (inr (inr e))) a h = cc e
+sign-one signs v s (tilde_twice d y z b some c which) a h =
+    absurd (omega (arith, some, ap length (blank-none y b (all-front y (spelling (compared d) ++ z) a).0)))
+
 -- ---- the end of a well-formed word
 
 part-last : (b : ℕ) → is_identifier_char b ≡ true → is_last b ≡ true
@@ -436,9 +516,9 @@ regular-kept w rest h dark parts regular =
     none a c d = grind arith
 
 -- some characters that begin words, and a partial
-first-word : (loose : Bool) (u x rest : List ℕ) (p : Partial) → list_all is_first u ≡ true → IsPartial loose x p
-    → begins_component x ≡ true → begins is_visible rest ≡ false → begins_malformed ((u ++ x) ++ rest) ≡ false
-first-word loose u x rest p h k first dark =
+first-word : (loose : Bool) (u x rest : List ℕ) (p : Partial) → list_all is_first u ≡ true
+    → list_all is_unsigned (behind_sign (u ++ x)) ≡ true → IsPartial loose x p → begins_component x ≡ true → begins is_visible rest ≡ false → begins_malformed ((u ++ x) ++ rest) ≡ false
+first-word loose u x rest p h plain k first dark =
     let passed = dotless-passed u x (all-weaker is_first is_dotless first-dotless u h) in
     let part = partial-part loose x p k in
     let inner = all-join is_inner u x (all-weaker is_first is_inner first-inner u h) (all-weaker is_part is_inner part-inner x part) in
@@ -450,6 +530,8 @@ first-word loose u x rest p h k first dark =
       inner,
       last-end u x (partial-end loose x p k),
       more u x first,
+      plain,
+      or-true (list_any (λ b. b == 42) (u ++ x)),
       passed,
       first-begins u x h begun.0,
       first-joined u x h begun.1,
@@ -487,7 +569,12 @@ word-regular loose signs marks x rest s p h m k first dark =
         let e : signs ≡ front = split ∙ append-nil front in
         let u = all-join is_first front marks (all-weaker is_sign is_first sign-first front each) (all-weaker is_mark is_first mark-first marks m) in
         let same : signs ++ (marks ++ x) ≡ (front ++ marks) ++ x = rw e (sym (append_assoc front marks x)) in
-        rw same (first-word loose (front ++ marks) x rest p u k first dark)
+        let behind = all-join is_unsigned marks x (all-weaker is_mark is_unsigned mark-unsigned marks m)
+        (all-weaker is_part is_unsigned part-unsigned x (partial-part loose x p k)) in
+        let plain : list_all is_unsigned (behind_sign ((front ++ marks) ++ x)) ≡ true =
+        ap (λ (t : List ℕ). list_all is_unsigned (behind_sign t)) (sym same)
+        ∙ sign-one signs (marks ++ x) s h (ap (λ (t : List ℕ). list_all is_sign t) e ∙ each) behind in
+        rw same (first-word loose (front ++ marks) x rest p u plain k first dark)
     go front (b ∷ left) split each none =
         let same : (signs ++ (marks ++ x)) ++ rest ≡ front ++ b ∷ (left ++ ((marks ++ x) ++ rest)) =
         rw split (simp append_assoc refl) in

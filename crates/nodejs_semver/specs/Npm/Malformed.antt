@@ -3,7 +3,7 @@
 use Rattle.std.specs.Prelude.{◌==◌, ◌&&◌, ◌||◌, not, nat_le, ℕ, Bool, true, List, [], ◌∷◌, codes, drop}
 use Rattle.std.specs.Prelude.{if◌then◌else◌, take_while}
 use Rattle.std.specs.Char.{is_ascii_digit}
-use Rattle.std.specs.List.{list_all, prefix_len}
+use Rattle.std.specs.List.{list_all, list_any, prefix_len}
 use Rattle.std.specs.Str.{bytes_eq}
 use Rattle.semver_core.specs.Lists.{is_empty}
 use Rattle.semver_core.specs.Text.Characters.{begins, ends, is_identifier_char}
@@ -52,11 +52,21 @@ abbrev pub begins_places : List ℕ → Bool
 begins_places word = begins_place word && ((is_empty (after_dot word) || begins_place (after_dot word))
     && (is_empty (after_dot (after_dot word)) || begins is_first (after_dot (after_dot word))))
 
--- it may be well-formed: it has only characters of well-formed words, ends and begins as they do, and has more
--- than signs and `v`
+-- the text behind its first character, or behind `~>`
+abbrev pub behind_sign : List ℕ → List ℕ
+behind_sign [] = []
+behind_sign (b ∷ []) = []
+behind_sign (b ∷ c ∷ rest) = if b == 126 && c == 62 then rest else c ∷ rest
+
+-- it has one sign at most, with `=` or without it, where it has no `*`, which node-semver may pass over with a sign
+abbrev pub has_one_sign : List ℕ → Bool
+has_one_sign word = list_any (λ b. b == 42) word || list_all (λ b. not (is_sign b) || b == 61) (behind_sign word)
+
+-- it may be well-formed: it has only characters of well-formed words, ends and begins as they do, has more than
+-- signs and `v`, and not two signs
 abbrev pub is_regular : List ℕ → Bool
 is_regular word = list_all is_inner word && (ends is_last word
-    && (not (list_all is_mark_or_sign word) && begins_places word))
+    && (not (list_all is_mark_or_sign word) && (has_one_sign word && begins_places word)))
 
 -- what stands behind it may belong to it: behind a sign, and behind the `-` of a hyphen range
 abbrev pub is_open : List ℕ → Bool

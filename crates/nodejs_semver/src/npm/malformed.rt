@@ -1,7 +1,7 @@
 // The malformed words of range texts that node-semver's loose reading ignores.
 
-ghost use Rattle.std.specs.List.{list_all, prefix_len};
-ghost use Rattle.std.specs.Prelude.{◌≡◌, ◌≤◌, ◌&&◌, ◌||◌, ◌-◌, drop, length};
+ghost use Rattle.std.specs.List.{list_all, list_any, prefix_len};
+ghost use Rattle.std.specs.Prelude.{◌≡◌, ◌==◌, ◌≤◌, ◌&&◌, ◌||◌, ◌-◌, drop, length};
 ghost use Rattle.std.specs.Prelude.{not, true};
 ghost use Rattle.nodejs_semver.specs.Npm.Malformed as Text;
 ghost use Rattle.semver_core.specs.Lists.{is_empty};
@@ -196,11 +196,54 @@ fn begins_places(word: &[u8]) -> bool
     begins_place(word) && may_begin_place(second) && may_begin(after_dot(second))
 }
 
+// The text behind its first character, or behind `~>`.
+fn behind_sign(word: &[u8]) -> &[u8]
+    ensures { result.now ≡ Text.behind_sign word.now }
+{
+    match word {
+        [b'~', b'>', rest @ ..] => rest,
+        [_, rest @ ..] => rest,
+        [] => b"",
+    }
+}
+
+// Whether a word has a star.
+#[inline(always)]
+fn has_star(word: &[u8]) -> bool
+    ensures { result ≡ list_any (λ b. b == 42) word.now }
+{
+    word.iter().any(|byte| *byte == b'*')
+}
+
+// Whether characters are of no sign but `=`.
+#[inline(always)]
+fn are_unsigned(text: &[u8]) -> bool
+    ensures { result ≡ list_all (λ b. not (Text.is_sign b) || b == 61) text.now }
+{
+    text.iter().all(|byte| !is_sign(*byte) || *byte == b'=')
+}
+
+// Whether a word has one sign at most, or a star.
+fn has_one_sign(word: &[u8]) -> bool
+    ensures { result ≡ Text.has_one_sign word.now }
+{
+    has_star(word) || are_unsigned(behind_sign(word))
+}
+
+// Whether a word begins and ends as well-formed words do.
+fn has_right_ends(word: &[u8]) -> bool
+    ensures { result ≡ (ends Text.is_last word.now
+        && (not (list_all Text.is_mark_or_sign word.now)
+        && (Text.has_one_sign word.now && Text.begins_places word.now))) }
+{
+    ends_well(word) && !are_marks_or_signs(word) && has_one_sign(word) && begins_places(word)
+}
+
 // Whether a word may be well-formed by its characters, its end and its front.
 fn is_regular(word: &[u8]) -> bool
     ensures { result ≡ Text.is_regular word.now }
 {
-    are_inner(word) && ends_well(word) && !are_marks_or_signs(word) && begins_places(word)
+    are_inner(word) && has_right_ends(word)
 }
 
 fn is_misfit(word: &[u8]) -> bool
