@@ -11,7 +11,6 @@ use Rattle.std.proofs.lemmas.Str.{encode_ascii, len_utf8_bounds, length-encode}
 use Rattle.semver_core.specs.Internal.Spaces.{after_spaces}
 use Rattle.semver_core.specs.Text.Characters.{IsBlank}
 use Rattle.semver_core.proofs.Text.Trims.{drop_spaces-blank}
-use Rattle.std.specs.Str.{bytes_eq}
 use Rattle.semver_core.specs.Lists.{is_empty}
 use Rattle.nodejs_semver.specs.Internal.NpmWords.{Ended, after_ends, alternative_of, drop_ends, end_front, hyphen_comparisons, hyphen_ends}
 use Rattle.nodejs_semver.specs.Internal.NpmWords.{last_end, partial_front, words_within}

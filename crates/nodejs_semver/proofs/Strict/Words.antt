@@ -1,5 +1,5 @@
 -- The words of node-semver's range texts: the functions that read them find exactly what the statement has.
-use Rattle.nodejs_semver.proofs.Common.{◌≡◌, ◌⊎◌, ◌<◌, ◌≤◌, ◌-◌, ℕ, zero, suc, Bool, List, [], ◌∷◌, ◌++◌, length, drop, take, refl, sym, ap, ◌∙◌, arith}
+use Rattle.nodejs_semver.proofs.Common.{◌≡◌, ◌<◌, ◌≤◌, ◌-◌, ℕ, zero, suc, Bool, List, [], ◌∷◌, ◌++◌, length, drop, take, refl, sym, ap, ◌∙◌, arith}
 use Rattle.nodejs_semver.proofs.Common.{true, false, Some, None, Option, inl, inr, ◌&&◌, ◌==◌, eqb-true, and_parts, append_assoc, append-nil, bind_some, cases_Bool}
 use Rattle.nodejs_semver.proofs.Common.{cond_some, drop_at, take_at, length-append, list_all, nat_tests, same_Some, subst, begins, IsUtf8, is_empty}
 use Rattle.nodejs_semver.proofs.Common.{drop_spaces, space_len}
@@ -14,10 +14,9 @@ use Rattle.nodejs_semver.specs.Internal.NpmWords.{word_front, words_within}
 use Rattle.nodejs_semver.specs.Internal.Words.{is_boundary}
 use Rattle.nodejs_semver.specs.Npm.RangeText as Text
 use Rattle.nodejs_semver.specs.Npm.Malformed.{begins_malformed, is_visible}
-use Rattle.nodejs_semver.specs.Npm.RangeText.{AreWords, IsPartial, IsPlace, IsSignText, IsWord, are_marks, ignored, is_mark, last, more, one, spelling, three, two, word}
-use Rattle.nodejs_semver.specs.Npm.RangeText.{caret_equal, late_above, late_below, no_sign, sign, tilde_sign, tilde_twice}
-use Rattle.nodejs_semver.specs.Npm.Table.{Comparison, Partial, Sign, caret, compared, table, tilde, wildcard}
-use Rattle.nodejs_semver.specs.Text.WordText.{above, at_least, at_most, below, equal}
+use Rattle.nodejs_semver.specs.Npm.RangeText.{AreWords, IsPartial, IsPlace, IsWord, are_marks, ignored, is_mark, last, more, one, three, two, word}
+use Rattle.nodejs_semver.specs.Npm.Table.{Comparison, Partial, Sign, compared, table, wildcard}
+use Rattle.nodejs_semver.specs.Text.WordText.{equal}
 use Rattle.nodejs_semver.proofs.Reading.Bytes.{begins-on, begins-some, begins_component, is_component_byte}
 use Rattle.nodejs_semver.proofs.Reading.PartialLaw.{spaces-gone, spaces-le}
 use Rattle.nodejs_semver.proofs.Reading.Steps.{option-cases}
