@@ -21,7 +21,7 @@
 //! Ranges and versions are read as npm's library node-semver reads them. It ignores malformed
 //! words, of which its readings here reject some: of a text with such a word the lenient reading of
 //! `parse` decides. Each word that this ignores is named with its place, which does not count as a
-//! finding: `1.2.` in `1.2. ^1`.
+//! finding: `foo=` in `foo= ^1`.
 #![tactic(auto)]
 
 mod check;

@@ -108,18 +108,18 @@ sign_text Table.tilde = Npm.sign Table.tilde [] no_blank
 no_mark : (a : Bool) → (a && false) ≡ false
 no_mark a = grind arith
 
-word-is : (limit : ℕ) (pre : Bool) (text : List ℕ) (word : Word) (cs : List Comparison) → IsPlainWord limit pre text word cs
-    → IsWord false false text cs
-word-is limit pre text word cs (bare t p h) = Npm.word [] [] t (compared equal) _ Npm.no_sign (no_marks (compared equal) _) refl h.npm
-word-is limit pre text word cs (signed s t p h m) =
+word-is : (is_last : Bool) (limit : ℕ) (pre : Bool) (text : List ℕ) (word : Word) (cs : List Comparison) → IsPlainWord limit pre text word cs
+    → IsWord false false is_last text cs
+word-is is_last limit pre text word cs (bare t p h) = Npm.word [] [] t (compared equal) _ Npm.no_sign (no_marks (compared equal) _) refl h.npm
+word-is is_last limit pre text word cs (signed s t p h m) =
     Npm.word (spelling s) [] t s _ (sign_text s) (no_marks s _) (no_mark (is_empty (spelling s))) h.npm
 
 part-is : (limit : ℕ) (pre : Bool) (text : List ℕ) (s : Span VersionValue) (cs : List Comparison)
     → IsPlainAlternative limit pre text s cs → IsAlternative false false text cs
-part-is limit pre text s cs (one_word t word s' cs' h e) = Npm.words t cs' (Npm.last t cs' (word-is limit pre t word cs' h))
+part-is limit pre text s cs (one_word t word s' cs' h e) = Npm.words t cs' (Npm.last t cs' (word-is true limit pre t word cs' h))
 part-is limit pre text s cs (two_words c d x y p q a b m hp mp ep hq mq eq e apart) =
-    Npm.words _ _ (Npm.more _ (codes " ") _ _ _ (word-is limit pre _ _ _ (signed (compared c) x p hp mp)) one_blank (lit< tt)
-    (Npm.last _ _ (word-is limit pre _ _ _ (signed (compared d) y q hq mq))))
+    Npm.words _ _ (Npm.more _ (codes " ") _ _ _ (word-is false limit pre _ _ _ (signed (compared c) x p hp mp)) one_blank (lit< tt)
+    (Npm.last _ _ (word-is true limit pre _ _ _ (signed (compared d) y q hq mq))))
 part-is limit pre text s cs (between x y p q m h k some e) =
     Npm.hyphen [] x (codes " ") (codes " ") [] y _ _ (no_ends (is_free_lower _)) h.npm one_blank (lit< tt) one_blank (lit< tt)
     (no_ends (is_free_upper false _)) k.npm

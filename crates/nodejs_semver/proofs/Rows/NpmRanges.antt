@@ -1,5 +1,6 @@
 -- Worked rows, computed: node-semver's table, which versions a list of alternatives accepts, and how some words are written.
 use Rattle.std.proofs.Common.{inl, lit<, lit≤}
+use Rattle.std.specs.List.{list_all}
 use Rattle.std.specs.Prelude.{◌≡◌, ◌++◌, ℕ, Bool, true, false, List, [], ◌∷◌, Some, map, codes, refl}
 use Rattle.std.specs.Char.{encode_utf8}
 use Rattle.std.specs.Fmt.{digits}
@@ -162,7 +163,8 @@ row-spelled : is_spelled true false 1 (codes "01") ∷ is_spelled false true 1 (
 row-spelled = refl
 
 -- `beta` and `4.5` may stand without `-` loosely, and the identifier `01`
-row-bare : map begins_undashed (codes "beta" ∷ codes "-beta" ∷ codes "1beta" ∷ codes "4.5" ∷ []) ≡ true ∷ false ∷ false ∷ true ∷ []
+row-bare : map begins_undashed (codes "beta" ∷ codes "-beta" ∷ codes "1beta" ∷ codes "4.5" ∷ codes "-" ∷ codes "--" ∷ [])
+    ≡ true ∷ false ∷ false ∷ true ∷ true ∷ false ∷ []
 row-bare = refl
 
 row-identifiers : are_spelled true (codes "rc.01") ∷ are_spelled false (codes "rc.01") ∷ are_spelled false (codes "rc.1") ∷ []
@@ -177,11 +179,18 @@ row-marks = refl
 
 -- ---- malformed words
 
--- `-1`, `1|2`, `1.2.3.4`, `1/*` and `1.2-` are ignored, and `-`, `foo=`, `1.2.34.5`, `1.2.3-` and nothing are not
-row-malformed : map is_malformed (codes "-1" ∷ (codes "1|2" ∷ (codes "1.2.3.4" ∷ (codes "1/*" ∷ (codes "1.2-" ∷ [])))))
-    ++ map is_malformed (codes "-" ∷ (codes "foo=" ∷ (codes "1.2.34.5" ∷ (codes "1.2.3-" ∷ ([] ∷ [])))))
-    ≡ true ∷ (true ∷ (true ∷ (true ∷ (true ∷ (false ∷ (false ∷ (false ∷ (false ∷ (false ∷ [])))))))))
+-- `-1`, `1|2`, `1.2.3.4`, `1/*`, `1.2-`, `1.2.`, `^v`, `1.x.y` and `>>1` are ignored
+row-malformed : list_all (is_malformed false) (codes "-1" ∷ (codes "1|2" ∷ (codes "1.2.3.4" ∷ (codes "1/*" ∷ (codes "1.2-" ∷
+    (codes "1.2." ∷ (codes "^v" ∷ (codes "1.x.y" ∷ (codes ">>1" ∷ []))))))))) ≡ true
 row-malformed = refl
+
+-- `-`, `foo=` and `^` are so as the last word alone, and `<>*1.2`, `1.2.34.5`, `~>=1` and nothing are not
+row-last : map (λ last. map (is_malformed last) (codes "-" ∷ (codes "foo=" ∷ (codes "^" ∷ (codes "<>*1.2" ∷ [])))))
+    (false ∷ true ∷ []) ≡ (false ∷ false ∷ false ∷ false ∷ []) ∷ ((true ∷ true ∷ true ∷ false ∷ []) ∷ [])
+row-last = refl
+
+row-regular : map (is_malformed true) (codes "1.2.34.5" ∷ (codes "~>=1" ∷ ([] ∷ []))) ≡ false ∷ (false ∷ (false ∷ []))
+row-regular = refl
 
 -- `foo` and `foo * bar` are no alternatives, and `foo *`, `foo *.1`, strictly `foo`, and `foo 1 bar` are
 row-lost : map (λ text. is_lost true text []) (codes "foo" ∷ (codes "foo * bar" ∷ (codes "foo *" ∷ (codes "foo *.1" ∷ []))))

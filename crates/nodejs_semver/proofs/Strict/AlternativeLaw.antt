@@ -11,11 +11,10 @@ use Rattle.std.proofs.lemmas.Str.{encode_ascii, len_utf8_bounds, length-encode}
 use Rattle.semver_core.specs.Internal.Spaces.{after_spaces}
 use Rattle.semver_core.specs.Text.Characters.{IsBlank}
 use Rattle.semver_core.proofs.Text.Trims.{drop_spaces-blank}
-use Rattle.std.specs.Str.{bytes_eq}
 use Rattle.semver_core.specs.Lists.{is_empty}
 use Rattle.nodejs_semver.specs.Internal.NpmWords.{Ended, after_ends, alternative_of, drop_ends, end_front, hyphen_comparisons, hyphen_ends}
 use Rattle.nodejs_semver.specs.Internal.NpmWords.{last_end, partial_front, words_within}
-use Rattle.nodejs_semver.specs.Npm.Malformed.{is_visible}
+use Rattle.nodejs_semver.specs.Npm.Malformed.{is_malformed, is_visible}
 use Rattle.nodejs_semver.specs.Npm.RangeText.{AreEndMarks, AreWords, IsAlternative, IsPartial, IsSignText, IsWord, hyphen, ignored, is_free_lower, is_free_upper}
 use Rattle.nodejs_semver.specs.Npm.RangeText.{is_mark, last, more, nothing, spelling, word, words}
 use Rattle.nodejs_semver.specs.Npm.RangeText.{caret_equal, late_above, late_below, no_sign, sign, tilde_sign, tilde_twice}
@@ -27,7 +26,7 @@ use Rattle.nodejs_semver.proofs.Strict.Hyphens.{after_ends-drop, dash-read, end-
 use Rattle.nodejs_semver.proofs.Strict.Malformed.{all-weaker, boundary-dark, is_part, malformed-all, malformed-more, partial-part}
 use Rattle.nodejs_semver.proofs.Strict.PartialLaw.{boundary-quiet, partial-read}
 use Rattle.nodejs_semver.proofs.Strict.SignsRead.{marks-all}
-use Rattle.nodejs_semver.proofs.Strict.Words.{blank-boundary, blank-space, partial-begins, words-found, words-read, words-visible}
+use Rattle.nodejs_semver.proofs.Strict.Words.{blank-boundary, blank-space, not-empty, partial-begins, words-found, words-read, words-visible}
 
 -- ---- no `-` stands alone behind whitespace in words
 
@@ -38,10 +37,10 @@ is_tight b = is_visible b
 abbrev is_other : ℕ → Bool
 is_other b = not (b == 45)
 
--- a `-` behind which no visible character stands
+-- a `-` behind which a byte stands that is no visible character
 abbrev lone : List ℕ → Bool
 lone [] = false
-lone (b ∷ rest) = (b == 45) && not (begins is_tight rest)
+lone (b ∷ rest) = (b == 45) && (not (is_empty rest) && not (begins is_tight rest))
 
 -- such a `-` stands behind a byte that is no visible character
 abbrev apart : List ℕ → Bool
@@ -138,8 +137,9 @@ blank-other x h = rw h.spelled (go h.characters h.each)
         rw b.spelled (all-join is_other b.front (b.end ∷ []) b.front_other (rw b.end_other refl)) in
         all-join is_other (encode_utf8 c) (encode_utf8_all cs) first (go cs parts.1)
 
-loose-blank : (x z : List ℕ) → IsBlank x → 0 < length x → begins is_tight z ≡ false → apart (x ++ (45 ∷ z)) ≡ true
-loose-blank x z h some ends = subst (λ (t : List ℕ). apart (t ++ (45 ∷ z)) ≡ true) (sym h.spelled)
+loose-blank : (x z : List ℕ) → IsBlank x → 0 < length x → is_empty z ≡ false → begins is_tight z ≡ false
+    → apart (x ++ (45 ∷ z)) ≡ true
+loose-blank x z h some filled ends = subst (λ (t : List ℕ). apart (t ++ (45 ∷ z)) ≡ true) (sym h.spelled)
     (go h.characters h.each (subst (λ (t : List ℕ). 0 < length t) h.spelled some))
   where
     some-bytes : (d : ℕ) (cs : List ℕ) → 0 < length (encode_utf8_all (d ∷ cs))
@@ -151,7 +151,7 @@ loose-blank x z h some ends = subst (λ (t : List ℕ). apart (t ++ (45 ∷ z)) 
         let b = bytes-of c (and_parts (is_whitespace c) true each).0 in
         let text_is : encode_utf8_all (c ∷ []) ++ (45 ∷ z) ≡ b.front ++ (b.end ∷ (45 ∷ z)) =
         rw (append-nil (encode_utf8 c), b.spelled) (append_assoc b.front (b.end ∷ []) (45 ∷ z)) in
-        rw text_is (loose-more b.front (b.end ∷ (45 ∷ z)) (rw (b.end_loose, ends) refl))
+        rw text_is (loose-more b.front (b.end ∷ (45 ∷ z)) (rw (b.end_loose, filled, ends) refl))
     go (c ∷ d ∷ cs) each k =
         let parts = and_parts (is_whitespace c) (list_all is_whitespace (d ∷ cs)) each in
         let rest = encode_utf8_all (d ∷ cs) in
@@ -200,18 +200,21 @@ component-first [] h = refl
 component-first (b ∷ u) h = grind (arith, nat_tests)
 
 -- a word begins with no such `-`, and what is behind it decides
-word-first : (loose : Bool) (include : Bool) (w v : List ℕ) (cs : List Comparison) → IsWord loose include w cs
+word-first : (loose : Bool) (include : Bool) (w v : List ℕ) (cs : List Comparison) → IsWord loose include (is_empty v) w cs
     → (apart (w ++ v) ≡ apart v) × (lone (w ++ v) ≡ false)
 word-first loose include w v cs (ignored x l h) = (
-  tight-passed x v (malformed-all x h),
-  no-dash x v (malformed-all x h) (malformed-more x h),
+  tight-passed x v (malformed-all (is_empty v) x h),
+  no-dash x v h,
 )
   where
-    no-dash : (x v : List ℕ) → list_all is_visible x ≡ true → (is_empty x || bytes_eq x (45 ∷ [])) ≡ false → lone (x ++ v) ≡ false
-    no-dash [] v h k = cc k
-    no-dash (b ∷ []) v h k = grind arith
-    no-dash (b ∷ c ∷ x) v h k =
-        let each = and_parts (is_visible b) (list_all is_visible (c ∷ x)) h in
+    no-dash : (x v : List ℕ) → is_malformed (is_empty v) x ≡ true → lone (x ++ v) ≡ false
+    no-dash [] v h = cc h
+    no-dash (b ∷ []) [] h = and-none (b == 45) false refl
+    no-dash (b ∷ []) (c ∷ v) h =
+        let other = malformed-more (b ∷ []) h in
+        grind arith
+    no-dash (b ∷ c ∷ x) v h =
+        let each = and_parts (is_visible b) (list_all is_visible (c ∷ x)) (malformed-all (is_empty v) (b ∷ c ∷ x) h) in
         let tight = (and_parts (is_visible c) (list_all is_visible x) each.1).0 in
         rw tight (and-none (b == 45) false refl)
 word-first loose include w v cs (word signs marks x s p h m e k) =
@@ -226,7 +229,8 @@ words-first : (loose : Bool) (include : Bool) (text : List ℕ) (cs : List Compa
     → (apart text ≡ false) × (lone text ≡ false)
 words-first loose include text cs (last t ds h) = rw append-nil at (word-first loose include t [] ds h)
 words-first loose include text cs (more t blank rest ds es h hb some k) =
-    let w = word-first loose include t (blank ++ rest) ds h in
+    let here = subst (λ (l : Bool). IsWord loose include l t ds) (sym (not-empty blank rest some)) h in
+    let w = word-first loose include t (blank ++ rest) ds here in
     let r = words-first loose include rest es k in
     (w.0 ∙ other-passed blank rest (blank-other blank hb) r.1 ∙ r.0, w.1)
 
@@ -343,7 +347,7 @@ alternative-read loose include text cs u (hyphen a x blank gap b y p q ha hx hb 
     let r = hyphen-read loose include a x blank gap b y p q ha hx hb some hg more_gap hc hy in
     let behind = blank ++ 45 ∷ (gap ++ (b ++ y)) in
     let ends = boundary-dark (gap ++ (b ++ y)) (blank-boundary gap (b ++ y) hg more_gap) in
-    let l = loose-more a (x ++ behind) (loose-more x behind (loose-blank blank (gap ++ (b ++ y)) hb some ends)) in
+    let l = loose-more a (x ++ behind) (loose-more x behind (loose-blank blank (gap ++ (b ++ y)) hb some (not-empty gap (b ++ y) more_gap) ends)) in
     by-hyphen loose include (a ++ (x ++ behind)) r.0 u l r.1 ∙ ap (λ (l : List Comparison). Some l) r.2
 
 pub alternative-found : (loose : Bool) (include : Bool) (text : List ℕ) (cs : List Comparison) → IsUtf8 text → alternative_of loose include text ≡ Some cs

@@ -1,30 +1,33 @@
 -- The malformed words that are ignored are no well-formed ones.
 use Rattle.nodejs_semver.proofs.Common.{◌≡◌, ◌⊎◌, ◌<◌, ◌≤◌, ◌+◌, ℕ, zero, suc, Bool, List, [], ◌∷◌, ◌++◌, length, drop, take, refl, sym, ap, ◌∙◌, arith}
-use Rattle.nodejs_semver.proofs.Common.{true, false, Some, Option, inl, inr, ◌&&◌, ◌||◌, not, ◌==◌, and_parts, append-nil}
+use Rattle.nodejs_semver.proofs.Common.{true, false, Some, Option, inl, inr, ◌&&◌, ◌||◌, not, ◌==◌, and_from, and_parts, append_assoc, append-nil, length-append}
 use Rattle.nodejs_semver.proofs.Common.{cases_Bool, eqb-true, list_all, nat_tests, is_whitespace, is_ascii_digit, begins, space_len}
 use Rattle.std.proofs.Common.{◌/◌, ◌%◌}
 use Rattle.std.specs.Prelude.{◌-◌, encode_utf8_all, get_or, take_while}
 use Rattle.std.specs.Char.{encode_utf8}
-use Rattle.std.specs.List.{onto_first, prefix_len}
+use Rattle.std.specs.List.{list_any, onto_first, prefix_len}
+use Rattle.std.proofs.lemmas.List.Folds.{list_all-append}
 use Rattle.std.specs.Str.{bytes_eq}
 use Rattle.semver_core.specs.Lists.{is_empty}
+use Rattle.semver_core.specs.Text.Characters.{ends}
 use Rattle.std.proofs.lemmas.Bool.{cases_lt, le-ltb, lt-ltb}
 use Rattle.std.proofs.lemmas.Str.{encode_ascii}
 use Rattle.semver_core.specs.Text.Characters.{IsBlank, is_identifier_char}
-use Rattle.semver_core.specs.Text.Identifiers.{Id, pieces}
+use Rattle.semver_core.specs.Text.Identifiers.{Id, IsIdentifiers, pieces}
 use Rattle.semver_core.proofs.Text.Pieces.{runs_tail, tail_onto, tail_runs}
 use Rattle.nodejs_semver.specs.Internal.Fronts.{is_wildcard}
 use Rattle.nodejs_semver.specs.Internal.NpmWords.{ignored_front}
 use Rattle.nodejs_semver.specs.Internal.Words.{is_boundary}
 use Rattle.nodejs_semver.specs.Npm.Grammar.{IsStrictBuild, no_build, plus}
-use Rattle.nodejs_semver.specs.Npm.Malformed.{after_dot, are_first, begins_malformed, has_four_parts, is_first, is_inner, is_malformed, is_visible, last_visible}
+use Rattle.nodejs_semver.specs.Npm.Malformed.{after_dot, are_first, behind_sign, begins_malformed, begins_place, begins_places, has_four_parts, is_first, is_inner}
+use Rattle.nodejs_semver.specs.Npm.Malformed.{is_last, is_malformed, is_mark_or_sign, is_open, is_regular, is_sign, is_visible, last_visible}
 use Rattle.nodejs_semver.specs.Npm.RangeText as Text
 use Rattle.nodejs_semver.specs.Npm.RangeText.{IsPartial, IsPlace, IsPreRelease, IsSignText, bare, dashed, has_zeros}
 use Rattle.nodejs_semver.specs.Npm.RangeText.{is_mark, no_pre_release, one, spelling, three, two}
 use Rattle.nodejs_semver.specs.Npm.RangeText.{caret_equal, late_above, late_below, no_sign, sign, tilde_sign, tilde_twice}
 use Rattle.nodejs_semver.specs.Npm.Table.{Partial, Sign, caret, compared, tilde}
 use Rattle.nodejs_semver.specs.Text.WordText.{above, at_least, at_most, below, equal}
-use Rattle.nodejs_semver.proofs.Reading.Bytes.{all-join, begins-on, begins_component}
+use Rattle.nodejs_semver.proofs.Reading.Bytes.{all-end, all-join, begins-on, begins_component, ends-append, ends-some}
 use Rattle.nodejs_semver.proofs.Strict.Places.{prefix-all}
 
 -- ---- the characters of partials
@@ -124,15 +127,6 @@ bytes-dark c h = elim (cases_lt c 128) [
     white-dark : (c : ℕ) → is_whitespace c ≡ true → c < 128 → is_dark c ≡ true
     white-dark c h k = grind (arith, nat_tests)
 
--- ---- the characters of words
-
--- a character of words, or none that is visible
-abbrev is_tame : ℕ → Bool
-is_tame b = is_inner b || not (is_visible b)
-
-dark-tame : (b : ℕ) → is_dark b ≡ true → is_tame b ≡ true
-dark-tame b h = grind arith
-
 blank-dark : (x : List ℕ) → IsBlank x → list_all is_dark x ≡ true
 blank-dark x h = rw h.spelled (go h.characters h.each)
   where
@@ -142,97 +136,101 @@ blank-dark x h = rw h.spelled (go h.characters h.each)
         let parts = and_parts (is_whitespace c) (list_all is_whitespace cs) each in
         all-join is_dark (encode_utf8 c) (encode_utf8_all cs) (bytes-dark c parts.0) (go cs parts.1)
 
-blank-tame : (x : List ℕ) → IsBlank x → list_all is_tame x ≡ true
-blank-tame x h = all-weaker is_dark is_tame dark-tame x (blank-dark x h)
+-- ---- the characters of signs
 
-part-tame : (b : ℕ) → is_part b ≡ true → is_tame b ≡ true
-part-tame b h = grind (arith, nat_tests)
+-- a character of a sign, or none that is visible
+abbrev is_signal : ℕ → Bool
+is_signal b = is_sign b || not (is_visible b)
 
-mark-tame : (b : ℕ) → is_mark b ≡ true → is_tame b ≡ true
-mark-tame b h = grind (arith, nat_tests)
+blank-signal : (x : List ℕ) → IsBlank x → list_all is_signal x ≡ true
+blank-signal x h = all-weaker is_dark is_signal dark-signal x (blank-dark x h)
+  where
+    dark-signal : (b : ℕ) → is_dark b ≡ true → is_signal b ≡ true
+    dark-signal b h = grind arith
 
-spelling-tame : (s : Sign) (y : List ℕ) → list_all is_tame y ≡ true → list_all is_tame (spelling s ++ y) ≡ true
-spelling-tame (compared above) y h = h
-spelling-tame (compared at_least) y h = h
-spelling-tame (compared equal) y h = h
-spelling-tame (compared at_most) y h = h
-spelling-tame (compared below) y h = h
-spelling-tame caret y h = h
-spelling-tame tilde y h = h
+spelling-signal : (s : Sign) (y : List ℕ) → list_all is_signal y ≡ true → list_all is_signal (spelling s ++ y) ≡ true
+spelling-signal (compared above) y h = h
+spelling-signal (compared at_least) y h = h
+spelling-signal (compared equal) y h = h
+spelling-signal (compared at_most) y h = h
+spelling-signal (compared below) y h = h
+spelling-signal caret y h = h
+spelling-signal tilde y h = h
 
-sign-tame : (signs : List ℕ) (s : Sign) → IsSignText signs s → list_all is_tame signs ≡ true
-sign-tame signs s no_sign = refl
-sign-tame signs s (sign t y h) = spelling-tame t y (blank-tame y h)
-sign-tame signs s (late_above y h) = all-join is_tame y (61 ∷ []) (blank-tame y h) refl
-sign-tame signs s (late_below y h) = all-join is_tame y (61 ∷ []) (blank-tame y h) refl
-sign-tame signs s (caret_equal y z h k) = all-join is_tame y (61 ∷ z) (blank-tame y h) (blank-tame z k)
-sign-tame signs s (tilde_sign c y z h k which) =
-    all-join is_tame y (spelling (compared c) ++ z) (blank-tame y h) (spelling-tame (compared c) z (blank-tame z k))
-sign-tame signs s (tilde_twice c y z h some k which) =
-    all-join is_tame y (spelling (compared c) ++ z) (blank-tame y h) (spelling-tame (compared c) z (blank-tame z k))
+sign-signal : (signs : List ℕ) (s : Sign) → IsSignText signs s → list_all is_signal signs ≡ true
+sign-signal signs s no_sign = refl
+sign-signal signs s (sign t y h) = spelling-signal t y (blank-signal y h)
+sign-signal signs s (late_above y h) = all-join is_signal y (61 ∷ []) (blank-signal y h) refl
+sign-signal signs s (late_below y h) = all-join is_signal y (61 ∷ []) (blank-signal y h) refl
+sign-signal signs s (caret_equal y z h k) = all-join is_signal y (61 ∷ z) (blank-signal y h) (blank-signal z k)
+sign-signal signs s (tilde_sign c y z h k which) =
+    all-join is_signal y (spelling (compared c) ++ z) (blank-signal y h) (spelling-signal (compared c) z (blank-signal z k))
+sign-signal signs s (tilde_twice c y z h some k which) =
+    all-join is_signal y (spelling (compared c) ++ z) (blank-signal y h) (spelling-signal (compared c) z (blank-signal z k))
 
-sign-first : (signs : List ℕ) (s : Sign) → IsSignText signs s → (signs ≡ []) ⊎ (begins is_first signs ≡ true)
-sign-first signs s no_sign = inl refl
-sign-first signs s (sign (compared above) y h) = inr refl
-sign-first signs s (sign (compared at_least) y h) = inr refl
-sign-first signs s (sign (compared equal) y h) = inr refl
-sign-first signs s (sign (compared at_most) y h) = inr refl
-sign-first signs s (sign (compared below) y h) = inr refl
-sign-first signs s (sign caret y h) = inr refl
-sign-first signs s (sign tilde y h) = inr refl
-sign-first signs s (late_above y h) = inr refl
-sign-first signs s (late_below y h) = inr refl
-sign-first signs s (caret_equal y z h k) = inr refl
-sign-first signs s (tilde_sign c y z h k which) = inr refl
-sign-first signs s (tilde_twice c y z h some k which) = inr refl
+pub sign-visible : (signs : List ℕ) (s : Sign) → IsSignText signs s → (signs ≡ []) ⊎ (begins is_visible signs ≡ true)
+sign-visible signs s no_sign = inl refl
+sign-visible signs s (sign (compared above) y h) = inr refl
+sign-visible signs s (sign (compared at_least) y h) = inr refl
+sign-visible signs s (sign (compared equal) y h) = inr refl
+sign-visible signs s (sign (compared at_most) y h) = inr refl
+sign-visible signs s (sign (compared below) y h) = inr refl
+sign-visible signs s (sign caret y h) = inr refl
+sign-visible signs s (sign tilde y h) = inr refl
+sign-visible signs s (late_above y h) = inr refl
+sign-visible signs s (late_below y h) = inr refl
+sign-visible signs s (caret_equal y z h k) = inr refl
+sign-visible signs s (tilde_sign c y z h k which) = inr refl
+sign-visible signs s (tilde_twice c y z h some k which) = inr refl
 
--- a first character of words, or none that is visible
-abbrev is_start : ℕ → Bool
-is_start b = is_first b || not (is_visible b)
+-- the characters of a sign up to its first whitespace
+record SignFront (signs : List ℕ) : Type 0 where
+  front : List ℕ
+  rest : List ℕ
+  split : signs ≡ front ++ rest
+  each : list_all is_sign front ≡ true
+  dark : begins is_visible rest ≡ false
 
-first-start : (u : List ℕ) → begins is_first u ≡ true → begins is_start u ≡ true
-first-start u h = grind arith
-
-marks-start : (marks u : List ℕ) → list_all is_mark marks ≡ true → begins_component u ≡ true → begins is_start (marks ++ u) ≡ true
-marks-start [] [] h k = cc k
-marks-start [] (b ∷ u) h k = grind (arith, nat_tests)
-marks-start (b ∷ marks) u h k = grind (arith, nat_tests)
-
--- ---- no malformed word is at the front of a text that begins as a word does
-
-tame-inner : (w rest : List ℕ) → list_all is_tame w ≡ true → begins is_visible rest ≡ false
-    → list_all is_inner (take_while is_visible (w ++ rest)) ≡ true
-tame-inner [] [] h k = refl
-tame-inner [] (b ∷ rest) h k = rw k refl
-tame-inner (b ∷ w) rest h k =
-    let each = and_parts (is_tame b) (list_all is_tame w) h in
+sign-front : (signs : List ℕ) → list_all is_signal signs ≡ true → SignFront signs
+sign-front [] h = record { front = []; rest = []; split = refl; each = refl; dark = refl }
+sign-front (b ∷ signs) h =
+    let each = and_parts (is_signal b) (list_all is_signal signs) h in
     elim (cases_Bool (is_visible b)) [
+      | inr other ↦ record { front = []; rest = b ∷ signs; split = refl; each = refl; dark = other }
       | inl visible ↦
-          let inner : is_inner b ≡ true = or-left (is_inner b) (is_visible b) each.0 visible in
-          let e : 1 + prefix_len is_visible (w ++ rest) ≡ suc (prefix_len is_visible (w ++ rest)) = omega arith in
-          rw (visible, e, inner) (tame-inner w rest each.1 k)
-      | inr other ↦ rw other refl
+          let more = sign-front signs each.1 in
+          record {
+            front = b ∷ more.front;
+            rest = more.rest;
+            split = ap (λ (l : List ℕ). b ∷ l) more.split;
+            each = and_from (is_sign b) (list_all is_sign more.front) (or-left (is_sign b) (is_visible b) each.0 visible) more.each;
+            dark = more.dark;
+          }
     ]
   where
     or-left : (a p : Bool) → (a || not p) ≡ true → p ≡ true → a ≡ true
     or-left a p h k = grind arith
 
-run-start : (text : List ℕ) → begins is_start text ≡ true → (take_while is_visible text ≡ []) ⊎ (begins is_first (take_while is_visible text) ≡ true)
-run-start [] h = inl refl
-run-start (b ∷ text) h = elim (cases_Bool (is_visible b)) [
-  | inr other ↦ inl (rw other refl)
-  | inl visible ↦
-      let e : 1 + prefix_len is_visible text ≡ suc (prefix_len is_visible text) = omega arith in
-      inr (rw (visible, e) (or-left (is_first b) (is_visible b) h visible))
-]
-  where
-    or-left : (a p : Bool) → (a || not p) ≡ true → p ≡ true → a ≡ true
-    or-left a p h k = grind arith
+sign-visibly : (b : ℕ) → is_sign b ≡ true → is_visible b ≡ true
+sign-visibly b h = grind (arith, nat_tests)
 
-none-malformed : (run : List ℕ) → list_all is_inner run ≡ true → (run ≡ []) ⊎ (begins is_first run ≡ true)
-    → has_four_parts run ≡ false → (are_first run ≡ true) × (are_first (after_dot run) ≡ true) → is_malformed run ≡ false
-none-malformed run h (inl e) k parts = rw e refl
-none-malformed run h (inr first) k parts = rw (k, first, h, parts.0, parts.1) (grind arith)
+sign-first : (b : ℕ) → is_sign b ≡ true → is_first b ≡ true
+sign-first b h = rw h refl
+
+mark-first : (b : ℕ) → is_mark b ≡ true → is_first b ≡ true
+mark-first b h = grind (arith, nat_tests)
+
+first-visible : (b : ℕ) → is_first b ≡ true → is_visible b ≡ true
+first-visible b h = grind (arith, nat_tests)
+
+first-inner : (b : ℕ) → is_first b ≡ true → is_inner b ≡ true
+first-inner b h = grind (arith, nat_tests)
+
+part-inner : (b : ℕ) → is_part b ≡ true → is_inner b ≡ true
+part-inner b h = grind (arith, nat_tests)
+
+part-visible : (b : ℕ) → is_part b ≡ true → is_visible b ≡ true
+part-visible b h = grind (arith, nat_tests)
 
 -- ---- no well-formed word has four parts
 
@@ -248,11 +246,8 @@ dotless-passed (b ∷ u) v h =
     other : (a : Bool) → not a ≡ true → a ≡ false
     other a h = grind arith
 
-dark-dotless : (b : ℕ) → is_dark b ≡ true → is_dotless b ≡ true
-dark-dotless b h = grind (arith, nat_tests)
-
-mark-dotless : (b : ℕ) → is_mark b ≡ true → is_dotless b ≡ true
-mark-dotless b h = grind (arith, nat_tests)
+first-dotless : (b : ℕ) → is_first b ≡ true → is_dotless b ≡ true
+first-dotless b h = grind (arith, nat_tests)
 
 digit-dotless : (b : ℕ) → is_ascii_digit b ≡ true → is_dotless b ≡ true
 digit-dotless b h = grind (arith, nat_tests)
@@ -264,29 +259,6 @@ place-dotless loose zeros x a (Text.any b h) = (rw (wild b h) refl, omega arith)
     wild b h = grind (arith, nat_tests)
 place-dotless loose zeros x a (Text.number digits n k spelled short) =
     (all-weaker is_ascii_digit is_dotless digit-dotless digits k.each, k.some)
-
-blank-dotless : (x : List ℕ) → IsBlank x → list_all is_dotless x ≡ true
-blank-dotless x h = all-weaker is_dark is_dotless dark-dotless x (blank-dark x h)
-
-spelling-dotless : (s : Sign) (y : List ℕ) → list_all is_dotless y ≡ true → list_all is_dotless (spelling s ++ y) ≡ true
-spelling-dotless (compared above) y h = h
-spelling-dotless (compared at_least) y h = h
-spelling-dotless (compared equal) y h = h
-spelling-dotless (compared at_most) y h = h
-spelling-dotless (compared below) y h = h
-spelling-dotless caret y h = h
-spelling-dotless tilde y h = h
-
-sign-dotless : (signs : List ℕ) (s : Sign) → IsSignText signs s → list_all is_dotless signs ≡ true
-sign-dotless signs s no_sign = refl
-sign-dotless signs s (sign t y h) = spelling-dotless t y (blank-dotless y h)
-sign-dotless signs s (late_above y h) = all-join is_dotless y (61 ∷ []) (blank-dotless y h) refl
-sign-dotless signs s (late_below y h) = all-join is_dotless y (61 ∷ []) (blank-dotless y h) refl
-sign-dotless signs s (caret_equal y z h k) = all-join is_dotless y (61 ∷ z) (blank-dotless y h) (blank-dotless z k)
-sign-dotless signs s (tilde_sign c y z h k which) =
-    all-join is_dotless y (spelling (compared c) ++ z) (blank-dotless y h) (spelling-dotless (compared c) z (blank-dotless z k))
-sign-dotless signs s (tilde_twice c y z h some k which) =
-    all-join is_dotless y (spelling (compared c) ++ z) (blank-dotless y h) (spelling-dotless (compared c) z (blank-dotless z k))
 
 abbrev is_dot : ℕ → Bool
 is_dot b = b == 46
@@ -318,196 +290,295 @@ partial-parts loose x p (three x1 y z pre build a b c ids builds h k l m s n t) 
     let place = place-dotless loose (has_zeros a) z c l in
     rw (d, e) (third z (pre ++ build) place.0 place.1 (pre-first loose pre build ids builds m n))
 
-word-parts : (loose : Bool) (signs marks x : List ℕ) (s : Sign) (p : Partial) → IsSignText signs s → list_all is_mark marks ≡ true
-    → IsPartial loose x p → has_four_parts (signs ++ (marks ++ x)) ≡ false
-word-parts loose signs marks x s p h m k =
-    let e : after_dot (signs ++ (marks ++ x)) ≡ after_dot x =
-    dotless-passed signs (marks ++ x) (sign-dotless signs s h)
-    ∙ dotless-passed marks x (all-weaker is_mark is_dotless mark-dotless marks m) in
-    rw e (partial-parts loose x p k)
+-- ---- the parts of a well-formed word
 
--- nor has its front
-dot-cases : (r s : List ℕ) → (after_dot r ≡ []) ⊎ (after_dot (r ++ s) ≡ after_dot r ++ s)
-dot-cases [] s = inl refl
-dot-cases (b ∷ r) s = elim (cases_Bool (b == 46)) [
-  | inl dot ↦ inr (rw dot refl)
-  | inr other ↦ elim (dot-cases r s) [ inl none ↦ inl (rw other none) | inr some ↦ inr (rw other some) ]
-]
+first-begins : (u v : List ℕ) → list_all is_first u ≡ true → begins is_first v ≡ true → begins is_first (u ++ v) ≡ true
+first-begins [] v h k = k
+first-begins (b ∷ u) v h k = (and_parts (is_first b) (list_all is_first u) h).0
 
-front-parts : (r s : List ℕ) → has_four_parts (r ++ s) ≡ false → has_four_parts r ≡ false
-front-parts r s h = elim (dot-cases r s) [
-  | inl none ↦ rw none refl
-  | inr some ↦ elim (dot-cases (after_dot r) s) [
-    | inl none ↦ rw none refl
-    | inr more ↦ front (after_dot (after_dot r)) s (rw (some, more) at h)
-  ]
-]
-  where
-    front : (t s : List ℕ) → begins is_dot (drop 1 (t ++ s)) ≡ false → begins is_dot (drop 1 t) ≡ false
-    front [] s h = refl
-    front (c ∷ []) s h = refl
-    front (c ∷ d ∷ t) s h = h
-
--- ---- the first two parts of a well-formed word
-
--- in front of the first dot no visible character but such as begin words
-abbrev are_start : List ℕ → Bool
-are_start [] = true
-are_start (b ∷ rest) = b == 46 || is_start b && are_start rest
-
-start-joined : (u v : List ℕ) → list_all is_start u ≡ true → are_start v ≡ true → are_start (u ++ v) ≡ true
-start-joined [] v h k = k
-start-joined (b ∷ u) v h k =
-    let each = and_parts (is_start b) (list_all is_start u) h in
-    rw (each.0, start-joined u v each.1 k) (or-true (b == 46))
+first-joined : (u v : List ℕ) → list_all is_first u ≡ true → are_first v ≡ true → are_first (u ++ v) ≡ true
+first-joined [] v h k = k
+first-joined (b ∷ u) v h k =
+    let each = and_parts (is_first b) (list_all is_first u) h in
+    rw (each.0, first-joined u v each.1 k) (or-true (b == 46))
   where
     or-true : (a : Bool) → (a || true) ≡ true
     or-true a = grind arith
 
-start-all : (u : List ℕ) → list_all is_start u ≡ true → are_start u ≡ true
-start-all u h = rw append-nil at (start-joined u [] h refl)
+place-joined : (u v : List ℕ) → list_all is_first u ≡ true → 0 < length u → are_first v ≡ true → begins_place (u ++ v) ≡ true
+place-joined [] v h some k = absurd (omega (arith, some))
+place-joined (b ∷ u) v h some k =
+    and_from (is_first b) (are_first ((b ∷ u) ++ v)) (and_parts (is_first b) (list_all is_first u) h).0 (first-joined (b ∷ u) v h k)
 
-start-front : (u s : List ℕ) → are_start (u ++ s) ≡ true → are_start u ≡ true
-start-front [] s h = refl
-start-front (b ∷ u) s h = elim (cases_Bool (b == 46)) [
-  | inl dot ↦ rw dot refl
-  | inr other ↦
-      let each = and_parts (is_start b) (are_start (u ++ s)) (rw other at h) in
-      rw (other, each.0) (start-front u s each.1)
-]
-
-start-visible : (u : List ℕ) → list_all is_visible u ≡ true → are_start u ≡ true → are_first u ≡ true
-start-visible [] h k = refl
-start-visible (b ∷ u) h k = elim (cases_Bool (b == 46)) [
-  | inl dot ↦ rw dot refl
-  | inr other ↦
-      let visible = and_parts (is_visible b) (list_all is_visible u) h in
-      let each = and_parts (is_start b) (are_start u) (rw other at k) in
-      rw (other, or-left (is_first b) (is_visible b) each.0 visible.0) (start-visible u visible.1 each.1)
-]
+place-first : (loose zeros : Bool) (x : List ℕ) (a : Option ℕ) → IsPlace loose zeros x a → list_all is_first x ≡ true
+place-first loose zeros x a (Text.any b h) = rw (wild b h) refl
   where
-    or-left : (a p : Bool) → (a || not p) ≡ true → p ≡ true → a ≡ true
-    or-left a p h k = grind arith
-
-visible-behind : (u : List ℕ) → list_all is_visible u ≡ true → list_all is_visible (after_dot u) ≡ true
-visible-behind [] h = refl
-visible-behind (b ∷ u) h =
-    let each = and_parts (is_visible b) (list_all is_visible u) h in
-    elim (cases_Bool (b == 46)) [
-      | inl dot ↦ rw dot each.1
-      | inr other ↦ rw other (visible-behind u each.1)
-    ]
-
-place-start : (loose zeros : Bool) (x : List ℕ) (a : Option ℕ) → IsPlace loose zeros x a → list_all is_start x ≡ true
-place-start loose zeros x a (Text.any b h) = rw (wild b h) refl
-  where
-    wild : (b : ℕ) → is_wildcard b ≡ true → is_start b ≡ true
+    wild : (b : ℕ) → is_wildcard b ≡ true → is_first b ≡ true
     wild b h = grind (arith, nat_tests)
-place-start loose zeros x a (Text.number digits n k spelled short) = all-weaker is_ascii_digit is_start digit-start digits k.each
+place-first loose zeros x a (Text.number digits n k spelled short) = all-weaker is_ascii_digit is_first digit-first digits k.each
   where
-    digit-start : (b : ℕ) → is_ascii_digit b ≡ true → is_start b ≡ true
-    digit-start b h = grind (arith, nat_tests)
+    digit-first : (b : ℕ) → is_ascii_digit b ≡ true → is_first b ≡ true
+    digit-first b h = grind (arith, nat_tests)
 
-partial-start : (loose : Bool) (x : List ℕ) (p : Partial) → IsPartial loose x p
-    → (are_start x ≡ true) × (are_start (after_dot x) ≡ true)
-partial-start loose x p (one x1 a h) =
+-- a place alone, and one before a dot
+place-alone : (loose zeros : Bool) (x : List ℕ) (a : Option ℕ) → IsPlace loose zeros x a → begins_place x ≡ true
+place-alone loose zeros x a h =
+    rw append-nil at (place-joined x [] (place-first loose zeros x a h) (place-dotless loose zeros x a h).1 refl)
+
+place-dotted : (loose zeros : Bool) (x rest : List ℕ) (a : Option ℕ) → IsPlace loose zeros x a → begins_place (x ++ 46 ∷ rest) ≡ true
+place-dotted loose zeros x rest a h =
+    place-joined x (46 ∷ rest) (place-first loose zeros x a h) (place-dotless loose zeros x a h).1 refl
+
+or-true : (a : Bool) → (a || true) ≡ true
+or-true a = grind arith
+
+partial-places : (loose : Bool) (x : List ℕ) (p : Partial) → IsPartial loose x p → begins_places x ≡ true
+partial-places loose x p (one x1 a h) =
     let e : after_dot x1 ≡ [] = rw append-nil at (dotless-passed x1 [] (place-dotless loose false x1 a h).0) in
-    (start-all x1 (place-start loose false x1 a h), rw e refl)
-partial-start loose x p (two x1 y a b h k) =
+    rw (e, place-alone loose false x1 a h) refl
+partial-places loose x p (two x1 y a b h k) =
     let d : after_dot (x1 ++ 46 ∷ y) ≡ y = dotless-passed x1 (46 ∷ y) (place-dotless loose false x1 a h).0 in
-    (start-joined x1 (46 ∷ y) (place-start loose false x1 a h) refl, rw d (start-all y (place-start loose (has_zeros a) y b k)))
-partial-start loose x p (three x1 y z pre build a b c ids builds h k l m s n t) =
+    let e : after_dot y ≡ [] = rw append-nil at (dotless-passed y [] (place-dotless loose (has_zeros a) y b k).0) in
+    rw (d, e, place-dotted loose false x1 y a h, place-alone loose (has_zeros a) y b k, or-true (is_empty y)) refl
+partial-places loose x p (three x1 y z pre build a b c ids builds h k l m s n t) =
     let q = z ++ (pre ++ build) in
-    let d : after_dot (x1 ++ 46 ∷ (y ++ 46 ∷ q)) ≡ y ++ 46 ∷ q = dotless-passed x1 (46 ∷ (y ++ 46 ∷ q)) (place-dotless loose false x1 a h).0 in (
-      start-joined x1 (46 ∷ (y ++ 46 ∷ q)) (place-start loose false x1 a h) refl,
-      rw d (start-joined y (46 ∷ q) (place-start loose (has_zeros a) y b k) refl),
-    )
-
--- the characters of signs and blanks begin words, or are not visible
-spelling-start : (s : Sign) (y : List ℕ) → list_all is_start y ≡ true → list_all is_start (spelling s ++ y) ≡ true
-spelling-start (compared above) y h = h
-spelling-start (compared at_least) y h = h
-spelling-start (compared equal) y h = h
-spelling-start (compared at_most) y h = h
-spelling-start (compared below) y h = h
-spelling-start caret y h = h
-spelling-start tilde y h = h
-
-blank-start : (x : List ℕ) → IsBlank x → list_all is_start x ≡ true
-blank-start x h = all-weaker is_dark is_start dark-start x (blank-dark x h)
+    let r = y ++ 46 ∷ q in
+    let d : after_dot (x1 ++ 46 ∷ r) ≡ r = dotless-passed x1 (46 ∷ r) (place-dotless loose false x1 a h).0 in
+    let e : after_dot r ≡ q = dotless-passed y (46 ∷ q) (place-dotless loose (has_zeros a) y b k).0 in
+    let first = begins-on is_first z (pre ++ build) (all-begins z (place-first loose (has_zeros a) z c l) (place-dotless loose (has_zeros a) z c l).1) in
+    rw (d, e, place-dotted loose false x1 r a h, place-dotted loose (has_zeros a) y q b k, first, or-true (is_empty r), or-true (is_empty q)) refl
   where
-    dark-start : (b : ℕ) → is_dark b ≡ true → is_start b ≡ true
-    dark-start b h = grind arith
+    all-begins : (z : List ℕ) → list_all is_first z ≡ true → 0 < length z → begins is_first z ≡ true
+    all-begins [] h some = absurd (omega (arith, some))
+    all-begins (b ∷ z) h some = (and_parts (is_first b) (list_all is_first z) h).0
 
-sign-start : (signs : List ℕ) (s : Sign) → IsSignText signs s → list_all is_start signs ≡ true
-sign-start signs s no_sign = refl
-sign-start signs s (sign t y h) = spelling-start t y (blank-start y h)
-sign-start signs s (late_above y h) = all-join is_start y (61 ∷ []) (blank-start y h) refl
-sign-start signs s (late_below y h) = all-join is_start y (61 ∷ []) (blank-start y h) refl
-sign-start signs s (caret_equal y z h k) = all-join is_start y (61 ∷ z) (blank-start y h) (blank-start z k)
-sign-start signs s (tilde_sign c y z h k which) =
-    all-join is_start y (spelling (compared c) ++ z) (blank-start y h) (spelling-start (compared c) z (blank-start z k))
-sign-start signs s (tilde_twice c y z h some k which) =
-    all-join is_start y (spelling (compared c) ++ z) (blank-start y h) (spelling-start (compared c) z (blank-start z k))
+-- ---- the signs of a well-formed word
 
-word-start : (loose : Bool) (signs marks x : List ℕ) (s : Sign) (p : Partial) → IsSignText signs s → list_all is_mark marks ≡ true
-    → IsPartial loose x p
-    → (are_start (signs ++ (marks ++ x)) ≡ true) × (are_start (after_dot (signs ++ (marks ++ x))) ≡ true)
-word-start loose signs marks x s p h m k =
-    let parts = partial-start loose x p k in
-    let e : after_dot (signs ++ (marks ++ x)) ≡ after_dot x =
-    dotless-passed signs (marks ++ x) (sign-dotless signs s h)
-    ∙ dotless-passed marks x (all-weaker is_mark is_dotless mark-dotless marks m) in (
-      start-joined signs (marks ++ x) (sign-start signs s h)
-          (start-joined marks x (all-weaker is_mark is_start mark-start marks m) parts.0),
-      rw e parts.1,
-    )
-  where
-    mark-start : (b : ℕ) → is_mark b ≡ true → is_start b ≡ true
-    mark-start b h = grind (arith, nat_tests)
+-- no character of a sign but `=`
+abbrev is_unsigned : ℕ → Bool
+is_unsigned b = not (is_sign b) || b == 61
 
--- and so of its front, if that is visible
-firsts-front : (r s : List ℕ) → list_all is_visible r ≡ true
-    → (are_start (r ++ s) ≡ true) × (are_start (after_dot (r ++ s)) ≡ true)
-    → (are_first r ≡ true) × (are_first (after_dot r) ≡ true)
-firsts-front r s h k = (
-  start-visible r h (start-front r s k.0),
-  elim (dot-cases r s) [
-    | inl none ↦ rw none refl
-    | inr some ↦ start-visible (after_dot r) (visible-behind r h) (start-front (after_dot r) s (rw some at k.1))
-  ],
-)
+part-unsigned : (b : ℕ) → is_part b ≡ true → is_unsigned b ≡ true
+part-unsigned b h = grind (arith, nat_tests)
 
-run-front : (w rest : List ℕ) → begins is_visible rest ≡ false → (s : List ℕ) × (w ≡ take_while is_visible (w ++ rest) ++ s)
-run-front [] [] h = ([], refl)
-run-front [] (b ∷ rest) h = ([], rw h refl)
-run-front (b ∷ w) rest h = elim (cases_Bool (is_visible b)) [
-  | inr other ↦ (b ∷ w, rw other refl)
-  | inl visible ↦
-      let r = run-front w rest h in
-      let e : 1 + prefix_len is_visible (w ++ rest) ≡ suc (prefix_len is_visible (w ++ rest)) = omega arith in
-      (r.0, rw (visible, e) (ap (λ (l : List ℕ). b ∷ l) r.1))
+mark-unsigned : (b : ℕ) → is_mark b ≡ true → is_unsigned b ≡ true
+mark-unsigned b h = grind (arith, nat_tests)
+
+unsigned-behind : (v : List ℕ) → list_all is_unsigned v ≡ true → list_all is_unsigned (behind_sign v) ≡ true
+unsigned-behind [] h = refl
+unsigned-behind (c ∷ []) h = refl
+unsigned-behind (c ∷ d ∷ v) h = elim (cases_Bool (c == 126 && d == 62)) [
+  | inl both ↦ rw both ((and_parts (is_unsigned d) (list_all is_unsigned v) (and_parts (is_unsigned c) _ h).1).1)
+  | inr other ↦ rw other ((and_parts (is_unsigned c) (list_all is_unsigned (d ∷ v)) h).1)
 ]
+
+one-sign : (b : ℕ) (v : List ℕ) → list_all is_unsigned v ≡ true → list_all is_unsigned (behind_sign (b ∷ v)) ≡ true
+one-sign b [] h = refl
+one-sign b (c ∷ v) h = elim (cases_Bool (b == 126 && c == 62)) [
+  | inl both ↦ rw both ((and_parts (is_unsigned c) (list_all is_unsigned v) h).1)
+  | inr other ↦ rw other h
+]
+
+-- whitespace that is signs is none
+blank-none : (y : List ℕ) → IsBlank y → list_all is_sign y ≡ true → y ≡ []
+blank-none y h k = go y (blank-dark y h) k
+  where
+    dark-sign : (b : ℕ) → is_dark b ≡ true → is_sign b ≡ true → ⊥
+    dark-sign b h k = grind (arith, nat_tests)
+
+    go : (y : List ℕ) → list_all is_dark y ≡ true → list_all is_sign y ≡ true → y ≡ []
+    go [] h k = refl
+    go (b ∷ y) h k =
+        absurd (dark-sign b (and_parts (is_dark b) (list_all is_dark y) h).0 (and_parts (is_sign b) (list_all is_sign y) k).0)
+
+spelling-one : (s : Sign) (v : List ℕ) → list_all is_unsigned v ≡ true → list_all is_unsigned (behind_sign (spelling s ++ v)) ≡ true
+spelling-one (compared above) v h = one-sign 62 v h
+spelling-one (compared at_least) v h = h
+spelling-one (compared equal) v h = one-sign 61 v h
+spelling-one (compared at_most) v h = h
+spelling-one (compared below) v h = one-sign 60 v h
+spelling-one caret v h = one-sign 94 v h
+spelling-one tilde v h = one-sign 126 v h
+
+all-front : (u v : List ℕ) → list_all is_sign (u ++ v) ≡ true → (list_all is_sign u ≡ true) × (list_all is_sign v ≡ true)
+all-front u v h = and_parts (list_all is_sign u) (list_all is_sign v) (sym (list_all-append is_sign u v) ∙ h)
+
+sign-one : (signs v : List ℕ) (s : Sign) → IsSignText signs s → list_all is_sign signs ≡ true → list_all is_unsigned v ≡ true
+    → list_all is_unsigned (behind_sign (signs ++ v)) ≡ true
+sign-one signs v s no_sign a h = unsigned-behind v h
+sign-one signs v s (sign t y b) a h =
+    rw (blank-none y b (all-front (spelling t) y a).1, append-nil (spelling t)) (spelling-one t v h)
+sign-one signs v s (late_above y b) a h = rw (blank-none y b (all-front y (61 ∷ []) a).0) h
+sign-one signs v s (late_below y b) a h = rw (blank-none y b (all-front y (61 ∷ []) a).0) h
+sign-one signs v s (caret_equal y z b c) a h =
+    let front = all-front y (61 ∷ z) a in
+    rw (blank-none y b front.0, blank-none z c front.1) h
+sign-one signs v s (tilde_sign above y z b c which) a h =
+    let front = all-front y (62 ∷ z) a in
+    rw (blank-none y b front.0, blank-none z c front.1) h
+sign-one signs v s (tilde_sign at_least y z b c which) a h =
+    let front = all-front y (62 ∷ 61 ∷ z) a in
+    rw (blank-none y b front.0, blank-none z c front.1) h
+sign-one signs v s (tilde_sign equal y z b c which) a h =
+    let front = all-front y (61 ∷ z) a in
+    rw (blank-none y b front.0, blank-none z c front.1) h
+sign-one signs v s (tilde_sign at_most y z b c (inl e)) a h = cc e
+sign-one signs v s (tilde_sign at_most y z b c (inr (inl e))) a h = cc e
+sign-one signs v s (tilde_sign at_most y z b c (inr (inr e))) a h = cc e
+sign-one signs v s (tilde_sign below y z b c (inl e)) a h = cc e
+sign-one signs v s (tilde_sign below y z b c (inr (inl e))) a h = cc e
+sign-one signs v s (tilde_sign below y z b c (inr (inr e))) a h = cc e
+sign-one signs v s (tilde_twice d y z b some c which) a h =
+    absurd (omega (arith, some, ap length (blank-none y b (all-front y (spelling (compared d) ++ z) a).0)))
+
+-- ---- the end of a well-formed word
+
+part-last : (b : ℕ) → is_identifier_char b ≡ true → is_last b ≡ true
+part-last b h = rw h refl
+
+tail-end : (c : ℕ) (t : List ℕ) → tail_runs (pieces (c ∷ t)) ≡ true → ends is_last (c ∷ t) ≡ true
+tail-end c [] h = elim (cases_Bool (c == 46)) [
+  | inl dot ↦ cc (rw dot at h)
+  | inr other ↦ part-last c (and_parts (is_identifier_char c) true (and_parts (is_identifier_char c && true) true (rw other at h)).0).0
+]
+tail-end c (d ∷ t) h = elim (cases_Bool (c == 46)) [
+  | inl dot ↦ tail-end d t (runs_tail (pieces (d ∷ t)) (rw dot at h))
+  | inr other ↦ tail-end d t (tail_onto c (pieces (d ∷ t)) (rw other at h))
+]
+
+identifiers-end : (t : List ℕ) (list : List Id) → IsIdentifiers t list → ends is_last t ≡ true
+identifiers-end [] list h = cc h.runs
+identifiers-end (c ∷ t) list h = tail-end c t (runs_tail (pieces (c ∷ t)) h.runs)
+
+place-end : (loose zeros : Bool) (x : List ℕ) (a : Option ℕ) → IsPlace loose zeros x a → ends is_last x ≡ true
+place-end loose zeros x a (Text.any b h) = wild b h
+  where
+    wild : (b : ℕ) → is_wildcard b ≡ true → is_last b ≡ true
+    wild b h = grind (arith, nat_tests)
+place-end loose zeros x a (Text.number digits n k spelled short) =
+    all-end is_last digits k.some (all-weaker is_ascii_digit is_last digit-last digits k.each)
+  where
+    digit-last : (b : ℕ) → is_ascii_digit b ≡ true → is_last b ≡ true
+    digit-last b h = grind (arith, nat_tests)
+
+-- a text ends as its last piece does
+last-end : (u v : List ℕ) → ends is_last v ≡ true → ends is_last (u ++ v) ≡ true
+last-end u v h = ends-append is_last u v (ends-some is_last v h) ∙ h
+
+qualified-end : (loose : Bool) (z pre build : List ℕ) (ids builds : List Id) → ends is_last z ≡ true → IsPreRelease loose pre ids
+    → IsStrictBuild build builds → ends is_last (z ++ (pre ++ build)) ≡ true
+qualified-end loose z pre build ids builds e m (plus t list h) =
+    last-end z (pre ++ 43 ∷ t) (last-end pre (43 ∷ t) (last-end (43 ∷ []) t (identifiers-end t list h)))
+qualified-end loose z pre build ids builds e no_pre_release no_build = rw (append-nil z) e
+qualified-end loose z pre build ids builds e (dashed t list h s) no_build =
+    rw (append-nil t) (last-end z (45 ∷ t) (last-end (45 ∷ []) t (identifiers-end t list h)))
+qualified-end loose z pre build ids builds e (bare t list f g h s) no_build =
+    rw (append-nil t) (last-end z t (identifiers-end t list h))
+
+partial-end : (loose : Bool) (x : List ℕ) (p : Partial) → IsPartial loose x p → ends is_last x ≡ true
+partial-end loose x p (one x1 a h) = place-end loose false x1 a h
+partial-end loose x p (two x1 y a b h k) =
+    last-end x1 (46 ∷ y) (last-end (46 ∷ []) y (place-end loose (has_zeros a) y b k))
+partial-end loose x p (three x1 y z pre build a b c ids builds h k l m s n t) =
+    let q = z ++ (pre ++ build) in
+    let last = qualified-end loose z pre build ids builds (place-end loose (has_zeros a) z c l) m n in
+    last-end x1 (46 ∷ (y ++ 46 ∷ q)) (last-end (46 ∷ []) (y ++ 46 ∷ q) (last-end y (46 ∷ q) (last-end (46 ∷ []) q last)))
+
+-- ---- no malformed word is at the front of a text that begins as a word does
+
+run-is : (x rest : List ℕ) → list_all is_visible x ≡ true → begins is_visible rest ≡ false
+    → (take_while is_visible (x ++ rest) ≡ x) × (drop (prefix_len is_visible (x ++ rest)) (x ++ rest) ≡ rest)
+run-is [] [] h k = (refl, refl)
+run-is [] (b ∷ rest) h k = (rw k refl, rw k refl)
+run-is (b ∷ x) rest h k =
+    let each = and_parts (is_visible b) (list_all is_visible x) h in
+    let e : 1 + prefix_len is_visible (x ++ rest) ≡ suc (prefix_len is_visible (x ++ rest)) = omega arith in
+    let r = run-is x rest each.1 k in
+    (rw (each.0, e) (ap (λ (l : List ℕ). b ∷ l) r.0), rw (each.0, e) r.1)
+
+-- a sign before whitespace is open
+sign-kept : (front : List ℕ) (b : ℕ) (rest : List ℕ) → list_all is_sign front ≡ true → 0 < length front → is_visible b ≡ false
+    → begins_malformed (front ++ b ∷ rest) ≡ false
+sign-kept front b rest h some dark =
+    let r = run-is front (b ∷ rest) (all-weaker is_sign is_visible sign-visibly front h) dark in
+    rw (r.0, r.1, all-end is_sign front some h) (and-none (list_all is_visible front) (is_empty front))
+  where
+    and-none : (a c : Bool) → (a && (not c && false)) ≡ false
+    and-none a c = grind arith
+
+regular-kept : (w rest : List ℕ) → list_all is_visible w ≡ true → begins is_visible rest ≡ false → has_four_parts w ≡ false
+    → is_regular w ≡ true → begins_malformed (w ++ rest) ≡ false
+regular-kept w rest h dark parts regular =
+    let r = run-is w rest h dark in
+    rw (r.0, r.1, parts, regular) (none (list_all is_visible w) (is_empty w) (is_empty rest || not (is_open w)))
+  where
+    none : (a c d : Bool) → (a && (not c && (d && false))) ≡ false
+    none a c d = grind arith
+
+-- some characters that begin words, and a partial
+first-word : (loose : Bool) (u x rest : List ℕ) (p : Partial) → list_all is_first u ≡ true
+    → list_all is_unsigned (behind_sign (u ++ x)) ≡ true → IsPartial loose x p → begins_component x ≡ true → begins is_visible rest ≡ false → begins_malformed ((u ++ x) ++ rest) ≡ false
+first-word loose u x rest p h plain k first dark =
+    let passed = dotless-passed u x (all-weaker is_first is_dotless first-dotless u h) in
+    let part = partial-part loose x p k in
+    let inner = all-join is_inner u x (all-weaker is_first is_inner first-inner u h) (all-weaker is_part is_inner part-inner x part) in
+    let visible = all-join is_visible u x (all-weaker is_first is_visible first-visible u h) (all-weaker is_part is_visible part-visible x part) in
+    let places = and_parts (begins_place x) _ (partial-places loose x p k) in
+    let begun = and_parts (begins is_first x) (are_first x) places.0 in
+    let parts : has_four_parts (u ++ x) ≡ false = rw passed (partial-parts loose x p k) in
+    let regular : is_regular (u ++ x) ≡ true = rw (
+      inner,
+      last-end u x (partial-end loose x p k),
+      more u x first,
+      plain,
+      or-true (list_any (λ b. b == 42) (u ++ x)),
+      passed,
+      first-begins u x h begun.0,
+      first-joined u x h begun.1,
+    ) places.1 in
+    regular-kept (u ++ x) rest visible dark parts regular
+  where
+    more : (u x : List ℕ) → begins_component x ≡ true → list_all is_mark_or_sign (u ++ x) ≡ false
+    more [] [] h = cc h
+    more [] (b ∷ x) h = grind (arith, nat_tests)
+    more (b ∷ u) x h = rw (more u x h) (and-none (is_mark_or_sign b))
+      where
+        and-none : (a : Bool) → (a && false) ≡ false
+        and-none a = grind arith
 
 pub word-regular : (loose : Bool) (signs marks x rest : List ℕ) (s : Sign) (p : Partial) → IsSignText signs s
     → list_all is_mark marks ≡ true → IsPartial loose x p → begins_component x ≡ true → begins is_visible rest ≡ false
     → begins_malformed ((signs ++ (marks ++ x)) ++ rest) ≡ false
-word-regular loose signs marks x rest s p h m k first stop =
-    let w = signs ++ (marks ++ x) in
-    let tame = all-join is_tame signs (marks ++ x) (sign-tame signs s h)
-    (all-join is_tame marks x (all-weaker is_mark is_tame mark-tame marks m) (all-weaker is_part is_tame part-tame x (partial-part loose x p k))) in
-    let start : begins is_start w ≡ true = elim (sign-first signs s h) [
-      | inl none ↦ rw none (marks-start marks x m first)
-      | inr some ↦ begins-on is_start signs (marks ++ x) (first-start signs some)
-    ] in
-    let run = take_while is_visible (w ++ rest) in
-    let front = run-front w rest stop in
-    let parts = front-parts run front.0 (ap has_four_parts (sym front.1) ∙ word-parts loose signs marks x s p h m k) in
-    let starts = word-start loose signs marks x s p h m k in
-    let fronts : (are_start (run ++ front.0) ≡ true) × (are_start (after_dot (run ++ front.0)) ≡ true) =
-    (ap are_start (sym front.1) ∙ starts.0, ap (λ (l : List ℕ). are_start (after_dot l)) (sym front.1) ∙ starts.1) in
-    none-malformed run (tame-inner w rest tame stop) (run-start (w ++ rest) (begins-on is_start w rest start)) parts
-    (firsts-front run front.0 (prefix-all is_visible (w ++ rest)) fronts)
+word-regular loose signs marks x rest s p h m k first dark =
+    let f = sign-front signs (sign-signal signs s h) in
+    go f.front f.rest f.split f.each f.dark
+  where
+    some : (front : List ℕ) (b : ℕ) (left : List ℕ) → signs ≡ front ++ b ∷ left → is_visible b ≡ false → 0 < length front
+    some front b left split none = elim (sign-visible signs s h) [
+      | inl empty ↦ absurd (omega (arith, ap length (sym empty ∙ split), length-append front (b ∷ left)))
+      | inr visible ↦ begun front (rw split at visible)
+    ]
+      where
+        begun : (front : List ℕ) → begins is_visible (front ++ b ∷ left) ≡ true → 0 < length front
+        begun [] h = cc (h, none)
+        begun (c ∷ front) h = omega arith
+
+    go : (front left : List ℕ) → signs ≡ front ++ left → list_all is_sign front ≡ true → begins is_visible left ≡ false
+        → begins_malformed ((signs ++ (marks ++ x)) ++ rest) ≡ false
+    go front [] split each none =
+        let e : signs ≡ front = split ∙ append-nil front in
+        let u = all-join is_first front marks (all-weaker is_sign is_first sign-first front each) (all-weaker is_mark is_first mark-first marks m) in
+        let same : signs ++ (marks ++ x) ≡ (front ++ marks) ++ x = rw e (sym (append_assoc front marks x)) in
+        let behind = all-join is_unsigned marks x (all-weaker is_mark is_unsigned mark-unsigned marks m)
+        (all-weaker is_part is_unsigned part-unsigned x (partial-part loose x p k)) in
+        let plain : list_all is_unsigned (behind_sign ((front ++ marks) ++ x)) ≡ true =
+        ap (λ (t : List ℕ). list_all is_unsigned (behind_sign t)) (sym same)
+        ∙ sign-one signs (marks ++ x) s h (ap (λ (t : List ℕ). list_all is_sign t) e ∙ each) behind in
+        rw same (first-word loose (front ++ marks) x rest p u plain k first dark)
+    go front (b ∷ left) split each none =
+        let same : (signs ++ (marks ++ x)) ++ rest ≡ front ++ b ∷ (left ++ ((marks ++ x) ++ rest)) =
+        rw split (simp append_assoc refl) in
+        rw same (sign-kept front b (left ++ ((marks ++ x) ++ rest)) each (some front b left split none) none)
 
 -- ---- visible characters
 
@@ -525,42 +596,45 @@ boundary-dark (b ∷ rest) h = elim (cases_Bool (begins is_visible (b ∷ rest))
 
 -- ---- a malformed word at the front
 
-run-is : (x rest : List ℕ) → list_all is_visible x ≡ true → begins is_visible rest ≡ false
-    → (take_while is_visible (x ++ rest) ≡ x) × (drop (prefix_len is_visible (x ++ rest)) (x ++ rest) ≡ rest)
-run-is [] [] h k = (refl, refl)
-run-is [] (b ∷ rest) h k = (rw k refl, rw k refl)
-run-is (b ∷ x) rest h k =
-    let each = and_parts (is_visible b) (list_all is_visible x) h in
-    let e : 1 + prefix_len is_visible (x ++ rest) ≡ suc (prefix_len is_visible (x ++ rest)) = omega arith in
-    let r = run-is x rest each.1 k in
-    (rw (each.0, e) (ap (λ (l : List ℕ). b ∷ l) r.0), rw (each.0, e) r.1)
-
-pub malformed-all : (x : List ℕ) → is_malformed x ≡ true → list_all is_visible x ≡ true
-malformed-all x h = (and_parts (list_all is_visible x) _ h).0
+pub malformed-all : (is_last : Bool) (x : List ℕ) → is_malformed is_last x ≡ true → list_all is_visible x ≡ true
+malformed-all is_last x h = (and_parts (list_all is_visible x) _ h).0
 
 -- it begins with a visible character
-pub malformed-visible : (x : List ℕ) → is_malformed x ≡ true → begins is_visible x ≡ true
-malformed-visible [] h = cc h
-malformed-visible (b ∷ x) h = (and_parts (is_visible b) (list_all is_visible x) (malformed-all (b ∷ x) h)).0
+pub malformed-visible : (is_last : Bool) (x : List ℕ) → is_malformed is_last x ≡ true → begins is_visible x ≡ true
+malformed-visible is_last [] h = cc h
+malformed-visible is_last (b ∷ x) h = (and_parts (is_visible b) (list_all is_visible x) (malformed-all is_last (b ∷ x) h)).0
 
--- and is no `-` alone
-pub malformed-more : (x : List ℕ) → is_malformed x ≡ true → (is_empty x || bytes_eq x (45 ∷ [])) ≡ false
-malformed-more x h = opposite _ (and_parts (not (is_empty x || bytes_eq x (45 ∷ []))) _ (and_parts (list_all is_visible x) _ h).1).0
+-- and if it is not the last one, it is no `-` alone
+pub malformed-more : (x : List ℕ) → is_malformed false x ≡ true → bytes_eq x (45 ∷ []) ≡ false
+malformed-more x h = opposite (ends is_sign x) (bytes_eq x (45 ∷ [])) (list_all is_visible x) (is_empty x) _ h
   where
-    opposite : (a : Bool) → not a ≡ true → a ≡ false
-    opposite a h = grind arith
+    opposite : (a b c d e : Bool) → (c && (not d && (not (a || b) && e))) ≡ true → b ≡ false
+    opposite a b c d e h = grind arith
 
-pub ignored-read : (loose : Bool) (x rest : List ℕ) → loose ≡ true → is_malformed x ≡ true → is_boundary rest ≡ true
+pub ignored-read : (loose : Bool) (x rest : List ℕ) → loose ≡ true → is_malformed (is_empty rest) x ≡ true → is_boundary rest ≡ true
     → ignored_front loose (x ++ rest) ≡ Some ((compared equal, Partial.wildcard, []), rest)
 unfolding ignored_front
 ignored-read loose x rest l h b =
-    let r = run-is x rest (malformed-all x h) (boundary-dark rest b) in
+    let r = run-is x rest (malformed-all (is_empty rest) x h) (boundary-dark rest b) in
     rw (l, r.0, r.1, h, b) refl
 
 pub visible_front : (text : List ℕ) (at : ℕ) → at ≡ prefix_len is_visible text → list_all is_visible (take at text) ≡ true
 visible_front text at e = rw e (prefix-all is_visible text)
 
-pub ruleset begins_visible = (visible_front)
+pub begins_at : (text : List ℕ) (at : ℕ) (r : Bool) → at ≡ prefix_len is_visible text → at ≤ length text
+    → r ≡ is_malformed (at == length text) (take at text) → r ≡ begins_malformed text
+begins_at text at r e fits h = rw e at (h ∙ ap (λ (l : Bool). is_malformed l (take at text)) (end-empty text at fits))
+  where
+    same : (a b : ℕ) → (suc a == suc b) ≡ (a == b)
+    same a b = grind (arith, nat_tests)
+
+    end-empty : (text : List ℕ) (at : ℕ) → at ≤ length text → (at == length text) ≡ is_empty (drop at text)
+    end-empty [] zero h = refl
+    end-empty [] (suc at) h = absurd (omega (arith, h))
+    end-empty (b ∷ text) zero h = grind (arith, nat_tests)
+    end-empty (b ∷ text) (suc at) h = same at (length text) ∙ end-empty text at (omega (arith, h))
+
+pub ruleset begins_visible = (visible_front, begins_at)
 
 -- ---- the first dot
 
@@ -700,3 +774,15 @@ visible_last (b ∷ text) = elim (cases_Bool (list_all is_visible (b ∷ text)))
 pub ruleset ends_visible = (visible_last)
 
 pub ruleset last_runs = (last_all, last_found, last_step, last_begin)
+
+-- ---- the last character
+
+last-is : (p : ℕ → Bool) (w : List ℕ) → begins p (drop (length w - 1) w) ≡ ends p w
+last-is p [] = refl
+last-is p (b ∷ []) = refl
+last-is p (b ∷ c ∷ w) =
+    let e : length (b ∷ c ∷ w) - 1 ≡ suc (length (c ∷ w) - 1) = omega arith in
+    rw e (last-is p (c ∷ w))
+
+pub last_begins : (p : ℕ → Bool) (w t : List ℕ) (r : Bool) → t ≡ drop (length w - 1) w → r ≡ begins p t → r ≡ ends p w
+last_begins p w t r e h = h ∙ ap (λ (u : List ℕ). begins p u) e ∙ last-is p w

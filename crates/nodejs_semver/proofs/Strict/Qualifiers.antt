@@ -1,20 +1,20 @@
 -- The pre-release and the build behind the numbers: what is read is written, and what is written is read.
-use Rattle.std.proofs.Math.Bool.{and-false, or-true}
-use Rattle.nodejs_semver.proofs.Common.{common_steps, ◌≡◌, ◌&&◌, ◌||◌, ◌==◌, ◌⊎◌, ℕ, suc, Bool, subst, List, [], ◌∷◌}
-use Rattle.nodejs_semver.proofs.Common.{◌++◌, drop, take, refl, sym, ap, ◌∙◌, arith, true, false, inl, inr}
-use Rattle.nodejs_semver.proofs.Common.{is_ascii_digit, and_parts, cases_Bool, nat_tests, take-append-drop, begins}
-use Rattle.nodejs_semver.proofs.Common.{is_identifier_char, Id, IsIdentifiers, begins_identifier}
-use Rattle.semver_core.specs.Text.Identifiers.{goes_on, listed}
+use Rattle.std.proofs.Common.{◌≡◌, ◌&&◌, ◌||◌, ◌==◌, ◌⊎◌, ℕ, zero, suc, Bool, not, subst, List, [], ◌∷◌, ◌++◌, drop, take, refl, sym, ap, ◌∙◌, arith, true, false, inl, inr}
+use Rattle.std.specs.Char.{is_ascii_digit}
+use Rattle.nodejs_semver.proofs.Common.{append-nil}
+use Rattle.std.proofs.lemmas.Bool.{and_parts, cases_Bool, eqb-true, or_cases}
+use Rattle.std.proofs.lemmas.Bool.Decides.{nat_tests}
+use Rattle.std.proofs.lemmas.List.{take-append-drop}
+use Rattle.semver_core.specs.Text.Characters.{begins, is_identifier_char}
+use Rattle.semver_core.specs.Text.Identifiers.{Id, IsIdentifiers, goes_on, listed}
 use Rattle.semver_core.specs.Internal.Reading.{list_len}
-use Rattle.nodejs_semver.specs.Internal.Fronts.{begins_byte, build_front, pre_release_front}
+use Rattle.nodejs_semver.specs.Internal.Fronts.{begins_byte, begins_identifier, build_front, pre_release_front}
 use Rattle.nodejs_semver.specs.Internal.NpmReadings.{dashed_front, is_strict_list}
 use Rattle.nodejs_semver.specs.Internal.NpmWords.{pre_front}
-use Rattle.nodejs_semver.specs.Npm.Grammar.{IsStrictBuild, IsStrictPreRelease, no_build, plus}
-use Rattle.nodejs_semver.specs.Npm.RangeText.{IsPreRelease, are_spelled, bare, begins_undashed, dashed, is_letter}
-use Rattle.nodejs_semver.specs.Npm.RangeText.{no_pre_release, undashed}
-use Rattle.nodejs_semver.proofs.Reading.IdentifierLists.{front-identifiers, written-begins, written-exact}
-use Rattle.nodejs_semver.proofs.Reading.IdentifierLists.{written-spelled}
 use Rattle.nodejs_semver.specs.Npm.Grammar as Grammar
+use Rattle.nodejs_semver.specs.Npm.Grammar.{IsStrictBuild, IsStrictPreRelease, no_build, plus}
+use Rattle.nodejs_semver.specs.Npm.RangeText.{IsPreRelease, are_spelled, bare, begins_undashed, dashed, is_letter, no_pre_release, undashed}
+use Rattle.nodejs_semver.proofs.Reading.IdentifierLists.{front-identifiers, written-begins, written-exact, written-spelled}
 
 -- ---- what is read is written
 
@@ -88,7 +88,8 @@ build-quiet b more l (plus t list h) e = (refl, refl, refl)
 
 pub quiet-behind : (p b more : List ℕ) (l m : List Id) → IsStrictPreRelease p l → IsStrictBuild b m → Ends more
     → begins is_ascii_digit (p ++ (b ++ more)) ≡ false
-quiet-behind p b more l m h k e = grind (arith, nat_tests, common_steps)
+quiet-behind p b more l m Grammar.no_pre_release k e = (build-quiet b more m k e).2
+quiet-behind p b more l m (Grammar.dashed t list h s) k e = refl
 
 pub build-taken : (b more : List ℕ) (l : List Id) → IsStrictBuild b l → Ends more
     → (build_front (b ++ more) ≡ (drop 1 b, more)) × (listed (drop 1 b) ≡ l)
@@ -110,11 +111,15 @@ dashed-taken p b more l m (Grammar.dashed t list h s) k e =
 
 -- ---- the pre-releases of range texts
 
-letter-first : (text : List ℕ) → begins_undashed text ≡ true → (begins_byte 45 text ≡ false) × (begins_identifier text ≡ true)
-letter-first text h = grind (arith, nat_tests, common_steps)
+undashed-begins : (text : List ℕ) → begins_undashed text ≡ true → begins_identifier text ≡ true
+undashed-begins [] h = cc h
+undashed-begins (b ∷ text) h = grind (arith, nat_tests)
 
-letter-on : (text more : List ℕ) → begins_undashed text ≡ true → begins_undashed (text ++ more) ≡ true
-letter-on text more h = grind (arith, nat_tests, common_steps)
+letter-on : (text more : List ℕ) → begins_undashed text ≡ true → begins_identifier more ≡ false → begins_undashed (text ++ more) ≡ true
+letter-on [] more h k = cc h
+letter-on (b ∷ []) more h k = grind arith
+letter-on (b ∷ c ∷ []) more h k = grind arith
+letter-on (b ∷ c ∷ d ∷ text) more h k = h
 
 or-right : (a b : Bool) → (a || b) ≡ true → a ≡ false → b ≡ true
 or-right a b h k = grind arith
@@ -124,29 +129,68 @@ unfolding list_len
 letter-take [] h = cc h
 letter-take (b ∷ text) h = elim (cases_Bool (is_letter b)) [
   | inl letter ↦
-      let some : is_identifier_char b ≡ true = (letter-first (b ∷ text) h).1 in
+      let some : is_identifier_char b ≡ true = undashed-begins (b ∷ text) h in
       let one : list_len (b ∷ text) ≡ suc (list_len text) = rw some (omega arith) in
       rw (one, letter) refl
-  | inr other ↦ lone text (letter-first (b ∷ text) h).1 (or-right (is_letter b) _ h other)
+  | inr other ↦
+      let some = undashed-begins (b ∷ text) h in
+      elim (or_cases _ _ (or-right (is_letter b) _ h other)) [ inl digit ↦ lone text some digit | inr dash ↦ dashes text some dash ]
 ]
   where
+    none-taken : (n : ℕ) (text : List ℕ) → begins_identifier text ≡ false → begins_identifier (take n text) ≡ false
+    none-taken zero [] h = refl
+    none-taken (suc n) [] h = refl
+    none-taken zero (c ∷ text) h = refl
+    none-taken (suc n) (c ∷ text) h = h
+
+    dashes : (text : List ℕ) → is_identifier_char b ≡ true → (b == 45 && not (begins_identifier text)) ≡ true
+        → begins_undashed (take (list_len (b ∷ text)) (b ∷ text)) ≡ true
+    dashes text some k =
+        let parts = and_parts (b == 45) (not (begins_identifier text)) k in
+        let one : list_len (b ∷ text) ≡ suc (list_len text) = rw some (omega arith) in
+        rw (one, parts.0, none-taken (list_len text) text (opposite _ parts.1)) (or-end (is_letter b) _)
+      where
+        opposite : (a : Bool) → not a ≡ true → a ≡ false
+        opposite a h = grind arith
+
+        or-end : (a c : Bool) → (a || (c || true)) ≡ true
+        or-end a c = grind arith
+
     lone : (text : List ℕ) → is_identifier_char b ≡ true
         → (is_ascii_digit b && (begins_byte 46 text && begins_identifier (drop 1 text))) ≡ true
         → begins_undashed (take (list_len (b ∷ text)) (b ∷ text)) ≡ true
-    lone [] some k = grind (arith, nat_tests, common_steps)
-    lone (c ∷ []) some k = grind (arith, nat_tests, common_steps)
+    lone [] some k = absurd (none (is_ascii_digit b) k)
+      where
+        none : (a : Bool) → (a && false) ≡ true → ⊥
+        none a k = grind arith
+    lone (c ∷ []) some k = absurd (none (is_ascii_digit b) (c == 46) k)
+      where
+        none : (a d : Bool) → (a && (d && false)) ≡ true → ⊥
+        none a d k = grind arith
     lone (c ∷ d ∷ text) some k =
         let digit = and_parts (is_ascii_digit b) _ k in
         let dot = and_parts (c == 46) (is_identifier_char d) digit.1 in
         let goes : goes_on (c ∷ d ∷ text) ≡ true = rw (dot.0, dot.1) (or-true (is_identifier_char c)) in
         let three : list_len (b ∷ c ∷ d ∷ text) ≡ suc (suc (suc (list_len text))) = rw (some, goes, dot.1) (omega arith) in
         rw three (rw k (or-true (is_letter b)))
+      where
+        or-true : (a : Bool) → (a || true) ≡ true
+        or-true a = grind arith
+
+and-none : (b : Bool) → (b && false) ≡ false
+and-none b = grind arith
 
 spelled-nil : (loose : Bool) → are_spelled loose [] ≡ true
-spelled-nil loose = grind (arith, nat_tests, common_steps)
+spelled-nil true = refl
+spelled-nil false = refl
 
-undashed-bare : (text : List ℕ) → begins_byte 45 text ≡ false → undashed text ≡ text
+undashed-bare : (text : List ℕ) → begins_undashed text ≡ true → undashed text ≡ text
 undashed-bare text h = rw h refl
+
+undashed-dashed : (t : List ℕ) (list : List Id) → IsIdentifiers t list → undashed (45 ∷ t) ≡ t
+undashed-dashed t list h =
+    let begins : begins_identifier t ≡ true = rw append-nil at (written-begins t [] list h) in
+    rw begins refl
 
 -- a pre-release at the front of a text, of which this is read
 abbrev PreFound : Bool → List ℕ → List ℕ → List ℕ → Type 0
@@ -163,20 +207,19 @@ after-dash loose text y e some h = (
   45 ∷ take (list_len y) y,
   e ∙ ap (λ (t : List ℕ). 45 ∷ t) (sym (take-append-drop (list_len y) y)),
   dashed (take (list_len y) y) (listed (take (list_len y) y)) (front-identifiers y some) h,
-  refl,
+  undashed-dashed (take (list_len y) y) (listed (take (list_len y) y)) (front-identifiers y some),
 )
 
 without-dash : (text : List ℕ) → begins_undashed text ≡ true → are_spelled true (take (list_len text) text) ≡ true
     → PreFound true text (take (list_len text) text) (drop (list_len text) text)
 without-dash text letter h =
-    let first = letter-first text letter in
     let read = take (list_len text) text in
-    let is = front-identifiers text first.1 in
+    let is = front-identifiers text (undashed-begins text letter) in
     let begins = letter-take text letter in (
       read,
       sym (take-append-drop (list_len text) text),
       bare read (listed read) refl begins is h,
-      undashed-bare read (letter-first read begins).0,
+      undashed-bare read begins,
     )
 
 dashed_front-found : (loose : Bool) (text : List ℕ) → are_spelled loose (dashed_front text).0 ≡ true
@@ -190,17 +233,15 @@ dashed_front-found loose text h = elim (cases_Bool (begins_byte 45 text)) [
   ]
 ]
 
-letter_front : (text : List ℕ) → begins_undashed text ≡ true → pre_release_front text ≡ (take (list_len text) text, drop (list_len text) text)
-unfolding pre_release_front
-letter_front text h = let first = letter-first text h in rw (first.0, first.1) refl
-
 pub pre-found : (loose : Bool) (text : List ℕ) → are_spelled loose (pre_front loose text).0 ≡ true
     → PreFound loose text (pre_front loose text).0 (pre_front loose text).1
 unfolding pre_front
 pre-found false text h = dashed_front-found false text h
 pre-found true text h = elim (cases_Bool (begins_undashed text)) [
   | inr other ↦ rw other (dashed_front-found true text (rw other at h))
-  | inl letter ↦ grind (arith, nat_tests, common_steps, letter_front, without-dash)
+  | inl letter ↦
+      let some = undashed-begins text letter in
+      rw (letter, some) (without-dash text letter (rw (letter, some) at h))
 ]
 
 -- build metadata, or nothing, begins with no letter
@@ -229,16 +270,26 @@ pre-follows loose p b more l m (bare t list x f h s) k e = go t f
     no-letter : (c : ℕ) → is_ascii_digit c ≡ true → is_letter c ≡ false
     no-letter c d = grind (arith, nat_tests)
 
+    no-dash : (c : ℕ) (t : List ℕ) → is_ascii_digit c ≡ true → (c == 45 && not (begins_identifier t)) ≡ false
+    no-dash c t d = grind (arith, nat_tests)
+
+    or-left : (a b : Bool) → (a || b) ≡ true → b ≡ false → a ≡ true
+    or-left a b h k = grind arith
+
     behind : (c : ℕ) (t : List ℕ) → is_ascii_digit c ≡ true → (begins_byte 46 t && begins_identifier (drop 1 t)) ≡ true
         → Follows loose (c ∷ (t ++ (b ++ more)))
     behind c [] digit h = cc h
-    behind c (d ∷ t) digit h = grind (arith, nat_tests, common_steps)
+    behind c (d ∷ t) digit h =
+        let dot = (and_parts (d == 46) _ h).0 in
+        inr (c, t ++ (b ++ more), rw (eqb-true d 46 dot) refl, digit, x)
 
     go : (t : List ℕ) → begins_undashed t ≡ true → Follows loose (t ++ (b ++ more))
     go [] f = cc f
     go (c ∷ t) f = elim (cases_Bool (is_ascii_digit c)) [
       | inr other ↦ inl (other, letter-dotless c t f)
-      | inl digit ↦ behind c t digit (and_parts (is_ascii_digit c) _ (or-right (is_letter c) _ f (no-letter c digit))).1
+      | inl digit ↦
+          let rest = or-left _ _ (or-right (is_letter c) _ f (no-letter c digit)) (no-dash c t digit) in
+          behind c t digit (and_parts (is_ascii_digit c) _ rest).1
     ]
 
 abbrev PreTaken : Bool → List ℕ → List ℕ → List Id → Type 0
@@ -247,23 +298,32 @@ PreTaken loose p rest l = (pre_front loose (p ++ rest) ≡ (undashed p, rest)) �
 
 bare-taken : (t rest : List ℕ) (list : List Id) → begins_undashed t ≡ true → IsIdentifiers t list → are_spelled true t ≡ true
     → list_len rest ≡ 0 → PreTaken true t rest list
-unfolding pre_front listed
+unfolding pre_front listed list_len
 bare-taken t rest list f h s stop =
-    let own = undashed-bare t (letter-first t f).0 in
-    let on = letter-on t rest f in
+    let own = undashed-bare t f in
+    let on = letter-on t rest f (stopped rest stop) in
     let exact = written-exact t rest list h stop in
-    rw own (rw (on, letter_front (t ++ rest) on) exact, written-spelled t list h, s)
+    rw own (rw (on, undashed-begins (t ++ rest) on) exact, written-spelled t list h, s)
+  where
+    stopped : (rest : List ℕ) → list_len rest ≡ 0 → begins_identifier rest ≡ false
+    stopped [] e = refl
+    stopped (b ∷ rest) e = elim (cases_Bool (is_identifier_char b)) [
+      | inr other ↦ other
+      | inl some ↦
+          let one : list_len (b ∷ rest) ≡ suc (list_len rest) = rw some (omega arith) in
+          absurd (omega (arith, e, one))
+    ]
 
 -- the text is the pre-release and this rest, and the identifiers are spelled as they have to be
 pub pre-taken : (loose : Bool) (p b more : List ℕ) (l m : List Id) → IsPreRelease loose p l → IsStrictBuild b m → Ends more
     → PreTaken loose p (b ++ more) l
 unfolding pre_front dashed_front pre_release_front listed
 pre-taken loose p b more l m no_pre_release k e =
-    (rw (build-letter b more m k e, and-false loose, (build-quiet b more m k e).1) refl, refl, spelled-nil loose)
+    (rw (build-letter b more m k e, and-none loose, (build-quiet b more m k e).1) refl, refl, spelled-nil loose)
 pre-taken loose p b more l m (dashed t list h s) k e =
     let begins = written-begins t (b ++ more) list h in
     let exact = written-exact t (b ++ more) list h (build-quiet b more m k e).0 in
-    (rw (and-false loose, begins, exact) refl, written-spelled t list h, s)
+    rw (undashed-dashed t list h) (rw (begins, and-none loose, exact) refl, written-spelled t list h, s)
 pre-taken loose p b more l m (bare t list x f h s) k e =
     let read : PreTaken true t (b ++ more) list = bare-taken t (b ++ more) list f h (rw x at s) (build-quiet b more m k e).0 in
     subst (λ (r : Bool). PreTaken r t (b ++ more) list) (sym x) read

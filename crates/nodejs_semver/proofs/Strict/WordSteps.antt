@@ -41,7 +41,7 @@ word-shorter loose include text w u h =
       length-append x.piece w.1,
       ap length b.split,
       length-append b.blank (drop_spaces w.1),
-      begins-some is_visible x.piece (word-visible loose include x.piece (row_of include w.0) x.is),
+      begins-some is_visible x.piece (word-visible loose include (is_empty w.1) x.piece (row_of include w.0) x.is),
     )
 
 pub left-utf8 : (loose : Bool) (include : Bool) (text : List ℕ) (w : Signed × List ℕ) → IsUtf8 text → word_at_front loose text ≡ Some w → IsUtf8 (drop_spaces w.1)

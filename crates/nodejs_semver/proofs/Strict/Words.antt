@@ -1,40 +1,48 @@
 -- The words of node-semver's range texts: the functions that read them find exactly what the statement has.
-use Rattle.nodejs_semver.proofs.Common.{common_steps, ◌≡◌, ◌⊎◌, ◌<◌, ◌≤◌, ◌-◌, ℕ, zero, suc, Bool, List, [], ◌∷◌, ◌++◌}
-use Rattle.nodejs_semver.proofs.Common.{length, drop, take, refl, sym, ap, ◌∙◌, arith, true, false, Some, None, Option}
-use Rattle.nodejs_semver.proofs.Common.{inl, inr, ◌&&◌, ◌==◌, eqb-true, and_parts, append_assoc, append-nil, bind_some}
-use Rattle.nodejs_semver.proofs.Common.{cases_Bool, cond_some, drop_at, take_at, length-append, list_all, nat_tests}
-use Rattle.nodejs_semver.proofs.Common.{same_Some, subst, begins, IsUtf8, is_empty, drop_spaces, space_len, prefix_len}
-use Rattle.nodejs_semver.proofs.Common.{take-append-drop, IsBlank, Front, above, at_most, below, equal}
+use Rattle.nodejs_semver.proofs.Common.{◌≡◌, ◌<◌, ◌≤◌, ◌-◌, ℕ, zero, suc, Bool, List, [], ◌∷◌, ◌++◌, length, drop, take, refl, sym, ap, ◌∙◌, arith}
+use Rattle.nodejs_semver.proofs.Common.{true, false, Some, None, Option, inl, inr, ◌&&◌, ◌==◌, eqb-true, and_parts, append_assoc, append-nil, bind_some, cases_Bool}
+use Rattle.nodejs_semver.proofs.Common.{cond_some, drop_at, take_at, length-append, list_all, nat_tests, same_Some, subst, begins, IsUtf8, is_empty}
+use Rattle.nodejs_semver.proofs.Common.{drop_spaces, space_len}
+use Rattle.std.specs.List.{prefix_len}
+use Rattle.std.proofs.lemmas.Bool.{lt-ltb}
+use Rattle.std.proofs.lemmas.List.{take-append-drop}
 use Rattle.semver_core.specs.Internal.Reading.{◌>>?◌}
-use Rattle.nodejs_semver.specs.Internal.Fronts.{begins_byte}
-use Rattle.nodejs_semver.specs.Internal.NpmWords.{Signed, any_word, ended_word, ignored_front, marked_word, marks_len}
-use Rattle.nodejs_semver.specs.Internal.NpmWords.{npm_sign, partial_front, signed_word, word_front, words_within}
+use Rattle.semver_core.specs.Text.Characters.{IsBlank}
+use Rattle.nodejs_semver.specs.Internal.Fronts.{Front, begins_byte}
+use Rattle.nodejs_semver.specs.Internal.NpmWords.{Signed, any_word, ended_word, ignored_front, marked_word, marks_len, npm_sign, partial_front, signed_word}
+use Rattle.nodejs_semver.specs.Internal.NpmWords.{word_front, words_within}
 use Rattle.nodejs_semver.specs.Internal.Words.{is_boundary}
+use Rattle.nodejs_semver.specs.Npm.RangeText as Text
 use Rattle.nodejs_semver.specs.Npm.Malformed.{begins_malformed, is_visible}
-use Rattle.nodejs_semver.specs.Npm.RangeText.{AreWords, IsPartial, IsPlace, IsSignText, IsWord, are_marks, ignored}
-use Rattle.nodejs_semver.specs.Npm.RangeText.{is_mark, last, more, word, caret_equal, late_above, late_below, no_sign}
-use Rattle.nodejs_semver.specs.Npm.RangeText.{sign, tilde_sign, tilde_twice}
-use Rattle.nodejs_semver.specs.Npm.Table.{Comparison, Partial, Sign, caret, compared, table, tilde, wildcard}
-use Rattle.nodejs_semver.specs.Text.WordText.{at_least}
+use Rattle.nodejs_semver.specs.Npm.RangeText.{AreWords, IsPartial, IsPlace, IsWord, are_marks, ignored, is_mark, last, more, one, three, two, word}
+use Rattle.nodejs_semver.specs.Npm.Table.{Comparison, Partial, Sign, compared, table, wildcard}
+use Rattle.nodejs_semver.specs.Text.WordText.{equal}
 use Rattle.nodejs_semver.proofs.Reading.Bytes.{begins-on, begins-some, begins_component, is_component_byte}
 use Rattle.nodejs_semver.proofs.Reading.PartialLaw.{spaces-gone, spaces-le}
 use Rattle.nodejs_semver.proofs.Reading.Steps.{option-cases}
 use Rattle.nodejs_semver.proofs.Reading.WordLaw.{boundary-utf8, suffix-boundary}
-use Rattle.nodejs_semver.proofs.Strict.Malformed.{boundary-dark, ignored-read, malformed-visible, visible-dark}
-use Rattle.nodejs_semver.proofs.Strict.Malformed.{word-regular}
+use Rattle.nodejs_semver.proofs.Strict.Malformed.{boundary-dark, ignored-read, malformed-visible, sign-visible, visible-dark, word-regular}
 use Rattle.nodejs_semver.proofs.Strict.PartialLaw.{boundary-quiet, partial-found, partial-read}
+use Rattle.nodejs_semver.proofs.Strict.Places.{digits-begin}
 use Rattle.nodejs_semver.proofs.Strict.VersionLaw.{empty-is}
 use Rattle.nodejs_semver.proofs.Strict.Signs.{blank-at, sign-found}
 use Rattle.nodejs_semver.proofs.Strict.SignsRead.{blank-cases, blank-skipped, marks-all, sign-taken}
-use Rattle.nodejs_semver.specs.Npm.RangeText as Text
 
 -- ---- how partials and marks begin
 
 place-begins : (loose zeros : Bool) (x : List ℕ) (a : Option ℕ) → IsPlace loose zeros x a → begins_component x ≡ true
-place-begins loose zeros x a h = grind (arith, nat_tests, common_steps)
+place-begins loose zeros x a (Text.any b h) = rw h refl
+place-begins loose zeros x a (Text.number digits n k spelled short) =
+    let digit = digits-begin digits k.some k.each in
+    grind arith
 
 pub partial-begins : (loose : Bool) (x rest : List ℕ) (p : Partial) → IsPartial loose x p → begins_component (x ++ rest) ≡ true
-partial-begins loose x rest p h = grind (arith, nat_tests, common_steps, begins-on, is_component_byte, place-begins)
+partial-begins loose x rest p (one x1 a h) = begins-on is_component_byte x1 rest (place-begins loose false x1 a h)
+partial-begins loose x rest p (two x1 y a b h k) =
+    begins-on is_component_byte (x1 ++ (46 ∷ y)) rest (begins-on is_component_byte x1 (46 ∷ y) (place-begins loose false x1 a h))
+partial-begins loose x rest p (three x1 y z pre build a b c ids builds h k l m s n t) =
+    let behind = 46 ∷ (y ++ 46 ∷ (z ++ (pre ++ build))) in
+    begins-on is_component_byte (x1 ++ behind) rest (begins-on is_component_byte x1 behind (place-begins loose false x1 a h))
 
 marks-counted : (marks u : List ℕ) → list_all is_mark marks ≡ true → begins_component u ≡ true → marks_len (marks ++ u) ≡ length marks
 marks-counted [] [] h k = cc k
@@ -54,14 +62,18 @@ marked-read : (loose : Bool) (s : Sign × List ℕ) (p : Partial) (marks x rest 
 marked-read loose s p marks x rest e m k b =
     let u = x ++ rest in
     let count = marks-counted marks u (marks-all loose s.0 p marks m) (partial-begins loose x rest p k) in
-    grind (arith, nat_tests, common_steps, partial-read, boundary-quiet, append_assoc, front-text, drop_at, take_at)
+    let read = partial-read loose x rest p k (boundary-quiet rest b) in
+    let text : take (length (marks ++ u) - length rest) (marks ++ u) ≡ marks ++ x =
+    rw (append_assoc marks x rest) at (front-text (marks ++ x) rest) in
+    rw (e, count, drop_at marks u (length marks) refl, read, take_at marks u (length marks) refl, m, b, text) refl
 
 pub none-ignored : (loose : Bool) (text : List ℕ) → begins_malformed text ≡ false → ignored_front loose text ≡ None
 unfolding ignored_front
-none-ignored loose text h = grind (arith, nat_tests, common_steps)
+none-ignored true text h = rw h refl
+none-ignored false text h = refl
 
-pub word-read : (loose : Bool) (include : Bool) (w rest : List ℕ) (cs : List Comparison) → IsWord loose include w cs → is_boundary rest ≡ true
-    → word_front loose include (w ++ rest) ≡ Some (cs, rest)
+pub word-read : (loose : Bool) (include : Bool) (w rest : List ℕ) (cs : List Comparison) → IsWord loose include (is_empty rest) w cs
+    → is_boundary rest ≡ true → word_front loose include (w ++ rest) ≡ Some (cs, rest)
 unfolding word_front any_word signed_word ignored_front
 word-read loose include w rest cs (ignored x l h) b = rw (ignored-read loose x rest l h b) refl
 word-read loose include w rest cs (word signs marks x s p h m e k) b =
@@ -70,14 +82,15 @@ word-read loose include w rest cs (word signs marks x s p h m e k) b =
     let regular = word-regular loose signs marks x rest s p h (marks-all loose s p marks m) k begin (boundary-dark rest b) in
     let none : ignored_front loose ((signs ++ (marks ++ x)) ++ rest) ≡ None = none-ignored loose ((signs ++ (marks ++ x)) ++ rest) regular in
     let t = sign-taken loose signs s p marks x u h m e (partial-begins loose x rest p k) in
-    grind (arith, nat_tests, common_steps, append_assoc, marked-read)
+    let whole : (signs ++ (marks ++ x)) ++ rest ≡ signs ++ (marks ++ u) = simp append_assoc refl in
+    rw (none, whole, marked-read loose (npm_sign (signs ++ (marks ++ u))) p t.left x rest t.is t.marked k b, t.same include) refl
 
 -- ---- one word: what is read is written
 
 pub record WordAt (loose : Bool) (include : Bool) (text : List ℕ) (cs : List Comparison) (rest : List ℕ) : Type 0 where
   pub piece : List ℕ
   pub split : text ≡ piece ++ rest
-  pub is : IsWord loose include piece cs
+  pub is : IsWord loose include (is_empty rest) piece cs
   pub ended : is_boundary rest ≡ true
   pub utf8 : IsUtf8 rest
 
@@ -100,7 +113,8 @@ first-take n text h = grind arith
 
 unsigned : (text signs : List ℕ) (n : ℕ) → text ≡ signs ++ (npm_sign text).1
     → (is_empty signs && begins_byte 61 (take n (npm_sign text).1)) ≡ false
-unsigned text signs n e = grind (arith, nat_tests, common_steps, first-take, none-first)
+unsigned text [] n e = first-take n (npm_sign text).1 (rw e at (none-first text e))
+unsigned text (b ∷ signs) n e = refl
 
 abbrev read_as : Bool → Signed × List ℕ → Front (List Comparison)
 read_as include w = Some (table include w.0.0 w.0.1 w.0.2, w.1)
@@ -128,7 +142,7 @@ signed-found loose include text cs rest u h =
     ap (λ (x : Signed × List ℕ). (table include x.0.0 x.0.1 x.0.2, x.1)) t.1 ∙ same_Some _ _ w.2 in
     let split : text ≡ (at_sign.signs ++ front) ++ p.0.1 =
     at_sign.split ∙ ap (λ (t : List ℕ). at_sign.signs ++ t) behind ∙ sym (append_assoc at_sign.signs front p.0.1) in
-    let is : IsWord loose include (at_sign.signs ++ front) (table include s.0 p.0.0 whole_text) =
+    let is : IsWord loose include (is_empty p.0.1) (at_sign.signs ++ front) (table include s.0 p.0.0 whole_text) =
     rw front_is (word at_sign.signs marks part.piece s.0 p.0.0 at_sign.is tests.0 (unsigned text at_sign.signs n at_sign.split) part.is) in
     let read : WordAt loose include text (table include s.0 p.0.0 whole_text) p.0.1 = record {
       piece = at_sign.signs ++ front;
@@ -163,34 +177,24 @@ ignored-found loose include text w u h =
 pub word-found : (loose : Bool) (include : Bool) (text : List ℕ) (cs : List Comparison) (rest : List ℕ) → IsUtf8 text
     → word_front loose include text ≡ Some (cs, rest) → WordAt loose include text cs rest
 unfolding word_front any_word
-word-found loose include text cs rest u h =
-    grind (arith, nat_tests, common_steps, option-cases, signed-found, ignored-found)
+word-found loose include text cs rest u h = elim (option-cases (ignored_front loose text)) [
+  | inl none ↦ signed-found loose include text cs rest u (rw none at h)
+  | inr some ↦
+      let same = same_Some _ _ (rw some.1 at h) in
+      subst (λ (q : List Comparison × List ℕ). WordAt loose include text q.0 q.1) same (ignored-found loose include text some.0 u some.1)
+]
 
 -- ---- words
-
-sign-visible : (signs : List ℕ) (s : Sign) → IsSignText signs s → (signs ≡ []) ⊎ (begins is_visible signs ≡ true)
-sign-visible signs s no_sign = inl refl
-sign-visible signs s (sign (compared above) y h) = inr refl
-sign-visible signs s (sign (compared at_least) y h) = inr refl
-sign-visible signs s (sign (compared equal) y h) = inr refl
-sign-visible signs s (sign (compared at_most) y h) = inr refl
-sign-visible signs s (sign (compared below) y h) = inr refl
-sign-visible signs s (sign caret y h) = inr refl
-sign-visible signs s (sign tilde y h) = inr refl
-sign-visible signs s (late_above y h) = inr refl
-sign-visible signs s (late_below y h) = inr refl
-sign-visible signs s (caret_equal y z h k) = inr refl
-sign-visible signs s (tilde_sign c y z h k which) = inr refl
-sign-visible signs s (tilde_twice c y z h some k which) = inr refl
 
 marks-visible : (marks u : List ℕ) → list_all is_mark marks ≡ true → begins_component u ≡ true → begins is_visible (marks ++ u) ≡ true
 marks-visible [] [] h k = cc k
 marks-visible [] (b ∷ u) h k = grind (arith, nat_tests)
 marks-visible (b ∷ marks) u h k = grind (arith, nat_tests)
 
-pub word-visible : (loose : Bool) (include : Bool) (w : List ℕ) (cs : List Comparison) → IsWord loose include w cs → begins is_visible w ≡ true
-word-visible loose include w cs (ignored x l h) = malformed-visible x h
-word-visible loose include w cs (word signs marks x s p h m e k) =
+pub word-visible : (loose : Bool) (include : Bool) (is_last : Bool) (w : List ℕ) (cs : List Comparison) → IsWord loose include is_last w cs
+    → begins is_visible w ≡ true
+word-visible loose include is_last w cs (ignored x l h) = malformed-visible is_last x h
+word-visible loose include is_last w cs (word signs marks x s p h m e k) =
     let u : begins_component x ≡ true = rw (append-nil x) at (partial-begins loose x [] p k) in
     elim (sign-visible signs s h) [
       | inl none ↦ rw none (marks-visible marks x (marks-all loose s p marks m) u)
@@ -198,7 +202,9 @@ word-visible loose include w cs (word signs marks x s p h m e k) =
     ]
 
 pub words-visible : (loose : Bool) (include : Bool) (text : List ℕ) (cs : List Comparison) → AreWords loose include text cs → begins is_visible text ≡ true
-words-visible loose include text cs h = grind (arith, nat_tests, common_steps, word-visible, begins-on)
+words-visible loose include text cs (last t ds h) = word-visible loose include true t ds h
+words-visible loose include text cs (more t blank rest ds es h hb some k) =
+    begins-on is_visible t (blank ++ rest) (word-visible loose include false t ds h)
 
 pub blank-space : (blank rest : List ℕ) → IsBlank blank → 0 < length blank → 0 < space_len (blank ++ rest)
 blank-space blank rest h some = elim (blank-cases blank h) [
@@ -208,12 +214,13 @@ blank-space blank rest h some = elim (blank-cases blank h) [
 
 pub space-boundary : (text : List ℕ) → 0 < space_len text → is_boundary text ≡ true
 unfolding is_boundary
-space-boundary text h = grind (arith, nat_tests, common_steps)
+space-boundary [] h = refl
+space-boundary (b ∷ text) h = rw (lt-ltb 0 (space_len (b ∷ text)) h) refl
 
 pub blank-boundary : (blank rest : List ℕ) → IsBlank blank → 0 < length blank → is_boundary (blank ++ rest) ≡ true
 blank-boundary blank rest h some = space-boundary (blank ++ rest) (blank-space blank rest h some)
 
-not-empty : (blank rest : List ℕ) → 0 < length blank → is_empty (blank ++ rest) ≡ false
+pub not-empty : (blank rest : List ℕ) → 0 < length blank → is_empty (blank ++ rest) ≡ false
 not-empty [] rest some = absurd (omega arith)
 not-empty (b ∷ blank) rest some = refl
 
@@ -224,12 +231,14 @@ nil-boundary = refl
 pub words-read : (loose : Bool) (include : Bool) (n : ℕ) (text : List ℕ) (cs : List Comparison) → AreWords loose include text cs → length text ≤ n
     → words_within loose include n text ≡ Some cs
 unfolding words_within
-words-read loose include zero text cs h le = grind (arith, nat_tests, common_steps, begins-some, words-visible)
+words-read loose include zero text cs h le =
+    absurd (omega (arith, le, begins-some is_visible text (words-visible loose include text cs h)))
 words-read loose include (suc n) text cs (last t ds h) le =
     let read : word_front loose include t ≡ Some (ds, []) = rw (append-nil t) at (word-read loose include t [] ds h nil-boundary) in
     rw read refl
 words-read loose include (suc n) text cs (more t blank rest ds es h hb some k) le =
-    let read = word-read loose include t (blank ++ rest) ds h (blank-boundary blank rest hb some) in
+    let here = subst (λ (l : Bool). IsWord loose include l t ds) (sym (not-empty blank rest some)) h in
+    let read = word-read loose include t (blank ++ rest) ds here (blank-boundary blank rest hb some) in
     let dark = visible-dark rest (words-visible loose include rest es k) in
     let shorter : length rest ≤ n = omega (arith, le, length-append t (blank ++ rest), length-append blank rest, some) in
     rw (read, not-empty blank rest some, blank-skipped blank rest hb dark, words-read loose include n rest es k shorter) refl
@@ -239,7 +248,8 @@ unfolding is_boundary
 some-space text h k = grind (arith, nat_tests)
 
 pub blank-some : (text blank : List ℕ) → text ≡ blank ++ drop_spaces text → 0 < space_len text → 0 < length blank
-blank-some text blank e some = grind (arith, nat_tests, common_steps, spaces-gone)
+blank-some text [] e some = absurd (omega (arith, some, ap space_len e, spaces-gone 0 text))
+blank-some text (b ∷ blank) e some = omega arith
 
 pub words-found : (loose : Bool) (include : Bool) (n : ℕ) (text : List ℕ) (cs : List Comparison) → IsUtf8 text → words_within loose include n text ≡ Some cs
     → AreWords loose include text cs
@@ -252,15 +262,19 @@ words-found loose include (suc n) text cs u h =
       | inl ended ↦
           let e : text ≡ at_word.piece = at_word.split ∙ ap (λ (t : List ℕ). at_word.piece ++ t) (empty-is w.0.1 ended)
           ∙ append-nil at_word.piece in
-          let is : AreWords loose include at_word.piece w.0.0 = last at_word.piece w.0.0 at_word.is in
-          grind (arith, nat_tests, common_steps)
+          let is : AreWords loose include at_word.piece w.0.0 = last at_word.piece w.0.0
+          (subst (λ (l : Bool). IsWord loose include l at_word.piece w.0.0) ended at_word.is) in
+          let same : w.0.0 ≡ cs = same_Some _ _ (rw ended at w.2) in
+          subst (λ (ds : List Comparison). AreWords loose include text ds) same
+          (subst (λ (t : List ℕ). AreWords loose include t w.0.0) (sym e) is)
       | inr goes ↦
           let rest = drop_spaces w.0.1 in
           let d = bind_some (words_within loose include n rest) (λ ds. Some (w.0.0 ++ ds)) cs (rw goes at w.2) in
           let x = blank-at w.0.1 at_word.utf8 in
           let some = blank-some w.0.1 x.blank x.split (some-space w.0.1 at_word.ended goes) in
           let e : text ≡ at_word.piece ++ (x.blank ++ rest) = at_word.split ∙ ap (λ (t : List ℕ). at_word.piece ++ t) x.split in
-          let is = more at_word.piece x.blank rest w.0.0 d.0 at_word.is x.is some (words-found loose include n rest d.0 x.utf8 d.1) in
+          let here = subst (λ (l : Bool). IsWord loose include l at_word.piece w.0.0) goes at_word.is in
+          let is = more at_word.piece x.blank rest w.0.0 d.0 here x.is some (words-found loose include n rest d.0 x.utf8 d.1) in
           subst (λ (ds : List Comparison). AreWords loose include text ds) (same_Some _ _ d.2)
           (subst (λ (t : List ℕ). AreWords loose include t (w.0.0 ++ d.0)) (sym e) is)
     ]

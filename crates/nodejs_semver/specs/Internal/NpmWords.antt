@@ -8,7 +8,7 @@ use Rattle.semver_core.specs.Internal.Reading.{◌>>?◌}
 use Rattle.semver_core.specs.Internal.Spaces.{drop_spaces, space_len}
 use Rattle.semver_core.specs.Lists.{is_empty}
 use Rattle.semver_core.specs.Text.Identifiers.{Id, listed, pieces}
-use Rattle.nodejs_semver.specs.Internal.Fronts.{Front, after_byte, begins_byte, begins_identifier, begins_wildcard, build_front, pre_release_front}
+use Rattle.nodejs_semver.specs.Internal.Fronts.{Front, after_byte, begins_byte, begins_identifier, begins_wildcard, build_front, marked_list}
 use Rattle.nodejs_semver.specs.Internal.NpmReadings.{dashed_front}
 use Rattle.nodejs_semver.specs.Internal.Parts.{parts}
 use Rattle.nodejs_semver.specs.Internal.Words.{after_some_space, is_boundary, or_else}
@@ -60,9 +60,14 @@ abbrev pub begins_lone_digit : List ℕ → Bool
 begins_lone_digit [] = false
 begins_lone_digit (b ∷ rest) = is_ascii_digit b && (begins_byte 46 rest && begins_identifier (drop 1 rest))
 
+-- or with a `-` that no identifier follows
+abbrev pub begins_lone_dash : List ℕ → Bool
+begins_lone_dash [] = false
+begins_lone_dash (b ∷ rest) = b == 45 && not (begins_identifier rest)
+
 -- the text of a pre-release, and what stands behind it
 unfoldable pub pre_front : Bool → List ℕ → List ℕ × List ℕ
-pre_front loose text = if loose && begins_undashed text then pre_release_front text else dashed_front text
+pre_front loose text = if loose && begins_undashed text then marked_list text text else dashed_front text
 
 -- the partial of three places, with these texts of its pre-release and of its build, behind which this stands
 abbrev pub ended_partial : Bool → Option ℕ → Option ℕ → Option ℕ → List ℕ → List ℕ × List ℕ → Front Partial

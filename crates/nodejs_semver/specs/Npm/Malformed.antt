@@ -1,12 +1,12 @@
 -- Statement: the malformed words that are ignored loosely, as node-semver ignores them. They are visible
 -- ASCII characters.
-use Rattle.std.specs.Prelude.{◌==◌, ◌-◌, ◌&&◌, ◌||◌, not, nat_le, ℕ, Bool, true, List, [], ◌∷◌, codes, drop}
-use Rattle.std.specs.Prelude.{if◌then◌else◌, length, take_while}
+use Rattle.std.specs.Prelude.{◌==◌, ◌&&◌, ◌||◌, not, nat_le, ℕ, Bool, true, List, [], ◌∷◌, codes, drop}
+use Rattle.std.specs.Prelude.{if◌then◌else◌, take_while}
 use Rattle.std.specs.Char.{is_ascii_digit}
-use Rattle.std.specs.List.{list_all}
+use Rattle.std.specs.List.{list_all, list_any, prefix_len}
 use Rattle.std.specs.Str.{bytes_eq}
 use Rattle.semver_core.specs.Lists.{is_empty}
-use Rattle.semver_core.specs.Text.Characters.{begins, is_identifier_char}
+use Rattle.semver_core.specs.Text.Characters.{begins, ends, is_identifier_char}
 
 abbrev pub is_visible : ℕ → Bool
 is_visible b = nat_le 33 b && nat_le b 126
@@ -15,12 +15,19 @@ is_visible b = nat_le 33 b && nat_le b 126
 abbrev pub is_sign : ℕ → Bool
 is_sign b = nat_le 60 b && nat_le b 62 || (b == 94 || b == 126)
 
--- a character that begins well-formed words: a sign, a digit, `v`, or a wildcard; and one that stands in them
+-- a sign or `v`, as stand before numbers; a character that begins well-formed words, which is one of these, a
+-- digit or a wildcard; one that stands in them; and one that ends them
+abbrev pub is_mark_or_sign : ℕ → Bool
+is_mark_or_sign b = is_sign b || b == 118
+
 abbrev pub is_first : ℕ → Bool
-is_first b = is_sign b || (is_ascii_digit b || (b == 118 || (b == 120 || (b == 88 || b == 42))))
+is_first b = is_mark_or_sign b || (is_ascii_digit b || (b == 120 || (b == 88 || b == 42)))
+
+abbrev pub is_last : ℕ → Bool
+is_last b = is_identifier_char b || b == 42
 
 abbrev pub is_inner : ℕ → Bool
-is_inner b = is_sign b || (is_identifier_char b || (b == 43 || (b == 46 || b == 42)))
+is_inner b = is_sign b || (is_last b || (b == 43 || b == 46))
 
 -- the text behind its first dot
 abbrev pub after_dot : List ℕ → List ℕ
@@ -36,26 +43,49 @@ abbrev pub are_first : List ℕ → Bool
 are_first [] = true
 are_first (b ∷ rest) = b == 46 || is_first b && are_first rest
 
--- it may be well-formed: it begins so, has only such characters in its first two parts, and no characters but
--- those of well-formed words
-abbrev pub is_regular : List ℕ → Bool
-is_regular word = begins is_first word && list_all is_inner word
-    && (are_first word && are_first (after_dot word))
+-- there are some; and so of each of the first two parts between dots and of the front of the third, if there are
+-- these
+abbrev pub begins_place : List ℕ → Bool
+begins_place text = begins is_first text && are_first text
 
--- a malformed word: one that may not be well-formed, or one with four parts. It is no `-` alone, as stands in
--- hyphen ranges, and its last character is no sign, with which node-semver may ignore the next word too.
-abbrev pub is_malformed : List ℕ → Bool
-is_malformed word = list_all is_visible word && (not (is_empty word || bytes_eq word (codes "-"))
-    && (not (begins is_sign (drop (length word - 1) word))
+abbrev pub begins_places : List ℕ → Bool
+begins_places word = begins_place word && ((is_empty (after_dot word) || begins_place (after_dot word))
+    && (is_empty (after_dot (after_dot word)) || begins is_first (after_dot (after_dot word))))
+
+-- the text behind its first character, or behind `~>`
+abbrev pub behind_sign : List ℕ → List ℕ
+behind_sign [] = []
+behind_sign (b ∷ []) = []
+behind_sign (b ∷ c ∷ rest) = if b == 126 && c == 62 then rest else c ∷ rest
+
+-- it has one sign at most, with `=` or without it, where it has no `*`, which node-semver may pass over with a sign
+abbrev pub has_one_sign : List ℕ → Bool
+has_one_sign word = list_any (λ b. b == 42) word || list_all (λ b. not (is_sign b) || b == 61) (behind_sign word)
+
+-- it may be well-formed: it has only characters of well-formed words, ends and begins as they do, has more than
+-- signs and `v`, and not two signs
+abbrev pub is_regular : List ℕ → Bool
+is_regular word = list_all is_inner word && (ends is_last word
+    && (not (list_all is_mark_or_sign word) && (has_one_sign word && begins_places word)))
+
+-- what stands behind it may belong to it: behind a sign, and behind the `-` of a hyphen range
+abbrev pub is_open : List ℕ → Bool
+is_open word = ends is_sign word || bytes_eq word (codes "-")
+
+-- a malformed word: one that may not be well-formed, or one with four parts. An open one is ignored only as the
+-- last word.
+abbrev pub is_malformed : Bool → List ℕ → Bool
+is_malformed last word = list_all is_visible word && (not (is_empty word) && ((last || not (is_open word))
     && (has_four_parts word || not (is_regular word))))
 
 -- the visible characters at the front are one, and those at the end
 abbrev pub begins_malformed : List ℕ → Bool
-begins_malformed text = is_malformed (take_while is_visible text)
+begins_malformed text =
+    is_malformed (is_empty (drop (prefix_len is_visible text) text)) (take_while is_visible text)
 
 abbrev pub last_visible : List ℕ → List ℕ
 last_visible [] = []
 last_visible (b ∷ rest) = if list_all is_visible (b ∷ rest) then b ∷ rest else last_visible rest
 
 abbrev pub ends_malformed : List ℕ → Bool
-ends_malformed text = is_malformed (last_visible text)
+ends_malformed text = is_malformed true (last_visible text)

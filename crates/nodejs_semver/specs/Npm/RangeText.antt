@@ -3,8 +3,8 @@
 -- a whole version, as in `>*1.2.3`, which node-semver passes over. Of the loose reading these are left out
 -- too, and a text that has one is rejected: malformed words but those that `Malformed` defines; zero as
 -- several digits, where it is the major number or that is zero; more than 32 digits of a number, and 128
--- characters of a pre-release; a pre-release without `-` that begins with `-`, as in `1.2.3-`, or
--- behind `x` with a digit; whitespace among the marks of a whole end of a hyphen range.
+-- characters of a pre-release; a pre-release without `-` that begins with a digit behind `x`; whitespace
+-- among the marks of a whole end of a hyphen range.
 use Rattle.std.specs.Prelude.{◌≡◌, ◌⊎◌, ◌==◌, ◌<◌, ◌≤◌, ◌+◌, ◌&&◌, ◌||◌, not, nat_le, nat_lt, ℕ, Bool, true}
 use Rattle.std.specs.Prelude.{false, List, [], ◌∷◌, ◌++◌, length, drop, Option, Some, None, codes}
 use Rattle.std.specs.Prelude.{encode_utf8_all, if◌then◌else◌}
@@ -53,15 +53,16 @@ has_zeros (Some M) = nat_lt 0 M
 abbrev pub are_spelled : Bool → List ℕ → Bool
 are_spelled loose ids = if loose then nat_le (length ids) 128 else list_all is_strict_identifier (pieces ids)
 
--- a pre-release may begin so without `-`: with a letter, or with one digit before a dot, which the patch number
--- does not take, as `4.5` in `1.2.34.5`
+-- a pre-release may begin so without `-`: with a letter, with one digit before a dot, which the patch number does
+-- not take, as `4.5` in `1.2.34.5`, or with a `-` that no identifier follows, as in `1.2.3-`
 abbrev pub is_letter : ℕ → Bool
 is_letter b = nat_le 65 b && nat_le b 90 || nat_le 97 b && nat_le b 122
 
 abbrev pub begins_undashed : List ℕ → Bool
 begins_undashed [] = false
 begins_undashed (b ∷ rest) = is_letter b
-    || is_ascii_digit b && (begins (λ b. b == 46) rest && begins is_identifier_char (drop 1 rest))
+    || (is_ascii_digit b && (begins (λ b. b == 46) rest && begins is_identifier_char (drop 1 rest))
+    || b == 45 && not (begins is_identifier_char rest))
 
 -- a pre-release: `-` and identifiers joined by dots, or nothing; loosely `-` may be absent
 pub data IsPreRelease (loose : Bool) : List ℕ → List Id → Type 0 where
@@ -73,7 +74,7 @@ pub data IsPreRelease (loose : Bool) : List ℕ → List Id → Type 0 where
 
 -- a pre-release without its `-`
 abbrev pub undashed : List ℕ → List ℕ
-undashed pre = if begins (λ b. b == 45) pre then drop 1 pre else pre
+undashed pre = if begins_undashed pre then pre else drop 1 pre
 
 -- the partial of its places
 abbrev pub partial_of : Option ℕ → Option ℕ → Option ℕ → List Id → List Id → Partial
@@ -141,21 +142,21 @@ are_marks loose (compared above) p marks = list_all is_mark marks && not (begins
 are_marks loose (compared below) p marks = list_all is_mark marks && not (begins (λ b. b == 61) marks)
 are_marks loose s p marks = list_all is_mark marks
 
--- a word: a sign, marks and a partial. Without a sign the first mark is no `=`, since that would be the sign.
--- Loosely it may also be malformed, and has then no comparators.
-pub data IsWord (loose include : Bool) : List ℕ → List Comparison → Type 0 where
-  ignored : (x : List ℕ) → loose ≡ true → is_malformed x ≡ true → IsWord loose include x []
+-- a word, the last one or not: a sign, marks and a partial. Without a sign the first mark is no `=`, since that
+-- would be the sign. Loosely it may also be malformed, and has then no comparators.
+pub data IsWord (loose include is_last : Bool) : List ℕ → List Comparison → Type 0 where
+  ignored : (x : List ℕ) → loose ≡ true → is_malformed is_last x ≡ true → IsWord loose include is_last x []
   word : (signs marks text : List ℕ) (s : Sign) (p : Partial) → IsSignText signs s
       → are_marks loose s p marks ≡ true → (is_empty signs && begins (λ b. b == 61) marks) ≡ false
       → IsPartial loose text p
-      → IsWord loose include (signs ++ (marks ++ text)) (table include s p (marks ++ text))
+      → IsWord loose include is_last (signs ++ (marks ++ text)) (table include s p (marks ++ text))
 
 -- ---- alternatives
 
 -- one word or more, with whitespace between them
 pub data AreWords (loose include : Bool) : List ℕ → List Comparison → Type 0 where
-  last : (x : List ℕ) (cs : List Comparison) → IsWord loose include x cs → AreWords loose include x cs
-  more : (x blank rest : List ℕ) (cs ds : List Comparison) → IsWord loose include x cs → IsBlank blank
+  last : (x : List ℕ) (cs : List Comparison) → IsWord loose include true x cs → AreWords loose include x cs
+  more : (x blank rest : List ℕ) (cs ds : List Comparison) → IsWord loose include false x cs → IsBlank blank
       → 0 < length blank → AreWords loose include rest ds
       → AreWords loose include (x ++ (blank ++ rest)) (cs ++ ds)
 

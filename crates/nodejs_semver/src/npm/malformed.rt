@@ -1,12 +1,11 @@
 // The malformed words of range texts that node-semver's loose reading ignores.
 
-ghost use Rattle.std.specs.List.{list_all, prefix_len};
-ghost use Rattle.std.specs.Prelude.{◌≡◌, ◌≤◌, ◌&&◌, ◌||◌, ◌-◌, codes, drop, length};
+ghost use Rattle.std.specs.List.{list_all, list_any, prefix_len};
+ghost use Rattle.std.specs.Prelude.{◌≡◌, ◌==◌, ◌≤◌, ◌&&◌, ◌||◌, ◌-◌, drop, length};
 ghost use Rattle.std.specs.Prelude.{not, true};
-ghost use Rattle.std.specs.Str.{bytes_eq};
 ghost use Rattle.nodejs_semver.specs.Npm.Malformed as Text;
 ghost use Rattle.semver_core.specs.Lists.{is_empty};
-ghost use Rattle.semver_core.specs.Text.Characters.{begins};
+ghost use Rattle.semver_core.specs.Text.Characters.{begins, ends};
 
 // Whether a character may stand in such a word.
 #[inline(always)]
@@ -24,12 +23,28 @@ fn is_sign(byte: u8) -> bool
     matches!(byte, b'<'..=b'>' | b'^' | b'~')
 }
 
+// Whether a character is of a sign, or a `v`.
+#[inline(always)]
+fn is_mark_or_sign(byte: u8) -> bool
+    ensures { result ≡ Text.is_mark_or_sign byte }
+{
+    is_sign(byte) || byte == b'v'
+}
+
 // Whether a well-formed word may begin with a character.
 #[inline(always)]
 fn is_first(byte: u8) -> bool
     ensures { result ≡ Text.is_first byte }
 {
-    is_sign(byte) || byte.is_ascii_digit() || matches!(byte, b'v' | b'x' | b'X' | b'*')
+    is_mark_or_sign(byte) || byte.is_ascii_digit() || matches!(byte, b'x' | b'X' | b'*')
+}
+
+// Whether a well-formed word may end with a character.
+#[inline(always)]
+fn is_last(byte: u8) -> bool
+    ensures { result ≡ Text.is_last byte }
+{
+    byte.is_ascii_alphanumeric() || matches!(byte, b'-' | b'*')
 }
 
 // Whether a character may stand in a well-formed word.
@@ -37,7 +52,7 @@ fn is_first(byte: u8) -> bool
 fn is_inner(byte: u8) -> bool
     ensures { result ≡ Text.is_inner byte }
 {
-    is_sign(byte) || byte.is_ascii_alphanumeric() || matches!(byte, b'-' | b'+' | b'.' | b'*')
+    is_sign(byte) || is_last(byte) || matches!(byte, b'+' | b'.')
 }
 
 /// How many such characters stand at the front.
@@ -62,6 +77,14 @@ fn are_inner(word: &[u8]) -> bool
     word.iter().all(|byte| is_inner(*byte))
 }
 
+// Whether characters are of signs, or `v`.
+#[inline(always)]
+fn are_marks_or_signs(word: &[u8]) -> bool
+    ensures { result ≡ list_all Text.is_mark_or_sign word.now }
+{
+    word.iter().all(|byte| is_mark_or_sign(*byte))
+}
+
 // The text behind its first dot.
 #[tactic(auto, using(crate::proofs::Strict::Malformed::dots))]
 fn after_dot(text: &[u8]) -> &[u8]
@@ -82,19 +105,47 @@ fn has_four_parts(word: &[u8]) -> bool
     matches!(after_dot(after_dot(word)), [_, b'.', ..])
 }
 
-// Whether a text is `-` alone, or nothing.
-fn is_dash(word: &[u8]) -> bool
-    ensures { result ≡ (is_empty word.now || bytes_eq word.now (codes "-")) }
+// The last character, if there is one.
+#[inline(always)]
+fn last(word: &[u8]) -> &[u8]
+    ensures { result.now ≡ drop (length word.now - 1) word.now }
 {
-    matches!(word, [] | [b'-'])
+    &word[word.len().saturating_sub(1)..]
+}
+
+// Whether the character at the front is of a sign.
+fn begins_with_sign(text: &[u8]) -> bool
+    ensures { result ≡ begins Text.is_sign text.now }
+{
+    matches!(text, [sign, ..] if is_sign(*sign))
+}
+
+// Whether the character at the front is such as ends a well-formed word.
+fn begins_with_last(text: &[u8]) -> bool
+    ensures { result ≡ begins Text.is_last text.now }
+{
+    matches!(text, [byte, ..] if is_last(*byte))
 }
 
 // Whether its last character is of a sign.
 fn ends_in_sign(word: &[u8]) -> bool
-    ensures { result ≡ begins Text.is_sign (drop (length word.now - 1) word.now) }
+    ensures { result ≡ ends Text.is_sign word.now }
 {
-    let last = &word[word.len().saturating_sub(1)..];
-    matches!(last, [sign, ..] if is_sign(*sign))
+    begins_with_sign(last(word))
+}
+
+// Whether it ends as a well-formed word does.
+fn ends_well(word: &[u8]) -> bool
+    ensures { result ≡ ends Text.is_last word.now }
+{
+    begins_with_last(last(word))
+}
+
+// Whether what stands behind a malformed word may belong to it.
+fn is_open(word: &[u8]) -> bool
+    ensures { result ≡ Text.is_open word.now }
+{
+    ends_in_sign(word) || matches!(word, [b'-'])
 }
 
 // Whether the characters in front of the first dot are such as begin well-formed words.
@@ -113,18 +164,86 @@ fn are_first(text: &[u8]) -> bool
     true
 }
 
-// Whether the first two parts of a word have such characters alone.
-fn has_first_parts(word: &[u8]) -> bool
-    ensures { result ≡ (Text.are_first word.now && Text.are_first (Text.after_dot word.now)) }
+// Whether the part at the front may be a place.
+fn begins_place(text: &[u8]) -> bool
+    ensures { result ≡ Text.begins_place text.now }
 {
-    are_first(word) && are_first(after_dot(word))
+    matches!(text, [first, ..] if is_first(*first)) && are_first(text)
 }
 
-// Whether a word may be well-formed by its first character, by all, and by its first two parts.
+// Whether the part at the front may be a place, or there is none.
+fn may_begin_place(text: &[u8]) -> bool
+    ensures { result ≡ (is_empty text.now || Text.begins_place text.now) }
+{
+    text.is_empty() || begins_place(text)
+}
+
+// Whether the part at the front may begin with a place, or there is none.
+fn may_begin(text: &[u8]) -> bool
+    ensures { result ≡ (is_empty text.now || begins Text.is_first text.now) }
+{
+    match text {
+        [first, ..] => is_first(*first),
+        [] => true,
+    }
+}
+
+// Whether the first two parts of a word and the front of its third may be places.
+fn begins_places(word: &[u8]) -> bool
+    ensures { result ≡ Text.begins_places word.now }
+{
+    let second = after_dot(word);
+    begins_place(word) && may_begin_place(second) && may_begin(after_dot(second))
+}
+
+// The text behind its first character, or behind `~>`.
+fn behind_sign(word: &[u8]) -> &[u8]
+    ensures { result.now ≡ Text.behind_sign word.now }
+{
+    match word {
+        [b'~', b'>', rest @ ..] => rest,
+        [_, rest @ ..] => rest,
+        [] => b"",
+    }
+}
+
+// Whether a word has a star.
+#[inline(always)]
+fn has_star(word: &[u8]) -> bool
+    ensures { result ≡ list_any (λ b. b == 42) word.now }
+{
+    word.iter().any(|byte| *byte == b'*')
+}
+
+// Whether characters are of no sign but `=`.
+#[inline(always)]
+fn are_unsigned(text: &[u8]) -> bool
+    ensures { result ≡ list_all (λ b. not (Text.is_sign b) || b == 61) text.now }
+{
+    text.iter().all(|byte| !is_sign(*byte) || *byte == b'=')
+}
+
+// Whether a word has one sign at most, or a star.
+fn has_one_sign(word: &[u8]) -> bool
+    ensures { result ≡ Text.has_one_sign word.now }
+{
+    has_star(word) || are_unsigned(behind_sign(word))
+}
+
+// Whether a word begins and ends as well-formed words do.
+fn has_right_ends(word: &[u8]) -> bool
+    ensures { result ≡ (ends Text.is_last word.now
+        && (not (list_all Text.is_mark_or_sign word.now)
+        && (Text.has_one_sign word.now && Text.begins_places word.now))) }
+{
+    ends_well(word) && !are_marks_or_signs(word) && has_one_sign(word) && begins_places(word)
+}
+
+// Whether a word may be well-formed by its characters, its end and its front.
 fn is_regular(word: &[u8]) -> bool
     ensures { result ≡ Text.is_regular word.now }
 {
-    matches!(word, [first, ..] if is_first(*first)) && are_inner(word) && has_first_parts(word)
+    are_inner(word) && has_right_ends(word)
 }
 
 fn is_misfit(word: &[u8]) -> bool
@@ -133,12 +252,12 @@ fn is_misfit(word: &[u8]) -> bool
     has_four_parts(word) || !is_regular(word)
 }
 
-// Whether such characters are a malformed word.
-fn is_malformed(word: &[u8]) -> bool
+// Whether such characters are a malformed word, which is the last one or not.
+fn is_malformed(is_last: bool, word: &[u8]) -> bool
     requires { list_all Text.is_visible word.now ≡ true }
-    ensures { result ≡ Text.is_malformed word.now }
+    ensures { result ≡ Text.is_malformed is_last word.now }
 {
-    !is_dash(word) && !ends_in_sign(word) && is_misfit(word)
+    !word.is_empty() && (is_last || !is_open(word)) && is_misfit(word)
 }
 
 // The visible characters at the end.
@@ -158,7 +277,7 @@ fn last_visible(text: &[u8]) -> &[u8]
 pub(crate) fn ends_malformed(text: &[u8]) -> bool
     ensures { result ≡ Text.ends_malformed text.now }
 {
-    is_malformed(last_visible(text))
+    is_malformed(true, last_visible(text))
 }
 
 /// Whether a malformed word stands at the front.
@@ -166,5 +285,6 @@ pub(crate) fn ends_malformed(text: &[u8]) -> bool
 pub(crate) fn begins_malformed(text: &[u8]) -> bool
     ensures { result ≡ Text.begins_malformed text.now }
 {
-    is_malformed(&text[..visible_len(text)])
+    let end = visible_len(text);
+    is_malformed(end == text.len(), &text[..end])
 }

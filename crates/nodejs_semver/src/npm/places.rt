@@ -19,7 +19,7 @@ ghost use Rattle.semver_core.specs.declared.TheConstants.{MAX_SAFE_INTEGER};
 
 use crate::npm::partial::Partial;
 use crate::npm::versions::{begins_padded, dashed_front, is_strict_list, strict_number};
-use crate::readers::{build_front, pre_release_front};
+use crate::readers::{build_front, marked_list};
 use semver_core::scan::{begins_identifier, number_in};
 use semver_core::{MAX_SAFE_INTEGER, VersionRef};
 
@@ -279,12 +279,22 @@ fn begins_lone_digit(text: &[u8]) -> bool
     matches!(text, [digit, b'.', rest @ ..] if digit.is_ascii_digit() && begins_identifier(rest))
 }
 
+// Whether a text begins with a `-` that no identifier follows.
+#[inline(always)]
+fn begins_lone_dash(text: &[u8]) -> bool
+    ensures { result ≡ Spec.begins_lone_dash text.now }
+{
+    matches!(text, [b'-', rest @ ..] if !begins_identifier(rest))
+}
+
 // Whether a text begins as a pre-release may without `-`.
 #[inline(always)]
 fn begins_undashed(text: &[u8]) -> bool
     ensures { result ≡ Text.begins_undashed text.now }
 {
-    matches!(text, [b'A'..=b'Z' | b'a'..=b'z', ..]) || begins_lone_digit(text)
+    matches!(text, [b'A'..=b'Z' | b'a'..=b'z', ..])
+        || begins_lone_digit(text)
+        || begins_lone_dash(text)
 }
 
 // The text of the pre-release at the front, and what stands behind it.
@@ -295,7 +305,7 @@ fn pre_front(loose: bool, text: &[u8]) -> (&[u8], &[u8])
     ensures value { pair_view result ≡ Spec.pre_front loose text.now }
 {
     if loose && begins_undashed(text) {
-        pre_release_front(text)
+        marked_list(text, text)
     } else {
         dashed_front(text)
     }
