@@ -1,12 +1,8 @@
 // Ranges: lists of intervals of versions.
 
-ghost use Rattle.std.specs.Prelude.{◌≡◌, ◌≤◌, ◌+◌, IfOk, IsOk, OnErr, true};
-ghost use Rattle.std.specs.List.{list_all};
-ghost use Rattle.nodejs_semver.specs.Internal.Sets.{AreTaking, is_range_span};
-ghost use Rattle.semver_core.specs.declared.TheConstants.{MAX_SAFE_INTEGER};
-ghost use Rattle.semver_core.specs.Lists.{if_any};
-ghost use Rattle.nodejs_semver.specs.Ranges.View.{IsRange, TakesMemory, any_version};
-ghost use Rattle.nodejs_semver.specs.Internal.Shorthands.{spans_of};
+ghost use Rattle.nodejs_semver.specs.Words.{◌+◌, ◌≡◌, ◌≤◌, any_version, AreTaking, if_any, IfOk};
+ghost use Rattle.nodejs_semver.specs.Words.{is_range_span, IsOk, IsRange, list_all};
+ghost use Rattle.nodejs_semver.specs.Words.{MAX_SAFE_INTEGER, OnErr, spans_of, TakesMemory, true};
 
 mod algebra;
 mod best;

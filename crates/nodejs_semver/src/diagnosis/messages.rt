@@ -1,8 +1,7 @@
 // How flaws and ignored words print.
 
-ghost use Rattle.std.specs.Fmt.{DisplaysStyledOnOk, decimal};
-ghost use Rattle.std.specs.Prelude.{◌≡◌, ◌++◌, Some};
-ghost use Rattle.nodejs_semver.specs.Diagnosis.Messages.{flaw_text, kind_text, word_text};
+ghost use Rattle.nodejs_semver.specs.Words.{◌++◌, ◌≡◌, decimal, DisplaysStyledOnOk, flaw_text};
+ghost use Rattle.nodejs_semver.specs.Words.{kind_text, Some, word_text};
 
 use crate::diagnosis::{Expected, IgnoredKind, IgnoredWord, VersionFlaw};
 use itoa::Buffer;

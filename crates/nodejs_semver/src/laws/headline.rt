@@ -1,14 +1,9 @@
 // The headline of this crate. It rests on the contracts of the public calls alone.
 
-ghost use Rattle.std.specs.Prelude.{◌≡◌, ◌&&◌, ◌↔◌, ◌⊎◌, []};
-ghost use Rattle.std.specs.Prelude.{List, IfOk, IsTrue, OnOk, false, not, true, unwrap_or};
-ghost use Rattle.nodejs_semver.specs.Ranges.Gate.{accepts};
-ghost use Rattle.nodejs_semver.specs.Ranges.Least.{IsLeastOf};
-ghost use Rattle.nodejs_semver.specs.Text.Meaning.{Means};
-ghost use Rattle.nodejs_semver.specs.Text.WrittenSet.{Writes};
-ghost use Rattle.semver_core.specs.Cuts.{Span};
-ghost use Rattle.semver_core.specs.Failures.{RefusedOnlyIf};
-ghost use Rattle.semver_core.specs.Values.Versions.{VersionValue};
+ghost use Rattle.nodejs_semver.specs.Words.{[], ◌&&◌, ◌↔◌, ◌≡◌, ◌⊎◌, accepts, false, IfOk};
+ghost use Rattle.nodejs_semver.specs.Words.{IsLeastOf, IsTrue, List, Means, not, OnOk};
+ghost use Rattle.nodejs_semver.specs.Words.{RefusedOnlyIf, Span, true, unwrap_or, VersionValue};
+ghost use Rattle.nodejs_semver.specs.Words.{Writes};
 
 use crate::{Failure, MAX_SAFE_INTEGER, Range, RangeOf, SemverError, Version};
 use semver_core::{VersionPoint, Versioned};

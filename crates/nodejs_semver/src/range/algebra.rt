@@ -1,19 +1,11 @@
 // The set algebra of ranges.
 
-ghost use Rattle.std.specs.Prelude.{◌≡◌, ◌<◌, ◌⊎◌, ◌&&◌, ◌||◌, ◌+◌, not, true, false, unwrap_or};
-ghost use Rattle.std.specs.Prelude.{IfOk, OnErr, IsTrue, is_some, [], length};
-ghost use Rattle.std.specs.List.{list_all};
-ghost use Rattle.std.specs.Option.{option_to_list};
-ghost use Rattle.nodejs_semver.specs.Internal.Sets.{is_range_span};
-ghost use Rattle.nodejs_semver.specs.Internal.Shorthands.{spans_of};
-ghost use Rattle.semver_core.specs.Cuts.{meet};
-ghost use Rattle.semver_core.specs.Lists.{if_any};
-ghost use Rattle.semver_core.specs.declared.TheConstants.{MAX_SAFE_INTEGER};
-ghost use Rattle.semver_core.specs.Values.Order.{precedence};
-ghost use Rattle.semver_core.specs.Values.Versions.{VersionValue, is_release};
-ghost use Rattle.nodejs_semver.specs.Ranges.Gate.{accepts};
-ghost use Rattle.nodejs_semver.specs.Ranges.Algebra.{intersection, difference, covers_one};
-ghost use Rattle.nodejs_semver.specs.Ranges.Algebra.{list_holds};
+ghost use Rattle.nodejs_semver.specs.Words.{[], ◌&&◌, ◌+◌, ◌<◌, ◌||◌, ◌≡◌, ◌⊎◌, accepts};
+ghost use Rattle.nodejs_semver.specs.Words.{covers_one, difference, false, if_any, IfOk};
+ghost use Rattle.nodejs_semver.specs.Words.{intersection, is_range_span, is_release, is_some};
+ghost use Rattle.nodejs_semver.specs.Words.{IsTrue, length, list_all, list_holds, MAX_SAFE_INTEGER};
+ghost use Rattle.nodejs_semver.specs.Words.{meet, not, OnErr, option_to_list, precedence, spans_of};
+ghost use Rattle.nodejs_semver.specs.Words.{true, unwrap_or, VersionValue};
 
 use crate::range::interval_lists;
 use crate::{Range, RangeOf, RangeRef};

@@ -1,16 +1,10 @@
 // Lists of intervals: what two of them have in common, and what one leaves of another.
 
-ghost use Rattle.std.specs.Prelude.{◌≡◌, ◌≢◌, ◌<◌, ◌⊎◌, [], ◌∷◌, ◌++◌, IfOk, OnOk, OnErr};
-ghost use Rattle.std.specs.Prelude.{IsTrue, is_some, length, true};
-ghost use Rattle.std.specs.List.{flat_map, list_all, list_any};
-ghost use Rattle.std.specs.Option.{option_to_list};
-ghost use Rattle.nodejs_semver.specs.Internal.Sets.{meets_of, minus};
-ghost use Rattle.semver_core.specs.Clips.{clip};
-ghost use Rattle.semver_core.specs.Cuts.{Start, is_interval, meet, covers};
-ghost use Rattle.semver_core.specs.Lists.{if_any};
-ghost use Rattle.nodejs_semver.specs.Internal.Shorthands.{remainder};
-ghost use Rattle.semver_core.specs.declared.cuts.bound.Bound.TheVariants.{Unbounded};
-ghost use Rattle.nodejs_semver.specs.Internal.Along.{IsAlong};
+ghost use Rattle.nodejs_semver.specs.Words.{[], ◌++◌, ◌<◌, ◌∷◌, ◌≡◌, ◌≢◌, ◌⊎◌, clip, covers};
+ghost use Rattle.nodejs_semver.specs.Words.{flat_map, if_any, IfOk, is_interval, is_some, IsAlong};
+ghost use Rattle.nodejs_semver.specs.Words.{IsTrue, length, list_all, list_any, meet, meets_of};
+ghost use Rattle.nodejs_semver.specs.Words.{minus, OnErr, OnOk, option_to_list, remainder, Start};
+ghost use Rattle.nodejs_semver.specs.Words.{true, Unbounded};
 
 use crate::range::Intervals;
 use semver_core::cuts::{Interval, Point};

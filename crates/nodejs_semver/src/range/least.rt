@@ -9,19 +9,13 @@
 // interval of a kept list, and two for one of the removed list. With pre-releases included the
 // candidates are the first versions past the lower cuts, one for an interval.
 
-ghost use Rattle.nodejs_semver.specs.Ranges.Gate.{accepts};
 ghost use Rattle.nodejs_semver.specs.Internal.Candidates as spec;
 ghost use Rattle.nodejs_semver.specs.Ranges.Least as stated;
-ghost use Rattle.nodejs_semver.specs.Internal.Shorthands.{spans_of, value_of};
-ghost use Rattle.nodejs_semver.specs.Ranges.View.{bound_of, span_of};
-ghost use Rattle.semver_core.specs.Internal.Sides.{Near, Far};
-ghost use Rattle.semver_core.specs.Cuts.{Beside};
-ghost use Rattle.semver_core.specs.Values.Versions.{VersionValue, is_release};
-ghost use Rattle.std.specs.List.{Any, flat_map, list_all};
-ghost use Rattle.semver_core.specs.declared.cuts.bound.Bound.TheVariants.{After, Before};
-ghost use Rattle.std.specs.Prelude.{All, IfNone, IfOk, IfSome, IsOk, OnErr, OnOk, Some, [], false};
-ghost use Rattle.std.specs.Prelude.{fold, length, true};
-ghost use Rattle.std.specs.Prelude.{◌&&◌, ◌-◌, ◌<◌, ◌≡◌, ◌^◌, ◌⊎◌};
+ghost use Rattle.nodejs_semver.specs.Words.{[], ◌&&◌, ◌-◌, ◌<◌, ◌^◌, ◌≡◌, ◌⊎◌, accepts, After, All};
+ghost use Rattle.nodejs_semver.specs.Words.{Any, Before, Beside, bound_of, false, Far, flat_map};
+ghost use Rattle.nodejs_semver.specs.Words.{fold, IfNone, IfOk, IfSome, is_release, IsOk, length};
+ghost use Rattle.nodejs_semver.specs.Words.{list_all, Near, OnErr, OnOk, Some, span_of, spans_of};
+ghost use Rattle.nodejs_semver.specs.Words.{true, value_of, VersionValue};
 
 use crate::RangeOf;
 use crate::range::choice::all_accept;

@@ -1,18 +1,12 @@
 // Versions beside another one, and the build that the least version has.
 
-ghost use Rattle.std.specs.Prelude.{◌≡◌, ◌&&◌, ◌+◌, ◌-◌, ◌<◌, ◌^◌, [], ◌∷◌, All, IfOk, IfSome};
-ghost use Rattle.std.specs.Prelude.{IsOk, IsTrue, Some, find, option_map};
-ghost use Rattle.std.specs.List.{list_any};
 ghost use Rattle.nodejs_semver.specs.Internal.Candidates as spec;
-ghost use Rattle.nodejs_semver.specs.Internal.Shorthands.{build_by, spans_of};
-ghost use Rattle.nodejs_semver.specs.Ranges.Gate.{lets_in};
 ghost use Rattle.nodejs_semver.specs.Ranges.Least as stated;
-ghost use Rattle.nodejs_semver.specs.Ranges.View.{bound_of, span_of};
-ghost use Rattle.semver_core.specs.Cuts.{holds};
-ghost use Rattle.semver_core.specs.Values.Order.{precedence};
-ghost use Rattle.semver_core.specs.Text.Identifiers.{Numeric};
-ghost use Rattle.semver_core.specs.Values.Views.{id_view, ids_view, lent_id_view};
-ghost use Rattle.semver_core.specs.declared.cuts.bound.Bound.TheVariants.{After};
+ghost use Rattle.nodejs_semver.specs.Words.{[], ◌&&◌, ◌+◌, ◌-◌, ◌<◌, ◌^◌, ◌∷◌, ◌≡◌, After, All};
+ghost use Rattle.nodejs_semver.specs.Words.{bound_of, build_by, find, holds, id_view, ids_view};
+ghost use Rattle.nodejs_semver.specs.Words.{IfOk, IfSome, IsTrue, lent_id_view, lets_in, list_any};
+ghost use Rattle.nodejs_semver.specs.Words.{Numeric, option_map, precedence, Some, span_of};
+ghost use Rattle.nodejs_semver.specs.Words.{spans_of};
 
 use crate::range::gate::accepts_one;
 use crate::readers::{lowest, release};

@@ -1,10 +1,8 @@
 // Versions that lie above or below a range.
 
 ghost use Rattle.nodejs_semver.specs.Ranges.Outside as spec;
-ghost use Rattle.nodejs_semver.specs.Ranges.View.{bound_of, span_of};
-ghost use Rattle.nodejs_semver.specs.Internal.Shorthands.{lies_above, lies_below};
 ghost use Rattle.nodejs_semver.specs.declared.range.outside.OutsideDirection.TheVariants as side;
-ghost use Rattle.std.specs.Prelude.{Ok, ◌≡◌};
+ghost use Rattle.nodejs_semver.specs.Words.{◌≡◌, bound_of, lies_above, lies_below, Ok, span_of};
 
 use crate::RangeOf;
 use crate::range::gate::{accepts, is_past_lower, is_past_upper};

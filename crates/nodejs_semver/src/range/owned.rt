@@ -1,11 +1,8 @@
 // Borrowed ranges with versions of their own.
 
-ghost use Rattle.nodejs_semver.specs.Ranges.View.{TakesMemory};
-ghost use Rattle.semver_core.specs.Cuts.{has_bound, passes};
-ghost use Rattle.semver_core.specs.Values.Memory.{takes_memory};
-ghost use Rattle.std.specs.List.{list_any};
-ghost use Rattle.std.specs.Prelude.{◌≡◌, ◌≢◌, ◌<◌, ◌∷◌, ◌⊎◌, []};
-ghost use Rattle.std.specs.Prelude.{IfOk, IsSomeAnd, OnErr, length, true};
+ghost use Rattle.nodejs_semver.specs.Words.{◌<◌, ◌≡◌, ◌≢◌, ◌⊎◌, has_bound, IfOk, IsSomeAnd, length};
+ghost use Rattle.nodejs_semver.specs.Words.{list_any, OnErr, passes, takes_memory, TakesMemory};
+ghost use Rattle.nodejs_semver.specs.Words.{true};
 
 use crate::range::Intervals;
 use crate::{Range, RangeOf, RangeRef};

@@ -1,10 +1,8 @@
 // The parts of a range text, one after another.
 
-ghost use Rattle.std.specs.Prelude.{◌≡◌, ◌<◌, ◌∷◌, IfSome, length};
-ghost use Rattle.nodejs_semver.specs.Internal.Parts.{parts};
 ghost use Rattle.nodejs_semver.specs.Internal.PartFronts as Spec;
-ghost use Rattle.nodejs_semver.specs.Internal.Readings.{part_view, rest_view};
-ghost use Rattle.semver_core.specs.Internal.Spaces.{space_len};
+ghost use Rattle.nodejs_semver.specs.Words.{◌<◌, ◌∷◌, ◌≡◌, IfSome, length, part_view, parts};
+ghost use Rattle.nodejs_semver.specs.Words.{rest_view, space_len};
 
 use semver_core::scan;
 

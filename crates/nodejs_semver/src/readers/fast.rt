@@ -1,21 +1,14 @@
 // The reader of common range texts, in one pass from the left.
 
-ghost use Rattle.std.specs.Prelude.{◌≡◌, ◌≤◌, ◌⊎◌, [], if◌then◌else◌, IfNone, IfOk, IfSome};
-ghost use Rattle.std.specs.Prelude.{IsFalse, IsTrue, List, None, OnErr, Some, length, true};
 ghost use Rattle.nodejs_semver.specs.Internal.CommonFronts as Spec;
-ghost use Rattle.nodejs_semver.specs.Text.Bars.{has_bars};
-ghost use Rattle.nodejs_semver.specs.Text.Common.{AreCommonParts, IsCommonRange};
-ghost use Rattle.nodejs_semver.specs.Text.Meaning.{Means};
-ghost use Rattle.nodejs_semver.specs.Internal.CommonViews.{both_view, bounds_front_view};
-ghost use Rattle.nodejs_semver.specs.Internal.CommonViews.{passed_view};
-ghost use Rattle.nodejs_semver.specs.Internal.Readings.{bounds_view, partial_front_view};
-ghost use Rattle.nodejs_semver.specs.Internal.Readings.{partial_view, rest_view, table_view};
-ghost use Rattle.semver_core.specs.Failures.{NoValue};
-ghost use Rattle.nodejs_semver.specs.Ranges.View.{TakesMemory};
-ghost use Rattle.semver_core.specs.Cuts.{Span, interval, is_interval};
-ghost use Rattle.semver_core.specs.Values.Order.{precedence};
-ghost use Rattle.semver_core.specs.Values.Versions.{VersionValue};
-ghost use Rattle.semver_core.specs.declared.TheConstants.{MAX_SAFE_INTEGER};
+ghost use Rattle.nodejs_semver.specs.Words.{[], ◌≡◌, ◌≤◌, ◌⊎◌, AreCommonParts, both_view};
+ghost use Rattle.nodejs_semver.specs.Words.{bounds_front_view, bounds_view, has_bars, IfNone, IfOk};
+ghost use Rattle.nodejs_semver.specs.Words.{IfSome, if◌then◌else◌, interval, is_interval};
+ghost use Rattle.nodejs_semver.specs.Words.{IsCommonRange, IsFalse, IsTrue, length, List};
+ghost use Rattle.nodejs_semver.specs.Words.{MAX_SAFE_INTEGER, Means, None, NoValue, OnErr};
+ghost use Rattle.nodejs_semver.specs.Words.{partial_front_view, partial_view, passed_view};
+ghost use Rattle.nodejs_semver.specs.Words.{precedence, rest_view, Some, Span, table_view};
+ghost use Rattle.nodejs_semver.specs.Words.{TakesMemory, true, VersionValue};
 
 use crate::range::owned::owned_range;
 use crate::readers::found::Found;

@@ -1,23 +1,14 @@
 // The intervals of a part. Memory is taken only where a list of intervals grows.
 
-ghost use Rattle.std.specs.Option.{option_to_list};
-ghost use Rattle.std.specs.Prelude.{◌≡◌, ◌<◌, ◌≤◌, ◌++◌, ◌∷◌, [], List, Option, IfOk, OnErr, OnOk};
-ghost use Rattle.std.specs.Prelude.{is_some, length, true};
-ghost use Rattle.nodejs_semver.specs.Internal.Denotes.{part_bounds, part_intervals};
-ghost use Rattle.nodejs_semver.specs.Internal.CommonFronts.{pushed};
-ghost use Rattle.nodejs_semver.specs.Internal.CommonViews.{between_view, both_view};
-ghost use Rattle.nodejs_semver.specs.Internal.Meets.{joined_from, next_at};
-ghost use Rattle.nodejs_semver.specs.Internal.Readings.{bounds_view, hyphen_pushed_view, next_view};
-ghost use Rattle.nodejs_semver.specs.Internal.Readings.{partial_view, sign_view, word_pushed_view};
-ghost use Rattle.nodejs_semver.specs.Internal.Words.{hyphen_pushed, signed_word, upper_behind};
-ghost use Rattle.nodejs_semver.specs.Internal.Words.{upper_of, word_pushed, word_at};
-ghost use Rattle.nodejs_semver.specs.Text.WordText.{hyphen};
-ghost use Rattle.nodejs_semver.specs.Text.Table.{table};
-ghost use Rattle.semver_core.specs.Internal.Spaces.{space_len};
-ghost use Rattle.semver_core.specs.Cuts.{Span, interval, is_interval};
-ghost use Rattle.semver_core.specs.Values.Order.{precedence};
-ghost use Rattle.semver_core.specs.Values.Versions.{VersionValue};
-ghost use Rattle.semver_core.specs.declared.TheConstants.{MAX_SAFE_INTEGER};
+ghost use Rattle.nodejs_semver.specs.Words.{[], ◌++◌, ◌<◌, ◌∷◌, ◌≡◌, ◌≤◌, between_view, both_view};
+ghost use Rattle.nodejs_semver.specs.Words.{bounds_view, hyphen, hyphen_pushed, hyphen_pushed_view};
+ghost use Rattle.nodejs_semver.specs.Words.{IfOk, interval, is_interval, is_some, joined_from};
+ghost use Rattle.nodejs_semver.specs.Words.{length, List, MAX_SAFE_INTEGER, next_at, next_view};
+ghost use Rattle.nodejs_semver.specs.Words.{OnErr, OnOk, Option, option_to_list, part_bounds};
+ghost use Rattle.nodejs_semver.specs.Words.{part_intervals, partial_view, precedence, pushed};
+ghost use Rattle.nodejs_semver.specs.Words.{sign_view, signed_word, space_len, Span, table, true};
+ghost use Rattle.nodejs_semver.specs.Words.{upper_behind, upper_of, VersionValue, word_at};
+ghost use Rattle.nodejs_semver.specs.Words.{word_pushed, word_pushed_view};
 
 use crate::range::Intervals;
 use crate::readers::found::Found;

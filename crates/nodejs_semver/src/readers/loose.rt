@@ -1,17 +1,10 @@
 // The reader of range texts, word by word.
 
-ghost use Rattle.std.specs.Prelude.{◌≡◌, ◌↔◌, ◌<◌, ◌++◌, ◌∷◌, [], IfNone, IfOk, IfSome, IsTrue};
-ghost use Rattle.std.specs.Prelude.{OnOk, List, OnErr, flat_map, length};
-ghost use Rattle.std.specs.List.{list_all};
-ghost use Rattle.nodejs_semver.specs.Internal.Denotes.{denotes, part_denotes};
-ghost use Rattle.nodejs_semver.specs.Internal.PartFronts.{later_parts};
-ghost use Rattle.nodejs_semver.specs.Internal.Readings.{rest_view};
-ghost use Rattle.nodejs_semver.specs.Ranges.View.{TakesMemory};
-ghost use Rattle.nodejs_semver.specs.Text.Meaning.{IsBlankText, Means};
-ghost use Rattle.semver_core.specs.Cuts.{Span};
-ghost use Rattle.semver_core.specs.Internal.Spaces.{space_len};
-ghost use Rattle.semver_core.specs.Lists.{is_empty};
-ghost use Rattle.semver_core.specs.Values.Versions.{VersionValue};
+ghost use Rattle.nodejs_semver.specs.Words.{[], ◌++◌, ◌<◌, ◌↔◌, ◌∷◌, ◌≡◌, denotes, flat_map};
+ghost use Rattle.nodejs_semver.specs.Words.{IfNone, IfOk, IfSome, is_empty, IsBlankText, IsTrue};
+ghost use Rattle.nodejs_semver.specs.Words.{later_parts, length, List, list_all, Means, OnErr};
+ghost use Rattle.nodejs_semver.specs.Words.{OnOk, part_denotes, rest_view, space_len, Span};
+ghost use Rattle.nodejs_semver.specs.Words.{TakesMemory, VersionValue};
 
 use crate::range::Intervals;
 use crate::range::owned::owned_range;

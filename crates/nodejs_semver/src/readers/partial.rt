@@ -1,13 +1,9 @@
 // A partial: a version whose components may be absent or wildcards.
 
-ghost use Rattle.std.specs.Option.{ForSome};
-ghost use Rattle.std.specs.Prelude.{IfSome, ◌≡◌, ◌≤◌, ◌+◌, [], take, drop, true};
 ghost use Rattle.nodejs_semver.specs.Internal.Fronts as Spec;
-ghost use Rattle.nodejs_semver.specs.Internal.Fronts.{front_view};
-ghost use Rattle.semver_core.specs.Text.Identifiers.{goes_on, is_listed};
-ghost use Rattle.nodejs_semver.specs.Internal.Readings.{pair_view, partial_front_view};
-ghost use Rattle.nodejs_semver.specs.Internal.Readings.{partial_pair_view};
-ghost use Rattle.semver_core.specs.declared.TheConstants.{MAX_SAFE_INTEGER};
+ghost use Rattle.nodejs_semver.specs.Words.{◌+◌, ◌≡◌, ◌≤◌, ForSome, front_view, goes_on, IfSome};
+ghost use Rattle.nodejs_semver.specs.Words.{is_listed, MAX_SAFE_INTEGER, pair_view};
+ghost use Rattle.nodejs_semver.specs.Words.{partial_front_view, partial_pair_view, true};
 
 use crate::readers::spaces::skip_spaces;
 use crate::readers::syntax::Partial;

@@ -1,8 +1,7 @@
 // Whitespace at the front of a text, by its bytes.
 
-ghost use Rattle.std.specs.Prelude.{◌≡◌, ◌≤◌, length};
-ghost use Rattle.semver_core.specs.Internal.Spaces.{drop_spaces, goes_on_with, is_space_of_three};
-ghost use Rattle.semver_core.specs.Internal.Spaces.{is_space_of_two, space_len};
+ghost use Rattle.nodejs_semver.specs.Words.{◌≡◌, ◌≤◌, drop_spaces, goes_on_with, is_space_of_three};
+ghost use Rattle.nodejs_semver.specs.Words.{is_space_of_two, length, space_len};
 
 use semver_core::scan::is_whitespace_code;
 
