@@ -57,16 +57,13 @@ fn begins_digit(bytes: &[u8], at: usize) -> bool
 fn number_end(bytes: &[u8], at: usize) -> Result<usize, VersionFlaw>
     requires { at ≤ length bytes.now }
     ensures found { IfOk result (λ end. IsNumberAt MAX_SAFE_INTEGER bytes.now at end) }
-    ensures stuck { IfErr result (λ flaw.
-        (k : ℕ) → Stuck MAX_SAFE_INTEGER bytes.now k at flaw) }
+    ensures stuck { IfErr result (λ flaw. (k : ℕ) → Stuck MAX_SAFE_INTEGER bytes.now k at flaw) }
 {
+    let what = Expected::Digit;
     match number_in(bytes, at) {
         Some((_, end)) => Ok(end),
         None if begins_digit(bytes, at) => Err(VersionFlaw::NumberTooGreat { at }),
-        None => Err(VersionFlaw::Expected {
-            what: Expected::Digit,
-            at,
-        }),
+        None => Err(VersionFlaw::Expected { what, at }),
     }
 }
 
@@ -78,12 +75,10 @@ fn dot_end(bytes: &[u8], at: usize) -> Result<usize, VersionFlaw>
     ensures stuck { IfErr result (λ flaw. (flaw ≡ VersionFlaw.Expected Expected.Dot at)
         × (begins_dot (drop at bytes.now) ≡ false)) }
 {
+    let what = Expected::Dot;
     match &bytes[at..] {
         [b'.', ..] => Ok(at + 1),
-        _ => Err(VersionFlaw::Expected {
-            what: Expected::Dot,
-            at,
-        }),
+        _ => Err(VersionFlaw::Expected { what, at }),
     }
 }
 

@@ -44,9 +44,8 @@ pub fn headline(alloc: Global, a: &str, b: &str) -> Result<Findings, Failure<Sem
     ensures first_alone { IfOk result (λ found. (v : VersionValue) →
         IsTrue (accepts (unwrap_or found.first_alone []) v true)
         ↔ (Writes MAX_SAFE_INTEGER a.now v × (Writes MAX_SAFE_INTEGER b.now v → ⊥))) }
-    ensures least { IfOk result (λ found. (list : List (Span VersionValue)) →
-        Means MAX_SAFE_INTEGER a.now list
-        → IsLeastOf (λ v. accepts list v false) found.least) }
+    ensures least { IfOk result (λ found. (list : List (Span VersionValue))
+        → Means MAX_SAFE_INTEGER a.now list → IsLeastOf (λ v. accepts list v false) found.least) }
 {
     let first = Range::parse(alloc, a)?;
     let second = Range::parse(alloc, b)?;
@@ -109,9 +108,8 @@ pub fn headline_at(
         IsTrue found.in_first_alone
         ↔ (Writes MAX_SAFE_INTEGER a.now version.now
         × (Writes MAX_SAFE_INTEGER b.now version.now → ⊥))) }
-    ensures least { IfOk result (λ found. (list : List (Span VersionValue)) →
-        Means MAX_SAFE_INTEGER a.now list
-        → IsLeastOf (λ v. accepts list v false) found.least) }
+    ensures least { IfOk result (λ found. (list : List (Span VersionValue))
+        → Means MAX_SAFE_INTEGER a.now list → IsLeastOf (λ v. accepts list v false) found.least) }
 {
     let found = headline(alloc, a, b)?;
     Ok(FindingsAt {

@@ -36,9 +36,8 @@ pub fn headline_of_texts<'t>(
         → Parses MAX_SAFE_INTEGER v.now w
         → IsTrue found.in_first_alone
         ↔ (Writes MAX_SAFE_INTEGER a.now w × (Writes MAX_SAFE_INTEGER b.now w → ⊥))) }
-    ensures least { IfOk result (λ found. (list : List (Span VersionValue)) →
-        Means MAX_SAFE_INTEGER a.now list
-        → IsLeastOf (λ w. accepts list w false) found.least) }
+    ensures least { IfOk result (λ found. (list : List (Span VersionValue))
+        → Means MAX_SAFE_INTEGER a.now list → IsLeastOf (λ w. accepts list w false) found.least) }
 {
     one_reading(v);
     let version = VersionRef::parse(v)?;

@@ -76,10 +76,8 @@ pub(crate) fn accepts_one<V: VersionPoint, W: Versioned>(
     version: &W,
     include_prerelease: bool,
 ) -> bool
-    ensures { result
-        ≡ (holds precedence (span_of V.value interval.now) (W.value version.now)
-        && (include_prerelease
-        || lets_in (span_of V.value interval.now) (W.value version.now))) }
+    ensures { result ≡ (holds precedence (span_of V.value interval.now) (W.value version.now)
+        && (include_prerelease || lets_in (span_of V.value interval.now) (W.value version.now))) }
 {
     is_past_lower(interval.lower(), version)
         && !is_past_upper(interval.upper(), version)

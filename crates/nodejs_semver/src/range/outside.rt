@@ -113,8 +113,5 @@ fn lies_opposite<V: VersionPoint, W: Versioned>(
 fn is_bounded<V: Versioned>(bound: &Bound<V>) -> bool
     ensures { result ≡ spec.is_bounded (bound_of V.value bound.now) }
 {
-    match bound {
-        Bound::Unbounded => false,
-        Bound::Before(_) | Bound::After(_) => true,
-    }
+    !matches!(bound, Bound::Unbounded)
 }

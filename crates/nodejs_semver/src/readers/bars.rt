@@ -6,19 +6,12 @@ ghost use Rattle.nodejs_semver.specs.Words.{rest_view, space_len};
 
 use semver_core::scan;
 
-#[inline(always)]
-fn begins_bars(text: &[u8]) -> bool
-    ensures { result ≡ Spec.begins_bars text.now }
-{
-    matches!(text, [b'|', b'|', ..])
-}
-
 // How many bytes stand before the first `||`, or in the text where there is none.
 fn bars_at(text: &[u8]) -> usize
     ensures { result ≡ Spec.bars_at text.now }
 {
     'bytes: for at in 0..text.len() {
-        if begins_bars(&text[at..]) {
+        if matches!(&text[at..], [b'|', b'|', ..]) {
             return at;
         }
     }

@@ -45,8 +45,6 @@ pub(crate) fn ignored_front(text: &[u8]) -> (Option<IgnoredKind>, &[u8])
     if !words::is_boundary(rest) {
         return (Some(IgnoredKind::Malformed), words::skip_to_boundary(text));
     }
-    (
-        unless_bounded(table::signed(sign, &partial).is_some()),
-        rest,
-    )
+    let bounded = table::signed(sign, &partial).is_some();
+    (unless_bounded(bounded), rest)
 }

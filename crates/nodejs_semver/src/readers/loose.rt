@@ -10,7 +10,7 @@ use crate::range::Intervals;
 use crate::range::owned::owned_range;
 use crate::readers::found::Found;
 use crate::readers::{bars, intervals};
-use crate::{Range, RangeRef};
+use crate::{Allocated, Range, RangeRef};
 use semver_core::cuts::Interval;
 use semver_core::{MAX_SAFE_INTEGER, VersionRef};
 use smallvec::SmallVec;
@@ -42,7 +42,7 @@ fn are_blank(text: Option<&str>) -> bool
 
 // Adds what a part means: one interval without bounds where it is empty, and else the intervals of
 // its words.
-fn add_part<'a>(part: &'a str, found: &mut Intervals<VersionRef<'a>>) -> Result<(), AllocError>
+fn add_part<'a>(part: &'a str, found: &mut Intervals<VersionRef<'a>>) -> Allocated<()>
     requires { space_len part.now ≡ 0 }
     ensures added { OnOk result (
         found.new.items ≡ found.old.items ++ part_denotes MAX_SAFE_INTEGER part.now) }
@@ -61,7 +61,7 @@ fn add_parts<'a>(
     first: &'a str,
     behind: Option<&'a str>,
     found: &mut Intervals<VersionRef<'a>>,
-) -> Result<(), AllocError>
+) -> Allocated<()>
     requires starts { space_len first.now ≡ 0 }
     requires empty { found.old.items ≡ [] }
     ensures added { OnOk result (found.new.items ≡ flat_map (part_denotes MAX_SAFE_INTEGER)
@@ -83,10 +83,7 @@ fn add_parts<'a>(
 /// only if allocation fails, and then the text has two intervals or more.
 #[cold]
 #[inline(never)]
-pub(crate) fn read_any<'a>(
-    text: &'a str,
-    found: &mut Intervals<VersionRef<'a>>,
-) -> Result<(), AllocError>
+pub(crate) fn read_any<'a>(text: &'a str, found: &mut Intervals<VersionRef<'a>>) -> Allocated<()>
     ensures read { OnOk result (found.new.items ≡ denotes MAX_SAFE_INTEGER text.now) }
     ensures memory { OnErr result (1 < length (denotes MAX_SAFE_INTEGER text.now)) }
 {

@@ -41,13 +41,7 @@ pub(crate) fn space_len(text: &[u8]) -> usize
     ensures fits { result ≤ length text.now }
 {
     match text {
-        [a, ..] if *a < 0x80 => {
-            if is_whitespace_code(u32::from(*a)) {
-                1
-            } else {
-                0
-            }
-        }
+        [a, ..] if *a < 0x80 => usize::from(is_whitespace_code(u32::from(*a))),
         [a, b, ..] if is_space_of_two(*a, *b) => 2,
         [a, b, c, ..] if is_space_of_three(*a, *b, *c) => 3,
         _ => 0,

@@ -2,8 +2,8 @@
 
 ghost use Rattle.nodejs_semver.specs.Text.Table as Spec;
 ghost use Rattle.nodejs_semver.specs.Text.WordText as Words;
-ghost use Rattle.nodejs_semver.specs.Words.{◌+◌, ◌<◌, ◌≡◌, ◌≤◌, bounds_view, comparator_view};
-ghost use Rattle.nodejs_semver.specs.Words.{interval, MAX_SAFE_INTEGER, partial_view, precedence};
+ghost use Rattle.nodejs_semver.specs.Words.{◌+◌, ◌≡◌, ◌≤◌, bounds_view, comparator_view, interval};
+ghost use Rattle.nodejs_semver.specs.Words.{MAX_SAFE_INTEGER, partial_view, precedence};
 ghost use Rattle.nodejs_semver.specs.Words.{release_value, sign_view, signed_word, Some, table};
 ghost use Rattle.nodejs_semver.specs.Words.{table_view};
 
@@ -111,10 +111,7 @@ impl<'a> Bounds<'a> {
     #[inline(always)]
     pub(crate) fn between(first: VersionRef<'a>, end: VersionRef<'a>) -> Bounds<'a>
         ensures { bounds_view result
-            ≡ record {
-              lower = Bound.Before first.entry;
-              upper = Bound.Before end.entry;
-            } }
+            ≡ record { lower = Bound.Before first.entry; upper = Bound.Before end.entry } }
     {
         Bounds {
             lower: Bound::Before(first),
@@ -126,10 +123,7 @@ impl<'a> Bounds<'a> {
     #[inline(always)]
     pub(crate) fn through(first: VersionRef<'a>, last: VersionRef<'a>) -> Bounds<'a>
         ensures { bounds_view result
-            ≡ record {
-              lower = Bound.Before first.entry;
-              upper = Bound.After last.entry;
-            } }
+            ≡ record { lower = Bound.Before first.entry; upper = Bound.After last.entry } }
     {
         Bounds {
             lower: Bound::Before(first),

@@ -3,7 +3,7 @@
 ghost use Rattle.nodejs_semver.specs.Internal.Words as Spec;
 ghost use Rattle.nodejs_semver.specs.Words.{◌≡◌, comparator_front_view, greater_view, is_boundary};
 ghost use Rattle.nodejs_semver.specs.Words.{MAX_SAFE_INTEGER, partial_front_view, rest_view};
-ghost use Rattle.nodejs_semver.specs.Words.{sign_pair_view, true};
+ghost use Rattle.nodejs_semver.specs.Words.{sign_pair_view};
 
 use crate::readers::syntax::{Comparator, Partial, Sign};
 use crate::readers::{partial, spaces};
