@@ -5,6 +5,7 @@ pub mod Npm
 pub mod Printing
 pub mod Ranges
 pub mod Text
+pub mod Words
 -- what public clauses cite of the core
 pub use Rattle.semver_core.specs.Cuts
 pub use Rattle.semver_core.specs.Failures

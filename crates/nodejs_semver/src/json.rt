@@ -1,19 +1,10 @@
 //! Versions and ranges as JSON: the string of the printed text.
 
-ghost use Rattle.std.specs.Prelude.{◌≡◌, ◌<◌, [], IfOk, IsSomeAnd, IsTrue, is_some, length};
-ghost use Rattle.std.specs.Prelude.{string_bytes};
-ghost use Rattle.serde_json.specs.Data.{string};
-ghost use Rattle.serde_json.specs.Find.{as_str};
-ghost use Rattle.serde_json.specs.View.{view};
-ghost use Rattle.serde_json.specs.Written.{compact_text};
-ghost use Rattle.nodejs_semver.specs.Json.{json_string, ReadsString};
-ghost use Rattle.nodejs_semver.specs.Printing.Text.{range_text};
-ghost use Rattle.nodejs_semver.specs.Text.Meaning.{Means};
-ghost use Rattle.semver_core.specs.declared.TheConstants.{MAX_SAFE_INTEGER};
-ghost use Rattle.semver_core.specs.Failures.{MemoryOnlyIf, NoValue};
-ghost use Rattle.semver_core.specs.Text.Parsing.{Parses};
-ghost use Rattle.semver_core.specs.Printing.Text.{version_text};
-ghost use Rattle.semver_core.specs.Values.Versions.{HasIdentifiers, VersionValue};
+ghost use Rattle.nodejs_semver.specs.Words.{[], ◌<◌, ◌≡◌, as_str, compact_text, HasIdentifiers};
+ghost use Rattle.nodejs_semver.specs.Words.{IfOk, is_some, IsSomeAnd, IsTrue, json_string, length};
+ghost use Rattle.nodejs_semver.specs.Words.{MAX_SAFE_INTEGER, Means, MemoryOnlyIf, NoValue, Parses};
+ghost use Rattle.nodejs_semver.specs.Words.{range_text, ReadsString, string, string_bytes};
+ghost use Rattle.nodejs_semver.specs.Words.{version_text, VersionValue, view};
 
 use crate::Range;
 use semver_core::{Failure, SemverError, Version};

@@ -40,3 +40,7 @@ pub use semver_core::{
     IncrementError, MAX_LENGTH, MAX_SAFE_INTEGER, NegativeNumber, ReleaseType, SemverError,
     Version, VersionDiff, VersionParts, VersionPoint, VersionRef, Versioned, cuts,
 };
+use std::alloc::AllocError;
+
+/// What a private function that allocates returns: its result, or the allocation failure.
+pub(crate) type Allocated<T> = Result<T, AllocError>;

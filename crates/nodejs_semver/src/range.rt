@@ -1,12 +1,8 @@
 // Ranges: lists of intervals of versions.
 
-ghost use Rattle.std.specs.Prelude.{◌≡◌, ◌≤◌, ◌+◌, IfOk, IsOk, OnErr, true};
-ghost use Rattle.std.specs.List.{list_all};
-ghost use Rattle.nodejs_semver.specs.Internal.Sets.{AreTaking, is_range_span};
-ghost use Rattle.semver_core.specs.declared.TheConstants.{MAX_SAFE_INTEGER};
-ghost use Rattle.semver_core.specs.Lists.{if_any};
-ghost use Rattle.nodejs_semver.specs.Ranges.View.{IsRange, TakesMemory, any_version};
-ghost use Rattle.nodejs_semver.specs.Internal.Shorthands.{spans_of};
+ghost use Rattle.nodejs_semver.specs.Words.{◌+◌, ◌≡◌, ◌≤◌, any_version, AreTaking, if_any, IfOk};
+ghost use Rattle.nodejs_semver.specs.Words.{is_range_span, IsOk, IsRange, list_all};
+ghost use Rattle.nodejs_semver.specs.Words.{MAX_SAFE_INTEGER, OnErr, spans_of, TakesMemory, true};
 
 mod algebra;
 mod best;
@@ -21,6 +17,7 @@ pub(crate) mod owned;
 mod parse;
 mod print;
 
+use crate::Allocated;
 pub use crate::range::outside::{OutsideDirection, RangeError};
 use semver_core::cuts::Interval;
 use semver_core::{Version, VersionPoint, VersionRef};
@@ -44,12 +41,8 @@ pub struct RangeOf<V: VersionPoint> {
 
 /// In clauses, a range is the list of its intervals, with the values of its versions.
 impl<V: VersionPoint> Model for RangeOf<V> {
-    ghost use Rattle.std.specs.Prelude.{List};
-    ghost use Rattle.semver_core.specs.Cuts.{Span};
-    ghost use Rattle.semver_core.specs.Values.Versions.{VersionValue};
-    ghost use Rattle.semver_core.specs.declared.TheConstants.{MAX_SAFE_INTEGER};
-    ghost use Rattle.nodejs_semver.specs.Ranges.View.{IsRange};
-    ghost use Rattle.nodejs_semver.specs.Internal.Shorthands.{spans_of};
+    ghost use Rattle.nodejs_semver.specs.Words.{IsRange, List, MAX_SAFE_INTEGER, Span, spans_of};
+    ghost use Rattle.nodejs_semver.specs.Words.{VersionValue};
 
     ghost Value = { List (Span VersionValue) };
 
@@ -146,7 +139,7 @@ impl<'a> RangeRef<'a> {
 pub(crate) fn copy_intervals<V: VersionPoint>(
     alloc: Global,
     intervals: &[Interval<V>],
-) -> Result<Intervals<V>, AllocError>
+) -> Allocated<Intervals<V>>
     ensures whole { IfOk result (λ copies. copies.items ≡ intervals.now) }
     ensures room { IfOk result (λ copies. 1 ≤ copies.capacity) }
     ensures memory { OnErr result (AreTaking V.takes intervals.now) }

@@ -1,8 +1,7 @@
 // How flaws and ignored words print.
 
-ghost use Rattle.std.specs.Fmt.{DisplaysStyledOnOk, decimal};
-ghost use Rattle.std.specs.Prelude.{◌≡◌, ◌++◌, Some};
-ghost use Rattle.nodejs_semver.specs.Diagnosis.Messages.{flaw_text, kind_text, word_text};
+ghost use Rattle.nodejs_semver.specs.Words.{◌++◌, ◌≡◌, decimal, DisplaysStyledOnOk, flaw_text};
+ghost use Rattle.nodejs_semver.specs.Words.{kind_text, Some, word_text};
 
 use crate::diagnosis::{Expected, IgnoredKind, IgnoredWord, VersionFlaw};
 use itoa::Buffer;
@@ -34,14 +33,10 @@ impl fmt::Display for VersionFlaw {
             VersionFlaw::NumberTooGreat { at } => {
                 write_at("a number above 9007199254740991 at byte ", at, f)
             }
-            VersionFlaw::Expected {
-                what: Expected::Digit,
-                at,
-            } => write_at("expected a digit at byte ", at, f),
-            VersionFlaw::Expected {
-                what: Expected::Dot,
-                at,
-            } => write_at("expected a dot at byte ", at, f),
+            VersionFlaw::Expected { what, at } => match what {
+                Expected::Digit => write_at("expected a digit at byte ", at, f),
+                Expected::Dot => write_at("expected a dot at byte ", at, f),
+            },
             VersionFlaw::Ignored { at } => write_at("ignored from byte ", at, f),
         }
     }

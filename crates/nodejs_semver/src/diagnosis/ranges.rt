@@ -1,13 +1,10 @@
 // The words of a range text that mean nothing.
 
-ghost use Rattle.std.specs.Iterator.{YieldsFirst, item_count};
-ghost use Rattle.std.specs.Prelude.{◌≡◌, ◌↔◌, ◌++◌, ◌+◌, ◌-◌, ◌<◌, ◌≤◌, [], Some, length};
-ghost use Rattle.semver_core.specs.Internal.Spaces.{drop_spaces, space_len, trim};
-ghost use Rattle.semver_core.specs.declared.TheConstants.{MAX_SAFE_INTEGER};
-ghost use Rattle.nodejs_semver.specs.Diagnosis.IgnoredWords.{AreIgnored, IsWhollyBounded};
-ghost use Rattle.nodejs_semver.specs.Diagnosis.IgnoredWords.{if_ignored};
-ghost use Rattle.nodejs_semver.specs.Internal.Ignored.{ignored_behind, left_list, left_size};
-ghost use Rattle.nodejs_semver.specs.Internal.Ignored.{option_list};
+ghost use Rattle.nodejs_semver.specs.Words.{[], ◌++◌, ◌+◌, ◌-◌, ◌<◌, ◌↔◌, ◌≡◌, ◌≤◌, AreIgnored};
+ghost use Rattle.nodejs_semver.specs.Words.{drop_spaces, if_ignored, ignored_behind};
+ghost use Rattle.nodejs_semver.specs.Words.{IsWhollyBounded, item_count, left_list, left_size};
+ghost use Rattle.nodejs_semver.specs.Words.{length, MAX_SAFE_INTEGER, option_list, Some, space_len};
+ghost use Rattle.nodejs_semver.specs.Words.{trim, YieldsFirst};
 
 use crate::diagnosis::unread::Unread;
 use crate::readers::{cut_part, ignored_front, skip_spaces};

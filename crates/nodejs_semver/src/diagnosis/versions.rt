@@ -1,13 +1,10 @@
 // What is wrong with a version text.
 
-ghost use Rattle.std.specs.Char.{is_ascii_digit};
-ghost use Rattle.std.specs.Prelude.{◌≡◌, ◌+◌, ◌≤◌, ◌↔◌, ℕ, IfErr, IfOk, IfSome, Some, None, drop};
-ghost use Rattle.std.specs.Prelude.{false, length, true, MatchOption};
-ghost use Rattle.semver_core.specs.Internal.Reading.{mark_len, triple_at};
-ghost use Rattle.semver_core.specs.Text.Characters.{begins, IsAfterBlank};
-ghost use Rattle.semver_core.specs.declared.TheConstants.{MAX_SAFE_INTEGER};
-ghost use Rattle.nodejs_semver.specs.Internal.Stuck.{IsNumberAt, Stuck, begins_dot};
-ghost use Rattle.nodejs_semver.specs.Diagnosis.VersionFlaws.{IsExact, IsFlaw};
+ghost use Rattle.nodejs_semver.specs.Words.{◌+◌, ◌↔◌, ◌≡◌, ◌≤◌, begins, begins_dot, drop, false};
+ghost use Rattle.nodejs_semver.specs.Words.{IfErr, IfOk, IfSome, is_ascii_digit, IsAfterBlank};
+ghost use Rattle.nodejs_semver.specs.Words.{IsExact, IsFlaw, IsNumberAt, length, mark_len};
+ghost use Rattle.nodejs_semver.specs.Words.{MatchOption, MAX_SAFE_INTEGER, None, Some, Stuck};
+ghost use Rattle.nodejs_semver.specs.Words.{triple_at, true, ℕ};
 
 use crate::readers::{build_front, pre_release_front};
 use semver_core::scan::{number_in, skip_whitespace};
@@ -60,16 +57,13 @@ fn begins_digit(bytes: &[u8], at: usize) -> bool
 fn number_end(bytes: &[u8], at: usize) -> Result<usize, VersionFlaw>
     requires { at ≤ length bytes.now }
     ensures found { IfOk result (λ end. IsNumberAt MAX_SAFE_INTEGER bytes.now at end) }
-    ensures stuck { IfErr result (λ flaw.
-        (k : ℕ) → Stuck MAX_SAFE_INTEGER bytes.now k at flaw) }
+    ensures stuck { IfErr result (λ flaw. (k : ℕ) → Stuck MAX_SAFE_INTEGER bytes.now k at flaw) }
 {
+    let what = Expected::Digit;
     match number_in(bytes, at) {
         Some((_, end)) => Ok(end),
         None if begins_digit(bytes, at) => Err(VersionFlaw::NumberTooGreat { at }),
-        None => Err(VersionFlaw::Expected {
-            what: Expected::Digit,
-            at,
-        }),
+        None => Err(VersionFlaw::Expected { what, at }),
     }
 }
 
@@ -81,12 +75,10 @@ fn dot_end(bytes: &[u8], at: usize) -> Result<usize, VersionFlaw>
     ensures stuck { IfErr result (λ flaw. (flaw ≡ VersionFlaw.Expected Expected.Dot at)
         × (begins_dot (drop at bytes.now) ≡ false)) }
 {
+    let what = Expected::Dot;
     match &bytes[at..] {
         [b'.', ..] => Ok(at + 1),
-        _ => Err(VersionFlaw::Expected {
-            what: Expected::Dot,
-            at,
-        }),
+        _ => Err(VersionFlaw::Expected { what, at }),
     }
 }
 

@@ -1,10 +1,7 @@
 // Laws of the order that counts builds.
 
-ghost use Rattle.nodejs_semver.specs.Npm.Builds.{build_order};
-ghost use Rattle.semver_core.specs.Values.Versions.{VersionValue};
-ghost use Rattle.std.specs.Ordering.{is_le};
-ghost use Rattle.std.specs.Prelude.{◌≡◌, ◌↔◌, ◌||◌, true};
-ghost use Rattle.std.specs.declared.cmp.Ordering.TheVariants.{Equal};
+ghost use Rattle.nodejs_semver.specs.Words.{◌||◌, ◌↔◌, ◌≡◌, build_order, Equal, is_le, true};
+ghost use Rattle.nodejs_semver.specs.Words.{VersionValue};
 
 /// The order of `npm::cmp_build` is total, and two versions tie in it exactly where they are the
 /// same value, builds included.

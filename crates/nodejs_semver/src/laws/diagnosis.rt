@@ -1,12 +1,8 @@
 // What is said of what `diagnosis` returns.
 
-ghost use Rattle.std.specs.Prelude.{◌≡◌, ◌↔◌, [], ℕ, IsUtf8, List};
-ghost use Rattle.semver_core.specs.Cuts.{Span};
-ghost use Rattle.semver_core.specs.Values.Versions.{VersionValue};
-ghost use Rattle.nodejs_semver.specs.Diagnosis.IgnoredWords.{AreAlike, IsWhollyIgnored};
-ghost use Rattle.nodejs_semver.specs.Diagnosis.VersionFlaws.{IsExact, IsFlaw};
-ghost use Rattle.nodejs_semver.specs.Text.Meaning.{Means};
-ghost use Rattle.nodejs_semver.specs.declared.diagnosis.versions.VersionFlaw.{VersionFlaw};
+ghost use Rattle.nodejs_semver.specs.Words.{[], ◌↔◌, ◌≡◌, AreAlike, IsExact, IsFlaw, IsUtf8};
+ghost use Rattle.nodejs_semver.specs.Words.{IsWhollyIgnored, List, Means, Span, VersionFlaw};
+ghost use Rattle.nodejs_semver.specs.Words.{VersionValue, ℕ};
 
 /// A version text has one flaw at most (`one`), and none where it is one version as a whole
 /// (`exact`). So `version_flaw` returns the flaw of the text, and nothing else would be right.

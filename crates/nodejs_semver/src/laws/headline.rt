@@ -1,14 +1,9 @@
 // The headline of this crate. It rests on the contracts of the public calls alone.
 
-ghost use Rattle.std.specs.Prelude.{◌≡◌, ◌&&◌, ◌↔◌, ◌⊎◌, []};
-ghost use Rattle.std.specs.Prelude.{List, IfOk, IsTrue, OnOk, false, not, true, unwrap_or};
-ghost use Rattle.nodejs_semver.specs.Ranges.Gate.{accepts};
-ghost use Rattle.nodejs_semver.specs.Ranges.Least.{IsLeastOf};
-ghost use Rattle.nodejs_semver.specs.Text.Meaning.{Means};
-ghost use Rattle.nodejs_semver.specs.Text.WrittenSet.{Writes};
-ghost use Rattle.semver_core.specs.Cuts.{Span};
-ghost use Rattle.semver_core.specs.Failures.{RefusedOnlyIf};
-ghost use Rattle.semver_core.specs.Values.Versions.{VersionValue};
+ghost use Rattle.nodejs_semver.specs.Words.{[], ◌&&◌, ◌↔◌, ◌≡◌, ◌⊎◌, accepts, false, IfOk};
+ghost use Rattle.nodejs_semver.specs.Words.{IsLeastOf, IsTrue, List, Means, not, OnOk};
+ghost use Rattle.nodejs_semver.specs.Words.{RefusedOnlyIf, Span, true, unwrap_or, VersionValue};
+ghost use Rattle.nodejs_semver.specs.Words.{Writes};
 
 use crate::{Failure, MAX_SAFE_INTEGER, Range, RangeOf, SemverError, Version};
 use semver_core::{VersionPoint, Versioned};
@@ -49,9 +44,8 @@ pub fn headline(alloc: Global, a: &str, b: &str) -> Result<Findings, Failure<Sem
     ensures first_alone { IfOk result (λ found. (v : VersionValue) →
         IsTrue (accepts (unwrap_or found.first_alone []) v true)
         ↔ (Writes MAX_SAFE_INTEGER a.now v × (Writes MAX_SAFE_INTEGER b.now v → ⊥))) }
-    ensures least { IfOk result (λ found. (list : List (Span VersionValue)) →
-        Means MAX_SAFE_INTEGER a.now list
-        → IsLeastOf (λ v. accepts list v false) found.least) }
+    ensures least { IfOk result (λ found. (list : List (Span VersionValue))
+        → Means MAX_SAFE_INTEGER a.now list → IsLeastOf (λ v. accepts list v false) found.least) }
 {
     let first = Range::parse(alloc, a)?;
     let second = Range::parse(alloc, b)?;
@@ -114,9 +108,8 @@ pub fn headline_at(
         IsTrue found.in_first_alone
         ↔ (Writes MAX_SAFE_INTEGER a.now version.now
         × (Writes MAX_SAFE_INTEGER b.now version.now → ⊥))) }
-    ensures least { IfOk result (λ found. (list : List (Span VersionValue)) →
-        Means MAX_SAFE_INTEGER a.now list
-        → IsLeastOf (λ v. accepts list v false) found.least) }
+    ensures least { IfOk result (λ found. (list : List (Span VersionValue))
+        → Means MAX_SAFE_INTEGER a.now list → IsLeastOf (λ v. accepts list v false) found.least) }
 {
     let found = headline(alloc, a, b)?;
     Ok(FindingsAt {

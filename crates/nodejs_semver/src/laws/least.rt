@@ -1,11 +1,8 @@
 // Whose build the smallest version of a range has.
 
-ghost use Rattle.std.specs.Prelude.{◌≡◌, ◌++◌, ◌∷◌, [], false, true, List, Some};
-ghost use Rattle.semver_core.specs.Cuts.{Span};
-ghost use Rattle.semver_core.specs.Values.Order.{version_eq};
-ghost use Rattle.semver_core.specs.Values.Versions.{VersionValue};
-ghost use Rattle.nodejs_semver.specs.Ranges.Gate.{accepts};
-ghost use Rattle.nodejs_semver.specs.Ranges.Least.{begins_with, least_build};
+ghost use Rattle.nodejs_semver.specs.Words.{[], ◌++◌, ◌∷◌, ◌≡◌, accepts, begins_with, false};
+ghost use Rattle.nodejs_semver.specs.Words.{least_build, List, Some, Span, true, version_eq};
+ghost use Rattle.nodejs_semver.specs.Words.{VersionValue};
 
 /// Whose build `Range::min_version` returns: of the intervals the first one counts that accepts the
 /// version. If its lower bound is the one from which the version comes, the build is that of this

@@ -1,15 +1,9 @@
 // A text has one reading.
 
-ghost use Rattle.nodejs_semver.specs.Npm.Ranges.{HasAlternativesIn};
-ghost use Rattle.nodejs_semver.specs.Npm.Table.{Comparison, no_build};
-ghost use Rattle.nodejs_semver.specs.Npm.VersionText.{IsVersionText};
-ghost use Rattle.semver_core.specs.Printing.Text.{version_text};
-ghost use Rattle.semver_core.specs.Text.Characters.{is_identifier_char};
-ghost use Rattle.semver_core.specs.Values.Versions.{VersionValue};
-ghost use Rattle.semver_core.specs.declared.TheConstants.{MAX_SAFE_INTEGER};
-ghost use Rattle.std.specs.List.{list_all};
-ghost use Rattle.std.specs.Prelude.{◌≡◌, ◌==◌, ◌||◌, ℕ, Bool, List, true};
-ghost use Rattle.std.specs.Str.{IsUtf8};
+ghost use Rattle.nodejs_semver.specs.Words.{◌==◌, ◌||◌, ◌≡◌, Bool, Comparison, HasAlternativesIn};
+ghost use Rattle.nodejs_semver.specs.Words.{is_identifier_char, IsUtf8, IsVersionText, List};
+ghost use Rattle.nodejs_semver.specs.Words.{list_all, MAX_SAFE_INTEGER, no_build, true};
+ghost use Rattle.nodejs_semver.specs.Words.{version_text, VersionValue, ℕ};
 
 /// In node-semver's strict reading a text is one version at most, and what this version prints
 /// without its build is a text that is the same version without its build, of letters, digits,

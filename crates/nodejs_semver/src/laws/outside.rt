@@ -1,11 +1,7 @@
 // What `Range::outside` says of the cuts of the intervals.
 
-ghost use Rattle.std.specs.Prelude.{◌≡◌, not, Ok};
-ghost use Rattle.std.specs.List.{list_all};
-ghost use Rattle.semver_core.specs.Cuts.{is_past, lower_cut, upper_cut};
-ghost use Rattle.semver_core.specs.Values.Order.{precedence};
-ghost use Rattle.nodejs_semver.specs.declared.range.outside.OutsideDirection.TheVariants.{Higher};
-ghost use Rattle.nodejs_semver.specs.declared.range.outside.OutsideDirection.TheVariants.{Lower};
+ghost use Rattle.nodejs_semver.specs.Words.{◌≡◌, Higher, is_past, list_all, Lower, lower_cut, not};
+ghost use Rattle.nodejs_semver.specs.Words.{Ok, precedence, upper_cut};
 
 use crate::{OutsideDirection, Range, RangeError, Version};
 

@@ -1,15 +1,9 @@
 // Printed ranges come back.
 
-ghost use Rattle.std.specs.Prelude.{◌≡◌, ◌<◌, ◌^◌, ℕ, IfOk, List, map, string_bytes, true};
-ghost use Rattle.std.specs.List.{list_all};
-ghost use Rattle.nodejs_semver.specs.Printing.RoundTrip.{bounds_back, is_printable};
-ghost use Rattle.nodejs_semver.specs.Printing.Text.{range_text};
-ghost use Rattle.nodejs_semver.specs.Ranges.Equality.{range_eq};
-ghost use Rattle.nodejs_semver.specs.Ranges.View.{IsRange};
-ghost use Rattle.nodejs_semver.specs.Text.Meaning.{Means};
-ghost use Rattle.semver_core.specs.Failures.{RefusedOnlyIf};
-ghost use Rattle.semver_core.specs.Cuts.{Span};
-ghost use Rattle.semver_core.specs.Values.Versions.{VersionValue};
+ghost use Rattle.nodejs_semver.specs.Words.{◌<◌, ◌^◌, ◌≡◌, bounds_back, IfOk, is_printable};
+ghost use Rattle.nodejs_semver.specs.Words.{IsRange, List, list_all, map, Means, range_eq};
+ghost use Rattle.nodejs_semver.specs.Words.{range_text, RefusedOnlyIf, Span, string_bytes, true};
+ghost use Rattle.nodejs_semver.specs.Words.{VersionValue, ℕ};
 
 use crate::{Failure, MAX_SAFE_INTEGER, Range, SemverError};
 use std::alloc::{AllocError, Global};

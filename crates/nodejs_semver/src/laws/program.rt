@@ -1,16 +1,9 @@
 // The headline over the calls that the program makes, which borrow the texts.
 
-ghost use Rattle.std.specs.Prelude.{◌≡◌, ◌&&◌, ◌∷◌, ◌↔◌, ◌⊎◌, [], List, IfOk, IsOk, IsTrue, OnOk};
-ghost use Rattle.std.specs.Prelude.{false, not, true, unwrap_or};
-ghost use Rattle.nodejs_semver.specs.Ranges.Gate.{accepts};
-ghost use Rattle.nodejs_semver.specs.Ranges.Least.{IsLeastOf};
-ghost use Rattle.nodejs_semver.specs.Text.Meaning.{Means};
-ghost use Rattle.nodejs_semver.specs.Text.WrittenSet.{Writes};
-ghost use Rattle.semver_core.specs.Cuts.{Span};
-ghost use Rattle.semver_core.specs.Failures.{NoValue, RefusedOnlyIf};
-ghost use Rattle.semver_core.specs.Text.Parsing.{Parses};
-ghost use Rattle.semver_core.specs.Values.Versions.{VersionValue};
-ghost use Rattle.semver_core.specs.declared.TheConstants.{MAX_SAFE_INTEGER};
+ghost use Rattle.nodejs_semver.specs.Words.{[], ◌&&◌, ◌↔◌, ◌∷◌, ◌≡◌, ◌⊎◌, accepts, false, IfOk};
+ghost use Rattle.nodejs_semver.specs.Words.{IsLeastOf, IsOk, IsTrue, List, MAX_SAFE_INTEGER, Means};
+ghost use Rattle.nodejs_semver.specs.Words.{not, NoValue, OnOk, Parses, RefusedOnlyIf, Span, true};
+ghost use Rattle.nodejs_semver.specs.Words.{VersionValue, Writes};
 
 use crate::laws::headline::{FindingsAt, is_in};
 use crate::{Failure, MAX_SAFE_INTEGER, RangeRef, SemverError, VersionRef};
@@ -43,9 +36,8 @@ pub fn headline_of_texts<'t>(
         → Parses MAX_SAFE_INTEGER v.now w
         → IsTrue found.in_first_alone
         ↔ (Writes MAX_SAFE_INTEGER a.now w × (Writes MAX_SAFE_INTEGER b.now w → ⊥))) }
-    ensures least { IfOk result (λ found. (list : List (Span VersionValue)) →
-        Means MAX_SAFE_INTEGER a.now list
-        → IsLeastOf (λ w. accepts list w false) found.least) }
+    ensures least { IfOk result (λ found. (list : List (Span VersionValue))
+        → Means MAX_SAFE_INTEGER a.now list → IsLeastOf (λ w. accepts list w false) found.least) }
 {
     one_reading(v);
     let version = VersionRef::parse(v)?;

@@ -1,32 +1,14 @@
 // What is said of range texts.
 
-ghost use Rattle.std.specs.Prelude.{◌≡◌, ◌↔◌, ◌<◌, ℕ, false, IfNone, IfOk, IfSome, IsUtf8, List};
-ghost use Rattle.std.specs.Prelude.{[], Some, length, true};
-ghost use Rattle.std.specs.List.{list_all};
-ghost use Rattle.semver_core.specs.Failures.{NoValue};
-ghost use Rattle.semver_core.specs.Cuts.{Span};
-ghost use Rattle.semver_core.specs.Lists.{is_empty};
-ghost use Rattle.semver_core.specs.Text.Characters.{IsTrim};
-ghost use Rattle.semver_core.specs.Text.Numbers.{IsNumber};
-ghost use Rattle.semver_core.specs.Values.Order.{precedence};
-ghost use Rattle.semver_core.specs.Values.Versions.{VersionValue};
-ghost use Rattle.semver_core.specs.declared.TheConstants.{MAX_SAFE_INTEGER};
-ghost use Rattle.nodejs_semver.specs.Internal.CommonFronts.{common_range};
-ghost use Rattle.nodejs_semver.specs.Internal.Fronts.{number_of, partial_front};
-ghost use Rattle.nodejs_semver.specs.Internal.Parts.{cut_bars, parts};
-ghost use Rattle.nodejs_semver.specs.Internal.RunsFrom.{runs_of};
-ghost use Rattle.nodejs_semver.specs.Internal.Words.{word_at, words};
-ghost use Rattle.nodejs_semver.specs.Internal.Writes.{writes};
-ghost use Rattle.nodejs_semver.specs.Ranges.Algebra.{list_holds};
-ghost use Rattle.nodejs_semver.specs.Text.Bars.{IsCutAtBars};
-ghost use Rattle.nodejs_semver.specs.Text.Common.{IsCommonRange};
-ghost use Rattle.nodejs_semver.specs.Internal.Denotes.{denotes, part_bounds};
-ghost use Rattle.nodejs_semver.specs.Text.LongestText.{IsLongestPartial};
-ghost use Rattle.nodejs_semver.specs.Text.Meaning.{AreWords, Means};
-ghost use Rattle.nodejs_semver.specs.Text.PartialText.{IsPartial, Partial};
-ghost use Rattle.nodejs_semver.specs.Text.Runs.{AreRuns, Run};
-ghost use Rattle.nodejs_semver.specs.Text.WordText.{IsWordAt, Word};
-ghost use Rattle.nodejs_semver.specs.Text.WrittenSet.{Writes};
+ghost use Rattle.nodejs_semver.specs.Words.{[], ◌<◌, ◌↔◌, ◌≡◌, AreRuns, AreWords, common_range};
+ghost use Rattle.nodejs_semver.specs.Words.{cut_bars, denotes, false, IfNone, IfOk, IfSome};
+ghost use Rattle.nodejs_semver.specs.Words.{is_empty, IsCommonRange, IsCutAtBars, IsLongestPartial};
+ghost use Rattle.nodejs_semver.specs.Words.{IsNumber, IsPartial, IsTrim, IsUtf8, IsWordAt, length};
+ghost use Rattle.nodejs_semver.specs.Words.{List, list_all, list_holds, MAX_SAFE_INTEGER, Means};
+ghost use Rattle.nodejs_semver.specs.Words.{NoValue, number_of, part_bounds, Partial};
+ghost use Rattle.nodejs_semver.specs.Words.{partial_front, parts, precedence, Run, runs_of, Some};
+ghost use Rattle.nodejs_semver.specs.Words.{Span, true, VersionValue, Word, word_at, words, Writes};
+ghost use Rattle.nodejs_semver.specs.Words.{writes, ℕ};
 
 use crate::Range;
 use crate::readers::{range_fast, range_loose};

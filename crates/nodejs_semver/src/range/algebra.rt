@@ -1,22 +1,14 @@
 // The set algebra of ranges.
 
-ghost use Rattle.std.specs.Prelude.{◌≡◌, ◌<◌, ◌⊎◌, ◌&&◌, ◌||◌, ◌+◌, not, true, false, unwrap_or};
-ghost use Rattle.std.specs.Prelude.{IfOk, OnErr, IsTrue, is_some, [], length};
-ghost use Rattle.std.specs.List.{list_all};
-ghost use Rattle.std.specs.Option.{option_to_list};
-ghost use Rattle.nodejs_semver.specs.Internal.Sets.{is_range_span};
-ghost use Rattle.nodejs_semver.specs.Internal.Shorthands.{spans_of};
-ghost use Rattle.semver_core.specs.Cuts.{meet};
-ghost use Rattle.semver_core.specs.Lists.{if_any};
-ghost use Rattle.semver_core.specs.declared.TheConstants.{MAX_SAFE_INTEGER};
-ghost use Rattle.semver_core.specs.Values.Order.{precedence};
-ghost use Rattle.semver_core.specs.Values.Versions.{VersionValue, is_release};
-ghost use Rattle.nodejs_semver.specs.Ranges.Gate.{accepts};
-ghost use Rattle.nodejs_semver.specs.Ranges.Algebra.{intersection, difference, covers_one};
-ghost use Rattle.nodejs_semver.specs.Ranges.Algebra.{list_holds};
+ghost use Rattle.nodejs_semver.specs.Words.{[], ◌&&◌, ◌+◌, ◌<◌, ◌||◌, ◌≡◌, ◌⊎◌, accepts};
+ghost use Rattle.nodejs_semver.specs.Words.{covers_one, difference, false, if_any, IfOk};
+ghost use Rattle.nodejs_semver.specs.Words.{intersection, is_range_span, is_release, is_some};
+ghost use Rattle.nodejs_semver.specs.Words.{IsTrue, length, list_all, list_holds, MAX_SAFE_INTEGER};
+ghost use Rattle.nodejs_semver.specs.Words.{meet, not, OnErr, option_to_list, precedence, spans_of};
+ghost use Rattle.nodejs_semver.specs.Words.{true, unwrap_or, VersionValue};
 
 use crate::range::interval_lists;
-use crate::{Range, RangeOf, RangeRef};
+use crate::{Allocated, Range, RangeOf, RangeRef};
 use semver_core::VersionPoint;
 use semver_core::cuts::Interval;
 use smallvec::SmallVec;
@@ -56,11 +48,9 @@ impl<V: VersionPoint> RangeOf<V> {
             accepts (unwrap_or r []) v true
             ≡ (accepts self.now v true && accepts other.now v true)) }
         // It accepts what both accept, and nothing that neither accepts.
-        ensures both { IfOk result (λ r. (v : VersionValue) →
-            accepts self.now v false ≡ true → accepts other.now v false ≡ true
-            → accepts (unwrap_or r []) v false ≡ true) }
-        ensures one { IfOk result (λ r. (v : VersionValue) →
-            accepts (unwrap_or r []) v false ≡ true
+        ensures both { IfOk result (λ r. (v : VersionValue) → accepts self.now v false ≡ true
+            → accepts other.now v false ≡ true → accepts (unwrap_or r []) v false ≡ true) }
+        ensures one { IfOk result (λ r. (v : VersionValue) → accepts (unwrap_or r []) v false ≡ true
             → (accepts self.now v false || accepts other.now v false) ≡ true) }
         ensures releases { IfOk result (λ r. (v : VersionValue) → is_release v ≡ true →
             accepts (unwrap_or r []) v false
@@ -104,9 +94,8 @@ impl<V: VersionPoint> RangeOf<V> {
             accepts (unwrap_or r []) v true
             ≡ (accepts self.now v true && not (accepts other.now v true))) }
         // It accepts what this range accepts and the other does not hold.
-        ensures kept { IfOk result (λ r. (v : VersionValue) →
-            accepts self.now v false ≡ true → list_holds precedence other.now v ≡ false
-            → accepts (unwrap_or r []) v false ≡ true) }
+        ensures kept { IfOk result (λ r. (v : VersionValue) → accepts self.now v false ≡ true
+            → list_holds precedence other.now v ≡ false → accepts (unwrap_or r []) v false ≡ true) }
         ensures releases { IfOk result (λ r. (v : VersionValue) → is_release v ≡ true →
             accepts (unwrap_or r []) v false
             ≡ (accepts self.now v false && not (accepts other.now v false))) }
@@ -119,7 +108,7 @@ impl<V: VersionPoint> RangeOf<V> {
     }
 
     // What the pairs of intervals have in common.
-    fn common(&self, alloc: Global, other: &RangeOf<V>) -> Result<Option<RangeOf<V>>, AllocError>
+    fn common(&self, alloc: Global, other: &RangeOf<V>) -> Allocated<Option<RangeOf<V>>>
         ensures list { IfOk result (λ r. r ≡ intersection self.now other.now) }
         ensures memory { OnErr result (IsTrue (is_some (intersection self.now other.now))) }
     {
@@ -137,7 +126,7 @@ impl<V: VersionPoint> RangeOf<V> {
     }
 
     // What the other range leaves of this one.
-    fn remaining(&self, alloc: Global, other: &RangeOf<V>) -> Result<Option<RangeOf<V>>, AllocError>
+    fn remaining(&self, alloc: Global, other: &RangeOf<V>) -> Allocated<Option<RangeOf<V>>>
         ensures list { IfOk result (λ r. r ≡ difference self.now other.now) }
         ensures memory { OnErr result
             (IsTrue (is_some (difference self.now other.now)) ⊎ (1 < length other.now)) }
@@ -155,7 +144,7 @@ fn common_of_two<V: VersionPoint>(
     alloc: Global,
     one: &Interval<V>,
     another: &Interval<V>,
-) -> Result<Option<RangeOf<V>>, AllocError>
+) -> Allocated<Option<RangeOf<V>>>
     requires { list_all (is_range_span (MAX_SAFE_INTEGER + 1))
         (spans_of V.value (option_to_list (meet V.cmp one.now another.now))) ≡ true }
     ensures list { IfOk result (λ r. r

@@ -1,14 +1,10 @@
 // The best of the versions of a slice, or of versions that come one after another.
 
-ghost use Rattle.nodejs_semver.specs.Ranges.Gate.{accepts};
-ghost use Rattle.nodejs_semver.specs.Ranges.Best.{IsMax, IsMin, replaces};
-ghost use Rattle.nodejs_semver.specs.Internal.Shorthands.{spans_of};
-ghost use Rattle.semver_core.specs.Values.Order.{precedence};
-ghost use Rattle.semver_core.specs.Values.Versions.{VersionValue};
-ghost use Rattle.std.specs.Option.{option_copied, option_map};
-ghost use Rattle.std.specs.Ordering.{is_le, is_lt};
-ghost use Rattle.std.specs.Prelude.{◌≡◌, ◌++◌, ◌∷◌, [], List, All, Contains, IfNone, IfSome, Some};
-ghost use Rattle.std.specs.Prelude.{false, true, if◌then◌else◌, map};
+ghost use Rattle.nodejs_semver.specs.Words.{[], ◌++◌, ◌∷◌, ◌≡◌, accepts, All, Contains, false};
+ghost use Rattle.nodejs_semver.specs.Words.{IfNone, IfSome, if◌then◌else◌, is_le, is_lt, IsMax};
+ghost use Rattle.nodejs_semver.specs.Words.{IsMin, List, map, option_copied, option_map};
+ghost use Rattle.nodejs_semver.specs.Words.{precedence, replaces, Some, spans_of, true};
+ghost use Rattle.nodejs_semver.specs.Words.{VersionValue};
 
 use crate::range::gate::accepts;
 use crate::{Range, RangeRef};

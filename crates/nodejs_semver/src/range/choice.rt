@@ -1,12 +1,7 @@
 // The newest release of a list, and the greatest version that each of several ranges accepts.
 
-ghost use Rattle.nodejs_semver.specs.Ranges.Best.{IsMax, replaces};
-ghost use Rattle.nodejs_semver.specs.Ranges.Gate.{accepts};
-ghost use Rattle.semver_core.specs.Values.Order.{precedence};
-ghost use Rattle.semver_core.specs.Values.Versions.{is_release};
-ghost use Rattle.std.specs.List.{list_all};
-ghost use Rattle.std.specs.Ordering.{is_le};
-ghost use Rattle.std.specs.Prelude.{◌≡◌, false, map, option_map, true};
+ghost use Rattle.nodejs_semver.specs.Words.{◌≡◌, accepts, false, is_le, is_release, IsMax};
+ghost use Rattle.nodejs_semver.specs.Words.{list_all, map, option_map, precedence, replaces};
 
 use crate::RangeOf;
 use semver_core::{VersionPoint, Versioned};

@@ -1,9 +1,7 @@
 // Equality and hash of ranges.
 
-ghost use Rattle.std.specs.Cmp.{partial_equiv_from_equiv};
-ghost use Rattle.nodejs_semver.specs.Internal.Hashes.{range_writes};
-ghost use Rattle.nodejs_semver.specs.Ranges.Equality.{range_eq};
-ghost use Rattle.nodejs_semver.specs.Internal.SameLaws.{range_equiv, range_alike};
+ghost use Rattle.nodejs_semver.specs.Words.{partial_equiv_from_equiv, range_alike, range_eq};
+ghost use Rattle.nodejs_semver.specs.Words.{range_equiv, range_writes};
 
 use crate::{Range, RangeRef};
 use std::hash::{Hash, Hasher};

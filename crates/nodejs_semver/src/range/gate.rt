@@ -1,14 +1,9 @@
 // Which versions a range accepts.
 
-ghost use Rattle.std.specs.Prelude.{◌≡◌, ◌&&◌, ◌||◌, IsTrue, false};
-ghost use Rattle.std.specs.List.{list_any};
-ghost use Rattle.semver_core.specs.Cuts.{holds, is_past, lower_cut, upper_cut};
-ghost use Rattle.nodejs_semver.specs.Ranges.Algebra.{list_holds};
-ghost use Rattle.semver_core.specs.Values.Order.{precedence};
-ghost use Rattle.semver_core.specs.declared.TheConstants.{MAX_SAFE_INTEGER};
-ghost use Rattle.nodejs_semver.specs.Ranges.Gate.{accepts, lets_in};
-ghost use Rattle.nodejs_semver.specs.Internal.Shorthands.{names, spans_of};
-ghost use Rattle.nodejs_semver.specs.Ranges.View.{IsRange, bound_of, span_of};
+ghost use Rattle.nodejs_semver.specs.Words.{◌&&◌, ◌||◌, ◌≡◌, accepts, bound_of, false, holds};
+ghost use Rattle.nodejs_semver.specs.Words.{is_past, IsRange, IsTrue, lets_in, list_holds};
+ghost use Rattle.nodejs_semver.specs.Words.{lower_cut, MAX_SAFE_INTEGER, names, precedence};
+ghost use Rattle.nodejs_semver.specs.Words.{span_of, spans_of, upper_cut};
 
 use crate::RangeOf;
 use semver_core::cuts::{Bound, Interval};
@@ -81,10 +76,8 @@ pub(crate) fn accepts_one<V: VersionPoint, W: Versioned>(
     version: &W,
     include_prerelease: bool,
 ) -> bool
-    ensures { result
-        ≡ (holds precedence (span_of V.value interval.now) (W.value version.now)
-        && (include_prerelease
-        || lets_in (span_of V.value interval.now) (W.value version.now))) }
+    ensures { result ≡ (holds precedence (span_of V.value interval.now) (W.value version.now)
+        && (include_prerelease || lets_in (span_of V.value interval.now) (W.value version.now))) }
 {
     is_past_lower(interval.lower(), version)
         && !is_past_upper(interval.upper(), version)

@@ -1,21 +1,16 @@
 // Lists of intervals: what two of them have in common, and what one leaves of another.
 
-ghost use Rattle.std.specs.Prelude.{◌≡◌, ◌≢◌, ◌<◌, ◌⊎◌, [], ◌∷◌, ◌++◌, IfOk, OnOk, OnErr};
-ghost use Rattle.std.specs.Prelude.{IsTrue, is_some, length, true};
-ghost use Rattle.std.specs.List.{flat_map, list_all, list_any};
-ghost use Rattle.std.specs.Option.{option_to_list};
-ghost use Rattle.nodejs_semver.specs.Internal.Sets.{meets_of, minus};
-ghost use Rattle.semver_core.specs.Clips.{clip};
-ghost use Rattle.semver_core.specs.Cuts.{Start, is_interval, meet, covers};
-ghost use Rattle.semver_core.specs.Lists.{if_any};
-ghost use Rattle.nodejs_semver.specs.Internal.Shorthands.{remainder};
-ghost use Rattle.semver_core.specs.declared.cuts.bound.Bound.TheVariants.{Unbounded};
-ghost use Rattle.nodejs_semver.specs.Internal.Along.{IsAlong};
+ghost use Rattle.nodejs_semver.specs.Words.{[], ◌++◌, ◌<◌, ◌∷◌, ◌≡◌, ◌≢◌, ◌⊎◌, clip, covers};
+ghost use Rattle.nodejs_semver.specs.Words.{flat_map, if_any, IfOk, is_interval, is_some, IsAlong};
+ghost use Rattle.nodejs_semver.specs.Words.{IsTrue, length, list_all, list_any, meet, meets_of};
+ghost use Rattle.nodejs_semver.specs.Words.{minus, OnErr, OnOk, option_to_list, remainder, Start};
+ghost use Rattle.nodejs_semver.specs.Words.{true, Unbounded};
 
+use crate::Allocated;
 use crate::range::Intervals;
 use semver_core::cuts::{Interval, Point};
 use smallvec::SmallVec;
-use std::alloc::{AllocError, Global};
+use std::alloc::Global;
 
 /// Puts the intersections of all pairs at the end, the first list outside. Inlined into `common`,
 /// the loop over the pairs would cost an intersection of single intervals some 40 instructions.
@@ -25,7 +20,7 @@ pub(crate) fn push_all_intersections<V: Point>(
     found: &mut Intervals<V>,
     these: &[Interval<V>],
     others: &[Interval<V>],
-) -> Result<(), AllocError>
+) -> Allocated<()>
     ensures items { OnOk result (found.new.items
         ≡ found.old.items ++ meets_of V.cmp these.now others.now) }
     ensures memory { OnErr result (0 < length (meets_of V.cmp these.now others.now)) }
@@ -48,7 +43,7 @@ pub(crate) fn push_differences<V: Point>(
     found: &mut Intervals<V>,
     these: &[Interval<V>],
     others: &[Interval<V>],
-) -> Result<(), AllocError>
+) -> Allocated<()>
     requires { list_all (is_interval V.cmp) these.now ≡ true }
     ensures items { OnOk result (found.new.items
         ≡ found.old.items ++ minus V.cmp these.now others.now) }
@@ -99,7 +94,7 @@ fn push_intersections<V: Point>(
     found: &mut Intervals<V>,
     interval: &Interval<V>,
     others: &[Interval<V>],
-) -> Result<(), AllocError>
+) -> Allocated<()>
     ensures items { OnOk result (found.new.items
         ≡ found.old.items
         ++ flat_map (λ t. option_to_list (meet V.cmp interval.now t)) others.now) }
@@ -122,7 +117,7 @@ fn push_common<V: Point>(
     interval: &Interval<V>,
     other: &Interval<V>,
     room: usize,
-) -> Result<(), AllocError>
+) -> Allocated<()>
     ensures items { OnOk result (found.new.items
         ≡ found.old.items ++ option_to_list (meet V.cmp interval.now other.now)) }
     ensures memory { OnErr result (IsTrue (is_some (meet V.cmp interval.now other.now))) }
@@ -132,10 +127,7 @@ fn push_common<V: Point>(
 
 // The complement: what the intervals leave of the whole line, in order along it. It is found by
 // halves, so that each piece is copied about log m times for m intervals.
-fn complement<V: Point>(
-    alloc: Global,
-    intervals: &[Interval<V>],
-) -> Result<Intervals<V>, AllocError>
+fn complement<V: Point>(alloc: Global, intervals: &[Interval<V>]) -> Allocated<Intervals<V>>
     ensures { IfOk result (λ r. r.items
         ≡ minus V.cmp (record { lower = Unbounded; upper = Unbounded } ∷ []) intervals.now) }
 {
@@ -153,10 +145,7 @@ fn complement<V: Point>(
 
 // The complement of a few intervals, which are taken away one after another. Of three it has four
 // pieces at most.
-fn complement_of_few<V: Point>(
-    alloc: Global,
-    intervals: &[Interval<V>],
-) -> Result<Intervals<V>, AllocError>
+fn complement_of_few<V: Point>(alloc: Global, intervals: &[Interval<V>]) -> Allocated<Intervals<V>>
     ensures { IfOk result (λ r. r.items
         ≡ minus V.cmp (record { lower = Unbounded; upper = Unbounded } ∷ []) intervals.now) }
 {
@@ -176,7 +165,7 @@ fn push_remainders<V: Point>(
     left: &mut Intervals<V>,
     these: &[Interval<V>],
     other: &Interval<V>,
-) -> Result<(), AllocError>
+) -> Allocated<()>
     ensures items { OnOk result (left.new.items
         ≡ left.old.items ++ flat_map (λ s. remainder V.cmp s other.now) these.now) }
     ensures memory { OnErr result
@@ -195,7 +184,7 @@ fn clip_each<V: Point>(
     found: &mut Intervals<V>,
     these: &[Interval<V>],
     pieces: &[Interval<V>],
-) -> Result<(), AllocError>
+) -> Allocated<()>
     requires { IsAlong V.cmp Start pieces.now }
     ensures { OnOk result (found.new.items
         ≡ found.old.items
@@ -214,7 +203,7 @@ fn push_clipped<V: Point>(
     found: &mut Intervals<V>,
     interval: &Interval<V>,
     pieces: &[Interval<V>],
-) -> Result<(), AllocError>
+) -> Allocated<()>
     requires { IsAlong V.cmp Start pieces.now }
     ensures { OnOk result (found.new.items
         ≡ found.old.items
@@ -239,7 +228,7 @@ fn push_remainder<V: Point>(
     interval: &Interval<V>,
     other: &Interval<V>,
     room: usize,
-) -> Result<(), AllocError>
+) -> Allocated<()>
     ensures items { OnOk result (left.new.items
         ≡ left.old.items ++ remainder V.cmp interval.now other.now) }
     ensures memory { OnErr result (0 < length (remainder V.cmp interval.now other.now)) }
@@ -254,11 +243,7 @@ fn push_remainder<V: Point>(
 // Puts the interval at the end, if there is one. A list without room takes some for so many more,
 // at most 31 at once.
 #[inline(always)]
-fn push<V: Point>(
-    part: Option<Interval<V>>,
-    found: &mut Intervals<V>,
-    room: usize,
-) -> Result<(), AllocError>
+fn push<V: Point>(part: Option<Interval<V>>, found: &mut Intervals<V>, room: usize) -> Allocated<()>
     ensures items { OnOk result (found.new.items ≡ found.old.items ++ option_to_list part) }
     ensures memory { OnErr result (IsTrue (is_some part)) }
 {

@@ -9,27 +9,21 @@
 // interval of a kept list, and two for one of the removed list. With pre-releases included the
 // candidates are the first versions past the lower cuts, one for an interval.
 
-ghost use Rattle.nodejs_semver.specs.Ranges.Gate.{accepts};
 ghost use Rattle.nodejs_semver.specs.Internal.Candidates as spec;
 ghost use Rattle.nodejs_semver.specs.Ranges.Least as stated;
-ghost use Rattle.nodejs_semver.specs.Internal.Shorthands.{spans_of, value_of};
-ghost use Rattle.nodejs_semver.specs.Ranges.View.{bound_of, span_of};
-ghost use Rattle.semver_core.specs.Internal.Sides.{Near, Far};
-ghost use Rattle.semver_core.specs.Cuts.{Beside};
-ghost use Rattle.semver_core.specs.Values.Versions.{VersionValue, is_release};
-ghost use Rattle.std.specs.List.{Any, flat_map, list_all};
-ghost use Rattle.semver_core.specs.declared.cuts.bound.Bound.TheVariants.{After, Before};
-ghost use Rattle.std.specs.Prelude.{All, IfNone, IfOk, IfSome, IsOk, OnErr, OnOk, Some, [], false};
-ghost use Rattle.std.specs.Prelude.{fold, length, true};
-ghost use Rattle.std.specs.Prelude.{◌&&◌, ◌-◌, ◌<◌, ◌≡◌, ◌^◌, ◌⊎◌};
+ghost use Rattle.nodejs_semver.specs.Words.{[], ◌-◌, ◌<◌, ◌^◌, ◌≡◌, ◌⊎◌, accepts, After, All, Any};
+ghost use Rattle.nodejs_semver.specs.Words.{Before, Beside, bound_of, false, Far, flat_map, fold};
+ghost use Rattle.nodejs_semver.specs.Words.{IfNone, IfOk, IfSome, is_release, IsOk, length};
+ghost use Rattle.nodejs_semver.specs.Words.{list_all, Near, OnErr, OnOk, Some, span_of, spans_of};
+ghost use Rattle.nodejs_semver.specs.Words.{true, value_of, VersionValue};
 
-use crate::RangeOf;
 use crate::range::choice::all_accept;
 use crate::range::gate::accepts;
 use crate::range::neighbours::{
     bare, bare_release, first_pre, owned, patch_after, pre_after, with_least_build,
 };
 use crate::readers::{lowest, release};
+use crate::{Allocated, RangeOf};
 use semver_core::cuts::{Bound, Interval};
 use semver_core::{Version, VersionPoint, Versioned};
 use std::alloc::{AllocError, Global};
@@ -245,20 +239,6 @@ fn lesser<'v, V: Versioned>(best: Option<&'v V>, next: &'v V) -> &'v V
 // The search goes through the candidates for the least version that each range of `kept` accepts
 // and no interval of `removed`: `best` is the least so far that is such a version.
 
-// Whether the version is below the best so far, and one of those that are searched for.
-#[inline(always)]
-fn improves<V: VersionPoint, W: VersionPoint, C: Versioned>(
-    kept: &[RangeOf<V>],
-    removed: &[Interval<W>],
-    best: &Option<Version>,
-    version: &C,
-) -> bool
-    ensures { result ≡ (spec.improves best.now (C.value version.now)
-        && spec.wanted kept.now (spans_of W.value removed.now) (C.value version.now)) }
-{
-    !is_reached(best, version) && all_accept(kept, version) && !accepts(removed, version, false)
-}
-
 // Whether the best so far is not above the version: nothing from the version on improves on it.
 fn is_reached<C: Versioned>(best: &Option<Version>, version: &C) -> bool
     ensures { result ≡ spec.is_reached best.now (C.value version.now) }
@@ -278,13 +258,16 @@ fn consider<V: VersionPoint, W: VersionPoint, C: Versioned>(
     removed: &[Interval<W>],
     best: &mut Option<Version>,
     version: &C,
-) -> Result<(), AllocError>
+) -> Allocated<()>
     ensures best { OnOk result (best.new
         ≡ spec.better (spec.wanted kept.now (spans_of W.value removed.now)) best.old
         (spec.bare (C.value version.now))) }
     ensures memory { OnErr result (spec.Finds kept.now (spans_of W.value removed.now)) }
 {
-    if improves(kept, removed, best, version) {
+    if !is_reached(best, version)
+        && all_accept(kept, version)
+        && !accepts(removed, version, false)
+    {
         *best = Some(bare(alloc, version)?);
     }
     Ok(())
@@ -299,7 +282,7 @@ fn consider_from<V: VersionPoint, W: VersionPoint, C: Versioned>(
     removed: &[Interval<W>],
     best: &mut Option<Version>,
     version: &C,
-) -> Result<(), AllocError>
+) -> Allocated<()>
     ensures best { OnOk result (best.new
         ≡ fold (spec.better (spec.wanted kept.now (spans_of W.value removed.now))) best.old
         (spec.firsts (Beside (C.value version.now) Near))) }
@@ -323,7 +306,7 @@ fn consider_after<V: VersionPoint, W: VersionPoint, C: Versioned>(
     removed: &[Interval<W>],
     best: &mut Option<Version>,
     version: &C,
-) -> Result<(), AllocError>
+) -> Allocated<()>
     requires { (C.value version.now).patch < 2 ^ 64 - 1 }
     ensures best { OnOk result (best.new
         ≡ fold (spec.better (spec.wanted kept.now (spans_of W.value removed.now))) best.old
@@ -349,7 +332,7 @@ fn consider_past<V: VersionPoint, W: VersionPoint, C: Versioned>(
     removed: &[Interval<W>],
     best: &mut Option<Version>,
     bound: &Bound<C>,
-) -> Result<(), AllocError>
+) -> Allocated<()>
     requires { spec.Raisable (bound_of C.value bound.now) }
     ensures best { OnOk result (best.new
         ≡ fold (spec.better (spec.wanted kept.now (spans_of W.value removed.now))) best.old
@@ -371,7 +354,7 @@ fn consider_named<V: VersionPoint, W: VersionPoint, C: Versioned>(
     removed: &[Interval<W>],
     best: &mut Option<Version>,
     bound: &Bound<C>,
-) -> Result<(), AllocError>
+) -> Allocated<()>
     ensures best { OnOk result (best.new
         ≡ fold (spec.better (spec.wanted kept.now (spans_of W.value removed.now))) best.old
         (flat_map spec.firsts (spec.below_named (bound_of C.value bound.now)))) }
@@ -393,7 +376,7 @@ fn consider_range<V: VersionPoint, W: VersionPoint>(
     removed: &[Interval<W>],
     best: &mut Option<Version>,
     range: &RangeOf<V>,
-) -> Result<(), AllocError>
+) -> Allocated<()>
     ensures best { OnOk result (best.new
         ≡ fold (spec.better (spec.wanted kept.now (spans_of W.value removed.now))) best.old
         (flat_map spec.firsts (spec.list_marks range.now))) }
@@ -414,7 +397,7 @@ fn consider_removed<V: VersionPoint, W: VersionPoint>(
     kept: &[RangeOf<V>],
     removed: &[Interval<W>],
     best: &mut Option<Version>,
-) -> Result<(), AllocError>
+) -> Allocated<()>
     requires { All spec.IsRaisable (spans_of W.value removed.now) }
     ensures best { OnOk result (best.new
         ≡ fold (spec.better (spec.wanted kept.now (spans_of W.value removed.now))) best.old
@@ -434,7 +417,7 @@ fn consider_all<V: VersionPoint, W: VersionPoint>(
     kept: &[RangeOf<V>],
     removed: &[Interval<W>],
     best: &mut Option<Version>,
-) -> Result<(), AllocError>
+) -> Allocated<()>
     requires { All spec.IsRaisable (spans_of W.value removed.now) }
     ensures best { OnOk result (best.new
         ≡ fold (spec.better (spec.wanted kept.now (spans_of W.value removed.now))) best.old
@@ -454,7 +437,7 @@ fn least_among<V: VersionPoint, W: VersionPoint>(
     alloc: Global,
     kept: &[RangeOf<V>],
     removed: &[Interval<W>],
-) -> Result<Option<Version>, AllocError>
+) -> Allocated<Option<Version>>
     requires some { 0 < length kept.now }
     requires removed { All spec.IsRaisable (spans_of W.value removed.now) }
     ensures least { IfOk result (λ r.
@@ -467,18 +450,6 @@ fn least_among<V: VersionPoint, W: VersionPoint>(
     Ok(best)
 }
 
-// Whether the version is below the best so far, and the range holds it.
-fn improves_held<V: VersionPoint, C: Versioned>(
-    range: &RangeOf<V>,
-    best: &Option<Version>,
-    version: &C,
-) -> bool
-    ensures { result ≡ (spec.improves best.now (C.value version.now)
-        && accepts range.now (C.value version.now) true) }
-{
-    !is_reached(best, version) && range.satisfies_with_prerelease(version, true)
-}
-
 // Keeps a copy of the version, without its build, where it improves on the best so far.
 #[tactic(auto, using(crate::proofs::Choice::Least::improves_held))]
 fn consider_held<V: VersionPoint, C: Versioned>(
@@ -486,13 +457,12 @@ fn consider_held<V: VersionPoint, C: Versioned>(
     alloc: Global,
     best: &mut Option<Version>,
     version: &C,
-) -> Result<(), AllocError>
-    ensures best { OnOk result (best.new
-        ≡ spec.better (λ v. accepts range.now v true) best.old
+) -> Allocated<()>
+    ensures best { OnOk result (best.new ≡ spec.better (λ v. accepts range.now v true) best.old
         (spec.bare (C.value version.now))) }
     ensures memory { OnErr result ((v : VersionValue) × (accepts range.now v true ≡ true)) }
 {
-    if improves_held(range, best, version) {
+    if !is_reached(best, version) && range.satisfies_with_prerelease(version, true) {
         *best = Some(bare(alloc, version)?);
     }
     Ok(())
@@ -504,10 +474,9 @@ fn consider_past_held<V: VersionPoint>(
     alloc: Global,
     best: &mut Option<Version>,
     bound: &Bound<V>,
-) -> Result<(), AllocError>
+) -> Allocated<()>
     requires { spec.Raisable (bound_of V.value bound.now) }
-    ensures best { OnOk result
-        (best.new ≡ spec.better (λ v. accepts range.now v true) best.old
+    ensures best { OnOk result (best.new ≡ spec.better (λ v. accepts range.now v true) best.old
         (spec.first_past (bound_of V.value bound.now))) }
     ensures memory { OnErr result (((v : VersionValue) × (accepts range.now v true ≡ true))
         ⊎ spec.IsAfterPre (bound_of V.value bound.now)) }

@@ -1,19 +1,13 @@
 // Versions beside another one, and the build that the least version has.
 
-ghost use Rattle.std.specs.Prelude.{◌≡◌, ◌&&◌, ◌+◌, ◌-◌, ◌<◌, ◌^◌, [], ◌∷◌, All, IfOk, IfSome};
-ghost use Rattle.std.specs.Prelude.{IsOk, IsTrue, Some, find, option_map};
-ghost use Rattle.std.specs.List.{list_any};
 ghost use Rattle.nodejs_semver.specs.Internal.Candidates as spec;
-ghost use Rattle.nodejs_semver.specs.Internal.Shorthands.{build_by, spans_of};
-ghost use Rattle.nodejs_semver.specs.Ranges.Gate.{lets_in};
 ghost use Rattle.nodejs_semver.specs.Ranges.Least as stated;
-ghost use Rattle.nodejs_semver.specs.Ranges.View.{bound_of, span_of};
-ghost use Rattle.semver_core.specs.Cuts.{holds};
-ghost use Rattle.semver_core.specs.Values.Order.{precedence};
-ghost use Rattle.semver_core.specs.Text.Identifiers.{Numeric};
-ghost use Rattle.semver_core.specs.Values.Views.{id_view, ids_view, lent_id_view};
-ghost use Rattle.semver_core.specs.declared.cuts.bound.Bound.TheVariants.{After};
+ghost use Rattle.nodejs_semver.specs.Words.{[], ◌&&◌, ◌-◌, ◌<◌, ◌^◌, ◌≡◌, After, All, bound_of};
+ghost use Rattle.nodejs_semver.specs.Words.{build_by, find, holds, id_view, ids_view, IfOk, IfSome};
+ghost use Rattle.nodejs_semver.specs.Words.{lent_id_view, lets_in, list_any, option_map};
+ghost use Rattle.nodejs_semver.specs.Words.{precedence, Some, span_of, spans_of};
 
+use crate::Allocated;
 use crate::range::gate::accepts_one;
 use crate::readers::{lowest, release};
 use semver_core::cuts::{Bound, Interval};
@@ -44,19 +38,8 @@ pub(crate) fn first_pre<V: Versioned>(version: &V) -> VersionRef<'static>
     lowest(version.major(), version.minor(), version.patch())
 }
 
-// Whether the pre-release is the number 0 alone, as that of `<2.0.0-0`.
-pub(crate) fn is_first_pre<V: Versioned>(version: &V) -> bool
-    ensures { IsTrue result → (V.value version.now).pre_release ≡ Numeric 0 ∷ [] }
-{
-    let mut ids = version.pre_release();
-    matches!(
-        (ids.next(), ids.next()),
-        (Some(IdentifierRef::Numeric(0)), None)
-    )
-}
-
 // The identifier with a text of its own.
-fn owned_id(alloc: Global, id: IdentifierRef<'_>) -> Result<Identifier, AllocError>
+fn owned_id(alloc: Global, id: IdentifierRef<'_>) -> Allocated<Identifier>
     ensures { IfOk result (λ i. id_view i ≡ lent_id_view id.entry) }
 {
     match id {
@@ -68,7 +51,7 @@ fn owned_id(alloc: Global, id: IdentifierRef<'_>) -> Result<Identifier, AllocErr
 }
 
 // The identifiers with texts of their own.
-fn owned_ids(alloc: Global, ids: IdentifierRefs<'_>) -> Result<Vec<Identifier>, AllocError>
+fn owned_ids(alloc: Global, ids: IdentifierRefs<'_>) -> Allocated<Vec<Identifier>>
     ensures { IfOk result (λ owned. ids_view owned.items ≡ ids.entry) }
 {
     let mut ids = ids;
@@ -80,7 +63,7 @@ fn owned_ids(alloc: Global, ids: IdentifierRefs<'_>) -> Result<Vec<Identifier>, 
 }
 
 // The version after a pre-release.
-pub(crate) fn pre_after<V: Versioned>(alloc: Global, version: &V) -> Result<Version, AllocError>
+pub(crate) fn pre_after<V: Versioned>(alloc: Global, version: &V) -> Allocated<Version>
     ensures { IfOk result (λ v. v ≡ spec.pre_after (V.value version.now)) }
 {
     let mut pre_release = owned_ids(alloc, version.pre_release())?;
@@ -90,7 +73,7 @@ pub(crate) fn pre_after<V: Versioned>(alloc: Global, version: &V) -> Result<Vers
 
 // The first version after this one, without a build: the next patch of a release, and a pre-release
 // with one more identifier.
-fn following<V: Versioned>(alloc: Global, version: &V) -> Result<Version, AllocError>
+fn following<V: Versioned>(alloc: Global, version: &V) -> Allocated<Version>
     requires { (V.value version.now).patch < 2 ^ 64 - 1 }
     ensures { IfOk result (λ next. stated.begins_with (After (V.value version.now))
         ≡ Some (record next { build = (V.value version.now).build })) }
@@ -103,25 +86,22 @@ fn following<V: Versioned>(alloc: Global, version: &V) -> Result<Version, AllocE
 }
 
 // The version without its build.
-pub(crate) fn bare<V: Versioned>(alloc: Global, version: &V) -> Result<Version, AllocError>
+pub(crate) fn bare<V: Versioned>(alloc: Global, version: &V) -> Allocated<Version>
     ensures { IfOk result (λ v. v ≡ spec.bare (V.value version.now)) }
 {
     if version.is_release() {
         return bare_release(version).to_version(alloc);
     }
-    if is_first_pre(version) {
+    let mut ids = version.pre_release();
+    if let (Some(IdentifierRef::Numeric(0)), None) = (ids.next(), ids.next()) {
         return first_pre(version).to_version(alloc);
     }
-    with_lists(
-        alloc,
-        version,
-        owned_ids(alloc, version.pre_release())?,
-        Vec::new(alloc),
-    )
+    let pre_release = owned_ids(alloc, version.pre_release())?;
+    with_lists(alloc, version, pre_release, Vec::new(alloc))
 }
 
 // The whole version.
-pub(crate) fn owned<V: Versioned>(alloc: Global, version: &V) -> Result<Version, AllocError>
+pub(crate) fn owned<V: Versioned>(alloc: Global, version: &V) -> Allocated<Version>
     ensures { IfOk result (λ v. v ≡ V.value version.now) }
 {
     let pre_release = owned_ids(alloc, version.pre_release())?;
@@ -130,11 +110,7 @@ pub(crate) fn owned<V: Versioned>(alloc: Global, version: &V) -> Result<Version,
 }
 
 // A version that has no build, with this one.
-fn with_build(
-    alloc: Global,
-    version: Version,
-    build: IdentifierRefs<'_>,
-) -> Result<Version, AllocError>
+fn with_build(alloc: Global, version: Version, build: IdentifierRefs<'_>) -> Allocated<Version>
     requires { version.build ≡ [] }
     ensures { IfOk result (λ v. v ≡ record version { build = build.entry }) }
 {
@@ -152,7 +128,7 @@ fn with_lists<V: Versioned>(
     version: &V,
     pre_release: Vec<Identifier>,
     build: Vec<Identifier>,
-) -> Result<Version, AllocError>
+) -> Allocated<Version>
     ensures { IfOk result (λ v. v ≡ record (V.value version.now) {
       pre_release = ids_view pre_release.items;
       build = ids_view build.items;
@@ -170,7 +146,7 @@ fn with_build_by<V: Versioned>(
     alloc: Global,
     version: Version,
     bound: &Bound<V>,
-) -> Result<Version, AllocError>
+) -> Allocated<Version>
     requires raisable { spec.Raisable (bound_of V.value bound.now) }
     requires bare { version.build ≡ [] }
     ensures { IfOk result (λ v. v ≡ record version {
@@ -227,7 +203,7 @@ pub(crate) fn with_least_build<V: VersionPoint>(
     alloc: Global,
     version: Version,
     intervals: &[Interval<V>],
-) -> Result<Version, AllocError>
+) -> Allocated<Version>
     requires raisable { All spec.IsRaisable (spans_of V.value intervals.now) }
     requires bare { version.build ≡ [] }
     ensures { IfOk result (λ v. v ≡ record version {

@@ -1,10 +1,8 @@
 // Versions that lie above or below a range.
 
 ghost use Rattle.nodejs_semver.specs.Ranges.Outside as spec;
-ghost use Rattle.nodejs_semver.specs.Ranges.View.{bound_of, span_of};
-ghost use Rattle.nodejs_semver.specs.Internal.Shorthands.{lies_above, lies_below};
 ghost use Rattle.nodejs_semver.specs.declared.range.outside.OutsideDirection.TheVariants as side;
-ghost use Rattle.std.specs.Prelude.{Ok, ◌≡◌};
+ghost use Rattle.nodejs_semver.specs.Words.{◌≡◌, bound_of, lies_above, lies_below, Ok, span_of};
 
 use crate::RangeOf;
 use crate::range::gate::{accepts, is_past_lower, is_past_upper};
@@ -115,8 +113,5 @@ fn lies_opposite<V: VersionPoint, W: Versioned>(
 fn is_bounded<V: Versioned>(bound: &Bound<V>) -> bool
     ensures { result ≡ spec.is_bounded (bound_of V.value bound.now) }
 {
-    match bound {
-        Bound::Unbounded => false,
-        Bound::Before(_) | Bound::After(_) => true,
-    }
+    !matches!(bound, Bound::Unbounded)
 }

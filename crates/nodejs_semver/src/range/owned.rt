@@ -1,14 +1,11 @@
 // Borrowed ranges with versions of their own.
 
-ghost use Rattle.nodejs_semver.specs.Ranges.View.{TakesMemory};
-ghost use Rattle.semver_core.specs.Cuts.{has_bound, passes};
-ghost use Rattle.semver_core.specs.Values.Memory.{takes_memory};
-ghost use Rattle.std.specs.List.{list_any};
-ghost use Rattle.std.specs.Prelude.{◌≡◌, ◌≢◌, ◌<◌, ◌∷◌, ◌⊎◌, []};
-ghost use Rattle.std.specs.Prelude.{IfOk, IsSomeAnd, OnErr, length, true};
+ghost use Rattle.nodejs_semver.specs.Words.{◌<◌, ◌≡◌, ◌≢◌, ◌⊎◌, has_bound, IfOk, IsSomeAnd, length};
+ghost use Rattle.nodejs_semver.specs.Words.{list_any, OnErr, passes, takes_memory, TakesMemory};
+ghost use Rattle.nodejs_semver.specs.Words.{true};
 
 use crate::range::Intervals;
-use crate::{Range, RangeOf, RangeRef};
+use crate::{Allocated, Range, RangeOf, RangeRef};
 use semver_core::cuts::{Bound, Interval};
 use semver_core::{Version, VersionRef};
 use smallvec::SmallVec;
@@ -30,10 +27,7 @@ impl<'a> RangeRef<'a> {
 }
 
 /// The range with versions of its own, if there is one.
-pub(crate) fn owned_range(
-    alloc: Global,
-    range: Option<RangeRef<'_>>,
-) -> Result<Option<Range>, AllocError>
+pub(crate) fn owned_range(alloc: Global, range: Option<RangeRef<'_>>) -> Allocated<Option<Range>>
     ensures whole { IfOk result (λ r. r ≡ range.entry) }
     ensures memory { OnErr result (IsSomeAnd range.entry TakesMemory) }
 {
@@ -46,7 +40,7 @@ pub(crate) fn owned_range(
 // The bound with a version of its own.
 #[inline(always)]
 #[tactic(auto, using(semver_core::proofs::Taking::taking))]
-fn owned_bound(alloc: Global, bound: &Bound<VersionRef<'_>>) -> Result<Bound<Version>, AllocError>
+fn owned_bound(alloc: Global, bound: &Bound<VersionRef<'_>>) -> Allocated<Bound<Version>>
     ensures whole { IfOk result (λ b. b ≡ bound.now) }
     ensures memory { OnErr result (passes takes_memory bound.now ≡ true) }
 {
@@ -62,7 +56,7 @@ fn owned_bound(alloc: Global, bound: &Bound<VersionRef<'_>>) -> Result<Bound<Ver
 pub(crate) fn owned_interval(
     alloc: Global,
     interval: &Interval<VersionRef<'_>>,
-) -> Result<Interval<Version>, AllocError>
+) -> Allocated<Interval<Version>>
     ensures whole { IfOk result (λ i. i ≡ interval.now) }
     ensures memory { OnErr result (has_bound takes_memory interval.now ≡ true) }
 {
@@ -75,7 +69,7 @@ pub(crate) fn owned_interval(
 pub(crate) fn owned_intervals(
     alloc: Global,
     intervals: &[Interval<VersionRef<'_>>],
-) -> Result<Intervals<Version>, AllocError>
+) -> Allocated<Intervals<Version>>
     ensures whole { IfOk result (λ owned. owned.items ≡ intervals.now) }
     ensures some { OnErr result (0 < length intervals.now) }
     ensures memory { OnErr result ((length intervals.now ≢ 1)

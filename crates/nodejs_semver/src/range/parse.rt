@@ -1,16 +1,9 @@
 // Ranges are read from their texts.
 
-ghost use Rattle.std.specs.Prelude.{◌≡◌, ◌↔◌, ◌<◌, ◌⊎◌, []};
-ghost use Rattle.std.specs.Prelude.{IfOk, IsTrue, List, OnErr, OnOk, length, true};
-ghost use Rattle.std.specs.List.{list_any};
-ghost use Rattle.nodejs_semver.specs.Internal.Denotes.{denotes};
-ghost use Rattle.nodejs_semver.specs.Ranges.Gate.{accepts};
-ghost use Rattle.nodejs_semver.specs.Ranges.View.{IsRange, TakesMemory};
-ghost use Rattle.nodejs_semver.specs.Text.Meaning.{Means};
-ghost use Rattle.nodejs_semver.specs.Text.WrittenSet.{Writes};
-ghost use Rattle.semver_core.specs.Cuts.{Span};
-ghost use Rattle.semver_core.specs.Failures.{MemoryOnlyIf, RefusedOnlyIf};
-ghost use Rattle.semver_core.specs.Values.Versions.{VersionValue};
+ghost use Rattle.nodejs_semver.specs.Words.{[], ◌<◌, ◌↔◌, ◌≡◌, ◌⊎◌, accepts, denotes, IfOk};
+ghost use Rattle.nodejs_semver.specs.Words.{IsRange, IsTrue, length, List, list_any, Means};
+ghost use Rattle.nodejs_semver.specs.Words.{MemoryOnlyIf, OnErr, OnOk, RefusedOnlyIf, Span};
+ghost use Rattle.nodejs_semver.specs.Words.{TakesMemory, true, VersionValue, Writes};
 
 use crate::readers::{Filled, read_common};
 use crate::{Range, RangeOf, RangeRef};

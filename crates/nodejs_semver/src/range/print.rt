@@ -1,13 +1,8 @@
 // How ranges print.
 
-ghost use Rattle.std.specs.Fmt.{DisplaysStyledOnOk};
-ghost use Rattle.std.specs.Ordering.{is_eq};
-ghost use Rattle.std.specs.Prelude.{◌≡◌, ◌++◌, Some};
-ghost use Rattle.semver_core.specs.Printing.Text.{version_text};
-ghost use Rattle.nodejs_semver.specs.Internal.Sets.{span_text};
-ghost use Rattle.nodejs_semver.specs.Printing.Text.{lower_text, upper_text, range_text};
-ghost use Rattle.nodejs_semver.specs.Ranges.View.{bound_of, span_of};
-ghost use Rattle.nodejs_semver.specs.Internal.Shorthands.{spans_of};
+ghost use Rattle.nodejs_semver.specs.Words.{◌++◌, ◌≡◌, bound_of, DisplaysStyledOnOk, is_eq};
+ghost use Rattle.nodejs_semver.specs.Words.{lower_text, range_text, Some, span_of, span_text};
+ghost use Rattle.nodejs_semver.specs.Words.{spans_of, upper_text, version_text};
 
 use crate::RangeOf;
 use semver_core::VersionPoint;

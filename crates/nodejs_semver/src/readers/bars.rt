@@ -1,26 +1,17 @@
 // The parts of a range text, one after another.
 
-ghost use Rattle.std.specs.Prelude.{◌≡◌, ◌<◌, ◌∷◌, IfSome, length};
-ghost use Rattle.nodejs_semver.specs.Internal.Parts.{parts};
 ghost use Rattle.nodejs_semver.specs.Internal.PartFronts as Spec;
-ghost use Rattle.nodejs_semver.specs.Internal.Readings.{part_view, rest_view};
-ghost use Rattle.semver_core.specs.Internal.Spaces.{space_len};
+ghost use Rattle.nodejs_semver.specs.Words.{◌<◌, ◌∷◌, ◌≡◌, IfSome, length, part_view, parts};
+ghost use Rattle.nodejs_semver.specs.Words.{rest_view, space_len};
 
 use semver_core::scan;
-
-#[inline(always)]
-fn begins_bars(text: &[u8]) -> bool
-    ensures { result ≡ Spec.begins_bars text.now }
-{
-    matches!(text, [b'|', b'|', ..])
-}
 
 // How many bytes stand before the first `||`, or in the text where there is none.
 fn bars_at(text: &[u8]) -> usize
     ensures { result ≡ Spec.bars_at text.now }
 {
     'bytes: for at in 0..text.len() {
-        if begins_bars(&text[at..]) {
+        if matches!(&text[at..], [b'|', b'|', ..]) {
             return at;
         }
     }

@@ -1,28 +1,20 @@
 // The reader of common range texts, in one pass from the left.
 
-ghost use Rattle.std.specs.Prelude.{◌≡◌, ◌≤◌, ◌⊎◌, [], if◌then◌else◌, IfNone, IfOk, IfSome};
-ghost use Rattle.std.specs.Prelude.{IsFalse, IsTrue, List, None, OnErr, Some, length, true};
 ghost use Rattle.nodejs_semver.specs.Internal.CommonFronts as Spec;
-ghost use Rattle.nodejs_semver.specs.Text.Bars.{has_bars};
-ghost use Rattle.nodejs_semver.specs.Text.Common.{AreCommonParts, IsCommonRange};
-ghost use Rattle.nodejs_semver.specs.Text.Meaning.{Means};
-ghost use Rattle.nodejs_semver.specs.Internal.CommonViews.{both_view, bounds_front_view};
-ghost use Rattle.nodejs_semver.specs.Internal.CommonViews.{passed_view};
-ghost use Rattle.nodejs_semver.specs.Internal.Readings.{bounds_view, partial_front_view};
-ghost use Rattle.nodejs_semver.specs.Internal.Readings.{partial_view, rest_view, table_view};
-ghost use Rattle.semver_core.specs.Failures.{NoValue};
-ghost use Rattle.nodejs_semver.specs.Ranges.View.{TakesMemory};
-ghost use Rattle.semver_core.specs.Cuts.{Span, interval, is_interval};
-ghost use Rattle.semver_core.specs.Values.Order.{precedence};
-ghost use Rattle.semver_core.specs.Values.Versions.{VersionValue};
-ghost use Rattle.semver_core.specs.declared.TheConstants.{MAX_SAFE_INTEGER};
+ghost use Rattle.nodejs_semver.specs.Words.{[], ◌≡◌, ◌≤◌, ◌⊎◌, AreCommonParts, both_view};
+ghost use Rattle.nodejs_semver.specs.Words.{bounds_front_view, bounds_view, has_bars, IfNone, IfOk};
+ghost use Rattle.nodejs_semver.specs.Words.{IfSome, if◌then◌else◌, is_interval, IsCommonRange};
+ghost use Rattle.nodejs_semver.specs.Words.{IsFalse, IsTrue, length, List, MAX_SAFE_INTEGER, Means};
+ghost use Rattle.nodejs_semver.specs.Words.{None, NoValue, OnErr, partial_front_view, partial_view};
+ghost use Rattle.nodejs_semver.specs.Words.{passed_view, precedence, rest_view, Some, Span};
+ghost use Rattle.nodejs_semver.specs.Words.{table_view, TakesMemory, true, VersionValue};
 
 use crate::range::owned::owned_range;
 use crate::readers::found::Found;
 use crate::readers::intervals::{between, push_between, push_ordered};
 use crate::readers::syntax::{Bounds, Partial};
 use crate::readers::{intervals, partial, table, words};
-use crate::{Range, RangeRef};
+use crate::{Allocated, Range, RangeRef};
 use semver_core::cuts::{Bound, Interval};
 use semver_core::{MAX_SAFE_INTEGER, VersionRef};
 use smallvec::SmallVec;
@@ -67,7 +59,7 @@ fn push_common<'a, S: Found<'a>>(
     first: Bounds<'a>,
     second: Bounds<'a>,
     found: &mut S,
-) -> Result<bool, AllocError>
+) -> Allocated<bool>
     ensures added { let both = Spec.both_of (bounds_view first.entry) (bounds_view second.entry) in
         IfOk result (λ there. both_view there (S.items found.new)
         ≡ Spec.pushed (S.items found.old) both) }
@@ -89,7 +81,7 @@ fn push_both<'a, S: Found<'a>>(
     first: Bounds<'a>,
     second: Bounds<'a>,
     found: &mut S,
-) -> Result<bool, AllocError>
+) -> Allocated<bool>
     ensures added { let both = Spec.both_of (bounds_view first.entry) (bounds_view second.entry) in
         IfOk result (λ there. both_view there (S.items found.new)
         ≡ Spec.pushed (S.items found.old) both) }
@@ -119,10 +111,7 @@ fn behind_part(there: bool, rest: &[u8]) -> Option<&[u8]>
 
 // Adds the interval of one comparison, or of two, and returns what follows them.
 #[tactic(auto, unfolding(crate::specs::Internal::CommonFronts::comparisons_front))]
-fn push_comparisons<'a, S: Found<'a>>(
-    text: &'a [u8],
-    found: &mut S,
-) -> Result<Option<&'a [u8]>, AllocError>
+fn push_comparisons<'a, S: Found<'a>>(text: &'a [u8], found: &mut S) -> Allocated<Option<&'a [u8]>>
     ensures added { IfOk result (λ rest. passed_view rest (S.items found.new)
         ≡ Spec.passed (S.items found.old) (Spec.comparisons_front MAX_SAFE_INTEGER text.now)) }
     ensures full { OnErr result (S.room ≤ length (S.items found.old)) }
@@ -148,7 +137,7 @@ fn push_word<'a, S: Found<'a>>(
     bounds: Option<Bounds<'a>>,
     rest: &'a [u8],
     found: &mut S,
-) -> Result<Option<&'a [u8]>, AllocError>
+) -> Allocated<Option<&'a [u8]>>
     requires { IfSome bounds (λ b. is_interval precedence (bounds_view b) ≡ true) }
     ensures added { IfOk result (λ after. passed_view after (S.items found.new)
         ≡ Spec.passed (S.items found.old) (Spec.part_read rest.now (table_view bounds.entry))) }
@@ -163,10 +152,7 @@ fn push_word<'a, S: Found<'a>>(
 
 // Adds the interval of what stands behind a tilde, and returns what follows it.
 #[tactic(auto, unfolding(crate::specs::Internal::CommonFronts::tilde_front))]
-fn push_tilde<'a, S: Found<'a>>(
-    text: &'a [u8],
-    found: &mut S,
-) -> Result<Option<&'a [u8]>, AllocError>
+fn push_tilde<'a, S: Found<'a>>(text: &'a [u8], found: &mut S) -> Allocated<Option<&'a [u8]>>
     ensures added { IfOk result (λ rest. passed_view rest (S.items found.new)
         ≡ Spec.passed (S.items found.old)
         (Spec.word_read MAX_SAFE_INTEGER (Spec.tilde_front MAX_SAFE_INTEGER text.now))) }
@@ -181,10 +167,7 @@ fn push_tilde<'a, S: Found<'a>>(
 
 // Adds the interval of what stands behind a caret, and returns what follows it.
 #[tactic(auto, unfolding(crate::specs::Internal::CommonFronts::caret_front))]
-fn push_caret<'a, S: Found<'a>>(
-    text: &'a [u8],
-    found: &mut S,
-) -> Result<Option<&'a [u8]>, AllocError>
+fn push_caret<'a, S: Found<'a>>(text: &'a [u8], found: &mut S) -> Allocated<Option<&'a [u8]>>
     ensures added { IfOk result (λ rest. passed_view rest (S.items found.new)
         ≡ Spec.passed (S.items found.old)
         (Spec.word_read MAX_SAFE_INTEGER (Spec.caret_front MAX_SAFE_INTEGER text.now))) }
@@ -201,7 +184,7 @@ fn push_hyphen<'a, S: Found<'a>>(
     lower: Partial<'a>,
     text: &'a [u8],
     found: &mut S,
-) -> Result<Option<&'a [u8]>, AllocError>
+) -> Allocated<Option<&'a [u8]>>
     ensures added { IfOk result (λ rest. passed_view rest (S.items found.new)
         ≡ Spec.passed (S.items found.old)
         (Spec.word_read MAX_SAFE_INTEGER
@@ -217,10 +200,7 @@ fn push_hyphen<'a, S: Found<'a>>(
 
 // Adds the interval of one partial, or of two with a dash between them, and returns what follows.
 #[tactic(auto, unfolding(crate::specs::Internal::CommonFronts::partials_front))]
-fn push_partials<'a, S: Found<'a>>(
-    text: &'a [u8],
-    found: &mut S,
-) -> Result<Option<&'a [u8]>, AllocError>
+fn push_partials<'a, S: Found<'a>>(text: &'a [u8], found: &mut S) -> Allocated<Option<&'a [u8]>>
     ensures added { IfOk result (λ rest. passed_view rest (S.items found.new)
         ≡ Spec.passed (S.items found.old)
         (Spec.word_read MAX_SAFE_INTEGER (Spec.partials_front MAX_SAFE_INTEGER text.now))) }
@@ -238,10 +218,7 @@ fn push_partials<'a, S: Found<'a>>(
 // Adds the interval of the part at the front, and returns what follows the part.
 #[inline(always)]
 #[tactic(auto, unfolding(crate::specs::Internal::CommonFronts::part_front))]
-fn push_part<'a, S: Found<'a>>(
-    text: &'a [u8],
-    found: &mut S,
-) -> Result<Option<&'a [u8]>, AllocError>
+fn push_part<'a, S: Found<'a>>(text: &'a [u8], found: &mut S) -> Allocated<Option<&'a [u8]>>
     ensures added { IfOk result (λ rest. passed_view rest (S.items found.new)
         ≡ Spec.passed (S.items found.old) (Spec.part_front MAX_SAFE_INTEGER text.now)) }
     ensures full { OnErr result (S.room ≤ length (S.items found.old)) }
@@ -281,17 +258,13 @@ fn after_bars(text: &[u8]) -> Option<&[u8]>
 /// Adds the intervals of common parts, one for each, to an empty list. It returns `false` exactly
 /// where the text is none; then the list may hold some of them. Its versions may have builds.
 #[inline(always)]
-pub(crate) fn read_common<'a, S: Found<'a>>(
-    text: &'a [u8],
-    found: &mut S,
-) -> Result<bool, AllocError>
+pub(crate) fn read_common<'a, S: Found<'a>>(text: &'a [u8], found: &mut S) -> Allocated<bool>
     requires { S.items found.old ≡ [] }
     ensures some { IfOk result (λ there. IsTrue there
         → AreCommonParts MAX_SAFE_INTEGER text.now (S.items found.new)) }
     ensures none { IfOk result (λ there. IsFalse there
         → NoValue (AreCommonParts MAX_SAFE_INTEGER text.now)) }
-    ensures memory { OnErr result
-        ((S.room ≤ 0) ⊎ (has_bars text.now ≡ true)) }
+    ensures memory { OnErr result ((S.room ≤ 0) ⊎ (has_bars text.now ≡ true)) }
 {
     let mut rest = text;
     'parts: loop {
@@ -335,9 +308,8 @@ pub fn range_fast(alloc: Global, text: &str) -> Result<Option<Range>, AllocError
         IfNone found (NoValue (IsCommonRange MAX_SAFE_INTEGER text.now))) }
     // Allocation fails only where the text has bars, or is a common one of which a bound has
     // identifiers.
-    ensures memory { OnErr result ((has_bars text.now ≡ true)
-        ⊎ ((r : List (Span VersionValue)) × IsCommonRange MAX_SAFE_INTEGER text.now r
-        × TakesMemory r)) }
+    ensures memory { OnErr result ((has_bars text.now ≡ true) ⊎ ((r : List (Span VersionValue))
+        × IsCommonRange MAX_SAFE_INTEGER text.now r × TakesMemory r)) }
 {
     if has_plus(text) {
         return Ok(None);

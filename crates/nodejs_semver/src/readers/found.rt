@@ -1,14 +1,9 @@
 // Lists of intervals that the readers fill.
 
-ghost use Rattle.std.specs.List.{list_any};
-ghost use Rattle.std.specs.Prelude.{◌≡◌, ◌<◌, ◌≤◌, ◌++◌, ◌∷◌, ◌⊎◌, [], ℕ, Bool, List, OnErr, OnOk};
-ghost use Rattle.std.specs.Prelude.{false, length, true};
-ghost use Rattle.nodejs_semver.specs.Internal.Denotes.{denotes};
-ghost use Rattle.semver_core.specs.Cuts.{Span, has_bound};
-ghost use Rattle.semver_core.specs.Lists.{is_empty};
-ghost use Rattle.semver_core.specs.Values.Memory.{takes_memory};
-ghost use Rattle.semver_core.specs.Values.Versions.{VersionValue};
-ghost use Rattle.semver_core.specs.declared.TheConstants.{MAX_SAFE_INTEGER};
+ghost use Rattle.nodejs_semver.specs.Words.{[], ◌++◌, ◌<◌, ◌∷◌, ◌≡◌, ◌≤◌, ◌⊎◌, Bool, denotes};
+ghost use Rattle.nodejs_semver.specs.Words.{false, has_bound, is_empty, length, List, list_any};
+ghost use Rattle.nodejs_semver.specs.Words.{MAX_SAFE_INTEGER, OnErr, OnOk, Span, takes_memory};
+ghost use Rattle.nodejs_semver.specs.Words.{true, VersionValue, ℕ};
 
 use crate::range::Intervals;
 use crate::range::owned::{owned_interval, owned_intervals};

@@ -1,31 +1,22 @@
 // The intervals of a part. Memory is taken only where a list of intervals grows.
 
-ghost use Rattle.std.specs.Option.{option_to_list};
-ghost use Rattle.std.specs.Prelude.{◌≡◌, ◌<◌, ◌≤◌, ◌++◌, ◌∷◌, [], List, Option, IfOk, OnErr, OnOk};
-ghost use Rattle.std.specs.Prelude.{is_some, length, true};
-ghost use Rattle.nodejs_semver.specs.Internal.Denotes.{part_bounds, part_intervals};
-ghost use Rattle.nodejs_semver.specs.Internal.CommonFronts.{pushed};
-ghost use Rattle.nodejs_semver.specs.Internal.CommonViews.{between_view, both_view};
-ghost use Rattle.nodejs_semver.specs.Internal.Meets.{joined_from, next_at};
-ghost use Rattle.nodejs_semver.specs.Internal.Readings.{bounds_view, hyphen_pushed_view, next_view};
-ghost use Rattle.nodejs_semver.specs.Internal.Readings.{partial_view, sign_view, word_pushed_view};
-ghost use Rattle.nodejs_semver.specs.Internal.Words.{hyphen_pushed, signed_word, upper_behind};
-ghost use Rattle.nodejs_semver.specs.Internal.Words.{upper_of, word_pushed, word_at};
-ghost use Rattle.nodejs_semver.specs.Text.WordText.{hyphen};
-ghost use Rattle.nodejs_semver.specs.Text.Table.{table};
-ghost use Rattle.semver_core.specs.Internal.Spaces.{space_len};
-ghost use Rattle.semver_core.specs.Cuts.{Span, interval, is_interval};
-ghost use Rattle.semver_core.specs.Values.Order.{precedence};
-ghost use Rattle.semver_core.specs.Values.Versions.{VersionValue};
-ghost use Rattle.semver_core.specs.declared.TheConstants.{MAX_SAFE_INTEGER};
+ghost use Rattle.nodejs_semver.specs.Words.{[], ◌++◌, ◌<◌, ◌∷◌, ◌≡◌, ◌≤◌, between_view, both_view};
+ghost use Rattle.nodejs_semver.specs.Words.{bounds_view, hyphen, hyphen_pushed, hyphen_pushed_view};
+ghost use Rattle.nodejs_semver.specs.Words.{IfOk, interval, is_interval, is_some, joined_from};
+ghost use Rattle.nodejs_semver.specs.Words.{length, List, MAX_SAFE_INTEGER, next_at, next_view};
+ghost use Rattle.nodejs_semver.specs.Words.{OnErr, OnOk, Option, option_to_list, part_bounds};
+ghost use Rattle.nodejs_semver.specs.Words.{part_intervals, partial_view, precedence, pushed};
+ghost use Rattle.nodejs_semver.specs.Words.{sign_view, signed_word, space_len, Span, table, true};
+ghost use Rattle.nodejs_semver.specs.Words.{upper_behind, upper_of, VersionValue, word_at};
+ghost use Rattle.nodejs_semver.specs.Words.{word_pushed, word_pushed_view};
 
+use crate::Allocated;
 use crate::range::Intervals;
 use crate::readers::found::Found;
 use crate::readers::syntax::{Bounds, Partial, Sign};
 use crate::readers::{partial, spaces, table, words};
 use semver_core::VersionRef;
 use semver_core::cuts::{Bound, Interval};
-use std::alloc::AllocError;
 
 /// The interval of two bounds, where the lower cut is below the upper one.
 pub(crate) fn between(bounds: Bounds<'_>) -> Option<Interval<VersionRef<'_>>>
@@ -36,10 +27,7 @@ pub(crate) fn between(bounds: Bounds<'_>) -> Option<Interval<VersionRef<'_>>>
 
 /// Adds the interval of two bounds that are in order.
 #[inline(always)]
-pub(crate) fn push_ordered<'a, S: Found<'a>>(
-    bounds: Bounds<'a>,
-    found: &mut S,
-) -> Result<(), AllocError>
+pub(crate) fn push_ordered<'a, S: Found<'a>>(bounds: Bounds<'a>, found: &mut S) -> Allocated<()>
     requires { is_interval precedence (bounds_view bounds) ≡ true }
     ensures added { OnOk result
         (S.items found.new ≡ S.items found.old ++ bounds_view bounds.entry ∷ []) }
@@ -55,7 +43,7 @@ pub(crate) fn push_between<'a, S: Found<'a>>(
     lower: Bound<VersionRef<'a>>,
     upper: Bound<VersionRef<'a>>,
     found: &mut S,
-) -> Result<bool, AllocError>
+) -> Allocated<bool>
     ensures added { let s = between_view lower.entry upper.entry in
         IfOk result (λ there. both_view there (S.items found.new)
         ≡ pushed (S.items found.old) (interval precedence s)) }
@@ -76,7 +64,7 @@ pub(crate) fn push_hyphen<'a, S: Found<'a>>(
     lower: Partial<'a>,
     upper: Partial<'a>,
     found: &mut S,
-) -> Result<bool, AllocError>
+) -> Allocated<bool>
     ensures added { let w = hyphen (partial_view lower.entry) (partial_view upper.entry) in
         IfOk result (λ there. both_view there (S.items found.new)
         ≡ pushed (S.items found.old) (table MAX_SAFE_INTEGER w)) }
@@ -96,7 +84,7 @@ fn push_hyphen_behind<'a>(
     lower: Partial<'a>,
     text: &'a [u8],
     found: &mut Intervals<VersionRef<'a>>,
-) -> Result<Option<(bool, &'a [u8])>, AllocError>
+) -> Allocated<Option<(bool, &'a [u8])>>
     ensures added { let upper = upper_behind MAX_SAFE_INTEGER text.now in
         IfOk result (λ read. hyphen_pushed_view read found.new.items
         ≡ hyphen_pushed MAX_SAFE_INTEGER found.old.items (partial_view lower.entry) upper) }
@@ -119,7 +107,7 @@ fn push_upper<'a>(
     lower: Partial<'a>,
     rest: &'a [u8],
     found: &mut Intervals<VersionRef<'a>>,
-) -> Result<Option<(bool, &'a [u8])>, AllocError>
+) -> Allocated<Option<(bool, &'a [u8])>>
     ensures added { let upper = upper_of MAX_SAFE_INTEGER (sign_view sign) rest.now in
         IfOk result (λ read. hyphen_pushed_view read found.new.items
         ≡ hyphen_pushed MAX_SAFE_INTEGER found.old.items (partial_view lower.entry) upper) }
@@ -141,13 +129,12 @@ fn push_signed<'a>(
     sign: Sign,
     partial: Partial<'a>,
     found: &mut Intervals<VersionRef<'a>>,
-) -> Result<bool, AllocError>
+) -> Allocated<bool>
     ensures added { let w = signed_word (sign_view sign) (partial_view partial.entry) in
         IfOk result (λ there. both_view there found.new.items
         ≡ pushed found.old.items (table MAX_SAFE_INTEGER w)) }
     ensures memory { let w = signed_word (sign_view sign) (partial_view partial.entry) in
-        OnErr result
-        (1 < length (found.old.items ++ option_to_list (table MAX_SAFE_INTEGER w))) }
+        OnErr result (1 < length (found.old.items ++ option_to_list (table MAX_SAFE_INTEGER w))) }
 {
     match table::signed(sign, &partial) {
         Some(bounds) => {
@@ -164,7 +151,7 @@ fn push_signed<'a>(
 fn push_word<'a>(
     text: &'a [u8],
     found: &mut Intervals<VersionRef<'a>>,
-) -> Result<(bool, &'a [u8]), AllocError>
+) -> Allocated<(bool, &'a [u8])>
     ensures added { let w = word_at MAX_SAFE_INTEGER text.now in
         IfOk result (λ read. word_pushed_view read found.new.items
         ≡ word_pushed MAX_SAFE_INTEGER found.old.items w) }
@@ -190,7 +177,7 @@ fn push_word<'a>(
 fn push_next<'a>(
     text: &'a [u8],
     found: &mut Intervals<VersionRef<'a>>,
-) -> Result<(bool, &'a [u8]), AllocError>
+) -> Allocated<(bool, &'a [u8])>
     ensures there { IfOk result (λ read. read.0 ≡ is_some (next_at MAX_SAFE_INTEGER text.now).0) }
     ensures rest { IfOk result (λ read. read.1.now ≡ (next_at MAX_SAFE_INTEGER text.now).1) }
     ensures found { OnOk result (found.new.items
@@ -221,7 +208,7 @@ fn take_last<'a>(
 fn next_interval<'a>(
     text: &'a [u8],
     found: &mut Intervals<VersionRef<'a>>,
-) -> Result<(Option<Interval<VersionRef<'a>>>, &'a [u8]), AllocError>
+) -> Allocated<(Option<Interval<VersionRef<'a>>>, &'a [u8])>
     ensures value { IfOk result (λ r. next_view r.0 r.1 ≡ next_at MAX_SAFE_INTEGER text.now) }
     ensures kept { OnOk result (found.new.items ≡ found.old.items) }
     ensures memory { OnErr result (1
@@ -237,7 +224,7 @@ fn meet_or_finish<'a>(
     running: Interval<VersionRef<'a>>,
     next: Interval<VersionRef<'a>>,
     finished: &mut Intervals<VersionRef<'a>>,
-) -> Result<Interval<VersionRef<'a>>, AllocError>
+) -> Allocated<Interval<VersionRef<'a>>>
     ensures joined { IfOk result (λ kept. (rest : List (Span VersionValue)) →
         finished.new.items ++ joined_from precedence kept rest
         ≡ finished.old.items ++ joined_from precedence running.entry (next.entry ∷ rest)) }
@@ -254,10 +241,7 @@ fn meet_or_finish<'a>(
 
 /// Adds the intervals of a part that whitespace does not begin. Most parts have one word, or one
 /// behind words without an interval.
-pub(crate) fn read_part<'a>(
-    part: &'a [u8],
-    found: &mut Intervals<VersionRef<'a>>,
-) -> Result<(), AllocError>
+pub(crate) fn read_part<'a>(part: &'a [u8], found: &mut Intervals<VersionRef<'a>>) -> Allocated<()>
     requires some { 0 < length part.now }
     requires starts { space_len part.now ≡ 0 }
     ensures added { OnOk result (found.new.items ≡ found.old.items
@@ -284,7 +268,7 @@ fn read_words<'a>(
     first: Interval<VersionRef<'a>>,
     text: &'a [u8],
     found: &mut Intervals<VersionRef<'a>>,
-) -> Result<(), AllocError>
+) -> Allocated<()>
     requires { space_len text.now ≡ 0 }
     ensures added { OnOk result (found.new.items ≡ found.old.items
         ++ joined_from precedence first.entry (part_bounds MAX_SAFE_INTEGER text.now)) }

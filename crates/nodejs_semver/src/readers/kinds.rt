@@ -1,10 +1,8 @@
 // Why the word at the front of a part is ignored, if it is. Nothing is allocated.
 
-ghost use Rattle.std.specs.Prelude.{◌≡◌};
-ghost use Rattle.nodejs_semver.specs.Internal.Ignored.{kind_at, kind_view, unless_bounded};
-ghost use Rattle.nodejs_semver.specs.Internal.Readings.{partial_front_view, sign_view};
-ghost use Rattle.nodejs_semver.specs.Internal.Words.{upper_of};
-ghost use Rattle.semver_core.specs.declared.TheConstants.{MAX_SAFE_INTEGER};
+ghost use Rattle.nodejs_semver.specs.Words.{◌≡◌, kind_at, kind_view, MAX_SAFE_INTEGER};
+ghost use Rattle.nodejs_semver.specs.Words.{partial_front_view, sign_view, unless_bounded};
+ghost use Rattle.nodejs_semver.specs.Words.{upper_of};
 
 use crate::diagnosis::IgnoredKind;
 use crate::readers::syntax::{Partial, Sign};
@@ -47,8 +45,6 @@ pub(crate) fn ignored_front(text: &[u8]) -> (Option<IgnoredKind>, &[u8])
     if !words::is_boundary(rest) {
         return (Some(IgnoredKind::Malformed), words::skip_to_boundary(text));
     }
-    (
-        unless_bounded(table::signed(sign, &partial).is_some()),
-        rest,
-    )
+    let bounded = table::signed(sign, &partial).is_some();
+    (unless_bounded(bounded), rest)
 }

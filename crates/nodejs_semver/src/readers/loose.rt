@@ -1,23 +1,16 @@
 // The reader of range texts, word by word.
 
-ghost use Rattle.std.specs.Prelude.{◌≡◌, ◌↔◌, ◌<◌, ◌++◌, ◌∷◌, [], IfNone, IfOk, IfSome, IsTrue};
-ghost use Rattle.std.specs.Prelude.{OnOk, List, OnErr, flat_map, length};
-ghost use Rattle.std.specs.List.{list_all};
-ghost use Rattle.nodejs_semver.specs.Internal.Denotes.{denotes, part_denotes};
-ghost use Rattle.nodejs_semver.specs.Internal.PartFronts.{later_parts};
-ghost use Rattle.nodejs_semver.specs.Internal.Readings.{rest_view};
-ghost use Rattle.nodejs_semver.specs.Ranges.View.{TakesMemory};
-ghost use Rattle.nodejs_semver.specs.Text.Meaning.{IsBlankText, Means};
-ghost use Rattle.semver_core.specs.Cuts.{Span};
-ghost use Rattle.semver_core.specs.Internal.Spaces.{space_len};
-ghost use Rattle.semver_core.specs.Lists.{is_empty};
-ghost use Rattle.semver_core.specs.Values.Versions.{VersionValue};
+ghost use Rattle.nodejs_semver.specs.Words.{[], ◌++◌, ◌<◌, ◌↔◌, ◌∷◌, ◌≡◌, denotes, flat_map};
+ghost use Rattle.nodejs_semver.specs.Words.{IfNone, IfOk, IfSome, is_empty, IsBlankText, IsTrue};
+ghost use Rattle.nodejs_semver.specs.Words.{later_parts, length, List, list_all, Means, OnErr};
+ghost use Rattle.nodejs_semver.specs.Words.{OnOk, part_denotes, rest_view, space_len, Span};
+ghost use Rattle.nodejs_semver.specs.Words.{TakesMemory, VersionValue};
 
 use crate::range::Intervals;
 use crate::range::owned::owned_range;
 use crate::readers::found::Found;
 use crate::readers::{bars, intervals};
-use crate::{Range, RangeRef};
+use crate::{Allocated, Range, RangeRef};
 use semver_core::cuts::Interval;
 use semver_core::{MAX_SAFE_INTEGER, VersionRef};
 use smallvec::SmallVec;
@@ -49,7 +42,7 @@ fn are_blank(text: Option<&str>) -> bool
 
 // Adds what a part means: one interval without bounds where it is empty, and else the intervals of
 // its words.
-fn add_part<'a>(part: &'a str, found: &mut Intervals<VersionRef<'a>>) -> Result<(), AllocError>
+fn add_part<'a>(part: &'a str, found: &mut Intervals<VersionRef<'a>>) -> Allocated<()>
     requires { space_len part.now ≡ 0 }
     ensures added { OnOk result (
         found.new.items ≡ found.old.items ++ part_denotes MAX_SAFE_INTEGER part.now) }
@@ -68,7 +61,7 @@ fn add_parts<'a>(
     first: &'a str,
     behind: Option<&'a str>,
     found: &mut Intervals<VersionRef<'a>>,
-) -> Result<(), AllocError>
+) -> Allocated<()>
     requires starts { space_len first.now ≡ 0 }
     requires empty { found.old.items ≡ [] }
     ensures added { OnOk result (found.new.items ≡ flat_map (part_denotes MAX_SAFE_INTEGER)
@@ -90,10 +83,7 @@ fn add_parts<'a>(
 /// only if allocation fails, and then the text has two intervals or more.
 #[cold]
 #[inline(never)]
-pub(crate) fn read_any<'a>(
-    text: &'a str,
-    found: &mut Intervals<VersionRef<'a>>,
-) -> Result<(), AllocError>
+pub(crate) fn read_any<'a>(text: &'a str, found: &mut Intervals<VersionRef<'a>>) -> Allocated<()>
     ensures read { OnOk result (found.new.items ≡ denotes MAX_SAFE_INTEGER text.now) }
     ensures memory { OnErr result (1 < length (denotes MAX_SAFE_INTEGER text.now)) }
 {

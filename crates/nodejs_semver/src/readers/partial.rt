@@ -1,13 +1,9 @@
 // A partial: a version whose components may be absent or wildcards.
 
-ghost use Rattle.std.specs.Option.{ForSome};
-ghost use Rattle.std.specs.Prelude.{IfSome, ◌≡◌, ◌≤◌, ◌+◌, [], take, drop, true};
 ghost use Rattle.nodejs_semver.specs.Internal.Fronts as Spec;
-ghost use Rattle.nodejs_semver.specs.Internal.Fronts.{front_view};
-ghost use Rattle.semver_core.specs.Text.Identifiers.{goes_on, is_listed};
-ghost use Rattle.nodejs_semver.specs.Internal.Readings.{pair_view, partial_front_view};
-ghost use Rattle.nodejs_semver.specs.Internal.Readings.{partial_pair_view};
-ghost use Rattle.semver_core.specs.declared.TheConstants.{MAX_SAFE_INTEGER};
+ghost use Rattle.nodejs_semver.specs.Words.{◌≡◌, ◌≤◌, ForSome, front_view, IfSome, is_listed};
+ghost use Rattle.nodejs_semver.specs.Words.{MAX_SAFE_INTEGER, pair_view, partial_front_view};
+ghost use Rattle.nodejs_semver.specs.Words.{partial_pair_view, true};
 
 use crate::readers::spaces::skip_spaces;
 use crate::readers::syntax::Partial;
@@ -154,8 +150,7 @@ fn patch_front<'a>(
 #[tactic(auto, using(crate::proofs::Reading::IdentifierLists::short_lists))]
 pub(crate) fn minor_front(major: Option<u64>, text: &[u8]) -> (Partial<'_>, &[u8])
     requires { ForSome major (λ n. n ≤ MAX_SAFE_INTEGER) }
-    ensures { partial_pair_view result
-        ≡ Spec.minor_front MAX_SAFE_INTEGER major text.now
+    ensures { partial_pair_view result ≡ Spec.minor_front MAX_SAFE_INTEGER major text.now
         (Spec.dotted_front MAX_SAFE_INTEGER text.now) }
 {
     match dotted_front(text) {

@@ -1,8 +1,7 @@
 // Whitespace at the front of a text, by its bytes.
 
-ghost use Rattle.std.specs.Prelude.{◌≡◌, ◌≤◌, length};
-ghost use Rattle.semver_core.specs.Internal.Spaces.{drop_spaces, goes_on_with, is_space_of_three};
-ghost use Rattle.semver_core.specs.Internal.Spaces.{is_space_of_two, space_len};
+ghost use Rattle.nodejs_semver.specs.Words.{◌≡◌, ◌≤◌, drop_spaces, goes_on_with, is_space_of_three};
+ghost use Rattle.nodejs_semver.specs.Words.{is_space_of_two, length, space_len};
 
 use semver_core::scan::is_whitespace_code;
 
@@ -42,13 +41,7 @@ pub(crate) fn space_len(text: &[u8]) -> usize
     ensures fits { result ≤ length text.now }
 {
     match text {
-        [a, ..] if *a < 0x80 => {
-            if is_whitespace_code(u32::from(*a)) {
-                1
-            } else {
-                0
-            }
-        }
+        [a, ..] if *a < 0x80 => usize::from(is_whitespace_code(u32::from(*a))),
         [a, b, ..] if is_space_of_two(*a, *b) => 2,
         [a, b, c, ..] if is_space_of_three(*a, *b, *c) => 3,
         _ => 0,

@@ -1,16 +1,11 @@
 // The word table: the bounds of a word, by its form and the numbers of its partial.
 
-ghost use Rattle.std.specs.Prelude.{◌≡◌, ◌≤◌, ◌<◌, ◌+◌, ◌^◌, Some, unwrap_or};
-ghost use Rattle.nodejs_semver.specs.Internal.Readings.{bounds_view, comparator_view};
-ghost use Rattle.nodejs_semver.specs.Internal.Readings.{partial_view, sign_view, table_view};
-ghost use Rattle.nodejs_semver.specs.Internal.Words.{signed_word};
 ghost use Rattle.nodejs_semver.specs.Text.Table as Spec;
-ghost use Rattle.nodejs_semver.specs.Text.Table.{table};
 ghost use Rattle.nodejs_semver.specs.Text.WordText as Words;
-ghost use Rattle.semver_core.specs.Cuts.{interval};
-ghost use Rattle.semver_core.specs.Values.Order.{precedence};
-ghost use Rattle.semver_core.specs.Values.Versions.{release_value};
-ghost use Rattle.semver_core.specs.declared.TheConstants.{MAX_SAFE_INTEGER};
+ghost use Rattle.nodejs_semver.specs.Words.{◌+◌, ◌≡◌, ◌≤◌, bounds_view, comparator_view, interval};
+ghost use Rattle.nodejs_semver.specs.Words.{MAX_SAFE_INTEGER, partial_view, precedence};
+ghost use Rattle.nodejs_semver.specs.Words.{release_value, sign_view, signed_word, Some, table};
+ghost use Rattle.nodejs_semver.specs.Words.{table_view};
 
 use crate::readers::syntax::{Bounds, Comparator, Partial, Sign};
 use semver_core::cuts::Bound;
@@ -116,10 +111,7 @@ impl<'a> Bounds<'a> {
     #[inline(always)]
     pub(crate) fn between(first: VersionRef<'a>, end: VersionRef<'a>) -> Bounds<'a>
         ensures { bounds_view result
-            ≡ record {
-              lower = Bound.Before first.entry;
-              upper = Bound.Before end.entry;
-            } }
+            ≡ record { lower = Bound.Before first.entry; upper = Bound.Before end.entry } }
     {
         Bounds {
             lower: Bound::Before(first),
@@ -131,10 +123,7 @@ impl<'a> Bounds<'a> {
     #[inline(always)]
     pub(crate) fn through(first: VersionRef<'a>, last: VersionRef<'a>) -> Bounds<'a>
         ensures { bounds_view result
-            ≡ record {
-              lower = Bound.Before first.entry;
-              upper = Bound.After last.entry;
-            } }
+            ≡ record { lower = Bound.Before first.entry; upper = Bound.After last.entry } }
     {
         Bounds {
             lower: Bound::Before(first),

@@ -1,13 +1,9 @@
 // What the words of a part are made of.
 
-ghost use Rattle.std.specs.Prelude.{◌≡◌, true};
-ghost use Rattle.nodejs_semver.specs.Internal.Fronts as Fronts;
-ghost use Rattle.nodejs_semver.specs.Internal.Readings.{comparator_front_view, greater_view};
-ghost use Rattle.nodejs_semver.specs.Internal.Readings.{partial_front_view, rest_view};
-ghost use Rattle.nodejs_semver.specs.Internal.Readings.{sign_pair_view};
 ghost use Rattle.nodejs_semver.specs.Internal.Words as Spec;
-ghost use Rattle.nodejs_semver.specs.Internal.Words.{is_boundary};
-ghost use Rattle.semver_core.specs.declared.TheConstants.{MAX_SAFE_INTEGER};
+ghost use Rattle.nodejs_semver.specs.Words.{◌≡◌, comparator_front_view, greater_view, is_boundary};
+ghost use Rattle.nodejs_semver.specs.Words.{MAX_SAFE_INTEGER, partial_front_view, rest_view};
+ghost use Rattle.nodejs_semver.specs.Words.{sign_pair_view};
 
 use crate::readers::syntax::{Comparator, Partial, Sign};
 use crate::readers::{partial, spaces};

@@ -1,8 +1,7 @@
-use Rattle.nodejs_semver.proofs.Common.{◌≡◌, ap, arith, is_some, true, false, rules, ◌∙◌, sym, refl, MAX_SAFE_INTEGER, table}
-use Rattle.nodejs_semver.specs.Internal.Readings.{partial_front_view, partial_view, sign_view}
-use Rattle.nodejs_semver.specs.Internal.Words.{from_boundary, is_boundary, signed_word}
+use Rattle.nodejs_semver.proofs.Common.{◌≡◌, ap, arith, is_some, true, false, rules, ◌∙◌, sym, refl, MAX_SAFE_INTEGER}
+use Rattle.nodejs_semver.proofs.{Common.{table, from_boundary, is_boundary}, Reading.WordLaw.{word-as}}
+use Rattle.nodejs_semver.specs.Internal.{Readings.{partial_front_view, partial_view, sign_view}, Words.{signed_word}}
 use Rattle.nodejs_semver.proofs.Diagnosing.IgnoredParts.{at_hyphen, at_malformed, at_signed}
-use Rattle.nodejs_semver.proofs.Reading.WordLaw.{word-as}
 use Rattle.nodejs_semver.proofs.readers.kinds.ignored_front.Goals as goal
 
 pub returns-in_default : goal.returns-in_default
@@ -35,9 +34,9 @@ returns c =
     let text = c.args.text.now in
     let ends : is_boundary c.in-Some.rest.now ≡ true = search rules in
     let word = signed_word (sign_view c.sign_front-sign.result.0) (partial_view c.in-Some.partial) in
-    let bounded : c.is_some-2.result ≡ is_some (table MAX_SAFE_INTEGER word) = grind arith in
+    let bounded : c.is_some-bounded.result ≡ is_some (table MAX_SAFE_INTEGER word) = grind arith in
     at_signed MAX_SAFE_INTEGER text c.in-Some.rest.now (sign_view c.sign_front-sign.result.0)
-    (partial_view c.in-Some.partial) c.unless_bounded-2.result c.is_some-2.result
+    (partial_view c.in-Some.partial) c.unless_bounded-2.result c.is_some-bounded.result
     (word-as MAX_SAFE_INTEGER text _ _ c.sign_front-sign.ensures c.partial_front.ensures
     ∙ rw (ap partial_front_view c.in-Some.is, sym c.upper_of.ensures, ap partial_front_view c.in_default-upper_of.is, ends) refl)
     bounded c.unless_bounded-2.ensures

@@ -1,0 +1,91 @@
+-- The words of the contracts of this crate, brought together here. It defines nothing.
+pub use Rattle.nodejs_semver.specs.Diagnosis.IgnoredWords.{AreAlike, AreIgnored, if_ignored, IsWhollyBounded}
+pub use Rattle.nodejs_semver.specs.Diagnosis.IgnoredWords.{IsWhollyIgnored}
+pub use Rattle.nodejs_semver.specs.Diagnosis.Messages.{flaw_text, kind_text, word_text}
+pub use Rattle.nodejs_semver.specs.Diagnosis.VersionFlaws.{IsExact, IsFlaw}
+pub use Rattle.nodejs_semver.specs.Internal.Along.{IsAlong}
+pub use Rattle.nodejs_semver.specs.Internal.CommonFronts.{common_range, pushed}
+pub use Rattle.nodejs_semver.specs.Internal.CommonViews.{between_view, both_view, bounds_front_view, passed_view}
+pub use Rattle.nodejs_semver.specs.Internal.Denotes.{denotes, part_bounds, part_denotes, part_intervals}
+pub use Rattle.nodejs_semver.specs.Internal.Fronts.{front_view, number_of, partial_front}
+pub use Rattle.nodejs_semver.specs.Internal.Hashes.{range_writes}
+pub use Rattle.nodejs_semver.specs.Internal.Ignored.{ignored_behind, kind_at, kind_view, left_list, left_size}
+pub use Rattle.nodejs_semver.specs.Internal.Ignored.{option_list, unless_bounded}
+pub use Rattle.nodejs_semver.specs.Internal.Meets.{joined_from, next_at}
+pub use Rattle.nodejs_semver.specs.Internal.PartFronts.{later_parts}
+pub use Rattle.nodejs_semver.specs.Internal.Parts.{cut_bars, parts}
+pub use Rattle.nodejs_semver.specs.Internal.Readings.{bounds_view, comparator_front_view, comparator_view}
+pub use Rattle.nodejs_semver.specs.Internal.Readings.{greater_view, hyphen_pushed_view, next_view, pair_view}
+pub use Rattle.nodejs_semver.specs.Internal.Readings.{part_view, partial_front_view, partial_pair_view, partial_view}
+pub use Rattle.nodejs_semver.specs.Internal.Readings.{rest_view, sign_pair_view, sign_view, table_view}
+pub use Rattle.nodejs_semver.specs.Internal.Readings.{word_pushed_view}
+pub use Rattle.nodejs_semver.specs.Internal.RunsFrom.{runs_of}
+pub use Rattle.nodejs_semver.specs.Internal.SameLaws.{range_alike, range_equiv}
+pub use Rattle.nodejs_semver.specs.Internal.Sets.{AreTaking, is_range_span, meets_of, minus, span_text}
+pub use Rattle.nodejs_semver.specs.Internal.Shorthands.{build_by, lies_above, lies_below, names, remainder, spans_of}
+pub use Rattle.nodejs_semver.specs.Internal.Shorthands.{value_of}
+pub use Rattle.nodejs_semver.specs.Internal.Stuck.{begins_dot, IsNumberAt, Stuck}
+pub use Rattle.nodejs_semver.specs.Internal.Words.{hyphen_pushed, is_boundary, signed_word, upper_behind, upper_of}
+pub use Rattle.nodejs_semver.specs.Internal.Words.{word_at, word_pushed, words}
+pub use Rattle.nodejs_semver.specs.Internal.Writes.{writes}
+pub use Rattle.nodejs_semver.specs.Json.{json_string, ReadsString}
+pub use Rattle.nodejs_semver.specs.Npm.Builds.{build_order}
+pub use Rattle.nodejs_semver.specs.Npm.Ranges.{HasAlternativesIn}
+pub use Rattle.nodejs_semver.specs.Npm.Table.{Comparison, no_build}
+pub use Rattle.nodejs_semver.specs.Npm.VersionText.{IsVersionText}
+pub use Rattle.nodejs_semver.specs.Printing.RoundTrip.{bounds_back, is_printable}
+pub use Rattle.nodejs_semver.specs.Printing.Text.{lower_text, range_text, upper_text}
+pub use Rattle.nodejs_semver.specs.Ranges.Algebra.{covers_one, difference, intersection, list_holds}
+pub use Rattle.nodejs_semver.specs.Ranges.Best.{IsMax, IsMin, replaces}
+pub use Rattle.nodejs_semver.specs.Ranges.Equality.{range_eq}
+pub use Rattle.nodejs_semver.specs.Ranges.Gate.{accepts, lets_in}
+pub use Rattle.nodejs_semver.specs.Ranges.Least.{begins_with, IsLeastOf, least_build}
+pub use Rattle.nodejs_semver.specs.Ranges.View.{any_version, bound_of, IsRange, span_of, TakesMemory}
+pub use Rattle.nodejs_semver.specs.Text.Bars.{has_bars, IsCutAtBars}
+pub use Rattle.nodejs_semver.specs.Text.Common.{AreCommonParts, IsCommonRange}
+pub use Rattle.nodejs_semver.specs.Text.LongestText.{IsLongestPartial}
+pub use Rattle.nodejs_semver.specs.Text.Meaning.{AreWords, IsBlankText, Means}
+pub use Rattle.nodejs_semver.specs.Text.PartialText.{IsPartial, Partial}
+pub use Rattle.nodejs_semver.specs.Text.Runs.{AreRuns, Run}
+pub use Rattle.nodejs_semver.specs.Text.Table.{table}
+pub use Rattle.nodejs_semver.specs.Text.WordText.{hyphen, IsWordAt, Word}
+pub use Rattle.nodejs_semver.specs.Text.WrittenSet.{Writes}
+pub use Rattle.nodejs_semver.specs.declared.diagnosis.versions.VersionFlaw.{VersionFlaw}
+pub use Rattle.nodejs_semver.specs.declared.range.outside.OutsideDirection.TheVariants.{Higher, Lower}
+pub use Rattle.semver_core.specs.Clips.{clip}
+pub use Rattle.semver_core.specs.Cuts.{Beside, covers, has_bound, holds, interval, is_interval, is_past, lower_cut}
+pub use Rattle.semver_core.specs.Cuts.{meet, passes, Span, Start, upper_cut}
+pub use Rattle.semver_core.specs.Failures.{MemoryOnlyIf, NoValue, RefusedOnlyIf}
+pub use Rattle.semver_core.specs.Internal.Reading.{mark_len, triple_at}
+pub use Rattle.semver_core.specs.Internal.Sides.{Far, Near}
+pub use Rattle.semver_core.specs.Internal.Spaces.{drop_spaces, goes_on_with, is_space_of_three, is_space_of_two}
+pub use Rattle.semver_core.specs.Internal.Spaces.{space_len, trim}
+pub use Rattle.semver_core.specs.Lists.{if_any, is_empty}
+pub use Rattle.semver_core.specs.Printing.Text.{version_text}
+pub use Rattle.semver_core.specs.Text.Characters.{begins, is_identifier_char, IsAfterBlank, IsTrim}
+pub use Rattle.semver_core.specs.Text.Identifiers.{goes_on, is_listed, Numeric}
+pub use Rattle.semver_core.specs.Text.Numbers.{IsNumber}
+pub use Rattle.semver_core.specs.Text.Parsing.{Parses}
+pub use Rattle.semver_core.specs.Values.Memory.{takes_memory}
+pub use Rattle.semver_core.specs.Values.Order.{precedence, version_eq}
+pub use Rattle.semver_core.specs.Values.Versions.{HasIdentifiers, is_release, release_value, VersionValue}
+pub use Rattle.semver_core.specs.Values.Views.{id_view, ids_view, lent_id_view}
+pub use Rattle.semver_core.specs.declared.TheConstants.{MAX_SAFE_INTEGER}
+pub use Rattle.semver_core.specs.declared.cuts.bound.Bound.TheVariants.{After, Before, Unbounded}
+pub use Rattle.serde_json.specs.Data.{string}
+pub use Rattle.serde_json.specs.Find.{as_str}
+pub use Rattle.serde_json.specs.View.{view}
+pub use Rattle.serde_json.specs.Written.{compact_text}
+pub use Rattle.std.specs.Char.{is_ascii_digit}
+pub use Rattle.std.specs.Cmp.{partial_equiv_from_equiv}
+pub use Rattle.std.specs.Fmt.{decimal, DisplaysStyledOnOk}
+pub use Rattle.std.specs.Iterator.{item_count, YieldsFirst}
+pub use Rattle.std.specs.List.{Any, list_all, list_any}
+pub use Rattle.std.specs.Option.{ForSome, option_copied, option_to_list}
+pub use Rattle.std.specs.Ordering.{is_eq, is_le, is_lt}
+pub use Rattle.std.specs.Prelude.{[], ◌&&◌, ◌++◌, ◌+◌, ◌-◌, ◌<◌, ◌==◌, ◌^◌, ◌||◌, ◌↔◌, ◌∷◌, ◌≡◌, ◌≢◌, ◌≤◌, ◌⊎◌, All}
+pub use Rattle.std.specs.Prelude.{Bool, Contains, drop, false, find, flat_map, fold, IfErr, IfNone, IfOk, IfSome}
+pub use Rattle.std.specs.Prelude.{if◌then◌else◌, is_some, IsFalse, IsOk, IsSomeAnd, IsTrue, IsUtf8, length, List, map}
+pub use Rattle.std.specs.Prelude.{MatchOption, None, not, Ok, OnErr, OnOk, Option, option_map, Some, string_bytes}
+pub use Rattle.std.specs.Prelude.{true, unwrap_or, ℕ}
+pub use Rattle.std.specs.declared.cmp.Ordering.TheVariants.{Equal}
