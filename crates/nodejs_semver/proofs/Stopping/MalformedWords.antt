@@ -1,7 +1,7 @@
 -- The first word of an alternative that is malformed.
 use Rattle.nodejs_semver.proofs.Common.{◌≡◌, ◌<◌, ◌≤◌, ◌+◌, ℕ, Bool, List, [], length, refl, sym, ap, ◌∙◌, arith}
 use Rattle.nodejs_semver.proofs.Common.{true, false, Some, None, IsUtf8, subst, list_all, bind_some, cases_Bool}
-use Rattle.nodejs_semver.proofs.Common.{inl, inr, drop_spaces, length-append, same_Some, MAX_SAFE_INTEGER}
+use Rattle.nodejs_semver.proofs.Common.{inl, inr, drop_spaces, is_empty, length-append, same_Some, MAX_SAFE_INTEGER}
 use Rattle.semver_core.specs.Failures.{NoValue}
 use Rattle.nodejs_semver.specs.Internal.Fronts.{Front}
 use Rattle.nodejs_semver.specs.Internal.NpmWords.{Signed, any_word, is_small, limited_word, word_front}
@@ -120,7 +120,7 @@ left-less include left behind u r =
       length-append r.word behind,
       ap length s.1,
       length-append s.0 (drop_spaces behind),
-      begins-some is_visible r.word (word-visible false include r.word r.comparators r.is),
+      begins-some is_visible r.word (word-visible false include (is_empty behind) r.word r.comparators r.is),
     )
 
 pub left-fits : (include : Bool) (left text : List ℕ) → Left include left text → length left ≤ length text

@@ -1,7 +1,7 @@
 -- Statement: which word of an alternative node-semver's strict reading rejects first, and where it stands.
 use Rattle.std.specs.Prelude.{◌≡◌, ◌+◌, ℕ, Bool, true, false, List, ◌++◌, length}
 use Rattle.std.specs.List.{list_all}
-use Rattle.semver_core.specs.Failures.{NoValue}
+use Rattle.semver_core.specs.{Failures.{NoValue}, Lists.{is_empty}}
 use Rattle.nodejs_semver.specs.Npm.RangeText.{IsWord}
 use Rattle.nodejs_semver.specs.Npm.Ranges.{is_valid}
 use Rattle.nodejs_semver.specs.Npm.Table.{Comparison}
@@ -12,7 +12,7 @@ pub record IsRightWord (limit : ℕ) (include : Bool) (text behind : List ℕ) :
   pub word : List ℕ
   pub comparators : List Comparison
   pub divided : text ≡ word ++ behind
-  pub is : IsWord false include word comparators
+  pub is : IsWord false include (is_empty behind) word comparators
   pub valid : list_all (is_valid limit) comparators ≡ true
   pub ended : IsBoundary behind
 
