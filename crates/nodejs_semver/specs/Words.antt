@@ -14,11 +14,10 @@ pub use Rattle.nodejs_semver.specs.Internal.Ignored.{option_list, unless_bounded
 pub use Rattle.nodejs_semver.specs.Internal.Meets.{joined_from, next_at}
 pub use Rattle.nodejs_semver.specs.Internal.PartFronts.{later_parts}
 pub use Rattle.nodejs_semver.specs.Internal.Parts.{cut_bars, parts}
-pub use Rattle.nodejs_semver.specs.Internal.Readings.{bounds_view, comparator_front_view, comparator_view}
-pub use Rattle.nodejs_semver.specs.Internal.Readings.{greater_view, hyphen_pushed_view, next_view, pair_view}
-pub use Rattle.nodejs_semver.specs.Internal.Readings.{part_view, partial_front_view, partial_pair_view, partial_view}
-pub use Rattle.nodejs_semver.specs.Internal.Readings.{rest_view, sign_pair_view, sign_view, table_view}
-pub use Rattle.nodejs_semver.specs.Internal.Readings.{word_pushed_view}
+pub use Rattle.nodejs_semver.specs.Internal.Readings.{bounds_view, comparator_front_view, comparator_view, greater_view}
+pub use Rattle.nodejs_semver.specs.Internal.Readings.{hyphen_pushed_view, next_view, pair_view, part_view}
+pub use Rattle.nodejs_semver.specs.Internal.Readings.{partial_front_view, partial_pair_view, partial_view, rest_view}
+pub use Rattle.nodejs_semver.specs.Internal.Readings.{sign_pair_view, sign_view, table_view, word_pushed_view}
 pub use Rattle.nodejs_semver.specs.Internal.RunsFrom.{runs_of}
 pub use Rattle.nodejs_semver.specs.Internal.SameLaws.{range_alike, range_equiv}
 pub use Rattle.nodejs_semver.specs.Internal.Sets.{AreTaking, is_range_span, meets_of, minus, span_text}
@@ -63,7 +62,7 @@ pub use Rattle.semver_core.specs.Internal.Spaces.{space_len, trim}
 pub use Rattle.semver_core.specs.Lists.{if_any, is_empty}
 pub use Rattle.semver_core.specs.Printing.Text.{version_text}
 pub use Rattle.semver_core.specs.Text.Characters.{begins, is_identifier_char, IsAfterBlank, IsTrim}
-pub use Rattle.semver_core.specs.Text.Identifiers.{goes_on, is_listed, Numeric}
+pub use Rattle.semver_core.specs.Text.Identifiers.{is_listed}
 pub use Rattle.semver_core.specs.Text.Numbers.{IsNumber}
 pub use Rattle.semver_core.specs.Text.Parsing.{Parses}
 pub use Rattle.semver_core.specs.Values.Memory.{takes_memory}
@@ -83,9 +82,7 @@ pub use Rattle.std.specs.Iterator.{item_count, YieldsFirst}
 pub use Rattle.std.specs.List.{Any, list_all, list_any}
 pub use Rattle.std.specs.Option.{ForSome, option_copied, option_to_list}
 pub use Rattle.std.specs.Ordering.{is_eq, is_le, is_lt}
-pub use Rattle.std.specs.Prelude.{[], ◌&&◌, ◌++◌, ◌+◌, ◌-◌, ◌<◌, ◌==◌, ◌^◌, ◌||◌, ◌↔◌, ◌∷◌, ◌≡◌, ◌≢◌, ◌≤◌, ◌⊎◌, All}
-pub use Rattle.std.specs.Prelude.{Bool, Contains, drop, false, find, flat_map, fold, IfErr, IfNone, IfOk, IfSome}
-pub use Rattle.std.specs.Prelude.{if◌then◌else◌, is_some, IsFalse, IsOk, IsSomeAnd, IsTrue, IsUtf8, length, List, map}
-pub use Rattle.std.specs.Prelude.{MatchOption, None, not, Ok, OnErr, OnOk, Option, option_map, Some, string_bytes}
-pub use Rattle.std.specs.Prelude.{true, unwrap_or, ℕ}
+pub use Rattle.std.specs.Prelude.{[], All, Bool, false, flat_map, fold, IfNone, IfOk, IfSome, is_some, IsFalse, IsOk}
+pub use Rattle.std.specs.Prelude.{IsSomeAnd, IsTrue, IsUtf8, length, List, map, MatchOption, None, not, Ok, OnErr, OnOk}
+pub use Rattle.std.specs.Prelude.{Option, option_map, Some, string_bytes, true, unwrap_or, ℕ}
 pub use Rattle.std.specs.declared.cmp.Ordering.TheVariants.{Equal}

@@ -1,10 +1,10 @@
 //! Versions and ranges as JSON: the string of the printed text.
 
-ghost use Rattle.nodejs_semver.specs.Words.{[], ◌<◌, ◌≡◌, as_str, compact_text, HasIdentifiers};
-ghost use Rattle.nodejs_semver.specs.Words.{IfOk, is_some, IsSomeAnd, IsTrue, json_string, length};
-ghost use Rattle.nodejs_semver.specs.Words.{MAX_SAFE_INTEGER, Means, MemoryOnlyIf, NoValue, Parses};
-ghost use Rattle.nodejs_semver.specs.Words.{range_text, ReadsString, string, string_bytes};
-ghost use Rattle.nodejs_semver.specs.Words.{version_text, VersionValue, view};
+ghost use Rattle.std.specs.Prelude.{◌<◌, ◌≡◌, [], IfOk, is_some};
+ghost use Rattle.nodejs_semver.specs.Words.{as_str, compact_text, HasIdentifiers, IsSomeAnd};
+ghost use Rattle.nodejs_semver.specs.Words.{IsTrue, json_string, length, MAX_SAFE_INTEGER, Means};
+ghost use Rattle.nodejs_semver.specs.Words.{MemoryOnlyIf, NoValue, Parses, range_text, ReadsString};
+ghost use Rattle.nodejs_semver.specs.Words.{string, string_bytes, version_text, VersionValue, view};
 
 use crate::Range;
 use semver_core::{Failure, SemverError, Version};

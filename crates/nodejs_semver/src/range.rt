@@ -1,8 +1,8 @@
 // Ranges: lists of intervals of versions.
 
-ghost use Rattle.nodejs_semver.specs.Words.{◌+◌, ◌≡◌, ◌≤◌, any_version, AreTaking, if_any, IfOk};
-ghost use Rattle.nodejs_semver.specs.Words.{is_range_span, IsOk, IsRange, list_all};
-ghost use Rattle.nodejs_semver.specs.Words.{MAX_SAFE_INTEGER, OnErr, spans_of, TakesMemory, true};
+ghost use Rattle.std.specs.Prelude.{◌+◌, ◌≡◌, ◌≤◌, IfOk, IsOk, OnErr, true};
+ghost use Rattle.nodejs_semver.specs.Words.{any_version, AreTaking, if_any, is_range_span, IsRange};
+ghost use Rattle.nodejs_semver.specs.Words.{list_all, MAX_SAFE_INTEGER, spans_of, TakesMemory};
 
 mod algebra;
 mod best;

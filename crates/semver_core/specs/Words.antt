@@ -7,10 +7,9 @@ pub use Rattle.std.specs.Iterator.{item_count, YieldsFirstBy}
 pub use Rattle.std.specs.List.{fold, list_all, prefix_len}
 pub use Rattle.std.specs.Option.{option_copied}
 pub use Rattle.std.specs.Ordering.{is_eq, is_le, is_lt}
-pub use Rattle.std.specs.Prelude.{◌≡◌, ◌↔◌, ◌<◌, ◌∷◌, [], ◌≤◌, ℕ, ◌&&◌, ◌||◌, ◌≢◌, ⊤, if◌then◌else◌, ◌++◌, ◌==◌, ◌+◌}
-pub use Rattle.std.specs.Prelude.{◌-◌, ◌^◌, ◌*◌, Bool, codes, drop, false, IfErr, IfNone, IfOk, IfSome, is_some}
-pub use Rattle.std.specs.Prelude.{IsCharBoundary, IsNone, IsOk, IsOkAnd, IsTrue, IsUtf8, length, List, not, OnErr, OnOk}
-pub use Rattle.std.specs.Prelude.{Option, refl, Some, string_bytes, take, true, unwrap_or}
+pub use Rattle.std.specs.Prelude.{[], ℕ, ⊤, Bool, codes, false, IfErr, IfNone, IfOk, IfSome, is_some, IsCharBoundary}
+pub use Rattle.std.specs.Prelude.{IsOk, IsOkAnd, IsTrue, IsUtf8, length, List, not, OnErr, OnOk, Option, refl, Some}
+pub use Rattle.std.specs.Prelude.{string_bytes, take, true, unwrap_or}
 pub use Rattle.std.specs.Str.Lossy.{utf8_valid_len}
 pub use Rattle.std.specs.Str.Parse.{digits_value}
 pub use Rattle.std.specs.declared.alloc.AllocError.{AllocError}

@@ -1,8 +1,8 @@
 // Versions that borrow their text.
 
-ghost use Rattle.semver_core.specs.Words.{◌≡◌, ◌↔◌, ◌<◌, ◌∷◌, [], false, HasIdentifiers, IfOk};
-ghost use Rattle.semver_core.specs.Words.{is_listed, is_release, IsOk, IsTrue, IsVersion, length};
-ghost use Rattle.semver_core.specs.Words.{listed, Numeric, OnErr, true};
+ghost use Rattle.std.specs.Prelude.{◌≡◌, ◌↔◌, ◌<◌, ◌∷◌, []};
+ghost use Rattle.semver_core.specs.Words.{false, HasIdentifiers, IfOk, is_listed, is_release, IsOk};
+ghost use Rattle.semver_core.specs.Words.{IsTrue, IsVersion, length, listed, Numeric, OnErr, true};
 
 mod dotted;
 pub mod identifier;

@@ -1,7 +1,7 @@
 // The kind of difference between two versions.
 
-ghost use Rattle.semver_core.specs.Words.{◌≡◌, ◌↔◌, Equal, IsNone, kind_between, kind_up};
-ghost use Rattle.semver_core.specs.Words.{kind_word, precedence, Some};
+ghost use Rattle.std.specs.Prelude.{◌≡◌, ◌↔◌, IsNone, Some};
+ghost use Rattle.semver_core.specs.Words.{Equal, kind_between, kind_up, kind_word, precedence};
 
 use crate::{Version, VersionRef, Versioned};
 use std::cmp::Ordering;

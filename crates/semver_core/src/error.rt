@@ -1,6 +1,7 @@
 // The errors of the crate.
 
-ghost use Rattle.semver_core.specs.Words.{◌≡◌, AllocError, Memory, Refused};
+ghost use Rattle.std.specs.Prelude.{◌≡◌};
+ghost use Rattle.semver_core.specs.Words.{AllocError, Memory, Refused};
 
 use std::alloc::AllocError;
 use thiserror::Error;

@@ -1,10 +1,11 @@
 // Identifiers: what they are, their order, equality and hash.
 
-ghost use Rattle.semver_core.specs.Words.{◌≡◌, ◌≢◌, ◌<◌, ℕ, eq_by_cmp_equiv, id_alike, id_cmp};
-ghost use Rattle.semver_core.specs.Words.{id_total, id_view, id_writes, ids_view, IfOk, is_eq};
-ghost use Rattle.semver_core.specs.Words.{is_identifier, is_identifier_char, is_listed, length};
-ghost use Rattle.semver_core.specs.Words.{list_all, Numeric, on_equiv, on_per, on_po, on_total};
-ghost use Rattle.semver_core.specs.Words.{OnErr, partial_equiv_from_equiv, po, refl, Some};
+ghost use Rattle.std.specs.Prelude.{◌≡◌, ◌≢◌, ◌<◌};
+ghost use Rattle.semver_core.specs.Words.{ℕ, eq_by_cmp_equiv, id_alike, id_cmp, id_total, id_view};
+ghost use Rattle.semver_core.specs.Words.{id_writes, ids_view, IfOk, is_eq, is_identifier};
+ghost use Rattle.semver_core.specs.Words.{is_identifier_char, is_listed, length, list_all, Numeric};
+ghost use Rattle.semver_core.specs.Words.{on_equiv, on_per, on_po, on_total, OnErr};
+ghost use Rattle.semver_core.specs.Words.{partial_equiv_from_equiv, po, refl, Some};
 
 use crate::scan;
 use std::alloc::{AllocError, Global};

@@ -1,8 +1,9 @@
 // Increments: the next version by a word, as release tools ask for it.
 
-ghost use Rattle.semver_core.specs.Words.{◌≡◌, ◌≢◌, if◌then◌else◌, False, fault_of, HasIdentifiers};
-ghost use Rattle.semver_core.specs.Words.{IfOk, MayAllocate, MemoryOnlyIf, OnErr, option_copied};
-ghost use Rattle.semver_core.specs.Words.{parts_ref_value, RefusedWith, Returns, Value};
+ghost use Rattle.std.specs.Prelude.{◌≡◌, ◌≢◌, if◌then◌else◌};
+ghost use Rattle.semver_core.specs.Words.{False, fault_of, HasIdentifiers, IfOk, MayAllocate};
+ghost use Rattle.semver_core.specs.Words.{MemoryOnlyIf, OnErr, option_copied, parts_ref_value};
+ghost use Rattle.semver_core.specs.Words.{RefusedWith, Returns, Value};
 ghost use Rattle.semver_core.specs.Increments.Table as spec;
 
 use crate::increment::levels::by_word;

@@ -1,7 +1,8 @@
 // How identifiers and versions print.
 
-ghost use Rattle.semver_core.specs.Words.{◌++◌, ◌∷◌, [], decimal, DisplaysStyledOnOk, id_text};
-ghost use Rattle.semver_core.specs.Words.{id_view, marked_list, Some, version_text};
+ghost use Rattle.std.specs.Prelude.{◌++◌, ◌∷◌};
+ghost use Rattle.semver_core.specs.Words.{[], decimal, DisplaysStyledOnOk, id_text, id_view};
+ghost use Rattle.semver_core.specs.Words.{marked_list, Some, version_text};
 
 use crate::{Identifier, IdentifierRefs, Version, VersionRef, Versioned};
 use itoa::Buffer;

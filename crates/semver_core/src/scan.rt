@@ -4,10 +4,10 @@
 //! A call on a `&str` takes a place in it, a byte index. A call on a `&[u8]` reads at the front of
 //! the bytes, save `number_in`, which takes a place.
 
-ghost use Rattle.semver_core.specs.Words.{◌≡◌, ◌≤◌, ◌+◌, ◌-◌, ◌*◌, ◌<◌, ℕ, [], begins, digits_end};
-ghost use Rattle.semver_core.specs.Words.{digits_from, drop, drop_end_spaces, goes_on, grown, Id};
-ghost use Rattle.semver_core.specs.Words.{id_view, identifier_of, ids_view, IfNone, IfOk, IfSome};
-ghost use Rattle.semver_core.specs.Words.{is_identifier_char, is_listed, is_whitespace};
+ghost use Rattle.std.specs.Prelude.{◌≡◌, ◌≤◌, ◌+◌, ◌-◌, ◌*◌, ◌<◌, ℕ, [], drop, IfNone, IfOk};
+ghost use Rattle.semver_core.specs.Words.{begins, digits_end, digits_from, drop_end_spaces};
+ghost use Rattle.semver_core.specs.Words.{goes_on, grown, Id, id_view, identifier_of, ids_view};
+ghost use Rattle.semver_core.specs.Words.{IfSome, is_identifier_char, is_listed, is_whitespace};
 ghost use Rattle.semver_core.specs.Words.{IsAfterBlank, IsCharBoundary, IsLongestIdentifiers};
 ghost use Rattle.semver_core.specs.Words.{IsPieceAt, IsTrim, IsUtf8, IsWholeNumber, length, List};
 ghost use Rattle.semver_core.specs.Words.{list_at, listed, NoPieceAt, number_at, OnErr, OnOk};

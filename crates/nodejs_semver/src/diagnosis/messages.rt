@@ -1,7 +1,8 @@
 // How flaws and ignored words print.
 
-ghost use Rattle.nodejs_semver.specs.Words.{◌++◌, ◌≡◌, decimal, DisplaysStyledOnOk, flaw_text};
-ghost use Rattle.nodejs_semver.specs.Words.{kind_text, Some, word_text};
+ghost use Rattle.std.specs.Prelude.{◌++◌, ◌≡◌};
+ghost use Rattle.nodejs_semver.specs.Words.{decimal, DisplaysStyledOnOk, flaw_text, kind_text};
+ghost use Rattle.nodejs_semver.specs.Words.{Some, word_text};
 
 use crate::diagnosis::{Expected, IgnoredKind, IgnoredWord, VersionFlaw};
 use itoa::Buffer;

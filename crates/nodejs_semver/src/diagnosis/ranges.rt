@@ -1,10 +1,10 @@
 // The words of a range text that mean nothing.
 
-ghost use Rattle.nodejs_semver.specs.Words.{[], ◌++◌, ◌+◌, ◌-◌, ◌<◌, ◌↔◌, ◌≡◌, ◌≤◌, AreIgnored};
-ghost use Rattle.nodejs_semver.specs.Words.{drop_spaces, if_ignored, ignored_behind};
-ghost use Rattle.nodejs_semver.specs.Words.{IsWhollyBounded, item_count, left_list, left_size};
-ghost use Rattle.nodejs_semver.specs.Words.{length, MAX_SAFE_INTEGER, option_list, Some, space_len};
-ghost use Rattle.nodejs_semver.specs.Words.{trim, YieldsFirst};
+ghost use Rattle.std.specs.Prelude.{◌++◌, ◌+◌, ◌-◌, ◌<◌, ◌↔◌, ◌≡◌, ◌≤◌};
+ghost use Rattle.nodejs_semver.specs.Words.{[], AreIgnored, drop_spaces, if_ignored};
+ghost use Rattle.nodejs_semver.specs.Words.{ignored_behind, IsWhollyBounded, item_count, left_list};
+ghost use Rattle.nodejs_semver.specs.Words.{left_size, length, MAX_SAFE_INTEGER, option_list, Some};
+ghost use Rattle.nodejs_semver.specs.Words.{space_len, trim, YieldsFirst};
 
 use crate::diagnosis::unread::Unread;
 use crate::readers::{cut_part, ignored_front, skip_spaces};

@@ -1,10 +1,10 @@
 // What is wrong with a version text.
 
-ghost use Rattle.nodejs_semver.specs.Words.{◌+◌, ◌↔◌, ◌≡◌, ◌≤◌, begins, begins_dot, drop, false};
-ghost use Rattle.nodejs_semver.specs.Words.{IfErr, IfOk, IfSome, is_ascii_digit, IsAfterBlank};
-ghost use Rattle.nodejs_semver.specs.Words.{IsExact, IsFlaw, IsNumberAt, length, mark_len};
-ghost use Rattle.nodejs_semver.specs.Words.{MatchOption, MAX_SAFE_INTEGER, None, Some, Stuck};
-ghost use Rattle.nodejs_semver.specs.Words.{triple_at, true, ℕ};
+ghost use Rattle.std.specs.Prelude.{◌+◌, ◌↔◌, ◌≡◌, ◌≤◌, drop, false, IfErr};
+ghost use Rattle.nodejs_semver.specs.Words.{begins, begins_dot, IfOk, IfSome, is_ascii_digit};
+ghost use Rattle.nodejs_semver.specs.Words.{IsAfterBlank, IsExact, IsFlaw, IsNumberAt, length};
+ghost use Rattle.nodejs_semver.specs.Words.{mark_len, MatchOption, MAX_SAFE_INTEGER, None, Some};
+ghost use Rattle.nodejs_semver.specs.Words.{Stuck, triple_at, true, ℕ};
 
 use crate::readers::{build_front, pre_release_front};
 use semver_core::scan::{number_in, skip_whitespace};

@@ -1,7 +1,7 @@
 // Laws of the order that counts builds.
 
-ghost use Rattle.nodejs_semver.specs.Words.{◌||◌, ◌↔◌, ◌≡◌, build_order, Equal, is_le, true};
-ghost use Rattle.nodejs_semver.specs.Words.{VersionValue};
+ghost use Rattle.std.specs.Prelude.{◌||◌, ◌↔◌, ◌≡◌};
+ghost use Rattle.nodejs_semver.specs.Words.{build_order, Equal, is_le, true, VersionValue};
 
 /// The order of `npm::cmp_build` is total, and two versions tie in it exactly where they are the
 /// same value, builds included.

@@ -1,8 +1,8 @@
 // What is said of what `diagnosis` returns.
 
-ghost use Rattle.nodejs_semver.specs.Words.{[], ◌↔◌, ◌≡◌, AreAlike, IsExact, IsFlaw, IsUtf8};
-ghost use Rattle.nodejs_semver.specs.Words.{IsWhollyIgnored, List, Means, Span, VersionFlaw};
-ghost use Rattle.nodejs_semver.specs.Words.{VersionValue, ℕ};
+ghost use Rattle.std.specs.Prelude.{◌↔◌, ◌≡◌};
+ghost use Rattle.nodejs_semver.specs.Words.{[], AreAlike, IsExact, IsFlaw, IsUtf8, IsWhollyIgnored};
+ghost use Rattle.nodejs_semver.specs.Words.{List, Means, Span, VersionFlaw, VersionValue, ℕ};
 
 /// A version text has one flaw at most (`one`), and none where it is one version as a whole
 /// (`exact`). So `version_flaw` returns the flaw of the text, and nothing else would be right.

@@ -1,9 +1,8 @@
 // The headline of this crate. It rests on the contracts of the public calls alone.
 
-ghost use Rattle.nodejs_semver.specs.Words.{[], ◌&&◌, ◌↔◌, ◌≡◌, ◌⊎◌, accepts, false, IfOk};
-ghost use Rattle.nodejs_semver.specs.Words.{IsLeastOf, IsTrue, List, Means, not, OnOk};
-ghost use Rattle.nodejs_semver.specs.Words.{RefusedOnlyIf, Span, true, unwrap_or, VersionValue};
-ghost use Rattle.nodejs_semver.specs.Words.{Writes};
+ghost use Rattle.std.specs.Prelude.{◌&&◌, ◌↔◌, ◌≡◌, ◌⊎◌, [], false, IfOk, IsTrue, List};
+ghost use Rattle.nodejs_semver.specs.Words.{accepts, IsLeastOf, Means, not, OnOk, RefusedOnlyIf};
+ghost use Rattle.nodejs_semver.specs.Words.{Span, true, unwrap_or, VersionValue, Writes};
 
 use crate::{Failure, MAX_SAFE_INTEGER, Range, RangeOf, SemverError, Version};
 use semver_core::{VersionPoint, Versioned};

@@ -1,8 +1,8 @@
 // Whose build the smallest version of a range has.
 
-ghost use Rattle.nodejs_semver.specs.Words.{[], ◌++◌, ◌∷◌, ◌≡◌, accepts, begins_with, false};
-ghost use Rattle.nodejs_semver.specs.Words.{least_build, List, Some, Span, true, version_eq};
-ghost use Rattle.nodejs_semver.specs.Words.{VersionValue};
+ghost use Rattle.std.specs.Prelude.{◌++◌, ◌∷◌, ◌≡◌};
+ghost use Rattle.nodejs_semver.specs.Words.{[], accepts, begins_with, false, least_build, List};
+ghost use Rattle.nodejs_semver.specs.Words.{Some, Span, true, version_eq, VersionValue};
 
 /// Whose build `Range::min_version` returns: of the intervals the first one counts that accepts the
 /// version. If its lower bound is the one from which the version comes, the build is that of this

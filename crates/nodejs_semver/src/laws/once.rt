@@ -1,9 +1,9 @@
 // A text has one reading.
 
-ghost use Rattle.nodejs_semver.specs.Words.{◌==◌, ◌||◌, ◌≡◌, Bool, Comparison, HasAlternativesIn};
-ghost use Rattle.nodejs_semver.specs.Words.{is_identifier_char, IsUtf8, IsVersionText, List};
-ghost use Rattle.nodejs_semver.specs.Words.{list_all, MAX_SAFE_INTEGER, no_build, true};
-ghost use Rattle.nodejs_semver.specs.Words.{version_text, VersionValue, ℕ};
+ghost use Rattle.std.specs.Prelude.{◌==◌, ◌||◌, ◌≡◌, Bool, IsUtf8};
+ghost use Rattle.nodejs_semver.specs.Words.{Comparison, HasAlternativesIn, is_identifier_char};
+ghost use Rattle.nodejs_semver.specs.Words.{IsVersionText, List, list_all, MAX_SAFE_INTEGER};
+ghost use Rattle.nodejs_semver.specs.Words.{no_build, true, version_text, VersionValue, ℕ};
 
 /// In node-semver's strict reading a text is one version at most, and what this version prints
 /// without its build is a text that is the same version without its build, of letters, digits,

@@ -1,7 +1,8 @@
 // What `Range::outside` says of the cuts of the intervals.
 
-ghost use Rattle.nodejs_semver.specs.Words.{◌≡◌, Higher, is_past, list_all, Lower, lower_cut, not};
-ghost use Rattle.nodejs_semver.specs.Words.{Ok, precedence, upper_cut};
+ghost use Rattle.std.specs.Prelude.{◌≡◌};
+ghost use Rattle.nodejs_semver.specs.Words.{Higher, is_past, list_all, Lower, lower_cut, not, Ok};
+ghost use Rattle.nodejs_semver.specs.Words.{precedence, upper_cut};
 
 use crate::{OutsideDirection, Range, RangeError, Version};
 

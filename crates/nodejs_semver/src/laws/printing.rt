@@ -1,9 +1,9 @@
 // Printed ranges come back.
 
-ghost use Rattle.nodejs_semver.specs.Words.{◌<◌, ◌^◌, ◌≡◌, bounds_back, IfOk, is_printable};
-ghost use Rattle.nodejs_semver.specs.Words.{IsRange, List, list_all, map, Means, range_eq};
-ghost use Rattle.nodejs_semver.specs.Words.{range_text, RefusedOnlyIf, Span, string_bytes, true};
-ghost use Rattle.nodejs_semver.specs.Words.{VersionValue, ℕ};
+ghost use Rattle.std.specs.Prelude.{◌<◌, ◌^◌, ◌≡◌, IfOk};
+ghost use Rattle.nodejs_semver.specs.Words.{bounds_back, is_printable, IsRange, List, list_all};
+ghost use Rattle.nodejs_semver.specs.Words.{map, Means, range_eq, range_text, RefusedOnlyIf, Span};
+ghost use Rattle.nodejs_semver.specs.Words.{string_bytes, true, VersionValue, ℕ};
 
 use crate::{Failure, MAX_SAFE_INTEGER, Range, SemverError};
 use std::alloc::{AllocError, Global};

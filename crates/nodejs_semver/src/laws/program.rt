@@ -1,9 +1,9 @@
 // The headline over the calls that the program makes, which borrow the texts.
 
-ghost use Rattle.nodejs_semver.specs.Words.{[], ◌&&◌, ◌↔◌, ◌∷◌, ◌≡◌, ◌⊎◌, accepts, false, IfOk};
-ghost use Rattle.nodejs_semver.specs.Words.{IsLeastOf, IsOk, IsTrue, List, MAX_SAFE_INTEGER, Means};
-ghost use Rattle.nodejs_semver.specs.Words.{not, NoValue, OnOk, Parses, RefusedOnlyIf, Span, true};
-ghost use Rattle.nodejs_semver.specs.Words.{VersionValue, Writes};
+ghost use Rattle.std.specs.Prelude.{◌&&◌, ◌↔◌, ◌∷◌, ◌≡◌, ◌⊎◌, []};
+ghost use Rattle.nodejs_semver.specs.Words.{accepts, false, IfOk, IsLeastOf, IsOk, IsTrue, List};
+ghost use Rattle.nodejs_semver.specs.Words.{MAX_SAFE_INTEGER, Means, not, NoValue, OnOk, Parses};
+ghost use Rattle.nodejs_semver.specs.Words.{RefusedOnlyIf, Span, true, VersionValue, Writes};
 
 use crate::laws::headline::{FindingsAt, is_in};
 use crate::{Failure, MAX_SAFE_INTEGER, RangeRef, SemverError, VersionRef};

@@ -1,14 +1,13 @@
 // What is said of range texts.
 
-ghost use Rattle.nodejs_semver.specs.Words.{[], ◌<◌, ◌↔◌, ◌≡◌, AreRuns, AreWords, common_range};
-ghost use Rattle.nodejs_semver.specs.Words.{cut_bars, denotes, false, IfNone, IfOk, IfSome};
+ghost use Rattle.std.specs.Prelude.{◌<◌, ◌↔◌, ◌≡◌, [], false, IfNone, IfOk, IfSome, IsUtf8};
+ghost use Rattle.nodejs_semver.specs.Words.{AreRuns, AreWords, common_range, cut_bars, denotes};
 ghost use Rattle.nodejs_semver.specs.Words.{is_empty, IsCommonRange, IsCutAtBars, IsLongestPartial};
-ghost use Rattle.nodejs_semver.specs.Words.{IsNumber, IsPartial, IsTrim, IsUtf8, IsWordAt, length};
-ghost use Rattle.nodejs_semver.specs.Words.{List, list_all, list_holds, MAX_SAFE_INTEGER, Means};
-ghost use Rattle.nodejs_semver.specs.Words.{NoValue, number_of, part_bounds, Partial};
-ghost use Rattle.nodejs_semver.specs.Words.{partial_front, parts, precedence, Run, runs_of, Some};
-ghost use Rattle.nodejs_semver.specs.Words.{Span, true, VersionValue, Word, word_at, words, Writes};
-ghost use Rattle.nodejs_semver.specs.Words.{writes, ℕ};
+ghost use Rattle.nodejs_semver.specs.Words.{IsNumber, IsPartial, IsTrim, IsWordAt, length, List};
+ghost use Rattle.nodejs_semver.specs.Words.{list_all, list_holds, MAX_SAFE_INTEGER, Means, NoValue};
+ghost use Rattle.nodejs_semver.specs.Words.{number_of, part_bounds, Partial, partial_front, parts};
+ghost use Rattle.nodejs_semver.specs.Words.{precedence, Run, runs_of, Some, Span, true};
+ghost use Rattle.nodejs_semver.specs.Words.{VersionValue, Word, word_at, words, Writes, writes, ℕ};
 
 use crate::Range;
 use crate::readers::{range_fast, range_loose};

@@ -1,8 +1,8 @@
 // The set algebra of ranges.
 
-ghost use Rattle.nodejs_semver.specs.Words.{[], ◌&&◌, ◌+◌, ◌<◌, ◌||◌, ◌≡◌, ◌⊎◌, accepts};
-ghost use Rattle.nodejs_semver.specs.Words.{covers_one, difference, false, if_any, IfOk};
-ghost use Rattle.nodejs_semver.specs.Words.{intersection, is_range_span, is_release, is_some};
+ghost use Rattle.std.specs.Prelude.{◌&&◌, ◌+◌, ◌<◌, ◌||◌, ◌≡◌, ◌⊎◌};
+ghost use Rattle.nodejs_semver.specs.Words.{[], accepts, covers_one, difference, false, if_any};
+ghost use Rattle.nodejs_semver.specs.Words.{IfOk, intersection, is_range_span, is_release, is_some};
 ghost use Rattle.nodejs_semver.specs.Words.{IsTrue, length, list_all, list_holds, MAX_SAFE_INTEGER};
 ghost use Rattle.nodejs_semver.specs.Words.{meet, not, OnErr, option_to_list, precedence, spans_of};
 ghost use Rattle.nodejs_semver.specs.Words.{true, unwrap_or, VersionValue};

@@ -1,10 +1,9 @@
 // The best of the versions of a slice, or of versions that come one after another.
 
-ghost use Rattle.nodejs_semver.specs.Words.{[], ◌++◌, ◌∷◌, ◌≡◌, accepts, All, Contains, false};
-ghost use Rattle.nodejs_semver.specs.Words.{IfNone, IfSome, if◌then◌else◌, is_le, is_lt, IsMax};
-ghost use Rattle.nodejs_semver.specs.Words.{IsMin, List, map, option_copied, option_map};
-ghost use Rattle.nodejs_semver.specs.Words.{precedence, replaces, Some, spans_of, true};
-ghost use Rattle.nodejs_semver.specs.Words.{VersionValue};
+ghost use Rattle.std.specs.Prelude.{◌++◌, ◌∷◌, ◌≡◌, if◌then◌else◌, [], All, Contains, false};
+ghost use Rattle.nodejs_semver.specs.Words.{accepts, IfNone, IfSome, is_le, is_lt, IsMax, IsMin};
+ghost use Rattle.nodejs_semver.specs.Words.{List, map, option_copied, option_map, precedence};
+ghost use Rattle.nodejs_semver.specs.Words.{replaces, Some, spans_of, true, VersionValue};
 
 use crate::range::gate::accepts;
 use crate::{Range, RangeRef};

@@ -1,7 +1,8 @@
 // The newest release of a list, and the greatest version that each of several ranges accepts.
 
-ghost use Rattle.nodejs_semver.specs.Words.{◌≡◌, accepts, false, is_le, is_release, IsMax};
-ghost use Rattle.nodejs_semver.specs.Words.{list_all, map, option_map, precedence, replaces};
+ghost use Rattle.std.specs.Prelude.{◌≡◌};
+ghost use Rattle.nodejs_semver.specs.Words.{accepts, false, is_le, is_release, IsMax, list_all};
+ghost use Rattle.nodejs_semver.specs.Words.{map, option_map, precedence, replaces};
 
 use crate::RangeOf;
 use semver_core::{VersionPoint, Versioned};

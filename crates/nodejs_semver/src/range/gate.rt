@@ -1,9 +1,9 @@
 // Which versions a range accepts.
 
-ghost use Rattle.nodejs_semver.specs.Words.{◌&&◌, ◌||◌, ◌≡◌, accepts, bound_of, false, holds};
-ghost use Rattle.nodejs_semver.specs.Words.{is_past, IsRange, IsTrue, lets_in, list_holds};
-ghost use Rattle.nodejs_semver.specs.Words.{lower_cut, MAX_SAFE_INTEGER, names, precedence};
-ghost use Rattle.nodejs_semver.specs.Words.{span_of, spans_of, upper_cut};
+ghost use Rattle.std.specs.Prelude.{◌&&◌, ◌||◌, ◌≡◌, false};
+ghost use Rattle.nodejs_semver.specs.Words.{accepts, bound_of, holds, is_past, IsRange, IsTrue};
+ghost use Rattle.nodejs_semver.specs.Words.{lets_in, list_holds, lower_cut, MAX_SAFE_INTEGER};
+ghost use Rattle.nodejs_semver.specs.Words.{names, precedence, span_of, spans_of, upper_cut};
 
 use crate::RangeOf;
 use semver_core::cuts::{Bound, Interval};

@@ -1,10 +1,10 @@
 // Lists of intervals: what two of them have in common, and what one leaves of another.
 
-ghost use Rattle.nodejs_semver.specs.Words.{[], ◌++◌, ◌<◌, ◌∷◌, ◌≡◌, ◌≢◌, ◌⊎◌, clip, covers};
-ghost use Rattle.nodejs_semver.specs.Words.{flat_map, if_any, IfOk, is_interval, is_some, IsAlong};
-ghost use Rattle.nodejs_semver.specs.Words.{IsTrue, length, list_all, list_any, meet, meets_of};
-ghost use Rattle.nodejs_semver.specs.Words.{minus, OnErr, OnOk, option_to_list, remainder, Start};
-ghost use Rattle.nodejs_semver.specs.Words.{true, Unbounded};
+ghost use Rattle.std.specs.Prelude.{◌++◌, ◌<◌, ◌∷◌, ◌≡◌, ◌≢◌, ◌⊎◌};
+ghost use Rattle.nodejs_semver.specs.Words.{[], clip, covers, flat_map, if_any, IfOk, is_interval};
+ghost use Rattle.nodejs_semver.specs.Words.{is_some, IsAlong, IsTrue, length, list_all, list_any};
+ghost use Rattle.nodejs_semver.specs.Words.{meet, meets_of, minus, OnErr, OnOk, option_to_list};
+ghost use Rattle.nodejs_semver.specs.Words.{remainder, Start, true, Unbounded};
 
 use crate::Allocated;
 use crate::range::Intervals;

@@ -11,11 +11,11 @@
 
 ghost use Rattle.nodejs_semver.specs.Internal.Candidates as spec;
 ghost use Rattle.nodejs_semver.specs.Ranges.Least as stated;
-ghost use Rattle.nodejs_semver.specs.Words.{[], ◌-◌, ◌<◌, ◌^◌, ◌≡◌, ◌⊎◌, accepts, After, All, Any};
-ghost use Rattle.nodejs_semver.specs.Words.{Before, Beside, bound_of, false, Far, flat_map, fold};
-ghost use Rattle.nodejs_semver.specs.Words.{IfNone, IfOk, IfSome, is_release, IsOk, length};
-ghost use Rattle.nodejs_semver.specs.Words.{list_all, Near, OnErr, OnOk, Some, span_of, spans_of};
-ghost use Rattle.nodejs_semver.specs.Words.{true, value_of, VersionValue};
+ghost use Rattle.std.specs.Prelude.{◌-◌, ◌<◌, ◌^◌, ◌≡◌, ◌⊎◌};
+ghost use Rattle.nodejs_semver.specs.Words.{[], accepts, After, All, Any, Before, Beside, bound_of};
+ghost use Rattle.nodejs_semver.specs.Words.{false, Far, flat_map, fold, IfNone, IfOk, IfSome};
+ghost use Rattle.nodejs_semver.specs.Words.{is_release, IsOk, length, list_all, Near, OnErr, OnOk};
+ghost use Rattle.nodejs_semver.specs.Words.{Some, span_of, spans_of, true, value_of, VersionValue};
 
 use crate::range::choice::all_accept;
 use crate::range::gate::accepts;

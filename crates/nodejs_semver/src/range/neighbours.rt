@@ -2,10 +2,10 @@
 
 ghost use Rattle.nodejs_semver.specs.Internal.Candidates as spec;
 ghost use Rattle.nodejs_semver.specs.Ranges.Least as stated;
-ghost use Rattle.nodejs_semver.specs.Words.{[], ◌&&◌, ◌-◌, ◌<◌, ◌^◌, ◌≡◌, After, All, bound_of};
-ghost use Rattle.nodejs_semver.specs.Words.{build_by, find, holds, id_view, ids_view, IfOk, IfSome};
-ghost use Rattle.nodejs_semver.specs.Words.{lent_id_view, lets_in, list_any, option_map};
-ghost use Rattle.nodejs_semver.specs.Words.{precedence, Some, span_of, spans_of};
+ghost use Rattle.std.specs.Prelude.{◌&&◌, ◌-◌, ◌<◌, ◌^◌, ◌≡◌, [], All, find};
+ghost use Rattle.nodejs_semver.specs.Words.{After, bound_of, build_by, holds, id_view, ids_view};
+ghost use Rattle.nodejs_semver.specs.Words.{IfOk, IfSome, lent_id_view, lets_in, list_any};
+ghost use Rattle.nodejs_semver.specs.Words.{option_map, precedence, Some, span_of, spans_of};
 
 use crate::Allocated;
 use crate::range::gate::accepts_one;

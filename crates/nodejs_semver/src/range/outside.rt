@@ -2,7 +2,8 @@
 
 ghost use Rattle.nodejs_semver.specs.Ranges.Outside as spec;
 ghost use Rattle.nodejs_semver.specs.declared.range.outside.OutsideDirection.TheVariants as side;
-ghost use Rattle.nodejs_semver.specs.Words.{◌≡◌, bound_of, lies_above, lies_below, Ok, span_of};
+ghost use Rattle.std.specs.Prelude.{◌≡◌};
+ghost use Rattle.nodejs_semver.specs.Words.{bound_of, lies_above, lies_below, Ok, span_of};
 
 use crate::RangeOf;
 use crate::range::gate::{accepts, is_past_lower, is_past_upper};

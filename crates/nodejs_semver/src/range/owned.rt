@@ -1,8 +1,7 @@
 // Borrowed ranges with versions of their own.
 
-ghost use Rattle.nodejs_semver.specs.Words.{◌<◌, ◌≡◌, ◌≢◌, ◌⊎◌, has_bound, IfOk, IsSomeAnd, length};
-ghost use Rattle.nodejs_semver.specs.Words.{list_any, OnErr, passes, takes_memory, TakesMemory};
-ghost use Rattle.nodejs_semver.specs.Words.{true};
+ghost use Rattle.std.specs.Prelude.{◌<◌, ◌≡◌, ◌≢◌, ◌⊎◌, IfOk, IsSomeAnd, length, OnErr, true};
+ghost use Rattle.nodejs_semver.specs.Words.{has_bound, list_any, passes, takes_memory, TakesMemory};
 
 use crate::range::Intervals;
 use crate::{Allocated, Range, RangeOf, RangeRef};

@@ -1,8 +1,8 @@
 // Ranges are read from their texts.
 
-ghost use Rattle.nodejs_semver.specs.Words.{[], ◌<◌, ◌↔◌, ◌≡◌, ◌⊎◌, accepts, denotes, IfOk};
-ghost use Rattle.nodejs_semver.specs.Words.{IsRange, IsTrue, length, List, list_any, Means};
-ghost use Rattle.nodejs_semver.specs.Words.{MemoryOnlyIf, OnErr, OnOk, RefusedOnlyIf, Span};
+ghost use Rattle.std.specs.Prelude.{◌<◌, ◌↔◌, ◌≡◌, ◌⊎◌, [], IfOk, IsTrue};
+ghost use Rattle.nodejs_semver.specs.Words.{accepts, denotes, IsRange, length, List, list_any};
+ghost use Rattle.nodejs_semver.specs.Words.{Means, MemoryOnlyIf, OnErr, OnOk, RefusedOnlyIf, Span};
 ghost use Rattle.nodejs_semver.specs.Words.{TakesMemory, true, VersionValue, Writes};
 
 use crate::readers::{Filled, read_common};

@@ -1,8 +1,9 @@
 // How ranges print.
 
-ghost use Rattle.nodejs_semver.specs.Words.{◌++◌, ◌≡◌, bound_of, DisplaysStyledOnOk, is_eq};
-ghost use Rattle.nodejs_semver.specs.Words.{lower_text, range_text, Some, span_of, span_text};
-ghost use Rattle.nodejs_semver.specs.Words.{spans_of, upper_text, version_text};
+ghost use Rattle.std.specs.Prelude.{◌++◌, ◌≡◌};
+ghost use Rattle.nodejs_semver.specs.Words.{bound_of, DisplaysStyledOnOk, is_eq, lower_text};
+ghost use Rattle.nodejs_semver.specs.Words.{range_text, Some, span_of, span_text, spans_of};
+ghost use Rattle.nodejs_semver.specs.Words.{upper_text, version_text};
 
 use crate::RangeOf;
 use semver_core::VersionPoint;

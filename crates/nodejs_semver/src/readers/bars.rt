@@ -1,8 +1,8 @@
 // The parts of a range text, one after another.
 
 ghost use Rattle.nodejs_semver.specs.Internal.PartFronts as Spec;
-ghost use Rattle.nodejs_semver.specs.Words.{◌<◌, ◌∷◌, ◌≡◌, IfSome, length, part_view, parts};
-ghost use Rattle.nodejs_semver.specs.Words.{rest_view, space_len};
+ghost use Rattle.std.specs.Prelude.{◌<◌, ◌∷◌, ◌≡◌};
+ghost use Rattle.nodejs_semver.specs.Words.{IfSome, length, part_view, parts, rest_view, space_len};
 
 use semver_core::scan;
 

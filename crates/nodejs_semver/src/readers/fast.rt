@@ -1,9 +1,9 @@
 // The reader of common range texts, in one pass from the left.
 
 ghost use Rattle.nodejs_semver.specs.Internal.CommonFronts as Spec;
-ghost use Rattle.nodejs_semver.specs.Words.{[], ◌≡◌, ◌≤◌, ◌⊎◌, AreCommonParts, both_view};
-ghost use Rattle.nodejs_semver.specs.Words.{bounds_front_view, bounds_view, has_bars, IfNone, IfOk};
-ghost use Rattle.nodejs_semver.specs.Words.{IfSome, if◌then◌else◌, is_interval, IsCommonRange};
+ghost use Rattle.std.specs.Prelude.{◌≡◌, ◌≤◌, ◌⊎◌, if◌then◌else◌, [], IfNone, IfOk, IfSome};
+ghost use Rattle.nodejs_semver.specs.Words.{AreCommonParts, both_view, bounds_front_view};
+ghost use Rattle.nodejs_semver.specs.Words.{bounds_view, has_bars, is_interval, IsCommonRange};
 ghost use Rattle.nodejs_semver.specs.Words.{IsFalse, IsTrue, length, List, MAX_SAFE_INTEGER, Means};
 ghost use Rattle.nodejs_semver.specs.Words.{None, NoValue, OnErr, partial_front_view, partial_view};
 ghost use Rattle.nodejs_semver.specs.Words.{passed_view, precedence, rest_view, Some, Span};

@@ -1,9 +1,9 @@
 // Lists of intervals that the readers fill.
 
-ghost use Rattle.nodejs_semver.specs.Words.{[], ◌++◌, ◌<◌, ◌∷◌, ◌≡◌, ◌≤◌, ◌⊎◌, Bool, denotes};
-ghost use Rattle.nodejs_semver.specs.Words.{false, has_bound, is_empty, length, List, list_any};
-ghost use Rattle.nodejs_semver.specs.Words.{MAX_SAFE_INTEGER, OnErr, OnOk, Span, takes_memory};
-ghost use Rattle.nodejs_semver.specs.Words.{true, VersionValue, ℕ};
+ghost use Rattle.std.specs.Prelude.{◌++◌, ◌<◌, ◌∷◌, ◌≡◌, ◌≤◌, ◌⊎◌};
+ghost use Rattle.nodejs_semver.specs.Words.{[], Bool, denotes, false, has_bound, is_empty, length};
+ghost use Rattle.nodejs_semver.specs.Words.{List, list_any, MAX_SAFE_INTEGER, OnErr, OnOk, Span};
+ghost use Rattle.nodejs_semver.specs.Words.{takes_memory, true, VersionValue, ℕ};
 
 use crate::range::Intervals;
 use crate::range::owned::{owned_interval, owned_intervals};

@@ -1,13 +1,13 @@
 // The intervals of a part. Memory is taken only where a list of intervals grows.
 
-ghost use Rattle.nodejs_semver.specs.Words.{[], ◌++◌, ◌<◌, ◌∷◌, ◌≡◌, ◌≤◌, between_view, both_view};
-ghost use Rattle.nodejs_semver.specs.Words.{bounds_view, hyphen, hyphen_pushed, hyphen_pushed_view};
-ghost use Rattle.nodejs_semver.specs.Words.{IfOk, interval, is_interval, is_some, joined_from};
-ghost use Rattle.nodejs_semver.specs.Words.{length, List, MAX_SAFE_INTEGER, next_at, next_view};
-ghost use Rattle.nodejs_semver.specs.Words.{OnErr, OnOk, Option, option_to_list, part_bounds};
-ghost use Rattle.nodejs_semver.specs.Words.{part_intervals, partial_view, precedence, pushed};
-ghost use Rattle.nodejs_semver.specs.Words.{sign_view, signed_word, space_len, Span, table, true};
-ghost use Rattle.nodejs_semver.specs.Words.{upper_behind, upper_of, VersionValue, word_at};
+ghost use Rattle.std.specs.Prelude.{◌++◌, ◌<◌, ◌∷◌, ◌≡◌, ◌≤◌, [], IfOk, is_some, length, List};
+ghost use Rattle.nodejs_semver.specs.Words.{between_view, both_view, bounds_view, hyphen};
+ghost use Rattle.nodejs_semver.specs.Words.{hyphen_pushed, hyphen_pushed_view, interval};
+ghost use Rattle.nodejs_semver.specs.Words.{is_interval, joined_from, MAX_SAFE_INTEGER, next_at};
+ghost use Rattle.nodejs_semver.specs.Words.{next_view, OnErr, OnOk, Option, option_to_list};
+ghost use Rattle.nodejs_semver.specs.Words.{part_bounds, part_intervals, partial_view, precedence};
+ghost use Rattle.nodejs_semver.specs.Words.{pushed, sign_view, signed_word, space_len, Span, table};
+ghost use Rattle.nodejs_semver.specs.Words.{true, upper_behind, upper_of, VersionValue, word_at};
 ghost use Rattle.nodejs_semver.specs.Words.{word_pushed, word_pushed_view};
 
 use crate::Allocated;

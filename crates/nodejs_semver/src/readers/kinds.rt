@@ -1,6 +1,7 @@
 // Why the word at the front of a part is ignored, if it is. Nothing is allocated.
 
-ghost use Rattle.nodejs_semver.specs.Words.{◌≡◌, kind_at, kind_view, MAX_SAFE_INTEGER};
+ghost use Rattle.std.specs.Prelude.{◌≡◌};
+ghost use Rattle.nodejs_semver.specs.Words.{kind_at, kind_view, MAX_SAFE_INTEGER};
 ghost use Rattle.nodejs_semver.specs.Words.{partial_front_view, sign_view, unless_bounded};
 ghost use Rattle.nodejs_semver.specs.Words.{upper_of};
 

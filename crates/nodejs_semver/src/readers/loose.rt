@@ -1,10 +1,10 @@
 // The reader of range texts, word by word.
 
-ghost use Rattle.nodejs_semver.specs.Words.{[], ◌++◌, ◌<◌, ◌↔◌, ◌∷◌, ◌≡◌, denotes, flat_map};
-ghost use Rattle.nodejs_semver.specs.Words.{IfNone, IfOk, IfSome, is_empty, IsBlankText, IsTrue};
-ghost use Rattle.nodejs_semver.specs.Words.{later_parts, length, List, list_all, Means, OnErr};
-ghost use Rattle.nodejs_semver.specs.Words.{OnOk, part_denotes, rest_view, space_len, Span};
-ghost use Rattle.nodejs_semver.specs.Words.{TakesMemory, VersionValue};
+ghost use Rattle.std.specs.Prelude.{◌++◌, ◌<◌, ◌↔◌, ◌∷◌, ◌≡◌};
+ghost use Rattle.nodejs_semver.specs.Words.{[], denotes, flat_map, IfNone, IfOk, IfSome, is_empty};
+ghost use Rattle.nodejs_semver.specs.Words.{IsBlankText, IsTrue, later_parts, length, List};
+ghost use Rattle.nodejs_semver.specs.Words.{list_all, Means, OnErr, OnOk, part_denotes, rest_view};
+ghost use Rattle.nodejs_semver.specs.Words.{space_len, Span, TakesMemory, VersionValue};
 
 use crate::range::Intervals;
 use crate::range::owned::owned_range;

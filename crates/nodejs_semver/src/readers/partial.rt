@@ -1,9 +1,9 @@
 // A partial: a version whose components may be absent or wildcards.
 
 ghost use Rattle.nodejs_semver.specs.Internal.Fronts as Spec;
-ghost use Rattle.nodejs_semver.specs.Words.{◌≡◌, ◌≤◌, ForSome, front_view, IfSome, is_listed};
-ghost use Rattle.nodejs_semver.specs.Words.{MAX_SAFE_INTEGER, pair_view, partial_front_view};
-ghost use Rattle.nodejs_semver.specs.Words.{partial_pair_view, true};
+ghost use Rattle.std.specs.Prelude.{◌≡◌, ◌≤◌, IfSome};
+ghost use Rattle.nodejs_semver.specs.Words.{ForSome, front_view, is_listed, MAX_SAFE_INTEGER};
+ghost use Rattle.nodejs_semver.specs.Words.{pair_view, partial_front_view, partial_pair_view, true};
 
 use crate::readers::spaces::skip_spaces;
 use crate::readers::syntax::Partial;

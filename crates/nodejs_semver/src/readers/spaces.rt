@@ -1,6 +1,7 @@
 // Whitespace at the front of a text, by its bytes.
 
-ghost use Rattle.nodejs_semver.specs.Words.{◌≡◌, ◌≤◌, drop_spaces, goes_on_with, is_space_of_three};
+ghost use Rattle.std.specs.Prelude.{◌≡◌, ◌≤◌};
+ghost use Rattle.nodejs_semver.specs.Words.{drop_spaces, goes_on_with, is_space_of_three};
 ghost use Rattle.nodejs_semver.specs.Words.{is_space_of_two, length, space_len};
 
 use semver_core::scan::is_whitespace_code;

@@ -2,7 +2,8 @@
 
 ghost use Rattle.nodejs_semver.specs.Text.Table as Spec;
 ghost use Rattle.nodejs_semver.specs.Text.WordText as Words;
-ghost use Rattle.nodejs_semver.specs.Words.{◌+◌, ◌≡◌, ◌≤◌, bounds_view, comparator_view, interval};
+ghost use Rattle.std.specs.Prelude.{◌+◌, ◌≡◌, ◌≤◌};
+ghost use Rattle.nodejs_semver.specs.Words.{bounds_view, comparator_view, interval};
 ghost use Rattle.nodejs_semver.specs.Words.{MAX_SAFE_INTEGER, partial_view, precedence};
 ghost use Rattle.nodejs_semver.specs.Words.{release_value, sign_view, signed_word, Some, table};
 ghost use Rattle.nodejs_semver.specs.Words.{table_view};

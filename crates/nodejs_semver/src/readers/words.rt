@@ -1,7 +1,8 @@
 // What the words of a part are made of.
 
 ghost use Rattle.nodejs_semver.specs.Internal.Words as Spec;
-ghost use Rattle.nodejs_semver.specs.Words.{◌≡◌, comparator_front_view, greater_view, is_boundary};
+ghost use Rattle.std.specs.Prelude.{◌≡◌};
+ghost use Rattle.nodejs_semver.specs.Words.{comparator_front_view, greater_view, is_boundary};
 ghost use Rattle.nodejs_semver.specs.Words.{MAX_SAFE_INTEGER, partial_front_view, rest_view};
 ghost use Rattle.nodejs_semver.specs.Words.{sign_pair_view};
 

@@ -1,8 +1,8 @@
 // Identifiers that stand in a text, joined by dots, and their order.
 
-ghost use Rattle.semver_core.specs.Words.{◌≡◌, ◌<◌, ◌∷◌, drop, HasText, id_cmp, id_ref_view};
-ghost use Rattle.semver_core.specs.Words.{identifier_of, is_listed, IsUtf8, length, listed};
-ghost use Rattle.semver_core.specs.Words.{number_of_run, slice_cmp, true};
+ghost use Rattle.std.specs.Prelude.{◌≡◌, ◌<◌, ◌∷◌, drop};
+ghost use Rattle.semver_core.specs.Words.{HasText, id_cmp, id_ref_view, identifier_of, is_listed};
+ghost use Rattle.semver_core.specs.Words.{IsUtf8, length, listed, number_of_run, slice_cmp, true};
 
 use crate::scan;
 use std::cmp::Ordering;

@@ -1,8 +1,9 @@
 // Identifiers that borrow their text.
 
-ghost use Rattle.semver_core.specs.Words.{◌≡◌, eq_by_cmp_equiv, id_alike, id_cmp, id_ref_view};
-ghost use Rattle.semver_core.specs.Words.{id_text, id_total, id_view, id_writes, is_eq};
-ghost use Rattle.semver_core.specs.Words.{lent_id_view, on_equiv, on_per, on_po, on_total};
+ghost use Rattle.std.specs.Prelude.{◌≡◌};
+ghost use Rattle.semver_core.specs.Words.{eq_by_cmp_equiv, id_alike, id_cmp, id_ref_view, id_text};
+ghost use Rattle.semver_core.specs.Words.{id_total, id_view, id_writes, is_eq, lent_id_view};
+ghost use Rattle.semver_core.specs.Words.{on_equiv, on_per, on_po, on_total};
 ghost use Rattle.semver_core.specs.Words.{partial_equiv_from_equiv, po, refl, Some};
 
 use crate::Identifier;

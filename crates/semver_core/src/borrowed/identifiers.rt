@@ -1,8 +1,9 @@
 // Lists of identifiers, one by one.
 
+ghost use Rattle.std.specs.Prelude.{◌≡◌, ◌∷◌};
 ghost use Rattle.semver_core.specs.Words.{is_listed, item_count, lent_id_view, OnOk, YieldsFirstBy};
 ghost use Rattle.semver_core.specs.Words.{id_cmp, ids_of, ids_view, is_empty, IsSource, slice_cmp};
-ghost use Rattle.semver_core.specs.Words.{◌≡◌, ◌∷◌, [], IfNone, IfSome, length, listed, true};
+ghost use Rattle.semver_core.specs.Words.{[], IfNone, IfSome, length, listed, true};
 
 use crate::borrowed::dotted::{IdRef, cmp_texts, first_id};
 use crate::version::lists::Identifiers;

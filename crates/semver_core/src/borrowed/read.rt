@@ -1,9 +1,9 @@
 // Reads versions that borrow their text.
 
-ghost use Rattle.semver_core.specs.Words.{◌≡◌, ◌≤◌, ℕ, begins, drop, IfErr, IfNone, IfOk, IfSome};
-ghost use Rattle.semver_core.specs.Words.{is_identifier_char, is_listed, IsCommon, IsCommonFront};
-ghost use Rattle.semver_core.specs.Words.{length, list_from, list_len, listed, lists_at, NoValue};
-ghost use Rattle.semver_core.specs.Words.{Parses, take, true, VersionValue};
+ghost use Rattle.std.specs.Prelude.{◌≡◌, ◌≤◌, ℕ, drop, IfErr, IfNone, IfOk};
+ghost use Rattle.semver_core.specs.Words.{begins, IfSome, is_identifier_char, is_listed, IsCommon};
+ghost use Rattle.semver_core.specs.Words.{IsCommonFront, length, list_from, list_len, listed};
+ghost use Rattle.semver_core.specs.Words.{lists_at, NoValue, Parses, take, true, VersionValue};
 
 use crate::readers::{begins_lists, build_start, leading_numbers, numbers, pre_release_start};
 use crate::scan::goes_on;

@@ -1,6 +1,7 @@
 // The order of the cuts that two bounds make.
-ghost use Rattle.semver_core.specs.Words.{◌≡◌, cut_cmp, greater_lower, is_lt, lesser_upper};
-ghost use Rattle.semver_core.specs.Words.{lower_cut, upper_cut};
+ghost use Rattle.std.specs.Prelude.{◌≡◌};
+ghost use Rattle.semver_core.specs.Words.{cut_cmp, greater_lower, is_lt, lesser_upper, lower_cut};
+ghost use Rattle.semver_core.specs.Words.{upper_cut};
 
 use crate::cuts::bound::Bound;
 use std::cmp::Ordering;

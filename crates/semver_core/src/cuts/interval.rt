@@ -1,8 +1,9 @@
 // An interval: all points between two cuts.
-ghost use Rattle.semver_core.specs.Words.{◌≡◌, ◌&&◌, ◌||◌, clip, covers, cut_cmp, has_bound, holds};
-ghost use Rattle.semver_core.specs.Words.{IfErr, IfOk, interval, is_interval, is_lt, is_past};
-ghost use Rattle.semver_core.specs.Words.{is_some, IsTrue, left_above, left_below, lower_cut, meet};
-ghost use Rattle.semver_core.specs.Words.{not, OnErr, option_holds, remainders, true, upper_cut};
+ghost use Rattle.std.specs.Prelude.{◌≡◌, ◌&&◌, ◌||◌};
+ghost use Rattle.semver_core.specs.Words.{clip, covers, cut_cmp, has_bound, holds, IfErr, IfOk};
+ghost use Rattle.semver_core.specs.Words.{interval, is_interval, is_lt, is_past, is_some, IsTrue};
+ghost use Rattle.semver_core.specs.Words.{left_above, left_below, lower_cut, meet, not, OnErr};
+ghost use Rattle.semver_core.specs.Words.{option_holds, remainders, true, upper_cut};
 
 use crate::cuts::bound::{Bound, Point};
 use crate::cuts::cut_order::{

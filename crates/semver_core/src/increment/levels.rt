@@ -1,7 +1,8 @@
 // The words of increments, a row each.
 
-ghost use Rattle.semver_core.specs.Words.{◌≡◌, ◌<◌, ◌∷◌, [], ⊤, begun, HasIdentifiers, ids_view};
-ghost use Rattle.semver_core.specs.Words.{IfOk, length, MayAllocate, MemoryOnlyIf, Numeric, OnOk};
+ghost use Rattle.std.specs.Prelude.{◌≡◌, ◌<◌, ◌∷◌};
+ghost use Rattle.semver_core.specs.Words.{[], ⊤, begun, HasIdentifiers, ids_view, IfOk, length};
+ghost use Rattle.semver_core.specs.Words.{MayAllocate, MemoryOnlyIf, Numeric, OnOk};
 ghost use Rattle.semver_core.specs.Words.{parts_ref_value, Returns, ReturnsParts, stepped, Steps};
 ghost use Rattle.semver_core.specs.Increments.Table as spec;
 ghost use Rattle.semver_core.specs.Internal.IncrementSteps as steps;

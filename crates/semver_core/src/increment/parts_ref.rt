@@ -1,6 +1,7 @@
 // The version that a word is asked of.
 
-ghost use Rattle.semver_core.specs.Words.{◌≡◌, is_release, parts_ref_value, release_value};
+ghost use Rattle.std.specs.Prelude.{◌≡◌};
+ghost use Rattle.semver_core.specs.Words.{is_release, parts_ref_value, release_value};
 
 use crate::{IdentifierRefs, Versioned};
 

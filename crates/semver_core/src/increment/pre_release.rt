@@ -1,11 +1,11 @@
 // The pre step: how the pre-release list goes on.
 
-ghost use Rattle.semver_core.specs.Words.{◌≡◌, ◌∷◌, if◌then◌else◌, ⊤, ◌++◌, [], ◌<◌, ◌==◌, begun};
-ghost use Rattle.semver_core.specs.Words.{can_rise, digits_value, FailsWith, false, has_numeric};
-ghost use Rattle.semver_core.specs.Words.{id_cmp, id_view, ids_view, IfOk, is_ascii_digit, is_eq};
-ghost use Rattle.semver_core.specs.Words.{IsTrue, length, list_all, list_text, MayAllocate};
-ghost use Rattle.semver_core.specs.Words.{MemoryOnlyIf, Numeric, OnOk, stepped, Steps};
-ghost use Rattle.semver_core.specs.Words.{string_bytes, Tracks, true};
+ghost use Rattle.std.specs.Prelude.{◌≡◌, ◌∷◌, if◌then◌else◌, ◌++◌, ◌<◌, ◌==◌};
+ghost use Rattle.semver_core.specs.Words.{⊤, [], begun, can_rise, digits_value, FailsWith, false};
+ghost use Rattle.semver_core.specs.Words.{has_numeric, id_cmp, id_view, ids_view, IfOk};
+ghost use Rattle.semver_core.specs.Words.{is_ascii_digit, is_eq, IsTrue, length, list_all};
+ghost use Rattle.semver_core.specs.Words.{list_text, MayAllocate, MemoryOnlyIf, Numeric, OnOk};
+ghost use Rattle.semver_core.specs.Words.{stepped, Steps, string_bytes, Tracks, true};
 ghost use Rattle.semver_core.specs.Increments.Table as spec;
 ghost use Rattle.semver_core.specs.Printing.Text as printed;
 

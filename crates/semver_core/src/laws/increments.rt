@@ -1,9 +1,10 @@
 // What the table of `inc` says: the least versions.
 
+ghost use Rattle.std.specs.Prelude.{◌≡◌, ◌+◌, ◌-◌, ◌^◌, ◌<◌};
 ghost use Rattle.semver_core.specs.Words.{codes, IdentifierBase, IsLeastOrOverflow, IsLeastVersion};
 ghost use Rattle.semver_core.specs.Words.{[], answer_of_inc, has_numeric, is_release, VersionValue};
 ghost use Rattle.semver_core.specs.Words.{IsOkAnd, IsPlain, IsVersion, Less, precedence, unwrap_or};
-ghost use Rattle.semver_core.specs.Words.{◌≡◌, ◌+◌, ◌-◌, ◌^◌, ◌<◌, ℕ, false, List, Option, true};
+ghost use Rattle.semver_core.specs.Words.{ℕ, false, List, Option, true};
 
 /// What the table says of each word, which is what `Version::inc` and `VersionRef::inc` return.
 ///

@@ -1,10 +1,10 @@
 // What the comparisons of the program say, in the words of the definitions, and laws of the order.
 
+ghost use Rattle.std.specs.Prelude.{◌||◌, ◌++◌, ◌&&◌, ◌≡◌, ◌↔◌, ◌<◌, ◌+◌, ◌-◌, ◌^◌, ◌∷◌};
 ghost use Rattle.semver_core.specs.Words.{has_numeric, IsLeastVersion, release_value, VersionValue};
 ghost use Rattle.semver_core.specs.Words.{ℕ, bound_eq, IsVersion, Overflow, precedence, raise_last};
 ghost use Rattle.semver_core.specs.Words.{asked, id_cmp, id_view, is_kept, IsTrue, length, Numeric};
-ghost use Rattle.semver_core.specs.Words.{◌||◌, ◌++◌, ◌&&◌, Equal, false, is_le, Less, List, true};
-ghost use Rattle.semver_core.specs.Words.{◌≡◌, ◌↔◌, ◌<◌, ◌+◌, ◌-◌, ◌^◌, ◌∷◌, [], Id};
+ghost use Rattle.semver_core.specs.Words.{Equal, false, is_le, Less, List, true, [], Id};
 
 use crate::cuts::{Interval, Point};
 use crate::{Identifier, Version};

@@ -1,8 +1,8 @@
 // Printed versions come back.
 
-ghost use Rattle.semver_core.specs.Words.{◌≡◌, ◌<◌, ◌≤◌, ◌^◌, ℕ, id_text, id_view, IfOk};
-ghost use Rattle.semver_core.specs.Words.{is_readable, length, Reads, RefusedOnlyIf, string_bytes};
-ghost use Rattle.semver_core.specs.Words.{true, version_text, VersionValue};
+ghost use Rattle.std.specs.Prelude.{◌≡◌, ◌<◌, ◌≤◌, ◌^◌, ℕ, IfOk, length};
+ghost use Rattle.semver_core.specs.Words.{id_text, id_view, is_readable, Reads, RefusedOnlyIf};
+ghost use Rattle.semver_core.specs.Words.{string_bytes, true, version_text, VersionValue};
 
 use crate::laws::reading::one_reading;
 use crate::{Failure, Identifier, MAX_LENGTH, MAX_SAFE_INTEGER, SemverError, Version};

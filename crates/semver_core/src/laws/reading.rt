@@ -1,9 +1,9 @@
 // The two constants, that a text has one version at most, whatever the limit and whichever reader
 // reads it, and where its whitespace ends.
 
-ghost use Rattle.semver_core.specs.Words.{◌≡◌, ◌≤◌, ℕ, IfNone, IfOk, IfSome, IsAfterBlank};
-ghost use Rattle.semver_core.specs.Words.{IsCharBoundary, IsCommon, IsTrim, IsUtf8, List, NoValue};
-ghost use Rattle.semver_core.specs.Words.{Reads, VersionValue};
+ghost use Rattle.std.specs.Prelude.{◌≡◌, ◌≤◌, ℕ, IfNone};
+ghost use Rattle.semver_core.specs.Words.{IfOk, IfSome, IsAfterBlank, IsCharBoundary, IsCommon};
+ghost use Rattle.semver_core.specs.Words.{IsTrim, IsUtf8, List, NoValue, Reads, VersionValue};
 
 use crate::readers::{front_of_numbers, version_fast, version_loose};
 use crate::{MAX_LENGTH, MAX_SAFE_INTEGER, Version};

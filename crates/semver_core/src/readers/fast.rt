@@ -1,8 +1,9 @@
 //! The reader of common version texts.
 
+ghost use Rattle.std.specs.Prelude.{◌≡◌, ◌≤◌};
 ghost use Rattle.semver_core.specs.Words.{common_of, HasIdentifiers, IfOk, qualified, VersionValue};
 ghost use Rattle.semver_core.specs.Words.{IsCommon, NoValue, OnErr, small_len, triple_at, whole_at};
-ghost use Rattle.semver_core.specs.Words.{◌≡◌, ◌≤◌, IfNone, IfSome, length, part_at, Reads};
+ghost use Rattle.semver_core.specs.Words.{IfNone, IfSome, length, part_at, Reads};
 
 use crate::readers::loose::{begins_lists, front_of_numbers, lists_at, stands_at};
 use crate::{MAX_SAFE_INTEGER, Version, scan};

@@ -1,6 +1,7 @@
 // Versions ask a set whether it accepts them.
 
-ghost use Rattle.semver_core.specs.Words.{◌≡◌, Bool, false, VersionValue};
+ghost use Rattle.std.specs.Prelude.{◌≡◌};
+ghost use Rattle.semver_core.specs.Words.{Bool, false, VersionValue};
 
 use crate::{Version, VersionRef};
 

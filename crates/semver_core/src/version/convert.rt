@@ -1,6 +1,7 @@
 // Versions from triples of numbers.
 
-ghost use Rattle.semver_core.specs.Words.{◌≡◌, GivesRelease, release_value};
+ghost use Rattle.std.specs.Prelude.{◌≡◌};
+ghost use Rattle.semver_core.specs.Words.{GivesRelease, release_value};
 
 use crate::{NegativeNumber, Version};
 

@@ -1,8 +1,9 @@
 // The order of versions, their equality and hash. Build metadata counts in none.
 
+ghost use Rattle.std.specs.Prelude.{◌≡◌};
 ghost use Rattle.semver_core.specs.Words.{numbers_cmp, partial_equiv_from_equiv, precedence_total};
 ghost use Rattle.semver_core.specs.Words.{eq_by_cmp_equiv, pre_cmp, version_alike, version_writes};
-ghost use Rattle.semver_core.specs.Words.{◌≡◌, fold, po, precedence, refl, Some, version_eq};
+ghost use Rattle.semver_core.specs.Words.{fold, po, precedence, refl, Some, version_eq};
 ghost use Rattle.std.specs.Hash as fed;
 
 use crate::borrowed::identifiers::cmp_lists;
