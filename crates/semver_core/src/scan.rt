@@ -153,7 +153,9 @@ pub(crate) fn digits(bytes: &[u8], at: usize) -> Option<(u64, usize)>
     ensures found { result ≡ number_at MAX_SAFE_INTEGER bytes.now at }
     ensures place { IfSome result (λ found. found.1 ≤ length bytes.now) }
 {
-    let first = digit(bytes, at)?;
+    let Some(first) = digit(bytes, at) else {
+        return None;
+    };
     let Some(second) = digit(bytes, at + 1) else {
         return Some((first, at + 1));
     };

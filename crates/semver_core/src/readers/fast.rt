@@ -16,7 +16,9 @@ fn number_and_dot(bytes: &[u8], at: usize) -> Option<(u64, usize)>
     ensures found { result ≡ part_at MAX_SAFE_INTEGER bytes.now at }
     ensures place { IfSome result (λ found. found.1 ≤ length bytes.now) }
 {
-    let (number, end) = scan::digits(bytes, at)?;
+    let Some((number, end)) = scan::digits(bytes, at) else {
+        return None;
+    };
     if !stands_at(bytes, end, b'.') {
         return None;
     }
@@ -30,9 +32,15 @@ fn three_numbers(bytes: &[u8], at: usize) -> Option<(u64, u64, u64, usize)>
     ensures found { result ≡ triple_at MAX_SAFE_INTEGER bytes.now at }
     ensures place { IfSome result (λ found. found.3 ≤ length bytes.now) }
 {
-    let (major, second) = number_and_dot(bytes, at)?;
-    let (minor, third) = number_and_dot(bytes, second)?;
-    let (patch, end) = scan::digits(bytes, third)?;
+    let Some((major, second)) = number_and_dot(bytes, at) else {
+        return None;
+    };
+    let Some((minor, third)) = number_and_dot(bytes, second) else {
+        return None;
+    };
+    let Some((patch, end)) = scan::digits(bytes, third) else {
+        return None;
+    };
     Some((major, minor, patch, end))
 }
 
