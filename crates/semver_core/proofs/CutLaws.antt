@@ -238,3 +238,7 @@ module _ {V : Type 0} {R : V → V → Ordering} (o : IsTotalOrder R) where
       (two_parts _ _ _ _ (λ e. sym (is_past-greater_lower s.lower t.lower v)
       ∙ is_past-down _ _ v (one_way _ _ h) (is_past-lesser_upper s.upper t.upper v ∙ e))))
       (λ h. grind (arith, option_holds-meet s t v, option_holds-interval (common s t) v))
+
+  pub left_over : (s t : Span V) (r : Option (Span V) × Option (Span V)) → r ≡ remainders R s t → (v : V)
+      → (option_holds R r.0 v || option_holds R r.1 v) ≡ (holds R s v && not (holds R t v))
+  left_over s t r e v = rw e (remainders-hold s t v)

@@ -112,12 +112,6 @@ fn one_more(n: u64) -> Result<u64, Failure<IncrementError>>
     }
 }
 
-fn is_false(base: IdentifierBase) -> bool
-    ensures { result ≡ spec.is_false base }
-{
-    matches!(base, IdentifierBase::False)
-}
-
 // The error for an argument, with its text.
 fn refused_argument(alloc: Global, text: &str) -> Failure<IncrementError>
     ensures { RefusedWith (spec.InvalidIncrementArgument text.now) result }
@@ -134,7 +128,7 @@ fn check(alloc: Global, id: &str, base: IdentifierBase) -> Result<(), Failure<In
     ensures value { Returns (spec.checked id.now base) result }
     ensures memory { MemoryOnlyIf result (MayAllocate (λ none. ⊥) (spec.checked id.now base)) }
 {
-    if id.is_empty() && is_false(base) {
+    if id.is_empty() && matches!(base, IdentifierBase::False) {
         Err(refused_argument(alloc, "identifier is empty"))
     } else if Identifier::is_list(id.as_bytes()) {
         Ok(())

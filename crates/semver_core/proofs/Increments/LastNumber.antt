@@ -1,21 +1,19 @@
 -- The last number of a list.
-use Rattle.semver_core.proofs.Common.{not-true, Fault, advance, has_numeric, one_more, raise_last, list_text, is_empty, id_text}
-use Rattle.semver_core.proofs.Common.{AlphaNumeric, Id, Numeric, id_cmp, id_view, ids_view, Identifier, IdentifierBase, Bool}
-use Rattle.semver_core.proofs.Common.{List, None, Option, Some, [], ap, append_assoc, arith, drop, false, get_or, inl, inr}
-use Rattle.semver_core.proofs.Common.{length, refl, sym, take, true, ℕ, ◌++◌, ◌+◌, ◌-◌, ◌<◌, ◌∙◌, ◌∷◌, ◌≡◌, ◌≤◌, nat_tests}
-use Rattle.semver_core.proofs.Common.{cases_lt, is_ascii_digit, tied_itself, list_all, ◌==◌, Err, Ok, Result, digits_value}
-use Rattle.semver_core.proofs.Common.{bytes_eq, Overflow, is_kept, ◌>>=◌, Tracks, id_total, if◌then◌else◌, set, suc, zero, ◌^◌}
-use Rattle.semver_core.proofs.Common.{take-append_seam, length-map, take_all, and_parts, cases_Bool, first_number, is_false}
-use Rattle.semver_core.proofs.Common.{can_rise, stepped, not}
+use Rattle.semver_core.proofs.Common.{not-true, Fault, advance, has_numeric, one_more, raise_last, is_empty, AlphaNumeric}
+use Rattle.semver_core.proofs.Common.{Id, Numeric, id_cmp, id_view, ids_view, Identifier, IdentifierBase, List, None, Option}
+use Rattle.semver_core.proofs.Common.{Some, [], ap, append_assoc, arith, drop, false, get_or, inl, inr, length, refl, sym}
+use Rattle.semver_core.proofs.Common.{take, true, ℕ, ◌++◌, ◌+◌, ◌-◌, ◌<◌, ◌∙◌, ◌∷◌, ◌≡◌, ◌≤◌, nat_tests, cases_lt}
+use Rattle.semver_core.proofs.Common.{is_ascii_digit, tied_itself, list_all, ◌==◌, Err, Ok, Result, digits_value, bytes_eq}
+use Rattle.semver_core.proofs.Common.{Overflow, is_kept, ◌>>=◌, Tracks, id_total, set, ◌^◌, take-append_seam, length-map}
+use Rattle.semver_core.proofs.Common.{length-take-le, take_all, and_parts, cases_Bool, first_number, is_false, can_rise, stepped, not}
 use Rattle.semver_core.specs.{Increments.Table.asked, Internal.IncrementSteps.{IsLastNumber, begun}, Internal.OrderLaws.id_same}
-use Rattle.std.proofs.lemmas.{Grind.common_steps, List.{length-set, take_more}, Map.Text.is_eq-slice_cmp, Str.Parse.parse_digits}
+use Rattle.std.proofs.lemmas.{List.{Folds.list_any-append, length-set, map-append, map-set, take_more}, Str.Parse.parse_digits}
 use Rattle.std.specs.{Cmp.Equal-is, List.refill, Ordering.is_eq, Prelude.{◌↔◌, IsTrue}, Result.MatchResult}
-use Rattle.{std.specs.Str.Parse.ParsesUnsigned, semver_core.proofs.Text.Runs.{ids_view_push, numerals}}
+use Rattle.std.proofs.{Math.Seq.set-append_seam, lemmas.Map.Text.is_eq-slice_cmp}
+use Rattle.{std.specs.Str.Parse.ParsesUnsigned, semver_core.proofs.Text.Runs.numerals}
 
 no_more : (xs : List Id) (text : List ℕ) → has_numeric xs ≡ false → has_numeric (xs ++ AlphaNumeric text ∷ []) ≡ false
-no_more [] text h = refl
-no_more (AlphaNumeric s ∷ xs) text h = no_more xs text h
-no_more (Numeric n ∷ xs) text h = cc
+no_more xs text h = rw (list_any-append, h) refl
 
 text_more : (xs : List Id) (last : Option (ℕ × ℕ)) (text : List ℕ) → Tracks xs last → Tracks (xs ++ AlphaNumeric text ∷ []) last
 text_more xs None text h = no_more xs text h
@@ -31,9 +29,7 @@ number_more : (xs : List Id) (i n : ℕ) → i ≡ length xs → Tracks (xs ++ N
 number_more xs i n e = record { front = xs; back = []; divided = refl; place = e; ended = refl }
 
 has_it : (front back : List Id) (n : ℕ) → has_numeric (front ++ Numeric n ∷ back) ≡ true
-has_it [] back n = refl
-has_it (Numeric m ∷ front) back n = refl
-has_it (AlphaNumeric text ∷ front) back n = has_it front back n
+has_it front back n = rw list_any-append (grind arith)
 
 bind_twice : {A B C : Type 0} (r : Result A Fault) (f : A → B) (g : B → C) → ((r >>= λ x. Ok (f x)) >>= λ y. Ok (g y)) ≡ (r >>= λ x. Ok (g (f x)))
 bind_twice (Ok x) f g = refl
@@ -68,40 +64,28 @@ list_kept id list = (there list, back)
     back : ((n : ℕ) × (rest : List Id) × (list ≡ asked id ∷ Numeric n ∷ rest)) → IsTrue (is_kept id list)
     back p = rw p.2 (ap is_eq (tied_itself id_total (asked id)))
 
-set_divided : (front back : List Id) (x y : Id) → set (front ++ x ∷ back) (length front) y ≡ front ++ y ∷ back
-set_divided [] back x y = refl
-set_divided (z ∷ front) back x y = ap (λ l. z ∷ l) (set_divided front back x y)
-
 -- the last number rises where it stands
 raise_at : (xs : List Id) (i n : ℕ) → IsLastNumber xs i n → raise_last xs ≡ (one_more n >>= λ m. Ok (set xs i (Numeric m)))
 raise_at xs i n h = rw (h.divided, h.place) (raise_divided h.front h.back n h.ended ∙ sym (by (one_more n)))
   where
     by : (r : Result ℕ Fault) → (r >>= λ m. Ok (set (h.front ++ Numeric n ∷ h.back) (length h.front) (Numeric m))) ≡ (r >>= λ m. Ok (h.front ++ Numeric m ∷ h.back))
-    by (Ok m) = ap Ok (set_divided h.front h.back (Numeric n) (Numeric m))
+    by (Ok m) = ap Ok (set-append_seam h.front (Numeric n) h.back (Numeric m))
     by (Err e) = refl
-
-length-take-le : (xs : List Identifier) (i : ℕ) → i < length xs → length (take i xs) ≡ i
-length-take-le xs i lt = grind (arith, common_steps)
 
 pub tracks_number : (xs : List Identifier) (i n : ℕ) (x : Identifier) → i < length xs → x ≡ get_or xs i x → id_view x ≡ Numeric n
     → Tracks (ids_view (take (i + 1) xs)) (Some (i, n))
 tracks_number xs i n x lt at is =
     let text : take (i + 1) xs ≡ take i xs ++ x ∷ [] = take_more xs i x lt ∙ ap (λ y. take i xs ++ y ∷ []) (sym at) in
-    rw (text, ids_view_push (take i xs) x, is) (number_more (ids_view (take i xs)) i n (sym (length-map (take i xs) id_view ∙ length-take-le xs i lt)))
+    rw (text, map-append id_view (take i xs) (x ∷ []), is) (number_more (ids_view (take i xs)) i n (sym (length-map (take i xs) id_view ∙ length-take-le i xs (omega (arith, lt)))))
 
 pub tracks_text : (xs : List Identifier) (i : ℕ) (last : Option (ℕ × ℕ)) (text : List ℕ) (x : Identifier) → i < length xs → x ≡ get_or xs i x → id_view x ≡ AlphaNumeric text
     → Tracks (ids_view (take i xs)) last → Tracks (ids_view (take (i + 1) xs)) last
 tracks_text xs i last text x lt at is h =
     let whole : take (i + 1) xs ≡ take i xs ++ x ∷ [] = take_more xs i x lt ∙ ap (λ y. take i xs ++ y ∷ []) (sym at) in
-    rw (whole, ids_view_push (take i xs) x, is) (text_more (ids_view (take i xs)) last text h)
+    rw (whole, map-append id_view (take i xs) (x ∷ []), is) (text_more (ids_view (take i xs)) last text h)
 
 pub tracks_whole : (xs : List Identifier) (i : ℕ) (last : Option (ℕ × ℕ)) → length xs ≤ i → Tracks (ids_view (take i xs)) last → Tracks (ids_view xs) last
 tracks_whole xs i last le h = rw (take_all i xs le) at h
-
-set_view : (xs : List Identifier) (i : ℕ) (x : Identifier) → set (ids_view xs) i (id_view x) ≡ ids_view (set xs i x)
-set_view [] i x = refl
-set_view (y ∷ ys) zero x = refl
-set_view (y ∷ ys) (suc i) x = ap (λ l. id_view y ∷ l) (set_view ys i x)
 
 -- a write at one place of a list, through a slice of it
 refill_set : (xs ws : List Identifier) (i : ℕ) (x : Identifier) → ws ≡ xs → refill (length xs) xs (set ws i x) ≡ set xs i x
@@ -110,39 +94,7 @@ refill_set xs ws i x e =
 
 pub number_set : (xs ws : List Identifier) (i : ℕ) (x : Identifier) → ws ≡ xs
     → ids_view (refill (length xs) xs (set ws i x)) ≡ set (ids_view xs) i (id_view x)
-number_set xs ws i x e = ap ids_view (refill_set xs ws i x e) ∙ sym (set_view xs i x)
-
--- one more part of a printed list
-pub part_more : (xs : List Id) (x : Id) → list_text (xs ++ x ∷ []) ≡ (if is_empty xs then id_text x else list_text xs ++ 46 ∷ id_text x)
-part_more [] x = refl
-part_more (y ∷ []) x = refl
-part_more (y ∷ z ∷ xs) x = ap (λ t. id_text y ++ 46 ∷ t) (part_more (z ∷ xs) x) ∙ sym (append_assoc (id_text y) (46 ∷ list_text (z ∷ xs)) (46 ∷ id_text x))
-
-first_is : (xs : List Identifier) (i : ℕ) → i < length xs → is_empty (ids_view (take i xs)) ≡ (i == 0)
-first_is [] i lt = absurd (omega (arith, lt))
-first_is (x ∷ xs) zero lt = refl
-first_is (x ∷ xs) (suc i) lt = let more : (suc i == 0) ≡ false = grind (arith, nat_tests) in sym more
-
-pub text_so_far : (xs : List Identifier) (i : ℕ) (x : Identifier) (text more : List ℕ) → i < length xs → x ≡ get_or xs i x
-    → text ≡ list_text (ids_view (take i xs))
-    → more ≡ (if i == 0 then text ++ id_text (id_view x) else text ++ 46 ∷ id_text (id_view x))
-    → more ≡ list_text (ids_view (take (i + 1) xs))
-text_so_far xs i x text more lt at before is =
-    let whole : take (i + 1) xs ≡ take i xs ++ x ∷ [] = take_more xs i x lt ∙ ap (λ y. take i xs ++ y ∷ []) (sym at) in
-    rw (whole, ids_view_push (take i xs) x) (is ∙ by (i == 0) (first_is xs i lt) ∙ sym (part_more (ids_view (take i xs)) (id_view x)))
-  where
-    nothing : (ids : List Id) → is_empty ids ≡ true → list_text ids ≡ []
-    nothing [] h = refl
-    nothing (y ∷ ys) h = cc
-
-    by : (t : Bool) → is_empty (ids_view (take i xs)) ≡ t
-        → (if t then text ++ id_text (id_view x) else text ++ 46 ∷ id_text (id_view x))
-        ≡ (if is_empty (ids_view (take i xs)) then id_text (id_view x) else list_text (ids_view (take i xs)) ++ 46 ∷ id_text (id_view x))
-    by true h = rw h (ap (λ t. t ++ id_text (id_view x)) (before ∙ nothing (ids_view (take i xs)) h))
-    by false h = rw h (ap (λ t. t ++ 46 ∷ id_text (id_view x)) before)
-
-pub text_whole : (xs : List Identifier) (i : ℕ) (text : List ℕ) → length xs ≤ i → text ≡ list_text (ids_view (take i xs)) → text ≡ list_text (ids_view xs)
-text_whole xs i text le h = rw (take_all i xs le) at h
+number_set xs ws i x e = ap ids_view (refill_set xs ws i x e) ∙ map-set id_view xs i x
 
 number_there : (list : List Id) (i n : ℕ) → IsLastNumber list i n → has_numeric list ≡ true
 number_there list i n last = ap has_numeric last.divided ∙ has_it last.front last.back n

@@ -1,13 +1,13 @@
 -- Serves proofs: a printed version reads as itself.
 use Rattle.semver_core.proofs.Common.{id_text, begins, is_identifier_char, AlphaNumeric, Id, Numeric, goes_on, identifier_of}
-use Rattle.semver_core.proofs.Common.{is_identifier, pieces, IsNumber, Reads, begins_pre_release, no_mark, VersionValue, List, []}
-use Rattle.semver_core.proofs.Common.{ap, append-nil, arith, eqb, false, length, ltb, refl, subst, sym, true, ℕ, ◌++◌, ◌<◌, ◌∙◌}
-use Rattle.semver_core.proofs.Common.{◌∷◌, ◌≡◌, ◌≤◌, nat_tests, and_parts, lt-ltb, is_ascii_digit, first_so, second_so, All}
-use Rattle.semver_core.proofs.Common.{list_all, ◌==◌, digits_value, is_normal, marked_list, version_text, is_u64_text, IsBuild}
-use Rattle.semver_core.proofs.Common.{IsPreRelease, dashed, no_build, no_pre_release, plus, map, not, suc, zero, ◌^◌, not-true}
-use Rattle.semver_core.proofs.Common.{slice_split_at, slice_split_none, decimal, join_with_byte, ltb-true, NoValue, Err, Ok}
-use Rattle.semver_core.proofs.Common.{Result, RefusedOnlyIf, Parses, Failure, Memory, Refused, IfOk, append_assoc, ◌*◌, ◌+◌}
-use Rattle.semver_core.proofs.Common.{codes, digits}
+use Rattle.semver_core.proofs.Common.{is_identifier, pieces, IsNumber, Reads, begins_pre_release, no_mark, VersionValue}
+use Rattle.semver_core.proofs.Common.{List, [], ap, append-nil, arith, eqb, false, length, ltb, refl, subst, sym, true, ℕ}
+use Rattle.semver_core.proofs.Common.{◌++◌, ◌<◌, ◌∙◌, ◌∷◌, ◌≡◌, ◌≤◌, nat_tests, and_parts, lt-ltb, is_ascii_digit, first_so}
+use Rattle.semver_core.proofs.Common.{second_so, All, list_all, ◌==◌, digits_value, is_normal, marked_list, version_text}
+use Rattle.semver_core.proofs.Common.{is_u64_text, IsBuild, IsPreRelease, dashed, no_build, no_pre_release, plus, map, not}
+use Rattle.semver_core.proofs.Common.{suc, zero, ◌^◌, not-true, slice_split_at, slice_split_none, decimal, join_with_byte}
+use Rattle.semver_core.proofs.Common.{ltb-true, NoValue, Err, Ok, Result, RefusedOnlyIf, Parses, Failure, Memory, Refused}
+use Rattle.semver_core.proofs.Common.{IfOk, append_assoc, ◌*◌, ◌+◌, codes, digits}
 use Rattle.semver_core.specs.{Internal.Readable.{IsReadable, readable}, Printing.RoundTrip.is_readable}
 use Rattle.{semver_core.specs.Text.Identifiers.IsIdentifiers, std.proofs.lemmas.Fmt.{decimal_is_IsNumeral, digits_decimal}}
 use Rattle.{std.proofs.lemmas.Fmt.digits_value-decimal, std.specs.List.slice_range, semver_core.proofs.Text.Runs.not_dot}
@@ -15,11 +15,8 @@ use Rattle.semver_core.proofs.Text.Runs.{all_more, of_digits, numerals}
 
 -- ---- one identifier
 
-digit_char : (c : ℕ) → is_ascii_digit c ≡ true → is_identifier_char c ≡ true
-digit_char c h = grind (arith, nat_tests)
-
 digits_chars : (ds : List ℕ) → list_all is_ascii_digit ds ≡ true → list_all is_identifier_char ds ≡ true
-digits_chars ds h = all_more is_ascii_digit is_identifier_char ds digit_char h
+digits_chars ds h = all_more is_ascii_digit is_identifier_char ds (λ c d. grind (arith, nat_tests)) h
 
 pub decimal_digits : (n : ℕ) → n < 2 ^ 64 → list_all is_ascii_digit (decimal n) ≡ true
 decimal_digits n small = digits_decimal numerals n small

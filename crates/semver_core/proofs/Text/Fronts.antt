@@ -1,13 +1,13 @@
 -- The version that a text begins with is that of the text up to the place behind it.
-use Rattle.semver_core.proofs.Common.{qualified, triple_at, begins, Id, IsLongestIdentifiers, goes_on, is_identifier, pieces}
-use Rattle.semver_core.proofs.Common.{IsNumber, IsWholeNumber, begins_pre_release, no_mark, VersionValue, Bool, List, None, Some}
-use Rattle.semver_core.proofs.Common.{[], ap, append-nil, append_assoc, arith, drop, eqb, false, inl, inr, length, refl, subst}
+use Rattle.semver_core.proofs.Common.{qualified, triple_at, begins, Id, IsLongestIdentifiers, goes_on, pieces, IsNumber}
+use Rattle.semver_core.proofs.Common.{IsWholeNumber, begins_pre_release, no_mark, VersionValue, Bool, List, None, Some, []}
+use Rattle.semver_core.proofs.Common.{ap, append-nil, append_assoc, arith, drop, eqb, false, inl, inr, length, refl, subst}
 use Rattle.semver_core.proofs.Common.{sym, take, true, ℕ, ◌++◌, ◌∙◌, ◌∷◌, ◌≡◌, ◌≤◌, nat_tests, cases_Bool, eqb-true}
-use Rattle.semver_core.proofs.Common.{take-append-drop, is_ascii_digit, list_all, list_all-append, small_len, lists_at, IsCommon}
-use Rattle.semver_core.proofs.Common.{IsBuild, IsMark, IsPreRelease, bare, capital_mark, dashed, no_build, no_pre_release, plus}
-use Rattle.semver_core.proofs.Common.{small_mark, NoValue, IsAfterBlank, IsBlank, is_identifier_char, Reads, HasIdentifiers}
-use Rattle.semver_core.proofs.Common.{Option, get_or, ◌<◌, ◌||◌, drop-cons, drop_all, ◌==◌, common_of, HasOneReading, mark_len}
-use Rattle.semver_core.proofs.Common.{begins_build, release_value, IfSome, take_rest, IfNone}
+use Rattle.semver_core.proofs.Common.{take-append-drop, is_ascii_digit, list_all, list_all-append, small_len, lists_at}
+use Rattle.semver_core.proofs.Common.{IsCommon, IsBuild, IsMark, IsPreRelease, bare, capital_mark, dashed, no_build}
+use Rattle.semver_core.proofs.Common.{no_pre_release, plus, small_mark, NoValue, IsAfterBlank, IsBlank, is_identifier_char}
+use Rattle.semver_core.proofs.Common.{Reads, Option, ◌<◌, ◌||◌, drop-cons, drop_all, ◌==◌, common_of, HasOneReading}
+use Rattle.semver_core.proofs.Common.{mark_len, begins_build, release_value, IfSome, take_rest, IfNone}
 use Rattle.semver_core.specs.{Internal.CommonReading.{is_plain, at_end, whole_at}, Text.Common.IsCommonFront}
 use Rattle.{std.proofs.lemmas.List.{append_cancel_right, nil_from_length}, semver_core.proofs.Text.Listed.plain_runs}
 use Rattle.semver_core.proofs.Text.{Pieces.{runs_tail, some_inside}, Runs.all_more, Texts.{divided_at, number_begins, read_at}}
@@ -103,17 +103,15 @@ pub front_read : (limit : ℕ) (text : List ℕ) (t : ℕ × ℕ × ℕ × ℕ) 
 front_read limit text t e =
     (divided_at limit text (take (small_len text) text) [] (small_len text) t (sym (take-append-drop (small_len text) text)) (small_is text).0 nothing_blank (sym e)).reads
 
-pub front_memory : (limit : ℕ) (text : List ℕ) (t : ℕ × ℕ × ℕ × ℕ) → Some t ≡ triple_at limit text (small_len text)
-    → HasIdentifiers (qualified text t) → (v : VersionValue) × Reads limit text v × HasIdentifiers v
-front_memory limit text t e h = (qualified text t, front_read limit text t e, h)
+pub loose_read : (limit : ℕ) (text : List ℕ) (start : ℕ) (o : Option (ℕ × ℕ × ℕ × ℕ)) → IsAfterBlank text (mark_len text) start
+    → o ≡ triple_at limit text start → IfSome o (λ t. Reads limit text (qualified text t))
+loose_read limit text start None a e = tt
+loose_read limit text start (Some t) a e = loose_some limit text start (qualified text t) a (rw (← e) refl)
 
-pub loose_read : (limit : ℕ) (text : List ℕ) (start : ℕ) (t : ℕ × ℕ × ℕ × ℕ) → IsAfterBlank text (mark_len text) start
-    → Some t ≡ triple_at limit text start → Reads limit text (qualified text t)
-loose_read limit text start t a e = loose_some limit text start (qualified text t) a (rw (← e) refl)
-
-pub loose_not : (limit : ℕ) (text : List ℕ) (start : ℕ) → IsAfterBlank text (mark_len text) start → None ≡ triple_at limit text start
-    → NoValue (Reads limit text)
-loose_not limit text start a e = loose_none limit text start a (rw (← e) refl)
+pub loose_not : (limit : ℕ) (text : List ℕ) (start : ℕ) (o : Option (ℕ × ℕ × ℕ × ℕ)) → IsAfterBlank text (mark_len text) start
+    → o ≡ triple_at limit text start → IfNone o (NoValue (Reads limit text))
+loose_not limit text start None a e = loose_none limit text start a (rw (← e) refl)
+loose_not limit text start (Some t) a e = tt
 
 pub ruleset numbers_found = (front_read)
 
@@ -270,9 +268,6 @@ front_not limit text e v end c = cc (e, (front_at limit text v c.0 c.1 c.2).1)
 both_all : (p : ℕ → Bool) (a b : List ℕ) → list_all p a ≡ true → list_all p b ≡ true → list_all p (a ++ b) ≡ true
 both_all p a b h k = rw (list_all-append, h, k) refl
 
-plain_digit : (c : ℕ) → is_ascii_digit c ≡ true → is_plain c ≡ true
-plain_digit c h = grind (arith, nat_tests)
-
 plain_list : (text rest : List ℕ) (ids : List Id) → IsLongestIdentifiers text rest ids → list_all is_plain text ≡ true
 plain_list text rest ids l = plain_runs text (runs_tail (pieces text) l.identifiers.runs)
 
@@ -291,7 +286,7 @@ plain_mark mark small_mark = refl
 plain_mark mark capital_mark = refl
 
 plain_number : (limit : ℕ) (digits : List ℕ) (n : ℕ) → IsNumber limit digits n → list_all is_plain digits ≡ true
-plain_number limit digits n h = all_more is_ascii_digit is_plain digits plain_digit h.each
+plain_number limit digits n h = all_more is_ascii_digit is_plain digits (λ c k. grind (arith, nat_tests)) h.each
 
 -- a common text is letters, digits, `-`, `.` and `+` alone
 pub common_plain : (limit : ℕ) (text : List ℕ) (v : VersionValue) → IsCommon limit text v → list_all is_plain text ≡ true

@@ -1,11 +1,12 @@
 -- A text that spells a list of identifiers is its own longest list.
-use Rattle.semver_core.proofs.Common.{list_at, begins, is_identifier_char, Id, IsLongestIdentifiers, identifier_of, is_identifier}
-use Rattle.semver_core.proofs.Common.{pieces, is_listed, listed, id_view, ids_view, Identifier, List, Some, [], ap, append-nil}
-use Rattle.semver_core.proofs.Common.{arith, eqb, inl, inr, length, refl, sym, take, true, ℕ, ◌+◌, ◌<◌, ◌∙◌, ◌∷◌, ◌≡◌, cases_Bool}
-use Rattle.semver_core.proofs.Common.{eqb-true, list_all, onto_first, IsUtf8, ◌==◌, length-map, length-slice_split}
-use Rattle.semver_core.proofs.Common.{IsUtf8-from_ascii, IsAscii-cons, IsAscii-nil, IsAscii, AlphaNumeric, Numeric, IsId, Bool}
-use Rattle.semver_core.proofs.Common.{subst, ◌*◌, nat_tests, and_parts, digit_value, is_ascii_digit, All, digits_value}
-use Rattle.semver_core.proofs.Common.{is_u64_text, map, ◌^◌, All-cons, All-nil, join_with_byte, digits_value_after}
+use Rattle.semver_core.proofs.Common.{list_at, begins, is_identifier_char, Id, IsLongestIdentifiers, identifier_of}
+use Rattle.semver_core.proofs.Common.{is_identifier, pieces, is_listed, listed, id_view, ids_view, Identifier, List, Some}
+use Rattle.semver_core.proofs.Common.{[], ap, append-nil, arith, eqb, inl, inr, length, refl, sym, take, true, ℕ, ◌+◌, ◌<◌}
+use Rattle.semver_core.proofs.Common.{◌∙◌, ◌∷◌, ◌≡◌, cases_Bool, eqb-true, list_all, onto_first, IsUtf8, ◌==◌, length-map}
+use Rattle.semver_core.proofs.Common.{length-slice_split, IsUtf8-from_ascii, IsAscii-cons, IsAscii-nil, IsAscii}
+use Rattle.semver_core.proofs.Common.{AlphaNumeric, Numeric, IsId, Bool, subst, ◌*◌, nat_tests, and_parts, digit_value}
+use Rattle.semver_core.proofs.Common.{is_ascii_digit, All, digits_value, is_u64_text, map, ◌^◌, All-cons, All-nil}
+use Rattle.semver_core.proofs.Common.{join_with_byte, digits_value_after}
 use Rattle.{semver_core.specs.Internal.CommonReading.is_plain, std.proofs.lemmas.List.Splits.join_with_byte-slice_split}
 use Rattle.{std.proofs.lemmas.Str.IsAscii-take, std.specs.List.count_by, semver_core.proofs.Text.Pieces.first_char}
 use Rattle.semver_core.proofs.Text.Pieces.{list_complete, runs_begin, runs_tail, some_inside, tail_onto, tail_runs, digits_grow}
@@ -22,9 +23,6 @@ plain_runs (c ∷ rest) h = elim (cases_Bool (eqb c 46)) [
       rw (first_char c (pieces rest) split, plain_runs rest (tail_onto c (pieces rest) split)) refl
 ]
 
-small_plain : (c : ℕ) → is_plain c ≡ true → c < 128
-small_plain c h = grind (arith, nat_tests)
-
 all_ascii : (p : ℕ → Bool) (text : List ℕ) → ((c : ℕ) → p c ≡ true → c < 128) → list_all p text ≡ true → IsAscii text
 all_ascii p [] small h = IsAscii-nil
 all_ascii p (c ∷ rest) small h =
@@ -33,7 +31,7 @@ all_ascii p (c ∷ rest) small h =
 listed_ascii : (text : List ℕ) → is_listed text ≡ true → IsAscii text
 unfolding is_listed
 listed_ascii [] h = IsAscii-nil
-listed_ascii (c ∷ rest) h = all_ascii is_plain (c ∷ rest) small_plain (plain_runs (c ∷ rest) (runs_tail (pieces (c ∷ rest)) h))
+listed_ascii (c ∷ rest) h = all_ascii is_plain (c ∷ rest) (λ c k. grind (arith, nat_tests)) (plain_runs (c ∷ rest) (runs_tail (pieces (c ∷ rest)) h))
 
 pub listed_utf8 : (text : List ℕ) → is_listed text ≡ true → IsUtf8 text
 listed_utf8 text h = IsUtf8-from_ascii text (listed_ascii text h)

@@ -1,11 +1,11 @@
 -- Runs of identifier characters, and lists of them.
 use Rattle.semver_core.proofs.Common.{Bool, and_parts, list_at, list_of, begins, is_identifier_char, Id, Numeric, goes_on}
-use Rattle.semver_core.proofs.Common.{identifier_of, id_view, ids_view, Identifier, List, Some, [], add-one, add_comm, ap}
-use Rattle.semver_core.proofs.Common.{append_assoc, arith, drop, eqb, false, get_or, inl, inr, length, ltb, refl, rules, sym}
-use Rattle.semver_core.proofs.Common.{take, true, zero-add, ℕ, ◌++◌, ◌+◌, ◌-◌, ◌<◌, ◌∙◌, ◌∷◌, ◌≡◌, ◌≤◌, drop-cons, nat_tests}
-use Rattle.semver_core.proofs.Common.{cases_Bool, eqb-true, drop-drop, length-drop, is_ascii_digit, All, list_all, prefix_len}
-use Rattle.semver_core.proofs.Common.{IsCharBoundary, IsUtf8, ◌==◌, digits_value, list_len, map, suc, ◌^◌, take-add}
-use Rattle.semver_core.proofs.Common.{slice_split_at, slice_split_none, prefix_len-le-length, IsCharBoundary-after_ascii}
+use Rattle.semver_core.proofs.Common.{identifier_of, List, Some, [], add-one, add_comm, ap, append_assoc, arith, drop, eqb}
+use Rattle.semver_core.proofs.Common.{false, get_or, inl, inr, length, ltb, refl, rules, sym, take, true, zero-add, ℕ, ◌++◌}
+use Rattle.semver_core.proofs.Common.{◌+◌, ◌-◌, ◌<◌, ◌∙◌, ◌∷◌, ◌≡◌, ◌≤◌, drop-cons, nat_tests, cases_Bool, eqb-true}
+use Rattle.semver_core.proofs.Common.{drop-drop, length-drop, is_ascii_digit, All, list_all, prefix_len, IsCharBoundary}
+use Rattle.semver_core.proofs.Common.{IsUtf8, ◌==◌, digits_value, list_len, map, suc, ◌^◌, take-add, slice_split_at}
+use Rattle.semver_core.proofs.Common.{slice_split_none, prefix_len-le-length, IsCharBoundary-after_ascii}
 use Rattle.std.proofs.lemmas.{List.{get_or-take, length-take, get_or-drop}, List.Sums.prefix_len_passes, Str.Parse.IsDigitsTest}
 use Rattle.std.proofs.lemmas.Str.Parse.{IsNumeralModel, numerals_by_value}
 
@@ -154,7 +154,3 @@ list_more text at start end before id whole ends is spelled more =
     (let sum : end + 1 ≡ start + (n + 1) = omega arith in rw sum (sym (drop-drop (n + 1) start text))) in
     let facts = list_next (drop start text) (rw rest at more) in
     (rw next facts.2, whole ∙ rw (next, facts.0, spelled, append_assoc) refl, rw next (omega (arith, facts.1)))
-
-pub ids_view_push : (xs : List Identifier) (x : Identifier) → ids_view (xs ++ x ∷ []) ≡ ids_view xs ++ id_view x ∷ []
-ids_view_push [] x = refl
-ids_view_push (y ∷ ys) x = ap (λ l. id_view y ∷ l) (ids_view_push ys x)

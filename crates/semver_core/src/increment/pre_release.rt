@@ -9,7 +9,7 @@ ghost use Rattle.semver_core.specs.Words.{stepped, Steps, string_bytes, Tracks, 
 ghost use Rattle.semver_core.specs.Increments.Table as spec;
 ghost use Rattle.semver_core.specs.Printing.Text as printed;
 
-use crate::increment::{IdentifierBase, IncrementError, is_false, one_more, refused_argument};
+use crate::increment::{IdentifierBase, IncrementError, one_more, refused_argument};
 use crate::version::lists::Identifiers;
 use crate::{Failure, Identifier, IdentifierRef, IdentifierRefs};
 use std::alloc::{AllocError, Global};
@@ -27,13 +27,15 @@ pub(super) fn advance(
     ensures memory { MemoryOnlyIf result (MayAllocate (λ list. ⊤)
         (spec.advance (ids_view list.old.items) id.now base)) }
 {
-    match last_number(list) {
-        Some((place, number)) => {
-            list[place] = Identifier::Numeric(one_more(number)?);
-            Ok(())
-        }
-        None => count(alloc, list, id, base),
+    if let Some((place, number)) = last_number(list) {
+        list[place] = Identifier::Numeric(one_more(number)?);
+        return Ok(());
     }
+    let is_false = matches!(base, IdentifierBase::False);
+    if !list.is_empty() && is_false && id == list_text(alloc, list)?.as_str() {
+        return Err(refused_argument(alloc, "identifier already exists"));
+    }
+    Ok(push_number(list, first_number(base))?)
 }
 
 // Whether the list that an identifier begins replaces this one, whatever the number at its end:
@@ -41,7 +43,7 @@ pub(super) fn advance(
 pub(super) fn is_replaced(ids: &IdentifierRefs<'_>, id: &str, base: IdentifierBase) -> bool
     ensures { IsTrue result → stepped ids.now id.now base ≡ Ok (begun id.now base) }
 {
-    if id.is_empty() || is_false(base) {
+    if id.is_empty() || matches!(base, IdentifierBase::False) {
         return false;
     }
     let mut others = ids.copy();
@@ -112,25 +114,6 @@ fn last_number(list: &[Identifier]) -> Option<(usize, u64)>
     last
 }
 
-// The pre step of a list without a number: it gets one.
-fn count(
-    alloc: Global,
-    list: &mut Identifiers,
-    id: &str,
-    base: IdentifierBase,
-) -> Result<(), Failure<IncrementError>>
-    requires { has_numeric (ids_view list.old.items) ≡ false }
-    ensures value { Steps (spec.advance (ids_view list.old.items) id.now base) result
-        (ids_view list.new.items) }
-    ensures memory { MemoryOnlyIf result (MayAllocate (λ list. ⊤)
-        (spec.advance (ids_view list.old.items) id.now base)) }
-{
-    if !list.is_empty() && is_false(base) && id == list_text(alloc, list)?.as_str() {
-        return Err(refused_argument(alloc, "identifier already exists"));
-    }
-    Ok(push_number(list, first_number(base))?)
-}
-
 // One more number at the end of a list.
 fn push_number(list: &mut Identifiers, n: u64) -> Result<(), AllocError>
     ensures { OnOk result (ids_view list.new.items ≡ ids_view list.old.items ++ Numeric n ∷ []) }
@@ -144,22 +127,13 @@ fn list_text(alloc: Global, list: &[Identifier]) -> Result<String, AllocError>
     ensures { IfOk result (λ t. string_bytes t ≡ list_text (ids_view list.now)) }
 {
     let mut text = String::new(alloc);
-    'parts: for (place, id) in list.iter().enumerate() {
-        push_part(&mut text, place == 0, id)?;
+    let mut mark = "";
+    let mut others = IdentifierRefs::of_items(list);
+    'ids: while let Some(id) = others.next() {
+        write!(text, "{mark}{id}")?;
+        mark = ".";
     }
     Ok(text)
-}
-
-// One more part of a printed list.
-fn push_part(text: &mut String, first: bool, id: &Identifier) -> Result<(), AllocError>
-    ensures { OnOk result (string_bytes text.new
-        ≡ (if first then string_bytes text.old ++ printed.id_text (id_view id.now)
-        else string_bytes text.old ++ 46 ∷ printed.id_text (id_view id.now))) }
-{
-    if !first {
-        text.push('.')?;
-    }
-    write!(text, "{id}")
 }
 
 // The list that an identifier begins, in place of another one.
@@ -174,7 +148,7 @@ pub(super) fn new_list(
     let id = String::from_str(alloc, id)?;
     list.clear();
     list.push(Identifier::AlphaNumeric(id))?;
-    if is_false(base) {
+    if matches!(base, IdentifierBase::False) {
         return Ok(());
     }
     push_number(list, first_number(base))

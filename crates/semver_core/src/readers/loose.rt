@@ -50,11 +50,7 @@ pub(crate) fn pre_release_start(text: &str, at: usize) -> Option<usize>
         begins is_identifier_char (drop start text.now) ≡ true) }
     ensures inside { IfSome result (λ start. start ≤ length text.now) }
 {
-    let start = if stands_at(text.as_bytes(), at, b'-') {
-        at + 1
-    } else {
-        at
-    };
+    let start = at + usize::from(stands_at(text.as_bytes(), at, b'-'));
     if scan::begins_at(text, start) {
         Some(start)
     } else {
@@ -71,11 +67,8 @@ pub(crate) fn build_start(text: &str, at: usize) -> Option<usize>
         begins is_identifier_char (drop start text.now) ≡ true) }
     ensures inside { IfSome result (λ start. start ≤ length text.now) }
 {
-    if stands_at(text.as_bytes(), at, b'+') && scan::begins_at(text, at + 1) {
-        Some(at + 1)
-    } else {
-        None
-    }
+    let stands = stands_at(text.as_bytes(), at, b'+') && scan::begins_at(text, at + 1);
+    stands.then_some(at + 1)
 }
 
 // Fills an empty list with the identifiers that begin at a place, and returns the place after

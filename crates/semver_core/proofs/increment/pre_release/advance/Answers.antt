@@ -3,18 +3,18 @@ use Rattle.semver_core.{specs.Internal.IncrementSteps.Steps, proofs.Increments.L
 use Rattle.semver_core.specs.declared.identifier.Identifier.TheVariants as variant
 use Rattle.semver_core.proofs.increment.pre_release.advance.Goals as goal
 
-pub returns-in_err-one_more-in-Some-clause-value : goal.returns-in_err-one_more-in-Some-clause-value
-returns-in_err-one_more-in-Some-clause-value c =
+pub returns-in_err-one_more-clause-value : goal.returns-in_err-one_more-clause-value
+returns-in_err-one_more-clause-value c =
     let list = ids_view c.args.list.now.items in
     let last = rw c.deref.ensures at c.in-Some.ensures in
     subst (λ a. Steps a c.from_residual.result list)
     (sym (advance_at list c.args.id.now c.args.base c.in-Some.place c.in-Some.number last)) (search rules)
 
-pub returns-in_ok-one_more-in-Some-clause-value : goal.returns-in_ok-one_more-in-Some-clause-value
-returns-in_ok-one_more-in-Some-clause-value c =
+pub returns-in-Some-clause-value : goal.returns-in-Some-clause-value
+returns-in-Some-clause-value c =
     let items = c.args.list.now.items in
     let last = rw c.deref.ensures at c.in-Some.ensures in
-    let more = c.in_ok-one_more-in-Some.field-0 in
+    let more = c.in_ok-one_more.field-0 in
     advance_at (ids_view items) c.args.id.now c.args.base c.in-Some.place c.in-Some.number last
-    ∙ ap (λ r. r >>= λ m. Ok (set (ids_view items) c.in-Some.place (Numeric m))) c.in_ok-one_more-in-Some.ensures.value
+    ∙ ap (λ r. r >>= λ m. Ok (set (ids_view items) c.in-Some.place (Numeric m))) c.in_ok-one_more.ensures.value
     ∙ ap Ok (sym (number_set items c.deref_mut.result.now c.in-Some.place (variant.Numeric more) c.deref_mut.ensures.value))
