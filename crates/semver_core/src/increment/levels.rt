@@ -38,6 +38,7 @@ pub(super) fn by_word(
         "minor" if is_minor => release_of(alloc, version),
         "minor" => release_of(alloc, &next_minor(version)?),
         "patch" if is_release => release_of(alloc, &next_patch(version)?),
+        "patch" => release_of(alloc, version),
         "premajor" => pre_step(alloc, &next_major(version)?, id, base),
         "preminor" => pre_step(alloc, &next_minor(version)?, id, base),
         "prepatch" => pre_step(alloc, &next_patch(version)?, id, base),
@@ -47,7 +48,7 @@ pub(super) fn by_word(
             let text = release_of(alloc, version)?.to_string(alloc)?;
             Err(Failure::Refused(IncrementError::NotAPrerelease(text)))
         }
-        "patch" | "release" => release_of(alloc, version),
+        "release" => release_of(alloc, version),
         _ => Err(refused_argument(alloc, word)),
     }
 }

@@ -1,13 +1,11 @@
 // The pre step: how the pre-release list goes on.
 
-ghost use Rattle.std.specs.Prelude.{◌≡◌, ◌∷◌, if◌then◌else◌, ◌++◌, ◌<◌, ◌==◌};
-ghost use Rattle.semver_core.specs.Words.{⊤, [], begun, can_rise, digits_value, FailsWith, false};
-ghost use Rattle.semver_core.specs.Words.{has_numeric, id_cmp, id_view, ids_view, IfOk};
-ghost use Rattle.semver_core.specs.Words.{is_ascii_digit, is_eq, IsTrue, length, list_all};
-ghost use Rattle.semver_core.specs.Words.{list_text, MayAllocate, MemoryOnlyIf, Numeric, OnOk};
-ghost use Rattle.semver_core.specs.Words.{stepped, Steps, string_bytes, Tracks, true};
+ghost use Rattle.std.specs.Prelude.{◌≡◌, ◌∷◌, ◌++◌, ◌<◌, ◌==◌, true};
+ghost use Rattle.semver_core.specs.Words.{⊤, [], begun, can_rise, digits_value, FailsWith, id_cmp};
+ghost use Rattle.semver_core.specs.Words.{id_view, ids_view, IfOk, is_ascii_digit, is_eq, IsTrue};
+ghost use Rattle.semver_core.specs.Words.{length, list_all, list_text, MayAllocate, MemoryOnlyIf};
+ghost use Rattle.semver_core.specs.Words.{Numeric, OnOk, stepped, Steps, string_bytes, Tracks};
 ghost use Rattle.semver_core.specs.Increments.Table as spec;
-ghost use Rattle.semver_core.specs.Printing.Text as printed;
 
 use crate::increment::{IdentifierBase, IncrementError, one_more, refused_argument};
 use crate::version::lists::Identifiers;
