@@ -30,6 +30,22 @@ abbrev pub incremented : VersionValue → List ℕ → List ℕ → IdentifierBa
 incremented v word id base =
     (if starts_with nat_eq word (codes "pre") then checked id base else Ok tt) >>= λ _. by_word word id base v
 
+-- the rows of the words that have one each
+abbrev pub by_major : VersionValue → Result VersionValue Fault
+by_major v = if v.minor == 0 && (v.patch == 0 && not (is_release v)) then Ok (release_of v) else next_major v
+
+abbrev pub by_minor : VersionValue → Result VersionValue Fault
+by_minor v = if v.patch == 0 && not (is_release v) then Ok (release_of v) else next_minor v
+
+abbrev pub by_patch : VersionValue → Result VersionValue Fault
+by_patch v = if is_release v then next_patch v else Ok (release_of v)
+
+abbrev pub by_prerelease : List ℕ → IdentifierBase → VersionValue → Result VersionValue Fault
+by_prerelease id base v = if is_release v then (next_patch v >>= pre_step id base) else pre_step id base v
+
+abbrev pub by_release : VersionValue → Result VersionValue Fault
+by_release v = if is_release v then Err (NotAPrerelease (version_text v)) else Ok (release_of v)
+
 -- a list printed and joined by dots
 abbrev pub list_text : List Id → List ℕ
 list_text list = join_with_byte 46 (map id_text list)

@@ -5,6 +5,7 @@ ghost use Rattle.semver_core.specs.Words.{[], ⊤, begun, HasIdentifiers, ids_vi
 ghost use Rattle.semver_core.specs.Words.{MayAllocate, MemoryOnlyIf, Numeric, OnOk};
 ghost use Rattle.semver_core.specs.Words.{parts_ref_value, Returns, ReturnsParts, stepped, Steps};
 ghost use Rattle.semver_core.specs.Increments.Table as spec;
+ghost use Rattle.semver_core.specs.Internal.IncrementSteps as steps;
 
 use crate::increment::parts_ref::PartsRef;
 use crate::increment::pre_release::{
@@ -29,27 +30,83 @@ pub(super) fn by_word(
     ensures memory { MemoryOnlyIf result (MayAllocate HasIdentifiers
         (spec.by_word word.now id.now base (parts_ref_value version.now))) }
 {
-    let is_release = version.pre_release.is_empty();
-    // A pre-release of a minor number, and of a major one if the minor is 0.
-    let is_minor = version.patch == 0 && !is_release;
     match word {
-        "major" if version.minor == 0 && is_minor => release_of(alloc, version),
-        "major" => release_of(alloc, &next_major(version)?),
-        "minor" if is_minor => release_of(alloc, version),
-        "minor" => release_of(alloc, &next_minor(version)?),
-        "patch" if is_release => release_of(alloc, &next_patch(version)?),
-        "patch" => release_of(alloc, version),
+        "major" => major(alloc, version),
+        "minor" => minor(alloc, version),
+        "patch" => patch(alloc, version),
         "premajor" => pre_step(alloc, &next_major(version)?, id, base),
         "preminor" => pre_step(alloc, &next_minor(version)?, id, base),
         "prepatch" => pre_step(alloc, &next_patch(version)?, id, base),
-        "prerelease" if is_release => pre_step(alloc, &next_patch(version)?, id, base),
-        "prerelease" | "pre" => pre_step(alloc, version, id, base),
-        "release" if is_release => {
-            let text = release_of(alloc, version)?.to_string(alloc)?;
-            Err(Failure::Refused(IncrementError::NotAPrerelease(text)))
-        }
-        "release" => release_of(alloc, version),
+        "prerelease" => prerelease(alloc, version, id, base),
+        "pre" => pre_step(alloc, version, id, base),
+        "release" => release(alloc, version),
         _ => Err(refused_argument(alloc, word)),
+    }
+}
+
+fn major(alloc: Global, version: &PartsRef<'_>) -> Result<Version, Failure<IncrementError>>
+    ensures value { Returns (steps.by_major (parts_ref_value version.now)) result }
+    ensures memory { MemoryOnlyIf result (MayAllocate HasIdentifiers
+        (steps.by_major (parts_ref_value version.now))) }
+{
+    if version.minor == 0 && version.patch == 0 && !version.is_release() {
+        release_of(alloc, version)
+    } else {
+        release_of(alloc, &next_major(version)?)
+    }
+}
+
+fn minor(alloc: Global, version: &PartsRef<'_>) -> Result<Version, Failure<IncrementError>>
+    ensures value { Returns (steps.by_minor (parts_ref_value version.now)) result }
+    ensures memory { MemoryOnlyIf result (MayAllocate HasIdentifiers
+        (steps.by_minor (parts_ref_value version.now))) }
+{
+    if version.patch == 0 && !version.is_release() {
+        release_of(alloc, version)
+    } else {
+        release_of(alloc, &next_minor(version)?)
+    }
+}
+
+fn patch(alloc: Global, version: &PartsRef<'_>) -> Result<Version, Failure<IncrementError>>
+    ensures value { Returns (steps.by_patch (parts_ref_value version.now)) result }
+    ensures memory { MemoryOnlyIf result (MayAllocate HasIdentifiers
+        (steps.by_patch (parts_ref_value version.now))) }
+{
+    if version.is_release() {
+        release_of(alloc, &next_patch(version)?)
+    } else {
+        release_of(alloc, version)
+    }
+}
+
+fn prerelease(
+    alloc: Global,
+    version: &PartsRef<'_>,
+    id: &str,
+    base: IdentifierBase,
+) -> Result<Version, Failure<IncrementError>>
+    ensures value { Returns (steps.by_prerelease id.now base (parts_ref_value version.now)) result }
+    ensures memory { MemoryOnlyIf result (MayAllocate HasIdentifiers
+        (steps.by_prerelease id.now base (parts_ref_value version.now))) }
+{
+    if version.is_release() {
+        pre_step(alloc, &next_patch(version)?, id, base)
+    } else {
+        pre_step(alloc, version, id, base)
+    }
+}
+
+fn release(alloc: Global, version: &PartsRef<'_>) -> Result<Version, Failure<IncrementError>>
+    ensures value { Returns (steps.by_release (parts_ref_value version.now)) result }
+    ensures memory { MemoryOnlyIf result (MayAllocate HasIdentifiers
+        (steps.by_release (parts_ref_value version.now))) }
+{
+    if version.is_release() {
+        let text = release_of(alloc, version)?.to_string(alloc)?;
+        Err(Failure::Refused(IncrementError::NotAPrerelease(text)))
+    } else {
+        release_of(alloc, version)
     }
 }
 
