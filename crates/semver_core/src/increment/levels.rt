@@ -49,7 +49,7 @@ fn major(alloc: Global, version: &PartsRef<'_>) -> Result<Version, Failure<Incre
     ensures memory { MemoryOnlyIf result (MayAllocate HasIdentifiers
         (steps.by_major (parts_ref_value version.now))) }
 {
-    if version.minor == 0 && version.patch == 0 && !version.is_release() {
+    if version.minor == 0 && version.patch == 0 && !version.pre_release.is_empty() {
         release_of(alloc, version)
     } else {
         release_of(alloc, &next_major(version)?)
@@ -61,7 +61,7 @@ fn minor(alloc: Global, version: &PartsRef<'_>) -> Result<Version, Failure<Incre
     ensures memory { MemoryOnlyIf result (MayAllocate HasIdentifiers
         (steps.by_minor (parts_ref_value version.now))) }
 {
-    if version.patch == 0 && !version.is_release() {
+    if version.patch == 0 && !version.pre_release.is_empty() {
         release_of(alloc, version)
     } else {
         release_of(alloc, &next_minor(version)?)
@@ -73,7 +73,7 @@ fn patch(alloc: Global, version: &PartsRef<'_>) -> Result<Version, Failure<Incre
     ensures memory { MemoryOnlyIf result (MayAllocate HasIdentifiers
         (steps.by_patch (parts_ref_value version.now))) }
 {
-    if version.is_release() {
+    if version.pre_release.is_empty() {
         release_of(alloc, &next_patch(version)?)
     } else {
         release_of(alloc, version)
@@ -90,7 +90,7 @@ fn prerelease(
     ensures memory { MemoryOnlyIf result (MayAllocate HasIdentifiers
         (steps.by_prerelease id.now base (parts_ref_value version.now))) }
 {
-    if version.is_release() {
+    if version.pre_release.is_empty() {
         pre_step(alloc, &next_patch(version)?, id, base)
     } else {
         pre_step(alloc, version, id, base)
@@ -102,7 +102,7 @@ fn release(alloc: Global, version: &PartsRef<'_>) -> Result<Version, Failure<Inc
     ensures memory { MemoryOnlyIf result (MayAllocate HasIdentifiers
         (steps.by_release (parts_ref_value version.now))) }
 {
-    if version.is_release() {
+    if version.pre_release.is_empty() {
         let text = release_of(alloc, version)?.to_string(alloc)?;
         Err(Failure::Refused(IncrementError::NotAPrerelease(text)))
     } else {

@@ -1,7 +1,7 @@
 // The version that a word is asked of.
 
 ghost use Rattle.std.specs.Prelude.{◌≡◌};
-ghost use Rattle.semver_core.specs.Words.{is_release, parts_ref_value, release_value};
+ghost use Rattle.semver_core.specs.Words.{parts_ref_value, release_value};
 
 use crate::{IdentifierRefs, Versioned};
 
@@ -27,13 +27,6 @@ impl<'a> PartsRef<'a> {
             pre_release: version.pre_release(),
             build: version.build(),
         }
-    }
-
-    #[inline(always)]
-    pub(super) fn is_release(&self) -> bool
-        ensures { result ≡ is_release (parts_ref_value self.now) }
-    {
-        self.pre_release.is_empty()
     }
 
     // The release of these numbers with the same build.
