@@ -160,7 +160,7 @@ pub(crate) fn front_of_numbers(text: &str) -> usize
 }
 
 // The version of three numbers and of the identifiers behind them.
-#[inline(never)]
+#[inline(always)]
 fn version_behind(
     alloc: Global,
     text: &str,
