@@ -140,7 +140,6 @@ fn check(alloc: Global, id: &str, base: IdentifierBase) -> Result<(), Failure<In
 
 // The checks of a word that begins with `pre`, and then the word. No identifier is an empty one,
 // and no base is `Value(0)`.
-#[tactic(auto, using(crate::proofs::Increments::Memory::may_after))]
 fn increment(
     alloc: Global,
     version: &PartsRef<'_>,

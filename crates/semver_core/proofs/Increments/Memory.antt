@@ -131,11 +131,6 @@ step_fails id base v (Refused e) h = (
 )
 step_fails id base v (Memory e) h = (tt, step_may id base v (advance_fails v.pre_release id base (Memory e) h))
 
--- a check, and then the word
-pub may_after : {B : Type 0} (P : B → Type 0) (r : Result ⊤ Fault) (f : ⊤ → Result B Fault)
-    → MayAllocate (λ none. ⊥) r → MayAllocate P (r >>= f)
-may_after P r f = may_go_on (λ none. ⊥) P r f (λ x is no. absurd no)
-
 -- an answer, in the words of the public clause
 pub memory_of : (answer : Result VersionValue Fault) (r : Result VersionValue (Failure IncrementError))
     → MemoryOnlyIf r (MayAllocate HasIdentifiers answer)
