@@ -25,6 +25,7 @@ pub use crate::version::Version;
 pub use crate::version::accepts::{Accepts, AcceptsRef};
 pub use crate::version::parts::VersionParts;
 pub use crate::version::versioned::{VersionPoint, Versioned};
+use std::alloc::AllocError;
 
 pub mod scan;
 
@@ -33,3 +34,6 @@ pub const MAX_SAFE_INTEGER: u64 = 9_007_199_254_740_991;
 
 /// The length of the longest text that `Version::parse` reads, in bytes.
 pub const MAX_LENGTH: usize = 256;
+
+/// What a private function that allocates returns: its result, or the allocation failure.
+pub(crate) type Allocated<T> = Result<T, AllocError>;

@@ -14,7 +14,7 @@ ghost use Rattle.semver_core.specs.Words.{list_at, listed, NoPieceAt, number_at,
 ghost use Rattle.semver_core.specs.Words.{placed, prefix_len, run_from, take, true, utf8_valid_len};
 
 use crate::version::lists::Identifiers;
-use crate::{Identifier, MAX_SAFE_INTEGER};
+use crate::{Allocated, Identifier, MAX_SAFE_INTEGER};
 use smallvec::SmallVec;
 use std::alloc::{AllocError, Global};
 
@@ -314,11 +314,7 @@ pub(crate) fn scan_run(bytes: &[u8], start: usize) -> (usize, Option<u64>)
 
 // The identifier at a place where a run begins, and the place behind it.
 #[inline(always)]
-pub(crate) fn read_run(
-    alloc: Global,
-    text: &str,
-    start: usize,
-) -> Result<(Identifier, usize), AllocError>
+pub(crate) fn read_run(alloc: Global, text: &str, start: usize) -> Allocated<(Identifier, usize)>
     requires place { start ≤ length text.now }
     requires here { begins is_identifier_char (drop start text.now) ≡ true }
     ensures id { IfOk result (λ found. id_view found.0 ≡ identifier_of
@@ -395,11 +391,7 @@ pub(crate) fn read_into(
 
 // Fills an empty list with the identifiers that a text spells, joined by dots.
 #[tactic(auto, using(crate::proofs::Text::Listed::listed_read))]
-pub(crate) fn read_listed(
-    alloc: Global,
-    bytes: &[u8],
-    list: &mut Identifiers,
-) -> Result<(), AllocError>
+pub(crate) fn read_listed(alloc: Global, bytes: &[u8], list: &mut Identifiers) -> Allocated<()>
     requires listed { is_listed bytes.now ≡ true }
     requires empty { list.old.items ≡ [] }
     ensures whole { OnOk result (ids_view list.new.items ≡ listed bytes.now) }

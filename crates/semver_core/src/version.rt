@@ -1,14 +1,12 @@
 // Versions: five values.
 
-ghost use Rattle.std.specs.Prelude.{◌≡◌, ◌↔◌, Some, IsTrue, IfOk, All, length, ◌<◌, ◌≤◌};
-ghost use Rattle.semver_core.specs.Failures.{MemoryOnlyIf, RefusedOnlyIf, NoValue};
-ghost use Rattle.semver_core.specs.Text.VersionText.{Reads};
-ghost use Rattle.semver_core.specs.Text.Parsing.{Parses};
-ghost use Rattle.semver_core.specs.Values.Versions.{VersionValue, HasIdentifiers, IsVersion, IsId};
-ghost use Rattle.semver_core.specs.Values.Versions.{is_release, release_value};
-ghost use Rattle.semver_core.specs.Internal.Reading.{qualified};
-ghost use Rattle.semver_core.specs.Values.Views.{ids_view, id_view};
-ghost use Rattle.semver_core.specs.Internal.Inside.{IsFull, build_of, pre_release_of};
+ghost use Rattle.std.specs.Prelude.{All, IfOk, IsTrue, length, Some, ◌<◌, ◌↔◌, ◌≡◌, ◌≤◌};
+ghost use Rattle.semver_core.specs.Failures.{MemoryOnlyIf, NoValue, RefusedOnlyIf};
+ghost use Rattle.semver_core.specs.Internal.Inside.{build_of, IsFull, pre_release_of};
+ghost use Rattle.semver_core.specs.Values.Versions.{HasIdentifiers, release_value, VersionValue};
+ghost use Rattle.semver_core.specs.Values.Versions.{is_release, IsId, IsVersion};
+ghost use Rattle.semver_core.specs.{Internal.Reading.qualified, Values.Views.{id_view, ids_view}};
+ghost use Rattle.semver_core.specs.{Text.Parsing.Parses, Text.VersionText.Reads};
 
 pub mod accepts;
 mod convert;
@@ -100,13 +98,8 @@ impl Version {
     #[inline(always)]
     pub(crate) fn from_parts(major: u64, minor: u64, patch: u64, qualifier: Qualifier) -> Version
         requires { IsFull qualifier }
-        ensures { result ≡ record {
-          major = major;
-          minor = minor;
-          patch = patch;
-          pre_release = pre_release_of qualifier;
-          build = build_of qualifier;
-        } }
+        ensures { result ≡ record (release_value major minor patch)
+            { pre_release = pre_release_of qualifier; build = build_of qualifier } }
     {
         match &qualifier {
             Qualifier::Absent => {}

@@ -13,7 +13,7 @@ ghost use Rattle.semver_core.specs.Values.{Versions.{VersionValue, HasIdentifier
 
 use crate::readers::fast::numbers;
 use crate::version::lists::{Identifiers, Lists, Qualifier};
-use crate::{MAX_SAFE_INTEGER, Version, scan};
+use crate::{Allocated, MAX_SAFE_INTEGER, Version, scan};
 use std::alloc::{AllocError, Global};
 
 // Whether a mark stands at a place.
@@ -121,11 +121,7 @@ fn alone(text: &str, start: Option<usize>) -> Option<usize>
 // The pre-release and the build at a place, and the place after them; no box where there is one
 // identifier in a pre-release, or none.
 #[inline(always)]
-pub(crate) fn lists_at(
-    alloc: Global,
-    text: &str,
-    at: usize,
-) -> Result<(Qualifier, usize), AllocError>
+pub(crate) fn lists_at(alloc: Global, text: &str, at: usize) -> Allocated<(Qualifier, usize)>
     requires { at ≤ length text.now }
     ensures found { IfOk result (λ found.
         (pre_release_of found.0, build_of found.0, found.1) ≡ lists_at text.now at) }

@@ -1,9 +1,8 @@
 // Versions made of parts, taken apart and copied.
 
-ghost use Rattle.std.specs.Prelude.{◌≡◌, ◌≤◌, ◌+◌, ◌⊎◌, ◌∷◌, ◌++◌, [], IfOk, IfErr};
-ghost use Rattle.std.specs.Prelude.{OnOk, OnErr, IsOk, true, length, ◌<◌, vec_len, vec_capacity};
-ghost use Rattle.std.specs.Prelude.{ℕ, ◌==◌, IfNone, IfSome};
-ghost use Rattle.std.specs.List.{list_all};
+ghost use Rattle.std.specs.Prelude.{IfErr, IfNone, IfSome, length, OnErr, vec_capacity, vec_len, ℕ};
+ghost use Rattle.std.specs.Prelude.{IfOk, IsOk, OnOk, true, ◌++◌, ◌+◌, ◌==◌, ◌∷◌, ◌≡◌, ◌≤◌, ◌⊎◌};
+ghost use Rattle.std.specs.{List.list_all, Prelude.{[], ◌<◌}};
 ghost use Rattle.semver_core.specs.Text.Identifiers as id;
 ghost use Rattle.semver_core.specs.Text.Identifiers.{is_listed, listed};
 ghost use Rattle.semver_core.specs.Values.Memory.{takes_memory};
@@ -12,7 +11,7 @@ ghost use Rattle.semver_core.specs.Values.Views.{ids_view, parts_value};
 
 use crate::cuts::Point;
 use crate::version::lists::{Identifiers, Lists, Qualifier};
-use crate::{Identifier, IdentifierRefs, Version};
+use crate::{Allocated, Identifier, IdentifierRefs, Version};
 use smallvec::SmallVec;
 use std::alloc::{AllocError, Global};
 
@@ -286,11 +285,7 @@ impl Point for Version {
 }
 
 // Fills an empty list with copies of these identifiers. An empty list allocates nothing.
-pub(crate) fn copy_into(
-    alloc: Global,
-    from: &[Identifier],
-    to: &mut Identifiers,
-) -> Result<(), AllocError>
+pub(crate) fn copy_into(alloc: Global, from: &[Identifier], to: &mut Identifiers) -> Allocated<()>
     requires { to.old.items ≡ [] }
     ensures whole { OnOk result (ids_view to.new.items ≡ ids_view from.now) }
     ensures memory { OnErr result (0 < length from.now) }
