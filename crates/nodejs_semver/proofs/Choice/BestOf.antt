@@ -5,6 +5,7 @@ use Rattle.nodejs_semver.proofs.Common.{None, Option, Ordering, Some, VersionVal
 use Rattle.nodejs_semver.proofs.Common.{arith, cases_Bool, false, get_or, if◌then◌else◌, inl, inr, is_le, is_lt, length, list_all}
 use Rattle.nodejs_semver.proofs.Common.{list_all-append, map, not, not-true, option_copied, precedence, precedence_total, refl}
 use Rattle.nodejs_semver.proofs.Common.{replaces, subst, sym, take, tied_itself, true, ℕ, ◌++◌, ◌+◌, ◌<◌, ◌||◌, ◌∙◌, ◌∷◌, ◌≡◌}
+use Rattle.nodejs_semver.proofs.Common.{◌&&◌}
 use Rattle.nodejs_semver.proofs.Values.{map-further}
 use Rattle.nodejs_semver.proofs.Algebra.Gate.{le_of_lt, le_trans, lt_is, lt_le}
 
@@ -75,6 +76,12 @@ pub one_further : {A V : Type 0} (in_front behind : V → V → Bool) (set : V �
     → IsBest in_front behind set (map value (take i list) ++ value x ∷ []) (if new then Some (value x) else best)
     → next ≡ (if new then Some (value x) else best) → IsBest in_front behind set (map value (take (i + 1) list)) next
 one_further in_front behind set value list i x new best next within at h is = rw (is, map-further value list i x within at) h
+
+-- what takes the place of the best is in the set, and the best is not in front of it
+pub replaces_both : {V : Type 0} (beaten : V → V → Bool) (set : V → Bool) (best : Option V) (v : V) (new : Bool)
+    → new ≡ replaces beaten (λ _. true) best v → replaces beaten set best v ≡ (new && set v)
+replaces_both beaten set None v new is = rw is refl
+replaces_both beaten set (Some b) v new is = grind arith
 
 -- what callers cite of the best: it is a version of the list that is in the set, and none of the set in the list beats it; and
 -- there is none where no version of the list is in the set

@@ -93,14 +93,6 @@ fn push_both<'a, S: Found<'a>>(
     }
 }
 
-// Whether a space and a comparator stand at the front.
-#[inline(always)]
-fn begins_second(text: &[u8]) -> bool
-    ensures { result ≡ Spec.begins_second text.now }
-{
-    matches!(text, [b' ', b'<' | b'=' | b'>', ..])
-}
-
 // What follows a part, where its interval was added.
 #[inline(always)]
 fn behind_part(there: bool, rest: &[u8]) -> Option<&[u8]>
@@ -119,7 +111,7 @@ fn push_comparisons<'a, S: Found<'a>>(text: &'a [u8], found: &mut S) -> Allocate
     let Some((first, rest)) = comparison(text) else {
         return Ok(None);
     };
-    if !begins_second(rest) {
+    if !matches!(rest, [b' ', b'<' | b'=' | b'>', ..]) {
         let there = push_between(first.lower, first.upper, found)?;
         return Ok(behind_part(there, rest));
     }

@@ -10,8 +10,8 @@ pub returns-in_default-clause-added : goal.returns-in_default-clause-added
 unfolding comparisons_front
 returns-in_default-clause-added g c = rw (sym c.comparison.ensures ∙ ap bounds_front_view c.in_default.is) refl
 
-pub returns-then-not-begins_second-clause-added : goal.returns-then-not-begins_second-clause-added
-returns-then-not-begins_second-clause-added g c =
+pub returns-then-not-matches-clause-added : goal.returns-then-not-matches-clause-added
+returns-then-not-matches-clause-added g c =
     passed-part c.in_ok-there.there c.in-Some.rest.now (g.S.Found.items c.args.found.now) _ _ _ c.in_ok-there.ensures.added
     c.behind_part.ensures
     ∙ ap (λ (o : Front (Span VersionValue)). passed (g.S.Found.items c.args.found.now) o)
