@@ -1,9 +1,8 @@
-use Rattle.nodejs_semver.proofs.Common.{◌-◌, List, ℕ, ◌∙◌, ap, arith, length, space_len, MAX_SAFE_INTEGER, rest_view}
-use Rattle.nodejs_semver.proofs.Common.{after_blank-place, middle_is_trim, IsUtf8, rules}
+use Rattle.nodejs_semver.proofs.Common.{◌-◌, List, ℕ, ◌∙◌, ap, arith, length, space_len, MAX_SAFE_INTEGER, rest_view, after_blank-place}
+use Rattle.nodejs_semver.proofs.Common.{middle_is_trim, IsUtf8, rules}
 use Rattle.std.proofs.lemmas.Str.{IsCharBoundary-start}
-use Rattle.nodejs_semver.proofs.Reading.Bytes.{trim-starts}
+use Rattle.nodejs_semver.proofs.{Reading.Bytes.{trim-starts}, Diagnosing.IgnoredParts.{all_step, part_ends, part_fits, sizes_of}}
 use Rattle.nodejs_semver.specs.Internal.Readings.{part_view}
-use Rattle.nodejs_semver.proofs.Diagnosing.IgnoredParts.{all_step, part_ends, part_fits, sizes_of}
 use Rattle.nodejs_semver.proofs.diagnosis.ranges.before_words.Goals as goal
 
 pub skip_whitespace-start-requires : goal.skip_whitespace-start-requires

@@ -1,9 +1,8 @@
 use Rattle.nodejs_semver.proofs.Common.{◌≡◌, ap, refl, rules, sym, ◌∙◌, List, ℕ, ◌++◌, append_assoc, has_written_styled_append, decimal}
-use Rattle.std.proofs.Common.{codes}
-use Rattle.std.proofs.Output.{has_written_styled_of_eq}
+use Rattle.nodejs_semver.proofs.Common.{codes, has_written_styled_of_eq}
 use Rattle.nodejs_semver.specs.Diagnosis.Messages.{kind_text}
-use Rattle.nodejs_semver.proofs.diagnosis.messages.IgnoredWordDisplay.fmt.Goals as goal
 use Rattle.nodejs_semver.proofs.diagnosis.messages.IgnoredWordDisplay.fmt.Goals.{in-Malformed, in-WithoutBounds}
+use Rattle.nodejs_semver.proofs.diagnosis.messages.IgnoredWordDisplay.fmt.Goals as goal
 
 pub returns-clause-styled : goal.returns-clause-styled
 returns-clause-styled g c flush ok =
