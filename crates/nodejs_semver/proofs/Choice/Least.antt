@@ -53,8 +53,6 @@ next_patch_least w v e f h = grind (arith, nat_tests, below_cases w v h, le_not_
 pub zero_first : (v : VersionValue) → v.pre_release ≡ [] → is_gt (precedence zero v) ≡ false
 zero_first v e = grind (arith, le_not_gt, upto_patch)
 
--- ---- the greatest mark below a version
-
 -- ---- the greatest mark
 
 -- a mark that v lies past is not above g

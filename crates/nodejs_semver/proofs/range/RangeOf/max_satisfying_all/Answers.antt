@@ -11,7 +11,7 @@ loop-version-preserved g c =
     let best = value_of value c.loop-version.best in
     let both = replaces_both _ (λ v. list_all (λ range. accepts range v false) c.args.ranges.now) best (value c.version-item.result) _ c.is_none_above.ensures in
     let more = max_more (λ v. list_all (λ range. accepts range v false) c.args.ranges.now) (map value (take c.loop-version.version-index c.args.versions.now)) best
-        (value c.version-item.result) _ refl c.loop-version.invariant in
+    (value c.version-item.result) _ refl c.loop-version.invariant in
     one_further _ _ _ value c.args.versions.now c.loop-version.version-index c.version-item.result _ best
     (value_of value c.if-is_none_above.best) c.loop-version-test.true c.version-item.is more
     (elim c.if-is_none_above.branch [
