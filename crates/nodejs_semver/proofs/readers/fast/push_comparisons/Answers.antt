@@ -1,6 +1,6 @@
-use Rattle.nodejs_semver.proofs.Common.{◌≡◌, rules, List, ℕ, sym, ap, ◌∙◌, true, refl, take_rest, Span, VersionValue, MAX_SAFE_INTEGER}
-use Rattle.nodejs_semver.proofs.Common.{Front, rest_view, begins_second, comparison_front, comparisons_front, passed, word_read, Bool, Bor}
-use Rattle.nodejs_semver.proofs.Common.{None, Option, Some, false, if◌then◌else◌}
+use Rattle.nodejs_semver.proofs.Common.{arith, ◌≡◌, rules, List, ℕ, sym, ap, ◌∙◌, true, refl, take_rest, Span, VersionValue}
+use Rattle.nodejs_semver.proofs.Common.{MAX_SAFE_INTEGER, Front, rest_view, begins_second, comparison_front, comparisons_front, passed}
+use Rattle.nodejs_semver.proofs.Common.{word_read, Bool, Bor, None, Option, Some, if◌then◌else◌}
 use Rattle.nodejs_semver.specs.{Internal.CommonViews.{bounds_front_view}, Internal.Readings.{bounds_view}}
 use Rattle.nodejs_semver.proofs.Everyday.Parts.{first-read, none-second, passed-part, passed-second}
 use Rattle.std.specs.Bool.{then_some}
@@ -8,8 +8,7 @@ use Rattle.nodejs_semver.proofs.readers.fast.push_comparisons.Goals as goal
 
 then-rest : (there : Bool) (rest : Bor (List ℕ)) (r : Option (Bor (List ℕ))) → r ≡ then_some there rest
     → rest_view r ≡ (if there then Some rest.now else None)
-then-rest true rest r h = rw h refl
-then-rest false rest r h = rw h refl
+then-rest there rest r h = grind arith
 
 pub returns-in_default-clause-added : goal.returns-in_default-clause-added
 unfolding comparisons_front

@@ -9,8 +9,7 @@ use Rattle.nodejs_semver.proofs.readers.kinds.ignored_front.Goals as goal
 
 kind-is : (bounded unbounded : Bool) (kind : Option IgnoredKind)
     → bounded ≡ not unbounded → kind ≡ then_some unbounded WithoutBounds → kind ≡ unless_bounded bounded
-kind-is bounded true kind h k = rw (k, h) refl
-kind-is bounded false kind h k = rw (k, h) refl
+kind-is bounded unbounded kind h k = grind arith
 
 pub returns-in_default : goal.returns-in_default
 returns-in_default c =
