@@ -1,10 +1,9 @@
 // The words of a range text that mean nothing.
 
 ghost use Rattle.std.specs.Prelude.{◌++◌, ◌+◌, ◌-◌, ◌<◌, ◌↔◌, ◌≡◌, ◌≤◌};
-ghost use Rattle.nodejs_semver.specs.Words.{[], AreIgnored, if_ignored, ignored_behind};
+ghost use Rattle.nodejs_semver.specs.Words.{[], AreIgnored, if_ignored, ignored_behind, length};
 ghost use Rattle.nodejs_semver.specs.Words.{IsWhollyBounded, item_count, left_list, left_size};
-ghost use Rattle.nodejs_semver.specs.Words.{length, MAX_SAFE_INTEGER, option_list, Some};
-ghost use Rattle.nodejs_semver.specs.Words.{YieldsFirst};
+ghost use Rattle.nodejs_semver.specs.Words.{MAX_SAFE_INTEGER, option_list, Some, YieldsFirst};
 
 use crate::diagnosis::unread::Unread;
 use crate::readers::{cut_part, ignored_front, skip_spaces};

@@ -66,7 +66,8 @@ pub(crate) fn meet_somewhere<V: Point>(these: &[Interval<V>], others: &[Interval
 {
     these.iter().any(
         |interval| -> bool
-            ensures { result ≡ list_any (λ t. is_some (meet V.cmp interval.now t)) others.entry.now }
+            ensures { result
+                ≡ list_any (λ t. is_some (meet V.cmp interval.now t)) others.entry.now }
         { others.iter().any(|other| interval.meets(other)) },
     )
 }
