@@ -1,8 +1,8 @@
 -- What is left of a list is what of each of its spans lies within what is left of the whole line.
-use Rattle.nodejs_semver.proofs.Common.{nat_tests, common_steps, AllWithin, Bool, Bound, Cut, IsTotalOrder, List, None, Option, Ordering}
-use Rattle.nodejs_semver.proofs.Common.{Some, Span, Start, Unbounded, [], and-false, and_from, and_parts, ap, append-nil, append_assoc, ap₂}
-use Rattle.nodejs_semver.proofs.Common.{arith, below_lesser, below_upto, between, between_from, between_parts, cases_Bool, clip, cut_cmp}
-use Rattle.nodejs_semver.proofs.Common.{drop, false, flat_flat, flat_map, flat_map-append, flat_same, fold-append, get_or, get_or-drop}
+use Rattle.nodejs_semver.proofs.Common.{AllWithin, Bool, Bound, Cut, IsTotalOrder, List, None, Option, Ordering, Some, Span, Start}
+use Rattle.nodejs_semver.proofs.Common.{Unbounded, [], and-false, and_from, and_parts, ap, append-nil, append_assoc, ap₂, arith}
+use Rattle.nodejs_semver.proofs.Common.{below_lesser, below_upto, between, between_from, between_parts, cases_Bool, clip, cut_cmp, drop}
+use Rattle.nodejs_semver.proofs.Common.{false, flat_flat, flat_map, flat_map-append, flat_same, fold-append, get_or, get_or-drop}
 use Rattle.nodejs_semver.proofs.Common.{greater_below, greater_lower, gt_lt, if◌then◌else◌, inl, inr, irreflexive, is_interval, is_lt}
 use Rattle.nodejs_semver.proofs.Common.{is_some, is_some-interval, length, length-drop, lesser_upper, list_all, lower_cut, lt, lt_trans}
 use Rattle.nodejs_semver.proofs.Common.{minus, not, not-false, not_above, not_below, not_if, one_way, option_to_list, refl, remainder}
@@ -211,20 +211,26 @@ module _ {V : Type 0} {R : V → V → Ordering} (o : IsTotalOrder R) where
   -- what is cut from each span by what is left of the whole line
   pub minus-clips : (ss ts cs : List (Span V)) → list_all (is_interval R) ss ≡ true → cs ≡ minus R (whole ∷ []) ts
       → flat_map (λ s. flat_map (λ c. option_to_list (clip R s c)) cs) ss ≡ minus R ss ts
-  minus-clips ss ts cs h e = grind (arith, nat_tests, minus_clips, all_whole ss h)
+  minus-clips ss ts cs h e =
+      ap (λ (l : List (Span V)). flat_map (clips l) ss) e ∙ sym (minus_clips (whole ∷ []) ss ts)
+      ∙ ap (λ l. minus R l ts) (all_whole ss h)
 
   -- what is left of the line by one list after another
   pub gaps-joined : (ts us cs ds es left : List (Span V)) → cs ≡ minus R (whole ∷ []) ts → ds ≡ minus R (whole ∷ []) us
       → left ≡ flat_map (λ s. flat_map (λ c. option_to_list (clip R s c)) ds) cs → es ≡ ts ++ us → left ≡ minus R (whole ∷ []) es
   gaps-joined ts us cs ds es left e k f g =
-      grind (arith, nat_tests, fold-append, minus-clips cs us ds (along_all Start cs (along-gaps ts cs e)) k, along-gaps ts cs e, along_all Start cs (along-gaps ts cs e))
+      f ∙ minus-clips cs us ds (along_all Start cs (along-gaps ts cs e)) k ∙ ap (λ l. minus R l us) e
+      ∙ sym (fold-append (λ (left : List (Span V)) (t : Span V). flat_map (λ s. remainder R s t) left) (whole ∷ []) ts us)
+      ∙ ap (λ l. minus R (whole ∷ []) l) (sym g)
 
   -- the ends rise along the line
   ends_past : (a : Cut V) (cs : List (Span V)) (j : ℕ) (d : Span V) → IsAlong R a cs → j < length cs
       → lt o (upper_cut (get_or cs j d).upper) a ≡ false
   ends_past a [] j d h k = absurd (omega arith)
   ends_past a (c ∷ cs) zero d h k = not_below o (lower_cut c.lower) (upper_cut c.upper) a h.1.0 h.0
-  ends_past a (c ∷ cs) (suc j) d h k = grind (arith, nat_tests, upto_below, ends_past (upper_cut c.upper) cs j d h.1.1, lt_trans)
+  ends_past a (c ∷ cs) (suc j) d h k =
+      let n = ends_past (upper_cut c.upper) cs j d h.1.1 (omega arith) in
+      grind (arith, n, lt_trans, upto_below)
 
   ends_rise : (a : Cut V) (cs : List (Span V)) (i j : ℕ) (d : Span V) → IsAlong R a cs → i ≤ j → j < length cs
       → lt o (upper_cut (get_or cs j d).upper) (upper_cut (get_or cs i d).upper) ≡ false
@@ -275,7 +281,8 @@ module _ {V : Type 0} {R : V → V → Ordering} (o : IsTotalOrder R) where
       → lt o (lower_cut s.lower) (upper_cut (get_or es i d).upper) ≡ true → is_some (clip R s (get_or es i d)) ≡ false
       → clips (take i es) s ≡ clips es s
   stop_at s a [] i d h k e n = absurd (omega arith)
-  stop_at s a (c ∷ es) (suc i) d h k e n = grind (arith, nat_tests, common_steps, stop_at s (upper_cut c.upper) es i d h.1.1)
+  stop_at s a (c ∷ es) (suc i) d h k e n = ap (λ l. option_to_list (clip R s c) ++ l)
+      (stop_at s (upper_cut c.upper) es i d h.1.1 (omega arith) e n)
   stop_at s a (c ∷ es) zero d h k e n =
       let apart : is_interval R (clipped s c) ≡ false = sym (is_some-interval o (clipped s c)) ∙ n in
       sym (ap (λ l. l ++ clips es s) (no_clip s c apart) ∙ grind (arith, none_of, between_from, none_past, not_below))
