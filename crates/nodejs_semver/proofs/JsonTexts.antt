@@ -1,9 +1,8 @@
 -- What the reader of JSON leaves to be said of memory.
-use Rattle.nodejs_semver.proofs.Common.{Err, Failure, List, Memory, MemoryOnlyIf, Ok, Refused, Result, Some, [], arith, length, ℕ}
-use Rattle.nodejs_semver.proofs.Common.{◌<◌, ◌∷◌, ◌≡◌}
+use Rattle.nodejs_semver.proofs.Common.{Err, Failure, List, Memory, MemoryOnlyIf, Ok, Refused, Result, Some, [], arith, length, ℕ, ◌<◌, ◌∷◌}
+use Rattle.nodejs_semver.proofs.Common.{◌≡◌}
 use Rattle.serde_json.proofs.OnLiterals.{serde_json_on_literals}
-use Rattle.serde_json.specs.Data.{Data}
-use Rattle.serde_json.specs.Read.{read}
+use Rattle.serde_json.specs.{Data.{Data}, Read.{read}}
 
 -- a text that has a value is not empty
 pub read-some : (text : List ℕ) (d : Data) → read text ≡ Some d → 0 < length text

@@ -1,48 +1,20 @@
 -- For proofs. A printed version is the components of a partial, the text of an interval a part that means it, and a range that
 -- is printed and parsed comes back.
-use Rattle.std.proofs.Common.{◌<◌, ◌^◌, ℕ, [], ◌∷◌, ◌++◌, arith, append-nil, Some, decimal}
-use Rattle.semver_core.specs.Text.VersionText.{IsPreRelease}
-use Rattle.semver_core.specs.Internal.Readable.{IsReadable}
-use Rattle.semver_core.specs.Printing.Text.{marked_list, version_text}
-use Rattle.semver_core.specs.Values.Versions.{VersionValue}
+use Rattle.nodejs_semver.proofs.Common.{nat_tests, common_steps, ◌<◌, ◌^◌, ℕ, [], ◌∷◌, ◌++◌, arith, append-nil, Some, decimal, IsPreRelease}
+use Rattle.nodejs_semver.proofs.Common.{VersionValue, AreComponents, Partial, ◌≡◌, ◌||◌, true, List, refl, inl, inr, cases_Bool, Span}
+use Rattle.nodejs_semver.proofs.Common.{is_interval, meet, precedence, precedence_total, Bound, Unbounded, Before, After, table, version_eq}
+use Rattle.nodejs_semver.proofs.Common.{Comparator, IsSign, compare, above, equal, at_most, below, ◌+◌, map, ap, ◌&&◌, list_all, and_from}
+use Rattle.nodejs_semver.proofs.Common.{and_parts, is_range_span, denotes, IsRange, is_range_bound, range_text, sym, subst, IsUtf8, Failure}
+use Rattle.nodejs_semver.proofs.Common.{Means, Result, IfOk, IfOk-weaker}
+use Rattle.semver_core.specs.{Internal.Readable.{IsReadable}, Printing.Text.{marked_list, version_text}, Failures.{RefusedOnlyIf}}
 use Rattle.semver_core.proofs.Printing.Returns.{build_back, number_back, pre_back}
-use Rattle.nodejs_semver.specs.Text.PartialText.{AreComponents, Partial, number, three}
-use Rattle.nodejs_semver.proofs.Reading.Bytes.{quiet-before}
-use Rattle.nodejs_semver.proofs.Common.{◌≡◌, ◌<◌, ◌||◌, ℕ, true, List, [], ◌∷◌, ◌++◌, refl, inl, inr, Some, cases_Bool, Span}
-use Rattle.nodejs_semver.proofs.Common.{is_interval, meet, precedence, precedence_total, VersionValue, Bound, Unbounded, Before}
-use Rattle.nodejs_semver.proofs.Common.{After, table}
-use Rattle.std.proofs.Common.{◌^◌}
+use Rattle.nodejs_semver.specs.{Text.PartialText.{number, three}, Printing.RoundTrip.{bounds_back, is_printable}}
+use Rattle.nodejs_semver.specs.{Ranges.Outside.{is_bounded}, Printing.Text.{bounds_text}}
+use Rattle.nodejs_semver.specs.{Text.WordText.{above_sign, at_least_sign, at_most_sign, below_sign, at_least}, Internal.Sets.{span_eq}}
+use Rattle.nodejs_semver.specs.{Internal.Shorthands.{is_small}, Internal.SameLaws.{bound_refl}, Ranges.Equality.{range_eq}}
+use Rattle.nodejs_semver.proofs.{Reading.Bytes.{quiet-before}, Everyday.Words.{Tidy, compared-tidy, plain-tidy, two-tidy}}
+use Rattle.nodejs_semver.proofs.{Everyday.Texts.{AreTidy, more_tidy, one_tidy, tidy-denotes}, Dividing.MeaningLaw.{one_meaning}}
 use Rattle.std.specs.Cmp.{eq_by_cmp_equiv}
-use Rattle.semver_core.specs.Internal.Readable.{IsReadable}
-use Rattle.semver_core.specs.Values.Order.{version_eq}
-use Rattle.semver_core.specs.Printing.Text.{version_text}
-use Rattle.nodejs_semver.specs.Printing.RoundTrip.{bounds_back}
-use Rattle.nodejs_semver.specs.Ranges.Outside.{is_bounded}
-use Rattle.nodejs_semver.specs.Printing.Text.{bounds_text}
-use Rattle.nodejs_semver.specs.Text.WordText.{Comparator, IsSign, above_sign, at_least_sign, at_most_sign, below_sign, compare}
-use Rattle.nodejs_semver.specs.Text.WordText.{at_least, above, equal, at_most, below}
-use Rattle.nodejs_semver.proofs.Everyday.Words.{Tidy, compared-tidy, plain-tidy, two-tidy}
-use Rattle.nodejs_semver.proofs.Common.{◌≡◌, ◌+◌, ◌<◌, ℕ, true, List, [], ◌∷◌, ◌++◌, map, refl, ap, ◌∙◌, append-nil, arith, inl}
-use Rattle.nodejs_semver.proofs.Common.{◌&&◌, ◌||◌, list_all, and_from, and_parts, Span, is_interval, precedence, VersionValue}
-use Rattle.nodejs_semver.proofs.Common.{Bound, Unbounded, Before, After, is_range_span, denotes, IsRange, is_range_bound}
-use Rattle.std.proofs.Common.{◌^◌}
-use Rattle.nodejs_semver.specs.Internal.Sets.{span_eq}
-use Rattle.nodejs_semver.specs.Printing.RoundTrip.{is_printable, bounds_back}
-use Rattle.nodejs_semver.specs.Internal.Shorthands.{is_small}
-use Rattle.nodejs_semver.specs.Printing.Text.{bounds_text, range_text}
-use Rattle.nodejs_semver.specs.Ranges.Outside.{is_bounded}
-use Rattle.nodejs_semver.specs.Internal.SameLaws.{bound_refl}
-use Rattle.nodejs_semver.specs.Ranges.Equality.{range_eq}
-use Rattle.nodejs_semver.proofs.Everyday.Words.{Tidy}
-use Rattle.nodejs_semver.proofs.Everyday.Texts.{AreTidy, more_tidy, one_tidy, tidy-denotes}
-use Rattle.nodejs_semver.proofs.Common.{◌≡◌, ◌<◌, ℕ, true, List, [], ◌∷◌, map, sym, ◌∙◌, subst, arith, IsUtf8, list_all, Span}
-use Rattle.nodejs_semver.proofs.Common.{VersionValue, Failure, Means, IsRange}
-use Rattle.std.proofs.Common.{◌^◌, Result, IfOk}
-use Rattle.std.proofs.lemmas.Result.{IfOk-weaker}
-use Rattle.semver_core.specs.Failures.{RefusedOnlyIf}
-use Rattle.nodejs_semver.specs.Printing.RoundTrip.{is_printable}
-use Rattle.nodejs_semver.proofs.Dividing.MeaningLaw.{one_meaning}
-use Rattle.nodejs_semver.specs.Printing.Text.{range_text}
 
 -- the partial that a version is
 abbrev pub whole : VersionValue → Partial
@@ -169,8 +141,7 @@ pub reads_back : (limit : ℕ) (text : List ℕ) (list : List (Span VersionValue
     → list_all (is_printable limit) list ≡ true → text ≡ range_text list → denotes limit text ≡ map read_back list
 reads_back limit text [] small range h e = absurd (omega (arith, range.some))
 reads_back limit text (s ∷ rest) small range h e =
-    ap (denotes limit) e
-    ∙ (tidy-denotes limit (range_text (s ∷ rest)) (map read_back (s ∷ rest)) (printed_tidy limit s rest small range.each h)).0
+    grind (arith, nat_tests, tidy-denotes, printed_tidy limit s rest small range.each h)
 
 -- what is read from a printed interval prints as the same text
 again : (lower upper : Bound VersionValue) → bounds_text (bounds_back lower upper).lower (bounds_back lower upper).upper ≡ bounds_text lower upper
@@ -198,8 +169,7 @@ pub record Reread (limit : ℕ) (text : List ℕ) (list : List (Span VersionValu
 
 is_back : (limit : ℕ) (text : List ℕ) (again list : List (Span VersionValue)) → Reread limit text list → Means limit text again
     → again ≡ map read_back list
-is_back limit text again list h m =
-    sym ((one_meaning limit text again h.utf8).1 m) ∙ reads_back limit text list h.small h.range h.printable h.printed
+is_back limit text again list h m = grind (arith, nat_tests, common_steps, one_meaning, again, reads_back)
 
 -- what holds of the range that comes back
 pub reread : {E : Type 0} (limit : ℕ) (r : Result (List (Span VersionValue)) E) (text : List ℕ) (list : List (Span VersionValue))

@@ -1,13 +1,13 @@
 -- What holds of spans of versions holds of the spans of their values, where the order of the versions is that of the values.
-use Rattle.nodejs_semver.proofs.Common.{After, AreTaking, Before, Beside, Bool, Bound, Equal, Greater, List, None, Option}
-use Rattle.nodejs_semver.proofs.Common.{Ordering, Some, Span, TakesMemory, Unbounded, VersionValue, [], ap, append-nil}
-use Rattle.nodejs_semver.proofs.Common.{append_assoc, ap₂, arith, bound_of, codes, cut_cmp, false, flat_map, flat_map-append}
-use Rattle.nodejs_semver.proofs.Common.{flat_map-map, get_or, greater_lower, has_bound, if◌then◌else◌, inl, inr, interval, is_ge}
-use Rattle.nodejs_semver.proofs.Common.{is_gt, is_interval, is_le, is_past, is_some, join_by, left_above, left_below, length}
-use Rattle.nodejs_semver.proofs.Common.{length-map, lesser_upper, list_all, list_all-map, list_any, lower_cut, map, map-append}
-use Rattle.nodejs_semver.proofs.Common.{meet, meets_of, minus, option_map, option_to_list, ordering_reverse, ordering_then}
-use Rattle.nodejs_semver.proofs.Common.{passes, precedence, precedence_total, range_text, refl, remainder, span_of, span_text}
-use Rattle.nodejs_semver.proofs.Common.{spans_of, sym, take, take_next, true, upper_cut, ℕ, ◌++◌, ◌+◌, ◌<◌, ◌∙◌, ◌∷◌, ◌≡◌}
+use Rattle.nodejs_semver.proofs.Common.{nat_tests, common_steps, After, AreTaking, Before, Beside, Bool, Bound, Equal, Greater, List, None}
+use Rattle.nodejs_semver.proofs.Common.{Option, Ordering, Some, Span, TakesMemory, Unbounded, VersionValue, [], ap, append-nil}
+use Rattle.nodejs_semver.proofs.Common.{append_assoc, ap₂, arith, bound_of, codes, cut_cmp, false, flat_map, flat_map-append, flat_map-map}
+use Rattle.nodejs_semver.proofs.Common.{get_or, greater_lower, has_bound, if◌then◌else◌, inl, inr, interval, is_ge, is_gt, is_interval}
+use Rattle.nodejs_semver.proofs.Common.{is_le, is_past, is_some, join_by, left_above, left_below, length, length-map, lesser_upper}
+use Rattle.nodejs_semver.proofs.Common.{list_all, list_all-map, list_any, lower_cut, map, map-append, meet, meets_of, minus, option_map}
+use Rattle.nodejs_semver.proofs.Common.{option_to_list, ordering_reverse, ordering_then, passes, precedence, precedence_total, range_text}
+use Rattle.nodejs_semver.proofs.Common.{refl, remainder, span_of, span_text, spans_of, sym, take, take_next, true, upper_cut, ℕ, ◌++◌, ◌+◌}
+use Rattle.nodejs_semver.proofs.Common.{◌<◌, ◌∙◌, ◌∷◌, ◌≡◌}
 use Rattle.semver_core.specs.Values.Memory.{takes_memory}
 
 -- versions that are their own values
@@ -25,8 +25,7 @@ printed value ss = join_by (λ s. span_text (span_of value s)) (codes "||") ss
 pub printed-values : {V : Type 0} (value : V → VersionValue) (ss : List (Span V))
     → printed value ss ≡ range_text (spans_of value ss)
 printed-values value [] = refl
-printed-values value (s ∷ ss) = ap (λ l. span_text (span_of value s) ++ l)
-    (sym (flat_map-map (λ t. codes "||" ++ span_text t) (span_of value) ss))
+printed-values value (s ∷ ss) = grind (arith, nat_tests, common_steps, flat_map-map)
 
 -- a list is mapped one element further
 pub map-further : {A B : Type 0} (f : A → B) (xs : List A) (i : ℕ) (x : A) → i < length xs → x ≡ get_or xs i x
@@ -84,8 +83,7 @@ module _ {V : Type 0} (R : V → V → Ordering) (value : V → VersionValue)
 
   meet-values : (s t : Span V) → option_map (span_of value) (meet R s t) ≡ meet precedence (span_of value s) (span_of value t)
   meet-values s t =
-      interval-values (record { lower = greater_lower R s.lower t.lower; upper = lesser_upper R s.upper t.upper }) _
-      (ap₂ (λ l u. record { lower = l; upper = u }) (greater_lower-values s.lower t.lower) (lesser_upper-values s.upper t.upper))
+      grind (arith, nat_tests, greater_lower-values s.lower t.lower, lesser_upper-values s.upper t.upper, interval-values)
 
   remainder-values : (s t : Span V) → spans_of value (remainder R s t) ≡ remainder precedence (span_of value s) (span_of value t)
   remainder-values s t =
@@ -103,10 +101,7 @@ module _ {V : Type 0} (R : V → V → Ordering) (value : V → VersionValue)
 
   pub meets_of-values : (ss ts : List (Span V))
       → spans_of value (meets_of R ss ts) ≡ meets_of precedence (spans_of value ss) (spans_of value ts)
-  meets_of-values ss ts =
-      flat-map (span_of value) _ (λ s. flat_map (λ t. option_to_list (meet precedence s t)) (spans_of value ts))
-      (λ s. flat-map (span_of value) _ (λ t. option_to_list (meet precedence (span_of value s) t))
-      (λ t. list-map (span_of value) (meet R s t) ∙ ap option_to_list (meet-values s t)) ts) ss
+  meets_of-values ss ts = grind (arith, nat_tests, common_steps, flat-map, list-map, meet-values)
 
   pub minus-values : (ss ts : List (Span V))
       → spans_of value (minus R ss ts) ≡ minus precedence (spans_of value ss) (spans_of value ts)
@@ -165,9 +160,7 @@ range_push text xs x = grind (arith, append-nil, flat_map-append, append_assoc)
 pub range_step : {A : Type 0} (text : A → List ℕ) (xs : List A) (i : ℕ) (separator : List ℕ) (x : A) → i < length xs
     → separator ≡ bars_after (take i xs) → x ≡ get_or xs i x
     → joined text (take i xs) ++ (separator ++ text x) ≡ joined text (take (i + 1) xs)
-range_step text xs i separator x lt e h =
-    ap (λ s. joined text (take i xs) ++ (s ++ text x)) e
-    ∙ sym (ap (joined text) (take_next xs i x lt h) ∙ range_push text (take i xs) x)
+range_step text xs i separator x lt e h = grind (arith, nat_tests, common_steps, take_next, range_push)
 
 pub bars_step : {A : Type 0} (xs : List A) (i : ℕ) (x : A) → i < length xs → x ≡ get_or xs i x
     → 124 ∷ 124 ∷ [] ≡ bars_after (take (i + 1) xs)

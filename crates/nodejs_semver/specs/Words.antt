@@ -1,7 +1,7 @@
 -- The words of the contracts of this crate, brought together here. It defines nothing.
 pub use Rattle.nodejs_semver.specs.Diagnosis.IgnoredWords.{AreAlike, AreIgnored, if_ignored, IsWhollyBounded}
 pub use Rattle.nodejs_semver.specs.Diagnosis.IgnoredWords.{IsWhollyIgnored}
-pub use Rattle.nodejs_semver.specs.Diagnosis.Messages.{flaw_text, kind_text, word_text}
+pub use Rattle.nodejs_semver.specs.Diagnosis.Messages.{flaw_text, word_text}
 pub use Rattle.nodejs_semver.specs.Diagnosis.VersionFlaws.{IsExact, IsFlaw}
 pub use Rattle.nodejs_semver.specs.Internal.Along.{IsAlong}
 pub use Rattle.nodejs_semver.specs.Internal.CommonFronts.{common_range, pushed}
@@ -10,7 +10,7 @@ pub use Rattle.nodejs_semver.specs.Internal.Denotes.{denotes, part_bounds, part_
 pub use Rattle.nodejs_semver.specs.Internal.Fronts.{front_view, number_of, partial_front}
 pub use Rattle.nodejs_semver.specs.Internal.Hashes.{range_writes}
 pub use Rattle.nodejs_semver.specs.Internal.Ignored.{ignored_behind, kind_at, kind_view, left_list, left_size}
-pub use Rattle.nodejs_semver.specs.Internal.Ignored.{option_list, unless_bounded}
+pub use Rattle.nodejs_semver.specs.Internal.Ignored.{option_list}
 pub use Rattle.nodejs_semver.specs.Internal.Meets.{joined_from, next_at}
 pub use Rattle.nodejs_semver.specs.Internal.PartFronts.{later_parts}
 pub use Rattle.nodejs_semver.specs.Internal.Parts.{cut_bars, parts}
@@ -57,8 +57,7 @@ pub use Rattle.semver_core.specs.Cuts.{meet, passes, Span, Start, upper_cut}
 pub use Rattle.semver_core.specs.Failures.{MemoryOnlyIf, NoValue, RefusedOnlyIf}
 pub use Rattle.semver_core.specs.Internal.Reading.{mark_len, triple_at}
 pub use Rattle.semver_core.specs.Internal.Sides.{Far, Near}
-pub use Rattle.semver_core.specs.Internal.Spaces.{drop_spaces, goes_on_with, is_space_of_three, is_space_of_two}
-pub use Rattle.semver_core.specs.Internal.Spaces.{space_len, trim}
+pub use Rattle.semver_core.specs.Internal.Spaces.{drop_spaces, goes_on_with, is_space_of_three, is_space_of_two, space_len}
 pub use Rattle.semver_core.specs.Lists.{if_any, is_empty}
 pub use Rattle.semver_core.specs.Printing.Text.{version_text}
 pub use Rattle.semver_core.specs.Text.Characters.{begins, is_identifier_char, IsAfterBlank, IsTrim}

@@ -1,12 +1,11 @@
 -- What two lists of spans hold and accept: their intersection, and what one leaves of the other.
-use Rattle.nodejs_semver.proofs.Common.{Bool, Bound, IsTotalOrder, List, Option, Ordering, Span, VersionValue, [], accepts}
-use Rattle.nodejs_semver.proofs.Common.{and-true, and_cases, and_parts, any_either, any_flat, any_pairs, any_same, any_weaker}
-use Rattle.nodejs_semver.proofs.Common.{arith, between_parts, cut_cmp, false, flat_map, holds, if_any, if◌then◌else◌, interval}
-use Rattle.nodejs_semver.proofs.Common.{is_gt, is_interval, is_past, is_release, is_some, left_above, left_below, lets_in}
-use Rattle.nodejs_semver.proofs.Common.{list_any, list_any-append, list_holds, lower_cut, lt, meet, meets_of, minus, names, not}
-use Rattle.nodejs_semver.proofs.Common.{not-false, not-true, option_accepts, option_holds, option_holds-interval}
-use Rattle.nodejs_semver.proofs.Common.{option_holds-meet, option_list_holds, option_to_list, or_left, or_parts, or_right}
-use Rattle.nodejs_semver.proofs.Common.{past_below, precedence, precedence_total, refl, remainder, remainders-hold, remainders_by}
+use Rattle.nodejs_semver.proofs.Common.{Bool, Bound, IsTotalOrder, List, Option, Ordering, Span, VersionValue, [], accepts, and-true}
+use Rattle.nodejs_semver.proofs.Common.{and_cases, and_parts, any_either, any_flat, any_pairs, any_same, any_weaker, arith, between_parts}
+use Rattle.nodejs_semver.proofs.Common.{cut_cmp, false, flat_map, holds, if_any, if◌then◌else◌, interval, is_gt, is_interval, is_past}
+use Rattle.nodejs_semver.proofs.Common.{is_release, is_some, left_above, left_below, lets_in, list_any, list_any-append, list_holds}
+use Rattle.nodejs_semver.proofs.Common.{lower_cut, lt, meet, meets_of, minus, names, not, not-false, not-true, option_accepts, option_holds}
+use Rattle.nodejs_semver.proofs.Common.{option_holds-interval, option_holds-meet, option_list_holds, option_to_list, or_left, or_parts}
+use Rattle.nodejs_semver.proofs.Common.{or_right, past_below, precedence, precedence_total, refl, remainder, remainders-hold, remainders_by}
 use Rattle.nodejs_semver.proofs.Common.{sym, true, turned_lower, turned_upper, upper_cut, ◌&&◌, ◌++◌, ◌||◌, ◌∙◌, ◌∷◌, ◌≡◌}
 use Rattle.nodejs_semver.proofs.Algebra.Gate.{both, lets_in-meet, names_above, names_below}
 

@@ -1,16 +1,14 @@
 -- That the intersection and the difference of two lists are intervals of a range, and what they hold and accept.
-use Rattle.nodejs_semver.proofs.Common.{Bool, Bound, IfOk, IfOk-weaker, IsRange, IsTotalOrder, IsTrue, List, MAX_SAFE_INTEGER}
-use Rattle.nodejs_semver.proofs.Common.{None, Option, Ordering, Result, Some, Span, VersionValue, [], accepts, all_flat}
-use Rattle.nodejs_semver.proofs.Common.{all_weaker, and_parts, ap, ap₂, arith, cond_both, cut_cmp, difference, false, first_so}
-use Rattle.nodejs_semver.proofs.Common.{flat_map, get_or, if_any, inl, inr, intersection, is_gt, is_interval, is_range_bound}
-use Rattle.nodejs_semver.proofs.Common.{is_range_span, is_release, is_some, left_above, left_below, length, length-map, list_all}
-use Rattle.nodejs_semver.proofs.Common.{list_all-append, list_holds, lower_cut, meet, meets_of, minus, not, option_accepts}
-use Rattle.nodejs_semver.proofs.Common.{option_list_holds, option_to_list, precedence, precedence_total, refl, remainder}
-use Rattle.nodejs_semver.proofs.Common.{remainders_by, span_of, spans_of, subst, sym, true, turned_lower, turned_upper, upper_cut}
-use Rattle.nodejs_semver.proofs.Common.{ℕ, ◌&&◌, ◌++◌, ◌+◌, ◌<◌, ◌∙◌, ◌∷◌, ◌≡◌, ◌≢◌, ◌⊎◌}
-use Rattle.nodejs_semver.proofs.Values.{all_intervals-values, meets_of-values, minus-values}
+use Rattle.nodejs_semver.proofs.Common.{nat_tests, common_steps, Bool, Bound, IfOk, IfOk-weaker, IsRange, IsTotalOrder, IsTrue, List}
+use Rattle.nodejs_semver.proofs.Common.{MAX_SAFE_INTEGER, None, Option, Ordering, Result, Some, Span, VersionValue, [], accepts, all_flat}
+use Rattle.nodejs_semver.proofs.Common.{all_weaker, and_parts, ap, ap₂, arith, cond_both, cut_cmp, difference, false, first_so, flat_map}
+use Rattle.nodejs_semver.proofs.Common.{get_or, if_any, intersection, is_gt, is_interval, is_range_bound, is_range_span, is_release}
+use Rattle.nodejs_semver.proofs.Common.{is_some, left_above, left_below, length, length-map, list_all, list_all-append, list_holds}
+use Rattle.nodejs_semver.proofs.Common.{lower_cut, meet, meets_of, minus, not, option_accepts, option_list_holds, option_to_list}
+use Rattle.nodejs_semver.proofs.Common.{precedence, precedence_total, refl, remainder, remainders_by, spans_of, subst, sym, true}
+use Rattle.nodejs_semver.proofs.Common.{turned_lower, turned_upper, upper_cut, ℕ, ◌&&◌, ◌++◌, ◌+◌, ◌<◌, ◌∙◌, ◌∷◌, ◌≡◌, ◌≢◌, ◌⊎◌}
 use Rattle.nodejs_semver.proofs.Algebra.Accepting.{accepts-held, accepts-release, list_holds-meets_of, list_holds-minus}
-use Rattle.nodejs_semver.proofs.Algebra.Accepting.{option_list_holds-if_any}
+use Rattle.nodejs_semver.proofs.{Values.{all_intervals-values, meets_of-values, minus-values}, Algebra.Accepting.{option_list_holds-if_any}}
 
 module _ {V : Type 0} {R : V → V → Ordering} (o : IsTotalOrder R) (F : Bound V → Bool) where
   -- an interval with such bounds
@@ -147,16 +145,10 @@ module _ {V : Type 0} (R : V → V → Ordering) (value : V → VersionValue)
 
   -- where the lists have an intersection or a difference, the ranges do
   pub meets_of-some : 0 < length (meets_of R xs ys) → IsTrue (is_some (intersection a b))
-  meets_of-some e = any_some (meets_of precedence a b)
-      (omega (arith, e, length-map (meets_of R xs ys) (span_of value), ap length meets_of-is))
+  meets_of-some e = grind (arith, nat_tests, common_steps, any_some, length-map, meets_of-is)
 
   pub minus-some : (0 < length (minus R xs ys)) ⊎ (length ys ≢ 1) → IsTrue (is_some (difference a b)) ⊎ (1 < length b)
-  minus-some e = elim e [
-    | inl left ↦
-        inl (any_some (minus precedence a b)
-        (omega (arith, left, length-map (minus R xs ys) (span_of value), ap length minus-is)))
-    | inr other ↦ inr (several b k.some (λ one. other (sym (length-map ys (span_of value)) ∙ ap length q ∙ one)))
-  ]
+  minus-some e = grind (arith, nat_tests, common_steps, any_some, length-map, minus-is, several)
 
   pub intervals-ordered : list_all (is_interval R) xs ≡ true
   intervals-ordered =

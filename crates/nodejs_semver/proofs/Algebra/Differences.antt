@@ -1,14 +1,13 @@
 -- What is left of a list is what of each of its spans lies within what is left of the whole line.
-use Rattle.nodejs_semver.proofs.Common.{AllWithin, Bool, Bound, Cut, IsTotalOrder, List, None, Option, Ordering, Some, Span}
-use Rattle.nodejs_semver.proofs.Common.{Start, Unbounded, [], and-false, and_from, and_parts, ap, append-nil, append_assoc, ap₂}
-use Rattle.nodejs_semver.proofs.Common.{arith, below_lesser, below_upto, between, between_from, between_parts, cases_Bool, clip}
-use Rattle.nodejs_semver.proofs.Common.{cut_cmp, drop, false, flat_flat, flat_map, flat_map-append, flat_same, fold-append}
-use Rattle.nodejs_semver.proofs.Common.{get_or, get_or-drop, greater_below, greater_lower, gt_lt, if◌then◌else◌, inl, inr}
-use Rattle.nodejs_semver.proofs.Common.{irreflexive, is_interval, is_lt, is_some, is_some-interval, length, length-drop}
-use Rattle.nodejs_semver.proofs.Common.{lesser_upper, list_all, lower_cut, lt, lt_trans, minus, not, not-false, not_above}
-use Rattle.nodejs_semver.proofs.Common.{not_below, not_if, one_way, option_to_list, refl, remainder, remainders_by, subst, suc}
-use Rattle.nodejs_semver.proofs.Common.{sym, take, take_all, true, turned_lower, turned_upper, upper_cut, upto_below, zero, ℕ}
-use Rattle.nodejs_semver.proofs.Common.{◌&&◌, ◌++◌, ◌+◌, ◌<◌, ◌∙◌, ◌∷◌, ◌≡◌, ◌≤◌}
+use Rattle.nodejs_semver.proofs.Common.{AllWithin, Bool, Bound, Cut, IsTotalOrder, List, None, Option, Ordering, Some, Span, Start}
+use Rattle.nodejs_semver.proofs.Common.{Unbounded, [], and-false, and_from, and_parts, ap, append-nil, append_assoc, ap₂, arith}
+use Rattle.nodejs_semver.proofs.Common.{below_lesser, below_upto, between, between_from, between_parts, cases_Bool, clip, cut_cmp, drop}
+use Rattle.nodejs_semver.proofs.Common.{false, flat_flat, flat_map, flat_map-append, flat_same, fold-append, get_or, get_or-drop}
+use Rattle.nodejs_semver.proofs.Common.{greater_below, greater_lower, gt_lt, if◌then◌else◌, inl, inr, irreflexive, is_interval, is_lt}
+use Rattle.nodejs_semver.proofs.Common.{is_some, is_some-interval, length, length-drop, lesser_upper, list_all, lower_cut, lt, lt_trans}
+use Rattle.nodejs_semver.proofs.Common.{minus, not, not-false, not_above, not_below, not_if, one_way, option_to_list, refl, remainder}
+use Rattle.nodejs_semver.proofs.Common.{remainders_by, subst, suc, sym, take, take_all, true, turned_lower, turned_upper, upper_cut}
+use Rattle.nodejs_semver.proofs.Common.{upto_below, zero, ℕ, ◌&&◌, ◌++◌, ◌+◌, ◌<◌, ◌∙◌, ◌∷◌, ◌≡◌, ◌≤◌}
 use Rattle.std.specs.List.Sorted.{IsPartitionedBy, IsPartitionPoint}
 use Rattle.nodejs_semver.proofs.Dividing.RunLemmas.{greater_assoc, lesser_assoc}
 use Rattle.nodejs_semver.specs.Internal.Along.{IsAlong}

@@ -1,10 +1,8 @@
 -- Lists that are joined from a list for each element of another, and tests of their elements.
-use Rattle.std.proofs.Common.{append_assoc, ◌≡◌, refl, sym, ◌∙◌, ap, ap₂, ℕ, ◌+◌, ◌<◌, Bool, true, false, ◌&&◌, ◌||◌, List}
-use Rattle.std.proofs.Common.{[], ◌∷◌, ◌++◌, length, get_or, take, not, inl, inr, arith, Option, is_some}
-use Rattle.std.proofs.Common.{option_to_list, map, Result, Ok, Err, OnErr}
-use Rattle.std.proofs.lemmas.Bool.{and_parts, or_cases}
-use Rattle.std.proofs.lemmas.Grind.{flat_map-append}
-use Rattle.std.proofs.lemmas.List.{append-nil, take_more}
+use Rattle.std.proofs.Common.{append_assoc, ◌≡◌, refl, sym, ◌∙◌, ap, ℕ, ◌+◌, ◌<◌, Bool, true, false, ◌&&◌, ◌||◌, List, [], ◌∷◌, ◌++◌}
+use Rattle.std.proofs.{lemmas.Bool.Decides.{nat_tests}, lemmas.Grind.{common_steps, flat_map-append}}
+use Rattle.std.proofs.Common.{length, get_or, take, not, arith, Option, is_some, option_to_list, map, Result, Ok, Err, OnErr}
+use Rattle.std.proofs.{lemmas.Bool.{and_parts, or_cases}, lemmas.List.{append-nil, take_more}}
 use Rattle.std.proofs.lemmas.List.Folds.{Any-from_list_any, length-flat_map-take, list_all-append, list_any-append, list_any_at}
 use Rattle.semver_core.specs.Lists.{is_empty}
 use Rattle.std.specs.List.{flat_map, list_all, list_any}
@@ -20,16 +18,13 @@ take_next xs i x within at = take_more xs i x within ∙ ap (λ y. take i xs ++ 
 -- one more element, whose list was put at the end
 pub flat_step : {A B : Type 0} (f : A → List B) (xs : List A) (i : ℕ) (x : A) (old new : List B) → i < length xs
     → x ≡ get_or xs i x → old ≡ flat_map f (take i xs) → new ≡ old ++ f x → new ≡ flat_map f (take (i + 1) xs)
-flat_step f xs i x old new h at e k =
-    k ∙ ap (λ l. l ++ f x) e ∙ ap (λ l. flat_map f (take i xs) ++ l) (sym (append-nil (f x)))
-    ∙ sym (flat_map-append f (take i xs) (x ∷ [])) ∙ ap (flat_map f) (sym (take_next xs i x h at))
+flat_step f xs i x old new h at e k = grind (arith, nat_tests, common_steps, append-nil, flat_map-append, take_next)
 
 -- the same behind a front
 pub flat_behind : {A B : Type 0} (f : A → List B) (xs : List A) (i : ℕ) (x : A) (front old new part : List B) → i < length xs
     → x ≡ get_or xs i x → part ≡ f x
     → old ≡ front ++ flat_map f (take i xs) → new ≡ old ++ part → new ≡ front ++ flat_map f (take (i + 1) xs)
-flat_behind f xs i x front old new part h at p e k =
-    k ∙ ap₂ (λ l m. l ++ m) e p ∙ append_assoc front _ _ ∙ ap (λ l. front ++ l) (flat_step f xs i x _ _ h at refl refl)
+flat_behind f xs i x front old new part h at p e k = grind (arith, nat_tests, common_steps, append_assoc, flat_step)
 
 pub flat_flat : {A B C : Type 0} (f : B → List C) (g : A → List B) (xs : List A)
     → flat_map f (flat_map g xs) ≡ flat_map (λ x. flat_map f (g x)) xs
@@ -104,6 +99,4 @@ any_under p q (x ∷ xs) h k = grind (arith, any_under p q xs)
 pub pick_both : {A : Type 0} (p q : A → Bool) (xs : List A) → list_any p xs ≡ true → list_all q xs ≡ true → (x : A)
     × ((p x ≡ true) × (q x ≡ true))
 pick_both p q [] h k = cc
-pick_both p q (x ∷ xs) h k =
-    let (here, there) = and_parts (q x) (list_all q xs) k in
-    elim (or_cases (p x) (list_any p xs) h) [ inl e ↦ (x, (e, here)) | inr e ↦ pick_both p q xs e there ]
+pick_both p q (x ∷ xs) h k = grind (arith, nat_tests, common_steps, and_parts, or_cases, pick_both p q xs)

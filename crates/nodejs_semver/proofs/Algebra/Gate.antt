@@ -1,11 +1,10 @@
 -- Tests of total orders, and the order of versions in two steps: by the three numbers, and then by the pre-release.
-use Rattle.nodejs_semver.proofs.Common.{Beside, Bool, Bound, Cut, End, Equal, IsTotalOrder, Near, Ordering, Span, Start}
-use Rattle.nodejs_semver.proofs.Common.{VersionValue, alike_right, ap, arith, bool_cmp, cases_Bool, cond_both, cut_cmp, false}
-use Rattle.nodejs_semver.proofs.Common.{first_so, greater_lower, gt_lt, holds, inl, inr, is_eq, is_gt, is_le, is_lt, is_past}
-use Rattle.nodejs_semver.proofs.Common.{is_release, lesser_upper, lets_in, lower_cut, lt, lt_not_gt, names, nat_cmp, not}
-use Rattle.nodejs_semver.proofs.Common.{not-true, not_if, on, one_way, ordering_reverse, ordering_then, past_lt, pre_cmp}
-use Rattle.nodejs_semver.proofs.Common.{precedence, precedence_total, refl, same_triple, second_so, sym, tells, then_cmp, true}
-use Rattle.nodejs_semver.proofs.Common.{upper_cut, ◌&&◌, ◌||◌, ◌∙◌, ◌≡◌}
+use Rattle.nodejs_semver.proofs.Common.{nat_tests, common_steps, Beside, Bool, Bound, Cut, End, Equal, IsTotalOrder, Near, Ordering, Span}
+use Rattle.nodejs_semver.proofs.Common.{Start, VersionValue, alike_right, ap, arith, bool_cmp, cases_Bool, cond_both, cut_cmp, false}
+use Rattle.nodejs_semver.proofs.Common.{first_so, greater_lower, gt_lt, holds, inl, inr, is_eq, is_gt, is_le, is_lt, is_past, is_release}
+use Rattle.nodejs_semver.proofs.Common.{lesser_upper, lets_in, lower_cut, lt, lt_not_gt, names, nat_cmp, not, not-true, not_if, on, one_way}
+use Rattle.nodejs_semver.proofs.Common.{ordering_then, past_lt, pre_cmp, precedence, precedence_total, refl, same_triple, second_so, sym}
+use Rattle.nodejs_semver.proofs.Common.{tells, then_cmp, true, upper_cut, ◌&&◌, ◌||◌, ◌∙◌, ◌≡◌}
 use Rattle.std.specs.Cmp.{upto, on_total, then_total, nat_cmp_total, unsigned_ties, tied_then, tied_back}
 
 pub le_of_lt : (r : Ordering) → is_lt r ≡ true → is_le r ≡ true
@@ -57,12 +56,7 @@ upto_by_both v w h k = ap is_gt (in_two_steps v w) ∙ not_gt_then (triple_cmp v
 -- a version between two of one triple is of that triple, and a pre-release if the second is
 pub triple_between : (w u v : VersionValue) → triple_cmp w v ≡ Equal → is_gt (precedence w u) ≡ false
     → is_gt (precedence u v) ≡ false → triple_cmp u v ≡ Equal
-triple_between w u v e h k =
-    tied (triple_cmp w u) (triple_cmp u v) (triple_total.congr w v u e ∙ triple_total.antisymm v u) (triple_upto w u h)
-    (triple_upto u v k)
-  where
-    tied : (r s : Ordering) → r ≡ ordering_reverse s → is_gt r ≡ false → is_gt s ≡ false → s ≡ Equal
-    tied r s e h k = grind arith
+triple_between w u v e h k = grind (arith, nat_tests, common_steps, triple_upto)
 
 pub pre_upto : (u v : VersionValue) → is_release v ≡ false → triple_cmp u v ≡ Equal → is_gt (precedence u v) ≡ false
     → is_release u ≡ false

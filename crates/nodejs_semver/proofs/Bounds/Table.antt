@@ -1,22 +1,17 @@
 -- For proofs. The bounds of what is read are such as a range may have.
-use Rattle.nodejs_semver.proofs.Common.{AllByRecursion, Bool, Bound, List, Run, Span, VersionValue, [], and_from, arith}
-use Rattle.nodejs_semver.proofs.Common.{cond_both, denotes, drop_spaces, filter_map, first_so, fits, flat_map, if◌then◌else◌}
-use Rattle.nodejs_semver.proofs.Common.{interval_of, is_range_bound, is_range_span, length, list_all, list_all-append, map}
-use Rattle.nodejs_semver.proofs.Common.{part_bounds, part_denotes, precedence, refl, run_items, second_so, suc, table, true}
-use Rattle.nodejs_semver.proofs.Common.{word_at, words_within, zero, ℕ, ◌+◌, ◌∷◌, ◌≡◌}
+use Rattle.nodejs_semver.proofs.Common.{nat_tests, common_steps, AllByRecursion, Bool, Bound, List, Run, Span, VersionValue, [], and_from}
+use Rattle.nodejs_semver.proofs.Common.{arith, cond_both, denotes, filter_map, first_so, fits, flat_map, if◌then◌else◌, interval_of}
+use Rattle.nodejs_semver.proofs.Common.{is_range_bound, is_range_span, length, list_all, list_all-append, map, part_bounds, part_denotes}
+use Rattle.nodejs_semver.proofs.Common.{precedence, refl, run_items, suc, table, true, words_within, zero, ℕ, ◌+◌, ◌∷◌, ◌≡◌}
 use Rattle.nodejs_semver.specs.Text.Runs.{greatest_lower, least_upper}
-use Rattle.nodejs_semver.proofs.Bounds.Bounded.{word-fine}
-use Rattle.nodejs_semver.proofs.Dividing.RunsDivide.{all-cons, part_divides}
+use Rattle.nodejs_semver.proofs.{Bounds.Bounded.{word-fine}, Dividing.RunsDivide.{all-cons, part_divides}}
 use Rattle.nodejs_semver.proofs.Bounds.TableRows.{are_bounds, table-bounded}
 
 words-bounded : (limit n : ℕ) (text : List ℕ) → list_all (are_bounds (limit + 1)) (filter_map (table limit) (words_within limit n text)) ≡ true
 unfolding words_within
 words-bounded limit zero text = refl
 words-bounded limit (suc n) [] = refl
-words-bounded limit (suc n) (b ∷ text) =
-    let read = word_at limit (b ∷ text) in
-    all-cons (are_bounds (limit + 1)) (table limit read.0) (filter_map (table limit) (words_within limit n (drop_spaces read.1)))
-    (λ s e. table-bounded limit read.0 s (word-fine limit (b ∷ text)) e) (words-bounded limit n (drop_spaces read.1))
+words-bounded limit (suc n) (b ∷ text) = grind (arith, nat_tests, words-bounded limit n, table-bounded, word-fine, all-cons)
 
 part-bounded : (limit : ℕ) (part : List ℕ) → list_all (are_bounds (limit + 1)) (part_bounds limit part) ≡ true
 part-bounded limit part = words-bounded limit (length part) part
@@ -31,13 +26,11 @@ lower-bounded limit s [] h = first_so _ _ (first_so (are_bounds limit s) true h)
 lower-bounded limit s (t ∷ rest) h = grind (arith, pick, lower-bounded limit t rest)
 
 upper-bounded : (limit : ℕ) (s : Span VersionValue) (ts : List (Span VersionValue)) → list_all (are_bounds limit) (s ∷ ts) ≡ true → is_range_bound limit (least_upper precedence s ts) ≡ true
-upper-bounded limit s [] h =
-    second_so (is_range_bound limit s.lower) (is_range_bound limit s.upper) (first_so (are_bounds limit s) true h)
+upper-bounded limit s [] h = grind (arith, nat_tests, common_steps)
 upper-bounded limit s (t ∷ rest) h = grind (arith, pick, upper-bounded limit t rest)
 
 run-bounded : (limit : ℕ) (r : Run VersionValue) → list_all (are_bounds limit) (run_items r) ≡ true → fits precedence r ≡ true → is_range_span limit (interval_of precedence r) ≡ true
-run-bounded limit r h one =
-    and_from _ _ one (and_from _ _ (lower-bounded limit r.first r.others h) (upper-bounded limit r.first r.others h))
+run-bounded limit r h one = grind (arith, nat_tests, common_steps, and_from, lower-bounded, upper-bounded)
 
 runs-bounded : (limit : ℕ) (runs : List (Run VersionValue)) → list_all (are_bounds limit) (flat_map run_items runs) ≡ true → AllByRecursion (λ r. fits precedence r ≡ true) runs
     → list_all (is_range_span limit) (map (interval_of precedence) runs) ≡ true

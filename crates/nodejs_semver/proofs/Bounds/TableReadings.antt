@@ -1,8 +1,7 @@
 -- For proofs. The bounds that the table gives a word that is no hyphen word make an interval.
-use Rattle.nodejs_semver.proofs.Common.{IfSome, List, Option, Some, Span, VersionValue, Word, arith, interval, is_interval}
-use Rattle.nodejs_semver.proofs.Common.{precedence, refl, sym, table, true, ℕ, ◌≡◌}
-use Rattle.nodejs_semver.specs.Internal.CommonFronts.{part_read}
-use Rattle.nodejs_semver.specs.Internal.Readings.{bounds_view, table_view}
+use Rattle.nodejs_semver.proofs.Common.{IfSome, List, Option, Some, Span, VersionValue, Word, arith, interval, is_interval, precedence}
+use Rattle.nodejs_semver.proofs.Common.{refl, sym, table, true, ℕ, ◌≡◌}
+use Rattle.nodejs_semver.specs.{Internal.CommonFronts.{part_read}, Internal.Readings.{bounds_view, table_view}}
 use Rattle.nodejs_semver.specs.declared.readers.syntax.Bounds.{Bounds}
 use Rattle.nodejs_semver.proofs.Bounds.TableRows.{table-interval}
 

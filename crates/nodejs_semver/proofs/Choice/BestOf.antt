@@ -1,12 +1,10 @@
 -- The version that is found in a list is the best one of those in the set.
-use Rattle.nodejs_semver.proofs.Common.{All, All-append, All-cons, All-same, All-weaker, AllPass-from_list_all, Bool, Bor}
-use Rattle.nodejs_semver.proofs.Common.{Contains, Contains-append_right, IfNone, IfSome, IsBest, IsMax, IsMin, IsTotalOrder, List}
-use Rattle.nodejs_semver.proofs.Common.{None, Option, Ordering, Some, VersionValue, [], all_weaker, and_from, ap, append_assoc}
-use Rattle.nodejs_semver.proofs.Common.{arith, cases_Bool, false, get_or, if◌then◌else◌, inl, inr, is_le, is_lt, length, list_all}
-use Rattle.nodejs_semver.proofs.Common.{list_all-append, map, not, not-true, option_copied, precedence, precedence_total, refl}
-use Rattle.nodejs_semver.proofs.Common.{replaces, subst, sym, take, tied_itself, true, ℕ, ◌++◌, ◌+◌, ◌<◌, ◌||◌, ◌∙◌, ◌∷◌, ◌≡◌}
-use Rattle.nodejs_semver.proofs.Values.{map-further}
-use Rattle.nodejs_semver.proofs.Algebra.Gate.{le_of_lt, le_trans, lt_is, lt_le}
+use Rattle.nodejs_semver.proofs.Common.{nat_tests, common_steps, All, Bool, Bor, Contains, Contains-append_right, IfNone, IfSome, IsBest}
+use Rattle.nodejs_semver.proofs.Common.{IsMax, IsMin, IsTotalOrder, List, None, Option, Ordering, Some, VersionValue, [], all_weaker}
+use Rattle.nodejs_semver.proofs.Common.{and_from, ap, append_assoc, arith, cases_Bool, false, get_or, if◌then◌else◌, is_le, is_lt, length}
+use Rattle.nodejs_semver.proofs.Common.{list_all-append, map, not, not-true, option_copied, precedence, precedence_total, refl, replaces}
+use Rattle.nodejs_semver.proofs.Common.{subst, sym, take, tied_itself, true, ℕ, ◌++◌, ◌+◌, ◌<◌, ◌||◌, ◌∙◌, ◌∷◌, ◌≡◌, ◌&&◌}
+use Rattle.nodejs_semver.proofs.{Values.{map-further}, Algebra.Gate.{le_of_lt, le_trans, lt_is, lt_le}}
 
 -- what holds of the two relations of the best
 record Ranks {V : Type 0} (in_front behind : V → V → Bool) : Type 0 where
@@ -17,36 +15,9 @@ record Ranks {V : Type 0} (in_front behind : V → V → Bool) : Type 0 where
 module _ {V : Type 0} (in_front behind : V → V → Bool) (ranks : Ranks in_front behind) (set : V → Bool) (list : List V) where
   one_more : (best : Option V) (x : V) (new : Bool) → new ≡ replaces in_front set best x → IsBest in_front behind set list best
       → IsBest in_front behind set (list ++ x ∷ []) (if new then Some x else best)
-  one_more None x new is h = rw is (elim (cases_Bool (set x)) [
-    | inl s ↦ rw s (s, list, [], refl, all_weaker _ _ (λ w g. rw g refl) list h, refl)
-    | inr s ↦ rw s (list_all-append (λ w. not (set w)) list (x ∷ []) ∙ and_from _ _ h (rw s refl))
-  ])
+  one_more None x new is h = grind (arith, nat_tests, common_steps, cases_Bool, all_weaker, list_all-append, and_from)
   one_more (Some b) x new is h =
-      let stays : (not (set x) || behind x b) ≡ true → IsBest in_front behind set (list ++ x ∷ []) (Some b) = λ t. (
-        h.0,
-        h.1,
-        h.2 ++ x ∷ [],
-        ap (λ l. l ++ x ∷ []) h.3 ∙ append_assoc h.1 (b ∷ h.2) (x ∷ []),
-        h.4,
-        list_all-append (λ w. not (set w) || behind w b) h.2 (x ∷ []) ∙ and_from _ _ h.5 (rw t refl),
-      ) in
-      rw is (elim (cases_Bool (in_front b x)) [
-        | inr worse ↦ rw worse (stays (rw (ranks.other b x worse) (grind arith)))
-        | inl better ↦ elim (cases_Bool (set x)) [
-          | inr s ↦ rw (better, s) (stays (rw s refl))
-          | inl s ↦ rw (better, s) (
-            s,
-            list,
-            [],
-            refl,
-            ap (list_all (λ w. not (set w) || in_front w x)) h.3
-                ∙ list_all-append (λ w. not (set w) || in_front w x) h.1 (b ∷ h.2)
-                ∙ and_from _ _ (all_weaker _ _ (λ w g. grind (arith, ranks.passes w b x better)) h.1 h.4)
-                (and_from _ _ (rw (h.0, better) refl) (all_weaker _ _ (λ w g. grind (arith, ranks.weaker w b x better)) h.2 h.5)),
-            refl,
-          )
-        ]
-      ])
+      grind (arith, nat_tests, list_all-append, append_assoc h.1 (b ∷ h.2) (x ∷ []), cases_Bool, all_weaker, and_from)
 
 pub max_more : (set : VersionValue → Bool) (list : List VersionValue) (best : Option VersionValue) (x : VersionValue) (new : Bool)
     → new ≡ replaces (λ b x. is_le (precedence b x)) set best x
@@ -76,6 +47,12 @@ pub one_further : {A V : Type 0} (in_front behind : V → V → Bool) (set : V �
     → next ≡ (if new then Some (value x) else best) → IsBest in_front behind set (map value (take (i + 1) list)) next
 one_further in_front behind set value list i x new best next within at h is = rw (is, map-further value list i x within at) h
 
+-- what takes the place of the best is in the set, and the best is not in front of it
+pub replaces_both : {V : Type 0} (beaten : V → V → Bool) (set : V → Bool) (best : Option V) (v : V) (new : Bool)
+    → new ≡ replaces beaten (λ _. true) best v → replaces beaten set best v ≡ (new && set v)
+replaces_both beaten set None v new is = rw is refl
+replaces_both beaten set (Some b) v new is = grind arith
+
 -- what callers cite of the best: it is a version of the list that is in the set, and none of the set in the list beats it; and
 -- there is none where no version of the list is in the set
 abbrev pub Says : {V : Type 0} → (V → V → Bool) → (V → Bool) → List V → Option (Bor V) → Type 0
@@ -88,19 +65,10 @@ module _ {V : Type 0} (in_front behind beaten : V → V → Bool) (front : (w v 
   in_set_only s a b f h k = grind arith
 
   all_beaten : (list : List V) (v : V) → IsBest in_front behind set list (Some v) → All (λ w. set w ≡ true → beaten w v ≡ true) list
-  all_beaten list v h =
-      let Says : (V → V → Bool) → V → Type 0 = λ relation w. (not (set w) || relation w v) ≡ true in
-      let Beaten : V → Type 0 = λ w. set w ≡ true → beaten w v ≡ true in
-      All-same Beaten list (h.1 ++ v ∷ h.2) h.3 (All-append Beaten h.1 (v ∷ h.2)
-      (All-weaker (Says in_front) Beaten (λ w q. in_set_only (set w) (in_front w v) (beaten w v) (front w v) q) h.1
-      (AllPass-from_list_all _ h.1 h.4)) (All-cons Beaten v h.2 (λ k. tied v)
-      (All-weaker (Says behind) Beaten (λ w q. in_set_only (set w) (behind w v) (beaten w v) (back w v) q) h.2
-      (AllPass-from_list_all _ h.2 h.5))))
+  all_beaten list v h = grind (arith, nat_tests, common_steps, in_set_only)
 
   best_says : (list : List V) (r : Option (Bor V)) → IsBest in_front behind set list (option_copied r) → Says beaten set list r
-  best_says list None h =
-      let none = All-weaker (λ w. not (set w) ≡ true) (λ w. set w ≡ false) (λ w q. not-true (set w) q) list
-      (AllPass-from_list_all _ list h) in (tt, tt, tt, none)
+  best_says list None h = grind (arith, nat_tests, common_steps, not-true)
   best_says list (Some v) h =
       let member = Contains-append_right h.1 (v.now ∷ h.2) v.now (0, omega arith, refl) in
       (subst (λ l. Contains l v.now) (sym h.3) member, h.0, all_beaten list v.now h, tt)

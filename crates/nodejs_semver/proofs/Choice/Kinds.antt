@@ -1,19 +1,17 @@
 -- Spans of versions of any kind, read one by one as the spans of their values.
-use Rattle.nodejs_semver.proofs.Common.{All, All-get_or, All-head, All-tail, All-weaker, AllPass-from_list_all, Any}
-use Rattle.nodejs_semver.proofs.Common.{BeginsAfterPre, Bool, Bound, IfNone, IfSome, IsAfterPre, IsLeastSoFar, IsRaisable}
-use Rattle.nodejs_semver.proofs.Common.{IsRange, List, MAX_SAFE_INTEGER, Near, None, Option, Raisable, Some, Span, VersionValue}
-use Rattle.nodejs_semver.proofs.Common.{[], accepts, all_accept, and-true, and_parts, ap, arith, below_named, beside, better}
-use Rattle.nodejs_semver.proofs.Common.{beyond, bound_of, candidates, common_steps, cond_both, false, false≢true, find}
-use Rattle.nodejs_semver.proofs.Common.{find-append, first_so, firsts, flat_map, flat_map-append, fold, fold-append, get_or}
-use Rattle.nodejs_semver.proofs.Common.{get_or-map, holds, inl, inr, is_le, is_lt, is_past, is_range_span, least_build, length}
-use Rattle.nodejs_semver.proofs.Common.{length-map, lets_in, list_any, list_any-append, list_marks, lower_cut, map, not, not_if}
-use Rattle.nodejs_semver.proofs.Common.{option_map, or-false, or_cases, precedence, precedence_total, refl, removed_marks}
-use Rattle.nodejs_semver.proofs.Common.{span_of, spans_of, subst, sym, take, take_next, tells, tied_itself, true, ℕ, ◌&&◌, ◌++◌}
-use Rattle.nodejs_semver.proofs.Common.{◌+◌, ◌-◌, ◌<◌, ◌^◌, ◌||◌, ◌∙◌, ◌∷◌, ◌≡◌, ◌⊎◌}
+use Rattle.nodejs_semver.proofs.Common.{nat_tests, All, All-get_or, All-head, All-tail, All-weaker, AllPass-from_list_all, Any}
+use Rattle.nodejs_semver.proofs.Common.{BeginsAfterPre, Bool, Bound, IfNone, IfSome, IsAfterPre, IsLeastSoFar, IsRaisable, IsRange, List}
+use Rattle.nodejs_semver.proofs.Common.{MAX_SAFE_INTEGER, None, Option, Raisable, Some, Span, VersionValue, [], accepts, all_accept}
+use Rattle.nodejs_semver.proofs.Common.{and-true, and_parts, ap, arith, below_named, beside, better, beyond, bound_of, candidates}
+use Rattle.nodejs_semver.proofs.Common.{common_steps, cond_both, false, false≢true, find, find-append, first_so, firsts, flat_map}
+use Rattle.nodejs_semver.proofs.Common.{flat_map-append, fold, fold-append, get_or, get_or-map, holds, inl, inr, is_le, is_lt}
+use Rattle.nodejs_semver.proofs.Common.{is_range_span, least_build, length, length-map, lets_in, list_any, list_any-append, list_marks, map}
+use Rattle.nodejs_semver.proofs.Common.{not, not_if, option_map, or-false, or_cases, precedence, precedence_total, refl, removed_marks}
+use Rattle.nodejs_semver.proofs.Common.{span_of, spans_of, subst, sym, take, take_next, tells, tied_itself, true, ℕ, ◌&&◌, ◌++◌, ◌+◌, ◌-◌}
+use Rattle.nodejs_semver.proofs.Common.{◌<◌, ◌^◌, ◌||◌, ◌∙◌, ◌∷◌, ◌≡◌, ◌⊎◌}
 use Rattle.nodejs_semver.specs.Internal.Candidates.{zero, StartsWith, IsLeastBuilt, lesser, EndsAfterPre, MayAllocate}
-use Rattle.nodejs_semver.proofs.Values.{map-further}
+use Rattle.nodejs_semver.proofs.{Values.{map-further}, Algebra.Gate.{le_trans, lt_is, lt_le, le_of_lt, past_order}}
 use Rattle.std.specs.Option.{option_or}
-use Rattle.nodejs_semver.proofs.Algebra.Gate.{le_trans, lt_is, lt_le, le_of_lt, past_order}
 
 -- the patch of a bound of a range can be raised
 module _ (limit : ℕ) (far : limit < 2 ^ 64 - 1) where
@@ -41,8 +39,7 @@ module _ {V : Type 0} (value : V → VersionValue) (xs : List (Span V)) (i : ℕ
 
   pub lower_raisable : (ss : List (Span VersionValue)) → IsRange MAX_SAFE_INTEGER ss → spans_of value xs ≡ ss
       → (b : Bound V) → b ≡ x.lower → Raisable (bound_of value b)
-  lower_raisable ss h e b k =
-      subst (λ b. Raisable (bound_of value b)) (sym k) (raisable_at (subst (All IsRaisable) (sym e) (raisable ss h))).0
+  lower_raisable ss h e b k = grind (arith, nat_tests, common_steps, raisable_at, raisable)
 
   pub begins_after : {P : Type 0} (ss : List (Span VersionValue)) → spans_of value xs ≡ ss → (b : Bound V) → b ≡ x.lower
       → P ⊎ IsAfterPre (bound_of value b) → P ⊎ BeginsAfterPre ss
@@ -99,25 +96,21 @@ module _ {V : Type 0} (value : V → VersionValue) (set : VersionValue → Bool)
   pub removed_further : old ≡ fold (better set) start (flat_map firsts (flat_map removed_marks (spans_of value (take i xs))))
       → new ≡ fold (better set) old (flat_map firsts (beside (bound_of value x.upper)))
       → new ≡ fold (better set) start (flat_map firsts (flat_map removed_marks (spans_of value (take (i + 1) xs))))
-  removed_further e k =
-      grind (arith, common_steps, e, k, map-further (span_of value) xs i x within at, fold-append, flat_map-append)
+  removed_further e k = grind (arith, nat_tests, common_steps, map-further, fold-append, flat_map-append)
 
   pub kept_further : (between : Option VersionValue)
       → old ≡ fold (better set) start (flat_map firsts (list_marks (spans_of value (take i xs))))
       → between ≡ fold (better set) old (flat_map firsts (beside (bound_of value x.lower)))
       → new ≡ fold (better set) between (flat_map firsts (below_named (bound_of value x.upper)))
       → new ≡ fold (better set) start (flat_map firsts (list_marks (spans_of value (take (i + 1) xs))))
-  kept_further between e k m =
-      grind (arith, common_steps, e, k, m, map-further (span_of value) xs i x within at, fold-append, flat_map-append)
+  kept_further between e k m = grind (arith, nat_tests, common_steps, map-further, fold-append, flat_map-append)
 
 -- ---- the least version of spans each of which begins with a version that it accepts
 
 -- what the span accepts is not below its start
 above_start : (s : Span VersionValue) (w x : VersionValue) → StartsWith s w → holds precedence s x ≡ true
     → is_le (precedence w x) ≡ true
-above_start s w x start h =
-    (tells (precedence w x)).0
-    ∙ ap not (past_order w x Near (sym (ap (λ b. is_past precedence (lower_cut b) x) start.0) ∙ first_so _ _ h))
+above_start s w x start h = grind (arith, nat_tests, past_order, tells (precedence w x))
 
 -- what one more span accepts
 one_more : (ss : List (Span VersionValue)) (s : Span VersionValue) (x : VersionValue)
@@ -171,8 +164,7 @@ pub one_further : {V : Type 0} (value : V → VersionValue) (xs : List (Span V))
     (w next : VersionValue) → i < length xs → x ≡ get_or xs i x → IsLeastSoFar (spans_of value (take i xs)) best
     → StartsWith (span_of value x) w → next ≡ lesser best w → IsLeastBuilt (spans_of value (take (i + 1) xs)) next
 one_further value xs i x best w next within at h start e =
-    subst (IsLeastBuilt (spans_of value (take (i + 1) xs))) (sym e) (subst (λ l. IsLeastBuilt l (lesser best w))
-    (sym (map-further (span_of value) xs i x within at)) (step (spans_of value (take i xs)) best (span_of value x) w h start))
+    grind (arith, nat_tests, map-further (span_of value) xs i x within at, step (spans_of value (take i xs)) best (span_of value x) w h start)
 
 pub on_none : {A : Type 0} {P : Type 0} (found : Option A) → P → IfNone found P
 on_none None h = h
@@ -188,22 +180,13 @@ Any-one P x h = grind (arith, common_steps, h.2, h.3, h.4)
 
 pub one_allocates : (ks ls : List (Span VersionValue)) → MayAllocate (ks ∷ []) ls
     → ((v : VersionValue) × (beyond ks ls v ≡ true)) ⊎ BeginsAfterPre ks ⊎ EndsAfterPre ls
-one_allocates ks ls h = elim h [
-  | inl found ↦ inl (found.0, ap (λ a. a && not (accepts ls found.0 false)) (sym (and-true _)) ∙ found.1)
-  | inr more ↦ inr (elim more [ inl begins ↦ inl (Any-one BeginsAfterPre ks begins) | inr ends ↦ inr ends ])
-]
+one_allocates ks ls h = grind (arith, nat_tests, common_steps, and-true, Any-one)
 
 -- beyond nothing
 pub alone_allocates : (ks : List (Span VersionValue)) → MayAllocate (ks ∷ []) []
     → ((v : VersionValue) × (accepts ks v false ≡ true)) ⊎ BeginsAfterPre ks
-alone_allocates ks h = elim (one_allocates ks [] h) [
-  | inl found ↦ inl (found.0, sym (and-true _) ∙ found.1)
-  | inr more ↦ elim more [ inl begins ↦ inr begins | inr ends ↦ absurd (Any-none _ ends) ]
-]
+alone_allocates ks h = grind (arith, nat_tests, common_steps, one_allocates, and-true, Any-none)
 
 pub all_allocate : (lists : List (List (Span VersionValue))) → MayAllocate lists []
     → ((v : VersionValue) × (all_accept lists v ≡ true)) ⊎ Any BeginsAfterPre lists
-all_allocate lists h = elim h [
-  | inl found ↦ inl (found.0, sym (and-true _) ∙ found.1)
-  | inr more ↦ elim more [ inl begins ↦ inr begins | inr ends ↦ absurd (Any-none _ ends) ]
-]
+all_allocate lists h = grind (arith, nat_tests, common_steps, and-true, Any-none)

@@ -1,26 +1,24 @@
 -- The least version beyond is the first of its kind past a mark: a lower cut of what is kept, an upper cut of what is removed,
 -- or the cut below the pre-releases that an upper bound of what is kept names. First what comes next after a version.
-use Rattle.nodejs_semver.proofs.Common.{After, All, All-append, All-cons, All-from_recursion, All-head, All-nil, All-tail, Before}
-use Rattle.nodejs_semver.proofs.Common.{Beside, Bool, Bound, Cut, End, Equal, Far, Id, IfSome, IsLeastOf, Less, List, Near, None}
-use Rattle.nodejs_semver.proofs.Common.{Numeric, Option, Ordering, Some, Span, Start, Unbounded, VersionValue, [], above_patch}
-use Rattle.nodejs_semver.proofs.Common.{accepts, alike_right, all_accept, all_flat, all_weaker, and-true, and_from, and_parts}
-use Rattle.nodejs_semver.proofs.Common.{any_flat, any_same, any_under, ap, ap₂, arith, begins_with, below_named, beside, better}
-use Rattle.nodejs_semver.proofs.Common.{beyond, bool_cmp, build_by, candidates, cases_Bool, chain, cond_both, cut_total, empty_is}
-use Rattle.nodejs_semver.proofs.Common.{false, find, first_so, firsts, flat_map, fold, gt_lt, has_build, holds, if◌then◌else◌}
-use Rattle.nodejs_semver.proofs.Common.{inl, inr, irreflexive, is_gt, is_le, is_past, is_past-down, is_release, least_build}
-use Rattle.nodejs_semver.proofs.Common.{least_of, length, lets_in, list_all, list_all-append, list_any, list_marks, lower_cut}
-use Rattle.nodejs_semver.proofs.Common.{map, names, not, not-true, not_above, option_and_then, or-false, or_cases, or_left}
-use Rattle.nodejs_semver.proofs.Common.{or_parts, or_right, ordering_then, past_lt, pick_both, pre_cmp, precedence}
-use Rattle.nodejs_semver.proofs.Common.{precedence_total, refl, release_value, removed_marks, second_so, subst, sym, tells}
-use Rattle.nodejs_semver.proofs.Common.{tied_itself, true, upper_cut, version_eq, wanted, ◌&&◌, ◌++◌, ◌<◌, ◌||◌, ◌∙◌, ◌∷◌, ◌≡◌}
-use Rattle.nodejs_semver.specs.Internal.Candidates.{zero, bare_release, first_pre, pre_after, patch_after, bare, after_cut}
-use Rattle.nodejs_semver.specs.Internal.Candidates.{release_after, below_at, kept_marks, among, improves, is_reached, first_past}
+use Rattle.nodejs_semver.proofs.Common.{nat_tests, common_steps, After, All, All-append, All-cons, All-from_recursion, All-head, All-nil}
+use Rattle.nodejs_semver.proofs.Common.{All-tail, Before, Beside, Bool, Bound, Cut, End, Equal, Far, Id, IfSome, IsLeastOf, Less, List}
+use Rattle.nodejs_semver.proofs.Common.{Near, None, Numeric, Option, Ordering, Some, Span, Start, Unbounded, VersionValue, [], above_patch}
+use Rattle.nodejs_semver.proofs.Common.{accepts, alike_right, all_accept, all_flat, all_weaker, and-true, and_from, and_parts, any_flat}
+use Rattle.nodejs_semver.proofs.Common.{any_same, any_under, ap, ap₂, arith, begins_with, below_named, beside, better, beyond, bool_cmp}
+use Rattle.nodejs_semver.proofs.Common.{build_by, candidates, cases_Bool, chain, cond_both, cut_total, empty_is, false, find, first_so}
+use Rattle.nodejs_semver.proofs.Common.{firsts, flat_map, fold, gt_lt, has_build, holds, if◌then◌else◌, inl, inr, irreflexive, is_gt, is_le}
+use Rattle.nodejs_semver.proofs.Common.{is_past, is_past-down, is_release, least_build, least_of, length, lets_in, list_all}
+use Rattle.nodejs_semver.proofs.Common.{list_all-append, list_any, list_marks, lower_cut, map, names, not, not-true, not_above}
+use Rattle.nodejs_semver.proofs.Common.{option_and_then, or-false, or_cases, or_left, or_parts, or_right, ordering_then, past_lt, pick_both}
+use Rattle.nodejs_semver.proofs.Common.{pre_cmp, precedence, precedence_total, refl, release_value, removed_marks, second_so, subst, sym}
+use Rattle.nodejs_semver.proofs.Common.{tells, tied_itself, true, upper_cut, version_eq, wanted, ◌&&◌, ◌++◌, ◌<◌, ◌||◌, ◌∙◌, ◌∷◌, ◌≡◌}
+use Rattle.nodejs_semver.specs.Internal.Candidates.{zero, bare_release, first_pre, pre_after, patch_after, bare, after_cut, release_after}
+use Rattle.nodejs_semver.specs.Internal.Candidates.{below_at, kept_marks, among, improves, is_reached, first_past}
 use Rattle.semver_core.proofs.Values.NextLaws.{least_after_pre_release, first_of_all, least_after_release}
-use Rattle.nodejs_semver.proofs.Algebra.Gate.{triple_cmp, upto_by_both, below, in_order, past_order, named, named_parts}
-use Rattle.nodejs_semver.proofs.Algebra.Gate.{not_gt_then, pre_upto, same_triple_is, triple_between, triple_total, triple_upto}
-use Rattle.nodejs_semver.proofs.Algebra.Gate.{le_of_lt, le_trans, lt_is}
-use Rattle.semver_core.specs.Internal.Successors.{Below, above_pre, below_cases, below_more, upto_major, upto_minor, upto_patch}
-use Rattle.semver_core.specs.Internal.Successors.{zero_least}
+use Rattle.nodejs_semver.proofs.Algebra.Gate.{triple_cmp, upto_by_both, below, in_order, past_order, named, named_parts, not_gt_then}
+use Rattle.nodejs_semver.proofs.Algebra.Gate.{pre_upto, same_triple_is, triple_between, triple_total, triple_upto, le_of_lt, le_trans}
+use Rattle.nodejs_semver.proofs.Algebra.Gate.{lt_is}
+use Rattle.semver_core.specs.Internal.Successors.{above_pre, below_cases, below_more, upto_patch, zero_least}
 
 pub le_not_gt : (r : Ordering) → is_le r ≡ true → is_gt r ≡ false
 le_not_gt r h = not-true _ (sym (tells r).0 ∙ h)
@@ -49,16 +47,11 @@ next_patch_above w = above_patch w (patch_after w) refl refl (omega arith)
 -- the next patch of a release is not above a release that is above it
 pub next_patch_least : (w v : VersionValue) → w.pre_release ≡ [] → v.pre_release ≡ [] → precedence w v ≡ Less
     → is_gt (precedence (patch_after w) v) ≡ false
-next_patch_least w v e f h = le_not_gt _ (by_part (below_cases w v h))
-  where
-    by_part : Below w v → is_le (precedence (patch_after w) v) ≡ true
-    by_part h = grind (arith, upto_major, upto_minor, upto_patch)
+next_patch_least w v e f h = grind (arith, nat_tests, below_cases w v h, le_not_gt)
 
 -- 0.0.0 is the least release
 pub zero_first : (v : VersionValue) → v.pre_release ≡ [] → is_gt (precedence zero v) ≡ false
 zero_first v e = grind (arith, le_not_gt, upto_patch)
-
--- ---- the greatest mark below a version
 
 -- ---- the greatest mark
 
@@ -517,11 +510,7 @@ unbuilt_stays ss v bare h = ap (λ b. record v { build = b }) (bare ∙ sym (unb
 past_lower : (b : Bound VersionValue) → is_past precedence (lower_cut b) (first_past b) ≡ true
 past_lower Unbounded = refl
 past_lower (Before w) = past_near w w (tied_itself precedence_total w)
-past_lower (After w) = by_kind (is_release w) refl
-  where
-    by_kind : (r : Bool) → is_release w ≡ r
-        → is_past precedence (Beside w Far) (if r then first_pre (patch_after w) else pre_after w) ≡ true
-    by_kind r k = grind (arith, past_less, above_patch, next_pre_above)
+past_lower (After w) = grind (arith, nat_tests, common_steps, past_less, above_patch, next_pre_above)
 
 least_past : (b : Bound VersionValue) (v : VersionValue) → is_past precedence (lower_cut b) v ≡ true
     → is_gt (precedence (first_past b) v) ≡ false
@@ -535,8 +524,7 @@ least_past (After w) v h = by_kind (is_release w) refl
 -- the first version past the lower cut of a span that holds v is held as well
 least_in : (s : Span VersionValue) (v : VersionValue) → holds precedence s v ≡ true
     → is_gt (precedence (first_past s.lower) v) ≡ false
-least_in s v h = least_past s.lower v
-    (first_so (is_past precedence (lower_cut s.lower) v) (not (is_past precedence (upper_cut s.upper) v)) h)
+least_in s v h = grind (arith, nat_tests, common_steps, least_past)
 
 first_held : (s : Span VersionValue) (v : VersionValue) → holds precedence s v ≡ true
     → holds precedence s (first_past s.lower) ≡ true
@@ -565,8 +553,7 @@ held_candidate set (s ∷ ss) v f h = elim (or_cases (holds precedence s v && tr
 -- the least first version that is held is the least version that is held, and it has no build
 pub least_held : (ss : List (Span VersionValue))
     → IsLeastOf (λ v. accepts ss v true) (least_of (λ v. accepts ss v true) (firsts_past ss))
-least_held ss = least_named (λ v. accepts ss v true) (firsts_past ss)
-    (λ v h. held_candidate (λ v. accepts ss v true) ss v (λ x e. e) h)
+least_held ss = grind (arith, nat_tests, common_steps, least_named, held_candidate)
 
 past_bare : (b : Bound VersionValue) → (first_past b).build ≡ []
 past_bare b = grind arith
@@ -582,13 +569,7 @@ held_bare ss r e = list_bare (λ v. accepts ss v true) (firsts_past ss) r (bare_
 -- a version without its build improves on the best so far, and is held, as it does and is with it
 pub improves_held : (best : Option VersionValue) (w : VersionValue) (ss : List (Span VersionValue))
     → (improves best (bare w) && accepts ss (bare w) true) ≡ (improves best w && accepts ss w true)
-improves_held best w ss = grind (arith, held_built)
-  where
-    one_built : (s : Span VersionValue) → (holds precedence s (bare w) && true) ≡ (holds precedence s w && true)
-    one_built s = grind (arith, alike_right, cut_total, precedence_total, tied_itself, triple_total)
-
-    held_built : accepts ss (bare w) true ≡ accepts ss w true
-    held_built = any_same _ _ one_built ss
+improves_held best w ss = grind (arith, nat_tests, common_steps, cut_total, precedence_total, triple_total, any_same)
 
 -- ---- the build of a least version, that of the lower bound from which it comes
 
@@ -600,22 +581,14 @@ found p (y ∷ front) x back none h = grind (arith, found p front x back)
 
 first : (front back : List (Span VersionValue)) (s : Span VersionValue) (v : VersionValue) → accepts front v false ≡ false
     → accepts (s ∷ []) v false ≡ true → least_build (front ++ s ∷ back) v ≡ build_by (begins_with s.lower) v
-first front back s v none one =
-    let passes : Span VersionValue → Bool = λ t. holds precedence t v && lets_in t v in
-    let is : find passes (front ++ s ∷ back) ≡ Some s = found passes front s back none (sym (or-false (passes s)) ∙ one) in
-    ap (λ o. build_by (option_and_then (λ t. begins_with t.lower) o) v) is
+first front back s v none one = grind (arith, nat_tests, common_steps, found, or-false)
 
 pub build_of_bound : (front back : List (Span VersionValue)) (s : Span VersionValue) (v x : VersionValue)
     → accepts front v false ≡ false → accepts (s ∷ []) v false ≡ true → begins_with s.lower ≡ Some x
     → version_eq x v ≡ true → least_build (front ++ s ∷ back) v ≡ x.build
-build_of_bound front back s v x none one begins tie =
-    first front back s v none one ∙ (ap (λ o. build_by o v) begins ∙ rw tie refl)
+build_of_bound front back s v x none one begins tie = grind (arith, nat_tests, common_steps, first)
 
 pub build_of_none : (front back : List (Span VersionValue)) (s : Span VersionValue) (v : VersionValue)
     → accepts front v false ≡ false → accepts (s ∷ []) v false ≡ true
     → ((x : VersionValue) → begins_with s.lower ≡ Some x → version_eq x v ≡ false) → least_build (front ++ s ∷ back) v ≡ []
-build_of_none front back s v none one other = first front back s v none one ∙ begun (begins_with s.lower) refl
-  where
-    begun : (o : Option VersionValue) → begins_with s.lower ≡ o → build_by o v ≡ []
-    begun None e = refl
-    begun (Some x) e = rw (other x e) refl
+build_of_none front back s v none one other = grind (arith, nat_tests, common_steps, first)

@@ -1,18 +1,14 @@
 -- Where the reader of numbers stops, the text is wrong there and has no version.
-use Rattle.nodejs_semver.proofs.Common.{◌≡◌, ◌<◌, ◌≤◌, ◌+◌, ◌-◌, ℕ, zero, suc, List, [], ◌∷◌, ◌++◌, length, drop, take, refl, sym}
-use Rattle.nodejs_semver.proofs.Common.{ap, ◌∙◌, subst, arith, true, false, Some, append_assoc, length-append, IsUtf8, Option}
-use Rattle.nodejs_semver.proofs.Common.{None, IfSome, is_ascii_digit, list_all, and_parts, eqb-true, nat_tests, take_rest}
-use Rattle.nodejs_semver.proofs.Common.{space_len, begins, VersionValue, ◌==◌, ◌↔◌, encode_utf8, ◌*◌, eqb, drop_all, drop_more}
-use Rattle.nodejs_semver.proofs.Common.{IsAfterBlank, IsNumber, inl, inr, cases_Bool, Id}
-use Rattle.std.proofs.Common.{length-drop, slice_range, MatchOption}
-use Rattle.std.specs.Char.{digit_value}
-use Rattle.std.specs.Str.Parse.{digits_value, digits_value_after}
-use Rattle.std.proofs.lemmas.List.{take-append-drop, drop-drop}
-use Rattle.std.proofs.Math.Seq.{take-add, take-append_seam}
+use Rattle.nodejs_semver.proofs.Common.{◌≡◌, ◌<◌, ◌≤◌, ◌+◌, ◌-◌, ℕ, zero, suc, List, [], ◌∷◌, ◌++◌, length, drop, take, refl, sym, ap, ◌∙◌}
+use Rattle.nodejs_semver.proofs.Common.{subst, arith, true, false, Some, append_assoc, length-append, IsUtf8, Option, None, IfSome}
+use Rattle.nodejs_semver.proofs.Common.{is_ascii_digit, list_all, and_parts, eqb-true, nat_tests, take_rest, space_len, begins}
+use Rattle.nodejs_semver.proofs.Common.{VersionValue, ◌==◌, ◌↔◌, encode_utf8, ◌*◌, eqb, drop_all, drop_more, IsAfterBlank, IsNumber}
+use Rattle.nodejs_semver.proofs.Common.{cases_Bool, Id, length-drop}
+use Rattle.std.proofs.{Common.{slice_range, MatchOption}, lemmas.List.{take-append-drop, drop-drop}, Math.Seq.{take-add, take-append_seam}}
+use Rattle.std.specs.{Char.{digit_value}, Str.Parse.{digits_value, digits_value_after}}
 use Rattle.semver_core.specs.Failures.{NoValue}
 use Rattle.semver_core.specs.Internal.Reading.{mark_len, triple_at, pre_release_at, build_at, list_at, or_nothing, qualified}
-use Rattle.semver_core.specs.Text.VersionText.{Reads}
-use Rattle.semver_core.specs.declared.TheConstants.{MAX_LENGTH}
+use Rattle.semver_core.specs.{Text.VersionText.{Reads}, declared.TheConstants.{MAX_LENGTH}}
 use Rattle.semver_core.proofs.Text.Pieces.{digits_grow, some_inside}
 use Rattle.semver_core.proofs.Text.Texts.{build_complete, divided_at, mark_is, number_begins, pre_complete, triple_complete}
 use Rattle.semver_core.proofs.Text.Trims.{after_blank_drops_spaces}
@@ -20,8 +16,8 @@ use Rattle.nodejs_semver.specs.Internal.Fronts.{build_front, marked_list, pre_re
 use Rattle.nodejs_semver.specs.Diagnosis.VersionFlaws.{IsExact, IsExpectedAt, IsFlaw, IsFront, IsGreatAt}
 use Rattle.nodejs_semver.specs.Internal.Stuck.{BeginsGreat, Stuck, begins_dot, at_great, at_digit, at_dot, later, IsWhole}
 use Rattle.nodejs_semver.specs.declared.diagnosis.versions.VersionFlaw.{VersionFlaw}
-use Rattle.nodejs_semver.proofs.Reading.PartialLaw.{spaces-gone}
 use Rattle.nodejs_semver.proofs.Diagnosing.OneFlaw.{digits_once, only_flaw, Numeral, HasTail, Leads, Numbers, Place, begins_alike}
+use Rattle.nodejs_semver.proofs.Reading.PartialLaw.{spaces-gone}
 use Rattle.nodejs_semver.proofs.Diagnosing.OneFlaw.{first_numeral, lead_place, next_place, numeral_begins, numeral_once}
 use Rattle.nodejs_semver.specs.declared.diagnosis.versions.VersionFlaw.TheVariants as Flaw
 
@@ -126,11 +122,7 @@ no-dot limit Starts front d n k p number text digit dot = λ v r.
 cut : (text : List ℕ) (at end : ℕ) (piece : List ℕ) → at ≤ length text → end ≤ length text → drop at text ≡ piece ++ drop end text
     → take end text ≡ take at text ++ piece
 cut text at end piece a e d =
-    let place : end ≡ at + length piece =
-    omega (arith, ap length d, length-append piece (drop end text), length-drop at text, length-drop end text) in
-    ap (λ (n : ℕ). take n text) place ∙ (take-add at (length piece) text
-    ∙ ap (λ (t : List ℕ). take at text ++ t)
-    (ap (λ (t : List ℕ). take (length piece) t) d ∙ take-append_seam piece (drop end text)))
+    grind (arith, nat_tests, take-append_seam piece (drop end text), length-append piece (drop end text), length-drop at text, length-drop end text, take-add at (length piece) text)
 
 dot-next : (text : List ℕ) (at : ℕ) → begins_dot (drop at text) ≡ true → (drop at text ≡ 46 ∷ drop (at + 1) text)
     × (at + 1 ≤ length text)
@@ -239,9 +231,7 @@ pub stuck_flaw : (limit : ℕ) (text : List ℕ) (start : ℕ) (flaw : VersionFl
     → IsAfterBlank text (mark_len text) start
     → length text ≤ MAX_LENGTH → Stuck limit text 2 start flaw → IsFlaw limit text flaw × (IsExact limit text → ⊥)
 stuck_flaw limit text start flaw nine utf8 a short h =
-    let b = begun limit text start utf8 a in
-    wrong_flaw limit text flaw short
-    (stuck_wrong limit text (Leads (take start text)) 2 start flaw nine b.inside b.place b.leads h)
+    grind (arith, nat_tests, stuck_wrong, wrong_flaw limit text flaw short, begun limit text start utf8 a)
 
 -- three numbers were read, and the place is behind what goes on with them
 pub record Ended (limit : ℕ) (text : List ℕ) (start at : ℕ) : Type 0 where
@@ -270,17 +260,13 @@ marked-left text at start = grind (arith, drop-drop)
 
 pre-left : (text : List ℕ) (at : ℕ) → (pre_release_front (drop at text)).1 ≡ drop (pre_release_at text at).1 text
 unfolding pre_release_front
-pre-left text at = elim (cases_Bool (begins_byte 45 (drop at text))) [
-  | inl dash ↦ rw (dash, drop-drop 1 at text) (marked-left text at (at + 1))
-  | inr other ↦ rw other (marked-left text at at)
-]
+pre-left text at =
+    grind (arith, nat_tests, marked-left text at (at + 1), marked-left text at at, cases_Bool (begins_byte 45 (drop at text)), drop-drop 1 at text)
 
 build-left : (text : List ℕ) (at : ℕ) → (build_front (drop at text)).1 ≡ drop (build_at text at).1 text
 unfolding build_front
-build-left text at = elim (cases_Bool (begins_byte 43 (drop at text))) [
-  | inl mark ↦ rw (mark, drop-drop 1 at text) (marked-left text at (at + 1))
-  | inr other ↦ rw other refl
-]
+build-left text at =
+    grind (arith, nat_tests, marked-left text at (at + 1), cases_Bool (begins_byte 43 (drop at text)), drop-drop 1 at text)
 
 -- what is left behind a version
 abbrev pub IsLeft : ℕ → List ℕ → ℕ → List ℕ → Type 0
@@ -290,11 +276,7 @@ pub ended : (limit : ℕ) (text bytes : List ℕ) (read built : List ℕ × List
     → (t : ℕ × ℕ × ℕ × ℕ) × (triple_at limit bytes start ≡ Some t) × (t.3 ≡ end)
     → read ≡ pre_release_front (take (length bytes - end) (drop end bytes)) → built ≡ build_front read.1
     → IsLeft limit text start built.1
-ended limit text bytes read built start end same t pre build = (
-  _,
-  record { numbers = t.0; triple = rw same at t.1; place = refl },
-  rw (build, pre, take_rest bytes end, same, ← t.2, pre-left text t.0.3, build-left text (pre_release_at text t.0.3).1) refl,
-)
+ended limit text bytes read built start end same t pre build = grind (arith, nat_tests, build-left, take_rest, pre-left)
 
 whole_exact : (limit : ℕ) (text : List ℕ) (start at : ℕ) → IsUtf8 text → IsAfterBlank text (mark_len text) start
     → length text ≤ MAX_LENGTH → Ended limit text start at → drop at text ≡ [] → IsExact limit text

@@ -1,30 +1,22 @@
 -- What is computed of the ignored words of a text, part by part, is what the statement says of them.
-use Rattle.nodejs_semver.proofs.Common.{◌≡◌, ◌∙◌, ap, ℕ, List, Bool, Some, refl, Option, is_some, arith, Partial, table, Word}
-use Rattle.nodejs_semver.proofs.Common.{hyphen, malformed, Sign, ◌<◌, ◌≤◌, ◌+◌, ◌-◌, zero, suc, [], ◌∷◌, ◌++◌, length, sym, subst}
-use Rattle.nodejs_semver.proofs.Common.{append_assoc, drop_spaces, space_len, trim, MAX_SAFE_INTEGER, rest_view, true, false, inl}
-use Rattle.nodejs_semver.proofs.Common.{inr, length-append, ◌&&◌, ◌⊎◌, IsUtf8, AllByRecursion, list_all, is_empty, IsTrim}
-use Rattle.nodejs_semver.proofs.Common.{and_parts, ◌↔◌, words, length-take-le, encode_utf8_all, encodes-append, drop_end_spaces}
-use Rattle.nodejs_semver.proofs.Common.{drop_spaces-blank, middle_is_trim, trim_is_middle, cut_bars}
-use Rattle.std.proofs.Common.{length-drop}
+use Rattle.nodejs_semver.proofs.Common.{nat_tests, common_steps, ◌≡◌, ◌∙◌, ap, ℕ, List, Bool, Some, refl, Option, is_some, arith, Partial}
+use Rattle.nodejs_semver.proofs.Common.{table, Word, hyphen, malformed, Sign, ◌<◌, ◌≤◌, ◌+◌, ◌-◌, zero, suc, [], ◌∷◌, ◌++◌, length, sym}
+use Rattle.nodejs_semver.proofs.Common.{subst, append_assoc, drop_spaces, space_len, trim, MAX_SAFE_INTEGER, rest_view, true, false, inl}
+use Rattle.nodejs_semver.proofs.Common.{inr, length-append, ◌&&◌, ◌⊎◌, IsUtf8, AllByRecursion, list_all, is_empty, IsTrim, and_parts, ◌↔◌}
+use Rattle.nodejs_semver.proofs.Common.{words, length-take-le, encode_utf8_all, encodes-append, drop_end_spaces, drop_spaces-blank}
+use Rattle.nodejs_semver.proofs.Common.{middle_is_trim, trim_is_middle, cut_bars, length-drop, word_at, words_within, empty_is}
 use Rattle.semver_core.proofs.Text.Trims.{drop_spaces-dark}
-use Rattle.nodejs_semver.specs.Diagnosis.IgnoredWords.{ignored_as, if_ignored, AreAllIgnored, AreIgnored, AreIgnoredOf}
-use Rattle.nodejs_semver.specs.Diagnosis.IgnoredWords.{IsWhollyBounded, next_piece, next_word, no_piece, no_word}
+use Rattle.nodejs_semver.specs.Diagnosis.IgnoredWords.{ignored_as, if_ignored, AreAllIgnored, AreIgnored, AreIgnoredOf, IsWhollyBounded}
 use Rattle.nodejs_semver.specs.Internal.Ignored.{kind_at, unless_bounded, all_ignored, ignored_behind, ignored_of, ignored_within}
-use Rattle.nodejs_semver.specs.Internal.Ignored.{left_list, option_list, part_end}
-use Rattle.nodejs_semver.specs.Internal.Words.{signed_word, word_at, words_within}
+use Rattle.nodejs_semver.specs.Diagnosis.IgnoredWords.{next_piece, next_word, no_piece, no_word}
+use Rattle.nodejs_semver.specs.{Internal.Ignored.{left_list, option_list, part_end}, Internal.Words.{signed_word}}
 use Rattle.nodejs_semver.specs.declared.diagnosis.ranges.IgnoredKind.{IgnoredKind}
-use Rattle.nodejs_semver.specs.declared.diagnosis.ranges.IgnoredKind.TheVariants.{Malformed}
-use Rattle.nodejs_semver.specs.Internal.PartFronts.{front_part, left_over}
-use Rattle.nodejs_semver.specs.declared.diagnosis.unread.Unread.{Unread}
-use Rattle.nodejs_semver.specs.declared.diagnosis.ranges.IgnoredWord.{IgnoredWord}
+use Rattle.nodejs_semver.specs.{declared.diagnosis.ranges.IgnoredKind.TheVariants.{Malformed}, Internal.PartFronts.{front_part, left_over}}
+use Rattle.nodejs_semver.specs.{declared.diagnosis.unread.Unread.{Unread}, declared.diagnosis.ranges.IgnoredWord.{IgnoredWord}}
 use Rattle.nodejs_semver.specs.Text.Meaning.{HasWords}
-use Rattle.nodejs_semver.proofs.Dividing.BarLemmas.{bars_room, cut_bars-front}
-use Rattle.nodejs_semver.proofs.Reading.PartialLaw.{spaces-gone, spaces-le, word-shorter}
-use Rattle.nodejs_semver.proofs.Algebra.FlatMaps.{empty_is}
-use Rattle.nodejs_semver.proofs.Dividing.BarsDivide.{bars_divide, bars_once}
-use Rattle.nodejs_semver.proofs.Dividing.MeaningLaw.{pieces-utf8, words-law}
-use Rattle.nodejs_semver.proofs.Reading.Bytes.{trim-starts}
-use Rattle.nodejs_semver.proofs.Reading.WordLaw.{skips-is, skips-utf8, trim-utf8, word-utf8, words_are}
+use Rattle.nodejs_semver.proofs.{Dividing.BarLemmas.{bars_room, cut_bars-front}, Reading.PartialLaw.{spaces-gone, spaces-le, word-shorter}}
+use Rattle.nodejs_semver.proofs.{Dividing.BarsDivide.{bars_divide, bars_once}, Dividing.MeaningLaw.{pieces-utf8, words-law}}
+use Rattle.nodejs_semver.proofs.{Reading.Bytes.{trim-starts}, Reading.WordLaw.{skips-is, skips-utf8, trim-utf8, word-utf8, words_are}}
 
 abbrev Kind : Type 0
 Kind = Option IgnoredKind × List ℕ
@@ -35,8 +27,7 @@ at_word limit text kind w e h = grind arith
 
 pub at_malformed : (limit : ℕ) (text rest behind : List ℕ) → word_at limit text ≡ (malformed, behind) → rest ≡ behind
     → ◌≡◌ {A = Kind} (Some Malformed, rest) (kind_at limit text)
-at_malformed limit text rest behind e h =
-    ap (λ (t : List ℕ). (Some Malformed, t)) h ∙ at_word limit text (Some Malformed) (malformed, behind) e refl
+at_malformed limit text rest behind e h = grind (arith, nat_tests, common_steps, at_word)
 
 pub at_hyphen : (limit : ℕ) (text rest : List ℕ) (p q : Partial) (kind : Option IgnoredKind) (bounded : Bool)
     → word_at limit text ≡ (hyphen p q, rest) → bounded ≡ is_some (table limit (hyphen p q)) → kind ≡ unless_bounded bounded
@@ -112,8 +103,7 @@ trim-le (b ∷ rest) = grind (arith, trim-le rest)
 
 pub part_ends : (place start : ℕ) (piece part : List ℕ) → start ≡ length piece - length (drop_spaces piece) → part ≡ trim piece
     → place + start + length part ≡ part_end place piece
-part_ends place start piece part h e =
-    cc (h, e)
+part_ends place start piece part h e = grind (arith, nat_tests, common_steps)
 
 pub part_fits : (piece : List ℕ) (place : ℕ) → part_end place piece ≤ place + length piece
 part_fits piece place = omega (arith, trim-le (drop_spaces piece), spaces-le piece)
@@ -203,9 +193,7 @@ within-empty : (limit place n : ℕ) (text : List ℕ)
 unfolding ignored_within words_within
 within-empty limit place zero text = refl
 within-empty limit place (suc n) [] = refl
-within-empty limit place (suc n) (b ∷ text) =
-    let read = word_at limit (b ∷ text) in
-    grind (arith, append-empty, if-empty, within-empty limit place n (drop_spaces read.1))
+within-empty limit place (suc n) (b ∷ text) = grind (arith, nat_tests, append-empty, within-empty limit place n, if-empty)
 
 abbrev bounded : ℕ → List ℕ → Bool
 bounded limit piece = list_all (has_bounds limit) (words limit (trim piece))
@@ -238,23 +226,9 @@ all-bounded limit (piece ∷ pieces) u h =
 
 pub are_ignored : (limit : ℕ) (text : List ℕ) (list : List IgnoredWord) → IsUtf8 text
     → list ≡ all_ignored limit 0 (cut_bars false text) → AreIgnored limit text list
-are_ignored limit text list u e =
-    let here = cut_bars false text in
-    let each = all-read limit 0 here (pieces-utf8 text here (bars_divide text) u) in
-    (here, bars_divide text, subst (λ (ws : List IgnoredWord). AreAllIgnored limit 0 here ws) (sym e) each)
+are_ignored limit text list u e = grind (arith, nat_tests, pieces-utf8, bars_divide text, all-read)
 
 pub none_ignored : (limit : ℕ) (text : List ℕ) (list : List IgnoredWord) → IsUtf8 text
     → list ≡ all_ignored limit 0 (cut_bars false text) → (list ≡ []) ↔ IsWhollyBounded limit text
 none_ignored limit text list u e =
-    let here = cut_bars false text in
-    let same = ap (λ (ws : List IgnoredWord). is_empty ws) e ∙ all-empty limit 0 here in (
-      λ none. (
-        here,
-        bars_divide text,
-        are-bounded limit here (pieces-utf8 text here (bars_divide text) u)
-            (sym same ∙ ap (λ (ws : List IgnoredWord). is_empty ws) none),
-      ),
-      λ w. empty_is list
-          (same ∙ ap (λ (ps : List (List ℕ)). list_all (bounded limit) ps) (sym (bars_once text w.0 w.1))
-          ∙ all-bounded limit w.0 (pieces-utf8 text w.0 w.1 u) w.2),
-    )
+    grind (arith, nat_tests, all-bounded, pieces-utf8, bars_divide text, are-bounded, bars_once, all-empty, empty_is list)

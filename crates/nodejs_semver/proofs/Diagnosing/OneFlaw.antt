@@ -1,36 +1,27 @@
 -- A text has one flaw: behind the place of a flaw no version text goes on.
-use Rattle.nodejs_semver.proofs.Common.{◌≡◌, ◌<◌, ◌≤◌, ◌+◌, ℕ, List, [], ◌∷◌, ◌++◌, length, drop, take, refl, sym, ap, ◌∙◌, arith}
-use Rattle.nodejs_semver.proofs.Common.{inl, inr, true, false, Some, suc, length-append, is_ascii_digit, list_all, take_at}
-use Rattle.nodejs_semver.proofs.Common.{drop_at, begins, zero, subst, not, Bool, append_assoc, nat_tests, list_all-append}
-use Rattle.nodejs_semver.proofs.Common.{drop_spaces, space_len, is_whitespace, VersionValue, drop_spaces-none, encode_utf8}
-use Rattle.nodejs_semver.proofs.Common.{IsBlank, ◌-◌, IfSome, None, Option, IsUtf8, IsUtf8-drop, ◌↔◌, encode_utf8_all}
-use Rattle.nodejs_semver.proofs.Common.{length-take-le, prefix_len, cases_lt, length-encode, len_utf8_bounds}
-use Rattle.nodejs_semver.proofs.Common.{IsCharBoundary-before_ascii, IsUtf8-take, NoPieceAt, IsWholeNumber, IsNumber}
-use Rattle.nodejs_semver.proofs.Common.{drop_spaces-blank, cases_Bool, and_parts}
-use Rattle.std.proofs.Common.{length-drop}
-use Rattle.std.specs.Str.Parse.{digits_value}
+use Rattle.nodejs_semver.proofs.Common.{common_steps, ◌≡◌, ◌<◌, ◌≤◌, ◌+◌, ℕ, List, [], ◌∷◌, ◌++◌, length, drop, take, refl, sym, ap, ◌∙◌}
+use Rattle.nodejs_semver.proofs.Common.{arith, inl, inr, true, false, Some, suc, length-append, is_ascii_digit, list_all, take_at, drop_at}
+use Rattle.nodejs_semver.proofs.Common.{begins, zero, subst, not, Bool, append_assoc, nat_tests, list_all-append, drop_spaces, space_len}
+use Rattle.nodejs_semver.proofs.Common.{is_whitespace, VersionValue, drop_spaces-none, encode_utf8, IsBlank, ◌-◌, IfSome, None, Option}
+use Rattle.nodejs_semver.proofs.Common.{IsUtf8, IsUtf8-drop, ◌↔◌, encode_utf8_all, length-take-le, prefix_len, cases_lt, length-encode}
+use Rattle.nodejs_semver.proofs.Common.{len_utf8_bounds, IsCharBoundary-before_ascii, IsUtf8-take, NoPieceAt, IsWholeNumber, IsNumber}
+use Rattle.nodejs_semver.proofs.Common.{drop_spaces-blank, cases_Bool, and_parts, length-drop, release_value}
+use Rattle.std.specs.{Str.Parse.{digits_value}, Char.{IsScalar}}
 use Rattle.std.proofs.lemmas.List.{take-append-drop, drop-drop}
-use Rattle.std.proofs.lemmas.Str.{char_from_byte, IsCharBoundary-from_take, IsUtf8-append, IsUtf8-encode, encode_ascii}
-use Rattle.std.proofs.lemmas.Str.{IsUtf8-nil}
-use Rattle.std.specs.Char.{IsScalar}
+use Rattle.std.proofs.lemmas.Str.{char_from_byte, IsCharBoundary-from_take, IsUtf8-append, IsUtf8-encode, encode_ascii, IsUtf8-nil}
 use Rattle.std.proofs.Math.Seq.{take-add, take-append_seam, drop-append_seam, get_or-append_seam}
 use Rattle.semver_core.specs.Internal.Reading.{number_at, triple_at, mark_len}
-use Rattle.semver_core.proofs.Text.Pieces.{number_complete, some_inside}
 use Rattle.semver_core.specs.Text.VersionText.{IsMark, Reads, no_mark, no_pre_release, no_build}
-use Rattle.semver_core.specs.Values.Versions.{release_value}
-use Rattle.semver_core.proofs.Text.Texts.{no_mark_at, number_begins, read_at}
-use Rattle.semver_core.proofs.Text.SpaceLaw.{front_is_first_character}
-use Rattle.semver_core.proofs.Text.Spaces.{after_spaces-end}
-use Rattle.nodejs_semver.specs.Internal.Stuck.{BeginsGreat, IsNumberAt, Stuck, begins_dot, at_digit, at_great, at_dot, later}
-use Rattle.nodejs_semver.specs.Internal.Stuck.{IsWhole}
+use Rattle.semver_core.proofs.{Text.Pieces.{number_complete, some_inside}, Text.Texts.{no_mark_at, number_begins, read_at}}
+use Rattle.semver_core.proofs.{Text.SpaceLaw.{front_is_first_character}, Text.Spaces.{after_spaces-end}}
+use Rattle.nodejs_semver.specs.Internal.Stuck.{BeginsGreat, IsNumberAt, Stuck, begins_dot, at_digit, at_great, at_dot, later, IsWhole}
 use Rattle.nodejs_semver.specs.Diagnosis.VersionFlaws.{IsExact, IsExpectedAt, IsFlaw, IsFront, IsGreatAt}
 use Rattle.nodejs_semver.specs.declared.diagnosis.versions.Expected.{Expected}
 use Rattle.nodejs_semver.specs.declared.diagnosis.versions.Expected.TheVariants.{Digit, Dot}
 use Rattle.nodejs_semver.specs.declared.diagnosis.versions.VersionFlaw.{VersionFlaw}
-use Rattle.nodejs_semver.proofs.Reading.Numbers.{digits-taken, run-ends}
-use lib.Utf8.{low_scalar}
-use Rattle.nodejs_semver.proofs.Reading.PartialLaw.{pre-solid, build-solid, digits-solid}
+use Rattle.nodejs_semver.proofs.{Reading.Numbers.{digits-taken, run-ends}, Reading.PartialLaw.{pre-solid, build-solid, digits-solid}}
 use Rattle.nodejs_semver.proofs.Reading.Bytes.{is_solid}
+use lib.Utf8.{low_scalar}
 use Rattle.nodejs_semver.specs.declared.diagnosis.versions.VersionFlaw.TheVariants as Flaw
 
 -- the run of digits at the front of a text
@@ -65,8 +56,7 @@ begins_great limit text at some none =
 pub digits_once : (d e x y : List ℕ) → list_all is_ascii_digit d ≡ true → list_all is_ascii_digit e ≡ true
     → begins is_ascii_digit x ≡ false → begins is_ascii_digit y ≡ false → d ++ x ≡ e ++ y → (d ≡ e) × (x ≡ y)
 digits_once d e x y a b f g same =
-    let len : length d ≡ length e = cc (digits-taken d x a f, digits-taken e y b g) in
-    (cc (take_at d x (length d) refl, take_at e y (length d) (sym len)), cc (drop_at d x (length d) refl, drop_at e y (length d) (sym len)))
+    grind (arith, nat_tests, digits-taken d x a f, digits-taken e y b g, drop_at d x (length d) refl, drop_at, take_at d x (length d) refl, take_at)
 
 number-is : (limit : ℕ) (text : List ℕ) (at end : ℕ) → at ≤ length text → (s : IsNumberAt limit text at end)
     → number_at limit text at ≡ Some (s.n, end)
@@ -422,9 +412,7 @@ digits-go_on (c ∷ d) rest (suc k) h lt = grind (arith, digits-go_on d rest k)
 
 digit-inside : (limit : ℕ) (text : List ℕ) (at k : ℕ) → (x : IsGreatAt limit text at) → k < length x.great.0
     → begins is_ascii_digit (drop (at + k) text) ≡ true
-digit-inside limit text at k x lt =
-    ap (λ (t : List ℕ). begins is_ascii_digit t) (sym (drop-drop k at text) ∙ ap (λ (t : List ℕ). drop k t) x.great.2)
-    ∙ digits-go_on x.great.0 x.great.1 k x.great.3 lt
+digit-inside limit text at k x lt = grind (arith, nat_tests, digits-go_on x.great.0 x.great.1 k x.great.3 lt, drop-drop k at text)
 
 last-byte : (text : List ℕ) (p c : ℕ) (rest : List ℕ) → drop p text ≡ c ∷ rest → take (p + 1) text ≡ take p text ++ c ∷ []
 last-byte text p c rest e = take-add p 1 text ∙ ap (λ (t : List ℕ). take p text ++ take 1 t) e
@@ -516,17 +504,12 @@ one-rest limit text v w r s =
   where
     numbers : (v : VersionValue) (r : Reads limit text v) → drop_spaces (drop (mark_len text) text)
         ≡ r.major ++ 46 ∷ (r.minor ++ 46 ∷ (r.patch ++ (r.pre_release ++ (r.build ++ r.rest))))
-    numbers v r =
-        let first = r.major ++ 46 ∷ (r.minor ++ 46 ∷ (r.patch ++ (r.pre_release ++ (r.build ++ r.rest)))) in
-        let d = digit_starts first (number_begins r.major _ r.major_is.some r.major_is.each) in
-        ap (λ (t : List ℕ). drop_spaces (drop (mark_len t) t)) r.divided
-        ∙ past_lead r.mark r.blank first r.mark_is r.blank_is d.0 (λ e. d.1)
+    numbers v r = grind (arith, nat_tests, common_steps, digit_starts, number_begins, past_lead)
 
 one-ignored : (limit : ℕ) (text : List ℕ) (a b : ℕ) → IsFlaw limit text (Flaw.Ignored a) → IsFlaw limit text (Flaw.Ignored b)
     → a ≡ b
 one-ignored limit text a b x y =
-    let same = sym x.2 ∙ (one-rest limit text x.0 y.0 x.1.reads y.1.reads ∙ y.2) in
-    omega (arith, x.3, y.3, ap length same, length-drop a text, length-drop b text)
+    grind (arith, nat_tests, length-drop a text, length-drop b text, one-rest limit text x.0 y.0 x.1.reads y.1.reads)
 
 pub one_flaw : (limit : ℕ) (text : List ℕ) (f g : VersionFlaw) → IsFlaw limit text f → IsFlaw limit text g → f ≡ g
 one_flaw limit text Flaw.TooLong Flaw.TooLong x y = refl
@@ -545,8 +528,7 @@ one_flaw limit text f (Flaw.Ignored b) x y = absurd (x.1.none y.0 y.1.reads)
 pub no_flaw : (limit : ℕ) (text : List ℕ) (f : VersionFlaw) → IsExact limit text → IsFlaw limit text f → ⊥
 no_flaw limit text Flaw.TooLong e x = absurd (omega (arith, x, e.1.short))
 no_flaw limit text (Flaw.Ignored a) e x =
-    let same = sym x.2 ∙ (one-rest limit text x.0 e.0 x.1.reads e.1.reads ∙ e.2) in
-    omega (arith, x.3, ap length same, length-drop a text)
+    grind (arith, nat_tests, length-drop a text, one-rest limit text x.0 e.0 x.1.reads e.1.reads)
 no_flaw limit text f e x = x.1.none e.0 e.1.reads
 
 -- so what is found is the flaw of the text

@@ -1,14 +1,13 @@
 -- A range text means what its words mean that are not ignored.
-use Rattle.nodejs_semver.proofs.Common.{◌≡◌, ◌↔◌, ℕ, List, [], ◌∷◌, ◌++◌, ap, ◌∙◌, arith, refl, sym, true, false, IsUtf8}
-use Rattle.nodejs_semver.proofs.Common.{AllByRecursion, IsCutAtBars, Run, Span, VersionValue, Word, flat_map, interval_of}
-use Rattle.nodejs_semver.proofs.Common.{is_empty, is_some, list_all, map, precedence, run_items, table, trim, IsBlank, denotes}
-use Rattle.nodejs_semver.proofs.Common.{part_bounds, part_denotes, words, Means, filter, middle_is_trim, more_pieces, one_piece}
-use Rattle.std.specs.Prelude.{filter_map, is_none}
-use Rattle.std.specs.List.{AllZip}
+use Rattle.nodejs_semver.proofs.Common.{nat_tests, common_steps, ◌≡◌, ◌↔◌, ℕ, List, [], ◌∷◌, ◌++◌, ap, ◌∙◌, arith, refl, sym, true, false}
+use Rattle.nodejs_semver.proofs.Common.{IsUtf8, AllByRecursion, IsCutAtBars, Run, Span, VersionValue, Word, flat_map, interval_of, is_empty}
+use Rattle.nodejs_semver.proofs.Common.{is_some, list_all, map, precedence, run_items, table, trim, IsBlank, denotes, part_denotes, words}
+use Rattle.nodejs_semver.proofs.Common.{Means, filter, middle_is_trim, more_pieces, one_piece, filter_map}
+use Rattle.std.specs.{Prelude.{is_none}, List.{AllZip}}
 use Rattle.std.proofs.lemmas.Bool.{false_from_ne_true}
+use Rattle.nodejs_semver.specs.Text.Meaning.{AreAllIntervals, AreWords, HasRuns, HasWords, all_intervals, blank_piece, every_version}
 use Rattle.nodejs_semver.specs.Diagnosis.IgnoredWords.{AreAlike, IsWhollyIgnored, ignored_as}
-use Rattle.nodejs_semver.specs.Text.Meaning.{AreAllIntervals, AreWords, HasRuns, HasWords, all_intervals, blank_piece}
-use Rattle.nodejs_semver.specs.Text.Meaning.{every_version, next_piece, next_word, no_piece, no_word}
+use Rattle.nodejs_semver.specs.Text.Meaning.{next_piece, next_word, no_piece, no_word}
 use Rattle.nodejs_semver.proofs.Dividing.BarsDivide.{bars_once}
 use Rattle.nodejs_semver.proofs.Dividing.MeaningLaw.{blank-empty, empty-blank, one_meaning, pieces-utf8, words-law}
 
@@ -53,13 +52,11 @@ has-words limit part ws no_word = refl
 has-words limit part ws (next_word b text behind next word others is skipped more) = refl
 
 piece-words : (limit : ℕ) (piece : List ℕ) (ws : List Word) → HasWords limit piece ws → is_empty (trim piece) ≡ is_empty ws
-piece-words limit piece ws h =
-    ap (λ (t : List ℕ). is_empty t) (sym (middle_is_trim piece h.0 h.1)) ∙ has-words limit h.0 ws h.2
+piece-words limit piece ws h = grind (arith, nat_tests, middle_is_trim piece h.0 h.1, has-words limit h.0 ws h.2)
 
 words-are : (limit : ℕ) (piece : List ℕ) (ws : List Word) → IsUtf8 piece → HasWords limit piece ws
     → words limit (trim piece) ≡ ws
-words-are limit piece ws u h =
-    ap (λ (t : List ℕ). words limit t) (sym (middle_is_trim piece h.0 h.1)) ∙ (words-law limit piece h.0 ws u h.1).1 h.2
+words-are limit piece ws u h = grind (arith, nat_tests, middle_is_trim piece h.0 h.1, words-law limit piece h.0 ws u h.1)
 
 -- ---- texts that are alike mean the same
 
@@ -69,29 +66,24 @@ empty-alike limit piece other h = piece-words limit piece h.0 h.2 ∙ (h.5 ∙ s
 piece-alike : (limit : ℕ) (piece other : List ℕ) → IsUtf8 piece → IsUtf8 other → IsAlike limit piece other
     → part_denotes limit (trim piece) ≡ part_denotes limit (trim other)
 piece-alike limit piece other u v h =
-    let bounds : part_bounds limit (trim piece) ≡ part_bounds limit (trim other) =
-    cc (words-are limit piece h.0 u h.2, words-are limit other h.1 v h.3, kept-bounds limit h.0, kept-bounds limit h.1, h.4) in
-    rw (empty-alike limit piece other h, bounds) refl
+    grind (arith, nat_tests, kept-bounds limit h.0, kept-bounds limit h.1, empty-alike limit piece other h, words-are limit piece h.0 u h.2, words-are limit other h.1 v h.3)
 
 all-alike : (limit : ℕ) (ps qs : List (List ℕ)) → AllByRecursion IsUtf8 ps → AllByRecursion IsUtf8 qs
     → AllZip (IsAlike limit) ps qs → (list_all is_empty (map trim ps) ≡ list_all is_empty (map trim qs))
     × (flat_map (part_denotes limit) (map trim ps) ≡ flat_map (part_denotes limit) (map trim qs))
 all-alike limit [] [] u v h = (refl, refl)
 all-alike limit (p ∷ ps) (q ∷ qs) u v h =
-    let more = all-alike limit ps qs u.1 v.1 h.1 in
-    (rw (empty-alike limit p q h.0, more.0) refl, rw (piece-alike limit p q u.0 v.0 h.0, more.1) refl)
+    grind (arith, nat_tests, piece-alike limit p q u.0 v.0 h.0, empty-alike limit p q h.0, all-alike limit ps qs u.1 v.1 h.1)
 all-alike limit ps qs u v h = absurd h
 
 denotes-alike : (limit : ℕ) (text other : List ℕ) → IsUtf8 text → IsUtf8 other → AreAlike limit text other
     → denotes limit text ≡ denotes limit other
 denotes-alike limit text other u v h =
-    let same = all-alike limit h.0 h.1 (pieces-utf8 text h.0 h.2 u) (pieces-utf8 other h.1 h.3 v) h.4 in
-    rw (← bars_once text h.0 h.2, ← bars_once other h.1 h.3, same.0, same.1) refl
+    grind (arith, nat_tests, pieces-utf8 text h.0 h.2 u, pieces-utf8 other h.1 h.3 v, all-alike limit h.0 h.1 (pieces-utf8 text h.0 h.2 u) (pieces-utf8 other h.1 h.3 v) h.4, bars_once text h.0 h.2, bars_once other h.1 h.3)
 
 pub same_without : (limit : ℕ) (text other : List ℕ) (list : List (Span VersionValue)) → IsUtf8 text → IsUtf8 other
     → AreAlike limit text other → Means limit text list → Means limit other list
-same_without limit text other list u v h m =
-    (one_meaning limit other list v).0 (sym (denotes-alike limit text other u v h) ∙ (one_meaning limit text list u).1 m)
+same_without limit text other list u v h m = grind (arith, nat_tests, common_steps, one_meaning, denotes-alike)
 
 -- ---- which texts are rejected
 

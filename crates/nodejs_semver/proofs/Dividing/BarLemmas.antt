@@ -26,9 +26,7 @@ bars_at-stop text h = grind arith
 
 pub bars_at-more : (text : List ℕ) (i : ℕ) → i < length text → begins_bars (drop i text) ≡ false → bars_at (drop i text) ≡ suc (bars_at (drop (i + 1) text))
 unfolding bars_at
-bars_at-more text i lt h =
-    let goes : begins_bars (get_or text i 0 ∷ drop (i + 1) text) ≡ false = rw (drop_more text i 0 lt) at h in
-    rw (drop_more text i 0 lt, goes) refl
+bars_at-more text i lt h = grind (arith, nat_tests, drop_more text i 0 lt)
 
 pub bars_at-nil : bars_at [] ≡ 0
 unfolding bars_at

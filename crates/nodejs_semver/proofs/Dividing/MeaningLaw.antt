@@ -1,33 +1,24 @@
 -- What a text denotes is its one meaning, and the versions that are computed of it are those that it writes.
-use Rattle.nodejs_semver.proofs.Common.{◌≡◌, ℕ, zero, suc, ◌<◌, ◌≤◌, List, [], ◌∷◌, ◌++◌, length, get_or, refl, sym, ap, ◌∙◌}
-use Rattle.nodejs_semver.proofs.Common.{arith, true, false, inl, inr, subst, append-nil, length-append, ◌↔◌, IfSome, IsTrue}
-use Rattle.nodejs_semver.proofs.Common.{IsUtf8, Option, map, flat_map, ◌⊎◌, AllByRecursion, list_all, list_any, cases_Bool}
-use Rattle.nodejs_semver.proofs.Common.{and_from, list_all-append, IsUtf8-drop, IsCharBoundary-after_ascii, IsTrim, is_whitespace}
-use Rattle.nodejs_semver.proofs.Common.{Span, precedence, drop_spaces, space_len, trim, is_empty, if_any, VersionValue}
-use Rattle.nodejs_semver.proofs.Common.{IsCutAtBars, Run, table, Word, Failure, IsBlank, denotes, part_bounds, part_denotes}
-use Rattle.nodejs_semver.proofs.Common.{part_intervals, parts, Means, runs_of, words, encode_utf8, take_at, drop_at, Bool}
-use Rattle.nodejs_semver.proofs.Common.{or_right, list_holds, accepts, run_writes, Any, IsSomeAnd, encode_utf8_all, IsUtf8-take}
-use Rattle.nodejs_semver.proofs.Common.{IsCharBoundary-before_ascii, len_utf8_bounds, length-encode, middle_is_trim}
-use Rattle.nodejs_semver.proofs.Common.{trim_is_middle, cut_bars, more_pieces, one_piece}
-use Rattle.std.proofs.Common.{IfNone, filter_map, Result}
-use Rattle.std.proofs.lemmas.Bool.{false_from_ne_true}
-use Rattle.std.proofs.lemmas.List.Folds.{Any-from_list_any, list_any-from_Any}
+use Rattle.nodejs_semver.proofs.Common.{nat_tests, common_steps, ◌≡◌, ℕ, zero, suc, ◌<◌, ◌≤◌, List, [], ◌∷◌, ◌++◌, length, get_or, refl}
+use Rattle.nodejs_semver.proofs.Common.{sym, ap, ◌∙◌, arith, true, false, inl, inr, subst, append-nil, length-append, ◌↔◌, IfSome, IsTrue}
+use Rattle.nodejs_semver.proofs.Common.{IsUtf8, Option, map, flat_map, ◌⊎◌, AllByRecursion, list_all, list_any, cases_Bool, and_from}
+use Rattle.nodejs_semver.proofs.Common.{list_all-append, IsUtf8-drop, IsCharBoundary-after_ascii, IsTrim, Span, precedence, drop_spaces}
+use Rattle.nodejs_semver.proofs.Common.{space_len, trim, is_empty, if_any, VersionValue, IsCutAtBars, Run, table, Word, Failure, IsBlank}
+use Rattle.nodejs_semver.proofs.Common.{denotes, part_bounds, part_denotes, parts, Means, runs_of, words, encode_utf8, take_at, drop_at}
+use Rattle.nodejs_semver.proofs.Common.{Bool, or_right, accepts, run_writes, Any, IsSomeAnd, encode_utf8_all, IsUtf8-take}
+use Rattle.nodejs_semver.proofs.Common.{IsCharBoundary-before_ascii, len_utf8_bounds, length-encode, middle_is_trim, trim_is_middle}
+use Rattle.nodejs_semver.proofs.Common.{cut_bars, more_pieces, one_piece, IfNone, filter_map, Result, MemoryOnlyIf, word_at, empty_is}
+use Rattle.nodejs_semver.proofs.Common.{list_any-map}
+use Rattle.std.proofs.{lemmas.Bool.{false_from_ne_true}, lemmas.List.Folds.{Any-from_list_any, list_any-from_Any}}
 use Rattle.std.proofs.Math.Seq.{get_or-append_seam}
-use Rattle.semver_core.specs.Failures.{MemoryOnlyIf}
 use Rattle.semver_core.proofs.Text.Trims.{trim_parts}
-use Rattle.nodejs_semver.specs.Text.Meaning.{AreAllIntervals, AreWords, HasRuns, IsBlankText, all_intervals, blank_piece}
-use Rattle.nodejs_semver.specs.Text.Meaning.{every_version, next_piece, next_word, no_piece, no_word}
-use Rattle.nodejs_semver.specs.Internal.Words.{word_at}
-use Rattle.nodejs_semver.specs.Internal.Writes.{part_writes, writes}
+use Rattle.nodejs_semver.specs.Text.Meaning.{AreAllIntervals, AreWords, HasRuns, IsBlankText, all_intervals, blank_piece, every_version}
+use Rattle.nodejs_semver.specs.{Text.Meaning.{next_piece, next_word, no_piece, no_word}, Internal.Writes.{part_writes, writes}}
 use Rattle.nodejs_semver.specs.Text.WrittenSet.{Writes}
-use Rattle.nodejs_semver.proofs.Algebra.FlatMaps.{empty_is, list_any-map}
-use Rattle.nodejs_semver.proofs.Dividing.BarsDivide.{bars_divide, bars_once}
-use Rattle.nodejs_semver.proofs.Dividing.RunsDivide.{words-none, part_divides, runs_are}
-use Rattle.nodejs_semver.proofs.Reading.PartialLaw.{spaces-gone, spaces-le, word-shorter, words-step}
-use Rattle.nodejs_semver.proofs.Reading.Bytes.{trim-starts}
+use Rattle.nodejs_semver.proofs.{Dividing.BarsDivide.{bars_divide, bars_once}, Dividing.RunsDivide.{words-none, part_divides, runs_are}}
+use Rattle.nodejs_semver.proofs.{Reading.PartialLaw.{spaces-gone, spaces-le, word-shorter, words-step}, Reading.Bytes.{trim-starts}}
 use Rattle.nodejs_semver.proofs.Reading.WordLaw.{skips-is, skips-of, skips-utf8, trim-utf8, word-utf8, words_are}
-use Rattle.nodejs_semver.proofs.Algebra.Accepting.{accepts-held}
-use Rattle.nodejs_semver.proofs.Algebra.Holds.{denotes_hold}
+use Rattle.nodejs_semver.proofs.{Algebra.Accepting.{accepts-held}, Algebra.Holds.{denotes_hold}}
 
 -- ---- the words of a part
 
@@ -58,11 +49,7 @@ words-read limit (suc n) (b ∷ rest) u h l =
 pub words-law : (limit : ℕ) (text part : List ℕ) (list : List Word) → IsUtf8 text → IsTrim text part → (words limit part ≡ list)
     ↔ AreWords limit part list
 words-law limit text part list u trimmed =
-    let v = trim-utf8 text part u trimmed in
-    let dark = trim-starts text part trimmed in (
-      λ e. subst (λ (l : List Word). AreWords limit part l) e (words-read limit (length part) part v dark (omega arith)),
-      λ h. sym (words-once limit part list v dark h),
-    )
+    grind (arith, nat_tests, trim-starts text part trimmed, words-read, words-once, trim-utf8 text part u trimmed)
 
 -- ---- the runs of a piece
 
@@ -77,8 +64,7 @@ has-runs limit piece u =
 pub runs-once : (limit : ℕ) (piece : List ℕ) (runs : List (Run VersionValue)) → IsUtf8 piece → HasRuns limit piece runs
     → runs ≡ runs_of precedence (part_bounds limit (trim piece))
 runs-once limit piece runs u h =
-    let once = words-once limit h.1.0 h.0 (trim-utf8 piece h.1.0 u h.1.1) (trim-starts piece h.1.0 h.1.1) h.1.2 in
-    cc (runs_are (filter_map (table limit) h.0) runs h.2, once, middle_is_trim piece h.1.0 h.1.1)
+    grind (arith, nat_tests, middle_is_trim piece h.1.0 h.1.1, trim-starts piece h.1.0 h.1.1, words-once limit h.1.0 h.0 (trim-utf8 piece h.1.0 u h.1.1) (trim-starts piece h.1.0 h.1.1) h.1.2, trim-utf8 piece h.1.0 u h.1.1, runs_are (filter_map (table limit) h.0) runs h.2)
 
 -- ---- the pieces of a text are UTF-8
 
@@ -109,13 +95,7 @@ blank-empty piece h = cc (h.spelled, append-nil h.characters, trim_parts h.chara
 
 pub empty-blank : (piece : List ℕ) → IsUtf8 piece → is_empty (trim piece) ≡ true → IsBlank piece
 empty-blank piece u h =
-    let is = trim_is_middle piece u in
-    let none : is.characters ≡ [] = no_characters is.characters (sym is.middle_is ∙ empty_is (trim piece) h) in
-    record {
-      characters = is.before ++ is.after;
-      each = list_all-append is_whitespace is.before is.after ∙ and_from _ _ is.blank_before is.blank_after;
-      spelled = is.divided ∙ ap (λ (cs : List ℕ). encode_utf8_all (is.before ++ (cs ++ is.after))) none;
-    }
+    grind (arith, nat_tests, list_all-append, trim_is_middle piece u, no_characters, empty_is (trim piece) h, and_from)
 
 all-empty : (pieces : List (List ℕ)) → AllByRecursion IsBlank pieces → list_all is_empty (map trim pieces) ≡ true
 all-empty [] h = refl
@@ -138,9 +118,7 @@ all-once limit pieces list u no_piece = refl
 all-once limit pieces list u (blank_piece piece rest others blank more) =
     grind (arith, blank-empty, all-once limit rest others u.1 more)
 all-once limit pieces list u (next_piece piece rest runs others dark h more) =
-    let some : is_empty (trim piece) ≡ false = false_from_ne_true _ (λ e. dark (empty-blank piece u.0 e)) in
-    rw (runs-once limit piece runs u.0 h, some)
-    (ap (λ (l : List (Span VersionValue)). part_intervals limit (trim piece) ++ l) (all-once limit rest others u.1 more))
+    grind (arith, nat_tests, false_from_ne_true, empty-blank, runs-once limit piece runs u.0 h, all-once limit rest others u.1 more)
 
 -- ---- the whole text
 
@@ -211,12 +189,7 @@ meant_none limit text list o u e h = grind (arith, meant)
 -- a text whose parts are all empty is blank
 pub blank_text : (text : List ℕ) → IsUtf8 text → IsTrue (list_all is_empty (parts text)) ↔ IsBlankText text
 unfolding IsBlankText
-blank_text text u =
-    let here = cut_bars false text in (
-      λ e. (here, bars_divide text, all-blank here (pieces-utf8 text here (bars_divide text) u) e),
-      λ blank. ap (λ (ps : List (List ℕ)). list_all is_empty (map trim ps)) (sym (bars_once text blank.0 blank.1))
-          ∙ all-empty blank.0 blank.2,
-    )
+blank_text text u = grind (arith, nat_tests, pieces-utf8, bars_divide text, all-blank, bars_once, all-empty)
 
 pub filled_text : (text : List ℕ) → IsUtf8 text → (IsBlankText text → ⊥) → list_all is_empty (parts text) ≡ false
 filled_text text u h = false_from_ne_true _ (λ blank. h ((blank_text text u).0 blank))
@@ -242,10 +215,7 @@ PieceWrites limit v piece = IsBlank piece ⊎ ((rs : List (Run VersionValue)) ×
 -- one piece
 piece-writes : (limit : ℕ) (v : VersionValue) (piece : List ℕ) → IsUtf8 piece → part_writes limit v (trim piece) ≡ true
     → PieceWrites limit v piece
-piece-writes limit v piece u h = elim (cases_Bool (is_empty (trim piece))) [
-  | inl empty ↦ inl (empty-blank piece u empty)
-  | inr some ↦ inr (runs_of precedence (part_bounds limit (trim piece)), has-runs limit piece u, rw some at h)
-]
+piece-writes limit v piece u h = grind (arith, nat_tests, common_steps, cases_Bool, empty-blank, has-runs)
 
 piece-written : (limit : ℕ) (v : VersionValue) (piece : List ℕ) → IsUtf8 piece → PieceWrites limit v piece
     → part_writes limit v (trim piece) ≡ true
@@ -281,6 +251,4 @@ written limit text v u = (
 pub accepted_written : (limit : ℕ) (text : List ℕ) (list : List (Span VersionValue)) → IsUtf8 text → list ≡ denotes limit text
     → (v : VersionValue) → IsTrue (accepts list v true) ↔ Writes limit text v
 accepted_written limit text list u h v =
-    let same : accepts list v true ≡ writes limit text v =
-    accepts-held list v ∙ ap (λ (l : List (Span VersionValue)). list_holds precedence l v) h ∙ denotes_hold limit text v in
-    let law = written limit text v u in (λ e. law.0 (sym same ∙ e), λ w. same ∙ law.1 w)
+    grind (arith, nat_tests, accepts-held list v, denotes_hold limit text v, written limit text v u)

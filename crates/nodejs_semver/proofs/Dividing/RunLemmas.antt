@@ -1,14 +1,13 @@
 -- Runs: one word more, what a run holds, and the running intervals.
-use Rattle.nodejs_semver.proofs.Common.{◌≡◌, List, [], ◌∷◌, ◌++◌, refl, sym, ap₂, ◌∙◌, true, false, Bool, arith, Ordering, ◌&&◌}
-use Rattle.nodejs_semver.proofs.Common.{not, if◌then◌else◌, is_gt, IsTotalOrder, and-true, list_all, Cut, Span, cut_cmp}
-use Rattle.nodejs_semver.proofs.Common.{greater_lower, holds, is_past, lesser_upper, lower_cut, upper_cut, Bound, between_parts}
-use Rattle.nodejs_semver.proofs.Common.{cut_total, gt_lt, past_lt, Run, fits, interval_of, run_writes, longer, ap, map, Some}
-use Rattle.nodejs_semver.proofs.Common.{None, Option, meet, runs_of, runs_from, joined, joined_from, inl, inr, cases_Bool}
+use Rattle.nodejs_semver.proofs.Common.{◌≡◌, List, [], ◌∷◌, ◌++◌, refl, sym, ap₂, ◌∙◌, true, false, Bool, arith, Ordering, ◌&&◌, not}
+use Rattle.nodejs_semver.proofs.Common.{if◌then◌else◌, is_gt, IsTotalOrder, and-true, list_all, Cut, Span, cut_cmp, greater_lower, holds}
+use Rattle.nodejs_semver.proofs.Common.{is_past, lesser_upper, lower_cut, upper_cut, Bound, between_parts, cut_total, gt_lt, past_lt, Run}
+use Rattle.nodejs_semver.proofs.Common.{fits, interval_of, run_writes, longer, ap, map, Some, None, Option, meet, runs_of, runs_from}
+use Rattle.nodejs_semver.proofs.Common.{joined, joined_from, inl, inr, cases_Bool, lt_trans}
 use Rattle.std.specs.Cmp.{upto}
 use Rattle.std.proofs.Math.Bool.{not-not}
-use Rattle.semver_core.proofs.CutLaws.{lt_trans, is_past-greater_lower, is_past-lesser_upper}
-use Rattle.nodejs_semver.specs.Text.Runs.{greatest_lower, least_upper}
-use Rattle.nodejs_semver.specs.Text.WrittenSet.{is_above, is_below}
+use Rattle.semver_core.proofs.CutLaws.{is_past-greater_lower, is_past-lesser_upper}
+use Rattle.nodejs_semver.specs.{Text.Runs.{greatest_lower, least_upper}, Text.WrittenSet.{is_above, is_below}}
 
 -- the second of two where g says so
 later_assoc : {A : Type 0} (g : A → A → Bool) → ((x y z : A) → g x y ≡ true → g y z ≡ true → g x z ≡ true)

@@ -1,17 +1,14 @@
 -- A part has one division into runs, and it is the one that is made from the left.
-use Rattle.nodejs_semver.proofs.Common.{◌≡◌, ℕ, List, [], ◌∷◌, ◌++◌, refl, sym, ap, ◌∙◌, inl, inr, true, false, Bool}
-use Rattle.nodejs_semver.proofs.Common.{append_assoc, subst, Some, flat_map, Option, Ordering, arith, AllByRecursion, list_all}
-use Rattle.nodejs_semver.proofs.Common.{and_parts, cases_Bool, Span, is_interval, precedence, table, Run, fits, run_items}
-use Rattle.nodejs_semver.proofs.Common.{part_bounds, words, runs_of, longer, append-nil, IsTotalOrder, precedence_total}
-use Rattle.nodejs_semver.proofs.Common.{VersionValue, ◌<◌, length, None, length-append, option_to_list, meet, space_len}
-use Rattle.nodejs_semver.proofs.Common.{part_intervals, runs_from, joined, joined_from, next_at}
-use Rattle.std.proofs.Common.{filter_map}
+use Rattle.nodejs_semver.proofs.Common.{nat_tests, common_steps, ◌≡◌, ℕ, List, [], ◌∷◌, ◌++◌, refl, sym, ap, ◌∙◌, inl, inr, true, false}
+use Rattle.nodejs_semver.proofs.Common.{Bool, append_assoc, subst, Some, flat_map, Option, Ordering, arith, AllByRecursion, list_all}
+use Rattle.nodejs_semver.proofs.Common.{and_parts, cases_Bool, Span, is_interval, precedence, table, Run, fits, run_items, part_bounds}
+use Rattle.nodejs_semver.proofs.Common.{words, runs_of, longer, append-nil, IsTotalOrder, precedence_total, VersionValue, ◌<◌, length, None}
+use Rattle.nodejs_semver.proofs.Common.{length-append, option_to_list, meet, space_len, part_intervals, runs_from, joined, joined_from}
+use Rattle.nodejs_semver.proofs.Common.{next_at, filter_map, words_within}
 use Rattle.std.specs.List.{cons_option}
 use Rattle.nodejs_semver.specs.Text.Runs.{AreLongest, AreRuns}
-use Rattle.nodejs_semver.specs.Internal.Words.{words_within}
 use Rattle.nodejs_semver.proofs.Dividing.RunLemmas.{runs-goes, runs-stops, fits-shrinks, joined-goes, joined-stops, runs-joined}
-use Rattle.nodejs_semver.proofs.Bounds.TableRows.{table-interval}
-use Rattle.nodejs_semver.proofs.Reading.PartialLaw.{words-step, word-shorter, spaces-le, spaces-gone}
+use Rattle.nodejs_semver.proofs.{Bounds.TableRows.{table-interval}, Reading.PartialLaw.{words-step, word-shorter, spaces-le, spaces-gone}}
 
 abbrev pub single : {V : Type 0} → Span V → Run V
 single s = record { first = s; others = [] }
@@ -82,8 +79,7 @@ module _ {V : Type 0} {R : V → V → Ordering} (o : IsTotalOrder R) where
   -- a run that fits with more words fits without them
   shrinks-all : (r : Run V) (xs : List (Span V)) → fits R (extended r xs) ≡ true → fits R r ≡ true
   shrinks-all r [] h = subst (λ (l : List (Span V)). fits R (record { first = r.first; others = l }) ≡ true) (append-nil r.others) h
-  shrinks-all r (x ∷ xs) h =
-      fits-shrinks o r x (shrinks-all (longer r x) xs (subst (λ (l : List (Span V)). fits R (record { first = r.first; others = l }) ≡ true) (sym (append_assoc r.others (x ∷ []) xs)) h))
+  shrinks-all r (x ∷ xs) h = grind (arith, nat_tests, common_steps, fits-shrinks, append_assoc, shrinks-all (longer r x) xs)
 
   with-none : (r : Run V) → extended r [] ≡ r
   with-none r = ap (λ (l : List (Span V)). record { first = r.first; others = l }) (append-nil r.others)
@@ -99,8 +95,7 @@ module _ {V : Type 0} {R : V → V → Ordering} (o : IsTotalOrder R) where
   unfolding runs_from
   from-run r [] rest last fit longest = grind (arith, with-none)
   from-run r (x ∷ xs) rest last fit longest =
-      let same = with-more r x xs in
-      grind (arith, shrinks-all (longer r x) xs, from-run (longer r x) xs rest last, same)
+      grind (arith, nat_tests, shrinks-all (longer r x) xs, with-more r x xs, from-run (longer r x) xs rest last)
 
   from-last : (r : Run V) (rest : List (Run V)) → AllByRecursion (λ r. fits R r ≡ true) rest → AreLongest R (r ∷ rest)
       → runs_from R r (flat_map run_items rest) ≡ r ∷ rest
@@ -172,8 +167,7 @@ part-begins limit part = runs-joined precedence_total (part_bounds limit part)
 pub part-step : (limit : ℕ) (text after : List ℕ) (o : Option (Span VersionValue)) → 0 < length text → space_len text ≡ 0
     → (o, after) ≡ next_at limit text
     → joined precedence None (part_bounds limit text) ≡ joined precedence None (cons_option o (part_bounds limit after))
-part-step limit text after o some h e =
-    ap (λ (l : List (Span VersionValue)). joined precedence None l) (bounds-step limit text after o some h e)
+part-step limit text after o some h e = grind (arith, nat_tests, common_steps, bounds-step)
 
 -- a last word before which no word had one
 pub part-last : (limit : ℕ) (text after : List ℕ) (o : Option (Span VersionValue)) → 0 < length text → space_len text ≡ 0 → length after ≡ 0
@@ -197,8 +191,7 @@ joined-some running (next ∷ rest) =
 
 pub longer_joined : (found : List (Span VersionValue)) (running : Span VersionValue) (rest : List (Span VersionValue))
     → 0 < length found → 1 < length (found ++ joined_from precedence running rest)
-longer_joined found running rest some =
-    omega (arith, length-append found (joined_from precedence running rest), joined-some running rest)
+longer_joined found running rest some = grind (arith, nat_tests, common_steps, length-append, joined-some)
 
 -- one interval more, where there is one
 pub had_one : (found : List (Span VersionValue)) (o : Option (Span VersionValue)) → 1 < length (found ++ option_to_list o)

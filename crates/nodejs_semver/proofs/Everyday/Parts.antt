@@ -1,28 +1,22 @@
 -- What the fast reader finds is the parts of a common text, and it finds each of them.
-use Rattle.nodejs_semver.proofs.Common.{arith, ◌≡◌, ℕ, List, ◌++◌, ap, ◌∙◌, Some, Option, Front, AreComponents, Partial, zero}
-use Rattle.nodejs_semver.proofs.Common.{suc, ◌<◌, ◌≤◌, [], ◌∷◌, length, drop, refl, true, false, inl, inr, append-nil}
-use Rattle.nodejs_semver.proofs.Common.{append_assoc, length-append, cases_Bool, eqb-true, nat_tests, begins, Span, meet}
-use Rattle.nodejs_semver.proofs.Common.{precedence, is_empty, VersionValue, AreCommonParts, table, IsSign, Comparator, Word}
-use Rattle.nodejs_semver.proofs.Common.{hyphen, plain, tilde, tilde_sign, same_Some, bind_some, ◌↔◌, ◌==◌, sym, Bool, None}
-use Rattle.nodejs_semver.proofs.Common.{interval, Bound, Unbounded, if◌then◌else◌, ◌⊎◌, if_any, IsSomeAnd, begins_second}
-use Rattle.nodejs_semver.proofs.Common.{comparison_front, comparisons_front, is_sign, word_read, passed, pushed, has_bars}
-use Rattle.semver_core.specs.Internal.Reading.{◌>>?◌}
-use Rattle.semver_core.specs.Failures.{NoValue}
+use Rattle.nodejs_semver.proofs.Common.{common_steps, arith, ◌≡◌, ℕ, List, ◌++◌, ap, ◌∙◌, Some, Option, Front, AreComponents, Partial, zero}
+use Rattle.nodejs_semver.proofs.Common.{suc, ◌<◌, ◌≤◌, [], ◌∷◌, length, drop, refl, true, false, inl, inr, append-nil, append_assoc}
+use Rattle.nodejs_semver.proofs.Common.{length-append, cases_Bool, eqb-true, nat_tests, begins, Span, meet, precedence, is_empty}
+use Rattle.nodejs_semver.proofs.Common.{VersionValue, AreCommonParts, table, IsSign, Comparator, Word, hyphen, plain, tilde, tilde_sign}
+use Rattle.nodejs_semver.proofs.Common.{same_Some, bind_some, ◌↔◌, ◌==◌, Bool, None, interval, Bound, Unbounded, if◌then◌else◌, ◌⊎◌, if_any}
+use Rattle.nodejs_semver.proofs.Common.{IsSomeAnd, begins_second, comparison_front, comparisons_front, is_sign, word_read, passed, pushed}
+use Rattle.nodejs_semver.proofs.Common.{has_bars, above, at_most, below}
+use Rattle.semver_core.specs.{Internal.Reading.{◌>>?◌}, Failures.{NoValue}}
 use Rattle.nodejs_semver.specs.Internal.CommonFronts.{bare_front, after_bars, after_gap, begins_dash, caret_front, common_parts}
-use Rattle.nodejs_semver.specs.Internal.CommonFronts.{common_range, common_within, part_front, part_read, partials_front}
-use Rattle.nodejs_semver.specs.Internal.CommonFronts.{tilde_front, both_of, onto}
-use Rattle.nodejs_semver.specs.Internal.Fronts.{after_byte}
-use Rattle.nodejs_semver.specs.Text.Common.{IsCommonPart, IsCommonRange, IsCommonWord, IsComparison, IsGap, caret_word}
-use Rattle.nodejs_semver.specs.Text.Common.{compare_word, comparison, hyphen_word, more_parts, one_part, one_word, plain_word}
-use Rattle.nodejs_semver.specs.Text.Common.{tilde_greater_word, tilde_word, two_comparisons}
-use Rattle.nodejs_semver.specs.Internal.Words.{comparator_at}
-use Rattle.nodejs_semver.specs.Internal.CommonViews.{both_view}
-use Rattle.nodejs_semver.specs.Text.WordText.{above_sign, below_sign, above, at_least, at_most, below}
+use Rattle.nodejs_semver.specs.Internal.CommonFronts.{common_range, common_within, part_front, part_read, partials_front, tilde_front}
+use Rattle.nodejs_semver.specs.Text.Common.{IsCommonPart, IsCommonRange, IsCommonWord, IsComparison, IsGap, caret_word, compare_word}
+use Rattle.nodejs_semver.specs.Text.Common.{comparison, hyphen_word, more_parts, one_part, one_word, plain_word, tilde_greater_word}
+use Rattle.nodejs_semver.specs.{Internal.CommonFronts.{both_of, onto}, Internal.Fronts.{after_byte}}
+use Rattle.nodejs_semver.specs.{Text.Common.{tilde_word, two_comparisons}, Internal.Words.{comparator_at}, Internal.CommonViews.{both_view}}
+use Rattle.nodejs_semver.specs.Text.WordText.{above_sign, below_sign, at_least}
 use Rattle.nodejs_semver.proofs.Reading.PartialLaw.{components-read, components-then, components-begin}
-use Rattle.nodejs_semver.proofs.Reading.Bytes.{Stop, quiet-before, stop-bar, stop-nil, stop-space, begins-on, begins_component}
-use Rattle.nodejs_semver.proofs.Reading.Bytes.{is_solid}
-use Rattle.nodejs_semver.proofs.Everyday.Texts.{part-tidy, list-some}
-use Rattle.nodejs_semver.proofs.Everyday.Words.{no-equal, no-greater, sign-begins}
+use Rattle.nodejs_semver.proofs.Reading.Bytes.{Stop, quiet-before, stop-bar, stop-nil, stop-space, begins-on, begins_component, is_solid}
+use Rattle.nodejs_semver.proofs.{Everyday.Texts.{part-tidy, list-some}, Everyday.Words.{no-equal, no-greater, sign-begins}}
 use Rattle.nodejs_semver.proofs.Reading.WordLaw.{tilde-cases, Signed, sign-is}
 
 -- it is read at the front
@@ -210,10 +204,7 @@ pub part-sound : (limit : ℕ) (text : List ℕ) (r : Span VersionValue × List 
 unfolding part_front
 part-sound limit [] r h = cc h
 part-sound limit (b ∷ rest) r h =
-    let tilde = word-sound limit (126 ∷ rest) (tilde_front limit rest) r (tilde-sound limit rest) in
-    let caret = word-sound limit (94 ∷ rest) (caret_front limit rest) r (caret-sound limit rest) in
-    let plain = word-sound limit (b ∷ rest) (partials_front limit (b ∷ rest)) r (partials-sound limit (b ∷ rest)) in
-    grind (arith, comparisons-sound limit (b ∷ rest) r, tilde, caret, plain, eqb-true)
+    grind (arith, nat_tests, comparisons-sound limit (b ∷ rest) r, partials-sound limit (b ∷ rest), caret-sound limit rest, tilde-sound limit rest, word-sound limit (126 ∷ rest) (tilde_front limit rest) r (tilde-sound limit rest), word-sound limit (94 ∷ rest) (caret_front limit rest) r (caret-sound limit rest), word-sound limit (b ∷ rest) (partials_front limit (b ∷ rest)) r (partials-sound limit (b ∷ rest)), eqb-true)
 
 -- ---- the bars between parts
 
@@ -271,9 +262,7 @@ next-sound limit text s more next list h k r =
 -- less is left behind the bars
 pub next-shorter : (limit : ℕ) (text : List ℕ) (s : Span VersionValue) (more next : List ℕ) → part_front limit text ≡ Some (s, more) → after_bars more ≡ Some next
     → length next < length text
-next-shorter limit text s more next h k =
-    let b = bars-sound more next k in
-    grind (arith, part-sound, length-append)
+next-shorter limit text s more next h k = grind (arith, nat_tests, length-append, bars-sound more next k, part-sound)
 
 gap-filled : (gap rest : List ℕ) → IsGap gap → is_empty (gap ++ 124 ∷ rest) ≡ false
 gap-filled gap rest h = grind arith
@@ -300,11 +289,7 @@ unfolding common_within
 within-exact limit zero text list l h = grind (arith, range-begins)
 within-exact limit (suc n) text list l (one_part part s is) = grind (arith, part-exact limit part s [] is ends-nil, append-nil)
 within-exact limit (suc n) text list l (more_parts part before after rest s others is b a more) =
-    let behind = 124 ∷ (after ++ rest) in
-    let found = part-exact limit part s (before ++ 124 ∷ behind) is (ends-behind before behind b) in
-    let bars = bars-exact before after rest b a (range-begins limit rest others more) in
-    let less = next-shorter limit (part ++ (before ++ 124 ∷ behind)) s (before ++ 124 ∷ behind) rest found bars in
-    rw (found, gap-filled before behind b, bars, within-exact limit n rest others (omega arith) more) refl
+    grind (arith, nat_tests, common_steps, part-exact, ends-behind, bars-exact, range-begins, next-shorter, gap-filled, within-exact limit n rest others)
 
 pub common_parts_are_read : (limit : ℕ) (text : List ℕ) (list : List (Span VersionValue)) → (common_parts limit text ≡ Some list) ↔ AreCommonParts limit text list
 common_parts_are_read limit text list = (within-sound limit (length text) text list, within-exact limit (length text) text list (omega arith))
@@ -342,10 +327,7 @@ pub first-read : (limit : ℕ) (text : List ℕ) (a : Span VersionValue) (rest :
     → part_read rest (interval precedence a) ≡ word_read limit (comparison_front limit text) → begins_second rest ≡ false
     → part_read rest (interval precedence a) ≡ comparisons_front limit text
 unfolding comparisons_front
-first-read limit text a rest h second = rw (← h) (go (interval precedence a))
-  where
-    go : (o : Option (Span VersionValue)) → part_read rest o ≡ (part_read rest o >>? λ s. behind-first limit s)
-    go o = grind arith
+first-read limit text a rest h second = grind (arith, nat_tests, common_steps)
 
 -- no second comparison is read
 pub none-second : (limit : ℕ) (text : List ℕ) (a : Span VersionValue) (rest : List ℕ)
@@ -378,8 +360,7 @@ pub passed-second : (limit : ℕ) (text : List ℕ) (a b : Span VersionValue) (r
     → part_read more (interval precedence b) ≡ word_read limit (comparison_front limit (drop 1 rest))
     → both_view there new ≡ pushed done (both_of a b) → r ≡ (if there then Some more else None) → behind r new ≡ passed done (comparisons_front limit text)
 passed-second limit text a b rest more there done new r h second k p e =
-    passed-part there more done new (both_of a b) r p e
-    ∙ ap (λ (o : Front (Span VersionValue)). passed done o) (sym (second-read limit text a b rest more h second k))
+    grind (arith, nat_tests, passed-part there more done new (both_of a b) r p e, second-read limit text a b rest more h second k)
 
 -- what was added, and that nothing was
 pub record Added (done new : List (Span VersionValue)) (o : Front (Span VersionValue)) (rest : List ℕ) : Type 0 where
@@ -472,22 +453,18 @@ loop-no_bars limit text found new rest left s some bars r =
 pub loop-ends : (limit : ℕ) (text : List ℕ) (found new : List (Span VersionValue)) (rest left : List ℕ) → Step limit found new rest left → length left ≡ 0
     → Reaches limit text found rest → AreCommonParts limit text new
 loop-ends limit text found new rest left s none r =
-    let a = added-by limit found new rest left s in
-    grind (arith, ends-there, common_parts_are_read)
+    grind (arith, nat_tests, common_parts_are_read, ends-there, added-by limit found new rest left s)
 
 -- bars stand behind a part
 bars-there : (limit : ℕ) (rest left next : List ℕ) (s : Span VersionValue) → part_front limit rest ≡ Some (s, left)
     → after_bars left ≡ Some next → HasBars rest
 bars-there limit rest left next s h k =
-    let p = part-sound limit rest (s, left) h in
-    let b = bars-sound left next k in
-    grind (arith, behind-bars, p.1, b.divided)
+    grind (arith, nat_tests, behind-bars, bars-sound left next k, part-sound limit rest (s, left) h)
 
 pub loop-bars : (limit : ℕ) (text : List ℕ) (found new : List (Span VersionValue)) (rest left next : List ℕ)
     → Step limit found new rest left → after_bars left ≡ Some next → Reaches limit text found rest → HasBars text
 loop-bars limit text found new rest left next s bars r =
-    let a = added-by limit found new rest left s in
-    r.within (bars-there limit rest left next a.interval_is a.found bars)
+    grind (arith, nat_tests, bars-there, added-by limit found new rest left s)
 
 -- what holds of the list of a common text holds of a list that it means
 pub common_so : (P : List (Span VersionValue) → Type 0) (limit : ℕ) (text : List ℕ) (list : List (Span VersionValue))
@@ -506,6 +483,4 @@ loop-goes limit text found new rest left next s some bars r =
     grind (arith, append_assoc, b)
 
 pub loop-shorter : (limit : ℕ) (found new : List (Span VersionValue)) (rest left next : List ℕ) → Step limit found new rest left → after_bars left ≡ Some next → length next < length rest
-loop-shorter limit found new rest left next s bars =
-    let a = added-by limit found new rest left s in
-    next-shorter limit rest a.interval_is left next a.found bars
+loop-shorter limit found new rest left next s bars = grind (arith, nat_tests, next-shorter, added-by limit found new rest left s)

@@ -1,18 +1,14 @@
 -- Everyday parts between bars denote their intervals: the parts are cut at the bars and are trimmed to themselves.
-use Rattle.nodejs_semver.proofs.Common.{◌≡◌, ℕ, ◌<◌, List, [], ◌∷◌, ◌++◌, length, map, refl, sym, ap, ◌∙◌, arith, true, false}
-use Rattle.nodejs_semver.proofs.Common.{inl, append-nil, append_assoc, Some, flat_map, list_all, eqb-true, nat_tests, begins}
-use Rattle.nodejs_semver.proofs.Common.{ends, Span, drop_spaces, space_len, trim, is_empty, VersionValue, drop_spaces-none}
-use Rattle.nodejs_semver.proofs.Common.{AreCommonParts, denotes, part_denotes, parts, table, Word, after_spaces, drop_end_spaces}
-use Rattle.nodejs_semver.proofs.Common.{cut_bars, is_bar, and_parts, onto_first}
+use Rattle.nodejs_semver.proofs.Common.{common_steps, ◌≡◌, ℕ, ◌<◌, List, [], ◌∷◌, ◌++◌, length, map, refl, sym, ap, ◌∙◌, arith, true, false}
+use Rattle.nodejs_semver.proofs.Common.{inl, append-nil, append_assoc, Some, flat_map, list_all, eqb-true, nat_tests, begins, ends, Span}
+use Rattle.nodejs_semver.proofs.Common.{drop_spaces, space_len, trim, is_empty, VersionValue, drop_spaces-none, AreCommonParts, denotes}
+use Rattle.nodejs_semver.proofs.Common.{part_denotes, parts, table, Word, after_spaces, drop_end_spaces, cut_bars, is_bar, and_parts}
 use Rattle.semver_core.proofs.Text.Trims.{keep_byte}
 use Rattle.nodejs_semver.specs.Text.Common.{IsCommonPart, IsCommonWord, IsGap, caret_word, compare_word, comparison, hyphen_word}
-use Rattle.nodejs_semver.specs.Text.Common.{more_parts, one_part, one_word, plain_word, tilde_greater_word, tilde_word}
-use Rattle.nodejs_semver.specs.Text.Common.{two_comparisons}
-use Rattle.nodejs_semver.proofs.Everyday.Words.{Compact, compact-partial, compact-signed, is_part_byte, Tidy, caret-tidy}
-use Rattle.nodejs_semver.proofs.Everyday.Words.{compared-tidy, hyphen-tidy, no-greater, plain-tidy, tilde-tidy, two-tidy}
-use Rattle.nodejs_semver.proofs.Everyday.Words.{space-gone}
-use Rattle.nodejs_semver.proofs.Reading.Bytes.{all-join, is_solid, solid-dark}
-use Rattle.nodejs_semver.proofs.Reading.PartialLaw.{components-begin}
+use Rattle.nodejs_semver.specs.Text.Common.{more_parts, one_part, one_word, plain_word, tilde_greater_word, tilde_word, two_comparisons}
+use Rattle.nodejs_semver.proofs.Everyday.Words.{Compact, compact-partial, compact-signed, is_part_byte, Tidy, caret-tidy, compared-tidy}
+use Rattle.nodejs_semver.proofs.Everyday.Words.{hyphen-tidy, no-greater, plain-tidy, tilde-tidy, two-tidy, space-gone}
+use Rattle.nodejs_semver.proofs.{Reading.Bytes.{all-join, is_solid, solid-dark}, Reading.PartialLaw.{components-begin}}
 
 -- ---- trimming
 
@@ -45,8 +41,7 @@ gap-passed before text h = grind (arith, space-gone)
 
 -- a compact text with a space or none on each side is trimmed to itself
 pub compact-trim : (before text after : List ℕ) → IsGap before → IsGap after → Compact text → trim (before ++ (text ++ after)) ≡ text
-compact-trim before text after g k c =
-    rw (gap-passed before (text ++ after) g, front-kept text after c.front) (end-kept text after k c.each c.end)
+compact-trim before text after g k c = grind (arith, nat_tests, common_steps, gap-passed, front-kept, end-kept)
 
 -- ---- cutting at bars
 
@@ -56,9 +51,7 @@ no-bar b h = grind (arith, nat_tests)
 pub cut-last : (piece : List ℕ) → list_all is_part_byte piece ≡ true → cut_bars false piece ≡ piece ∷ []
 unfolding cut_bars
 cut-last [] h = refl
-cut-last (b ∷ piece) h =
-    let each = and_parts (is_part_byte b) (list_all is_part_byte piece) h in
-    rw (no-bar b each.0, cut_bars) (ap (λ (ps : List (List ℕ)). onto_first b ps) (cut-last piece each.1))
+cut-last (b ∷ piece) h = grind (arith, nat_tests, common_steps, and_parts, no-bar, cut-last piece)
 
 pub cut-first : (piece rest : List ℕ) → list_all is_part_byte piece ≡ true → cut_bars false (piece ++ 124 ∷ (124 ∷ rest)) ≡ piece ∷ cut_bars false rest
 unfolding cut_bars
@@ -87,9 +80,7 @@ denoted-on limit piece part pieces s list t tidy h = grind arith
 denoted : (limit : ℕ) (text : List ℕ) (list : List (Span VersionValue)) (gap : List ℕ) → IsGap gap → AreTidy limit text list
     → Denoted limit (cut_bars false (gap ++ text)) list
 denoted limit text list gap g (one_tidy part s tidy) =
-    let trimmed : trim (gap ++ part) ≡ part = rw append-nil at (compact-trim gap part [] g (inl refl) tidy.compact) in
-    rw (cut-last (gap ++ part) (all-join is_part_byte gap part (grind arith) tidy.compact.each))
-    (denoted-on limit (gap ++ part) part [] s [] trimmed tidy refl)
+    grind (arith, nat_tests, compact-trim gap part [] g (inl refl) tidy.compact, append-nil, denoted-on, cut-last, all-join)
 denoted limit text list gap g (more_tidy part before after rest s others tidy b a more) =
     let piece = gap ++ (part ++ before) in
     let behind = 124 ∷ (124 ∷ (after ++ rest)) in
@@ -100,9 +91,7 @@ denoted limit text list gap g (more_tidy part before after rest s others tidy b 
 
 pub tidy-denotes : (limit : ℕ) (text : List ℕ) (list : List (Span VersionValue)) → AreTidy limit text list
     → (denotes limit text ≡ list) × (list_all is_empty (parts text) ≡ false)
-tidy-denotes limit text list h =
-    let d = denoted limit text list [] (inl refl) h in
-    (rw d.filled d.intervals, d.filled)
+tidy-denotes limit text list h = grind (arith, nat_tests, denoted limit text list [] (inl refl) h)
 
 -- ---- common texts
 
@@ -134,5 +123,4 @@ list-some limit text list h = grind arith
 
 pub common_parts_are_denoted : (limit : ℕ) (text : List ℕ) (list : List (Span VersionValue)) → AreCommonParts limit text list
     → (denotes limit text ≡ list) × (0 < length list) × (list_all is_empty (parts text) ≡ false)
-common_parts_are_denoted limit text list h = let d =
-    tidy-denotes limit text list (common-tidy limit text list h) in (d.0, list-some limit text list h, d.1)
+common_parts_are_denoted limit text list h = grind (arith, nat_tests, common_steps, tidy-denotes, common-tidy, list-some)

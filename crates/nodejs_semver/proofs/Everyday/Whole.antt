@@ -1,10 +1,8 @@
 -- The range that the fast reader makes of the intervals of a common text.
-use Rattle.nodejs_semver.proofs.Common.{ap, ◌≡◌, ◌∙◌, ℕ, ◌<◌, ◌+◌, List, [], length, sym, arith, true, Some, subst, list_all}
-use Rattle.nodejs_semver.proofs.Common.{is_range_span, Span, if_any, VersionValue, AreCommonParts, denotes, Means, IsRange}
-use Rattle.nodejs_semver.proofs.Common.{Option, IfSome, IsUtf8}
-use Rattle.std.specs.Prelude.{IfNone}
-use Rattle.nodejs_semver.proofs.Bounds.Table.{denotes-bounded}
-use Rattle.nodejs_semver.proofs.Dividing.MeaningLaw.{meant, one_meaning}
+use Rattle.nodejs_semver.proofs.Common.{nat_tests, ◌≡◌, ℕ, ◌<◌, ◌+◌, List, [], length, sym, arith, true, Some, subst, list_all}
+use Rattle.nodejs_semver.proofs.Common.{is_range_span, Span, if_any, VersionValue, AreCommonParts, denotes, Means, IsRange, Option, IfSome}
+use Rattle.nodejs_semver.proofs.Common.{IsUtf8, IfNone}
+use Rattle.nodejs_semver.proofs.{Bounds.Table.{denotes-bounded}, Dividing.MeaningLaw.{meant, one_meaning}}
 use Rattle.nodejs_semver.proofs.Everyday.Texts.{common_parts_are_denoted}
 
 pub common_bounded : (limit : ℕ) (text : List ℕ) (list : List (Span VersionValue)) → AreCommonParts limit text list → list_all (is_range_span (limit + 1)) list ≡ true
@@ -22,8 +20,7 @@ if-some {A} P o x e h = subst (λ (q : Option A). IfSome q P) e h
 
 -- the intervals that a text denotes are a range, where there are some
 pub denoted_range : (limit : ℕ) (text : List ℕ) (list : List (Span VersionValue)) → list ≡ denotes limit text → 0 < length list → IsRange limit list
-denoted_range limit text list h some =
-    record { some = some; each = ap (list_all (is_range_span (limit + 1))) h ∙ denotes-bounded limit text }
+denoted_range limit text list h some = grind (arith, nat_tests, denotes-bounded limit text)
 
 -- the loose reader returns the range of a common text
 pub fast_read : (limit : ℕ) (text : List ℕ) (list : List (Span VersionValue)) (o : Option (List (Span VersionValue)))

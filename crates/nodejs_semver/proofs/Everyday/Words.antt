@@ -1,18 +1,15 @@
 -- The words of an everyday part are what the range grammar reads in it.
-use Rattle.nodejs_semver.proofs.Common.{◌≡◌, ℕ, List, [], ◌∷◌, ◌++◌, refl, ◌∙◌, arith, Bool, true, ◌||◌, list_all, and_from}
-use Rattle.nodejs_semver.proofs.Common.{begins, ends, AreComponents, Partial, Comparator, IsSign, ◌==◌, sym, false, Some}
-use Rattle.nodejs_semver.proofs.Common.{append-nil, append_assoc, Span, meet, precedence, precedence_total, drop_spaces}
-use Rattle.nodejs_semver.proofs.Common.{space_len, VersionValue, drop_spaces-none, part_intervals, table, Word, compare, hyphen}
-use Rattle.nodejs_semver.proofs.Common.{plain, tilde, tilde_sign, words, after_spaces, joined_from, runs_from, is_sign}
-use Rattle.nodejs_semver.specs.Internal.Fronts.{partial_front}
-use Rattle.nodejs_semver.specs.Text.WordText.{caret}
-use Rattle.nodejs_semver.specs.Internal.Words.{is_boundary, or_equal, word_at, words_within}
+use Rattle.nodejs_semver.proofs.Common.{nat_tests, common_steps, ◌≡◌, ℕ, List, [], ◌∷◌, ◌++◌, refl, ◌∙◌, arith, Bool, true, ◌||◌, list_all}
+use Rattle.nodejs_semver.proofs.Common.{and_from, begins, ends, AreComponents, Partial, Comparator, IsSign, ◌==◌, sym, false, Some}
+use Rattle.nodejs_semver.proofs.Common.{append-nil, append_assoc, Span, meet, precedence, precedence_total, drop_spaces, space_len}
+use Rattle.nodejs_semver.proofs.Common.{VersionValue, drop_spaces-none, part_intervals, table, Word, compare, hyphen, plain, tilde}
+use Rattle.nodejs_semver.proofs.Common.{tilde_sign, words, after_spaces, joined_from, runs_from, is_sign, partial_front, caret, is_boundary}
+use Rattle.nodejs_semver.proofs.Common.{word_at, words_within, all_weaker}
+use Rattle.nodejs_semver.specs.Internal.Words.{or_equal}
 use Rattle.nodejs_semver.proofs.Reading.Bytes.{all-end, all-join, ends-append, ends-some, is_solid, begins-on, begins_component}
 use Rattle.nodejs_semver.proofs.Reading.Bytes.{component-solid, solid-dark, Stop, stop-nil, stop-space}
 use Rattle.nodejs_semver.proofs.Reading.PartialLaw.{components-begin, front-exact, words-step, components-solid}
-use Rattle.nodejs_semver.proofs.Algebra.FlatMaps.{all_weaker}
-use Rattle.nodejs_semver.proofs.Dividing.RunLemmas.{joined-goes, runs-joined}
-use Rattle.nodejs_semver.proofs.Reading.WordLaw.{compared-of, unsigned-at}
+use Rattle.nodejs_semver.proofs.{Dividing.RunLemmas.{joined-goes, runs-joined}, Reading.WordLaw.{compared-of, unsigned-at}}
 
 -- a visible character other than the bar, or a space
 abbrev pub is_part_byte : ℕ → Bool
@@ -32,8 +29,7 @@ pub compact-join : (u v : List ℕ) → begins is_solid u ≡ true → list_all 
 compact-join u v b h k e = grind (arith, all-join, ends-append, ends-some)
 
 pub compact-spaced : (u v : List ℕ) → Compact u → Compact v → Compact (u ++ 32 ∷ v)
-compact-spaced u v c d =
-    compact-join u (32 ∷ v) c.front c.each d.each (ends-append is_solid (32 ∷ []) v (ends-some is_solid v d.end) ∙ d.end)
+compact-spaced u v c d = grind (arith, nat_tests, common_steps, compact-join, ends-append, ends-some)
 
 pub compact-partial : (limit : ℕ) (x : List ℕ) (p : Partial) → AreComponents limit x p → Compact x
 compact-partial limit x p h = grind (arith, components-solid, components-begin, all_weaker, all-end)
@@ -81,12 +77,7 @@ compared-read : (limit : ℕ) (c : Comparator) (sign x more : List ℕ) (p : Par
     → Stop more → is_boundary more ≡ true → ReadAt limit ((sign ++ x) ++ more) (compare c p) more
 unfolding word_at
 compared-read limit c sign x more p is h stop end =
-    let read = partial-spaced limit x more p h stop in
-    rw (append_assoc sign x more)
-    (record {
-      front = (sign-begins c sign (x ++ more) is).1;
-      word = rw (compared-of limit c sign (x ++ more) (p, more) is read, read, end) refl;
-    })
+    grind (arith, nat_tests, partial-spaced limit x more p h stop, append_assoc sign x more, compared-of, sign-begins c sign (x ++ more) is)
 
 -- ---- the words of a part, and its interval
 
@@ -105,8 +96,7 @@ space-gone rest = refl
 two-words : (limit : ℕ) (text rest : List ℕ) (v w : Word) → ReadAt limit text v (32 ∷ rest) → ReadAt limit rest w []
     → words limit text ≡ v ∷ w ∷ []
 two-words limit text rest v w r s =
-    words-at limit text v (32 ∷ rest) r
-    ∙ rw (space-gone rest, drop_spaces-none rest (solid-dark rest s.front), one-word limit rest w s) refl
+    grind (arith, nat_tests, drop_spaces-none rest (solid-dark rest s.front), solid-dark rest s.front, space-gone rest, one-word limit rest w s, words-at limit text v (32 ∷ rest) r)
 
 -- a part that is trimmed to itself and has one interval
 pub record Tidy (limit : ℕ) (part : List ℕ) (s : Span VersionValue) : Type 0 where

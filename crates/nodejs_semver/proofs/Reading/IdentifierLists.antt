@@ -1,12 +1,10 @@
 -- Identifiers joined by dots: the longest list at the front of a text.
-use Rattle.nodejs_semver.proofs.Common.{◌≡◌, ℕ, ◌≤◌, ◌+◌, List, [], ◌∷◌, ◌++◌, length, take, drop, refl, arith, true, false}
-use Rattle.nodejs_semver.proofs.Common.{length-append, take_at, drop_at, Id, list_len, take_all, IsIdentifiers, pieces}
-use Rattle.nodejs_semver.proofs.Common.{begins_identifier}
-use Rattle.std.proofs.Common.{length-drop}
-use Rattle.semver_core.specs.Text.Identifiers.{Numeric, goes_on, is_listed, listed}
+use Rattle.nodejs_semver.proofs.Common.{nat_tests, common_steps, ◌≡◌, ℕ, ◌≤◌, ◌+◌, List, [], ◌∷◌, ◌++◌, length, take, drop, refl, arith}
+use Rattle.nodejs_semver.proofs.Common.{true, false, length-append, take_at, drop_at, Id, list_len, take_all, IsIdentifiers, pieces}
+use Rattle.nodejs_semver.proofs.Common.{begins_identifier, length-drop, Numeric}
+use Rattle.semver_core.specs.Text.Identifiers.{goes_on, is_listed, listed}
 use Rattle.semver_core.proofs.Text.Ends.{end_past, is_spelled, nothing_listed, nothing_spelled, runs_taken}
-use Rattle.semver_core.proofs.Text.Pieces.{list_len-append, runs_begin, runs_tail}
-use Rattle.semver_core.proofs.Text.Runs.{list_len_stop}
+use Rattle.semver_core.proofs.{Text.Pieces.{list_len-append, runs_begin, runs_tail}, Text.Runs.{list_len_stop}}
 use Rattle.nodejs_semver.specs.Internal.Fronts.{split_list}
 
 -- ---- what is read is a list
@@ -30,8 +28,7 @@ written-len t more l h = list_len-append t more (runs_tail (pieces t) h.runs)
 -- no less is read than it, and no more where nothing goes on
 pub written-le : (t more : List ℕ) (l : List Id) → IsIdentifiers t l
     → length (drop (list_len (t ++ more)) (t ++ more)) ≤ length more
-written-le t more l h =
-    omega (arith, length-drop (list_len (t ++ more)) (t ++ more), length-append t more, written-len t more l h)
+written-le t more l h = grind (arith, nat_tests, common_steps, length-drop, length-append, written-len)
 
 pub written-exact : (t more : List ℕ) (l : List Id) → IsIdentifiers t l → list_len more ≡ 0 → split_list (t ++ more) ≡ (t, more)
 written-exact t more l h stop = grind (arith, written-len, take_at, drop_at)
@@ -51,9 +48,7 @@ list_past text i inv le = omega (arith, inv, end_past text i le)
 
 pub whole_listed : (text : List ℕ) (i : ℕ) → begins_identifier text ≡ true → i ≡ list_len text → length text ≤ i
     → is_listed text ≡ true
-whole_listed text i h e le =
-    let all : take (list_len text) text ≡ text = take_all (list_len text) text (omega (arith, e, le)) in
-    rw all at (listed_taken text h)
+whole_listed text i h e le = grind (arith, nat_tests, listed_taken text h, take_all)
 
 pub ruleset split_here = (list_stopped, list_past, listed_taken)
 

@@ -1,8 +1,7 @@
 -- Numbers: as a whole text, and at the front of one.
-use Rattle.nodejs_semver.proofs.Common.{◌≡◌, ℕ, ◌+◌, ◌≤◌, List, [], ◌∷◌, ◌++◌, length, drop, refl, ap, ◌∙◌, arith, true, false}
-use Rattle.nodejs_semver.proofs.Common.{Some, None, inl, inr, ◌↔◌, not, is_ascii_digit, list_all, nat_tests, take_at, drop_at}
-use Rattle.nodejs_semver.proofs.Common.{begins, prefix_len, IsPieceAt, NoPieceAt, IsNumber, IsWholeNumber, component_front, suc}
-use Rattle.nodejs_semver.proofs.Common.{cases_Bool}
+use Rattle.nodejs_semver.proofs.Common.{common_steps, ◌≡◌, ℕ, ◌+◌, ◌≤◌, List, [], ◌∷◌, ◌++◌, length, drop, refl, arith, true, false, Some}
+use Rattle.nodejs_semver.proofs.Common.{None, inl, inr, ◌↔◌, not, is_ascii_digit, list_all, nat_tests, take_at, drop_at, begins, prefix_len}
+use Rattle.nodejs_semver.proofs.Common.{IsPieceAt, NoPieceAt, IsNumber, IsWholeNumber, component_front, suc, cases_Bool}
 use Rattle.std.proofs.lemmas.List.{take-append-drop}
 use Rattle.nodejs_semver.specs.Internal.Fronts.{begins_wildcard, number_front, number_of, is_wildcard}
 use Rattle.nodejs_semver.proofs.Reading.Steps.{option-cases}
@@ -54,8 +53,7 @@ number-found limit text n rest h = grind (arith, take-append-drop, number-is, ru
 
 pub front_some : (limit : ℕ) (text : List ℕ) (n end : ℕ) → IsPieceAt (λ digits rest. IsWholeNumber limit digits rest n) text 0 end
     → number_front limit text ≡ Some (n, drop end text)
-front_some limit text n end s =
-    ap (λ (t : List ℕ). number_front limit t) s.divided ∙ number-read limit s.piece (drop end text) n s.is.number s.is.ended
+front_some limit text n end s = grind (arith, nat_tests, common_steps, number-read)
 
 pub front_small : (limit : ℕ) (text : List ℕ) (n end : ℕ) → IsPieceAt (λ digits rest. IsWholeNumber limit digits rest n) text 0 end → n ≤ limit
 front_small limit text n end s = s.is.number.safe
@@ -80,8 +78,6 @@ number-no_wildcard run more h = grind arith
 pub number_first : (limit : ℕ) (text rest : List ℕ) (n : ℕ) → number_front limit text ≡ Some (n, rest)
     → component_front limit text ≡ Some (Some n, rest)
 unfolding component_front
-number_first limit text rest n h =
-    let f = number-found limit text n rest h in
-    grind (arith, number-no_wildcard)
+number_first limit text rest n h = grind (arith, nat_tests, number-no_wildcard, number-found limit text n rest h)
 
 pub ruleset number_fronts = (front_some, front_none, front_small)

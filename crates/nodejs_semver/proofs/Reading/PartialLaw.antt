@@ -1,34 +1,28 @@
 -- The partial that is read at the front of a text is the longest one that is written there.
-use Rattle.nodejs_semver.proofs.Common.{◌≡◌, ℕ, ◌≤◌, List, [], ◌∷◌, ◌++◌, length, take, drop, refl, sym, ap, arith, true, false}
-use Rattle.nodejs_semver.proofs.Common.{inl, inr, append-nil, append_assoc, length-append, is_ascii_digit, cases_Bool, nat_tests}
-use Rattle.nodejs_semver.proofs.Common.{begins, Id, list_len, IsIdentifiers, IsBuild, IsPreRelease, begins_identifier, ◌<◌, ◌∙◌}
-use Rattle.nodejs_semver.proofs.Common.{Some, None, Option, AreComponents, Partial, same_Some, bind_some, Front, zero, suc}
-use Rattle.nodejs_semver.proofs.Common.{cond_some, drop_spaces, space_len, Word, drop_spaces-none, space_len-nil, Sign, sign_at}
-use Rattle.nodejs_semver.proofs.Common.{tilde_sign, upper_of, words, ◌⊎◌, subst, ◌==◌, ◌↔◌, IsUtf8, list_all, eqb-true, take_at}
-use Rattle.nodejs_semver.proofs.Common.{drop_at, IsUtf8-drop, IsCharBoundary-after_ascii, is_whitespace, IsBlank, nat_lt}
-use Rattle.nodejs_semver.proofs.Common.{encode_utf8_all, encodes-append, after_spaces, drop_spaces-blank, component_front, pieces}
-use Rattle.nodejs_semver.proofs.Common.{is_identifier_char, IsNumber}
+use Rattle.nodejs_semver.proofs.Common.{common_steps, ◌≡◌, ℕ, ◌≤◌, List, [], ◌∷◌, ◌++◌, length, take, drop, refl, sym, ap, arith, true}
+use Rattle.nodejs_semver.proofs.Common.{false, inl, inr, append-nil, append_assoc, length-append, is_ascii_digit, cases_Bool, nat_tests}
+use Rattle.nodejs_semver.proofs.Common.{begins, Id, list_len, IsIdentifiers, IsBuild, IsPreRelease, begins_identifier, ◌<◌, ◌∙◌, Some, None}
+use Rattle.nodejs_semver.proofs.Common.{Option, AreComponents, Partial, same_Some, bind_some, Front, zero, suc, cond_some, drop_spaces}
+use Rattle.nodejs_semver.proofs.Common.{space_len, Word, drop_spaces-none, space_len-nil, Sign, sign_at, tilde_sign, upper_of, words, ◌⊎◌}
+use Rattle.nodejs_semver.proofs.Common.{◌==◌, ◌↔◌, IsUtf8, list_all, eqb-true, take_at, drop_at, IsUtf8-drop, IsCharBoundary-after_ascii}
+use Rattle.nodejs_semver.proofs.Common.{is_whitespace, IsBlank, nat_lt, encode_utf8_all, encodes-append, after_spaces, drop_spaces-blank}
+use Rattle.nodejs_semver.proofs.Common.{component_front, pieces, IsNumber, partial_front, from_boundary, is_boundary, word_at, words_within}
+use Rattle.nodejs_semver.proofs.Common.{all_weaker}
 use Rattle.std.proofs.lemmas.List.{take-append-drop}
 use Rattle.semver_core.specs.Text.Identifiers.{goes_on, listed}
 use Rattle.semver_core.specs.Text.VersionText.{begins_pre_release, dashed, bare, no_pre_release, plus, no_build}
-use Rattle.semver_core.proofs.Text.Pieces.{list_ended, first_char, runs_tail, tail_onto, tail_runs}
-use Rattle.semver_core.proofs.Text.Spaces.{after_spaces-end}
-use Rattle.semver_core.proofs.Text.SpaceLaw.{space_len-white}
-use Rattle.semver_core.proofs.Text.Trims.{fronted}
-use Rattle.nodejs_semver.specs.Internal.Fronts.{begins_byte, build_front, pre_release_front, begins_wildcard, dotted_front}
-use Rattle.nodejs_semver.specs.Internal.Fronts.{minor_front, number_front, patch_front, after_byte, drop_v, partial_front}
+use Rattle.semver_core.proofs.{Text.Pieces.{list_ended, first_char, runs_tail, tail_onto, tail_runs}, Text.Spaces.{after_spaces-end}}
+use Rattle.semver_core.proofs.{Text.SpaceLaw.{space_len-white}, Text.Trims.{fronted}}
+use Rattle.nodejs_semver.specs.Internal.Fronts.{begins_byte, build_front, pre_release_front, begins_wildcard, dotted_front, minor_front}
+use Rattle.nodejs_semver.specs.Internal.Fronts.{number_front, patch_front, after_byte, drop_v}
 use Rattle.nodejs_semver.specs.Text.PartialText.{IsComponent, number, one, three, two, wildcard, IsPartial}
-use Rattle.nodejs_semver.specs.Internal.Words.{after_some_space, behind_sign, from_boundary, is_boundary, word_at, word_behind}
-use Rattle.nodejs_semver.specs.Internal.Words.{words_within, unsigned, Reading}
+use Rattle.nodejs_semver.specs.Internal.Words.{after_some_space, behind_sign, word_behind, unsigned, Reading}
 use Rattle.nodejs_semver.specs.Text.LongestText.{BeginsPartial, IsLongestPartial}
-use Rattle.nodejs_semver.proofs.Reading.IdentifierLists.{front-identifiers, written-begins, written-exact, written-le}
-use Rattle.nodejs_semver.proofs.Reading.IdentifierLists.{written-spelled}
-use Rattle.nodejs_semver.proofs.Reading.Bytes.{Quiet, Stop, quiet-before, all-end, begins-on, begins_component, quiet-dotted}
-use Rattle.nodejs_semver.proofs.Reading.Bytes.{quiet-behind, quiet-both, quiet-front, quiet-further, begins-some, component-solid}
-use Rattle.nodejs_semver.proofs.Reading.Bytes.{is_component_byte, solid-dark, quiet-append, quiet-last, stop-nil, dark-starts}
-use Rattle.nodejs_semver.proofs.Reading.Bytes.{all-join, is_solid}
+use Rattle.nodejs_semver.proofs.Reading.Bytes.{Quiet, Stop, quiet-before, all-end, begins-on, begins_component, quiet-dotted, quiet-behind}
+use Rattle.nodejs_semver.proofs.Reading.Bytes.{quiet-both, quiet-front, quiet-further, begins-some, component-solid, is_component_byte}
+use Rattle.nodejs_semver.proofs.Reading.IdentifierLists.{front-identifiers, written-begins, written-exact, written-le, written-spelled}
+use Rattle.nodejs_semver.proofs.Reading.Bytes.{solid-dark, quiet-append, quiet-last, stop-nil, dark-starts, all-join, is_solid}
 use Rattle.nodejs_semver.proofs.Reading.Numbers.{number-found, number-read, number_first, wildcard-no_digit}
-use Rattle.nodejs_semver.proofs.Algebra.FlatMaps.{all_weaker}
 
 -- no run of digits goes on behind the list at the front
 ended-digit : (text : List ℕ) → goes_on text ≡ false → begins is_ascii_digit text ≡ false
@@ -191,8 +185,7 @@ qualifier-passed pre build more l m h (plus z r list k) =
           });
     })
 qualifier-passed pre build more l m h (no_build r k) =
-    let p = pre-written pre more [] l h in
-    grind (arith, append-nil, build_front-le)
+    grind (arith, nat_tests, build_front-le, pre-written pre more [] l h, append-nil)
 
 -- ---- one component
 
@@ -319,11 +312,8 @@ pub record Passes (r : Partial × List ℕ) (p : Partial) (more : List ℕ) : Ty
 pub components-then : (limit : ℕ) (x more : List ℕ) (p : Partial) → AreComponents limit x p → Quiet x more
     → (a : Option ℕ × List ℕ) × (component_front limit (x ++ more) ≡ Some a)
     × Passes (minor_front limit a.0 a.1 (dotted_front limit a.1)) p more
-components-then limit x more p (one c a h) quiet = (
-  (a, more),
-  component-then limit c more a h quiet,
-  record { le = minor_front-le limit a more (dotted_front limit more) refl; exact = λ stop. rw (stop.dot limit) refl },
-)
+components-then limit x more p (one c a h) quiet =
+    grind (arith, nat_tests, component-then limit c more a h quiet, minor_front-le limit a more (dotted_front limit more) refl)
 components-then limit x more p (two c d a b h k) quiet =
     let last = quiet-behind c d more (component-some limit d b k) quiet in (
       (a, 46 ∷ (d ++ more)),
@@ -353,14 +343,7 @@ components-then limit x more p (three c d e pre build q h k l quiet_e m n) quiet
 
 identifiers-solid : (text : List ℕ) → tail_runs (pieces text) ≡ true → list_all is_solid text ≡ true
 identifiers-solid [] h = refl
-identifiers-solid (b ∷ rest) h =
-    grind (arith, solid-dot, solid-char, runs_tail, first_char, tail_onto, identifiers-solid rest)
-  where
-    solid-dot : (b : ℕ) → (b == 46) ≡ true → is_solid b ≡ true
-    solid-dot b h = grind (arith, nat_tests)
-
-    solid-char : (b : ℕ) → is_identifier_char b ≡ true → is_solid b ≡ true
-    solid-char b h = grind (arith, nat_tests)
+identifiers-solid (b ∷ rest) h = grind (arith, nat_tests, common_steps, runs_tail, first_char, tail_onto, identifiers-solid rest)
 
 list-solid : (text : List ℕ) (l : List Id) → IsIdentifiers text l → list_all is_solid text ≡ true
 list-solid text l h = identifiers-solid text (runs_tail (pieces text) h.runs)
@@ -555,11 +538,7 @@ front-passes : (limit : ℕ) (t more : List ℕ) (p : Partial) → IsPartial lim
     → (r : Partial × List ℕ) × (partial_front limit (t ++ more) ≡ Some r) × Passes r p more
 unfolding partial_front
 front-passes limit t more p (mark, blank, x, divided, mark_is, blank_is, are) quiet =
-    let begin = components-begin limit x p are in
-    let whole : t ≡ (mark ++ blank) ++ x = divided ∙ simp append_assoc in
-    let last : Quiet x more = quiet-last (mark ++ blank) x more (begins-some is_component_byte x begin) (rw whole at quiet) in
-    let behind : t ++ more ≡ mark ++ (blank ++ (x ++ more)) = ap (λ (u : List ℕ). u ++ more) divided ∙ simp append_assoc in
-    grind (arith, components-then, unmarked, drop_spaces-blank, drop_spaces-none, front-dark)
+    grind (arith, nat_tests, common_steps, components-begin, append_assoc, quiet-last, begins-some, components-then, unmarked, drop_spaces-blank, drop_spaces-none, front-dark)
 
 -- components alone are read exactly where nothing goes on
 pub front-exact : (limit : ℕ) (x more : List ℕ) (p : Partial) → AreComponents limit x p → Stop more
@@ -572,16 +551,11 @@ front-exact limit x more p h stop =
 
 whole-of : (limit : ℕ) (t : List ℕ) (p : Partial) → IsPartial limit t p → partial_front limit t ≡ Some (p, [])
 whole-of limit t p h =
-    let r = front-passes limit t [] p h (quiet-before t [] refl) in
-    rw append-nil at (r.1 ∙ ap Some (r.2.exact stop-nil))
+    grind (arith, nat_tests, quiet-before t [] refl, front-passes limit t [] p h (quiet-before t [] refl), append-nil, stop-nil)
 
 pub partials_are : (limit : ℕ) (text : List ℕ) (p : Partial) → IsUtf8 text → (partial_front limit text ≡ Some (p, []))
     ↔ IsPartial limit text p
-partials_are limit text p u = (
-  λ h. let f = front-begins limit text p [] u h in
-      subst (λ (t : List ℕ). IsPartial limit t p) (sym (f.1.0 ∙ append-nil f.0)) f.1.1,
-  whole-of limit text p,
-)
+partials_are limit text p u = grind (arith, nat_tests, front-begins, append-nil, whole-of limit text p)
 
 -- ---- the longest partial
 

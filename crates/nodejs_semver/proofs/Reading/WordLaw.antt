@@ -1,31 +1,25 @@
 -- The word that is computed is the one that is written, and the one that its sign tells.
-use Rattle.nodejs_semver.proofs.Common.{◌≡◌, ℕ, ◌<◌, ◌+◌, List, [], ◌∷◌, length, drop, get_or, refl, true, false, ◌⊎◌, ◌≤◌, Bool}
-use Rattle.nodejs_semver.proofs.Common.{◌++◌, sym, ap, ◌∙◌, arith, Some, None, inl, inr, subst, append_assoc, length-append}
-use Rattle.nodejs_semver.proofs.Common.{IfSome, ◌↔◌, ◌||◌, Option, IsUtf8, ◌==◌, cases_Bool, eqb-true, nat_tests, cond_some}
-use Rattle.nodejs_semver.proofs.Common.{same_Some, drop_at, take_at, IsUtf8-drop, IsCharBoundary-after_ascii, IsTrim, drop_spaces}
-use Rattle.nodejs_semver.proofs.Common.{space_len, drop_spaces-none, space_len-nil, Partial, Word, hyphen, plain, bind_some}
-use Rattle.nodejs_semver.proofs.Common.{encode_utf8, upper_of, Sign, sign_at, tilde_sign, IsSign, Comparator, append-nil, Span}
-use Rattle.nodejs_semver.proofs.Common.{VersionValue, table, malformed, option_to_list, drop_more, encode_utf8_all}
-use Rattle.nodejs_semver.proofs.Common.{IsCharBoundary, nat_lt, lt-ltb, encodes-append, len_utf8_bounds, IsUtf8-take}
-use Rattle.nodejs_semver.proofs.Common.{drop_spaces-blank, component_front, pushed}
-use Rattle.std.proofs.Math.Seq.{get_or-append_seam}
-use Rattle.std.proofs.lemmas.Str.{IsUtf8-past_char, IsUtf8-nil, IsCharBoundary-at_seam}
-use Rattle.semver_core.specs.Text.Characters.{BeginsBlank}
+use Rattle.nodejs_semver.proofs.Common.{common_steps, ◌≡◌, ℕ, ◌<◌, ◌+◌, List, [], ◌∷◌, length, drop, refl, true, false, ◌⊎◌, ◌≤◌, Bool}
+use Rattle.nodejs_semver.proofs.Common.{◌++◌, sym, ap, ◌∙◌, arith, Some, None, inl, inr, subst, append_assoc, length-append, IfSome, ◌↔◌}
+use Rattle.nodejs_semver.proofs.Common.{◌||◌, Option, IsUtf8, ◌==◌, cases_Bool, eqb-true, nat_tests, cond_some, same_Some, drop_at, take_at}
+use Rattle.nodejs_semver.proofs.Common.{IsUtf8-drop, IsCharBoundary-after_ascii, IsTrim, drop_spaces, space_len, drop_spaces-none}
+use Rattle.nodejs_semver.proofs.Common.{space_len-nil, Partial, Word, hyphen, plain, bind_some, encode_utf8, upper_of, Sign, sign_at}
+use Rattle.nodejs_semver.proofs.Common.{tilde_sign, IsSign, Comparator, append-nil, Span, VersionValue, table, malformed, option_to_list}
+use Rattle.nodejs_semver.proofs.Common.{drop_more, encode_utf8_all, IsCharBoundary, nat_lt, lt-ltb, encodes-append, len_utf8_bounds}
+use Rattle.nodejs_semver.proofs.Common.{IsUtf8-take, drop_spaces-blank, component_front, pushed, is_boundary, from_boundary, word_at}
+use Rattle.nodejs_semver.proofs.Common.{partial_front}
+use Rattle.std.proofs.{Math.Seq.{get_or-append_seam}, lemmas.Str.{IsUtf8-past_char, IsUtf8-nil, IsCharBoundary-at_seam}}
+use Rattle.semver_core.specs.{Text.Characters.{BeginsBlank}, Internal.Reading.{◌>>?◌}}
 use Rattle.semver_core.proofs.Text.SpaceLaw.{space_len-dark, space_len-inside, space_len-white}
-use Rattle.semver_core.specs.Internal.Reading.{◌>>?◌}
-use Rattle.nodejs_semver.specs.Internal.Words.{is_boundary, from_boundary, signed_word, after_some_space, at_boundary}
-use Rattle.nodejs_semver.specs.Internal.Words.{behind_sign, careted, comparator_at, compared, comparing, or_equal, tilded}
-use Rattle.nodejs_semver.specs.Internal.Words.{unsigned, upper_behind, word_at, hyphen_pushed, or_malformed, word_behind}
-use Rattle.nodejs_semver.specs.Internal.Words.{word_pushed}
-use Rattle.nodejs_semver.specs.Internal.Fronts.{after_byte, number_of, partial_front}
+use Rattle.nodejs_semver.specs.Internal.Words.{signed_word, after_some_space, at_boundary, behind_sign, careted, comparator_at, compared}
+use Rattle.nodejs_semver.specs.Internal.Words.{comparing, or_equal, tilded, unsigned, upper_behind, hyphen_pushed, or_malformed}
+use Rattle.nodejs_semver.specs.Text.WordText.{IsBehind, IsBoundary, IsFirstBoundary, IsForm, IsHyphen, IsWhole, IsWordAt, SkipsBlank}
+use Rattle.nodejs_semver.specs.Text.WordText.{above_sign, at_least_sign, at_most_sign, below_sign, caret_form, compare_form, equal_sign}
+use Rattle.nodejs_semver.specs.{Internal.Words.{word_behind, word_pushed}, Internal.Fronts.{after_byte, number_of}}
 use Rattle.nodejs_semver.specs.Text.LongestText.{IsLongestPartial}
-use Rattle.nodejs_semver.specs.Text.WordText.{IsBehind, IsBoundary, IsFirstBoundary, IsForm, IsHyphen, IsWhole, IsWordAt}
-use Rattle.nodejs_semver.specs.Text.WordText.{SkipsBlank, above_sign, at_least_sign, at_most_sign, below_sign, caret_form}
-use Rattle.nodejs_semver.specs.Text.WordText.{compare_form, equal_sign, formed, hyphen_form, no_form, plain_form, tilde_form}
-use Rattle.nodejs_semver.specs.Text.WordText.{tilde_greater_form}
+use Rattle.nodejs_semver.specs.Text.WordText.{formed, hyphen_form, no_form, plain_form, tilde_form, tilde_greater_form}
 use Rattle.nodejs_semver.specs.Internal.CommonViews.{both_view}
-use Rattle.nodejs_semver.proofs.Reading.Bytes.{solid-dark}
-use Rattle.nodejs_semver.proofs.Reading.PartialLaw.{longest_are, spaced, spaces-gone}
+use Rattle.nodejs_semver.proofs.{Reading.Bytes.{solid-dark}, Reading.PartialLaw.{longest_are, spaced, spaces-gone}}
 use Rattle.nodejs_semver.proofs.Reading.Steps.{option-cases}
 
 pub from_boundary-stop : (text : List ℕ) → is_boundary text ≡ true → from_boundary text ≡ text
@@ -36,9 +30,7 @@ from_boundary-stop (b ∷ rest) h = rw (h, from_boundary) refl
 pub from_boundary-more : (text : List ℕ) (i : ℕ) → i < length text → is_boundary (drop i text) ≡ false
     → from_boundary (drop i text) ≡ from_boundary (drop (i + 1) text)
 unfolding from_boundary
-from_boundary-more text i lt h =
-    let goes : is_boundary (get_or text i 0 ∷ drop (i + 1) text) ≡ false = rw (drop_more text i 0 lt) at h in
-    rw (drop_more text i 0 lt) (rw (goes, from_boundary) refl)
+from_boundary-more text i lt h = grind (arith, nat_tests, drop_more text i 0 lt)
 
 pub from_boundary-nil : from_boundary [] ≡ []
 unfolding from_boundary
@@ -99,13 +91,7 @@ boundary-of rest h = grind (arith, blank-len)
 -- ---- whitespace
 
 pub skips-is : (text : List ℕ) → IsUtf8 text → SkipsBlank text (drop_spaces text)
-skips-is text u =
-    let s = spaced text u in (
-      s.0,
-      s.2,
-      s.1,
-      λ (h : BeginsBlank (drop_spaces text)). absurd (omega (arith, spaces-gone 0 text, blank-len (drop_spaces text) h)),
-    )
+skips-is text u = grind (arith, nat_tests, spaces-gone 0 text, blank-len, spaced text u)
 
 pub skips-of : (text rest : List ℕ) → IsUtf8 text → SkipsBlank text rest → drop_spaces text ≡ rest
 skips-of text rest u h =
@@ -287,8 +273,7 @@ form-is limit (b ∷ rest) x u h = elim (cases_Bool (b == 126)) [
 behind-read : (limit : ℕ) (text : List ℕ) (p : Partial) (rest : List ℕ) → IsUtf8 text → IsBehind limit text p rest
     → partial_front limit (drop_spaces text) ≡ Some (p, rest)
 behind-read limit text p rest u h =
-    ap (λ (t : List ℕ). partial_front limit t) (skips-of text h.0 u h.1)
-    ∙ (longest_are limit h.0 p rest (skips-utf8 text h.0 h.1 u)).1 h.2.read
+    grind (arith, nat_tests, longest_are limit h.0 p rest (skips-utf8 text h.0 h.1 u), skips-utf8 text h.0 h.1 u, skips-of text h.0 u h.1)
 
 alone : (one two : Comparator) (limit : ℕ) (text : List ℕ) (x : Partial × List ℕ)
     → partial_front limit (drop_spaces text) ≡ Some x → or_equal one two text ≡ (one, text)
@@ -315,8 +300,7 @@ form-of limit text w rest u (plain_form t p r h none) =
     ] in
     rw (unsigned-at limit t (p, r) read, read, alone, boundary-of r h.ended) refl
 form-of limit text w rest u (compare_form c sign t p r s h) =
-    let read = behind-read limit t p r (sign-utf8 c sign t s u) h in
-    rw (compared-of limit c sign t (p, r) s read, read, boundary-of r h.2.ended) refl
+    grind (arith, nat_tests, behind-read limit t p r (sign-utf8 c sign t s u) h, compared-of, boundary-of r h.2.ended, sign-utf8 c sign t s u)
 form-of limit text w rest u (tilde_form t p r h) =
     let read = behind-read limit t p r (tail-utf8 126 t (omega arith) u) h in
     rw (no_greater limit (drop_spaces t) (p, r) read, spaces-again t, read, boundary-of r h.2.ended) refl
@@ -441,9 +425,7 @@ pub pushed_hyphen : (limit : ℕ) (text : List ℕ) (s : Sign × List ℕ) (o : 
     → ◌≡◌ {A = Option (Bool × List ℕ) × List (Span VersionValue)} (Some read, new) (hyphen_pushed limit old p u)
     → ◌≡◌ {A = (Bool × List ℕ) × List (Span VersionValue)} (read, new) (word_pushed limit old (word_at limit text))
 pushed_hyphen limit text s o p rest None old new read h k e m n = grind arith
-pushed_hyphen limit text s o p rest (Some q) old new read h k e m n =
-    let w : word_at limit text ≡ (hyphen p q.0, q.1) = word-as limit text s o h k ∙ rw (e, sym m) refl in
-    grind arith
+pushed_hyphen limit text s o p rest (Some q) old new read h k e m n = grind (arith, nat_tests, word-as limit text s o h k)
 
 -- none was read
 pub no_hyphen : (limit : ℕ) (p : Partial) (u : Option (Partial × List ℕ)) (old new : List (Span VersionValue))
@@ -457,11 +439,8 @@ pub longer_hyphen : (limit : ℕ) (text : List ℕ) (s : Sign × List ℕ) (o : 
     (u : Option (Partial × List ℕ)) (old : List (Span VersionValue))
     → s ≡ sign_at text → o ≡ partial_front limit s.1 → o ≡ Some (p, rest) → u ≡ upper_of limit s.0 rest
     → 1 < length (hyphen_pushed limit old p u).1 → 1 < length (word_pushed limit old (word_at limit text)).1
-longer_hyphen limit text s o p rest None old h k e m long =
-    omega (arith, length-append old (option_to_list (table limit (word_at limit text).0)))
-longer_hyphen limit text s o p rest (Some q) old h k e m long =
-    let w : word_at limit text ≡ (hyphen p q.0, q.1) = word-as limit text s o h k ∙ rw (e, sym m) refl in
-    rw w long
+longer_hyphen limit text s o p rest None old h k e m long = grind (arith, nat_tests, common_steps, length-append)
+longer_hyphen limit text s o p rest (Some q) old h k e m long = grind (arith, nat_tests, word-as limit text s o h k)
 
 -- that has them with the interval of the word of one partial
 pub longer_signed : (limit : ℕ) (text : List ℕ) (s : Sign × List ℕ) (o : Option (Partial × List ℕ)) (p : Partial) (rest : List ℕ)
@@ -471,7 +450,4 @@ pub longer_signed : (limit : ℕ) (text : List ℕ) (s : Sign × List ℕ) (o : 
     → is_boundary rest ≡ true → 1 < length (new ++ option_to_list (table limit (signed_word s.0 p)))
     → 1 < length (word_pushed limit old (word_at limit text)).1
 longer_signed limit text s o p rest old new h k e m ends long =
-    let none = no_hyphen limit p (upper_of limit s.0 rest) old new m in
-    let w : word_at limit text ≡ (signed_word s.0 p, rest) = word-as limit text s o h k ∙ rw (e, none.0, ends) refl in
-    let interval = option_to_list (table limit (signed_word s.0 p)) in
-    rw w (subst (λ (l : List (Span VersionValue)). 1 < length (l ++ interval)) none.1 long)
+    grind (arith, nat_tests, no_hyphen limit p (upper_of limit s.0 rest) old new m, word-as limit text s o h k)

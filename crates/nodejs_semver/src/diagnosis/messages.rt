@@ -1,8 +1,8 @@
 // How flaws and ignored words print.
 
-ghost use Rattle.std.specs.Prelude.{◌++◌, ◌≡◌};
-ghost use Rattle.nodejs_semver.specs.Words.{decimal, DisplaysStyledOnOk, flaw_text, kind_text};
-ghost use Rattle.nodejs_semver.specs.Words.{Some, word_text};
+ghost use Rattle.std.specs.Prelude.{◌++◌};
+ghost use Rattle.nodejs_semver.specs.Words.{decimal, DisplaysStyledOnOk, flaw_text, Some};
+ghost use Rattle.nodejs_semver.specs.Words.{word_text};
 
 use crate::diagnosis::{Expected, IgnoredKind, IgnoredWord, VersionFlaw};
 use itoa::Buffer;
@@ -43,16 +43,6 @@ impl fmt::Display for VersionFlaw {
     }
 }
 
-// What an ignored word is.
-fn kind_message(kind: IgnoredKind) -> &'static str
-    ensures { result.now ≡ kind_text kind }
-{
-    match kind {
-        IgnoredKind::Malformed => "ignored: malformed word at bytes ",
-        IgnoredKind::WithoutBounds => "ignored: word without bounds at bytes ",
-    }
-}
-
 /// An ignored word prints as its kind and its place, as in `ignored: malformed word at bytes 0 to
 /// 8`. Width, fill and precision change nothing.
 impl fmt::Display for IgnoredWord {
@@ -61,7 +51,11 @@ impl fmt::Display for IgnoredWord {
     ghost styled_output = { λ word _. Some (word_text word) };
 
     fn fmt<W: fmt::Write>(&self, f: &mut fmt::Formatter<W>) -> fmt::Result {
-        write_at(kind_message(self.kind), self.start, f)?;
+        let message = match self.kind {
+            IgnoredKind::Malformed => "ignored: malformed word at bytes ",
+            IgnoredKind::WithoutBounds => "ignored: word without bounds at bytes ",
+        };
+        write_at(message, self.start, f)?;
         write_at(" to ", self.end, f)
     }
 }

@@ -1,10 +1,9 @@
 // The words of a range text that mean nothing.
 
 ghost use Rattle.std.specs.Prelude.{◌++◌, ◌+◌, ◌-◌, ◌<◌, ◌↔◌, ◌≡◌, ◌≤◌};
-ghost use Rattle.nodejs_semver.specs.Words.{[], AreIgnored, drop_spaces, if_ignored};
-ghost use Rattle.nodejs_semver.specs.Words.{ignored_behind, IsWhollyBounded, item_count, left_list};
-ghost use Rattle.nodejs_semver.specs.Words.{left_size, length, MAX_SAFE_INTEGER, option_list, Some};
-ghost use Rattle.nodejs_semver.specs.Words.{space_len, trim, YieldsFirst};
+ghost use Rattle.nodejs_semver.specs.Words.{[], AreIgnored, if_ignored, ignored_behind, length};
+ghost use Rattle.nodejs_semver.specs.Words.{IsWhollyBounded, item_count, left_list, left_size};
+ghost use Rattle.nodejs_semver.specs.Words.{MAX_SAFE_INTEGER, option_list, Some, YieldsFirst};
 
 use crate::diagnosis::unread::Unread;
 use crate::readers::{cut_part, ignored_front, skip_spaces};
@@ -48,15 +47,6 @@ impl<'a> Model for IgnoredWords<'a> {
     ghost view = { λ it. left_list it.left };
 }
 
-// Where a text begins without the whitespace around it, and that text.
-fn trimmed(text: &str) -> (usize, &str)
-    ensures start { result.0 ≡ length text.now - length (drop_spaces text.now) }
-    ensures middle { result.1.now ≡ trim text.now }
-    ensures starts { space_len result.1.now ≡ 0 }
-{
-    (scan::skip_whitespace(text, 0), scan::trim(text))
-}
-
 // What is left of a text that ends at a place, before any of its words is read.
 fn before_words(text: &str, end: usize) -> Unread<'_>
     requires { length text.now ≤ end }
@@ -64,7 +54,8 @@ fn before_words(text: &str, end: usize) -> Unread<'_>
     ensures less { left_size result ≤ length text.now }
 {
     let (piece, behind) = cut_part(text);
-    let (start, part) = trimmed(piece);
+    let start = scan::skip_whitespace(piece, 0);
+    let part = scan::trim(piece);
     Unread {
         part: part.as_bytes(),
         part_end: end - text.len() + start + part.len(),

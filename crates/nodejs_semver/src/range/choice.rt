@@ -2,7 +2,7 @@
 
 ghost use Rattle.std.specs.Prelude.{◌≡◌};
 ghost use Rattle.nodejs_semver.specs.Words.{accepts, false, is_le, is_release, IsMax, list_all};
-ghost use Rattle.nodejs_semver.specs.Words.{map, option_map, precedence, replaces};
+ghost use Rattle.nodejs_semver.specs.Words.{map, option_map, precedence, replaces, true};
 
 use crate::RangeOf;
 use semver_core::{VersionPoint, Versioned};
@@ -26,7 +26,7 @@ impl<V: VersionPoint> RangeOf<V> {
     {
         let mut best = None;
         for version in versions {
-            if is_new_shared(ranges, version, best) {
+            if is_none_above(version, best) && all_accept(ranges, version) {
                 best = Some(version);
             }
         }
@@ -49,38 +49,22 @@ pub fn newest_release<W: Versioned>(versions: &[W]) -> Option<&W>
 {
     let mut best = None;
     for version in versions {
-        if is_new_release(version, best) {
+        if is_none_above(version, best) && version.is_release() {
             best = Some(version);
         }
     }
     best
 }
 
-// Whether a version is a release, and the best so far is not above it.
+// Whether the best so far, if there is one, is not above a version.
 #[inline(always)]
-fn is_new_release<W: Versioned>(version: &W, best: Option<&W>) -> bool
-    ensures { result ≡ replaces (λ b v. is_le (precedence b v)) is_release
+pub(crate) fn is_none_above<W: Versioned>(version: &W, best: Option<&W>) -> bool
+    ensures { result ≡ replaces (λ b v. is_le (precedence b v)) (λ _. true)
         (option_map (λ v. W.value v.now) best.entry) (W.value version.now) }
 {
     match best {
-        Some(best) => best.cmp_precedence(version).is_le() && version.is_release(),
-        None => version.is_release(),
-    }
-}
-
-// Whether each of the ranges accepts a version, and the best so far is not above it.
-fn is_new_shared<V: VersionPoint, W: Versioned>(
-    ranges: &[RangeOf<V>],
-    version: &W,
-    best: Option<&W>,
-) -> bool
-    ensures { result ≡ replaces (λ b v. is_le (precedence b v))
-        (λ v. list_all (λ range. accepts range v false) ranges.now)
-        (option_map (λ v. W.value v.now) best.entry) (W.value version.now) }
-{
-    match best {
-        Some(best) => best.cmp_precedence(version).is_le() && all_accept(ranges, version),
-        None => all_accept(ranges, version),
+        Some(best) => best.cmp_precedence(version).is_le(),
+        None => true,
     }
 }
 

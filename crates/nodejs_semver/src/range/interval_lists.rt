@@ -64,28 +64,23 @@ pub(crate) fn push_differences<V: Point>(
 pub(crate) fn meet_somewhere<V: Point>(these: &[Interval<V>], others: &[Interval<V>]) -> bool
     ensures { result ≡ is_some (if_any (meets_of V.cmp these.now others.now)) }
 {
-    these.iter().any(|interval| meets_one(interval, others))
+    these.iter().any(
+        |interval| -> bool
+            ensures { result
+                ≡ list_any (λ t. is_some (meet V.cmp interval.now t)) others.entry.now }
+        { others.iter().any(|other| interval.meets(other)) },
+    )
 }
 
 /// Whether some interval of the first list covers some interval of the second.
 pub(crate) fn cover_somewhere<V: Point>(these: &[Interval<V>], others: &[Interval<V>]) -> bool
     ensures { result ≡ list_any (λ s. list_any (λ t. covers V.cmp s t) others.now) these.now }
 {
-    these.iter().any(|interval| covers_one(interval, others))
-}
-
-// Whether the interval meets one of the others.
-fn meets_one<V: Point>(interval: &Interval<V>, others: &[Interval<V>]) -> bool
-    ensures { result ≡ list_any (λ t. is_some (meet V.cmp interval.now t)) others.now }
-{
-    others.iter().any(|other| interval.meets(other))
-}
-
-// Whether the interval covers one of the others.
-fn covers_one<V: Point>(interval: &Interval<V>, others: &[Interval<V>]) -> bool
-    ensures { result ≡ list_any (λ t. covers V.cmp interval.now t) others.now }
-{
-    others.iter().any(|other| interval.covers(other))
+    these.iter().any(
+        |interval| -> bool
+            ensures { result ≡ list_any (λ t. covers V.cmp interval.now t) others.entry.now }
+        { others.iter().any(|other| interval.covers(other)) },
+    )
 }
 
 // Puts what one interval has in common with each of the others at the end. Most pairs do not meet.

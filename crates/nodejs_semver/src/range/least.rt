@@ -391,26 +391,6 @@ fn consider_range<V: VersionPoint, W: VersionPoint>(
     Ok(())
 }
 
-// Considers all that the other intervals bring.
-fn consider_removed<V: VersionPoint, W: VersionPoint>(
-    alloc: Global,
-    kept: &[RangeOf<V>],
-    removed: &[Interval<W>],
-    best: &mut Option<Version>,
-) -> Allocated<()>
-    requires { All spec.IsRaisable (spans_of W.value removed.now) }
-    ensures best { OnOk result (best.new
-        ≡ fold (spec.better (spec.wanted kept.now (spans_of W.value removed.now))) best.old
-        (flat_map spec.firsts (flat_map spec.removed_marks (spans_of W.value removed.now)))) }
-    ensures memory { OnErr result (spec.Finds kept.now (spans_of W.value removed.now)
-        ⊎ spec.EndsAfterPre (spans_of W.value removed.now)) }
-{
-    for interval in removed {
-        consider_past(alloc, kept, removed, best, interval.upper())?;
-    }
-    Ok(())
-}
-
 // Considers all candidates.
 fn consider_all<V: VersionPoint, W: VersionPoint>(
     alloc: Global,
@@ -428,7 +408,10 @@ fn consider_all<V: VersionPoint, W: VersionPoint>(
     for range in kept {
         consider_range(alloc, kept, removed, best, range)?;
     }
-    consider_removed(alloc, kept, removed, best)
+    for interval in removed {
+        consider_past(alloc, kept, removed, best, interval.upper())?;
+    }
+    Ok(())
 }
 
 // The least version that each of the ranges, one or more, accepts and no interval of `removed`,

@@ -180,21 +180,14 @@ fn first_accepting<'a, V: VersionPoint>(
         .find(|interval| accepts_one(interval, version, false))
 }
 
-// Whether the bound's version has a build.
-fn has_build<V: Versioned>(bound: &Bound<V>) -> bool
-    ensures { result ≡ spec.has_build (bound_of V.value bound.now) }
-{
-    match bound {
-        Bound::Unbounded => false,
-        Bound::Before(version) | Bound::After(version) => !version.build().is_empty(),
-    }
-}
-
 // Whether one of the lower bounds has a build.
 fn begin_with_build<V: VersionPoint>(intervals: &[Interval<V>]) -> bool
     ensures { result ≡ list_any (λ s. spec.has_build s.lower) (spans_of V.value intervals.now) }
 {
-    intervals.iter().any(|interval| has_build(interval.lower()))
+    intervals.iter().any(|interval| match interval.lower() {
+        Bound::Unbounded => false,
+        Bound::Before(version) | Bound::After(version) => !version.build().is_empty(),
+    })
 }
 
 // The version with the build of the bound with which the first interval that accepts it begins.

@@ -93,22 +93,6 @@ fn push_both<'a, S: Found<'a>>(
     }
 }
 
-// Whether a space and a comparator stand at the front.
-#[inline(always)]
-fn begins_second(text: &[u8]) -> bool
-    ensures { result ≡ Spec.begins_second text.now }
-{
-    matches!(text, [b' ', b'<' | b'=' | b'>', ..])
-}
-
-// What follows a part, where its interval was added.
-#[inline(always)]
-fn behind_part(there: bool, rest: &[u8]) -> Option<&[u8]>
-    ensures { rest_view result ≡ (if there then Some rest.now else None) }
-{
-    if there { Some(rest) } else { None }
-}
-
 // Adds the interval of one comparison, or of two, and returns what follows them.
 #[tactic(auto, unfolding(crate::specs::Internal::CommonFronts::comparisons_front))]
 fn push_comparisons<'a, S: Found<'a>>(text: &'a [u8], found: &mut S) -> Allocated<Option<&'a [u8]>>
@@ -119,15 +103,15 @@ fn push_comparisons<'a, S: Found<'a>>(text: &'a [u8], found: &mut S) -> Allocate
     let Some((first, rest)) = comparison(text) else {
         return Ok(None);
     };
-    if !begins_second(rest) {
+    if !matches!(rest, [b' ', b'<' | b'=' | b'>', ..]) {
         let there = push_between(first.lower, first.upper, found)?;
-        return Ok(behind_part(there, rest));
+        return Ok(there.then_some(rest));
     }
     let Some((second, rest)) = comparison(&rest[1..]) else {
         return Ok(None);
     };
     let there = push_both(first, second, found)?;
-    Ok(behind_part(there, rest))
+    Ok(there.then_some(rest))
 }
 
 // Adds the interval of a word that has these bounds, and returns what follows the word. The bounds
@@ -195,7 +179,7 @@ fn push_hyphen<'a, S: Found<'a>>(
         return Ok(None);
     };
     let there = intervals::push_hyphen(lower, upper, found)?;
-    Ok(behind_part(there, rest))
+    Ok(there.then_some(rest))
 }
 
 // Adds the interval of one partial, or of two with a dash between them, and returns what follows.

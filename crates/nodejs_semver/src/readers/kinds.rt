@@ -2,23 +2,11 @@
 
 ghost use Rattle.std.specs.Prelude.{◌≡◌};
 ghost use Rattle.nodejs_semver.specs.Words.{kind_at, kind_view, MAX_SAFE_INTEGER};
-ghost use Rattle.nodejs_semver.specs.Words.{partial_front_view, sign_view, unless_bounded};
-ghost use Rattle.nodejs_semver.specs.Words.{upper_of};
+ghost use Rattle.nodejs_semver.specs.Words.{partial_front_view, sign_view, upper_of};
 
 use crate::diagnosis::IgnoredKind;
 use crate::readers::syntax::{Partial, Sign};
 use crate::readers::{intervals, partial, table, words};
-
-// The kind of a word that has one of the forms.
-fn unless_bounded(bounded: bool) -> Option<IgnoredKind>
-    ensures { result ≡ unless_bounded bounded }
-{
-    if bounded {
-        None
-    } else {
-        Some(IgnoredKind::WithoutBounds)
-    }
-}
 
 // The second partial of the hyphen word that begins with a partial of this sign, if there is such a
 // word, and what follows it.
@@ -40,12 +28,12 @@ pub(crate) fn ignored_front(text: &[u8]) -> (Option<IgnoredKind>, &[u8])
         return (Some(IgnoredKind::Malformed), words::skip_to_boundary(text));
     };
     if let Some((upper, rest)) = upper_of(sign, rest) {
-        let interval = intervals::between(table::hyphen(&partial, &upper));
-        return (unless_bounded(interval.is_some()), rest);
+        let unbounded = intervals::between(table::hyphen(&partial, &upper)).is_none();
+        return (unbounded.then_some(IgnoredKind::WithoutBounds), rest);
     }
     if !words::is_boundary(rest) {
         return (Some(IgnoredKind::Malformed), words::skip_to_boundary(text));
     }
-    let bounded = table::signed(sign, &partial).is_some();
-    (unless_bounded(bounded), rest)
+    let unbounded = table::signed(sign, &partial).is_none();
+    (unbounded.then_some(IgnoredKind::WithoutBounds), rest)
 }

@@ -1,5 +1,4 @@
-use Rattle.nodejs_semver.proofs.Common.{ap, refl, List, ℕ, ◌++◌, has_written_styled_append}
-use Rattle.std.proofs.Output.{has_written_styled_of_eq}
+use Rattle.nodejs_semver.proofs.Common.{ap, refl, List, ℕ, ◌++◌, has_written_styled_append, has_written_styled_of_eq}
 use Rattle.nodejs_semver.proofs.diagnosis.messages.write_at.Goals as goal
 
 pub returns : goal.returns

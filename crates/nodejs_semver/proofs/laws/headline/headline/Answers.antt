@@ -1,6 +1,5 @@
 use Rattle.nodejs_semver.proofs.Common.{rules, IsLeastOf, List, MAX_SAFE_INTEGER, Span, VersionValue, accepts, false, subst}
-use Rattle.nodejs_semver.proofs.Dividing.MeaningLaw.{means_some, same_meaning}
-use Rattle.nodejs_semver.proofs.Sets.{both_written, first_written}
+use Rattle.nodejs_semver.proofs.{Dividing.MeaningLaw.{means_some, same_meaning}, Sets.{both_written, first_written}}
 use Rattle.nodejs_semver.proofs.laws.headline.headline.Goals as goal
 
 pub returns : goal.returns

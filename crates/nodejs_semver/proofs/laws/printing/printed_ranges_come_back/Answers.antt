@@ -1,7 +1,6 @@
 use Rattle.nodejs_semver.proofs.Common.{ap, sym, ◌∙◌}
 use Rattle.nodejs_semver.specs.Ranges.Equality.{range_eq}
-use Rattle.nodejs_semver.proofs.Dividing.MeaningLaw.{one_meaning}
-use Rattle.nodejs_semver.proofs.Printing.{reads_back, same_back}
+use Rattle.nodejs_semver.proofs.{Dividing.MeaningLaw.{one_meaning}, Printing.{reads_back, same_back}}
 use Rattle.nodejs_semver.proofs.laws.printing.printed_ranges_come_back.Goals as goal
 
 pub returns : goal.returns

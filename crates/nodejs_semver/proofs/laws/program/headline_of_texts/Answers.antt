@@ -1,7 +1,5 @@
-use Rattle.nodejs_semver.proofs.Common.{IsLeastOf, IsTrue, List, MAX_SAFE_INTEGER, Span, VersionValue, Writes, accepts, false}
-use Rattle.nodejs_semver.proofs.Common.{subst, ◌↔◌}
-use Rattle.nodejs_semver.proofs.Dividing.MeaningLaw.{means_some, same_meaning}
-use Rattle.nodejs_semver.proofs.Sets.{both_written, first_written}
+use Rattle.nodejs_semver.proofs.Common.{IsLeastOf, IsTrue, List, MAX_SAFE_INTEGER, Span, VersionValue, Writes, accepts, false, subst, ◌↔◌}
+use Rattle.nodejs_semver.proofs.{Dividing.MeaningLaw.{means_some, same_meaning}, Sets.{both_written, first_written}}
 use Rattle.nodejs_semver.proofs.laws.program.headline_of_texts.Goals as goal
 
 pub returns : goal.returns

@@ -1,7 +1,6 @@
-use Rattle.nodejs_semver.proofs.Common.{Err, Failure, IsTrue, IsUtf8, List, MAX_SAFE_INTEGER, Means, Memory, MemoryOnlyIf}
-use Rattle.nodejs_semver.proofs.Common.{Refused, Span, VersionValue, Writes, [], ap, arith, length, subst, ℕ, ◌<◌, ◌↔◌, ◌∷◌}
-use Rattle.semver_core.specs.Failures.{RefusedOnlyIf}
-use Rattle.semver_core.specs.declared.error.SemverError.{SemverError}
+use Rattle.nodejs_semver.proofs.Common.{Err, Failure, IsTrue, IsUtf8, List, MAX_SAFE_INTEGER, Means, Memory, MemoryOnlyIf, Refused, Span}
+use Rattle.nodejs_semver.proofs.Common.{VersionValue, Writes, [], ap, arith, length, subst, ℕ, ◌<◌, ◌↔◌, ◌∷◌}
+use Rattle.semver_core.specs.{Failures.{RefusedOnlyIf}, declared.error.SemverError.{SemverError}}
 use Rattle.nodejs_semver.proofs.Dividing.MeaningLaw.{same_meaning}
 use Rattle.nodejs_semver.proofs.laws.program.membership.Goals as goal
 

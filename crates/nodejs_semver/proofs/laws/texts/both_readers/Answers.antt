@@ -1,7 +1,6 @@
 use Rattle.nodejs_semver.proofs.Common.{MAX_SAFE_INTEGER}
 use Rattle.nodejs_semver.specs.Text.Common.{IsCommonRange}
-use Rattle.nodejs_semver.proofs.Everyday.Whole.{fast_read, if-some}
-use Rattle.nodejs_semver.proofs.Dividing.MeaningLaw.{blank_text}
+use Rattle.nodejs_semver.proofs.{Everyday.Whole.{fast_read, if-some}, Dividing.MeaningLaw.{blank_text}}
 use Rattle.nodejs_semver.proofs.Everyday.Texts.{common_parts_are_denoted}
 use Rattle.nodejs_semver.proofs.laws.texts.both_readers.Goals as goal
 

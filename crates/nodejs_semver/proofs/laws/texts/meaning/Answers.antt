@@ -1,8 +1,6 @@
-use Rattle.nodejs_semver.proofs.Algebra.Holds.{denotes_hold}
+use Rattle.nodejs_semver.proofs.{Algebra.Holds.{denotes_hold}, Dividing.RunsDivide.{part_divides, runs_are}}
+use Rattle.nodejs_semver.proofs.{Everyday.Parts.{common_ranges_are_read}, Everyday.Texts.{common_parts_are_denoted}}
 use Rattle.nodejs_semver.proofs.Dividing.MeaningLaw as meaning
-use Rattle.nodejs_semver.proofs.Dividing.RunsDivide.{part_divides, runs_are}
-use Rattle.nodejs_semver.proofs.Everyday.Parts.{common_ranges_are_read}
-use Rattle.nodejs_semver.proofs.Everyday.Texts.{common_parts_are_denoted}
 use Rattle.nodejs_semver.proofs.laws.texts.meaning.Goals as goal
 
 pub returns : goal.returns

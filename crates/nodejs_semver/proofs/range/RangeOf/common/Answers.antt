@@ -1,6 +1,5 @@
 use Rattle.nodejs_semver.proofs.Common.{IfOk-weaker, ap, arith, if_any, length, on_err, on_err_weaker, spans_of, subst, sym, ◌<◌, ◌∙◌}
-use Rattle.nodejs_semver.proofs.Algebra.Clauses.{listed_none, listed_some, meets_of-is, meets_of-lone, meets_of-some}
-use Rattle.nodejs_semver.proofs.Algebra.Clauses.{meets_of-valid}
+use Rattle.nodejs_semver.proofs.Algebra.Clauses.{listed_none, listed_some, meets_of-is, meets_of-lone, meets_of-some, meets_of-valid}
 use Rattle.nodejs_semver.proofs.range.RangeOf.common.Goals as goal
 
 pub returns-then-not-meets-clause-list : goal.returns-then-not-meets-clause-list

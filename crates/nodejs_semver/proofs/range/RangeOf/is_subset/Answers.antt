@@ -1,7 +1,6 @@
 use Rattle.nodejs_semver.proofs.Common.{None, Some, beyond, false, on_err, refl}
-use Rattle.nodejs_semver.proofs.Questions.Subsets.{by_least}
+use Rattle.nodejs_semver.proofs.{Questions.Subsets.{by_least}, range.RangeOf.is_subset.Goals.{in-None, in-Some}}
 use Rattle.nodejs_semver.proofs.range.RangeOf.is_subset.Goals as goal
-use Rattle.nodejs_semver.proofs.range.RangeOf.is_subset.Goals.{in-None, in-Some}
 
 pub returns-in_err-least_beyond-clause-memory : goal.returns-in_err-least_beyond-clause-memory
 returns-in_err-least_beyond-clause-memory g c = on_err _ c.in_err-least_beyond.ensures.memory

@@ -1,6 +1,5 @@
 use Rattle.nodejs_semver.proofs.Common.{IfOk-weaker, IsLeastOf, [], on_err_weaker, wanted, ◌∷◌}
-use Rattle.nodejs_semver.proofs.Choice.Least.{least_of_one}
-use Rattle.nodejs_semver.proofs.Choice.Kinds.{one_allocates}
+use Rattle.nodejs_semver.proofs.{Choice.Least.{least_of_one}, Choice.Kinds.{one_allocates}}
 use Rattle.nodejs_semver.proofs.range.RangeOf.least_beyond.Goals as goal
 
 pub returns-clause-least : goal.returns-clause-least

@@ -1,6 +1,5 @@
 use Rattle.nodejs_semver.proofs.Common.{IsLeastOf, accepts, arith, common_steps, least_of, on_err, subst, sym, true, ◌≡◌}
-use Rattle.nodejs_semver.proofs.Choice.Kinds.{begins_after, lower_raisable}
-use Rattle.nodejs_semver.proofs.Choice.Least.{firsts_past, least_held, held_bare}
+use Rattle.nodejs_semver.proofs.{Choice.Kinds.{begins_after, lower_raisable}, Choice.Least.{firsts_past, least_held, held_bare}}
 use Rattle.nodejs_semver.proofs.range.RangeOf.min_version_with_prerelease.Goals as goal
 
 pub consider_past_held-requires : goal.consider_past_held-requires

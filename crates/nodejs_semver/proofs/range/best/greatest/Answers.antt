@@ -1,7 +1,6 @@
 use Rattle.nodejs_semver.proofs.Common.{refl, take_all, value_of}
-use Rattle.nodejs_semver.proofs.Choice.BestOf.{max_more, one_further}
+use Rattle.nodejs_semver.proofs.{Choice.BestOf.{max_more, one_further}, range.best.greatest.Goals.{then-is_new_max, else-is_new_max}}
 use Rattle.nodejs_semver.proofs.range.best.greatest.Goals as goal
-use Rattle.nodejs_semver.proofs.range.best.greatest.Goals.{then-is_new_max, else-is_new_max}
 
 pub loop-version-preserved : goal.loop-version-preserved
 loop-version-preserved g c =

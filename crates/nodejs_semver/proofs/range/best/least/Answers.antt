@@ -1,7 +1,6 @@
 use Rattle.nodejs_semver.proofs.Common.{refl, take_all, value_of}
-use Rattle.nodejs_semver.proofs.Choice.BestOf.{min_more, one_further}
+use Rattle.nodejs_semver.proofs.{Choice.BestOf.{min_more, one_further}, range.best.least.Goals.{then-is_new_min, else-is_new_min}}
 use Rattle.nodejs_semver.proofs.range.best.least.Goals as goal
-use Rattle.nodejs_semver.proofs.range.best.least.Goals.{then-is_new_min, else-is_new_min}
 
 pub loop-version-preserved : goal.loop-version-preserved
 loop-version-preserved g c =

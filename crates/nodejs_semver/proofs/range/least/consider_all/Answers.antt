@@ -1,5 +1,6 @@
-use Rattle.nodejs_semver.proofs.Common.{BeginsAfterPre, inl, inr, on_err, on_err_weaker, on_ok_weaker, spans_of, take_all, wanted}
-use Rattle.nodejs_semver.proofs.Choice.Kinds.{all_marks, any_here, range_further}
+use Rattle.nodejs_semver.proofs.Common.{BeginsAfterPre, IsAfterPre, Raisable, arith, bound_of, inl, inr, on_err, spans_of, subst}
+use Rattle.nodejs_semver.proofs.Common.{sym, take_all, wanted}
+use Rattle.nodejs_semver.proofs.Choice.Kinds.{all_marks, any_at, any_here, raisable_at, range_further, removed_further}
 use Rattle.nodejs_semver.proofs.range.least.consider_all.Goals as goal
 
 pub loop-range-preserved : goal.loop-range-preserved
@@ -18,16 +19,33 @@ returns-in_err-consider_range-clause-memory g c =
           inr (inl (any_here BeginsAfterPre c.args.kept.now _ _ c.loop-range-test.true c.range-item.is begins))
     ])
 
+pub consider_past-requires : goal.consider_past-requires
+consider_past-requires g c =
+    let value = g.W.Versioned.value in
+    let (lower, upper) = raisable_at value c.args.removed.now c.loop-interval.interval-index c.interval-item.result
+    c.loop-interval-test.true c.interval-item.is c.requires in
+    (omega arith, subst (λ b. Raisable (bound_of value b)) (sym c.upper.ensures) upper)
+
+pub returns-in_err-consider_past-clause-memory : goal.returns-in_err-consider_past-clause-memory
+returns-in_err-consider_past-clause-memory g c =
+    let value = g.W.Versioned.value in
+    on_err _ (elim c.in_err-consider_past.ensures.memory [
+      | inl found ↦ inl found
+      | inr after ↦ inr (inr (any_at value c.args.removed.now
+          c.loop-interval.interval-index c.interval-item.result c.loop-interval-test.true c.interval-item.is
+          (λ s. IsAfterPre s.upper) (subst (λ b. IsAfterPre (bound_of value b)) c.upper.ensures after)))
+    ])
+
+pub loop-interval-preserved : goal.loop-interval-preserved
+loop-interval-preserved g c =
+    removed_further g.W.Versioned.value (wanted c.args.kept.now (spans_of g.W.Versioned.value c.args.removed.now))
+    c.args.removed.now c.loop-interval.interval-index c.interval-item.result c.loop-interval-test.true c.interval-item.is
+    _ _ _ c.loop-interval.invariant (rw c.upper.ensures at c.in_ok-consider_past.ensures.best)
+
 pub returns-clause-best : goal.returns-clause-best
 returns-clause-best g c =
     let removed = spans_of g.W.Versioned.value c.args.removed.now in
-    on_ok_weaker c.consider_removed.result
-    (λ n. all_marks (wanted c.args.kept.now removed) c.args.kept.now removed c.args.best.now c.consider.new.best
-    c.loop-range.best c.consider_removed.new.best (rw c.release.ensures at c.in_ok-consider.ensures.best)
-    (rw (take_all _ c.args.kept.now c.loop-range-test.false) at c.loop-range.invariant) n)
-    c.consider_removed.ensures.best
-
-pub returns-clause-memory : goal.returns-clause-memory
-returns-clause-memory g c =
-    on_err_weaker c.consider_removed.result (λ m. elim m [ inl found ↦ inl found | inr ends ↦ inr (inr ends) ])
-    c.consider_removed.ensures.memory
+    all_marks (wanted c.args.kept.now removed) c.args.kept.now removed c.args.best.now c.consider.new.best
+    c.loop-range.best c.loop-interval.best (rw c.release.ensures at c.in_ok-consider.ensures.best)
+    (rw (take_all _ c.args.kept.now c.loop-range-test.false) at c.loop-range.invariant)
+    (rw (take_all _ c.args.removed.now c.loop-interval-test.false) at c.loop-interval.invariant)

@@ -1,8 +1,6 @@
-use Rattle.nodejs_semver.proofs.Common.{MAX_SAFE_INTEGER, [], arith, common_steps, denotes, length, list_any, rules, sym, true}
-use Rattle.nodejs_semver.proofs.Common.{◌<◌, ◌≡◌, ◌⊎◌}
-use Rattle.nodejs_semver.proofs.Everyday.Whole.{denoted_range}
-use Rattle.nodejs_semver.proofs.Dividing.MeaningLaw.{meant, meant_so}
-use Rattle.nodejs_semver.proofs.Dividing.MeaningLaw.{accepted_written}
+use Rattle.nodejs_semver.proofs.Common.{MAX_SAFE_INTEGER, [], arith, common_steps, denotes, length, list_any, rules, sym, true, ◌<◌, ◌≡◌}
+use Rattle.nodejs_semver.proofs.Common.{◌⊎◌}
+use Rattle.nodejs_semver.proofs.{Everyday.Whole.{denoted_range}, Dividing.MeaningLaw.{meant, meant_so, accepted_written}}
 use Rattle.nodejs_semver.proofs.range.parse.read_some.Goals as goal
 
 pub returns-clause-range : goal.returns-clause-range

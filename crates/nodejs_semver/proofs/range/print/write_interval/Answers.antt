@@ -1,8 +1,7 @@
 use Rattle.nodejs_semver.proofs.Common.{ap, has_written_styled_append, has_written_styled_of_eq, is_eq, refl, rules, sym, ◌∙◌}
-use Rattle.nodejs_semver.proofs.range.print.write_interval.Goals as goal
 use Rattle.nodejs_semver.proofs.range.print.write_interval.Goals.{in_default-via-in-Before-After+else-are_equal}
-use Rattle.nodejs_semver.proofs.range.print.write_interval.Goals.{in_default-via-in-Before+in_default}
-use Rattle.nodejs_semver.proofs.range.print.write_interval.Goals.{in_default-via-in_default+in_default}
+use Rattle.nodejs_semver.proofs.range.print.write_interval.Goals.{in_default-via-in-Before+in_default, in_default-via-in_default+in_default}
+use Rattle.nodejs_semver.proofs.range.print.write_interval.Goals as goal
 
 pub returns-in_ok-write_str-in_default : goal.returns-in_ok-write_str-in_default
 returns-in_ok-write_str-in_default g c flush ok =

@@ -1,6 +1,5 @@
 use Rattle.nodejs_semver.proofs.Common.{trim, middle_is_trim, ◌∷◌, List, ℕ, sym, ap, ◌∙◌, Option, later_parts, rest_view}
-use Rattle.nodejs_semver.proofs.Dividing.BarLemmas.{parts-front}
-use Rattle.nodejs_semver.proofs.Reading.Bytes.{trim-starts}
+use Rattle.nodejs_semver.proofs.{Dividing.BarLemmas.{parts-front}, Reading.Bytes.{trim-starts}}
 use Rattle.nodejs_semver.proofs.readers.bars.next_part.Goals as goal
 
 pub returns-clause-value : goal.returns-clause-value

@@ -1,10 +1,7 @@
 use Rattle.nodejs_semver.proofs.Common.{◌≡◌, ◌∙◌, ap, arith, List, [], ◌∷◌, inr, rules, sym, on_err_weaker, IfSome, IsTrue}
-use Rattle.nodejs_semver.proofs.Common.{MAX_SAFE_INTEGER, Means, if_any}
-use Rattle.std.proofs.lemmas.Result.{IfOk-weaker}
+use Rattle.nodejs_semver.proofs.Common.{MAX_SAFE_INTEGER, Means, if_any, IfOk-weaker}
 use Rattle.nodejs_semver.specs.Text.Common.{IsCommonRange}
-use Rattle.nodejs_semver.proofs.Values.{spans_same}
-use Rattle.nodejs_semver.proofs.Everyday.Parts.{common_so}
-use Rattle.nodejs_semver.proofs.Everyday.Whole.{common_bounded, common_means}
+use Rattle.nodejs_semver.proofs.{Values.{spans_same}, Everyday.Parts.{common_so}, Everyday.Whole.{common_bounded, common_means}}
 use Rattle.nodejs_semver.proofs.readers.fast.range_fast.Goals as goal
 
 pub from_intervals-requires : goal.from_intervals-requires

@@ -1,7 +1,5 @@
-use Rattle.nodejs_semver.proofs.Common.{arith, refl, sym, ap, ◌∙◌, inr, MAX_SAFE_INTEGER, rest_view}
-use Rattle.nodejs_semver.proofs.Algebra.FlatMaps.{on_err}
-use Rattle.nodejs_semver.proofs.Everyday.Parts.{loop-bars, loop-ends, loop-goes, loop-no_bars, loop-no_part, loop-shorter}
-use Rattle.nodejs_semver.proofs.Everyday.Parts.{loop-starts}
+use Rattle.nodejs_semver.proofs.Common.{arith, refl, sym, ap, ◌∙◌, inr, MAX_SAFE_INTEGER, rest_view, on_err}
+use Rattle.nodejs_semver.proofs.Everyday.Parts.{loop-bars, loop-ends, loop-goes, loop-no_bars, loop-no_part, loop-shorter, loop-starts}
 use Rattle.nodejs_semver.proofs.readers.fast.read_common.Goals as goal
 
 pub parts-init : goal.parts-init

@@ -1,11 +1,10 @@
-use Rattle.nodejs_semver.proofs.Common.{◌≡◌, ◌∙◌, sym, true, false, ap, rules, refl, Bool, ℕ, List, Option, MatchResult-from_err}
-use Rattle.nodejs_semver.proofs.Common.{Span, VersionValue, MAX_SAFE_INTEGER, table, malformed, upper_of, pushed}
-use Rattle.std.proofs.Common.{Bor}
-use Rattle.nodejs_semver.specs.Internal.Readings.{hyphen_pushed_view, partial_front_view, partial_view, sign_view}
-use Rattle.nodejs_semver.specs.Internal.Readings.{word_pushed_view}
-use Rattle.nodejs_semver.specs.Internal.Words.{signed_word, from_boundary, is_boundary, word_at}
-use Rattle.nodejs_semver.proofs.Reading.WordLaw.{longer_hyphen, longer_signed, no_hyphen, pushed_hyphen, pushed_malformed}
-use Rattle.nodejs_semver.proofs.Reading.WordLaw.{pushed_word, word-as}
+use Rattle.nodejs_semver.proofs.Common.{◌≡◌, ◌∙◌, sym, true, false, ap, rules, refl, Bool, ℕ, List, Option, MatchResult-from_err, Span}
+use Rattle.nodejs_semver.proofs.Common.{VersionValue, MAX_SAFE_INTEGER, table, malformed, upper_of, pushed, Bor, from_boundary, is_boundary}
+use Rattle.nodejs_semver.proofs.Common.{word_at}
+use Rattle.nodejs_semver.specs.Internal.Readings.{hyphen_pushed_view, partial_front_view, partial_view, sign_view, word_pushed_view}
+use Rattle.nodejs_semver.specs.Internal.Words.{signed_word}
+use Rattle.nodejs_semver.proofs.Reading.WordLaw.{longer_hyphen, longer_signed, no_hyphen, pushed_hyphen, pushed_malformed, pushed_word}
+use Rattle.nodejs_semver.proofs.Reading.WordLaw.{word-as}
 use Rattle.nodejs_semver.proofs.readers.intervals.push_word.Goals as goal
 
 pub returns-in_default-clause-added : goal.returns-in_default-clause-added

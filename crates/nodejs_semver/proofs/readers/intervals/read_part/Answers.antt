@@ -1,9 +1,8 @@
-use Rattle.nodejs_semver.proofs.Common.{◌≡◌, ◌<◌, ◌++◌, List, length, sym, ◌∙◌, arith, subst, Some, None, MatchResult-from_err}
-use Rattle.nodejs_semver.proofs.Common.{Span, VersionValue, MAX_SAFE_INTEGER, precedence, part_bounds, part_intervals, OnOk}
-use Rattle.nodejs_semver.proofs.Common.{joined_from, next_at}
+use Rattle.nodejs_semver.proofs.Common.{◌≡◌, ◌<◌, ◌++◌, List, length, sym, ◌∙◌, arith, subst, Some, None, MatchResult-from_err, Span}
+use Rattle.nodejs_semver.proofs.Common.{VersionValue, MAX_SAFE_INTEGER, precedence, part_bounds, part_intervals, OnOk, joined_from, next_at}
 use Rattle.std.proofs.Common.{OnErr}
-use Rattle.nodejs_semver.proofs.Dividing.RunsDivide.{longer_part, part-begins, part-last, part-step, read-is, read-next}
-use Rattle.nodejs_semver.proofs.Dividing.RunsDivide.{read-shorter, read-starts}
+use Rattle.nodejs_semver.proofs.Dividing.RunsDivide.{longer_part, part-begins, part-last, part-step, read-is, read-next, read-shorter}
+use Rattle.nodejs_semver.proofs.Dividing.RunsDivide.{read-starts}
 use Rattle.nodejs_semver.proofs.readers.intervals.read_part.Goals as goal
 
 pub words-init : goal.words-init

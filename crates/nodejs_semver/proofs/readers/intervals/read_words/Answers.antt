@@ -1,8 +1,6 @@
-use Rattle.nodejs_semver.proofs.Common.{◌≡◌, ◌<◌, ◌++◌, List, length, sym, ap, ◌∙◌, arith, subst, Some, None}
-use Rattle.nodejs_semver.proofs.Common.{MatchResult-from_err, on_err_weaker, Span, VersionValue, MAX_SAFE_INTEGER, part_bounds}
-use Rattle.nodejs_semver.proofs.Common.{OnOk, next_at}
-use Rattle.nodejs_semver.proofs.Dividing.RunsDivide.{bounds-step, had_one, longer_joined, read-is, read-shorter, read-starts}
-use Rattle.nodejs_semver.proofs.Dividing.RunsDivide.{words-last}
+use Rattle.nodejs_semver.proofs.Common.{◌≡◌, ◌<◌, ◌++◌, List, length, sym, ap, ◌∙◌, arith, subst, Some, None, MatchResult-from_err}
+use Rattle.nodejs_semver.proofs.Common.{on_err_weaker, Span, VersionValue, MAX_SAFE_INTEGER, part_bounds, OnOk, next_at}
+use Rattle.nodejs_semver.proofs.Dividing.RunsDivide.{bounds-step, had_one, longer_joined, read-is, read-shorter, read-starts, words-last}
 use Rattle.nodejs_semver.proofs.readers.intervals.read_words.Goals as goal
 
 pub words-smaller-in-Some : goal.words-smaller-in-Some

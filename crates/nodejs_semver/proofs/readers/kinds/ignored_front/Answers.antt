@@ -1,8 +1,15 @@
-use Rattle.nodejs_semver.proofs.Common.{◌≡◌, ap, arith, is_some, true, false, rules, ◌∙◌, sym, refl, MAX_SAFE_INTEGER}
-use Rattle.nodejs_semver.proofs.{Common.{table, from_boundary, is_boundary}, Reading.WordLaw.{word-as}}
-use Rattle.nodejs_semver.specs.Internal.{Readings.{partial_front_view, partial_view, sign_view}, Words.{signed_word}}
-use Rattle.nodejs_semver.proofs.Diagnosing.IgnoredParts.{at_hyphen, at_malformed, at_signed}
+use Rattle.nodejs_semver.proofs.Common.{◌≡◌, ap, arith, is_some, true, false, rules, ◌∙◌, sym, refl, MAX_SAFE_INTEGER, table, from_boundary}
+use Rattle.nodejs_semver.proofs.Common.{is_boundary, Bool, Option, not}
+use Rattle.nodejs_semver.proofs.{Reading.WordLaw.{word-as}, Diagnosing.IgnoredParts.{at_hyphen, at_malformed, at_signed}}
+use Rattle.nodejs_semver.specs.{Internal.Readings.{partial_front_view, partial_view, sign_view}, Internal.Words.{signed_word}}
+use Rattle.nodejs_semver.specs.{Internal.Ignored.{unless_bounded}, declared.diagnosis.ranges.IgnoredKind.{IgnoredKind}}
+use Rattle.nodejs_semver.specs.declared.diagnosis.ranges.IgnoredKind.TheVariants.{WithoutBounds}
+use Rattle.std.specs.Bool.{then_some}
 use Rattle.nodejs_semver.proofs.readers.kinds.ignored_front.Goals as goal
+
+kind-is : (bounded unbounded : Bool) (kind : Option IgnoredKind)
+    → bounded ≡ not unbounded → kind ≡ then_some unbounded WithoutBounds → kind ≡ unless_bounded bounded
+kind-is bounded unbounded kind h k = grind arith
 
 pub returns-in_default : goal.returns-in_default
 returns-in_default c =
@@ -15,10 +22,11 @@ pub returns-in-Some-upper_of : goal.returns-in-Some-upper_of
 returns-in-Some-upper_of c =
     let text = c.args.text.now in
     at_hyphen MAX_SAFE_INTEGER text c.in-Some-upper_of.rest.now (partial_view c.in-Some.partial)
-    (partial_view c.in-Some-upper_of.upper) c.unless_bounded.result c.is_some.result
+    (partial_view c.in-Some-upper_of.upper) c.then_some.result _
     (word-as MAX_SAFE_INTEGER text _ _ c.sign_front-sign.ensures c.partial_front.ensures
     ∙ rw (ap partial_front_view c.in-Some.is, sym c.upper_of.ensures, ap partial_front_view c.in-Some-upper_of.is) refl)
-    (c.is_some.ensures ∙ ap is_some (c.between-interval.ensures ∙ c.hyphen.ensures)) c.unless_bounded.ensures
+    (ap is_some (c.between.ensures ∙ c.hyphen.ensures))
+    (kind-is _ _ _ c.is_none-unbounded.ensures c.then_some.ensures)
 
 pub returns-then-not-is_boundary : goal.returns-then-not-is_boundary
 returns-then-not-is_boundary c =
@@ -34,9 +42,9 @@ returns c =
     let text = c.args.text.now in
     let ends : is_boundary c.in-Some.rest.now ≡ true = search rules in
     let word = signed_word (sign_view c.sign_front-sign.result.0) (partial_view c.in-Some.partial) in
-    let bounded : c.is_some-bounded.result ≡ is_some (table MAX_SAFE_INTEGER word) = grind arith in
+    let bounded : is_some c.signed.result ≡ is_some (table MAX_SAFE_INTEGER word) = grind arith in
     at_signed MAX_SAFE_INTEGER text c.in-Some.rest.now (sign_view c.sign_front-sign.result.0)
-    (partial_view c.in-Some.partial) c.unless_bounded-2.result c.is_some-bounded.result
+    (partial_view c.in-Some.partial) c.then_some-2.result _
     (word-as MAX_SAFE_INTEGER text _ _ c.sign_front-sign.ensures c.partial_front.ensures
     ∙ rw (ap partial_front_view c.in-Some.is, sym c.upper_of.ensures, ap partial_front_view c.in_default-upper_of.is, ends) refl)
-    bounded c.unless_bounded-2.ensures
+    bounded (kind-is _ _ _ c.is_none-unbounded-2.ensures c.then_some-2.ensures)

@@ -1,9 +1,7 @@
-use Rattle.nodejs_semver.proofs.Common.{◌≡◌, ◌+◌, ℕ, List, arith, ap, inl, length, ◌∙◌, MatchResult-from_err, on_err_weaker}
-use Rattle.nodejs_semver.proofs.Common.{list_all, flat_map, Span, VersionValue, MAX_SAFE_INTEGER, if_any, is_range_span, parts}
-use Rattle.nodejs_semver.proofs.Common.{denotes, part_denotes}
-use Rattle.std.proofs.lemmas.Result.{IfOk-weaker}
-use Rattle.nodejs_semver.proofs.Values.{spans_same}
-use Rattle.nodejs_semver.proofs.Bounds.Table.{all-bounded}
+use Rattle.nodejs_semver.proofs.Common.{◌≡◌, ◌+◌, ℕ, List, arith, ap, inl, length, ◌∙◌, MatchResult-from_err, on_err_weaker, list_all}
+use Rattle.nodejs_semver.proofs.Common.{flat_map, Span, VersionValue, MAX_SAFE_INTEGER, if_any, is_range_span, parts, denotes, part_denotes}
+use Rattle.nodejs_semver.proofs.Common.{IfOk-weaker}
+use Rattle.nodejs_semver.proofs.{Values.{spans_same}, Bounds.Table.{all-bounded}}
 use Rattle.nodejs_semver.proofs.Dividing.MeaningLaw.{filled_denotes, filled_text, found_so, meant_none, meant_so, meant_some}
 use Rattle.nodejs_semver.proofs.readers.loose.range_loose.Goals as goal
 

@@ -1,5 +1,4 @@
-use Rattle.nodejs_semver.proofs.Common.{◌≡◌, drop}
-use Rattle.nodejs_semver.specs.Internal.Words.{from_boundary}
+use Rattle.nodejs_semver.proofs.Common.{◌≡◌, drop, from_boundary}
 use Rattle.nodejs_semver.proofs.readers.words.skip_to_boundary.Given as goal
 
 abbrev pub invariant-bytes : goal.invariant-bytes

@@ -1,6 +1,5 @@
 use Rattle.nodejs_semver.proofs.Common.{Err, MAX_SAFE_INTEGER, Means, rules, ⊤}
-use Rattle.nodejs_semver.proofs.Dividing.MeaningLaw.{only_several}
-use Rattle.nodejs_semver.proofs.Values.{spans_same}
+use Rattle.nodejs_semver.proofs.{Dividing.MeaningLaw.{only_several}, Values.{spans_same}}
 use Rattle.nodejs_semver.proofs.range.parse.RangeRef.parse.Goals as goal
 
 pub returns-in_err-read_some-clause-memory : goal.returns-in_err-read_some-clause-memory
