@@ -1,7 +1,6 @@
 // What is left of a range text while its words are read.
 
-ghost use Rattle.std.specs.Option.{ForSome};
-ghost use Rattle.std.specs.Prelude.{◌≡◌, ◌≤◌, length};
+ghost use Rattle.std.specs.{Option.ForSome, Prelude.{length, ◌≡◌, ◌≤◌}};
 ghost use Rattle.semver_core.specs.Internal.Spaces.{space_len};
 
 /// What is left of a text: a part of it, and the text behind the bars that follow the part.

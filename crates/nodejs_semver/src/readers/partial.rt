@@ -109,11 +109,7 @@ pub(crate) fn build_front(text: &[u8]) -> (&[u8], &[u8])
 // The partial at the front whose major and minor components were read.
 #[inline(always)]
 #[tactic(auto, using(crate::proofs::Reading::IdentifierLists::short_lists))]
-fn patch_front<'a>(
-    major: Option<u64>,
-    minor: Option<u64>,
-    text: &'a [u8],
-) -> (Partial<'a>, &'a [u8])
+fn patch_front(major: Option<u64>, minor: Option<u64>, text: &[u8]) -> (Partial<'_>, &[u8])
     requires major_small { ForSome major (λ n. n ≤ MAX_SAFE_INTEGER) }
     requires minor_small { ForSome minor (λ n. n ≤ MAX_SAFE_INTEGER) }
     ensures { partial_pair_view result

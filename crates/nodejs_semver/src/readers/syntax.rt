@@ -1,7 +1,6 @@
 // What a range text is made of.
 
-ghost use Rattle.std.specs.Option.{ForSome};
-ghost use Rattle.std.specs.Prelude.{◌≡◌, ◌≤◌, true};
+ghost use Rattle.std.specs.{Option.ForSome, Prelude.{true, ◌≡◌, ◌≤◌}};
 ghost use Rattle.semver_core.specs.Text.Identifiers.{is_listed};
 ghost use Rattle.semver_core.specs.declared.TheConstants.{MAX_SAFE_INTEGER};
 

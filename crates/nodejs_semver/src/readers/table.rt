@@ -3,10 +3,9 @@
 ghost use Rattle.nodejs_semver.specs.Text.Table as Spec;
 ghost use Rattle.nodejs_semver.specs.Text.WordText as Words;
 ghost use Rattle.std.specs.Prelude.{◌+◌, ◌≡◌, ◌≤◌};
-ghost use Rattle.nodejs_semver.specs.Words.{bounds_view, comparator_view, interval};
-ghost use Rattle.nodejs_semver.specs.Words.{MAX_SAFE_INTEGER, partial_view, precedence};
-ghost use Rattle.nodejs_semver.specs.Words.{release_value, sign_view, signed_word, Some, table};
-ghost use Rattle.nodejs_semver.specs.Words.{table_view};
+ghost use Rattle.nodejs_semver.specs.Words.{bounds_view, partial_view, precedence, signed_word};
+ghost use Rattle.nodejs_semver.specs.Words.{comparator_view, MAX_SAFE_INTEGER, release_value, Some};
+ghost use Rattle.nodejs_semver.specs.Words.{interval, sign_view, table, table_view};
 
 use crate::readers::syntax::{Bounds, Comparator, Partial, Sign};
 use semver_core::cuts::Bound;
@@ -136,11 +135,10 @@ impl<'a> Bounds<'a> {
     #[inline(always)]
     fn whole_major(major: u64) -> Bounds<'a>
         requires { major ≤ MAX_SAFE_INTEGER }
-        ensures { bounds_view result
-            ≡ record {
-              lower = Bound.Before (release_value major 0 0);
-              upper = Bound.Before (Spec.lowest (major + 1) 0 0);
-            } }
+        ensures { bounds_view result ≡ record {
+          lower = Bound.Before (release_value major 0 0);
+          upper = Bound.Before (Spec.lowest (major + 1) 0 0);
+        } }
     {
         Bounds::between(release(major, 0, 0), lowest(major + 1, 0, 0))
     }
@@ -149,11 +147,10 @@ impl<'a> Bounds<'a> {
     #[inline(always)]
     fn whole_minor(major: u64, minor: u64) -> Bounds<'a>
         requires { minor ≤ MAX_SAFE_INTEGER }
-        ensures { bounds_view result
-            ≡ record {
-              lower = Bound.Before (release_value major minor 0);
-              upper = Bound.Before (Spec.lowest major (minor + 1) 0);
-            } }
+        ensures { bounds_view result ≡ record {
+          lower = Bound.Before (release_value major minor 0);
+          upper = Bound.Before (Spec.lowest major (minor + 1) 0);
+        } }
     {
         Bounds::between(release(major, minor, 0), lowest(major, minor + 1, 0))
     }
