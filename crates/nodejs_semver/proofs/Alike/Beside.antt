@@ -1,33 +1,24 @@
 -- Two comparisons beside each other, of which one may be of a pre-release.
-use Rattle.nodejs_semver.proofs.Common.{◌≡◌, ◌≤◌, ◌+◌, refl, sym, ap, ◌∙◌, subst, ℕ, Bool, true, false, ◌&&◌, ◌||◌, not, List, []}
-use Rattle.nodejs_semver.proofs.Common.{◌∷◌, ◌++◌, Option, Some, None, ◌==◌, and-true, and_parts, arith, cases_Bool, eqb-true, first_so, inl, inr}
-use Rattle.nodejs_semver.proofs.Common.{After, Before, Bound, Id, MAX_SAFE_INTEGER, Ordering, Span, Unbounded, VersionValue, compare, holds}
-use Rattle.nodejs_semver.proofs.Common.{is_empty, is_le, is_release, lets_in, list_all, list_all-append, meet, precedence, table, Partial}
-use Rattle.std.specs.Ordering.{is_eq, is_ge, is_lt, nat_cmp, ordering_reverse, ordering_then}
-use Rattle.std.specs.declared.cmp.Ordering.TheVariants.{Equal, Greater}
-use Rattle.semver_core.specs.Internal.OrderLaws.{pre_total}
-use Rattle.semver_core.specs.Internal.Successors.{le_weak, zero_least}
-use Rattle.semver_core.specs.Text.Identifiers.{Numeric}
-use Rattle.semver_core.specs.Values.Order.{pre_cmp}
-use Rattle.nodejs_semver.specs.Internal.NpmMeaning.{is_zero}
-use Rattle.nodejs_semver.specs.Internal.Sets.{same_triple}
-use Rattle.nodejs_semver.specs.Npm.Alike.{IsPlainPartial, is_apart, is_firm, may_have, npm_partial}
-use Rattle.nodejs_semver.specs.Npm.RangeText.{IsPartial, partial_of}
-use Rattle.nodejs_semver.specs.Npm.Ranges as Npm
-use Rattle.nodejs_semver.specs.Npm.Ranges.{is_valid, satisfies}
-use Rattle.nodejs_semver.specs.Npm.Table as Table
-use Rattle.nodejs_semver.specs.Npm.Table.{Comparison, Numbers, compared, counts, from, lowest, release, under}
-use Rattle.nodejs_semver.specs.Text.Table.{version_of}
-use Rattle.nodejs_semver.specs.Text.WordText.{Comparator, above, at_least, at_most, below, equal}
-use Rattle.nodejs_semver.proofs.Algebra.Gate.{both}
-use Rattle.nodejs_semver.proofs.Algebra.Gate.{in_two_steps, lt_is, same_triple_is, triple_cmp, triple_total}
+use Rattle.nodejs_semver.proofs.Common.{After, Before, Bool, Bound, Comparator, Greater, Id, List, MAX_SAFE_INTEGER, None}
+use Rattle.nodejs_semver.proofs.Common.{Numeric, Option, Ordering, Partial, Some, Span, Unbounded, VersionValue, [], above}
+use Rattle.nodejs_semver.proofs.Common.{and-true, and_parts, ap, arith, at_most, below, cases_Bool, common_steps, compare}
+use Rattle.nodejs_semver.proofs.Common.{eqb-true, equal, false, first_so, holds, inl, inr, is_empty, is_eq, is_ge, is_le, is_lt}
+use Rattle.nodejs_semver.proofs.Common.{is_release, lets_in, list_all, list_all-append, meet, nat_tests, not, ordering_reverse}
+use Rattle.nodejs_semver.proofs.Common.{ordering_then, pre_cmp, precedence, refl, same_triple, subst, sym, table, true}
+use Rattle.nodejs_semver.proofs.{Common.{version_of, ℕ, ◌&&◌, ◌++◌, ◌+◌, ◌==◌, ◌||◌, ◌∙◌, ◌∷◌, ◌≡◌}, NpmCommon.Comparison}
+use Rattle.nodejs_semver.proofs.NpmCommon.{IsPartial, IsPlainPartial, Numbers, at_least, compared, counts, from, is_firm}
+use Rattle.nodejs_semver.proofs.NpmCommon.{is_valid, is_zero, may_have, npm_partial, partial_of, release, under, zero_least}
+use Rattle.nodejs_semver.proofs.Algebra.Gate.{both, in_two_steps, lt_is, same_triple_is, triple_cmp, triple_total}
 use Rattle.nodejs_semver.proofs.Alike.Ends.{Spelled, ge_is, lower-before, made-zero, most_major-numbers, most_minor-numbers}
 use Rattle.nodejs_semver.proofs.Alike.Ends.{under-exact, upper-after, upper-before, whole_above-exact, whole_below-exact}
-use Rattle.nodejs_semver.proofs.Alike.Ends.{whole_most-exact}
-use Rattle.nodejs_semver.proofs.Alike.Pairs.{GoodExact, compared-free, equal-exact, firm-good, interval-is, none_bits, release_in, released_bits}
-use Rattle.nodejs_semver.proofs.Alike.Rows.{Form, Good, SameWord, any, form, one, partial, signed-good, text-spelled, three, two}
-use Rattle.nodejs_semver.proofs.Alike.Tests.{IsWithin, from_lower, meets-both, named_by, passed, passed-both, to_upper}
-use Rattle.nodejs_semver.proofs.Strict.Narrowing.{holds-both, lets_in-both}
+use Rattle.nodejs_semver.proofs.Alike.{Ends.whole_most-exact, Pairs.{GoodExact, compared-free, equal-exact, firm-good}}
+use Rattle.nodejs_semver.proofs.Alike.{Pairs.{interval-is, none_bits, release_in, released_bits}, Rows.{Form, Good, SameWord}}
+use Rattle.nodejs_semver.proofs.Alike.{Rows.{any, form, one, partial, signed-good, text-spelled, three, two}, Tests.IsWithin}
+use Rattle.nodejs_semver.proofs.Alike.Tests.{from_lower, meets-both, named_by, passed, passed-both, to_upper}
+use Rattle.nodejs_semver.{proofs.Strict.Narrowing.{holds-both, lets_in-both}, specs.Npm.{Alike.is_apart, Table.lowest}}
+use Rattle.semver_core.specs.Internal.OrderLaws.{pre_total}
+use Rattle.nodejs_semver.specs.Npm.Ranges as Npm
+use Rattle.nodejs_semver.specs.Npm.Table as Table
 
 -- ---- versions of other numbers
 
@@ -35,18 +26,7 @@ upto_bits : (t s : Ordering) → is_le t ≡ true → is_eq t ≡ false → is_l
 upto_bits t s h k = grind arith
 
 triple_zero : (w v : VersionValue) → is_zero w ≡ true → is_le (triple_cmp w v) ≡ true
-triple_zero w v z =
-    let (major, behind_major) = and_parts (w.major == 0) _ z in
-    let (minor, behind_minor) = and_parts (w.minor == 0) _ behind_major in
-    let (patch, lists) = and_parts (w.patch == 0) _ behind_minor in
-    le_weak w.major v.major _ (omega (arith, eqb-true _ _ major))
-    (le_weak w.minor v.minor _ (omega (arith, eqb-true _ _ minor)) (last w.patch v.patch (omega (arith, eqb-true _ _ patch))))
-  where
-    then_equal : (r : Ordering) → is_le (ordering_then r Equal) ≡ is_le r
-    then_equal r = grind arith
-
-    last : (a b : ℕ) → a ≤ b → is_le (nat_cmp a b) ≡ true
-    last a b h = sym (then_equal (nat_cmp a b)) ∙ le_weak a b Equal h refl
+triple_zero w v z = grind (arith, nat_tests, common_steps, and_parts, eqb-true)
 
 -- a version of other numbers is above 0.0.0
 zero-upto : (w v : VersionValue) → is_zero w ≡ true → same_triple w v ≡ false → is_ge (precedence v w) ≡ true
@@ -61,10 +41,8 @@ turned t s e = grind arith
 
 -- and it is below a release exactly if it is below its least pre-release
 apart-lt : (v : VersionValue) (n : Numbers) → same_triple (release n) v ≡ false → is_lt (precedence v (release n)) ≡ is_lt (precedence v (lowest n))
-apart-lt v n h = ap is_lt (in_two_steps v (release n))
-    ∙ apart_bits (triple_cmp v (release n)) (pre_cmp v.pre_release []) (pre_cmp v.pre_release (Numeric 0 ∷ []))
-    (turned _ _ (triple_total.antisymm v (release n)) ∙ sym (same_triple_is (release n) v) ∙ h)
-    ∙ sym (ap is_lt (in_two_steps v (lowest n)))
+apart-lt v n h =
+    grind (arith, nat_tests, common_steps, in_two_steps, apart_bits, triple_cmp, turned, triple_total, same_triple_is)
 
 -- ---- pre-releases up to the greatest version of some numbers
 
@@ -229,10 +207,7 @@ none-named : false ≡ true → ⊥
 none-named e = cc
 
 named-own : (v : VersionValue) (c : Comparison) → named_by v (c ∷ []) ≡ true → Npm.names v c ≡ true
-named-own v c h = elim (cases_Bool (counts false c)) [
-  | inl k ↦ or_none (Npm.names v c) (rw k at h)
-  | inr k ↦ absurd (none-named (rw k at h))
-]
+named-own v c h = grind (arith, nat_tests, common_steps, or_none, none-named)
 
 own-version : (v : VersionValue) (c : Comparator) (w : VersionValue) (text : List ℕ)
     → named_by v (record { sign = c; version = w; text = text } ∷ []) ≡ true → same_triple w v ≡ true
@@ -241,25 +216,10 @@ own-version v c w text h = (and_parts (not (is_release w)) _ (named-own v (recor
 own-numbers : (v : VersionValue) (c : Comparator) (pre : Bool) (a b o : Option ℕ) (x y : List Id) (text : List ℕ) → Form pre a b o x y
     → is_empty x ≡ false → named_by v (Table.table false (compared c) (partial_of a b o x y) text) ≡ true
     → same_triple (version_of (partial a b o x y)) v ≡ true
-own-numbers v c pre a b o x y text any e h = cc e
-own-numbers v c pre a b o x y text (one M) e h = cc e
-own-numbers v c pre a b o x y text (two M n) e h = cc e
-own-numbers v at_least pre a b o x y text (three M n p x' y' f) e h = own-version v at_least
-    (record { major = M; minor = n; patch = p; pre_release = x'; build = y' }) text h
-own-numbers v above pre a b o x y text (three M n p x' y' f) e h = own-version v above
-    (record { major = M; minor = n; patch = p; pre_release = x'; build = y' }) text h
-own-numbers v equal pre a b o x y text (three M n p x' y' f) e h = own-version v equal
-    (record { major = M; minor = n; patch = p; pre_release = x'; build = y' }) text h
-own-numbers v at_most pre a b o x y text (three M n p x' y' f) e h = own-version v at_most
-    (record { major = M; minor = n; patch = p; pre_release = x'; build = y' }) text h
-own-numbers v below pre a b o x y text (three M n p x' y' f) e h = own-version v below
-    (record { major = M; minor = n; patch = p; pre_release = x'; build = y' }) text h
+own-numbers v c pre a b o x y text h e k = grind (arith, nat_tests, common_steps, any, one, two, three, own-version)
 
 same-right : (w u v : VersionValue) → same_triple u v ≡ true → same_triple w u ≡ same_triple w v
-same-right w u v h =
-    let (major, behind_major) = and_parts (u.major == v.major) _ h in
-    let (minor, patch) = and_parts (u.minor == v.minor) (u.patch == v.patch) behind_major in
-    rw (eqb-true _ _ major, eqb-true _ _ minor, eqb-true _ _ patch) refl
+same-right w u v h = grind (arith, nat_tests, common_steps, and_parts, eqb-true)
 
 -- ---- two comparisons
 

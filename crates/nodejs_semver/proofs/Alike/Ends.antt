@@ -1,21 +1,14 @@
 -- The ends of the spans of both tables, beside their comparators.
-use Rattle.nodejs_semver.proofs.Common.{common_steps, ◌≡◌, ◌≤◌, ◌+◌, ◌==◌, refl, sym, ap, ◌∙◌, ℕ, Bool, true, false}
-use Rattle.nodejs_semver.proofs.Common.{◌&&◌, ◌||◌, not, List, [], ◌∷◌, arith, and_parts, cases_Bool, eqb-true, inl}
-use Rattle.nodejs_semver.proofs.Common.{inr, is_le, is_gt, nat_tests, Ordering, VersionValue, and-true, After, Before}
-use Rattle.nodejs_semver.proofs.Common.{Unbounded, is_interval, is_release, ◌⊎◌, names, precedence, precedence_total}
-use Rattle.nodejs_semver.proofs.Common.{MAX_SAFE_INTEGER, is_ge, is_lt, ordering_reverse, ordering_then, Equal, Greater}
-use Rattle.nodejs_semver.proofs.Common.{codes, Numeric, pre_cmp, version_eq, above, at_most, below, empty_is}
-use Rattle.std.specs.Str.{bytes_eq}
-use Rattle.semver_core.specs.Internal.Successors.{upto_patch, zero_least}
-use Rattle.semver_core.specs.Printing.Text.{version_text}
-use Rattle.nodejs_semver.specs.Internal.NpmMeaning.{is_zero}
-use Rattle.nodejs_semver.specs.Npm.Ranges.{is_valid, satisfies}
-use Rattle.nodejs_semver.specs.Npm.Table.{Comparison, Numbers, counts, from, lowest, made, release, under}
-use Rattle.nodejs_semver.specs.Text.WordText.{at_least}
-use Rattle.nodejs_semver.proofs.Algebra.Gate.{in_two_steps, lt_is, triple_cmp}
-use Rattle.nodejs_semver.proofs.Alike.Tests.{Exact, Tame, from_lower, named_by, passed, to_upper}
-use Rattle.nodejs_semver.proofs.Strict.Printed.{prints_zero}
-use Rattle.nodejs_semver.proofs.Values.{past-after, past-before}
+use Rattle.nodejs_semver.proofs.Common.{After, Before, Bool, Equal, Greater, List, MAX_SAFE_INTEGER, Numeric, Ordering}
+use Rattle.nodejs_semver.proofs.Common.{Unbounded, VersionValue, [], above, and-true, and_parts, ap, arith, at_most, below}
+use Rattle.nodejs_semver.proofs.Common.{cases_Bool, codes, common_steps, empty_is, eqb-true, false, inl, inr, is_ge, is_gt}
+use Rattle.nodejs_semver.proofs.Common.{is_interval, is_le, is_lt, is_release, names, nat_tests, not, ordering_reverse}
+use Rattle.nodejs_semver.proofs.Common.{ordering_then, pre_cmp, precedence, precedence_total, refl, sym, true, version_eq, ℕ}
+use Rattle.nodejs_semver.proofs.{Common.{◌&&◌, ◌+◌, ◌==◌, ◌||◌, ◌∙◌, ◌∷◌, ◌≡◌, ◌≤◌, ◌⊎◌}, NpmCommon.{Comparison, Numbers}}
+use Rattle.nodejs_semver.proofs.NpmCommon.{at_least, bytes_eq, counts, from, is_valid, is_zero, made, release, satisfies, under}
+use Rattle.nodejs_semver.proofs.{NpmCommon.{upto_patch, version_text, zero_least}, Algebra.Gate.{in_two_steps, lt_is}}
+use Rattle.nodejs_semver.proofs.{Algebra.Gate.triple_cmp, Alike.Tests.{Exact, Tame, from_lower, named_by, passed, to_upper}}
+use Rattle.nodejs_semver.{proofs.{Strict.Printed.prints_zero, Values.{past-after, past-before}}, specs.Npm.Table.lowest}
 use Rattle.nodejs_semver.specs.Npm.Ranges as Npm
 
 -- ---- the order

@@ -1,18 +1,13 @@
 -- The longest tuple of numbers at a place of a text, the leftmost one, and the one that ends last.
-use Rattle.nodejs_semver.proofs.Common.{common_steps, ◌≡◌, ◌⊎◌, ◌<◌, ◌≤◌, ◌+◌, ◌-◌, ℕ, Bool, List, [], ◌∷◌, ◌++◌}
-use Rattle.nodejs_semver.proofs.Common.{length, drop, take, refl, sym, ap, ◌∙◌, arith, true, false, inl, inr}
-use Rattle.nodejs_semver.proofs.Common.{append_assoc, cases_Bool, length-append, nat_tests, begins, ends}
-use Rattle.nodejs_semver.proofs.Common.{is_ascii_digit, take_at, drop_at, eqb-true, get_or, length-drop, cases_lt}
-use Rattle.nodejs_semver.proofs.Common.{length-take-le, ◌==◌, prefix_len, take-append-drop}
-use Rattle.std.proofs.lemmas.List.Folds.{length-prefix_len}
-use Rattle.std.specs.Prelude.{nat_le}
-use Rattle.std.proofs.Math.Seq.{drop-append-add}
+use Rattle.nodejs_semver.proofs.Common.{Bool, List, [], ap, append_assoc, arith, begins, cases_Bool, cases_lt, common_steps}
+use Rattle.nodejs_semver.proofs.Common.{drop, drop_at, ends, eqb-true, false, get_or, inl, inr, is_ascii_digit, length}
+use Rattle.nodejs_semver.proofs.Common.{length-append, length-drop, length-take-le, nat_tests, prefix_len, refl, sym, take}
+use Rattle.nodejs_semver.proofs.Common.{take-append-drop, take_at, true, ℕ, ◌++◌, ◌+◌, ◌-◌, ◌<◌, ◌==◌, ◌∙◌, ◌∷◌, ◌≡◌, ◌≤◌, ◌⊎◌}
+use Rattle.nodejs_semver.proofs.NpmCommon.{IsLastBefore, IsLeftmost, IsRightmost, IsRun, IsTuple, IsTupleIn, drop-append-add}
+use Rattle.nodejs_semver.proofs.{NpmCommon.{length-prefix_len, nat_le, tuple_len}, Reading.Numbers.{digits-taken, run-ends}}
+use Rattle.nodejs_semver.{proofs.Strict.Places.digits-of, specs.Internal.NpmTuples.{IsLongestAt, behind_first, dotted_len}}
+use Rattle.nodejs_semver.specs.{Internal.NpmTuples.run_len, Npm.Coerced.{one, three, two}}
 use Rattle.semver_core.proofs.Text.Pieces.{rest_at}
-use Rattle.nodejs_semver.specs.Internal.NpmTuples.{IsLastBefore, IsLongestAt, behind_first, dotted_len, run_len}
-use Rattle.nodejs_semver.specs.Internal.NpmTuples.{tuple_len}
-use Rattle.nodejs_semver.specs.Npm.Coerced.{IsLeftmost, IsRightmost, IsRun, IsTuple, IsTupleIn, one, three, two}
-use Rattle.nodejs_semver.proofs.Strict.Places.{digits-of}
-use Rattle.nodejs_semver.proofs.Reading.Numbers.{digits-taken, run-ends}
 
 -- ---- runs
 

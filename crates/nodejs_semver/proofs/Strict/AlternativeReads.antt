@@ -1,24 +1,13 @@
 -- An alternative is found exactly where the text has one whose comparators are valid.
-use Rattle.nodejs_semver.proofs.Common.{◌≡◌, ◌<◌, ℕ, Bool, List, [], ◌∷◌, ◌++◌, length, refl, sym, ◌∙◌, arith, true, false}
-use Rattle.nodejs_semver.proofs.Common.{Some, None, Option, inl, inr, IsUtf8, Span, VersionValue, list_all, list_all-append, MAX_SAFE_INTEGER, cases_Bool}
-use Rattle.nodejs_semver.proofs.Common.{bind_some, is_empty, ◌&&◌}
-use Rattle.std.specs.Prelude.{IfSome}
-use Rattle.semver_core.specs.Internal.Reading.{◌>>?◌}
-use Rattle.nodejs_semver.specs.Internal.NpmAlternatives.{NarrowedBy}
-use Rattle.nodejs_semver.specs.Internal.NpmMeaning.{IsNarrowed}
-use Rattle.nodejs_semver.specs.Internal.NpmReads.{IsFound, valid_alternative, valid_hyphen, words_of}
-use Rattle.nodejs_semver.specs.Internal.NpmWords.{Ended, alternative_of, hyphen_comparisons, hyphen_ends, hyphen_of, valid_only}
-use Rattle.nodejs_semver.specs.Internal.NpmWords.{words_within}
-use Rattle.nodejs_semver.specs.Internal.Words.{or_else}
-use Rattle.nodejs_semver.specs.Npm.Ranges.{is_valid}
-use Rattle.nodejs_semver.specs.Npm.Table.{Comparison, hyphen_lower, hyphen_upper}
-use Rattle.nodejs_semver.specs.declared.npm.alternatives.Alternative.{Alternative}
-use Rattle.nodejs_semver.proofs.Reading.Steps.{option-cases}
-use Rattle.nodejs_semver.proofs.Strict.AlternativeLaw.{alternative-read}
-use Rattle.nodejs_semver.proofs.Strict.HyphenReads.{hyphen_limited}
-use Rattle.nodejs_semver.proofs.Strict.Hyphens.{hyphen-found}
-use Rattle.nodejs_semver.proofs.Strict.Valid.{hyphen-valid, words-valid}
-use Rattle.nodejs_semver.proofs.Strict.WordSteps.{empty-append}
+use Rattle.nodejs_semver.proofs.Common.{Bool, IfSome, IsUtf8, List, MAX_SAFE_INTEGER, None, Option, Some, Span, VersionValue}
+use Rattle.nodejs_semver.proofs.Common.{[], arith, bind_some, cases_Bool, false, inl, inr, is_empty, length, list_all}
+use Rattle.nodejs_semver.proofs.Common.{list_all-append, refl, sym, true, ℕ, ◌&&◌, ◌++◌, ◌<◌, ◌∙◌, ◌∷◌, ◌≡◌}
+use Rattle.nodejs_semver.proofs.NpmCommon.{Alternative, Comparison, Ended, IsFound, IsNarrowed, NarrowedBy, alternative_of}
+use Rattle.nodejs_semver.proofs.NpmCommon.{hyphen_comparisons, hyphen_ends, hyphen_lower, hyphen_of, hyphen_upper, is_valid}
+use Rattle.nodejs_semver.proofs.NpmCommon.{or_else, valid_alternative, valid_only, words_of, ◌>>?◌}
+use Rattle.nodejs_semver.proofs.{Reading.Steps.option-cases, Strict.AlternativeLaw.alternative-read}
+use Rattle.nodejs_semver.proofs.Strict.{HyphenReads.hyphen_limited, Hyphens.hyphen-found, Valid.{hyphen-valid, words-valid}}
+use Rattle.nodejs_semver.{proofs.Strict.WordSteps.empty-append, specs.Internal.{NpmReads.valid_hyphen, NpmWords.words_within}}
 
 -- ---- hyphen ranges
 

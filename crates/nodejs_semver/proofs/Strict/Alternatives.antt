@@ -1,20 +1,14 @@
 -- The intervals of alternatives accept what the alternatives do.
-use Rattle.nodejs_semver.proofs.Common.{◌≡◌, refl, sym, ap, ap₂, ◌∙◌, Bool, true, false, ◌&&◌, ◌||◌, not, if◌then◌else◌, List, []}
-use Rattle.nodejs_semver.proofs.Common.{◌∷◌, Option, Some, None, arith, option_to_list, list_all, list_any, flat_map, cases_Bool}
-use Rattle.nodejs_semver.proofs.Common.{inl, inr, holds, precedence, VersionValue, is_release, lets_in, Span, accepts, is_empty}
-use Rattle.nodejs_semver.proofs.Common.{is_le, is_past, Beside, list_any-append, list_all-append, ◌+◌, MAX_SAFE_INTEGER}
-use Rattle.std.specs.Ordering.{ordering_then}
-use Rattle.std.specs.declared.cmp.Ordering.{Ordering}
-use Rattle.std.specs.declared.cmp.Ordering.TheVariants.{Equal}
-use Rattle.semver_core.specs.Internal.Successors.{upto_patch, zero_least}
-use Rattle.nodejs_semver.proofs.Algebra.FlatMaps.{any_weaker}
-use Rattle.nodejs_semver.specs.Internal.NpmAlternatives.{AcceptAsRanged, AreNarrowed, nothing, ranged}
-use Rattle.nodejs_semver.specs.Internal.NpmMeaning.{IsNarrowed, counted, is_unbounded}
+use Rattle.nodejs_semver.proofs.Common.{Beside, Bool, Equal, IsRange, List, MAX_SAFE_INTEGER, None, Option, Ordering, Some}
+use Rattle.nodejs_semver.proofs.Common.{Span, VersionValue, [], accepts, any_version, any_weaker, ap, ap₂, arith, cases_Bool}
+use Rattle.nodejs_semver.proofs.Common.{false, flat_map, holds, if◌then◌else◌, inl, inr, is_empty, is_le, is_past}
+use Rattle.nodejs_semver.proofs.Common.{is_range_span, is_release, lets_in, list_all, list_all-append, list_any}
+use Rattle.nodejs_semver.proofs.Common.{list_any-append, not, option_to_list, ordering_then, precedence, refl, sym, true, ◌&&◌}
+use Rattle.nodejs_semver.proofs.{Common.{◌+◌, ◌||◌, ◌∙◌, ◌∷◌, ◌≡◌}, NpmCommon.{AcceptAsRanged, AreNarrowed, Comparison}}
+use Rattle.nodejs_semver.proofs.NpmCommon.{IsNarrowed, counted, counts, is_unbounded, meets, nothing, satisfies, upto_patch}
+use Rattle.nodejs_semver.{proofs.NpmCommon.zero_least, specs.{Internal.NpmAlternatives.ranged, Npm.Ranges.names}}
+use Rattle.nodejs_semver.specs.Npm.Table.{lowest}
 use Rattle.nodejs_semver.specs.Npm.Ranges as Npm
-use Rattle.nodejs_semver.specs.Npm.Ranges.{meets, names, satisfies}
-use Rattle.nodejs_semver.specs.Npm.Table.{Comparison, counts, lowest}
-use Rattle.nodejs_semver.specs.Internal.Sets.{is_range_span}
-use Rattle.nodejs_semver.specs.Ranges.View.{IsRange, any_version}
 
 -- the span holds v, and lets it in or pre-releases are included
 abbrev lets : Bool → VersionValue → Span VersionValue → Bool

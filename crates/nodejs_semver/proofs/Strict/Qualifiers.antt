@@ -1,20 +1,14 @@
 -- The pre-release and the build behind the numbers: what is read is written, and what is written is read.
-use Rattle.std.proofs.Common.{◌≡◌, ◌&&◌, ◌||◌, ◌==◌, ◌⊎◌, ℕ, zero, suc, Bool, not, subst, List, [], ◌∷◌, ◌++◌, drop, take, refl, sym, ap, ◌∙◌, arith, true, false, inl, inr}
-use Rattle.std.specs.Char.{is_ascii_digit}
-use Rattle.nodejs_semver.proofs.Common.{append-nil}
-use Rattle.std.proofs.lemmas.Bool.{and_parts, cases_Bool, eqb-true, or_cases}
-use Rattle.std.proofs.lemmas.Bool.Decides.{nat_tests}
-use Rattle.std.proofs.lemmas.List.{take-append-drop}
-use Rattle.semver_core.specs.Text.Characters.{begins, is_identifier_char}
-use Rattle.semver_core.specs.Text.Identifiers.{Id, IsIdentifiers, goes_on, listed}
-use Rattle.semver_core.specs.Internal.Reading.{list_len}
-use Rattle.nodejs_semver.specs.Internal.Fronts.{begins_byte, begins_identifier, build_front, pre_release_front}
-use Rattle.nodejs_semver.specs.Internal.NpmReadings.{dashed_front, is_strict_list}
-use Rattle.nodejs_semver.specs.Internal.NpmWords.{pre_front}
-use Rattle.nodejs_semver.specs.Npm.Grammar as Grammar
-use Rattle.nodejs_semver.specs.Npm.Grammar.{IsStrictBuild, IsStrictPreRelease, no_build, plus}
-use Rattle.nodejs_semver.specs.Npm.RangeText.{IsPreRelease, are_spelled, bare, begins_undashed, dashed, is_letter, no_pre_release, undashed}
+use Rattle.nodejs_semver.proofs.Common.{Bool, Id, IsIdentifiers, List, [], and_parts, ap, append-nil, arith, begins}
+use Rattle.nodejs_semver.proofs.Common.{begins_identifier, cases_Bool, common_steps, drop, eqb-true, false, inl, inr}
+use Rattle.nodejs_semver.proofs.Common.{is_ascii_digit, is_identifier_char, list_len, nat_tests, not, or_cases, refl, subst}
+use Rattle.nodejs_semver.proofs.Common.{suc, sym, take, take-append-drop, true, zero, ℕ, ◌&&◌, ◌++◌, ◌==◌, ◌||◌, ◌∙◌, ◌∷◌, ◌≡◌}
+use Rattle.nodejs_semver.proofs.{Common.◌⊎◌, NpmCommon.{IsStrictBuild, IsStrictPreRelease, are_spelled, bare, begins_byte}}
+use Rattle.nodejs_semver.proofs.NpmCommon.{begins_undashed, build_front, dashed_front, goes_on, is_strict_list, listed}
+use Rattle.nodejs_semver.proofs.NpmCommon.{no_build, plus, pre_front, pre_release_front, undashed}
 use Rattle.nodejs_semver.proofs.Reading.IdentifierLists.{front-identifiers, written-begins, written-exact, written-spelled}
+use Rattle.nodejs_semver.specs.Npm.RangeText.{IsPreRelease, dashed, is_letter, no_pre_release}
+use Rattle.nodejs_semver.specs.Npm.Grammar as Grammar
 
 -- ---- what is read is written
 
@@ -116,10 +110,7 @@ undashed-begins [] h = cc h
 undashed-begins (b ∷ text) h = grind (arith, nat_tests)
 
 letter-on : (text more : List ℕ) → begins_undashed text ≡ true → begins_identifier more ≡ false → begins_undashed (text ++ more) ≡ true
-letter-on [] more h k = cc h
-letter-on (b ∷ []) more h k = grind arith
-letter-on (b ∷ c ∷ []) more h k = grind arith
-letter-on (b ∷ c ∷ d ∷ text) more h k = h
+letter-on text more h k = grind (arith, nat_tests, common_steps)
 
 or-right : (a b : Bool) → (a || b) ≡ true → a ≡ false → b ≡ true
 or-right a b h k = grind arith

@@ -1,25 +1,16 @@
 -- The rows of node-semver's table: the bounds that the comparators of a word have in common.
-use Rattle.nodejs_semver.proofs.Common.{◌≡◌, refl, ap, ◌∙◌, ℕ, Bool, true, false, not, List, [], ◌∷◌, ◌&&◌, ◌||◌, arith}
-use Rattle.nodejs_semver.proofs.Common.{VersionValue, Bound, Before, Unbounded, Span, greater_lower, precedence}
-use Rattle.nodejs_semver.proofs.Common.{list_all, MAX_SAFE_INTEGER, Option, cond_both, is_release, nat_tests, ◌==◌, ◌+◌}
-use Rattle.nodejs_semver.proofs.Common.{length, ◌≤◌, codes, is_readable, Comparator, above, at_most, below, equal}
-use Rattle.std.specs.Prelude.{nat_le}
-use Rattle.std.specs.Str.{bytes_eq}
-use Rattle.semver_core.specs.Printing.Text.{version_text}
+use Rattle.nodejs_semver.proofs.Common.{Before, Bool, Bound, Comparator, List, MAX_SAFE_INTEGER, Option, Span, Unbounded}
+use Rattle.nodejs_semver.proofs.Common.{VersionValue, [], above, ap, arith, at_most, below, codes, cond_both, equal, false}
+use Rattle.nodejs_semver.proofs.Common.{greater_lower, is_readable, is_release, length, list_all, nat_tests, not, precedence}
+use Rattle.nodejs_semver.proofs.{Common.{refl, true, ℕ, ◌&&◌, ◌+◌, ◌==◌, ◌||◌, ◌∙◌, ◌∷◌, ◌≡◌, ◌≤◌}, NpmCommon.{AreRead, Bounds}}
+use Rattle.nodejs_semver.proofs.NpmCommon.{Comparison, IsCommon, MAX_LENGTH, Numbers, are_normal, at_least, bytes_eq}
+use Rattle.nodejs_semver.proofs.NpmCommon.{caret_from, comparator_view, compared, counts, first, from, hyphen_upper, is_valid}
+use Rattle.nodejs_semver.proofs.NpmCommon.{is_zero, made, major, minor, nat_le, next_changed, npm_partial_view, npm_sign_view}
+use Rattle.nodejs_semver.proofs.{NpmCommon.{under, version_text, whole, wildcard, within}, Strict.Narrowing.both_common}
+use Rattle.nodejs_semver.proofs.Strict.Narrowing.{compared_span, comparison, everything, one_common, uncounted_common}
+use Rattle.nodejs_semver.{proofs.Strict.Printed.{from_valid, prints_zero, under_valid}, specs.Internal.NpmMeaning.is_part}
+use Rattle.nodejs_semver.specs.Npm.Table.{Partial, caret, lowest, next, no_build, table, tilde}
 use Rattle.semver_core.specs.Values.Versions.{IsVersion}
-use Rattle.semver_core.specs.declared.TheConstants.{MAX_LENGTH}
-use Rattle.nodejs_semver.specs.Internal.NpmMeaning.{AreRead, IsCommon, is_part, is_zero}
-use Rattle.nodejs_semver.specs.Internal.NpmParts.{are_normal, npm_partial_view, npm_sign_view, within}
-use Rattle.nodejs_semver.specs.Internal.Readings.{comparator_view}
-use Rattle.nodejs_semver.specs.Npm.Ranges.{is_valid}
-use Rattle.nodejs_semver.specs.Npm.Table.{Comparison, Numbers, Partial, caret, caret_from, compared, counts, first}
-use Rattle.nodejs_semver.specs.Npm.Table.{from, hyphen_upper, lowest, made, major, minor, next, next_changed, no_build}
-use Rattle.nodejs_semver.specs.Npm.Table.{table, tilde, under, whole, wildcard}
-use Rattle.nodejs_semver.specs.Text.WordText.{at_least}
-use Rattle.nodejs_semver.specs.declared.readers.syntax.Bounds.{Bounds}
-use Rattle.nodejs_semver.proofs.Strict.Narrowing.{both_common, compared_span, comparison, everything, one_common}
-use Rattle.nodejs_semver.proofs.Strict.Narrowing.{uncounted_common}
-use Rattle.nodejs_semver.proofs.Strict.Printed.{from_valid, prints_zero, under_valid}
 use Rattle.nodejs_semver.specs.Text.Table as Spans
 use Rattle.nodejs_semver.specs.declared.npm.partial.Partial as Declared
 use Rattle.nodejs_semver.specs.declared.npm.partial.Partial.TheVariants as Partials

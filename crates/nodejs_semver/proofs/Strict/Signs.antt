@@ -1,15 +1,12 @@
 -- The signs of node-semver's words, with the whitespace behind them: what is read is written.
-use Rattle.nodejs_semver.proofs.Common.{common_steps, nat_tests, ◌≡◌, ◌⊎◌, ◌<◌, ℕ, List, [], ◌∷◌, ◌++◌, length, drop}
-use Rattle.nodejs_semver.proofs.Common.{refl, sym, ap, ◌∙◌, arith, true, inl, inr, ◌&&◌, ◌==◌, IsUtf8, and_parts}
-use Rattle.nodejs_semver.proofs.Common.{append_assoc, cases_Bool, eqb-true, drop_spaces, space_len, subst, nat_lt}
-use Rattle.nodejs_semver.proofs.Common.{IsBlank, Comparator, above, at_most, below, equal}
-use Rattle.nodejs_semver.specs.Internal.Fronts.{begins_byte}
-use Rattle.nodejs_semver.specs.Internal.NpmWords.{npm_sign, or_late, skip_equal, skip_greater, skip_tilde, skip_twice}
-use Rattle.nodejs_semver.specs.Npm.RangeText.{IsSignText, caret_equal, late_above, late_below, no_sign, sign, spelling}
-use Rattle.nodejs_semver.specs.Npm.RangeText.{tilde_sign, tilde_twice}
-use Rattle.nodejs_semver.specs.Npm.Table.{Sign, caret, compared, tilde}
-use Rattle.nodejs_semver.specs.Text.WordText.{at_least}
-use Rattle.nodejs_semver.proofs.Reading.WordLaw.{skips-is, skips-utf8, tail-utf8}
+use Rattle.nodejs_semver.proofs.Common.{Comparator, IsBlank, IsUtf8, List, [], above, and_parts, ap, append_assoc, arith}
+use Rattle.nodejs_semver.proofs.Common.{at_most, below, cases_Bool, common_steps, drop, drop_spaces, eqb-true, equal, inl, inr}
+use Rattle.nodejs_semver.proofs.Common.{length, nat_lt, nat_tests, refl, space_len, subst, sym, true, ℕ, ◌&&◌, ◌++◌, ◌<◌, ◌==◌}
+use Rattle.nodejs_semver.proofs.{Common.{◌∙◌, ◌∷◌, ◌≡◌, ◌⊎◌}, NpmCommon.{IsSignText, at_least, begins_byte, caret_equal}}
+use Rattle.nodejs_semver.proofs.NpmCommon.{compared, late_above, late_below, no_sign, npm_sign, or_late, sign, skip_equal}
+use Rattle.nodejs_semver.proofs.{NpmCommon.{skip_greater, skip_tilde, spelling, tilde_twice}, Reading.WordLaw.skips-is}
+use Rattle.nodejs_semver.{proofs.Reading.WordLaw.{skips-utf8, tail-utf8}, specs.Internal.NpmWords.skip_twice}
+use Rattle.nodejs_semver.specs.Npm.{RangeText.tilde_sign, Table.{Sign, caret, tilde}}
 
 -- ---- whitespace
 

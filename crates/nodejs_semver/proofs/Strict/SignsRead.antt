@@ -1,18 +1,14 @@
 -- The signs of node-semver's words before marks and a partial version: what is written is read, or means the same.
-use Rattle.nodejs_semver.proofs.Common.{common_steps, ◌≡◌, ◌⊎◌, ◌<◌, ℕ, Bool, List, [], ◌∷◌, ◌++◌, length, refl}
-use Rattle.nodejs_semver.proofs.Common.{arith, true, false, inl, inr, ◌&&◌, ◌==◌, ◌||◌, not, and_parts, append_assoc}
-use Rattle.nodejs_semver.proofs.Common.{cases_Bool, eqb-true, nat_tests, begins, list_all, drop_spaces}
-use Rattle.nodejs_semver.proofs.Common.{drop_spaces-none, space_len, is_whitespace, is_empty, encode_utf8_all}
-use Rattle.nodejs_semver.proofs.Common.{len_utf8_bounds, IsBlank, drop_spaces-blank, Comparator, above}
-use Rattle.nodejs_semver.proofs.Common.{at_most, below, equal}
-use Rattle.semver_core.proofs.Text.SpaceLaw.{space_len-white}
-use Rattle.nodejs_semver.specs.Internal.Fronts.{begins_byte}
-use Rattle.nodejs_semver.specs.Internal.NpmWords.{npm_sign, or_late, skip_equal, skip_greater, skip_tilde}
-use Rattle.nodejs_semver.specs.Npm.RangeText.{IsSignText, are_marks, caret_equal, is_mark, is_one_v, late_above}
-use Rattle.nodejs_semver.specs.Npm.RangeText.{late_below, no_sign, sign, spelling, tilde_sign, tilde_twice}
-use Rattle.nodejs_semver.specs.Npm.Table.{Partial, Sign, caret, compared, table, tilde}
-use Rattle.nodejs_semver.specs.Text.WordText.{at_least}
-use Rattle.nodejs_semver.proofs.Reading.Bytes.{begins_component, is_solid, solid-dark}
+use Rattle.nodejs_semver.proofs.Common.{Bool, Comparator, IsBlank, List, [], above, and_parts, append_assoc, arith, at_most}
+use Rattle.nodejs_semver.proofs.Common.{begins, below, cases_Bool, common_steps, drop_spaces, drop_spaces-blank}
+use Rattle.nodejs_semver.proofs.Common.{drop_spaces-none, encode_utf8_all, eqb-true, equal, false, inl, inr, is_empty}
+use Rattle.nodejs_semver.proofs.Common.{is_whitespace, len_utf8_bounds, length, list_all, nat_tests, not, refl, space_len, true}
+use Rattle.nodejs_semver.proofs.{Common.{ℕ, ◌&&◌, ◌++◌, ◌<◌, ◌==◌, ◌||◌, ◌∷◌, ◌≡◌, ◌⊎◌}, NpmCommon.{IsSignText, are_marks}}
+use Rattle.nodejs_semver.proofs.NpmCommon.{at_least, begins_byte, caret_equal, compared, is_mark, is_one_v, late_above}
+use Rattle.nodejs_semver.proofs.NpmCommon.{late_below, no_sign, npm_sign, or_late, sign, skip_equal, skip_greater, skip_tilde}
+use Rattle.nodejs_semver.proofs.{NpmCommon.{space_len-white, spelling, tilde_twice}, Reading.Bytes.{begins_component, is_solid}}
+use Rattle.nodejs_semver.{proofs.Reading.Bytes.solid-dark, specs.Npm.{RangeText.tilde_sign, Table.{Partial, Sign, caret}}}
+use Rattle.nodejs_semver.specs.Npm.Table.{table, tilde}
 
 -- ---- whitespace before marks and a partial
 

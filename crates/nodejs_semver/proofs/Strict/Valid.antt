@@ -1,17 +1,12 @@
 -- Words with a number past the limit that counts have a comparator that is not valid: they may be left out as soon as they are read.
-use Rattle.nodejs_semver.proofs.Common.{common_steps, ◌≡◌, ◌+◌, ℕ, zero, suc, Bool, List, [], ◌∷◌, ◌++◌, refl, ◌∙◌}
-use Rattle.nodejs_semver.proofs.Common.{arith, true, false, Some, None, Option, inl, inr, ◌&&◌, cases_Bool}
-use Rattle.nodejs_semver.proofs.Common.{if◌then◌else◌, is_empty, list_all, nat_tests, drop_spaces, list_all-append}
-use Rattle.nodejs_semver.proofs.Common.{Front, above, at_most, below}
-use Rattle.std.specs.Prelude.{nat_le}
-use Rattle.semver_core.specs.Internal.Reading.{◌>>?◌}
-use Rattle.nodejs_semver.specs.Internal.NpmWords.{Ended, Signed, hyphen_comparisons, is_small, limited_hyphen}
-use Rattle.nodejs_semver.specs.Internal.NpmWords.{limited_word, any_word, valid_only, valid_words, word_front}
-use Rattle.nodejs_semver.specs.Internal.NpmWords.{words_within}
-use Rattle.nodejs_semver.specs.Npm.Ranges.{is_valid}
-use Rattle.nodejs_semver.specs.Npm.Table.{Comparison, Numbers, Partial, Sign, compared, from, hyphen_lower}
-use Rattle.nodejs_semver.specs.Npm.Table.{hyphen_upper, major, minor, table, under, wildcard}
-use Rattle.nodejs_semver.specs.Text.WordText.{at_least}
+use Rattle.nodejs_semver.proofs.Common.{Bool, Front, List, None, Option, Some, [], above, arith, at_most, below, cases_Bool}
+use Rattle.nodejs_semver.proofs.Common.{common_steps, drop_spaces, false, if◌then◌else◌, inl, inr, is_empty, list_all}
+use Rattle.nodejs_semver.proofs.Common.{list_all-append, nat_tests, refl, suc, true, zero, ℕ, ◌&&◌, ◌++◌, ◌+◌, ◌∙◌, ◌∷◌, ◌≡◌}
+use Rattle.nodejs_semver.proofs.NpmCommon.{Comparison, Ended, Numbers, Signed, any_word, at_least, compared, from}
+use Rattle.nodejs_semver.proofs.NpmCommon.{hyphen_comparisons, hyphen_lower, hyphen_upper, is_small, is_valid, limited_hyphen}
+use Rattle.nodejs_semver.proofs.NpmCommon.{limited_word, major, minor, nat_le, under, valid_only, valid_words, wildcard}
+use Rattle.nodejs_semver.{proofs.NpmCommon.{word_front, ◌>>?◌}, specs.{Internal.NpmWords.words_within, Npm.Table.Partial}}
+use Rattle.nodejs_semver.specs.Npm.Table.{Sign, table}
 
 -- ---- three numbers
 

@@ -1,19 +1,11 @@
 -- The words of an alternative, read one after another: what was read, and what is left.
-use Rattle.nodejs_semver.proofs.Common.{common_steps, nat_tests, ◌≡◌, ◌<◌, ◌≤◌, ℕ, zero, suc, Bool, List, [], ◌∷◌, ◌++◌}
-use Rattle.nodejs_semver.proofs.Common.{length, refl, sym, ap, ◌∙◌, arith, true, false, Some, None, Option}
-use Rattle.nodejs_semver.proofs.Common.{append_assoc, length-append, if◌then◌else◌, is_empty, IsUtf8, Span}
-use Rattle.nodejs_semver.proofs.Common.{VersionValue, drop_spaces, ◌==◌, ◌&&◌, MAX_SAFE_INTEGER, Front}
-use Rattle.semver_core.specs.Internal.Reading.{◌>>?◌}
-use Rattle.nodejs_semver.specs.Internal.NpmAlternatives.{NarrowedBy}
-use Rattle.nodejs_semver.specs.Internal.NpmMeaning.{IsNarrowed}
-use Rattle.nodejs_semver.specs.Internal.NpmReads.{IsFound, words_of}
-use Rattle.nodejs_semver.specs.Internal.NpmWords.{Signed, any_word, limited_word, valid_only, valid_words, word_front}
-use Rattle.nodejs_semver.specs.Npm.Table.{Comparison, table}
-use Rattle.nodejs_semver.specs.declared.npm.alternatives.Alternative.{Alternative}
-use Rattle.nodejs_semver.proofs.Reading.Bytes.{begins-some}
-use Rattle.nodejs_semver.specs.Npm.Malformed.{is_visible}
-use Rattle.nodejs_semver.proofs.Strict.Signs.{blank-at}
-use Rattle.nodejs_semver.proofs.Strict.Words.{WordAt, word-found, word-visible}
+use Rattle.nodejs_semver.proofs.Common.{Bool, Front, IsUtf8, List, MAX_SAFE_INTEGER, None, Option, Some, Span, VersionValue, []}
+use Rattle.nodejs_semver.proofs.Common.{ap, append_assoc, arith, common_steps, drop_spaces, false, if◌then◌else◌, is_empty}
+use Rattle.nodejs_semver.proofs.Common.{length, length-append, nat_tests, refl, suc, sym, true, zero, ℕ, ◌&&◌, ◌++◌, ◌<◌, ◌==◌}
+use Rattle.nodejs_semver.proofs.{Common.{◌∙◌, ◌∷◌, ◌≡◌, ◌≤◌}, NpmCommon.{Alternative, Comparison, IsFound, IsNarrowed}}
+use Rattle.nodejs_semver.proofs.NpmCommon.{NarrowedBy, Signed, any_word, is_visible, limited_word, valid_only, valid_words}
+use Rattle.nodejs_semver.proofs.{NpmCommon.{word_front, words_of, ◌>>?◌}, Reading.Bytes.begins-some, Strict.Signs.blank-at}
+use Rattle.nodejs_semver.{proofs.Strict.Words.{WordAt, word-found, word-visible}, specs.Npm.Table.table}
 
 abbrev pub word_at_front : (loose : Bool) → List ℕ → Front Signed
 word_at_front loose text = limited_word MAX_SAFE_INTEGER (any_word loose text)

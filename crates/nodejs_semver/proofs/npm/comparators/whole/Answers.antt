@@ -1,9 +1,7 @@
-use Rattle.std.proofs.Common.{ap, ap₂, arith, ◌∙◌}
-use Rattle.semver_core.specs.declared.cuts.bound.Bound.TheVariants.{After, Before}
-use Rattle.nodejs_semver.specs.Internal.Readings.{bounds_view, comparator_view}
+use Rattle.nodejs_semver.proofs.Common.{After, Before, above, ap, ap₂, arith, at_most, below, equal, ◌∙◌}
+use Rattle.nodejs_semver.proofs.{NpmCommon.{bounds_view, comparator_view}, Strict.Rows.{always, whole_compared, whole_read}}
+use Rattle.nodejs_semver.proofs.Strict.Rows.{whole_readable}
 use Rattle.nodejs_semver.specs.Text.Table as Spans
-use Rattle.nodejs_semver.specs.Text.WordText.{above, at_most, below, equal}
-use Rattle.nodejs_semver.proofs.Strict.Rows.{always, whole_compared, whole_read, whole_readable}
 use Rattle.nodejs_semver.proofs.npm.comparators.whole.Goals as goal
 
 pub returns-in-Above : goal.returns-in-Above

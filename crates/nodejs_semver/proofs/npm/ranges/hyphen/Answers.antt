@@ -1,8 +1,5 @@
-use Rattle.nodejs_semver.proofs.Common.{refl, sym, ◌∙◌}
-use Rattle.nodejs_semver.specs.Internal.NpmViews.{end_view}
-use Rattle.nodejs_semver.specs.Internal.NpmWords.{Ended}
-use Rattle.nodejs_semver.proofs.Strict.AlternativeReads.{hyphen-none, lower-invalid, upper-read}
-use Rattle.nodejs_semver.proofs.Strict.Normal.{hyphen-normal}
+use Rattle.nodejs_semver.proofs.{Common.{refl, sym, ◌∙◌}, NpmCommon.Ended, Strict.AlternativeReads.{hyphen-none, lower-invalid}}
+use Rattle.nodejs_semver.{proofs.Strict.{AlternativeReads.upper-read, Normal.hyphen-normal}, specs.Internal.NpmViews.end_view}
 use Rattle.nodejs_semver.proofs.npm.ranges.hyphen.Goals as goal
 
 pub returns-in_err-lower : goal.returns-in_err-lower
