@@ -3,20 +3,20 @@ use Rattle.nodejs_semver.proofs.Common.{After, Before, Bool, Bound, Comparator, 
 use Rattle.nodejs_semver.proofs.Common.{Numeric, Option, Ordering, Partial, Some, Span, Unbounded, VersionValue, [], above}
 use Rattle.nodejs_semver.proofs.Common.{and-true, and_parts, ap, arith, at_most, below, cases_Bool, common_steps, compare}
 use Rattle.nodejs_semver.proofs.Common.{eqb-true, equal, false, first_so, holds, inl, inr, is_empty, is_eq, is_ge, is_le, is_lt}
-use Rattle.nodejs_semver.proofs.Common.{is_release, lets_in, list_all, list_all-append, meet, nat_tests, not, ordering_reverse}
-use Rattle.nodejs_semver.proofs.Common.{ordering_then, pre_cmp, precedence, refl, same_triple, subst, sym, table, true}
-use Rattle.nodejs_semver.proofs.{Common.{version_of, ℕ, ◌&&◌, ◌++◌, ◌+◌, ◌==◌, ◌||◌, ◌∙◌, ◌∷◌, ◌≡◌}, NpmCommon.Comparison}
-use Rattle.nodejs_semver.proofs.NpmCommon.{IsPartial, IsPlainPartial, Numbers, at_least, compared, counts, from, is_firm}
-use Rattle.nodejs_semver.proofs.NpmCommon.{is_valid, is_zero, may_have, npm_partial, partial_of, release, under, zero_least}
-use Rattle.nodejs_semver.proofs.Algebra.Gate.{both, in_two_steps, lt_is, same_triple_is, triple_cmp, triple_total}
-use Rattle.nodejs_semver.proofs.Alike.Ends.{Spelled, ge_is, lower-before, made-zero, most_major-numbers, most_minor-numbers}
-use Rattle.nodejs_semver.proofs.Alike.Ends.{under-exact, upper-after, upper-before, whole_above-exact, whole_below-exact}
-use Rattle.nodejs_semver.proofs.Alike.{Ends.whole_most-exact, Pairs.{GoodExact, compared-free, equal-exact, firm-good}}
-use Rattle.nodejs_semver.proofs.Alike.{Pairs.{interval-is, none_bits, release_in, released_bits}, Rows.{Form, Good, SameWord}}
-use Rattle.nodejs_semver.proofs.Alike.{Rows.{any, form, one, partial, signed-good, text-spelled, three, two}, Tests.IsWithin}
-use Rattle.nodejs_semver.proofs.Alike.Tests.{from_lower, meets-both, named_by, passed, passed-both, to_upper}
-use Rattle.nodejs_semver.{proofs.Strict.Narrowing.{holds-both, lets_in-both}, specs.Npm.{Alike.is_apart, Table.lowest}}
-use Rattle.semver_core.specs.Internal.OrderLaws.{pre_total}
+use Rattle.nodejs_semver.proofs.Common.{is_release, lets_in, list_all, list_all-append, meet, nat_tests, not, not-false}
+use Rattle.nodejs_semver.proofs.Common.{not-true, ordering_reverse, ordering_then, pre_cmp, precedence, refl, same_triple}
+use Rattle.nodejs_semver.proofs.Common.{subst, sym, table, true, version_of, ℕ, ◌&&◌, ◌++◌, ◌+◌, ◌==◌, ◌||◌, ◌∙◌, ◌∷◌, ◌≡◌}
+use Rattle.nodejs_semver.proofs.NpmCommon.{Comparison, IsPartial, IsPlainPartial, Numbers, at_least, compared, counts, from}
+use Rattle.nodejs_semver.proofs.NpmCommon.{is_firm, is_valid, is_zero, may_have, npm_partial, partial_of, release, under}
+use Rattle.nodejs_semver.proofs.{NpmCommon.zero_least, Algebra.Gate.{both, in_two_steps, lt_is, same_triple_is, triple_cmp}}
+use Rattle.nodejs_semver.proofs.{Algebra.Gate.triple_total, Alike.Ends.{Spelled, ge_is, lower-before, made-zero}}
+use Rattle.nodejs_semver.proofs.Alike.Ends.{most_major-numbers, most_minor-numbers, under-exact, upper-after, upper-before}
+use Rattle.nodejs_semver.proofs.Alike.{Ends.{whole_above-exact, whole_below-exact, whole_most-exact}, Pairs.GoodExact}
+use Rattle.nodejs_semver.proofs.Alike.Pairs.{compared-free, equal-exact, firm-good, interval-is, none_bits, release_in}
+use Rattle.nodejs_semver.proofs.Alike.{Pairs.released_bits, Rows.{Form, Good, SameWord, any, form, one, partial, signed-good}}
+use Rattle.nodejs_semver.proofs.Alike.{Rows.{text-spelled, three, two}, Tests.{IsWithin, from_lower, meets-both, named_by}}
+use Rattle.nodejs_semver.proofs.{Alike.Tests.{passed, passed-both, to_upper}, Strict.Narrowing.{holds-both, lets_in-both}}
+use Rattle.{nodejs_semver.specs.Npm.{Alike.is_apart, Table.lowest}, semver_core.specs.Internal.OrderLaws.pre_total}
 use Rattle.nodejs_semver.specs.Npm.Ranges as Npm
 use Rattle.nodejs_semver.specs.Npm.Table as Table
 
@@ -94,9 +94,6 @@ firm-held v (Some s) cs h = h.held
 one_so : (a b : Bool) → (a || not b) ≡ true → a ≡ false → b ≡ false
 one_so a b h f = grind arith
 
-none_so : (b : Bool) → (false || not b) ≡ true → b ≡ false
-none_so b h = grind arith
-
 module _ (pre : Bool) (v : VersionValue) (within : IsWithin MAX_SAFE_INTEGER v) (r : is_release v ≡ false) (text : List ℕ) where
   abbrev Valid : List Comparison → Type 0
   Valid cs = list_all (is_valid MAX_SAFE_INTEGER) cs ≡ true
@@ -133,18 +130,15 @@ module _ (pre : Bool) (v : VersionValue) (within : IsWithin MAX_SAFE_INTEGER v) 
   whole_least-held w s f = held-both v (Before w) Unbounded (record { sign = at_least; version = w; text = text } ∷ []) []
       (elim (cases_Bool (counts false (record { sign = at_least; version = w; text = text }))) [
         | inl k ↦ rw k (lower-before w v ∙ sym (and-true _))
-        | inr k ↦ rw k (lower-before w v ∙ zero-upto w v (s.zero (opposite _ k)) f)
+        | inr k ↦ rw k (lower-before w v ∙ zero-upto w v (s.zero (not-false _ k)) f)
       ]) refl
-    where
-      opposite : (a : Bool) → not a ≡ false → a ≡ true
-      opposite a h = grind arith
 
   least-held : Rows at_least
   unfolding table
   least-held a b c x y any m t h k = held-both v (Before (release (0, 0, 0))) Unbounded [] []
-      (lower-before (release (0, 0, 0)) v ∙ zero-upto (release (0, 0, 0)) v refl (none_so _ k)) refl
-  least-held a b c x y (one M) m t h k = lower-held (M, 0, 0) h (none_so _ k)
-  least-held a b c x y (two M n) m t h k = lower-held (M, n, 0) h (none_so _ k)
+      (lower-before (release (0, 0, 0)) v ∙ zero-upto (release (0, 0, 0)) v refl (not-true _ k)) refl
+  least-held a b c x y (one M) m t h k = lower-held (M, 0, 0) h (not-true _ k)
+  least-held a b c x y (two M n) m t h k = lower-held (M, n, 0) h (not-true _ k)
   least-held a b c x y (three M n p x' y' e) m t h k =
       let w : VersionValue = record { major = M; minor = n; patch = p; pre_release = x'; build = y' } in
       elim (cases_Bool (is_firm (partial (Some M) (Some n) (Some p) x' y'))) [
@@ -165,8 +159,8 @@ module _ (pre : Bool) (v : VersionValue) (within : IsWithin MAX_SAFE_INTEGER v) 
   equal-held : Rows equal
   unfolding table
   equal-held a b c x y any m t h k = cc m
-  equal-held a b c x y (one M) m t h k = band-held (M, 0, 0) (M + 1, 0, 0) h (none_so _ k)
-  equal-held a b c x y (two M n) m t h k = band-held (M, n, 0) (M, n + 1, 0) h (none_so _ k)
+  equal-held a b c x y (one M) m t h k = band-held (M, 0, 0) (M + 1, 0, 0) h (not-true _ k)
+  equal-held a b c x y (two M n) m t h k = band-held (M, n, 0) (M, n + 1, 0) h (not-true _ k)
   equal-held a b c x y (three M n p x' y' e) m t h k =
       (equal-exact v (record { major = M; minor = n; patch = p; pre_release = x'; build = [] }) y' text).held
 
@@ -185,7 +179,7 @@ module _ (pre : Bool) (v : VersionValue) (within : IsWithin MAX_SAFE_INTEGER v) 
   unfolding table
   below-rows a b c x y any m t h k = cc m
   below-rows a b c x y (one M) m t h k = upper-held (Before (release (M, 0, 0))) (M, 0, 0)
-      (upper-before (release (M, 0, 0)) v ∙ apart-lt v (M, 0, 0) (none_so _ k) ∙ sym (and-true _))
+      (upper-before (release (M, 0, 0)) v ∙ apart-lt v (M, 0, 0) (not-true _ k) ∙ sym (and-true _))
   below-rows a b c x y (two M n) m t h k = upper-held (Before (lowest (M, n, 0))) (M, n, 0) (under-exact v (M, n, 0)).tested
   below-rows a b c x y (three M n p x' y' e) m t h k =
       let w : VersionValue = record { major = M; minor = n; patch = p; pre_release = x'; build = y' } in

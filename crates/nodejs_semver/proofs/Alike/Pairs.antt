@@ -2,7 +2,7 @@
 use Rattle.nodejs_semver.proofs.Common.{After, Before, Bool, Comparator, Id, List, MAX_SAFE_INTEGER, None, Option, Partial}
 use Rattle.nodejs_semver.proofs.Common.{Some, Span, Unbounded, VersionValue, [], above, arith, at_most, below, common_steps}
 use Rattle.nodejs_semver.proofs.Common.{compare, equal, false, interval, is_empty, is_release, lets_in, list_all, nat_tests}
-use Rattle.nodejs_semver.proofs.Common.{not, precedence, refl, subst, table, true, ℕ, ◌&&◌, ◌||◌, ◌∷◌, ◌≡◌}
+use Rattle.nodejs_semver.proofs.Common.{not-true, precedence, refl, subst, table, true, ℕ, ◌&&◌, ◌||◌, ◌∷◌, ◌≡◌}
 use Rattle.nodejs_semver.proofs.NpmCommon.{Comparison, IsPartial, IsPlainPartial, at_least, compared, is_firm, is_plain}
 use Rattle.nodejs_semver.proofs.{NpmCommon.{is_valid, may_have, npm_partial, partial_of}, Alike.Ends.lower-before}
 use Rattle.nodejs_semver.proofs.Alike.Ends.{no_lower-exact, no_upper-exact, upper-after, whole_above-exact, whole_below-exact}
@@ -46,9 +46,6 @@ pub equal-exact : (v w : VersionValue) (build : List Id) (text : List ℕ) → E
 equal-exact v w build text =
     grind (arith, nat_tests, common_steps, equal_tests, from_lower, to_upper, lower-before, upper-after, equal_names)
 
-opposite : (a : Bool) → not a ≡ true → a ≡ false
-opposite a h = grind arith
-
 pub firm-good : (v : VersionValue) (c : Comparator) (pre : Bool) (a b o : Option ℕ) (x y : List Id) (text : List ℕ) → Form pre a b o x y
     → is_firm (partial a b o x y) ≡ true → IsPartial false text (partial_of a b o x y)
     → GoodExact v (table MAX_SAFE_INTEGER (compare c (partial a b o x y))) (Npm.table false (compared c) (partial_of a b o x y) text)
@@ -59,7 +56,7 @@ firm-good v c pre a b o x y text (two M n) f t = cc f
 firm-good v at_least pre a b o x y text (three M n p x' y' e) f t =
     let w : VersionValue = record { major = M; minor = n; patch = p; pre_release = x'; build = y' } in
     exact-span v (Before w) Unbounded (record { sign = at_least; version = w; text = text } ∷ []) []
-    (whole_from-firm v w text (text-spelled text w t) (opposite _ f)) (no_upper-exact v)
+    (whole_from-firm v w text (text-spelled text w t) (not-true _ f)) (no_upper-exact v)
 firm-good v above pre a b o x y text (three M n p x' y' e) f t =
     let w : VersionValue = record { major = M; minor = n; patch = p; pre_release = x'; build = y' } in
     exact-span v (After w) Unbounded (record { sign = above; version = w; text = text } ∷ []) [] (whole_above-exact v w text) (no_upper-exact v)

@@ -32,9 +32,7 @@ strict-found limit a rest n r h stop e =
     let padded = padded-same a rest h.each stop in
     elim (cases_Bool (has_leading_zero a)) [
       | inl zero ↦ cc (rw (padded, zero) at e)
-      | inr bare ↦
-          let f = front-found limit a rest n r h stop (rw (padded, bare) at e) in
-          (record { number = f.0; shortest = bare }, f.1)
+      | inr bare ↦ grind (arith, nat_tests, common_steps, front-found)
     ]
 
 strict-reads : (limit : ℕ) → Reads false limit (IsStrictNumber limit)

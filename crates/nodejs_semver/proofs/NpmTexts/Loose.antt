@@ -3,18 +3,18 @@ use Rattle.nodejs_semver.proofs.Common.{Bool, Front, Id, IsNumber, IsPieceAt, Is
 use Rattle.nodejs_semver.proofs.Common.{None, Some, VersionValue, [], and_parts, ap, append-nil, arith, begins}
 use Rattle.nodejs_semver.proofs.Common.{begins_identifier, bind_some, cases_Bool, common_steps, drop, drop_at, encode_utf8_all}
 use Rattle.nodejs_semver.proofs.Common.{eqb-true, false, inl, inr, is_ascii_digit, is_empty, is_identifier_char, length}
-use Rattle.nodejs_semver.proofs.Common.{list_all, list_len, middle_is_trim, nat_tests, not, or_cases, or_right, prefix_len}
-use Rattle.nodejs_semver.proofs.Common.{refl, same_Some, suc, sym, take, take-append-drop, take_at, take_rest, true, zero, ℕ}
-use Rattle.nodejs_semver.proofs.Common.{◌&&◌, ◌++◌, ◌+◌, ◌-◌, ◌<◌, ◌==◌, ◌||◌, ◌∙◌, ◌∷◌, ◌≡◌, ◌≤◌, ◌⊎◌}
-use Rattle.nodejs_semver.proofs.NpmCommon.{IsStrictBuild, MAX_LENGTH, NoValue, after_byte, begins_bare, begins_byte}
-use Rattle.nodejs_semver.proofs.NpmCommon.{build_front, chars, drop-append-add, drop_ends, goes_on, listed, loose_dotted}
-use Rattle.nodejs_semver.proofs.NpmCommon.{loose_front, loose_patch, loose_qualified, loose_version, no_build, number_front}
-use Rattle.nodejs_semver.proofs.{NpmCommon.{number_of, patch_front, plus}, Reading.Bytes.{component-solid, solid-dark}}
-use Rattle.nodejs_semver.proofs.Reading.IdentifierLists.{front-identifiers, written-begins, written-exact, written-spelled}
-use Rattle.nodejs_semver.proofs.Reading.Numbers.{digits-taken, front_some, number-found, number-is, number-of, number-read}
-use Rattle.nodejs_semver.proofs.{Reading.{Numbers.run-ends, Steps.option-cases, WordLaw.byte-is}, Strict.Hyphens.ends-found}
-use Rattle.nodejs_semver.proofs.Strict.{Hyphens.ends-read, Places.digits-of, Qualifiers.{build-found, build-quiet, build-taken}}
-use Rattle.nodejs_semver.{proofs.Strict.{Qualifiers.ends-nil, VersionLaw.empty-is}, specs.Internal.NpmLooseVersions.patch_len}
+use Rattle.nodejs_semver.proofs.Common.{list_all, list_len, middle_is_trim, nat_tests, not, or_right, prefix_len, refl}
+use Rattle.nodejs_semver.proofs.Common.{same_Some, suc, sym, take, take-append-drop, take_at, take_rest, true, zero, ℕ, ◌&&◌}
+use Rattle.nodejs_semver.proofs.{Common.{◌++◌, ◌+◌, ◌-◌, ◌<◌, ◌==◌, ◌||◌, ◌∙◌, ◌∷◌, ◌≡◌, ◌≤◌, ◌⊎◌}, NpmCommon.IsStrictBuild}
+use Rattle.nodejs_semver.proofs.NpmCommon.{MAX_LENGTH, NoValue, after_byte, begins_bare, begins_byte, build_front, chars}
+use Rattle.nodejs_semver.proofs.NpmCommon.{drop-append-add, drop_ends, goes_on, listed, loose_dotted, loose_front, loose_patch}
+use Rattle.nodejs_semver.proofs.NpmCommon.{loose_qualified, loose_version, no_build, number_front, number_of, patch_front, plus}
+use Rattle.nodejs_semver.proofs.Reading.{Bytes.{component-solid, solid-dark}, IdentifierLists.front-identifiers}
+use Rattle.nodejs_semver.proofs.Reading.{IdentifierLists.{written-begins, written-exact, written-spelled}, Numbers.digits-taken}
+use Rattle.nodejs_semver.proofs.Reading.Numbers.{front_some, number-found, number-is, number-of, number-read, run-ends}
+use Rattle.nodejs_semver.proofs.{Reading.{Steps.option-cases, WordLaw.byte-is}, Strict.Hyphens.{ends-found, ends-read}}
+use Rattle.nodejs_semver.proofs.Strict.{Places.digits-of, Qualifiers.{build-found, build-quiet, build-taken, ends-nil}}
+use Rattle.nodejs_semver.{proofs.Strict.VersionLaw.empty-is, specs.Internal.NpmLooseVersions.patch_len}
 use Rattle.nodejs_semver.specs.Npm.VersionText.{AreMarks, IsLoosePreRelease, IsLooseVersion, IsLooseVersionText, bare, dashed}
 use Rattle.nodejs_semver.specs.Npm.VersionText.{no_pre_release}
 
@@ -122,10 +122,7 @@ bare-begins (c ∷ d ∷ more) b h k e = elim (cases_Bool (goes_on (d ∷ more))
     second : goes_on (d ∷ more) ≡ true → Behind (c ∷ d ∷ more) → (d == 46 || not (c == 45 || is_ascii_digit c)) ≡ true
     second goes b = elim (cases_Bool (d == 46)) [
       | inl dot ↦ rw dot refl
-      | inr other ↦ elim (or_cases (is_identifier_char d) (d == 46 && begins_identifier more) goes) [
-        | inl id ↦ rw (other, undashed id) (undotted other b)
-        | inr dot ↦ cc (other, (and_parts (d == 46) (begins_identifier more) dot).0)
-      ]
+      | inr other ↦ grind (arith, nat_tests, common_steps, and_parts)
     ]
 
     first : is_empty (build_front (d ∷ more)).1 ≡ true → Behind (c ∷ d ∷ more) → not (is_ascii_digit c) ≡ true
@@ -241,9 +238,7 @@ Follows rest = ((begins is_ascii_digit rest ≡ false) × (begins_byte 46 rest �
 patch-many : (digits rest : List ℕ) → list_all is_ascii_digit digits ≡ true
     → prefix_len is_ascii_digit (digits ++ rest) ≡ length digits + prefix_len is_ascii_digit rest
 patch-many [] rest h = omega arith
-patch-many (c ∷ digits) rest h =
-    let each = and_parts (is_ascii_digit c) (list_all is_ascii_digit digits) h in
-    rw each.0 (omega (arith, patch-many digits rest each.1))
+patch-many (c ∷ digits) rest h = grind (arith, nat_tests, common_steps, and_parts, patch-many digits rest)
 
 patch-exact : (digits rest : List ℕ) → list_all is_ascii_digit digits ≡ true → Follows rest → patch_len (digits ++ rest) ≡ length digits
 patch-exact digits rest h k = grind (arith, nat_tests, common_steps, digits-taken, drop_at, patch-many, drop-append-add)
@@ -280,9 +275,7 @@ follows p b l m (bare t list h s) k = go t s (written-begins t [] list h)
     go (c ∷ []) s i = inl (grind arith, identifier-dark c i)
     go (c ∷ d ∷ rest) s i = elim (cases_Bool (is_ascii_digit c)) [
       | inr other ↦ inl (other, identifier-dark c i)
-      | inl digit ↦
-          let dot : (d == 46) ≡ true = grind arith in
-          inr (c, rest ++ b, rw (eqb-true d 46 dot) refl, digit)
+      | inl digit ↦ grind (arith, nat_tests, common_steps, eqb-true)
     ]
 
 front-none : (b : List ℕ) (m : List Id) → IsStrictBuild b m → loose_front b ≡ ([], b)
@@ -308,9 +301,7 @@ front-read p b l m (bare t list h s) k =
     no-dash (c ∷ []) s = elim (cases_Bool (c == 45)) [ inr other ↦ rw other refl | inl dash ↦ rw dash (build-no_identifier b m k) ]
     no-dash (c ∷ d ∷ rest) s = elim (cases_Bool (c == 45)) [
       | inr other ↦ rw other refl
-      | inl dash ↦
-          let dot : (d == 46) ≡ true = grind arith in
-          rw (dash, eqb-true d 46 dot) refl
+      | inl dash ↦ grind (arith, nat_tests, common_steps, eqb-true)
     ]
 
 qualified-read : (p b : List ℕ) (v : VersionValue) → IsLoosePreRelease p v.pre_release → IsStrictBuild b v.build

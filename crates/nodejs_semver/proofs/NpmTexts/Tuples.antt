@@ -306,8 +306,6 @@ last_found text at start end h past some =
 
 pub last_none : (text : List ℕ) (at start end : ℕ) → IsLastBefore text at start end → length text ≤ at → end ≡ 0
     → (x y z : List ℕ) → IsTupleIn text x y z → ⊥
-last_none text at start end h past none x y z is =
-    let p = parts text x y z is in
-    omega (arith, none, p.some, h.last x y z is (omega (arith, past, p.whole, p.some)))
+last_none text at start end h past none x y z is = grind (arith, nat_tests, common_steps, parts)
 
 pub ruleset lasts = (last_begin)

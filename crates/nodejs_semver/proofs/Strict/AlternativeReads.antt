@@ -1,13 +1,13 @@
 -- An alternative is found exactly where the text has one whose comparators are valid.
 use Rattle.nodejs_semver.proofs.Common.{Bool, IfSome, IsUtf8, List, MAX_SAFE_INTEGER, None, Option, Some, Span, VersionValue}
-use Rattle.nodejs_semver.proofs.Common.{[], arith, bind_some, cases_Bool, false, inl, inr, is_empty, length, list_all}
-use Rattle.nodejs_semver.proofs.Common.{list_all-append, refl, sym, true, ℕ, ◌&&◌, ◌++◌, ◌<◌, ◌∙◌, ◌∷◌, ◌≡◌}
-use Rattle.nodejs_semver.proofs.NpmCommon.{Alternative, Comparison, Ended, IsFound, IsNarrowed, NarrowedBy, alternative_of}
+use Rattle.nodejs_semver.proofs.Common.{[], arith, common_steps, false, inl, inr, is_empty, length, list_all, list_all-append}
+use Rattle.nodejs_semver.proofs.{Common.{nat_tests, refl, sym, true, ℕ, ◌&&◌, ◌++◌, ◌<◌, ◌∙◌, ◌∷◌, ◌≡◌}, NpmCommon.Alternative}
+use Rattle.nodejs_semver.proofs.NpmCommon.{Comparison, Ended, IsFound, IsNarrowed, NarrowedBy, alternative_of}
 use Rattle.nodejs_semver.proofs.NpmCommon.{hyphen_comparisons, hyphen_ends, hyphen_lower, hyphen_of, hyphen_upper, is_valid}
 use Rattle.nodejs_semver.proofs.NpmCommon.{or_else, valid_alternative, valid_only, words_of, ◌>>?◌}
 use Rattle.nodejs_semver.proofs.{Reading.Steps.option-cases, Strict.AlternativeLaw.alternative-read}
 use Rattle.nodejs_semver.proofs.Strict.{HyphenReads.hyphen_limited, Hyphens.hyphen-found, Valid.{hyphen-valid, words-valid}}
-use Rattle.nodejs_semver.{proofs.Strict.WordSteps.empty-append, specs.Internal.{NpmReads.valid_hyphen, NpmWords.words_within}}
+use Rattle.nodejs_semver.{proofs.Strict.WordSteps.empty-append, specs.Internal.NpmReads.valid_hyphen}
 
 -- ---- hyphen ranges
 
@@ -19,27 +19,19 @@ hyphen-read loose include text =
     rw (hyphen_limited loose MAX_SAFE_INTEGER include text) (sym (hyphen-valid MAX_SAFE_INTEGER include (hyphen_ends loose include text)))
 
 pub hyphen-none : (loose : Bool) (include : Bool) (text : List ℕ) → hyphen_of loose MAX_SAFE_INTEGER include text ≡ None → IsFound include (valid_hyphen loose include text) None
-hyphen-none loose include text h =
-    let none : valid_hyphen loose include text ≡ None = hyphen-read loose include text ∙ rw h refl in
-    rw none tt
+hyphen-none loose include text h = grind (arith, nat_tests, common_steps, hyphen-read)
 
 none-left : (cs ds : List Comparison) → list_all (is_valid MAX_SAFE_INTEGER) cs ≡ false → valid_only MAX_SAFE_INTEGER (cs ++ ds) ≡ None
 none-left cs ds h = rw (list_all-append (is_valid MAX_SAFE_INTEGER) cs ds, h) refl
 
 valid-both : (cs ds : List Comparison) → list_all (is_valid MAX_SAFE_INTEGER) cs ≡ true
     → valid_only MAX_SAFE_INTEGER (cs ++ ds) ≡ (valid_only MAX_SAFE_INTEGER ds >>? λ l. Some (cs ++ l))
-valid-both cs ds h = rw (list_all-append (is_valid MAX_SAFE_INTEGER) cs ds, h) (elim (cases_Bool (list_all (is_valid MAX_SAFE_INTEGER) ds)) [
-  | inl good ↦ rw good refl
-  | inr bad ↦ rw bad refl
-])
+valid-both cs ds h = grind (arith, nat_tests, common_steps, list_all-append)
 
 pub lower-invalid : (loose : Bool) (include : Bool) (text : List ℕ) (e : Ended × Ended) (all : Option (Span VersionValue))
     → hyphen_of loose MAX_SAFE_INTEGER include text ≡ Some e → NarrowedBy include all (hyphen_lower include e.0.0 e.0.1) None
     → IsFound include (valid_hyphen loose include text) None
-lower-invalid loose include text e all h n =
-    let none : valid_hyphen loose include text ≡ None =
-    hyphen-read loose include text ∙ rw h (none-left (hyphen_lower include e.0.0 e.0.1) (hyphen_upper include e.1.0 e.1.1) n) in
-    rw none tt
+lower-invalid loose include text e all h n = grind (arith, nat_tests, common_steps, hyphen-read, none-left)
 
 pub upper-read : (loose : Bool) (include : Bool) (text : List ℕ) (e : Ended × Ended) (all : Option (Span VersionValue)) (a : Alternative) (r : Option Alternative)
     → hyphen_of loose MAX_SAFE_INTEGER include text ≡ Some e → IsNarrowed include [] all
@@ -47,11 +39,7 @@ pub upper-read : (loose : Bool) (include : Bool) (text : List ℕ) (e : Ended ×
     → NarrowedBy include a.interval (hyphen_upper include e.1.0 e.1.1) r → a.is_bare ≡ is_empty (hyphen_lower include e.0.0 e.0.1)
     → IfSome r (λ b. b.is_bare ≡ (a.is_bare && is_empty (hyphen_upper include e.1.0 e.1.1)))
     → IsFound include (valid_hyphen loose include text) r
-upper-read loose include text e all a None h first n m k l =
-    let ds = hyphen_upper include e.1.0 e.1.1 in
-    let none : valid_hyphen loose include text ≡ None =
-    hyphen-read loose include text ∙ rw h (valid-both (hyphen_lower include e.0.0 e.0.1) ds n.0 ∙ rw m refl) in
-    rw none tt
+upper-read loose include text e all a None h first n m k l = grind (arith, nat_tests, common_steps, hyphen-read, valid-both)
 upper-read loose include text e all a (Some b) h first n m k l =
     let cs = hyphen_lower include e.0.0 e.0.1 in
     let ds = hyphen_upper include e.1.0 e.1.1 in
@@ -69,11 +57,7 @@ no-text loose include all h k = (h, k)
 words-are : (loose : Bool) (include : Bool) (text : List ℕ) (cs : List Comparison) → 0 < length text → words_of loose include text ≡ Some cs
     → valid_alternative loose include text ≡ Some cs
 unfolding valid_alternative alternative_of
-words-are loose include [] cs some h = absurd (omega (arith, some))
-words-are loose include (b ∷ text) cs some h =
-    let read = sym (words-valid loose MAX_SAFE_INTEGER include (length (b ∷ text)) (b ∷ text)) ∙ h in
-    let w = bind_some (words_within loose include (length (b ∷ text)) (b ∷ text)) (λ cs. valid_only MAX_SAFE_INTEGER cs) cs read in
-    rw w.1 w.2
+words-are loose include text cs some h = grind (arith, nat_tests, common_steps, words-valid)
 
 -- a text that is no words
 hyphen-is : (loose : Bool) (include : Bool) (text : List ℕ) → IsUtf8 text → 0 < length text → words_of loose include text ≡ None
@@ -84,9 +68,7 @@ hyphen-is loose include (b ∷ text) u some h = elim (option-cases (hyphen_ends 
   | inr e ↦
       let is = alternative-read loose include (b ∷ text) (hyphen_comparisons include e.0) u (hyphen-found loose include (b ∷ text) e.0 u e.1) in
       rw (is, e.1) refl
-  | inl none ↦
-      let invalid = sym (words-valid loose MAX_SAFE_INTEGER include (length (b ∷ text)) (b ∷ text)) ∙ h in
-      rw none (or-none (words_within loose include (length (b ∷ text)) (b ∷ text)) invalid)
+  | inl none ↦ grind (arith, nat_tests, common_steps, words-valid)
 ]
   where
     or-none : (o : Option (List Comparison)) → (o >>? λ cs. valid_only MAX_SAFE_INTEGER cs) ≡ None

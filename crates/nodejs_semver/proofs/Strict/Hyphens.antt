@@ -108,10 +108,7 @@ ends-found text u = ends-from u.0 text u u.1.1
 
 pub ends-read : (cs u : List ℕ) → list_all is_end cs ≡ true → begins is_mark u ≡ false → space_len u ≡ 0 → drop_ends (encode_utf8_all cs ++ u) ≡ u
 ends-read [] u h other dark = ends-none u other dark
-ends-read (c ∷ cs) u h other dark =
-    let each = and_parts (is_end c) (list_all is_end cs) h in
-    ap drop_ends (append_assoc (encode_utf8 c) (encode_utf8_all cs) u) ∙ ends-char c (encode_utf8_all cs ++ u) each.0
-    ∙ ends-read cs u each.1 other dark
+ends-read (c ∷ cs) u h other dark = grind (arith, nat_tests, common_steps, and_parts, append_assoc, ends-char, ends-read cs u)
 
 -- ---- one `v`, as characters and as bytes
 
@@ -134,9 +131,7 @@ one-characters (c ∷ cs) h = elim (one-first (encode_utf8_all (c ∷ cs)) h) [
 
 all-bytes : (cs : List ℕ) → list_all is_mark cs ≡ true → list_all is_mark (encode_utf8_all cs) ≡ true
 all-bytes [] h = refl
-all-bytes (c ∷ cs) h =
-    let each = and_parts (is_mark c) (list_all is_mark cs) h in
-    rw (encode_ascii c (mark-ascii c each.0), each.0) (all-bytes cs each.1)
+all-bytes (c ∷ cs) h = grind (arith, nat_tests, common_steps, and_parts, encode_ascii, mark-ascii, all-bytes cs)
 
 all-characters : (cs : List ℕ) → list_all is_mark (encode_utf8_all cs) ≡ true → list_all is_mark cs ≡ true
 all-characters [] h = refl

@@ -111,11 +111,7 @@ pub great_placed : (loose zeros : Bool) (text : List ℕ) (at : ℕ) → number_
     → (not loose && begins_padded text) ≡ false → at ≡ prefix_len is_ascii_digit text → 1 ≤ at → at ≤ most_digits loose
     → placed MAX_SAFE_INTEGER (place_front loose zeros text) ≡ some_place great (take (length text - at) (drop at text))
 great_placed loose zeros text at front dark bare is first last =
-    let some : 1 ≤ prefix_len is_ascii_digit text = omega (arith, is, first) in
-    let short : prefix_len is_ascii_digit text ≤ most_digits loose = omega (arith, is, last) in
-    let run = take_while is_ascii_digit text in
-    let len = length-prefix_len is_ascii_digit text in
-    grind (arith, nat_tests, common_steps, prefix-all, bind-none, past-limit, spelled-great, run-valued, take_rest)
+    grind (arith, nat_tests, common_steps, length-prefix_len, prefix-all, bind-none, past-limit, spelled-great, run-valued, take_rest)
 
 -- ---- leading zeros
 

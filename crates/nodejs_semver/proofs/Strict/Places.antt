@@ -109,17 +109,12 @@ dotted_place-found loose zeros (c ∷ t) a rest h = elim (cases_Bool (c == 46)) 
 pub digits-of : (k : ℕ) (text : List ℕ) → k ≤ prefix_len is_ascii_digit text → list_all is_ascii_digit (take k text) ≡ true
 digits-of zero text h = refl
 digits-of (suc k) [] h = refl
-digits-of (suc k) (c ∷ text) h = elim (cases_Bool (is_ascii_digit c)) [
-  | inl digit ↦ rw digit (digits-of k text (omega (arith, rw digit at h)))
-  | inr other ↦ absurd (omega (arith, rw other at h))
-]
+digits-of (suc k) (c ∷ text) h = grind (arith, nat_tests, common_steps, digits-of k text)
 
 digits-many_on : (digits rest : List ℕ) → list_all is_ascii_digit digits ≡ true
     → prefix_len is_ascii_digit (digits ++ rest) ≡ length digits + prefix_len is_ascii_digit rest
 digits-many_on [] rest h = omega arith
-digits-many_on (c ∷ digits) rest h =
-    let each = and_parts (is_ascii_digit c) (list_all is_ascii_digit digits) h in
-    rw each.0 (omega (arith, digits-many_on digits rest each.1))
+digits-many_on (c ∷ digits) rest h = grind (arith, nat_tests, common_steps, and_parts, digits-many_on digits rest)
 
 no-digit : (b : ℕ) → (b == 120 || b == 88 || b == 42) ≡ true → (is_ascii_digit b ≡ false) × ((b == 46) ≡ false)
 no-digit b h = (grind (arith, nat_tests), grind (arith, nat_tests))

@@ -3,9 +3,9 @@ use Rattle.nodejs_semver.proofs.Common.{Bool, Err, Failure, IsCutAtBars, IsUtf8,
 use Rattle.nodejs_semver.proofs.Common.{None, Ok, Option, Refused, Result, Some, Span, VersionValue, [], ap, append-nil}
 use Rattle.nodejs_semver.proofs.Common.{append_assoc, arith, cases_Bool, common_steps, cond_some, false, flat_map}
 use Rattle.nodejs_semver.proofs.Common.{if◌then◌else◌, inl, inr, is_empty, is_range_span, later_parts, length, length-append}
-use Rattle.nodejs_semver.proofs.Common.{list_all, nat_tests, not, option_to_list, parts, refl, subst, sym, true, ℕ, ◌&&◌, ◌++◌}
-use Rattle.nodejs_semver.proofs.{Common.{◌+◌, ◌<◌, ◌∙◌, ◌∷◌, ◌≡◌, ◌≤◌}, NpmCommon.{AcceptAsRanged, Alternative, AreNarrowed}}
-use Rattle.nodejs_semver.proofs.NpmCommon.{Comparison, HasAlternativesIn, IsFound, IsNarrowed, IsRangeIn, NoValue}
+use Rattle.nodejs_semver.proofs.Common.{list_all, nat_tests, not, not-true, option_to_list, parts, refl, subst, sym, true, ℕ}
+use Rattle.nodejs_semver.proofs.{Common.{◌&&◌, ◌++◌, ◌+◌, ◌<◌, ◌∙◌, ◌∷◌, ◌≡◌, ◌≤◌}, NpmCommon.{AcceptAsRanged, Alternative}}
+use Rattle.nodejs_semver.proofs.NpmCommon.{AreNarrowed, Comparison, HasAlternativesIn, IsFound, IsNarrowed, IsRangeIn, NoValue}
 use Rattle.nodejs_semver.proofs.NpmCommon.{alternative_of, alternatives_of, begins_malformed, is_lost, is_valid, kept}
 use Rattle.nodejs_semver.proofs.{NpmCommon.{valid_alternative, valid_only, ◌>>?◌}, Dividing.BarsDivide.bars_once}
 use Rattle.nodejs_semver.{proofs.Strict.{Alternatives.found_spans, RangesLaw.alternatives_are}, specs.Internal.NpmReads.AddsOne}
@@ -212,14 +212,11 @@ all-valid loose include (text ∷ texts) = go (all-valid loose include texts) (a
       | inr bad ↦ rw bad (invalid cs (alternatives_of loose include texts) bad (regular-of cs bad))
     ]
 
-not-false : (b : Bool) → not b ≡ true → b ≡ false
-not-false b h = grind (arith, nat_tests, common_steps)
-
 -- the alternatives that are read are those of the text
 pub alternatives-read : (loose : Bool) (include : Bool) (text : List ℕ) (ls : List (List Comparison)) → IsUtf8 text
     → valid_range loose include text ≡ Some ls → HasAlternativesIn loose MAX_SAFE_INTEGER include text ls
 alternatives-read loose include text ls u h =
-    grind (arith, nat_tests, common_steps, cond_some, not, all-valid, not-false, alternatives_are)
+    grind (arith, nat_tests, common_steps, cond_some, not, all-valid, not-true, alternatives_are)
 
 pub none-read : (loose : Bool) (include : Bool) (text : List ℕ) → IsUtf8 text → valid_range loose include text ≡ None
     → NoValue (HasAlternativesIn loose MAX_SAFE_INTEGER include text)

@@ -36,10 +36,7 @@ id_printed piece run strict = elim (cases_Bool (is_u64_text piece)) [
 
 ids_printed : (ps : List (List ℕ)) → list_all is_identifier ps ≡ true → list_all is_strict_identifier ps ≡ true → map id_text (map identifier_of ps) ≡ ps
 ids_printed [] runs strict = refl
-ids_printed (p ∷ ps) runs strict =
-    let (run, others) = and_parts (is_identifier p) (list_all is_identifier ps) runs in
-    let (first, rest) = and_parts (is_strict_identifier p) (list_all is_strict_identifier ps) strict in
-    rw (id_printed p run first, ids_printed ps others rest) refl
+ids_printed (p ∷ ps) runs strict = grind (arith, nat_tests, common_steps, and_parts, id_printed, ids_printed ps)
 
 list_printed : (mark : List ℕ) (ps : List (List ℕ)) → 0 < length ps → map id_text (map identifier_of ps) ≡ ps
     → marked_list mark (map identifier_of ps) ≡ mark ++ join_with_byte 46 ps

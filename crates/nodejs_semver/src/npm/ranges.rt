@@ -1,18 +1,14 @@
 // The reader of range texts as node-semver has them, strictly or loosely.
 
-ghost use Rattle.std.specs.Prelude.{◌≡◌, ◌<◌, ◌&&◌, ℕ, IfOk, List, None, length, true};
-ghost use Rattle.std.specs.Str.{IsUtf8};
-ghost use Rattle.nodejs_semver.specs.Internal.NpmReads.{IsFound, valid_alternative, valid_hyphen};
-ghost use Rattle.nodejs_semver.specs.Internal.NpmReads.{words_of};
-ghost use Rattle.nodejs_semver.specs.Internal.NpmReads.{AddsPart, AreAllFound, valid_range};
-ghost use Rattle.nodejs_semver.specs.Internal.Parts.{parts};
+ghost use Rattle.std.specs.{Prelude.{◌&&◌, ◌<◌, ◌≡◌}, Str.IsUtf8};
+ghost use Rattle.nodejs_semver.specs.Words.{Comparison, HasAlternativesIn, IfOk, IsCutAtBars, List};
+ghost use Rattle.nodejs_semver.specs.Words.{MAX_SAFE_INTEGER, MemoryOnlyIf, NoValue, None};
+ghost use Rattle.nodejs_semver.specs.Words.{RefusedOnlyIf, length, parts, true, ℕ};
+ghost use Rattle.nodejs_semver.specs.Internal.NpmReads.{AddsPart, AreAllFound, IsFound};
+ghost use Rattle.nodejs_semver.specs.Internal.NpmReads.{valid_alternative, valid_hyphen};
+ghost use Rattle.nodejs_semver.specs.Internal.NpmReads.{valid_range, words_of};
 ghost use Rattle.nodejs_semver.specs.Npm.Malformed.{begins_malformed, ends_malformed};
-ghost use Rattle.nodejs_semver.specs.Npm.Ranges.{HasAlternatives, HasAlternativesIn};
-ghost use Rattle.nodejs_semver.specs.Npm.Ranges.{IsRangeIn, IsRangeOf};
-ghost use Rattle.nodejs_semver.specs.Npm.Table.{Comparison};
-ghost use Rattle.nodejs_semver.specs.Text.Bars.{IsCutAtBars};
-ghost use Rattle.semver_core.specs.Failures.{MemoryOnlyIf, NoValue, RefusedOnlyIf};
-ghost use Rattle.semver_core.specs.declared.TheConstants.{MAX_SAFE_INTEGER};
+ghost use Rattle.nodejs_semver.specs.Npm.Ranges.{HasAlternatives, IsRangeIn, IsRangeOf};
 
 use crate::RangeRef;
 use crate::npm::alternatives::{Alternative, range_of};
@@ -67,11 +63,11 @@ pub(crate) fn alternative(loose: bool, include: bool, text: &[u8]) -> Option<Alt
 
 // Whether words without comparators are no alternative, as the first and the last one are
 // malformed.
-fn is_lost(loose: bool, text: &[u8], read: &Alternative<'_>) -> bool
-    ensures { result ≡ (loose
-        && (read.now.is_bare && (begins_malformed text.now && ends_malformed text.now))) }
+fn is_lost(loose: bool, text: &[u8], is_bare: bool) -> bool
+    ensures { result
+        ≡ (loose && (is_bare && (begins_malformed text.now && ends_malformed text.now))) }
 {
-    loose && read.is_bare() && begins_malformed(text) && ends_malformed(text)
+    loose && is_bare && begins_malformed(text) && ends_malformed(text)
 }
 
 // Adds the interval of the alternative that a part of the text is, where its cuts meet, unless it
@@ -91,7 +87,7 @@ fn add_part<'a>(
     let Some(read) = alternative(loose, include, text.as_bytes()) else {
         return Err(Failure::Refused(SemverError));
     };
-    if is_lost(loose, text.as_bytes(), &read) {
+    if is_lost(loose, text.as_bytes(), read.is_bare()) {
         return Ok(is_some);
     }
     if let Some(interval) = read.interval() {

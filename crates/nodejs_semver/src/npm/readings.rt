@@ -1,15 +1,11 @@
 // Ranges with how they were read, by which they are asked.
 
-ghost use Rattle.std.specs.Prelude.{◌≡◌, ℕ, IfOk, List, map, option_map};
-ghost use Rattle.std.specs.Prelude.{◌<◌, length};
+ghost use Rattle.std.specs.Prelude.{◌<◌, ◌≡◌};
+ghost use Rattle.nodejs_semver.specs.Words.{Comparison, IfOk, IsCutAtBars, IsMax, IsMin, List};
+ghost use Rattle.nodejs_semver.specs.Words.{MAX_SAFE_INTEGER, MemoryOnlyIf, NoValue, RefusedOnlyIf};
+ghost use Rattle.nodejs_semver.specs.Words.{VersionValue, length, map, option_map, ℕ};
 ghost use Rattle.nodejs_semver.specs.Npm.Readings.{HasAlternativesAs, OfAccepted};
-ghost use Rattle.nodejs_semver.specs.Npm.Table.{Comparison};
-ghost use Rattle.nodejs_semver.specs.Ranges.Best.{IsMax, IsMin};
 ghost use Rattle.nodejs_semver.specs.Ranges.Gate as Gate;
-ghost use Rattle.nodejs_semver.specs.Text.Bars.{IsCutAtBars};
-ghost use Rattle.semver_core.specs.Failures.{MemoryOnlyIf, NoValue, RefusedOnlyIf};
-ghost use Rattle.semver_core.specs.Values.Versions.{VersionValue};
-ghost use Rattle.semver_core.specs.declared.TheConstants.{MAX_SAFE_INTEGER};
 
 use crate::RangeRef;
 use crate::npm::ranges::read_range;
@@ -128,11 +124,8 @@ impl<'a> ReadRange<'a> {
         ensures { OfAccepted MAX_SAFE_INTEGER self.now (λ accepted. IsMax accepted
             (map W.value versions.now) (option_map (λ v. W.value v.now) result)) }
     {
-        greatest(
-            self.range.items(),
-            self.reading.include_prerelease,
-            versions,
-        )
+        let include = self.reading.include_prerelease;
+        greatest(self.range.items(), include, versions)
     }
 
     /// The smallest of the versions that the range accepts by `satisfies`. Returns `None` exactly
@@ -141,10 +134,7 @@ impl<'a> ReadRange<'a> {
         ensures { OfAccepted MAX_SAFE_INTEGER self.now (λ accepted. IsMin accepted
             (map W.value versions.now) (option_map (λ v. W.value v.now) result)) }
     {
-        least(
-            self.range.items(),
-            self.reading.include_prerelease,
-            versions,
-        )
+        let include = self.reading.include_prerelease;
+        least(self.range.items(), include, versions)
     }
 }
