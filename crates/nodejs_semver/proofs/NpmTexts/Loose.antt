@@ -325,16 +325,7 @@ marks-read mark (c ∷ digits) rest m some each =
 
 pub loose-read : (limit : ℕ) (text : List ℕ) (v : VersionValue) → IsLooseVersion limit text v → loose_version limit text ≡ Some v
 unfolding loose_version
-loose-read limit text v h =
-    let behind = h.pre_release ++ h.build in
-    let last = h.patch ++ behind in
-    let middle = h.minor ++ (46 ∷ last) in
-    let front = marks-read h.mark h.major (46 ∷ middle) h.mark_is h.major_is.some h.major_is.each in
-    let a = number-read limit h.major (46 ∷ middle) v.major h.major_is refl in
-    let b = dotted-read limit h.minor (46 ∷ last) v.minor h.minor_is refl in
-    let c = patch-read limit h.patch behind v.patch h.patch_is (follows h.pre_release h.build v.pre_release v.build h.pre_release_is h.build_is) in
-    let q = qualified-read h.pre_release h.build v h.pre_release_is h.build_is in
-    rw (h.divided, front, a, b, c, q) refl
+loose-read limit text v h = grind (arith, marks-read, number-read, dotted-read, patch-read, follows, qualified-read)
 
 -- ---- whole texts
 

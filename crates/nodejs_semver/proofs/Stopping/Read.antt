@@ -106,14 +106,7 @@ identifiers : (limit : ℕ) (t : List ℕ)
     × (list_all is_identifier (pieces t) ≡ true → list_all is_strict_identifier (pieces t) ≡ true → Ended limit Dash t)
 identifiers limit [] = grind (arith, nat_tests, common_steps, identifier_read, run-nil, read-end, append-nil, and_parts)
 identifiers limit (c ∷ t) = elim (cases_Bool (c == 46)) [
-  | inl dot ↦ rw (eqb-true c 46 dot) (
-    λ a x h k.
-        let both = and_parts (is_strict_identifier ((a ∷ x) ++ [])) (list_all is_strict_identifier (pieces t)) k in
-        let end = read-end a x (rw (append-nil x) at both.0) in
-        ended-step limit (identifier_read (a ∷ x)) Dash 46 t (end-dot limit (identifier_read (a ∷ x)) end)
-        ((identifiers limit t).1 h both.1),
-    λ h k. cc h,
-  )
+  | inl dot ↦ grind (arith, nat_tests, common_steps, eqb-true, and_parts, read-end, append-nil, ended-step, identifier_read, end-dot, identifiers limit t)
   | inr other ↦ (
     λ a x h k.
         let f = runs-first c (pieces t) (rw other at h) in

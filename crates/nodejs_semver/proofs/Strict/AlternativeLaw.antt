@@ -1,13 +1,13 @@
 -- The alternatives of node-semver's range texts: the function that reads them finds exactly what the statement has.
 use Rattle.nodejs_semver.proofs.Common.{Bool, IsBlank, IsUtf8, List, None, Some, [], after_spaces, all_weaker, and_parts, ap}
-use Rattle.nodejs_semver.proofs.Common.{append-nil, append_assoc, arith, begins, bind_some, cases_Bool, common_steps}
-use Rattle.nodejs_semver.proofs.Common.{drop_spaces, drop_spaces-blank, drop_spaces-none, false, inl, inr, is_empty, length}
-use Rattle.nodejs_semver.proofs.Common.{list_all, nat_tests, not, or_right, refl, same_Some, space_len, subst, suc, sym, take}
-use Rattle.nodejs_semver.proofs.Common.{true, zero, ℕ, ◌&&◌, ◌++◌, ◌+◌, ◌-◌, ◌<◌, ◌==◌, ◌||◌, ◌∙◌, ◌∷◌, ◌≡◌}
-use Rattle.nodejs_semver.proofs.NpmCommon.{AreEndMarks, AreWords, Comparison, Ended, IsAlternative, IsPartial, IsSignText}
-use Rattle.nodejs_semver.proofs.NpmCommon.{IsWord, after_ends, alternative_of, drop_ends, end_front, hyphen_comparisons}
-use Rattle.nodejs_semver.proofs.NpmCommon.{hyphen_ends, hyphen_lower, hyphen_upper, ignored, is_free_lower, is_free_upper}
-use Rattle.nodejs_semver.proofs.{NpmCommon.{is_malformed, is_mark, is_visible, last, last_end, word}, Reading.Bytes.all-join}
+use Rattle.nodejs_semver.proofs.Common.{append-nil, append_assoc, arith, begins, cases_Bool, common_steps, drop_spaces}
+use Rattle.nodejs_semver.proofs.Common.{drop_spaces-blank, drop_spaces-none, false, inl, inr, is_empty, length, list_all}
+use Rattle.nodejs_semver.proofs.Common.{nat_tests, not, or_right, refl, same_Some, space_len, subst, suc, sym, take, true, zero}
+use Rattle.nodejs_semver.proofs.{Common.{ℕ, ◌&&◌, ◌++◌, ◌+◌, ◌-◌, ◌<◌, ◌==◌, ◌||◌, ◌∙◌, ◌∷◌, ◌≡◌}, NpmCommon.AreEndMarks}
+use Rattle.nodejs_semver.proofs.NpmCommon.{AreWords, Comparison, Ended, IsAlternative, IsPartial, IsSignText, IsWord}
+use Rattle.nodejs_semver.proofs.NpmCommon.{after_ends, alternative_of, drop_ends, end_front, hyphen_comparisons, hyphen_ends}
+use Rattle.nodejs_semver.proofs.NpmCommon.{hyphen_lower, hyphen_upper, ignored, is_free_lower, is_free_upper, is_malformed}
+use Rattle.nodejs_semver.proofs.{NpmCommon.{is_mark, is_visible, last, last_end, word}, Reading.Bytes.all-join}
 use Rattle.nodejs_semver.proofs.{Reading.{Bytes.begins_component, Steps.option-cases}, Strict.Hyphens.after_ends-drop}
 use Rattle.nodejs_semver.proofs.Strict.Hyphens.{dash-read, end-read, ends-space, hyphen-found, mark-dark, marks-passed}
 use Rattle.nodejs_semver.proofs.Strict.{Hyphens.{marks-whole, whole-dark}, Malformed.{blank-dark, blank-signal, boundary-dark}}
@@ -240,7 +240,5 @@ alternative-found loose include (b ∷ text) cs u h =
           let is : IsAlternative loose include (b ∷ text) some.0 =
           words (b ∷ text) some.0 (words-found loose include (length (b ∷ text)) (b ∷ text) some.0 u some.1) in
           subst (λ (l : List Comparison). IsAlternative loose include (b ∷ text) l) (same_Some _ _ (rw some.1 at h)) is
-      | inl none ↦
-          let e = bind_some (hyphen_ends loose include (b ∷ text)) (λ e. Some (hyphen_comparisons include e)) cs (rw none at h) in
-          subst (λ (l : List Comparison). IsAlternative loose include (b ∷ text) l) (same_Some _ _ e.2) (hyphen-found loose include (b ∷ text) e.0 u e.1)
+      | inl none ↦ grind (arith, nat_tests, common_steps, same_Some, hyphen-found)
     ]

@@ -21,6 +21,10 @@ hyphen-read loose include text =
 pub hyphen-none : (loose : Bool) (include : Bool) (text : List ℕ) → hyphen_of loose MAX_SAFE_INTEGER include text ≡ None → IsFound include (valid_hyphen loose include text) None
 hyphen-none loose include text h = grind (arith, nat_tests, common_steps, hyphen-read)
 
+pub hyphen-some : (loose : Bool) (include : Bool) (text : List ℕ) (e : Ended × Ended) → hyphen_of loose MAX_SAFE_INTEGER include text ≡ Some e
+    → valid_hyphen loose include text ≡ valid_only MAX_SAFE_INTEGER (hyphen_comparisons include e)
+hyphen-some loose include text e h = hyphen-read loose include text ∙ rw h refl
+
 none-left : (cs ds : List Comparison) → list_all (is_valid MAX_SAFE_INTEGER) cs ≡ false → valid_only MAX_SAFE_INTEGER (cs ++ ds) ≡ None
 none-left cs ds h = rw (list_all-append (is_valid MAX_SAFE_INTEGER) cs ds, h) refl
 
@@ -28,23 +32,23 @@ valid-both : (cs ds : List Comparison) → list_all (is_valid MAX_SAFE_INTEGER) 
     → valid_only MAX_SAFE_INTEGER (cs ++ ds) ≡ (valid_only MAX_SAFE_INTEGER ds >>? λ l. Some (cs ++ l))
 valid-both cs ds h = grind (arith, nat_tests, common_steps, list_all-append)
 
-pub lower-invalid : (loose : Bool) (include : Bool) (text : List ℕ) (e : Ended × Ended) (all : Option (Span VersionValue))
-    → hyphen_of loose MAX_SAFE_INTEGER include text ≡ Some e → NarrowedBy include all (hyphen_lower include e.0.0 e.0.1) None
-    → IsFound include (valid_hyphen loose include text) None
-lower-invalid loose include text e all h n = grind (arith, nat_tests, common_steps, hyphen-read, none-left)
+-- what is found between two ends
+abbrev Between : Bool → Ended × Ended → Option Alternative → Type 0
+Between include e r = IsFound include (valid_only MAX_SAFE_INTEGER (hyphen_comparisons include e)) r
 
-pub upper-read : (loose : Bool) (include : Bool) (text : List ℕ) (e : Ended × Ended) (all : Option (Span VersionValue)) (a : Alternative) (r : Option Alternative)
-    → hyphen_of loose MAX_SAFE_INTEGER include text ≡ Some e → IsNarrowed include [] all
-    → NarrowedBy include all (hyphen_lower include e.0.0 e.0.1) (Some a)
+pub lower-invalid : (include : Bool) (e : Ended × Ended) (all : Option (Span VersionValue))
+    → NarrowedBy include all (hyphen_lower include e.0.0 e.0.1) None → Between include e None
+lower-invalid include e all n = rw (none-left (hyphen_lower include e.0.0 e.0.1) (hyphen_upper include e.1.0 e.1.1) n) tt
+
+pub upper-read : (include : Bool) (e : Ended × Ended) (all : Option (Span VersionValue)) (a : Alternative) (r : Option Alternative)
+    → IsNarrowed include [] all → NarrowedBy include all (hyphen_lower include e.0.0 e.0.1) (Some a)
     → NarrowedBy include a.interval (hyphen_upper include e.1.0 e.1.1) r → a.is_bare ≡ is_empty (hyphen_lower include e.0.0 e.0.1)
-    → IfSome r (λ b. b.is_bare ≡ (a.is_bare && is_empty (hyphen_upper include e.1.0 e.1.1)))
-    → IsFound include (valid_hyphen loose include text) r
-upper-read loose include text e all a None h first n m k l = grind (arith, nat_tests, common_steps, hyphen-read, valid-both)
-upper-read loose include text e all a (Some b) h first n m k l =
+    → IfSome r (λ b. b.is_bare ≡ (a.is_bare && is_empty (hyphen_upper include e.1.0 e.1.1))) → Between include e r
+upper-read include e all a None first n m k l =
+    rw (valid-both (hyphen_lower include e.0.0 e.0.1) (hyphen_upper include e.1.0 e.1.1) n.0, m) tt
+upper-read include e all a (Some b) first n m k l =
     let cs = hyphen_lower include e.0.0 e.0.1 in
-    let ds = hyphen_upper include e.1.0 e.1.1 in
-    let some : valid_hyphen loose include text ≡ Some (cs ++ ds) = hyphen-read loose include text ∙ rw h (valid-both cs ds n.0 ∙ rw m.0 refl) in
-    rw some (m.1 cs (n.1 [] first), l ∙ rw k (sym (empty-append cs ds)))
+    rw (valid-both cs (hyphen_upper include e.1.0 e.1.1) n.0, m.0) (m.1 cs (n.1 [] first), l ∙ rw k (sym (empty-append cs _)))
 
 -- ---- alternatives
 

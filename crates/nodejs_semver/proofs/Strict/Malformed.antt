@@ -246,16 +246,7 @@ partial-places loose x p (two x1 y a b h k) =
     let e : after_dot y ≡ [] = rw append-nil at (dotless-passed y [] (place-dotless loose (has_zeros a) y b k)) in
     rw (d, e, place-dotted loose false x1 y a h, place-alone loose (has_zeros a) y b k, or-true (is_empty y)) refl
 partial-places loose x p (three x1 y z pre build a b c ids builds h k l m s n t) =
-    let q = z ++ (pre ++ build) in
-    let r = y ++ 46 ∷ q in
-    let d : after_dot (x1 ++ 46 ∷ r) ≡ r = dotless-passed x1 (46 ∷ r) (place-dotless loose false x1 a h) in
-    let e : after_dot r ≡ q = dotless-passed y (46 ∷ q) (place-dotless loose (has_zeros a) y b k) in
-    let first = begins-on is_first z (pre ++ build) (all-begins z (place-first loose (has_zeros a) z c l) (place-bytes loose (has_zeros a) z c l).1) in
-    rw (d, e, place-dotted loose false x1 r a h, place-dotted loose (has_zeros a) y q b k, first, or-true (is_empty r), or-true (is_empty q)) refl
-  where
-    all-begins : (z : List ℕ) → list_all is_first z ≡ true → 0 < length z → begins is_first z ≡ true
-    all-begins [] h some = absurd (omega (arith, some))
-    all-begins (b ∷ z) h some = (and_parts (is_first b) (list_all is_first z) h).0
+    grind (arith, dotless-passed, place-dotless, begins-on, place-first, place-bytes, place-dotted, or-true, and_parts)
 
 -- ---- the signs of a well-formed word
 

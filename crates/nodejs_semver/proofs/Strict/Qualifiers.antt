@@ -215,9 +215,7 @@ unfolding pre_front
 pre-found false text h = dashed_front-found false text h
 pre-found true text h = elim (cases_Bool (begins_undashed text)) [
   | inr other ↦ rw other (dashed_front-found true text (rw other at h))
-  | inl letter ↦
-      let some = undashed-begins text letter in
-      rw (letter, some) (without-dash text letter (rw (letter, some) at h))
+  | inl letter ↦ grind (arith, nat_tests, common_steps, undashed-begins, without-dash)
 ]
 
 -- build metadata, or nothing, begins with no letter
@@ -285,9 +283,7 @@ bare-taken t rest list f h s stop =
     stopped [] e = refl
     stopped (b ∷ rest) e = elim (cases_Bool (is_identifier_char b)) [
       | inr other ↦ other
-      | inl some ↦
-          let one : list_len (b ∷ rest) ≡ suc (list_len rest) = rw some (omega arith) in
-          absurd (omega (arith, e, one))
+      | inl some ↦ grind (arith, nat_tests, common_steps)
     ]
 
 -- the text is the pre-release and this rest, and the identifiers are spelled as they have to be

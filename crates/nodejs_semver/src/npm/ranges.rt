@@ -4,6 +4,9 @@ ghost use Rattle.std.specs.{Prelude.{◌&&◌, ◌<◌, ◌≡◌}, Str.IsUtf8};
 ghost use Rattle.nodejs_semver.specs.Words.{Comparison, HasAlternativesIn, IfOk, IsCutAtBars, List};
 ghost use Rattle.nodejs_semver.specs.Words.{MAX_SAFE_INTEGER, MemoryOnlyIf, NoValue, None};
 ghost use Rattle.nodejs_semver.specs.Words.{RefusedOnlyIf, length, parts, true, ℕ};
+ghost use Rattle.nodejs_semver.specs.Internal.NpmParts.{are_normal, npm_partial_view};
+ghost use Rattle.nodejs_semver.specs.Internal.NpmViews.{end_view};
+ghost use Rattle.nodejs_semver.specs.Internal.NpmWords.{hyphen_comparisons, valid_only};
 ghost use Rattle.nodejs_semver.specs.Internal.NpmReads.{AddsPart, AreAllFound, IsFound};
 ghost use Rattle.nodejs_semver.specs.Internal.NpmReads.{valid_alternative, valid_hyphen};
 ghost use Rattle.nodejs_semver.specs.Internal.NpmReads.{valid_range, words_of};
@@ -12,7 +15,7 @@ ghost use Rattle.nodejs_semver.specs.Npm.Ranges.{HasAlternatives, IsRangeIn, IsR
 
 use crate::RangeRef;
 use crate::npm::alternatives::{Alternative, range_of};
-use crate::npm::hyphens::hyphen_ends;
+use crate::npm::hyphens::{End, hyphen_ends};
 use crate::npm::malformed::{begins_malformed, ends_malformed};
 use crate::npm::words::word_front;
 use crate::range::Intervals;
@@ -38,13 +41,23 @@ fn words(loose: bool, include: bool, text: &[u8]) -> Option<Alternative<'_>>
     }
 }
 
+// The alternative between two ends of a hyphen range.
+fn between<'a>(include: bool, lower: &End<'a>, upper: &End<'a>) -> Option<Alternative<'a>>
+    requires lower { are_normal (npm_partial_view lower.now.partial) ≡ true }
+    requires upper { are_normal (npm_partial_view upper.now.partial) ≡ true }
+    ensures { IsFound include (valid_only MAX_SAFE_INTEGER (hyphen_comparisons include
+        (end_view lower.now, end_view upper.now))) result }
+{
+    let from = Alternative::all().meet_lower(include, &lower.partial, lower.text)?;
+    from.meet_upper(include, &upper.partial, upper.text)
+}
+
 // The alternative of a hyphen range.
 fn hyphen(loose: bool, include: bool, text: &[u8]) -> Option<Alternative<'_>>
     ensures { IsFound include (valid_hyphen loose include text.now) result }
 {
     let (lower, upper) = hyphen_ends(loose, include, text)?;
-    let from = Alternative::all().meet_lower(include, &lower.partial, lower.text)?;
-    from.meet_upper(include, &upper.partial, upper.text)
+    between(include, &lower, &upper)
 }
 
 /// The alternative that a text is, without whitespace around it.
