@@ -93,16 +93,7 @@ open-alike : (v w z : VersionValue) (cs ds : List Comparison) → OpenLow v w cs
     → is_interval precedence (record { lower = Before w; upper = After z }) ≡ true
     → Exact v (to_upper (After z) v) (names (After z) v) ds → Alike v (record { lower = Before w; upper = After z }) (cs ++ ds)
 open-alike v w z cs ds o h i k =
-    let none : names (Before w) v ≡ false = not_named w v (zero-release w o.zero) in
-    rw none (open_bits (is_release v) (from_lower (Before w) v) (to_upper (After z) v) (names (After z) v)
-    (λ r. lower-before w v ∙ zero_from v w r o.zero) (open-named v w z (zero-release w o.zero) h i)
-    ∙ together (passed v cs) (passed v ds) (named_by v cs) (named_by v ds) (to_upper (After z) v) (names (After z) v) (is_release v)
-    o.all o.none k.tested k.named)
-    ∙ sym (meets-both v cs ds)
-  where
-    together : (a b c d u n r : Bool) → a ≡ true → c ≡ false → u ≡ b → n ≡ d
-        → ((true && u) && (r || (false || n))) ≡ ((a && b) && (r || (c || d)))
-    together a b c d u n r e f g h = rw (e, f, g, h) refl
+    grind (arith, not_named, zero-release, open_bits, from_lower, to_upper, lower-before, zero_from, open-named, passed, named_by, meets-both)
 
 -- ---- hyphen ranges
 

@@ -93,13 +93,7 @@ none_or_some (s ∷ ss) v include = refl
 ranged_accepts : (include : Bool) (alternatives : List (List Comparison)) (os : List (Option (Span VersionValue)))
     → AreNarrowed include alternatives os → (v : VersionValue)
     → accepts (ranged (flat_map option_to_list os)) v include ≡ Npm.accepts include alternatives v
-ranged_accepts include alternatives os h v =
-    let ss = flat_map option_to_list os in
-    let opened = some_open include alternatives os h in
-    elim (cases_Bool (list_any is_unbounded ss)) [
-      | inl e ↦ rw e (open_accepts include v alternatives (sym opened ∙ e))
-      | inr e ↦ grind (arith, nat_tests, common_steps, none_or_some, all_accept, closed_accepts)
-    ]
+ranged_accepts include alternatives os h v = grind (arith, some_open, open_accepts, none_or_some, all_accept, closed_accepts)
 
 pub ranged_list : (found ss : List (Span VersionValue)) → ss ≡ ranged found → AcceptAsRanged found ss
 ranged_list found ss e include alternatives os h f v = rw (e, f) (ranged_accepts include alternatives os h v)

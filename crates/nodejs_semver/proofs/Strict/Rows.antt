@@ -116,19 +116,19 @@ module _ (include : Bool) (text : List ℕ) (a : Numbers) (r : Option Bounds) wh
 
 -- ---- the rows of a whole version
 
-pub whole_compared : (include : Bool) (c : Comparator) (v : VersionValue) (text : List ℕ) (s : Span VersionValue)
+whole_compared : (include : Bool) (c : Comparator) (v : VersionValue) (text : List ℕ) (s : Span VersionValue)
     → s ≡ compared_span c v → is_readable MAX_SAFE_INTEGER v ≡ true → counts include (comparison c v v.build text) ≡ true
     → IsCommon include (comparison c v v.build text ∷ []) s
 whole_compared include c v text s e r h = rw e (one_common include c v v.build text r h)
 
-pub always : (include : Bool) → (include || not false) ≡ true
+always : (include : Bool) → (include || not false) ≡ true
 always include = grind arith
 
 whole_valid : (c : Comparator) (v : VersionValue) (text : List ℕ) → within (first (whole v)) ≡ true → length text ≤ MAX_LENGTH
     → list_all (is_valid MAX_SAFE_INTEGER) (comparison c v v.build text ∷ []) ≡ true
 whole_valid c v text w l = rw w (grind (arith, nat_tests))
 
-pub whole_read : (include : Bool) (d : DeclaredComparator.Comparator) (c : Comparator) (v : VersionValue) (text : List ℕ) (s : Span VersionValue)
+whole_read : (include : Bool) (d : DeclaredComparator.Comparator) (c : Comparator) (v : VersionValue) (text : List ℕ) (s : Span VersionValue)
     → comparator_view d ≡ c → within (first (whole v)) ≡ true → length text ≤ MAX_LENGTH
     → IsCommon include (comparison c v v.build text ∷ []) s
     → (list_all (is_valid MAX_SAFE_INTEGER) (table include (compared (comparator_view d)) (whole v) text) ≡ true)
@@ -138,6 +138,15 @@ whole_read include d above v text s e w l h = rw e (whole_valid above v text w l
 whole_read include d equal v text s e w l h = rw e (whole_valid equal v text w l, h)
 whole_read include d at_most v text s e w l h = rw e (whole_valid at_most v text w l, h)
 whole_read include d below v text s e w l h = rw e (whole_valid below v text w l, h)
+
+-- a comparator that always counts
+pub whole_written : (include : Bool) (d : DeclaredComparator.Comparator) (c : Comparator) (v : VersionValue) (text : List ℕ) (s : Span VersionValue)
+    → comparator_view d ≡ c → within (first (whole v)) ≡ true → are_normal (whole v) ≡ true → length text ≤ MAX_LENGTH
+    → s ≡ compared_span c v → counts include (comparison c v v.build text) ≡ (include || not false)
+    → (list_all (is_valid MAX_SAFE_INTEGER) (table include (compared (comparator_view d)) (whole v) text) ≡ true)
+    × IsCommon include (table include (compared (comparator_view d)) (whole v) text) s
+whole_written include d c v text s e w n l is k =
+    whole_read include d c v text s e w l (whole_compared include c v text s is (whole_readable v w n) (k ∙ always include))
 
 pub caret_valid : (include : Bool) (v : VersionValue) → within (first (whole v)) ≡ true
     → nat_le (length (version_text (no_build v))) MAX_LENGTH ≡ true → is_valid MAX_SAFE_INTEGER (caret_from include v) ≡ true

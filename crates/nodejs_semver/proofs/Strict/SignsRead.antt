@@ -143,9 +143,7 @@ Taken loose s p marks x u text = SignTaken loose s p marks x (npm_sign text) u
 
 none-taken : (loose : Bool) (p : Partial) (marks x u : List ℕ) → are_marks loose (compared equal) p marks ≡ true
     → begins_byte 61 marks ≡ false → begins_component u ≡ true → Taken loose (compared equal) p marks x u (marks ++ u)
-none-taken loose p [] x [] h e k = cc k
-none-taken loose p [] x (b ∷ u) h e k = grind (arith, nat_tests, common_steps, plain-front, component-other)
-none-taken loose p (b ∷ marks) x u h e k = grind (arith, nat_tests, common_steps, and_parts, marks-all, plain-front)
+none-taken loose p marks x u h e k = grind (arith, plain-front, component-other, and_parts, marks-all)
 
 -- ---- behind a tilde
 

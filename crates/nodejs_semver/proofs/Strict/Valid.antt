@@ -1,12 +1,11 @@
 -- Words with a number past the limit that counts have a comparator that is not valid: they may be left out as soon as they are read.
-use Rattle.nodejs_semver.proofs.Common.{Bool, Front, List, None, Option, Some, [], above, arith, at_most, below, cases_Bool}
-use Rattle.nodejs_semver.proofs.Common.{common_steps, drop_spaces, false, if◌then◌else◌, inl, inr, is_empty, list_all}
-use Rattle.nodejs_semver.proofs.Common.{list_all-append, nat_tests, refl, suc, true, zero, ℕ, ◌&&◌, ◌++◌, ◌+◌, ◌∙◌, ◌∷◌, ◌≡◌}
-use Rattle.nodejs_semver.proofs.NpmCommon.{Comparison, Ended, Numbers, Signed, any_word, at_least, compared, from}
-use Rattle.nodejs_semver.proofs.NpmCommon.{hyphen_comparisons, hyphen_lower, hyphen_upper, is_small, is_valid, limited_hyphen}
-use Rattle.nodejs_semver.proofs.NpmCommon.{limited_word, major, minor, nat_le, under, valid_only, valid_words, wildcard}
-use Rattle.nodejs_semver.{proofs.NpmCommon.{word_front, ◌>>?◌}, specs.{Internal.NpmWords.words_within, Npm.Table.Partial}}
-use Rattle.nodejs_semver.specs.Npm.Table.{Sign, table}
+use Rattle.nodejs_semver.proofs.Common.{Bool, Front, List, None, Option, Some, [], arith, cases_Bool, common_steps, drop_spaces}
+use Rattle.nodejs_semver.proofs.Common.{false, if◌then◌else◌, inl, inr, is_empty, list_all, list_all-append, nat_tests, refl}
+use Rattle.nodejs_semver.proofs.{Common.{suc, true, zero, ℕ, ◌&&◌, ◌++◌, ◌+◌, ◌∙◌, ◌∷◌, ◌≡◌}, NpmCommon.{Comparison, Ended}}
+use Rattle.nodejs_semver.proofs.NpmCommon.{Numbers, Signed, any_word, from, hyphen_comparisons, hyphen_lower, hyphen_upper}
+use Rattle.nodejs_semver.proofs.NpmCommon.{is_small, is_valid, limited_hyphen, limited_word, major, minor, nat_le, under}
+use Rattle.nodejs_semver.{proofs.NpmCommon.{valid_only, valid_words, word_front, ◌>>?◌}, specs.Internal.NpmWords.words_within}
+use Rattle.nodejs_semver.specs.Npm.Table.{Partial, Sign, table}
 
 -- ---- three numbers
 
@@ -45,14 +44,7 @@ next-three limit a b c h = grind (arith, next-le)
 
 pub table-invalid : (limit : ℕ) (include : Bool) (s : Sign) (p : Partial) (text : List ℕ) → is_small limit p ≡ false
     → list_all (is_valid limit) (table include s p text) ≡ false
-table-invalid limit include s wildcard text h = cc h
-table-invalid limit include (compared at_least) (major M) text h = from-invalid limit include (M, 0, 0) [] (one-three limit M 0 0 h)
-table-invalid limit include (compared at_least) (minor M m) text h = from-invalid limit include (M, m, 0) [] (two-three limit M m 0 h)
-table-invalid limit include (compared above) (minor M m) text h = from-invalid limit include (M, m + 1, 0) [] (next-three limit M m 0 h)
-table-invalid limit include (compared below) (major M) text h = under-invalid limit (M, 0, 0) (one-three limit M 0 0 h)
-table-invalid limit include (compared below) (minor M m) text h = under-invalid limit (M, m, 0) (two-three limit M m 0 h)
-table-invalid limit include (compared at_most) (minor M m) text h = under-invalid limit (M, m + 1, 0) (next-three limit M m 0 h)
-table-invalid limit include s p text h = grind (arith, nat_tests, common_steps)
+table-invalid limit include s p text h = grind (arith, from-invalid, one-three, two-three, next-three, under-invalid)
 
 -- ---- the ends of a hyphen range
 
