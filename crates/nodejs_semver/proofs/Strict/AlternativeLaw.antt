@@ -3,7 +3,7 @@ use Rattle.nodejs_semver.proofs.Common.{Bool, IsBlank, IsUtf8, List, None, Some,
 use Rattle.nodejs_semver.proofs.Common.{append-nil, append_assoc, arith, begins, cases_Bool, common_steps, drop_spaces}
 use Rattle.nodejs_semver.proofs.Common.{drop_spaces-blank, drop_spaces-none, false, inl, inr, is_empty, length, list_all}
 use Rattle.nodejs_semver.proofs.Common.{nat_tests, not, or_right, refl, same_Some, space_len, subst, suc, sym, take, true, zero}
-use Rattle.nodejs_semver.proofs.{Common.{ℕ, ◌&&◌, ◌++◌, ◌+◌, ◌-◌, ◌<◌, ◌==◌, ◌||◌, ◌∙◌, ◌∷◌, ◌≡◌}, NpmCommon.AreEndMarks}
+use Rattle.nodejs_semver.proofs.{Common.{ℕ, ◌&&◌, ◌++◌, ◌-◌, ◌<◌, ◌==◌, ◌||◌, ◌∙◌, ◌∷◌, ◌≡◌}, NpmCommon.AreEndMarks}
 use Rattle.nodejs_semver.proofs.NpmCommon.{AreWords, Comparison, Ended, IsAlternative, IsPartial, IsSignText, IsWord}
 use Rattle.nodejs_semver.proofs.NpmCommon.{after_ends, alternative_of, drop_ends, end_front, hyphen_comparisons, hyphen_ends}
 use Rattle.nodejs_semver.proofs.NpmCommon.{hyphen_lower, hyphen_upper, ignored, is_free_lower, is_free_upper, is_malformed}

@@ -1,6 +1,6 @@
 -- The identifiers of the partials that are read are in normal form.
 use Rattle.nodejs_semver.proofs.Common.{Bool, Id, List, MAX_SAFE_INTEGER, Option, Some, arith, common_steps, cond_some}
-use Rattle.nodejs_semver.proofs.{Common.{is_normal, list_all, nat_tests, refl, true, ℕ, ◌-◌, ◌≡◌}, NpmCommon.{Ended, IsPartial}}
+use Rattle.nodejs_semver.proofs.{Common.{is_normal, list_all, nat_tests, refl, true, ℕ, ◌≡◌}, NpmCommon.{Ended, IsPartial}}
 use Rattle.nodejs_semver.proofs.NpmCommon.{IsStrictBuild, Signed, any_word, are_normal, end_front, hyphen_of, ignored_front}
 use Rattle.nodejs_semver.proofs.NpmCommon.{limited_end, limited_word, no_build, partial_of, plus, signed_word}
 use Rattle.nodejs_semver.proofs.{Bounds.Bounded.identifiers-normal, Strict.PartialLaw.partial-found}

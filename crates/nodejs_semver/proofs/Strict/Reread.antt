@@ -8,7 +8,7 @@ use Rattle.nodejs_semver.proofs.NpmCommon.{IsStrictPreRelease, IsStrictVersion, 
 use Rattle.nodejs_semver.proofs.NpmCommon.{dashed, digits_value, has_leading_zero, id_text, is_strict_identifier}
 use Rattle.nodejs_semver.proofs.NpmCommon.{join_with_byte, marked_list, no_build, no_pre_release, version_text}
 use Rattle.nodejs_semver.proofs.Stopping.{Read.{is_plain, plain-encodes, plain-middle}, Written.{plain-dark, plain-reverse}}
-use Rattle.{semver_core.{proofs.Text.Runs.{ascii, numerals}, specs.Text.Identifiers.is_u64_text}, std.proofs.Common.reverse}
+use Rattle.{semver_core.{proofs.Text.Runs.{numerals}, specs.Text.Identifiers.is_u64_text}, std.proofs.Common.reverse}
 use Rattle.std.proofs.lemmas.{Fmt.decimal-digits_value, List.Splits.{join_with_byte-slice_split, length-slice_split}}
 use Rattle.std.{proofs.lemmas.Str.{IsUtf8-from_ascii, chars-IsAscii}, specs.Str.IsAscii}
 use Rattle.nodejs_semver.specs.Npm.Table as Table

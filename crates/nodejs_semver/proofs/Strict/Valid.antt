@@ -3,7 +3,7 @@ use Rattle.nodejs_semver.proofs.Common.{Bool, Front, List, None, Option, Some, [
 use Rattle.nodejs_semver.proofs.Common.{false, if◌then◌else◌, inl, inr, is_empty, list_all, list_all-append, nat_tests, refl}
 use Rattle.nodejs_semver.proofs.{Common.{suc, true, zero, ℕ, ◌&&◌, ◌++◌, ◌+◌, ◌∙◌, ◌∷◌, ◌≡◌}, NpmCommon.{Comparison, Ended}}
 use Rattle.nodejs_semver.proofs.NpmCommon.{Numbers, Signed, any_word, from, hyphen_comparisons, hyphen_lower, hyphen_upper}
-use Rattle.nodejs_semver.proofs.NpmCommon.{is_small, is_valid, limited_hyphen, limited_word, major, minor, nat_le, under}
+use Rattle.nodejs_semver.proofs.NpmCommon.{is_small, is_valid, limited_hyphen, limited_word, nat_le, under}
 use Rattle.nodejs_semver.{proofs.NpmCommon.{valid_only, valid_words, word_front, ◌>>?◌}, specs.Internal.NpmWords.words_within}
 use Rattle.nodejs_semver.specs.Npm.Table.{Partial, Sign, table}
 

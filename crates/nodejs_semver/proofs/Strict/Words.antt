@@ -16,7 +16,6 @@ use Rattle.nodejs_semver.proofs.Strict.{Places.digits-begin, Signs.{blank-at, si
 use Rattle.nodejs_semver.proofs.Strict.{SignsRead.{blank-skipped, marks-all, sign-taken}, VersionLaw.empty-is}
 use Rattle.nodejs_semver.specs.{Internal.NpmWords.{ended_word, partial_front, words_within}, Npm.RangeText.more}
 use Rattle.nodejs_semver.specs.Npm.Table.{Partial, Sign, table}
-use Rattle.nodejs_semver.specs.Npm.RangeText as Text
 
 -- ---- how partials and marks begin
 
