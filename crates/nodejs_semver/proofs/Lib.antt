@@ -9,6 +9,7 @@ pub mod Everyday
 pub mod JsonTexts
 pub mod Stopping
 pub mod Strict
+pub mod NpmCommon
 pub mod NpmTexts
 pub mod Printing
 pub mod Questions

@@ -5,7 +5,7 @@ ghost use Rattle.nodejs_semver.specs.Words.{any_version, AreTaking, if_any, is_r
 ghost use Rattle.nodejs_semver.specs.Words.{list_all, MAX_SAFE_INTEGER, spans_of, TakesMemory};
 
 mod algebra;
-mod best;
+pub(crate) mod best;
 pub(crate) mod choice;
 mod equality;
 pub(crate) mod gate;

@@ -1,33 +1,24 @@
 -- Two comparisons beside each other, of which one may be of a pre-release.
-use Rattle.nodejs_semver.proofs.Common.{◌≡◌, ◌≤◌, ◌+◌, refl, sym, ap, ◌∙◌, subst, ℕ, Bool, true, false, ◌&&◌, ◌||◌, not, List, []}
-use Rattle.nodejs_semver.proofs.Common.{◌∷◌, ◌++◌, Option, Some, None, ◌==◌, and-true, and_parts, arith, cases_Bool, eqb-true, first_so, inl, inr}
-use Rattle.nodejs_semver.proofs.Common.{After, Before, Bound, Id, MAX_SAFE_INTEGER, Ordering, Span, Unbounded, VersionValue, compare, holds}
-use Rattle.nodejs_semver.proofs.Common.{is_empty, is_le, is_release, lets_in, list_all, list_all-append, meet, precedence, table, Partial}
-use Rattle.std.specs.Ordering.{is_eq, is_ge, is_lt, nat_cmp, ordering_reverse, ordering_then}
-use Rattle.std.specs.declared.cmp.Ordering.TheVariants.{Equal, Greater}
-use Rattle.semver_core.specs.Internal.OrderLaws.{pre_total}
-use Rattle.semver_core.specs.Internal.Successors.{le_weak, zero_least}
-use Rattle.semver_core.specs.Text.Identifiers.{Numeric}
-use Rattle.semver_core.specs.Values.Order.{pre_cmp}
-use Rattle.nodejs_semver.specs.Internal.NpmMeaning.{is_zero}
-use Rattle.nodejs_semver.specs.Internal.Sets.{same_triple}
-use Rattle.nodejs_semver.specs.Npm.Alike.{IsPlainPartial, is_apart, is_firm, may_have, npm_partial}
-use Rattle.nodejs_semver.specs.Npm.RangeText.{IsPartial, partial_of}
+use Rattle.nodejs_semver.proofs.Common.{After, Before, Bool, Bound, Comparator, Greater, Id, List, MAX_SAFE_INTEGER, None}
+use Rattle.nodejs_semver.proofs.Common.{Numeric, Option, Ordering, Partial, Some, Span, Unbounded, VersionValue, [], above}
+use Rattle.nodejs_semver.proofs.Common.{and-true, and_parts, ap, arith, at_most, below, cases_Bool, common_steps, compare}
+use Rattle.nodejs_semver.proofs.Common.{eqb-true, equal, false, first_so, holds, inl, inr, is_empty, is_eq, is_ge, is_le, is_lt}
+use Rattle.nodejs_semver.proofs.Common.{is_release, lets_in, list_all, list_all-append, meet, nat_tests, not, not-false}
+use Rattle.nodejs_semver.proofs.Common.{not-true, ordering_reverse, ordering_then, pre_cmp, precedence, refl, same_triple}
+use Rattle.nodejs_semver.proofs.Common.{subst, sym, table, true, version_of, ℕ, ◌&&◌, ◌++◌, ◌+◌, ◌==◌, ◌||◌, ◌∙◌, ◌∷◌, ◌≡◌}
+use Rattle.nodejs_semver.proofs.NpmCommon.{Comparison, IsPartial, IsPlainPartial, Numbers, at_least, compared, counts, from}
+use Rattle.nodejs_semver.proofs.NpmCommon.{is_firm, is_valid, is_zero, may_have, npm_partial, partial_of, release, under}
+use Rattle.nodejs_semver.proofs.{NpmCommon.zero_least, Algebra.Gate.{both, in_two_steps, lt_is, same_triple_is, triple_cmp}}
+use Rattle.nodejs_semver.proofs.{Algebra.Gate.triple_total, Alike.Ends.{Spelled, ge_is, lower-before, made-zero}}
+use Rattle.nodejs_semver.proofs.Alike.Ends.{most_major-numbers, most_minor-numbers, under-exact, upper-after, upper-before}
+use Rattle.nodejs_semver.proofs.Alike.{Ends.{whole_above-exact, whole_below-exact, whole_most-exact}, Pairs.GoodExact}
+use Rattle.nodejs_semver.proofs.Alike.Pairs.{compared-free, equal-exact, firm-good, interval-is, none_bits, release_in}
+use Rattle.nodejs_semver.proofs.Alike.{Pairs.released_bits, Rows.{Form, Good, SameWord, any, form, one, partial, signed-good}}
+use Rattle.nodejs_semver.proofs.Alike.{Rows.{text-spelled, three, two}, Tests.{IsWithin, from_lower, meets-both, named_by}}
+use Rattle.nodejs_semver.proofs.{Alike.Tests.{passed, passed-both, to_upper}, Strict.Narrowing.{holds-both, lets_in-both}}
+use Rattle.{nodejs_semver.specs.Npm.{Alike.is_apart, Table.lowest}, semver_core.specs.Internal.OrderLaws.pre_total}
 use Rattle.nodejs_semver.specs.Npm.Ranges as Npm
-use Rattle.nodejs_semver.specs.Npm.Ranges.{is_valid, satisfies}
 use Rattle.nodejs_semver.specs.Npm.Table as Table
-use Rattle.nodejs_semver.specs.Npm.Table.{Comparison, Numbers, compared, counts, from, lowest, release, under}
-use Rattle.nodejs_semver.specs.Text.Table.{version_of}
-use Rattle.nodejs_semver.specs.Text.WordText.{Comparator, above, at_least, at_most, below, equal}
-use Rattle.nodejs_semver.proofs.Algebra.Gate.{both}
-use Rattle.nodejs_semver.proofs.Algebra.Gate.{in_two_steps, lt_is, same_triple_is, triple_cmp, triple_total}
-use Rattle.nodejs_semver.proofs.Alike.Ends.{Spelled, ge_is, lower-before, made-zero, most_major-numbers, most_minor-numbers}
-use Rattle.nodejs_semver.proofs.Alike.Ends.{under-exact, upper-after, upper-before, whole_above-exact, whole_below-exact}
-use Rattle.nodejs_semver.proofs.Alike.Ends.{whole_most-exact}
-use Rattle.nodejs_semver.proofs.Alike.Pairs.{GoodExact, compared-free, equal-exact, firm-good, interval-is, none_bits, release_in, released_bits}
-use Rattle.nodejs_semver.proofs.Alike.Rows.{Form, Good, SameWord, any, form, one, partial, signed-good, text-spelled, three, two}
-use Rattle.nodejs_semver.proofs.Alike.Tests.{IsWithin, from_lower, meets-both, named_by, passed, passed-both, to_upper}
-use Rattle.nodejs_semver.proofs.Strict.Narrowing.{holds-both, lets_in-both}
 
 -- ---- versions of other numbers
 
@@ -35,18 +26,7 @@ upto_bits : (t s : Ordering) → is_le t ≡ true → is_eq t ≡ false → is_l
 upto_bits t s h k = grind arith
 
 triple_zero : (w v : VersionValue) → is_zero w ≡ true → is_le (triple_cmp w v) ≡ true
-triple_zero w v z =
-    let (major, behind_major) = and_parts (w.major == 0) _ z in
-    let (minor, behind_minor) = and_parts (w.minor == 0) _ behind_major in
-    let (patch, lists) = and_parts (w.patch == 0) _ behind_minor in
-    le_weak w.major v.major _ (omega (arith, eqb-true _ _ major))
-    (le_weak w.minor v.minor _ (omega (arith, eqb-true _ _ minor)) (last w.patch v.patch (omega (arith, eqb-true _ _ patch))))
-  where
-    then_equal : (r : Ordering) → is_le (ordering_then r Equal) ≡ is_le r
-    then_equal r = grind arith
-
-    last : (a b : ℕ) → a ≤ b → is_le (nat_cmp a b) ≡ true
-    last a b h = sym (then_equal (nat_cmp a b)) ∙ le_weak a b Equal h refl
+triple_zero w v z = grind (arith, nat_tests, common_steps, and_parts, eqb-true)
 
 -- a version of other numbers is above 0.0.0
 zero-upto : (w v : VersionValue) → is_zero w ≡ true → same_triple w v ≡ false → is_ge (precedence v w) ≡ true
@@ -61,10 +41,8 @@ turned t s e = grind arith
 
 -- and it is below a release exactly if it is below its least pre-release
 apart-lt : (v : VersionValue) (n : Numbers) → same_triple (release n) v ≡ false → is_lt (precedence v (release n)) ≡ is_lt (precedence v (lowest n))
-apart-lt v n h = ap is_lt (in_two_steps v (release n))
-    ∙ apart_bits (triple_cmp v (release n)) (pre_cmp v.pre_release []) (pre_cmp v.pre_release (Numeric 0 ∷ []))
-    (turned _ _ (triple_total.antisymm v (release n)) ∙ sym (same_triple_is (release n) v) ∙ h)
-    ∙ sym (ap is_lt (in_two_steps v (lowest n)))
+apart-lt v n h =
+    grind (arith, nat_tests, common_steps, in_two_steps, apart_bits, triple_cmp, turned, triple_total, same_triple_is)
 
 -- ---- pre-releases up to the greatest version of some numbers
 
@@ -116,9 +94,6 @@ firm-held v (Some s) cs h = h.held
 one_so : (a b : Bool) → (a || not b) ≡ true → a ≡ false → b ≡ false
 one_so a b h f = grind arith
 
-none_so : (b : Bool) → (false || not b) ≡ true → b ≡ false
-none_so b h = grind arith
-
 module _ (pre : Bool) (v : VersionValue) (within : IsWithin MAX_SAFE_INTEGER v) (r : is_release v ≡ false) (text : List ℕ) where
   abbrev Valid : List Comparison → Type 0
   Valid cs = list_all (is_valid MAX_SAFE_INTEGER) cs ≡ true
@@ -155,18 +130,15 @@ module _ (pre : Bool) (v : VersionValue) (within : IsWithin MAX_SAFE_INTEGER v) 
   whole_least-held w s f = held-both v (Before w) Unbounded (record { sign = at_least; version = w; text = text } ∷ []) []
       (elim (cases_Bool (counts false (record { sign = at_least; version = w; text = text }))) [
         | inl k ↦ rw k (lower-before w v ∙ sym (and-true _))
-        | inr k ↦ rw k (lower-before w v ∙ zero-upto w v (s.zero (opposite _ k)) f)
+        | inr k ↦ rw k (lower-before w v ∙ zero-upto w v (s.zero (not-false _ k)) f)
       ]) refl
-    where
-      opposite : (a : Bool) → not a ≡ false → a ≡ true
-      opposite a h = grind arith
 
   least-held : Rows at_least
   unfolding table
   least-held a b c x y any m t h k = held-both v (Before (release (0, 0, 0))) Unbounded [] []
-      (lower-before (release (0, 0, 0)) v ∙ zero-upto (release (0, 0, 0)) v refl (none_so _ k)) refl
-  least-held a b c x y (one M) m t h k = lower-held (M, 0, 0) h (none_so _ k)
-  least-held a b c x y (two M n) m t h k = lower-held (M, n, 0) h (none_so _ k)
+      (lower-before (release (0, 0, 0)) v ∙ zero-upto (release (0, 0, 0)) v refl (not-true _ k)) refl
+  least-held a b c x y (one M) m t h k = lower-held (M, 0, 0) h (not-true _ k)
+  least-held a b c x y (two M n) m t h k = lower-held (M, n, 0) h (not-true _ k)
   least-held a b c x y (three M n p x' y' e) m t h k =
       let w : VersionValue = record { major = M; minor = n; patch = p; pre_release = x'; build = y' } in
       elim (cases_Bool (is_firm (partial (Some M) (Some n) (Some p) x' y'))) [
@@ -187,8 +159,8 @@ module _ (pre : Bool) (v : VersionValue) (within : IsWithin MAX_SAFE_INTEGER v) 
   equal-held : Rows equal
   unfolding table
   equal-held a b c x y any m t h k = cc m
-  equal-held a b c x y (one M) m t h k = band-held (M, 0, 0) (M + 1, 0, 0) h (none_so _ k)
-  equal-held a b c x y (two M n) m t h k = band-held (M, n, 0) (M, n + 1, 0) h (none_so _ k)
+  equal-held a b c x y (one M) m t h k = band-held (M, 0, 0) (M + 1, 0, 0) h (not-true _ k)
+  equal-held a b c x y (two M n) m t h k = band-held (M, n, 0) (M, n + 1, 0) h (not-true _ k)
   equal-held a b c x y (three M n p x' y' e) m t h k =
       (equal-exact v (record { major = M; minor = n; patch = p; pre_release = x'; build = [] }) y' text).held
 
@@ -207,7 +179,7 @@ module _ (pre : Bool) (v : VersionValue) (within : IsWithin MAX_SAFE_INTEGER v) 
   unfolding table
   below-rows a b c x y any m t h k = cc m
   below-rows a b c x y (one M) m t h k = upper-held (Before (release (M, 0, 0))) (M, 0, 0)
-      (upper-before (release (M, 0, 0)) v ∙ apart-lt v (M, 0, 0) (none_so _ k) ∙ sym (and-true _))
+      (upper-before (release (M, 0, 0)) v ∙ apart-lt v (M, 0, 0) (not-true _ k) ∙ sym (and-true _))
   below-rows a b c x y (two M n) m t h k = upper-held (Before (lowest (M, n, 0))) (M, n, 0) (under-exact v (M, n, 0)).tested
   below-rows a b c x y (three M n p x' y' e) m t h k =
       let w : VersionValue = record { major = M; minor = n; patch = p; pre_release = x'; build = y' } in
@@ -229,10 +201,7 @@ none-named : false ≡ true → ⊥
 none-named e = cc
 
 named-own : (v : VersionValue) (c : Comparison) → named_by v (c ∷ []) ≡ true → Npm.names v c ≡ true
-named-own v c h = elim (cases_Bool (counts false c)) [
-  | inl k ↦ or_none (Npm.names v c) (rw k at h)
-  | inr k ↦ absurd (none-named (rw k at h))
-]
+named-own v c h = grind (arith, nat_tests, common_steps, or_none, none-named)
 
 own-version : (v : VersionValue) (c : Comparator) (w : VersionValue) (text : List ℕ)
     → named_by v (record { sign = c; version = w; text = text } ∷ []) ≡ true → same_triple w v ≡ true
@@ -241,25 +210,10 @@ own-version v c w text h = (and_parts (not (is_release w)) _ (named-own v (recor
 own-numbers : (v : VersionValue) (c : Comparator) (pre : Bool) (a b o : Option ℕ) (x y : List Id) (text : List ℕ) → Form pre a b o x y
     → is_empty x ≡ false → named_by v (Table.table false (compared c) (partial_of a b o x y) text) ≡ true
     → same_triple (version_of (partial a b o x y)) v ≡ true
-own-numbers v c pre a b o x y text any e h = cc e
-own-numbers v c pre a b o x y text (one M) e h = cc e
-own-numbers v c pre a b o x y text (two M n) e h = cc e
-own-numbers v at_least pre a b o x y text (three M n p x' y' f) e h = own-version v at_least
-    (record { major = M; minor = n; patch = p; pre_release = x'; build = y' }) text h
-own-numbers v above pre a b o x y text (three M n p x' y' f) e h = own-version v above
-    (record { major = M; minor = n; patch = p; pre_release = x'; build = y' }) text h
-own-numbers v equal pre a b o x y text (three M n p x' y' f) e h = own-version v equal
-    (record { major = M; minor = n; patch = p; pre_release = x'; build = y' }) text h
-own-numbers v at_most pre a b o x y text (three M n p x' y' f) e h = own-version v at_most
-    (record { major = M; minor = n; patch = p; pre_release = x'; build = y' }) text h
-own-numbers v below pre a b o x y text (three M n p x' y' f) e h = own-version v below
-    (record { major = M; minor = n; patch = p; pre_release = x'; build = y' }) text h
+own-numbers v c pre a b o x y text h e k = grind (arith, nat_tests, common_steps, any, one, two, three, own-version)
 
 same-right : (w u v : VersionValue) → same_triple u v ≡ true → same_triple w u ≡ same_triple w v
-same-right w u v h =
-    let (major, behind_major) = and_parts (u.major == v.major) _ h in
-    let (minor, patch) = and_parts (u.minor == v.minor) (u.patch == v.patch) behind_major in
-    rw (eqb-true _ _ major, eqb-true _ _ minor, eqb-true _ _ patch) refl
+same-right w u v h = grind (arith, nat_tests, common_steps, and_parts, eqb-true)
 
 -- ---- two comparisons
 

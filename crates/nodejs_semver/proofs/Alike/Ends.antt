@@ -1,21 +1,15 @@
 -- The ends of the spans of both tables, beside their comparators.
-use Rattle.nodejs_semver.proofs.Common.{common_steps, ◌≡◌, ◌≤◌, ◌+◌, ◌==◌, refl, sym, ap, ◌∙◌, ℕ, Bool, true, false}
-use Rattle.nodejs_semver.proofs.Common.{◌&&◌, ◌||◌, not, List, [], ◌∷◌, arith, and_parts, cases_Bool, eqb-true, inl}
-use Rattle.nodejs_semver.proofs.Common.{inr, is_le, is_gt, nat_tests, Ordering, VersionValue, and-true, After, Before}
-use Rattle.nodejs_semver.proofs.Common.{Unbounded, is_interval, is_release, ◌⊎◌, names, precedence, precedence_total}
-use Rattle.nodejs_semver.proofs.Common.{MAX_SAFE_INTEGER, is_ge, is_lt, ordering_reverse, ordering_then, Equal, Greater}
-use Rattle.nodejs_semver.proofs.Common.{codes, Numeric, pre_cmp, version_eq, above, at_most, below, empty_is}
-use Rattle.std.specs.Str.{bytes_eq}
-use Rattle.semver_core.specs.Internal.Successors.{upto_patch, zero_least}
-use Rattle.semver_core.specs.Printing.Text.{version_text}
-use Rattle.nodejs_semver.specs.Internal.NpmMeaning.{is_zero}
-use Rattle.nodejs_semver.specs.Npm.Ranges.{is_valid, satisfies}
-use Rattle.nodejs_semver.specs.Npm.Table.{Comparison, Numbers, counts, from, lowest, made, release, under}
-use Rattle.nodejs_semver.specs.Text.WordText.{at_least}
-use Rattle.nodejs_semver.proofs.Algebra.Gate.{in_two_steps, lt_is, triple_cmp}
-use Rattle.nodejs_semver.proofs.Alike.Tests.{Exact, Tame, from_lower, named_by, passed, to_upper}
-use Rattle.nodejs_semver.proofs.Strict.Printed.{prints_zero}
-use Rattle.nodejs_semver.proofs.Values.{past-after, past-before}
+use Rattle.nodejs_semver.proofs.Common.{After, Before, Bool, Equal, Greater, List, MAX_SAFE_INTEGER, Numeric, Ordering}
+use Rattle.nodejs_semver.proofs.Common.{Unbounded, VersionValue, [], above, and-true, and_parts, ap, arith, at_most, below}
+use Rattle.nodejs_semver.proofs.Common.{cases_Bool, codes, common_steps, empty_is, eqb-true, false, inl, inr, is_ge, is_gt}
+use Rattle.nodejs_semver.proofs.Common.{is_interval, is_le, is_lt, is_release, names, nat_tests, not, not-false}
+use Rattle.nodejs_semver.proofs.Common.{ordering_reverse, ordering_then, pre_cmp, precedence, precedence_total, refl, sym, true}
+use Rattle.nodejs_semver.proofs.{Common.{version_eq, ℕ, ◌&&◌, ◌+◌, ◌==◌, ◌||◌, ◌∙◌, ◌∷◌, ◌≡◌, ◌≤◌, ◌⊎◌}, NpmCommon.Comparison}
+use Rattle.nodejs_semver.proofs.NpmCommon.{Numbers, at_least, bytes_eq, counts, from, is_valid, is_zero, made, release}
+use Rattle.nodejs_semver.proofs.{NpmCommon.{satisfies, under, upto_patch, version_text, zero_least}, Algebra.Gate.in_two_steps}
+use Rattle.nodejs_semver.proofs.{Algebra.Gate.{lt_is, triple_cmp}, Alike.Tests.{Exact, Tame, from_lower, named_by, passed}}
+use Rattle.nodejs_semver.proofs.{Alike.Tests.to_upper, Strict.Printed.prints_zero, Values.{past-after, past-before}}
+use Rattle.nodejs_semver.specs.Npm.Table.{lowest}
 use Rattle.nodejs_semver.specs.Npm.Ranges as Npm
 
 -- ---- the order
@@ -106,13 +100,10 @@ under-tame v n = grind (arith, nat_tests, common_steps, under-exact, under-there
 
 -- ---- comparators that may not count
 
-opposite : (a : Bool) → not a ≡ false → a ≡ true
-opposite a h = grind arith
-
 -- `>=` of 0.0.0 alone does not count
 pub made-zero : (w : VersionValue) → is_valid MAX_SAFE_INTEGER (made at_least w) ≡ true → counts false (made at_least w) ≡ false
     → is_zero w ≡ true
-made-zero w h k = grind (arith, nat_tests, common_steps, and_parts, prints_zero, opposite)
+made-zero w h k = grind (arith, nat_tests, common_steps, and_parts, prints_zero, not-false)
 
 -- `>=M.m.p` that a table makes
 pub from-tame : (v : VersionValue) (n : Numbers) → is_valid MAX_SAFE_INTEGER (from false n) ≡ true
@@ -202,7 +193,7 @@ whole_from-firm v w text s h = counted-exact v _ _ (record { sign = at_least; ve
 pub whole_from-tame : (v w : VersionValue) (text : List ℕ) → Spelled w text → is_release w ≡ true
     → Tame v (from_lower (Before w) v) (names (Before w) v) (record { sign = at_least; version = w; text = text } ∷ [])
 whole_from-tame v w text s h = release-tame v _ _ (record { sign = at_least; version = w; text = text }) h (not_named w v h)
-    (λ _. lower-before w v) (λ r k. zero_from v w r (s.zero (opposite _ k)))
+    (λ _. lower-before w v) (λ r k. zero_from v w r (s.zero (not-false _ k)))
 
 pub whole_from-exact : (v w : VersionValue) (text : List ℕ) → Spelled w text → is_release w ≡ false
     → Exact v (from_lower (Before w) v) (names (Before w) v) (record { sign = at_least; version = w; text = text } ∷ [])
@@ -250,7 +241,7 @@ pub whole_from-either : (v w : VersionValue) (text : List ℕ) → Spelled w tex
     ⊎ OpenLow v w (record { sign = at_least; version = w; text = text } ∷ [])
 whole_from-either v w text s = elim (cases_Bool (counts false (record { sign = at_least; version = w; text = text }))) [
   | inl k ↦ inl (counted-exact v _ _ (record { sign = at_least; version = w; text = text }) k (lower-before w v) refl)
-  | inr k ↦ inr (uncounted-open v (record { sign = at_least; version = w; text = text }) (s.zero (opposite _ k)) k)
+  | inr k ↦ inr (uncounted-open v (record { sign = at_least; version = w; text = text }) (s.zero (not-false _ k)) k)
 ]
 
 open_bits : (t r : Ordering) → is_le (ordering_then t Greater) ≡ true → is_le (ordering_then t r) ≡ true

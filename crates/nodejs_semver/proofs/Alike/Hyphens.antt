@@ -1,22 +1,17 @@
 -- Hyphen ranges: their ends, and both together.
-use Rattle.std.proofs.Math.Bool.{or-true}
-use Rattle.nodejs_semver.proofs.Common.{common_steps, nat_tests, ◌≡◌, ◌+◌, ◌⊎◌, refl, sym, ◌∙◌, subst, ℕ, Bool, true}
-use Rattle.nodejs_semver.proofs.Common.{false, ◌&&◌, ◌||◌, List, [], ◌∷◌, ◌++◌, Option, Some, arith, and_parts}
-use Rattle.nodejs_semver.proofs.Common.{cases_Bool, first_so, inl, inr, is_empty, list_all, After, Before, Bound, Id}
-use Rattle.nodejs_semver.proofs.Common.{MAX_SAFE_INTEGER, Partial, Span, VersionValue, hyphen, interval, is_interval}
-use Rattle.nodejs_semver.proofs.Common.{is_release, list_all-append, names, precedence, table, is_some, version_of}
-use Rattle.nodejs_semver.proofs.Common.{at_most}
-use Rattle.nodejs_semver.specs.Npm.Alike.{IsPlainPartial, is_plain, npm_partial}
-use Rattle.nodejs_semver.specs.Npm.RangeText.{IsPartial, partial_of}
-use Rattle.nodejs_semver.specs.Npm.Ranges.{is_valid}
-use Rattle.nodejs_semver.specs.Npm.Table.{Comparison, from, hyphen_lower, hyphen_upper, lowest, made, no_build, under}
-use Rattle.nodejs_semver.proofs.Alike.Ends.{OpenLow, counted-exact, exact-tame, from-firm, from-tame}
-use Rattle.nodejs_semver.proofs.Alike.Ends.{lower-before, not_named, open-named, under-exact, under-tame, upper-after}
-use Rattle.nodejs_semver.proofs.Alike.Ends.{whole_from-either, whole_from-tame, whole_most-exact, zero-release}
-use Rattle.nodejs_semver.proofs.Alike.Ends.{zero_from}
-use Rattle.nodejs_semver.proofs.Alike.Rows.{Form, SameWord, any, exact-word, form, one, partial, tame-word}
-use Rattle.nodejs_semver.proofs.Alike.Rows.{text-spelled, three, two}
-use Rattle.nodejs_semver.proofs.Alike.Tests.{Alike, Exact, Tame, from_lower, meets-both, named_by, passed, to_upper}
+use Rattle.nodejs_semver.proofs.Common.{After, Before, Bool, Bound, Id, List, MAX_SAFE_INTEGER, Option, Partial, Some, Span}
+use Rattle.nodejs_semver.proofs.Common.{VersionValue, [], and_parts, arith, at_most, cases_Bool, common_steps, false, first_so}
+use Rattle.nodejs_semver.proofs.Common.{hyphen, inl, inr, interval, is_empty, is_interval, is_release, is_some, list_all}
+use Rattle.nodejs_semver.proofs.Common.{list_all-append, names, nat_tests, precedence, refl, subst, sym, table, true}
+use Rattle.nodejs_semver.proofs.{Common.{version_of, ℕ, ◌&&◌, ◌++◌, ◌+◌, ◌||◌, ◌∙◌, ◌∷◌, ◌≡◌, ◌⊎◌}, NpmCommon.Comparison}
+use Rattle.nodejs_semver.proofs.NpmCommon.{IsPartial, IsPlainPartial, from, hyphen_lower, hyphen_upper, is_plain, is_valid}
+use Rattle.nodejs_semver.proofs.{NpmCommon.{made, npm_partial, or-true, partial_of, under}, Alike.Ends.{OpenLow, counted-exact}}
+use Rattle.nodejs_semver.proofs.Alike.Ends.{exact-tame, from-firm, from-tame, lower-before, not_named, open-named, under-exact}
+use Rattle.nodejs_semver.proofs.Alike.Ends.{under-tame, upper-after, whole_from-either, whole_from-tame, whole_most-exact}
+use Rattle.nodejs_semver.proofs.Alike.{Ends.{zero-release, zero_from}, Rows.{Form, SameWord, any, exact-word, form, one}}
+use Rattle.nodejs_semver.proofs.Alike.{Rows.{partial, tame-word, text-spelled, three, two}, Tests.{Alike, Exact, Tame}}
+use Rattle.nodejs_semver.{proofs.Alike.Tests.{from_lower, meets-both, named_by, passed, to_upper}, specs.Npm.Table.lowest}
+use Rattle.nodejs_semver.specs.Npm.Table.{no_build}
 
 -- ---- the lower end
 
@@ -98,16 +93,7 @@ open-alike : (v w z : VersionValue) (cs ds : List Comparison) → OpenLow v w cs
     → is_interval precedence (record { lower = Before w; upper = After z }) ≡ true
     → Exact v (to_upper (After z) v) (names (After z) v) ds → Alike v (record { lower = Before w; upper = After z }) (cs ++ ds)
 open-alike v w z cs ds o h i k =
-    let none : names (Before w) v ≡ false = not_named w v (zero-release w o.zero) in
-    rw none (open_bits (is_release v) (from_lower (Before w) v) (to_upper (After z) v) (names (After z) v)
-    (λ r. lower-before w v ∙ zero_from v w r o.zero) (open-named v w z (zero-release w o.zero) h i)
-    ∙ together (passed v cs) (passed v ds) (named_by v cs) (named_by v ds) (to_upper (After z) v) (names (After z) v) (is_release v)
-    o.all o.none k.tested k.named)
-    ∙ sym (meets-both v cs ds)
-  where
-    together : (a b c d u n r : Bool) → a ≡ true → c ≡ false → u ≡ b → n ≡ d
-        → ((true && u) && (r || (false || n))) ≡ ((a && b) && (r || (c || d)))
-    together a b c d u n r e f g h = rw (e, f, g, h) refl
+    grind (arith, not_named, zero-release, open_bits, from_lower, to_upper, lower-before, zero_from, open-named, passed, named_by, meets-both)
 
 -- ---- hyphen ranges
 

@@ -1,23 +1,15 @@
 -- Two comparisons beside each other, and hyphen ranges.
-use Rattle.nodejs_semver.proofs.Common.{◌≡◌, refl, ap₂, ◌∙◌, subst, ℕ, Bool, true, false, ◌&&◌, ◌||◌, not, List, []}
-use Rattle.nodejs_semver.proofs.Common.{◌∷◌, Option, Some, None, arith, is_empty, list_all}
-use Rattle.nodejs_semver.proofs.Common.{After, Before, Id, MAX_SAFE_INTEGER, Partial, Span, Unbounded, VersionValue, compare}
-use Rattle.nodejs_semver.proofs.Common.{interval, is_release, lets_in, names, precedence, table}
-use Rattle.std.specs.Ordering.{is_eq}
-use Rattle.std.specs.Prelude.{is_some}
-use Rattle.nodejs_semver.specs.Npm.Alike.{IsPlainPartial, is_firm, is_plain, may_have, npm_partial}
-use Rattle.nodejs_semver.specs.Npm.RangeText.{IsPartial, partial_of}
-use Rattle.nodejs_semver.specs.Npm.Ranges.{is_valid}
+use Rattle.nodejs_semver.proofs.Common.{After, Before, Bool, Comparator, Id, List, MAX_SAFE_INTEGER, None, Option, Partial}
+use Rattle.nodejs_semver.proofs.Common.{Some, Span, Unbounded, VersionValue, [], above, arith, at_most, below, common_steps}
+use Rattle.nodejs_semver.proofs.Common.{compare, equal, false, interval, is_empty, is_release, lets_in, list_all, nat_tests}
+use Rattle.nodejs_semver.proofs.Common.{not-true, precedence, refl, subst, table, true, ℕ, ◌&&◌, ◌||◌, ◌∷◌, ◌≡◌}
+use Rattle.nodejs_semver.proofs.NpmCommon.{Comparison, IsPartial, IsPlainPartial, at_least, compared, is_firm, is_plain}
+use Rattle.nodejs_semver.proofs.{NpmCommon.{is_valid, may_have, npm_partial, partial_of}, Alike.Ends.lower-before}
+use Rattle.nodejs_semver.proofs.Alike.Ends.{no_lower-exact, no_upper-exact, upper-after, whole_above-exact, whole_below-exact}
+use Rattle.nodejs_semver.proofs.Alike.{Ends.{whole_from-firm, whole_most-exact}, Rows.{Form, Good, SameWord, any, form, one}}
+use Rattle.nodejs_semver.proofs.Alike.{Rows.{partial, signed-good, text-spelled, three, two}, Tests.{ExactWord, IsWithin}}
+use Rattle.nodejs_semver.proofs.Alike.Tests.{exact-span, from_lower, to_upper}
 use Rattle.nodejs_semver.specs.Npm.Table as Npm
-use Rattle.nodejs_semver.specs.Npm.Table.{Comparison, compared, from, hyphen_lower, hyphen_upper, lowest, release, under}
-use Rattle.nodejs_semver.specs.Text.WordText.{Comparator, above, at_least, at_most, below, equal}
-use Rattle.nodejs_semver.proofs.Alike.Ends.{lower-before, no_lower-exact, no_upper-exact}
-use Rattle.nodejs_semver.proofs.Alike.Ends.{upper-after, whole_above-exact, whole_below-exact}
-use Rattle.nodejs_semver.proofs.Alike.Ends.{whole_from-firm, whole_most-exact}
-use Rattle.nodejs_semver.proofs.Alike.Rows.{Form, Good, SameWord, any, form, one, partial, signed-good, text-spelled}
-use Rattle.nodejs_semver.proofs.Alike.Rows.{three, two}
-use Rattle.nodejs_semver.proofs.Alike.Tests.{ExactWord, IsWithin, exact-span, from_lower}
-use Rattle.nodejs_semver.proofs.Alike.Tests.{to_upper}
 
 -- ---- what two spans have in common
 
@@ -51,14 +43,8 @@ equal_names r n = grind arith
 
 pub equal-exact : (v w : VersionValue) (build : List Id) (text : List ℕ) → ExactWord v (record { lower = Before w; upper = After w })
     (record { sign = equal; version = record w { build = build }; text = text } ∷ [])
-equal-exact v w build text = record {
-  held = equal_tests (from_lower (Before w) v) (to_upper (After w) v) (is_eq (precedence v w))
-      (ap₂ (λ (a b : Bool). a && b) (lower-before w v) (upper-after w v) ∙ grind arith);
-  let_in = equal_names (is_release v) (names (Before w) v);
-}
-
-opposite : (a : Bool) → not a ≡ true → a ≡ false
-opposite a h = grind arith
+equal-exact v w build text =
+    grind (arith, nat_tests, common_steps, equal_tests, from_lower, to_upper, lower-before, upper-after, equal_names)
 
 pub firm-good : (v : VersionValue) (c : Comparator) (pre : Bool) (a b o : Option ℕ) (x y : List Id) (text : List ℕ) → Form pre a b o x y
     → is_firm (partial a b o x y) ≡ true → IsPartial false text (partial_of a b o x y)
@@ -70,7 +56,7 @@ firm-good v c pre a b o x y text (two M n) f t = cc f
 firm-good v at_least pre a b o x y text (three M n p x' y' e) f t =
     let w : VersionValue = record { major = M; minor = n; patch = p; pre_release = x'; build = y' } in
     exact-span v (Before w) Unbounded (record { sign = at_least; version = w; text = text } ∷ []) []
-    (whole_from-firm v w text (text-spelled text w t) (opposite _ f)) (no_upper-exact v)
+    (whole_from-firm v w text (text-spelled text w t) (not-true _ f)) (no_upper-exact v)
 firm-good v above pre a b o x y text (three M n p x' y' e) f t =
     let w : VersionValue = record { major = M; minor = n; patch = p; pre_release = x'; build = y' } in
     exact-span v (After w) Unbounded (record { sign = above; version = w; text = text } ∷ []) [] (whole_above-exact v w text) (no_upper-exact v)
@@ -89,12 +75,7 @@ free_bits : (pre a b e : Bool) → (a && (b && (pre || e))) ≡ true → e ≡ t
 free_bits pre a b e h f = grind arith
 
 plain-free : (pre : Bool) (p : Partial) → is_plain pre p ≡ true → is_empty p.pre_release ≡ true → is_plain false p ≡ true
-plain-free pre p h e = by p.patch h
-  where
-    by : (c : Option ℕ) → is_plain pre (partial p.major p.minor c p.pre_release p.build) ≡ true
-        → is_plain false (partial p.major p.minor c p.pre_release p.build) ≡ true
-    by (Some n) h = free_bits pre (is_some p.major) (is_some p.minor) (is_empty p.pre_release) h e
-    by None h = h
+plain-free pre p h e = grind (arith, nat_tests, common_steps, partial, free_bits)
 
 pub compared-free : (pre : Bool) (v : VersionValue) (c : Comparator) (x : List ℕ) (p : Partial) (s : Span VersionValue)
     → IsWithin MAX_SAFE_INTEGER v → IsPlainPartial MAX_SAFE_INTEGER pre x p → may_have (compared c) p ≡ true

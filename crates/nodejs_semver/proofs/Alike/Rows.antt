@@ -1,29 +1,21 @@
 -- The rows of both tables, sign by sign.
-use Rattle.nodejs_semver.proofs.Common.{◌≡◌, ◌+◌, refl, sym, ap, ap₂, ◌∙◌, subst, ℕ, zero, suc, Bool, true, false, ◌&&◌, ◌||◌, List, []}
-use Rattle.nodejs_semver.proofs.Common.{◌∷◌, ◌++◌, Option, Some, None, arith, cases_Bool, first_so, inl, inr, is_empty, list_all}
-use Rattle.nodejs_semver.proofs.Common.{After, Before, Bound, Id, MAX_SAFE_INTEGER, Partial, Span, Unbounded, VersionValue, is_release}
-use Rattle.nodejs_semver.proofs.Common.{names, precedence, table, nat_tests, ◌==◌}
-use Rattle.std.specs.Ordering.{is_eq}
-use Rattle.std.specs.Prelude.{codes}
-use Rattle.std.proofs.lemmas.Slice.Eq.{bytes_eq-Decides}
-use Rattle.nodejs_semver.specs.Internal.Fronts.{Front, build_front}
-use Rattle.nodejs_semver.specs.Internal.NpmMeaning.{is_zero}
-use Rattle.nodejs_semver.specs.Internal.NpmReadings.{dashed_front}
-use Rattle.semver_core.specs.Text.Identifiers.{listed}
-use Rattle.nodejs_semver.specs.Internal.NpmWords.{partial_front, place_front, dotted_place, dotted_patch, patch_place, qualified_partial, pre_front}
-use Rattle.nodejs_semver.specs.Npm.Alike.{IsPlainWord, bare, is_plain, may_have, signed, word_of}
-use Rattle.nodejs_semver.specs.Npm.RangeText.{IsPartial, partial_of}
-use Rattle.nodejs_semver.specs.Npm.Ranges.{is_valid}
-use Rattle.nodejs_semver.specs.Npm.Table as Npm
-use Rattle.nodejs_semver.specs.Npm.Table.{Comparison, Numbers, Sign, compared, counts, from, lowest, made, minor, next_changed, release, under, whole}
-use Rattle.nodejs_semver.specs.Text.WordText.{Word, above, at_least, at_most, below, equal, plain}
-use Rattle.nodejs_semver.proofs.Alike.Ends.{Spelled, any-tame, below-tame, exact-tame, from-tame, lower-before, made-spelled, most_major-tame}
-use Rattle.nodejs_semver.proofs.Alike.Ends.{most_minor-tame, no_lower, no_lower-exact, no_upper, no_upper-exact, not_named, open-tame}
-use Rattle.nodejs_semver.proofs.Alike.Ends.{under-exact, under-tame, upper-after, whole_above-exact, whole_below-exact}
-use Rattle.nodejs_semver.proofs.Alike.Ends.{whole_from-exact, whole_from-tame, whole_most-exact}
+use Rattle.nodejs_semver.proofs.Common.{After, Before, Bool, Bound, Front, Id, List, MAX_SAFE_INTEGER, None, Option, Partial}
+use Rattle.nodejs_semver.proofs.Common.{Some, Span, Unbounded, VersionValue, Word, [], above, ap, arith, at_most, below}
+use Rattle.nodejs_semver.proofs.Common.{cases_Bool, codes, common_steps, equal, false, first_so, inl, inr, is_empty, is_release}
+use Rattle.nodejs_semver.proofs.Common.{list_all, names, nat_tests, plain, refl, subst, suc, sym, table, true, zero, ℕ, ◌&&◌}
+use Rattle.nodejs_semver.proofs.{Common.{◌++◌, ◌+◌, ◌==◌, ◌||◌, ◌∙◌, ◌∷◌, ◌≡◌}, NpmCommon.{Comparison, IsPartial, IsPlainWord}}
+use Rattle.nodejs_semver.proofs.NpmCommon.{Numbers, at_least, build_front, bytes_eq-Decides, compared, dashed_front}
+use Rattle.nodejs_semver.proofs.NpmCommon.{dotted_patch, dotted_place, from, is_plain, is_valid, is_zero, listed, made}
+use Rattle.nodejs_semver.proofs.NpmCommon.{may_have, minor, next_changed, partial_of, patch_place, place_front, pre_front}
+use Rattle.nodejs_semver.proofs.{NpmCommon.{qualified_partial, release, signed, under, whole}, Alike.Ends.{Spelled, any-tame}}
+use Rattle.nodejs_semver.proofs.Alike.Ends.{below-tame, exact-tame, from-tame, lower-before, made-spelled, most_major-tame}
+use Rattle.nodejs_semver.proofs.Alike.Ends.{most_minor-tame, no_lower, no_lower-exact, no_upper, no_upper-exact, not_named}
+use Rattle.nodejs_semver.proofs.Alike.Ends.{open-tame, under-exact, under-tame, upper-after, whole_above-exact}
+use Rattle.nodejs_semver.proofs.Alike.Ends.{whole_below-exact, whole_from-exact, whole_from-tame, whole_most-exact}
 use Rattle.nodejs_semver.proofs.Alike.Tests.{Alike, Exact, IsWithin, Released, Tame, exact-both, from_lower, tame-both}
-use Rattle.nodejs_semver.proofs.Alike.Tests.{tame-released, to_upper}
-use Rattle.nodejs_semver.proofs.Strict.PartialLaw.{partial-read}
+use Rattle.nodejs_semver.proofs.{Alike.Tests.{tame-released, to_upper}, Strict.PartialLaw.partial-read}
+use Rattle.nodejs_semver.specs.{Internal.NpmWords.partial_front, Npm.{Alike.{bare, word_of}, Table.{Sign, lowest}}}
+use Rattle.nodejs_semver.specs.Npm.Table as Npm
 
 -- a span and comparators accept alike, and where no pre-release is written releases alone
 pub record SameWord (pre : Bool) (v : VersionValue) (s : Span VersionValue) (cs : List Comparison) : Type 0 where
@@ -47,10 +39,7 @@ written pre r h e f = grind arith
 pub exact-word : (pre r : Bool) (v : VersionValue) (b u : Bound VersionValue) (cs ds : List Comparison) → (pre || r) ≡ true → r ≡ false
     → Exact v (from_lower b v) (names b v) cs → Exact v (to_upper u v) (names u v) ds
     → SameWord pre v (record { lower = b; upper = u }) (cs ++ ds)
-exact-word pre r v b u cs ds p e h k = record {
-  same = exact-both v b u cs ds h k;
-  released = λ f. absurd (written pre r p e f);
-}
+exact-word pre r v b u cs ds p e h k = grind (arith, nat_tests, common_steps, exact-both, written)
 
 -- ---- whole versions
 
@@ -61,14 +50,8 @@ equal_bits g l e r n h = grind arith
 equal-word : (pre : Bool) (v w : VersionValue) (build : List Id) (text : List ℕ) → (pre || is_release w) ≡ true
     → SameWord pre v (record { lower = Before w; upper = After w })
     (record { sign = equal; version = record w { build = build }; text = text } ∷ [])
-equal-word pre v w build text p = record {
-  same = equal_bits (from_lower (Before w) v) (to_upper (After w) v) (is_eq (precedence v w)) (is_release v) (names (Before w) v)
-      (ap₂ (λ (a b : Bool). a && b) (lower-before w v) (upper-after w v) ∙ grind arith);
-  released = λ f r. let h : is_release w ≡ true = sure pre (is_release w) p f in rw (h, r) (grind arith);
-}
-  where
-    sure : (a b : Bool) → (a || b) ≡ true → a ≡ false → b ≡ true
-    sure a b h f = grind arith
+equal-word pre v w build text p =
+    grind (arith, nat_tests, common_steps, equal_bits, from_lower, to_upper, lower-before, upper-after)
 
 -- a comparator of a whole version with a bound
 module _ (pre : Bool) (v w : VersionValue) (text : List ℕ) (p : (pre || is_release w) ≡ true) where

@@ -1,15 +1,10 @@
 -- A version and a span, and what it says of a list of comparators: two ends of a span, each beside comparators.
-use Rattle.nodejs_semver.proofs.Common.{◌≡◌, ◌≤◌, sym, ap, ap₂, ◌∙◌, ℕ, Bool, true, false, ◌&&◌, ◌||◌, not, List, ◌++◌}
-use Rattle.nodejs_semver.proofs.Common.{and_parts, arith, list_all, list_any, list_all-append, list_any-append, nat_tests}
-use Rattle.nodejs_semver.proofs.Common.{Bound, Span, VersionValue, holds, is_past, is_release, lets_in, lower_cut, names}
-use Rattle.nodejs_semver.proofs.Common.{precedence, upper_cut}
-use Rattle.std.proofs.lemmas.List.Elements.{filter-append}
-use Rattle.std.specs.List.{filter}
-use Rattle.std.specs.Prelude.{nat_le}
-use Rattle.semver_core.specs.Printing.RoundTrip.{is_within}
+use Rattle.nodejs_semver.proofs.Common.{Bool, Bound, List, Span, VersionValue, and_parts, ap, ap₂, arith, common_steps, false}
+use Rattle.nodejs_semver.proofs.Common.{filter, holds, is_past, is_release, lets_in, list_all, list_all-append, list_any}
+use Rattle.nodejs_semver.proofs.Common.{list_any-append, lower_cut, names, nat_tests, not, precedence, sym, true, upper_cut, ℕ}
+use Rattle.nodejs_semver.proofs.{Common.{◌&&◌, ◌++◌, ◌||◌, ◌∙◌, ◌≡◌, ◌≤◌}, NpmCommon.{Comparison, counts, filter-append}}
+use Rattle.nodejs_semver.proofs.NpmCommon.{is_within, meets, satisfies}
 use Rattle.nodejs_semver.specs.Npm.Ranges as Npm
-use Rattle.nodejs_semver.specs.Npm.Ranges.{meets, satisfies}
-use Rattle.nodejs_semver.specs.Npm.Table.{Comparison, counts}
 
 -- no number of the version is above the limit
 pub record IsWithin (limit : ℕ) (v : VersionValue) : Type 0 where
@@ -18,13 +13,7 @@ pub record IsWithin (limit : ℕ) (v : VersionValue) : Type 0 where
   pub patch : v.patch ≤ limit
 
 pub within : (limit : ℕ) (v : VersionValue) → is_within limit v ≡ true → IsWithin limit v
-within limit v h =
-    let (major, behind) = and_parts (nat_le v.major limit) _ h in
-    let (minor, patch) = and_parts (nat_le v.minor limit) _ behind in
-    record { major = small v.major major; minor = small v.minor minor; patch = small v.patch patch }
-  where
-    small : (n : ℕ) → nat_le n limit ≡ true → n ≤ limit
-    small n k = grind (arith, nat_tests)
+within limit v h = grind (arith, nat_tests, common_steps, and_parts)
 
 -- the comparators that count are satisfied, and some one of them names a pre-release of the same numbers
 abbrev pub passed : VersionValue → List Comparison → Bool
@@ -88,9 +77,7 @@ tame-both v b u cs ds h k =
     ∙ sym (meets-both v cs ds)
 
 pub tame-released : (v : VersionValue) (t n u m : Bool) (cs ds : List Comparison) → Tame v t n cs → Tame v u m ds → Released v (cs ++ ds)
-tame-released v t n u m cs ds h k e =
-    meets-both v cs ds
-    ∙ apart_bits (is_release v) (passed v cs) (named_by v cs) (passed v ds) (named_by v ds) e h.there k.there
+tame-released v t n u m cs ds h k e = grind (arith, nat_tests, common_steps, meets-both, apart_bits)
 
 pub exact-both : (v : VersionValue) (b u : Bound VersionValue) (cs ds : List Comparison) → Exact v (from_lower b v) (names b v) cs
     → Exact v (to_upper u v) (names u v) ds → Alike v (record { lower = b; upper = u }) (cs ++ ds)
@@ -103,7 +90,4 @@ pub record ExactWord (v : VersionValue) (s : Span VersionValue) (cs : List Compa
 
 pub exact-span : (v : VersionValue) (b u : Bound VersionValue) (cs ds : List Comparison) → Exact v (from_lower b v) (names b v) cs
     → Exact v (to_upper u v) (names u v) ds → ExactWord v (record { lower = b; upper = u }) (cs ++ ds)
-exact-span v b u cs ds h k = record {
-  held = rw (h.tested, k.tested) (sym (passed-both v cs ds));
-  let_in = rw (h.named, k.named) (ap (λ n. is_release v || n) (sym (named-both v cs ds)));
-}
+exact-span v b u cs ds h k = grind (arith, nat_tests, common_steps, passed-both, named-both)

@@ -1,43 +1,29 @@
 -- Plain texts: what they mean here, their alternatives to node-semver, and that both accept the same versions.
-use Rattle.nodejs_semver.proofs.Common.{◌≡◌, refl, sym, ap, ap₂, ◌∙◌, subst, ℕ, Bool, true, false, ◌&&◌, ◌||◌, not, List, [], ◌∷◌, ◌++◌}
-use Rattle.nodejs_semver.proofs.Common.{AllByRecursion, AreCommonParts, IsBlank, IsSign, IsTrim, IsUtf8, MAX_SAFE_INTEGER, Span, Word}
-use Rattle.nodejs_semver.proofs.Common.{VersionValue, accepts, append-nil, append_assoc, arith, cases_Bool, first_so, inl}
-use Rattle.std.proofs.Common.{lit<}
-use Rattle.nodejs_semver.proofs.Common.{length, ◌<◌}
-use Rattle.nodejs_semver.proofs.Common.{inr, is_empty, is_release, list_all, list_any, second_so, trim}
-use Rattle.std.specs.Char.{encode_utf8}
-use Rattle.std.specs.List.{filter}
-use Rattle.std.specs.Prelude.{codes}
-use Rattle.semver_core.proofs.Text.Trims.{trim_is_middle}
-use Rattle.semver_core.specs.Printing.RoundTrip.{is_within}
-use Rattle.nodejs_semver.specs.Internal.Parts.{cut_bars}
-use Rattle.nodejs_semver.specs.Npm.Alike.{ArePlain, IsPlainAlternative, IsPlainText, IsPlainWord, bare, between, more}
-use Rattle.nodejs_semver.specs.Npm.Alike.{one, one_word, signed, two_words}
+use Rattle.nodejs_semver.proofs.Common.{AllByRecursion, AreCommonParts, Bool, Comparator, IsBlank, IsSign, IsTrim, IsUtf8, List}
+use Rattle.nodejs_semver.proofs.Common.{MAX_SAFE_INTEGER, Means, Span, VersionValue, Word, [], above, accepts, any_weaker, ap}
+use Rattle.nodejs_semver.proofs.Common.{append-nil, append_assoc, ap₂, arith, at_most, below, cases_Bool, codes, common_steps}
+use Rattle.nodejs_semver.proofs.Common.{cut_bars, encode_utf8, equal, false, filter, first_so, inl, inr, is_empty, is_release}
+use Rattle.nodejs_semver.proofs.Common.{length, list_all, list_any, nat_tests, not, refl, second_so, subst, sym, trim}
+use Rattle.nodejs_semver.proofs.Common.{trim_is_middle, true, ℕ, ◌&&◌, ◌++◌, ◌<◌, ◌||◌, ◌∙◌, ◌∷◌, ◌≡◌}
+use Rattle.nodejs_semver.proofs.NpmCommon.{AreAlternatives, AreEndMarks, Comparison, HasAlternatives, IsAlternative}
+use Rattle.nodejs_semver.proofs.NpmCommon.{IsPlainText, IsPlainWord, IsSignText, IsWord, are_marks, at_least, compared, counts}
+use Rattle.nodejs_semver.proofs.NpmCommon.{is_free_lower, is_free_upper, is_valid, is_within, lit<, meets, more, none, one_word}
+use Rattle.nodejs_semver.proofs.{NpmCommon.{signed, spelling, two_words}, Alike.{Beside.two-good, Hyphens.between-good}}
+use Rattle.nodejs_semver.proofs.Alike.{Rows.{Good, SameWord, word-good}, Tests.{IsWithin, within}}
+use Rattle.nodejs_semver.proofs.Dividing.{BarsDivide.bars_divide, MeaningLaw.pieces-utf8}
+use Rattle.nodejs_semver.proofs.Everyday.Texts.{common_parts_are_denoted, compact-trim, cut-first, cut-last, list-some}
+use Rattle.nodejs_semver.proofs.{Everyday.{Texts.part-tidy, Words.{Compact, is_part_byte}}, Reading.Bytes.all-join}
+use Rattle.nodejs_semver.{proofs.Strict.{Once.alternatives_once, Rows.either_true}, specs.Npm.Alike.ArePlain}
+use Rattle.nodejs_semver.specs.Npm.{Alike.{IsPlainAlternative, bare, between, one}, RangeText.next, Ranges.IsRangeOf}
+use Rattle.nodejs_semver.specs.{Npm.Table.Sign, Text.Common.{IsCommonPart, IsCommonWord, IsGap, caret_word, compare_word}}
+use Rattle.nodejs_semver.specs.Text.Common.{comparison, hyphen_word, more_parts, one_part, plain_word, tilde_word}
+use Rattle.nodejs_semver.specs.Text.{Common.two_comparisons, WordText.{above_sign, at_least_sign, at_most_sign, below_sign}}
+use Rattle.nodejs_semver.specs.Text.WordText.{equal_sign}
 use Rattle.nodejs_semver.specs.Npm.RangeText as Npm
-use Rattle.nodejs_semver.specs.Npm.RangeText.{AreAlternatives, AreEndMarks, IsAlternative, IsSignText, is_free_lower, is_free_upper, IsWord, are_marks, next, none, spelling}
 use Rattle.nodejs_semver.specs.Npm.Ranges as Ranges
-use Rattle.nodejs_semver.specs.Npm.Ranges.{HasAlternatives, IsRangeOf, is_valid, meets}
 use Rattle.nodejs_semver.specs.Npm.Table as Table
-use Rattle.nodejs_semver.specs.Npm.Table.{Comparison, Sign, compared, counts, major, minor, whole, wildcard}
 use Rattle.nodejs_semver.specs.Text.Common as Common
-use Rattle.nodejs_semver.specs.Text.Common.{IsCommonPart, IsCommonWord, IsGap, caret_word, compare_word, comparison, more_parts, one_part}
-use Rattle.nodejs_semver.specs.Text.Common.{hyphen_word, plain_word, tilde_word, two_comparisons}
-use Rattle.nodejs_semver.specs.Text.Meaning.{Means}
-use Rattle.nodejs_semver.specs.Text.WordText.{Comparator, above, above_sign, at_least, at_least_sign, at_most, at_most_sign, below}
-use Rattle.nodejs_semver.specs.Text.WordText.{below_sign, equal, equal_sign}
-use Rattle.nodejs_semver.proofs.Algebra.FlatMaps.{any_weaker}
-use Rattle.nodejs_semver.proofs.Alike.Hyphens.{between-good}
-use Rattle.nodejs_semver.proofs.Alike.Beside.{two-good}
-use Rattle.nodejs_semver.proofs.Alike.Rows.{Good, SameWord, word-good}
-use Rattle.nodejs_semver.proofs.Alike.Tests.{IsWithin, within}
-use Rattle.nodejs_semver.proofs.Dividing.BarsDivide.{bars_divide}
 use Rattle.nodejs_semver.proofs.Dividing.MeaningLaw as meaning
-use Rattle.nodejs_semver.proofs.Dividing.MeaningLaw.{pieces-utf8}
-use Rattle.nodejs_semver.proofs.Everyday.Words.{Compact, is_part_byte}
-use Rattle.nodejs_semver.proofs.Everyday.Texts.{common_parts_are_denoted, compact-trim, cut-first, cut-last, list-some, part-tidy}
-use Rattle.nodejs_semver.proofs.Reading.Bytes.{all-join}
-use Rattle.nodejs_semver.proofs.Strict.Once.{alternatives_once}
-use Rattle.nodejs_semver.proofs.Strict.Rows.{either_true}
 
 -- ---- here
 
@@ -78,13 +64,7 @@ plain-means text list all u h = (meaning.one_meaning MAX_SAFE_INTEGER text list 
 -- ---- to node-semver
 
 no_marks : (s : Sign) (p : Table.Partial) → are_marks false s p [] ≡ true
-no_marks (compared at_least) p = grind arith
-no_marks (compared above) p = grind arith
-no_marks (compared equal) p = grind arith
-no_marks (compared at_most) p = grind arith
-no_marks (compared below) p = grind arith
-no_marks Table.caret p = refl
-no_marks Table.tilde p = refl
+no_marks s p = grind (arith, nat_tests, common_steps)
 
 no_blank : IsBlank []
 no_blank = record { characters = []; each = refl; spelled = refl }
@@ -199,8 +179,7 @@ each-same : (pre : Bool) (v : VersionValue) (text : List ℕ) (list : List (Span
 each-same pre v text list all w (one t s cs h) k =
     ap (λ (a : Bool). a || false) (part-same pre v t s cs w h (first_so (list_all (is_valid MAX_SAFE_INTEGER) cs) true k)).same
 each-same pre v text list all w (more t before after rest s cs ss others h b a m) k =
-    ap₂ (λ (x y : Bool). x || y) (part-same pre v t s cs w h (first_so (list_all (is_valid MAX_SAFE_INTEGER) cs) _ k)).same
-    (each-same pre v rest ss others w m (second_so (list_all (is_valid MAX_SAFE_INTEGER) cs) _ k))
+    grind (arith, nat_tests, common_steps, part-same, each-same pre v rest ss others w m)
 
 -- where no pre-release is written, none is accepted
 each-released : (pre : Bool) (v : VersionValue) (text : List ℕ) (list : List (Span VersionValue)) (all : List (List Comparison))
@@ -218,16 +197,7 @@ is_bare cs = not (list_any (counts false) cs)
 
 none-counted : (cs : List Comparison) → is_bare cs ≡ true → filter (counts false) cs ≡ []
 none-counted [] h = refl
-none-counted (c ∷ cs) h = elim (cases_Bool (counts false c)) [
-  | inl e ↦ absurd (differ (counts false c) (list_any (counts false) cs) e h)
-  | inr e ↦ rw e (none-counted cs (rest (counts false c) (list_any (counts false) cs) h))
-]
-  where
-    differ : (a b : Bool) → a ≡ true → not (a || b) ≡ true → ⊥
-    differ a b e h = grind arith
-
-    rest : (a b : Bool) → not (a || b) ≡ true → not b ≡ true
-    rest a b h = grind arith
+none-counted (c ∷ cs) h = grind (arith, nat_tests, common_steps, none-counted cs)
 
 bare-accepts : (v : VersionValue) → is_release v ≡ true → (cs : List Comparison) → is_bare cs ≡ true → alternative_accepts v cs ≡ true
 bare-accepts v r cs h = rw (none-counted cs h, r) refl

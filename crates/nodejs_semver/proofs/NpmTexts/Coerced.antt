@@ -1,18 +1,13 @@
 -- The version of the tuple that `coerce` looks for.
-use Rattle.nodejs_semver.proofs.Common.{◌≡◌, ◌+◌, ℕ, Bool, List, [], ◌∷◌, ◌++◌, length, drop, take, refl, sym, ap, ◌∙◌, arith, true, false, Some, None}
-use Rattle.nodejs_semver.proofs.Common.{IfSome, Option, inl, inr, append-nil, bind_some, cases_Bool, length-append, same_Some, begins, is_ascii_digit, VersionValue}
-use Rattle.nodejs_semver.proofs.Common.{subst, take_at, drop_at}
-use Rattle.std.specs.Prelude.{IfNone}
-use Rattle.semver_core.specs.Failures.{NoValue}
-use Rattle.semver_core.specs.Text.Numbers.{IsNumber}
-use Rattle.nodejs_semver.specs.Internal.Fronts.{number_front, number_of}
-use Rattle.nodejs_semver.specs.Internal.NpmReadings.{strict_number}
-use Rattle.nodejs_semver.specs.Internal.NpmTuples.{number_in_reading, tuple_release}
+use Rattle.nodejs_semver.proofs.Common.{Bool, IfNone, IfSome, IsNumber, List, None, Option, Some, VersionValue, [], ap}
+use Rattle.nodejs_semver.proofs.Common.{append-nil, arith, begins, bind_some, cases_Bool, common_steps, drop, drop_at, false}
+use Rattle.nodejs_semver.proofs.Common.{inl, inr, is_ascii_digit, length, length-append, nat_tests, refl, same_Some, subst, sym}
+use Rattle.nodejs_semver.proofs.{Common.{take, take_at, true, ℕ, ◌++◌, ◌+◌, ◌∙◌, ◌∷◌, ◌≡◌}, NpmCommon.{IsLeftmost, IsRightmost}}
+use Rattle.nodejs_semver.proofs.NpmCommon.{IsRun, IsStrictNumber, IsTuple, IsTupleIn, NoValue, has_leading_zero, number_front}
+use Rattle.nodejs_semver.proofs.{NpmCommon.{strict_number, tuple_release}, Reading.Numbers.{digits-taken, number-is}}
+use Rattle.nodejs_semver.proofs.{Reading.Numbers.number-read, Strict.Numbers.{padded-same, strict-read}}
+use Rattle.nodejs_semver.specs.{Internal.NpmTuples.number_in_reading, Npm.Coerced.{IsCoerced, IsRelease}}
 use Rattle.nodejs_semver.specs.Npm.Coerced as Npm
-use Rattle.nodejs_semver.specs.Npm.Coerced.{IsCoerced, IsLeftmost, IsRelease, IsRightmost, IsRun, IsTuple, IsTupleIn}
-use Rattle.nodejs_semver.specs.Npm.Grammar.{IsStrictNumber, has_leading_zero}
-use Rattle.nodejs_semver.proofs.Reading.Numbers.{digits-taken, number-is, number-read}
-use Rattle.nodejs_semver.proofs.Strict.Numbers.{padded-same, strict-read}
 
 -- ---- the numbers of a tuple
 
@@ -25,12 +20,7 @@ record Reads (zeros : Bool) (limit : ℕ) (Number : List ℕ → ℕ → Type 0)
 front-found : (limit : ℕ) (a rest : List ℕ) (n : ℕ) (r : List ℕ) → IsRun a → begins is_ascii_digit rest ≡ false
     → number_front limit (a ++ rest) ≡ Some (n, r) → IsNumber limit a n × (r ≡ rest)
 front-found limit a rest n r h stop e =
-    let long = digits-taken a rest h.each stop in
-    let x = bind_some (number_of limit a) _ (n, r) (rw (long, take_at a rest (length a) refl, drop_at a rest (length a) refl) at e) in
-    let same = same_Some _ _ x.2 in (
-      subst (λ (k : ℕ). IsNumber limit a k) (ap (λ (p : ℕ × List ℕ). p.0) same) (number-is limit a x.0 x.1),
-      sym (ap (λ (p : ℕ × List ℕ). p.1) same),
-    )
+    grind (arith, nat_tests, common_steps, digits-taken, take_at, drop_at, same_Some, number-is)
 
 loose-reads : (limit : ℕ) → Reads true limit (IsNumber limit)
 loose-reads limit = record { found = front-found limit; read = number-read limit }
@@ -42,9 +32,7 @@ strict-found limit a rest n r h stop e =
     let padded = padded-same a rest h.each stop in
     elim (cases_Bool (has_leading_zero a)) [
       | inl zero ↦ cc (rw (padded, zero) at e)
-      | inr bare ↦
-          let f = front-found limit a rest n r h stop (rw (padded, bare) at e) in
-          (record { number = f.0; shortest = bare }, f.1)
+      | inr bare ↦ grind (arith, nat_tests, common_steps, front-found)
     ]
 
 strict-reads : (limit : ℕ) → Reads false limit (IsStrictNumber limit)

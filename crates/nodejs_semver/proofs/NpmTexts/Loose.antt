@@ -1,42 +1,27 @@
 -- Version texts of the loose reading: the function that reads them finds exactly what the statement has.
-use Rattle.nodejs_semver.proofs.Common.{◌≡◌, ◌⊎◌, ◌<◌, ◌≤◌, ◌+◌, ◌-◌, ℕ, zero, suc, Bool, List, [], ◌∷◌, ◌++◌, length, drop, take, refl, sym, ap, ◌∙◌, arith}
-use Rattle.nodejs_semver.proofs.Common.{true, false, Some, None, inl, inr, ◌&&◌, ◌||◌, not, and_parts, append-nil, bind_some, subst, cases_Bool, IsUtf8, is_empty}
-use Rattle.nodejs_semver.proofs.Common.{nat_tests, same_Some, begins, is_ascii_digit, list_all, list_len, Id, VersionValue, take_at, drop_at}
-use Rattle.std.proofs.lemmas.Bool.{eqb-true, or_cases, or_right}
-use Rattle.std.specs.Prelude.{◌==◌, encode_utf8_all}
-use Rattle.std.specs.List.{prefix_len}
-use Rattle.std.specs.Str.{chars}
-use Rattle.std.proofs.Math.Seq.{drop-append-add}
-use Rattle.std.proofs.lemmas.List.{take-append-drop, take_rest}
-use Rattle.semver_core.specs.Failures.{NoValue}
-use Rattle.semver_core.specs.Text.Characters.{IsPieceAt, IsTrim, NoPieceAt, is_identifier_char}
-use Rattle.semver_core.specs.Text.Identifiers.{goes_on, listed}
-use Rattle.semver_core.specs.Text.Numbers.{IsNumber, IsWholeNumber}
-use Rattle.semver_core.specs.declared.TheConstants.{MAX_LENGTH}
-use Rattle.semver_core.proofs.Text.Trims.{middle_is_trim}
-use Rattle.nodejs_semver.specs.Internal.Fronts.{Front, after_byte, begins_byte, begins_identifier, build_front, number_front, number_of}
-use Rattle.nodejs_semver.specs.Internal.NpmLooseVersions.{loose_dotted, loose_front, loose_patch, loose_qualified, loose_version, patch_front, patch_len}
-use Rattle.nodejs_semver.specs.Internal.NpmWords.{drop_ends}
-use Rattle.nodejs_semver.specs.Npm.Grammar.{IsStrictBuild, no_build, plus}
-use Rattle.nodejs_semver.specs.Npm.RangeText.{is_mark}
-use Rattle.nodejs_semver.specs.Npm.VersionText.{AreMarks, IsLoosePreRelease, IsLooseVersion, IsLooseVersionText, bare, begins_bare, dashed, no_pre_release}
-use Rattle.nodejs_semver.proofs.Reading.Bytes.{component-solid, solid-dark}
-use Rattle.nodejs_semver.proofs.Reading.IdentifierLists.{front-identifiers, written-begins, written-exact, written-spelled}
-use Rattle.nodejs_semver.proofs.Reading.Numbers.{digits-taken, front_some, number-found, number-is, number-of, number-read, run-ends}
-use Rattle.nodejs_semver.proofs.Reading.Steps.{option-cases}
-use Rattle.nodejs_semver.proofs.Reading.WordLaw.{byte-is}
-use Rattle.nodejs_semver.proofs.Strict.Hyphens.{ends-found, ends-read}
-use Rattle.nodejs_semver.proofs.Strict.Qualifiers.{build-found, build-quiet, build-taken, ends-nil}
-use Rattle.nodejs_semver.proofs.Strict.Places.{digits-of}
-use Rattle.nodejs_semver.proofs.Strict.VersionLaw.{empty-is}
+use Rattle.nodejs_semver.proofs.Common.{Bool, Front, Id, IsNumber, IsPieceAt, IsTrim, IsUtf8, IsWholeNumber, List, NoPieceAt}
+use Rattle.nodejs_semver.proofs.Common.{None, Some, VersionValue, [], and_parts, ap, append-nil, arith, begins}
+use Rattle.nodejs_semver.proofs.Common.{begins_identifier, bind_some, cases_Bool, common_steps, drop, drop_at, encode_utf8_all}
+use Rattle.nodejs_semver.proofs.Common.{eqb-true, false, inl, inr, is_ascii_digit, is_empty, is_identifier_char, length}
+use Rattle.nodejs_semver.proofs.Common.{list_all, list_len, middle_is_trim, nat_tests, not, or_right, prefix_len, refl}
+use Rattle.nodejs_semver.proofs.Common.{same_Some, suc, sym, take, take-append-drop, take_at, take_rest, true, zero, ℕ, ◌&&◌}
+use Rattle.nodejs_semver.proofs.{Common.{◌++◌, ◌+◌, ◌-◌, ◌<◌, ◌==◌, ◌||◌, ◌∙◌, ◌∷◌, ◌≡◌, ◌≤◌, ◌⊎◌}, NpmCommon.IsStrictBuild}
+use Rattle.nodejs_semver.proofs.NpmCommon.{MAX_LENGTH, NoValue, after_byte, begins_bare, begins_byte, build_front, chars}
+use Rattle.nodejs_semver.proofs.NpmCommon.{drop-append-add, drop_ends, goes_on, listed, loose_dotted, loose_front, loose_patch}
+use Rattle.nodejs_semver.proofs.NpmCommon.{loose_qualified, loose_version, no_build, number_front, number_of, patch_front, plus}
+use Rattle.nodejs_semver.proofs.Reading.{Bytes.{component-solid, solid-dark}, IdentifierLists.front-identifiers}
+use Rattle.nodejs_semver.proofs.Reading.{IdentifierLists.{written-begins, written-exact, written-spelled}, Numbers.digits-taken}
+use Rattle.nodejs_semver.proofs.Reading.Numbers.{front_some, number-found, number-is, number-of, number-read, run-ends}
+use Rattle.nodejs_semver.proofs.{Reading.{Steps.option-cases, WordLaw.byte-is}, Strict.Hyphens.{ends-found, ends-read}}
+use Rattle.nodejs_semver.proofs.Strict.{Places.digits-of, Qualifiers.{build-found, build-quiet, build-taken, ends-nil}}
+use Rattle.nodejs_semver.{proofs.Strict.VersionLaw.empty-is, specs.Internal.NpmLooseVersions.patch_len}
+use Rattle.nodejs_semver.specs.Npm.VersionText.{AreMarks, IsLoosePreRelease, IsLooseVersion, IsLooseVersionText, bare, dashed}
+use Rattle.nodejs_semver.specs.Npm.VersionText.{no_pre_release}
 
 -- ---- the patch number that the code finds
 
 patch-le : (text : List ℕ) → patch_len text ≤ prefix_len is_ascii_digit text
-patch-le text = elim (cases_Bool (begins_byte 46 (drop (prefix_len is_ascii_digit text) text))) [
-  | inl dot ↦ rw dot (omega arith)
-  | inr other ↦ rw other (omega arith)
-]
+patch-le text = grind (arith, nat_tests, common_steps)
 
 patch-digits : (text : List ℕ) → list_all is_ascii_digit (take (patch_len text) text) ≡ true
 patch-digits text = digits-of (patch_len text) text (patch-le text)
@@ -44,19 +29,7 @@ patch-digits text = digits-of (patch_len text) text (patch-le text)
 -- a number that is found in digits alone is that of all of them
 piece-of : (limit : ℕ) (text : List ℕ) (n end : ℕ) → list_all is_ascii_digit text ≡ true
     → IsPieceAt (λ digits rest. IsWholeNumber limit digits rest n) text 0 end → number_of limit text ≡ Some n
-piece-of limit text n end each s =
-    let e : drop end text ≡ [] = ended (drop end text) (digits-behind s.piece (drop end text) (rw s.divided at each)) s.is.ended in
-    number-of limit text n (rw (s.divided, e, append-nil s.piece) s.is.number)
-  where
-    digits-behind : (x y : List ℕ) → list_all is_ascii_digit (x ++ y) ≡ true → list_all is_ascii_digit y ≡ true
-    digits-behind [] y h = h
-    digits-behind (c ∷ x) y h = digits-behind x y (and_parts (is_ascii_digit c) (list_all is_ascii_digit (x ++ y)) h).1
-
-    ended : (t : List ℕ) → list_all is_ascii_digit t ≡ true → begins is_ascii_digit t ≡ false → t ≡ []
-    ended [] h k = refl
-    ended (c ∷ t) h k =
-        let each = and_parts (is_ascii_digit c) (list_all is_ascii_digit t) h in
-        cc (each.0, k)
+piece-of limit text n end each s = grind (arith, nat_tests, common_steps, number-of, append-nil, and_parts)
 
 abbrev found : ℕ → List ℕ → Front ℕ
 found n rest = Some (n, rest)
@@ -121,30 +94,7 @@ record PatchAt (limit : ℕ) (text : List ℕ) (n : ℕ) (rest : List ℕ) : Typ
 patch-found : (limit : ℕ) (text : List ℕ) (n : ℕ) (rest : List ℕ) → loose_patch limit text ≡ Some (n, rest) → PatchAt limit text n rest
 unfolding loose_patch patch_front
 patch-found limit text n rest h =
-    let t = bind_some (after_byte 46 text) _ (n, rest) h in
-    let len = patch_len t.0 in
-    let m = bind_some (number_of limit (take len t.0)) _ (n, rest) t.2 in
-    let e = same_Some _ _ m.2 in
-    let is = number-is limit (take len t.0) m.0 m.1 in
-    let read : PatchAt limit text m.0 (drop len t.0) = record {
-      digits = take len t.0;
-      split = byte-is 46 text t.0 t.1 ∙ ap (λ (t : List ℕ). 46 ∷ t) (sym (take-append-drop len t.0));
-      is = is;
-      behind = behind t.0 is.some;
-    } in
-    subst (λ (p : ℕ × List ℕ). PatchAt limit text p.0 p.1) e read
-  where
-    behind : (text : List ℕ) → 0 < length (take (patch_len text) text) → Behind (drop (patch_len text) text)
-    behind text some = elim (cases_Bool (begins_byte 46 (drop (prefix_len is_ascii_digit text) text))) [
-      | inr other ↦ rw other (inl (run-ends text))
-      | inl dot ↦
-          let more : 0 < prefix_len is_ascii_digit text = positive (prefix_len is_ascii_digit text) (rw dot at some) in
-          rw dot (inr (lone-digit text (prefix_len is_ascii_digit text) refl more dot))
-    ]
-      where
-        positive : (n : ℕ) → 0 < length (take (n - 1) text) → 0 < n
-        positive zero h = h
-        positive (suc n) h = omega arith
+    grind (arith, nat_tests, common_steps, same_Some, number-is, byte-is, take-append-drop, run-ends, lone-digit)
 
 -- the pre-release without a `-` before it
 bare-begins : (text : List ℕ) → Behind text → (begins_byte 45 text && begins_identifier (drop 1 text)) ≡ false
@@ -152,11 +102,7 @@ bare-begins : (text : List ℕ) → Behind text → (begins_byte 45 text && begi
     → begins_bare (take (list_len text) text) ≡ true
 unfolding list_len build_front
 bare-begins [] b h k e = cc k
-bare-begins (c ∷ []) b h k e = rw k (single b)
-  where
-    single : Behind (c ∷ []) → not (is_ascii_digit c) ≡ true
-    single (inl dark) = rw dark refl
-    single (inr lone) = cc lone
+bare-begins (c ∷ []) b h k e = grind (arith, nat_tests, common_steps)
 bare-begins (c ∷ d ∷ more) b h k e = elim (cases_Bool (goes_on (d ∷ more))) [
   | inl goes ↦
       let two : list_len (c ∷ d ∷ more) ≡ suc (suc (list_len more)) = rw (k, goes) (omega arith) in
@@ -176,10 +122,7 @@ bare-begins (c ∷ d ∷ more) b h k e = elim (cases_Bool (goes_on (d ∷ more))
     second : goes_on (d ∷ more) ≡ true → Behind (c ∷ d ∷ more) → (d == 46 || not (c == 45 || is_ascii_digit c)) ≡ true
     second goes b = elim (cases_Bool (d == 46)) [
       | inl dot ↦ rw dot refl
-      | inr other ↦ elim (or_cases (is_identifier_char d) (d == 46 && begins_identifier more) goes) [
-        | inl id ↦ rw (other, undashed id) (undotted other b)
-        | inr dot ↦ cc (other, (and_parts (d == 46) (begins_identifier more) dot).0)
-      ]
+      | inr other ↦ grind (arith, nat_tests, common_steps, and_parts)
     ]
 
     first : is_empty (build_front (d ∷ more)).1 ≡ true → Behind (c ∷ d ∷ more) → not (is_ascii_digit c) ≡ true
@@ -295,22 +238,10 @@ Follows rest = ((begins is_ascii_digit rest ≡ false) × (begins_byte 46 rest �
 patch-many : (digits rest : List ℕ) → list_all is_ascii_digit digits ≡ true
     → prefix_len is_ascii_digit (digits ++ rest) ≡ length digits + prefix_len is_ascii_digit rest
 patch-many [] rest h = omega arith
-patch-many (c ∷ digits) rest h =
-    let each = and_parts (is_ascii_digit c) (list_all is_ascii_digit digits) h in
-    rw each.0 (omega (arith, patch-many digits rest each.1))
+patch-many (c ∷ digits) rest h = grind (arith, nat_tests, common_steps, and_parts, patch-many digits rest)
 
 patch-exact : (digits rest : List ℕ) → list_all is_ascii_digit digits ≡ true → Follows rest → patch_len (digits ++ rest) ≡ length digits
-patch-exact digits rest h (inl stop) =
-    let n : prefix_len is_ascii_digit (digits ++ rest) ≡ length digits = digits-taken digits rest h stop.0 in
-    let e : drop (length digits) (digits ++ rest) ≡ rest = drop_at digits rest (length digits) refl in
-    rw (n, e, stop.1) refl
-patch-exact digits rest h (inr lone) =
-    let c = lone.0 in
-    let more = 46 ∷ lone.1 in
-    let one : prefix_len is_ascii_digit rest ≡ 1 = rw (lone.2, lone.3) refl in
-    let n : prefix_len is_ascii_digit (digits ++ rest) ≡ length digits + 1 = rw one at (patch-many digits rest h) in
-    let e : drop (length digits + 1) (digits ++ rest) ≡ more = rw lone.2 (drop-append-add digits (c ∷ more) 1) in
-    rw (n, e) (omega arith)
+patch-exact digits rest h k = grind (arith, nat_tests, common_steps, digits-taken, drop_at, patch-many, drop-append-add)
 
 patch-read : (limit : ℕ) (digits rest : List ℕ) (n : ℕ) → IsNumber limit digits n → Follows rest
     → loose_patch limit (46 ∷ (digits ++ rest)) ≡ Some (n, rest)
@@ -344,9 +275,7 @@ follows p b l m (bare t list h s) k = go t s (written-begins t [] list h)
     go (c ∷ []) s i = inl (grind arith, identifier-dark c i)
     go (c ∷ d ∷ rest) s i = elim (cases_Bool (is_ascii_digit c)) [
       | inr other ↦ inl (other, identifier-dark c i)
-      | inl digit ↦
-          let dot : (d == 46) ≡ true = grind arith in
-          inr (c, rest ++ b, rw (eqb-true d 46 dot) refl, digit)
+      | inl digit ↦ grind (arith, nat_tests, common_steps, eqb-true)
     ]
 
 front-none : (b : List ℕ) (m : List Id) → IsStrictBuild b m → loose_front b ≡ ([], b)
@@ -372,9 +301,7 @@ front-read p b l m (bare t list h s) k =
     no-dash (c ∷ []) s = elim (cases_Bool (c == 45)) [ inr other ↦ rw other refl | inl dash ↦ rw dash (build-no_identifier b m k) ]
     no-dash (c ∷ d ∷ rest) s = elim (cases_Bool (c == 45)) [
       | inr other ↦ rw other refl
-      | inl dash ↦
-          let dot : (d == 46) ≡ true = grind arith in
-          rw (dash, eqb-true d 46 dot) refl
+      | inl dash ↦ grind (arith, nat_tests, common_steps, eqb-true)
     ]
 
 qualified-read : (p b : List ℕ) (v : VersionValue) → IsLoosePreRelease p v.pre_release → IsStrictBuild b v.build
@@ -394,25 +321,11 @@ marks-read : (mark digits rest : List ℕ) → AreMarks mark → 0 < length digi
     → drop_ends (mark ++ (digits ++ rest)) ≡ digits ++ rest
 marks-read mark [] rest m some each = absurd (omega (arith, some))
 marks-read mark (c ∷ digits) rest m some each =
-    let digit = (and_parts (is_ascii_digit c) (list_all is_ascii_digit digits) each).0 in
-    rw m.spelled (ends-read m.characters (c ∷ (digits ++ rest)) m.each (no-mark digit)
-    (solid-dark (c ∷ (digits ++ rest)) (component-solid (c ∷ (digits ++ rest)) (or_right _ _ digit))))
-  where
-    no-mark : is_ascii_digit c ≡ true → is_mark c ≡ false
-    no-mark h = grind (arith, nat_tests)
+    grind (arith, nat_tests, common_steps, and_parts, ends-read, solid-dark, component-solid, or_right)
 
 pub loose-read : (limit : ℕ) (text : List ℕ) (v : VersionValue) → IsLooseVersion limit text v → loose_version limit text ≡ Some v
 unfolding loose_version
-loose-read limit text v h =
-    let behind = h.pre_release ++ h.build in
-    let last = h.patch ++ behind in
-    let middle = h.minor ++ (46 ∷ last) in
-    let front = marks-read h.mark h.major (46 ∷ middle) h.mark_is h.major_is.some h.major_is.each in
-    let a = number-read limit h.major (46 ∷ middle) v.major h.major_is refl in
-    let b = dotted-read limit h.minor (46 ∷ last) v.minor h.minor_is refl in
-    let c = patch-read limit h.patch behind v.patch h.patch_is (follows h.pre_release h.build v.pre_release v.build h.pre_release_is h.build_is) in
-    let q = qualified-read h.pre_release h.build v h.pre_release_is h.build_is in
-    rw (h.divided, front, a, b, c, q) refl
+loose-read limit text v h = grind (arith, marks-read, number-read, dotted-read, patch-read, follows, qualified-read)
 
 -- ---- whole texts
 

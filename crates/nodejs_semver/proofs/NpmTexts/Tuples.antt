@@ -1,18 +1,13 @@
 -- The longest tuple of numbers at a place of a text, the leftmost one, and the one that ends last.
-use Rattle.nodejs_semver.proofs.Common.{common_steps, ◌≡◌, ◌⊎◌, ◌<◌, ◌≤◌, ◌+◌, ◌-◌, ℕ, Bool, List, [], ◌∷◌, ◌++◌}
-use Rattle.nodejs_semver.proofs.Common.{length, drop, take, refl, sym, ap, ◌∙◌, arith, true, false, inl, inr}
-use Rattle.nodejs_semver.proofs.Common.{append_assoc, cases_Bool, length-append, nat_tests, begins, ends}
-use Rattle.nodejs_semver.proofs.Common.{is_ascii_digit, take_at, drop_at, eqb-true, get_or, length-drop, cases_lt}
-use Rattle.nodejs_semver.proofs.Common.{length-take-le, ◌==◌, prefix_len, take-append-drop}
-use Rattle.std.proofs.lemmas.List.Folds.{length-prefix_len}
-use Rattle.std.specs.Prelude.{nat_le}
-use Rattle.std.proofs.Math.Seq.{drop-append-add}
+use Rattle.nodejs_semver.proofs.Common.{Bool, List, [], ap, append_assoc, arith, begins, cases_Bool, cases_lt, common_steps}
+use Rattle.nodejs_semver.proofs.Common.{drop, drop_at, ends, eqb-true, false, get_or, inl, inr, is_ascii_digit, length}
+use Rattle.nodejs_semver.proofs.Common.{length-append, length-drop, length-take-le, nat_tests, prefix_len, refl, sym, take}
+use Rattle.nodejs_semver.proofs.Common.{take-append-drop, take_at, true, ℕ, ◌++◌, ◌+◌, ◌-◌, ◌<◌, ◌==◌, ◌∙◌, ◌∷◌, ◌≡◌, ◌≤◌, ◌⊎◌}
+use Rattle.nodejs_semver.proofs.NpmCommon.{IsLastBefore, IsLeftmost, IsRightmost, IsRun, IsTuple, IsTupleIn, drop-append-add}
+use Rattle.nodejs_semver.proofs.{NpmCommon.{length-prefix_len, nat_le, tuple_len}, Reading.Numbers.{digits-taken, run-ends}}
+use Rattle.nodejs_semver.{proofs.Strict.Places.digits-of, specs.Internal.NpmTuples.{IsLongestAt, behind_first, dotted_len}}
+use Rattle.nodejs_semver.specs.{Internal.NpmTuples.run_len, Npm.Coerced.{one, three, two}}
 use Rattle.semver_core.proofs.Text.Pieces.{rest_at}
-use Rattle.nodejs_semver.specs.Internal.NpmTuples.{IsLastBefore, IsLongestAt, behind_first, dotted_len, run_len}
-use Rattle.nodejs_semver.specs.Internal.NpmTuples.{tuple_len}
-use Rattle.nodejs_semver.specs.Npm.Coerced.{IsLeftmost, IsRightmost, IsRun, IsTuple, IsTupleIn, one, three, two}
-use Rattle.nodejs_semver.proofs.Strict.Places.{digits-of}
-use Rattle.nodejs_semver.proofs.Reading.Numbers.{digits-taken, run-ends}
 
 -- ---- runs
 
@@ -251,24 +246,7 @@ last_begin text = grind (arith, nat_tests, common_steps)
 
 pub last_kept : (text : List ℕ) (at len start end : ℕ) → IsLongestAt text at len → (len ≤ 0) ⊎ (at + len ≤ end)
     → IsLastBefore text at start end → IsLastBefore text (at + 1) start end
-last_kept text at len start end there less h = record {
-  before = omega (arith, h.before);
-  order = h.order;
-  fits = h.fits;
-  here = h.here;
-  last = λ x y z is lt. elim (cases_lt (length x) at) [
-    | inl sooner ↦ h.last x y z is sooner
-    | inr le ↦ here x y z is (omega (arith, lt, le)) less
-  ];
-  longest = λ x y z is lt e. elim (cases_lt (length x) at) [
-    | inl sooner ↦ h.longest x y z is sooner e
-    | inr le ↦ omega (arith, le, h.before)
-  ];
-}
-  where
-    here : (x y z : List ℕ) → IsTupleIn text x y z → length x ≡ at → (len ≤ 0) ⊎ (at + len ≤ end) → length x + length y ≤ end
-    here x y z is e (inl none) = absurd (omega (arith, none, (parts text x y z is).some, there.longest x y z is e))
-    here x y z is e (inr le) = omega (arith, e, le, there.longest x y z is e)
+last_kept text at len start end there less h = grind (arith, parts)
 
 pub last_taken : (text : List ℕ) (at len start end : ℕ) → IsLongestAt text at len → 0 < len → end < at + len
     → IsLastBefore text at start end → IsLastBefore text (at + 1) at (at + len)
@@ -291,28 +269,10 @@ last_taken text at len start end there some more h =
 
 pub last_found : (text : List ℕ) (at start end : ℕ) → IsLastBefore text at start end → length text ≤ at → 0 < end
     → Found IsRightmost text (take (end - start) (drop start text))
-last_found text at start end h past some =
-    let size : length (take (end - start) (drop start text)) ≡ end - start =
-    length-take-le (end - start) (drop start text) (omega (arith, h.fits, h.order, length-drop start text)) in
-    let left : length (drop end text) ≡ length text - end = length-drop end text in (
-      take start text,
-      drop end text,
-      h.here some,
-      record {
-        last = λ x y z is.
-            let p = parts text x y z is in
-            omega (arith, left, p.whole, p.some, h.last x y z is (omega (arith, past, p.whole, p.some)));
-        longest = λ x y z is same.
-            let p = parts text x y z is in
-            let begins : length x < at = omega (arith, past, p.whole, p.some) in
-            omega (arith, size, p.whole, same, left, h.fits, h.longest x y z is begins (omega (arith, p.whole, same, left, h.fits)));
-      },
-    )
+last_found text at start end h past some = grind (arith, length-take-le, length-drop, parts)
 
 pub last_none : (text : List ℕ) (at start end : ℕ) → IsLastBefore text at start end → length text ≤ at → end ≡ 0
     → (x y z : List ℕ) → IsTupleIn text x y z → ⊥
-last_none text at start end h past none x y z is =
-    let p = parts text x y z is in
-    omega (arith, none, p.some, h.last x y z is (omega (arith, past, p.whole, p.some)))
+last_none text at start end h past none x y z is = grind (arith, nat_tests, common_steps, parts)
 
 pub ruleset lasts = (last_begin)

@@ -1,18 +1,11 @@
 -- Worked rows: a text that means the same here and to node-semver, with its intervals and its comparators.
-use Rattle.std.proofs.Common.{inr, lit<, lit≤}
-use Rattle.std.specs.Prelude.{ℕ, false, List, [], ◌∷◌, Some, None, codes, refl}
-use Rattle.std.specs.Fmt.{digits}
-use Rattle.semver_core.specs.Cuts.{Span}
-use Rattle.semver_core.specs.Values.Versions.{VersionValue, release_value}
-use Rattle.semver_core.specs.declared.cuts.bound.Bound.TheVariants.{Before}
-use Rattle.nodejs_semver.specs.Npm.Alike.{IsPlainPartial, IsPlainText, more, one, one_word, signed, two_words}
+use Rattle.nodejs_semver.proofs.Common.{Before, List, None, Partial, Some, Span, VersionValue, [], above, below, codes, false}
+use Rattle.nodejs_semver.proofs.{Common.{inr, lit≤, lowest, refl, release_value, ℕ, ◌∷◌}, NpmCommon.IsPlainPartial}
+use Rattle.nodejs_semver.proofs.NpmCommon.{IsPlainText, digits, from, lit<, more, one_word, signed, two_words, under}
+use Rattle.nodejs_semver.specs.Npm.{Alike.one, Table.caret}
 use Rattle.nodejs_semver.specs.Npm.RangeText as Npm
-use Rattle.nodejs_semver.specs.Npm.Table.{caret, from, under}
 use Rattle.nodejs_semver.specs.Text.PartialText as Here
-use Rattle.nodejs_semver.specs.Text.PartialText.{Partial}
 use Rattle.nodejs_semver.specs.Text.Table as Spans
-use Rattle.nodejs_semver.specs.Text.Table.{lowest}
-use Rattle.nodejs_semver.specs.Text.WordText.{above, below}
 
 abbrev limit : ℕ
 limit = 9007199254740991

@@ -1,18 +1,11 @@
 -- Worked rows, computed: node-semver's table, which versions a list of alternatives accepts, and how some words are written.
-use Rattle.std.proofs.Common.{inl, lit<, lit≤}
-use Rattle.std.specs.List.{list_all}
-use Rattle.std.specs.Prelude.{◌≡◌, ◌++◌, ℕ, Bool, true, false, List, [], ◌∷◌, Some, map, codes, refl}
-use Rattle.std.specs.Char.{encode_utf8}
-use Rattle.std.specs.Fmt.{digits}
-use Rattle.std.specs.List.{join_with_byte}
-use Rattle.semver_core.specs.Text.Characters.{IsBlank}
-use Rattle.semver_core.specs.Text.Identifiers.{AlphaNumeric}
-use Rattle.semver_core.specs.Values.Versions.{VersionValue, release_value}
-use Rattle.nodejs_semver.specs.Npm.Malformed.{is_malformed}
-use Rattle.nodejs_semver.specs.Npm.RangeText.{AreWords, IsPartial, are_marks, are_spelled, begins_undashed, caret_equal, is_lost, is_spelled, last, late_above, number, one, sign, spelling, tilde_twice, word}
-use Rattle.nodejs_semver.specs.Npm.Ranges.{accepts, is_valid}
-use Rattle.nodejs_semver.specs.Npm.Table.{Comparison, Partial, Sign, caret, compared, hyphen_lower, hyphen_upper, major, minor, table, tilde, whole, wildcard}
-use Rattle.nodejs_semver.specs.Text.WordText.{above, at_least, at_most, below, equal}
+use Rattle.nodejs_semver.proofs.Common.{AlphaNumeric, Bool, IsBlank, List, Some, VersionValue, [], above, at_most, below, codes}
+use Rattle.nodejs_semver.proofs.Common.{encode_utf8, equal, false, inl, list_all, lit≤, map, refl, release_value, true, ℕ, ◌++◌}
+use Rattle.nodejs_semver.proofs.{Common.{◌∷◌, ◌≡◌}, NpmCommon.{AreWords, Comparison, IsPartial, are_marks, are_spelled}}
+use Rattle.nodejs_semver.proofs.NpmCommon.{at_least, begins_undashed, caret_equal, compared, digits, hyphen_lower, hyphen_upper}
+use Rattle.nodejs_semver.proofs.NpmCommon.{is_lost, is_malformed, is_spelled, is_valid, join_with_byte, last, late_above, lit<}
+use Rattle.nodejs_semver.proofs.NpmCommon.{major, minor, one, sign, spelling, tilde_twice, whole, wildcard, word}
+use Rattle.nodejs_semver.specs.Npm.{RangeText.number, Ranges.accepts, Table.{Partial, Sign, caret, table, tilde}}
 
 -- ---- the table, as node-semver prints the range of each word
 

@@ -1,15 +1,9 @@
 -- Worked rows, computed: which texts are versions in node-semver's loose reading, and what `coerce` finds.
-use Rattle.std.specs.Prelude.{◌≡◌, ℕ, List, [], ◌∷◌, Some, None, map, codes, refl, Option, is_some, Bool, true, false}
-use Rattle.semver_core.specs.Text.Identifiers.{AlphaNumeric, Id, Numeric, listed}
-use Rattle.semver_core.specs.Values.Versions.{VersionValue, release_value}
-use Rattle.semver_core.specs.Internal.Reading.{list_len}
-use Rattle.semver_core.specs.Internal.Spaces.{space_len}
-use Rattle.nodejs_semver.specs.Internal.Fronts.{build_front, number_of}
-use Rattle.nodejs_semver.specs.Internal.NpmLooseVersions.{loose_dotted, loose_front, loose_patch, loose_qualified, loose_version, patch_front}
-use Rattle.nodejs_semver.specs.Internal.NpmReadings.{strict_number}
-use Rattle.nodejs_semver.specs.Internal.NpmTuples.{tuple_len, tuple_release}
-use Rattle.nodejs_semver.specs.Internal.NpmWords.{after_ends}
-use Rattle.nodejs_semver.specs.Npm.VersionText.{begins_bare}
+use Rattle.nodejs_semver.proofs.Common.{AlphaNumeric, Bool, Id, List, None, Numeric, Option, Some, VersionValue, [], codes}
+use Rattle.nodejs_semver.proofs.Common.{false, is_some, list_len, map, refl, release_value, space_len, true, ℕ, ◌∷◌, ◌≡◌}
+use Rattle.nodejs_semver.proofs.NpmCommon.{after_ends, begins_bare, build_front, listed, loose_dotted, loose_front, loose_patch}
+use Rattle.nodejs_semver.proofs.NpmCommon.{loose_qualified, loose_version, number_of, patch_front, strict_number, tuple_len}
+use Rattle.nodejs_semver.proofs.NpmCommon.{tuple_release}
 
 abbrev read : List ℕ → Option VersionValue
 read text = loose_version 9007199254740991 text

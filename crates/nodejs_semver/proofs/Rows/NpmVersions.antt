@@ -1,10 +1,8 @@
 -- Worked rows, computed: which texts are versions in node-semver's strict reading. Whitespace around them is trimmed before.
-use Rattle.std.specs.Prelude.{◌≡◌, ℕ, List, [], ◌∷◌, Some, map, codes, refl, Option, is_some, Bool, false}
-use Rattle.semver_core.specs.Text.Identifiers.{AlphaNumeric, Numeric, listed}
-use Rattle.semver_core.specs.Values.Versions.{VersionValue, release_value}
-use Rattle.semver_core.specs.Internal.Reading.{list_len}
-use Rattle.nodejs_semver.specs.Internal.Fronts.{build_front, number_of, pre_release_front}
-use Rattle.nodejs_semver.specs.Internal.NpmReadings.{dashed_front, dotted_number, qualified_version, strict_number, strict_version}
+use Rattle.nodejs_semver.proofs.Common.{AlphaNumeric, Bool, List, Numeric, Option, Some, VersionValue, [], codes, false}
+use Rattle.nodejs_semver.proofs.{Common.{is_some, list_len, map, refl, release_value, ℕ, ◌∷◌, ◌≡◌}, NpmCommon.build_front}
+use Rattle.nodejs_semver.proofs.NpmCommon.{dashed_front, dotted_number, listed, number_of, pre_release_front, qualified_version}
+use Rattle.nodejs_semver.proofs.NpmCommon.{strict_number, strict_version}
 
 abbrev read : List ℕ → Option VersionValue
 read text = strict_version 9007199254740991 text

@@ -1,13 +1,8 @@
 -- What is read of a version text goes on to a version.
-use Rattle.nodejs_semver.proofs.Common.{◌≡◌, ◌≤◌, ◌++◌, ◌∷◌, ◌∙◌, ℕ, zero, suc, List, [], Some, None, refl, sym, true}
-use Rattle.nodejs_semver.specs.Internal.NpmStates.{is_whole, next, run}
-use Rattle.nodejs_semver.specs.Npm.Flaws.{IsFront}
-use Rattle.nodejs_semver.specs.declared.npm.flaws.State.{State}
-use Rattle.nodejs_semver.specs.declared.npm.flaws.State.TheVariants.{Start, Digit, Number, Dash, Zero, Padded}
-use Rattle.nodejs_semver.specs.declared.npm.flaws.State.TheVariants.{PreRelease, Plus, Build, End}
-use Rattle.nodejs_semver.proofs.Stopping.Steps.{run-nil, run-none, run-step, run-then}
-use Rattle.nodejs_semver.proofs.Stopping.Read.{Whole}
-use Rattle.nodejs_semver.proofs.Stopping.Written.{read-spelled}
+use Rattle.nodejs_semver.proofs.Common.{List, None, Some, [], refl, suc, sym, true, zero, ℕ, ◌++◌, ◌∙◌, ◌∷◌, ◌≡◌, ◌≤◌}
+use Rattle.nodejs_semver.proofs.NpmCommon.{Build, Dash, Digit, IsFront, Number, Padded, Plus, PreRelease, State, Zero, is_whole}
+use Rattle.nodejs_semver.proofs.{NpmCommon.{next, run}, Stopping.{Read.Whole, Steps.{run-nil, run-none, run-step, run-then}}}
+use Rattle.nodejs_semver.{proofs.Stopping.Written.read-spelled, specs.declared.npm.flaws.State.TheVariants.{End, Start}}
 
 -- ---- what is read goes on to a version
 

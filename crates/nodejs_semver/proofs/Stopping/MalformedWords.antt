@@ -1,22 +1,13 @@
 -- The first word of an alternative that is malformed.
-use Rattle.nodejs_semver.proofs.Common.{◌≡◌, ◌<◌, ◌≤◌, ◌+◌, ℕ, Bool, List, [], length, refl, sym, ap, ◌∙◌, arith}
-use Rattle.nodejs_semver.proofs.Common.{true, false, Some, None, IsUtf8, subst, list_all, bind_some, cases_Bool}
-use Rattle.nodejs_semver.proofs.Common.{inl, inr, drop_spaces, is_empty, length-append, same_Some, MAX_SAFE_INTEGER}
-use Rattle.semver_core.specs.Failures.{NoValue}
-use Rattle.nodejs_semver.specs.Internal.Fronts.{Front}
-use Rattle.nodejs_semver.specs.Internal.NpmWords.{Signed, any_word, is_small, limited_word, word_front}
-use Rattle.nodejs_semver.specs.Internal.Words.{from_boundary}
-use Rattle.nodejs_semver.specs.Npm.MalformedWords.{IsLeft, IsMalformedWord, IsRightWord, here, on}
-use Rattle.nodejs_semver.specs.Npm.Malformed.{is_visible}
-use Rattle.nodejs_semver.specs.Npm.Ranges.{is_valid}
-use Rattle.nodejs_semver.specs.Npm.Table.{Comparison}
-use Rattle.nodejs_semver.specs.Text.WordText.{SkipsBlank}
-use Rattle.nodejs_semver.proofs.Reading.Bytes.{begins-some}
-use Rattle.nodejs_semver.proofs.Reading.WordLaw.{boundary-of, boundary-utf8, first-is, first-of, skips-is, skips-of}
-use Rattle.nodejs_semver.proofs.Reading.WordLaw.{skips-utf8, suffix-boundary}
-use Rattle.nodejs_semver.proofs.Strict.Valid.{table-invalid}
-use Rattle.nodejs_semver.proofs.Strict.WordSteps.{row_of, word-at, word_at_front}
-use Rattle.nodejs_semver.proofs.Strict.Words.{word-read, word-visible}
+use Rattle.nodejs_semver.proofs.Common.{Bool, Front, IsUtf8, List, MAX_SAFE_INTEGER, None, Some, [], ap, arith, bind_some}
+use Rattle.nodejs_semver.proofs.Common.{common_steps, drop_spaces, false, from_boundary, is_empty, length, length-append}
+use Rattle.nodejs_semver.proofs.Common.{list_all, nat_tests, refl, same_Some, subst, sym, true, ℕ, ◌+◌, ◌<◌, ◌∙◌, ◌≡◌, ◌≤◌}
+use Rattle.nodejs_semver.proofs.NpmCommon.{Comparison, IsLeft, IsMalformedWord, NoValue, Signed, any_word, here, is_small}
+use Rattle.nodejs_semver.proofs.{NpmCommon.{is_valid, is_visible, limited_word, word_front}, Reading.Bytes.begins-some}
+use Rattle.nodejs_semver.proofs.Reading.WordLaw.{boundary-of, boundary-utf8, first-is, first-of, skips-is, skips-of, skips-utf8}
+use Rattle.nodejs_semver.proofs.{Reading.WordLaw.suffix-boundary, Strict.{Valid.table-invalid, WordSteps.{row_of, word-at}}}
+use Rattle.nodejs_semver.proofs.Strict.{WordSteps.word_at_front, Words.{word-read, word-visible}}
+use Rattle.nodejs_semver.specs.{Npm.MalformedWords.{IsRightWord, on}, Text.WordText.SkipsBlank}
 
 abbrev Right : Bool → List ℕ → List ℕ → Type 0
 Right = IsRightWord MAX_SAFE_INTEGER
@@ -28,9 +19,7 @@ Left = IsLeft MAX_SAFE_INTEGER
 
 right-read : (include : Bool) (text behind : List ℕ) → (r : Right include text behind)
     → word_front false include text ≡ Some (r.comparators, behind)
-right-read include text behind r =
-    ap (λ (t : List ℕ). word_front false include t) r.divided
-    ∙ word-read false include r.word behind r.comparators r.is (boundary-of behind r.ended)
+right-read include text behind r = grind (arith, nat_tests, common_steps, word-read, boundary-of)
 
 right-once : (include : Bool) (text x y : List ℕ) → Right include text x → Right include text y → x ≡ y
 right-once include text x y r s =
@@ -52,11 +41,7 @@ right-found include text behind r =
 
 limited-none : (o : Front Signed) → limited_word MAX_SAFE_INTEGER o ≡ None → (w : Signed × List ℕ) → o ≡ Some w
     → is_small MAX_SAFE_INTEGER w.0.1 ≡ false
-limited-none None h w e = cc e
-limited-none (Some x) h w e = elim (cases_Bool (is_small MAX_SAFE_INTEGER x.0.1)) [
-  | inl small ↦ cc (rw small at h)
-  | inr great ↦ ap (λ (v : Signed × List ℕ). is_small MAX_SAFE_INTEGER v.0.1) (sym (same_Some _ _ e)) ∙ great
-]
+limited-none o h w e = grind (arith, nat_tests, common_steps, same_Some)
 
 pub no-word : (include : Bool) (text : List ℕ) → word_at_front false text ≡ None → NoValue (Right include text)
 no-word include text e = λ behind r.
@@ -67,11 +52,7 @@ no-word include text e = λ behind r.
 
 limited-is : (o : Front Signed) (w : Signed × List ℕ) → o ≡ Some w → (v : Signed × List ℕ)
     → limited_word MAX_SAFE_INTEGER o ≡ Some v → w ≡ v
-limited-is None w e v h = cc h
-limited-is (Some x) w e v h = elim (cases_Bool (is_small MAX_SAFE_INTEGER x.0.1)) [
-  | inl small ↦ same_Some _ _ (sym e ∙ rw small at h)
-  | inr great ↦ cc (rw great at h)
-]
+limited-is o w e v h = grind (arith, nat_tests, common_steps, same_Some)
 
 pub invalid-word : (include : Bool) (text : List ℕ) (w : Signed × List ℕ) → word_at_front false text ≡ Some w
     → list_all (is_valid MAX_SAFE_INTEGER) (row_of include w.0) ≡ false → NoValue (Right include text)
@@ -125,14 +106,7 @@ left-less include left behind u r =
 
 pub left-fits : (include : Bool) (left text : List ℕ) → Left include left text → length left ≤ length text
 left-fits include left text here = omega arith
-left-fits include left text (on t b x r s h) = omega (
-  arith,
-  left-fits include left x h,
-  ap length r.divided,
-  length-append r.word b,
-  ap length s.1,
-  length-append s.0 x,
-)
+left-fits include left text (on t b x r s h) = grind (arith, nat_tests, common_steps, length-append, left-fits include left x h)
 
 left-once : (include : Bool) (l m text : List ℕ) → IsUtf8 text → Left include l text → Left include m text
     → NoValue (Right include l) → NoValue (Right include m) → l ≡ m

@@ -1,28 +1,18 @@
 -- The first alternative of a range text that is malformed.
-use Rattle.nodejs_semver.proofs.Common.{◌≡◌, ◌≤◌, ◌+◌, ◌-◌, ℕ, Bool, List, [], ◌∷◌, ◌++◌, length, refl, sym, ap, ◌∙◌, arith, true, false, Some, None, Option, ◌↔◌, AllByRecursion, IsUtf8, is_empty, subst, list_all, trim, bind_some, MAX_SAFE_INTEGER, and_parts, append_assoc}
-use Rattle.std.specs.Option.{is_none}
-use Rattle.semver_core.specs.Failures.{NoValue}
-use Rattle.semver_core.specs.Text.Characters.{IsAfterBlank, IsTrim}
-use Rattle.semver_core.proofs.Text.Trims.{after_blank-place, middle_is_trim, one_after_blank}
-use Rattle.nodejs_semver.specs.Internal.NpmReads.{IsFound, valid_alternative}
-use Rattle.nodejs_semver.specs.Internal.NpmWords.{alternative_of, valid_only}
-use Rattle.nodejs_semver.specs.Internal.PartFronts.{front_part}
-use Rattle.nodejs_semver.specs.Internal.Parts.{cut_bars}
-use Rattle.nodejs_semver.specs.Npm.MalformedWords.{IsMalformedWord}
-use Rattle.nodejs_semver.specs.Npm.RangeFlaws.{IsAlternativeText, IsRangeFlaw, bytes_of}
-use Rattle.nodejs_semver.specs.Npm.RangeText.{AreAlternatives, next, none}
-use Rattle.nodejs_semver.specs.Npm.Ranges.{HasAlternatives, is_valid}
-use Rattle.nodejs_semver.specs.Npm.Table.{Comparison}
-use Rattle.nodejs_semver.specs.Text.Bars.{IsCutAtBars, more_pieces, one_piece}
-use Rattle.nodejs_semver.specs.declared.npm.alternatives.Alternative.{Alternative}
-use Rattle.nodejs_semver.specs.declared.npm.range_flaws.RangeFlaw.{RangeFlaw}
-use Rattle.nodejs_semver.proofs.Diagnosing.IgnoredParts.{part_ends, part_fits, sizes_of}
-use Rattle.nodejs_semver.proofs.Dividing.BarLemmas.{cut_bars-front, parts_after}
-use Rattle.nodejs_semver.proofs.Dividing.BarsDivide.{bars_divide, bars_once}
-use Rattle.nodejs_semver.proofs.Dividing.MeaningLaw.{pieces-utf8}
-use Rattle.nodejs_semver.proofs.Reading.WordLaw.{trim-utf8}
-use Rattle.nodejs_semver.proofs.Stopping.MalformedWords.{one_malformed_word}
+use Rattle.nodejs_semver.proofs.Common.{AllByRecursion, Bool, IsAfterBlank, IsCutAtBars, IsTrim, IsUtf8, List, MAX_SAFE_INTEGER}
+use Rattle.nodejs_semver.proofs.Common.{None, Option, Some, [], after_blank-place, and_parts, ap, append_assoc, arith}
+use Rattle.nodejs_semver.proofs.Common.{bind_some, common_steps, cut_bars, false, is_empty, length, list_all, middle_is_trim}
+use Rattle.nodejs_semver.proofs.Common.{more_pieces, nat_tests, one_piece, refl, subst, sym, trim, true, ℕ, ◌++◌, ◌+◌, ◌-◌, ◌↔◌}
+use Rattle.nodejs_semver.proofs.{Common.{◌∙◌, ◌∷◌, ◌≡◌, ◌≤◌}, NpmCommon.{Alternative, AreAlternatives, Comparison}}
+use Rattle.nodejs_semver.proofs.NpmCommon.{HasAlternatives, IsFound, IsMalformedWord, NoValue, alternative_of, is_none}
+use Rattle.nodejs_semver.proofs.{NpmCommon.{is_valid, none, valid_alternative, valid_only}, Diagnosing.IgnoredParts.part_ends}
+use Rattle.nodejs_semver.proofs.{Diagnosing.IgnoredParts.{part_fits, sizes_of}, Dividing.BarLemmas.cut_bars-front}
+use Rattle.nodejs_semver.proofs.Dividing.{BarLemmas.parts_after, BarsDivide.{bars_divide, bars_once}, MeaningLaw.pieces-utf8}
+use Rattle.nodejs_semver.proofs.{Reading.WordLaw.trim-utf8, Stopping.MalformedWords.one_malformed_word}
 use Rattle.nodejs_semver.proofs.Strict.AlternativeLaw.{alternative-found, alternative-read}
+use Rattle.nodejs_semver.specs.{Internal.PartFronts.front_part, Npm.RangeFlaws.{IsAlternativeText, IsRangeFlaw, bytes_of}}
+use Rattle.nodejs_semver.specs.{Npm.RangeText.next, declared.npm.range_flaws.RangeFlaw.RangeFlaw}
+use Rattle.semver_core.proofs.Text.Trims.{one_after_blank}
 
 pub trimmed_fits : (text middle : List ℕ) (start : ℕ) → IsUtf8 text → IsAfterBlank text 0 start → IsTrim text middle
     → start + length middle ≤ length text
@@ -89,12 +79,9 @@ all-some include (p ∷ ps) h some = refl
 piece-of : (include : Bool) (front : List (List ℕ)) (piece : List ℕ) (behind : List (List ℕ)) (ls : List (List Comparison))
     → AreAlternatives false include (front ++ piece ∷ behind) ls → list_all (list_all (is_valid MAX_SAFE_INTEGER)) ls ≡ true
     → IsPiece include piece
-piece-of include [] piece behind ls (next p text others cs rest t is more) v =
-    let each = and_parts (list_all (is_valid MAX_SAFE_INTEGER) cs) (list_all (list_all (is_valid MAX_SAFE_INTEGER)) rest) v in
-    (cs, record { middle = text; trimmed = t; is = is; valid = each.0 })
+piece-of include [] piece behind ls (next p text others cs rest t is more) v = grind (arith, nat_tests, common_steps, and_parts)
 piece-of include (q ∷ front) piece behind ls (next p text others cs rest t is more) v =
-    let each = and_parts (list_all (is_valid MAX_SAFE_INTEGER) cs) (list_all (list_all (is_valid MAX_SAFE_INTEGER)) rest) v in
-    piece-of include front piece behind rest more each.1
+    grind (arith, nat_tests, common_steps, and_parts, piece-of include front piece behind rest more)
 
 pub flawed-none : (include : Bool) (text : List ℕ) (flaw : RangeFlaw) → IsRangeFlaw MAX_SAFE_INTEGER include text flaw
     → (ls : List (List Comparison)) → HasAlternatives MAX_SAFE_INTEGER include text ls → ⊥
@@ -132,9 +119,7 @@ bytes-append (q ∷ ps) p = omega (arith, bytes-append ps p)
 
 front-divides : (include : Bool) (text rest : List ℕ) (cut : List ℕ × Option (List ℕ)) → (h : Passed include text (Some rest))
     → cut ≡ front_part rest → cut_bars false text ≡ h.front ++ cut.0 ∷ parts_after cut.1
-front-divides include text rest cut h e =
-    h.divided ∙ ap (λ (l : List (List ℕ)). h.front ++ l)
-    (cut_bars-front rest ∙ ap (λ (c : List ℕ × Option (List ℕ)). c.0 ∷ parts_after c.1) (sym e))
+front-divides include text rest cut h e = grind (arith, nat_tests, common_steps, cut_bars-front, parts_after)
 
 pub passed_more : (include : Bool) (text rest : List ℕ) (cut : List ℕ × Option (List ℕ)) → Passed include text (Some rest)
     → cut ≡ front_part rest → IsPiece include cut.0 → Passed include text cut.1
@@ -257,9 +242,7 @@ one-piece include (x ∷ xs) p us [] q vs h k w z e =
     let same : x ≡ q = cc e in
     absurd (z h.0.0 (subst (λ (t : List ℕ). IsAlternativeText MAX_SAFE_INTEGER include t h.0.0) same h.0.1))
 one-piece include (x ∷ xs) p us (y ∷ ys) q vs h k w z e =
-    let first : x ≡ y = cc e in
-    let more = one-piece include xs p us ys q vs h.1 k.1 w z (cc e) in
-    (cc (first, more.0), more.1)
+    grind (arith, nat_tests, common_steps, one-piece include xs p us ys q vs)
 
 pub one_range_flaw : (include : Bool) (text : List ℕ) (f g : RangeFlaw) → IsUtf8 text → IsRangeFlaw MAX_SAFE_INTEGER include text f
     → IsRangeFlaw MAX_SAFE_INTEGER include text g → f ≡ g

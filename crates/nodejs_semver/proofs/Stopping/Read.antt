@@ -1,23 +1,15 @@
 -- A text that is written as a version is read to its end as one.
-use Rattle.nodejs_semver.proofs.Common.{common_steps, ◌≡◌, ◌⊎◌, ◌<◌, ◌≤◌, ◌+◌, ◌*◌, ◌&&◌, ◌||◌, ℕ, Bool, true, false}
-use Rattle.nodejs_semver.proofs.Common.{Some, List, [], ◌∷◌, ◌++◌, refl, sym, ap, ◌∙◌, arith, inl, inr, nat_lt}
-use Rattle.nodejs_semver.proofs.Common.{append-nil, ◌==◌, encode_utf8_all, is_ascii_digit, list_all, onto_first}
-use Rattle.nodejs_semver.proofs.Common.{and_from, and_parts, cases_Bool, eqb-true, nat_tests, list_all-append}
-use Rattle.nodejs_semver.proofs.Common.{is_identifier_char, Id, is_identifier, pieces, VersionValue}
-use Rattle.std.specs.Char.{digit_value}
-use Rattle.std.specs.Str.Parse.{digits_value_after}
-use Rattle.std.proofs.lemmas.Str.{encode_ascii, encodes_same}
-use Rattle.semver_core.proofs.Text.Pieces.{digits_grow, runs_tail, tail_runs}
-use Rattle.nodejs_semver.specs.Internal.NpmStates.{is_whole, next, run}
-use Rattle.nodejs_semver.specs.Npm.Flaws.{IsSpelled}
-use Rattle.nodejs_semver.specs.Npm.Grammar.{IsStrictBuild, IsStrictNumber, IsStrictPreRelease, dashed}
-use Rattle.nodejs_semver.specs.Npm.Grammar.{is_strict_identifier, no_build, no_pre_release, plus}
-use Rattle.nodejs_semver.specs.Npm.VersionText.{IsStrictVersion}
-use Rattle.nodejs_semver.specs.declared.npm.flaws.State.{State}
-use Rattle.nodejs_semver.specs.declared.npm.flaws.State.TheVariants.{Start, Digit, Number, Dash, Zero, PreRelease, Plus}
-use Rattle.nodejs_semver.specs.declared.npm.flaws.State.TheVariants.{Build}
-use Rattle.nodejs_semver.proofs.Stopping.Steps.{digit-plain, identifier-more, identifier_read, run-nil, run-step}
-use Rattle.nodejs_semver.proofs.Stopping.Steps.{run-then, spaces-behind, spaces-start, start-digit}
+use Rattle.nodejs_semver.proofs.Common.{Bool, Id, List, Some, VersionValue, [], and_from, and_parts, ap, append-nil, arith}
+use Rattle.nodejs_semver.proofs.Common.{cases_Bool, common_steps, encode_utf8_all, eqb-true, false, inl, inr, is_ascii_digit}
+use Rattle.nodejs_semver.proofs.Common.{is_identifier, is_identifier_char, list_all, list_all-append, nat_lt, nat_tests}
+use Rattle.nodejs_semver.proofs.Common.{onto_first, pieces, refl, sym, true, ℕ, ◌&&◌, ◌*◌, ◌++◌, ◌+◌, ◌<◌, ◌==◌, ◌||◌, ◌∙◌, ◌∷◌}
+use Rattle.nodejs_semver.proofs.{Common.{◌≡◌, ◌≤◌, ◌⊎◌}, NpmCommon.{Build, Dash, Digit, IsSpelled, IsStrictBuild}}
+use Rattle.nodejs_semver.proofs.NpmCommon.{IsStrictNumber, IsStrictPreRelease, IsStrictVersion, Number, Plus, PreRelease, State}
+use Rattle.nodejs_semver.proofs.NpmCommon.{Zero, dashed, digit_value, digits_grow, digits_value_after, encode_ascii}
+use Rattle.nodejs_semver.proofs.NpmCommon.{encodes_same, is_strict_identifier, is_whole, next, no_build, no_pre_release, plus}
+use Rattle.nodejs_semver.proofs.{NpmCommon.{run, runs_tail, tail_runs}, Stopping.Steps.{digit-plain, identifier-more}}
+use Rattle.nodejs_semver.proofs.Stopping.Steps.{identifier_read, run-nil, run-step, run-then, spaces-behind, spaces-start}
+use Rattle.nodejs_semver.{proofs.Stopping.Steps.start-digit, specs.declared.npm.flaws.State.TheVariants.Start}
 
 -- ---- numbers
 
@@ -114,14 +106,7 @@ identifiers : (limit : ℕ) (t : List ℕ)
     × (list_all is_identifier (pieces t) ≡ true → list_all is_strict_identifier (pieces t) ≡ true → Ended limit Dash t)
 identifiers limit [] = grind (arith, nat_tests, common_steps, identifier_read, run-nil, read-end, append-nil, and_parts)
 identifiers limit (c ∷ t) = elim (cases_Bool (c == 46)) [
-  | inl dot ↦ rw (eqb-true c 46 dot) (
-    λ a x h k.
-        let both = and_parts (is_strict_identifier ((a ∷ x) ++ [])) (list_all is_strict_identifier (pieces t)) k in
-        let end = read-end a x (rw (append-nil x) at both.0) in
-        ended-step limit (identifier_read (a ∷ x)) Dash 46 t (end-dot limit (identifier_read (a ∷ x)) end)
-        ((identifiers limit t).1 h both.1),
-    λ h k. cc h,
-  )
+  | inl dot ↦ grind (arith, nat_tests, common_steps, eqb-true, and_parts, read-end, append-nil, ended-step, identifier_read, end-dot, identifiers limit t)
   | inr other ↦ (
     λ a x h k.
         let f = runs-first c (pieces t) (rw other at h) in
@@ -188,27 +173,15 @@ is_plain c = is_identifier_char c || (c == 46 || c == 43)
 
 pub plain-encodes : (cs : List ℕ) → list_all is_plain cs ≡ true → encode_utf8_all cs ≡ cs
 plain-encodes [] h = refl
-plain-encodes (c ∷ cs) h =
-    let each = and_parts (is_plain c) (list_all is_plain cs) h in
-    rw (encode_ascii c (small c each.0), plain-encodes cs each.1) refl
-  where
-    small : (c : ℕ) → is_plain c ≡ true → c < 128
-    small c h = grind (arith, nat_tests)
+plain-encodes (c ∷ cs) h = grind (arith, nat_tests, common_steps, and_parts, encode_ascii, plain-encodes cs)
 
 plain-digits : (ds : List ℕ) → list_all is_ascii_digit ds ≡ true → list_all is_plain ds ≡ true
 plain-digits [] h = refl
-plain-digits (c ∷ ds) h =
-    let each = and_parts (is_ascii_digit c) (list_all is_ascii_digit ds) h in
-    rw ((digit-plain c each.0).0, plain-digits ds each.1) refl
+plain-digits (c ∷ ds) h = grind (arith, nat_tests, common_steps, and_parts, digit-plain, plain-digits ds)
 
 plain-runs : (t : List ℕ) → tail_runs (pieces t) ≡ true → list_all is_plain t ≡ true
 plain-runs [] h = refl
-plain-runs (c ∷ t) h = elim (cases_Bool (c == 46)) [
-  | inl dot ↦ rw (eqb-true c 46 dot) (plain-runs t (runs_tail (pieces t) (rw dot at h)))
-  | inr other ↦
-      let f = runs-first c (pieces t) (rw other at h) in
-      rw (f.0, plain-runs t f.1) refl
-]
+plain-runs (c ∷ t) h = grind (arith, nat_tests, common_steps, eqb-true, runs_tail, runs-first, plain-runs t)
 
 pub plain-both : (x y : List ℕ) → list_all is_plain x ≡ true → list_all is_plain y ≡ true → list_all is_plain (x ++ y) ≡ true
 plain-both x y h k = list_all-append is_plain x y ∙ and_from (list_all is_plain x) (list_all is_plain y) h k

@@ -1,13 +1,9 @@
 -- What is read of a version text, character by character: single steps.
-use Rattle.nodejs_semver.proofs.Common.{common_steps, ◌≡◌, ◌&&◌, ℕ, zero, suc, true, false, Option, Some, None, List}
-use Rattle.nodejs_semver.proofs.Common.{[], ◌∷◌, ◌++◌, refl, ap, ◌∙◌, arith, inl, inr, ◌==◌, if◌then◌else◌}
-use Rattle.nodejs_semver.proofs.Common.{is_ascii_digit, list_all, and_parts, cases_Bool, nat_tests, list_all-append}
-use Rattle.nodejs_semver.proofs.Common.{is_identifier_char, is_whitespace}
-use Rattle.semver_core.specs.Internal.Reading.{◌>>?◌}
-use Rattle.nodejs_semver.specs.Internal.NpmStates.{is_whole, next, run}
-use Rattle.nodejs_semver.specs.declared.npm.flaws.State.{State}
-use Rattle.nodejs_semver.specs.declared.npm.flaws.State.TheVariants.{Start, Digit, Number, Dash, Zero, Padded}
-use Rattle.nodejs_semver.specs.declared.npm.flaws.State.TheVariants.{PreRelease, Build, End}
+use Rattle.nodejs_semver.proofs.Common.{List, None, Option, Some, [], and_parts, ap, arith, cases_Bool, common_steps, false}
+use Rattle.nodejs_semver.proofs.Common.{if◌then◌else◌, inl, inr, is_ascii_digit, is_identifier_char, is_whitespace, list_all}
+use Rattle.nodejs_semver.proofs.Common.{list_all-append, nat_tests, refl, suc, true, zero, ℕ, ◌&&◌, ◌++◌, ◌==◌, ◌∙◌, ◌∷◌, ◌≡◌}
+use Rattle.nodejs_semver.proofs.NpmCommon.{Build, Dash, Digit, Number, Padded, PreRelease, State, Zero, is_whole, next, run}
+use Rattle.nodejs_semver.{proofs.NpmCommon.◌>>?◌, specs.declared.npm.flaws.State.TheVariants.{End, Start}}
 
 -- ---- runs
 
@@ -58,16 +54,12 @@ space-plain c h = (
 pub spaces-start : (limit : ℕ) (cs : List ℕ) → list_all is_whitespace cs ≡ true → run limit Start cs ≡ Some Start
 unfolding run next
 spaces-start limit [] h = refl
-spaces-start limit (c ∷ cs) h =
-    let each = and_parts (is_whitespace c) (list_all is_whitespace cs) h in
-    rw each.0 (spaces-start limit cs each.1)
+spaces-start limit (c ∷ cs) h = grind (arith, nat_tests, common_steps, and_parts, spaces-start limit cs)
 
 spaces-end : (limit : ℕ) (cs : List ℕ) → list_all is_whitespace cs ≡ true → run limit End cs ≡ Some End
 unfolding run next
 spaces-end limit [] h = refl
-spaces-end limit (c ∷ cs) h =
-    let each = and_parts (is_whitespace c) (list_all is_whitespace cs) h in
-    rw each.0 (spaces-end limit cs each.1)
+spaces-end limit (c ∷ cs) h = grind (arith, nat_tests, common_steps, and_parts, spaces-end limit cs)
 
 no-more : (k : ℕ) → (suc k == 0) ≡ true → ⊥
 no-more k h = grind arith

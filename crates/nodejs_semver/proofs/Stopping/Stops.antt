@@ -1,25 +1,15 @@
 -- Where a text stops being a version text.
-use Rattle.nodejs_semver.proofs.Common.{common_steps, nat_tests, ◌≡◌, ◌⊎◌, inl, inr, ◌≤◌, ◌+◌, ◌↔◌, ◌++◌, ◌∷◌, ℕ, List}
-use Rattle.nodejs_semver.proofs.Common.{[], Option, Some, None, length, refl, sym, ap, ◌∙◌, subst, arith, true, false}
-use Rattle.nodejs_semver.proofs.Common.{append_assoc, append-nil, length-append, IsUtf8, encode_utf8_all, encode_utf8}
-use Rattle.nodejs_semver.proofs.Common.{same_Some, encodes-append, length-encode, VersionValue, MAX_SAFE_INTEGER}
-use Rattle.std.specs.Char.{len_utf8}
-use Rattle.std.specs.Str.{chars}
-use Rattle.std.proofs.lemmas.Str.{cons_from_encodes, encodes_same}
-use Rattle.semver_core.specs.declared.TheConstants.{MAX_LENGTH}
-use Rattle.nodejs_semver.specs.Internal.NpmStates.{is_whole, next, run, wrong_at}
-use Rattle.nodejs_semver.specs.Npm.Flaws.{GoesOn, IsFlaw, IsFront, IsSpelled, IsStop, IsWrong, wrong_of}
-use Rattle.nodejs_semver.specs.Npm.VersionText.{IsVersionText}
-use Rattle.nodejs_semver.specs.declared.npm.flaws.Flaw.{Flaw}
-use Rattle.nodejs_semver.specs.declared.npm.flaws.Flaw.TheVariants.{At, TooLong}
-use Rattle.nodejs_semver.specs.declared.npm.flaws.State.{State}
-use Rattle.nodejs_semver.specs.declared.npm.flaws.State.TheVariants.{Start}
-use Rattle.nodejs_semver.specs.declared.npm.flaws.Wrong.{Wrong}
-use Rattle.nodejs_semver.proofs.Stopping.Steps.{run-nil, run-step, run-then}
-use Rattle.nodejs_semver.proofs.Stopping.Read.{spelled-read}
-use Rattle.nodejs_semver.proofs.Stopping.Written.{read-spelled}
-use Rattle.nodejs_semver.proofs.Stopping.Fronts.{front-stops, read-front}
-use Rattle.nodejs_semver.proofs.Stopping.Wrongs.{ended-wrong, goes_on, stopped-wrong, one_wrong}
+use Rattle.nodejs_semver.proofs.Common.{IsUtf8, List, MAX_SAFE_INTEGER, None, Option, Some, VersionValue, [], ap, append-nil}
+use Rattle.nodejs_semver.proofs.Common.{append_assoc, arith, common_steps, encode_utf8, encode_utf8_all, encodes-append, false}
+use Rattle.nodejs_semver.proofs.Common.{inl, inr, length, length-append, length-encode, nat_tests, refl, same_Some, subst, sym}
+use Rattle.nodejs_semver.proofs.{Common.{true, ℕ, ◌++◌, ◌+◌, ◌↔◌, ◌∙◌, ◌∷◌, ◌≡◌, ◌≤◌, ◌⊎◌}, NpmCommon.{At, GoesOn, IsFront}}
+use Rattle.nodejs_semver.proofs.NpmCommon.{IsSpelled, IsVersionText, MAX_LENGTH, State, chars, encodes_same, is_whole, len_utf8}
+use Rattle.nodejs_semver.proofs.{NpmCommon.{next, run, wrong_at, wrong_of}, Stopping.Fronts.{front-stops, read-front}}
+use Rattle.nodejs_semver.proofs.Stopping.{Read.spelled-read, Steps.{run-nil, run-step, run-then}, Written.read-spelled}
+use Rattle.nodejs_semver.{proofs.Stopping.Wrongs.{ended-wrong, goes_on, one_wrong, stopped-wrong}, specs.Npm.Flaws.IsFlaw}
+use Rattle.nodejs_semver.specs.{Npm.Flaws.{IsStop, IsWrong}, declared.npm.flaws.Flaw.{Flaw, TheVariants.TooLong}}
+use Rattle.nodejs_semver.specs.declared.npm.flaws.{State.TheVariants.Start, Wrong.Wrong}
+use Rattle.std.proofs.lemmas.Str.{cons_from_encodes}
 
 -- ---- where a text stops
 
@@ -86,9 +76,7 @@ pub record Passed (text : List ℕ) (at : ℕ) (state : State) (rest passed : Li
 behind : (passed all rest : List ℕ) → encode_utf8_all all ≡ encode_utf8_all passed ++ rest
     → (more : List ℕ) × (all ≡ passed ++ more) × (encode_utf8_all more ≡ rest)
 behind [] all rest e = (all, refl, e)
-behind (c ∷ passed) all rest e =
-    let first = cons_from_encodes all (encode_utf8_all passed ++ rest) c (e ∙ append_assoc (encode_utf8 c) (encode_utf8_all passed) rest) in
-    grind (arith, nat_tests, common_steps, behind passed first.0 rest first.2)
+behind (c ∷ passed) all rest e = grind (arith, nat_tests, common_steps, cons_from_encodes, append_assoc, behind passed)
 
 pub passed_none : (text rest : List ℕ) → rest ≡ text → Passed text 0 Start rest []
 passed_none text rest e = record { divided = sym e; place = refl; reads = run-nil MAX_SAFE_INTEGER Start }

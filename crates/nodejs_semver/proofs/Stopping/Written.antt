@@ -1,25 +1,18 @@
 -- A text that is read to its end as a version is written as one.
-use Rattle.nodejs_semver.proofs.Common.{common_steps, ◌≡◌, ◌⊎◌, ◌≤◌, ◌+◌, ◌*◌, ◌||◌, ℕ, zero, suc, Bool, true, false}
-use Rattle.nodejs_semver.proofs.Common.{Option, Some, None, List, [], ◌∷◌, ◌++◌, refl, sym, ap, ◌∙◌, arith, inl, inr}
-use Rattle.nodejs_semver.proofs.Common.{nat_lt, append_assoc, append-nil, length-append, subst, ◌==◌, encode_utf8_all}
-use Rattle.nodejs_semver.proofs.Common.{if◌then◌else◌, map, is_ascii_digit, list_all, onto_first, and_parts, cases_Bool}
-use Rattle.nodejs_semver.proofs.Common.{eqb-true, nat_tests, list_all-append, same_Some, begins, is_identifier_char}
-use Rattle.nodejs_semver.proofs.Common.{is_whitespace, Id, identifier_of, is_identifier, pieces, VersionValue}
+use Rattle.nodejs_semver.proofs.Common.{Bool, Id, List, None, Option, Some, VersionValue, [], and_parts, ap, append-nil}
+use Rattle.nodejs_semver.proofs.Common.{append_assoc, arith, begins, cases_Bool, common_steps, encode_utf8_all, eqb-true, false}
+use Rattle.nodejs_semver.proofs.Common.{identifier_of, if◌then◌else◌, inl, inr, is_ascii_digit, is_identifier}
+use Rattle.nodejs_semver.proofs.Common.{is_identifier_char, is_whitespace, length-append, list_all, list_all-append, map}
+use Rattle.nodejs_semver.proofs.Common.{nat_lt, nat_tests, onto_first, pieces, refl, same_Some, subst, suc, sym, true, zero, ℕ}
+use Rattle.nodejs_semver.proofs.{Common.{◌*◌, ◌++◌, ◌+◌, ◌==◌, ◌||◌, ◌∙◌, ◌∷◌, ◌≡◌, ◌≤◌, ◌⊎◌}, NpmCommon.{Build, Dash, Digit}}
+use Rattle.nodejs_semver.proofs.NpmCommon.{IsSpelled, IsStrictBuild, IsStrictNumber, IsStrictPreRelease, IsStrictVersion}
+use Rattle.nodejs_semver.proofs.NpmCommon.{Number, Padded, Plus, PreRelease, State, Zero, dashed, digit_value}
+use Rattle.nodejs_semver.proofs.NpmCommon.{is_strict_identifier, is_whole, next, no_build, no_pre_release, plus, run, runs_tail}
+use Rattle.nodejs_semver.proofs.{NpmCommon.tail_runs, Stopping.Read.{Whole, is_plain, plain-both, plain-encodes, strict-onto}}
+use Rattle.nodejs_semver.proofs.Stopping.{Read.strict_behind, Steps.{digit-plain, identifier-more, identifier_read}}
+use Rattle.nodejs_semver.specs.{Internal.NpmStates.ended, declared.npm.flaws.State.TheVariants.{End, Start}}
+use Rattle.{semver_core.proofs.Text.Pieces.onto_tail, std.proofs.lemmas.{Int.Digits.digits_value_push, List.reverse-append}}
 use Rattle.std.specs.Prelude.{reverse}
-use Rattle.std.specs.Char.{digit_value}
-use Rattle.std.proofs.lemmas.Int.Digits.{digits_value_push}
-use Rattle.std.proofs.lemmas.List.{reverse-append}
-use Rattle.semver_core.proofs.Text.Pieces.{onto_tail, runs_tail, tail_runs}
-use Rattle.nodejs_semver.specs.Internal.NpmStates.{ended, is_whole, next, run}
-use Rattle.nodejs_semver.specs.Npm.Flaws.{IsSpelled}
-use Rattle.nodejs_semver.specs.Npm.Grammar.{IsStrictBuild, IsStrictNumber, IsStrictPreRelease, dashed}
-use Rattle.nodejs_semver.specs.Npm.Grammar.{is_strict_identifier, no_build, no_pre_release, plus}
-use Rattle.nodejs_semver.specs.Npm.VersionText.{IsStrictVersion}
-use Rattle.nodejs_semver.specs.declared.npm.flaws.State.{State}
-use Rattle.nodejs_semver.specs.declared.npm.flaws.State.TheVariants.{Start, Digit, Number, Dash, Zero, Padded}
-use Rattle.nodejs_semver.specs.declared.npm.flaws.State.TheVariants.{PreRelease, Plus, Build, End}
-use Rattle.nodejs_semver.proofs.Stopping.Steps.{digit-plain, identifier-more, identifier_read}
-use Rattle.nodejs_semver.proofs.Stopping.Read.{Whole, is_plain, plain-both, plain-encodes, strict-onto, strict_behind}
 
 -- ---- steps
 
@@ -448,8 +441,7 @@ plain-dark cs h = grind (arith, nat_tests, common_steps)
 pub plain-reverse : (cs : List ℕ) → list_all is_plain cs ≡ true → list_all is_plain (reverse cs) ≡ true
 plain-reverse [] h = refl
 plain-reverse (c ∷ cs) h =
-    let each = and_parts (is_plain c) (list_all is_plain cs) h in
-    rw (reverse-append (c ∷ []) cs) (plain-both (reverse cs) (c ∷ []) (plain-reverse cs each.1) (rw each.0 refl))
+    grind (arith, nat_tests, common_steps, and_parts, is_plain, reverse-append, plain-both, plain-reverse cs)
 
 pub read-spelled : (limit : ℕ) (cs : List ℕ) → 9 ≤ limit → Whole limit Start cs → IsSpelled limit (encode_utf8_all cs)
 read-spelled limit cs nine w =

@@ -1,16 +1,11 @@
 -- What is wrong where a text stops being a version text.
-use Rattle.nodejs_semver.proofs.Common.{common_steps, ◌≡◌, ◌≤◌, ◌+◌, ◌*◌, ◌↔◌, ℕ, zero, suc, Bool, true, false, Option}
-use Rattle.nodejs_semver.proofs.Common.{Some, None, List, [], ◌∷◌, ◌++◌, refl, sym, ap, ◌∙◌, arith, inl, inr}
-use Rattle.nodejs_semver.proofs.Common.{append_assoc, is_some, not, ◌==◌, is_ascii_digit}
-use Rattle.nodejs_semver.proofs.Common.{cases_Bool, not-true, nat_tests, same_Some, bind_some, ends}
-use Rattle.std.specs.Char.{digit_value}
-use Rattle.nodejs_semver.specs.Internal.NpmStates.{is_whole, next, run, wrong_at}
-use Rattle.nodejs_semver.specs.Npm.Flaws.{GoesOn, IsFront, wrong_of}
-use Rattle.nodejs_semver.specs.declared.npm.flaws.State.{State}
-use Rattle.nodejs_semver.specs.declared.npm.flaws.State.TheVariants.{Start, Number, Dash, Padded, Plus}
-use Rattle.nodejs_semver.proofs.Stopping.Steps.{run-nil, run-step, run-then}
-use Rattle.nodejs_semver.proofs.Stopping.Read.{Whole, spelled-read}
-use Rattle.nodejs_semver.proofs.Stopping.Fronts.{front-stops, read-front}
+use Rattle.nodejs_semver.proofs.Common.{Bool, List, None, Option, Some, [], ap, append_assoc, arith, bind_some, cases_Bool}
+use Rattle.nodejs_semver.proofs.Common.{common_steps, ends, false, inl, inr, is_ascii_digit, is_some, nat_tests, not, not-true}
+use Rattle.nodejs_semver.proofs.Common.{refl, same_Some, suc, sym, true, zero, ℕ, ◌*◌, ◌++◌, ◌+◌, ◌==◌, ◌↔◌, ◌∙◌, ◌∷◌, ◌≡◌, ◌≤◌}
+use Rattle.nodejs_semver.proofs.NpmCommon.{Dash, GoesOn, IsFront, Number, Padded, Plus, State, digit_value, is_whole, next, run}
+use Rattle.nodejs_semver.proofs.{NpmCommon.{wrong_at, wrong_of}, Stopping.{Fronts.{front-stops, read-front}, Read.Whole}}
+use Rattle.nodejs_semver.proofs.Stopping.{Read.spelled-read, Steps.{run-nil, run-step, run-then}}
+use Rattle.nodejs_semver.specs.declared.npm.flaws.State.TheVariants.{Start}
 
 -- ---- the character that was read last
 

@@ -1,38 +1,24 @@
 -- The alternatives of node-semver's range texts: the function that reads them finds exactly what the statement has.
-use Rattle.nodejs_semver.proofs.Common.{◌≡◌, ◌<◌, ◌≤◌, ◌-◌, ◌+◌, ℕ, zero, suc, Bool, List, [], ◌∷◌, ◌++◌, length, take, refl, sym, ap, ◌∙◌, arith}
-use Rattle.nodejs_semver.proofs.Common.{true, false, Some, None, inl, inr, ◌&&◌, ◌||◌, not, ◌==◌, and_parts, append_assoc, append-nil, bind_some}
-use Rattle.nodejs_semver.proofs.Common.{begins, cases_Bool, length-append, list_all, nat_tests, or_right, same_Some, subst, IsUtf8}
-use Rattle.nodejs_semver.proofs.Common.{drop_spaces, drop_spaces-none, space_len, is_release, is_whitespace}
-use Rattle.std.proofs.Common.{◌/◌, ◌%◌}
-use Rattle.std.specs.Prelude.{encode_utf8_all}
-use Rattle.std.specs.Char.{encode_utf8}
-use Rattle.std.proofs.lemmas.Bool.{cases_lt, le-ltb, lt-ltb}
-use Rattle.std.proofs.lemmas.Str.{encode_ascii, len_utf8_bounds, length-encode}
-use Rattle.semver_core.specs.Internal.Spaces.{after_spaces}
-use Rattle.semver_core.specs.Text.Characters.{IsBlank}
-use Rattle.semver_core.proofs.Text.Trims.{drop_spaces-blank}
-use Rattle.semver_core.specs.Lists.{is_empty}
-use Rattle.nodejs_semver.specs.Internal.NpmWords.{Ended, after_ends, alternative_of, drop_ends, end_front, hyphen_comparisons, hyphen_ends}
-use Rattle.nodejs_semver.specs.Internal.NpmWords.{last_end, partial_front, words_within}
-use Rattle.nodejs_semver.specs.Npm.Malformed.{is_malformed, is_visible}
-use Rattle.nodejs_semver.specs.Npm.RangeText.{AreEndMarks, AreWords, IsAlternative, IsPartial, IsSignText, IsWord, hyphen, ignored, is_free_lower, is_free_upper}
-use Rattle.nodejs_semver.specs.Npm.RangeText.{is_mark, last, more, nothing, spelling, word, words}
-use Rattle.nodejs_semver.specs.Npm.RangeText.{caret_equal, late_above, late_below, no_sign, sign, tilde_sign, tilde_twice}
-use Rattle.nodejs_semver.specs.Npm.Table.{Comparison, Partial, Sign, caret, compared, hyphen_lower, hyphen_upper, major, minor, tilde, whole, wildcard}
-use Rattle.nodejs_semver.specs.Text.WordText.{above, at_least, at_most, below, equal}
-use Rattle.nodejs_semver.proofs.Reading.Bytes.{all-join, begins_component}
-use Rattle.nodejs_semver.proofs.Reading.Steps.{option-cases}
-use Rattle.nodejs_semver.proofs.Strict.Hyphens.{after_ends-drop, dash-read, end-read, ends-space, hyphen-found, mark-dark, marks-passed, marks-whole, whole-dark}
-use Rattle.nodejs_semver.proofs.Strict.Malformed.{all-weaker, boundary-dark, is_part, malformed-all, malformed-more, partial-part}
-use Rattle.nodejs_semver.proofs.Strict.PartialLaw.{boundary-quiet, partial-read}
-use Rattle.nodejs_semver.proofs.Strict.SignsRead.{marks-all}
-use Rattle.nodejs_semver.proofs.Strict.Words.{blank-boundary, blank-space, not-empty, partial-begins, words-found, words-read, words-visible}
+use Rattle.nodejs_semver.proofs.Common.{Bool, IsBlank, IsUtf8, List, None, Some, [], after_spaces, all_weaker, and_parts, ap}
+use Rattle.nodejs_semver.proofs.Common.{append-nil, append_assoc, arith, begins, cases_Bool, common_steps, drop_spaces}
+use Rattle.nodejs_semver.proofs.Common.{drop_spaces-blank, drop_spaces-none, false, inl, inr, is_empty, length, list_all}
+use Rattle.nodejs_semver.proofs.Common.{nat_tests, not, or_right, refl, same_Some, space_len, subst, suc, sym, take, true, zero}
+use Rattle.nodejs_semver.proofs.{Common.{ℕ, ◌&&◌, ◌++◌, ◌-◌, ◌<◌, ◌==◌, ◌||◌, ◌∙◌, ◌∷◌, ◌≡◌}, NpmCommon.AreEndMarks}
+use Rattle.nodejs_semver.proofs.NpmCommon.{AreWords, Comparison, Ended, IsAlternative, IsPartial, IsSignText, IsWord}
+use Rattle.nodejs_semver.proofs.NpmCommon.{after_ends, alternative_of, drop_ends, end_front, hyphen_comparisons, hyphen_ends}
+use Rattle.nodejs_semver.proofs.NpmCommon.{hyphen_lower, hyphen_upper, ignored, is_free_lower, is_free_upper, is_malformed}
+use Rattle.nodejs_semver.proofs.{NpmCommon.{is_mark, is_visible, last, last_end, word}, Reading.Bytes.all-join}
+use Rattle.nodejs_semver.proofs.{Reading.{Bytes.begins_component, Steps.option-cases}, Strict.Hyphens.after_ends-drop}
+use Rattle.nodejs_semver.proofs.Strict.Hyphens.{dash-read, end-read, ends-space, hyphen-found, mark-dark, marks-passed}
+use Rattle.nodejs_semver.proofs.Strict.{Hyphens.{marks-whole, whole-dark}, Malformed.{blank-dark, blank-signal, boundary-dark}}
+use Rattle.nodejs_semver.proofs.Strict.Malformed.{is_dark, is_part, is_signal, malformed-all, malformed-more, part-visible}
+use Rattle.nodejs_semver.proofs.Strict.{Malformed.{partial-part, sign-signal}, PartialLaw.{boundary-quiet, partial-read}}
+use Rattle.nodejs_semver.proofs.Strict.{SignsRead.marks-all, Words.{blank-boundary, blank-space, not-empty, partial-begins}}
+use Rattle.nodejs_semver.{proofs.Strict.Words.{words-found, words-read, words-visible}, specs.Internal.NpmWords.partial_front}
+use Rattle.nodejs_semver.specs.{Internal.NpmWords.words_within, Npm.{RangeText.{hyphen, more, nothing, words}, Table.Partial}}
+use Rattle.nodejs_semver.specs.Npm.Table.{Sign}
 
 -- ---- no `-` stands alone behind whitespace in words
-
--- a visible character of ASCII
-abbrev is_tight : ℕ → Bool
-is_tight b = is_visible b
 
 abbrev is_other : ℕ → Bool
 is_other b = not (b == 45)
@@ -40,17 +26,17 @@ is_other b = not (b == 45)
 -- a `-` behind which a byte stands that is no visible character
 abbrev lone : List ℕ → Bool
 lone [] = false
-lone (b ∷ rest) = (b == 45) && (not (is_empty rest) && not (begins is_tight rest))
+lone (b ∷ rest) = (b == 45) && (not (is_empty rest) && not (begins is_visible rest))
 
 -- such a `-` stands behind a byte that is no visible character
 abbrev apart : List ℕ → Bool
 apart [] = false
-apart (b ∷ rest) = (not (is_tight b) && lone rest) || apart rest
+apart (b ∷ rest) = (not (is_visible b) && lone rest) || apart rest
 
-tight-passed : (u v : List ℕ) → list_all is_tight u ≡ true → apart (u ++ v) ≡ apart v
+tight-passed : (u v : List ℕ) → list_all is_visible u ≡ true → apart (u ++ v) ≡ apart v
 tight-passed [] v h = refl
 tight-passed (b ∷ u) v h =
-    let each = and_parts (is_tight b) (list_all is_tight u) h in
+    let each = and_parts (is_visible b) (list_all is_visible u) h in
     rw each.0 (tight-passed u v each.1)
 
 other-first : (u v : List ℕ) → list_all is_other u ≡ true → lone v ≡ false → lone (u ++ v) ≡ false
@@ -64,136 +50,38 @@ other-passed : (u v : List ℕ) → list_all is_other u ≡ true → lone v ≡ 
 other-passed [] v h k = refl
 other-passed (b ∷ u) v h k =
     let each = and_parts (is_other b) (list_all is_other u) h in
-    rw (and-none (not (is_tight b)) (lone (u ++ v)) (other-first u v each.1 k)) (other-passed u v each.1 k)
+    rw (and-none (not (is_visible b)) (lone (u ++ v)) (other-first u v each.1 k)) (other-passed u v each.1 k)
 
 loose-more : (u v : List ℕ) → apart v ≡ true → apart (u ++ v) ≡ true
 loose-more [] v h = h
-loose-more (b ∷ u) v h = or_right (not (is_tight b) && lone (u ++ v)) (apart (u ++ v)) (loose-more u v h)
+loose-more (b ∷ u) v h = or_right (not (is_visible b) && lone (u ++ v)) (apart (u ++ v)) (loose-more u v h)
 
 -- ---- bytes of whitespace
 
-high-other : (n : ℕ) → 128 ≤ n → is_other n ≡ true
-high-other n h = grind (arith, nat_tests)
-
-high-loose : (n : ℕ) → 128 ≤ n → is_tight n ≡ false
-high-loose n h = grind (arith, nat_tests)
-
-record Bytes (c : ℕ) : Type 0 where
-  front : List ℕ
-  end : ℕ
-  spelled : encode_utf8 c ≡ front ++ (end ∷ [])
-  front_other : list_all is_other front ≡ true
-  end_other : is_other end ≡ true
-  end_loose : is_tight end ≡ false
-
-white-ascii : (c : ℕ) → is_whitespace c ≡ true → c < 128 → (is_other c ≡ true) × (is_tight c ≡ false)
-white-ascii c h k = (grind (arith, nat_tests), grind (arith, nat_tests))
-
-bytes-of : (c : ℕ) → is_whitespace c ≡ true → Bytes c
-unfolding encode_utf8
-bytes-of c h = elim (cases_lt c 128) [
-  | inl low ↦
-      let w = white-ascii c h low in
-      record { front = []; end = c; spelled = encode_ascii c low; front_other = refl; end_other = w.0; end_loose = w.1 }
-  | inr more_one ↦ elim (cases_lt c 2048) [
-    | inl two_bytes ↦
-        let e = 128 + c % 64 in
-        record {
-          front = (192 + c / 64) ∷ [];
-          end = e;
-          spelled = rw (le-ltb c 128 more_one, lt-ltb c 2048 two_bytes) refl;
-          front_other = rw (high-other (192 + c / 64) (omega arith)) refl;
-          end_other = high-other e (omega arith);
-          end_loose = high-loose e (omega arith);
-        }
-    | inr more_two ↦ elim (cases_lt c 65536) [
-      | inl three_bytes ↦
-          let e = 128 + c % 64 in
-          record {
-            front = (224 + c / 4096) ∷ ((128 + (c / 64) % 64) ∷ []);
-            end = e;
-            spelled = rw (le-ltb c 128 more_one, le-ltb c 2048 more_two, lt-ltb c 65536 three_bytes) refl;
-            front_other = rw (high-other (224 + c / 4096) (omega arith), high-other (128 + (c / 64) % 64) (omega arith)) refl;
-            end_other = high-other e (omega arith);
-            end_loose = high-loose e (omega arith);
-          }
-      | inr four ↦ absurd (wide c h four)
-    ]
-  ]
-]
-  where
-    wide : (c : ℕ) → is_whitespace c ≡ true → 65536 ≤ c → ⊥
-    wide c h k = grind (arith, nat_tests)
+signal-other : (b : ℕ) → is_signal b ≡ true → is_other b ≡ true
+signal-other b h = grind (arith, nat_tests)
 
 blank-other : (x : List ℕ) → IsBlank x → list_all is_other x ≡ true
-blank-other x h = rw h.spelled (go h.characters h.each)
-  where
-    go : (cs : List ℕ) → list_all is_whitespace cs ≡ true → list_all is_other (encode_utf8_all cs) ≡ true
-    go [] each = refl
-    go (c ∷ cs) each =
-        let parts = and_parts (is_whitespace c) (list_all is_whitespace cs) each in
-        let b = bytes-of c parts.0 in
-        let first : list_all is_other (encode_utf8 c) ≡ true =
-        rw b.spelled (all-join is_other b.front (b.end ∷ []) b.front_other (rw b.end_other refl)) in
-        all-join is_other (encode_utf8 c) (encode_utf8_all cs) first (go cs parts.1)
+blank-other x h = all_weaker is_signal is_other signal-other x (blank-signal x h)
 
-loose-blank : (x z : List ℕ) → IsBlank x → 0 < length x → is_empty z ≡ false → begins is_tight z ≡ false
+loose-blank : (x z : List ℕ) → list_all is_dark x ≡ true → 0 < length x → is_empty z ≡ false → begins is_visible z ≡ false
     → apart (x ++ (45 ∷ z)) ≡ true
-loose-blank x z h some filled ends = subst (λ (t : List ℕ). apart (t ++ (45 ∷ z)) ≡ true) (sym h.spelled)
-    (go h.characters h.each (subst (λ (t : List ℕ). 0 < length t) h.spelled some))
-  where
-    some-bytes : (d : ℕ) (cs : List ℕ) → 0 < length (encode_utf8_all (d ∷ cs))
-    some-bytes d cs = omega (arith, length-append (encode_utf8 d) (encode_utf8_all cs), length-encode d, (len_utf8_bounds d).0)
-
-    go : (cs : List ℕ) → list_all is_whitespace cs ≡ true → 0 < length (encode_utf8_all cs) → apart (encode_utf8_all cs ++ (45 ∷ z)) ≡ true
-    go [] each k = absurd (omega arith)
-    go (c ∷ []) each k =
-        let b = bytes-of c (and_parts (is_whitespace c) true each).0 in
-        let text_is : encode_utf8_all (c ∷ []) ++ (45 ∷ z) ≡ b.front ++ (b.end ∷ (45 ∷ z)) =
-        rw (append-nil (encode_utf8 c), b.spelled) (append_assoc b.front (b.end ∷ []) (45 ∷ z)) in
-        rw text_is (loose-more b.front (b.end ∷ (45 ∷ z)) (rw (b.end_loose, filled, ends) refl))
-    go (c ∷ d ∷ cs) each k =
-        let parts = and_parts (is_whitespace c) (list_all is_whitespace (d ∷ cs)) each in
-        let rest = encode_utf8_all (d ∷ cs) in
-        rw (append_assoc (encode_utf8 c) rest (45 ∷ z))
-        (loose-more (encode_utf8 c) (rest ++ (45 ∷ z)) (go (d ∷ cs) parts.1 (some-bytes d cs)))
+loose-blank [] z h some filled ends = absurd (omega (arith, some))
+loose-blank (b ∷ []) z h some filled ends = rw ((and_parts (is_dark b) true h).0, filled, ends) refl
+loose-blank (b ∷ c ∷ x) z h some filled ends =
+    loose-more (b ∷ []) ((c ∷ x) ++ (45 ∷ z))
+    (loose-blank (c ∷ x) z (and_parts (is_dark b) (list_all is_dark (c ∷ x)) h).1 (omega arith) filled ends)
 
 -- ---- the texts of words
 
-part-tight : (b : ℕ) → is_part b ≡ true → is_tight b ≡ true
-part-tight b h = grind (arith, nat_tests)
-
-partial-tight : (loose : Bool) (x : List ℕ) (p : Partial) → IsPartial loose x p → list_all is_tight x ≡ true
-partial-tight loose x p h = all-weaker is_part is_tight part-tight x (partial-part loose x p h)
-
-spelling-other : (s : Sign) (y : List ℕ) → list_all is_other y ≡ true → list_all is_other (spelling s ++ y) ≡ true
-spelling-other (compared above) y h = h
-spelling-other (compared at_least) y h = h
-spelling-other (compared equal) y h = h
-spelling-other (compared at_most) y h = h
-spelling-other (compared below) y h = h
-spelling-other caret y h = h
-spelling-other tilde y h = h
+partial-tight : (loose : Bool) (x : List ℕ) (p : Partial) → IsPartial loose x p → list_all is_visible x ≡ true
+partial-tight loose x p h = all_weaker is_part is_visible part-visible x (partial-part loose x p h)
 
 sign-other : (signs : List ℕ) (s : Sign) → IsSignText signs s → list_all is_other signs ≡ true
-sign-other signs s no_sign = refl
-sign-other signs s (sign t y h) = spelling-other t y (blank-other y h)
-sign-other signs s (late_above y h) = all-join is_other y (61 ∷ []) (blank-other y h) refl
-sign-other signs s (late_below y h) = all-join is_other y (61 ∷ []) (blank-other y h) refl
-sign-other signs s (caret_equal y z h k) = all-join is_other y (61 ∷ z) (blank-other y h) (blank-other z k)
-sign-other signs s (tilde_sign c y z h k which) =
-    all-join is_other y (spelling (compared c) ++ z) (blank-other y h) (spelling-other (compared c) z (blank-other z k))
-sign-other signs s (tilde_twice c y z h some k which) =
-    all-join is_other y (spelling (compared c) ++ z) (blank-other y h) (spelling-other (compared c) z (blank-other z k))
+sign-other signs s h = all_weaker is_signal is_other signal-other signs (sign-signal signs s h)
 
-marks-other : (marks : List ℕ) → list_all is_mark marks ≡ true → list_all is_other marks ≡ true
-marks-other [] h = refl
-marks-other (b ∷ marks) h =
-    let each = and_parts (is_mark b) (list_all is_mark marks) h in
-    rw (mark-other b each.0) (marks-other marks each.1)
-  where
-    mark-other : (b : ℕ) → is_mark b ≡ true → is_other b ≡ true
-    mark-other b h = grind (arith, nat_tests)
+mark-other : (b : ℕ) → is_mark b ≡ true → is_other b ≡ true
+mark-other b h = grind (arith, nat_tests)
 
 component-first : (u : List ℕ) → begins_component u ≡ true → lone u ≡ false
 component-first [] h = refl
@@ -219,7 +107,7 @@ word-first loose include w v cs (ignored x l h) = (
         rw tight (and-none (b == 45) false refl)
 word-first loose include w v cs (word signs marks x s p h m e k) =
     let text_is : (signs ++ (marks ++ x)) ++ v ≡ (signs ++ marks) ++ (x ++ v) = simp append_assoc refl in
-    let front = all-join is_other signs marks (sign-other signs s h) (marks-other marks (marks-all loose s p marks m)) in
+    let front = all-join is_other signs marks (sign-other signs s h) (all_weaker is_mark is_other mark-other marks (marks-all loose s p marks m)) in
     let first = component-first (x ++ v) (partial-begins loose x v p k) in (
       rw text_is (other-passed (signs ++ marks) (x ++ v) front first ∙ tight-passed x v (partial-tight loose x p k)),
       rw text_is (other-first (signs ++ marks) (x ++ v) front first),
@@ -238,16 +126,7 @@ words-first loose include text cs (more t blank rest ds es h hb some k) =
 
 upper-same : (include : Bool) (q : Partial) (text other : List ℕ) → is_free_upper include q ≡ true
     → hyphen_upper include q text ≡ hyphen_upper include q other
-upper-same include wildcard text other h = refl
-upper-same include (major M) text other h = refl
-upper-same include (minor M m) text other h = refl
-upper-same include (whole v) text other h = elim (cases_Bool (is_release v)) [
-  | inr pre ↦ rw pre refl
-  | inl release ↦ elim (cases_Bool include) [
-    | inl with_pre ↦ rw (release, with_pre) refl
-    | inr without ↦ cc (rw (without, release) at h)
-  ]
-]
+upper-same include q text other h = grind (arith, nat_tests, common_steps)
 
 ends-after : (n : ℕ) (text : List ℕ) → drop_ends (after_spaces n text) ≡ after_ends n text
 unfolding after_spaces after_ends
@@ -347,7 +226,7 @@ alternative-read loose include text cs u (hyphen a x blank gap b y p q ha hx hb 
     let r = hyphen-read loose include a x blank gap b y p q ha hx hb some hg more_gap hc hy in
     let behind = blank ++ 45 ∷ (gap ++ (b ++ y)) in
     let ends = boundary-dark (gap ++ (b ++ y)) (blank-boundary gap (b ++ y) hg more_gap) in
-    let l = loose-more a (x ++ behind) (loose-more x behind (loose-blank blank (gap ++ (b ++ y)) hb some (not-empty gap (b ++ y) more_gap) ends)) in
+    let l = loose-more a (x ++ behind) (loose-more x behind (loose-blank blank (gap ++ (b ++ y)) (blank-dark blank hb) some (not-empty gap (b ++ y) more_gap) ends)) in
     by-hyphen loose include (a ++ (x ++ behind)) r.0 u l r.1 ∙ ap (λ (l : List Comparison). Some l) r.2
 
 pub alternative-found : (loose : Bool) (include : Bool) (text : List ℕ) (cs : List Comparison) → IsUtf8 text → alternative_of loose include text ≡ Some cs
@@ -361,7 +240,5 @@ alternative-found loose include (b ∷ text) cs u h =
           let is : IsAlternative loose include (b ∷ text) some.0 =
           words (b ∷ text) some.0 (words-found loose include (length (b ∷ text)) (b ∷ text) some.0 u some.1) in
           subst (λ (l : List Comparison). IsAlternative loose include (b ∷ text) l) (same_Some _ _ (rw some.1 at h)) is
-      | inl none ↦
-          let e = bind_some (hyphen_ends loose include (b ∷ text)) (λ e. Some (hyphen_comparisons include e)) cs (rw none at h) in
-          subst (λ (l : List Comparison). IsAlternative loose include (b ∷ text) l) (same_Some _ _ e.2) (hyphen-found loose include (b ∷ text) e.0 u e.1)
+      | inl none ↦ grind (arith, nat_tests, common_steps, same_Some, hyphen-found)
     ]

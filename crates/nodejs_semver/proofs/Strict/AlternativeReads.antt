@@ -1,24 +1,13 @@
 -- An alternative is found exactly where the text has one whose comparators are valid.
-use Rattle.nodejs_semver.proofs.Common.{◌≡◌, ◌<◌, ℕ, Bool, List, [], ◌∷◌, ◌++◌, length, refl, sym, ◌∙◌, arith, true, false}
-use Rattle.nodejs_semver.proofs.Common.{Some, None, Option, inl, inr, IsUtf8, Span, VersionValue, list_all, list_all-append, MAX_SAFE_INTEGER, cases_Bool}
-use Rattle.nodejs_semver.proofs.Common.{bind_some, is_empty, ◌&&◌}
-use Rattle.std.specs.Prelude.{IfSome}
-use Rattle.semver_core.specs.Internal.Reading.{◌>>?◌}
-use Rattle.nodejs_semver.specs.Internal.NpmAlternatives.{NarrowedBy}
-use Rattle.nodejs_semver.specs.Internal.NpmMeaning.{IsNarrowed}
-use Rattle.nodejs_semver.specs.Internal.NpmReads.{IsFound, valid_alternative, valid_hyphen, words_of}
-use Rattle.nodejs_semver.specs.Internal.NpmWords.{Ended, alternative_of, hyphen_comparisons, hyphen_ends, hyphen_of, valid_only}
-use Rattle.nodejs_semver.specs.Internal.NpmWords.{words_within}
-use Rattle.nodejs_semver.specs.Internal.Words.{or_else}
-use Rattle.nodejs_semver.specs.Npm.Ranges.{is_valid}
-use Rattle.nodejs_semver.specs.Npm.Table.{Comparison, hyphen_lower, hyphen_upper}
-use Rattle.nodejs_semver.specs.declared.npm.alternatives.Alternative.{Alternative}
-use Rattle.nodejs_semver.proofs.Reading.Steps.{option-cases}
-use Rattle.nodejs_semver.proofs.Strict.AlternativeLaw.{alternative-read}
-use Rattle.nodejs_semver.proofs.Strict.HyphenReads.{hyphen_limited}
-use Rattle.nodejs_semver.proofs.Strict.Hyphens.{hyphen-found}
-use Rattle.nodejs_semver.proofs.Strict.Valid.{hyphen-valid, words-valid}
-use Rattle.nodejs_semver.proofs.Strict.WordSteps.{empty-append}
+use Rattle.nodejs_semver.proofs.Common.{Bool, IfSome, IsUtf8, List, MAX_SAFE_INTEGER, None, Option, Some, Span, VersionValue}
+use Rattle.nodejs_semver.proofs.Common.{[], arith, common_steps, false, inl, inr, is_empty, length, list_all, list_all-append}
+use Rattle.nodejs_semver.proofs.{Common.{nat_tests, refl, sym, true, ℕ, ◌&&◌, ◌++◌, ◌<◌, ◌∙◌, ◌∷◌, ◌≡◌}, NpmCommon.Alternative}
+use Rattle.nodejs_semver.proofs.NpmCommon.{Comparison, Ended, IsFound, IsNarrowed, NarrowedBy, alternative_of}
+use Rattle.nodejs_semver.proofs.NpmCommon.{hyphen_comparisons, hyphen_ends, hyphen_lower, hyphen_of, hyphen_upper, is_valid}
+use Rattle.nodejs_semver.proofs.NpmCommon.{or_else, valid_alternative, valid_only, words_of, ◌>>?◌}
+use Rattle.nodejs_semver.proofs.{Reading.Steps.option-cases, Strict.AlternativeLaw.alternative-read}
+use Rattle.nodejs_semver.proofs.Strict.{HyphenReads.hyphen_limited, Hyphens.hyphen-found, Valid.{hyphen-valid, words-valid}}
+use Rattle.nodejs_semver.{proofs.Strict.WordSteps.empty-append, specs.Internal.NpmReads.valid_hyphen}
 
 -- ---- hyphen ranges
 
@@ -30,44 +19,36 @@ hyphen-read loose include text =
     rw (hyphen_limited loose MAX_SAFE_INTEGER include text) (sym (hyphen-valid MAX_SAFE_INTEGER include (hyphen_ends loose include text)))
 
 pub hyphen-none : (loose : Bool) (include : Bool) (text : List ℕ) → hyphen_of loose MAX_SAFE_INTEGER include text ≡ None → IsFound include (valid_hyphen loose include text) None
-hyphen-none loose include text h =
-    let none : valid_hyphen loose include text ≡ None = hyphen-read loose include text ∙ rw h refl in
-    rw none tt
+hyphen-none loose include text h = grind (arith, nat_tests, common_steps, hyphen-read)
+
+pub hyphen-some : (loose : Bool) (include : Bool) (text : List ℕ) (e : Ended × Ended) → hyphen_of loose MAX_SAFE_INTEGER include text ≡ Some e
+    → valid_hyphen loose include text ≡ valid_only MAX_SAFE_INTEGER (hyphen_comparisons include e)
+hyphen-some loose include text e h = hyphen-read loose include text ∙ rw h refl
 
 none-left : (cs ds : List Comparison) → list_all (is_valid MAX_SAFE_INTEGER) cs ≡ false → valid_only MAX_SAFE_INTEGER (cs ++ ds) ≡ None
 none-left cs ds h = rw (list_all-append (is_valid MAX_SAFE_INTEGER) cs ds, h) refl
 
 valid-both : (cs ds : List Comparison) → list_all (is_valid MAX_SAFE_INTEGER) cs ≡ true
     → valid_only MAX_SAFE_INTEGER (cs ++ ds) ≡ (valid_only MAX_SAFE_INTEGER ds >>? λ l. Some (cs ++ l))
-valid-both cs ds h = rw (list_all-append (is_valid MAX_SAFE_INTEGER) cs ds, h) (elim (cases_Bool (list_all (is_valid MAX_SAFE_INTEGER) ds)) [
-  | inl good ↦ rw good refl
-  | inr bad ↦ rw bad refl
-])
+valid-both cs ds h = grind (arith, nat_tests, common_steps, list_all-append)
 
-pub lower-invalid : (loose : Bool) (include : Bool) (text : List ℕ) (e : Ended × Ended) (all : Option (Span VersionValue))
-    → hyphen_of loose MAX_SAFE_INTEGER include text ≡ Some e → NarrowedBy include all (hyphen_lower include e.0.0 e.0.1) None
-    → IsFound include (valid_hyphen loose include text) None
-lower-invalid loose include text e all h n =
-    let none : valid_hyphen loose include text ≡ None =
-    hyphen-read loose include text ∙ rw h (none-left (hyphen_lower include e.0.0 e.0.1) (hyphen_upper include e.1.0 e.1.1) n) in
-    rw none tt
+-- what is found between two ends
+abbrev Between : Bool → Ended × Ended → Option Alternative → Type 0
+Between include e r = IsFound include (valid_only MAX_SAFE_INTEGER (hyphen_comparisons include e)) r
 
-pub upper-read : (loose : Bool) (include : Bool) (text : List ℕ) (e : Ended × Ended) (all : Option (Span VersionValue)) (a : Alternative) (r : Option Alternative)
-    → hyphen_of loose MAX_SAFE_INTEGER include text ≡ Some e → IsNarrowed include [] all
-    → NarrowedBy include all (hyphen_lower include e.0.0 e.0.1) (Some a)
+pub lower-invalid : (include : Bool) (e : Ended × Ended) (all : Option (Span VersionValue))
+    → NarrowedBy include all (hyphen_lower include e.0.0 e.0.1) None → Between include e None
+lower-invalid include e all n = rw (none-left (hyphen_lower include e.0.0 e.0.1) (hyphen_upper include e.1.0 e.1.1) n) tt
+
+pub upper-read : (include : Bool) (e : Ended × Ended) (all : Option (Span VersionValue)) (a : Alternative) (r : Option Alternative)
+    → IsNarrowed include [] all → NarrowedBy include all (hyphen_lower include e.0.0 e.0.1) (Some a)
     → NarrowedBy include a.interval (hyphen_upper include e.1.0 e.1.1) r → a.is_bare ≡ is_empty (hyphen_lower include e.0.0 e.0.1)
-    → IfSome r (λ b. b.is_bare ≡ (a.is_bare && is_empty (hyphen_upper include e.1.0 e.1.1)))
-    → IsFound include (valid_hyphen loose include text) r
-upper-read loose include text e all a None h first n m k l =
-    let ds = hyphen_upper include e.1.0 e.1.1 in
-    let none : valid_hyphen loose include text ≡ None =
-    hyphen-read loose include text ∙ rw h (valid-both (hyphen_lower include e.0.0 e.0.1) ds n.0 ∙ rw m refl) in
-    rw none tt
-upper-read loose include text e all a (Some b) h first n m k l =
+    → IfSome r (λ b. b.is_bare ≡ (a.is_bare && is_empty (hyphen_upper include e.1.0 e.1.1))) → Between include e r
+upper-read include e all a None first n m k l =
+    rw (valid-both (hyphen_lower include e.0.0 e.0.1) (hyphen_upper include e.1.0 e.1.1) n.0, m) tt
+upper-read include e all a (Some b) first n m k l =
     let cs = hyphen_lower include e.0.0 e.0.1 in
-    let ds = hyphen_upper include e.1.0 e.1.1 in
-    let some : valid_hyphen loose include text ≡ Some (cs ++ ds) = hyphen-read loose include text ∙ rw h (valid-both cs ds n.0 ∙ rw m.0 refl) in
-    rw some (m.1 cs (n.1 [] first), l ∙ rw k (sym (empty-append cs ds)))
+    rw (valid-both cs (hyphen_upper include e.1.0 e.1.1) n.0, m.0) (m.1 cs (n.1 [] first), l ∙ rw k (sym (empty-append cs _)))
 
 -- ---- alternatives
 
@@ -80,11 +61,7 @@ no-text loose include all h k = (h, k)
 words-are : (loose : Bool) (include : Bool) (text : List ℕ) (cs : List Comparison) → 0 < length text → words_of loose include text ≡ Some cs
     → valid_alternative loose include text ≡ Some cs
 unfolding valid_alternative alternative_of
-words-are loose include [] cs some h = absurd (omega (arith, some))
-words-are loose include (b ∷ text) cs some h =
-    let read = sym (words-valid loose MAX_SAFE_INTEGER include (length (b ∷ text)) (b ∷ text)) ∙ h in
-    let w = bind_some (words_within loose include (length (b ∷ text)) (b ∷ text)) (λ cs. valid_only MAX_SAFE_INTEGER cs) cs read in
-    rw w.1 w.2
+words-are loose include text cs some h = grind (arith, nat_tests, common_steps, words-valid)
 
 -- a text that is no words
 hyphen-is : (loose : Bool) (include : Bool) (text : List ℕ) → IsUtf8 text → 0 < length text → words_of loose include text ≡ None
@@ -95,9 +72,7 @@ hyphen-is loose include (b ∷ text) u some h = elim (option-cases (hyphen_ends 
   | inr e ↦
       let is = alternative-read loose include (b ∷ text) (hyphen_comparisons include e.0) u (hyphen-found loose include (b ∷ text) e.0 u e.1) in
       rw (is, e.1) refl
-  | inl none ↦
-      let invalid = sym (words-valid loose MAX_SAFE_INTEGER include (length (b ∷ text)) (b ∷ text)) ∙ h in
-      rw none (or-none (words_within loose include (length (b ∷ text)) (b ∷ text)) invalid)
+  | inl none ↦ grind (arith, nat_tests, common_steps, words-valid)
 ]
   where
     or-none : (o : Option (List Comparison)) → (o >>? λ cs. valid_only MAX_SAFE_INTEGER cs) ≡ None

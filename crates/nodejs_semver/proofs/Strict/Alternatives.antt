@@ -1,20 +1,14 @@
 -- The intervals of alternatives accept what the alternatives do.
-use Rattle.nodejs_semver.proofs.Common.{◌≡◌, refl, sym, ap, ap₂, ◌∙◌, Bool, true, false, ◌&&◌, ◌||◌, not, if◌then◌else◌, List, []}
-use Rattle.nodejs_semver.proofs.Common.{◌∷◌, Option, Some, None, arith, option_to_list, list_all, list_any, flat_map, cases_Bool}
-use Rattle.nodejs_semver.proofs.Common.{inl, inr, holds, precedence, VersionValue, is_release, lets_in, Span, accepts, is_empty}
-use Rattle.nodejs_semver.proofs.Common.{is_le, is_past, Beside, list_any-append, list_all-append, ◌+◌, MAX_SAFE_INTEGER}
-use Rattle.std.specs.Ordering.{ordering_then}
-use Rattle.std.specs.declared.cmp.Ordering.{Ordering}
-use Rattle.std.specs.declared.cmp.Ordering.TheVariants.{Equal}
-use Rattle.semver_core.specs.Internal.Successors.{upto_patch, zero_least}
-use Rattle.nodejs_semver.proofs.Algebra.FlatMaps.{any_weaker}
-use Rattle.nodejs_semver.specs.Internal.NpmAlternatives.{AcceptAsRanged, AreNarrowed, nothing, ranged}
-use Rattle.nodejs_semver.specs.Internal.NpmMeaning.{IsNarrowed, counted, is_unbounded}
+use Rattle.nodejs_semver.proofs.Common.{Beside, Bool, Equal, IsRange, List, MAX_SAFE_INTEGER, None, Option, Ordering, Some}
+use Rattle.nodejs_semver.proofs.Common.{Span, VersionValue, [], accepts, any_version, any_weaker, ap, arith, cases_Bool}
+use Rattle.nodejs_semver.proofs.Common.{common_steps, false, flat_map, holds, if◌then◌else◌, inl, inr, is_empty, is_le, is_past}
+use Rattle.nodejs_semver.proofs.Common.{is_range_span, is_release, lets_in, list_all, list_all-append, list_any}
+use Rattle.nodejs_semver.proofs.Common.{list_any-append, nat_tests, not, option_to_list, ordering_then, precedence, refl, sym}
+use Rattle.nodejs_semver.proofs.{Common.{true, ◌&&◌, ◌+◌, ◌||◌, ◌∙◌, ◌∷◌, ◌≡◌}, NpmCommon.{AcceptAsRanged, AreNarrowed}}
+use Rattle.nodejs_semver.proofs.NpmCommon.{Comparison, IsNarrowed, counted, counts, is_unbounded, meets, nothing, satisfies}
+use Rattle.nodejs_semver.{proofs.NpmCommon.{upto_patch, zero_least}, specs.{Internal.NpmAlternatives.ranged, Npm.Ranges.names}}
+use Rattle.nodejs_semver.specs.Npm.Table.{lowest}
 use Rattle.nodejs_semver.specs.Npm.Ranges as Npm
-use Rattle.nodejs_semver.specs.Npm.Ranges.{meets, names, satisfies}
-use Rattle.nodejs_semver.specs.Npm.Table.{Comparison, counts, lowest}
-use Rattle.nodejs_semver.specs.Internal.Sets.{is_range_span}
-use Rattle.nodejs_semver.specs.Ranges.View.{IsRange, any_version}
 
 -- the span holds v, and lets it in or pre-releases are included
 abbrev lets : Bool → VersionValue → Span VersionValue → Bool
@@ -32,13 +26,7 @@ one_accepts include v cs (Some s) h =
 
 uncounted : (include : Bool) (cs : List Comparison) → list_any (counts include) cs ≡ false → counted include cs ≡ []
 uncounted include [] h = refl
-uncounted include (c ∷ cs) h = elim (cases_Bool (counts include c)) [
-  | inl e ↦ absurd (differ (sym h ∙ ap (λ (a : Bool). a || list_any (counts include) cs) e))
-  | inr e ↦ rw e (uncounted include cs (sym (ap (λ (a : Bool). a || list_any (counts include) cs) e) ∙ h))
-]
-  where
-    differ : false ≡ true → ⊥
-    differ e = cc
+uncounted include (c ∷ cs) h = grind (arith, nat_tests, common_steps, uncounted include cs)
 
 zero : VersionValue
 zero = lowest (0, 0, 0)
@@ -61,8 +49,7 @@ all_accept include v [] [] h = refl
 all_accept include v [] (o ∷ os) h = absurd h
 all_accept include v (cs ∷ rest) [] h = absurd h
 all_accept include v (cs ∷ rest) (o ∷ os) h =
-    list_any-append (lets include v) (option_to_list o) (flat_map option_to_list os)
-    ∙ ap₂ (λ (a b : Bool). a || b) (one_accepts include v cs o h.0) (all_accept include v rest os h.1)
+    grind (arith, nat_tests, common_steps, list_any-append, one_accepts, all_accept include v rest os)
 
 some_open : (include : Bool) (alternatives : List (List Comparison)) (os : List (Option (Span VersionValue)))
     → AreNarrowed include alternatives os
@@ -71,8 +58,7 @@ some_open include [] [] h = refl
 some_open include [] (o ∷ os) h = absurd h
 some_open include (cs ∷ rest) [] h = absurd h
 some_open include (cs ∷ rest) (o ∷ os) h =
-    list_any-append is_unbounded (option_to_list o) (flat_map option_to_list os)
-    ∙ ap₂ (λ (a b : Bool). a || b) (one_open include cs o h.0) (some_open include rest os h.1)
+    grind (arith, nat_tests, common_steps, list_any-append, one_open, some_open include rest os)
 
 -- no version is below `0.0.0-0`
 le_then : (r : Ordering) → is_le r ≡ true → is_le (ordering_then r Equal) ≡ true
@@ -86,10 +72,7 @@ nothing_held v include = rw (least v) refl
 
 -- what an alternative without comparators accepts
 open_meets : (v : VersionValue) (cs : List Comparison) → not (list_any (counts true) cs) ≡ true → meets true v (counted true cs) ≡ true
-open_meets v cs h = rw (uncounted true cs (opposite _ h)) (grind arith)
-  where
-    opposite : (a : Bool) → not a ≡ true → a ≡ false
-    opposite a h = grind arith
+open_meets v cs h = grind (arith, nat_tests, common_steps, uncounted)
 
 open_accepts : (include : Bool) (v : VersionValue) (alternatives : List (List Comparison))
     → list_any (λ cs. not (list_any (counts include) cs)) alternatives ≡ true
@@ -110,15 +93,7 @@ none_or_some (s ∷ ss) v include = refl
 ranged_accepts : (include : Bool) (alternatives : List (List Comparison)) (os : List (Option (Span VersionValue)))
     → AreNarrowed include alternatives os → (v : VersionValue)
     → accepts (ranged (flat_map option_to_list os)) v include ≡ Npm.accepts include alternatives v
-ranged_accepts include alternatives os h v =
-    let ss = flat_map option_to_list os in
-    let opened = some_open include alternatives os h in
-    elim (cases_Bool (list_any is_unbounded ss)) [
-      | inl e ↦ rw e (open_accepts include v alternatives (sym opened ∙ e))
-      | inr e ↦
-          rw e (none_or_some ss v include ∙ all_accept include v alternatives os h
-          ∙ sym (closed_accepts include v alternatives (sym opened ∙ e)))
-    ]
+ranged_accepts include alternatives os h v = grind (arith, some_open, open_accepts, none_or_some, all_accept, closed_accepts)
 
 pub ranged_list : (found ss : List (Span VersionValue)) → ss ≡ ranged found → AcceptAsRanged found ss
 ranged_list found ss e include alternatives os h f v = rw (e, f) (ranged_accepts include alternatives os h v)
@@ -146,8 +121,7 @@ narrowed_spans include [] [] h = refl
 narrowed_spans include [] (o ∷ os) h = absurd h
 narrowed_spans include (cs ∷ rest) [] h = absurd h
 narrowed_spans include (cs ∷ rest) (o ∷ os) h =
-    list_all-append (is_range_span (MAX_SAFE_INTEGER + 1)) (option_to_list o) (flat_map option_to_list os)
-    ∙ ap₂ (λ (a b : Bool). a && b) (one_span include cs o h.0) (narrowed_spans include rest os h.1)
+    grind (arith, nat_tests, common_steps, list_all-append, one_span, narrowed_spans include rest os)
 
 pub found_spans : (include : Bool) (alternatives : List (List Comparison)) (os : List (Option (Span VersionValue)))
     (found : List (Span VersionValue)) → AreNarrowed include alternatives os → found ≡ flat_map option_to_list os
@@ -161,7 +135,4 @@ some_range (s ∷ ss) h = record { some = omega arith; each = h }
 
 pub ranged_range : (found : List (Span VersionValue)) → list_all (is_range_span (MAX_SAFE_INTEGER + 1)) found ≡ true
     → IsRange MAX_SAFE_INTEGER (ranged found)
-ranged_range found h = elim (cases_Bool (list_any is_unbounded found)) [
-  | inl e ↦ rw e (record { some = omega arith; each = refl })
-  | inr e ↦ rw e (some_range found h)
-]
+ranged_range found h = grind (arith, nat_tests, common_steps, some_range)

@@ -1,15 +1,11 @@
 -- The hyphen ranges that the code reads are those whose numbers are up to the limit.
-use Rattle.nodejs_semver.proofs.Common.{common_steps, nat_tests, ◌≡◌, ◌<◌, ◌≤◌, ◌-◌, ℕ, zero, suc, Bool, List, [], ◌∷◌}
-use Rattle.nodejs_semver.proofs.Common.{length, drop, take, refl, sym, ap, ◌∙◌, arith, false, Some, None, Option, inl}
-use Rattle.nodejs_semver.proofs.Common.{inr, ◌||◌, cases_Bool, MAX_SAFE_INTEGER, space_len, Front}
-use Rattle.semver_core.specs.Internal.Reading.{◌>>?◌}
-use Rattle.nodejs_semver.specs.Internal.NpmWords.{Ended, after_ends, counted_front, drop_ends, end_front, end_len}
-use Rattle.nodejs_semver.specs.Internal.NpmWords.{ended_end, hyphen_ends, hyphen_of, is_small, limited, limited_end}
-use Rattle.nodejs_semver.specs.Internal.NpmWords.{limited_hyphen}
-use Rattle.nodejs_semver.specs.Npm.RangeText.{are_whole_marks, is_mark}
-use Rattle.nodejs_semver.specs.Npm.Table.{Partial}
+use Rattle.nodejs_semver.proofs.Common.{Bool, Front, List, MAX_SAFE_INTEGER, None, Option, Some, [], ap, arith, cases_Bool}
+use Rattle.nodejs_semver.proofs.Common.{common_steps, drop, false, inl, inr, length, nat_tests, refl, space_len, suc, sym, take}
+use Rattle.nodejs_semver.proofs.{Common.{zero, ℕ, ◌-◌, ◌<◌, ◌||◌, ◌∙◌, ◌∷◌, ◌≡◌, ◌≤◌}, NpmCommon.{Ended, after_ends}}
+use Rattle.nodejs_semver.proofs.NpmCommon.{are_whole_marks, counted_front, drop_ends, end_front, ended_end, hyphen_ends}
+use Rattle.nodejs_semver.proofs.NpmCommon.{hyphen_of, is_mark, is_small, limited, limited_end, limited_hyphen, ◌>>?◌}
 use Rattle.nodejs_semver.proofs.Strict.Hyphens.{after_ends-drop, ends-mark, ends-more, ends-space, ends-stop}
-use Rattle.nodejs_semver.proofs.Strict.Limits.{counted_limited}
+use Rattle.nodejs_semver.{proofs.Strict.Limits.counted_limited, specs.{Internal.NpmWords.end_len, Npm.Table.Partial}}
 
 -- ---- marks and whitespace
 

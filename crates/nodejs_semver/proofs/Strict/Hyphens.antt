@@ -1,29 +1,19 @@
 -- Hyphen ranges of node-semver's range texts: the functions that read them find exactly what the statement has.
-use Rattle.nodejs_semver.proofs.Common.{common_steps, ◌≡◌, ◌⊎◌, ◌<◌, ◌-◌, ℕ, zero, suc, Bool, List, [], ◌∷◌, ◌++◌}
-use Rattle.nodejs_semver.proofs.Common.{length, drop, take, refl, sym, ap, ◌∙◌, arith, true, false, Some, inl, inr}
-use Rattle.nodejs_semver.proofs.Common.{◌||◌, and_parts, append_assoc, append-nil, bind_some, cases_Bool, cond_some}
-use Rattle.nodejs_semver.proofs.Common.{drop_at, list_all, nat_tests, subst, begins, IsUtf8, is_empty}
-use Rattle.nodejs_semver.proofs.Common.{drop_spaces, space_len, space_len-nil, is_whitespace, encode_utf8_all}
-use Rattle.nodejs_semver.proofs.Common.{encode_utf8, len_utf8_bounds, length-encode, IsBlank}
-use Rattle.std.specs.Char.{len_utf8}
-use Rattle.std.proofs.lemmas.Str.{IsUtf8-past_char, encode_ascii, encode_same}
-use Rattle.semver_core.proofs.Text.SpaceLaw.{space_len-dark, space_len-white}
-use Rattle.nodejs_semver.specs.Internal.Fronts.{after_byte}
-use Rattle.nodejs_semver.specs.Internal.NpmWords.{Ended, after_dash, after_ends, drop_ends, end_front, ended_end}
-use Rattle.nodejs_semver.specs.Internal.NpmWords.{hyphen_comparisons, hyphen_ends, last_end, partial_front}
-use Rattle.nodejs_semver.specs.Internal.Words.{after_some_space}
-use Rattle.nodejs_semver.specs.Npm.RangeText.{AreEndMarks, IsAlternative, IsPartial, are_whole_marks, hyphen}
-use Rattle.nodejs_semver.specs.Npm.RangeText.{is_free_lower, is_free_upper, is_mark, is_one_v}
-use Rattle.nodejs_semver.specs.Npm.Table.{Partial}
-use Rattle.nodejs_semver.proofs.Dividing.MeaningLaw.{no_characters}
-use Rattle.nodejs_semver.proofs.Reading.Bytes.{begins_component, component-solid, is_solid, solid-dark}
-use Rattle.nodejs_semver.proofs.Reading.WordLaw.{byte-is, tail-utf8}
-use Rattle.nodejs_semver.proofs.Strict.PartialLaw.{partial-found, partial-read}
-use Rattle.nodejs_semver.proofs.Strict.Signs.{blank-at}
-use Rattle.nodejs_semver.proofs.Strict.SignsRead.{blank-skipped}
-use Rattle.nodejs_semver.proofs.Strict.VersionLaw.{empty-is}
-use Rattle.nodejs_semver.proofs.Strict.Words.{blank-some, blank-space, front-text, partial-begins, rest-utf8}
-use Rattle.nodejs_semver.proofs.Strict.Words.{space-boundary}
+use Rattle.nodejs_semver.proofs.Common.{Bool, IsBlank, IsUtf8, List, Some, [], and_parts, ap, append-nil, append_assoc, arith}
+use Rattle.nodejs_semver.proofs.Common.{begins, bind_some, cases_Bool, common_steps, cond_some, drop, drop_at, drop_spaces}
+use Rattle.nodejs_semver.proofs.Common.{encode_utf8, encode_utf8_all, false, inl, inr, is_empty, is_whitespace, len_utf8_bounds}
+use Rattle.nodejs_semver.proofs.Common.{length, length-encode, list_all, nat_tests, refl, space_len, space_len-nil, subst, suc}
+use Rattle.nodejs_semver.proofs.Common.{sym, take, true, zero, ℕ, ◌++◌, ◌-◌, ◌<◌, ◌||◌, ◌∙◌, ◌∷◌, ◌≡◌, ◌⊎◌}
+use Rattle.nodejs_semver.proofs.NpmCommon.{AreEndMarks, Ended, IsAlternative, IsPartial, after_byte, after_ends}
+use Rattle.nodejs_semver.proofs.NpmCommon.{are_whole_marks, drop_ends, encode_ascii, end_front, ended_end, hyphen_comparisons}
+use Rattle.nodejs_semver.proofs.NpmCommon.{hyphen_ends, is_free_lower, is_free_upper, is_mark, is_one_v, last_end, len_utf8}
+use Rattle.nodejs_semver.proofs.{NpmCommon.space_len-white, Dividing.MeaningLaw.no_characters, Reading.Bytes.begins_component}
+use Rattle.nodejs_semver.proofs.Reading.{Bytes.{component-solid, is_solid, solid-dark}, WordLaw.{byte-is, tail-utf8}}
+use Rattle.nodejs_semver.proofs.Strict.{PartialLaw.{partial-found, partial-read}, Signs.blank-at, SignsRead.blank-skipped}
+use Rattle.nodejs_semver.proofs.Strict.{VersionLaw.empty-is, Words.{blank-some, blank-space, front-text, partial-begins}}
+use Rattle.nodejs_semver.{proofs.Strict.Words.{rest-utf8, space-boundary}, specs.Internal.NpmWords.{after_dash, partial_front}}
+use Rattle.nodejs_semver.specs.{Internal.Words.after_some_space, Npm.{RangeText.hyphen, Table.Partial}}
+use Rattle.{semver_core.proofs.Text.SpaceLaw.space_len-dark, std.proofs.lemmas.Str.{IsUtf8-past_char, encode_same}}
 
 -- ---- marks and whitespace at the front
 
@@ -118,10 +108,7 @@ ends-found text u = ends-from u.0 text u u.1.1
 
 pub ends-read : (cs u : List ℕ) → list_all is_end cs ≡ true → begins is_mark u ≡ false → space_len u ≡ 0 → drop_ends (encode_utf8_all cs ++ u) ≡ u
 ends-read [] u h other dark = ends-none u other dark
-ends-read (c ∷ cs) u h other dark =
-    let each = and_parts (is_end c) (list_all is_end cs) h in
-    ap drop_ends (append_assoc (encode_utf8 c) (encode_utf8_all cs) u) ∙ ends-char c (encode_utf8_all cs ++ u) each.0
-    ∙ ends-read cs u each.1 other dark
+ends-read (c ∷ cs) u h other dark = grind (arith, nat_tests, common_steps, and_parts, append_assoc, ends-char, ends-read cs u)
 
 -- ---- one `v`, as characters and as bytes
 
@@ -144,9 +131,7 @@ one-characters (c ∷ cs) h = elim (one-first (encode_utf8_all (c ∷ cs)) h) [
 
 all-bytes : (cs : List ℕ) → list_all is_mark cs ≡ true → list_all is_mark (encode_utf8_all cs) ≡ true
 all-bytes [] h = refl
-all-bytes (c ∷ cs) h =
-    let each = and_parts (is_mark c) (list_all is_mark cs) h in
-    rw (encode_ascii c (mark-ascii c each.0), each.0) (all-bytes cs each.1)
+all-bytes (c ∷ cs) h = grind (arith, nat_tests, common_steps, and_parts, encode_ascii, mark-ascii, all-bytes cs)
 
 all-characters : (cs : List ℕ) → list_all is_mark (encode_utf8_all cs) ≡ true → list_all is_mark cs ≡ true
 all-characters [] h = refl

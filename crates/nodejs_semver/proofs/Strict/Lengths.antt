@@ -1,9 +1,7 @@
 -- A text has no more characters than bytes, and as many as its iterator counts.
-use Rattle.nodejs_semver.proofs.Common.{◌≤◌, ◌<◌, ℕ, List, [], ◌∷◌, length, arith, length-append, encode_utf8, IsUtf8}
-use Rattle.nodejs_semver.proofs.Common.{encode_utf8_all, length-encode, nat_tests}
-use Rattle.std.specs.Char.{len_utf8}
-use Rattle.std.specs.Str.{chars}
-use Rattle.std.proofs.lemmas.Str.{chars_from_encodes, encodes-chars}
+use Rattle.nodejs_semver.proofs.Common.{IsUtf8, List, [], arith, encode_utf8, encode_utf8_all, length, length-append}
+use Rattle.nodejs_semver.proofs.{Common.{length-encode, nat_tests, ℕ, ◌<◌, ◌∷◌, ◌≤◌}, NpmCommon.{chars, chars_from_encodes}}
+use Rattle.{nodejs_semver.proofs.NpmCommon.len_utf8, std.proofs.lemmas.Str.encodes-chars}
 
 character-takes : (c : ℕ) → 0 < len_utf8 c
 character-takes c = grind (arith, nat_tests)

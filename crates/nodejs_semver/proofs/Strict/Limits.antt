@@ -1,27 +1,18 @@
 -- Places and partial versions with numbers past the limit: what the code reads is what stands there, where no such number counts.
-use Rattle.nodejs_semver.proofs.Common.{common_steps, ◌≡◌, ◌≤◌, ◌<◌, ◌-◌, ◌++◌, ◌∷◌, ℕ, Bool, List, [], length, drop}
-use Rattle.nodejs_semver.proofs.Common.{take, refl, sym, ap, ◌∙◌, arith, true, false, Some, None, Option, inl, inr}
-use Rattle.nodejs_semver.proofs.Common.{◌&&◌, ◌||◌, not, cases_Bool, nat_tests, is_ascii_digit, list_all, bind_some}
-use Rattle.nodejs_semver.proofs.Common.{same_Some, is_empty, MAX_SAFE_INTEGER, Id, take_rest, if◌then◌else◌, and_parts}
-use Rattle.nodejs_semver.proofs.Common.{append-nil, begins, drop_at, subst, take_at, prefix_len, nat_lt}
-use Rattle.nodejs_semver.proofs.Common.{take-append-drop, IsNumber, Front}
-use Rattle.std.specs.Prelude.{nat_le, take_while}
-use Rattle.std.specs.Str.Parse.{digits_value}
-use Rattle.std.proofs.Math.Bool.{or-true}
-use Rattle.std.proofs.lemmas.List.Folds.{length-prefix_len}
-use Rattle.semver_core.specs.Internal.Reading.{◌>>?◌}
-use Rattle.nodejs_semver.specs.Internal.Fronts.{begins_byte, begins_wildcard, number_front, number_of}
-use Rattle.nodejs_semver.specs.Internal.NpmReadings.{begins_padded, strict_number}
-use Rattle.nodejs_semver.specs.Internal.NpmWords.{Place, any, counted, counted_front, great, patch_place, is_small}
-use Rattle.nodejs_semver.specs.Internal.NpmWords.{limited, number, partial_front, place_front, place_of, place_zeros}
-use Rattle.nodejs_semver.specs.Internal.NpmWords.{placed, qualified_counted, qualified_partial, run_place}
-use Rattle.nodejs_semver.specs.Internal.NpmWords.{second_counted, second_front, third_counted, third_front}
-use Rattle.nodejs_semver.specs.Npm.Grammar.{has_leading_zero}
-use Rattle.nodejs_semver.specs.Npm.RangeText.{IsPlace, has_zeros, is_spelled, most_digits, partial_of}
-use Rattle.nodejs_semver.specs.Npm.Table.{Partial}
-use Rattle.nodejs_semver.proofs.Reading.Numbers.{digits-taken, number-found, number-no_wildcard, number-of}
-use Rattle.nodejs_semver.proofs.Strict.Numbers.{padded-same}
+use Rattle.nodejs_semver.proofs.Common.{Bool, Front, Id, IsNumber, List, MAX_SAFE_INTEGER, None, Option, Some, [], and_parts}
+use Rattle.nodejs_semver.proofs.Common.{ap, append-nil, arith, begins, bind_some, cases_Bool, common_steps, drop, drop_at}
+use Rattle.nodejs_semver.proofs.Common.{false, if◌then◌else◌, inl, inr, is_ascii_digit, is_empty, length, list_all, nat_lt}
+use Rattle.nodejs_semver.proofs.Common.{nat_tests, not, prefix_len, refl, same_Some, subst, sym, take, take-append-drop}
+use Rattle.nodejs_semver.proofs.Common.{take_at, take_rest, true, ℕ, ◌&&◌, ◌++◌, ◌-◌, ◌<◌, ◌||◌, ◌∙◌, ◌∷◌, ◌≡◌, ◌≤◌}
+use Rattle.nodejs_semver.proofs.NpmCommon.{IsPlace, begins_byte, begins_padded, begins_wildcard, counted_front, digits_value}
+use Rattle.nodejs_semver.proofs.NpmCommon.{has_leading_zero, has_zeros, is_small, is_spelled, length-prefix_len, limited}
+use Rattle.nodejs_semver.proofs.NpmCommon.{most_digits, nat_le, number_front, number_of, or-true, partial_of, patch_place}
+use Rattle.nodejs_semver.proofs.NpmCommon.{place_front, qualified_partial, run_place, second_front, strict_number, take_while}
+use Rattle.nodejs_semver.proofs.{NpmCommon.{third_front, ◌>>?◌}, Reading.Numbers.{digits-taken, number-found}}
+use Rattle.nodejs_semver.proofs.{Reading.Numbers.{number-no_wildcard, number-of}, Strict.Numbers.padded-same}
 use Rattle.nodejs_semver.proofs.Strict.Places.{digits-of, number-short, place-read, prefix-all, some-run}
+use Rattle.nodejs_semver.specs.Internal.NpmWords.{Place, any, counted, great, number, partial_front, place_of, place_zeros}
+use Rattle.nodejs_semver.specs.{Internal.NpmWords.{placed, qualified_counted, second_counted, third_counted}, Npm.Table.Partial}
 use Rattle.nodejs_semver.specs.Npm.RangeText as Text
 
 -- ---- places
@@ -120,11 +111,7 @@ pub great_placed : (loose zeros : Bool) (text : List ℕ) (at : ℕ) → number_
     → (not loose && begins_padded text) ≡ false → at ≡ prefix_len is_ascii_digit text → 1 ≤ at → at ≤ most_digits loose
     → placed MAX_SAFE_INTEGER (place_front loose zeros text) ≡ some_place great (take (length text - at) (drop at text))
 great_placed loose zeros text at front dark bare is first last =
-    let some : 1 ≤ prefix_len is_ascii_digit text = omega (arith, is, first) in
-    let short : prefix_len is_ascii_digit text ≤ most_digits loose = omega (arith, is, last) in
-    let run = take_while is_ascii_digit text in
-    let len = length-prefix_len is_ascii_digit text in
-    grind (arith, nat_tests, common_steps, prefix-all, bind-none, past-limit, spelled-great, run-valued, take_rest)
+    grind (arith, nat_tests, common_steps, length-prefix_len, prefix-all, bind-none, past-limit, spelled-great, run-valued, take_rest)
 
 -- ---- leading zeros
 

@@ -1,70 +1,52 @@
 -- The malformed words that are ignored are no well-formed ones.
-use Rattle.nodejs_semver.proofs.Common.{◌≡◌, ◌⊎◌, ◌<◌, ◌≤◌, ◌+◌, ℕ, zero, suc, Bool, List, [], ◌∷◌, ◌++◌, length, drop, take, refl, sym, ap, ◌∙◌, arith}
-use Rattle.nodejs_semver.proofs.Common.{true, false, Some, Option, inl, inr, ◌&&◌, ◌||◌, not, ◌==◌, and_from, and_parts, append_assoc, append-nil, length-append}
-use Rattle.nodejs_semver.proofs.Common.{cases_Bool, eqb-true, list_all, nat_tests, is_whitespace, is_ascii_digit, begins, space_len}
-use Rattle.std.proofs.Common.{◌/◌, ◌%◌}
-use Rattle.std.specs.Prelude.{◌-◌, encode_utf8_all, get_or, take_while}
-use Rattle.std.specs.Char.{encode_utf8}
-use Rattle.std.specs.List.{list_any, onto_first, prefix_len}
-use Rattle.std.proofs.lemmas.List.Folds.{list_all-append}
-use Rattle.std.specs.Str.{bytes_eq}
-use Rattle.semver_core.specs.Lists.{is_empty}
-use Rattle.semver_core.specs.Text.Characters.{ends}
-use Rattle.std.proofs.lemmas.Bool.{cases_lt, le-ltb, lt-ltb}
-use Rattle.std.proofs.lemmas.Str.{encode_ascii}
-use Rattle.semver_core.specs.Text.Characters.{IsBlank, is_identifier_char}
-use Rattle.semver_core.specs.Text.Identifiers.{Id, IsIdentifiers, pieces}
-use Rattle.semver_core.proofs.Text.Pieces.{runs_tail, tail_onto, tail_runs}
-use Rattle.nodejs_semver.specs.Internal.Fronts.{is_wildcard}
-use Rattle.nodejs_semver.specs.Internal.NpmWords.{ignored_front}
-use Rattle.nodejs_semver.specs.Internal.Words.{is_boundary}
-use Rattle.nodejs_semver.specs.Npm.Grammar.{IsStrictBuild, no_build, plus}
-use Rattle.nodejs_semver.specs.Npm.Malformed.{after_dot, are_first, behind_sign, begins_malformed, begins_place, begins_places, has_four_parts, is_first, is_inner}
-use Rattle.nodejs_semver.specs.Npm.Malformed.{is_last, is_malformed, is_mark_or_sign, is_open, is_regular, is_sign, is_visible, last_visible}
+use Rattle.nodejs_semver.proofs.Common.{Bool, Id, IsBlank, IsIdentifiers, List, Option, Some, [], above, all_weaker, and-false}
+use Rattle.nodejs_semver.proofs.Common.{and_from, and_parts, ap, append-nil, append_assoc, arith, at_most, begins, below}
+use Rattle.nodejs_semver.proofs.Common.{cases_Bool, common_steps, drop, drop_all, encode_utf8, encode_utf8_all, ends, eqb-true}
+use Rattle.nodejs_semver.proofs.Common.{equal, false, get_or, inl, inr, is_ascii_digit, is_boundary, is_empty}
+use Rattle.nodejs_semver.proofs.Common.{is_identifier_char, is_whitespace, le-ltb, length, length-append, list_all}
+use Rattle.nodejs_semver.proofs.Common.{list_all-append, list_any, lt-ltb, nat_tests, not, not-true, pieces, prefix_len, refl}
+use Rattle.nodejs_semver.proofs.Common.{space_len, suc, sym, take, true, zero, ℕ, ◌&&◌, ◌++◌, ◌+◌, ◌-◌, ◌<◌, ◌==◌, ◌||◌, ◌∙◌}
+use Rattle.nodejs_semver.proofs.{Common.{◌∷◌, ◌≡◌, ◌≤◌, ◌⊎◌}, NpmCommon.{IsPartial, IsPlace, IsSignText, IsStrictBuild}}
+use Rattle.nodejs_semver.proofs.NpmCommon.{after_dot, are_first, at_least, bare, begins_malformed, bytes_eq, caret_equal}
+use Rattle.nodejs_semver.proofs.NpmCommon.{compared, encode_ascii, has_zeros, ignored_front, is_malformed, is_mark, is_visible}
+use Rattle.nodejs_semver.proofs.NpmCommon.{late_above, late_below, no_build, no_sign, one, or-true, plus, runs_tail, sign}
+use Rattle.nodejs_semver.proofs.{NpmCommon.{spelling, tail_runs, take_while, three, tilde_twice, two}, Reading.Bytes.all-end}
+use Rattle.nodejs_semver.proofs.Reading.Bytes.{all-join, begins-on, begins_component, ends-append, ends-some}
+use Rattle.nodejs_semver.{proofs.Strict.Places.prefix-all, specs.{Internal.Fronts.is_wildcard, Npm.Malformed.begins_place}}
+use Rattle.nodejs_semver.specs.Npm.Malformed.{begins_places, behind_sign, has_four_parts, is_first, is_inner, is_last}
+use Rattle.nodejs_semver.specs.Npm.Malformed.{is_mark_or_sign, is_open, is_regular, is_sign, last_visible}
+use Rattle.nodejs_semver.specs.Npm.{RangeText.{IsPreRelease, dashed, no_pre_release, tilde_sign}, Table.{Partial, Sign}}
+use Rattle.{semver_core.proofs.Text.Pieces.tail_onto, std.proofs.{Common.add-one, Math.Seq.drop-cons}}
+use Rattle.std.proofs.lemmas.List.Folds.{list_all_at}
 use Rattle.nodejs_semver.specs.Npm.RangeText as Text
-use Rattle.nodejs_semver.specs.Npm.RangeText.{IsPartial, IsPlace, IsPreRelease, IsSignText, bare, dashed, has_zeros}
-use Rattle.nodejs_semver.specs.Npm.RangeText.{is_mark, no_pre_release, one, spelling, three, two}
-use Rattle.nodejs_semver.specs.Npm.RangeText.{caret_equal, late_above, late_below, no_sign, sign, tilde_sign, tilde_twice}
-use Rattle.nodejs_semver.specs.Npm.Table.{Partial, Sign, caret, compared, tilde}
-use Rattle.nodejs_semver.specs.Text.WordText.{above, at_least, at_most, below, equal}
-use Rattle.nodejs_semver.proofs.Reading.Bytes.{all-end, all-join, begins-on, begins_component, ends-append, ends-some}
-use Rattle.nodejs_semver.proofs.Strict.Places.{prefix-all}
 
 -- ---- the characters of partials
 
 abbrev pub is_part : ℕ → Bool
 is_part b = is_identifier_char b || (b == 46 || (b == 43 || b == 42))
 
-digits-part : (digits : List ℕ) → list_all is_ascii_digit digits ≡ true → list_all is_part digits ≡ true
-digits-part [] h = refl
-digits-part (c ∷ digits) h =
-    let each = and_parts (is_ascii_digit c) (list_all is_ascii_digit digits) h in
-    rw (digit-part c each.0) (digits-part digits each.1)
-  where
-    digit-part : (c : ℕ) → is_ascii_digit c ≡ true → is_part c ≡ true
-    digit-part c h = grind (arith, nat_tests)
+-- the characters of a place
+abbrev is_place_byte : ℕ → Bool
+is_place_byte b = is_wildcard b || is_ascii_digit b
+
+digit-byte : (b : ℕ) → is_ascii_digit b ≡ true → is_place_byte b ≡ true
+digit-byte b h = grind (arith, nat_tests)
+
+place-bytes : (loose zeros : Bool) (x : List ℕ) (a : Option ℕ) → IsPlace loose zeros x a
+    → (list_all is_place_byte x ≡ true) × (0 < length x)
+place-bytes loose zeros x a (Text.any b h) = (rw h refl, omega arith)
+place-bytes loose zeros x a (Text.number digits n k spelled short) =
+    (all_weaker is_ascii_digit is_place_byte digit-byte digits k.each, k.some)
+
+byte-part : (b : ℕ) → is_place_byte b ≡ true → is_part b ≡ true
+byte-part b h = grind (arith, nat_tests)
 
 place-part : (loose zeros : Bool) (x : List ℕ) (a : Option ℕ) → IsPlace loose zeros x a → list_all is_part x ≡ true
-place-part loose zeros x a (Text.any b h) = rw (wild b h) refl
-  where
-    wild : (b : ℕ) → is_wildcard b ≡ true → is_part b ≡ true
-    wild b h = grind (arith, nat_tests)
-place-part loose zeros x a (Text.number digits n k spelled short) = digits-part digits k.each
+place-part loose zeros x a h = all_weaker is_place_byte is_part byte-part x (place-bytes loose zeros x a h).0
 
 pieces-part : (t : List ℕ) → tail_runs (pieces t) ≡ true → list_all is_part t ≡ true
 pieces-part [] h = refl
-pieces-part (c ∷ t) h = elim (cases_Bool (c == 46)) [
-  | inl dot ↦
-      let e = eqb-true c 46 dot in
-      rw e (pieces-part t (runs_tail (pieces t) (rw dot at h)))
-  | inr other ↦
-      let k = rw other at h in
-      rw (first-part c (pieces t) k) (pieces-part t (tail_onto c (pieces t) k))
-]
-  where
-    first-part : (c : ℕ) (ps : List (List ℕ)) → tail_runs (onto_first c ps) ≡ true → is_part c ≡ true
-    first-part c [] h = grind arith
-    first-part c (p ∷ ps) h = grind arith
+pieces-part (c ∷ t) h = grind (arith, nat_tests, common_steps, eqb-true, runs_tail, tail_onto, tail_runs, pieces-part t)
 
 pre-part : (loose : Bool) (p : List ℕ) (l : List Id) → IsPreRelease loose p l → list_all is_part p ≡ true
 pre-part loose p l no_pre_release = refl
@@ -84,16 +66,10 @@ partial-part loose x p (three x1 y z pre build a b c ids builds h k l m s n t) =
     let second = all-join is_part y (46 ∷ (z ++ (pre ++ build))) (place-part loose (has_zeros a) y b k) third in
     all-join is_part x1 (46 ∷ (y ++ 46 ∷ (z ++ (pre ++ build)))) (place-part loose false x1 a h) second
 
-pub all-weaker : (p q : ℕ → Bool) → ((b : ℕ) → p b ≡ true → q b ≡ true) → (x : List ℕ) → list_all p x ≡ true → list_all q x ≡ true
-all-weaker p q f [] h = refl
-all-weaker p q f (b ∷ x) h =
-    let each = and_parts (p b) (list_all p x) h in
-    rw (f b each.0) (all-weaker p q f x each.1)
-
 -- ---- the characters of whitespace
 
 -- no visible character
-abbrev is_dark : ℕ → Bool
+abbrev pub is_dark : ℕ → Bool
 is_dark b = not (is_visible b)
 
 high-dark : (n : ℕ) → 128 ≤ n → is_dark n ≡ true
@@ -101,33 +77,9 @@ high-dark n h = grind (arith, nat_tests)
 
 bytes-dark : (c : ℕ) → is_whitespace c ≡ true → list_all is_dark (encode_utf8 c) ≡ true
 unfolding encode_utf8
-bytes-dark c h = elim (cases_lt c 128) [
-  | inl low ↦ rw (encode_ascii c low, white-dark c h low) refl
-  | inr more_one ↦ elim (cases_lt c 2048) [
-    | inl two_bytes ↦
-        rw (le-ltb c 128 more_one, lt-ltb c 2048 two_bytes, high-dark (192 + c / 64) (omega arith), high-dark (128 + c % 64) (omega arith)) refl
-    | inr more_two ↦ elim (cases_lt c 65536) [
-      | inl three_bytes ↦
-          rw (
-            le-ltb c 128 more_one,
-            le-ltb c 2048 more_two,
-            lt-ltb c 65536 three_bytes,
-            high-dark (224 + c / 4096) (omega arith),
-            high-dark (128 + (c / 64) % 64) (omega arith),
-            high-dark (128 + c % 64) (omega arith),
-          ) refl
-      | inr four ↦ absurd (wide c h four)
-    ]
-  ]
-]
-  where
-    wide : (c : ℕ) → is_whitespace c ≡ true → 65536 ≤ c → ⊥
-    wide c h k = grind (arith, nat_tests)
+bytes-dark c h = grind (arith, nat_tests, common_steps, encode_ascii, le-ltb, lt-ltb, high-dark)
 
-    white-dark : (c : ℕ) → is_whitespace c ≡ true → c < 128 → is_dark c ≡ true
-    white-dark c h k = grind (arith, nat_tests)
-
-blank-dark : (x : List ℕ) → IsBlank x → list_all is_dark x ≡ true
+pub blank-dark : (x : List ℕ) → IsBlank x → list_all is_dark x ≡ true
 blank-dark x h = rw h.spelled (go h.characters h.each)
   where
     go : (cs : List ℕ) → list_all is_whitespace cs ≡ true → list_all is_dark (encode_utf8_all cs) ≡ true
@@ -139,25 +91,19 @@ blank-dark x h = rw h.spelled (go h.characters h.each)
 -- ---- the characters of signs
 
 -- a character of a sign, or none that is visible
-abbrev is_signal : ℕ → Bool
+abbrev pub is_signal : ℕ → Bool
 is_signal b = is_sign b || not (is_visible b)
 
-blank-signal : (x : List ℕ) → IsBlank x → list_all is_signal x ≡ true
-blank-signal x h = all-weaker is_dark is_signal dark-signal x (blank-dark x h)
+pub blank-signal : (x : List ℕ) → IsBlank x → list_all is_signal x ≡ true
+blank-signal x h = all_weaker is_dark is_signal dark-signal x (blank-dark x h)
   where
     dark-signal : (b : ℕ) → is_dark b ≡ true → is_signal b ≡ true
     dark-signal b h = grind arith
 
 spelling-signal : (s : Sign) (y : List ℕ) → list_all is_signal y ≡ true → list_all is_signal (spelling s ++ y) ≡ true
-spelling-signal (compared above) y h = h
-spelling-signal (compared at_least) y h = h
-spelling-signal (compared equal) y h = h
-spelling-signal (compared at_most) y h = h
-spelling-signal (compared below) y h = h
-spelling-signal caret y h = h
-spelling-signal tilde y h = h
+spelling-signal s y h = grind (arith, nat_tests, common_steps)
 
-sign-signal : (signs : List ℕ) (s : Sign) → IsSignText signs s → list_all is_signal signs ≡ true
+pub sign-signal : (signs : List ℕ) (s : Sign) → IsSignText signs s → list_all is_signal signs ≡ true
 sign-signal signs s no_sign = refl
 sign-signal signs s (sign t y h) = spelling-signal t y (blank-signal y h)
 sign-signal signs s (late_above y h) = all-join is_signal y (61 ∷ []) (blank-signal y h) refl
@@ -169,19 +115,7 @@ sign-signal signs s (tilde_twice c y z h some k which) =
     all-join is_signal y (spelling (compared c) ++ z) (blank-signal y h) (spelling-signal (compared c) z (blank-signal z k))
 
 pub sign-visible : (signs : List ℕ) (s : Sign) → IsSignText signs s → (signs ≡ []) ⊎ (begins is_visible signs ≡ true)
-sign-visible signs s no_sign = inl refl
-sign-visible signs s (sign (compared above) y h) = inr refl
-sign-visible signs s (sign (compared at_least) y h) = inr refl
-sign-visible signs s (sign (compared equal) y h) = inr refl
-sign-visible signs s (sign (compared at_most) y h) = inr refl
-sign-visible signs s (sign (compared below) y h) = inr refl
-sign-visible signs s (sign caret y h) = inr refl
-sign-visible signs s (sign tilde y h) = inr refl
-sign-visible signs s (late_above y h) = inr refl
-sign-visible signs s (late_below y h) = inr refl
-sign-visible signs s (caret_equal y z h k) = inr refl
-sign-visible signs s (tilde_sign c y z h k which) = inr refl
-sign-visible signs s (tilde_twice c y z h some k which) = inr refl
+sign-visible signs s h = grind (arith, nat_tests, common_steps)
 
 -- the characters of a sign up to its first whitespace
 record SignFront (signs : List ℕ) : Type 0 where
@@ -229,7 +163,7 @@ first-inner b h = grind (arith, nat_tests)
 part-inner : (b : ℕ) → is_part b ≡ true → is_inner b ≡ true
 part-inner b h = grind (arith, nat_tests)
 
-part-visible : (b : ℕ) → is_part b ≡ true → is_visible b ≡ true
+pub part-visible : (b : ℕ) → is_part b ≡ true → is_visible b ≡ true
 part-visible b h = grind (arith, nat_tests)
 
 -- ---- no well-formed word has four parts
@@ -241,34 +175,25 @@ dotless-passed : (u v : List ℕ) → list_all is_dotless u ≡ true → after_d
 dotless-passed [] v h = refl
 dotless-passed (b ∷ u) v h =
     let each = and_parts (is_dotless b) (list_all is_dotless u) h in
-    rw (other (b == 46) each.0) (dotless-passed u v each.1)
-  where
-    other : (a : Bool) → not a ≡ true → a ≡ false
-    other a h = grind arith
+    rw (not-true (b == 46) each.0) (dotless-passed u v each.1)
 
 first-dotless : (b : ℕ) → is_first b ≡ true → is_dotless b ≡ true
 first-dotless b h = grind (arith, nat_tests)
 
-digit-dotless : (b : ℕ) → is_ascii_digit b ≡ true → is_dotless b ≡ true
-digit-dotless b h = grind (arith, nat_tests)
-
-place-dotless : (loose zeros : Bool) (x : List ℕ) (a : Option ℕ) → IsPlace loose zeros x a → (list_all is_dotless x ≡ true) × (0 < length x)
-place-dotless loose zeros x a (Text.any b h) = (rw (wild b h) refl, omega arith)
+place-first : (loose zeros : Bool) (x : List ℕ) (a : Option ℕ) → IsPlace loose zeros x a → list_all is_first x ≡ true
+place-first loose zeros x a h = all_weaker is_place_byte is_first byte-first x (place-bytes loose zeros x a h).0
   where
-    wild : (b : ℕ) → is_wildcard b ≡ true → is_dotless b ≡ true
-    wild b h = grind (arith, nat_tests)
-place-dotless loose zeros x a (Text.number digits n k spelled short) =
-    (all-weaker is_ascii_digit is_dotless digit-dotless digits k.each, k.some)
+    byte-first : (b : ℕ) → is_place_byte b ≡ true → is_first b ≡ true
+    byte-first b h = grind (arith, nat_tests)
+
+place-dotless : (loose zeros : Bool) (x : List ℕ) (a : Option ℕ) → IsPlace loose zeros x a → list_all is_dotless x ≡ true
+place-dotless loose zeros x a h = all_weaker is_first is_dotless first-dotless x (place-first loose zeros x a h)
 
 abbrev is_dot : ℕ → Bool
 is_dot b = b == 46
 
 pre-first : (loose : Bool) (p b : List ℕ) (l m : List Id) → IsPreRelease loose p l → IsStrictBuild b m → begins is_dot (p ++ b) ≡ false
-pre-first loose p b l m no_pre_release no_build = refl
-pre-first loose p b l m no_pre_release (plus t list h) = refl
-pre-first loose p b l m (dashed t list h s) k = refl
-pre-first loose p b l m (bare [] list e f h s) k = cc f
-pre-first loose p b l m (bare (c ∷ t) list e f h s) k = grind (arith, nat_tests)
+pre-first loose p b l m h k = grind (arith, nat_tests, common_steps)
 
 third : (z q : List ℕ) → list_all is_dotless z ≡ true → 0 < length z → begins is_dot q ≡ false → begins is_dot (drop 1 (z ++ q)) ≡ false
 third [] q h s k = absurd (omega (arith, s))
@@ -277,18 +202,14 @@ third (c ∷ d ∷ z) q h s k = grind arith
 
 partial-parts : (loose : Bool) (x : List ℕ) (p : Partial) → IsPartial loose x p → has_four_parts x ≡ false
 partial-parts loose x p (one x1 a h) =
-    let e : after_dot x1 ≡ [] = rw append-nil at (dotless-passed x1 [] (place-dotless loose false x1 a h).0) in
+    let e : after_dot x1 ≡ [] = rw append-nil at (dotless-passed x1 [] (place-dotless loose false x1 a h)) in
     rw e refl
 partial-parts loose x p (two x1 y a b h k) =
-    let d : after_dot (x1 ++ 46 ∷ y) ≡ y = dotless-passed x1 (46 ∷ y) (place-dotless loose false x1 a h).0 in
-    let e : after_dot y ≡ [] = rw append-nil at (dotless-passed y [] (place-dotless loose (has_zeros a) y b k).0) in
+    let d : after_dot (x1 ++ 46 ∷ y) ≡ y = dotless-passed x1 (46 ∷ y) (place-dotless loose false x1 a h) in
+    let e : after_dot y ≡ [] = rw append-nil at (dotless-passed y [] (place-dotless loose (has_zeros a) y b k)) in
     rw (d, e) refl
 partial-parts loose x p (three x1 y z pre build a b c ids builds h k l m s n t) =
-    let q = z ++ (pre ++ build) in
-    let d : after_dot (x1 ++ 46 ∷ (y ++ 46 ∷ q)) ≡ y ++ 46 ∷ q = dotless-passed x1 (46 ∷ (y ++ 46 ∷ q)) (place-dotless loose false x1 a h).0 in
-    let e : after_dot (y ++ 46 ∷ q) ≡ q = dotless-passed y (46 ∷ q) (place-dotless loose (has_zeros a) y b k).0 in
-    let place = place-dotless loose (has_zeros a) z c l in
-    rw (d, e) (third z (pre ++ build) place.0 place.1 (pre-first loose pre build ids builds m n))
+    grind (arith, nat_tests, common_steps, dotless-passed, place-dotless, place-bytes, third, pre-first)
 
 -- ---- the parts of a well-formed word
 
@@ -301,56 +222,31 @@ first-joined [] v h k = k
 first-joined (b ∷ u) v h k =
     let each = and_parts (is_first b) (list_all is_first u) h in
     rw (each.0, first-joined u v each.1 k) (or-true (b == 46))
-  where
-    or-true : (a : Bool) → (a || true) ≡ true
-    or-true a = grind arith
 
 place-joined : (u v : List ℕ) → list_all is_first u ≡ true → 0 < length u → are_first v ≡ true → begins_place (u ++ v) ≡ true
 place-joined [] v h some k = absurd (omega (arith, some))
 place-joined (b ∷ u) v h some k =
     and_from (is_first b) (are_first ((b ∷ u) ++ v)) (and_parts (is_first b) (list_all is_first u) h).0 (first-joined (b ∷ u) v h k)
 
-place-first : (loose zeros : Bool) (x : List ℕ) (a : Option ℕ) → IsPlace loose zeros x a → list_all is_first x ≡ true
-place-first loose zeros x a (Text.any b h) = rw (wild b h) refl
-  where
-    wild : (b : ℕ) → is_wildcard b ≡ true → is_first b ≡ true
-    wild b h = grind (arith, nat_tests)
-place-first loose zeros x a (Text.number digits n k spelled short) = all-weaker is_ascii_digit is_first digit-first digits k.each
-  where
-    digit-first : (b : ℕ) → is_ascii_digit b ≡ true → is_first b ≡ true
-    digit-first b h = grind (arith, nat_tests)
-
 -- a place alone, and one before a dot
 place-alone : (loose zeros : Bool) (x : List ℕ) (a : Option ℕ) → IsPlace loose zeros x a → begins_place x ≡ true
 place-alone loose zeros x a h =
-    rw append-nil at (place-joined x [] (place-first loose zeros x a h) (place-dotless loose zeros x a h).1 refl)
+    rw append-nil at (place-joined x [] (place-first loose zeros x a h) (place-bytes loose zeros x a h).1 refl)
 
 place-dotted : (loose zeros : Bool) (x rest : List ℕ) (a : Option ℕ) → IsPlace loose zeros x a → begins_place (x ++ 46 ∷ rest) ≡ true
 place-dotted loose zeros x rest a h =
-    place-joined x (46 ∷ rest) (place-first loose zeros x a h) (place-dotless loose zeros x a h).1 refl
-
-or-true : (a : Bool) → (a || true) ≡ true
-or-true a = grind arith
+    place-joined x (46 ∷ rest) (place-first loose zeros x a h) (place-bytes loose zeros x a h).1 refl
 
 partial-places : (loose : Bool) (x : List ℕ) (p : Partial) → IsPartial loose x p → begins_places x ≡ true
 partial-places loose x p (one x1 a h) =
-    let e : after_dot x1 ≡ [] = rw append-nil at (dotless-passed x1 [] (place-dotless loose false x1 a h).0) in
+    let e : after_dot x1 ≡ [] = rw append-nil at (dotless-passed x1 [] (place-dotless loose false x1 a h)) in
     rw (e, place-alone loose false x1 a h) refl
 partial-places loose x p (two x1 y a b h k) =
-    let d : after_dot (x1 ++ 46 ∷ y) ≡ y = dotless-passed x1 (46 ∷ y) (place-dotless loose false x1 a h).0 in
-    let e : after_dot y ≡ [] = rw append-nil at (dotless-passed y [] (place-dotless loose (has_zeros a) y b k).0) in
+    let d : after_dot (x1 ++ 46 ∷ y) ≡ y = dotless-passed x1 (46 ∷ y) (place-dotless loose false x1 a h) in
+    let e : after_dot y ≡ [] = rw append-nil at (dotless-passed y [] (place-dotless loose (has_zeros a) y b k)) in
     rw (d, e, place-dotted loose false x1 y a h, place-alone loose (has_zeros a) y b k, or-true (is_empty y)) refl
 partial-places loose x p (three x1 y z pre build a b c ids builds h k l m s n t) =
-    let q = z ++ (pre ++ build) in
-    let r = y ++ 46 ∷ q in
-    let d : after_dot (x1 ++ 46 ∷ r) ≡ r = dotless-passed x1 (46 ∷ r) (place-dotless loose false x1 a h).0 in
-    let e : after_dot r ≡ q = dotless-passed y (46 ∷ q) (place-dotless loose (has_zeros a) y b k).0 in
-    let first = begins-on is_first z (pre ++ build) (all-begins z (place-first loose (has_zeros a) z c l) (place-dotless loose (has_zeros a) z c l).1) in
-    rw (d, e, place-dotted loose false x1 r a h, place-dotted loose (has_zeros a) y q b k, first, or-true (is_empty r), or-true (is_empty q)) refl
-  where
-    all-begins : (z : List ℕ) → list_all is_first z ≡ true → 0 < length z → begins is_first z ≡ true
-    all-begins [] h some = absurd (omega (arith, some))
-    all-begins (b ∷ z) h some = (and_parts (is_first b) (list_all is_first z) h).0
+    grind (arith, dotless-passed, place-dotless, begins-on, place-first, place-bytes, place-dotted, or-true, and_parts)
 
 -- ---- the signs of a well-formed word
 
@@ -365,19 +261,10 @@ mark-unsigned : (b : ℕ) → is_mark b ≡ true → is_unsigned b ≡ true
 mark-unsigned b h = grind (arith, nat_tests)
 
 unsigned-behind : (v : List ℕ) → list_all is_unsigned v ≡ true → list_all is_unsigned (behind_sign v) ≡ true
-unsigned-behind [] h = refl
-unsigned-behind (c ∷ []) h = refl
-unsigned-behind (c ∷ d ∷ v) h = elim (cases_Bool (c == 126 && d == 62)) [
-  | inl both ↦ rw both ((and_parts (is_unsigned d) (list_all is_unsigned v) (and_parts (is_unsigned c) _ h).1).1)
-  | inr other ↦ rw other ((and_parts (is_unsigned c) (list_all is_unsigned (d ∷ v)) h).1)
-]
+unsigned-behind v h = grind (arith, nat_tests, common_steps, and_parts)
 
 one-sign : (b : ℕ) (v : List ℕ) → list_all is_unsigned v ≡ true → list_all is_unsigned (behind_sign (b ∷ v)) ≡ true
-one-sign b [] h = refl
-one-sign b (c ∷ v) h = elim (cases_Bool (b == 126 && c == 62)) [
-  | inl both ↦ rw both ((and_parts (is_unsigned c) (list_all is_unsigned v) h).1)
-  | inr other ↦ rw other h
-]
+one-sign b v h = grind (arith, nat_tests, common_steps, and_parts)
 
 -- whitespace that is signs is none
 blank-none : (y : List ℕ) → IsBlank y → list_all is_sign y ≡ true → y ≡ []
@@ -392,13 +279,7 @@ blank-none y h k = go y (blank-dark y h) k
         absurd (dark-sign b (and_parts (is_dark b) (list_all is_dark y) h).0 (and_parts (is_sign b) (list_all is_sign y) k).0)
 
 spelling-one : (s : Sign) (v : List ℕ) → list_all is_unsigned v ≡ true → list_all is_unsigned (behind_sign (spelling s ++ v)) ≡ true
-spelling-one (compared above) v h = one-sign 62 v h
-spelling-one (compared at_least) v h = h
-spelling-one (compared equal) v h = one-sign 61 v h
-spelling-one (compared at_most) v h = h
-spelling-one (compared below) v h = one-sign 60 v h
-spelling-one caret v h = one-sign 94 v h
-spelling-one tilde v h = one-sign 126 v h
+spelling-one s v h = grind (arith, nat_tests, common_steps, one-sign)
 
 all-front : (u v : List ℕ) → list_all is_sign (u ++ v) ≡ true → (list_all is_sign u ≡ true) × (list_all is_sign v ≡ true)
 all-front u v h = and_parts (list_all is_sign u) (list_all is_sign v) (sym (list_all-append is_sign u v) ∙ h)
@@ -437,29 +318,15 @@ part-last : (b : ℕ) → is_identifier_char b ≡ true → is_last b ≡ true
 part-last b h = rw h refl
 
 tail-end : (c : ℕ) (t : List ℕ) → tail_runs (pieces (c ∷ t)) ≡ true → ends is_last (c ∷ t) ≡ true
-tail-end c [] h = elim (cases_Bool (c == 46)) [
-  | inl dot ↦ cc (rw dot at h)
-  | inr other ↦ part-last c (and_parts (is_identifier_char c) true (and_parts (is_identifier_char c && true) true (rw other at h)).0).0
-]
-tail-end c (d ∷ t) h = elim (cases_Bool (c == 46)) [
-  | inl dot ↦ tail-end d t (runs_tail (pieces (d ∷ t)) (rw dot at h))
-  | inr other ↦ tail-end d t (tail_onto c (pieces (d ∷ t)) (rw other at h))
-]
+tail-end c [] h = grind (arith, nat_tests, common_steps, part-last, and_parts)
+tail-end c (d ∷ t) h = grind (arith, nat_tests, common_steps, runs_tail, tail_onto, tail-end d t)
 
 identifiers-end : (t : List ℕ) (list : List Id) → IsIdentifiers t list → ends is_last t ≡ true
 identifiers-end [] list h = cc h.runs
 identifiers-end (c ∷ t) list h = tail-end c t (runs_tail (pieces (c ∷ t)) h.runs)
 
 place-end : (loose zeros : Bool) (x : List ℕ) (a : Option ℕ) → IsPlace loose zeros x a → ends is_last x ≡ true
-place-end loose zeros x a (Text.any b h) = wild b h
-  where
-    wild : (b : ℕ) → is_wildcard b ≡ true → is_last b ≡ true
-    wild b h = grind (arith, nat_tests)
-place-end loose zeros x a (Text.number digits n k spelled short) =
-    all-end is_last digits k.some (all-weaker is_ascii_digit is_last digit-last digits k.each)
-  where
-    digit-last : (b : ℕ) → is_ascii_digit b ≡ true → is_last b ≡ true
-    digit-last b h = grind (arith, nat_tests)
+place-end loose zeros x a h = grind (arith, nat_tests, common_steps, place-bytes, all-end, all_weaker)
 
 -- a text ends as its last piece does
 last-end : (u v : List ℕ) → ends is_last v ≡ true → ends is_last (u ++ v) ≡ true
@@ -500,7 +367,7 @@ run-is (b ∷ x) rest h k =
 sign-kept : (front : List ℕ) (b : ℕ) (rest : List ℕ) → list_all is_sign front ≡ true → 0 < length front → is_visible b ≡ false
     → begins_malformed (front ++ b ∷ rest) ≡ false
 sign-kept front b rest h some dark =
-    let r = run-is front (b ∷ rest) (all-weaker is_sign is_visible sign-visibly front h) dark in
+    let r = run-is front (b ∷ rest) (all_weaker is_sign is_visible sign-visibly front h) dark in
     rw (r.0, r.1, all-end is_sign front some h) (and-none (list_all is_visible front) (is_empty front))
   where
     and-none : (a c : Bool) → (a && (not c && false)) ≡ false
@@ -519,10 +386,10 @@ regular-kept w rest h dark parts regular =
 first-word : (loose : Bool) (u x rest : List ℕ) (p : Partial) → list_all is_first u ≡ true
     → list_all is_unsigned (behind_sign (u ++ x)) ≡ true → IsPartial loose x p → begins_component x ≡ true → begins is_visible rest ≡ false → begins_malformed ((u ++ x) ++ rest) ≡ false
 first-word loose u x rest p h plain k first dark =
-    let passed = dotless-passed u x (all-weaker is_first is_dotless first-dotless u h) in
+    let passed = dotless-passed u x (all_weaker is_first is_dotless first-dotless u h) in
     let part = partial-part loose x p k in
-    let inner = all-join is_inner u x (all-weaker is_first is_inner first-inner u h) (all-weaker is_part is_inner part-inner x part) in
-    let visible = all-join is_visible u x (all-weaker is_first is_visible first-visible u h) (all-weaker is_part is_visible part-visible x part) in
+    let inner = all-join is_inner u x (all_weaker is_first is_inner first-inner u h) (all_weaker is_part is_inner part-inner x part) in
+    let visible = all-join is_visible u x (all_weaker is_first is_visible first-visible u h) (all_weaker is_part is_visible part-visible x part) in
     let places = and_parts (begins_place x) _ (partial-places loose x p k) in
     let begun = and_parts (begins is_first x) (are_first x) places.0 in
     let parts : has_four_parts (u ++ x) ≡ false = rw passed (partial-parts loose x p k) in
@@ -541,10 +408,7 @@ first-word loose u x rest p h plain k first dark =
     more : (u x : List ℕ) → begins_component x ≡ true → list_all is_mark_or_sign (u ++ x) ≡ false
     more [] [] h = cc h
     more [] (b ∷ x) h = grind (arith, nat_tests)
-    more (b ∷ u) x h = rw (more u x h) (and-none (is_mark_or_sign b))
-      where
-        and-none : (a : Bool) → (a && false) ≡ false
-        and-none a = grind arith
+    more (b ∷ u) x h = rw (more u x h) (and-false (is_mark_or_sign b))
 
 pub word-regular : (loose : Bool) (signs marks x rest : List ℕ) (s : Sign) (p : Partial) → IsSignText signs s
     → list_all is_mark marks ≡ true → IsPartial loose x p → begins_component x ≡ true → begins is_visible rest ≡ false
@@ -567,10 +431,10 @@ word-regular loose signs marks x rest s p h m k first dark =
         → begins_malformed ((signs ++ (marks ++ x)) ++ rest) ≡ false
     go front [] split each none =
         let e : signs ≡ front = split ∙ append-nil front in
-        let u = all-join is_first front marks (all-weaker is_sign is_first sign-first front each) (all-weaker is_mark is_first mark-first marks m) in
+        let u = all-join is_first front marks (all_weaker is_sign is_first sign-first front each) (all_weaker is_mark is_first mark-first marks m) in
         let same : signs ++ (marks ++ x) ≡ (front ++ marks) ++ x = rw e (sym (append_assoc front marks x)) in
-        let behind = all-join is_unsigned marks x (all-weaker is_mark is_unsigned mark-unsigned marks m)
-        (all-weaker is_part is_unsigned part-unsigned x (partial-part loose x p k)) in
+        let behind = all-join is_unsigned marks x (all_weaker is_mark is_unsigned mark-unsigned marks m)
+        (all_weaker is_part is_unsigned part-unsigned x (partial-part loose x p k)) in
         let plain : list_all is_unsigned (behind_sign ((front ++ marks) ++ x)) ≡ true =
         ap (λ (t : List ℕ). list_all is_unsigned (behind_sign t)) (sym same)
         ∙ sign-one signs (marks ++ x) s h (ap (λ (t : List ℕ). list_all is_sign t) e ∙ each) behind in
@@ -588,11 +452,7 @@ visible-dark text h = grind (arith, nat_tests)
 
 pub boundary-dark : (more : List ℕ) → is_boundary more ≡ true → begins is_visible more ≡ false
 unfolding is_boundary
-boundary-dark [] h = refl
-boundary-dark (b ∷ rest) h = elim (cases_Bool (begins is_visible (b ∷ rest))) [
-  | inr other ↦ other
-  | inl visible ↦ cc (rw (visible-dark (b ∷ rest) visible) at h)
-]
+boundary-dark more h = grind (arith, nat_tests, common_steps, visible-dark)
 
 -- ---- a malformed word at the front
 
@@ -640,32 +500,14 @@ pub ruleset begins_visible = (visible_front, begins_at)
 
 pub dot_here : (text : List ℕ) (at d : ℕ) → after_dot text ≡ after_dot (drop at text) → at < length text → get_or text at d ≡ 46
     → drop (at + 1) text ≡ after_dot text
-dot_here text at d e h k = sym (e ∙ go text at h k)
-  where
-    go : (text : List ℕ) (at : ℕ) → at < length text → get_or text at d ≡ 46 → after_dot (drop at text) ≡ drop (at + 1) text
-    go [] at h k = absurd (omega (arith, h))
-    go (b ∷ text) zero h k = rw k refl
-    go (b ∷ text) (suc at) h k =
-        let e : suc at + 1 ≡ suc (at + 1) = omega arith in
-        rw e (go text at (omega (arith, h)) k)
+dot_here text at d e h k = rw (e, add-one at, drop-cons text at d h, k) refl
 
 pub dot_behind : (text : List ℕ) (at d : ℕ) → after_dot text ≡ after_dot (drop at text) → at < length text → (get_or text at d == 46) ≡ false
     → after_dot text ≡ after_dot (drop (at + 1) text)
-dot_behind text at d e h k = e ∙ go text at h k
-  where
-    go : (text : List ℕ) (at : ℕ) → at < length text → (get_or text at d == 46) ≡ false → after_dot (drop at text) ≡ after_dot (drop (at + 1) text)
-    go [] at h k = absurd (omega (arith, h))
-    go (b ∷ text) zero h k = rw k refl
-    go (b ∷ text) (suc at) h k =
-        let e : suc at + 1 ≡ suc (at + 1) = omega arith in
-        rw e (go text at (omega (arith, h)) k)
+dot_behind text at d e h k = rw (e, add-one at, drop-cons text at d h, k) refl
 
 pub no_dot : (text : List ℕ) → after_dot text ≡ after_dot (drop (length text) text) → [] ≡ after_dot text
-no_dot text e = sym (e ∙ go text)
-  where
-    go : (text : List ℕ) → after_dot (drop (length text) text) ≡ []
-    go [] = refl
-    go (b ∷ text) = go text
+no_dot text e = rw (e, drop_all (length text) text (omega arith)) refl
 
 pub ruleset dots = (dot_here, dot_behind, no_dot)
 
@@ -673,53 +515,22 @@ pub ruleset dots = (dot_here, dot_behind, no_dot)
 
 pub first_dot : (text : List ℕ) (at d : ℕ) → are_first text ≡ are_first (drop at text) → at < length text → get_or text at d ≡ 46
     → are_first text ≡ true
-first_dot text at d e h k = e ∙ go text at h k
-  where
-    go : (text : List ℕ) (at : ℕ) → at < length text → get_or text at d ≡ 46 → are_first (drop at text) ≡ true
-    go [] at h k = absurd (omega (arith, h))
-    go (b ∷ text) zero h k = rw k refl
-    go (b ∷ text) (suc at) h k = go text at (omega (arith, h)) k
+first_dot text at d e h k = rw (e, drop-cons text at d h, k) refl
 
 pub first_other : (text : List ℕ) (at d : ℕ) → are_first text ≡ are_first (drop at text) → at < length text → (get_or text at d == 46) ≡ false
     → is_first (get_or text at d) ≡ false → are_first text ≡ false
-first_other text at d e h k l = e ∙ go text at h k l
-  where
-    go : (text : List ℕ) (at : ℕ) → at < length text → (get_or text at d == 46) ≡ false → is_first (get_or text at d) ≡ false
-        → are_first (drop at text) ≡ false
-    go [] at h k l = absurd (omega (arith, h))
-    go (b ∷ text) zero h k l = rw (k, l) refl
-    go (b ∷ text) (suc at) h k l = go text at (omega (arith, h)) k l
+first_other text at d e h k l = rw (e, drop-cons text at d h, k, l) refl
 
 pub first_step : (text : List ℕ) (at d : ℕ) → are_first text ≡ are_first (drop at text) → at < length text → (get_or text at d == 46) ≡ false
     → is_first (get_or text at d) ≡ true → are_first text ≡ are_first (drop (at + 1) text)
-first_step text at d e h k l = e ∙ go text at h k l
-  where
-    go : (text : List ℕ) (at : ℕ) → at < length text → (get_or text at d == 46) ≡ false → is_first (get_or text at d) ≡ true
-        → are_first (drop at text) ≡ are_first (drop (at + 1) text)
-    go [] at h k l = absurd (omega (arith, h))
-    go (b ∷ text) zero h k l = rw (k, l) refl
-    go (b ∷ text) (suc at) h k l =
-        let e : suc at + 1 ≡ suc (at + 1) = omega arith in
-        rw e (go text at (omega (arith, h)) k l)
+first_step text at d e h k l = rw (e, add-one at, drop-cons text at d h, k, l) refl
 
 pub first_end : (text : List ℕ) → are_first text ≡ are_first (drop (length text) text) → are_first text ≡ true
-first_end text e = e ∙ go text
-  where
-    go : (text : List ℕ) → are_first (drop (length text) text) ≡ true
-    go [] = refl
-    go (b ∷ text) = go text
+first_end text e = rw (e, drop_all (length text) text (omega arith)) refl
 
 pub ruleset firsts = (first_dot, first_other, first_step, first_end)
 
 -- ---- the visible characters at the end
-
-dark-in : (text : List ℕ) (at d : ℕ) → at < length text → is_visible (get_or text at d) ≡ false → list_all is_visible text ≡ false
-dark-in [] at d h k = absurd (omega (arith, h))
-dark-in (b ∷ text) zero d h k = rw k refl
-dark-in (b ∷ text) (suc at) d h k = and-none (is_visible b) (list_all is_visible text) (dark-in text at d (omega (arith, h)) k)
-  where
-    and-none : (a c : Bool) → c ≡ false → (a && c) ≡ false
-    and-none a c h = grind arith
 
 all-last : (text : List ℕ) → list_all is_visible text ≡ true → last_visible text ≡ text
 all-last [] h = refl
@@ -728,19 +539,13 @@ all-last (b ∷ text) h = rw h refl
 last-behind : (text : List ℕ) (at d : ℕ) → at < length text → is_visible (get_or text at d) ≡ false
     → list_all is_visible (drop (suc at) text) ≡ true → last_visible text ≡ drop (suc at) text
 last-behind [] at d h k l = absurd (omega (arith, h))
-last-behind (b ∷ text) zero d h k l = rw (dark-in (b ∷ text) zero d h k) (all-last text l)
+last-behind (b ∷ text) zero d h k l = rw k (all-last text l)
 last-behind (b ∷ text) (suc at) d h k l =
-    rw (dark-in (b ∷ text) (suc at) d h k) (last-behind text at d (omega (arith, h)) k l)
+    rw (list_all_at is_visible (b ∷ text) (suc at) d h k) (last-behind text at d (omega (arith, h)) k l)
 
 more-visible : (text : List ℕ) (at d : ℕ) → at < length text → is_visible (get_or text at d) ≡ true
     → list_all is_visible (drop (suc at) text) ≡ true → list_all is_visible (drop at text) ≡ true
-more-visible [] at d h k l = absurd (omega (arith, h))
-more-visible (b ∷ text) zero d h k l = rw (k, l) refl
-more-visible (b ∷ text) (suc at) d h k l = more-visible text at d (omega (arith, h)) k l
-
-none-behind : (text : List ℕ) → list_all is_visible (drop (length text) text) ≡ true
-none-behind [] = refl
-none-behind (b ∷ text) = none-behind text
+more-visible text at d h k l = rw (drop-cons text at d h, k, l) refl
 
 -- the last one is at the front, or behind one that is not visible
 pub last_all : (text : List ℕ) (start : ℕ) → list_all is_visible (drop start text) ≡ true → start ≡ 0
@@ -756,20 +561,14 @@ last_found text (suc at) d h some fits k =
 
 pub last_step : (text : List ℕ) (start d : ℕ) → list_all is_visible (drop start text) ≡ true → 0 < start → start ≤ length text
     → is_visible (get_or text (start - 1) d) ≡ true → list_all is_visible (drop (start - 1) text) ≡ true
-last_step text zero d h some fits k = absurd (omega (arith, some))
-last_step text (suc at) d h some fits k =
-    let e : suc at - 1 ≡ at = omega arith in
-    rw e (more-visible text at d (omega (arith, fits)) (rw e at k) h)
+last_step text start d h some fits k = grind (arith, nat_tests, common_steps, more-visible)
 
 pub last_begin : (text : List ℕ) (start : ℕ) → start ≡ length text → list_all is_visible (drop start text) ≡ true
-last_begin text start e = rw e (none-behind text)
+last_begin text start e = rw (drop_all start text (omega arith)) refl
 
 pub visible_last : (text : List ℕ) → list_all is_visible (last_visible text) ≡ true
 visible_last [] = refl
-visible_last (b ∷ text) = elim (cases_Bool (list_all is_visible (b ∷ text))) [
-  | inl all ↦ rw (all, all) refl
-  | inr other ↦ rw other (visible_last text)
-]
+visible_last (b ∷ text) = grind (arith, nat_tests, common_steps, visible_last text)
 
 pub ruleset ends_visible = (visible_last)
 
@@ -777,12 +576,9 @@ pub ruleset last_runs = (last_all, last_found, last_step, last_begin)
 
 -- ---- the last character
 
-last-is : (p : ℕ → Bool) (w : List ℕ) → begins p (drop (length w - 1) w) ≡ ends p w
-last-is p [] = refl
-last-is p (b ∷ []) = refl
-last-is p (b ∷ c ∷ w) =
+pub last-is : (p : ℕ → Bool) (w : List ℕ) (d : ℕ) → 0 < length w → p (get_or w (length w - 1) d) ≡ ends p w
+last-is p [] d h = absurd (omega (arith, h))
+last-is p (b ∷ []) d h = refl
+last-is p (b ∷ c ∷ w) d h =
     let e : length (b ∷ c ∷ w) - 1 ≡ suc (length (c ∷ w) - 1) = omega arith in
-    rw e (last-is p (c ∷ w))
-
-pub last_begins : (p : ℕ → Bool) (w t : List ℕ) (r : Bool) → t ≡ drop (length w - 1) w → r ≡ begins p t → r ≡ ends p w
-last_begins p w t r e h = h ∙ ap (λ (u : List ℕ). begins p u) e ∙ last-is p w
+    rw e (last-is p (c ∷ w) d (omega arith))

@@ -1,26 +1,16 @@
 -- What comparators have in common, as spans: that of one comparator, and that of two lists.
-use Rattle.nodejs_semver.proofs.Common.{common_steps, nat_tests, ◌≡◌, refl, sym, ap, ap₂, ◌∙◌, Bool, true, false, ◌&&◌}
-use Rattle.nodejs_semver.proofs.Common.{◌||◌, not, List, [], ◌∷◌, ◌++◌, Option, Some, None, arith, is_gt, Ordering}
-use Rattle.nodejs_semver.proofs.Common.{and_parts, list_all, list_any, list_all-append, list_any-append, cond_both}
-use Rattle.nodejs_semver.proofs.Common.{precedence_total, Bound, Before, After, Unbounded, Span, lower_cut, upper_cut}
-use Rattle.nodejs_semver.proofs.Common.{greater_lower, lesser_upper, is_le, holds, interval, is_interval, meet}
-use Rattle.nodejs_semver.proofs.Common.{precedence, VersionValue, is_release, lets_in, ℕ, ◌+◌, MAX_SAFE_INTEGER}
-use Rattle.nodejs_semver.proofs.Common.{cut_cmp, is_past, is_eq, is_ge, is_lt, option_holds-interval, is_readable, Id}
-use Rattle.nodejs_semver.proofs.Common.{is_range_bound, Comparator, above, at_most, below, equal}
-use Rattle.std.specs.Cmp.{both_ways}
-use Rattle.std.proofs.lemmas.List.Elements.{filter-append}
+use Rattle.nodejs_semver.proofs.Common.{After, Before, Bool, Bound, Comparator, Id, List, MAX_SAFE_INTEGER, None, Option}
+use Rattle.nodejs_semver.proofs.Common.{Ordering, Some, Span, Unbounded, VersionValue, [], above, and_parts, ap, ap₂, arith}
+use Rattle.nodejs_semver.proofs.Common.{at_most, below, common_steps, cond_both, cut_cmp, equal, false, greater_lower, holds}
+use Rattle.nodejs_semver.proofs.Common.{interval, is_eq, is_ge, is_gt, is_interval, is_le, is_lt, is_past, is_range_bound}
+use Rattle.nodejs_semver.proofs.Common.{is_readable, is_release, lesser_upper, lets_in, list_all, list_all-append, list_any}
+use Rattle.nodejs_semver.proofs.Common.{list_any-append, lower_cut, meet, nat_tests, not, option_holds-interval, precedence}
+use Rattle.nodejs_semver.proofs.Common.{precedence_total, refl, sym, true, upper_cut, ℕ, ◌&&◌, ◌++◌, ◌+◌, ◌||◌, ◌∙◌, ◌∷◌, ◌≡◌}
+use Rattle.nodejs_semver.proofs.NpmCommon.{Alternative, AreRead, Bounds, Comparison, IsCommon, IsNarrowed, NarrowedBy, at_least}
+use Rattle.nodejs_semver.proofs.NpmCommon.{both_ways, bounds_view, counted, counts, filter-append, is_unbounded, satisfies}
+use Rattle.nodejs_semver.proofs.{Algebra.{Accepting.lets_in_one, Gate.{both, lets_in-meet}}, Values.{past-after, past-before}}
+use Rattle.nodejs_semver.specs.{Internal.{NpmAlternatives.met, NpmMeaning.is_open}, Npm.Ranges.names}
 use Rattle.semver_core.proofs.CutLaws.{is_past-greater_lower, is_past-lesser_upper}
-use Rattle.nodejs_semver.proofs.Algebra.Accepting.{lets_in_one}
-use Rattle.nodejs_semver.proofs.Algebra.Gate.{both, lets_in-meet}
-use Rattle.nodejs_semver.proofs.Values.{past-after, past-before}
-use Rattle.nodejs_semver.specs.Internal.NpmAlternatives.{NarrowedBy, met}
-use Rattle.nodejs_semver.specs.Internal.NpmMeaning.{AreRead, IsCommon, IsNarrowed, counted, is_open, is_unbounded}
-use Rattle.nodejs_semver.specs.Internal.Readings.{bounds_view}
-use Rattle.nodejs_semver.specs.declared.npm.alternatives.Alternative.{Alternative}
-use Rattle.nodejs_semver.specs.declared.readers.syntax.Bounds.{Bounds}
-use Rattle.nodejs_semver.specs.Npm.Ranges.{names, satisfies}
-use Rattle.nodejs_semver.specs.Npm.Table.{Comparison, counts}
-use Rattle.nodejs_semver.specs.Text.WordText.{at_least}
 use Rattle.nodejs_semver.specs.Text.Table as Spans
 
 -- ---- one comparator

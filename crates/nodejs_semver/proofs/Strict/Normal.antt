@@ -1,22 +1,13 @@
 -- The identifiers of the partials that are read are in normal form.
-use Rattle.nodejs_semver.proofs.Common.{arith, common_steps, nat_tests, ◌≡◌, ℕ, Bool, List, refl, true, Some, Option}
-use Rattle.nodejs_semver.proofs.Common.{cond_some, list_all, Id, MAX_SAFE_INTEGER, ◌-◌}
-use Rattle.nodejs_semver.proofs.Common.{is_normal}
-use Rattle.nodejs_semver.specs.Internal.NpmParts.{are_normal}
-use Rattle.nodejs_semver.specs.Internal.NpmWords.{Ended, Signed, end_front, hyphen_of, last_limited}
-use Rattle.nodejs_semver.specs.Internal.NpmWords.{any_word, ignored_front, limited_end, limited_word, partial_front}
-use Rattle.nodejs_semver.specs.Internal.NpmWords.{signed_word}
-use Rattle.nodejs_semver.specs.Npm.Grammar.{IsStrictBuild, no_build, plus}
-use Rattle.nodejs_semver.specs.Npm.RangeText.{IsPartial, IsPreRelease, bare, dashed, no_pre_release}
-use Rattle.nodejs_semver.specs.Npm.RangeText.{partial_of}
-use Rattle.nodejs_semver.specs.Npm.Table.{Partial}
-use Rattle.nodejs_semver.proofs.Bounds.Bounded.{identifiers-normal}
-use Rattle.nodejs_semver.proofs.Strict.PartialLaw.{partial-found}
+use Rattle.nodejs_semver.proofs.Common.{Bool, Id, List, MAX_SAFE_INTEGER, Option, Some, arith, common_steps, cond_some}
+use Rattle.nodejs_semver.proofs.{Common.{is_normal, list_all, nat_tests, refl, true, ℕ, ◌≡◌}, NpmCommon.{Ended, IsPartial}}
+use Rattle.nodejs_semver.proofs.NpmCommon.{IsStrictBuild, Signed, any_word, are_normal, end_front, hyphen_of, ignored_front}
+use Rattle.nodejs_semver.proofs.NpmCommon.{limited_end, limited_word, no_build, partial_of, plus, signed_word}
+use Rattle.nodejs_semver.proofs.{Bounds.Bounded.identifiers-normal, Strict.PartialLaw.partial-found}
+use Rattle.nodejs_semver.specs.{Internal.NpmWords.{last_limited, partial_front}, Npm.{RangeText.IsPreRelease, Table.Partial}}
 
 pre-normal : (loose : Bool) (text : List ℕ) (ids : List Id) → IsPreRelease loose text ids → list_all is_normal ids ≡ true
-pre-normal loose text ids no_pre_release = refl
-pre-normal loose text ids (dashed t list h k) = identifiers-normal t list h
-pre-normal loose text ids (bare t list e f h k) = identifiers-normal t list h
+pre-normal loose text ids h = grind (arith, nat_tests, common_steps, identifiers-normal)
 
 build-normal : (text : List ℕ) (ids : List Id) → IsStrictBuild text ids → list_all is_normal ids ≡ true
 build-normal text ids no_build = refl

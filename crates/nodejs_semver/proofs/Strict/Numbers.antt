@@ -1,12 +1,9 @@
 -- Numbers without leading zeros: what is read is written, and what is written is read.
-use Rattle.nodejs_semver.proofs.Common.{common_steps, nat_tests, ◌≡◌, ℕ, List, [], ◌∷◌, ◌++◌, drop, refl, arith, true}
-use Rattle.nodejs_semver.proofs.Common.{false, Some, None, inl, inr, take, length, ◌-◌, is_ascii_digit, ◌==◌}
-use Rattle.nodejs_semver.proofs.Common.{cases_Bool, eqb-true, take_rest, list_all, begins, IsPieceAt, NoPieceAt}
-use Rattle.nodejs_semver.proofs.Common.{IsWholeNumber, Front}
-use Rattle.nodejs_semver.specs.Internal.Fronts.{number_front}
-use Rattle.nodejs_semver.specs.Internal.NpmReadings.{begins_padded, dotted_number, strict_number}
-use Rattle.nodejs_semver.specs.Npm.Grammar.{IsStrictNumber, has_leading_zero}
-use Rattle.nodejs_semver.proofs.Reading.Numbers.{front_none, front_some, number-found, number-read}
+use Rattle.nodejs_semver.proofs.Common.{Front, IsPieceAt, IsWholeNumber, List, NoPieceAt, None, Some, [], arith, begins}
+use Rattle.nodejs_semver.proofs.Common.{cases_Bool, common_steps, drop, eqb-true, false, inl, inr, is_ascii_digit, length}
+use Rattle.nodejs_semver.proofs.Common.{list_all, nat_tests, refl, take, take_rest, true, ℕ, ◌++◌, ◌-◌, ◌==◌, ◌∷◌, ◌≡◌}
+use Rattle.nodejs_semver.proofs.NpmCommon.{IsStrictNumber, begins_padded, dotted_number, has_leading_zero, number_front}
+use Rattle.nodejs_semver.proofs.{NpmCommon.strict_number, Reading.Numbers.{front_none, front_some, number-found, number-read}}
 
 -- ---- the number that the code finds
 

@@ -1,12 +1,7 @@
 -- A text is one version at most, and has one list of alternatives at most.
-use Rattle.nodejs_semver.proofs.Common.{◌≡◌, ◌∙◌, ℕ, Bool, List, IsUtf8, ap, sym, same_Some, VersionValue}
-use Rattle.nodejs_semver.proofs.Common.{middle_is_trim}
-use Rattle.nodejs_semver.specs.Internal.NpmReadings.{strict_version}
-use Rattle.nodejs_semver.specs.Npm.Ranges.{HasAlternativesIn}
-use Rattle.nodejs_semver.specs.Npm.Table.{Comparison}
-use Rattle.nodejs_semver.specs.Npm.VersionText.{IsVersionText}
-use Rattle.nodejs_semver.proofs.Strict.RangesLaw.{alternatives_are}
-use Rattle.nodejs_semver.proofs.Strict.VersionLaw.{strict-read-version}
+use Rattle.nodejs_semver.proofs.Common.{Bool, IsUtf8, List, VersionValue, ap, middle_is_trim, same_Some, sym, ℕ, ◌∙◌, ◌≡◌}
+use Rattle.nodejs_semver.proofs.NpmCommon.{Comparison, HasAlternativesIn, IsVersionText, strict_version}
+use Rattle.nodejs_semver.proofs.Strict.{RangesLaw.alternatives_are, VersionLaw.strict-read-version}
 
 pub version_once : (limit : ℕ) (text : List ℕ) (v w : VersionValue) → IsVersionText limit text v → IsVersionText limit text w → v ≡ w
 version_once limit text v w h k =

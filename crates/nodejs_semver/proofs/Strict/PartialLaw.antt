@@ -1,24 +1,16 @@
 -- Partial versions of node-semver's range texts: the function that reads them finds exactly what the statement has.
-use Rattle.nodejs_semver.proofs.Common.{common_steps, Bool, ◌≡◌, ℕ, List, ◌∷◌, ◌++◌, drop, refl, sym, ap, ◌∙◌, arith}
-use Rattle.nodejs_semver.proofs.Common.{true, false, Some, None, Option, inl, inr, ◌&&◌, and_parts, cases_Bool}
-use Rattle.nodejs_semver.proofs.Common.{nat_tests, append_assoc, begins, bind_some, is_ascii_digit, list_all, same_Some}
-use Rattle.nodejs_semver.proofs.Common.{subst, Id, pieces, Front}
-use Rattle.semver_core.specs.Text.Identifiers.{goes_on}
-use Rattle.semver_core.proofs.Text.Runs.{list_len_stop}
-use Rattle.nodejs_semver.specs.Internal.Fronts.{begins_byte, build_front}
-use Rattle.nodejs_semver.specs.Internal.NpmWords.{pre_front, are_short_builds, are_short_identifiers, dotted_patch}
-use Rattle.nodejs_semver.specs.Internal.NpmWords.{dotted_place, partial_front, place_front, qualified_partial}
-use Rattle.nodejs_semver.specs.Internal.NpmWords.{second_front, third_front}
-use Rattle.nodejs_semver.specs.Internal.Words.{is_boundary}
-use Rattle.nodejs_semver.specs.Npm.Grammar.{IsStrictBuild}
-use Rattle.nodejs_semver.specs.Npm.RangeText.{IsPartial, IsPlace, IsPreRelease, are_spelled, begins_undashed, has_zeros}
-use Rattle.nodejs_semver.specs.Npm.RangeText.{is_short_build, is_short_identifier, one, partial_of, three, two}
-use Rattle.nodejs_semver.specs.Npm.RangeText.{undashed}
-use Rattle.nodejs_semver.specs.Npm.Table.{Partial}
-use Rattle.nodejs_semver.proofs.Reading.Bytes.{is_solid, solid-dark}
-use Rattle.nodejs_semver.proofs.Strict.Places.{dotted_patch-found, dotted_place-found, dotted_place-read, patch-read}
-use Rattle.nodejs_semver.proofs.Strict.Places.{place-found, place-read}
-use Rattle.nodejs_semver.proofs.Strict.Qualifiers.{Ends, build-found, build-taken, pre-follows, pre-found, pre-taken}
+use Rattle.nodejs_semver.proofs.Common.{Bool, Front, Id, List, None, Option, Some, and_parts, ap, append_assoc, arith, begins}
+use Rattle.nodejs_semver.proofs.Common.{bind_some, cases_Bool, common_steps, drop, false, inl, inr, is_ascii_digit, is_boundary}
+use Rattle.nodejs_semver.proofs.Common.{list_all, nat_tests, pieces, refl, same_Some, subst, sym, true, ℕ, ◌&&◌, ◌++◌, ◌∙◌, ◌∷◌}
+use Rattle.nodejs_semver.proofs.{Common.◌≡◌, NpmCommon.{IsPartial, IsPlace, IsStrictBuild, are_spelled, begins_byte}}
+use Rattle.nodejs_semver.proofs.NpmCommon.{begins_undashed, build_front, dotted_patch, dotted_place, goes_on, has_zeros}
+use Rattle.nodejs_semver.proofs.NpmCommon.{is_short_build, is_short_identifier, one, partial_of, place_front, pre_front}
+use Rattle.nodejs_semver.proofs.NpmCommon.{qualified_partial, second_front, third_front, three, two, undashed}
+use Rattle.nodejs_semver.proofs.{Reading.Bytes.{is_solid, solid-dark}, Strict.Places.{dotted_patch-found, dotted_place-found}}
+use Rattle.nodejs_semver.proofs.Strict.{Places.{dotted_place-read, patch-read, place-found, place-read}, Qualifiers.Ends}
+use Rattle.nodejs_semver.proofs.Strict.Qualifiers.{build-found, build-taken, pre-follows, pre-found, pre-taken}
+use Rattle.nodejs_semver.specs.Internal.NpmWords.{are_short_builds, are_short_identifiers, partial_front}
+use Rattle.{nodejs_semver.specs.Npm.{RangeText.IsPreRelease, Table.Partial}, semver_core.proofs.Text.Runs.list_len_stop}
 
 -- ---- nothing goes on at a boundary
 

@@ -1,22 +1,14 @@
 -- Places of node-semver's partial versions: what is read is written, and what is written is read.
-use Rattle.nodejs_semver.proofs.Common.{common_steps, ◌≡◌, ◌≤◌, ◌<◌, ◌+◌, ◌-◌, ◌||◌, ℕ, zero, suc, Bool, List, [], ◌∷◌}
-use Rattle.nodejs_semver.proofs.Common.{◌++◌, length, drop, take, refl, sym, ap, ◌∙◌, arith, true, false, None, Some}
-use Rattle.nodejs_semver.proofs.Common.{Option, inl, inr, ◌&&◌, not, and_parts, cases_Bool, nat_tests, take_at, drop_at}
-use Rattle.nodejs_semver.proofs.Common.{begins, is_ascii_digit, list_all, same_Some, is_empty, MAX_SAFE_INTEGER}
-use Rattle.nodejs_semver.proofs.Common.{eqb-true, ◌*◌, prefix_len, ◌==◌, take-append-drop, IsNumber}
-use Rattle.std.specs.Char.{digit_value}
-use Rattle.std.specs.Prelude.{nat_le, take_while}
-use Rattle.std.specs.Str.Parse.{digits_value, digits_value_after}
-use Rattle.std.proofs.Math.Seq.{drop-append-add}
-use Rattle.std.proofs.Math.Bool.{and-false}
+use Rattle.nodejs_semver.proofs.Common.{Bool, IsNumber, List, MAX_SAFE_INTEGER, None, Option, Some, [], and-false, and_parts}
+use Rattle.nodejs_semver.proofs.Common.{ap, arith, begins, cases_Bool, common_steps, drop, drop_at, eqb-true, false, inl, inr}
+use Rattle.nodejs_semver.proofs.Common.{is_ascii_digit, is_empty, length, list_all, nat_tests, not, prefix_len, refl, same_Some}
+use Rattle.nodejs_semver.proofs.Common.{suc, sym, take, take-append-drop, take_at, true, zero, ℕ, ◌&&◌, ◌*◌, ◌++◌, ◌+◌, ◌-◌}
+use Rattle.nodejs_semver.proofs.{Common.{◌<◌, ◌==◌, ◌||◌, ◌∙◌, ◌∷◌, ◌≡◌, ◌≤◌}, NpmCommon.{IsPlace, IsStrictNumber, begins_byte}}
+use Rattle.nodejs_semver.proofs.NpmCommon.{begins_wildcard, digit_value, digits_grow, digits_value, digits_value_after}
+use Rattle.nodejs_semver.proofs.NpmCommon.{dotted_patch, dotted_place, drop-append-add, is_spelled, most_digits, nat_le}
+use Rattle.nodejs_semver.proofs.{NpmCommon.{patch_place, place_front, run_place, take_while}, Reading.Numbers.digits-taken}
+use Rattle.nodejs_semver.proofs.{Reading.Numbers.number-no_wildcard, Strict.Qualifiers.Follows}
 use Rattle.std.proofs.lemmas.List.Sums.{prefix_len-drop_all, prefix_len-drop_no, prefix_len-drop_yes}
-use Rattle.semver_core.proofs.Text.Pieces.{digits_grow}
-use Rattle.nodejs_semver.specs.Internal.Fronts.{begins_byte, begins_wildcard}
-use Rattle.nodejs_semver.specs.Internal.NpmWords.{dotted_patch, dotted_place, patch_place, place_front, run_place}
-use Rattle.nodejs_semver.specs.Npm.Grammar.{IsStrictNumber}
-use Rattle.nodejs_semver.specs.Npm.RangeText.{IsPlace, is_spelled, most_digits}
-use Rattle.nodejs_semver.proofs.Reading.Numbers.{digits-taken, number-no_wildcard}
-use Rattle.nodejs_semver.proofs.Strict.Qualifiers.{Follows}
 use Rattle.nodejs_semver.specs.Npm.RangeText as Text
 
 pub ruleset prefix_steps = (prefix_len-drop_all, prefix_len-drop_no, prefix_len-drop_yes)
@@ -117,17 +109,12 @@ dotted_place-found loose zeros (c ∷ t) a rest h = elim (cases_Bool (c == 46)) 
 pub digits-of : (k : ℕ) (text : List ℕ) → k ≤ prefix_len is_ascii_digit text → list_all is_ascii_digit (take k text) ≡ true
 digits-of zero text h = refl
 digits-of (suc k) [] h = refl
-digits-of (suc k) (c ∷ text) h = elim (cases_Bool (is_ascii_digit c)) [
-  | inl digit ↦ rw digit (digits-of k text (omega (arith, rw digit at h)))
-  | inr other ↦ absurd (omega (arith, rw other at h))
-]
+digits-of (suc k) (c ∷ text) h = grind (arith, nat_tests, common_steps, digits-of k text)
 
 digits-many_on : (digits rest : List ℕ) → list_all is_ascii_digit digits ≡ true
     → prefix_len is_ascii_digit (digits ++ rest) ≡ length digits + prefix_len is_ascii_digit rest
 digits-many_on [] rest h = omega arith
-digits-many_on (c ∷ digits) rest h =
-    let each = and_parts (is_ascii_digit c) (list_all is_ascii_digit digits) h in
-    rw each.0 (omega (arith, digits-many_on digits rest each.1))
+digits-many_on (c ∷ digits) rest h = grind (arith, nat_tests, common_steps, and_parts, digits-many_on digits rest)
 
 no-digit : (b : ℕ) → (b == 120 || b == 88 || b == 42) ≡ true → (is_ascii_digit b ≡ false) × ((b == 46) ≡ false)
 no-digit b h = (grind (arith, nat_tests), grind (arith, nat_tests))

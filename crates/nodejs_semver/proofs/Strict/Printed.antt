@@ -1,20 +1,12 @@
 -- How long versions print, and which one prints `0.0.0`.
-use Rattle.nodejs_semver.proofs.Common.{common_steps, ◌≡◌, ◌≤◌, ◌<◌, ◌+◌, ◌&&◌, sym, ◌∙◌, ℕ, Bool, true, List, [], ◌∷◌}
-use Rattle.nodejs_semver.proofs.Common.{◌++◌, length, length-append, arith, Id, VersionValue, is_release, and_parts}
-use Rattle.nodejs_semver.proofs.Common.{list_all, is_ascii_digit, MAX_SAFE_INTEGER, nat_tests, eqb-true, decimal}
-use Rattle.nodejs_semver.proofs.Common.{◌^◌, codes, Numeric, empty_is}
-use Rattle.std.specs.Prelude.{nat_le}
-use Rattle.std.specs.Str.{bytes_eq}
-use Rattle.std.proofs.lemmas.Slice.Eq.{bytes_eq-Decides}
-use Rattle.std.specs.Cmp.{both_ways}
-use Rattle.std.proofs.lemmas.Fmt.{decimal_digit, decimal_injective, length-decimal-le}
-use Rattle.semver_core.proofs.Printing.Returns.{decimal_digits, decimal_some}
-use Rattle.semver_core.specs.Printing.Text.{id_text, marked_list, version_text}
-use Rattle.semver_core.specs.declared.TheConstants.{MAX_LENGTH}
-use Rattle.nodejs_semver.specs.Internal.NpmMeaning.{is_zero}
-use Rattle.nodejs_semver.specs.Internal.NpmParts.{within}
-use Rattle.nodejs_semver.specs.Npm.Ranges.{is_valid}
-use Rattle.nodejs_semver.specs.Npm.Table.{Numbers, first, from, lowest, no_build, release, under, whole}
+use Rattle.nodejs_semver.proofs.Common.{Bool, Id, List, MAX_SAFE_INTEGER, Numeric, VersionValue, [], and_parts, arith, codes}
+use Rattle.nodejs_semver.proofs.Common.{common_steps, decimal, empty_is, eqb-true, is_ascii_digit, is_release, length}
+use Rattle.nodejs_semver.proofs.Common.{length-append, list_all, nat_tests, sym, true, ℕ, ◌&&◌, ◌++◌, ◌+◌, ◌<◌, ◌^◌, ◌∙◌, ◌∷◌}
+use Rattle.nodejs_semver.proofs.{Common.{◌≡◌, ◌≤◌}, NpmCommon.{MAX_LENGTH, Numbers, both_ways, bytes_eq, bytes_eq-Decides}}
+use Rattle.nodejs_semver.proofs.NpmCommon.{first, from, id_text, is_valid, is_zero, marked_list, nat_le, release, under}
+use Rattle.nodejs_semver.{proofs.NpmCommon.{version_text, whole, within}, specs.Npm.Table.{lowest, no_build}}
+use Rattle.{semver_core.proofs.Printing.Returns.{decimal_digits, decimal_some}, std.proofs.lemmas.Fmt.decimal_digit}
+use Rattle.std.proofs.lemmas.Fmt.{decimal_injective, length-decimal-le}
 
 -- ---- lengths
 

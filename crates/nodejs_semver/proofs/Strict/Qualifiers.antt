@@ -1,24 +1,18 @@
 -- The pre-release and the build behind the numbers: what is read is written, and what is written is read.
-use Rattle.std.proofs.Common.{◌≡◌, ◌&&◌, ◌||◌, ◌==◌, ◌⊎◌, ℕ, zero, suc, Bool, not, subst, List, [], ◌∷◌, ◌++◌, drop, take, refl, sym, ap, ◌∙◌, arith, true, false, inl, inr}
-use Rattle.std.specs.Char.{is_ascii_digit}
-use Rattle.nodejs_semver.proofs.Common.{append-nil}
-use Rattle.std.proofs.lemmas.Bool.{and_parts, cases_Bool, eqb-true, or_cases}
-use Rattle.std.proofs.lemmas.Bool.Decides.{nat_tests}
-use Rattle.std.proofs.lemmas.List.{take-append-drop}
-use Rattle.semver_core.specs.Text.Characters.{begins, is_identifier_char}
-use Rattle.semver_core.specs.Text.Identifiers.{Id, IsIdentifiers, goes_on, listed}
-use Rattle.semver_core.specs.Internal.Reading.{list_len}
-use Rattle.nodejs_semver.specs.Internal.Fronts.{begins_byte, begins_identifier, build_front, pre_release_front}
-use Rattle.nodejs_semver.specs.Internal.NpmReadings.{dashed_front, is_strict_list}
-use Rattle.nodejs_semver.specs.Internal.NpmWords.{pre_front}
-use Rattle.nodejs_semver.specs.Npm.Grammar as Grammar
-use Rattle.nodejs_semver.specs.Npm.Grammar.{IsStrictBuild, IsStrictPreRelease, no_build, plus}
-use Rattle.nodejs_semver.specs.Npm.RangeText.{IsPreRelease, are_spelled, bare, begins_undashed, dashed, is_letter, no_pre_release, undashed}
+use Rattle.nodejs_semver.proofs.Common.{Bool, Id, IsIdentifiers, List, [], and-false, and_parts, ap, append-nil, arith, begins}
+use Rattle.nodejs_semver.proofs.Common.{begins_identifier, cases_Bool, common_steps, drop, eqb-true, false, inl, inr}
+use Rattle.nodejs_semver.proofs.Common.{is_ascii_digit, is_identifier_char, list_len, nat_tests, not, not-true, or_cases, refl}
+use Rattle.nodejs_semver.proofs.Common.{subst, suc, sym, take, take-append-drop, true, zero, ℕ, ◌&&◌, ◌++◌, ◌==◌, ◌||◌, ◌∙◌}
+use Rattle.nodejs_semver.proofs.{Common.{◌∷◌, ◌≡◌, ◌⊎◌}, NpmCommon.{IsStrictBuild, IsStrictPreRelease, are_spelled, bare}}
+use Rattle.nodejs_semver.proofs.NpmCommon.{begins_byte, begins_undashed, build_front, dashed_front, goes_on, is_strict_list}
+use Rattle.nodejs_semver.proofs.NpmCommon.{listed, no_build, or-true, plus, pre_front, pre_release_front, undashed}
 use Rattle.nodejs_semver.proofs.Reading.IdentifierLists.{front-identifiers, written-begins, written-exact, written-spelled}
+use Rattle.nodejs_semver.specs.Npm.RangeText.{IsPreRelease, dashed, is_letter, no_pre_release}
+use Rattle.nodejs_semver.specs.Npm.Grammar as Grammar
 
 -- ---- what is read is written
 
-byte-begins : (c : ℕ) (x : List ℕ) → begins_byte c x ≡ true → x ≡ c ∷ drop 1 x
+pub byte-begins : (c : ℕ) (x : List ℕ) → begins_byte c x ≡ true → x ≡ c ∷ drop 1 x
 byte-begins c x h = grind arith
 
 dash-found : (text y : List ℕ) → text ≡ 45 ∷ y → begins_identifier y ≡ true → is_strict_list (take (list_len y) y) ≡ true
@@ -116,10 +110,7 @@ undashed-begins [] h = cc h
 undashed-begins (b ∷ text) h = grind (arith, nat_tests)
 
 letter-on : (text more : List ℕ) → begins_undashed text ≡ true → begins_identifier more ≡ false → begins_undashed (text ++ more) ≡ true
-letter-on [] more h k = cc h
-letter-on (b ∷ []) more h k = grind arith
-letter-on (b ∷ c ∷ []) more h k = grind arith
-letter-on (b ∷ c ∷ d ∷ text) more h k = h
+letter-on text more h k = grind (arith, nat_tests, common_steps)
 
 or-right : (a b : Bool) → (a || b) ≡ true → a ≡ false → b ≡ true
 or-right a b h k = grind arith
@@ -148,37 +139,22 @@ letter-take (b ∷ text) h = elim (cases_Bool (is_letter b)) [
     dashes text some k =
         let parts = and_parts (b == 45) (not (begins_identifier text)) k in
         let one : list_len (b ∷ text) ≡ suc (list_len text) = rw some (omega arith) in
-        rw (one, parts.0, none-taken (list_len text) text (opposite _ parts.1)) (or-end (is_letter b) _)
+        rw (one, parts.0, none-taken (list_len text) text (not-true _ parts.1)) (or-end (is_letter b) _)
       where
-        opposite : (a : Bool) → not a ≡ true → a ≡ false
-        opposite a h = grind arith
-
         or-end : (a c : Bool) → (a || (c || true)) ≡ true
         or-end a c = grind arith
 
     lone : (text : List ℕ) → is_identifier_char b ≡ true
         → (is_ascii_digit b && (begins_byte 46 text && begins_identifier (drop 1 text))) ≡ true
         → begins_undashed (take (list_len (b ∷ text)) (b ∷ text)) ≡ true
-    lone [] some k = absurd (none (is_ascii_digit b) k)
-      where
-        none : (a : Bool) → (a && false) ≡ true → ⊥
-        none a k = grind arith
-    lone (c ∷ []) some k = absurd (none (is_ascii_digit b) (c == 46) k)
-      where
-        none : (a d : Bool) → (a && (d && false)) ≡ true → ⊥
-        none a d k = grind arith
+    lone [] some k = cc (rw (and-false (is_ascii_digit b)) at k)
+    lone (c ∷ []) some k = cc (rw (and-false (c == 46), and-false (is_ascii_digit b)) at k)
     lone (c ∷ d ∷ text) some k =
         let digit = and_parts (is_ascii_digit b) _ k in
         let dot = and_parts (c == 46) (is_identifier_char d) digit.1 in
         let goes : goes_on (c ∷ d ∷ text) ≡ true = rw (dot.0, dot.1) (or-true (is_identifier_char c)) in
         let three : list_len (b ∷ c ∷ d ∷ text) ≡ suc (suc (suc (list_len text))) = rw (some, goes, dot.1) (omega arith) in
         rw three (rw k (or-true (is_letter b)))
-      where
-        or-true : (a : Bool) → (a || true) ≡ true
-        or-true a = grind arith
-
-and-none : (b : Bool) → (b && false) ≡ false
-and-none b = grind arith
 
 spelled-nil : (loose : Bool) → are_spelled loose [] ≡ true
 spelled-nil true = refl
@@ -239,9 +215,7 @@ unfolding pre_front
 pre-found false text h = dashed_front-found false text h
 pre-found true text h = elim (cases_Bool (begins_undashed text)) [
   | inr other ↦ rw other (dashed_front-found true text (rw other at h))
-  | inl letter ↦
-      let some = undashed-begins text letter in
-      rw (letter, some) (without-dash text letter (rw (letter, some) at h))
+  | inl letter ↦ grind (arith, nat_tests, common_steps, undashed-begins, without-dash)
 ]
 
 -- build metadata, or nothing, begins with no letter
@@ -309,9 +283,7 @@ bare-taken t rest list f h s stop =
     stopped [] e = refl
     stopped (b ∷ rest) e = elim (cases_Bool (is_identifier_char b)) [
       | inr other ↦ other
-      | inl some ↦
-          let one : list_len (b ∷ rest) ≡ suc (list_len rest) = rw some (omega arith) in
-          absurd (omega (arith, e, one))
+      | inl some ↦ grind (arith, nat_tests, common_steps)
     ]
 
 -- the text is the pre-release and this rest, and the identifiers are spelled as they have to be
@@ -319,11 +291,11 @@ pub pre-taken : (loose : Bool) (p b more : List ℕ) (l m : List Id) → IsPreRe
     → PreTaken loose p (b ++ more) l
 unfolding pre_front dashed_front pre_release_front listed
 pre-taken loose p b more l m no_pre_release k e =
-    (rw (build-letter b more m k e, and-none loose, (build-quiet b more m k e).1) refl, refl, spelled-nil loose)
+    (rw (build-letter b more m k e, and-false loose, (build-quiet b more m k e).1) refl, refl, spelled-nil loose)
 pre-taken loose p b more l m (dashed t list h s) k e =
     let begins = written-begins t (b ++ more) list h in
     let exact = written-exact t (b ++ more) list h (build-quiet b more m k e).0 in
-    rw (undashed-dashed t list h) (rw (begins, and-none loose, exact) refl, written-spelled t list h, s)
+    rw (undashed-dashed t list h) (rw (begins, and-false loose, exact) refl, written-spelled t list h, s)
 pre-taken loose p b more l m (bare t list x f h s) k e =
     let read : PreTaken true t (b ++ more) list = bare-taken t (b ++ more) list f h (rw x at s) (build-quiet b more m k e).0 in
     subst (λ (r : Bool). PreTaken r t (b ++ more) list) (sym x) read

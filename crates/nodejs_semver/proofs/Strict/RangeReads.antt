@@ -1,25 +1,16 @@
 -- The alternatives of a range text, read one after another.
-use Rattle.nodejs_semver.proofs.Common.{common_steps, nat_tests, ◌≡◌, ◌<◌, ◌≤◌, ◌+◌, ℕ, Bool, List, [], ◌∷◌, ◌++◌}
-use Rattle.nodejs_semver.proofs.Common.{length, refl, sym, ap, ◌∙◌, arith, true, false, subst, IsUtf8, Some, None}
-use Rattle.nodejs_semver.proofs.Common.{Option, append_assoc, append-nil, flat_map, length-append, option_to_list, Span}
-use Rattle.nodejs_semver.proofs.Common.{VersionValue, MAX_SAFE_INTEGER, ◌&&◌, not, is_empty, IsCutAtBars, if◌then◌else◌}
-use Rattle.nodejs_semver.proofs.Common.{cases_Bool, cond_some, inl, inr, list_all, Err, Ok, Result, MemoryOnlyIf}
-use Rattle.nodejs_semver.proofs.Common.{Failure, Memory, Refused, later_parts, parts, is_range_span}
-use Rattle.semver_core.specs.Failures.{NoValue, RefusedOnlyIf}
-use Rattle.semver_core.specs.Internal.Reading.{◌>>?◌}
-use Rattle.nodejs_semver.specs.Internal.NpmAlternatives.{AcceptAsRanged, AreNarrowed}
-use Rattle.nodejs_semver.specs.Internal.NpmMeaning.{IsNarrowed}
-use Rattle.nodejs_semver.specs.Internal.NpmReads.{AddsOne, AddsPart, AreAllFound, AreFound, IsFound, valid_alternative}
-use Rattle.nodejs_semver.specs.Internal.NpmReads.{valid_alternatives, valid_range}
-use Rattle.nodejs_semver.specs.Internal.NpmWords.{alternative_of, alternatives_of, kept, valid_only}
-use Rattle.nodejs_semver.specs.Npm.Malformed.{begins_malformed, ends_malformed}
-use Rattle.nodejs_semver.specs.Npm.RangeText.{is_lost}
-use Rattle.nodejs_semver.specs.Npm.Ranges.{HasAlternativesIn, IsRangeIn, is_valid}
-use Rattle.nodejs_semver.specs.Npm.Table.{Comparison}
-use Rattle.nodejs_semver.specs.declared.npm.alternatives.Alternative.{Alternative}
-use Rattle.nodejs_semver.proofs.Dividing.BarsDivide.{bars_once}
-use Rattle.nodejs_semver.proofs.Strict.Alternatives.{found_spans}
-use Rattle.nodejs_semver.proofs.Strict.RangesLaw.{alternatives_are}
+use Rattle.nodejs_semver.proofs.Common.{Bool, Err, Failure, IsCutAtBars, IsUtf8, List, MAX_SAFE_INTEGER, Memory, MemoryOnlyIf}
+use Rattle.nodejs_semver.proofs.Common.{None, Ok, Option, Refused, Result, Some, Span, VersionValue, [], ap, append-nil}
+use Rattle.nodejs_semver.proofs.Common.{append_assoc, arith, cases_Bool, common_steps, cond_some, false, flat_map}
+use Rattle.nodejs_semver.proofs.Common.{if◌then◌else◌, inl, inr, is_empty, is_range_span, later_parts, length, length-append}
+use Rattle.nodejs_semver.proofs.Common.{list_all, nat_tests, not, not-true, option_to_list, parts, refl, subst, sym, true, ℕ}
+use Rattle.nodejs_semver.proofs.{Common.{◌&&◌, ◌++◌, ◌+◌, ◌<◌, ◌∙◌, ◌∷◌, ◌≡◌, ◌≤◌}, NpmCommon.{AcceptAsRanged, Alternative}}
+use Rattle.nodejs_semver.proofs.NpmCommon.{AreNarrowed, Comparison, HasAlternativesIn, IsFound, IsNarrowed, IsRangeIn, NoValue}
+use Rattle.nodejs_semver.proofs.NpmCommon.{alternative_of, alternatives_of, begins_malformed, is_lost, is_valid, kept}
+use Rattle.nodejs_semver.proofs.{NpmCommon.{valid_alternative, valid_only, ◌>>?◌}, Dividing.BarsDivide.bars_once}
+use Rattle.nodejs_semver.{proofs.Strict.{Alternatives.found_spans, RangesLaw.alternatives_are}, specs.Internal.NpmReads.AddsOne}
+use Rattle.nodejs_semver.specs.Internal.NpmReads.{AddsPart, AreAllFound, AreFound, valid_alternatives, valid_range}
+use Rattle.{nodejs_semver.specs.Npm.Malformed.ends_malformed, semver_core.specs.Failures.RefusedOnlyIf}
 
 -- ---- one alternative more
 
@@ -221,14 +212,11 @@ all-valid loose include (text ∷ texts) = go (all-valid loose include texts) (a
       | inr bad ↦ rw bad (invalid cs (alternatives_of loose include texts) bad (regular-of cs bad))
     ]
 
-not-false : (b : Bool) → not b ≡ true → b ≡ false
-not-false b h = grind (arith, nat_tests, common_steps)
-
 -- the alternatives that are read are those of the text
 pub alternatives-read : (loose : Bool) (include : Bool) (text : List ℕ) (ls : List (List Comparison)) → IsUtf8 text
     → valid_range loose include text ≡ Some ls → HasAlternativesIn loose MAX_SAFE_INTEGER include text ls
 alternatives-read loose include text ls u h =
-    grind (arith, nat_tests, common_steps, cond_some, not, all-valid, not-false, alternatives_are)
+    grind (arith, nat_tests, common_steps, cond_some, not, all-valid, not-true, alternatives_are)
 
 pub none-read : (loose : Bool) (include : Bool) (text : List ℕ) → IsUtf8 text → valid_range loose include text ≡ None
     → NoValue (HasAlternativesIn loose MAX_SAFE_INTEGER include text)

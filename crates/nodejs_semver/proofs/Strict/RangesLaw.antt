@@ -1,16 +1,11 @@
 -- Range texts as node-semver reads them: the function that reads the alternatives finds exactly what the statement has.
-use Rattle.std.proofs.Common.{arith}
-use Rattle.nodejs_semver.proofs.Common.{◌≡◌, ℕ, Bool, List, [], ◌∷◌, refl, sym, ap, ◌∙◌, true, false, Some, ◌↔◌}
-use Rattle.nodejs_semver.proofs.Common.{AllByRecursion, IsUtf8, is_empty, bind_some, list_all, map, same_Some, subst}
-use Rattle.nodejs_semver.proofs.Common.{trim, middle_is_trim, trim_is_middle, cut_bars}
-use Rattle.nodejs_semver.specs.Internal.NpmWords.{alternative_of, alternatives_of, kept, npm_alternatives}
-use Rattle.nodejs_semver.specs.Npm.RangeText.{AreAlternatives, next, none}
-use Rattle.nodejs_semver.specs.Npm.Ranges.{HasAlternativesIn, is_valid}
-use Rattle.nodejs_semver.specs.Npm.Table.{Comparison}
-use Rattle.nodejs_semver.proofs.Dividing.BarsDivide.{bars_divide, bars_once}
-use Rattle.nodejs_semver.proofs.Dividing.MeaningLaw.{pieces-utf8}
-use Rattle.nodejs_semver.proofs.Reading.WordLaw.{trim-utf8}
-use Rattle.nodejs_semver.proofs.Strict.AlternativeLaw.{alternative-found, alternative-read}
+use Rattle.nodejs_semver.proofs.Common.{AllByRecursion, Bool, IsUtf8, List, Some, [], ap, arith, bind_some, cut_bars, false}
+use Rattle.nodejs_semver.proofs.Common.{is_empty, list_all, map, middle_is_trim, refl, same_Some, subst, sym, trim}
+use Rattle.nodejs_semver.proofs.{Common.{trim_is_middle, true, ℕ, ◌↔◌, ◌∙◌, ◌∷◌, ◌≡◌}, NpmCommon.{AreAlternatives, Comparison}}
+use Rattle.nodejs_semver.proofs.NpmCommon.{HasAlternativesIn, alternative_of, alternatives_of, is_valid, kept, none}
+use Rattle.nodejs_semver.proofs.Dividing.{BarsDivide.{bars_divide, bars_once}, MeaningLaw.pieces-utf8}
+use Rattle.nodejs_semver.proofs.{Reading.WordLaw.trim-utf8, Strict.AlternativeLaw.{alternative-found, alternative-read}}
+use Rattle.nodejs_semver.specs.{Internal.NpmWords.npm_alternatives, Npm.RangeText.next}
 
 each-read : (loose : Bool) (include : Bool) (pieces : List (List ℕ)) (ls : List (List Comparison)) → AllByRecursion IsUtf8 pieces
     → AreAlternatives loose include pieces ls → alternatives_of loose include (map trim pieces) ≡ Some ls

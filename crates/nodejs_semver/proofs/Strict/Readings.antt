@@ -1,6 +1,5 @@
 -- What a range that was read accepts is what the alternatives of its text accept.
-use Rattle.nodejs_semver.proofs.Common.{Bool, List, Span, VersionValue, MAX_SAFE_INTEGER, accepts, subst}
-use Rattle.nodejs_semver.specs.Npm.Ranges.{IsRangeIn}
+use Rattle.nodejs_semver.proofs.{Common.{Bool, List, MAX_SAFE_INTEGER, Span, VersionValue, accepts, subst}, NpmCommon.IsRangeIn}
 use Rattle.nodejs_semver.specs.Npm.Readings.{OfAccepted, ReadText}
 
 pub of_accepted : {Holds : (VersionValue → Bool) → Type 0} (r : ReadText) (range : List (Span VersionValue))

@@ -1,26 +1,17 @@
 -- A text that is a version strictly is a mark, the version as it prints without its build, and the build: so what is printed is read again.
-use Rattle.nodejs_semver.proofs.Common.{common_steps, ◌≡◌, ◌∙◌, ◌&&◌, ◌||◌, ◌==◌, ◌<◌, ◌≤◌, ◌^◌, ℕ, Bool, List, [], ◌∷◌}
-use Rattle.nodejs_semver.proofs.Common.{◌++◌, arith, ap, append-nil, get_or, inl, inr, length, length-append, map, not}
-use Rattle.nodejs_semver.proofs.Common.{refl, sym, true, false, encode_utf8_all, is_ascii_digit, decimal}
-use Rattle.nodejs_semver.proofs.Common.{list_all, IsUtf8, and_parts, cases_Bool, nat_tests, IsTrim}
-use Rattle.nodejs_semver.proofs.Common.{is_identifier_char, Id, identifier_of, is_identifier}
-use Rattle.nodejs_semver.proofs.Common.{pieces, VersionValue, MAX_SAFE_INTEGER}
-use Rattle.std.proofs.Common.{reverse}
-use Rattle.std.specs.List.{join_with_byte}
-use Rattle.std.specs.Str.{IsAscii, chars}
-use Rattle.std.specs.Str.Parse.{digits_value}
-use Rattle.std.proofs.lemmas.Fmt.{decimal-digits_value}
-use Rattle.std.proofs.lemmas.List.Splits.{length-slice_split, join_with_byte-slice_split}
-use Rattle.std.proofs.lemmas.Str.{IsUtf8-from_ascii, chars-IsAscii, chars_from_encodes}
-use Rattle.semver_core.specs.Printing.Text.{id_text, marked_list, version_text}
-use Rattle.semver_core.specs.Text.Identifiers.{is_u64_text}
-use Rattle.semver_core.proofs.Text.Runs.{ascii, numerals}
-use Rattle.nodejs_semver.specs.Npm.Grammar.{IsStrictNumber, IsStrictPreRelease, dashed, has_leading_zero}
-use Rattle.nodejs_semver.specs.Npm.Grammar.{is_strict_identifier, no_build, no_pre_release}
-use Rattle.nodejs_semver.specs.Npm.VersionText.{IsStrictVersion, IsVersionText}
+use Rattle.nodejs_semver.proofs.Common.{Bool, Id, IsTrim, IsUtf8, List, MAX_SAFE_INTEGER, VersionValue, [], and_parts, ap}
+use Rattle.nodejs_semver.proofs.Common.{append-nil, arith, cases_Bool, common_steps, decimal, encode_utf8_all, false, get_or}
+use Rattle.nodejs_semver.proofs.Common.{identifier_of, inl, inr, is_ascii_digit, is_identifier, is_identifier_char, length}
+use Rattle.nodejs_semver.proofs.Common.{length-append, list_all, map, nat_tests, not, pieces, refl, sym, true, ℕ, ◌&&◌, ◌++◌}
+use Rattle.nodejs_semver.proofs.{Common.{◌<◌, ◌==◌, ◌^◌, ◌||◌, ◌∙◌, ◌∷◌, ◌≡◌, ◌≤◌}, NpmCommon.IsStrictNumber}
+use Rattle.nodejs_semver.proofs.NpmCommon.{IsStrictPreRelease, IsStrictVersion, IsVersionText, chars, chars_from_encodes}
+use Rattle.nodejs_semver.proofs.NpmCommon.{dashed, digits_value, has_leading_zero, id_text, is_strict_identifier}
+use Rattle.nodejs_semver.proofs.NpmCommon.{join_with_byte, marked_list, no_build, no_pre_release, version_text}
+use Rattle.nodejs_semver.proofs.Stopping.{Read.{is_plain, plain-encodes, plain-middle}, Written.{plain-dark, plain-reverse}}
+use Rattle.{semver_core.{proofs.Text.Runs.{numerals}, specs.Text.Identifiers.is_u64_text}, std.proofs.Common.reverse}
+use Rattle.std.proofs.lemmas.{Fmt.decimal-digits_value, List.Splits.{join_with_byte-slice_split, length-slice_split}}
+use Rattle.std.{proofs.lemmas.Str.{IsUtf8-from_ascii, chars-IsAscii}, specs.Str.IsAscii}
 use Rattle.nodejs_semver.specs.Npm.Table as Table
-use Rattle.nodejs_semver.proofs.Stopping.Read.{is_plain, plain-encodes, plain-middle}
-use Rattle.nodejs_semver.proofs.Stopping.Written.{plain-dark, plain-reverse}
 
 -- ---- numbers and identifiers print as they are written
 
@@ -45,10 +36,7 @@ id_printed piece run strict = elim (cases_Bool (is_u64_text piece)) [
 
 ids_printed : (ps : List (List ℕ)) → list_all is_identifier ps ≡ true → list_all is_strict_identifier ps ≡ true → map id_text (map identifier_of ps) ≡ ps
 ids_printed [] runs strict = refl
-ids_printed (p ∷ ps) runs strict =
-    let (run, others) = and_parts (is_identifier p) (list_all is_identifier ps) runs in
-    let (first, rest) = and_parts (is_strict_identifier p) (list_all is_strict_identifier ps) strict in
-    rw (id_printed p run first, ids_printed ps others rest) refl
+ids_printed (p ∷ ps) runs strict = grind (arith, nat_tests, common_steps, and_parts, id_printed, ids_printed ps)
 
 list_printed : (mark : List ℕ) (ps : List (List ℕ)) → 0 < length ps → map id_text (map identifier_of ps) ≡ ps
     → marked_list mark (map identifier_of ps) ≡ mark ++ join_with_byte 46 ps

@@ -1,25 +1,16 @@
 -- The rows of node-semver's table: the bounds that the comparators of a word have in common.
-use Rattle.nodejs_semver.proofs.Common.{◌≡◌, refl, ap, ◌∙◌, ℕ, Bool, true, false, not, List, [], ◌∷◌, ◌&&◌, ◌||◌, arith}
-use Rattle.nodejs_semver.proofs.Common.{VersionValue, Bound, Before, Unbounded, Span, greater_lower, precedence}
-use Rattle.nodejs_semver.proofs.Common.{list_all, MAX_SAFE_INTEGER, Option, cond_both, is_release, nat_tests, ◌==◌, ◌+◌}
-use Rattle.nodejs_semver.proofs.Common.{length, ◌≤◌, codes, is_readable, Comparator, above, at_most, below, equal}
-use Rattle.std.specs.Prelude.{nat_le}
-use Rattle.std.specs.Str.{bytes_eq}
-use Rattle.semver_core.specs.Printing.Text.{version_text}
+use Rattle.nodejs_semver.proofs.Common.{Before, Bool, Bound, Comparator, List, MAX_SAFE_INTEGER, Option, Span, Unbounded}
+use Rattle.nodejs_semver.proofs.Common.{VersionValue, [], above, ap, arith, at_most, below, codes, cond_both, equal, false}
+use Rattle.nodejs_semver.proofs.Common.{greater_lower, is_readable, is_release, length, list_all, nat_tests, not, precedence}
+use Rattle.nodejs_semver.proofs.{Common.{refl, true, ℕ, ◌&&◌, ◌+◌, ◌==◌, ◌||◌, ◌∙◌, ◌∷◌, ◌≡◌, ◌≤◌}, NpmCommon.{AreRead, Bounds}}
+use Rattle.nodejs_semver.proofs.NpmCommon.{Comparison, IsCommon, MAX_LENGTH, Numbers, are_normal, at_least, bytes_eq}
+use Rattle.nodejs_semver.proofs.NpmCommon.{caret_from, comparator_view, compared, counts, first, from, hyphen_upper, is_valid}
+use Rattle.nodejs_semver.proofs.NpmCommon.{is_zero, made, major, minor, nat_le, next_changed, npm_partial_view, npm_sign_view}
+use Rattle.nodejs_semver.proofs.{NpmCommon.{under, version_text, whole, wildcard, within}, Strict.Narrowing.both_common}
+use Rattle.nodejs_semver.proofs.Strict.Narrowing.{compared_span, comparison, everything, one_common, uncounted_common}
+use Rattle.nodejs_semver.{proofs.Strict.Printed.{from_valid, prints_zero, under_valid}, specs.Internal.NpmMeaning.is_part}
+use Rattle.nodejs_semver.specs.Npm.Table.{Partial, caret, lowest, next, no_build, table, tilde}
 use Rattle.semver_core.specs.Values.Versions.{IsVersion}
-use Rattle.semver_core.specs.declared.TheConstants.{MAX_LENGTH}
-use Rattle.nodejs_semver.specs.Internal.NpmMeaning.{AreRead, IsCommon, is_part, is_zero}
-use Rattle.nodejs_semver.specs.Internal.NpmParts.{are_normal, npm_partial_view, npm_sign_view, within}
-use Rattle.nodejs_semver.specs.Internal.Readings.{comparator_view}
-use Rattle.nodejs_semver.specs.Npm.Ranges.{is_valid}
-use Rattle.nodejs_semver.specs.Npm.Table.{Comparison, Numbers, Partial, caret, caret_from, compared, counts, first}
-use Rattle.nodejs_semver.specs.Npm.Table.{from, hyphen_upper, lowest, made, major, minor, next, next_changed, no_build}
-use Rattle.nodejs_semver.specs.Npm.Table.{table, tilde, under, whole, wildcard}
-use Rattle.nodejs_semver.specs.Text.WordText.{at_least}
-use Rattle.nodejs_semver.specs.declared.readers.syntax.Bounds.{Bounds}
-use Rattle.nodejs_semver.proofs.Strict.Narrowing.{both_common, compared_span, comparison, everything, one_common}
-use Rattle.nodejs_semver.proofs.Strict.Narrowing.{uncounted_common}
-use Rattle.nodejs_semver.proofs.Strict.Printed.{from_valid, prints_zero, under_valid}
 use Rattle.nodejs_semver.specs.Text.Table as Spans
 use Rattle.nodejs_semver.specs.declared.npm.partial.Partial as Declared
 use Rattle.nodejs_semver.specs.declared.npm.partial.Partial.TheVariants as Partials
@@ -125,19 +116,19 @@ module _ (include : Bool) (text : List ℕ) (a : Numbers) (r : Option Bounds) wh
 
 -- ---- the rows of a whole version
 
-pub whole_compared : (include : Bool) (c : Comparator) (v : VersionValue) (text : List ℕ) (s : Span VersionValue)
+whole_compared : (include : Bool) (c : Comparator) (v : VersionValue) (text : List ℕ) (s : Span VersionValue)
     → s ≡ compared_span c v → is_readable MAX_SAFE_INTEGER v ≡ true → counts include (comparison c v v.build text) ≡ true
     → IsCommon include (comparison c v v.build text ∷ []) s
 whole_compared include c v text s e r h = rw e (one_common include c v v.build text r h)
 
-pub always : (include : Bool) → (include || not false) ≡ true
+always : (include : Bool) → (include || not false) ≡ true
 always include = grind arith
 
 whole_valid : (c : Comparator) (v : VersionValue) (text : List ℕ) → within (first (whole v)) ≡ true → length text ≤ MAX_LENGTH
     → list_all (is_valid MAX_SAFE_INTEGER) (comparison c v v.build text ∷ []) ≡ true
 whole_valid c v text w l = rw w (grind (arith, nat_tests))
 
-pub whole_read : (include : Bool) (d : DeclaredComparator.Comparator) (c : Comparator) (v : VersionValue) (text : List ℕ) (s : Span VersionValue)
+whole_read : (include : Bool) (d : DeclaredComparator.Comparator) (c : Comparator) (v : VersionValue) (text : List ℕ) (s : Span VersionValue)
     → comparator_view d ≡ c → within (first (whole v)) ≡ true → length text ≤ MAX_LENGTH
     → IsCommon include (comparison c v v.build text ∷ []) s
     → (list_all (is_valid MAX_SAFE_INTEGER) (table include (compared (comparator_view d)) (whole v) text) ≡ true)
@@ -147,6 +138,15 @@ whole_read include d above v text s e w l h = rw e (whole_valid above v text w l
 whole_read include d equal v text s e w l h = rw e (whole_valid equal v text w l, h)
 whole_read include d at_most v text s e w l h = rw e (whole_valid at_most v text w l, h)
 whole_read include d below v text s e w l h = rw e (whole_valid below v text w l, h)
+
+-- a comparator that always counts
+pub whole_written : (include : Bool) (d : DeclaredComparator.Comparator) (c : Comparator) (v : VersionValue) (text : List ℕ) (s : Span VersionValue)
+    → comparator_view d ≡ c → within (first (whole v)) ≡ true → are_normal (whole v) ≡ true → length text ≤ MAX_LENGTH
+    → s ≡ compared_span c v → counts include (comparison c v v.build text) ≡ (include || not false)
+    → (list_all (is_valid MAX_SAFE_INTEGER) (table include (compared (comparator_view d)) (whole v) text) ≡ true)
+    × IsCommon include (table include (compared (comparator_view d)) (whole v) text) s
+whole_written include d c v text s e w n l is k =
+    whole_read include d c v text s e w l (whole_compared include c v text s is (whole_readable v w n) (k ∙ always include))
 
 pub caret_valid : (include : Bool) (v : VersionValue) → within (first (whole v)) ≡ true
     → nat_le (length (version_text (no_build v))) MAX_LENGTH ≡ true → is_valid MAX_SAFE_INTEGER (caret_from include v) ≡ true

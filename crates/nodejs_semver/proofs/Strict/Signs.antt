@@ -1,15 +1,12 @@
 -- The signs of node-semver's words, with the whitespace behind them: what is read is written.
-use Rattle.nodejs_semver.proofs.Common.{common_steps, nat_tests, ◌≡◌, ◌⊎◌, ◌<◌, ℕ, List, [], ◌∷◌, ◌++◌, length, drop}
-use Rattle.nodejs_semver.proofs.Common.{refl, sym, ap, ◌∙◌, arith, true, inl, inr, ◌&&◌, ◌==◌, IsUtf8, and_parts}
-use Rattle.nodejs_semver.proofs.Common.{append_assoc, cases_Bool, eqb-true, drop_spaces, space_len, subst, nat_lt}
-use Rattle.nodejs_semver.proofs.Common.{IsBlank, Comparator, above, at_most, below, equal}
-use Rattle.nodejs_semver.specs.Internal.Fronts.{begins_byte}
-use Rattle.nodejs_semver.specs.Internal.NpmWords.{npm_sign, or_late, skip_equal, skip_greater, skip_tilde, skip_twice}
-use Rattle.nodejs_semver.specs.Npm.RangeText.{IsSignText, caret_equal, late_above, late_below, no_sign, sign, spelling}
-use Rattle.nodejs_semver.specs.Npm.RangeText.{tilde_sign, tilde_twice}
-use Rattle.nodejs_semver.specs.Npm.Table.{Sign, caret, compared, tilde}
-use Rattle.nodejs_semver.specs.Text.WordText.{at_least}
-use Rattle.nodejs_semver.proofs.Reading.WordLaw.{skips-is, skips-utf8, tail-utf8}
+use Rattle.nodejs_semver.proofs.Common.{Comparator, IsBlank, IsUtf8, List, [], above, and_parts, ap, append_assoc, arith}
+use Rattle.nodejs_semver.proofs.Common.{at_most, below, cases_Bool, common_steps, drop, drop_spaces, eqb-true, equal, inl, inr}
+use Rattle.nodejs_semver.proofs.Common.{length, nat_lt, nat_tests, refl, space_len, subst, sym, true, ℕ, ◌&&◌, ◌++◌, ◌<◌, ◌==◌}
+use Rattle.nodejs_semver.proofs.{Common.{◌∙◌, ◌∷◌, ◌≡◌, ◌⊎◌}, NpmCommon.{IsSignText, at_least, begins_byte, caret_equal}}
+use Rattle.nodejs_semver.proofs.NpmCommon.{compared, late_above, late_below, no_sign, npm_sign, or_late, sign, skip_equal}
+use Rattle.nodejs_semver.proofs.{NpmCommon.{skip_greater, skip_tilde, spelling, tilde_twice}, Reading.WordLaw.skips-is}
+use Rattle.nodejs_semver.proofs.{Reading.WordLaw.{skips-utf8, tail-utf8}, Strict.Qualifiers.byte-begins}
+use Rattle.nodejs_semver.specs.{Internal.NpmWords.skip_twice, Npm.{RangeText.tilde_sign, Table.{Sign, caret, tilde}}}
 
 -- ---- whitespace
 
@@ -28,9 +25,6 @@ blank-at text u =
 pub blank-nil : IsBlank []
 blank-nil = record { characters = []; each = refl; spelled = refl }
 
-byte-first : (c : ℕ) (text : List ℕ) → begins_byte c text ≡ true → text ≡ c ∷ drop 1 text
-byte-first c text h = grind arith
-
 -- ---- a sign that was read
 
 pub record SignAt (text : List ℕ) (s : Sign) (rest : List ℕ) : Type 0 where
@@ -48,7 +42,7 @@ equal-found : (b : ℕ) (x text : List ℕ) (s : Sign) → IsBlank x → IsUtf8 
 equal-found b x text s blank u bare more = elim (cases_Bool (begins_byte 61 text)) [
   | inr other ↦ rw other (record { signs = b ∷ x; split = refl; is = bare; utf8 = u })
   | inl mark ↦
-      let e = byte-first 61 text mark in
+      let e = byte-begins 61 text mark in
       let y = blank-at (drop 1 text) (tail-utf8 61 (drop 1 text) (omega arith) (subst (λ (t : List ℕ). IsUtf8 t) e u)) in
       let whole : text ≡ (61 ∷ y.blank) ++ drop_spaces (drop 1 text) = e ∙ ap (λ (t : List ℕ). 61 ∷ t) y.split in
       rw mark (record {
@@ -68,7 +62,7 @@ late-found b one two text u is_one is_two is_late =
     let x = blank-at text u in
     elim (cases_Bool (begins_byte 61 text)) [
       | inl mark ↦
-          let e = byte-first 61 text mark in
+          let e = byte-begins 61 text mark in
           let y = blank-at (drop 1 text) (tail-utf8 61 (drop 1 text) (omega arith) (subst (λ (t : List ℕ). IsUtf8 t) e u)) in
           rw mark (record {
             signs = b ∷ (61 ∷ y.blank);
@@ -79,7 +73,7 @@ late-found b one two text u is_one is_two is_late =
       | inr other ↦ elim (cases_Bool (begins_byte 61 (drop_spaces text))) [
         | inl mark ↦
             let rest = drop_spaces text in
-            let e = byte-first 61 rest mark in
+            let e = byte-begins 61 rest mark in
             let whole = x.split ∙ ap (λ (t : List ℕ). x.blank ++ t) e ∙ sym (append_assoc x.blank (61 ∷ []) (drop 1 rest)) in
             rw (other, mark) (record {
               signs = b ∷ (x.blank ++ 61 ∷ []);
@@ -105,7 +99,7 @@ record GreaterAt (text rest : List ℕ) : Type 0 where
 greater-found : (text : List ℕ) → IsUtf8 text → GreaterAt (62 ∷ text) (skip_greater text)
 greater-found text u = elim (cases_Bool (begins_byte 61 text)) [
   | inl mark ↦
-      let e = byte-first 61 text mark in
+      let e = byte-begins 61 text mark in
       let y = blank-at (drop 1 text) (tail-utf8 61 (drop 1 text) (omega arith) (subst (λ (t : List ℕ). IsUtf8 t) e u)) in
       rw mark (record {
         sign_is = at_least;
@@ -153,7 +147,7 @@ twice-found text u = elim (cases_Bool (nat_lt 0 (space_len text) && begins_byte 
   | inl more ↦
       let parts = and_parts (nat_lt 0 (space_len text)) (begins_byte 62 (drop_spaces text)) more in
       let x = blank-at text u in
-      let e = byte-first 62 (drop_spaces text) parts.1 in
+      let e = byte-begins 62 (drop_spaces text) parts.1 in
       let behind = drop 1 (drop_spaces text) in
       let whole = x.split ∙ ap (λ (t : List ℕ). x.blank ++ t) e in
       let g = greater-found behind (tail-utf8 62 behind (omega arith) (subst (λ (t : List ℕ). IsUtf8 t) e x.utf8)) in
@@ -171,12 +165,12 @@ tilde-found text u =
     let x = blank-at text u in
     elim (cases_Bool (begins_byte 62 text)) [
       | inl mark ↦
-          let e = byte-first 62 text mark in
+          let e = byte-begins 62 text mark in
           let f = twice-found (drop 1 text) (tail-utf8 62 (drop 1 text) (omega arith) (subst (λ (t : List ℕ). IsUtf8 t) e u)) in
           rw mark (record { signs = f.signs; split = ap (λ (t : List ℕ). 126 ∷ t) e ∙ f.split; is = f.is; utf8 = f.utf8 })
       | inr other ↦ elim (cases_Bool (begins_byte 62 (drop_spaces text))) [
         | inl mark ↦
-            let e = byte-first 62 (drop_spaces text) mark in
+            let e = byte-begins 62 (drop_spaces text) mark in
             let behind = drop 1 (drop_spaces text) in
             let f = tilde-greater x.blank behind x.is
             (tail-utf8 62 behind (omega arith) (subst (λ (t : List ℕ). IsUtf8 t) e x.utf8)) in

@@ -1,18 +1,14 @@
 -- The signs of node-semver's words before marks and a partial version: what is written is read, or means the same.
-use Rattle.nodejs_semver.proofs.Common.{common_steps, ◌≡◌, ◌⊎◌, ◌<◌, ℕ, Bool, List, [], ◌∷◌, ◌++◌, length, refl}
-use Rattle.nodejs_semver.proofs.Common.{arith, true, false, inl, inr, ◌&&◌, ◌==◌, ◌||◌, not, and_parts, append_assoc}
-use Rattle.nodejs_semver.proofs.Common.{cases_Bool, eqb-true, nat_tests, begins, list_all, drop_spaces}
-use Rattle.nodejs_semver.proofs.Common.{drop_spaces-none, space_len, is_whitespace, is_empty, encode_utf8_all}
-use Rattle.nodejs_semver.proofs.Common.{len_utf8_bounds, IsBlank, drop_spaces-blank, Comparator, above}
-use Rattle.nodejs_semver.proofs.Common.{at_most, below, equal}
-use Rattle.semver_core.proofs.Text.SpaceLaw.{space_len-white}
-use Rattle.nodejs_semver.specs.Internal.Fronts.{begins_byte}
-use Rattle.nodejs_semver.specs.Internal.NpmWords.{npm_sign, or_late, skip_equal, skip_greater, skip_tilde}
-use Rattle.nodejs_semver.specs.Npm.RangeText.{IsSignText, are_marks, caret_equal, is_mark, is_one_v, late_above}
-use Rattle.nodejs_semver.specs.Npm.RangeText.{late_below, no_sign, sign, spelling, tilde_sign, tilde_twice}
-use Rattle.nodejs_semver.specs.Npm.Table.{Partial, Sign, caret, compared, table, tilde}
-use Rattle.nodejs_semver.specs.Text.WordText.{at_least}
-use Rattle.nodejs_semver.proofs.Reading.Bytes.{begins_component, is_solid, solid-dark}
+use Rattle.nodejs_semver.proofs.Common.{Bool, Comparator, IsBlank, List, [], above, and_parts, append_assoc, arith, at_most}
+use Rattle.nodejs_semver.proofs.Common.{begins, below, cases_Bool, common_steps, drop_spaces, drop_spaces-blank}
+use Rattle.nodejs_semver.proofs.Common.{drop_spaces-none, encode_utf8_all, eqb-true, equal, false, inl, inr, is_empty}
+use Rattle.nodejs_semver.proofs.Common.{is_whitespace, len_utf8_bounds, length, list_all, nat_tests, not, refl, space_len, true}
+use Rattle.nodejs_semver.proofs.{Common.{ℕ, ◌&&◌, ◌++◌, ◌<◌, ◌==◌, ◌||◌, ◌∷◌, ◌≡◌, ◌⊎◌}, NpmCommon.{IsSignText, are_marks}}
+use Rattle.nodejs_semver.proofs.NpmCommon.{at_least, begins_byte, caret_equal, compared, is_mark, is_one_v, late_above}
+use Rattle.nodejs_semver.proofs.NpmCommon.{late_below, no_sign, npm_sign, or_late, sign, skip_equal, skip_greater, skip_tilde}
+use Rattle.nodejs_semver.proofs.{NpmCommon.{space_len-white, spelling, tilde_twice}, Reading.Bytes.{begins_component, is_solid}}
+use Rattle.nodejs_semver.{proofs.Reading.Bytes.solid-dark, specs.Npm.{RangeText.tilde_sign, Table.{Partial, Sign, caret}}}
+use Rattle.nodejs_semver.specs.Npm.Table.{table, tilde}
 
 -- ---- whitespace before marks and a partial
 
@@ -72,9 +68,7 @@ equal-left : (marks u : List ℕ) → list_all is_mark marks ≡ true → begins
 equal-left [] u h k = rw (component-other u k) (record { left = []; is = refl; each = refl })
 equal-left (b ∷ marks) u h k = elim (cases_Bool (b == 61)) [
   | inr other ↦ rw other (record { left = b ∷ marks; is = refl; each = h })
-  | inl mark ↦
-      let each = (and_parts (is_mark b) (list_all is_mark marks) h).1 in
-      rw mark (record { left = marks; is = drop_spaces-none (marks ++ u) (opens marks u each k).dark; each = each })
+  | inl mark ↦ grind (arith, nat_tests, common_steps, and_parts, drop_spaces-none, opens)
 ]
 
 -- behind `>` and whitespace
@@ -149,9 +143,7 @@ Taken loose s p marks x u text = SignTaken loose s p marks x (npm_sign text) u
 
 none-taken : (loose : Bool) (p : Partial) (marks x u : List ℕ) → are_marks loose (compared equal) p marks ≡ true
     → begins_byte 61 marks ≡ false → begins_component u ≡ true → Taken loose (compared equal) p marks x u (marks ++ u)
-none-taken loose p [] x [] h e k = cc k
-none-taken loose p [] x (b ∷ u) h e k = grind (arith, nat_tests, common_steps, plain-front, component-other)
-none-taken loose p (b ∷ marks) x u h e k = grind (arith, nat_tests, common_steps, and_parts, marks-all, plain-front)
+none-taken loose p marks x u h e k = grind (arith, plain-front, component-other, and_parts, marks-all)
 
 -- ---- behind a tilde
 
@@ -192,22 +184,12 @@ tilde-above loose p y z marks x u hy hz each k =
 tilde-least : (loose : Bool) (p : Partial) (y z marks x u : List ℕ) → IsBlank y → IsBlank z → list_all is_mark marks ≡ true → begins_component u ≡ true
     → Taken loose tilde p marks x u ((126 ∷ (y ++ (62 ∷ (61 ∷ z)))) ++ (marks ++ u))
 tilde-least loose p y z marks x u hy hz each k =
-    let t = marks ++ u in
-    let v = 61 ∷ (z ++ t) in
-    rw (
-      append_assoc y (62 ∷ (61 ∷ z)) t,
-      tilde-front (y ++ (62 ∷ v)),
-      one_greater-left y v v hy (drop_spaces-none v (dark-byte 61 (z ++ t) refl)) refl,
-    )
-    (kept loose tilde p marks x (drop_spaces (z ++ t)) u (blank-skipped z t hz (opens marks u each k).dark) (free-tilde loose p marks each))
+    grind (arith, nat_tests, common_steps, append_assoc, tilde-front, one_greater-left, drop_spaces-none, dark-byte, kept, blank-skipped, opens, free-tilde)
 
 tilde-equal : (loose : Bool) (p : Partial) (y z marks x u : List ℕ) → IsBlank y → IsBlank z → list_all is_mark marks ≡ true → begins_component u ≡ true
     → Taken loose tilde p marks x u ((126 ∷ (y ++ (61 ∷ z))) ++ (marks ++ u))
 tilde-equal loose p y z marks x u hy hz each k =
-    let t = marks ++ u in
-    let v = 61 ∷ (z ++ t) in
-    rw (append_assoc y (61 ∷ z) t, tilde-front (y ++ v), no_greater-left y v hy (dark-byte 61 (z ++ t) refl) refl)
-    (kept loose tilde p marks x (drop_spaces (z ++ t)) u (blank-skipped z t hz (opens marks u each k).dark) (free-tilde loose p marks each))
+    grind (arith, nat_tests, common_steps, append_assoc, tilde-front, no_greater-left, dark-byte, kept, blank-skipped, opens, free-tilde)
 
 twice-above : (loose : Bool) (p : Partial) (y z marks x u : List ℕ) → IsBlank y → 0 < length y → IsBlank z → list_all is_mark marks ≡ true
     → begins_component u ≡ true → Taken loose tilde p marks x u ((126 ∷ (62 ∷ (y ++ (62 ∷ z)))) ++ (marks ++ u))
@@ -217,10 +199,7 @@ twice-above loose p y z marks x u hy some hz each k =
 twice-least : (loose : Bool) (p : Partial) (y z marks x u : List ℕ) → IsBlank y → 0 < length y → IsBlank z → list_all is_mark marks ≡ true
     → begins_component u ≡ true → Taken loose tilde p marks x u ((126 ∷ (62 ∷ (y ++ (62 ∷ (61 ∷ z))))) ++ (marks ++ u))
 twice-least loose p y z marks x u hy some hz each k =
-    let t = marks ++ u in
-    let v = 61 ∷ (z ++ t) in
-    rw (append_assoc y (62 ∷ (61 ∷ z)) t, tilde-front (62 ∷ (y ++ (62 ∷ v))), twice-left y v hy some)
-    (kept loose tilde p marks x (drop_spaces (z ++ t)) u (blank-skipped z t hz (opens marks u each k).dark) (free-tilde loose p marks each))
+    grind (arith, nat_tests, common_steps, append_assoc, tilde-front, twice-left, kept, blank-skipped, opens, free-tilde)
 
 -- ---- `>` and `<`
 
@@ -250,54 +229,30 @@ caret-front rest = refl
 signed-taken : (loose : Bool) (s : Sign) (p : Partial) (y marks x u : List ℕ) → IsBlank y → are_marks loose s p marks ≡ true → begins_component u ≡ true
     → Taken loose s p marks x u ((spelling s ++ y) ++ (marks ++ u))
 signed-taken loose (compared at_least) p y marks x u h m k =
-    let dark = (opens marks u (marks-all loose (compared at_least) p marks m) k).dark in
-    rw (above-front (61 ∷ (y ++ (marks ++ u))))
-    (kept loose (compared at_least) p marks x (drop_spaces (y ++ (marks ++ u))) u (blank-skipped y (marks ++ u) h dark) m)
+    grind (arith, nat_tests, common_steps, opens, marks-all, above-front, kept, blank-skipped)
 signed-taken loose (compared above) p y marks x u h m k =
-    let t = marks ++ u in
-    let dark = (opens marks u (marks-all loose (compared above) p marks m) k).dark in
-    rw (above-front (y ++ t), one-read above at_least y t h dark (above-other loose p marks u m k)) (kept loose (compared above) p marks x t u refl m)
+    grind (arith, nat_tests, common_steps, opens, marks-all, above-front, one-read, above-other, kept)
 signed-taken loose (compared equal) p y marks x u h m k =
-    let dark = (opens marks u (marks-all loose (compared equal) p marks m) k).dark in
-    rw (equal-front 61 (y ++ (marks ++ u)) refl)
-    (kept loose (compared equal) p marks x (drop_spaces (y ++ (marks ++ u))) u (blank-skipped y (marks ++ u) h dark) m)
+    grind (arith, nat_tests, common_steps, opens, marks-all, equal-front, kept, blank-skipped)
 signed-taken loose (compared at_most) p y marks x u h m k =
-    let dark = (opens marks u (marks-all loose (compared at_most) p marks m) k).dark in
-    rw (below-front (61 ∷ (y ++ (marks ++ u))))
-    (kept loose (compared at_most) p marks x (drop_spaces (y ++ (marks ++ u))) u (blank-skipped y (marks ++ u) h dark) m)
+    grind (arith, nat_tests, common_steps, opens, marks-all, below-front, kept, blank-skipped)
 signed-taken loose (compared below) p y marks x u h m k =
-    let t = marks ++ u in
-    let dark = (opens marks u (marks-all loose (compared below) p marks m) k).dark in
-    rw (below-front (y ++ t), one-read below at_most y t h dark (below-other loose p marks u m k)) (kept loose (compared below) p marks x t u refl m)
+    grind (arith, nat_tests, common_steps, opens, marks-all, below-front, one-read, below-other, kept)
 signed-taken loose caret p y marks x u h m k =
-    let each = marks-all loose caret p marks m in
-    rw (caret-front (y ++ (marks ++ u)), blank-skipped y (marks ++ u) h (opens marks u each k).dark)
-    (caret-taken loose p marks x (skip_equal (marks ++ u)) u (equal-left marks u each k))
+    grind (arith, nat_tests, common_steps, marks-all, caret-front, blank-skipped, opens, caret-taken, equal-left)
 signed-taken loose tilde p y marks x u h m k =
-    let each = marks-all loose tilde p marks m in
-    let o = opens marks u each k in
-    rw (tilde-front (y ++ (marks ++ u)), no_greater-left y (marks ++ u) h o.dark o.greater)
-    (tilde-taken loose p marks x (skip_equal (marks ++ u)) u (equal-left marks u each k))
+    grind (arith, nat_tests, common_steps, marks-all, opens, tilde-front, no_greater-left, tilde-taken, equal-left)
 
 pub sign-taken : (loose : Bool) (signs : List ℕ) (s : Sign) (p : Partial) (marks x u : List ℕ) → IsSignText signs s → are_marks loose s p marks ≡ true
     → (is_empty signs && begins_byte 61 marks) ≡ false → begins_component u ≡ true → Taken loose s p marks x u (signs ++ (marks ++ u))
 sign-taken loose signs s p marks x u no_sign m none k = none-taken loose p marks x u m none k
 sign-taken loose signs s p marks x u (sign t y h) m none k = signed-taken loose t p y marks x u h m k
 sign-taken loose signs s p marks x u (late_above y h) m none k =
-    let t = marks ++ u in
-    let dark = (opens marks u (marks-all loose (compared at_least) p marks m) k).dark in
-    rw (append_assoc y (61 ∷ []) t, above-front (y ++ (61 ∷ t)), late-read above at_least y t h dark)
-    (kept loose (compared at_least) p marks x t u refl m)
+    grind (arith, nat_tests, common_steps, opens, marks-all, append_assoc, above-front, late-read, kept)
 sign-taken loose signs s p marks x u (late_below y h) m none k =
-    let t = marks ++ u in
-    let dark = (opens marks u (marks-all loose (compared at_most) p marks m) k).dark in
-    rw (append_assoc y (61 ∷ []) t, below-front (y ++ (61 ∷ t)), late-read below at_most y t h dark)
-    (kept loose (compared at_most) p marks x t u refl m)
+    grind (arith, nat_tests, common_steps, opens, marks-all, append_assoc, below-front, late-read, kept)
 sign-taken loose signs s p marks x u (caret_equal y z h l) m none k =
-    let t = marks ++ u in
-    let v = 61 ∷ (z ++ t) in
-    rw (append_assoc y (61 ∷ z) t, caret-front (y ++ v), blank-skipped y v h (dark-byte 61 (z ++ t) refl))
-    (kept loose caret p marks x (drop_spaces (z ++ t)) u (blank-skipped z t l (opens marks u (marks-all loose caret p marks m) k).dark) m)
+    grind (arith, nat_tests, common_steps, append_assoc, caret-front, blank-skipped, dark-byte, kept, opens, marks-all)
 sign-taken loose signs s p marks x u (tilde_sign c y z h l (inl e)) m none k = rw e (tilde-above loose p y z marks x u h l (marks-all loose tilde p marks m) k)
 sign-taken loose signs s p marks x u (tilde_sign c y z h l (inr (inl e))) m none k = rw e (tilde-least loose p y z marks x u h l (marks-all loose tilde p marks m) k)
 sign-taken loose signs s p marks x u (tilde_sign c y z h l (inr (inr e))) m none k = rw e (tilde-equal loose p y z marks x u h l (marks-all loose tilde p marks m) k)

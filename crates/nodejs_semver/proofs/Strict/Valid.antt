@@ -1,17 +1,11 @@
 -- Words with a number past the limit that counts have a comparator that is not valid: they may be left out as soon as they are read.
-use Rattle.nodejs_semver.proofs.Common.{common_steps, ◌≡◌, ◌+◌, ℕ, zero, suc, Bool, List, [], ◌∷◌, ◌++◌, refl, ◌∙◌}
-use Rattle.nodejs_semver.proofs.Common.{arith, true, false, Some, None, Option, inl, inr, ◌&&◌, cases_Bool}
-use Rattle.nodejs_semver.proofs.Common.{if◌then◌else◌, is_empty, list_all, nat_tests, drop_spaces, list_all-append}
-use Rattle.nodejs_semver.proofs.Common.{Front, above, at_most, below}
-use Rattle.std.specs.Prelude.{nat_le}
-use Rattle.semver_core.specs.Internal.Reading.{◌>>?◌}
-use Rattle.nodejs_semver.specs.Internal.NpmWords.{Ended, Signed, hyphen_comparisons, is_small, limited_hyphen}
-use Rattle.nodejs_semver.specs.Internal.NpmWords.{limited_word, any_word, valid_only, valid_words, word_front}
-use Rattle.nodejs_semver.specs.Internal.NpmWords.{words_within}
-use Rattle.nodejs_semver.specs.Npm.Ranges.{is_valid}
-use Rattle.nodejs_semver.specs.Npm.Table.{Comparison, Numbers, Partial, Sign, compared, from, hyphen_lower}
-use Rattle.nodejs_semver.specs.Npm.Table.{hyphen_upper, major, minor, table, under, wildcard}
-use Rattle.nodejs_semver.specs.Text.WordText.{at_least}
+use Rattle.nodejs_semver.proofs.Common.{Bool, Front, List, None, Option, Some, [], arith, cases_Bool, common_steps, drop_spaces}
+use Rattle.nodejs_semver.proofs.Common.{false, if◌then◌else◌, inl, inr, is_empty, list_all, list_all-append, nat_tests, refl}
+use Rattle.nodejs_semver.proofs.{Common.{suc, true, zero, ℕ, ◌&&◌, ◌++◌, ◌+◌, ◌∙◌, ◌∷◌, ◌≡◌}, NpmCommon.{Comparison, Ended}}
+use Rattle.nodejs_semver.proofs.NpmCommon.{Numbers, Signed, any_word, from, hyphen_comparisons, hyphen_lower, hyphen_upper}
+use Rattle.nodejs_semver.proofs.NpmCommon.{is_small, is_valid, limited_hyphen, limited_word, nat_le, under}
+use Rattle.nodejs_semver.{proofs.NpmCommon.{valid_only, valid_words, word_front, ◌>>?◌}, specs.Internal.NpmWords.words_within}
+use Rattle.nodejs_semver.specs.Npm.Table.{Partial, Sign, table}
 
 -- ---- three numbers
 
@@ -50,14 +44,7 @@ next-three limit a b c h = grind (arith, next-le)
 
 pub table-invalid : (limit : ℕ) (include : Bool) (s : Sign) (p : Partial) (text : List ℕ) → is_small limit p ≡ false
     → list_all (is_valid limit) (table include s p text) ≡ false
-table-invalid limit include s wildcard text h = cc h
-table-invalid limit include (compared at_least) (major M) text h = from-invalid limit include (M, 0, 0) [] (one-three limit M 0 0 h)
-table-invalid limit include (compared at_least) (minor M m) text h = from-invalid limit include (M, m, 0) [] (two-three limit M m 0 h)
-table-invalid limit include (compared above) (minor M m) text h = from-invalid limit include (M, m + 1, 0) [] (next-three limit M m 0 h)
-table-invalid limit include (compared below) (major M) text h = under-invalid limit (M, 0, 0) (one-three limit M 0 0 h)
-table-invalid limit include (compared below) (minor M m) text h = under-invalid limit (M, m, 0) (two-three limit M m 0 h)
-table-invalid limit include (compared at_most) (minor M m) text h = under-invalid limit (M, m + 1, 0) (next-three limit M m 0 h)
-table-invalid limit include s p text h = grind (arith, nat_tests, common_steps)
+table-invalid limit include s p text h = grind (arith, from-invalid, one-three, two-three, next-three, under-invalid)
 
 -- ---- the ends of a hyphen range
 

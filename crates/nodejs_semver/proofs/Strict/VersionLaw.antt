@@ -1,20 +1,14 @@
 -- Version texts of the strict reading: the function that reads them finds exactly what the statement has.
-use Rattle.nodejs_semver.proofs.Common.{common_steps, ◌≡◌, ◌≤◌, ◌⊎◌, ◌&&◌, ℕ, List, [], ◌∷◌, ◌++◌, drop, length}
-use Rattle.nodejs_semver.proofs.Common.{append-nil, refl, subst, sym, ap, ◌∙◌, arith, true, false, Some, None, inl, inr}
-use Rattle.nodejs_semver.proofs.Common.{is_ascii_digit, prefix_len, ◌==◌, and_parts, cases_Bool, eqb-true, nat_tests}
-use Rattle.nodejs_semver.proofs.Common.{same_Some, is_empty, IsTrim, begins, VersionValue, bind_some, middle_is_trim}
-use Rattle.std.specs.Str.{chars}
-use Rattle.semver_core.specs.Failures.{NoValue}
-use Rattle.semver_core.specs.declared.TheConstants.{MAX_LENGTH}
-use Rattle.nodejs_semver.specs.Internal.Fronts.{build_front, drop_v}
-use Rattle.nodejs_semver.specs.Internal.NpmReadings.{dashed_front, dotted_number, is_strict_list, qualified_version}
-use Rattle.nodejs_semver.specs.Internal.NpmReadings.{strict_number, strict_version}
-use Rattle.nodejs_semver.specs.Npm.Grammar.{IsStrictBuild, IsStrictNumber, IsStrictPreRelease}
-use Rattle.nodejs_semver.specs.Npm.RangeText.{is_mark}
-use Rattle.nodejs_semver.specs.Npm.VersionText.{IsClean, IsStrictVersion, IsVersionText}
-use Rattle.nodejs_semver.proofs.Strict.Numbers.{dotted-found, dotted-read, strict-found, strict-read}
-use Rattle.nodejs_semver.proofs.Strict.Qualifiers.{build-found, build-taken, dashed-found, dashed-taken, ends-nil}
-use Rattle.nodejs_semver.proofs.Strict.Qualifiers.{quiet-behind}
+use Rattle.nodejs_semver.proofs.Common.{IsTrim, List, None, Some, VersionValue, [], and_parts, ap, append-nil, arith, begins}
+use Rattle.nodejs_semver.proofs.Common.{bind_some, cases_Bool, common_steps, drop, eqb-true, false, inl, inr, is_ascii_digit}
+use Rattle.nodejs_semver.proofs.Common.{is_empty, length, middle_is_trim, nat_tests, prefix_len, refl, same_Some, subst, sym}
+use Rattle.nodejs_semver.proofs.{Common.{true, ℕ, ◌&&◌, ◌++◌, ◌==◌, ◌∙◌, ◌∷◌, ◌≡◌, ◌≤◌, ◌⊎◌}, NpmCommon.IsClean}
+use Rattle.nodejs_semver.proofs.NpmCommon.{IsStrictBuild, IsStrictNumber, IsStrictPreRelease, IsStrictVersion, IsVersionText}
+use Rattle.nodejs_semver.proofs.NpmCommon.{MAX_LENGTH, NoValue, build_front, chars, dashed_front, dotted_number, is_mark}
+use Rattle.nodejs_semver.proofs.NpmCommon.{is_strict_list, qualified_version, strict_number, strict_version}
+use Rattle.nodejs_semver.proofs.Strict.{Numbers.{dotted-found, dotted-read, strict-found, strict-read}, Qualifiers.build-found}
+use Rattle.nodejs_semver.proofs.Strict.Qualifiers.{build-taken, dashed-found, dashed-taken, ends-nil, quiet-behind}
+use Rattle.nodejs_semver.specs.Internal.Fronts.{drop_v}
 
 -- ---- what is read is written
 

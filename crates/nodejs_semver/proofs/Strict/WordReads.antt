@@ -1,20 +1,14 @@
 -- The words that the code reads are those whose numbers are up to the limit.
-use Rattle.nodejs_semver.proofs.Common.{common_steps, nat_tests, Bool, ◌≡◌, ◌≤◌, ◌-◌, ℕ, List, length, drop, take, refl}
-use Rattle.nodejs_semver.proofs.Common.{sym, ap, ◌∙◌, arith, true, false, Some, Option, if◌then◌else◌, None, inl, inr}
-use Rattle.nodejs_semver.proofs.Common.{◌&&◌, cases_Bool, cond_some, length-append, list_all, take_rest}
-use Rattle.nodejs_semver.proofs.Common.{MAX_SAFE_INTEGER, [], ◌∷◌, ◌+◌, ◌<◌, suc, IsCharBoundary-after_ascii, IsUtf8}
-use Rattle.nodejs_semver.proofs.Common.{IsUtf8-drop, length-drop, prefix_len, Front, is_boundary, equal, Bor, is_some}
-use Rattle.nodejs_semver.specs.Internal.NpmWords.{Signed, any_word, counted_front, ignored_front, is_small, limited}
-use Rattle.nodejs_semver.specs.Internal.NpmWords.{limited_word, marked_word, marks_len, npm_sign, partial_front}
-use Rattle.nodejs_semver.specs.Internal.NpmWords.{signed_word}
-use Rattle.nodejs_semver.specs.Internal.Words.{or_else}
-use Rattle.nodejs_semver.specs.Internal.NpmViews.{signed_front_view}
-use Rattle.nodejs_semver.specs.Npm.Malformed.{begins_malformed, is_visible}
-use Rattle.nodejs_semver.specs.Npm.RangeText.{is_mark}
-use Rattle.nodejs_semver.specs.Npm.Table.{Partial, Sign, compared, wildcard}
-use Rattle.nodejs_semver.proofs.Strict.Limits.{counted_limited}
-use Rattle.nodejs_semver.proofs.Strict.PartialLaw.{partial-found}
-use Rattle.nodejs_semver.proofs.Strict.Places.{prefix-all}
+use Rattle.nodejs_semver.proofs.Common.{Bool, Bor, Front, IsCharBoundary-after_ascii, IsUtf8, IsUtf8-drop, List}
+use Rattle.nodejs_semver.proofs.Common.{MAX_SAFE_INTEGER, None, Option, Some, [], ap, arith, cases_Bool, common_steps}
+use Rattle.nodejs_semver.proofs.Common.{cond_some, drop, equal, false, if◌then◌else◌, inl, inr, is_boundary, is_some, length}
+use Rattle.nodejs_semver.proofs.Common.{length-append, length-drop, list_all, nat_tests, prefix_len, refl, suc, sym, take}
+use Rattle.nodejs_semver.proofs.{Common.{take_rest, true, ℕ, ◌&&◌, ◌+◌, ◌-◌, ◌<◌, ◌∙◌, ◌∷◌, ◌≡◌, ◌≤◌}, NpmCommon.Signed}
+use Rattle.nodejs_semver.proofs.NpmCommon.{any_word, begins_malformed, compared, counted_front, ignored_front, is_mark}
+use Rattle.nodejs_semver.proofs.NpmCommon.{is_small, is_visible, limited, limited_word, marked_word, marks_len, npm_sign}
+use Rattle.nodejs_semver.proofs.{NpmCommon.{or_else, signed_front_view, signed_word, wildcard}, Strict.Limits.counted_limited}
+use Rattle.nodejs_semver.{proofs.Strict.{PartialLaw.partial-found, Places.prefix-all}, specs.Internal.NpmWords.partial_front}
+use Rattle.nodejs_semver.specs.Npm.Table.{Partial, Sign}
 use Rattle.nodejs_semver.specs.declared.npm.words.Signed as Runtime
 
 pub marks_all : (text : List ℕ) (at : ℕ) → at ≡ marks_len text → list_all is_mark (take at text) ≡ true

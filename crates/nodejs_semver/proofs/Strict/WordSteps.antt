@@ -1,19 +1,11 @@
 -- The words of an alternative, read one after another: what was read, and what is left.
-use Rattle.nodejs_semver.proofs.Common.{common_steps, nat_tests, ◌≡◌, ◌<◌, ◌≤◌, ℕ, zero, suc, Bool, List, [], ◌∷◌, ◌++◌}
-use Rattle.nodejs_semver.proofs.Common.{length, refl, sym, ap, ◌∙◌, arith, true, false, Some, None, Option}
-use Rattle.nodejs_semver.proofs.Common.{append_assoc, length-append, if◌then◌else◌, is_empty, IsUtf8, Span}
-use Rattle.nodejs_semver.proofs.Common.{VersionValue, drop_spaces, ◌==◌, ◌&&◌, MAX_SAFE_INTEGER, Front}
-use Rattle.semver_core.specs.Internal.Reading.{◌>>?◌}
-use Rattle.nodejs_semver.specs.Internal.NpmAlternatives.{NarrowedBy}
-use Rattle.nodejs_semver.specs.Internal.NpmMeaning.{IsNarrowed}
-use Rattle.nodejs_semver.specs.Internal.NpmReads.{IsFound, words_of}
-use Rattle.nodejs_semver.specs.Internal.NpmWords.{Signed, any_word, limited_word, valid_only, valid_words, word_front}
-use Rattle.nodejs_semver.specs.Npm.Table.{Comparison, table}
-use Rattle.nodejs_semver.specs.declared.npm.alternatives.Alternative.{Alternative}
-use Rattle.nodejs_semver.proofs.Reading.Bytes.{begins-some}
-use Rattle.nodejs_semver.specs.Npm.Malformed.{is_visible}
-use Rattle.nodejs_semver.proofs.Strict.Signs.{blank-at}
-use Rattle.nodejs_semver.proofs.Strict.Words.{WordAt, word-found, word-visible}
+use Rattle.nodejs_semver.proofs.Common.{Bool, Front, IsUtf8, List, MAX_SAFE_INTEGER, None, Option, Some, Span, VersionValue, []}
+use Rattle.nodejs_semver.proofs.Common.{ap, append_assoc, arith, common_steps, drop_spaces, false, if◌then◌else◌, is_empty}
+use Rattle.nodejs_semver.proofs.Common.{length, length-append, nat_tests, refl, suc, sym, true, zero, ℕ, ◌&&◌, ◌++◌, ◌<◌, ◌==◌}
+use Rattle.nodejs_semver.proofs.{Common.{◌∙◌, ◌≡◌, ◌≤◌}, NpmCommon.{Alternative, Comparison, IsFound, IsNarrowed, NarrowedBy}}
+use Rattle.nodejs_semver.proofs.NpmCommon.{Signed, any_word, is_visible, limited_word, valid_only, valid_words, word_front}
+use Rattle.nodejs_semver.proofs.{NpmCommon.{words_of, ◌>>?◌}, Reading.Bytes.begins-some, Strict.{Signs.blank-at, Words.WordAt}}
+use Rattle.nodejs_semver.{proofs.Strict.Words.{word-found, word-visible}, specs.Npm.Table.table}
 
 abbrev pub word_at_front : (loose : Bool) → List ℕ → Front Signed
 word_at_front loose text = limited_word MAX_SAFE_INTEGER (any_word loose text)
@@ -83,13 +75,7 @@ behind_word loose include w = valid_only MAX_SAFE_INTEGER (row_of include w.0) >
 pub words-step : (loose : Bool) (include : Bool) (text : List ℕ) → IsUtf8 text → (o : Front Signed) → word_at_front loose text ≡ o
     → words_of loose include text ≡ (o >>? λ w. behind_word loose include w)
 unfolding valid_words
-words-step loose include [] u None e = refl
-words-step loose include [] u (Some w) e = absurd (omega (arith, word-shorter loose include [] w u e))
-words-step loose include (b ∷ text) u None e = rw e refl
-words-step loose include (b ∷ text) u (Some w) e =
-    let less = word-shorter loose include (b ∷ text) w u e in
-    let left = left-utf8 loose include (b ∷ text) w u e in
-    rw (e, enough loose include (length text) (length (drop_spaces w.1)) (drop_spaces w.1) left (omega (arith, less)) (omega arith)) refl
+words-step loose include text u o e = grind (arith, word-shorter, left-utf8, enough)
 
 pub empty-append : (cs ds : List Comparison) → is_empty (cs ++ ds) ≡ (is_empty cs && is_empty ds)
 empty-append cs ds = grind (arith, nat_tests, common_steps)

@@ -1,48 +1,29 @@
 -- The words of node-semver's range texts: the functions that read them find exactly what the statement has.
-use Rattle.nodejs_semver.proofs.Common.{◌≡◌, ◌<◌, ◌≤◌, ◌-◌, ℕ, zero, suc, Bool, List, [], ◌∷◌, ◌++◌, length, drop, take, refl, sym, ap, ◌∙◌, arith}
-use Rattle.nodejs_semver.proofs.Common.{true, false, Some, None, Option, inl, inr, ◌&&◌, ◌==◌, eqb-true, and_parts, append_assoc, append-nil, bind_some, cases_Bool}
-use Rattle.nodejs_semver.proofs.Common.{cond_some, drop_at, take_at, length-append, list_all, nat_tests, same_Some, subst, begins, IsUtf8, is_empty}
-use Rattle.nodejs_semver.proofs.Common.{drop_spaces, space_len}
-use Rattle.std.specs.List.{prefix_len}
-use Rattle.std.proofs.lemmas.Bool.{lt-ltb}
-use Rattle.std.proofs.lemmas.List.{take-append-drop}
-use Rattle.semver_core.specs.Internal.Reading.{◌>>?◌}
-use Rattle.semver_core.specs.Text.Characters.{IsBlank}
-use Rattle.nodejs_semver.specs.Internal.Fronts.{Front, begins_byte}
-use Rattle.nodejs_semver.specs.Internal.NpmWords.{Signed, any_word, ended_word, ignored_front, marked_word, marks_len, npm_sign, partial_front, signed_word}
-use Rattle.nodejs_semver.specs.Internal.NpmWords.{word_front, words_within}
-use Rattle.nodejs_semver.specs.Internal.Words.{is_boundary}
-use Rattle.nodejs_semver.specs.Npm.RangeText as Text
-use Rattle.nodejs_semver.specs.Npm.Malformed.{begins_malformed, is_visible}
-use Rattle.nodejs_semver.specs.Npm.RangeText.{AreWords, IsPartial, IsPlace, IsWord, are_marks, ignored, is_mark, last, more, one, three, two, word}
-use Rattle.nodejs_semver.specs.Npm.Table.{Comparison, Partial, Sign, compared, table, wildcard}
-use Rattle.nodejs_semver.specs.Text.WordText.{equal}
-use Rattle.nodejs_semver.proofs.Reading.Bytes.{begins-on, begins-some, begins_component, is_component_byte}
-use Rattle.nodejs_semver.proofs.Reading.PartialLaw.{spaces-gone, spaces-le}
-use Rattle.nodejs_semver.proofs.Reading.Steps.{option-cases}
-use Rattle.nodejs_semver.proofs.Reading.WordLaw.{boundary-utf8, suffix-boundary}
-use Rattle.nodejs_semver.proofs.Strict.Malformed.{boundary-dark, ignored-read, malformed-visible, sign-visible, visible-dark, word-regular}
-use Rattle.nodejs_semver.proofs.Strict.PartialLaw.{boundary-quiet, partial-found, partial-read}
-use Rattle.nodejs_semver.proofs.Strict.Places.{digits-begin}
-use Rattle.nodejs_semver.proofs.Strict.VersionLaw.{empty-is}
-use Rattle.nodejs_semver.proofs.Strict.Signs.{blank-at, sign-found}
-use Rattle.nodejs_semver.proofs.Strict.SignsRead.{blank-cases, blank-skipped, marks-all, sign-taken}
+use Rattle.nodejs_semver.proofs.Common.{Bool, Front, IsBlank, IsUtf8, List, None, Option, Some, [], and_parts, ap, append-nil}
+use Rattle.nodejs_semver.proofs.Common.{append_assoc, arith, begins, bind_some, cases_Bool, common_steps, cond_some, drop}
+use Rattle.nodejs_semver.proofs.Common.{drop_at, drop_spaces, eqb-true, equal, false, inl, inr, is_boundary, is_empty, length}
+use Rattle.nodejs_semver.proofs.Common.{length-append, list_all, lt-ltb, nat_tests, prefix_len, refl, same_Some, space_len}
+use Rattle.nodejs_semver.proofs.Common.{subst, suc, sym, take, take-append-drop, take_at, true, zero, ℕ, ◌&&◌, ◌++◌, ◌-◌, ◌<◌}
+use Rattle.nodejs_semver.proofs.{Common.{◌==◌, ◌∙◌, ◌∷◌, ◌≡◌, ◌≤◌}, NpmCommon.{AreWords, Comparison, IsPartial, IsPlace}}
+use Rattle.nodejs_semver.proofs.NpmCommon.{IsWord, Signed, any_word, are_marks, begins_byte, begins_malformed, compared}
+use Rattle.nodejs_semver.proofs.NpmCommon.{ignored, ignored_front, is_mark, is_visible, last, marked_word, marks_len, npm_sign}
+use Rattle.nodejs_semver.proofs.{NpmCommon.{signed_word, wildcard, word, word_front, ◌>>?◌}, Reading.Bytes.begins-on}
+use Rattle.nodejs_semver.proofs.Reading.{Bytes.{begins-some, begins_component, is_component_byte}, PartialLaw.spaces-gone}
+use Rattle.nodejs_semver.proofs.Reading.{PartialLaw.spaces-le, WordLaw.{boundary-utf8, suffix-boundary}}
+use Rattle.nodejs_semver.proofs.Strict.Malformed.{boundary-dark, ignored-read, malformed-visible, sign-visible, visible-dark}
+use Rattle.nodejs_semver.proofs.Strict.{Malformed.word-regular, PartialLaw.{boundary-quiet, partial-found, partial-read}}
+use Rattle.nodejs_semver.proofs.Strict.{Places.digits-begin, Signs.{blank-at, sign-found}, SignsRead.blank-cases}
+use Rattle.nodejs_semver.proofs.Strict.{SignsRead.{blank-skipped, marks-all, sign-taken}, VersionLaw.empty-is}
+use Rattle.nodejs_semver.specs.{Internal.NpmWords.{ended_word, partial_front, words_within}, Npm.RangeText.more}
+use Rattle.nodejs_semver.specs.Npm.Table.{Partial, Sign, table}
 
 -- ---- how partials and marks begin
 
 place-begins : (loose zeros : Bool) (x : List ℕ) (a : Option ℕ) → IsPlace loose zeros x a → begins_component x ≡ true
-place-begins loose zeros x a (Text.any b h) = rw h refl
-place-begins loose zeros x a (Text.number digits n k spelled short) =
-    let digit = digits-begin digits k.some k.each in
-    grind arith
+place-begins loose zeros x a h = grind (arith, nat_tests, common_steps, digits-begin)
 
 pub partial-begins : (loose : Bool) (x rest : List ℕ) (p : Partial) → IsPartial loose x p → begins_component (x ++ rest) ≡ true
-partial-begins loose x rest p (one x1 a h) = begins-on is_component_byte x1 rest (place-begins loose false x1 a h)
-partial-begins loose x rest p (two x1 y a b h k) =
-    begins-on is_component_byte (x1 ++ (46 ∷ y)) rest (begins-on is_component_byte x1 (46 ∷ y) (place-begins loose false x1 a h))
-partial-begins loose x rest p (three x1 y z pre build a b c ids builds h k l m s n t) =
-    let behind = 46 ∷ (y ++ 46 ∷ (z ++ (pre ++ build))) in
-    begins-on is_component_byte (x1 ++ behind) rest (begins-on is_component_byte x1 behind (place-begins loose false x1 a h))
+partial-begins loose x rest p h = grind (arith, nat_tests, common_steps, begins-on, is_component_byte, place-begins)
 
 marks-counted : (marks u : List ℕ) → list_all is_mark marks ≡ true → begins_component u ≡ true → marks_len (marks ++ u) ≡ length marks
 marks-counted [] [] h k = cc k
@@ -60,12 +41,7 @@ marked-read : (loose : Bool) (s : Sign × List ℕ) (p : Partial) (marks x rest 
     → IsPartial loose x p → is_boundary rest ≡ true
     → marked_word loose s (partial_front loose (drop (marks_len s.1) s.1)) ≡ Some ((s.0, p, marks ++ x), rest)
 marked-read loose s p marks x rest e m k b =
-    let u = x ++ rest in
-    let count = marks-counted marks u (marks-all loose s.0 p marks m) (partial-begins loose x rest p k) in
-    let read = partial-read loose x rest p k (boundary-quiet rest b) in
-    let text : take (length (marks ++ u) - length rest) (marks ++ u) ≡ marks ++ x =
-    rw (append_assoc marks x rest) at (front-text (marks ++ x) rest) in
-    rw (e, count, drop_at marks u (length marks) refl, read, take_at marks u (length marks) refl, m, b, text) refl
+    grind (arith, nat_tests, common_steps, marks-counted, marks-all, partial-begins, partial-read, boundary-quiet, append_assoc, front-text, drop_at, take_at)
 
 pub none-ignored : (loose : Bool) (text : List ℕ) → begins_malformed text ≡ false → ignored_front loose text ≡ None
 unfolding ignored_front
@@ -177,12 +153,7 @@ ignored-found loose include text w u h =
 pub word-found : (loose : Bool) (include : Bool) (text : List ℕ) (cs : List Comparison) (rest : List ℕ) → IsUtf8 text
     → word_front loose include text ≡ Some (cs, rest) → WordAt loose include text cs rest
 unfolding word_front any_word
-word-found loose include text cs rest u h = elim (option-cases (ignored_front loose text)) [
-  | inl none ↦ signed-found loose include text cs rest u (rw none at h)
-  | inr some ↦
-      let same = same_Some _ _ (rw some.1 at h) in
-      subst (λ (q : List Comparison × List ℕ). WordAt loose include text q.0 q.1) same (ignored-found loose include text some.0 u some.1)
-]
+word-found loose include text cs rest u h = grind (arith, nat_tests, common_steps, signed-found, same_Some, ignored-found)
 
 -- ---- words
 

@@ -1,20 +1,15 @@
 // What an alternative of a range text accepts: the interval that its comparators have in common.
 
-ghost use Rattle.std.specs.List.{list_all, list_any};
-ghost use Rattle.std.specs.Prelude.{◌≡◌, ◌+◌, ◌∷◌, ◌&&◌, [], Bool, IfSome, true};
-ghost use Rattle.nodejs_semver.specs.Internal.NpmAlternatives.{AcceptAsRanged, NarrowedBy};
-ghost use Rattle.nodejs_semver.specs.Internal.NpmAlternatives.{met, ranged};
-ghost use Rattle.nodejs_semver.specs.Internal.NpmMeaning.{IsNarrowed, is_unbounded};
-ghost use Rattle.nodejs_semver.specs.Internal.NpmParts.{are_normal, has_no_comparators};
-ghost use Rattle.nodejs_semver.specs.Internal.NpmParts.{is_wildcard, npm_partial_view};
-ghost use Rattle.nodejs_semver.specs.Internal.NpmParts.{npm_sign_view};
-ghost use Rattle.nodejs_semver.specs.Internal.Readings.{bounds_view};
-ghost use Rattle.nodejs_semver.specs.Internal.Sets.{is_range_span};
+ghost use Rattle.std.specs.Prelude.{◌&&◌, ◌+◌, ◌∷◌, ◌≡◌};
+ghost use Rattle.nodejs_semver.specs.Words.{Bool, IfSome, MAX_SAFE_INTEGER, [], bounds_view};
+ghost use Rattle.nodejs_semver.specs.Words.{interval, is_empty, is_range_span, list_all, list_any};
+ghost use Rattle.nodejs_semver.specs.Words.{precedence, true};
+ghost use Rattle.nodejs_semver.specs.Internal.NpmAlternatives.{AcceptAsRanged, NarrowedBy, met};
+ghost use Rattle.nodejs_semver.specs.Internal.{NpmAlternatives.ranged, NpmMeaning.IsNarrowed};
+ghost use Rattle.nodejs_semver.specs.Internal.{NpmMeaning.is_unbounded, NpmParts.are_normal};
+ghost use Rattle.nodejs_semver.specs.Internal.NpmParts.{has_no_comparators, is_wildcard};
+ghost use Rattle.nodejs_semver.specs.Internal.NpmParts.{npm_partial_view, npm_sign_view};
 ghost use Rattle.nodejs_semver.specs.Npm.Table.{hyphen_lower, hyphen_upper, table};
-ghost use Rattle.semver_core.specs.Cuts.{interval};
-ghost use Rattle.semver_core.specs.Lists.{is_empty};
-ghost use Rattle.semver_core.specs.Values.Order.{precedence};
-ghost use Rattle.semver_core.specs.declared.TheConstants.{MAX_SAFE_INTEGER};
 
 use crate::npm::comparators::{lower_end, row, upper_end};
 use crate::npm::partial::{Partial, Sign};

@@ -1,9 +1,8 @@
 // The order of versions that counts their builds.
 
-ghost use Rattle.nodejs_semver.specs.Npm.Builds.{build_order};
+ghost use Rattle.std.specs.{Prelude.◌≡◌, Cmp.Lexicographic.slice_cmp};
+ghost use Rattle.nodejs_semver.specs.Words.{build_order};
 ghost use Rattle.semver_core.specs.Values.Order.{id_cmp};
-ghost use Rattle.std.specs.Cmp.Lexicographic.{slice_cmp};
-ghost use Rattle.std.specs.Prelude.{◌≡◌};
 
 use semver_core::{IdentifierRefs, Versioned};
 use std::cmp::Ordering;

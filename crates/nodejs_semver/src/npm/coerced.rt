@@ -1,16 +1,13 @@
 // The version that a text has anywhere in it, as node-semver's `coerce` finds it.
 
-ghost use Rattle.std.specs.Char.{is_ascii_digit};
-ghost use Rattle.std.specs.Prelude.{◌≡◌, ◌≤◌, ℕ, IfNone, IfSome, List, length, take};
-ghost use Rattle.nodejs_semver.specs.Internal.Fronts.{front_view};
-ghost use Rattle.nodejs_semver.specs.Internal.NpmTuples as Spec;
-ghost use Rattle.nodejs_semver.specs.Internal.NpmTuples.{IsLongestAt};
-ghost use Rattle.nodejs_semver.specs.Npm.Coerced.{IsCoerced, IsLeftmost, IsRightmost, IsTupleIn};
+ghost use Rattle.std.specs.Prelude.{◌≡◌, ◌≤◌, take};
+ghost use Rattle.nodejs_semver.specs.Words.{IfNone, IfSome, IsNumber, List, MAX_SAFE_INTEGER};
+ghost use Rattle.nodejs_semver.specs.Words.{NoValue, front_view, is_ascii_digit, length, ℕ};
+ghost use Rattle.nodejs_semver.specs.{Internal.NpmTuples.IsLongestAt, Npm.Coerced.IsCoerced};
+ghost use Rattle.nodejs_semver.specs.Npm.Coerced.{IsLeftmost, IsRightmost, IsTupleIn};
 ghost use Rattle.nodejs_semver.specs.Npm.Grammar.{IsStrictNumber};
-ghost use Rattle.semver_core.specs.Failures.{NoValue};
 ghost use Rattle.semver_core.specs.Text.Characters.{ends};
-ghost use Rattle.semver_core.specs.Text.Numbers.{IsNumber};
-ghost use Rattle.semver_core.specs.declared.TheConstants.{MAX_SAFE_INTEGER};
+ghost use Rattle.nodejs_semver.specs.Internal.NpmTuples as Spec;
 
 use crate::npm::loose_versions::number;
 use crate::npm::places::digits_len;

@@ -1,20 +1,17 @@
 // The bounds that the comparators of a word have in common, by the table of node-semver's signs.
 
-ghost use Rattle.std.specs.Fmt.{decimal};
-ghost use Rattle.std.specs.Prelude.{◌≡◌, ◌≤◌, ◌+◌, ◌∷◌, [], Bool, List, Some, ℕ, false, length};
-ghost use Rattle.std.specs.Prelude.{nat_le, true};
+ghost use Rattle.std.specs.Prelude.{◌+◌, ◌∷◌, ◌≡◌, ◌≤◌, nat_le};
+ghost use Rattle.nodejs_semver.specs.Words.{Bool, Comparison, List, MAX_SAFE_INTEGER, Some, []};
+ghost use Rattle.nodejs_semver.specs.Words.{bounds_view, comparator_view, decimal, false, length};
+ghost use Rattle.nodejs_semver.specs.Words.{lent_id_view, no_build, true, version_text, ℕ};
 ghost use Rattle.nodejs_semver.specs.Internal.NpmMeaning.{AreRead, IsCommon, is_part, is_zero};
 ghost use Rattle.nodejs_semver.specs.Internal.NpmParts.{are_normal, npm_partial_view};
 ghost use Rattle.nodejs_semver.specs.Internal.NpmParts.{npm_sign_view, within};
-ghost use Rattle.nodejs_semver.specs.Internal.Readings.{bounds_view, comparator_view};
-ghost use Rattle.nodejs_semver.specs.Npm.Ranges.{is_valid};
+ghost use Rattle.nodejs_semver.specs.Npm.{Ranges.is_valid, Table.{first, from, made, table}};
+ghost use Rattle.semver_core.specs.Printing.Text.{id_text, marked_list};
+ghost use Rattle.semver_core.specs.{Values.Versions.IsVersion, declared.TheConstants.MAX_LENGTH};
 ghost use Rattle.nodejs_semver.specs.Npm.Table as Spec;
-ghost use Rattle.nodejs_semver.specs.Npm.Table.{Comparison, first, from, made, no_build, table};
 ghost use Rattle.nodejs_semver.specs.Text.WordText as Words;
-ghost use Rattle.semver_core.specs.Printing.Text.{id_text, marked_list, version_text};
-ghost use Rattle.semver_core.specs.Values.Versions.{IsVersion};
-ghost use Rattle.semver_core.specs.Values.Views.{lent_id_view};
-ghost use Rattle.semver_core.specs.declared.TheConstants.{MAX_LENGTH, MAX_SAFE_INTEGER};
 
 use crate::npm::partial::{Numbers, Partial, Sign, within};
 use crate::readers::{Bounds, Comparator, lowest, release};

@@ -1,13 +1,12 @@
 // Where a text stops being a version text of node-semver's strict reading.
 
-ghost use Rattle.std.specs.Char.{digit_value, is_ascii_digit};
-ghost use Rattle.std.specs.Prelude.{◌≡◌, ◌↔◌, ◌≤◌, IfSome, MatchOption, None, Some, true};
+ghost use Rattle.std.specs.{Prelude.{◌↔◌, ◌≡◌, ◌≤◌}, Char.digit_value};
+ghost use Rattle.nodejs_semver.specs.Words.{IfSome, IsVersionText, MAX_SAFE_INTEGER, MatchOption};
+ghost use Rattle.nodejs_semver.specs.Words.{None, Some, VersionValue, is_ascii_digit};
+ghost use Rattle.nodejs_semver.specs.{Words.{is_identifier_char, true}, Npm.Flaws.IsFlaw};
+ghost use Rattle.nodejs_semver.specs.Npm.Flaws.{IsSpelled, IsWrong};
+ghost use Rattle.semver_core.specs.Text.Characters.{is_whitespace};
 ghost use Rattle.nodejs_semver.specs.Internal.NpmStates as Spec;
-ghost use Rattle.nodejs_semver.specs.Npm.Flaws.{IsFlaw, IsSpelled, IsWrong};
-ghost use Rattle.nodejs_semver.specs.Npm.VersionText.{IsVersionText};
-ghost use Rattle.semver_core.specs.Text.Characters.{is_identifier_char, is_whitespace};
-ghost use Rattle.semver_core.specs.Values.Versions.{VersionValue};
-ghost use Rattle.semver_core.specs.declared.TheConstants.{MAX_SAFE_INTEGER};
 
 use crate::npm::versions::is_short;
 use semver_core::MAX_SAFE_INTEGER;

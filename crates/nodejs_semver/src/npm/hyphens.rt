@@ -1,13 +1,11 @@
 // The hyphen ranges of node-semver's readings: two partial versions with ` - ` between them.
 
-ghost use Rattle.std.specs.List.{list_all};
-ghost use Rattle.std.specs.Prelude.{◌≡◌, ◌≤◌, length};
-ghost use Rattle.nodejs_semver.specs.Internal.NpmParts.{npm_partial_view};
-ghost use Rattle.nodejs_semver.specs.Internal.NpmViews.{end_front_view, end_some_view, hyphen_view};
+ghost use Rattle.std.specs.Prelude.{◌≡◌, ◌≤◌};
+ghost use Rattle.nodejs_semver.specs.Words.{MAX_SAFE_INTEGER, length, list_all, rest_view};
+ghost use Rattle.nodejs_semver.specs.Internal.{NpmParts.npm_partial_view, NpmViews.end_front_view};
+ghost use Rattle.nodejs_semver.specs.Internal.NpmViews.{end_some_view, hyphen_view};
 ghost use Rattle.nodejs_semver.specs.Internal.NpmWords as Spec;
-ghost use Rattle.nodejs_semver.specs.Internal.Readings.{rest_view};
 ghost use Rattle.nodejs_semver.specs.Npm.RangeText as Text;
-ghost use Rattle.semver_core.specs.declared.TheConstants.{MAX_SAFE_INTEGER};
 
 use crate::npm::partial::Partial;
 use crate::npm::places::partial_front;

@@ -1,13 +1,11 @@
 // Version texts as node-semver's loose reading has them.
 
-ghost use Rattle.std.specs.Prelude.{◌≡◌, ◌≤◌, IfErr, IfOk, length, true};
-ghost use Rattle.nodejs_semver.specs.Internal.Fronts.{front_view, number_front};
-ghost use Rattle.nodejs_semver.specs.Internal.NpmLooseVersions as Spec;
-ghost use Rattle.nodejs_semver.specs.Internal.Readings.{pair_view};
+ghost use Rattle.std.specs.Prelude.{◌≡◌, ◌≤◌, IfErr};
+ghost use Rattle.nodejs_semver.specs.Words.{IfOk, MAX_SAFE_INTEGER, NoValue, front_view, is_listed};
+ghost use Rattle.nodejs_semver.specs.Words.{length, pair_view, true};
+ghost use Rattle.nodejs_semver.specs.Internal.Fronts.{number_front};
 ghost use Rattle.nodejs_semver.specs.Npm.VersionText.{IsLooseVersionText};
-ghost use Rattle.semver_core.specs.Failures.{NoValue};
-ghost use Rattle.semver_core.specs.Text.Identifiers.{is_listed};
-ghost use Rattle.semver_core.specs.declared.TheConstants.{MAX_SAFE_INTEGER};
+ghost use Rattle.nodejs_semver.specs.Internal.NpmLooseVersions as Spec;
 
 use crate::npm::hyphens::skip_marks;
 use crate::npm::places::digits_len;

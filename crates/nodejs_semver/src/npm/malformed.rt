@@ -1,11 +1,9 @@
 // The malformed words of range texts that node-semver's loose reading ignores.
 
 ghost use Rattle.std.specs.List.{list_all, list_any, prefix_len};
-ghost use Rattle.std.specs.Prelude.{◌≡◌, ◌==◌, ◌≤◌, ◌&&◌, ◌||◌, ◌-◌, drop, length};
-ghost use Rattle.std.specs.Prelude.{not, true};
+ghost use Rattle.std.specs.Prelude.{◌≡◌, ◌==◌, ◌≤◌, ◌&&◌, ◌||◌, length, not, true};
 ghost use Rattle.nodejs_semver.specs.Npm.Malformed as Text;
-ghost use Rattle.semver_core.specs.Lists.{is_empty};
-ghost use Rattle.semver_core.specs.Text.Characters.{begins, ends};
+ghost use Rattle.semver_core.specs.Text.Characters.{ends};
 
 // Whether a character may stand in such a word.
 #[inline(always)]
@@ -105,40 +103,18 @@ fn has_four_parts(word: &[u8]) -> bool
     matches!(after_dot(after_dot(word)), [_, b'.', ..])
 }
 
-// The last character, if there is one.
-#[inline(always)]
-fn last(word: &[u8]) -> &[u8]
-    ensures { result.now ≡ drop (length word.now - 1) word.now }
-{
-    &word[word.len().saturating_sub(1)..]
-}
-
-// Whether the character at the front is of a sign.
-fn begins_with_sign(text: &[u8]) -> bool
-    ensures { result ≡ begins Text.is_sign text.now }
-{
-    matches!(text, [sign, ..] if is_sign(*sign))
-}
-
-// Whether the character at the front is such as ends a well-formed word.
-fn begins_with_last(text: &[u8]) -> bool
-    ensures { result ≡ begins Text.is_last text.now }
-{
-    matches!(text, [byte, ..] if is_last(*byte))
-}
-
 // Whether its last character is of a sign.
 fn ends_in_sign(word: &[u8]) -> bool
     ensures { result ≡ ends Text.is_sign word.now }
 {
-    begins_with_sign(last(word))
+    matches!(word, [.., last] if is_sign(*last))
 }
 
 // Whether it ends as a well-formed word does.
 fn ends_well(word: &[u8]) -> bool
     ensures { result ≡ ends Text.is_last word.now }
 {
-    begins_with_last(last(word))
+    matches!(word, [.., last] if is_last(*last))
 }
 
 // Whether what stands behind a malformed word may belong to it.
@@ -171,29 +147,15 @@ fn begins_place(text: &[u8]) -> bool
     matches!(text, [first, ..] if is_first(*first)) && are_first(text)
 }
 
-// Whether the part at the front may be a place, or there is none.
-fn may_begin_place(text: &[u8]) -> bool
-    ensures { result ≡ (is_empty text.now || Text.begins_place text.now) }
-{
-    text.is_empty() || begins_place(text)
-}
-
-// Whether the part at the front may begin with a place, or there is none.
-fn may_begin(text: &[u8]) -> bool
-    ensures { result ≡ (is_empty text.now || begins Text.is_first text.now) }
-{
-    match text {
-        [first, ..] => is_first(*first),
-        [] => true,
-    }
-}
-
 // Whether the first two parts of a word and the front of its third may be places.
 fn begins_places(word: &[u8]) -> bool
     ensures { result ≡ Text.begins_places word.now }
 {
     let second = after_dot(word);
-    begins_place(word) && may_begin_place(second) && may_begin(after_dot(second))
+    let third = after_dot(second);
+    begins_place(word)
+        && (second.is_empty() || begins_place(second))
+        && (third.is_empty() || matches!(third, [first, ..] if is_first(*first)))
 }
 
 // The text behind its first character, or behind `~>`.

@@ -1,10 +1,8 @@
 // The first malformed word of an alternative, in node-semver's strict reading.
 
-ghost use Rattle.std.specs.Prelude.{◌≤◌, IfNone, IfSome, length};
-ghost use Rattle.std.specs.Str.{IsUtf8};
+ghost use Rattle.std.specs.{Prelude.◌≤◌, Str.IsUtf8};
+ghost use Rattle.nodejs_semver.specs.Words.{IfNone, IfSome, MAX_SAFE_INTEGER, NoValue, length};
 ghost use Rattle.nodejs_semver.specs.Npm.MalformedWords.{IsLeft, IsMalformedWord, IsRightWord};
-ghost use Rattle.semver_core.specs.Failures.{NoValue};
-ghost use Rattle.semver_core.specs.declared.TheConstants.{MAX_SAFE_INTEGER};
 
 use crate::npm::alternatives::Alternative;
 use crate::npm::words::word_front;

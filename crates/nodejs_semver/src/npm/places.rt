@@ -1,21 +1,17 @@
 // The partial version at the front of a text, as node-semver's readings have it.
 
-ghost use Rattle.std.specs.Char.{is_ascii_digit};
-ghost use Rattle.std.specs.List.{prefix_len};
-ghost use Rattle.std.specs.Prelude.{◌≡◌, ◌≤◌, ◌&&◌, [], None, Some, drop, false, length, not};
-ghost use Rattle.std.specs.Prelude.{true};
-ghost use Rattle.semver_core.specs.Internal.Reading.{◌>>?◌};
-ghost use Rattle.nodejs_semver.specs.Internal.Fronts.{begins_byte, begins_wildcard};
-ghost use Rattle.nodejs_semver.specs.Internal.Fronts.{front_view, number_front};
-ghost use Rattle.nodejs_semver.specs.Internal.NpmReadings.{begins_padded, strict_number};
+ghost use Rattle.std.specs.{Prelude.{◌&&◌, ◌≡◌, ◌≤◌, drop}, List.prefix_len};
+ghost use Rattle.nodejs_semver.specs.Words.{MAX_SAFE_INTEGER, None, Some, [], false, front_view};
+ghost use Rattle.nodejs_semver.specs.Words.{is_ascii_digit, is_listed, length, not, pair_view};
+ghost use Rattle.nodejs_semver.specs.{Words.true, Internal.Fronts.{begins_byte, begins_wildcard}};
+ghost use Rattle.nodejs_semver.specs.Internal.{Fronts.number_front, NpmReadings.begins_padded};
+ghost use Rattle.nodejs_semver.specs.Internal.NpmReadings.{strict_number};
 ghost use Rattle.nodejs_semver.specs.Internal.NpmViews.{npm_partial_front_view};
-ghost use Rattle.nodejs_semver.specs.Internal.NpmViews.{npm_partial_some_view};
-ghost use Rattle.nodejs_semver.specs.Internal.NpmViews.{place_front_view, place_view};
+ghost use Rattle.nodejs_semver.specs.Internal.NpmViews.{npm_partial_some_view, place_front_view};
+ghost use Rattle.nodejs_semver.specs.Internal.NpmViews.{place_view};
+ghost use Rattle.semver_core.specs.{Internal.Reading.◌>>?◌, Text.Identifiers.listed};
 ghost use Rattle.nodejs_semver.specs.Internal.NpmWords as Spec;
-ghost use Rattle.nodejs_semver.specs.Internal.Readings.{pair_view};
 ghost use Rattle.nodejs_semver.specs.Npm.RangeText as Text;
-ghost use Rattle.semver_core.specs.Text.Identifiers.{is_listed, listed};
-ghost use Rattle.semver_core.specs.declared.TheConstants.{MAX_SAFE_INTEGER};
 
 use crate::npm::partial::Partial;
 use crate::npm::versions::{begins_padded, dashed_front, is_strict_list, strict_number};

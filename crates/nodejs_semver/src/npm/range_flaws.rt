@@ -1,11 +1,9 @@
 // Which part of a range text node-semver's strict reading rejects.
 
-ghost use Rattle.std.specs.Prelude.{◌≡◌, ◌↔◌, ◌+◌, ◌≤◌, IfSome, List, None, Some, length};
-ghost use Rattle.nodejs_semver.specs.Npm.RangeFlaws.{IsRangeFlaw};
-ghost use Rattle.nodejs_semver.specs.Npm.Ranges.{HasAlternatives};
-ghost use Rattle.nodejs_semver.specs.Npm.Table.{Comparison};
-ghost use Rattle.semver_core.specs.Text.Characters.{IsAfterBlank, IsTrim};
-ghost use Rattle.semver_core.specs.declared.TheConstants.{MAX_SAFE_INTEGER};
+ghost use Rattle.std.specs.Prelude.{◌+◌, ◌↔◌, ◌≡◌, ◌≤◌};
+ghost use Rattle.nodejs_semver.specs.Words.{Comparison, IfSome, IsAfterBlank, IsTrim, List};
+ghost use Rattle.nodejs_semver.specs.Words.{MAX_SAFE_INTEGER, None, Some, length};
+ghost use Rattle.nodejs_semver.specs.Npm.{RangeFlaws.IsRangeFlaw, Ranges.HasAlternatives};
 
 use crate::npm::malformed_words::malformed_word;
 use crate::npm::ranges::alternative;

@@ -1,22 +1,21 @@
 // The reader of range texts as node-semver has them, strictly or loosely.
 
-ghost use Rattle.std.specs.Prelude.{◌≡◌, ◌<◌, ◌&&◌, ℕ, IfOk, List, None, length, true};
-ghost use Rattle.std.specs.Str.{IsUtf8};
-ghost use Rattle.nodejs_semver.specs.Internal.NpmReads.{IsFound, valid_alternative, valid_hyphen};
-ghost use Rattle.nodejs_semver.specs.Internal.NpmReads.{words_of};
-ghost use Rattle.nodejs_semver.specs.Internal.NpmReads.{AddsPart, AreAllFound, valid_range};
-ghost use Rattle.nodejs_semver.specs.Internal.Parts.{parts};
+ghost use Rattle.std.specs.{Prelude.{◌&&◌, ◌<◌, ◌≡◌}, Str.IsUtf8};
+ghost use Rattle.nodejs_semver.specs.Words.{Comparison, HasAlternativesIn, IfOk, IsCutAtBars, List};
+ghost use Rattle.nodejs_semver.specs.Words.{MAX_SAFE_INTEGER, MemoryOnlyIf, NoValue, None};
+ghost use Rattle.nodejs_semver.specs.Words.{RefusedOnlyIf, length, parts, true, ℕ};
+ghost use Rattle.nodejs_semver.specs.Internal.NpmParts.{are_normal, npm_partial_view};
+ghost use Rattle.nodejs_semver.specs.Internal.NpmViews.{end_view};
+ghost use Rattle.nodejs_semver.specs.Internal.NpmWords.{hyphen_comparisons, valid_only};
+ghost use Rattle.nodejs_semver.specs.Internal.NpmReads.{AddsPart, AreAllFound, IsFound};
+ghost use Rattle.nodejs_semver.specs.Internal.NpmReads.{valid_alternative, valid_hyphen};
+ghost use Rattle.nodejs_semver.specs.Internal.NpmReads.{valid_range, words_of};
 ghost use Rattle.nodejs_semver.specs.Npm.Malformed.{begins_malformed, ends_malformed};
-ghost use Rattle.nodejs_semver.specs.Npm.Ranges.{HasAlternatives, HasAlternativesIn};
-ghost use Rattle.nodejs_semver.specs.Npm.Ranges.{IsRangeIn, IsRangeOf};
-ghost use Rattle.nodejs_semver.specs.Npm.Table.{Comparison};
-ghost use Rattle.nodejs_semver.specs.Text.Bars.{IsCutAtBars};
-ghost use Rattle.semver_core.specs.Failures.{MemoryOnlyIf, NoValue, RefusedOnlyIf};
-ghost use Rattle.semver_core.specs.declared.TheConstants.{MAX_SAFE_INTEGER};
+ghost use Rattle.nodejs_semver.specs.Npm.Ranges.{HasAlternatives, IsRangeIn, IsRangeOf};
 
 use crate::RangeRef;
 use crate::npm::alternatives::{Alternative, range_of};
-use crate::npm::hyphens::hyphen_ends;
+use crate::npm::hyphens::{End, hyphen_ends};
 use crate::npm::malformed::{begins_malformed, ends_malformed};
 use crate::npm::words::word_front;
 use crate::range::Intervals;
@@ -42,13 +41,23 @@ fn words(loose: bool, include: bool, text: &[u8]) -> Option<Alternative<'_>>
     }
 }
 
+// The alternative between two ends of a hyphen range.
+fn between<'a>(include: bool, lower: &End<'a>, upper: &End<'a>) -> Option<Alternative<'a>>
+    requires lower { are_normal (npm_partial_view lower.now.partial) ≡ true }
+    requires upper { are_normal (npm_partial_view upper.now.partial) ≡ true }
+    ensures { IsFound include (valid_only MAX_SAFE_INTEGER (hyphen_comparisons include
+        (end_view lower.now, end_view upper.now))) result }
+{
+    let from = Alternative::all().meet_lower(include, &lower.partial, lower.text)?;
+    from.meet_upper(include, &upper.partial, upper.text)
+}
+
 // The alternative of a hyphen range.
 fn hyphen(loose: bool, include: bool, text: &[u8]) -> Option<Alternative<'_>>
     ensures { IsFound include (valid_hyphen loose include text.now) result }
 {
     let (lower, upper) = hyphen_ends(loose, include, text)?;
-    let from = Alternative::all().meet_lower(include, &lower.partial, lower.text)?;
-    from.meet_upper(include, &upper.partial, upper.text)
+    between(include, &lower, &upper)
 }
 
 /// The alternative that a text is, without whitespace around it.
@@ -67,11 +76,11 @@ pub(crate) fn alternative(loose: bool, include: bool, text: &[u8]) -> Option<Alt
 
 // Whether words without comparators are no alternative, as the first and the last one are
 // malformed.
-fn is_lost(loose: bool, text: &[u8], read: &Alternative<'_>) -> bool
-    ensures { result ≡ (loose
-        && (read.now.is_bare && (begins_malformed text.now && ends_malformed text.now))) }
+fn is_lost(loose: bool, text: &[u8], is_bare: bool) -> bool
+    ensures { result
+        ≡ (loose && (is_bare && (begins_malformed text.now && ends_malformed text.now))) }
 {
-    loose && read.is_bare() && begins_malformed(text) && ends_malformed(text)
+    loose && is_bare && begins_malformed(text) && ends_malformed(text)
 }
 
 // Adds the interval of the alternative that a part of the text is, where its cuts meet, unless it
@@ -91,7 +100,7 @@ fn add_part<'a>(
     let Some(read) = alternative(loose, include, text.as_bytes()) else {
         return Err(Failure::Refused(SemverError));
     };
-    if is_lost(loose, text.as_bytes(), &read) {
+    if is_lost(loose, text.as_bytes(), read.is_bare()) {
         return Ok(is_some);
     }
     if let Some(interval) = read.interval() {

@@ -1,20 +1,15 @@
 // Ranges with how they were read, by which they are asked.
 
-ghost use Rattle.std.specs.Prelude.{◌≡◌, ℕ, IfOk, List, map, option_map};
-ghost use Rattle.std.specs.Prelude.{◌<◌, length};
-ghost use Rattle.std.specs.Ordering.{is_le, is_lt};
+ghost use Rattle.std.specs.Prelude.{◌<◌, ◌≡◌};
+ghost use Rattle.nodejs_semver.specs.Words.{Comparison, IfOk, IsCutAtBars, IsMax, IsMin, List};
+ghost use Rattle.nodejs_semver.specs.Words.{MAX_SAFE_INTEGER, MemoryOnlyIf, NoValue, RefusedOnlyIf};
+ghost use Rattle.nodejs_semver.specs.Words.{VersionValue, length, map, option_map, ℕ};
 ghost use Rattle.nodejs_semver.specs.Npm.Readings.{HasAlternativesAs, OfAccepted};
-ghost use Rattle.nodejs_semver.specs.Npm.Table.{Comparison};
-ghost use Rattle.nodejs_semver.specs.Ranges.Best.{IsMax, IsMin, replaces};
 ghost use Rattle.nodejs_semver.specs.Ranges.Gate as Gate;
-ghost use Rattle.nodejs_semver.specs.Text.Bars.{IsCutAtBars};
-ghost use Rattle.semver_core.specs.Failures.{MemoryOnlyIf, NoValue, RefusedOnlyIf};
-ghost use Rattle.semver_core.specs.Values.Order.{precedence};
-ghost use Rattle.semver_core.specs.Values.Versions.{VersionValue};
-ghost use Rattle.semver_core.specs.declared.TheConstants.{MAX_SAFE_INTEGER};
 
 use crate::RangeRef;
 use crate::npm::ranges::read_range;
+use crate::range::best::{greatest, least};
 use semver_core::{Failure, MAX_SAFE_INTEGER, SemverError, Versioned};
 use std::alloc::Global;
 use std::marker::Model;
@@ -129,7 +124,8 @@ impl<'a> ReadRange<'a> {
         ensures { OfAccepted MAX_SAFE_INTEGER self.now (λ accepted. IsMax accepted
             (map W.value versions.now) (option_map (λ v. W.value v.now) result)) }
     {
-        greatest(&self.range, self.reading.include_prerelease, versions)
+        let include = self.reading.include_prerelease;
+        greatest(self.range.items(), include, versions)
     }
 
     /// The smallest of the versions that the range accepts by `satisfies`. Returns `None` exactly
@@ -138,80 +134,7 @@ impl<'a> ReadRange<'a> {
         ensures { OfAccepted MAX_SAFE_INTEGER self.now (λ accepted. IsMin accepted
             (map W.value versions.now) (option_map (λ v. W.value v.now) result)) }
     {
-        least(&self.range, self.reading.include_prerelease, versions)
-    }
-}
-
-// The last of the greatest of the versions that a range accepts.
-fn greatest<'v, W: Versioned>(
-    range: &RangeRef<'_>,
-    include: bool,
-    versions: &'v [W],
-) -> Option<&'v W>
-    ensures { IsMax (λ v. Gate.accepts range.now v include)
-        (map W.value versions.now) (option_map (λ v. W.value v.now) result) }
-{
-    let mut best = None;
-    for version in versions {
-        if is_new_max(range, include, version, best) {
-            best = Some(version);
-        }
-    }
-    best
-}
-
-// Whether a range accepts a version, and the best so far is not above it.
-#[inline(always)]
-fn is_new_max<W: Versioned>(
-    range: &RangeRef<'_>,
-    include: bool,
-    version: &W,
-    best: Option<&W>,
-) -> bool
-    ensures { result ≡ replaces (λ b v. is_le (precedence b v))
-        (λ v. Gate.accepts range.now v include)
-        (option_map (λ v. W.value v.now) best.entry) (W.value version.now) }
-{
-    match best {
-        Some(best) => {
-            best.cmp_precedence(version).is_le()
-                && range.satisfies_with_prerelease(version, include)
-        }
-        None => range.satisfies_with_prerelease(version, include),
-    }
-}
-
-// The first of the least of the versions that a range accepts.
-fn least<'v, W: Versioned>(range: &RangeRef<'_>, include: bool, versions: &'v [W]) -> Option<&'v W>
-    ensures { IsMin (λ v. Gate.accepts range.now v include)
-        (map W.value versions.now) (option_map (λ v. W.value v.now) result) }
-{
-    let mut best = None;
-    for version in versions {
-        if is_new_min(range, include, version, best) {
-            best = Some(version);
-        }
-    }
-    best
-}
-
-// Whether a range accepts a version, and the best so far is above it.
-#[inline(always)]
-fn is_new_min<W: Versioned>(
-    range: &RangeRef<'_>,
-    include: bool,
-    version: &W,
-    best: Option<&W>,
-) -> bool
-    ensures { result ≡ replaces (λ b v. is_lt (precedence v b))
-        (λ v. Gate.accepts range.now v include)
-        (option_map (λ v. W.value v.now) best.entry) (W.value version.now) }
-{
-    match best {
-        Some(best) => {
-            version.cmp_precedence(best).is_lt()
-                && range.satisfies_with_prerelease(version, include)
-        }
-        None => range.satisfies_with_prerelease(version, include),
+        let include = self.reading.include_prerelease;
+        least(self.range.items(), include, versions)
     }
 }

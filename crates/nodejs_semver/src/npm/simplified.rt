@@ -1,12 +1,9 @@
 // A shorter range with the same answers about given versions.
 
-ghost use Rattle.nodejs_semver.specs.Internal.Questions.{is_used};
-ghost use Rattle.nodejs_semver.specs.Internal.Sets.{AreTaking};
-ghost use Rattle.nodejs_semver.specs.Npm.Simple.{simplified};
-ghost use Rattle.nodejs_semver.specs.Ranges.Gate.{accepts};
-ghost use Rattle.nodejs_semver.specs.Ranges.View.{TakesMemory};
-ghost use Rattle.std.specs.Prelude.{◌≡◌, ◌≤◌, ◌++◌, All, IfOk, OnErr, OnOk, false, filter, length};
-ghost use Rattle.std.specs.Prelude.{map};
+ghost use Rattle.std.specs.Prelude.{◌++◌, ◌≡◌, ◌≤◌, filter};
+ghost use Rattle.nodejs_semver.specs.Words.{All, AreTaking, IfOk, OnErr, OnOk, TakesMemory};
+ghost use Rattle.nodejs_semver.specs.Words.{accepts, false, length, map};
+ghost use Rattle.nodejs_semver.specs.{Internal.Questions.is_used, Npm.Simple.simplified};
 
 use crate::RangeOf;
 use crate::npm::unions::push_copy;

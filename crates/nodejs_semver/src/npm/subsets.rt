@@ -1,11 +1,9 @@
 // Whether one range is part of another, and whether two accept the same versions.
 
-ghost use Rattle.nodejs_semver.specs.Npm.Subsets.{AcceptSame, IsSubset, MayTakeMemory};
-ghost use Rattle.nodejs_semver.specs.Ranges.Algebra.{difference};
-ghost use Rattle.nodejs_semver.specs.Ranges.Gate.{accepts};
-ghost use Rattle.semver_core.specs.Values.Versions.{VersionValue};
-ghost use Rattle.std.specs.Prelude.{◌≡◌, ◌↔◌, ◌<◌, ◌⊎◌, IfOk, IsTrue, OnErr};
-ghost use Rattle.std.specs.Prelude.{false, is_some, length, true};
+ghost use Rattle.std.specs.Prelude.{◌<◌, ◌↔◌, ◌≡◌, ◌⊎◌};
+ghost use Rattle.nodejs_semver.specs.Words.{IfOk, IsTrue, OnErr, VersionValue, accepts, difference};
+ghost use Rattle.nodejs_semver.specs.{Words.{false, is_some, length, true}, Npm.Subsets.AcceptSame};
+ghost use Rattle.nodejs_semver.specs.Npm.Subsets.{IsSubset, MayTakeMemory};
 
 use crate::RangeOf;
 use semver_core::VersionPoint;

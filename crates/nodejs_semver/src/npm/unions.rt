@@ -1,16 +1,12 @@
 // The union of two ranges.
 
-ghost use Rattle.nodejs_semver.specs.Internal.Questions.{is_said};
-ghost use Rattle.nodejs_semver.specs.Internal.Sets.{AreTaking};
-ghost use Rattle.nodejs_semver.specs.Internal.Shorthands.{lets_in_bounds};
-ghost use Rattle.nodejs_semver.specs.Npm.Unions.{says_all, union};
-ghost use Rattle.nodejs_semver.specs.Ranges.Gate.{accepts, lets_in};
-ghost use Rattle.nodejs_semver.specs.Ranges.View.{TakesMemory, bound_of, span_of};
-ghost use Rattle.semver_core.specs.Cuts.{covers, has_bound, passes};
-ghost use Rattle.semver_core.specs.Values.Order.{precedence};
-ghost use Rattle.semver_core.specs.Values.Versions.{VersionValue};
-ghost use Rattle.std.specs.Prelude.{◌≡◌, ◌<◌, ◌≤◌, ◌⊎◌, ◌++◌, ◌∷◌, [], ◌||◌, Bool, IfOk, OnErr};
-ghost use Rattle.std.specs.Prelude.{OnOk, filter, length, not, true};
+ghost use Rattle.std.specs.Prelude.{◌++◌, ◌<◌, ◌||◌, ◌∷◌, ◌≡◌, ◌≤◌, ◌⊎◌, filter};
+ghost use Rattle.nodejs_semver.specs.Words.{AreTaking, Bool, IfOk, OnErr, OnOk, TakesMemory};
+ghost use Rattle.nodejs_semver.specs.Words.{VersionValue, [], accepts, bound_of, covers, has_bound};
+ghost use Rattle.nodejs_semver.specs.Words.{length, lets_in, not, passes, precedence, span_of};
+ghost use Rattle.nodejs_semver.specs.{Words.true, Internal.Questions.is_said};
+ghost use Rattle.nodejs_semver.specs.{Internal.Shorthands.lets_in_bounds, Npm.Unions.says_all};
+ghost use Rattle.nodejs_semver.specs.Npm.Unions.{union};
 
 use crate::RangeOf;
 use crate::range::gate::lets_in;

@@ -1,19 +1,12 @@
 // Version texts as node-semver's strict reading has them.
 
-ghost use Rattle.std.specs.Char.{is_ascii_digit};
-ghost use Rattle.std.specs.List.{list_all, prefix_len};
-ghost use Rattle.std.specs.Prelude.{◌≡◌, ◌↔◌, ◌≤◌, IfErr, IfOk, IsTrue, drop, length};
-ghost use Rattle.std.specs.Prelude.{true};
-ghost use Rattle.std.specs.Str.{chars};
-ghost use Rattle.nodejs_semver.specs.Internal.Fronts.{front_view};
+ghost use Rattle.std.specs.{Prelude.{◌↔◌, ◌≡◌, ◌≤◌, IfErr, drop}, List.prefix_len, Str.chars};
+ghost use Rattle.nodejs_semver.specs.Words.{IfOk, IsTrue, IsVersionText, MAX_SAFE_INTEGER, NoValue};
+ghost use Rattle.nodejs_semver.specs.Words.{front_view, is_ascii_digit, is_listed, length};
+ghost use Rattle.nodejs_semver.specs.Words.{list_all, pair_view, true};
+ghost use Rattle.nodejs_semver.specs.Npm.{Grammar.is_strict_identifier, RangeText.is_mark};
+ghost use Rattle.nodejs_semver.specs.Npm.VersionText.{IsClean};
 ghost use Rattle.nodejs_semver.specs.Internal.NpmReadings as Spec;
-ghost use Rattle.nodejs_semver.specs.Internal.Readings.{pair_view};
-ghost use Rattle.nodejs_semver.specs.Npm.Grammar.{is_strict_identifier};
-ghost use Rattle.nodejs_semver.specs.Npm.RangeText.{is_mark};
-ghost use Rattle.nodejs_semver.specs.Npm.VersionText.{IsClean, IsVersionText};
-ghost use Rattle.semver_core.specs.Failures.{NoValue};
-ghost use Rattle.semver_core.specs.Text.Identifiers.{is_listed};
-ghost use Rattle.semver_core.specs.declared.TheConstants.{MAX_SAFE_INTEGER};
 
 use crate::npm::words::marks_len;
 use crate::readers::{build_front, pre_release_front};

@@ -1,15 +1,13 @@
 // The words of a range text as node-semver's readings have them: a sign, marks and a partial
 // version.
 
-ghost use Rattle.std.specs.List.{list_all};
-ghost use Rattle.std.specs.Prelude.{◌≡◌, ◌≤◌, length, true};
-ghost use Rattle.nodejs_semver.specs.Internal.NpmParts.{npm_partial_view, npm_sign_view};
-ghost use Rattle.nodejs_semver.specs.Internal.NpmViews.{npm_sign_pair_view, signed_front_view};
+ghost use Rattle.std.specs.Prelude.{◌≡◌, ◌≤◌};
+ghost use Rattle.nodejs_semver.specs.Words.{MAX_SAFE_INTEGER, comparator_view, drop_spaces, length};
+ghost use Rattle.nodejs_semver.specs.{Words.{list_all, true}, Internal.NpmParts.npm_partial_view};
+ghost use Rattle.nodejs_semver.specs.Internal.{NpmParts.npm_sign_view, NpmViews.npm_sign_pair_view};
+ghost use Rattle.nodejs_semver.specs.Internal.NpmViews.{signed_front_view};
 ghost use Rattle.nodejs_semver.specs.Internal.NpmWords as Spec;
-ghost use Rattle.nodejs_semver.specs.Internal.Readings.{comparator_view};
 ghost use Rattle.nodejs_semver.specs.Npm.RangeText as Text;
-ghost use Rattle.semver_core.specs.Internal.Spaces.{drop_spaces};
-ghost use Rattle.semver_core.specs.declared.TheConstants.{MAX_SAFE_INTEGER};
 
 use crate::npm::malformed::{begins_malformed, visible_len};
 use crate::npm::partial::{Partial, Sign};

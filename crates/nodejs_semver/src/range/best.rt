@@ -31,7 +31,7 @@ impl Range {
             accepts self.now w false ≡ true → is_le (precedence w v.now) ≡ true) versions.now) }
         ensures none { IfNone result (All (λ w. accepts self.now w false ≡ false) versions.now) }
     {
-        greatest(self.items(), versions)
+        greatest(self.items(), false, versions)
     }
 
     /// The smallest of the versions that the range accepts by `satisfies`. Returns `None` exactly
@@ -53,7 +53,7 @@ impl Range {
             accepts self.now w false ≡ true → is_le (precedence v.now w) ≡ true) versions.now) }
         ensures none { IfNone result (All (λ w. accepts self.now w false ≡ false) versions.now) }
     {
-        least(self.items(), versions)
+        least(self.items(), false, versions)
     }
 
     /// Whether a version takes the place of the best so far: the range accepts it by `satisfies`,
@@ -79,7 +79,7 @@ impl Range {
             → IsMax (λ v. accepts self.now v false) (list ++ version.now ∷ [])
             (if result then Some version.now else option_copied best.entry) }
     {
-        is_new_max(self.items(), version, best)
+        is_new_max(self.items(), false, version, best)
     }
 
     /// Whether a version takes the place of the best so far in `min_satisfying`: the range accepts
@@ -98,7 +98,7 @@ impl Range {
             → IsMin (λ v. accepts self.now v false) (list ++ version.now ∷ [])
             (if result then Some version.now else option_copied best.entry) }
     {
-        is_new_min(self.items(), version, best)
+        is_new_min(self.items(), false, version, best)
     }
 }
 
@@ -117,7 +117,7 @@ impl RangeRef<'_> {
             accepts self.now w false ≡ true → is_le (precedence w v.now) ≡ true) versions.now) }
         ensures none { IfNone result (All (λ w. accepts self.now w false ≡ false) versions.now) }
     {
-        greatest(self.items(), versions)
+        greatest(self.items(), false, versions)
     }
 
     /// The smallest of the versions that the range accepts, as `Range::min_satisfying` says. The
@@ -134,7 +134,7 @@ impl RangeRef<'_> {
             accepts self.now w false ≡ true → is_le (precedence v.now w) ≡ true) versions.now) }
         ensures none { IfNone result (All (λ w. accepts self.now w false ≡ false) versions.now) }
     {
-        least(self.items(), versions)
+        least(self.items(), false, versions)
     }
 
     /// Whether a version takes the place of the best so far, as `Range::is_new_max` says.
@@ -147,7 +147,7 @@ impl RangeRef<'_> {
             → IsMax (λ v. accepts self.now v false) (list ++ version.now ∷ [])
             (if result then Some version.now else option_copied best.entry) }
     {
-        is_new_max(self.items(), version, best)
+        is_new_max(self.items(), false, version, best)
     }
 
     /// Whether a version takes the place of the best so far, as `Range::is_new_min` says.
@@ -160,38 +160,40 @@ impl RangeRef<'_> {
             → IsMin (λ v. accepts self.now v false) (list ++ version.now ∷ [])
             (if result then Some version.now else option_copied best.entry) }
     {
-        is_new_min(self.items(), version, best)
+        is_new_min(self.items(), false, version, best)
     }
 }
 
-// The last of the greatest of the versions that the intervals accept.
-fn greatest<'v, V: VersionPoint, W: Versioned>(
+/// The last of the greatest of the versions that the intervals accept.
+pub(crate) fn greatest<'v, V: VersionPoint, W: Versioned>(
     intervals: &[Interval<V>],
+    include: bool,
     versions: &'v [W],
 ) -> Option<&'v W>
-    ensures { IsMax (λ v. accepts (spans_of V.value intervals.now) v false)
+    ensures { IsMax (λ v. accepts (spans_of V.value intervals.now) v include)
         (map W.value versions.now) (option_map (λ v. W.value v.now) result) }
 {
     let mut best = None;
     for version in versions {
-        if is_new_max(intervals, version, best) {
+        if is_new_max(intervals, include, version, best) {
             best = Some(version);
         }
     }
     best
 }
 
-// The smallest of the versions that the intervals accept; on a tie, the first.
-fn least<'v, V: VersionPoint, W: Versioned>(
+/// The smallest of the versions that the intervals accept; on a tie, the first.
+pub(crate) fn least<'v, V: VersionPoint, W: Versioned>(
     intervals: &[Interval<V>],
+    include: bool,
     versions: &'v [W],
 ) -> Option<&'v W>
-    ensures { IsMin (λ v. accepts (spans_of V.value intervals.now) v false)
+    ensures { IsMin (λ v. accepts (spans_of V.value intervals.now) v include)
         (map W.value versions.now) (option_map (λ v. W.value v.now) result) }
 {
     let mut best = None;
     for version in versions {
-        if is_new_min(intervals, version, best) {
+        if is_new_min(intervals, include, version, best) {
             best = Some(version);
         }
     }
@@ -202,16 +204,17 @@ fn least<'v, V: VersionPoint, W: Versioned>(
 #[inline(always)]
 fn is_new_max<V: VersionPoint, W: Versioned>(
     intervals: &[Interval<V>],
+    include: bool,
     version: &W,
     best: Option<&W>,
 ) -> bool
     ensures { result ≡ replaces (λ b v. is_le (precedence b v))
-        (λ v. accepts (spans_of V.value intervals.now) v false)
+        (λ v. accepts (spans_of V.value intervals.now) v include)
         (option_map (λ v. W.value v.now) best.entry) (W.value version.now) }
 {
     match best {
-        Some(best) => best.cmp_precedence(version).is_le() && accepts(intervals, version, false),
-        None => accepts(intervals, version, false),
+        Some(best) => best.cmp_precedence(version).is_le() && accepts(intervals, version, include),
+        None => accepts(intervals, version, include),
     }
 }
 
@@ -219,15 +222,16 @@ fn is_new_max<V: VersionPoint, W: Versioned>(
 #[inline(always)]
 fn is_new_min<V: VersionPoint, W: Versioned>(
     intervals: &[Interval<V>],
+    include: bool,
     version: &W,
     best: Option<&W>,
 ) -> bool
     ensures { result ≡ replaces (λ b v. is_lt (precedence v b))
-        (λ v. accepts (spans_of V.value intervals.now) v false)
+        (λ v. accepts (spans_of V.value intervals.now) v include)
         (option_map (λ v. W.value v.now) best.entry) (W.value version.now) }
 {
     match best {
-        Some(best) => version.cmp_precedence(best).is_lt() && accepts(intervals, version, false),
-        None => accepts(intervals, version, false),
+        Some(best) => version.cmp_precedence(best).is_lt() && accepts(intervals, version, include),
+        None => accepts(intervals, version, include),
     }
 }

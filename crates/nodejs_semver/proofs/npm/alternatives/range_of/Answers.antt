@@ -1,6 +1,4 @@
-use Rattle.std.proofs.Common.{arith}
-use Rattle.nodejs_semver.proofs.Strict.Alternatives.{ranged_range}
-use Rattle.nodejs_semver.proofs.Values.{spans_same}
+use Rattle.nodejs_semver.proofs.{Common.arith, Strict.Alternatives.ranged_range, Values.spans_same}
 use Rattle.nodejs_semver.proofs.npm.alternatives.range_of.Goals as goal
 
 pub of_some-requires : goal.of_some-requires

@@ -1,11 +1,6 @@
-use Rattle.std.proofs.Common.{[], arith, false, rules, true, ◌∷◌, ◌≡◌}
-use Rattle.std.proofs.lemmas.Grind.{common_steps}
-use Rattle.std.specs.List.{list_any}
-use Rattle.semver_core.specs.Lists.{is_empty}
-use Rattle.nodejs_semver.specs.Internal.NpmAlternatives.{nothing}
-use Rattle.nodejs_semver.specs.Internal.NpmMeaning.{is_unbounded}
-use Rattle.nodejs_semver.specs.Ranges.View.{any_version}
-use Rattle.nodejs_semver.proofs.Strict.Alternatives.{ranged_kept, ranged_list, ranged_none, ranged_open}
+use Rattle.nodejs_semver.proofs.Common.{[], any_version, arith, common_steps, false, is_empty, list_any, rules, true, ◌∷◌, ◌≡◌}
+use Rattle.nodejs_semver.proofs.{NpmCommon.{is_unbounded, nothing}, Strict.Alternatives.{ranged_kept, ranged_list, ranged_none}}
+use Rattle.nodejs_semver.proofs.Strict.Alternatives.{ranged_open}
 use Rattle.nodejs_semver.proofs.npm.alternatives.ranged.Goals as goal
 
 pub returns-then-is_some_unbounded-clause-accepts : goal.returns-then-is_some_unbounded-clause-accepts

@@ -1,7 +1,4 @@
-use Rattle.semver_core.specs.declared.TheConstants.{MAX_SAFE_INTEGER}
-use Rattle.semver_core.specs.Text.Numbers.{IsNumber}
-use Rattle.nodejs_semver.specs.Npm.Coerced.{IsLeftmost}
-use Rattle.nodejs_semver.proofs.NpmTexts.Coerced.{coerced_absent}
+use Rattle.nodejs_semver.proofs.{Common.{IsNumber, MAX_SAFE_INTEGER}, NpmCommon.IsLeftmost, NpmTexts.Coerced.coerced_absent}
 use Rattle.nodejs_semver.proofs.npm.coerced.coerce_loose.Goals as goal
 
 pub returns-in_err-first_tuple-clause-none : goal.returns-in_err-first_tuple-clause-none

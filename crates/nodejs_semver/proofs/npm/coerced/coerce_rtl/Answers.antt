@@ -1,6 +1,4 @@
-use Rattle.semver_core.specs.declared.TheConstants.{MAX_SAFE_INTEGER}
-use Rattle.nodejs_semver.specs.Npm.Grammar.{IsStrictNumber}
-use Rattle.nodejs_semver.specs.Npm.Coerced.{IsRightmost}
+use Rattle.nodejs_semver.proofs.{Common.MAX_SAFE_INTEGER, NpmCommon.{IsRightmost, IsStrictNumber}}
 use Rattle.nodejs_semver.proofs.NpmTexts.Coerced.{coerced_absent}
 use Rattle.nodejs_semver.proofs.npm.coerced.coerce_rtl.Goals as goal
 

@@ -1,7 +1,4 @@
-use Rattle.semver_core.specs.declared.TheConstants.{MAX_SAFE_INTEGER}
-use Rattle.semver_core.specs.Text.Numbers.{IsNumber}
-use Rattle.nodejs_semver.specs.Npm.Coerced.{IsRightmost}
-use Rattle.nodejs_semver.proofs.NpmTexts.Coerced.{coerced_absent}
+use Rattle.nodejs_semver.proofs.{Common.{IsNumber, MAX_SAFE_INTEGER}, NpmCommon.IsRightmost, NpmTexts.Coerced.coerced_absent}
 use Rattle.nodejs_semver.proofs.npm.coerced.coerce_rtl_loose.Goals as goal
 
 pub returns-in_err-last_tuple-clause-none : goal.returns-in_err-last_tuple-clause-none

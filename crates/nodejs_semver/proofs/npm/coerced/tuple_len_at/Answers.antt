@@ -1,6 +1,5 @@
-use Rattle.nodejs_semver.proofs.NpmTexts.Tuples.{longest_none, longest_some}
+use Rattle.nodejs_semver.proofs.{Common.{sym, take_rest, ◌∙◌}, NpmTexts.Tuples.{longest_none, longest_some}}
 use Rattle.nodejs_semver.proofs.npm.coerced.tuple_len_at.Goals as goal
-use Rattle.nodejs_semver.proofs.Common.{take_rest, sym, ◌∙◌}
 
 pub returns-then-follows_digit : goal.returns-then-follows_digit
 returns-then-follows_digit c = longest_none c.args.text.now c.args.at c.requires (sym c.follows_digit.ensures ∙ c.if-follows_digit.true)

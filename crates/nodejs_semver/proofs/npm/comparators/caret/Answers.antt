@@ -1,6 +1,4 @@
-use Rattle.std.proofs.Common.{sym, ◌∙◌}
-use Rattle.nodejs_semver.specs.Npm.Table.{caret_from}
-use Rattle.nodejs_semver.proofs.Strict.Rows.{caret_valid, whole_caret, within_whole}
+use Rattle.nodejs_semver.proofs.{Common.{sym, ◌∙◌}, NpmCommon.caret_from, Strict.Rows.{caret_valid, whole_caret, within_whole}}
 use Rattle.nodejs_semver.proofs.npm.comparators.caret.Goals as goal
 
 pub returns-then-prints_short : goal.returns-then-prints_short

@@ -1,7 +1,4 @@
-use Rattle.std.proofs.Common.{ap, ◌∙◌}
-use Rattle.nodejs_semver.specs.Internal.NpmParts.{npm_partial_view, within}
-use Rattle.nodejs_semver.specs.Npm.Table.{from}
-use Rattle.nodejs_semver.proofs.Strict.Printed.{from_valid}
+use Rattle.nodejs_semver.proofs.{Common.{ap, ◌∙◌}, NpmCommon.{from, npm_partial_view, within}, Strict.Printed.from_valid}
 use Rattle.nodejs_semver.proofs.Strict.Rows.{part_caret}
 use Rattle.nodejs_semver.proofs.npm.comparators.caret_part.Goals as goal
 

@@ -1,6 +1,4 @@
-use Rattle.std.proofs.Common.{refl, sym, true, ◌∙◌, ◌≡◌}
-use Rattle.nodejs_semver.specs.Internal.NpmParts.{within}
-use Rattle.nodejs_semver.proofs.Strict.Printed.{from_valid}
+use Rattle.nodejs_semver.proofs.{Common.{refl, sym, true, ◌∙◌, ◌≡◌}, NpmCommon.within, Strict.Printed.from_valid}
 use Rattle.nodejs_semver.proofs.npm.comparators.from.Goals as goal
 
 pub returns-then-within : goal.returns-then-within

@@ -1,10 +1,5 @@
-use Rattle.std.proofs.Common.{ap, arith, false, not, refl, ◌∙◌, ◌≡◌, ◌||◌}
-use Rattle.std.proofs.lemmas.Grind.{common_steps}
-use Rattle.std.specs.Prelude.{codes}
-use Rattle.std.specs.Str.{bytes_eq}
-use Rattle.nodejs_semver.specs.Text.WordText.{at_least}
-use Rattle.nodejs_semver.proofs.Strict.Narrowing.{one_common}
-use Rattle.nodejs_semver.proofs.Strict.Rows.{either_true, whole_readable}
+use Rattle.nodejs_semver.proofs.{Common.{ap, arith, codes, common_steps, false, not, refl, ◌||◌, ◌∙◌, ◌≡◌}, NpmCommon.at_least}
+use Rattle.nodejs_semver.proofs.{NpmCommon.bytes_eq, Strict.{Narrowing.one_common, Rows.{either_true, whole_readable}}}
 use Rattle.nodejs_semver.proofs.npm.comparators.from_text.Goals as goal
 
 pub returns-then-include : goal.returns-then-include

@@ -1,5 +1,4 @@
-use Rattle.std.proofs.Common.{sym, ◌∙◌}
-use Rattle.nodejs_semver.proofs.Strict.Rows.{from_included, from_none, from_some}
+use Rattle.nodejs_semver.proofs.{Common.{sym, ◌∙◌}, Strict.Rows.{from_included, from_none, from_some}}
 use Rattle.nodejs_semver.proofs.npm.comparators.from_version.Goals as goal
 
 pub returns-then-include : goal.returns-then-include

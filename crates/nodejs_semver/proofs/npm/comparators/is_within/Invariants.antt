@@ -1,6 +1,4 @@
-use Rattle.std.proofs.Common.{◌≡◌, ◌∷◌, [], length}
-use Rattle.std.specs.Prelude.{nat_le}
-use Rattle.semver_core.specs.Printing.Text.{marked_list}
+use Rattle.nodejs_semver.proofs.{Common.{[], length, ◌∷◌, ◌≡◌}, NpmCommon.{marked_list, nat_le}}
 use Rattle.nodejs_semver.proofs.npm.comparators.is_within.Given as goal
 
 abbrev pub invariant-ids : goal.invariant-ids

@@ -1,7 +1,5 @@
-use Rattle.std.proofs.Common.{ap, refl, ◌∙◌}
-use Rattle.nodejs_semver.specs.Internal.Readings.{bounds_view}
+use Rattle.nodejs_semver.proofs.{Common.{ap, refl, ◌∙◌}, NpmCommon.bounds_view, Strict.Rows.under_read}
 use Rattle.nodejs_semver.specs.Text.Table as Spans
-use Rattle.nodejs_semver.proofs.Strict.Rows.{under_read}
 use Rattle.nodejs_semver.proofs.npm.comparators.nothing.Goals as goal
 
 pub returns : goal.returns

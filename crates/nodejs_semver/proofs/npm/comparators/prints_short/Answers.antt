@@ -1,5 +1,4 @@
-use Rattle.std.proofs.Common.{sym, ◌∙◌}
-use Rattle.nodejs_semver.proofs.Strict.Printed.{bare_short}
+use Rattle.nodejs_semver.proofs.{Common.{sym, ◌∙◌}, Strict.Printed.bare_short}
 use Rattle.nodejs_semver.proofs.npm.comparators.prints_short.Goals as goal
 
 pub returns-then-is_release : goal.returns-then-is_release

@@ -1,5 +1,4 @@
-use Rattle.nodejs_semver.specs.Internal.NpmParts.{npm_partial_view}
-use Rattle.nodejs_semver.proofs.Strict.Rows.{row_caret, row_compared, row_tilde}
+use Rattle.nodejs_semver.proofs.{NpmCommon.npm_partial_view, Strict.Rows.{row_caret, row_compared, row_tilde}}
 use Rattle.nodejs_semver.proofs.npm.comparators.row.Goals as goal
 
 pub returns-in-Caret : goal.returns-in-Caret

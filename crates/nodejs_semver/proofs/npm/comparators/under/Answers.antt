@@ -1,7 +1,5 @@
-use Rattle.std.proofs.Common.{ap, sym, ◌∙◌}
-use Rattle.nodejs_semver.specs.Internal.Readings.{bounds_view}
+use Rattle.nodejs_semver.proofs.{Common.{ap, sym, ◌∙◌}, NpmCommon.bounds_view, Strict.Rows.under_read}
 use Rattle.nodejs_semver.specs.Text.Table as Spans
-use Rattle.nodejs_semver.proofs.Strict.Rows.{under_read}
 use Rattle.nodejs_semver.proofs.npm.comparators.under.Goals as goal
 
 pub returns-then-within : goal.returns-then-within

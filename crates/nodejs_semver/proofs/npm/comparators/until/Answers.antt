@@ -1,5 +1,4 @@
-use Rattle.std.proofs.Common.{sym, ◌∙◌}
-use Rattle.nodejs_semver.proofs.Strict.Rows.{until_common, until_valid}
+use Rattle.nodejs_semver.proofs.{Common.{sym, ◌∙◌}, Strict.Rows.{until_common, until_valid}}
 use Rattle.nodejs_semver.proofs.npm.comparators.until.Goals as goal
 
 pub returns-then-within : goal.returns-then-within

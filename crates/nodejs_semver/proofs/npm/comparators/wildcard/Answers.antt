@@ -1,5 +1,4 @@
-use Rattle.std.proofs.Common.{Some}
-use Rattle.nodejs_semver.proofs.Strict.Rows.{wildcard_above, wildcard_below}
+use Rattle.nodejs_semver.proofs.{Common.Some, Strict.Rows.{wildcard_above, wildcard_below}}
 use Rattle.nodejs_semver.proofs.npm.comparators.wildcard.Goals as goal
 
 pub returns-in-Above : goal.returns-in-Above

@@ -1,6 +1,4 @@
-use Rattle.std.proofs.Common.{◌≡◌, ◌∙◌, None, rules, sym}
-use Rattle.semver_core.specs.declared.TheConstants.{MAX_SAFE_INTEGER}
-use Rattle.nodejs_semver.specs.Internal.NpmStates.{next}
+use Rattle.nodejs_semver.proofs.{Common.{MAX_SAFE_INTEGER, None, rules, sym, ◌∙◌, ◌≡◌}, NpmCommon.next}
 use Rattle.nodejs_semver.proofs.Stopping.Stops.{passed_end, passed_more, passed_none, passed_stop, passed_whole}
 use Rattle.nodejs_semver.proofs.npm.flaws.stop.Goals as goal
 

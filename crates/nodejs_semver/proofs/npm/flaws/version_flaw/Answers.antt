@@ -1,7 +1,4 @@
-use Rattle.std.proofs.Common.{rules, ◌≤◌, length}
-use Rattle.std.specs.Str.{chars}
-use Rattle.semver_core.specs.declared.TheConstants.{MAX_LENGTH, MAX_SAFE_INTEGER}
-use Rattle.nodejs_semver.specs.declared.npm.flaws.Flaw.TheVariants.{At}
+use Rattle.nodejs_semver.proofs.{Common.{MAX_SAFE_INTEGER, length, rules, ◌≤◌}, NpmCommon.{At, MAX_LENGTH, chars}}
 use Rattle.nodejs_semver.proofs.Stopping.Stops.{flaw_none, flaw_only}
 use Rattle.nodejs_semver.proofs.npm.flaws.version_flaw.Goals as goal
 

@@ -1,5 +1,4 @@
-use Rattle.nodejs_semver.proofs.Common.{sym, ◌∙◌, arith, take_rest}
-use Rattle.nodejs_semver.proofs.Strict.HyphenReads.{ends_step, ends_stop}
+use Rattle.nodejs_semver.proofs.{Common.{arith, sym, take_rest, ◌∙◌}, Strict.HyphenReads.{ends_step, ends_stop}}
 use Rattle.nodejs_semver.proofs.npm.hyphens.skip_marks.Goals as goal
 
 pub returns-then-len-eq0 : goal.returns-then-len-eq0

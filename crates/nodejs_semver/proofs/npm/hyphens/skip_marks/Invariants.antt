@@ -1,5 +1,4 @@
-use Rattle.nodejs_semver.proofs.Common.{◌≡◌, length}
-use Rattle.nodejs_semver.specs.Internal.NpmWords.{drop_ends}
+use Rattle.nodejs_semver.proofs.{Common.{length, ◌≡◌}, NpmCommon.drop_ends}
 use Rattle.nodejs_semver.proofs.npm.hyphens.skip_marks.Given as goal
 
 abbrev pub invariant-marks : goal.invariant-marks

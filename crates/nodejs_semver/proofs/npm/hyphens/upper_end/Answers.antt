@@ -1,8 +1,5 @@
-use Rattle.std.proofs.Common.{ap, arith, length, None, ◌∙◌}
-use Rattle.semver_core.specs.declared.TheConstants.{MAX_SAFE_INTEGER}
-use Rattle.nodejs_semver.specs.Internal.NpmParts.{npm_partial_view}
-use Rattle.nodejs_semver.specs.Npm.RangeText.{is_free_upper}
-use Rattle.nodejs_semver.proofs.Strict.HyphenReads.{end_here, end_some, ends_le}
+use Rattle.nodejs_semver.proofs.{Common.{MAX_SAFE_INTEGER, None, ap, arith, length, ◌∙◌}, NpmCommon.is_free_upper}
+use Rattle.nodejs_semver.proofs.{NpmCommon.npm_partial_view, Strict.HyphenReads.{end_here, end_some, ends_le}}
 use Rattle.nodejs_semver.proofs.Strict.WordReads.{partial-le}
 use Rattle.nodejs_semver.proofs.npm.hyphens.upper_end.Goals as goal
 

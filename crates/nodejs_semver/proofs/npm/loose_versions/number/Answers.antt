@@ -1,6 +1,4 @@
-use Rattle.std.proofs.Common.{sym}
-use Rattle.semver_core.specs.declared.TheConstants.{MAX_SAFE_INTEGER}
-use Rattle.nodejs_semver.proofs.NpmTexts.Loose.{number_some}
+use Rattle.nodejs_semver.proofs.{Common.{MAX_SAFE_INTEGER, sym}, NpmTexts.Loose.number_some}
 use Rattle.nodejs_semver.proofs.npm.loose_versions.number.Goals as goal
 
 pub returns : goal.returns

@@ -1,6 +1,4 @@
-use Rattle.std.proofs.Common.{rules}
-use Rattle.semver_core.specs.declared.TheConstants.{MAX_SAFE_INTEGER}
-use Rattle.nodejs_semver.proofs.NpmTexts.Loose.{loose_text_read, loose_text_refused}
+use Rattle.nodejs_semver.proofs.{Common.{MAX_SAFE_INTEGER, rules}, NpmTexts.Loose.{loose_text_read, loose_text_refused}}
 use Rattle.nodejs_semver.proofs.npm.loose_versions.version_loose.Goals as goal
 
 pub returns-in-Some-clause-ok : goal.returns-in-Some-clause-ok

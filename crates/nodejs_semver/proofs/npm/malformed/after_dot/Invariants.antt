@@ -1,5 +1,4 @@
-use Rattle.std.proofs.Common.{◌≡◌, drop}
-use Rattle.nodejs_semver.specs.Npm.Malformed.{after_dot}
+use Rattle.nodejs_semver.proofs.{Common.{drop, ◌≡◌}, NpmCommon.after_dot}
 use Rattle.nodejs_semver.proofs.npm.malformed.after_dot.Given as goal
 
 abbrev pub invariant-bytes : goal.invariant-bytes

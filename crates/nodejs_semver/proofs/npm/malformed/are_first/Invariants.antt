@@ -1,5 +1,4 @@
-use Rattle.std.proofs.Common.{◌≡◌, drop}
-use Rattle.nodejs_semver.specs.Npm.Malformed.{are_first}
+use Rattle.nodejs_semver.proofs.{Common.{drop, ◌≡◌}, NpmCommon.are_first}
 use Rattle.nodejs_semver.proofs.npm.malformed.are_first.Given as goal
 
 abbrev pub invariant-bytes : goal.invariant-bytes

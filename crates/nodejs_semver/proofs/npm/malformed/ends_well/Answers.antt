@@ -1,5 +1,9 @@
-use Rattle.nodejs_semver.proofs.Strict.Malformed.{last_begins}
+use Rattle.nodejs_semver.proofs.{Common.{arith}, Strict.Malformed.last-is}
+use Rattle.nodejs_semver.specs.Npm.Malformed as Text
 use Rattle.nodejs_semver.proofs.npm.malformed.ends_well.Goals as goal
 
-pub returns : goal.returns
-returns c = last_begins _ c.args.word.now c.last.result.now c.begins_with_last.result c.last.ensures c.begins_with_last.ensures
+pub returns-in-len1-up : goal.returns-in-len1-up
+returns-in-len1-up c = grind (arith, last-is Text.is_last c.args.word.now)
+
+pub returns-in_default-2 : goal.returns-in_default-2
+returns-in_default-2 c = grind (arith, last-is Text.is_last c.args.word.now)

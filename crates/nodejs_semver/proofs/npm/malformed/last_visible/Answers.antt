@@ -1,7 +1,6 @@
-use Rattle.nodejs_semver.proofs.Common.{◌≡◌, ◌<◌, arith, sym, take_rest, ◌∙◌}
-use Rattle.nodejs_semver.proofs.Strict.Malformed.{last_all, last_found}
-use Rattle.nodejs_semver.proofs.npm.malformed.last_visible.Goals as goal
+use Rattle.nodejs_semver.proofs.{Common.{arith, sym, take_rest, ◌<◌, ◌∙◌, ◌≡◌}, Strict.Malformed.{last_all, last_found}}
 use Rattle.nodejs_semver.proofs.npm.malformed.last_visible.Goals.{else-visible-test, then-visible-test+else-is_visible}
+use Rattle.nodejs_semver.proofs.npm.malformed.last_visible.Goals as goal
 
 pub returns : goal.returns
 returns c = take_rest c.args.text.now c.visible.start ∙ elim c.visible-test.branch [

@@ -1,6 +1,4 @@
-use Rattle.std.proofs.Common.{◌≡◌, ◌≤◌, drop, length, true}
-use Rattle.std.specs.List.{list_all}
-use Rattle.nodejs_semver.specs.Npm.Malformed.{is_visible}
+use Rattle.nodejs_semver.proofs.{Common.{drop, length, list_all, true, ◌≡◌, ◌≤◌}, NpmCommon.is_visible}
 use Rattle.nodejs_semver.proofs.npm.malformed.last_visible.Given as goal
 
 abbrev pub invariant-visible : goal.invariant-visible

@@ -1,6 +1,4 @@
-use Rattle.std.proofs.Common.{◌≡◌, ◌+◌, drop}
-use Rattle.std.specs.List.{prefix_len}
-use Rattle.nodejs_semver.specs.Npm.Malformed.{is_visible}
+use Rattle.nodejs_semver.proofs.{Common.{drop, prefix_len, ◌+◌, ◌≡◌}, NpmCommon.is_visible}
 use Rattle.nodejs_semver.proofs.npm.malformed.visible_len.Given as goal
 
 abbrev pub invariant-visible : goal.invariant-visible

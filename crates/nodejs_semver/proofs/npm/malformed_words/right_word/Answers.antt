@@ -1,8 +1,5 @@
-use Rattle.nodejs_semver.proofs.Common.{ℕ, List, false, sym}
-use Rattle.nodejs_semver.specs.Internal.NpmViews.{signed_view}
-use Rattle.nodejs_semver.specs.Internal.NpmWords.{Signed}
-use Rattle.nodejs_semver.proofs.Stopping.MalformedWords.{invalid-word, no-word, right-word}
-use Rattle.nodejs_semver.proofs.Strict.Normal.{word-normal}
+use Rattle.nodejs_semver.proofs.{Common.{List, false, sym, ℕ}, NpmCommon.{Signed, signed_view}}
+use Rattle.nodejs_semver.proofs.{Stopping.MalformedWords.{invalid-word, no-word, right-word}, Strict.Normal.word-normal}
 use Rattle.nodejs_semver.proofs.npm.malformed_words.right_word.Goals as goal
 
 pub returns-in_err-word-clause-none : goal.returns-in_err-word-clause-none

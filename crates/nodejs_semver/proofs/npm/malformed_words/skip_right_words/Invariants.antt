@@ -1,6 +1,4 @@
-use Rattle.std.specs.Str.{IsUtf8}
-use Rattle.nodejs_semver.proofs.Common.{MAX_SAFE_INTEGER, length}
-use Rattle.nodejs_semver.specs.Npm.MalformedWords.{IsLeft}
+use Rattle.nodejs_semver.proofs.{Common.{IsUtf8, MAX_SAFE_INTEGER, length}, NpmCommon.IsLeft}
 use Rattle.nodejs_semver.proofs.npm.malformed_words.skip_right_words.Given as goal
 
 abbrev pub invariant-words : goal.invariant-words

@@ -1,7 +1,5 @@
-use Rattle.std.proofs.Common.{eqb, rules, tests}
-use Rattle.std.proofs.lemmas.Iterator.Search.{all_from_yields_List}
-use Rattle.std.proofs.lemmas.Iterator.Splits.{YieldsList-from_slice_split}
-use Rattle.nodejs_semver.specs.Npm.RangeText.{is_short_identifier}
+use Rattle.nodejs_semver.proofs.{Common.{eqb, rules, tests}, NpmCommon.{YieldsList-from_slice_split, all_from_yields_List}}
+use Rattle.nodejs_semver.proofs.NpmCommon.{is_short_identifier}
 use Rattle.nodejs_semver.proofs.npm.places.are_short_identifiers.Goals as goal
 
 pub returns : goal.returns

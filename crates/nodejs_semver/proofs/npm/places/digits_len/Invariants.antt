@@ -1,6 +1,4 @@
-use Rattle.std.proofs.Common.{◌≡◌, ◌+◌, drop}
-use Rattle.std.specs.Char.{is_ascii_digit}
-use Rattle.std.specs.List.{prefix_len}
+use Rattle.nodejs_semver.proofs.Common.{drop, is_ascii_digit, prefix_len, ◌+◌, ◌≡◌}
 use Rattle.nodejs_semver.proofs.npm.places.digits_len.Given as goal
 
 abbrev pub invariant-digits : goal.invariant-digits

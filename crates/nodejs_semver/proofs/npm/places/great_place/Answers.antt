@@ -1,5 +1,4 @@
-use Rattle.std.proofs.Common.{arith, sym}
-use Rattle.nodejs_semver.proofs.Strict.Limits.{great_placed}
+use Rattle.nodejs_semver.proofs.{Common.{arith, sym}, Strict.Limits.great_placed}
 use Rattle.nodejs_semver.proofs.npm.places.great_place.Goals as goal
 
 pub returns : goal.returns

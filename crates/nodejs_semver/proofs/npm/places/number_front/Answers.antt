@@ -1,6 +1,4 @@
-use Rattle.std.proofs.Common.{sym}
-use Rattle.semver_core.specs.declared.TheConstants.{MAX_SAFE_INTEGER}
-use Rattle.nodejs_semver.proofs.Strict.Numbers.{front_there}
+use Rattle.nodejs_semver.proofs.{Common.{MAX_SAFE_INTEGER, sym}, Strict.Numbers.front_there}
 use Rattle.nodejs_semver.proofs.npm.places.number_front.Goals as goal
 
 pub returns : goal.returns

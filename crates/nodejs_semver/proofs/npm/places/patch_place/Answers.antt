@@ -1,6 +1,5 @@
-use Rattle.std.proofs.Common.{arith, sym, ◌∙◌}
+use Rattle.nodejs_semver.proofs.{Common.{arith, sym, ◌∙◌}, Strict.Limits.{patch_cut, patch_whole}}
 use Rattle.nodejs_semver.specs.Internal.NpmViews.{place_front_view}
-use Rattle.nodejs_semver.proofs.Strict.Limits.{patch_cut, patch_whole}
 use Rattle.nodejs_semver.proofs.npm.places.patch_place.Goals as goal
 
 pub returns-then-not-shares_digits : goal.returns-then-not-shares_digits

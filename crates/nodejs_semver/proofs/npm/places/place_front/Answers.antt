@@ -1,5 +1,4 @@
-use Rattle.nodejs_semver.proofs.Common.{arith, common_steps, take_rest}
-use Rattle.nodejs_semver.specs.Internal.NpmWords.{place_front}
+use Rattle.nodejs_semver.proofs.{Common.{arith, common_steps, take_rest}, NpmCommon.place_front}
 use Rattle.nodejs_semver.proofs.npm.places.place_front.Goals as goal
 
 pub returns-in-None : goal.returns-in-None

@@ -1,7 +1,5 @@
-use Rattle.std.proofs.Common.{◌≡◌, None, arith, false, refl, rules, true}
-use Rattle.std.specs.Option.{is_none}
-use Rattle.nodejs_semver.specs.Internal.Readings.{part_view}
-use Rattle.nodejs_semver.proofs.Stopping.Ranges.{flawed, right_here, unflawed, wrong_here}
+use Rattle.nodejs_semver.proofs.{Common.{None, arith, false, refl, rules, true, ◌≡◌}, NpmCommon.is_none, Stopping.Ranges.flawed}
+use Rattle.nodejs_semver.{proofs.Stopping.Ranges.{right_here, unflawed, wrong_here}, specs.Internal.Readings.part_view}
 use Rattle.nodejs_semver.proofs.npm.range_flaws.range_flaw.Goals as goal
 
 pub returns-then-is_none-clause-flaw : goal.returns-then-is_none-clause-flaw

@@ -1,6 +1,4 @@
-use Rattle.nodejs_semver.specs.Internal.PartFronts.{left_over}
-use Rattle.nodejs_semver.specs.Internal.Readings.{rest_view}
-use Rattle.nodejs_semver.proofs.Stopping.Ranges.{Passed}
+use Rattle.nodejs_semver.proofs.{Common.rest_view, NpmCommon.left_over, Stopping.Ranges.Passed}
 use Rattle.nodejs_semver.proofs.npm.range_flaws.range_flaw.Given as goal
 
 abbrev pub invariant-pieces : goal.invariant-pieces

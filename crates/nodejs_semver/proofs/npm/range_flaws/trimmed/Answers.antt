@@ -1,5 +1,4 @@
-use Rattle.std.proofs.lemmas.Str.{IsCharBoundary-start}
-use Rattle.nodejs_semver.proofs.Stopping.Ranges.{trimmed_fits}
+use Rattle.{nodejs_semver.proofs.Stopping.Ranges.trimmed_fits, std.proofs.lemmas.Str.IsCharBoundary-start}
 use Rattle.nodejs_semver.proofs.npm.range_flaws.trimmed.Goals as goal
 
 pub skip_whitespace-requires : goal.skip_whitespace-requires

@@ -1,7 +1,5 @@
-use Rattle.std.proofs.Common.{Err, rules}
-use Rattle.std.specs.Prelude.{⊤}
-use Rattle.nodejs_semver.specs.Internal.Readings.{rest_view}
-use Rattle.nodejs_semver.proofs.Strict.RangeReads.{read-all, read-nothing, read-part, read-refused}
+use Rattle.nodejs_semver.proofs.{Common.{Err, rest_view, rules, ⊤}, Strict.RangeReads.{read-all, read-nothing, read-part}}
+use Rattle.nodejs_semver.proofs.Strict.RangeReads.{read-refused}
 use Rattle.nodejs_semver.proofs.npm.ranges.intervals.Goals as goal
 
 pub returns-in_err-is_some-clause-refused :

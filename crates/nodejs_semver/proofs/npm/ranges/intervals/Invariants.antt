@@ -1,6 +1,4 @@
-use Rattle.nodejs_semver.specs.Internal.PartFronts.{left_over}
-use Rattle.nodejs_semver.specs.Internal.Readings.{rest_view}
-use Rattle.nodejs_semver.proofs.Strict.RangeReads.{AreReadTo}
+use Rattle.nodejs_semver.proofs.{Common.rest_view, NpmCommon.left_over, Strict.RangeReads.AreReadTo}
 use Rattle.nodejs_semver.proofs.npm.ranges.intervals.Given as goal
 
 abbrev pub invariant-parts : goal.invariant-parts

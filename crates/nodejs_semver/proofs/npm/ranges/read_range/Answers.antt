@@ -1,6 +1,4 @@
-use Rattle.std.proofs.Common.{Err, rules}
-use Rattle.std.specs.Prelude.{⊤}
-use Rattle.nodejs_semver.proofs.Strict.RangeReads.{all-spans, memory-pieces, range-read, refused-none}
+use Rattle.nodejs_semver.proofs.{Common.{Err, rules, ⊤}, Strict.RangeReads.{all-spans, memory-pieces, range-read, refused-none}}
 use Rattle.nodejs_semver.proofs.npm.ranges.read_range.Goals as goal
 
 pub returns-in_err-found-clause-refused : goal.returns-in_err-found-clause-refused

@@ -1,8 +1,6 @@
-use Rattle.nodejs_semver.proofs.Common.{ℕ, List, sym, ◌∙◌}
-use Rattle.nodejs_semver.specs.Internal.NpmViews.{signed_view}
-use Rattle.nodejs_semver.specs.Internal.NpmWords.{Signed}
-use Rattle.nodejs_semver.proofs.Strict.Normal.{word-normal}
-use Rattle.nodejs_semver.proofs.Strict.WordSteps.{empty-length, word-shorter, words-begin, words-end, words-invalid, words-next, words-none}
+use Rattle.nodejs_semver.proofs.{Common.{List, sym, ℕ, ◌∙◌}, NpmCommon.{Signed, signed_view}, Strict.Normal.word-normal}
+use Rattle.nodejs_semver.proofs.Strict.WordSteps.{empty-length, word-shorter, words-begin, words-end, words-invalid, words-next}
+use Rattle.nodejs_semver.proofs.Strict.WordSteps.{words-none}
 use Rattle.nodejs_semver.proofs.npm.ranges.words.Goals as goal
 
 pub words-init : goal.words-init

@@ -1,5 +1,4 @@
-use Rattle.std.proofs.Common.{◌≡◌, ◌≤◌, ◌++◌, filter, take}
-use Rattle.nodejs_semver.specs.Internal.Questions.{is_used}
+use Rattle.nodejs_semver.{proofs.Common.{filter, take, ◌++◌, ◌≡◌, ◌≤◌}, specs.Internal.Questions.is_used}
 use Rattle.nodejs_semver.proofs.npm.simplified.push_used.Given as goal
 
 abbrev pub invariant-loop-interval : goal.invariant-loop-interval

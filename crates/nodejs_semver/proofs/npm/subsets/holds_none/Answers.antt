@@ -1,7 +1,6 @@
-use Rattle.nodejs_semver.proofs.Common.{true, None, Some, accepts}
-use Rattle.nodejs_semver.proofs.Questions.Subsets.{none_in}
-use Rattle.nodejs_semver.proofs.npm.subsets.holds_none.Goals as goal
+use Rattle.nodejs_semver.proofs.{Common.{None, Some, accepts, true}, Questions.Subsets.none_in}
 use Rattle.nodejs_semver.proofs.npm.subsets.holds_none.Goals.{in-None, in-Some}
+use Rattle.nodejs_semver.proofs.npm.subsets.holds_none.Goals as goal
 
 pub returns : goal.returns
 returns g c = elim c.match-branch-2.branch [

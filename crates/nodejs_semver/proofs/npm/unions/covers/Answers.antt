@@ -1,5 +1,4 @@
-use Rattle.std.proofs.Common.{◌∙◌}
-use Rattle.nodejs_semver.proofs.Questions.Unions.{covers-values}
+use Rattle.nodejs_semver.proofs.{Common.◌∙◌, Questions.Unions.covers-values}
 use Rattle.nodejs_semver.proofs.npm.unions.covers.Goals as goal
 
 pub returns : goal.returns

@@ -1,5 +1,4 @@
-use Rattle.std.proofs.Common.{◌≡◌, ◌≤◌, ◌++◌, filter, not, take}
-use Rattle.nodejs_semver.specs.Internal.Questions.{is_said}
+use Rattle.nodejs_semver.{proofs.Common.{filter, not, take, ◌++◌, ◌≡◌, ◌≤◌}, specs.Internal.Questions.is_said}
 use Rattle.nodejs_semver.proofs.npm.unions.push_others.Given as goal
 
 abbrev pub invariant-loop-other : goal.invariant-loop-other

@@ -1,8 +1,5 @@
-use Rattle.std.proofs.lemmas.Result.{IfErr-weaker}
-use Rattle.semver_core.specs.Failures.{NoValue}
-use Rattle.semver_core.specs.declared.TheConstants.{MAX_SAFE_INTEGER}
-use Rattle.nodejs_semver.specs.Npm.VersionText.{IsClean, IsVersionText}
-use Rattle.nodejs_semver.proofs.Strict.VersionLaw.{clean_refused}
+use Rattle.nodejs_semver.proofs.{Common.MAX_SAFE_INTEGER, NpmCommon.{IsClean, IsVersionText, NoValue}}
+use Rattle.{nodejs_semver.proofs.Strict.VersionLaw.clean_refused, std.proofs.lemmas.Result.IfErr-weaker}
 use Rattle.nodejs_semver.proofs.npm.versions.clean.Goals as goal
 
 pub returns-clause-refused : goal.returns-clause-refused

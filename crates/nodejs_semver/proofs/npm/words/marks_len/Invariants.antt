@@ -1,5 +1,4 @@
-use Rattle.std.proofs.Common.{◌≡◌, ◌+◌, drop}
-use Rattle.nodejs_semver.specs.Internal.NpmWords.{marks_len}
+use Rattle.nodejs_semver.proofs.{Common.{drop, ◌+◌, ◌≡◌}, NpmCommon.marks_len}
 use Rattle.nodejs_semver.proofs.npm.words.marks_len.Given as goal
 
 abbrev pub invariant-marks : goal.invariant-marks

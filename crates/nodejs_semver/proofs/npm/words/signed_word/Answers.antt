@@ -1,6 +1,4 @@
-use Rattle.std.proofs.Common.{◌∙◌, Some, None}
-use Rattle.semver_core.specs.declared.TheConstants.{MAX_SAFE_INTEGER}
-use Rattle.nodejs_semver.specs.Internal.NpmParts.{npm_partial_view, npm_sign_view}
+use Rattle.nodejs_semver.proofs.{Common.{MAX_SAFE_INTEGER, None, Some, ◌∙◌}, NpmCommon.{npm_partial_view, npm_sign_view}}
 use Rattle.nodejs_semver.proofs.Strict.WordReads.{behind-le, word_here}
 use Rattle.nodejs_semver.proofs.npm.words.signed_word.Goals as goal
 

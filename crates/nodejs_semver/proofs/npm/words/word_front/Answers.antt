@@ -1,6 +1,4 @@
-use Rattle.std.proofs.Common.{◌∙◌, sym}
-use Rattle.nodejs_semver.specs.Internal.NpmViews.{signed_front_view}
-use Rattle.nodejs_semver.proofs.Strict.WordReads.{any-ignored, any-signed}
+use Rattle.nodejs_semver.proofs.{Common.{sym, ◌∙◌}, NpmCommon.signed_front_view, Strict.WordReads.{any-ignored, any-signed}}
 use Rattle.nodejs_semver.proofs.npm.words.word_front.Goals as goal
 
 pub returns-then-is_some : goal.returns-then-is_some

@@ -1,7 +1,7 @@
-use Rattle.nodejs_semver.proofs.Common.{IsMin, accepts, false, map, spans_of, take, value_of}
+use Rattle.nodejs_semver.proofs.Common.{IsMin, accepts, map, spans_of, take, value_of}
 use Rattle.nodejs_semver.proofs.range.best.least.Given as goal
 
 abbrev pub invariant-loop-version : goal.invariant-loop-version
 invariant-loop-version g l =
-    IsMin (λ v. accepts (spans_of g.V.Versioned.value l.intervals) v false)
+    IsMin (λ v. accepts (spans_of g.V.Versioned.value l.intervals) v l.include)
     (map g.W.Versioned.value (take l.version-index l.versions)) (value_of g.W.Versioned.value l.best)

@@ -1,9 +1,5 @@
-use Rattle.std.proofs.Common.{Some, refl, ◌∙◌}
-use Rattle.nodejs_semver.specs.Internal.NpmMeaning.{AreRead}
-use Rattle.nodejs_semver.specs.Internal.NpmParts.{npm_partial_view}
-use Rattle.nodejs_semver.specs.Npm.Table.{hyphen_lower}
-use Rattle.nodejs_semver.proofs.Strict.Bare.{lower-bare}
-use Rattle.nodejs_semver.proofs.Strict.Narrowing.{narrowed_read}
+use Rattle.nodejs_semver.proofs.{Common.{Some, refl, ◌∙◌}, NpmCommon.{AreRead, hyphen_lower, npm_partial_view}}
+use Rattle.nodejs_semver.proofs.Strict.{Bare.lower-bare, Narrowing.narrowed_read}
 use Rattle.nodejs_semver.proofs.npm.alternatives.Alternative.meet_lower.Goals as goal
 
 pub returns-clause-narrowed : goal.returns-clause-narrowed
