@@ -1,22 +1,18 @@
-"""A crate in which functions have no bodies: each is a single `unreachable!()`, whose goal is a hole. A function is checked against the
-contracts of those that it calls, and not against their bodies. So a check of some functions in such a crate leaves the same goals of
-theirs open as one in the crate as it stands, and nothing else is proved for it.
-
-For the crates above it a library is made of contracts alone: there the goal of each such body follows from the call of a function that
-is declared and stands nowhere."""
+"""A crate in which functions have no bodies: each calls a function that is declared and stands nowhere, from whose contract all follows. A
+function is checked against the contracts of those that it calls, and not against their bodies. So a check of some functions in such a
+crate leaves the same goals of theirs open as one in the crate as it stands, and nothing else is to be proved for it. A library for the
+crates above is made of contracts alone in the same way."""
 import glob
 import os
 import re
 
 from edits import HEADER, TOP, Place, text_of
 
-BODY = "unreachable!()"
-ASSUMED = "let _ = crate::never(0);\n{}    unreachable!()"
+BODY = "let _ = crate::never(0);\n{}    unreachable!()"
 # What calls a function, or imports some.
 NAMED = re.compile(r"(?<!fn )\b\w+\(|^(?:pub(?:\([^)]*\))? )?use [^;]*;", re.M)
 TACTIC = re.compile(r"^ *#\[tactic\((?:[^\n]*|\n.*?\n *)\)\]\n", re.M | re.S)
 NEVER = 'unsafe extern "C" {\n    pub(crate) safe fn never(x: u8) -> u8\n        ensures { ⊥ };\n}\n'
-ANSWER = "use Rattle.{}.Goals as goal\n\npub unreachable-requires : goal.unreachable-requires\nunreachable-requires = ?\n"
 
 
 def body_at(lines, head, indent, heads):
@@ -35,7 +31,7 @@ def body_at(lines, head, indent, heads):
     return None
 
 
-def without_bodies(text, crate, folder, file, kept, body_of=lambda indent: BODY, named=None):
+def without_bodies(text, crate, folder, file, kept, named=None):
     """Returns a file's text without the bodies of its functions, and these. Those of the places in kept stay, and so do constant functions,
     which types may need, and methods of traits with arguments, whose proofs stand in folders of other names. If names are given that are still
     called or imported, private functions of a module with other names go, and the attributes that say how the others are proved."""
@@ -58,16 +54,16 @@ def without_bodies(text, crate, folder, file, kept, body_of=lambda indent: BODY,
                     made[above:] = TACTIC.sub("", "\n".join(made[above:])).split("\n")
                 if named is None or heads[at][1] or "pub" in heads[at][0] or place.name in named:
                     indent, is_empty = heads[at][1], body[0] == body[1]
-                    made += [*lines[at + 1 : body[0] + (not is_empty)], *[f"{indent}{{"] * is_empty, f"{indent}    {body_of(indent)}", f"{indent}}}"]
+                    made += [*lines[at + 1 : body[0] + (not is_empty)], *[f"{indent}{{"] * is_empty, f"{indent}    {BODY.format(indent)}", f"{indent}}}"]
                 else:
                     # Its head goes, with its attributes and comment.
                     del made[above:]
     return "\n".join(made), places
 
 
-def proofs_of(place):
-    """The folder of the proof files of a function."""
-    return "/".join(filter(None, ["proofs", *place.module, f"{place.owner}{place.trait}", place.name]))
+def root_of(folder):
+    """The root file of a crate, by its path in it."""
+    return next(it for it in ("src/main.rt", "src/lib.rt") if os.path.exists(f"{folder}/{it}"))
 
 
 def gone(folder, pattern):
@@ -82,9 +78,9 @@ def bodiless(crate, folder, texts, kept):
     for path in sorted(glob.glob(f"{folder}/src/**/*.rt", recursive=True)):
         file = os.path.relpath(path, folder)
         texts[file], places = without_bodies(texts.get(file) or text_of(path), crate, folder, file, kept)
-        for proofs in map(proofs_of, places):
-            texts.update(gone(folder, proofs))
-            texts[f"{proofs}/Answers.antt"] = ANSWER.format(f"{crate}.{proofs.replace('/', '.')}")
+        for it in places:
+            texts.update(gone(folder, f"proofs/{it.proofs()}"))
+    texts[root_of(folder)] += NEVER
     return texts
 
 
@@ -129,13 +125,13 @@ def contracts(crate, folder):
     """Returns the texts of the files of a library of which the contracts alone are left; None for a file that goes. Private functions go
     that nothing calls or imports any more, and lemmas that nothing cites any more."""
     files = {it: text for it, text in all_texts(folder).items() if it.endswith(".rt")}
-    bare = [without_bodies(text, crate, folder, file, (), ASSUMED.format)[0] for file, text in files.items()]
+    bare = [without_bodies(text, crate, folder, file, ())[0] for file, text in files.items()]
     named = {name for text in bare for it in NAMED.finditer(text) for name in re.findall(r"\w+", it[0])}
     # A folder named with a plus has the proofs of several functions.
     texts = gone(folder, "proofs/**/+*")
     for file, text in files.items():
-        texts[file], places = without_bodies(text, crate, folder, file, (), ASSUMED.format, named)
+        texts[file], places = without_bodies(text, crate, folder, file, (), named)
         for it in places:
-            texts.update(gone(folder, proofs_of(it)))
-    texts["src/lib.rt"] += NEVER
+            texts.update(gone(folder, f"proofs/{it.proofs()}"))
+    texts[root_of(folder)] += NEVER
     return without_lemmas(crate, folder, texts)

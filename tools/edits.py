@@ -1,8 +1,10 @@
 """The wrong bodies of the crates: files crates/NAME/wrong_bodies/CALL__MISTAKE.edit, and their rows in docs/WRONG_BODIES.md.
 
 An edit is a file of lines 'file: PATH', 'old: TEXT' and 'new: TEXT'. Each old text stands in its file once, and the new one takes its
-place; a further pair applies to what the earlier ones made. A line 'open: FUNCTION: GOAL NAMES' names a goal that the body leaves open,
-as the prover offers it: the folder of the function's proof files, and the goal with the names of what it is about."""
+place; a further pair applies to what the earlier ones made. A line 'also: FUNCTION: GOAL' names a goal that the body leaves open beside
+those by which it is rejected, and that need not be tried: the folder of the function's proof files, and the goal."""
+import copy
+import functools
 import glob
 import os
 import re
@@ -12,6 +14,8 @@ import subprocess
 TOP = os.path.realpath(os.path.join(os.path.dirname(os.path.realpath(__file__)), ".."))
 PAGE = "docs/WRONG_BODIES.md"
 HEADER = re.compile(r"^( *)(?:#\[[^\n]*\] )?(?:pub(?:\([^)]*\))? )?(?:final )?(?:const )?(?:unsafe )?(?:extern \"C\" )?fn (\w+)", re.M)
+# What the name of a twin ends with: a function beside another one, with a body of its own.
+TWIN = re.compile(r"_twin\d+\b")
 BLOCK = re.compile(r"^(?:impl\b.*?(?=\{|where|$)|(?:pub(?:\([^)]*\))? )?trait \w+)", re.M)
 
 
@@ -23,6 +27,13 @@ def text_of(path):
 def write(path, text):
     with open(path, "w", encoding="utf-8") as file:
         file.write(text)
+
+
+def bounds_of(text, head):
+    """Returns where the item of a function begins, with its attributes, and where it ends, by the match of its head in a text in rt fmt's
+    layout. An item begins behind a blank line, or at the front of a block."""
+    end = re.search(rf"^{head[1]}}}$", text[head.start() :], re.M)
+    return max(text.rfind(it, 0, head.start()) for it in ("\n\n", "{\n")) + 2, head.start() + end.end() if end else len(text)
 
 
 def copied(room):
@@ -72,6 +83,15 @@ class Place:
     def __str__(self):
         return "::".join(filter(None, [*self.module, f"{self.owner}{self.trait}", self.name]))
 
+    def head_in(self, text, folder, file):
+        """Returns the match of the head of this function in the text of a file, or None."""
+        heads = (it for it in HEADER.finditer(text) if it[2] == self.name)
+        return next((it for it in heads if Place(self.crate, folder, file, text[: it.end()]) == self), None)
+
+    def proofs(self):
+        """The folder of the proof files of the function, below proofs/."""
+        return "/".join(filter(None, [*self.module, f"{self.owner}{self.trait}", self.name]))
+
     def only(self):
         """The word for `rt check --only`: the function, or the impl block of a trait."""
         words = [self.crate, *self.module, f"{self.owner}{self.trait}"]
@@ -89,7 +109,7 @@ class Edit:
 
     def __init__(self, crate, path):
         self.crate, self.path, self.name = crate, path, os.path.basename(path)[: -len(".edit")]
-        self.pairs, self.places, self.open, file, old = [], [], [], "", ""
+        self.pairs, self.places, self.also, file, old = [], [], [], "", ""
         for line in filter(None, text_of(path).splitlines()):
             key, _, value = line.partition(": ")
             if key == "file":
@@ -98,8 +118,8 @@ class Edit:
                 old = value
             elif key.rstrip(":") == "new":
                 self.pairs.append((file, old, value))
-            elif key == "open":
-                self.open.append(tuple(value.split(": ")))
+            elif key == "also":
+                self.also.append(tuple(value.split(": ")))
         texts = {}
         for file, old, new in self.pairs:
             text = texts.setdefault(file, text_of(f"{self.folder(TOP)}/{file}"))
@@ -112,8 +132,18 @@ class Edit:
     def __str__(self):
         return f"{self.crate}/{self.name}"
 
+    def __eq__(self, other):
+        return str(self) == str(other)
+
+    def __hash__(self):
+        return hash(str(self))
+
     def folder(self, top):
         return f"{top}/crates/{self.crate}"
+
+    def holes(self, place):
+        """Returns the goals of a function that the body leaves open too, and that need not be tried."""
+        return [goal for folder, goal in self.also if folder == place.proofs()]
 
     def place_of(self, file, text, old):
         """The function that a text stands in, or None where it stands beside the functions."""
@@ -132,6 +162,54 @@ class Edit:
                 return None
             texts[file] = texts[file].replace(old, new)
         return texts
+
+    def changes_head(self):
+        """Whether the edit changes the head of a function, which its callers see."""
+        return any(HEADER.match(new) for _, _, new in self.pairs)
+
+    def beside(self, texts, folder, number):
+        """Returns this edit as one of a twin of its function, and the texts with the twin behind that function: what has the edited body
+        under a name of its own, with proof files of its own. None where a twin would not be the same but for its name: for a method of a
+        trait, a function that calls itself, one that a definition or a lemma names, and an edit of more than one function or file."""
+        files, place = {file for file, _, _ in self.pairs}, self.places[0] if len(self.places) == 1 else None
+        if not place or place.trait or len(files) > 1 or modules_of(place).search(beside_functions(folder)):
+            return None
+        file, edited = *files, self.applied({}, folder)
+        head = place.head_in(edited[file], folder, file)
+        text = texts.get(file) or text_of(f"{folder}/{file}")
+        other = place.head_in(text, folder, file)
+        begin, end = bounds_of(edited[file], head) if head else (0, 0)
+        as_it_is = text_of(f"{folder}/{file}")
+        is_within = as_it_is.startswith(edited[file][:begin]) and as_it_is.endswith(edited[file][end:])
+        if not head or not other or not is_within or os.path.isdir(f"{folder}/proofs/{os.path.dirname(place.proofs())}/+{place.name}"):
+            return None
+        twin, it = copy.copy(place), copy.copy(self)
+        twin.name, it.places = f"{place.name}_twin{number}", [twin]
+        it.also = [(twin.proofs() if at == place.proofs() else at, goal) for at, goal in self.also]
+        item = f"{edited[file][begin : head.start(2)]}{twin.name}{edited[file][head.end(2) : end]}"
+        behind = bounds_of(text, other)[1]
+        return it, {**texts, file: f"{text[:behind]}\n\n{item}{text[behind:]}", **twin_proofs(folder, place, twin)}
+
+
+def modules_of(place):
+    """What names the modules that the prover makes of a function."""
+    return re.compile(rf"\b(proofs|contracts)\.{re.escape(place.proofs().replace('/', '.'))}(?![\w-])")
+
+
+@functools.lru_cache(maxsize=None)
+def beside_functions(folder):
+    """The text of the definitions and lemmas of a crate: of all its files of antt but the proof files of functions."""
+    paths = [path for part in ("specs", "proofs") for path in glob.glob(f"{folder}/{part}/**/*.antt", recursive=True)]
+    return "\n".join(text_of(it) for it in paths if os.path.basename(it) not in ("Invariants.antt", "Answers.antt", "Proof.antt"))
+
+
+def twin_proofs(folder, place, twin):
+    """Returns the proof files of a function, by their paths in the crate, as those of its twin."""
+    found, home = {}, f"{folder}/proofs/{place.proofs()}"
+    for path in glob.glob(f"{home}/**/*.antt", recursive=True):
+        file = f"proofs/{twin.proofs()}/{os.path.relpath(path, home)}"
+        found[file] = modules_of(place).sub(rf"\1.{twin.proofs().replace('/', '.')}", text_of(path))
+    return found
 
 
 def edits():

@@ -12,7 +12,7 @@ import threading
 import time
 
 import edits
-from bodiless import contracts
+from bodiless import contracts, root_of
 from edits import TOP, text_of
 
 # The file to which the gate writes what `rt ci` says, beside which it runs these tools.
@@ -52,8 +52,7 @@ class Crate:
 
     def words(self, command, folder, libraries):
         """Returns the words of the prover's command for the crate in a folder, over libraries that stand in another one."""
-        root = next(it for it in ("src/main.rt", "src/lib.rt") if os.path.exists(f"{folder}/{it}"))
-        words = [f"{kit()}/bin/rattle", command, "--crate-name", self.name, root, "-L", f"dependency={kit()}/rlibs", "-L", f"dependency={libraries}"]
+        words = [f"{kit()}/bin/rattle", command, "--crate-name", self.name, root_of(folder), "-L", f"dependency={kit()}/rlibs", "-L", f"dependency={libraries}"]
         for it in self.of_kit:
             words += ["--extern", f"{it}={kit()}/rlibs/{it}.rlib"]
         for it in self.deps:
