@@ -55,41 +55,31 @@ fn common_interval<'a>(first: Bounds<'a>, second: Bounds<'a>) -> Option<Interval
 // Adds what two comparisons have in common, where that is an interval.
 #[cold]
 #[inline(never)]
-fn push_common<'a, S: Found<'a>>(
-    first: Bounds<'a>,
-    second: Bounds<'a>,
-    found: &mut S,
-) -> Allocated<bool>
-    ensures added { let both = Spec.both_of (bounds_view first.entry) (bounds_view second.entry) in
+fn push_common<'a, S: Found<'a>>(one: Bounds<'a>, two: Bounds<'a>, found: &mut S) -> Allocated<bool>
+    ensures added { let both = Spec.both_of (bounds_view one.entry) (bounds_view two.entry) in
         IfOk result (λ there. both_view there (S.items found.new)
         ≡ Spec.pushed (S.items found.old) both) }
     ensures full { OnErr result (S.room ≤ length (S.items found.old)) }
 {
-    match common_interval(first, second) {
-        Some(interval) => {
-            found.add(interval)?;
-            Ok(true)
-        }
-        None => Ok(false),
-    }
+    let Some(interval) = common_interval(one, two) else {
+        return Ok(false);
+    };
+    found.add(interval)?;
+    Ok(true)
 }
 
 // Adds what two comparisons have in common, where that is an interval. Mostly the first one has a
 // lower bound and the second an upper one.
 #[tactic(auto, using(crate::proofs::Everyday::Parts::half_open))]
-fn push_both<'a, S: Found<'a>>(
-    first: Bounds<'a>,
-    second: Bounds<'a>,
-    found: &mut S,
-) -> Allocated<bool>
-    ensures added { let both = Spec.both_of (bounds_view first.entry) (bounds_view second.entry) in
+fn push_both<'a, S: Found<'a>>(one: Bounds<'a>, two: Bounds<'a>, found: &mut S) -> Allocated<bool>
+    ensures added { let both = Spec.both_of (bounds_view one.entry) (bounds_view two.entry) in
         IfOk result (λ there. both_view there (S.items found.new)
         ≡ Spec.pushed (S.items found.old) both) }
     ensures full { OnErr result (S.room ≤ length (S.items found.old)) }
 {
-    match (&first.upper, &second.lower) {
-        (Bound::Unbounded, Bound::Unbounded) => { push_between(first.lower, second.upper, found) }
-        _ => push_common(first, second, found),
+    match (&one.upper, &two.lower) {
+        (Bound::Unbounded, Bound::Unbounded) => { push_between(one.lower, two.upper, found) }
+        _ => push_common(one, two, found),
     }
 }
 
