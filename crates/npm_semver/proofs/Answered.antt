@@ -21,6 +21,7 @@ use Rattle.nodejs_semver.specs.Ranges.Algebra.{difference, intersection}
 use Rattle.npm_semver.specs.Subcommands.{Answers, AreRanges, HasIdentifier, IsRange, IsShown, Range, Said, next_said, relation_of, reply, say, sign}
 use Rattle.npm_semver.specs.Subcommands as Spec
 use Rattle.npm_semver.specs.Internal.Appends.{Extends}
+use Rattle.npm_semver.specs.Internal.Said.{is_operation}
 use Rattle.npm_semver.specs.declared.subcommands.replies.Status.TheVariants.{Yes}
 
 abbrev NoVersion : List ℕ → Type 0
@@ -102,23 +103,22 @@ no_range text none range is = none is.alternatives is.has
 pub no_normal : (a : List ℕ) → NoRange a → NoValue (Answers (codes "range" ∷ a ∷ []))
 no_normal a none said (Spec.range x r s is shown) = none r is
 
-pub no_and : (a b : List ℕ) → NoRange a → NoValue (Answers (codes "range" ∷ a ∷ codes "and" ∷ b ∷ []))
-no_and a b none value (Spec.and x y r s said one other shown) = none r one
+pub no_operation : (a word b : List ℕ) → is_operation word ≡ false → NoValue (Answers (codes "range" ∷ a ∷ word ∷ b ∷ []))
+no_operation a word b none value (Spec.and x y r s said one other shown) = let bad : true ≡ false = none in absurd (cc)
+no_operation a word b none value (Spec.minus x y r s said one other shown) = let bad : true ≡ false = none in absurd (cc)
+no_operation a word b none value (Spec.within x y r s least one other is_least bare) = let bad : true ≡ false = none in absurd (cc)
 
-pub no_and_of : (a b : List ℕ) → NoRange b → NoValue (Answers (codes "range" ∷ a ∷ codes "and" ∷ b ∷ []))
-no_and_of a b none value (Spec.and x y r s said one other shown) = none s other
+pub no_first : (a word b : List ℕ) → NoRange a → NoValue (Answers (codes "range" ∷ a ∷ word ∷ b ∷ []))
+no_first a word b none value (Spec.and x y r s said one other shown) = none r one
+no_first a word b none value (Spec.minus x y r s said one other shown) = none r one
+no_first a word b none value (Spec.within x y r s least one other is_least bare) = none r one
 
-pub no_minus : (a b : List ℕ) → NoRange a → NoValue (Answers (codes "range" ∷ a ∷ codes "minus" ∷ b ∷ []))
-no_minus a b none value (Spec.minus x y r s said one other shown) = none r one
+pub no_second : (a word b : List ℕ) → NoRange b → NoValue (Answers (codes "range" ∷ a ∷ word ∷ b ∷ []))
+no_second a word b none value (Spec.and x y r s said one other shown) = none s other
+no_second a word b none value (Spec.minus x y r s said one other shown) = none s other
+no_second a word b none value (Spec.within x y r s least one other is_least bare) = none s other
 
-pub no_minus_of : (a b : List ℕ) → NoRange b → NoValue (Answers (codes "range" ∷ a ∷ codes "minus" ∷ b ∷ []))
-no_minus_of a b none value (Spec.minus x y r s said one other shown) = none s other
-
-pub no_within : (a b : List ℕ) → NoRange a → NoValue (Answers (codes "range" ∷ a ∷ codes "within" ∷ b ∷ []))
-no_within a b none value (Spec.within x y r s least one other is_least bare) = none r one
-
-pub no_within_of : (a b : List ℕ) → NoRange b → NoValue (Answers (codes "range" ∷ a ∷ codes "within" ∷ b ∷ []))
-no_within_of a b none value (Spec.within x y r s least one other is_least bare) = none s other
+pub ruleset no_operations = (no_operation, no_first, no_second)
 
 pub shown_none : (found : Option Range) (said : Said) → None ≡ found → said ≡ reply false None → IsShown found said
 shown_none found said is says = rw (says, ← is) (Spec.none None (λ v e. let bad : false ≡ true = e in absurd (cc)))

@@ -1,10 +1,13 @@
--- For proofs. What a reply says, and the words of a subcommand and of a comparison, as the statement has them.
-use Rattle.std.specs.Prelude.{not, ℕ, Bool, List, codes, is_some, string_bytes}
+-- For proofs. What a reply says, and the words of a subcommand, of an operation and of a comparison, as the statement has them.
+use Rattle.std.specs.Prelude.{◌∷◌, [], not, ℕ, Bool, List, codes, is_some, string_bytes}
 use Rattle.std.specs.Ordering.{is_eq, is_ge, is_gt, is_le, is_lt}
 use Rattle.std.specs.declared.cmp.Ordering.{Ordering}
+use Rattle.npm_semver.specs.Arguments.{is_one_of}
 use Rattle.npm_semver.specs.Subcommands.{Said, say}
 use Rattle.npm_semver.specs.declared.subcommands.Subcommand.{Subcommand}
 use Rattle.npm_semver.specs.declared.subcommands.Subcommand.TheVariants.{Compare, Diff, Next, Range, Least, Explain}
+use Rattle.npm_semver.specs.declared.subcommands.ranges.Operation.{Operation}
+use Rattle.npm_semver.specs.declared.subcommands.ranges.Operation.TheVariants.{And, Minus, Within}
 use Rattle.npm_semver.specs.declared.subcommands.replies.Reply.{Reply}
 use Rattle.npm_semver.specs.declared.subcommands.versions.Relation.{Relation}
 use Rattle.npm_semver.specs.declared.subcommands.versions.Relation.TheVariants.{Less, AtMost, Equal, Unequal, AtLeast, Greater}
@@ -19,6 +22,14 @@ name_of Next = codes "next"
 name_of Range = codes "range"
 name_of Least = codes "least"
 name_of Explain = codes "explain"
+
+abbrev pub operation_name : Operation → List ℕ
+operation_name And = codes "and"
+operation_name Minus = codes "minus"
+operation_name Within = codes "within"
+
+abbrev pub is_operation : List ℕ → Bool
+is_operation = is_one_of (codes "and" ∷ codes "minus" ∷ codes "within" ∷ [])
 
 abbrev pub relation : Relation → Ordering → Bool
 relation Less = is_lt

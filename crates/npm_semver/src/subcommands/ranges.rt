@@ -1,13 +1,14 @@
 // The subcommands on ranges: the normal form, two of them together, and the smallest version.
 
-ghost use Rattle.std.specs.Prelude.{◌≡◌, ◌++◌, ◌∷◌, [], IfOk, OnOk, Some, codes, map};
-ghost use Rattle.std.specs.Prelude.{is_none, is_some, option_map, string_bytes, true};
+ghost use Rattle.std.specs.Prelude.{◌≡◌, ◌++◌, ◌∷◌, [], ℕ, List, IfNone, IfOk, IfSome, OnOk};
+ghost use Rattle.std.specs.Prelude.{Some, codes, false, is_none, is_some, map, option_map};
+ghost use Rattle.std.specs.Prelude.{string_bytes, true};
 ghost use Rattle.semver_core.specs.Failures.{NoValue, RefusedOnlyIf};
 ghost use Rattle.semver_core.specs.Printing.Text.{version_text};
 ghost use Rattle.nodejs_semver.specs.Printing.Text.{range_text};
 ghost use Rattle.npm_semver.specs.Subcommands as Spec;
 ghost use Rattle.npm_semver.specs.Subcommands.{Answers, AreRanges, IsRange, IsShown};
-ghost use Rattle.npm_semver.specs.Internal.Said.{said};
+ghost use Rattle.npm_semver.specs.Internal.Said.{is_operation, operation_name, said};
 
 use crate::subcommands::replies::{Reply, Trouble, answer, bare, line};
 use nodejs_semver::{Failure, RangeRef, Version, npm};
@@ -77,7 +78,48 @@ fn printed<'a>(alloc: Global, range: &RangeRef<'_>) -> Result<Reply<'a>, AllocEr
     Ok(answer(true, output))
 }
 
-// An operation on two ranges.
+// What is asked of two ranges.
+#[derive(Clone, Copy)]
+enum Operation {
+    And,
+    Minus,
+    Within,
+}
+
+impl Operation {
+    // The operation that a word names.
+    fn of(word: &str) -> Option<Operation>
+        ensures some { IfSome result (λ operation. operation_name operation ≡ word.now) }
+        ensures none { IfNone result (is_operation word.now ≡ false) }
+    {
+        match word {
+            "and" => Some(Operation::And),
+            "minus" => Some(Operation::Minus),
+            "within" => Some(Operation::Within),
+            _ => None,
+        }
+    }
+
+    // What is said of two ranges, each of any text.
+    fn applied<'a, 'b>(
+        self,
+        alloc: Global,
+        one: &RangeRef<'b>,
+        other: &RangeRef<'b>,
+    ) -> Result<Reply<'a>, AllocError>
+        ensures { IfOk result (λ reply. (a b : List ℕ) → IsRange a one.now → IsRange b other.now
+            → Answers (codes "range" ∷ a ∷ operation_name self ∷ b ∷ []) (said reply)) }
+    {
+        match self {
+            Operation::And => and(alloc, one, other),
+            Operation::Minus => minus(alloc, one, other),
+            Operation::Within => within(alloc, one, other),
+        }
+    }
+}
+
+// An operation on the ranges of two texts.
+#[tactic(auto, using(crate::proofs::Answered::no_operations))]
 fn together<'a>(
     alloc: Global,
     one: &'a str,
@@ -89,52 +131,45 @@ fn together<'a>(
     ensures refused { RefusedOnlyIf result
         (NoValue (Answers (codes "range" ∷ one.now ∷ word.now ∷ other.now ∷ []))) }
 {
-    match word {
-        "and" => and(alloc, one, other),
-        "minus" => minus(alloc, one, other),
-        "within" => within(alloc, one, other),
-        _ => Err(Failure::Refused(Trouble::NoOperation(word))),
-    }
-}
-
-#[tactic(auto, using(crate::proofs::Answered::no_and, crate::proofs::Answered::no_and_of))]
-fn and<'a>(alloc: Global, one: &'a str, other: &'a str) -> Result<Reply<'a>, Failure<Trouble<'a>>>
-    ensures ok { IfOk result (λ reply.
-        Answers (codes "range" ∷ one.now ∷ codes "and" ∷ other.now ∷ []) (said reply)) }
-    ensures refused { RefusedOnlyIf result
-        (NoValue (Answers (codes "range" ∷ one.now ∷ codes "and" ∷ other.now ∷ []))) }
-{
+    let Some(operation) = Operation::of(word) else {
+        return Err(Failure::Refused(Trouble::NoOperation(word)));
+    };
     let one = read_range(alloc, one)?;
     let other = read_range(alloc, other)?;
-    Ok(shown(alloc, one.intersect(alloc, &other)?)?)
+    Ok(operation.applied(alloc, &one, &other)?)
 }
 
-#[tactic(auto, using(crate::proofs::Answered::no_minus, crate::proofs::Answered::no_minus_of))]
-fn minus<'a>(alloc: Global, one: &'a str, other: &'a str) -> Result<Reply<'a>, Failure<Trouble<'a>>>
-    ensures ok { IfOk result (λ reply.
-        Answers (codes "range" ∷ one.now ∷ codes "minus" ∷ other.now ∷ []) (said reply)) }
-    ensures refused { RefusedOnlyIf result
-        (NoValue (Answers (codes "range" ∷ one.now ∷ codes "minus" ∷ other.now ∷ []))) }
-{
-    let one = read_range(alloc, one)?;
-    let other = read_range(alloc, other)?;
-    Ok(shown(alloc, one.difference(alloc, &other)?)?)
-}
-
-#[tactic(auto, using(crate::proofs::Answered::no_within, crate::proofs::Answered::no_within_of))]
-fn within<'a>(
+fn and<'a, 'b>(
     alloc: Global,
-    one: &'a str,
-    other: &'a str,
-) -> Result<Reply<'a>, Failure<Trouble<'a>>>
-    ensures ok { IfOk result (λ reply.
-        Answers (codes "range" ∷ one.now ∷ codes "within" ∷ other.now ∷ []) (said reply)) }
-    ensures refused { RefusedOnlyIf result
-        (NoValue (Answers (codes "range" ∷ one.now ∷ codes "within" ∷ other.now ∷ []))) }
+    one: &RangeRef<'b>,
+    other: &RangeRef<'b>,
+) -> Result<Reply<'a>, AllocError>
+    ensures { IfOk result (λ reply. (a b : List ℕ) → IsRange a one.now → IsRange b other.now
+        → Answers (codes "range" ∷ a ∷ codes "and" ∷ b ∷ []) (said reply)) }
 {
-    let one = read_range(alloc, one)?;
-    let other = read_range(alloc, other)?;
-    Ok(left_out(alloc, one.least_beyond(alloc, &other)?)?)
+    Ok(shown(alloc, one.intersect(alloc, other)?)?)
+}
+
+fn minus<'a, 'b>(
+    alloc: Global,
+    one: &RangeRef<'b>,
+    other: &RangeRef<'b>,
+) -> Result<Reply<'a>, AllocError>
+    ensures { IfOk result (λ reply. (a b : List ℕ) → IsRange a one.now → IsRange b other.now
+        → Answers (codes "range" ∷ a ∷ codes "minus" ∷ b ∷ []) (said reply)) }
+{
+    Ok(shown(alloc, one.difference(alloc, other)?)?)
+}
+
+fn within<'a, 'b>(
+    alloc: Global,
+    one: &RangeRef<'b>,
+    other: &RangeRef<'b>,
+) -> Result<Reply<'a>, AllocError>
+    ensures { IfOk result (λ reply. (a b : List ℕ) → IsRange a one.now → IsRange b other.now
+        → Answers (codes "range" ∷ a ∷ codes "within" ∷ b ∷ []) (said reply)) }
+{
+    Ok(left_out(alloc, one.least_beyond(alloc, other)?)?)
 }
 
 // Yes, or no with the version that is not within.
