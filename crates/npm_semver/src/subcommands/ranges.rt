@@ -52,14 +52,14 @@ fn normal<'a>(alloc: Global, text: &'a str) -> Result<Reply<'a>, Failure<Trouble
     ensures refused { RefusedOnlyIf result
         (NoValue (Answers (codes "range" ∷ text.now ∷ []))) }
 {
-    let range = read_range(alloc, text)?;
-    Ok(shown(alloc, Some(range))?)
+    let range = Some(read_range(alloc, text)?);
+    Ok(shown(alloc, &range)?)
 }
 
 // A range, if it accepts a version.
 #[tactic(auto, using(crate::proofs::Answered::shown_none))]
-fn shown<'a>(alloc: Global, found: Option<RangeRef<'_>>) -> Result<Reply<'a>, AllocError>
-    ensures { IfOk result (λ reply. IsShown found.entry (said reply)) }
+fn shown<'a>(alloc: Global, found: &Option<RangeRef<'_>>) -> Result<Reply<'a>, AllocError>
+    ensures { IfOk result (λ reply. IsShown found.now (said reply)) }
 {
     let Some(range) = found else {
         return Ok(bare(alloc, false));
@@ -67,7 +67,7 @@ fn shown<'a>(alloc: Global, found: Option<RangeRef<'_>>) -> Result<Reply<'a>, Al
     if range.min_version(alloc)?.is_none() {
         return Ok(bare(alloc, false));
     }
-    Ok(printed(alloc, &range)?)
+    Ok(printed(alloc, range)?)
 }
 
 fn printed<'a>(alloc: Global, range: &RangeRef<'_>) -> Result<Reply<'a>, AllocError>
@@ -147,7 +147,8 @@ fn and<'a, 'b>(
     ensures { IfOk result (λ reply. (a b : List ℕ) → IsRange a one.now → IsRange b other.now
         → Answers (codes "range" ∷ a ∷ codes "and" ∷ b ∷ []) (said reply)) }
 {
-    Ok(shown(alloc, one.intersect(alloc, other)?)?)
+    let both = one.intersect(alloc, other)?;
+    Ok(shown(alloc, &both)?)
 }
 
 fn minus<'a, 'b>(
@@ -158,7 +159,8 @@ fn minus<'a, 'b>(
     ensures { IfOk result (λ reply. (a b : List ℕ) → IsRange a one.now → IsRange b other.now
         → Answers (codes "range" ∷ a ∷ codes "minus" ∷ b ∷ []) (said reply)) }
 {
-    Ok(shown(alloc, one.difference(alloc, other)?)?)
+    let rest = one.difference(alloc, other)?;
+    Ok(shown(alloc, &rest)?)
 }
 
 fn within<'a, 'b>(
