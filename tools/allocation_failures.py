@@ -3,8 +3,8 @@
 
     tools/allocation_failures.py
 
-`allocation_failures` prints a line for each call: each one must be the line of `stdout`, or say `memory` in place of what
-the call returned, or that the values could not be made. A call that is promised to allocate nothing must make no request:
+`sweeps`, with nothing to read, prints a line for each call: each one must be the line of `stdout`, or say `memory` in place of
+what the call returned, or that the values could not be made. A call that is promised to allocate nothing must make no request:
 neither one that is refused nor one whose refusal it ignores. `semver_lines` must write a beginning of its answers, whole
 ones, and exit with 1, or write them all and exit with 0. Prints how many requests each call makes.
 """
@@ -39,6 +39,9 @@ NEVER = [
         ("RangeRef::min_satisfying", "true"),
     ]),
 ]
+
+# The beginning of the first line that `sweeps` prints behind those of the calls, where it has something to read.
+BEHIND = "1 to 40 identifiers: "
 
 # The calls whose line has another name: the call fails before the one that the line names.
 FOLLOWED_BY = {
@@ -126,6 +129,12 @@ def faults_of_counts(wanted, counts):
     made = [after - before for before, after in zip([0, *counts], counts)]
     return [f"makes {n} requests: {line}" for line, n in zip(wanted, made) if n and line in NEVER]
 
+def lines_of_calls(wanted):
+    calls, found, _ = wanted.partition(BEHIND)
+    if not found:
+        sys.exit(f"`stdout` has no line that begins: {BEHIND}")
+    return calls
+
 def check_calls(shim, program, wanted):
     _, ample, log = run(shim, program, log=True)
     if ample.decode() != wanted:
@@ -165,8 +174,8 @@ def main():
     with tempfile.TemporaryDirectory() as folder:
         shim = pathlib.Path(folder) / "refuse.so"
         subprocess.run([cc, "-O1", "-shared", "-fPIC", TOP / "tools/refuse.c", "-o", shim], check=True)
-        crate = TOP / "crates/allocation_failures"
-        count, requests, bad = check_calls(shim, crate / "out/allocation_failures", (crate / "stdout").read_text())
+        crate = TOP / "crates/sweeps"
+        count, requests, bad = check_calls(shim, crate / "out/sweeps", lines_of_calls((crate / "stdout").read_text()))
         more, faults = check_lines(shim, TOP / "crates/semver_lines/out/semver_lines")
     for call, n in sorted(requests.items()):
         print(f"{call}: {n} requests refused in turn")

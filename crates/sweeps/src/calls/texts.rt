@@ -1,6 +1,6 @@
 // The calls on JSON values and texts.
 
-use crate::show::{Outcome, no_values, read, show};
+use crate::calls::show::{Outcome, no_values, read, show};
 use nodejs_semver::json::{
     range_from_json_text, range_from_value, range_to_json_text, range_to_value,
     version_from_json_text, version_from_value, version_to_json_text, version_to_value,

@@ -1,7 +1,7 @@
 // The calls on ranges and on intervals.
 
-use crate::show::{Both, Outcome, found, no_values, read, show};
-use crate::{borrowed, laws};
+use crate::calls::show::{Both, Outcome, found, no_values, read, show};
+use crate::calls::{borrowed, laws};
 use nodejs_semver::cuts::{Bound, Interval};
 use nodejs_semver::readers::{is_blank, range_fast, range_loose};
 use nodejs_semver::{Range, Version};

@@ -1,6 +1,6 @@
 // The laws that call what allocates.
 
-use crate::show::{Both, Outcome, found, read, show};
+use crate::calls::show::{Both, Outcome, found, read, show};
 use nodejs_semver::Range;
 use nodejs_semver::laws::both_readers;
 use nodejs_semver::laws::headline::{Findings, headline};

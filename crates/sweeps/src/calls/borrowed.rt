@@ -1,6 +1,6 @@
 // The calls on ranges that borrow their text.
 
-use crate::show::{Both, Outcome, found, no_values, read, show, show_debug};
+use crate::calls::show::{Both, Outcome, found, no_values, read, show, show_debug};
 use nodejs_semver::{OutsideDirection, RangeRef, VersionRef};
 use std::alloc::Global;
 use std::io;

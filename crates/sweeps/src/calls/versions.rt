@@ -1,6 +1,6 @@
 // The calls on versions.
 
-use crate::show::{Outcome, found, no_values, read, show, show_debug};
+use crate::calls::show::{Outcome, found, no_values, read, show, show_debug};
 use nodejs_semver::readers::{version_fast, version_loose};
 use nodejs_semver::{Failure, Identifier, IncrementError, Version, VersionParts, VersionRef};
 use semver_core::scan;
