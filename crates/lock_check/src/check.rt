@@ -10,10 +10,9 @@ use crate::scopes::Scopes;
 use crate::specifier::{Specifier, is_name, is_tag};
 use crate::verdict::{Judgement, Verdict, judge_texts};
 use crate::workspaces::{add_workspaces, are_read};
-use anyhow::Result;
 use semver_core::scan::trim;
 use serde_json::Value;
-use std::alloc::Global;
+use std::alloc::{AllocError, Global};
 
 /// What is found in a lock file, in the order of the packages' folders.
 #[derive(Drop)]
@@ -32,7 +31,7 @@ pub struct Edge<'a> {
 }
 
 /// Judges each dependency of each package.
-pub fn check<'a>(alloc: Global, lock: Lock<'a>) -> Result<Findings<'a>> {
+pub fn check<'a>(alloc: Global, lock: Lock<'a>) -> Result<Findings<'a>, AllocError> {
     let mut faults = Vec::new(alloc);
     let edges = edges(alloc, lock, &mut faults)?;
     let overrides = Overrides::of(alloc, lock.package(""), &mut faults)?;
@@ -49,7 +48,11 @@ pub fn check<'a>(alloc: Global, lock: Lock<'a>) -> Result<Findings<'a>> {
 }
 
 // All dependencies, with what is locked for them.
-fn edges<'a>(alloc: Global, lock: Lock<'a>, faults: &mut Vec<Fault<'a>>) -> Result<Vec<Edge<'a>>> {
+fn edges<'a>(
+    alloc: Global,
+    lock: Lock<'a>,
+    faults: &mut Vec<Fault<'a>>,
+) -> Result<Vec<Edge<'a>>, AllocError> {
     let mut edges = Vec::new(alloc);
     for (folder, fields) in lock.packages.iter() {
         let package = Package {
@@ -91,7 +94,7 @@ fn finding<'a>(
     lock: Lock<'a>,
     edge: Edge<'a>,
     wanted: Option<Wanted<'a>>,
-) -> Result<Finding<'a>> {
+) -> Result<Finding<'a>, AllocError> {
     let Edge { dependency, locked } = edge;
     let Some(wanted) = wanted else {
         return Ok(Finding {
@@ -125,7 +128,7 @@ fn finding<'a>(
 }
 
 // The range text, if `parse` decides of it, and else nothing.
-fn lenient_text(alloc: Global, text: &str) -> Result<&str> {
+fn lenient_text(alloc: Global, text: &str) -> Result<&str, AllocError> {
     Ok(match npm_range(alloc, text)? {
         Some(_) => "",
         None => text,
@@ -138,7 +141,7 @@ fn locked_outcome<'a>(
     lock: Lock<'a>,
     dependency: Dependency<'a>,
     locked: Package<'a>,
-) -> Result<Outcome<'a>> {
+) -> Result<Outcome<'a>, AllocError> {
     let Some(package) = lock.behind(alloc, locked)? else {
         return Ok(Outcome::NoFolder);
     };
@@ -156,21 +159,7 @@ fn locked_outcome<'a>(
     if target.is_link_of_root() {
         return Ok(Outcome::Link);
     }
-    let outcome = target.outcome(alloc, dependency.wanted.specifier())?;
-    let accepted = dependency
-        .package
-        .member("acceptDependencies", dependency.name);
-    match accepted.and_then(Value::as_str) {
-        Some(accepted) if !outcome.is_satisfied() => {
-            let second = target.outcome(alloc, Specifier::of(accepted))?;
-            Ok(if second.is_satisfied() {
-                second
-            } else {
-                outcome
-            })
-        }
-        _ => Ok(outcome),
-    }
+    target.outcome_of_either(alloc)
 }
 
 // A package that is locked for a dependency.
@@ -204,7 +193,34 @@ impl<'a> Target<'a> {
             && !are_read(root)
     }
 
-    fn outcome(self, alloc: Global, wanted: Specifier<'a>) -> Result<Outcome<'a>> {
+    // What the dependency says of it, or what the package accepts in its place if that is satisfied.
+    fn outcome_of_either(self, alloc: Global) -> Result<Outcome<'a>, AllocError> {
+        let Dependency { package, name, .. } = self.dependency;
+        let outcome = self.outcome(alloc, self.dependency.wanted.specifier())?;
+        let accepted = package.member("acceptDependencies", name);
+        match accepted.and_then(Value::as_str) {
+            Some(accepted) if !outcome.is_satisfied() => {
+                self.accepted_outcome(alloc, accepted, outcome)
+            }
+            _ => Ok(outcome),
+        }
+    }
+
+    // What this text says of it if that is satisfied, and else this outcome.
+    fn accepted_outcome(
+        self,
+        alloc: Global,
+        accepted: &'a str,
+        outcome: Outcome<'a>,
+    ) -> Result<Outcome<'a>, AllocError> {
+        match self.outcome(alloc, Specifier::of(accepted)) {
+            Ok(second) if second.is_satisfied() => Ok(second),
+            Ok(_) => Ok(outcome),
+            Err(error) => Err(error),
+        }
+    }
+
+    fn outcome(self, alloc: Global, wanted: Specifier<'a>) -> Result<Outcome<'a>, AllocError> {
         match wanted {
             Specifier::Unsupported => Ok(Outcome::Unsupported),
             Specifier::Range(text) => self.registry_outcome(alloc, text),
@@ -238,7 +254,7 @@ impl<'a> Target<'a> {
         }
     }
 
-    fn folder_outcome(self, alloc: Global, path: &str) -> Result<Outcome<'a>> {
+    fn folder_outcome(self, alloc: Global, path: &str) -> Result<Outcome<'a>, AllocError> {
         if !self.is_link() {
             return Ok(Outcome::Elsewhere);
         }
@@ -252,7 +268,7 @@ impl<'a> Target<'a> {
         }
     }
 
-    fn packed_outcome(self, alloc: Global, path: &str) -> Result<Outcome<'a>> {
+    fn packed_outcome(self, alloc: Global, path: &str) -> Result<Outcome<'a>, AllocError> {
         let Some(resolved) = self.resolved().and_then(|it| it.strip_prefix("file:")) else {
             return Ok(Outcome::Elsewhere);
         };
@@ -267,7 +283,11 @@ impl<'a> Target<'a> {
     }
 
     // Two addresses of repositories are not compared.
-    fn repository_outcome(self, alloc: Global, range: Option<&'a str>) -> Result<Outcome<'a>> {
+    fn repository_outcome(
+        self,
+        alloc: Global,
+        range: Option<&'a str>,
+    ) -> Result<Outcome<'a>, AllocError> {
         match (self.resolved().map(Specifier::of), range) {
             (Some(Specifier::Repository(_)), None) => Ok(Outcome::Address),
             (Some(Specifier::Repository(_)), Some(range)) => {
@@ -282,7 +302,7 @@ impl<'a> Target<'a> {
 
     // What the text of a range says of it that is asked of a registry. To npm `*` accepts every
     // locked version, pre-releases too.
-    fn registry_outcome(self, alloc: Global, wanted: &str) -> Result<Outcome<'a>> {
+    fn registry_outcome(self, alloc: Global, wanted: &str) -> Result<Outcome<'a>, AllocError> {
         if trim(wanted) == "*" {
             return Ok(Outcome::Satisfied);
         }
@@ -290,7 +310,7 @@ impl<'a> Target<'a> {
     }
 
     // What a range text says of it.
-    fn range_outcome(self, alloc: Global, wanted: &str) -> Result<Outcome<'a>> {
+    fn range_outcome(self, alloc: Global, wanted: &str) -> Result<Outcome<'a>, AllocError> {
         let locked = self.package.text("version");
         let version = locked.unwrap_or("");
         let is_unsure = is_unsure(alloc, wanted)?;

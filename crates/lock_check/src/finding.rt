@@ -108,6 +108,29 @@ impl Outcome<'_> {
         )
     }
 
+    // What is told of the dependency: before the version, if that is told too.
+    fn words(&self) -> &'static str {
+        match self {
+            Outcome::Satisfied | Outcome::Tagged => "satisfied",
+            Outcome::Rejected { .. } | Outcome::NoVersion { .. } => "not ",
+            Outcome::Unversioned => "not locked to a version",
+            Outcome::Unread => "rejected: no range, tag or address",
+            Outcome::Unsupported => "rejected: no text that npm reads",
+            Outcome::Unnamed => "rejected: no name of a package",
+            Outcome::Elsewhere => "rejected: locked to another place",
+            Outcome::Untraced => "rejected: a tag, locked to no address of a package",
+            Outcome::NoFolder => "rejected: a link to a folder that is not there",
+            Outcome::Conflict => "rejected: an override of a direct dependency",
+            Outcome::NoReference => "rejected: its override refers to nothing",
+            Outcome::Missing => "missing",
+            Outcome::Absent => "absent",
+            Outcome::Unsure => "skipped: npm reads a word that is ignored here",
+            Outcome::Address => "skipped: an address",
+            Outcome::Link => "skipped: a link that may be a workspace",
+            Outcome::OwnPeer => "skipped: a peer in its own folder",
+        }
+    }
+
     fn kind(&self) -> Kind {
         match self {
             Outcome::Satisfied | Outcome::Tagged => Kind::Satisfied,
@@ -160,40 +183,25 @@ impl fmt::Display for Dependency<'_> {
 
 impl fmt::Display for Finding<'_> {
     fn fmt<W: fmt::Write>(&self, f: &mut fmt::Formatter<W>) -> fmt::Result {
-        write!(f, "{}", self.dependency)?;
+        write!(f, "{}, {}", self.dependency, self.outcome.words())?;
         match &self.outcome {
-            Outcome::Satisfied | Outcome::Tagged => write!(f, ", satisfied"),
             Outcome::Rejected {
                 version,
                 smallest: None,
-            } => write!(f, ", not {}; it accepts no version", Shown(version)),
+            } => write!(f, "{}; it accepts no version", Shown(version)),
             Outcome::Rejected {
                 version,
                 smallest: Some(smallest),
-            } => write!(f, ", not {}; smallest accepted: {smallest}", Shown(version)),
+            } => write!(f, "{}; smallest accepted: {smallest}", Shown(version)),
             Outcome::NoVersion { version } => write_no_version(f, version),
-            Outcome::Unversioned => write!(f, ", not locked to a version"),
-            Outcome::Unread => write!(f, ", rejected: no range, tag or address"),
-            Outcome::Unsupported => write!(f, ", rejected: no text that npm reads"),
-            Outcome::Unnamed => write!(f, ", rejected: no name of a package"),
-            Outcome::Elsewhere => write!(f, ", rejected: locked to another place"),
-            Outcome::Untraced => write!(f, ", rejected: a tag, locked to no address of a package"),
-            Outcome::NoFolder => write!(f, ", rejected: a link to a folder that is not there"),
-            Outcome::Conflict => write!(f, ", rejected: an override of a direct dependency"),
-            Outcome::NoReference => write!(f, ", rejected: its override refers to nothing"),
-            Outcome::Missing => write!(f, ", missing"),
-            Outcome::Absent => write!(f, ", absent"),
-            Outcome::Unsure => write!(f, ", skipped: npm reads a word that is ignored here"),
-            Outcome::Address => write!(f, ", skipped: an address"),
-            Outcome::Link => write!(f, ", skipped: a link that may be a workspace"),
-            Outcome::OwnPeer => write!(f, ", skipped: a peer in its own folder"),
+            _ => Ok(()),
         }
     }
 }
 
 // A text that is no version, and its flaw. npm rejects the mark `V`, which is none to `parse`.
 fn write_no_version<W: fmt::Write>(f: &mut fmt::Formatter<W>, text: &str) -> fmt::Result {
-    write!(f, ", not {}; no version", Shown(text))?;
+    write!(f, "{}; no version", Shown(text))?;
     match version_flaw(text) {
         Some(flaw) => write!(f, ": {flaw}"),
         None => Ok(()),

@@ -1,11 +1,10 @@
 // Folders as texts: no disk is asked.
 
-use anyhow::Result;
-use std::alloc::Global;
+use std::alloc::{AllocError, Global};
 
 /// The folder to which a path leads from another folder, with no `.` and no `..` but at its front.
 /// Both are relative to the root project, whose folder is the empty text.
-pub fn joined(alloc: Global, from: &str, path: &str) -> Result<String> {
+pub fn joined(alloc: Global, from: &str, path: &str) -> Result<String, AllocError> {
     let mut parts: Vec<&str> = Vec::new(alloc);
     for part in from.split('/').chain(path.split('/')) {
         match part {
@@ -14,7 +13,7 @@ pub fn joined(alloc: Global, from: &str, path: &str) -> Result<String> {
             _ => parts.push(part)?,
         }
     }
-    Ok(parts.as_slice().join(alloc, "/")?)
+    parts.as_slice().join(alloc, "/")
 }
 
 /// The name that npm takes for a package from its folder: its last part, behind its scope if it

@@ -5,9 +5,8 @@ ghost use Rattle.lock_check.specs.Optional.{MayBeAbsent};
 use crate::fault::Fault;
 use crate::folder::{is_installed, joined};
 use crate::specifier::Specifier;
-use anyhow::Result;
 use serde_json::{Map, Value};
-use std::alloc::Global;
+use std::alloc::{AllocError, Global};
 
 /// The packages of a lock file by their folders. The folder of the root project is the empty text.
 #[derive(Clone, Copy)]
@@ -157,7 +156,12 @@ impl<'a> Lock<'a> {
 
     /// The package that a dependency of this name means in this folder: that of the nearest
     /// `node_modules`, here or above.
-    pub fn nearest(self, alloc: Global, folder: &str, name: &str) -> Result<Option<Package<'a>>> {
+    pub fn nearest(
+        self,
+        alloc: Global,
+        folder: &str,
+        name: &str,
+    ) -> Result<Option<Package<'a>>, AllocError> {
         let mut above = String::new(alloc);
         let mut found = self.child(alloc, &above, name)?;
         for part in folder.split('/') {
@@ -169,13 +173,22 @@ impl<'a> Lock<'a> {
     }
 
     // The package of this name in the `node_modules` of a folder.
-    fn child(self, alloc: Global, folder: &str, name: &str) -> Result<Option<Package<'a>>> {
+    fn child(
+        self,
+        alloc: Global,
+        folder: &str,
+        name: &str,
+    ) -> Result<Option<Package<'a>>, AllocError> {
         let key = format!(in alloc; "{folder}node_modules/{name}")?;
         Ok(self.package(&key))
     }
 
     /// The package itself, or that to whose folder it is a link, if the lock file has it.
-    pub fn behind(self, alloc: Global, package: Package<'a>) -> Result<Option<Package<'a>>> {
+    pub fn behind(
+        self,
+        alloc: Global,
+        package: Package<'a>,
+    ) -> Result<Option<Package<'a>>, AllocError> {
         if !package.is("link") {
             return Ok(Some(package));
         }
@@ -190,7 +203,7 @@ pub fn add_dependencies<'a>(
     package: Package<'a>,
     found: &mut Vec<Dependency<'a>>,
     faults: &mut Vec<Fault<'a>>,
-) -> Result<()> {
+) -> Result<(), AllocError> {
     for &field in FIELDS {
         let ranges = match field.of(package) {
             Ok(Some(ranges)) => ranges,

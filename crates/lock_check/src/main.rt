@@ -103,7 +103,7 @@ fn packages(alloc: Global, mut file: Value) -> Result<Map<String, Value>> {
     }
     let nested = file.get("dependencies").and_then(Value::as_object);
     let nested = nested.context("neither an object `packages` nor an object `dependencies`")?;
-    nested::packages(alloc, nested)
+    Ok(nested::packages(alloc, nested)?)
 }
 
 // Prints what is malformed, and each finding that has a line, with the ignored words of its range

@@ -2,9 +2,8 @@
 
 use crate::folder::joined;
 use crate::specifier::Specifier;
-use anyhow::Result;
 use serde_json::{Map, Value, put};
-use std::alloc::Global;
+use std::alloc::{AllocError, Global};
 
 // A package that is still to be added, in this folder.
 #[derive(Drop)]
@@ -24,7 +23,10 @@ const KEPT: &[(&str, &str)] = &[
 
 /// The packages by their folders, as a lock file of lockfileVersion 3 has them. Of the root project
 /// nothing is known.
-pub fn packages(alloc: Global, dependencies: &Map<String, Value>) -> Result<Map<String, Value>> {
+pub fn packages(
+    alloc: Global,
+    dependencies: &Map<String, Value>,
+) -> Result<Map<String, Value>, AllocError> {
     let mut packages: Map<String, Value> = Map::new(alloc);
     let mut unread: Vec<Nested<'_>> = Vec::new(alloc);
     add_inside(alloc, "", dependencies, &mut unread)?;
@@ -65,7 +67,7 @@ fn add_inside<'a>(
     folder: &str,
     dependencies: &'a Map<String, Value>,
     unread: &mut Vec<Nested<'a>>,
-) -> Result<()> {
+) -> Result<(), AllocError> {
     let above = if folder.is_empty() { "" } else { "/" };
     for (name, entry) in dependencies.iter() {
         let folder = format!(in alloc; "{folder}{above}node_modules/{name}")?;
@@ -102,7 +104,7 @@ fn source(entry: &Value) -> Specifier<'_> {
     }
 }
 
-fn link(alloc: Global, folder: &str) -> Result<Value> {
+fn link(alloc: Global, folder: &str) -> Result<Value, AllocError> {
     let mut link: Map<String, Value> = Map::new(alloc);
     put(&mut link, alloc, "link", Value::Bool(true))?;
     put(
@@ -115,7 +117,7 @@ fn link(alloc: Global, folder: &str) -> Result<Value> {
 }
 
 // The fields of an entry that are kept.
-fn kept(alloc: Global, entry: &Value) -> Result<Map<String, Value>> {
+fn kept(alloc: Global, entry: &Value) -> Result<Map<String, Value>, AllocError> {
     let mut package: Map<String, Value> = Map::new(alloc);
     for &(field, name) in KEPT {
         if let Some(value) = entry.get(field) {
@@ -126,7 +128,12 @@ fn kept(alloc: Global, entry: &Value) -> Result<Map<String, Value>> {
 }
 
 // A package that is no link, from this source.
-fn package(alloc: Global, name: &str, entry: &Value, source: Specifier<'_>) -> Result<Value> {
+fn package(
+    alloc: Global,
+    name: &str,
+    entry: &Value,
+    source: Specifier<'_>,
+) -> Result<Value, AllocError> {
     let mut package = kept(alloc, entry)?;
     let own = text(entry, "version");
     let resolved = match source {

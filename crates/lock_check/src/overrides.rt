@@ -6,10 +6,9 @@ use crate::fault::Fault;
 use crate::lock::{Dependency, Package, Wanted};
 use crate::reading::{range, strict_range};
 use crate::specifier::Specifier;
-use anyhow::Result;
 use nodejs_semver::RangeRef;
 use serde_json::{Map, Value};
-use std::alloc::Global;
+use std::alloc::{AllocError, Global};
 
 /// Where a package stands: the rules that are nested in this one hold for its dependencies, and
 /// those outside it.
@@ -71,7 +70,12 @@ impl<'a> Replacement<'a> {
 
 impl<'a> Rule<'a> {
     // The rule of a key and its value, or `None` if one of them is malformed.
-    fn of(alloc: Global, outer: Scope, key: &'a str, value: &'a Value) -> Result<Option<Rule<'a>>> {
+    fn of(
+        alloc: Global,
+        outer: Scope,
+        key: &'a str,
+        value: &'a Value,
+    ) -> Result<Option<Rule<'a>>, AllocError> {
         let (name, wanted) = split_key(key);
         let text = match value.get(".") {
             Some(text) => text.as_str(),
@@ -99,7 +103,7 @@ impl<'a> Rule<'a> {
 
     // Whether the rule is about this dependency. Its range has to be one that has a version in
     // common with that of the rule; a tag or an address may be any version.
-    fn is_about(&self, alloc: Global, dependency: Dependency<'a>) -> Result<bool> {
+    fn is_about(&self, alloc: Global, dependency: Dependency<'a>) -> Result<bool, AllocError> {
         if self.name != dependency.name {
             return Ok(false);
         }
@@ -139,7 +143,7 @@ impl<'a> Overrides<'a> {
         alloc: Global,
         root: Option<Package<'a>>,
         faults: &mut Vec<Fault<'a>>,
-    ) -> Result<Overrides<'a>> {
+    ) -> Result<Overrides<'a>, AllocError> {
         let mut rules = Vec::new(alloc);
         let mut unread: Vec<(Scope, &'a Map<String, Value>)> = Vec::new(alloc);
         if let Some(value) = root.and_then(|it| it.fields.get("overrides")) {
@@ -177,7 +181,12 @@ impl<'a> Overrides<'a> {
     /// Where the package stands that is meant by a dependency of a package in this scope: in the
     /// first rule that is about the dependency, of those nested in the scope, then the scope
     /// itself, and then the same of what is around it; and if none is, in the scope.
-    pub fn inner(&self, alloc: Global, scope: Scope, dependency: Dependency<'a>) -> Result<Scope> {
+    pub fn inner(
+        &self,
+        alloc: Global,
+        scope: Scope,
+        dependency: Dependency<'a>,
+    ) -> Result<Scope, AllocError> {
         let mut around = scope;
         for _ in 0..=self.rules.len() {
             for (number, rule) in self.rules.iter().enumerate() {

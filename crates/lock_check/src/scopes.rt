@@ -3,8 +3,7 @@
 use crate::check::Edge;
 use crate::lock::{Lock, Package, Wanted};
 use crate::overrides::{Overrides, Scope};
-use anyhow::Result;
-use std::alloc::Global;
+use std::alloc::{AllocError, Global};
 use std::collections::BTreeMap;
 
 /// Where packages stand in `overrides`. Of several dependencies on one package the last that npm
@@ -20,7 +19,11 @@ pub struct Scopes<'a> {
 
 impl<'a> Scopes<'a> {
     /// The scopes of these dependencies.
-    pub fn of(alloc: Global, overrides: Overrides<'a>, edges: &[Edge<'a>]) -> Result<Scopes<'a>> {
+    pub fn of(
+        alloc: Global,
+        overrides: Overrides<'a>,
+        edges: &[Edge<'a>],
+    ) -> Result<Scopes<'a>, AllocError> {
         let mut of_edges = BTreeMap::new(alloc);
         if overrides.is_empty() {
             return Ok(Scopes {
@@ -29,7 +32,7 @@ impl<'a> Scopes<'a> {
             });
         }
         let mut of_packages: BTreeMap<&'a str, Scope> = BTreeMap::new(alloc);
-        for number in reading_order(alloc, edges)? {
+        for (_, _, number) in reading_order(alloc, edges)? {
             let Some(edge) = edges.get(number).filter(|it| is_overridden(it)) else {
                 continue;
             };
@@ -59,9 +62,13 @@ impl<'a> Scopes<'a> {
     }
 }
 
-// The numbers of the dependencies in the order in which npm reads them.
-fn reading_order(alloc: Global, edges: &[Edge<'_>]) -> Result<Vec<usize>> {
-    let mut order: Vec<(&str, bool, usize)> = Vec::new(alloc);
+// The dependencies in the order in which npm reads them, each by the folder of the later one of its
+// packages, whether that is the one that depends on the other, and its number.
+fn reading_order<'a>(
+    alloc: Global,
+    edges: &[Edge<'a>],
+) -> Result<Vec<(&'a str, bool, usize)>, AllocError> {
+    let mut order = Vec::new(alloc);
     for (number, edge) in edges.iter().enumerate() {
         let from = edge.dependency.package.folder;
         match edge.locked {
@@ -70,11 +77,7 @@ fn reading_order(alloc: Global, edges: &[Edge<'_>]) -> Result<Vec<usize>> {
         }
     }
     order.sort()?;
-    let mut numbers = Vec::new(alloc);
-    for (_, _, number) in order {
-        numbers.push(number)?;
-    }
-    Ok(numbers)
+    Ok(order)
 }
 
 // Whether rules hold for a dependency: to npm, not for one of a workspace or another folder outside

@@ -3,8 +3,8 @@
 use crate::fault::Fault;
 use crate::folder::{is_installed, name_of};
 use crate::lock::{Dependency, Field, Lock, Package, Wanted};
-use anyhow::Result;
 use serde_json::Value;
+use std::alloc::AllocError;
 
 /// A text in `workspaces`.
 #[derive(Clone, Copy)]
@@ -84,7 +84,7 @@ pub fn add_workspaces<'a>(
     root: Package<'a>,
     found: &mut Vec<Dependency<'a>>,
     faults: &mut Vec<Fault<'a>>,
-) -> Result<()> {
+) -> Result<(), AllocError> {
     let list = match patterns(root) {
         Ok(Some(list)) => list,
         Ok(None) => return Ok(()),
@@ -117,7 +117,7 @@ fn add_workspace<'a>(
     root: Package<'a>,
     folder: &'a str,
     found: &mut Vec<Dependency<'a>>,
-) -> Result<()> {
+) -> Result<(), AllocError> {
     let own = lock.package(folder).and_then(|it| it.text("name"));
     let name = own.unwrap_or(name_of(folder));
     if found.iter().any(|earlier| earlier.name == name) {
