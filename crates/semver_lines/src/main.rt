@@ -3,9 +3,6 @@
 //! reading, writing or an allocation failed.
 #![tactic(auto)]
 
-#[cfg(test)]
-mod tests;
-
 use semver_answers::run::run;
 use std::process::ExitCode;
 

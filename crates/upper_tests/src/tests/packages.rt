@@ -1,6 +1,5 @@
-mod errors;
-mod laws;
-mod newest;
+// The newest version of an index, the next release, a range within another, and releases for
+// requirements.
 
 use nodejs_semver::{Failure, Range, SemverError, Version};
 use std::alloc::{AllocError, Global};

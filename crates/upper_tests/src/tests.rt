@@ -1,4 +1,8 @@
 mod ends;
+mod errors;
+mod laws;
+mod newest;
+mod packages;
 mod run;
 
 use std::alloc::{AllocError, Global};
