@@ -166,11 +166,12 @@ impl Finding<'_> {
 
 impl fmt::Display for Wanted<'_> {
     fn fmt<W: fmt::Write>(&self, f: &mut fmt::Formatter<W>) -> fmt::Result {
-        match self {
-            Wanted::Text(text) => write!(f, "{}", Shown(text)),
-            Wanted::Override(text) => write!(f, "{} by overrides", Shown(text)),
-            Wanted::Workspace(folder) => write!(f, "file:{}", Shown(folder)),
-        }
+        let (before, text, behind) = match *self {
+            Wanted::Text(text) => ("", text, ""),
+            Wanted::Override(text) => ("", text, " by overrides"),
+            Wanted::Workspace(folder) => ("file:", folder, ""),
+        };
+        write!(f, "{before}{}{behind}", Shown(text))
     }
 }
 
