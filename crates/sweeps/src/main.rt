@@ -1,6 +1,7 @@
 //! Three sweeps over the calls, for what no contract can say or a second reader can confirm. The
-//! program fails where one of the last two finds a fault. Standard input says whether it makes
-//! these: with nothing there it stops after the first.
+//! program fails where one of the last two finds a fault. Standard input says what it makes of
+//! these: with nothing there it stops after the first, and with `long` after the texts of 2,000,000
+//! bytes of the second, which take longer than all else and are left out without that word.
 //!
 //! The first makes each call that allocates, and prints one line for each: what it returned and
 //! what it borrowed, or `memory` in place of what it returned. `tools/allocation_failures.py` runs
@@ -29,10 +30,15 @@ fn main(rt: HostRuntime) -> io::Result<ExitCode> {
     let alloc = rt.alloc();
     calls::show_all(&rt, alloc)?;
     // A buffer of one byte takes no memory that could be refused.
-    if rt.stdin().read(&mut [0])? == 0 {
+    let mut word = [0];
+    if rt.stdin().read(&mut word)? == 0 {
         return Ok(ExitCode::SUCCESS);
     }
-    memory::sweep(&rt, alloc)?;
+    if word == *b"l" {
+        memory::sweep(&rt, alloc, memory::LONG)?;
+        return Ok(ExitCode::SUCCESS);
+    }
+    memory::sweep(&rt, alloc, memory::GROUPS)?;
     Ok(if readers::sweep(&rt, alloc)? {
         ExitCode::SUCCESS
     } else {

@@ -13,9 +13,9 @@ use nodejs_semver::MAX_SAFE_INTEGER;
 use std::alloc::{AllocError, Global};
 use std::{fmt, io};
 
-// What the values of a group have in common.
+/// What the values of a group have in common.
 #[derive(Clone, Copy)]
-enum Group {
+pub enum Group {
     // Versions with so many identifiers, from the one count to the other.
     Identifiers(u32, u32),
     // Versions of so many bytes.
@@ -82,13 +82,13 @@ impl fmt::Display for Group {
     }
 }
 
-const GROUPS: &[Group] = &[
+/// The groups but those of the longest texts.
+pub const GROUPS: &[Group] = &[
     Group::Identifiers(1, 40),
     Group::Identifiers(1000, 1000),
     Group::LongVersions(255),
     Group::LongVersions(256),
     Group::LongVersions(257),
-    Group::LongVersions(2_000_000),
     // The least and the greatest numbers that a text and that a version can have.
     Group::Number(0),
     Group::Number(MAX_SAFE_INTEGER),
@@ -100,13 +100,18 @@ const GROUPS: &[Group] = &[
     Group::LongRanges(255),
     Group::LongRanges(256),
     Group::LongRanges(257),
+];
+
+/// The groups of the longest texts.
+pub const LONG: &[Group] = &[
+    Group::LongVersions(2_000_000),
     Group::LongRanges(2_000_000),
 ];
 
-/// Makes each call that allocates, about the values of each group, and prints how many calls it
-/// made. An allocation failure is an error.
-pub fn sweep(rt: &impl Print, alloc: Global) -> io::Result<()> {
-    for &group in GROUPS {
+/// Makes each call that allocates, about the values of each of these groups, and prints how many
+/// calls it made. An allocation failure is an error.
+pub fn sweep(rt: &impl Print, alloc: Global, groups: &[Group]) -> io::Result<()> {
+    for &group in groups {
         let mut calls = Calls::new();
         group.ask(alloc, &mut calls)?;
         println!(rt; "{group}: {calls}")?;
