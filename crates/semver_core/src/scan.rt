@@ -312,25 +312,26 @@ pub(crate) fn scan_run(bytes: &[u8], start: usize) -> (usize, Option<u64>)
     (bytes.len(), Some(number))
 }
 
-// The identifier at a place where a run begins, and the place behind it.
+// The identifier at a place where a run begins, by what `scan_run` found there.
 #[inline(always)]
-pub(crate) fn read_run(alloc: Global, text: &str, start: usize) -> Allocated<(Identifier, usize)>
+pub(crate) fn run_id(
+    alloc: Global,
+    text: &str,
+    start: usize,
+    run: (usize, Option<u64>),
+) -> Allocated<Identifier>
     requires place { start ≤ length text.now }
     requires here { begins is_identifier_char (drop start text.now) ≡ true }
-    ensures id { IfOk result (λ found. id_view found.0 ≡ identifier_of
+    requires run { run ≡ run_from (Some 0) start (drop start text.now) }
+    ensures id { IfOk result (λ id. id_view id ≡ identifier_of
         (take (prefix_len is_identifier_char (drop start text.now)) (drop start text.now))) }
-    ensures end { IfOk result (λ found.
-        found.1 ≡ start + prefix_len is_identifier_char (drop start text.now)) }
-    ensures after { IfOk result (λ found. start ≤ found.1) }
-    ensures fits { IfOk result (λ found. found.1 ≤ length text.now) }
+    ensures end { run.0 ≡ start + prefix_len is_identifier_char (drop start text.now) }
+    ensures after { start ≤ run.0 }
+    ensures fits { run.0 ≤ length text.now }
 {
-    let (end, number) = scan_run(text.as_bytes(), start);
-    match number {
-        Some(value) => Ok((Identifier::Numeric(value), end)),
-        None => Ok((
-            Identifier::AlphaNumeric(String::from_str(alloc, &text[start..end])?),
-            end,
-        )),
+    match run.1 {
+        Some(value) => Ok(Identifier::Numeric(value)),
+        None => Ok(Identifier::AlphaNumeric(String::from_str(alloc, &text[start..run.0])?)),
     }
 }
 
@@ -380,12 +381,13 @@ pub(crate) fn read_into(
 {
     let mut start = at;
     'runs: loop {
-        let (id, end) = read_run(alloc, text, start)?;
+        let run = scan_run(text.as_bytes(), start);
+        let id = run_id(alloc, text, start, run)?;
         list.push(id)?;
-        if !goes_on_at(text, end) {
-            return Ok(end);
+        if !goes_on_at(text, run.0) {
+            return Ok(run.0);
         }
-        start = end + 1;
+        start = run.0 + 1;
     }
 }
 

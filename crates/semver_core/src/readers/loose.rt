@@ -12,7 +12,7 @@ ghost use Rattle.semver_core.specs.Text.Characters.{is_identifier_char, IsAfterB
 ghost use Rattle.semver_core.specs.Values.{Versions.{VersionValue, HasIdentifiers}, Views.ids_view};
 
 use crate::readers::fast::numbers;
-use crate::version::lists::{Identifiers, Lists, Qualifier};
+use crate::version::lists::{Lists, Qualifier};
 use crate::{Allocated, MAX_SAFE_INTEGER, Version, scan};
 use std::alloc::{AllocError, Global};
 
@@ -71,53 +71,6 @@ pub(crate) fn build_start(text: &str, at: usize) -> Option<usize>
     stands.then_some(at + 1)
 }
 
-// Fills an empty list with the identifiers that begin at a place, and returns the place after
-// them. Where there is none, that is the place where the list was expected.
-fn read_from(
-    alloc: Global,
-    text: &str,
-    at: usize,
-    start: Option<usize>,
-    list: &mut Identifiers,
-) -> Result<usize, AllocError>
-    requires inside { at ≤ length text.now }
-    requires start { IfSome start (λ start. start ≤ length text.now) }
-    requires begins { IfSome start (λ start.
-        begins is_identifier_char (drop start text.now) ≡ true) }
-    requires empty { list.old.items ≡ [] }
-    ensures found { IfOk result (λ end.
-        (ids_view list.new.items, end) ≡ list_from text.now at start) }
-    ensures place { IfOk result (λ end. end ≤ length text.now) }
-{
-    match start {
-        Some(start) => scan::read_into(alloc, text, start, list),
-        None => Ok(at),
-    }
-}
-
-// The place where the identifiers of a pre-release begin, if there is one and neither another one
-// nor a build follows it.
-#[inline(always)]
-fn alone(text: &str, start: Option<usize>) -> Option<usize>
-    requires { IfSome start (λ start. start ≤ length text.now) }
-    ensures same { IfSome result (λ first. start ≡ Some first) }
-    ensures ends { IfSome result (λ first. goes_on
-        (drop (first + prefix_len is_identifier_char (drop first text.now)) text.now) ≡ false) }
-    ensures unbuilt { IfSome result (λ first.
-        build_at text.now (first + prefix_len is_identifier_char (drop first text.now))
-        ≡ ([], first + prefix_len is_identifier_char (drop first text.now))) }
-{
-    let first = start?;
-    let end = scan::run_end(text.as_bytes(), first);
-    if scan::goes_on_at(text, end) {
-        return None;
-    }
-    match build_start(text, end) {
-        Some(_) => None,
-        None => Some(first),
-    }
-}
-
 // The pre-release and the build at a place, and the place after them; no box where there is one
 // identifier in a pre-release, or none.
 #[inline(always)]
@@ -130,18 +83,25 @@ pub(crate) fn lists_at(alloc: Global, text: &str, at: usize) -> Allocated<(Quali
     ensures memory { OnErr result ((0 < length (lists_at text.now at).0)
         ⊎ (0 < length (lists_at text.now at).1)) }
 {
-    let start = pre_release_start(text, at);
-    if start.is_none() && build_start(text, at).is_none() {
-        return Ok((Qualifier::Absent, at));
-    }
-    if let Some(first) = alone(text, start) {
-        let (id, end) = scan::read_run(alloc, text, first)?;
-        return Ok((Qualifier::One(id), end));
+    let Some(first) = pre_release_start(text, at) else {
+        let Some(start) = build_start(text, at) else {
+            return Ok((Qualifier::Absent, at));
+        };
+        let mut lists = Lists::boxed(alloc)?;
+        let end = scan::read_into(alloc, text, start, &mut lists.build)?;
+        return Ok((Qualifier::Lists(lists), end));
+    };
+    let run = scan::scan_run(text.as_bytes(), first);
+    if !scan::goes_on_at(text, run.0) && build_start(text, run.0).is_none() {
+        let id = scan::run_id(alloc, text, first, run)?;
+        return Ok((Qualifier::One(id), run.0));
     }
     let mut lists = Lists::boxed(alloc)?;
-    let next = read_from(alloc, text, at, start, &mut lists.pre_release)?;
-    let start = build_start(text, next);
-    let end = read_from(alloc, text, next, start, &mut lists.build)?;
+    let next = scan::read_into(alloc, text, first, &mut lists.pre_release)?;
+    let Some(start) = build_start(text, next) else {
+        return Ok((Qualifier::Lists(lists), next));
+    };
+    let end = scan::read_into(alloc, text, start, &mut lists.build)?;
     Ok((Qualifier::Lists(lists), end))
 }
 
