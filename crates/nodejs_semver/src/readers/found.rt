@@ -49,10 +49,10 @@ pub(crate) trait Filled<'a>: Found<'a> {
             ⊎ (list_any takes (denotes MAX_SAFE_INTEGER text.now) ≡ true)) };
 }
 
-// Room for an interval. A list that is full takes some for so many more beside it, at most 30. The
-// first interval stands inline.
+/// Room for an interval. A list that is full takes some for so many more beside it, at most 30. The
+/// first interval stands inline.
 #[inline(always)]
-fn make_room<V: Point>(more: usize, found: &mut Intervals<V>) -> Result<(), AllocError>
+pub(crate) fn make_room<V: Point>(more: usize, found: &mut Intervals<V>) -> Result<(), AllocError>
     ensures items { found.new.items ≡ found.old.items }
     ensures room { OnOk result (HasRoomFor found.new 1) }
     ensures memory { OnErr result (0 < length found.old.items) }
