@@ -1,5 +1,5 @@
 -- That the intersection and the difference of two lists are intervals of a range, and what they hold and accept.
-use Rattle.nodejs_semver.proofs.Common.{nat_tests, common_steps, Bool, Bound, IfOk, IfOk-weaker, IsRange, IsTotalOrder, IsTrue, List}
+use Rattle.nodejs_semver.proofs.Common.{Bool, Bound, IfOk, IfOk-weaker, IsRange, IsTotalOrder, IsTrue, List}
 use Rattle.nodejs_semver.proofs.Common.{MAX_SAFE_INTEGER, None, Option, Ordering, Result, Some, Span, VersionValue, [], accepts, all_flat}
 use Rattle.nodejs_semver.proofs.Common.{all_weaker, and_from, and_parts, ap, ap₂, arith, cond_both, cut_cmp, difference, false, first_so, flat_map}
 use Rattle.nodejs_semver.proofs.Common.{get_or, if_any, inl, inr, intersection, is_gt, is_interval, is_range_bound, is_range_span, is_release}

@@ -1,4 +1,4 @@
-use Rattle.nodejs_semver.proofs.Common.{List, None, Option, Some, [], arith, false, if_any, length, map, nat_tests, refl, true, ◌<◌, ◌==◌, ◌∷◌, ◌≡◌}
+use Rattle.nodejs_semver.proofs.Common.{List, None, Some, [], arith, false, if_any, length, map, nat_tests, refl, true, ◌<◌, ◌==◌, ◌∷◌, ◌≡◌}
 use Rattle.nodejs_semver.proofs.range.RangeOf.from_intervals.Goals as goal
 
 none_made : {A B : Type 0} (f : A → B) (xs : List A) → true ≡ (length xs == 0) → None ≡ if_any (map f xs)

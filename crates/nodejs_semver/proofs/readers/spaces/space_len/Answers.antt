@@ -1,5 +1,5 @@
 use Rattle.nodejs_semver.proofs.Common.{List, [], arith, false, get_or, length, nat_tests, refl, space_len, sym, true, ℕ, ◌<◌, ◌∷◌, ◌≡◌, ◌≤◌}
-use Rattle.nodejs_semver.specs.Words.{is_space_of_two, is_space_of_three}
+use Rattle.nodejs_semver.specs.Words.{is_space_of_two}
 use Rattle.nodejs_semver.proofs.readers.spaces.space_len.Goals as goal
 
 -- texts that begin with the byte of a longer character
