@@ -2,7 +2,7 @@
 
 mod bars;
 mod fast;
-mod found;
+pub(crate) mod found;
 mod intervals;
 mod kinds;
 mod loose;

@@ -1,6 +1,7 @@
 // Increments: the next version by a word, as release tools ask for it.
 
-ghost use Rattle.std.specs.Prelude.{◌≡◌, ◌≢◌, if◌then◌else◌};
+ghost use Rattle.std.specs.Prelude.{◌≡◌, ◌≢◌, codes, if◌then◌else◌, nat_eq};
+ghost use Rattle.std.specs.List.{starts_with};
 ghost use Rattle.semver_core.specs.Words.{False, fault_of, HasIdentifiers, IfOk, MayAllocate};
 ghost use Rattle.semver_core.specs.Words.{MemoryOnlyIf, OnErr, option_copied, parts_ref_value};
 ghost use Rattle.semver_core.specs.Words.{RefusedWith, Returns, Value};
@@ -138,6 +139,14 @@ fn check(alloc: Global, id: &str, base: IdentifierBase) -> Result<(), Failure<In
     }
 }
 
+// Whether a word begins with `pre`.
+#[inline(always)]
+fn begins_pre(word: &str) -> bool
+    ensures { result ≡ starts_with nat_eq word.now (codes "pre") }
+{
+    word.starts_with("pre")
+}
+
 // The checks of a word that begins with `pre`, and then the word. No identifier is an empty one,
 // and no base is `Value(0)`.
 fn increment(
@@ -156,7 +165,7 @@ fn increment(
 {
     let id = identifier.unwrap_or("");
     let base = base.unwrap_or_default();
-    if word.starts_with("pre") {
+    if begins_pre(word) {
         check(alloc, id, base)?;
     }
     by_word(alloc, version, word, id, base)

@@ -1,10 +1,10 @@
 -- That the intersection and the difference of two lists are intervals of a range, and what they hold and accept.
-use Rattle.nodejs_semver.proofs.Common.{nat_tests, common_steps, Bool, Bound, IfOk, IfOk-weaker, IsRange, IsTotalOrder, IsTrue, List}
+use Rattle.nodejs_semver.proofs.Common.{Bool, Bound, IfOk, IfOk-weaker, IsRange, IsTotalOrder, IsTrue, List}
 use Rattle.nodejs_semver.proofs.Common.{MAX_SAFE_INTEGER, None, Option, Ordering, Result, Some, Span, VersionValue, [], accepts, all_flat}
-use Rattle.nodejs_semver.proofs.Common.{all_weaker, and_parts, ap, ap₂, arith, cond_both, cut_cmp, difference, false, first_so, flat_map}
-use Rattle.nodejs_semver.proofs.Common.{get_or, if_any, intersection, is_gt, is_interval, is_range_bound, is_range_span, is_release}
+use Rattle.nodejs_semver.proofs.Common.{all_weaker, and_from, and_parts, ap, ap₂, arith, cond_both, cut_cmp, difference, false, first_so, flat_map}
+use Rattle.nodejs_semver.proofs.Common.{get_or, if_any, inl, inr, intersection, is_gt, is_interval, is_range_bound, is_range_span, is_release}
 use Rattle.nodejs_semver.proofs.Common.{is_some, left_above, left_below, length, length-map, list_all, list_all-append, list_holds}
-use Rattle.nodejs_semver.proofs.Common.{lower_cut, meet, meets_of, minus, not, option_accepts, option_list_holds, option_to_list}
+use Rattle.nodejs_semver.proofs.Common.{lower_cut, meet, meets_of, minus, span_of, not, option_accepts, option_list_holds, option_to_list}
 use Rattle.nodejs_semver.proofs.Common.{precedence, precedence_total, refl, remainder, remainders_by, spans_of, subst, sym, true}
 use Rattle.nodejs_semver.proofs.Common.{turned_lower, turned_upper, upper_cut, ℕ, ◌&&◌, ◌++◌, ◌+◌, ◌<◌, ◌∙◌, ◌∷◌, ◌≡◌, ◌≢◌, ◌⊎◌}
 use Rattle.nodejs_semver.proofs.Algebra.Accepting.{accepts-held, accepts-release, list_holds-meets_of, list_holds-minus}
@@ -42,11 +42,15 @@ module _ {V : Type 0} {R : V → V → Ordering} (o : IsTotalOrder R) (F : Bound
   fine-remainder : (s t : Span V) → is_fine s ≡ true → is_fine t ≡ true → list_all is_fine (remainder R s t) ≡ true
   fine-remainder s t h k =
       remainders_by o s t (λ r. list_all is_fine (option_to_list r.0 ++ option_to_list r.1) ≡ true)
-      (λ _. grind (arith, fine_bounds, list_all-append, fine-left_below, fine-left_above)) (λ _. rw h refl)
+      (λ _. let (a, b) = fine_bounds s h in
+      let (c, d) = fine_bounds t k in
+      list_all-append is_fine (option_to_list (left_below R s t)) (option_to_list (left_above R s t))
+      ∙ and_from _ _ (fine-left_below s t a c) (fine-left_above s t d b)) (λ _. rw h refl)
 
   pub fine-meets_of : (ss ts : List (Span V)) → list_all is_fine ss ≡ true → list_all is_fine ts ≡ true
       → list_all is_fine (meets_of R ss ts) ≡ true
-  fine-meets_of ss ts h k = grind (arith, all_flat, all_weaker, fine-meet)
+  fine-meets_of ss ts h k = all_flat is_fine _ ss
+      ∙ all_weaker is_fine _ (λ s e. all_flat is_fine _ ts ∙ all_weaker is_fine _ (λ t f. fine-meet s t e f) ts k) ss h
 
   pub fine-minus : (ss ts : List (Span V)) → list_all is_fine ss ≡ true → list_all is_fine ts ≡ true
       → list_all is_fine (minus R ss ts) ≡ true
@@ -75,11 +79,13 @@ listed_none m is e f = grind arith
 
 option_accepts-held : (r : Option (List (Span VersionValue))) (v : VersionValue)
     → option_accepts r v true ≡ option_list_holds precedence r v
-option_accepts-held r v = grind (arith, accepts-held)
+option_accepts-held None v = refl
+option_accepts-held (Some ss) v = accepts-held ss v
 
 option_accepts-release : (r : Option (List (Span VersionValue))) (v : VersionValue) → is_release v ≡ true
     → option_accepts r v false ≡ option_list_holds precedence r v
-option_accepts-release r v h = grind (arith, accepts-release)
+option_accepts-release None v h = refl
+option_accepts-release (Some ss) v h = accepts-release ss v h
 
 -- what holds of a list holds of a result that is this list
 pub of_result : {E : Type 0} (list : Option (List (Span VersionValue))) (r : Result (Option (List (Span VersionValue))) E)
@@ -145,10 +151,13 @@ module _ {V : Type 0} (R : V → V → Ordering) (value : V → VersionValue)
 
   -- where the lists have an intersection or a difference, the ranges do
   pub meets_of-some : 0 < length (meets_of R xs ys) → IsTrue (is_some (intersection a b))
-  meets_of-some e = grind (arith, nat_tests, common_steps, any_some, length-map, meets_of-is)
+  meets_of-some e =
+      any_some _ (subst (λ (l : List (Span VersionValue)). 0 < length l) meets_of-is (rw (length-map (meets_of R xs ys)) e))
 
   pub minus-some : (0 < length (minus R xs ys)) ⊎ (length ys ≢ 1) → IsTrue (is_some (difference a b)) ⊎ (1 < length b)
-  minus-some e = grind (arith, nat_tests, common_steps, any_some, length-map, minus-is, several)
+  minus-some (inl e) =
+      inl (any_some _ (subst (λ (l : List (Span VersionValue)). 0 < length l) minus-is (rw (length-map (minus R xs ys)) e)))
+  minus-some (inr n) = inr (several b k.some (λ e. n (sym (length-map ys (span_of value)) ∙ ap length q ∙ e)))
 
   pub intervals-ordered : list_all (is_interval R) xs ≡ true
   intervals-ordered =

@@ -4,7 +4,7 @@ use Rattle.nodejs_semver.proofs.Common.{Unbounded, [], and-false, and_from, and_
 use Rattle.nodejs_semver.proofs.Common.{below_lesser, below_upto, between, between_from, between_parts, cases_Bool, clip, cut_cmp, drop}
 use Rattle.nodejs_semver.proofs.Common.{false, flat_flat, flat_map, flat_map-append, flat_same, fold-append, get_or, get_or-drop}
 use Rattle.nodejs_semver.proofs.Common.{greater_below, greater_lower, gt_lt, if◌then◌else◌, inl, inr, irreflexive, is_interval, is_lt}
-use Rattle.nodejs_semver.proofs.Common.{is_some, is_some-interval, length, length-drop, lesser_upper, list_all, lower_cut, lt, lt_trans}
+use Rattle.nodejs_semver.proofs.Common.{is_some, is_some-interval, left_above, left_below, length, length-drop, lesser_upper, list_all, lower_cut, lt, lt_trans}
 use Rattle.nodejs_semver.proofs.Common.{minus, not, not-false, not_above, not_below, not_if, one_way, option_to_list, refl, remainder}
 use Rattle.nodejs_semver.proofs.Common.{remainders_by, subst, suc, sym, take, take_all, true, turned_lower, turned_upper, upper_cut}
 use Rattle.nodejs_semver.proofs.Common.{upto_below, zero, ℕ, ◌&&◌, ◌++◌, ◌+◌, ◌<◌, ◌∙◌, ◌∷◌, ◌≡◌, ◌≤◌}
@@ -68,11 +68,20 @@ module _ {V : Type 0} {R : V → V → Ordering} (o : IsTotalOrder R) where
       → greater_lower R t.upper s.lower ≡ (if lt o (lower_cut s.lower) (upper_cut t.upper) then t.upper else s.lower)
   left_upper s t h = grind (arith, gt_lt, turned_upper)
 
+  below_met : (s t : Span V) → lt o (lower_cut t.lower) (upper_cut s.upper) ≡ true
+      → option_to_list (left_below R s t) ≡ below s t.lower
+  below_met s t h = grind (arith, left_lower)
+
+  above_met : (s t : Span V) → lt o (lower_cut s.lower) (upper_cut t.upper) ≡ true
+      → option_to_list (left_above R s t) ≡ above s t.upper
+  above_met s t h = grind (arith, left_upper)
+
   remainder_is : (s t : Span V) → is_interval R s ≡ true → is_interval R t ≡ true
       → remainder R s t ≡ below s t.lower ++ above s t.upper
   remainder_is s t h k =
       remainders_by o s t (λ r. (option_to_list r.0 ++ option_to_list r.1) ≡ below s t.lower ++ above s t.upper)
-      (λ e. grind (arith, between_parts, left_lower, left_upper))
+      (λ e. let m = between_parts o s.lower t.lower s.upper t.upper e in
+      ap₂ (λ l k. l ++ k) (below_met s t m.1.0) (above_met s t m.0.1))
       (λ e. grind (arith, below_upto, not_below, left_lower, not_above, upto_below, left_upper, between_from))
 
   -- what is clipped from a piece of c is a piece of what is clipped from c

@@ -5,6 +5,7 @@ ghost use Rattle.nodejs_semver.specs.Words.{accepts, IfNone, IfSome, is_le, is_l
 ghost use Rattle.nodejs_semver.specs.Words.{List, map, option_copied, option_map, precedence};
 ghost use Rattle.nodejs_semver.specs.Words.{replaces, Some, spans_of, true, VersionValue};
 
+use crate::range::choice::is_none_above;
 use crate::range::gate::accepts;
 use crate::{Range, RangeRef};
 use semver_core::cuts::Interval;
@@ -212,10 +213,7 @@ fn is_new_max<V: VersionPoint, W: Versioned>(
         (λ v. accepts (spans_of V.value intervals.now) v include)
         (option_map (λ v. W.value v.now) best.entry) (W.value version.now) }
 {
-    match best {
-        Some(best) => best.cmp_precedence(version).is_le() && accepts(intervals, version, include),
-        None => accepts(intervals, version, include),
-    }
+    is_none_above(version, best) && accepts(intervals, version, include)
 }
 
 // Whether the intervals accept a version, and the best so far is above it.

@@ -113,8 +113,6 @@ pub loose_not : (limit : ℕ) (text : List ℕ) (start : ℕ) (o : Option (ℕ �
 loose_not limit text start None a e = loose_none limit text start a (rw (← e) refl)
 loose_not limit text start (Some t) a e = tt
 
-pub ruleset numbers_found = (front_read)
-
 -- what stands behind the numbers
 pub release_read : (limit : ℕ) (text : List ℕ) (major minor patch at : ℕ) (v : VersionValue)
     → Reads limit text (qualified text (major, minor, patch, at)) → length text ≤ at → v ≡ release_value major minor patch

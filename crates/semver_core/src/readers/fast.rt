@@ -65,7 +65,6 @@ pub(crate) fn leading_numbers(text: &str) -> Option<(u64, u64, u64, usize)>
 
 // The numbers of the version at the front of a text, and the place behind them.
 #[inline(always)]
-#[tactic(auto, using(crate::proofs::Text::Fronts::numbers_found))]
 pub(crate) fn numbers(text: &str) -> Option<(u64, u64, u64, usize)>
     ensures some { IfSome result (λ found.
         Reads MAX_SAFE_INTEGER text.now (qualified text.now found)) }

@@ -1,0 +1,14 @@
+use Rattle.nodejs_semver.proofs.Common.{After, Before, Bound, Unbounded, VersionValue, bound_of, refl, ◌∙◌, ◌≡◌}
+use Rattle.nodejs_semver.proofs.range.least.start.Goals as goal
+
+not_before : {V : Type 0} (value : V → VersionValue) (b : Bound V) → ((x : V) → b ≡ Before x → ⊥)
+    → (v : VersionValue) → bound_of value b ≡ Before v → ⊥
+not_before value Unbounded h v e = cc e
+not_before value (After x) h v e = cc e
+not_before value (Before x) h v e = h x refl
+
+pub returns-in_default : goal.returns-in_default
+returns-in_default g c = record {
+  some = tt;
+  none = not_before g.V.Versioned.value c.args.interval.now.lower (λ x f. c.in_default.not-Before x (c.lower.ensures.value ∙ f));
+}
