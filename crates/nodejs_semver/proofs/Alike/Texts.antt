@@ -8,8 +8,8 @@ use Rattle.nodejs_semver.proofs.Common.{trim_is_middle, true, ℕ, ◌&&◌, ◌
 use Rattle.nodejs_semver.proofs.NpmCommon.{AreAlternatives, AreEndMarks, Comparison, HasAlternatives, IsAlternative}
 use Rattle.nodejs_semver.proofs.NpmCommon.{IsPlainText, IsPlainWord, IsSignText, IsWord, are_marks, at_least, compared, counts}
 use Rattle.nodejs_semver.proofs.NpmCommon.{is_free_lower, is_free_upper, is_valid, is_within, lit<, meets, more, none, one_word}
-use Rattle.nodejs_semver.proofs.{NpmCommon.{signed, spelling, two_words}, Alike.{Beside.two-good, Hyphens.between-good}}
-use Rattle.nodejs_semver.proofs.Alike.{Rows.{Good, SameWord, word-good}, Tests.{IsWithin, within}}
+use Rattle.nodejs_semver.proofs.{NpmCommon.{signed, spelling, two_words}, Alike.{Beside.two-good, Ends.{IsWithin, within}}}
+use Rattle.nodejs_semver.proofs.Alike.{Hyphens.between-good, Rows.{Good, SameWord, word-good}}
 use Rattle.nodejs_semver.proofs.Dividing.{BarsDivide.bars_divide, MeaningLaw.pieces-utf8}
 use Rattle.nodejs_semver.proofs.Everyday.Texts.{common_parts_are_denoted, compact-trim, cut-first, cut-last, list-some}
 use Rattle.nodejs_semver.proofs.{Everyday.{Texts.part-tidy, Words.{Compact, is_part_byte}}, Reading.Bytes.all-join}
