@@ -72,7 +72,6 @@ impl<'a> Alternative<'a> {
 
     /// The same with the comparators of one more word, whose partial has this text with its marks;
     /// none where one of the comparators is not valid.
-    #[tactic(auto, using(crate::proofs::Strict::Narrowing::narrowed_read))]
     pub(crate) fn meet(
         self,
         include: bool,
@@ -91,7 +90,6 @@ impl<'a> Alternative<'a> {
     }
 
     /// The same with the lower end of a hyphen range.
-    #[tactic(auto, using(crate::proofs::Strict::Narrowing::narrowed_read))]
     pub(crate) fn meet_lower(
         self,
         include: bool,
@@ -109,7 +107,6 @@ impl<'a> Alternative<'a> {
     }
 
     /// The same with the upper end of a hyphen range.
-    #[tactic(auto, using(crate::proofs::Strict::Narrowing::narrowed_read))]
     pub(crate) fn meet_upper(
         self,
         include: bool,
