@@ -76,7 +76,10 @@ builds : (limit : ℕ) (t : List ℕ) → (tail_runs (pieces t) ≡ true → run
     × (list_all is_identifier (pieces t) ≡ true → run limit Plus t ≡ Some Build)
 unfolding run next
 builds limit [] = (λ h. refl, λ h. cc h)
-builds limit (c ∷ t) = grind (arith, nat_tests, common_steps, eqb-true, runs-first, runs_tail, builds limit t)
+builds limit (c ∷ t) = elim (cases_Bool (c == 46)) [
+  | inl dot ↦ grind (arith, nat_tests, common_steps, eqb-true, runs_tail, dot, builds limit t)
+  | inr other ↦ grind (arith, nat_tests, common_steps, runs-first, other, builds limit t)
+]
 
 -- a pre-release ends here
 abbrev IsEnd : State → Type 0
