@@ -134,11 +134,11 @@ fn after_dash(text: &[u8]) -> Option<&[u8]>
     }
 }
 
-// The upper end, where it ends the text.
+// The upper end behind whitespace, `-` and whitespace, where it ends the text.
 fn last_end(loose: bool, include: bool, text: &[u8]) -> Option<End<'_>>
     ensures { end_some_view result ≡ Spec.last_limited loose MAX_SAFE_INTEGER include text.now }
 {
-    let (upper, rest) = end_front(loose, Side::Upper { include }, text)?;
+    let (upper, rest) = end_front(loose, Side::Upper { include }, after_dash(text)?)?;
     if rest.is_empty() { Some(upper) } else { None }
 }
 
@@ -147,6 +147,6 @@ pub(crate) fn hyphen_ends(loose: bool, include: bool, text: &[u8]) -> Option<(En
     ensures { hyphen_view result ≡ Spec.hyphen_of loose MAX_SAFE_INTEGER include text.now }
 {
     let (lower, rest) = end_front(loose, Side::Lower, text)?;
-    let upper = last_end(loose, include, after_dash(rest)?)?;
+    let upper = last_end(loose, include, rest)?;
     Some((lower, upper))
 }
