@@ -24,11 +24,11 @@ use Rattle.nodejs_semver.specs.Npm.Table as Table
 pub interval-is : (s t : Span VersionValue) → interval precedence s ≡ Some t → (t ≡ s) × (is_interval precedence s ≡ true)
 interval-is s t e = grind arith
 
-released_bits : (r hs ht ls lt l ps pt ns nt : Bool) → (r ≡ true → ls ≡ true) → (r ≡ true → lt ≡ true)
-    → (hs ≡ true → ht ≡ true → l ≡ (ls || lt)) → (hs && ls) ≡ (ps && (r || ns)) → (ht && lt) ≡ (pt && (r || nt))
-    → r ≡ true → ((hs && ht) && l) ≡ ((ps && pt) && (r || (ns || nt)))
-released_bits true hs ht ls lt l ps pt ns nt f g h s t e = grind arith
-released_bits false hs ht ls lt l ps pt ns nt f g h s t e = cc e
+met_bits : (r hs ht ls lt l ps pt ns nt : Bool) → (r ≡ true → ls ≡ true) → (r ≡ true → lt ≡ true) → (hs ≡ true → ht ≡ true → l ≡ (ls || lt))
+    → (hs && ls) ≡ (ps && (r || ns)) → (ht && lt) ≡ (pt && (r || nt)) → (r ≡ false → (ps && ns) ≡ true → ht ≡ pt)
+    → (r ≡ false → (pt && nt) ≡ true → hs ≡ ps) → ((hs && ht) && l) ≡ ((ps && pt) && (r || (ns || nt)))
+met_bits true hs ht ls lt l ps pt ns nt a b h s t f g = grind arith
+met_bits false hs ht ls lt l ps pt ns nt a b h s t f g = grind arith
 
 none_bits : (ps pt ns nt : Bool) → (ps && ns) ≡ false → (pt && nt) ≡ false → ((ps && pt) && (ns || nt)) ≡ false
 none_bits ps pt ns nt s t = grind arith
@@ -253,12 +253,6 @@ module _ (v : VersionValue) (w : IsWithin MAX_SAFE_INTEGER v) where
             (compared-held pre v w r y d q (form pre q hq.is.plain) hq.may hq.is.npm hq.valid far)
       ]
 
-cross_bits : (r hs ht ls lt l ps pt ns nt : Bool) → r ≡ false → (hs ≡ true → ht ≡ true → l ≡ (ls || lt)) → (hs && ls) ≡ (ps && (r || ns))
-    → (ht && lt) ≡ (pt && (r || nt)) → ((ps && ns) ≡ true → ht ≡ pt) → ((pt && nt) ≡ true → hs ≡ ps)
-    → ((hs && ht) && l) ≡ ((ps && pt) && (r || (ns || nt)))
-cross_bits true hs ht ls lt l ps pt ns nt e h s t f g = cc e
-cross_bits false hs ht ls lt l ps pt ns nt e h s t f g = grind arith
-
 met-same : (pre : Bool) (v : VersionValue) (s t m : Span VersionValue) (cs ds : List Comparison) → meet precedence s t ≡ Some m
     → SameWord pre v s cs → SameWord pre v t ds
     → (is_release v ≡ false → (passed v cs && named_by v cs) ≡ true → holds precedence t v ≡ passed v ds)
@@ -266,14 +260,8 @@ met-same : (pre : Bool) (v : VersionValue) (s t m : Span VersionValue) (cs ds : 
     → SameWord pre v m (cs ++ ds)
 met-same pre v s t m cs ds e h k f g = record {
   same = rw ((interval-is (both s t) m e).0, holds-both s t v)
-      (elim (cases_Bool (is_release v)) [
-        | inl r ↦
-            released_bits (is_release v) (holds precedence s v) (holds precedence t v) (lets_in s v) (lets_in t v) (lets_in (both s t) v)
-            (passed v cs) (passed v ds) (named_by v cs) (named_by v ds) (release_in s v) (release_in t v) (lets_in-both s t v) h.same k.same r
-        | inr r ↦
-            cross_bits (is_release v) (holds precedence s v) (holds precedence t v) (lets_in s v) (lets_in t v) (lets_in (both s t) v)
-            (passed v cs) (passed v ds) (named_by v cs) (named_by v ds) r (lets_in-both s t v) h.same k.same (f r) (g r)
-      ]
+      (met_bits (is_release v) (holds precedence s v) (holds precedence t v) (lets_in s v) (lets_in t v) (lets_in (both s t) v) (passed v cs)
+      (passed v ds) (named_by v cs) (named_by v ds) (release_in s v) (release_in t v) (lets_in-both s t v) h.same k.same f g
       ∙ sym (meets-both v cs ds));
   released = λ n r. meets-both v cs ds
       ∙ rw r (none_bits (passed v cs) (passed v ds) (named_by v cs) (named_by v ds) (rw r at (h.released n r)) (rw r at (k.released n r)));

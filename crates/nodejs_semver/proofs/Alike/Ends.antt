@@ -135,17 +135,11 @@ upper-after w v = ap not (past-after w v) ∙ not_gt (precedence v w)
 
 -- ---- no end
 
-pub no_lower : (v : VersionValue) → Tame v (from_lower Unbounded v) (names Unbounded v) []
-no_lower v = record { released = λ _. refl; here = refl; there = refl }
+pub free-tame : (v : VersionValue) → Tame v true false []
+free-tame v = record { released = λ _. refl; here = refl; there = refl }
 
-pub no_upper : (v : VersionValue) → Tame v (to_upper Unbounded v) (names Unbounded v) []
-no_upper v = record { released = λ _. refl; here = refl; there = refl }
-
-no_lower-exact : (v : VersionValue) → Exact v (from_lower Unbounded v) (names Unbounded v) []
-no_lower-exact v = record { tested = refl; named = refl }
-
-pub no_upper-exact : (v : VersionValue) → Exact v (to_upper Unbounded v) (names Unbounded v) []
-no_upper-exact v = record { tested = refl; named = refl }
+pub free-exact : (v : VersionValue) → Exact v true false []
+free-exact v = record { tested = refl; named = refl }
 
 -- ---- one comparator
 
@@ -285,17 +279,17 @@ most_minor v limit M m k = grind (arith, nat_tests, common_steps)
 
 pub whole_above : (v w : VersionValue) (text : List ℕ) → ExactWord v (record { lower = After w; upper = Unbounded }) (put above w text ∷ [])
 whole_above v w text = exact-span v (After w) Unbounded (put above w text ∷ []) []
-    (counted-exact v _ _ (put above w text) refl (past-after w v) refl) (no_upper-exact v)
+    (counted-exact v _ _ (put above w text) refl (past-after w v) refl) (free-exact v)
 
 pub whole_below : (v w : VersionValue) (text : List ℕ) → ExactWord v (record { lower = Unbounded; upper = Before w }) (put below w text ∷ [])
-whole_below v w text = exact-span v Unbounded (Before w) [] (put below w text ∷ []) (no_lower-exact v)
+whole_below v w text = exact-span v Unbounded (Before w) [] (put below w text ∷ []) (free-exact v)
     (counted-exact v _ _ (put below w text) refl (upper-before w v) refl)
 
 pub most-exact : (v w : VersionValue) (text : List ℕ) → Exact v (to_upper (After w) v) (names (After w) v) (put at_most w text ∷ [])
 most-exact v w text = counted-exact v _ _ (put at_most w text) refl (upper-after w v) refl
 
 pub whole_most : (v w : VersionValue) (text : List ℕ) → ExactWord v (record { lower = Unbounded; upper = After w }) (put at_most w text ∷ [])
-whole_most v w text = exact-span v Unbounded (After w) [] (put at_most w text ∷ []) (no_lower-exact v) (most-exact v w text)
+whole_most v w text = exact-span v Unbounded (After w) [] (put at_most w text ∷ []) (free-exact v) (most-exact v w text)
 
 equal_tests : (g l e : Bool) → (g && l) ≡ e → (g && l) ≡ (e && true)
 equal_tests g l e h = grind arith

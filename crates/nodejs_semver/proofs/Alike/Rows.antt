@@ -9,10 +9,10 @@ use Rattle.nodejs_semver.proofs.NpmCommon.{dotted_place, from, is_plain, is_vali
 use Rattle.nodejs_semver.proofs.NpmCommon.{next_changed, npm_partial, or-true, patch_place, place_front, pre_front}
 use Rattle.nodejs_semver.proofs.{NpmCommon.{qualified_partial, release, signed, under, whole}, Alike.Ends.{Alike, Exact}}
 use Rattle.nodejs_semver.proofs.Alike.Ends.{ExactWord, IsWithin, Low, Released, Spelled, Tame, any_low, apart_bits, below-tame}
-use Rattle.nodejs_semver.proofs.Alike.Ends.{exact-span, from_low, from_lower, low-exact, low-tame, made-spelled, meets-both}
-use Rattle.nodejs_semver.proofs.Alike.Ends.{most-tame, most_major, most_minor, named_by, no_lower, no_upper, no_upper-exact}
-use Rattle.nodejs_semver.proofs.Alike.Ends.{open-tame, passed, put, tame-both, to_upper, under-exact, under-tame, whole_above}
-use Rattle.nodejs_semver.proofs.{Alike.Ends.{whole_below, whole_equal, whole_low, whole_most}, Strict.PartialLaw.partial-read}
+use Rattle.nodejs_semver.proofs.Alike.Ends.{exact-span, free-exact, free-tame, from_low, from_lower, low-exact, low-tame}
+use Rattle.nodejs_semver.proofs.Alike.Ends.{made-spelled, meets-both, most-tame, most_major, most_minor, named_by, open-tame}
+use Rattle.nodejs_semver.proofs.Alike.Ends.{passed, put, tame-both, to_upper, under-exact, under-tame, whole_above, whole_below}
+use Rattle.nodejs_semver.proofs.{Alike.Ends.{whole_equal, whole_low, whole_most}, Strict.PartialLaw.partial-read}
 use Rattle.nodejs_semver.specs.{Internal.NpmWords.partial_front, Npm.{Alike.{bare, word_of}, Table.{Sign, lowest}}}
 use Rattle.nodejs_semver.specs.Npm.Table as Npm
 
@@ -80,15 +80,15 @@ band-word pre v n m h = until-word pre v (release n) m (or-true pre) h
 from-word : (pre : Bool) (v : VersionValue) (n : Numbers) → list_all (is_valid MAX_SAFE_INTEGER) (from false n ∷ []) ≡ true
     → SameWord pre v (record { lower = Before (release n); upper = Unbounded }) (from false n ∷ [])
 from-word pre v n h = low-word pre v (release n) Unbounded (from false n ∷ []) [] (or-true pre)
-    (from_low v n (first_so (is_valid MAX_SAFE_INTEGER (from false n)) _ h)) (no_upper v) (no_upper-exact v)
+    (from_low v n (first_so (is_valid MAX_SAFE_INTEGER (from false n)) _ h)) (free-tame v) (free-exact v)
 
 any-word : (pre : Bool) (v : VersionValue) → SameWord pre v (record { lower = Before (release (0, 0, 0)); upper = Unbounded }) []
-any-word pre v = low-word pre v (release (0, 0, 0)) Unbounded [] [] (or-true pre) (any_low v) (no_upper v) (no_upper-exact v)
+any-word pre v = low-word pre v (release (0, 0, 0)) Unbounded [] [] (or-true pre) (any_low v) (free-tame v) (free-exact v)
 
 -- up to them
 upper-word : (pre : Bool) (v : VersionValue) (u : Bound VersionValue) (c : Comparison) → Tame v (to_upper u v) (names u v) (c ∷ [])
     → SameWord pre v (record { lower = Unbounded; upper = u }) (c ∷ [])
-upper-word pre v u c h = tame-word pre v Unbounded u [] (c ∷ []) (no_lower v) h
+upper-word pre v u c h = tame-word pre v Unbounded u [] (c ∷ []) (free-tame v) h
 
 -- ---- the forms of partials
 
@@ -170,7 +170,7 @@ module _ (pre : Bool) (v : VersionValue) (within : IsWithin MAX_SAFE_INTEGER v) 
   least-good p (two M n) m t h = from-word pre v (M, n, 0) h
   least-good p (three M n o x y e) m t h =
       let w : VersionValue = record { major = M; minor = n; patch = o; pre_release = x; build = y } in
-      low-word pre v w Unbounded (put at_least w text ∷ []) [] e (whole_low v w text (text-spelled text w t)) (no_upper v) (no_upper-exact v)
+      low-word pre v w Unbounded (put at_least w text ∷ []) [] e (whole_low v w text (text-spelled text w t)) (free-tame v) (free-exact v)
 
   above-good : Rows (compared above)
   unfolding table

@@ -77,13 +77,7 @@ no_ends : (free : Bool) → AreEndMarks false free []
 no_ends free = record { characters = []; spelled = refl; each = refl; whole = either_true free }
 
 sign_text : (s : Sign) → IsSignText (spelling s) s
-sign_text (compared at_least) = Npm.sign (compared at_least) [] no_blank
-sign_text (compared above) = Npm.sign (compared above) [] no_blank
-sign_text (compared equal) = Npm.sign (compared equal) [] no_blank
-sign_text (compared at_most) = Npm.sign (compared at_most) [] no_blank
-sign_text (compared below) = Npm.sign (compared below) [] no_blank
-sign_text Table.caret = Npm.sign Table.caret [] no_blank
-sign_text Table.tilde = Npm.sign Table.tilde [] no_blank
+sign_text s = rw append-nil at (Npm.sign s [] no_blank)
 
 no_mark : (a : Bool) → (a && false) ≡ false
 no_mark a = grind arith
@@ -224,14 +218,10 @@ plain-same text list all v h small =
       | inr r ↦ each-released h.pre v text list all w h.divided h.valid (closed h.pre (list_any is_bare all) e h.counted) r ∙ sym r
     ]
 
--- one interval or more
-list-filled : (text : List ℕ) (list : List (Span VersionValue)) (all : List (List Comparison))
-    → IsPlainText MAX_SAFE_INTEGER text list all → 0 < length list
-list-filled text list all h = list-some MAX_SAFE_INTEGER text list (parts-common MAX_SAFE_INTEGER h.pre text list all h.divided)
-
 pub plain-read : (text : List ℕ) (list : List (Span VersionValue)) (all : List (List Comparison)) → IsUtf8 text
     → IsPlainText MAX_SAFE_INTEGER text list all → Means MAX_SAFE_INTEGER text list × (0 < length list)
-plain-read text list all u h = (plain-means text list all u h, list-filled text list all h)
+plain-read text list all u h =
+    (plain-means text list all u h, list-some MAX_SAFE_INTEGER text list (parts-common MAX_SAFE_INTEGER h.pre text list all h.divided))
 
 -- ---- ranges of the text
 
