@@ -1,8 +1,8 @@
 -- Worked rows: a text that means the same here and to node-semver, with its intervals and its comparators.
-use Rattle.nodejs_semver.proofs.Common.{Before, IsNumber, List, None, Partial, Some, Span, VersionValue, [], above, below}
-use Rattle.nodejs_semver.proofs.Common.{codes, false, inr, length, lit≤, lowest, refl, release_value, true, ℕ, ◌∷◌, ◌≡◌, ◌≤◌}
-use Rattle.nodejs_semver.proofs.NpmCommon.{IsPlainPartial, IsPlainText, digits, from, is_spelled, lit<, more, one_word, signed}
-use Rattle.nodejs_semver.{proofs.NpmCommon.{two_words, under}, specs.Npm.{Alike.one, Table.caret}}
+use Rattle.nodejs_semver.proofs.Common.{Before, IsNumber, List, None, Partial, Some, Span, VersionValue, [], above, arith}
+use Rattle.nodejs_semver.proofs.Common.{below, codes, false, inr, length, lit≤, lowest, refl, release_value, true, ℕ, ◌∷◌, ◌≡◌}
+use Rattle.nodejs_semver.proofs.{Common.◌≤◌, NpmCommon.{IsPlainPartial, IsPlainText, digits, from, is_spelled, lit<, more}}
+use Rattle.nodejs_semver.{proofs.NpmCommon.{one_word, signed, two_words, under}, specs.Npm.{Alike.one, Table.caret}}
 use Rattle.nodejs_semver.specs.Npm.RangeText as Npm
 use Rattle.nodejs_semver.specs.Text.PartialText as Here
 use Rattle.nodejs_semver.specs.Text.Table as Spans
@@ -19,7 +19,7 @@ IsPart text M = IsPlainPartial limit false text (part M)
 part_is : (text : List ℕ) (M : ℕ) → IsNumber limit text M → is_spelled false false M text ≡ true → length text ≤ 257 → IsPart text M
 part_is text M n spelled short = record {
   here = Here.one text (Some M) (Here.number text M n);
-  npm = Npm.one text (Some M) (Npm.number text M n spelled short);
+  npm = Npm.one text (Some M) (Npm.number text M (record { some = n.some; each = n.each; value = n.value; safe = omega arith }) spelled short);
   plain = refl;
 }
 
