@@ -4,12 +4,6 @@ use Rattle.nodejs_semver.proofs.Common.{VersionValue, accepts, ap, arith, common
 use Rattle.{nodejs_semver.proofs.Common.{on_err, sym, true, ◌&&◌, ◌↔◌, ◌∙◌, ◌≡◌, ◌⊎◌}, std.proofs.Common.OnErr}
 use Rattle.nodejs_semver.{proofs.NpmCommon.is_none, specs.Npm.Subsets.{AcceptSame, IsSubset}}
 
-within : (x y : Bool) → (x && not y) ≡ false → x ≡ true → y ≡ true
-within x y h k = grind arith
-
-none_left : (x y : Bool) → (x ≡ true → y ≡ true) → (x && not y) ≡ false
-none_left x y h = grind arith
-
 -- by the least version beyond, and by what a set of what is left has
 pub by_least : (a b : List (Span VersionValue)) (set : VersionValue → Bool) (include : Bool)
     → ((v : VersionValue) → set v ≡ (accepts a v include && not (accepts b v include)))
