@@ -88,18 +88,22 @@ pub record IsUnique (C : Chosen) : Type 0 where
   pub same : (text f t b x y z : List ℕ) → IsTupleIn text f t b → C text f t b → IsTupleIn text x y z → C text x y z → y ≡ t
 
 pub leftmost-unique : IsUnique IsLeftmost
-leftmost-unique = record { same = λ text f t b x y z h k m n.
-    let same : length f ≡ length x = omega (arith, k.first x y z m, n.first f t b h) in
-    let long : length t ≡ length y = omega (arith, k.longest x y z m (sym same), n.longest f t b h same) in
-    same-tuple text f t b x y z h.divided m.divided same long }
+leftmost-unique = record {
+  same = λ text f t b x y z h k m n.
+      let same : length f ≡ length x = omega (arith, k.first x y z m, n.first f t b h) in
+      let long : length t ≡ length y = omega (arith, k.longest x y z m (sym same), n.longest f t b h same) in
+      same-tuple text f t b x y z h.divided m.divided same long;
+}
 
 pub rightmost-unique : IsUnique IsRightmost
-rightmost-unique = record { same = λ text f t b x y z h k m n.
-    let same : length b ≡ length z = omega (arith, k.last x y z m, n.last f t b h) in
-    let long : length t ≡ length y = omega (arith, k.longest x y z m (sym same), n.longest f t b h same) in
-    let one : length text ≡ length f + (length t + length b) = ap length h.divided ∙ length-append f (t ++ b) ∙ omega (arith, length-append t b) in
-    let other : length text ≡ length x + (length y + length z) = ap length m.divided ∙ length-append x (y ++ z) ∙ omega (arith, length-append y z) in
-    same-tuple text f t b x y z h.divided m.divided (omega (arith, one, other, same, long)) long }
+rightmost-unique = record {
+  same = λ text f t b x y z h k m n.
+      let same : length b ≡ length z = omega (arith, k.last x y z m, n.last f t b h) in
+      let long : length t ≡ length y = omega (arith, k.longest x y z m (sym same), n.longest f t b h same) in
+      let one : length text ≡ length f + (length t + length b) = ap length h.divided ∙ length-append f (t ++ b) ∙ omega (arith, length-append t b) in
+      let other : length text ≡ length x + (length y + length z) = ap length m.divided ∙ length-append x (y ++ z) ∙ omega (arith, length-append y z) in
+      same-tuple text f t b x y z h.divided m.divided (omega (arith, one, other, same, long)) long;
+}
 
 abbrev pub Number : Type 1
 Number = List ℕ → ℕ → Type 0

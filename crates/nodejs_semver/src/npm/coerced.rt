@@ -3,8 +3,8 @@
 ghost use Rattle.std.specs.Prelude.{◌≡◌, ◌≤◌, take};
 ghost use Rattle.nodejs_semver.specs.Words.{IfNone, IfSome, IsNumber, List, MAX_SAFE_INTEGER};
 ghost use Rattle.nodejs_semver.specs.Words.{NoValue, front_view, is_ascii_digit, length, ℕ};
-ghost use Rattle.nodejs_semver.specs.{Internal.NpmTuples.{HasNoTuple, IsLongestAt}, Npm.Coerced.IsCoerced};
-ghost use Rattle.nodejs_semver.specs.Npm.Coerced.{IsLeftmost, IsRightmost, IsTupleIn};
+ghost use Rattle.nodejs_semver.specs.Internal.NpmTuples.{HasNoTuple, IsLongestAt};
+ghost use Rattle.nodejs_semver.specs.Npm.Coerced.{IsCoerced, IsLeftmost, IsRightmost, IsTupleIn};
 ghost use Rattle.nodejs_semver.specs.Npm.Grammar.{IsStrictNumber};
 ghost use Rattle.semver_core.specs.Text.Characters.{ends};
 ghost use Rattle.nodejs_semver.specs.Internal.NpmTuples as Spec;

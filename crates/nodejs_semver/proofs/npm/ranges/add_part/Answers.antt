@@ -1,5 +1,4 @@
-use Rattle.nodejs_semver.proofs.Common.{◌≡◌, ◌++◌, arith, ℕ, List, None, Option, Some, Span, VersionValue, ap, append-nil, option_to_list, subst, sym, ◌∙◌}
-use Rattle.nodejs_semver.specs.Internal.NpmReads.{IsFound, valid_alternative}
+use Rattle.nodejs_semver.proofs.Common.{◌≡◌, ◌++◌, arith, None, Option, Some, Span, VersionValue, ap, append-nil, option_to_list, sym, ◌∙◌}
 use Rattle.nodejs_semver.proofs.Strict.RangeReads.{part-added, part-lost}
 use Rattle.nodejs_semver.proofs.npm.ranges.add_part.Goals as goal
 
