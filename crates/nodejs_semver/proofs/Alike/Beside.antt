@@ -1,24 +1,40 @@
 -- Two comparisons beside each other, of which one may be of a pre-release.
-use Rattle.nodejs_semver.proofs.Common.{After, Before, Bool, Bound, Comparator, Greater, Id, List, MAX_SAFE_INTEGER, None}
-use Rattle.nodejs_semver.proofs.Common.{Numeric, Option, Ordering, Partial, Some, Span, Unbounded, VersionValue, [], above}
-use Rattle.nodejs_semver.proofs.Common.{and-true, and_parts, ap, arith, at_most, below, cases_Bool, common_steps, compare}
-use Rattle.nodejs_semver.proofs.Common.{eqb-true, equal, false, first_so, holds, inl, inr, is_empty, is_eq, is_ge, is_le, is_lt}
-use Rattle.nodejs_semver.proofs.Common.{is_release, lets_in, list_all, list_all-append, meet, nat_tests, not, not-false}
-use Rattle.nodejs_semver.proofs.Common.{not-true, ordering_reverse, ordering_then, pre_cmp, precedence, refl, same_triple}
-use Rattle.nodejs_semver.proofs.Common.{subst, sym, table, true, version_of, ℕ, ◌&&◌, ◌++◌, ◌+◌, ◌==◌, ◌||◌, ◌∙◌, ◌∷◌, ◌≡◌}
-use Rattle.nodejs_semver.proofs.NpmCommon.{Comparison, IsPartial, IsPlainPartial, Numbers, at_least, compared, counts, from}
-use Rattle.nodejs_semver.proofs.NpmCommon.{is_firm, is_valid, is_zero, may_have, npm_partial, partial_of, release, under}
-use Rattle.nodejs_semver.proofs.{NpmCommon.zero_least, Algebra.Gate.{both, in_two_steps, lt_is, same_triple_is, triple_cmp}}
-use Rattle.nodejs_semver.proofs.{Algebra.Gate.triple_total, Alike.Ends.{Spelled, ge_is, lower-before, made-zero}}
-use Rattle.nodejs_semver.proofs.Alike.Ends.{most_major-numbers, most_minor-numbers, under-exact, upper-after, upper-before}
-use Rattle.nodejs_semver.proofs.Alike.{Ends.{whole_above-exact, whole_below-exact, whole_most-exact}, Pairs.GoodExact}
-use Rattle.nodejs_semver.proofs.Alike.Pairs.{compared-free, equal-exact, firm-good, interval-is, none_bits, release_in}
-use Rattle.nodejs_semver.proofs.Alike.{Pairs.released_bits, Rows.{Form, Good, SameWord, any, form, one, partial, signed-good}}
-use Rattle.nodejs_semver.proofs.Alike.{Rows.{text-spelled, three, two}, Tests.{IsWithin, from_lower, meets-both, named_by}}
-use Rattle.nodejs_semver.proofs.{Alike.Tests.{passed, passed-both, to_upper}, Strict.Narrowing.{holds-both, lets_in-both}}
-use Rattle.{nodejs_semver.specs.Npm.{Alike.is_apart, Table.lowest}, semver_core.specs.Internal.OrderLaws.pre_total}
+use Rattle.nodejs_semver.proofs.Common.{After, Before, Bool, Bound, Comparator, Greater, Id, IfSome, List, MAX_SAFE_INTEGER}
+use Rattle.nodejs_semver.proofs.Common.{Numeric, Ordering, Partial, Some, Span, Unbounded, VersionValue, [], above, and-true}
+use Rattle.nodejs_semver.proofs.Common.{and_parts, ap, append-nil, arith, at_most, below, cases_Bool, common_steps, compare}
+use Rattle.nodejs_semver.proofs.Common.{eqb-true, equal, false, first_so, holds, inl, inr, interval, is_empty, is_eq, is_ge}
+use Rattle.nodejs_semver.proofs.Common.{is_interval, is_le, is_lt, is_release, lets_in, list_all, list_all-append, meet}
+use Rattle.nodejs_semver.proofs.Common.{nat_tests, not, not-true, ordering_reverse, ordering_then, pre_cmp, precedence, refl}
+use Rattle.nodejs_semver.proofs.Common.{same_triple, subst, sym, table, true, version_of, ℕ, ◌&&◌, ◌++◌, ◌+◌, ◌==◌, ◌||◌, ◌∙◌}
+use Rattle.nodejs_semver.proofs.{Common.{◌∷◌, ◌≡◌}, NpmCommon.{Comparison, IsPartial, IsPlainPartial, Numbers, at_least}}
+use Rattle.nodejs_semver.proofs.NpmCommon.{compared, from, is_firm, is_plain, is_valid, is_zero, may_have, npm_partial, release}
+use Rattle.nodejs_semver.proofs.{NpmCommon.{under, zero_least}, Algebra.Gate.{both, in_two_steps, lt_is, same_triple_is}}
+use Rattle.nodejs_semver.proofs.{Algebra.Gate.{triple_cmp, triple_total}, Alike.Ends.{IsWithin, Low, any_low, from_low}}
+use Rattle.nodejs_semver.proofs.Alike.Ends.{from_lower, ge_is, lower-before, meets-both, most_major, most_minor, named_by}
+use Rattle.nodejs_semver.proofs.Alike.Ends.{passed, passed-both, put, to_upper, under-exact, upper-after, upper-before}
+use Rattle.nodejs_semver.proofs.Alike.{Ends.{whole_above, whole_below, whole_equal, whole_low, whole_most}, Rows.{Form, Good}}
+use Rattle.nodejs_semver.proofs.Alike.Rows.{SameWord, any, form, one, partial, signed-good, text-spelled, three, two}
+use Rattle.nodejs_semver.{proofs.Strict.Narrowing.{holds-both, lets_in-both}, specs.Npm.{Alike.is_apart, Table.lowest}}
+use Rattle.semver_core.specs.Internal.OrderLaws.{pre_total}
 use Rattle.nodejs_semver.specs.Npm.Ranges as Npm
 use Rattle.nodejs_semver.specs.Npm.Table as Table
+
+-- ---- what two spans have in common
+
+pub interval-is : (s t : Span VersionValue) → interval precedence s ≡ Some t → (t ≡ s) × (is_interval precedence s ≡ true)
+interval-is s t e = grind arith
+
+met_bits : (r hs ht ls lt l ps pt ns nt : Bool) → (r ≡ true → ls ≡ true) → (r ≡ true → lt ≡ true) → (hs ≡ true → ht ≡ true → l ≡ (ls || lt))
+    → (hs && ls) ≡ (ps && (r || ns)) → (ht && lt) ≡ (pt && (r || nt)) → (r ≡ false → (ps && ns) ≡ true → ht ≡ pt)
+    → (r ≡ false → (pt && nt) ≡ true → hs ≡ ps) → ((hs && ht) && l) ≡ ((ps && pt) && (r || (ns || nt)))
+met_bits true hs ht ls lt l ps pt ns nt a b h s t f g = grind arith
+met_bits false hs ht ls lt l ps pt ns nt a b h s t f g = grind arith
+
+none_bits : (ps pt ns nt : Bool) → (ps && ns) ≡ false → (pt && nt) ≡ false → ((ps && pt) && (ns || nt)) ≡ false
+none_bits ps pt ns nt s t = grind arith
+
+release_in : (s : Span VersionValue) (v : VersionValue) → is_release v ≡ true → lets_in s v ≡ true
+release_in s v r = rw r refl
 
 -- ---- versions of other numbers
 
@@ -69,27 +85,17 @@ most-held v w n r h = upper-after (release w) v ∙ ap is_le (in_two_steps v (re
 
 -- ---- the tests of a word at a pre-release of other numbers
 
-abbrev GoodHeld : VersionValue → Option (Span VersionValue) → List Comparison → Type 0
-GoodHeld v None cs = Unit {0}
-GoodHeld v (Some s) cs = holds precedence s v ≡ passed v cs
-
 held-both : (v : VersionValue) (b u : Bound VersionValue) (cs ds : List Comparison) → from_lower b v ≡ passed v cs → to_upper u v ≡ passed v ds
     → holds precedence (record { lower = b; upper = u }) v ≡ passed v (cs ++ ds)
 held-both v b u cs ds h k = rw (h, k) (sym (passed-both v cs ds))
 
-from-held : (v : VersionValue) (n : Numbers) → is_valid MAX_SAFE_INTEGER (from false n) ≡ true
-    → (is_zero (release n) ≡ true → same_triple (release n) v ≡ false) → from_lower (Before (release n)) v ≡ passed v (from false n ∷ [])
-from-held v n h f = elim (cases_Bool (counts false (from false n))) [
-  | inl k ↦ rw k (lower-before (release n) v ∙ sym (and-true _))
-  | inr k ↦ let z = made-zero (release n) h k in rw k (lower-before (release n) v ∙ zero-upto (release n) v z (f z))
-]
-
 positive : (n : ℕ) → (n + 1 == 0) ≡ true → ⊥
 positive n h = absurd (omega (arith, eqb-true (n + 1) 0 h))
 
-firm-held : (v : VersionValue) (o : Option (Span VersionValue)) (cs : List Comparison) → GoodExact v o cs → GoodHeld v o cs
-firm-held v None cs h = tt
-firm-held v (Some s) cs h = h.held
+zero-bare : (M n p : ℕ) (x y : List Id)
+    → is_zero (record { major = M; minor = n; patch = p; pre_release = x; build = y }) ≡ true
+    → is_firm (partial (Some M) (Some n) (Some p) x y) ≡ false
+zero-bare M n p x y z = grind (arith, nat_tests, common_steps)
 
 one_so : (a b : Bool) → (a || not b) ≡ true → a ≡ false → b ≡ false
 one_so a b h f = grind arith
@@ -99,96 +105,83 @@ module _ (pre : Bool) (v : VersionValue) (within : IsWithin MAX_SAFE_INTEGER v) 
   Valid cs = list_all (is_valid MAX_SAFE_INTEGER) cs ≡ true
 
   abbrev Rows : Comparator → Type 0
-  Rows d = (a b c : Option ℕ) (x y : List Id) → Form pre a b c x y → may_have (compared d) (partial a b c x y) ≡ true
-      → IsPartial false text (partial_of a b c x y) → Valid (Table.table false (compared d) (partial_of a b c x y) text)
-      → (is_firm (partial a b c x y) || not (same_triple (version_of (partial a b c x y)) v)) ≡ true
-      → GoodHeld v (table MAX_SAFE_INTEGER (compare d (partial a b c x y))) (Table.table false (compared d) (partial_of a b c x y) text)
+  Rows d = (p : Partial) → Form pre p → may_have (compared d) p ≡ true
+      → IsPartial false text (npm_partial p) → Valid (Table.table false (compared d) (npm_partial p) text)
+      → (is_firm p || not (same_triple (version_of p) v)) ≡ true
+      → IfSome (table MAX_SAFE_INTEGER (compare d p)) (λ s. holds precedence s v ≡ passed v (Table.table false (compared d) (npm_partial p) text))
 
-  -- at least, equal
-  lower-held : (n : Numbers) → Valid (from false n ∷ []) → same_triple (release n) v ≡ false
-      → holds precedence (record { lower = Before (release n); upper = Unbounded }) v ≡ passed v (from false n ∷ [])
-  lower-held n h f = held-both v (Before (release n)) Unbounded (from false n ∷ []) []
-      (from-held v n (first_so (is_valid MAX_SAFE_INTEGER (from false n)) true h) (λ _. f)) refl
+  -- from a version that is not v's 0.0.0 on
+  low-held : (w : VersionValue) (cs : List Comparison) → Low v w cs → (is_zero w ≡ true → same_triple w v ≡ false)
+      → from_lower (Before w) v ≡ passed v cs
+  low-held w cs (inl e) f = e.tested
+  low-held w cs (inr o) f = lower-before w v ∙ zero-upto w v o.zero (f o.zero) ∙ sym o.all
 
-  above-held : (n : Numbers) → Valid (from false n ∷ []) → (is_zero (release n) ≡ true → ⊥)
+  least-held : (w : VersionValue) (cs : List Comparison) → Low v w cs → (is_zero w ≡ true → same_triple w v ≡ false)
+      → holds precedence (record { lower = Before w; upper = Unbounded }) v ≡ passed v cs
+  least-held w cs l f = rw append-nil at (held-both v (Before w) Unbounded cs [] (low-held w cs l f) refl)
+
+  lower-held : (n : Numbers) → Valid (from false n ∷ []) → (is_zero (release n) ≡ true → same_triple (release n) v ≡ false)
       → holds precedence (record { lower = Before (release n); upper = Unbounded }) v ≡ passed v (from false n ∷ [])
-  above-held n h f = held-both v (Before (release n)) Unbounded (from false n ∷ []) []
-      (from-held v n (first_so (is_valid MAX_SAFE_INTEGER (from false n)) true h) (λ z. absurd (f z))) refl
+  lower-held n h f = least-held (release n) (from false n ∷ []) (from_low v n (first_so (is_valid MAX_SAFE_INTEGER (from false n)) true h)) f
 
   band-held : (n m : Numbers) → Valid (from false n ∷ (under m ∷ [])) → same_triple (release n) v ≡ false
       → holds precedence (record { lower = Before (release n); upper = Before (lowest m) }) v ≡ passed v (from false n ∷ (under m ∷ []))
   band-held n m h f = held-both v (Before (release n)) (Before (lowest m)) (from false n ∷ []) (under m ∷ [])
-      (from-held v n (first_so (is_valid MAX_SAFE_INTEGER (from false n)) _ h) (λ _. f)) (under-exact v m).tested
+      (low-held (release n) _ (from_low v n (first_so (is_valid MAX_SAFE_INTEGER (from false n)) _ h)) (λ _. f)) (under-exact v m).tested
 
   upper-held : (u : Bound VersionValue) (n : Numbers) → to_upper u v ≡ passed v (under n ∷ [])
       → holds precedence (record { lower = Unbounded; upper = u }) v ≡ passed v (under n ∷ [])
   upper-held u n h = held-both v Unbounded u [] (under n ∷ []) refl h
 
-  -- a whole version that is 0.0.0, and of other numbers than v
-  whole_least-held : (w : VersionValue) → Spelled w text → same_triple w v ≡ false
-      → holds precedence (record { lower = Before w; upper = Unbounded }) v ≡ passed v (record { sign = at_least; version = w; text = text } ∷ [])
-  whole_least-held w s f = held-both v (Before w) Unbounded (record { sign = at_least; version = w; text = text } ∷ []) []
-      (elim (cases_Bool (counts false (record { sign = at_least; version = w; text = text }))) [
-        | inl k ↦ rw k (lower-before w v ∙ sym (and-true _))
-        | inr k ↦ rw k (lower-before w v ∙ zero-upto w v (s.zero (not-false _ k)) f)
-      ]) refl
-
-  least-held : Rows at_least
+  least-rows : Rows at_least
   unfolding table
-  least-held a b c x y any m t h k = held-both v (Before (release (0, 0, 0))) Unbounded [] []
-      (lower-before (release (0, 0, 0)) v ∙ zero-upto (release (0, 0, 0)) v refl (not-true _ k)) refl
-  least-held a b c x y (one M) m t h k = lower-held (M, 0, 0) h (not-true _ k)
-  least-held a b c x y (two M n) m t h k = lower-held (M, n, 0) h (not-true _ k)
-  least-held a b c x y (three M n p x' y' e) m t h k =
-      let w : VersionValue = record { major = M; minor = n; patch = p; pre_release = x'; build = y' } in
-      elim (cases_Bool (is_firm (partial (Some M) (Some n) (Some p) x' y'))) [
-        | inl f ↦ (firm-good v at_least pre (Some M) (Some n) (Some p) x' y' text (three M n p x' y' e) f t).held
-        | inr f ↦ whole_least-held w (text-spelled text w t) (one_so _ _ k f)
-      ]
+  least-rows p any m t h k = least-held (release (0, 0, 0)) [] (any_low v) (λ _. not-true _ k)
+  least-rows p (one M) m t h k = lower-held (M, 0, 0) h (λ _. not-true _ k)
+  least-rows p (two M n) m t h k = lower-held (M, n, 0) h (λ _. not-true _ k)
+  least-rows p (three M n o x y e) m t h k =
+      let w : VersionValue = record { major = M; minor = n; patch = o; pre_release = x; build = y } in
+      least-held w (put at_least w text ∷ []) (whole_low v w text (text-spelled text w t)) (λ z. one_so _ _ k (zero-bare M n o x y z))
 
-  greater-held : Rows above
+  above-rows : Rows above
   unfolding table
-  greater-held a b c x y any m t h k = cc m
-  greater-held a b c x y (one M) m t h k = above-held (M + 1, 0, 0) h (λ z. positive M (and_parts (M + 1 == 0) _ z).0)
-  greater-held a b c x y (two M n) m t h k =
-      above-held (M, n + 1, 0) h (λ z. positive n (and_parts (n + 1 == 0) _ (and_parts (M == 0) _ z).1).0)
-  greater-held a b c x y (three M n p x' y' e) m t h k =
-      let w : VersionValue = record { major = M; minor = n; patch = p; pre_release = x'; build = y' } in
-      held-both v (After w) Unbounded (record { sign = above; version = w; text = text } ∷ []) [] (whole_above-exact v w text).tested refl
+  above-rows p any m t h k = cc m
+  above-rows p (one M) m t h k = lower-held (M + 1, 0, 0) h (λ z. absurd (positive M (and_parts (M + 1 == 0) _ z).0))
+  above-rows p (two M n) m t h k =
+      lower-held (M, n + 1, 0) h (λ z. absurd (positive n (and_parts (n + 1 == 0) _ (and_parts (M == 0) _ z).1).0))
+  above-rows p (three M n o x y e) m t h k =
+      (whole_above v (record { major = M; minor = n; patch = o; pre_release = x; build = y }) text).held
 
-  equal-held : Rows equal
+  equal-rows : Rows equal
   unfolding table
-  equal-held a b c x y any m t h k = cc m
-  equal-held a b c x y (one M) m t h k = band-held (M, 0, 0) (M + 1, 0, 0) h (not-true _ k)
-  equal-held a b c x y (two M n) m t h k = band-held (M, n, 0) (M, n + 1, 0) h (not-true _ k)
-  equal-held a b c x y (three M n p x' y' e) m t h k =
-      (equal-exact v (record { major = M; minor = n; patch = p; pre_release = x'; build = [] }) y' text).held
+  equal-rows p any m t h k = cc m
+  equal-rows p (one M) m t h k = band-held (M, 0, 0) (M + 1, 0, 0) h (not-true _ k)
+  equal-rows p (two M n) m t h k = band-held (M, n, 0) (M, n + 1, 0) h (not-true _ k)
+  equal-rows p (three M n o x y e) m t h k =
+      (whole_equal v (record { major = M; minor = n; patch = o; pre_release = x; build = [] }) y text).held
 
   most-rows : Rows at_most
   unfolding table
-  most-rows a b c x y any m t h k = cc m
-  most-rows a b c x y (one M) m t h k = upper-held (After (release (M, MAX_SAFE_INTEGER, MAX_SAFE_INTEGER))) (M + 1, 0, 0)
-      (most-held v (M, MAX_SAFE_INTEGER, MAX_SAFE_INTEGER) (M + 1, 0, 0) r (most_major-numbers v MAX_SAFE_INTEGER M within.minor within.patch))
-  most-rows a b c x y (two M n) m t h k = upper-held (After (release (M, n, MAX_SAFE_INTEGER))) (M, n + 1, 0)
-      (most-held v (M, n, MAX_SAFE_INTEGER) (M, n + 1, 0) r (most_minor-numbers v MAX_SAFE_INTEGER M n within.patch))
-  most-rows a b c x y (three M n p x' y' e) m t h k =
-      let w : VersionValue = record { major = M; minor = n; patch = p; pre_release = x'; build = y' } in
-      held-both v Unbounded (After w) [] (record { sign = at_most; version = w; text = text } ∷ []) refl (whole_most-exact v w text).tested
+  most-rows p any m t h k = cc m
+  most-rows p (one M) m t h k = upper-held (After (release (M, MAX_SAFE_INTEGER, MAX_SAFE_INTEGER))) (M + 1, 0, 0)
+      (most-held v (M, MAX_SAFE_INTEGER, MAX_SAFE_INTEGER) (M + 1, 0, 0) r (most_major v MAX_SAFE_INTEGER M within.minor within.patch))
+  most-rows p (two M n) m t h k = upper-held (After (release (M, n, MAX_SAFE_INTEGER))) (M, n + 1, 0)
+      (most-held v (M, n, MAX_SAFE_INTEGER) (M, n + 1, 0) r (most_minor v MAX_SAFE_INTEGER M n within.patch))
+  most-rows p (three M n o x y e) m t h k =
+      (whole_most v (record { major = M; minor = n; patch = o; pre_release = x; build = y }) text).held
 
   below-rows : Rows below
   unfolding table
-  below-rows a b c x y any m t h k = cc m
-  below-rows a b c x y (one M) m t h k = upper-held (Before (release (M, 0, 0))) (M, 0, 0)
+  below-rows p any m t h k = cc m
+  below-rows p (one M) m t h k = upper-held (Before (release (M, 0, 0))) (M, 0, 0)
       (upper-before (release (M, 0, 0)) v ∙ apart-lt v (M, 0, 0) (not-true _ k) ∙ sym (and-true _))
-  below-rows a b c x y (two M n) m t h k = upper-held (Before (lowest (M, n, 0))) (M, n, 0) (under-exact v (M, n, 0)).tested
-  below-rows a b c x y (three M n p x' y' e) m t h k =
-      let w : VersionValue = record { major = M; minor = n; patch = p; pre_release = x'; build = y' } in
-      held-both v Unbounded (Before w) [] (record { sign = below; version = w; text = text } ∷ []) refl (whole_below-exact v w text).tested
+  below-rows p (two M n) m t h k = upper-held (Before (lowest (M, n, 0))) (M, n, 0) (under-exact v (M, n, 0)).tested
+  below-rows p (three M n o x y e) m t h k =
+      (whole_below v (record { major = M; minor = n; patch = o; pre_release = x; build = y }) text).held
 
   pub compared-held : (d : Comparator) → Rows d
-  compared-held at_least = least-held
-  compared-held above = greater-held
-  compared-held equal = equal-held
+  compared-held at_least = least-rows
+  compared-held above = above-rows
+  compared-held equal = equal-rows
   compared-held at_most = most-rows
   compared-held below = below-rows
 
@@ -197,25 +190,27 @@ module _ (pre : Bool) (v : VersionValue) (within : IsWithin MAX_SAFE_INTEGER v) 
 or_none : (a : Bool) → (a || false) ≡ true → a ≡ true
 or_none a h = grind arith
 
-none-named : false ≡ true → ⊥
-none-named e = cc
-
-named-own : (v : VersionValue) (c : Comparison) → named_by v (c ∷ []) ≡ true → Npm.names v c ≡ true
-named-own v c h = grind (arith, nat_tests, common_steps, or_none, none-named)
-
 own-version : (v : VersionValue) (c : Comparator) (w : VersionValue) (text : List ℕ)
-    → named_by v (record { sign = c; version = w; text = text } ∷ []) ≡ true → same_triple w v ≡ true
-own-version v c w text h = (and_parts (not (is_release w)) _ (named-own v (record { sign = c; version = w; text = text }) h)).1
+    → named_by v (put c w text ∷ []) ≡ true → same_triple w v ≡ true
+own-version v c w text h = (and_parts (not (is_release w)) _ (named-own v (put c w text) h)).1
+  where
+    named-own : (v : VersionValue) (c : Comparison) → named_by v (c ∷ []) ≡ true → Npm.names v c ≡ true
+    named-own v c h = grind (arith, nat_tests, common_steps, or_none)
 
-own-numbers : (v : VersionValue) (c : Comparator) (pre : Bool) (a b o : Option ℕ) (x y : List Id) (text : List ℕ) → Form pre a b o x y
-    → is_empty x ≡ false → named_by v (Table.table false (compared c) (partial_of a b o x y) text) ≡ true
-    → same_triple (version_of (partial a b o x y)) v ≡ true
-own-numbers v c pre a b o x y text h e k = grind (arith, nat_tests, common_steps, any, one, two, three, own-version)
+own-numbers : (v : VersionValue) (c : Comparator) (pre : Bool) (p : Partial) (text : List ℕ) → Form pre p → is_empty p.pre_release ≡ false
+    → named_by v (Table.table false (compared c) (npm_partial p) text) ≡ true → same_triple (version_of p) v ≡ true
+own-numbers v c pre p text h e k = grind (arith, nat_tests, common_steps, any, one, two, three, own-version)
 
 same-right : (w u v : VersionValue) → same_triple u v ≡ true → same_triple w u ≡ same_triple w v
 same-right w u v h = grind (arith, nat_tests, common_steps, and_parts, eqb-true)
 
 -- ---- two comparisons
+
+free_bits : (pre a b e : Bool) → (a && (b && (pre || e))) ≡ true → e ≡ true → (a && (b && (false || e))) ≡ true
+free_bits pre a b e h f = grind arith
+
+plain-free : (pre : Bool) (p : Partial) → is_plain pre p ≡ true → is_empty p.pre_release ≡ true → is_plain false p ≡ true
+plain-free pre p h e = grind (arith, nat_tests, common_steps, partial, free_bits)
 
 apart_so : (f r s : Bool) → (f || not (not r && s)) ≡ true → r ≡ false → (f || not s) ≡ true
 apart_so f r s h e = grind arith
@@ -223,47 +218,40 @@ apart_so f r s h e = grind arith
 unmet : (p r n : Bool) → (p && (r || n)) ≡ false → r ≡ false → (p && n) ≡ true → ⊥
 unmet p r n h e k = grind arith
 
-module _ (pre : Bool) (v : VersionValue) (w : IsWithin MAX_SAFE_INTEGER v) where
-  compared-same : (c : Comparator) (x : List ℕ) (p : Partial) (s : Span VersionValue) → IsPlainPartial MAX_SAFE_INTEGER pre x p
-      → may_have (compared c) p ≡ true → table MAX_SAFE_INTEGER (compare c p) ≡ Some s
-      → list_all (is_valid MAX_SAFE_INTEGER) (Table.table false (compared c) (npm_partial p) x) ≡ true
-      → SameWord pre v s (Table.table false (compared c) (npm_partial p) x)
-  compared-same c x p s h m e k = subst (λ o. Good pre v o (Table.table false (compared c) (npm_partial p) x)) e
-      (signed-good pre v w x (compared c) p.major p.minor p.patch p.pre_release p.build
-      (form pre p.major p.minor p.patch p.pre_release p.build h.plain) m h.npm k)
+module _ (v : VersionValue) (w : IsWithin MAX_SAFE_INTEGER v) where
+  abbrev listed : Comparator → List ℕ → Partial → List Comparison
+  listed c x p = Table.table false (compared c) (npm_partial p) x
+
+  -- a comparison of a partial, and its span
+  record Compared (pre : Bool) (c : Comparator) (x : List ℕ) (p : Partial) (s : Span VersionValue) : Type 0 where
+    is : IsPlainPartial MAX_SAFE_INTEGER pre x p
+    may : may_have (compared c) p ≡ true
+    span : table MAX_SAFE_INTEGER (compare c p) ≡ Some s
+    valid : list_all (is_valid MAX_SAFE_INTEGER) (listed c x p) ≡ true
+
+  compared-same : (pre written : Bool) (c : Comparator) (x : List ℕ) (p : Partial) (s : Span VersionValue) → Compared written c x p s
+      → is_plain pre p ≡ true → SameWord pre v s (listed c x p)
+  compared-same pre written c x p s h k = subst (λ o. Good pre v o (listed c x p)) h.span
+      (signed-good pre v w x (compared c) p (form pre p k) h.may h.is.npm h.valid)
 
   -- where the first one accepts a pre-release, the other one is the same to it
-  crossed : (c d : Comparator) (x y : List ℕ) (p q : Partial) (s t : Span VersionValue) → IsPlainPartial MAX_SAFE_INTEGER pre x p
-      → may_have (compared c) p ≡ true → table MAX_SAFE_INTEGER (compare c p) ≡ Some s
-      → list_all (is_valid MAX_SAFE_INTEGER) (Table.table false (compared c) (npm_partial p) x) ≡ true
-      → IsPlainPartial MAX_SAFE_INTEGER pre y q → may_have (compared d) q ≡ true → table MAX_SAFE_INTEGER (compare d q) ≡ Some t
-      → list_all (is_valid MAX_SAFE_INTEGER) (Table.table false (compared d) (npm_partial q) y) ≡ true
-      → is_apart q p ≡ true → is_release v ≡ false
-      → (passed v (Table.table false (compared c) (npm_partial p) x) && named_by v (Table.table false (compared c) (npm_partial p) x)) ≡ true
-      → holds precedence t v ≡ passed v (Table.table false (compared d) (npm_partial q) y)
-  crossed c d x y p q s t hp mp ep kp hq mq eq kq apart r h =
-      let cs = Table.table false (compared c) (npm_partial p) x in
+  crossed : (pre : Bool) (c d : Comparator) (x y : List ℕ) (p q : Partial) (s t : Span VersionValue) → Compared pre c x p s → Compared pre d y q t
+      → is_apart q p ≡ true → is_release v ≡ false → (passed v (listed c x p) && named_by v (listed c x p)) ≡ true
+      → holds precedence t v ≡ passed v (listed d y q)
+  crossed pre c d x y p q s t hp hq apart r h =
+      let cs = listed c x p in
       elim (cases_Bool (is_empty p.pre_release)) [
-        | inl e ↦ absurd (unmet (passed v cs) (is_release v) (named_by v cs) ((compared-free pre v c x p s w hp mp ep e kp).released refl r) r h)
+        | inl e ↦
+            let free = compared-same false pre c x p s hp (plain-free pre p hp.is.plain e) in
+            absurd (unmet (passed v cs) (is_release v) (named_by v cs) (free.released refl r) r h)
         | inr e ↦
-            let own = own-numbers v c pre p.major p.minor p.patch p.pre_release p.build x
-            (form pre p.major p.minor p.patch p.pre_release p.build hp.plain) e (and_parts (passed v cs) _ h).1 in
+            let own = own-numbers v c pre p x (form pre p hp.is.plain) e (and_parts (passed v cs) _ h).1 in
             let far : (is_firm q || not (same_triple (version_of q) v)) ≡ true =
             rw (same-right (version_of q) (version_of p) v own)
             at (apart_so (is_firm q) (is_release (version_of p)) (same_triple (version_of q) (version_of p)) apart e) in
-            subst (λ o. GoodHeld v o (Table.table false (compared d) (npm_partial q) y)) eq
-            (compared-held pre v w r y d q.major q.minor q.patch q.pre_release q.build
-            (form pre q.major q.minor q.patch q.pre_release q.build hq.plain) mq hq.npm kq far)
+            subst (λ o. IfSome o (λ s. holds precedence s v ≡ passed v (listed d y q))) hq.span
+            (compared-held pre v w r y d q (form pre q hq.is.plain) hq.may hq.is.npm hq.valid far)
       ]
-
-cross_bits : (r hs ht ls lt l ps pt ns nt : Bool) → r ≡ false → (hs ≡ true → ht ≡ true → l ≡ (ls || lt)) → (hs && ls) ≡ (ps && (r || ns))
-    → (ht && lt) ≡ (pt && (r || nt)) → ((ps && ns) ≡ true → ht ≡ pt) → ((pt && nt) ≡ true → hs ≡ ps)
-    → ((hs && ht) && l) ≡ ((ps && pt) && (r || (ns || nt)))
-cross_bits true hs ht ls lt l ps pt ns nt e h s t f g = cc e
-cross_bits false hs ht ls lt l ps pt ns nt e h s t f g = grind arith
-
-differ : (a : Bool) → a ≡ true → a ≡ false → ⊥
-differ a h k = grind arith
 
 met-same : (pre : Bool) (v : VersionValue) (s t m : Span VersionValue) (cs ds : List Comparison) → meet precedence s t ≡ Some m
     → SameWord pre v s cs → SameWord pre v t ds
@@ -271,16 +259,9 @@ met-same : (pre : Bool) (v : VersionValue) (s t m : Span VersionValue) (cs ds : 
     → (is_release v ≡ false → (passed v ds && named_by v ds) ≡ true → holds precedence s v ≡ passed v cs)
     → SameWord pre v m (cs ++ ds)
 met-same pre v s t m cs ds e h k f g = record {
-  same = rw (interval-is (both s t) m e, holds-both s t v)
-      (elim (cases_Bool (is_release v)) [
-        | inl r ↦
-            released_bits (is_release v) (holds precedence s v) (holds precedence t v) (lets_in s v) (lets_in t v) (lets_in (both s t) v)
-            (passed v cs) (passed v ds) (named_by v cs) (named_by v ds) (release_in s v) (release_in t v) (lets_in-both s t v) h.same k.same
-            (λ n. absurd (differ (is_release v) r n)) (λ n. absurd (differ (is_release v) r n))
-        | inr r ↦
-            cross_bits (is_release v) (holds precedence s v) (holds precedence t v) (lets_in s v) (lets_in t v) (lets_in (both s t) v)
-            (passed v cs) (passed v ds) (named_by v cs) (named_by v ds) r (lets_in-both s t v) h.same k.same (f r) (g r)
-      ]
+  same = rw ((interval-is (both s t) m e).0, holds-both s t v)
+      (met_bits (is_release v) (holds precedence s v) (holds precedence t v) (lets_in s v) (lets_in t v) (lets_in (both s t) v) (passed v cs)
+      (passed v ds) (named_by v cs) (named_by v ds) (release_in s v) (release_in t v) (lets_in-both s t v) h.same k.same f g
       ∙ sym (meets-both v cs ds));
   released = λ n r. meets-both v cs ds
       ∙ rw r (none_bits (passed v cs) (passed v ds) (named_by v cs) (named_by v ds) (rw r at (h.released n r)) (rw r at (k.released n r)));
@@ -297,5 +278,7 @@ two-good pre v c d x y p q s t m w hp mp ep hq mq eq e apart k =
     let ds = Table.table false (compared d) (npm_partial q) y in
     let (kc, kd) = and_parts _ _ (sym (list_all-append (is_valid MAX_SAFE_INTEGER) cs ds) ∙ k) in
     let (pq, qp) = and_parts (is_apart p q) (is_apart q p) apart in
-    met-same pre v s t m cs ds e (compared-same pre v w c x p s hp mp ep kc) (compared-same pre v w d y q t hq mq eq kd)
-    (crossed pre v w c d x y p q s t hp mp ep kc hq mq eq kd qp) (crossed pre v w d c y x q p t s hq mq eq kd hp mp ep kc pq)
+    let one : Compared v w pre c x p s = record { is = hp; may = mp; span = ep; valid = kc } in
+    let other : Compared v w pre d y q t = record { is = hq; may = mq; span = eq; valid = kd } in
+    met-same pre v s t m cs ds e (compared-same v w pre pre c x p s one hp.plain) (compared-same v w pre pre d y q t other hq.plain)
+    (crossed v w pre c d x y p q s t one other qp) (crossed v w pre d c y x q p t s other one pq)

@@ -1,16 +1,99 @@
--- The ends of the spans of both tables, beside their comparators.
-use Rattle.nodejs_semver.proofs.Common.{After, Before, Bool, Equal, Greater, List, MAX_SAFE_INTEGER, Numeric, Ordering}
-use Rattle.nodejs_semver.proofs.Common.{Unbounded, VersionValue, [], above, and-true, and_parts, ap, arith, at_most, below}
-use Rattle.nodejs_semver.proofs.Common.{cases_Bool, codes, common_steps, empty_is, eqb-true, false, inl, inr, is_ge, is_gt}
-use Rattle.nodejs_semver.proofs.Common.{is_interval, is_le, is_lt, is_release, names, nat_tests, not, not-false}
-use Rattle.nodejs_semver.proofs.Common.{ordering_reverse, ordering_then, pre_cmp, precedence, precedence_total, refl, sym, true}
-use Rattle.nodejs_semver.proofs.{Common.{version_eq, ℕ, ◌&&◌, ◌+◌, ◌==◌, ◌||◌, ◌∙◌, ◌∷◌, ◌≡◌, ◌≤◌, ◌⊎◌}, NpmCommon.Comparison}
-use Rattle.nodejs_semver.proofs.NpmCommon.{Numbers, at_least, bytes_eq, counts, from, is_valid, is_zero, made, release}
-use Rattle.nodejs_semver.proofs.{NpmCommon.{satisfies, under, upto_patch, version_text, zero_least}, Algebra.Gate.in_two_steps}
-use Rattle.nodejs_semver.proofs.{Algebra.Gate.{lt_is, triple_cmp}, Alike.Tests.{Exact, Tame, from_lower, named_by, passed}}
-use Rattle.nodejs_semver.proofs.{Alike.Tests.to_upper, Strict.Printed.prints_zero, Values.{past-after, past-before}}
+-- A version and a span, and what it says of a list of comparators: the ends of a span, each beside comparators.
+use Rattle.nodejs_semver.proofs.Common.{After, Before, Bool, Bound, Comparator, Equal, Greater, Id, List, MAX_SAFE_INTEGER}
+use Rattle.nodejs_semver.proofs.Common.{Numeric, Ordering, Span, Unbounded, VersionValue, [], above, and-true, and_parts, ap}
+use Rattle.nodejs_semver.proofs.Common.{ap₂, arith, at_most, below, cases_Bool, codes, common_steps, empty_is, eqb-true, equal}
+use Rattle.nodejs_semver.proofs.Common.{false, filter, holds, inl, inr, is_ge, is_gt, is_interval, is_le, is_lt, is_past}
+use Rattle.nodejs_semver.proofs.Common.{is_release, lets_in, list_all, list_all-append, list_any, list_any-append, lower_cut}
+use Rattle.nodejs_semver.proofs.Common.{names, nat_tests, not, not-false, ordering_reverse, ordering_then, pre_cmp, precedence}
+use Rattle.nodejs_semver.proofs.Common.{precedence_total, refl, sym, true, upper_cut, ℕ, ◌&&◌, ◌++◌, ◌+◌, ◌==◌, ◌||◌, ◌∙◌, ◌∷◌}
+use Rattle.nodejs_semver.proofs.{Common.{◌≡◌, ◌≤◌, ◌⊎◌}, NpmCommon.{Comparison, Numbers, at_least, bytes_eq, counts}}
+use Rattle.nodejs_semver.proofs.NpmCommon.{filter-append, from, is_valid, is_within, is_zero, made, meets, release, satisfies}
+use Rattle.nodejs_semver.proofs.{NpmCommon.{under, upto_patch, version_text, zero_least}, Algebra.Gate.{in_two_steps, lt_is}}
+use Rattle.nodejs_semver.proofs.{Algebra.Gate.triple_cmp, Strict.Printed.prints_zero, Values.{past-after, past-before}}
 use Rattle.nodejs_semver.specs.Npm.Table.{lowest}
 use Rattle.nodejs_semver.specs.Npm.Ranges as Npm
+
+-- no number of the version is above the limit
+pub record IsWithin (limit : ℕ) (v : VersionValue) : Type 0 where
+  pub major : v.major ≤ limit
+  pub minor : v.minor ≤ limit
+  pub patch : v.patch ≤ limit
+
+pub within : (limit : ℕ) (v : VersionValue) → is_within limit v ≡ true → IsWithin limit v
+within limit v h = grind (arith, nat_tests, common_steps, and_parts)
+
+-- the comparators that count are satisfied, and some one of them names a pre-release of the same numbers
+abbrev pub passed : VersionValue → List Comparison → Bool
+passed v cs = list_all (satisfies v) (filter (counts false) cs)
+
+abbrev pub named_by : VersionValue → List Comparison → Bool
+named_by v cs = list_any (Npm.names v) (filter (counts false) cs)
+
+-- the test of a lower bound and of an upper one
+abbrev pub from_lower : Bound VersionValue → VersionValue → Bool
+from_lower b v = is_past precedence (lower_cut b) v
+
+abbrev pub to_upper : Bound VersionValue → VersionValue → Bool
+to_upper b v = not (is_past precedence (upper_cut b) v)
+
+-- the span and the comparators accept the version alike
+abbrev pub Alike : VersionValue → Span VersionValue → List Comparison → Type 0
+Alike v s cs = (holds precedence s v && lets_in s v) ≡ meets false v (filter (counts false) cs)
+
+-- they accept releases alone
+abbrev pub Released : VersionValue → List Comparison → Type 0
+Released v cs = is_release v ≡ false → meets false v (filter (counts false) cs) ≡ false
+
+-- a bound with this test, which names the version or not, beside comparators: they are the same
+pub record Exact (v : VersionValue) (test name : Bool) (cs : List Comparison) : Type 0 where
+  pub tested : test ≡ passed v cs
+  pub named : name ≡ named_by v cs
+
+-- they are the same to releases, and let in nothing else
+pub record Tame (v : VersionValue) (test name : Bool) (cs : List Comparison) : Type 0 where
+  pub released : is_release v ≡ true → test ≡ passed v cs
+  pub here : (name && test) ≡ false
+  pub there : (named_by v cs && passed v cs) ≡ false
+
+-- a span and comparators that are the same to every version
+pub record ExactWord (v : VersionValue) (s : Span VersionValue) (cs : List Comparison) : Type 0 where
+  pub held : holds precedence s v ≡ passed v cs
+  pub let_in : lets_in s v ≡ (is_release v || named_by v cs)
+
+-- ---- two ends
+
+pub passed-both : (v : VersionValue) (cs ds : List Comparison) → passed v (cs ++ ds) ≡ (passed v cs && passed v ds)
+passed-both v cs ds = ap (λ l. list_all (satisfies v) l) (filter-append (counts false) cs ds)
+    ∙ list_all-append (satisfies v) (filter (counts false) cs) (filter (counts false) ds)
+
+pub named-both : (v : VersionValue) (cs ds : List Comparison) → named_by v (cs ++ ds) ≡ (named_by v cs || named_by v ds)
+named-both v cs ds = ap (λ l. list_any (Npm.names v) l) (filter-append (counts false) cs ds)
+    ∙ list_any-append (Npm.names v) (filter (counts false) cs) (filter (counts false) ds)
+
+pub meets-both : (v : VersionValue) (cs ds : List Comparison) → meets false v (filter (counts false) (cs ++ ds))
+    ≡ ((passed v cs && passed v ds) && (is_release v || (named_by v cs || named_by v ds)))
+meets-both v cs ds = ap₂ (λ (a b : Bool). a && (is_release v || b)) (passed-both v cs ds) (named-both v cs ds)
+
+tame_bits : (r t n t' n' u m u' m' : Bool) → (r ≡ true → t ≡ t') → (r ≡ true → u ≡ u') → (n && t) ≡ false → (m && u) ≡ false
+    → (n' && t') ≡ false → (m' && u') ≡ false → ((t && u) && (r || (n || m))) ≡ ((t' && u') && (r || (n' || m')))
+tame_bits r t n t' n' u m u' m' f g a b c d = grind arith
+
+pub apart_bits : (r t n u m : Bool) → r ≡ false → (n && t) ≡ false → (m && u) ≡ false → ((t && u) && (r || (n || m))) ≡ false
+apart_bits r t n u m e a b = grind arith
+
+pub tame-both : (v : VersionValue) (b u : Bound VersionValue) (cs ds : List Comparison) → Tame v (from_lower b v) (names b v) cs
+    → Tame v (to_upper u v) (names u v) ds → Alike v (record { lower = b; upper = u }) (cs ++ ds)
+tame-both v b u cs ds h k =
+    tame_bits (is_release v) (from_lower b v) (names b v) (passed v cs) (named_by v cs) (to_upper u v) (names u v) (passed v ds) (named_by v ds)
+    h.released k.released h.here k.here h.there k.there
+    ∙ sym (meets-both v cs ds)
+
+pub exact-span : (v : VersionValue) (b u : Bound VersionValue) (cs ds : List Comparison) → Exact v (from_lower b v) (names b v) cs
+    → Exact v (to_upper u v) (names u v) ds → ExactWord v (record { lower = b; upper = u }) (cs ++ ds)
+exact-span v b u cs ds h k = record {
+  held = rw (h.tested, k.tested) (sym (passed-both v cs ds));
+  let_in = rw (h.named, k.named) (ap (λ a. is_release v || a) (sym (named-both v cs ds)));
+}
 
 -- ---- the order
 
@@ -21,7 +104,7 @@ pub ge_is : (v w : VersionValue) → is_ge (precedence v w) ≡ is_le (precedenc
 ge_is v w = turned _ _ (precedence_total.antisymm v w)
 
 -- a version that is named by the least pre-release of three numbers is not below it
-pub under-named : (v : VersionValue) (n : Numbers) → Npm.names v (under n) ≡ true → satisfies v (under n) ≡ false
+under-named : (v : VersionValue) (n : Numbers) → Npm.names v (under n) ≡ true → satisfies v (under n) ≡ false
 under-named v n h =
     let (a, bc) = and_parts (n.0 == v.major) ((n.1 == v.minor) && (n.2 == v.patch)) h in
     let (b, c) = and_parts (n.1 == v.minor) (n.2 == v.patch) bc in
@@ -38,9 +121,6 @@ zero_from v w h z = grind (arith, nat_tests, common_steps)
 pub lower-before : (w v : VersionValue) → from_lower (Before w) v ≡ is_ge (precedence v w)
 lower-before w v = past-before w v
 
-lower-after : (w v : VersionValue) → from_lower (After w) v ≡ is_gt (precedence v w)
-lower-after w v = past-after w v
-
 not_ge : (r : Ordering) → not (is_ge r) ≡ is_lt r
 not_ge r = grind arith
 
@@ -55,35 +135,31 @@ upper-after w v = ap not (past-after w v) ∙ not_gt (precedence v w)
 
 -- ---- no end
 
-pub no_lower : (v : VersionValue) → Tame v (from_lower Unbounded v) (names Unbounded v) []
-no_lower v = record { released = λ _. refl; here = refl; there = refl }
+pub free-tame : (v : VersionValue) → Tame v true false []
+free-tame v = record { released = λ _. refl; here = refl; there = refl }
 
-pub no_upper : (v : VersionValue) → Tame v (to_upper Unbounded v) (names Unbounded v) []
-no_upper v = record { released = λ _. refl; here = refl; there = refl }
-
-pub no_lower-exact : (v : VersionValue) → Exact v (from_lower Unbounded v) (names Unbounded v) []
-no_lower-exact v = record { tested = refl; named = refl }
-
-pub no_upper-exact : (v : VersionValue) → Exact v (to_upper Unbounded v) (names Unbounded v) []
-no_upper-exact v = record { tested = refl; named = refl }
+pub free-exact : (v : VersionValue) → Exact v true false []
+free-exact v = record { tested = refl; named = refl }
 
 -- ---- one comparator
+
+-- a comparator of a version with a text
+abbrev pub put : Comparator → VersionValue → List ℕ → Comparison
+put c w text = record { sign = c; version = w; text = text }
 
 -- a comparator that counts
 pub counted-exact : (v : VersionValue) (test name : Bool) (c : Comparison) → counts false c ≡ true → test ≡ satisfies v c
     → name ≡ Npm.names v c → Exact v test name (c ∷ [])
 counted-exact v test name c h e f = record { tested = rw h (grind arith); named = rw h (grind arith) }
 
--- a comparator of a release: it counts, or each release satisfies it
-pub release-tame : (v : VersionValue) (test name : Bool) (c : Comparison) → is_release c.version ≡ true → name ≡ false
-    → (is_release v ≡ true → test ≡ satisfies v c) → (is_release v ≡ true → counts false c ≡ false → satisfies v c ≡ true)
-    → Tame v test name (c ∷ [])
-release-tame v test name c h n e f = grind (arith, nat_tests, common_steps)
+-- one that names nothing that it accepts is tame
+exact-tame : (v : VersionValue) (test name : Bool) (cs : List Comparison) → Exact v test name cs → (named_by v cs && passed v cs) ≡ false
+    → Tame v test name cs
+exact-tame v test name cs e h = record { released = λ _. e.tested; here = rw (e.named, e.tested) h; there = h }
 
--- a version of a release is not named
-pub not_named : (w v : VersionValue) → is_release w ≡ true
-    → (not (is_release w) && ((w.major == v.major) && ((w.minor == v.minor) && (w.patch == v.patch)))) ≡ false
-not_named w v h = rw h refl
+-- and so is one that names nothing
+pub nameless-tame : (v : VersionValue) (test name : Bool) (cs : List Comparison) → Exact v test name cs → name ≡ false → Tame v test name cs
+nameless-tame v test name cs e n = exact-tame v test name cs e (ap (λ a. a && passed v cs) (sym e.named ∙ n))
 
 -- `<M.m.p-0`
 pub under-exact : (v : VersionValue) (n : Numbers) → Exact v (to_upper (Before (lowest n)) v) (names (Before (lowest n)) v) (under n ∷ [])
@@ -92,31 +168,73 @@ under-exact v n = record { tested = upper-before (lowest n) v ∙ grind arith; n
 none_bits : (n s : Bool) → (n ≡ true → s ≡ false) → ((n || false) && (s && true)) ≡ false
 none_bits n s f = grind arith
 
-pub under-there : (v : VersionValue) (n : Numbers) → (named_by v (under n ∷ []) && passed v (under n ∷ [])) ≡ false
+under-there : (v : VersionValue) (n : Numbers) → (named_by v (under n ∷ []) && passed v (under n ∷ [])) ≡ false
 under-there v n = none_bits (Npm.names v (under n)) (satisfies v (under n)) (under-named v n)
 
 pub under-tame : (v : VersionValue) (n : Numbers) → Tame v (to_upper (Before (lowest n)) v) (names (Before (lowest n)) v) (under n ∷ [])
-under-tame v n = grind (arith, nat_tests, common_steps, under-exact, under-there)
+under-tame v n = exact-tame v _ _ _ (under-exact v n) (under-there v n)
 
--- ---- comparators that may not count
+-- ---- lower ends, of which one need not count
 
 -- `>=` of 0.0.0 alone does not count
-pub made-zero : (w : VersionValue) → is_valid MAX_SAFE_INTEGER (made at_least w) ≡ true → counts false (made at_least w) ≡ false
-    → is_zero w ≡ true
+made-zero : (w : VersionValue) → is_valid MAX_SAFE_INTEGER (made at_least w) ≡ true → counts false (made at_least w) ≡ false → is_zero w ≡ true
 made-zero w h k = grind (arith, nat_tests, common_steps, and_parts, prints_zero, not-false)
 
--- `>=M.m.p` that a table makes
-pub from-tame : (v : VersionValue) (n : Numbers) → is_valid MAX_SAFE_INTEGER (from false n) ≡ true
-    → Tame v (from_lower (Before (release n)) v) (names (Before (release n)) v) (from false n ∷ [])
-from-tame v n h = release-tame v _ _ (from false n) refl refl (λ _. lower-before (release n) v)
-    (λ r k. zero_from v (release n) r (made-zero (release n) h k))
+-- a comparator of a version whose text may be `0.0.0` only where it is that version
+pub record Spelled (w : VersionValue) (text : List ℕ) : Type 0 where
+  pub zero : bytes_eq text (codes "0.0.0") ≡ true → is_zero w ≡ true
 
--- the same without a bound, and a bound without the comparator, at 0.0.0
+pub made-spelled : (w : VersionValue) → is_valid MAX_SAFE_INTEGER (made at_least w) ≡ true → Spelled w (version_text w)
+made-spelled w h = record { zero = λ e. made-zero w h (ap not e) }
+
+-- `>=0.0.0` of the table, where no comparator of it counts
+pub record OpenLow (v w : VersionValue) (cs : List Comparison) : Type 0 where
+  pub zero : is_zero w ≡ true
+  pub all : passed v cs ≡ true
+  pub none : named_by v cs ≡ false
+
+-- a lower end: it is exact or open
+abbrev pub Low : VersionValue → VersionValue → List Comparison → Type 0
+Low v w cs = Exact v (from_lower (Before w) v) (names (Before w) v) cs ⊎ OpenLow v w cs
+
+pub whole_low : (v w : VersionValue) (text : List ℕ) → Spelled w text → Low v w (put at_least w text ∷ [])
+whole_low v w text s = elim (cases_Bool (counts false (put at_least w text))) [
+  | inl k ↦ inl (counted-exact v _ _ (put at_least w text) k (lower-before w v) refl)
+  | inr k ↦ inr (record { zero = s.zero (not-false _ k); all = rw k refl; none = rw k refl })
+]
+
+-- `>=M.m.p` that a table makes
+pub from_low : (v : VersionValue) (n : Numbers) → is_valid MAX_SAFE_INTEGER (from false n) ≡ true → Low v (release n) (from false n ∷ [])
+from_low v n h = whole_low v (release n) _ (made-spelled (release n) h)
+
+-- a bound without the comparator, at 0.0.0, and the comparator without a bound
+pub any_low : (v : VersionValue) → Low v (release (0, 0, 0)) []
+any_low v = inr (record { zero = refl; all = refl; none = refl })
+
 pub open-tame : (v : VersionValue) → Tame v (from_lower Unbounded v) (names Unbounded v) (from false (0, 0, 0) ∷ [])
 open-tame v = grind (arith, nat_tests, common_steps)
 
-pub any-tame : (v : VersionValue) → Tame v (from_lower (Before (release (0, 0, 0))) v) (names (Before (release (0, 0, 0))) v) []
-any-tame v = grind (arith, nat_tests, common_steps)
+-- a version of a release is not named
+pub not_named : (w v : VersionValue) → is_release w ≡ true
+    → (not (is_release w) && ((w.major == v.major) && ((w.minor == v.minor) && (w.patch == v.patch)))) ≡ false
+not_named w v h = rw h refl
+
+pub zero-release : (w : VersionValue) → is_zero w ≡ true → is_release w ≡ true
+zero-release w z = grind (arith, nat_tests, common_steps)
+
+pub low-tame : (v w : VersionValue) (cs : List Comparison) → Low v w cs → is_release w ≡ true
+    → Tame v (from_lower (Before w) v) (names (Before w) v) cs
+low-tame v w cs (inl e) h = nameless-tame v _ _ cs e (not_named w v h)
+low-tame v w cs (inr o) h = record {
+  released = λ r. lower-before w v ∙ zero_from v w r o.zero ∙ sym o.all;
+  here = ap (λ a. a && from_lower (Before w) v) (not_named w v h);
+  there = ap (λ a. a && passed v cs) o.none;
+}
+
+pub low-exact : (v w : VersionValue) (cs : List Comparison) → Low v w cs → is_release w ≡ false
+    → Exact v (from_lower (Before w) v) (names (Before w) v) cs
+low-exact v w cs (inl e) h = e
+low-exact v w cs (inr o) h = cc (zero-release w o.zero, h)
 
 -- ---- bounds of releases above, beside `<M.m.p-0`
 
@@ -125,13 +243,17 @@ release_lt : (v : VersionValue) (n : Numbers) → is_release v ≡ true → is_l
 release_lt v n r = grind (arith, nat_tests, common_steps)
 
 pub below-tame : (v : VersionValue) (n : Numbers) → Tame v (to_upper (Before (release n)) v) (names (Before (release n)) v) (under n ∷ [])
-below-tame v n = grind (arith, nat_tests, common_steps, upper-before, release_lt, and-true, under-there)
+below-tame v n = record {
+  released = λ r. upper-before (release n) v ∙ release_lt v n r ∙ sym (and-true _);
+  here = refl;
+  there = under-there v n;
+}
 
 then_equal : (r : Ordering) → is_le (ordering_then r Equal) ≡ is_le r
 then_equal r = grind arith
 
 -- a release up to w is below n, where their numbers say so
-most-tame : (v : VersionValue) (w n : Numbers) → (is_le (triple_cmp v (release w)) ≡ is_lt (ordering_then (triple_cmp v (lowest n)) Greater))
+pub most-tame : (v : VersionValue) (w n : Numbers) → is_le (triple_cmp v (release w)) ≡ is_lt (ordering_then (triple_cmp v (lowest n)) Greater)
     → Tame v (to_upper (After (release w)) v) (names (After (release w)) v) (under n ∷ [])
 most-tame v w n h = record {
   released = λ r.
@@ -145,104 +267,42 @@ most-tame v w n h = record {
   there = under-there v n;
 }
 
-pub most_major-numbers : (v : VersionValue) (limit M : ℕ) → v.minor ≤ limit → v.patch ≤ limit
+pub most_major : (v : VersionValue) (limit M : ℕ) → v.minor ≤ limit → v.patch ≤ limit
     → is_le (triple_cmp v (release (M, limit, limit))) ≡ is_lt (ordering_then (triple_cmp v (lowest (M + 1, 0, 0))) Greater)
-most_major-numbers v limit M h k = grind (arith, nat_tests, common_steps)
+most_major v limit M h k = grind (arith, nat_tests, common_steps)
 
-pub most_major-tame : (v : VersionValue) (limit M : ℕ) → v.minor ≤ limit → v.patch ≤ limit
-    → Tame v (to_upper (After (release (M, limit, limit))) v) (names (After (release (M, limit, limit))) v) (under (M + 1, 0, 0) ∷ [])
-most_major-tame v limit M h k = most-tame v (M, limit, limit) (M + 1, 0, 0) (most_major-numbers v limit M h k)
-
-pub most_minor-numbers : (v : VersionValue) (limit M m : ℕ) → v.patch ≤ limit
+pub most_minor : (v : VersionValue) (limit M m : ℕ) → v.patch ≤ limit
     → is_le (triple_cmp v (release (M, m, limit))) ≡ is_lt (ordering_then (triple_cmp v (lowest (M, m + 1, 0))) Greater)
-most_minor-numbers v limit M m k = grind (arith, nat_tests, common_steps)
+most_minor v limit M m k = grind (arith, nat_tests, common_steps)
 
-pub most_minor-tame : (v : VersionValue) (limit M m : ℕ) → v.patch ≤ limit
-    → Tame v (to_upper (After (release (M, m, limit))) v) (names (After (release (M, m, limit))) v) (under (M, m + 1, 0) ∷ [])
-most_minor-tame v limit M m k = most-tame v (M, m, limit) (M, m + 1, 0) (most_minor-numbers v limit M m k)
+-- ---- the other comparators of whole versions
 
--- ---- whole versions
+pub whole_above : (v w : VersionValue) (text : List ℕ) → ExactWord v (record { lower = After w; upper = Unbounded }) (put above w text ∷ [])
+whole_above v w text = exact-span v (After w) Unbounded (put above w text ∷ []) []
+    (counted-exact v _ _ (put above w text) refl (past-after w v) refl) (free-exact v)
 
--- a comparator of a version whose text may be `0.0.0` only where it is that version
-pub record Spelled (w : VersionValue) (text : List ℕ) : Type 0 where
-  pub zero : bytes_eq text (codes "0.0.0") ≡ true → is_zero w ≡ true
+pub whole_below : (v w : VersionValue) (text : List ℕ) → ExactWord v (record { lower = Unbounded; upper = Before w }) (put below w text ∷ [])
+whole_below v w text = exact-span v Unbounded (Before w) [] (put below w text ∷ []) (free-exact v)
+    (counted-exact v _ _ (put below w text) refl (upper-before w v) refl)
 
-pub zero-release : (w : VersionValue) → is_zero w ≡ true → is_release w ≡ true
-zero-release w z = grind (arith, nat_tests, common_steps)
+pub most-exact : (v w : VersionValue) (text : List ℕ) → Exact v (to_upper (After w) v) (names (After w) v) (put at_most w text ∷ [])
+most-exact v w text = counted-exact v _ _ (put at_most w text) refl (upper-after w v) refl
 
--- that of a pre-release counts
-counted-pre : (w : VersionValue) (text : List ℕ) → is_release w ≡ false → (bytes_eq text (codes "0.0.0") ≡ true → is_zero w ≡ true)
-    → not (bytes_eq text (codes "0.0.0")) ≡ true
-counted-pre w text p s = grind (arith, nat_tests, common_steps)
+pub whole_most : (v w : VersionValue) (text : List ℕ) → ExactWord v (record { lower = Unbounded; upper = After w }) (put at_most w text ∷ [])
+whole_most v w text = exact-span v Unbounded (After w) [] (put at_most w text ∷ []) (free-exact v) (most-exact v w text)
 
-pub made-spelled : (w : VersionValue) → is_valid MAX_SAFE_INTEGER (made at_least w) ≡ true → Spelled w (version_text w)
-made-spelled w h = record { zero = λ e. made-zero w h (ap not e) }
+equal_tests : (g l e : Bool) → (g && l) ≡ e → (g && l) ≡ (e && true)
+equal_tests g l e h = grind arith
 
--- one that is not 0.0.0
-pub whole_from-firm : (v w : VersionValue) (text : List ℕ) → Spelled w text → version_eq w (release (0, 0, 0)) ≡ false
-    → Exact v (from_lower (Before w) v) (names (Before w) v) (record { sign = at_least; version = w; text = text } ∷ [])
-whole_from-firm v w text s h = counted-exact v _ _ (record { sign = at_least; version = w; text = text }) counted (lower-before w v) refl
-  where
-    differ : true ≡ false → ⊥
-    differ e = cc
+equal_names : (r n : Bool) → (r || (n || n)) ≡ (r || (n || false))
+equal_names r n = grind arith
 
-    counted : not (bytes_eq text (codes "0.0.0")) ≡ true
-    counted = grind (arith, nat_tests, common_steps)
+pub whole_equal : (v w : VersionValue) (build : List Id) (text : List ℕ)
+    → ExactWord v (record { lower = Before w; upper = After w }) (put equal (record w { build = build }) text ∷ [])
+whole_equal v w build text =
+    grind (arith, nat_tests, common_steps, equal_tests, from_lower, to_upper, lower-before, upper-after, equal_names)
 
--- such a lower end, of a release and of a pre-release
-pub whole_from-tame : (v w : VersionValue) (text : List ℕ) → Spelled w text → is_release w ≡ true
-    → Tame v (from_lower (Before w) v) (names (Before w) v) (record { sign = at_least; version = w; text = text } ∷ [])
-whole_from-tame v w text s h = release-tame v _ _ (record { sign = at_least; version = w; text = text }) h (not_named w v h)
-    (λ _. lower-before w v) (λ r k. zero_from v w r (s.zero (not-false _ k)))
-
-pub whole_from-exact : (v w : VersionValue) (text : List ℕ) → Spelled w text → is_release w ≡ false
-    → Exact v (from_lower (Before w) v) (names (Before w) v) (record { sign = at_least; version = w; text = text } ∷ [])
-whole_from-exact v w text s h = counted-exact v _ _ (record { sign = at_least; version = w; text = text })
-    (counted-pre w text h s.zero) (lower-before w v) refl
-
--- the other comparators of whole versions
-pub whole_above-exact : (v w : VersionValue) (text : List ℕ)
-    → Exact v (from_lower (After w) v) (names (After w) v) (record { sign = above; version = w; text = text } ∷ [])
-whole_above-exact v w text = counted-exact v _ _ (record { sign = above; version = w; text = text }) refl (lower-after w v) refl
-
-pub whole_below-exact : (v w : VersionValue) (text : List ℕ)
-    → Exact v (to_upper (Before w) v) (names (Before w) v) (record { sign = below; version = w; text = text } ∷ [])
-whole_below-exact v w text = counted-exact v _ _ (record { sign = below; version = w; text = text }) refl (upper-before w v) refl
-
-pub whole_most-exact : (v w : VersionValue) (text : List ℕ)
-    → Exact v (to_upper (After w) v) (names (After w) v) (record { sign = at_most; version = w; text = text } ∷ [])
-whole_most-exact v w text = counted-exact v _ _ (record { sign = at_most; version = w; text = text }) refl (upper-after w v) refl
-
--- one that is exact and names nothing is tame
-pub exact-tame : (v : VersionValue) (test name : Bool) (cs : List Comparison) → Exact v test name cs → name ≡ false → Tame v test name cs
-exact-tame v test name cs h n = grind (arith, nat_tests, common_steps)
-
--- ---- a lower end that need not count
-
--- `>=0.0.0` of the table, where no comparator of it counts
-pub record OpenLow (v w : VersionValue) (cs : List Comparison) : Type 0 where
-  pub zero : is_zero w ≡ true
-  pub all : passed v cs ≡ true
-  pub none : named_by v cs ≡ false
-
-pub uncounted-open : (v : VersionValue) (c : Comparison) → is_zero c.version ≡ true → counts false c ≡ false → OpenLow v c.version (c ∷ [])
-uncounted-open v c z h = record { zero = z; all = rw h refl; none = rw h refl }
-
--- the lower end of a hyphen range: exact or open
-pub from-firm : (v : VersionValue) (n : Numbers) → is_valid MAX_SAFE_INTEGER (from false n) ≡ true
-    → Exact v (from_lower (Before (release n)) v) (names (Before (release n)) v) (from false n ∷ []) ⊎ OpenLow v (release n) (from false n ∷ [])
-from-firm v n h = elim (cases_Bool (counts false (from false n))) [
-  | inl k ↦ inl (counted-exact v _ _ (from false n) k (lower-before (release n) v) refl)
-  | inr k ↦ inr (uncounted-open v (from false n) (made-zero (release n) h k) k)
-]
-
-pub whole_from-either : (v w : VersionValue) (text : List ℕ) → Spelled w text
-    → Exact v (from_lower (Before w) v) (names (Before w) v) (record { sign = at_least; version = w; text = text } ∷ [])
-    ⊎ OpenLow v w (record { sign = at_least; version = w; text = text } ∷ [])
-whole_from-either v w text s = elim (cases_Bool (counts false (record { sign = at_least; version = w; text = text }))) [
-  | inl k ↦ inl (counted-exact v _ _ (record { sign = at_least; version = w; text = text }) k (lower-before w v) refl)
-  | inr k ↦ inr (uncounted-open v (record { sign = at_least; version = w; text = text }) (s.zero (not-false _ k)) k)
-]
+-- ---- a pre-release above 0.0.0
 
 open_bits : (t r : Ordering) → is_le (ordering_then t Greater) ≡ true → is_le (ordering_then t r) ≡ true
 open_bits t r h = grind arith

@@ -8,8 +8,8 @@ use Rattle.nodejs_semver.proofs.Common.{trim_is_middle, true, ℕ, ◌&&◌, ◌
 use Rattle.nodejs_semver.proofs.NpmCommon.{AreAlternatives, AreEndMarks, Comparison, HasAlternatives, IsAlternative}
 use Rattle.nodejs_semver.proofs.NpmCommon.{IsPlainText, IsPlainWord, IsSignText, IsWord, are_marks, at_least, compared, counts}
 use Rattle.nodejs_semver.proofs.NpmCommon.{is_free_lower, is_free_upper, is_valid, is_within, lit<, meets, more, none, one_word}
-use Rattle.nodejs_semver.proofs.{NpmCommon.{signed, spelling, two_words}, Alike.{Beside.two-good, Hyphens.between-good}}
-use Rattle.nodejs_semver.proofs.Alike.{Rows.{Good, SameWord, word-good}, Tests.{IsWithin, within}}
+use Rattle.nodejs_semver.proofs.{NpmCommon.{signed, spelling, two_words}, Alike.{Beside.two-good, Ends.{IsWithin, within}}}
+use Rattle.nodejs_semver.proofs.Alike.{Hyphens.between-good, Rows.{Good, SameWord, word-good}}
 use Rattle.nodejs_semver.proofs.Dividing.{BarsDivide.bars_divide, MeaningLaw.pieces-utf8}
 use Rattle.nodejs_semver.proofs.Everyday.Texts.{common_parts_are_denoted, compact-trim, cut-first, cut-last, list-some}
 use Rattle.nodejs_semver.proofs.{Everyday.{Texts.part-tidy, Words.{Compact, is_part_byte}}, Reading.Bytes.all-join}
@@ -77,13 +77,7 @@ no_ends : (free : Bool) → AreEndMarks false free []
 no_ends free = record { characters = []; spelled = refl; each = refl; whole = either_true free }
 
 sign_text : (s : Sign) → IsSignText (spelling s) s
-sign_text (compared at_least) = Npm.sign (compared at_least) [] no_blank
-sign_text (compared above) = Npm.sign (compared above) [] no_blank
-sign_text (compared equal) = Npm.sign (compared equal) [] no_blank
-sign_text (compared at_most) = Npm.sign (compared at_most) [] no_blank
-sign_text (compared below) = Npm.sign (compared below) [] no_blank
-sign_text Table.caret = Npm.sign Table.caret [] no_blank
-sign_text Table.tilde = Npm.sign Table.tilde [] no_blank
+sign_text s = rw append-nil at (Npm.sign s [] no_blank)
 
 no_mark : (a : Bool) → (a && false) ≡ false
 no_mark a = grind arith
@@ -224,14 +218,10 @@ plain-same text list all v h small =
       | inr r ↦ each-released h.pre v text list all w h.divided h.valid (closed h.pre (list_any is_bare all) e h.counted) r ∙ sym r
     ]
 
--- one interval or more
-list-filled : (text : List ℕ) (list : List (Span VersionValue)) (all : List (List Comparison))
-    → IsPlainText MAX_SAFE_INTEGER text list all → 0 < length list
-list-filled text list all h = list-some MAX_SAFE_INTEGER text list (parts-common MAX_SAFE_INTEGER h.pre text list all h.divided)
-
 pub plain-read : (text : List ℕ) (list : List (Span VersionValue)) (all : List (List Comparison)) → IsUtf8 text
     → IsPlainText MAX_SAFE_INTEGER text list all → Means MAX_SAFE_INTEGER text list × (0 < length list)
-plain-read text list all u h = (plain-means text list all u h, list-filled text list all h)
+plain-read text list all u h =
+    (plain-means text list all u h, list-some MAX_SAFE_INTEGER text list (parts-common MAX_SAFE_INTEGER h.pre text list all h.divided))
 
 -- ---- ranges of the text
 

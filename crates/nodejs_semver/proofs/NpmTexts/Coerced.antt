@@ -6,23 +6,23 @@ use Rattle.nodejs_semver.proofs.{Common.{take, take_at, true, ℕ, ◌++◌, ◌
 use Rattle.nodejs_semver.proofs.NpmCommon.{IsRun, IsStrictNumber, IsTuple, IsTupleIn, NoValue, has_leading_zero, number_front}
 use Rattle.nodejs_semver.proofs.{NpmCommon.{strict_number, tuple_release}, Reading.Numbers.{digits-taken, number-is}}
 use Rattle.nodejs_semver.proofs.{Reading.Numbers.number-read, Strict.Numbers.{padded-same, strict-read}}
-use Rattle.nodejs_semver.specs.{Internal.NpmTuples.number_in_reading, Npm.Coerced.{IsCoerced, IsRelease}}
+use Rattle.nodejs_semver.specs.{Internal.NpmTuples.{HasNoTuple, number_in_reading}, Npm.Coerced.{IsCoerced, IsRelease}}
 use Rattle.nodejs_semver.specs.Npm.Coerced as Npm
 
 -- ---- the numbers of a tuple
 
 -- a function reads the numbers of a reading
-record Reads (zeros : Bool) (limit : ℕ) (Number : List ℕ → ℕ → Type 0) : Type 0 where
-  found : (a rest : List ℕ) (n : ℕ) (r : List ℕ) → IsRun a → begins is_ascii_digit rest ≡ false
+pub record Reads (zeros : Bool) (limit : ℕ) (Number : List ℕ → ℕ → Type 0) : Type 0 where
+  pub found : (a rest : List ℕ) (n : ℕ) (r : List ℕ) → IsRun a → begins is_ascii_digit rest ≡ false
       → number_in_reading zeros limit (a ++ rest) ≡ Some (n, r) → Number a n × (r ≡ rest)
-  read : (a rest : List ℕ) (n : ℕ) → Number a n → begins is_ascii_digit rest ≡ false → number_in_reading zeros limit (a ++ rest) ≡ Some (n, rest)
+  pub read : (a rest : List ℕ) (n : ℕ) → Number a n → begins is_ascii_digit rest ≡ false → number_in_reading zeros limit (a ++ rest) ≡ Some (n, rest)
 
 front-found : (limit : ℕ) (a rest : List ℕ) (n : ℕ) (r : List ℕ) → IsRun a → begins is_ascii_digit rest ≡ false
     → number_front limit (a ++ rest) ≡ Some (n, r) → IsNumber limit a n × (r ≡ rest)
 front-found limit a rest n r h stop e =
     grind (arith, nat_tests, common_steps, digits-taken, take_at, drop_at, same_Some, number-is)
 
-loose-reads : (limit : ℕ) → Reads true limit (IsNumber limit)
+pub loose-reads : (limit : ℕ) → Reads true limit (IsNumber limit)
 loose-reads limit = record { found = front-found limit; read = number-read limit }
 
 strict-found : (limit : ℕ) (a rest : List ℕ) (n : ℕ) (r : List ℕ) → IsRun a → begins is_ascii_digit rest ≡ false
@@ -35,7 +35,7 @@ strict-found limit a rest n r h stop e =
       | inr bare ↦ grind (arith, nat_tests, common_steps, front-found)
     ]
 
-strict-reads : (limit : ℕ) → Reads false limit (IsStrictNumber limit)
+pub strict-reads : (limit : ℕ) → Reads false limit (IsStrictNumber limit)
 strict-reads limit = record { found = strict-found limit; read = strict-read limit }
 
 -- ---- the release of a tuple
@@ -80,91 +80,67 @@ same-tuple text f t b x y z e g same long =
     let other : drop (length f) text ≡ y ++ z = ap (λ (s : List ℕ). drop (length f) s) g ∙ drop_at x (y ++ z) (length f) (sym same) in
     sym (take_at y z (length t) (sym long)) ∙ ap (λ (s : List ℕ). take (length t) s) (sym other ∙ one) ∙ take_at t b (length t) refl
 
-abbrev Chosen : Type 1
+abbrev pub Chosen : Type 1
 Chosen = List ℕ → List ℕ → List ℕ → List ℕ → Type 0
 
 -- only one tuple is chosen
-abbrev IsUnique : Chosen → Type 0
-IsUnique IsChosen = (text f t b x y z : List ℕ) → IsTupleIn text f t b → IsChosen text f t b → IsTupleIn text x y z → IsChosen text x y z → y ≡ t
+pub record IsUnique (C : Chosen) : Type 0 where
+  pub same : (text f t b x y z : List ℕ) → IsTupleIn text f t b → C text f t b → IsTupleIn text x y z → C text x y z → y ≡ t
 
-leftmost-unique : IsUnique IsLeftmost
-leftmost-unique text f t b x y z h k m n =
-    let same : length f ≡ length x = omega (arith, k.first x y z m, n.first f t b h) in
-    let long : length t ≡ length y = omega (arith, k.longest x y z m (sym same), n.longest f t b h same) in
-    same-tuple text f t b x y z h.divided m.divided same long
-
-rightmost-unique : IsUnique IsRightmost
-rightmost-unique text f t b x y z h k m n =
-    let same : length b ≡ length z = omega (arith, k.last x y z m, n.last f t b h) in
-    let long : length t ≡ length y = omega (arith, k.longest x y z m (sym same), n.longest f t b h same) in
-    let one : length text ≡ length f + (length t + length b) = ap length h.divided ∙ length-append f (t ++ b) ∙ omega (arith, length-append t b) in
-    let other : length text ≡ length x + (length y + length z) = ap length m.divided ∙ length-append x (y ++ z) ∙ omega (arith, length-append y z) in
-    same-tuple text f t b x y z h.divided m.divided (omega (arith, one, other, same, long)) long
-
-abbrev Number : Type 1
-Number = List ℕ → ℕ → Type 0
-
-abbrev Found : Chosen → List ℕ → List ℕ → Type 0
-Found C text tuple = (front back : List ℕ) × IsTupleIn text front tuple back × C text front tuple back
-
-coerced-some : (zeros : Bool) (limit : ℕ) (N : Number) → Reads zeros limit N → (C : Chosen) (text tuple : List ℕ) → Found C text tuple
-    → (o : Option VersionValue) → tuple_release zeros limit tuple ≡ o → IfSome o (IsCoerced C N text)
-coerced-some zeros limit N reads C text tuple f None e = tt
-coerced-some zeros limit N reads C text tuple f (Some v) e = record {
-  front = f.0;
-  tuple = tuple;
-  back = f.1;
-  found = f.2;
-  chosen = f.3;
-  is = release-found zeros limit N reads tuple f.2.runs v f.2.is e;
+pub leftmost-unique : IsUnique IsLeftmost
+leftmost-unique = record {
+  same = λ text f t b x y z h k m n.
+      let same : length f ≡ length x = omega (arith, k.first x y z m, n.first f t b h) in
+      let long : length t ≡ length y = omega (arith, k.longest x y z m (sym same), n.longest f t b h same) in
+      same-tuple text f t b x y z h.divided m.divided same long;
 }
 
-coerced-none : (zeros : Bool) (limit : ℕ) (N : Number) → Reads zeros limit N → (C : Chosen) → IsUnique C → (text tuple : List ℕ) → Found C text tuple
-    → (o : Option VersionValue) → tuple_release zeros limit tuple ≡ o → IfNone o (NoValue (IsCoerced C N text))
-coerced-none zeros limit N reads C unique text tuple f (Some v) e = tt
-coerced-none zeros limit N reads C unique text tuple f None e = λ v w.
-    let same = unique text f.0 tuple f.1 w.front w.tuple w.back f.2 f.3 w.found w.chosen in
-    cc (release-read zeros limit N reads w.tuple w.found.runs v w.found.is w.is, same, e)
+pub rightmost-unique : IsUnique IsRightmost
+rightmost-unique = record {
+  same = λ text f t b x y z h k m n.
+      let same : length b ≡ length z = omega (arith, k.last x y z m, n.last f t b h) in
+      let long : length t ≡ length y = omega (arith, k.longest x y z m (sym same), n.longest f t b h same) in
+      let one : length text ≡ length f + (length t + length b) = ap length h.divided ∙ length-append f (t ++ b) ∙ omega (arith, length-append t b) in
+      let other : length text ≡ length x + (length y + length z) = ap length m.divided ∙ length-append x (y ++ z) ∙ omega (arith, length-append y z) in
+      same-tuple text f t b x y z h.divided m.divided (omega (arith, one, other, same, long)) long;
+}
+
+abbrev pub Number : Type 1
+Number = List ℕ → ℕ → Type 0
+
+abbrev pub Found : Chosen → List ℕ → List ℕ → Type 0
+Found C text tuple = (front back : List ℕ) × IsTupleIn text front tuple back × C text front tuple back
+
+module _ (zeros : Bool) (limit : ℕ) (N : Number) (C : Chosen) (text tuple : List ℕ) (reads : Reads zeros limit N) (f : Found C text tuple) where
+  pub coerced_some : IfSome (tuple_release zeros limit tuple) (IsCoerced C N text)
+  coerced_some = go (tuple_release zeros limit tuple) refl
+    where
+      go : (o : Option VersionValue) → tuple_release zeros limit tuple ≡ o → IfSome o (IsCoerced C N text)
+      go None e = tt
+      go (Some v) e = record {
+        front = f.0;
+        tuple = tuple;
+        back = f.1;
+        found = f.2;
+        chosen = f.3;
+        is = release-found zeros limit N reads tuple f.2.runs v f.2.is e;
+      }
+
+  pub coerced_none : IsUnique C → IfNone (tuple_release zeros limit tuple) (NoValue (IsCoerced C N text))
+  coerced_none unique = go (tuple_release zeros limit tuple) refl
+    where
+      go : (o : Option VersionValue) → tuple_release zeros limit tuple ≡ o → IfNone o (NoValue (IsCoerced C N text))
+      go (Some v) e = tt
+      go None e = λ v w.
+          let same = unique.same text f.0 tuple f.1 w.front w.tuple w.back f.2 f.3 w.found w.chosen in
+          cc (release-read zeros limit N reads w.tuple w.found.runs v w.found.is w.is, same, e)
 
 -- where there is none, nothing is found
-pub coerced_absent : (o : Option VersionValue) (C : Chosen) (N : Number) (text : List ℕ) → ((x y z : List ℕ) → IsTupleIn text x y z → ⊥)
-    → IfNone o (NoValue (IsCoerced C N text))
-coerced_absent None C N text none = λ v w. none w.front w.tuple w.back w.found
-coerced_absent (Some v) C N text none = tt
+pub coerced_absent : (o : Option VersionValue) (C : Chosen) (N : Number) (text bytes : List ℕ) → bytes ≡ text
+    → HasNoTuple bytes → IfNone o (NoValue (IsCoerced C N text))
+coerced_absent None C N text bytes same h = λ v w. (rw same at h).none w.front w.tuple w.back w.found
+coerced_absent (Some v) C N text bytes same none = tt
 
--- the four readings
-pub left_some : (limit : ℕ) (text tuple : List ℕ) → Found IsLeftmost text tuple
-    → IfSome (tuple_release false limit tuple) (IsCoerced IsLeftmost (IsStrictNumber limit) text)
-left_some limit text tuple f = coerced-some false limit (IsStrictNumber limit) (strict-reads limit) IsLeftmost text tuple f (tuple_release false limit tuple) refl
+pub ruleset lefts = (coerced_absent, coerced_some, coerced_none, strict-reads, loose-reads, leftmost-unique)
 
-pub left_none : (limit : ℕ) (text tuple : List ℕ) → Found IsLeftmost text tuple
-    → IfNone (tuple_release false limit tuple) (NoValue (IsCoerced IsLeftmost (IsStrictNumber limit) text))
-left_none limit text tuple f = coerced-none false limit (IsStrictNumber limit) (strict-reads limit) IsLeftmost leftmost-unique text tuple f (tuple_release false limit tuple) refl
-
-pub left_loose_some : (limit : ℕ) (text tuple : List ℕ) → Found IsLeftmost text tuple
-    → IfSome (tuple_release true limit tuple) (IsCoerced IsLeftmost (IsNumber limit) text)
-left_loose_some limit text tuple f = coerced-some true limit (IsNumber limit) (loose-reads limit) IsLeftmost text tuple f (tuple_release true limit tuple) refl
-
-pub left_loose_none : (limit : ℕ) (text tuple : List ℕ) → Found IsLeftmost text tuple
-    → IfNone (tuple_release true limit tuple) (NoValue (IsCoerced IsLeftmost (IsNumber limit) text))
-left_loose_none limit text tuple f = coerced-none true limit (IsNumber limit) (loose-reads limit) IsLeftmost leftmost-unique text tuple f (tuple_release true limit tuple) refl
-
-pub right_some : (limit : ℕ) (text tuple : List ℕ) → Found IsRightmost text tuple
-    → IfSome (tuple_release false limit tuple) (IsCoerced IsRightmost (IsStrictNumber limit) text)
-right_some limit text tuple f = coerced-some false limit (IsStrictNumber limit) (strict-reads limit) IsRightmost text tuple f (tuple_release false limit tuple) refl
-
-pub right_none : (limit : ℕ) (text tuple : List ℕ) → Found IsRightmost text tuple
-    → IfNone (tuple_release false limit tuple) (NoValue (IsCoerced IsRightmost (IsStrictNumber limit) text))
-right_none limit text tuple f = coerced-none false limit (IsStrictNumber limit) (strict-reads limit) IsRightmost rightmost-unique text tuple f (tuple_release false limit tuple) refl
-
-pub right_loose_some : (limit : ℕ) (text tuple : List ℕ) → Found IsRightmost text tuple
-    → IfSome (tuple_release true limit tuple) (IsCoerced IsRightmost (IsNumber limit) text)
-right_loose_some limit text tuple f = coerced-some true limit (IsNumber limit) (loose-reads limit) IsRightmost text tuple f (tuple_release true limit tuple) refl
-
-pub right_loose_none : (limit : ℕ) (text tuple : List ℕ) → Found IsRightmost text tuple
-    → IfNone (tuple_release true limit tuple) (NoValue (IsCoerced IsRightmost (IsNumber limit) text))
-right_loose_none limit text tuple f = coerced-none true limit (IsNumber limit) (loose-reads limit) IsRightmost rightmost-unique text tuple f (tuple_release true limit tuple) refl
-
-pub ruleset lefts = (coerced_absent, left_some, left_none, left_loose_some, left_loose_none)
-
-pub ruleset rights = (coerced_absent, right_some, right_none, right_loose_some, right_loose_none)
+pub ruleset rights = (coerced_absent, coerced_some, coerced_none, strict-reads, loose-reads, rightmost-unique)

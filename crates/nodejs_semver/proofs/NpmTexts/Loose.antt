@@ -112,13 +112,6 @@ bare-begins (c ∷ d ∷ more) b h k e = elim (cases_Bool (goes_on (d ∷ more))
       rw one (first (rw one at e) b)
 ]
   where
-    undashed : is_identifier_char d ≡ true → (c == 45) ≡ false
-    undashed id = elim (cases_Bool (c == 45)) [ inl dash ↦ cc (rw (dash, id) at h) | inr other ↦ other ]
-
-    undotted : (d == 46) ≡ false → Behind (c ∷ d ∷ more) → not (is_ascii_digit c) ≡ true
-    undotted other (inl dark) = rw dark refl
-    undotted other (inr lone) = cc (other, lone)
-
     second : goes_on (d ∷ more) ≡ true → Behind (c ∷ d ∷ more) → (d == 46 || not (c == 45 || is_ascii_digit c)) ≡ true
     second goes b = elim (cases_Bool (d == 46)) [
       | inl dot ↦ rw dot refl

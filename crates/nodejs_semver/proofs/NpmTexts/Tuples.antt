@@ -5,8 +5,8 @@ use Rattle.nodejs_semver.proofs.Common.{length-append, length-drop, length-take-
 use Rattle.nodejs_semver.proofs.Common.{take-append-drop, take_at, true, ℕ, ◌++◌, ◌+◌, ◌-◌, ◌<◌, ◌==◌, ◌∙◌, ◌∷◌, ◌≡◌, ◌≤◌, ◌⊎◌}
 use Rattle.nodejs_semver.proofs.NpmCommon.{IsLastBefore, IsLeftmost, IsRightmost, IsRun, IsTuple, IsTupleIn, drop-append-add}
 use Rattle.nodejs_semver.proofs.{NpmCommon.{length-prefix_len, nat_le, tuple_len}, Reading.Numbers.{digits-taken, run-ends}}
-use Rattle.nodejs_semver.{proofs.Strict.Places.digits-of, specs.Internal.NpmTuples.{IsLongestAt, behind_first, dotted_len}}
-use Rattle.nodejs_semver.specs.{Internal.NpmTuples.run_len, Npm.Coerced.{one, three, two}}
+use Rattle.nodejs_semver.{proofs.Strict.Places.digits-of, specs.Internal.NpmTuples.{HasNoTuple, IsLongestAt, behind_first}}
+use Rattle.nodejs_semver.specs.{Internal.NpmTuples.{dotted_len, run_len}, Npm.Coerced.{one, three, two}}
 use Rattle.semver_core.proofs.Text.Pieces.{rest_at}
 
 -- ---- runs
@@ -232,10 +232,10 @@ first_found text at len there some after =
       },
     )
 
-pub first_none : (text : List ℕ) (at : ℕ) → length text ≤ at → BeginsAfter text at → (x y z : List ℕ) → IsTupleIn text x y z → ⊥
-first_none text at past after x y z is =
-    let p = parts text x y z is in
-    omega (arith, past, after x y z is, p.whole, p.some)
+pub first_none : (text : List ℕ) (at : ℕ) → length text ≤ at → BeginsAfter text at → HasNoTuple text
+first_none text at past after = record {
+  none = λ x y z is. let p = parts text x y z is in omega (arith, past, after x y z is, p.whole, p.some);
+}
 
 pub ruleset firsts = (first_found)
 
@@ -271,8 +271,9 @@ pub last_found : (text : List ℕ) (at start end : ℕ) → IsLastBefore text at
     → Found IsRightmost text (take (end - start) (drop start text))
 last_found text at start end h past some = grind (arith, length-take-le, length-drop, parts)
 
-pub last_none : (text : List ℕ) (at start end : ℕ) → IsLastBefore text at start end → length text ≤ at → end ≡ 0
-    → (x y z : List ℕ) → IsTupleIn text x y z → ⊥
-last_none text at start end h past none x y z is = grind (arith, nat_tests, common_steps, parts)
+pub last_none : (text : List ℕ) (at start end : ℕ) → IsLastBefore text at start end → length text ≤ at → end ≡ 0 → HasNoTuple text
+last_none text at start end h past none = record {
+  none = λ x y z is. let p = parts text x y z is in omega (arith, past, none, p.whole, p.some, h.last x y z is (omega (arith, past, p.whole, p.some)));
+}
 
 pub ruleset lasts = (last_begin)

@@ -1,12 +1,9 @@
 -- The order that counts builds is total, and versions that tie in it are equal.
-use Rattle.nodejs_semver.proofs.Common.{arith, common_steps, nat_tests, ◌≡◌, ◌∙◌, ◌↔◌, ◌||◌, ap, not, sym, true}
-use Rattle.nodejs_semver.proofs.Common.{Ordering, not-true, IsTotalOrder, tied_itself, is_le, ordering_reverse}
-use Rattle.nodejs_semver.proofs.Common.{ordering_then, Equal, tells, precedence_total, VersionValue}
-use Rattle.std.specs.Cmp.{on_total, then_total, upto}
-use Rattle.std.specs.Cmp.Lexicographic.{lists_total}
-use Rattle.std.specs.FinMap.{slice_cmp-IsAntisymmetric}
-use Rattle.semver_core.specs.Internal.OrderLaws.{id_same, id_total, same_key}
-use Rattle.nodejs_semver.specs.Npm.Builds.{build_order}
+use Rattle.nodejs_semver.proofs.Common.{Equal, IsTotalOrder, Ordering, VersionValue, ap, arith, common_steps, is_le, nat_tests}
+use Rattle.nodejs_semver.proofs.Common.{not, not-true, ordering_reverse, ordering_then, precedence_total, sym, tells}
+use Rattle.nodejs_semver.{proofs.Common.{tied_itself, true, ◌||◌, ◌↔◌, ◌∙◌, ◌≡◌}, specs.Npm.Builds.build_order}
+use Rattle.{semver_core.specs.Internal.OrderLaws.{id_same, id_total, same_key}, std.specs.Cmp.{on_total, then_total, upto}}
+use Rattle.std.specs.{Cmp.Lexicographic.lists_total, FinMap.slice_cmp-IsAntisymmetric}
 
 build_total : IsTotalOrder build_order
 build_total = then_total precedence_total (on_total (λ (v : VersionValue). v.build) (lists_total id_total))

@@ -1,11 +1,10 @@
 -- A range of those intervals that accept one of some versions.
-use Rattle.nodejs_semver.proofs.Common.{◌≡◌, ◌∙◌, ◌≤◌, refl, sym, ap, Bool, true, false, ℕ, ◌+◌, List, [], ◌∷◌, filter}
-use Rattle.nodejs_semver.proofs.Common.{length, map, All, None, Some, arith, ◌&&◌, ◌||◌, if◌then◌else◌, inl, inr, ◌<◌}
-use Rattle.nodejs_semver.proofs.Common.{length-map, or_left, or_right, All-from_recursion, AllByRecursion, list_all}
-use Rattle.nodejs_semver.proofs.Common.{list_any, Span, holds, precedence, if_any, is_empty, VersionValue, list_any-map}
-use Rattle.nodejs_semver.proofs.Common.{AreTaking, is_range_span, accepts, lets_in, IsRange, span_of, spans_of}
-use Rattle.nodejs_semver.proofs.Questions.Unions.{all-filter, filtered, map-filter}
-use Rattle.nodejs_semver.specs.Internal.Questions.{admits, is_used}
+use Rattle.nodejs_semver.proofs.Common.{All, All-from_recursion, AllByRecursion, AreTaking, Bool, IsRange, List, None, Some}
+use Rattle.nodejs_semver.proofs.Common.{Span, VersionValue, [], accepts, ap, arith, false, filter, holds, if_any, if◌then◌else◌}
+use Rattle.nodejs_semver.proofs.Common.{inl, inr, is_empty, is_range_span, length, length-map, lets_in, list_all, list_any}
+use Rattle.nodejs_semver.proofs.Common.{list_any-map, map, or_left, or_right, precedence, refl, span_of, spans_of, sym, true, ℕ}
+use Rattle.nodejs_semver.proofs.{Common.{◌&&◌, ◌+◌, ◌<◌, ◌||◌, ◌∙◌, ◌∷◌, ◌≡◌, ◌≤◌}, Questions.Unions.{all-filter, filtered}}
+use Rattle.nodejs_semver.{proofs.Questions.Unions.map-filter, specs.Internal.Questions.{admits, is_used}}
 use Rattle.nodejs_semver.specs.Npm.Simple.{simplified}
 
 -- the spans that admit one of the versions

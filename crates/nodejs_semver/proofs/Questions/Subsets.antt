@@ -1,15 +1,8 @@
 -- When one range is part of another, by what is found beyond it.
-use Rattle.nodejs_semver.proofs.Common.{common_steps, nat_tests, ◌≡◌, ◌↔◌, ◌&&◌, Bool, true, false, not, List, Option}
-use Rattle.nodejs_semver.proofs.Common.{Some, IsTrue, IfOk, Result, arith, ap, inl, is_some, ◌⊎◌, sym, ◌∙◌, IfOk-weaker}
-use Rattle.nodejs_semver.proofs.Common.{Span, VersionValue, on_err, accepts, IsLeastOf}
-use Rattle.std.proofs.Common.{is_none, OnErr}
-use Rattle.nodejs_semver.specs.Npm.Subsets.{AcceptSame, IsSubset}
-
-within : (x y : Bool) → (x && not y) ≡ false → x ≡ true → y ≡ true
-within x y h k = grind arith
-
-none_left : (x y : Bool) → (x ≡ true → y ≡ true) → (x && not y) ≡ false
-none_left x y h = grind arith
+use Rattle.nodejs_semver.proofs.Common.{Bool, IfOk, IfOk-weaker, IsLeastOf, IsTrue, List, Option, Result, Some, Span}
+use Rattle.nodejs_semver.proofs.Common.{VersionValue, accepts, ap, arith, common_steps, false, inl, is_some, nat_tests, not}
+use Rattle.{nodejs_semver.proofs.Common.{on_err, sym, true, ◌&&◌, ◌↔◌, ◌∙◌, ◌≡◌, ◌⊎◌}, std.proofs.Common.OnErr}
+use Rattle.nodejs_semver.{proofs.NpmCommon.is_none, specs.Npm.Subsets.{AcceptSame, IsSubset}}
 
 -- by the least version beyond, and by what a set of what is left has
 pub by_least : (a b : List (Span VersionValue)) (set : VersionValue → Bool) (include : Bool)

@@ -1,16 +1,13 @@
 -- What the union of two lists of spans accepts.
-use Rattle.nodejs_semver.proofs.Common.{common_steps, nat_tests, ◌≡◌, refl, sym, ap, ap₂, Bool, true, false, ◌&&◌}
-use Rattle.nodejs_semver.proofs.Common.{◌||◌, not, List, [], ◌∷◌, ◌++◌, filter, arith, ℕ, ◌+◌, ◌<◌, ◌⊎◌}
-use Rattle.nodejs_semver.proofs.Common.{append_assoc, get_or, inl, inr, suc, zero, if◌then◌else◌, length, length-append}
-use Rattle.nodejs_semver.proofs.Common.{map, Ordering, take, map-append, list_all-append, and_parts, not-true, or_cases}
-use Rattle.nodejs_semver.proofs.Common.{or_left, or_parts, or_right, list_any-append, list_all, list_any, gt_lt}
-use Rattle.nodejs_semver.proofs.Common.{is_past-down, tells, Span, has_bound, holds, passes, precedence_total}
-use Rattle.nodejs_semver.proofs.Common.{precedence, VersionValue, is_release, Bound, list_any-map, AreTaking}
-use Rattle.nodejs_semver.proofs.Common.{same_triple, IsRange, span_of, names, spans_of, accepts, lets_in}
-use Rattle.semver_core.specs.Cuts.{covers}
-use Rattle.nodejs_semver.specs.Internal.Questions.{is_said}
-use Rattle.nodejs_semver.specs.Internal.Shorthands.{lets_in_bounds}
-use Rattle.nodejs_semver.specs.Npm.Unions.{says_all, union}
+use Rattle.nodejs_semver.proofs.Common.{AreTaking, Bool, Bound, IsRange, List, Ordering, Span, VersionValue, [], accepts}
+use Rattle.nodejs_semver.proofs.Common.{and_parts, ap, append_assoc, ap₂, arith, common_steps, false, filter, get_or, gt_lt}
+use Rattle.nodejs_semver.proofs.Common.{has_bound, holds, if◌then◌else◌, inl, inr, is_past-down, is_release, length}
+use Rattle.nodejs_semver.proofs.Common.{length-append, lets_in, list_all, list_all-append, list_any, list_any-append}
+use Rattle.nodejs_semver.proofs.Common.{list_any-map, map, map-append, names, nat_tests, not, not-true, or_cases, or_left}
+use Rattle.nodejs_semver.proofs.Common.{or_parts, or_right, passes, precedence, precedence_total, refl, same_triple, span_of}
+use Rattle.nodejs_semver.proofs.Common.{spans_of, suc, sym, take, tells, true, zero, ℕ, ◌&&◌, ◌++◌, ◌+◌, ◌<◌, ◌||◌, ◌∷◌, ◌≡◌}
+use Rattle.nodejs_semver.{proofs.Common.◌⊎◌, specs.Internal.{Questions.is_said, Shorthands.lets_in_bounds}}
+use Rattle.{nodejs_semver.specs.Npm.Unions.{says_all, union}, semver_core.specs.Cuts.covers}
 
 -- what a span holds, one that covers it holds
 covers-holds : (s t : Span VersionValue) (v : VersionValue) → covers precedence s t ≡ true → holds precedence t v ≡ true

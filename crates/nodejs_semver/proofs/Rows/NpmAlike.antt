@@ -1,8 +1,8 @@
 -- Worked rows: a text that means the same here and to node-semver, with its intervals and its comparators.
-use Rattle.nodejs_semver.proofs.Common.{Before, List, None, Partial, Some, Span, VersionValue, [], above, below, codes, false}
-use Rattle.nodejs_semver.proofs.{Common.{inr, lit≤, lowest, refl, release_value, ℕ, ◌∷◌}, NpmCommon.IsPlainPartial}
-use Rattle.nodejs_semver.proofs.NpmCommon.{IsPlainText, digits, from, lit<, more, one_word, signed, two_words, under}
-use Rattle.nodejs_semver.specs.Npm.{Alike.one, Table.caret}
+use Rattle.nodejs_semver.proofs.Common.{Before, IsNumber, List, None, Partial, Some, Span, VersionValue, [], above, arith}
+use Rattle.nodejs_semver.proofs.Common.{below, codes, false, inr, length, lit≤, lowest, refl, release_value, true, ℕ, ◌∷◌, ◌≡◌}
+use Rattle.nodejs_semver.proofs.{Common.◌≤◌, NpmCommon.{IsPlainPartial, IsPlainText, digits, from, is_spelled, lit<, more}}
+use Rattle.nodejs_semver.{proofs.NpmCommon.{one_word, signed, two_words, under}, specs.Npm.{Alike.one, Table.caret}}
 use Rattle.nodejs_semver.specs.Npm.RangeText as Npm
 use Rattle.nodejs_semver.specs.Text.PartialText as Here
 use Rattle.nodejs_semver.specs.Text.Table as Spans
@@ -16,26 +16,21 @@ part M = record { major = Some M; minor = None; patch = None; pre_release = []; 
 abbrev IsPart : List ℕ → ℕ → Type 0
 IsPart text M = IsPlainPartial limit false text (part M)
 
-one_is : IsPart (codes "1") 1
-one_is = record {
-  here = Here.one (codes "1") (Some 1) (Here.number (codes "1") 1 (record { some = lit< tt; each = refl; value = refl; safe = lit≤ tt }));
-  npm = Npm.one (codes "1") (Some 1) (Npm.number (codes "1") 1 (record { some = lit< tt; each = refl; value = refl; safe = lit≤ tt }) refl (lit≤ tt));
+part_is : (text : List ℕ) (M : ℕ) → IsNumber limit text M → is_spelled false false M text ≡ true → length text ≤ 257 → IsPart text M
+part_is text M n spelled short = record {
+  here = Here.one text (Some M) (Here.number text M n);
+  npm = Npm.one text (Some M) (Npm.number text M (record { some = n.some; each = n.each; value = n.value; safe = omega arith }) spelled short);
   plain = refl;
 }
+
+one_is : IsPart (codes "1") 1
+one_is = part_is (codes "1") 1 (record { some = lit< tt; each = refl; value = refl; safe = lit≤ tt }) refl (lit≤ tt)
 
 two_is : IsPart (codes "2") 2
-two_is = record {
-  here = Here.one (codes "2") (Some 2) (Here.number (codes "2") 2 (record { some = lit< tt; each = refl; value = refl; safe = lit≤ tt }));
-  npm = Npm.one (codes "2") (Some 2) (Npm.number (codes "2") 2 (record { some = lit< tt; each = refl; value = refl; safe = lit≤ tt }) refl (lit≤ tt));
-  plain = refl;
-}
+two_is = part_is (codes "2") 2 (record { some = lit< tt; each = refl; value = refl; safe = lit≤ tt }) refl (lit≤ tt)
 
 four_is : IsPart (codes "4") 4
-four_is = record {
-  here = Here.one (codes "4") (Some 4) (Here.number (codes "4") 4 (record { some = lit< tt; each = refl; value = refl; safe = lit≤ tt }));
-  npm = Npm.one (codes "4") (Some 4) (Npm.number (codes "4") 4 (record { some = lit< tt; each = refl; value = refl; safe = lit≤ tt }) refl (lit≤ tt));
-  plain = refl;
-}
+four_is = part_is (codes "4") 4 (record { some = lit< tt; each = refl; value = refl; safe = lit≤ tt }) refl (lit≤ tt)
 
 -- from a release to below the least pre-release of another one
 abbrev band : ℕ → ℕ → Span VersionValue

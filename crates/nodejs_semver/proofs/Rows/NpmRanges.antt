@@ -19,11 +19,14 @@ lettered M m p = record (release_value M m p) { pre_release = AlphaNumeric (code
 abbrev printed : List Comparison → List ℕ
 printed cs = join_with_byte 32 (map (λ (c : Comparison). spelling (compared c.sign) ++ c.text) cs)
 
--- without pre-releases included: `1`, `1.2`, `^1`, `^0.2`, `^1.2`, `~1`, `~1.2`, `>=1`, `>1`, `>1.2`, `<1`, `<1.2`, `<=1`, `<=1.2`
-row-partials : map (λ (row : Sign × Partial). printed (table false row.0 row.1 []))
+abbrev partials : Bool → List (List ℕ)
+partials include = map (λ (row : Sign × Partial). printed (table include row.0 row.1 []))
     ((compared equal, major 1) ∷ (compared equal, minor 1 2) ∷ (caret, major 1) ∷ (caret, minor 0 2) ∷ (caret, minor 1 2)
     ∷ (tilde, major 1) ∷ (tilde, minor 1 2) ∷ (compared at_least, major 1) ∷ (compared above, major 1) ∷ (compared above, minor 1 2)
     ∷ (compared below, major 1) ∷ (compared below, minor 1 2) ∷ (compared at_most, major 1) ∷ (compared at_most, minor 1 2) ∷ [])
+
+-- without pre-releases included: `1`, `1.2`, `^1`, `^0.2`, `^1.2`, `~1`, `~1.2`, `>=1`, `>1`, `>1.2`, `<1`, `<1.2`, `<=1`, `<=1.2`
+row-partials : partials false
     ≡ codes ">=1.0.0 <2.0.0-0" ∷ codes ">=1.2.0 <1.3.0-0" ∷ codes ">=1.0.0 <2.0.0-0" ∷ codes ">=0.2.0 <0.3.0-0" ∷ codes ">=1.2.0 <2.0.0-0"
     ∷ codes ">=1.0.0 <2.0.0-0" ∷ codes ">=1.2.0 <1.3.0-0" ∷ codes ">=1.0.0" ∷ codes ">=2.0.0" ∷ codes ">=1.3.0"
     ∷ codes "<1.0.0-0" ∷ codes "<1.2.0-0" ∷ codes "<2.0.0-0" ∷ codes "<1.3.0-0" ∷ []
@@ -31,10 +34,7 @@ unfolding digits
 row-partials = refl
 
 -- the same with them
-row-partials_included : map (λ (row : Sign × Partial). printed (table true row.0 row.1 []))
-    ((compared equal, major 1) ∷ (compared equal, minor 1 2) ∷ (caret, major 1) ∷ (caret, minor 0 2) ∷ (caret, minor 1 2)
-    ∷ (tilde, major 1) ∷ (tilde, minor 1 2) ∷ (compared at_least, major 1) ∷ (compared above, major 1) ∷ (compared above, minor 1 2)
-    ∷ (compared below, major 1) ∷ (compared below, minor 1 2) ∷ (compared at_most, major 1) ∷ (compared at_most, minor 1 2) ∷ [])
+row-partials_included : partials true
     ≡ codes ">=1.0.0-0 <2.0.0-0" ∷ codes ">=1.2.0-0 <1.3.0-0" ∷ codes ">=1.0.0-0 <2.0.0-0" ∷ codes ">=0.2.0-0 <0.3.0-0" ∷ codes ">=1.2.0-0 <2.0.0-0"
     ∷ codes ">=1.0.0 <2.0.0-0" ∷ codes ">=1.2.0 <1.3.0-0" ∷ codes ">=1.0.0-0" ∷ codes ">=2.0.0-0" ∷ codes ">=1.3.0-0"
     ∷ codes "<1.0.0-0" ∷ codes "<1.2.0-0" ∷ codes "<2.0.0-0" ∷ codes "<1.3.0-0" ∷ []

@@ -134,10 +134,6 @@ passed_more include text rest cut h e p = record {
     left None k = tt
     left (Some t) k = omega (arith, bytes-append h.front cut.0, (sizes_of rest cut e).behind t k, h.leaves)
 
-pub passed_room : (include : Bool) (text rest : List ℕ) (cut : List ℕ × Option (List ℕ)) → Passed include text (Some rest)
-    → cut ≡ front_part rest → (length rest ≤ length text) × (length cut.0 ≤ length rest)
-passed_room include text rest cut h e = (omega (arith, h.leaves), (sizes_of rest cut e).front)
-
 passed_wrong : (include : Bool) (text rest : List ℕ) (cut : List ℕ × Option (List ℕ)) (part : List ℕ) (blank at to : ℕ) (flaw : RangeFlaw)
     → Passed include text (Some rest)
     → cut ≡ front_part rest → IsAfterBlank cut.0 0 blank → IsTrim cut.0 part

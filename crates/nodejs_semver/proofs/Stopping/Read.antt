@@ -76,7 +76,13 @@ builds : (limit : ℕ) (t : List ℕ) → (tail_runs (pieces t) ≡ true → run
     × (list_all is_identifier (pieces t) ≡ true → run limit Plus t ≡ Some Build)
 unfolding run next
 builds limit [] = (λ h. refl, λ h. cc h)
-builds limit (c ∷ t) = grind (arith, nat_tests, common_steps, eqb-true, runs-first, runs_tail, builds limit t)
+builds limit (c ∷ t) = elim (cases_Bool (c == 46)) [
+  | inl dot ↦ (λ h. rw (eqb-true c 46 dot) ((builds limit t).1 (rw dot at h)), λ h. cc (rw dot at h))
+  | inr other ↦ (
+    λ h. let r = runs-first c (pieces t) (rw other at h) in rw r.0 ((builds limit t).0 r.1),
+    λ h. let r = runs-first c (pieces t) (runs_tail (onto_first c (pieces t)) (rw other at h)) in rw r.0 ((builds limit t).0 r.1),
+  )
+]
 
 -- a pre-release ends here
 abbrev IsEnd : State → Type 0

@@ -1,14 +1,13 @@
 -- Where a text stops being a version text.
-use Rattle.nodejs_semver.proofs.Common.{IsUtf8, List, MAX_SAFE_INTEGER, None, Option, Some, VersionValue, [], ap, append-nil}
+use Rattle.nodejs_semver.proofs.Common.{IsUtf8, List, MAX_SAFE_INTEGER, None, Some, VersionValue, [], ap, append-nil}
 use Rattle.nodejs_semver.proofs.Common.{append_assoc, arith, common_steps, encode_utf8, encode_utf8_all, encodes-append, false}
 use Rattle.nodejs_semver.proofs.Common.{inl, inr, length, length-append, length-encode, nat_tests, refl, same_Some, subst, sym}
 use Rattle.nodejs_semver.proofs.{Common.{true, ℕ, ◌++◌, ◌+◌, ◌↔◌, ◌∙◌, ◌∷◌, ◌≡◌, ◌≤◌, ◌⊎◌}, NpmCommon.{At, GoesOn, IsFront}}
-use Rattle.nodejs_semver.proofs.NpmCommon.{IsSpelled, IsVersionText, MAX_LENGTH, State, chars, encodes_same, is_whole, len_utf8}
-use Rattle.nodejs_semver.proofs.{NpmCommon.{next, run, wrong_at, wrong_of}, Stopping.Fronts.{front-stops, read-front}}
-use Rattle.nodejs_semver.proofs.Stopping.{Read.spelled-read, Steps.{run-nil, run-step, run-then}, Written.read-spelled}
-use Rattle.nodejs_semver.{proofs.Stopping.Wrongs.{ended-wrong, goes_on, one_wrong, stopped-wrong}, specs.Npm.Flaws.IsFlaw}
-use Rattle.nodejs_semver.specs.{Npm.Flaws.{IsStop, IsWrong}, declared.npm.flaws.Flaw.{Flaw, TheVariants.TooLong}}
-use Rattle.nodejs_semver.specs.declared.npm.flaws.{State.TheVariants.Start, Wrong.Wrong}
+use Rattle.nodejs_semver.proofs.NpmCommon.{IsSpelled, IsVersionText, State, encodes_same, is_whole, len_utf8, next, run}
+use Rattle.nodejs_semver.proofs.{NpmCommon.{wrong_at, wrong_of}, Stopping.{Fronts.{front-stops, read-front}, Read.spelled-read}}
+use Rattle.nodejs_semver.proofs.Stopping.{Steps.{run-nil, run-step, run-then}, Written.read-spelled, Wrongs.ended-wrong}
+use Rattle.nodejs_semver.{proofs.Stopping.Wrongs.{goes_on, one_wrong, stopped-wrong}, specs.Npm.Flaws.{IsFlaw, IsStop, IsWrong}}
+use Rattle.nodejs_semver.specs.declared.npm.flaws.{Flaw.{Flaw, TheVariants.TooLong}, State.TheVariants.Start, Wrong.Wrong}
 use Rattle.std.proofs.lemmas.Str.{cons_from_encodes}
 
 -- ---- where a text stops
@@ -94,11 +93,6 @@ passed_more text at s t rest passed next-rest c n p e size h =
           ∙ (run-step MAX_SAFE_INTEGER s t c [] h ∙ run-nil MAX_SAFE_INTEGER t);
     }
 
-pub passed_room : (text : List ℕ) (at : ℕ) (s : State) (rest passed next-rest : List ℕ) (c n : ℕ) → Passed text at s rest passed
-    → rest ≡ encode_utf8 c ++ next-rest → n ≡ len_utf8 c → at + n ≤ length text
-passed_room text at s rest passed next-rest c n p e size =
-    grind (arith, nat_tests, common_steps, length-encode, length, length-append)
-
 pub passed_stop : (text : List ℕ) (at : ℕ) (s : State) (rest passed next-rest : List ℕ) (c : ℕ) (w : Wrong) → IsUtf8 text
     → Passed text at s rest passed → rest ≡ encode_utf8 c ++ next-rest → next MAX_SAFE_INTEGER s c ≡ None
     → w ≡ wrong_at s (Some c) → IsWrong MAX_SAFE_INTEGER text w at
@@ -122,8 +116,6 @@ passed_end text at s rest passed w p h none is =
 pub passed_whole : (text : List ℕ) (at : ℕ) (s : State) (rest passed : List ℕ) → Passed text at s rest passed
     → length rest ≡ 0 → is_whole s ≡ true → IsSpelled MAX_SAFE_INTEGER text
 passed_whole text at s rest passed p h whole = grind (arith, nat_tests, common_steps, at-end, read-spelled)
-
-pub ruleset stops = (passed_none, passed_more, passed_room, passed_stop, passed_end, passed_whole)
 
 -- ---- a text has one flaw
 
@@ -190,13 +182,3 @@ flaw_none limit text f x = (λ e. cc e, λ h. absurd (no_flaw limit text f h.0 h
 
 pub flaw_only : (limit : ℕ) (text : List ℕ) (f : Flaw) → IsFlaw limit text f → (g : Flaw) → IsFlaw limit text g → Some f ≡ Some g
 flaw_only limit text f x g y = ap (λ (h : Flaw). Some h) (one_flaw limit text f g x y)
-
-pub spelled_none : (limit : ℕ) (text : List ℕ) (found : Option Flaw) → length (chars text) ≤ MAX_LENGTH → IsSpelled limit text
-    → found ≡ None → (found ≡ None) ↔ ((v : VersionValue) × IsVersionText limit text v)
-spelled_none limit text found short h e = grind (arith, nat_tests, common_steps)
-
-pub spelled_only : (limit : ℕ) (text : List ℕ) (found : Option Flaw) → length (chars text) ≤ MAX_LENGTH → IsSpelled limit text
-    → (f : Flaw) → IsFlaw limit text f → found ≡ Some f
-spelled_only limit text found short h f x = grind (arith, nat_tests, common_steps)
-
-pub ruleset flaws = (flaw_none, flaw_only, spelled_none, spelled_only)

@@ -1,11 +1,11 @@
 -- What is wrong where a text stops being a version text.
 use Rattle.nodejs_semver.proofs.Common.{Bool, List, None, Option, Some, [], ap, append_assoc, arith, bind_some, cases_Bool}
-use Rattle.nodejs_semver.proofs.Common.{common_steps, ends, false, inl, inr, is_ascii_digit, is_some, nat_tests, not, not-true}
-use Rattle.nodejs_semver.proofs.Common.{refl, same_Some, suc, sym, true, zero, ℕ, ◌*◌, ◌++◌, ◌+◌, ◌==◌, ◌↔◌, ◌∙◌, ◌∷◌, ◌≡◌, ◌≤◌}
-use Rattle.nodejs_semver.proofs.NpmCommon.{Dash, GoesOn, IsFront, Number, Padded, Plus, State, digit_value, is_whole, next, run}
-use Rattle.nodejs_semver.proofs.{NpmCommon.{wrong_at, wrong_of}, Stopping.{Fronts.{front-stops, read-front}, Read.Whole}}
-use Rattle.nodejs_semver.proofs.Stopping.{Read.spelled-read, Steps.{run-nil, run-step, run-then}}
-use Rattle.nodejs_semver.specs.declared.npm.flaws.State.TheVariants.{Start}
+use Rattle.nodejs_semver.proofs.Common.{common_steps, ends, false, if◌then◌else◌, inl, inr, is_ascii_digit, is_some, nat_tests}
+use Rattle.nodejs_semver.proofs.Common.{not, not-true, refl, same_Some, suc, sym, true, zero, ℕ, ◌*◌, ◌++◌, ◌+◌, ◌==◌, ◌↔◌, ◌∙◌}
+use Rattle.nodejs_semver.proofs.{Common.{◌∷◌, ◌≡◌, ◌≤◌}, NpmCommon.{Dash, GoesOn, IsFront, Number, Padded, Plus, State}}
+use Rattle.nodejs_semver.proofs.{NpmCommon.{digit_value, is_whole, next, run, wrong_at, wrong_of}, Stopping.Fronts.front-stops}
+use Rattle.nodejs_semver.proofs.Stopping.{Fronts.read-front, Read.{Whole, spelled-read}, Steps.{run-nil, run-step, run-then}}
+use Rattle.nodejs_semver.specs.declared.npm.flaws.State.TheVariants.{Build, End, PreRelease, Start, Zero}
 
 -- ---- the character that was read last
 
@@ -16,11 +16,27 @@ last Plus digit = not digit
 last Padded digit = digit
 last s digit = true
 
+-- behind an identifier of the pre-release, and of the build metadata
+behind-last : (i w : Bool) (t : State) (c : ℕ)
+    → (if i then Some PreRelease else if c == 46 then Some Dash else if c == 43 then Some Plus else if w then Some End else None) ≡ Some t
+    → last t (is_ascii_digit c) ≡ true
+behind-last i w t c h = grind (arith, nat_tests)
+
+build-last : (i w : Bool) (t : State) (c : ℕ)
+    → (if i then Some Build else if c == 46 then Some Plus else if w then Some End else None) ≡ Some t → last t (is_ascii_digit c) ≡ true
+build-last i w t c h = grind (arith, nat_tests)
+
 last-read : (limit : ℕ) (s t : State) (c : ℕ) → next limit s c ≡ Some t → last t (is_ascii_digit c) ≡ true
 unfolding next
 last-read limit (Number zero n) t c h = grind (arith, nat_tests)
 last-read limit (Number (suc k) n) t c h = grind (arith, nat_tests)
-last-read limit s t c h = grind (arith, nat_tests)
+last-read limit Zero t c h = elim (cases_Bool (is_ascii_digit c)) [
+  | inl digit ↦ rw (← same_Some _ _ (rw digit at h)) digit
+  | inr other ↦ behind-last _ _ t c (rw other at h)
+]
+last-read limit PreRelease t c h = behind-last _ _ t c h
+last-read limit Build t c h = build-last _ _ t c h
+last-read limit s t c h = grind arith
 
 run-last : (limit : ℕ) (s t : State) (c : ℕ) (cs : List ℕ) → run limit s (c ∷ cs) ≡ Some t
     → last t (ends is_ascii_digit (c ∷ cs)) ≡ true

@@ -30,6 +30,10 @@ pub record IsLongestAt (text : List ℕ) (at len : ℕ) : Type 0 where
   pub here : 0 < len → IsTupleIn text (take at text) (take len (drop at text)) (drop (at + len) text)
   pub longest : (x y z : List ℕ) → IsTupleIn text x y z → length x ≡ at → length y ≤ len
 
+-- no tuple stands in the text
+pub record HasNoTuple (text : List ℕ) : Type 0 where
+  pub none : (x y z : List ℕ) → IsTupleIn text x y z → ⊥
+
 -- of the tuples that begin before a place none ends later than this one, and none that ends there is longer
 pub record IsLastBefore (text : List ℕ) (place start end : ℕ) : Type 0 where
   pub before : start ≤ place

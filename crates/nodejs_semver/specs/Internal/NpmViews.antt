@@ -1,12 +1,13 @@
 -- For proofs and private contracts. What the readers of node-semver's range texts give, without places in memory.
-use Rattle.std.specs.Prelude.{ℕ, List, Option, Some, None}
+use Rattle.std.specs.Prelude.{ℕ, Bool, List, Option, Some, None}
 use Rattle.std.specs.Borrow.{Bor}
 use Rattle.nodejs_semver.specs.Internal.Fronts.{Front}
 use Rattle.nodejs_semver.specs.Internal.NpmParts.{npm_partial_view, npm_sign_view}
 use Rattle.nodejs_semver.specs.Internal.NpmWords as Spec
 use Rattle.nodejs_semver.specs.Internal.NpmWords.{any, great, number}
+use Rattle.nodejs_semver.specs.Npm.RangeText.{is_free_lower, is_free_upper}
 use Rattle.nodejs_semver.specs.Npm.Table as Table
-use Rattle.nodejs_semver.specs.declared.npm.hyphens.End.{End}
+use Rattle.nodejs_semver.specs.declared.npm.hyphens.{End.{End}, Side.{Side, TheVariants.{Lower, Upper}}}
 use Rattle.nodejs_semver.specs.declared.npm.partial.Partial.{Partial}
 use Rattle.nodejs_semver.specs.declared.npm.partial.Sign.{Sign}
 use Rattle.nodejs_semver.specs.declared.npm.places.Place.{Place}
@@ -54,3 +55,8 @@ end_some_view (Some e) = Some (end_view e)
 abbrev pub hyphen_view : Option (End × End) → Option (Spec.Ended × Spec.Ended)
 hyphen_view None = None
 hyphen_view (Some e) = Some (end_view e.0, end_view e.1)
+
+-- whether any marks may stand before this end of a hyphen range
+abbrev pub is_free_end : Side → Table.Partial → Bool
+is_free_end Lower = is_free_lower
+is_free_end (Upper include) = is_free_upper include

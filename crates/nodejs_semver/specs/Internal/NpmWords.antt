@@ -294,14 +294,12 @@ limited_hyphen limit (Some e) = if is_small limit e.0.0 && is_small limit e.1.0 
 
 -- the same, end by end
 abbrev pub last_limited : Bool → ℕ → Bool → List ℕ → Option Ended
-last_limited loose limit include text =
-    limited_end limit (end_front loose (is_free_upper include) text) >>? λ b.
-    if is_empty b.1 then Some b.0 else None
+last_limited loose limit include text = after_dash text >>? λ second.
+    limited_end limit (end_front loose (is_free_upper include) second) >>? λ b. if is_empty b.1 then Some b.0 else None
 
 abbrev pub hyphen_of : Bool → ℕ → Bool → List ℕ → Option (Ended × Ended)
 hyphen_of loose limit include text =
-    limited_end limit (end_front loose is_free_lower text) >>? λ a. after_dash a.1 >>? λ second.
-    last_limited loose limit include second >>? λ b. Some (a.0, b)
+    limited_end limit (end_front loose is_free_lower text) >>? λ a. last_limited loose limit include a.1 >>? λ b. Some (a.0, b)
 
 -- the comparators of an alternative
 unfoldable pub alternative_of : Bool → Bool → List ℕ → Option (List Comparison)

@@ -1,17 +1,18 @@
 // What an alternative of a range text accepts: the interval that its comparators have in common.
 
 ghost use Rattle.std.specs.Prelude.{◌&&◌, ◌+◌, ◌∷◌, ◌≡◌};
-ghost use Rattle.nodejs_semver.specs.Words.{Bool, IfSome, MAX_SAFE_INTEGER, [], bounds_view};
+ghost use Rattle.nodejs_semver.specs.Words.{Bool, Comparison, IfSome, List, MAX_SAFE_INTEGER, []};
 ghost use Rattle.nodejs_semver.specs.Words.{interval, is_empty, is_range_span, list_all, list_any};
-ghost use Rattle.nodejs_semver.specs.Words.{precedence, true};
+ghost use Rattle.nodejs_semver.specs.Words.{bounds_view, precedence, true};
 ghost use Rattle.nodejs_semver.specs.Internal.NpmAlternatives.{AcceptAsRanged, NarrowedBy, met};
-ghost use Rattle.nodejs_semver.specs.Internal.{NpmAlternatives.ranged, NpmMeaning.IsNarrowed};
+ghost use Rattle.nodejs_semver.specs.Internal.{NpmAlternatives.ranged, NpmMeaning.AreRead};
+ghost use Rattle.nodejs_semver.specs.Internal.NpmMeaning.{IsNarrowed};
 ghost use Rattle.nodejs_semver.specs.Internal.{NpmMeaning.is_unbounded, NpmParts.are_normal};
 ghost use Rattle.nodejs_semver.specs.Internal.NpmParts.{has_no_comparators, is_wildcard};
 ghost use Rattle.nodejs_semver.specs.Internal.NpmParts.{npm_partial_view, npm_sign_view};
-ghost use Rattle.nodejs_semver.specs.Npm.Table.{hyphen_lower, hyphen_upper, table};
+ghost use Rattle.nodejs_semver.specs.Npm.Table.{table};
 
-use crate::npm::comparators::{lower_end, row, upper_end};
+use crate::npm::comparators::row;
 use crate::npm::partial::{Partial, Sign};
 use crate::range::{Intervals, RangeRef};
 use crate::readers::{Bounds, Comparator, lowest};
@@ -39,9 +40,9 @@ fn common<'a>(
     first?.into_intersection(second?).ok()
 }
 
-// Whether a partial is a wildcard.
+/// Whether a partial is a wildcard.
 #[inline(always)]
-fn is_wildcard(partial: &Partial<'_>) -> bool
+pub(crate) fn is_wildcard(partial: &Partial<'_>) -> bool
     ensures { result ≡ is_wildcard (npm_partial_view partial.now) }
 {
     matches!(partial, Partial::Wildcard)
@@ -72,7 +73,6 @@ impl<'a> Alternative<'a> {
 
     /// The same with the comparators of one more word, whose partial has this text with its marks;
     /// none where one of the comparators is not valid.
-    #[tactic(auto, using(crate::proofs::Strict::Narrowing::narrowed_read))]
     pub(crate) fn meet(
         self,
         include: bool,
@@ -86,44 +86,22 @@ impl<'a> Alternative<'a> {
         ensures bare { IfSome result (λ a. a.is_bare ≡ (self.entry.is_bare && is_empty
             (table include (npm_sign_view sign) (npm_partial_view partial.now) text.now))) }
     {
-        let is_bare = has_no_comparators(sign, partial);
-        Some(self.narrow(row(include, sign, partial, text)?, is_bare))
+        let read = row(include, sign, partial, text);
+        self.meet_read(read, has_no_comparators(sign, partial))
     }
 
-    /// The same with the lower end of a hyphen range.
-    #[tactic(auto, using(crate::proofs::Strict::Narrowing::narrowed_read))]
-    pub(crate) fn meet_lower(
+    /// The same with the bounds that were read of more comparators, or of none; none where one of
+    /// the comparators is not valid.
+    pub(crate) fn meet_read(
         self,
-        include: bool,
-        partial: &Partial<'a>,
-        text: &[u8],
+        read: Option<Bounds<'a>>,
+        is_bare: bool,
     ) -> Option<Alternative<'a>>
-        requires { are_normal (npm_partial_view partial.now) ≡ true }
-        ensures narrowed { let p = npm_partial_view partial.now in
-            NarrowedBy include self.entry.interval (hyphen_lower include p text.now) result }
-        ensures bare { let p = npm_partial_view partial.now in IfSome result (λ a.
-            a.is_bare ≡ (self.entry.is_bare && is_empty (hyphen_lower include p text.now))) }
+        ensures narrowed { (include : Bool) → (cs : List Comparison) →
+            AreRead include cs read.entry → NarrowedBy include self.entry.interval cs result }
+        ensures bare { IfSome result (λ a. a.is_bare ≡ (self.entry.is_bare && is_bare)) }
     {
-        let is_bare = is_wildcard(partial);
-        Some(self.narrow(lower_end(include, partial, text)?, is_bare))
-    }
-
-    /// The same with the upper end of a hyphen range.
-    #[tactic(auto, using(crate::proofs::Strict::Narrowing::narrowed_read))]
-    pub(crate) fn meet_upper(
-        self,
-        include: bool,
-        partial: &Partial<'a>,
-        text: &[u8],
-    ) -> Option<Alternative<'a>>
-        requires { are_normal (npm_partial_view partial.now) ≡ true }
-        ensures narrowed { let p = npm_partial_view partial.now in
-            NarrowedBy include self.entry.interval (hyphen_upper include p text.now) result }
-        ensures bare { let p = npm_partial_view partial.now in IfSome result (λ a.
-            a.is_bare ≡ (self.entry.is_bare && is_empty (hyphen_upper include p text.now))) }
-    {
-        let is_bare = is_wildcard(partial);
-        Some(self.narrow(upper_end(include, partial, text)?, is_bare))
+        Some(self.narrow(read?, is_bare))
     }
 
     // The same with bounds that more comparators have in common, or that none has.

@@ -3,8 +3,8 @@
 ghost use Rattle.std.specs.Prelude.{◌≡◌, ◌≤◌, take};
 ghost use Rattle.nodejs_semver.specs.Words.{IfNone, IfSome, IsNumber, List, MAX_SAFE_INTEGER};
 ghost use Rattle.nodejs_semver.specs.Words.{NoValue, front_view, is_ascii_digit, length, ℕ};
-ghost use Rattle.nodejs_semver.specs.{Internal.NpmTuples.IsLongestAt, Npm.Coerced.IsCoerced};
-ghost use Rattle.nodejs_semver.specs.Npm.Coerced.{IsLeftmost, IsRightmost, IsTupleIn};
+ghost use Rattle.nodejs_semver.specs.Internal.NpmTuples.{HasNoTuple, IsLongestAt};
+ghost use Rattle.nodejs_semver.specs.Npm.Coerced.{IsCoerced, IsLeftmost, IsRightmost, IsTupleIn};
 ghost use Rattle.nodejs_semver.specs.Npm.Grammar.{IsStrictNumber};
 ghost use Rattle.semver_core.specs.Text.Characters.{ends};
 ghost use Rattle.nodejs_semver.specs.Internal.NpmTuples as Spec;
@@ -82,7 +82,7 @@ fn tuple_len_at(text: &[u8], at: usize) -> usize
 fn first_tuple(text: &[u8]) -> Option<&[u8]>
     ensures some { IfSome result (λ tuple. (front back : List ℕ)
         × IsTupleIn text.now front tuple.now back × IsLeftmost text.now front tuple.now back) }
-    ensures none { IfNone result ((x y z : List ℕ) → IsTupleIn text.now x y z → ⊥) }
+    ensures none { IfNone result (HasNoTuple text.now) }
 {
     'places: for at in 0..text.len() {
         let len = tuple_len_at(text, at);
@@ -98,7 +98,7 @@ fn first_tuple(text: &[u8]) -> Option<&[u8]>
 fn last_tuple(text: &[u8]) -> Option<&[u8]>
     ensures some { IfSome result (λ tuple. (front back : List ℕ)
         × IsTupleIn text.now front tuple.now back × IsRightmost text.now front tuple.now back) }
-    ensures none { IfNone result ((x y z : List ℕ) → IsTupleIn text.now x y z → ⊥) }
+    ensures none { IfNone result (HasNoTuple text.now) }
 {
     let mut start = 0;
     let mut end = 0;

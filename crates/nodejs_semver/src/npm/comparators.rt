@@ -321,25 +321,18 @@ fn whole<'a>(
     }
 }
 
-// `<0.0.0-0`
-#[inline(always)]
-fn nothing<'a>() -> Bounds<'a>
-    ensures { (include : Bool) → AreRead include (Spec.under (0, 0, 0) ∷ []) (Some result) }
-{
-    Bounds::below(lowest(0, 0, 0))
-}
-
 // A comparator, or none, before a wildcard.
 #[inline(always)]
-fn wildcard<'a>(comparator: Comparator) -> Bounds<'a>
+fn wildcard<'a>(comparator: Comparator) -> Option<Bounds<'a>>
     ensures { (include : Bool) → (text : List ℕ) →
         let s = Spec.compared (comparator_view comparator) in
-        AreRead include (table include s Spec.wildcard text) (Some result) }
+        AreRead include (table include s Spec.wildcard text) result }
 {
     match comparator {
-        Comparator::Above => nothing(),
-        Comparator::Below => nothing(),
-        Comparator::AtLeast | Comparator::Equal | Comparator::AtMost => open(),
+        // `<0.0.0-0`
+        Comparator::Above => under((0, 0, 0)),
+        Comparator::Below => under((0, 0, 0)),
+        Comparator::AtLeast | Comparator::Equal | Comparator::AtMost => Some(open()),
     }
 }
 
@@ -357,7 +350,7 @@ fn compared<'a>(
         AreRead include (table include s (npm_partial_view partial.now) text.now) result }
 {
     match partial {
-        Partial::Wildcard => Some(wildcard(comparator)),
+        Partial::Wildcard => wildcard(comparator),
         Partial::Major(_) | Partial::Minor(..) => part(include, comparator, partial),
         Partial::Whole(version) => whole(include, comparator, version, text),
     }

@@ -244,7 +244,6 @@ fn wrong_at(state: State, next: Option<char>) -> Wrong
 }
 
 // What is wrong where a text stops being a version text, and that place.
-#[tactic(auto, using(crate::proofs::Stopping::Stops::stops))]
 fn stop(text: &str) -> Option<(Wrong, usize)>
     ensures { MatchOption result (IsSpelled MAX_SAFE_INTEGER text.now)
         (λ stop. IsWrong MAX_SAFE_INTEGER text.now stop.0 stop.1) }
@@ -279,7 +278,6 @@ fn stop(text: &str) -> Option<(Wrong, usize)>
 /// let (wrong, at) = (Wrong::MissingHyphen, 5);
 /// assert!(rt; npm::version_flaw("1.2.3beta") == Some(Flaw::At { wrong, at }));
 /// ```
-#[tactic(auto, using(crate::proofs::Stopping::Stops::flaws))]
 pub fn version_flaw(text: &str) -> Option<Flaw>
     // None exactly if the text is a version.
     ensures none { (result ≡ None)

@@ -3,7 +3,7 @@
 ghost use Rattle.std.specs.Prelude.{◌≡◌, ◌≤◌};
 ghost use Rattle.nodejs_semver.specs.Words.{MAX_SAFE_INTEGER, length, list_all, rest_view};
 ghost use Rattle.nodejs_semver.specs.Internal.{NpmParts.npm_partial_view, NpmViews.end_front_view};
-ghost use Rattle.nodejs_semver.specs.Internal.NpmViews.{end_some_view, hyphen_view};
+ghost use Rattle.nodejs_semver.specs.Internal.NpmViews.{end_some_view, hyphen_view, is_free_end};
 ghost use Rattle.nodejs_semver.specs.Internal.NpmWords as Spec;
 ghost use Rattle.nodejs_semver.specs.Npm.RangeText as Text;
 
@@ -19,6 +19,13 @@ pub(crate) struct End<'a> {
     pub(crate) text: &'a [u8],
 }
 
+// Which end it is, and of the upper one whether pre-releases are included.
+#[derive(Clone, Copy)]
+enum Side {
+    Lower,
+    Upper { include: bool },
+}
+
 // How many bytes the mark or the whitespace character at the front takes.
 fn mark_len(text: &[u8]) -> usize
     ensures value { result ≡ Spec.end_len text.now }
@@ -31,7 +38,6 @@ fn mark_len(text: &[u8]) -> usize
 }
 
 // What follows the marks and the whitespace at the front.
-#[tactic(auto, using(crate::proofs::Strict::HyphenReads::ends_passed))]
 pub(crate) fn skip_marks(text: &[u8]) -> &[u8]
     ensures { result.now ≡ Spec.drop_ends text.now }
 {
@@ -71,19 +77,13 @@ fn are_whole_marks(loose: bool, text: &[u8]) -> bool
     }
 }
 
-// Whether any marks may stand before the lower end of a hyphen range.
-fn is_free_lower(partial: &Partial<'_>) -> bool
-    ensures { result ≡ Text.is_free_lower (npm_partial_view partial.now) }
+// Whether any marks may stand before this end of a hyphen range.
+fn is_free(side: Side, partial: &Partial<'_>) -> bool
+    ensures { result ≡ is_free_end side (npm_partial_view partial.now) }
 {
-    !matches!(partial, Partial::Whole(_))
-}
-
-// The same of the upper end.
-fn is_free_upper(include: bool, partial: &Partial<'_>) -> bool
-    ensures { result ≡ Text.is_free_upper include (npm_partial_view partial.now) }
-{
-    match partial {
-        Partial::Whole(version) => include || !version.is_release(),
+    match (side, partial) {
+        (Side::Lower, Partial::Whole(_)) => false,
+        (Side::Upper { include }, Partial::Whole(version)) => include || !version.is_release(),
         _ => true,
     }
 }
@@ -109,30 +109,15 @@ fn ended_end<'a>(
     Some((End { partial, text }, rest))
 }
 
-// The lower end of a hyphen range at the front, and the text behind it.
-fn lower_end(loose: bool, text: &[u8]) -> Option<(End<'_>, &[u8])>
+// An end of a hyphen range at the front, and the text behind it.
+fn end_front(loose: bool, side: Side, text: &[u8]) -> Option<(End<'_>, &[u8])>
     ensures { end_front_view result
-        ≡ Spec.limited_end MAX_SAFE_INTEGER (Spec.end_front loose Text.is_free_lower text.now) }
+        ≡ Spec.limited_end MAX_SAFE_INTEGER (Spec.end_front loose (is_free_end side) text.now) }
 {
     let behind = skip_marks(text);
     match partial_front(loose, behind) {
         Some(read) => {
-            let free = is_free_lower(&read.0);
-            ended_end(loose, free, text, behind, read.0, read.1)
-        }
-        None => None,
-    }
-}
-
-// The upper end of a hyphen range at the front, and the text behind it.
-fn upper_end(loose: bool, include: bool, text: &[u8]) -> Option<(End<'_>, &[u8])>
-    ensures { end_front_view result ≡ Spec.limited_end MAX_SAFE_INTEGER
-        (Spec.end_front loose (Text.is_free_upper include) text.now) }
-{
-    let behind = skip_marks(text);
-    match partial_front(loose, behind) {
-        Some(read) => {
-            let free = is_free_upper(include, &read.0);
+            let free = is_free(side, &read.0);
             ended_end(loose, free, text, behind, read.0, read.1)
         }
         None => None,
@@ -149,11 +134,11 @@ fn after_dash(text: &[u8]) -> Option<&[u8]>
     }
 }
 
-// The upper end, where it ends the text.
+// The upper end behind whitespace, `-` and whitespace, where it ends the text.
 fn last_end(loose: bool, include: bool, text: &[u8]) -> Option<End<'_>>
     ensures { end_some_view result ≡ Spec.last_limited loose MAX_SAFE_INTEGER include text.now }
 {
-    let (upper, rest) = upper_end(loose, include, text)?;
+    let (upper, rest) = end_front(loose, Side::Upper { include }, after_dash(text)?)?;
     if rest.is_empty() { Some(upper) } else { None }
 }
 
@@ -161,7 +146,7 @@ fn last_end(loose: bool, include: bool, text: &[u8]) -> Option<End<'_>>
 pub(crate) fn hyphen_ends(loose: bool, include: bool, text: &[u8]) -> Option<(End<'_>, End<'_>)>
     ensures { hyphen_view result ≡ Spec.hyphen_of loose MAX_SAFE_INTEGER include text.now }
 {
-    let (lower, rest) = lower_end(loose, text)?;
-    let upper = last_end(loose, include, after_dash(rest)?)?;
+    let (lower, rest) = end_front(loose, Side::Lower, text)?;
+    let upper = last_end(loose, include, rest)?;
     Some((lower, upper))
 }

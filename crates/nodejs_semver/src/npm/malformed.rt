@@ -223,7 +223,6 @@ fn is_malformed(is_last: bool, word: &[u8]) -> bool
 }
 
 // The visible characters at the end.
-#[tactic(auto, using(crate::proofs::Strict::Malformed::last_runs))]
 fn last_visible(text: &[u8]) -> &[u8]
     ensures { result.now ≡ Text.last_visible text.now }
 {

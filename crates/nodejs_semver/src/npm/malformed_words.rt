@@ -4,7 +4,7 @@ ghost use Rattle.std.specs.{Prelude.◌≤◌, Str.IsUtf8};
 ghost use Rattle.nodejs_semver.specs.Words.{IfNone, IfSome, MAX_SAFE_INTEGER, NoValue, length};
 ghost use Rattle.nodejs_semver.specs.Npm.MalformedWords.{IsLeft, IsMalformedWord, IsRightWord};
 
-use crate::npm::alternatives::Alternative;
+use crate::npm::comparators::row;
 use crate::npm::words::word_front;
 use crate::readers::{skip_spaces, skip_to_boundary};
 
@@ -16,7 +16,7 @@ fn right_word(include: bool, text: &[u8]) -> Option<&[u8]>
     ensures none { IfNone result (NoValue (IsRightWord MAX_SAFE_INTEGER include text.now)) }
 {
     let (word, behind) = word_front(false, text)?;
-    Alternative::all().meet(include, word.sign, &word.partial, word.text)?;
+    row(include, word.sign, &word.partial, word.text)?;
     Some(behind)
 }
 

@@ -329,7 +329,6 @@ fn qualified_partial(
 }
 
 // The partial of two places, and of what stands behind them.
-#[tactic(auto, using(crate::proofs::Reading::IdentifierLists::short_lists))]
 fn third_front(loose: bool, major: Place, minor: Place, text: &[u8]) -> Option<(Partial<'_>, &[u8])>
     ensures { npm_partial_front_view result ≡ Spec.third_counted loose (place_view major)
         (place_view minor) text.now
@@ -344,7 +343,6 @@ fn third_front(loose: bool, major: Place, minor: Place, text: &[u8]) -> Option<(
 
 /// The partial version at the front whose numbers that count are up to the limit, and the text
 /// behind it.
-#[tactic(auto, using(crate::proofs::Reading::IdentifierLists::short_lists))]
 pub(crate) fn partial_front(loose: bool, text: &[u8]) -> Option<(Partial<'_>, &[u8])>
     ensures { npm_partial_front_view result ≡ Spec.counted_front loose MAX_SAFE_INTEGER text.now }
 {

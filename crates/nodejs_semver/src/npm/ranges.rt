@@ -14,7 +14,8 @@ ghost use Rattle.nodejs_semver.specs.Npm.Malformed.{begins_malformed, ends_malfo
 ghost use Rattle.nodejs_semver.specs.Npm.Ranges.{HasAlternatives, IsRangeIn, IsRangeOf};
 
 use crate::RangeRef;
-use crate::npm::alternatives::{Alternative, range_of};
+use crate::npm::alternatives::{Alternative, is_wildcard, range_of};
+use crate::npm::comparators::{lower_end, upper_end};
 use crate::npm::hyphens::{End, hyphen_ends};
 use crate::npm::malformed::{begins_malformed, ends_malformed};
 use crate::npm::words::word_front;
@@ -48,8 +49,10 @@ fn between<'a>(include: bool, lower: &End<'a>, upper: &End<'a>) -> Option<Altern
     ensures { IsFound include (valid_only MAX_SAFE_INTEGER (hyphen_comparisons include
         (end_view lower.now, end_view upper.now))) result }
 {
-    let from = Alternative::all().meet_lower(include, &lower.partial, lower.text)?;
-    from.meet_upper(include, &upper.partial, upper.text)
+    let first = lower_end(include, &lower.partial, lower.text);
+    let from = Alternative::all().meet_read(first, is_wildcard(&lower.partial))?;
+    let second = upper_end(include, &upper.partial, upper.text);
+    from.meet_read(second, is_wildcard(&upper.partial))
 }
 
 // The alternative of a hyphen range.

@@ -2,3 +2,6 @@ use Rattle.nodejs_semver.proofs.npm.comparators.compared.Goals as goal
 
 pub returns-in-Major : goal.returns-in-Major
 returns-in-Major c = c.part.ensures c.args.text.now
+
+pub returns-in-Wildcard : goal.returns-in-Wildcard
+returns-in-Wildcard c = rw c.in-Wildcard.is (c.wildcard.ensures c.args.include c.args.text.now)
