@@ -58,11 +58,8 @@ loose-more (b ∷ u) v h = or_right (not (is_visible b) && lone (u ++ v)) (apart
 
 -- ---- bytes of whitespace
 
-signal-other : (b : ℕ) → is_signal b ≡ true → is_other b ≡ true
-signal-other b h = grind (arith, nat_tests)
-
 blank-other : (x : List ℕ) → IsBlank x → list_all is_other x ≡ true
-blank-other x h = all_weaker is_signal is_other signal-other x (blank-signal x h)
+blank-other x h = all_weaker is_signal is_other (λ b k. grind (arith, nat_tests)) x (blank-signal x h)
 
 loose-blank : (x z : List ℕ) → list_all is_dark x ≡ true → 0 < length x → is_empty z ≡ false → begins is_visible z ≡ false
     → apart (x ++ (45 ∷ z)) ≡ true
@@ -78,10 +75,7 @@ partial-tight : (loose : Bool) (x : List ℕ) (p : Partial) → IsPartial loose 
 partial-tight loose x p h = all_weaker is_part is_visible part-visible x (partial-part loose x p h)
 
 sign-other : (signs : List ℕ) (s : Sign) → IsSignText signs s → list_all is_other signs ≡ true
-sign-other signs s h = all_weaker is_signal is_other signal-other signs (sign-signal signs s h)
-
-mark-other : (b : ℕ) → is_mark b ≡ true → is_other b ≡ true
-mark-other b h = grind (arith, nat_tests)
+sign-other signs s h = all_weaker is_signal is_other (λ b k. grind (arith, nat_tests)) signs (sign-signal signs s h)
 
 component-first : (u : List ℕ) → begins_component u ≡ true → lone u ≡ false
 component-first [] h = refl
@@ -107,7 +101,7 @@ word-first loose include w v cs (ignored x l h) = (
         rw tight (and-none (b == 45) false refl)
 word-first loose include w v cs (word signs marks x s p h m e k) =
     let text_is : (signs ++ (marks ++ x)) ++ v ≡ (signs ++ marks) ++ (x ++ v) = simp append_assoc refl in
-    let front = all-join is_other signs marks (sign-other signs s h) (all_weaker is_mark is_other mark-other marks (marks-all loose s p marks m)) in
+    let front = all-join is_other signs marks (sign-other signs s h) (all_weaker is_mark is_other (λ b k. grind (arith, nat_tests)) marks (marks-all loose s p marks m)) in
     let first = component-first (x ++ v) (partial-begins loose x v p k) in (
       rw text_is (other-passed (signs ++ marks) (x ++ v) front first ∙ tight-passed x v (partial-tight loose x p k)),
       rw text_is (other-first (signs ++ marks) (x ++ v) front first),

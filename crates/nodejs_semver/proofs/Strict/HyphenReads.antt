@@ -61,9 +61,6 @@ end_some loose free any_marks text behind p rest e read same = rw same (end_here
 
 -- ---- a hyphen range
 
-abbrev pair : Ended → Ended → Option (Ended × Ended)
-pair a b = Some (a, b)
-
 pub hyphen_limited : (loose : Bool) (limit : ℕ) (include : Bool) (text : List ℕ) → hyphen_of loose limit include text ≡ limited_hyphen limit (hyphen_ends loose include text)
 unfolding hyphen_ends
 hyphen_limited loose limit include text = grind (arith, nat_tests, common_steps)

@@ -29,20 +29,14 @@ is_part b = is_identifier_char b || (b == 46 || (b == 43 || b == 42))
 abbrev is_place_byte : ℕ → Bool
 is_place_byte b = is_wildcard b || is_ascii_digit b
 
-digit-byte : (b : ℕ) → is_ascii_digit b ≡ true → is_place_byte b ≡ true
-digit-byte b h = grind (arith, nat_tests)
-
 place-bytes : (loose zeros : Bool) (x : List ℕ) (a : Option ℕ) → IsPlace loose zeros x a
     → (list_all is_place_byte x ≡ true) × (0 < length x)
 place-bytes loose zeros x a (Text.any b h) = (rw h refl, omega arith)
 place-bytes loose zeros x a (Text.number digits n k spelled short) =
-    (all_weaker is_ascii_digit is_place_byte digit-byte digits k.each, k.some)
-
-byte-part : (b : ℕ) → is_place_byte b ≡ true → is_part b ≡ true
-byte-part b h = grind (arith, nat_tests)
+    (all_weaker is_ascii_digit is_place_byte (λ b k. grind (arith, nat_tests)) digits k.each, k.some)
 
 place-part : (loose zeros : Bool) (x : List ℕ) (a : Option ℕ) → IsPlace loose zeros x a → list_all is_part x ≡ true
-place-part loose zeros x a h = all_weaker is_place_byte is_part byte-part x (place-bytes loose zeros x a h).0
+place-part loose zeros x a h = all_weaker is_place_byte is_part (λ b k. grind (arith, nat_tests)) x (place-bytes loose zeros x a h).0
 
 pieces-part : (t : List ℕ) → tail_runs (pieces t) ≡ true → list_all is_part t ≡ true
 pieces-part [] h = refl
@@ -95,10 +89,7 @@ abbrev pub is_signal : ℕ → Bool
 is_signal b = is_sign b || not (is_visible b)
 
 pub blank-signal : (x : List ℕ) → IsBlank x → list_all is_signal x ≡ true
-blank-signal x h = all_weaker is_dark is_signal dark-signal x (blank-dark x h)
-  where
-    dark-signal : (b : ℕ) → is_dark b ≡ true → is_signal b ≡ true
-    dark-signal b h = grind arith
+blank-signal x h = all_weaker is_dark is_signal (λ b k. grind arith) x (blank-dark x h)
 
 spelling-signal : (s : Sign) (y : List ℕ) → list_all is_signal y ≡ true → list_all is_signal (spelling s ++ y) ≡ true
 spelling-signal s y h = grind (arith, nat_tests, common_steps)
@@ -145,24 +136,6 @@ sign-front (b ∷ signs) h =
     or-left : (a p : Bool) → (a || not p) ≡ true → p ≡ true → a ≡ true
     or-left a p h k = grind arith
 
-sign-visibly : (b : ℕ) → is_sign b ≡ true → is_visible b ≡ true
-sign-visibly b h = grind (arith, nat_tests)
-
-sign-first : (b : ℕ) → is_sign b ≡ true → is_first b ≡ true
-sign-first b h = rw h refl
-
-mark-first : (b : ℕ) → is_mark b ≡ true → is_first b ≡ true
-mark-first b h = grind (arith, nat_tests)
-
-first-visible : (b : ℕ) → is_first b ≡ true → is_visible b ≡ true
-first-visible b h = grind (arith, nat_tests)
-
-first-inner : (b : ℕ) → is_first b ≡ true → is_inner b ≡ true
-first-inner b h = grind (arith, nat_tests)
-
-part-inner : (b : ℕ) → is_part b ≡ true → is_inner b ≡ true
-part-inner b h = grind (arith, nat_tests)
-
 pub part-visible : (b : ℕ) → is_part b ≡ true → is_visible b ≡ true
 part-visible b h = grind (arith, nat_tests)
 
@@ -177,17 +150,11 @@ dotless-passed (b ∷ u) v h =
     let each = and_parts (is_dotless b) (list_all is_dotless u) h in
     rw (not-true (b == 46) each.0) (dotless-passed u v each.1)
 
-first-dotless : (b : ℕ) → is_first b ≡ true → is_dotless b ≡ true
-first-dotless b h = grind (arith, nat_tests)
-
 place-first : (loose zeros : Bool) (x : List ℕ) (a : Option ℕ) → IsPlace loose zeros x a → list_all is_first x ≡ true
-place-first loose zeros x a h = all_weaker is_place_byte is_first byte-first x (place-bytes loose zeros x a h).0
-  where
-    byte-first : (b : ℕ) → is_place_byte b ≡ true → is_first b ≡ true
-    byte-first b h = grind (arith, nat_tests)
+place-first loose zeros x a h = all_weaker is_place_byte is_first (λ b k. grind (arith, nat_tests)) x (place-bytes loose zeros x a h).0
 
 place-dotless : (loose zeros : Bool) (x : List ℕ) (a : Option ℕ) → IsPlace loose zeros x a → list_all is_dotless x ≡ true
-place-dotless loose zeros x a h = all_weaker is_first is_dotless first-dotless x (place-first loose zeros x a h)
+place-dotless loose zeros x a h = all_weaker is_first is_dotless (λ b k. grind (arith, nat_tests)) x (place-first loose zeros x a h)
 
 abbrev is_dot : ℕ → Bool
 is_dot b = b == 46
@@ -254,12 +221,6 @@ partial-places loose x p (three x1 y z pre build a b c ids builds h k l m s n t)
 abbrev is_unsigned : ℕ → Bool
 is_unsigned b = not (is_sign b) || b == 61
 
-part-unsigned : (b : ℕ) → is_part b ≡ true → is_unsigned b ≡ true
-part-unsigned b h = grind (arith, nat_tests)
-
-mark-unsigned : (b : ℕ) → is_mark b ≡ true → is_unsigned b ≡ true
-mark-unsigned b h = grind (arith, nat_tests)
-
 unsigned-behind : (v : List ℕ) → list_all is_unsigned v ≡ true → list_all is_unsigned (behind_sign v) ≡ true
 unsigned-behind v h = grind (arith, nat_tests, common_steps, and_parts)
 
@@ -314,11 +275,8 @@ sign-one signs v s (tilde_twice d y z b some c which) a h =
 
 -- ---- the end of a well-formed word
 
-part-last : (b : ℕ) → is_identifier_char b ≡ true → is_last b ≡ true
-part-last b h = rw h refl
-
 tail-end : (c : ℕ) (t : List ℕ) → tail_runs (pieces (c ∷ t)) ≡ true → ends is_last (c ∷ t) ≡ true
-tail-end c [] h = grind (arith, nat_tests, common_steps, part-last, and_parts)
+tail-end c [] h = grind (arith, nat_tests, common_steps, and_parts)
 tail-end c (d ∷ t) h = grind (arith, nat_tests, common_steps, runs_tail, tail_onto, tail-end d t)
 
 identifiers-end : (t : List ℕ) (list : List Id) → IsIdentifiers t list → ends is_last t ≡ true
@@ -367,7 +325,7 @@ run-is (b ∷ x) rest h k =
 sign-kept : (front : List ℕ) (b : ℕ) (rest : List ℕ) → list_all is_sign front ≡ true → 0 < length front → is_visible b ≡ false
     → begins_malformed (front ++ b ∷ rest) ≡ false
 sign-kept front b rest h some dark =
-    let r = run-is front (b ∷ rest) (all_weaker is_sign is_visible sign-visibly front h) dark in
+    let r = run-is front (b ∷ rest) (all_weaker is_sign is_visible (λ b k. grind (arith, nat_tests)) front h) dark in
     rw (r.0, r.1, all-end is_sign front some h) (and-none (list_all is_visible front) (is_empty front))
   where
     and-none : (a c : Bool) → (a && (not c && false)) ≡ false
@@ -386,10 +344,10 @@ regular-kept w rest h dark parts regular =
 first-word : (loose : Bool) (u x rest : List ℕ) (p : Partial) → list_all is_first u ≡ true
     → list_all is_unsigned (behind_sign (u ++ x)) ≡ true → IsPartial loose x p → begins_component x ≡ true → begins is_visible rest ≡ false → begins_malformed ((u ++ x) ++ rest) ≡ false
 first-word loose u x rest p h plain k first dark =
-    let passed = dotless-passed u x (all_weaker is_first is_dotless first-dotless u h) in
+    let passed = dotless-passed u x (all_weaker is_first is_dotless (λ b k. grind (arith, nat_tests)) u h) in
     let part = partial-part loose x p k in
-    let inner = all-join is_inner u x (all_weaker is_first is_inner first-inner u h) (all_weaker is_part is_inner part-inner x part) in
-    let visible = all-join is_visible u x (all_weaker is_first is_visible first-visible u h) (all_weaker is_part is_visible part-visible x part) in
+    let inner = all-join is_inner u x (all_weaker is_first is_inner (λ b k. grind (arith, nat_tests)) u h) (all_weaker is_part is_inner (λ b k. grind (arith, nat_tests)) x part) in
+    let visible = all_weaker is_inner is_visible (λ b k. grind (arith, nat_tests)) (u ++ x) inner in
     let places = and_parts (begins_place x) _ (partial-places loose x p k) in
     let begun = and_parts (begins is_first x) (are_first x) places.0 in
     let parts : has_four_parts (u ++ x) ≡ false = rw passed (partial-parts loose x p k) in
@@ -431,10 +389,10 @@ word-regular loose signs marks x rest s p h m k first dark =
         → begins_malformed ((signs ++ (marks ++ x)) ++ rest) ≡ false
     go front [] split each none =
         let e : signs ≡ front = split ∙ append-nil front in
-        let u = all-join is_first front marks (all_weaker is_sign is_first sign-first front each) (all_weaker is_mark is_first mark-first marks m) in
+        let u = all-join is_first front marks (all_weaker is_sign is_first (λ b k. grind (arith, nat_tests)) front each) (all_weaker is_mark is_first (λ b k. grind (arith, nat_tests)) marks m) in
         let same : signs ++ (marks ++ x) ≡ (front ++ marks) ++ x = rw e (sym (append_assoc front marks x)) in
-        let behind = all-join is_unsigned marks x (all_weaker is_mark is_unsigned mark-unsigned marks m)
-        (all_weaker is_part is_unsigned part-unsigned x (partial-part loose x p k)) in
+        let behind = all-join is_unsigned marks x (all_weaker is_mark is_unsigned (λ b k. grind (arith, nat_tests)) marks m)
+        (all_weaker is_part is_unsigned (λ b k. grind (arith, nat_tests)) x (partial-part loose x p k)) in
         let plain : list_all is_unsigned (behind_sign ((front ++ marks) ++ x)) ≡ true =
         ap (λ (t : List ℕ). list_all is_unsigned (behind_sign t)) (sym same)
         ∙ sign-one signs (marks ++ x) s h (ap (λ (t : List ℕ). list_all is_sign t) e ∙ each) behind in

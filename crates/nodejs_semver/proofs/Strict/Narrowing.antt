@@ -46,9 +46,6 @@ compared-bounded : (c : Comparator) (w : VersionValue) → is_unbounded (compare
 compared-bounded c w = grind arith
 
 -- the bounds are of that version, whose numbers may be greater by one
-raised : (w : VersionValue) → is_readable MAX_SAFE_INTEGER w ≡ true → is_readable (MAX_SAFE_INTEGER + 1) w ≡ true
-raised w h = grind (arith, nat_tests, common_steps)
-
 lower-compared : (c : Comparator) (w : VersionValue) → is_readable MAX_SAFE_INTEGER w ≡ true
     → is_range_bound (MAX_SAFE_INTEGER + 1) (compared_span c w).lower ≡ true
 lower-compared c w h = grind (arith, nat_tests, common_steps)

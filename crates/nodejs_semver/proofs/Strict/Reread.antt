@@ -51,10 +51,6 @@ pre_printed text ids (dashed rest list is strict) =
 
 -- ---- what is printed is a version strictly
 
-same_text : (a b c d e f p q : List ℕ) → a ≡ d → b ≡ e → c ≡ f → p ≡ q
-    → a ++ 46 ∷ (b ++ 46 ∷ (c ++ (p ++ []))) ≡ d ++ 46 ∷ (e ++ 46 ∷ (f ++ (q ++ [])))
-same_text a b c d e f p q h k l m = rw (h, k, l, m) refl
-
 printed : (text : List ℕ) (v : VersionValue) → IsStrictVersion MAX_SAFE_INTEGER text v → IsStrictVersion MAX_SAFE_INTEGER (version_text (Table.no_build v)) (Table.no_build v)
 printed text v h = record {
   mark = [];

@@ -41,19 +41,10 @@ record Opens (text : List ℕ) : Type 0 where
   greater : begins_byte 62 text ≡ false
 
 opens : (marks u : List ℕ) → list_all is_mark marks ≡ true → begins_component u ≡ true → Opens (marks ++ u)
-opens marks u h k =
-    let solid : begins is_solid (marks ++ u) ≡ true = solid-front marks u h k in
-    record { dark = solid-dark (marks ++ u) solid; greater = other-front marks u h k }
-  where
-    solid-front : (marks u : List ℕ) → list_all is_mark marks ≡ true → begins_component u ≡ true → begins is_solid (marks ++ u) ≡ true
-    solid-front [] [] h k = cc k
-    solid-front [] (b ∷ u) h k = grind (arith, nat_tests)
-    solid-front (b ∷ marks) u h k = grind (arith, nat_tests)
-
-    other-front : (marks u : List ℕ) → list_all is_mark marks ≡ true → begins_component u ≡ true → begins_byte 62 (marks ++ u) ≡ false
-    other-front [] [] h k = cc k
-    other-front [] (b ∷ u) h k = grind (arith, nat_tests)
-    other-front (b ∷ marks) u h k = grind (arith, nat_tests)
+opens [] [] h k = cc k
+opens [] (b ∷ u) h k = record { dark = solid-dark (b ∷ u) (grind (arith, nat_tests)); greater = grind (arith, nat_tests) }
+opens (b ∷ marks) u h k =
+    record { dark = solid-dark (b ∷ (marks ++ u)) (grind (arith, nat_tests)); greater = grind (arith, nat_tests) }
 
 component-other : (u : List ℕ) → begins_component u ≡ true → begins_byte 61 u ≡ false
 component-other u h = grind (arith, nat_tests)
@@ -95,9 +86,6 @@ pub record SignTaken (loose : Bool) (s : Sign) (p : Partial) (marks x : List ℕ
   pub is : r.1 ≡ left ++ u
   pub marked : are_marks loose r.0 p left ≡ true
   pub same : (include : Bool) → table include r.0 p (left ++ x) ≡ table include s p (marks ++ x)
-
-free-tilde : (loose : Bool) (p : Partial) (marks : List ℕ) → list_all is_mark marks ≡ true → are_marks loose tilde p marks ≡ true
-free-tilde loose p marks h = grind (arith, nat_tests, common_steps)
 
 caret-taken : (loose : Bool) (p : Partial) (marks x text u : List ℕ) → MarksLeft text u → SignTaken loose caret p marks x (caret, text) u
 caret-taken loose p marks x text u l = grind (arith, nat_tests, common_steps)
@@ -169,38 +157,6 @@ twice-left : (y v : List ℕ) → IsBlank y → 0 < length y
     → skip_tilde (62 ∷ (y ++ (62 ∷ v))) (drop_spaces (62 ∷ (y ++ (62 ∷ v)))) ≡ skip_greater v
 twice-left y v h some = grind (arith, nat_tests, common_steps, blank-cases, blank-skipped, dark-byte)
 
-tilde-above : (loose : Bool) (p : Partial) (y z marks x u : List ℕ) → IsBlank y → IsBlank z → list_all is_mark marks ≡ true → begins_component u ≡ true
-    → Taken loose tilde p marks x u ((126 ∷ (y ++ (62 ∷ z))) ++ (marks ++ u))
-tilde-above loose p y z marks x u hy hz each k =
-    let t = marks ++ u in
-    let o = opens marks u each k in
-    rw (
-      append_assoc y (62 ∷ z) t,
-      tilde-front (y ++ (62 ∷ (z ++ t))),
-      one_greater-left y (z ++ t) t hy (blank-skipped z t hz o.dark) o.greater,
-    )
-    (tilde-taken loose p marks x (skip_greater (z ++ t)) u (greater-left z marks u hz each k))
-
-tilde-least : (loose : Bool) (p : Partial) (y z marks x u : List ℕ) → IsBlank y → IsBlank z → list_all is_mark marks ≡ true → begins_component u ≡ true
-    → Taken loose tilde p marks x u ((126 ∷ (y ++ (62 ∷ (61 ∷ z)))) ++ (marks ++ u))
-tilde-least loose p y z marks x u hy hz each k =
-    grind (arith, nat_tests, common_steps, append_assoc, tilde-front, one_greater-left, drop_spaces-none, dark-byte, kept, blank-skipped, opens, free-tilde)
-
-tilde-equal : (loose : Bool) (p : Partial) (y z marks x u : List ℕ) → IsBlank y → IsBlank z → list_all is_mark marks ≡ true → begins_component u ≡ true
-    → Taken loose tilde p marks x u ((126 ∷ (y ++ (61 ∷ z))) ++ (marks ++ u))
-tilde-equal loose p y z marks x u hy hz each k =
-    grind (arith, nat_tests, common_steps, append_assoc, tilde-front, no_greater-left, dark-byte, kept, blank-skipped, opens, free-tilde)
-
-twice-above : (loose : Bool) (p : Partial) (y z marks x u : List ℕ) → IsBlank y → 0 < length y → IsBlank z → list_all is_mark marks ≡ true
-    → begins_component u ≡ true → Taken loose tilde p marks x u ((126 ∷ (62 ∷ (y ++ (62 ∷ z)))) ++ (marks ++ u))
-twice-above loose p y z marks x u hy some hz each k =
-    grind (arith, nat_tests, common_steps, append_assoc, tilde-front, twice-left, tilde-taken, greater-left)
-
-twice-least : (loose : Bool) (p : Partial) (y z marks x u : List ℕ) → IsBlank y → 0 < length y → IsBlank z → list_all is_mark marks ≡ true
-    → begins_component u ≡ true → Taken loose tilde p marks x u ((126 ∷ (62 ∷ (y ++ (62 ∷ (61 ∷ z))))) ++ (marks ++ u))
-twice-least loose p y z marks x u hy some hz each k =
-    grind (arith, nat_tests, common_steps, append_assoc, tilde-front, twice-left, kept, blank-skipped, opens, free-tilde)
-
 -- ---- `>` and `<`
 
 one-read : (one two : Comparator) (y t : List ℕ) → IsBlank y → space_len t ≡ 0 → begins_byte 61 t ≡ false
@@ -253,8 +209,34 @@ sign-taken loose signs s p marks x u (late_below y h) m none k =
     grind (arith, nat_tests, common_steps, opens, marks-all, append_assoc, below-front, late-read, kept)
 sign-taken loose signs s p marks x u (caret_equal y z h l) m none k =
     grind (arith, nat_tests, common_steps, append_assoc, caret-front, blank-skipped, dark-byte, kept, opens, marks-all)
-sign-taken loose signs s p marks x u (tilde_sign c y z h l (inl e)) m none k = rw e (tilde-above loose p y z marks x u h l (marks-all loose tilde p marks m) k)
-sign-taken loose signs s p marks x u (tilde_sign c y z h l (inr (inl e))) m none k = rw e (tilde-least loose p y z marks x u h l (marks-all loose tilde p marks m) k)
-sign-taken loose signs s p marks x u (tilde_sign c y z h l (inr (inr e))) m none k = rw e (tilde-equal loose p y z marks x u h l (marks-all loose tilde p marks m) k)
-sign-taken loose signs s p marks x u (tilde_twice c y z h some l (inl e)) m none k = rw e (twice-above loose p y z marks x u h some l (marks-all loose tilde p marks m) k)
-sign-taken loose signs s p marks x u (tilde_twice c y z h some l (inr e)) m none k = rw e (twice-least loose p y z marks x u h some l (marks-all loose tilde p marks m) k)
+sign-taken loose signs s p marks x u (tilde_sign c y z h l (inl e)) m none k =
+    let t = marks ++ u in
+    let each = marks-all loose tilde p marks m in
+    let o = opens marks u each k in
+    rw (e, append_assoc y (62 ∷ z) t, tilde-front (y ++ (62 ∷ (z ++ t))), one_greater-left y (z ++ t) t h (blank-skipped z t l o.dark) o.greater)
+    (tilde-taken loose p marks x (skip_greater (z ++ t)) u (greater-left z marks u l each k))
+sign-taken loose signs s p marks x u (tilde_sign c y z h l (inr (inl e))) m none k =
+    let t = marks ++ u in
+    let dark = (opens marks u (marks-all loose tilde p marks m) k).dark in
+    rw (
+      e,
+      append_assoc y (62 ∷ 61 ∷ z) t,
+      tilde-front (y ++ (62 ∷ 61 ∷ (z ++ t))),
+      one_greater-left y (61 ∷ (z ++ t)) (61 ∷ (z ++ t)) h
+          (drop_spaces-none (61 ∷ (z ++ t)) (dark-byte 61 (z ++ t) refl)) refl,
+    )
+    (kept loose tilde p marks x (skip_greater (61 ∷ (z ++ t))) u (blank-skipped z t l dark) m)
+sign-taken loose signs s p marks x u (tilde_sign c y z h l (inr (inr e))) m none k =
+    let t = marks ++ u in
+    let dark = (opens marks u (marks-all loose tilde p marks m) k).dark in
+    rw (e, append_assoc y (61 ∷ z) t, tilde-front (y ++ (61 ∷ (z ++ t))), no_greater-left y (61 ∷ (z ++ t)) h (dark-byte 61 (z ++ t) refl) refl)
+    (kept loose tilde p marks x (skip_equal (61 ∷ (z ++ t))) u (blank-skipped z t l dark) m)
+sign-taken loose signs s p marks x u (tilde_twice c y z h some l (inl e)) m none k =
+    let t = marks ++ u in
+    rw (e, append_assoc y (62 ∷ z) t, tilde-front (62 ∷ (y ++ 62 ∷ (z ++ t))), twice-left y (z ++ t) h some)
+    (tilde-taken loose p marks x (skip_greater (z ++ t)) u (greater-left z marks u l (marks-all loose tilde p marks m) k))
+sign-taken loose signs s p marks x u (tilde_twice c y z h some l (inr e)) m none k =
+    let t = marks ++ u in
+    let dark = (opens marks u (marks-all loose tilde p marks m) k).dark in
+    rw (e, append_assoc y (62 ∷ 61 ∷ z) t, tilde-front (62 ∷ (y ++ 62 ∷ 61 ∷ (z ++ t))), twice-left y (61 ∷ (z ++ t)) h some)
+    (kept loose tilde p marks x (skip_greater (61 ∷ (z ++ t))) u (blank-skipped z t l dark) m)
