@@ -1,22 +1,22 @@
 -- The alternatives of node-semver's range texts: the function that reads them finds exactly what the statement has.
-use Rattle.nodejs_semver.proofs.Common.{Bool, IsBlank, IsUtf8, List, None, Some, [], after_spaces, all_weaker, and_parts, ap}
-use Rattle.nodejs_semver.proofs.Common.{append-nil, append_assoc, arith, begins, cases_Bool, common_steps, drop_spaces}
-use Rattle.nodejs_semver.proofs.Common.{drop_spaces-blank, drop_spaces-none, false, inl, inr, is_empty, length, list_all}
-use Rattle.nodejs_semver.proofs.Common.{nat_tests, not, or_right, refl, same_Some, space_len, subst, suc, sym, take, true, zero}
-use Rattle.nodejs_semver.proofs.{Common.{ℕ, ◌&&◌, ◌++◌, ◌-◌, ◌<◌, ◌==◌, ◌||◌, ◌∙◌, ◌∷◌, ◌≡◌}, NpmCommon.AreEndMarks}
-use Rattle.nodejs_semver.proofs.NpmCommon.{AreWords, Comparison, Ended, IsAlternative, IsPartial, IsSignText, IsWord}
-use Rattle.nodejs_semver.proofs.NpmCommon.{after_ends, alternative_of, drop_ends, end_front, hyphen_comparisons, hyphen_ends}
-use Rattle.nodejs_semver.proofs.NpmCommon.{hyphen_lower, hyphen_upper, ignored, is_free_lower, is_free_upper, is_malformed}
-use Rattle.nodejs_semver.proofs.{NpmCommon.{is_mark, is_visible, last, last_end, word}, Reading.Bytes.all-join}
-use Rattle.nodejs_semver.proofs.{Reading.{Bytes.begins_component, Steps.option-cases}, Strict.Hyphens.after_ends-drop}
-use Rattle.nodejs_semver.proofs.Strict.Hyphens.{dash-read, end-read, ends-space, hyphen-found, mark-dark, marks-passed}
-use Rattle.nodejs_semver.proofs.Strict.{Hyphens.{marks-whole, whole-dark}, Malformed.{blank-dark, blank-signal, boundary-dark}}
-use Rattle.nodejs_semver.proofs.Strict.Malformed.{is_dark, is_part, is_signal, malformed-all, malformed-more, part-visible}
-use Rattle.nodejs_semver.proofs.Strict.{Malformed.{partial-part, sign-signal}, PartialLaw.{boundary-quiet, partial-read}}
-use Rattle.nodejs_semver.proofs.Strict.{SignsRead.marks-all, Words.{blank-boundary, blank-space, not-empty, partial-begins}}
-use Rattle.nodejs_semver.{proofs.Strict.Words.{words-found, words-read, words-visible}, specs.Internal.NpmWords.partial_front}
-use Rattle.nodejs_semver.specs.{Internal.NpmWords.words_within, Npm.{RangeText.{hyphen, more, nothing, words}, Table.Partial}}
-use Rattle.nodejs_semver.specs.Npm.Table.{Sign}
+use Rattle.nodejs_semver.proofs.Common.{AllByRecursion, Bool, IsBlank, IsUtf8, List, None, Some, [], after_spaces, all_weaker, and_parts}
+use Rattle.nodejs_semver.proofs.Common.{ap, append-nil, append_assoc, arith, begins, bind_some, cases_Bool, common_steps, cut_bars}
+use Rattle.nodejs_semver.proofs.Common.{drop_spaces, drop_spaces-blank, drop_spaces-none, false, inl, inr, is_empty, length, list_all, map}
+use Rattle.nodejs_semver.proofs.Common.{middle_is_trim, nat_tests, not, or_right, refl, same_Some, space_len, subst, suc, sym, take, trim}
+use Rattle.nodejs_semver.proofs.Common.{trim_is_middle, true, zero, ℕ, ◌&&◌, ◌++◌, ◌-◌, ◌<◌, ◌==◌, ◌||◌, ◌↔◌, ◌∙◌, ◌∷◌, ◌≡◌}
+use Rattle.nodejs_semver.proofs.{Dividing.{BarsDivide.{bars_divide, bars_once}, MeaningLaw.pieces-utf8}, NpmCommon.AreAlternatives}
+use Rattle.nodejs_semver.proofs.NpmCommon.{AreEndMarks, AreWords, Comparison, Ended, HasAlternativesIn, IsAlternative, IsPartial}
+use Rattle.nodejs_semver.proofs.NpmCommon.{IsSignText, IsWord, after_ends, alternative_of, alternatives_of, drop_ends, end_front}
+use Rattle.nodejs_semver.proofs.NpmCommon.{hyphen_comparisons, hyphen_ends, hyphen_lower, hyphen_upper, ignored, is_free_lower}
+use Rattle.nodejs_semver.proofs.NpmCommon.{is_free_upper, is_malformed, is_mark, is_valid, is_visible, kept, last, last_end, word}
+use Rattle.nodejs_semver.proofs.Reading.{Bytes.{all-join, begins_component}, Steps.option-cases, WordLaw.trim-utf8}
+use Rattle.nodejs_semver.proofs.Strict.Hyphens.{after_ends-drop, dash-read, end-read, ends-space, hyphen-found, mark-dark, marks-passed}
+use Rattle.nodejs_semver.proofs.Strict.{Hyphens.{marks-whole, whole-dark}, Malformed.{blank-dark, blank-signal, boundary-dark, is_dark}}
+use Rattle.nodejs_semver.proofs.Strict.Malformed.{is_part, is_signal, malformed-all, malformed-more, part-visible, partial-part}
+use Rattle.nodejs_semver.proofs.Strict.{Malformed.sign-signal, PartialLaw.{boundary-quiet, partial-read}, Signs.marks-all}
+use Rattle.nodejs_semver.proofs.Strict.Words.{blank-boundary, blank-space, not-empty, partial-begins, words-found, words-read}
+use Rattle.nodejs_semver.{proofs.Strict.Words.words-visible, specs.Internal.NpmWords.{npm_alternatives, partial_front, words_within}}
+use Rattle.nodejs_semver.specs.Npm.{RangeText.{hyphen, more, next, nothing, words}, Table.{Partial, Sign}}
 
 -- ---- no `-` stands alone behind whitespace in words
 
@@ -236,3 +236,47 @@ alternative-found loose include (b ∷ text) cs u h =
           subst (λ (l : List Comparison). IsAlternative loose include (b ∷ text) l) (same_Some _ _ (rw some.1 at h)) is
       | inl none ↦ grind (arith, nat_tests, common_steps, same_Some, hyphen-found)
     ]
+
+-- ---- range texts as node-semver reads them: the function that reads the alternatives finds exactly what the statement has
+
+each-read : (loose : Bool) (include : Bool) (pieces : List (List ℕ)) (ls : List (List Comparison)) → AllByRecursion IsUtf8 pieces
+    → AreAlternatives loose include pieces ls → alternatives_of loose include (map trim pieces) ≡ Some ls
+unfolding alternatives_of
+each-read loose include pieces ls u AreAlternatives.none = refl
+each-read loose include pieces ls u (next piece text others cs rest is_trim is each) =
+    let v = trim-utf8 piece text u.0 is_trim in
+    let same : text ≡ trim piece = middle_is_trim piece text is_trim in
+    grind (arith, alternative-read, each-read loose include others rest u.1 each)
+
+each-found : (loose : Bool) (include : Bool) (pieces : List (List ℕ)) (ls : List (List Comparison)) → AllByRecursion IsUtf8 pieces
+    → alternatives_of loose include (map trim pieces) ≡ Some ls → AreAlternatives loose include pieces ls
+unfolding alternatives_of
+each-found loose include [] ls u h = subst (λ (l : List (List Comparison)). AreAlternatives loose include [] l) (same_Some _ _ h) AreAlternatives.none
+each-found loose include (piece ∷ others) ls u h =
+    let cs = bind_some (alternative_of loose include (trim piece)) _ ls h in
+    let rest = bind_some (alternatives_of loose include (map trim others)) (λ rest. Some (kept loose (trim piece) cs.0 rest)) ls cs.2 in
+    let is_trim = trim_is_middle piece u.0 in
+    let is = alternative-found loose include (trim piece) cs.0 (trim-utf8 piece (trim piece) u.0 is_trim) cs.1 in
+    let found : AreAlternatives loose include (piece ∷ others) (kept loose (trim piece) cs.0 rest.0) =
+    next piece (trim piece) others cs.0 rest.0 is_trim is (each-found loose include others rest.0 u.1 rest.1) in
+    subst (λ (l : List (List Comparison)). AreAlternatives loose include (piece ∷ others) l) (same_Some _ _ rest.2) found
+
+-- a text has the alternatives that are read, if they are valid
+pub alternatives_are : (loose : Bool) (limit : ℕ) (include : Bool) (text : List ℕ) (ls : List (List Comparison)) → IsUtf8 text
+    → HasAlternativesIn loose limit include text ls ↔ ((npm_alternatives loose include text ≡ Some ls)
+    × (list_all (list_all (is_valid limit)) ls ≡ true) × (is_empty ls ≡ false))
+alternatives_are loose limit include text ls u = (
+  λ h.
+      (let e = bars_once text h.parts h.divided in
+      let read = each-read loose include h.parts ls (pieces-utf8 text h.parts h.divided u) h.each in
+      (ap (λ (ps : List (List ℕ)). alternatives_of loose include (map trim ps)) (sym e) ∙ read, h.valid, h.some)),
+  λ h.
+      let cut = bars_divide text in
+      record {
+        parts = cut_bars false text;
+        divided = cut;
+        each = each-found loose include (cut_bars false text) ls (pieces-utf8 text (cut_bars false text) cut u) h.0;
+        valid = h.1;
+        some = h.2;
+      },
+)

@@ -1,19 +1,18 @@
 -- Hyphen ranges of node-semver's range texts: the functions that read them find exactly what the statement has.
-use Rattle.nodejs_semver.proofs.Common.{Bool, IsBlank, IsUtf8, List, Some, [], and_parts, ap, append-nil, append_assoc, arith}
-use Rattle.nodejs_semver.proofs.Common.{begins, bind_some, cases_Bool, common_steps, cond_some, drop, drop_at, drop_spaces}
-use Rattle.nodejs_semver.proofs.Common.{encode_utf8, encode_utf8_all, false, inl, inr, is_empty, is_whitespace, len_utf8_bounds}
-use Rattle.nodejs_semver.proofs.Common.{length, length-encode, list_all, nat_tests, refl, space_len, space_len-nil, subst, suc}
-use Rattle.nodejs_semver.proofs.Common.{sym, take, true, zero, ℕ, ◌++◌, ◌-◌, ◌<◌, ◌||◌, ◌∙◌, ◌∷◌, ◌≡◌, ◌⊎◌}
-use Rattle.nodejs_semver.proofs.NpmCommon.{AreEndMarks, Ended, IsAlternative, IsPartial, after_byte, after_ends}
-use Rattle.nodejs_semver.proofs.NpmCommon.{are_whole_marks, drop_ends, encode_ascii, end_front, ended_end, hyphen_comparisons}
-use Rattle.nodejs_semver.proofs.NpmCommon.{hyphen_ends, is_free_lower, is_free_upper, is_mark, is_one_v, last_end, len_utf8}
-use Rattle.nodejs_semver.proofs.{NpmCommon.space_len-white, Dividing.MeaningLaw.no_characters, Reading.Bytes.begins_component}
-use Rattle.nodejs_semver.proofs.Reading.{Bytes.{component-solid, is_solid, solid-dark}, WordLaw.{byte-is, tail-utf8}}
-use Rattle.nodejs_semver.proofs.Strict.{PartialLaw.{partial-found, partial-read}, Signs.blank-at, SignsRead.blank-skipped}
-use Rattle.nodejs_semver.proofs.Strict.{VersionLaw.empty-is, Words.{blank-some, blank-space, front-text, partial-begins}}
-use Rattle.nodejs_semver.{proofs.Strict.Words.{rest-utf8, space-boundary}, specs.Internal.NpmWords.{after_dash, partial_front}}
-use Rattle.nodejs_semver.specs.{Internal.Words.after_some_space, Npm.{RangeText.hyphen, Table.Partial}}
-use Rattle.{semver_core.proofs.Text.SpaceLaw.space_len-dark, std.proofs.lemmas.Str.{IsUtf8-past_char, encode_same}}
+use Rattle.nodejs_semver.proofs.Common.{Bool, IsBlank, IsUtf8, List, Some, [], and_parts, ap, append-nil, append_assoc, arith, begins}
+use Rattle.nodejs_semver.proofs.Common.{bind_some, cases_Bool, common_steps, cond_some, drop, drop_at, drop_spaces, encode_utf8}
+use Rattle.nodejs_semver.proofs.Common.{encode_utf8_all, false, inl, inr, is_empty, is_whitespace, len_utf8_bounds, length, length-encode}
+use Rattle.nodejs_semver.proofs.Common.{list_all, nat_tests, refl, space_len, space_len-nil, subst, suc, sym, take, true, zero, ℕ, ◌++◌}
+use Rattle.nodejs_semver.proofs.{Common.{◌-◌, ◌<◌, ◌||◌, ◌∙◌, ◌∷◌, ◌≡◌, ◌⊎◌}, Dividing.MeaningLaw.no_characters, NpmCommon.AreEndMarks}
+use Rattle.nodejs_semver.proofs.NpmCommon.{Ended, IsAlternative, IsPartial, after_byte, after_ends, are_whole_marks, drop_ends}
+use Rattle.nodejs_semver.proofs.NpmCommon.{encode_ascii, end_front, ended_end, hyphen_comparisons, hyphen_ends, is_free_lower}
+use Rattle.nodejs_semver.proofs.NpmCommon.{is_free_upper, is_mark, is_one_v, last_end, len_utf8, space_len-white}
+use Rattle.nodejs_semver.proofs.Reading.{Bytes.{begins_component, component-solid, is_solid, solid-dark}, WordLaw.{byte-is, tail-utf8}}
+use Rattle.nodejs_semver.proofs.Strict.{PartialLaw.{partial-found, partial-read}, Signs.{blank-at, blank-skipped}, VersionLaw.empty-is}
+use Rattle.nodejs_semver.proofs.Strict.Words.{blank-some, blank-space, front-text, partial-begins, rest-utf8, space-boundary}
+use Rattle.nodejs_semver.specs.{Internal.{NpmWords.{after_dash, partial_front}, Words.after_some_space}, Npm.RangeText.hyphen}
+use Rattle.{nodejs_semver.specs.Npm.Table.Partial, semver_core.proofs.Text.SpaceLaw.space_len-dark, std.proofs.lemmas.Str.IsUtf8-past_char}
+use Rattle.std.proofs.lemmas.Str.{encode_same}
 
 -- ---- marks and whitespace at the front
 
@@ -171,8 +170,7 @@ unfolding end_front
 end-read loose free a x rest p h k quiet =
     let u = x ++ rest in
     let passed = marks-passed loose (free p) a u h (partial-begins loose x rest p k) in
-    let text : take (length (a ++ u) - length rest) (a ++ u) ≡ a ++ x =
-    rw (append_assoc a x rest) at (front-text (a ++ x) rest) in
+    let text : take (length (a ++ u) - length rest) (a ++ u) ≡ a ++ x = rw (append_assoc a x rest) at (front-text (a ++ x) rest) in
     rw (passed, partial-read loose x rest p k quiet, front-text a u, marks-whole loose (free p) a h, text) refl
 
 -- ---- an end: what is read is written
@@ -198,8 +196,7 @@ end-found loose free text e u h =
     let t = cond_some (free p.0.0 || are_whole_marks loose front) ((p.0.0, taken), p.0.1) e p.2 in
     let part = partial-found loose behind p.0.0 p.0.1 p.1 in
     let whole : text ≡ marks ++ (part.piece ++ p.0.1) = ends.split ∙ ap (λ (t : List ℕ). marks ++ t) part.split in
-    let front_is : front ≡ marks =
-    ap (λ (t : List ℕ). take (length t - length behind) t) ends.split ∙ front-text marks behind in
+    let front_is : front ≡ marks = ap (λ (t : List ℕ). take (length t - length behind) t) ends.split ∙ front-text marks behind in
     let taken_is : taken ≡ marks ++ part.piece =
     ap (λ (t : List ℕ). take (length t - length p.0.1) t) (whole ∙ sym (append_assoc marks part.piece p.0.1))
     ∙ front-text (marks ++ part.piece) p.0.1 in

@@ -1,23 +1,20 @@
 -- The malformed words that are ignored are no well-formed ones.
-use Rattle.nodejs_semver.proofs.Common.{Bool, Id, IsBlank, IsIdentifiers, List, Option, Some, [], above, all_weaker, and-false}
-use Rattle.nodejs_semver.proofs.Common.{and_from, and_parts, ap, append-nil, append_assoc, arith, at_most, begins, below}
-use Rattle.nodejs_semver.proofs.Common.{cases_Bool, common_steps, drop, drop_all, encode_utf8, encode_utf8_all, ends, eqb-true}
-use Rattle.nodejs_semver.proofs.Common.{equal, false, get_or, inl, inr, is_ascii_digit, is_boundary, is_empty}
-use Rattle.nodejs_semver.proofs.Common.{is_identifier_char, is_whitespace, le-ltb, length, length-append, list_all}
-use Rattle.nodejs_semver.proofs.Common.{list_all-append, list_any, lt-ltb, nat_tests, not, not-true, pieces, prefix_len, refl}
-use Rattle.nodejs_semver.proofs.Common.{space_len, suc, sym, take, true, zero, ℕ, ◌&&◌, ◌++◌, ◌+◌, ◌-◌, ◌<◌, ◌==◌, ◌||◌, ◌∙◌}
-use Rattle.nodejs_semver.proofs.{Common.{◌∷◌, ◌≡◌, ◌≤◌, ◌⊎◌}, NpmCommon.{IsPartial, IsPlace, IsSignText, IsStrictBuild}}
-use Rattle.nodejs_semver.proofs.NpmCommon.{after_dot, are_first, at_least, bare, begins_malformed, bytes_eq, caret_equal}
-use Rattle.nodejs_semver.proofs.NpmCommon.{compared, encode_ascii, has_zeros, ignored_front, is_malformed, is_mark, is_visible}
-use Rattle.nodejs_semver.proofs.NpmCommon.{late_above, late_below, no_build, no_sign, one, or-true, plus, runs_tail, sign}
-use Rattle.nodejs_semver.proofs.{NpmCommon.{spelling, tail_runs, take_while, three, tilde_twice, two}, Reading.Bytes.all-end}
-use Rattle.nodejs_semver.proofs.Reading.Bytes.{all-join, begins-on, begins_component, ends-append, ends-some}
-use Rattle.nodejs_semver.{proofs.Strict.Places.prefix-all, specs.{Internal.Fronts.is_wildcard, Npm.Malformed.begins_place}}
-use Rattle.nodejs_semver.specs.Npm.Malformed.{begins_places, behind_sign, has_four_parts, is_first, is_inner, is_last}
-use Rattle.nodejs_semver.specs.Npm.Malformed.{is_mark_or_sign, is_open, is_regular, is_sign, last_visible}
-use Rattle.nodejs_semver.specs.Npm.{RangeText.{IsPreRelease, dashed, no_pre_release, tilde_sign}, Table.{Partial, Sign}}
-use Rattle.{semver_core.proofs.Text.Pieces.tail_onto, std.proofs.{Common.add-one, Math.Seq.drop-cons}}
-use Rattle.std.proofs.lemmas.List.Folds.{list_all_at}
+use Rattle.nodejs_semver.proofs.Common.{Bool, Id, IsBlank, IsIdentifiers, List, Option, Some, [], above, all_weaker, and-false, and_from}
+use Rattle.nodejs_semver.proofs.Common.{and_parts, ap, append-nil, append_assoc, arith, at_most, begins, below, cases_Bool, common_steps}
+use Rattle.nodejs_semver.proofs.Common.{drop, drop_all, encode_utf8, encode_utf8_all, ends, eqb-true, equal, false, get_or, inl, inr}
+use Rattle.nodejs_semver.proofs.Common.{is_ascii_digit, is_boundary, is_empty, is_identifier_char, is_whitespace, le-ltb, length}
+use Rattle.nodejs_semver.proofs.Common.{length-append, list_all, list_all-append, list_any, lt-ltb, nat_tests, not, not-true, pieces}
+use Rattle.nodejs_semver.proofs.Common.{prefix_len, refl, space_len, suc, sym, take, true, zero, ℕ, ◌&&◌, ◌++◌, ◌+◌, ◌-◌, ◌<◌, ◌==◌, ◌||◌}
+use Rattle.nodejs_semver.proofs.{Common.{◌∙◌, ◌∷◌, ◌≡◌, ◌≤◌, ◌⊎◌}, NpmCommon.{IsPartial, IsPlace, IsSignText, IsStrictBuild, after_dot}}
+use Rattle.nodejs_semver.proofs.NpmCommon.{are_first, at_least, bare, begins_malformed, bytes_eq, caret_equal, compared, encode_ascii}
+use Rattle.nodejs_semver.proofs.NpmCommon.{has_zeros, ignored_front, is_malformed, is_mark, is_visible, late_above, late_below, no_build}
+use Rattle.nodejs_semver.proofs.NpmCommon.{no_sign, one, or-true, plus, runs_tail, sign, spelling, tail_runs, take_while, three}
+use Rattle.nodejs_semver.proofs.{NpmCommon.{tilde_twice, two}, Reading.Bytes.{all-end, all-join, begins-on, begins_component, ends-append}}
+use Rattle.nodejs_semver.{proofs.{Reading.Bytes.ends-some, Strict.Places.prefix-all}, specs.Internal.Fronts.is_wildcard}
+use Rattle.nodejs_semver.specs.Npm.Malformed.{begins_place, begins_places, behind_sign, has_four_parts, is_first, is_inner, is_last}
+use Rattle.nodejs_semver.specs.Npm.{Malformed.{is_mark_or_sign, is_open, is_regular, is_sign, last_visible}, RangeText.IsPreRelease}
+use Rattle.nodejs_semver.specs.Npm.{RangeText.{dashed, no_pre_release, tilde_sign}, Table.{Partial, Sign}}
+use Rattle.{semver_core.proofs.Text.Pieces.tail_onto, std.proofs.{Common.add-one, Math.Seq.drop-cons, lemmas.List.Folds.list_all_at}}
 use Rattle.nodejs_semver.specs.Npm.RangeText as Text
 
 -- ---- the characters of partials
@@ -197,12 +194,10 @@ place-joined (b ∷ u) v h some k =
 
 -- a place alone, and one before a dot
 place-alone : (loose zeros : Bool) (x : List ℕ) (a : Option ℕ) → IsPlace loose zeros x a → begins_place x ≡ true
-place-alone loose zeros x a h =
-    rw append-nil at (place-joined x [] (place-first loose zeros x a h) (place-bytes loose zeros x a h).1 refl)
+place-alone loose zeros x a h = rw append-nil at (place-joined x [] (place-first loose zeros x a h) (place-bytes loose zeros x a h).1 refl)
 
 place-dotted : (loose zeros : Bool) (x rest : List ℕ) (a : Option ℕ) → IsPlace loose zeros x a → begins_place (x ++ 46 ∷ rest) ≡ true
-place-dotted loose zeros x rest a h =
-    place-joined x (46 ∷ rest) (place-first loose zeros x a h) (place-bytes loose zeros x a h).1 refl
+place-dotted loose zeros x rest a h = place-joined x (46 ∷ rest) (place-first loose zeros x a h) (place-bytes loose zeros x a h).1 refl
 
 partial-places : (loose : Bool) (x : List ℕ) (p : Partial) → IsPartial loose x p → begins_places x ≡ true
 partial-places loose x p (one x1 a h) =
@@ -236,8 +231,7 @@ blank-none y h k = go y (blank-dark y h) k
 
     go : (y : List ℕ) → list_all is_dark y ≡ true → list_all is_sign y ≡ true → y ≡ []
     go [] h k = refl
-    go (b ∷ y) h k =
-        absurd (dark-sign b (and_parts (is_dark b) (list_all is_dark y) h).0 (and_parts (is_sign b) (list_all is_sign y) k).0)
+    go (b ∷ y) h k = absurd (dark-sign b (and_parts (is_dark b) (list_all is_dark y) h).0 (and_parts (is_sign b) (list_all is_sign y) k).0)
 
 spelling-one : (s : Sign) (v : List ℕ) → list_all is_unsigned v ≡ true → list_all is_unsigned (behind_sign (spelling s ++ v)) ≡ true
 spelling-one s v h = grind (arith, nat_tests, common_steps, one-sign)
@@ -248,8 +242,7 @@ all-front u v h = and_parts (list_all is_sign u) (list_all is_sign v) (sym (list
 sign-one : (signs v : List ℕ) (s : Sign) → IsSignText signs s → list_all is_sign signs ≡ true → list_all is_unsigned v ≡ true
     → list_all is_unsigned (behind_sign (signs ++ v)) ≡ true
 sign-one signs v s no_sign a h = unsigned-behind v h
-sign-one signs v s (sign t y b) a h =
-    rw (blank-none y b (all-front (spelling t) y a).1, append-nil (spelling t)) (spelling-one t v h)
+sign-one signs v s (sign t y b) a h = rw (blank-none y b (all-front (spelling t) y a).1, append-nil (spelling t)) (spelling-one t v h)
 sign-one signs v s (late_above y b) a h = rw (blank-none y b (all-front y (61 ∷ []) a).0) h
 sign-one signs v s (late_below y b) a h = rw (blank-none y b (all-front y (61 ∷ []) a).0) h
 sign-one signs v s (caret_equal y z b c) a h =
@@ -297,13 +290,11 @@ qualified-end loose z pre build ids builds e m (plus t list h) =
 qualified-end loose z pre build ids builds e no_pre_release no_build = rw (append-nil z) e
 qualified-end loose z pre build ids builds e (dashed t list h s) no_build =
     rw (append-nil t) (last-end z (45 ∷ t) (last-end (45 ∷ []) t (identifiers-end t list h)))
-qualified-end loose z pre build ids builds e (bare t list f g h s) no_build =
-    rw (append-nil t) (last-end z t (identifiers-end t list h))
+qualified-end loose z pre build ids builds e (bare t list f g h s) no_build = rw (append-nil t) (last-end z t (identifiers-end t list h))
 
 partial-end : (loose : Bool) (x : List ℕ) (p : Partial) → IsPartial loose x p → ends is_last x ≡ true
 partial-end loose x p (one x1 a h) = place-end loose false x1 a h
-partial-end loose x p (two x1 y a b h k) =
-    last-end x1 (46 ∷ y) (last-end (46 ∷ []) y (place-end loose (has_zeros a) y b k))
+partial-end loose x p (two x1 y a b h k) = last-end x1 (46 ∷ y) (last-end (46 ∷ []) y (place-end loose (has_zeros a) y b k))
 partial-end loose x p (three x1 y z pre build a b c ids builds h k l m s n t) =
     let q = z ++ (pre ++ build) in
     let last = qualified-end loose z pre build ids builds (place-end loose (has_zeros a) z c l) m n in
@@ -398,8 +389,7 @@ word-regular loose signs marks x rest s p h m k first dark =
         ∙ sign-one signs (marks ++ x) s h (ap (λ (t : List ℕ). list_all is_sign t) e ∙ each) behind in
         rw same (first-word loose (front ++ marks) x rest p u plain k first dark)
     go front (b ∷ left) split each none =
-        let same : (signs ++ (marks ++ x)) ++ rest ≡ front ++ b ∷ (left ++ ((marks ++ x) ++ rest)) =
-        rw split (simp append_assoc refl) in
+        let same : (signs ++ (marks ++ x)) ++ rest ≡ front ++ b ∷ (left ++ ((marks ++ x) ++ rest)) = rw split (simp append_assoc refl) in
         rw same (sign-kept front b (left ++ ((marks ++ x) ++ rest)) each (some front b left split none) none)
 
 -- ---- visible characters
@@ -506,8 +496,7 @@ more-visible : (text : List ℕ) (at d : ℕ) → at < length text → is_visibl
 more-visible text at d h k l = rw (drop-cons text at d h, k, l) refl
 
 -- the last one is at the front, or behind one that is not visible
-pub last_all : (text : List ℕ) (start : ℕ) → list_all is_visible (drop start text) ≡ true → start ≡ 0
-    → drop start text ≡ last_visible text
+pub last_all : (text : List ℕ) (start : ℕ) → list_all is_visible (drop start text) ≡ true → start ≡ 0 → drop start text ≡ last_visible text
 last_all text start h e = rw e (sym (all-last text (rw e at h)))
 
 pub last_found : (text : List ℕ) (start d : ℕ) → list_all is_visible (drop start text) ≡ true → 0 < start → start ≤ length text

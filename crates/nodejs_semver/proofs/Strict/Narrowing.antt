@@ -1,17 +1,28 @@
 -- What comparators have in common, as spans: that of one comparator, and that of two lists.
-use Rattle.nodejs_semver.proofs.Common.{After, Before, Bool, Bound, Comparator, Id, List, MAX_SAFE_INTEGER, None, Option}
-use Rattle.nodejs_semver.proofs.Common.{Ordering, Some, Span, Unbounded, VersionValue, [], above, and_parts, ap, ap₂, arith}
-use Rattle.nodejs_semver.proofs.Common.{at_most, below, common_steps, cond_both, cut_cmp, equal, false, greater_lower, holds}
-use Rattle.nodejs_semver.proofs.Common.{interval, is_eq, is_ge, is_gt, is_interval, is_le, is_lt, is_past, is_range_bound}
-use Rattle.nodejs_semver.proofs.Common.{is_readable, is_release, lesser_upper, lets_in, list_all, list_all-append, list_any}
-use Rattle.nodejs_semver.proofs.Common.{list_any-append, lower_cut, meet, nat_tests, not, option_holds-interval, precedence}
+use Rattle.nodejs_semver.proofs.{Algebra.{Accepting.lets_in_one, Gate.{both, lets_in-meet}}, Common.{After, Before, Bool, Bound}}
+use Rattle.nodejs_semver.proofs.Common.{Comparator, Id, List, MAX_SAFE_INTEGER, None, Option, Ordering, Some, Span, Unbounded, VersionValue}
+use Rattle.nodejs_semver.proofs.Common.{[], above, and_parts, ap, ap₂, arith, at_most, below, common_steps, cond_both, cut_cmp, equal}
+use Rattle.nodejs_semver.proofs.Common.{false, greater_lower, holds, interval, is_empty, is_eq, is_ge, is_gt, is_interval, is_le, is_lt}
+use Rattle.nodejs_semver.proofs.Common.{is_past, is_range_bound, is_readable, is_release, lesser_upper, lets_in, list_all, list_all-append}
+use Rattle.nodejs_semver.proofs.Common.{list_any, list_any-append, lower_cut, meet, nat_tests, not, option_holds-interval, precedence}
 use Rattle.nodejs_semver.proofs.Common.{precedence_total, refl, sym, true, upper_cut, ℕ, ◌&&◌, ◌++◌, ◌+◌, ◌||◌, ◌∙◌, ◌∷◌, ◌≡◌}
-use Rattle.nodejs_semver.proofs.NpmCommon.{Alternative, AreRead, Bounds, Comparison, IsCommon, IsNarrowed, NarrowedBy, at_least}
-use Rattle.nodejs_semver.proofs.NpmCommon.{both_ways, bounds_view, counted, counts, filter-append, is_unbounded, satisfies}
-use Rattle.nodejs_semver.proofs.{Algebra.{Accepting.lets_in_one, Gate.{both, lets_in-meet}}, Values.{past-after, past-before}}
-use Rattle.nodejs_semver.specs.{Internal.{NpmAlternatives.met, NpmMeaning.is_open}, Npm.Ranges.names}
+use Rattle.nodejs_semver.proofs.NpmCommon.{Alternative, AreRead, Bounds, Comparison, IsCommon, IsNarrowed, NarrowedBy, at_least, both_ways}
+use Rattle.nodejs_semver.proofs.{NpmCommon.{bounds_view, counted, counts, filter-append, is_unbounded, satisfies}, Values.past-after}
+use Rattle.nodejs_semver.{proofs.Values.past-before, specs.Internal.{NpmAlternatives.met, NpmMeaning.is_open, NpmParts.has_no_comparators}}
+use Rattle.nodejs_semver.specs.{Internal.NpmParts.is_wildcard, Npm.{Ranges.names, Table.{Partial, Sign, hyphen_lower, hyphen_upper, table}}}
 use Rattle.semver_core.proofs.CutLaws.{is_past-greater_lower, is_past-lesser_upper}
 use Rattle.nodejs_semver.specs.Text.Table as Spans
+
+-- ---- where a word and an end of a hyphen range have no comparators
+
+pub table-bare : (include : Bool) (s : Sign) (p : Partial) (text : List ℕ) → is_empty (table include s p text) ≡ has_no_comparators s p
+table-bare include s p text = grind (arith, nat_tests, common_steps)
+
+pub lower-bare : (include : Bool) (p : Partial) (text : List ℕ) → is_empty (hyphen_lower include p text) ≡ is_wildcard p
+lower-bare include p text = grind (arith, nat_tests, common_steps)
+
+pub upper-bare : (include : Bool) (p : Partial) (text : List ℕ) → is_empty (hyphen_upper include p text) ≡ is_wildcard p
+upper-bare include p text = grind (arith, nat_tests, common_steps)
 
 -- ---- one comparator
 

@@ -1,13 +1,12 @@
 -- Places of node-semver's partial versions: what is read is written, and what is written is read.
-use Rattle.nodejs_semver.proofs.Common.{Bool, IsNumber, List, MAX_SAFE_INTEGER, None, Option, Some, [], and-false, and_parts}
-use Rattle.nodejs_semver.proofs.Common.{ap, arith, begins, cases_Bool, common_steps, drop, drop_at, eqb-true, false, inl, inr}
-use Rattle.nodejs_semver.proofs.Common.{is_ascii_digit, is_empty, length, list_all, nat_tests, not, prefix_len, refl, same_Some}
-use Rattle.nodejs_semver.proofs.Common.{suc, sym, take, take-append-drop, take_at, true, zero, ℕ, ◌&&◌, ◌*◌, ◌++◌, ◌+◌, ◌-◌}
-use Rattle.nodejs_semver.proofs.{Common.{◌<◌, ◌==◌, ◌||◌, ◌∙◌, ◌∷◌, ◌≡◌, ◌≤◌}, NpmCommon.{IsPlace, IsStrictNumber, begins_byte}}
-use Rattle.nodejs_semver.proofs.NpmCommon.{begins_wildcard, digit_value, digits_grow, digits_value, digits_value_after}
-use Rattle.nodejs_semver.proofs.NpmCommon.{dotted_patch, dotted_place, drop-append-add, is_spelled, most_digits, nat_le}
-use Rattle.nodejs_semver.proofs.{NpmCommon.{patch_place, place_front, run_place, take_while}, Reading.Numbers.digits-taken}
-use Rattle.nodejs_semver.proofs.{Reading.Numbers.number-no_wildcard, Strict.Qualifiers.Follows}
+use Rattle.nodejs_semver.proofs.Common.{Bool, IsNumber, List, MAX_SAFE_INTEGER, None, Option, Some, [], and-false, and_parts, ap, arith}
+use Rattle.nodejs_semver.proofs.Common.{begins, cases_Bool, common_steps, drop, drop_at, eqb-true, false, inl, inr, is_ascii_digit}
+use Rattle.nodejs_semver.proofs.Common.{is_empty, length, list_all, nat_tests, not, prefix_len, refl, same_Some, suc, sym, take}
+use Rattle.nodejs_semver.proofs.Common.{take-append-drop, take_at, true, zero, ℕ, ◌&&◌, ◌*◌, ◌++◌, ◌+◌, ◌-◌, ◌<◌, ◌==◌, ◌||◌, ◌∙◌, ◌∷◌, ◌≡◌}
+use Rattle.nodejs_semver.proofs.{Common.◌≤◌, NpmCommon.{IsPlace, IsStrictNumber, begins_byte, begins_wildcard, digit_value, digits_grow}}
+use Rattle.nodejs_semver.proofs.NpmCommon.{digits_value, digits_value_after, dotted_patch, dotted_place, drop-append-add, is_spelled}
+use Rattle.nodejs_semver.proofs.NpmCommon.{most_digits, nat_le, patch_place, place_front, run_place, take_while}
+use Rattle.nodejs_semver.proofs.{Reading.Numbers.{digits-taken, number-no_wildcard}, Strict.Qualifiers.Follows}
 use Rattle.std.proofs.lemmas.List.Sums.{prefix_len-drop_all, prefix_len-drop_no, prefix_len-drop_yes}
 use Rattle.nodejs_semver.specs.Npm.RangeText as Text
 
@@ -170,8 +169,7 @@ digits-many : (k v : ℕ) (d : List ℕ) → k ≤ length d → tens v k ≤ dig
 unfolding tens
 digits-many zero v d h = digits_grow v d
 digits-many (suc k) v [] h = absurd (omega arith)
-digits-many (suc k) v (c ∷ d) h =
-    grind (arith, nat_tests, common_steps, tens-mono, digits-many k (v * 10 + digit_value c) d (omega arith))
+digits-many (suc k) v (c ∷ d) h = grind (arith, nat_tests, common_steps, tens-mono, digits-many k (v * 10 + digit_value c) d (omega arith))
 
 some-digit : (c : ℕ) → is_ascii_digit c ≡ true → (c == 48) ≡ false → 1 ≤ digit_value c
 some-digit c h k = grind (arith, nat_tests)

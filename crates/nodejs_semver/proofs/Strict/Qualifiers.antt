@@ -1,13 +1,13 @@
 -- The pre-release and the build behind the numbers: what is read is written, and what is written is read.
 use Rattle.nodejs_semver.proofs.Common.{Bool, Id, IsIdentifiers, List, [], and-false, and_parts, ap, append-nil, arith, begins}
-use Rattle.nodejs_semver.proofs.Common.{begins_identifier, cases_Bool, common_steps, drop, eqb-true, false, inl, inr}
-use Rattle.nodejs_semver.proofs.Common.{is_ascii_digit, is_identifier_char, list_len, nat_tests, not, not-true, or_cases, refl}
-use Rattle.nodejs_semver.proofs.Common.{subst, suc, sym, take, take-append-drop, true, zero, ℕ, ◌&&◌, ◌++◌, ◌==◌, ◌||◌, ◌∙◌}
-use Rattle.nodejs_semver.proofs.{Common.{◌∷◌, ◌≡◌, ◌⊎◌}, NpmCommon.{IsStrictBuild, IsStrictPreRelease, are_spelled, bare}}
-use Rattle.nodejs_semver.proofs.NpmCommon.{begins_byte, begins_undashed, build_front, dashed_front, goes_on, is_strict_list}
-use Rattle.nodejs_semver.proofs.NpmCommon.{listed, no_build, or-true, plus, pre_front, pre_release_front, undashed}
-use Rattle.nodejs_semver.proofs.Reading.IdentifierLists.{front-identifiers, written-begins, written-exact, written-spelled}
-use Rattle.nodejs_semver.specs.Npm.RangeText.{IsPreRelease, dashed, is_letter, no_pre_release}
+use Rattle.nodejs_semver.proofs.Common.{begins_identifier, cases_Bool, common_steps, drop, eqb-true, false, inl, inr, is_ascii_digit}
+use Rattle.nodejs_semver.proofs.Common.{is_identifier_char, list_len, nat_tests, not, not-true, or_cases, refl, subst, suc, sym, take}
+use Rattle.nodejs_semver.proofs.Common.{take-append-drop, true, zero, ℕ, ◌&&◌, ◌++◌, ◌==◌, ◌||◌, ◌∙◌, ◌∷◌, ◌≡◌, ◌⊎◌}
+use Rattle.nodejs_semver.proofs.NpmCommon.{IsStrictBuild, IsStrictPreRelease, are_spelled, bare, begins_byte, begins_undashed, build_front}
+use Rattle.nodejs_semver.proofs.NpmCommon.{dashed_front, goes_on, is_strict_list, listed, no_build, or-true, plus, pre_front}
+use Rattle.nodejs_semver.proofs.{NpmCommon.{pre_release_front, undashed}, Reading.IdentifierLists.{front-identifiers, written-begins}}
+use Rattle.nodejs_semver.{proofs.Reading.IdentifierLists.{written-exact, written-spelled}, specs.Npm.RangeText.{IsPreRelease, dashed}}
+use Rattle.nodejs_semver.specs.Npm.RangeText.{is_letter, no_pre_release}
 use Rattle.nodejs_semver.specs.Npm.Grammar as Grammar
 
 -- ---- what is read is written
@@ -170,8 +170,7 @@ undashed-dashed t list h =
 
 -- a pre-release at the front of a text, of which this is read
 abbrev PreFound : Bool → List ℕ → List ℕ → List ℕ → Type 0
-PreFound loose text read rest =
-    (piece : List ℕ) × (text ≡ piece ++ rest) × IsPreRelease loose piece (listed read) × (undashed piece ≡ read)
+PreFound loose text read rest = (piece : List ℕ) × (text ≡ piece ++ rest) × IsPreRelease loose piece (listed read) × (undashed piece ≡ read)
 
 none-found : (loose : Bool) (text : List ℕ) → PreFound loose text [] text
 unfolding listed

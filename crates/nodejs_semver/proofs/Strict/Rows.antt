@@ -1,16 +1,14 @@
 -- The rows of node-semver's table: the bounds that the comparators of a word have in common.
-use Rattle.nodejs_semver.proofs.Common.{Before, Bool, Bound, Comparator, List, MAX_SAFE_INTEGER, Option, Span, Unbounded}
-use Rattle.nodejs_semver.proofs.Common.{VersionValue, [], above, ap, arith, at_most, below, codes, cond_both, equal, false}
-use Rattle.nodejs_semver.proofs.Common.{greater_lower, is_readable, is_release, length, list_all, nat_tests, not, precedence}
-use Rattle.nodejs_semver.proofs.{Common.{refl, true, ℕ, ◌&&◌, ◌+◌, ◌==◌, ◌||◌, ◌∙◌, ◌∷◌, ◌≡◌, ◌≤◌}, NpmCommon.{AreRead, Bounds}}
-use Rattle.nodejs_semver.proofs.NpmCommon.{Comparison, IsCommon, MAX_LENGTH, Numbers, are_normal, at_least, bytes_eq}
-use Rattle.nodejs_semver.proofs.NpmCommon.{caret_from, comparator_view, compared, counts, first, from, hyphen_upper, is_valid}
-use Rattle.nodejs_semver.proofs.NpmCommon.{is_zero, made, major, minor, nat_le, next_changed, npm_partial_view, npm_sign_view}
-use Rattle.nodejs_semver.proofs.{NpmCommon.{under, version_text, whole, wildcard, within}, Strict.Narrowing.both_common}
-use Rattle.nodejs_semver.proofs.Strict.Narrowing.{compared_span, comparison, everything, one_common, uncounted_common}
-use Rattle.nodejs_semver.{proofs.Strict.Printed.{from_valid, prints_zero, under_valid}, specs.Internal.NpmMeaning.is_part}
-use Rattle.nodejs_semver.specs.Npm.Table.{Partial, caret, lowest, next, no_build, table, tilde}
-use Rattle.semver_core.specs.Values.Versions.{IsVersion}
+use Rattle.nodejs_semver.proofs.Common.{Before, Bool, Bound, Comparator, List, MAX_SAFE_INTEGER, Option, Span, Unbounded, VersionValue, []}
+use Rattle.nodejs_semver.proofs.Common.{above, ap, arith, at_most, below, codes, cond_both, equal, false, greater_lower, is_readable}
+use Rattle.nodejs_semver.proofs.Common.{is_release, length, list_all, nat_tests, not, precedence, refl, true, ℕ, ◌&&◌, ◌+◌, ◌==◌, ◌||◌, ◌∙◌}
+use Rattle.nodejs_semver.proofs.{Common.{◌∷◌, ◌≡◌, ◌≤◌}, NpmCommon.{AreRead, Bounds, Comparison, IsCommon, MAX_LENGTH, Numbers, are_normal}}
+use Rattle.nodejs_semver.proofs.NpmCommon.{at_least, bytes_eq, caret_from, comparator_view, compared, counts, first, from, hyphen_upper}
+use Rattle.nodejs_semver.proofs.NpmCommon.{is_valid, is_zero, made, major, minor, nat_le, next_changed, npm_partial_view, npm_sign_view}
+use Rattle.nodejs_semver.proofs.{NpmCommon.{under, version_text, whole, wildcard, within}, Strict.Narrowing.{both_common, compared_span}}
+use Rattle.nodejs_semver.proofs.Strict.{Narrowing.{comparison, everything, one_common, uncounted_common}, Printed.{from_valid, prints_zero}}
+use Rattle.nodejs_semver.{proofs.Strict.Printed.under_valid, specs.{Internal.NpmMeaning.is_part, Npm.Table.{Partial, caret, lowest, next}}}
+use Rattle.{nodejs_semver.specs.Npm.Table.{no_build, table, tilde}, semver_core.specs.Values.Versions.IsVersion}
 use Rattle.nodejs_semver.specs.Text.Table as Spans
 use Rattle.nodejs_semver.specs.declared.npm.partial.Partial as Declared
 use Rattle.nodejs_semver.specs.declared.npm.partial.Partial.TheVariants as Partials

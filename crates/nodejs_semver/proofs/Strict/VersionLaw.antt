@@ -1,14 +1,14 @@
 -- Version texts of the strict reading: the function that reads them finds exactly what the statement has.
-use Rattle.nodejs_semver.proofs.Common.{IsTrim, List, None, Some, VersionValue, [], and_parts, ap, append-nil, arith, begins}
-use Rattle.nodejs_semver.proofs.Common.{bind_some, cases_Bool, common_steps, drop, eqb-true, false, inl, inr, is_ascii_digit}
-use Rattle.nodejs_semver.proofs.Common.{is_empty, length, middle_is_trim, nat_tests, prefix_len, refl, same_Some, subst, sym}
-use Rattle.nodejs_semver.proofs.{Common.{true, ℕ, ◌&&◌, ◌++◌, ◌==◌, ◌∙◌, ◌∷◌, ◌≡◌, ◌≤◌, ◌⊎◌}, NpmCommon.IsClean}
-use Rattle.nodejs_semver.proofs.NpmCommon.{IsStrictBuild, IsStrictNumber, IsStrictPreRelease, IsStrictVersion, IsVersionText}
-use Rattle.nodejs_semver.proofs.NpmCommon.{MAX_LENGTH, NoValue, build_front, chars, dashed_front, dotted_number, is_mark}
-use Rattle.nodejs_semver.proofs.NpmCommon.{is_strict_list, qualified_version, strict_number, strict_version}
+use Rattle.nodejs_semver.proofs.Common.{IsTrim, IsUtf8, List, None, Some, VersionValue, [], and_parts, ap, append-nil, arith, begins}
+use Rattle.nodejs_semver.proofs.Common.{bind_some, cases_Bool, common_steps, drop, encode_utf8, encode_utf8_all, eqb-true, false, inl, inr}
+use Rattle.nodejs_semver.proofs.Common.{is_ascii_digit, is_empty, length, length-append, length-encode, middle_is_trim, nat_tests}
+use Rattle.nodejs_semver.proofs.Common.{prefix_len, refl, same_Some, subst, sym, true, ℕ, ◌&&◌, ◌++◌, ◌<◌, ◌==◌, ◌∙◌, ◌∷◌, ◌≡◌, ◌≤◌, ◌⊎◌}
+use Rattle.nodejs_semver.proofs.NpmCommon.{IsClean, IsStrictBuild, IsStrictNumber, IsStrictPreRelease, IsStrictVersion, IsVersionText}
+use Rattle.nodejs_semver.proofs.NpmCommon.{MAX_LENGTH, NoValue, build_front, chars, chars_from_encodes, dashed_front, dotted_number}
+use Rattle.nodejs_semver.proofs.NpmCommon.{is_mark, is_strict_list, len_utf8, qualified_version, strict_number, strict_version}
 use Rattle.nodejs_semver.proofs.Strict.{Numbers.{dotted-found, dotted-read, strict-found, strict-read}, Qualifiers.build-found}
 use Rattle.nodejs_semver.proofs.Strict.Qualifiers.{build-taken, dashed-found, dashed-taken, ends-nil, quiet-behind}
-use Rattle.nodejs_semver.specs.Internal.Fronts.{drop_v}
+use Rattle.{nodejs_semver.specs.Internal.Fronts.drop_v, std.proofs.lemmas.Str.encodes-chars}
 
 -- ---- what is read is written
 
@@ -127,3 +127,18 @@ pub clean_refused : (limit : ℕ) (text middle rest : List ℕ) → IsTrim text 
 clean_refused limit text middle rest trimmed e none = λ v w.
     let same : w.middle ≡ middle = middle_is_trim text w.middle w.trimmed ∙ sym (middle_is_trim text middle trimmed) in
     none v (subst (λ (t : List ℕ). IsVersionText limit t v) (ap (λ (m : List ℕ). drop (prefix_len is_mark m) m) same ∙ sym e) w.is)
+
+-- ---- a text has no more characters than bytes, and as many as its iterator counts
+
+character-takes : (c : ℕ) → 0 < len_utf8 c
+character-takes c = grind (arith, nat_tests)
+
+characters-le : (cs : List ℕ) → length cs ≤ length (encode_utf8_all cs)
+characters-le [] = omega arith
+characters-le (c ∷ cs) =
+    omega (arith, length-append (encode_utf8 c) (encode_utf8_all cs), length-encode c, character-takes c, characters-le cs)
+
+pub characters-fit : (text : List ℕ) → IsUtf8 text → length (chars text) ≤ length text
+characters-fit text h = rw (encodes-chars text h) at (characters-le (chars text))
+
+pub ruleset characters_counted = (characters-fit, chars_from_encodes)

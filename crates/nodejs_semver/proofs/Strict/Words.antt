@@ -1,21 +1,19 @@
 -- The words of node-semver's range texts: the functions that read them find exactly what the statement has.
-use Rattle.nodejs_semver.proofs.Common.{Bool, Front, IsBlank, IsUtf8, List, None, Option, Some, [], and_parts, ap, append-nil}
-use Rattle.nodejs_semver.proofs.Common.{append_assoc, arith, begins, bind_some, cases_Bool, common_steps, cond_some, drop}
-use Rattle.nodejs_semver.proofs.Common.{drop_at, drop_spaces, eqb-true, equal, false, inl, inr, is_boundary, is_empty, length}
-use Rattle.nodejs_semver.proofs.Common.{length-append, list_all, lt-ltb, nat_tests, prefix_len, refl, same_Some, space_len}
-use Rattle.nodejs_semver.proofs.Common.{subst, suc, sym, take, take-append-drop, take_at, true, zero, ℕ, ◌&&◌, ◌++◌, ◌-◌, ◌<◌}
-use Rattle.nodejs_semver.proofs.{Common.{◌==◌, ◌∙◌, ◌∷◌, ◌≡◌, ◌≤◌}, NpmCommon.{AreWords, Comparison, IsPartial, IsPlace}}
-use Rattle.nodejs_semver.proofs.NpmCommon.{IsWord, Signed, any_word, are_marks, begins_byte, begins_malformed, compared}
-use Rattle.nodejs_semver.proofs.NpmCommon.{ignored, ignored_front, is_mark, is_visible, last, marked_word, marks_len, npm_sign}
-use Rattle.nodejs_semver.proofs.{NpmCommon.{signed_word, wildcard, word, word_front, ◌>>?◌}, Reading.Bytes.begins-on}
-use Rattle.nodejs_semver.proofs.Reading.{Bytes.{begins-some, begins_component, is_component_byte}, PartialLaw.spaces-gone}
-use Rattle.nodejs_semver.proofs.Reading.{PartialLaw.spaces-le, WordLaw.{boundary-utf8, suffix-boundary}}
-use Rattle.nodejs_semver.proofs.Strict.Malformed.{boundary-dark, ignored-read, malformed-visible, sign-visible, visible-dark}
-use Rattle.nodejs_semver.proofs.Strict.{Malformed.word-regular, PartialLaw.{boundary-quiet, partial-found, partial-read}}
-use Rattle.nodejs_semver.proofs.Strict.{Places.digits-begin, Signs.{blank-at, sign-found}, SignsRead.blank-cases}
-use Rattle.nodejs_semver.proofs.Strict.{SignsRead.{blank-skipped, marks-all, sign-taken}, VersionLaw.empty-is}
-use Rattle.nodejs_semver.specs.{Internal.NpmWords.{ended_word, partial_front, words_within}, Npm.RangeText.more}
-use Rattle.nodejs_semver.specs.Npm.Table.{Partial, Sign, table}
+use Rattle.nodejs_semver.proofs.Common.{Bool, Front, IsBlank, IsUtf8, List, None, Option, Some, [], and_parts, ap, append-nil, append_assoc}
+use Rattle.nodejs_semver.proofs.Common.{arith, begins, bind_some, cases_Bool, common_steps, cond_some, drop, drop_at, drop_spaces, eqb-true}
+use Rattle.nodejs_semver.proofs.Common.{equal, false, inl, inr, is_boundary, is_empty, length, length-append, list_all, lt-ltb, nat_tests}
+use Rattle.nodejs_semver.proofs.Common.{prefix_len, refl, same_Some, space_len, subst, suc, sym, take, take-append-drop, take_at, true}
+use Rattle.nodejs_semver.proofs.{Common.{zero, ℕ, ◌&&◌, ◌++◌, ◌-◌, ◌<◌, ◌==◌, ◌∙◌, ◌∷◌, ◌≡◌, ◌≤◌}, NpmCommon.{AreWords, Comparison}}
+use Rattle.nodejs_semver.proofs.NpmCommon.{IsPartial, IsPlace, IsWord, Signed, any_word, are_marks, begins_byte, begins_malformed, compared}
+use Rattle.nodejs_semver.proofs.NpmCommon.{ignored, ignored_front, is_mark, is_visible, last, marked_word, marks_len, npm_sign, signed_word}
+use Rattle.nodejs_semver.proofs.{NpmCommon.{wildcard, word, word_front, ◌>>?◌}, Reading.Bytes.{begins-on, begins-some, begins_component}}
+use Rattle.nodejs_semver.proofs.Reading.{Bytes.is_component_byte, PartialLaw.{spaces-gone, spaces-le}, WordLaw.boundary-utf8}
+use Rattle.nodejs_semver.proofs.{Reading.WordLaw.suffix-boundary, Strict.Malformed.{boundary-dark, ignored-read, malformed-visible}}
+use Rattle.nodejs_semver.proofs.Strict.{Malformed.{sign-visible, visible-dark, word-regular}, PartialLaw.{boundary-quiet, partial-found}}
+use Rattle.nodejs_semver.proofs.Strict.{PartialLaw.partial-read, Places.digits-begin, Signs.{blank-at, blank-cases, blank-skipped}}
+use Rattle.nodejs_semver.proofs.Strict.{Signs.{marks-all, sign-found, sign-taken}, VersionLaw.empty-is}
+use Rattle.nodejs_semver.specs.{Internal.NpmWords.{ended_word, partial_front, words_within}, Npm.{RangeText.more, Table.{Partial, Sign}}}
+use Rattle.nodejs_semver.specs.Npm.Table.{table}
 
 -- ---- how partials and marks begin
 
@@ -112,8 +110,7 @@ signed-found loose include text cs rest u h =
     let front = marks ++ part.piece in
     let behind : s.1 ≡ front ++ p.0.1 =
     sym (take-append-drop n s.1) ∙ ap (λ (t : List ℕ). marks ++ t) part.split ∙ sym (append_assoc marks part.piece p.0.1) in
-    let front_is : whole_text ≡ front =
-    ap (λ (t : List ℕ). take (length t - length p.0.1) t) behind ∙ front-text front p.0.1 in
+    let front_is : whole_text ≡ front = ap (λ (t : List ℕ). take (length t - length p.0.1) t) behind ∙ front-text front p.0.1 in
     let same : ◌≡◌ {A = List Comparison × List ℕ} (table include s.0 p.0.0 whole_text, p.0.1) (cs, rest) =
     ap (λ (x : Signed × List ℕ). (table include x.0.0 x.0.1 x.0.2, x.1)) t.1 ∙ same_Some _ _ w.2 in
     let split : text ≡ (at_sign.signs ++ front) ++ p.0.1 =
@@ -202,8 +199,7 @@ nil-boundary = refl
 pub words-read : (loose : Bool) (include : Bool) (n : ℕ) (text : List ℕ) (cs : List Comparison) → AreWords loose include text cs → length text ≤ n
     → words_within loose include n text ≡ Some cs
 unfolding words_within
-words-read loose include zero text cs h le =
-    absurd (omega (arith, le, begins-some is_visible text (words-visible loose include text cs h)))
+words-read loose include zero text cs h le = absurd (omega (arith, le, begins-some is_visible text (words-visible loose include text cs h)))
 words-read loose include (suc n) text cs (last t ds h) le =
     let read : word_front loose include t ≡ Some (ds, []) = rw (append-nil t) at (word-read loose include t [] ds h nil-boundary) in
     rw read refl

@@ -31,7 +31,7 @@ fn mark_len(text: &[u8]) -> usize
 }
 
 // What follows the marks and the whitespace at the front.
-#[tactic(auto, using(crate::proofs::Strict::HyphenReads::ends_passed))]
+#[tactic(auto, using(crate::proofs::Strict::WordReads::ends_passed))]
 pub(crate) fn skip_marks(text: &[u8]) -> &[u8]
     ensures { result.now ≡ Spec.drop_ends text.now }
 {

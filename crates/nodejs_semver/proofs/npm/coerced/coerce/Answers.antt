@@ -1,5 +1,4 @@
-use Rattle.nodejs_semver.proofs.{Common.MAX_SAFE_INTEGER, NpmCommon.{IsLeftmost, IsStrictNumber}}
-use Rattle.nodejs_semver.proofs.NpmTexts.Coerced.{coerced_absent}
+use Rattle.nodejs_semver.proofs.{Common.MAX_SAFE_INTEGER, NpmCommon.{IsLeftmost, IsStrictNumber}, NpmTexts.Coerced.coerced_absent}
 use Rattle.nodejs_semver.proofs.npm.coerced.coerce.Goals as goal
 
 pub returns-in_err-first_tuple-clause-none : goal.returns-in_err-first_tuple-clause-none

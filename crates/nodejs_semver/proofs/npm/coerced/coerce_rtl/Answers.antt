@@ -1,5 +1,4 @@
-use Rattle.nodejs_semver.proofs.{Common.MAX_SAFE_INTEGER, NpmCommon.{IsRightmost, IsStrictNumber}}
-use Rattle.nodejs_semver.proofs.NpmTexts.Coerced.{coerced_absent}
+use Rattle.nodejs_semver.proofs.{Common.MAX_SAFE_INTEGER, NpmCommon.{IsRightmost, IsStrictNumber}, NpmTexts.Coerced.coerced_absent}
 use Rattle.nodejs_semver.proofs.npm.coerced.coerce_rtl.Goals as goal
 
 pub returns-in_err-last_tuple-clause-none : goal.returns-in_err-last_tuple-clause-none

@@ -1,6 +1,5 @@
-use Rattle.nodejs_semver.proofs.{Common.{MAX_SAFE_INTEGER, None, ap, arith, length, ◌∙◌}, NpmCommon.is_free_lower}
-use Rattle.nodejs_semver.proofs.{NpmCommon.npm_partial_view, Strict.HyphenReads.{end_here, end_some, ends_le}}
-use Rattle.nodejs_semver.proofs.Strict.WordReads.{partial-le}
+use Rattle.nodejs_semver.proofs.{Common.{MAX_SAFE_INTEGER, None, ap, arith, length, ◌∙◌}, NpmCommon.{is_free_lower, npm_partial_view}}
+use Rattle.nodejs_semver.proofs.Strict.WordReads.{end_here, end_some, ends_le, partial-le}
 use Rattle.nodejs_semver.proofs.npm.hyphens.lower_end.Goals as goal
 
 pub ended_end-requires-clause-behind : goal.ended_end-requires-clause-behind

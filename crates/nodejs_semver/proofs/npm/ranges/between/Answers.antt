@@ -1,4 +1,4 @@
-use Rattle.nodejs_semver.proofs.{Common.{refl, ◌∙◌}, NpmCommon.Ended, Strict.AlternativeReads.{lower-invalid, upper-read}}
+use Rattle.nodejs_semver.proofs.{Common.{refl, ◌∙◌}, NpmCommon.Ended, Strict.RangeReads.{lower-invalid, upper-read}}
 use Rattle.nodejs_semver.specs.Internal.NpmViews.{end_view}
 use Rattle.nodejs_semver.proofs.npm.ranges.between.Goals as goal
 
