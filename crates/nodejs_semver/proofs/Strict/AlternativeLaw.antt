@@ -165,14 +165,11 @@ upper-read loose include gap b y q hg h k =
             same = upper-same include q (take (length second - 0) second) (b ++ y) free;
           }
       | inr bound ↦
-          let none : second ≡ b ++ y = at_gap ∙ drop_spaces-none (b ++ y) (bound-dark b y (rw bound at h) begin) in
+          let none : second ≡ b ++ y = at_gap ∙ drop_spaces-none (b ++ y) (whole-dark loose b y (marks-whole loose false b (rw bound at h)) begin) in
           let at_end : end_front loose (is_free_upper include) (b ++ y) ≡ Some ((q, b ++ y), []) =
           rw append-nil at (end-read loose (is_free_upper include) b y [] q h k refl) in
           record { taken = b ++ y; is = rw (none, at_end) refl; same = refl }
     ]
-  where
-    bound-dark : (b y : List ℕ) → AreEndMarks loose false b → begins_component y ≡ true → space_len (b ++ y) ≡ 0
-    bound-dark b y h begin = whole-dark loose b y (marks-whole loose false b h) begin
 
 pub hyphen-read : (loose : Bool) (include : Bool) (a x blank gap b y : List ℕ) (p q : Partial) → AreEndMarks loose (is_free_lower p) a → IsPartial loose x p
     → IsBlank blank → 0 < length blank → IsBlank gap → 0 < length gap → AreEndMarks loose (is_free_upper include q) b → IsPartial loose y q

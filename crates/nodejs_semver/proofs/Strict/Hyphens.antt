@@ -1,4 +1,7 @@
 -- Hyphen ranges of node-semver's range texts: the functions that read them find exactly what the statement has.
+use Rattle.nodejs_semver.proofs.NpmCommon.{chars_from_encodes}
+use Rattle.std.proofs.lemmas.Str.{IsUtf8-from_ascii, chars-IsAscii, encodes-chars}
+use Rattle.std.specs.Str.{IsAscii}
 use Rattle.nodejs_semver.proofs.Common.{Bool, IsBlank, IsUtf8, List, Some, [], and_parts, ap, append-nil, append_assoc, arith, begins}
 use Rattle.nodejs_semver.proofs.Common.{bind_some, cases_Bool, common_steps, cond_some, drop, drop_at, drop_spaces, encode_utf8}
 use Rattle.nodejs_semver.proofs.Common.{encode_utf8_all, false, inl, inr, is_empty, is_whitespace, len_utf8_bounds, length, length-encode}
@@ -109,57 +112,38 @@ pub ends-read : (cs u : List ℕ) → list_all is_end cs ≡ true → begins is_
 ends-read [] u h other dark = ends-none u other dark
 ends-read (c ∷ cs) u h other dark = grind (arith, nat_tests, common_steps, and_parts, append_assoc, ends-char, ends-read cs u)
 
--- ---- one `v`, as characters and as bytes
-
-one-bytes : (cs : List ℕ) → is_one_v cs ≡ true → is_one_v (encode_utf8_all cs) ≡ true
-one-bytes cs h = grind (arith, nat_tests, common_steps)
+-- ---- marks of whole versions are the same as characters and as bytes
 
 one-first : (text : List ℕ) → is_one_v text ≡ true → (text ≡ []) ⊎ (text ≡ 118 ∷ [])
 one-first text h = grind (arith, nat_tests, common_steps)
 
-one-characters : (cs : List ℕ) → is_one_v (encode_utf8_all cs) ≡ true → is_one_v cs ≡ true
-one-characters [] h = refl
-one-characters (c ∷ cs) h = elim (one-first (encode_utf8_all (c ∷ cs)) h) [
-  | inl none ↦ cc (no_characters (c ∷ cs) none)
-  | inr one ↦
-      let same = encode_same c 118 (encode_utf8_all cs) [] (one ∙ rw (encode_ascii 118 (omega arith)) refl) in
-      rw (no_characters cs same.1, same.0) refl
-]
+marks-ascii : (text : List ℕ) → list_all is_mark text ≡ true → IsAscii text
+marks-ascii text h = grind (arith, nat_tests, common_steps)
 
--- ---- marks of whole versions, as characters and as bytes
-
-all-bytes : (cs : List ℕ) → list_all is_mark cs ≡ true → list_all is_mark (encode_utf8_all cs) ≡ true
-all-bytes [] h = refl
-all-bytes (c ∷ cs) h = grind (arith, nat_tests, common_steps, and_parts, encode_ascii, mark-ascii, all-bytes cs)
-
-all-characters : (cs : List ℕ) → list_all is_mark (encode_utf8_all cs) ≡ true → list_all is_mark cs ≡ true
-all-characters [] h = refl
-all-characters (c ∷ cs) h = go (λ k. all-characters cs k) (encode_utf8_all (c ∷ cs)) refl h
-  where
-    go : (list_all is_mark (encode_utf8_all cs) ≡ true → list_all is_mark cs ≡ true) → (text : List ℕ) → encode_utf8_all (c ∷ cs) ≡ text
-        → list_all is_mark text ≡ true → list_all is_mark (c ∷ cs) ≡ true
-    go f [] e k = cc (no_characters (c ∷ cs) e)
-    go f (b ∷ text) e k =
-        let each = and_parts (is_mark b) (list_all is_mark text) k in
-        let same = encode_same c b (encode_utf8_all cs) text (e ∙ rw (encode_ascii b (mark-ascii b each.0)) refl) in
-        rw (same.0, each.0) (f (rw same.1 each.1))
+whole-ascii : (loose : Bool) (text : List ℕ) → are_whole_marks loose text ≡ true → IsAscii text
+whole-ascii true text h = marks-ascii text h
+whole-ascii false text h = elim (one-first text h) [ inl e ↦ rw e (marks-ascii [] refl) | inr e ↦ rw e (marks-ascii (118 ∷ []) refl) ]
 
 whole-bytes : (loose : Bool) (cs : List ℕ) → are_whole_marks loose cs ≡ true → are_whole_marks loose (encode_utf8_all cs) ≡ true
-whole-bytes loose cs h = grind (arith, nat_tests, common_steps, all-bytes, one-bytes)
+whole-bytes loose cs h =
+    let ascii = whole-ascii loose cs h in
+    let same : encode_utf8_all cs ≡ cs = rw (chars-IsAscii cs ascii) at (encodes-chars cs (IsUtf8-from_ascii cs ascii)) in
+    rw same h
 
 whole-characters : (loose : Bool) (cs : List ℕ) → are_whole_marks loose (encode_utf8_all cs) ≡ true → are_whole_marks loose cs ≡ true
-whole-characters loose cs h = grind (arith, nat_tests, common_steps, all-characters, one-characters)
+whole-characters loose cs h =
+    let bytes = encode_utf8_all cs in
+    let ascii = whole-ascii loose bytes h in
+    let same : cs ≡ bytes = chars_from_encodes cs bytes (IsUtf8-from_ascii bytes ascii) refl ∙ chars-IsAscii bytes ascii in
+    subst (λ (t : List ℕ). are_whole_marks loose t ≡ true) (sym same) h
 
 -- ---- an end: what is written is read
-
-component-end : (u : List ℕ) → begins_component u ≡ true → begins is_mark u ≡ false
-component-end u h = grind (arith, nat_tests)
 
 component-dark : (u : List ℕ) → begins_component u ≡ true → space_len u ≡ 0
 component-dark u h = solid-dark u (component-solid u h)
 
 pub marks-passed : (loose free : Bool) (a u : List ℕ) → AreEndMarks loose free a → begins_component u ≡ true → drop_ends (a ++ u) ≡ u
-marks-passed loose free a u h k = rw h.spelled (ends-read h.characters u h.each (component-end u k) (component-dark u k))
+marks-passed loose free a u h k = rw h.spelled (ends-read h.characters u h.each (grind (arith, nat_tests)) (component-dark u k))
 
 pub marks-whole : (loose free : Bool) (a : List ℕ) → AreEndMarks loose free a → (free || are_whole_marks loose a) ≡ true
 marks-whole loose free a h = grind (arith, nat_tests, common_steps, whole-bytes)

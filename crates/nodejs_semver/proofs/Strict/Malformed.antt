@@ -1,4 +1,5 @@
 -- The malformed words that are ignored are no well-formed ones.
+use Rattle.nodejs_semver.proofs.Common.{take-append-drop}
 use Rattle.nodejs_semver.proofs.Common.{Bool, Id, IsBlank, IsIdentifiers, List, Option, Some, [], above, all_weaker, and-false, and_from}
 use Rattle.nodejs_semver.proofs.Common.{and_parts, ap, append-nil, append_assoc, arith, at_most, begins, below, cases_Bool, common_steps}
 use Rattle.nodejs_semver.proofs.Common.{drop, drop_all, encode_utf8, encode_utf8_all, ends, eqb-true, equal, false, get_or, inl, inr}
@@ -105,33 +106,18 @@ sign-signal signs s (tilde_twice c y z h some k which) =
 pub sign-visible : (signs : List ℕ) (s : Sign) → IsSignText signs s → (signs ≡ []) ⊎ (begins is_visible signs ≡ true)
 sign-visible signs s h = grind (arith, nat_tests, common_steps)
 
--- the characters of a sign up to its first whitespace
-record SignFront (signs : List ℕ) : Type 0 where
-  front : List ℕ
-  rest : List ℕ
-  split : signs ≡ front ++ rest
-  each : list_all is_sign front ≡ true
-  dark : begins is_visible rest ≡ false
-
-sign-front : (signs : List ℕ) → list_all is_signal signs ≡ true → SignFront signs
-sign-front [] h = record { front = []; rest = []; split = refl; each = refl; dark = refl }
-sign-front (b ∷ signs) h =
-    let each = and_parts (is_signal b) (list_all is_signal signs) h in
-    elim (cases_Bool (is_visible b)) [
-      | inr other ↦ record { front = []; rest = b ∷ signs; split = refl; each = refl; dark = other }
-      | inl visible ↦
-          let more = sign-front signs each.1 in
-          record {
-            front = b ∷ more.front;
-            rest = more.rest;
-            split = ap (λ (l : List ℕ). b ∷ l) more.split;
-            each = and_from (is_sign b) (list_all is_sign more.front) (or-left (is_sign b) (is_visible b) each.0 visible) more.each;
-            dark = more.dark;
-          }
-    ]
+-- behind the characters of a sign stands whitespace
+sign-dark : (signs : List ℕ) → list_all is_signal signs ≡ true → begins is_visible (drop (prefix_len is_sign signs) signs) ≡ false
+sign-dark [] h = refl
+sign-dark (b ∷ signs) h = elim (cases_Bool (is_sign b)) [
+  | inr other ↦ rw other (unseen b other (and_parts (is_signal b) (list_all is_signal signs) h).0)
+  | inl passes ↦
+      let e : 1 + prefix_len is_sign signs ≡ suc (prefix_len is_sign signs) = omega arith in
+      rw (passes, e) (sign-dark signs (and_parts (is_signal b) (list_all is_signal signs) h).1)
+]
   where
-    or-left : (a p : Bool) → (a || not p) ≡ true → p ≡ true → a ≡ true
-    or-left a p h k = grind arith
+    unseen : (b : ℕ) → is_sign b ≡ false → is_signal b ≡ true → is_visible b ≡ false
+    unseen b other h = grind arith
 
 pub part-visible : (b : ℕ) → is_part b ≡ true → is_visible b ≡ true
 part-visible b h = grind (arith, nat_tests)
@@ -224,14 +210,8 @@ one-sign b v h = grind (arith, nat_tests, common_steps, and_parts)
 
 -- whitespace that is signs is none
 blank-none : (y : List ℕ) → IsBlank y → list_all is_sign y ≡ true → y ≡ []
-blank-none y h k = go y (blank-dark y h) k
-  where
-    dark-sign : (b : ℕ) → is_dark b ≡ true → is_sign b ≡ true → ⊥
-    dark-sign b h k = grind (arith, nat_tests)
-
-    go : (y : List ℕ) → list_all is_dark y ≡ true → list_all is_sign y ≡ true → y ≡ []
-    go [] h k = refl
-    go (b ∷ y) h k = absurd (dark-sign b (and_parts (is_dark b) (list_all is_dark y) h).0 (and_parts (is_sign b) (list_all is_sign y) k).0)
+blank-none [] h k = refl
+blank-none (b ∷ y) h k = grind (arith, nat_tests, and_parts, blank-dark (b ∷ y) h)
 
 spelling-one : (s : Sign) (v : List ℕ) → list_all is_unsigned v ≡ true → list_all is_unsigned (behind_sign (spelling s ++ v)) ≡ true
 spelling-one s v h = grind (arith, nat_tests, common_steps, one-sign)
@@ -257,12 +237,8 @@ sign-one signs v s (tilde_sign at_least y z b c which) a h =
 sign-one signs v s (tilde_sign equal y z b c which) a h =
     let front = all-front y (61 ∷ z) a in
     rw (blank-none y b front.0, blank-none z c front.1) h
-sign-one signs v s (tilde_sign at_most y z b c (inl e)) a h = cc e
-sign-one signs v s (tilde_sign at_most y z b c (inr (inl e))) a h = cc e
-sign-one signs v s (tilde_sign at_most y z b c (inr (inr e))) a h = cc e
-sign-one signs v s (tilde_sign below y z b c (inl e)) a h = cc e
-sign-one signs v s (tilde_sign below y z b c (inr (inl e))) a h = cc e
-sign-one signs v s (tilde_sign below y z b c (inr (inr e))) a h = cc e
+sign-one signs v s (tilde_sign at_most y z b c which) a h = absurd (grind (arith, which))
+sign-one signs v s (tilde_sign below y z b c which) a h = absurd (grind (arith, which))
 sign-one signs v s (tilde_twice d y z b some c which) a h =
     absurd (omega (arith, some, ap length (blank-none y b (all-front y (spelling (compared d) ++ z) a).0)))
 
@@ -363,18 +339,12 @@ pub word-regular : (loose : Bool) (signs marks x rest : List ℕ) (s : Sign) (p 
     → list_all is_mark marks ≡ true → IsPartial loose x p → begins_component x ≡ true → begins is_visible rest ≡ false
     → begins_malformed ((signs ++ (marks ++ x)) ++ rest) ≡ false
 word-regular loose signs marks x rest s p h m k first dark =
-    let f = sign-front signs (sign-signal signs s h) in
-    go f.front f.rest f.split f.each f.dark
+    let n = prefix_len is_sign signs in
+    go (take n signs) (drop n signs) (sym (take-append-drop n signs)) (prefix-all is_sign signs) (sign-dark signs (sign-signal signs s h))
   where
     some : (front : List ℕ) (b : ℕ) (left : List ℕ) → signs ≡ front ++ b ∷ left → is_visible b ≡ false → 0 < length front
-    some front b left split none = elim (sign-visible signs s h) [
-      | inl empty ↦ absurd (omega (arith, ap length (sym empty ∙ split), length-append front (b ∷ left)))
-      | inr visible ↦ begun front (rw split at visible)
-    ]
-      where
-        begun : (front : List ℕ) → begins is_visible (front ++ b ∷ left) ≡ true → 0 < length front
-        begun [] h = cc (h, none)
-        begun (c ∷ front) h = omega arith
+    some (c ∷ front) b left split none = omega arith
+    some [] b left split none = elim (sign-visible signs s h) [ inl empty ↦ cc (empty, split) | inr visible ↦ cc (none, rw split at visible) ]
 
     go : (front left : List ℕ) → signs ≡ front ++ left → list_all is_sign front ≡ true → begins is_visible left ≡ false
         → begins_malformed ((signs ++ (marks ++ x)) ++ rest) ≡ false

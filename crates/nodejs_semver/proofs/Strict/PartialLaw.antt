@@ -1,4 +1,6 @@
 -- Partial versions of node-semver's range texts: the function that reads them finds exactly what the statement has.
+use Rattle.nodejs_semver.proofs.Strict.Qualifiers.{ends-nil}
+use Rattle.nodejs_semver.proofs.Common.{[]}
 use Rattle.nodejs_semver.proofs.Common.{Bool, Front, Id, List, None, Option, Some, and_parts, ap, append_assoc, arith, begins, bind_some}
 use Rattle.nodejs_semver.proofs.Common.{cases_Bool, common_steps, drop, false, inl, inr, is_ascii_digit, is_boundary, list_all, nat_tests}
 use Rattle.nodejs_semver.proofs.{Common.{pieces, refl, same_Some, subst, sym, true, ℕ, ◌&&◌, ◌++◌, ◌∙◌, ◌∷◌, ◌≡◌}, NpmCommon.IsPartial}
@@ -17,20 +19,12 @@ pub boundary-quiet : (more : List ℕ) → is_boundary more ≡ true → begins 
 unfolding is_boundary
 boundary-quiet more h = grind (arith, nat_tests, common_steps, is_solid, solid-dark)
 
-quiet-on : (more : List ℕ) → begins is_solid more ≡ false → goes_on more ≡ false
-quiet-on more h = grind (arith, nat_tests, common_steps)
-
 quiet-digit : (more : List ℕ) → begins is_solid more ≡ false → begins is_ascii_digit more ≡ false
 quiet-digit more h = grind (arith, nat_tests)
 
-quiet-letter : (more : List ℕ) → begins is_solid more ≡ false → begins_undashed more ≡ false
-quiet-letter more h = grind (arith, nat_tests, common_steps)
-
-quiet-byte : (c : ℕ) (more : List ℕ) → is_solid c ≡ true → begins is_solid more ≡ false → begins_byte c more ≡ false
-quiet-byte c more s h = grind (arith, nat_tests)
-
 quiet-ends : (more : List ℕ) → begins is_solid more ≡ false → Ends more
-quiet-ends more h = grind (arith, nat_tests, common_steps, list_len_stop, quiet-on, quiet-byte, quiet-digit, quiet-letter)
+quiet-ends [] h = ends-nil
+quiet-ends (b ∷ more) h = grind (arith, nat_tests, common_steps, list_len_stop)
 
 quiet-patch : (loose zeros : Bool) (more : List ℕ) → begins is_solid more ≡ false → dotted_patch loose zeros more ≡ None
 unfolding dotted_patch

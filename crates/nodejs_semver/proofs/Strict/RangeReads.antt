@@ -293,9 +293,6 @@ pub record AreReadTo (loose : Bool) (include : Bool) (text : List ℕ) (is_some 
   pub count : length read + length (later_parts rest) ≤ length (parts text)
   pub some : is_some ≡ not (is_empty read)
 
-some-end : (ls : List (List Comparison)) (cs : List Comparison) → true ≡ not (is_empty (ls ++ cs ∷ []))
-some-end ls cs = grind (arith, nat_tests, common_steps)
-
 alternatives-step : (loose : Bool) (include : Bool) (part : List ℕ) (others : List (List ℕ)) → valid_alternatives loose include (part ∷ others)
     ≡ (valid_alternative loose include part >>? λ cs. valid_alternatives loose include others >>? λ rest. Some (kept loose part cs rest))
 unfolding valid_alternatives
@@ -345,7 +342,7 @@ read-part loose include text was is found after rest part behind h e a = go (val
           are = k.1 h.read h.are;
           same = h.same ∙ rw step (joined cs later);
           count = omega (arith, h.count, ap length e, length-append h.read (cs ∷ []));
-          some = k.0 ∙ some-end h.read cs;
+          some = k.0 ∙ grind (arith, nat_tests, common_steps);
         }
 
     go : (o : Option (List Comparison)) → valid_alternative loose include part ≡ o → AddsPart loose include part o was is found after

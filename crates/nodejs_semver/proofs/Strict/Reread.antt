@@ -1,4 +1,5 @@
 -- A text that is a version strictly is a mark, the version as it prints without its build, and the build: so what is printed is read again.
+use Rattle.nodejs_semver.proofs.Strict.Numbers.{digits_printed, number_printed}
 use Rattle.nodejs_semver.proofs.Common.{Bool, Id, IsTrim, IsUtf8, List, MAX_SAFE_INTEGER, VersionValue, [], and_parts, ap, append-nil}
 use Rattle.nodejs_semver.proofs.Common.{arith, cases_Bool, common_steps, decimal, encode_utf8_all, false, get_or, identifier_of, inl, inr}
 use Rattle.nodejs_semver.proofs.Common.{is_ascii_digit, is_identifier, is_identifier_char, length, length-append, list_all, map, nat_tests}
@@ -13,16 +14,6 @@ use Rattle.std.specs.Str.{IsAscii}
 use Rattle.nodejs_semver.specs.Npm.Table as Table
 
 -- ---- numbers and identifiers print as they are written
-
-lead : (ds : List ℕ) → has_leading_zero ds ≡ false → get_or ds 0 0 ≡ 48 → length ds ≡ 1
-lead ds h e = grind (arith, nat_tests, common_steps)
-
-digits_printed : (ds : List ℕ) → list_all is_ascii_digit ds ≡ true → 0 < length ds → has_leading_zero ds ≡ false → digits_value 10 ds < 2 ^ 64
-    → decimal (digits_value 10 ds) ≡ ds
-digits_printed ds each some h small = decimal-digits_value numerals ds each some (lead ds h) small
-
-number_printed : (ds : List ℕ) (n : ℕ) → IsStrictNumber MAX_SAFE_INTEGER ds n → decimal n ≡ ds
-number_printed ds n h = grind (arith, nat_tests, common_steps, digits_printed)
 
 no_zero : (digits zero : Bool) → not (digits && zero) ≡ true → digits ≡ true → zero ≡ false
 no_zero digits zero h e = grind (arith, h, e)

@@ -123,9 +123,6 @@ greater-found text u = elim (cases_Bool (begins_byte 61 text)) [
       })
 ]
 
-to-three : (c : Comparator) → (c ≡ above) ⊎ (c ≡ at_least) → (c ≡ above) ⊎ (c ≡ at_least) ⊎ (c ≡ equal)
-to-three c h = grind (arith, nat_tests, common_steps)
-
 -- `~`, whitespace, and `>` or `>=`
 tilde-greater : (x text : List ℕ) → IsBlank x → IsUtf8 text → SignAt (126 ∷ (x ++ (62 ∷ text))) tilde (skip_greater text)
 tilde-greater x text blank u =
@@ -134,7 +131,7 @@ tilde-greater x text blank u =
     record {
       signs = 126 ∷ (x ++ front);
       split = grind (arith, nat_tests, common_steps);
-      is = tilde_sign g.sign_is x g.blank blank g.is (to-three g.sign_is g.either);
+      is = tilde_sign g.sign_is x g.blank blank g.is (elim g.either [ inl e ↦ inl e | inr e ↦ inr (inl e) ]);
       utf8 = g.utf8;
     }
 

@@ -44,9 +44,6 @@ qualified-found a b c text v h =
           })
     ]
 
-number-along : (limit : ℕ) (digits : List ℕ) (n m : ℕ) → n ≡ m → IsStrictNumber limit digits m → IsStrictNumber limit digits n
-number-along limit digits n m e h = rw e h
-
 pub strict-found-version : (limit : ℕ) (text : List ℕ) (v : VersionValue) → strict_version limit text ≡ Some v → IsStrictVersion limit text v
 unfolding strict_version
 strict-found-version limit text v h =
@@ -67,9 +64,9 @@ strict-found-version limit text v h =
       build = q.build;
       divided = m.1 ∙ ap (λ (t : List ℕ). m.0 ++ t) (cc (major.split, minor.1, patch.1, q.split));
       mark_is = m.2;
-      major_is = number-along limit _ v.major _ q.numbers.0 major.is;
-      minor_is = number-along limit _ v.minor _ q.numbers.1 minor.2;
-      patch_is = number-along limit _ v.patch _ q.numbers.2 patch.2;
+      major_is = subst (λ (n : ℕ). IsStrictNumber limit major.digits n) (sym q.numbers.0) major.is;
+      minor_is = subst (λ (n : ℕ). IsStrictNumber limit minor.0 n) (sym q.numbers.1) minor.2;
+      patch_is = subst (λ (n : ℕ). IsStrictNumber limit patch.0 n) (sym q.numbers.2) patch.2;
       pre_release_is = q.pre_is;
       build_is = q.build_is;
     }

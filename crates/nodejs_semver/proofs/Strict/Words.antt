@@ -192,16 +192,12 @@ pub not-empty : (blank rest : List ℕ) → 0 < length blank → is_empty (blank
 not-empty [] rest some = absurd (omega arith)
 not-empty (b ∷ blank) rest some = refl
 
-nil-boundary : is_boundary [] ≡ true
-unfolding is_boundary
-nil-boundary = refl
-
 pub words-read : (loose : Bool) (include : Bool) (n : ℕ) (text : List ℕ) (cs : List Comparison) → AreWords loose include text cs → length text ≤ n
     → words_within loose include n text ≡ Some cs
-unfolding words_within
+unfolding words_within is_boundary
 words-read loose include zero text cs h le = absurd (omega (arith, le, begins-some is_visible text (words-visible loose include text cs h)))
 words-read loose include (suc n) text cs (last t ds h) le =
-    let read : word_front loose include t ≡ Some (ds, []) = rw (append-nil t) at (word-read loose include t [] ds h nil-boundary) in
+    let read : word_front loose include t ≡ Some (ds, []) = rw (append-nil t) at (word-read loose include t [] ds h refl) in
     rw read refl
 words-read loose include (suc n) text cs (more t blank rest ds es h hb some k) le =
     let here = subst (λ (l : Bool). IsWord loose include l t ds) (sym (not-empty blank rest some)) h in
