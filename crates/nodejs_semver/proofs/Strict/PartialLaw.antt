@@ -91,9 +91,9 @@ pub record PartialAt (loose : Bool) (text : List ℕ) (p : Partial) (rest : List
 third-found : (loose : Bool) (a b : Option ℕ) (x y behind : List ℕ) (o : Front (Option ℕ)) (p : Partial) (rest : List ℕ) → IsPlace loose false x a → IsPlace loose (has_zeros a) y b
     → dotted_patch loose (has_zeros a) behind ≡ o → third_front loose a b behind o ≡ Some (p, rest) → PartialAt loose (x ++ (46 ∷ (y ++ behind))) p rest
 third-found loose a b x y behind None p rest h k e r =
-    let same = same_Some _ _ r in
-    rw (← ap (λ (q : Partial × List ℕ). q.0) same, ← ap (λ (q : Partial × List ℕ). q.1) same)
-    (record { piece = x ++ (46 ∷ y); split = sym (append_assoc x (46 ∷ y) behind); is = two x y a b h k })
+    let is = two x y a b h k in
+    let split = append_assoc x (46 ∷ y) behind in
+    grind (arith, nat_tests, common_steps)
 third-found loose a b x y behind (Some c) p rest h k e r =
     let z = dotted_patch-found loose (has_zeros a) behind c.0 c.1 e in
     let q = qualified-found loose a b c.0 c.1 p rest r in
@@ -106,9 +106,8 @@ third-found loose a b x y behind (Some c) p rest h k e r =
 second-found : (loose : Bool) (a : Option ℕ) (x behind : List ℕ) (o : Front (Option ℕ)) (p : Partial) (rest : List ℕ) → IsPlace loose false x a
     → dotted_place loose (has_zeros a) behind ≡ o → second_front loose a behind o ≡ Some (p, rest) → PartialAt loose (x ++ behind) p rest
 second-found loose a x behind None p rest h e r =
-    let same = same_Some _ _ r in
-    rw (← ap (λ (q : Partial × List ℕ). q.0) same, ← ap (λ (q : Partial × List ℕ). q.1) same)
-    (record { piece = x; split = refl; is = one x a h })
+    let is = one x a h in
+    grind (arith, nat_tests, common_steps)
 second-found loose a x behind (Some b) p rest h e r =
     let y = dotted_place-found loose (has_zeros a) behind b.0 b.1 e in
     rw y.1 (third-found loose a b.0 x y.0 b.1 (dotted_patch loose (has_zeros a) b.1) p rest h y.2 refl r)

@@ -81,9 +81,8 @@ unfolding place_front
 place-found loose zeros [] a rest h = cc h
 place-found loose zeros (c ∷ text) a rest h = elim (cases_Bool (begins_wildcard (c ∷ text))) [
   | inl wild ↦
-      let e = same_Some _ _ (rw wild at h) in
-      rw (← ap (λ (p : Option ℕ × List ℕ). p.0) e, ← ap (λ (p : Option ℕ × List ℕ). p.1) e)
-      (record { piece = c ∷ []; split = refl; is = Text.any c wild })
+      let is : IsPlace loose zeros (c ∷ []) None = Text.any c wild in
+      grind (arith, nat_tests, common_steps)
   | inr dark ↦
       let run = take_while is_ascii_digit (c ∷ text) in
       let behind = drop (prefix_len is_ascii_digit (c ∷ text)) (c ∷ text) in

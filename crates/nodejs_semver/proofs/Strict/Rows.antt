@@ -70,39 +70,24 @@ under_read include n s h e = (rw (under_valid n, h) refl, rw e (under_common inc
 module _ (include : Bool) (text : List ℕ) (a b : Numbers) (r : Option Bounds) where
   pub part_equal : (p : Partial) (d : DeclaredComparator.Comparator) → d ≡ Comparators.Equal → is_part p ≡ true → a ≡ first p → b ≡ next p
       → AreRead include (from include a ∷ (under b ∷ [])) r → AreRead include (table include (compared (comparator_view d)) p text) r
-  part_equal (major M) d g i e f h = rw g (rw (e, f) at h)
-  part_equal (minor M m) d g i e f h = rw g (rw (e, f) at h)
-  part_equal wildcard d g i e f h = cc
-  part_equal (whole v) d g i e f h = cc
+  part_equal p d g i e f h = grind arith
 
   pub part_caret : (p : Partial) → is_part p ≡ true → a ≡ first p → b ≡ next_changed p
       → AreRead include (from include a ∷ (under b ∷ [])) r → AreRead include (table include caret p text) r
-  part_caret (major M) i e f h = rw (e, f) at h
-  part_caret (minor M m) i e f h = rw (e, f) at h
-  part_caret wildcard i e f h = cc
-  part_caret (whole v) i e f h = cc
+  part_caret p i e f h = grind arith
 
   pub part_tilde : (p : Partial) → is_part p ≡ true → a ≡ first p → b ≡ next p
       → AreRead include (from false a ∷ (under b ∷ [])) r → AreRead include (table include tilde p text) r
-  part_tilde (major M) i e f h = rw (e, f) at h
-  part_tilde (minor M m) i e f h = rw (e, f) at h
-  part_tilde wildcard i e f h = cc
-  part_tilde (whole v) i e f h = cc
+  part_tilde p i e f h = grind arith
 
 module _ (include : Bool) (text : List ℕ) (a : Numbers) (r : Option Bounds) where
   pub part_below : (p : Partial) (d : DeclaredComparator.Comparator) → d ≡ Comparators.Below → is_part p ≡ true → a ≡ first p
       → AreRead include (under a ∷ []) r → AreRead include (table include (compared (comparator_view d)) p text) r
-  part_below (major M) d g i e h = rw g (rw e at h)
-  part_below (minor M m) d g i e h = rw g (rw e at h)
-  part_below wildcard d g i e h = cc
-  part_below (whole v) d g i e h = cc
+  part_below p d g i e h = grind arith
 
   pub part_at_most : (p : Partial) (d : DeclaredComparator.Comparator) → d ≡ Comparators.AtMost → is_part p ≡ true → a ≡ next p
       → AreRead include (under a ∷ []) r → AreRead include (table include (compared (comparator_view d)) p text) r
-  part_at_most (major M) d g i e h = rw g (rw e at h)
-  part_at_most (minor M m) d g i e h = rw g (rw e at h)
-  part_at_most wildcard d g i e h = cc
-  part_at_most (whole v) d g i e h = cc
+  part_at_most p d g i e h = grind arith
 
   pub wildcard_above : (d : DeclaredComparator.Comparator) → d ≡ Comparators.Above → AreRead include (under (0, 0, 0) ∷ []) r
       → AreRead include (table include (compared (comparator_view d)) wildcard text) r

@@ -66,12 +66,8 @@ late-found b one two text u is_one is_two is_late =
       | inl mark ↦
           let e = byte-begins 61 text mark in
           let y = blank-at (drop 1 text) (tail-utf8 61 (drop 1 text) (omega arith) (subst (λ (t : List ℕ). IsUtf8 t) e u)) in
-          rw mark (record {
-            signs = b ∷ (61 ∷ y.blank);
-            split = ap (λ (t : List ℕ). b ∷ t) (e ∙ ap (λ (t : List ℕ). 61 ∷ t) y.split);
-            is = is_two y.blank y.is;
-            utf8 = y.utf8;
-          })
+          let is = is_two y.blank y.is in
+          grind (arith, nat_tests, common_steps)
       | inr other ↦ elim (cases_Bool (begins_byte 61 (drop_spaces text))) [
         | inl mark ↦
             let rest = drop_spaces text in
@@ -83,9 +79,7 @@ late-found b one two text u is_one is_two is_late =
               is = is_late x.blank x.is;
               utf8 = tail-utf8 61 (drop 1 rest) (omega arith) (subst (λ (t : List ℕ). IsUtf8 t) e x.utf8);
             })
-        | inr none ↦
-            rw (other, none)
-            (record { signs = b ∷ x.blank; split = ap (λ (t : List ℕ). b ∷ t) x.split; is = is_one x.blank x.is; utf8 = x.utf8 })
+        | inr none ↦ let is = is_one x.blank x.is in grind (arith, nat_tests, common_steps)
       ]
     ]
 
@@ -103,24 +97,12 @@ greater-found text u = elim (cases_Bool (begins_byte 61 text)) [
   | inl mark ↦
       let e = byte-begins 61 text mark in
       let y = blank-at (drop 1 text) (tail-utf8 61 (drop 1 text) (omega arith) (subst (λ (t : List ℕ). IsUtf8 t) e u)) in
-      rw mark (record {
-        sign_is = at_least;
-        either = inr refl;
-        blank = y.blank;
-        is = y.is;
-        split = ap (λ (t : List ℕ). 62 ∷ t) (e ∙ ap (λ (t : List ℕ). 61 ∷ t) y.split);
-        utf8 = y.utf8;
-      })
+      let split = ap (λ (t : List ℕ). 62 ∷ t) (e ∙ ap (λ (t : List ℕ). 61 ∷ t) y.split) in
+      rw mark (record { sign_is = at_least; either = inr refl; blank = y.blank; is = y.is; split = split; utf8 = y.utf8 })
   | inr other ↦
       let y = blank-at text u in
-      rw other (record {
-        sign_is = above;
-        either = inl refl;
-        blank = y.blank;
-        is = y.is;
-        split = ap (λ (t : List ℕ). 62 ∷ t) y.split;
-        utf8 = y.utf8;
-      })
+      let split = ap (λ (t : List ℕ). 62 ∷ t) y.split in
+      rw other (record { sign_is = above; either = inl refl; blank = y.blank; is = y.is; split = split; utf8 = y.utf8 })
 ]
 
 -- `~`, whitespace, and `>` or `>=`

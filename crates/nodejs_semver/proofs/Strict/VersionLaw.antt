@@ -34,14 +34,9 @@ qualified-found a b c text v h =
           let parts = and_parts (is_empty build.1) (is_strict_list front.0) whole in
           let p = dashed-found text parts.1 in
           let q = build-found front.1 in
-          rw (← same_Some _ _ (rw whole at h)) (record {
-            pre = p.0;
-            build = q.0;
-            split = cc (p.1, q.1, empty-is build.1 parts.0, append-nil q.0);
-            pre_is = p.2;
-            build_is = q.2;
-            numbers = (refl, refl, refl);
-          })
+          let none = empty-is build.1 parts.0 in
+          let last = append-nil q.0 in
+          grind (arith, nat_tests, common_steps)
     ]
 
 pub strict-found-version : (limit : ℕ) (text : List ℕ) (v : VersionValue) → strict_version limit text ≡ Some v → IsStrictVersion limit text v

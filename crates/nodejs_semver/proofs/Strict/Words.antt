@@ -117,14 +117,8 @@ signed-found loose include text cs rest u h =
     at_sign.split ∙ ap (λ (t : List ℕ). at_sign.signs ++ t) behind ∙ sym (append_assoc at_sign.signs front p.0.1) in
     let is : IsWord loose include (is_empty p.0.1) (at_sign.signs ++ front) (table include s.0 p.0.0 whole_text) =
     rw front_is (word at_sign.signs marks part.piece s.0 p.0.0 at_sign.is tests.0 (unsigned text at_sign.signs n at_sign.split) part.is) in
-    let read : WordAt loose include text (table include s.0 p.0.0 whole_text) p.0.1 = record {
-      piece = at_sign.signs ++ front;
-      split = split;
-      is = is;
-      ended = tests.1;
-      utf8 = rest-utf8 front p.0.1 (subst (λ (t : List ℕ). IsUtf8 t) behind at_sign.utf8) tests.1;
-    } in
-    subst (λ (q : List Comparison × List ℕ). WordAt loose include text q.0 q.1) same read
+    let utf8 = rest-utf8 front p.0.1 (subst (λ (t : List ℕ). IsUtf8 t) behind at_sign.utf8) tests.1 in
+    grind (arith, nat_tests, common_steps)
 
 ignored-found : (loose : Bool) (include : Bool) (text : List ℕ) (w : Signed × List ℕ) → IsUtf8 text → ignored_front loose text ≡ Some w
     → WordAt loose include text (table include w.0.0 w.0.1 w.0.2) w.1
@@ -138,14 +132,9 @@ ignored-found loose include text w u h =
     let tests = and_parts loose (begins_malformed text && is_boundary rest) t.0 in
     let both = and_parts (begins_malformed text) (is_boundary rest) tests.1 in
     let split : text ≡ run ++ rest = sym (take-append-drop n text) in
-    let found : WordAt loose include text [] rest = record {
-      piece = run;
-      split = split;
-      is = ignored run tests.0 both.0;
-      ended = both.1;
-      utf8 = rest-utf8 run rest (subst (λ (t : List ℕ). IsUtf8 t) split u) both.1;
-    } in
-    subst (λ (x : Signed × List ℕ). WordAt loose include text (table include x.0.0 x.0.1 x.0.2) x.1) t.1 found
+    let is : IsWord loose include (is_empty rest) run [] = ignored run tests.0 both.0 in
+    let utf8 = rest-utf8 run rest (subst (λ (t : List ℕ). IsUtf8 t) split u) both.1 in
+    grind (arith, nat_tests, common_steps)
 
 pub word-found : (loose : Bool) (include : Bool) (text : List ℕ) (cs : List Comparison) (rest : List ℕ) → IsUtf8 text
     → word_front loose include text ≡ Some (cs, rest) → WordAt loose include text cs rest
