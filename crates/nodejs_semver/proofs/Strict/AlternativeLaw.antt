@@ -129,10 +129,7 @@ ends-after (suc n) (b ∷ rest) = ends-after n rest
 ends-after zero (b ∷ rest) = go (λ n. ends-after n rest) (space_len (b ∷ rest)) refl
   where
     no-mark : (n : ℕ) → space_len (b ∷ rest) ≡ suc n → is_mark b ≡ false
-    no-mark n e = elim (cases_Bool (is_mark b)) [
-      | inl mark ↦ absurd (omega (arith, e, mark-dark b rest mark))
-      | inr other ↦ other
-    ]
+    no-mark n e = grind (arith, nat_tests, mark-dark)
 
     go : ((n : ℕ) → drop_ends (after_spaces n rest) ≡ after_ends n rest) → (n : ℕ) → space_len (b ∷ rest) ≡ n
         → drop_ends (after_spaces 0 (b ∷ rest)) ≡ after_ends 0 (b ∷ rest)
@@ -228,9 +225,8 @@ alternative-found loose include (b ∷ text) cs u h =
     let found = words_within loose include (length (b ∷ text)) (b ∷ text) in
     elim (option-cases found) [
       | inr some ↦
-          let is : IsAlternative loose include (b ∷ text) some.0 =
-          words (b ∷ text) some.0 (words-found loose include (length (b ∷ text)) (b ∷ text) some.0 u some.1) in
-          subst (λ (l : List Comparison). IsAlternative loose include (b ∷ text) l) (same_Some _ _ (rw some.1 at h)) is
+          let is = words (b ∷ text) some.0 (words-found loose include (length (b ∷ text)) (b ∷ text) some.0 u some.1) in
+          grind (arith, nat_tests, common_steps, same_Some)
       | inl none ↦ grind (arith, nat_tests, common_steps, same_Some, hyphen-found)
     ]
 
@@ -254,9 +250,8 @@ each-found loose include (piece ∷ others) ls u h =
     let rest = bind_some (alternatives_of loose include (map trim others)) (λ rest. Some (kept loose (trim piece) cs.0 rest)) ls cs.2 in
     let is_trim = trim_is_middle piece u.0 in
     let is = alternative-found loose include (trim piece) cs.0 (trim-utf8 piece (trim piece) u.0 is_trim) cs.1 in
-    let found : AreAlternatives loose include (piece ∷ others) (kept loose (trim piece) cs.0 rest.0) =
-    next piece (trim piece) others cs.0 rest.0 is_trim is (each-found loose include others rest.0 u.1 rest.1) in
-    subst (λ (l : List (List Comparison)). AreAlternatives loose include (piece ∷ others) l) (same_Some _ _ rest.2) found
+    let found = next piece (trim piece) others cs.0 rest.0 is_trim is (each-found loose include others rest.0 u.1 rest.1) in
+    grind (arith, nat_tests, common_steps)
 
 -- a text has the alternatives that are read, if they are valid
 pub alternatives_are : (loose : Bool) (limit : ℕ) (include : Bool) (text : List ℕ) (ls : List (List Comparison)) → IsUtf8 text

@@ -97,12 +97,7 @@ ends-from (c ∷ cs) text u e =
       | inl passed ↦
           let step : drop_ends text ≡ drop_ends rest = ap drop_ends (sym e) ∙ ends-char c rest passed in
           let r = ends-from cs rest (IsUtf8-past_char text rest c u (sym e)) refl in
-          record {
-            characters = c ∷ r.characters;
-            each = rw passed r.each;
-            split = grind (arith, nat_tests, common_steps);
-            utf8 = rw step r.utf8;
-          }
+          record { characters = c ∷ r.characters; each = rw passed r.each; split = grind (arith, nat_tests, common_steps); utf8 = rw step r.utf8 }
     ]
 
 pub ends-found : (text : List ℕ) → IsUtf8 text → EndsAt text
@@ -221,16 +216,9 @@ dash-found text second u h =
     let x = blank-at text u in
     let gap_utf8 = tail-utf8 45 g.0 (omega arith) (subst (λ (t : List ℕ). IsUtf8 t) (first.1 ∙ dash) x.utf8) in
     let y = blank-at g.0 gap_utf8 in
-    record {
-      blank = x.blank;
-      gap = y.blank;
-      split = grind (arith, nat_tests, common_steps);
-      blank_is = x.is;
-      gap_is = y.is;
-      some = blank-some text x.blank x.split first.0;
-      more = blank-some g.0 y.blank y.split last.0;
-      utf8 = subst (λ (t : List ℕ). IsUtf8 t) last.1 y.utf8;
-    }
+    let some = blank-some text x.blank x.split first.0 in
+    let more = blank-some g.0 y.blank y.split last.0 in
+    grind (arith, nat_tests, common_steps)
 
 -- ---- hyphen ranges
 
@@ -253,8 +241,7 @@ hyphen-found loose include text e u h =
     let dash = dash-found a.0.1 second.0 v second.1 in
     let upper = end-found loose free second.0 l.0 dash.utf8 l.1 in
     let none = empty-is l.0.1 ended.0 in
-    let last : second.0 ≡ upper.marks ++ upper.piece =
-    upper.split ∙ ap (λ (t : List ℕ). upper.marks ++ (upper.piece ++ t)) none ∙ ap (λ (t : List ℕ). upper.marks ++ t) (append-nil upper.piece) in
+    let last = append-nil upper.piece in
     let is = hyphen lower.marks lower.piece dash.blank dash.gap upper.marks upper.piece a.0.0.0 l.0.0.0 lower.are lower.is dash.blank_is
     dash.some dash.gap_is dash.more upper.are upper.is in
     grind (arith, nat_tests, common_steps)

@@ -97,11 +97,8 @@ third-found loose a b x y behind None p rest h k e r =
 third-found loose a b x y behind (Some c) p rest h k e r =
     let z = dotted_patch-found loose (has_zeros a) behind c.0 c.1 e in
     let q = qualified-found loose a b c.0 c.1 p rest r in
-    let whole : x ++ (46 ∷ (y ++ behind)) ≡ (x ++ 46 ∷ (y ++ 46 ∷ (z.0 ++ (q.pre ++ q.build)))) ++ rest =
-    ap (λ (t : List ℕ). x ++ (46 ∷ (y ++ t))) (z.1 ∙ ap (λ (t : List ℕ). 46 ∷ (z.0 ++ t)) q.split) ∙ simp append_assoc refl in
-    let piece = x ++ 46 ∷ (y ++ 46 ∷ (z.0 ++ (q.pre ++ q.build))) in
     let is = three x y z.0 q.pre q.build a b c.0 q.ids q.builds h k z.2 q.pre_is q.pre_short q.build_is q.build_short in
-    record { piece = piece; split = whole; is = subst (λ (o : Partial). IsPartial loose piece o) q.same is }
+    grind (arith, nat_tests, common_steps, append_assoc)
 
 second-found : (loose : Bool) (a : Option ℕ) (x behind : List ℕ) (o : Front (Option ℕ)) (p : Partial) (rest : List ℕ) → IsPlace loose false x a
     → dotted_place loose (has_zeros a) behind ≡ o → second_front loose a behind o ≡ Some (p, rest) → PartialAt loose (x ++ behind) p rest

@@ -224,10 +224,7 @@ bare-taken t rest list f h s stop =
   where
     stopped : (rest : List ℕ) → list_len rest ≡ 0 → begins_identifier rest ≡ false
     stopped [] e = refl
-    stopped (b ∷ rest) e = elim (cases_Bool (is_identifier_char b)) [
-      | inr other ↦ other
-      | inl some ↦ grind (arith, nat_tests, common_steps)
-    ]
+    stopped (b ∷ rest) e = grind (arith, nat_tests, common_steps)
 
 -- the text is the pre-release and this rest, and the identifiers are spelled as they have to be
 pub pre-taken : (loose : Bool) (p b more : List ℕ) (l m : List Id) → IsPreRelease loose p l → IsStrictBuild b m → Ends more

@@ -249,10 +249,6 @@ flat-append : (os : List (Option (Span VersionValue))) (o : Option (Span Version
     → flat_map option_to_list (os ++ o ∷ []) ≡ flat_map option_to_list os ++ option_to_list o
 flat-append os o = grind (arith, nat_tests, common_steps)
 
-same-end : (loose : Bool) (text : List ℕ) (a : Alternative) (cs : List Comparison) → a.is_bare ≡ is_empty cs
-    → (loose && (a.is_bare && (begins_malformed text && ends_malformed text))) ≡ is_lost loose text cs
-same-end loose text a cs e = rw e refl
-
 -- one part more, which is lost or not
 pub part-lost : (loose : Bool) (include : Bool) (text : List ℕ) (a : Alternative) (was : Bool) (before : List (Span VersionValue))
     → IsFound include (valid_alternative loose include text) (Some a)
@@ -270,7 +266,7 @@ part-added loose include text a was before after h l e = go (valid_alternative l
     go : (o : Option (List Comparison)) → IsFound include o (Some a) → AddsPart loose include text o was true before after
     go None k = absurd k
     go (Some cs) k =
-        let regular : is_lost loose text cs ≡ false = sym (same-end loose text a cs k.1) ∙ l in
+        let regular : is_lost loose text cs ≡ false = rw k.1 at l in
         rw regular (
           refl,
           λ ls l. record {
@@ -319,8 +315,7 @@ read-part loose include text was is found after rest part behind h e a = go (val
     joined cs (Some ls) = ap (λ (l : List (List Comparison)). Some l) (sym (append_assoc h.read (cs ∷ []) ls))
 
     whole : (o : Option (List (List Comparison))) → (o >>? λ ls. Some ls) ≡ o
-    whole None = refl
-    whole (Some ls) = refl
+    whole o = grind arith
 
     one : (cs : List Comparison) (l : Bool) → is_lost loose part cs ≡ l → valid_alternative loose include part ≡ Some cs
         → AddsOne include l cs was is found after → AreReadTo loose include text is after behind
@@ -402,14 +397,8 @@ all-valid loose include (text ∷ texts) = go (all-valid loose include texts) (a
         ≡ ((o >>? λ rest. Some (kept loose text cs rest)) >>? λ ls. if list_all (list_all (is_valid MAX_SAFE_INTEGER)) ls then Some ls else None)
     behind cs None h = refl
     behind cs (Some ls) h = elim (cases_Bool (list_all (list_all (is_valid MAX_SAFE_INTEGER)) ls)) [
-      | inl good ↦ elim (cases_Bool (is_lost loose text cs)) [
-        | inl lost ↦ rw (lost, good) refl
-        | inr regular ↦ rw (regular, h, good) refl
-      ]
-      | inr bad ↦ elim (cases_Bool (is_lost loose text cs)) [
-        | inl lost ↦ rw (lost, bad) refl
-        | inr regular ↦ rw (regular, h, bad) refl
-      ]
+      | inl good ↦ elim (cases_Bool (is_lost loose text cs)) [ inl lost ↦ rw (lost, good) refl | inr regular ↦ rw (regular, h, good) refl ]
+      | inr bad ↦ elim (cases_Bool (is_lost loose text cs)) [ inl lost ↦ rw (lost, bad) refl | inr regular ↦ rw (regular, h, bad) refl ]
     ]
 
     invalid : (cs : List Comparison) (o : Option (List (List Comparison))) → list_all (is_valid MAX_SAFE_INTEGER) cs ≡ false

@@ -46,13 +46,8 @@ equal-found b x text s blank u bare more = elim (cases_Bool (begins_byte 61 text
   | inl mark ↦
       let e = byte-begins 61 text mark in
       let y = blank-at (drop 1 text) (tail-utf8 61 (drop 1 text) (omega arith) (subst (λ (t : List ℕ). IsUtf8 t) e u)) in
-      let whole : text ≡ (61 ∷ y.blank) ++ drop_spaces (drop 1 text) = e ∙ ap (λ (t : List ℕ). 61 ∷ t) y.split in
-      rw mark (record {
-        signs = b ∷ (x ++ 61 ∷ y.blank);
-        split = ap (λ (t : List ℕ). b ∷ (x ++ t)) whole ∙ ap (λ (t : List ℕ). b ∷ t) (sym (append_assoc x (61 ∷ y.blank) _));
-        is = more y.blank y.is;
-        utf8 = y.utf8;
-      })
+      let is = more y.blank y.is in
+      grind (arith, nat_tests, common_steps, append_assoc)
 ]
 
 -- `>` or `<`, behind which `=` may stand, also late
@@ -72,13 +67,9 @@ late-found b one two text u is_one is_two is_late =
         | inl mark ↦
             let rest = drop_spaces text in
             let e = byte-begins 61 rest mark in
-            let whole = x.split ∙ ap (λ (t : List ℕ). x.blank ++ t) e ∙ sym (append_assoc x.blank (61 ∷ []) (drop 1 rest)) in
-            rw (other, mark) (record {
-              signs = b ∷ (x.blank ++ 61 ∷ []);
-              split = ap (λ (t : List ℕ). b ∷ t) whole;
-              is = is_late x.blank x.is;
-              utf8 = tail-utf8 61 (drop 1 rest) (omega arith) (subst (λ (t : List ℕ). IsUtf8 t) e x.utf8);
-            })
+            let is = is_late x.blank x.is in
+            let utf8 = tail-utf8 61 (drop 1 rest) (omega arith) (subst (λ (t : List ℕ). IsUtf8 t) e x.utf8) in
+            grind (arith, nat_tests, common_steps, append_assoc)
         | inr none ↦ let is = is_one x.blank x.is in grind (arith, nat_tests, common_steps)
       ]
     ]
@@ -109,13 +100,9 @@ greater-found text u = elim (cases_Bool (begins_byte 61 text)) [
 tilde-greater : (x text : List ℕ) → IsBlank x → IsUtf8 text → SignAt (126 ∷ (x ++ (62 ∷ text))) tilde (skip_greater text)
 tilde-greater x text blank u =
     let g = greater-found text u in
-    let front = spelling (compared g.sign_is) ++ g.blank in
-    record {
-      signs = 126 ∷ (x ++ front);
-      split = grind (arith, nat_tests, common_steps);
-      is = tilde_sign g.sign_is x g.blank blank g.is (elim g.either [ inl e ↦ inl e | inr e ↦ inr (inl e) ]);
-      utf8 = g.utf8;
-    }
+    let which = elim g.either as (λ _. (g.sign_is ≡ above) ⊎ (g.sign_is ≡ at_least) ⊎ (g.sign_is ≡ equal)) [ inl e ↦ inl e | inr e ↦ inr (inl e) ] in
+    let is = tilde_sign g.sign_is x g.blank blank g.is which in
+    grind (arith, nat_tests, common_steps, append_assoc)
 
 some-blank : (text x rest : List ℕ) → nat_lt 0 (space_len text) ≡ true → text ≡ x ++ (62 ∷ rest) → 0 < length x
 unfolding space_len
@@ -132,13 +119,8 @@ twice-found text u = elim (cases_Bool (nat_lt 0 (space_len text) && begins_byte 
       let behind = drop 1 (drop_spaces text) in
       let whole = x.split ∙ ap (λ (t : List ℕ). x.blank ++ t) e in
       let g = greater-found behind (tail-utf8 62 behind (omega arith) (subst (λ (t : List ℕ). IsUtf8 t) e x.utf8)) in
-      let front = spelling (compared g.sign_is) ++ g.blank in
-      rw more (record {
-        signs = 126 ∷ (62 ∷ (x.blank ++ front));
-        split = grind (arith, nat_tests, common_steps);
-        is = tilde_twice g.sign_is x.blank g.blank x.is (some-blank text x.blank behind parts.0 whole) g.is g.either;
-        utf8 = g.utf8;
-      })
+      let is = tilde_twice g.sign_is x.blank g.blank x.is (some-blank text x.blank behind parts.0 whole) g.is g.either in
+      grind (arith, nat_tests, common_steps, append_assoc)
 ]
 
 tilde-found : (text : List ℕ) → IsUtf8 text → SignAt (126 ∷ text) tilde (skip_tilde text (drop_spaces text))

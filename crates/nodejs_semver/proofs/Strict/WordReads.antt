@@ -69,9 +69,7 @@ no-boundary loose text at ends e h k =
   where
     no-ending : (a b : Bool) (rest : List ℕ)
         → ◌≡◌ {A = Front Signed} (if a && (b && false) then Some ((compared equal, wildcard, []), rest) else None) None
-    no-ending true true rest = refl
-    no-ending true false rest = refl
-    no-ending false b rest = refl
+    no-ending a b rest = grind arith
 
 pub ignored-here : (loose : Bool) (text : List ℕ) (at : ℕ) (ends : Bool) → loose ≡ true → begins_malformed text ≡ true
     → at ≡ prefix_len is_visible text → ends ≡ is_boundary (take (length text - at) (drop at text)) → ends ≡ true

@@ -113,8 +113,7 @@ signed-found loose include text cs rest u h =
     let front_is : whole_text ≡ front = ap (λ (t : List ℕ). take (length t - length p.0.1) t) behind ∙ front-text front p.0.1 in
     let same : ◌≡◌ {A = List Comparison × List ℕ} (table include s.0 p.0.0 whole_text, p.0.1) (cs, rest) =
     ap (λ (x : Signed × List ℕ). (table include x.0.0 x.0.1 x.0.2, x.1)) t.1 ∙ same_Some _ _ w.2 in
-    let split : text ≡ (at_sign.signs ++ front) ++ p.0.1 =
-    at_sign.split ∙ ap (λ (t : List ℕ). at_sign.signs ++ t) behind ∙ sym (append_assoc at_sign.signs front p.0.1) in
+    let whole = append_assoc at_sign.signs front p.0.1 in
     let is : IsWord loose include (is_empty p.0.1) (at_sign.signs ++ front) (table include s.0 p.0.0 whole_text) =
     rw front_is (word at_sign.signs marks part.piece s.0 p.0.0 at_sign.is tests.0 (unsigned text at_sign.signs n at_sign.split) part.is) in
     let utf8 = rest-utf8 front p.0.1 (subst (λ (t : List ℕ). IsUtf8 t) behind at_sign.utf8) tests.1 in
@@ -212,21 +211,14 @@ words-found loose include (suc n) text cs u h =
     let at_word = word-found loose include text w.0.0 w.0.1 u w.1 in
     elim (cases_Bool (is_empty w.0.1)) [
       | inl ended ↦
-          let e : text ≡ at_word.piece = at_word.split ∙ ap (λ (t : List ℕ). at_word.piece ++ t) (empty-is w.0.1 ended)
-          ∙ append-nil at_word.piece in
-          let is : AreWords loose include at_word.piece w.0.0 = last at_word.piece w.0.0
-          (subst (λ (l : Bool). IsWord loose include l at_word.piece w.0.0) ended at_word.is) in
-          let same : w.0.0 ≡ cs = same_Some _ _ (rw ended at w.2) in
-          subst (λ (ds : List Comparison). AreWords loose include text ds) same
-          (subst (λ (t : List ℕ). AreWords loose include t w.0.0) (sym e) is)
+          let is = last at_word.piece w.0.0 (subst (λ (l : Bool). IsWord loose include l at_word.piece w.0.0) ended at_word.is) in
+          grind (arith, nat_tests, common_steps, empty-is, append-nil)
       | inr goes ↦
           let rest = drop_spaces w.0.1 in
           let d = bind_some (words_within loose include n rest) (λ ds. Some (w.0.0 ++ ds)) cs (rw goes at w.2) in
           let x = blank-at w.0.1 at_word.utf8 in
           let some = blank-some w.0.1 x.blank x.split (some-space w.0.1 at_word.ended goes) in
-          let e : text ≡ at_word.piece ++ (x.blank ++ rest) = at_word.split ∙ ap (λ (t : List ℕ). at_word.piece ++ t) x.split in
           let here = subst (λ (l : Bool). IsWord loose include l at_word.piece w.0.0) goes at_word.is in
           let is = more at_word.piece x.blank rest w.0.0 d.0 here x.is some (words-found loose include n rest d.0 x.utf8 d.1) in
-          subst (λ (ds : List Comparison). AreWords loose include text ds) (same_Some _ _ d.2)
-          (subst (λ (t : List ℕ). AreWords loose include t (w.0.0 ++ d.0)) (sym e) is)
+          grind (arith, nat_tests, common_steps)
     ]

@@ -5,15 +5,13 @@ use Rattle.nodejs_semver.proofs.npm.ranges.add_part.Goals as goal
 
 pub returns-then-is_lost-clause-added : goal.returns-then-is_lost-clause-added
 returns-then-is_lost-clause-added c =
-    let h = subst (λ (t : List ℕ). IsFound c.args.include (valid_alternative c.args.loose c.args.include t) (Some c.in-Some.read)) c.as_bytes.ensures.value
-    c.in-Some.ensures in
+    let h = rw c.as_bytes.ensures.value at c.in-Some.ensures in
     part-lost c.args.loose c.args.include c.args.text.now c.in-Some.read c.args.is_some c.args.found.now.items h (grind arith)
 
 pub returns-in_ok-add-clause-added : goal.returns-in_ok-add-clause-added
 returns-in_ok-add-clause-added c =
     let old = c.args.found.now.items in
-    let h = subst (λ (t : List ℕ). IsFound c.args.include (valid_alternative c.args.loose c.args.include t) (Some c.in-Some.read)) c.as_bytes.ensures.value
-    c.in-Some.ensures in
+    let h = rw c.as_bytes.ensures.value at c.in-Some.ensures in
     let some : Some c.in-Some-interval.interval ≡ c.in-Some.read.interval = sym c.in-Some-interval.is ∙ c.interval.ensures in
     part-added c.args.loose c.args.include c.args.text.now c.in-Some.read c.args.is_some old c.add.new.self.items h (grind arith)
     (c.in_ok-add.ensures.added ∙ ap (λ (o : Option (Span VersionValue)). old ++ option_to_list o) some)
@@ -21,8 +19,7 @@ returns-in_ok-add-clause-added c =
 pub returns-in_default-interval-clause-added : goal.returns-in_default-interval-clause-added
 returns-in_default-interval-clause-added c =
     let old = c.args.found.now.items in
-    let h = subst (λ (t : List ℕ). IsFound c.args.include (valid_alternative c.args.loose c.args.include t) (Some c.in-Some.read)) c.as_bytes.ensures.value
-    c.in-Some.ensures in
+    let h = rw c.as_bytes.ensures.value at c.in-Some.ensures in
     let none : None ≡ c.in-Some.read.interval = sym c.in_default-interval.is ∙ c.interval.ensures in
     part-added c.args.loose c.args.include c.args.text.now c.in-Some.read c.args.is_some old old h (grind arith)
     (sym (append-nil old) ∙ ap (λ (o : Option (Span VersionValue)). old ++ option_to_list o) none)
