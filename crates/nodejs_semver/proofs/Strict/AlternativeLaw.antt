@@ -84,10 +84,7 @@ component-first (b ∷ u) h = grind (arith, nat_tests)
 -- a word begins with no such `-`, and what is behind it decides
 word-first : (loose : Bool) (include : Bool) (w v : List ℕ) (cs : List Comparison) → IsWord loose include (is_empty v) w cs
     → (apart (w ++ v) ≡ apart v) × (lone (w ++ v) ≡ false)
-word-first loose include w v cs (ignored x l h) = (
-  tight-passed x v (malformed-all (is_empty v) x h),
-  no-dash x v h,
-)
+word-first loose include w v cs (ignored x l h) = (tight-passed x v (malformed-all (is_empty v) x h), no-dash x v h)
   where
     no-dash : (x v : List ℕ) → is_malformed (is_empty v) x ≡ true → lone (x ++ v) ≡ false
     no-dash [] v h = cc h

@@ -176,12 +176,10 @@ end-found loose free text e u h =
     let part = partial-found loose behind p.0.0 p.0.1 p.1 in
     let whole : text ≡ marks ++ (part.piece ++ p.0.1) = ends.split ∙ ap (λ (t : List ℕ). marks ++ t) part.split in
     let front_is : front ≡ marks = ap (λ (t : List ℕ). take (length t - length behind) t) ends.split ∙ front-text marks behind in
-    let taken_is : taken ≡ marks ++ part.piece =
-    ap (λ (t : List ℕ). take (length t - length p.0.1) t) (whole ∙ sym (append_assoc marks part.piece p.0.1))
-    ∙ front-text (marks ++ part.piece) p.0.1 in
+    let taken_is = front-text (marks ++ part.piece) p.0.1 in
     let written : (free p.0.0 || are_whole_marks loose ends.characters) ≡ true =
     characters-whole (free p.0.0) ends.characters (subst (λ (x : List ℕ). (free p.0.0 || are_whole_marks loose x) ≡ true) front_is t.0) in
-    grind (arith, nat_tests, common_steps)
+    grind (arith, nat_tests, common_steps, append_assoc)
   where
     characters-whole : (free : Bool) (cs : List ℕ) → (free || are_whole_marks loose (encode_utf8_all cs)) ≡ true
         → (free || are_whole_marks loose cs) ≡ true

@@ -45,11 +45,8 @@ pub one_open : (include : Bool) (cs : List Comparison) (o : Option (Span Version
     → list_any is_unbounded (option_to_list o) ≡ not (list_any (counts include) cs)
 one_open include cs None h = elim (cases_Bool (list_any (counts include) cs)) [
   | inl e ↦ rw e refl
-  | inr e ↦ absurd (differ (sym (ap (λ l. list_all (satisfies zero) l) (uncounted include cs e)) ∙ h zero))
+  | inr e ↦ cc (ap (λ l. list_all (satisfies zero) l) (uncounted include cs e), h zero)
 ]
-  where
-    differ : true ≡ false → ⊥
-    differ e = cc
 one_open include cs (Some s) h = grind (arith, h.0.unbounded)
 
 all_accept : (include : Bool) (v : VersionValue) (alternatives : List (List Comparison)) (os : List (Option (Span VersionValue)))

@@ -15,12 +15,9 @@ use Rattle.nodejs_semver.specs.Npm.Table as Table
 
 -- ---- numbers and identifiers print as they are written
 
-no_zero : (digits zero : Bool) → not (digits && zero) ≡ true → digits ≡ true → zero ≡ false
-no_zero digits zero h e = grind (arith, h, e)
-
 id_printed : (piece : List ℕ) → is_identifier piece ≡ true → is_strict_identifier piece ≡ true → id_text (identifier_of piece) ≡ piece
 id_printed piece run strict = elim (cases_Bool (is_u64_text piece)) [
-  | inl number ↦ grind (arith, nat_tests, common_steps, and_parts, digits_printed, no_zero)
+  | inl number ↦ grind (arith, nat_tests, common_steps, and_parts, digits_printed)
   | inr text ↦ rw text refl
 ]
 

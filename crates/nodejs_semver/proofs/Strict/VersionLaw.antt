@@ -50,21 +50,8 @@ strict-found-version limit text v h =
     let patch = dotted-found limit b.0.1 c.0.0 c.0.1 c.1 in
     let q = qualified-found a.0.0 b.0.0 c.0.0 c.0.1 v c.2 in
     let m = marked text in
-    record {
-      mark = m.0;
-      major = major.digits;
-      minor = minor.0;
-      patch = patch.0;
-      pre_release = q.pre;
-      build = q.build;
-      divided = m.1 ∙ ap (λ (t : List ℕ). m.0 ++ t) (cc (major.split, minor.1, patch.1, q.split));
-      mark_is = m.2;
-      major_is = subst (λ (n : ℕ). IsStrictNumber limit major.digits n) (sym q.numbers.0) major.is;
-      minor_is = subst (λ (n : ℕ). IsStrictNumber limit minor.0 n) (sym q.numbers.1) minor.2;
-      patch_is = subst (λ (n : ℕ). IsStrictNumber limit patch.0 n) (sym q.numbers.2) patch.2;
-      pre_release_is = q.pre_is;
-      build_is = q.build_is;
-    }
+    let behind : drop_v text ≡ major.digits ++ 46 ∷ (minor.0 ++ 46 ∷ (patch.0 ++ (q.pre ++ q.build))) = cc (major.split, minor.1, patch.1, q.split) in
+    grind (arith, nat_tests, common_steps)
   where
     marked : (t : List ℕ) → (mark : List ℕ) × (t ≡ mark ++ drop_v t) × ((mark ≡ []) ⊎ (mark ≡ 118 ∷ []))
     marked [] = ([], refl, inl refl)

@@ -26,14 +26,8 @@ pub word-shorter : (loose : Bool) (include : Bool) (text : List ℕ) (w : Signed
 word-shorter loose include text w u h =
     let x = word-at loose include text w u h in
     let b = blank-at w.1 x.utf8 in
-    omega (
-      arith,
-      ap length x.split,
-      length-append x.piece w.1,
-      ap length b.split,
-      length-append b.blank (drop_spaces w.1),
-      begins-some is_visible x.piece (word-visible loose include (is_empty w.1) x.piece (row_of include w.0) x.is),
-    )
+    let some = begins-some is_visible x.piece (word-visible loose include (is_empty w.1) x.piece (row_of include w.0) x.is) in
+    omega (arith, ap length x.split, length-append x.piece w.1, ap length b.split, length-append b.blank (drop_spaces w.1), some)
 
 pub left-utf8 : (loose : Bool) (include : Bool) (text : List ℕ) (w : Signed × List ℕ) → IsUtf8 text → word_at_front loose text ≡ Some w → IsUtf8 (drop_spaces w.1)
 left-utf8 loose include text w u h = (blank-at w.1 (word-at loose include text w u h).utf8).utf8

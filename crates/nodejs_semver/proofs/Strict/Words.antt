@@ -111,13 +111,11 @@ signed-found loose include text cs rest u h =
     let behind : s.1 ≡ front ++ p.0.1 =
     sym (take-append-drop n s.1) ∙ ap (λ (t : List ℕ). marks ++ t) part.split ∙ sym (append_assoc marks part.piece p.0.1) in
     let front_is : whole_text ≡ front = ap (λ (t : List ℕ). take (length t - length p.0.1) t) behind ∙ front-text front p.0.1 in
-    let same : ◌≡◌ {A = List Comparison × List ℕ} (table include s.0 p.0.0 whole_text, p.0.1) (cs, rest) =
-    ap (λ (x : Signed × List ℕ). (table include x.0.0 x.0.1 x.0.2, x.1)) t.1 ∙ same_Some _ _ w.2 in
     let whole = append_assoc at_sign.signs front p.0.1 in
     let is : IsWord loose include (is_empty p.0.1) (at_sign.signs ++ front) (table include s.0 p.0.0 whole_text) =
     rw front_is (word at_sign.signs marks part.piece s.0 p.0.0 at_sign.is tests.0 (unsigned text at_sign.signs n at_sign.split) part.is) in
     let utf8 = rest-utf8 front p.0.1 (subst (λ (t : List ℕ). IsUtf8 t) behind at_sign.utf8) tests.1 in
-    grind (arith, nat_tests, common_steps)
+    grind (arith, nat_tests, common_steps, same_Some)
 
 ignored-found : (loose : Bool) (include : Bool) (text : List ℕ) (w : Signed × List ℕ) → IsUtf8 text → ignored_front loose text ≡ Some w
     → WordAt loose include text (table include w.0.0 w.0.1 w.0.2) w.1

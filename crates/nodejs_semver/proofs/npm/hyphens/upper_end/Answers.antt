@@ -7,12 +7,8 @@ ended_end-requires-clause-behind c = omega (arith, ap length c.skip_marks-behind
 
 pub ended_end-requires-clause-rest : goal.ended_end-requires-clause-rest
 ended_end-requires-clause-rest c =
-    omega (
-      arith,
-      partial-le c.args.loose MAX_SAFE_INTEGER c.skip_marks-behind.result.now (npm_partial_view c.in-Some.read.0) c.in-Some.read.1.now c.in-Some.ensures,
-      ap length c.skip_marks-behind.ensures,
-      ends_le c.args.text.now,
-    )
+    let le = partial-le c.args.loose MAX_SAFE_INTEGER c.skip_marks-behind.result.now (npm_partial_view c.in-Some.read.0) c.in-Some.read.1.now c.in-Some.ensures in
+    omega (arith, le, ap length c.skip_marks-behind.ensures, ends_le c.args.text.now)
 
 pub returns-in-Some : goal.returns-in-Some
 returns-in-Some c =
