@@ -1,21 +1,18 @@
 -- Hyphen ranges of node-semver's range texts: the functions that read them find exactly what the statement has.
-use Rattle.nodejs_semver.proofs.NpmCommon.{chars_from_encodes}
-use Rattle.std.proofs.lemmas.Str.{IsUtf8-from_ascii, chars-IsAscii, encodes-chars}
-use Rattle.std.specs.Str.{IsAscii}
 use Rattle.nodejs_semver.proofs.Common.{Bool, IsBlank, IsUtf8, List, Some, [], and_parts, ap, append-nil, append_assoc, arith, begins}
 use Rattle.nodejs_semver.proofs.Common.{bind_some, cases_Bool, common_steps, cond_some, drop, drop_at, drop_spaces, encode_utf8}
 use Rattle.nodejs_semver.proofs.Common.{encode_utf8_all, false, inl, inr, is_empty, is_whitespace, len_utf8_bounds, length, length-encode}
 use Rattle.nodejs_semver.proofs.Common.{list_all, nat_tests, refl, space_len, space_len-nil, subst, suc, sym, take, true, zero, ℕ, ◌++◌}
-use Rattle.nodejs_semver.proofs.{Common.{◌-◌, ◌<◌, ◌||◌, ◌∙◌, ◌∷◌, ◌≡◌, ◌⊎◌}, Dividing.MeaningLaw.no_characters, NpmCommon.AreEndMarks}
-use Rattle.nodejs_semver.proofs.NpmCommon.{Ended, IsAlternative, IsPartial, after_byte, after_ends, are_whole_marks, drop_ends}
-use Rattle.nodejs_semver.proofs.NpmCommon.{encode_ascii, end_front, ended_end, hyphen_comparisons, hyphen_ends, is_free_lower}
-use Rattle.nodejs_semver.proofs.NpmCommon.{is_free_upper, is_mark, is_one_v, last_end, len_utf8, space_len-white}
-use Rattle.nodejs_semver.proofs.Reading.{Bytes.{begins_component, component-solid, is_solid, solid-dark}, WordLaw.{byte-is, tail-utf8}}
-use Rattle.nodejs_semver.proofs.Strict.{PartialLaw.{partial-found, partial-read}, Signs.{blank-at, blank-skipped}, VersionLaw.empty-is}
-use Rattle.nodejs_semver.proofs.Strict.Words.{blank-some, blank-space, front-text, partial-begins, rest-utf8, space-boundary}
+use Rattle.nodejs_semver.proofs.{Common.{◌-◌, ◌<◌, ◌||◌, ◌∙◌, ◌∷◌, ◌≡◌, ◌⊎◌}, NpmCommon.{AreEndMarks, Ended, IsAlternative, IsPartial}}
+use Rattle.nodejs_semver.proofs.NpmCommon.{after_byte, after_ends, are_whole_marks, chars_from_encodes, drop_ends, encode_ascii, end_front}
+use Rattle.nodejs_semver.proofs.NpmCommon.{ended_end, hyphen_comparisons, hyphen_ends, is_free_lower, is_free_upper, is_mark, is_one_v}
+use Rattle.nodejs_semver.proofs.{NpmCommon.{last_end, len_utf8, space_len-white}, Reading.Bytes.{begins_component, component-solid}}
+use Rattle.nodejs_semver.proofs.{Reading.{Bytes.{is_solid, solid-dark}, WordLaw.{byte-is, tail-utf8}}, Strict.PartialLaw.partial-found}
+use Rattle.nodejs_semver.proofs.Strict.{PartialLaw.partial-read, Signs.{blank-at, blank-skipped}, VersionLaw.empty-is, Words.blank-some}
+use Rattle.nodejs_semver.proofs.Strict.Words.{blank-space, front-text, partial-begins, rest-utf8, space-boundary}
 use Rattle.nodejs_semver.specs.{Internal.{NpmWords.{after_dash, partial_front}, Words.after_some_space}, Npm.RangeText.hyphen}
-use Rattle.{nodejs_semver.specs.Npm.Table.Partial, semver_core.proofs.Text.SpaceLaw.space_len-dark, std.proofs.lemmas.Str.IsUtf8-past_char}
-use Rattle.std.proofs.lemmas.Str.{encode_same}
+use Rattle.{nodejs_semver.specs.Npm.Table.Partial, semver_core.proofs.Text.SpaceLaw.space_len-dark, std.proofs.lemmas.Str.IsUtf8-from_ascii}
+use Rattle.std.{proofs.lemmas.Str.{IsUtf8-past_char, chars-IsAscii, encode_same, encodes-chars}, specs.Str.IsAscii}
 
 -- ---- marks and whitespace at the front
 

@@ -1,5 +1,4 @@
 -- Places and partial versions with numbers past the limit: what the code reads is what stands there, where no such number counts.
-use Rattle.nodejs_semver.proofs.Strict.Numbers.{number-short}
 use Rattle.nodejs_semver.proofs.Common.{Bool, Front, Id, IsNumber, List, MAX_SAFE_INTEGER, None, Option, Some, [], and_parts, ap}
 use Rattle.nodejs_semver.proofs.Common.{append-nil, arith, begins, bind_some, cases_Bool, common_steps, drop, drop_at, false, if◌then◌else◌}
 use Rattle.nodejs_semver.proofs.Common.{inl, inr, is_ascii_digit, is_empty, length, list_all, nat_lt, nat_tests, not, prefix_len, refl}
@@ -9,7 +8,7 @@ use Rattle.nodejs_semver.proofs.NpmCommon.{counted_front, digits_value, has_lead
 use Rattle.nodejs_semver.proofs.NpmCommon.{length-prefix_len, limited, most_digits, nat_le, number_front, number_of, or-true, partial_of}
 use Rattle.nodejs_semver.proofs.NpmCommon.{patch_place, place_front, qualified_partial, run_place, second_front, strict_number, take_while}
 use Rattle.nodejs_semver.proofs.{NpmCommon.{third_front, ◌>>?◌}, Reading.Numbers.{digits-taken, number-found, number-no_wildcard}}
-use Rattle.nodejs_semver.proofs.{Reading.Numbers.number-of, Strict.{Numbers.padded-same, Places.{digits-of, place-read}}}
+use Rattle.nodejs_semver.proofs.{Reading.Numbers.number-of, Strict.{Numbers.{number-short, padded-same}, Places.{digits-of, place-read}}}
 use Rattle.nodejs_semver.{proofs.Strict.Places.{prefix-all, some-run}, specs.Internal.NpmWords.{Place, any, counted, great, number}}
 use Rattle.nodejs_semver.specs.Internal.NpmWords.{partial_front, place_of, place_zeros, placed, qualified_counted, second_counted}
 use Rattle.nodejs_semver.specs.{Internal.NpmWords.third_counted, Npm.Table.Partial}

@@ -1,13 +1,10 @@
 -- Numbers without leading zeros: what is read is written, and what is written is read.
-use Rattle.nodejs_semver.proofs.Common.{MAX_SAFE_INTEGER, decimal, get_or, ◌<◌, ◌^◌, ◌≤◌}
-use Rattle.nodejs_semver.proofs.NpmCommon.{digits_value}
-use Rattle.semver_core.proofs.Text.Runs.{numerals}
-use Rattle.std.proofs.lemmas.Fmt.{decimal-digits_value, length-decimal-le}
-use Rattle.nodejs_semver.proofs.Common.{Front, IsPieceAt, IsWholeNumber, List, NoPieceAt, None, Some, [], arith, begins, cases_Bool}
-use Rattle.nodejs_semver.proofs.Common.{common_steps, drop, eqb-true, false, inl, inr, is_ascii_digit, length, list_all, nat_tests, refl}
-use Rattle.nodejs_semver.proofs.{Common.{take, take_rest, true, ℕ, ◌++◌, ◌-◌, ◌==◌, ◌∷◌, ◌≡◌}, NpmCommon.{IsStrictNumber, begins_padded}}
-use Rattle.nodejs_semver.proofs.{NpmCommon.{dotted_number, has_leading_zero, number_front, strict_number}, Reading.Numbers.front_none}
-use Rattle.nodejs_semver.proofs.Reading.Numbers.{front_some, number-found, number-read}
+use Rattle.nodejs_semver.proofs.Common.{Front, IsPieceAt, IsWholeNumber, List, MAX_SAFE_INTEGER, NoPieceAt, None, Some, [], arith, begins}
+use Rattle.nodejs_semver.proofs.Common.{cases_Bool, common_steps, decimal, drop, eqb-true, false, get_or, inl, inr, is_ascii_digit, length}
+use Rattle.nodejs_semver.proofs.Common.{list_all, nat_tests, refl, take, take_rest, true, ℕ, ◌++◌, ◌-◌, ◌<◌, ◌==◌, ◌^◌, ◌∷◌, ◌≡◌, ◌≤◌}
+use Rattle.nodejs_semver.proofs.NpmCommon.{IsStrictNumber, begins_padded, digits_value, dotted_number, has_leading_zero, number_front}
+use Rattle.nodejs_semver.proofs.{NpmCommon.strict_number, Reading.Numbers.{front_none, front_some, number-found, number-read}}
+use Rattle.{semver_core.proofs.Text.Runs.numerals, std.proofs.lemmas.Fmt.{decimal-digits_value, length-decimal-le}}
 
 -- ---- the number that the code finds
 

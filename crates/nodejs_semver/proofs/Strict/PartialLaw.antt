@@ -1,17 +1,15 @@
 -- Partial versions of node-semver's range texts: the function that reads them finds exactly what the statement has.
-use Rattle.nodejs_semver.proofs.Strict.Qualifiers.{ends-nil}
-use Rattle.nodejs_semver.proofs.Common.{[]}
-use Rattle.nodejs_semver.proofs.Common.{Bool, Front, Id, List, None, Option, Some, and_parts, ap, append_assoc, arith, begins, bind_some}
+use Rattle.nodejs_semver.proofs.Common.{Bool, Front, Id, List, None, Option, Some, [], and_parts, append_assoc, arith, begins, bind_some}
 use Rattle.nodejs_semver.proofs.Common.{cases_Bool, common_steps, drop, false, inl, inr, is_ascii_digit, is_boundary, list_all, nat_tests}
-use Rattle.nodejs_semver.proofs.{Common.{pieces, refl, same_Some, subst, sym, true, ℕ, ◌&&◌, ◌++◌, ◌∙◌, ◌∷◌, ◌≡◌}, NpmCommon.IsPartial}
-use Rattle.nodejs_semver.proofs.NpmCommon.{IsPlace, IsStrictBuild, are_spelled, begins_byte, begins_undashed, build_front, dotted_patch}
-use Rattle.nodejs_semver.proofs.NpmCommon.{dotted_place, goes_on, has_zeros, is_short_build, is_short_identifier, one, partial_of}
-use Rattle.nodejs_semver.proofs.NpmCommon.{place_front, pre_front, qualified_partial, second_front, third_front, three, two, undashed}
-use Rattle.nodejs_semver.proofs.{Reading.Bytes.{is_solid, solid-dark}, Strict.Places.{dotted_patch-found, dotted_place-found}}
-use Rattle.nodejs_semver.proofs.Strict.{Places.{dotted_place-read, patch-read, place-found, place-read}, Qualifiers.{Ends, build-found}}
-use Rattle.nodejs_semver.proofs.Strict.Qualifiers.{build-taken, pre-follows, pre-found, pre-taken}
-use Rattle.nodejs_semver.specs.{Internal.NpmWords.{are_short_builds, are_short_identifiers, partial_front}, Npm.RangeText.IsPreRelease}
-use Rattle.{nodejs_semver.specs.Npm.Table.Partial, semver_core.proofs.Text.Runs.list_len_stop}
+use Rattle.nodejs_semver.proofs.{Common.{pieces, refl, true, ℕ, ◌&&◌, ◌++◌, ◌∷◌, ◌≡◌}, NpmCommon.{IsPartial, IsPlace, IsStrictBuild}}
+use Rattle.nodejs_semver.proofs.NpmCommon.{are_spelled, build_front, dotted_patch, dotted_place, has_zeros, is_short_build}
+use Rattle.nodejs_semver.proofs.NpmCommon.{is_short_identifier, one, partial_of, place_front, pre_front, qualified_partial, second_front}
+use Rattle.nodejs_semver.proofs.{NpmCommon.{third_front, three, two, undashed}, Reading.Bytes.{is_solid, solid-dark}}
+use Rattle.nodejs_semver.proofs.Strict.Places.{dotted_patch-found, dotted_place-found, dotted_place-read, patch-read, place-found}
+use Rattle.nodejs_semver.proofs.Strict.{Places.place-read, Qualifiers.{Ends, build-found, build-taken, ends-nil, pre-follows, pre-found}}
+use Rattle.nodejs_semver.{proofs.Strict.Qualifiers.pre-taken, specs.Internal.NpmWords.{are_short_builds, are_short_identifiers}}
+use Rattle.nodejs_semver.specs.{Internal.NpmWords.partial_front, Npm.{RangeText.IsPreRelease, Table.Partial}}
+use Rattle.semver_core.proofs.Text.Runs.{list_len_stop}
 
 -- ---- nothing goes on at a boundary
 

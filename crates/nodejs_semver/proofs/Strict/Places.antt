@@ -1,10 +1,9 @@
 -- Places of node-semver's partial versions: what is read is written, and what is written is read.
-use Rattle.nodejs_semver.proofs.Common.{Bool, IsNumber, List, MAX_SAFE_INTEGER, None, Option, Some, [], and-false, and_parts, ap, arith}
-use Rattle.nodejs_semver.proofs.Common.{begins, cases_Bool, common_steps, drop, drop_at, eqb-true, false, inl, inr, is_ascii_digit}
-use Rattle.nodejs_semver.proofs.Common.{is_empty, length, list_all, nat_tests, not, prefix_len, refl, same_Some, suc, sym, take}
-use Rattle.nodejs_semver.proofs.Common.{take-append-drop, take_at, true, zero, ℕ, ◌&&◌, ◌*◌, ◌++◌, ◌+◌, ◌-◌, ◌<◌, ◌==◌, ◌||◌, ◌∙◌, ◌∷◌, ◌≡◌}
-use Rattle.nodejs_semver.proofs.{Common.◌≤◌, NpmCommon.{IsPlace, IsStrictNumber, begins_byte, begins_wildcard, digit_value, digits_grow}}
-use Rattle.nodejs_semver.proofs.NpmCommon.{digits_value, digits_value_after, dotted_patch, dotted_place, drop-append-add, is_spelled}
+use Rattle.nodejs_semver.proofs.Common.{Bool, IsNumber, List, None, Option, Some, [], and-false, and_parts, ap, arith, begins, cases_Bool}
+use Rattle.nodejs_semver.proofs.Common.{common_steps, drop, drop_at, eqb-true, false, inl, inr, is_ascii_digit, is_empty, length, list_all}
+use Rattle.nodejs_semver.proofs.Common.{nat_tests, not, prefix_len, refl, same_Some, suc, sym, take, take-append-drop, take_at, true, zero}
+use Rattle.nodejs_semver.proofs.{Common.{ℕ, ◌&&◌, ◌++◌, ◌+◌, ◌-◌, ◌<◌, ◌==◌, ◌||◌, ◌∙◌, ◌∷◌, ◌≡◌, ◌≤◌}, NpmCommon.{IsPlace, begins_byte}}
+use Rattle.nodejs_semver.proofs.NpmCommon.{begins_wildcard, digits_value, dotted_patch, dotted_place, drop-append-add, is_spelled}
 use Rattle.nodejs_semver.proofs.NpmCommon.{most_digits, nat_le, patch_place, place_front, run_place, take_while}
 use Rattle.nodejs_semver.proofs.{Reading.Numbers.{digits-taken, number-no_wildcard}, Strict.Qualifiers.Follows}
 use Rattle.std.proofs.lemmas.List.Sums.{prefix_len-drop_all, prefix_len-drop_no, prefix_len-drop_yes}

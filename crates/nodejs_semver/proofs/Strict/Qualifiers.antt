@@ -1,15 +1,12 @@
 -- The pre-release and the build behind the numbers: what is read is written, and what is written is read.
-use Rattle.nodejs_semver.proofs.Common.{Bool, Id, IsIdentifiers, List, [], and-false, and_parts, ap, append-nil, arith, begins}
-use Rattle.nodejs_semver.proofs.Common.{begins_identifier, cases_Bool, common_steps, drop, eqb-true, false, inl, inr, is_ascii_digit}
-use Rattle.nodejs_semver.proofs.Common.{is_identifier_char, list_len, nat_tests, not, not-true, or_cases, refl, subst, suc, sym, take}
-use Rattle.nodejs_semver.proofs.Common.{take-append-drop, true, zero, ℕ, ◌&&◌, ◌++◌, ◌==◌, ◌||◌, ◌∙◌, ◌∷◌, ◌≡◌, ◌⊎◌}
-use Rattle.nodejs_semver.proofs.NpmCommon.{IsStrictBuild, IsStrictPreRelease, are_spelled, bare, begins_byte, begins_undashed, build_front}
-use Rattle.nodejs_semver.proofs.NpmCommon.{dashed_front, goes_on, is_strict_list, listed, no_build, or-true, plus, pre_front}
-use Rattle.nodejs_semver.proofs.{NpmCommon.{pre_release_front, undashed}, Reading.IdentifierLists.{front-identifiers, written-begins}}
-use Rattle.nodejs_semver.{proofs.Reading.IdentifierLists.{written-exact, written-spelled}, specs.Npm.RangeText.{IsPreRelease, dashed}}
-use Rattle.nodejs_semver.specs.Npm.RangeText.{is_letter, no_pre_release}
+use Rattle.nodejs_semver.proofs.Common.{Bool, Id, IsIdentifiers, List, [], and-false, ap, append-nil, arith, begins, begins_identifier}
+use Rattle.nodejs_semver.proofs.Common.{cases_Bool, common_steps, drop, false, inl, inr, is_ascii_digit, list_len, nat_tests, refl, subst}
+use Rattle.nodejs_semver.proofs.{Common.{sym, take, take-append-drop, true, ℕ, ◌++◌, ◌==◌, ◌∙◌, ◌∷◌, ◌≡◌, ◌⊎◌}, NpmCommon.IsStrictBuild}
+use Rattle.nodejs_semver.proofs.NpmCommon.{IsStrictPreRelease, are_spelled, bare, begins_byte, begins_undashed, build_front, dashed_front}
+use Rattle.nodejs_semver.proofs.NpmCommon.{goes_on, is_strict_list, listed, no_build, plus, pre_front, pre_release_front, undashed}
+use Rattle.nodejs_semver.proofs.Reading.IdentifierLists.{front-identifiers, written-begins, written-exact, written-spelled}
+use Rattle.{nodejs_semver.specs.Npm.RangeText.{IsPreRelease, dashed, no_pre_release}, semver_core.proofs.Text.Pieces.list_ended}
 use Rattle.nodejs_semver.specs.Npm.Grammar as Grammar
-use Rattle.semver_core.proofs.Text.Pieces.{list_ended}
 
 -- ---- what is read is written
 

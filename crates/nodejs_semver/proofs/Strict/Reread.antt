@@ -1,14 +1,12 @@
 -- A text that is a version strictly is a mark, the version as it prints without its build, and the build: so what is printed is read again.
-use Rattle.nodejs_semver.proofs.Strict.Numbers.{digits_printed, number_printed}
-use Rattle.nodejs_semver.proofs.Common.{Bool, Id, IsTrim, IsUtf8, List, MAX_SAFE_INTEGER, VersionValue, [], and_parts, ap, append-nil}
-use Rattle.nodejs_semver.proofs.Common.{arith, cases_Bool, common_steps, decimal, encode_utf8_all, false, get_or, identifier_of, inl, inr}
-use Rattle.nodejs_semver.proofs.Common.{is_ascii_digit, is_identifier, is_identifier_char, length, length-append, list_all, map, nat_tests}
-use Rattle.nodejs_semver.proofs.Common.{not, pieces, refl, sym, true, ℕ, ◌&&◌, ◌++◌, ◌<◌, ◌==◌, ◌^◌, ◌||◌, ◌∙◌, ◌∷◌, ◌≡◌, ◌≤◌}
-use Rattle.nodejs_semver.proofs.NpmCommon.{IsStrictNumber, IsStrictPreRelease, IsStrictVersion, IsVersionText, chars, chars_from_encodes}
-use Rattle.nodejs_semver.proofs.NpmCommon.{dashed, digits_value, has_leading_zero, id_text, is_strict_identifier, join_with_byte}
+use Rattle.nodejs_semver.proofs.Common.{Id, IsTrim, IsUtf8, List, MAX_SAFE_INTEGER, VersionValue, [], and_parts, ap, append-nil, arith}
+use Rattle.nodejs_semver.proofs.Common.{cases_Bool, common_steps, encode_utf8_all, identifier_of, inl, inr, is_identifier}
+use Rattle.nodejs_semver.proofs.Common.{is_identifier_char, length, length-append, list_all, map, nat_tests, pieces, refl, sym, true, ℕ}
+use Rattle.nodejs_semver.proofs.{Common.{◌++◌, ◌<◌, ◌==◌, ◌||◌, ◌∙◌, ◌∷◌, ◌≡◌, ◌≤◌}, NpmCommon.{IsStrictPreRelease, IsStrictVersion}}
+use Rattle.nodejs_semver.proofs.NpmCommon.{IsVersionText, chars, chars_from_encodes, dashed, id_text, is_strict_identifier, join_with_byte}
 use Rattle.nodejs_semver.proofs.{NpmCommon.{marked_list, no_build, no_pre_release, version_text}, Stopping.Read.{is_plain, plain-encodes}}
-use Rattle.{nodejs_semver.proofs.Stopping.{Read.plain-middle, Written.{plain-dark, plain-reverse}}, semver_core.proofs.Text.Runs.numerals}
-use Rattle.{semver_core.specs.Text.Identifiers.is_u64_text, std.proofs.{Common.reverse, lemmas.Fmt.decimal-digits_value}}
+use Rattle.nodejs_semver.proofs.{Stopping.{Read.plain-middle, Written.{plain-dark, plain-reverse}}, Strict.Numbers.digits_printed}
+use Rattle.{nodejs_semver.proofs.Strict.Numbers.number_printed, semver_core.specs.Text.Identifiers.is_u64_text, std.proofs.Common.reverse}
 use Rattle.std.proofs.lemmas.{List.Splits.{join_with_byte-slice_split, length-slice_split}, Str.{IsUtf8-from_ascii, chars-IsAscii}}
 use Rattle.std.specs.Str.{IsAscii}
 use Rattle.nodejs_semver.specs.Npm.Table as Table

@@ -4,8 +4,8 @@ use Rattle.nodejs_semver.proofs.Common.{above, ap, arith, at_most, below, codes,
 use Rattle.nodejs_semver.proofs.Common.{is_release, length, list_all, nat_tests, not, precedence, refl, true, ℕ, ◌&&◌, ◌+◌, ◌==◌, ◌||◌, ◌∙◌}
 use Rattle.nodejs_semver.proofs.{Common.{◌∷◌, ◌≡◌, ◌≤◌}, NpmCommon.{AreRead, Bounds, Comparison, IsCommon, MAX_LENGTH, Numbers, are_normal}}
 use Rattle.nodejs_semver.proofs.NpmCommon.{at_least, bytes_eq, caret_from, comparator_view, compared, counts, first, from, hyphen_upper}
-use Rattle.nodejs_semver.proofs.NpmCommon.{is_valid, is_zero, made, major, minor, nat_le, next_changed, npm_partial_view, npm_sign_view}
-use Rattle.nodejs_semver.proofs.{NpmCommon.{under, version_text, whole, wildcard, within}, Strict.Narrowing.{both_common, compared_span}}
+use Rattle.nodejs_semver.proofs.NpmCommon.{is_valid, is_zero, made, nat_le, next_changed, npm_partial_view, npm_sign_view, under}
+use Rattle.nodejs_semver.proofs.{NpmCommon.{version_text, whole, wildcard, within}, Strict.Narrowing.{both_common, compared_span}}
 use Rattle.nodejs_semver.proofs.Strict.{Narrowing.{comparison, everything, one_common, uncounted_common}, Printed.{from_valid, prints_zero}}
 use Rattle.nodejs_semver.{proofs.Strict.Printed.under_valid, specs.{Internal.NpmMeaning.is_part, Npm.Table.{Partial, caret, lowest, next}}}
 use Rattle.{nodejs_semver.specs.Npm.Table.{no_build, table, tilde}, semver_core.specs.Values.Versions.IsVersion}

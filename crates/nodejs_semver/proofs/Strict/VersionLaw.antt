@@ -2,7 +2,7 @@
 use Rattle.nodejs_semver.proofs.Common.{IsTrim, IsUtf8, List, None, Some, VersionValue, [], and_parts, ap, append-nil, arith, begins}
 use Rattle.nodejs_semver.proofs.Common.{bind_some, cases_Bool, common_steps, drop, encode_utf8, encode_utf8_all, eqb-true, false, inl, inr}
 use Rattle.nodejs_semver.proofs.Common.{is_ascii_digit, is_empty, length, length-append, length-encode, middle_is_trim, nat_tests}
-use Rattle.nodejs_semver.proofs.Common.{prefix_len, refl, same_Some, subst, sym, true, ℕ, ◌&&◌, ◌++◌, ◌<◌, ◌==◌, ◌∙◌, ◌∷◌, ◌≡◌, ◌≤◌, ◌⊎◌}
+use Rattle.nodejs_semver.proofs.Common.{prefix_len, refl, subst, sym, true, ℕ, ◌&&◌, ◌++◌, ◌<◌, ◌==◌, ◌∙◌, ◌∷◌, ◌≡◌, ◌≤◌, ◌⊎◌}
 use Rattle.nodejs_semver.proofs.NpmCommon.{IsClean, IsStrictBuild, IsStrictNumber, IsStrictPreRelease, IsStrictVersion, IsVersionText}
 use Rattle.nodejs_semver.proofs.NpmCommon.{MAX_LENGTH, NoValue, build_front, chars, chars_from_encodes, dashed_front, dotted_number}
 use Rattle.nodejs_semver.proofs.NpmCommon.{is_mark, is_strict_list, len_utf8, qualified_version, strict_number, strict_version}

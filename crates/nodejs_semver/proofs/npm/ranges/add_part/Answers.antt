@@ -1,6 +1,5 @@
-use Rattle.nodejs_semver.proofs.Common.{List, None, Option, Some, Span, VersionValue, ap, append-nil, arith, option_to_list, subst, sym, ℕ}
-use Rattle.nodejs_semver.{proofs.{Common.{◌++◌, ◌∙◌, ◌≡◌}, Strict.RangeReads.{part-added, part-lost}}, specs.Internal.NpmReads.IsFound}
-use Rattle.nodejs_semver.specs.Internal.NpmReads.{valid_alternative}
+use Rattle.nodejs_semver.proofs.Common.{None, Option, Some, Span, VersionValue, ap, append-nil, arith, option_to_list, sym, ◌++◌, ◌∙◌, ◌≡◌}
+use Rattle.nodejs_semver.proofs.Strict.RangeReads.{part-added, part-lost}
 use Rattle.nodejs_semver.proofs.npm.ranges.add_part.Goals as goal
 
 pub returns-then-is_lost-clause-added : goal.returns-then-is_lost-clause-added
