@@ -58,9 +58,6 @@ loose-more (b ∷ u) v h = or_right (not (is_visible b) && lone (u ++ v)) (apart
 
 -- ---- bytes of whitespace
 
-blank-other : (x : List ℕ) → IsBlank x → list_all is_other x ≡ true
-blank-other x h = all_weaker is_signal is_other (λ b k. grind (arith, nat_tests)) x (blank-signal x h)
-
 loose-blank : (x z : List ℕ) → list_all is_dark x ≡ true → 0 < length x → is_empty z ≡ false → begins is_visible z ≡ false
     → apart (x ++ (45 ∷ z)) ≡ true
 loose-blank [] z h some filled ends = absurd (omega (arith, some))
@@ -70,12 +67,6 @@ loose-blank (b ∷ c ∷ x) z h some filled ends =
     (loose-blank (c ∷ x) z (and_parts (is_dark b) (list_all is_dark (c ∷ x)) h).1 (omega arith) filled ends)
 
 -- ---- the texts of words
-
-partial-tight : (loose : Bool) (x : List ℕ) (p : Partial) → IsPartial loose x p → list_all is_visible x ≡ true
-partial-tight loose x p h = all_weaker is_part is_visible part-visible x (partial-part loose x p h)
-
-sign-other : (signs : List ℕ) (s : Sign) → IsSignText signs s → list_all is_other signs ≡ true
-sign-other signs s h = all_weaker is_signal is_other (λ b k. grind (arith, nat_tests)) signs (sign-signal signs s h)
 
 component-first : (u : List ℕ) → begins_component u ≡ true → lone u ≡ false
 component-first [] h = refl
@@ -98,9 +89,12 @@ word-first loose include w v cs (ignored x l h) = (tight-passed x v (malformed-a
         rw tight (and-none (b == 45) false refl)
 word-first loose include w v cs (word signs marks x s p h m e k) =
     let text_is : (signs ++ (marks ++ x)) ++ v ≡ (signs ++ marks) ++ (x ++ v) = simp append_assoc refl in
-    let front = all-join is_other signs marks (sign-other signs s h) (all_weaker is_mark is_other (λ b k. grind (arith, nat_tests)) marks (marks-all loose s p marks m)) in
+    let sign_other = all_weaker is_signal is_other (λ b k. grind (arith, nat_tests)) signs (sign-signal signs s h) in
+    let mark_other = all_weaker is_mark is_other (λ b k. grind (arith, nat_tests)) marks (marks-all loose s p marks m) in
+    let front = all-join is_other signs marks sign_other mark_other in
+    let tight = all_weaker is_part is_visible part-visible x (partial-part loose x p k) in
     let first = component-first (x ++ v) (partial-begins loose x v p k) in (
-      rw text_is (other-passed (signs ++ marks) (x ++ v) front first ∙ tight-passed x v (partial-tight loose x p k)),
+      rw text_is (other-passed (signs ++ marks) (x ++ v) front first ∙ tight-passed x v tight),
       rw text_is (other-first (signs ++ marks) (x ++ v) front first),
     )
 
@@ -111,7 +105,8 @@ words-first loose include text cs (more t blank rest ds es h hb some k) =
     let here = subst (λ (l : Bool). IsWord loose include l t ds) (sym (not-empty blank rest some)) h in
     let w = word-first loose include t (blank ++ rest) ds here in
     let r = words-first loose include rest es k in
-    (w.0 ∙ other-passed blank rest (blank-other blank hb) r.1 ∙ r.0, w.1)
+    let other = all_weaker is_signal is_other (λ b k. grind (arith, nat_tests)) blank (blank-signal blank hb) in
+    (w.0 ∙ other-passed blank rest other r.1 ∙ r.0, w.1)
 
 -- ---- hyphen ranges: what is written is read
 

@@ -13,16 +13,6 @@ use Rattle.nodejs_semver.specs.Npm.Grammar as Grammar
 pub byte-begins : (c : ℕ) (x : List ℕ) → begins_byte c x ≡ true → x ≡ c ∷ drop 1 x
 byte-begins c x h = grind arith
 
-plus-found : (text y : List ℕ) → text ≡ 43 ∷ y → begins_identifier y ≡ true
-    → (piece : List ℕ) × (text ≡ piece ++ drop (list_len y) y) × IsStrictBuild piece (listed (take (list_len y) y))
-    × (drop 1 piece ≡ take (list_len y) y)
-plus-found text y e some = (
-  43 ∷ take (list_len y) y,
-  e ∙ ap (λ (t : List ℕ). 43 ∷ t) (sym (take-append-drop (list_len y) y)),
-  plus (take (list_len y) y) (listed (take (list_len y) y)) (front-identifiers y some),
-  refl,
-)
-
 pub build-found : (text : List ℕ)
     → (piece : List ℕ) × (text ≡ piece ++ (build_front text).1) × IsStrictBuild piece (listed (build_front text).0)
     × (drop 1 piece ≡ (build_front text).0)
@@ -31,7 +21,11 @@ build-found text = elim (cases_Bool (begins_byte 43 text)) [
   | inr other ↦ rw other ([], refl, no_build, refl)
   | inl mark ↦ elim (cases_Bool (begins_identifier (drop 1 text))) [
     | inr none ↦ rw (mark, none) ([], refl, no_build, refl)
-    | inl some ↦ rw (mark, some) (plus-found text (drop 1 text) (byte-begins 43 text mark) some)
+    | inl some ↦
+        let y = drop 1 text in
+        let read = take (list_len y) y in
+        let whole = byte-begins 43 text mark ∙ ap (λ (t : List ℕ). 43 ∷ t) (sym (take-append-drop (list_len y) y)) in
+        rw (mark, some) (43 ∷ read, whole, plus read (listed read) (front-identifiers y some), refl)
   ]
 ]
 
@@ -120,15 +114,6 @@ none-found : (loose : Bool) (text : List ℕ) → PreFound loose text [] text
 unfolding listed
 none-found loose text = ([], refl, no_pre_release, refl)
 
-after-dash : (loose : Bool) (text y : List ℕ) → text ≡ 45 ∷ y → begins_identifier y ≡ true → are_spelled loose (take (list_len y) y) ≡ true
-    → PreFound loose text (take (list_len y) y) (drop (list_len y) y)
-after-dash loose text y e some h = (
-  45 ∷ take (list_len y) y,
-  e ∙ ap (λ (t : List ℕ). 45 ∷ t) (sym (take-append-drop (list_len y) y)),
-  dashed (take (list_len y) y) (listed (take (list_len y) y)) (front-identifiers y some) h,
-  undashed-dashed (take (list_len y) y) (listed (take (list_len y) y)) (front-identifiers y some),
-)
-
 without-dash : (text : List ℕ) → begins_undashed text ≡ true → are_spelled true (take (list_len text) text) ≡ true
     → PreFound true text (take (list_len text) text) (drop (list_len text) text)
 without-dash text letter h =
@@ -148,7 +133,12 @@ dashed_front-found loose text h = elim (cases_Bool (begins_byte 45 text)) [
   | inr other ↦ rw other (none-found loose text)
   | inl dash ↦ elim (cases_Bool (begins_identifier (drop 1 text))) [
     | inr none ↦ rw (dash, none) (none-found loose text)
-    | inl some ↦ rw (dash, some) (after-dash loose text (drop 1 text) (byte-begins 45 text dash) some (rw (dash, some) at h))
+    | inl some ↦
+        let y = drop 1 text in
+        let read = take (list_len y) y in
+        let is = front-identifiers y some in
+        let whole = byte-begins 45 text dash ∙ ap (λ (t : List ℕ). 45 ∷ t) (sym (take-append-drop (list_len y) y)) in
+        rw (dash, some) (45 ∷ read, whole, dashed read (listed read) is (rw (dash, some) at h), undashed-dashed read (listed read) is)
   ]
 ]
 
