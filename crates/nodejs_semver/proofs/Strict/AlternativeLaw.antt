@@ -69,8 +69,7 @@ loose-blank (b ∷ c ∷ x) z h some filled ends =
 -- ---- the texts of words
 
 component-first : (u : List ℕ) → begins_component u ≡ true → lone u ≡ false
-component-first [] h = refl
-component-first (b ∷ u) h = grind (arith, nat_tests)
+component-first u h = grind (arith, nat_tests)
 
 -- a word begins with no such `-`, and what is behind it decides
 word-first : (loose : Bool) (include : Bool) (w v : List ℕ) (cs : List Comparison) → IsWord loose include (is_empty v) w cs

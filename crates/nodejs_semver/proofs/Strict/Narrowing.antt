@@ -53,27 +53,16 @@ lets_in-compared : (c : Comparator) (w : VersionValue) (build : List Id) (text :
     → lets_in (compared_span c w) v ≡ (is_release v || names v (comparison c w build text))
 lets_in-compared c w build text v = grind (arith, nat_tests, common_steps)
 
-compared-bounded : (c : Comparator) (w : VersionValue) → is_unbounded (compared_span c w) ≡ false
-compared-bounded c w = grind arith
-
 -- the bounds are of that version, whose numbers may be greater by one
-lower-compared : (c : Comparator) (w : VersionValue) → is_readable MAX_SAFE_INTEGER w ≡ true
-    → is_range_bound (MAX_SAFE_INTEGER + 1) (compared_span c w).lower ≡ true
-lower-compared c w h = grind (arith, nat_tests, common_steps)
-
-upper-compared : (c : Comparator) (w : VersionValue) → is_readable MAX_SAFE_INTEGER w ≡ true
-    → is_range_bound (MAX_SAFE_INTEGER + 1) (compared_span c w).upper ≡ true
-upper-compared c w h = grind (arith, nat_tests, common_steps)
-
 pub one_common : (include : Bool) (c : Comparator) (w : VersionValue) (build : List Id) (text : List ℕ)
     → is_readable MAX_SAFE_INTEGER w ≡ true → counts include (comparison c w build text) ≡ true
     → IsCommon include (comparison c w build text ∷ []) (compared_span c w)
 one_common include c w build text r h = record {
   held = λ v. rw h (grind (arith, holds-compared));
   let_in = λ v _. rw h (grind (arith, lets_in-compared));
-  unbounded = rw h (compared-bounded c w);
-  lower = lower-compared c w r;
-  upper = upper-compared c w r;
+  unbounded = rw h (grind arith);
+  lower = grind (arith, nat_tests, common_steps);
+  upper = grind (arith, nat_tests, common_steps);
 }
 
 abbrev pub everything : Span VersionValue

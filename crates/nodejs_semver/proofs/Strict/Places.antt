@@ -68,10 +68,9 @@ run-found loose zeros run rest a left h each =
       | inl good ↦
           let parts = and_parts (not (is_empty run) && fits) (is_spelled loose zeros n run) good in
           let some = and_parts (not (is_empty run)) fits parts.0 in
-          let e = same_Some _ _ (rw good at h) in
           let short : length run ≤ most_digits loose = grind (arith, nat_tests) in
           let is : IsPlace loose zeros run (Some n) = Text.number run n (run-number run some.0 each) parts.1 short in
-          (rw (← ap (λ (p : Option ℕ × List ℕ). p.0) e) is, ap (λ (p : Option ℕ × List ℕ). p.1) e)
+          grind (arith, nat_tests, common_steps, same_Some)
     ]
 
 pub place-found : (loose zeros : Bool) (text : List ℕ) (a : Option ℕ) (rest : List ℕ) → place_front loose zeros text ≡ Some (a, rest)

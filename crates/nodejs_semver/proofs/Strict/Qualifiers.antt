@@ -76,15 +76,13 @@ dashed-taken p b more l m (Grammar.dashed t list h s) k e =
 -- ---- the pre-releases of range texts
 
 undashed-begins : (text : List ℕ) → begins_undashed text ≡ true → begins_identifier text ≡ true
-undashed-begins [] h = cc h
-undashed-begins (b ∷ text) h = grind (arith, nat_tests)
+undashed-begins text h = grind (arith, nat_tests)
 
 letter-on : (text more : List ℕ) → begins_undashed text ≡ true → begins_identifier more ≡ false → begins_undashed (text ++ more) ≡ true
 letter-on text more h k = grind (arith, nat_tests, common_steps)
 
 goes-on : (more : List ℕ) → goes_on more ≡ false → begins_identifier more ≡ false
-goes-on [] h = refl
-goes-on (b ∷ more) h = grind (arith, nat_tests)
+goes-on more h = grind (arith, nat_tests)
 
 -- the letters that begin it stand in its list of identifiers
 letter-off : (text more : List ℕ) → begins_undashed (text ++ more) ≡ true → goes_on more ≡ false → begins_undashed text ≡ true

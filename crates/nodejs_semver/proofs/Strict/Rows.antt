@@ -28,9 +28,6 @@ pub whole_readable : (v : VersionValue) → within (first (whole v)) ≡ true �
     → is_readable MAX_SAFE_INTEGER v ≡ true
 whole_readable v h k = grind arith
 
-lowest_readable : (n : Numbers) → within n ≡ true → is_readable MAX_SAFE_INTEGER (lowest n) ≡ true
-lowest_readable n h = whole_readable (lowest n) h refl
-
 pub from_included : (include : Bool) (v : VersionValue) → include ≡ true → within (first (whole v)) ≡ true → are_normal (whole v) ≡ true
     → IsCommon include (made at_least (no_build v) ∷ []) (Spans.>= v)
 from_included include v h w n = one_common include at_least v [] _ (whole_readable v w n) (rw h refl)
@@ -45,7 +42,7 @@ pub from_none : (include : Bool) (v : VersionValue) → include ≡ false → Is
 from_none include v i h e = uncounted_common include _ (rw i (ap not (zero_of v h ∙ e)))
 
 pub under_common : (include : Bool) (n : Numbers) → within n ≡ true → IsCommon include (under n ∷ []) (Spans.< (lowest n))
-under_common include n w = one_common include below (lowest n) [] _ (lowest_readable n w) (either_true include)
+under_common include n w = one_common include below (lowest n) [] _ (whole_readable (lowest n) w refl) (either_true include)
 
 open_upper : (b : Bound VersionValue) → greater_lower precedence b Unbounded ≡ b
 open_upper b = grind arith
@@ -99,14 +96,6 @@ module _ (include : Bool) (text : List ℕ) (a : Numbers) (r : Option Bounds) wh
 
 -- ---- the rows of a whole version
 
-whole_compared : (include : Bool) (c : Comparator) (v : VersionValue) (text : List ℕ) (s : Span VersionValue)
-    → s ≡ compared_span c v → is_readable MAX_SAFE_INTEGER v ≡ true → counts include (comparison c v v.build text) ≡ true
-    → IsCommon include (comparison c v v.build text ∷ []) s
-whole_compared include c v text s e r h = rw e (one_common include c v v.build text r h)
-
-always : (include : Bool) → (include || not false) ≡ true
-always include = grind arith
-
 whole_valid : (c : Comparator) (v : VersionValue) (text : List ℕ) → within (first (whole v)) ≡ true → length text ≤ MAX_LENGTH
     → list_all (is_valid MAX_SAFE_INTEGER) (comparison c v v.build text ∷ []) ≡ true
 whole_valid c v text w l = rw w (grind (arith, nat_tests))
@@ -129,7 +118,7 @@ pub whole_written : (include : Bool) (d : DeclaredComparator.Comparator) (c : Co
     → (list_all (is_valid MAX_SAFE_INTEGER) (table include (compared (comparator_view d)) (whole v) text) ≡ true)
     × IsCommon include (table include (compared (comparator_view d)) (whole v) text) s
 whole_written include d c v text s e w n l is k =
-    whole_read include d c v text s e w l (whole_compared include c v text s is (whole_readable v w n) (k ∙ always include))
+    whole_read include d c v text s e w l (rw is (one_common include c v v.build text (whole_readable v w n) (k ∙ either_true include)))
 
 pub caret_valid : (include : Bool) (v : VersionValue) → within (first (whole v)) ≡ true
     → nat_le (length (version_text (no_build v))) MAX_LENGTH ≡ true → is_valid MAX_SAFE_INTEGER (caret_from include v) ≡ true
@@ -162,7 +151,7 @@ pub printed_read : (include : Bool) (v : VersionValue) (s : Span VersionValue) �
     → are_normal (whole v) ≡ true → nat_le (length (version_text (no_build v))) MAX_LENGTH ≡ true → s ≡ compared_span at_most v
     → (list_all (is_valid MAX_SAFE_INTEGER) (made at_most (no_build v) ∷ []) ≡ true)
     × IsCommon include (made at_most (no_build v) ∷ []) s
-printed_read include v s w n l e = (rw (w, l) refl, rw e (one_common include at_most v [] _ (whole_readable v w n) (always include)))
+printed_read include v s w n l e = (rw (w, l) refl, rw e (one_common include at_most v [] _ (whole_readable v w n) (either_true include)))
 
 -- ---- the sign
 

@@ -220,8 +220,7 @@ record Opens (text : List ℕ) : Type 0 where
   greater : begins_byte 62 text ≡ false
 
 opens : (marks u : List ℕ) → list_all is_mark marks ≡ true → begins_component u ≡ true → Opens (marks ++ u)
-opens [] [] h k = cc k
-opens [] (b ∷ u) h k = record { dark = solid-dark (b ∷ u) (grind (arith, nat_tests)); greater = grind (arith, nat_tests) }
+opens [] u h k = record { dark = solid-dark u (grind (arith, nat_tests)); greater = grind (arith, nat_tests) }
 opens (b ∷ marks) u h k =
     record { dark = solid-dark (b ∷ (marks ++ u)) (grind (arith, nat_tests)); greater = grind (arith, nat_tests) }
 

@@ -24,8 +24,7 @@ pub partial-begins : (loose : Bool) (x rest : List ℕ) (p : Partial) → IsPart
 partial-begins loose x rest p h = grind (arith, nat_tests, common_steps, begins-on, is_component_byte, place-begins)
 
 marks-counted : (marks u : List ℕ) → list_all is_mark marks ≡ true → begins_component u ≡ true → marks_len (marks ++ u) ≡ length marks
-marks-counted [] [] h k = cc k
-marks-counted [] (b ∷ u) h k = grind (arith, nat_tests)
+marks-counted [] u h k = grind (arith, nat_tests)
 marks-counted (b ∷ marks) u h k =
     let each = and_parts (is_mark b) (list_all is_mark marks) h in
     rw each.0 (omega (arith, marks-counted marks u each.1 k))
@@ -141,8 +140,7 @@ word-found loose include text cs rest u h = grind (arith, nat_tests, common_step
 -- ---- words
 
 marks-visible : (marks u : List ℕ) → list_all is_mark marks ≡ true → begins_component u ≡ true → begins is_visible (marks ++ u) ≡ true
-marks-visible [] [] h k = cc k
-marks-visible [] (b ∷ u) h k = grind (arith, nat_tests)
+marks-visible [] u h k = grind (arith, nat_tests)
 marks-visible (b ∷ marks) u h k = grind (arith, nat_tests)
 
 pub word-visible : (loose : Bool) (include : Bool) (is_last : Bool) (w : List ℕ) (cs : List Comparison) → IsWord loose include is_last w cs
