@@ -5,18 +5,18 @@ use Rattle.nodejs_semver.proofs.Common.{drop_spaces, drop_spaces-blank, drop_spa
 use Rattle.nodejs_semver.proofs.Common.{middle_is_trim, nat_tests, not, or_right, refl, same_Some, space_len, subst, suc, sym, take, trim}
 use Rattle.nodejs_semver.proofs.Common.{trim_is_middle, true, zero, ℕ, ◌&&◌, ◌++◌, ◌-◌, ◌<◌, ◌==◌, ◌||◌, ◌↔◌, ◌∙◌, ◌∷◌, ◌≡◌}
 use Rattle.nodejs_semver.proofs.{Dividing.{BarsDivide.{bars_divide, bars_once}, MeaningLaw.pieces-utf8}, NpmCommon.AreAlternatives}
-use Rattle.nodejs_semver.proofs.NpmCommon.{AreEndMarks, AreWords, Comparison, Ended, HasAlternativesIn, IsAlternative, IsPartial}
-use Rattle.nodejs_semver.proofs.NpmCommon.{IsSignText, IsWord, after_ends, alternative_of, alternatives_of, drop_ends, end_front}
-use Rattle.nodejs_semver.proofs.NpmCommon.{hyphen_comparisons, hyphen_ends, hyphen_lower, hyphen_upper, ignored, is_free_lower}
-use Rattle.nodejs_semver.proofs.NpmCommon.{is_free_upper, is_malformed, is_mark, is_valid, is_visible, kept, last, last_end, word}
-use Rattle.nodejs_semver.proofs.Reading.{Bytes.{all-join, begins_component}, Steps.option-cases, WordLaw.trim-utf8}
-use Rattle.nodejs_semver.proofs.Strict.Hyphens.{after_ends-drop, dash-read, end-read, ends-space, hyphen-found, mark-dark, marks-passed}
-use Rattle.nodejs_semver.proofs.Strict.{Hyphens.{marks-whole, whole-dark}, Malformed.{blank-dark, blank-signal, boundary-dark, is_dark}}
-use Rattle.nodejs_semver.proofs.Strict.Malformed.{is_part, is_signal, malformed-all, malformed-more, part-visible, partial-part}
-use Rattle.nodejs_semver.proofs.Strict.{Malformed.sign-signal, PartialLaw.{boundary-quiet, partial-read}, Signs.marks-all}
-use Rattle.nodejs_semver.proofs.Strict.Words.{blank-boundary, blank-space, not-empty, partial-begins, words-found, words-read}
-use Rattle.nodejs_semver.{proofs.Strict.Words.words-visible, specs.Internal.NpmWords.{npm_alternatives, partial_front, words_within}}
-use Rattle.nodejs_semver.specs.Npm.{RangeText.{hyphen, more, next, nothing, words}, Table.{Partial, Sign}}
+use Rattle.nodejs_semver.proofs.NpmCommon.{AreEndMarks, AreWords, Comparison, Ended, HasAlternativesIn, IsAlternative, IsPartial, IsWord}
+use Rattle.nodejs_semver.proofs.NpmCommon.{after_ends, alternative_of, alternatives_of, drop_ends, end_front, hyphen_comparisons}
+use Rattle.nodejs_semver.proofs.NpmCommon.{hyphen_ends, hyphen_lower, hyphen_upper, ignored, is_free_lower, is_free_upper, is_malformed}
+use Rattle.nodejs_semver.proofs.{NpmCommon.{is_mark, is_valid, is_visible, kept, last, last_end, word}, Reading.Bytes.all-join}
+use Rattle.nodejs_semver.proofs.{Reading.{Bytes.begins_component, Steps.option-cases, WordLaw.trim-utf8}, Strict.Hyphens.after_ends-drop}
+use Rattle.nodejs_semver.proofs.Strict.Hyphens.{dash-read, end-read, ends-space, hyphen-found, mark-dark, marks-passed, marks-whole}
+use Rattle.nodejs_semver.proofs.Strict.{Hyphens.whole-dark, Malformed.{blank-dark, blank-signal, boundary-dark, is_dark, is_part}}
+use Rattle.nodejs_semver.proofs.Strict.Malformed.{is_signal, malformed-all, malformed-more, part-visible, partial-part, sign-signal}
+use Rattle.nodejs_semver.proofs.Strict.{PartialLaw.{boundary-quiet, partial-read}, Signs.marks-all, Words.{blank-boundary, blank-space}}
+use Rattle.nodejs_semver.proofs.Strict.Words.{not-empty, partial-begins, words-found, words-read, words-visible}
+use Rattle.nodejs_semver.specs.{Internal.NpmWords.{npm_alternatives, partial_front, words_within}, Npm.RangeText.{hyphen, more, next}}
+use Rattle.nodejs_semver.specs.Npm.{RangeText.{nothing, words}, Table.Partial}
 
 -- ---- no `-` stands alone behind whitespace in words
 
@@ -109,10 +109,6 @@ words-first loose include text cs (more t blank rest ds es h hb some k) =
 
 -- ---- hyphen ranges: what is written is read
 
-upper-same : (include : Bool) (q : Partial) (text other : List ℕ) → is_free_upper include q ≡ true
-    → hyphen_upper include q text ≡ hyphen_upper include q other
-upper-same include q text other h = grind (arith, nat_tests, common_steps)
-
 ends-after : (n : ℕ) (text : List ℕ) → drop_ends (after_spaces n text) ≡ after_ends n text
 unfolding after_spaces after_ends
 ends-after n [] = refl
@@ -150,7 +146,7 @@ upper-read loose include gap b y q hg h k =
           record {
             taken = take (length second - 0) second;
             is = rw (passed, read, free) refl;
-            same = upper-same include q (take (length second - 0) second) (b ++ y) free;
+            same = grind (arith, nat_tests, common_steps);
           }
       | inr bound ↦
           let none : second ≡ b ++ y = at_gap ∙ drop_spaces-none (b ++ y) (whole-dark loose b y (marks-whole loose false b (rw bound at h)) begin) in

@@ -201,9 +201,6 @@ partial-places loose x p (three x1 y z pre build a b c ids builds h k l m s n t)
 abbrev is_unsigned : ℕ → Bool
 is_unsigned b = not (is_sign b) || b == 61
 
-unsigned-behind : (v : List ℕ) → list_all is_unsigned v ≡ true → list_all is_unsigned (behind_sign v) ≡ true
-unsigned-behind v h = grind (arith, nat_tests, common_steps, and_parts)
-
 one-sign : (b : ℕ) (v : List ℕ) → list_all is_unsigned v ≡ true → list_all is_unsigned (behind_sign (b ∷ v)) ≡ true
 one-sign b v h = grind (arith, nat_tests, common_steps, and_parts)
 
@@ -220,7 +217,7 @@ all-front u v h = and_parts (list_all is_sign u) (list_all is_sign v) (sym (list
 
 sign-one : (signs v : List ℕ) (s : Sign) → IsSignText signs s → list_all is_sign signs ≡ true → list_all is_unsigned v ≡ true
     → list_all is_unsigned (behind_sign (signs ++ v)) ≡ true
-sign-one signs v s no_sign a h = unsigned-behind v h
+sign-one signs v s no_sign a h = grind (arith, nat_tests, common_steps, and_parts)
 sign-one signs v s (sign t y b) a h = rw (blank-none y b (all-front (spelling t) y a).1, append-nil (spelling t)) (spelling-one t v h)
 sign-one signs v s (late_above y b) a h = rw (blank-none y b (all-front y (61 ∷ []) a).0) h
 sign-one signs v s (late_below y b) a h = rw (blank-none y b (all-front y (61 ∷ []) a).0) h

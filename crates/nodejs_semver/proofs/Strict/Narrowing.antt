@@ -7,9 +7,9 @@ use Rattle.nodejs_semver.proofs.Common.{is_past, is_range_bound, is_readable, is
 use Rattle.nodejs_semver.proofs.Common.{list_any, list_any-append, lower_cut, meet, nat_tests, not, option_holds-interval, precedence}
 use Rattle.nodejs_semver.proofs.Common.{precedence_total, refl, sym, true, upper_cut, ℕ, ◌&&◌, ◌++◌, ◌+◌, ◌||◌, ◌∙◌, ◌∷◌, ◌≡◌}
 use Rattle.nodejs_semver.proofs.NpmCommon.{Alternative, AreRead, Bounds, Comparison, IsCommon, IsNarrowed, NarrowedBy, at_least, both_ways}
-use Rattle.nodejs_semver.proofs.{NpmCommon.{bounds_view, counted, counts, filter-append, is_unbounded, satisfies}, Values.past-after}
-use Rattle.nodejs_semver.{proofs.Values.past-before, specs.Internal.{NpmAlternatives.met, NpmMeaning.is_open, NpmParts.has_no_comparators}}
-use Rattle.nodejs_semver.specs.{Internal.NpmParts.is_wildcard, Npm.{Ranges.names, Table.{Partial, Sign, hyphen_lower, hyphen_upper, table}}}
+use Rattle.nodejs_semver.proofs.{NpmCommon.{bounds_view, counted, counts, filter-append, satisfies}, Values.{past-after, past-before}}
+use Rattle.nodejs_semver.specs.Internal.{NpmAlternatives.met, NpmMeaning.is_open, NpmParts.{has_no_comparators, is_wildcard}}
+use Rattle.nodejs_semver.specs.Npm.{Ranges.names, Table.{Partial, Sign, hyphen_lower, hyphen_upper, table}}
 use Rattle.semver_core.proofs.CutLaws.{is_past-greater_lower, is_past-lesser_upper}
 use Rattle.nodejs_semver.specs.Text.Table as Spans
 

@@ -1,6 +1,6 @@
 -- Numbers without leading zeros: what is read is written, and what is written is read.
 use Rattle.nodejs_semver.proofs.Common.{Front, IsPieceAt, IsWholeNumber, List, MAX_SAFE_INTEGER, NoPieceAt, None, Some, [], arith, begins}
-use Rattle.nodejs_semver.proofs.Common.{cases_Bool, common_steps, decimal, drop, eqb-true, false, get_or, inl, inr, is_ascii_digit, length}
+use Rattle.nodejs_semver.proofs.Common.{cases_Bool, common_steps, decimal, drop, eqb-true, false, inl, inr, is_ascii_digit, length}
 use Rattle.nodejs_semver.proofs.Common.{list_all, nat_tests, refl, take, take_rest, true, ℕ, ◌++◌, ◌-◌, ◌<◌, ◌==◌, ◌^◌, ◌∷◌, ◌≡◌, ◌≤◌}
 use Rattle.nodejs_semver.proofs.NpmCommon.{IsStrictNumber, begins_padded, digits_value, dotted_number, has_leading_zero, number_front}
 use Rattle.nodejs_semver.proofs.{NpmCommon.strict_number, Reading.Numbers.{front_none, front_some, number-found, number-read}}
@@ -84,12 +84,9 @@ dotted-read limit digits rest n h stop = strict-read limit digits rest n h stop
 
 -- ---- a number prints as it is written, and one up to the limit is short
 
-lead : (ds : List ℕ) → has_leading_zero ds ≡ false → get_or ds 0 0 ≡ 48 → length ds ≡ 1
-lead ds h e = grind (arith, nat_tests, common_steps)
-
 pub digits_printed : (ds : List ℕ) → list_all is_ascii_digit ds ≡ true → 0 < length ds → has_leading_zero ds ≡ false → digits_value 10 ds < 2 ^ 64
     → decimal (digits_value 10 ds) ≡ ds
-digits_printed ds each some h small = decimal-digits_value numerals ds each some (lead ds h) small
+digits_printed ds each some h small = decimal-digits_value numerals ds each some (λ e. grind (arith, nat_tests, common_steps)) small
 
 pub number_printed : (ds : List ℕ) (n : ℕ) → IsStrictNumber MAX_SAFE_INTEGER ds n → decimal n ≡ ds
 number_printed ds n h = grind (arith, nat_tests, common_steps, digits_printed)

@@ -54,10 +54,6 @@ prefix-all p (c ∷ text) = elim (cases_Bool (p c)) [
   | inr other ↦ rw other refl
 ]
 
-run-number : (run : List ℕ) → not (is_empty run) ≡ true → list_all is_ascii_digit run ≡ true
-    → IsNumber (digits_value 10 run) run (digits_value 10 run)
-run-number run h k = grind (arith, nat_tests, common_steps)
-
 run-found : (loose zeros : Bool) (run rest : List ℕ) (a : Option ℕ) (left : List ℕ) → run_place loose zeros run rest ≡ Some (a, left)
     → list_all is_ascii_digit run ≡ true → IsPlace loose zeros run a × (rest ≡ left)
 run-found loose zeros run rest a left h each =
@@ -69,7 +65,8 @@ run-found loose zeros run rest a left h each =
           let parts = and_parts (not (is_empty run) && fits) (is_spelled loose zeros n run) good in
           let some = and_parts (not (is_empty run)) fits parts.0 in
           let short : length run ≤ most_digits loose = grind (arith, nat_tests) in
-          let is : IsPlace loose zeros run (Some n) = Text.number run n (run-number run some.0 each) parts.1 short in
+          let number : IsNumber n run n = grind (arith, nat_tests, common_steps) in
+          let is : IsPlace loose zeros run (Some n) = Text.number run n number parts.1 short in
           grind (arith, nat_tests, common_steps, same_Some)
     ]
 

@@ -73,9 +73,6 @@ le_then r h = grind arith
 least : (v : VersionValue) → is_past precedence (Beside (lowest (0, 0, 0)) false) v ≡ true
 least v = le_then _ (upto_patch (lowest (0, 0, 0)) v (omega arith) (omega arith) (omega arith) (zero_least v.pre_release))
 
-nothing_held : (v : VersionValue) (include : Bool) → accepts (nothing ∷ []) v include ≡ false
-nothing_held v include = rw (least v) refl
-
 -- what an alternative without comparators accepts
 open_meets : (v : VersionValue) (cs : List Comparison) → not (list_any (counts true) cs) ≡ true → meets true v (counted true cs) ≡ true
 open_meets v cs h = grind (arith, nat_tests, common_steps, uncounted)
@@ -93,7 +90,7 @@ closed_accepts include v alternatives h = rw h (grind arith)
 
 none_or_some : (ss : List (Span VersionValue)) (v : VersionValue) (include : Bool)
     → accepts (if is_empty ss then nothing ∷ [] else ss) v include ≡ accepts ss v include
-none_or_some [] v include = nothing_held v include
+none_or_some [] v include = rw (least v) refl
 none_or_some (s ∷ ss) v include = refl
 
 ranged_accepts : (include : Bool) (alternatives : List (List Comparison)) (os : List (Option (Span VersionValue)))
@@ -161,9 +158,6 @@ pub hyphen-some : (loose : Bool) (include : Bool) (text : List ℕ) (e : Ended �
     → valid_hyphen loose include text ≡ valid_only MAX_SAFE_INTEGER (hyphen_comparisons include e)
 hyphen-some loose include text e h = hyphen-read loose include text ∙ rw h refl
 
-none-left : (cs ds : List Comparison) → list_all (is_valid MAX_SAFE_INTEGER) cs ≡ false → valid_only MAX_SAFE_INTEGER (cs ++ ds) ≡ None
-none-left cs ds h = rw (list_all-append (is_valid MAX_SAFE_INTEGER) cs ds, h) refl
-
 valid-both : (cs ds : List Comparison) → list_all (is_valid MAX_SAFE_INTEGER) cs ≡ true
     → valid_only MAX_SAFE_INTEGER (cs ++ ds) ≡ (valid_only MAX_SAFE_INTEGER ds >>? λ l. Some (cs ++ l))
 valid-both cs ds h = grind (arith, nat_tests, common_steps, list_all-append)
@@ -174,7 +168,7 @@ Between include e r = IsFound include (valid_only MAX_SAFE_INTEGER (hyphen_compa
 
 pub lower-invalid : (include : Bool) (e : Ended × Ended) (all : Option (Span VersionValue))
     → NarrowedBy include all (hyphen_lower include e.0.0 e.0.1) None → Between include e None
-lower-invalid include e all n = rw (none-left (hyphen_lower include e.0.0 e.0.1) (hyphen_upper include e.1.0 e.1.1) n) tt
+lower-invalid include e all n = rw (list_all-append (is_valid MAX_SAFE_INTEGER) (hyphen_lower include e.0.0 e.0.1) (hyphen_upper include e.1.0 e.1.1), n) tt
 
 pub upper-read : (include : Bool) (e : Ended × Ended) (all : Option (Span VersionValue)) (a : Alternative) (r : Option Alternative)
     → IsNarrowed include [] all → NarrowedBy include all (hyphen_lower include e.0.0 e.0.1) (Some a)

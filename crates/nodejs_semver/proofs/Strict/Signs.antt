@@ -307,10 +307,6 @@ equal-front b rest h = rw (eqb-true b 61 h) refl
 abbrev pub Taken : (loose : Bool) → Sign → Partial → List ℕ → List ℕ → List ℕ → List ℕ → Type 0
 Taken loose s p marks x u text = SignTaken loose s p marks x (npm_sign text) u
 
-none-taken : (loose : Bool) (p : Partial) (marks x u : List ℕ) → are_marks loose (compared equal) p marks ≡ true
-    → begins_byte 61 marks ≡ false → begins_component u ≡ true → Taken loose (compared equal) p marks x u (marks ++ u)
-none-taken loose p marks x u h e k = grind (arith, plain-front, component-other, and_parts, marks-all)
-
 -- ---- behind a tilde
 
 tilde-front : (rest : List ℕ) → npm_sign (126 ∷ rest) ≡ (tilde, skip_tilde rest (drop_spaces rest))
@@ -378,7 +374,7 @@ signed-taken loose tilde p y marks x u h m k =
 
 pub sign-taken : (loose : Bool) (signs : List ℕ) (s : Sign) (p : Partial) (marks x u : List ℕ) → IsSignText signs s → are_marks loose s p marks ≡ true
     → (is_empty signs && begins_byte 61 marks) ≡ false → begins_component u ≡ true → Taken loose s p marks x u (signs ++ (marks ++ u))
-sign-taken loose signs s p marks x u no_sign m none k = none-taken loose p marks x u m none k
+sign-taken loose signs s p marks x u no_sign m none k = grind (arith, plain-front, component-other, and_parts, marks-all)
 sign-taken loose signs s p marks x u (sign t y h) m none k = signed-taken loose t p y marks x u h m k
 sign-taken loose signs s p marks x u (late_above y h) m none k =
     grind (arith, nat_tests, common_steps, opens, marks-all, append_assoc, above-front, late-read, kept)
