@@ -25,8 +25,4 @@ returns-clause-value c =
     ranged_kept found some none
 
 pub returns-clause-accepts : goal.returns-clause-accepts
-returns-clause-accepts c =
-    let found = c.args.intervals.items in
-    let some : list_any is_unbounded found ≡ false = first_of (search rules, grind (arith, common_steps)) in
-    let none : is_empty found ≡ false = first_of (search rules, grind (arith, common_steps)) in
-    ranged_list found found (ranged_kept found some none)
+returns-clause-accepts c = ranged_list c.args.intervals.items c.args.intervals.items (returns-clause-value c)
