@@ -4,11 +4,11 @@ use Rattle.nodejs_semver.proofs.Common.{above, ap, arith, at_most, below, codes,
 use Rattle.nodejs_semver.proofs.Common.{is_release, length, list_all, nat_tests, not, precedence, refl, true, ℕ, ◌&&◌, ◌+◌, ◌==◌, ◌||◌, ◌∙◌}
 use Rattle.nodejs_semver.proofs.{Common.{◌∷◌, ◌≡◌, ◌≤◌}, NpmCommon.{AreRead, Bounds, Comparison, IsCommon, MAX_LENGTH, Numbers, are_normal}}
 use Rattle.nodejs_semver.proofs.NpmCommon.{at_least, bytes_eq, caret_from, comparator_view, compared, counts, first, from, hyphen_upper}
-use Rattle.nodejs_semver.proofs.NpmCommon.{is_valid, is_zero, made, nat_le, next_changed, npm_partial_view, npm_sign_view, under}
-use Rattle.nodejs_semver.proofs.{NpmCommon.{version_text, whole, wildcard, within}, Strict.Narrowing.{both_common, compared_span}}
-use Rattle.nodejs_semver.proofs.Strict.{Narrowing.{comparison, everything, one_common, uncounted_common}, Printed.{from_valid, prints_zero}}
-use Rattle.nodejs_semver.{proofs.Strict.Printed.under_valid, specs.{Internal.NpmMeaning.is_part, Npm.Table.{Partial, caret, lowest, next}}}
-use Rattle.{nodejs_semver.specs.Npm.Table.{no_build, table, tilde}, semver_core.specs.Values.Versions.IsVersion}
+use Rattle.nodejs_semver.proofs.NpmCommon.{is_valid, is_zero, made, nat_le, next_changed, npm_partial_view, under, version_text, whole}
+use Rattle.nodejs_semver.proofs.{NpmCommon.within, Strict.Narrowing.{both_common, compared_span, comparison, everything, one_common}}
+use Rattle.nodejs_semver.proofs.Strict.{Narrowing.uncounted_common, Printed.{from_valid, prints_zero, under_valid}}
+use Rattle.nodejs_semver.specs.{Internal.NpmMeaning.is_part, Npm.Table.{Partial, caret, lowest, next, no_build, table, tilde}}
+use Rattle.semver_core.specs.Values.Versions.{IsVersion}
 use Rattle.nodejs_semver.specs.Text.Table as Spans
 use Rattle.nodejs_semver.specs.declared.npm.partial.Partial as Declared
 use Rattle.nodejs_semver.specs.declared.npm.partial.Partial.TheVariants as Partials
@@ -86,14 +86,6 @@ module _ (include : Bool) (text : List ℕ) (a : Numbers) (r : Option Bounds) wh
       → AreRead include (under a ∷ []) r → AreRead include (table include (compared (comparator_view d)) p text) r
   part_at_most p d g i e h = grind arith
 
-  pub wildcard_above : (d : DeclaredComparator.Comparator) → d ≡ Comparators.Above → AreRead include (under (0, 0, 0) ∷ []) r
-      → AreRead include (table include (compared (comparator_view d)) wildcard text) r
-  wildcard_above d e h = rw e h
-
-  pub wildcard_below : (d : DeclaredComparator.Comparator) → d ≡ Comparators.Below → AreRead include (under (0, 0, 0) ∷ []) r
-      → AreRead include (table include (compared (comparator_view d)) wildcard text) r
-  wildcard_below d e h = rw e h
-
 -- ---- the rows of a whole version
 
 whole_valid : (c : Comparator) (v : VersionValue) (text : List ℕ) → within (first (whole v)) ≡ true → length text ≤ MAX_LENGTH
@@ -152,16 +144,3 @@ pub printed_read : (include : Bool) (v : VersionValue) (s : Span VersionValue) �
     → (list_all (is_valid MAX_SAFE_INTEGER) (made at_most (no_build v) ∷ []) ≡ true)
     × IsCommon include (made at_most (no_build v) ∷ []) s
 printed_read include v s w n l e = (rw (w, l) refl, rw e (one_common include at_most v [] _ (whole_readable v w n) (either_true include)))
-
--- ---- the sign
-
-module _ (include : Bool) (s : DeclaredSign.Sign) (p : Partial) (text : List ℕ) (r : Option Bounds) where
-  pub row_caret : s ≡ Signs.Caret → AreRead include (table include caret p text) r → AreRead include (table include (npm_sign_view s) p text) r
-  row_caret e h = rw e h
-
-  pub row_tilde : s ≡ Signs.Tilde → AreRead include (table include tilde p text) r → AreRead include (table include (npm_sign_view s) p text) r
-  row_tilde e h = rw e h
-
-  pub row_compared : (d : DeclaredComparator.Comparator) → s ≡ Signs.Compared d → AreRead include (table include (compared (comparator_view d)) p text) r
-      → AreRead include (table include (npm_sign_view s) p text) r
-  row_compared d e h = rw e h
