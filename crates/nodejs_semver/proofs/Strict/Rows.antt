@@ -12,8 +12,6 @@ use Rattle.semver_core.specs.Values.Versions.{IsVersion}
 use Rattle.nodejs_semver.specs.Text.Table as Spans
 use Rattle.nodejs_semver.specs.declared.npm.partial.Partial as Declared
 use Rattle.nodejs_semver.specs.declared.npm.partial.Partial.TheVariants as Partials
-use Rattle.nodejs_semver.specs.declared.npm.partial.Sign as DeclaredSign
-use Rattle.nodejs_semver.specs.declared.npm.partial.Sign.TheVariants as Signs
 use Rattle.nodejs_semver.specs.declared.readers.syntax.Comparator as DeclaredComparator
 use Rattle.nodejs_semver.specs.declared.readers.syntax.Comparator.TheVariants as Comparators
 
