@@ -1,22 +1,22 @@
 -- The alternatives of node-semver's range texts: the function that reads them finds exactly what the statement has.
-use Rattle.nodejs_semver.proofs.Common.{Bool, IsBlank, IsUtf8, List, None, Some, [], after_spaces, all_weaker, and_parts, ap}
-use Rattle.nodejs_semver.proofs.Common.{append-nil, append_assoc, arith, begins, cases_Bool, common_steps, drop_spaces}
-use Rattle.nodejs_semver.proofs.Common.{drop_spaces-blank, drop_spaces-none, false, inl, inr, is_empty, length, list_all}
-use Rattle.nodejs_semver.proofs.Common.{nat_tests, not, or_right, refl, same_Some, space_len, subst, suc, sym, take, true, zero}
-use Rattle.nodejs_semver.proofs.{Common.{ℕ, ◌&&◌, ◌++◌, ◌-◌, ◌<◌, ◌==◌, ◌||◌, ◌∙◌, ◌∷◌, ◌≡◌}, NpmCommon.AreEndMarks}
-use Rattle.nodejs_semver.proofs.NpmCommon.{AreWords, Comparison, Ended, IsAlternative, IsPartial, IsSignText, IsWord}
-use Rattle.nodejs_semver.proofs.NpmCommon.{after_ends, alternative_of, drop_ends, end_front, hyphen_comparisons, hyphen_ends}
-use Rattle.nodejs_semver.proofs.NpmCommon.{hyphen_lower, hyphen_upper, ignored, is_free_lower, is_free_upper, is_malformed}
-use Rattle.nodejs_semver.proofs.{NpmCommon.{is_mark, is_visible, last, last_end, word}, Reading.Bytes.all-join}
-use Rattle.nodejs_semver.proofs.{Reading.{Bytes.begins_component, Steps.option-cases}, Strict.Hyphens.after_ends-drop}
-use Rattle.nodejs_semver.proofs.Strict.Hyphens.{dash-read, end-read, ends-space, hyphen-found, mark-dark, marks-passed}
-use Rattle.nodejs_semver.proofs.Strict.{Hyphens.{marks-whole, whole-dark}, Malformed.{blank-dark, blank-signal, boundary-dark}}
-use Rattle.nodejs_semver.proofs.Strict.Malformed.{is_dark, is_part, is_signal, malformed-all, malformed-more, part-visible}
-use Rattle.nodejs_semver.proofs.Strict.{Malformed.{partial-part, sign-signal}, PartialLaw.{boundary-quiet, partial-read}}
-use Rattle.nodejs_semver.proofs.Strict.{SignsRead.marks-all, Words.{blank-boundary, blank-space, not-empty, partial-begins}}
-use Rattle.nodejs_semver.{proofs.Strict.Words.{words-found, words-read, words-visible}, specs.Internal.NpmWords.partial_front}
-use Rattle.nodejs_semver.specs.{Internal.NpmWords.words_within, Npm.{RangeText.{hyphen, more, nothing, words}, Table.Partial}}
-use Rattle.nodejs_semver.specs.Npm.Table.{Sign}
+use Rattle.nodejs_semver.proofs.Common.{AllByRecursion, Bool, IsBlank, IsUtf8, List, None, Some, [], after_spaces, all_weaker, and_parts}
+use Rattle.nodejs_semver.proofs.Common.{ap, append-nil, append_assoc, arith, begins, bind_some, cases_Bool, common_steps, cut_bars}
+use Rattle.nodejs_semver.proofs.Common.{drop_spaces, drop_spaces-blank, drop_spaces-none, false, inl, inr, is_empty, length, list_all, map}
+use Rattle.nodejs_semver.proofs.Common.{middle_is_trim, nat_tests, not, or_right, refl, same_Some, space_len, subst, suc, sym, take, trim}
+use Rattle.nodejs_semver.proofs.Common.{trim_is_middle, true, zero, ℕ, ◌&&◌, ◌++◌, ◌-◌, ◌<◌, ◌==◌, ◌||◌, ◌↔◌, ◌∙◌, ◌∷◌, ◌≡◌}
+use Rattle.nodejs_semver.proofs.{Dividing.{BarsDivide.{bars_divide, bars_once}, MeaningLaw.pieces-utf8}, NpmCommon.AreAlternatives}
+use Rattle.nodejs_semver.proofs.NpmCommon.{AreEndMarks, AreWords, Comparison, Ended, HasAlternativesIn, IsAlternative, IsPartial, IsWord}
+use Rattle.nodejs_semver.proofs.NpmCommon.{after_ends, alternative_of, alternatives_of, drop_ends, end_front, hyphen_comparisons}
+use Rattle.nodejs_semver.proofs.NpmCommon.{hyphen_ends, hyphen_lower, hyphen_upper, ignored, is_free_lower, is_free_upper, is_malformed}
+use Rattle.nodejs_semver.proofs.{NpmCommon.{is_mark, is_valid, is_visible, kept, last, last_end, word}, Reading.Bytes.all-join}
+use Rattle.nodejs_semver.proofs.{Reading.{Bytes.begins_component, Steps.option-cases, WordLaw.trim-utf8}, Strict.Hyphens.after_ends-drop}
+use Rattle.nodejs_semver.proofs.Strict.Hyphens.{dash-read, end-read, ends-space, hyphen-found, mark-dark, marks-passed, marks-whole}
+use Rattle.nodejs_semver.proofs.Strict.{Hyphens.whole-dark, Malformed.{blank-dark, blank-signal, boundary-dark, is_dark, is_part}}
+use Rattle.nodejs_semver.proofs.Strict.Malformed.{is_signal, malformed-all, malformed-more, part-visible, partial-part, sign-signal}
+use Rattle.nodejs_semver.proofs.Strict.{PartialLaw.{boundary-quiet, partial-read}, Signs.marks-all, Words.{blank-boundary, blank-space}}
+use Rattle.nodejs_semver.proofs.Strict.Words.{not-empty, partial-begins, words-found, words-read, words-visible}
+use Rattle.nodejs_semver.specs.{Internal.NpmWords.{npm_alternatives, partial_front, words_within}, Npm.RangeText.{hyphen, more, next}}
+use Rattle.nodejs_semver.specs.Npm.{RangeText.{nothing, words}, Table.Partial}
 
 -- ---- no `-` stands alone behind whitespace in words
 
@@ -58,12 +58,6 @@ loose-more (b ∷ u) v h = or_right (not (is_visible b) && lone (u ++ v)) (apart
 
 -- ---- bytes of whitespace
 
-signal-other : (b : ℕ) → is_signal b ≡ true → is_other b ≡ true
-signal-other b h = grind (arith, nat_tests)
-
-blank-other : (x : List ℕ) → IsBlank x → list_all is_other x ≡ true
-blank-other x h = all_weaker is_signal is_other signal-other x (blank-signal x h)
-
 loose-blank : (x z : List ℕ) → list_all is_dark x ≡ true → 0 < length x → is_empty z ≡ false → begins is_visible z ≡ false
     → apart (x ++ (45 ∷ z)) ≡ true
 loose-blank [] z h some filled ends = absurd (omega (arith, some))
@@ -74,26 +68,13 @@ loose-blank (b ∷ c ∷ x) z h some filled ends =
 
 -- ---- the texts of words
 
-partial-tight : (loose : Bool) (x : List ℕ) (p : Partial) → IsPartial loose x p → list_all is_visible x ≡ true
-partial-tight loose x p h = all_weaker is_part is_visible part-visible x (partial-part loose x p h)
-
-sign-other : (signs : List ℕ) (s : Sign) → IsSignText signs s → list_all is_other signs ≡ true
-sign-other signs s h = all_weaker is_signal is_other signal-other signs (sign-signal signs s h)
-
-mark-other : (b : ℕ) → is_mark b ≡ true → is_other b ≡ true
-mark-other b h = grind (arith, nat_tests)
-
 component-first : (u : List ℕ) → begins_component u ≡ true → lone u ≡ false
-component-first [] h = refl
-component-first (b ∷ u) h = grind (arith, nat_tests)
+component-first u h = grind (arith, nat_tests)
 
 -- a word begins with no such `-`, and what is behind it decides
 word-first : (loose : Bool) (include : Bool) (w v : List ℕ) (cs : List Comparison) → IsWord loose include (is_empty v) w cs
     → (apart (w ++ v) ≡ apart v) × (lone (w ++ v) ≡ false)
-word-first loose include w v cs (ignored x l h) = (
-  tight-passed x v (malformed-all (is_empty v) x h),
-  no-dash x v h,
-)
+word-first loose include w v cs (ignored x l h) = (tight-passed x v (malformed-all (is_empty v) x h), no-dash x v h)
   where
     no-dash : (x v : List ℕ) → is_malformed (is_empty v) x ≡ true → lone (x ++ v) ≡ false
     no-dash [] v h = cc h
@@ -107,9 +88,12 @@ word-first loose include w v cs (ignored x l h) = (
         rw tight (and-none (b == 45) false refl)
 word-first loose include w v cs (word signs marks x s p h m e k) =
     let text_is : (signs ++ (marks ++ x)) ++ v ≡ (signs ++ marks) ++ (x ++ v) = simp append_assoc refl in
-    let front = all-join is_other signs marks (sign-other signs s h) (all_weaker is_mark is_other mark-other marks (marks-all loose s p marks m)) in
+    let sign_other = all_weaker is_signal is_other (λ b k. grind (arith, nat_tests)) signs (sign-signal signs s h) in
+    let mark_other = all_weaker is_mark is_other (λ b k. grind (arith, nat_tests)) marks (marks-all loose s p marks m) in
+    let front = all-join is_other signs marks sign_other mark_other in
+    let tight = all_weaker is_part is_visible part-visible x (partial-part loose x p k) in
     let first = component-first (x ++ v) (partial-begins loose x v p k) in (
-      rw text_is (other-passed (signs ++ marks) (x ++ v) front first ∙ tight-passed x v (partial-tight loose x p k)),
+      rw text_is (other-passed (signs ++ marks) (x ++ v) front first ∙ tight-passed x v tight),
       rw text_is (other-first (signs ++ marks) (x ++ v) front first),
     )
 
@@ -120,13 +104,10 @@ words-first loose include text cs (more t blank rest ds es h hb some k) =
     let here = subst (λ (l : Bool). IsWord loose include l t ds) (sym (not-empty blank rest some)) h in
     let w = word-first loose include t (blank ++ rest) ds here in
     let r = words-first loose include rest es k in
-    (w.0 ∙ other-passed blank rest (blank-other blank hb) r.1 ∙ r.0, w.1)
+    let other = all_weaker is_signal is_other (λ b k. grind (arith, nat_tests)) blank (blank-signal blank hb) in
+    (w.0 ∙ other-passed blank rest other r.1 ∙ r.0, w.1)
 
 -- ---- hyphen ranges: what is written is read
-
-upper-same : (include : Bool) (q : Partial) (text other : List ℕ) → is_free_upper include q ≡ true
-    → hyphen_upper include q text ≡ hyphen_upper include q other
-upper-same include q text other h = grind (arith, nat_tests, common_steps)
 
 ends-after : (n : ℕ) (text : List ℕ) → drop_ends (after_spaces n text) ≡ after_ends n text
 unfolding after_spaces after_ends
@@ -135,10 +116,7 @@ ends-after (suc n) (b ∷ rest) = ends-after n rest
 ends-after zero (b ∷ rest) = go (λ n. ends-after n rest) (space_len (b ∷ rest)) refl
   where
     no-mark : (n : ℕ) → space_len (b ∷ rest) ≡ suc n → is_mark b ≡ false
-    no-mark n e = elim (cases_Bool (is_mark b)) [
-      | inl mark ↦ absurd (omega (arith, e, mark-dark b rest mark))
-      | inr other ↦ other
-    ]
+    no-mark n e = grind (arith, nat_tests, mark-dark)
 
     go : ((n : ℕ) → drop_ends (after_spaces n rest) ≡ after_ends n rest) → (n : ℕ) → space_len (b ∷ rest) ≡ n
         → drop_ends (after_spaces 0 (b ∷ rest)) ≡ after_ends 0 (b ∷ rest)
@@ -168,17 +146,14 @@ upper-read loose include gap b y q hg h k =
           record {
             taken = take (length second - 0) second;
             is = rw (passed, read, free) refl;
-            same = upper-same include q (take (length second - 0) second) (b ++ y) free;
+            same = grind (arith, nat_tests, common_steps);
           }
       | inr bound ↦
-          let none : second ≡ b ++ y = at_gap ∙ drop_spaces-none (b ++ y) (bound-dark b y (rw bound at h) begin) in
+          let none : second ≡ b ++ y = at_gap ∙ drop_spaces-none (b ++ y) (whole-dark loose b y (marks-whole loose false b (rw bound at h)) begin) in
           let at_end : end_front loose (is_free_upper include) (b ++ y) ≡ Some ((q, b ++ y), []) =
           rw append-nil at (end-read loose (is_free_upper include) b y [] q h k refl) in
           record { taken = b ++ y; is = rw (none, at_end) refl; same = refl }
     ]
-  where
-    bound-dark : (b y : List ℕ) → AreEndMarks loose false b → begins_component y ≡ true → space_len (b ++ y) ≡ 0
-    bound-dark b y h begin = whole-dark loose b y (marks-whole loose false b h) begin
 
 pub hyphen-read : (loose : Bool) (include : Bool) (a x blank gap b y : List ℕ) (p q : Partial) → AreEndMarks loose (is_free_lower p) a → IsPartial loose x p
     → IsBlank blank → 0 < length blank → IsBlank gap → 0 < length gap → AreEndMarks loose (is_free_upper include q) b → IsPartial loose y q
@@ -237,8 +212,50 @@ alternative-found loose include (b ∷ text) cs u h =
     let found = words_within loose include (length (b ∷ text)) (b ∷ text) in
     elim (option-cases found) [
       | inr some ↦
-          let is : IsAlternative loose include (b ∷ text) some.0 =
-          words (b ∷ text) some.0 (words-found loose include (length (b ∷ text)) (b ∷ text) some.0 u some.1) in
-          subst (λ (l : List Comparison). IsAlternative loose include (b ∷ text) l) (same_Some _ _ (rw some.1 at h)) is
+          let is = words (b ∷ text) some.0 (words-found loose include (length (b ∷ text)) (b ∷ text) some.0 u some.1) in
+          grind (arith, nat_tests, common_steps, same_Some)
       | inl none ↦ grind (arith, nat_tests, common_steps, same_Some, hyphen-found)
     ]
+
+-- ---- range texts as node-semver reads them: the function that reads the alternatives finds exactly what the statement has
+
+each-read : (loose : Bool) (include : Bool) (pieces : List (List ℕ)) (ls : List (List Comparison)) → AllByRecursion IsUtf8 pieces
+    → AreAlternatives loose include pieces ls → alternatives_of loose include (map trim pieces) ≡ Some ls
+unfolding alternatives_of
+each-read loose include pieces ls u AreAlternatives.none = refl
+each-read loose include pieces ls u (next piece text others cs rest is_trim is each) =
+    let v = trim-utf8 piece text u.0 is_trim in
+    let same : text ≡ trim piece = middle_is_trim piece text is_trim in
+    grind (arith, alternative-read, each-read loose include others rest u.1 each)
+
+each-found : (loose : Bool) (include : Bool) (pieces : List (List ℕ)) (ls : List (List Comparison)) → AllByRecursion IsUtf8 pieces
+    → alternatives_of loose include (map trim pieces) ≡ Some ls → AreAlternatives loose include pieces ls
+unfolding alternatives_of
+each-found loose include [] ls u h = subst (λ (l : List (List Comparison)). AreAlternatives loose include [] l) (same_Some _ _ h) AreAlternatives.none
+each-found loose include (piece ∷ others) ls u h =
+    let cs = bind_some (alternative_of loose include (trim piece)) _ ls h in
+    let rest = bind_some (alternatives_of loose include (map trim others)) (λ rest. Some (kept loose (trim piece) cs.0 rest)) ls cs.2 in
+    let is_trim = trim_is_middle piece u.0 in
+    let is = alternative-found loose include (trim piece) cs.0 (trim-utf8 piece (trim piece) u.0 is_trim) cs.1 in
+    let found = next piece (trim piece) others cs.0 rest.0 is_trim is (each-found loose include others rest.0 u.1 rest.1) in
+    grind (arith, nat_tests, common_steps)
+
+-- a text has the alternatives that are read, if they are valid
+pub alternatives_are : (loose : Bool) (limit : ℕ) (include : Bool) (text : List ℕ) (ls : List (List Comparison)) → IsUtf8 text
+    → HasAlternativesIn loose limit include text ls ↔ ((npm_alternatives loose include text ≡ Some ls)
+    × (list_all (list_all (is_valid limit)) ls ≡ true) × (is_empty ls ≡ false))
+alternatives_are loose limit include text ls u = (
+  λ h.
+      (let e = bars_once text h.parts h.divided in
+      let read = each-read loose include h.parts ls (pieces-utf8 text h.parts h.divided u) h.each in
+      (ap (λ (ps : List (List ℕ)). alternatives_of loose include (map trim ps)) (sym e) ∙ read, h.valid, h.some)),
+  λ h.
+      let cut = bars_divide text in
+      record {
+        parts = cut_bars false text;
+        divided = cut;
+        each = each-found loose include (cut_bars false text) ls (pieces-utf8 text (cut_bars false text) cut u) h.0;
+        valid = h.1;
+        some = h.2;
+      },
+)

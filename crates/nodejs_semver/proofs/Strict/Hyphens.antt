@@ -1,19 +1,18 @@
 -- Hyphen ranges of node-semver's range texts: the functions that read them find exactly what the statement has.
-use Rattle.nodejs_semver.proofs.Common.{Bool, IsBlank, IsUtf8, List, Some, [], and_parts, ap, append-nil, append_assoc, arith}
-use Rattle.nodejs_semver.proofs.Common.{begins, bind_some, cases_Bool, common_steps, cond_some, drop, drop_at, drop_spaces}
-use Rattle.nodejs_semver.proofs.Common.{encode_utf8, encode_utf8_all, false, inl, inr, is_empty, is_whitespace, len_utf8_bounds}
-use Rattle.nodejs_semver.proofs.Common.{length, length-encode, list_all, nat_tests, refl, space_len, space_len-nil, subst, suc}
-use Rattle.nodejs_semver.proofs.Common.{sym, take, true, zero, ℕ, ◌++◌, ◌-◌, ◌<◌, ◌||◌, ◌∙◌, ◌∷◌, ◌≡◌, ◌⊎◌}
-use Rattle.nodejs_semver.proofs.NpmCommon.{AreEndMarks, Ended, IsAlternative, IsPartial, after_byte, after_ends}
-use Rattle.nodejs_semver.proofs.NpmCommon.{are_whole_marks, drop_ends, encode_ascii, end_front, ended_end, hyphen_comparisons}
-use Rattle.nodejs_semver.proofs.NpmCommon.{hyphen_ends, is_free_lower, is_free_upper, is_mark, is_one_v, last_end, len_utf8}
-use Rattle.nodejs_semver.proofs.{NpmCommon.space_len-white, Dividing.MeaningLaw.no_characters, Reading.Bytes.begins_component}
-use Rattle.nodejs_semver.proofs.Reading.{Bytes.{component-solid, is_solid, solid-dark}, WordLaw.{byte-is, tail-utf8}}
-use Rattle.nodejs_semver.proofs.Strict.{PartialLaw.{partial-found, partial-read}, Signs.blank-at, SignsRead.blank-skipped}
-use Rattle.nodejs_semver.proofs.Strict.{VersionLaw.empty-is, Words.{blank-some, blank-space, front-text, partial-begins}}
-use Rattle.nodejs_semver.{proofs.Strict.Words.{rest-utf8, space-boundary}, specs.Internal.NpmWords.{after_dash, partial_front}}
-use Rattle.nodejs_semver.specs.{Internal.Words.after_some_space, Npm.{RangeText.hyphen, Table.Partial}}
-use Rattle.{semver_core.proofs.Text.SpaceLaw.space_len-dark, std.proofs.lemmas.Str.{IsUtf8-past_char, encode_same}}
+use Rattle.nodejs_semver.proofs.Common.{Bool, IsBlank, IsUtf8, List, Some, [], and_parts, ap, append-nil, append_assoc, arith, begins}
+use Rattle.nodejs_semver.proofs.Common.{bind_some, cases_Bool, common_steps, cond_some, drop, drop_at, drop_spaces, encode_utf8}
+use Rattle.nodejs_semver.proofs.Common.{encode_utf8_all, false, inl, inr, is_empty, is_whitespace, len_utf8_bounds, length, length-encode}
+use Rattle.nodejs_semver.proofs.Common.{list_all, nat_tests, refl, space_len, space_len-nil, subst, suc, sym, take, true, zero, ℕ, ◌++◌}
+use Rattle.nodejs_semver.proofs.{Common.{◌-◌, ◌<◌, ◌||◌, ◌∙◌, ◌∷◌, ◌≡◌, ◌⊎◌}, NpmCommon.{AreEndMarks, Ended, IsAlternative, IsPartial}}
+use Rattle.nodejs_semver.proofs.NpmCommon.{after_byte, after_ends, are_whole_marks, chars_from_encodes, drop_ends, encode_ascii, end_front}
+use Rattle.nodejs_semver.proofs.NpmCommon.{ended_end, hyphen_comparisons, hyphen_ends, is_free_lower, is_free_upper, is_mark, is_one_v}
+use Rattle.nodejs_semver.proofs.{NpmCommon.{last_end, len_utf8, space_len-white}, Reading.Bytes.{begins_component, component-solid}}
+use Rattle.nodejs_semver.proofs.{Reading.{Bytes.{is_solid, solid-dark}, WordLaw.{byte-is, tail-utf8}}, Strict.PartialLaw.partial-found}
+use Rattle.nodejs_semver.proofs.Strict.{PartialLaw.partial-read, Signs.{blank-at, blank-skipped}, VersionLaw.empty-is, Words.blank-some}
+use Rattle.nodejs_semver.proofs.Strict.Words.{blank-space, front-text, partial-begins, rest-utf8, space-boundary}
+use Rattle.nodejs_semver.specs.{Internal.{NpmWords.{after_dash, partial_front}, Words.after_some_space}, Npm.RangeText.hyphen}
+use Rattle.{nodejs_semver.specs.Npm.Table.Partial, semver_core.proofs.Text.SpaceLaw.space_len-dark, std.proofs.lemmas.Str.IsUtf8-from_ascii}
+use Rattle.std.{proofs.lemmas.Str.{IsUtf8-past_char, chars-IsAscii, encode_same, encodes-chars}, specs.Str.IsAscii}
 
 -- ---- marks and whitespace at the front
 
@@ -95,12 +94,7 @@ ends-from (c ∷ cs) text u e =
       | inl passed ↦
           let step : drop_ends text ≡ drop_ends rest = ap drop_ends (sym e) ∙ ends-char c rest passed in
           let r = ends-from cs rest (IsUtf8-past_char text rest c u (sym e)) refl in
-          record {
-            characters = c ∷ r.characters;
-            each = rw passed r.each;
-            split = grind (arith, nat_tests, common_steps);
-            utf8 = rw step r.utf8;
-          }
+          record { characters = c ∷ r.characters; each = rw passed r.each; split = grind (arith, nat_tests, common_steps); utf8 = rw step r.utf8 }
     ]
 
 pub ends-found : (text : List ℕ) → IsUtf8 text → EndsAt text
@@ -110,57 +104,38 @@ pub ends-read : (cs u : List ℕ) → list_all is_end cs ≡ true → begins is_
 ends-read [] u h other dark = ends-none u other dark
 ends-read (c ∷ cs) u h other dark = grind (arith, nat_tests, common_steps, and_parts, append_assoc, ends-char, ends-read cs u)
 
--- ---- one `v`, as characters and as bytes
-
-one-bytes : (cs : List ℕ) → is_one_v cs ≡ true → is_one_v (encode_utf8_all cs) ≡ true
-one-bytes cs h = grind (arith, nat_tests, common_steps)
+-- ---- marks of whole versions are the same as characters and as bytes
 
 one-first : (text : List ℕ) → is_one_v text ≡ true → (text ≡ []) ⊎ (text ≡ 118 ∷ [])
 one-first text h = grind (arith, nat_tests, common_steps)
 
-one-characters : (cs : List ℕ) → is_one_v (encode_utf8_all cs) ≡ true → is_one_v cs ≡ true
-one-characters [] h = refl
-one-characters (c ∷ cs) h = elim (one-first (encode_utf8_all (c ∷ cs)) h) [
-  | inl none ↦ cc (no_characters (c ∷ cs) none)
-  | inr one ↦
-      let same = encode_same c 118 (encode_utf8_all cs) [] (one ∙ rw (encode_ascii 118 (omega arith)) refl) in
-      rw (no_characters cs same.1, same.0) refl
-]
+marks-ascii : (text : List ℕ) → list_all is_mark text ≡ true → IsAscii text
+marks-ascii text h = grind (arith, nat_tests, common_steps)
 
--- ---- marks of whole versions, as characters and as bytes
-
-all-bytes : (cs : List ℕ) → list_all is_mark cs ≡ true → list_all is_mark (encode_utf8_all cs) ≡ true
-all-bytes [] h = refl
-all-bytes (c ∷ cs) h = grind (arith, nat_tests, common_steps, and_parts, encode_ascii, mark-ascii, all-bytes cs)
-
-all-characters : (cs : List ℕ) → list_all is_mark (encode_utf8_all cs) ≡ true → list_all is_mark cs ≡ true
-all-characters [] h = refl
-all-characters (c ∷ cs) h = go (λ k. all-characters cs k) (encode_utf8_all (c ∷ cs)) refl h
-  where
-    go : (list_all is_mark (encode_utf8_all cs) ≡ true → list_all is_mark cs ≡ true) → (text : List ℕ) → encode_utf8_all (c ∷ cs) ≡ text
-        → list_all is_mark text ≡ true → list_all is_mark (c ∷ cs) ≡ true
-    go f [] e k = cc (no_characters (c ∷ cs) e)
-    go f (b ∷ text) e k =
-        let each = and_parts (is_mark b) (list_all is_mark text) k in
-        let same = encode_same c b (encode_utf8_all cs) text (e ∙ rw (encode_ascii b (mark-ascii b each.0)) refl) in
-        rw (same.0, each.0) (f (rw same.1 each.1))
+whole-ascii : (loose : Bool) (text : List ℕ) → are_whole_marks loose text ≡ true → IsAscii text
+whole-ascii true text h = marks-ascii text h
+whole-ascii false text h = elim (one-first text h) [ inl e ↦ rw e (marks-ascii [] refl) | inr e ↦ rw e (marks-ascii (118 ∷ []) refl) ]
 
 whole-bytes : (loose : Bool) (cs : List ℕ) → are_whole_marks loose cs ≡ true → are_whole_marks loose (encode_utf8_all cs) ≡ true
-whole-bytes loose cs h = grind (arith, nat_tests, common_steps, all-bytes, one-bytes)
+whole-bytes loose cs h =
+    let ascii = whole-ascii loose cs h in
+    let same : encode_utf8_all cs ≡ cs = rw (chars-IsAscii cs ascii) at (encodes-chars cs (IsUtf8-from_ascii cs ascii)) in
+    rw same h
 
 whole-characters : (loose : Bool) (cs : List ℕ) → are_whole_marks loose (encode_utf8_all cs) ≡ true → are_whole_marks loose cs ≡ true
-whole-characters loose cs h = grind (arith, nat_tests, common_steps, all-characters, one-characters)
+whole-characters loose cs h =
+    let bytes = encode_utf8_all cs in
+    let ascii = whole-ascii loose bytes h in
+    let same : cs ≡ bytes = chars_from_encodes cs bytes (IsUtf8-from_ascii bytes ascii) refl ∙ chars-IsAscii bytes ascii in
+    subst (λ (t : List ℕ). are_whole_marks loose t ≡ true) (sym same) h
 
 -- ---- an end: what is written is read
-
-component-end : (u : List ℕ) → begins_component u ≡ true → begins is_mark u ≡ false
-component-end u h = grind (arith, nat_tests)
 
 component-dark : (u : List ℕ) → begins_component u ≡ true → space_len u ≡ 0
 component-dark u h = solid-dark u (component-solid u h)
 
 pub marks-passed : (loose free : Bool) (a u : List ℕ) → AreEndMarks loose free a → begins_component u ≡ true → drop_ends (a ++ u) ≡ u
-marks-passed loose free a u h k = rw h.spelled (ends-read h.characters u h.each (component-end u k) (component-dark u k))
+marks-passed loose free a u h k = rw h.spelled (ends-read h.characters u h.each (grind (arith, nat_tests)) (component-dark u k))
 
 pub marks-whole : (loose free : Bool) (a : List ℕ) → AreEndMarks loose free a → (free || are_whole_marks loose a) ≡ true
 marks-whole loose free a h = grind (arith, nat_tests, common_steps, whole-bytes)
@@ -171,8 +146,7 @@ unfolding end_front
 end-read loose free a x rest p h k quiet =
     let u = x ++ rest in
     let passed = marks-passed loose (free p) a u h (partial-begins loose x rest p k) in
-    let text : take (length (a ++ u) - length rest) (a ++ u) ≡ a ++ x =
-    rw (append_assoc a x rest) at (front-text (a ++ x) rest) in
+    let text : take (length (a ++ u) - length rest) (a ++ u) ≡ a ++ x = rw (append_assoc a x rest) at (front-text (a ++ x) rest) in
     rw (passed, partial-read loose x rest p k quiet, front-text a u, marks-whole loose (free p) a h, text) refl
 
 -- ---- an end: what is read is written
@@ -198,14 +172,11 @@ end-found loose free text e u h =
     let t = cond_some (free p.0.0 || are_whole_marks loose front) ((p.0.0, taken), p.0.1) e p.2 in
     let part = partial-found loose behind p.0.0 p.0.1 p.1 in
     let whole : text ≡ marks ++ (part.piece ++ p.0.1) = ends.split ∙ ap (λ (t : List ℕ). marks ++ t) part.split in
-    let front_is : front ≡ marks =
-    ap (λ (t : List ℕ). take (length t - length behind) t) ends.split ∙ front-text marks behind in
-    let taken_is : taken ≡ marks ++ part.piece =
-    ap (λ (t : List ℕ). take (length t - length p.0.1) t) (whole ∙ sym (append_assoc marks part.piece p.0.1))
-    ∙ front-text (marks ++ part.piece) p.0.1 in
+    let front_is : front ≡ marks = ap (λ (t : List ℕ). take (length t - length behind) t) ends.split ∙ front-text marks behind in
+    let taken_is = front-text (marks ++ part.piece) p.0.1 in
     let written : (free p.0.0 || are_whole_marks loose ends.characters) ≡ true =
     characters-whole (free p.0.0) ends.characters (subst (λ (x : List ℕ). (free p.0.0 || are_whole_marks loose x) ≡ true) front_is t.0) in
-    grind (arith, nat_tests, common_steps)
+    grind (arith, nat_tests, common_steps, append_assoc)
   where
     characters-whole : (free : Bool) (cs : List ℕ) → (free || are_whole_marks loose (encode_utf8_all cs)) ≡ true
         → (free || are_whole_marks loose cs) ≡ true
@@ -240,16 +211,9 @@ dash-found text second u h =
     let x = blank-at text u in
     let gap_utf8 = tail-utf8 45 g.0 (omega arith) (subst (λ (t : List ℕ). IsUtf8 t) (first.1 ∙ dash) x.utf8) in
     let y = blank-at g.0 gap_utf8 in
-    record {
-      blank = x.blank;
-      gap = y.blank;
-      split = grind (arith, nat_tests, common_steps);
-      blank_is = x.is;
-      gap_is = y.is;
-      some = blank-some text x.blank x.split first.0;
-      more = blank-some g.0 y.blank y.split last.0;
-      utf8 = subst (λ (t : List ℕ). IsUtf8 t) last.1 y.utf8;
-    }
+    let some = blank-some text x.blank x.split first.0 in
+    let more = blank-some g.0 y.blank y.split last.0 in
+    grind (arith, nat_tests, common_steps)
 
 -- ---- hyphen ranges
 
@@ -272,8 +236,7 @@ hyphen-found loose include text e u h =
     let dash = dash-found a.0.1 second.0 v second.1 in
     let upper = end-found loose free second.0 l.0 dash.utf8 l.1 in
     let none = empty-is l.0.1 ended.0 in
-    let last : second.0 ≡ upper.marks ++ upper.piece =
-    upper.split ∙ ap (λ (t : List ℕ). upper.marks ++ (upper.piece ++ t)) none ∙ ap (λ (t : List ℕ). upper.marks ++ t) (append-nil upper.piece) in
+    let last = append-nil upper.piece in
     let is = hyphen lower.marks lower.piece dash.blank dash.gap upper.marks upper.piece a.0.0.0 l.0.0.0 lower.are lower.is dash.blank_is
     dash.some dash.gap_is dash.more upper.are upper.is in
     grind (arith, nat_tests, common_steps)

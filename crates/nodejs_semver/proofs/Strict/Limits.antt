@@ -1,30 +1,23 @@
 -- Places and partial versions with numbers past the limit: what the code reads is what stands there, where no such number counts.
-use Rattle.nodejs_semver.proofs.Common.{Bool, Front, Id, IsNumber, List, MAX_SAFE_INTEGER, None, Option, Some, [], and_parts}
-use Rattle.nodejs_semver.proofs.Common.{ap, append-nil, arith, begins, bind_some, cases_Bool, common_steps, drop, drop_at}
-use Rattle.nodejs_semver.proofs.Common.{false, if◌then◌else◌, inl, inr, is_ascii_digit, is_empty, length, list_all, nat_lt}
-use Rattle.nodejs_semver.proofs.Common.{nat_tests, not, prefix_len, refl, same_Some, subst, sym, take, take-append-drop}
-use Rattle.nodejs_semver.proofs.Common.{take_at, take_rest, true, ℕ, ◌&&◌, ◌++◌, ◌-◌, ◌<◌, ◌||◌, ◌∙◌, ◌∷◌, ◌≡◌, ◌≤◌}
-use Rattle.nodejs_semver.proofs.NpmCommon.{IsPlace, begins_byte, begins_padded, begins_wildcard, counted_front, digits_value}
-use Rattle.nodejs_semver.proofs.NpmCommon.{has_leading_zero, has_zeros, is_small, is_spelled, length-prefix_len, limited}
-use Rattle.nodejs_semver.proofs.NpmCommon.{most_digits, nat_le, number_front, number_of, or-true, partial_of, patch_place}
-use Rattle.nodejs_semver.proofs.NpmCommon.{place_front, qualified_partial, run_place, second_front, strict_number, take_while}
-use Rattle.nodejs_semver.proofs.{NpmCommon.{third_front, ◌>>?◌}, Reading.Numbers.{digits-taken, number-found}}
-use Rattle.nodejs_semver.proofs.{Reading.Numbers.{number-no_wildcard, number-of}, Strict.Numbers.padded-same}
-use Rattle.nodejs_semver.proofs.Strict.Places.{digits-of, number-short, place-read, prefix-all, some-run}
-use Rattle.nodejs_semver.specs.Internal.NpmWords.{Place, any, counted, great, number, partial_front, place_of, place_zeros}
-use Rattle.nodejs_semver.specs.{Internal.NpmWords.{placed, qualified_counted, second_counted, third_counted}, Npm.Table.Partial}
+use Rattle.nodejs_semver.proofs.Common.{Bool, Front, Id, IsNumber, List, MAX_SAFE_INTEGER, None, Option, Some, [], and_parts, ap}
+use Rattle.nodejs_semver.proofs.Common.{append-nil, arith, begins, bind_some, cases_Bool, common_steps, drop, drop_at, false, if◌then◌else◌}
+use Rattle.nodejs_semver.proofs.Common.{inl, inr, is_ascii_digit, is_empty, length, list_all, nat_lt, nat_tests, not, prefix_len, refl}
+use Rattle.nodejs_semver.proofs.Common.{same_Some, subst, sym, take, take-append-drop, take_at, take_rest, true, ℕ, ◌&&◌, ◌++◌, ◌-◌, ◌<◌}
+use Rattle.nodejs_semver.proofs.{Common.{◌||◌, ◌∙◌, ◌∷◌, ◌≡◌, ◌≤◌}, NpmCommon.{IsPlace, begins_byte, begins_padded, begins_wildcard}}
+use Rattle.nodejs_semver.proofs.NpmCommon.{counted_front, digits_value, has_leading_zero, has_zeros, is_small, is_spelled}
+use Rattle.nodejs_semver.proofs.NpmCommon.{length-prefix_len, limited, most_digits, nat_le, number_front, number_of, or-true, partial_of}
+use Rattle.nodejs_semver.proofs.NpmCommon.{patch_place, place_front, qualified_partial, run_place, second_front, strict_number, take_while}
+use Rattle.nodejs_semver.proofs.{NpmCommon.{third_front, ◌>>?◌}, Reading.Numbers.{digits-taken, number-found, number-no_wildcard}}
+use Rattle.nodejs_semver.proofs.{Reading.Numbers.number-of, Strict.{Numbers.{number-short, padded-same}, Places.{digits-of, place-read}}}
+use Rattle.nodejs_semver.{proofs.Strict.Places.{prefix-all, some-run}, specs.Internal.NpmWords.{Place, any, counted, great, number}}
+use Rattle.nodejs_semver.specs.Internal.NpmWords.{partial_front, place_of, place_zeros, placed, qualified_counted, second_counted}
+use Rattle.nodejs_semver.specs.{Internal.NpmWords.third_counted, Npm.Table.Partial}
 use Rattle.nodejs_semver.specs.Npm.RangeText as Text
 
 -- ---- places
 
 abbrev pub some_place : Place → List ℕ → Front Place
 some_place p rest = Some (p, rest)
-
-spelled-bare : (loose zeros : Bool) (n : ℕ) (digits : List ℕ) → has_leading_zero digits ≡ false → is_spelled loose zeros n digits ≡ true
-spelled-bare loose zeros n digits h = rw h refl
-
-spelled-some : (zeros : Bool) (n : ℕ) (digits : List ℕ) → (zeros || nat_lt 0 n) ≡ true → is_spelled true zeros n digits ≡ true
-spelled-some zeros n digits h = rw h (or-true (not (has_leading_zero digits)))
 
 -- the run at the front, where it is not padded, or read loosely
 spelled-great : (loose zeros : Bool) (text run : List ℕ) → 0 < digits_value 10 run → run ≡ take_while is_ascii_digit text
@@ -34,9 +27,6 @@ spelled-great false zeros text run some is bare =
     let behind = drop (prefix_len is_ascii_digit text) text in
     let whole : text ≡ run ++ behind = sym (take-append-drop (prefix_len is_ascii_digit text) text) ∙ ap (λ (t : List ℕ). t ++ behind) (sym is) in
     grind (arith, nat_tests, common_steps)
-
-few-digits : (loose : Bool) (run : List ℕ) → length run ≤ 20 → length run ≤ most_digits loose
-few-digits loose run h = grind (arith, nat_tests, common_steps)
 
 -- a number up to the limit was found
 pub number_placed : (loose zeros : Bool) (text : List ℕ) (n : ℕ) (rest : List ℕ) → strict_number MAX_SAFE_INTEGER text ≡ Some (n, rest)
@@ -49,7 +39,8 @@ number_placed loose zeros text n rest h = elim (cases_Bool (begins_padded text))
       let shortest = sym (padded-same f.run rest f.is.each f.ended) ∙ ap begins_padded (sym f.split) ∙ bare in
       let short = number-short f.run n (record { number = f.is; shortest = shortest }) in
       let same : IsNumber n f.run n = record { some = f.is.some; each = f.is.each; value = f.is.value; safe = omega arith } in
-      let place : IsPlace loose zeros f.run (Some n) = Text.number f.run n same (spelled-bare loose zeros n f.run shortest) (few-digits loose f.run short) in
+      let few : length f.run ≤ most_digits loose = grind (arith, nat_tests, common_steps) in
+      let place : IsPlace loose zeros f.run (Some n) = Text.number f.run n same (rw shortest refl) few in
       grind (arith, nat_tests, common_steps, place-read)
 ]
 
@@ -92,8 +83,7 @@ run-valued : (loose zeros : Bool) (text : List ℕ) → begins_wildcard text ≡
     → is_spelled loose zeros (digits_value 10 (take_while is_ascii_digit text)) (take_while is_ascii_digit text) ≡ true
     → placed MAX_SAFE_INTEGER (place_front loose zeros text)
     ≡ some_place (place_of MAX_SAFE_INTEGER (Some (digits_value 10 (take_while is_ascii_digit text)))) (drop (prefix_len is_ascii_digit text) text)
-run-valued loose zeros text dark some short spelled =
-    grind (arith, nat_tests, common_steps, length-prefix_len, some-run, run-placed)
+run-valued loose zeros text dark some short spelled = grind (arith, nat_tests, common_steps, length-prefix_len, some-run, run-placed)
 
 -- a number up to the limit with leading zeros, read loosely
 pub padded_placed : (zeros : Bool) (text : List ℕ) (n : ℕ) (rest : List ℕ) → begins_wildcard text ≡ false
@@ -104,7 +94,7 @@ padded_placed zeros text n rest dark h short some =
     let size : prefix_len is_ascii_digit text ≡ length f.run =
     ap (λ (t : List ℕ). prefix_len is_ascii_digit t) f.split ∙ digits-taken f.run rest f.is.each f.ended in
     let same : IsNumber n f.run n = record { some = f.is.some; each = f.is.each; value = f.is.value; safe = omega arith } in
-    let place : IsPlace true zeros f.run (Some n) = Text.number f.run n same (spelled-some zeros n f.run some) (omega (arith, size, short)) in
+    let place : IsPlace true zeros f.run (Some n) = Text.number f.run n same (rw some (or-true (not (has_leading_zero f.run)))) (omega (arith, size, short)) in
     grind (arith, nat_tests, common_steps, place-read)
 
 pub great_placed : (loose zeros : Bool) (text : List ℕ) (at : ℕ) → number_front MAX_SAFE_INTEGER text ≡ None → begins_wildcard text ≡ false
@@ -135,8 +125,7 @@ zero_placed zeros text rest none dark padded h =
     let run = take_while is_ascii_digit text in
     let behind = drop (prefix_len is_ascii_digit text) text in
     let f = bind_some (number_of MAX_SAFE_INTEGER run) (λ n. Some (n, behind)) (0, rest) h in
-    let value : digits_value 10 run ≡ 0 =
-    number-value MAX_SAFE_INTEGER run f.0 f.1 ∙ ap (λ (q : ℕ × List ℕ). q.0) (same_Some _ _ f.2) in
+    let value : digits_value 10 run ≡ 0 = number-value MAX_SAFE_INTEGER run f.0 f.1 ∙ ap (λ (q : ℕ × List ℕ). q.0) (same_Some _ _ f.2) in
     misspelled_placed true zeros text dark (rw (run-leading text, padded, value, none) refl)
 
 pub unpadded_front : (text : List ℕ) → begins_padded text ≡ false → strict_number MAX_SAFE_INTEGER text ≡ None
@@ -162,15 +151,11 @@ patch_whole loose zeros text at e h = rw (rw e at h) refl
 run-first : (loose zeros : Bool) (run more : List ℕ) → begins is_ascii_digit run ≡ true → list_all is_ascii_digit run ≡ true
     → begins is_ascii_digit more ≡ false → place_front loose zeros (run ++ more) ≡ run_place loose zeros run more
 unfolding place_front
-run-first loose zeros run more first each stop =
-    grind (arith, nat_tests, common_steps, number-no_wildcard, digits-taken, take_at, drop_at)
-
-none-alone : (loose zeros : Bool) → place_front loose zeros [] ≡ run_place loose zeros [] []
-unfolding place_front
-none-alone loose zeros = refl
+run-first loose zeros run more first each stop = grind (arith, nat_tests, common_steps, number-no_wildcard, digits-taken, take_at, drop_at)
 
 run-alone : (loose zeros : Bool) (run : List ℕ) → list_all is_ascii_digit run ≡ true → place_front loose zeros run ≡ run_place loose zeros run []
-run-alone loose zeros [] h = none-alone loose zeros
+unfolding place_front
+run-alone loose zeros [] h = refl
 run-alone loose zeros (c ∷ run) h =
     subst (λ (t : List ℕ). place_front loose zeros t ≡ run_place loose zeros (c ∷ run) []) (append-nil (c ∷ run))
     (run-first loose zeros (c ∷ run) [] (and_parts (is_ascii_digit c) _ h).0 h refl)
@@ -186,8 +171,7 @@ pub patch_cut : (loose zeros : Bool) (text : List ℕ) (at own : ℕ) (o : Front
     → o ≡ placed MAX_SAFE_INTEGER (place_front loose zeros (take own text))
     → (o >>? λ p. Some (p.0, take (length text - own) (drop own text))) ≡ placed MAX_SAFE_INTEGER (patch_place loose zeros text)
 unfolding patch_place
-patch_cut loose zeros text at own o e h less is =
-    grind (arith, nat_tests, common_steps, digits-of, run-alone, take_rest, run-behind)
+patch_cut loose zeros text at own o e h less is = grind (arith, nat_tests, common_steps, digits-of, run-alone, take_rest, run-behind)
 
 -- ---- partial versions
 

@@ -1,23 +1,20 @@
 -- The malformed words that are ignored are no well-formed ones.
-use Rattle.nodejs_semver.proofs.Common.{Bool, Id, IsBlank, IsIdentifiers, List, Option, Some, [], above, all_weaker, and-false}
-use Rattle.nodejs_semver.proofs.Common.{and_from, and_parts, ap, append-nil, append_assoc, arith, at_most, begins, below}
-use Rattle.nodejs_semver.proofs.Common.{cases_Bool, common_steps, drop, drop_all, encode_utf8, encode_utf8_all, ends, eqb-true}
-use Rattle.nodejs_semver.proofs.Common.{equal, false, get_or, inl, inr, is_ascii_digit, is_boundary, is_empty}
-use Rattle.nodejs_semver.proofs.Common.{is_identifier_char, is_whitespace, le-ltb, length, length-append, list_all}
-use Rattle.nodejs_semver.proofs.Common.{list_all-append, list_any, lt-ltb, nat_tests, not, not-true, pieces, prefix_len, refl}
-use Rattle.nodejs_semver.proofs.Common.{space_len, suc, sym, take, true, zero, ℕ, ◌&&◌, ◌++◌, ◌+◌, ◌-◌, ◌<◌, ◌==◌, ◌||◌, ◌∙◌}
-use Rattle.nodejs_semver.proofs.{Common.{◌∷◌, ◌≡◌, ◌≤◌, ◌⊎◌}, NpmCommon.{IsPartial, IsPlace, IsSignText, IsStrictBuild}}
-use Rattle.nodejs_semver.proofs.NpmCommon.{after_dot, are_first, at_least, bare, begins_malformed, bytes_eq, caret_equal}
-use Rattle.nodejs_semver.proofs.NpmCommon.{compared, encode_ascii, has_zeros, ignored_front, is_malformed, is_mark, is_visible}
-use Rattle.nodejs_semver.proofs.NpmCommon.{late_above, late_below, no_build, no_sign, one, or-true, plus, runs_tail, sign}
-use Rattle.nodejs_semver.proofs.{NpmCommon.{spelling, tail_runs, take_while, three, tilde_twice, two}, Reading.Bytes.all-end}
-use Rattle.nodejs_semver.proofs.Reading.Bytes.{all-join, begins-on, begins_component, ends-append, ends-some}
-use Rattle.nodejs_semver.{proofs.Strict.Places.prefix-all, specs.{Internal.Fronts.is_wildcard, Npm.Malformed.begins_place}}
-use Rattle.nodejs_semver.specs.Npm.Malformed.{begins_places, behind_sign, has_four_parts, is_first, is_inner, is_last}
-use Rattle.nodejs_semver.specs.Npm.Malformed.{is_mark_or_sign, is_open, is_regular, is_sign, last_visible}
-use Rattle.nodejs_semver.specs.Npm.{RangeText.{IsPreRelease, dashed, no_pre_release, tilde_sign}, Table.{Partial, Sign}}
-use Rattle.{semver_core.proofs.Text.Pieces.tail_onto, std.proofs.{Common.add-one, Math.Seq.drop-cons}}
-use Rattle.std.proofs.lemmas.List.Folds.{list_all_at}
+use Rattle.nodejs_semver.proofs.Common.{Bool, Id, IsBlank, IsIdentifiers, List, Option, Some, [], above, all_weaker, and-false, and_from}
+use Rattle.nodejs_semver.proofs.Common.{and_parts, ap, append-nil, append_assoc, arith, at_most, begins, below, cases_Bool, common_steps}
+use Rattle.nodejs_semver.proofs.Common.{drop, drop_all, encode_utf8, encode_utf8_all, ends, eqb-true, equal, false, get_or, inl, inr}
+use Rattle.nodejs_semver.proofs.Common.{is_ascii_digit, is_boundary, is_empty, is_identifier_char, is_whitespace, le-ltb, length, list_all}
+use Rattle.nodejs_semver.proofs.Common.{list_all-append, list_any, lt-ltb, nat_tests, not, not-true, pieces, prefix_len, refl, space_len}
+use Rattle.nodejs_semver.proofs.Common.{suc, sym, take, take-append-drop, true, zero, ℕ, ◌&&◌, ◌++◌, ◌+◌, ◌-◌, ◌<◌, ◌==◌, ◌||◌, ◌∙◌, ◌∷◌}
+use Rattle.nodejs_semver.proofs.{Common.{◌≡◌, ◌≤◌, ◌⊎◌}, NpmCommon.{IsPartial, IsPlace, IsSignText, IsStrictBuild, after_dot, are_first}}
+use Rattle.nodejs_semver.proofs.NpmCommon.{at_least, bare, begins_malformed, bytes_eq, caret_equal, compared, encode_ascii, has_zeros}
+use Rattle.nodejs_semver.proofs.NpmCommon.{ignored_front, is_malformed, is_mark, is_visible, late_above, late_below, no_build, no_sign, one}
+use Rattle.nodejs_semver.proofs.NpmCommon.{or-true, plus, runs_tail, sign, spelling, tail_runs, take_while, three, tilde_twice, two}
+use Rattle.nodejs_semver.proofs.Reading.Bytes.{all-end, all-join, begins-on, begins_component, ends-append, ends-some}
+use Rattle.nodejs_semver.{proofs.Strict.Places.prefix-all, specs.{Internal.Fronts.is_wildcard, Npm.Malformed.{begins_place, begins_places}}}
+use Rattle.nodejs_semver.specs.Npm.Malformed.{behind_sign, has_four_parts, is_first, is_inner, is_last, is_mark_or_sign, is_open}
+use Rattle.nodejs_semver.specs.Npm.{Malformed.{is_regular, is_sign, last_visible}, RangeText.{IsPreRelease, dashed, no_pre_release}}
+use Rattle.{nodejs_semver.specs.Npm.{RangeText.tilde_sign, Table.{Partial, Sign}}, semver_core.proofs.Text.Pieces.tail_onto}
+use Rattle.std.proofs.{Common.add-one, Math.Seq.drop-cons, lemmas.List.Folds.list_all_at}
 use Rattle.nodejs_semver.specs.Npm.RangeText as Text
 
 -- ---- the characters of partials
@@ -29,20 +26,14 @@ is_part b = is_identifier_char b || (b == 46 || (b == 43 || b == 42))
 abbrev is_place_byte : ℕ → Bool
 is_place_byte b = is_wildcard b || is_ascii_digit b
 
-digit-byte : (b : ℕ) → is_ascii_digit b ≡ true → is_place_byte b ≡ true
-digit-byte b h = grind (arith, nat_tests)
-
 place-bytes : (loose zeros : Bool) (x : List ℕ) (a : Option ℕ) → IsPlace loose zeros x a
     → (list_all is_place_byte x ≡ true) × (0 < length x)
 place-bytes loose zeros x a (Text.any b h) = (rw h refl, omega arith)
 place-bytes loose zeros x a (Text.number digits n k spelled short) =
-    (all_weaker is_ascii_digit is_place_byte digit-byte digits k.each, k.some)
-
-byte-part : (b : ℕ) → is_place_byte b ≡ true → is_part b ≡ true
-byte-part b h = grind (arith, nat_tests)
+    (all_weaker is_ascii_digit is_place_byte (λ b k. grind (arith, nat_tests)) digits k.each, k.some)
 
 place-part : (loose zeros : Bool) (x : List ℕ) (a : Option ℕ) → IsPlace loose zeros x a → list_all is_part x ≡ true
-place-part loose zeros x a h = all_weaker is_place_byte is_part byte-part x (place-bytes loose zeros x a h).0
+place-part loose zeros x a h = all_weaker is_place_byte is_part (λ b k. grind (arith, nat_tests)) x (place-bytes loose zeros x a h).0
 
 pieces-part : (t : List ℕ) → tail_runs (pieces t) ≡ true → list_all is_part t ≡ true
 pieces-part [] h = refl
@@ -95,10 +86,7 @@ abbrev pub is_signal : ℕ → Bool
 is_signal b = is_sign b || not (is_visible b)
 
 pub blank-signal : (x : List ℕ) → IsBlank x → list_all is_signal x ≡ true
-blank-signal x h = all_weaker is_dark is_signal dark-signal x (blank-dark x h)
-  where
-    dark-signal : (b : ℕ) → is_dark b ≡ true → is_signal b ≡ true
-    dark-signal b h = grind arith
+blank-signal x h = all_weaker is_dark is_signal (λ b k. grind arith) x (blank-dark x h)
 
 spelling-signal : (s : Sign) (y : List ℕ) → list_all is_signal y ≡ true → list_all is_signal (spelling s ++ y) ≡ true
 spelling-signal s y h = grind (arith, nat_tests, common_steps)
@@ -117,51 +105,18 @@ sign-signal signs s (tilde_twice c y z h some k which) =
 pub sign-visible : (signs : List ℕ) (s : Sign) → IsSignText signs s → (signs ≡ []) ⊎ (begins is_visible signs ≡ true)
 sign-visible signs s h = grind (arith, nat_tests, common_steps)
 
--- the characters of a sign up to its first whitespace
-record SignFront (signs : List ℕ) : Type 0 where
-  front : List ℕ
-  rest : List ℕ
-  split : signs ≡ front ++ rest
-  each : list_all is_sign front ≡ true
-  dark : begins is_visible rest ≡ false
-
-sign-front : (signs : List ℕ) → list_all is_signal signs ≡ true → SignFront signs
-sign-front [] h = record { front = []; rest = []; split = refl; each = refl; dark = refl }
-sign-front (b ∷ signs) h =
-    let each = and_parts (is_signal b) (list_all is_signal signs) h in
-    elim (cases_Bool (is_visible b)) [
-      | inr other ↦ record { front = []; rest = b ∷ signs; split = refl; each = refl; dark = other }
-      | inl visible ↦
-          let more = sign-front signs each.1 in
-          record {
-            front = b ∷ more.front;
-            rest = more.rest;
-            split = ap (λ (l : List ℕ). b ∷ l) more.split;
-            each = and_from (is_sign b) (list_all is_sign more.front) (or-left (is_sign b) (is_visible b) each.0 visible) more.each;
-            dark = more.dark;
-          }
-    ]
+-- behind the characters of a sign stands whitespace
+sign-dark : (signs : List ℕ) → list_all is_signal signs ≡ true → begins is_visible (drop (prefix_len is_sign signs) signs) ≡ false
+sign-dark [] h = refl
+sign-dark (b ∷ signs) h = elim (cases_Bool (is_sign b)) [
+  | inr other ↦ rw other (unseen b other (and_parts (is_signal b) (list_all is_signal signs) h).0)
+  | inl passes ↦
+      let e : 1 + prefix_len is_sign signs ≡ suc (prefix_len is_sign signs) = omega arith in
+      rw (passes, e) (sign-dark signs (and_parts (is_signal b) (list_all is_signal signs) h).1)
+]
   where
-    or-left : (a p : Bool) → (a || not p) ≡ true → p ≡ true → a ≡ true
-    or-left a p h k = grind arith
-
-sign-visibly : (b : ℕ) → is_sign b ≡ true → is_visible b ≡ true
-sign-visibly b h = grind (arith, nat_tests)
-
-sign-first : (b : ℕ) → is_sign b ≡ true → is_first b ≡ true
-sign-first b h = rw h refl
-
-mark-first : (b : ℕ) → is_mark b ≡ true → is_first b ≡ true
-mark-first b h = grind (arith, nat_tests)
-
-first-visible : (b : ℕ) → is_first b ≡ true → is_visible b ≡ true
-first-visible b h = grind (arith, nat_tests)
-
-first-inner : (b : ℕ) → is_first b ≡ true → is_inner b ≡ true
-first-inner b h = grind (arith, nat_tests)
-
-part-inner : (b : ℕ) → is_part b ≡ true → is_inner b ≡ true
-part-inner b h = grind (arith, nat_tests)
+    unseen : (b : ℕ) → is_sign b ≡ false → is_signal b ≡ true → is_visible b ≡ false
+    unseen b other h = grind arith
 
 pub part-visible : (b : ℕ) → is_part b ≡ true → is_visible b ≡ true
 part-visible b h = grind (arith, nat_tests)
@@ -177,17 +132,11 @@ dotless-passed (b ∷ u) v h =
     let each = and_parts (is_dotless b) (list_all is_dotless u) h in
     rw (not-true (b == 46) each.0) (dotless-passed u v each.1)
 
-first-dotless : (b : ℕ) → is_first b ≡ true → is_dotless b ≡ true
-first-dotless b h = grind (arith, nat_tests)
-
 place-first : (loose zeros : Bool) (x : List ℕ) (a : Option ℕ) → IsPlace loose zeros x a → list_all is_first x ≡ true
-place-first loose zeros x a h = all_weaker is_place_byte is_first byte-first x (place-bytes loose zeros x a h).0
-  where
-    byte-first : (b : ℕ) → is_place_byte b ≡ true → is_first b ≡ true
-    byte-first b h = grind (arith, nat_tests)
+place-first loose zeros x a h = all_weaker is_place_byte is_first (λ b k. grind (arith, nat_tests)) x (place-bytes loose zeros x a h).0
 
 place-dotless : (loose zeros : Bool) (x : List ℕ) (a : Option ℕ) → IsPlace loose zeros x a → list_all is_dotless x ≡ true
-place-dotless loose zeros x a h = all_weaker is_first is_dotless first-dotless x (place-first loose zeros x a h)
+place-dotless loose zeros x a h = all_weaker is_first is_dotless (λ b k. grind (arith, nat_tests)) x (place-first loose zeros x a h)
 
 abbrev is_dot : ℕ → Bool
 is_dot b = b == 46
@@ -230,12 +179,10 @@ place-joined (b ∷ u) v h some k =
 
 -- a place alone, and one before a dot
 place-alone : (loose zeros : Bool) (x : List ℕ) (a : Option ℕ) → IsPlace loose zeros x a → begins_place x ≡ true
-place-alone loose zeros x a h =
-    rw append-nil at (place-joined x [] (place-first loose zeros x a h) (place-bytes loose zeros x a h).1 refl)
+place-alone loose zeros x a h = rw append-nil at (place-joined x [] (place-first loose zeros x a h) (place-bytes loose zeros x a h).1 refl)
 
 place-dotted : (loose zeros : Bool) (x rest : List ℕ) (a : Option ℕ) → IsPlace loose zeros x a → begins_place (x ++ 46 ∷ rest) ≡ true
-place-dotted loose zeros x rest a h =
-    place-joined x (46 ∷ rest) (place-first loose zeros x a h) (place-bytes loose zeros x a h).1 refl
+place-dotted loose zeros x rest a h = place-joined x (46 ∷ rest) (place-first loose zeros x a h) (place-bytes loose zeros x a h).1 refl
 
 partial-places : (loose : Bool) (x : List ℕ) (p : Partial) → IsPartial loose x p → begins_places x ≡ true
 partial-places loose x p (one x1 a h) =
@@ -254,29 +201,13 @@ partial-places loose x p (three x1 y z pre build a b c ids builds h k l m s n t)
 abbrev is_unsigned : ℕ → Bool
 is_unsigned b = not (is_sign b) || b == 61
 
-part-unsigned : (b : ℕ) → is_part b ≡ true → is_unsigned b ≡ true
-part-unsigned b h = grind (arith, nat_tests)
-
-mark-unsigned : (b : ℕ) → is_mark b ≡ true → is_unsigned b ≡ true
-mark-unsigned b h = grind (arith, nat_tests)
-
-unsigned-behind : (v : List ℕ) → list_all is_unsigned v ≡ true → list_all is_unsigned (behind_sign v) ≡ true
-unsigned-behind v h = grind (arith, nat_tests, common_steps, and_parts)
-
 one-sign : (b : ℕ) (v : List ℕ) → list_all is_unsigned v ≡ true → list_all is_unsigned (behind_sign (b ∷ v)) ≡ true
 one-sign b v h = grind (arith, nat_tests, common_steps, and_parts)
 
 -- whitespace that is signs is none
 blank-none : (y : List ℕ) → IsBlank y → list_all is_sign y ≡ true → y ≡ []
-blank-none y h k = go y (blank-dark y h) k
-  where
-    dark-sign : (b : ℕ) → is_dark b ≡ true → is_sign b ≡ true → ⊥
-    dark-sign b h k = grind (arith, nat_tests)
-
-    go : (y : List ℕ) → list_all is_dark y ≡ true → list_all is_sign y ≡ true → y ≡ []
-    go [] h k = refl
-    go (b ∷ y) h k =
-        absurd (dark-sign b (and_parts (is_dark b) (list_all is_dark y) h).0 (and_parts (is_sign b) (list_all is_sign y) k).0)
+blank-none [] h k = refl
+blank-none (b ∷ y) h k = grind (arith, nat_tests, and_parts, blank-dark (b ∷ y) h)
 
 spelling-one : (s : Sign) (v : List ℕ) → list_all is_unsigned v ≡ true → list_all is_unsigned (behind_sign (spelling s ++ v)) ≡ true
 spelling-one s v h = grind (arith, nat_tests, common_steps, one-sign)
@@ -286,9 +217,8 @@ all-front u v h = and_parts (list_all is_sign u) (list_all is_sign v) (sym (list
 
 sign-one : (signs v : List ℕ) (s : Sign) → IsSignText signs s → list_all is_sign signs ≡ true → list_all is_unsigned v ≡ true
     → list_all is_unsigned (behind_sign (signs ++ v)) ≡ true
-sign-one signs v s no_sign a h = unsigned-behind v h
-sign-one signs v s (sign t y b) a h =
-    rw (blank-none y b (all-front (spelling t) y a).1, append-nil (spelling t)) (spelling-one t v h)
+sign-one signs v s no_sign a h = grind (arith, nat_tests, common_steps, and_parts)
+sign-one signs v s (sign t y b) a h = rw (blank-none y b (all-front (spelling t) y a).1, append-nil (spelling t)) (spelling-one t v h)
 sign-one signs v s (late_above y b) a h = rw (blank-none y b (all-front y (61 ∷ []) a).0) h
 sign-one signs v s (late_below y b) a h = rw (blank-none y b (all-front y (61 ∷ []) a).0) h
 sign-one signs v s (caret_equal y z b c) a h =
@@ -303,22 +233,15 @@ sign-one signs v s (tilde_sign at_least y z b c which) a h =
 sign-one signs v s (tilde_sign equal y z b c which) a h =
     let front = all-front y (61 ∷ z) a in
     rw (blank-none y b front.0, blank-none z c front.1) h
-sign-one signs v s (tilde_sign at_most y z b c (inl e)) a h = cc e
-sign-one signs v s (tilde_sign at_most y z b c (inr (inl e))) a h = cc e
-sign-one signs v s (tilde_sign at_most y z b c (inr (inr e))) a h = cc e
-sign-one signs v s (tilde_sign below y z b c (inl e)) a h = cc e
-sign-one signs v s (tilde_sign below y z b c (inr (inl e))) a h = cc e
-sign-one signs v s (tilde_sign below y z b c (inr (inr e))) a h = cc e
+sign-one signs v s (tilde_sign at_most y z b c which) a h = absurd (grind (arith, which))
+sign-one signs v s (tilde_sign below y z b c which) a h = absurd (grind (arith, which))
 sign-one signs v s (tilde_twice d y z b some c which) a h =
     absurd (omega (arith, some, ap length (blank-none y b (all-front y (spelling (compared d) ++ z) a).0)))
 
 -- ---- the end of a well-formed word
 
-part-last : (b : ℕ) → is_identifier_char b ≡ true → is_last b ≡ true
-part-last b h = rw h refl
-
 tail-end : (c : ℕ) (t : List ℕ) → tail_runs (pieces (c ∷ t)) ≡ true → ends is_last (c ∷ t) ≡ true
-tail-end c [] h = grind (arith, nat_tests, common_steps, part-last, and_parts)
+tail-end c [] h = grind (arith, nat_tests, common_steps, and_parts)
 tail-end c (d ∷ t) h = grind (arith, nat_tests, common_steps, runs_tail, tail_onto, tail-end d t)
 
 identifiers-end : (t : List ℕ) (list : List Id) → IsIdentifiers t list → ends is_last t ≡ true
@@ -339,13 +262,11 @@ qualified-end loose z pre build ids builds e m (plus t list h) =
 qualified-end loose z pre build ids builds e no_pre_release no_build = rw (append-nil z) e
 qualified-end loose z pre build ids builds e (dashed t list h s) no_build =
     rw (append-nil t) (last-end z (45 ∷ t) (last-end (45 ∷ []) t (identifiers-end t list h)))
-qualified-end loose z pre build ids builds e (bare t list f g h s) no_build =
-    rw (append-nil t) (last-end z t (identifiers-end t list h))
+qualified-end loose z pre build ids builds e (bare t list f g h s) no_build = rw (append-nil t) (last-end z t (identifiers-end t list h))
 
 partial-end : (loose : Bool) (x : List ℕ) (p : Partial) → IsPartial loose x p → ends is_last x ≡ true
 partial-end loose x p (one x1 a h) = place-end loose false x1 a h
-partial-end loose x p (two x1 y a b h k) =
-    last-end x1 (46 ∷ y) (last-end (46 ∷ []) y (place-end loose (has_zeros a) y b k))
+partial-end loose x p (two x1 y a b h k) = last-end x1 (46 ∷ y) (last-end (46 ∷ []) y (place-end loose (has_zeros a) y b k))
 partial-end loose x p (three x1 y z pre build a b c ids builds h k l m s n t) =
     let q = z ++ (pre ++ build) in
     let last = qualified-end loose z pre build ids builds (place-end loose (has_zeros a) z c l) m n in
@@ -367,7 +288,7 @@ run-is (b ∷ x) rest h k =
 sign-kept : (front : List ℕ) (b : ℕ) (rest : List ℕ) → list_all is_sign front ≡ true → 0 < length front → is_visible b ≡ false
     → begins_malformed (front ++ b ∷ rest) ≡ false
 sign-kept front b rest h some dark =
-    let r = run-is front (b ∷ rest) (all_weaker is_sign is_visible sign-visibly front h) dark in
+    let r = run-is front (b ∷ rest) (all_weaker is_sign is_visible (λ b k. grind (arith, nat_tests)) front h) dark in
     rw (r.0, r.1, all-end is_sign front some h) (and-none (list_all is_visible front) (is_empty front))
   where
     and-none : (a c : Bool) → (a && (not c && false)) ≡ false
@@ -386,10 +307,10 @@ regular-kept w rest h dark parts regular =
 first-word : (loose : Bool) (u x rest : List ℕ) (p : Partial) → list_all is_first u ≡ true
     → list_all is_unsigned (behind_sign (u ++ x)) ≡ true → IsPartial loose x p → begins_component x ≡ true → begins is_visible rest ≡ false → begins_malformed ((u ++ x) ++ rest) ≡ false
 first-word loose u x rest p h plain k first dark =
-    let passed = dotless-passed u x (all_weaker is_first is_dotless first-dotless u h) in
+    let passed = dotless-passed u x (all_weaker is_first is_dotless (λ b k. grind (arith, nat_tests)) u h) in
     let part = partial-part loose x p k in
-    let inner = all-join is_inner u x (all_weaker is_first is_inner first-inner u h) (all_weaker is_part is_inner part-inner x part) in
-    let visible = all-join is_visible u x (all_weaker is_first is_visible first-visible u h) (all_weaker is_part is_visible part-visible x part) in
+    let inner = all-join is_inner u x (all_weaker is_first is_inner (λ b k. grind (arith, nat_tests)) u h) (all_weaker is_part is_inner (λ b k. grind (arith, nat_tests)) x part) in
+    let visible = all_weaker is_inner is_visible (λ b k. grind (arith, nat_tests)) (u ++ x) inner in
     let places = and_parts (begins_place x) _ (partial-places loose x p k) in
     let begun = and_parts (begins is_first x) (are_first x) places.0 in
     let parts : has_four_parts (u ++ x) ≡ false = rw passed (partial-parts loose x p k) in
@@ -414,34 +335,27 @@ pub word-regular : (loose : Bool) (signs marks x rest : List ℕ) (s : Sign) (p 
     → list_all is_mark marks ≡ true → IsPartial loose x p → begins_component x ≡ true → begins is_visible rest ≡ false
     → begins_malformed ((signs ++ (marks ++ x)) ++ rest) ≡ false
 word-regular loose signs marks x rest s p h m k first dark =
-    let f = sign-front signs (sign-signal signs s h) in
-    go f.front f.rest f.split f.each f.dark
+    let n = prefix_len is_sign signs in
+    go (take n signs) (drop n signs) (sym (take-append-drop n signs)) (prefix-all is_sign signs) (sign-dark signs (sign-signal signs s h))
   where
     some : (front : List ℕ) (b : ℕ) (left : List ℕ) → signs ≡ front ++ b ∷ left → is_visible b ≡ false → 0 < length front
-    some front b left split none = elim (sign-visible signs s h) [
-      | inl empty ↦ absurd (omega (arith, ap length (sym empty ∙ split), length-append front (b ∷ left)))
-      | inr visible ↦ begun front (rw split at visible)
-    ]
-      where
-        begun : (front : List ℕ) → begins is_visible (front ++ b ∷ left) ≡ true → 0 < length front
-        begun [] h = cc (h, none)
-        begun (c ∷ front) h = omega arith
+    some (c ∷ front) b left split none = omega arith
+    some [] b left split none = elim (sign-visible signs s h) [ inl empty ↦ cc (empty, split) | inr visible ↦ cc (none, rw split at visible) ]
 
     go : (front left : List ℕ) → signs ≡ front ++ left → list_all is_sign front ≡ true → begins is_visible left ≡ false
         → begins_malformed ((signs ++ (marks ++ x)) ++ rest) ≡ false
     go front [] split each none =
         let e : signs ≡ front = split ∙ append-nil front in
-        let u = all-join is_first front marks (all_weaker is_sign is_first sign-first front each) (all_weaker is_mark is_first mark-first marks m) in
+        let u = all-join is_first front marks (all_weaker is_sign is_first (λ b k. grind (arith, nat_tests)) front each) (all_weaker is_mark is_first (λ b k. grind (arith, nat_tests)) marks m) in
         let same : signs ++ (marks ++ x) ≡ (front ++ marks) ++ x = rw e (sym (append_assoc front marks x)) in
-        let behind = all-join is_unsigned marks x (all_weaker is_mark is_unsigned mark-unsigned marks m)
-        (all_weaker is_part is_unsigned part-unsigned x (partial-part loose x p k)) in
+        let behind = all-join is_unsigned marks x (all_weaker is_mark is_unsigned (λ b k. grind (arith, nat_tests)) marks m)
+        (all_weaker is_part is_unsigned (λ b k. grind (arith, nat_tests)) x (partial-part loose x p k)) in
         let plain : list_all is_unsigned (behind_sign ((front ++ marks) ++ x)) ≡ true =
         ap (λ (t : List ℕ). list_all is_unsigned (behind_sign t)) (sym same)
         ∙ sign-one signs (marks ++ x) s h (ap (λ (t : List ℕ). list_all is_sign t) e ∙ each) behind in
         rw same (first-word loose (front ++ marks) x rest p u plain k first dark)
     go front (b ∷ left) split each none =
-        let same : (signs ++ (marks ++ x)) ++ rest ≡ front ++ b ∷ (left ++ ((marks ++ x) ++ rest)) =
-        rw split (simp append_assoc refl) in
+        let same : (signs ++ (marks ++ x)) ++ rest ≡ front ++ b ∷ (left ++ ((marks ++ x) ++ rest)) = rw split (simp append_assoc refl) in
         rw same (sign-kept front b (left ++ ((marks ++ x) ++ rest)) each (some front b left split none) none)
 
 -- ---- visible characters
@@ -548,8 +462,7 @@ more-visible : (text : List ℕ) (at d : ℕ) → at < length text → is_visibl
 more-visible text at d h k l = rw (drop-cons text at d h, k, l) refl
 
 -- the last one is at the front, or behind one that is not visible
-pub last_all : (text : List ℕ) (start : ℕ) → list_all is_visible (drop start text) ≡ true → start ≡ 0
-    → drop start text ≡ last_visible text
+pub last_all : (text : List ℕ) (start : ℕ) → list_all is_visible (drop start text) ≡ true → start ≡ 0 → drop start text ≡ last_visible text
 last_all text start h e = rw e (sym (all-last text (rw e at h)))
 
 pub last_found : (text : List ℕ) (start d : ℕ) → list_all is_visible (drop start text) ≡ true → 0 < start → start ≤ length text
@@ -571,8 +484,6 @@ visible_last [] = refl
 visible_last (b ∷ text) = grind (arith, nat_tests, common_steps, visible_last text)
 
 pub ruleset ends_visible = (visible_last)
-
-pub ruleset last_runs = (last_all, last_found, last_step, last_begin)
 
 -- ---- the last character
 

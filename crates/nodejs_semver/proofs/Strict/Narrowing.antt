@@ -1,17 +1,28 @@
 -- What comparators have in common, as spans: that of one comparator, and that of two lists.
-use Rattle.nodejs_semver.proofs.Common.{After, Before, Bool, Bound, Comparator, Id, List, MAX_SAFE_INTEGER, None, Option}
-use Rattle.nodejs_semver.proofs.Common.{Ordering, Some, Span, Unbounded, VersionValue, [], above, and_parts, ap, ap₂, arith}
-use Rattle.nodejs_semver.proofs.Common.{at_most, below, common_steps, cond_both, cut_cmp, equal, false, greater_lower, holds}
-use Rattle.nodejs_semver.proofs.Common.{interval, is_eq, is_ge, is_gt, is_interval, is_le, is_lt, is_past, is_range_bound}
-use Rattle.nodejs_semver.proofs.Common.{is_readable, is_release, lesser_upper, lets_in, list_all, list_all-append, list_any}
-use Rattle.nodejs_semver.proofs.Common.{list_any-append, lower_cut, meet, nat_tests, not, option_holds-interval, precedence}
+use Rattle.nodejs_semver.proofs.{Algebra.{Accepting.lets_in_one, Gate.{both, lets_in-meet}}, Common.{After, Before, Bool, Bound}}
+use Rattle.nodejs_semver.proofs.Common.{Comparator, Id, List, MAX_SAFE_INTEGER, None, Option, Ordering, Some, Span, Unbounded, VersionValue}
+use Rattle.nodejs_semver.proofs.Common.{[], above, and_parts, ap, ap₂, arith, at_most, below, common_steps, cond_both, cut_cmp, equal}
+use Rattle.nodejs_semver.proofs.Common.{false, greater_lower, holds, interval, is_empty, is_eq, is_ge, is_gt, is_interval, is_le, is_lt}
+use Rattle.nodejs_semver.proofs.Common.{is_past, is_range_bound, is_readable, is_release, lesser_upper, lets_in, list_all, list_all-append}
+use Rattle.nodejs_semver.proofs.Common.{list_any, list_any-append, lower_cut, meet, nat_tests, not, option_holds-interval, precedence}
 use Rattle.nodejs_semver.proofs.Common.{precedence_total, refl, sym, true, upper_cut, ℕ, ◌&&◌, ◌++◌, ◌+◌, ◌||◌, ◌∙◌, ◌∷◌, ◌≡◌}
-use Rattle.nodejs_semver.proofs.NpmCommon.{Alternative, AreRead, Bounds, Comparison, IsCommon, IsNarrowed, NarrowedBy, at_least}
-use Rattle.nodejs_semver.proofs.NpmCommon.{both_ways, bounds_view, counted, counts, filter-append, is_unbounded, satisfies}
-use Rattle.nodejs_semver.proofs.{Algebra.{Accepting.lets_in_one, Gate.{both, lets_in-meet}}, Values.{past-after, past-before}}
-use Rattle.nodejs_semver.specs.{Internal.{NpmAlternatives.met, NpmMeaning.is_open}, Npm.Ranges.names}
+use Rattle.nodejs_semver.proofs.NpmCommon.{Alternative, AreRead, Bounds, Comparison, IsCommon, IsNarrowed, NarrowedBy, at_least, both_ways}
+use Rattle.nodejs_semver.proofs.{NpmCommon.{bounds_view, counted, counts, filter-append, satisfies}, Values.{past-after, past-before}}
+use Rattle.nodejs_semver.specs.Internal.{NpmAlternatives.met, NpmMeaning.is_open, NpmParts.{has_no_comparators, is_wildcard}}
+use Rattle.nodejs_semver.specs.Npm.{Ranges.names, Table.{Partial, Sign, hyphen_lower, hyphen_upper, table}}
 use Rattle.semver_core.proofs.CutLaws.{is_past-greater_lower, is_past-lesser_upper}
 use Rattle.nodejs_semver.specs.Text.Table as Spans
+
+-- ---- where a word and an end of a hyphen range have no comparators
+
+pub table-bare : (include : Bool) (s : Sign) (p : Partial) (text : List ℕ) → is_empty (table include s p text) ≡ has_no_comparators s p
+table-bare include s p text = grind (arith, nat_tests, common_steps)
+
+pub lower-bare : (include : Bool) (p : Partial) (text : List ℕ) → is_empty (hyphen_lower include p text) ≡ is_wildcard p
+lower-bare include p text = grind (arith, nat_tests, common_steps)
+
+pub upper-bare : (include : Bool) (p : Partial) (text : List ℕ) → is_empty (hyphen_upper include p text) ≡ is_wildcard p
+upper-bare include p text = grind (arith, nat_tests, common_steps)
 
 -- ---- one comparator
 
@@ -42,30 +53,16 @@ lets_in-compared : (c : Comparator) (w : VersionValue) (build : List Id) (text :
     → lets_in (compared_span c w) v ≡ (is_release v || names v (comparison c w build text))
 lets_in-compared c w build text v = grind (arith, nat_tests, common_steps)
 
-compared-bounded : (c : Comparator) (w : VersionValue) → is_unbounded (compared_span c w) ≡ false
-compared-bounded c w = grind arith
-
 -- the bounds are of that version, whose numbers may be greater by one
-raised : (w : VersionValue) → is_readable MAX_SAFE_INTEGER w ≡ true → is_readable (MAX_SAFE_INTEGER + 1) w ≡ true
-raised w h = grind (arith, nat_tests, common_steps)
-
-lower-compared : (c : Comparator) (w : VersionValue) → is_readable MAX_SAFE_INTEGER w ≡ true
-    → is_range_bound (MAX_SAFE_INTEGER + 1) (compared_span c w).lower ≡ true
-lower-compared c w h = grind (arith, nat_tests, common_steps)
-
-upper-compared : (c : Comparator) (w : VersionValue) → is_readable MAX_SAFE_INTEGER w ≡ true
-    → is_range_bound (MAX_SAFE_INTEGER + 1) (compared_span c w).upper ≡ true
-upper-compared c w h = grind (arith, nat_tests, common_steps)
-
 pub one_common : (include : Bool) (c : Comparator) (w : VersionValue) (build : List Id) (text : List ℕ)
     → is_readable MAX_SAFE_INTEGER w ≡ true → counts include (comparison c w build text) ≡ true
     → IsCommon include (comparison c w build text ∷ []) (compared_span c w)
 one_common include c w build text r h = record {
   held = λ v. rw h (grind (arith, holds-compared));
   let_in = λ v _. rw h (grind (arith, lets_in-compared));
-  unbounded = rw h (compared-bounded c w);
-  lower = lower-compared c w r;
-  upper = upper-compared c w r;
+  unbounded = rw h (grind arith);
+  lower = grind (arith, nat_tests, common_steps);
+  upper = grind (arith, nat_tests, common_steps);
 }
 
 abbrev pub everything : Span VersionValue

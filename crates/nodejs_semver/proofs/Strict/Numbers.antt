@@ -1,9 +1,10 @@
 -- Numbers without leading zeros: what is read is written, and what is written is read.
-use Rattle.nodejs_semver.proofs.Common.{Front, IsPieceAt, IsWholeNumber, List, NoPieceAt, None, Some, [], arith, begins}
-use Rattle.nodejs_semver.proofs.Common.{cases_Bool, common_steps, drop, eqb-true, false, inl, inr, is_ascii_digit, length}
-use Rattle.nodejs_semver.proofs.Common.{list_all, nat_tests, refl, take, take_rest, true, ℕ, ◌++◌, ◌-◌, ◌==◌, ◌∷◌, ◌≡◌}
-use Rattle.nodejs_semver.proofs.NpmCommon.{IsStrictNumber, begins_padded, dotted_number, has_leading_zero, number_front}
+use Rattle.nodejs_semver.proofs.Common.{Front, IsPieceAt, IsWholeNumber, List, MAX_SAFE_INTEGER, NoPieceAt, None, Some, [], arith, begins}
+use Rattle.nodejs_semver.proofs.Common.{cases_Bool, common_steps, decimal, drop, eqb-true, false, inl, inr, is_ascii_digit, length}
+use Rattle.nodejs_semver.proofs.Common.{list_all, nat_tests, refl, take, take_rest, true, ℕ, ◌++◌, ◌-◌, ◌<◌, ◌==◌, ◌^◌, ◌∷◌, ◌≡◌, ◌≤◌}
+use Rattle.nodejs_semver.proofs.NpmCommon.{IsStrictNumber, begins_padded, digits_value, dotted_number, has_leading_zero, number_front}
 use Rattle.nodejs_semver.proofs.{NpmCommon.strict_number, Reading.Numbers.{front_none, front_some, number-found, number-read}}
+use Rattle.{semver_core.proofs.Text.Runs.numerals, std.proofs.lemmas.Fmt.{decimal-digits_value, length-decimal-le}}
 
 -- ---- the number that the code finds
 
@@ -80,3 +81,17 @@ pub dotted-read : (limit : ℕ) (digits rest : List ℕ) (n : ℕ) → IsStrictN
     → dotted_number limit (46 ∷ (digits ++ rest)) ≡ Some (n, rest)
 unfolding dotted_number
 dotted-read limit digits rest n h stop = strict-read limit digits rest n h stop
+
+-- ---- a number prints as it is written, and one up to the limit is short
+
+pub digits_printed : (ds : List ℕ) → list_all is_ascii_digit ds ≡ true → 0 < length ds → has_leading_zero ds ≡ false → digits_value 10 ds < 2 ^ 64
+    → decimal (digits_value 10 ds) ≡ ds
+digits_printed ds each some h small = decimal-digits_value numerals ds each some (λ e. grind (arith, nat_tests, common_steps)) small
+
+pub number_printed : (ds : List ℕ) (n : ℕ) → IsStrictNumber MAX_SAFE_INTEGER ds n → decimal n ≡ ds
+number_printed ds n h = grind (arith, nat_tests, common_steps, digits_printed)
+
+pub number-short : (digits : List ℕ) (n : ℕ) → IsStrictNumber MAX_SAFE_INTEGER digits n → length digits ≤ 20
+number-short digits n h =
+    let small : n < 2 ^ 64 = omega (arith, h.number.safe) in
+    rw (number_printed digits n h) at (length-decimal-le 20 n (omega arith) (omega arith) small)

@@ -1,7 +1,7 @@
 -- A text is one version at most, and has one list of alternatives at most.
 use Rattle.nodejs_semver.proofs.Common.{Bool, IsUtf8, List, VersionValue, ap, middle_is_trim, same_Some, sym, ℕ, ◌∙◌, ◌≡◌}
 use Rattle.nodejs_semver.proofs.NpmCommon.{Comparison, HasAlternativesIn, IsVersionText, strict_version}
-use Rattle.nodejs_semver.proofs.Strict.{RangesLaw.alternatives_are, VersionLaw.strict-read-version}
+use Rattle.nodejs_semver.proofs.Strict.{AlternativeLaw.alternatives_are, VersionLaw.strict-read-version}
 
 pub version_once : (limit : ℕ) (text : List ℕ) (v w : VersionValue) → IsVersionText limit text v → IsVersionText limit text w → v ≡ w
 version_once limit text v w h k =

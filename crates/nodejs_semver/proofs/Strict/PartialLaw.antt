@@ -1,16 +1,15 @@
 -- Partial versions of node-semver's range texts: the function that reads them finds exactly what the statement has.
-use Rattle.nodejs_semver.proofs.Common.{Bool, Front, Id, List, None, Option, Some, and_parts, ap, append_assoc, arith, begins}
-use Rattle.nodejs_semver.proofs.Common.{bind_some, cases_Bool, common_steps, drop, false, inl, inr, is_ascii_digit, is_boundary}
-use Rattle.nodejs_semver.proofs.Common.{list_all, nat_tests, pieces, refl, same_Some, subst, sym, true, ℕ, ◌&&◌, ◌++◌, ◌∙◌, ◌∷◌}
-use Rattle.nodejs_semver.proofs.{Common.◌≡◌, NpmCommon.{IsPartial, IsPlace, IsStrictBuild, are_spelled, begins_byte}}
-use Rattle.nodejs_semver.proofs.NpmCommon.{begins_undashed, build_front, dotted_patch, dotted_place, goes_on, has_zeros}
-use Rattle.nodejs_semver.proofs.NpmCommon.{is_short_build, is_short_identifier, one, partial_of, place_front, pre_front}
-use Rattle.nodejs_semver.proofs.NpmCommon.{qualified_partial, second_front, third_front, three, two, undashed}
-use Rattle.nodejs_semver.proofs.{Reading.Bytes.{is_solid, solid-dark}, Strict.Places.{dotted_patch-found, dotted_place-found}}
-use Rattle.nodejs_semver.proofs.Strict.{Places.{dotted_place-read, patch-read, place-found, place-read}, Qualifiers.Ends}
-use Rattle.nodejs_semver.proofs.Strict.Qualifiers.{build-found, build-taken, pre-follows, pre-found, pre-taken}
-use Rattle.nodejs_semver.specs.Internal.NpmWords.{are_short_builds, are_short_identifiers, partial_front}
-use Rattle.{nodejs_semver.specs.Npm.{RangeText.IsPreRelease, Table.Partial}, semver_core.proofs.Text.Runs.list_len_stop}
+use Rattle.nodejs_semver.proofs.Common.{Bool, Front, Id, List, None, Option, Some, [], and_parts, append_assoc, arith, begins, bind_some}
+use Rattle.nodejs_semver.proofs.Common.{cases_Bool, common_steps, drop, false, inl, inr, is_ascii_digit, is_boundary, list_all, nat_tests}
+use Rattle.nodejs_semver.proofs.{Common.{pieces, refl, true, ℕ, ◌&&◌, ◌++◌, ◌∷◌, ◌≡◌}, NpmCommon.{IsPartial, IsPlace, IsStrictBuild}}
+use Rattle.nodejs_semver.proofs.NpmCommon.{are_spelled, build_front, dotted_patch, dotted_place, has_zeros, is_short_build}
+use Rattle.nodejs_semver.proofs.NpmCommon.{is_short_identifier, one, partial_of, place_front, pre_front, qualified_partial, second_front}
+use Rattle.nodejs_semver.proofs.{NpmCommon.{third_front, three, two, undashed}, Reading.Bytes.{is_solid, solid-dark}}
+use Rattle.nodejs_semver.proofs.Strict.Places.{dotted_patch-found, dotted_place-found, dotted_place-read, patch-read, place-found}
+use Rattle.nodejs_semver.proofs.Strict.{Places.place-read, Qualifiers.{Ends, build-found, build-taken, ends-nil, pre-follows, pre-found}}
+use Rattle.nodejs_semver.{proofs.Strict.Qualifiers.pre-taken, specs.Internal.NpmWords.{are_short_builds, are_short_identifiers}}
+use Rattle.nodejs_semver.specs.{Internal.NpmWords.partial_front, Npm.{RangeText.IsPreRelease, Table.Partial}}
+use Rattle.semver_core.proofs.Text.Runs.{list_len_stop}
 
 -- ---- nothing goes on at a boundary
 
@@ -18,21 +17,12 @@ pub boundary-quiet : (more : List ℕ) → is_boundary more ≡ true → begins 
 unfolding is_boundary
 boundary-quiet more h = grind (arith, nat_tests, common_steps, is_solid, solid-dark)
 
-quiet-on : (more : List ℕ) → begins is_solid more ≡ false → goes_on more ≡ false
-quiet-on more h = grind (arith, nat_tests, common_steps)
-
 quiet-digit : (more : List ℕ) → begins is_solid more ≡ false → begins is_ascii_digit more ≡ false
 quiet-digit more h = grind (arith, nat_tests)
 
-quiet-letter : (more : List ℕ) → begins is_solid more ≡ false → begins_undashed more ≡ false
-quiet-letter more h = grind (arith, nat_tests, common_steps)
-
-quiet-byte : (c : ℕ) (more : List ℕ) → is_solid c ≡ true → begins is_solid more ≡ false → begins_byte c more ≡ false
-quiet-byte c more s h = grind (arith, nat_tests)
-
 quiet-ends : (more : List ℕ) → begins is_solid more ≡ false → Ends more
-quiet-ends more h =
-    grind (arith, nat_tests, common_steps, list_len_stop, quiet-on, quiet-byte, quiet-digit, quiet-letter)
+quiet-ends [] h = ends-nil
+quiet-ends (b ∷ more) h = grind (arith, nat_tests, common_steps, list_len_stop)
 
 quiet-patch : (loose zeros : Bool) (more : List ℕ) → begins is_solid more ≡ false → dotted_patch loose zeros more ≡ None
 unfolding dotted_patch
@@ -99,24 +89,20 @@ pub record PartialAt (loose : Bool) (text : List ℕ) (p : Partial) (rest : List
 third-found : (loose : Bool) (a b : Option ℕ) (x y behind : List ℕ) (o : Front (Option ℕ)) (p : Partial) (rest : List ℕ) → IsPlace loose false x a → IsPlace loose (has_zeros a) y b
     → dotted_patch loose (has_zeros a) behind ≡ o → third_front loose a b behind o ≡ Some (p, rest) → PartialAt loose (x ++ (46 ∷ (y ++ behind))) p rest
 third-found loose a b x y behind None p rest h k e r =
-    let same = same_Some _ _ r in
-    rw (← ap (λ (q : Partial × List ℕ). q.0) same, ← ap (λ (q : Partial × List ℕ). q.1) same)
-    (record { piece = x ++ (46 ∷ y); split = sym (append_assoc x (46 ∷ y) behind); is = two x y a b h k })
+    let is = two x y a b h k in
+    let split = append_assoc x (46 ∷ y) behind in
+    grind (arith, nat_tests, common_steps)
 third-found loose a b x y behind (Some c) p rest h k e r =
     let z = dotted_patch-found loose (has_zeros a) behind c.0 c.1 e in
     let q = qualified-found loose a b c.0 c.1 p rest r in
-    let whole : x ++ (46 ∷ (y ++ behind)) ≡ (x ++ 46 ∷ (y ++ 46 ∷ (z.0 ++ (q.pre ++ q.build)))) ++ rest =
-    ap (λ (t : List ℕ). x ++ (46 ∷ (y ++ t))) (z.1 ∙ ap (λ (t : List ℕ). 46 ∷ (z.0 ++ t)) q.split) ∙ simp append_assoc refl in
-    let piece = x ++ 46 ∷ (y ++ 46 ∷ (z.0 ++ (q.pre ++ q.build))) in
     let is = three x y z.0 q.pre q.build a b c.0 q.ids q.builds h k z.2 q.pre_is q.pre_short q.build_is q.build_short in
-    record { piece = piece; split = whole; is = subst (λ (o : Partial). IsPartial loose piece o) q.same is }
+    grind (arith, nat_tests, common_steps, append_assoc)
 
 second-found : (loose : Bool) (a : Option ℕ) (x behind : List ℕ) (o : Front (Option ℕ)) (p : Partial) (rest : List ℕ) → IsPlace loose false x a
     → dotted_place loose (has_zeros a) behind ≡ o → second_front loose a behind o ≡ Some (p, rest) → PartialAt loose (x ++ behind) p rest
 second-found loose a x behind None p rest h e r =
-    let same = same_Some _ _ r in
-    rw (← ap (λ (q : Partial × List ℕ). q.0) same, ← ap (λ (q : Partial × List ℕ). q.1) same)
-    (record { piece = x; split = refl; is = one x a h })
+    let is = one x a h in
+    grind (arith, nat_tests, common_steps)
 second-found loose a x behind (Some b) p rest h e r =
     let y = dotted_place-found loose (has_zeros a) behind b.0 b.1 e in
     rw y.1 (third-found loose a b.0 x y.0 b.1 (dotted_patch loose (has_zeros a) b.1) p rest h y.2 refl r)

@@ -1,13 +1,11 @@
 -- Places of node-semver's partial versions: what is read is written, and what is written is read.
-use Rattle.nodejs_semver.proofs.Common.{Bool, IsNumber, List, MAX_SAFE_INTEGER, None, Option, Some, [], and-false, and_parts}
-use Rattle.nodejs_semver.proofs.Common.{ap, arith, begins, cases_Bool, common_steps, drop, drop_at, eqb-true, false, inl, inr}
-use Rattle.nodejs_semver.proofs.Common.{is_ascii_digit, is_empty, length, list_all, nat_tests, not, prefix_len, refl, same_Some}
-use Rattle.nodejs_semver.proofs.Common.{suc, sym, take, take-append-drop, take_at, true, zero, ℕ, ◌&&◌, ◌*◌, ◌++◌, ◌+◌, ◌-◌}
-use Rattle.nodejs_semver.proofs.{Common.{◌<◌, ◌==◌, ◌||◌, ◌∙◌, ◌∷◌, ◌≡◌, ◌≤◌}, NpmCommon.{IsPlace, IsStrictNumber, begins_byte}}
-use Rattle.nodejs_semver.proofs.NpmCommon.{begins_wildcard, digit_value, digits_grow, digits_value, digits_value_after}
-use Rattle.nodejs_semver.proofs.NpmCommon.{dotted_patch, dotted_place, drop-append-add, is_spelled, most_digits, nat_le}
-use Rattle.nodejs_semver.proofs.{NpmCommon.{patch_place, place_front, run_place, take_while}, Reading.Numbers.digits-taken}
-use Rattle.nodejs_semver.proofs.{Reading.Numbers.number-no_wildcard, Strict.Qualifiers.Follows}
+use Rattle.nodejs_semver.proofs.Common.{Bool, IsNumber, List, None, Option, Some, [], and-false, and_parts, ap, arith, begins, cases_Bool}
+use Rattle.nodejs_semver.proofs.Common.{common_steps, drop, drop_at, eqb-true, false, inl, inr, is_ascii_digit, is_empty, length, list_all}
+use Rattle.nodejs_semver.proofs.Common.{nat_tests, not, prefix_len, refl, same_Some, suc, sym, take, take-append-drop, take_at, true, zero}
+use Rattle.nodejs_semver.proofs.{Common.{ℕ, ◌&&◌, ◌++◌, ◌+◌, ◌-◌, ◌<◌, ◌==◌, ◌||◌, ◌∙◌, ◌∷◌, ◌≡◌, ◌≤◌}, NpmCommon.{IsPlace, begins_byte}}
+use Rattle.nodejs_semver.proofs.NpmCommon.{begins_wildcard, digits_value, dotted_patch, dotted_place, drop-append-add, is_spelled}
+use Rattle.nodejs_semver.proofs.NpmCommon.{most_digits, nat_le, patch_place, place_front, run_place, take_while}
+use Rattle.nodejs_semver.proofs.{Reading.Numbers.{digits-taken, number-no_wildcard}, Strict.Qualifiers.Follows}
 use Rattle.std.proofs.lemmas.List.Sums.{prefix_len-drop_all, prefix_len-drop_no, prefix_len-drop_yes}
 use Rattle.nodejs_semver.specs.Npm.RangeText as Text
 
@@ -56,10 +54,6 @@ prefix-all p (c ∷ text) = elim (cases_Bool (p c)) [
   | inr other ↦ rw other refl
 ]
 
-run-number : (run : List ℕ) → not (is_empty run) ≡ true → list_all is_ascii_digit run ≡ true
-    → IsNumber (digits_value 10 run) run (digits_value 10 run)
-run-number run h k = grind (arith, nat_tests, common_steps)
-
 run-found : (loose zeros : Bool) (run rest : List ℕ) (a : Option ℕ) (left : List ℕ) → run_place loose zeros run rest ≡ Some (a, left)
     → list_all is_ascii_digit run ≡ true → IsPlace loose zeros run a × (rest ≡ left)
 run-found loose zeros run rest a left h each =
@@ -70,10 +64,10 @@ run-found loose zeros run rest a left h each =
       | inl good ↦
           let parts = and_parts (not (is_empty run) && fits) (is_spelled loose zeros n run) good in
           let some = and_parts (not (is_empty run)) fits parts.0 in
-          let e = same_Some _ _ (rw good at h) in
           let short : length run ≤ most_digits loose = grind (arith, nat_tests) in
-          let is : IsPlace loose zeros run (Some n) = Text.number run n (run-number run some.0 each) parts.1 short in
-          (rw (← ap (λ (p : Option ℕ × List ℕ). p.0) e) is, ap (λ (p : Option ℕ × List ℕ). p.1) e)
+          let number : IsNumber n run n = grind (arith, nat_tests, common_steps) in
+          let is : IsPlace loose zeros run (Some n) = Text.number run n number parts.1 short in
+          grind (arith, nat_tests, common_steps, same_Some)
     ]
 
 pub place-found : (loose zeros : Bool) (text : List ℕ) (a : Option ℕ) (rest : List ℕ) → place_front loose zeros text ≡ Some (a, rest)
@@ -82,9 +76,8 @@ unfolding place_front
 place-found loose zeros [] a rest h = cc h
 place-found loose zeros (c ∷ text) a rest h = elim (cases_Bool (begins_wildcard (c ∷ text))) [
   | inl wild ↦
-      let e = same_Some _ _ (rw wild at h) in
-      rw (← ap (λ (p : Option ℕ × List ℕ). p.0) e, ← ap (λ (p : Option ℕ × List ℕ). p.1) e)
-      (record { piece = c ∷ []; split = refl; is = Text.any c wild })
+      let is : IsPlace loose zeros (c ∷ []) None = Text.any c wild in
+      grind (arith, nat_tests, common_steps)
   | inr dark ↦
       let run = take_while is_ascii_digit (c ∷ text) in
       let behind = drop (prefix_len is_ascii_digit (c ∷ text)) (c ∷ text) in
@@ -153,47 +146,4 @@ dotted_patch-found loose zeros (c ∷ t) a rest h = elim (cases_Bool (c == 46)) 
             let f = run-found loose zeros run (drop (n - 1) t) a rest (rw (dot, cut) at h) (digits-of (n - 1) t (omega arith)) in
             (run, rw (eqb-true c 46 dot) (ap (λ (l : List ℕ). 46 ∷ l) (sym (take-append-drop (n - 1) t) ∙ ap (λ (l : List ℕ). run ++ l) f.1)), f.0)
       ]
-]
-
--- ---- a number up to the limit is short
-
-tens : ℕ → ℕ → ℕ
-tens v zero = v
-tens v (suc k) = tens (v * 10) k
-
-tens-mono : (k v w : ℕ) → v ≤ w → tens v k ≤ tens w k
-unfolding tens
-tens-mono zero v w h = h
-tens-mono (suc k) v w h = tens-mono k (v * 10) (w * 10) (omega (arith, h))
-
-digits-many : (k v : ℕ) (d : List ℕ) → k ≤ length d → tens v k ≤ digits_value_after 10 v d
-unfolding tens
-digits-many zero v d h = digits_grow v d
-digits-many (suc k) v [] h = absurd (omega arith)
-digits-many (suc k) v (c ∷ d) h =
-    grind (arith, nat_tests, common_steps, tens-mono, digits-many k (v * 10 + digit_value c) d (omega arith))
-
-some-digit : (c : ℕ) → is_ascii_digit c ≡ true → (c == 48) ≡ false → 1 ≤ digit_value c
-some-digit c h k = grind (arith, nat_tests)
-
-safe-tens : MAX_SAFE_INTEGER < tens 1 18
-unfolding tens
-safe-tens = omega arith
-
-pub number-short : (digits : List ℕ) (n : ℕ) → IsStrictNumber MAX_SAFE_INTEGER digits n → length digits ≤ 20
-number-short [] n h = omega arith
-number-short (c ∷ []) n h = omega arith
-number-short (c ∷ d ∷ rest) n h = elim (cases_Bool (nat_le (length rest) 18)) [
-  | inl few ↦ (let le : length rest ≤ 18 = grind (arith, nat_tests) in omega arith)
-  | inr many ↦
-      let lots : 18 < length rest = grind (arith, nat_tests) in
-      let one = some-digit c (and_parts _ _ h.number.each).0 h.shortest in
-      absurd (omega (
-        arith,
-        safe-tens,
-        h.number.value,
-        h.number.safe,
-        tens-mono 18 1 (0 * 10 + digit_value c) (omega (arith, one)),
-        digits-many 18 (0 * 10 + digit_value c) (d ∷ rest) (omega arith),
-      ))
 ]

@@ -1,12 +1,11 @@
 -- How long versions print, and which one prints `0.0.0`.
-use Rattle.nodejs_semver.proofs.Common.{Bool, Id, List, MAX_SAFE_INTEGER, Numeric, VersionValue, [], and_parts, arith, codes}
-use Rattle.nodejs_semver.proofs.Common.{common_steps, decimal, empty_is, eqb-true, is_ascii_digit, is_release, length}
-use Rattle.nodejs_semver.proofs.Common.{length-append, list_all, nat_tests, sym, true, ℕ, ◌&&◌, ◌++◌, ◌+◌, ◌<◌, ◌^◌, ◌∙◌, ◌∷◌}
-use Rattle.nodejs_semver.proofs.{Common.{◌≡◌, ◌≤◌}, NpmCommon.{MAX_LENGTH, Numbers, both_ways, bytes_eq, bytes_eq-Decides}}
-use Rattle.nodejs_semver.proofs.NpmCommon.{first, from, id_text, is_valid, is_zero, marked_list, nat_le, release, under}
-use Rattle.nodejs_semver.{proofs.NpmCommon.{version_text, whole, within}, specs.Npm.Table.{lowest, no_build}}
-use Rattle.{semver_core.proofs.Printing.Returns.{decimal_digits, decimal_some}, std.proofs.lemmas.Fmt.decimal_digit}
-use Rattle.std.proofs.lemmas.Fmt.{decimal_injective, length-decimal-le}
+use Rattle.nodejs_semver.proofs.Common.{Bool, Id, List, MAX_SAFE_INTEGER, Numeric, VersionValue, [], and_parts, arith, codes, common_steps}
+use Rattle.nodejs_semver.proofs.Common.{decimal, empty_is, eqb-true, is_ascii_digit, is_release, length, length-append, list_all, nat_tests}
+use Rattle.nodejs_semver.proofs.{Common.{sym, true, ℕ, ◌&&◌, ◌++◌, ◌+◌, ◌<◌, ◌^◌, ◌∙◌, ◌∷◌, ◌≡◌, ◌≤◌}, NpmCommon.{MAX_LENGTH, Numbers}}
+use Rattle.nodejs_semver.proofs.NpmCommon.{both_ways, bytes_eq, bytes_eq-Decides, first, from, id_text, is_valid, is_zero, marked_list}
+use Rattle.nodejs_semver.{proofs.NpmCommon.{nat_le, release, under, version_text, whole, within}, specs.Npm.Table.{lowest, no_build}}
+use Rattle.{semver_core.proofs.Printing.Returns.{decimal_digits, decimal_some}, std.proofs.lemmas.Fmt.{decimal_digit, decimal_injective}}
+use Rattle.std.proofs.lemmas.Fmt.{length-decimal-le}
 
 -- ---- lengths
 
@@ -50,8 +49,7 @@ front_zero n rest t h e = grind (arith, nat_tests, common_steps, front_digit, de
 unmarked : (ids builds : List Id) → marked_list (45 ∷ []) ids ++ marked_list (43 ∷ []) builds ≡ [] → (ids ≡ []) × (builds ≡ [])
 unmarked ids builds e = grind (arith, nat_tests, common_steps)
 
-zero_parts : (v : VersionValue) → v.major < 2 ^ 64 → v.minor < 2 ^ 64 → v.patch < 2 ^ 64 → version_text v ≡ codes "0.0.0"
-    → is_zero v ≡ true
+zero_parts : (v : VersionValue) → v.major < 2 ^ 64 → v.minor < 2 ^ 64 → v.patch < 2 ^ 64 → version_text v ≡ codes "0.0.0" → is_zero v ≡ true
 zero_parts v a b c e = grind (arith, nat_tests, common_steps, front_zero, last_digit, decimal_some, unmarked, zero_from)
 
 zero_text : (v : VersionValue) → is_zero v ≡ true → version_text v ≡ codes "0.0.0"

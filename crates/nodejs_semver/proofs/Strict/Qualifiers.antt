@@ -1,51 +1,17 @@
 -- The pre-release and the build behind the numbers: what is read is written, and what is written is read.
-use Rattle.nodejs_semver.proofs.Common.{Bool, Id, IsIdentifiers, List, [], and-false, and_parts, ap, append-nil, arith, begins}
-use Rattle.nodejs_semver.proofs.Common.{begins_identifier, cases_Bool, common_steps, drop, eqb-true, false, inl, inr}
-use Rattle.nodejs_semver.proofs.Common.{is_ascii_digit, is_identifier_char, list_len, nat_tests, not, not-true, or_cases, refl}
-use Rattle.nodejs_semver.proofs.Common.{subst, suc, sym, take, take-append-drop, true, zero, ℕ, ◌&&◌, ◌++◌, ◌==◌, ◌||◌, ◌∙◌}
-use Rattle.nodejs_semver.proofs.{Common.{◌∷◌, ◌≡◌, ◌⊎◌}, NpmCommon.{IsStrictBuild, IsStrictPreRelease, are_spelled, bare}}
-use Rattle.nodejs_semver.proofs.NpmCommon.{begins_byte, begins_undashed, build_front, dashed_front, goes_on, is_strict_list}
-use Rattle.nodejs_semver.proofs.NpmCommon.{listed, no_build, or-true, plus, pre_front, pre_release_front, undashed}
+use Rattle.nodejs_semver.proofs.Common.{Bool, Id, IsIdentifiers, List, [], and-false, ap, append-nil, arith, begins, begins_identifier}
+use Rattle.nodejs_semver.proofs.Common.{cases_Bool, common_steps, drop, false, inl, inr, is_ascii_digit, list_len, nat_tests, refl, subst}
+use Rattle.nodejs_semver.proofs.{Common.{sym, take, take-append-drop, true, ℕ, ◌++◌, ◌==◌, ◌∙◌, ◌∷◌, ◌≡◌, ◌⊎◌}, NpmCommon.IsStrictBuild}
+use Rattle.nodejs_semver.proofs.NpmCommon.{IsStrictPreRelease, are_spelled, bare, begins_byte, begins_undashed, build_front, dashed_front}
+use Rattle.nodejs_semver.proofs.NpmCommon.{goes_on, is_strict_list, listed, no_build, plus, pre_front, pre_release_front, undashed}
 use Rattle.nodejs_semver.proofs.Reading.IdentifierLists.{front-identifiers, written-begins, written-exact, written-spelled}
-use Rattle.nodejs_semver.specs.Npm.RangeText.{IsPreRelease, dashed, is_letter, no_pre_release}
+use Rattle.{nodejs_semver.specs.Npm.RangeText.{IsPreRelease, dashed, no_pre_release}, semver_core.proofs.Text.Pieces.list_ended}
 use Rattle.nodejs_semver.specs.Npm.Grammar as Grammar
 
 -- ---- what is read is written
 
 pub byte-begins : (c : ℕ) (x : List ℕ) → begins_byte c x ≡ true → x ≡ c ∷ drop 1 x
 byte-begins c x h = grind arith
-
-dash-found : (text y : List ℕ) → text ≡ 45 ∷ y → begins_identifier y ≡ true → is_strict_list (take (list_len y) y) ≡ true
-    → (piece : List ℕ) × (text ≡ piece ++ drop (list_len y) y) × IsStrictPreRelease piece (listed (take (list_len y) y))
-    × (drop 1 piece ≡ take (list_len y) y)
-dash-found text y e some h = (
-  45 ∷ take (list_len y) y,
-  e ∙ ap (λ (t : List ℕ). 45 ∷ t) (sym (take-append-drop (list_len y) y)),
-  Grammar.dashed (take (list_len y) y) (listed (take (list_len y) y)) (front-identifiers y some) h,
-  refl,
-)
-
-pub dashed-found : (text : List ℕ) → is_strict_list (dashed_front text).0 ≡ true
-    → (piece : List ℕ) × (text ≡ piece ++ (dashed_front text).1) × IsStrictPreRelease piece (listed (dashed_front text).0)
-    × (drop 1 piece ≡ (dashed_front text).0)
-unfolding dashed_front pre_release_front listed
-dashed-found text h = elim (cases_Bool (begins_byte 45 text)) [
-  | inr other ↦ rw other ([], refl, Grammar.no_pre_release, refl)
-  | inl dash ↦ elim (cases_Bool (begins_identifier (drop 1 text))) [
-    | inr none ↦ rw (dash, none) ([], refl, Grammar.no_pre_release, refl)
-    | inl some ↦ rw (dash, some) (dash-found text (drop 1 text) (byte-begins 45 text dash) some (rw (dash, some) at h))
-  ]
-]
-
-plus-found : (text y : List ℕ) → text ≡ 43 ∷ y → begins_identifier y ≡ true
-    → (piece : List ℕ) × (text ≡ piece ++ drop (list_len y) y) × IsStrictBuild piece (listed (take (list_len y) y))
-    × (drop 1 piece ≡ take (list_len y) y)
-plus-found text y e some = (
-  43 ∷ take (list_len y) y,
-  e ∙ ap (λ (t : List ℕ). 43 ∷ t) (sym (take-append-drop (list_len y) y)),
-  plus (take (list_len y) y) (listed (take (list_len y) y)) (front-identifiers y some),
-  refl,
-)
 
 pub build-found : (text : List ℕ)
     → (piece : List ℕ) × (text ≡ piece ++ (build_front text).1) × IsStrictBuild piece (listed (build_front text).0)
@@ -55,7 +21,11 @@ build-found text = elim (cases_Bool (begins_byte 43 text)) [
   | inr other ↦ rw other ([], refl, no_build, refl)
   | inl mark ↦ elim (cases_Bool (begins_identifier (drop 1 text))) [
     | inr none ↦ rw (mark, none) ([], refl, no_build, refl)
-    | inl some ↦ rw (mark, some) (plus-found text (drop 1 text) (byte-begins 43 text mark) some)
+    | inl some ↦
+        let y = drop 1 text in
+        let read = take (list_len y) y in
+        let whole = byte-begins 43 text mark ∙ ap (λ (t : List ℕ). 43 ∷ t) (sym (take-append-drop (list_len y) y)) in
+        rw (mark, some) (43 ∷ read, whole, plus read (listed read) (front-identifiers y some), refl)
   ]
 ]
 
@@ -106,59 +76,25 @@ dashed-taken p b more l m (Grammar.dashed t list h s) k e =
 -- ---- the pre-releases of range texts
 
 undashed-begins : (text : List ℕ) → begins_undashed text ≡ true → begins_identifier text ≡ true
-undashed-begins [] h = cc h
-undashed-begins (b ∷ text) h = grind (arith, nat_tests)
+undashed-begins text h = grind (arith, nat_tests)
 
 letter-on : (text more : List ℕ) → begins_undashed text ≡ true → begins_identifier more ≡ false → begins_undashed (text ++ more) ≡ true
 letter-on text more h k = grind (arith, nat_tests, common_steps)
 
-or-right : (a b : Bool) → (a || b) ≡ true → a ≡ false → b ≡ true
-or-right a b h k = grind arith
+goes-on : (more : List ℕ) → goes_on more ≡ false → begins_identifier more ≡ false
+goes-on more h = grind (arith, nat_tests)
+
+-- the letters that begin it stand in its list of identifiers
+letter-off : (text more : List ℕ) → begins_undashed (text ++ more) ≡ true → goes_on more ≡ false → begins_undashed text ≡ true
+letter-off [] more h k = cc (undashed-begins more h, goes-on more k)
+letter-off (b ∷ []) more h k = grind (arith, nat_tests, goes-on)
+letter-off (b ∷ c ∷ []) more h k = grind (arith, nat_tests, goes-on)
+letter-off (b ∷ c ∷ d ∷ text) more h k = h
 
 letter-take : (text : List ℕ) → begins_undashed text ≡ true → begins_undashed (take (list_len text) text) ≡ true
-unfolding list_len
-letter-take [] h = cc h
-letter-take (b ∷ text) h = elim (cases_Bool (is_letter b)) [
-  | inl letter ↦
-      let some : is_identifier_char b ≡ true = undashed-begins (b ∷ text) h in
-      let one : list_len (b ∷ text) ≡ suc (list_len text) = rw some (omega arith) in
-      rw (one, letter) refl
-  | inr other ↦
-      let some = undashed-begins (b ∷ text) h in
-      elim (or_cases _ _ (or-right (is_letter b) _ h other)) [ inl digit ↦ lone text some digit | inr dash ↦ dashes text some dash ]
-]
-  where
-    none-taken : (n : ℕ) (text : List ℕ) → begins_identifier text ≡ false → begins_identifier (take n text) ≡ false
-    none-taken zero [] h = refl
-    none-taken (suc n) [] h = refl
-    none-taken zero (c ∷ text) h = refl
-    none-taken (suc n) (c ∷ text) h = h
-
-    dashes : (text : List ℕ) → is_identifier_char b ≡ true → (b == 45 && not (begins_identifier text)) ≡ true
-        → begins_undashed (take (list_len (b ∷ text)) (b ∷ text)) ≡ true
-    dashes text some k =
-        let parts = and_parts (b == 45) (not (begins_identifier text)) k in
-        let one : list_len (b ∷ text) ≡ suc (list_len text) = rw some (omega arith) in
-        rw (one, parts.0, none-taken (list_len text) text (not-true _ parts.1)) (or-end (is_letter b) _)
-      where
-        or-end : (a c : Bool) → (a || (c || true)) ≡ true
-        or-end a c = grind arith
-
-    lone : (text : List ℕ) → is_identifier_char b ≡ true
-        → (is_ascii_digit b && (begins_byte 46 text && begins_identifier (drop 1 text))) ≡ true
-        → begins_undashed (take (list_len (b ∷ text)) (b ∷ text)) ≡ true
-    lone [] some k = cc (rw (and-false (is_ascii_digit b)) at k)
-    lone (c ∷ []) some k = cc (rw (and-false (c == 46), and-false (is_ascii_digit b)) at k)
-    lone (c ∷ d ∷ text) some k =
-        let digit = and_parts (is_ascii_digit b) _ k in
-        let dot = and_parts (c == 46) (is_identifier_char d) digit.1 in
-        let goes : goes_on (c ∷ d ∷ text) ≡ true = rw (dot.0, dot.1) (or-true (is_identifier_char c)) in
-        let three : list_len (b ∷ c ∷ d ∷ text) ≡ suc (suc (suc (list_len text))) = rw (some, goes, dot.1) (omega arith) in
-        rw three (rw k (or-true (is_letter b)))
-
-spelled-nil : (loose : Bool) → are_spelled loose [] ≡ true
-spelled-nil true = refl
-spelled-nil false = refl
+letter-take text h =
+    let whole = subst (λ (t : List ℕ). begins_undashed t ≡ true) (sym (take-append-drop (list_len text) text)) h in
+    letter-off (take (list_len text) text) (drop (list_len text) text) whole (list_ended text)
 
 undashed-bare : (text : List ℕ) → begins_undashed text ≡ true → undashed text ≡ text
 undashed-bare text h = rw h refl
@@ -170,21 +106,11 @@ undashed-dashed t list h =
 
 -- a pre-release at the front of a text, of which this is read
 abbrev PreFound : Bool → List ℕ → List ℕ → List ℕ → Type 0
-PreFound loose text read rest =
-    (piece : List ℕ) × (text ≡ piece ++ rest) × IsPreRelease loose piece (listed read) × (undashed piece ≡ read)
+PreFound loose text read rest = (piece : List ℕ) × (text ≡ piece ++ rest) × IsPreRelease loose piece (listed read) × (undashed piece ≡ read)
 
 none-found : (loose : Bool) (text : List ℕ) → PreFound loose text [] text
 unfolding listed
 none-found loose text = ([], refl, no_pre_release, refl)
-
-after-dash : (loose : Bool) (text y : List ℕ) → text ≡ 45 ∷ y → begins_identifier y ≡ true → are_spelled loose (take (list_len y) y) ≡ true
-    → PreFound loose text (take (list_len y) y) (drop (list_len y) y)
-after-dash loose text y e some h = (
-  45 ∷ take (list_len y) y,
-  e ∙ ap (λ (t : List ℕ). 45 ∷ t) (sym (take-append-drop (list_len y) y)),
-  dashed (take (list_len y) y) (listed (take (list_len y) y)) (front-identifiers y some) h,
-  undashed-dashed (take (list_len y) y) (listed (take (list_len y) y)) (front-identifiers y some),
-)
 
 without-dash : (text : List ℕ) → begins_undashed text ≡ true → are_spelled true (take (list_len text) text) ≡ true
     → PreFound true text (take (list_len text) text) (drop (list_len text) text)
@@ -205,9 +131,24 @@ dashed_front-found loose text h = elim (cases_Bool (begins_byte 45 text)) [
   | inr other ↦ rw other (none-found loose text)
   | inl dash ↦ elim (cases_Bool (begins_identifier (drop 1 text))) [
     | inr none ↦ rw (dash, none) (none-found loose text)
-    | inl some ↦ rw (dash, some) (after-dash loose text (drop 1 text) (byte-begins 45 text dash) some (rw (dash, some) at h))
+    | inl some ↦
+        let y = drop 1 text in
+        let read = take (list_len y) y in
+        let is = front-identifiers y some in
+        let whole = byte-begins 45 text dash ∙ ap (λ (t : List ℕ). 45 ∷ t) (sym (take-append-drop (list_len y) y)) in
+        rw (dash, some) (45 ∷ read, whole, dashed read (listed read) is (rw (dash, some) at h), undashed-dashed read (listed read) is)
   ]
 ]
+
+-- the same strictly
+pub dashed-found : (text : List ℕ) → is_strict_list (dashed_front text).0 ≡ true
+    → (piece : List ℕ) × (text ≡ piece ++ (dashed_front text).1) × IsStrictPreRelease piece (listed (dashed_front text).0)
+dashed-found text h = let f = dashed_front-found false text h in (f.0, f.1, strict f.0 _ f.2)
+  where
+    strict : (p : List ℕ) (l : List Id) → IsPreRelease false p l → IsStrictPreRelease p l
+    strict p l no_pre_release = Grammar.no_pre_release
+    strict p l (dashed t list h s) = Grammar.dashed t list h s
+    strict p l (bare t list e f h s) = cc e
 
 pub pre-found : (loose : Bool) (text : List ℕ) → are_spelled loose (pre_front loose text).0 ≡ true
     → PreFound loose text (pre_front loose text).0 (pre_front loose text).1
@@ -241,29 +182,16 @@ pre-follows loose p b more l m (bare t list x f h s) k e = go t f
     letter-dotless : (c : ℕ) (t : List ℕ) → begins_undashed (c ∷ t) ≡ true → (c == 46) ≡ false
     letter-dotless c t f = grind (arith, nat_tests)
 
-    no-letter : (c : ℕ) → is_ascii_digit c ≡ true → is_letter c ≡ false
-    no-letter c d = grind (arith, nat_tests)
-
-    no-dash : (c : ℕ) (t : List ℕ) → is_ascii_digit c ≡ true → (c == 45 && not (begins_identifier t)) ≡ false
-    no-dash c t d = grind (arith, nat_tests)
-
-    or-left : (a b : Bool) → (a || b) ≡ true → b ≡ false → a ≡ true
-    or-left a b h k = grind arith
-
-    behind : (c : ℕ) (t : List ℕ) → is_ascii_digit c ≡ true → (begins_byte 46 t && begins_identifier (drop 1 t)) ≡ true
-        → Follows loose (c ∷ (t ++ (b ++ more)))
-    behind c [] digit h = cc h
-    behind c (d ∷ t) digit h =
-        let dot = (and_parts (d == 46) _ h).0 in
-        inr (c, t ++ (b ++ more), rw (eqb-true d 46 dot) refl, digit, x)
+    digit-dot : (c : ℕ) (t : List ℕ) → begins_undashed (c ∷ t) ≡ true → is_ascii_digit c ≡ true → begins_byte 46 t ≡ true
+    digit-dot c t f d = grind (arith, nat_tests)
 
     go : (t : List ℕ) → begins_undashed t ≡ true → Follows loose (t ++ (b ++ more))
     go [] f = cc f
     go (c ∷ t) f = elim (cases_Bool (is_ascii_digit c)) [
       | inr other ↦ inl (other, letter-dotless c t f)
       | inl digit ↦
-          let rest = or-left _ _ (or-right (is_letter c) _ f (no-letter c digit)) (no-dash c t digit) in
-          behind c t digit (and_parts (is_ascii_digit c) _ rest).1
+          let dot = byte-begins 46 t (digit-dot c t f digit) in
+          inr (c, drop 1 t ++ (b ++ more), ap (λ (r : List ℕ). c ∷ (r ++ (b ++ more))) dot, digit, x)
     ]
 
 abbrev PreTaken : Bool → List ℕ → List ℕ → List Id → Type 0
@@ -281,17 +209,14 @@ bare-taken t rest list f h s stop =
   where
     stopped : (rest : List ℕ) → list_len rest ≡ 0 → begins_identifier rest ≡ false
     stopped [] e = refl
-    stopped (b ∷ rest) e = elim (cases_Bool (is_identifier_char b)) [
-      | inr other ↦ other
-      | inl some ↦ grind (arith, nat_tests, common_steps)
-    ]
+    stopped (b ∷ rest) e = grind (arith, nat_tests, common_steps)
 
 -- the text is the pre-release and this rest, and the identifiers are spelled as they have to be
 pub pre-taken : (loose : Bool) (p b more : List ℕ) (l m : List Id) → IsPreRelease loose p l → IsStrictBuild b m → Ends more
     → PreTaken loose p (b ++ more) l
 unfolding pre_front dashed_front pre_release_front listed
 pre-taken loose p b more l m no_pre_release k e =
-    (rw (build-letter b more m k e, and-false loose, (build-quiet b more m k e).1) refl, refl, spelled-nil loose)
+    (rw (build-letter b more m k e, and-false loose, (build-quiet b more m k e).1) refl, refl, grind arith)
 pre-taken loose p b more l m (dashed t list h s) k e =
     let begins = written-begins t (b ++ more) list h in
     let exact = written-exact t (b ++ more) list h (build-quiet b more m k e).0 in

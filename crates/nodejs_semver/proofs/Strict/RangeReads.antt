@@ -1,16 +1,231 @@
--- The alternatives of a range text, read one after another.
-use Rattle.nodejs_semver.proofs.Common.{Bool, Err, Failure, IsCutAtBars, IsUtf8, List, MAX_SAFE_INTEGER, Memory, MemoryOnlyIf}
-use Rattle.nodejs_semver.proofs.Common.{None, Ok, Option, Refused, Result, Some, Span, VersionValue, [], ap, append-nil}
-use Rattle.nodejs_semver.proofs.Common.{append_assoc, arith, cases_Bool, common_steps, cond_some, false, flat_map}
-use Rattle.nodejs_semver.proofs.Common.{if◌then◌else◌, inl, inr, is_empty, is_range_span, later_parts, length, length-append}
-use Rattle.nodejs_semver.proofs.Common.{list_all, nat_tests, not, not-true, option_to_list, parts, refl, subst, sym, true, ℕ}
-use Rattle.nodejs_semver.proofs.{Common.{◌&&◌, ◌++◌, ◌+◌, ◌<◌, ◌∙◌, ◌∷◌, ◌≡◌, ◌≤◌}, NpmCommon.{AcceptAsRanged, Alternative}}
-use Rattle.nodejs_semver.proofs.NpmCommon.{AreNarrowed, Comparison, HasAlternativesIn, IsFound, IsNarrowed, IsRangeIn, NoValue}
-use Rattle.nodejs_semver.proofs.NpmCommon.{alternative_of, alternatives_of, begins_malformed, is_lost, is_valid, kept}
-use Rattle.nodejs_semver.proofs.{NpmCommon.{valid_alternative, valid_only, ◌>>?◌}, Dividing.BarsDivide.bars_once}
-use Rattle.nodejs_semver.{proofs.Strict.{Alternatives.found_spans, RangesLaw.alternatives_are}, specs.Internal.NpmReads.AddsOne}
-use Rattle.nodejs_semver.specs.Internal.NpmReads.{AddsPart, AreAllFound, AreFound, valid_alternatives, valid_range}
-use Rattle.{nodejs_semver.specs.Npm.Malformed.ends_malformed, semver_core.specs.Failures.RefusedOnlyIf}
+-- The alternatives of a range text, read one after another, and what their intervals accept.
+use Rattle.nodejs_semver.proofs.Common.{Beside, Bool, Equal, Err, Failure, IfSome, IsCutAtBars, IsRange, IsUtf8, List, MAX_SAFE_INTEGER}
+use Rattle.nodejs_semver.proofs.Common.{Memory, MemoryOnlyIf, None, Ok, Option, Ordering, Refused, Result, Some, Span, VersionValue, []}
+use Rattle.nodejs_semver.proofs.Common.{accepts, any_version, any_weaker, ap, append-nil, append_assoc, arith, cases_Bool, common_steps}
+use Rattle.nodejs_semver.proofs.Common.{cond_some, false, flat_map, holds, if◌then◌else◌, inl, inr, is_empty, is_le, is_past, is_range_span}
+use Rattle.nodejs_semver.proofs.Common.{is_release, later_parts, length, length-append, lets_in, list_all, list_all-append, list_any}
+use Rattle.nodejs_semver.proofs.Common.{list_any-append, nat_tests, not, not-true, option_to_list, ordering_then, parts, precedence, refl}
+use Rattle.nodejs_semver.proofs.Common.{subst, sym, true, ℕ, ◌&&◌, ◌++◌, ◌+◌, ◌<◌, ◌||◌, ◌∙◌, ◌∷◌, ◌≡◌, ◌≤◌}
+use Rattle.nodejs_semver.proofs.{Dividing.BarsDivide.bars_once, NpmCommon.{AcceptAsRanged, Alternative, AreNarrowed, Comparison, Ended}}
+use Rattle.nodejs_semver.proofs.NpmCommon.{HasAlternativesIn, IsFound, IsNarrowed, IsRangeIn, NarrowedBy, NoValue, alternative_of}
+use Rattle.nodejs_semver.proofs.NpmCommon.{alternatives_of, begins_malformed, counted, counts, hyphen_comparisons, hyphen_ends}
+use Rattle.nodejs_semver.proofs.NpmCommon.{hyphen_lower, hyphen_of, hyphen_upper, is_lost, is_unbounded, is_valid, kept, meets, nothing}
+use Rattle.nodejs_semver.proofs.NpmCommon.{or_else, satisfies, upto_patch, valid_alternative, valid_only, words_of, zero_least, ◌>>?◌}
+use Rattle.nodejs_semver.proofs.{Reading.Steps.option-cases, Strict.AlternativeLaw.{alternative-read, alternatives_are}}
+use Rattle.nodejs_semver.proofs.Strict.{Hyphens.hyphen-found, Valid.{hyphen-valid, words-valid}, WordReads.hyphen_limited}
+use Rattle.nodejs_semver.{proofs.Strict.WordSteps.empty-append, specs.Internal.{NpmAlternatives.ranged, NpmReads.{AddsOne, AddsPart}}}
+use Rattle.nodejs_semver.specs.Internal.NpmReads.{AreAllFound, AreFound, valid_alternatives, valid_hyphen, valid_range}
+use Rattle.{nodejs_semver.specs.Npm.{Malformed.ends_malformed, Ranges.names, Table.lowest}, semver_core.specs.Failures.RefusedOnlyIf}
+use Rattle.nodejs_semver.specs.Npm.Ranges as Npm
+
+-- ---- the intervals of alternatives accept what the alternatives do
+
+-- the span holds v, and lets it in or pre-releases are included
+abbrev lets : Bool → VersionValue → Span VersionValue → Bool
+lets include v s = holds precedence s v && (include || lets_in s v)
+
+held_let : (h l r i n : Bool) → (h ≡ true → l ≡ (r || n)) → ((h && (i || l)) || false) ≡ (h && (r || (i || n)))
+held_let h l r i n f = grind arith
+
+one_accepts : (include : Bool) (v : VersionValue) (cs : List Comparison) (o : Option (Span VersionValue)) → IsNarrowed include cs o
+    → list_any (lets include v) (option_to_list o) ≡ meets include v (counted include cs)
+one_accepts include v cs None h = sym (ap (λ (a : Bool). a && (is_release v || (include || list_any (names v) (counted include cs)))) (h v))
+one_accepts include v cs (Some s) h =
+    held_let (holds precedence s v) (lets_in s v) (is_release v) include (list_any (names v) (counted include cs)) (h.0.let_in v)
+    ∙ ap (λ (a : Bool). a && (is_release v || (include || list_any (names v) (counted include cs)))) (h.0.held v)
+
+uncounted : (include : Bool) (cs : List Comparison) → list_any (counts include) cs ≡ false → counted include cs ≡ []
+uncounted include [] h = refl
+uncounted include (c ∷ cs) h = grind (arith, nat_tests, common_steps, uncounted include cs)
+
+zero : VersionValue
+zero = lowest (0, 0, 0)
+
+pub one_open : (include : Bool) (cs : List Comparison) (o : Option (Span VersionValue)) → IsNarrowed include cs o
+    → list_any is_unbounded (option_to_list o) ≡ not (list_any (counts include) cs)
+one_open include cs None h = elim (cases_Bool (list_any (counts include) cs)) [
+  | inl e ↦ rw e refl
+  | inr e ↦ cc (ap (λ l. list_all (satisfies zero) l) (uncounted include cs e), h zero)
+]
+one_open include cs (Some s) h = grind (arith, h.0.unbounded)
+
+all_accept : (include : Bool) (v : VersionValue) (alternatives : List (List Comparison)) (os : List (Option (Span VersionValue)))
+    → AreNarrowed include alternatives os
+    → accepts (flat_map option_to_list os) v include ≡ list_any (λ cs. meets include v (counted include cs)) alternatives
+all_accept include v [] [] h = refl
+all_accept include v [] (o ∷ os) h = absurd h
+all_accept include v (cs ∷ rest) [] h = absurd h
+all_accept include v (cs ∷ rest) (o ∷ os) h =
+    grind (arith, nat_tests, common_steps, list_any-append, one_accepts, all_accept include v rest os)
+
+some_open : (include : Bool) (alternatives : List (List Comparison)) (os : List (Option (Span VersionValue)))
+    → AreNarrowed include alternatives os
+    → list_any is_unbounded (flat_map option_to_list os) ≡ list_any (λ cs. not (list_any (counts include) cs)) alternatives
+some_open include [] [] h = refl
+some_open include [] (o ∷ os) h = absurd h
+some_open include (cs ∷ rest) [] h = absurd h
+some_open include (cs ∷ rest) (o ∷ os) h = grind (arith, nat_tests, common_steps, list_any-append, one_open, some_open include rest os)
+
+-- no version is below `0.0.0-0`
+le_then : (r : Ordering) → is_le r ≡ true → is_le (ordering_then r Equal) ≡ true
+le_then r h = grind arith
+
+least : (v : VersionValue) → is_past precedence (Beside (lowest (0, 0, 0)) false) v ≡ true
+least v = le_then _ (upto_patch (lowest (0, 0, 0)) v (omega arith) (omega arith) (omega arith) (zero_least v.pre_release))
+
+-- what an alternative without comparators accepts
+open_meets : (v : VersionValue) (cs : List Comparison) → not (list_any (counts true) cs) ≡ true → meets true v (counted true cs) ≡ true
+open_meets v cs h = grind (arith, nat_tests, common_steps, uncounted)
+
+open_accepts : (include : Bool) (v : VersionValue) (alternatives : List (List Comparison))
+    → list_any (λ cs. not (list_any (counts include) cs)) alternatives ≡ true
+    → accepts any_version v include ≡ Npm.accepts include alternatives v
+open_accepts true v alternatives h = sym (any_weaker _ (λ cs. meets true v (counted true cs)) (open_meets v) alternatives h)
+open_accepts false v alternatives h = rw h (grind arith)
+
+closed_accepts : (include : Bool) (v : VersionValue) (alternatives : List (List Comparison))
+    → list_any (λ cs. not (list_any (counts include) cs)) alternatives ≡ false
+    → Npm.accepts include alternatives v ≡ list_any (λ cs. meets include v (counted include cs)) alternatives
+closed_accepts include v alternatives h = rw h (grind arith)
+
+none_or_some : (ss : List (Span VersionValue)) (v : VersionValue) (include : Bool)
+    → accepts (if is_empty ss then nothing ∷ [] else ss) v include ≡ accepts ss v include
+none_or_some [] v include = rw (least v) refl
+none_or_some (s ∷ ss) v include = refl
+
+ranged_accepts : (include : Bool) (alternatives : List (List Comparison)) (os : List (Option (Span VersionValue)))
+    → AreNarrowed include alternatives os → (v : VersionValue)
+    → accepts (ranged (flat_map option_to_list os)) v include ≡ Npm.accepts include alternatives v
+ranged_accepts include alternatives os h v = grind (arith, some_open, open_accepts, none_or_some, all_accept, closed_accepts)
+
+pub ranged_list : (found ss : List (Span VersionValue)) → ss ≡ ranged found → AcceptAsRanged found ss
+ranged_list found ss e include alternatives os h f v = rw (e, f) (ranged_accepts include alternatives os h v)
+
+pub ranged_kept : (found : List (Span VersionValue)) → list_any is_unbounded found ≡ false → is_empty found ≡ false → found ≡ ranged found
+ranged_kept found h k = rw (h, k) refl
+
+pub ranged_open : (found ss : List (Span VersionValue)) → list_any is_unbounded found ≡ true → ss ≡ any_version → ss ≡ ranged found
+ranged_open found ss h e = rw h e
+
+pub ranged_none : (found ss : List (Span VersionValue)) → list_any is_unbounded found ≡ false → is_empty found ≡ true
+    → ss ≡ nothing ∷ [] → ss ≡ ranged found
+ranged_none found ss h k e = rw (h, k) e
+
+-- ---- such a list of intervals is that of a range
+
+one_span : (include : Bool) (cs : List Comparison) (o : Option (Span VersionValue)) → IsNarrowed include cs o
+    → list_all (is_range_span (MAX_SAFE_INTEGER + 1)) (option_to_list o) ≡ true
+one_span include cs None h = refl
+one_span include cs (Some s) h = rw (h.1, h.0.lower, h.0.upper) refl
+
+narrowed_spans : (include : Bool) (alternatives : List (List Comparison)) (os : List (Option (Span VersionValue)))
+    → AreNarrowed include alternatives os → list_all (is_range_span (MAX_SAFE_INTEGER + 1)) (flat_map option_to_list os) ≡ true
+narrowed_spans include [] [] h = refl
+narrowed_spans include [] (o ∷ os) h = absurd h
+narrowed_spans include (cs ∷ rest) [] h = absurd h
+narrowed_spans include (cs ∷ rest) (o ∷ os) h =
+    grind (arith, nat_tests, common_steps, list_all-append, one_span, narrowed_spans include rest os)
+
+pub found_spans : (include : Bool) (alternatives : List (List Comparison)) (os : List (Option (Span VersionValue)))
+    (found : List (Span VersionValue)) → AreNarrowed include alternatives os → found ≡ flat_map option_to_list os
+    → list_all (is_range_span (MAX_SAFE_INTEGER + 1)) found ≡ true
+found_spans include alternatives os found h e = rw e (narrowed_spans include alternatives os h)
+
+some_range : (found : List (Span VersionValue)) → list_all (is_range_span (MAX_SAFE_INTEGER + 1)) found ≡ true
+    → IsRange MAX_SAFE_INTEGER (if is_empty found then nothing ∷ [] else found)
+some_range [] h = record { some = omega arith; each = refl }
+some_range (s ∷ ss) h = record { some = omega arith; each = h }
+
+pub ranged_range : (found : List (Span VersionValue)) → list_all (is_range_span (MAX_SAFE_INTEGER + 1)) found ≡ true
+    → IsRange MAX_SAFE_INTEGER (ranged found)
+ranged_range found h = grind (arith, nat_tests, common_steps, some_range)
+
+-- ---- an alternative is found exactly where the text has one whose comparators are valid
+
+-- ---- hyphen ranges
+
+-- what is read of a hyphen range is all that is valid
+hyphen-read : (loose : Bool) (include : Bool) (text : List ℕ)
+    → valid_hyphen loose include text ≡ (hyphen_of loose MAX_SAFE_INTEGER include text >>? λ e. valid_only MAX_SAFE_INTEGER (hyphen_comparisons include e))
+unfolding valid_hyphen
+hyphen-read loose include text =
+    rw (hyphen_limited loose MAX_SAFE_INTEGER include text) (sym (hyphen-valid MAX_SAFE_INTEGER include (hyphen_ends loose include text)))
+
+pub hyphen-none : (loose : Bool) (include : Bool) (text : List ℕ) → hyphen_of loose MAX_SAFE_INTEGER include text ≡ None → IsFound include (valid_hyphen loose include text) None
+hyphen-none loose include text h = grind (arith, nat_tests, common_steps, hyphen-read)
+
+pub hyphen-some : (loose : Bool) (include : Bool) (text : List ℕ) (e : Ended × Ended) → hyphen_of loose MAX_SAFE_INTEGER include text ≡ Some e
+    → valid_hyphen loose include text ≡ valid_only MAX_SAFE_INTEGER (hyphen_comparisons include e)
+hyphen-some loose include text e h = hyphen-read loose include text ∙ rw h refl
+
+valid-both : (cs ds : List Comparison) → list_all (is_valid MAX_SAFE_INTEGER) cs ≡ true
+    → valid_only MAX_SAFE_INTEGER (cs ++ ds) ≡ (valid_only MAX_SAFE_INTEGER ds >>? λ l. Some (cs ++ l))
+valid-both cs ds h = grind (arith, nat_tests, common_steps, list_all-append)
+
+-- what is found between two ends
+abbrev Between : Bool → Ended × Ended → Option Alternative → Type 0
+Between include e r = IsFound include (valid_only MAX_SAFE_INTEGER (hyphen_comparisons include e)) r
+
+pub lower-invalid : (include : Bool) (e : Ended × Ended) (all : Option (Span VersionValue))
+    → NarrowedBy include all (hyphen_lower include e.0.0 e.0.1) None → Between include e None
+lower-invalid include e all n = rw (list_all-append (is_valid MAX_SAFE_INTEGER) (hyphen_lower include e.0.0 e.0.1) (hyphen_upper include e.1.0 e.1.1), n) tt
+
+pub upper-read : (include : Bool) (e : Ended × Ended) (all : Option (Span VersionValue)) (a : Alternative) (r : Option Alternative)
+    → IsNarrowed include [] all → NarrowedBy include all (hyphen_lower include e.0.0 e.0.1) (Some a)
+    → NarrowedBy include a.interval (hyphen_upper include e.1.0 e.1.1) r → a.is_bare ≡ is_empty (hyphen_lower include e.0.0 e.0.1)
+    → IfSome r (λ b. b.is_bare ≡ (a.is_bare && is_empty (hyphen_upper include e.1.0 e.1.1))) → Between include e r
+upper-read include e all a None first n m k l =
+    rw (valid-both (hyphen_lower include e.0.0 e.0.1) (hyphen_upper include e.1.0 e.1.1) n.0, m) tt
+upper-read include e all a (Some b) first n m k l =
+    let cs = hyphen_lower include e.0.0 e.0.1 in
+    rw (valid-both cs (hyphen_upper include e.1.0 e.1.1) n.0, m.0) (m.1 cs (n.1 [] first), l ∙ rw k (sym (empty-append cs _)))
+
+-- ---- alternatives
+
+pub no-text : (loose : Bool) (include : Bool) (all : Alternative) → IsNarrowed include [] all.interval → all.is_bare ≡ true
+    → IsFound include (valid_alternative loose include []) (Some all)
+unfolding valid_alternative alternative_of
+no-text loose include all h k = (h, k)
+
+-- the words of an alternative
+words-are : (loose : Bool) (include : Bool) (text : List ℕ) (cs : List Comparison) → 0 < length text → words_of loose include text ≡ Some cs
+    → valid_alternative loose include text ≡ Some cs
+unfolding valid_alternative alternative_of
+words-are loose include text cs some h = grind (arith, nat_tests, common_steps, words-valid)
+
+-- a text that is no words
+hyphen-is : (loose : Bool) (include : Bool) (text : List ℕ) → IsUtf8 text → 0 < length text → words_of loose include text ≡ None
+    → valid_alternative loose include text ≡ valid_hyphen loose include text
+unfolding valid_alternative valid_hyphen alternative_of
+hyphen-is loose include [] u some h = absurd (omega (arith, some))
+hyphen-is loose include (b ∷ text) u some h = elim (option-cases (hyphen_ends loose include (b ∷ text))) [
+  | inr e ↦
+      let is = alternative-read loose include (b ∷ text) (hyphen_comparisons include e.0) u (hyphen-found loose include (b ∷ text) e.0 u e.1) in
+      rw (is, e.1) refl
+  | inl none ↦ grind (arith, nat_tests, common_steps, words-valid)
+]
+  where
+    or-none : (o : Option (List Comparison)) → (o >>? λ cs. valid_only MAX_SAFE_INTEGER cs) ≡ None
+        → (or_else o None >>? λ cs. valid_only MAX_SAFE_INTEGER cs) ≡ None
+    or-none None h = refl
+    or-none (Some cs) h = h
+
+pub words-found : (loose : Bool) (include : Bool) (text : List ℕ) (a : Alternative) → 0 < length text → IsFound include (words_of loose include text) (Some a)
+    → IsFound include (valid_alternative loose include text) (Some a)
+words-found loose include text a some h = go (words_of loose include text) refl h
+  where
+    go : (o : Option (List Comparison)) → words_of loose include text ≡ o → IsFound include o (Some a) → IsFound include (valid_alternative loose include text) (Some a)
+    go None e k = absurd k
+    go (Some cs) e k = rw (words-are loose include text cs some e) k
+
+pub no-words : (loose : Bool) (include : Bool) (text : List ℕ) (r : Option Alternative) → IsUtf8 text → 0 < length text
+    → IsFound include (words_of loose include text) None → IsFound include (valid_hyphen loose include text) r
+    → IsFound include (valid_alternative loose include text) r
+no-words loose include text r u some h k = go (words_of loose include text) refl h
+  where
+    go : (o : Option (List Comparison)) → words_of loose include text ≡ o → IsFound include o None → IsFound include (valid_alternative loose include text) r
+    go None e l = rw (hyphen-is loose include text u some e) k
+    go (Some cs) e l = absurd l
 
 -- ---- one alternative more
 
@@ -24,10 +239,6 @@ narrowed-append include (c ∷ ls) (p ∷ os) cs o h k = (h.0, narrowed-append i
 flat-append : (os : List (Option (Span VersionValue))) (o : Option (Span VersionValue))
     → flat_map option_to_list (os ++ o ∷ []) ≡ flat_map option_to_list os ++ option_to_list o
 flat-append os o = grind (arith, nat_tests, common_steps)
-
-same-end : (loose : Bool) (text : List ℕ) (a : Alternative) (cs : List Comparison) → a.is_bare ≡ is_empty cs
-    → (loose && (a.is_bare && (begins_malformed text && ends_malformed text))) ≡ is_lost loose text cs
-same-end loose text a cs e = rw e refl
 
 -- one part more, which is lost or not
 pub part-lost : (loose : Bool) (include : Bool) (text : List ℕ) (a : Alternative) (was : Bool) (before : List (Span VersionValue))
@@ -46,7 +257,7 @@ part-added loose include text a was before after h l e = go (valid_alternative l
     go : (o : Option (List Comparison)) → IsFound include o (Some a) → AddsPart loose include text o was true before after
     go None k = absurd k
     go (Some cs) k =
-        let regular : is_lost loose text cs ≡ false = sym (same-end loose text a cs k.1) ∙ l in
+        let regular : is_lost loose text cs ≡ false = rw k.1 at l in
         rw regular (
           refl,
           λ ls l. record {
@@ -68,9 +279,6 @@ pub record AreReadTo (loose : Bool) (include : Bool) (text : List ℕ) (is_some 
   pub same : valid_alternatives loose include (parts text) ≡ (valid_alternatives loose include (later_parts rest) >>? λ more. Some (read ++ more))
   pub count : length read + length (later_parts rest) ≤ length (parts text)
   pub some : is_some ≡ not (is_empty read)
-
-some-end : (ls : List (List Comparison)) (cs : List Comparison) → true ≡ not (is_empty (ls ++ cs ∷ []))
-some-end ls cs = grind (arith, nat_tests, common_steps)
 
 alternatives-step : (loose : Bool) (include : Bool) (part : List ℕ) (others : List (List ℕ)) → valid_alternatives loose include (part ∷ others)
     ≡ (valid_alternative loose include part >>? λ cs. valid_alternatives loose include others >>? λ rest. Some (kept loose part cs rest))
@@ -98,8 +306,7 @@ read-part loose include text was is found after rest part behind h e a = go (val
     joined cs (Some ls) = ap (λ (l : List (List Comparison)). Some l) (sym (append_assoc h.read (cs ∷ []) ls))
 
     whole : (o : Option (List (List Comparison))) → (o >>? λ ls. Some ls) ≡ o
-    whole None = refl
-    whole (Some ls) = refl
+    whole o = grind arith
 
     one : (cs : List Comparison) (l : Bool) → is_lost loose part cs ≡ l → valid_alternative loose include part ≡ Some cs
         → AddsOne include l cs was is found after → AreReadTo loose include text is after behind
@@ -121,7 +328,7 @@ read-part loose include text was is found after rest part behind h e a = go (val
           are = k.1 h.read h.are;
           same = h.same ∙ rw step (joined cs later);
           count = omega (arith, h.count, ap length e, length-append h.read (cs ∷ []));
-          some = k.0 ∙ some-end h.read cs;
+          some = k.0 ∙ grind (arith, nat_tests, common_steps);
         }
 
     go : (o : Option (List Comparison)) → valid_alternative loose include part ≡ o → AddsPart loose include part o was is found after
@@ -181,14 +388,8 @@ all-valid loose include (text ∷ texts) = go (all-valid loose include texts) (a
         ≡ ((o >>? λ rest. Some (kept loose text cs rest)) >>? λ ls. if list_all (list_all (is_valid MAX_SAFE_INTEGER)) ls then Some ls else None)
     behind cs None h = refl
     behind cs (Some ls) h = elim (cases_Bool (list_all (list_all (is_valid MAX_SAFE_INTEGER)) ls)) [
-      | inl good ↦ elim (cases_Bool (is_lost loose text cs)) [
-        | inl lost ↦ rw (lost, good) refl
-        | inr regular ↦ rw (regular, h, good) refl
-      ]
-      | inr bad ↦ elim (cases_Bool (is_lost loose text cs)) [
-        | inl lost ↦ rw (lost, bad) refl
-        | inr regular ↦ rw (regular, h, bad) refl
-      ]
+      | inl good ↦ elim (cases_Bool (is_lost loose text cs)) [ inl lost ↦ rw (lost, good) refl | inr regular ↦ rw (regular, h, good) refl ]
+      | inr bad ↦ elim (cases_Bool (is_lost loose text cs)) [ inl lost ↦ rw (lost, bad) refl | inr regular ↦ rw (regular, h, bad) refl ]
     ]
 
     invalid : (cs : List Comparison) (o : Option (List (List Comparison))) → list_all (is_valid MAX_SAFE_INTEGER) cs ≡ false
@@ -215,8 +416,7 @@ all-valid loose include (text ∷ texts) = go (all-valid loose include texts) (a
 -- the alternatives that are read are those of the text
 pub alternatives-read : (loose : Bool) (include : Bool) (text : List ℕ) (ls : List (List Comparison)) → IsUtf8 text
     → valid_range loose include text ≡ Some ls → HasAlternativesIn loose MAX_SAFE_INTEGER include text ls
-alternatives-read loose include text ls u h =
-    grind (arith, nat_tests, common_steps, cond_some, not, all-valid, not-true, alternatives_are)
+alternatives-read loose include text ls u h = grind (arith, nat_tests, common_steps, cond_some, not, all-valid, not-true, alternatives_are)
 
 pub none-read : (loose : Bool) (include : Bool) (text : List ℕ) → IsUtf8 text → valid_range loose include text ≡ None
     → NoValue (HasAlternativesIn loose MAX_SAFE_INTEGER include text)

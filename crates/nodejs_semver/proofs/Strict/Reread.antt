@@ -1,36 +1,21 @@
 -- A text that is a version strictly is a mark, the version as it prints without its build, and the build: so what is printed is read again.
-use Rattle.nodejs_semver.proofs.Common.{Bool, Id, IsTrim, IsUtf8, List, MAX_SAFE_INTEGER, VersionValue, [], and_parts, ap}
-use Rattle.nodejs_semver.proofs.Common.{append-nil, arith, cases_Bool, common_steps, decimal, encode_utf8_all, false, get_or}
-use Rattle.nodejs_semver.proofs.Common.{identifier_of, inl, inr, is_ascii_digit, is_identifier, is_identifier_char, length}
-use Rattle.nodejs_semver.proofs.Common.{length-append, list_all, map, nat_tests, not, pieces, refl, sym, true, ℕ, ◌&&◌, ◌++◌}
-use Rattle.nodejs_semver.proofs.{Common.{◌<◌, ◌==◌, ◌^◌, ◌||◌, ◌∙◌, ◌∷◌, ◌≡◌, ◌≤◌}, NpmCommon.IsStrictNumber}
-use Rattle.nodejs_semver.proofs.NpmCommon.{IsStrictPreRelease, IsStrictVersion, IsVersionText, chars, chars_from_encodes}
-use Rattle.nodejs_semver.proofs.NpmCommon.{dashed, digits_value, has_leading_zero, id_text, is_strict_identifier}
-use Rattle.nodejs_semver.proofs.NpmCommon.{join_with_byte, marked_list, no_build, no_pre_release, version_text}
-use Rattle.nodejs_semver.proofs.Stopping.{Read.{is_plain, plain-encodes, plain-middle}, Written.{plain-dark, plain-reverse}}
-use Rattle.{semver_core.{proofs.Text.Runs.{numerals}, specs.Text.Identifiers.is_u64_text}, std.proofs.Common.reverse}
-use Rattle.std.proofs.lemmas.{Fmt.decimal-digits_value, List.Splits.{join_with_byte-slice_split, length-slice_split}}
-use Rattle.std.{proofs.lemmas.Str.{IsUtf8-from_ascii, chars-IsAscii}, specs.Str.IsAscii}
+use Rattle.nodejs_semver.proofs.Common.{Id, IsTrim, IsUtf8, List, MAX_SAFE_INTEGER, VersionValue, [], and_parts, ap, append-nil, arith}
+use Rattle.nodejs_semver.proofs.Common.{cases_Bool, common_steps, encode_utf8_all, identifier_of, inl, inr, is_identifier}
+use Rattle.nodejs_semver.proofs.Common.{is_identifier_char, length, length-append, list_all, map, nat_tests, pieces, refl, sym, true, ℕ}
+use Rattle.nodejs_semver.proofs.{Common.{◌++◌, ◌<◌, ◌==◌, ◌||◌, ◌∙◌, ◌∷◌, ◌≡◌, ◌≤◌}, NpmCommon.{IsStrictPreRelease, IsStrictVersion}}
+use Rattle.nodejs_semver.proofs.NpmCommon.{IsVersionText, chars, chars_from_encodes, dashed, id_text, is_strict_identifier, join_with_byte}
+use Rattle.nodejs_semver.proofs.{NpmCommon.{marked_list, no_build, no_pre_release, version_text}, Stopping.Read.{is_plain, plain-encodes}}
+use Rattle.nodejs_semver.proofs.{Stopping.{Read.plain-middle, Written.{plain-dark, plain-reverse}}, Strict.Numbers.digits_printed}
+use Rattle.{nodejs_semver.proofs.Strict.Numbers.number_printed, semver_core.specs.Text.Identifiers.is_u64_text, std.proofs.Common.reverse}
+use Rattle.std.proofs.lemmas.{List.Splits.{join_with_byte-slice_split, length-slice_split}, Str.{IsUtf8-from_ascii, chars-IsAscii}}
+use Rattle.std.specs.Str.{IsAscii}
 use Rattle.nodejs_semver.specs.Npm.Table as Table
 
 -- ---- numbers and identifiers print as they are written
 
-lead : (ds : List ℕ) → has_leading_zero ds ≡ false → get_or ds 0 0 ≡ 48 → length ds ≡ 1
-lead ds h e = grind (arith, nat_tests, common_steps)
-
-digits_printed : (ds : List ℕ) → list_all is_ascii_digit ds ≡ true → 0 < length ds → has_leading_zero ds ≡ false → digits_value 10 ds < 2 ^ 64
-    → decimal (digits_value 10 ds) ≡ ds
-digits_printed ds each some h small = decimal-digits_value numerals ds each some (lead ds h) small
-
-number_printed : (ds : List ℕ) (n : ℕ) → IsStrictNumber MAX_SAFE_INTEGER ds n → decimal n ≡ ds
-number_printed ds n h = grind (arith, nat_tests, common_steps, digits_printed)
-
-no_zero : (digits zero : Bool) → not (digits && zero) ≡ true → digits ≡ true → zero ≡ false
-no_zero digits zero h e = grind (arith, h, e)
-
 id_printed : (piece : List ℕ) → is_identifier piece ≡ true → is_strict_identifier piece ≡ true → id_text (identifier_of piece) ≡ piece
 id_printed piece run strict = elim (cases_Bool (is_u64_text piece)) [
-  | inl number ↦ grind (arith, nat_tests, common_steps, and_parts, digits_printed, no_zero)
+  | inl number ↦ grind (arith, nat_tests, common_steps, and_parts, digits_printed)
   | inr text ↦ rw text refl
 ]
 
@@ -50,10 +35,6 @@ pre_printed text ids (dashed rest list is strict) =
     ∙ ap (λ (t : List ℕ). 45 ∷ t) (join_with_byte-slice_split 46 rest))
 
 -- ---- what is printed is a version strictly
-
-same_text : (a b c d e f p q : List ℕ) → a ≡ d → b ≡ e → c ≡ f → p ≡ q
-    → a ++ 46 ∷ (b ++ 46 ∷ (c ++ (p ++ []))) ≡ d ++ 46 ∷ (e ++ 46 ∷ (f ++ (q ++ [])))
-same_text a b c d e f p q h k l m = rw (h, k, l, m) refl
 
 printed : (text : List ℕ) (v : VersionValue) → IsStrictVersion MAX_SAFE_INTEGER text v → IsStrictVersion MAX_SAFE_INTEGER (version_text (Table.no_build v)) (Table.no_build v)
 printed text v h = record {

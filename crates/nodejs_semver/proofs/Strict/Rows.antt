@@ -1,21 +1,17 @@
 -- The rows of node-semver's table: the bounds that the comparators of a word have in common.
-use Rattle.nodejs_semver.proofs.Common.{Before, Bool, Bound, Comparator, List, MAX_SAFE_INTEGER, Option, Span, Unbounded}
-use Rattle.nodejs_semver.proofs.Common.{VersionValue, [], above, ap, arith, at_most, below, codes, cond_both, equal, false}
-use Rattle.nodejs_semver.proofs.Common.{greater_lower, is_readable, is_release, length, list_all, nat_tests, not, precedence}
-use Rattle.nodejs_semver.proofs.{Common.{refl, true, ℕ, ◌&&◌, ◌+◌, ◌==◌, ◌||◌, ◌∙◌, ◌∷◌, ◌≡◌, ◌≤◌}, NpmCommon.{AreRead, Bounds}}
-use Rattle.nodejs_semver.proofs.NpmCommon.{Comparison, IsCommon, MAX_LENGTH, Numbers, are_normal, at_least, bytes_eq}
-use Rattle.nodejs_semver.proofs.NpmCommon.{caret_from, comparator_view, compared, counts, first, from, hyphen_upper, is_valid}
-use Rattle.nodejs_semver.proofs.NpmCommon.{is_zero, made, major, minor, nat_le, next_changed, npm_partial_view, npm_sign_view}
-use Rattle.nodejs_semver.proofs.{NpmCommon.{under, version_text, whole, wildcard, within}, Strict.Narrowing.both_common}
-use Rattle.nodejs_semver.proofs.Strict.Narrowing.{compared_span, comparison, everything, one_common, uncounted_common}
-use Rattle.nodejs_semver.{proofs.Strict.Printed.{from_valid, prints_zero, under_valid}, specs.Internal.NpmMeaning.is_part}
-use Rattle.nodejs_semver.specs.Npm.Table.{Partial, caret, lowest, next, no_build, table, tilde}
+use Rattle.nodejs_semver.proofs.Common.{Before, Bool, Bound, Comparator, List, MAX_SAFE_INTEGER, Option, Span, Unbounded, VersionValue, []}
+use Rattle.nodejs_semver.proofs.Common.{above, ap, arith, at_most, below, codes, cond_both, equal, false, greater_lower, is_readable}
+use Rattle.nodejs_semver.proofs.Common.{is_release, length, list_all, nat_tests, not, precedence, refl, true, ℕ, ◌&&◌, ◌+◌, ◌==◌, ◌||◌, ◌∙◌}
+use Rattle.nodejs_semver.proofs.{Common.{◌∷◌, ◌≡◌, ◌≤◌}, NpmCommon.{AreRead, Bounds, Comparison, IsCommon, MAX_LENGTH, Numbers, are_normal}}
+use Rattle.nodejs_semver.proofs.NpmCommon.{at_least, bytes_eq, caret_from, comparator_view, compared, counts, first, from, hyphen_upper}
+use Rattle.nodejs_semver.proofs.NpmCommon.{is_valid, is_zero, made, nat_le, next_changed, npm_partial_view, under, version_text, whole}
+use Rattle.nodejs_semver.proofs.{NpmCommon.within, Strict.Narrowing.{both_common, compared_span, comparison, everything, one_common}}
+use Rattle.nodejs_semver.proofs.Strict.{Narrowing.uncounted_common, Printed.{from_valid, prints_zero, under_valid}}
+use Rattle.nodejs_semver.specs.{Internal.NpmMeaning.is_part, Npm.Table.{Partial, caret, lowest, next, no_build, table, tilde}}
 use Rattle.semver_core.specs.Values.Versions.{IsVersion}
 use Rattle.nodejs_semver.specs.Text.Table as Spans
 use Rattle.nodejs_semver.specs.declared.npm.partial.Partial as Declared
 use Rattle.nodejs_semver.specs.declared.npm.partial.Partial.TheVariants as Partials
-use Rattle.nodejs_semver.specs.declared.npm.partial.Sign as DeclaredSign
-use Rattle.nodejs_semver.specs.declared.npm.partial.Sign.TheVariants as Signs
 use Rattle.nodejs_semver.specs.declared.readers.syntax.Comparator as DeclaredComparator
 use Rattle.nodejs_semver.specs.declared.readers.syntax.Comparator.TheVariants as Comparators
 
@@ -29,9 +25,6 @@ zero_of v h = prints_zero (no_build v) h.major h.minor h.patch
 pub whole_readable : (v : VersionValue) → within (first (whole v)) ≡ true → are_normal (whole v) ≡ true
     → is_readable MAX_SAFE_INTEGER v ≡ true
 whole_readable v h k = grind arith
-
-lowest_readable : (n : Numbers) → within n ≡ true → is_readable MAX_SAFE_INTEGER (lowest n) ≡ true
-lowest_readable n h = whole_readable (lowest n) h refl
 
 pub from_included : (include : Bool) (v : VersionValue) → include ≡ true → within (first (whole v)) ≡ true → are_normal (whole v) ≡ true
     → IsCommon include (made at_least (no_build v) ∷ []) (Spans.>= v)
@@ -47,7 +40,7 @@ pub from_none : (include : Bool) (v : VersionValue) → include ≡ false → Is
 from_none include v i h e = uncounted_common include _ (rw i (ap not (zero_of v h ∙ e)))
 
 pub under_common : (include : Bool) (n : Numbers) → within n ≡ true → IsCommon include (under n ∷ []) (Spans.< (lowest n))
-under_common include n w = one_common include below (lowest n) [] _ (lowest_readable n w) (either_true include)
+under_common include n w = one_common include below (lowest n) [] _ (whole_readable (lowest n) w refl) (either_true include)
 
 open_upper : (b : Bound VersionValue) → greater_lower precedence b Unbounded ≡ b
 open_upper b = grind arith
@@ -72,57 +65,26 @@ under_read include n s h e = (rw (under_valid n, h) refl, rw e (under_common inc
 module _ (include : Bool) (text : List ℕ) (a b : Numbers) (r : Option Bounds) where
   pub part_equal : (p : Partial) (d : DeclaredComparator.Comparator) → d ≡ Comparators.Equal → is_part p ≡ true → a ≡ first p → b ≡ next p
       → AreRead include (from include a ∷ (under b ∷ [])) r → AreRead include (table include (compared (comparator_view d)) p text) r
-  part_equal (major M) d g i e f h = rw g (rw (e, f) at h)
-  part_equal (minor M m) d g i e f h = rw g (rw (e, f) at h)
-  part_equal wildcard d g i e f h = cc
-  part_equal (whole v) d g i e f h = cc
+  part_equal p d g i e f h = grind arith
 
   pub part_caret : (p : Partial) → is_part p ≡ true → a ≡ first p → b ≡ next_changed p
       → AreRead include (from include a ∷ (under b ∷ [])) r → AreRead include (table include caret p text) r
-  part_caret (major M) i e f h = rw (e, f) at h
-  part_caret (minor M m) i e f h = rw (e, f) at h
-  part_caret wildcard i e f h = cc
-  part_caret (whole v) i e f h = cc
+  part_caret p i e f h = grind arith
 
   pub part_tilde : (p : Partial) → is_part p ≡ true → a ≡ first p → b ≡ next p
       → AreRead include (from false a ∷ (under b ∷ [])) r → AreRead include (table include tilde p text) r
-  part_tilde (major M) i e f h = rw (e, f) at h
-  part_tilde (minor M m) i e f h = rw (e, f) at h
-  part_tilde wildcard i e f h = cc
-  part_tilde (whole v) i e f h = cc
+  part_tilde p i e f h = grind arith
 
 module _ (include : Bool) (text : List ℕ) (a : Numbers) (r : Option Bounds) where
   pub part_below : (p : Partial) (d : DeclaredComparator.Comparator) → d ≡ Comparators.Below → is_part p ≡ true → a ≡ first p
       → AreRead include (under a ∷ []) r → AreRead include (table include (compared (comparator_view d)) p text) r
-  part_below (major M) d g i e h = rw g (rw e at h)
-  part_below (minor M m) d g i e h = rw g (rw e at h)
-  part_below wildcard d g i e h = cc
-  part_below (whole v) d g i e h = cc
+  part_below p d g i e h = grind arith
 
   pub part_at_most : (p : Partial) (d : DeclaredComparator.Comparator) → d ≡ Comparators.AtMost → is_part p ≡ true → a ≡ next p
       → AreRead include (under a ∷ []) r → AreRead include (table include (compared (comparator_view d)) p text) r
-  part_at_most (major M) d g i e h = rw g (rw e at h)
-  part_at_most (minor M m) d g i e h = rw g (rw e at h)
-  part_at_most wildcard d g i e h = cc
-  part_at_most (whole v) d g i e h = cc
-
-  pub wildcard_above : (d : DeclaredComparator.Comparator) → d ≡ Comparators.Above → AreRead include (under (0, 0, 0) ∷ []) r
-      → AreRead include (table include (compared (comparator_view d)) wildcard text) r
-  wildcard_above d e h = rw e h
-
-  pub wildcard_below : (d : DeclaredComparator.Comparator) → d ≡ Comparators.Below → AreRead include (under (0, 0, 0) ∷ []) r
-      → AreRead include (table include (compared (comparator_view d)) wildcard text) r
-  wildcard_below d e h = rw e h
+  part_at_most p d g i e h = grind arith
 
 -- ---- the rows of a whole version
-
-whole_compared : (include : Bool) (c : Comparator) (v : VersionValue) (text : List ℕ) (s : Span VersionValue)
-    → s ≡ compared_span c v → is_readable MAX_SAFE_INTEGER v ≡ true → counts include (comparison c v v.build text) ≡ true
-    → IsCommon include (comparison c v v.build text ∷ []) s
-whole_compared include c v text s e r h = rw e (one_common include c v v.build text r h)
-
-always : (include : Bool) → (include || not false) ≡ true
-always include = grind arith
 
 whole_valid : (c : Comparator) (v : VersionValue) (text : List ℕ) → within (first (whole v)) ≡ true → length text ≤ MAX_LENGTH
     → list_all (is_valid MAX_SAFE_INTEGER) (comparison c v v.build text ∷ []) ≡ true
@@ -146,7 +108,7 @@ pub whole_written : (include : Bool) (d : DeclaredComparator.Comparator) (c : Co
     → (list_all (is_valid MAX_SAFE_INTEGER) (table include (compared (comparator_view d)) (whole v) text) ≡ true)
     × IsCommon include (table include (compared (comparator_view d)) (whole v) text) s
 whole_written include d c v text s e w n l is k =
-    whole_read include d c v text s e w l (whole_compared include c v text s is (whole_readable v w n) (k ∙ always include))
+    whole_read include d c v text s e w l (rw is (one_common include c v v.build text (whole_readable v w n) (k ∙ either_true include)))
 
 pub caret_valid : (include : Bool) (v : VersionValue) → within (first (whole v)) ≡ true
     → nat_le (length (version_text (no_build v))) MAX_LENGTH ≡ true → is_valid MAX_SAFE_INTEGER (caret_from include v) ≡ true
@@ -179,17 +141,4 @@ pub printed_read : (include : Bool) (v : VersionValue) (s : Span VersionValue) �
     → are_normal (whole v) ≡ true → nat_le (length (version_text (no_build v))) MAX_LENGTH ≡ true → s ≡ compared_span at_most v
     → (list_all (is_valid MAX_SAFE_INTEGER) (made at_most (no_build v) ∷ []) ≡ true)
     × IsCommon include (made at_most (no_build v) ∷ []) s
-printed_read include v s w n l e = (rw (w, l) refl, rw e (one_common include at_most v [] _ (whole_readable v w n) (always include)))
-
--- ---- the sign
-
-module _ (include : Bool) (s : DeclaredSign.Sign) (p : Partial) (text : List ℕ) (r : Option Bounds) where
-  pub row_caret : s ≡ Signs.Caret → AreRead include (table include caret p text) r → AreRead include (table include (npm_sign_view s) p text) r
-  row_caret e h = rw e h
-
-  pub row_tilde : s ≡ Signs.Tilde → AreRead include (table include tilde p text) r → AreRead include (table include (npm_sign_view s) p text) r
-  row_tilde e h = rw e h
-
-  pub row_compared : (d : DeclaredComparator.Comparator) → s ≡ Signs.Compared d → AreRead include (table include (compared (comparator_view d)) p text) r
-      → AreRead include (table include (npm_sign_view s) p text) r
-  row_compared d e h = rw e h
+printed_read include v s w n l e = (rw (w, l) refl, rw e (one_common include at_most v [] _ (whole_readable v w n) (either_true include)))

@@ -1,11 +1,10 @@
 -- Words with a number past the limit that counts have a comparator that is not valid: they may be left out as soon as they are read.
-use Rattle.nodejs_semver.proofs.Common.{Bool, Front, List, None, Option, Some, [], arith, cases_Bool, common_steps, drop_spaces}
-use Rattle.nodejs_semver.proofs.Common.{false, if◌then◌else◌, inl, inr, is_empty, list_all, list_all-append, nat_tests, refl}
-use Rattle.nodejs_semver.proofs.{Common.{suc, true, zero, ℕ, ◌&&◌, ◌++◌, ◌+◌, ◌∙◌, ◌∷◌, ◌≡◌}, NpmCommon.{Comparison, Ended}}
-use Rattle.nodejs_semver.proofs.NpmCommon.{Numbers, Signed, any_word, from, hyphen_comparisons, hyphen_lower, hyphen_upper}
-use Rattle.nodejs_semver.proofs.NpmCommon.{is_small, is_valid, limited_hyphen, limited_word, nat_le, under}
-use Rattle.nodejs_semver.{proofs.NpmCommon.{valid_only, valid_words, word_front, ◌>>?◌}, specs.Internal.NpmWords.words_within}
-use Rattle.nodejs_semver.specs.Npm.Table.{Partial, Sign, table}
+use Rattle.nodejs_semver.proofs.Common.{Bool, Front, List, None, Option, Some, [], arith, cases_Bool, common_steps, drop_spaces, false}
+use Rattle.nodejs_semver.proofs.Common.{if◌then◌else◌, inl, inr, is_empty, list_all, list_all-append, nat_tests, refl, suc, true, zero, ℕ}
+use Rattle.nodejs_semver.proofs.{Common.{◌&&◌, ◌++◌, ◌+◌, ◌∙◌, ◌∷◌, ◌≡◌}, NpmCommon.{Comparison, Ended, Numbers, Signed, any_word, from}}
+use Rattle.nodejs_semver.proofs.NpmCommon.{hyphen_comparisons, hyphen_lower, hyphen_upper, is_small, is_valid, limited_hyphen, limited_word}
+use Rattle.nodejs_semver.proofs.NpmCommon.{nat_le, under, valid_only, valid_words, word_front, ◌>>?◌}
+use Rattle.nodejs_semver.specs.{Internal.NpmWords.words_within, Npm.Table.{Partial, Sign, table}}
 
 -- ---- three numbers
 

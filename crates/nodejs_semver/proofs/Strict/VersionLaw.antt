@@ -1,14 +1,14 @@
 -- Version texts of the strict reading: the function that reads them finds exactly what the statement has.
-use Rattle.nodejs_semver.proofs.Common.{IsTrim, List, None, Some, VersionValue, [], and_parts, ap, append-nil, arith, begins}
-use Rattle.nodejs_semver.proofs.Common.{bind_some, cases_Bool, common_steps, drop, eqb-true, false, inl, inr, is_ascii_digit}
-use Rattle.nodejs_semver.proofs.Common.{is_empty, length, middle_is_trim, nat_tests, prefix_len, refl, same_Some, subst, sym}
-use Rattle.nodejs_semver.proofs.{Common.{true, ℕ, ◌&&◌, ◌++◌, ◌==◌, ◌∙◌, ◌∷◌, ◌≡◌, ◌≤◌, ◌⊎◌}, NpmCommon.IsClean}
-use Rattle.nodejs_semver.proofs.NpmCommon.{IsStrictBuild, IsStrictNumber, IsStrictPreRelease, IsStrictVersion, IsVersionText}
-use Rattle.nodejs_semver.proofs.NpmCommon.{MAX_LENGTH, NoValue, build_front, chars, dashed_front, dotted_number, is_mark}
-use Rattle.nodejs_semver.proofs.NpmCommon.{is_strict_list, qualified_version, strict_number, strict_version}
+use Rattle.nodejs_semver.proofs.Common.{IsTrim, IsUtf8, List, None, Some, VersionValue, [], and_parts, ap, append-nil, arith, begins}
+use Rattle.nodejs_semver.proofs.Common.{bind_some, cases_Bool, common_steps, drop, encode_utf8, encode_utf8_all, eqb-true, false, inl, inr}
+use Rattle.nodejs_semver.proofs.Common.{is_ascii_digit, is_empty, length, length-append, length-encode, middle_is_trim, nat_tests}
+use Rattle.nodejs_semver.proofs.Common.{prefix_len, refl, subst, sym, true, ℕ, ◌&&◌, ◌++◌, ◌<◌, ◌==◌, ◌∙◌, ◌∷◌, ◌≡◌, ◌≤◌, ◌⊎◌}
+use Rattle.nodejs_semver.proofs.NpmCommon.{IsClean, IsStrictBuild, IsStrictNumber, IsStrictPreRelease, IsStrictVersion, IsVersionText}
+use Rattle.nodejs_semver.proofs.NpmCommon.{MAX_LENGTH, NoValue, build_front, chars, chars_from_encodes, dashed_front, dotted_number}
+use Rattle.nodejs_semver.proofs.NpmCommon.{is_mark, is_strict_list, len_utf8, qualified_version, strict_number, strict_version}
 use Rattle.nodejs_semver.proofs.Strict.{Numbers.{dotted-found, dotted-read, strict-found, strict-read}, Qualifiers.build-found}
 use Rattle.nodejs_semver.proofs.Strict.Qualifiers.{build-taken, dashed-found, dashed-taken, ends-nil, quiet-behind}
-use Rattle.nodejs_semver.specs.Internal.Fronts.{drop_v}
+use Rattle.{nodejs_semver.specs.Internal.Fronts.drop_v, std.proofs.lemmas.Str.encodes-chars}
 
 -- ---- what is read is written
 
@@ -34,18 +34,10 @@ qualified-found a b c text v h =
           let parts = and_parts (is_empty build.1) (is_strict_list front.0) whole in
           let p = dashed-found text parts.1 in
           let q = build-found front.1 in
-          rw (← same_Some _ _ (rw whole at h)) (record {
-            pre = p.0;
-            build = q.0;
-            split = cc (p.1, q.1, empty-is build.1 parts.0, append-nil q.0);
-            pre_is = p.2;
-            build_is = q.2;
-            numbers = (refl, refl, refl);
-          })
+          let none = empty-is build.1 parts.0 in
+          let last = append-nil q.0 in
+          grind (arith, nat_tests, common_steps)
     ]
-
-number-along : (limit : ℕ) (digits : List ℕ) (n m : ℕ) → n ≡ m → IsStrictNumber limit digits m → IsStrictNumber limit digits n
-number-along limit digits n m e h = rw e h
 
 pub strict-found-version : (limit : ℕ) (text : List ℕ) (v : VersionValue) → strict_version limit text ≡ Some v → IsStrictVersion limit text v
 unfolding strict_version
@@ -58,21 +50,8 @@ strict-found-version limit text v h =
     let patch = dotted-found limit b.0.1 c.0.0 c.0.1 c.1 in
     let q = qualified-found a.0.0 b.0.0 c.0.0 c.0.1 v c.2 in
     let m = marked text in
-    record {
-      mark = m.0;
-      major = major.digits;
-      minor = minor.0;
-      patch = patch.0;
-      pre_release = q.pre;
-      build = q.build;
-      divided = m.1 ∙ ap (λ (t : List ℕ). m.0 ++ t) (cc (major.split, minor.1, patch.1, q.split));
-      mark_is = m.2;
-      major_is = number-along limit _ v.major _ q.numbers.0 major.is;
-      minor_is = number-along limit _ v.minor _ q.numbers.1 minor.2;
-      patch_is = number-along limit _ v.patch _ q.numbers.2 patch.2;
-      pre_release_is = q.pre_is;
-      build_is = q.build_is;
-    }
+    let behind : drop_v text ≡ major.digits ++ 46 ∷ (minor.0 ++ 46 ∷ (patch.0 ++ (q.pre ++ q.build))) = cc (major.split, minor.1, patch.1, q.split) in
+    grind (arith, nat_tests, common_steps)
   where
     marked : (t : List ℕ) → (mark : List ℕ) × (t ≡ mark ++ drop_v t) × ((mark ≡ []) ⊎ (mark ≡ 118 ∷ []))
     marked [] = ([], refl, inl refl)
@@ -127,3 +106,18 @@ pub clean_refused : (limit : ℕ) (text middle rest : List ℕ) → IsTrim text 
 clean_refused limit text middle rest trimmed e none = λ v w.
     let same : w.middle ≡ middle = middle_is_trim text w.middle w.trimmed ∙ sym (middle_is_trim text middle trimmed) in
     none v (subst (λ (t : List ℕ). IsVersionText limit t v) (ap (λ (m : List ℕ). drop (prefix_len is_mark m) m) same ∙ sym e) w.is)
+
+-- ---- a text has no more characters than bytes, and as many as its iterator counts
+
+character-takes : (c : ℕ) → 0 < len_utf8 c
+character-takes c = grind (arith, nat_tests)
+
+characters-le : (cs : List ℕ) → length cs ≤ length (encode_utf8_all cs)
+characters-le [] = omega arith
+characters-le (c ∷ cs) =
+    omega (arith, length-append (encode_utf8 c) (encode_utf8_all cs), length-encode c, character-takes c, characters-le cs)
+
+pub characters-fit : (text : List ℕ) → IsUtf8 text → length (chars text) ≤ length text
+characters-fit text h = rw (encodes-chars text h) at (characters-le (chars text))
+
+pub ruleset characters_counted = (characters-fit, chars_from_encodes)

@@ -1,14 +1,17 @@
--- The words that the code reads are those whose numbers are up to the limit.
-use Rattle.nodejs_semver.proofs.Common.{Bool, Bor, Front, IsCharBoundary-after_ascii, IsUtf8, IsUtf8-drop, List}
-use Rattle.nodejs_semver.proofs.Common.{MAX_SAFE_INTEGER, None, Option, Some, [], ap, arith, cases_Bool, common_steps}
-use Rattle.nodejs_semver.proofs.Common.{cond_some, drop, equal, false, if◌then◌else◌, inl, inr, is_boundary, is_some, length}
-use Rattle.nodejs_semver.proofs.Common.{length-append, length-drop, list_all, nat_tests, prefix_len, refl, suc, sym, take}
-use Rattle.nodejs_semver.proofs.{Common.{take_rest, true, ℕ, ◌&&◌, ◌+◌, ◌-◌, ◌<◌, ◌∙◌, ◌∷◌, ◌≡◌, ◌≤◌}, NpmCommon.Signed}
-use Rattle.nodejs_semver.proofs.NpmCommon.{any_word, begins_malformed, compared, counted_front, ignored_front, is_mark}
-use Rattle.nodejs_semver.proofs.NpmCommon.{is_small, is_visible, limited, limited_word, marked_word, marks_len, npm_sign}
-use Rattle.nodejs_semver.proofs.{NpmCommon.{or_else, signed_front_view, signed_word, wildcard}, Strict.Limits.counted_limited}
-use Rattle.nodejs_semver.{proofs.Strict.{PartialLaw.partial-found, Places.prefix-all}, specs.Internal.NpmWords.partial_front}
-use Rattle.nodejs_semver.specs.Npm.Table.{Partial, Sign}
+-- The words and the hyphen ranges that the code reads are those whose numbers are up to the limit.
+use Rattle.nodejs_semver.proofs.{Bounds.Bounded.identifiers-normal, Common.{Bool, Bor, Front, Id, IsCharBoundary-after_ascii, IsUtf8}}
+use Rattle.nodejs_semver.proofs.Common.{IsUtf8-drop, List, MAX_SAFE_INTEGER, None, Option, Some, [], ap, arith, cases_Bool, common_steps}
+use Rattle.nodejs_semver.proofs.Common.{cond_some, drop, equal, false, if◌then◌else◌, inl, inr, is_boundary, is_normal, is_some, length}
+use Rattle.nodejs_semver.proofs.Common.{length-append, length-drop, list_all, nat_tests, prefix_len, refl, space_len, suc, sym, take}
+use Rattle.nodejs_semver.proofs.{Common.{take_rest, true, zero, ℕ, ◌&&◌, ◌+◌, ◌-◌, ◌<◌, ◌||◌, ◌∙◌, ◌∷◌, ◌≡◌, ◌≤◌}, NpmCommon.Ended}
+use Rattle.nodejs_semver.proofs.NpmCommon.{IsPartial, IsStrictBuild, Signed, after_ends, any_word, are_normal, are_whole_marks}
+use Rattle.nodejs_semver.proofs.NpmCommon.{begins_malformed, compared, counted_front, drop_ends, end_front, ended_end, hyphen_ends}
+use Rattle.nodejs_semver.proofs.NpmCommon.{hyphen_of, ignored_front, is_mark, is_small, is_visible, limited, limited_end, limited_hyphen}
+use Rattle.nodejs_semver.proofs.NpmCommon.{limited_word, marked_word, marks_len, no_build, npm_sign, or_else, partial_of, plus}
+use Rattle.nodejs_semver.proofs.{NpmCommon.{signed_front_view, signed_word, wildcard, ◌>>?◌}, Strict.Hyphens.{after_ends-drop, ends-mark}}
+use Rattle.nodejs_semver.proofs.Strict.{Hyphens.{ends-more, ends-space, ends-stop}, Limits.counted_limited, PartialLaw.partial-found}
+use Rattle.nodejs_semver.{proofs.Strict.Places.prefix-all, specs.Internal.NpmWords.{end_len, last_limited, partial_front}}
+use Rattle.nodejs_semver.specs.Npm.{RangeText.IsPreRelease, Table.{Partial, Sign}}
 use Rattle.nodejs_semver.specs.declared.npm.words.Signed as Runtime
 
 pub marks_all : (text : List ℕ) (at : ℕ) → at ≡ marks_len text → list_all is_mark (take at text) ≡ true
@@ -66,9 +69,7 @@ no-boundary loose text at ends e h k =
   where
     no-ending : (a b : Bool) (rest : List ℕ)
         → ◌≡◌ {A = Front Signed} (if a && (b && false) then Some ((compared equal, wildcard, []), rest) else None) None
-    no-ending true true rest = refl
-    no-ending true false rest = refl
-    no-ending false b rest = refl
+    no-ending a b rest = grind arith
 
 pub ignored-here : (loose : Bool) (text : List ℕ) (at : ℕ) (ends : Bool) → loose ≡ true → begins_malformed text ≡ true
     → at ≡ prefix_len is_visible text → ends ≡ is_boundary (take (length text - at) (drop at text)) → ends ≡ true
@@ -92,3 +93,110 @@ pub any-signed : (loose : Bool) (text : List ℕ) (o : Option (Runtime.Signed ×
 any-signed loose text o r e h k = grind (arith, nat_tests, common_steps, any-limited)
 
 pub ruleset marks_found = (marks_all)
+
+-- ---- the identifiers of the partials that are read are in normal form
+
+pre-normal : (loose : Bool) (text : List ℕ) (ids : List Id) → IsPreRelease loose text ids → list_all is_normal ids ≡ true
+pre-normal loose text ids h = grind (arith, nat_tests, common_steps, identifiers-normal)
+
+build-normal : (text : List ℕ) (ids : List Id) → IsStrictBuild text ids → list_all is_normal ids ≡ true
+build-normal text ids no_build = refl
+build-normal text ids (plus t list h) = identifiers-normal t list h
+
+placed-normal : (a b c : Option ℕ) (ids builds : List Id) → list_all is_normal ids ≡ true → list_all is_normal builds ≡ true
+    → are_normal (partial_of a b c ids builds) ≡ true
+placed-normal a b c ids builds h k = grind (arith, nat_tests, common_steps)
+
+partial-normal : (loose : Bool) (text : List ℕ) (p : Partial) → IsPartial loose text p → are_normal p ≡ true
+partial-normal loose text p h = grind (arith, nat_tests, common_steps, placed-normal, pre-normal, build-normal)
+
+front-normal : (loose : Bool) (text : List ℕ) (p : Partial × List ℕ) → partial_front loose text ≡ Some p → are_normal p.0 ≡ true
+front-normal loose text p h = let found = partial-found loose text p.0 p.1 h in partial-normal loose found.piece p.0 found.is
+
+-- ---- words
+
+signed-normal : (loose : Bool) (text : List ℕ) (w : Signed × List ℕ) → signed_word loose text ≡ Some w → are_normal w.0.1 ≡ true
+unfolding signed_word
+signed-normal loose text w h = grind (arith, nat_tests, common_steps, cond_some, front-normal)
+
+any-normal : (loose : Bool) (text : List ℕ) (w : Signed × List ℕ) → any_word loose text ≡ Some w → are_normal w.0.1 ≡ true
+unfolding any_word ignored_front
+any-normal loose text w h = grind (arith, nat_tests, common_steps, signed-normal)
+
+pub word-normal : (loose : Bool) (text : List ℕ) (w : Signed × List ℕ) → limited_word MAX_SAFE_INTEGER (any_word loose text) ≡ Some w → are_normal w.0.1 ≡ true
+word-normal loose text w h = grind (arith, nat_tests, common_steps, cond_some, any-normal)
+
+-- ---- the ends of a hyphen range
+
+end-normal : (loose : Bool) (free : Partial → Bool) (text : List ℕ) (e : Ended × List ℕ) → end_front loose free text ≡ Some e → are_normal e.0.0 ≡ true
+unfolding end_front
+end-normal loose free text e h = grind (arith, nat_tests, common_steps, cond_some, front-normal)
+
+limited-normal : (loose : Bool) (free : Partial → Bool) (text : List ℕ) (e : Ended × List ℕ) → limited_end MAX_SAFE_INTEGER (end_front loose free text) ≡ Some e
+    → are_normal e.0.0 ≡ true
+limited-normal loose free text e h = grind (arith, nat_tests, common_steps, cond_some, end-normal)
+
+last-normal : (loose : Bool) (include : Bool) (text : List ℕ) (e : Ended) → last_limited loose MAX_SAFE_INTEGER include text ≡ Some e → are_normal e.0 ≡ true
+last-normal loose include text e h = grind (arith, nat_tests, common_steps, cond_some, limited-normal)
+
+pub hyphen-normal : (loose : Bool) (include : Bool) (text : List ℕ) (e : Ended × Ended) → hyphen_of loose MAX_SAFE_INTEGER include text ≡ Some e
+    → (are_normal e.0.0 ≡ true) × (are_normal e.1.0 ≡ true)
+hyphen-normal loose include text e h = grind (arith, limited-normal, last-normal)
+
+-- ---- the hyphen ranges that the code reads are those whose numbers are up to the limit
+
+-- ---- marks and whitespace
+
+pub ends_stop : (text : List ℕ) → end_len text ≡ 0 → drop_ends text ≡ text
+unfolding after_ends
+ends_stop text h = grind (arith, nat_tests, common_steps)
+
+pub ends_step : (text : List ℕ) (len : ℕ) → len ≡ end_len text → 0 < len → drop_ends (drop len text) ≡ drop_ends text
+ends_step text len e some = grind (arith, nat_tests, common_steps, ends-mark, ends-more)
+
+ends_le-from : (n : ℕ) (text : List ℕ) → length (after_ends n text) ≤ length text
+unfolding after_ends
+ends_le-from n [] = omega arith
+ends_le-from (suc n) (b ∷ rest) = omega (arith, ends_le-from n rest)
+ends_le-from zero (b ∷ rest) = elim (cases_Bool (is_mark b)) [
+  | inl mark ↦ omega (arith, ap length (ends-mark b rest mark), ends_le-from 0 rest)
+  | inr other ↦ go other (λ n. ends_le-from n rest) (space_len (b ∷ rest)) refl
+]
+  where
+    go : is_mark b ≡ false → ((n : ℕ) → length (after_ends n rest) ≤ length rest) → (n : ℕ) → space_len (b ∷ rest) ≡ n
+        → length (drop_ends (b ∷ rest)) ≤ length (b ∷ rest)
+    go other f zero e = omega (arith, ap length (ends-stop b rest other e))
+    go other f (suc n) e = omega (arith, ap length (ends-space b rest n other e ∙ sym (after_ends-drop n rest)), f n)
+
+pub ends_le : (text : List ℕ) → length (drop_ends text) ≤ length text
+ends_le text = ends_le-from 0 text
+
+-- ---- an end
+
+end-limited : (loose : Bool) (limit : ℕ) (free : Partial → Bool) (text behind : List ℕ) (o : Front Partial)
+    → limited_end limit (o >>? λ p. ended_end loose free text behind p) ≡ (limited limit o >>? λ p. ended_end loose free text behind p)
+end-limited loose limit free text behind None = refl
+end-limited loose limit free text behind (Some p) =
+    let test = free p.0 || are_whole_marks loose (take (length text - length behind) text) in
+    elim (cases_Bool test) [
+      | inl good ↦ elim (cases_Bool (is_small limit p.0)) [ inl small ↦ rw (good, small, good) refl | inr big ↦ rw (good, big) refl ]
+      | inr bad ↦ elim (cases_Bool (is_small limit p.0)) [ inl small ↦ rw (bad, small, bad) refl | inr big ↦ rw (bad, big) refl ]
+    ]
+
+pub end_here : (loose : Bool) (free : Partial → Bool) (text behind : List ℕ) (o : Front Partial) → behind ≡ drop_ends text
+    → o ≡ counted_front loose MAX_SAFE_INTEGER behind
+    → (o >>? λ p. ended_end loose free text behind p) ≡ limited_end MAX_SAFE_INTEGER (end_front loose free text)
+unfolding end_front
+end_here loose free text behind o e read = grind (arith, nat_tests, common_steps, counted_limited, end-limited)
+
+-- the same of one partial, of which it is known whether any marks may stand before it
+pub end_some : (loose : Bool) (free : Partial → Bool) (any_marks : Bool) (text behind : List ℕ) (p : Partial) (rest : List ℕ) → behind ≡ drop_ends text
+    → Some (p, rest) ≡ counted_front loose MAX_SAFE_INTEGER behind → any_marks ≡ free p
+    → ended_end loose (λ q. any_marks) text behind (p, rest) ≡ limited_end MAX_SAFE_INTEGER (end_front loose free text)
+end_some loose free any_marks text behind p rest e read same = rw same (end_here loose free text behind (Some (p, rest)) e read)
+
+-- ---- a hyphen range
+
+pub hyphen_limited : (loose : Bool) (limit : ℕ) (include : Bool) (text : List ℕ) → hyphen_of loose limit include text ≡ limited_hyphen limit (hyphen_ends loose include text)
+unfolding hyphen_ends
+hyphen_limited loose limit include text = grind (arith, nat_tests, common_steps)

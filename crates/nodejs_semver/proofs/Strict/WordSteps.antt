@@ -1,11 +1,10 @@
 -- The words of an alternative, read one after another: what was read, and what is left.
-use Rattle.nodejs_semver.proofs.Common.{Bool, Front, IsUtf8, List, MAX_SAFE_INTEGER, None, Option, Some, Span, VersionValue, []}
-use Rattle.nodejs_semver.proofs.Common.{ap, append_assoc, arith, common_steps, drop_spaces, false, if◌then◌else◌, is_empty}
-use Rattle.nodejs_semver.proofs.Common.{length, length-append, nat_tests, refl, suc, sym, true, zero, ℕ, ◌&&◌, ◌++◌, ◌<◌, ◌==◌}
-use Rattle.nodejs_semver.proofs.{Common.{◌∙◌, ◌≡◌, ◌≤◌}, NpmCommon.{Alternative, Comparison, IsFound, IsNarrowed, NarrowedBy}}
-use Rattle.nodejs_semver.proofs.NpmCommon.{Signed, any_word, is_visible, limited_word, valid_only, valid_words, word_front}
-use Rattle.nodejs_semver.proofs.{NpmCommon.{words_of, ◌>>?◌}, Reading.Bytes.begins-some, Strict.{Signs.blank-at, Words.WordAt}}
-use Rattle.nodejs_semver.{proofs.Strict.Words.{word-found, word-visible}, specs.Npm.Table.table}
+use Rattle.nodejs_semver.proofs.Common.{Bool, Front, IsUtf8, List, MAX_SAFE_INTEGER, None, Option, Some, Span, VersionValue, [], ap}
+use Rattle.nodejs_semver.proofs.Common.{append_assoc, arith, common_steps, drop_spaces, false, if◌then◌else◌, is_empty, length}
+use Rattle.nodejs_semver.proofs.Common.{length-append, nat_tests, refl, suc, sym, true, zero, ℕ, ◌&&◌, ◌++◌, ◌<◌, ◌==◌, ◌∙◌, ◌≡◌, ◌≤◌}
+use Rattle.nodejs_semver.proofs.NpmCommon.{Alternative, Comparison, IsFound, IsNarrowed, NarrowedBy, Signed, any_word, is_visible}
+use Rattle.nodejs_semver.proofs.{NpmCommon.{limited_word, valid_only, valid_words, word_front, words_of, ◌>>?◌}, Reading.Bytes.begins-some}
+use Rattle.nodejs_semver.{proofs.Strict.{Signs.blank-at, Words.{WordAt, word-found, word-visible}}, specs.Npm.Table.table}
 
 abbrev pub word_at_front : (loose : Bool) → List ℕ → Front Signed
 word_at_front loose text = limited_word MAX_SAFE_INTEGER (any_word loose text)
@@ -27,14 +26,8 @@ pub word-shorter : (loose : Bool) (include : Bool) (text : List ℕ) (w : Signed
 word-shorter loose include text w u h =
     let x = word-at loose include text w u h in
     let b = blank-at w.1 x.utf8 in
-    omega (
-      arith,
-      ap length x.split,
-      length-append x.piece w.1,
-      ap length b.split,
-      length-append b.blank (drop_spaces w.1),
-      begins-some is_visible x.piece (word-visible loose include (is_empty w.1) x.piece (row_of include w.0) x.is),
-    )
+    let some = begins-some is_visible x.piece (word-visible loose include (is_empty w.1) x.piece (row_of include w.0) x.is) in
+    omega (arith, ap length x.split, length-append x.piece w.1, ap length b.split, length-append b.blank (drop_spaces w.1), some)
 
 pub left-utf8 : (loose : Bool) (include : Bool) (text : List ℕ) (w : Signed × List ℕ) → IsUtf8 text → word_at_front loose text ≡ Some w → IsUtf8 (drop_spaces w.1)
 left-utf8 loose include text w u h = (blank-at w.1 (word-at loose include text w u h).utf8).utf8
@@ -120,8 +113,7 @@ pub words-end : (loose : Bool) (include : Bool) (text rest : List ℕ) (all : Op
     (a : Alternative) → AreWordsTo loose include text all is_bare rest → word_at_front loose rest ≡ Some w
     → NarrowedBy include all (row_of include w.0) (Some a) → a.is_bare ≡ (is_bare && is_empty (row_of include w.0))
     → is_empty w.1 ≡ true → IsFound include (words_of loose include text) (Some a)
-words-end loose include text rest all is_bare w a h e n b ended =
-    grind (arith, nat_tests, common_steps, words-step, empty-append)
+words-end loose include text rest all is_bare w a h e n b ended = grind (arith, nat_tests, common_steps, words-step, empty-append)
 
 -- no word where one is to be
 pub words-none : (loose : Bool) (include : Bool) (text rest : List ℕ) (all : Option (Span VersionValue)) (is_bare : Bool)

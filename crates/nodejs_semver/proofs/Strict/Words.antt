@@ -1,21 +1,19 @@
 -- The words of node-semver's range texts: the functions that read them find exactly what the statement has.
-use Rattle.nodejs_semver.proofs.Common.{Bool, Front, IsBlank, IsUtf8, List, None, Option, Some, [], and_parts, ap, append-nil}
-use Rattle.nodejs_semver.proofs.Common.{append_assoc, arith, begins, bind_some, cases_Bool, common_steps, cond_some, drop}
-use Rattle.nodejs_semver.proofs.Common.{drop_at, drop_spaces, eqb-true, equal, false, inl, inr, is_boundary, is_empty, length}
-use Rattle.nodejs_semver.proofs.Common.{length-append, list_all, lt-ltb, nat_tests, prefix_len, refl, same_Some, space_len}
-use Rattle.nodejs_semver.proofs.Common.{subst, suc, sym, take, take-append-drop, take_at, true, zero, ℕ, ◌&&◌, ◌++◌, ◌-◌, ◌<◌}
-use Rattle.nodejs_semver.proofs.{Common.{◌==◌, ◌∙◌, ◌∷◌, ◌≡◌, ◌≤◌}, NpmCommon.{AreWords, Comparison, IsPartial, IsPlace}}
-use Rattle.nodejs_semver.proofs.NpmCommon.{IsWord, Signed, any_word, are_marks, begins_byte, begins_malformed, compared}
-use Rattle.nodejs_semver.proofs.NpmCommon.{ignored, ignored_front, is_mark, is_visible, last, marked_word, marks_len, npm_sign}
-use Rattle.nodejs_semver.proofs.{NpmCommon.{signed_word, wildcard, word, word_front, ◌>>?◌}, Reading.Bytes.begins-on}
-use Rattle.nodejs_semver.proofs.Reading.{Bytes.{begins-some, begins_component, is_component_byte}, PartialLaw.spaces-gone}
-use Rattle.nodejs_semver.proofs.Reading.{PartialLaw.spaces-le, WordLaw.{boundary-utf8, suffix-boundary}}
-use Rattle.nodejs_semver.proofs.Strict.Malformed.{boundary-dark, ignored-read, malformed-visible, sign-visible, visible-dark}
-use Rattle.nodejs_semver.proofs.Strict.{Malformed.word-regular, PartialLaw.{boundary-quiet, partial-found, partial-read}}
-use Rattle.nodejs_semver.proofs.Strict.{Places.digits-begin, Signs.{blank-at, sign-found}, SignsRead.blank-cases}
-use Rattle.nodejs_semver.proofs.Strict.{SignsRead.{blank-skipped, marks-all, sign-taken}, VersionLaw.empty-is}
-use Rattle.nodejs_semver.specs.{Internal.NpmWords.{ended_word, partial_front, words_within}, Npm.RangeText.more}
-use Rattle.nodejs_semver.specs.Npm.Table.{Partial, Sign, table}
+use Rattle.nodejs_semver.proofs.Common.{Bool, Front, IsBlank, IsUtf8, List, None, Option, Some, [], and_parts, ap, append-nil, append_assoc}
+use Rattle.nodejs_semver.proofs.Common.{arith, begins, bind_some, cases_Bool, common_steps, cond_some, drop, drop_at, drop_spaces, eqb-true}
+use Rattle.nodejs_semver.proofs.Common.{equal, false, inl, inr, is_boundary, is_empty, length, length-append, list_all, lt-ltb, nat_tests}
+use Rattle.nodejs_semver.proofs.Common.{prefix_len, refl, same_Some, space_len, subst, suc, sym, take, take-append-drop, take_at, true}
+use Rattle.nodejs_semver.proofs.{Common.{zero, ℕ, ◌&&◌, ◌++◌, ◌-◌, ◌<◌, ◌==◌, ◌∙◌, ◌∷◌, ◌≡◌, ◌≤◌}, NpmCommon.{AreWords, Comparison}}
+use Rattle.nodejs_semver.proofs.NpmCommon.{IsPartial, IsPlace, IsWord, Signed, any_word, are_marks, begins_byte, begins_malformed, compared}
+use Rattle.nodejs_semver.proofs.NpmCommon.{ignored, ignored_front, is_mark, is_visible, last, marked_word, marks_len, npm_sign, signed_word}
+use Rattle.nodejs_semver.proofs.{NpmCommon.{wildcard, word, word_front, ◌>>?◌}, Reading.Bytes.{begins-on, begins-some, begins_component}}
+use Rattle.nodejs_semver.proofs.Reading.{Bytes.is_component_byte, PartialLaw.{spaces-gone, spaces-le}, WordLaw.boundary-utf8}
+use Rattle.nodejs_semver.proofs.{Reading.WordLaw.suffix-boundary, Strict.Malformed.{boundary-dark, ignored-read, malformed-visible}}
+use Rattle.nodejs_semver.proofs.Strict.{Malformed.{sign-visible, visible-dark, word-regular}, PartialLaw.{boundary-quiet, partial-found}}
+use Rattle.nodejs_semver.proofs.Strict.{PartialLaw.partial-read, Places.digits-begin, Signs.{blank-at, blank-cases, blank-skipped}}
+use Rattle.nodejs_semver.proofs.Strict.{Signs.{marks-all, sign-found, sign-taken}, VersionLaw.empty-is}
+use Rattle.nodejs_semver.specs.{Internal.NpmWords.{ended_word, partial_front, words_within}, Npm.{RangeText.more, Table.{Partial, Sign}}}
+use Rattle.nodejs_semver.specs.Npm.Table.{table}
 
 -- ---- how partials and marks begin
 
@@ -26,8 +24,7 @@ pub partial-begins : (loose : Bool) (x rest : List ℕ) (p : Partial) → IsPart
 partial-begins loose x rest p h = grind (arith, nat_tests, common_steps, begins-on, is_component_byte, place-begins)
 
 marks-counted : (marks u : List ℕ) → list_all is_mark marks ≡ true → begins_component u ≡ true → marks_len (marks ++ u) ≡ length marks
-marks-counted [] [] h k = cc k
-marks-counted [] (b ∷ u) h k = grind (arith, nat_tests)
+marks-counted [] u h k = grind (arith, nat_tests)
 marks-counted (b ∷ marks) u h k =
     let each = and_parts (is_mark b) (list_all is_mark marks) h in
     rw each.0 (omega (arith, marks-counted marks u each.1 k))
@@ -112,22 +109,12 @@ signed-found loose include text cs rest u h =
     let front = marks ++ part.piece in
     let behind : s.1 ≡ front ++ p.0.1 =
     sym (take-append-drop n s.1) ∙ ap (λ (t : List ℕ). marks ++ t) part.split ∙ sym (append_assoc marks part.piece p.0.1) in
-    let front_is : whole_text ≡ front =
-    ap (λ (t : List ℕ). take (length t - length p.0.1) t) behind ∙ front-text front p.0.1 in
-    let same : ◌≡◌ {A = List Comparison × List ℕ} (table include s.0 p.0.0 whole_text, p.0.1) (cs, rest) =
-    ap (λ (x : Signed × List ℕ). (table include x.0.0 x.0.1 x.0.2, x.1)) t.1 ∙ same_Some _ _ w.2 in
-    let split : text ≡ (at_sign.signs ++ front) ++ p.0.1 =
-    at_sign.split ∙ ap (λ (t : List ℕ). at_sign.signs ++ t) behind ∙ sym (append_assoc at_sign.signs front p.0.1) in
+    let front_is : whole_text ≡ front = ap (λ (t : List ℕ). take (length t - length p.0.1) t) behind ∙ front-text front p.0.1 in
+    let whole = append_assoc at_sign.signs front p.0.1 in
     let is : IsWord loose include (is_empty p.0.1) (at_sign.signs ++ front) (table include s.0 p.0.0 whole_text) =
     rw front_is (word at_sign.signs marks part.piece s.0 p.0.0 at_sign.is tests.0 (unsigned text at_sign.signs n at_sign.split) part.is) in
-    let read : WordAt loose include text (table include s.0 p.0.0 whole_text) p.0.1 = record {
-      piece = at_sign.signs ++ front;
-      split = split;
-      is = is;
-      ended = tests.1;
-      utf8 = rest-utf8 front p.0.1 (subst (λ (t : List ℕ). IsUtf8 t) behind at_sign.utf8) tests.1;
-    } in
-    subst (λ (q : List Comparison × List ℕ). WordAt loose include text q.0 q.1) same read
+    let utf8 = rest-utf8 front p.0.1 (subst (λ (t : List ℕ). IsUtf8 t) behind at_sign.utf8) tests.1 in
+    grind (arith, nat_tests, common_steps, same_Some)
 
 ignored-found : (loose : Bool) (include : Bool) (text : List ℕ) (w : Signed × List ℕ) → IsUtf8 text → ignored_front loose text ≡ Some w
     → WordAt loose include text (table include w.0.0 w.0.1 w.0.2) w.1
@@ -141,14 +128,9 @@ ignored-found loose include text w u h =
     let tests = and_parts loose (begins_malformed text && is_boundary rest) t.0 in
     let both = and_parts (begins_malformed text) (is_boundary rest) tests.1 in
     let split : text ≡ run ++ rest = sym (take-append-drop n text) in
-    let found : WordAt loose include text [] rest = record {
-      piece = run;
-      split = split;
-      is = ignored run tests.0 both.0;
-      ended = both.1;
-      utf8 = rest-utf8 run rest (subst (λ (t : List ℕ). IsUtf8 t) split u) both.1;
-    } in
-    subst (λ (x : Signed × List ℕ). WordAt loose include text (table include x.0.0 x.0.1 x.0.2) x.1) t.1 found
+    let is : IsWord loose include (is_empty rest) run [] = ignored run tests.0 both.0 in
+    let utf8 = rest-utf8 run rest (subst (λ (t : List ℕ). IsUtf8 t) split u) both.1 in
+    grind (arith, nat_tests, common_steps)
 
 pub word-found : (loose : Bool) (include : Bool) (text : List ℕ) (cs : List Comparison) (rest : List ℕ) → IsUtf8 text
     → word_front loose include text ≡ Some (cs, rest) → WordAt loose include text cs rest
@@ -158,8 +140,7 @@ word-found loose include text cs rest u h = grind (arith, nat_tests, common_step
 -- ---- words
 
 marks-visible : (marks u : List ℕ) → list_all is_mark marks ≡ true → begins_component u ≡ true → begins is_visible (marks ++ u) ≡ true
-marks-visible [] [] h k = cc k
-marks-visible [] (b ∷ u) h k = grind (arith, nat_tests)
+marks-visible [] u h k = grind (arith, nat_tests)
 marks-visible (b ∷ marks) u h k = grind (arith, nat_tests)
 
 pub word-visible : (loose : Bool) (include : Bool) (is_last : Bool) (w : List ℕ) (cs : List Comparison) → IsWord loose include is_last w cs
@@ -195,17 +176,12 @@ pub not-empty : (blank rest : List ℕ) → 0 < length blank → is_empty (blank
 not-empty [] rest some = absurd (omega arith)
 not-empty (b ∷ blank) rest some = refl
 
-nil-boundary : is_boundary [] ≡ true
-unfolding is_boundary
-nil-boundary = refl
-
 pub words-read : (loose : Bool) (include : Bool) (n : ℕ) (text : List ℕ) (cs : List Comparison) → AreWords loose include text cs → length text ≤ n
     → words_within loose include n text ≡ Some cs
-unfolding words_within
-words-read loose include zero text cs h le =
-    absurd (omega (arith, le, begins-some is_visible text (words-visible loose include text cs h)))
+unfolding words_within is_boundary
+words-read loose include zero text cs h le = absurd (omega (arith, le, begins-some is_visible text (words-visible loose include text cs h)))
 words-read loose include (suc n) text cs (last t ds h) le =
-    let read : word_front loose include t ≡ Some (ds, []) = rw (append-nil t) at (word-read loose include t [] ds h nil-boundary) in
+    let read : word_front loose include t ≡ Some (ds, []) = rw (append-nil t) at (word-read loose include t [] ds h refl) in
     rw read refl
 words-read loose include (suc n) text cs (more t blank rest ds es h hb some k) le =
     let here = subst (λ (l : Bool). IsWord loose include l t ds) (sym (not-empty blank rest some)) h in
@@ -231,21 +207,14 @@ words-found loose include (suc n) text cs u h =
     let at_word = word-found loose include text w.0.0 w.0.1 u w.1 in
     elim (cases_Bool (is_empty w.0.1)) [
       | inl ended ↦
-          let e : text ≡ at_word.piece = at_word.split ∙ ap (λ (t : List ℕ). at_word.piece ++ t) (empty-is w.0.1 ended)
-          ∙ append-nil at_word.piece in
-          let is : AreWords loose include at_word.piece w.0.0 = last at_word.piece w.0.0
-          (subst (λ (l : Bool). IsWord loose include l at_word.piece w.0.0) ended at_word.is) in
-          let same : w.0.0 ≡ cs = same_Some _ _ (rw ended at w.2) in
-          subst (λ (ds : List Comparison). AreWords loose include text ds) same
-          (subst (λ (t : List ℕ). AreWords loose include t w.0.0) (sym e) is)
+          let is = last at_word.piece w.0.0 (subst (λ (l : Bool). IsWord loose include l at_word.piece w.0.0) ended at_word.is) in
+          grind (arith, nat_tests, common_steps, empty-is, append-nil)
       | inr goes ↦
           let rest = drop_spaces w.0.1 in
           let d = bind_some (words_within loose include n rest) (λ ds. Some (w.0.0 ++ ds)) cs (rw goes at w.2) in
           let x = blank-at w.0.1 at_word.utf8 in
           let some = blank-some w.0.1 x.blank x.split (some-space w.0.1 at_word.ended goes) in
-          let e : text ≡ at_word.piece ++ (x.blank ++ rest) = at_word.split ∙ ap (λ (t : List ℕ). at_word.piece ++ t) x.split in
           let here = subst (λ (l : Bool). IsWord loose include l at_word.piece w.0.0) goes at_word.is in
           let is = more at_word.piece x.blank rest w.0.0 d.0 here x.is some (words-found loose include n rest d.0 x.utf8 d.1) in
-          subst (λ (ds : List Comparison). AreWords loose include text ds) (same_Some _ _ d.2)
-          (subst (λ (t : List ℕ). AreWords loose include t (w.0.0 ++ d.0)) (sym e) is)
+          grind (arith, nat_tests, common_steps)
     ]

@@ -114,7 +114,7 @@ fn whole_version(text: &[u8]) -> Option<VersionRef<'_>>
 
 // Whether a text has at most as many characters as a version text may have.
 #[inline(always)]
-#[tactic(auto, using(crate::proofs::Strict::Lengths::characters_counted))]
+#[tactic(auto, using(crate::proofs::Strict::VersionLaw::characters_counted))]
 pub(crate) fn is_short(text: &str) -> bool
     ensures { IsTrue result ↔ (length (chars text.now) ≤ MAX_LENGTH) }
 {

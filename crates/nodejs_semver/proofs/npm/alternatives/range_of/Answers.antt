@@ -1,4 +1,4 @@
-use Rattle.nodejs_semver.proofs.{Common.arith, Strict.Alternatives.ranged_range, Values.spans_same}
+use Rattle.nodejs_semver.proofs.{Common.arith, Strict.RangeReads.ranged_range, Values.spans_same}
 use Rattle.nodejs_semver.proofs.npm.alternatives.range_of.Goals as goal
 
 pub of_some-requires : goal.of_some-requires

@@ -1,6 +1,5 @@
 use Rattle.nodejs_semver.proofs.Common.{[], any_version, arith, common_steps, false, is_empty, list_any, rules, true, ◌∷◌, ◌≡◌}
-use Rattle.nodejs_semver.proofs.{NpmCommon.{is_unbounded, nothing}, Strict.Alternatives.{ranged_kept, ranged_list, ranged_none}}
-use Rattle.nodejs_semver.proofs.Strict.Alternatives.{ranged_open}
+use Rattle.nodejs_semver.proofs.{NpmCommon.{is_unbounded, nothing}, Strict.RangeReads.{ranged_kept, ranged_list, ranged_none, ranged_open}}
 use Rattle.nodejs_semver.proofs.npm.alternatives.ranged.Goals as goal
 
 pub returns-then-is_some_unbounded-clause-accepts : goal.returns-then-is_some_unbounded-clause-accepts

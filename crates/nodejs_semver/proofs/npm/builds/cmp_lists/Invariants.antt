@@ -1,5 +1,4 @@
-use Rattle.{nodejs_semver.proofs.Common.{length, ◌≡◌}, semver_core.specs.Values.Order.id_cmp}
-use Rattle.std.specs.Cmp.Lexicographic.{slice_cmp}
+use Rattle.{nodejs_semver.proofs.Common.{length, ◌≡◌}, semver_core.specs.Values.Order.id_cmp, std.specs.Cmp.Lexicographic.slice_cmp}
 use Rattle.nodejs_semver.proofs.npm.builds.cmp_lists.Given as goal
 
 abbrev pub invariant-ids : goal.invariant-ids

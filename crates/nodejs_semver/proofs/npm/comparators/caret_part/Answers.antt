@@ -1,5 +1,4 @@
-use Rattle.nodejs_semver.proofs.{Common.{ap, ◌∙◌}, NpmCommon.{from, npm_partial_view, within}, Strict.Printed.from_valid}
-use Rattle.nodejs_semver.proofs.Strict.Rows.{part_caret}
+use Rattle.nodejs_semver.proofs.{Common.{ap, ◌∙◌}, NpmCommon.{from, npm_partial_view, within}, Strict.{Printed.from_valid, Rows.part_caret}}
 use Rattle.nodejs_semver.proofs.npm.comparators.caret_part.Goals as goal
 
 pub returns : goal.returns

@@ -1,6 +1,6 @@
 use Rattle.nodejs_semver.proofs.{Common.{ap, sym, ◌∙◌}, NpmCommon.bounds_view, Strict.Rows.under_read}
-use Rattle.nodejs_semver.specs.Text.Table as Spans
 use Rattle.nodejs_semver.proofs.npm.comparators.under.Goals as goal
+use Rattle.nodejs_semver.specs.Text.Table as Spans
 
 pub returns-then-within : goal.returns-then-within
 returns-then-within c include =

@@ -1,7 +1,7 @@
-use Rattle.nodejs_semver.proofs.Common.{After, Before, above, ap, ap₂, arith, at_most, below, equal, refl, ◌∙◌}
-use Rattle.nodejs_semver.proofs.{NpmCommon.{bounds_view, comparator_view}, Strict.Rows.whole_written}
-use Rattle.nodejs_semver.specs.Text.Table as Spans
+use Rattle.nodejs_semver.proofs.{Common.{After, Before, above, ap, ap₂, arith, at_most, below, equal, refl, ◌∙◌}, NpmCommon.bounds_view}
+use Rattle.nodejs_semver.proofs.{NpmCommon.comparator_view, Strict.Rows.whole_written}
 use Rattle.nodejs_semver.proofs.npm.comparators.whole.Goals as goal
+use Rattle.nodejs_semver.specs.Text.Table as Spans
 
 pub returns-in-Above : goal.returns-in-Above
 returns-in-Above c =

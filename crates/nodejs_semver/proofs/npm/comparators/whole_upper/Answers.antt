@@ -1,7 +1,6 @@
-use Rattle.nodejs_semver.proofs.{Common.{Some, ap, sym, ◌∙◌}, NpmCommon.bounds_view, Strict.Rows.{printed_read, upper_printed}}
-use Rattle.nodejs_semver.proofs.Strict.Rows.{upper_under}
-use Rattle.nodejs_semver.specs.Text.Table as Spans
+use Rattle.nodejs_semver.proofs.{Common.{Some, ap, sym, ◌∙◌}, NpmCommon.bounds_view, Strict.Rows.{printed_read, upper_printed, upper_under}}
 use Rattle.nodejs_semver.proofs.npm.comparators.whole_upper.Goals as goal
+use Rattle.nodejs_semver.specs.Text.Table as Spans
 
 pub returns-then-include : goal.returns-then-include
 returns-then-include c =

@@ -1,10 +1,9 @@
-use Rattle.nodejs_semver.proofs.{Common.{List, false, sym, ℕ}, NpmCommon.{Signed, signed_view}}
-use Rattle.nodejs_semver.proofs.{Stopping.MalformedWords.{invalid-word, no-word, right-word}, Strict.Normal.word-normal}
+use Rattle.nodejs_semver.proofs.{Common.{List, false, sym, ℕ}, NpmCommon.{Signed, signed_view}, Stopping.MalformedWords.invalid-word}
+use Rattle.nodejs_semver.proofs.{Stopping.MalformedWords.{no-word, right-word}, Strict.WordReads.word-normal}
 use Rattle.nodejs_semver.proofs.npm.malformed_words.right_word.Goals as goal
 
 pub returns-in_err-word-clause-none : goal.returns-in_err-word-clause-none
-returns-in_err-word-clause-none c =
-    rw c.from_residual.ensures (no-word c.args.include c.args.text.now (sym c.in_err-word.ensures))
+returns-in_err-word-clause-none c = rw c.from_residual.ensures (no-word c.args.include c.args.text.now (sym c.in_err-word.ensures))
 
 pub row-requires : goal.row-requires
 row-requires c =

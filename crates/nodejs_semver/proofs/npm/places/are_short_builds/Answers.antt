@@ -1,5 +1,4 @@
-use Rattle.nodejs_semver.proofs.{Common.{eqb, rules, tests}, NpmCommon.{YieldsList-from_slice_split, all_from_yields_List}}
-use Rattle.nodejs_semver.proofs.NpmCommon.{is_short_build}
+use Rattle.nodejs_semver.proofs.{Common.{eqb, rules, tests}, NpmCommon.{YieldsList-from_slice_split, all_from_yields_List, is_short_build}}
 use Rattle.nodejs_semver.proofs.npm.places.are_short_builds.Goals as goal
 
 pub returns : goal.returns

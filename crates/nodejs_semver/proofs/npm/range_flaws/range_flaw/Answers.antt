@@ -12,12 +12,10 @@ returns-then-is_none-clause-flaw c =
     c.as_bytes-bytes.ensures.value c.alternative.ensures empty c.malformed_word-word_start.ensures.word refl refl refl refl
 
 pub returns-then-is_none-clause-none : goal.returns-then-is_none-clause-none
-returns-then-is_none-clause-none c =
-    (flawed c.args.include_prerelease c.args.text.now _ c.utf8.text (returns-then-is_none-clause-flaw c)).0
+returns-then-is_none-clause-none c = (flawed c.args.include_prerelease c.args.text.now _ c.utf8.text (returns-then-is_none-clause-flaw c)).0
 
 pub returns-then-is_none-clause-only : goal.returns-then-is_none-clause-only
-returns-then-is_none-clause-only c =
-    (flawed c.args.include_prerelease c.args.text.now _ c.utf8.text (returns-then-is_none-clause-flaw c)).1
+returns-then-is_none-clause-only c = (flawed c.args.include_prerelease c.args.text.now _ c.utf8.text (returns-then-is_none-clause-flaw c)).1
 
 pub pieces-preserved : goal.pieces-preserved
 pieces-preserved c =
@@ -28,9 +26,7 @@ pieces-preserved c =
     c.as_bytes-bytes.ensures.value c.alternative.ensures some
 
 pub returns-clause-none : goal.returns-clause-none
-returns-clause-none c =
-    (unflawed c.args.include_prerelease c.args.text.now None refl (rw c.in_default.is at c.pieces.invariant)).0
+returns-clause-none c = (unflawed c.args.include_prerelease c.args.text.now None refl (rw c.in_default.is at c.pieces.invariant)).0
 
 pub returns-clause-only : goal.returns-clause-only
-returns-clause-only c =
-    (unflawed c.args.include_prerelease c.args.text.now None refl (rw c.in_default.is at c.pieces.invariant)).1
+returns-clause-only c = (unflawed c.args.include_prerelease c.args.text.now None refl (rw c.in_default.is at c.pieces.invariant)).1

@@ -1,4 +1,4 @@
-use Rattle.nodejs_semver.proofs.Common.{◌≡◌, ◌++◌, arith, None, Option, Some, Span, VersionValue, ap, append-nil, option_to_list, sym, ◌∙◌}
+use Rattle.nodejs_semver.proofs.Common.{None, Option, Some, Span, VersionValue, ap, append-nil, arith, option_to_list, sym, ◌++◌, ◌∙◌, ◌≡◌}
 use Rattle.nodejs_semver.proofs.Strict.RangeReads.{part-added, part-lost}
 use Rattle.nodejs_semver.proofs.npm.ranges.add_part.Goals as goal
 

@@ -1,10 +1,9 @@
-use Rattle.nodejs_semver.proofs.{Common.sym, NpmCommon.Ended, Strict.AlternativeReads.{hyphen-none, hyphen-some}}
-use Rattle.nodejs_semver.{proofs.Strict.Normal.hyphen-normal, specs.Internal.NpmViews.end_view}
+use Rattle.nodejs_semver.proofs.{Common.sym, NpmCommon.Ended, Strict.{RangeReads.{hyphen-none, hyphen-some}, WordReads.hyphen-normal}}
+use Rattle.nodejs_semver.specs.Internal.NpmViews.{end_view}
 use Rattle.nodejs_semver.proofs.npm.ranges.hyphen.Goals as goal
 
 pub returns-in_err-lower : goal.returns-in_err-lower
-returns-in_err-lower c =
-    rw c.from_residual.ensures (hyphen-none c.args.loose c.args.include c.args.text.now (sym c.in_err-lower.ensures))
+returns-in_err-lower c = rw c.from_residual.ensures (hyphen-none c.args.loose c.args.include c.args.text.now (sym c.in_err-lower.ensures))
 
 pub between-requires : goal.between-requires
 between-requires c =

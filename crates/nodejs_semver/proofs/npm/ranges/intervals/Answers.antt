@@ -1,5 +1,4 @@
-use Rattle.nodejs_semver.proofs.{Common.{Err, rest_view, rules, ⊤}, Strict.RangeReads.{read-all, read-nothing, read-part}}
-use Rattle.nodejs_semver.proofs.Strict.RangeReads.{read-refused}
+use Rattle.nodejs_semver.proofs.{Common.{Err, rest_view, rules, ⊤}, Strict.RangeReads.{read-all, read-nothing, read-part, read-refused}}
 use Rattle.nodejs_semver.proofs.npm.ranges.intervals.Goals as goal
 
 pub returns-in_err-is_some-clause-refused :

@@ -1,6 +1,5 @@
-use Rattle.nodejs_semver.proofs.{Common.{ap, not, on_err, sym, take_all, ◌∙◌}, Questions.Unions.{goes_behind, stays_behind}}
-use Rattle.nodejs_semver.proofs.{Questions.Unions.taken_at, npm.unions.push_others.Goals.else-not-is_said}
-use Rattle.nodejs_semver.proofs.npm.unions.push_others.Goals.{then-not-is_said+in_ok-push_copy}
+use Rattle.nodejs_semver.proofs.{Common.{ap, not, on_err, sym, take_all, ◌∙◌}, Questions.Unions.{goes_behind, stays_behind, taken_at}}
+use Rattle.nodejs_semver.proofs.npm.unions.push_others.Goals.{else-not-is_said, then-not-is_said+in_ok-push_copy}
 use Rattle.nodejs_semver.proofs.npm.unions.push_others.Goals as goal
 
 pub returns-in_err-push_copy-clause-memory : goal.returns-in_err-push_copy-clause-memory

@@ -1,5 +1,5 @@
-use Rattle.nodejs_semver.proofs.{Common.MAX_SAFE_INTEGER, NpmCommon.{IsClean, IsVersionText, NoValue}}
-use Rattle.{nodejs_semver.proofs.Strict.VersionLaw.clean_refused, std.proofs.lemmas.Result.IfErr-weaker}
+use Rattle.nodejs_semver.proofs.{Common.MAX_SAFE_INTEGER, NpmCommon.{IsClean, IsVersionText, NoValue}, Strict.VersionLaw.clean_refused}
+use Rattle.std.proofs.lemmas.Result.{IfErr-weaker}
 use Rattle.nodejs_semver.proofs.npm.versions.clean.Goals as goal
 
 pub returns-clause-refused : goal.returns-clause-refused

@@ -6,5 +6,4 @@ returns-in-Some-clause-ok c =
     text_read MAX_SAFE_INTEGER c.args.text.now c.trim.result.now c.in-Some.version (search rules) c.trim.ensures.middle (cc)
 
 pub returns-in-None-clause-refused : goal.returns-in-None-clause-refused
-returns-in-None-clause-refused c =
-    text_refused MAX_SAFE_INTEGER c.args.text.now c.trim.result.now c.trim.ensures.middle (cc)
+returns-in-None-clause-refused c = text_refused MAX_SAFE_INTEGER c.args.text.now c.trim.result.now c.trim.ensures.middle (cc)

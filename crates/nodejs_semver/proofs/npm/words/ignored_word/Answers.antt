@@ -1,8 +1,7 @@
-use Rattle.std.proofs.Common.{◌∙◌, sym}
-use Rattle.nodejs_semver.proofs.Strict.WordReads.{ignored-here, no-boundary, not-loose}
-use Rattle.nodejs_semver.proofs.Strict.Words.{none-ignored}
+use Rattle.nodejs_semver.proofs.Strict.{WordReads.{ignored-here, no-boundary, not-loose}, Words.none-ignored}
+use Rattle.nodejs_semver.proofs.npm.words.ignored_word.Goals.{then-not-loose-via-else-not-loose+then-not-begins_malformed}
+use Rattle.{nodejs_semver.proofs.npm.words.ignored_word.Goals.then-not-loose-via-then-not-loose, std.proofs.Common.{sym, ◌∙◌}}
 use Rattle.nodejs_semver.proofs.npm.words.ignored_word.Goals as goal
-use Rattle.nodejs_semver.proofs.npm.words.ignored_word.Goals.{then-not-loose-via-else-not-loose+then-not-begins_malformed, then-not-loose-via-then-not-loose}
 
 pub returns-then-not-loose : goal.returns-then-not-loose
 returns-then-not-loose c = elim c.then-not-loose.branch [

@@ -1,5 +1,4 @@
-use Rattle.std.proofs.Common.{refl, sym, append_assoc, decimal, codes, ◌++◌}
-use Rattle.std.proofs.Output.{has_written_styled_append, has_written_styled_of_eq}
+use Rattle.std.proofs.{Common.{append_assoc, codes, decimal, refl, sym, ◌++◌}, Output.{has_written_styled_append, has_written_styled_of_eq}}
 use Rattle.nodejs_semver.proofs.npm.messages.RangeFlawDisplay.fmt.Goals as goal
 
 pub returns-clause-styled : goal.returns-clause-styled
