@@ -2,7 +2,7 @@
 
 mod bars;
 mod fast;
-pub(crate) mod found;
+mod found;
 mod intervals;
 mod kinds;
 mod loose;

@@ -8,7 +8,6 @@ ghost use Rattle.nodejs_semver.specs.Words.{remainder, Start, true, Unbounded};
 
 use crate::Allocated;
 use crate::range::Intervals;
-use crate::readers::found::make_room;
 use semver_core::cuts::{Interval, Point};
 use smallvec::SmallVec;
 use std::alloc::Global;
@@ -246,7 +245,9 @@ fn push<V: Point>(part: Option<Interval<V>>, found: &mut Intervals<V>, room: usi
     let Some(interval) = part else {
         return Ok(());
     };
-    make_room(room, found)?;
+    if found.len() == found.capacity() {
+        found.reserve(room.min(30) + 1)?;
+    }
     found.push_reserved(interval);
     Ok(())
 }

@@ -4,7 +4,6 @@ ghost use Rattle.std.specs.Prelude.{◌++◌, ◌<◌, ◌∷◌, ◌≡◌, ◌
 ghost use Rattle.nodejs_semver.specs.Words.{[], Bool, denotes, false, has_bound, is_empty, length};
 ghost use Rattle.nodejs_semver.specs.Words.{List, list_any, MAX_SAFE_INTEGER, OnErr, OnOk, Span};
 ghost use Rattle.nodejs_semver.specs.Words.{takes_memory, true, VersionValue, ℕ};
-ghost use Rattle.smallvec.specs.SmallVec.{HasRoomFor};
 
 use crate::range::Intervals;
 use crate::range::owned::{owned_interval, owned_intervals};
@@ -23,12 +22,12 @@ pub(crate) trait Found<'a> {
     /// How many intervals it holds without an allocation.
     ghost room: { ℕ };
 
-    /// Adds an interval at the end. A list that outgrows its place mostly has more than two.
+    /// Adds an interval at the end.
     fn add(&mut self, interval: Interval<VersionRef<'a>>) -> Result<(), AllocError>
         ensures added { OnOk result (items self.new ≡ items self.old ++ interval.entry ∷ []) }
         ensures memory { OnErr result (room ≤ length (items self.old)) };
 
-    /// Makes room for the intervals of a text. A part and its bars mostly take eight bytes or more.
+    /// Makes room for the intervals of a text.
     fn reserve_for(&mut self, text: &[u8]) -> Result<(), AllocError>
         ensures { items self.new ≡ items self.old };
 }
@@ -49,16 +48,28 @@ pub(crate) trait Filled<'a>: Found<'a> {
             ⊎ (list_any takes (denotes MAX_SAFE_INTEGER text.now) ≡ true)) };
 }
 
-/// Room for an interval. A list that is full takes some for so many more beside it, at most 30. The
-/// first interval stands inline.
+// Adds an interval at the end. A list that outgrows its place mostly has more than two. The first
+// interval stands inline.
 #[inline(always)]
-pub(crate) fn make_room<V: Point>(more: usize, found: &mut Intervals<V>) -> Result<(), AllocError>
-    ensures items { found.new.items ≡ found.old.items }
-    ensures room { OnOk result (HasRoomFor found.new 1) }
+fn push<V: Point>(interval: Interval<V>, found: &mut Intervals<V>) -> Result<(), AllocError>
+    ensures added { OnOk result (found.new.items ≡ found.old.items ++ interval ∷ []) }
     ensures memory { OnErr result (0 < length found.old.items) }
 {
     if found.len() == found.capacity() {
-        found.reserve(more.min(30) + 1)?;
+        found.reserve(3)?;
+    }
+    found.push_reserved(interval);
+    Ok(())
+}
+
+// Room for the intervals of a text, at most 31 at once. A part and its bars mostly take eight bytes
+// or more.
+#[inline(always)]
+fn make_room<V: Point>(text: &[u8], found: &mut Intervals<V>) -> Result<(), AllocError>
+    ensures { found.new.items ≡ found.old.items }
+{
+    if found.len() == found.capacity() {
+        found.reserve((text.len() / 8).min(30) + 1)?;
     }
     Ok(())
 }
@@ -71,14 +82,12 @@ impl<'a> Found<'a> for Intervals<VersionRef<'a>> {
 
     #[inline(always)]
     fn add(&mut self, interval: Interval<VersionRef<'a>>) -> Result<(), AllocError> {
-        make_room(2, self)?;
-        self.push_reserved(interval);
-        Ok(())
+        push(interval, self)
     }
 
     #[inline(always)]
     fn reserve_for(&mut self, text: &[u8]) -> Result<(), AllocError> {
-        make_room(text.len() / 8, self)
+        make_room(text, self)
     }
 }
 
@@ -91,14 +100,12 @@ impl<'a> Found<'a> for Intervals<Version> {
     #[inline(always)]
     fn add(&mut self, interval: Interval<VersionRef<'a>>) -> Result<(), AllocError> {
         let alloc = *self.allocator();
-        make_room(2, self)?;
-        self.push_reserved(owned_interval(alloc, &interval)?);
-        Ok(())
+        push(owned_interval(alloc, &interval)?, self)
     }
 
     #[inline(always)]
     fn reserve_for(&mut self, text: &[u8]) -> Result<(), AllocError> {
-        make_room(text.len() / 8, self)
+        make_room(text, self)
     }
 }
 
