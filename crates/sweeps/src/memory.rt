@@ -103,10 +103,7 @@ pub const GROUPS: &[Group] = &[
 ];
 
 /// The groups of the longest texts.
-pub const LONG: &[Group] = &[
-    Group::LongVersions(2_000_000),
-    Group::LongRanges(2_000_000),
-];
+pub const LONG: &[Group] = &[Group::LongVersions(2_000_000), Group::LongRanges(2_000_000)];
 
 /// Makes each call that allocates, about the values of each of these groups, and prints how many
 /// calls it made. An allocation failure is an error.
