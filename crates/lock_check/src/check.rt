@@ -193,7 +193,7 @@ impl<'a> Target<'a> {
             && !are_read(root)
     }
 
-    // What the dependency says of it, or what the package accepts in its place if that is satisfied.
+    // What the dependency says of it, or what the package accepts instead if that is satisfied.
     fn outcome_of_either(self, alloc: Global) -> Result<Outcome<'a>, AllocError> {
         let Dependency { package, name, .. } = self.dependency;
         let outcome = self.outcome(alloc, self.dependency.wanted.specifier())?;
