@@ -3,31 +3,31 @@ pub use Rattle.nodejs_semver.specs.Internal.Fronts.{after_byte, begins_byte, beg
 pub use Rattle.nodejs_semver.specs.Internal.NpmAlternatives.{AcceptAsRanged, AreNarrowed, NarrowedBy, nothing}
 pub use Rattle.nodejs_semver.specs.Internal.NpmMeaning.{AreRead, IsCommon, IsNarrowed, counted, is_unbounded, is_zero}
 pub use Rattle.nodejs_semver.specs.Internal.NpmParts.{are_normal, npm_partial_view, npm_sign_view, within}
-pub use Rattle.nodejs_semver.specs.Internal.{NpmReadings.{begins_padded, is_strict_list}, NpmReads.{IsFound, words_of}}
+pub use Rattle.nodejs_semver.specs.Internal.{NpmReadings.{IsStrictPreRelease, begins_padded}, NpmReads.{IsFound, words_of}}
 pub use Rattle.nodejs_semver.specs.Internal.{NpmStates.is_whole, NpmTuples.IsLastBefore, NpmViews.signed_front_view}
 pub use Rattle.nodejs_semver.specs.Internal.{NpmViews.signed_view, NpmWords.{Ended, Signed, counted_front, drop_ends}}
 pub use Rattle.nodejs_semver.specs.Internal.NpmWords.{ended_end, hyphen_comparisons, hyphen_of, is_small, kept, last_end}
 pub use Rattle.nodejs_semver.specs.Internal.NpmWords.{limited, limited_end, limited_hyphen, limited_word, marked_word}
 pub use Rattle.nodejs_semver.specs.Internal.NpmWords.{marks_len, or_late, run_place, second_front, skip_equal, skip_greater}
-pub use Rattle.nodejs_semver.specs.Internal.{NpmWords.{skip_tilde, third_front, valid_only}, PartFronts.left_over}
+pub use Rattle.nodejs_semver.specs.Internal.{NpmWords.{are_spelled, is_short_build, most_digits, skip_tilde, third_front, valid_only}, PartFronts.left_over}
 pub use Rattle.nodejs_semver.specs.{Internal.{Readings.{bounds_view, comparator_view}, Words.or_else}, Npm.Alike.IsPlainPartial}
 pub use Rattle.nodejs_semver.specs.Npm.Alike.{IsPlainText, IsPlainWord, is_firm, is_plain, may_have, more, npm_partial}
 pub use Rattle.nodejs_semver.specs.Npm.{Alike.{one_word, signed, two_words}, Coerced.{IsLeftmost, IsRightmost, IsRun, IsTuple}}
 pub use Rattle.nodejs_semver.specs.Npm.{Coerced.IsTupleIn, Flaws.{GoesOn, IsFront, IsSpelled, wrong_of}, Grammar.IsStrictBuild}
-pub use Rattle.nodejs_semver.specs.Npm.Grammar.{IsStrictNumber, IsStrictPreRelease, dashed, has_leading_zero}
-pub use Rattle.nodejs_semver.specs.Npm.{Grammar.{is_strict_identifier, no_build, no_pre_release, plus}, Malformed.after_dot}
+pub use Rattle.nodejs_semver.specs.Npm.Grammar.{IsStrictNumber, bare, begins_undashed, dashed, has_leading_zero}
+pub use Rattle.nodejs_semver.specs.Npm.{Grammar.{is_strict_identifier, is_strict_list, no_build, no_pre_release, plus}, Malformed.after_dot}
 pub use Rattle.nodejs_semver.specs.Npm.Malformed.{are_first, begins_malformed, is_malformed, is_visible}
 pub use Rattle.nodejs_semver.specs.Npm.{MalformedWords.{IsLeft, IsMalformedWord, here}, RangeText.AreAlternatives}
 pub use Rattle.nodejs_semver.specs.Npm.RangeText.{AreEndMarks, AreWords, IsAlternative, IsPartial, IsPlace, IsSignText, IsWord}
-pub use Rattle.nodejs_semver.specs.Npm.RangeText.{are_marks, are_spelled, are_whole_marks, bare, begins_undashed, caret_equal}
+pub use Rattle.nodejs_semver.specs.Npm.RangeText.{are_marks, are_whole_marks, caret_equal}
 pub use Rattle.nodejs_semver.specs.Npm.RangeText.{has_zeros, ignored, is_free_lower, is_free_upper, is_lost, is_mark, is_one_v}
-pub use Rattle.nodejs_semver.specs.Npm.RangeText.{is_short_build, is_short_identifier, is_spelled, last, late_above, late_below}
-pub use Rattle.nodejs_semver.specs.Npm.RangeText.{most_digits, no_sign, none, one, partial_of, sign, spelling, three}
-pub use Rattle.nodejs_semver.specs.Npm.{RangeText.{tilde_twice, two, undashed, word}, Ranges.HasAlternatives}
+pub use Rattle.nodejs_semver.specs.Npm.RangeText.{is_short_identifier, is_spelled, last, late_above, late_below}
+pub use Rattle.nodejs_semver.specs.Npm.RangeText.{may_stand, no_sign, none, one, partial_of, sign, spelling, three}
+pub use Rattle.nodejs_semver.specs.Npm.{RangeText.{tilde_twice, two, word}, Ranges.HasAlternatives}
 pub use Rattle.nodejs_semver.specs.Npm.{Ranges.{HasAlternativesIn, IsRangeIn, is_valid, meets, satisfies}, Table.Comparison}
 pub use Rattle.nodejs_semver.specs.Npm.Table.{Numbers, caret_from, compared, counts, first, from, hyphen_lower, hyphen_upper}
 pub use Rattle.nodejs_semver.specs.Npm.Table.{made, major, minor, next_changed, release, under, whole, wildcard}
-pub use Rattle.nodejs_semver.specs.Npm.VersionText.{IsClean, IsStrictVersion, IsVersionText, begins_bare}
+pub use Rattle.nodejs_semver.specs.Npm.VersionText.{IsClean, IsStrictVersion, IsVersionText}
 pub use Rattle.nodejs_semver.specs.{Text.WordText.at_least, declared.npm.alternatives.Alternative.Alternative}
 pub use Rattle.nodejs_semver.specs.declared.npm.flaws.{Flaw.TheVariants.At, State.{State, TheVariants.{Build, Dash, Digit}}}
 pub use Rattle.nodejs_semver.specs.declared.npm.flaws.State.TheVariants.{Number, Padded, Plus, PreRelease, Zero}

@@ -5,7 +5,7 @@ use Rattle.nodejs_semver.proofs.Common.{is_identifier, is_identifier_char, list_
 use Rattle.nodejs_semver.proofs.Common.{onto_first, pieces, refl, sym, true, ℕ, ◌&&◌, ◌*◌, ◌++◌, ◌+◌, ◌<◌, ◌==◌, ◌||◌, ◌∙◌, ◌∷◌}
 use Rattle.nodejs_semver.proofs.{Common.{◌≡◌, ◌≤◌, ◌⊎◌}, NpmCommon.{Build, Dash, Digit, IsSpelled, IsStrictBuild}}
 use Rattle.nodejs_semver.proofs.NpmCommon.{IsStrictNumber, IsStrictPreRelease, IsStrictVersion, Number, Plus, PreRelease, State}
-use Rattle.nodejs_semver.proofs.NpmCommon.{Zero, dashed, digit_value, digits_grow, digits_value_after, encode_ascii}
+use Rattle.nodejs_semver.proofs.NpmCommon.{Zero, bare, dashed, digit_value, digits_grow, digits_value_after, encode_ascii}
 use Rattle.nodejs_semver.proofs.NpmCommon.{encodes_same, is_strict_identifier, is_whole, next, no_build, no_pre_release, plus}
 use Rattle.nodejs_semver.proofs.{NpmCommon.{run, runs_tail, tail_runs}, Stopping.Steps.{digit-plain, identifier-more}}
 use Rattle.nodejs_semver.proofs.Stopping.Steps.{identifier_read, run-nil, run-step, run-then, spaces-behind, spaces-start}
@@ -143,6 +143,7 @@ pre_release-read : (limit n : ℕ) (p : List ℕ) (l : List Id) → IsStrictPreR
 unfolding next
 pre_release-read limit n p l no_pre_release =
     record { state = Number 0 n; reads = run-nil limit (Number 0 n); whole = refl; plus = refl }
+pre_release-read limit n p l (bare text list h strict f) = cc f
 pre_release-read limit n p l (dashed text list h strict) =
     let e = (identifiers limit text).1 h.runs strict in
     grind (arith, nat_tests, common_steps, run-step)
@@ -208,6 +209,7 @@ plain-middle limit middle v h =
     pre : (p : List ℕ) (l : List Id) → IsStrictPreRelease p l → list_all is_plain p ≡ true
     pre p l no_pre_release = refl
     pre p l (dashed text list h strict) = plain-runs text (runs_tail (pieces text) h.runs)
+    pre p l (bare text list h strict f) = cc f
 
     build : (b : List ℕ) (l : List Id) → IsStrictBuild b l → list_all is_plain b ≡ true
     build b l no_build = refl

@@ -6,13 +6,14 @@ use Rattle.nodejs_semver.proofs.Common.{is_ascii_digit, is_boundary, is_empty, i
 use Rattle.nodejs_semver.proofs.Common.{list_all-append, list_any, lt-ltb, nat_tests, not, not-true, pieces, prefix_len, refl, space_len}
 use Rattle.nodejs_semver.proofs.Common.{suc, sym, take, take-append-drop, true, zero, ℕ, ◌&&◌, ◌++◌, ◌+◌, ◌-◌, ◌<◌, ◌==◌, ◌||◌, ◌∙◌, ◌∷◌}
 use Rattle.nodejs_semver.proofs.{Common.{◌≡◌, ◌≤◌, ◌⊎◌}, NpmCommon.{IsPartial, IsPlace, IsSignText, IsStrictBuild, after_dot, are_first}}
-use Rattle.nodejs_semver.proofs.NpmCommon.{at_least, bare, begins_malformed, bytes_eq, caret_equal, compared, encode_ascii, has_zeros}
-use Rattle.nodejs_semver.proofs.NpmCommon.{ignored_front, is_malformed, is_mark, is_visible, late_above, late_below, no_build, no_sign, one}
+use Rattle.nodejs_semver.proofs.NpmCommon.{at_least, bare, begins_malformed, bytes_eq, caret_equal, compared, dashed, encode_ascii, has_zeros}
+use Rattle.nodejs_semver.proofs.NpmCommon.{ignored_front, is_malformed, is_mark, is_visible, late_above, late_below, may_stand, no_build}
+use Rattle.nodejs_semver.proofs.NpmCommon.{no_pre_release, no_sign, one}
 use Rattle.nodejs_semver.proofs.NpmCommon.{or-true, plus, runs_tail, sign, spelling, tail_runs, take_while, three, tilde_twice, two}
 use Rattle.nodejs_semver.proofs.Reading.Bytes.{all-end, all-join, begins-on, begins_component, ends-append, ends-some}
 use Rattle.nodejs_semver.{proofs.Strict.Places.prefix-all, specs.{Internal.Fronts.is_wildcard, Npm.Malformed.{begins_place, begins_places}}}
-use Rattle.nodejs_semver.specs.Npm.Malformed.{behind_sign, has_four_parts, is_first, is_inner, is_last, is_mark_or_sign, is_open}
-use Rattle.nodejs_semver.specs.Npm.{Malformed.{is_regular, is_sign, last_visible}, RangeText.{IsPreRelease, dashed, no_pre_release}}
+use Rattle.nodejs_semver.specs.Npm.Malformed.{behind_sign, has_four_parts, is_first, is_inner, is_last}
+use Rattle.nodejs_semver.specs.Npm.{Grammar.IsPreRelease, Malformed.{is_regular, is_sign, last_visible}}
 use Rattle.{nodejs_semver.specs.Npm.{RangeText.tilde_sign, Table.{Partial, Sign}}, semver_core.proofs.Text.Pieces.tail_onto}
 use Rattle.std.proofs.{Common.add-one, Math.Seq.drop-cons, lemmas.List.Folds.list_all_at}
 use Rattle.nodejs_semver.specs.Npm.RangeText as Text
@@ -39,10 +40,10 @@ pieces-part : (t : List ℕ) → tail_runs (pieces t) ≡ true → list_all is_p
 pieces-part [] h = refl
 pieces-part (c ∷ t) h = grind (arith, nat_tests, common_steps, eqb-true, runs_tail, tail_onto, tail_runs, pieces-part t)
 
-pre-part : (loose : Bool) (p : List ℕ) (l : List Id) → IsPreRelease loose p l → list_all is_part p ≡ true
+pre-part : (loose : Bool) (p : List ℕ) (l : List Id) → IsPreRelease loose (may_stand loose) p l → list_all is_part p ≡ true
 pre-part loose p l no_pre_release = refl
 pre-part loose p l (dashed t list h s) = pieces-part t (runs_tail (pieces t) h.runs)
-pre-part loose p l (bare t list e f h s) = pieces-part t (runs_tail (pieces t) h.runs)
+pre-part loose p l (bare t list h s f) = pieces-part t (runs_tail (pieces t) h.runs)
 
 build-part : (p : List ℕ) (l : List Id) → IsStrictBuild p l → list_all is_part p ≡ true
 build-part p l no_build = refl
@@ -51,7 +52,7 @@ build-part p l (plus t list h) = pieces-part t (runs_tail (pieces t) h.runs)
 pub partial-part : (loose : Bool) (x : List ℕ) (p : Partial) → IsPartial loose x p → list_all is_part x ≡ true
 partial-part loose x p (one x1 a h) = place-part loose false x1 a h
 partial-part loose x p (two x1 y a b h k) = all-join is_part x1 (46 ∷ y) (place-part loose false x1 a h) (place-part loose (has_zeros a) y b k)
-partial-part loose x p (three x1 y z pre build a b c ids builds h k l m s n t) =
+partial-part loose x p (three x1 y z pre build a b c ids builds h k l m n t) =
     let last_part = all-join is_part pre build (pre-part loose pre ids m) (build-part build builds n) in
     let third = all-join is_part z (pre ++ build) (place-part loose (has_zeros a) z c l) last_part in
     let second = all-join is_part y (46 ∷ (z ++ (pre ++ build))) (place-part loose (has_zeros a) y b k) third in
@@ -141,7 +142,7 @@ place-dotless loose zeros x a h = all_weaker is_first is_dotless (λ b k. grind 
 abbrev is_dot : ℕ → Bool
 is_dot b = b == 46
 
-pre-first : (loose : Bool) (p b : List ℕ) (l m : List Id) → IsPreRelease loose p l → IsStrictBuild b m → begins is_dot (p ++ b) ≡ false
+pre-first : (loose : Bool) (p b : List ℕ) (l m : List Id) → IsPreRelease loose (may_stand loose) p l → IsStrictBuild b m → begins is_dot (p ++ b) ≡ false
 pre-first loose p b l m h k = grind (arith, nat_tests, common_steps)
 
 third : (z q : List ℕ) → list_all is_dotless z ≡ true → 0 < length z → begins is_dot q ≡ false → begins is_dot (drop 1 (z ++ q)) ≡ false
@@ -157,7 +158,7 @@ partial-parts loose x p (two x1 y a b h k) =
     let d : after_dot (x1 ++ 46 ∷ y) ≡ y = dotless-passed x1 (46 ∷ y) (place-dotless loose false x1 a h) in
     let e : after_dot y ≡ [] = rw append-nil at (dotless-passed y [] (place-dotless loose (has_zeros a) y b k)) in
     rw (d, e) refl
-partial-parts loose x p (three x1 y z pre build a b c ids builds h k l m s n t) =
+partial-parts loose x p (three x1 y z pre build a b c ids builds h k l m n t) =
     grind (arith, nat_tests, common_steps, dotless-passed, place-dotless, place-bytes, third, pre-first)
 
 -- ---- the parts of a well-formed word
@@ -192,7 +193,7 @@ partial-places loose x p (two x1 y a b h k) =
     let d : after_dot (x1 ++ 46 ∷ y) ≡ y = dotless-passed x1 (46 ∷ y) (place-dotless loose false x1 a h) in
     let e : after_dot y ≡ [] = rw append-nil at (dotless-passed y [] (place-dotless loose (has_zeros a) y b k)) in
     rw (d, e, place-dotted loose false x1 y a h, place-alone loose (has_zeros a) y b k, or-true (is_empty y)) refl
-partial-places loose x p (three x1 y z pre build a b c ids builds h k l m s n t) =
+partial-places loose x p (three x1 y z pre build a b c ids builds h k l m n t) =
     grind (arith, dotless-passed, place-dotless, begins-on, place-first, place-bytes, place-dotted, or-true, and_parts)
 
 -- ---- the signs of a well-formed word
@@ -255,19 +256,19 @@ place-end loose zeros x a h = grind (arith, nat_tests, common_steps, place-bytes
 last-end : (u v : List ℕ) → ends is_last v ≡ true → ends is_last (u ++ v) ≡ true
 last-end u v h = ends-append is_last u v (ends-some is_last v h) ∙ h
 
-qualified-end : (loose : Bool) (z pre build : List ℕ) (ids builds : List Id) → ends is_last z ≡ true → IsPreRelease loose pre ids
+qualified-end : (loose : Bool) (z pre build : List ℕ) (ids builds : List Id) → ends is_last z ≡ true → IsPreRelease loose (may_stand loose) pre ids
     → IsStrictBuild build builds → ends is_last (z ++ (pre ++ build)) ≡ true
 qualified-end loose z pre build ids builds e m (plus t list h) =
     last-end z (pre ++ 43 ∷ t) (last-end pre (43 ∷ t) (last-end (43 ∷ []) t (identifiers-end t list h)))
 qualified-end loose z pre build ids builds e no_pre_release no_build = rw (append-nil z) e
 qualified-end loose z pre build ids builds e (dashed t list h s) no_build =
     rw (append-nil t) (last-end z (45 ∷ t) (last-end (45 ∷ []) t (identifiers-end t list h)))
-qualified-end loose z pre build ids builds e (bare t list f g h s) no_build = rw (append-nil t) (last-end z t (identifiers-end t list h))
+qualified-end loose z pre build ids builds e (bare t list h s f) no_build = rw (append-nil t) (last-end z t (identifiers-end t list h))
 
 partial-end : (loose : Bool) (x : List ℕ) (p : Partial) → IsPartial loose x p → ends is_last x ≡ true
 partial-end loose x p (one x1 a h) = place-end loose false x1 a h
 partial-end loose x p (two x1 y a b h k) = last-end x1 (46 ∷ y) (last-end (46 ∷ []) y (place-end loose (has_zeros a) y b k))
-partial-end loose x p (three x1 y z pre build a b c ids builds h k l m s n t) =
+partial-end loose x p (three x1 y z pre build a b c ids builds h k l m n t) =
     let q = z ++ (pre ++ build) in
     let last = qualified-end loose z pre build ids builds (place-end loose (has_zeros a) z c l) m n in
     last-end x1 (46 ∷ (y ++ 46 ∷ q)) (last-end (46 ∷ []) (y ++ 46 ∷ q) (last-end y (46 ∷ q) (last-end (46 ∷ []) q last)))
@@ -298,7 +299,7 @@ regular-kept : (w rest : List ℕ) → list_all is_visible w ≡ true → begins
     → is_regular w ≡ true → begins_malformed (w ++ rest) ≡ false
 regular-kept w rest h dark parts regular =
     let r = run-is w rest h dark in
-    rw (r.0, r.1, parts, regular) (none (list_all is_visible w) (is_empty w) (is_empty rest || not (is_open w)))
+    rw (r.0, r.1, parts, regular) (none (list_all is_visible w) (is_empty w) (is_empty rest || not (ends is_sign w || bytes_eq w (45 ∷ []))))
   where
     none : (a c d : Bool) → (a && (not c && (d && false))) ≡ false
     none a c d = grind arith
@@ -326,6 +327,9 @@ first-word loose u x rest p h plain k first dark =
     ) places.1 in
     regular-kept (u ++ x) rest visible dark parts regular
   where
+    is_mark_or_sign : ℕ → Bool
+    is_mark_or_sign b = is_sign b || b == 118
+
     more : (u x : List ℕ) → begins_component x ≡ true → list_all is_mark_or_sign (u ++ x) ≡ false
     more [] [] h = cc h
     more [] (b ∷ x) h = grind (arith, nat_tests)

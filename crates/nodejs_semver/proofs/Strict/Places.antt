@@ -104,7 +104,7 @@ digits-of zero text h = refl
 digits-of (suc k) [] h = refl
 digits-of (suc k) (c ∷ text) h = grind (arith, nat_tests, common_steps, digits-of k text)
 
-digits-many_on : (digits rest : List ℕ) → list_all is_ascii_digit digits ≡ true
+pub digits-many_on : (digits rest : List ℕ) → list_all is_ascii_digit digits ≡ true
     → prefix_len is_ascii_digit (digits ++ rest) ≡ length digits + prefix_len is_ascii_digit rest
 digits-many_on [] rest h = omega arith
 digits-many_on (c ∷ digits) rest h = grind (arith, nat_tests, common_steps, and_parts, digits-many_on digits rest)

@@ -7,11 +7,11 @@ use Rattle.nodejs_semver.proofs.{Common.{take_rest, true, zero, ℕ, ◌&&◌, �
 use Rattle.nodejs_semver.proofs.NpmCommon.{IsPartial, IsStrictBuild, Signed, after_ends, any_word, are_normal, are_whole_marks}
 use Rattle.nodejs_semver.proofs.NpmCommon.{begins_malformed, compared, counted_front, drop_ends, end_front, ended_end, hyphen_ends}
 use Rattle.nodejs_semver.proofs.NpmCommon.{hyphen_of, ignored_front, is_mark, is_small, is_visible, limited, limited_end, limited_hyphen}
-use Rattle.nodejs_semver.proofs.NpmCommon.{limited_word, marked_word, marks_len, no_build, npm_sign, or_else, partial_of, plus}
+use Rattle.nodejs_semver.proofs.NpmCommon.{limited_word, marked_word, marks_len, may_stand, no_build, npm_sign, or_else, partial_of, plus}
 use Rattle.nodejs_semver.proofs.{NpmCommon.{signed_front_view, signed_word, wildcard, ◌>>?◌}, Strict.Hyphens.{after_ends-drop, ends-mark}}
 use Rattle.nodejs_semver.proofs.Strict.{Hyphens.{ends-more, ends-space, ends-stop}, Limits.counted_limited, PartialLaw.partial-found}
 use Rattle.nodejs_semver.{proofs.Strict.Places.prefix-all, specs.Internal.NpmWords.{end_len, last_limited, partial_front}}
-use Rattle.nodejs_semver.specs.Npm.{RangeText.IsPreRelease, Table.{Partial, Sign}}
+use Rattle.nodejs_semver.specs.Npm.{Grammar.IsPreRelease, Table.{Partial, Sign}}
 use Rattle.nodejs_semver.specs.declared.npm.words.Signed as Runtime
 
 pub marks_all : (text : List ℕ) (at : ℕ) → at ≡ marks_len text → list_all is_mark (take at text) ≡ true
@@ -96,7 +96,7 @@ pub ruleset marks_found = (marks_all)
 
 -- ---- the identifiers of the partials that are read are in normal form
 
-pre-normal : (loose : Bool) (text : List ℕ) (ids : List Id) → IsPreRelease loose text ids → list_all is_normal ids ≡ true
+pre-normal : (loose : Bool) (text : List ℕ) (ids : List Id) → IsPreRelease loose (may_stand loose) text ids → list_all is_normal ids ≡ true
 pre-normal loose text ids h = grind (arith, nat_tests, common_steps, identifiers-normal)
 
 build-normal : (text : List ℕ) (ids : List Id) → IsStrictBuild text ids → list_all is_normal ids ≡ true
