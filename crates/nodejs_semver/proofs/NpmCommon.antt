@@ -18,7 +18,7 @@ pub use Rattle.nodejs_semver.specs.Npm.Grammar.{IsStrictNumber, bare, begins_und
 pub use Rattle.nodejs_semver.specs.Npm.{Grammar.{is_strict_identifier, is_strict_list, no_build, no_pre_release, plus}, Malformed.after_dot}
 pub use Rattle.nodejs_semver.specs.Npm.Malformed.{are_first, begins_malformed, is_malformed, is_visible}
 pub use Rattle.nodejs_semver.specs.Npm.{MalformedWords.{IsLeft, IsMalformedWord, here}, RangeText.AreAlternatives}
-pub use Rattle.nodejs_semver.specs.Npm.RangeText.{AreEndMarks, AreWords, IsAlternative, IsPartial, IsPlace, IsSignText, IsWord}
+pub use Rattle.nodejs_semver.specs.Npm.RangeText.{AreMarks, AreWords, IsAlternative, IsPartial, IsPlace, IsSignText, IsWord}
 pub use Rattle.nodejs_semver.specs.Npm.RangeText.{are_marks, are_whole_marks, caret_equal}
 pub use Rattle.nodejs_semver.specs.Npm.RangeText.{has_zeros, ignored, is_free_lower, is_free_upper, is_lost, is_mark, is_one_v}
 pub use Rattle.nodejs_semver.specs.Npm.RangeText.{is_short_identifier, is_spelled, last, late_above, late_below}

@@ -5,7 +5,7 @@ use Rattle.nodejs_semver.proofs.Common.{append-nil, append_assoc, ap₂, arith, 
 use Rattle.nodejs_semver.proofs.Common.{cut_bars, encode_utf8, equal, false, filter, first_so, inl, inr, is_empty, is_release}
 use Rattle.nodejs_semver.proofs.Common.{length, list_all, list_any, nat_tests, not, refl, second_so, subst, sym, trim}
 use Rattle.nodejs_semver.proofs.Common.{trim_is_middle, true, ℕ, ◌&&◌, ◌++◌, ◌<◌, ◌||◌, ◌∙◌, ◌∷◌, ◌≡◌}
-use Rattle.nodejs_semver.proofs.NpmCommon.{AreAlternatives, AreEndMarks, Comparison, HasAlternatives, IsAlternative}
+use Rattle.nodejs_semver.proofs.NpmCommon.{AreAlternatives, AreMarks, Comparison, HasAlternatives, IsAlternative}
 use Rattle.nodejs_semver.proofs.NpmCommon.{IsPlainText, IsPlainWord, IsSignText, IsWord, are_marks, at_least, compared, counts}
 use Rattle.nodejs_semver.proofs.NpmCommon.{is_free_lower, is_free_upper, is_valid, is_within, lit<, meets, more, none, one_word}
 use Rattle.nodejs_semver.proofs.{NpmCommon.{signed, spelling, two_words}, Alike.{Beside.two-good, Ends.{IsWithin, within}}}
@@ -73,8 +73,8 @@ one_blank : IsBlank (codes " ")
 unfolding encode_utf8
 one_blank = record { characters = 32 ∷ []; each = refl; spelled = refl }
 
-no_ends : (free : Bool) → AreEndMarks false free []
-no_ends free = record { characters = []; spelled = refl; each = refl; whole = either_true free }
+no_ends : AreMarks []
+no_ends = record { characters = []; spelled = refl; each = refl }
 
 sign_text : (s : Sign) → IsSignText (spelling s) s
 sign_text s = rw append-nil at (Npm.sign s [] no_blank)
@@ -95,8 +95,8 @@ part-is limit pre text s cs (two_words c d x y p q a b m hp mp ep hq mq eq e apa
     Npm.words _ _ (Npm.more _ (codes " ") _ _ _ (word-is false limit pre _ _ _ (signed (compared c) x p hp mp)) one_blank (lit< tt)
     (Npm.last _ _ (word-is true limit pre _ _ _ (signed (compared d) y q hq mq))))
 part-is limit pre text s cs (between x y p q m h k some e) =
-    Npm.hyphen [] x (codes " ") (codes " ") [] y _ _ (no_ends (is_free_lower _)) h.npm one_blank (lit< tt) one_blank (lit< tt)
-    (no_ends (is_free_upper false _)) k.npm
+    Npm.hyphen [] x (codes " ") (codes " ") [] y _ _ no_ends (either_true (is_free_lower _)) h.npm one_blank (lit< tt) one_blank (lit< tt)
+    no_ends (either_true (is_free_upper false _)) k.npm
 
 part-compact : (limit : ℕ) (pre : Bool) (text : List ℕ) (s : Span VersionValue) (cs : List Comparison)
     → IsPlainAlternative limit pre text s cs → Compact text

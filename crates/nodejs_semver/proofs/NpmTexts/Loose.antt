@@ -5,16 +5,16 @@ use Rattle.nodejs_semver.proofs.Common.{cases_Bool, common_steps, drop, drop_at,
 use Rattle.nodejs_semver.proofs.Common.{is_ascii_digit, is_empty, is_identifier_char, length, list_all, list_len, middle_is_trim}
 use Rattle.nodejs_semver.proofs.Common.{nat_tests, or_right, prefix_len, refl, same_Some, subst, suc, sym, take, take-append-drop, take_at}
 use Rattle.nodejs_semver.proofs.Common.{take_rest, true, zero, ℕ, ◌&&◌, ◌++◌, ◌-◌, ◌<◌, ◌==◌, ◌||◌, ◌∙◌, ◌∷◌, ◌≡◌, ◌≤◌, ◌⊎◌}
-use Rattle.nodejs_semver.proofs.NpmCommon.{IsStrictBuild, MAX_LENGTH, NoValue, after_byte, bare, begins_byte, begins_undashed}
+use Rattle.nodejs_semver.proofs.NpmCommon.{AreMarks, IsStrictBuild, MAX_LENGTH, NoValue, after_byte, bare, begins_byte, begins_undashed}
 use Rattle.nodejs_semver.proofs.NpmCommon.{build_front, chars, dashed, dashed_front, drop-append-add, drop_ends, listed, loose_dotted}
 use Rattle.nodejs_semver.proofs.NpmCommon.{loose_front, loose_patch, loose_qualified, loose_version, nat_le, no_pre_release, number_front}
 use Rattle.nodejs_semver.proofs.NpmCommon.{number_of, or-true, patch_front, pre_front, pre_release_front}
-use Rattle.nodejs_semver.proofs.Reading.{Bytes.{component-solid, solid-dark}, Numbers.{digits-taken, front_some, number-found, number-is}}
+use Rattle.nodejs_semver.proofs.Reading.{Bytes.{component-solid, solid-dark}, Numbers.{digits-taken, number-found, number-is}}
 use Rattle.nodejs_semver.proofs.{Reading.Numbers.{number-of, number-read, run-ends}, Reading.Steps.option-cases, Reading.WordLaw.byte-is}
 use Rattle.nodejs_semver.proofs.Strict.{Hyphens.{ends-found, ends-read}, Places.{digits-many_on, digits-of}, Qualifiers.build-found}
 use Rattle.nodejs_semver.proofs.Strict.Qualifiers.{Follows, PreFound, build-quiet, build-taken, ends-nil, letter-on, pre-follows, pre-found}
 use Rattle.nodejs_semver.{proofs.Strict.{Qualifiers.{pre-taken, stopped}, VersionLaw.empty-is}, specs.Internal.NpmLooseVersions.patch_len}
-use Rattle.nodejs_semver.specs.Npm.{Grammar.IsPreRelease, VersionText.{AreMarks, IsLooseVersion, IsLooseVersionText}}
+use Rattle.nodejs_semver.specs.Npm.{Grammar.IsPreRelease, VersionText.{IsLooseVersion, IsLooseVersionText}}
 
 -- ---- the patch number that the code finds
 
@@ -31,10 +31,6 @@ piece-of limit text n end each s = grind (arith, nat_tests, common_steps, number
 
 abbrev found : ℕ → List ℕ → Front ℕ
 found n rest = Some (n, rest)
-
-pub number_some : (limit : ℕ) (text : List ℕ) (n end : ℕ) → IsPieceAt (λ digits rest. IsWholeNumber limit digits rest n) text 0 end
-    → number_front limit text ≡ found n (take (length text - end) (drop end text))
-number_some limit text n end s = rw (take_rest text end) (front_some limit text n end s)
 
 pub patch_some : (limit : ℕ) (rest : List ℕ) (n end len : ℕ) → len ≡ patch_len rest
     → IsPieceAt (λ digits rest. IsWholeNumber limit digits rest n) (take len rest) 0 end

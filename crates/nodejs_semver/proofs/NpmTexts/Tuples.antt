@@ -5,7 +5,7 @@ use Rattle.nodejs_semver.proofs.Common.{length-append, length-drop, length-take-
 use Rattle.nodejs_semver.proofs.Common.{take-append-drop, take_at, true, ℕ, ◌++◌, ◌+◌, ◌-◌, ◌<◌, ◌==◌, ◌∙◌, ◌∷◌, ◌≡◌, ◌≤◌, ◌⊎◌}
 use Rattle.nodejs_semver.proofs.NpmCommon.{IsLastBefore, IsLeftmost, IsRightmost, IsRun, IsTuple, IsTupleIn, drop-append-add}
 use Rattle.nodejs_semver.proofs.{NpmCommon.{length-prefix_len, nat_le, tuple_len}, Reading.Numbers.{digits-taken, run-ends}}
-use Rattle.nodejs_semver.{proofs.Strict.Places.digits-of, specs.Internal.NpmTuples.{HasNoTuple, IsLongestAt, behind_first}}
+use Rattle.nodejs_semver.{proofs.Strict.{Malformed.last-byte, Places.digits-of}, specs.Internal.NpmTuples.{HasNoTuple, IsLongestAt, behind_first}}
 use Rattle.nodejs_semver.specs.{Internal.NpmTuples.{dotted_len, run_len}, Npm.Coerced.{one, three, two}}
 use Rattle.semver_core.proofs.Text.Pieces.{rest_at}
 
@@ -159,11 +159,6 @@ span-longest y z runs (three a b c h k m) stop =
     ) (omega (arith, length-append a (46 ∷ (b ++ (46 ∷ c))), length-append b (46 ∷ c)))
 
 -- ---- the longest tuple at a place
-
-last-byte : (p : ℕ → Bool) (x rest : List ℕ) (d : ℕ) → 0 < length x → p (get_or (x ++ rest) (length x - 1) d) ≡ ends p x
-last-byte p [] rest d some = absurd (omega (arith, some))
-last-byte p (c ∷ []) rest d some = refl
-last-byte p (c ∷ e ∷ x) rest d some = grind (arith, last-byte p (e ∷ x) rest d (omega arith))
 
 pub last_before : (text : List ℕ) (at d : ℕ) → 0 < at → at ≤ length text
     → is_ascii_digit (get_or text (at - 1) d) ≡ ends is_ascii_digit (take at text)

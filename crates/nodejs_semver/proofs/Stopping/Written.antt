@@ -8,10 +8,10 @@ use Rattle.nodejs_semver.proofs.{Common.{◌*◌, ◌++◌, ◌+◌, ◌==◌, �
 use Rattle.nodejs_semver.proofs.NpmCommon.{IsSpelled, IsStrictBuild, IsStrictNumber, IsStrictPreRelease, IsStrictVersion}
 use Rattle.nodejs_semver.proofs.NpmCommon.{Number, Padded, Plus, PreRelease, State, Zero, dashed, digit_value}
 use Rattle.nodejs_semver.proofs.NpmCommon.{is_strict_identifier, is_whole, next, no_build, no_pre_release, plus, run, runs_tail}
-use Rattle.nodejs_semver.proofs.{NpmCommon.tail_runs, Stopping.Read.{Whole, is_plain, plain-both, plain-encodes, strict-onto}}
+use Rattle.nodejs_semver.proofs.{NpmCommon.tail_runs, Stopping.Read.{Whole, plain-both, plain-encodes, strict-onto}}
 use Rattle.nodejs_semver.proofs.Stopping.{Read.strict_behind, Steps.{digit-plain, identifier-more, identifier_read}}
 use Rattle.nodejs_semver.specs.{Internal.NpmStates.ended, declared.npm.flaws.State.TheVariants.{End, Start}}
-use Rattle.{semver_core.proofs.Text.Pieces.onto_tail, std.proofs.lemmas.{Int.Digits.digits_value_push, List.reverse-append}}
+use Rattle.{semver_core.{proofs.Text.Pieces.onto_tail, specs.Internal.CommonReading.is_plain}, std.proofs.lemmas.{Int.Digits.digits_value_push, List.reverse-append}}
 use Rattle.std.specs.Prelude.{reverse}
 
 -- ---- steps

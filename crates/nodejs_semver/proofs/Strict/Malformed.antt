@@ -14,7 +14,7 @@ use Rattle.nodejs_semver.proofs.Reading.Bytes.{all-end, all-join, begins-on, beg
 use Rattle.nodejs_semver.{proofs.Strict.Places.prefix-all, specs.{Internal.Fronts.is_wildcard, Npm.Malformed.{begins_place, begins_places}}}
 use Rattle.nodejs_semver.specs.Npm.Malformed.{behind_sign, has_four_parts, is_first, is_inner, is_last}
 use Rattle.nodejs_semver.specs.Npm.{Grammar.IsPreRelease, Malformed.{is_regular, is_sign, last_visible}}
-use Rattle.{nodejs_semver.specs.Npm.{RangeText.tilde_sign, Table.{Partial, Sign}}, semver_core.proofs.Text.Pieces.tail_onto}
+use Rattle.{nodejs_semver.specs.Npm.{RangeText.tilde_sign, Table.{Partial, Sign}}, semver_core.{proofs.Text.{Listed.plain_runs, Pieces.tail_onto}, specs.Internal.CommonReading.is_plain}}
 use Rattle.std.proofs.{Common.add-one, Math.Seq.drop-cons, lemmas.List.Folds.list_all_at}
 use Rattle.nodejs_semver.specs.Npm.RangeText as Text
 
@@ -37,8 +37,7 @@ place-part : (loose zeros : Bool) (x : List ℕ) (a : Option ℕ) → IsPlace lo
 place-part loose zeros x a h = all_weaker is_place_byte is_part (λ b k. grind (arith, nat_tests)) x (place-bytes loose zeros x a h).0
 
 pieces-part : (t : List ℕ) → tail_runs (pieces t) ≡ true → list_all is_part t ≡ true
-pieces-part [] h = refl
-pieces-part (c ∷ t) h = grind (arith, nat_tests, common_steps, eqb-true, runs_tail, tail_onto, tail_runs, pieces-part t)
+pieces-part t h = all_weaker is_plain is_part (λ b k. grind (arith, nat_tests)) t (plain_runs t h)
 
 pre-part : (loose : Bool) (p : List ℕ) (l : List Id) → IsPreRelease loose (may_stand loose) p l → list_all is_part p ≡ true
 pre-part loose p l no_pre_release = refl
@@ -225,17 +224,10 @@ sign-one signs v s (late_below y b) a h = rw (blank-none y b (all-front y (61 �
 sign-one signs v s (caret_equal y z b c) a h =
     let front = all-front y (61 ∷ z) a in
     rw (blank-none y b front.0, blank-none z c front.1) h
-sign-one signs v s (tilde_sign above y z b c which) a h =
-    let front = all-front y (62 ∷ z) a in
-    rw (blank-none y b front.0, blank-none z c front.1) h
-sign-one signs v s (tilde_sign at_least y z b c which) a h =
-    let front = all-front y (62 ∷ 61 ∷ z) a in
-    rw (blank-none y b front.0, blank-none z c front.1) h
-sign-one signs v s (tilde_sign equal y z b c which) a h =
-    let front = all-front y (61 ∷ z) a in
-    rw (blank-none y b front.0, blank-none z c front.1) h
-sign-one signs v s (tilde_sign at_most y z b c which) a h = absurd (grind (arith, which))
-sign-one signs v s (tilde_sign below y z b c which) a h = absurd (grind (arith, which))
+sign-one signs v s (tilde_sign d y z b c which) a h =
+    let front = all-front y (spelling (compared d) ++ z) a in
+    rw (blank-none y b front.0, blank-none z c (all-front (spelling (compared d)) z front.1).1)
+    (elim which [ inl e ↦ rw e h | inr (inl e) ↦ rw e h | inr (inr e) ↦ rw e h ])
 sign-one signs v s (tilde_twice d y z b some c which) a h =
     absurd (omega (arith, some, ap length (blank-none y b (all-front y (spelling (compared d) ++ z) a).0)))
 
@@ -491,9 +483,10 @@ pub ruleset ends_visible = (visible_last)
 
 -- ---- the last character
 
+pub last-byte : (p : ℕ → Bool) (x rest : List ℕ) (d : ℕ) → 0 < length x → p (get_or (x ++ rest) (length x - 1) d) ≡ ends p x
+last-byte p [] rest d some = absurd (omega (arith, some))
+last-byte p (c ∷ []) rest d some = refl
+last-byte p (c ∷ e ∷ x) rest d some = grind (arith, last-byte p (e ∷ x) rest d (omega arith))
+
 pub last-is : (p : ℕ → Bool) (w : List ℕ) (d : ℕ) → 0 < length w → p (get_or w (length w - 1) d) ≡ ends p w
-last-is p [] d h = absurd (omega (arith, h))
-last-is p (b ∷ []) d h = refl
-last-is p (b ∷ c ∷ w) d h =
-    let e : length (b ∷ c ∷ w) - 1 ≡ suc (length (c ∷ w) - 1) = omega arith in
-    rw e (last-is p (c ∷ w) d (omega arith))
+last-is p w d h = rw append-nil at (last-byte p w [] d h)

@@ -129,14 +129,13 @@ pub data AreWords (loose include : Bool) : List ℕ → List Comparison → Type
 abbrev pub are_whole_marks : Bool → List ℕ → Bool
 are_whole_marks loose marks = if loose then list_all is_mark marks else is_one_v marks
 
--- the marks and the whitespace before an end of a hyphen range: any, but such marks alone before a whole
--- version that stays as it is written
-pub record AreEndMarks (loose free : Bool) (text : List ℕ) : Type 0 where
+-- any marks and whitespace
+pub record AreMarks (text : List ℕ) : Type 0 where
   pub characters : List ℕ
   pub spelled : text ≡ encode_utf8_all characters
   pub each : list_all (λ c. is_mark c || is_whitespace c) characters ≡ true
-  pub whole : (free || are_whole_marks loose characters) ≡ true
 
+-- they may stand before an end of a hyphen range; but before a whole version that stays as it is written its marks alone
 abbrev pub is_free_upper : Bool → Partial → Bool
 is_free_upper include p = elim p [ whole v ↦ include || not (is_empty v.pre_release) | _ ↦ true ]
 
@@ -146,9 +145,10 @@ is_free_lower p = elim p [ whole v ↦ false | _ ↦ true ]
 -- an alternative: nothing, a hyphen range or words
 pub data IsAlternative (loose include : Bool) : List ℕ → List Comparison → Type 0 where
   nothing : IsAlternative loose include [] []
-  hyphen : (a x blank gap b y : List ℕ) (p q : Partial) → AreEndMarks loose (is_free_lower p) a → IsPartial loose x p
-      → IsBlank blank → 0 < length blank → IsBlank gap → 0 < length gap → AreEndMarks loose (is_free_upper include q) b
-      → IsPartial loose y q → IsAlternative loose include (a ++ (x ++ (blank ++ (codes "-" ++ (gap ++ (b ++ y))))))
+  hyphen : (a x blank gap b y : List ℕ) (p q : Partial) → AreMarks a → (is_free_lower p || are_whole_marks loose a) ≡ true
+      → IsPartial loose x p → IsBlank blank → 0 < length blank → IsBlank gap → 0 < length gap → AreMarks b
+      → (is_free_upper include q || are_whole_marks loose b) ≡ true → IsPartial loose y q
+      → IsAlternative loose include (a ++ (x ++ (blank ++ (codes "-" ++ (gap ++ (b ++ y))))))
       (hyphen_lower include p (a ++ x) ++ hyphen_upper include q (b ++ y))
   words : (x : List ℕ) (cs : List Comparison) → AreWords loose include x cs → IsAlternative loose include x cs
 

@@ -1,15 +1,15 @@
 -- Statement: the version texts of node-semver's strict reading, its default, and of its loose one.
-use Rattle.std.specs.Prelude.{◌≡◌, ◌⊎◌, ◌≤◌, ◌||◌, ℕ, true, false, List, [], ◌++◌}
-use Rattle.std.specs.Prelude.{codes, drop, encode_utf8_all, length}
-use Rattle.std.specs.List.{list_all, prefix_len}
+use Rattle.std.specs.Prelude.{◌≡◌, ◌⊎◌, ◌≤◌, ℕ, true, false, List, [], ◌++◌}
+use Rattle.std.specs.Prelude.{codes, drop, length}
+use Rattle.std.specs.List.{prefix_len}
 use Rattle.std.specs.Str.{chars}
-use Rattle.semver_core.specs.Text.Characters.{IsTrim, is_whitespace}
+use Rattle.semver_core.specs.Text.Characters.{IsTrim}
 use Rattle.semver_core.specs.Text.Identifiers.{Id}
 use Rattle.semver_core.specs.Text.Numbers.{IsNumber}
 use Rattle.semver_core.specs.Values.Versions.{VersionValue}
 use Rattle.semver_core.specs.declared.TheConstants.{MAX_LENGTH}
 use Rattle.nodejs_semver.specs.Npm.Grammar.{IsPreRelease, IsStrictBuild, IsStrictNumber, is_strict_list}
-use Rattle.nodejs_semver.specs.Npm.RangeText.{is_mark}
+use Rattle.nodejs_semver.specs.Npm.RangeText.{AreMarks, is_mark}
 
 -- the whole text is this version, in a reading that has these marks, numbers and pre-releases
 pub record IsWritten (Marks : List ℕ → Type 0) (Number : List ℕ → ℕ → Type 0)
@@ -34,13 +34,7 @@ abbrev pub IsStrictVersion : ℕ → List ℕ → VersionValue → Type 0
 IsStrictVersion limit =
     IsWritten (λ mark. (mark ≡ []) ⊎ (mark ≡ codes "v")) (IsStrictNumber limit) (IsPreRelease false is_strict_list)
 
--- any of `v`, `=` and whitespace
-pub record AreMarks (text : List ℕ) : Type 0 where
-  pub characters : List ℕ
-  pub spelled : text ≡ encode_utf8_all characters
-  pub each : list_all (λ c. is_mark c || is_whitespace c) characters ≡ true
-
--- loose: any marks, leading zeros, and a pre-release without `-`
+-- loose: any of `v`, `=` and whitespace, leading zeros, and a pre-release without `-`
 abbrev pub IsLooseVersion : ℕ → List ℕ → VersionValue → Type 0
 IsLooseVersion limit = IsWritten AreMarks (IsNumber limit) (IsPreRelease true (λ ids. true))
 
