@@ -309,10 +309,6 @@ Taken loose s p marks x u text = SignTaken loose s p marks x (npm_sign text) u
 
 -- ---- behind a tilde
 
-tilde-front : (rest : List ℕ) → npm_sign (126 ∷ rest) ≡ (tilde, skip_tilde rest (drop_spaces rest))
-unfolding npm_sign
-tilde-front rest = refl
-
 -- no `>` stands there
 no_greater-left : (x t : List ℕ) → IsBlank x → space_len t ≡ 0 → begins_byte 62 t ≡ false
     → skip_tilde (x ++ t) (drop_spaces (x ++ t)) ≡ skip_equal t
@@ -341,75 +337,64 @@ late-read : (one two : Comparator) (y t : List ℕ) → IsBlank y → space_len 
     → or_late one two (y ++ (61 ∷ t)) (drop_spaces (y ++ (61 ∷ t))) ≡ (compared two, t)
 late-read one two y t h dark = grind (arith, nat_tests, common_steps, blank-cases, drop_spaces-none, space-byte, blank-skipped, dark-byte)
 
-above-front : (rest : List ℕ) → npm_sign (62 ∷ rest) ≡ or_late above at_least rest (drop_spaces rest)
-unfolding npm_sign
-above-front rest = refl
-
-below-front : (rest : List ℕ) → npm_sign (60 ∷ rest) ≡ or_late below at_most rest (drop_spaces rest)
-unfolding npm_sign
-below-front rest = refl
-
-caret-front : (rest : List ℕ) → npm_sign (94 ∷ rest) ≡ (caret, skip_equal (drop_spaces rest))
-unfolding npm_sign
-caret-front rest = refl
-
 -- ---- what is written is read
 
 signed-taken : (loose : Bool) (s : Sign) (p : Partial) (y marks x u : List ℕ) → IsBlank y → are_marks loose s p marks ≡ true → begins_component u ≡ true
     → Taken loose s p marks x u ((spelling s ++ y) ++ (marks ++ u))
+unfolding npm_sign
 signed-taken loose (compared at_least) p y marks x u h m k =
-    grind (arith, nat_tests, common_steps, opens, marks-all, above-front, kept, blank-skipped)
+    grind (arith, nat_tests, common_steps, opens, marks-all, kept, blank-skipped)
 signed-taken loose (compared above) p y marks x u h m k =
-    grind (arith, nat_tests, common_steps, opens, marks-all, above-front, one-read, above-other, kept)
+    grind (arith, nat_tests, common_steps, opens, marks-all, one-read, above-other, kept)
 signed-taken loose (compared equal) p y marks x u h m k =
     grind (arith, nat_tests, common_steps, opens, marks-all, equal-front, kept, blank-skipped)
 signed-taken loose (compared at_most) p y marks x u h m k =
-    grind (arith, nat_tests, common_steps, opens, marks-all, below-front, kept, blank-skipped)
+    grind (arith, nat_tests, common_steps, opens, marks-all, kept, blank-skipped)
 signed-taken loose (compared below) p y marks x u h m k =
-    grind (arith, nat_tests, common_steps, opens, marks-all, below-front, one-read, below-other, kept)
+    grind (arith, nat_tests, common_steps, opens, marks-all, one-read, below-other, kept)
 signed-taken loose caret p y marks x u h m k =
-    grind (arith, nat_tests, common_steps, marks-all, caret-front, blank-skipped, opens, caret-taken, equal-left)
+    grind (arith, nat_tests, common_steps, marks-all, blank-skipped, opens, caret-taken, equal-left)
 signed-taken loose tilde p y marks x u h m k =
-    grind (arith, nat_tests, common_steps, marks-all, opens, tilde-front, no_greater-left, tilde-taken, equal-left)
+    grind (arith, nat_tests, common_steps, marks-all, opens, no_greater-left, tilde-taken, equal-left)
+
+bare-taken : (loose : Bool) (p : Partial) (marks x u : List ℕ) → are_marks loose (compared equal) p marks ≡ true → begins_byte 61 marks ≡ false
+    → begins_component u ≡ true → Taken loose (compared equal) p marks x u (marks ++ u)
+bare-taken loose p marks x u m none k = grind (arith, plain-front, component-other, and_parts, marks-all)
 
 pub sign-taken : (loose : Bool) (signs : List ℕ) (s : Sign) (p : Partial) (marks x u : List ℕ) → IsSignText signs s → are_marks loose s p marks ≡ true
     → (is_empty signs && begins_byte 61 marks) ≡ false → begins_component u ≡ true → Taken loose s p marks x u (signs ++ (marks ++ u))
-sign-taken loose signs s p marks x u no_sign m none k = grind (arith, plain-front, component-other, and_parts, marks-all)
+unfolding npm_sign
+sign-taken loose signs s p marks x u no_sign m none k = bare-taken loose p marks x u m none k
 sign-taken loose signs s p marks x u (sign t y h) m none k = signed-taken loose t p y marks x u h m k
 sign-taken loose signs s p marks x u (late_above y h) m none k =
-    grind (arith, nat_tests, common_steps, opens, marks-all, append_assoc, above-front, late-read, kept)
+    grind (arith, nat_tests, common_steps, opens, marks-all, append_assoc, late-read, kept)
 sign-taken loose signs s p marks x u (late_below y h) m none k =
-    grind (arith, nat_tests, common_steps, opens, marks-all, append_assoc, below-front, late-read, kept)
+    grind (arith, nat_tests, common_steps, opens, marks-all, append_assoc, late-read, kept)
 sign-taken loose signs s p marks x u (caret_equal y z h l) m none k =
-    grind (arith, nat_tests, common_steps, append_assoc, caret-front, blank-skipped, dark-byte, kept, opens, marks-all)
+    grind (arith, nat_tests, common_steps, append_assoc, blank-skipped, dark-byte, kept, opens, marks-all)
+sign-taken loose signs s p marks x u (tilde_sign c y z h l (inr (inr e))) m none k =
+    let t = marks ++ u in
+    let dark = (opens marks u (marks-all loose tilde p marks m) k).dark in
+    rw (e, append_assoc y (61 ∷ z) t, no_greater-left y (61 ∷ (z ++ t)) h (dark-byte 61 (z ++ t) refl) refl)
+    (kept loose tilde p marks x (skip_equal (61 ∷ (z ++ t))) u (blank-skipped z t l dark) m)
 sign-taken loose signs s p marks x u (tilde_sign c y z h l (inl e)) m none k =
     let t = marks ++ u in
     let each = marks-all loose tilde p marks m in
     let o = opens marks u each k in
-    rw (e, append_assoc y (62 ∷ z) t, tilde-front (y ++ (62 ∷ (z ++ t))), one_greater-left y (z ++ t) t h (blank-skipped z t l o.dark) o.greater)
+    rw (e, append_assoc y (62 ∷ z) t, one_greater-left y (z ++ t) t h (blank-skipped z t l o.dark) o.greater)
     (tilde-taken loose p marks x (skip_greater (z ++ t)) u (greater-left z marks u l each k))
 sign-taken loose signs s p marks x u (tilde_sign c y z h l (inr (inl e))) m none k =
     let t = marks ++ u in
     let dark = (opens marks u (marks-all loose tilde p marks m) k).dark in
-    rw (
-      e,
-      append_assoc y (62 ∷ 61 ∷ z) t,
-      tilde-front (y ++ (62 ∷ 61 ∷ (z ++ t))),
-      one_greater-left y (61 ∷ (z ++ t)) (61 ∷ (z ++ t)) h
-          (drop_spaces-none (61 ∷ (z ++ t)) (dark-byte 61 (z ++ t) refl)) refl,
-    )
+    let solid = drop_spaces-none (61 ∷ (z ++ t)) (dark-byte 61 (z ++ t) refl) in
+    rw (e, append_assoc y (62 ∷ 61 ∷ z) t, one_greater-left y (61 ∷ (z ++ t)) (61 ∷ (z ++ t)) h solid refl)
     (kept loose tilde p marks x (skip_greater (61 ∷ (z ++ t))) u (blank-skipped z t l dark) m)
-sign-taken loose signs s p marks x u (tilde_sign c y z h l (inr (inr e))) m none k =
-    let t = marks ++ u in
-    let dark = (opens marks u (marks-all loose tilde p marks m) k).dark in
-    rw (e, append_assoc y (61 ∷ z) t, tilde-front (y ++ (61 ∷ (z ++ t))), no_greater-left y (61 ∷ (z ++ t)) h (dark-byte 61 (z ++ t) refl) refl)
-    (kept loose tilde p marks x (skip_equal (61 ∷ (z ++ t))) u (blank-skipped z t l dark) m)
 sign-taken loose signs s p marks x u (tilde_twice c y z h some l (inl e)) m none k =
     let t = marks ++ u in
-    rw (e, append_assoc y (62 ∷ z) t, tilde-front (62 ∷ (y ++ 62 ∷ (z ++ t))), twice-left y (z ++ t) h some)
+    rw (e, append_assoc y (62 ∷ z) t, twice-left y (z ++ t) h some)
     (tilde-taken loose p marks x (skip_greater (z ++ t)) u (greater-left z marks u l (marks-all loose tilde p marks m) k))
 sign-taken loose signs s p marks x u (tilde_twice c y z h some l (inr e)) m none k =
     let t = marks ++ u in
     let dark = (opens marks u (marks-all loose tilde p marks m) k).dark in
-    rw (e, append_assoc y (62 ∷ 61 ∷ z) t, tilde-front (62 ∷ (y ++ 62 ∷ 61 ∷ (z ++ t))), twice-left y (61 ∷ (z ++ t)) h some)
+    rw (e, append_assoc y (62 ∷ 61 ∷ z) t, twice-left y (61 ∷ (z ++ t)) h some)
     (kept loose tilde p marks x (skip_greater (61 ∷ (z ++ t))) u (blank-skipped z t l dark) m)
