@@ -225,11 +225,7 @@ zero-release w z = grind (arith, nat_tests, common_steps)
 pub low-tame : (v w : VersionValue) (cs : List Comparison) → Low v w cs → is_release w ≡ true
     → Tame v (from_lower (Before w) v) (names (Before w) v) cs
 low-tame v w cs (inl e) h = nameless-tame v _ _ cs e (not_named w v h)
-low-tame v w cs (inr o) h = record {
-  released = λ r. lower-before w v ∙ zero_from v w r o.zero ∙ sym o.all;
-  here = ap (λ a. a && from_lower (Before w) v) (not_named w v h);
-  there = ap (λ a. a && passed v cs) o.none;
-}
+low-tame v w cs (inr o) h = grind (arith, nat_tests, common_steps, lower-before, not_named, zero_from)
 
 pub low-exact : (v w : VersionValue) (cs : List Comparison) → Low v w cs → is_release w ≡ false
     → Exact v (from_lower (Before w) v) (names (Before w) v) cs
@@ -243,11 +239,7 @@ release_lt : (v : VersionValue) (n : Numbers) → is_release v ≡ true → is_l
 release_lt v n r = grind (arith, nat_tests, common_steps)
 
 pub below-tame : (v : VersionValue) (n : Numbers) → Tame v (to_upper (Before (release n)) v) (names (Before (release n)) v) (under n ∷ [])
-below-tame v n = record {
-  released = λ r. upper-before (release n) v ∙ release_lt v n r ∙ sym (and-true _);
-  here = refl;
-  there = under-there v n;
-}
+below-tame v n = grind (arith, nat_tests, common_steps, and-true, release_lt, under-there, upper-before)
 
 then_equal : (r : Ordering) → is_le (ordering_then r Equal) ≡ is_le r
 then_equal r = grind arith

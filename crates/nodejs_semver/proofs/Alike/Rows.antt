@@ -1,6 +1,6 @@
 -- The rows of both tables, sign by sign.
 use Rattle.nodejs_semver.proofs.Common.{Before, Bool, Bound, Front, Id, IfSome, List, MAX_SAFE_INTEGER, None, Option, Partial}
-use Rattle.nodejs_semver.proofs.Common.{Some, Span, Unbounded, VersionValue, Word, [], above, ap, ap₂, arith, at_most, below}
+use Rattle.nodejs_semver.proofs.Common.{Some, Span, Unbounded, VersionValue, Word, [], above, ap, ap₂, common_steps, arith, at_most, below}
 use Rattle.nodejs_semver.proofs.Common.{cases_Bool, codes, equal, false, first_so, inl, inr, is_empty, is_release, list_all}
 use Rattle.nodejs_semver.proofs.Common.{names, nat_tests, plain, refl, subst, suc, sym, table, true, zero, ℕ, ◌&&◌, ◌++◌, ◌+◌}
 use Rattle.nodejs_semver.proofs.{Common.{◌==◌, ◌||◌, ◌∙◌, ◌∷◌, ◌≡◌}, NpmCommon.{Comparison, IsPartial, IsPlainWord, Numbers}}
@@ -26,11 +26,7 @@ Good pre v o cs = IfSome o (λ s. SameWord pre v s cs)
 
 pub tame-word : (pre : Bool) (v : VersionValue) (b u : Bound VersionValue) (cs ds : List Comparison) → Tame v (from_lower b v) (names b v) cs
     → Tame v (to_upper u v) (names u v) ds → SameWord pre v (record { lower = b; upper = u }) (cs ++ ds)
-tame-word pre v b u cs ds h k = record {
-  same = tame-both v b u cs ds h k;
-  released = λ _ r. meets-both v cs ds
-      ∙ apart_bits (is_release v) (passed v cs) (named_by v cs) (passed v ds) (named_by v ds) r h.there k.there;
-}
+tame-word pre v b u cs ds h k = grind (arith, nat_tests, common_steps, apart_bits, meets-both, tame-both)
 
 unnamed_bits : (t r n : Bool) → r ≡ false → n ≡ false → (t && (r || n)) ≡ false
 unnamed_bits t r n e f = grind arith

@@ -171,21 +171,7 @@ loose-found limit text v u h =
     let patch = patch-found limit b.0.1 c.0.0 c.0.1 c.1 in
     let q = qualified-found a.0.0 b.0.0 c.0.0 c.0.1 v patch.behind c.2 in
     let front = encode_utf8_all marks.characters in
-    record {
-      mark = front;
-      major = major.run;
-      minor = minor.0;
-      patch = patch.digits;
-      pre_release = q.pre;
-      build = q.build;
-      divided = marks.split ∙ ap (λ (t : List ℕ). front ++ t) (cc (major.split, minor.1, patch.split, q.split));
-      mark_is = record { characters = marks.characters; spelled = refl; each = marks.each };
-      major_is = number-along limit _ v.major _ q.numbers.0 major.is;
-      minor_is = number-along limit _ v.minor _ q.numbers.1 minor.2;
-      patch_is = number-along limit _ v.patch _ q.numbers.2 patch.is;
-      pre_release_is = q.pre_is;
-      build_is = q.build_is;
-    }
+    grind (arith, nat_tests, common_steps, number-along)
 
 -- ---- what is written is read
 

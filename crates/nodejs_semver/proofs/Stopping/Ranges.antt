@@ -210,13 +210,7 @@ passed_all include text h =
     let a = all-right include (h.front ++ []) (right h.front h.right) in
     let cut = subst (λ (ps : List (List ℕ)). IsCutAtBars text ps) h.divided (bars_divide text) in (
       a.0,
-      record {
-        parts = h.front ++ [];
-        divided = cut;
-        each = a.1;
-        some = all-some include (h.front ++ []) (right h.front h.right) (some-pieces text (h.front ++ []) cut);
-        valid = a.2;
-      },
+      grind (arith, nat_tests, common_steps, all-some, some-pieces),
     )
   where
     right : (ps : List (List ℕ)) → AllByRecursion (IsPiece include) ps → AllByRecursion (IsPiece include) (ps ++ [])

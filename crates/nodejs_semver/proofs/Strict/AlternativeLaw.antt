@@ -253,11 +253,5 @@ alternatives_are loose limit include text ls u = (
       (ap (λ (ps : List (List ℕ)). alternatives_of loose include (map trim ps)) (sym e) ∙ read, h.valid, h.some)),
   λ h.
       let cut = bars_divide text in
-      record {
-        parts = cut_bars false text;
-        divided = cut;
-        each = each-found loose include (cut_bars false text) ls (pieces-utf8 text (cut_bars false text) cut u) h.0;
-        valid = h.1;
-        some = h.2;
-      },
+      grind (arith, nat_tests, common_steps, each-found, pieces-utf8),
 )

@@ -40,8 +40,7 @@ pub data IsPlace (loose zeros : Bool) : List ℕ → Option ℕ → Type 0 where
 
 -- zero may be several digits behind this major number: where that is zero, the table asks how zero is written
 abbrev pub has_zeros : Option ℕ → Bool
-has_zeros None = true
-has_zeros (Some M) = nat_lt 0 M
+has_zeros a = elim a [ None ↦ true | Some M ↦ nat_lt 0 M ]
 
 -- the identifiers of a pre-release: strictly they are such, and loosely their text is as long at most
 abbrev pub may_stand : Bool → List ℕ → Bool
@@ -69,11 +68,8 @@ pub data IsPartial (loose : Bool) : List ℕ → Partial → Type 0 where
 -- ---- words
 
 abbrev pub spelling : Sign → List ℕ
-spelling (compared at_least) = codes ">="
-spelling (compared above) = codes ">"
-spelling (compared equal) = codes "="
-spelling (compared at_most) = codes "<="
-spelling (compared below) = codes "<"
+spelling (compared c) =
+    elim c [ at_least ↦ codes ">=" | above ↦ codes ">" | equal ↦ codes "=" | at_most ↦ codes "<=" | below ↦ codes "<" ]
 spelling caret = codes "^"
 spelling tilde = codes "~"
 
