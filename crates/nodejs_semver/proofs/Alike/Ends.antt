@@ -296,12 +296,6 @@ whole_equal v w build text =
 
 -- ---- a pre-release above 0.0.0
 
-open_bits : (t r : Ordering) → is_le (ordering_then t Greater) ≡ true → is_le (ordering_then t r) ≡ true
-open_bits t r h = grind arith
-
-upto_bits : (r s : Ordering) → is_lt (ordering_then r s) ≡ true → is_le r ≡ true
-upto_bits r s h = grind arith
-
 -- from a release to a pre-release: what that names lies above the release
 pub open-named : (v z w : VersionValue) → is_release z ≡ true → is_release w ≡ false
     → is_interval precedence (record { lower = Before z; upper = After w }) ≡ true → names (After w) v ≡ true

@@ -79,10 +79,6 @@ filter-parts p [] i x h at k = absurd (omega (arith, h))
 filter-parts p (y ∷ ys) zero x h at k = (filter p ys, rw (sym at, k) refl)
 filter-parts {A = A} p (y ∷ ys) (suc i) x h at k =
     grind (arith, nat_tests, common_steps, filter-parts p ys i x (omega (arith, h)))
-  where
-    behind : (b : Bool) {l : List A} (m n : List A) → l ≡ m ++ n → (if b then y ∷ l else l) ≡ (if b then y ∷ m else m) ++ n
-    behind true m n e = ap (λ l. y ∷ l) e
-    behind false m n e = e
 
 -- an element that stays takes memory by itself, or is not the first: so does the whole list that is made
 pub taken_at : {V : Type 0} (takes : V → Bool) (p : Span V → Bool) (xs front now : List (Span V)) (i : ℕ) (x : Span V)

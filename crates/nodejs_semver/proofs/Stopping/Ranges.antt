@@ -9,7 +9,7 @@ use Rattle.nodejs_semver.proofs.{NpmCommon.{is_valid, none, valid_alternative, v
 use Rattle.nodejs_semver.proofs.{Diagnosing.IgnoredParts.{part_fits, sizes_of}, Dividing.BarLemmas.cut_bars-front}
 use Rattle.nodejs_semver.proofs.Dividing.{BarLemmas.parts_after, BarsDivide.{bars_divide, bars_once}, MeaningLaw.pieces-utf8}
 use Rattle.nodejs_semver.proofs.{Reading.WordLaw.trim-utf8, Stopping.MalformedWords.one_malformed_word}
-use Rattle.nodejs_semver.proofs.Strict.AlternativeLaw.{alternative-found, alternative-read}
+use Rattle.nodejs_semver.proofs.Strict.{AlternativeLaw.{alternative-found, alternative-read}, RangeReads.found-some}
 use Rattle.nodejs_semver.specs.{Internal.PartFronts.front_part, Npm.RangeFlaws.{IsAlternativeText, IsRangeFlaw, bytes_of}}
 use Rattle.nodejs_semver.specs.{Npm.RangeText.next, declared.npm.range_flaws.RangeFlaw.RangeFlaw}
 use Rattle.semver_core.proofs.Text.Trims.{one_after_blank}
@@ -32,21 +32,11 @@ valid-some cs ds h = grind arith
 pub piece_right : (include : Bool) (piece part : List ℕ) (a : Alternative) → IsUtf8 piece → IsTrim piece part
     → IsFound include (valid_alternative false include part) (Some a) → IsPiece include piece
 unfolding valid_alternative
-piece_right include piece part a u t h = go (valid_alternative false include part) refl h
-  where
-    go : (o : Option (List Comparison)) → valid_alternative false include part ≡ o → IsFound include o (Some a) → IsPiece include piece
-    go None e k = absurd k
-    go (Some ds) e k =
-        let b = bind_some (alternative_of false include part) (λ cs. valid_only MAX_SAFE_INTEGER cs) ds e in
-        let v = valid-some b.0 ds b.2 in (
-          b.0,
-          record {
-            middle = part;
-            trimmed = t;
-            is = alternative-found false include part b.0 (trim-utf8 piece part u t) b.1;
-            valid = v.0;
-          },
-        )
+piece_right include piece part a u t h =
+    let f = found-some include (valid_alternative false include part) a h in
+    let b = bind_some (alternative_of false include part) (λ cs. valid_only MAX_SAFE_INTEGER cs) f.0 f.1 in
+    let v = valid-some b.0 f.0 b.2 in
+    (b.0, record { middle = part; trimmed = t; is = alternative-found false include part b.0 (trim-utf8 piece part u t) b.1; valid = v.0 })
 
 pub piece_wrong : (include : Bool) (piece part : List ℕ) → IsUtf8 piece → IsTrim piece part
     → IsFound include (valid_alternative false include part) None → NoValue (IsAlternativeText MAX_SAFE_INTEGER include piece)

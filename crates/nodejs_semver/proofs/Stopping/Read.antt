@@ -148,10 +148,6 @@ pre_release-read limit n p l (bare text list h strict f) = cc f
 pre_release-read limit n p l (dashed text list h strict) =
     let e = (identifiers limit text).1 h.runs strict in
     grind (arith, nat_tests, common_steps, run-step)
-  where
-    go : (s : State) → run limit (Number 0 n) (45 ∷ text) ≡ Some s → IsEnd s → Ready limit (Number 0 n) (45 ∷ text)
-    go s reads (inl e) = record { state = Zero; reads = reads ∙ ap Some e; whole = refl; plus = refl }
-    go s reads (inr e) = record { state = PreRelease; reads = reads ∙ ap Some e; whole = refl; plus = refl }
 
 -- the text is read to its end, and is a version
 abbrev pub Whole : ℕ → State → List ℕ → Type 0

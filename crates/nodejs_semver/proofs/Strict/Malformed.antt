@@ -2,7 +2,7 @@
 use Rattle.nodejs_semver.proofs.Common.{Bool, Id, IsBlank, IsIdentifiers, List, Option, Some, [], above, all_weaker, and-false, and_from}
 use Rattle.nodejs_semver.proofs.Common.{and_parts, ap, append-nil, append_assoc, arith, at_most, begins, below, cases_Bool, common_steps}
 use Rattle.nodejs_semver.proofs.Common.{drop, drop_all, encode_utf8, encode_utf8_all, ends, eqb-true, equal, false, get_or, inl, inr}
-use Rattle.nodejs_semver.proofs.Common.{is_ascii_digit, is_boundary, is_empty, is_identifier_char, is_whitespace, le-ltb, length, list_all}
+use Rattle.nodejs_semver.proofs.Common.{is_ascii_digit, is_boundary, is_empty, is_identifier_char, is_whitespace, le-ltb, length, length-drop, list_all}
 use Rattle.nodejs_semver.proofs.Common.{list_all-append, list_any, lt-ltb, nat_tests, not, not-true, pieces, prefix_len, refl, space_len}
 use Rattle.nodejs_semver.proofs.Common.{suc, sym, take, take-append-drop, true, zero, ℕ, ◌&&◌, ◌++◌, ◌+◌, ◌-◌, ◌<◌, ◌==◌, ◌||◌, ◌∙◌, ◌∷◌}
 use Rattle.nodejs_semver.proofs.{Common.{◌≡◌, ◌≤◌, ◌⊎◌}, NpmCommon.{IsPartial, IsPlace, IsSignText, IsStrictBuild, after_dot, are_first}}
@@ -391,18 +391,19 @@ ignored-read loose x rest l h b =
 pub visible_front : (text : List ℕ) (at : ℕ) → at ≡ prefix_len is_visible text → list_all is_visible (take at text) ≡ true
 visible_front text at e = rw e (prefix-all is_visible text)
 
+pub empty-length : (text : List ℕ) → is_empty text ≡ (length text == 0)
+empty-length text = grind (arith, nat_tests, common_steps)
+
 pub begins_at : (text : List ℕ) (at : ℕ) (r : Bool) → at ≡ prefix_len is_visible text → at ≤ length text
     → r ≡ is_malformed (at == length text) (take at text) → r ≡ begins_malformed text
 begins_at text at r e fits h = rw e at (h ∙ ap (λ (l : Bool). is_malformed l (take at text)) (end-empty text at fits))
   where
-    same : (a b : ℕ) → (suc a == suc b) ≡ (a == b)
-    same a b = grind (arith, nat_tests)
+    none-left : (at size : ℕ) → at ≤ size → (at == size) ≡ (size - at == 0)
+    none-left at size h = grind (arith, nat_tests)
 
     end-empty : (text : List ℕ) (at : ℕ) → at ≤ length text → (at == length text) ≡ is_empty (drop at text)
-    end-empty [] zero h = refl
-    end-empty [] (suc at) h = absurd (omega (arith, h))
-    end-empty (b ∷ text) zero h = grind (arith, nat_tests)
-    end-empty (b ∷ text) (suc at) h = same at (length text) ∙ end-empty text at (omega (arith, h))
+    end-empty text at h =
+        none-left at (length text) h ∙ ap (λ (n : ℕ). n == 0) (sym (length-drop at text)) ∙ sym (empty-length (drop at text))
 
 pub ruleset begins_visible = (visible_front, begins_at)
 
@@ -453,10 +454,6 @@ last-behind (b ∷ text) zero d h k l = rw k (all-last text l)
 last-behind (b ∷ text) (suc at) d h k l =
     rw (list_all_at is_visible (b ∷ text) (suc at) d h k) (last-behind text at d (omega (arith, h)) k l)
 
-more-visible : (text : List ℕ) (at d : ℕ) → at < length text → is_visible (get_or text at d) ≡ true
-    → list_all is_visible (drop (suc at) text) ≡ true → list_all is_visible (drop at text) ≡ true
-more-visible text at d h k l = rw (drop-cons text at d h, k, l) refl
-
 -- the last one is at the front, or behind one that is not visible
 pub last_all : (text : List ℕ) (start : ℕ) → list_all is_visible (drop start text) ≡ true → start ≡ 0 → drop start text ≡ last_visible text
 last_all text start h e = rw e (sym (all-last text (rw e at h)))
@@ -467,10 +464,6 @@ last_found text zero d h some fits k = absurd (omega (arith, some))
 last_found text (suc at) d h some fits k =
     let e : suc at - 1 ≡ at = omega arith in
     sym (last-behind text at d (omega (arith, fits)) (rw e at k) h)
-
-pub last_step : (text : List ℕ) (start d : ℕ) → list_all is_visible (drop start text) ≡ true → 0 < start → start ≤ length text
-    → is_visible (get_or text (start - 1) d) ≡ true → list_all is_visible (drop (start - 1) text) ≡ true
-last_step text start d h some fits k = grind (arith, nat_tests, common_steps, more-visible)
 
 pub last_begin : (text : List ℕ) (start : ℕ) → start ≡ length text → list_all is_visible (drop start text) ≡ true
 last_begin text start e = rw (drop_all start text (omega arith)) refl

@@ -47,16 +47,9 @@ table-invalid limit include s p text h = grind (arith, from-invalid, one-three, 
 
 -- ---- the ends of a hyphen range
 
-lower-invalid : (limit : ℕ) (include : Bool) (p : Partial) (text : List ℕ) → is_small limit p ≡ false
-    → list_all (is_valid limit) (hyphen_lower include p text) ≡ false
-lower-invalid limit include p text h = grind (arith, nat_tests, common_steps)
-
 upper-invalid : (limit : ℕ) (include : Bool) (p : Partial) (text : List ℕ) → is_small limit p ≡ false
     → list_all (is_valid limit) (hyphen_upper include p text) ≡ false
 upper-invalid limit include p text h = grind (arith, nat_tests, common_steps)
-
-none-left : (limit : ℕ) (cs ds : List Comparison) → list_all (is_valid limit) cs ≡ false → list_all (is_valid limit) (cs ++ ds) ≡ false
-none-left limit cs ds h = list_all-append (is_valid limit) cs ds ∙ rw h refl
 
 none-right : (limit : ℕ) (cs ds : List Comparison) → list_all (is_valid limit) ds ≡ false → list_all (is_valid limit) (cs ++ ds) ≡ false
 none-right limit cs ds h = grind (arith, nat_tests, common_steps)

@@ -125,6 +125,3 @@ pub words-invalid : (loose : Bool) (include : Bool) (text rest : List ℕ) (all 
     (w : Signed × List ℕ) → AreWordsTo loose include text all is_bare rest → word_at_front loose rest ≡ Some w → NarrowedBy include all (row_of include w.0) None
     → IsFound include (words_of loose include text) None
 words-invalid loose include text rest all is_bare w h e n = grind (arith, nat_tests, common_steps, words-step)
-
-pub empty-length : (text : List ℕ) → is_empty text ≡ (length text == 0)
-empty-length text = grind (arith, nat_tests, common_steps)
