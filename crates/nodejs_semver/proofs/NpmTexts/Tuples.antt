@@ -37,30 +37,18 @@ run-at text n e some = elim (cases_Bool (nat_le (prefix_len is_ascii_digit text)
 run-long : (a z : List ℕ) → IsRun a → begins is_ascii_digit z ≡ false → run_len (a ++ z) ≡ length a
 run-long a z h stop = grind (arith, nat_tests, common_steps, digits-taken)
 
-record DottedAt (text : List ℕ) (n : ℕ) : Type 0 where
-  run : List ℕ
-  rest : List ℕ
-  split : text ≡ 46 ∷ (run ++ rest)
-  is : IsRun run
-  long : 1 + length run ≡ n
-  ended : begins is_ascii_digit rest ≡ false
+positive : (n : ℕ) → (n == 0) ≡ false → 0 < n
+positive n h = grind (arith, nat_tests)
 
-dotted-at : (text : List ℕ) (n : ℕ) → n ≡ dotted_len text → (n == 0) ≡ false → DottedAt text n
+-- a dot and a run
+dotted-at : (text : List ℕ) (n : ℕ) → n ≡ dotted_len text → (n == 0) ≡ false
+    → (rest : List ℕ) × (text ≡ 46 ∷ rest) × RunAt rest (run_len rest) × (n ≡ 1 + run_len rest)
 dotted-at [] n e some = cc (rw e at some)
 dotted-at (b ∷ text) n e some = elim (cases_Bool (b == 46)) [
   | inr other ↦ cc (rw (rw other at e) at some)
   | inl dot ↦ elim (cases_Bool (run_len text == 0)) [
     | inl none ↦ cc (rw (rw (dot, none) at e) at some)
-    | inr more ↦
-        let r = run-at text (run_len text) refl (grind (arith, nat_tests, more)) in
-        record {
-          run = r.run;
-          rest = r.rest;
-          split = rw (eqb-true b 46 dot, ← r.split) refl;
-          is = r.is;
-          long = ap (λ (n : ℕ). 1 + n) r.long ∙ sym (rw (dot, more) at e);
-          ended = r.ended;
-        }
+    | inr more ↦ (text, rw (eqb-true b 46 dot) refl, run-at text (run_len text) refl (positive (run_len text) more), rw (dot, more) at e)
   ]
 ]
 
@@ -78,9 +66,6 @@ record SpanAt (text : List ℕ) (n : ℕ) : Type 0 where
   long : length tuple ≡ n
   ended : begins is_ascii_digit rest ≡ false
 
-positive : (n : ℕ) → (n == 0) ≡ false → 0 < n
-positive n h = grind (arith, nat_tests)
-
 span-at : (text : List ℕ) (n : ℕ) → n ≡ tuple_len text → 0 < n → SpanAt text n
 unfolding tuple_len
 span-at text n e some = elim (cases_Bool (run_len text == 0)) [
@@ -96,21 +81,22 @@ span-at text n e some = elim (cases_Bool (run_len text == 0)) [
       | inl none ↦ (let same : n ≡ run_len text = rw none at e in rw same
           (record { tuple = r.run; rest = r.rest; runs = r.run ∷ []; split = r.split; is = one r.run r.is; long = r.long; ended = r.ended }))
       | inr more ↦
-          let d = dotted-at r.rest (dotted_len r.rest) refl more in
+          let dot = dotted-at r.rest (dotted_len r.rest) refl more in
+          let d = dot.2 in
           let front = r.run ++ (46 ∷ d.run) in
           let long : length front ≡ run_len text + dotted_len r.rest =
-          length-append r.run (46 ∷ d.run) ∙ omega (arith, r.long, d.long) in
+          length-append r.run (46 ∷ d.run) ∙ omega (arith, r.long, d.long, dot.3) in
           let split : text ≡ front ++ d.rest =
-          r.split ∙ ap (λ (t : List ℕ). r.run ++ t) d.split ∙ sym (append_assoc r.run (46 ∷ d.run) d.rest) in
+          r.split ∙ ap (λ (t : List ℕ). r.run ++ t) (dot.1 ∙ ap (λ (t : List ℕ). 46 ∷ t) d.split) ∙ sym (append_assoc r.run (46 ∷ d.run) d.rest) in
           let behind : drop (run_len text + dotted_len r.rest) text ≡ d.rest =
           ap (λ (t : List ℕ). drop (run_len text + dotted_len r.rest) t) split ∙ drop_at front d.rest _ long in
-          third r d split long (rw (more, behind) at e)
+          third r dot.0 d split long (rw (more, behind) at e)
     ]
       where
-        third : (r : RunAt text (run_len text)) (d : DottedAt r.rest (dotted_len r.rest)) → text ≡ (r.run ++ (46 ∷ d.run)) ++ d.rest
+        third : (r : RunAt text (run_len text)) (left : List ℕ) (d : RunAt left (run_len left)) → text ≡ (r.run ++ (46 ∷ d.run)) ++ d.rest
             → length (r.run ++ (46 ∷ d.run)) ≡ run_len text + dotted_len r.rest
             → n ≡ run_len text + dotted_len r.rest + dotted_len d.rest → SpanAt text n
-        third r d split long e = elim (cases_Bool (dotted_len d.rest == 0)) [
+        third r left d split long e = elim (cases_Bool (dotted_len d.rest == 0)) [
           | inl none ↦ record {
             tuple = r.run ++ (46 ∷ d.run);
             rest = d.rest;
@@ -121,7 +107,9 @@ span-at text n e some = elim (cases_Bool (run_len text == 0)) [
             ended = d.ended;
           }
           | inr more ↦
-              let p = dotted-at d.rest (dotted_len d.rest) refl more in
+              let dot = dotted-at d.rest (dotted_len d.rest) refl more in
+              let p = dot.2 in
+              let last = dot.1 ∙ ap (λ (t : List ℕ). 46 ∷ t) p.split in
               record {
                 tuple = r.run ++ (46 ∷ (d.run ++ (46 ∷ p.run)));
                 rest = p.rest;

@@ -280,17 +280,25 @@ strict-push : (limit n c : ℕ) (x : List ℕ) → IsStrictNumber limit x n → 
 strict-push limit n c x h some digit safe =
     grind (arith, nat_tests, common_steps, length-append, list_all-append, ℕ, digits_value_push, eqb-true)
 
+-- no digit more, and one more
+none-numeral : (limit left n : ℕ) (x cs : List ℕ) → IsStrictNumber limit x n → Behind limit left cs → Numeral limit left x cs
+none-numeral limit left n x cs h b =
+    record { digits = []; rest = cs; n = n; divided = refl; plain = refl; is = rw (append-nil x) h; behind = b }
+
+more-numeral : (limit left c : ℕ) (x cs : List ℕ) → is_ascii_digit c ≡ true → Numeral limit left (x ++ c ∷ []) cs → Numeral limit left x (c ∷ cs)
+more-numeral limit left c x cs digit r = record {
+  digits = c ∷ r.digits;
+  rest = r.rest;
+  n = r.n;
+  divided = ap (λ (t : List ℕ). c ∷ t) r.divided;
+  plain = rw ((digit-plain c digit).0, r.plain) refl;
+  is = subst (λ (t : List ℕ). IsStrictNumber limit t r.n) (append_assoc x (c ∷ []) r.digits) r.is;
+  behind = r.behind;
+}
+
 numerals : (limit left n : ℕ) (x cs : List ℕ) → IsStrictNumber limit x n → Whole limit (Number left n) cs → Numeral limit left x cs
 unfolding next
-numerals limit left n x [] h w = record {
-  digits = [];
-  rest = [];
-  n = n;
-  divided = refl;
-  plain = refl;
-  is = rw (append-nil x) h;
-  behind = end left w;
-}
+numerals limit left n x [] h w = none-numeral limit left n x [] h (end left w)
   where
     more : (k : ℕ) → (suc k == 0) ≡ false
     more k = grind arith
@@ -299,31 +307,14 @@ numerals limit left n x [] h w = record {
     end zero w = blank-qualified [] Pre refl ([], no_pre_release)
     end (suc k) w = absurd (none-whole limit (Number (suc k) n) (more k) w)
 numerals limit left n x (c ∷ cs) h w = elim (cases_Bool (is_ascii_digit c)) [
-  | inr other ↦ record {
-    digits = [];
-    rest = c ∷ cs;
-    n = n;
-    divided = refl;
-    plain = refl;
-    is = rw (append-nil x) h;
-    behind = behind-number limit left n c cs other (from limit (Number left n) c cs w);
-  }
+  | inr other ↦ none-numeral limit left n x (c ∷ cs) h (behind-number limit left n c cs other (from limit (Number left n) c cs w))
   | inl digit ↦ elim (cases_Bool (n == 0 || nat_lt limit (n * 10 + digit_value c))) [
     | inl stop ↦ absurd (rw (digit, stop) at (from limit (Number left n) c cs w))
     | inr go ↦
         let tests = or-none (n == 0) (nat_lt limit (n * 10 + digit_value c)) go in
         let pushed = strict-push limit n c x h tests.0 digit (within (n * 10 + digit_value c) tests.1) in
-        let r = numerals limit left (n * 10 + digit_value c) (x ++ c ∷ []) cs pushed
-        (rw (digit, go) at (from limit (Number left n) c cs w)) in
-        record {
-          digits = c ∷ r.digits;
-          rest = r.rest;
-          n = r.n;
-          divided = ap (λ (t : List ℕ). c ∷ t) r.divided;
-          plain = rw ((digit-plain c digit).0, r.plain) refl;
-          is = subst (λ (t : List ℕ). IsStrictNumber limit t r.n) (append_assoc x (c ∷ []) r.digits) r.is;
-          behind = r.behind;
-        }
+        more-numeral limit left c x cs digit (numerals limit left (n * 10 + digit_value c) (x ++ c ∷ []) cs pushed
+        (rw (digit, go) at (from limit (Number left n) c cs w)))
   ]
 ]
   where
@@ -344,16 +335,8 @@ number-written limit left (c ∷ cs) nine w = elim (cases_Bool (is_ascii_digit c
       let first : 0 * 10 + digit_value c ≡ digit_value c = omega arith in
       let small : digit_value c ≤ limit = at-most c digit in
       let number : IsStrictNumber limit (c ∷ []) (digit_value c) = grind (arith, nat_tests, common_steps) in
-      let r = numerals limit left (digit_value c) (c ∷ []) cs number (rw digit at (from limit (Digit left) c cs w)) in
-      record {
-        digits = c ∷ r.digits;
-        rest = r.rest;
-        n = r.n;
-        divided = ap (λ (t : List ℕ). c ∷ t) r.divided;
-        plain = rw ((digit-plain c digit).0, r.plain) refl;
-        is = r.is;
-        behind = r.behind;
-      }
+      more-numeral limit left c [] cs digit
+      (numerals limit left (digit_value c) (c ∷ []) cs number (rw digit at (from limit (Digit left) c cs w)))
 ]
   where
     at-most : (c : ℕ) → is_ascii_digit c ≡ true → digit_value c ≤ limit

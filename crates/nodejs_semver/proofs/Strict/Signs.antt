@@ -1,7 +1,7 @@
 -- The signs of node-semver's words, with the whitespace behind them: what is read is written, and what is written is read.
 use Rattle.nodejs_semver.proofs.Common.{Bool, Comparator, IsBlank, IsUtf8, List, [], above, and_parts, ap, append_assoc, arith, at_most}
 use Rattle.nodejs_semver.proofs.Common.{begins, below, cases_Bool, common_steps, drop, drop_spaces, drop_spaces-blank, drop_spaces-none}
-use Rattle.nodejs_semver.proofs.Common.{encode_utf8_all, eqb-true, equal, false, inl, inr, is_empty, is_whitespace, len_utf8_bounds, length}
+use Rattle.nodejs_semver.proofs.Common.{encode_utf8_all, eqb-true, equal, false, if◌then◌else◌, inl, inr, is_empty, is_whitespace, len_utf8_bounds, length}
 use Rattle.nodejs_semver.proofs.Common.{list_all, nat_lt, nat_tests, not, refl, space_len, subst, true, ℕ, ◌&&◌, ◌++◌, ◌<◌, ◌==◌, ◌||◌, ◌∙◌}
 use Rattle.nodejs_semver.proofs.{Common.{◌∷◌, ◌≡◌, ◌⊎◌}, NpmCommon.{IsSignText, are_marks, at_least, begins_byte, caret_equal, compared}}
 use Rattle.nodejs_semver.proofs.NpmCommon.{is_mark, is_one_v, late_above, late_below, no_sign, npm_sign, or_late, sign, skip_equal}
@@ -156,37 +156,25 @@ plain-found text u =
     let x = blank-at text u in
     record { signs = 61 ∷ x.blank; split = ap (λ (t : List ℕ). 61 ∷ t) x.split; is = sign (compared equal) x.blank x.is; utf8 = x.utf8 }
 
-first-found : (b c : ℕ) (rest : List ℕ) → (b == c) ≡ true → c < 128 → IsUtf8 (b ∷ rest) → (b ≡ c) × IsUtf8 rest
-first-found b c rest h low u =
-    let e = eqb-true b c h in
-    (e, tail-utf8 c rest low (subst (λ (n : ℕ). IsUtf8 (n ∷ rest)) e u))
+-- the same of a character that is this one or another
+on-byte : (b k : ℕ) (rest : List ℕ) (r s : Sign × List ℕ) → k < 128 → IsUtf8 (b ∷ rest) → (IsUtf8 rest → SignRead (k ∷ rest) r)
+    → SignRead (b ∷ rest) s → SignRead (b ∷ rest) (if b == k then r else s)
+on-byte b k rest r s low u f other = elim (cases_Bool (b == k)) [
+  | inr e ↦ rw e other
+  | inl e ↦ (let same = eqb-true b k e in rw (e, same) (f (tail-utf8 k rest low (subst (λ (n : ℕ). IsUtf8 (n ∷ rest)) same u))))
+]
 
 pub sign-found : (text : List ℕ) → IsUtf8 text → SignAt text (npm_sign text).0 (npm_sign text).1
 unfolding npm_sign
 sign-found [] u = record { signs = []; split = refl; is = no_sign; utf8 = u }
-sign-found (b ∷ rest) u = elim (cases_Bool (b == 62)) [
-  | inl h62 ↦
-      let f = first-found b 62 rest h62 (omega arith) u in
-      rw (h62, f.0) (late-found 62 above at_least rest f.1 (λ x h. sign (compared above) x h) (λ x h. sign (compared at_least) x h)
-      (λ x h. late_above x h))
-  | inr n62 ↦ elim (cases_Bool (b == 60)) [
-    | inl h60 ↦
-        let f = first-found b 60 rest h60 (omega arith) u in
-        rw (n62, h60, f.0) (late-found 60 below at_most rest f.1 (λ x h. sign (compared below) x h) (λ x h. sign (compared at_most) x h)
-        (λ x h. late_below x h))
-    | inr n60 ↦ elim (cases_Bool (b == 61)) [
-      | inl h61 ↦ let f = first-found b 61 rest h61 (omega arith) u in rw (n62, n60, h61, f.0) (plain-found rest f.1)
-      | inr n61 ↦ elim (cases_Bool (b == 94)) [
-        | inl h94 ↦ let f = first-found b 94 rest h94 (omega arith) u in rw (n62, n60, n61, h94, f.0) (caret-found rest f.1)
-        | inr n94 ↦ elim (cases_Bool (b == 126)) [
-          | inl h126 ↦
-              let f = first-found b 126 rest h126 (omega arith) u in rw (n62, n60, n61, n94, h126, f.0) (tilde-found rest f.1)
-          | inr n126 ↦ rw (n62, n60, n61, n94, n126) (record { signs = []; split = refl; is = no_sign; utf8 = u })
-        ]
-      ]
-    ]
-  ]
-]
+sign-found (b ∷ rest) u =
+    on-byte b 62 rest _ _ (omega arith) u (λ v. late-found 62 above at_least rest v (λ x h. sign (compared above) x h)
+    (λ x h. sign (compared at_least) x h) (λ x h. late_above x h))
+    (on-byte b 60 rest _ _ (omega arith) u (λ v. late-found 60 below at_most rest v (λ x h. sign (compared below) x h)
+    (λ x h. sign (compared at_most) x h) (λ x h. late_below x h))
+    (on-byte b 61 rest _ _ (omega arith) u (λ v. plain-found rest v)
+    (on-byte b 94 rest _ _ (omega arith) u (λ v. caret-found rest v)
+    (on-byte b 126 rest _ _ (omega arith) u (λ v. tilde-found rest v) (record { signs = []; split = refl; is = no_sign; utf8 = u })))))
 
 -- ---- the signs of node-semver's words before marks and a partial version: what is written is read, or means the same
 
