@@ -90,10 +90,7 @@ tame-both v b u cs ds h k =
 
 pub exact-span : (v : VersionValue) (b u : Bound VersionValue) (cs ds : List Comparison) → Exact v (from_lower b v) (names b v) cs
     → Exact v (to_upper u v) (names u v) ds → ExactWord v (record { lower = b; upper = u }) (cs ++ ds)
-exact-span v b u cs ds h k = record {
-  held = rw (h.tested, k.tested) (sym (passed-both v cs ds));
-  let_in = rw (h.named, k.named) (ap (λ a. is_release v || a) (sym (named-both v cs ds)));
-}
+exact-span v b u cs ds h k = grind (arith, nat_tests, common_steps, named-both, passed-both)
 
 -- ---- the order
 

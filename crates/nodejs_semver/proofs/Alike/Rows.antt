@@ -33,10 +33,7 @@ unnamed_bits t r n e f = grind arith
 
 pub exact-word : (pre : Bool) (v : VersionValue) (s : Span VersionValue) (cs : List Comparison) → ExactWord v s cs
     → (pre ≡ false → named_by v cs ≡ false) → SameWord pre v s cs
-exact-word pre v s cs e f = record {
-  same = ap₂ (λ (a b : Bool). a && b) e.held e.let_in;
-  released = λ n r. unnamed_bits (passed v cs) (is_release v) (named_by v cs) r (f n);
-}
+exact-word pre v s cs e f = grind (arith, nat_tests, common_steps, unnamed_bits)
 
 pub written : (pre r : Bool) → (pre || r) ≡ true → pre ≡ false → r ≡ true
 written pre r h e = grind arith

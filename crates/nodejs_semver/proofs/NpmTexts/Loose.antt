@@ -95,10 +95,7 @@ fronts-same : (text : List ℕ) → (begins_undashed text ≡ true) ⊎ (begins 
     → loose_front text ≡ pre_front true text
 unfolding loose_front pre_front dashed_front pre_release_front
 fronts-same [] h = refl
-fronts-same (b ∷ rest) h = elim (cases_Bool (b == 45)) [
-  | inl dash ↦ rw (eqb-true b 45 dash) (grind arith)
-  | inr other ↦ elim (cases_Bool (begins_undashed (b ∷ rest))) [ inl letter ↦ rw (letter, other) refl | inr none ↦ grind (arith, nat_tests) ]
-]
+fronts-same (b ∷ rest) h = grind (arith, nat_tests, common_steps, eqb-true)
 
 -- an identifier follows the dot, since else that would be left
 lone-here : (text : List ℕ) → Behind text → is_empty (build_front (loose_front text).1).1 ≡ true
@@ -202,13 +199,7 @@ pre-open p b l m (bare t list h s f) k = inl (letter-on t (b ++ []) f (stopped (
 qualified-read : (p b : List ℕ) (v : VersionValue) → IsPreRelease true (λ ids. true) p v.pre_release → IsStrictBuild b v.build
     → loose_qualified v.major v.minor v.patch (p ++ b) ≡ Some v
 unfolding loose_qualified
-qualified-read p b v h k =
-    let front = pre-taken true (λ ids. true) p b [] v.pre_release v.build refl h k ends-nil in
-    let whole : loose_front (p ++ b) ≡ (front.0, b) =
-    subst (λ (t : List ℕ). loose_front (p ++ t) ≡ (front.0, t)) (append-nil b)
-    (fronts-same (p ++ (b ++ [])) (pre-open p b v.pre_release v.build h k) ∙ front.1) in
-    let build = rw (append-nil b) at (build-taken b [] v.build k ends-nil) in
-    rw (whole, build.0, front.2, build.1) refl
+qualified-read p b v h k = grind (arith, nat_tests, common_steps, append-nil, build-taken, ends-nil, fronts-same, pre-open, pre-taken)
 
 dotted-read : (limit : ℕ) (digits rest : List ℕ) (n : ℕ) → IsNumber limit digits n → begins is_ascii_digit rest ≡ false
     → loose_dotted limit (46 ∷ (digits ++ rest)) ≡ Some (n, rest)

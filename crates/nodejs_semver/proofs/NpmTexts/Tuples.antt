@@ -44,13 +44,7 @@ positive n h = grind (arith, nat_tests)
 dotted-at : (text : List ℕ) (n : ℕ) → n ≡ dotted_len text → (n == 0) ≡ false
     → (rest : List ℕ) × (text ≡ 46 ∷ rest) × RunAt rest (run_len rest) × (n ≡ 1 + run_len rest)
 dotted-at [] n e some = cc (rw e at some)
-dotted-at (b ∷ text) n e some = elim (cases_Bool (b == 46)) [
-  | inr other ↦ cc (rw (rw other at e) at some)
-  | inl dot ↦ elim (cases_Bool (run_len text == 0)) [
-    | inl none ↦ cc (rw (rw (dot, none) at e) at some)
-    | inr more ↦ (text, rw (eqb-true b 46 dot) refl, run-at text (run_len text) refl (positive (run_len text) more), rw (dot, more) at e)
-  ]
-]
+dotted-at (b ∷ text) n e some = grind (arith, nat_tests, common_steps, eqb-true, positive, run-at)
 
 dotted-long : (a z : List ℕ) → IsRun a → begins is_ascii_digit z ≡ false → dotted_len (46 ∷ (a ++ z)) ≡ 1 + length a
 dotted-long a z h stop = grind (arith, nat_tests, common_steps, run-long)

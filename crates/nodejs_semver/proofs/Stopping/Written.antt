@@ -286,15 +286,7 @@ none-numeral limit left n x cs h b =
     record { digits = []; rest = cs; n = n; divided = refl; plain = refl; is = rw (append-nil x) h; behind = b }
 
 more-numeral : (limit left c : ℕ) (x cs : List ℕ) → is_ascii_digit c ≡ true → Numeral limit left (x ++ c ∷ []) cs → Numeral limit left x (c ∷ cs)
-more-numeral limit left c x cs digit r = record {
-  digits = c ∷ r.digits;
-  rest = r.rest;
-  n = r.n;
-  divided = ap (λ (t : List ℕ). c ∷ t) r.divided;
-  plain = rw ((digit-plain c digit).0, r.plain) refl;
-  is = subst (λ (t : List ℕ). IsStrictNumber limit t r.n) (append_assoc x (c ∷ []) r.digits) r.is;
-  behind = r.behind;
-}
+more-numeral limit left c x cs digit r = grind (arith, nat_tests, common_steps, append_assoc, digit-plain)
 
 numerals : (limit left n : ℕ) (x cs : List ℕ) → IsStrictNumber limit x n → Whole limit (Number left n) cs → Numeral limit left x cs
 unfolding next

@@ -115,11 +115,7 @@ marks-passed a u h k = rw h.spelled (ends-read h.characters u h.each (grind (ari
 pub end-read : (loose : Bool) (free : Partial → Bool) (a x rest : List ℕ) (p : Partial) → AreMarks a → (free p || are_whole_marks loose a) ≡ true
     → IsPartial loose x p → begins is_solid rest ≡ false → end_front loose free (a ++ (x ++ rest)) ≡ Some ((p, a ++ x), rest)
 unfolding end_front
-end-read loose free a x rest p h w k quiet =
-    let u = x ++ rest in
-    let passed = marks-passed a u h (partial-begins loose x rest p k) in
-    let text : take (length (a ++ u) - length rest) (a ++ u) ≡ a ++ x = rw (append_assoc a x rest) at (front-text (a ++ x) rest) in
-    rw (passed, partial-read loose x rest p k quiet, front-text a u, w, text) refl
+end-read loose free a x rest p h w k quiet = grind (arith, nat_tests, common_steps, append_assoc, front-text, marks-passed, partial-begins, partial-read)
 
 -- ---- an end: what is read is written
 

@@ -51,11 +51,7 @@ build-part p l (plus t list h) = pieces-part t (runs_tail (pieces t) h.runs)
 pub partial-part : (loose : Bool) (x : List ℕ) (p : Partial) → IsPartial loose x p → list_all is_part x ≡ true
 partial-part loose x p (one x1 a h) = place-part loose false x1 a h
 partial-part loose x p (two x1 y a b h k) = all-join is_part x1 (46 ∷ y) (place-part loose false x1 a h) (place-part loose (has_zeros a) y b k)
-partial-part loose x p (three x1 y z pre build a b c ids builds h k l m n t) =
-    let last_part = all-join is_part pre build (pre-part loose pre ids m) (build-part build builds n) in
-    let third = all-join is_part z (pre ++ build) (place-part loose (has_zeros a) z c l) last_part in
-    let second = all-join is_part y (46 ∷ (z ++ (pre ++ build))) (place-part loose (has_zeros a) y b k) third in
-    all-join is_part x1 (46 ∷ (y ++ 46 ∷ (z ++ (pre ++ build)))) (place-part loose false x1 a h) second
+partial-part loose x p (three x1 y z pre build a b c ids builds h k l m n t) = grind (arith, nat_tests, common_steps, all-join, build-part, place-part, pre-part)
 
 -- ---- the characters of whitespace
 

@@ -37,11 +37,7 @@ qualified-read : (loose : Bool) (a b c : Option ℕ) (pre build more : List ℕ)
     → IsPreRelease loose (may_stand loose) pre l → IsStrictBuild build m → are_short_builds (drop 1 build) ≡ true → Ends more
     → qualified_partial loose a b c (pre ++ (build ++ more)) ≡ Some (partial_of a b c l m, more)
 unfolding qualified_partial
-qualified-read loose a b c pre build more l m h k t e =
-    let none : may_stand loose [] ≡ true = grind arith in
-    let p = pre-taken loose (may_stand loose) pre build more l m none h k e in
-    let q = build-taken build more m k e in
-    rw (p.1, q.0, p.3, t, p.2, q.1) refl
+qualified-read loose a b c pre build more l m h k t e = grind (arith, nat_tests, common_steps, build-taken, pre-taken)
 
 pub partial-read : (loose : Bool) (x more : List ℕ) (p : Partial) → IsPartial loose x p → begins is_solid more ≡ false
     → partial_front loose (x ++ more) ≡ Some (p, more)

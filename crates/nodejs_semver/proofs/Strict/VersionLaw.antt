@@ -65,11 +65,7 @@ strict-found-version limit text v h =
 qualified-read : (p b : List ℕ) (v : VersionValue) → IsStrictPreRelease p v.pre_release → IsStrictBuild b v.build
     → qualified_version v.major v.minor v.patch (p ++ b) ≡ Some v
 unfolding qualified_version pre_front
-qualified-read p b v h k =
-    let front = pre-taken false is_strict_list p b [] v.pre_release v.build refl h k ends-nil in
-    let whole : dashed_front (p ++ b) ≡ (front.0, b) = rw append-nil at front.1 in
-    let last = rw append-nil at (build-taken b [] v.build k ends-nil) in
-    rw (whole, last.0, front.2, front.3, last.1) refl
+qualified-read p b v h k = grind (arith, nat_tests, common_steps, append-nil, build-taken, ends-nil, pre-taken)
 
 unmarked : (limit : ℕ) (mark digits rest : List ℕ) (n : ℕ) → (mark ≡ []) ⊎ (mark ≡ 118 ∷ []) → IsStrictNumber limit digits n
     → drop_v (mark ++ (digits ++ rest)) ≡ digits ++ rest
