@@ -249,8 +249,6 @@ pub last_found : (text : List ℕ) (at start end : ℕ) → IsLastBefore text at
 last_found text at start end h past some = grind (arith, length-take-le, length-drop, parts)
 
 pub last_none : (text : List ℕ) (at start end : ℕ) → IsLastBefore text at start end → length text ≤ at → end ≡ 0 → HasNoTuple text
-last_none text at start end h past none = record {
-  none = λ x y z is. let p = parts text x y z is in omega (arith, past, none, p.whole, p.some, h.last x y z is (omega (arith, past, p.whole, p.some)));
-}
+last_none text at start end h past none = grind (arith, nat_tests, common_steps, parts)
 
 pub ruleset lasts = (last_begin)

@@ -380,9 +380,7 @@ malformed-more x h = opposite (ends is_sign x) (bytes_eq x (45 ∷ [])) (list_al
 pub ignored-read : (loose : Bool) (x rest : List ℕ) → loose ≡ true → is_malformed (is_empty rest) x ≡ true → is_boundary rest ≡ true
     → ignored_front loose (x ++ rest) ≡ Some ((compared equal, Partial.wildcard, []), rest)
 unfolding ignored_front
-ignored-read loose x rest l h b =
-    let r = run-is x rest (malformed-all (is_empty rest) x h) (boundary-dark rest b) in
-    rw (l, r.0, r.1, h, b) refl
+ignored-read loose x rest l h b = grind (arith, nat_tests, common_steps, boundary-dark, malformed-all, run-is)
 
 pub visible_front : (text : List ℕ) (at : ℕ) → at ≡ prefix_len is_visible text → list_all is_visible (take at text) ≡ true
 visible_front text at e = rw e (prefix-all is_visible text)
@@ -457,9 +455,7 @@ last_all text start h e = rw e (sym (all-last text (rw e at h)))
 pub last_found : (text : List ℕ) (start d : ℕ) → list_all is_visible (drop start text) ≡ true → 0 < start → start ≤ length text
     → is_visible (get_or text (start - 1) d) ≡ false → drop start text ≡ last_visible text
 last_found text zero d h some fits k = absurd (omega (arith, some))
-last_found text (suc at) d h some fits k =
-    let e : suc at - 1 ≡ at = omega arith in
-    sym (last-behind text at d (omega (arith, fits)) (rw e at k) h)
+last_found text (suc at) d h some fits k = grind (arith, nat_tests, common_steps, last-behind)
 
 pub last_begin : (text : List ℕ) (start : ℕ) → start ≡ length text → list_all is_visible (drop start text) ≡ true
 last_begin text start e = rw (drop_all start text (omega arith)) refl
