@@ -1,16 +1,14 @@
 -- A version and a span, and what it says of a list of comparators: the ends of a span, each beside comparators.
-use Rattle.nodejs_semver.proofs.Common.{After, Before, Bool, Bound, Comparator, Equal, Greater, Id, List, MAX_SAFE_INTEGER}
-use Rattle.nodejs_semver.proofs.Common.{Numeric, Ordering, Span, Unbounded, VersionValue, [], above, and-true, and_parts, ap}
-use Rattle.nodejs_semver.proofs.Common.{ap₂, arith, at_most, below, cases_Bool, codes, common_steps, empty_is, eqb-true, equal}
-use Rattle.nodejs_semver.proofs.Common.{false, filter, holds, inl, inr, is_ge, is_gt, is_interval, is_le, is_lt, is_past}
-use Rattle.nodejs_semver.proofs.Common.{is_release, lets_in, list_all, list_all-append, list_any, list_any-append, lower_cut}
-use Rattle.nodejs_semver.proofs.Common.{names, nat_tests, not, not-false, ordering_reverse, ordering_then, pre_cmp, precedence}
-use Rattle.nodejs_semver.proofs.Common.{precedence_total, refl, sym, true, upper_cut, ℕ, ◌&&◌, ◌++◌, ◌+◌, ◌==◌, ◌||◌, ◌∙◌, ◌∷◌}
-use Rattle.nodejs_semver.proofs.{Common.{◌≡◌, ◌≤◌, ◌⊎◌}, NpmCommon.{Comparison, Numbers, at_least, bytes_eq, counts}}
-use Rattle.nodejs_semver.proofs.NpmCommon.{filter-append, from, is_valid, is_within, is_zero, made, meets, release, satisfies}
-use Rattle.nodejs_semver.proofs.{NpmCommon.{under, upto_patch, version_text, zero_least}, Algebra.Gate.{in_two_steps, lt_is}}
-use Rattle.nodejs_semver.proofs.{Algebra.Gate.triple_cmp, Strict.Printed.prints_zero, Values.{past-after, past-before}}
-use Rattle.nodejs_semver.specs.Npm.Table.{lowest}
+use Rattle.nodejs_semver.proofs.{Algebra.Gate.{in_two_steps, lt_is, triple_cmp}, Common.{After, Before, Bool, Bound, Comparator, Equal}}
+use Rattle.nodejs_semver.proofs.Common.{Greater, Id, List, MAX_SAFE_INTEGER, Numeric, Ordering, Span, Unbounded, VersionValue, [], above}
+use Rattle.nodejs_semver.proofs.Common.{and-true, and_parts, ap, ap₂, arith, at_most, below, cases_Bool, codes, common_steps, empty_is}
+use Rattle.nodejs_semver.proofs.Common.{eqb-true, equal, false, filter, holds, inl, inr, is_ge, is_gt, is_interval, is_le, is_lt, is_past}
+use Rattle.nodejs_semver.proofs.Common.{is_release, lets_in, list_all, list_all-append, list_any, list_any-append, lower_cut, names}
+use Rattle.nodejs_semver.proofs.Common.{nat_tests, not, not-false, ordering_reverse, ordering_then, pre_cmp, precedence, precedence_total}
+use Rattle.nodejs_semver.proofs.Common.{refl, sym, true, upper_cut, ℕ, ◌&&◌, ◌++◌, ◌+◌, ◌==◌, ◌||◌, ◌∙◌, ◌∷◌, ◌≡◌, ◌≤◌, ◌⊎◌}
+use Rattle.nodejs_semver.proofs.NpmCommon.{Comparison, Numbers, at_least, bytes_eq, counts, filter-append, from, is_valid, is_within}
+use Rattle.nodejs_semver.proofs.NpmCommon.{is_zero, made, meets, release, satisfies, under, upto_patch, version_text, zero_least}
+use Rattle.nodejs_semver.{proofs.{Strict.Printed.prints_zero, Values.{past-after, past-before}}, specs.Npm.Table.lowest}
 use Rattle.nodejs_semver.specs.Npm.Ranges as Npm
 
 -- no number of the version is above the limit

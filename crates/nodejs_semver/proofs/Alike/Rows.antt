@@ -1,19 +1,18 @@
 -- The rows of both tables, sign by sign.
-use Rattle.nodejs_semver.proofs.Common.{Before, Bool, Bound, Front, Id, IfSome, List, MAX_SAFE_INTEGER, None, Option, Partial}
-use Rattle.nodejs_semver.proofs.Common.{Some, Span, Unbounded, VersionValue, Word, [], above, ap, ap₂, common_steps, arith, at_most, below}
-use Rattle.nodejs_semver.proofs.Common.{cases_Bool, codes, equal, false, first_so, inl, inr, is_empty, is_release, list_all}
-use Rattle.nodejs_semver.proofs.Common.{names, nat_tests, plain, refl, subst, suc, sym, table, true, zero, ℕ, ◌&&◌, ◌++◌, ◌+◌}
-use Rattle.nodejs_semver.proofs.{Common.{◌==◌, ◌||◌, ◌∙◌, ◌∷◌, ◌≡◌}, NpmCommon.{Comparison, IsPartial, IsPlainWord, Numbers}}
-use Rattle.nodejs_semver.proofs.NpmCommon.{at_least, build_front, bytes_eq-Decides, compared, dashed_front, dotted_patch}
-use Rattle.nodejs_semver.proofs.NpmCommon.{dotted_place, from, is_plain, is_valid, is_zero, listed, made, may_have, minor}
-use Rattle.nodejs_semver.proofs.NpmCommon.{next_changed, npm_partial, or-true, patch_place, place_front, pre_front}
-use Rattle.nodejs_semver.proofs.{NpmCommon.{qualified_partial, release, signed, under, whole}, Alike.Ends.{Alike, Exact}}
-use Rattle.nodejs_semver.proofs.Alike.Ends.{ExactWord, IsWithin, Low, Released, Spelled, Tame, any_low, apart_bits, below-tame}
-use Rattle.nodejs_semver.proofs.Alike.Ends.{exact-span, free-exact, free-tame, from_low, from_lower, low-exact, low-tame}
-use Rattle.nodejs_semver.proofs.Alike.Ends.{made-spelled, meets-both, most-tame, most_major, most_minor, named_by, open-tame}
-use Rattle.nodejs_semver.proofs.Alike.Ends.{passed, put, tame-both, to_upper, under-exact, under-tame, whole_above, whole_below}
-use Rattle.nodejs_semver.proofs.{Alike.Ends.{whole_equal, whole_low, whole_most}, Strict.PartialLaw.partial-read}
-use Rattle.nodejs_semver.specs.{Internal.NpmWords.partial_front, Npm.{Alike.{bare, word_of}, Table.{Sign, lowest}}}
+use Rattle.nodejs_semver.proofs.Alike.Ends.{Alike, Exact, ExactWord, IsWithin, Low, Released, Spelled, Tame, any_low, apart_bits}
+use Rattle.nodejs_semver.proofs.Alike.Ends.{below-tame, exact-span, free-exact, free-tame, from_low, from_lower, low-exact, low-tame}
+use Rattle.nodejs_semver.proofs.Alike.Ends.{made-spelled, meets-both, most-tame, most_major, most_minor, named_by, open-tame, put}
+use Rattle.nodejs_semver.proofs.Alike.Ends.{tame-both, to_upper, under-exact, under-tame, whole_above, whole_below, whole_equal, whole_low}
+use Rattle.nodejs_semver.proofs.{Alike.Ends.whole_most, Common.{Before, Bool, Bound, Front, Id, IfSome, List, MAX_SAFE_INTEGER, None}}
+use Rattle.nodejs_semver.proofs.Common.{Option, Partial, Some, Span, Unbounded, VersionValue, Word, [], above, ap, arith, at_most, below}
+use Rattle.nodejs_semver.proofs.Common.{cases_Bool, codes, common_steps, equal, false, first_so, inl, inr, is_empty, is_release, list_all}
+use Rattle.nodejs_semver.proofs.Common.{names, nat_tests, plain, refl, subst, suc, sym, table, true, zero, ℕ, ◌&&◌, ◌++◌, ◌+◌, ◌==◌, ◌||◌}
+use Rattle.nodejs_semver.proofs.{Common.{◌∙◌, ◌∷◌, ◌≡◌}, NpmCommon.{Comparison, IsPartial, IsPlainWord, Numbers, at_least, build_front}}
+use Rattle.nodejs_semver.proofs.NpmCommon.{bytes_eq-Decides, compared, dashed_front, dotted_patch, dotted_place, from, is_plain, is_valid}
+use Rattle.nodejs_semver.proofs.NpmCommon.{is_zero, listed, made, may_have, minor, next_changed, npm_partial, or-true, patch_place}
+use Rattle.nodejs_semver.proofs.NpmCommon.{place_front, pre_front, qualified_partial, release, signed, under, whole}
+use Rattle.nodejs_semver.{proofs.Strict.PartialLaw.partial-read, specs.{Internal.NpmWords.partial_front, Npm.Alike.{bare, word_of}}}
+use Rattle.nodejs_semver.specs.Npm.Table.{Sign, lowest}
 use Rattle.nodejs_semver.specs.Npm.Table as Npm
 
 -- a span and comparators accept alike, and where no pre-release is written releases alone

@@ -6,7 +6,7 @@ use Rattle.nodejs_semver.proofs.Common.{is_ascii_digit, is_empty, is_identifier_
 use Rattle.nodejs_semver.proofs.Common.{nat_tests, or_right, prefix_len, refl, same_Some, subst, suc, sym, take, take-append-drop, take_at}
 use Rattle.nodejs_semver.proofs.Common.{take_rest, true, zero, ℕ, ◌&&◌, ◌++◌, ◌-◌, ◌<◌, ◌==◌, ◌||◌, ◌∙◌, ◌∷◌, ◌≡◌, ◌≤◌, ◌⊎◌}
 use Rattle.nodejs_semver.proofs.NpmCommon.{AreMarks, IsStrictBuild, MAX_LENGTH, NoValue, after_byte, bare, begins_byte, begins_undashed}
-use Rattle.nodejs_semver.proofs.NpmCommon.{build_front, chars, dashed, dashed_front, drop-append-add, drop_ends, listed, loose_dotted}
+use Rattle.nodejs_semver.proofs.NpmCommon.{build_front, chars, dashed, dashed_front, drop-append-add, drop_ends, loose_dotted}
 use Rattle.nodejs_semver.proofs.NpmCommon.{loose_front, loose_patch, loose_qualified, loose_version, nat_le, no_pre_release, number_front}
 use Rattle.nodejs_semver.proofs.NpmCommon.{number_of, or-true, patch_front, pre_front, pre_release_front}
 use Rattle.nodejs_semver.proofs.Reading.{Bytes.{component-solid, solid-dark}, Numbers.{digits-taken, number-found, number-is}}

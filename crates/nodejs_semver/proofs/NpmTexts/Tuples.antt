@@ -1,13 +1,12 @@
 -- The longest tuple of numbers at a place of a text, the leftmost one, and the one that ends last.
-use Rattle.nodejs_semver.proofs.Common.{Bool, List, [], ap, append_assoc, arith, begins, cases_Bool, cases_lt, common_steps}
-use Rattle.nodejs_semver.proofs.Common.{drop, drop_at, ends, eqb-true, false, get_or, inl, inr, is_ascii_digit, length}
-use Rattle.nodejs_semver.proofs.Common.{length-append, length-drop, length-take-le, nat_tests, prefix_len, refl, sym, take}
-use Rattle.nodejs_semver.proofs.Common.{take-append-drop, take_at, true, ℕ, ◌++◌, ◌+◌, ◌-◌, ◌<◌, ◌==◌, ◌∙◌, ◌∷◌, ◌≡◌, ◌≤◌, ◌⊎◌}
-use Rattle.nodejs_semver.proofs.NpmCommon.{IsLastBefore, IsLeftmost, IsRightmost, IsRun, IsTuple, IsTupleIn, drop-append-add}
-use Rattle.nodejs_semver.proofs.{NpmCommon.{length-prefix_len, nat_le, tuple_len}, Reading.Numbers.{digits-taken, run-ends}}
-use Rattle.nodejs_semver.{proofs.Strict.{Malformed.last-byte, Places.digits-of}, specs.Internal.NpmTuples.{HasNoTuple, IsLongestAt, behind_first}}
-use Rattle.nodejs_semver.specs.{Internal.NpmTuples.{dotted_len, run_len}, Npm.Coerced.{one, three, two}}
-use Rattle.semver_core.proofs.Text.Pieces.{rest_at}
+use Rattle.nodejs_semver.proofs.Common.{List, [], ap, append_assoc, arith, begins, cases_Bool, cases_lt, common_steps, drop, drop_at, ends}
+use Rattle.nodejs_semver.proofs.Common.{eqb-true, false, get_or, inl, inr, is_ascii_digit, length, length-append, length-drop}
+use Rattle.nodejs_semver.proofs.Common.{length-take-le, nat_tests, prefix_len, refl, sym, take, take-append-drop, take_at, true, ℕ, ◌++◌}
+use Rattle.nodejs_semver.proofs.{Common.{◌+◌, ◌-◌, ◌<◌, ◌==◌, ◌∙◌, ◌∷◌, ◌≡◌, ◌≤◌, ◌⊎◌}, NpmCommon.{IsLastBefore, IsLeftmost, IsRightmost}}
+use Rattle.nodejs_semver.proofs.NpmCommon.{IsRun, IsTuple, IsTupleIn, drop-append-add, length-prefix_len, nat_le, tuple_len}
+use Rattle.nodejs_semver.proofs.{Reading.Numbers.{digits-taken, run-ends}, Strict.{Malformed.last-byte, Places.digits-of}}
+use Rattle.nodejs_semver.specs.{Internal.NpmTuples.{HasNoTuple, IsLongestAt, behind_first, dotted_len, run_len}, Npm.Coerced.{one, three}}
+use Rattle.{nodejs_semver.specs.Npm.Coerced.two, semver_core.proofs.Text.Pieces.rest_at}
 
 -- ---- runs
 

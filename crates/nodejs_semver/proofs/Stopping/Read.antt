@@ -1,16 +1,15 @@
 -- A text that is written as a version is read to its end as one.
-use Rattle.nodejs_semver.proofs.Common.{Bool, Id, List, Some, VersionValue, [], all_weaker, and_parts, ap, append-nil, arith}
-use Rattle.nodejs_semver.proofs.Common.{cases_Bool, common_steps, encode_utf8_all, eqb-true, false, inl, inr, is_ascii_digit}
-use Rattle.nodejs_semver.proofs.Common.{is_identifier, is_identifier_char, list_all, nat_lt, nat_tests}
-use Rattle.nodejs_semver.proofs.Common.{onto_first, pieces, refl, sym, true, ℕ, ◌&&◌, ◌*◌, ◌++◌, ◌+◌, ◌<◌, ◌==◌, ◌||◌, ◌∙◌, ◌∷◌}
-use Rattle.nodejs_semver.proofs.{Common.{◌≡◌, ◌≤◌, ◌⊎◌}, NpmCommon.{Build, Dash, Digit, IsSpelled, IsStrictBuild}}
-use Rattle.nodejs_semver.proofs.NpmCommon.{IsStrictNumber, IsStrictPreRelease, IsStrictVersion, Number, Plus, PreRelease, State}
-use Rattle.nodejs_semver.proofs.NpmCommon.{Zero, bare, dashed, digit_value, digits_grow, digits_value_after, encode_ascii}
-use Rattle.nodejs_semver.proofs.NpmCommon.{encodes_same, is_strict_identifier, is_whole, next, no_build, no_pre_release, plus}
-use Rattle.nodejs_semver.proofs.{NpmCommon.{run, runs_tail, tail_runs}, Reading.Bytes.all-join, Stopping.Steps.identifier-more}
-use Rattle.nodejs_semver.proofs.Stopping.Steps.{identifier_read, run-nil, run-step, run-then, spaces-behind, spaces-start}
-use Rattle.nodejs_semver.{proofs.Stopping.Steps.start-digit, specs.declared.npm.flaws.State.TheVariants.Start}
-use Rattle.semver_core.{proofs.Text.Listed.plain_runs, specs.Internal.CommonReading.is_plain}
+use Rattle.nodejs_semver.proofs.Common.{Bool, Id, List, Some, VersionValue, [], all_weaker, and_parts, ap, append-nil, arith, cases_Bool}
+use Rattle.nodejs_semver.proofs.Common.{common_steps, encode_utf8_all, eqb-true, false, inl, inr, is_ascii_digit, is_identifier}
+use Rattle.nodejs_semver.proofs.Common.{is_identifier_char, list_all, nat_lt, nat_tests, onto_first, pieces, refl, sym, true, ℕ, ◌&&◌, ◌*◌}
+use Rattle.nodejs_semver.proofs.{Common.{◌++◌, ◌+◌, ◌<◌, ◌==◌, ◌∙◌, ◌∷◌, ◌≡◌, ◌≤◌, ◌⊎◌}, NpmCommon.{Build, Dash, Digit, IsSpelled}}
+use Rattle.nodejs_semver.proofs.NpmCommon.{IsStrictBuild, IsStrictNumber, IsStrictPreRelease, IsStrictVersion, Number, Plus, PreRelease}
+use Rattle.nodejs_semver.proofs.NpmCommon.{State, Zero, bare, dashed, digit_value, digits_grow, digits_value_after, encode_ascii}
+use Rattle.nodejs_semver.proofs.NpmCommon.{encodes_same, is_strict_identifier, is_whole, next, no_build, no_pre_release, plus, run}
+use Rattle.nodejs_semver.proofs.{NpmCommon.{runs_tail, tail_runs}, Reading.Bytes.all-join, Stopping.Steps.identifier-more}
+use Rattle.nodejs_semver.proofs.Stopping.Steps.{identifier_read, run-nil, run-step, run-then, spaces-behind, spaces-start, start-digit}
+use Rattle.{nodejs_semver.specs.declared.npm.flaws.State.TheVariants.Start, semver_core.proofs.Text.Listed.plain_runs}
+use Rattle.semver_core.specs.Internal.CommonReading.{is_plain}
 
 -- ---- numbers
 

@@ -1,14 +1,13 @@
 -- Where a text stops being a version text.
-use Rattle.nodejs_semver.proofs.Common.{IsUtf8, List, MAX_SAFE_INTEGER, None, Option, Some, VersionValue, [], ap, append-nil}
-use Rattle.nodejs_semver.proofs.Common.{append_assoc, arith, common_steps, encode_utf8, encode_utf8_all, encodes-append, false}
-use Rattle.nodejs_semver.proofs.Common.{inl, inr, length, length-append, length-encode, nat_tests, refl, same_Some, subst, sym}
-use Rattle.nodejs_semver.proofs.{Common.{true, ℕ, ◌++◌, ◌+◌, ◌↔◌, ◌∙◌, ◌∷◌, ◌≡◌, ◌≤◌, ◌⊎◌}, NpmCommon.{At, GoesOn, IsFront}}
-use Rattle.nodejs_semver.proofs.NpmCommon.{IsSpelled, IsVersionText, State, encodes_same, is_whole, len_utf8, next, run}
-use Rattle.nodejs_semver.proofs.{NpmCommon.{wrong_at, wrong_of}, Stopping.{Fronts.{front-stops, read-front}, Read.{Whole, spelled-read}}}
-use Rattle.nodejs_semver.proofs.Stopping.{Steps.{run-nil, run-step, run-then}, Written.read-spelled, Wrongs.ended-wrong}
-use Rattle.nodejs_semver.{proofs.Stopping.Wrongs.{goes_on, one_wrong, stopped-wrong}, specs.Npm.Flaws.{IsFlaw, IsStop, IsWrong}}
-use Rattle.nodejs_semver.specs.declared.npm.flaws.{Flaw.{Flaw, TheVariants.TooLong}, State.TheVariants.Start, Wrong.Wrong}
-use Rattle.std.proofs.lemmas.Str.{cons_from_encodes}
+use Rattle.nodejs_semver.proofs.Common.{IsUtf8, List, MAX_SAFE_INTEGER, None, Option, Some, VersionValue, [], ap, append-nil, append_assoc}
+use Rattle.nodejs_semver.proofs.Common.{arith, common_steps, encode_utf8, encode_utf8_all, encodes-append, false, inl, inr, length}
+use Rattle.nodejs_semver.proofs.Common.{length-append, length-encode, nat_tests, refl, same_Some, subst, sym, true, ℕ, ◌++◌, ◌+◌, ◌↔◌, ◌∙◌}
+use Rattle.nodejs_semver.proofs.{Common.{◌∷◌, ◌≡◌, ◌≤◌, ◌⊎◌}, NpmCommon.{At, GoesOn, IsFront, IsSpelled, IsVersionText, State}}
+use Rattle.nodejs_semver.proofs.{NpmCommon.{encodes_same, is_whole, len_utf8, next, run, wrong_at, wrong_of}, Stopping.Fronts.front-stops}
+use Rattle.nodejs_semver.proofs.Stopping.{Fronts.read-front, Read.{Whole, spelled-read}, Steps.{run-nil, run-step, run-then}}
+use Rattle.nodejs_semver.proofs.Stopping.{Written.read-spelled, Wrongs.{ended-wrong, goes_on, one_wrong, stopped-wrong}}
+use Rattle.nodejs_semver.specs.{Npm.Flaws.{IsFlaw, IsStop, IsWrong}, declared.npm.flaws.Flaw.{Flaw, TheVariants.TooLong}}
+use Rattle.{nodejs_semver.specs.declared.npm.flaws.{State.TheVariants.Start, Wrong.Wrong}, std.proofs.lemmas.Str.cons_from_encodes}
 
 -- ---- where a text stops
 

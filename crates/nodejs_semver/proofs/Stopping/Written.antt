@@ -1,17 +1,16 @@
 -- A text that is read to its end as a version is written as one.
-use Rattle.nodejs_semver.proofs.Common.{Bool, Id, List, None, Option, Some, VersionValue, [], and_parts, ap, append-nil}
-use Rattle.nodejs_semver.proofs.Common.{append_assoc, arith, begins, cases_Bool, common_steps, encode_utf8_all, eqb-true, false}
-use Rattle.nodejs_semver.proofs.Common.{identifier_of, if◌then◌else◌, inl, inr, is_ascii_digit, is_identifier}
-use Rattle.nodejs_semver.proofs.Common.{is_identifier_char, is_whitespace, length-append, list_all, list_all-append, map}
-use Rattle.nodejs_semver.proofs.Common.{nat_lt, nat_tests, onto_first, pieces, refl, same_Some, subst, suc, sym, true, zero, ℕ}
-use Rattle.nodejs_semver.proofs.{Common.{◌*◌, ◌++◌, ◌+◌, ◌==◌, ◌||◌, ◌∙◌, ◌∷◌, ◌≡◌, ◌≤◌, ◌⊎◌}, NpmCommon.{Build, Dash, Digit}}
-use Rattle.nodejs_semver.proofs.NpmCommon.{IsSpelled, IsStrictBuild, IsStrictNumber, IsStrictPreRelease, IsStrictVersion}
-use Rattle.nodejs_semver.proofs.NpmCommon.{Number, Padded, Plus, PreRelease, State, Zero, dashed, digit_value}
-use Rattle.nodejs_semver.proofs.NpmCommon.{is_strict_identifier, is_whole, next, no_build, no_pre_release, plus, run, runs_tail}
-use Rattle.nodejs_semver.proofs.{NpmCommon.tail_runs, Stopping.Read.{Whole, plain-both, plain-encodes, strict-onto}}
-use Rattle.nodejs_semver.proofs.Stopping.{Read.strict_behind, Steps.{digit-plain, identifier-more, identifier_read}}
-use Rattle.nodejs_semver.specs.{Internal.NpmStates.ended, declared.npm.flaws.State.TheVariants.{End, Start}}
-use Rattle.{semver_core.{proofs.Text.Pieces.onto_tail, specs.Internal.CommonReading.is_plain}, std.proofs.lemmas.{Int.Digits.digits_value_push, List.reverse-append}}
+use Rattle.nodejs_semver.proofs.Common.{Bool, Id, List, None, Option, Some, VersionValue, [], and_parts, ap, append-nil, append_assoc}
+use Rattle.nodejs_semver.proofs.Common.{arith, begins, cases_Bool, common_steps, encode_utf8_all, eqb-true, false, identifier_of}
+use Rattle.nodejs_semver.proofs.Common.{if◌then◌else◌, inl, inr, is_ascii_digit, is_identifier, is_identifier_char, is_whitespace}
+use Rattle.nodejs_semver.proofs.Common.{length-append, list_all, list_all-append, map, nat_lt, nat_tests, onto_first, pieces, refl}
+use Rattle.nodejs_semver.proofs.Common.{same_Some, subst, suc, sym, true, zero, ℕ, ◌*◌, ◌++◌, ◌+◌, ◌==◌, ◌||◌, ◌∙◌, ◌∷◌, ◌≡◌, ◌≤◌, ◌⊎◌}
+use Rattle.nodejs_semver.proofs.NpmCommon.{Build, Dash, Digit, IsSpelled, IsStrictBuild, IsStrictNumber, IsStrictPreRelease}
+use Rattle.nodejs_semver.proofs.NpmCommon.{IsStrictVersion, Number, Padded, Plus, PreRelease, State, Zero, dashed, digit_value}
+use Rattle.nodejs_semver.proofs.NpmCommon.{is_strict_identifier, is_whole, next, no_build, no_pre_release, plus, run, runs_tail, tail_runs}
+use Rattle.nodejs_semver.proofs.Stopping.{Read.{Whole, plain-both, plain-encodes, strict-onto, strict_behind}, Steps.digit-plain}
+use Rattle.nodejs_semver.{proofs.Stopping.Steps.{identifier-more, identifier_read}, specs.Internal.NpmStates.ended}
+use Rattle.{nodejs_semver.specs.declared.npm.flaws.State.TheVariants.{End, Start}, semver_core.proofs.Text.Pieces.onto_tail}
+use Rattle.{semver_core.specs.Internal.CommonReading.is_plain, std.proofs.lemmas.{Int.Digits.digits_value_push, List.reverse-append}}
 use Rattle.std.specs.Prelude.{reverse}
 
 -- ---- steps

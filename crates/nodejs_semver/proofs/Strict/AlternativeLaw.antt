@@ -1,6 +1,6 @@
 -- The alternatives of node-semver's range texts: the function that reads them finds exactly what the statement has.
 use Rattle.nodejs_semver.proofs.Common.{AllByRecursion, Bool, IsBlank, IsUtf8, List, None, Some, [], after_spaces, all_weaker, and_parts}
-use Rattle.nodejs_semver.proofs.Common.{ap, append-nil, append_assoc, arith, begins, bind_some, cases_Bool, common_steps, cut_bars}
+use Rattle.nodejs_semver.proofs.Common.{ap, append-nil, append_assoc, arith, begins, bind_some, cases_Bool, common_steps}
 use Rattle.nodejs_semver.proofs.Common.{drop_spaces, drop_spaces-blank, drop_spaces-none, false, inl, inr, is_empty, length, list_all, map}
 use Rattle.nodejs_semver.proofs.Common.{middle_is_trim, nat_tests, not, or_right, refl, same_Some, space_len, subst, suc, sym, take, trim}
 use Rattle.nodejs_semver.proofs.Common.{trim_is_middle, true, zero, ℕ, ◌&&◌, ◌++◌, ◌-◌, ◌<◌, ◌==◌, ◌||◌, ◌↔◌, ◌∙◌, ◌∷◌, ◌≡◌}

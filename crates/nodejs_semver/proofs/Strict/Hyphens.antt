@@ -4,15 +4,14 @@ use Rattle.nodejs_semver.proofs.Common.{bind_some, cases_Bool, common_steps, con
 use Rattle.nodejs_semver.proofs.Common.{encode_utf8_all, false, inl, inr, is_empty, is_whitespace, len_utf8_bounds, length, length-encode}
 use Rattle.nodejs_semver.proofs.Common.{list_all, nat_tests, refl, space_len, space_len-nil, subst, suc, sym, take, true, zero, ℕ, ◌++◌}
 use Rattle.nodejs_semver.proofs.{Common.{◌-◌, ◌<◌, ◌||◌, ◌∙◌, ◌∷◌, ◌≡◌, ◌⊎◌}, NpmCommon.{AreMarks, Ended, IsAlternative, IsPartial}}
-use Rattle.nodejs_semver.proofs.NpmCommon.{after_byte, after_ends, are_whole_marks, drop_ends, encode_ascii, end_front}
-use Rattle.nodejs_semver.proofs.NpmCommon.{ended_end, hyphen_comparisons, hyphen_ends, is_free_lower, is_free_upper, is_mark, is_one_v}
-use Rattle.nodejs_semver.proofs.{NpmCommon.{last_end, len_utf8, space_len-white}, Reading.Bytes.{begins_component, component-solid}}
-use Rattle.nodejs_semver.proofs.{Reading.{Bytes.{is_solid, solid-dark}, WordLaw.{byte-is, tail-utf8}}, Strict.PartialLaw.partial-found}
-use Rattle.nodejs_semver.proofs.Strict.{PartialLaw.partial-read, Signs.{blank-at, blank-skipped}, VersionLaw.empty-is, Words.blank-some}
-use Rattle.nodejs_semver.proofs.Strict.Words.{blank-space, front-text, partial-begins, rest-utf8, space-boundary}
-use Rattle.nodejs_semver.specs.{Internal.{NpmWords.{after_dash, partial_front}, Words.after_some_space}, Npm.RangeText.hyphen}
-use Rattle.{nodejs_semver.specs.Npm.Table.Partial, semver_core.proofs.Text.SpaceLaw.space_len-dark}
-use Rattle.std.proofs.lemmas.Str.{IsUtf8-past_char, encode_same}
+use Rattle.nodejs_semver.proofs.NpmCommon.{after_byte, after_ends, are_whole_marks, drop_ends, encode_ascii, end_front, ended_end}
+use Rattle.nodejs_semver.proofs.NpmCommon.{hyphen_comparisons, hyphen_ends, is_free_lower, is_free_upper, is_mark, is_one_v, last_end}
+use Rattle.nodejs_semver.proofs.{NpmCommon.{len_utf8, space_len-white}, Reading.Bytes.{begins_component, component-solid, is_solid}}
+use Rattle.nodejs_semver.proofs.{Reading.{Bytes.solid-dark, WordLaw.{byte-is, tail-utf8}}, Strict.PartialLaw.{partial-found, partial-read}}
+use Rattle.nodejs_semver.proofs.Strict.{Signs.{blank-at, blank-skipped}, VersionLaw.empty-is, Words.{blank-some, blank-space, front-text}}
+use Rattle.nodejs_semver.{proofs.Strict.Words.{partial-begins, rest-utf8, space-boundary}, specs.Internal.NpmWords.after_dash}
+use Rattle.nodejs_semver.specs.{Internal.{NpmWords.partial_front, Words.after_some_space}, Npm.{RangeText.hyphen, Table.Partial}}
+use Rattle.{semver_core.proofs.Text.SpaceLaw.space_len-dark, std.proofs.lemmas.Str.{IsUtf8-past_char, encode_same}}
 
 -- ---- marks and whitespace at the front
 

@@ -1,20 +1,19 @@
 -- The malformed words that are ignored are no well-formed ones.
-use Rattle.nodejs_semver.proofs.Common.{Bool, Id, IsBlank, IsIdentifiers, List, Option, Some, [], above, all_weaker, and-false, and_from}
-use Rattle.nodejs_semver.proofs.Common.{and_parts, ap, append-nil, append_assoc, arith, at_most, begins, below, cases_Bool, common_steps}
-use Rattle.nodejs_semver.proofs.Common.{drop, drop_all, encode_utf8, encode_utf8_all, ends, eqb-true, equal, false, get_or, inl, inr}
-use Rattle.nodejs_semver.proofs.Common.{is_ascii_digit, is_boundary, is_empty, is_identifier_char, is_whitespace, le-ltb, length, length-drop, list_all}
-use Rattle.nodejs_semver.proofs.Common.{list_all-append, list_any, lt-ltb, nat_tests, not, not-true, pieces, prefix_len, refl, space_len}
-use Rattle.nodejs_semver.proofs.Common.{suc, sym, take, take-append-drop, true, zero, ℕ, ◌&&◌, ◌++◌, ◌+◌, ◌-◌, ◌<◌, ◌==◌, ◌||◌, ◌∙◌, ◌∷◌}
-use Rattle.nodejs_semver.proofs.{Common.{◌≡◌, ◌≤◌, ◌⊎◌}, NpmCommon.{IsPartial, IsPlace, IsSignText, IsStrictBuild, after_dot, are_first}}
-use Rattle.nodejs_semver.proofs.NpmCommon.{at_least, bare, begins_malformed, bytes_eq, caret_equal, compared, dashed, encode_ascii, has_zeros}
-use Rattle.nodejs_semver.proofs.NpmCommon.{ignored_front, is_malformed, is_mark, is_visible, late_above, late_below, may_stand, no_build}
-use Rattle.nodejs_semver.proofs.NpmCommon.{no_pre_release, no_sign, one}
+use Rattle.nodejs_semver.proofs.Common.{Bool, Id, IsBlank, IsIdentifiers, List, Option, Some, [], all_weaker, and-false, and_from}
+use Rattle.nodejs_semver.proofs.Common.{and_parts, ap, append-nil, append_assoc, arith, begins, cases_Bool, common_steps, drop, drop_all}
+use Rattle.nodejs_semver.proofs.Common.{encode_utf8, encode_utf8_all, ends, equal, false, get_or, inl, inr, is_ascii_digit, is_boundary}
+use Rattle.nodejs_semver.proofs.Common.{is_empty, is_identifier_char, is_whitespace, le-ltb, length, length-drop, list_all, list_all-append}
+use Rattle.nodejs_semver.proofs.Common.{list_any, lt-ltb, nat_tests, not, not-true, pieces, prefix_len, refl, space_len, suc, sym, take}
+use Rattle.nodejs_semver.proofs.Common.{take-append-drop, true, zero, ℕ, ◌&&◌, ◌++◌, ◌+◌, ◌-◌, ◌<◌, ◌==◌, ◌||◌, ◌∙◌, ◌∷◌, ◌≡◌, ◌≤◌, ◌⊎◌}
+use Rattle.nodejs_semver.proofs.NpmCommon.{IsPartial, IsPlace, IsSignText, IsStrictBuild, after_dot, are_first, bare, begins_malformed}
+use Rattle.nodejs_semver.proofs.NpmCommon.{bytes_eq, caret_equal, compared, dashed, encode_ascii, has_zeros, ignored_front, is_malformed}
+use Rattle.nodejs_semver.proofs.NpmCommon.{is_mark, is_visible, late_above, late_below, may_stand, no_build, no_pre_release, no_sign, one}
 use Rattle.nodejs_semver.proofs.NpmCommon.{or-true, plus, runs_tail, sign, spelling, tail_runs, take_while, three, tilde_twice, two}
 use Rattle.nodejs_semver.proofs.Reading.Bytes.{all-end, all-join, begins-on, begins_component, ends-append, ends-some}
-use Rattle.nodejs_semver.{proofs.Strict.Places.prefix-all, specs.{Internal.Fronts.is_wildcard, Npm.Malformed.{begins_place, begins_places}}}
-use Rattle.nodejs_semver.specs.Npm.Malformed.{behind_sign, has_four_parts, is_first, is_inner, is_last}
-use Rattle.nodejs_semver.specs.Npm.{Grammar.IsPreRelease, Malformed.{is_regular, is_sign, last_visible}}
-use Rattle.{nodejs_semver.specs.Npm.{RangeText.tilde_sign, Table.{Partial, Sign}}, semver_core.{proofs.Text.{Listed.plain_runs, Pieces.tail_onto}, specs.Internal.CommonReading.is_plain}}
+use Rattle.nodejs_semver.{proofs.Strict.Places.prefix-all, specs.{Internal.Fronts.is_wildcard, Npm.Grammar.IsPreRelease}}
+use Rattle.nodejs_semver.specs.Npm.Malformed.{begins_place, begins_places, behind_sign, has_four_parts, is_first, is_inner, is_last}
+use Rattle.nodejs_semver.specs.Npm.{Malformed.{is_regular, is_sign, last_visible}, RangeText.tilde_sign, Table.{Partial, Sign}}
+use Rattle.semver_core.{proofs.Text.{Listed.plain_runs, Pieces.tail_onto}, specs.Internal.CommonReading.is_plain}
 use Rattle.std.proofs.{Common.add-one, Math.Seq.drop-cons, lemmas.List.Folds.list_all_at}
 use Rattle.nodejs_semver.specs.Npm.RangeText as Text
 

@@ -1,7 +1,7 @@
 -- Numbers without leading zeros: what is read is written, and what is written is read.
-use Rattle.nodejs_semver.proofs.Common.{Front, IsPieceAt, IsWholeNumber, List, MAX_SAFE_INTEGER, NoPieceAt, None, Some, [], ap, arith, begins, bind_some}
+use Rattle.nodejs_semver.proofs.Common.{Front, IsPieceAt, IsWholeNumber, List, MAX_SAFE_INTEGER, NoPieceAt, None, Some, ap, arith, begins, bind_some}
 use Rattle.nodejs_semver.proofs.Common.{cases_Bool, common_steps, decimal, drop, false, inl, inr, is_ascii_digit, length}
-use Rattle.nodejs_semver.proofs.Common.{list_all, nat_tests, refl, take, take_rest, true, ℕ, ◌++◌, ◌-◌, ◌<◌, ◌==◌, ◌^◌, ◌∙◌, ◌∷◌, ◌≡◌, ◌≤◌}
+use Rattle.nodejs_semver.proofs.Common.{list_all, nat_tests, refl, take, take_rest, true, ℕ, ◌++◌, ◌-◌, ◌<◌, ◌^◌, ◌∙◌, ◌∷◌, ◌≡◌, ◌≤◌}
 use Rattle.nodejs_semver.proofs.NpmCommon.{IsStrictNumber, after_byte, begins_padded, digits_value, dotted_number, has_leading_zero, number_front}
 use Rattle.nodejs_semver.proofs.{NpmCommon.strict_number, Reading.{Numbers.{front_none, front_some, number-found, number-read}, WordLaw.byte-is}}
 use Rattle.{semver_core.proofs.Text.Runs.numerals, std.proofs.lemmas.Fmt.{decimal-digits_value, length-decimal-le}}

@@ -1,14 +1,13 @@
 -- Partial versions of node-semver's range texts: the function that reads them finds exactly what the statement has.
 use Rattle.nodejs_semver.proofs.Common.{Bool, Front, Id, List, None, Option, Some, [], and_parts, append_assoc, arith, begins, bind_some}
-use Rattle.nodejs_semver.proofs.Common.{cases_Bool, common_steps, drop, false, inl, inr, is_ascii_digit, is_boundary, nat_tests}
-use Rattle.nodejs_semver.proofs.{Common.{refl, true, ℕ, ◌&&◌, ◌++◌, ◌∷◌, ◌≡◌}, NpmCommon.{IsPartial, IsPlace, IsStrictBuild}}
-use Rattle.nodejs_semver.proofs.NpmCommon.{build_front, dotted_patch, dotted_place, has_zeros, may_stand, one, partial_of, place_front, pre_front, qualified_partial, second_front}
-use Rattle.nodejs_semver.proofs.{NpmCommon.{third_front, three, two}, Reading.Bytes.{is_solid, solid-dark}}
+use Rattle.nodejs_semver.proofs.Common.{cases_Bool, common_steps, drop, false, inl, inr, is_ascii_digit, is_boundary, nat_tests, refl, true}
+use Rattle.nodejs_semver.proofs.{Common.{ℕ, ◌&&◌, ◌++◌, ◌∷◌, ◌≡◌}, NpmCommon.{IsPartial, IsPlace, IsStrictBuild, build_front, dotted_patch}}
+use Rattle.nodejs_semver.proofs.NpmCommon.{dotted_place, has_zeros, may_stand, one, partial_of, place_front, pre_front, qualified_partial}
+use Rattle.nodejs_semver.proofs.{NpmCommon.{second_front, third_front, three, two}, Reading.Bytes.{is_solid, solid-dark}}
 use Rattle.nodejs_semver.proofs.Strict.Places.{dotted_patch-found, dotted_place-found, dotted_place-read, patch-read, place-found}
 use Rattle.nodejs_semver.proofs.Strict.{Places.place-read, Qualifiers.{Ends, build-found, build-taken, ends-nil, pre-follows, pre-found}}
-use Rattle.nodejs_semver.{proofs.Strict.Qualifiers.pre-taken, specs.Internal.NpmWords.are_short_builds}
-use Rattle.nodejs_semver.specs.{Internal.NpmWords.partial_front, Npm.{Grammar.IsPreRelease, Table.Partial}}
-use Rattle.semver_core.proofs.Text.Runs.{list_len_stop}
+use Rattle.nodejs_semver.{proofs.Strict.Qualifiers.pre-taken, specs.Internal.NpmWords.{are_short_builds, partial_front}}
+use Rattle.{nodejs_semver.specs.Npm.{Grammar.IsPreRelease, Table.Partial}, semver_core.proofs.Text.Runs.list_len_stop}
 
 -- ---- nothing goes on at a boundary
 

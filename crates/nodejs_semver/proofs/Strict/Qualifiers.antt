@@ -1,5 +1,5 @@
 -- The pre-release and the build behind the numbers: what is read is written, and what is written is read.
-use Rattle.nodejs_semver.proofs.Common.{Bool, Id, IsIdentifiers, List, [], and-false, and_parts, ap, arith, begins, begins_identifier}
+use Rattle.nodejs_semver.proofs.Common.{Bool, Id, List, [], and-false, and_parts, ap, arith, begins, begins_identifier}
 use Rattle.nodejs_semver.proofs.Common.{cases_Bool, common_steps, drop, false, inl, inr, is_ascii_digit, list_len, nat_tests, refl, subst}
 use Rattle.nodejs_semver.proofs.{Common.{sym, take, take-append-drop, true, ℕ, ◌++◌, ◌==◌, ◌∙◌, ◌∷◌, ◌≡◌, ◌⊎◌}, NpmCommon.IsStrictBuild}
 use Rattle.nodejs_semver.proofs.NpmCommon.{IsStrictPreRelease, bare, begins_byte, begins_undashed, build_front, dashed, dashed_front}

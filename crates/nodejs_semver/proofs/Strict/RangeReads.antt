@@ -10,7 +10,7 @@ use Rattle.nodejs_semver.proofs.{Dividing.BarsDivide.bars_once, NpmCommon.{Accep
 use Rattle.nodejs_semver.proofs.NpmCommon.{HasAlternativesIn, IsFound, IsNarrowed, IsRangeIn, NarrowedBy, NoValue, alternative_of}
 use Rattle.nodejs_semver.proofs.NpmCommon.{alternatives_of, begins_malformed, counted, counts, hyphen_comparisons, hyphen_ends}
 use Rattle.nodejs_semver.proofs.NpmCommon.{hyphen_lower, hyphen_of, hyphen_upper, is_lost, is_unbounded, is_valid, kept, meets, nothing}
-use Rattle.nodejs_semver.proofs.NpmCommon.{or_else, satisfies, upto_patch, valid_alternative, valid_only, words_of, zero_least, ◌>>?◌}
+use Rattle.nodejs_semver.proofs.NpmCommon.{satisfies, upto_patch, valid_alternative, valid_only, words_of, zero_least, ◌>>?◌}
 use Rattle.nodejs_semver.proofs.{Reading.Steps.option-cases, Strict.AlternativeLaw.{alternative-read, alternatives_are}}
 use Rattle.nodejs_semver.proofs.Strict.{Hyphens.hyphen-found, Valid.{hyphen-valid, words-valid}, WordReads.hyphen_limited}
 use Rattle.nodejs_semver.{proofs.Strict.WordSteps.empty-append, specs.Internal.{NpmAlternatives.ranged, NpmReads.{AddsOne, AddsPart}}}

@@ -1,8 +1,8 @@
 -- Words with a number past the limit that counts have a comparator that is not valid: they may be left out as soon as they are read.
 use Rattle.nodejs_semver.proofs.Common.{Bool, Front, List, None, Option, Some, [], arith, cases_Bool, common_steps, drop_spaces, false}
-use Rattle.nodejs_semver.proofs.Common.{if◌then◌else◌, inl, inr, is_empty, list_all, list_all-append, nat_tests, refl, suc, true, zero, ℕ}
-use Rattle.nodejs_semver.proofs.{Common.{◌&&◌, ◌++◌, ◌+◌, ◌∙◌, ◌∷◌, ◌≡◌}, NpmCommon.{Comparison, Ended, Numbers, Signed, any_word, from}}
-use Rattle.nodejs_semver.proofs.NpmCommon.{hyphen_comparisons, hyphen_lower, hyphen_upper, is_small, is_valid, limited_hyphen, limited_word}
+use Rattle.nodejs_semver.proofs.Common.{if◌then◌else◌, inl, inr, is_empty, list_all, nat_tests, refl, suc, true, zero, ℕ}
+use Rattle.nodejs_semver.proofs.{Common.{◌&&◌, ◌++◌, ◌+◌, ◌∷◌, ◌≡◌}, NpmCommon.{Comparison, Ended, Numbers, Signed, any_word, from}}
+use Rattle.nodejs_semver.proofs.NpmCommon.{hyphen_comparisons, hyphen_upper, is_small, is_valid, limited_hyphen, limited_word}
 use Rattle.nodejs_semver.proofs.NpmCommon.{nat_le, under, valid_only, valid_words, word_front, ◌>>?◌}
 use Rattle.nodejs_semver.specs.{Internal.NpmWords.words_within, Npm.Table.{Partial, Sign, table}}
 
