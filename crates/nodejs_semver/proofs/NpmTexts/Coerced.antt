@@ -3,8 +3,8 @@ use Rattle.nodejs_semver.proofs.Common.{Bool, IfNone, IfSome, IsNumber, List, No
 use Rattle.nodejs_semver.proofs.Common.{begins, bind_some, cases_Bool, common_steps, drop, drop_at, false, inl, inr, is_ascii_digit, length}
 use Rattle.nodejs_semver.proofs.Common.{length-append, nat_tests, refl, same_Some, subst, sym, take, take_at, true, ℕ, ◌++◌, ◌+◌, ◌∙◌, ◌∷◌}
 use Rattle.nodejs_semver.proofs.{Common.◌≡◌, NpmCommon.{IsLeftmost, IsRightmost, IsRun, IsStrictNumber, IsTuple, IsTupleIn, NoValue}}
-use Rattle.nodejs_semver.proofs.{NpmCommon.{has_leading_zero, number_front, strict_number, tuple_release}, Reading.Numbers.digits-taken}
-use Rattle.nodejs_semver.proofs.{Reading.Numbers.{number-is, number-read}, Strict.Numbers.{padded-same, strict-read}}
+use Rattle.nodejs_semver.proofs.{NpmCommon.{has_leading_zero, number_front, strict_number, tuple_release}, NpmTexts.Tuples.Found}
+use Rattle.nodejs_semver.proofs.{Reading.Numbers.{digits-taken, number-is, number-read}, Strict.Numbers.{padded-same, strict-read}}
 use Rattle.nodejs_semver.specs.{Internal.NpmTuples.{HasNoTuple, number_in_reading}, Npm.Coerced.{IsCoerced, IsRelease}}
 use Rattle.nodejs_semver.specs.Npm.Coerced as Npm
 
@@ -106,9 +106,6 @@ rightmost-unique = record {
 
 abbrev pub Number : Type 1
 Number = List ℕ → ℕ → Type 0
-
-abbrev pub Found : Chosen → List ℕ → List ℕ → Type 0
-Found C text tuple = (front back : List ℕ) × IsTupleIn text front tuple back × C text front tuple back
 
 module _ (zeros : Bool) (limit : ℕ) (N : Number) (C : Chosen) (text tuple : List ℕ) (reads : Reads zeros limit N) (f : Found C text tuple) where
   pub coerced_some : IfSome (tuple_release zeros limit tuple) (IsCoerced C N text)

@@ -361,13 +361,7 @@ version-written limit mark cs nine plain is w =
     record {
       middle = middle;
       after = q.after;
-      version = record {
-        major = a.n;
-        minor = b.n;
-        patch = c.n;
-        pre_release = q.is.0;
-        build = q.build_is.0;
-      };
+      version = record { major = a.n; minor = b.n; patch = c.n; pre_release = q.is.0; build = q.build_is.0 };
       divided = joined mark cs a.digits a.rest a.behind.0 b.digits b.rest b.behind.0 c.digits c.rest q.text q.build q.after
           a.divided a.behind.1 b.divided b.behind.1 c.divided q.divided;
       plain = grind (arith, plain-both);

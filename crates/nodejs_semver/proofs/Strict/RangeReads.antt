@@ -385,8 +385,7 @@ all-valid loose include (text ∷ texts) = go (all-valid loose include texts) (a
     invalid : (cs : List Comparison) (o : Option (List (List Comparison))) → list_all (is_valid MAX_SAFE_INTEGER) cs ≡ false
         → is_lost loose text cs ≡ false
         → None ≡ ((o >>? λ rest. Some (kept loose text cs rest)) >>? λ ls. if list_all (list_all (is_valid MAX_SAFE_INTEGER)) ls then Some ls else None)
-    invalid cs None h k = refl
-    invalid cs (Some ls) h k = rw (k, h) refl
+    invalid cs o h k = grind (arith, nat_tests, common_steps)
 
     regular-of : (cs : List Comparison) → list_all (is_valid MAX_SAFE_INTEGER) cs ≡ false → is_lost loose text cs ≡ false
     regular-of cs h = grind (arith, nat_tests, common_steps)
