@@ -178,13 +178,7 @@ patch-exact digits rest h k = grind (arith, nat_tests, common_steps, digits-take
 patch-read : (limit : ℕ) (digits rest : List ℕ) (n : ℕ) → IsNumber limit digits n → Follows true rest
     → loose_patch limit (46 ∷ (digits ++ rest)) ≡ Some (n, rest)
 unfolding loose_patch patch_front
-patch-read limit digits rest n h follows =
-    rw (
-      patch-exact digits rest h.each follows,
-      take_at digits rest (length digits) refl,
-      number-of limit digits n h,
-      drop_at digits rest (length digits) refl,
-    ) refl
+patch-read limit digits rest n h follows = grind (arith, drop_at, number-of, patch-exact, take_at)
 
 follows : (p b : List ℕ) (l m : List Id) → IsPreRelease true (λ ids. true) p l → IsStrictBuild b m → Follows true (p ++ b)
 follows p b l m h k =

@@ -248,17 +248,7 @@ pub part-added : (loose : Bool) (include : Bool) (text : List ℕ) (a : Alternat
     → (loose && (a.is_bare && (begins_malformed text && ends_malformed text))) ≡ false
     → after ≡ before ++ option_to_list a.interval
     → AddsPart loose include text (valid_alternative loose include text) was true before after
-part-added loose include text a was before after h l e =
-    let f = found-some include (valid_alternative loose include text) a h in
-    let regular : is_lost loose text f.0 ≡ false = rw f.2.1 at l in
-    rw (f.1, regular) (
-      refl,
-      λ ls l. record {
-        intervals = l.intervals ++ a.interval ∷ [];
-        narrowed = narrowed-append include ls l.intervals f.0 a.interval l.narrowed f.2.0;
-        are = e ∙ ap (λ (s : List (Span VersionValue)). s ++ option_to_list a.interval) l.are ∙ sym (flat-append l.intervals a.interval);
-      },
-    )
+part-added loose include text a was before after h l e = grind (arith, flat-append, found-some, narrowed-append)
 
 -- ---- the alternatives, up to a rest of the text
 

@@ -361,12 +361,7 @@ sign-taken loose signs s p marks x u (late_below y h) m none k =
 sign-taken loose signs s p marks x u (caret_equal y z h l) m none k =
     grind (arith, nat_tests, common_steps, append_assoc, blank-skipped, dark-byte, kept, opens, marks-all)
 sign-taken loose signs s p marks x u (tilde_sign c y z h l (inr (inr e))) m none k = grind (arith, nat_tests, common_steps, append_assoc, blank-skipped, dark-byte, kept, marks-all, no_greater-left, opens)
-sign-taken loose signs s p marks x u (tilde_sign c y z h l (inl e)) m none k =
-    let t = marks ++ u in
-    let each = marks-all loose tilde p marks m in
-    let o = opens marks u each k in
-    rw (e, append_assoc y (62 ∷ z) t, one_greater-left y (z ++ t) t h (blank-skipped z t l o.dark) o.greater)
-    (tilde-taken loose p marks x (skip_greater (z ++ t)) u (greater-left z marks u l each k))
+sign-taken loose signs s p marks x u (tilde_sign c y z h l (inl e)) m none k = grind (arith, append_assoc, blank-skipped, greater-left, marks-all, one_greater-left, opens, tilde-taken)
 sign-taken loose signs s p marks x u (tilde_sign c y z h l (inr (inl e))) m none k = grind (arith, nat_tests, common_steps, append_assoc, blank-skipped, dark-byte, drop_spaces-none, kept, marks-all, one_greater-left, opens)
 sign-taken loose signs s p marks x u (tilde_twice c y z h some l (inl e)) m none k = grind (arith, nat_tests, common_steps, append_assoc, greater-left, marks-all, tilde-taken, twice-left)
 sign-taken loose signs s p marks x u (tilde_twice c y z h some l (inr e)) m none k = grind (arith, nat_tests, common_steps, append_assoc, blank-skipped, kept, marks-all, opens, twice-left)

@@ -176,12 +176,7 @@ ends_le text = ends_le-from 0 text
 end-limited : (loose : Bool) (limit : ℕ) (free : Partial → Bool) (text behind : List ℕ) (o : Front Partial)
     → limited_end limit (o >>? λ p. ended_end loose free text behind p) ≡ (limited limit o >>? λ p. ended_end loose free text behind p)
 end-limited loose limit free text behind None = refl
-end-limited loose limit free text behind (Some p) =
-    let test = free p.0 || are_whole_marks loose (take (length text - length behind) text) in
-    elim (cases_Bool test) [
-      | inl good ↦ elim (cases_Bool (is_small limit p.0)) [ inl small ↦ rw (good, small, good) refl | inr big ↦ rw (good, big) refl ]
-      | inr bad ↦ elim (cases_Bool (is_small limit p.0)) [ inl small ↦ rw (bad, small, bad) refl | inr big ↦ rw (bad, big) refl ]
-    ]
+end-limited loose limit free text behind (Some p) = grind (arith)
 
 pub end_here : (loose : Bool) (free : Partial → Bool) (text behind : List ℕ) (o : Front Partial) → behind ≡ drop_ends text
     → o ≡ counted_front loose MAX_SAFE_INTEGER behind
