@@ -1,19 +1,17 @@
 -- Two comparisons beside each other, of which one may be of a pre-release.
-use Rattle.nodejs_semver.proofs.Common.{After, Before, Bool, Bound, Comparator, Greater, Id, IfSome, List, MAX_SAFE_INTEGER}
-use Rattle.nodejs_semver.proofs.Common.{Numeric, Ordering, Partial, Some, Span, Unbounded, VersionValue, [], above, and-true}
-use Rattle.nodejs_semver.proofs.Common.{and_parts, ap, append-nil, arith, at_most, below, cases_Bool, common_steps, compare}
-use Rattle.nodejs_semver.proofs.Common.{eqb-true, equal, false, first_so, holds, inl, inr, interval, is_empty, is_eq, is_ge}
-use Rattle.nodejs_semver.proofs.Common.{is_interval, is_le, is_lt, is_release, lets_in, list_all, list_all-append, meet}
-use Rattle.nodejs_semver.proofs.Common.{nat_tests, not, not-true, ordering_reverse, ordering_then, pre_cmp, precedence, refl}
-use Rattle.nodejs_semver.proofs.Common.{same_triple, subst, sym, table, true, version_of, ℕ, ◌&&◌, ◌++◌, ◌+◌, ◌==◌, ◌||◌, ◌∙◌}
-use Rattle.nodejs_semver.proofs.{Common.{◌∷◌, ◌≡◌}, NpmCommon.{Comparison, IsPartial, IsPlainPartial, Numbers, at_least}}
-use Rattle.nodejs_semver.proofs.NpmCommon.{compared, from, is_firm, is_plain, is_valid, is_zero, may_have, npm_partial, release}
-use Rattle.nodejs_semver.proofs.{NpmCommon.{under, zero_least}, Algebra.Gate.{both, in_two_steps, lt_is, same_triple_is}}
-use Rattle.nodejs_semver.proofs.{Algebra.Gate.{triple_cmp, triple_total}, Alike.Ends.{IsWithin, Low, any_low, from_low}}
-use Rattle.nodejs_semver.proofs.Alike.Ends.{from_lower, ge_is, lower-before, meets-both, most_major, most_minor, named_by}
-use Rattle.nodejs_semver.proofs.Alike.Ends.{passed, passed-both, put, to_upper, under-exact, upper-after, upper-before}
-use Rattle.nodejs_semver.proofs.Alike.{Ends.{whole_above, whole_below, whole_equal, whole_low, whole_most}, Rows.{Form, Good}}
-use Rattle.nodejs_semver.proofs.Alike.Rows.{SameWord, any, form, one, partial, signed-good, text-spelled, three, two}
+use Rattle.nodejs_semver.proofs.{Algebra.Gate.{both, in_two_steps, lt_is, same_triple_is, triple_cmp, triple_total}, Alike.Ends.IsWithin}
+use Rattle.nodejs_semver.proofs.Alike.Ends.{Low, any_low, from_low, from_lower, ge_is, lower-before, meets-both, most_major, most_minor}
+use Rattle.nodejs_semver.proofs.Alike.Ends.{named_by, passed, passed-both, put, to_upper, under-exact, upper-after, upper-before}
+use Rattle.nodejs_semver.proofs.Alike.{Ends.{whole_above, whole_below, whole_equal, whole_low, whole_most}, Rows.{Form, Good, SameWord}}
+use Rattle.nodejs_semver.proofs.{Alike.Rows.{any, form, one, partial, signed-good, text-spelled, three, two, version}, Common.After}
+use Rattle.nodejs_semver.proofs.Common.{Before, Bool, Bound, Comparator, Greater, Id, IfSome, List, MAX_SAFE_INTEGER, Numeric, Ordering}
+use Rattle.nodejs_semver.proofs.Common.{Partial, Some, Span, Unbounded, VersionValue, [], above, and-true, and_parts, ap, append-nil, arith}
+use Rattle.nodejs_semver.proofs.Common.{at_most, below, cases_Bool, common_steps, compare, eqb-true, equal, false, first_so, holds, inl}
+use Rattle.nodejs_semver.proofs.Common.{inr, interval, is_empty, is_eq, is_ge, is_interval, is_le, is_lt, is_release, lets_in, list_all}
+use Rattle.nodejs_semver.proofs.Common.{list_all-append, meet, nat_tests, not, not-true, ordering_reverse, ordering_then, pre_cmp}
+use Rattle.nodejs_semver.proofs.Common.{precedence, refl, same_triple, subst, sym, table, true, version_of, ℕ, ◌&&◌, ◌++◌, ◌+◌, ◌==◌, ◌||◌}
+use Rattle.nodejs_semver.proofs.{Common.{◌∙◌, ◌∷◌, ◌≡◌}, NpmCommon.{Comparison, IsPartial, IsPlainPartial, Numbers, at_least, compared}}
+use Rattle.nodejs_semver.proofs.NpmCommon.{from, is_firm, is_plain, is_valid, is_zero, may_have, npm_partial, release, under, zero_least}
 use Rattle.nodejs_semver.{proofs.Strict.Narrowing.{holds-both, lets_in-both}, specs.Npm.{Alike.is_apart, Table.lowest}}
 use Rattle.semver_core.specs.Internal.OrderLaws.{pre_total}
 use Rattle.nodejs_semver.specs.Npm.Ranges as Npm
@@ -133,57 +131,31 @@ module _ (pre : Bool) (v : VersionValue) (within : IsWithin MAX_SAFE_INTEGER v) 
       → holds precedence (record { lower = Unbounded; upper = u }) v ≡ passed v (under n ∷ [])
   upper-held u n h = held-both v Unbounded u [] (under n ∷ []) refl h
 
-  least-rows : Rows at_least
-  unfolding table
-  least-rows p any m t h k = least-held (release (0, 0, 0)) [] (any_low v) (λ _. not-true _ k)
-  least-rows p (one M) m t h k = lower-held (M, 0, 0) h (λ _. not-true _ k)
-  least-rows p (two M n) m t h k = lower-held (M, n, 0) h (λ _. not-true _ k)
-  least-rows p (three M n o x y e) m t h k =
-      let w : VersionValue = record { major = M; minor = n; patch = o; pre_release = x; build = y } in
-      least-held w (put at_least w text ∷ []) (whole_low v w text (text-spelled text w t)) (λ z. one_so _ _ k (zero-bare M n o x y z))
-
-  above-rows : Rows above
-  unfolding table
-  above-rows p any m t h k = cc m
-  above-rows p (one M) m t h k = lower-held (M + 1, 0, 0) h (λ z. absurd (positive M (and_parts (M + 1 == 0) _ z).0))
-  above-rows p (two M n) m t h k =
-      lower-held (M, n + 1, 0) h (λ z. absurd (positive n (and_parts (n + 1 == 0) _ (and_parts (M == 0) _ z).1).0))
-  above-rows p (three M n o x y e) m t h k =
-      (whole_above v (record { major = M; minor = n; patch = o; pre_release = x; build = y }) text).held
-
-  equal-rows : Rows equal
-  unfolding table
-  equal-rows p any m t h k = cc m
-  equal-rows p (one M) m t h k = band-held (M, 0, 0) (M + 1, 0, 0) h (not-true _ k)
-  equal-rows p (two M n) m t h k = band-held (M, n, 0) (M, n + 1, 0) h (not-true _ k)
-  equal-rows p (three M n o x y e) m t h k =
-      (whole_equal v (record { major = M; minor = n; patch = o; pre_release = x; build = [] }) y text).held
-
-  most-rows : Rows at_most
-  unfolding table
-  most-rows p any m t h k = cc m
-  most-rows p (one M) m t h k = upper-held (After (release (M, MAX_SAFE_INTEGER, MAX_SAFE_INTEGER))) (M + 1, 0, 0)
-      (most-held v (M, MAX_SAFE_INTEGER, MAX_SAFE_INTEGER) (M + 1, 0, 0) r (most_major v MAX_SAFE_INTEGER M within.minor within.patch))
-  most-rows p (two M n) m t h k = upper-held (After (release (M, n, MAX_SAFE_INTEGER))) (M, n + 1, 0)
-      (most-held v (M, n, MAX_SAFE_INTEGER) (M, n + 1, 0) r (most_minor v MAX_SAFE_INTEGER M n within.patch))
-  most-rows p (three M n o x y e) m t h k =
-      (whole_most v (record { major = M; minor = n; patch = o; pre_release = x; build = y }) text).held
-
-  below-rows : Rows below
-  unfolding table
-  below-rows p any m t h k = cc m
-  below-rows p (one M) m t h k = upper-held (Before (release (M, 0, 0))) (M, 0, 0)
-      (upper-before (release (M, 0, 0)) v ∙ apart-lt v (M, 0, 0) (not-true _ k) ∙ sym (and-true _))
-  below-rows p (two M n) m t h k = upper-held (Before (lowest (M, n, 0))) (M, n, 0) (under-exact v (M, n, 0)).tested
-  below-rows p (three M n o x y e) m t h k =
-      (whole_below v (record { major = M; minor = n; patch = o; pre_release = x; build = y }) text).held
-
   pub compared-held : (d : Comparator) → Rows d
-  compared-held at_least = least-rows
-  compared-held above = above-rows
-  compared-held equal = equal-rows
-  compared-held at_most = most-rows
-  compared-held below = below-rows
+  unfolding table
+  compared-held at_least p any m t h k = least-held (release (0, 0, 0)) [] (any_low v) (λ _. not-true _ k)
+  compared-held d p any m t h k = cc m
+  compared-held at_least p (one M) m t h k = lower-held (M, 0, 0) h (λ _. not-true _ k)
+  compared-held at_least p (two M n) m t h k = lower-held (M, n, 0) h (λ _. not-true _ k)
+  compared-held at_least p (three M n o x y e) m t h k =
+      let w = version M n o x y in
+      least-held w (put at_least w text ∷ []) (whole_low v w text (text-spelled text w t)) (λ z. one_so _ _ k (zero-bare M n o x y z))
+  compared-held above p (one M) m t h k = lower-held (M + 1, 0, 0) h (λ z. absurd (positive M (and_parts (M + 1 == 0) _ z).0))
+  compared-held above p (two M n) m t h k =
+      lower-held (M, n + 1, 0) h (λ z. absurd (positive n (and_parts (n + 1 == 0) _ (and_parts (M == 0) _ z).1).0))
+  compared-held above p (three M n o x y e) m t h k = (whole_above v (version M n o x y) text).held
+  compared-held equal p (one M) m t h k = band-held (M, 0, 0) (M + 1, 0, 0) h (not-true _ k)
+  compared-held equal p (two M n) m t h k = band-held (M, n, 0) (M, n + 1, 0) h (not-true _ k)
+  compared-held equal p (three M n o x y e) m t h k = (whole_equal v (version M n o x []) y text).held
+  compared-held at_most p (one M) m t h k = upper-held (After (release (M, MAX_SAFE_INTEGER, MAX_SAFE_INTEGER))) (M + 1, 0, 0)
+      (most-held v (M, MAX_SAFE_INTEGER, MAX_SAFE_INTEGER) (M + 1, 0, 0) r (most_major v MAX_SAFE_INTEGER M within.minor within.patch))
+  compared-held at_most p (two M n) m t h k = upper-held (After (release (M, n, MAX_SAFE_INTEGER))) (M, n + 1, 0)
+      (most-held v (M, n, MAX_SAFE_INTEGER) (M, n + 1, 0) r (most_minor v MAX_SAFE_INTEGER M n within.patch))
+  compared-held at_most p (three M n o x y e) m t h k = (whole_most v (version M n o x y) text).held
+  compared-held below p (one M) m t h k = upper-held (Before (release (M, 0, 0))) (M, 0, 0)
+      (upper-before (release (M, 0, 0)) v ∙ apart-lt v (M, 0, 0) (not-true _ k) ∙ sym (and-true _))
+  compared-held below p (two M n) m t h k = upper-held (Before (lowest (M, n, 0))) (M, n, 0) (under-exact v (M, n, 0)).tested
+  compared-held below p (three M n o x y e) m t h k = (whole_below v (version M n o x y) text).held
 
 -- ---- a pre-release names its own numbers alone
 

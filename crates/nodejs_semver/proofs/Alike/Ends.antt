@@ -1,16 +1,14 @@
 -- A version and a span, and what it says of a list of comparators: the ends of a span, each beside comparators.
-use Rattle.nodejs_semver.proofs.Common.{After, Before, Bool, Bound, Comparator, Equal, Greater, Id, List, MAX_SAFE_INTEGER}
-use Rattle.nodejs_semver.proofs.Common.{Numeric, Ordering, Span, Unbounded, VersionValue, [], above, and-true, and_parts, ap}
-use Rattle.nodejs_semver.proofs.Common.{ap₂, arith, at_most, below, cases_Bool, codes, common_steps, empty_is, eqb-true, equal}
-use Rattle.nodejs_semver.proofs.Common.{false, filter, holds, inl, inr, is_ge, is_gt, is_interval, is_le, is_lt, is_past}
-use Rattle.nodejs_semver.proofs.Common.{is_release, lets_in, list_all, list_all-append, list_any, list_any-append, lower_cut}
-use Rattle.nodejs_semver.proofs.Common.{names, nat_tests, not, not-false, ordering_reverse, ordering_then, pre_cmp, precedence}
-use Rattle.nodejs_semver.proofs.Common.{precedence_total, refl, sym, true, upper_cut, ℕ, ◌&&◌, ◌++◌, ◌+◌, ◌==◌, ◌||◌, ◌∙◌, ◌∷◌}
-use Rattle.nodejs_semver.proofs.{Common.{◌≡◌, ◌≤◌, ◌⊎◌}, NpmCommon.{Comparison, Numbers, at_least, bytes_eq, counts}}
-use Rattle.nodejs_semver.proofs.NpmCommon.{filter-append, from, is_valid, is_within, is_zero, made, meets, release, satisfies}
-use Rattle.nodejs_semver.proofs.{NpmCommon.{under, upto_patch, version_text, zero_least}, Algebra.Gate.{in_two_steps, lt_is}}
-use Rattle.nodejs_semver.proofs.{Algebra.Gate.triple_cmp, Strict.Printed.prints_zero, Values.{past-after, past-before}}
-use Rattle.nodejs_semver.specs.Npm.Table.{lowest}
+use Rattle.nodejs_semver.proofs.{Algebra.Gate.{in_two_steps, lt_is, triple_cmp}, Common.{After, Before, Bool, Bound, Comparator, Equal}}
+use Rattle.nodejs_semver.proofs.Common.{Greater, Id, List, MAX_SAFE_INTEGER, Numeric, Ordering, Span, Unbounded, VersionValue, [], above}
+use Rattle.nodejs_semver.proofs.Common.{and-true, and_parts, ap, ap₂, arith, at_most, below, cases_Bool, codes, common_steps, empty_is}
+use Rattle.nodejs_semver.proofs.Common.{eqb-true, equal, false, filter, holds, inl, inr, is_ge, is_gt, is_interval, is_le, is_lt, is_past}
+use Rattle.nodejs_semver.proofs.Common.{is_release, lets_in, list_all, list_all-append, list_any, list_any-append, lower_cut, names}
+use Rattle.nodejs_semver.proofs.Common.{nat_tests, not, not-false, ordering_reverse, ordering_then, pre_cmp, precedence, precedence_total}
+use Rattle.nodejs_semver.proofs.Common.{refl, sym, true, upper_cut, ℕ, ◌&&◌, ◌++◌, ◌+◌, ◌==◌, ◌||◌, ◌∙◌, ◌∷◌, ◌≡◌, ◌≤◌, ◌⊎◌}
+use Rattle.nodejs_semver.proofs.NpmCommon.{Comparison, Numbers, at_least, bytes_eq, counts, filter-append, from, is_valid, is_within}
+use Rattle.nodejs_semver.proofs.NpmCommon.{is_zero, made, meets, release, satisfies, under, upto_patch, version_text, zero_least}
+use Rattle.nodejs_semver.{proofs.{Strict.Printed.prints_zero, Values.{past-after, past-before}}, specs.Npm.Table.lowest}
 use Rattle.nodejs_semver.specs.Npm.Ranges as Npm
 
 -- no number of the version is above the limit
@@ -90,10 +88,7 @@ tame-both v b u cs ds h k =
 
 pub exact-span : (v : VersionValue) (b u : Bound VersionValue) (cs ds : List Comparison) → Exact v (from_lower b v) (names b v) cs
     → Exact v (to_upper u v) (names u v) ds → ExactWord v (record { lower = b; upper = u }) (cs ++ ds)
-exact-span v b u cs ds h k = record {
-  held = rw (h.tested, k.tested) (sym (passed-both v cs ds));
-  let_in = rw (h.named, k.named) (ap (λ a. is_release v || a) (sym (named-both v cs ds)));
-}
+exact-span v b u cs ds h k = grind (arith, nat_tests, common_steps, named-both, passed-both)
 
 -- ---- the order
 
@@ -225,11 +220,7 @@ zero-release w z = grind (arith, nat_tests, common_steps)
 pub low-tame : (v w : VersionValue) (cs : List Comparison) → Low v w cs → is_release w ≡ true
     → Tame v (from_lower (Before w) v) (names (Before w) v) cs
 low-tame v w cs (inl e) h = nameless-tame v _ _ cs e (not_named w v h)
-low-tame v w cs (inr o) h = record {
-  released = λ r. lower-before w v ∙ zero_from v w r o.zero ∙ sym o.all;
-  here = ap (λ a. a && from_lower (Before w) v) (not_named w v h);
-  there = ap (λ a. a && passed v cs) o.none;
-}
+low-tame v w cs (inr o) h = grind (arith, nat_tests, common_steps, lower-before, not_named, zero_from)
 
 pub low-exact : (v w : VersionValue) (cs : List Comparison) → Low v w cs → is_release w ≡ false
     → Exact v (from_lower (Before w) v) (names (Before w) v) cs
@@ -243,11 +234,7 @@ release_lt : (v : VersionValue) (n : Numbers) → is_release v ≡ true → is_l
 release_lt v n r = grind (arith, nat_tests, common_steps)
 
 pub below-tame : (v : VersionValue) (n : Numbers) → Tame v (to_upper (Before (release n)) v) (names (Before (release n)) v) (under n ∷ [])
-below-tame v n = record {
-  released = λ r. upper-before (release n) v ∙ release_lt v n r ∙ sym (and-true _);
-  here = refl;
-  there = under-there v n;
-}
+below-tame v n = grind (arith, nat_tests, common_steps, and-true, release_lt, under-there, upper-before)
 
 then_equal : (r : Ordering) → is_le (ordering_then r Equal) ≡ is_le r
 then_equal r = grind arith
@@ -303,12 +290,6 @@ whole_equal v w build text =
     grind (arith, nat_tests, common_steps, equal_tests, from_lower, to_upper, lower-before, upper-after, equal_names)
 
 -- ---- a pre-release above 0.0.0
-
-open_bits : (t r : Ordering) → is_le (ordering_then t Greater) ≡ true → is_le (ordering_then t r) ≡ true
-open_bits t r h = grind arith
-
-upto_bits : (r s : Ordering) → is_lt (ordering_then r s) ≡ true → is_le r ≡ true
-upto_bits r s h = grind arith
 
 -- from a release to a pre-release: what that names lies above the release
 pub open-named : (v z w : VersionValue) → is_release z ≡ true → is_release w ≡ false

@@ -1,15 +1,14 @@
 -- Hyphen ranges: their ends, and both together.
-use Rattle.nodejs_semver.proofs.Common.{After, Before, Bool, Bound, List, MAX_SAFE_INTEGER, Partial, Some, Span, VersionValue}
-use Rattle.nodejs_semver.proofs.Common.{[], and_parts, arith, at_most, common_steps, false, first_so, hyphen, inl, inr}
-use Rattle.nodejs_semver.proofs.Common.{interval, is_empty, is_interval, is_release, is_some, list_all, list_all-append, names}
-use Rattle.nodejs_semver.proofs.Common.{nat_tests, precedence, refl, subst, sym, table, true, version_of, ℕ, ◌&&◌, ◌++◌, ◌+◌}
-use Rattle.nodejs_semver.proofs.{Common.{◌||◌, ◌∙◌, ◌∷◌, ◌≡◌}, NpmCommon.{Comparison, IsPartial, IsPlainPartial, from}}
+use Rattle.nodejs_semver.proofs.Alike.{Beside.interval-is, Ends.{Alike, Exact, Low, OpenLow, any_low, counted-exact, exact-span, from_low}}
+use Rattle.nodejs_semver.proofs.Alike.Ends.{from_lower, lower-before, meets-both, most-exact, named_by, nameless-tame, not_named}
+use Rattle.nodejs_semver.proofs.Alike.Ends.{open-named, passed, put, to_upper, under-exact, under-tame, upper-after, whole_low}
+use Rattle.nodejs_semver.proofs.Alike.{Ends.{zero-release, zero_from}, Rows.{Form, SameWord, any, exact-word, form, low-word, one}}
+use Rattle.nodejs_semver.proofs.{Alike.Rows.{text-spelled, three, two, version}, Common.{After, Before, Bool, Bound, List}}
+use Rattle.nodejs_semver.proofs.Common.{MAX_SAFE_INTEGER, Partial, Some, Span, VersionValue, [], and_parts, arith, at_most, common_steps}
+use Rattle.nodejs_semver.proofs.Common.{false, first_so, hyphen, inl, inr, interval, is_empty, is_interval, is_release, is_some, list_all}
+use Rattle.nodejs_semver.proofs.Common.{list_all-append, names, nat_tests, precedence, refl, subst, sym, table, true, version_of, ℕ, ◌&&◌}
+use Rattle.nodejs_semver.proofs.{Common.{◌++◌, ◌+◌, ◌||◌, ◌∙◌, ◌∷◌, ◌≡◌}, NpmCommon.{Comparison, IsPartial, IsPlainPartial, from}}
 use Rattle.nodejs_semver.proofs.NpmCommon.{hyphen_lower, hyphen_upper, is_plain, is_valid, made, npm_partial, under}
-use Rattle.nodejs_semver.proofs.Alike.{Beside.interval-is, Ends.{Alike, Exact, Low, OpenLow, any_low, counted-exact}}
-use Rattle.nodejs_semver.proofs.Alike.Ends.{exact-span, from_low, from_lower, lower-before, meets-both, most-exact, named_by}
-use Rattle.nodejs_semver.proofs.Alike.Ends.{nameless-tame, not_named, open-named, passed, put, to_upper, under-exact}
-use Rattle.nodejs_semver.proofs.Alike.{Ends.{under-tame, upper-after, whole_low, zero-release, zero_from}, Rows.Form}
-use Rattle.nodejs_semver.proofs.Alike.Rows.{SameWord, any, exact-word, form, low-word, one, text-spelled, three, two}
 use Rattle.nodejs_semver.specs.Npm.Table.{lowest, no_build}
 
 -- ---- the lower end
@@ -63,11 +62,11 @@ hyphen-form pre v p q cs text s low w (one M) m e = made-word pre v (version_of 
 hyphen-form pre v p q cs text s low w (two M n) m e = made-word pre v (version_of p) (Before (lowest (M, n + 1, 0))) s _ e
     (λ _. low-word pre v (version_of p) _ cs (under (M, n + 1, 0) ∷ []) w low (under-tame v _) (under-exact v _))
 hyphen-form pre v p q cs text s low w (three M n o [] y f) m e =
-    let z : VersionValue = record { major = M; minor = n; patch = o; pre_release = []; build = y } in
+    let z = version M n o [] y in
     let exact = most-exact v z text in
     made-word pre v (version_of p) (After z) s _ e (λ _. low-word pre v (version_of p) (After z) cs (put at_most z text ∷ []) w low (nameless-tame v _ _ _ exact refl) exact)
 hyphen-form pre v p q cs text s low w (three M n o (i ∷ x) y f) m e =
-    let z : VersionValue = record { major = M; minor = n; patch = o; pre_release = i ∷ x; build = y } in
+    let z = version M n o (i ∷ x) y in
     let exact : Exact v (to_upper (After z) v) (names (After z) v) (made at_most (no_build z) ∷ []) =
     counted-exact v _ _ (made at_most (no_build z)) refl (upper-after z v) refl in
     made-word pre v (version_of p) (After z) s _ e (pre-word pre v (version_of p) z cs (made at_most (no_build z) ∷ []) (one_so pre f) refl low exact)

@@ -1,19 +1,18 @@
 -- The rows of both tables, sign by sign.
-use Rattle.nodejs_semver.proofs.Common.{Before, Bool, Bound, Front, Id, IfSome, List, MAX_SAFE_INTEGER, None, Option, Partial}
-use Rattle.nodejs_semver.proofs.Common.{Some, Span, Unbounded, VersionValue, Word, [], above, ap, ap₂, arith, at_most, below}
-use Rattle.nodejs_semver.proofs.Common.{cases_Bool, codes, equal, false, first_so, inl, inr, is_empty, is_release, list_all}
-use Rattle.nodejs_semver.proofs.Common.{names, nat_tests, plain, refl, subst, suc, sym, table, true, zero, ℕ, ◌&&◌, ◌++◌, ◌+◌}
-use Rattle.nodejs_semver.proofs.{Common.{◌==◌, ◌||◌, ◌∙◌, ◌∷◌, ◌≡◌}, NpmCommon.{Comparison, IsPartial, IsPlainWord, Numbers}}
-use Rattle.nodejs_semver.proofs.NpmCommon.{at_least, build_front, bytes_eq-Decides, compared, dashed_front, dotted_patch}
-use Rattle.nodejs_semver.proofs.NpmCommon.{dotted_place, from, is_plain, is_valid, is_zero, listed, made, may_have, minor}
-use Rattle.nodejs_semver.proofs.NpmCommon.{next_changed, npm_partial, or-true, patch_place, place_front, pre_front}
-use Rattle.nodejs_semver.proofs.{NpmCommon.{qualified_partial, release, signed, under, whole}, Alike.Ends.{Alike, Exact}}
-use Rattle.nodejs_semver.proofs.Alike.Ends.{ExactWord, IsWithin, Low, Released, Spelled, Tame, any_low, apart_bits, below-tame}
-use Rattle.nodejs_semver.proofs.Alike.Ends.{exact-span, free-exact, free-tame, from_low, from_lower, low-exact, low-tame}
-use Rattle.nodejs_semver.proofs.Alike.Ends.{made-spelled, meets-both, most-tame, most_major, most_minor, named_by, open-tame}
-use Rattle.nodejs_semver.proofs.Alike.Ends.{passed, put, tame-both, to_upper, under-exact, under-tame, whole_above, whole_below}
-use Rattle.nodejs_semver.proofs.{Alike.Ends.{whole_equal, whole_low, whole_most}, Strict.PartialLaw.partial-read}
-use Rattle.nodejs_semver.specs.{Internal.NpmWords.partial_front, Npm.{Alike.{bare, word_of}, Table.{Sign, lowest}}}
+use Rattle.nodejs_semver.proofs.Alike.Ends.{Alike, Exact, ExactWord, IsWithin, Low, Released, Spelled, Tame, any_low, apart_bits}
+use Rattle.nodejs_semver.proofs.Alike.Ends.{below-tame, exact-span, free-exact, free-tame, from_low, from_lower, low-exact, low-tame}
+use Rattle.nodejs_semver.proofs.Alike.Ends.{made-spelled, meets-both, most-tame, most_major, most_minor, named_by, open-tame, put}
+use Rattle.nodejs_semver.proofs.Alike.Ends.{tame-both, to_upper, under-exact, under-tame, whole_above, whole_below, whole_equal, whole_low}
+use Rattle.nodejs_semver.proofs.{Alike.Ends.whole_most, Common.{Before, Bool, Bound, Front, Id, IfSome, List, MAX_SAFE_INTEGER, None}}
+use Rattle.nodejs_semver.proofs.Common.{Option, Partial, Some, Span, Unbounded, VersionValue, Word, [], above, ap, arith, at_most, below}
+use Rattle.nodejs_semver.proofs.Common.{cases_Bool, codes, common_steps, equal, false, first_so, inl, inr, is_empty, is_release, list_all}
+use Rattle.nodejs_semver.proofs.Common.{names, nat_tests, plain, refl, subst, suc, sym, table, true, zero, ℕ, ◌&&◌, ◌++◌, ◌+◌, ◌==◌, ◌||◌}
+use Rattle.nodejs_semver.proofs.{Common.{◌∙◌, ◌∷◌, ◌≡◌}, NpmCommon.{Comparison, IsPartial, IsPlainWord, Numbers, at_least, build_front}}
+use Rattle.nodejs_semver.proofs.NpmCommon.{bytes_eq-Decides, compared, dashed_front, dotted_patch, dotted_place, from, is_plain, is_valid}
+use Rattle.nodejs_semver.proofs.NpmCommon.{is_zero, listed, made, may_have, minor, next_changed, npm_partial, or-true, patch_place}
+use Rattle.nodejs_semver.proofs.NpmCommon.{place_front, pre_front, qualified_partial, release, signed, under, whole}
+use Rattle.nodejs_semver.{proofs.Strict.PartialLaw.partial-read, specs.{Internal.NpmWords.partial_front, Npm.Alike.{bare, word_of}}}
+use Rattle.nodejs_semver.specs.Npm.Table.{Sign, lowest}
 use Rattle.nodejs_semver.specs.Npm.Table as Npm
 
 -- a span and comparators accept alike, and where no pre-release is written releases alone
@@ -26,21 +25,14 @@ Good pre v o cs = IfSome o (λ s. SameWord pre v s cs)
 
 pub tame-word : (pre : Bool) (v : VersionValue) (b u : Bound VersionValue) (cs ds : List Comparison) → Tame v (from_lower b v) (names b v) cs
     → Tame v (to_upper u v) (names u v) ds → SameWord pre v (record { lower = b; upper = u }) (cs ++ ds)
-tame-word pre v b u cs ds h k = record {
-  same = tame-both v b u cs ds h k;
-  released = λ _ r. meets-both v cs ds
-      ∙ apart_bits (is_release v) (passed v cs) (named_by v cs) (passed v ds) (named_by v ds) r h.there k.there;
-}
+tame-word pre v b u cs ds h k = grind (arith, nat_tests, common_steps, apart_bits, meets-both, tame-both)
 
 unnamed_bits : (t r n : Bool) → r ≡ false → n ≡ false → (t && (r || n)) ≡ false
 unnamed_bits t r n e f = grind arith
 
 pub exact-word : (pre : Bool) (v : VersionValue) (s : Span VersionValue) (cs : List Comparison) → ExactWord v s cs
     → (pre ≡ false → named_by v cs ≡ false) → SameWord pre v s cs
-exact-word pre v s cs e f = record {
-  same = ap₂ (λ (a b : Bool). a && b) e.held e.let_in;
-  released = λ n r. unnamed_bits (passed v cs) (is_release v) (named_by v cs) r (f n);
-}
+exact-word pre v s cs e f = grind (arith, nat_tests, common_steps, unnamed_bits)
 
 pub written : (pre r : Bool) → (pre || r) ≡ true → pre ≡ false → r ≡ true
 written pre r h e = grind arith
@@ -94,6 +86,9 @@ upper-word pre v u c h = tame-word pre v Unbounded u [] (c ∷ []) (free-tame v)
 
 abbrev pub partial : Option ℕ → Option ℕ → Option ℕ → List Id → List Id → Partial
 partial a b c x y = record { major = a; minor = b; patch = c; pre_release = x; build = y }
+
+abbrev pub version : ℕ → ℕ → ℕ → List Id → List Id → VersionValue
+version a b c x y = record { major = a; minor = b; patch = c; pre_release = x; build = y }
 
 pub data Form (pre : Bool) : Partial → Type 0 where
   any : Form pre (partial None None None [] [])
@@ -156,67 +151,11 @@ module _ (pre : Bool) (v : VersionValue) (within : IsWithin MAX_SAFE_INTEGER v) 
   plain-good p (one M) h = band-word pre v (M, 0, 0) (M + 1, 0, 0) h
   plain-good p (two M m) h = band-word pre v (M, m, 0) (M, m + 1, 0) h
   plain-good p (three M m o x y e) h =
-      let w : VersionValue = record { major = M; minor = m; patch = o; pre_release = x; build = y } in
-      whole-word pre v w _ _ e (whole_equal v w y text) (λ r. rw r refl)
+      whole-word pre v (version M m o x y) _ _ e (whole_equal v (version M m o x y) y text) (λ r. rw r refl)
 
   abbrev Rows : Sign → Type 0
   Rows s = (p : Partial) → Form pre p → may_have s p ≡ true → IsPartial false text (npm_partial p) → Valid (Npm.table false s (npm_partial p) text)
       → Good pre v (table MAX_SAFE_INTEGER (word_of s p)) (Npm.table false s (npm_partial p) text)
-
-  least-good : Rows (compared at_least)
-  unfolding table
-  least-good p any m t h = any-word pre v
-  least-good p (one M) m t h = from-word pre v (M, 0, 0) h
-  least-good p (two M n) m t h = from-word pre v (M, n, 0) h
-  least-good p (three M n o x y e) m t h =
-      let w : VersionValue = record { major = M; minor = n; patch = o; pre_release = x; build = y } in
-      low-word pre v w Unbounded (put at_least w text ∷ []) [] e (whole_low v w text (text-spelled text w t)) (free-tame v) (free-exact v)
-
-  above-good : Rows (compared above)
-  unfolding table
-  above-good p any m t h = cc m
-  above-good p (one M) m t h = from-word pre v (M + 1, 0, 0) h
-  above-good p (two M n) m t h = from-word pre v (M, n + 1, 0) h
-  above-good p (three M n o x y e) m t h =
-      let w : VersionValue = record { major = M; minor = n; patch = o; pre_release = x; build = y } in
-      whole-word pre v w _ _ e (whole_above v w text) (λ r. rw r refl)
-
-  equal-good : Rows (compared equal)
-  unfolding table
-  equal-good p any m t h = cc m
-  equal-good p (one M) m t h = band-word pre v (M, 0, 0) (M + 1, 0, 0) h
-  equal-good p (two M n) m t h = band-word pre v (M, n, 0) (M, n + 1, 0) h
-  equal-good p (three M n o x y e) m t h =
-      let w : VersionValue = record { major = M; minor = n; patch = o; pre_release = x; build = [] } in
-      whole-word pre v w _ _ e (whole_equal v w y text) (λ r. rw r refl)
-
-  most-good : Rows (compared at_most)
-  unfolding table
-  most-good p any m t h = cc m
-  most-good p (one M) m t h = upper-word pre v _ (under (M + 1, 0, 0))
-      (most-tame v _ (M + 1, 0, 0) (most_major v MAX_SAFE_INTEGER M within.minor within.patch))
-  most-good p (two M n) m t h = upper-word pre v _ (under (M, n + 1, 0))
-      (most-tame v _ (M, n + 1, 0) (most_minor v MAX_SAFE_INTEGER M n within.patch))
-  most-good p (three M n o x y e) m t h =
-      let w : VersionValue = record { major = M; minor = n; patch = o; pre_release = x; build = y } in
-      whole-word pre v w _ _ e (whole_most v w text) (λ r. rw r refl)
-
-  below-good : Rows (compared below)
-  unfolding table
-  below-good p any m t h = cc m
-  below-good p (one M) m t h = upper-word pre v _ (under (M, 0, 0)) (below-tame v (M, 0, 0))
-  below-good p (two M n) m t h = upper-word pre v _ (under (M, n, 0)) (under-tame v (M, n, 0))
-  below-good p (three M n o x y e) m t h =
-      let w : VersionValue = record { major = M; minor = n; patch = o; pre_release = x; build = y } in
-      whole-word pre v w _ _ e (whole_below v w text) (λ r. rw r refl)
-
-  tilde-good : Rows Npm.tilde
-  unfolding table
-  tilde-good p any m t h = cc m
-  tilde-good p (one M) m t h = band-word pre v (M, 0, 0) (M + 1, 0, 0) h
-  tilde-good p (two M n) m t h = band-word pre v (M, n, 0) (M, n + 1, 0) h
-  tilde-good p (three M n o x y e) m t h =
-      until-word pre v (record { major = M; minor = n; patch = o; pre_release = x; build = [] }) (M, n + 1, 0) e h
 
   -- to the next numbers in which the first one changes that is not 0
   changed-word : (w : VersionValue) (n k : Numbers) → k ≡ n → (pre || is_release w) ≡ true → Valid (made at_least w ∷ (under k ∷ []))
@@ -224,32 +163,44 @@ module _ (pre : Bool) (v : VersionValue) (within : IsWithin MAX_SAFE_INTEGER v) 
   changed-word w n k e p h = subst (λ m. SameWord pre v (record { lower = Before w; upper = Before (lowest m) }) (made at_least w ∷ (under k ∷ []))) e
       (until-word pre v w k p h)
 
-  caret-good : Rows Npm.caret
-  unfolding table
-  caret-good p any m t h = cc m
-  caret-good p (one zero) m t h = tame-word pre v Unbounded (Before (lowest (1, 0, 0))) (from false (0, 0, 0) ∷ [])
-      (under (1, 0, 0) ∷ []) (open-tame v) (under-tame v (1, 0, 0))
-  caret-good p (one (suc M)) m t h = band-word pre v (suc M, 0, 0) (suc M + 1, 0, 0) h
-  caret-good p (two zero n) m t h = band-word pre v (0, n, 0) (0, n + 1, 0) h
-  caret-good p (two (suc M) n) m t h =
-      changed-word (release (suc M, n, 0)) (suc M + 1, 0, 0) (next_changed (minor (suc M) n)) (rw (not_zero M) refl) (or-true pre) h
-  caret-good p (three zero zero o x y e) m t h =
-      until-word pre v (record { major = 0; minor = 0; patch = o; pre_release = x; build = [] }) (0, 0, o + 1) e h
-  caret-good p (three zero (suc n) o x y e) m t h =
-      let w : VersionValue = record { major = 0; minor = suc n; patch = o; pre_release = x; build = [] } in
-      changed-word w (0, suc n + 1, 0) (next_changed (whole w)) (rw (not_zero n) refl) e h
-  caret-good p (three (suc M) n o x y e) m t h =
-      let w : VersionValue = record { major = suc M; minor = n; patch = o; pre_release = x; build = [] } in
-      changed-word w (suc M + 1, 0, 0) (next_changed (whole w)) (rw (not_zero M) refl) e h
-
   pub signed-good : (s : Sign) → Rows s
-  signed-good (compared at_least) = least-good
-  signed-good (compared above) = above-good
-  signed-good (compared equal) = equal-good
-  signed-good (compared at_most) = most-good
-  signed-good (compared below) = below-good
-  signed-good Npm.caret = caret-good
-  signed-good Npm.tilde = tilde-good
+  unfolding table
+  signed-good (compared at_least) p any m t h = any-word pre v
+  signed-good s p any m t h = cc m
+  signed-good (compared at_least) p (one M) m t h = from-word pre v (M, 0, 0) h
+  signed-good (compared at_least) p (two M n) m t h = from-word pre v (M, n, 0) h
+  signed-good (compared at_least) p (three M n o x y e) m t h =
+      let w = version M n o x y in
+      low-word pre v w Unbounded (put at_least w text ∷ []) [] e (whole_low v w text (text-spelled text w t)) (free-tame v) (free-exact v)
+  signed-good (compared above) p (one M) m t h = from-word pre v (M + 1, 0, 0) h
+  signed-good (compared above) p (two M n) m t h = from-word pre v (M, n + 1, 0) h
+  signed-good (compared above) p (three M n o x y e) m t h = whole-word pre v (version M n o x y) _ _ e (whole_above v _ text) (λ r. rw r refl)
+  signed-good (compared equal) p (one M) m t h = band-word pre v (M, 0, 0) (M + 1, 0, 0) h
+  signed-good (compared equal) p (two M n) m t h = band-word pre v (M, n, 0) (M, n + 1, 0) h
+  signed-good (compared equal) p (three M n o x y e) m t h =
+      let w = version M n o x [] in whole-word pre v w _ _ e (whole_equal v w y text) (λ r. rw r refl)
+  signed-good (compared at_most) p (one M) m t h = upper-word pre v _ (under (M + 1, 0, 0))
+      (most-tame v _ (M + 1, 0, 0) (most_major v MAX_SAFE_INTEGER M within.minor within.patch))
+  signed-good (compared at_most) p (two M n) m t h = upper-word pre v _ (under (M, n + 1, 0))
+      (most-tame v _ (M, n + 1, 0) (most_minor v MAX_SAFE_INTEGER M n within.patch))
+  signed-good (compared at_most) p (three M n o x y e) m t h = whole-word pre v (version M n o x y) _ _ e (whole_most v _ text) (λ r. rw r refl)
+  signed-good (compared below) p (one M) m t h = upper-word pre v _ (under (M, 0, 0)) (below-tame v (M, 0, 0))
+  signed-good (compared below) p (two M n) m t h = upper-word pre v _ (under (M, n, 0)) (under-tame v (M, n, 0))
+  signed-good (compared below) p (three M n o x y e) m t h = whole-word pre v (version M n o x y) _ _ e (whole_below v _ text) (λ r. rw r refl)
+  signed-good Npm.tilde p (one M) m t h = band-word pre v (M, 0, 0) (M + 1, 0, 0) h
+  signed-good Npm.tilde p (two M n) m t h = band-word pre v (M, n, 0) (M, n + 1, 0) h
+  signed-good Npm.tilde p (three M n o x y e) m t h = until-word pre v (version M n o x []) (M, n + 1, 0) e h
+  signed-good Npm.caret p (one zero) m t h = tame-word pre v Unbounded (Before (lowest (1, 0, 0))) (from false (0, 0, 0) ∷ [])
+      (under (1, 0, 0) ∷ []) (open-tame v) (under-tame v (1, 0, 0))
+  signed-good Npm.caret p (one (suc M)) m t h = band-word pre v (suc M, 0, 0) (suc M + 1, 0, 0) h
+  signed-good Npm.caret p (two zero n) m t h = band-word pre v (0, n, 0) (0, n + 1, 0) h
+  signed-good Npm.caret p (two (suc M) n) m t h =
+      changed-word (release (suc M, n, 0)) (suc M + 1, 0, 0) (next_changed (minor (suc M) n)) (rw (not_zero M) refl) (or-true pre) h
+  signed-good Npm.caret p (three zero zero o x y e) m t h = until-word pre v (version 0 0 o x []) (0, 0, o + 1) e h
+  signed-good Npm.caret p (three zero (suc n) o x y e) m t h =
+      let w = version 0 (suc n) o x [] in changed-word w (0, suc n + 1, 0) (next_changed (whole w)) (rw (not_zero n) refl) e h
+  signed-good Npm.caret p (three (suc M) n o x y e) m t h =
+      let w = version (suc M) n o x [] in changed-word w (suc M + 1, 0, 0) (next_changed (whole w)) (rw (not_zero M) refl) e h
 
 pub word-good : (pre : Bool) (v : VersionValue) (text : List ℕ) (word : Word) (cs : List Comparison) → IsWithin MAX_SAFE_INTEGER v
     → IsPlainWord MAX_SAFE_INTEGER pre text word cs → list_all (is_valid MAX_SAFE_INTEGER) cs ≡ true

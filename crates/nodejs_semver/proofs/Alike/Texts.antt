@@ -1,24 +1,20 @@
 -- Plain texts: what they mean here, their alternatives to node-semver, and that both accept the same versions.
+use Rattle.nodejs_semver.proofs.Alike.{Beside.two-good, Ends.{IsWithin, within}, Hyphens.between-good, Rows.{Good, SameWord, word-good}}
 use Rattle.nodejs_semver.proofs.Common.{AllByRecursion, AreCommonParts, Bool, Comparator, IsBlank, IsSign, IsTrim, IsUtf8, List}
-use Rattle.nodejs_semver.proofs.Common.{MAX_SAFE_INTEGER, Means, Span, VersionValue, Word, [], above, accepts, any_weaker, ap}
-use Rattle.nodejs_semver.proofs.Common.{append-nil, append_assoc, ap₂, arith, at_most, below, cases_Bool, codes, common_steps}
-use Rattle.nodejs_semver.proofs.Common.{cut_bars, encode_utf8, equal, false, filter, first_so, inl, inr, is_empty, is_release}
-use Rattle.nodejs_semver.proofs.Common.{length, list_all, list_any, nat_tests, not, refl, second_so, subst, sym, trim}
-use Rattle.nodejs_semver.proofs.Common.{trim_is_middle, true, ℕ, ◌&&◌, ◌++◌, ◌<◌, ◌||◌, ◌∙◌, ◌∷◌, ◌≡◌}
-use Rattle.nodejs_semver.proofs.NpmCommon.{AreAlternatives, AreEndMarks, Comparison, HasAlternatives, IsAlternative}
-use Rattle.nodejs_semver.proofs.NpmCommon.{IsPlainText, IsPlainWord, IsSignText, IsWord, are_marks, at_least, compared, counts}
-use Rattle.nodejs_semver.proofs.NpmCommon.{is_free_lower, is_free_upper, is_valid, is_within, lit<, meets, more, none, one_word}
-use Rattle.nodejs_semver.proofs.{NpmCommon.{signed, spelling, two_words}, Alike.{Beside.two-good, Ends.{IsWithin, within}}}
-use Rattle.nodejs_semver.proofs.Alike.{Hyphens.between-good, Rows.{Good, SameWord, word-good}}
-use Rattle.nodejs_semver.proofs.Dividing.{BarsDivide.bars_divide, MeaningLaw.pieces-utf8}
-use Rattle.nodejs_semver.proofs.Everyday.Texts.{common_parts_are_denoted, compact-trim, cut-first, cut-last, list-some}
-use Rattle.nodejs_semver.proofs.{Everyday.{Texts.part-tidy, Words.{Compact, is_part_byte}}, Reading.Bytes.all-join}
-use Rattle.nodejs_semver.{proofs.Strict.{Once.alternatives_once, Rows.either_true}, specs.Npm.Alike.ArePlain}
-use Rattle.nodejs_semver.specs.Npm.{Alike.{IsPlainAlternative, bare, between, one}, RangeText.next, Ranges.IsRangeOf}
-use Rattle.nodejs_semver.specs.{Npm.Table.Sign, Text.Common.{IsCommonPart, IsCommonWord, IsGap, caret_word, compare_word}}
-use Rattle.nodejs_semver.specs.Text.Common.{comparison, hyphen_word, more_parts, one_part, plain_word, tilde_word}
-use Rattle.nodejs_semver.specs.Text.{Common.two_comparisons, WordText.{above_sign, at_least_sign, at_most_sign, below_sign}}
-use Rattle.nodejs_semver.specs.Text.WordText.{equal_sign}
+use Rattle.nodejs_semver.proofs.Common.{MAX_SAFE_INTEGER, Means, Span, VersionValue, Word, [], above, accepts, any_weaker, ap, append-nil}
+use Rattle.nodejs_semver.proofs.Common.{append_assoc, ap₂, arith, at_most, below, cases_Bool, codes, common_steps, cut_bars, encode_utf8}
+use Rattle.nodejs_semver.proofs.Common.{equal, false, filter, first_so, inl, inr, is_empty, is_release, length, list_all, list_any}
+use Rattle.nodejs_semver.proofs.Common.{nat_tests, not, refl, second_so, subst, sym, trim, trim_is_middle, true, ℕ, ◌&&◌, ◌++◌, ◌<◌, ◌||◌}
+use Rattle.nodejs_semver.proofs.{Common.{◌∙◌, ◌∷◌, ◌≡◌}, Dividing.{BarsDivide.bars_divide, MeaningLaw.pieces-utf8}}
+use Rattle.nodejs_semver.proofs.Everyday.Texts.{common_parts_are_denoted, compact-trim, cut-first, cut-last, list-some, part-tidy}
+use Rattle.nodejs_semver.proofs.{Everyday.Words.{Compact, is_part_byte}, NpmCommon.{AreAlternatives, AreMarks, Comparison, HasAlternatives}}
+use Rattle.nodejs_semver.proofs.NpmCommon.{IsAlternative, IsPlainText, IsPlainWord, IsSignText, IsWord, are_marks, at_least, compared}
+use Rattle.nodejs_semver.proofs.NpmCommon.{counts, is_free_lower, is_free_upper, is_valid, is_within, lit<, meets, more, none, one_word}
+use Rattle.nodejs_semver.proofs.{NpmCommon.{signed, spelling, two_words}, Reading.Bytes.all-join, Strict.Once.alternatives_once}
+use Rattle.nodejs_semver.{proofs.Strict.Rows.either_true, specs.Npm.Alike.{ArePlain, IsPlainAlternative, bare, between, one}}
+use Rattle.nodejs_semver.specs.{Npm.{RangeText.next, Ranges.IsRangeOf, Table.Sign}, Text.Common.{IsCommonPart, IsCommonWord, IsGap}}
+use Rattle.nodejs_semver.specs.Text.Common.{caret_word, compare_word, comparison, hyphen_word, more_parts, one_part, plain_word, tilde_word}
+use Rattle.nodejs_semver.specs.Text.{Common.two_comparisons, WordText.{above_sign, at_least_sign, at_most_sign, below_sign, equal_sign}}
 use Rattle.nodejs_semver.specs.Npm.RangeText as Npm
 use Rattle.nodejs_semver.specs.Npm.Ranges as Ranges
 use Rattle.nodejs_semver.specs.Npm.Table as Table
@@ -73,8 +69,8 @@ one_blank : IsBlank (codes " ")
 unfolding encode_utf8
 one_blank = record { characters = 32 ∷ []; each = refl; spelled = refl }
 
-no_ends : (free : Bool) → AreEndMarks false free []
-no_ends free = record { characters = []; spelled = refl; each = refl; whole = either_true free }
+no_ends : AreMarks []
+no_ends = record { characters = []; spelled = refl; each = refl }
 
 sign_text : (s : Sign) → IsSignText (spelling s) s
 sign_text s = rw append-nil at (Npm.sign s [] no_blank)
@@ -95,8 +91,8 @@ part-is limit pre text s cs (two_words c d x y p q a b m hp mp ep hq mq eq e apa
     Npm.words _ _ (Npm.more _ (codes " ") _ _ _ (word-is false limit pre _ _ _ (signed (compared c) x p hp mp)) one_blank (lit< tt)
     (Npm.last _ _ (word-is true limit pre _ _ _ (signed (compared d) y q hq mq))))
 part-is limit pre text s cs (between x y p q m h k some e) =
-    Npm.hyphen [] x (codes " ") (codes " ") [] y _ _ (no_ends (is_free_lower _)) h.npm one_blank (lit< tt) one_blank (lit< tt)
-    (no_ends (is_free_upper false _)) k.npm
+    Npm.hyphen [] x (codes " ") (codes " ") [] y _ _ no_ends (either_true (is_free_lower _)) h.npm one_blank (lit< tt) one_blank (lit< tt)
+    no_ends (either_true (is_free_upper false _)) k.npm
 
 part-compact : (limit : ℕ) (pre : Bool) (text : List ℕ) (s : Span VersionValue) (cs : List Comparison)
     → IsPlainAlternative limit pre text s cs → Compact text

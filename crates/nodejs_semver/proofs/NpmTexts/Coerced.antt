@@ -1,11 +1,10 @@
 -- The version of the tuple that `coerce` looks for.
-use Rattle.nodejs_semver.proofs.Common.{Bool, IfNone, IfSome, IsNumber, List, None, Option, Some, VersionValue, [], ap}
-use Rattle.nodejs_semver.proofs.Common.{append-nil, arith, begins, bind_some, cases_Bool, common_steps, drop, drop_at, false}
-use Rattle.nodejs_semver.proofs.Common.{inl, inr, is_ascii_digit, length, length-append, nat_tests, refl, same_Some, subst, sym}
-use Rattle.nodejs_semver.proofs.{Common.{take, take_at, true, ℕ, ◌++◌, ◌+◌, ◌∙◌, ◌∷◌, ◌≡◌}, NpmCommon.{IsLeftmost, IsRightmost}}
-use Rattle.nodejs_semver.proofs.NpmCommon.{IsRun, IsStrictNumber, IsTuple, IsTupleIn, NoValue, has_leading_zero, number_front}
-use Rattle.nodejs_semver.proofs.{NpmCommon.{strict_number, tuple_release}, Reading.Numbers.{digits-taken, number-is}}
-use Rattle.nodejs_semver.proofs.{Reading.Numbers.number-read, Strict.Numbers.{padded-same, strict-read}}
+use Rattle.nodejs_semver.proofs.Common.{Bool, IfNone, IfSome, IsNumber, List, None, Option, Some, VersionValue, [], ap, append-nil, arith}
+use Rattle.nodejs_semver.proofs.Common.{begins, bind_some, cases_Bool, common_steps, drop, drop_at, false, inl, inr, is_ascii_digit, length}
+use Rattle.nodejs_semver.proofs.Common.{length-append, nat_tests, refl, same_Some, subst, sym, take, take_at, true, ℕ, ◌++◌, ◌+◌, ◌∙◌, ◌∷◌}
+use Rattle.nodejs_semver.proofs.{Common.◌≡◌, NpmCommon.{IsLeftmost, IsRightmost, IsRun, IsStrictNumber, IsTuple, IsTupleIn, NoValue}}
+use Rattle.nodejs_semver.proofs.{NpmCommon.{has_leading_zero, number_front, strict_number, tuple_release}, NpmTexts.Tuples.Found}
+use Rattle.nodejs_semver.proofs.{Reading.Numbers.{digits-taken, number-is, number-read}, Strict.Numbers.{padded-same, strict-read}}
 use Rattle.nodejs_semver.specs.{Internal.NpmTuples.{HasNoTuple, number_in_reading}, Npm.Coerced.{IsCoerced, IsRelease}}
 use Rattle.nodejs_semver.specs.Npm.Coerced as Npm
 
@@ -107,9 +106,6 @@ rightmost-unique = record {
 
 abbrev pub Number : Type 1
 Number = List ℕ → ℕ → Type 0
-
-abbrev pub Found : Chosen → List ℕ → List ℕ → Type 0
-Found C text tuple = (front back : List ℕ) × IsTupleIn text front tuple back × C text front tuple back
 
 module _ (zeros : Bool) (limit : ℕ) (N : Number) (C : Chosen) (text tuple : List ℕ) (reads : Reads zeros limit N) (f : Found C text tuple) where
   pub coerced_some : IfSome (tuple_release zeros limit tuple) (IsCoerced C N text)

@@ -1,13 +1,12 @@
 -- The longest tuple of numbers at a place of a text, the leftmost one, and the one that ends last.
-use Rattle.nodejs_semver.proofs.Common.{Bool, List, [], ap, append_assoc, arith, begins, cases_Bool, cases_lt, common_steps}
-use Rattle.nodejs_semver.proofs.Common.{drop, drop_at, ends, eqb-true, false, get_or, inl, inr, is_ascii_digit, length}
-use Rattle.nodejs_semver.proofs.Common.{length-append, length-drop, length-take-le, nat_tests, prefix_len, refl, sym, take}
-use Rattle.nodejs_semver.proofs.Common.{take-append-drop, take_at, true, ℕ, ◌++◌, ◌+◌, ◌-◌, ◌<◌, ◌==◌, ◌∙◌, ◌∷◌, ◌≡◌, ◌≤◌, ◌⊎◌}
-use Rattle.nodejs_semver.proofs.NpmCommon.{IsLastBefore, IsLeftmost, IsRightmost, IsRun, IsTuple, IsTupleIn, drop-append-add}
-use Rattle.nodejs_semver.proofs.{NpmCommon.{length-prefix_len, nat_le, tuple_len}, Reading.Numbers.{digits-taken, run-ends}}
-use Rattle.nodejs_semver.{proofs.Strict.Places.digits-of, specs.Internal.NpmTuples.{HasNoTuple, IsLongestAt, behind_first}}
-use Rattle.nodejs_semver.specs.{Internal.NpmTuples.{dotted_len, run_len}, Npm.Coerced.{one, three, two}}
-use Rattle.semver_core.proofs.Text.Pieces.{rest_at}
+use Rattle.nodejs_semver.proofs.Common.{List, [], ap, append_assoc, arith, begins, cases_Bool, cases_lt, common_steps, drop, drop_at, ends}
+use Rattle.nodejs_semver.proofs.Common.{eqb-true, false, get_or, inl, inr, is_ascii_digit, length, length-append, length-drop}
+use Rattle.nodejs_semver.proofs.Common.{length-take-le, nat_tests, prefix_len, refl, sym, take, take-append-drop, take_at, true, ℕ, ◌++◌}
+use Rattle.nodejs_semver.proofs.{Common.{◌+◌, ◌-◌, ◌<◌, ◌==◌, ◌∙◌, ◌∷◌, ◌≡◌, ◌≤◌, ◌⊎◌}, NpmCommon.{IsLastBefore, IsLeftmost, IsRightmost}}
+use Rattle.nodejs_semver.proofs.NpmCommon.{IsRun, IsTuple, IsTupleIn, drop-append-add, length-prefix_len, nat_le, tuple_len}
+use Rattle.nodejs_semver.proofs.{Reading.Numbers.{digits-taken, run-ends}, Strict.{Malformed.last-byte, Places.digits-of}}
+use Rattle.nodejs_semver.specs.{Internal.NpmTuples.{HasNoTuple, IsLongestAt, behind_first, dotted_len, run_len}, Npm.Coerced.{one, three}}
+use Rattle.{nodejs_semver.specs.Npm.Coerced.two, semver_core.proofs.Text.Pieces.rest_at}
 
 -- ---- runs
 
@@ -37,32 +36,14 @@ run-at text n e some = elim (cases_Bool (nat_le (prefix_len is_ascii_digit text)
 run-long : (a z : List ℕ) → IsRun a → begins is_ascii_digit z ≡ false → run_len (a ++ z) ≡ length a
 run-long a z h stop = grind (arith, nat_tests, common_steps, digits-taken)
 
-record DottedAt (text : List ℕ) (n : ℕ) : Type 0 where
-  run : List ℕ
-  rest : List ℕ
-  split : text ≡ 46 ∷ (run ++ rest)
-  is : IsRun run
-  long : 1 + length run ≡ n
-  ended : begins is_ascii_digit rest ≡ false
+positive : (n : ℕ) → (n == 0) ≡ false → 0 < n
+positive n h = grind (arith, nat_tests)
 
-dotted-at : (text : List ℕ) (n : ℕ) → n ≡ dotted_len text → (n == 0) ≡ false → DottedAt text n
+-- a dot and a run
+dotted-at : (text : List ℕ) (n : ℕ) → n ≡ dotted_len text → (n == 0) ≡ false
+    → (rest : List ℕ) × (text ≡ 46 ∷ rest) × RunAt rest (run_len rest) × (n ≡ 1 + run_len rest)
 dotted-at [] n e some = cc (rw e at some)
-dotted-at (b ∷ text) n e some = elim (cases_Bool (b == 46)) [
-  | inr other ↦ cc (rw (rw other at e) at some)
-  | inl dot ↦ elim (cases_Bool (run_len text == 0)) [
-    | inl none ↦ cc (rw (rw (dot, none) at e) at some)
-    | inr more ↦
-        let r = run-at text (run_len text) refl (grind (arith, nat_tests, more)) in
-        record {
-          run = r.run;
-          rest = r.rest;
-          split = rw (eqb-true b 46 dot, ← r.split) refl;
-          is = r.is;
-          long = ap (λ (n : ℕ). 1 + n) r.long ∙ sym (rw (dot, more) at e);
-          ended = r.ended;
-        }
-  ]
-]
+dotted-at (b ∷ text) n e some = grind (arith, nat_tests, common_steps, eqb-true, positive, run-at)
 
 dotted-long : (a z : List ℕ) → IsRun a → begins is_ascii_digit z ≡ false → dotted_len (46 ∷ (a ++ z)) ≡ 1 + length a
 dotted-long a z h stop = grind (arith, nat_tests, common_steps, run-long)
@@ -77,9 +58,6 @@ record SpanAt (text : List ℕ) (n : ℕ) : Type 0 where
   is : IsTuple tuple runs
   long : length tuple ≡ n
   ended : begins is_ascii_digit rest ≡ false
-
-positive : (n : ℕ) → (n == 0) ≡ false → 0 < n
-positive n h = grind (arith, nat_tests)
 
 span-at : (text : List ℕ) (n : ℕ) → n ≡ tuple_len text → 0 < n → SpanAt text n
 unfolding tuple_len
@@ -96,21 +74,22 @@ span-at text n e some = elim (cases_Bool (run_len text == 0)) [
       | inl none ↦ (let same : n ≡ run_len text = rw none at e in rw same
           (record { tuple = r.run; rest = r.rest; runs = r.run ∷ []; split = r.split; is = one r.run r.is; long = r.long; ended = r.ended }))
       | inr more ↦
-          let d = dotted-at r.rest (dotted_len r.rest) refl more in
+          let dot = dotted-at r.rest (dotted_len r.rest) refl more in
+          let d = dot.2 in
           let front = r.run ++ (46 ∷ d.run) in
           let long : length front ≡ run_len text + dotted_len r.rest =
-          length-append r.run (46 ∷ d.run) ∙ omega (arith, r.long, d.long) in
+          length-append r.run (46 ∷ d.run) ∙ omega (arith, r.long, d.long, dot.3) in
           let split : text ≡ front ++ d.rest =
-          r.split ∙ ap (λ (t : List ℕ). r.run ++ t) d.split ∙ sym (append_assoc r.run (46 ∷ d.run) d.rest) in
+          r.split ∙ ap (λ (t : List ℕ). r.run ++ t) (dot.1 ∙ ap (λ (t : List ℕ). 46 ∷ t) d.split) ∙ sym (append_assoc r.run (46 ∷ d.run) d.rest) in
           let behind : drop (run_len text + dotted_len r.rest) text ≡ d.rest =
           ap (λ (t : List ℕ). drop (run_len text + dotted_len r.rest) t) split ∙ drop_at front d.rest _ long in
-          third r d split long (rw (more, behind) at e)
+          third r dot.0 d split long (rw (more, behind) at e)
     ]
       where
-        third : (r : RunAt text (run_len text)) (d : DottedAt r.rest (dotted_len r.rest)) → text ≡ (r.run ++ (46 ∷ d.run)) ++ d.rest
+        third : (r : RunAt text (run_len text)) (left : List ℕ) (d : RunAt left (run_len left)) → text ≡ (r.run ++ (46 ∷ d.run)) ++ d.rest
             → length (r.run ++ (46 ∷ d.run)) ≡ run_len text + dotted_len r.rest
             → n ≡ run_len text + dotted_len r.rest + dotted_len d.rest → SpanAt text n
-        third r d split long e = elim (cases_Bool (dotted_len d.rest == 0)) [
+        third r left d split long e = elim (cases_Bool (dotted_len d.rest == 0)) [
           | inl none ↦ record {
             tuple = r.run ++ (46 ∷ d.run);
             rest = d.rest;
@@ -121,7 +100,9 @@ span-at text n e some = elim (cases_Bool (run_len text == 0)) [
             ended = d.ended;
           }
           | inr more ↦
-              let p = dotted-at d.rest (dotted_len d.rest) refl more in
+              let dot = dotted-at d.rest (dotted_len d.rest) refl more in
+              let p = dot.2 in
+              let last = dot.1 ∙ ap (λ (t : List ℕ). 46 ∷ t) p.split in
               record {
                 tuple = r.run ++ (46 ∷ (d.run ++ (46 ∷ p.run)));
                 rest = p.rest;
@@ -159,11 +140,6 @@ span-longest y z runs (three a b c h k m) stop =
     ) (omega (arith, length-append a (46 ∷ (b ++ (46 ∷ c))), length-append b (46 ∷ c)))
 
 -- ---- the longest tuple at a place
-
-last-byte : (p : ℕ → Bool) (x rest : List ℕ) (d : ℕ) → 0 < length x → p (get_or (x ++ rest) (length x - 1) d) ≡ ends p x
-last-byte p [] rest d some = absurd (omega (arith, some))
-last-byte p (c ∷ []) rest d some = refl
-last-byte p (c ∷ e ∷ x) rest d some = grind (arith, last-byte p (e ∷ x) rest d (omega arith))
 
 pub last_before : (text : List ℕ) (at d : ℕ) → 0 < at → at ≤ length text
     → is_ascii_digit (get_or text (at - 1) d) ≡ ends is_ascii_digit (take at text)
@@ -272,8 +248,6 @@ pub last_found : (text : List ℕ) (at start end : ℕ) → IsLastBefore text at
 last_found text at start end h past some = grind (arith, length-take-le, length-drop, parts)
 
 pub last_none : (text : List ℕ) (at start end : ℕ) → IsLastBefore text at start end → length text ≤ at → end ≡ 0 → HasNoTuple text
-last_none text at start end h past none = record {
-  none = λ x y z is. let p = parts text x y z is in omega (arith, past, none, p.whole, p.some, h.last x y z is (omega (arith, past, p.whole, p.some)));
-}
+last_none text at start end h past none = grind (arith, nat_tests, common_steps, parts)
 
 pub ruleset lasts = (last_begin)

@@ -1,11 +1,10 @@
 -- A range of those intervals that accept one of some versions.
-use Rattle.nodejs_semver.proofs.Common.{All, All-from_recursion, AllByRecursion, AreTaking, Bool, IsRange, List, None, Some}
-use Rattle.nodejs_semver.proofs.Common.{Span, VersionValue, [], accepts, ap, arith, false, filter, holds, if_any, if◌then◌else◌}
-use Rattle.nodejs_semver.proofs.Common.{inl, inr, is_empty, is_range_span, length, length-map, lets_in, list_all, list_any}
-use Rattle.nodejs_semver.proofs.Common.{list_any-map, map, or_left, or_right, precedence, refl, span_of, spans_of, sym, true, ℕ}
-use Rattle.nodejs_semver.proofs.{Common.{◌&&◌, ◌+◌, ◌<◌, ◌||◌, ◌∙◌, ◌∷◌, ◌≡◌, ◌≤◌}, Questions.Unions.{all-filter, filtered}}
-use Rattle.nodejs_semver.{proofs.Questions.Unions.map-filter, specs.Internal.Questions.{admits, is_used}}
-use Rattle.nodejs_semver.specs.Npm.Simple.{simplified}
+use Rattle.nodejs_semver.proofs.Common.{All, All-from_recursion, AllByRecursion, AreTaking, Bool, IsRange, List, None, Some, Span}
+use Rattle.nodejs_semver.proofs.Common.{VersionValue, [], accepts, ap, arith, false, filter, holds, if_any, if◌then◌else◌, inl, inr}
+use Rattle.nodejs_semver.proofs.Common.{is_empty, is_range_span, length, length-map, lets_in, list_all, list_any, list_any-map, map}
+use Rattle.nodejs_semver.proofs.Common.{or_left, or_right, precedence, refl, span_of, spans_of, sym, true, ℕ, ◌&&◌, ◌+◌, ◌<◌, ◌||◌, ◌∙◌}
+use Rattle.nodejs_semver.proofs.{Common.{◌∷◌, ◌≡◌, ◌≤◌}, Questions.Unions.{all-filter, filtered, map-filter}}
+use Rattle.nodejs_semver.specs.{Internal.Questions.{admits, is_used}, Npm.Simple.simplified}
 
 -- the spans that admit one of the versions
 abbrev used_of : List VersionValue → List (Span VersionValue) → List (Span VersionValue)

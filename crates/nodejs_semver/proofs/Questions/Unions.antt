@@ -1,13 +1,12 @@
 -- What the union of two lists of spans accepts.
-use Rattle.nodejs_semver.proofs.Common.{AreTaking, Bool, Bound, IsRange, List, Ordering, Span, VersionValue, [], accepts}
-use Rattle.nodejs_semver.proofs.Common.{and_parts, ap, append_assoc, ap₂, arith, common_steps, false, filter, get_or, gt_lt}
-use Rattle.nodejs_semver.proofs.Common.{has_bound, holds, if◌then◌else◌, inl, inr, is_past-down, is_release, length}
-use Rattle.nodejs_semver.proofs.Common.{length-append, lets_in, list_all, list_all-append, list_any, list_any-append}
-use Rattle.nodejs_semver.proofs.Common.{list_any-map, map, map-append, names, nat_tests, not, not-true, or_cases, or_left}
-use Rattle.nodejs_semver.proofs.Common.{or_parts, or_right, passes, precedence, precedence_total, refl, same_triple, span_of}
-use Rattle.nodejs_semver.proofs.Common.{spans_of, suc, sym, take, tells, true, zero, ℕ, ◌&&◌, ◌++◌, ◌+◌, ◌<◌, ◌||◌, ◌∷◌, ◌≡◌}
-use Rattle.nodejs_semver.{proofs.Common.◌⊎◌, specs.Internal.{Questions.is_said, Shorthands.lets_in_bounds}}
-use Rattle.{nodejs_semver.specs.Npm.Unions.{says_all, union}, semver_core.specs.Cuts.covers}
+use Rattle.nodejs_semver.proofs.Common.{AreTaking, Bool, Bound, IsRange, List, Ordering, Span, VersionValue, [], accepts, and_parts}
+use Rattle.nodejs_semver.proofs.Common.{append_assoc, ap₂, arith, common_steps, false, filter, get_or, gt_lt, has_bound, holds, inl, inr}
+use Rattle.nodejs_semver.proofs.Common.{is_past-down, is_release, length, length-append, lets_in, list_all, list_all-append, list_any}
+use Rattle.nodejs_semver.proofs.Common.{list_any-append, list_any-map, map, map-append, names, nat_tests, not, not-true, or_cases, or_left}
+use Rattle.nodejs_semver.proofs.Common.{or_parts, or_right, passes, precedence, precedence_total, refl, same_triple, span_of, spans_of, suc}
+use Rattle.nodejs_semver.proofs.Common.{sym, take, tells, true, zero, ℕ, ◌&&◌, ◌++◌, ◌+◌, ◌<◌, ◌||◌, ◌∷◌, ◌≡◌, ◌⊎◌}
+use Rattle.nodejs_semver.specs.{Internal.{Questions.is_said, Shorthands.lets_in_bounds}, Npm.Unions.{says_all, union}}
+use Rattle.semver_core.specs.Cuts.{covers}
 
 -- what a span holds, one that covers it holds
 covers-holds : (s t : Span VersionValue) (v : VersionValue) → covers precedence s t ≡ true → holds precedence t v ≡ true
@@ -79,10 +78,6 @@ filter-parts p [] i x h at k = absurd (omega (arith, h))
 filter-parts p (y ∷ ys) zero x h at k = (filter p ys, rw (sym at, k) refl)
 filter-parts {A = A} p (y ∷ ys) (suc i) x h at k =
     grind (arith, nat_tests, common_steps, filter-parts p ys i x (omega (arith, h)))
-  where
-    behind : (b : Bool) {l : List A} (m n : List A) → l ≡ m ++ n → (if b then y ∷ l else l) ≡ (if b then y ∷ m else m) ++ n
-    behind true m n e = ap (λ l. y ∷ l) e
-    behind false m n e = e
 
 -- an element that stays takes memory by itself, or is not the first: so does the whole list that is made
 pub taken_at : {V : Type 0} (takes : V → Bool) (p : Span V → Bool) (xs front now : List (Span V)) (i : ℕ) (x : Span V)

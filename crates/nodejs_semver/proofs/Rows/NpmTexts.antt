@@ -1,9 +1,8 @@
 -- Worked rows, computed: which texts are versions in node-semver's loose reading, and what `coerce` finds.
-use Rattle.nodejs_semver.proofs.Common.{AlphaNumeric, Bool, Id, List, None, Numeric, Option, Some, VersionValue, [], codes}
-use Rattle.nodejs_semver.proofs.Common.{false, is_some, list_len, map, refl, release_value, space_len, true, ℕ, ◌∷◌, ◌≡◌}
-use Rattle.nodejs_semver.proofs.NpmCommon.{after_ends, begins_bare, build_front, listed, loose_dotted, loose_front, loose_patch}
-use Rattle.nodejs_semver.proofs.NpmCommon.{loose_qualified, loose_version, number_of, patch_front, strict_number, tuple_len}
-use Rattle.nodejs_semver.proofs.NpmCommon.{tuple_release}
+use Rattle.nodejs_semver.proofs.Common.{AlphaNumeric, Bool, Id, List, None, Numeric, Option, Some, VersionValue, [], codes, false, is_some}
+use Rattle.nodejs_semver.proofs.{Common.{list_len, map, refl, release_value, space_len, true, ℕ, ◌∷◌, ◌≡◌}, NpmCommon.after_ends}
+use Rattle.nodejs_semver.proofs.NpmCommon.{begins_undashed, build_front, listed, loose_dotted, loose_front, loose_patch, loose_qualified}
+use Rattle.nodejs_semver.proofs.NpmCommon.{loose_version, number_of, patch_front, strict_number, tuple_len, tuple_release}
 
 abbrev read : List ℕ → Option VersionValue
 read text = loose_version 9007199254740991 text
@@ -27,7 +26,7 @@ unfolding loose_version loose_dotted loose_patch patch_front loose_qualified loo
 row-rejected = refl
 
 -- how a pre-release without a `-` before it may begin
-row-bare : map begins_bare (codes "beta" ∷ codes "-" ∷ codes "-.5" ∷ codes "4.5" ∷ codes "4" ∷ codes "45.6" ∷ codes "4a" ∷ codes "-a" ∷ [])
+row-bare : map begins_undashed (codes "beta" ∷ codes "-" ∷ codes "-.5" ∷ codes "4.5" ∷ codes "4" ∷ codes "45.6" ∷ codes "4a" ∷ codes "-a" ∷ [])
     ≡ true ∷ true ∷ true ∷ true ∷ false ∷ false ∷ false ∷ false ∷ []
 row-bare = refl
 

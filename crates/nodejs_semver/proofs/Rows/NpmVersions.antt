@@ -1,8 +1,7 @@
 -- Worked rows, computed: which texts are versions in node-semver's strict reading. Whitespace around them is trimmed before.
-use Rattle.nodejs_semver.proofs.Common.{AlphaNumeric, Bool, List, Numeric, Option, Some, VersionValue, [], codes, false}
-use Rattle.nodejs_semver.proofs.{Common.{is_some, list_len, map, refl, release_value, ℕ, ◌∷◌, ◌≡◌}, NpmCommon.build_front}
-use Rattle.nodejs_semver.proofs.NpmCommon.{dashed_front, dotted_number, listed, number_of, pre_release_front, qualified_version}
-use Rattle.nodejs_semver.proofs.NpmCommon.{strict_number, strict_version}
+use Rattle.nodejs_semver.proofs.Common.{AlphaNumeric, Bool, List, Numeric, Option, Some, VersionValue, [], codes, false, is_some, list_len}
+use Rattle.nodejs_semver.proofs.{Common.{map, refl, release_value, ℕ, ◌∷◌, ◌≡◌}, NpmCommon.{build_front, dashed_front, dotted_number}}
+use Rattle.nodejs_semver.proofs.NpmCommon.{listed, number_of, pre_release_front, qualified_version, strict_number, strict_version}
 
 abbrev read : List ℕ → Option VersionValue
 read text = strict_version 9007199254740991 text

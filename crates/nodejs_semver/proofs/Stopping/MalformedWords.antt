@@ -1,12 +1,11 @@
 -- The first word of an alternative that is malformed.
-use Rattle.nodejs_semver.proofs.Common.{Bool, Front, IsUtf8, List, MAX_SAFE_INTEGER, None, Some, [], ap, arith, bind_some}
-use Rattle.nodejs_semver.proofs.Common.{common_steps, drop_spaces, false, from_boundary, is_empty, length, length-append}
-use Rattle.nodejs_semver.proofs.Common.{list_all, nat_tests, refl, same_Some, subst, sym, true, ℕ, ◌+◌, ◌<◌, ◌∙◌, ◌≡◌, ◌≤◌}
-use Rattle.nodejs_semver.proofs.NpmCommon.{Comparison, IsLeft, IsMalformedWord, NoValue, Signed, any_word, here, is_small}
-use Rattle.nodejs_semver.proofs.{NpmCommon.{is_valid, is_visible, limited_word, word_front}, Reading.Bytes.begins-some}
-use Rattle.nodejs_semver.proofs.Reading.WordLaw.{boundary-of, boundary-utf8, first-is, first-of, skips-is, skips-of, skips-utf8}
-use Rattle.nodejs_semver.proofs.{Reading.WordLaw.suffix-boundary, Strict.{Valid.table-invalid, WordSteps.{row_of, word-at}}}
-use Rattle.nodejs_semver.proofs.Strict.{WordSteps.word_at_front, Words.{word-read, word-visible}}
+use Rattle.nodejs_semver.proofs.Common.{Bool, Front, IsUtf8, List, MAX_SAFE_INTEGER, None, Some, [], ap, arith, bind_some, common_steps}
+use Rattle.nodejs_semver.proofs.Common.{drop_spaces, false, from_boundary, is_empty, length, length-append, list_all, nat_tests, refl}
+use Rattle.nodejs_semver.proofs.{Common.{same_Some, subst, sym, true, ℕ, ◌+◌, ◌<◌, ◌∙◌, ◌≡◌, ◌≤◌}, NpmCommon.{Comparison, IsLeft}}
+use Rattle.nodejs_semver.proofs.NpmCommon.{IsMalformedWord, NoValue, Signed, any_word, here, is_small, is_valid, is_visible, limited_word}
+use Rattle.nodejs_semver.proofs.{NpmCommon.word_front, Reading.{Bytes.begins-some, WordLaw.{boundary-of, boundary-utf8, first-is}}}
+use Rattle.nodejs_semver.proofs.{Reading.WordLaw.{first-of, skips-is, skips-of, skips-utf8, suffix-boundary}, Strict.Valid.table-invalid}
+use Rattle.nodejs_semver.proofs.Strict.{WordSteps.{row_of, word-at, word_at_front}, Words.{word-read, word-visible}}
 use Rattle.nodejs_semver.specs.{Npm.MalformedWords.{IsRightWord, on}, Text.WordText.SkipsBlank}
 
 abbrev Right : Bool → List ℕ → List ℕ → Type 0

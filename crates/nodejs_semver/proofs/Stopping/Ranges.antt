@@ -1,17 +1,15 @@
 -- The first alternative of a range text that is malformed.
-use Rattle.nodejs_semver.proofs.Common.{AllByRecursion, Bool, IsAfterBlank, IsCutAtBars, IsTrim, IsUtf8, List, MAX_SAFE_INTEGER}
-use Rattle.nodejs_semver.proofs.Common.{None, Option, Some, [], after_blank-place, and_parts, ap, append_assoc, arith}
-use Rattle.nodejs_semver.proofs.Common.{bind_some, common_steps, cut_bars, false, is_empty, length, list_all, middle_is_trim}
-use Rattle.nodejs_semver.proofs.Common.{more_pieces, nat_tests, one_piece, refl, subst, sym, trim, true, ℕ, ◌++◌, ◌+◌, ◌-◌, ◌↔◌}
-use Rattle.nodejs_semver.proofs.{Common.{◌∙◌, ◌∷◌, ◌≡◌, ◌≤◌}, NpmCommon.{Alternative, AreAlternatives, Comparison}}
-use Rattle.nodejs_semver.proofs.NpmCommon.{HasAlternatives, IsFound, IsMalformedWord, NoValue, alternative_of, is_none}
-use Rattle.nodejs_semver.proofs.{NpmCommon.{is_valid, none, valid_alternative, valid_only}, Diagnosing.IgnoredParts.part_ends}
-use Rattle.nodejs_semver.proofs.{Diagnosing.IgnoredParts.{part_fits, sizes_of}, Dividing.BarLemmas.cut_bars-front}
-use Rattle.nodejs_semver.proofs.Dividing.{BarLemmas.parts_after, BarsDivide.{bars_divide, bars_once}, MeaningLaw.pieces-utf8}
-use Rattle.nodejs_semver.proofs.{Reading.WordLaw.trim-utf8, Stopping.MalformedWords.one_malformed_word}
-use Rattle.nodejs_semver.proofs.Strict.AlternativeLaw.{alternative-found, alternative-read}
-use Rattle.nodejs_semver.specs.{Internal.PartFronts.front_part, Npm.RangeFlaws.{IsAlternativeText, IsRangeFlaw, bytes_of}}
-use Rattle.nodejs_semver.specs.{Npm.RangeText.next, declared.npm.range_flaws.RangeFlaw.RangeFlaw}
+use Rattle.nodejs_semver.proofs.Common.{AllByRecursion, Bool, IsAfterBlank, IsCutAtBars, IsTrim, IsUtf8, List, MAX_SAFE_INTEGER, None}
+use Rattle.nodejs_semver.proofs.Common.{Option, Some, [], after_blank-place, and_parts, ap, append_assoc, arith, bind_some, common_steps}
+use Rattle.nodejs_semver.proofs.Common.{cut_bars, false, is_empty, length, list_all, middle_is_trim, more_pieces, nat_tests, one_piece}
+use Rattle.nodejs_semver.proofs.Common.{refl, subst, sym, trim, true, ℕ, ◌++◌, ◌+◌, ◌-◌, ◌↔◌, ◌∙◌, ◌∷◌, ◌≡◌, ◌≤◌}
+use Rattle.nodejs_semver.proofs.{Diagnosing.IgnoredParts.{part_ends, part_fits, sizes_of}, Dividing.BarLemmas.{cut_bars-front, parts_after}}
+use Rattle.nodejs_semver.proofs.{Dividing.{BarsDivide.{bars_divide, bars_once}, MeaningLaw.pieces-utf8}, NpmCommon.Alternative}
+use Rattle.nodejs_semver.proofs.NpmCommon.{AreAlternatives, Comparison, HasAlternatives, IsFound, IsMalformedWord, NoValue, alternative_of}
+use Rattle.nodejs_semver.proofs.{NpmCommon.{is_none, is_valid, none, valid_alternative, valid_only}, Reading.WordLaw.trim-utf8}
+use Rattle.nodejs_semver.proofs.{Stopping.MalformedWords.one_malformed_word, Strict.AlternativeLaw.{alternative-found, alternative-read}}
+use Rattle.nodejs_semver.{proofs.Strict.RangeReads.found-some, specs.{Internal.PartFronts.front_part, Npm.RangeFlaws.IsAlternativeText}}
+use Rattle.nodejs_semver.specs.{Npm.{RangeFlaws.{IsRangeFlaw, bytes_of}, RangeText.next}, declared.npm.range_flaws.RangeFlaw.RangeFlaw}
 use Rattle.semver_core.proofs.Text.Trims.{one_after_blank}
 
 pub trimmed_fits : (text middle : List ℕ) (start : ℕ) → IsUtf8 text → IsAfterBlank text 0 start → IsTrim text middle
@@ -32,21 +30,11 @@ valid-some cs ds h = grind arith
 pub piece_right : (include : Bool) (piece part : List ℕ) (a : Alternative) → IsUtf8 piece → IsTrim piece part
     → IsFound include (valid_alternative false include part) (Some a) → IsPiece include piece
 unfolding valid_alternative
-piece_right include piece part a u t h = go (valid_alternative false include part) refl h
-  where
-    go : (o : Option (List Comparison)) → valid_alternative false include part ≡ o → IsFound include o (Some a) → IsPiece include piece
-    go None e k = absurd k
-    go (Some ds) e k =
-        let b = bind_some (alternative_of false include part) (λ cs. valid_only MAX_SAFE_INTEGER cs) ds e in
-        let v = valid-some b.0 ds b.2 in (
-          b.0,
-          record {
-            middle = part;
-            trimmed = t;
-            is = alternative-found false include part b.0 (trim-utf8 piece part u t) b.1;
-            valid = v.0;
-          },
-        )
+piece_right include piece part a u t h =
+    let f = found-some include (valid_alternative false include part) a h in
+    let b = bind_some (alternative_of false include part) (λ cs. valid_only MAX_SAFE_INTEGER cs) f.0 f.1 in
+    let v = valid-some b.0 f.0 b.2 in
+    (b.0, record { middle = part; trimmed = t; is = alternative-found false include part b.0 (trim-utf8 piece part u t) b.1; valid = v.0 })
 
 pub piece_wrong : (include : Bool) (piece part : List ℕ) → IsUtf8 piece → IsTrim piece part
     → IsFound include (valid_alternative false include part) None → NoValue (IsAlternativeText MAX_SAFE_INTEGER include piece)
@@ -210,13 +198,7 @@ passed_all include text h =
     let a = all-right include (h.front ++ []) (right h.front h.right) in
     let cut = subst (λ (ps : List (List ℕ)). IsCutAtBars text ps) h.divided (bars_divide text) in (
       a.0,
-      record {
-        parts = h.front ++ [];
-        divided = cut;
-        each = a.1;
-        some = all-some include (h.front ++ []) (right h.front h.right) (some-pieces text (h.front ++ []) cut);
-        valid = a.2;
-      },
+      grind (arith, nat_tests, common_steps, all-some, some-pieces),
     )
   where
     right : (ps : List (List ℕ)) → AllByRecursion (IsPiece include) ps → AllByRecursion (IsPiece include) (ps ++ [])

@@ -1,15 +1,15 @@
 -- A text that is written as a version is read to its end as one.
-use Rattle.nodejs_semver.proofs.Common.{Bool, Id, List, Some, VersionValue, [], and_from, and_parts, ap, append-nil, arith}
-use Rattle.nodejs_semver.proofs.Common.{cases_Bool, common_steps, encode_utf8_all, eqb-true, false, inl, inr, is_ascii_digit}
-use Rattle.nodejs_semver.proofs.Common.{is_identifier, is_identifier_char, list_all, list_all-append, nat_lt, nat_tests}
-use Rattle.nodejs_semver.proofs.Common.{onto_first, pieces, refl, sym, true, ℕ, ◌&&◌, ◌*◌, ◌++◌, ◌+◌, ◌<◌, ◌==◌, ◌||◌, ◌∙◌, ◌∷◌}
-use Rattle.nodejs_semver.proofs.{Common.{◌≡◌, ◌≤◌, ◌⊎◌}, NpmCommon.{Build, Dash, Digit, IsSpelled, IsStrictBuild}}
-use Rattle.nodejs_semver.proofs.NpmCommon.{IsStrictNumber, IsStrictPreRelease, IsStrictVersion, Number, Plus, PreRelease, State}
-use Rattle.nodejs_semver.proofs.NpmCommon.{Zero, dashed, digit_value, digits_grow, digits_value_after, encode_ascii}
-use Rattle.nodejs_semver.proofs.NpmCommon.{encodes_same, is_strict_identifier, is_whole, next, no_build, no_pre_release, plus}
-use Rattle.nodejs_semver.proofs.{NpmCommon.{run, runs_tail, tail_runs}, Stopping.Steps.{digit-plain, identifier-more}}
-use Rattle.nodejs_semver.proofs.Stopping.Steps.{identifier_read, run-nil, run-step, run-then, spaces-behind, spaces-start}
-use Rattle.nodejs_semver.{proofs.Stopping.Steps.start-digit, specs.declared.npm.flaws.State.TheVariants.Start}
+use Rattle.nodejs_semver.proofs.Common.{Bool, Id, List, Some, VersionValue, [], all_weaker, and_parts, ap, append-nil, arith, cases_Bool}
+use Rattle.nodejs_semver.proofs.Common.{common_steps, encode_utf8_all, eqb-true, false, inl, inr, is_ascii_digit, is_identifier}
+use Rattle.nodejs_semver.proofs.Common.{is_identifier_char, list_all, nat_lt, nat_tests, onto_first, pieces, refl, sym, true, ℕ, ◌&&◌, ◌*◌}
+use Rattle.nodejs_semver.proofs.{Common.{◌++◌, ◌+◌, ◌<◌, ◌==◌, ◌∙◌, ◌∷◌, ◌≡◌, ◌≤◌, ◌⊎◌}, NpmCommon.{Build, Dash, Digit, IsSpelled}}
+use Rattle.nodejs_semver.proofs.NpmCommon.{IsStrictBuild, IsStrictNumber, IsStrictPreRelease, IsStrictVersion, Number, Plus, PreRelease}
+use Rattle.nodejs_semver.proofs.NpmCommon.{State, Zero, bare, dashed, digit_value, digits_grow, digits_value_after, encode_ascii}
+use Rattle.nodejs_semver.proofs.NpmCommon.{encodes_same, is_strict_identifier, is_whole, next, no_build, no_pre_release, plus, run}
+use Rattle.nodejs_semver.proofs.{NpmCommon.{runs_tail, tail_runs}, Reading.Bytes.all-join, Stopping.Steps.identifier-more}
+use Rattle.nodejs_semver.proofs.Stopping.Steps.{identifier_read, run-nil, run-step, run-then, spaces-behind, spaces-start, start-digit}
+use Rattle.{nodejs_semver.specs.declared.npm.flaws.State.TheVariants.Start, semver_core.proofs.Text.Listed.plain_runs}
+use Rattle.semver_core.specs.Internal.CommonReading.{is_plain}
 
 -- ---- numbers
 
@@ -143,13 +143,10 @@ pre_release-read : (limit n : ℕ) (p : List ℕ) (l : List Id) → IsStrictPreR
 unfolding next
 pre_release-read limit n p l no_pre_release =
     record { state = Number 0 n; reads = run-nil limit (Number 0 n); whole = refl; plus = refl }
+pre_release-read limit n p l (bare text list h strict f) = cc f
 pre_release-read limit n p l (dashed text list h strict) =
     let e = (identifiers limit text).1 h.runs strict in
     grind (arith, nat_tests, common_steps, run-step)
-  where
-    go : (s : State) → run limit (Number 0 n) (45 ∷ text) ≡ Some s → IsEnd s → Ready limit (Number 0 n) (45 ∷ text)
-    go s reads (inl e) = record { state = Zero; reads = reads ∙ ap Some e; whole = refl; plus = refl }
-    go s reads (inr e) = record { state = PreRelease; reads = reads ∙ ap Some e; whole = refl; plus = refl }
 
 -- the text is read to its end, and is a version
 abbrev pub Whole : ℕ → State → List ℕ → Type 0
@@ -173,24 +170,15 @@ middle-read limit middle v h =
 
 -- ---- its characters are bytes
 
--- a character of a version
-abbrev pub is_plain : ℕ → Bool
-is_plain c = is_identifier_char c || (c == 46 || c == 43)
-
 pub plain-encodes : (cs : List ℕ) → list_all is_plain cs ≡ true → encode_utf8_all cs ≡ cs
 plain-encodes [] h = refl
 plain-encodes (c ∷ cs) h = grind (arith, nat_tests, common_steps, and_parts, encode_ascii, plain-encodes cs)
 
 plain-digits : (ds : List ℕ) → list_all is_ascii_digit ds ≡ true → list_all is_plain ds ≡ true
-plain-digits [] h = refl
-plain-digits (c ∷ ds) h = grind (arith, nat_tests, common_steps, and_parts, digit-plain, plain-digits ds)
-
-plain-runs : (t : List ℕ) → tail_runs (pieces t) ≡ true → list_all is_plain t ≡ true
-plain-runs [] h = refl
-plain-runs (c ∷ t) h = grind (arith, nat_tests, common_steps, eqb-true, runs_tail, runs-first, plain-runs t)
+plain-digits ds h = all_weaker is_ascii_digit is_plain (λ c k. grind (arith, nat_tests)) ds h
 
 pub plain-both : (x y : List ℕ) → list_all is_plain x ≡ true → list_all is_plain y ≡ true → list_all is_plain (x ++ y) ≡ true
-plain-both x y h k = list_all-append is_plain x y ∙ and_from (list_all is_plain x) (list_all is_plain y) h k
+plain-both x y h k = all-join is_plain x y h k
 
 pub plain-middle : (limit : ℕ) (middle : List ℕ) (v : VersionValue) → IsStrictVersion limit middle v → list_all is_plain middle ≡ true
 plain-middle limit middle v h =
@@ -207,11 +195,12 @@ plain-middle limit middle v h =
 
     pre : (p : List ℕ) (l : List Id) → IsStrictPreRelease p l → list_all is_plain p ≡ true
     pre p l no_pre_release = refl
-    pre p l (dashed text list h strict) = plain-runs text (runs_tail (pieces text) h.runs)
+    pre p l (dashed text list h strict) = plain_runs text (runs_tail (pieces text) h.runs)
+    pre p l (bare text list h strict f) = cc f
 
     build : (b : List ℕ) (l : List Id) → IsStrictBuild b l → list_all is_plain b ≡ true
     build b l no_build = refl
-    build b l (plus text list h) = plain-runs text (runs_tail (pieces text) h.runs)
+    build b l (plus text list h) = plain_runs text (runs_tail (pieces text) h.runs)
 
 -- ---- texts
 

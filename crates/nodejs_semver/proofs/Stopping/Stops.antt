@@ -1,67 +1,59 @@
 -- Where a text stops being a version text.
-use Rattle.nodejs_semver.proofs.Common.{IsUtf8, List, MAX_SAFE_INTEGER, None, Some, VersionValue, [], ap, append-nil}
-use Rattle.nodejs_semver.proofs.Common.{append_assoc, arith, common_steps, encode_utf8, encode_utf8_all, encodes-append, false}
-use Rattle.nodejs_semver.proofs.Common.{inl, inr, length, length-append, length-encode, nat_tests, refl, same_Some, subst, sym}
-use Rattle.nodejs_semver.proofs.{Common.{true, ℕ, ◌++◌, ◌+◌, ◌↔◌, ◌∙◌, ◌∷◌, ◌≡◌, ◌≤◌, ◌⊎◌}, NpmCommon.{At, GoesOn, IsFront}}
-use Rattle.nodejs_semver.proofs.NpmCommon.{IsSpelled, IsVersionText, State, encodes_same, is_whole, len_utf8, next, run}
-use Rattle.nodejs_semver.proofs.{NpmCommon.{wrong_at, wrong_of}, Stopping.{Fronts.{front-stops, read-front}, Read.spelled-read}}
-use Rattle.nodejs_semver.proofs.Stopping.{Steps.{run-nil, run-step, run-then}, Written.read-spelled, Wrongs.ended-wrong}
-use Rattle.nodejs_semver.{proofs.Stopping.Wrongs.{goes_on, one_wrong, stopped-wrong}, specs.Npm.Flaws.{IsFlaw, IsStop, IsWrong}}
-use Rattle.nodejs_semver.specs.declared.npm.flaws.{Flaw.{Flaw, TheVariants.TooLong}, State.TheVariants.Start, Wrong.Wrong}
-use Rattle.std.proofs.lemmas.Str.{cons_from_encodes}
+use Rattle.nodejs_semver.proofs.Common.{IsUtf8, List, MAX_SAFE_INTEGER, None, Option, Some, VersionValue, [], ap, append-nil, append_assoc}
+use Rattle.nodejs_semver.proofs.Common.{arith, common_steps, encode_utf8, encode_utf8_all, encodes-append, false, inl, inr, length}
+use Rattle.nodejs_semver.proofs.Common.{length-append, length-encode, nat_tests, refl, same_Some, subst, sym, true, ℕ, ◌++◌, ◌+◌, ◌↔◌, ◌∙◌}
+use Rattle.nodejs_semver.proofs.{Common.{◌∷◌, ◌≡◌, ◌≤◌, ◌⊎◌}, NpmCommon.{At, GoesOn, IsFront, IsSpelled, IsVersionText, State}}
+use Rattle.nodejs_semver.proofs.{NpmCommon.{encodes_same, is_whole, len_utf8, next, run, wrong_at, wrong_of}, Stopping.Fronts.front-stops}
+use Rattle.nodejs_semver.proofs.Stopping.{Fronts.read-front, Read.{Whole, spelled-read}, Steps.{run-nil, run-step, run-then}}
+use Rattle.nodejs_semver.proofs.Stopping.{Written.read-spelled, Wrongs.{ended-wrong, goes_on, one_wrong, stopped-wrong}}
+use Rattle.nodejs_semver.specs.{Npm.Flaws.{IsFlaw, IsStop, IsWrong}, declared.npm.flaws.Flaw.{Flaw, TheVariants.TooLong}}
+use Rattle.{nodejs_semver.specs.declared.npm.flaws.{State.TheVariants.Start, Wrong.Wrong}, std.proofs.lemmas.Str.cons_from_encodes}
 
 -- ---- where a text stops
 
-stop-next : (limit : ℕ) (text before : List ℕ) (s : State) (c : ℕ) (rest : List ℕ) → 9 ≤ limit
-    → text ≡ encode_utf8_all (before ++ c ∷ rest) → run limit Start before ≡ Some s → next limit s c ≡ None
-    → IsStop limit text (length (encode_utf8_all before))
-stop-next limit text before s c rest nine e h none = record {
+-- what stands behind goes no further
+abbrev Stuck : ℕ → State → List ℕ → Type 0
+Stuck limit s [] = is_whole s ≡ false
+Stuck limit s (c ∷ rest) = next limit s c ≡ None
+
+not-whole : (limit : ℕ) (before : List ℕ) (s : State) (behind : List ℕ) → run limit Start before ≡ Some s → Stuck limit s behind
+    → Whole limit Start (before ++ behind) → ⊥
+not-whole limit before s [] h stuck w = let r = rw (append-nil before) at w in cc (same_Some _ _ (sym h ∙ r.1), r.2, stuck)
+not-whole limit before s (c ∷ rest) h stuck w = front-stops limit before s c rest h stuck w
+
+stop : (limit : ℕ) (text before : List ℕ) (s : State) (behind : List ℕ) → 9 ≤ limit → text ≡ encode_utf8_all (before ++ behind)
+    → run limit Start before ≡ Some s → Stuck limit s behind → IsStop limit text (length (encode_utf8_all before))
+stop limit text before s behind nine e h stuck = record {
   before = before;
-  behind = c ∷ rest;
+  behind = behind;
   divided = e;
   place = refl;
   right = read-front limit before s nine h;
-  wrong = wrong;
-  none = λ w.
-      front-stops limit before s c rest h none
-      (spelled-read limit (before ++ c ∷ rest) (subst (λ (t : List ℕ). IsSpelled limit t) e w));
+  wrong = wrong behind stuck;
+  none = λ w. not-whole limit before s behind h stuck
+      (spelled-read limit (before ++ behind) (subst (λ (t : List ℕ). IsSpelled limit t) e w));
 }
   where
-    wrong : (d : ℕ) (r : List ℕ) → c ∷ rest ≡ d ∷ r → IsFront limit (before ++ d ∷ []) → ⊥
-    wrong d r same f =
-        let first : c ≡ d = cc same in
+    wrong : (behind : List ℕ) → Stuck limit s behind → (d : ℕ) (r : List ℕ) → behind ≡ d ∷ r → IsFront limit (before ++ d ∷ []) → ⊥
+    wrong [] stuck d r same f = cc same
+    wrong (c ∷ rest) none d r same f =
+        let first : d ≡ c = cc same in
         front-stops limit before s c f.0 h none
         (spelled-read limit (before ++ c ∷ f.0) (subst (λ (t : List ℕ). IsSpelled limit (encode_utf8_all t))
-        (append_assoc before (d ∷ []) f.0 ∙ ap (λ (b : ℕ). before ++ b ∷ f.0) (sym first)) f.1))
-
-stop-end : (limit : ℕ) (text before : List ℕ) (s : State) → 9 ≤ limit → text ≡ encode_utf8_all before
-    → run limit Start before ≡ Some s → is_whole s ≡ false → IsStop limit text (length (encode_utf8_all before))
-stop-end limit text before s nine e h none = record {
-  before = before;
-  behind = [];
-  divided = e ∙ ap encode_utf8_all (sym (append-nil before));
-  place = refl;
-  right = read-front limit before s nine h;
-  wrong = λ c rest same f. cc same;
-  none = λ w.
-      let r = spelled-read limit before (subst (λ (t : List ℕ). IsSpelled limit t) e w) in
-      cc (same_Some _ _ (sym h ∙ r.1), r.2, none);
-}
+        (append_assoc before (d ∷ []) f.0 ∙ ap (λ (b : ℕ). before ++ b ∷ f.0) first) f.1))
 
 -- what is wrong where a text stops
-wrong-next : (limit : ℕ) (text before : List ℕ) (s : State) (c : ℕ) (rest : List ℕ) → 9 ≤ limit
-    → text ≡ encode_utf8_all (before ++ c ∷ rest) → run limit Start before ≡ Some s → next limit s c ≡ None
-    → IsWrong limit text (wrong_at s (Some c)) (length (encode_utf8_all before))
-unfolding stop-next
-wrong-next limit text before s c rest nine e h none =
-    (stop-next limit text before s c rest nine e h none, goes_on limit before s nine h, stopped-wrong limit before s c rest nine h none)
+abbrev first : List ℕ → Option ℕ
+first [] = None
+first (c ∷ rest) = Some c
 
-wrong-end : (limit : ℕ) (text before : List ℕ) (s : State) → 9 ≤ limit → text ≡ encode_utf8_all before
-    → run limit Start before ≡ Some s → is_whole s ≡ false
-    → IsWrong limit text (wrong_at s None) (length (encode_utf8_all before))
-unfolding stop-end
-wrong-end limit text before s nine e h none =
-    (stop-end limit text before s nine e h none, goes_on limit before s nine h, ended-wrong limit before s nine h none)
+wrong : (limit : ℕ) (text before : List ℕ) (s : State) (behind : List ℕ) → 9 ≤ limit → text ≡ encode_utf8_all (before ++ behind)
+    → run limit Start before ≡ Some s → Stuck limit s behind → IsWrong limit text (wrong_at s (first behind)) (length (encode_utf8_all before))
+unfolding stop
+wrong limit text before s [] nine e h stuck =
+    (stop limit text before s [] nine e h stuck, goes_on limit before s nine h, ended-wrong limit before s nine h stuck)
+wrong limit text before s (c ∷ rest) nine e h stuck =
+    (stop limit text before s (c ∷ rest) nine e h stuck, goes_on limit before s nine h, stopped-wrong limit before s c rest nine h stuck)
 
 -- ---- the loop
 
@@ -101,7 +93,7 @@ passed_stop text at s rest passed next-rest c w u p e none is =
     let d = cons_from_encodes b.0 next-rest c (b.2 ∙ e) in
     let whole : text ≡ encode_utf8_all (passed ++ c ∷ d.0) =
     sym u.1.1 ∙ ap encode_utf8_all (b.1 ∙ ap (λ (x : List ℕ). passed ++ x) d.1) in
-    rw (is, p.place) (wrong-next MAX_SAFE_INTEGER text passed s c d.0 (omega arith) whole p.reads none)
+    rw (is, p.place) (wrong MAX_SAFE_INTEGER text passed s (c ∷ d.0) (omega arith) whole p.reads none)
 
 at-end : (text : List ℕ) (at : ℕ) (s : State) (rest passed : List ℕ) → Passed text at s rest passed → length rest ≡ 0
     → text ≡ encode_utf8_all passed
@@ -111,7 +103,8 @@ pub passed_end : (text : List ℕ) (at : ℕ) (s : State) (rest passed : List �
     → length rest ≡ 0 → is_whole s ≡ false → w ≡ wrong_at s None → IsWrong MAX_SAFE_INTEGER text w at
 passed_end text at s rest passed w p h none is =
     rw (is, p.place)
-    (wrong-end MAX_SAFE_INTEGER text passed s (omega arith) (at-end text at s rest passed p h) p.reads none)
+    (wrong MAX_SAFE_INTEGER text passed s [] (omega arith)
+    (at-end text at s rest passed p h ∙ ap encode_utf8_all (sym (append-nil passed))) p.reads none)
 
 pub passed_whole : (text : List ℕ) (at : ℕ) (s : State) (rest passed : List ℕ) → Passed text at s rest passed
     → length rest ≡ 0 → is_whole s ≡ true → IsSpelled MAX_SAFE_INTEGER text

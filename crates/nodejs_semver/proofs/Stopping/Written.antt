@@ -1,17 +1,16 @@
 -- A text that is read to its end as a version is written as one.
-use Rattle.nodejs_semver.proofs.Common.{Bool, Id, List, None, Option, Some, VersionValue, [], and_parts, ap, append-nil}
-use Rattle.nodejs_semver.proofs.Common.{append_assoc, arith, begins, cases_Bool, common_steps, encode_utf8_all, eqb-true, false}
-use Rattle.nodejs_semver.proofs.Common.{identifier_of, if◌then◌else◌, inl, inr, is_ascii_digit, is_identifier}
-use Rattle.nodejs_semver.proofs.Common.{is_identifier_char, is_whitespace, length-append, list_all, list_all-append, map}
-use Rattle.nodejs_semver.proofs.Common.{nat_lt, nat_tests, onto_first, pieces, refl, same_Some, subst, suc, sym, true, zero, ℕ}
-use Rattle.nodejs_semver.proofs.{Common.{◌*◌, ◌++◌, ◌+◌, ◌==◌, ◌||◌, ◌∙◌, ◌∷◌, ◌≡◌, ◌≤◌, ◌⊎◌}, NpmCommon.{Build, Dash, Digit}}
-use Rattle.nodejs_semver.proofs.NpmCommon.{IsSpelled, IsStrictBuild, IsStrictNumber, IsStrictPreRelease, IsStrictVersion}
-use Rattle.nodejs_semver.proofs.NpmCommon.{Number, Padded, Plus, PreRelease, State, Zero, dashed, digit_value}
-use Rattle.nodejs_semver.proofs.NpmCommon.{is_strict_identifier, is_whole, next, no_build, no_pre_release, plus, run, runs_tail}
-use Rattle.nodejs_semver.proofs.{NpmCommon.tail_runs, Stopping.Read.{Whole, is_plain, plain-both, plain-encodes, strict-onto}}
-use Rattle.nodejs_semver.proofs.Stopping.{Read.strict_behind, Steps.{digit-plain, identifier-more, identifier_read}}
-use Rattle.nodejs_semver.specs.{Internal.NpmStates.ended, declared.npm.flaws.State.TheVariants.{End, Start}}
-use Rattle.{semver_core.proofs.Text.Pieces.onto_tail, std.proofs.lemmas.{Int.Digits.digits_value_push, List.reverse-append}}
+use Rattle.nodejs_semver.proofs.Common.{Bool, Id, List, None, Option, Some, VersionValue, [], and_parts, ap, append-nil, append_assoc}
+use Rattle.nodejs_semver.proofs.Common.{arith, begins, cases_Bool, common_steps, encode_utf8_all, eqb-true, false, identifier_of}
+use Rattle.nodejs_semver.proofs.Common.{if◌then◌else◌, inl, inr, is_ascii_digit, is_identifier, is_identifier_char, is_whitespace}
+use Rattle.nodejs_semver.proofs.Common.{length-append, list_all, list_all-append, map, nat_lt, nat_tests, onto_first, pieces, refl}
+use Rattle.nodejs_semver.proofs.Common.{same_Some, subst, suc, sym, true, zero, ℕ, ◌*◌, ◌++◌, ◌+◌, ◌==◌, ◌||◌, ◌∙◌, ◌∷◌, ◌≡◌, ◌≤◌, ◌⊎◌}
+use Rattle.nodejs_semver.proofs.NpmCommon.{Build, Dash, Digit, IsSpelled, IsStrictBuild, IsStrictNumber, IsStrictPreRelease}
+use Rattle.nodejs_semver.proofs.NpmCommon.{IsStrictVersion, Number, Padded, Plus, PreRelease, State, Zero, dashed, digit_value}
+use Rattle.nodejs_semver.proofs.NpmCommon.{is_strict_identifier, is_whole, next, no_build, no_pre_release, plus, run, runs_tail, tail_runs}
+use Rattle.nodejs_semver.proofs.Stopping.{Read.{Whole, plain-both, plain-encodes, strict-onto, strict_behind}, Steps.digit-plain}
+use Rattle.nodejs_semver.{proofs.Stopping.Steps.{identifier-more, identifier_read}, specs.Internal.NpmStates.ended}
+use Rattle.{nodejs_semver.specs.declared.npm.flaws.State.TheVariants.{End, Start}, semver_core.proofs.Text.Pieces.onto_tail}
+use Rattle.{semver_core.specs.Internal.CommonReading.is_plain, std.proofs.lemmas.{Int.Digits.digits_value_push, List.reverse-append}}
 use Rattle.std.specs.Prelude.{reverse}
 
 -- ---- steps
@@ -280,17 +279,17 @@ strict-push : (limit n c : ℕ) (x : List ℕ) → IsStrictNumber limit x n → 
 strict-push limit n c x h some digit safe =
     grind (arith, nat_tests, common_steps, length-append, list_all-append, ℕ, digits_value_push, eqb-true)
 
+-- no digit more, and one more
+none-numeral : (limit left n : ℕ) (x cs : List ℕ) → IsStrictNumber limit x n → Behind limit left cs → Numeral limit left x cs
+none-numeral limit left n x cs h b =
+    record { digits = []; rest = cs; n = n; divided = refl; plain = refl; is = rw (append-nil x) h; behind = b }
+
+more-numeral : (limit left c : ℕ) (x cs : List ℕ) → is_ascii_digit c ≡ true → Numeral limit left (x ++ c ∷ []) cs → Numeral limit left x (c ∷ cs)
+more-numeral limit left c x cs digit r = grind (arith, nat_tests, common_steps, append_assoc, digit-plain)
+
 numerals : (limit left n : ℕ) (x cs : List ℕ) → IsStrictNumber limit x n → Whole limit (Number left n) cs → Numeral limit left x cs
 unfolding next
-numerals limit left n x [] h w = record {
-  digits = [];
-  rest = [];
-  n = n;
-  divided = refl;
-  plain = refl;
-  is = rw (append-nil x) h;
-  behind = end left w;
-}
+numerals limit left n x [] h w = none-numeral limit left n x [] h (end left w)
   where
     more : (k : ℕ) → (suc k == 0) ≡ false
     more k = grind arith
@@ -299,31 +298,14 @@ numerals limit left n x [] h w = record {
     end zero w = blank-qualified [] Pre refl ([], no_pre_release)
     end (suc k) w = absurd (none-whole limit (Number (suc k) n) (more k) w)
 numerals limit left n x (c ∷ cs) h w = elim (cases_Bool (is_ascii_digit c)) [
-  | inr other ↦ record {
-    digits = [];
-    rest = c ∷ cs;
-    n = n;
-    divided = refl;
-    plain = refl;
-    is = rw (append-nil x) h;
-    behind = behind-number limit left n c cs other (from limit (Number left n) c cs w);
-  }
+  | inr other ↦ none-numeral limit left n x (c ∷ cs) h (behind-number limit left n c cs other (from limit (Number left n) c cs w))
   | inl digit ↦ elim (cases_Bool (n == 0 || nat_lt limit (n * 10 + digit_value c))) [
     | inl stop ↦ absurd (rw (digit, stop) at (from limit (Number left n) c cs w))
     | inr go ↦
         let tests = or-none (n == 0) (nat_lt limit (n * 10 + digit_value c)) go in
         let pushed = strict-push limit n c x h tests.0 digit (within (n * 10 + digit_value c) tests.1) in
-        let r = numerals limit left (n * 10 + digit_value c) (x ++ c ∷ []) cs pushed
-        (rw (digit, go) at (from limit (Number left n) c cs w)) in
-        record {
-          digits = c ∷ r.digits;
-          rest = r.rest;
-          n = r.n;
-          divided = ap (λ (t : List ℕ). c ∷ t) r.divided;
-          plain = rw ((digit-plain c digit).0, r.plain) refl;
-          is = subst (λ (t : List ℕ). IsStrictNumber limit t r.n) (append_assoc x (c ∷ []) r.digits) r.is;
-          behind = r.behind;
-        }
+        more-numeral limit left c x cs digit (numerals limit left (n * 10 + digit_value c) (x ++ c ∷ []) cs pushed
+        (rw (digit, go) at (from limit (Number left n) c cs w)))
   ]
 ]
   where
@@ -344,16 +326,8 @@ number-written limit left (c ∷ cs) nine w = elim (cases_Bool (is_ascii_digit c
       let first : 0 * 10 + digit_value c ≡ digit_value c = omega arith in
       let small : digit_value c ≤ limit = at-most c digit in
       let number : IsStrictNumber limit (c ∷ []) (digit_value c) = grind (arith, nat_tests, common_steps) in
-      let r = numerals limit left (digit_value c) (c ∷ []) cs number (rw digit at (from limit (Digit left) c cs w)) in
-      record {
-        digits = c ∷ r.digits;
-        rest = r.rest;
-        n = r.n;
-        divided = ap (λ (t : List ℕ). c ∷ t) r.divided;
-        plain = rw ((digit-plain c digit).0, r.plain) refl;
-        is = r.is;
-        behind = r.behind;
-      }
+      more-numeral limit left c [] cs digit
+      (numerals limit left (digit_value c) (c ∷ []) cs number (rw digit at (from limit (Digit left) c cs w)))
 ]
   where
     at-most : (c : ℕ) → is_ascii_digit c ≡ true → digit_value c ≤ limit
@@ -387,13 +361,7 @@ version-written limit mark cs nine plain is w =
     record {
       middle = middle;
       after = q.after;
-      version = record {
-        major = a.n;
-        minor = b.n;
-        patch = c.n;
-        pre_release = q.is.0;
-        build = q.build_is.0;
-      };
+      version = record { major = a.n; minor = b.n; patch = c.n; pre_release = q.is.0; build = q.build_is.0 };
       divided = joined mark cs a.digits a.rest a.behind.0 b.digits b.rest b.behind.0 c.digits c.rest q.text q.build q.after
           a.divided a.behind.1 b.divided b.behind.1 c.divided q.divided;
       plain = grind (arith, plain-both);

@@ -30,10 +30,7 @@ last-read : (limit : ℕ) (s t : State) (c : ℕ) → next limit s c ≡ Some t 
 unfolding next
 last-read limit (Number zero n) t c h = grind (arith, nat_tests)
 last-read limit (Number (suc k) n) t c h = grind (arith, nat_tests)
-last-read limit Zero t c h = elim (cases_Bool (is_ascii_digit c)) [
-  | inl digit ↦ rw (← same_Some _ _ (rw digit at h)) digit
-  | inr other ↦ behind-last _ _ t c (rw other at h)
-]
+last-read limit Zero t c h = grind (arith, nat_tests, common_steps, behind-last, same_Some)
 last-read limit PreRelease t c h = behind-last _ _ t c h
 last-read limit Build t c h = build-last _ _ t c h
 last-read limit s t c h = grind arith

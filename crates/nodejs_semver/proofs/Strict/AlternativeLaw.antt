@@ -1,16 +1,16 @@
 -- The alternatives of node-semver's range texts: the function that reads them finds exactly what the statement has.
 use Rattle.nodejs_semver.proofs.Common.{AllByRecursion, Bool, IsBlank, IsUtf8, List, None, Some, [], after_spaces, all_weaker, and_parts}
-use Rattle.nodejs_semver.proofs.Common.{ap, append-nil, append_assoc, arith, begins, bind_some, cases_Bool, common_steps, cut_bars}
+use Rattle.nodejs_semver.proofs.Common.{ap, append-nil, append_assoc, arith, begins, bind_some, cases_Bool, common_steps}
 use Rattle.nodejs_semver.proofs.Common.{drop_spaces, drop_spaces-blank, drop_spaces-none, false, inl, inr, is_empty, length, list_all, map}
 use Rattle.nodejs_semver.proofs.Common.{middle_is_trim, nat_tests, not, or_right, refl, same_Some, space_len, subst, suc, sym, take, trim}
 use Rattle.nodejs_semver.proofs.Common.{trim_is_middle, true, zero, ℕ, ◌&&◌, ◌++◌, ◌-◌, ◌<◌, ◌==◌, ◌||◌, ◌↔◌, ◌∙◌, ◌∷◌, ◌≡◌}
 use Rattle.nodejs_semver.proofs.{Dividing.{BarsDivide.{bars_divide, bars_once}, MeaningLaw.pieces-utf8}, NpmCommon.AreAlternatives}
-use Rattle.nodejs_semver.proofs.NpmCommon.{AreEndMarks, AreWords, Comparison, Ended, HasAlternativesIn, IsAlternative, IsPartial, IsWord}
-use Rattle.nodejs_semver.proofs.NpmCommon.{after_ends, alternative_of, alternatives_of, drop_ends, end_front, hyphen_comparisons}
+use Rattle.nodejs_semver.proofs.NpmCommon.{AreMarks, AreWords, Comparison, Ended, HasAlternativesIn, IsAlternative, IsPartial, IsWord}
+use Rattle.nodejs_semver.proofs.NpmCommon.{after_ends, alternative_of, alternatives_of, are_whole_marks, drop_ends, end_front, hyphen_comparisons}
 use Rattle.nodejs_semver.proofs.NpmCommon.{hyphen_ends, hyphen_lower, hyphen_upper, ignored, is_free_lower, is_free_upper, is_malformed}
 use Rattle.nodejs_semver.proofs.{NpmCommon.{is_mark, is_valid, is_visible, kept, last, last_end, word}, Reading.Bytes.all-join}
 use Rattle.nodejs_semver.proofs.{Reading.{Bytes.begins_component, Steps.option-cases, WordLaw.trim-utf8}, Strict.Hyphens.after_ends-drop}
-use Rattle.nodejs_semver.proofs.Strict.Hyphens.{dash-read, end-read, ends-space, hyphen-found, mark-dark, marks-passed, marks-whole}
+use Rattle.nodejs_semver.proofs.Strict.Hyphens.{dash-read, end-read, ends-space, hyphen-found, mark-dark, marks-passed}
 use Rattle.nodejs_semver.proofs.Strict.{Hyphens.whole-dark, Malformed.{blank-dark, blank-signal, boundary-dark, is_dark, is_part}}
 use Rattle.nodejs_semver.proofs.Strict.Malformed.{is_signal, malformed-all, malformed-more, part-visible, partial-part, sign-signal}
 use Rattle.nodejs_semver.proofs.Strict.{PartialLaw.{boundary-quiet, partial-read}, Signs.marks-all, Words.{blank-boundary, blank-space}}
@@ -130,10 +130,11 @@ record UpperRead (loose : Bool) (include : Bool) (q : Partial) (second text : Li
   is : last_end loose (is_free_upper include) second ≡ Some (q, taken)
   same : hyphen_upper include q taken ≡ hyphen_upper include q text
 
-upper-read : (loose : Bool) (include : Bool) (gap b y : List ℕ) (q : Partial) → IsBlank gap → AreEndMarks loose (is_free_upper include q) b → IsPartial loose y q
+upper-read : (loose : Bool) (include : Bool) (gap b y : List ℕ) (q : Partial) → IsBlank gap → AreMarks b
+    → (is_free_upper include q || are_whole_marks loose b) ≡ true → IsPartial loose y q
     → UpperRead loose include q (drop_spaces (gap ++ (b ++ y))) (b ++ y)
 unfolding end_front
-upper-read loose include gap b y q hg h k =
+upper-read loose include gap b y q hg h w k =
     let begin : begins_component y ≡ true = rw append-nil at (partial-begins loose y [] q k) in
     let read : partial_front loose y ≡ Some (q, []) = rw append-nil at (partial-read loose y [] q k refl) in
     let second = drop_spaces (gap ++ (b ++ y)) in
@@ -142,31 +143,32 @@ upper-read loose include gap b y q hg h k =
     elim (cases_Bool (is_free_upper include q)) [
       | inl free ↦
           let passed : drop_ends second ≡ y =
-          ap drop_ends at_gap ∙ ends-after 0 (b ++ y) ∙ marks-passed loose (is_free_upper include q) b y h begin in
+          ap drop_ends at_gap ∙ ends-after 0 (b ++ y) ∙ marks-passed b y h begin in
           record {
             taken = take (length second - 0) second;
             is = rw (passed, read, free) refl;
             same = grind (arith, nat_tests, common_steps);
           }
       | inr bound ↦
-          let none : second ≡ b ++ y = at_gap ∙ drop_spaces-none (b ++ y) (whole-dark loose b y (marks-whole loose false b (rw bound at h)) begin) in
+          let none : second ≡ b ++ y = at_gap ∙ drop_spaces-none (b ++ y) (whole-dark loose b y (rw bound at w) begin) in
           let at_end : end_front loose (is_free_upper include) (b ++ y) ≡ Some ((q, b ++ y), []) =
-          rw append-nil at (end-read loose (is_free_upper include) b y [] q h k refl) in
+          rw append-nil at (end-read loose (is_free_upper include) b y [] q h w k refl) in
           record { taken = b ++ y; is = rw (none, at_end) refl; same = refl }
     ]
 
-pub hyphen-read : (loose : Bool) (include : Bool) (a x blank gap b y : List ℕ) (p q : Partial) → AreEndMarks loose (is_free_lower p) a → IsPartial loose x p
-    → IsBlank blank → 0 < length blank → IsBlank gap → 0 < length gap → AreEndMarks loose (is_free_upper include q) b → IsPartial loose y q
+pub hyphen-read : (loose : Bool) (include : Bool) (a x blank gap b y : List ℕ) (p q : Partial) → AreMarks a
+    → (is_free_lower p || are_whole_marks loose a) ≡ true → IsPartial loose x p → IsBlank blank → 0 < length blank → IsBlank gap
+    → 0 < length gap → AreMarks b → (is_free_upper include q || are_whole_marks loose b) ≡ true → IsPartial loose y q
     → (e : Ended × Ended) × (hyphen_ends loose include (a ++ (x ++ (blank ++ 45 ∷ (gap ++ (b ++ y))))) ≡ Some e)
     × (hyphen_comparisons include e ≡ hyphen_lower include p (a ++ x) ++ hyphen_upper include q (b ++ y))
 unfolding hyphen_ends
-hyphen-read loose include a x blank gap b y p q ha hx hb some hg more_gap hc hy =
+hyphen-read loose include a x blank gap b y p q ha wa hx hb some hg more_gap hc wc hy =
     let z = gap ++ (b ++ y) in
     let rest = blank ++ (45 ∷ z) in
     let quiet = boundary-quiet rest (blank-boundary blank (45 ∷ z) hb some) in
-    let lower = end-read loose is_free_lower a x rest p ha hx quiet in
+    let lower = end-read loose is_free_lower a x rest p ha wa hx quiet in
     let dash = dash-read blank z hb some (blank-space gap (b ++ y) hg more_gap) in
-    let upper = upper-read loose include gap b y q hg hc hy in (
+    let upper = upper-read loose include gap b y q hg hc wc hy in (
       ((p, a ++ x), (q, upper.taken)),
       rw (lower, dash, upper.is) refl,
       ap (λ (l : List Comparison). hyphen_lower include p (a ++ x) ++ l) upper.same,
@@ -197,8 +199,8 @@ pub alternative-read : (loose : Bool) (include : Bool) (text : List ℕ) (cs : L
 unfolding alternative_of
 alternative-read loose include text cs u nothing = refl
 alternative-read loose include text cs u (words t ds h) = by-words loose include t ds h
-alternative-read loose include text cs u (hyphen a x blank gap b y p q ha hx hb some hg more_gap hc hy) =
-    let r = hyphen-read loose include a x blank gap b y p q ha hx hb some hg more_gap hc hy in
+alternative-read loose include text cs u (hyphen a x blank gap b y p q ha wa hx hb some hg more_gap hc wc hy) =
+    let r = hyphen-read loose include a x blank gap b y p q ha wa hx hb some hg more_gap hc wc hy in
     let behind = blank ++ 45 ∷ (gap ++ (b ++ y)) in
     let ends = boundary-dark (gap ++ (b ++ y)) (blank-boundary gap (b ++ y) hg more_gap) in
     let l = loose-more a (x ++ behind) (loose-more x behind (loose-blank blank (gap ++ (b ++ y)) (blank-dark blank hb) some (not-empty gap (b ++ y) more_gap) ends)) in
@@ -251,11 +253,5 @@ alternatives_are loose limit include text ls u = (
       (ap (λ (ps : List (List ℕ)). alternatives_of loose include (map trim ps)) (sym e) ∙ read, h.valid, h.some)),
   λ h.
       let cut = bars_divide text in
-      record {
-        parts = cut_bars false text;
-        divided = cut;
-        each = each-found loose include (cut_bars false text) ls (pieces-utf8 text (cut_bars false text) cut u) h.0;
-        valid = h.1;
-        some = h.2;
-      },
+      grind (arith, nat_tests, common_steps, each-found, pieces-utf8),
 )

@@ -3,16 +3,15 @@ use Rattle.nodejs_semver.proofs.Common.{Bool, IsBlank, IsUtf8, List, Some, [], a
 use Rattle.nodejs_semver.proofs.Common.{bind_some, cases_Bool, common_steps, cond_some, drop, drop_at, drop_spaces, encode_utf8}
 use Rattle.nodejs_semver.proofs.Common.{encode_utf8_all, false, inl, inr, is_empty, is_whitespace, len_utf8_bounds, length, length-encode}
 use Rattle.nodejs_semver.proofs.Common.{list_all, nat_tests, refl, space_len, space_len-nil, subst, suc, sym, take, true, zero, ℕ, ◌++◌}
-use Rattle.nodejs_semver.proofs.{Common.{◌-◌, ◌<◌, ◌||◌, ◌∙◌, ◌∷◌, ◌≡◌, ◌⊎◌}, NpmCommon.{AreEndMarks, Ended, IsAlternative, IsPartial}}
-use Rattle.nodejs_semver.proofs.NpmCommon.{after_byte, after_ends, are_whole_marks, chars_from_encodes, drop_ends, encode_ascii, end_front}
-use Rattle.nodejs_semver.proofs.NpmCommon.{ended_end, hyphen_comparisons, hyphen_ends, is_free_lower, is_free_upper, is_mark, is_one_v}
-use Rattle.nodejs_semver.proofs.{NpmCommon.{last_end, len_utf8, space_len-white}, Reading.Bytes.{begins_component, component-solid}}
-use Rattle.nodejs_semver.proofs.{Reading.{Bytes.{is_solid, solid-dark}, WordLaw.{byte-is, tail-utf8}}, Strict.PartialLaw.partial-found}
-use Rattle.nodejs_semver.proofs.Strict.{PartialLaw.partial-read, Signs.{blank-at, blank-skipped}, VersionLaw.empty-is, Words.blank-some}
-use Rattle.nodejs_semver.proofs.Strict.Words.{blank-space, front-text, partial-begins, rest-utf8, space-boundary}
-use Rattle.nodejs_semver.specs.{Internal.{NpmWords.{after_dash, partial_front}, Words.after_some_space}, Npm.RangeText.hyphen}
-use Rattle.{nodejs_semver.specs.Npm.Table.Partial, semver_core.proofs.Text.SpaceLaw.space_len-dark, std.proofs.lemmas.Str.IsUtf8-from_ascii}
-use Rattle.std.{proofs.lemmas.Str.{IsUtf8-past_char, chars-IsAscii, encode_same, encodes-chars}, specs.Str.IsAscii}
+use Rattle.nodejs_semver.proofs.{Common.{◌-◌, ◌<◌, ◌||◌, ◌∙◌, ◌∷◌, ◌≡◌, ◌⊎◌}, NpmCommon.{AreMarks, Ended, IsAlternative, IsPartial}}
+use Rattle.nodejs_semver.proofs.NpmCommon.{after_byte, after_ends, are_whole_marks, drop_ends, encode_ascii, end_front, ended_end}
+use Rattle.nodejs_semver.proofs.NpmCommon.{hyphen_comparisons, hyphen_ends, is_free_lower, is_free_upper, is_mark, is_one_v, last_end}
+use Rattle.nodejs_semver.proofs.{NpmCommon.{len_utf8, space_len-white}, Reading.Bytes.{begins_component, component-solid, is_solid}}
+use Rattle.nodejs_semver.proofs.{Reading.{Bytes.solid-dark, WordLaw.{byte-is, tail-utf8}}, Strict.PartialLaw.{partial-found, partial-read}}
+use Rattle.nodejs_semver.proofs.Strict.{Signs.{blank-at, blank-skipped}, VersionLaw.empty-is, Words.{blank-some, blank-space, front-text}}
+use Rattle.nodejs_semver.{proofs.Strict.Words.{partial-begins, rest-utf8, space-boundary}, specs.Internal.NpmWords.after_dash}
+use Rattle.nodejs_semver.specs.{Internal.{NpmWords.partial_front, Words.after_some_space}, Npm.{RangeText.hyphen, Table.Partial}}
+use Rattle.{semver_core.proofs.Text.SpaceLaw.space_len-dark, std.proofs.lemmas.Str.{IsUtf8-past_char, encode_same}}
 
 -- ---- marks and whitespace at the front
 
@@ -104,50 +103,18 @@ pub ends-read : (cs u : List ℕ) → list_all is_end cs ≡ true → begins is_
 ends-read [] u h other dark = ends-none u other dark
 ends-read (c ∷ cs) u h other dark = grind (arith, nat_tests, common_steps, and_parts, append_assoc, ends-char, ends-read cs u)
 
--- ---- marks of whole versions are the same as characters and as bytes
-
-one-first : (text : List ℕ) → is_one_v text ≡ true → (text ≡ []) ⊎ (text ≡ 118 ∷ [])
-one-first text h = grind (arith, nat_tests, common_steps)
-
-marks-ascii : (text : List ℕ) → list_all is_mark text ≡ true → IsAscii text
-marks-ascii text h = grind (arith, nat_tests, common_steps)
-
-whole-ascii : (loose : Bool) (text : List ℕ) → are_whole_marks loose text ≡ true → IsAscii text
-whole-ascii true text h = marks-ascii text h
-whole-ascii false text h = elim (one-first text h) [ inl e ↦ rw e (marks-ascii [] refl) | inr e ↦ rw e (marks-ascii (118 ∷ []) refl) ]
-
-whole-bytes : (loose : Bool) (cs : List ℕ) → are_whole_marks loose cs ≡ true → are_whole_marks loose (encode_utf8_all cs) ≡ true
-whole-bytes loose cs h =
-    let ascii = whole-ascii loose cs h in
-    let same : encode_utf8_all cs ≡ cs = rw (chars-IsAscii cs ascii) at (encodes-chars cs (IsUtf8-from_ascii cs ascii)) in
-    rw same h
-
-whole-characters : (loose : Bool) (cs : List ℕ) → are_whole_marks loose (encode_utf8_all cs) ≡ true → are_whole_marks loose cs ≡ true
-whole-characters loose cs h =
-    let bytes = encode_utf8_all cs in
-    let ascii = whole-ascii loose bytes h in
-    let same : cs ≡ bytes = chars_from_encodes cs bytes (IsUtf8-from_ascii bytes ascii) refl ∙ chars-IsAscii bytes ascii in
-    subst (λ (t : List ℕ). are_whole_marks loose t ≡ true) (sym same) h
-
 -- ---- an end: what is written is read
 
 component-dark : (u : List ℕ) → begins_component u ≡ true → space_len u ≡ 0
 component-dark u h = solid-dark u (component-solid u h)
 
-pub marks-passed : (loose free : Bool) (a u : List ℕ) → AreEndMarks loose free a → begins_component u ≡ true → drop_ends (a ++ u) ≡ u
-marks-passed loose free a u h k = rw h.spelled (ends-read h.characters u h.each (grind (arith, nat_tests)) (component-dark u k))
+pub marks-passed : (a u : List ℕ) → AreMarks a → begins_component u ≡ true → drop_ends (a ++ u) ≡ u
+marks-passed a u h k = rw h.spelled (ends-read h.characters u h.each (grind (arith, nat_tests)) (component-dark u k))
 
-pub marks-whole : (loose free : Bool) (a : List ℕ) → AreEndMarks loose free a → (free || are_whole_marks loose a) ≡ true
-marks-whole loose free a h = grind (arith, nat_tests, common_steps, whole-bytes)
-
-pub end-read : (loose : Bool) (free : Partial → Bool) (a x rest : List ℕ) (p : Partial) → AreEndMarks loose (free p) a → IsPartial loose x p
-    → begins is_solid rest ≡ false → end_front loose free (a ++ (x ++ rest)) ≡ Some ((p, a ++ x), rest)
+pub end-read : (loose : Bool) (free : Partial → Bool) (a x rest : List ℕ) (p : Partial) → AreMarks a → (free p || are_whole_marks loose a) ≡ true
+    → IsPartial loose x p → begins is_solid rest ≡ false → end_front loose free (a ++ (x ++ rest)) ≡ Some ((p, a ++ x), rest)
 unfolding end_front
-end-read loose free a x rest p h k quiet =
-    let u = x ++ rest in
-    let passed = marks-passed loose (free p) a u h (partial-begins loose x rest p k) in
-    let text : take (length (a ++ u) - length rest) (a ++ u) ≡ a ++ x = rw (append_assoc a x rest) at (front-text (a ++ x) rest) in
-    rw (passed, partial-read loose x rest p k quiet, front-text a u, marks-whole loose (free p) a h, text) refl
+end-read loose free a x rest p h w k quiet = grind (arith, nat_tests, common_steps, append_assoc, front-text, marks-passed, partial-begins, partial-read)
 
 -- ---- an end: what is read is written
 
@@ -155,7 +122,8 @@ pub record EndAt (loose : Bool) (free : Bool) (text : List ℕ) (p : Partial) (t
   pub marks : List ℕ
   pub piece : List ℕ
   pub split : text ≡ marks ++ (piece ++ rest)
-  pub are : AreEndMarks loose free marks
+  pub are : AreMarks marks
+  pub fits : (free || are_whole_marks loose marks) ≡ true
   pub is : IsPartial loose piece p
   pub text_is : taken ≡ marks ++ piece
 
@@ -174,14 +142,9 @@ end-found loose free text e u h =
     let whole : text ≡ marks ++ (part.piece ++ p.0.1) = ends.split ∙ ap (λ (t : List ℕ). marks ++ t) part.split in
     let front_is : front ≡ marks = ap (λ (t : List ℕ). take (length t - length behind) t) ends.split ∙ front-text marks behind in
     let taken_is = front-text (marks ++ part.piece) p.0.1 in
-    let written : (free p.0.0 || are_whole_marks loose ends.characters) ≡ true =
-    characters-whole (free p.0.0) ends.characters (subst (λ (x : List ℕ). (free p.0.0 || are_whole_marks loose x) ≡ true) front_is t.0) in
+    let fits = subst (λ (x : List ℕ). (free p.0.0 || are_whole_marks loose x) ≡ true) front_is t.0 in
+    let are : AreMarks marks = record { characters = ends.characters; spelled = refl; each = ends.each } in
     grind (arith, nat_tests, common_steps, append_assoc)
-  where
-    characters-whole : (free : Bool) (cs : List ℕ) → (free || are_whole_marks loose (encode_utf8_all cs)) ≡ true
-        → (free || are_whole_marks loose cs) ≡ true
-    characters-whole true cs h = refl
-    characters-whole false cs h = whole-characters loose cs h
 
 -- ---- what stands between the ends
 
@@ -237,11 +200,14 @@ hyphen-found loose include text e u h =
     let upper = end-found loose free second.0 l.0 dash.utf8 l.1 in
     let none = empty-is l.0.1 ended.0 in
     let last = append-nil upper.piece in
-    let is = hyphen lower.marks lower.piece dash.blank dash.gap upper.marks upper.piece a.0.0.0 l.0.0.0 lower.are lower.is dash.blank_is
-    dash.some dash.gap_is dash.more upper.are upper.is in
+    let is = hyphen lower.marks lower.piece dash.blank dash.gap upper.marks upper.piece a.0.0.0 l.0.0.0 lower.are lower.fits lower.is dash.blank_is
+    dash.some dash.gap_is dash.more upper.are upper.fits upper.is in
     grind (arith, nat_tests, common_steps)
 
 -- ---- marks are no whitespace
+
+one-first : (text : List ℕ) → is_one_v text ≡ true → (text ≡ []) ⊎ (text ≡ 118 ∷ [])
+one-first text h = grind (arith, nat_tests, common_steps)
 
 pub whole-dark : (loose : Bool) (b u : List ℕ) → are_whole_marks loose b ≡ true → begins_component u ≡ true → space_len (b ++ u) ≡ 0
 whole-dark loose b u h k = grind (arith, nat_tests, common_steps, component-dark, mark-dark, and_parts, one-first)

@@ -1,19 +1,19 @@
 -- The malformed words that are ignored are no well-formed ones.
-use Rattle.nodejs_semver.proofs.Common.{Bool, Id, IsBlank, IsIdentifiers, List, Option, Some, [], above, all_weaker, and-false, and_from}
-use Rattle.nodejs_semver.proofs.Common.{and_parts, ap, append-nil, append_assoc, arith, at_most, begins, below, cases_Bool, common_steps}
-use Rattle.nodejs_semver.proofs.Common.{drop, drop_all, encode_utf8, encode_utf8_all, ends, eqb-true, equal, false, get_or, inl, inr}
-use Rattle.nodejs_semver.proofs.Common.{is_ascii_digit, is_boundary, is_empty, is_identifier_char, is_whitespace, le-ltb, length, list_all}
-use Rattle.nodejs_semver.proofs.Common.{list_all-append, list_any, lt-ltb, nat_tests, not, not-true, pieces, prefix_len, refl, space_len}
-use Rattle.nodejs_semver.proofs.Common.{suc, sym, take, take-append-drop, true, zero, ℕ, ◌&&◌, ◌++◌, ◌+◌, ◌-◌, ◌<◌, ◌==◌, ◌||◌, ◌∙◌, ◌∷◌}
-use Rattle.nodejs_semver.proofs.{Common.{◌≡◌, ◌≤◌, ◌⊎◌}, NpmCommon.{IsPartial, IsPlace, IsSignText, IsStrictBuild, after_dot, are_first}}
-use Rattle.nodejs_semver.proofs.NpmCommon.{at_least, bare, begins_malformed, bytes_eq, caret_equal, compared, encode_ascii, has_zeros}
-use Rattle.nodejs_semver.proofs.NpmCommon.{ignored_front, is_malformed, is_mark, is_visible, late_above, late_below, no_build, no_sign, one}
+use Rattle.nodejs_semver.proofs.Common.{Bool, Id, IsBlank, IsIdentifiers, List, Option, Some, [], all_weaker, and-false, and_from}
+use Rattle.nodejs_semver.proofs.Common.{and_parts, ap, append-nil, append_assoc, arith, begins, cases_Bool, common_steps, drop, drop_all}
+use Rattle.nodejs_semver.proofs.Common.{encode_utf8, encode_utf8_all, ends, equal, false, get_or, inl, inr, is_ascii_digit, is_boundary}
+use Rattle.nodejs_semver.proofs.Common.{is_empty, is_identifier_char, is_whitespace, le-ltb, length, length-drop, list_all, list_all-append}
+use Rattle.nodejs_semver.proofs.Common.{list_any, lt-ltb, nat_tests, not, not-true, pieces, prefix_len, refl, space_len, suc, sym, take}
+use Rattle.nodejs_semver.proofs.Common.{take-append-drop, true, zero, ℕ, ◌&&◌, ◌++◌, ◌+◌, ◌-◌, ◌<◌, ◌==◌, ◌||◌, ◌∙◌, ◌∷◌, ◌≡◌, ◌≤◌, ◌⊎◌}
+use Rattle.nodejs_semver.proofs.NpmCommon.{IsPartial, IsPlace, IsSignText, IsStrictBuild, after_dot, are_first, bare, begins_malformed}
+use Rattle.nodejs_semver.proofs.NpmCommon.{bytes_eq, caret_equal, compared, dashed, encode_ascii, has_zeros, ignored_front, is_malformed}
+use Rattle.nodejs_semver.proofs.NpmCommon.{is_mark, is_visible, late_above, late_below, may_stand, no_build, no_pre_release, no_sign, one}
 use Rattle.nodejs_semver.proofs.NpmCommon.{or-true, plus, runs_tail, sign, spelling, tail_runs, take_while, three, tilde_twice, two}
 use Rattle.nodejs_semver.proofs.Reading.Bytes.{all-end, all-join, begins-on, begins_component, ends-append, ends-some}
-use Rattle.nodejs_semver.{proofs.Strict.Places.prefix-all, specs.{Internal.Fronts.is_wildcard, Npm.Malformed.{begins_place, begins_places}}}
-use Rattle.nodejs_semver.specs.Npm.Malformed.{behind_sign, has_four_parts, is_first, is_inner, is_last, is_mark_or_sign, is_open}
-use Rattle.nodejs_semver.specs.Npm.{Malformed.{is_regular, is_sign, last_visible}, RangeText.{IsPreRelease, dashed, no_pre_release}}
-use Rattle.{nodejs_semver.specs.Npm.{RangeText.tilde_sign, Table.{Partial, Sign}}, semver_core.proofs.Text.Pieces.tail_onto}
+use Rattle.nodejs_semver.{proofs.Strict.Places.prefix-all, specs.{Internal.Fronts.is_wildcard, Npm.Grammar.IsPreRelease}}
+use Rattle.nodejs_semver.specs.Npm.Malformed.{begins_place, begins_places, behind_sign, has_four_parts, is_first, is_inner, is_last}
+use Rattle.nodejs_semver.specs.Npm.{Malformed.{is_regular, is_sign, last_visible}, RangeText.tilde_sign, Table.{Partial, Sign}}
+use Rattle.semver_core.{proofs.Text.{Listed.plain_runs, Pieces.tail_onto}, specs.Internal.CommonReading.is_plain}
 use Rattle.std.proofs.{Common.add-one, Math.Seq.drop-cons, lemmas.List.Folds.list_all_at}
 use Rattle.nodejs_semver.specs.Npm.RangeText as Text
 
@@ -36,13 +36,12 @@ place-part : (loose zeros : Bool) (x : List ℕ) (a : Option ℕ) → IsPlace lo
 place-part loose zeros x a h = all_weaker is_place_byte is_part (λ b k. grind (arith, nat_tests)) x (place-bytes loose zeros x a h).0
 
 pieces-part : (t : List ℕ) → tail_runs (pieces t) ≡ true → list_all is_part t ≡ true
-pieces-part [] h = refl
-pieces-part (c ∷ t) h = grind (arith, nat_tests, common_steps, eqb-true, runs_tail, tail_onto, tail_runs, pieces-part t)
+pieces-part t h = all_weaker is_plain is_part (λ b k. grind (arith, nat_tests)) t (plain_runs t h)
 
-pre-part : (loose : Bool) (p : List ℕ) (l : List Id) → IsPreRelease loose p l → list_all is_part p ≡ true
+pre-part : (loose : Bool) (p : List ℕ) (l : List Id) → IsPreRelease loose (may_stand loose) p l → list_all is_part p ≡ true
 pre-part loose p l no_pre_release = refl
 pre-part loose p l (dashed t list h s) = pieces-part t (runs_tail (pieces t) h.runs)
-pre-part loose p l (bare t list e f h s) = pieces-part t (runs_tail (pieces t) h.runs)
+pre-part loose p l (bare t list h s f) = pieces-part t (runs_tail (pieces t) h.runs)
 
 build-part : (p : List ℕ) (l : List Id) → IsStrictBuild p l → list_all is_part p ≡ true
 build-part p l no_build = refl
@@ -51,11 +50,7 @@ build-part p l (plus t list h) = pieces-part t (runs_tail (pieces t) h.runs)
 pub partial-part : (loose : Bool) (x : List ℕ) (p : Partial) → IsPartial loose x p → list_all is_part x ≡ true
 partial-part loose x p (one x1 a h) = place-part loose false x1 a h
 partial-part loose x p (two x1 y a b h k) = all-join is_part x1 (46 ∷ y) (place-part loose false x1 a h) (place-part loose (has_zeros a) y b k)
-partial-part loose x p (three x1 y z pre build a b c ids builds h k l m s n t) =
-    let last_part = all-join is_part pre build (pre-part loose pre ids m) (build-part build builds n) in
-    let third = all-join is_part z (pre ++ build) (place-part loose (has_zeros a) z c l) last_part in
-    let second = all-join is_part y (46 ∷ (z ++ (pre ++ build))) (place-part loose (has_zeros a) y b k) third in
-    all-join is_part x1 (46 ∷ (y ++ 46 ∷ (z ++ (pre ++ build)))) (place-part loose false x1 a h) second
+partial-part loose x p (three x1 y z pre build a b c ids builds h k l m n t) = grind (arith, nat_tests, common_steps, all-join, build-part, place-part, pre-part)
 
 -- ---- the characters of whitespace
 
@@ -141,7 +136,7 @@ place-dotless loose zeros x a h = all_weaker is_first is_dotless (λ b k. grind 
 abbrev is_dot : ℕ → Bool
 is_dot b = b == 46
 
-pre-first : (loose : Bool) (p b : List ℕ) (l m : List Id) → IsPreRelease loose p l → IsStrictBuild b m → begins is_dot (p ++ b) ≡ false
+pre-first : (loose : Bool) (p b : List ℕ) (l m : List Id) → IsPreRelease loose (may_stand loose) p l → IsStrictBuild b m → begins is_dot (p ++ b) ≡ false
 pre-first loose p b l m h k = grind (arith, nat_tests, common_steps)
 
 third : (z q : List ℕ) → list_all is_dotless z ≡ true → 0 < length z → begins is_dot q ≡ false → begins is_dot (drop 1 (z ++ q)) ≡ false
@@ -157,7 +152,7 @@ partial-parts loose x p (two x1 y a b h k) =
     let d : after_dot (x1 ++ 46 ∷ y) ≡ y = dotless-passed x1 (46 ∷ y) (place-dotless loose false x1 a h) in
     let e : after_dot y ≡ [] = rw append-nil at (dotless-passed y [] (place-dotless loose (has_zeros a) y b k)) in
     rw (d, e) refl
-partial-parts loose x p (three x1 y z pre build a b c ids builds h k l m s n t) =
+partial-parts loose x p (three x1 y z pre build a b c ids builds h k l m n t) =
     grind (arith, nat_tests, common_steps, dotless-passed, place-dotless, place-bytes, third, pre-first)
 
 -- ---- the parts of a well-formed word
@@ -192,7 +187,7 @@ partial-places loose x p (two x1 y a b h k) =
     let d : after_dot (x1 ++ 46 ∷ y) ≡ y = dotless-passed x1 (46 ∷ y) (place-dotless loose false x1 a h) in
     let e : after_dot y ≡ [] = rw append-nil at (dotless-passed y [] (place-dotless loose (has_zeros a) y b k)) in
     rw (d, e, place-dotted loose false x1 y a h, place-alone loose (has_zeros a) y b k, or-true (is_empty y)) refl
-partial-places loose x p (three x1 y z pre build a b c ids builds h k l m s n t) =
+partial-places loose x p (three x1 y z pre build a b c ids builds h k l m n t) =
     grind (arith, dotless-passed, place-dotless, begins-on, place-first, place-bytes, place-dotted, or-true, and_parts)
 
 -- ---- the signs of a well-formed word
@@ -224,17 +219,10 @@ sign-one signs v s (late_below y b) a h = rw (blank-none y b (all-front y (61 �
 sign-one signs v s (caret_equal y z b c) a h =
     let front = all-front y (61 ∷ z) a in
     rw (blank-none y b front.0, blank-none z c front.1) h
-sign-one signs v s (tilde_sign above y z b c which) a h =
-    let front = all-front y (62 ∷ z) a in
-    rw (blank-none y b front.0, blank-none z c front.1) h
-sign-one signs v s (tilde_sign at_least y z b c which) a h =
-    let front = all-front y (62 ∷ 61 ∷ z) a in
-    rw (blank-none y b front.0, blank-none z c front.1) h
-sign-one signs v s (tilde_sign equal y z b c which) a h =
-    let front = all-front y (61 ∷ z) a in
-    rw (blank-none y b front.0, blank-none z c front.1) h
-sign-one signs v s (tilde_sign at_most y z b c which) a h = absurd (grind (arith, which))
-sign-one signs v s (tilde_sign below y z b c which) a h = absurd (grind (arith, which))
+sign-one signs v s (tilde_sign d y z b c which) a h =
+    let front = all-front y (spelling (compared d) ++ z) a in
+    rw (blank-none y b front.0, blank-none z c (all-front (spelling (compared d)) z front.1).1)
+    (elim which [ inl e ↦ rw e h | inr (inl e) ↦ rw e h | inr (inr e) ↦ rw e h ])
 sign-one signs v s (tilde_twice d y z b some c which) a h =
     absurd (omega (arith, some, ap length (blank-none y b (all-front y (spelling (compared d) ++ z) a).0)))
 
@@ -255,19 +243,19 @@ place-end loose zeros x a h = grind (arith, nat_tests, common_steps, place-bytes
 last-end : (u v : List ℕ) → ends is_last v ≡ true → ends is_last (u ++ v) ≡ true
 last-end u v h = ends-append is_last u v (ends-some is_last v h) ∙ h
 
-qualified-end : (loose : Bool) (z pre build : List ℕ) (ids builds : List Id) → ends is_last z ≡ true → IsPreRelease loose pre ids
+qualified-end : (loose : Bool) (z pre build : List ℕ) (ids builds : List Id) → ends is_last z ≡ true → IsPreRelease loose (may_stand loose) pre ids
     → IsStrictBuild build builds → ends is_last (z ++ (pre ++ build)) ≡ true
 qualified-end loose z pre build ids builds e m (plus t list h) =
     last-end z (pre ++ 43 ∷ t) (last-end pre (43 ∷ t) (last-end (43 ∷ []) t (identifiers-end t list h)))
 qualified-end loose z pre build ids builds e no_pre_release no_build = rw (append-nil z) e
 qualified-end loose z pre build ids builds e (dashed t list h s) no_build =
     rw (append-nil t) (last-end z (45 ∷ t) (last-end (45 ∷ []) t (identifiers-end t list h)))
-qualified-end loose z pre build ids builds e (bare t list f g h s) no_build = rw (append-nil t) (last-end z t (identifiers-end t list h))
+qualified-end loose z pre build ids builds e (bare t list h s f) no_build = rw (append-nil t) (last-end z t (identifiers-end t list h))
 
 partial-end : (loose : Bool) (x : List ℕ) (p : Partial) → IsPartial loose x p → ends is_last x ≡ true
 partial-end loose x p (one x1 a h) = place-end loose false x1 a h
 partial-end loose x p (two x1 y a b h k) = last-end x1 (46 ∷ y) (last-end (46 ∷ []) y (place-end loose (has_zeros a) y b k))
-partial-end loose x p (three x1 y z pre build a b c ids builds h k l m s n t) =
+partial-end loose x p (three x1 y z pre build a b c ids builds h k l m n t) =
     let q = z ++ (pre ++ build) in
     let last = qualified-end loose z pre build ids builds (place-end loose (has_zeros a) z c l) m n in
     last-end x1 (46 ∷ (y ++ 46 ∷ q)) (last-end (46 ∷ []) (y ++ 46 ∷ q) (last-end y (46 ∷ q) (last-end (46 ∷ []) q last)))
@@ -298,7 +286,7 @@ regular-kept : (w rest : List ℕ) → list_all is_visible w ≡ true → begins
     → is_regular w ≡ true → begins_malformed (w ++ rest) ≡ false
 regular-kept w rest h dark parts regular =
     let r = run-is w rest h dark in
-    rw (r.0, r.1, parts, regular) (none (list_all is_visible w) (is_empty w) (is_empty rest || not (is_open w)))
+    rw (r.0, r.1, parts, regular) (none (list_all is_visible w) (is_empty w) (is_empty rest || not (ends is_sign w || bytes_eq w (45 ∷ []))))
   where
     none : (a c d : Bool) → (a && (not c && (d && false))) ≡ false
     none a c d = grind arith
@@ -326,6 +314,9 @@ first-word loose u x rest p h plain k first dark =
     ) places.1 in
     regular-kept (u ++ x) rest visible dark parts regular
   where
+    is_mark_or_sign : ℕ → Bool
+    is_mark_or_sign b = is_sign b || b == 118
+
     more : (u x : List ℕ) → begins_component x ≡ true → list_all is_mark_or_sign (u ++ x) ≡ false
     more [] [] h = cc h
     more [] (b ∷ x) h = grind (arith, nat_tests)
@@ -388,25 +379,24 @@ malformed-more x h = opposite (ends is_sign x) (bytes_eq x (45 ∷ [])) (list_al
 pub ignored-read : (loose : Bool) (x rest : List ℕ) → loose ≡ true → is_malformed (is_empty rest) x ≡ true → is_boundary rest ≡ true
     → ignored_front loose (x ++ rest) ≡ Some ((compared equal, Partial.wildcard, []), rest)
 unfolding ignored_front
-ignored-read loose x rest l h b =
-    let r = run-is x rest (malformed-all (is_empty rest) x h) (boundary-dark rest b) in
-    rw (l, r.0, r.1, h, b) refl
+ignored-read loose x rest l h b = grind (arith, nat_tests, common_steps, boundary-dark, malformed-all, run-is)
 
 pub visible_front : (text : List ℕ) (at : ℕ) → at ≡ prefix_len is_visible text → list_all is_visible (take at text) ≡ true
 visible_front text at e = rw e (prefix-all is_visible text)
+
+pub empty-length : (text : List ℕ) → is_empty text ≡ (length text == 0)
+empty-length text = grind (arith, nat_tests, common_steps)
 
 pub begins_at : (text : List ℕ) (at : ℕ) (r : Bool) → at ≡ prefix_len is_visible text → at ≤ length text
     → r ≡ is_malformed (at == length text) (take at text) → r ≡ begins_malformed text
 begins_at text at r e fits h = rw e at (h ∙ ap (λ (l : Bool). is_malformed l (take at text)) (end-empty text at fits))
   where
-    same : (a b : ℕ) → (suc a == suc b) ≡ (a == b)
-    same a b = grind (arith, nat_tests)
+    none-left : (at size : ℕ) → at ≤ size → (at == size) ≡ (size - at == 0)
+    none-left at size h = grind (arith, nat_tests)
 
     end-empty : (text : List ℕ) (at : ℕ) → at ≤ length text → (at == length text) ≡ is_empty (drop at text)
-    end-empty [] zero h = refl
-    end-empty [] (suc at) h = absurd (omega (arith, h))
-    end-empty (b ∷ text) zero h = grind (arith, nat_tests)
-    end-empty (b ∷ text) (suc at) h = same at (length text) ∙ end-empty text at (omega (arith, h))
+    end-empty text at h =
+        none-left at (length text) h ∙ ap (λ (n : ℕ). n == 0) (sym (length-drop at text)) ∙ sym (empty-length (drop at text))
 
 pub ruleset begins_visible = (visible_front, begins_at)
 
@@ -457,10 +447,6 @@ last-behind (b ∷ text) zero d h k l = rw k (all-last text l)
 last-behind (b ∷ text) (suc at) d h k l =
     rw (list_all_at is_visible (b ∷ text) (suc at) d h k) (last-behind text at d (omega (arith, h)) k l)
 
-more-visible : (text : List ℕ) (at d : ℕ) → at < length text → is_visible (get_or text at d) ≡ true
-    → list_all is_visible (drop (suc at) text) ≡ true → list_all is_visible (drop at text) ≡ true
-more-visible text at d h k l = rw (drop-cons text at d h, k, l) refl
-
 -- the last one is at the front, or behind one that is not visible
 pub last_all : (text : List ℕ) (start : ℕ) → list_all is_visible (drop start text) ≡ true → start ≡ 0 → drop start text ≡ last_visible text
 last_all text start h e = rw e (sym (all-last text (rw e at h)))
@@ -468,13 +454,7 @@ last_all text start h e = rw e (sym (all-last text (rw e at h)))
 pub last_found : (text : List ℕ) (start d : ℕ) → list_all is_visible (drop start text) ≡ true → 0 < start → start ≤ length text
     → is_visible (get_or text (start - 1) d) ≡ false → drop start text ≡ last_visible text
 last_found text zero d h some fits k = absurd (omega (arith, some))
-last_found text (suc at) d h some fits k =
-    let e : suc at - 1 ≡ at = omega arith in
-    sym (last-behind text at d (omega (arith, fits)) (rw e at k) h)
-
-pub last_step : (text : List ℕ) (start d : ℕ) → list_all is_visible (drop start text) ≡ true → 0 < start → start ≤ length text
-    → is_visible (get_or text (start - 1) d) ≡ true → list_all is_visible (drop (start - 1) text) ≡ true
-last_step text start d h some fits k = grind (arith, nat_tests, common_steps, more-visible)
+last_found text (suc at) d h some fits k = grind (arith, nat_tests, common_steps, last-behind)
 
 pub last_begin : (text : List ℕ) (start : ℕ) → start ≡ length text → list_all is_visible (drop start text) ≡ true
 last_begin text start e = rw (drop_all start text (omega arith)) refl
@@ -487,9 +467,10 @@ pub ruleset ends_visible = (visible_last)
 
 -- ---- the last character
 
+pub last-byte : (p : ℕ → Bool) (x rest : List ℕ) (d : ℕ) → 0 < length x → p (get_or (x ++ rest) (length x - 1) d) ≡ ends p x
+last-byte p [] rest d some = absurd (omega (arith, some))
+last-byte p (c ∷ []) rest d some = refl
+last-byte p (c ∷ e ∷ x) rest d some = grind (arith, last-byte p (e ∷ x) rest d (omega arith))
+
 pub last-is : (p : ℕ → Bool) (w : List ℕ) (d : ℕ) → 0 < length w → p (get_or w (length w - 1) d) ≡ ends p w
-last-is p [] d h = absurd (omega (arith, h))
-last-is p (b ∷ []) d h = refl
-last-is p (b ∷ c ∷ w) d h =
-    let e : length (b ∷ c ∷ w) - 1 ≡ suc (length (c ∷ w) - 1) = omega arith in
-    rw e (last-is p (c ∷ w) d (omega arith))
+last-is p w d h = rw append-nil at (last-byte p w [] d h)

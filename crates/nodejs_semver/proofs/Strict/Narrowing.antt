@@ -1,7 +1,7 @@
 -- What comparators have in common, as spans: that of one comparator, and that of two lists.
 use Rattle.nodejs_semver.proofs.{Algebra.{Accepting.lets_in_one, Gate.{both, lets_in-meet}}, Common.{After, Before, Bool, Bound}}
 use Rattle.nodejs_semver.proofs.Common.{Comparator, Id, List, MAX_SAFE_INTEGER, None, Option, Ordering, Some, Span, Unbounded, VersionValue}
-use Rattle.nodejs_semver.proofs.Common.{[], above, and_parts, ap, ap₂, arith, at_most, below, common_steps, cond_both, cut_cmp, equal}
+use Rattle.nodejs_semver.proofs.Common.{[], above, and-true, and_parts, ap, ap₂, arith, at_most, below, common_steps, cond_both, cut_cmp, equal}
 use Rattle.nodejs_semver.proofs.Common.{false, greater_lower, holds, interval, is_empty, is_eq, is_ge, is_gt, is_interval, is_le, is_lt}
 use Rattle.nodejs_semver.proofs.Common.{is_past, is_range_bound, is_readable, is_release, lesser_upper, lets_in, list_all, list_all-append}
 use Rattle.nodejs_semver.proofs.Common.{list_any, list_any-append, lower_cut, meet, nat_tests, not, option_holds-interval, precedence}
@@ -58,7 +58,7 @@ pub one_common : (include : Bool) (c : Comparator) (w : VersionValue) (build : L
     → is_readable MAX_SAFE_INTEGER w ≡ true → counts include (comparison c w build text) ≡ true
     → IsCommon include (comparison c w build text ∷ []) (compared_span c w)
 one_common include c w build text r h = record {
-  held = λ v. rw h (grind (arith, holds-compared));
+  held = λ v. rw h (holds-compared c w build text v ∙ sym (and-true _));
   let_in = λ v _. rw h (grind (arith, lets_in-compared));
   unbounded = rw h (grind arith);
   lower = grind (arith, nat_tests, common_steps);

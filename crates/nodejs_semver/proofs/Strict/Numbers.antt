@@ -1,9 +1,9 @@
 -- Numbers without leading zeros: what is read is written, and what is written is read.
-use Rattle.nodejs_semver.proofs.Common.{Front, IsPieceAt, IsWholeNumber, List, MAX_SAFE_INTEGER, NoPieceAt, None, Some, [], arith, begins}
-use Rattle.nodejs_semver.proofs.Common.{cases_Bool, common_steps, decimal, drop, eqb-true, false, inl, inr, is_ascii_digit, length}
-use Rattle.nodejs_semver.proofs.Common.{list_all, nat_tests, refl, take, take_rest, true, ℕ, ◌++◌, ◌-◌, ◌<◌, ◌==◌, ◌^◌, ◌∷◌, ◌≡◌, ◌≤◌}
-use Rattle.nodejs_semver.proofs.NpmCommon.{IsStrictNumber, begins_padded, digits_value, dotted_number, has_leading_zero, number_front}
-use Rattle.nodejs_semver.proofs.{NpmCommon.strict_number, Reading.Numbers.{front_none, front_some, number-found, number-read}}
+use Rattle.nodejs_semver.proofs.Common.{Front, IsPieceAt, IsWholeNumber, List, MAX_SAFE_INTEGER, NoPieceAt, None, Some, ap, arith, begins, bind_some}
+use Rattle.nodejs_semver.proofs.Common.{cases_Bool, common_steps, decimal, drop, false, inl, inr, is_ascii_digit, length}
+use Rattle.nodejs_semver.proofs.Common.{list_all, nat_tests, refl, take, take_rest, true, ℕ, ◌++◌, ◌-◌, ◌<◌, ◌^◌, ◌∙◌, ◌∷◌, ◌≡◌, ◌≤◌}
+use Rattle.nodejs_semver.proofs.NpmCommon.{IsStrictNumber, after_byte, begins_padded, digits_value, dotted_number, has_leading_zero, number_front}
+use Rattle.nodejs_semver.proofs.{NpmCommon.strict_number, Reading.{Numbers.{front_none, front_some, number-found, number-read}, WordLaw.byte-is}}
 use Rattle.{semver_core.proofs.Text.Runs.numerals, std.proofs.lemmas.Fmt.{decimal-digits_value, length-decimal-le}}
 
 -- ---- the number that the code finds
@@ -29,15 +29,11 @@ strict_some limit text n end h piece = rw (h, take_rest text end) (front_some li
 pub ruleset numbers_found = (strict_padded, strict_none, strict_some)
 
 -- the same with leading zeros
-pub front_missing : (limit : ℕ) (text : List ℕ) → ((n : ℕ) → NoPieceAt (λ digits rest. IsWholeNumber limit digits rest n) text 0)
-    → number_front limit text ≡ None
-front_missing limit text none = front_none limit text none
-
 pub front_there : (limit : ℕ) (text : List ℕ) (n end : ℕ) → IsPieceAt (λ digits rest. IsWholeNumber limit digits rest n) text 0 end
     → number_front limit text ≡ found n (take (length text - end) (drop end text))
 front_there limit text n end piece = rw (take_rest text end) (front_some limit text n end piece)
 
-pub ruleset numbers_in = (front_missing, front_there)
+pub ruleset numbers_in = (front_none, front_there)
 
 -- ---- a number is written where one is read, and read where one is written
 
@@ -69,13 +65,10 @@ strict-read limit digits rest n h stop =
 pub dotted-found : (limit : ℕ) (text : List ℕ) (n : ℕ) (rest : List ℕ) → dotted_number limit text ≡ Some (n, rest)
     → (digits : List ℕ) × (text ≡ 46 ∷ (digits ++ rest)) × IsStrictNumber limit digits n
 unfolding dotted_number
-dotted-found limit [] n rest h = cc h
-dotted-found limit (c ∷ t) n rest h = elim (cases_Bool (c == 46)) [
-  | inl dot ↦
-      let f = strict-found limit t n rest (rw dot at h) in
-      (f.digits, rw (eqb-true c 46 dot, ← f.split) refl, f.is)
-  | inr other ↦ cc (rw other at h)
-]
+dotted-found limit text n rest h =
+    let t = bind_some (after_byte 46 text) _ (n, rest) h in
+    let f = strict-found limit t.0 n rest t.2 in
+    (f.digits, byte-is 46 text t.0 t.1 ∙ ap (λ (t : List ℕ). 46 ∷ t) f.split, f.is)
 
 pub dotted-read : (limit : ℕ) (digits rest : List ℕ) (n : ℕ) → IsStrictNumber limit digits n → begins is_ascii_digit rest ≡ false
     → dotted_number limit (46 ∷ (digits ++ rest)) ≡ Some (n, rest)

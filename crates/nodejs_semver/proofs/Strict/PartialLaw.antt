@@ -1,15 +1,13 @@
 -- Partial versions of node-semver's range texts: the function that reads them finds exactly what the statement has.
 use Rattle.nodejs_semver.proofs.Common.{Bool, Front, Id, List, None, Option, Some, [], and_parts, append_assoc, arith, begins, bind_some}
-use Rattle.nodejs_semver.proofs.Common.{cases_Bool, common_steps, drop, false, inl, inr, is_ascii_digit, is_boundary, list_all, nat_tests}
-use Rattle.nodejs_semver.proofs.{Common.{pieces, refl, true, ℕ, ◌&&◌, ◌++◌, ◌∷◌, ◌≡◌}, NpmCommon.{IsPartial, IsPlace, IsStrictBuild}}
-use Rattle.nodejs_semver.proofs.NpmCommon.{are_spelled, build_front, dotted_patch, dotted_place, has_zeros, is_short_build}
-use Rattle.nodejs_semver.proofs.NpmCommon.{is_short_identifier, one, partial_of, place_front, pre_front, qualified_partial, second_front}
-use Rattle.nodejs_semver.proofs.{NpmCommon.{third_front, three, two, undashed}, Reading.Bytes.{is_solid, solid-dark}}
+use Rattle.nodejs_semver.proofs.Common.{cases_Bool, common_steps, drop, false, inl, inr, is_ascii_digit, is_boundary, nat_tests, refl, true}
+use Rattle.nodejs_semver.proofs.{Common.{ℕ, ◌&&◌, ◌++◌, ◌∷◌, ◌≡◌}, NpmCommon.{IsPartial, IsPlace, IsStrictBuild, build_front, dotted_patch}}
+use Rattle.nodejs_semver.proofs.NpmCommon.{dotted_place, has_zeros, may_stand, one, partial_of, place_front, pre_front, qualified_partial}
+use Rattle.nodejs_semver.proofs.{NpmCommon.{second_front, third_front, three, two}, Reading.Bytes.{is_solid, solid-dark}}
 use Rattle.nodejs_semver.proofs.Strict.Places.{dotted_patch-found, dotted_place-found, dotted_place-read, patch-read, place-found}
 use Rattle.nodejs_semver.proofs.Strict.{Places.place-read, Qualifiers.{Ends, build-found, build-taken, ends-nil, pre-follows, pre-found}}
-use Rattle.nodejs_semver.{proofs.Strict.Qualifiers.pre-taken, specs.Internal.NpmWords.{are_short_builds, are_short_identifiers}}
-use Rattle.nodejs_semver.specs.{Internal.NpmWords.partial_front, Npm.{RangeText.IsPreRelease, Table.Partial}}
-use Rattle.semver_core.proofs.Text.Runs.{list_len_stop}
+use Rattle.nodejs_semver.{proofs.Strict.Qualifiers.pre-taken, specs.Internal.NpmWords.{are_short_builds, partial_front}}
+use Rattle.{nodejs_semver.specs.Npm.{Grammar.IsPreRelease, Table.Partial}, semver_core.proofs.Text.Runs.list_len_stop}
 
 -- ---- nothing goes on at a boundary
 
@@ -34,12 +32,11 @@ quiet-dot loose zeros more h = grind (arith, nat_tests, common_steps)
 
 -- ---- what is written is read
 
-qualified-read : (loose : Bool) (a b c : Option ℕ) (pre build more : List ℕ) (l m : List Id) → IsPreRelease loose pre l
-    → list_all is_short_identifier (pieces (undashed pre)) ≡ true → IsStrictBuild build m
-    → list_all is_short_build (pieces (drop 1 build)) ≡ true → Ends more
+qualified-read : (loose : Bool) (a b c : Option ℕ) (pre build more : List ℕ) (l m : List Id)
+    → IsPreRelease loose (may_stand loose) pre l → IsStrictBuild build m → are_short_builds (drop 1 build) ≡ true → Ends more
     → qualified_partial loose a b c (pre ++ (build ++ more)) ≡ Some (partial_of a b c l m, more)
 unfolding qualified_partial
-qualified-read loose a b c pre build more l m h s k t e = grind (arith, nat_tests, common_steps, pre-taken, build-taken)
+qualified-read loose a b c pre build more l m h k t e = grind (arith, nat_tests, common_steps, build-taken, pre-taken)
 
 pub partial-read : (loose : Bool) (x more : List ℕ) (p : Partial) → IsPartial loose x p → begins is_solid more ≡ false
     → partial_front loose (x ++ more) ≡ Some (p, more)
@@ -47,7 +44,7 @@ unfolding partial_front
 partial-read loose x more p (one x1 a h) quiet = rw (place-read loose false x more a h (quiet-digit more quiet), quiet-dot loose (has_zeros a) more quiet) refl
 partial-read loose x more p (two x1 y a b h k) quiet =
     grind (arith, nat_tests, common_steps, append_assoc, place-read, dotted_place-read, quiet-digit, quiet-patch)
-partial-read loose x more p (three x1 y z pre build a b c ids builds h k l m s n t) quiet =
+partial-read loose x more p (three x1 y z pre build a b c ids builds h k l m n t) quiet =
     grind (arith, quiet-ends, append_assoc, place-read, dotted_place-read, patch-read, pre-follows, qualified-read)
 
 -- ---- what is read is written
@@ -58,10 +55,9 @@ record QualifiedAt (loose : Bool) (a b c : Option ℕ) (text : List ℕ) (p : Pa
   ids : List Id
   builds : List Id
   split : text ≡ pre ++ (build ++ rest)
-  pre_is : IsPreRelease loose pre ids
-  pre_short : list_all is_short_identifier (pieces (undashed pre)) ≡ true
+  pre_is : IsPreRelease loose (may_stand loose) pre ids
   build_is : IsStrictBuild build builds
-  build_short : list_all is_short_build (pieces (drop 1 build)) ≡ true
+  build_short : are_short_builds (drop 1 build) ≡ true
   same : partial_of a b c ids builds ≡ p
 
 qualified-found : (loose : Bool) (a b c : Option ℕ) (text : List ℕ) (p : Partial) (rest : List ℕ) → qualified_partial loose a b c text ≡ Some (p, rest)
@@ -70,13 +66,11 @@ unfolding qualified_partial
 qualified-found loose a b c text p rest h =
     let front = pre_front loose text in
     let last = build_front front.1 in
-    let test = are_short_identifiers front.0 && are_short_builds last.0 in
-    elim (cases_Bool (are_spelled loose front.0 && test)) [
+    elim (cases_Bool (may_stand loose front.0 && are_short_builds last.0)) [
       | inr other ↦ cc (rw other at h)
       | inl good ↦
-          let parts = and_parts (are_spelled loose front.0) test good in
-          let shorts = and_parts (are_short_identifiers front.0) (are_short_builds last.0) parts.1 in
-          let f = pre-found loose text parts.0 in
+          let parts = and_parts (may_stand loose front.0) (are_short_builds last.0) good in
+          let f = pre-found loose (may_stand loose) text parts.0 in
           let g = build-found front.1 in
           grind (arith, nat_tests, common_steps)
     ]
@@ -95,7 +89,7 @@ third-found loose a b x y behind None p rest h k e r =
 third-found loose a b x y behind (Some c) p rest h k e r =
     let z = dotted_patch-found loose (has_zeros a) behind c.0 c.1 e in
     let q = qualified-found loose a b c.0 c.1 p rest r in
-    let is = three x y z.0 q.pre q.build a b c.0 q.ids q.builds h k z.2 q.pre_is q.pre_short q.build_is q.build_short in
+    let is = three x y z.0 q.pre q.build a b c.0 q.ids q.builds h k z.2 q.pre_is q.build_is q.build_short in
     grind (arith, nat_tests, common_steps, append_assoc)
 
 second-found : (loose : Bool) (a : Option ℕ) (x behind : List ℕ) (o : Front (Option ℕ)) (p : Partial) (rest : List ℕ) → IsPlace loose false x a

@@ -1,11 +1,11 @@
 -- Places of node-semver's partial versions: what is read is written, and what is written is read.
-use Rattle.nodejs_semver.proofs.Common.{Bool, IsNumber, List, None, Option, Some, [], and-false, and_parts, ap, arith, begins, cases_Bool}
-use Rattle.nodejs_semver.proofs.Common.{common_steps, drop, drop_at, eqb-true, false, inl, inr, is_ascii_digit, is_empty, length, list_all}
+use Rattle.nodejs_semver.proofs.Common.{Bool, IsNumber, List, None, Option, Some, [], and-false, and_parts, ap, arith, begins, bind_some, cases_Bool}
+use Rattle.nodejs_semver.proofs.Common.{common_steps, drop, drop_at, false, inl, inr, is_ascii_digit, is_empty, length, list_all}
 use Rattle.nodejs_semver.proofs.Common.{nat_tests, not, prefix_len, refl, same_Some, suc, sym, take, take-append-drop, take_at, true, zero}
 use Rattle.nodejs_semver.proofs.{Common.{ℕ, ◌&&◌, ◌++◌, ◌+◌, ◌-◌, ◌<◌, ◌==◌, ◌||◌, ◌∙◌, ◌∷◌, ◌≡◌, ◌≤◌}, NpmCommon.{IsPlace, begins_byte}}
-use Rattle.nodejs_semver.proofs.NpmCommon.{begins_wildcard, digits_value, dotted_patch, dotted_place, drop-append-add, is_spelled}
+use Rattle.nodejs_semver.proofs.NpmCommon.{after_byte, begins_wildcard, digits_value, dotted_patch, dotted_place, drop-append-add, is_spelled}
 use Rattle.nodejs_semver.proofs.NpmCommon.{most_digits, nat_le, patch_place, place_front, run_place, take_while}
-use Rattle.nodejs_semver.proofs.{Reading.Numbers.{digits-taken, number-no_wildcard}, Strict.Qualifiers.Follows}
+use Rattle.nodejs_semver.proofs.{Reading.{Numbers.{digits-taken, number-no_wildcard}, WordLaw.byte-is}, Strict.Qualifiers.Follows}
 use Rattle.std.proofs.lemmas.List.Sums.{prefix_len-drop_all, prefix_len-drop_no, prefix_len-drop_yes}
 use Rattle.nodejs_semver.specs.Npm.RangeText as Text
 
@@ -89,13 +89,10 @@ place-found loose zeros (c ∷ text) a rest h = elim (cases_Bool (begins_wildcar
 pub dotted_place-found : (loose zeros : Bool) (text : List ℕ) (a : Option ℕ) (rest : List ℕ) → dotted_place loose zeros text ≡ Some (a, rest)
     → (x : List ℕ) × (text ≡ 46 ∷ (x ++ rest)) × IsPlace loose zeros x a
 unfolding dotted_place
-dotted_place-found loose zeros [] a rest h = cc h
-dotted_place-found loose zeros (c ∷ t) a rest h = elim (cases_Bool (c == 46)) [
-  | inl dot ↦
-      let f = place-found loose zeros t a rest (rw dot at h) in
-      (f.piece, rw (eqb-true c 46 dot, ← f.split) refl, f.is)
-  | inr other ↦ cc (rw other at h)
-]
+dotted_place-found loose zeros text a rest h =
+    let t = bind_some (after_byte 46 text) _ (a, rest) h in
+    let f = place-found loose zeros t.0 a rest t.2 in
+    (f.piece, byte-is 46 text t.0 t.1 ∙ ap (λ (l : List ℕ). 46 ∷ l) f.split, f.is)
 
 -- ---- the third place
 
@@ -104,7 +101,7 @@ digits-of zero text h = refl
 digits-of (suc k) [] h = refl
 digits-of (suc k) (c ∷ text) h = grind (arith, nat_tests, common_steps, digits-of k text)
 
-digits-many_on : (digits rest : List ℕ) → list_all is_ascii_digit digits ≡ true
+pub digits-many_on : (digits rest : List ℕ) → list_all is_ascii_digit digits ≡ true
     → prefix_len is_ascii_digit (digits ++ rest) ≡ length digits + prefix_len is_ascii_digit rest
 digits-many_on [] rest h = omega arith
 digits-many_on (c ∷ digits) rest h = grind (arith, nat_tests, common_steps, and_parts, digits-many_on digits rest)
@@ -132,18 +129,15 @@ patch-read loose zeros x rest a (Text.number digits n k spelled short) (inr lone
 pub dotted_patch-found : (loose zeros : Bool) (text : List ℕ) (a : Option ℕ) (rest : List ℕ) → dotted_patch loose zeros text ≡ Some (a, rest)
     → (x : List ℕ) × (text ≡ 46 ∷ (x ++ rest)) × IsPlace loose zeros x a
 unfolding dotted_patch patch_place
-dotted_patch-found loose zeros [] a rest h = cc h
-dotted_patch-found loose zeros (c ∷ t) a rest h = elim (cases_Bool (c == 46)) [
-  | inr other ↦ cc (rw other at h)
-  | inl dot ↦
-      let n = prefix_len is_ascii_digit t in
-      elim (cases_Bool (loose && begins_byte 46 (drop n t))) [
-        | inr bare ↦
-            let f = place-found loose zeros t a rest (rw (dot, bare) at h) in
-            (f.piece, rw (eqb-true c 46 dot, ← f.split) refl, f.is)
-        | inl cut ↦
-            let run = take (n - 1) t in
-            let f = run-found loose zeros run (drop (n - 1) t) a rest (rw (dot, cut) at h) (digits-of (n - 1) t (omega arith)) in
-            (run, rw (eqb-true c 46 dot) (ap (λ (l : List ℕ). 46 ∷ l) (sym (take-append-drop (n - 1) t) ∙ ap (λ (l : List ℕ). run ++ l) f.1)), f.0)
-      ]
-]
+dotted_patch-found loose zeros text a rest h =
+    let b = bind_some (after_byte 46 text) _ (a, rest) h in
+    let t = b.0 in
+    let n = prefix_len is_ascii_digit t in
+    let dotted = λ (l : List ℕ) (e : t ≡ l). byte-is 46 text t b.1 ∙ ap (λ (l : List ℕ). 46 ∷ l) e in
+    elim (cases_Bool (loose && begins_byte 46 (drop n t))) [
+      | inr bare ↦ (let f = place-found loose zeros t a rest (rw bare at b.2) in (f.piece, dotted _ f.split, f.is))
+      | inl cut ↦
+          let run = take (n - 1) t in
+          let f = run-found loose zeros run (drop (n - 1) t) a rest (rw cut at b.2) (digits-of (n - 1) t (omega arith)) in
+          (run, dotted _ (sym (take-append-drop (n - 1) t) ∙ ap (λ (l : List ℕ). run ++ l) f.1), f.0)
+    ]

@@ -1,12 +1,11 @@
 -- The pre-release and the build behind the numbers: what is read is written, and what is written is read.
-use Rattle.nodejs_semver.proofs.Common.{Bool, Id, IsIdentifiers, List, [], and-false, ap, append-nil, arith, begins, begins_identifier}
+use Rattle.nodejs_semver.proofs.Common.{Bool, Id, List, [], and-false, and_parts, ap, arith, begins, begins_identifier}
 use Rattle.nodejs_semver.proofs.Common.{cases_Bool, common_steps, drop, false, inl, inr, is_ascii_digit, list_len, nat_tests, refl, subst}
 use Rattle.nodejs_semver.proofs.{Common.{sym, take, take-append-drop, true, ℕ, ◌++◌, ◌==◌, ◌∙◌, ◌∷◌, ◌≡◌, ◌⊎◌}, NpmCommon.IsStrictBuild}
-use Rattle.nodejs_semver.proofs.NpmCommon.{IsStrictPreRelease, are_spelled, bare, begins_byte, begins_undashed, build_front, dashed_front}
-use Rattle.nodejs_semver.proofs.NpmCommon.{goes_on, is_strict_list, listed, no_build, plus, pre_front, pre_release_front, undashed}
+use Rattle.nodejs_semver.proofs.NpmCommon.{IsStrictPreRelease, bare, begins_byte, begins_undashed, build_front, dashed, dashed_front}
+use Rattle.nodejs_semver.proofs.NpmCommon.{goes_on, listed, no_build, no_pre_release, plus, pre_front, pre_release_front}
 use Rattle.nodejs_semver.proofs.Reading.IdentifierLists.{front-identifiers, written-begins, written-exact, written-spelled}
-use Rattle.{nodejs_semver.specs.Npm.RangeText.{IsPreRelease, dashed, no_pre_release}, semver_core.proofs.Text.Pieces.list_ended}
-use Rattle.nodejs_semver.specs.Npm.Grammar as Grammar
+use Rattle.{nodejs_semver.specs.Npm.Grammar.IsPreRelease, semver_core.proofs.Text.Pieces.list_ended}
 
 -- ---- what is read is written
 
@@ -52,8 +51,9 @@ build-quiet b more l (plus t list h) e = (refl, refl, refl)
 
 pub quiet-behind : (p b more : List ℕ) (l m : List Id) → IsStrictPreRelease p l → IsStrictBuild b m → Ends more
     → begins is_ascii_digit (p ++ (b ++ more)) ≡ false
-quiet-behind p b more l m Grammar.no_pre_release k e = (build-quiet b more m k e).2
-quiet-behind p b more l m (Grammar.dashed t list h s) k e = refl
+quiet-behind p b more l m no_pre_release k e = (build-quiet b more m k e).2
+quiet-behind p b more l m (dashed t list h s) k e = refl
+quiet-behind p b more l m (bare t list h s f) k e = cc f
 
 pub build-taken : (b more : List ℕ) (l : List Id) → IsStrictBuild b l → Ends more
     → (build_front (b ++ more) ≡ (drop 1 b, more)) × (listed (drop 1 b) ≡ l)
@@ -63,22 +63,12 @@ build-taken b more l (plus t list h) e =
     let begins = written-begins t more list h in
     (rw begins (written-exact t more list h e.run), written-spelled t list h)
 
--- the text is the pre-release and this rest, and the identifiers have no leading zeros
-pub dashed-taken : (p b more : List ℕ) (l m : List Id) → IsStrictPreRelease p l → IsStrictBuild b m → Ends more
-    → (dashed_front (p ++ (b ++ more)) ≡ (drop 1 p, b ++ more)) × (listed (drop 1 p) ≡ l) × (is_strict_list (drop 1 p) ≡ true)
-unfolding dashed_front pre_release_front listed
-dashed-taken p b more l m Grammar.no_pre_release k e = (rw (build-quiet b more m k e).1 refl, refl, refl)
-dashed-taken p b more l m (Grammar.dashed t list h s) k e =
-    let begins = written-begins t (b ++ more) list h in
-    let exact = written-exact t (b ++ more) list h (build-quiet b more m k e).0 in
-    (rw (begins, exact) refl, written-spelled t list h, s)
-
--- ---- the pre-releases of range texts
+-- ---- pre-releases, strict or loose
 
 undashed-begins : (text : List ℕ) → begins_undashed text ≡ true → begins_identifier text ≡ true
 undashed-begins text h = grind (arith, nat_tests)
 
-letter-on : (text more : List ℕ) → begins_undashed text ≡ true → begins_identifier more ≡ false → begins_undashed (text ++ more) ≡ true
+pub letter-on : (text more : List ℕ) → begins_undashed text ≡ true → begins_identifier more ≡ false → begins_undashed (text ++ more) ≡ true
 letter-on text more h k = grind (arith, nat_tests, common_steps)
 
 goes-on : (more : List ℕ) → goes_on more ≡ false → begins_identifier more ≡ false
@@ -96,67 +86,45 @@ letter-take text h =
     let whole = subst (λ (t : List ℕ). begins_undashed t ≡ true) (sym (take-append-drop (list_len text) text)) h in
     letter-off (take (list_len text) text) (drop (list_len text) text) whole (list_ended text)
 
-undashed-bare : (text : List ℕ) → begins_undashed text ≡ true → undashed text ≡ text
-undashed-bare text h = rw h refl
-
-undashed-dashed : (t : List ℕ) (list : List Id) → IsIdentifiers t list → undashed (45 ∷ t) ≡ t
-undashed-dashed t list h =
-    let begins : begins_identifier t ≡ true = rw append-nil at (written-begins t [] list h) in
-    rw begins refl
-
 -- a pre-release at the front of a text, of which this is read
-abbrev PreFound : Bool → List ℕ → List ℕ → List ℕ → Type 0
-PreFound loose text read rest = (piece : List ℕ) × (text ≡ piece ++ rest) × IsPreRelease loose piece (listed read) × (undashed piece ≡ read)
+abbrev pub PreFound : Bool → (List ℕ → Bool) → List ℕ → List ℕ → List ℕ → Type 0
+PreFound loose fits text read rest = (piece : List ℕ) × (text ≡ piece ++ rest) × IsPreRelease loose fits piece (listed read)
 
-none-found : (loose : Bool) (text : List ℕ) → PreFound loose text [] text
+none-found : (loose : Bool) (fits : List ℕ → Bool) (text : List ℕ) → PreFound loose fits text [] text
 unfolding listed
-none-found loose text = ([], refl, no_pre_release, refl)
+none-found loose fits text = ([], refl, no_pre_release)
 
-without-dash : (text : List ℕ) → begins_undashed text ≡ true → are_spelled true (take (list_len text) text) ≡ true
-    → PreFound true text (take (list_len text) text) (drop (list_len text) text)
-without-dash text letter h =
+without-dash : (fits : List ℕ → Bool) (text : List ℕ) → begins_undashed text ≡ true → fits (take (list_len text) text) ≡ true
+    → PreFound true fits text (take (list_len text) text) (drop (list_len text) text)
+without-dash fits text letter h =
     let read = take (list_len text) text in
     let is = front-identifiers text (undashed-begins text letter) in
-    let begins = letter-take text letter in (
-      read,
-      sym (take-append-drop (list_len text) text),
-      bare read (listed read) refl begins is h,
-      undashed-bare read begins,
-    )
+    (read, sym (take-append-drop (list_len text) text), bare read (listed read) is h (letter-take text letter))
 
-dashed_front-found : (loose : Bool) (text : List ℕ) → are_spelled loose (dashed_front text).0 ≡ true
-    → PreFound loose text (dashed_front text).0 (dashed_front text).1
+pub dashed-found : (loose : Bool) (fits : List ℕ → Bool) (text : List ℕ) → fits (dashed_front text).0 ≡ true
+    → PreFound loose fits text (dashed_front text).0 (dashed_front text).1
 unfolding dashed_front pre_release_front
-dashed_front-found loose text h = elim (cases_Bool (begins_byte 45 text)) [
-  | inr other ↦ rw other (none-found loose text)
+dashed-found loose fits text h = elim (cases_Bool (begins_byte 45 text)) [
+  | inr other ↦ rw other (none-found loose fits text)
   | inl dash ↦ elim (cases_Bool (begins_identifier (drop 1 text))) [
-    | inr none ↦ rw (dash, none) (none-found loose text)
+    | inr none ↦ rw (dash, none) (none-found loose fits text)
     | inl some ↦
         let y = drop 1 text in
         let read = take (list_len y) y in
-        let is = front-identifiers y some in
         let whole = byte-begins 45 text dash ∙ ap (λ (t : List ℕ). 45 ∷ t) (sym (take-append-drop (list_len y) y)) in
-        rw (dash, some) (45 ∷ read, whole, dashed read (listed read) is (rw (dash, some) at h), undashed-dashed read (listed read) is)
+        rw (dash, some) (45 ∷ read, whole, dashed read (listed read) (front-identifiers y some) (rw (dash, some) at h))
   ]
 ]
 
--- the same strictly
-pub dashed-found : (text : List ℕ) → is_strict_list (dashed_front text).0 ≡ true
-    → (piece : List ℕ) × (text ≡ piece ++ (dashed_front text).1) × IsStrictPreRelease piece (listed (dashed_front text).0)
-dashed-found text h = let f = dashed_front-found false text h in (f.0, f.1, strict f.0 _ f.2)
-  where
-    strict : (p : List ℕ) (l : List Id) → IsPreRelease false p l → IsStrictPreRelease p l
-    strict p l no_pre_release = Grammar.no_pre_release
-    strict p l (dashed t list h s) = Grammar.dashed t list h s
-    strict p l (bare t list e f h s) = cc e
-
-pub pre-found : (loose : Bool) (text : List ℕ) → are_spelled loose (pre_front loose text).0 ≡ true
-    → PreFound loose text (pre_front loose text).0 (pre_front loose text).1
+pub pre-found : (loose : Bool) (fits : List ℕ → Bool) (text : List ℕ) → fits (pre_front loose text).0 ≡ true
+    → PreFound loose fits text (pre_front loose text).0 (pre_front loose text).1
 unfolding pre_front
-pre-found false text h = dashed_front-found false text h
-pre-found true text h = elim (cases_Bool (begins_undashed text)) [
-  | inr other ↦ rw other (dashed_front-found true text (rw other at h))
-  | inl letter ↦ grind (arith, nat_tests, common_steps, undashed-begins, without-dash)
+pre-found false fits text h = dashed-found false fits text h
+pre-found true fits text h = elim (cases_Bool (begins_undashed text)) [
+  | inr other ↦ rw other (dashed-found true fits text (rw other at h))
+  | inl letter ↦
+      let begins = undashed-begins text letter in
+      rw (letter, begins) (without-dash fits text letter (rw (letter, begins) at h))
 ]
 
 -- build metadata, or nothing, begins with no letter
@@ -173,11 +141,11 @@ build-dotless : (b more : List ℕ) (l : List Id) → IsStrictBuild b l → Ends
 build-dotless b more l no_build e = e.dot
 build-dotless b more l (plus t list h) e = refl
 
-pub pre-follows : (loose : Bool) (p b more : List ℕ) (l m : List Id) → IsPreRelease loose p l → IsStrictBuild b m → Ends more
-    → Follows loose (p ++ (b ++ more))
-pre-follows loose p b more l m no_pre_release k e = inl ((build-quiet b more m k e).2, build-dotless b more m k e)
-pre-follows loose p b more l m (dashed t list h s) k e = inl (refl, refl)
-pre-follows loose p b more l m (bare t list x f h s) k e = go t f
+pub pre-follows : (loose : Bool) (fits : List ℕ → Bool) (p b more : List ℕ) (l m : List Id) → IsPreRelease loose fits p l
+    → IsStrictBuild b m → Ends more → Follows loose (p ++ (b ++ more))
+pre-follows loose fits p b more l m no_pre_release k e = inl ((build-quiet b more m k e).2, build-dotless b more m k e)
+pre-follows loose fits p b more l m (dashed t list h s) k e = inl (refl, refl)
+pre-follows loose fits p b more l m (bare t list h s x) k e = go t (and_parts loose (begins_undashed t) x).1
   where
     letter-dotless : (c : ℕ) (t : List ℕ) → begins_undashed (c ∷ t) ≡ true → (c == 46) ≡ false
     letter-dotless c t f = grind (arith, nat_tests)
@@ -191,36 +159,29 @@ pre-follows loose p b more l m (bare t list x f h s) k e = go t f
       | inr other ↦ inl (other, letter-dotless c t f)
       | inl digit ↦
           let dot = byte-begins 46 t (digit-dot c t f digit) in
-          inr (c, drop 1 t ++ (b ++ more), ap (λ (r : List ℕ). c ∷ (r ++ (b ++ more))) dot, digit, x)
+          inr (c, drop 1 t ++ (b ++ more), ap (λ (r : List ℕ). c ∷ (r ++ (b ++ more))) dot, digit, (and_parts loose _ x).0)
     ]
 
-abbrev PreTaken : Bool → List ℕ → List ℕ → List Id → Type 0
-PreTaken loose p rest l = (pre_front loose (p ++ rest) ≡ (undashed p, rest)) × (listed (undashed p) ≡ l)
-    × (are_spelled loose (undashed p) ≡ true)
+-- where no identifier goes on, none begins
+pub stopped : (rest : List ℕ) → list_len rest ≡ 0 → begins_identifier rest ≡ false
+unfolding list_len
+stopped [] e = refl
+stopped (b ∷ rest) e = grind (arith, nat_tests, common_steps)
 
-bare-taken : (t rest : List ℕ) (list : List Id) → begins_undashed t ≡ true → IsIdentifiers t list → are_spelled true t ≡ true
-    → list_len rest ≡ 0 → PreTaken true t rest list
-unfolding pre_front listed list_len
-bare-taken t rest list f h s stop =
-    let own = undashed-bare t f in
-    let on = letter-on t rest f (stopped rest stop) in
-    let exact = written-exact t rest list h stop in
-    rw own (rw (on, undashed-begins (t ++ rest) on) exact, written-spelled t list h, s)
-  where
-    stopped : (rest : List ℕ) → list_len rest ≡ 0 → begins_identifier rest ≡ false
-    stopped [] e = refl
-    stopped (b ∷ rest) e = grind (arith, nat_tests, common_steps)
-
--- the text is the pre-release and this rest, and the identifiers are spelled as they have to be
-pub pre-taken : (loose : Bool) (p b more : List ℕ) (l m : List Id) → IsPreRelease loose p l → IsStrictBuild b m → Ends more
-    → PreTaken loose p (b ++ more) l
+-- the text is the pre-release and this rest, and its identifiers fit
+pub pre-taken : (loose : Bool) (fits : List ℕ → Bool) (p b more : List ℕ) (l m : List Id) → fits [] ≡ true → IsPreRelease loose fits p l
+    → IsStrictBuild b m → Ends more
+    → (ids : List ℕ) × (pre_front loose (p ++ (b ++ more)) ≡ (ids, b ++ more)) × (listed ids ≡ l) × (fits ids ≡ true)
 unfolding pre_front dashed_front pre_release_front listed
-pre-taken loose p b more l m no_pre_release k e =
-    (rw (build-letter b more m k e, and-false loose, (build-quiet b more m k e).1) refl, refl, grind arith)
-pre-taken loose p b more l m (dashed t list h s) k e =
+pre-taken loose fits p b more l m none no_pre_release k e =
+    ([], rw (build-letter b more m k e, and-false loose, (build-quiet b more m k e).1) refl, refl, none)
+pre-taken loose fits p b more l m none (dashed t list h s) k e =
     let begins = written-begins t (b ++ more) list h in
     let exact = written-exact t (b ++ more) list h (build-quiet b more m k e).0 in
-    rw (undashed-dashed t list h) (rw (begins, and-false loose, exact) refl, written-spelled t list h, s)
-pre-taken loose p b more l m (bare t list x f h s) k e =
-    let read : PreTaken true t (b ++ more) list = bare-taken t (b ++ more) list f h (rw x at s) (build-quiet b more m k e).0 in
-    subst (λ (r : Bool). PreTaken r t (b ++ more) list) (sym x) read
+    (t, rw (begins, and-false loose, exact) refl, written-spelled t list h, s)
+pre-taken loose fits p b more l m none (bare t list h s x) k e =
+    let is = and_parts loose (begins_undashed t) x in
+    let stop = (build-quiet b more m k e).0 in
+    let on = letter-on t (b ++ more) is.1 (stopped (b ++ more) stop) in
+    let exact = written-exact t (b ++ more) list h stop in
+    (t, rw (is.0, on, undashed-begins (t ++ (b ++ more)) on) exact, written-spelled t list h, s)

@@ -10,7 +10,7 @@ use Rattle.nodejs_semver.proofs.{Dividing.BarsDivide.bars_once, NpmCommon.{Accep
 use Rattle.nodejs_semver.proofs.NpmCommon.{HasAlternativesIn, IsFound, IsNarrowed, IsRangeIn, NarrowedBy, NoValue, alternative_of}
 use Rattle.nodejs_semver.proofs.NpmCommon.{alternatives_of, begins_malformed, counted, counts, hyphen_comparisons, hyphen_ends}
 use Rattle.nodejs_semver.proofs.NpmCommon.{hyphen_lower, hyphen_of, hyphen_upper, is_lost, is_unbounded, is_valid, kept, meets, nothing}
-use Rattle.nodejs_semver.proofs.NpmCommon.{or_else, satisfies, upto_patch, valid_alternative, valid_only, words_of, zero_least, ◌>>?◌}
+use Rattle.nodejs_semver.proofs.NpmCommon.{satisfies, upto_patch, valid_alternative, valid_only, words_of, zero_least, ◌>>?◌}
 use Rattle.nodejs_semver.proofs.{Reading.Steps.option-cases, Strict.AlternativeLaw.{alternative-read, alternatives_are}}
 use Rattle.nodejs_semver.proofs.Strict.{Hyphens.hyphen-found, Valid.{hyphen-valid, words-valid}, WordReads.hyphen_limited}
 use Rattle.nodejs_semver.{proofs.Strict.WordSteps.empty-append, specs.Internal.{NpmAlternatives.ranged, NpmReads.{AddsOne, AddsPart}}}
@@ -204,28 +204,24 @@ hyphen-is loose include (b ∷ text) u some h = elim (option-cases (hyphen_ends 
       rw (is, e.1) refl
   | inl none ↦ grind (arith, nat_tests, common_steps, words-valid)
 ]
-  where
-    or-none : (o : Option (List Comparison)) → (o >>? λ cs. valid_only MAX_SAFE_INTEGER cs) ≡ None
-        → (or_else o None >>? λ cs. valid_only MAX_SAFE_INTEGER cs) ≡ None
-    or-none None h = refl
-    or-none (Some cs) h = h
+
+pub found-some : (include : Bool) (o : Option (List Comparison)) (a : Alternative) → IsFound include o (Some a)
+    → (cs : List Comparison) × (o ≡ Some cs) × IsFound include (Some cs) (Some a)
+found-some include None a h = absurd h
+found-some include (Some cs) a h = (cs, refl, h)
+
+pub found-none : (include : Bool) (o : Option (List Comparison)) → IsFound include o None → o ≡ None
+found-none include o h = grind (arith, nat_tests, common_steps)
 
 pub words-found : (loose : Bool) (include : Bool) (text : List ℕ) (a : Alternative) → 0 < length text → IsFound include (words_of loose include text) (Some a)
     → IsFound include (valid_alternative loose include text) (Some a)
-words-found loose include text a some h = go (words_of loose include text) refl h
-  where
-    go : (o : Option (List Comparison)) → words_of loose include text ≡ o → IsFound include o (Some a) → IsFound include (valid_alternative loose include text) (Some a)
-    go None e k = absurd k
-    go (Some cs) e k = rw (words-are loose include text cs some e) k
+words-found loose include text a some h =
+    let f = found-some include (words_of loose include text) a h in rw (words-are loose include text f.0 some f.1) f.2
 
 pub no-words : (loose : Bool) (include : Bool) (text : List ℕ) (r : Option Alternative) → IsUtf8 text → 0 < length text
     → IsFound include (words_of loose include text) None → IsFound include (valid_hyphen loose include text) r
     → IsFound include (valid_alternative loose include text) r
-no-words loose include text r u some h k = go (words_of loose include text) refl h
-  where
-    go : (o : Option (List Comparison)) → words_of loose include text ≡ o → IsFound include o None → IsFound include (valid_alternative loose include text) r
-    go None e l = rw (hyphen-is loose include text u some e) k
-    go (Some cs) e l = absurd l
+no-words loose include text r u some h k = rw (hyphen-is loose include text u some (found-none include (words_of loose include text) h)) k
 
 -- ---- one alternative more
 
@@ -252,23 +248,7 @@ pub part-added : (loose : Bool) (include : Bool) (text : List ℕ) (a : Alternat
     → (loose && (a.is_bare && (begins_malformed text && ends_malformed text))) ≡ false
     → after ≡ before ++ option_to_list a.interval
     → AddsPart loose include text (valid_alternative loose include text) was true before after
-part-added loose include text a was before after h l e = go (valid_alternative loose include text) h
-  where
-    go : (o : Option (List Comparison)) → IsFound include o (Some a) → AddsPart loose include text o was true before after
-    go None k = absurd k
-    go (Some cs) k =
-        let regular : is_lost loose text cs ≡ false = rw k.1 at l in
-        rw regular (
-          refl,
-          λ ls l. record {
-            intervals = l.intervals ++ a.interval ∷ [];
-            narrowed = narrowed-append include ls l.intervals cs a.interval l.narrowed k.0;
-            are = e ∙ ap (λ (s : List (Span VersionValue)). s ++ option_to_list a.interval) l.are ∙ sym (flat-append l.intervals a.interval);
-          },
-        )
-
-pub none-found : (loose : Bool) (include : Bool) (text : List ℕ) → IsFound include (valid_alternative loose include text) None → valid_alternative loose include text ≡ None
-none-found loose include text h = grind (arith, nat_tests, common_steps)
+part-added loose include text a was before after h l e = grind (arith, flat-append, found-some, narrowed-append)
 
 -- ---- the alternatives, up to a rest of the text
 
@@ -395,8 +375,7 @@ all-valid loose include (text ∷ texts) = go (all-valid loose include texts) (a
     invalid : (cs : List Comparison) (o : Option (List (List Comparison))) → list_all (is_valid MAX_SAFE_INTEGER) cs ≡ false
         → is_lost loose text cs ≡ false
         → None ≡ ((o >>? λ rest. Some (kept loose text cs rest)) >>? λ ls. if list_all (list_all (is_valid MAX_SAFE_INTEGER)) ls then Some ls else None)
-    invalid cs None h k = refl
-    invalid cs (Some ls) h k = rw (k, h) refl
+    invalid cs o h k = grind (arith, nat_tests, common_steps)
 
     regular-of : (cs : List Comparison) → list_all (is_valid MAX_SAFE_INTEGER) cs ≡ false → is_lost loose text cs ≡ false
     regular-of cs h = grind (arith, nat_tests, common_steps)
@@ -423,9 +402,6 @@ pub none-read : (loose : Bool) (include : Bool) (text : List ℕ) → IsUtf8 tex
 none-read loose include text u h ls has =
     let k = (alternatives_are loose MAX_SAFE_INTEGER include text ls u).0 has in
     grind (arith, nat_tests, common_steps, all-valid)
-  where
-    differ : (ls : List (List Comparison)) → ◌≡◌ {A = Option (List (List Comparison))} None (Some ls) → ⊥
-    differ ls e = cc e
 
 pub range-read : (loose : Bool) (include : Bool) (text : List ℕ) (found range : List (Span VersionValue)) → IsUtf8 text
     → AreAllFound include (valid_range loose include text) found → AcceptAsRanged found range

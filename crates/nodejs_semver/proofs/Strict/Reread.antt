@@ -3,12 +3,12 @@ use Rattle.nodejs_semver.proofs.Common.{Id, IsTrim, IsUtf8, List, MAX_SAFE_INTEG
 use Rattle.nodejs_semver.proofs.Common.{cases_Bool, common_steps, encode_utf8_all, identifier_of, inl, inr, is_identifier}
 use Rattle.nodejs_semver.proofs.Common.{is_identifier_char, length, length-append, list_all, map, nat_tests, pieces, refl, sym, true, ℕ}
 use Rattle.nodejs_semver.proofs.{Common.{◌++◌, ◌<◌, ◌==◌, ◌||◌, ◌∙◌, ◌∷◌, ◌≡◌, ◌≤◌}, NpmCommon.{IsStrictPreRelease, IsStrictVersion}}
-use Rattle.nodejs_semver.proofs.NpmCommon.{IsVersionText, chars, chars_from_encodes, dashed, id_text, is_strict_identifier, join_with_byte}
-use Rattle.nodejs_semver.proofs.{NpmCommon.{marked_list, no_build, no_pre_release, version_text}, Stopping.Read.{is_plain, plain-encodes}}
-use Rattle.nodejs_semver.proofs.{Stopping.{Read.plain-middle, Written.{plain-dark, plain-reverse}}, Strict.Numbers.digits_printed}
-use Rattle.{nodejs_semver.proofs.Strict.Numbers.number_printed, semver_core.specs.Text.Identifiers.is_u64_text, std.proofs.Common.reverse}
-use Rattle.std.proofs.lemmas.{List.Splits.{join_with_byte-slice_split, length-slice_split}, Str.{IsUtf8-from_ascii, chars-IsAscii}}
-use Rattle.std.specs.Str.{IsAscii}
+use Rattle.nodejs_semver.proofs.NpmCommon.{IsVersionText, bare, chars, chars_from_encodes, dashed, id_text, is_strict_identifier}
+use Rattle.nodejs_semver.proofs.NpmCommon.{join_with_byte, marked_list, no_build, no_pre_release, version_text}
+use Rattle.nodejs_semver.proofs.Stopping.{Read.{plain-encodes, plain-middle}, Written.{plain-dark, plain-reverse}}
+use Rattle.{nodejs_semver.proofs.Strict.Numbers.{digits_printed, number_printed}, semver_core.specs.Internal.CommonReading.is_plain}
+use Rattle.{semver_core.specs.Text.Identifiers.is_u64_text, std.proofs.{Common.reverse, lemmas.List.Splits.join_with_byte-slice_split}}
+use Rattle.std.{proofs.lemmas.{List.Splits.length-slice_split, Str.{IsUtf8-from_ascii, chars-IsAscii}}, specs.Str.IsAscii}
 use Rattle.nodejs_semver.specs.Npm.Table as Table
 
 -- ---- numbers and identifiers print as they are written
@@ -29,6 +29,7 @@ list_printed mark ps some e = grind (arith, nat_tests, common_steps)
 
 pre_printed : (text : List ℕ) (ids : List Id) → IsStrictPreRelease text ids → marked_list (45 ∷ []) ids ≡ text
 pre_printed text ids no_pre_release = refl
+pre_printed text ids (bare rest list is strict f) = cc f
 pre_printed text ids (dashed rest list is strict) =
     let some : 0 < length (pieces rest) = omega (arith, length-slice_split (λ c. c == 46) rest) in
     rw is.spelled (list_printed (45 ∷ []) (pieces rest) some (ids_printed (pieces rest) is.runs strict)

@@ -1,7 +1,7 @@
 -- The signs of node-semver's words, with the whitespace behind them: what is read is written, and what is written is read.
 use Rattle.nodejs_semver.proofs.Common.{Bool, Comparator, IsBlank, IsUtf8, List, [], above, and_parts, ap, append_assoc, arith, at_most}
 use Rattle.nodejs_semver.proofs.Common.{begins, below, cases_Bool, common_steps, drop, drop_spaces, drop_spaces-blank, drop_spaces-none}
-use Rattle.nodejs_semver.proofs.Common.{encode_utf8_all, eqb-true, equal, false, inl, inr, is_empty, is_whitespace, len_utf8_bounds, length}
+use Rattle.nodejs_semver.proofs.Common.{encode_utf8_all, eqb-true, equal, false, if◌then◌else◌, inl, inr, is_empty, is_whitespace, len_utf8_bounds, length}
 use Rattle.nodejs_semver.proofs.Common.{list_all, nat_lt, nat_tests, not, refl, space_len, subst, true, ℕ, ◌&&◌, ◌++◌, ◌<◌, ◌==◌, ◌||◌, ◌∙◌}
 use Rattle.nodejs_semver.proofs.{Common.{◌∷◌, ◌≡◌, ◌⊎◌}, NpmCommon.{IsSignText, are_marks, at_least, begins_byte, caret_equal, compared}}
 use Rattle.nodejs_semver.proofs.NpmCommon.{is_mark, is_one_v, late_above, late_below, no_sign, npm_sign, or_late, sign, skip_equal}
@@ -156,37 +156,25 @@ plain-found text u =
     let x = blank-at text u in
     record { signs = 61 ∷ x.blank; split = ap (λ (t : List ℕ). 61 ∷ t) x.split; is = sign (compared equal) x.blank x.is; utf8 = x.utf8 }
 
-first-found : (b c : ℕ) (rest : List ℕ) → (b == c) ≡ true → c < 128 → IsUtf8 (b ∷ rest) → (b ≡ c) × IsUtf8 rest
-first-found b c rest h low u =
-    let e = eqb-true b c h in
-    (e, tail-utf8 c rest low (subst (λ (n : ℕ). IsUtf8 (n ∷ rest)) e u))
+-- the same of a character that is this one or another
+on-byte : (b k : ℕ) (rest : List ℕ) (r s : Sign × List ℕ) → k < 128 → IsUtf8 (b ∷ rest) → (IsUtf8 rest → SignRead (k ∷ rest) r)
+    → SignRead (b ∷ rest) s → SignRead (b ∷ rest) (if b == k then r else s)
+on-byte b k rest r s low u f other = elim (cases_Bool (b == k)) [
+  | inr e ↦ rw e other
+  | inl e ↦ (let same = eqb-true b k e in rw (e, same) (f (tail-utf8 k rest low (subst (λ (n : ℕ). IsUtf8 (n ∷ rest)) same u))))
+]
 
 pub sign-found : (text : List ℕ) → IsUtf8 text → SignAt text (npm_sign text).0 (npm_sign text).1
 unfolding npm_sign
 sign-found [] u = record { signs = []; split = refl; is = no_sign; utf8 = u }
-sign-found (b ∷ rest) u = elim (cases_Bool (b == 62)) [
-  | inl h62 ↦
-      let f = first-found b 62 rest h62 (omega arith) u in
-      rw (h62, f.0) (late-found 62 above at_least rest f.1 (λ x h. sign (compared above) x h) (λ x h. sign (compared at_least) x h)
-      (λ x h. late_above x h))
-  | inr n62 ↦ elim (cases_Bool (b == 60)) [
-    | inl h60 ↦
-        let f = first-found b 60 rest h60 (omega arith) u in
-        rw (n62, h60, f.0) (late-found 60 below at_most rest f.1 (λ x h. sign (compared below) x h) (λ x h. sign (compared at_most) x h)
-        (λ x h. late_below x h))
-    | inr n60 ↦ elim (cases_Bool (b == 61)) [
-      | inl h61 ↦ let f = first-found b 61 rest h61 (omega arith) u in rw (n62, n60, h61, f.0) (plain-found rest f.1)
-      | inr n61 ↦ elim (cases_Bool (b == 94)) [
-        | inl h94 ↦ let f = first-found b 94 rest h94 (omega arith) u in rw (n62, n60, n61, h94, f.0) (caret-found rest f.1)
-        | inr n94 ↦ elim (cases_Bool (b == 126)) [
-          | inl h126 ↦
-              let f = first-found b 126 rest h126 (omega arith) u in rw (n62, n60, n61, n94, h126, f.0) (tilde-found rest f.1)
-          | inr n126 ↦ rw (n62, n60, n61, n94, n126) (record { signs = []; split = refl; is = no_sign; utf8 = u })
-        ]
-      ]
-    ]
-  ]
-]
+sign-found (b ∷ rest) u =
+    on-byte b 62 rest _ _ (omega arith) u (λ v. late-found 62 above at_least rest v (λ x h. sign (compared above) x h)
+    (λ x h. sign (compared at_least) x h) (λ x h. late_above x h))
+    (on-byte b 60 rest _ _ (omega arith) u (λ v. late-found 60 below at_most rest v (λ x h. sign (compared below) x h)
+    (λ x h. sign (compared at_most) x h) (λ x h. late_below x h))
+    (on-byte b 61 rest _ _ (omega arith) u (λ v. plain-found rest v)
+    (on-byte b 94 rest _ _ (omega arith) u (λ v. caret-found rest v)
+    (on-byte b 126 rest _ _ (omega arith) u (λ v. tilde-found rest v) (record { signs = []; split = refl; is = no_sign; utf8 = u })))))
 
 -- ---- the signs of node-semver's words before marks and a partial version: what is written is read, or means the same
 
@@ -309,10 +297,6 @@ Taken loose s p marks x u text = SignTaken loose s p marks x (npm_sign text) u
 
 -- ---- behind a tilde
 
-tilde-front : (rest : List ℕ) → npm_sign (126 ∷ rest) ≡ (tilde, skip_tilde rest (drop_spaces rest))
-unfolding npm_sign
-tilde-front rest = refl
-
 -- no `>` stands there
 no_greater-left : (x t : List ℕ) → IsBlank x → space_len t ≡ 0 → begins_byte 62 t ≡ false
     → skip_tilde (x ++ t) (drop_spaces (x ++ t)) ≡ skip_equal t
@@ -341,75 +325,43 @@ late-read : (one two : Comparator) (y t : List ℕ) → IsBlank y → space_len 
     → or_late one two (y ++ (61 ∷ t)) (drop_spaces (y ++ (61 ∷ t))) ≡ (compared two, t)
 late-read one two y t h dark = grind (arith, nat_tests, common_steps, blank-cases, drop_spaces-none, space-byte, blank-skipped, dark-byte)
 
-above-front : (rest : List ℕ) → npm_sign (62 ∷ rest) ≡ or_late above at_least rest (drop_spaces rest)
-unfolding npm_sign
-above-front rest = refl
-
-below-front : (rest : List ℕ) → npm_sign (60 ∷ rest) ≡ or_late below at_most rest (drop_spaces rest)
-unfolding npm_sign
-below-front rest = refl
-
-caret-front : (rest : List ℕ) → npm_sign (94 ∷ rest) ≡ (caret, skip_equal (drop_spaces rest))
-unfolding npm_sign
-caret-front rest = refl
-
 -- ---- what is written is read
 
 signed-taken : (loose : Bool) (s : Sign) (p : Partial) (y marks x u : List ℕ) → IsBlank y → are_marks loose s p marks ≡ true → begins_component u ≡ true
     → Taken loose s p marks x u ((spelling s ++ y) ++ (marks ++ u))
+unfolding npm_sign
 signed-taken loose (compared at_least) p y marks x u h m k =
-    grind (arith, nat_tests, common_steps, opens, marks-all, above-front, kept, blank-skipped)
+    grind (arith, nat_tests, common_steps, opens, marks-all, kept, blank-skipped)
 signed-taken loose (compared above) p y marks x u h m k =
-    grind (arith, nat_tests, common_steps, opens, marks-all, above-front, one-read, above-other, kept)
+    grind (arith, nat_tests, common_steps, opens, marks-all, one-read, above-other, kept)
 signed-taken loose (compared equal) p y marks x u h m k =
     grind (arith, nat_tests, common_steps, opens, marks-all, equal-front, kept, blank-skipped)
 signed-taken loose (compared at_most) p y marks x u h m k =
-    grind (arith, nat_tests, common_steps, opens, marks-all, below-front, kept, blank-skipped)
+    grind (arith, nat_tests, common_steps, opens, marks-all, kept, blank-skipped)
 signed-taken loose (compared below) p y marks x u h m k =
-    grind (arith, nat_tests, common_steps, opens, marks-all, below-front, one-read, below-other, kept)
+    grind (arith, nat_tests, common_steps, opens, marks-all, one-read, below-other, kept)
 signed-taken loose caret p y marks x u h m k =
-    grind (arith, nat_tests, common_steps, marks-all, caret-front, blank-skipped, opens, caret-taken, equal-left)
+    grind (arith, nat_tests, common_steps, marks-all, blank-skipped, opens, caret-taken, equal-left)
 signed-taken loose tilde p y marks x u h m k =
-    grind (arith, nat_tests, common_steps, marks-all, opens, tilde-front, no_greater-left, tilde-taken, equal-left)
+    grind (arith, nat_tests, common_steps, marks-all, opens, no_greater-left, tilde-taken, equal-left)
+
+bare-taken : (loose : Bool) (p : Partial) (marks x u : List ℕ) → are_marks loose (compared equal) p marks ≡ true → begins_byte 61 marks ≡ false
+    → begins_component u ≡ true → Taken loose (compared equal) p marks x u (marks ++ u)
+bare-taken loose p marks x u m none k = grind (arith, plain-front, component-other, and_parts, marks-all)
 
 pub sign-taken : (loose : Bool) (signs : List ℕ) (s : Sign) (p : Partial) (marks x u : List ℕ) → IsSignText signs s → are_marks loose s p marks ≡ true
     → (is_empty signs && begins_byte 61 marks) ≡ false → begins_component u ≡ true → Taken loose s p marks x u (signs ++ (marks ++ u))
-sign-taken loose signs s p marks x u no_sign m none k = grind (arith, plain-front, component-other, and_parts, marks-all)
+unfolding npm_sign
+sign-taken loose signs s p marks x u no_sign m none k = bare-taken loose p marks x u m none k
 sign-taken loose signs s p marks x u (sign t y h) m none k = signed-taken loose t p y marks x u h m k
 sign-taken loose signs s p marks x u (late_above y h) m none k =
-    grind (arith, nat_tests, common_steps, opens, marks-all, append_assoc, above-front, late-read, kept)
+    grind (arith, nat_tests, common_steps, opens, marks-all, append_assoc, late-read, kept)
 sign-taken loose signs s p marks x u (late_below y h) m none k =
-    grind (arith, nat_tests, common_steps, opens, marks-all, append_assoc, below-front, late-read, kept)
+    grind (arith, nat_tests, common_steps, opens, marks-all, append_assoc, late-read, kept)
 sign-taken loose signs s p marks x u (caret_equal y z h l) m none k =
-    grind (arith, nat_tests, common_steps, append_assoc, caret-front, blank-skipped, dark-byte, kept, opens, marks-all)
-sign-taken loose signs s p marks x u (tilde_sign c y z h l (inl e)) m none k =
-    let t = marks ++ u in
-    let each = marks-all loose tilde p marks m in
-    let o = opens marks u each k in
-    rw (e, append_assoc y (62 ∷ z) t, tilde-front (y ++ (62 ∷ (z ++ t))), one_greater-left y (z ++ t) t h (blank-skipped z t l o.dark) o.greater)
-    (tilde-taken loose p marks x (skip_greater (z ++ t)) u (greater-left z marks u l each k))
-sign-taken loose signs s p marks x u (tilde_sign c y z h l (inr (inl e))) m none k =
-    let t = marks ++ u in
-    let dark = (opens marks u (marks-all loose tilde p marks m) k).dark in
-    rw (
-      e,
-      append_assoc y (62 ∷ 61 ∷ z) t,
-      tilde-front (y ++ (62 ∷ 61 ∷ (z ++ t))),
-      one_greater-left y (61 ∷ (z ++ t)) (61 ∷ (z ++ t)) h
-          (drop_spaces-none (61 ∷ (z ++ t)) (dark-byte 61 (z ++ t) refl)) refl,
-    )
-    (kept loose tilde p marks x (skip_greater (61 ∷ (z ++ t))) u (blank-skipped z t l dark) m)
-sign-taken loose signs s p marks x u (tilde_sign c y z h l (inr (inr e))) m none k =
-    let t = marks ++ u in
-    let dark = (opens marks u (marks-all loose tilde p marks m) k).dark in
-    rw (e, append_assoc y (61 ∷ z) t, tilde-front (y ++ (61 ∷ (z ++ t))), no_greater-left y (61 ∷ (z ++ t)) h (dark-byte 61 (z ++ t) refl) refl)
-    (kept loose tilde p marks x (skip_equal (61 ∷ (z ++ t))) u (blank-skipped z t l dark) m)
-sign-taken loose signs s p marks x u (tilde_twice c y z h some l (inl e)) m none k =
-    let t = marks ++ u in
-    rw (e, append_assoc y (62 ∷ z) t, tilde-front (62 ∷ (y ++ 62 ∷ (z ++ t))), twice-left y (z ++ t) h some)
-    (tilde-taken loose p marks x (skip_greater (z ++ t)) u (greater-left z marks u l (marks-all loose tilde p marks m) k))
-sign-taken loose signs s p marks x u (tilde_twice c y z h some l (inr e)) m none k =
-    let t = marks ++ u in
-    let dark = (opens marks u (marks-all loose tilde p marks m) k).dark in
-    rw (e, append_assoc y (62 ∷ 61 ∷ z) t, tilde-front (62 ∷ (y ++ 62 ∷ 61 ∷ (z ++ t))), twice-left y (61 ∷ (z ++ t)) h some)
-    (kept loose tilde p marks x (skip_greater (61 ∷ (z ++ t))) u (blank-skipped z t l dark) m)
+    grind (arith, nat_tests, common_steps, append_assoc, blank-skipped, dark-byte, kept, opens, marks-all)
+sign-taken loose signs s p marks x u (tilde_sign c y z h l (inr (inr e))) m none k = grind (arith, nat_tests, common_steps, append_assoc, blank-skipped, dark-byte, kept, marks-all, no_greater-left, opens)
+sign-taken loose signs s p marks x u (tilde_sign c y z h l (inl e)) m none k = grind (arith, append_assoc, blank-skipped, greater-left, marks-all, one_greater-left, opens, tilde-taken)
+sign-taken loose signs s p marks x u (tilde_sign c y z h l (inr (inl e))) m none k = grind (arith, nat_tests, common_steps, append_assoc, blank-skipped, dark-byte, drop_spaces-none, kept, marks-all, one_greater-left, opens)
+sign-taken loose signs s p marks x u (tilde_twice c y z h some l (inl e)) m none k = grind (arith, nat_tests, common_steps, append_assoc, greater-left, marks-all, tilde-taken, twice-left)
+sign-taken loose signs s p marks x u (tilde_twice c y z h some l (inr e)) m none k = grind (arith, nat_tests, common_steps, append_assoc, blank-skipped, kept, marks-all, opens, twice-left)

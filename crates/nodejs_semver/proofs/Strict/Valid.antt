@@ -1,8 +1,8 @@
 -- Words with a number past the limit that counts have a comparator that is not valid: they may be left out as soon as they are read.
 use Rattle.nodejs_semver.proofs.Common.{Bool, Front, List, None, Option, Some, [], arith, cases_Bool, common_steps, drop_spaces, false}
-use Rattle.nodejs_semver.proofs.Common.{if◌then◌else◌, inl, inr, is_empty, list_all, list_all-append, nat_tests, refl, suc, true, zero, ℕ}
-use Rattle.nodejs_semver.proofs.{Common.{◌&&◌, ◌++◌, ◌+◌, ◌∙◌, ◌∷◌, ◌≡◌}, NpmCommon.{Comparison, Ended, Numbers, Signed, any_word, from}}
-use Rattle.nodejs_semver.proofs.NpmCommon.{hyphen_comparisons, hyphen_lower, hyphen_upper, is_small, is_valid, limited_hyphen, limited_word}
+use Rattle.nodejs_semver.proofs.Common.{if◌then◌else◌, inl, inr, is_empty, list_all, nat_tests, refl, suc, true, zero, ℕ}
+use Rattle.nodejs_semver.proofs.{Common.{◌&&◌, ◌++◌, ◌+◌, ◌∷◌, ◌≡◌}, NpmCommon.{Comparison, Ended, Numbers, Signed, any_word, from}}
+use Rattle.nodejs_semver.proofs.NpmCommon.{hyphen_comparisons, hyphen_upper, is_small, is_valid, limited_hyphen, limited_word}
 use Rattle.nodejs_semver.proofs.NpmCommon.{nat_le, under, valid_only, valid_words, word_front, ◌>>?◌}
 use Rattle.nodejs_semver.specs.{Internal.NpmWords.words_within, Npm.Table.{Partial, Sign, table}}
 
@@ -47,16 +47,9 @@ table-invalid limit include s p text h = grind (arith, from-invalid, one-three, 
 
 -- ---- the ends of a hyphen range
 
-lower-invalid : (limit : ℕ) (include : Bool) (p : Partial) (text : List ℕ) → is_small limit p ≡ false
-    → list_all (is_valid limit) (hyphen_lower include p text) ≡ false
-lower-invalid limit include p text h = grind (arith, nat_tests, common_steps)
-
 upper-invalid : (limit : ℕ) (include : Bool) (p : Partial) (text : List ℕ) → is_small limit p ≡ false
     → list_all (is_valid limit) (hyphen_upper include p text) ≡ false
 upper-invalid limit include p text h = grind (arith, nat_tests, common_steps)
-
-none-left : (limit : ℕ) (cs ds : List Comparison) → list_all (is_valid limit) cs ≡ false → list_all (is_valid limit) (cs ++ ds) ≡ false
-none-left limit cs ds h = list_all-append (is_valid limit) cs ds ∙ rw h refl
 
 none-right : (limit : ℕ) (cs ds : List Comparison) → list_all (is_valid limit) ds ≡ false → list_all (is_valid limit) (cs ++ ds) ≡ false
 none-right limit cs ds h = grind (arith, nat_tests, common_steps)

@@ -5,9 +5,9 @@ use Rattle.nodejs_semver.proofs.Common.{is_ascii_digit, is_empty, length, length
 use Rattle.nodejs_semver.proofs.Common.{prefix_len, refl, subst, sym, true, ℕ, ◌&&◌, ◌++◌, ◌<◌, ◌==◌, ◌∙◌, ◌∷◌, ◌≡◌, ◌≤◌, ◌⊎◌}
 use Rattle.nodejs_semver.proofs.NpmCommon.{IsClean, IsStrictBuild, IsStrictNumber, IsStrictPreRelease, IsStrictVersion, IsVersionText}
 use Rattle.nodejs_semver.proofs.NpmCommon.{MAX_LENGTH, NoValue, build_front, chars, chars_from_encodes, dashed_front, dotted_number}
-use Rattle.nodejs_semver.proofs.NpmCommon.{is_mark, is_strict_list, len_utf8, qualified_version, strict_number, strict_version}
+use Rattle.nodejs_semver.proofs.NpmCommon.{is_mark, is_strict_list, len_utf8, pre_front, qualified_version, strict_number, strict_version}
 use Rattle.nodejs_semver.proofs.Strict.{Numbers.{dotted-found, dotted-read, strict-found, strict-read}, Qualifiers.build-found}
-use Rattle.nodejs_semver.proofs.Strict.Qualifiers.{build-taken, dashed-found, dashed-taken, ends-nil, quiet-behind}
+use Rattle.nodejs_semver.proofs.Strict.Qualifiers.{build-taken, dashed-found, ends-nil, pre-taken, quiet-behind}
 use Rattle.{nodejs_semver.specs.Internal.Fronts.drop_v, std.proofs.lemmas.Str.encodes-chars}
 
 -- ---- what is read is written
@@ -32,7 +32,7 @@ qualified-found a b c text v h =
       | inr other ↦ cc (rw other at h)
       | inl whole ↦
           let parts = and_parts (is_empty build.1) (is_strict_list front.0) whole in
-          let p = dashed-found text parts.1 in
+          let p = dashed-found false is_strict_list text parts.1 in
           let q = build-found front.1 in
           let none = empty-is build.1 parts.0 in
           let last = append-nil q.0 in
@@ -64,10 +64,8 @@ strict-found-version limit text v h =
 
 qualified-read : (p b : List ℕ) (v : VersionValue) → IsStrictPreRelease p v.pre_release → IsStrictBuild b v.build
     → qualified_version v.major v.minor v.patch (p ++ b) ≡ Some v
-unfolding qualified_version
-qualified-read p b v h k =
-    let front = dashed-taken p b [] v.pre_release v.build h k ends-nil in
-    grind (arith, nat_tests, common_steps, build-taken, ends-nil, append-nil)
+unfolding qualified_version pre_front
+qualified-read p b v h k = grind (arith, nat_tests, common_steps, append-nil, build-taken, ends-nil, pre-taken)
 
 unmarked : (limit : ℕ) (mark digits rest : List ℕ) (n : ℕ) → (mark ≡ []) ⊎ (mark ≡ 118 ∷ []) → IsStrictNumber limit digits n
     → drop_v (mark ++ (digits ++ rest)) ≡ digits ++ rest

@@ -3,15 +3,14 @@ use Rattle.nodejs_semver.proofs.{Bounds.Bounded.identifiers-normal, Common.{Bool
 use Rattle.nodejs_semver.proofs.Common.{IsUtf8-drop, List, MAX_SAFE_INTEGER, None, Option, Some, [], ap, arith, cases_Bool, common_steps}
 use Rattle.nodejs_semver.proofs.Common.{cond_some, drop, equal, false, if◌then◌else◌, inl, inr, is_boundary, is_normal, is_some, length}
 use Rattle.nodejs_semver.proofs.Common.{length-append, length-drop, list_all, nat_tests, prefix_len, refl, space_len, suc, sym, take}
-use Rattle.nodejs_semver.proofs.{Common.{take_rest, true, zero, ℕ, ◌&&◌, ◌+◌, ◌-◌, ◌<◌, ◌||◌, ◌∙◌, ◌∷◌, ◌≡◌, ◌≤◌}, NpmCommon.Ended}
-use Rattle.nodejs_semver.proofs.NpmCommon.{IsPartial, IsStrictBuild, Signed, after_ends, any_word, are_normal, are_whole_marks}
-use Rattle.nodejs_semver.proofs.NpmCommon.{begins_malformed, compared, counted_front, drop_ends, end_front, ended_end, hyphen_ends}
-use Rattle.nodejs_semver.proofs.NpmCommon.{hyphen_of, ignored_front, is_mark, is_small, is_visible, limited, limited_end, limited_hyphen}
-use Rattle.nodejs_semver.proofs.NpmCommon.{limited_word, marked_word, marks_len, no_build, npm_sign, or_else, partial_of, plus}
-use Rattle.nodejs_semver.proofs.{NpmCommon.{signed_front_view, signed_word, wildcard, ◌>>?◌}, Strict.Hyphens.{after_ends-drop, ends-mark}}
-use Rattle.nodejs_semver.proofs.Strict.{Hyphens.{ends-more, ends-space, ends-stop}, Limits.counted_limited, PartialLaw.partial-found}
-use Rattle.nodejs_semver.{proofs.Strict.Places.prefix-all, specs.Internal.NpmWords.{end_len, last_limited, partial_front}}
-use Rattle.nodejs_semver.specs.Npm.{RangeText.IsPreRelease, Table.{Partial, Sign}}
+use Rattle.nodejs_semver.proofs.{Common.{take_rest, true, zero, ℕ, ◌&&◌, ◌+◌, ◌-◌, ◌<◌, ◌∙◌, ◌∷◌, ◌≡◌, ◌≤◌}, NpmCommon.{Ended, IsPartial}}
+use Rattle.nodejs_semver.proofs.NpmCommon.{IsStrictBuild, Signed, after_ends, any_word, are_normal, begins_malformed, compared}
+use Rattle.nodejs_semver.proofs.NpmCommon.{counted_front, drop_ends, end_front, ended_end, hyphen_ends, hyphen_of, ignored_front, is_mark}
+use Rattle.nodejs_semver.proofs.NpmCommon.{is_small, is_visible, limited, limited_end, limited_hyphen, limited_word, marked_word, marks_len}
+use Rattle.nodejs_semver.proofs.NpmCommon.{may_stand, no_build, npm_sign, or_else, partial_of, plus, signed_front_view, signed_word}
+use Rattle.nodejs_semver.proofs.{NpmCommon.{wildcard, ◌>>?◌}, Strict.Hyphens.{after_ends-drop, ends-mark, ends-more, ends-space, ends-stop}}
+use Rattle.nodejs_semver.proofs.Strict.{Limits.counted_limited, PartialLaw.partial-found, Places.prefix-all}
+use Rattle.nodejs_semver.specs.{Internal.NpmWords.{end_len, last_limited, partial_front}, Npm.{Grammar.IsPreRelease, Table.{Partial, Sign}}}
 use Rattle.nodejs_semver.specs.declared.npm.words.Signed as Runtime
 
 pub marks_all : (text : List ℕ) (at : ℕ) → at ≡ marks_len text → list_all is_mark (take at text) ≡ true
@@ -96,7 +95,7 @@ pub ruleset marks_found = (marks_all)
 
 -- ---- the identifiers of the partials that are read are in normal form
 
-pre-normal : (loose : Bool) (text : List ℕ) (ids : List Id) → IsPreRelease loose text ids → list_all is_normal ids ≡ true
+pre-normal : (loose : Bool) (text : List ℕ) (ids : List Id) → IsPreRelease loose (may_stand loose) text ids → list_all is_normal ids ≡ true
 pre-normal loose text ids h = grind (arith, nat_tests, common_steps, identifiers-normal)
 
 build-normal : (text : List ℕ) (ids : List Id) → IsStrictBuild text ids → list_all is_normal ids ≡ true
@@ -176,12 +175,7 @@ ends_le text = ends_le-from 0 text
 end-limited : (loose : Bool) (limit : ℕ) (free : Partial → Bool) (text behind : List ℕ) (o : Front Partial)
     → limited_end limit (o >>? λ p. ended_end loose free text behind p) ≡ (limited limit o >>? λ p. ended_end loose free text behind p)
 end-limited loose limit free text behind None = refl
-end-limited loose limit free text behind (Some p) =
-    let test = free p.0 || are_whole_marks loose (take (length text - length behind) text) in
-    elim (cases_Bool test) [
-      | inl good ↦ elim (cases_Bool (is_small limit p.0)) [ inl small ↦ rw (good, small, good) refl | inr big ↦ rw (good, big) refl ]
-      | inr bad ↦ elim (cases_Bool (is_small limit p.0)) [ inl small ↦ rw (bad, small, bad) refl | inr big ↦ rw (bad, big) refl ]
-    ]
+end-limited loose limit free text behind (Some p) = grind (arith)
 
 pub end_here : (loose : Bool) (free : Partial → Bool) (text behind : List ℕ) (o : Front Partial) → behind ≡ drop_ends text
     → o ≡ counted_front loose MAX_SAFE_INTEGER behind

@@ -1,7 +1,7 @@
 -- The words of an alternative, read one after another: what was read, and what is left.
 use Rattle.nodejs_semver.proofs.Common.{Bool, Front, IsUtf8, List, MAX_SAFE_INTEGER, None, Option, Some, Span, VersionValue, [], ap}
 use Rattle.nodejs_semver.proofs.Common.{append_assoc, arith, common_steps, drop_spaces, false, if◌then◌else◌, is_empty, length}
-use Rattle.nodejs_semver.proofs.Common.{length-append, nat_tests, refl, suc, sym, true, zero, ℕ, ◌&&◌, ◌++◌, ◌<◌, ◌==◌, ◌∙◌, ◌≡◌, ◌≤◌}
+use Rattle.nodejs_semver.proofs.Common.{length-append, nat_tests, refl, suc, sym, true, zero, ℕ, ◌&&◌, ◌++◌, ◌<◌, ◌∙◌, ◌≡◌, ◌≤◌}
 use Rattle.nodejs_semver.proofs.NpmCommon.{Alternative, Comparison, IsFound, IsNarrowed, NarrowedBy, Signed, any_word, is_visible}
 use Rattle.nodejs_semver.proofs.{NpmCommon.{limited_word, valid_only, valid_words, word_front, words_of, ◌>>?◌}, Reading.Bytes.begins-some}
 use Rattle.nodejs_semver.{proofs.Strict.{Signs.blank-at, Words.{WordAt, word-found, word-visible}}, specs.Npm.Table.table}
@@ -125,6 +125,3 @@ pub words-invalid : (loose : Bool) (include : Bool) (text rest : List ℕ) (all 
     (w : Signed × List ℕ) → AreWordsTo loose include text all is_bare rest → word_at_front loose rest ≡ Some w → NarrowedBy include all (row_of include w.0) None
     → IsFound include (words_of loose include text) None
 words-invalid loose include text rest all is_bare w h e n = grind (arith, nat_tests, common_steps, words-step)
-
-pub empty-length : (text : List ℕ) → is_empty text ≡ (length text == 0)
-empty-length text = grind (arith, nat_tests, common_steps)

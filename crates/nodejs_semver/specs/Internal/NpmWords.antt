@@ -13,12 +13,17 @@ use Rattle.nodejs_semver.specs.Internal.NpmReadings.{dashed_front}
 use Rattle.nodejs_semver.specs.Internal.Parts.{parts}
 use Rattle.nodejs_semver.specs.Internal.Words.{after_some_space, is_boundary, or_else}
 use Rattle.nodejs_semver.specs.Npm.Malformed.{begins_malformed, is_visible}
-use Rattle.nodejs_semver.specs.Npm.RangeText.{are_marks, are_spelled, are_whole_marks, begins_undashed, has_zeros, is_free_lower, is_free_upper, is_lost, is_mark, is_short_build, is_short_identifier, is_spelled, most_digits, partial_of}
+use Rattle.nodejs_semver.specs.Npm.RangeText.{are_marks, are_whole_marks, has_zeros, is_free_lower, is_free_upper, is_lost, is_mark, is_short_identifier, is_spelled, may_stand, partial_of}
+use Rattle.nodejs_semver.specs.Npm.Grammar.{begins_undashed, is_strict_list}
 use Rattle.nodejs_semver.specs.Npm.Ranges.{is_valid}
 use Rattle.nodejs_semver.specs.Npm.Table.{Comparison, Partial, Sign, caret, compared, hyphen_lower, hyphen_upper, major, minor, table, tilde, whole, wildcard}
 use Rattle.nodejs_semver.specs.Text.WordText.{Comparator, above, at_least, at_most, below, equal}
 
 -- ---- partials
+
+-- how many digits a number may have
+abbrev pub most_digits : Bool → ℕ
+most_digits loose = if loose then 32 else 257
 
 -- the place that a run of digits is, with what stands behind it
 abbrev pub run_place : Bool → Bool → List ℕ → List ℕ → Front (Option ℕ)
@@ -45,15 +50,21 @@ unfoldable pub dotted_patch : Bool → Bool → List ℕ → Front (Option ℕ)
 dotted_patch loose zeros text = after_byte 46 text >>? λ rest. patch_place loose zeros rest
 
 -- the identifiers of a pre-release and of a build may be written
+abbrev pub are_spelled : Bool → List ℕ → Bool
+are_spelled loose ids = if loose then nat_le (length ids) 128 else is_strict_list ids
+
 abbrev pub are_short_identifiers : List ℕ → Bool
 are_short_identifiers text = list_all is_short_identifier (pieces text)
+
+abbrev pub is_short_build : List ℕ → Bool
+is_short_build text = nat_le (length text) 250
 
 abbrev pub are_short_builds : List ℕ → Bool
 are_short_builds text = list_all is_short_build (pieces text)
 
 -- this pre-release and this build may be written
 abbrev pub may_follow : Bool → List ℕ → List ℕ → Bool
-may_follow loose pre build = are_spelled loose pre && (are_short_identifiers pre && are_short_builds build)
+may_follow loose pre build = may_stand loose pre && are_short_builds build
 
 -- the text begins with one digit before a dot and an identifier
 abbrev pub begins_lone_digit : List ℕ → Bool

@@ -1,7 +1,8 @@
--- Statement: how node-semver's strict reading has numbers, pre-releases and build metadata written.
-use Rattle.std.specs.Prelude.{◌≡◌, ◌==◌, ◌&&◌, not, ℕ, Bool, true, false, List, [], ◌∷◌, ◌++◌, codes}
+-- Statement: how node-semver's readings have numbers, pre-releases and build metadata written.
+use Rattle.std.specs.Prelude.{◌≡◌, ◌==◌, ◌&&◌, ◌||◌, not, nat_le, ℕ, Bool, true, false, List, [], ◌∷◌, ◌++◌, codes, drop}
 use Rattle.std.specs.Char.{is_ascii_digit}
 use Rattle.std.specs.List.{list_all}
+use Rattle.semver_core.specs.Text.Characters.{begins, is_identifier_char}
 use Rattle.semver_core.specs.Text.Identifiers.{Id, IsIdentifiers, pieces}
 use Rattle.semver_core.specs.Text.Numbers.{IsNumber}
 
@@ -16,15 +17,29 @@ pub record IsStrictNumber (limit : ℕ) (digits : List ℕ) (n : ℕ) : Type 0 w
   pub number : IsNumber limit digits n
   pub shortest : has_leading_zero digits ≡ false
 
--- an identifier of a pre-release: if it is digits alone, it has no leading zero
+-- an identifier of a strict pre-release: if it is digits alone, it has no leading zero; and identifiers joined by dots
 abbrev pub is_strict_identifier : List ℕ → Bool
 is_strict_identifier text = not (list_all is_ascii_digit text && has_leading_zero text)
 
--- a pre-release: `-` and identifiers joined by dots, or nothing
-pub data IsStrictPreRelease : List ℕ → List Id → Type 0 where
-  no_pre_release : IsStrictPreRelease [] []
-  dashed : (text : List ℕ) (list : List Id) → IsIdentifiers text list
-      → list_all is_strict_identifier (pieces text) ≡ true → IsStrictPreRelease (codes "-" ++ text) list
+abbrev pub is_strict_list : List ℕ → Bool
+is_strict_list text = list_all is_strict_identifier (pieces text)
+
+-- a pre-release may begin so without `-`: with a letter, with one digit before a dot, which the patch number does
+-- not take, as `4.5` in `1.2.34.5`, or with a `-` that no identifier follows, as in `1.2.3-`
+abbrev pub begins_undashed : List ℕ → Bool
+begins_undashed [] = false
+begins_undashed (b ∷ rest) = nat_le 65 b && nat_le b 90 || nat_le 97 b && nat_le b 122
+    || (is_ascii_digit b && (begins (λ b. b == 46) rest && begins is_identifier_char (drop 1 rest))
+    || b == 45 && not (begins is_identifier_char rest))
+
+-- a pre-release: `-` and identifiers joined by dots, or nothing; loosely `-` may be absent. `fits` says which texts
+-- of identifiers may stand there.
+pub data IsPreRelease (loose : Bool) (fits : List ℕ → Bool) : List ℕ → List Id → Type 0 where
+  no_pre_release : IsPreRelease loose fits [] []
+  dashed : (text : List ℕ) (list : List Id) → IsIdentifiers text list → fits text ≡ true
+      → IsPreRelease loose fits (codes "-" ++ text) list
+  bare : (text : List ℕ) (list : List Id) → IsIdentifiers text list → fits text ≡ true
+      → (loose && begins_undashed text) ≡ true → IsPreRelease loose fits text list
 
 -- build metadata: `+` and identifiers joined by dots, or nothing
 pub data IsStrictBuild : List ℕ → List Id → Type 0 where

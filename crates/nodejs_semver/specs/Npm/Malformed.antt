@@ -15,13 +15,10 @@ is_visible b = nat_le 33 b && nat_le b 126
 abbrev pub is_sign : ℕ → Bool
 is_sign b = nat_le 60 b && nat_le b 62 || (b == 94 || b == 126)
 
--- a sign or `v`, as stand before numbers; a character that begins well-formed words, which is one of these, a
--- digit or a wildcard; one that stands in them; and one that ends them
-abbrev pub is_mark_or_sign : ℕ → Bool
-is_mark_or_sign b = is_sign b || b == 118
-
+-- a character that begins well-formed words, which is a sign, `v`, a digit or a wildcard; one that ends them; and
+-- one that stands in them
 abbrev pub is_first : ℕ → Bool
-is_first b = is_mark_or_sign b || (is_ascii_digit b || (b == 120 || (b == 88 || b == 42)))
+is_first b = is_sign b || b == 118 || (is_ascii_digit b || (b == 120 || (b == 88 || b == 42)))
 
 abbrev pub is_last : ℕ → Bool
 is_last b = is_identifier_char b || b == 42
@@ -66,22 +63,17 @@ has_one_sign word = list_any (λ b. b == 42) word || list_all (λ b. not (is_sig
 -- signs and `v`, and not two signs
 abbrev pub is_regular : List ℕ → Bool
 is_regular word = list_all is_inner word && (ends is_last word
-    && (not (list_all is_mark_or_sign word) && (has_one_sign word && begins_places word)))
+    && (not (list_all (λ b. is_sign b || b == 118) word) && (has_one_sign word && begins_places word)))
 
--- what stands behind it may belong to it: behind a sign, and behind the `-` of a hyphen range
-abbrev pub is_open : List ℕ → Bool
-is_open word = ends is_sign word || bytes_eq word (codes "-")
-
--- a malformed word: one that may not be well-formed, or one with four parts. An open one is ignored only as the
--- last word.
+-- a malformed word: one that may not be well-formed, or one with four parts. What stands behind a sign, and behind
+-- the `-` of a hyphen range, may belong to it: so such a word is ignored only as the last one.
 abbrev pub is_malformed : Bool → List ℕ → Bool
-is_malformed last word = list_all is_visible word && (not (is_empty word) && ((last || not (is_open word))
+is_malformed last word = list_all is_visible word && (not (is_empty word) && ((last || not (ends is_sign word || bytes_eq word (codes "-")))
     && (has_four_parts word || not (is_regular word))))
 
 -- the visible characters at the front are one, and those at the end
 abbrev pub begins_malformed : List ℕ → Bool
-begins_malformed text =
-    is_malformed (is_empty (drop (prefix_len is_visible text) text)) (take_while is_visible text)
+begins_malformed text = is_malformed (is_empty (drop (prefix_len is_visible text) text)) (take_while is_visible text)
 
 abbrev pub last_visible : List ℕ → List ℕ
 last_visible [] = []

@@ -11,10 +11,10 @@ use Rattle.std.specs.Prelude.{encode_utf8_all, if◌then◌else◌}
 use Rattle.std.specs.Char.{is_ascii_digit}
 use Rattle.std.specs.List.{list_all, prefix_len}
 use Rattle.semver_core.specs.Lists.{is_empty}
-use Rattle.semver_core.specs.Text.Characters.{begins, is_identifier_char, is_whitespace, IsBlank, IsTrim}
-use Rattle.semver_core.specs.Text.Identifiers.{Id, IsIdentifiers, pieces}
+use Rattle.semver_core.specs.Text.Characters.{begins, is_whitespace, IsBlank, IsTrim}
+use Rattle.semver_core.specs.Text.Identifiers.{Id, pieces}
 use Rattle.semver_core.specs.Text.Numbers.{IsNumber}
-use Rattle.nodejs_semver.specs.Npm.Grammar.{IsStrictBuild, has_leading_zero, is_strict_identifier}
+use Rattle.nodejs_semver.specs.Npm.Grammar.{IsPreRelease, IsStrictBuild, has_leading_zero, is_strict_list}
 use Rattle.nodejs_semver.specs.Npm.Malformed.{begins_malformed, ends_malformed, is_malformed}
 use Rattle.nodejs_semver.specs.Npm.Table.{Comparison, Partial, Sign, caret, compared, hyphen_lower, major}
 use Rattle.nodejs_semver.specs.Npm.Table.{hyphen_upper, minor, table, tilde, whole, wildcard}
@@ -28,53 +28,24 @@ abbrev pub is_short_identifier : List ℕ → Bool
 is_short_identifier text = let run = prefix_len is_ascii_digit text in
     nat_le (length text) run && nat_le run 257 || nat_le run 256 && nat_le (length text) (run + 251)
 
-abbrev pub is_short_build : List ℕ → Bool
-is_short_build text = nat_le (length text) 250
-
 -- a number has no leading zeros; loosely it may have some, zero only where `zeros` says so
 abbrev pub is_spelled : Bool → Bool → ℕ → List ℕ → Bool
 is_spelled loose zeros n digits = not (has_leading_zero digits) || (loose && (zeros || nat_lt 0 n))
-
-abbrev pub most_digits : Bool → ℕ
-most_digits loose = if loose then 32 else 257
 
 -- a place: `x`, `X`, `*`, or a number of any value
 pub data IsPlace (loose zeros : Bool) : List ℕ → Option ℕ → Type 0 where
   any : (b : ℕ) → (b == 120 || b == 88 || b == 42) ≡ true → IsPlace loose zeros (b ∷ []) None
   number : (run : List ℕ) (n : ℕ) → IsNumber n run n → is_spelled loose zeros n run ≡ true
-      → length run ≤ most_digits loose → IsPlace loose zeros run (Some n)
+      → length run ≤ (if loose then 32 else 257) → IsPlace loose zeros run (Some n)
 
 -- zero may be several digits behind this major number: where that is zero, the table asks how zero is written
 abbrev pub has_zeros : Option ℕ → Bool
-has_zeros None = true
-has_zeros (Some M) = nat_lt 0 M
+has_zeros a = elim a [ None ↦ true | Some M ↦ nat_lt 0 M ]
 
--- the identifiers of a pre-release: strictly, none that is digits alone has a leading zero
-abbrev pub are_spelled : Bool → List ℕ → Bool
-are_spelled loose ids = if loose then nat_le (length ids) 128 else list_all is_strict_identifier (pieces ids)
-
--- a pre-release may begin so without `-`: with a letter, with one digit before a dot, which the patch number does
--- not take, as `4.5` in `1.2.34.5`, or with a `-` that no identifier follows, as in `1.2.3-`
-abbrev pub is_letter : ℕ → Bool
-is_letter b = nat_le 65 b && nat_le b 90 || nat_le 97 b && nat_le b 122
-
-abbrev pub begins_undashed : List ℕ → Bool
-begins_undashed [] = false
-begins_undashed (b ∷ rest) = is_letter b
-    || (is_ascii_digit b && (begins (λ b. b == 46) rest && begins is_identifier_char (drop 1 rest))
-    || b == 45 && not (begins is_identifier_char rest))
-
--- a pre-release: `-` and identifiers joined by dots, or nothing; loosely `-` may be absent
-pub data IsPreRelease (loose : Bool) : List ℕ → List Id → Type 0 where
-  no_pre_release : IsPreRelease loose [] []
-  dashed : (text : List ℕ) (list : List Id) → IsIdentifiers text list → are_spelled loose text ≡ true
-      → IsPreRelease loose (codes "-" ++ text) list
-  bare : (text : List ℕ) (list : List Id) → loose ≡ true → begins_undashed text ≡ true
-      → IsIdentifiers text list → are_spelled loose text ≡ true → IsPreRelease loose text list
-
--- a pre-release without its `-`
-abbrev pub undashed : List ℕ → List ℕ
-undashed pre = if begins_undashed pre then pre else drop 1 pre
+-- the identifiers of a pre-release: strictly they are such, and loosely their text is as long at most
+abbrev pub may_stand : Bool → List ℕ → Bool
+may_stand loose ids = (if loose then nat_le (length ids) 128 else is_strict_list ids)
+    && list_all is_short_identifier (pieces ids)
 
 -- the partial of its places
 abbrev pub partial_of : Option ℕ → Option ℕ → Option ℕ → List Id → List Id → Partial
@@ -90,20 +61,15 @@ pub data IsPartial (loose : Bool) : List ℕ → Partial → Type 0 where
   two : (x y : List ℕ) (a b : Option ℕ) → IsPlace loose false x a → IsPlace loose (has_zeros a) y b
       → IsPartial loose (x ++ (codes "." ++ y)) (partial_of a b None [] [])
   three : (x y z pre build : List ℕ) (a b c : Option ℕ) (ids builds : List Id) → IsPlace loose false x a
-      → IsPlace loose (has_zeros a) y b → IsPlace loose (has_zeros a) z c → IsPreRelease loose pre ids
-      → list_all is_short_identifier (pieces (undashed pre)) ≡ true → IsStrictBuild build builds
-      → list_all is_short_build (pieces (drop 1 build)) ≡ true
-      → IsPartial loose (x ++ (codes "." ++ (y ++ (codes "." ++ (z ++ (pre ++ build))))))
-      (partial_of a b c ids builds)
+      → IsPlace loose (has_zeros a) y b → IsPlace loose (has_zeros a) z c → IsPreRelease loose (may_stand loose) pre ids
+      → IsStrictBuild build builds → list_all (λ text. nat_le (length text) 250) (pieces (drop 1 build)) ≡ true
+      → IsPartial loose (x ++ (codes "." ++ (y ++ (codes "." ++ (z ++ (pre ++ build)))))) (partial_of a b c ids builds)
 
 -- ---- words
 
 abbrev pub spelling : Sign → List ℕ
-spelling (compared at_least) = codes ">="
-spelling (compared above) = codes ">"
-spelling (compared equal) = codes "="
-spelling (compared at_most) = codes "<="
-spelling (compared below) = codes "<"
+spelling (compared c) =
+    elim c [ at_least ↦ codes ">=" | above ↦ codes ">" | equal ↦ codes "=" | at_most ↦ codes "<=" | below ↦ codes "<" ]
 spelling caret = codes "^"
 spelling tilde = codes "~"
 
@@ -115,13 +81,10 @@ pub data IsSignText : List ℕ → Sign → Type 0 where
   sign : (s : Sign) (x : List ℕ) → IsBlank x → IsSignText (spelling s ++ x) s
   late_above : (x : List ℕ) → IsBlank x → IsSignText (codes ">" ++ (x ++ codes "=")) (compared at_least)
   late_below : (x : List ℕ) → IsBlank x → IsSignText (codes "<" ++ (x ++ codes "=")) (compared at_most)
-  caret_equal : (x y : List ℕ) → IsBlank x → IsBlank y
-      → IsSignText (codes "^" ++ (x ++ (codes "=" ++ y))) caret
-  tilde_sign : (c : Comparator) (x y : List ℕ) → IsBlank x → IsBlank y
-      → (c ≡ above) ⊎ (c ≡ at_least) ⊎ (c ≡ equal)
+  caret_equal : (x y : List ℕ) → IsBlank x → IsBlank y → IsSignText (codes "^" ++ (x ++ (codes "=" ++ y))) caret
+  tilde_sign : (c : Comparator) (x y : List ℕ) → IsBlank x → IsBlank y → (c ≡ above) ⊎ (c ≡ at_least) ⊎ (c ≡ equal)
       → IsSignText (codes "~" ++ (x ++ (spelling (compared c) ++ y))) tilde
-  tilde_twice : (c : Comparator) (x y : List ℕ) → IsBlank x → 0 < length x → IsBlank y
-      → (c ≡ above) ⊎ (c ≡ at_least)
+  tilde_twice : (c : Comparator) (x y : List ℕ) → IsBlank x → 0 < length x → IsBlank y → (c ≡ above) ⊎ (c ≡ at_least)
       → IsSignText (codes "~>" ++ (x ++ (spelling (compared c) ++ y))) tilde
 
 -- `v` or `=`
@@ -146,9 +109,8 @@ are_marks loose s p marks = list_all is_mark marks
 -- would be the sign. Loosely it may also be malformed, and has then no comparators.
 pub data IsWord (loose include is_last : Bool) : List ℕ → List Comparison → Type 0 where
   ignored : (x : List ℕ) → loose ≡ true → is_malformed is_last x ≡ true → IsWord loose include is_last x []
-  word : (signs marks text : List ℕ) (s : Sign) (p : Partial) → IsSignText signs s
-      → are_marks loose s p marks ≡ true → (is_empty signs && begins (λ b. b == 61) marks) ≡ false
-      → IsPartial loose text p
+  word : (signs marks text : List ℕ) (s : Sign) (p : Partial) → IsSignText signs s → are_marks loose s p marks ≡ true
+      → (is_empty signs && begins (λ b. b == 61) marks) ≡ false → IsPartial loose text p
       → IsWord loose include is_last (signs ++ (marks ++ text)) (table include s p (marks ++ text))
 
 -- ---- alternatives
@@ -157,21 +119,19 @@ pub data IsWord (loose include is_last : Bool) : List ℕ → List Comparison �
 pub data AreWords (loose include : Bool) : List ℕ → List Comparison → Type 0 where
   last : (x : List ℕ) (cs : List Comparison) → IsWord loose include true x cs → AreWords loose include x cs
   more : (x blank rest : List ℕ) (cs ds : List Comparison) → IsWord loose include false x cs → IsBlank blank
-      → 0 < length blank → AreWords loose include rest ds
-      → AreWords loose include (x ++ (blank ++ rest)) (cs ++ ds)
+      → 0 < length blank → AreWords loose include rest ds → AreWords loose include (x ++ (blank ++ rest)) (cs ++ ds)
 
 -- the marks before a whole version in a hyphen range: strictly one `v` at most, and loosely any
 abbrev pub are_whole_marks : Bool → List ℕ → Bool
 are_whole_marks loose marks = if loose then list_all is_mark marks else is_one_v marks
 
--- the marks and the whitespace before an end of a hyphen range: any, but such marks alone before a whole
--- version that stays as it is written
-pub record AreEndMarks (loose free : Bool) (text : List ℕ) : Type 0 where
+-- any marks and whitespace
+pub record AreMarks (text : List ℕ) : Type 0 where
   pub characters : List ℕ
   pub spelled : text ≡ encode_utf8_all characters
   pub each : list_all (λ c. is_mark c || is_whitespace c) characters ≡ true
-  pub whole : (free || are_whole_marks loose characters) ≡ true
 
+-- they may stand before an end of a hyphen range; but before a whole version that stays as it is written its marks alone
 abbrev pub is_free_upper : Bool → Partial → Bool
 is_free_upper include p = elim p [ whole v ↦ include || not (is_empty v.pre_release) | _ ↦ true ]
 
@@ -181,9 +141,9 @@ is_free_lower p = elim p [ whole v ↦ false | _ ↦ true ]
 -- an alternative: nothing, a hyphen range or words
 pub data IsAlternative (loose include : Bool) : List ℕ → List Comparison → Type 0 where
   nothing : IsAlternative loose include [] []
-  hyphen : (a x blank gap b y : List ℕ) (p q : Partial) → AreEndMarks loose (is_free_lower p) a
-      → IsPartial loose x p → IsBlank blank → 0 < length blank → IsBlank gap → 0 < length gap
-      → AreEndMarks loose (is_free_upper include q) b → IsPartial loose y q
+  hyphen : (a x blank gap b y : List ℕ) (p q : Partial) → AreMarks a → (is_free_lower p || are_whole_marks loose a) ≡ true
+      → IsPartial loose x p → IsBlank blank → 0 < length blank → IsBlank gap → 0 < length gap → AreMarks b
+      → (is_free_upper include q || are_whole_marks loose b) ≡ true → IsPartial loose y q
       → IsAlternative loose include (a ++ (x ++ (blank ++ (codes "-" ++ (gap ++ (b ++ y))))))
       (hyphen_lower include p (a ++ x) ++ hyphen_upper include q (b ++ y))
   words : (x : List ℕ) (cs : List Comparison) → AreWords loose include x cs → IsAlternative loose include x cs

@@ -34,13 +34,8 @@ HasAlternatives = HasAlternativesIn false
 
 -- the version satisfies the comparator
 abbrev pub satisfies : VersionValue → Comparison → Bool
-satisfies v c = elim c.sign [
-  | below ↦ is_lt (precedence v c.version)
-  | at_most ↦ is_le (precedence v c.version)
-  | equal ↦ is_eq (precedence v c.version)
-  | at_least ↦ is_ge (precedence v c.version)
-  | above ↦ is_gt (precedence v c.version)
-]
+satisfies v c = let r = precedence v c.version in
+    elim c.sign [ below ↦ is_lt r | at_most ↦ is_le r | equal ↦ is_eq r | at_least ↦ is_ge r | above ↦ is_gt r ]
 
 -- the comparator names a pre-release of the same three numbers
 abbrev pub names : VersionValue → Comparison → Bool

@@ -48,17 +48,12 @@ lowest n = record (release n) { pre_release = Numeric 0 ∷ [] }
 
 -- the numbers of a partial, with zeros behind them
 abbrev pub first : Partial → Numbers
-first wildcard = (0, 0, 0)
-first (major M) = (M, 0, 0)
-first (minor M m) = (M, m, 0)
-first (whole v) = (v.major, v.minor, v.patch)
+first p = elim p [ major M ↦ (M, 0, 0) | minor M m ↦ (M, m, 0) | whole v ↦ (v.major, v.minor, v.patch) | _ ↦ (0, 0, 0) ]
 
 -- those of the next release above M, above M.m, and above the M.m of a whole version
 abbrev pub next : Partial → Numbers
-next wildcard = (0, 0, 0)
-next (major M) = (M + 1, 0, 0)
-next (minor M m) = (M, m + 1, 0)
-next (whole v) = (v.major, v.minor + 1, 0)
+next p =
+    elim p [ major M ↦ (M + 1, 0, 0) | minor M m ↦ (M, m + 1, 0) | whole v ↦ (v.major, v.minor + 1, 0) | _ ↦ (0, 0, 0) ]
 
 -- those of the next release in which the first number changes that is not 0, or the last one written
 abbrev pub next_changed : Partial → Numbers
@@ -109,6 +104,5 @@ hyphen_lower include p text = table include (compared at_least) p text
 
 abbrev pub hyphen_upper : Bool → Partial → List ℕ → List Comparison
 hyphen_upper include (whole v) text = if not (is_release v) then made at_most (no_build v) ∷ []
-    else if include then under (v.major, v.minor, v.patch + 1) ∷ []
-    else table include (compared at_most) (whole v) text
+    else if include then under (v.major, v.minor, v.patch + 1) ∷ [] else table include (compared at_most) (whole v) text
 hyphen_upper include p text = table include (compared at_most) p text

@@ -1,16 +1,15 @@
 -- Statement: the version texts of node-semver's strict reading, its default, and of its loose one.
-use Rattle.std.specs.Prelude.{◌≡◌, ◌⊎◌, ◌==◌, ◌≤◌, ◌||◌, not, ℕ, Bool, true, false, List, [], ◌∷◌, ◌++◌}
-use Rattle.std.specs.Prelude.{codes, drop, encode_utf8_all, length}
-use Rattle.std.specs.Char.{is_ascii_digit}
-use Rattle.std.specs.List.{list_all, prefix_len}
+use Rattle.std.specs.Prelude.{◌≡◌, ◌⊎◌, ◌≤◌, ℕ, true, false, List, [], ◌++◌}
+use Rattle.std.specs.Prelude.{codes, drop, length}
+use Rattle.std.specs.List.{prefix_len}
 use Rattle.std.specs.Str.{chars}
-use Rattle.semver_core.specs.Text.Characters.{IsTrim, is_whitespace}
-use Rattle.semver_core.specs.Text.Identifiers.{Id, IsIdentifiers}
+use Rattle.semver_core.specs.Text.Characters.{IsTrim}
+use Rattle.semver_core.specs.Text.Identifiers.{Id}
 use Rattle.semver_core.specs.Text.Numbers.{IsNumber}
 use Rattle.semver_core.specs.Values.Versions.{VersionValue}
 use Rattle.semver_core.specs.declared.TheConstants.{MAX_LENGTH}
-use Rattle.nodejs_semver.specs.Npm.Grammar.{IsStrictNumber, IsStrictPreRelease, IsStrictBuild}
-use Rattle.nodejs_semver.specs.Npm.RangeText.{is_mark}
+use Rattle.nodejs_semver.specs.Npm.Grammar.{IsPreRelease, IsStrictBuild, IsStrictNumber, is_strict_list}
+use Rattle.nodejs_semver.specs.Npm.RangeText.{AreMarks, is_mark}
 
 -- the whole text is this version, in a reading that has these marks, numbers and pre-releases
 pub record IsWritten (Marks : List ℕ → Type 0) (Number : List ℕ → ℕ → Type 0)
@@ -33,33 +32,11 @@ pub record IsWritten (Marks : List ℕ → Type 0) (Number : List ℕ → ℕ �
 -- strict: one `v` or none, no leading zeros, `-` before the pre-release
 abbrev pub IsStrictVersion : ℕ → List ℕ → VersionValue → Type 0
 IsStrictVersion limit =
-    IsWritten (λ mark. (mark ≡ []) ⊎ (mark ≡ codes "v")) (IsStrictNumber limit) IsStrictPreRelease
+    IsWritten (λ mark. (mark ≡ []) ⊎ (mark ≡ codes "v")) (IsStrictNumber limit) (IsPreRelease false is_strict_list)
 
--- any of `v`, `=` and whitespace
-pub record AreMarks (text : List ℕ) : Type 0 where
-  pub characters : List ℕ
-  pub spelled : text ≡ encode_utf8_all characters
-  pub each : list_all (λ c. is_mark c || is_whitespace c) characters ≡ true
-
--- a pre-release without a `-` before it may begin so: it has no `-` to give away, and no digit that the
--- patch number takes. Before a dot it has: `1.2.3-` is 1.2.3 with the pre-release `-`, and `1.2.34.5` is
--- 1.2.3 with the pre-release `4.5`.
-abbrev pub begins_bare : List ℕ → Bool
-begins_bare [] = false
-begins_bare (c ∷ []) = not (is_ascii_digit c)
-begins_bare (c ∷ d ∷ rest) = d == 46 || not (c == 45 || is_ascii_digit c)
-
--- identifiers with `-` or nothing before them, or nothing
-pub data IsLoosePreRelease : List ℕ → List Id → Type 0 where
-  no_pre_release : IsLoosePreRelease [] []
-  dashed : (text : List ℕ) (list : List Id) → IsIdentifiers text list
-      → IsLoosePreRelease (codes "-" ++ text) list
-  bare : (text : List ℕ) (list : List Id) → IsIdentifiers text list → begins_bare text ≡ true
-      → IsLoosePreRelease text list
-
--- loose: any marks, leading zeros, and a pre-release without `-`
+-- loose: any of `v`, `=` and whitespace, leading zeros, and a pre-release without `-`
 abbrev pub IsLooseVersion : ℕ → List ℕ → VersionValue → Type 0
-IsLooseVersion limit = IsWritten AreMarks (IsNumber limit) IsLoosePreRelease
+IsLooseVersion limit = IsWritten AreMarks (IsNumber limit) (IsPreRelease true (λ ids. true))
 
 -- the text, of at most 256 characters with the whitespace around it, is this version. (node-semver counts
 -- UTF-16 units. A character that is two of them stands in no version text.)

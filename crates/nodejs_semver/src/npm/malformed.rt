@@ -1,7 +1,8 @@
 // The malformed words of range texts that node-semver's loose reading ignores.
 
 ghost use Rattle.std.specs.List.{list_all, list_any, prefix_len};
-ghost use Rattle.std.specs.Prelude.{◌≡◌, ◌==◌, ◌≤◌, ◌&&◌, ◌||◌, length, not, true};
+ghost use Rattle.std.specs.Prelude.{◌≡◌, ◌==◌, ◌≤◌, ◌&&◌, ◌||◌, codes, length, not, true};
+ghost use Rattle.std.specs.Str.{bytes_eq};
 ghost use Rattle.nodejs_semver.specs.Npm.Malformed as Text;
 ghost use Rattle.semver_core.specs.Text.Characters.{ends};
 
@@ -24,7 +25,7 @@ fn is_sign(byte: u8) -> bool
 // Whether a character is of a sign, or a `v`.
 #[inline(always)]
 fn is_mark_or_sign(byte: u8) -> bool
-    ensures { result ≡ Text.is_mark_or_sign byte }
+    ensures { result ≡ (Text.is_sign byte || byte == 118) }
 {
     is_sign(byte) || byte == b'v'
 }
@@ -78,7 +79,7 @@ fn are_inner(word: &[u8]) -> bool
 // Whether characters are of signs, or `v`.
 #[inline(always)]
 fn are_marks_or_signs(word: &[u8]) -> bool
-    ensures { result ≡ list_all Text.is_mark_or_sign word.now }
+    ensures { result ≡ list_all (λ b. Text.is_sign b || b == 118) word.now }
 {
     word.iter().all(|byte| is_mark_or_sign(*byte))
 }
@@ -119,7 +120,7 @@ fn ends_well(word: &[u8]) -> bool
 
 // Whether what stands behind a malformed word may belong to it.
 fn is_open(word: &[u8]) -> bool
-    ensures { result ≡ Text.is_open word.now }
+    ensures { result ≡ (ends Text.is_sign word.now || bytes_eq word.now (codes "-")) }
 {
     ends_in_sign(word) || matches!(word, [b'-'])
 }
@@ -195,7 +196,7 @@ fn has_one_sign(word: &[u8]) -> bool
 // Whether a word begins and ends as well-formed words do.
 fn has_right_ends(word: &[u8]) -> bool
     ensures { result ≡ (ends Text.is_last word.now
-        && (not (list_all Text.is_mark_or_sign word.now)
+        && (not (list_all (λ b. Text.is_sign b || b == 118) word.now)
         && (Text.has_one_sign word.now && Text.begins_places word.now))) }
 {
     ends_well(word) && !are_marks_or_signs(word) && has_one_sign(word) && begins_places(word)

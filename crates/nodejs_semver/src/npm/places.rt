@@ -11,6 +11,7 @@ ghost use Rattle.nodejs_semver.specs.Internal.NpmViews.{npm_partial_some_view, p
 ghost use Rattle.nodejs_semver.specs.Internal.NpmViews.{place_view};
 ghost use Rattle.semver_core.specs.{Internal.Reading.◌>>?◌, Text.Identifiers.listed};
 ghost use Rattle.nodejs_semver.specs.Internal.NpmWords as Spec;
+ghost use Rattle.nodejs_semver.specs.Npm.Grammar.{begins_undashed};
 ghost use Rattle.nodejs_semver.specs.Npm.RangeText as Text;
 
 use crate::npm::partial::Partial;
@@ -44,7 +45,7 @@ pub(crate) fn digits_len(text: &[u8]) -> usize
 // The most digits that a number may have.
 #[inline(always)]
 fn most_digits(loose: bool) -> usize
-    ensures { result ≡ Text.most_digits loose }
+    ensures { result ≡ Spec.most_digits loose }
 {
     if loose { 32 } else { 257 }
 }
@@ -234,7 +235,7 @@ fn are_short_identifiers(text: &[u8]) -> bool
 
 // Whether an identifier of a build may be so long.
 fn is_short_build(text: &[u8]) -> bool
-    ensures { result ≡ Text.is_short_build text.now }
+    ensures { result ≡ Spec.is_short_build text.now }
 {
     text.len() <= 250
 }
@@ -250,7 +251,7 @@ fn are_short_builds(text: &[u8]) -> bool
 // Whether the identifiers of a pre-release are spelled as they have to be.
 #[inline(always)]
 fn are_spelled(loose: bool, pre_release: &[u8]) -> bool
-    ensures { result ≡ Text.are_spelled loose pre_release.now }
+    ensures { result ≡ Spec.are_spelled loose pre_release.now }
 {
     if loose {
         pre_release.len() <= 128
@@ -286,7 +287,7 @@ fn begins_lone_dash(text: &[u8]) -> bool
 // Whether a text begins as a pre-release may without `-`.
 #[inline(always)]
 fn begins_undashed(text: &[u8]) -> bool
-    ensures { result ≡ Text.begins_undashed text.now }
+    ensures { result ≡ begins_undashed text.now }
 {
     matches!(text, [b'A'..=b'Z' | b'a'..=b'z', ..])
         || begins_lone_digit(text)

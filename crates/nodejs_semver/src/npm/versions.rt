@@ -4,7 +4,7 @@ ghost use Rattle.std.specs.{Prelude.{◌↔◌, ◌≡◌, ◌≤◌, IfErr, dro
 ghost use Rattle.nodejs_semver.specs.Words.{IfOk, IsTrue, IsVersionText, MAX_SAFE_INTEGER, NoValue};
 ghost use Rattle.nodejs_semver.specs.Words.{front_view, is_ascii_digit, is_listed, length};
 ghost use Rattle.nodejs_semver.specs.Words.{list_all, pair_view, true};
-ghost use Rattle.nodejs_semver.specs.Npm.{Grammar.is_strict_identifier, RangeText.is_mark};
+ghost use Rattle.nodejs_semver.specs.Npm.{Grammar.{is_strict_identifier, is_strict_list}, RangeText.is_mark};
 ghost use Rattle.nodejs_semver.specs.Npm.VersionText.{IsClean};
 ghost use Rattle.nodejs_semver.specs.Internal.NpmReadings as Spec;
 
@@ -80,7 +80,7 @@ fn is_strict_identifier(text: &[u8]) -> bool
 // Whether no identifier of a text has leading zeros.
 #[inline(always)]
 pub(crate) fn is_strict_list(text: &[u8]) -> bool
-    ensures { result ≡ Spec.is_strict_list text.now }
+    ensures { result ≡ is_strict_list text.now }
 {
     text.split(|byte| *byte == b'.').all(is_strict_identifier)
 }

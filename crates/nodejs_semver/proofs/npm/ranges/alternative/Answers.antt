@@ -1,6 +1,6 @@
 use Rattle.nodejs_semver.proofs.{Common.{List, Some, [], arith, length, subst, sym, ℕ, ◌<◌, ◌∙◌, ◌≡◌}, NpmCommon.IsFound}
 use Rattle.nodejs_semver.proofs.{NpmCommon.valid_alternative, Strict.{RangeReads.{no-text, no-words, words-found}, VersionLaw.empty-is}}
-use Rattle.nodejs_semver.proofs.Strict.WordSteps.{empty-length}
+use Rattle.nodejs_semver.proofs.Strict.Malformed.{empty-length}
 use Rattle.nodejs_semver.proofs.npm.ranges.alternative.Goals as goal
 
 pub returns-then-is_empty : goal.returns-then-is_empty

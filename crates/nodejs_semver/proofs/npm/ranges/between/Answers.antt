@@ -1,6 +1,5 @@
-use Rattle.nodejs_semver.proofs.{Common.◌∙◌, NpmCommon.{Ended, hyphen_lower, hyphen_upper}}
-use Rattle.nodejs_semver.proofs.Strict.{Narrowing.{lower-bare, upper-bare}, RangeReads.{lower-invalid, upper-read}}
-use Rattle.nodejs_semver.specs.Internal.NpmViews.{end_view}
+use Rattle.nodejs_semver.proofs.{Common.◌∙◌, NpmCommon.{Ended, hyphen_lower, hyphen_upper}, Strict.Narrowing.{lower-bare, upper-bare}}
+use Rattle.nodejs_semver.{proofs.Strict.RangeReads.{lower-invalid, upper-read}, specs.Internal.NpmViews.end_view}
 use Rattle.nodejs_semver.proofs.npm.ranges.between.Goals as goal
 
 pub returns-in_err-from : goal.returns-in_err-from

@@ -1,5 +1,4 @@
-use Rattle.nodejs_semver.proofs.{NpmCommon.{npm_partial_view, npm_sign_view}, Strict.Narrowing.table-bare}
-use Rattle.nodejs_semver.specs.Npm.Table.{table}
+use Rattle.nodejs_semver.{proofs.{NpmCommon.{npm_partial_view, npm_sign_view}, Strict.Narrowing.table-bare}, specs.Npm.Table.table}
 use Rattle.nodejs_semver.proofs.npm.alternatives.Alternative.meet.Goals as goal
 
 pub returns-clause-narrowed : goal.returns-clause-narrowed
