@@ -6,7 +6,7 @@ ghost use Rattle.nodejs_semver.specs.Words.{Span, true, unwrap_or, VersionValue,
 
 use crate::{Failure, MAX_SAFE_INTEGER, Range, RangeOf, SemverError, Version};
 use semver_core::{VersionPoint, Versioned};
-use std::alloc::{AllocError, Global};
+use std::alloc::Global;
 
 /// What the public calls return for two texts. No range stands for the empty set.
 #[derive(Debug, Drop)]
@@ -48,11 +48,16 @@ pub fn headline(alloc: Global, a: &str, b: &str) -> Result<Findings, Failure<Sem
 {
     let first = Range::parse(alloc, a)?;
     let second = Range::parse(alloc, b)?;
-    Ok(findings_of(alloc, first, &second)?)
+    findings_of(alloc, first, &second)
 }
 
 // What the public calls return for two ranges.
-fn findings_of(alloc: Global, first: Range, second: &Range) -> Result<Findings, AllocError>
+fn findings_of(
+    alloc: Global,
+    first: Range,
+    second: &Range,
+) -> Result<Findings, Failure<SemverError>>
+    ensures never_refused { RefusedOnlyIf result ⊥ }
     ensures first { IfOk result (λ found. found.first ≡ first) }
     ensures both { IfOk result (λ found. (v : VersionValue) →
         accepts (unwrap_or found.both []) v true
