@@ -118,15 +118,15 @@ pub fn headline_at(
     let found = headline(alloc, a, b)?;
     Ok(FindingsAt {
         in_first: found.first.satisfies_with_prerelease(version, true),
-        in_both: is_in(&found.both, version),
-        in_first_alone: is_in(&found.first_alone, version),
+        in_both: is_in(found.both, version),
+        in_first_alone: is_in(found.first_alone, version),
         least: found.least,
     })
 }
 
 // Whether there is a range that accepts the version, with pre-releases included.
-pub(super) fn is_in<V: VersionPoint, W: Versioned>(range: &Option<RangeOf<V>>, version: &W) -> bool
-    ensures { result ≡ accepts (unwrap_or range.now []) (W.value version.now) true }
+pub(super) fn is_in<V: VersionPoint, W: Versioned>(range: Option<RangeOf<V>>, version: &W) -> bool
+    ensures { result ≡ accepts (unwrap_or range []) (W.value version.now) true }
 {
     match range {
         None => false,

@@ -61,8 +61,8 @@ fn findings_at<'t>(
         ≡ (accepts first.now version.now true && not (accepts second.now version.now true))) }
     ensures least { IfOk result (λ found. IsLeastOf (λ w. accepts first.now w false) found.least) }
 {
-    let in_both = is_in(&first.intersect(alloc, second)?, version);
-    let in_first_alone = is_in(&first.difference(alloc, second)?, version);
+    let in_both = is_in(first.intersect(alloc, second)?, version);
+    let in_first_alone = is_in(first.difference(alloc, second)?, version);
     let least = first.min_version(alloc)?;
     Ok(FindingsAt {
         in_first: first.satisfies_with_prerelease(version, true),
