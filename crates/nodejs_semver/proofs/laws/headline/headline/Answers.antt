@@ -17,7 +17,6 @@ returns c =
       first = IfOk-weaker r _ _ (λ x h v. rw h (one.set v)) found.first;
       both = IfOk-weaker r _ _ (λ x h v. both_written _ _ _ (h v) (one.set v) (two.set v)) found.both;
       first_alone = IfOk-weaker r _ _ (λ x h v. first_written _ _ _ (h v) (one.set v) (two.set v)) found.first_alone;
-      least = IfOk-weaker r _ _ (λ x h list means.
-          subst (λ (l : List (Span VersionValue)). IsLeastOf (λ v. accepts l v false) x.least)
+      least = IfOk-weaker r _ _ (λ x h list means. subst (λ (l : List (Span VersionValue)). IsLeastOf (λ v. accepts l v false) x.least)
           (same_meaning MAX_SAFE_INTEGER c.args.a.now c.in_ok-first.first list c.utf8.a one.ok means) h) found.least;
     }

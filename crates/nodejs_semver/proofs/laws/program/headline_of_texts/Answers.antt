@@ -28,7 +28,6 @@ returns c =
       first_alone = IfOk-weaker r _ _ (λ x h w p.
           subst (λ (v : VersionValue). IsTrue x.in_first_alone ↔ (Writes MAX_SAFE_INTEGER a v × (Writes MAX_SAFE_INTEGER b v → ⊥)))
           (same w p) (first_written _ _ _ h (one.set _) (two.set _))) found.first_alone;
-      least = IfOk-weaker r _ _ (λ x h list means.
-          subst (λ (l : List (Span VersionValue)). IsLeastOf (λ w. accepts l w false) x.least)
+      least = IfOk-weaker r _ _ (λ x h list means. subst (λ (l : List (Span VersionValue)). IsLeastOf (λ w. accepts l w false) x.least)
           (same_meaning MAX_SAFE_INTEGER a c.in_ok-first.first list c.utf8.a one.ok means) h) found.least;
     }

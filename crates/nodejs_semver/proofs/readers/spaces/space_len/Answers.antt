@@ -1,4 +1,4 @@
-use Rattle.nodejs_semver.proofs.Common.{List, [], arith, false, get_or, length, nat_tests, refl, space_len, sym, true, ℕ, ◌<◌, ◌∷◌, ◌≡◌, ◌≤◌}
+use Rattle.nodejs_semver.proofs.Common.{List, [], arith, false, get_or, length, nat_tests, refl, space_len, sym, true, ℕ, ◌∷◌, ◌≡◌, ◌≤◌}
 use Rattle.nodejs_semver.specs.Words.{is_space_of_three, is_space_of_two}
 use Rattle.semver_core.specs.Internal.Spaces.{space_len_two}
 use Rattle.nodejs_semver.proofs.readers.spaces.space_len.Goals as goal

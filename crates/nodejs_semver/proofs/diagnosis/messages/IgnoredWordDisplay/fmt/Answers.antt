@@ -14,10 +14,8 @@ returns-clause-styled g c flush ok =
     ] in
     let begin = c.in_ok-write_at.ensures flush refl in
     let end = c.write_at-2.ensures begin.flush ok in
-    has_written_styled_of_eq _ _ _ _ _
-    (ap (λ (t : List ℕ). t ++ decimal word.start ++ (codes " to " ++ decimal word.end)) message
-    ∙ sym (append_assoc (kind_text word.kind ++ decimal word.start) (codes " to ") (decimal word.end)))
-    (has_written_styled_append _ _ _ _ _ _ begin end)
+    has_written_styled_of_eq _ _ _ _ _ (ap (λ (t : List ℕ). t ++ decimal word.start ++ (codes " to " ++ decimal word.end)) message
+    ∙ sym (append_assoc (kind_text word.kind ++ decimal word.start) (codes " to ") (decimal word.end))) (has_written_styled_append _ _ _ _ _ _ begin end)
 
 pub returns-clause-writes : goal.returns-clause-writes
 returns-clause-writes g c plain ok =
