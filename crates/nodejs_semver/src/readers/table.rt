@@ -222,14 +222,12 @@ fn equal<'a>(partial: &Partial<'a>) -> Option<Bounds<'a>>
 pub(crate) fn plain<'a>(partial: &Partial<'a>) -> Option<Bounds<'a>>
     ensures { table_view result ≡ table MAX_SAFE_INTEGER (Words.plain (partial_view partial.now)) }
 {
+    let version = version_of(partial);
     match (partial.major, partial.minor, partial.patch) {
         (None, _, _) => Some(Bounds::at_least(release(0, 0, 0))),
         (Some(major), None, _) => Some(Bounds::whole_major(major)),
         (Some(major), Some(minor), None) => Some(Bounds::whole_minor(major, minor)),
-        (Some(_), Some(_), Some(_)) => {
-            let version = version_of(partial);
-            Some(Bounds::through(version.copy(), version))
-        }
+        (Some(_), Some(_), Some(_)) => Some(Bounds::through(version.copy(), version)),
     }
 }
 
