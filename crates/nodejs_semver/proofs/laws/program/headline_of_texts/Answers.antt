@@ -20,13 +20,10 @@ returns c =
         (c.in_ok-version.version, c.in_ok-version.ensures.ok),
       )) found.first;
       refused = refused_never _ r found.never_refused;
-      first = IfOk-weaker r _ _ (λ x h w p.
-          subst (λ (v : VersionValue). IsTrue x.in_first ↔ Writes MAX_SAFE_INTEGER a v) (same w p) (rw h (one.set _))) found.first;
-      both = IfOk-weaker r _ _ (λ x h w p.
-          subst (λ (v : VersionValue). IsTrue x.in_both ↔ (Writes MAX_SAFE_INTEGER a v × Writes MAX_SAFE_INTEGER b v)) (same w p)
+      first = IfOk-weaker r _ _ (λ x h w p. subst (λ (v : VersionValue). IsTrue x.in_first ↔ Writes MAX_SAFE_INTEGER a v) (same w p) (rw h (one.set _))) found.first;
+      both = IfOk-weaker r _ _ (λ x h w p. subst (λ (v : VersionValue). IsTrue x.in_both ↔ (Writes MAX_SAFE_INTEGER a v × Writes MAX_SAFE_INTEGER b v)) (same w p)
           (both_written _ _ _ h (one.set _) (two.set _))) found.both;
-      first_alone = IfOk-weaker r _ _ (λ x h w p.
-          subst (λ (v : VersionValue). IsTrue x.in_first_alone ↔ (Writes MAX_SAFE_INTEGER a v × (Writes MAX_SAFE_INTEGER b v → ⊥)))
+      first_alone = IfOk-weaker r _ _ (λ x h w p. subst (λ (v : VersionValue). IsTrue x.in_first_alone ↔ (Writes MAX_SAFE_INTEGER a v × (Writes MAX_SAFE_INTEGER b v → ⊥)))
           (same w p) (first_written _ _ _ h (one.set _) (two.set _))) found.first_alone;
       least = IfOk-weaker r _ _ (λ x h list means. subst (λ (l : List (Span VersionValue)). IsLeastOf (λ w. accepts l w false) x.least)
           (same_meaning MAX_SAFE_INTEGER a c.in_ok-first.first list c.utf8.a one.ok means) h) found.least;

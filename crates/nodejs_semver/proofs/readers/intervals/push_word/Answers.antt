@@ -17,8 +17,7 @@ returns-in_default-clause-added c =
 pub returns-in-Some-2-clause-added : goal.returns-in-Some-2-clause-added
 returns-in-Some-2-clause-added c =
     pushed_hyphen MAX_SAFE_INTEGER c.args.text.now _ _ (partial_view c.in-Some.partial) c.in-Some.rest.now _ c.args.found.now.items
-    c.push_upper.new.found.items (c.in-Some-2.read.0, c.in-Some-2.read.1.now)
-    c.sign_front-sign.ensures c.partial_front.ensures (ap partial_front_view c.in-Some.is) refl
+    c.push_upper.new.found.items (c.in-Some-2.read.0, c.in-Some-2.read.1.now) c.sign_front-sign.ensures c.partial_front.ensures (ap partial_front_view c.in-Some.is) refl
     (sym (ap (λ (o : Option (Bool × Bor (List ℕ))). hyphen_pushed_view o c.push_upper.new.found.items) c.in-Some-2.is) ∙ c.in_ok-read.ensures.added)
 
 pub returns-then-not-is_boundary-clause-added : goal.returns-then-not-is_boundary-clause-added
@@ -46,8 +45,7 @@ returns-clause-added c =
     let word : word_at MAX_SAFE_INTEGER text ≡ (signed_word sign partial, c.in-Some.rest.now) =
     word-as MAX_SAFE_INTEGER text _ _ c.sign_front-sign.ensures c.partial_front.ensures ∙ rw (ap partial_front_view c.in-Some.is, none.0, ends) refl in
     pushed_word MAX_SAFE_INTEGER c.args.found.now.items c.push_signed.new.found.items c.in_ok-there.there (signed_word sign partial) (word_at MAX_SAFE_INTEGER text)
-    c.in-Some.rest.now word (c.in_ok-there.ensures.added
-    ∙ ap (λ (l : List (Span VersionValue)). pushed l (table MAX_SAFE_INTEGER (signed_word sign partial))) none.1)
+    c.in-Some.rest.now word (c.in_ok-there.ensures.added ∙ ap (λ (l : List (Span VersionValue)). pushed l (table MAX_SAFE_INTEGER (signed_word sign partial))) none.1)
 
 pub returns-in_err-read-clause-memory : goal.returns-in_err-read-clause-memory
 returns-in_err-read-clause-memory c =

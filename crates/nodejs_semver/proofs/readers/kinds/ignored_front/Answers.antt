@@ -15,8 +15,7 @@ pub returns-in_default : goal.returns-in_default
 returns-in_default c =
     let text = c.args.text.now in
     at_malformed MAX_SAFE_INTEGER text c.skip_to_boundary.result.now (from_boundary text)
-    (word-as MAX_SAFE_INTEGER text _ _ c.sign_front-sign.ensures c.partial_front.ensures ∙ rw (ap partial_front_view c.in_default.is) refl)
-    c.skip_to_boundary.ensures
+    (word-as MAX_SAFE_INTEGER text _ _ c.sign_front-sign.ensures c.partial_front.ensures ∙ rw (ap partial_front_view c.in_default.is) refl) c.skip_to_boundary.ensures
 
 pub returns-in-Some-upper_of : goal.returns-in-Some-upper_of
 returns-in-Some-upper_of c =

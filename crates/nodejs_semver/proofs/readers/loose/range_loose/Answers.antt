@@ -8,8 +8,7 @@ use Rattle.nodejs_semver.proofs.readers.loose.range_loose.Goals as goal
 pub from_intervals-requires : goal.from_intervals-requires
 from_intervals-requires c =
     let valid = ap (λ (l : List (Span VersionValue)). list_all (is_range_span (MAX_SAFE_INTEGER + 1)) l) (c.in_ok-add_parts.ensures.added
-    ∙ ap (λ (ps : List (List ℕ)). flat_map (part_denotes MAX_SAFE_INTEGER) ps) c.next_part.ensures.value)
-    ∙ all-bounded MAX_SAFE_INTEGER (parts c.args.text.now) in
+    ∙ ap (λ (ps : List (List ℕ)). flat_map (part_denotes MAX_SAFE_INTEGER) ps) c.next_part.ensures.value) ∙ all-bounded MAX_SAFE_INTEGER (parts c.args.text.now) in
     (omega arith, (omega arith, rw spans_same valid))
 
 found-is : (c : goal.After-owned_range) → c.add_parts.new.found.items ≡ denotes MAX_SAFE_INTEGER c.args.text.now
