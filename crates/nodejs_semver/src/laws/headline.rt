@@ -52,23 +52,19 @@ pub fn headline(alloc: Global, a: &str, b: &str) -> Result<Findings, Failure<Sem
 }
 
 // What the public calls return for two ranges.
-fn findings_of(
-    alloc: Global,
-    first: Range,
-    second: &Range,
-) -> Result<Findings, Failure<SemverError>>
+fn findings_of(alloc: Global, first: Range, other: &Range) -> Result<Findings, Failure<SemverError>>
     ensures never_refused { RefusedOnlyIf result ⊥ }
     ensures first { IfOk result (λ found. found.first ≡ first) }
     ensures both { IfOk result (λ found. (v : VersionValue) →
         accepts (unwrap_or found.both []) v true
-        ≡ (accepts first v true && accepts second.now v true)) }
+        ≡ (accepts first v true && accepts other.now v true)) }
     ensures first_alone { IfOk result (λ found. (v : VersionValue) →
         accepts (unwrap_or found.first_alone []) v true
-        ≡ (accepts first v true && not (accepts second.now v true))) }
+        ≡ (accepts first v true && not (accepts other.now v true))) }
     ensures least { IfOk result (λ found. IsLeastOf (λ v. accepts first v false) found.least) }
 {
-    let both = first.intersect(alloc, second)?;
-    let first_alone = first.difference(alloc, second)?;
+    let both = first.intersect(alloc, other)?;
+    let first_alone = first.difference(alloc, other)?;
     let least = first.min_version(alloc)?;
     Ok(Findings {
         first,
