@@ -6,7 +6,7 @@ ghost use Rattle.nodejs_semver.specs.Words.{Span, true, unwrap_or, VersionValue,
 
 use crate::{Failure, MAX_SAFE_INTEGER, Range, RangeOf, SemverError, Version};
 use semver_core::{VersionPoint, Versioned};
-use std::alloc::{AllocError, Global};
+use std::alloc::Global;
 
 /// What the public calls return for two texts. No range stands for the empty set.
 #[derive(Debug, Drop)]
@@ -48,22 +48,23 @@ pub fn headline(alloc: Global, a: &str, b: &str) -> Result<Findings, Failure<Sem
 {
     let first = Range::parse(alloc, a)?;
     let second = Range::parse(alloc, b)?;
-    Ok(findings_of(alloc, first, &second)?)
+    findings_of(alloc, first, &second)
 }
 
 // What the public calls return for two ranges.
-fn findings_of(alloc: Global, first: Range, second: &Range) -> Result<Findings, AllocError>
+fn findings_of(alloc: Global, first: Range, other: &Range) -> Result<Findings, Failure<SemverError>>
+    ensures never_refused { RefusedOnlyIf result ⊥ }
     ensures first { IfOk result (λ found. found.first ≡ first) }
     ensures both { IfOk result (λ found. (v : VersionValue) →
         accepts (unwrap_or found.both []) v true
-        ≡ (accepts first v true && accepts second.now v true)) }
+        ≡ (accepts first v true && accepts other.now v true)) }
     ensures first_alone { IfOk result (λ found. (v : VersionValue) →
         accepts (unwrap_or found.first_alone []) v true
-        ≡ (accepts first v true && not (accepts second.now v true))) }
+        ≡ (accepts first v true && not (accepts other.now v true))) }
     ensures least { IfOk result (λ found. IsLeastOf (λ v. accepts first v false) found.least) }
 {
-    let both = first.intersect(alloc, second)?;
-    let first_alone = first.difference(alloc, second)?;
+    let both = first.intersect(alloc, other)?;
+    let first_alone = first.difference(alloc, other)?;
     let least = first.min_version(alloc)?;
     Ok(Findings {
         first,
@@ -113,15 +114,15 @@ pub fn headline_at(
     let found = headline(alloc, a, b)?;
     Ok(FindingsAt {
         in_first: found.first.satisfies_with_prerelease(version, true),
-        in_both: is_in(&found.both, version),
-        in_first_alone: is_in(&found.first_alone, version),
+        in_both: is_in(found.both, version),
+        in_first_alone: is_in(found.first_alone, version),
         least: found.least,
     })
 }
 
 // Whether there is a range that accepts the version, with pre-releases included.
-pub(super) fn is_in<V: VersionPoint, W: Versioned>(range: &Option<RangeOf<V>>, version: &W) -> bool
-    ensures { result ≡ accepts (unwrap_or range.now []) (W.value version.now) true }
+pub(super) fn is_in<V: VersionPoint, W: Versioned>(range: Option<RangeOf<V>>, version: &W) -> bool
+    ensures { result ≡ accepts (unwrap_or range []) (W.value version.now) true }
 {
     match range {
         None => false,

@@ -8,7 +8,7 @@ ghost use Rattle.nodejs_semver.specs.Words.{RefusedOnlyIf, Span, true, VersionVa
 use crate::laws::headline::{FindingsAt, is_in};
 use crate::{Failure, MAX_SAFE_INTEGER, RangeRef, SemverError, VersionRef};
 use semver_core::laws::one_reading;
-use std::alloc::{AllocError, Global};
+use std::alloc::Global;
 
 /// The headline from three texts, over the calls that the program makes: two range texts a and b
 /// and a version text v. It answers exactly if each of them is valid, unless an allocation fails.
@@ -43,7 +43,7 @@ pub fn headline_of_texts<'t>(
     let version = VersionRef::parse(v)?;
     let first = RangeRef::parse(alloc, a)?;
     let second = RangeRef::parse(alloc, b)?;
-    Ok(findings_at(alloc, &first, &second, &version)?)
+    findings_at(alloc, &first, &second, &version)
 }
 
 // What the calls return for two ranges and a version.
@@ -52,7 +52,8 @@ fn findings_at<'t>(
     first: &RangeRef<'t>,
     second: &RangeRef<'t>,
     version: &VersionRef<'_>,
-) -> Result<FindingsAt, AllocError>
+) -> Result<FindingsAt, Failure<SemverError>>
+    ensures never_refused { RefusedOnlyIf result ⊥ }
     ensures first { IfOk result (λ found. found.in_first ≡ accepts first.now version.now true) }
     ensures both { IfOk result (λ found. found.in_both
         ≡ (accepts first.now version.now true && accepts second.now version.now true)) }
@@ -60,8 +61,8 @@ fn findings_at<'t>(
         ≡ (accepts first.now version.now true && not (accepts second.now version.now true))) }
     ensures least { IfOk result (λ found. IsLeastOf (λ w. accepts first.now w false) found.least) }
 {
-    let in_both = is_in(&first.intersect(alloc, second)?, version);
-    let in_first_alone = is_in(&first.difference(alloc, second)?, version);
+    let in_both = is_in(first.intersect(alloc, second)?, version);
+    let in_first_alone = is_in(first.difference(alloc, second)?, version);
     let least = first.min_version(alloc)?;
     Ok(FindingsAt {
         in_first: first.satisfies_with_prerelease(version, true),

@@ -93,11 +93,9 @@ pub fn both_readers(alloc: Global, text: &str) -> Result<Option<(Range, Option<R
         IfNone found (NoValue (IsCommonRange MAX_SAFE_INTEGER text.now))) }
 {
     let fast = range_fast(alloc, text)?;
-    match fast {
-        Some(fast) => {
-            let loose = range_loose(alloc, text)?;
-            Ok(Some((fast, loose)))
-        }
-        None => Ok(None),
-    }
+    let Some(fast) = fast else {
+        return Ok(None);
+    };
+    let loose = range_loose(alloc, text)?;
+    Ok(Some((fast, loose)))
 }

@@ -205,9 +205,11 @@ fn equal<'a>(partial: &Partial<'a>) -> Option<Bounds<'a>>
     ensures { table_view result
         ≡ table MAX_SAFE_INTEGER (Words.compare Words.equal (partial_view partial.now)) }
 {
-    let unbuilt = version_without_build(partial);
     match (partial.major, partial.minor, partial.patch) {
-        (Some(_), Some(_), Some(_)) => Some(Bounds::through(unbuilt.copy(), unbuilt)),
+        (Some(_), Some(_), Some(_)) => {
+            let unbuilt = version_without_build(partial);
+            Some(Bounds::through(unbuilt.copy(), unbuilt))
+        }
         (Some(major), Some(minor), None) => Some(Bounds::whole_minor(major, minor)),
         (Some(major), None, _) => Some(Bounds::whole_major(major)),
         (None, _, _) => None,
@@ -253,7 +255,6 @@ pub(crate) fn tilde<'a>(greater: bool, partial: &Partial<'a>) -> Option<Bounds<'
 pub(crate) fn caret<'a>(partial: &Partial<'a>) -> Option<Bounds<'a>>
     ensures { table_view result ≡ table MAX_SAFE_INTEGER (Words.caret (partial_view partial.now)) }
 {
-    let version = version_without_build(partial);
     match (partial.major, partial.minor, partial.patch) {
         (Some(major), None, None) => match major {
             0 => Some(Bounds::below(lowest(1, 0, 0))),
@@ -263,11 +264,14 @@ pub(crate) fn caret<'a>(partial: &Partial<'a>) -> Option<Bounds<'a>>
             0 => Some(Bounds::whole_minor(0, minor)),
             _ => Some(Bounds::between(release(major, minor, 0), lowest(major + 1, 0, 0))),
         },
-        (Some(major), Some(minor), Some(patch)) => match (major, minor) {
-            (0, 0) => Some(Bounds::between(version, lowest(0, 0, patch + 1))),
-            (0, _) => Some(Bounds::between(version, lowest(0, minor + 1, 0))),
-            _ => Some(Bounds::between(version, lowest(major + 1, 0, 0))),
-        },
+        (Some(major), Some(minor), Some(patch)) => {
+            let version = version_without_build(partial);
+            match (major, minor) {
+                (0, 0) => Some(Bounds::between(version, lowest(0, 0, patch + 1))),
+                (0, _) => Some(Bounds::between(version, lowest(0, minor + 1, 0))),
+                _ => Some(Bounds::between(version, lowest(major + 1, 0, 0))),
+            }
+        }
         _ => None,
     }
 }

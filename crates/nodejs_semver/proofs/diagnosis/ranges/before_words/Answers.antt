@@ -23,8 +23,7 @@ pub invariant_of-result : goal.invariant_of-result
 invariant_of-result c = record {
   starts = ap (λ (t : List ℕ). space_len t) c.as_bytes.ensures.value ∙ trim-starts c.cut_part.result.0.now c.trim-part.result.now c.trim-part.ensures.middle;
   part_fits = omega (arith, ap length c.as_bytes.ensures.value);
-  behind_fits = λ x e. omega
-      (arith, (sizes_of c.args.text.now (part_view c.cut_part.result) c.cut_part.ensures).behind x.now (ap rest_view e));
+  behind_fits = λ x e. omega (arith, (sizes_of c.args.text.now (part_view c.cut_part.result) c.cut_part.ensures).behind x.now (ap rest_view e));
 }
 
 pub returns-clause-same : goal.returns-clause-same

@@ -9,8 +9,7 @@ overflow_sub-end c =
 
 pub invariant_of-rest : goal.invariant_of-rest
 invariant_of-rest c =
-    let sizes = rest-sizes MAX_SAFE_INTEGER _ _ _ _ c.requires c.args.left.starts c.ignored_front-kind.ensures
-    c.skip_spaces.ensures in
+    let sizes = rest-sizes MAX_SAFE_INTEGER _ _ _ _ c.requires c.args.left.starts c.ignored_front-kind.ensures c.skip_spaces.ensures in
     record {
       starts = sizes.2;
       part_fits = omega (arith, sizes.0, sizes.1, c.args.left.part_fits);
@@ -22,6 +21,5 @@ returns-clause-same c = grind (arith, word_read)
 
 pub returns-clause-less : goal.returns-clause-less
 returns-clause-less c =
-    let sizes = rest-sizes MAX_SAFE_INTEGER _ _ _ _ c.requires c.args.left.starts c.ignored_front-kind.ensures
-    c.skip_spaces.ensures in
+    let sizes = rest-sizes MAX_SAFE_INTEGER _ _ _ _ c.requires c.args.left.starts c.ignored_front-kind.ensures c.skip_spaces.ensures in
     omega (arith, sizes.0, sizes.1)

@@ -5,16 +5,14 @@ use Rattle.nodejs_semver.proofs.diagnosis.versions.flaw_within.Goals as goal
 
 pub returns-in-Err : goal.returns-in-Err
 returns-in-Err c =
-    stuck_flaw MAX_SAFE_INTEGER c.args.text.now c.front_of_numbers.result c.in-Err.flaw
-    (lit≤ tt) c.utf8.text c.front_of_numbers.ensures c.requires
+    stuck_flaw MAX_SAFE_INTEGER c.args.text.now c.front_of_numbers.result c.in-Err.flaw (lit≤ tt) c.utf8.text c.front_of_numbers.ensures c.requires
     (rw c.as_bytes-bytes.ensures.value at c.in-Err.ensures.stuck)
 
 pub returns-then-is_empty : goal.returns-then-is_empty
 returns-then-is_empty c =
     let left = ended MAX_SAFE_INTEGER c.args.text.now _ _ _ c.front_of_numbers.result c.in-Ok.end c.as_bytes-bytes.ensures.value
     c.in-Ok.ensures.found c.pre_release_front.ensures.value c.build_front.ensures.value in
-    whole_left MAX_SAFE_INTEGER c.args.text.now c.front_of_numbers.result c.build_front.result.1.now c.utf8.text
-    c.front_of_numbers.ensures c.requires left
+    whole_left MAX_SAFE_INTEGER c.args.text.now c.front_of_numbers.result c.build_front.result.1.now c.utf8.text c.front_of_numbers.ensures c.requires left
     (eqb-true (length c.build_front.result.1.now) 0 (sym c.is_empty.ensures ∙ c.if-is_empty.true))
 
 pub overflow_sub-at : goal.overflow_sub-at
@@ -32,7 +30,6 @@ pub returns-else-is_empty : goal.returns-else-is_empty
 returns-else-is_empty c =
     let left = ended MAX_SAFE_INTEGER c.args.text.now _ _ _ c.front_of_numbers.result c.in-Ok.end c.as_bytes-bytes.ensures.value
     c.in-Ok.ensures.found c.pre_release_front.ensures.value c.build_front.ensures.value in
-    ignored_left MAX_SAFE_INTEGER c.args.text.now c.front_of_numbers.result _ c.build_front.result.1.now c.utf8.text
-    c.front_of_numbers.ensures c.requires left
+    ignored_left MAX_SAFE_INTEGER c.args.text.now c.front_of_numbers.result _ c.build_front.result.1.now c.utf8.text c.front_of_numbers.ensures c.requires left
     (positive (length c.build_front.result.1.now) (sym c.is_empty.ensures ∙ c.if-is_empty.false))
     (ap (λ (t : List ℕ). length t - length c.build_front.result.1.now) c.as_bytes-bytes.ensures.value)

@@ -13,8 +13,7 @@ one-is-read A limit text s u m (Memory e) r h = omega (arith, h (s ∷ []) m)
 
 pub returns-in_err-range-clause-answered : goal.returns-in_err-range-clause-answered
 returns-in_err-range-clause-answered c = λ s w m p.
-    absurd (one-is-read VersionValue MAX_SAFE_INTEGER c.args.a.now s c.utf8.a m c.in_err-range.field-0.0 c.in_err-range.ensures.refused
-    c.in_err-range.ensures.memory)
+    absurd (one-is-read VersionValue MAX_SAFE_INTEGER c.args.a.now s c.utf8.a m c.in_err-range.field-0.0 c.in_err-range.ensures.refused c.in_err-range.ensures.memory)
 
 pub returns-in_err-version-clause-answered : goal.returns-in_err-version-clause-answered
 returns-in_err-version-clause-answered c = λ s w m p. absurd (c.in_err-version.ensures.refused w p)

@@ -13,8 +13,8 @@ range_loose-requires c = record {
   );
 }
 
-pub returns-in_ok-loose-in-Some-clause-same : goal.returns-in_ok-loose-in-Some-clause-same
-returns-in_ok-loose-in-Some-clause-same c =
-    fast_read MAX_SAFE_INTEGER c.args.text.now c.in-Some.fast c.in_ok-loose-in-Some.loose c.utf8.text
+pub returns-clause-same : goal.returns-clause-same
+returns-clause-same c =
+    fast_read MAX_SAFE_INTEGER c.args.text.now c.in-Some.fast c.in_ok-loose.loose c.utf8.text
     (if-some (IsCommonRange MAX_SAFE_INTEGER c.args.text.now) _ _ c.in-Some.is c.in_ok-fast.ensures.some).0
-    c.in_ok-loose-in-Some.ensures.some c.in_ok-loose-in-Some.ensures.none
+    c.in_ok-loose.ensures.some c.in_ok-loose.ensures.none

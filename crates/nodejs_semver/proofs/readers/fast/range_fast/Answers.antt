@@ -7,8 +7,7 @@ use Rattle.nodejs_semver.proofs.readers.fast.range_fast.Goals as goal
 pub from_intervals-requires : goal.from_intervals-requires
 from_intervals-requires c =
     let there : IsTrue c.in_ok-read_common.field-0 = search rules in
-    let valid = common_bounded MAX_SAFE_INTEGER c.as_bytes.result.now c.read_common.new.found.items
-    (c.in_ok-read_common.ensures.some there) in
+    let valid = common_bounded MAX_SAFE_INTEGER c.as_bytes.result.now c.read_common.new.found.items (c.in_ok-read_common.ensures.some there) in
     (omega arith, (omega arith, rw spans_same valid))
 
 if_some : {A : Type 0} (P : List A → Type 0) (xs : List A) → P xs → IfSome (if_any xs) P
@@ -22,10 +21,8 @@ common-is c =
 
 pub returns-clause-some : goal.returns-clause-some
 returns-clause-some c =
-    IfOk-weaker c.owned_range.result (λ r. r ≡ c.from_intervals.result)
-    (λ r. IfSome r (IsCommonRange MAX_SAFE_INTEGER c.args.text.now))
-    (λ r e. rw (e, c.from_intervals.ensures, spans_same) (if_some _ c.read_common.new.found.items (common-is c)))
-    c.owned_range.ensures.whole
+    IfOk-weaker c.owned_range.result (λ r. r ≡ c.from_intervals.result) (λ r. IfSome r (IsCommonRange MAX_SAFE_INTEGER c.args.text.now))
+    (λ r e. rw (e, c.from_intervals.ensures, spans_same) (if_some _ c.read_common.new.found.items (common-is c))) c.owned_range.ensures.whole
 
 pub returns-clause-denoted : goal.returns-clause-denoted
 returns-clause-denoted c =
@@ -35,6 +32,5 @@ returns-clause-denoted c =
 
 pub returns-clause-memory : goal.returns-clause-memory
 returns-clause-memory c =
-    on_err_weaker c.owned_range.result
-    (λ m. inr (common_so _ MAX_SAFE_INTEGER c.args.text.now c.read_common.new.found.items
+    on_err_weaker c.owned_range.result (λ m. inr (common_so _ MAX_SAFE_INTEGER c.args.text.now c.read_common.new.found.items
     (common-is c) (rw (c.from_intervals.ensures, spans_same) at m))) c.owned_range.ensures.memory

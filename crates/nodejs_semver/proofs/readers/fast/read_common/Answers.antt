@@ -13,15 +13,12 @@ returns-in_default-clause-none g c = λ _.
 
 pub returns-then-is_empty-clause-some : goal.returns-then-is_empty-clause-some
 returns-then-is_empty-clause-some g c = λ _.
-    loop-ends MAX_SAFE_INTEGER c.args.text.now (g.S.Found.items c.parts.found)
-    (g.S.Found.items c.push_part.new.found) c.parts.rest.now c.in-Some.behind.now
-    (record { after = rest_view c.in_ok-behind.field-0; added = c.in_ok-behind.ensures.added; there = ap rest_view c.in-Some.is })
-    (grind arith) c.parts.invariant
+    loop-ends MAX_SAFE_INTEGER c.args.text.now (g.S.Found.items c.parts.found) (g.S.Found.items c.push_part.new.found) c.parts.rest.now c.in-Some.behind.now
+    (record { after = rest_view c.in_ok-behind.field-0; added = c.in_ok-behind.ensures.added; there = ap rest_view c.in-Some.is }) (grind arith) c.parts.invariant
 
 pub returns-in_default-after_bars-clause-none : goal.returns-in_default-after_bars-clause-none
 returns-in_default-after_bars-clause-none g c = λ _.
-    loop-no_bars MAX_SAFE_INTEGER c.args.text.now (g.S.Found.items c.parts.found)
-    (g.S.Found.items c.push_part.new.found) c.parts.rest.now c.in-Some.behind.now
+    loop-no_bars MAX_SAFE_INTEGER c.args.text.now (g.S.Found.items c.parts.found) (g.S.Found.items c.push_part.new.found) c.parts.rest.now c.in-Some.behind.now
     (record { after = rest_view c.in_ok-behind.field-0; added = c.in_ok-behind.ensures.added; there = ap rest_view c.in-Some.is })
     (grind arith) (sym c.after_bars.ensures ∙ ap rest_view c.in_default-after_bars.is) c.parts.invariant
 

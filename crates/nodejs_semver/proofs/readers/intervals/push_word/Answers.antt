@@ -17,18 +17,15 @@ returns-in_default-clause-added c =
 pub returns-in-Some-2-clause-added : goal.returns-in-Some-2-clause-added
 returns-in-Some-2-clause-added c =
     pushed_hyphen MAX_SAFE_INTEGER c.args.text.now _ _ (partial_view c.in-Some.partial) c.in-Some.rest.now _ c.args.found.now.items
-    c.push_upper.new.found.items (c.in-Some-2.read.0, c.in-Some-2.read.1.now)
-    c.sign_front-sign.ensures c.partial_front.ensures (ap partial_front_view c.in-Some.is) refl
-    (sym (ap (λ (o : Option (Bool × Bor (List ℕ))). hyphen_pushed_view o c.push_upper.new.found.items) c.in-Some-2.is)
-    ∙ c.in_ok-read.ensures.added)
+    c.push_upper.new.found.items (c.in-Some-2.read.0, c.in-Some-2.read.1.now) c.sign_front-sign.ensures c.partial_front.ensures (ap partial_front_view c.in-Some.is) refl
+    (sym (ap (λ (o : Option (Bool × Bor (List ℕ))). hyphen_pushed_view o c.push_upper.new.found.items) c.in-Some-2.is) ∙ c.in_ok-read.ensures.added)
 
 pub returns-then-not-is_boundary-clause-added : goal.returns-then-not-is_boundary-clause-added
 returns-then-not-is_boundary-clause-added c =
     let text = c.args.text.now in
     let upper = upper_of MAX_SAFE_INTEGER (sign_view c.sign_front-sign.result.0) c.in-Some.rest.now in
     let none = no_hyphen MAX_SAFE_INTEGER (partial_view c.in-Some.partial) upper c.args.found.now.items c.push_upper.new.found.items
-    (sym (ap (λ (o : Option (Bool × Bor (List ℕ))). hyphen_pushed_view o c.push_upper.new.found.items) c.in_default-2.is)
-    ∙ c.in_ok-read.ensures.added) in
+    (sym (ap (λ (o : Option (Bool × Bor (List ℕ))). hyphen_pushed_view o c.push_upper.new.found.items) c.in_default-2.is) ∙ c.in_ok-read.ensures.added) in
     let goes : is_boundary c.in-Some.rest.now ≡ false = search rules in
     let word : word_at MAX_SAFE_INTEGER text ≡ (malformed, from_boundary text) =
     word-as MAX_SAFE_INTEGER text _ _ c.sign_front-sign.ensures c.partial_front.ensures ∙ rw (ap partial_front_view c.in-Some.is, none.0, goes) refl in
@@ -43,15 +40,12 @@ returns-clause-added c =
     let partial = partial_view c.in-Some.partial in
     let upper = upper_of MAX_SAFE_INTEGER sign c.in-Some.rest.now in
     let none = no_hyphen MAX_SAFE_INTEGER partial upper c.args.found.now.items c.push_upper.new.found.items
-    (sym (ap (λ (o : Option (Bool × Bor (List ℕ))). hyphen_pushed_view o c.push_upper.new.found.items) c.in_default-2.is)
-    ∙ c.in_ok-read.ensures.added) in
+    (sym (ap (λ (o : Option (Bool × Bor (List ℕ))). hyphen_pushed_view o c.push_upper.new.found.items) c.in_default-2.is) ∙ c.in_ok-read.ensures.added) in
     let ends : is_boundary c.in-Some.rest.now ≡ true = search rules in
     let word : word_at MAX_SAFE_INTEGER text ≡ (signed_word sign partial, c.in-Some.rest.now) =
     word-as MAX_SAFE_INTEGER text _ _ c.sign_front-sign.ensures c.partial_front.ensures ∙ rw (ap partial_front_view c.in-Some.is, none.0, ends) refl in
     pushed_word MAX_SAFE_INTEGER c.args.found.now.items c.push_signed.new.found.items c.in_ok-there.there (signed_word sign partial) (word_at MAX_SAFE_INTEGER text)
-    c.in-Some.rest.now word
-    (c.in_ok-there.ensures.added
-    ∙ ap (λ (l : List (Span VersionValue)). pushed l (table MAX_SAFE_INTEGER (signed_word sign partial))) none.1)
+    c.in-Some.rest.now word (c.in_ok-there.ensures.added ∙ ap (λ (l : List (Span VersionValue)). pushed l (table MAX_SAFE_INTEGER (signed_word sign partial))) none.1)
 
 pub returns-in_err-read-clause-memory : goal.returns-in_err-read-clause-memory
 returns-in_err-read-clause-memory c =
@@ -65,6 +59,5 @@ returns-in_err-there-clause-memory c =
     MatchResult-from_err c.from_residual-in_err-there.result _ _ c.from_residual-in_err-there.ensures.0 (λ _.
     longer_signed MAX_SAFE_INTEGER c.args.text.now _ _ (partial_view c.in-Some.partial) c.in-Some.rest.now c.args.found.now.items
     c.push_upper.new.found.items c.sign_front-sign.ensures c.partial_front.ensures (ap partial_front_view c.in-Some.is)
-    (sym (ap (λ (o : Option (Bool × Bor (List ℕ))). hyphen_pushed_view o c.push_upper.new.found.items) c.in_default-2.is)
-    ∙ c.in_ok-read.ensures.added)
+    (sym (ap (λ (o : Option (Bool × Bor (List ℕ))). hyphen_pushed_view o c.push_upper.new.found.items) c.in_default-2.is) ∙ c.in_ok-read.ensures.added)
     ends c.in_err-there.ensures.memory)

@@ -12,8 +12,7 @@ pub returns-then-is_empty-clause-added : goal.returns-then-is_empty-clause-added
 returns-then-is_empty-clause-added c =
     let rest = c.words.rest.now in
     let after = c.in_ok-there.after.now in
-    let none : length after ≡ 0 = grind arith in
-    let last = part-last MAX_SAFE_INTEGER rest after (next_at MAX_SAFE_INTEGER rest).0 c.words.invariant.some c.words.invariant.starts none
+    let last = part-last MAX_SAFE_INTEGER rest after (next_at MAX_SAFE_INTEGER rest).0 c.words.invariant.some c.words.invariant.starts (grind arith)
     (read-next MAX_SAFE_INTEGER rest after c.in_ok-there.ensures.rest) in
     cc (c.in_ok-there.ensures.found, last, c.words.invariant.whole, c.words.invariant.same)
 
@@ -35,8 +34,7 @@ whole-at c =
 
 pub returns-in-Some-clause-added : goal.returns-in-Some-clause-added
 returns-in-Some-clause-added c =
-    subst (λ (l : List (Span VersionValue)). OnOk c.read_words.result (c.read_words.new.found.items ≡ l)) (whole-at c)
-    c.read_words.ensures.added
+    subst (λ (l : List (Span VersionValue)). OnOk c.read_words.result (c.read_words.new.found.items ≡ l)) (whole-at c) c.read_words.ensures.added
 
 pub returns-in-Some-clause-memory : goal.returns-in-Some-clause-memory
 returns-in-Some-clause-memory c =
@@ -50,10 +48,8 @@ returns-in_err-there-clause-memory c =
 
 pub words-smaller : goal.words-smaller
 words-smaller c =
-    let rest = c.words.rest.now in
-    let after = c.in_ok-there.after.now in
-    read-shorter MAX_SAFE_INTEGER rest after (next_at MAX_SAFE_INTEGER rest).0 c.words.invariant.some c.words.invariant.starts
-    (read-next MAX_SAFE_INTEGER rest after c.in_ok-there.ensures.rest)
+    read-shorter MAX_SAFE_INTEGER _ _ (next_at MAX_SAFE_INTEGER c.words.rest.now).0 c.words.invariant.some c.words.invariant.starts
+    (read-next MAX_SAFE_INTEGER _ _ c.in_ok-there.ensures.rest)
 
 pub words-preserved : goal.words-preserved
 words-preserved c =

@@ -5,21 +5,18 @@ use Rattle.nodejs_semver.proofs.readers.intervals.read_words.Goals as goal
 
 pub words-smaller-in-Some : goal.words-smaller-in-Some
 words-smaller-in-Some c =
-    let some : 0 < length c.words.rest.now = grind arith in
-    read-shorter MAX_SAFE_INTEGER c.words.rest.now c.in_ok-next.after.now c.in_ok-next.next some c.words.invariant.starts c.in_ok-next.ensures.value
+    read-shorter MAX_SAFE_INTEGER c.words.rest.now c.in_ok-next.after.now c.in_ok-next.next (grind arith) c.words.invariant.starts c.in_ok-next.ensures.value
 
 pub words-smaller : goal.words-smaller
 words-smaller c =
-    let some : 0 < length c.words.rest.now = grind arith in
-    read-shorter MAX_SAFE_INTEGER c.words.rest.now c.in_ok-next.after.now c.in_ok-next.next some c.words.invariant.starts c.in_ok-next.ensures.value
+    read-shorter MAX_SAFE_INTEGER c.words.rest.now c.in_ok-next.after.now c.in_ok-next.next (grind arith) c.words.invariant.starts c.in_ok-next.ensures.value
 
 pub words-preserved-in-Some : goal.words-preserved-in-Some
 words-preserved-in-Some c =
     let rest = c.words.rest.now in
     let after = c.in_ok-next.after.now in
-    let some : 0 < length rest = grind arith in
     let read = read-is MAX_SAFE_INTEGER rest after c.in_ok-next.next (Some c.in-Some.next) (sym c.in-Some.is) c.in_ok-next.ensures.value in
-    let bounds = bounds-step MAX_SAFE_INTEGER rest after (Some c.in-Some.next) some c.words.invariant.starts read in
+    let bounds = bounds-step MAX_SAFE_INTEGER rest after (Some c.in-Some.next) (grind arith) c.words.invariant.starts read in
     record {
       whole = cc (c.in_ok-running.ensures.joined (part_bounds MAX_SAFE_INTEGER after), c.in_ok-next.ensures.kept, bounds, c.words.invariant.whole);
       starts = read-starts MAX_SAFE_INTEGER rest after c.in_ok-next.next c.in_ok-next.ensures.value;
@@ -29,9 +26,8 @@ pub words-preserved : goal.words-preserved
 words-preserved c =
     let rest = c.words.rest.now in
     let after = c.in_ok-next.after.now in
-    let some : 0 < length rest = grind arith in
     let read = read-is MAX_SAFE_INTEGER rest after c.in_ok-next.next None (sym c.in_default.is) c.in_ok-next.ensures.value in
-    let bounds = bounds-step MAX_SAFE_INTEGER rest after None some c.words.invariant.starts read in
+    let bounds = bounds-step MAX_SAFE_INTEGER rest after None (grind arith) c.words.invariant.starts read in
     record {
       whole = cc (c.in_ok-next.ensures.kept, bounds, c.words.invariant.whole);
       starts = read-starts MAX_SAFE_INTEGER rest after c.in_ok-next.next c.in_ok-next.ensures.value;
@@ -39,8 +35,7 @@ words-preserved c =
 
 pub returns-clause-added : goal.returns-clause-added
 returns-clause-added c =
-    let none : length c.words.rest.now ≡ 0 = grind arith in
-    let last = words-last MAX_SAFE_INTEGER c.words.rest.now c.words.running none in
+    let last = words-last MAX_SAFE_INTEGER c.words.rest.now c.words.running (grind arith) in
     subst (λ (l : List (Span VersionValue)). OnOk c.add.result (c.add.new.self.items ≡ l))
     (ap (λ (l : List (Span VersionValue)). c.words.found.items ++ l) (sym last) ∙ c.words.invariant.whole) c.add.ensures.added
 
@@ -60,6 +55,5 @@ pub returns-in_err-running-clause-memory : goal.returns-in_err-running-clause-me
 returns-in_err-running-clause-memory c =
     let some : 0 < length c.words.found.items =
     omega (arith, c.in_err-running.ensures.memory, ap length c.in_ok-next.ensures.kept) in
-    MatchResult-from_err c.from_residual-in_err-running.result _ _ c.from_residual-in_err-running.ensures.0 (λ _.
-    rw (← c.words.invariant.whole)
+    MatchResult-from_err c.from_residual-in_err-running.result _ _ c.from_residual-in_err-running.ensures.0 (λ _. rw (← c.words.invariant.whole)
     (longer_joined c.words.found.items c.words.running (part_bounds MAX_SAFE_INTEGER c.words.rest.now) some))

@@ -15,18 +15,15 @@ pub returns-in_default : goal.returns-in_default
 returns-in_default c =
     let text = c.args.text.now in
     at_malformed MAX_SAFE_INTEGER text c.skip_to_boundary.result.now (from_boundary text)
-    (word-as MAX_SAFE_INTEGER text _ _ c.sign_front-sign.ensures c.partial_front.ensures ∙ rw (ap partial_front_view c.in_default.is) refl)
-    c.skip_to_boundary.ensures
+    (word-as MAX_SAFE_INTEGER text _ _ c.sign_front-sign.ensures c.partial_front.ensures ∙ rw (ap partial_front_view c.in_default.is) refl) c.skip_to_boundary.ensures
 
 pub returns-in-Some-upper_of : goal.returns-in-Some-upper_of
 returns-in-Some-upper_of c =
     let text = c.args.text.now in
-    at_hyphen MAX_SAFE_INTEGER text c.in-Some-upper_of.rest.now (partial_view c.in-Some.partial)
-    (partial_view c.in-Some-upper_of.upper) c.then_some.result _
+    at_hyphen MAX_SAFE_INTEGER text c.in-Some-upper_of.rest.now (partial_view c.in-Some.partial) (partial_view c.in-Some-upper_of.upper) c.then_some.result _
     (word-as MAX_SAFE_INTEGER text _ _ c.sign_front-sign.ensures c.partial_front.ensures
     ∙ rw (ap partial_front_view c.in-Some.is, sym c.upper_of.ensures, ap partial_front_view c.in-Some-upper_of.is) refl)
-    (ap is_some (c.between.ensures ∙ c.hyphen.ensures))
-    (kind-is _ _ _ c.is_none-unbounded.ensures c.then_some.ensures)
+    (ap is_some (c.between.ensures ∙ c.hyphen.ensures)) (kind-is _ _ _ c.is_none-unbounded.ensures c.then_some.ensures)
 
 pub returns-then-not-is_boundary : goal.returns-then-not-is_boundary
 returns-then-not-is_boundary c =
@@ -43,8 +40,7 @@ returns c =
     let ends : is_boundary c.in-Some.rest.now ≡ true = search rules in
     let word = signed_word (sign_view c.sign_front-sign.result.0) (partial_view c.in-Some.partial) in
     let bounded : is_some c.signed.result ≡ is_some (table MAX_SAFE_INTEGER word) = grind arith in
-    at_signed MAX_SAFE_INTEGER text c.in-Some.rest.now (sign_view c.sign_front-sign.result.0)
-    (partial_view c.in-Some.partial) c.then_some-2.result _
+    at_signed MAX_SAFE_INTEGER text c.in-Some.rest.now (sign_view c.sign_front-sign.result.0) (partial_view c.in-Some.partial) c.then_some-2.result _
     (word-as MAX_SAFE_INTEGER text _ _ c.sign_front-sign.ensures c.partial_front.ensures
     ∙ rw (ap partial_front_view c.in-Some.is, sym c.upper_of.ensures, ap partial_front_view c.in_default-upper_of.is, ends) refl)
     bounded (kind-is _ _ _ c.is_none-unbounded-2.ensures c.then_some-2.ensures)

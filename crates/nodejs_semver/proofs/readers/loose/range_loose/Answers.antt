@@ -7,10 +7,8 @@ use Rattle.nodejs_semver.proofs.readers.loose.range_loose.Goals as goal
 
 pub from_intervals-requires : goal.from_intervals-requires
 from_intervals-requires c =
-    let valid = ap (λ (l : List (Span VersionValue)). list_all (is_range_span (MAX_SAFE_INTEGER + 1)) l)
-    (c.in_ok-add_parts.ensures.added
-    ∙ ap (λ (ps : List (List ℕ)). flat_map (part_denotes MAX_SAFE_INTEGER) ps) c.next_part.ensures.value)
-    ∙ all-bounded MAX_SAFE_INTEGER (parts c.args.text.now) in
+    let valid = ap (λ (l : List (Span VersionValue)). list_all (is_range_span (MAX_SAFE_INTEGER + 1)) l) (c.in_ok-add_parts.ensures.added
+    ∙ ap (λ (ps : List (List ℕ)). flat_map (part_denotes MAX_SAFE_INTEGER) ps) c.next_part.ensures.value) ∙ all-bounded MAX_SAFE_INTEGER (parts c.args.text.now) in
     (omega arith, (omega arith, rw spans_same valid))
 
 found-is : (c : goal.After-owned_range) → c.add_parts.new.found.items ≡ denotes MAX_SAFE_INTEGER c.args.text.now
@@ -33,6 +31,5 @@ returns-clause-memory c =
 pub returns-in_err-add_parts-clause-memory : goal.returns-in_err-add_parts-clause-memory
 returns-in_err-add_parts-clause-memory c =
     let whole = filled_denotes MAX_SAFE_INTEGER c.args.text.now _ c.utf8.text c.requires.some_part c.next_part.ensures.value in
-    MatchResult-from_err c.from_residual.result _ _ c.from_residual.ensures.0 (λ _.
-    meant_so _ MAX_SAFE_INTEGER c.args.text.now c.utf8.text
+    MatchResult-from_err c.from_residual.result _ _ c.from_residual.ensures.0 (λ _. meant_so _ MAX_SAFE_INTEGER c.args.text.now c.utf8.text
     (inl (omega (arith, c.in_err-add_parts.ensures.memory, ap length whole))))

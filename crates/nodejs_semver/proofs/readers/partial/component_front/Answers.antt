@@ -8,8 +8,7 @@ found n rest = Some (n, rest)
 
 pub returns-in-Some-clause-value : goal.returns-in-Some-clause-value
 returns-in-Some-clause-value c =
-    ap (λ (t : List ℕ). found (Some c.in-Some.number) t) (take_rest c.args.text.now c.in-Some.end)
-    ∙ sym (number_first MAX_SAFE_INTEGER c.args.text.now _ c.in-Some.number
+    ap (λ (t : List ℕ). found (Some c.in-Some.number) t) (take_rest c.args.text.now c.in-Some.end) ∙ sym (number_first MAX_SAFE_INTEGER c.args.text.now _ c.in-Some.number
     (front_some MAX_SAFE_INTEGER c.args.text.now c.in-Some.number c.in-Some.end c.in-Some.ensures.found))
 
 pub returns-in-Some-clause-small : goal.returns-in-Some-clause-small
