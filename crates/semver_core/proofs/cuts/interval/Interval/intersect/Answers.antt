@@ -1,11 +1,15 @@
+use Rattle.std.specs.Prelude.{OnErr, Result, Ok, Err}
 use Rattle.semver_core.proofs.Common.{Some, ap, refl, sym, ◌∙◌, ◌≡◌, meet, option_holds}
-use Rattle.semver_core.proofs.CutLaws.{apart, bounded, is_some-interval, option_holds-meet}
+use Rattle.semver_core.proofs.CutLaws.{apart, bounded, is_some-interval, none_of, option_holds-meet}
 use Rattle.semver_core.proofs.cuts.interval.Interval.intersect.Goals as goal
 
 pub of_copies-requires : goal.of_copies-requires
 of_copies-requires g c =
     rw (c.greater_lower-lower.ensures, c.lesser_upper-upper.ensures)
     (sym (is_some-interval g.met.V.Ord.total _) ∙ rw (← c.self.view_is, ← c.other.view_is) at (sym c.if-not-meets.ensures))
+
+pub returns-then-not-meets-clause-bounds : goal.returns-then-not-meets-clause-bounds
+returns-then-not-meets-clause-bounds g c = sym (none_of _ (sym c.if-not-meets.ensures))
 
 pub returns-then-not-meets-clause-set : goal.returns-then-not-meets-clause-set
 returns-then-not-meets-clause-set g c = apart g.met.V.Ord.total c.args.self.now c.args.other.now (sym c.if-not-meets.ensures)
@@ -22,3 +26,11 @@ returns g c =
           ∙ option_holds-meet g.met.V.Ord.total c.args.self.now c.args.other.now v;
       memory = tt;
     }
+
+-- what holds in any case
+whenever : {A E : Type 0} (P : Type 0) (r : Result A E) → P → OnErr r P
+whenever P (Ok x) h = tt
+whenever P (Err e) h = h
+
+pub returns-in_err-of_copies-clause-memory : goal.returns-in_err-of_copies-clause-memory
+returns-in_err-of_copies-clause-memory g c = whenever _ c.from_residual.result (sym c.if-not-meets.ensures)
