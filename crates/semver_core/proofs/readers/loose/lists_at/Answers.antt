@@ -1,7 +1,7 @@
 use Rattle.semver_core.proofs.Common.{begins, is_identifier_char, Id, goes_on, identifier_of, List, None, Option, Some, [], drop}
 use Rattle.semver_core.proofs.Common.{false, refl, sym, take, true, ℕ, ◌+◌, ◌∷◌, ◌≡◌, prefix_len, build_at, list_from}
-use Rattle.semver_core.proofs.Common.{inr, list_at, lists_at, pre_release_at, rules, Err, Ok, Result}
-use Rattle.std.specs.Prelude.{is_some, OnErr}
+use Rattle.semver_core.proofs.Common.{inr, list_at, lists_at, pre_release_at, rules}
+use Rattle.std.{proofs.lemmas.Result.MatchResult-from_err, specs.Prelude.is_some}
 use Rattle.semver_core.proofs.Text.{Digits.scan_fits, Runs.list_done}
 use Rattle.semver_core.proofs.readers.loose.lists_at.Goals as goal
 
@@ -42,14 +42,10 @@ both_found : (text : List ℕ) (at first next start end : ℕ) (pre build : List
     → Some (build, end) ≡ list_at text start → (pre, build, end) ≡ lists_at text at
 both_found text at first next start end pre build some exact found last = rw (some, ← exact, found, ← last) refl
 
--- what holds in any case
-whenever : {A E : Type 0} (P : Type 0) (r : Result A E) → P → OnErr r P
-whenever P (Ok x) h = tt
-whenever P (Err e) h = h
-
 pub returns-in_err-lists-clause-memory : goal.returns-in_err-lists-clause-memory
 returns-in_err-lists-clause-memory c =
-    rw c.in_default.ensures.found (whenever _ c.from_residual.result (inr c.in-Some-build_start.ensures.some))
+    rw c.in_default.ensures.found
+    (MatchResult-from_err c.from_residual.result _ _ c.from_residual.ensures.0 (λ _. inr c.in-Some-build_start.ensures.some))
 
 pub returns-in_default-clause-found : goal.returns-in_default-clause-found
 returns-in_default-clause-found c =
