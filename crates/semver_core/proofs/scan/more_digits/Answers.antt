@@ -1,5 +1,4 @@
-use Rattle.semver_core.proofs.Common.{arith}
-use Rattle.semver_core.proofs.Text.Digits.{digits_read}
+use Rattle.semver_core.proofs.{Common.arith, Text.Digits.digits_read}
 use Rattle.semver_core.proofs.scan.more_digits.Goals as goal
 
 pub digits-preserved : goal.digits-preserved

@@ -1,6 +1,5 @@
 use Rattle.semver_core.proofs.Common.{NoValue, listed, Reads, MAX_SAFE_INTEGER, arith, rules}
 use Rattle.semver_core.proofs.Text.{Ends.{not_parsed, short_parsed}, Fronts.release_read}
-use Rattle.semver_core.proofs.Common.{arith}
 use Rattle.std.proofs.lemmas.Grind.{common_steps}
 use Rattle.semver_core.proofs.borrowed.VersionRef.parse.Goals as goal
 

@@ -1,6 +1,5 @@
 use Rattle.semver_core.{specs.Internal.IncrementSteps.parts_ref_value, proofs.Increments.Memory.step_fails}
-use Rattle.semver_core.proofs.Common.{arith}
-use Rattle.std.proofs.lemmas.Grind.{common_steps}
+use Rattle.{semver_core.proofs.Common.arith, std.proofs.lemmas.Grind.common_steps}
 use Rattle.semver_core.proofs.increment.levels.pre_step.Goals as goal
 
 pub returns-in-Err : goal.returns-in-Err

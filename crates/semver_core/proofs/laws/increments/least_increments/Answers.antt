@@ -1,11 +1,9 @@
 -- What is proved of each row of the table, whatever the identifier and the base are.
 use Rattle.semver_core.proofs.Common.{Fault, VersionValue, IdentifierBase, List, Option, [], subst, sym, ℕ, ◌≡◌, Result, ⊤}
-use Rattle.semver_core.proofs.Common.{IsLeastVersion, incremented, Value, IsOkAnd, codes}
+use Rattle.semver_core.proofs.Common.{IsLeastVersion, incremented, Value, IsOkAnd, arith, codes, rules}
 use Rattle.semver_core.specs.Increments.{Least.IsPlain, Table.answer_of_inc}
-use Rattle.{std.specs.Prelude.unwrap_or, semver_core.proofs.Increments.Laws.increment_rises}
+use Rattle.{std.specs.Prelude.unwrap_or, semver_core.proofs.Increments.Laws.increment_rises, std.proofs.lemmas.Grind.common_steps}
 use Rattle.semver_core.proofs.{Increments.Laws.prerelease_least, Values.NextLaws.IsAbove}
-use Rattle.semver_core.proofs.Common.{rules, arith}
-use Rattle.std.proofs.lemmas.Grind.{common_steps}
 use Rattle.semver_core.proofs.laws.increments.least_increments.Goals as goal
 
 -- without identifier and with base 0

@@ -1,5 +1,4 @@
-use Rattle.semver_core.proofs.Common.{arith}
-use Rattle.std.proofs.lemmas.Grind.{common_steps}
+use Rattle.{semver_core.proofs.Common.arith, std.proofs.lemmas.Grind.common_steps}
 use Rattle.semver_core.proofs.version.Version.into_parts.Goals as goal
 
 pub push_reserved-requires : goal.push_reserved-requires

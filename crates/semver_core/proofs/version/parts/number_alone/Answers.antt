@@ -1,5 +1,4 @@
-use Rattle.semver_core.proofs.Common.{arith}
-use Rattle.std.proofs.lemmas.Grind.{common_steps}
+use Rattle.{semver_core.proofs.Common.arith, std.proofs.lemmas.Grind.common_steps}
 use Rattle.semver_core.proofs.version.parts.number_alone.Goals as goal
 
 pub returns-in_default-clause-none : goal.returns-in_default-clause-none
