@@ -1,8 +1,8 @@
-use Rattle.semver_core.proofs.{Common.{refl, sym}, CutLaws.{bounded, none_of}}
+use Rattle.semver_core.proofs.{Common.{refl, rules, sym}, CutLaws.{bounded, none_of}}
 use Rattle.semver_core.proofs.cuts.interval.Interval.into_intersection.Goals as goal
 
 pub returns-then-not-meets-clause-none : goal.returns-then-not-meets-clause-none
-returns-then-not-meets-clause-none g c = none_of _ (sym c.if-not-meets.ensures)
+returns-then-not-meets-clause-none g c = none_of _ (search rules)
 
 pub returns-clause-common : goal.returns-clause-common
 returns-clause-common g c =
