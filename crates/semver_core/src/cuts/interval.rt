@@ -5,6 +5,7 @@ ghost use Rattle.semver_core.specs.Words.{interval, is_interval, is_lt, is_past,
 ghost use Rattle.semver_core.specs.Words.{left_above, left_below, lower_cut, meet, not, OnErr};
 ghost use Rattle.semver_core.specs.Words.{option_holds, remainders, true, upper_cut};
 
+use crate::Allocated;
 use crate::cuts::bound::{Bound, Point};
 use crate::cuts::cut_order::{
     greater_lower, into_greater_lower, into_lesser_upper, is_below, lesser_upper, lies_below,
@@ -69,11 +70,7 @@ impl<V: Point> Interval<V> {
 
     // The interval between copies of two bounds that are known to be in order.
     #[inline(always)]
-    fn of_copies(
-        alloc: Global,
-        lower: &Bound<V>,
-        upper: &Bound<V>,
-    ) -> Result<Option<Self>, AllocError>
+    fn of_copies(alloc: Global, lower: &Bound<V>, upper: &Bound<V>) -> Allocated<Option<Self>>
         requires { is_interval V.cmp (record { lower = lower.now; upper = upper.now }) ≡ true }
         ensures { IfOk result (λ i. i ≡ Some (record { lower = lower.now; upper = upper.now })) }
     {
