@@ -184,7 +184,6 @@ fn long_number(bytes: &[u8], at: usize, next: usize, front: u64) -> Option<(u64,
 
 // The number at a place of which these digits were read, up to another place.
 #[inline(never)]
-#[tactic(auto, using(crate::proofs::Text::Digits::digits_read))]
 fn more_digits(bytes: &[u8], at: usize, next: usize, front: u64) -> Option<(u64, usize)>
     requires order { at < next }
     requires inside { next ≤ length bytes.now }

@@ -123,8 +123,6 @@ release_read limit text major minor patch at v r le e =
     rw (none_pre text at [] none refl, none_build text at [] none refl) refl in
     rw (e, ← is) r
 
-pub ruleset lists_behind = (lists_found, lists_left)
-
 -- neither a pre-release nor a build begins with such a byte
 other_byte : (c : ℕ) (rest : List ℕ) → (is_identifier_char c || c == 43) ≡ false → (begins_pre_release (c ∷ rest) ≡ false) × (begins_build (c ∷ rest) ≡ false)
 other_byte c rest h = grind (arith, nat_tests)

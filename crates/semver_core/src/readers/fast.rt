@@ -97,7 +97,6 @@ fn loose_numbers(text: &str) -> Option<(u64, u64, u64, usize)>
 
 // The version of three numbers and the qualifier that goes from a place to the end of the text.
 #[inline(never)]
-#[tactic(auto, using(crate::proofs::Text::Fronts::lists_behind))]
 fn version_of_whole(
     alloc: Global,
     text: &str,

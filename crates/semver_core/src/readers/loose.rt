@@ -124,13 +124,13 @@ fn version_behind(
     minor: u64,
     patch: u64,
     at: usize,
-) -> Result<Version, AllocError>
+) -> Result<Option<Version>, AllocError>
     requires { at ≤ length text.now }
-    ensures value { IfOk result (λ v. v ≡ qualified text.now (major, minor, patch, at)) }
+    ensures value { IfOk result (λ v. v ≡ Some (qualified text.now (major, minor, patch, at))) }
     ensures memory { OnErr result (HasIdentifiers (qualified text.now (major, minor, patch, at))) }
 {
     let (qualifier, _) = lists_at(alloc, text, at)?;
-    Ok(Version::from_parts(major, minor, patch, qualifier))
+    Ok(Some(Version::from_parts(major, minor, patch, qualifier)))
 }
 
 /// Reads the version at the front of a text of any length, as `Version::parse` reads it; whatever
@@ -154,5 +154,5 @@ pub fn version_loose(alloc: Global, text: &str) -> Result<Option<Version>, Alloc
     if end == text.len() {
         return Ok(Some(Version::release(major, minor, patch)));
     }
-    Ok(Some(version_behind(alloc, text, major, minor, patch, end)?))
+    version_behind(alloc, text, major, minor, patch, end)
 }

@@ -1,5 +1,4 @@
-use Rattle.semver_core.proofs.Common.{rules, ◌∙◌, has_written_styled_of_eq}
-use Rattle.semver_core.proofs.Printing.Returns.{digit_text}
+use Rattle.semver_core.proofs.{Common.{rules, ◌∙◌, has_written_styled_of_eq}, Printing.Returns.digit_text}
 use Rattle.semver_core.proofs.print.write_decimal.Goals as goal
 
 pub returns-then-number-lt10 : goal.returns-then-number-lt10

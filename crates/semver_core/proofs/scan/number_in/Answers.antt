@@ -1,5 +1,4 @@
-use Rattle.semver_core.proofs.Common.{MAX_SAFE_INTEGER}
-use Rattle.semver_core.proofs.Text.Digits.{number_found, number_none}
+use Rattle.semver_core.proofs.{Common.MAX_SAFE_INTEGER, Text.Digits.{number_found, number_none}}
 use Rattle.semver_core.proofs.scan.number_in.Goals as goal
 
 pub returns-clause-found : goal.returns-clause-found

@@ -1,5 +1,4 @@
-use Rattle.semver_core.proofs.Common.{arith, length, ◌<◌, nat_tests}
-use Rattle.semver_core.proofs.Text.Listed.{listed_all, listed_utf8}
+use Rattle.semver_core.proofs.{Common.{arith, length, ◌<◌, nat_tests}, Text.Listed.{listed_all, listed_utf8}}
 use Rattle.semver_core.proofs.scan.read_listed.Goals as goal
 
 pub returns-in_ok-read_into : goal.returns-in_ok-read_into

@@ -1,5 +1,4 @@
-use Rattle.semver_core.proofs.Common.{IsCharBoundary-start}
-use Rattle.semver_core.proofs.Text.Trims.{trim_in_two}
+use Rattle.semver_core.proofs.{Common.IsCharBoundary-start, Text.Trims.trim_in_two}
 use Rattle.semver_core.proofs.scan.trim.Goals as goal
 
 pub skip_whitespace-start-requires : goal.skip_whitespace-start-requires

@@ -1,5 +1,4 @@
-use Rattle.semver_core.proofs.Common.{VersionValue, ap, ◌∙◌}
-use Rattle.semver_core.proofs.Text.Listed.{listed_empty}
+use Rattle.semver_core.proofs.{Common.{VersionValue, ap, ◌∙◌}, Text.Listed.listed_empty}
 use Rattle.semver_core.proofs.borrowed.VersionRef.to_version.Goals as goal
 
 pub returns-clause-zero : goal.returns-clause-zero

@@ -1,6 +1,7 @@
 use Rattle.semver_core.proofs.Common.{Numeric, ids_view, ap, rules, subst, sym, ◌∙◌, Ok, ◌>>=◌, set}
 use Rattle.semver_core.{specs.Internal.IncrementSteps.Steps, proofs.Increments.LastNumber.{advance_at, number_set}}
 use Rattle.semver_core.specs.declared.identifier.Identifier.TheVariants as variant
+use Rattle.{semver_core.proofs.Common.arith, std.proofs.lemmas.Grind.common_steps}
 use Rattle.semver_core.proofs.increment.pre_release.advance.Goals as goal
 
 pub returns-in_err-one_more-clause-value : goal.returns-in_err-one_more-clause-value
@@ -18,3 +19,15 @@ returns-in-Some-clause-value c =
     advance_at (ids_view items) c.args.id.now c.args.base c.in-Some.place c.in-Some.number last
     ∙ ap (λ r. r >>= λ m. Ok (set (ids_view items) c.in-Some.place (Numeric m))) c.in_ok-one_more.ensures.value
     ∙ ap Ok (sym (number_set items c.deref_mut.result.now c.in-Some.place (variant.Numeric more) c.deref_mut.ensures.value))
+
+pub returns-then-eq-clause-value : goal.returns-then-eq-clause-value
+returns-then-eq-clause-value c = grind (arith, common_steps)
+
+pub returns-in_err-list_text-clause-memory : goal.returns-in_err-list_text-clause-memory
+returns-in_err-list_text-clause-memory c = grind (arith, common_steps)
+
+pub returns-in_err-push_number-clause-memory : goal.returns-in_err-push_number-clause-memory
+returns-in_err-push_number-clause-memory c = grind (arith, common_steps)
+
+pub returns-clause-value : goal.returns-clause-value
+returns-clause-value c = grind (arith, common_steps)

@@ -1,5 +1,4 @@
-use Rattle.semver_core.proofs.Common.{rules}
-use Rattle.semver_core.proofs.Increments.Memory.{ends_overflows, ends_below}
+use Rattle.semver_core.proofs.{Common.rules, Increments.Memory.{ends_overflows, ends_below}}
 use Rattle.semver_core.proofs.increment.pre_release.unless_overflow.Goals as goal
 
 pub returns-then-at_max : goal.returns-then-at_max

@@ -1,5 +1,4 @@
-use Rattle.semver_core.proofs.Common.{MAX_SAFE_INTEGER, arith, ◌∙◌, ◌≡◌, version_text}
-use Rattle.semver_core.proofs.Printing.Returns.{reread_same}
+use Rattle.semver_core.proofs.{Common.{MAX_SAFE_INTEGER, arith, ◌∙◌, ◌≡◌, version_text}, Printing.Returns.reread_same}
 use Rattle.semver_core.proofs.laws.printing.reread.Goals as goal
 
 pub returns-clause-same : goal.returns-clause-same

@@ -1,5 +1,4 @@
-use Rattle.semver_core.proofs.Common.{sym, ◌∙◌}
-use Rattle.semver_core.proofs.Text.Fronts.{front_read}
+use Rattle.semver_core.proofs.{Common.{sym, ◌∙◌}, Text.Fronts.front_read}
 use Rattle.semver_core.proofs.readers.fast.numbers.Goals as goal
 
 pub loose_numbers-requires : goal.loose_numbers-requires

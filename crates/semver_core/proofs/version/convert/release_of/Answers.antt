@@ -1,5 +1,4 @@
-use Rattle.semver_core.proofs.Common.{None, rules, ◌≡◌, ◌⊎◌}
-use Rattle.semver_core.proofs.Values.Naturals.{from_natural, one_negative}
+use Rattle.semver_core.proofs.{Common.{None, rules, ◌≡◌, ◌⊎◌}, Values.Naturals.{from_natural, one_negative}}
 use Rattle.semver_core.proofs.version.convert.release_of.Goals as goal
 
 pub returns-in_default : goal.returns-in_default

@@ -1,5 +1,4 @@
-use Rattle.semver_core.proofs.Common.{rules, true, ◌≡◌, is_interval}
-use Rattle.semver_core.proofs.CutLaws.{meets_both}
+use Rattle.semver_core.proofs.{Common.{rules, true, ◌≡◌, is_interval}, CutLaws.meets_both}
 use Rattle.semver_core.proofs.cuts.interval.Interval.meets.Goals as goal
 
 pub returns-then-is_below : goal.returns-then-is_below
