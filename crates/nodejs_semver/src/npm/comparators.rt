@@ -359,6 +359,7 @@ fn compared<'a>(
 /// The bounds that the comparators of a word have in common, those left out that do not count. None
 /// where one of them is not valid: it has a number past the limit, or its version too many
 /// characters. `text` is that of the partial, with its marks.
+#[inline(always)]
 pub(crate) fn row<'a>(
     include: bool,
     sign: Sign,

@@ -1,5 +1,6 @@
-use Rattle.nodejs_semver.proofs.{Common.{Err, rules, ⊤}, Strict.RangeReads.{all-spans, memory-pieces, range-read, refused-none}}
-use Rattle.nodejs_semver.proofs.npm.ranges.read_range.Goals as goal
+use Rattle.nodejs_semver.proofs.Common.{Err, rules, ⊤}
+use Rattle.nodejs_semver.proofs.Strict.RangeReads.{all-spans, memory-pieces, range-read, ranged_range, refused-none}
+use Rattle.nodejs_semver.proofs.npm.ranges.fill_any.Goals as goal
 
 pub returns-in_err-found-clause-refused : goal.returns-in_err-found-clause-refused
 returns-in_err-found-clause-refused c =
@@ -14,10 +15,12 @@ returns-in_err-found-clause-memory c =
     let h = memory-pieces {A = ⊤} (Err c.in_err-found.field-0.0) c.args.text.now c.in_err-found.ensures.memory in
     search rules
 
-pub range_of-requires : goal.range_of-requires
-range_of-requires c = all-spans c.args.loose c.args.include c.args.text.now c.in_ok-found.found.items c.in_ok-found.ensures.ok
-
 pub returns-clause-ok : goal.returns-clause-ok
 returns-clause-ok c =
-    range-read c.args.loose c.args.include c.args.text.now c.in_ok-found.found.items c.range_of.result c.utf8.text
-    c.in_ok-found.ensures.ok c.range_of.ensures.accepts
+    range-read c.args.loose c.args.include c.args.text.now c.in_ok-found.field-0.items c.set_ranged.new.found.items c.utf8.text
+    c.in_ok-found.ensures.ok c.set_ranged.ensures.accepts
+
+pub returns-clause-range : goal.returns-clause-range
+returns-clause-range c =
+    rw c.set_ranged.ensures.value (ranged_range c.in_ok-found.field-0.items
+    (all-spans c.args.loose c.args.include c.args.text.now c.in_ok-found.field-0.items c.in_ok-found.ensures.ok))
