@@ -1,11 +1,11 @@
 -- Common texts: what the reader of these finds are alternatives of the text, and what their comparators have in common.
 use Rattle.nodejs_semver.proofs.Common.{AllByRecursion, Bool, Bound, IsUtf8, List, MAX_SAFE_INTEGER, Option, Some, None, Span, VersionValue}
-use Rattle.nodejs_semver.proofs.Common.{Unbounded, [], all_weaker, ap, append-nil, append_assoc, arith, begins, codes, common_steps, cond_some}
-use Rattle.nodejs_semver.proofs.Common.{cut_bars, drop, ends, false, flat_map, has_bars, inl, inr, interval, is_empty, is_interval, is_release, length, length-append, cond_both, option_holds-interval, precedence_total, one_piece, more_pieces, trim, IsRange}
+use Rattle.nodejs_semver.proofs.Common.{Unbounded, [], all_weaker, ap, append-nil, append_assoc, arith, begins, codes, cond_some}
+use Rattle.nodejs_semver.proofs.Common.{cut_bars, false, has_bars, inl, inr, interval, is_empty, is_interval, length, length-append, cond_both, option_holds-interval, precedence_total, trim, IsRange}
 use Rattle.nodejs_semver.proofs.Common.{list_all, list_all-append, nat_tests, option_to_list, precedence, refl, subst, sym, take, true, ℕ}
-use Rattle.nodejs_semver.proofs.Common.{◌&&◌, ◌++◌, ◌-◌, ◌<◌, ◌∙◌, ◌∷◌, ◌≡◌, ◌≤◌, ◌⊎◌, IsCutAtBars}
-use Rattle.nodejs_semver.proofs.NpmCommon.{are_normal, AcceptAsRanged, AreAlternatives, Comparison, HasAlternativesIn, IsCommon, IsNarrowed, IsPartial, IsPlace}
-use Rattle.nodejs_semver.proofs.NpmCommon.{IsRangeIn, compared, counted_front, is_small, is_valid, limited, lit<, one, three, two, no_sign, satisfies, spelling}
+use Rattle.nodejs_semver.proofs.Common.{◌++◌, ◌-◌, ◌<◌, ◌∙◌, ◌∷◌, ◌≡◌, ◌≤◌, ◌⊎◌}
+use Rattle.nodejs_semver.proofs.NpmCommon.{are_normal, AcceptAsRanged, AreAlternatives, Comparison, IsCommon, IsNarrowed, IsPartial, IsPlace}
+use Rattle.nodejs_semver.proofs.NpmCommon.{IsRangeIn, compared, counted_front, is_small, is_valid, limited, lit<, no_sign, spelling}
 use Rattle.nodejs_semver.proofs.Alike.Texts.{gap-bytes, joined, no_mark, no_marks, one_blank, sign_text}
 use Rattle.nodejs_semver.proofs.Algebra.Gate.{both}
 use Rattle.nodejs_semver.specs.Internal.NpmAlternatives.{ranged}
