@@ -49,6 +49,14 @@ fn word(include: bool, text: &[u8]) -> Option<(Bounds<'_>, &[u8])>
     Some((bounds, rest))
 }
 
+// The same of a second word.
+#[inline(never)]
+fn other_word(include: bool, text: &[u8]) -> Option<(Bounds<'_>, &[u8])>
+    ensures { IfSome result (λ w. IsWordAt include text.now (bounds_view w.0) w.1.now) }
+{
+    word(include, text)
+}
+
 // The word that stands behind a space, where it has a comparator.
 #[inline(always)]
 fn second_word(text: &[u8]) -> Option<&[u8]>
@@ -70,7 +78,7 @@ fn part(include: bool, text: &[u8]) -> Option<(Bounds<'_>, &[u8])>
     let Some(behind) = second_word(rest) else {
         return Some((first, rest));
     };
-    let (second, rest) = word(include, behind)?;
+    let (second, rest) = other_word(include, behind)?;
     match (first.upper, second.lower) {
         (Bound::Unbounded, Bound::Unbounded) => {
             let bounds = Bounds {

@@ -113,36 +113,34 @@ fn add_part<'a>(
     Ok(true)
 }
 
-// The intervals of the alternatives of a text. One cursor goes through it.
-#[inline(never)]
+// Fills a list with the intervals of the alternatives of a text. One cursor goes through it.
 fn intervals<'a>(
-    alloc: Global,
     loose: bool,
     include: bool,
     text: &'a str,
-) -> Result<Intervals<VersionRef<'a>>, Failure<SemverError>>
-    ensures ok { IfOk result (λ found.
-        AreAllFound include (valid_range loose include text.now) found.items) }
+    found: &mut Intervals<VersionRef<'a>>,
+) -> Result<(), Failure<SemverError>>
+    ensures ok { OnOk result
+        (AreAllFound include (valid_range loose include text.now) found.new.items) }
     ensures refused { RefusedOnlyIf result (valid_range loose include text.now ≡ None) }
     ensures memory { MemoryOnlyIf result (1 < length (parts text.now)) }
 {
-    let mut found = SmallVec::new(alloc);
+    found.clear();
     let mut is_some = false;
     let mut rest = Some(text);
     'parts: while let Some(text) = rest {
         let (part, after) = next_part(text);
-        is_some = add_part(loose, include, part, is_some, &mut found)?;
+        is_some = add_part(loose, include, part, is_some, found)?;
         rest = after;
     }
     if is_some {
-        Ok(found)
+        Ok(())
     } else {
         Err(Failure::Refused(SemverError))
     }
 }
 
 // Fills a list with the intervals of the range of any text.
-#[cold]
 #[inline(never)]
 fn fill_any<'a>(
     alloc: Global,
@@ -158,7 +156,7 @@ fn fill_any<'a>(
     ensures memory { MemoryOnlyIf result ((pieces : List (List ℕ)) →
         IsCutAtBars text.now pieces → 1 < length pieces) }
 {
-    *found = intervals(alloc, loose, include, text)?;
+    intervals(loose, include, text, found)?;
     set_ranged(alloc, found);
     Ok(())
 }
