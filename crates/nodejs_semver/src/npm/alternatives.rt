@@ -151,7 +151,7 @@ fn is_some_unbounded(intervals: &[Interval<VersionRef<'_>>]) -> bool
 }
 
 // A list of one interval.
-#[inline(never)]
+#[inline(always)]
 fn one<'a>(alloc: Global, interval: Interval<VersionRef<'a>>) -> Intervals<VersionRef<'a>>
     ensures { result.items ≡ interval.entry ∷ [] }
 {

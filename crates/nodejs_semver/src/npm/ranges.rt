@@ -177,7 +177,7 @@ fn fill<'a>(
     ensures memory { MemoryOnlyIf result ((pieces : List (List ℕ)) →
         IsCutAtBars text.now pieces → 1 < length pieces) }
 {
-    if loose || !read_common(include, text.as_bytes(), found)? {
+    if loose || text.is_empty() || !read_common(include, text.as_bytes(), found)? {
         return fill_any(alloc, loose, include, text, found);
     }
     set_ranged(alloc, found);
