@@ -18,4 +18,5 @@ pub mod Printed
 pub mod Rows
 pub mod WordSteps
 pub mod RangeReads
+pub mod CommonReads
 pub mod Readings

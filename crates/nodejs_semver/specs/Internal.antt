@@ -27,4 +27,5 @@ pub mod NpmViews
 pub mod NpmMeaning
 pub mod NpmAlternatives
 pub mod NpmReads
+pub mod NpmFronts
 pub mod NpmStates

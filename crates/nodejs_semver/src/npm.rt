@@ -11,6 +11,7 @@
 mod alternatives;
 mod builds;
 mod coerced;
+mod common;
 mod comparators;
 mod flaws;
 mod hyphens;

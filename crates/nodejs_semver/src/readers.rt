@@ -14,7 +14,7 @@ mod words;
 
 pub(crate) use crate::readers::bars::{cut_part, next_part};
 pub use crate::readers::fast::range_fast;
-pub(crate) use crate::readers::fast::read_common;
+pub(crate) use crate::readers::fast::{after_bars, read_common};
 pub(crate) use crate::readers::found::{Filled, Found};
 pub(crate) use crate::readers::kinds::ignored_front;
 pub use crate::readers::loose::{is_blank, range_loose};

@@ -59,23 +59,23 @@ plain-means text list all u h = (meaning.one_meaning MAX_SAFE_INTEGER text list 
 
 -- ---- to node-semver
 
-no_marks : (s : Sign) (p : Table.Partial) → are_marks false s p [] ≡ true
+pub no_marks : (s : Sign) (p : Table.Partial) → are_marks false s p [] ≡ true
 no_marks s p = grind (arith, nat_tests, common_steps)
 
 no_blank : IsBlank []
 no_blank = record { characters = []; each = refl; spelled = refl }
 
-one_blank : IsBlank (codes " ")
+pub one_blank : IsBlank (codes " ")
 unfolding encode_utf8
 one_blank = record { characters = 32 ∷ []; each = refl; spelled = refl }
 
 no_ends : AreMarks []
 no_ends = record { characters = []; spelled = refl; each = refl }
 
-sign_text : (s : Sign) → IsSignText (spelling s) s
+pub sign_text : (s : Sign) → IsSignText (spelling s) s
 sign_text s = rw append-nil at (Npm.sign s [] no_blank)
 
-no_mark : (a : Bool) → (a && false) ≡ false
+pub no_mark : (a : Bool) → (a && false) ≡ false
 no_mark a = grind arith
 
 word-is : (is_last : Bool) (limit : ℕ) (pre : Bool) (text : List ℕ) (word : Word) (cs : List Comparison) → IsPlainWord limit pre text word cs
@@ -98,19 +98,19 @@ part-compact : (limit : ℕ) (pre : Bool) (text : List ℕ) (s : Span VersionVal
     → IsPlainAlternative limit pre text s cs → Compact text
 part-compact limit pre text s cs h = (part-tidy limit text s (part-common limit pre text s cs h)).compact
 
-gap-bytes : (gap : List ℕ) → IsGap gap → list_all is_part_byte gap ≡ true
+pub gap-bytes : (gap : List ℕ) → IsGap gap → list_all is_part_byte gap ≡ true
 gap-bytes gap g = grind arith
 
 trimmed : (piece part : List ℕ) → IsUtf8 piece → trim piece ≡ part → IsTrim piece part
 trimmed piece part u e = subst (λ (t : List ℕ). IsTrim piece t) e (trim_is_middle piece u)
 
 -- one alternative among others
-joined : (pieces others : List (List ℕ)) (piece part : List ℕ) (cs : List Comparison) (rest : List (List Comparison))
-    → pieces ≡ piece ∷ others → trim piece ≡ part → IsAlternative false false part cs → AllByRecursion IsUtf8 pieces
-    → (AllByRecursion IsUtf8 others → AreAlternatives false false others rest) → AreAlternatives false false pieces (cs ∷ rest)
-joined pieces others piece part cs rest e t is u f =
+pub joined : (include : Bool) (pieces others : List (List ℕ)) (piece part : List ℕ) (cs : List Comparison) (rest : List (List Comparison))
+    → pieces ≡ piece ∷ others → trim piece ≡ part → IsAlternative false include part cs → AllByRecursion IsUtf8 pieces
+    → (AllByRecursion IsUtf8 others → AreAlternatives false include others rest) → AreAlternatives false include pieces (cs ∷ rest)
+joined include pieces others piece part cs rest e t is u f =
     let v : AllByRecursion IsUtf8 (piece ∷ others) = subst (AllByRecursion IsUtf8) e u in
-    subst (λ (ps : List (List ℕ)). AreAlternatives false false ps (cs ∷ rest)) (sym e)
+    subst (λ (ps : List (List ℕ)). AreAlternatives false include ps (cs ∷ rest)) (sym e)
     (next piece part others cs rest (trimmed piece part v.0 t) is (f v.1))
 
 all-are : (limit : ℕ) (pre : Bool) (text : List ℕ) (list : List (Span VersionValue)) (all : List (List Comparison)) (gap : List ℕ)
@@ -119,7 +119,7 @@ all-are : (limit : ℕ) (pre : Bool) (text : List ℕ) (list : List (Span Versio
 all-are limit pre text list all gap g (one t s cs h) u =
     let c = part-compact limit pre t s cs h in
     let same : trim (gap ++ t) ≡ t = rw append-nil at (compact-trim gap t [] g (inl refl) c) in
-    joined _ [] (gap ++ t) t cs [] (cut-last (gap ++ t) (all-join is_part_byte gap t (gap-bytes gap g) c.each)) same
+    joined false _ [] (gap ++ t) t cs [] (cut-last (gap ++ t) (all-join is_part_byte gap t (gap-bytes gap g) c.each)) same
     (part-is limit pre t s cs h) u (λ _. none)
 all-are limit pre text list all gap g (more t before after rest s cs ss others h b a k) u =
     let c = part-compact limit pre t s cs h in
@@ -129,7 +129,7 @@ all-are limit pre text list all gap g (more t before after rest s cs ss others h
     sym (append_assoc gap (t ++ before) behind ∙ ap (λ (x : List ℕ). gap ++ x) (append_assoc t before behind)) in
     let bytes : list_all is_part_byte piece ≡ true = all-join is_part_byte gap (t ++ before) (gap-bytes gap g)
     (all-join is_part_byte t before c.each (gap-bytes before b)) in
-    joined _ (cut_bars false (after ++ rest)) piece t cs others
+    joined false _ (cut_bars false (after ++ rest)) piece t cs others
     (ap (λ (x : List ℕ). cut_bars false x) whole ∙ cut-first piece (after ++ rest) bytes)
     (compact-trim gap t before g b c) (part-is limit pre t s cs h) u
     (λ v. all-are limit pre rest ss others after a k v)

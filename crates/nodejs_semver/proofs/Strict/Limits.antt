@@ -3,13 +3,13 @@ use Rattle.nodejs_semver.proofs.Common.{Bool, Front, Id, IsNumber, List, MAX_SAF
 use Rattle.nodejs_semver.proofs.Common.{append-nil, arith, begins, bind_some, cases_Bool, common_steps, drop, drop_at, false, if◌then◌else◌}
 use Rattle.nodejs_semver.proofs.Common.{inl, inr, is_ascii_digit, is_empty, length, list_all, nat_lt, nat_tests, not, prefix_len, refl}
 use Rattle.nodejs_semver.proofs.Common.{same_Some, subst, sym, take, take-append-drop, take_at, take_rest, true, ℕ, ◌&&◌, ◌++◌, ◌-◌, ◌<◌}
-use Rattle.nodejs_semver.proofs.{Common.{◌||◌, ◌∙◌, ◌∷◌, ◌≡◌, ◌≤◌}, NpmCommon.{IsPlace, begins_byte, begins_padded, begins_wildcard}}
+use Rattle.nodejs_semver.proofs.{Common.{◌||◌, ◌∙◌, ◌∷◌, ◌≡◌, ◌≤◌}, NpmCommon.{IsPlace, begins_byte, begins_padded, begins_wildcard, build_front, dashed_front, listed, pre_front}}
 use Rattle.nodejs_semver.proofs.NpmCommon.{counted_front, digits_value, has_leading_zero, has_zeros, is_small, is_spelled}
 use Rattle.nodejs_semver.proofs.NpmCommon.{length-prefix_len, limited, most_digits, nat_le, number_front, number_of, or-true, partial_of}
 use Rattle.nodejs_semver.proofs.NpmCommon.{patch_place, place_front, qualified_partial, run_place, second_front, strict_number, take_while}
 use Rattle.nodejs_semver.proofs.{NpmCommon.{third_front, ◌>>?◌}, Reading.Numbers.{digits-taken, number-found, number-no_wildcard}}
 use Rattle.nodejs_semver.proofs.{Reading.Numbers.number-of, Strict.{Numbers.{number-short, padded-same}, Places.{digits-of, place-read}}}
-use Rattle.nodejs_semver.{proofs.Strict.Places.{prefix-all, some-run}, specs.Internal.NpmWords.{Place, any, counted, great, number}}
+use Rattle.nodejs_semver.{proofs.Strict.Places.{prefix-all, some-run}, specs.Internal.NpmWords.{Place, any, counted, great, is_over, may_follow, number}}
 use Rattle.nodejs_semver.specs.Internal.NpmWords.{partial_front, place_of, place_zeros, placed, qualified_counted, second_counted}
 use Rattle.nodejs_semver.specs.{Internal.NpmWords.third_counted, Npm.Table.Partial}
 use Rattle.nodejs_semver.specs.Npm.RangeText as Text
@@ -205,3 +205,24 @@ second-limited loose limit a text o = grind (arith, nat_tests, common_steps, cou
 pub counted_limited : (loose : Bool) (limit : ℕ) (text : List ℕ) → counted_front loose limit text ≡ limited limit (partial_front loose text)
 unfolding partial_front
 counted_limited loose limit text = grind (arith, nat_tests, common_steps, zeros-placed, second-limited)
+
+-- ---- nothing stands behind the numbers
+
+none-follow : (loose : Bool) → may_follow loose [] [] ≡ true
+none-follow true = refl
+none-follow false = refl
+
+none-front : (loose : Bool) (text : List ℕ) → is_over text ≡ true → pre_front loose text ≡ ([], text)
+unfolding pre_front dashed_front
+none-front loose [] h = grind (arith, nat_tests, common_steps)
+none-front loose (b ∷ rest) h = grind (arith, nat_tests, common_steps)
+
+no-build-front : (text : List ℕ) → is_over text ≡ true → build_front text ≡ ([], text)
+unfolding build_front
+no-build-front [] h = refl
+no-build-front (b ∷ rest) h = grind (arith, nat_tests, common_steps)
+
+pub over_counted : (loose : Bool) (a b c : Place) (text : List ℕ) → is_over text ≡ true
+    → qualified_counted loose a b c text ≡ (counted a b c (listed []) (listed []) >>? λ p. Some (p, text))
+unfolding qualified_counted
+over_counted loose a b c text h = rw (none-front loose text h, no-build-front text h, none-follow loose) refl

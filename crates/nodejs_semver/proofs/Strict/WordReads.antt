@@ -106,7 +106,7 @@ placed-normal : (a b c : Option ℕ) (ids builds : List Id) → list_all is_norm
     → are_normal (partial_of a b c ids builds) ≡ true
 placed-normal a b c ids builds h k = grind (arith, nat_tests, common_steps)
 
-partial-normal : (loose : Bool) (text : List ℕ) (p : Partial) → IsPartial loose text p → are_normal p ≡ true
+pub partial-normal : (loose : Bool) (text : List ℕ) (p : Partial) → IsPartial loose text p → are_normal p ≡ true
 partial-normal loose text p h = grind (arith, nat_tests, common_steps, placed-normal, pre-normal, build-normal)
 
 front-normal : (loose : Bool) (text : List ℕ) (p : Partial × List ℕ) → partial_front loose text ≡ Some p → are_normal p.0 ≡ true

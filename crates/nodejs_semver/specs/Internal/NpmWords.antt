@@ -88,6 +88,11 @@ ended_partial loose a b c pre build = if may_follow loose pre build.0
 unfoldable pub qualified_partial : Bool → Option ℕ → Option ℕ → Option ℕ → List ℕ → Front Partial
 qualified_partial loose a b c text = ended_partial loose a b c (pre_front loose text).0 (build_front (pre_front loose text).1)
 
+-- the text ends here, or goes on with a space or a bar
+abbrev pub is_over : List ℕ → Bool
+is_over [] = true
+is_over (b ∷ rest) = b == 32 || b == 124
+
 -- the partial of two places, and of what was found behind them
 abbrev pub third_front : Bool → Option ℕ → Option ℕ → List ℕ → Front (Option ℕ) → Front Partial
 third_front loose a b text None = Some (partial_of a b None [] [], text)

@@ -160,30 +160,18 @@ fn one<'a>(alloc: Global, interval: Interval<VersionRef<'a>>) -> Intervals<Versi
     one
 }
 
-// The intervals of a range, of those of the alternatives of its text: one without bounds where some
-// alternative's has none, and `<0.0.0-0` where there is no interval.
-fn ranged<'a>(alloc: Global, intervals: Intervals<VersionRef<'a>>) -> Intervals<VersionRef<'a>>
-    ensures value { result.items ≡ ranged intervals.entry.items }
-    // It accepts what the alternatives do.
-    ensures accepts { AcceptAsRanged intervals.entry.items result.items }
+/// Makes the intervals of the alternatives of a text those of its range: one without bounds where
+/// some alternative's has none, and `<0.0.0-0` where there is no interval.
+#[inline(always)]
+pub(crate) fn set_ranged<'a>(alloc: Global, found: &mut Intervals<VersionRef<'a>>)
+    ensures value { found.new.items ≡ ranged found.old.items }
+    // They accept what the alternatives do.
+    ensures accepts { AcceptAsRanged found.old.items found.new.items }
 {
-    if is_some_unbounded(&intervals) {
-        return one(alloc, Interval::default());
-    }
-    if intervals.is_empty() {
+    if is_some_unbounded(found) {
+        *found = one(alloc, Interval::default());
+    } else if found.is_empty() {
         let least = Bound::Before(lowest(0, 0, 0));
-        return one(alloc, Interval::of_ordered(Bound::Unbounded, least));
+        *found = one(alloc, Interval::of_ordered(Bound::Unbounded, least));
     }
-    intervals
-}
-
-/// The range of a text whose alternatives have these intervals.
-#[tactic(auto, using(crate::proofs::Values::spans_same))]
-pub(crate) fn range_of<'a>(alloc: Global, intervals: Intervals<VersionRef<'a>>) -> RangeRef<'a>
-    requires { list_all (is_range_span (MAX_SAFE_INTEGER + 1)) intervals.items ≡ true }
-    ensures value { result ≡ ranged intervals.entry.items }
-    // It accepts what the alternatives do.
-    ensures accepts { AcceptAsRanged intervals.entry.items result }
-{
-    RangeRef::of_some(ranged(alloc, intervals))
 }

@@ -57,6 +57,17 @@ fn is_within(room: usize, ids: IdentifierRefs<'_>) -> bool
 
 // Whether a version prints at most as many characters as a version text may have, without its
 // build.
+#[inline(never)]
+fn prints_within(version: &VersionRef<'_>) -> bool
+    requires { within (Spec.first (Spec.whole version.now)) ≡ true }
+    ensures { result ≡ nat_le (length (version_text (no_build version.now))) MAX_LENGTH }
+{
+    let (major, minor, patch) = (version.major(), version.minor(), version.patch());
+    let numbers = decimal_len(major) + decimal_len(minor) + decimal_len(patch) + 2;
+    is_within(MAX_LENGTH - numbers, version.pre_release())
+}
+
+// The same. A release does.
 #[inline(always)]
 fn prints_short(version: &VersionRef<'_>) -> bool
     requires { within (Spec.first (Spec.whole version.now)) ≡ true }
@@ -65,9 +76,7 @@ fn prints_short(version: &VersionRef<'_>) -> bool
     if version.is_release() {
         return true;
     }
-    let (major, minor, patch) = (version.major(), version.minor(), version.patch());
-    let numbers = decimal_len(major) + decimal_len(minor) + decimal_len(patch) + 2;
-    is_within(MAX_LENGTH - numbers, version.pre_release())
+    prints_within(version)
 }
 
 // Whether a version is `0.0.0`, whatever its build is.
@@ -359,6 +368,7 @@ fn compared<'a>(
 /// The bounds that the comparators of a word have in common, those left out that do not count. None
 /// where one of them is not valid: it has a number past the limit, or its version too many
 /// characters. `text` is that of the partial, with its marks.
+#[inline(always)]
 pub(crate) fn row<'a>(
     include: bool,
     sign: Sign,

@@ -147,6 +147,7 @@ fn with_rest<'a>(found: Option<(Place, &'a [u8])>, rest: &'a [u8]) -> Option<(Pl
 }
 
 // The third place at the front.
+#[inline(always)]
 fn patch_place(loose: bool, zeros: bool, text: &[u8]) -> Option<(Place, &[u8])>
     ensures { place_front_view result
         ≡ Spec.placed MAX_SAFE_INTEGER (Spec.patch_place loose zeros text.now) }
@@ -308,6 +309,14 @@ fn pre_front(loose: bool, text: &[u8]) -> (&[u8], &[u8])
     }
 }
 
+// Whether a text ends here, or goes on with a space or a bar, which stand in no version.
+#[inline(always)]
+fn is_over(text: &[u8]) -> bool
+    ensures { result ≡ Spec.is_over text.now }
+{
+    matches!(text, [] | [b' ' | b'|', ..])
+}
+
 // The partial of three places, and of what stands behind them.
 #[inline(always)]
 #[tactic(auto, unfolding(crate::specs::Internal::NpmWords::qualified_counted))]
@@ -321,6 +330,9 @@ fn qualified_partial(
     ensures { npm_partial_front_view result ≡ Spec.qualified_counted loose (place_view major)
         (place_view minor) (place_view patch) text.now }
 {
+    if is_over(text) {
+        return Some((long_partial(major, minor, patch, b"", b"")?, text));
+    }
     let (pre_release, rest) = pre_front(loose, text);
     let (build, rest) = build_front(rest);
     if !may_follow(loose, pre_release, build) {
@@ -330,6 +342,7 @@ fn qualified_partial(
 }
 
 // The partial of two places, and of what stands behind them.
+#[inline(always)]
 fn third_front(loose: bool, major: Place, minor: Place, text: &[u8]) -> Option<(Partial<'_>, &[u8])>
     ensures { npm_partial_front_view result ≡ Spec.third_counted loose (place_view major)
         (place_view minor) text.now
@@ -344,6 +357,7 @@ fn third_front(loose: bool, major: Place, minor: Place, text: &[u8]) -> Option<(
 
 /// The partial version at the front whose numbers that count are up to the limit, and the text
 /// behind it.
+#[inline(always)]
 pub(crate) fn partial_front(loose: bool, text: &[u8]) -> Option<(Partial<'_>, &[u8])>
     ensures { npm_partial_front_view result ≡ Spec.counted_front loose MAX_SAFE_INTEGER text.now }
 {

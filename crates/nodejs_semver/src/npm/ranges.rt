@@ -1,9 +1,9 @@
 // The reader of range texts as node-semver has them, strictly or loosely.
 
-ghost use Rattle.std.specs.{Prelude.{◌&&◌, ◌<◌, ◌≡◌}, Str.IsUtf8};
+ghost use Rattle.std.specs.{Prelude.{◌&&◌, ◌<◌, ◌≡◌, []}, Str.IsUtf8};
 ghost use Rattle.nodejs_semver.specs.Words.{Comparison, HasAlternativesIn, IfOk, IsCutAtBars, List};
-ghost use Rattle.nodejs_semver.specs.Words.{MAX_SAFE_INTEGER, MemoryOnlyIf, NoValue, None};
-ghost use Rattle.nodejs_semver.specs.Words.{RefusedOnlyIf, length, parts, true, ℕ};
+ghost use Rattle.nodejs_semver.specs.Words.{IsRange, MAX_SAFE_INTEGER, MemoryOnlyIf, NoValue};
+ghost use Rattle.nodejs_semver.specs.Words.{None, OnOk, RefusedOnlyIf, length, parts, true, ℕ};
 ghost use Rattle.nodejs_semver.specs.Internal.NpmParts.{are_normal, npm_partial_view};
 ghost use Rattle.nodejs_semver.specs.Internal.NpmViews.{end_view};
 ghost use Rattle.nodejs_semver.specs.Internal.NpmWords.{hyphen_comparisons, valid_only};
@@ -14,7 +14,8 @@ ghost use Rattle.nodejs_semver.specs.Npm.Malformed.{begins_malformed, ends_malfo
 ghost use Rattle.nodejs_semver.specs.Npm.Ranges.{HasAlternatives, IsRangeIn, IsRangeOf};
 
 use crate::RangeRef;
-use crate::npm::alternatives::{Alternative, is_wildcard, range_of};
+use crate::npm::alternatives::{Alternative, is_wildcard, set_ranged};
+use crate::npm::common::read_common;
 use crate::npm::comparators::{lower_end, upper_end};
 use crate::npm::hyphens::{End, hyphen_ends};
 use crate::npm::malformed::{begins_malformed, ends_malformed};
@@ -112,34 +113,80 @@ fn add_part<'a>(
     Ok(true)
 }
 
-// The intervals of the alternatives of a text. One cursor goes through it.
+// Fills a list with the intervals of the alternatives of a text. One cursor goes through it.
 fn intervals<'a>(
-    alloc: Global,
     loose: bool,
     include: bool,
     text: &'a str,
-) -> Result<Intervals<VersionRef<'a>>, Failure<SemverError>>
-    ensures ok { IfOk result (λ found.
-        AreAllFound include (valid_range loose include text.now) found.items) }
+    found: &mut Intervals<VersionRef<'a>>,
+) -> Result<(), Failure<SemverError>>
+    ensures ok { OnOk result
+        (AreAllFound include (valid_range loose include text.now) found.new.items) }
     ensures refused { RefusedOnlyIf result (valid_range loose include text.now ≡ None) }
     ensures memory { MemoryOnlyIf result (1 < length (parts text.now)) }
 {
-    let mut found = SmallVec::new(alloc);
+    found.clear();
     let mut is_some = false;
     let mut rest = Some(text);
     'parts: while let Some(text) = rest {
         let (part, after) = next_part(text);
-        is_some = add_part(loose, include, part, is_some, &mut found)?;
+        is_some = add_part(loose, include, part, is_some, found)?;
         rest = after;
     }
     if is_some {
-        Ok(found)
+        Ok(())
     } else {
         Err(Failure::Refused(SemverError))
     }
 }
 
+// Fills a list with the intervals of the range of any text.
+#[inline(never)]
+fn fill_any<'a>(
+    alloc: Global,
+    loose: bool,
+    include: bool,
+    text: &'a str,
+    found: &mut Intervals<VersionRef<'a>>,
+) -> Result<(), Failure<SemverError>>
+    ensures ok { OnOk result (IsRangeIn loose MAX_SAFE_INTEGER include text.now found.new.items) }
+    ensures range { OnOk result (IsRange MAX_SAFE_INTEGER found.new.items) }
+    ensures refused { RefusedOnlyIf result
+        (NoValue (HasAlternativesIn loose MAX_SAFE_INTEGER include text.now)) }
+    ensures memory { MemoryOnlyIf result ((pieces : List (List ℕ)) →
+        IsCutAtBars text.now pieces → 1 < length pieces) }
+{
+    intervals(loose, include, text, found)?;
+    set_ranged(alloc, found);
+    Ok(())
+}
+
+// Fills an empty list with the intervals of the range of a text. Most texts are common ones.
+fn fill<'a>(
+    alloc: Global,
+    loose: bool,
+    include: bool,
+    text: &'a str,
+    found: &mut Intervals<VersionRef<'a>>,
+) -> Result<(), Failure<SemverError>>
+    requires { found.old.items ≡ [] }
+    ensures ok { OnOk result (IsRangeIn loose MAX_SAFE_INTEGER include text.now found.new.items) }
+    ensures range { OnOk result (IsRange MAX_SAFE_INTEGER found.new.items) }
+    ensures refused { RefusedOnlyIf result
+        (NoValue (HasAlternativesIn loose MAX_SAFE_INTEGER include text.now)) }
+    ensures memory { MemoryOnlyIf result ((pieces : List (List ℕ)) →
+        IsCutAtBars text.now pieces → 1 < length pieces) }
+{
+    if loose || text.is_empty() || !read_common(include, text.as_bytes(), found)? {
+        return fill_any(alloc, loose, include, text, found);
+    }
+    set_ranged(alloc, found);
+    Ok(())
+}
+
 /// The range of a text, read strictly or loosely.
+#[inline(always)]
+#[tactic(auto, using(crate::proofs::Values::spans_same))]
 pub(crate) fn read_range(
     alloc: Global,
     loose: bool,
@@ -152,8 +199,9 @@ pub(crate) fn read_range(
     ensures memory { MemoryOnlyIf result ((pieces : List (List ℕ)) →
         IsCutAtBars text.now pieces → 1 < length pieces) }
 {
-    let found = intervals(alloc, loose, include, text)?;
-    Ok(range_of(alloc, found))
+    let mut found = SmallVec::new(alloc);
+    fill(alloc, loose, include, text, &mut found)?;
+    Ok(RangeRef::of_some(found))
 }
 
 /// Reads a range text as node-semver's `Range` does, which is strict unless it is told otherwise:

@@ -217,10 +217,10 @@ fn after_gap(text: &[u8]) -> &[u8]
     }
 }
 
-// What follows `||`, with one space or none on each side.
+/// What follows `||`, with one space or none on each side.
 #[inline(always)]
 #[tactic(auto, unfolding(crate::specs::Internal::CommonFronts::after_bars))]
-fn after_bars(text: &[u8]) -> Option<&[u8]>
+pub(crate) fn after_bars(text: &[u8]) -> Option<&[u8]>
     ensures { rest_view result ≡ Spec.after_bars text.now }
 {
     match after_gap(text) {

@@ -20,6 +20,6 @@ pub returns-then-is_some-clause-ok : goal.returns-then-is_some-clause-ok
 returns-then-is_some-clause-ok c =
     read-all c.args.loose c.args.include c.args.text.now c.parts.found.items (rw (c.in_default.is, c.if-is_some.true) at c.parts.invariant)
 
-pub returns-clause-refused : goal.returns-clause-refused
-returns-clause-refused c =
+pub returns-else-is_some-clause-refused : goal.returns-else-is_some-clause-refused
+returns-else-is_some-clause-refused c =
     read-nothing c.args.loose c.args.include c.args.text.now c.parts.found.items (rw (c.in_default.is, c.if-is_some.false) at c.parts.invariant)

@@ -1,28 +1,25 @@
 use Rattle.nodejs_semver.proofs.Common.{[], any_version, arith, common_steps, false, is_empty, list_any, rules, true, ◌∷◌, ◌≡◌}
 use Rattle.nodejs_semver.proofs.{NpmCommon.{is_unbounded, nothing}, Strict.RangeReads.{ranged_kept, ranged_list, ranged_none, ranged_open}}
-use Rattle.nodejs_semver.proofs.npm.alternatives.ranged.Goals as goal
+use Rattle.nodejs_semver.proofs.npm.alternatives.set_ranged.Goals as goal
 
 pub returns-then-is_some_unbounded-clause-accepts : goal.returns-then-is_some_unbounded-clause-accepts
 returns-then-is_some_unbounded-clause-accepts c =
-    let found = c.args.intervals.items in
+    let found = c.args.found.now.items in
     let some : list_any is_unbounded found ≡ true = first_of (search rules, grind (arith, common_steps)) in
     let one : c.one.result.items ≡ any_version = first_of (search rules, grind (arith, common_steps)) in
     ranged_list found c.one.result.items (ranged_open found c.one.result.items some one)
 
 pub returns-then-is_empty-clause-accepts : goal.returns-then-is_empty-clause-accepts
 returns-then-is_empty-clause-accepts c =
-    let found = c.args.intervals.items in
+    let found = c.args.found.now.items in
     let some : list_any is_unbounded found ≡ false = first_of (search rules, grind (arith, common_steps)) in
     let none : is_empty found ≡ true = first_of (search rules, grind (arith, common_steps)) in
     let one : c.one-then-is_empty.result.items ≡ nothing ∷ [] = first_of (search rules, grind (arith, common_steps)) in
     ranged_list found c.one-then-is_empty.result.items (ranged_none found c.one-then-is_empty.result.items some none one)
 
-pub returns-clause-value : goal.returns-clause-value
-returns-clause-value c =
-    let found = c.args.intervals.items in
+pub returns-else-is_empty-clause-accepts : goal.returns-else-is_empty-clause-accepts
+returns-else-is_empty-clause-accepts c =
+    let found = c.args.found.now.items in
     let some : list_any is_unbounded found ≡ false = first_of (search rules, grind (arith, common_steps)) in
     let none : is_empty found ≡ false = first_of (search rules, grind (arith, common_steps)) in
-    ranged_kept found some none
-
-pub returns-clause-accepts : goal.returns-clause-accepts
-returns-clause-accepts c = ranged_list c.args.intervals.items c.args.intervals.items (returns-clause-value c)
+    ranged_list found found (ranged_kept found some none)

@@ -1,0 +1,289 @@
+-- Common texts: what the reader of these finds are alternatives of the text, and what their comparators have in common.
+use Rattle.nodejs_semver.proofs.Common.{AllByRecursion, Bool, Bound, IsUtf8, List, MAX_SAFE_INTEGER, Option, Some, None, Span, VersionValue}
+use Rattle.nodejs_semver.proofs.Common.{Unbounded, [], all_weaker, ap, append-nil, append_assoc, arith, begins, codes, cond_some}
+use Rattle.nodejs_semver.proofs.Common.{cut_bars, false, has_bars, inl, inr, interval, is_empty, is_interval, length, length-append, cond_both, option_holds-interval, precedence_total, trim, IsRange}
+use Rattle.nodejs_semver.proofs.Common.{list_all, list_all-append, nat_tests, option_to_list, precedence, refl, subst, sym, take, true, ℕ}
+use Rattle.nodejs_semver.proofs.Common.{◌++◌, ◌-◌, ◌<◌, ◌∙◌, ◌∷◌, ◌≡◌, ◌≤◌, ◌⊎◌}
+use Rattle.nodejs_semver.proofs.NpmCommon.{are_normal, AcceptAsRanged, AreAlternatives, Comparison, IsCommon, IsNarrowed, IsPartial, IsPlace}
+use Rattle.nodejs_semver.proofs.NpmCommon.{IsRangeIn, compared, counted_front, is_small, is_valid, limited, lit<, no_sign, spelling}
+use Rattle.nodejs_semver.proofs.Alike.Texts.{gap-bytes, joined, no_mark, no_marks, one_blank, sign_text}
+use Rattle.nodejs_semver.proofs.Algebra.Gate.{both}
+use Rattle.nodejs_semver.specs.Internal.NpmAlternatives.{ranged}
+use Rattle.nodejs_semver.proofs.Dividing.{BarsDivide.bars_divide, MeaningLaw.pieces-utf8}
+use Rattle.nodejs_semver.proofs.Everyday.{Parts.bars-sound, Texts.{compact-trim, cut-first, cut-last}, Words.{Compact, compact-spaced, is_part_byte}}
+use Rattle.nodejs_semver.proofs.Reading.Bytes.{all-end, all-join}
+use Rattle.nodejs_semver.proofs.Strict.{Limits.counted_limited, Malformed.{is_part, partial-part}, Narrowing.both_common, WordReads.{partial-le, partial-normal}}
+use Rattle.nodejs_semver.proofs.Strict.PartialLaw.{PartialAt, partial-found}
+use Rattle.nodejs_semver.proofs.Strict.RangeReads.{found_spans, ranged_range}
+use Rattle.nodejs_semver.specs.Internal.{CommonFronts.after_bars, NpmFronts.{AreIn, AreParts, IsPartAt, IsSignAt, IsWordAt, is_below, is_word_byte}}
+use Rattle.nodejs_semver.specs.Internal.{NpmReads.AreFound, NpmWords.partial_front}
+use Rattle.nodejs_semver.specs.Npm.{RangeText.{AreWords, IsWord}, Table.{Partial, Sign, table}}
+use Rattle.nodejs_semver.specs.Text.{Common.IsGap, WordText.equal}
+use Rattle.nodejs_semver.specs.Internal.NpmFronts as Front
+use Rattle.nodejs_semver.specs.Npm.RangeText as Npm
+use Rattle.std.proofs.Math.Seq.{take-append_seam}
+
+-- ---- a word
+
+sign-bytes : (s : Sign) → list_all is_word_byte (spelling s) ≡ true
+sign-bytes s = grind (arith, nat_tests)
+
+piece-bytes : (x : List ℕ) (p : Partial) → IsPartial false x p → list_all is_word_byte x ≡ true
+piece-bytes x p h = all_weaker is_part is_word_byte (λ b k. grind (arith, nat_tests)) x (partial-part false x p h)
+
+place-some : (zeros : Bool) (x : List ℕ) (a : Option ℕ) → IsPlace false zeros x a → 0 < length x
+place-some zeros x a (Npm.any b h) = lit< tt
+place-some zeros x a (Npm.number digits n k spelled short) = k.some
+
+piece-some : (x : List ℕ) (p : Partial) → IsPartial false x p → 0 < length x
+piece-some x p h = grind (arith, place-some)
+
+-- the partial that is read at the front
+piece-at : (text : List ℕ) (p : Partial) (rest : List ℕ) → Some (p, rest) ≡ counted_front false MAX_SAFE_INTEGER text → PartialAt false text p rest
+piece-at text p rest h = go (partial_front false text) refl (h ∙ counted_limited false MAX_SAFE_INTEGER text)
+  where
+    go : (o : Option (Partial × List ℕ)) → partial_front false text ≡ o → Some (p, rest) ≡ limited MAX_SAFE_INTEGER o → PartialAt false text p rest
+    go None e k = cc k
+    go (Some q) e k =
+        let same = cond_some (is_small MAX_SAFE_INTEGER q.0) q (p, rest) (sym k) in
+        partial-found false text p rest (e ∙ ap (λ (x : Partial × List ℕ). Some x) same.1)
+
+-- the text of that partial, as it is cut out
+piece-cut : (text : List ℕ) (p : Partial) (rest : List ℕ) (f : PartialAt false text p rest) → take (length text - length rest) text ≡ f.piece
+piece-cut text p rest f =
+    let some : length text - length rest ≡ length f.piece = omega (arith, ap length f.split, length-append f.piece rest) in
+    rw (some, f.split) (take-append_seam f.piece rest)
+
+pub word-found : (include : Bool) (text behind rest : List ℕ) (s : Sign) (p : Partial) (span : Span VersionValue) → IsSignAt text s behind
+    → Some (p, rest) ≡ counted_front false MAX_SAFE_INTEGER behind
+    → AreIn include (table include s p (take (length behind - length rest) behind)) span → IsWordAt include text span rest
+word-found include text behind rest s p span sign read are =
+    let f = piece-at behind p rest read in
+    let k = subst (λ (t : List ℕ). AreIn include (table include s p t) span) (piece-cut behind p rest f) are in
+    elim sign [
+      | inl e ↦ record {
+        word = spelling s ++ f.piece;
+        comparators = table include s p f.piece;
+        split = e ∙ ap (λ (t : List ℕ). spelling s ++ t) f.split ∙ sym (append_assoc (spelling s) f.piece rest);
+        is = λ _. Npm.word (spelling s) [] f.piece s p (sign_text s) (no_marks s p) (no_mark (is_empty (spelling s))) f.is;
+        some = omega (arith, length-append (spelling s) f.piece, piece-some f.piece p f.is);
+        bytes = all-join is_word_byte (spelling s) f.piece (sign-bytes s) (piece-bytes f.piece p f.is);
+        are = k;
+      }
+      | inr e ↦ record {
+        word = f.piece;
+        comparators = table include (compared equal) p f.piece;
+        split = e.0 ∙ f.split;
+        is = λ _. Npm.word [] [] f.piece (compared equal) p no_sign (no_marks (compared equal) p) refl f.is;
+        some = piece-some f.piece p f.is;
+        bytes = piece-bytes f.piece p f.is;
+        are = subst (λ (t : Sign). AreIn include (table include t p f.piece) span) e.1 k;
+      }
+    ]
+
+pub word-shorter : (text : List ℕ) (p : Partial) (rest : List ℕ) → Some (p, rest) ≡ counted_front false MAX_SAFE_INTEGER text
+    → length rest ≤ length text
+word-shorter text p rest h = partial-le false MAX_SAFE_INTEGER text p rest h
+
+pub word-normal : (text : List ℕ) (p : Partial) (rest : List ℕ) → Some (p, rest) ≡ counted_front false MAX_SAFE_INTEGER text → are_normal p ≡ true
+word-normal text p rest h = let f = piece-at text p rest h in partial-normal false f.piece p f.is
+
+-- ---- a part
+
+begins-all : (x : List ℕ) → 0 < length x → list_all is_word_byte x ≡ true → begins is_word_byte x ≡ true
+begins-all [] h k = absurd (omega (arith, h))
+begins-all (b ∷ x) h k = grind (arith, nat_tests)
+
+word-compact : (x : List ℕ) → 0 < length x → list_all is_word_byte x ≡ true → Compact x
+word-compact x h k = record {
+  front = begins-all x h k;
+  each = all_weaker is_word_byte is_part_byte (λ b e. grind (arith, nat_tests)) x k;
+  end = all-end is_word_byte x h k;
+}
+
+pub part-of_one : (include : Bool) (text rest : List ℕ) (s : Span VersionValue) → IsWordAt include text s rest → IsPartAt include text s rest
+part-of_one include text rest s w =
+    let c = word-compact w.word w.some w.bytes in
+    record {
+      part = w.word;
+      comparators = w.comparators;
+      split = w.split;
+      is = Npm.last w.word w.comparators (w.is true);
+      front = c.front;
+      each = c.each;
+      end = c.end;
+      are = w.are;
+    }
+
+open_both : (a b : Bound VersionValue) → both (record { lower = a; upper = Unbounded }) (record { lower = Unbounded; upper = b }) ≡ record { lower = a; upper = b }
+open_both a b = grind arith
+
+-- what comparators have in common of which the first have no upper bound and the others no lower one
+half-open : (include : Bool) (cs ds : List Comparison) (s t : Span VersionValue) → AreIn include cs s → AreIn include ds t
+    → s.upper ≡ Unbounded → t.lower ≡ Unbounded → AreIn include (cs ++ ds) (record { lower = s.lower; upper = t.upper })
+half-open include cs ds s t h k e f =
+    let whole : both s t ≡ record { lower = s.lower; upper = t.upper } = rw (e, f) (open_both s.lower t.upper) in
+    (list_all-append (is_valid MAX_SAFE_INTEGER) cs ds ∙ rw (h.0, k.0) refl, rw whole at (both_common include cs ds s t h.1 k.1))
+
+pub part-of_two : (include : Bool) (text rest behind last : List ℕ) (s t : Span VersionValue) → IsWordAt include text s rest
+    → rest ≡ 32 ∷ behind → IsWordAt include behind t last → s.upper ≡ Unbounded → t.lower ≡ Unbounded
+    → IsPartAt include text (record { lower = s.lower; upper = t.upper }) last
+part-of_two include text rest behind last s t v e w open_above open_below =
+    let c = compact-spaced v.word w.word (word-compact v.word v.some v.bytes) (word-compact w.word w.some w.bytes) in
+    record {
+      part = v.word ++ 32 ∷ w.word;
+      comparators = v.comparators ++ w.comparators;
+      split = v.split ∙ ap (λ (t : List ℕ). v.word ++ t) (e ∙ ap (λ (t : List ℕ). 32 ∷ t) w.split) ∙ sym (append_assoc v.word (32 ∷ w.word) last);
+      is = Npm.more v.word (codes " ") w.word v.comparators w.comparators (v.is false) one_blank (lit< tt)
+          (Npm.last w.word w.comparators (w.is true));
+      front = c.front;
+      each = c.each;
+      end = c.end;
+      are = half-open include v.comparators w.comparators s t v.are w.are open_above open_below;
+    }
+
+-- ---- the loop
+
+abbrev HasBars : List ℕ → Type 0
+HasBars text = has_bars text ≡ true
+
+-- what was found, and what is read in the rest, is what is read in the text
+pub record Reaches (include : Bool) (text : List ℕ) (found : List (Span VersionValue)) (rest : List ℕ) : Type 0 where
+  pub read : (ss : List (Span VersionValue)) → AreParts include rest ss → AreParts include text (found ++ ss)
+  pub some : (found ≡ []) ⊎ HasBars text
+  pub within : HasBars rest → HasBars text
+
+pub loop-ends : (include : Bool) (text : List ℕ) (found new : List (Span VersionValue)) (rest behind : List ℕ) (s : Span VersionValue)
+    → Reaches include text found rest → IsPartAt include rest s behind → new ≡ found ++ option_to_list (interval precedence s)
+    → length behind ≡ 0 → AreParts include text new
+loop-ends include text found new rest behind s r p e none =
+    let h : IsPartAt include rest s [] = subst (λ (t : List ℕ). IsPartAt include rest s t) (no-text behind none) p in
+    rw e (r.read (option_to_list (interval precedence s)) (Front.one rest s h))
+  where
+    no-text : (t : List ℕ) → length t ≡ 0 → t ≡ []
+    no-text [] h = refl
+    no-text (b ∷ t) h = absurd (omega (arith, h))
+
+behind-bars : (front rest : List ℕ) → HasBars rest → HasBars (front ++ rest)
+behind-bars [] rest h = h
+behind-bars (b ∷ front) rest h = grind (arith, behind-bars front rest h)
+
+-- the part and the bars behind it hold bars
+bars-there : (include : Bool) (rest behind next : List ℕ) (s : Span VersionValue) → IsPartAt include rest s behind → after_bars behind ≡ Some next
+    → HasBars rest × (HasBars next → HasBars rest) × (length next < length rest)
+bars-there include rest behind next s p e =
+    let b = bars-sound behind next e in
+    let split : rest ≡ p.part ++ (b.before ++ (124 ∷ (124 ∷ (b.after ++ next)))) = p.split ∙ ap (λ (t : List ℕ). p.part ++ t) b.divided in
+    let here : HasBars rest = rw split (behind-bars p.part _ (behind-bars b.before _ refl)) in (
+      here,
+      (λ h. here),
+      omega (
+        arith,
+        ap length split,
+        length-append p.part (b.before ++ (124 ∷ (124 ∷ (b.after ++ next)))),
+        length-append b.before (124 ∷ (124 ∷ (b.after ++ next))),
+        length-append b.after next,
+      ),
+    )
+
+pub loop-goes : (include : Bool) (text : List ℕ) (found new : List (Span VersionValue)) (rest behind next : List ℕ) (s : Span VersionValue)
+    → Reaches include text found rest → IsPartAt include rest s behind → new ≡ found ++ option_to_list (interval precedence s)
+    → after_bars behind ≡ Some next → Reaches include text new next
+loop-goes include text found new rest behind next s r p e bars =
+    let there = bars-there include rest behind next s p bars in
+    let o = option_to_list (interval precedence s) in
+    record {
+      read = λ ss h. rw (e, append_assoc found o ss) (r.read (o ++ ss) (Front.more rest behind next s ss p bars h));
+      some = inr (r.within there.0);
+      within = λ h. r.within there.0;
+    }
+
+pub loop-shorter : (include : Bool) (rest behind next : List ℕ) (s : Span VersionValue) → IsPartAt include rest s behind
+    → after_bars behind ≡ Some next → length next < length rest
+loop-shorter include rest behind next s p bars = (bars-there include rest behind next s p bars).2
+
+-- ---- the whole text
+
+-- the alternatives of pieces, with the intervals of their comparators
+record AllAt (include : Bool) (pieces : List (List ℕ)) (ss : List (Span VersionValue)) : Type 0 where
+  alternatives : List (List Comparison)
+  each : AreAlternatives false include pieces alternatives
+  some : is_empty alternatives ≡ false
+  valid : list_all (list_all (is_valid MAX_SAFE_INTEGER)) alternatives ≡ true
+  found : AreFound include alternatives ss
+
+narrowed : (include : Bool) (cs : List Comparison) (s : Span VersionValue) → IsCommon include cs s → IsNarrowed include cs (interval precedence s)
+narrowed include cs s h = cond_both (is_interval precedence s) (Some s) None (λ o. IsNarrowed include cs o) (λ i. (h, i))
+    (λ i v. sym (h.held v) ∙ sym (option_holds-interval precedence_total s v) ∙ rw i refl)
+
+compact-of : (include : Bool) (text rest : List ℕ) (s : Span VersionValue) (p : IsPartAt include text s rest) → Compact p.part
+compact-of include text rest s p = record { front = p.front; each = p.each; end = p.end }
+
+all-at : (include : Bool) (text gap : List ℕ) (ss : List (Span VersionValue)) → IsGap gap → AreParts include text ss
+    → AllByRecursion IsUtf8 (cut_bars false (gap ++ text)) → AllAt include (cut_bars false (gap ++ text)) ss
+all-at include text gap ss g (Front.one t s p) u =
+    let c = compact-of include t [] s p in
+    let whole : t ≡ p.part = p.split ∙ append-nil p.part in
+    let same : trim (gap ++ p.part) ≡ p.part = rw append-nil at (compact-trim gap p.part [] g (inl refl) c) in
+    let is : AreAlternatives false include (cut_bars false (gap ++ t)) (p.comparators ∷ []) =
+    joined include _ [] (gap ++ p.part) p.part p.comparators [] (ap (λ (x : List ℕ). cut_bars false (gap ++ x)) whole
+    ∙ cut-last (gap ++ p.part) (all-join is_part_byte gap p.part (gap-bytes gap g) c.each)) same
+    (Npm.words p.part p.comparators p.is) u (λ _. Npm.none) in
+    record {
+      alternatives = p.comparators ∷ [];
+      each = is;
+      some = refl;
+      valid = rw p.are.0 refl;
+      found = record {
+        intervals = interval precedence s ∷ [];
+        narrowed = (narrowed include p.comparators s p.are.1, tt);
+        are = sym (append-nil (option_to_list (interval precedence s)));
+      };
+    }
+all-at include text gap ss g (Front.more t behind next s more p bars h) u =
+    let c = compact-of include t behind s p in
+    let b = bars-sound behind next bars in
+    let piece = gap ++ (p.part ++ b.before) in
+    let left = 124 ∷ (124 ∷ (b.after ++ next)) in
+    let split : t ≡ p.part ++ (b.before ++ left) = p.split ∙ ap (λ (x : List ℕ). p.part ++ x) b.divided in
+    let whole : gap ++ t ≡ piece ++ left = ap (λ (x : List ℕ). gap ++ x) split
+    ∙ sym (append_assoc gap (p.part ++ b.before) left ∙ ap (λ (x : List ℕ). gap ++ x) (append_assoc p.part b.before left)) in
+    let bytes : list_all is_part_byte piece ≡ true = all-join is_part_byte gap (p.part ++ b.before) (gap-bytes gap g)
+    (all-join is_part_byte p.part b.before c.each (gap-bytes b.before b.is_before)) in
+    let cut : cut_bars false (gap ++ t) ≡ piece ∷ cut_bars false (b.after ++ next) =
+    ap (λ (x : List ℕ). cut_bars false x) whole ∙ cut-first piece (b.after ++ next) bytes in
+    let v : AllByRecursion IsUtf8 (piece ∷ cut_bars false (b.after ++ next)) = subst (AllByRecursion IsUtf8) cut u in
+    let k = all-at include next b.after more b.is_after h v.1 in
+    record {
+      alternatives = p.comparators ∷ k.alternatives;
+      each = joined include _ (cut_bars false (b.after ++ next)) piece p.part p.comparators k.alternatives cut
+          (compact-trim gap p.part b.before g b.is_before c) (Npm.words p.part p.comparators p.is) u (λ _. k.each);
+      some = refl;
+      valid = rw (p.are.0, k.valid) refl;
+      found = record {
+        intervals = interval precedence s ∷ k.found.intervals;
+        narrowed = (narrowed include p.comparators s p.are.1, k.found.narrowed);
+        are = ap (λ (l : List (Span VersionValue)). option_to_list (interval precedence s) ++ l) k.found.are;
+      };
+    }
+
+text-at : (include : Bool) (text : List ℕ) (ss : List (Span VersionValue)) → IsUtf8 text → AreParts include text ss
+    → AllAt include (cut_bars false text) ss
+text-at include text ss u h = all-at include text [] ss (inl refl) h (pieces-utf8 text (cut_bars false text) (bars_divide text) u)
+
+-- the range of a common text
+pub common-range : (include : Bool) (text : List ℕ) (found range : List (Span VersionValue)) → IsUtf8 text → AreParts include text found
+    → AcceptAsRanged found range → IsRangeIn false MAX_SAFE_INTEGER include text range
+common-range include text found range u h a =
+    let k = text-at include text found u h in
+    record {
+      alternatives = k.alternatives;
+      has = record { parts = cut_bars false text; divided = bars_divide text; each = k.each; some = k.some; valid = k.valid };
+      accepted = λ v. a include k.alternatives k.found.intervals k.found.narrowed k.found.are v;
+    }
+
+pub common-spans : (include : Bool) (text : List ℕ) (found range : List (Span VersionValue)) → IsUtf8 text → AreParts include text found
+    → range ≡ ranged found → IsRange MAX_SAFE_INTEGER range
+common-spans include text found range u h e =
+    let k = text-at include text found u h in
+    rw e (ranged_range found (found_spans include k.alternatives k.found.intervals found k.found.narrowed k.found.are))

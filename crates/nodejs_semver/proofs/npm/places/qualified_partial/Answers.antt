@@ -1,0 +1,18 @@
+use Rattle.semver_core.proofs.Text.Ends.{nothing_listed}
+use Rattle.nodejs_semver.proofs.{Common.{refl, sym, ◌∙◌}, Strict.Limits.over_counted}
+use Rattle.nodejs_semver.specs.Internal.NpmViews.{place_view}
+use Rattle.nodejs_semver.proofs.npm.places.qualified_partial.Goals as goal
+
+pub long_partial-requires-clause-pre_release : goal.long_partial-requires-clause-pre_release
+long_partial-requires-clause-pre_release c = nothing_listed
+
+pub long_partial-requires-clause-build : goal.long_partial-requires-clause-build
+long_partial-requires-clause-build c = nothing_listed
+
+pub returns-then-is_over : goal.returns-then-is_over
+returns-then-is_over c =
+    rw (
+      over_counted c.args.loose (place_view c.args.major) (place_view c.args.minor) (place_view c.args.patch) c.args.text.now
+          (sym c.is_over.ensures ∙ c.if-is_over.true),
+      sym c.in_ok-long_partial.ensures,
+    ) refl
