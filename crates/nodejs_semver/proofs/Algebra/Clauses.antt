@@ -1,8 +1,8 @@
 -- That the intersection and the difference of two lists are intervals of a range, and what they hold and accept.
 use Rattle.nodejs_semver.proofs.Common.{Bool, Bound, IfOk, IfOk-weaker, IsRange, IsTotalOrder, IsTrue, List}
 use Rattle.nodejs_semver.proofs.Common.{MAX_SAFE_INTEGER, None, Option, Ordering, Result, Some, Span, VersionValue, [], accepts, all_flat}
-use Rattle.nodejs_semver.proofs.Common.{all_weaker, and_from, and_parts, ap, ap₂, arith, cond_both, cut_cmp, difference, false, first_so, flat_map}
-use Rattle.nodejs_semver.proofs.Common.{get_or, if_any, inl, inr, intersection, is_gt, is_interval, is_range_bound, is_range_span, is_release}
+use Rattle.nodejs_semver.proofs.Common.{all_weaker, and_from, and_parts, ap, append-nil, ap₂, arith, cond_both, cut_cmp, difference, false, first_so, flat_map}
+use Rattle.nodejs_semver.proofs.Common.{get_or, if_any, inl, inr, intersection, is_gt, is_interval, is_lt, is_range_bound, is_range_span, is_release}
 use Rattle.nodejs_semver.proofs.Common.{is_some, left_above, left_below, length, length-map, list_all, list_all-append, list_holds}
 use Rattle.nodejs_semver.proofs.Common.{lower_cut, meet, meets_of, minus, span_of, not, option_accepts, option_list_holds, option_to_list}
 use Rattle.nodejs_semver.proofs.Common.{precedence, precedence_total, refl, remainder, remainders_by, spans_of, subst, sym, true}
@@ -33,11 +33,13 @@ module _ {V : Type 0} {R : V → V → Ordering} (o : IsTotalOrder R) (F : Bound
   -- what is left below t begins below t's lower cut, which its upper bound makes again; and so above t
   fine-left_below : (s t : Span V) → F s.lower ≡ true → F t.lower ≡ true
       → list_all is_fine (option_to_list (left_below R s t)) ≡ true
-  fine-left_below s t h k = grind (arith, turned_lower)
+  fine-left_below s t h k = cond_both _ (Some _) None (λ m. list_all is_fine (option_to_list m) ≡ true)
+      (λ i. one_fine _ (ap (λ c. is_lt (cut_cmp R (lower_cut s.lower) c)) (turned_lower o t.lower _ i) ∙ i) h k) (λ _. refl)
 
   fine-left_above : (s t : Span V) → F t.upper ≡ true → F s.upper ≡ true
       → list_all is_fine (option_to_list (left_above R s t)) ≡ true
-  fine-left_above s t h k = grind (arith, turned_upper)
+  fine-left_above s t h k = cond_both _ (Some _) None (λ m. list_all is_fine (option_to_list m) ≡ true)
+      (λ i. one_fine _ (ap (λ c. is_lt (cut_cmp R c (upper_cut s.upper))) (turned_upper o t.upper _ i) ∙ i) h k) (λ _. refl)
 
   fine-remainder : (s t : Span V) → is_fine s ≡ true → is_fine t ≡ true → list_all is_fine (remainder R s t) ≡ true
   fine-remainder s t h k =
@@ -65,11 +67,11 @@ module _ {V : Type 0} {R : V → V → Ordering} (o : IsTotalOrder R) (F : Bound
 -- what two lists of one interval each have in common
 pub meets_of-lone : {V : Type 0} (R : V → V → Ordering) (xs ys : List (Span V)) (s t : Span V) → length xs ≡ 1 → length ys ≡ 1
     → s ≡ get_or xs 0 s → t ≡ get_or ys 0 t → meets_of R xs ys ≡ option_to_list (meet R s t)
-meets_of-lone R (x ∷ []) (y ∷ []) s t e f g h = grind arith
-meets_of-lone R (x ∷ []) [] s t e f g h = grind arith
-meets_of-lone R (x ∷ []) (y ∷ z ∷ zs) s t e f g h = grind arith
-meets_of-lone R [] ys s t e f g h = grind arith
-meets_of-lone R (x ∷ z ∷ zs) ys s t e f g h = grind arith
+meets_of-lone R (x ∷ []) (y ∷ []) s t e f g h = rw (g, h, append-nil, append-nil) refl
+meets_of-lone R (x ∷ []) [] s t e f g h = absurd (omega arith)
+meets_of-lone R (x ∷ []) (y ∷ z ∷ zs) s t e f g h = absurd (omega arith)
+meets_of-lone R [] ys s t e f g h = absurd (omega arith)
+meets_of-lone R (x ∷ z ∷ zs) ys s t e f g h = absurd (omega arith)
 
 pub listed_some : {A : Type 0} (m : Option A) → IsTrue (is_some m) → 0 < length (option_to_list m)
 listed_some m e = grind arith

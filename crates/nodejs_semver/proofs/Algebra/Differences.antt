@@ -82,13 +82,22 @@ module _ {V : Type 0} {R : V → V → Ordering} (o : IsTotalOrder R) where
       remainders_by o s t (λ r. (option_to_list r.0 ++ option_to_list r.1) ≡ below s t.lower ++ above s t.upper)
       (λ e. let m = between_parts o s.lower t.lower s.upper t.upper e in
       ap₂ (λ l k. l ++ k) (below_met s t m.1.0) (above_met s t m.0.1))
-      (λ e. grind (arith, below_upto, not_below, left_lower, not_above, upto_below, left_upper, between_from))
+      (λ e. elim (cases_Bool (lt o (lower_cut t.lower) (upper_cut s.upper))) [
+        | inr f ↦
+            let i = below_upto o (lower_cut s.lower) (upper_cut s.upper) (lower_cut t.lower) h f in
+            rw (i, not_below o (lower_cut t.lower) (upper_cut t.upper) (upper_cut s.upper) k f, left_lower s t i, f) refl
+        | inl f ↦
+            let n = not_if (lt o (lower_cut s.lower) (upper_cut t.upper)) _ (λ m. between_from o s.lower t.lower s.upper t.upper h m f k) e in
+            let j = upto_below o (upper_cut t.upper) (lower_cut s.lower) (upper_cut s.upper) n h in
+            rw (not_above o (lower_cut s.lower) (lower_cut t.lower) (upper_cut t.upper) k n, j, left_upper s t j, n) refl
+      ])
 
   -- what is clipped from a piece of c is a piece of what is clipped from c
   clip_piece : (s c y z : Span V) (i j : Bool) → z ≡ clipped s y
       → (is_interval R (clipped s c) && i) ≡ (j && is_interval R (clipped s y))
       → (if is_interval R (clipped s c) then pick i z else []) ≡ clips (pick j y) s
-  clip_piece s c y z i j e f = grind (arith, nested, flat_pick)
+  clip_piece s c y z i j e f = nested _ i z ∙ ap₂ (λ b x. pick b x) f e ∙ sym (nested j _ (clipped s y))
+      ∙ sym (flat_pick (λ c. option_to_list (clip R s c)) j y)
 
   clip_below : (s c : Span V) (b : Bound V) → (if is_interval R (clipped s c) then below (clipped s c) b else [])
       ≡ clips (below c b) s
@@ -172,7 +181,15 @@ module _ {V : Type 0} {R : V → V → Ordering} (o : IsTotalOrder R) where
   along_above : (b : Cut V) (c t : Span V) (cs : List (Span V)) → is_interval R c ≡ true → IsAlong R (upper_cut c.upper) cs
       → lt o (upper_cut c.upper) b ≡ false → (lt o (upper_cut t.upper) b && lt o (lower_cut c.lower) b) ≡ false
       → IsAlong R b (above c t.upper ++ cs)
-  along_above b c t cs h k p q = grind (arith, along_lower, turned_upper, greater_below)
+  along_above b c t cs h k p q = elim (cases_Bool (lt o (upper_cut t.upper) (upper_cut c.upper))) [
+    | inr i ↦ rw i (along_lower b (upper_cut c.upper) cs p k)
+    | inl i ↦
+        let turned = turned_upper o t.upper _ i in
+        rw i (
+          greater_below o t.upper c.lower b ∙ rw turned q,
+          (greater_below o t.upper c.lower (upper_cut c.upper) ∙ rw (turned, i, h) refl, k),
+        )
+  ]
 
   along_remainder : (a : Cut V) (c t : Span V) (cs : List (Span V)) → IsAlong R a (c ∷ cs) → IsAlong R a (remainder R c t ++ cs)
   along_remainder a c t cs h = elim (cases_Bool (is_interval R t)) [

@@ -1,5 +1,5 @@
-use Rattle.nodejs_semver.proofs.Common.{ap₂, sym, ◌++◌, ◌∙◌, ◌∷◌, []}
-use Rattle.std.proofs.lemmas.List.{take_more}
+use Rattle.nodejs_semver.proofs.Common.{ap₂, arith, sym, ◌++◌, ◌∙◌, ◌∷◌, []}
+use Rattle.std.proofs.lemmas.List.{length-take, take_more}
 use Rattle.nodejs_semver.proofs.range.copy_intervals.Goals as goal
 
 pub loop-interval-preserved : goal.loop-interval-preserved
@@ -9,3 +9,6 @@ loop-interval-preserved g c = (
       ∙ sym (take_more c.args.intervals.now c.loop-interval.interval-index c.interval-item.result c.loop-interval-test.true),
   c.push_reserved.ensures.capacity ∙ c.loop-interval.invariant.1,
 )
+
+pub push_reserved-requires : goal.push_reserved-requires
+push_reserved-requires g c = (omega arith, rw (c.loop-interval.invariant.0, c.loop-interval.invariant.1) (omega (arith, length-take c.loop-interval.interval-index c.args.intervals.now)))

@@ -1,6 +1,6 @@
-use Rattle.nodejs_semver.proofs.Common.{IsLeastOf, None, Some, VersionValue, [], accepts, false, least_build, on_err, subst, sym}
-use Rattle.nodejs_semver.proofs.Common.{wanted, ◌∷◌, ◌≡◌}
-use Rattle.nodejs_semver.proofs.Choice.Kinds.{alone_allocates}
+use Rattle.nodejs_semver.proofs.Common.{All, IsLeastOf, IsRaisable, None, Some, VersionValue, [], accepts, arith, false, least_build}
+use Rattle.nodejs_semver.proofs.Common.{on_err, subst, sym, wanted, ◌∷◌, ◌≡◌}
+use Rattle.nodejs_semver.proofs.Choice.Kinds.{alone_allocates, raisable}
 use Rattle.nodejs_semver.proofs.Choice.Least.{least_accepted, least_build_built, least_of_itself, least_of_one}
 use Rattle.nodejs_semver.proofs.range.RangeOf.min_version.Goals as goal
 
@@ -27,3 +27,12 @@ returns-in_ok-built-in-Some-2 g c =
 pub returns-in_err-least_among-clause-memory : goal.returns-in_err-least_among-clause-memory
 returns-in_err-least_among-clause-memory g c =
     on_err _ (alone_allocates c.args.self.now (rw c.from_ref.ensures.value at c.in_err-least_among.ensures.memory))
+
+pub least_among-requires : goal.least_among-requires
+least_among-requires g c = (omega arith, (omega arith, λ k d h. absurd (omega arith)))
+
+pub with_least_build-requires : goal.with_least_build-requires
+with_least_build-requires g c = record {
+  raisable = subst (All IsRaisable) (sym c.items.ensures.value) (raisable _ c.items.ensures.valid);
+  bare = rw c.in-Some-2.is at c.in_ok-least_among.ensures.build;
+}

@@ -1,4 +1,4 @@
-use Rattle.nodejs_semver.proofs.Common.{ap, fold_more, minus, rules, sym, take_all, ◌∙◌}
+use Rattle.nodejs_semver.proofs.Common.{ap, arith, fold_more, minus, rules, sym, take_all, ◌∙◌}
 use Rattle.nodejs_semver.proofs.range.interval_lists.complement_of_few.Goals as goal
 
 pub loop-interval-preserved : goal.loop-interval-preserved
@@ -11,3 +11,6 @@ pub returns : goal.returns
 returns g c =
     rw (take_all _ c.args.intervals.now c.loop-interval-test.false) at c.loop-interval.invariant
     ∙ ap (λ l. minus g.V.Ord.cmp l c.args.intervals.now) (search rules)
+
+pub push_reserved-requires : goal.push_reserved-requires
+push_reserved-requires g c = (omega arith, rw c.new-left.ensures.items (omega arith))
