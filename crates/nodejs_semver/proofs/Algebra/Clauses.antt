@@ -8,6 +8,7 @@ use Rattle.nodejs_semver.proofs.Common.{lower_cut, meet, meets_of, minus, span_o
 use Rattle.nodejs_semver.proofs.Common.{precedence, precedence_total, refl, remainder, remainders_by, spans_of, subst, sym, true}
 use Rattle.nodejs_semver.proofs.Common.{turned_lower, turned_upper, upper_cut, ℕ, ◌&&◌, ◌++◌, ◌+◌, ◌<◌, ◌∙◌, ◌∷◌, ◌≡◌, ◌≢◌, ◌⊎◌}
 use Rattle.nodejs_semver.proofs.Algebra.Accepting.{accepts-held, accepts-release, list_holds-meets_of, list_holds-minus}
+use Rattle.nodejs_semver.proofs.Algebra.FlatMaps.{lone, part_some}
 use Rattle.nodejs_semver.proofs.{Values.{all_intervals-values, meets_of-values, minus-values}, Algebra.Accepting.{option_list_holds-if_any}}
 
 module _ {V : Type 0} {R : V → V → Ordering} (o : IsTotalOrder R) (F : Bound V → Bool) where
@@ -67,14 +68,10 @@ module _ {V : Type 0} {R : V → V → Ordering} (o : IsTotalOrder R) (F : Bound
 -- what two lists of one interval each have in common
 pub meets_of-lone : {V : Type 0} (R : V → V → Ordering) (xs ys : List (Span V)) (s t : Span V) → length xs ≡ 1 → length ys ≡ 1
     → s ≡ get_or xs 0 s → t ≡ get_or ys 0 t → meets_of R xs ys ≡ option_to_list (meet R s t)
-meets_of-lone R (x ∷ []) (y ∷ []) s t e f g h = rw (g, h, append-nil, append-nil) refl
-meets_of-lone R (x ∷ []) [] s t e f g h = absurd (omega arith)
-meets_of-lone R (x ∷ []) (y ∷ z ∷ zs) s t e f g h = absurd (omega arith)
-meets_of-lone R [] ys s t e f g h = absurd (omega arith)
-meets_of-lone R (x ∷ z ∷ zs) ys s t e f g h = absurd (omega arith)
+meets_of-lone R xs ys s t e f g h = rw (lone xs s e g, lone ys t f h) (append-nil _ ∙ append-nil _)
 
 pub listed_some : {A : Type 0} (m : Option A) → IsTrue (is_some m) → 0 < length (option_to_list m)
-listed_some m e = grind arith
+listed_some m e = part_some m m refl e
 
 pub listed_none : {A : Type 0} (m : Option A) (is : Bool) → is ≡ is_some m → is ≡ false → option_to_list m ≡ []
 listed_none m is e f = grind arith

@@ -47,6 +47,12 @@ flat_some f xs i x h at k = omega (arith, length-flat_map-take f xs i x h, ap (�
 pub part_some : {A : Type 0} (part found : Option A) → part ≡ found → is_some part ≡ true → 0 < length (option_to_list found)
 part_some part found e h = grind arith
 
+-- the one element of a list
+pub lone : {A : Type 0} (xs : List A) (x : A) → length xs ≡ 1 → x ≡ get_or xs 0 x → xs ≡ x ∷ []
+lone [] x e h = absurd (omega arith)
+lone (y ∷ []) x e h = ap (λ z. z ∷ []) (sym h)
+lone (y ∷ z ∷ zs) x e h = absurd (omega arith)
+
 -- tests of the elements
 pub any_flat : {A B : Type 0} (p : B → Bool) (f : A → List B) (xs : List A)
     → list_any p (flat_map f xs) ≡ list_any (λ x. list_any p (f x)) xs

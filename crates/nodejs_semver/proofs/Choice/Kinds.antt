@@ -5,11 +5,11 @@ use Rattle.nodejs_semver.proofs.Common.{MAX_SAFE_INTEGER, None, Option, Raisable
 use Rattle.nodejs_semver.proofs.Common.{and-true, and_parts, ap, arith, below_named, beside, better, beyond, bound_of, candidates}
 use Rattle.nodejs_semver.proofs.Common.{common_steps, cond_both, false, false≢true, find, find-append, first_so, firsts, flat_map}
 use Rattle.nodejs_semver.proofs.Common.{flat_map-append, fold, fold-append, get_or, get_or-map, holds, inl, inr, is_le, is_lt}
-use Rattle.nodejs_semver.proofs.Common.{is_range_span, least_build, length, length-map, lets_in, list_any, list_any-append, list_marks, map}
+use Rattle.nodejs_semver.proofs.Common.{is_range_span, least_build, length, length-map, lets_in, list_any, list_any-append, list_marks, map, map-append}
 use Rattle.nodejs_semver.proofs.Common.{not, not_if, option_map, or-false, or_cases, precedence, precedence_total, refl, removed_marks}
 use Rattle.nodejs_semver.proofs.Common.{span_of, spans_of, subst, sym, take, take_next, tells, tied_itself, true, ℕ, ◌&&◌, ◌++◌, ◌+◌, ◌-◌}
 use Rattle.nodejs_semver.proofs.Common.{◌<◌, ◌^◌, ◌||◌, ◌∙◌, ◌∷◌, ◌≡◌, ◌⊎◌}
-use Rattle.nodejs_semver.specs.Internal.Candidates.{zero, StartsWith, IsLeastBuilt, lesser, EndsAfterPre, MayAllocate}
+use Rattle.nodejs_semver.specs.Internal.Candidates.{zero, first_past, StartsWith, IsLeastBuilt, lesser, EndsAfterPre, MayAllocate}
 use Rattle.nodejs_semver.proofs.{Values.{map-further}, Algebra.Gate.{le_trans, lt_is, lt_le, le_of_lt, past_order}}
 use Rattle.std.specs.Option.{option_or}
 
@@ -104,6 +104,14 @@ module _ {V : Type 0} (value : V → VersionValue) (set : VersionValue → Bool)
       → new ≡ fold (better set) between (flat_map firsts (below_named (bound_of value x.upper)))
       → new ≡ fold (better set) start (flat_map firsts (list_marks (spans_of value (take (i + 1) xs))))
   kept_further between e k m = grind (arith, nat_tests, common_steps, map-further, fold-append, flat_map-append)
+
+  pub held_further : old ≡ fold (better set) start (map (λ s. first_past s.lower) (spans_of value (take i xs)))
+      → new ≡ better set old (first_past (bound_of value x.lower))
+      → new ≡ fold (better set) start (map (λ s. first_past s.lower) (spans_of value (take (i + 1) xs)))
+  held_further e k = k ∙ ap (λ o. better set o (first_past (bound_of value x.lower))) e
+      ∙ sym (ap (λ l. fold (better set) start (map (λ s. first_past s.lower) l)) (map-further (span_of value) xs i x within at)
+      ∙ ap (fold (better set) start) (map-append (λ s. first_past s.lower) (spans_of value (take i xs)) (span_of value x ∷ []))
+      ∙ fold-append (better set) start (map (λ s. first_past s.lower) (spans_of value (take i xs))) (first_past (bound_of value x.lower) ∷ []))
 
 -- ---- the least version of spans each of which begins with a version that it accepts
 

@@ -193,7 +193,6 @@ impl<V: VersionPoint> RangeOf<V> {
     /// let first = Version::parse(alloc, "1.0.1-0").ok();
     /// assert!(rt; range.min_version_with_prerelease(alloc) == Ok(first));
     /// ```
-    #[tactic(auto, using(crate::proofs::Choice::Kinds::raisable))]
     pub fn min_version_with_prerelease(&self, alloc: Global) -> Result<Option<Version>, AllocError>
         ensures least { IfOk result (λ r. stated.IsLeastOf (λ v. accepts self.now v true) r) }
         ensures build { IfOk result (λ r. IfSome r (λ v. v.build ≡ [])) }

@@ -14,3 +14,9 @@ returns g t c =
     c.in_ok-after.after.items c.args.intervals.now _ c.in_ok-before.ensures c.in_ok-after.ensures
     (rw (c.deref.ensures, c.deref-2.ensures, c.in_ok-pieces.ensures.items) at c.in_ok-clip_each.ensures)
     (rw (c.split_at.ensures.front, c.split_at.ensures.back) (sym (take-append-drop _ _)))
+
+pub complement-requires-2 : goal.complement-requires-2
+complement-requires-2 g t c = ?
+
+pub complement-requires : goal.complement-requires
+complement-requires g t c = ?

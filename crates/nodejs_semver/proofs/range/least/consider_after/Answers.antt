@@ -25,3 +25,6 @@ returns-in_err-tried-clause-memory g c = on_err _ (inr (sym c.is_release.ensures
 
 pub returns-clause-memory : goal.returns-clause-memory
 returns-clause-memory g c = on_err_weaker c.consider-3.result (λ found. inl found) c.consider-3.ensures.memory
+
+pub patch_after-requires : goal.patch_after-requires
+patch_after-requires g c = c.requires
