@@ -567,9 +567,14 @@ pub held_bare : (ss : List (Span VersionValue)) (r : Option VersionValue) → r 
 held_bare ss r e = list_bare (λ v. accepts ss v true) (firsts_past ss) r (bare_firsts ss) e
 
 -- a version without its build improves on the best so far, and is held, as it does and is with it
-pub improves_held : (best : Option VersionValue) (w : VersionValue) (ss : List (Span VersionValue))
+improves_held : (best : Option VersionValue) (w : VersionValue) (ss : List (Span VersionValue))
     → (improves best (bare w) && accepts ss (bare w) true) ≡ (improves best w && accepts ss w true)
 improves_held best w ss = grind (arith, nat_tests, common_steps, cut_total, precedence_total, triple_total, any_same)
+
+pub better_held : (b : Bool) (best : Option VersionValue) (w : VersionValue) (ss : List (Span VersionValue))
+    → b ≡ (improves best w && accepts ss w true)
+    → (if b then Some (bare w) else best) ≡ better (λ v. accepts ss v true) best (bare w)
+better_held b best w ss e = ap (λ t. if t then Some (bare w) else best) (e ∙ sym (improves_held best w ss))
 
 -- ---- the build of a least version, that of the lower bound from which it comes
 

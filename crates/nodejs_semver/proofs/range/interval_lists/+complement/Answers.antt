@@ -15,8 +15,8 @@ returns g t c =
     (rw (c.deref.ensures, c.deref-2.ensures, c.in_ok-pieces.ensures.items) at c.in_ok-clip_each.ensures)
     (rw (c.split_at.ensures.front, c.split_at.ensures.back) (sym (take-append-drop _ _)))
 
-pub complement-requires-2 : goal.complement-requires-2
-complement-requires-2 g t c = ?
-
 pub complement-requires : goal.complement-requires
-complement-requires g t c = ?
+complement-requires g t c = λ κs within. (omega arith, (within, omega arith))
+
+pub complement-requires-2 : goal.complement-requires-2
+complement-requires-2 g t c = λ κs within. (omega arith, (within, omega arith))
