@@ -25,8 +25,7 @@ nested i j x = grind arith
 single : {A : Type 0} (i : Bool) (x : A) → (if i then x ∷ [] else []) ≡ pick i x ++ []
 single i x = grind arith
 
-in_two : {A : Type 0} (i : Bool) (l m n : List A) → (i ≡ true → l ≡ m ++ n)
-    → (if i then l else []) ≡ (if i then m else []) ++ (if i then n else [])
+in_two : {A : Type 0} (i : Bool) (l m n : List A) → (i ≡ true → l ≡ m ++ n) → (if i then l else []) ≡ (if i then m else []) ++ (if i then n else [])
 in_two i l m n h = grind arith
 
 all_five : (a b c d e : Bool) → (((a && b) && (c && d)) && e) ≡ ((a && (b && true)) && (c && (d && e)))
@@ -68,18 +67,14 @@ module _ {V : Type 0} {R : V → V → Ordering} (o : IsTotalOrder R) where
       → greater_lower R t.upper s.lower ≡ (if lt o (lower_cut s.lower) (upper_cut t.upper) then t.upper else s.lower)
   left_upper s t h = grind (arith, gt_lt, turned_upper)
 
-  below_met : (s t : Span V) → lt o (lower_cut t.lower) (upper_cut s.upper) ≡ true
-      → option_to_list (left_below R s t) ≡ below s t.lower
+  below_met : (s t : Span V) → lt o (lower_cut t.lower) (upper_cut s.upper) ≡ true → option_to_list (left_below R s t) ≡ below s t.lower
   below_met s t h = grind (arith, left_lower)
 
-  above_met : (s t : Span V) → lt o (lower_cut s.lower) (upper_cut t.upper) ≡ true
-      → option_to_list (left_above R s t) ≡ above s t.upper
+  above_met : (s t : Span V) → lt o (lower_cut s.lower) (upper_cut t.upper) ≡ true → option_to_list (left_above R s t) ≡ above s t.upper
   above_met s t h = grind (arith, left_upper)
 
-  remainder_is : (s t : Span V) → is_interval R s ≡ true → is_interval R t ≡ true
-      → remainder R s t ≡ below s t.lower ++ above s t.upper
-  remainder_is s t h k =
-      remainders_by o s t (λ r. (option_to_list r.0 ++ option_to_list r.1) ≡ below s t.lower ++ above s t.upper)
+  remainder_is : (s t : Span V) → is_interval R s ≡ true → is_interval R t ≡ true → remainder R s t ≡ below s t.lower ++ above s t.upper
+  remainder_is s t h k = remainders_by o s t (λ r. (option_to_list r.0 ++ option_to_list r.1) ≡ below s t.lower ++ above s t.upper)
       (λ e. let m = between_parts o s.lower t.lower s.upper t.upper e in
       ap₂ (λ l k. l ++ k) (below_met s t m.1.0) (above_met s t m.0.1))
       (λ e. elim (cases_Bool (lt o (lower_cut t.lower) (upper_cut s.upper))) [
@@ -93,16 +88,14 @@ module _ {V : Type 0} {R : V → V → Ordering} (o : IsTotalOrder R) where
       ])
 
   -- what is clipped from a piece of c is a piece of what is clipped from c
-  clip_piece : (s c y z : Span V) (i j : Bool) → z ≡ clipped s y
-      → (is_interval R (clipped s c) && i) ≡ (j && is_interval R (clipped s y))
+  clip_piece : (s c y z : Span V) (i j : Bool) → z ≡ clipped s y → (is_interval R (clipped s c) && i) ≡ (j && is_interval R (clipped s y))
       → (if is_interval R (clipped s c) then pick i z else []) ≡ clips (pick j y) s
   clip_piece s c y z i j e f = nested _ i z ∙ ap₂ (λ b x. pick b x) f e ∙ sym (nested j _ (clipped s y))
       ∙ sym (flat_pick (λ c. option_to_list (clip R s c)) j y)
 
   clip_below : (s c : Span V) (b : Bound V) → (if is_interval R (clipped s c) then below (clipped s c) b else [])
       ≡ clips (below c b) s
-  clip_below s c b =
-      clip_piece s c _ _ _ _ (ap (λ (u : Bound V). record { lower = greater_lower R c.lower s.lower; upper = u })
+  clip_below s c b = clip_piece s c _ _ _ _ (ap (λ (u : Bound V). record { lower = greater_lower R c.lower s.lower; upper = u })
       (lesser_assoc o s.upper c.upper b)) (rw (
         between o c.lower s.lower s.upper c.upper,
         greater_below o c.lower s.lower (lower_cut b),
@@ -116,8 +109,7 @@ module _ {V : Type 0} {R : V → V → Ordering} (o : IsTotalOrder R) where
 
   clip_above : (s c : Span V) (b : Bound V) → (if is_interval R (clipped s c) then above (clipped s c) b else [])
       ≡ clips (above c b) s
-  clip_above s c b =
-      clip_piece s c _ _ _ _ (ap (λ (u : Bound V). record { lower = u; upper = lesser_upper R s.upper c.upper })
+  clip_above s c b = clip_piece s c _ _ _ _ (ap (λ (u : Bound V). record { lower = u; upper = lesser_upper R s.upper c.upper })
       (sym (greater_assoc o b c.lower s.lower))) (rw (
         between o c.lower s.lower s.upper c.upper,
         below_lesser o s.upper c.upper (upper_cut b),
@@ -152,16 +144,13 @@ module _ {V : Type 0} {R : V → V → Ordering} (o : IsTotalOrder R) where
       ]
 
   -- and so for lists
-  clips_remainder : (s t : Span V) (cs : List (Span V))
-      → flat_map (λ m. remainder R m t) (clips cs s) ≡ clips (flat_map (λ c. remainder R c t) cs) s
-  clips_remainder s t cs =
-      flat_flat (λ m. remainder R m t) (λ c. option_to_list (clip R s c)) cs ∙ flat_same _ _ (λ c. clip_remainder s c t) cs
+  clips_remainder : (s t : Span V) (cs : List (Span V)) → flat_map (λ m. remainder R m t) (clips cs s) ≡ clips (flat_map (λ c. remainder R c t) cs) s
+  clips_remainder s t cs = flat_flat (λ m. remainder R m t) (λ c. option_to_list (clip R s c)) cs ∙ flat_same _ _ (λ c. clip_remainder s c t) cs
       ∙ sym (flat_flat (λ d. option_to_list (clip R s d)) (λ c. remainder R c t) cs)
 
   minus_clips : (cs ss ts : List (Span V)) → minus R (flat_map (clips cs) ss) ts ≡ flat_map (clips (minus R cs ts)) ss
   minus_clips cs ss [] = refl
-  minus_clips cs ss (t ∷ ts) =
-      ap (λ l. minus R l ts)
+  minus_clips cs ss (t ∷ ts) = ap (λ l. minus R l ts)
       (flat_flat (λ s. remainder R s t) (clips cs) ss ∙ flat_same _ (clips (flat_map (λ c. remainder R c t) cs))
       (λ s. clips_remainder s t cs) ss) ∙ minus_clips (flat_map (λ c. remainder R c t) cs) ss ts
 
@@ -218,8 +207,7 @@ module _ {V : Type 0} {R : V → V → Ordering} (o : IsTotalOrder R) where
         ]))
   ]
 
-  along_remainders : (a : Cut V) (cs : List (Span V)) (t : Span V) → IsAlong R a cs
-      → IsAlong R a (flat_map (λ c. remainder R c t) cs)
+  along_remainders : (a : Cut V) (cs : List (Span V)) (t : Span V) → IsAlong R a cs → IsAlong R a (flat_map (λ c. remainder R c t) cs)
   along_remainders a [] t h = tt
   along_remainders a (c ∷ cs) t h = grind (arith, along_remainder, along_remainders (upper_cut c.upper) cs t h.1.1)
 
@@ -237,21 +225,18 @@ module _ {V : Type 0} {R : V → V → Ordering} (o : IsTotalOrder R) where
   -- what is cut from each span by what is left of the whole line
   pub minus-clips : (ss ts cs : List (Span V)) → list_all (is_interval R) ss ≡ true → cs ≡ minus R (whole ∷ []) ts
       → flat_map (λ s. flat_map (λ c. option_to_list (clip R s c)) cs) ss ≡ minus R ss ts
-  minus-clips ss ts cs h e =
-      ap (λ (l : List (Span V)). flat_map (clips l) ss) e ∙ sym (minus_clips (whole ∷ []) ss ts)
+  minus-clips ss ts cs h e = ap (λ (l : List (Span V)). flat_map (clips l) ss) e ∙ sym (minus_clips (whole ∷ []) ss ts)
       ∙ ap (λ l. minus R l ts) (all_whole ss h)
 
   -- what is left of the line by one list after another
   pub gaps-joined : (ts us cs ds es left : List (Span V)) → cs ≡ minus R (whole ∷ []) ts → ds ≡ minus R (whole ∷ []) us
       → left ≡ flat_map (λ s. flat_map (λ c. option_to_list (clip R s c)) ds) cs → es ≡ ts ++ us → left ≡ minus R (whole ∷ []) es
-  gaps-joined ts us cs ds es left e k f g =
-      f ∙ minus-clips cs us ds (along_all Start cs (along-gaps ts cs e)) k ∙ ap (λ l. minus R l us) e
+  gaps-joined ts us cs ds es left e k f g = f ∙ minus-clips cs us ds (along_all Start cs (along-gaps ts cs e)) k ∙ ap (λ l. minus R l us) e
       ∙ sym (fold-append (λ (left : List (Span V)) (t : Span V). flat_map (λ s. remainder R s t) left) (whole ∷ []) ts us)
       ∙ ap (λ l. minus R (whole ∷ []) l) (sym g)
 
   -- the ends rise along the line
-  ends_past : (a : Cut V) (cs : List (Span V)) (j : ℕ) (d : Span V) → IsAlong R a cs → j < length cs
-      → lt o (upper_cut (get_or cs j d).upper) a ≡ false
+  ends_past : (a : Cut V) (cs : List (Span V)) (j : ℕ) (d : Span V) → IsAlong R a cs → j < length cs → lt o (upper_cut (get_or cs j d).upper) a ≡ false
   ends_past a [] j d h k = absurd (omega arith)
   ends_past a (c ∷ cs) zero d h k = not_below o (lower_cut c.lower) (upper_cut c.upper) a h.1.0 h.0
   ends_past a (c ∷ cs) (suc j) d h k =
@@ -284,8 +269,7 @@ module _ {V : Type 0} {R : V → V → Ordering} (o : IsTotalOrder R) where
   past_clip s c h = no_clip s c (not_if _ _ (λ e. (in_clip s c e).0.0) h)
 
   -- the pieces in front
-  skipped : (s : Span V) (cs : List (Span V)) (r : ℕ) → AllWithin (λ c. falls_short s c ≡ true) cs 0 r → r ≤ length cs
-      → clips cs s ≡ clips (drop r cs) s
+  skipped : (s : Span V) (cs : List (Span V)) (r : ℕ) → AllWithin (λ c. falls_short s c ≡ true) cs 0 r → r ≤ length cs → clips cs s ≡ clips (drop r cs) s
   skipped s cs zero h k = refl
   skipped s [] (suc r) h k = absurd (omega arith)
   skipped s (c ∷ cs) (suc r) h k =
@@ -294,8 +278,7 @@ module _ {V : Type 0} {R : V → V → Ordering} (o : IsTotalOrder R) where
       grind (arith, short_clip, more, short)
 
   -- the pieces behind
-  none_past : (s : Span V) (b : Cut V) (cs : List (Span V)) → IsAlong R b cs → lt o b (upper_cut s.upper) ≡ false
-      → clips cs s ≡ []
+  none_past : (s : Span V) (b : Cut V) (cs : List (Span V)) → IsAlong R b cs → lt o b (upper_cut s.upper) ≡ false → clips cs s ≡ []
   none_past s b [] h k = refl
   none_past s b (c ∷ cs) h k = grind (arith, past_clip, upto_below, not_below, none_past s (upper_cut c.upper) cs h.1.1)
 
@@ -332,7 +315,6 @@ module _ {V : Type 0} {R : V → V → Ordering} (o : IsTotalOrder R) where
         stop_at s Start (drop r cs) i d (along_drop Start cs r h) k
         (ap (λ (q : Span V). lt o (lower_cut s.lower) (upper_cut q.upper)) at ∙ not-false _ short) n ∙ sym (skipped s cs r p.0 b)
 
-    pub clips-to_none : (near : List (Span V)) (i : ℕ) (d : Span V) (part : Option (Span V)) → near ≡ drop r cs
-        → IsAlong R Start cs → i < length near
+    pub clips-to_none : (near : List (Span V)) (i : ℕ) (d : Span V) (part : Option (Span V)) → near ≡ drop r cs → IsAlong R Start cs → i < length near
         → d ≡ get_or near i d → part ≡ clip R s d → is_some part ≡ false → clips (take i near) s ≡ clips cs s
     clips-to_none near i d part e h k at is n = grind (arith, to_none)

@@ -31,8 +31,7 @@ module _ {V : Type 0} (value : V → VersionValue) (xs : List (Span V)) (i : ℕ
   long_at = omega (arith, within, length-map xs (span_of value))
 
   pub raisable_at : All IsRaisable (spans_of value xs) → IsRaisable (span_of value x)
-  raisable_at h =
-      subst IsRaisable (same_at (span_of value x)) (All-get_or IsRaisable (spans_of value xs) i (span_of value x) long_at h)
+  raisable_at h = subst IsRaisable (same_at (span_of value x)) (All-get_or IsRaisable (spans_of value xs) i (span_of value x) long_at h)
 
   pub any_at : (P : Span VersionValue → Type 0) → P (span_of value x) → Any P (spans_of value xs)
   any_at P h = (i, span_of value x, long_at, same_at (span_of value x), h)
@@ -88,8 +87,7 @@ pub range_further : (set : VersionValue → Bool) (kss : List (List (Span Versio
     → old ≡ fold (better set) start (flat_map firsts (flat_map list_marks (take i kss)))
     → new ≡ fold (better set) old (flat_map firsts (list_marks ks))
     → new ≡ fold (better set) start (flat_map firsts (flat_map list_marks (take (i + 1) kss)))
-range_further set kss i ks within at start old new e k =
-    grind (arith, common_steps, e, k, take_next kss i ks within at, fold-append, flat_map-append)
+range_further set kss i ks within at start old new e k = grind (arith, common_steps, e, k, take_next kss i ks within at, fold-append, flat_map-append)
 
 module _ {V : Type 0} (value : V → VersionValue) (set : VersionValue → Bool) (xs : List (Span V)) (i : ℕ) (x : Span V)
     (within : i < length xs) (at : x ≡ get_or xs i x) (start old new : Option VersionValue) where
@@ -98,8 +96,7 @@ module _ {V : Type 0} (value : V → VersionValue) (set : VersionValue → Bool)
       → new ≡ fold (better set) start (flat_map firsts (flat_map removed_marks (spans_of value (take (i + 1) xs))))
   removed_further e k = grind (arith, nat_tests, common_steps, map-further, fold-append, flat_map-append)
 
-  pub kept_further : (between : Option VersionValue)
-      → old ≡ fold (better set) start (flat_map firsts (list_marks (spans_of value (take i xs))))
+  pub kept_further : (between : Option VersionValue) → old ≡ fold (better set) start (flat_map firsts (list_marks (spans_of value (take i xs))))
       → between ≡ fold (better set) old (flat_map firsts (beside (bound_of value x.lower)))
       → new ≡ fold (better set) between (flat_map firsts (below_named (bound_of value x.upper)))
       → new ≡ fold (better set) start (flat_map firsts (list_marks (spans_of value (take (i + 1) xs))))
@@ -116,8 +113,7 @@ module _ {V : Type 0} (value : V → VersionValue) (set : VersionValue → Bool)
 -- ---- the least version of spans each of which begins with a version that it accepts
 
 -- what the span accepts is not below its start
-above_start : (s : Span VersionValue) (w x : VersionValue) → StartsWith s w → holds precedence s x ≡ true
-    → is_le (precedence w x) ≡ true
+above_start : (s : Span VersionValue) (w x : VersionValue) → StartsWith s w → holds precedence s x ≡ true → is_le (precedence w x) ≡ true
 above_start s w x start h = grind (arith, nat_tests, past_order, tells (precedence w x))
 
 -- what one more span accepts
@@ -163,8 +159,7 @@ kept ss s v w h start le = ((one_more ss s v ∙ grind (arith, h.0.0), least), b
 step : (ss : List (Span VersionValue)) (best : Option VersionValue) (s : Span VersionValue) (w : VersionValue)
     → IsLeastSoFar ss best → StartsWith s w → IsLeastBuilt (ss ++ s ∷ []) (lesser best w)
 step ss None s w e start = fresh ss s w start (λ x h. absurd (false≢true (rw e at h)))
-step ss (Some b) s w h start =
-    cond_both (is_le (precedence b w)) b w (IsLeastBuilt (ss ++ s ∷ [])) (kept ss s b w h start)
+step ss (Some b) s w h start = cond_both (is_le (precedence b w)) b w (IsLeastBuilt (ss ++ s ∷ [])) (kept ss s b w h start)
     (λ e. fresh ss s w start (λ x k. lt_le precedence_total w b x (lt_is precedence_total w b ∙ ap not e) (h.0.1 x k)))
 
 -- one more span, at its place
@@ -191,8 +186,7 @@ pub one_allocates : (ks ls : List (Span VersionValue)) → MayAllocate (ks ∷ [
 one_allocates ks ls h = grind (arith, nat_tests, common_steps, and-true, Any-one)
 
 -- beyond nothing
-pub alone_allocates : (ks : List (Span VersionValue)) → MayAllocate (ks ∷ []) []
-    → ((v : VersionValue) × (accepts ks v false ≡ true)) ⊎ BeginsAfterPre ks
+pub alone_allocates : (ks : List (Span VersionValue)) → MayAllocate (ks ∷ []) [] → ((v : VersionValue) × (accepts ks v false ≡ true)) ⊎ BeginsAfterPre ks
 alone_allocates ks h = grind (arith, nat_tests, common_steps, one_allocates, and-true, Any-none)
 
 pub all_allocate : (lists : List (List (Span VersionValue))) → MayAllocate lists []

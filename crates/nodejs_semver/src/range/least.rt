@@ -430,6 +430,7 @@ fn least_among<V: VersionPoint, W: VersionPoint>(
 }
 
 // Keeps a copy of the version, without its build, where it improves on the best so far.
+#[tactic(auto, using(crate::proofs::Choice::Least::improves_held))]
 fn consider_held<V: VersionPoint, C: Versioned>(
     range: &RangeOf<V>,
     alloc: Global,

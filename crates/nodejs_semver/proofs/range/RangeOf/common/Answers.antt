@@ -48,7 +48,6 @@ returns-clause-list g c =
     c.items-these.ensures.valid c.items-others.ensures.valid c.items-these.ensures.value c.items-others.ensures.value))
 
 pub returns-in_err-push_all_intersections-clause-memory : goal.returns-in_err-push_all_intersections-clause-memory
-returns-in_err-push_all_intersections-clause-memory g c =
-    on_err c.from_residual.result (meets_of-some _ _ g.met.V.VersionPoint.ordered _ _ _ _
+returns-in_err-push_all_intersections-clause-memory g c = on_err c.from_residual.result (meets_of-some _ _ g.met.V.VersionPoint.ordered _ _ _ _
     c.items-these.ensures.valid c.items-others.ensures.valid c.items-these.ensures.value c.items-others.ensures.value
     c.in_err-push_all_intersections.ensures.memory)

@@ -23,8 +23,7 @@ returns g c =
     }
 
 pub loop-interval-preserved : goal.loop-interval-preserved
-loop-interval-preserved g c =
-    held_further g.V.Versioned.value (λ v. accepts (spans_of g.V.Versioned.value c.items-intervals.result.now) v true)
+loop-interval-preserved g c = held_further g.V.Versioned.value (λ v. accepts (spans_of g.V.Versioned.value c.items-intervals.result.now) v true)
     c.items-intervals.result.now c.loop-interval.interval-index c.interval-item.result c.loop-interval-test.true c.interval-item.is
     None _ _ c.loop-interval.invariant
     (rw (c.lower.ensures.value, sym c.items-intervals.ensures.value) at c.in_ok-consider_past_held.ensures.best)

@@ -16,8 +16,7 @@ pub returns-in_err-clip_each-clause-memory : goal.returns-in_err-clip_each-claus
 returns-in_err-clip_each-clause-memory g c = on_err c.from_residual-in_err-clip_each.result (inr (λ e. omega arith))
 
 pub returns-clause-items : goal.returns-clause-items
-returns-clause-items g c =
-    rw c.deref.ensures at c.in_ok-clip_each.ensures
+returns-clause-items g c = rw c.deref.ensures at c.in_ok-clip_each.ensures
     ∙ ap (λ l. c.args.found.now.items ++ l) (minus-clips g.met.V.Ord.total c.args.these.now c.args.others.now
     c.in_ok-pieces.pieces.items c.requires c.in_ok-pieces.ensures)
 

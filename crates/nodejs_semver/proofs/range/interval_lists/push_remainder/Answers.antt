@@ -2,8 +2,7 @@ use Rattle.nodejs_semver.proofs.Common.{Option, append_assoc, arith, inl, inr, i
 use Rattle.nodejs_semver.proofs.Common.{option_to_list, part_some, refl, sym, true, ◌++◌, ◌<◌, ◌∙◌, ◌≡◌, ◌⊎◌}
 use Rattle.nodejs_semver.proofs.range.interval_lists.push_remainder.Goals as goal
 
-some_left : {A : Type 0} (m n part : Option A) → (part ≡ m) ⊎ (part ≡ n) → is_some part ≡ true
-    → 0 < length (option_to_list m ++ option_to_list n)
+some_left : {A : Type 0} (m n part : Option A) → (part ≡ m) ⊎ (part ≡ n) → is_some part ≡ true → 0 < length (option_to_list m ++ option_to_list n)
 some_left m n part (inl e) h = omega (arith, length-append (option_to_list m) (option_to_list n), part_some part m e h)
 some_left m n part (inr e) h = omega (arith, length-append (option_to_list m) (option_to_list n), part_some part n e h)
 

@@ -10,6 +10,5 @@ pub returns-clause-items : goal.returns-clause-items
 returns-clause-items g c = rw (take_all _ c.args.these.now c.loop-interval-test.false) at c.loop-interval.invariant
 
 pub loop-interval-preserved : goal.loop-interval-preserved
-loop-interval-preserved g c =
-    flat_behind _ c.args.these.now _ c.interval-item.result c.args.left.now.items _ _ _ c.loop-interval-test.true
+loop-interval-preserved g c = flat_behind _ c.args.these.now _ c.interval-item.result c.args.left.now.items _ _ _ c.loop-interval-test.true
     c.interval-item.is refl c.loop-interval.invariant c.in_ok-push_remainder.ensures.items

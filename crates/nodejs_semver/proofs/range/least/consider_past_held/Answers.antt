@@ -18,11 +18,9 @@ patch_after-requires g c = rw c.in-After.is at c.requires
 
 pub returns-then-is_release : goal.returns-then-is_release
 returns-then-is_release g c = record {
-  best =
-      rw (c.in-After.is, sym c.is_release.ensures ∙ c.if-is_release.true)
+  best = rw (c.in-After.is, sym c.is_release.ensures ∙ c.if-is_release.true)
       (rw (c.first_pre.ensures, c.patch_after.ensures) at c.consider_held-then-is_release.ensures.best);
-  memory =
-      on_err_weaker c.consider_held-then-is_release.result (λ held. inl held) c.consider_held-then-is_release.ensures.memory;
+  memory = on_err_weaker c.consider_held-then-is_release.result (λ held. inl held) c.consider_held-then-is_release.ensures.memory;
 }
 
 pub returns-in_ok-pre_after-in-After : goal.returns-in_ok-pre_after-in-After
