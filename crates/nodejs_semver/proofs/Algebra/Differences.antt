@@ -5,7 +5,7 @@ use Rattle.nodejs_semver.proofs.Common.{below_lesser, below_upto, between, betwe
 use Rattle.nodejs_semver.proofs.Common.{false, flat_flat, flat_map, flat_map-append, flat_same, fold-append, get_or, get_or-drop}
 use Rattle.nodejs_semver.proofs.Common.{greater_below, greater_lower, gt_lt, if◌then◌else◌, inl, inr, irreflexive, is_interval, is_lt}
 use Rattle.nodejs_semver.proofs.Common.{is_some, is_some-interval, left_above, left_below, length, length-drop, lesser_upper, list_all, lower_cut, lt, lt_trans}
-use Rattle.nodejs_semver.proofs.Common.{minus, not, not-false, not_above, not_below, not_if, one_way, option_to_list, refl, remainder}
+use Rattle.nodejs_semver.proofs.Common.{minus, not, not-false, not-true, not_above, not_below, not_if, one_way, option_to_list, refl, remainder}
 use Rattle.nodejs_semver.proofs.Common.{remainders_by, subst, suc, sym, take, take_all, true, turned_lower, turned_upper, upper_cut}
 use Rattle.nodejs_semver.proofs.Common.{upto_below, zero, ℕ, ◌&&◌, ◌++◌, ◌+◌, ◌<◌, ◌∙◌, ◌∷◌, ◌≡◌, ◌≤◌}
 use Rattle.std.specs.List.Sorted.{IsPartitionedBy, IsPartitionPoint}
@@ -61,17 +61,19 @@ module _ {V : Type 0} {R : V → V → Ordering} (o : IsTotalOrder R) where
 
   left_lower : (s t : Span V) → lt o (lower_cut s.lower) (lower_cut t.lower) ≡ true
       → lesser_upper R s.upper t.lower ≡ (if lt o (lower_cut t.lower) (upper_cut s.upper) then t.lower else s.upper)
-  left_lower s t h = grind (arith, gt_lt, turned_lower)
+  left_lower s t h = ap (λ i. if i then t.lower else s.upper)
+      (gt_lt o (upper_cut s.upper) (upper_cut t.lower) ∙ ap (λ c. lt o c (upper_cut s.upper)) (turned_lower o t.lower _ h))
 
   left_upper : (s t : Span V) → lt o (upper_cut t.upper) (upper_cut s.upper) ≡ true
       → greater_lower R t.upper s.lower ≡ (if lt o (lower_cut s.lower) (upper_cut t.upper) then t.upper else s.lower)
-  left_upper s t h = grind (arith, gt_lt, turned_upper)
+  left_upper s t h = ap (λ i. if i then t.upper else s.lower)
+      (gt_lt o (lower_cut t.upper) (lower_cut s.lower) ∙ ap (λ c. lt o (lower_cut s.lower) c) (turned_upper o t.upper _ h))
 
   below_met : (s t : Span V) → lt o (lower_cut t.lower) (upper_cut s.upper) ≡ true → option_to_list (left_below R s t) ≡ below s t.lower
-  below_met s t h = grind (arith, left_lower)
+  below_met s t h = elim (cases_Bool (lt o (lower_cut s.lower) (lower_cut t.lower))) [ inl i ↦ rw (i, left_lower s t i, h) refl | inr f ↦ rw f refl ]
 
   above_met : (s t : Span V) → lt o (lower_cut s.lower) (upper_cut t.upper) ≡ true → option_to_list (left_above R s t) ≡ above s t.upper
-  above_met s t h = grind (arith, left_upper)
+  above_met s t h = elim (cases_Bool (lt o (upper_cut t.upper) (upper_cut s.upper))) [ inl i ↦ rw (i, left_upper s t i, h) refl | inr f ↦ rw f refl ]
 
   remainder_is : (s t : Span V) → is_interval R s ≡ true → is_interval R t ≡ true → remainder R s t ≡ below s t.lower ++ above s t.upper
   remainder_is s t h k = remainders_by o s t (λ r. (option_to_list r.0 ++ option_to_list r.1) ≡ below s t.lower ++ above s t.upper)
@@ -160,7 +162,8 @@ module _ {V : Type 0} {R : V → V → Ordering} (o : IsTotalOrder R) where
 
   all_whole : (ss : List (Span V)) → list_all (is_interval R) ss ≡ true → flat_map (clips (whole ∷ [])) ss ≡ ss
   all_whole [] h = refl
-  all_whole (s ∷ ss) h = grind (arith, clips_whole, all_whole ss)
+  all_whole (s ∷ ss) h =
+      let (i, j) = and_parts (is_interval R s) (list_all (is_interval R) ss) h in ap₂ (λ l k. l ++ k) (clips_whole s i) (all_whole ss j)
 
   -- what is left of the line stands in order along it
   along_lower : (a b : Cut V) (cs : List (Span V)) → lt o b a ≡ false → IsAlong R b cs → IsAlong R a cs
@@ -209,7 +212,8 @@ module _ {V : Type 0} {R : V → V → Ordering} (o : IsTotalOrder R) where
 
   along_remainders : (a : Cut V) (cs : List (Span V)) (t : Span V) → IsAlong R a cs → IsAlong R a (flat_map (λ c. remainder R c t) cs)
   along_remainders a [] t h = tt
-  along_remainders a (c ∷ cs) t h = grind (arith, along_remainder, along_remainders (upper_cut c.upper) cs t h.1.1)
+  along_remainders a (c ∷ cs) t h = along_remainder a c t (flat_map (λ d. remainder R d t) cs)
+      (h.0, (h.1.0, along_remainders (upper_cut c.upper) cs t h.1.1))
 
   along_minus : (a : Cut V) (cs ts : List (Span V)) → IsAlong R a cs → IsAlong R a (minus R cs ts)
   along_minus a cs [] h = h
@@ -241,7 +245,8 @@ module _ {V : Type 0} {R : V → V → Ordering} (o : IsTotalOrder R) where
   ends_past a (c ∷ cs) zero d h k = not_below o (lower_cut c.lower) (upper_cut c.upper) a h.1.0 h.0
   ends_past a (c ∷ cs) (suc j) d h k =
       let n = ends_past (upper_cut c.upper) cs j d h.1.1 (omega arith) in
-      grind (arith, n, lt_trans, upto_below)
+      not_if _ _ (λ m. lt_trans o (lower_cut c.lower) (upper_cut c.upper) a h.1.0
+      (upto_below o (upper_cut c.upper) (upper_cut (get_or cs j d).upper) a n m)) h.0
 
   ends_rise : (a : Cut V) (cs : List (Span V)) (i j : ℕ) (d : Span V) → IsAlong R a cs → i ≤ j → j < length cs
       → lt o (upper_cut (get_or cs j d).upper) (upper_cut (get_or cs i d).upper) ≡ false
@@ -275,12 +280,15 @@ module _ {V : Type 0} {R : V → V → Ordering} (o : IsTotalOrder R) where
   skipped s (c ∷ cs) (suc r) h k =
       let more = skipped s cs r (λ i d p q. h (suc i) d (omega arith) (omega arith)) (omega arith) in
       let short = h 0 c (omega arith) (omega arith) in
-      grind (arith, short_clip, more, short)
+      ap (λ l. l ++ clips cs s) (short_clip s c (not-true _ short)) ∙ more
 
   -- the pieces behind
   none_past : (s : Span V) (b : Cut V) (cs : List (Span V)) → IsAlong R b cs → lt o b (upper_cut s.upper) ≡ false → clips cs s ≡ []
   none_past s b [] h k = refl
-  none_past s b (c ∷ cs) h k = grind (arith, past_clip, upto_below, not_below, none_past s (upper_cut c.upper) cs h.1.1)
+  none_past s b (c ∷ cs) h k =
+      let f = not_if (lt o (lower_cut c.lower) (upper_cut s.upper)) _ (upto_below o b (lower_cut c.lower) (upper_cut s.upper) h.0) k in
+      ap (λ l. l ++ clips cs s) (past_clip s c f) ∙ none_past s (upper_cut c.upper) cs h.1.1
+      (not_below o (lower_cut c.lower) (upper_cut c.upper) (upper_cut s.upper) h.1.0 f)
 
   none_of : (s : Span V) (cs : List (Span V)) → lt o (lower_cut s.lower) (upper_cut s.upper) ≡ false → clips cs s ≡ []
   none_of s [] h = refl
@@ -294,12 +302,19 @@ module _ {V : Type 0} {R : V → V → Ordering} (o : IsTotalOrder R) where
       (stop_at s (upper_cut c.upper) es i d h.1.1 (omega arith) e n)
   stop_at s a (c ∷ es) zero d h k e n =
       let apart : is_interval R (clipped s c) ≡ false = sym (is_some-interval o (clipped s c)) ∙ n in
-      sym (ap (λ l. l ++ clips es s) (no_clip s c apart) ∙ grind (arith, none_of, between_from, none_past, not_below))
+      sym (ap (λ l. l ++ clips es s) (no_clip s c apart) ∙ elim (cases_Bool (lt o (lower_cut s.lower) (upper_cut s.upper))) [
+        | inr f ↦ none_of s es f
+        | inl m ↦
+            let f = not_if (lt o (lower_cut c.lower) (upper_cut s.upper)) _
+            (λ p. between_from o c.lower s.lower s.upper c.upper p h.1.0 m e) apart in
+            none_past s (upper_cut c.upper) es h.1.1 (not_below o (lower_cut c.lower) (upper_cut c.upper) (upper_cut s.upper) h.1.0 f)
+      ])
 
   along_drop : (a : Cut V) (cs : List (Span V)) (r : ℕ) → IsAlong R a cs → IsAlong R a (drop r cs)
   along_drop a cs zero h = h
   along_drop a [] (suc r) h = tt
-  along_drop a (c ∷ cs) (suc r) h = grind (arith, along_lower, not_below, along_drop (upper_cut c.upper) cs r h.1.1)
+  along_drop a (c ∷ cs) (suc r) h = along_lower a (upper_cut c.upper) (drop r cs)
+      (not_below o (lower_cut c.lower) (upper_cut c.upper) a h.1.0 h.0) (along_drop (upper_cut c.upper) cs r h.1.1)
 
   -- the pieces from the first that does not fall short of s up to one that is past it, or to the last
   module _ (s : Span V) (cs : List (Span V)) (r : ℕ) (b : r ≤ length cs)

@@ -1,4 +1,4 @@
-use Rattle.nodejs_semver.proofs.Common.{ap₂, arith, sym, ◌++◌, ◌∙◌, ◌∷◌, []}
+use Rattle.nodejs_semver.proofs.Common.{ap₂, arith, sym, take_all, ◌++◌, ◌∙◌, ◌∷◌, []}
 use Rattle.std.proofs.lemmas.List.{length-take, take_more}
 use Rattle.nodejs_semver.proofs.range.copy_intervals.Goals as goal
 
@@ -11,3 +11,10 @@ loop-interval-preserved g c = (
 
 pub push_reserved-requires : goal.push_reserved-requires
 push_reserved-requires g c = (omega arith, rw (c.loop-interval.invariant.0, c.loop-interval.invariant.1) (omega (arith, length-take c.loop-interval.interval-index c.args.intervals.now)))
+
+pub returns : goal.returns
+returns g c = record {
+  whole = rw (take_all _ c.args.intervals.now c.loop-interval-test.false) at c.loop-interval.invariant.0;
+  room = omega arith;
+  memory = tt;
+}
