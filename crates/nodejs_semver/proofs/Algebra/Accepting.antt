@@ -49,8 +49,7 @@ abbrev admits : VersionValue → Span VersionValue → Bool
 admits v s = holds precedence s v && lets_in s v
 
 -- a test of what there is of a span, if it is an interval
-any_interval : (p : Span VersionValue → Bool) (s : Span VersionValue)
-    → list_any p (option_to_list (interval precedence s)) ≡ (is_interval precedence s && p s)
+any_interval : (p : Span VersionValue → Bool) (s : Span VersionValue) → list_any p (option_to_list (interval precedence s)) ≡ (is_interval precedence s && p s)
 any_interval p s = grind arith
 
 -- what is let in by what two spans have in common, one of them lets in

@@ -93,12 +93,10 @@ pub difference-set : (a b : List (Span VersionValue)) (v : VersionValue)
     → option_list_holds precedence (difference a b) v ≡ (list_holds precedence a v && not (list_holds precedence b v))
 difference-set a b v = option_list_holds-if_any precedence (minus precedence a b) v ∙ list_holds-minus precedence_total a b v
 
-pub intersection-all : (a b : List (Span VersionValue)) (v : VersionValue)
-    → option_accepts (intersection a b) v true ≡ (accepts a v true && accepts b v true)
+pub intersection-all : (a b : List (Span VersionValue)) (v : VersionValue) → option_accepts (intersection a b) v true ≡ (accepts a v true && accepts b v true)
 intersection-all a b v = rw (option_accepts-held (intersection a b) v, accepts-held a v, accepts-held b v) (intersection-set a b v)
 
-pub difference-all : (a b : List (Span VersionValue)) (v : VersionValue)
-    → option_accepts (difference a b) v true ≡ (accepts a v true && not (accepts b v true))
+pub difference-all : (a b : List (Span VersionValue)) (v : VersionValue) → option_accepts (difference a b) v true ≡ (accepts a v true && not (accepts b v true))
 difference-all a b v = rw (option_accepts-held (difference a b) v, accepts-held a v, accepts-held b v) (difference-set a b v)
 
 pub intersection-releases : (a b : List (Span VersionValue)) (v : VersionValue) → is_release v ≡ true
@@ -146,5 +144,4 @@ module _ {V : Type 0} (R : V → V → Ordering) (value : V → VersionValue)
   minus-some (inr n) = inr (several b k.some (λ e. n (sym (length-map ys (span_of value)) ∙ ap length q ∙ e)))
 
   pub intervals-ordered : list_all (is_interval R) xs ≡ true
-  intervals-ordered = sym (all_intervals-values R value ordered xs) ∙ ap (list_all (is_interval precedence)) p
-      ∙ all_intervals (MAX_SAFE_INTEGER + 1) a h.each
+  intervals-ordered = sym (all_intervals-values R value ordered xs) ∙ ap (list_all (is_interval precedence)) p ∙ all_intervals (MAX_SAFE_INTEGER + 1) a h.each

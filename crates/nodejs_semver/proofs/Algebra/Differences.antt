@@ -128,22 +128,21 @@ module _ {V : Type 0} {R : V → V → Ordering} (o : IsTotalOrder R) where
   unmet s t h = remainders_by o s t (λ r. (option_to_list r.0 ++ option_to_list r.1) ≡ s ∷ []) (λ e. cc) (λ _. refl)
 
   clip_remainder : (s c t : Span V) → flat_map (λ m. remainder R m t) (option_to_list (clip R s c)) ≡ clips (remainder R c t) s
-  clip_remainder s c t = flat_pick (λ m. remainder R m t) (is_interval R (clipped s c)) (clipped s c)
-      ∙ elim (cases_Bool (is_interval R c && is_interval R t)) [
-        | inl h ↦
-            let (i, j) = and_parts (is_interval R c) (is_interval R t) h in
-            in_two _ _ _ _ (λ k. remainder_is (clipped s c) t k j)
-            ∙ ap₂ (λ l k. l ++ k) (clip_below s c t.lower) (clip_above s c t.upper)
-            ∙ sym (ap (λ l. clips l s) (remainder_is c t i j)
-            ∙ flat_map-append (λ d. option_to_list (clip R s d)) (below c t.lower) (above c t.upper))
-        | inr h ↦
-            let apart = not_if (is_interval R (both c t)) _ (λ e. let m = between_parts o c.lower t.lower c.upper t.upper e in
-            and_from _ _ m.0.0 m.1.1) h in
-            let unclipped = not_if (is_interval R (both (clipped s c) t)) _ (λ e.
-            let m = between_parts o (clipped s c).lower t.lower (clipped s c).upper t.upper e in
-            and_from _ _ (in_clip s c m.0.0).0.1 m.1.1) h in
-            rw (unmet (clipped s c) t unclipped, unmet c t apart) (single (is_interval R (clipped s c)) (clipped s c))
-      ]
+  clip_remainder s c t = flat_pick (λ m. remainder R m t) (is_interval R (clipped s c)) (clipped s c) ∙ elim (cases_Bool (is_interval R c && is_interval R t)) [
+    | inl h ↦
+        let (i, j) = and_parts (is_interval R c) (is_interval R t) h in
+        in_two _ _ _ _ (λ k. remainder_is (clipped s c) t k j)
+        ∙ ap₂ (λ l k. l ++ k) (clip_below s c t.lower) (clip_above s c t.upper)
+        ∙ sym (ap (λ l. clips l s) (remainder_is c t i j)
+        ∙ flat_map-append (λ d. option_to_list (clip R s d)) (below c t.lower) (above c t.upper))
+    | inr h ↦
+        let apart = not_if (is_interval R (both c t)) _ (λ e. let m = between_parts o c.lower t.lower c.upper t.upper e in
+        and_from _ _ m.0.0 m.1.1) h in
+        let unclipped = not_if (is_interval R (both (clipped s c) t)) _ (λ e.
+        let m = between_parts o (clipped s c).lower t.lower (clipped s c).upper t.upper e in
+        and_from _ _ (in_clip s c m.0.0).0.1 m.1.1) h in
+        rw (unmet (clipped s c) t unclipped, unmet c t apart) (single (is_interval R (clipped s c)) (clipped s c))
+  ]
 
   -- and so for lists
   clips_remainder : (s t : Span V) (cs : List (Span V)) → flat_map (λ m. remainder R m t) (clips cs s) ≡ clips (flat_map (λ c. remainder R c t) cs) s

@@ -20,8 +20,7 @@ pub flat_step : {A B : Type 0} (f : A → List B) (xs : List A) (i : ℕ) (x : A
 flat_step f xs i x old new h at e k = grind (arith, nat_tests, common_steps, append-nil, flat_map-append, take_next)
 
 -- the same behind a front
-pub flat_behind : {A B : Type 0} (f : A → List B) (xs : List A) (i : ℕ) (x : A) (front old new part : List B) → i < length xs
-    → x ≡ get_or xs i x → part ≡ f x
+pub flat_behind : {A B : Type 0} (f : A → List B) (xs : List A) (i : ℕ) (x : A) (front old new part : List B) → i < length xs → x ≡ get_or xs i x → part ≡ f x
     → old ≡ front ++ flat_map f (take i xs) → new ≡ old ++ part → new ≡ front ++ flat_map f (take (i + 1) xs)
 flat_behind f xs i x front old new part h at p e k = grind (arith, nat_tests, common_steps, append_assoc, flat_step)
 

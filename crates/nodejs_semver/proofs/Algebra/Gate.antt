@@ -48,13 +48,11 @@ triple_upto v w h = then_not_gt (triple_cmp v w) (pre_cmp v.pre_release w.pre_re
 pub pre_decides : (v w : VersionValue) → triple_cmp v w ≡ Equal → precedence v w ≡ pre_cmp v.pre_release w.pre_release
 pre_decides v w e = in_two_steps v w ∙ ap (λ r. ordering_then r (pre_cmp v.pre_release w.pre_release)) e
 
-pub upto_by_both : (v w : VersionValue) → is_gt (triple_cmp v w) ≡ false → is_gt (pre_cmp v.pre_release w.pre_release) ≡ false
-    → is_gt (precedence v w) ≡ false
+pub upto_by_both : (v w : VersionValue) → is_gt (triple_cmp v w) ≡ false → is_gt (pre_cmp v.pre_release w.pre_release) ≡ false → is_gt (precedence v w) ≡ false
 upto_by_both v w h k = ap is_gt (in_two_steps v w) ∙ not_gt_then (triple_cmp v w) (pre_cmp v.pre_release w.pre_release) h k
 
 -- a version between two of one triple is of that triple, and a pre-release if the second is
-pub triple_between : (w u v : VersionValue) → triple_cmp w v ≡ Equal → is_gt (precedence w u) ≡ false
-    → is_gt (precedence u v) ≡ false → triple_cmp u v ≡ Equal
+pub triple_between : (w u v : VersionValue) → triple_cmp w v ≡ Equal → is_gt (precedence w u) ≡ false → is_gt (precedence u v) ≡ false → triple_cmp u v ≡ Equal
 triple_between w u v e h k = grind (arith, nat_tests, common_steps, triple_upto)
 
 pub pre_upto : (u v : VersionValue) → is_release v ≡ false → triple_cmp u v ≡ Equal → is_gt (precedence u v) ≡ false → is_release u ≡ false

@@ -304,8 +304,7 @@ module _ (set : VersionValue → Bool) where
   better_fine : (best : Option VersionValue) (x : VersionValue) → IfSome best (λ b. set b ≡ true) → IfSome (better set best x) (λ b. set b ≡ true)
   better_fine best x h = grind arith
 
-  fold_fine : (best : Option VersionValue) (xs : List VersionValue) → IfSome best (λ b. set b ≡ true)
-      → IfSome (fold (better set) best xs) (λ b. set b ≡ true)
+  fold_fine : (best : Option VersionValue) (xs : List VersionValue) → IfSome best (λ b. set b ≡ true) → IfSome (fold (better set) best xs) (λ b. set b ≡ true)
   fold_fine best [] h = h
   fold_fine best (x ∷ xs) h = fold_fine (better set best x) xs (better_fine best x h)
 

@@ -151,6 +151,7 @@ impl<V: VersionPoint> RangeOf<V> {
     /// let least = Some(Version::from((1u64, 2, 3)));
     /// assert!(rt; Range::least_of_all(alloc, &ranges) == Ok(least));
     /// ```
+    #[tactic(auto, using(crate::proofs::Choice::Kinds::raisable))]
     pub fn least_of_all(alloc: Global, ranges: &[RangeOf<V>]) -> Result<Option<Version>, AllocError>
         ensures least { IfOk result (λ r. stated.IsLeastOf
             (λ v. list_all (λ range. accepts range v false) ranges.now) r) }

@@ -1,5 +1,5 @@
-use Rattle.nodejs_semver.proofs.Common.{ap₂, arith, sym, take_all, ◌++◌, ◌∙◌, ◌∷◌, []}
-use Rattle.std.proofs.lemmas.List.{length-take, take_more}
+use Rattle.nodejs_semver.proofs.Common.{ap₂, arith, inr, on_err, sym, take_all, ◌++◌, ◌∙◌, ◌∷◌, []}
+use Rattle.std.proofs.lemmas.{List.{length-take, take_more}, List.Folds.{list_any_at}}
 use Rattle.nodejs_semver.proofs.range.copy_intervals.Goals as goal
 
 pub loop-interval-preserved : goal.loop-interval-preserved
@@ -18,3 +18,6 @@ returns g c = record {
   room = omega arith;
   memory = tt;
 }
+
+pub returns-in_err-copy-clause-memory : goal.returns-in_err-copy-clause-memory
+returns-in_err-copy-clause-memory g c = on_err _ (inr (list_any_at _ c.args.intervals.now _ c.interval-item.result c.loop-interval-test.true (rw (sym c.interval-item.is) c.in_err-copy.ensures.memory)))

@@ -25,8 +25,7 @@ returns-in_ok-built-in-Some-2 g c =
     }
 
 pub returns-in_err-least_among-clause-memory : goal.returns-in_err-least_among-clause-memory
-returns-in_err-least_among-clause-memory g c =
-    on_err _ (alone_allocates c.args.self.now (rw c.from_ref.ensures.value at c.in_err-least_among.ensures.memory))
+returns-in_err-least_among-clause-memory g c = on_err _ (alone_allocates c.args.self.now (rw c.from_ref.ensures.value at c.in_err-least_among.ensures.memory))
 
 pub least_among-requires : goal.least_among-requires
 least_among-requires g c = (omega arith, (omega arith, λ k d h. absurd (omega arith)))

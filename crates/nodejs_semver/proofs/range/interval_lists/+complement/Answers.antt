@@ -13,9 +13,3 @@ returns g t c = gaps-joined g.met.V.Ord.total c.split_at.result.0.now c.split_at
     c.in_ok-after.after.items c.args.intervals.now _ c.in_ok-before.ensures c.in_ok-after.ensures
     (rw (c.deref.ensures, c.deref-2.ensures, c.in_ok-pieces.ensures.items) at c.in_ok-clip_each.ensures)
     (rw (c.split_at.ensures.front, c.split_at.ensures.back) (sym (take-append-drop _ _)))
-
-pub complement-requires : goal.complement-requires
-complement-requires g t c = λ κs within. (omega arith, (within, omega arith))
-
-pub complement-requires-2 : goal.complement-requires-2
-complement-requires-2 g t c = λ κs within. (omega arith, (within, omega arith))

@@ -2,8 +2,7 @@ use Rattle.nodejs_semver.proofs.Common.{flat_behind, flat_some, on_err, refl, ta
 use Rattle.nodejs_semver.proofs.range.interval_lists.push_remainders.Goals as goal
 
 pub returns-in_err-push_remainder-clause-memory : goal.returns-in_err-push_remainder-clause-memory
-returns-in_err-push_remainder-clause-memory g c =
-    on_err c.from_residual.result (flat_some _ c.args.these.now _ c.interval-item.result c.loop-interval-test.true
+returns-in_err-push_remainder-clause-memory g c = on_err c.from_residual.result (flat_some _ c.args.these.now _ c.interval-item.result c.loop-interval-test.true
     c.interval-item.is c.in_err-push_remainder.ensures.memory)
 
 pub returns-clause-items : goal.returns-clause-items

@@ -20,5 +20,4 @@ loop-interval-preserved g c = kept_further g.V.Versioned.value (wanted c.args.ke
     (rw c.upper.ensures at c.in_ok-consider_named.ensures.best)
 
 pub returns-clause-best : goal.returns-clause-best
-returns-clause-best g c =
-    rw (take_all _ c.items-intervals.result.now c.loop-interval-test.false, c.items-intervals.ensures.value) at c.loop-interval.invariant
+returns-clause-best g c = rw (take_all _ c.items-intervals.result.now c.loop-interval-test.false, c.items-intervals.ensures.value) at c.loop-interval.invariant
