@@ -7,9 +7,8 @@ use Rattle.nodejs_semver.proofs.Common.{is_some, left_above, left_below, length,
 use Rattle.nodejs_semver.proofs.Common.{lower_cut, meet, meets_of, minus, span_of, not, option_accepts, option_list_holds, option_to_list}
 use Rattle.nodejs_semver.proofs.Common.{precedence, precedence_total, refl, remainder, remainders_by, spans_of, subst, sym, true}
 use Rattle.nodejs_semver.proofs.Common.{turned_lower, turned_upper, upper_cut, ℕ, ◌&&◌, ◌++◌, ◌+◌, ◌<◌, ◌∙◌, ◌∷◌, ◌≡◌, ◌≢◌, ◌⊎◌}
-use Rattle.nodejs_semver.proofs.Algebra.Accepting.{accepts-held, accepts-release, list_holds-meets_of, list_holds-minus}
-use Rattle.nodejs_semver.proofs.Algebra.FlatMaps.{lone, part_some}
-use Rattle.nodejs_semver.proofs.{Values.{all_intervals-values, meets_of-values, minus-values}, Algebra.Accepting.{option_list_holds-if_any}}
+use Rattle.nodejs_semver.proofs.Algebra.Accepting.{accepts-held, accepts-release, list_holds-meets_of, list_holds-minus, option_list_holds-if_any}
+use Rattle.nodejs_semver.proofs.{Algebra.FlatMaps.{lone, part_some}, Values.{all_intervals-values, meets_of-values, minus-values}}
 
 module _ {V : Type 0} {R : V → V → Ordering} (o : IsTotalOrder R) (F : Bound V → Bool) where
   -- an interval with such bounds

@@ -13,11 +13,8 @@ pub push_reserved-requires : goal.push_reserved-requires
 push_reserved-requires g c = (omega arith, rw (c.loop-interval.invariant.0, c.loop-interval.invariant.1) (omega (arith, length-take c.loop-interval.interval-index c.args.intervals.now)))
 
 pub returns : goal.returns
-returns g c = record {
-  whole = rw (take_all _ c.args.intervals.now c.loop-interval-test.false) at c.loop-interval.invariant.0;
-  room = omega arith;
-  memory = tt;
-}
+returns g c =
+    record { whole = rw (take_all _ c.args.intervals.now c.loop-interval-test.false) at c.loop-interval.invariant.0; room = omega arith; memory = tt }
 
 pub returns-in_err-copy-clause-memory : goal.returns-in_err-copy-clause-memory
 returns-in_err-copy-clause-memory g c = on_err _ (inr (list_any_at _ c.args.intervals.now _ c.interval-item.result c.loop-interval-test.true (rw (sym c.interval-item.is) c.in_err-copy.ensures.memory)))

@@ -1,6 +1,5 @@
 use Rattle.nodejs_semver.proofs.Common.{ap, arith, inl, inr, on_err, on_err_weaker, ◌++◌, ◌∙◌}
-use Rattle.nodejs_semver.proofs.Algebra.FlatMaps.{lone}
-use Rattle.nodejs_semver.proofs.Algebra.Differences.{minus-clips, along-gaps}
+use Rattle.nodejs_semver.proofs.Algebra.{Differences.{minus-clips, along-gaps}, FlatMaps.{lone}}
 use Rattle.nodejs_semver.proofs.range.interval_lists.push_differences.Goals as goal
 
 pub clip_each-requires : goal.clip_each-requires
