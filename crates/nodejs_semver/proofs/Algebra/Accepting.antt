@@ -18,8 +18,7 @@ module _ {V : Type 0} {R : V → V → Ordering} (o : IsTotalOrder R) where
   -- what two lists have in common is the points that both hold
   pub list_holds-meets_of : (ss ts : List (Span V)) (v : V) → list_holds R
       (meets_of R ss ts) v ≡ (list_holds R ss v && list_holds R ts v)
-  list_holds-meets_of ss ts v =
-      any_flat _ _ ss ∙ any_same _ _ (λ s. any_flat _ _ ts ∙ any_same _ (λ t. holds R s v && holds R t v)
+  list_holds-meets_of ss ts v = any_flat _ _ ss ∙ any_same _ _ (λ s. any_flat _ _ ts ∙ any_same _ (λ t. holds R s v && holds R t v)
       (λ t. holds_option (meet R s t) v ∙ option_holds-meet o s t v) ts) ss
       ∙ any_pairs (λ s. holds R s v) (λ t. holds R t v) ss ts
 
@@ -40,8 +39,7 @@ module _ {V : Type 0} {R : V → V → Ordering} (o : IsTotalOrder R) where
   list_holds-minus ss [] v = sym (and-true _)
   list_holds-minus ss (t ∷ ts) v = grind (arith, minus_one, list_holds-minus (flat_map (λ s. remainder R s t) ss) ts v)
 
-pub option_list_holds-if_any : {V : Type 0} (R : V → V → Ordering) (ss : List (Span V)) (v : V)
-    → option_list_holds R (if_any ss) v ≡ list_holds R ss v
+pub option_list_holds-if_any : {V : Type 0} (R : V → V → Ordering) (ss : List (Span V)) (v : V) → option_list_holds R (if_any ss) v ≡ list_holds R ss v
 option_list_holds-if_any R ss v = grind arith
 
 -- ---- the gate
@@ -51,14 +49,12 @@ abbrev admits : VersionValue → Span VersionValue → Bool
 admits v s = holds precedence s v && lets_in s v
 
 -- a test of what there is of a span, if it is an interval
-any_interval : (p : Span VersionValue → Bool) (s : Span VersionValue)
-    → list_any p (option_to_list (interval precedence s)) ≡ (is_interval precedence s && p s)
+any_interval : (p : Span VersionValue → Bool) (s : Span VersionValue) → list_any p (option_to_list (interval precedence s)) ≡ (is_interval precedence s && p s)
 any_interval p s = grind arith
 
 -- what is let in by what two spans have in common, one of them lets in
 pub lets_in_one : (s t : Span VersionValue) (v : VersionValue) → lets_in (both s t) v ≡ true → (lets_in s v || lets_in t v) ≡ true
-lets_in_one s t v h =
-    either (is_release v) (names s.lower v) (names s.upper v) (names t.lower v) (names t.upper v) _ _
+lets_in_one s t v h = either (is_release v) (names s.lower v) (names s.upper v) (names t.lower v) (names t.upper v) _ _
     (picked (is_gt (cut_cmp precedence (lower_cut s.lower) (lower_cut t.lower))) s.lower t.lower)
     (picked (is_gt (cut_cmp precedence (upper_cut s.upper) (upper_cut t.upper))) t.upper s.upper) h
   where
@@ -73,9 +69,7 @@ lets_in_one s t v h =
 admits-meet : (s t : Span VersionValue) (v : VersionValue)
     → list_any (admits v) (option_to_list (meet precedence s t)) ≡ ((holds precedence s v && holds precedence t v) && (lets_in s
     v || lets_in t v))
-admits-meet s t v =
-    any_interval (admits v) (both s t)
-    ∙ exact _ _ _ _ _ _ (λ h. grind (arith, and_parts, past_below, precedence_total, both, not-true))
+admits-meet s t v = any_interval (admits v) (both s t) ∙ exact _ _ _ _ _ _ (λ h. grind (arith, and_parts, past_below, precedence_total, both, not-true))
     (sym (option_holds-interval precedence_total (both s t) v) ∙ option_holds-meet precedence_total s t v)
     (lets_in_one s t v) (lets_in-meet s t v)
   where
@@ -83,14 +77,12 @@ admits-meet s t v =
         → (p ≡ true → q ≡ true → m ≡ true → l ≡ true) → (i && (h && l)) ≡ ((p && q) && m)
     exact i h l p q m f e g k = grind arith
 
-accepts-meets_of : (ss ts : List (Span VersionValue)) (v : VersionValue)
-    → accepts (meets_of precedence ss ts) v false ≡ list_any (λ s. list_any
+accepts-meets_of : (ss ts : List (Span VersionValue)) (v : VersionValue) → accepts (meets_of precedence ss ts) v false ≡ list_any (λ s. list_any
     (λ t. (holds precedence s v && holds precedence t v) && (lets_in s v || lets_in t v)) ts) ss
 accepts-meets_of ss ts v = any_flat (admits v) _ ss ∙ any_same _ _
     (λ s. any_flat (admits v) _ ts ∙ any_same _ _ (λ t. admits-meet s t v) ts) ss
 
-pub option_accepts-if_any : (ss : List (Span VersionValue)) (v : VersionValue) (include : Bool)
-    → option_accepts (if_any ss) v include ≡ accepts ss v include
+pub option_accepts-if_any : (ss : List (Span VersionValue)) (v : VersionValue) (include : Bool) → option_accepts (if_any ss) v include ≡ accepts ss v include
 option_accepts-if_any ss v include = grind arith
 
 -- the intersection accepts what both accept, and nothing that neither accepts
@@ -103,8 +95,7 @@ both_accept ss ts v h k = grind (arith, option_accepts-if_any, accepts-meets_of,
 
 pub one_accepts : (ss ts : List (Span VersionValue)) (v : VersionValue)
     → option_accepts (if_any (meets_of precedence ss ts)) v false ≡ true → (accepts ss v false || accepts ts v false) ≡ true
-one_accepts ss ts v h =
-    any_either _ (admits v) (admits v) (λ s t. one_in (holds precedence s v) (lets_in s v) (holds precedence t v)
+one_accepts ss ts v h = any_either _ (admits v) (admits v) (λ s t. one_in (holds precedence s v) (lets_in s v) (holds precedence t v)
     (lets_in t v)) ss ts (sym (option_accepts-if_any (meets_of precedence ss ts) v false ∙ accepts-meets_of ss ts v) ∙ h)
   where
     one_in : (p l q m : Bool) → ((p && q) && (l || m)) ≡ true → ((p && l) || (q && m)) ≡ true
@@ -113,8 +104,7 @@ one_accepts ss ts v h =
 -- what s admits and t does not hold, what t leaves of s admits
 remainder_admits : (s t : Span VersionValue) (v : VersionValue) → admits v s ≡ true → holds precedence t v ≡ false
     → list_any (admits v) (remainder precedence s t) ≡ true
-remainder_admits s t v h k =
-    remainders_by precedence_total s t (λ r. list_any (admits v) (option_to_list r.0 ++ option_to_list r.1) ≡ true)
+remainder_admits s t v h k = remainders_by precedence_total s t (λ r. list_any (admits v) (option_to_list r.0 ++ option_to_list r.1) ≡ true)
     (λ m. grind (arith, between_parts, precedence_total, list_any-append, and_cases, or_left, below, or_right, above, not-false))
     (λ _. or_left (admits v s) false h)
   where
@@ -124,8 +114,7 @@ remainder_admits s t v h k =
     let_in : lets_in s v ≡ true
     let_in = (and_parts (holds precedence s v) _ h).1
 
-    below : lt precedence_total (lower_cut t.lower) (upper_cut s.upper) ≡ true
-        → is_past precedence (lower_cut t.lower) v ≡ false → list_any (admits v)
+    below : lt precedence_total (lower_cut t.lower) (upper_cut s.upper) ≡ true → is_past precedence (lower_cut t.lower) v ≡ false → list_any (admits v)
         (option_to_list (left_below precedence s t)) ≡ true
     below m e =
         let i = past_below precedence_total (lower_cut s.lower) (lower_cut t.lower) v at.0 e in
@@ -153,8 +142,7 @@ pub difference_accepts : (ss ts : List (Span VersionValue)) (v : VersionValue) �
 difference_accepts ss ts v h k = option_accepts-if_any (minus precedence ss ts) v false ∙ accepts-minus ss ts v h k
 
 -- of releases a list accepts those that it holds, and all with pre-releases included
-pub accepts-release : (ss : List (Span VersionValue)) (v : VersionValue) → is_release v ≡ true
-    → accepts ss v false ≡ list_holds precedence ss v
+pub accepts-release : (ss : List (Span VersionValue)) (v : VersionValue) → is_release v ≡ true → accepts ss v false ≡ list_holds precedence ss v
 accepts-release ss v r = any_same _ _ (λ s. rw r (and-true (holds precedence s v))) ss
 
 pub accepts-held : (ss : List (Span VersionValue)) (v : VersionValue) → accepts ss v true ≡ list_holds precedence ss v

@@ -1,14 +1,14 @@
 -- That the intersection and the difference of two lists are intervals of a range, and what they hold and accept.
 use Rattle.nodejs_semver.proofs.Common.{Bool, Bound, IfOk, IfOk-weaker, IsRange, IsTotalOrder, IsTrue, List}
 use Rattle.nodejs_semver.proofs.Common.{MAX_SAFE_INTEGER, None, Option, Ordering, Result, Some, Span, VersionValue, [], accepts, all_flat}
-use Rattle.nodejs_semver.proofs.Common.{all_weaker, and_from, and_parts, ap, ap₂, arith, cond_both, cut_cmp, difference, false, first_so, flat_map}
-use Rattle.nodejs_semver.proofs.Common.{get_or, if_any, inl, inr, intersection, is_gt, is_interval, is_range_bound, is_range_span, is_release}
+use Rattle.nodejs_semver.proofs.Common.{all_weaker, and_from, and_parts, ap, append-nil, ap₂, arith, cond_both, cut_cmp, difference, false, first_so, flat_map}
+use Rattle.nodejs_semver.proofs.Common.{get_or, if_any, inl, inr, intersection, is_gt, is_interval, is_lt, is_range_bound, is_range_span, is_release}
 use Rattle.nodejs_semver.proofs.Common.{is_some, left_above, left_below, length, length-map, list_all, list_all-append, list_holds}
 use Rattle.nodejs_semver.proofs.Common.{lower_cut, meet, meets_of, minus, span_of, not, option_accepts, option_list_holds, option_to_list}
 use Rattle.nodejs_semver.proofs.Common.{precedence, precedence_total, refl, remainder, remainders_by, spans_of, subst, sym, true}
 use Rattle.nodejs_semver.proofs.Common.{turned_lower, turned_upper, upper_cut, ℕ, ◌&&◌, ◌++◌, ◌+◌, ◌<◌, ◌∙◌, ◌∷◌, ◌≡◌, ◌≢◌, ◌⊎◌}
-use Rattle.nodejs_semver.proofs.Algebra.Accepting.{accepts-held, accepts-release, list_holds-meets_of, list_holds-minus}
-use Rattle.nodejs_semver.proofs.{Values.{all_intervals-values, meets_of-values, minus-values}, Algebra.Accepting.{option_list_holds-if_any}}
+use Rattle.nodejs_semver.proofs.Algebra.Accepting.{accepts-held, accepts-release, list_holds-meets_of, list_holds-minus, option_list_holds-if_any}
+use Rattle.nodejs_semver.proofs.{Algebra.FlatMaps.{lone, part_some}, Values.{all_intervals-values, meets_of-values, minus-values}}
 
 module _ {V : Type 0} {R : V → V → Ordering} (o : IsTotalOrder R) (F : Bound V → Bool) where
   -- an interval with such bounds
@@ -31,29 +31,26 @@ module _ {V : Type 0} {R : V → V → Ordering} (o : IsTotalOrder R) (F : Bound
       (λ _. refl)
 
   -- what is left below t begins below t's lower cut, which its upper bound makes again; and so above t
-  fine-left_below : (s t : Span V) → F s.lower ≡ true → F t.lower ≡ true
-      → list_all is_fine (option_to_list (left_below R s t)) ≡ true
-  fine-left_below s t h k = grind (arith, turned_lower)
+  fine-left_below : (s t : Span V) → F s.lower ≡ true → F t.lower ≡ true → list_all is_fine (option_to_list (left_below R s t)) ≡ true
+  fine-left_below s t h k = cond_both _ (Some _) None (λ m. list_all is_fine (option_to_list m) ≡ true)
+      (λ i. one_fine _ (ap (λ c. is_lt (cut_cmp R (lower_cut s.lower) c)) (turned_lower o t.lower _ i) ∙ i) h k) (λ _. refl)
 
-  fine-left_above : (s t : Span V) → F t.upper ≡ true → F s.upper ≡ true
-      → list_all is_fine (option_to_list (left_above R s t)) ≡ true
-  fine-left_above s t h k = grind (arith, turned_upper)
+  fine-left_above : (s t : Span V) → F t.upper ≡ true → F s.upper ≡ true → list_all is_fine (option_to_list (left_above R s t)) ≡ true
+  fine-left_above s t h k = cond_both _ (Some _) None (λ m. list_all is_fine (option_to_list m) ≡ true)
+      (λ i. one_fine _ (ap (λ c. is_lt (cut_cmp R c (upper_cut s.upper))) (turned_upper o t.upper _ i) ∙ i) h k) (λ _. refl)
 
   fine-remainder : (s t : Span V) → is_fine s ≡ true → is_fine t ≡ true → list_all is_fine (remainder R s t) ≡ true
-  fine-remainder s t h k =
-      remainders_by o s t (λ r. list_all is_fine (option_to_list r.0 ++ option_to_list r.1) ≡ true)
+  fine-remainder s t h k = remainders_by o s t (λ r. list_all is_fine (option_to_list r.0 ++ option_to_list r.1) ≡ true)
       (λ _. let (a, b) = fine_bounds s h in
       let (c, d) = fine_bounds t k in
       list_all-append is_fine (option_to_list (left_below R s t)) (option_to_list (left_above R s t))
       ∙ and_from _ _ (fine-left_below s t a c) (fine-left_above s t d b)) (λ _. rw h refl)
 
-  pub fine-meets_of : (ss ts : List (Span V)) → list_all is_fine ss ≡ true → list_all is_fine ts ≡ true
-      → list_all is_fine (meets_of R ss ts) ≡ true
+  pub fine-meets_of : (ss ts : List (Span V)) → list_all is_fine ss ≡ true → list_all is_fine ts ≡ true → list_all is_fine (meets_of R ss ts) ≡ true
   fine-meets_of ss ts h k = all_flat is_fine _ ss
       ∙ all_weaker is_fine _ (λ s e. all_flat is_fine _ ts ∙ all_weaker is_fine _ (λ t f. fine-meet s t e f) ts k) ss h
 
-  pub fine-minus : (ss ts : List (Span V)) → list_all is_fine ss ≡ true → list_all is_fine ts ≡ true
-      → list_all is_fine (minus R ss ts) ≡ true
+  pub fine-minus : (ss ts : List (Span V)) → list_all is_fine ss ≡ true → list_all is_fine ts ≡ true → list_all is_fine (minus R ss ts) ≡ true
   fine-minus ss [] h k = h
   fine-minus ss (t ∷ ts) h k =
       let (first, rest) = and_parts (is_fine t) (list_all is_fine ts) k in
@@ -65,20 +62,15 @@ module _ {V : Type 0} {R : V → V → Ordering} (o : IsTotalOrder R) (F : Bound
 -- what two lists of one interval each have in common
 pub meets_of-lone : {V : Type 0} (R : V → V → Ordering) (xs ys : List (Span V)) (s t : Span V) → length xs ≡ 1 → length ys ≡ 1
     → s ≡ get_or xs 0 s → t ≡ get_or ys 0 t → meets_of R xs ys ≡ option_to_list (meet R s t)
-meets_of-lone R (x ∷ []) (y ∷ []) s t e f g h = grind arith
-meets_of-lone R (x ∷ []) [] s t e f g h = grind arith
-meets_of-lone R (x ∷ []) (y ∷ z ∷ zs) s t e f g h = grind arith
-meets_of-lone R [] ys s t e f g h = grind arith
-meets_of-lone R (x ∷ z ∷ zs) ys s t e f g h = grind arith
+meets_of-lone R xs ys s t e f g h = rw (lone xs s e g, lone ys t f h) (append-nil _ ∙ append-nil _)
 
 pub listed_some : {A : Type 0} (m : Option A) → IsTrue (is_some m) → 0 < length (option_to_list m)
-listed_some m e = grind arith
+listed_some m e = part_some m m refl e
 
 pub listed_none : {A : Type 0} (m : Option A) (is : Bool) → is ≡ is_some m → is ≡ false → option_to_list m ≡ []
 listed_none m is e f = grind arith
 
-option_accepts-held : (r : Option (List (Span VersionValue))) (v : VersionValue)
-    → option_accepts r v true ≡ option_list_holds precedence r v
+option_accepts-held : (r : Option (List (Span VersionValue))) (v : VersionValue) → option_accepts r v true ≡ option_list_holds precedence r v
 option_accepts-held None v = refl
 option_accepts-held (Some ss) v = accepts-held ss v
 
@@ -94,31 +86,25 @@ of_result list r e P h = IfOk-weaker r _ P (λ q k. subst P (sym k) h) e
 
 pub intersection-set : (a b : List (Span VersionValue)) (v : VersionValue)
     → option_list_holds precedence (intersection a b) v ≡ (list_holds precedence a v && list_holds precedence b v)
-intersection-set a b v =
-    option_list_holds-if_any precedence (meets_of precedence a b) v ∙ list_holds-meets_of precedence_total a b v
+intersection-set a b v = option_list_holds-if_any precedence (meets_of precedence a b) v ∙ list_holds-meets_of precedence_total a b v
 
 pub difference-set : (a b : List (Span VersionValue)) (v : VersionValue)
     → option_list_holds precedence (difference a b) v ≡ (list_holds precedence a v && not (list_holds precedence b v))
 difference-set a b v = option_list_holds-if_any precedence (minus precedence a b) v ∙ list_holds-minus precedence_total a b v
 
-pub intersection-all : (a b : List (Span VersionValue)) (v : VersionValue)
-    → option_accepts (intersection a b) v true ≡ (accepts a v true && accepts b v true)
-intersection-all a b v =
-    rw (option_accepts-held (intersection a b) v, accepts-held a v, accepts-held b v) (intersection-set a b v)
+pub intersection-all : (a b : List (Span VersionValue)) (v : VersionValue) → option_accepts (intersection a b) v true ≡ (accepts a v true && accepts b v true)
+intersection-all a b v = rw (option_accepts-held (intersection a b) v, accepts-held a v, accepts-held b v) (intersection-set a b v)
 
-pub difference-all : (a b : List (Span VersionValue)) (v : VersionValue)
-    → option_accepts (difference a b) v true ≡ (accepts a v true && not (accepts b v true))
+pub difference-all : (a b : List (Span VersionValue)) (v : VersionValue) → option_accepts (difference a b) v true ≡ (accepts a v true && not (accepts b v true))
 difference-all a b v = rw (option_accepts-held (difference a b) v, accepts-held a v, accepts-held b v) (difference-set a b v)
 
 pub intersection-releases : (a b : List (Span VersionValue)) (v : VersionValue) → is_release v ≡ true
     → option_accepts (intersection a b) v false ≡ (accepts a v false && accepts b v false)
-intersection-releases a b v h =
-    rw (option_accepts-release (intersection a b) v h, accepts-release a v h, accepts-release b v h) (intersection-set a b v)
+intersection-releases a b v h = rw (option_accepts-release (intersection a b) v h, accepts-release a v h, accepts-release b v h) (intersection-set a b v)
 
 pub difference-releases : (a b : List (Span VersionValue)) (v : VersionValue) → is_release v ≡ true
     → option_accepts (difference a b) v false ≡ (accepts a v false && not (accepts b v false))
-difference-releases a b v h =
-    rw (option_accepts-release (difference a b) v h, accepts-release a v h, accepts-release b v h) (difference-set a b v)
+difference-releases a b v h = rw (option_accepts-release (difference a b) v h, accepts-release a v h, accepts-release b v h) (difference-set a b v)
 
 -- lists of one or more elements
 any_some : {A : Type 0} (xs : List A) → 0 < length xs → IsTrue (is_some (if_any xs))
@@ -128,8 +114,7 @@ several : {A : Type 0} (xs : List A) → 0 < length xs → length xs ≢ 1 → 1
 several xs h n = grind arith
 
 -- the spans of a range are intervals
-pub all_intervals : (n : ℕ) (ss : List (Span VersionValue)) → list_all (is_range_span n) ss ≡ true
-    → list_all (is_interval precedence) ss ≡ true
+pub all_intervals : (n : ℕ) (ss : List (Span VersionValue)) → list_all (is_range_span n) ss ≡ true → list_all (is_interval precedence) ss ≡ true
 all_intervals n = all_weaker (is_range_span n) (is_interval precedence) (λ s h. first_so _ _ h)
 
 -- the lists of two ranges make intervals of a range, whatever holds their versions
@@ -151,15 +136,11 @@ module _ {V : Type 0} (R : V → V → Ordering) (value : V → VersionValue)
 
   -- where the lists have an intersection or a difference, the ranges do
   pub meets_of-some : 0 < length (meets_of R xs ys) → IsTrue (is_some (intersection a b))
-  meets_of-some e =
-      any_some _ (subst (λ (l : List (Span VersionValue)). 0 < length l) meets_of-is (rw (length-map (meets_of R xs ys)) e))
+  meets_of-some e = any_some _ (subst (λ (l : List (Span VersionValue)). 0 < length l) meets_of-is (rw (length-map (meets_of R xs ys)) e))
 
   pub minus-some : (0 < length (minus R xs ys)) ⊎ (length ys ≢ 1) → IsTrue (is_some (difference a b)) ⊎ (1 < length b)
-  minus-some (inl e) =
-      inl (any_some _ (subst (λ (l : List (Span VersionValue)). 0 < length l) minus-is (rw (length-map (minus R xs ys)) e)))
+  minus-some (inl e) = inl (any_some _ (subst (λ (l : List (Span VersionValue)). 0 < length l) minus-is (rw (length-map (minus R xs ys)) e)))
   minus-some (inr n) = inr (several b k.some (λ e. n (sym (length-map ys (span_of value)) ∙ ap length q ∙ e)))
 
   pub intervals-ordered : list_all (is_interval R) xs ≡ true
-  intervals-ordered =
-      sym (all_intervals-values R value ordered xs) ∙ ap (list_all (is_interval precedence)) p
-      ∙ all_intervals (MAX_SAFE_INTEGER + 1) a h.each
+  intervals-ordered = sym (all_intervals-values R value ordered xs) ∙ ap (list_all (is_interval precedence)) p ∙ all_intervals (MAX_SAFE_INTEGER + 1) a h.each

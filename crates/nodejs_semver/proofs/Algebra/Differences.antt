@@ -5,7 +5,7 @@ use Rattle.nodejs_semver.proofs.Common.{below_lesser, below_upto, between, betwe
 use Rattle.nodejs_semver.proofs.Common.{false, flat_flat, flat_map, flat_map-append, flat_same, fold-append, get_or, get_or-drop}
 use Rattle.nodejs_semver.proofs.Common.{greater_below, greater_lower, gt_lt, if◌then◌else◌, inl, inr, irreflexive, is_interval, is_lt}
 use Rattle.nodejs_semver.proofs.Common.{is_some, is_some-interval, left_above, left_below, length, length-drop, lesser_upper, list_all, lower_cut, lt, lt_trans}
-use Rattle.nodejs_semver.proofs.Common.{minus, not, not-false, not_above, not_below, not_if, one_way, option_to_list, refl, remainder}
+use Rattle.nodejs_semver.proofs.Common.{minus, not, not-false, not-true, not_above, not_below, not_if, one_way, option_to_list, refl, remainder}
 use Rattle.nodejs_semver.proofs.Common.{remainders_by, subst, suc, sym, take, take_all, true, turned_lower, turned_upper, upper_cut}
 use Rattle.nodejs_semver.proofs.Common.{upto_below, zero, ℕ, ◌&&◌, ◌++◌, ◌+◌, ◌<◌, ◌∙◌, ◌∷◌, ◌≡◌, ◌≤◌}
 use Rattle.std.specs.List.Sorted.{IsPartitionedBy, IsPartitionPoint}
@@ -25,8 +25,7 @@ nested i j x = grind arith
 single : {A : Type 0} (i : Bool) (x : A) → (if i then x ∷ [] else []) ≡ pick i x ++ []
 single i x = grind arith
 
-in_two : {A : Type 0} (i : Bool) (l m n : List A) → (i ≡ true → l ≡ m ++ n)
-    → (if i then l else []) ≡ (if i then m else []) ++ (if i then n else [])
+in_two : {A : Type 0} (i : Bool) (l m n : List A) → (i ≡ true → l ≡ m ++ n) → (if i then l else []) ≡ (if i then m else []) ++ (if i then n else [])
 in_two i l m n h = grind arith
 
 all_five : (a b c d e : Bool) → (((a && b) && (c && d)) && e) ≡ ((a && (b && true)) && (c && (d && e)))
@@ -62,38 +61,43 @@ module _ {V : Type 0} {R : V → V → Ordering} (o : IsTotalOrder R) where
 
   left_lower : (s t : Span V) → lt o (lower_cut s.lower) (lower_cut t.lower) ≡ true
       → lesser_upper R s.upper t.lower ≡ (if lt o (lower_cut t.lower) (upper_cut s.upper) then t.lower else s.upper)
-  left_lower s t h = grind (arith, gt_lt, turned_lower)
+  left_lower s t h = ap (λ i. if i then t.lower else s.upper)
+      (gt_lt o (upper_cut s.upper) (upper_cut t.lower) ∙ ap (λ c. lt o c (upper_cut s.upper)) (turned_lower o t.lower _ h))
 
   left_upper : (s t : Span V) → lt o (upper_cut t.upper) (upper_cut s.upper) ≡ true
       → greater_lower R t.upper s.lower ≡ (if lt o (lower_cut s.lower) (upper_cut t.upper) then t.upper else s.lower)
-  left_upper s t h = grind (arith, gt_lt, turned_upper)
+  left_upper s t h = ap (λ i. if i then t.upper else s.lower)
+      (gt_lt o (lower_cut t.upper) (lower_cut s.lower) ∙ ap (λ c. lt o (lower_cut s.lower) c) (turned_upper o t.upper _ h))
 
-  below_met : (s t : Span V) → lt o (lower_cut t.lower) (upper_cut s.upper) ≡ true
-      → option_to_list (left_below R s t) ≡ below s t.lower
-  below_met s t h = grind (arith, left_lower)
+  below_met : (s t : Span V) → lt o (lower_cut t.lower) (upper_cut s.upper) ≡ true → option_to_list (left_below R s t) ≡ below s t.lower
+  below_met s t h = elim (cases_Bool (lt o (lower_cut s.lower) (lower_cut t.lower))) [ inl i ↦ rw (i, left_lower s t i, h) refl | inr f ↦ rw f refl ]
 
-  above_met : (s t : Span V) → lt o (lower_cut s.lower) (upper_cut t.upper) ≡ true
-      → option_to_list (left_above R s t) ≡ above s t.upper
-  above_met s t h = grind (arith, left_upper)
+  above_met : (s t : Span V) → lt o (lower_cut s.lower) (upper_cut t.upper) ≡ true → option_to_list (left_above R s t) ≡ above s t.upper
+  above_met s t h = elim (cases_Bool (lt o (upper_cut t.upper) (upper_cut s.upper))) [ inl i ↦ rw (i, left_upper s t i, h) refl | inr f ↦ rw f refl ]
 
-  remainder_is : (s t : Span V) → is_interval R s ≡ true → is_interval R t ≡ true
-      → remainder R s t ≡ below s t.lower ++ above s t.upper
-  remainder_is s t h k =
-      remainders_by o s t (λ r. (option_to_list r.0 ++ option_to_list r.1) ≡ below s t.lower ++ above s t.upper)
+  remainder_is : (s t : Span V) → is_interval R s ≡ true → is_interval R t ≡ true → remainder R s t ≡ below s t.lower ++ above s t.upper
+  remainder_is s t h k = remainders_by o s t (λ r. (option_to_list r.0 ++ option_to_list r.1) ≡ below s t.lower ++ above s t.upper)
       (λ e. let m = between_parts o s.lower t.lower s.upper t.upper e in
       ap₂ (λ l k. l ++ k) (below_met s t m.1.0) (above_met s t m.0.1))
-      (λ e. grind (arith, below_upto, not_below, left_lower, not_above, upto_below, left_upper, between_from))
+      (λ e. elim (cases_Bool (lt o (lower_cut t.lower) (upper_cut s.upper))) [
+        | inr f ↦
+            let i = below_upto o (lower_cut s.lower) (upper_cut s.upper) (lower_cut t.lower) h f in
+            rw (i, not_below o (lower_cut t.lower) (upper_cut t.upper) (upper_cut s.upper) k f, left_lower s t i, f) refl
+        | inl f ↦
+            let n = not_if (lt o (lower_cut s.lower) (upper_cut t.upper)) _ (λ m. between_from o s.lower t.lower s.upper t.upper h m f k) e in
+            let j = upto_below o (upper_cut t.upper) (lower_cut s.lower) (upper_cut s.upper) n h in
+            rw (not_above o (lower_cut s.lower) (lower_cut t.lower) (upper_cut t.upper) k n, j, left_upper s t j, n) refl
+      ])
 
   -- what is clipped from a piece of c is a piece of what is clipped from c
-  clip_piece : (s c y z : Span V) (i j : Bool) → z ≡ clipped s y
-      → (is_interval R (clipped s c) && i) ≡ (j && is_interval R (clipped s y))
+  clip_piece : (s c y z : Span V) (i j : Bool) → z ≡ clipped s y → (is_interval R (clipped s c) && i) ≡ (j && is_interval R (clipped s y))
       → (if is_interval R (clipped s c) then pick i z else []) ≡ clips (pick j y) s
-  clip_piece s c y z i j e f = grind (arith, nested, flat_pick)
+  clip_piece s c y z i j e f = nested _ i z ∙ ap₂ (λ b x. pick b x) f e ∙ sym (nested j _ (clipped s y))
+      ∙ sym (flat_pick (λ c. option_to_list (clip R s c)) j y)
 
   clip_below : (s c : Span V) (b : Bound V) → (if is_interval R (clipped s c) then below (clipped s c) b else [])
       ≡ clips (below c b) s
-  clip_below s c b =
-      clip_piece s c _ _ _ _ (ap (λ (u : Bound V). record { lower = greater_lower R c.lower s.lower; upper = u })
+  clip_below s c b = clip_piece s c _ _ _ _ (ap (λ (u : Bound V). record { lower = greater_lower R c.lower s.lower; upper = u })
       (lesser_assoc o s.upper c.upper b)) (rw (
         between o c.lower s.lower s.upper c.upper,
         greater_below o c.lower s.lower (lower_cut b),
@@ -107,8 +111,7 @@ module _ {V : Type 0} {R : V → V → Ordering} (o : IsTotalOrder R) where
 
   clip_above : (s c : Span V) (b : Bound V) → (if is_interval R (clipped s c) then above (clipped s c) b else [])
       ≡ clips (above c b) s
-  clip_above s c b =
-      clip_piece s c _ _ _ _ (ap (λ (u : Bound V). record { lower = u; upper = lesser_upper R s.upper c.upper })
+  clip_above s c b = clip_piece s c _ _ _ _ (ap (λ (u : Bound V). record { lower = u; upper = lesser_upper R s.upper c.upper })
       (sym (greater_assoc o b c.lower s.lower))) (rw (
         between o c.lower s.lower s.upper c.upper,
         below_lesser o s.upper c.upper (upper_cut b),
@@ -125,34 +128,30 @@ module _ {V : Type 0} {R : V → V → Ordering} (o : IsTotalOrder R) where
   unmet s t h = remainders_by o s t (λ r. (option_to_list r.0 ++ option_to_list r.1) ≡ s ∷ []) (λ e. cc) (λ _. refl)
 
   clip_remainder : (s c t : Span V) → flat_map (λ m. remainder R m t) (option_to_list (clip R s c)) ≡ clips (remainder R c t) s
-  clip_remainder s c t = flat_pick (λ m. remainder R m t) (is_interval R (clipped s c)) (clipped s c)
-      ∙ elim (cases_Bool (is_interval R c && is_interval R t)) [
-        | inl h ↦
-            let (i, j) = and_parts (is_interval R c) (is_interval R t) h in
-            in_two _ _ _ _ (λ k. remainder_is (clipped s c) t k j)
-            ∙ ap₂ (λ l k. l ++ k) (clip_below s c t.lower) (clip_above s c t.upper)
-            ∙ sym (ap (λ l. clips l s) (remainder_is c t i j)
-            ∙ flat_map-append (λ d. option_to_list (clip R s d)) (below c t.lower) (above c t.upper))
-        | inr h ↦
-            let apart = not_if (is_interval R (both c t)) _ (λ e. let m = between_parts o c.lower t.lower c.upper t.upper e in
-            and_from _ _ m.0.0 m.1.1) h in
-            let unclipped = not_if (is_interval R (both (clipped s c) t)) _ (λ e.
-            let m = between_parts o (clipped s c).lower t.lower (clipped s c).upper t.upper e in
-            and_from _ _ (in_clip s c m.0.0).0.1 m.1.1) h in
-            rw (unmet (clipped s c) t unclipped, unmet c t apart) (single (is_interval R (clipped s c)) (clipped s c))
-      ]
+  clip_remainder s c t = flat_pick (λ m. remainder R m t) (is_interval R (clipped s c)) (clipped s c) ∙ elim (cases_Bool (is_interval R c && is_interval R t)) [
+    | inl h ↦
+        let (i, j) = and_parts (is_interval R c) (is_interval R t) h in
+        in_two _ _ _ _ (λ k. remainder_is (clipped s c) t k j)
+        ∙ ap₂ (λ l k. l ++ k) (clip_below s c t.lower) (clip_above s c t.upper)
+        ∙ sym (ap (λ l. clips l s) (remainder_is c t i j)
+        ∙ flat_map-append (λ d. option_to_list (clip R s d)) (below c t.lower) (above c t.upper))
+    | inr h ↦
+        let apart = not_if (is_interval R (both c t)) _ (λ e. let m = between_parts o c.lower t.lower c.upper t.upper e in
+        and_from _ _ m.0.0 m.1.1) h in
+        let unclipped = not_if (is_interval R (both (clipped s c) t)) _ (λ e.
+        let m = between_parts o (clipped s c).lower t.lower (clipped s c).upper t.upper e in
+        and_from _ _ (in_clip s c m.0.0).0.1 m.1.1) h in
+        rw (unmet (clipped s c) t unclipped, unmet c t apart) (single (is_interval R (clipped s c)) (clipped s c))
+  ]
 
   -- and so for lists
-  clips_remainder : (s t : Span V) (cs : List (Span V))
-      → flat_map (λ m. remainder R m t) (clips cs s) ≡ clips (flat_map (λ c. remainder R c t) cs) s
-  clips_remainder s t cs =
-      flat_flat (λ m. remainder R m t) (λ c. option_to_list (clip R s c)) cs ∙ flat_same _ _ (λ c. clip_remainder s c t) cs
+  clips_remainder : (s t : Span V) (cs : List (Span V)) → flat_map (λ m. remainder R m t) (clips cs s) ≡ clips (flat_map (λ c. remainder R c t) cs) s
+  clips_remainder s t cs = flat_flat (λ m. remainder R m t) (λ c. option_to_list (clip R s c)) cs ∙ flat_same _ _ (λ c. clip_remainder s c t) cs
       ∙ sym (flat_flat (λ d. option_to_list (clip R s d)) (λ c. remainder R c t) cs)
 
   minus_clips : (cs ss ts : List (Span V)) → minus R (flat_map (clips cs) ss) ts ≡ flat_map (clips (minus R cs ts)) ss
   minus_clips cs ss [] = refl
-  minus_clips cs ss (t ∷ ts) =
-      ap (λ l. minus R l ts)
+  minus_clips cs ss (t ∷ ts) = ap (λ l. minus R l ts)
       (flat_flat (λ s. remainder R s t) (clips cs) ss ∙ flat_same _ (clips (flat_map (λ c. remainder R c t) cs))
       (λ s. clips_remainder s t cs) ss) ∙ minus_clips (flat_map (λ c. remainder R c t) cs) ss ts
 
@@ -162,7 +161,8 @@ module _ {V : Type 0} {R : V → V → Ordering} (o : IsTotalOrder R) where
 
   all_whole : (ss : List (Span V)) → list_all (is_interval R) ss ≡ true → flat_map (clips (whole ∷ [])) ss ≡ ss
   all_whole [] h = refl
-  all_whole (s ∷ ss) h = grind (arith, clips_whole, all_whole ss)
+  all_whole (s ∷ ss) h =
+      let (i, j) = and_parts (is_interval R s) (list_all (is_interval R) ss) h in ap₂ (λ l k. l ++ k) (clips_whole s i) (all_whole ss j)
 
   -- what is left of the line stands in order along it
   along_lower : (a b : Cut V) (cs : List (Span V)) → lt o b a ≡ false → IsAlong R b cs → IsAlong R a cs
@@ -172,7 +172,15 @@ module _ {V : Type 0} {R : V → V → Ordering} (o : IsTotalOrder R) where
   along_above : (b : Cut V) (c t : Span V) (cs : List (Span V)) → is_interval R c ≡ true → IsAlong R (upper_cut c.upper) cs
       → lt o (upper_cut c.upper) b ≡ false → (lt o (upper_cut t.upper) b && lt o (lower_cut c.lower) b) ≡ false
       → IsAlong R b (above c t.upper ++ cs)
-  along_above b c t cs h k p q = grind (arith, along_lower, turned_upper, greater_below)
+  along_above b c t cs h k p q = elim (cases_Bool (lt o (upper_cut t.upper) (upper_cut c.upper))) [
+    | inr i ↦ rw i (along_lower b (upper_cut c.upper) cs p k)
+    | inl i ↦
+        let turned = turned_upper o t.upper _ i in
+        rw i (
+          greater_below o t.upper c.lower b ∙ rw turned q,
+          (greater_below o t.upper c.lower (upper_cut c.upper) ∙ rw (turned, i, h) refl, k),
+        )
+  ]
 
   along_remainder : (a : Cut V) (c t : Span V) (cs : List (Span V)) → IsAlong R a (c ∷ cs) → IsAlong R a (remainder R c t ++ cs)
   along_remainder a c t cs h = elim (cases_Bool (is_interval R t)) [
@@ -201,10 +209,10 @@ module _ {V : Type 0} {R : V → V → Ordering} (o : IsTotalOrder R) where
         ]))
   ]
 
-  along_remainders : (a : Cut V) (cs : List (Span V)) (t : Span V) → IsAlong R a cs
-      → IsAlong R a (flat_map (λ c. remainder R c t) cs)
+  along_remainders : (a : Cut V) (cs : List (Span V)) (t : Span V) → IsAlong R a cs → IsAlong R a (flat_map (λ c. remainder R c t) cs)
   along_remainders a [] t h = tt
-  along_remainders a (c ∷ cs) t h = grind (arith, along_remainder, along_remainders (upper_cut c.upper) cs t h.1.1)
+  along_remainders a (c ∷ cs) t h = along_remainder a c t (flat_map (λ d. remainder R d t) cs)
+      (h.0, (h.1.0, along_remainders (upper_cut c.upper) cs t h.1.1))
 
   along_minus : (a : Cut V) (cs ts : List (Span V)) → IsAlong R a cs → IsAlong R a (minus R cs ts)
   along_minus a cs [] h = h
@@ -220,26 +228,24 @@ module _ {V : Type 0} {R : V → V → Ordering} (o : IsTotalOrder R) where
   -- what is cut from each span by what is left of the whole line
   pub minus-clips : (ss ts cs : List (Span V)) → list_all (is_interval R) ss ≡ true → cs ≡ minus R (whole ∷ []) ts
       → flat_map (λ s. flat_map (λ c. option_to_list (clip R s c)) cs) ss ≡ minus R ss ts
-  minus-clips ss ts cs h e =
-      ap (λ (l : List (Span V)). flat_map (clips l) ss) e ∙ sym (minus_clips (whole ∷ []) ss ts)
+  minus-clips ss ts cs h e = ap (λ (l : List (Span V)). flat_map (clips l) ss) e ∙ sym (minus_clips (whole ∷ []) ss ts)
       ∙ ap (λ l. minus R l ts) (all_whole ss h)
 
   -- what is left of the line by one list after another
   pub gaps-joined : (ts us cs ds es left : List (Span V)) → cs ≡ minus R (whole ∷ []) ts → ds ≡ minus R (whole ∷ []) us
       → left ≡ flat_map (λ s. flat_map (λ c. option_to_list (clip R s c)) ds) cs → es ≡ ts ++ us → left ≡ minus R (whole ∷ []) es
-  gaps-joined ts us cs ds es left e k f g =
-      f ∙ minus-clips cs us ds (along_all Start cs (along-gaps ts cs e)) k ∙ ap (λ l. minus R l us) e
+  gaps-joined ts us cs ds es left e k f g = f ∙ minus-clips cs us ds (along_all Start cs (along-gaps ts cs e)) k ∙ ap (λ l. minus R l us) e
       ∙ sym (fold-append (λ (left : List (Span V)) (t : Span V). flat_map (λ s. remainder R s t) left) (whole ∷ []) ts us)
       ∙ ap (λ l. minus R (whole ∷ []) l) (sym g)
 
   -- the ends rise along the line
-  ends_past : (a : Cut V) (cs : List (Span V)) (j : ℕ) (d : Span V) → IsAlong R a cs → j < length cs
-      → lt o (upper_cut (get_or cs j d).upper) a ≡ false
+  ends_past : (a : Cut V) (cs : List (Span V)) (j : ℕ) (d : Span V) → IsAlong R a cs → j < length cs → lt o (upper_cut (get_or cs j d).upper) a ≡ false
   ends_past a [] j d h k = absurd (omega arith)
   ends_past a (c ∷ cs) zero d h k = not_below o (lower_cut c.lower) (upper_cut c.upper) a h.1.0 h.0
   ends_past a (c ∷ cs) (suc j) d h k =
       let n = ends_past (upper_cut c.upper) cs j d h.1.1 (omega arith) in
-      grind (arith, n, lt_trans, upto_below)
+      not_if _ _ (λ m. lt_trans o (lower_cut c.lower) (upper_cut c.upper) a h.1.0
+      (upto_below o (upper_cut c.upper) (upper_cut (get_or cs j d).upper) a n m)) h.0
 
   ends_rise : (a : Cut V) (cs : List (Span V)) (i j : ℕ) (d : Span V) → IsAlong R a cs → i ≤ j → j < length cs
       → lt o (upper_cut (get_or cs j d).upper) (upper_cut (get_or cs i d).upper) ≡ false
@@ -267,20 +273,21 @@ module _ {V : Type 0} {R : V → V → Ordering} (o : IsTotalOrder R) where
   past_clip s c h = no_clip s c (not_if _ _ (λ e. (in_clip s c e).0.0) h)
 
   -- the pieces in front
-  skipped : (s : Span V) (cs : List (Span V)) (r : ℕ) → AllWithin (λ c. falls_short s c ≡ true) cs 0 r → r ≤ length cs
-      → clips cs s ≡ clips (drop r cs) s
+  skipped : (s : Span V) (cs : List (Span V)) (r : ℕ) → AllWithin (λ c. falls_short s c ≡ true) cs 0 r → r ≤ length cs → clips cs s ≡ clips (drop r cs) s
   skipped s cs zero h k = refl
   skipped s [] (suc r) h k = absurd (omega arith)
   skipped s (c ∷ cs) (suc r) h k =
       let more = skipped s cs r (λ i d p q. h (suc i) d (omega arith) (omega arith)) (omega arith) in
       let short = h 0 c (omega arith) (omega arith) in
-      grind (arith, short_clip, more, short)
+      ap (λ l. l ++ clips cs s) (short_clip s c (not-true _ short)) ∙ more
 
   -- the pieces behind
-  none_past : (s : Span V) (b : Cut V) (cs : List (Span V)) → IsAlong R b cs → lt o b (upper_cut s.upper) ≡ false
-      → clips cs s ≡ []
+  none_past : (s : Span V) (b : Cut V) (cs : List (Span V)) → IsAlong R b cs → lt o b (upper_cut s.upper) ≡ false → clips cs s ≡ []
   none_past s b [] h k = refl
-  none_past s b (c ∷ cs) h k = grind (arith, past_clip, upto_below, not_below, none_past s (upper_cut c.upper) cs h.1.1)
+  none_past s b (c ∷ cs) h k =
+      let f = not_if (lt o (lower_cut c.lower) (upper_cut s.upper)) _ (upto_below o b (lower_cut c.lower) (upper_cut s.upper) h.0) k in
+      ap (λ l. l ++ clips cs s) (past_clip s c f) ∙ none_past s (upper_cut c.upper) cs h.1.1
+      (not_below o (lower_cut c.lower) (upper_cut c.upper) (upper_cut s.upper) h.1.0 f)
 
   none_of : (s : Span V) (cs : List (Span V)) → lt o (lower_cut s.lower) (upper_cut s.upper) ≡ false → clips cs s ≡ []
   none_of s [] h = refl
@@ -294,12 +301,19 @@ module _ {V : Type 0} {R : V → V → Ordering} (o : IsTotalOrder R) where
       (stop_at s (upper_cut c.upper) es i d h.1.1 (omega arith) e n)
   stop_at s a (c ∷ es) zero d h k e n =
       let apart : is_interval R (clipped s c) ≡ false = sym (is_some-interval o (clipped s c)) ∙ n in
-      sym (ap (λ l. l ++ clips es s) (no_clip s c apart) ∙ grind (arith, none_of, between_from, none_past, not_below))
+      sym (ap (λ l. l ++ clips es s) (no_clip s c apart) ∙ elim (cases_Bool (lt o (lower_cut s.lower) (upper_cut s.upper))) [
+        | inr f ↦ none_of s es f
+        | inl m ↦
+            let f = not_if (lt o (lower_cut c.lower) (upper_cut s.upper)) _
+            (λ p. between_from o c.lower s.lower s.upper c.upper p h.1.0 m e) apart in
+            none_past s (upper_cut c.upper) es h.1.1 (not_below o (lower_cut c.lower) (upper_cut c.upper) (upper_cut s.upper) h.1.0 f)
+      ])
 
   along_drop : (a : Cut V) (cs : List (Span V)) (r : ℕ) → IsAlong R a cs → IsAlong R a (drop r cs)
   along_drop a cs zero h = h
   along_drop a [] (suc r) h = tt
-  along_drop a (c ∷ cs) (suc r) h = grind (arith, along_lower, not_below, along_drop (upper_cut c.upper) cs r h.1.1)
+  along_drop a (c ∷ cs) (suc r) h = along_lower a (upper_cut c.upper) (drop r cs)
+      (not_below o (lower_cut c.lower) (upper_cut c.upper) a h.1.0 h.0) (along_drop (upper_cut c.upper) cs r h.1.1)
 
   -- the pieces from the first that does not fall short of s up to one that is past it, or to the last
   module _ (s : Span V) (cs : List (Span V)) (r : ℕ) (b : r ≤ length cs)
@@ -315,7 +329,6 @@ module _ {V : Type 0} {R : V → V → Ordering} (o : IsTotalOrder R) where
         stop_at s Start (drop r cs) i d (along_drop Start cs r h) k
         (ap (λ (q : Span V). lt o (lower_cut s.lower) (upper_cut q.upper)) at ∙ not-false _ short) n ∙ sym (skipped s cs r p.0 b)
 
-    pub clips-to_none : (near : List (Span V)) (i : ℕ) (d : Span V) (part : Option (Span V)) → near ≡ drop r cs
-        → IsAlong R Start cs → i < length near
+    pub clips-to_none : (near : List (Span V)) (i : ℕ) (d : Span V) (part : Option (Span V)) → near ≡ drop r cs → IsAlong R Start cs → i < length near
         → d ≡ get_or near i d → part ≡ clip R s d → is_some part ≡ false → clips (take i near) s ≡ clips cs s
     clips-to_none near i d part e h k at is n = grind (arith, to_none)

@@ -24,8 +24,7 @@ abbrev pub triple_cmp : VersionValue → VersionValue → Ordering
 triple_cmp = then_cmp (on (λ v. v.major) nat_cmp) (then_cmp (on (λ v. v.minor) nat_cmp) (on (λ v. v.patch) nat_cmp))
 
 pub triple_total : IsTotalOrder triple_cmp
-triple_total =
-    then_total (on_total (λ (v : VersionValue). v.major) nat_cmp_total)
+triple_total = then_total (on_total (λ (v : VersionValue). v.major) nat_cmp_total)
     (then_total (on_total (λ (v : VersionValue). v.minor) nat_cmp_total) (on_total (λ (v : VersionValue). v.patch) nat_cmp_total))
 
 -- answers in two steps
@@ -49,17 +48,14 @@ triple_upto v w h = then_not_gt (triple_cmp v w) (pre_cmp v.pre_release w.pre_re
 pub pre_decides : (v w : VersionValue) → triple_cmp v w ≡ Equal → precedence v w ≡ pre_cmp v.pre_release w.pre_release
 pre_decides v w e = in_two_steps v w ∙ ap (λ r. ordering_then r (pre_cmp v.pre_release w.pre_release)) e
 
-pub upto_by_both : (v w : VersionValue) → is_gt (triple_cmp v w) ≡ false → is_gt (pre_cmp v.pre_release w.pre_release) ≡ false
-    → is_gt (precedence v w) ≡ false
+pub upto_by_both : (v w : VersionValue) → is_gt (triple_cmp v w) ≡ false → is_gt (pre_cmp v.pre_release w.pre_release) ≡ false → is_gt (precedence v w) ≡ false
 upto_by_both v w h k = ap is_gt (in_two_steps v w) ∙ not_gt_then (triple_cmp v w) (pre_cmp v.pre_release w.pre_release) h k
 
 -- a version between two of one triple is of that triple, and a pre-release if the second is
-pub triple_between : (w u v : VersionValue) → triple_cmp w v ≡ Equal → is_gt (precedence w u) ≡ false
-    → is_gt (precedence u v) ≡ false → triple_cmp u v ≡ Equal
+pub triple_between : (w u v : VersionValue) → triple_cmp w v ≡ Equal → is_gt (precedence w u) ≡ false → is_gt (precedence u v) ≡ false → triple_cmp u v ≡ Equal
 triple_between w u v e h k = grind (arith, nat_tests, common_steps, triple_upto)
 
-pub pre_upto : (u v : VersionValue) → is_release v ≡ false → triple_cmp u v ≡ Equal → is_gt (precedence u v) ≡ false
-    → is_release u ≡ false
+pub pre_upto : (u v : VersionValue) → is_release v ≡ false → triple_cmp u v ≡ Equal → is_gt (precedence u v) ≡ false → is_release u ≡ false
 pre_upto u v k e h = grind (arith, pre_decides)
 
 -- w is a pre-release of v's triple
@@ -108,22 +104,19 @@ lower_named : (c d : Cut VersionValue) (v : VersionValue) → is_release v ≡ f
 lower_named c d v k n m h = grind (arith, past_order, named_between)
 
 -- or not below one past which v does not lie
-upper_named : (c d : Cut VersionValue) (v : VersionValue) → cut_names c v ≡ true → below c d ≡ false
-    → is_past precedence d v ≡ false → cut_names d v ≡ true
+upper_named : (c d : Cut VersionValue) (v : VersionValue) → cut_names c v ≡ true → below c d ≡ false → is_past precedence d v ≡ false → cut_names d v ≡ true
 upper_named c d v n m h = grind (arith, named_between, tied_back, triple_total, not_past_order, alike_right)
 
 -- one of two bounds names v, and v lies between both: the one that is picked names it
 greater_names : (b c : Bound VersionValue) (v : VersionValue) → is_release v ≡ false → is_past precedence (lower_cut b) v ≡ true
     → is_past precedence (lower_cut c) v ≡ true → (names b v || names c v) ≡ true → names (greater_lower precedence b c) v ≡ true
-greater_names b c v k p q n =
-    cond_both (is_gt (cut_cmp precedence (lower_cut b) (lower_cut c))) b c (λ d. names d v ≡ true)
+greater_names b c v k p q n = cond_both (is_gt (cut_cmp precedence (lower_cut b) (lower_cut c))) b c (λ d. names d v ≡ true)
     (λ h. grind (arith, at_lower, lower_named (lower_cut c) (lower_cut b) v k, one_way precedence_total, gt_lt precedence_total))
     (λ h. grind (arith, at_lower, lower_named (lower_cut b) (lower_cut c) v k, gt_lt precedence_total))
 
 lesser_names : (b c : Bound VersionValue) (v : VersionValue) → is_past precedence (upper_cut b) v ≡ false
     → is_past precedence (upper_cut c) v ≡ false → (names b v || names c v) ≡ true → names (lesser_upper precedence b c) v ≡ true
-lesser_names b c v p q n =
-    cond_both (is_gt (cut_cmp precedence (upper_cut b) (upper_cut c))) c b (λ d. names d v ≡ true)
+lesser_names b c v p q n = cond_both (is_gt (cut_cmp precedence (upper_cut b) (upper_cut c))) c b (λ d. names d v ≡ true)
     (λ h. grind (arith, at_upper, upper_named (upper_cut b) (upper_cut c) v, one_way precedence_total, gt_lt precedence_total))
     (λ h. grind (arith, at_upper, upper_named (upper_cut c) (upper_cut b) v, gt_lt precedence_total))
 
@@ -142,8 +135,7 @@ lets_in-meet s t v h k n = elim (cases_Bool (is_release v)) [
       (lesser_names s.upper t.upper v (not-true _ (second_so _ _ h)) (not-true _ (second_so _ _ k))) (rw r at n))
 ]
   where
-    picked : (a b c d l u : Bool) → ((a || c) ≡ true → l ≡ true) → ((b || d) ≡ true → u ≡ true) → ((a || b) || (c || d)) ≡ true
-        → (l || u) ≡ true
+    picked : (a b c d l u : Bool) → ((a || c) ≡ true → l ≡ true) → ((b || d) ≡ true → u ≡ true) → ((a || b) || (c || d)) ≡ true → (l || u) ≡ true
     picked a b c d l u f g h = grind arith
 
 -- an upper bound that names v is above the lower bound of what is taken away, past which v does not lie: that one names v too

@@ -116,8 +116,7 @@ Tested limit p q t = (is_interval precedence t ≡ true) × (Fine limit p → Fi
 
 upper-good : (limit : ℕ) (p q : Partial) (b : Bound VersionValue) (t : Span VersionValue) → (Fine limit q → is_range_bound (limit + 1) b ≡ true)
     → interval precedence (record { lower = Before (version_of p); upper = b }) ≡ Some t → Tested limit p q t
-upper-good limit p q b t h e =
-    tested (record { lower = Before (version_of p); upper = b }) t (Tested limit p q) e
+upper-good limit p q b t h e = tested (record { lower = Before (version_of p); upper = b }) t (Tested limit p q) e
     (λ i. (i, λ f g. and_from _ _ (version-is limit p f) (h g)))
 
 hyphen-good : (limit : ℕ) (p : Partial) (a b c : Option ℕ) (x y : List Id) (t : Span VersionValue)

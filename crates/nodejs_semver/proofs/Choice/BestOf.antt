@@ -16,8 +16,7 @@ module _ {V : Type 0} (in_front behind : V → V → Bool) (ranks : Ranks in_fro
   one_more : (best : Option V) (x : V) (new : Bool) → new ≡ replaces in_front set best x → IsBest in_front behind set list best
       → IsBest in_front behind set (list ++ x ∷ []) (if new then Some x else best)
   one_more None x new is h = grind (arith, nat_tests, common_steps, cases_Bool, all_weaker, list_all-append, and_from)
-  one_more (Some b) x new is h =
-      grind (arith, nat_tests, list_all-append, append_assoc h.1 (b ∷ h.2) (x ∷ []), cases_Bool, all_weaker, and_from)
+  one_more (Some b) x new is h = grind (arith, nat_tests, list_all-append, append_assoc h.1 (b ∷ h.2) (x ∷ []), cases_Bool, all_weaker, and_from)
 
 pub max_more : (set : VersionValue → Bool) (list : List VersionValue) (best : Option VersionValue) (x : VersionValue) (new : Bool)
     → new ≡ replaces (λ b x. is_le (precedence b x)) set best x

@@ -5,11 +5,11 @@ use Rattle.nodejs_semver.proofs.Common.{MAX_SAFE_INTEGER, None, Option, Raisable
 use Rattle.nodejs_semver.proofs.Common.{and-true, and_parts, ap, arith, below_named, beside, better, beyond, bound_of, candidates}
 use Rattle.nodejs_semver.proofs.Common.{common_steps, cond_both, false, false≢true, find, find-append, first_so, firsts, flat_map}
 use Rattle.nodejs_semver.proofs.Common.{flat_map-append, fold, fold-append, get_or, get_or-map, holds, inl, inr, is_le, is_lt}
-use Rattle.nodejs_semver.proofs.Common.{is_range_span, least_build, length, length-map, lets_in, list_any, list_any-append, list_marks, map}
+use Rattle.nodejs_semver.proofs.Common.{is_range_span, least_build, length, length-map, lets_in, list_any, list_any-append, list_marks, map, map-append}
 use Rattle.nodejs_semver.proofs.Common.{not, not_if, option_map, or-false, or_cases, precedence, precedence_total, refl, removed_marks}
 use Rattle.nodejs_semver.proofs.Common.{span_of, spans_of, subst, sym, take, take_next, tells, tied_itself, true, ℕ, ◌&&◌, ◌++◌, ◌+◌, ◌-◌}
 use Rattle.nodejs_semver.proofs.Common.{◌<◌, ◌^◌, ◌||◌, ◌∙◌, ◌∷◌, ◌≡◌, ◌⊎◌}
-use Rattle.nodejs_semver.specs.Internal.Candidates.{zero, StartsWith, IsLeastBuilt, lesser, EndsAfterPre, MayAllocate}
+use Rattle.nodejs_semver.specs.Internal.Candidates.{zero, first_past, StartsWith, IsLeastBuilt, lesser, EndsAfterPre, MayAllocate}
 use Rattle.nodejs_semver.proofs.{Values.{map-further}, Algebra.Gate.{le_trans, lt_is, lt_le, le_of_lt, past_order}}
 use Rattle.std.specs.Option.{option_or}
 
@@ -31,8 +31,7 @@ module _ {V : Type 0} (value : V → VersionValue) (xs : List (Span V)) (i : ℕ
   long_at = omega (arith, within, length-map xs (span_of value))
 
   pub raisable_at : All IsRaisable (spans_of value xs) → IsRaisable (span_of value x)
-  raisable_at h =
-      subst IsRaisable (same_at (span_of value x)) (All-get_or IsRaisable (spans_of value xs) i (span_of value x) long_at h)
+  raisable_at h = subst IsRaisable (same_at (span_of value x)) (All-get_or IsRaisable (spans_of value xs) i (span_of value x) long_at h)
 
   pub any_at : (P : Span VersionValue → Type 0) → P (span_of value x) → Any P (spans_of value xs)
   any_at P h = (i, span_of value x, long_at, same_at (span_of value x), h)
@@ -88,8 +87,7 @@ pub range_further : (set : VersionValue → Bool) (kss : List (List (Span Versio
     → old ≡ fold (better set) start (flat_map firsts (flat_map list_marks (take i kss)))
     → new ≡ fold (better set) old (flat_map firsts (list_marks ks))
     → new ≡ fold (better set) start (flat_map firsts (flat_map list_marks (take (i + 1) kss)))
-range_further set kss i ks within at start old new e k =
-    grind (arith, common_steps, e, k, take_next kss i ks within at, fold-append, flat_map-append)
+range_further set kss i ks within at start old new e k = grind (arith, common_steps, e, k, take_next kss i ks within at, fold-append, flat_map-append)
 
 module _ {V : Type 0} (value : V → VersionValue) (set : VersionValue → Bool) (xs : List (Span V)) (i : ℕ) (x : Span V)
     (within : i < length xs) (at : x ≡ get_or xs i x) (start old new : Option VersionValue) where
@@ -98,18 +96,24 @@ module _ {V : Type 0} (value : V → VersionValue) (set : VersionValue → Bool)
       → new ≡ fold (better set) start (flat_map firsts (flat_map removed_marks (spans_of value (take (i + 1) xs))))
   removed_further e k = grind (arith, nat_tests, common_steps, map-further, fold-append, flat_map-append)
 
-  pub kept_further : (between : Option VersionValue)
-      → old ≡ fold (better set) start (flat_map firsts (list_marks (spans_of value (take i xs))))
+  pub kept_further : (between : Option VersionValue) → old ≡ fold (better set) start (flat_map firsts (list_marks (spans_of value (take i xs))))
       → between ≡ fold (better set) old (flat_map firsts (beside (bound_of value x.lower)))
       → new ≡ fold (better set) between (flat_map firsts (below_named (bound_of value x.upper)))
       → new ≡ fold (better set) start (flat_map firsts (list_marks (spans_of value (take (i + 1) xs))))
   kept_further between e k m = grind (arith, nat_tests, common_steps, map-further, fold-append, flat_map-append)
 
+  pub held_further : old ≡ fold (better set) start (map (λ s. first_past s.lower) (spans_of value (take i xs)))
+      → new ≡ better set old (first_past (bound_of value x.lower))
+      → new ≡ fold (better set) start (map (λ s. first_past s.lower) (spans_of value (take (i + 1) xs)))
+  held_further e k = k ∙ ap (λ o. better set o (first_past (bound_of value x.lower))) e
+      ∙ sym (ap (λ l. fold (better set) start (map (λ s. first_past s.lower) l)) (map-further (span_of value) xs i x within at)
+      ∙ ap (fold (better set) start) (map-append (λ s. first_past s.lower) (spans_of value (take i xs)) (span_of value x ∷ []))
+      ∙ fold-append (better set) start (map (λ s. first_past s.lower) (spans_of value (take i xs))) (first_past (bound_of value x.lower) ∷ []))
+
 -- ---- the least version of spans each of which begins with a version that it accepts
 
 -- what the span accepts is not below its start
-above_start : (s : Span VersionValue) (w x : VersionValue) → StartsWith s w → holds precedence s x ≡ true
-    → is_le (precedence w x) ≡ true
+above_start : (s : Span VersionValue) (w x : VersionValue) → StartsWith s w → holds precedence s x ≡ true → is_le (precedence w x) ≡ true
 above_start s w x start h = grind (arith, nat_tests, past_order, tells (precedence w x))
 
 -- what one more span accepts
@@ -155,8 +159,7 @@ kept ss s v w h start le = ((one_more ss s v ∙ grind (arith, h.0.0), least), b
 step : (ss : List (Span VersionValue)) (best : Option VersionValue) (s : Span VersionValue) (w : VersionValue)
     → IsLeastSoFar ss best → StartsWith s w → IsLeastBuilt (ss ++ s ∷ []) (lesser best w)
 step ss None s w e start = fresh ss s w start (λ x h. absurd (false≢true (rw e at h)))
-step ss (Some b) s w h start =
-    cond_both (is_le (precedence b w)) b w (IsLeastBuilt (ss ++ s ∷ [])) (kept ss s b w h start)
+step ss (Some b) s w h start = cond_both (is_le (precedence b w)) b w (IsLeastBuilt (ss ++ s ∷ [])) (kept ss s b w h start)
     (λ e. fresh ss s w start (λ x k. lt_le precedence_total w b x (lt_is precedence_total w b ∙ ap not e) (h.0.1 x k)))
 
 -- one more span, at its place
@@ -183,8 +186,7 @@ pub one_allocates : (ks ls : List (Span VersionValue)) → MayAllocate (ks ∷ [
 one_allocates ks ls h = grind (arith, nat_tests, common_steps, and-true, Any-one)
 
 -- beyond nothing
-pub alone_allocates : (ks : List (Span VersionValue)) → MayAllocate (ks ∷ []) []
-    → ((v : VersionValue) × (accepts ks v false ≡ true)) ⊎ BeginsAfterPre ks
+pub alone_allocates : (ks : List (Span VersionValue)) → MayAllocate (ks ∷ []) [] → ((v : VersionValue) × (accepts ks v false ≡ true)) ⊎ BeginsAfterPre ks
 alone_allocates ks h = grind (arith, nat_tests, common_steps, one_allocates, and-true, Any-none)
 
 pub all_allocate : (lists : List (List (Span VersionValue))) → MayAllocate lists []

@@ -34,8 +34,7 @@ next_pre w k = grind arith
 pub next_pre_above : (w : VersionValue) → is_release w ≡ false → precedence w (pre_after w) ≡ Less
 next_pre_above w k = grind (arith, above_pre, below_more)
 
-pub next_pre_least : (w v : VersionValue) → is_release w ≡ false → precedence w v ≡ Less
-    → is_gt (precedence (pre_after w) v) ≡ false
+pub next_pre_least : (w v : VersionValue) → is_release w ≡ false → precedence w v ≡ Less → is_gt (precedence (pre_after w) v) ≡ false
 next_pre_least w v k h = le_not_gt _ (least_after_pre_release w v (grind arith) h)
 
 pub release_above : (w : VersionValue) → is_release w ≡ false → precedence w (bare_release w) ≡ Less
@@ -45,8 +44,7 @@ pub next_patch_above : (w : VersionValue) → precedence w (patch_after w) ≡ L
 next_patch_above w = above_patch w (patch_after w) refl refl (omega arith)
 
 -- the next patch of a release is not above a release that is above it
-pub next_patch_least : (w v : VersionValue) → w.pre_release ≡ [] → v.pre_release ≡ [] → precedence w v ≡ Less
-    → is_gt (precedence (patch_after w) v) ≡ false
+pub next_patch_least : (w v : VersionValue) → w.pre_release ≡ [] → v.pre_release ≡ [] → precedence w v ≡ Less → is_gt (precedence (patch_after w) v) ≡ false
 next_patch_least w v e f h = grind (arith, nat_tests, below_cases w v h, le_not_gt)
 
 -- 0.0.0 is the least release
@@ -63,16 +61,13 @@ under_past : (v : VersionValue) (g d : Cut VersionValue) → under v g d ≡ tru
 under_past v g d h p = not-true _ (rw p at h)
 
 -- some mark has what every mark has that v lies past and that no such mark is above
-greatest : (v : VersionValue) (P : Cut VersionValue → Bool) (c : Cut VersionValue) (ds : List (Cut VersionValue))
-    → is_past precedence c v ≡ true
+greatest : (v : VersionValue) (P : Cut VersionValue → Bool) (c : Cut VersionValue) (ds : List (Cut VersionValue)) → is_past precedence c v ≡ true
     → ((g : Cut VersionValue) → is_past precedence g v ≡ true → list_all (under v g) (c ∷ ds) ≡ true → P g ≡ true)
     → list_any P (c ∷ ds) ≡ true
 greatest v P c [] h f = or_left (P c) false (f c h (rw (irreflexive precedence_total c, h) refl))
-greatest v P c (d ∷ ds) h f =
-    by_test (is_past precedence d v) (below c d) refl refl (λ p. greatest v P d ds p) (greatest v P c ds h)
+greatest v P c (d ∷ ds) h f = by_test (is_past precedence d v) (below c d) refl refl (λ p. greatest v P d ds p) (greatest v P c ds h)
   where
-    kept : (((g : Cut VersionValue) → is_past precedence g v ≡ true → list_all (under v g) (c ∷ ds) ≡ true → P g ≡ true)
-        → list_any P (c ∷ ds) ≡ true)
+    kept : (((g : Cut VersionValue) → is_past precedence g v ≡ true → list_all (under v g) (c ∷ ds) ≡ true → P g ≡ true) → list_any P (c ∷ ds) ≡ true)
         → ((g : Cut VersionValue) → under v g c ≡ true → under v g d ≡ true) → list_any P (c ∷ d ∷ ds) ≡ true
     kept rest more = grind (arith, and_parts, and_from)
 
@@ -81,8 +76,7 @@ greatest v P c (d ∷ ds) h f =
         → list_all (under v g) (d ∷ ds) ≡ true → P g ≡ true) → list_any P (d ∷ ds) ≡ true)
         → (((g : Cut VersionValue) → is_past precedence g v ≡ true → list_all (under v g) (c ∷ ds) ≡ true → P g ≡ true)
         → list_any P (c ∷ ds) ≡ true) → list_any P (c ∷ d ∷ ds) ≡ true
-    by_test true true p t from_d from_c =
-        grind (arith, or_right, and_from, below, not_above, precedence_total, under_past, first_so)
+    by_test true true p t from_d from_c = grind (arith, or_right, and_from, below, not_above, precedence_total, under_past, first_so)
     by_test true false p t from_d from_c = kept from_c (λ g e. or_right (not (is_past precedence d v)) (not (below g d))
         (ap not (chain precedence_total d c g t (under_past v g c e h))))
     by_test false t p e from_d from_c = kept from_c (λ g e. or_left (not (is_past precedence d v)) (not (below g d)) (ap not p))
@@ -118,8 +112,7 @@ past_less w x s e = ap (λ q. is_le (ordering_then q (bool_cmp s Near))) e
 pub far_less : (w v : VersionValue) → is_past precedence (Beside w Far) v ≡ true → precedence w v ≡ Less
 far_less w v h = grind arith
 
-near_begins : (w v : VersionValue) → is_past precedence (Beside w Near) v ≡ true → Alike (bare w) v
-    → Begins (Beside w Near) v (bare w)
+near_begins : (w v : VersionValue) → is_past precedence (Beside w Near) v ≡ true → Alike (bare w) v → Begins (Beside w Near) v (bare w)
 near_begins w v h k =
     record { past = past_near w (bare w) (tied_itself precedence_total w); below = past_order w v Near h; alike = k }
 
@@ -127,8 +120,7 @@ begins_release : (g : Cut VersionValue) (v : VersionValue) → is_release v ≡ 
     → (P : VersionValue → Bool) → ((x : VersionValue) → Begins g v x → P x ≡ true) → list_any P (firsts g) ≡ true
 begins_release Start v k h P f = grind (arith, zero_first, empty_is, kind_of_release)
 begins_release End v k h P f = cc
-begins_release (Beside w s) v k h P f =
-    cond_both (is_release w) (release_after w s ∷ []) (after_cut w s ∷ bare_release w ∷ []) (λ l. list_any P l ≡ true)
+begins_release (Beside w s) v k h P f = cond_both (is_release w) (release_after w s ∷ []) (after_cut w s ∷ bare_release w ∷ []) (λ l. list_any P l ≡ true)
     (λ r. or_left (P (release_after w s)) false (f (release_after w s) (by_side s h r)))
     (λ r. or_right (P (after_cut w s)) _ (or_left (P (bare_release w)) false (f (bare_release w) (record {
       past = past_less w (bare_release w) s (release_above w r);
@@ -137,8 +129,7 @@ begins_release (Beside w s) v k h P f =
       alike = kind_of_release (bare_release w) v refl k;
     }))))
   where
-    by_side : (s : Bool) → is_past precedence (Beside w s) v ≡ true → is_release w ≡ true
-        → Begins (Beside w s) v (release_after w s)
+    by_side : (s : Bool) → is_past precedence (Beside w s) v ≡ true → is_release w ≡ true → Begins (Beside w s) v (release_after w s)
     by_side Near h r = near_begins w v h (kind_of_release (bare w) v r k)
     by_side Far h r = record {
       past = past_less w (patch_after w) Far (next_patch_above w);
@@ -158,8 +149,7 @@ begins_pre (Beside u s) w v k e m h P f =
     let pre = pre_upto u v k tied up in
     rw pre (or_left (P (after_cut u s)) _ (f (after_cut u s) (by_side s h tied pre)))
   where
-    by_side : (s : Bool) → is_past precedence (Beside u s) v ≡ true → triple_cmp u v ≡ Equal → is_release u ≡ false
-        → Begins (Beside u s) v (after_cut u s)
+    by_side : (s : Bool) → is_past precedence (Beside u s) v ≡ true → triple_cmp u v ≡ Equal → is_release u ≡ false → Begins (Beside u s) v (after_cut u s)
     by_side Near h t r = near_begins u v h (record { release = r ∙ sym k; triple = λ _. t })
     by_side Far h t r = record {
       past = past_less u (pre_after u) Far (next_pre_above u r);
@@ -227,10 +217,8 @@ named_span s v g k h e =
 -- ---- what begins a piece is accepted alike
 
 -- what lies past a cut and not above v, v lies past
-pub past_up : (v x : VersionValue) → is_gt (precedence x v) ≡ false → (d : Cut VersionValue) → is_past precedence d x ≡ true
-    → is_past precedence d v ≡ true
-past_up v x h d p =
-    past_lt precedence_total d v
+pub past_up : (v x : VersionValue) → is_gt (precedence x v) ≡ false → (d : Cut VersionValue) → is_past precedence d x ≡ true → is_past precedence d v ≡ true
+past_up v x h d p = past_lt precedence_total d v
     ∙ ap not (chain precedence_total d (Beside x Near) (Beside v Near) (not-true _ (sym (past_lt precedence_total d x) ∙ p))
     (sym (gt_lt precedence_total (Beside x Near) (Beside v Near)) ∙ not_gt_then (precedence x v) Equal h refl))
 
@@ -246,14 +234,12 @@ module _ (v x : VersionValue) (g : Cut VersionValue) (b : Begins g v x) where
       → is_past precedence (upper_cut c) x ≡ true
   upper_past c e p = grind (arith, mark_past, first_so)
 
-  admitted : (p q l p' q' l' : Bool) → (p ≡ true → p' ≡ true) → (q' ≡ true → q ≡ true) → l ≡ l'
-      → (not ((p && not q) && l) || ((p' && not q') && l')) ≡ true
+  admitted : (p q l p' q' l' : Bool) → (p ≡ true → p' ≡ true) → (q' ≡ true → q ≡ true) → l ≡ l' → (not ((p && not q) && l) || ((p' && not q') && l')) ≡ true
   admitted p q l p' q' l' f h e = grind arith
 
   pub kept_accept : (ss : List (Span VersionValue)) → list_all (under v g) (flat_map kept_marks ss) ≡ true
       → accepts ss v false ≡ true → accepts ss x false ≡ true
-  kept_accept ss top h =
-      any_under (λ s. holds precedence s v && lets_in s v) (λ s. holds precedence s x && lets_in s x) ss h
+  kept_accept ss top h = any_under (λ s. holds precedence s v && lets_in s v) (λ s. holds precedence s x && lets_in s x) ss h
       (all_weaker (λ s. list_all (under v g) (kept_marks s)) _ (λ s e.
       admitted _ _ _ _ _ _ (lower_past s.lower (first_so _ _ (sym
       (list_all-append (under v g) (beside s.lower) (below_named s.upper)) ∙ e))) (past_up v x b.below (upper_cut s.upper))
@@ -266,8 +252,7 @@ module _ (v x : VersionValue) (g : Cut VersionValue) (b : Begins g v x) where
 
   pub removed_accept : (ss : List (Span VersionValue)) → list_all (under v g) (flat_map removed_marks ss) ≡ true
       → accepts ss x false ≡ true → accepts ss v false ≡ true
-  removed_accept ss top h =
-      any_under (λ s. holds precedence s x && lets_in s x) (λ s. holds precedence s v && lets_in s v) ss h
+  removed_accept ss top h = any_under (λ s. holds precedence s x && lets_in s x) (λ s. holds precedence s v && lets_in s v) ss h
       (all_weaker (λ s. list_all (under v g) (removed_marks s)) _ (λ s e.
       admitted _ _ _ _ _ _ (past_up v x b.below (lower_cut s.lower)) (upper_past s.upper e) (lets_in_alike s x v b.alike)) ss
       (sym (all_flat (under v g) removed_marks ss) ∙ top))
@@ -276,8 +261,7 @@ module _ (v x : VersionValue) (g : Cut VersionValue) (b : Begins g v x) where
 pub candidate : (ks : List (Span VersionValue)) (kss : List (List (Span VersionValue))) (ls : List (Span VersionValue))
     (v : VersionValue) → among ks kss ls v ≡ true
     → list_any (λ x. among ks kss ls x && is_le (precedence x v)) (candidates (ks ∷ kss) ls) ≡ true
-candidate ks kss ls v h =
-    any_flat found firsts (Start ∷ marks) ∙ greatest v (λ g. list_any found (firsts g)) Start marks refl at
+candidate ks kss ls v h = any_flat found firsts (Start ∷ marks) ∙ greatest v (λ g. list_any found (firsts g)) Start marks refl at
   where
     found : VersionValue → Bool
     found x = among ks kss ls x && is_le (precedence x v)
@@ -289,8 +273,7 @@ candidate ks kss ls v h =
         → (r && (a && not b)) ≡ true → (q && (c && not d)) ≡ true
     among_too r a b q c d e f g h = grind arith
 
-    at : (g : Cut VersionValue) → is_past precedence g v ≡ true → list_all (under v g) (Start ∷ marks) ≡ true
-        → list_any found (firsts g) ≡ true
+    at : (g : Cut VersionValue) → is_past precedence g v ≡ true → list_all (under v g) (Start ∷ marks) ≡ true → list_any found (firsts g) ≡ true
     at g past top =
         let tops = and_parts (list_all (under v g) (flat_map list_marks (ks ∷ kss))) _
         (sym (list_all-append (under v g) (flat_map list_marks (ks ∷ kss)) (flat_map removed_marks ls))
@@ -318,12 +301,10 @@ candidate ks kss ls v h =
 module _ (set : VersionValue → Bool) where
   -- ---- what is best so far is in the set, and no version of it that was seen is below
 
-  better_fine : (best : Option VersionValue) (x : VersionValue) → IfSome best (λ b. set b ≡ true)
-      → IfSome (better set best x) (λ b. set b ≡ true)
+  better_fine : (best : Option VersionValue) (x : VersionValue) → IfSome best (λ b. set b ≡ true) → IfSome (better set best x) (λ b. set b ≡ true)
   better_fine best x h = grind arith
 
-  fold_fine : (best : Option VersionValue) (xs : List VersionValue) → IfSome best (λ b. set b ≡ true)
-      → IfSome (fold (better set) best xs) (λ b. set b ≡ true)
+  fold_fine : (best : Option VersionValue) (xs : List VersionValue) → IfSome best (λ b. set b ≡ true) → IfSome (fold (better set) best xs) (λ b. set b ≡ true)
   fold_fine best [] h = h
   fold_fine best (x ∷ xs) h = fold_fine (better set best x) xs (better_fine best x h)
 
@@ -331,8 +312,7 @@ module _ (set : VersionValue → Bool) where
   reaches : (best : Option VersionValue) (x v : VersionValue) → (is_reached best v || (set x && is_le (precedence x v))) ≡ true
       → is_reached (better set best x) v ≡ true
   reaches None x v h = grind arith
-  reaches (Some b) x v h =
-      cond_both (not (is_le (precedence b x)) && set x) (Some x) (Some b) (λ o. is_reached o v ≡ true)
+  reaches (Some b) x v h = cond_both (not (is_le (precedence b x)) && set x) (Some x) (Some b) (λ o. is_reached o v ≡ true)
       (λ e. replaced (is_le (precedence b v)) (set x) (is_le (precedence x v)) h
       (λ k. le_trans precedence_total x b v (le_of_lt (precedence x b) (lt_is precedence_total x b ∙ first_so _ _ e)) k))
       (λ e. kept (is_le (precedence b v)) (set x) (is_le (precedence x v)) (is_le (precedence b x)) h
@@ -348,8 +328,7 @@ module _ (set : VersionValue → Bool) where
       → (is_reached best v || list_any (λ x. set x && is_le (precedence x v)) xs) ≡ true
       → is_reached (fold (better set) best xs) v ≡ true
   fold_reaches best [] v h = sym (or-false _) ∙ h
-  fold_reaches best (x ∷ xs) v h =
-      fold_reaches (better set best x) xs v (shift (is_reached best v) (set x && is_le (precedence x v))
+  fold_reaches best (x ∷ xs) v h = fold_reaches (better set best x) xs v (shift (is_reached best v) (set x && is_le (precedence x v))
       (list_any (λ x. set x && is_le (precedence x v)) xs) _ h (reaches best x v))
     where
       shift : (r a l q : Bool) → (r || (a || l)) ≡ true → ((r || a) ≡ true → q ≡ true) → (q || l) ≡ true
@@ -357,13 +336,11 @@ module _ (set : VersionValue → Bool) where
 
   -- ---- nothing from w on improves on a best that is not above w
 
-  no_better : (best : Option VersionValue) (w x : VersionValue) → is_reached best w ≡ true → is_le (precedence w x) ≡ true
-      → better set best x ≡ best
+  no_better : (best : Option VersionValue) (w x : VersionValue) → is_reached best w ≡ true → is_le (precedence w x) ≡ true → better set best x ≡ best
   no_better None w x h k = cc
   no_better (Some b) w x h k = ap (λ q. if q && set x then Some x else Some b) (ap not (le_trans precedence_total b w x h k))
 
-  reached : (best : Option VersionValue) (w : VersionValue) (s : Bool) → is_reached best w ≡ true
-      → fold (better set) best (firsts (Beside w s)) ≡ best
+  reached : (best : Option VersionValue) (w : VersionValue) (s : Bool) → is_reached best w ≡ true → fold (better set) best (firsts (Beside w s)) ≡ best
   reached best w s h = grind (arith, no_better, by_release, by_pre, release_above)
     where
       by_release : (s : Bool) → is_le (precedence w (release_after w s)) ≡ true
@@ -374,22 +351,18 @@ module _ (set : VersionValue → Bool) where
       by_pre Near k = ap is_le (tied_itself precedence_total w)
       by_pre Far k = ap is_le (next_pre_above w k)
 
-  pub reached_near : (best : Option VersionValue) (w : VersionValue) → is_reached best w ≡ true
-      → fold (better set) best (firsts (Beside w Near)) ≡ best
+  pub reached_near : (best : Option VersionValue) (w : VersionValue) → is_reached best w ≡ true → fold (better set) best (firsts (Beside w Near)) ≡ best
   reached_near best w h = reached best w Near h
 
-  pub reached_far : (best : Option VersionValue) (w : VersionValue) → is_reached best w ≡ true
-      → fold (better set) best (firsts (Beside w Far)) ≡ best
+  pub reached_far : (best : Option VersionValue) (w : VersionValue) → is_reached best w ≡ true → fold (better set) best (firsts (Beside w Far)) ≡ best
   reached_far best w h = reached best w Far h
 
   -- the least version that a list names, where each version of the set has one of the list that is not above it
-  pub least_named : (xs : List VersionValue)
-      → ((v : VersionValue) → set v ≡ true → list_any (λ x. set x && is_le (precedence x v)) xs ≡ true)
+  pub least_named : (xs : List VersionValue) → ((v : VersionValue) → set v ≡ true → list_any (λ x. set x && is_le (precedence x v)) xs ≡ true)
       → IsLeastOf set (least_of set xs)
   least_named xs f = by_answer (least_of set xs) (fold_fine None xs tt) (λ v h. fold_reaches None xs v (f v h))
     where
-      by_answer : (r : Option VersionValue) → IfSome r (λ b. set b ≡ true)
-          → ((v : VersionValue) → set v ≡ true → is_reached r v ≡ true) → IsLeastOf set r
+      by_answer : (r : Option VersionValue) → IfSome r (λ b. set b ≡ true) → ((v : VersionValue) → set v ≡ true → is_reached r v ≡ true) → IsLeastOf set r
       by_answer r h f = grind arith
 
 -- a set with the same versions has the same least one
@@ -400,8 +373,7 @@ same_least p q r e h = subst (λ (set : VersionValue → Bool). IsLeastOf set r)
 pub least_wanted : (kss : List (List (Span VersionValue))) (ls : List (Span VersionValue)) → 0 < length kss
     → IsLeastOf (wanted kss ls) (least_of (wanted kss ls) (candidates kss ls))
 least_wanted [] ls n = absurd (omega arith)
-least_wanted (ks ∷ kss) ls n =
-    subst (λ (set : VersionValue → Bool). IsLeastOf set (least_of set (candidates (ks ∷ kss) ls)))
+least_wanted (ks ∷ kss) ls n = subst (λ (set : VersionValue → Bool). IsLeastOf set (least_of set (candidates (ks ∷ kss) ls)))
     (λ i v. same (all_accept kss v) (accepts ks v false) (accepts ls v false) i)
     (least_named (among ks kss ls) (candidates (ks ∷ kss) ls) (candidate ks kss ls))
   where
@@ -415,12 +387,10 @@ least_of_none [] v n e = subst (λ (x : VersionValue). IsLeastOf (all_accept [])
 least_of_none (ks ∷ kss) v n e = absurd (omega arith)
 
 -- of one list it is the least beyond the other
-pub least_of_one : (ks ls : List (Span VersionValue)) (r : Option VersionValue) → IsLeastOf (wanted (ks ∷ []) ls) r
-    → IsLeastOf (beyond ks ls) r
+pub least_of_one : (ks ls : List (Span VersionValue)) (r : Option VersionValue) → IsLeastOf (wanted (ks ∷ []) ls) r → IsLeastOf (beyond ks ls) r
 least_of_one ks ls r h = same_least (wanted (ks ∷ []) ls) (beyond ks ls) r (λ v. ap (λ a. a && not (accepts ls v false)) (and-true _)) h
 
-pub least_of_itself : (ks : List (Span VersionValue)) (r : Option VersionValue) → IsLeastOf (beyond ks []) r
-    → IsLeastOf (λ v. accepts ks v false) r
+pub least_of_itself : (ks : List (Span VersionValue)) (r : Option VersionValue) → IsLeastOf (beyond ks []) r → IsLeastOf (λ v. accepts ks v false) r
 least_of_itself ks r h = same_least (beyond ks []) (λ v. accepts ks v false) r (λ v. and-true _) h
 
 -- ---- no candidate has a build
@@ -435,8 +405,7 @@ all_bare (d ∷ ds) = grind (arith, All-append, All-from_recursion, all_bare ds)
 fold_bare : (set : VersionValue → Bool) (best : Option VersionValue) (xs : List VersionValue) → IfSome best IsBare
     → All IsBare xs → IfSome (fold (better set) best xs) IsBare
 fold_bare set best [] h e = h
-fold_bare set best (x ∷ xs) h e =
-    fold_bare set (better set best x) xs (cond_both (improves best x && set x) (Some x) best (λ o. IfSome o IsBare)
+fold_bare set best (x ∷ xs) h e = fold_bare set (better set best x) xs (cond_both (improves best x && set x) (Some x) best (λ o. IfSome o IsBare)
     (λ _. All-head IsBare x xs e) (λ _. h)) (All-tail IsBare x xs e)
 
 pub list_bare : (set : VersionValue → Bool) (xs : List VersionValue) (r : Option VersionValue) → All (λ v. v.build ≡ []) xs
@@ -445,8 +414,7 @@ list_bare set xs r bare e = subst (λ o. IfSome o IsBare) (sym e) (fold_bare set
 
 pub least_bare : (set : VersionValue → Bool) (kss : List (List (Span VersionValue))) (ls : List (Span VersionValue))
     (r : Option VersionValue) → r ≡ least_of set (candidates kss ls) → IfSome r (λ v. v.build ≡ [])
-least_bare set kss ls r e =
-    list_bare set (candidates kss ls) r (all_bare (Start ∷ (flat_map list_marks kss ++ flat_map removed_marks ls))) e
+least_bare set kss ls r e = list_bare set (candidates kss ls) r (all_bare (Start ∷ (flat_map list_marks kss ++ flat_map removed_marks ls))) e
 
 -- ---- a version with another build is accepted alike
 
@@ -454,12 +422,10 @@ admits_built : (s : Span VersionValue) (v : VersionValue) (b : List Id)
     → (holds precedence s (record v { build = b }) && lets_in s (record v { build = b })) ≡ (holds precedence s v && lets_in s v)
 admits_built s v b = grind (arith, alike_right, cut_total, precedence_total, lets_in_alike, tied_itself, triple_total)
 
-accepts_built : (ks : List (Span VersionValue)) (v : VersionValue) (b : List Id)
-    → accepts ks (record v { build = b }) false ≡ accepts ks v false
+accepts_built : (ks : List (Span VersionValue)) (v : VersionValue) (b : List Id) → accepts ks (record v { build = b }) false ≡ accepts ks v false
 accepts_built ks v b = any_same _ _ (λ s. admits_built s v b) ks
 
-all_built : (kss : List (List (Span VersionValue))) (v : VersionValue) (b : List Id)
-    → all_accept kss (record v { build = b }) ≡ all_accept kss v
+all_built : (kss : List (List (Span VersionValue))) (v : VersionValue) (b : List Id) → all_accept kss (record v { build = b }) ≡ all_accept kss v
 all_built [] v b = refl
 all_built (ks ∷ kss) v b = ap₂ (λ p q. p && q) (accepts_built ks v b) (all_built kss v b)
 
@@ -484,8 +450,7 @@ first_of found = option_and_then (λ s. begins_with s.lower) found
 find_same : {X : Type 0} (p q : X → Bool) (xs : List X) → ((x : X) → p x ≡ q x) → find p xs ≡ find q xs
 find_same p q xs f = λ i. find (λ x. f x i) xs
 
-pub least_build_built : (ks : List (Span VersionValue)) (v : VersionValue) (b : List Id)
-    → least_build ks (record v { build = b }) ≡ least_build ks v
+pub least_build_built : (ks : List (Span VersionValue)) (v : VersionValue) (b : List Id) → least_build ks (record v { build = b }) ≡ least_build ks v
 least_build_built ks v b = grind (arith, find_same, admits_built)
 
 -- ---- no build comes from a bound that has none
@@ -512,8 +477,7 @@ past_lower Unbounded = refl
 past_lower (Before w) = past_near w w (tied_itself precedence_total w)
 past_lower (After w) = grind (arith, nat_tests, common_steps, past_less, above_patch, next_pre_above)
 
-least_past : (b : Bound VersionValue) (v : VersionValue) → is_past precedence (lower_cut b) v ≡ true
-    → is_gt (precedence (first_past b) v) ≡ false
+least_past : (b : Bound VersionValue) (v : VersionValue) → is_past precedence (lower_cut b) v ≡ true → is_gt (precedence (first_past b) v) ≡ false
 least_past Unbounded v h = le_not_gt _ (first_of_all v)
 least_past (Before w) v h = past_order w v Near h
 least_past (After w) v h = by_kind (is_release w) refl
@@ -522,12 +486,10 @@ least_past (After w) v h = by_kind (is_release w) refl
     by_kind r k = grind (arith, le_not_gt, least_after_release, empty_is, far_less, next_pre_least)
 
 -- the first version past the lower cut of a span that holds v is held as well
-least_in : (s : Span VersionValue) (v : VersionValue) → holds precedence s v ≡ true
-    → is_gt (precedence (first_past s.lower) v) ≡ false
+least_in : (s : Span VersionValue) (v : VersionValue) → holds precedence s v ≡ true → is_gt (precedence (first_past s.lower) v) ≡ false
 least_in s v h = grind (arith, nat_tests, common_steps, least_past)
 
-first_held : (s : Span VersionValue) (v : VersionValue) → holds precedence s v ≡ true
-    → holds precedence s (first_past s.lower) ≡ true
+first_held : (s : Span VersionValue) (v : VersionValue) → holds precedence s v ≡ true → holds precedence s (first_past s.lower) ≡ true
 first_held s v h = grind (arith, past_lower, past_up v (first_past s.lower) (least_in s v h))
 
 abbrev pub firsts_past : List (Span VersionValue) → List VersionValue
@@ -551,8 +513,7 @@ held_candidate set (s ∷ ss) v f h = elim (or_cases (holds precedence s v && tr
 ]
 
 -- the least first version that is held is the least version that is held, and it has no build
-pub least_held : (ss : List (Span VersionValue))
-    → IsLeastOf (λ v. accepts ss v true) (least_of (λ v. accepts ss v true) (firsts_past ss))
+pub least_held : (ss : List (Span VersionValue)) → IsLeastOf (λ v. accepts ss v true) (least_of (λ v. accepts ss v true) (firsts_past ss))
 least_held ss = grind (arith, nat_tests, common_steps, least_named, held_candidate)
 
 past_bare : (b : Bound VersionValue) → (first_past b).build ≡ []
@@ -574,8 +535,7 @@ improves_held best w ss = grind (arith, nat_tests, common_steps, cut_total, prec
 -- ---- the build of a least version, that of the lower bound from which it comes
 
 -- the first that passes is found behind those that do not
-found : {X : Type 0} (p : X → Bool) (front : List X) (x : X) (back : List X) → list_any p front ≡ false → p x ≡ true
-    → find p (front ++ x ∷ back) ≡ Some x
+found : {X : Type 0} (p : X → Bool) (front : List X) (x : X) (back : List X) → list_any p front ≡ false → p x ≡ true → find p (front ++ x ∷ back) ≡ Some x
 found p [] x back none h = rw h refl
 found p (y ∷ front) x back none h = grind (arith, found p front x back)
 

@@ -35,8 +35,7 @@ along held test other ok each (s ∷ ss) h = grind (arith, each s, along held te
 
 pub higher_by_cuts : (d : OutsideDirection) (limit : ℕ) (ss : List (Span VersionValue)) (v : VersionValue) → IsRange limit ss
     → d ≡ Higher → is_outside d true ss v ≡ list_all (λ s. is_past precedence (upper_cut s.upper) v) ss
-higher_by_cuts d limit ss v h e =
-    ap (λ d. is_outside d true ss v) e
+higher_by_cuts d limit ss v h e = ap (λ d. is_outside d true ss v) e
     ∙ along (λ s. holds precedence s v && true) (λ s. lies_below s v) (λ s. is_past precedence (upper_cut s.upper) v)
     (is_interval precedence) (λ s i. higher_one (is_past precedence (lower_cut s.lower) v)
     (is_past precedence (upper_cut s.upper) v) (is_bounded s.upper) (both_past s v i) (unbounded_above s.upper v)) ss
@@ -44,8 +43,7 @@ higher_by_cuts d limit ss v h e =
 
 pub lower_by_cuts : (d : OutsideDirection) (limit : ℕ) (ss : List (Span VersionValue)) (v : VersionValue) → IsRange limit ss
     → d ≡ Lower → is_outside d true ss v ≡ list_all (λ s. not (is_past precedence (lower_cut s.lower) v)) ss
-lower_by_cuts d limit ss v h e =
-    ap (λ d. is_outside d true ss v) e
+lower_by_cuts d limit ss v h e = ap (λ d. is_outside d true ss v) e
     ∙ along (λ s. holds precedence s v && true) (λ s. lies_above s v) (λ s. not (is_past precedence (lower_cut s.lower) v))
     (is_interval precedence) (λ s i. lower_one (is_past precedence (lower_cut s.lower) v)
     (is_past precedence (upper_cut s.upper) v) (is_bounded s.lower) (is_bounded s.upper) (both_past s v i)

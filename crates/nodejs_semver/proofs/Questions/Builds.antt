@@ -27,10 +27,8 @@ tied v w = (same_value v w, λ e. ap (λ u. build_order u w) e ∙ tied_itself b
 pub antisymmetric : (v w : VersionValue) → is_le (build_order v w) ≡ true → is_le (build_order w v) ≡ true → v ≡ w
 antisymmetric v w h k = same_value v w (both_ways (build_order v w) (build_order w v) (build_total.antisymm v w) h k)
 
-pub transitive : (u v w : VersionValue) → is_le (build_order u v) ≡ true → is_le (build_order v w) ≡ true
-    → is_le (build_order u w) ≡ true
-transitive u v w h k =
-    (tells _).0 ∙ ap not (upto build_total u v w (not-true _ (sym (tells _).0 ∙ h)) (not-true _ (sym (tells _).0 ∙ k)))
+pub transitive : (u v w : VersionValue) → is_le (build_order u v) ≡ true → is_le (build_order v w) ≡ true → is_le (build_order u w) ≡ true
+transitive u v w h k = (tells _).0 ∙ ap not (upto build_total u v w (not-true _ (sym (tells _).0 ∙ h)) (not-true _ (sym (tells _).0 ∙ k)))
 
 one_way : (r s : Ordering) → r ≡ ordering_reverse s → (is_le r || is_le s) ≡ true
 one_way r s e = grind (arith, nat_tests, common_steps)

@@ -15,7 +15,7 @@ pub none_in : (set : VersionValue → Bool) (r : Option VersionValue) → IsLeas
     → IsTrue (is_none r) ↔ ((v : VersionValue) → set v ≡ false)
 none_in set r h = grind (arith, nat_tests, common_steps)
 
-by_difference : (a b d : List (Span VersionValue))
+pub by_difference : (a b d : List (Span VersionValue))
     → ((v : VersionValue) → accepts d v true ≡ (accepts a v true && not (accepts b v true)))
     → (answer : Bool) → IsTrue answer ↔ ((v : VersionValue) → accepts d v true ≡ false) → IsTrue answer ↔ IsSubset true a b
 by_difference a b d e answer h = grind (arith, nat_tests, common_steps)
@@ -35,6 +35,10 @@ by_both include a b h answer k = grind (arith, nat_tests, common_steps)
 pub of_both : {E : Type 0} (include : Bool) (a b : List (Span VersionValue)) (r : Result Bool E) → IsSubset include a b
     → IfOk r (λ answer. IsTrue answer ↔ IsSubset include b a) → IfOk r (λ answer. IsTrue answer ↔ AcceptSame include a b)
 of_both include a b r h k = IfOk-weaker r _ _ (by_both include a b h) k
+
+pub not_both : (include answer : Bool) (a b : List (Span VersionValue)) → IsTrue answer ↔ IsSubset include a b → answer ≡ false
+    → IsTrue false ↔ AcceptSame include a b
+not_both include answer a b h e = grind (arith, nat_tests, common_steps)
 
 -- ---- when memory is taken
 

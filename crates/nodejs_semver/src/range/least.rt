@@ -75,7 +75,6 @@ impl<V: VersionPoint> RangeOf<V> {
     /// let smallest = Version::parse(alloc, "1.0.1-0").ok();
     /// assert!(rt; range.min_version(alloc) == Ok(smallest));
     /// ```
-    #[tactic(auto, using(crate::proofs::Choice::Kinds::raisable))]
     pub fn min_version(&self, alloc: Global) -> Result<Option<Version>, AllocError>
         ensures least { IfOk result (λ r. stated.IsLeastOf (λ v. accepts self.now v false) r) }
         ensures build { IfOk result (λ r. IfSome r (λ v. v.build ≡ stated.least_build self.now v)) }
@@ -115,7 +114,6 @@ impl<V: VersionPoint> RangeOf<V> {
     /// assert!(rt; wide.least_beyond(alloc, &narrow) == Ok(smallest));
     /// assert!(rt; narrow.least_beyond(alloc, &wide) == Ok(None));
     /// ```
-    #[tactic(auto, using(crate::proofs::Choice::Kinds::raisable))]
     pub fn least_beyond<W: VersionPoint>(
         &self,
         alloc: Global,
@@ -195,7 +193,6 @@ impl<V: VersionPoint> RangeOf<V> {
     /// let first = Version::parse(alloc, "1.0.1-0").ok();
     /// assert!(rt; range.min_version_with_prerelease(alloc) == Ok(first));
     /// ```
-    #[tactic(auto, using(crate::proofs::Choice::Kinds::raisable))]
     pub fn min_version_with_prerelease(&self, alloc: Global) -> Result<Option<Version>, AllocError>
         ensures least { IfOk result (λ r. stated.IsLeastOf (λ v. accepts self.now v true) r) }
         ensures build { IfOk result (λ r. IfSome r (λ v. v.build ≡ [])) }

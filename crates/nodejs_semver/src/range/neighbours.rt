@@ -191,7 +191,6 @@ fn begin_with_build<V: VersionPoint>(intervals: &[Interval<V>]) -> bool
 }
 
 // The version with the build of the bound with which the first interval that accepts it begins.
-#[tactic(auto, using(crate::proofs::Choice::Least::unbuilt_stays))]
 pub(crate) fn with_least_build<V: VersionPoint>(
     alloc: Global,
     version: Version,

@@ -1,5 +1,5 @@
 use Rattle.nodejs_semver.proofs.Common.{false, inl, inr, on_err, on_err_weaker}
-use Rattle.nodejs_semver.proofs.Questions.Subsets.{of_both}
+use Rattle.nodejs_semver.proofs.Questions.Subsets.{not_both, of_both}
 use Rattle.nodejs_semver.proofs.range.RangeOf.accepts_same.Goals as goal
 
 pub returns-in_err-is_subset-clause-memory : goal.returns-in_err-is_subset-clause-memory
@@ -12,3 +12,6 @@ returns-clause-same g c =
 
 pub returns-clause-memory : goal.returns-clause-memory
 returns-clause-memory g c = on_err_weaker c.is_subset-2.result (λ m. inr m) c.is_subset-2.ensures.memory
+
+pub returns-then-not-branch-clause-same : goal.returns-then-not-branch-clause-same
+returns-then-not-branch-clause-same g c = not_both false _ _ _ c.in_ok-is_subset.ensures.subset c.if-not-branch.true

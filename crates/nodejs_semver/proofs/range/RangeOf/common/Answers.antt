@@ -18,22 +18,18 @@ common_of_two-requires g c =
     c.items-these.ensures.valid c.items-others.ensures.valid c.items-these.ensures.value c.items-others.ensures.value in
     (omega arith, rw (sym lone) valid)
 
-pub returns-then-others-eq1-clause-list : goal.returns-then-others-eq1-clause-list
-returns-then-others-eq1-clause-list g c =
+pub returns-then-others-eq1 : goal.returns-then-others-eq1
+returns-then-others-eq1 g c =
     let lone = meets_of-lone g.V.Ord.cmp c.items-these.result.now c.items-others.result.now c.index-these-0.result c.index-others-0.result
     (omega arith) (omega arith) c.index-these-0.is c.index-others-0.is in
     let is = meets_of-is _ _ g.met.V.VersionPoint.ordered _ _ _ _
-    c.items-these.ensures.valid c.items-others.ensures.valid c.items-these.ensures.value c.items-others.ensures.value in
-    IfOk-weaker c.common_of_two.result _ _ (λ r e. e ∙ ap if_any (ap (spans_of g.V.Versioned.value) (sym lone) ∙ is))
-    c.common_of_two.ensures.list
-
-pub returns-then-others-eq1-clause-memory : goal.returns-then-others-eq1-clause-memory
-returns-then-others-eq1-clause-memory g c =
-    let lone = meets_of-lone g.V.Ord.cmp c.items-these.result.now c.items-others.result.now c.index-these-0.result c.index-others-0.result
-    (omega arith) (omega arith) c.index-these-0.is c.index-others-0.is in
-    on_err_weaker c.common_of_two.result (λ e. meets_of-some _ _ g.met.V.VersionPoint.ordered _ _ _ _
-    c.items-these.ensures.valid c.items-others.ensures.valid c.items-these.ensures.value c.items-others.ensures.value
-    (subst (λ l. 0 < length l) (sym lone) (listed_some _ e))) c.common_of_two.ensures.memory
+    c.items-these.ensures.valid c.items-others.ensures.valid c.items-these.ensures.value c.items-others.ensures.value in record {
+      list = IfOk-weaker c.common_of_two.result _ _ (λ r e. e ∙ ap if_any (ap (spans_of g.V.Versioned.value) (sym lone) ∙ is))
+          c.common_of_two.ensures.list;
+      memory = on_err_weaker c.common_of_two.result (λ e. meets_of-some _ _ g.met.V.VersionPoint.ordered _ _ _ _
+          c.items-these.ensures.valid c.items-others.ensures.valid c.items-these.ensures.value c.items-others.ensures.value
+          (subst (λ l. 0 < length l) (sym lone) (listed_some _ e))) c.common_of_two.ensures.memory;
+    }
 
 pub from_intervals-requires : goal.from_intervals-requires
 from_intervals-requires g c =
@@ -48,7 +44,6 @@ returns-clause-list g c =
     c.items-these.ensures.valid c.items-others.ensures.valid c.items-these.ensures.value c.items-others.ensures.value))
 
 pub returns-in_err-push_all_intersections-clause-memory : goal.returns-in_err-push_all_intersections-clause-memory
-returns-in_err-push_all_intersections-clause-memory g c =
-    on_err c.from_residual.result (meets_of-some _ _ g.met.V.VersionPoint.ordered _ _ _ _
+returns-in_err-push_all_intersections-clause-memory g c = on_err c.from_residual.result (meets_of-some _ _ g.met.V.VersionPoint.ordered _ _ _ _
     c.items-these.ensures.valid c.items-others.ensures.valid c.items-these.ensures.value c.items-others.ensures.value
     c.in_err-push_all_intersections.ensures.memory)

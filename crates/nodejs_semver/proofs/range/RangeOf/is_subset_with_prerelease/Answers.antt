@@ -1,4 +1,4 @@
-use Rattle.nodejs_semver.proofs.Questions.Subsets.{left_some, of_difference}
+use Rattle.nodejs_semver.proofs.{Common.{[], refl, true}, Questions.Subsets.{by_difference, left_some, of_difference}}
 use Rattle.nodejs_semver.proofs.range.RangeOf.is_subset_with_prerelease.Goals as goal
 
 pub returns-in-Some-clause-subset : goal.returns-in-Some-clause-subset
@@ -6,3 +6,7 @@ returns-in-Some-clause-subset g c = of_difference _ _ _ _ (rw c.in-Some.is at c.
 
 pub returns-in-Some-clause-memory : goal.returns-in-Some-clause-memory
 returns-in-Some-clause-memory g c = left_some _ _ _ _ _ c.in_ok-difference.ensures.list c.in-Some.is
+
+pub returns-in-None-clause-subset : goal.returns-in-None-clause-subset
+returns-in-None-clause-subset g c =
+    by_difference _ _ [] (rw c.in-None.is at c.in_ok-difference.ensures.all) true (λ _ v. refl, λ _. refl)

@@ -1,5 +1,5 @@
-use Rattle.nodejs_semver.proofs.Common.{IfOk-weaker, IsLeastOf, [], on_err_weaker, wanted, ◌∷◌}
-use Rattle.nodejs_semver.proofs.{Choice.Least.{least_of_one}, Choice.Kinds.{one_allocates}}
+use Rattle.nodejs_semver.proofs.Common.{All, IfOk-weaker, IsLeastOf, IsRaisable, [], arith, on_err_weaker, subst, sym, wanted, ◌∷◌}
+use Rattle.nodejs_semver.proofs.{Choice.Least.{least_of_one}, Choice.Kinds.{one_allocates, raisable}}
 use Rattle.nodejs_semver.proofs.range.RangeOf.least_beyond.Goals as goal
 
 pub returns-clause-least : goal.returns-clause-least
@@ -10,6 +10,8 @@ returns-clause-least g c =
     (rw (c.from_ref.ensures.value, c.items.ensures.value) at c.least_among.ensures.least)
 
 pub returns-clause-memory : goal.returns-clause-memory
-returns-clause-memory g c =
-    on_err_weaker c.least_among.result (one_allocates c.args.self.now c.args.other.now)
+returns-clause-memory g c = on_err_weaker c.least_among.result (one_allocates c.args.self.now c.args.other.now)
     (rw (c.from_ref.ensures.value, c.items.ensures.value) at c.least_among.ensures.memory)
+
+pub least_among-requires : goal.least_among-requires
+least_among-requires g c = (omega arith, (omega arith, subst (All IsRaisable) (sym c.items.ensures.value) (raisable _ c.items.ensures.valid)))

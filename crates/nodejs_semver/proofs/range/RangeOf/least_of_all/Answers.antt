@@ -3,10 +3,8 @@ use Rattle.nodejs_semver.proofs.{Choice.Least.{least_of_none}, Choice.Kinds.{all
 use Rattle.nodejs_semver.proofs.range.RangeOf.least_of_all.Goals as goal
 
 pub returns-then-is_empty-clause-least : goal.returns-then-is_empty-clause-least
-returns-then-is_empty-clause-least g c =
-    least_of_none c.args.ranges.now c.in_ok-least.least
+returns-then-is_empty-clause-least g c = least_of_none c.args.ranges.now c.in_ok-least.least
     (omega (arith, eqb-true (length c.args.ranges.now) 0 (sym c.is_empty.ensures ∙ c.if-is_empty.true))) c.in_ok-least.ensures.value
 
 pub returns-clause-memory : goal.returns-clause-memory
-returns-clause-memory g c =
-    on_err_weaker c.least_among.result (λ m. all_allocate c.args.ranges.now m) c.least_among.ensures.memory
+returns-clause-memory g c = on_err_weaker c.least_among.result (λ m. all_allocate c.args.ranges.now m) c.least_among.ensures.memory

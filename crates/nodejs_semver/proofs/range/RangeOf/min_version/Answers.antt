@@ -1,7 +1,6 @@
-use Rattle.nodejs_semver.proofs.Common.{IsLeastOf, None, Some, VersionValue, [], accepts, false, least_build, on_err, subst, sym}
-use Rattle.nodejs_semver.proofs.Common.{wanted, ◌∷◌, ◌≡◌}
-use Rattle.nodejs_semver.proofs.Choice.Kinds.{alone_allocates}
-use Rattle.nodejs_semver.proofs.Choice.Least.{least_accepted, least_build_built, least_of_itself, least_of_one}
+use Rattle.nodejs_semver.proofs.Common.{All, IsLeastOf, IsRaisable, None, Some, VersionValue, [], accepts, arith, false, first_so, inl}
+use Rattle.nodejs_semver.proofs.Common.{least_build, on_err, subst, sym, wanted, ◌∷◌, ◌≡◌}
+use Rattle.nodejs_semver.proofs.Choice.{Kinds.{alone_allocates, raisable}, Least.{least_accepted, least_build_built, least_of_itself, least_of_one}}
 use Rattle.nodejs_semver.proofs.range.RangeOf.min_version.Goals as goal
 
 pub returns-in-None-clause-least : goal.returns-in-None-clause-least
@@ -25,5 +24,30 @@ returns-in_ok-built-in-Some-2 g c =
     }
 
 pub returns-in_err-least_among-clause-memory : goal.returns-in_err-least_among-clause-memory
-returns-in_err-least_among-clause-memory g c =
-    on_err _ (alone_allocates c.args.self.now (rw c.from_ref.ensures.value at c.in_err-least_among.ensures.memory))
+returns-in_err-least_among-clause-memory g c = on_err _ (alone_allocates c.args.self.now (rw c.from_ref.ensures.value at c.in_err-least_among.ensures.memory))
+
+pub least_among-requires : goal.least_among-requires
+least_among-requires g c = (omega arith, (omega arith, λ k d h. absurd (omega arith)))
+
+pub with_least_build-requires : goal.with_least_build-requires
+with_least_build-requires g c = record {
+  raisable = subst (All IsRaisable) (sym c.items.ensures.value) (raisable _ c.items.ensures.valid);
+  bare = rw c.in-Some-2.is at c.in_ok-least_among.ensures.build;
+}
+
+pub returns-in-Some : goal.returns-in-Some
+returns-in-Some g c = record {
+  least = rw c.in_ok-found.ensures c.in-Some.ensures.least;
+  build = subst (λ (x : VersionValue). x.build ≡ least_build c.args.self.now x) (sym c.in_ok-found.ensures) c.in-Some.ensures.build;
+  memory = tt;
+}
+
+pub returns-in_err-found-clause-memory : goal.returns-in_err-found-clause-memory
+returns-in_err-found-clause-memory g c = on_err _ (inl (g.V.Versioned.value c.in-Some.version.now, c.in-Some.ensures.least.0))
+
+pub returns-in_err-built-in-Some-2-clause-memory : goal.returns-in_err-built-in-Some-2-clause-memory
+returns-in_err-built-in-Some-2-clause-memory g c =
+    let v = c.in-Some-2.version in
+    let h : IsLeastOf (wanted (c.args.self.now ∷ []) []) (Some v) =
+    rw (c.from_ref.ensures.value, c.in-Some-2.is) at c.in_ok-least_among.ensures.least in
+    on_err _ (inl (v, first_so _ _ (least_of_one c.args.self.now [] (Some v) h).0))

@@ -1,5 +1,5 @@
-use Rattle.nodejs_semver.proofs.Common.{IsLeastOf, accepts, arith, common_steps, least_of, on_err, subst, sym, true, ◌≡◌}
-use Rattle.nodejs_semver.proofs.{Choice.Kinds.{begins_after, lower_raisable}, Choice.Least.{firsts_past, least_held, held_bare}}
+use Rattle.nodejs_semver.proofs.Common.{IsLeastOf, None, accepts, arith, common_steps, least_of, on_err, spans_of, subst, sym, true, ◌≡◌}
+use Rattle.nodejs_semver.proofs.{Choice.Kinds.{begins_after, held_further, lower_raisable}, Choice.Least.{firsts_past, least_held, held_bare}}
 use Rattle.nodejs_semver.proofs.range.RangeOf.min_version_with_prerelease.Goals as goal
 
 pub consider_past_held-requires : goal.consider_past_held-requires
@@ -21,3 +21,9 @@ returns g c =
       build = held_bare ss _ found;
       memory = tt;
     }
+
+pub loop-interval-preserved : goal.loop-interval-preserved
+loop-interval-preserved g c = held_further g.V.Versioned.value (λ v. accepts (spans_of g.V.Versioned.value c.items-intervals.result.now) v true)
+    c.items-intervals.result.now c.loop-interval.interval-index c.interval-item.result c.loop-interval-test.true c.interval-item.is
+    None _ _ c.loop-interval.invariant
+    (rw (c.lower.ensures.value, sym c.items-intervals.ensures.value) at c.in_ok-consider_past_held.ensures.best)

@@ -22,7 +22,6 @@ returns-clause-list g c =
     c.items.ensures.valid c.items-2.ensures.valid c.items.ensures.value c.items-2.ensures.value))
 
 pub returns-in_err-push_differences-clause-memory : goal.returns-in_err-push_differences-clause-memory
-returns-in_err-push_differences-clause-memory g c =
-    on_err c.from_residual.result (minus-some _ _ g.met.V.VersionPoint.ordered _ _ _ _
+returns-in_err-push_differences-clause-memory g c = on_err c.from_residual.result (minus-some _ _ g.met.V.VersionPoint.ordered _ _ _ _
     c.items.ensures.valid c.items-2.ensures.valid c.items.ensures.value c.items-2.ensures.value
     c.in_err-push_differences.ensures.memory)

@@ -2,6 +2,5 @@ use Rattle.nodejs_semver.proofs.Common.{IsMin, accepts, map, spans_of, take, val
 use Rattle.nodejs_semver.proofs.range.best.least.Given as goal
 
 abbrev pub invariant-loop-version : goal.invariant-loop-version
-invariant-loop-version g l =
-    IsMin (λ v. accepts (spans_of g.V.Versioned.value l.intervals) v l.include)
+invariant-loop-version g l = IsMin (λ v. accepts (spans_of g.V.Versioned.value l.intervals) v l.include)
     (map g.W.Versioned.value (take l.version-index l.versions)) (value_of g.W.Versioned.value l.best)

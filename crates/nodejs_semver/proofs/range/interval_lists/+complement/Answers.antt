@@ -9,8 +9,7 @@ clip_each-requires g t c = (
 )
 
 pub returns : goal.returns
-returns g t c =
-    gaps-joined g.met.V.Ord.total c.split_at.result.0.now c.split_at.result.1.now c.in_ok-before.before.items
+returns g t c = gaps-joined g.met.V.Ord.total c.split_at.result.0.now c.split_at.result.1.now c.in_ok-before.before.items
     c.in_ok-after.after.items c.args.intervals.now _ c.in_ok-before.ensures c.in_ok-after.ensures
     (rw (c.deref.ensures, c.deref-2.ensures, c.in_ok-pieces.ensures.items) at c.in_ok-clip_each.ensures)
     (rw (c.split_at.ensures.front, c.split_at.ensures.back) (sym (take-append-drop _ _)))

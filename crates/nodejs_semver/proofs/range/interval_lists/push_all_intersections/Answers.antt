@@ -2,8 +2,7 @@ use Rattle.nodejs_semver.proofs.Common.{flat_behind, flat_some, on_err, refl, ta
 use Rattle.nodejs_semver.proofs.range.interval_lists.push_all_intersections.Goals as goal
 
 pub loop-interval-preserved : goal.loop-interval-preserved
-loop-interval-preserved g c =
-    flat_behind _ c.args.these.now _ c.interval-item.result c.args.found.now.items _ _ _ c.loop-interval-test.true
+loop-interval-preserved g c = flat_behind _ c.args.these.now _ c.interval-item.result c.args.found.now.items _ _ _ c.loop-interval-test.true
     c.interval-item.is refl c.loop-interval.invariant c.in_ok-push_intersections.ensures.items
 
 pub returns-in_err-push_intersections-clause-memory : goal.returns-in_err-push_intersections-clause-memory

@@ -19,7 +19,6 @@ returns-in_default g c =
     (clips-to_none o c.args.interval.now c.args.pieces.now _ c.partition_point-first.ensures.bound point c.split_at.result.1.now _ c.piece-item.result c.in_ok-part.field-0 c.split_at.ensures.back c.requires c.loop-piece-test.true c.piece-item.is c.in_ok-part.ensures.bounds gone)
 
 pub loop-piece-preserved : goal.loop-piece-preserved
-loop-piece-preserved g c =
-    flat_behind _ c.split_at.result.1.now _ c.piece-item.result c.args.found.now.items _ _ _ c.loop-piece-test.true
+loop-piece-preserved g c = flat_behind _ c.split_at.result.1.now _ c.piece-item.result c.args.found.now.items _ _ _ c.loop-piece-test.true
     c.piece-item.is (ap option_to_list (sym c.in-Some.is ∙ c.in_ok-part.ensures.bounds)) c.loop-piece.invariant
     c.in_ok-push.ensures.items

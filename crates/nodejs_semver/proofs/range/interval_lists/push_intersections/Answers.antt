@@ -4,8 +4,7 @@ use Rattle.nodejs_semver.proofs.range.interval_lists.push_intersections.Goals as
 use Rattle.nodejs_semver.proofs.range.interval_lists.push_intersections.Goals.{then-meets+in_ok-push_common, else-meets}
 
 pub loop-other-preserved : goal.loop-other-preserved
-loop-other-preserved g c =
-    flat_behind _ c.args.others.now _ c.other-item.result c.args.found.now.items c.loop-other.found.items c.if-meets.found.items _
+loop-other-preserved g c = flat_behind _ c.args.others.now _ c.other-item.result c.args.found.now.items c.loop-other.found.items c.if-meets.found.items _
     c.loop-other-test.true c.other-item.is refl c.loop-other.invariant (elim c.if-meets.branch [
       | then-meets+in_ok-push_common w ↦ rw w.found-is w.in_ok-push_common.ensures.items
       | else-meets w ↦ rw w.found-is (sym (ap (λ m. c.loop-other.found.items ++ option_to_list m)

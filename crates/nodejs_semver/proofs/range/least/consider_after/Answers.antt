@@ -6,12 +6,10 @@ pub returns-then-is_reached-clause-best : goal.returns-then-is_reached-clause-be
 returns-then-is_reached-clause-best g c = sym (reached_far _ _ _ (sym c.is_reached.ensures ∙ c.if-is_reached.true))
 
 pub returns-then-is_release-clause-best : goal.returns-then-is_release-clause-best
-returns-then-is_release-clause-best g c =
-    rw (sym c.is_release.ensures ∙ c.if-is_release.true) (rw c.patch_after.ensures at c.consider.ensures.best)
+returns-then-is_release-clause-best g c = rw (sym c.is_release.ensures ∙ c.if-is_release.true) (rw c.patch_after.ensures at c.consider.ensures.best)
 
 pub returns-clause-best : goal.returns-clause-best
-returns-clause-best g c =
-    rw (sym c.is_release.ensures ∙ c.if-is_release.false)
+returns-clause-best g c = rw (sym c.is_release.ensures ∙ c.if-is_release.false)
     (rw (c.bare_release.ensures, c.in_ok-tried.ensures.best, c.in_ok-pre_after.ensures) at c.consider-3.ensures.best)
 
 pub returns-then-is_release-clause-memory : goal.returns-then-is_release-clause-memory
@@ -25,3 +23,6 @@ returns-in_err-tried-clause-memory g c = on_err _ (inr (sym c.is_release.ensures
 
 pub returns-clause-memory : goal.returns-clause-memory
 returns-clause-memory g c = on_err_weaker c.consider-3.result (λ found. inl found) c.consider-3.ensures.memory
+
+pub patch_after-requires : goal.patch_after-requires
+patch_after-requires g c = c.requires

@@ -4,20 +4,18 @@ use Rattle.nodejs_semver.proofs.Choice.Kinds.{all_marks, any_at, any_here, raisa
 use Rattle.nodejs_semver.proofs.range.least.consider_all.Goals as goal
 
 pub loop-range-preserved : goal.loop-range-preserved
-loop-range-preserved g c =
-    range_further _ c.args.kept.now _ c.range-item.result c.loop-range-test.true c.range-item.is _ _ _ c.loop-range.invariant
+loop-range-preserved g c = range_further _ c.args.kept.now _ c.range-item.result c.loop-range-test.true c.range-item.is _ _ _ c.loop-range.invariant
     c.in_ok-consider_range.ensures.best
 
 pub returns-in_err-consider-clause-memory : goal.returns-in_err-consider-clause-memory
 returns-in_err-consider-clause-memory g c = on_err _ (inl c.in_err-consider.ensures.memory)
 
 pub returns-in_err-consider_range-clause-memory : goal.returns-in_err-consider_range-clause-memory
-returns-in_err-consider_range-clause-memory g c =
-    on_err _ (elim c.in_err-consider_range.ensures.memory [
-      | inl found ↦ inl found
-      | inr begins ↦
-          inr (inl (any_here BeginsAfterPre c.args.kept.now _ _ c.loop-range-test.true c.range-item.is begins))
-    ])
+returns-in_err-consider_range-clause-memory g c = on_err _ (elim c.in_err-consider_range.ensures.memory [
+  | inl found ↦ inl found
+  | inr begins ↦
+      inr (inl (any_here BeginsAfterPre c.args.kept.now _ _ c.loop-range-test.true c.range-item.is begins))
+])
 
 pub consider_past-requires : goal.consider_past-requires
 consider_past-requires g c =
@@ -37,8 +35,7 @@ returns-in_err-consider_past-clause-memory g c =
     ])
 
 pub loop-interval-preserved : goal.loop-interval-preserved
-loop-interval-preserved g c =
-    removed_further g.W.Versioned.value (wanted c.args.kept.now (spans_of g.W.Versioned.value c.args.removed.now))
+loop-interval-preserved g c = removed_further g.W.Versioned.value (wanted c.args.kept.now (spans_of g.W.Versioned.value c.args.removed.now))
     c.args.removed.now c.loop-interval.interval-index c.interval-item.result c.loop-interval-test.true c.interval-item.is
     _ _ _ c.loop-interval.invariant (rw c.upper.ensures at c.in_ok-consider_past.ensures.best)
 

@@ -1,8 +1,20 @@
-use Rattle.nodejs_semver.proofs.Common.{append-nil}
+use Rattle.nodejs_semver.proofs.Common.{ap, append-nil, arith, bound_of, inl, inr, on_err_weaker}
 use Rattle.nodejs_semver.proofs.range.least.consider_past.Goals as goal
 
-pub returns-in-Before-clause-best : goal.returns-in-Before-clause-best
-returns-in-Before-clause-best g c = rw (c.in-Before.is, append-nil) c.consider_from.ensures.best
+pub returns-in-Before : goal.returns-in-Before
+returns-in-Before g c = record {
+  best = rw (c.in-Before.is, append-nil) c.consider_from.ensures.best;
+  memory = on_err_weaker c.consider_from.result (λ found. inl found) c.consider_from.ensures.memory;
+}
 
-pub returns-in-After-clause-best : goal.returns-in-After-clause-best
-returns-in-After-clause-best g c = rw (c.in-After.is, append-nil) c.consider_after.ensures.best
+pub consider_after-requires : goal.consider_after-requires
+consider_after-requires g c = (omega arith, rw c.in-After.is at c.requires)
+
+pub returns-in-After : goal.returns-in-After
+returns-in-After g c = record {
+  best = rw (c.in-After.is, append-nil) c.consider_after.ensures.best;
+  memory = on_err_weaker c.consider_after.result (λ m. elim m [
+    | inl found ↦ inl found
+    | inr pre ↦ inr (g.C.Versioned.value c.in-After.version, ap (bound_of g.C.Versioned.value) c.in-After.is, pre)
+  ]) c.consider_after.ensures.memory;
+}

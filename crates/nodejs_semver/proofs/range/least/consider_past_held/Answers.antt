@@ -1,26 +1,34 @@
-use Rattle.nodejs_semver.proofs.Common.{ap, bound_of, inr, on_err, sym, ◌∙◌}
+use Rattle.nodejs_semver.proofs.Common.{ap, bound_of, inl, inr, on_err, on_err_weaker, sym, ◌∙◌}
 use Rattle.nodejs_semver.proofs.range.least.consider_past_held.Goals as goal
 
-pub returns-in-Unbounded-clause-best : goal.returns-in-Unbounded-clause-best
-returns-in-Unbounded-clause-best g c = rw c.in-Unbounded.is (rw c.lowest.ensures at c.consider_held.ensures.best)
+pub returns-in-Unbounded : goal.returns-in-Unbounded
+returns-in-Unbounded g c = record {
+  best = rw c.in-Unbounded.is (rw c.lowest.ensures at c.consider_held.ensures.best);
+  memory = on_err_weaker c.consider_held.result (λ held. inl held) c.consider_held.ensures.memory;
+}
 
-pub returns-in-Before-clause-best : goal.returns-in-Before-clause-best
-returns-in-Before-clause-best g c = rw c.in-Before.is c.consider_held-in-Before.ensures.best
+pub returns-in-Before : goal.returns-in-Before
+returns-in-Before g c = record {
+  best = rw c.in-Before.is c.consider_held-in-Before.ensures.best;
+  memory = on_err_weaker c.consider_held-in-Before.result (λ held. inl held) c.consider_held-in-Before.ensures.memory;
+}
 
-pub returns-then-is_release-clause-best : goal.returns-then-is_release-clause-best
-returns-then-is_release-clause-best g c =
-    rw (c.in-After.is, sym c.is_release.ensures ∙ c.if-is_release.true)
-    (rw (c.first_pre.ensures, c.patch_after.ensures) at c.consider_held-then-is_release.ensures.best)
+pub patch_after-requires : goal.patch_after-requires
+patch_after-requires g c = rw c.in-After.is at c.requires
 
-pub returns-in_ok-pre_after-in-After-clause-best : goal.returns-in_ok-pre_after-in-After-clause-best
-returns-in_ok-pre_after-in-After-clause-best g c =
-    rw (c.in-After.is, sym c.is_release.ensures ∙ c.if-is_release.false)
-    (rw c.in_ok-pre_after-in-After.ensures at c.consider_held-in-After-2.ensures.best)
+pub returns-then-is_release : goal.returns-then-is_release
+returns-then-is_release g c = record {
+  best = rw (c.in-After.is, sym c.is_release.ensures ∙ c.if-is_release.true)
+      (rw (c.first_pre.ensures, c.patch_after.ensures) at c.consider_held-then-is_release.ensures.best);
+  memory = on_err_weaker c.consider_held-then-is_release.result (λ held. inl held) c.consider_held-then-is_release.ensures.memory;
+}
 
-pub returns-in_ok-pre_after-in-After-clause-memory : goal.returns-in_ok-pre_after-in-After-clause-memory
-returns-in_ok-pre_after-in-After-clause-memory g c =
-    let pre = sym c.is_release.ensures ∙ c.if-is_release.false in
-    on_err _ (inr (g.V.Versioned.value c.in-After.version, ap (bound_of g.V.Versioned.value) c.in-After.is, pre))
+pub returns-in_ok-pre_after-in-After : goal.returns-in_ok-pre_after-in-After
+returns-in_ok-pre_after-in-After g c =
+    let pre = sym c.is_release.ensures ∙ c.if-is_release.false in record {
+      best = rw (c.in-After.is, pre) (rw c.in_ok-pre_after-in-After.ensures at c.consider_held-in-After-2.ensures.best);
+      memory = on_err _ (inr (g.V.Versioned.value c.in-After.version, ap (bound_of g.V.Versioned.value) c.in-After.is, pre));
+    }
 
 pub returns-in_err-pre_after-in-After-clause-memory : goal.returns-in_err-pre_after-in-After-clause-memory
 returns-in_err-pre_after-in-After-clause-memory g c =

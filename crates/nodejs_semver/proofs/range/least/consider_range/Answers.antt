@@ -1,4 +1,4 @@
-use Rattle.nodejs_semver.proofs.Common.{arith, on_err, spans_of, wanted}
+use Rattle.nodejs_semver.proofs.Common.{arith, on_err, spans_of, take_all, wanted}
 use Rattle.nodejs_semver.proofs.Choice.Kinds.{begins_after, kept_further, lower_raisable}
 use Rattle.nodejs_semver.proofs.range.least.consider_range.Goals as goal
 
@@ -14,8 +14,10 @@ returns-in_err-consider_past-clause-memory g c =
     c.interval-item.is _ c.items-intervals.ensures.value _ c.lower.ensures.value c.in_err-consider_past.ensures.memory)
 
 pub loop-interval-preserved : goal.loop-interval-preserved
-loop-interval-preserved g c =
-    kept_further g.V.Versioned.value (wanted c.args.kept.now (spans_of g.W.Versioned.value c.args.removed.now))
+loop-interval-preserved g c = kept_further g.V.Versioned.value (wanted c.args.kept.now (spans_of g.W.Versioned.value c.args.removed.now))
     c.items-intervals.result.now c.loop-interval.interval-index c.interval-item.result c.loop-interval-test.true c.interval-item.is
     _ _ _ _ c.loop-interval.invariant (rw c.lower.ensures.value at c.in_ok-consider_past.ensures.best)
     (rw c.upper.ensures at c.in_ok-consider_named.ensures.best)
+
+pub returns-clause-best : goal.returns-clause-best
+returns-clause-best g c = rw (take_all _ c.items-intervals.result.now c.loop-interval-test.false, c.items-intervals.ensures.value) at c.loop-interval.invariant

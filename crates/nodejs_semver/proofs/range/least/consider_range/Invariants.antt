@@ -2,6 +2,5 @@ use Rattle.nodejs_semver.proofs.Common.{better, firsts, flat_map, fold, list_mar
 use Rattle.nodejs_semver.proofs.range.least.consider_range.Given as goal
 
 abbrev pub invariant-loop-interval : goal.invariant-loop-interval
-invariant-loop-interval g l =
-    l.best ≡ fold (better (wanted l.kept (spans_of g.W.Versioned.value l.removed))) l.initial.best
+invariant-loop-interval g l = l.best ≡ fold (better (wanted l.kept (spans_of g.W.Versioned.value l.removed))) l.initial.best
     (flat_map firsts (list_marks (spans_of g.V.Versioned.value (take l.interval-index l.intervals))))

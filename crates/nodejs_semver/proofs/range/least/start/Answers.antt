@@ -1,8 +1,7 @@
 use Rattle.nodejs_semver.proofs.Common.{After, Before, Bound, Unbounded, VersionValue, bound_of, refl, ◌∙◌, ◌≡◌}
 use Rattle.nodejs_semver.proofs.range.least.start.Goals as goal
 
-not_before : {V : Type 0} (value : V → VersionValue) (b : Bound V) → ((x : V) → b ≡ Before x → ⊥)
-    → (v : VersionValue) → bound_of value b ≡ Before v → ⊥
+not_before : {V : Type 0} (value : V → VersionValue) (b : Bound V) → ((x : V) → b ≡ Before x → ⊥) → (v : VersionValue) → bound_of value b ≡ Before v → ⊥
 not_before value Unbounded h v e = cc e
 not_before value (After x) h v e = cc e
 not_before value (Before x) h v e = h x refl

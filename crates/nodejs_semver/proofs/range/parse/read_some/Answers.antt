@@ -9,12 +9,10 @@ returns-clause-range g c =
     denoted_range MAX_SAFE_INTEGER c.args.text.now (g.S.Found.items c.read.new.found) c.in_ok-read.ensures.read some
 
 pub returns-clause-ok : goal.returns-clause-ok
-returns-clause-ok g c =
-    meant MAX_SAFE_INTEGER c.args.text.now (g.S.Found.items c.read.new.found) c.utf8.text c.in_ok-read.ensures.read
+returns-clause-ok g c = meant MAX_SAFE_INTEGER c.args.text.now (g.S.Found.items c.read.new.found) c.utf8.text c.in_ok-read.ensures.read
 
 pub returns-clause-set : goal.returns-clause-set
-returns-clause-set g c =
-    accepted_written MAX_SAFE_INTEGER c.args.text.now (g.S.Found.items c.read.new.found) c.utf8.text c.in_ok-read.ensures.read
+returns-clause-set g c = accepted_written MAX_SAFE_INTEGER c.args.text.now (g.S.Found.items c.read.new.found) c.utf8.text c.in_ok-read.ensures.read
 
 pub returns-then-is_empty-clause-refused : goal.returns-then-is_empty-clause-refused
 returns-then-is_empty-clause-refused g c =

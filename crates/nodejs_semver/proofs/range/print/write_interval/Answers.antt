@@ -15,8 +15,7 @@ returns-in_ok-write_str-in_default g c flush ok =
     ]) (has_written_styled_append _ _ _ _ _ _ lower (has_written_styled_append _ _ _ _ _ _ space upper))
 
 pub returns-in-Before-After : goal.returns-in-Before-After
-returns-in-Before-After g c flush ok =
-    has_written_styled_of_eq _ _ _ _ _
+returns-in-Before-After g c flush ok = has_written_styled_of_eq _ _ _ _ _
     (rw (sym c.lower-lower.ensures.value ∙ c.in-Before-After.is-0, sym c.upper-upper.ensures ∙ c.in-Before-After.is-1)
     (rw (ap is_eq (sym (g.met.V.VersionPoint.ordered c.in-Before-After.v c.in-Before-After.w))
     ∙ sym c.if-are_equal.ensures) refl)) (c.print.ensures flush ok)

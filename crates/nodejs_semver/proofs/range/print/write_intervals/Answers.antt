@@ -17,7 +17,6 @@ loop-interval-preserved g c =
     )
 
 pub returns : goal.returns
-returns g c flush ok =
-    has_written_styled_of_eq _ _ _ _ _
+returns g c flush ok = has_written_styled_of_eq _ _ _ _ _
     (ap (printed g.V.Versioned.value) (take_all _ c.args.intervals.now c.loop-interval-test.false)
     ∙ printed-values g.V.Versioned.value c.args.intervals.now) (c.loop-interval.invariant.2 flush)
