@@ -68,7 +68,8 @@ is_regular word = list_all is_inner word && (ends is_last word
 -- a malformed word: one that may not be well-formed, or one with four parts. What stands behind a sign, and behind
 -- the `-` of a hyphen range, may belong to it: so such a word is ignored only as the last one.
 abbrev pub is_malformed : Bool → List ℕ → Bool
-is_malformed last word = list_all is_visible word && (not (is_empty word) && ((last || not (ends is_sign word || bytes_eq word (codes "-")))
+is_malformed last word = list_all is_visible word && (not (is_empty word)
+    && ((last || not (ends is_sign word || bytes_eq word (codes "-")))
     && (has_four_parts word || not (is_regular word))))
 
 -- the visible characters at the front are one, and those at the end
