@@ -5,7 +5,6 @@ ghost use Rattle.semver_core.specs.Words.{interval, is_interval, is_lt, is_past,
 ghost use Rattle.semver_core.specs.Words.{left_above, left_below, lower_cut, meet, not, OnErr};
 ghost use Rattle.semver_core.specs.Words.{option_holds, remainders, true, upper_cut};
 
-use crate::Allocated;
 use crate::cuts::bound::{Bound, Point};
 use crate::cuts::cut_order::{
     greater_lower, into_greater_lower, into_lesser_upper, is_below, lesser_upper, lies_below,
@@ -63,20 +62,20 @@ impl<V: Point> Interval<V> {
         ensures whole { IfOk result (λ i. i ≡ self.now) }
         ensures memory { OnErr result (has_bound V.takes self.now ≡ true) }
     {
-        let lower = self.lower.copy(alloc)?;
-        let upper = self.upper.copy(alloc)?;
-        Ok(Interval { lower, upper })
+        Interval::of_copies(alloc, &self.lower, &self.upper)
     }
 
     // The interval between copies of two bounds that are known to be in order.
     #[inline(always)]
-    fn of_copies(alloc: Global, lower: &Bound<V>, upper: &Bound<V>) -> Allocated<Option<Self>>
+    fn of_copies(alloc: Global, lower: &Bound<V>, upper: &Bound<V>) -> Result<Self, AllocError>
         requires { is_interval V.cmp (record { lower = lower.now; upper = upper.now }) ≡ true }
-        ensures { IfOk result (λ i. i ≡ Some (record { lower = lower.now; upper = upper.now })) }
+        ensures whole { IfOk result (λ i. i ≡ record { lower = lower.now; upper = upper.now }) }
+        ensures memory { OnErr result
+            (has_bound V.takes (record { lower = lower.now; upper = upper.now }) ≡ true) }
     {
         let lower = lower.copy(alloc)?;
         let upper = upper.copy(alloc)?;
-        Ok(Some(Interval { lower, upper }))
+        Ok(Interval { lower, upper })
     }
 
     /// The interval between two bounds, and `None` exactly where the cut of the lower one is not
@@ -177,7 +176,7 @@ impl<V: Point> Interval<V> {
         }
         let lower = greater_lower(&self.lower, &other.lower);
         let upper = lesser_upper(&self.upper, &other.upper);
-        Interval::of_copies(alloc, lower, upper)
+        Ok(Some(Interval::of_copies(alloc, lower, upper)?))
     }
 
     /// The intersection, by moving the bounds of both intervals. It allocates nothing. Where
@@ -211,7 +210,7 @@ impl<V: Point> Interval<V> {
         }
         let lower = greater_lower(&other.lower, &self.lower);
         let upper = lesser_upper(&self.upper, &other.upper);
-        Interval::of_copies(alloc, lower, upper)
+        Ok(Some(Interval::of_copies(alloc, lower, upper)?))
     }
 
     /// What is left of the interval below the other one, and above it. A new bound is the other's
@@ -247,7 +246,7 @@ impl<V: Point> Interval<V> {
         ensures memory { OnErr result (IsTrue (is_some (left_below V.cmp self.now other.now))) }
     {
         if lower_order(&self.lower, &other.lower).is_lt() {
-            Interval::of_copies(alloc, &self.lower, &other.lower)
+            Ok(Some(Interval::of_copies(alloc, &self.lower, &other.lower)?))
         } else {
             Ok(None)
         }
@@ -265,7 +264,7 @@ impl<V: Point> Interval<V> {
         ensures memory { OnErr result (IsTrue (is_some (left_above V.cmp self.now other.now))) }
     {
         if upper_order(&other.upper, &self.upper).is_lt() {
-            Interval::of_copies(alloc, &other.upper, &self.upper)
+            Ok(Some(Interval::of_copies(alloc, &other.upper, &self.upper)?))
         } else {
             Ok(None)
         }

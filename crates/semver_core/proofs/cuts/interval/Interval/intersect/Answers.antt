@@ -1,6 +1,5 @@
-use Rattle.semver_core.proofs.Common.{ap, refl, sym, ◌∙◌, option_holds}
+use Rattle.semver_core.proofs.Common.{Some, ap, refl, sym, ◌∙◌, ◌≡◌, meet, option_holds}
 use Rattle.semver_core.proofs.CutLaws.{apart, bounded, is_some-interval, none_of, option_holds-meet}
-use Rattle.std.proofs.lemmas.Result.{MatchResult-weaker}
 use Rattle.semver_core.proofs.cuts.interval.Interval.intersect.Goals as goal
 
 pub of_copies-requires : goal.of_copies-requires
@@ -14,16 +13,15 @@ returns-then-not-meets-clause-bounds g c = sym (none_of _ (sym c.if-not-meets.en
 pub returns-then-not-meets-clause-set : goal.returns-then-not-meets-clause-set
 returns-then-not-meets-clause-set g c = apart g.met.V.Ord.total c.args.self.now c.args.other.now (sym c.if-not-meets.ensures)
 
-pub returns-clause-bounds : goal.returns-clause-bounds
-returns-clause-bounds g c =
-    MatchResult-weaker c.of_copies.result c.of_copies.ensures (λ r e.
-    e ∙ bounded g.met.V.Ord.total _ _ (sym c.if-not-meets.ensures)
-    (rw (c.greater_lower-lower.ensures, c.lesser_upper-upper.ensures, ← c.self.view_is, ← c.other.view_is) refl)) (λ e k. tt)
-
-pub returns-clause-set : goal.returns-clause-set
-returns-clause-set g c =
-    MatchResult-weaker c.of_copies.result (returns-clause-bounds g c) (λ r e v.
-    ap (λ r. option_holds g.V.Ord.cmp r v) e ∙ option_holds-meet g.met.V.Ord.total c.args.self.now c.args.other.now v) (λ e k. tt)
-
-pub returns-clause-memory : goal.returns-clause-memory
-returns-clause-memory g c = MatchResult-weaker c.of_copies.result c.of_copies.ensures (λ x k. tt) (λ e k. sym c.if-not-meets.ensures)
+pub returns : goal.returns
+returns g c =
+    let both : Some c.in_ok-of_copies.field-0 ≡ meet g.V.Ord.cmp c.args.self.now c.args.other.now =
+    bounded g.met.V.Ord.total _ _ (sym c.if-not-meets.ensures)
+    (c.in_ok-of_copies.ensures.whole
+    ∙ rw (c.greater_lower-lower.ensures, c.lesser_upper-upper.ensures, ← c.self.view_is, ← c.other.view_is) refl) in
+    record {
+      bounds = both;
+      set = λ v. ap (λ r. option_holds g.V.Ord.cmp r v) both
+          ∙ option_holds-meet g.met.V.Ord.total c.args.self.now c.args.other.now v;
+      memory = tt;
+    }
