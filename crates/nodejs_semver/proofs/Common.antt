@@ -76,7 +76,7 @@ pub use Rattle.std.specs.{Ordering.{bool_cmp, is_ge, nat_cmp, on, ordering_rever
 unfoldable pub use Rattle.nodejs_semver.specs.Internal.Fronts.{partial_front}
 unfoldable pub use Rattle.nodejs_semver.specs.Internal.Words.{from_boundary, is_boundary, word_at, words_within}
 -- words of readers
-pub use Rattle.nodejs_semver.specs.Internal.CommonFronts.{begins_second, is_sign, passed, pushed, word_read}
+pub use Rattle.nodejs_semver.specs.Internal.CommonFronts.{begins_second, is_sign, passed, word_read}
 pub use Rattle.nodejs_semver.specs.{Internal.Meets.{joined, next_at}, Text.Bars.{has_bars, is_bar, more_pieces, one_piece}}
 pub use Rattle.semver_core.proofs.Text.Trims.{after_blank-place, drop_spaces-blank, middle_is_trim, trim_is_middle}
 pub use Rattle.semver_core.specs.Text.Characters.{IsAfterBlank, IsPieceAt, NoPieceAt, is_identifier_char}

@@ -1,6 +1,5 @@
 -- Tests of two sets, and of what both hold and the first alone. Callers may cite these lemmas.
-use Rattle.nodejs_semver.proofs.Common.{Bool, Err, Failure, IsTrue, Memory, Ok, Refused, Result, false, not, refl, sym, true, ◌&&◌, ◌↔◌, ◌∙◌, ◌≡◌}
-use Rattle.semver_core.specs.{Failures.{RefusedOnlyIf}, declared.error.SemverError.{SemverError}}
+use Rattle.nodejs_semver.proofs.Common.{Bool, IsTrue, false, not, refl, sym, true, ◌&&◌, ◌↔◌, ◌∙◌, ◌≡◌}
 
 pub both_written : {A B : Type 0} (a b c : Bool) → c ≡ (a && b) → IsTrue a ↔ A → IsTrue b ↔ B → IsTrue c ↔ (A × B)
 both_written true true c e f g = (λ t. (f.0 refl, g.0 refl), λ p. e)
@@ -11,9 +10,3 @@ pub first_written : {A B : Type 0} (a b c : Bool) → c ≡ (a && not b) → IsT
 first_written true true c e f g = (λ t. cc (sym e ∙ t), λ p. absurd (p.1 (g.0 refl)))
 first_written true false c e f g = (λ t. (f.0 refl, λ y. cc (g.1 y)), λ p. e)
 first_written false b c e f g = (λ t. cc (sym e ∙ t), λ p. cc (f.1 p.0))
-
--- what never rejects its input rejects it for any reason
-pub refused_never : {A : Type 0} (P : Type 0) (r : Result A (Failure SemverError)) → RefusedOnlyIf r ⊥ → RefusedOnlyIf r P
-refused_never P (Ok x) h = tt
-refused_never P (Err (Refused e)) h = absurd h
-refused_never P (Err (Memory e)) h = tt

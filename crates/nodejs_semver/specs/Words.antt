@@ -4,28 +4,28 @@ pub use Rattle.nodejs_semver.specs.Diagnosis.IgnoredWords.{IsWhollyIgnored}
 pub use Rattle.nodejs_semver.specs.Diagnosis.Messages.{flaw_text, word_text}
 pub use Rattle.nodejs_semver.specs.Diagnosis.VersionFlaws.{IsExact, IsFlaw}
 pub use Rattle.nodejs_semver.specs.Internal.Along.{IsAlong}
-pub use Rattle.nodejs_semver.specs.Internal.CommonFronts.{common_range, pushed}
-pub use Rattle.nodejs_semver.specs.Internal.CommonViews.{between_view, both_view, bounds_front_view, passed_view}
+pub use Rattle.nodejs_semver.specs.Internal.CommonFronts.{common_range}
+pub use Rattle.nodejs_semver.specs.Internal.CommonViews.{bounds_front_view, passed_view}
 pub use Rattle.nodejs_semver.specs.Internal.Denotes.{denotes, part_bounds, part_denotes, part_intervals}
 pub use Rattle.nodejs_semver.specs.Internal.Fronts.{front_view, number_of, partial_front}
 pub use Rattle.nodejs_semver.specs.Internal.Hashes.{range_writes}
 pub use Rattle.nodejs_semver.specs.Internal.Ignored.{ignored_behind, kind_at, kind_view, left_list, left_size}
-pub use Rattle.nodejs_semver.specs.Internal.Ignored.{option_list}
+pub use Rattle.nodejs_semver.specs.Internal.Ignored.{option_list, read_at, word_view}
 pub use Rattle.nodejs_semver.specs.Internal.Meets.{joined_from, next_at}
 pub use Rattle.nodejs_semver.specs.Internal.PartFronts.{later_parts}
 pub use Rattle.nodejs_semver.specs.Internal.Parts.{cut_bars, parts}
 pub use Rattle.nodejs_semver.specs.Internal.Readings.{bounds_view, comparator_front_view, comparator_view, greater_view}
-pub use Rattle.nodejs_semver.specs.Internal.Readings.{hyphen_pushed_view, next_view, pair_view, part_view}
+pub use Rattle.nodejs_semver.specs.Internal.Readings.{next_view, pair_view, part_view}
 pub use Rattle.nodejs_semver.specs.Internal.Readings.{partial_front_view, partial_pair_view, partial_view, rest_view}
-pub use Rattle.nodejs_semver.specs.Internal.Readings.{sign_pair_view, sign_view, table_view, word_pushed_view}
+pub use Rattle.nodejs_semver.specs.Internal.Readings.{sign_pair_view, sign_view, table_view}
 pub use Rattle.nodejs_semver.specs.Internal.RunsFrom.{runs_of}
 pub use Rattle.nodejs_semver.specs.Internal.SameLaws.{range_alike, range_equiv}
 pub use Rattle.nodejs_semver.specs.Internal.Sets.{AreTaking, is_range_span, meets_of, minus, span_text}
 pub use Rattle.nodejs_semver.specs.Internal.Shorthands.{build_by, lies_above, lies_below, names, remainder, spans_of}
 pub use Rattle.nodejs_semver.specs.Internal.Shorthands.{value_of}
 pub use Rattle.nodejs_semver.specs.Internal.Stuck.{begins_dot, IsNumberAt, Stuck}
-pub use Rattle.nodejs_semver.specs.Internal.Words.{hyphen_pushed, is_boundary, signed_word, upper_behind, upper_of}
-pub use Rattle.nodejs_semver.specs.Internal.Words.{word_at, word_pushed, words}
+pub use Rattle.nodejs_semver.specs.Internal.Words.{is_boundary, signed_word, upper_behind, upper_of}
+pub use Rattle.nodejs_semver.specs.Internal.Words.{word_at, words}
 pub use Rattle.nodejs_semver.specs.Internal.Writes.{writes}
 pub use Rattle.nodejs_semver.specs.Json.{json_string, ReadsString}
 pub use Rattle.nodejs_semver.specs.Npm.Builds.{build_order}

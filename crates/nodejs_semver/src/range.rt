@@ -19,7 +19,7 @@ mod print;
 
 use crate::Allocated;
 pub use crate::range::outside::{OutsideDirection, RangeError};
-use semver_core::cuts::Interval;
+use semver_core::cuts::{Interval, Point};
 use semver_core::{Version, VersionPoint, VersionRef};
 use smallvec::SmallVec;
 use std::alloc::{AllocError, Global};
@@ -80,6 +80,7 @@ impl<V: VersionPoint> RangeOf<V> {
     }
 
     // The range of these intervals, or none where there is no interval.
+    #[inline(always)]
     pub(crate) fn from_intervals(intervals: Intervals<V>) -> Option<RangeOf<V>>
         requires { list_all (is_range_span (MAX_SAFE_INTEGER + 1))
             (spans_of V.value intervals.items) ≡ true }
@@ -136,7 +137,7 @@ impl<'a> RangeRef<'a> {
 }
 
 /// Copies of the intervals.
-pub(crate) fn copy_intervals<V: VersionPoint>(
+pub(crate) fn copy_intervals<V: Point>(
     alloc: Global,
     intervals: &[Interval<V>],
 ) -> Allocated<Intervals<V>>

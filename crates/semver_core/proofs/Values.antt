@@ -1,3 +1,4 @@
 pub mod Compared
 pub mod NextLaws
 pub mod Naturals
+pub mod Lists

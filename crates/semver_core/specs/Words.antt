@@ -30,7 +30,7 @@ pub use Rattle.semver_core.specs.Internal.IncrementSteps.{begun, can_rise, Fails
 pub use Rattle.semver_core.specs.Internal.IncrementSteps.{parts_ref_value, RefusedWith, ReturnsParts, stepped, Steps}
 pub use Rattle.semver_core.specs.Internal.IncrementSteps.{Tracks}
 pub use Rattle.semver_core.specs.Internal.OrderLaws.{id_alike, id_total, numbers_cmp, precedence_total, version_alike}
-pub use Rattle.semver_core.specs.Internal.Reading.{digits_end, digits_from, list_at, list_from, list_len, lists_at}
+pub use Rattle.semver_core.specs.Internal.Reading.{digits_end, digits_from, IsListAdded, list_at, list_from, list_len, lists_at}
 pub use Rattle.semver_core.specs.Internal.Reading.{number_at, part_at, placed, qualified, triple_at}
 pub use Rattle.semver_core.specs.Internal.Sources.{ids_of, IsSource}
 pub use Rattle.semver_core.specs.Internal.Spaces.{drop_end_spaces}

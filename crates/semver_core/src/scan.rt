@@ -4,18 +4,17 @@
 //! A call on a `&str` takes a place in it, a byte index. A call on a `&[u8]` reads at the front of
 //! the bytes, save `number_in`, which takes a place.
 
-ghost use Rattle.std.specs.Prelude.{◌≡◌, ◌≤◌, ◌+◌, ◌-◌, ◌*◌, ◌<◌, ℕ, [], drop, IfNone, IfOk};
-ghost use Rattle.semver_core.specs.Words.{begins, digits_end, digits_from, drop_end_spaces};
+ghost use Rattle.std.specs.Prelude.{◌≡◌, ◌≤◌, ◌++◌, ◌+◌, ◌-◌, ◌*◌, ◌<◌, ℕ, [], drop, IfNone, IfOk};
+ghost use Rattle.semver_core.specs.Words.{false, begins, digits_end, digits_from, drop_end_spaces};
 ghost use Rattle.semver_core.specs.Words.{goes_on, grown, Id, id_view, identifier_of, ids_view};
 ghost use Rattle.semver_core.specs.Words.{IfSome, is_identifier_char, is_listed, is_whitespace};
+ghost use Rattle.semver_core.specs.Words.{IsListAdded, listed, OnOk};
 ghost use Rattle.semver_core.specs.Words.{IsAfterBlank, IsCharBoundary, IsLongestIdentifiers};
 ghost use Rattle.semver_core.specs.Words.{IsPieceAt, IsTrim, IsUtf8, IsWholeNumber, length, List};
-ghost use Rattle.semver_core.specs.Words.{list_at, listed, NoPieceAt, number_at, OnErr, OnOk};
+ghost use Rattle.semver_core.specs.Words.{NoPieceAt, number_at, OnErr};
 ghost use Rattle.semver_core.specs.Words.{placed, prefix_len, run_from, take, true, utf8_valid_len};
 
-use crate::version::lists::Identifiers;
 use crate::{Allocated, Identifier, MAX_SAFE_INTEGER};
-use smallvec::SmallVec;
 use std::alloc::{AllocError, Global};
 
 /// Returns the longest text at the front of some bytes, which is all of them where they are UTF-8:
@@ -253,13 +252,15 @@ pub(crate) fn begins_at(text: &str, at: usize) -> bool
     begins_identifier(&text.as_bytes()[at..])
 }
 
+// Whether a list goes on at the end of a run, where no character of identifiers stands.
 #[inline(always)]
-#[tactic(auto, using(std::proofs::lemmas::List::take_rest))]
+#[tactic(auto, using(crate::proofs::Text::Digits::places))]
 pub(crate) fn goes_on_at(text: &str, at: usize) -> bool
-    requires { at ≤ length text.now }
+    requires place { at ≤ length text.now }
+    requires stop { begins is_identifier_char (drop at text.now) ≡ false }
     ensures { result ≡ goes_on (drop at text.now) }
 {
-    goes_on(&text.as_bytes()[at..])
+    matches!(&text.as_bytes()[at..], [b'.', byte, ..] if is_identifier_char(*byte))
 }
 
 // The number that digits write so far, with one byte more: none where a byte is no digit, or the
@@ -290,10 +291,26 @@ pub(crate) fn run_end(bytes: &[u8], start: usize) -> usize
     bytes.len()
 }
 
-// Where the run at a place ends, and the number that it writes, in one pass.
+// Where the run that begins at a place ends, and the number that it writes. Most are letters, or a
+// number up to the limit.
 #[inline(always)]
 #[tactic(auto, using(crate::proofs::Text::Digits::run_ends))]
 pub(crate) fn scan_run(bytes: &[u8], start: usize) -> (usize, Option<u64>)
+    requires place { start ≤ length bytes.now }
+    requires here { begins is_identifier_char (drop start bytes.now) ≡ true }
+    ensures { result ≡ run_from (Some 0) start (drop start bytes.now) }
+{
+    match digits(bytes, start) {
+        Some((number, end)) if !begins_identifier(&bytes[end..]) => (end, Some(number)),
+        None if !bytes[start].is_ascii_digit() => (run_end(bytes, start + 1), None),
+        _ => mixed_run(bytes, start),
+    }
+}
+
+// `scan_run` of any run, byte by byte.
+#[inline(never)]
+#[tactic(auto, using(crate::proofs::Text::Digits::run_ends))]
+fn mixed_run(bytes: &[u8], start: usize) -> (usize, Option<u64>)
     requires { start ≤ length bytes.now }
     ensures { result ≡ run_from (Some 0) start (drop start bytes.now) }
 {
@@ -360,45 +377,66 @@ pub fn identifiers(
     if !begins_at(text, at) {
         return Ok(None);
     }
-    let mut list = SmallVec::new(alloc);
-    let end = read_into(alloc, text, at, &mut list)?;
-    Ok(Some((list.into_vec()?, end)))
+    let mut list = Vec::new(alloc);
+    let end = read_list(alloc, text, at, &mut list)?;
+    Ok(Some((list, end)))
 }
 
-// Fills an empty list with the identifiers at a place where one begins.
-pub(crate) fn read_into(
+// Adds to a list the identifiers at a place where one begins.
+#[inline(never)]
+pub(crate) fn read_list(
     alloc: Global,
     text: &str,
     at: usize,
-    list: &mut Identifiers,
-) -> Result<usize, AllocError>
+    list: &mut Vec<Identifier>,
+) -> Allocated<usize>
     requires inside { at ≤ length text.now }
     requires here { begins is_identifier_char (drop at text.now) ≡ true }
-    requires empty { list.old.items ≡ [] }
     ensures place { IfOk result (λ end. end ≤ length text.now) }
-    ensures exact { IfOk result (λ end. Some (ids_view list.new.items, end) ≡ list_at text.now at) }
+    ensures exact { IfOk result (λ end.
+        IsListAdded text.now at end (ids_view list.old.items) (ids_view list.new.items)) }
+{
+    read_from(alloc, text, at, scan_run(text.as_bytes(), at), list)
+}
+
+// `read_list` where `scan_run` found the first of them.
+#[inline(always)]
+pub(crate) fn read_from(
+    alloc: Global,
+    text: &str,
+    at: usize,
+    first: (usize, Option<u64>),
+    list: &mut Vec<Identifier>,
+) -> Allocated<usize>
+    requires inside { at ≤ length text.now }
+    requires here { begins is_identifier_char (drop at text.now) ≡ true }
+    requires first { first ≡ run_from (Some 0) at (drop at text.now) }
+    ensures place { IfOk result (λ end. end ≤ length text.now) }
+    ensures exact { IfOk result (λ end.
+        IsListAdded text.now at end (ids_view list.old.items) (ids_view list.new.items)) }
 {
     let mut start = at;
+    let mut run = first;
     'runs: loop {
-        let run = scan_run(text.as_bytes(), start);
         let id = run_id(alloc, text, start, run)?;
         list.push(id)?;
         if !goes_on_at(text, run.0) {
             return Ok(run.0);
         }
         start = run.0 + 1;
+        run = scan_run(text.as_bytes(), start);
     }
 }
 
-// Fills an empty list with the identifiers that a text spells, joined by dots.
+// Adds to a list the identifiers that a text spells, joined by dots.
 #[tactic(auto, using(crate::proofs::Text::Listed::listed_read))]
-pub(crate) fn read_listed(alloc: Global, bytes: &[u8], list: &mut Identifiers) -> Allocated<()>
-    requires listed { is_listed bytes.now ≡ true }
-    requires empty { list.old.items ≡ [] }
-    ensures whole { OnOk result (ids_view list.new.items ≡ listed bytes.now) }
+pub(crate) fn read_listed(alloc: Global, bytes: &[u8], list: &mut Vec<Identifier>) -> Allocated<()>
+    requires { is_listed bytes.now ≡ true }
+    ensures { OnOk result (ids_view list.new.items ≡ ids_view list.old.items ++ listed bytes.now) }
 {
-    if !bytes.is_empty() {
-        read_into(alloc, text_front(bytes), 0, list)?;
+    if bytes.is_empty() {
+        return Ok(());
     }
+    let _end = read_list(alloc, text_front(bytes), 0, list)?;
     Ok(())
 }

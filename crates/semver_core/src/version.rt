@@ -104,10 +104,7 @@ impl Version {
         match &qualifier {
             Qualifier::Absent => {}
             Qualifier::One(id) => is_id(id),
-            Qualifier::Lists(lists) => {
-                are_ids(&lists.pre_release);
-                are_ids(&lists.build);
-            }
+            Qualifier::Lists(lists) => are_ids(&lists.ids),
         }
         Version {
             major,
@@ -149,7 +146,7 @@ impl Version {
         match &self.qualifier {
             Qualifier::Absent => &[],
             Qualifier::One(id) => slice::from_ref(id),
-            Qualifier::Lists(lists) => lists.pre_release.as_slice(),
+            Qualifier::Lists(lists) => &lists.ids[..lists.pre_len],
         }
     }
 
@@ -160,7 +157,7 @@ impl Version {
     {
         match &self.qualifier {
             Qualifier::Absent | Qualifier::One(_) => &[],
-            Qualifier::Lists(lists) => lists.build.as_slice(),
+            Qualifier::Lists(lists) => &lists.ids[lists.pre_len..],
         }
     }
 

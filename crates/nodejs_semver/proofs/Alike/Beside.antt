@@ -36,16 +36,12 @@ release_in s v r = rw r refl
 
 -- ---- versions of other numbers
 
-upto_bits : (t s : Ordering) → is_le t ≡ true → is_eq t ≡ false → is_le (ordering_then t s) ≡ true
-upto_bits t s h k = grind arith
-
 triple_zero : (w v : VersionValue) → is_zero w ≡ true → is_le (triple_cmp w v) ≡ true
 triple_zero w v z = grind (arith, nat_tests, common_steps, and_parts, eqb-true)
 
 -- a version of other numbers is above 0.0.0
 zero-upto : (w v : VersionValue) → is_zero w ≡ true → same_triple w v ≡ false → is_ge (precedence v w) ≡ true
-zero-upto w v z h = ge_is v w ∙ ap is_le (in_two_steps w v)
-    ∙ upto_bits (triple_cmp w v) (pre_cmp w.pre_release v.pre_release) (triple_zero w v z) (sym (same_triple_is w v) ∙ h)
+zero-upto w v z h = grind (arith, nat_tests, common_steps, ge_is, in_two_steps)
 
 apart_bits : (t s r : Ordering) → is_eq t ≡ false → is_lt (ordering_then t s) ≡ is_lt (ordering_then t r)
 apart_bits t s r h = grind arith
@@ -55,13 +51,9 @@ turned t s e = grind arith
 
 -- and it is below a release exactly if it is below its least pre-release
 apart-lt : (v : VersionValue) (n : Numbers) → same_triple (release n) v ≡ false → is_lt (precedence v (release n)) ≡ is_lt (precedence v (lowest n))
-apart-lt v n h =
-    grind (arith, nat_tests, common_steps, in_two_steps, apart_bits, triple_cmp, turned, triple_total, same_triple_is)
+apart-lt v n h = grind (arith, nat_tests, common_steps, in_two_steps, apart_bits, turned, triple_total, same_triple_is)
 
 -- ---- pre-releases up to the greatest version of some numbers
-
-less_bits : (t s : Ordering) → is_lt s ≡ true → is_le (ordering_then t s) ≡ is_le t
-less_bits t s h = grind arith
 
 greater_bits : (t s : Ordering) → is_lt s ≡ false → is_lt (ordering_then t Greater) ≡ is_lt (ordering_then t s)
 greater_bits t s h = grind arith
@@ -70,15 +62,12 @@ pre_below : (x : List Id) → is_empty x ≡ false → is_lt (pre_cmp x []) ≡ 
 pre_below [] h = cc h
 pre_below (a ∷ x) h = refl
 
-zero_not_above : (x : List Id) → is_lt (pre_cmp x (Numeric 0 ∷ [])) ≡ false
-zero_not_above x = lt_is pre_total x (Numeric 0 ∷ []) ∙ ap not (zero_least x)
-
 most-held : (v : VersionValue) (w n : Numbers) → is_release v ≡ false
     → is_le (triple_cmp v (release w)) ≡ is_lt (ordering_then (triple_cmp v (lowest n)) Greater)
     → to_upper (After (release w)) v ≡ passed v (under n ∷ [])
 most-held v w n r h = upper-after (release w) v ∙ ap is_le (in_two_steps v (release w))
-    ∙ less_bits (triple_cmp v (release w)) (pre_cmp v.pre_release []) (pre_below v.pre_release r) ∙ h
-    ∙ greater_bits (triple_cmp v (lowest n)) (pre_cmp v.pre_release (Numeric 0 ∷ [])) (zero_not_above v.pre_release)
+    ∙ (grind arith) ∙ h ∙ greater_bits _ (pre_cmp v.pre_release (Numeric 0 ∷ []))
+    (lt_is pre_total v.pre_release (Numeric 0 ∷ []) ∙ ap not (zero_least v.pre_release))
     ∙ sym (ap is_lt (in_two_steps v (lowest n))) ∙ sym (and-true _)
 
 -- ---- the tests of a word at a pre-release of other numbers
@@ -159,15 +148,12 @@ module _ (pre : Bool) (v : VersionValue) (within : IsWithin MAX_SAFE_INTEGER v) 
 
 -- ---- a pre-release names its own numbers alone
 
-or_none : (a : Bool) → (a || false) ≡ true → a ≡ true
-or_none a h = grind arith
-
 own-version : (v : VersionValue) (c : Comparator) (w : VersionValue) (text : List ℕ)
     → named_by v (put c w text ∷ []) ≡ true → same_triple w v ≡ true
 own-version v c w text h = (and_parts (not (is_release w)) _ (named-own v (put c w text) h)).1
   where
     named-own : (v : VersionValue) (c : Comparison) → named_by v (c ∷ []) ≡ true → Npm.names v c ≡ true
-    named-own v c h = grind (arith, nat_tests, common_steps, or_none)
+    named-own v c h = grind (arith, nat_tests, common_steps)
 
 own-numbers : (v : VersionValue) (c : Comparator) (pre : Bool) (p : Partial) (text : List ℕ) → Form pre p → is_empty p.pre_release ≡ false
     → named_by v (Table.table false (compared c) (npm_partial p) text) ≡ true → same_triple (version_of p) v ≡ true
@@ -178,11 +164,8 @@ same-right w u v h = grind (arith, nat_tests, common_steps, and_parts, eqb-true)
 
 -- ---- two comparisons
 
-free_bits : (pre a b e : Bool) → (a && (b && (pre || e))) ≡ true → e ≡ true → (a && (b && (false || e))) ≡ true
-free_bits pre a b e h f = grind arith
-
 plain-free : (pre : Bool) (p : Partial) → is_plain pre p ≡ true → is_empty p.pre_release ≡ true → is_plain false p ≡ true
-plain-free pre p h e = grind (arith, nat_tests, common_steps, partial, free_bits)
+plain-free pre p h e = grind (arith, nat_tests, common_steps, partial)
 
 apart_so : (f r s : Bool) → (f || not (not r && s)) ≡ true → r ≡ false → (f || not s) ≡ true
 apart_so f r s h e = grind arith

@@ -1,8 +1,8 @@
 -- A version and a span, and what it says of a list of comparators: the ends of a span, each beside comparators.
-use Rattle.nodejs_semver.proofs.{Algebra.Gate.{in_two_steps, lt_is, triple_cmp}, Common.{After, Before, Bool, Bound, Comparator, Equal}}
+use Rattle.nodejs_semver.proofs.{Algebra.Gate.{in_two_steps, lt_is, triple_cmp}, Common.{After, Before, Bool, Bound, Comparator}}
 use Rattle.nodejs_semver.proofs.Common.{Greater, Id, List, MAX_SAFE_INTEGER, Numeric, Ordering, Span, Unbounded, VersionValue, [], above}
 use Rattle.nodejs_semver.proofs.Common.{and-true, and_parts, ap, ap₂, arith, at_most, below, cases_Bool, codes, common_steps, empty_is}
-use Rattle.nodejs_semver.proofs.Common.{eqb-true, equal, false, filter, holds, inl, inr, is_ge, is_gt, is_interval, is_le, is_lt, is_past}
+use Rattle.nodejs_semver.proofs.Common.{eqb-true, equal, false, filter, holds, inl, inr, is_ge, is_interval, is_le, is_lt, is_past}
 use Rattle.nodejs_semver.proofs.Common.{is_release, lets_in, list_all, list_all-append, list_any, list_any-append, lower_cut, names}
 use Rattle.nodejs_semver.proofs.Common.{nat_tests, not, not-false, ordering_reverse, ordering_then, pre_cmp, precedence, precedence_total}
 use Rattle.nodejs_semver.proofs.Common.{refl, sym, true, upper_cut, ℕ, ◌&&◌, ◌++◌, ◌+◌, ◌==◌, ◌||◌, ◌∙◌, ◌∷◌, ◌≡◌, ◌≤◌, ◌⊎◌}
@@ -61,8 +61,7 @@ pub record ExactWord (v : VersionValue) (s : Span VersionValue) (cs : List Compa
 -- ---- two ends
 
 pub passed-both : (v : VersionValue) (cs ds : List Comparison) → passed v (cs ++ ds) ≡ (passed v cs && passed v ds)
-passed-both v cs ds = ap (λ l. list_all (satisfies v) l) (filter-append (counts false) cs ds)
-    ∙ list_all-append (satisfies v) (filter (counts false) cs) (filter (counts false) ds)
+passed-both v cs ds = grind (arith, nat_tests, common_steps, filter-append, list_all-append)
 
 pub named-both : (v : VersionValue) (cs ds : List Comparison) → named_by v (cs ++ ds) ≡ (named_by v cs || named_by v ds)
 named-both v cs ds = ap (λ l. list_any (Npm.names v) l) (filter-append (counts false) cs ds)
@@ -82,9 +81,7 @@ apart_bits r t n u m e a b = grind arith
 pub tame-both : (v : VersionValue) (b u : Bound VersionValue) (cs ds : List Comparison) → Tame v (from_lower b v) (names b v) cs
     → Tame v (to_upper u v) (names u v) ds → Alike v (record { lower = b; upper = u }) (cs ++ ds)
 tame-both v b u cs ds h k =
-    tame_bits (is_release v) (from_lower b v) (names b v) (passed v cs) (named_by v cs) (to_upper u v) (names u v) (passed v ds) (named_by v ds)
-    h.released k.released h.here k.here h.there k.there
-    ∙ sym (meets-both v cs ds)
+    tame_bits _ _ _ _ _ _ _ _ _ h.released k.released h.here k.here h.there k.there ∙ sym (meets-both v cs ds)
 
 pub exact-span : (v : VersionValue) (b u : Bound VersionValue) (cs ds : List Comparison) → Exact v (from_lower b v) (names b v) cs
     → Exact v (to_upper u v) (names u v) ds → ExactWord v (record { lower = b; upper = u }) (cs ++ ds)
@@ -116,17 +113,11 @@ zero_from v w h z = grind (arith, nat_tests, common_steps)
 pub lower-before : (w v : VersionValue) → from_lower (Before w) v ≡ is_ge (precedence v w)
 lower-before w v = past-before w v
 
-not_ge : (r : Ordering) → not (is_ge r) ≡ is_lt r
-not_ge r = grind arith
-
-not_gt : (r : Ordering) → not (is_gt r) ≡ is_le r
-not_gt r = grind arith
-
 pub upper-before : (w v : VersionValue) → to_upper (Before w) v ≡ is_lt (precedence v w)
-upper-before w v = ap not (past-before w v) ∙ not_ge (precedence v w)
+upper-before w v = ap not (past-before w v) ∙ (grind arith)
 
 pub upper-after : (w v : VersionValue) → to_upper (After w) v ≡ is_le (precedence v w)
-upper-after w v = ap not (past-after w v) ∙ not_gt (precedence v w)
+upper-after w v = ap not (past-after w v) ∙ (grind arith)
 
 -- ---- no end
 
@@ -171,16 +162,12 @@ under-tame v n = exact-tame v _ _ _ (under-exact v n) (under-there v n)
 
 -- ---- lower ends, of which one need not count
 
--- `>=` of 0.0.0 alone does not count
-made-zero : (w : VersionValue) → is_valid MAX_SAFE_INTEGER (made at_least w) ≡ true → counts false (made at_least w) ≡ false → is_zero w ≡ true
-made-zero w h k = grind (arith, nat_tests, common_steps, and_parts, prints_zero, not-false)
-
 -- a comparator of a version whose text may be `0.0.0` only where it is that version
 pub record Spelled (w : VersionValue) (text : List ℕ) : Type 0 where
   pub zero : bytes_eq text (codes "0.0.0") ≡ true → is_zero w ≡ true
 
 pub made-spelled : (w : VersionValue) → is_valid MAX_SAFE_INTEGER (made at_least w) ≡ true → Spelled w (version_text w)
-made-spelled w h = record { zero = λ e. made-zero w h (ap not e) }
+made-spelled w h = record { zero = λ e. (grind (arith, nat_tests, common_steps, and_parts, prints_zero, not-false)) }
 
 -- `>=0.0.0` of the table, where no comparator of it counts
 pub record OpenLow (v w : VersionValue) (cs : List Comparison) : Type 0 where
@@ -236,9 +223,6 @@ release_lt v n r = grind (arith, nat_tests, common_steps)
 pub below-tame : (v : VersionValue) (n : Numbers) → Tame v (to_upper (Before (release n)) v) (names (Before (release n)) v) (under n ∷ [])
 below-tame v n = grind (arith, nat_tests, common_steps, and-true, release_lt, under-there, upper-before)
 
-then_equal : (r : Ordering) → is_le (ordering_then r Equal) ≡ is_le r
-then_equal r = grind arith
-
 -- a release up to w is below n, where their numbers say so
 pub most-tame : (v : VersionValue) (w n : Numbers) → is_le (triple_cmp v (release w)) ≡ is_lt (ordering_then (triple_cmp v (lowest n)) Greater)
     → Tame v (to_upper (After (release w)) v) (names (After (release w)) v) (under n ∷ [])
@@ -247,7 +231,7 @@ most-tame v w n h = record {
       let e = empty_is v.pre_release r in
       upper-after (release w) v
       ∙ ap is_le (in_two_steps v (release w)) ∙ ap (λ l. is_le (ordering_then (triple_cmp v (release w)) (pre_cmp l []))) e
-      ∙ then_equal (triple_cmp v (release w)) ∙ h
+      ∙ (grind arith) ∙ h
       ∙ sym (ap is_lt (in_two_steps v (lowest n)) ∙ ap (λ l. is_lt (ordering_then (triple_cmp v (lowest n)) (pre_cmp l (Numeric 0 ∷ [])))) e)
       ∙ sym (and-true _);
   here = refl;
@@ -265,12 +249,10 @@ most_minor v limit M m k = grind (arith, nat_tests, common_steps)
 -- ---- the other comparators of whole versions
 
 pub whole_above : (v w : VersionValue) (text : List ℕ) → ExactWord v (record { lower = After w; upper = Unbounded }) (put above w text ∷ [])
-whole_above v w text = exact-span v (After w) Unbounded (put above w text ∷ []) []
-    (counted-exact v _ _ (put above w text) refl (past-after w v) refl) (free-exact v)
+whole_above v w text = grind (arith, nat_tests, common_steps, exact-span, counted-exact, past-after, free-exact)
 
 pub whole_below : (v w : VersionValue) (text : List ℕ) → ExactWord v (record { lower = Unbounded; upper = Before w }) (put below w text ∷ [])
-whole_below v w text = exact-span v Unbounded (Before w) [] (put below w text ∷ []) (free-exact v)
-    (counted-exact v _ _ (put below w text) refl (upper-before w v) refl)
+whole_below v w text = grind (arith, nat_tests, common_steps, exact-span, free-exact, counted-exact, upper-before)
 
 pub most-exact : (v w : VersionValue) (text : List ℕ) → Exact v (to_upper (After w) v) (names (After w) v) (put at_most w text ∷ [])
 most-exact v w text = counted-exact v _ _ (put at_most w text) refl (upper-after w v) refl
@@ -278,16 +260,9 @@ most-exact v w text = counted-exact v _ _ (put at_most w text) refl (upper-after
 pub whole_most : (v w : VersionValue) (text : List ℕ) → ExactWord v (record { lower = Unbounded; upper = After w }) (put at_most w text ∷ [])
 whole_most v w text = exact-span v Unbounded (After w) [] (put at_most w text ∷ []) (free-exact v) (most-exact v w text)
 
-equal_tests : (g l e : Bool) → (g && l) ≡ e → (g && l) ≡ (e && true)
-equal_tests g l e h = grind arith
-
-equal_names : (r n : Bool) → (r || (n || n)) ≡ (r || (n || false))
-equal_names r n = grind arith
-
 pub whole_equal : (v w : VersionValue) (build : List Id) (text : List ℕ)
     → ExactWord v (record { lower = Before w; upper = After w }) (put equal (record w { build = build }) text ∷ [])
-whole_equal v w build text =
-    grind (arith, nat_tests, common_steps, equal_tests, from_lower, to_upper, lower-before, upper-after, equal_names)
+whole_equal v w build text = grind (arith, nat_tests, common_steps, lower-before, upper-after)
 
 -- ---- a pre-release above 0.0.0
 

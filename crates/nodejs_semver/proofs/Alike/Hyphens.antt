@@ -1,14 +1,14 @@
 -- Hyphen ranges: their ends, and both together.
-use Rattle.nodejs_semver.proofs.Alike.{Beside.interval-is, Ends.{Alike, Exact, Low, OpenLow, any_low, counted-exact, exact-span, from_low}}
+use Rattle.nodejs_semver.proofs.Alike.{Beside.interval-is, Ends.{Exact, Low, any_low, counted-exact, exact-span, from_low}}
 use Rattle.nodejs_semver.proofs.Alike.Ends.{from_lower, lower-before, meets-both, most-exact, named_by, nameless-tame, not_named}
 use Rattle.nodejs_semver.proofs.Alike.Ends.{open-named, passed, put, to_upper, under-exact, under-tame, upper-after, whole_low}
 use Rattle.nodejs_semver.proofs.Alike.{Ends.{zero-release, zero_from}, Rows.{Form, SameWord, any, exact-word, form, low-word, one}}
 use Rattle.nodejs_semver.proofs.{Alike.Rows.{text-spelled, three, two, version}, Common.{After, Before, Bool, Bound, List}}
 use Rattle.nodejs_semver.proofs.Common.{MAX_SAFE_INTEGER, Partial, Some, Span, VersionValue, [], and_parts, arith, at_most, common_steps}
-use Rattle.nodejs_semver.proofs.Common.{false, first_so, hyphen, inl, inr, interval, is_empty, is_interval, is_release, is_some, list_all}
+use Rattle.nodejs_semver.proofs.Common.{false, first_so, hyphen, inl, inr, interval, is_interval, is_release, is_some, list_all}
 use Rattle.nodejs_semver.proofs.Common.{list_all-append, names, nat_tests, precedence, refl, subst, sym, table, true, version_of, ℕ, ◌&&◌}
 use Rattle.nodejs_semver.proofs.{Common.{◌++◌, ◌+◌, ◌||◌, ◌∙◌, ◌∷◌, ◌≡◌}, NpmCommon.{Comparison, IsPartial, IsPlainPartial, from}}
-use Rattle.nodejs_semver.proofs.NpmCommon.{hyphen_lower, hyphen_upper, is_plain, is_valid, made, npm_partial, under}
+use Rattle.nodejs_semver.proofs.NpmCommon.{hyphen_lower, hyphen_upper, is_valid, made, npm_partial, under}
 use Rattle.nodejs_semver.specs.Npm.Table.{lowest, no_build}
 
 -- ---- the lower end
@@ -27,23 +27,15 @@ open_bits : (r l u n : Bool) → (r ≡ true → l ≡ true) → (n ≡ true →
     → ((l && u) && (r || (false || n))) ≡ ((true && u) && (r || (false || n)))
 open_bits r l u n f g = grind arith
 
-open-alike : (v w z : VersionValue) (cs ds : List Comparison) → OpenLow v w cs → is_release z ≡ false
-    → is_interval precedence (record { lower = Before w; upper = After z }) ≡ true
-    → Exact v (to_upper (After z) v) (names (After z) v) ds → Alike v (record { lower = Before w; upper = After z }) (cs ++ ds)
-open-alike v w z cs ds o h i k =
-    grind (arith, not_named, zero-release, open_bits, from_lower, to_upper, lower-before, zero_from, open-named, passed, named_by, meets-both)
-
 -- up to a pre-release
 pre-word : (pre : Bool) (v w z : VersionValue) (cs ds : List Comparison) → pre ≡ true → is_release z ≡ false → Low v w cs
     → Exact v (to_upper (After z) v) (names (After z) v) ds → is_interval precedence (record { lower = Before w; upper = After z }) ≡ true
     → SameWord pre v (record { lower = Before w; upper = After z }) (cs ++ ds)
 pre-word pre v w z cs ds p h (inl e) k i = exact-word pre v _ (cs ++ ds) (exact-span v (Before w) (After z) cs ds e k) (λ n. cc (p, n))
-pre-word pre v w z cs ds p h (inr o) k i = record { same = open-alike v w z cs ds o h i k; released = λ n. cc (p, n) }
+pre-word pre v w z cs ds p h (inr o) k i =
+    record { same = (grind (arith, not_named, zero-release, open_bits, from_lower, to_upper, lower-before, zero_from, open-named, passed, named_by, meets-both)); released = λ n. cc (p, n) }
 
 -- ---- hyphen ranges
-
-plain-written : (pre : Bool) (p : Partial) → is_plain pre p ≡ true → (pre || is_empty p.pre_release) ≡ true
-plain-written pre p h = grind (arith, nat_tests, common_steps)
 
 -- the interval is the span that was made
 made-word : (pre : Bool) (v w : VersionValue) (u : Bound VersionValue) (t : Span VersionValue) (cs : List Comparison)
@@ -82,4 +74,5 @@ pub between-good : (pre : Bool) (v : VersionValue) (x y : List ℕ) (p q : Parti
 between-good pre v x y p q s h g m e k =
     let cs = hyphen_lower false (npm_partial p) x in
     let (kc, kd) = and_parts _ _ (sym (list_all-append (is_valid MAX_SAFE_INTEGER) cs (hyphen_upper false (npm_partial q) y)) ∙ k) in
-    hyphen-form pre v p q cs y s (low-form pre v x p (form pre p h.plain) h.npm kc) (plain-written pre p h.plain) (form pre q g.plain) m e
+    hyphen-form pre v p q cs y s (low-form pre v x p (form pre p h.plain) h.npm kc) (grind (arith, nat_tests, common_steps))
+    (form pre q g.plain) m e

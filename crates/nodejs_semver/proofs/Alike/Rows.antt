@@ -71,8 +71,7 @@ band-word pre v n m h = until-word pre v (release n) m (or-true pre) h
 -- from them on
 from-word : (pre : Bool) (v : VersionValue) (n : Numbers) → list_all (is_valid MAX_SAFE_INTEGER) (from false n ∷ []) ≡ true
     → SameWord pre v (record { lower = Before (release n); upper = Unbounded }) (from false n ∷ [])
-from-word pre v n h = low-word pre v (release n) Unbounded (from false n ∷ []) [] (or-true pre)
-    (from_low v n (first_so (is_valid MAX_SAFE_INTEGER (from false n)) _ h)) (free-tame v) (free-exact v)
+from-word pre v n h = grind (arith, nat_tests, common_steps, low-word, or-true, from_low, first_so, free-tame, free-exact)
 
 any-word : (pre : Bool) (v : VersionValue) → SameWord pre v (record { lower = Before (release (0, 0, 0)); upper = Unbounded }) []
 any-word pre v = low-word pre v (release (0, 0, 0)) Unbounded [] [] (or-true pre) (any_low v) (free-tame v) (free-exact v)
@@ -98,18 +97,12 @@ pub data Form (pre : Bool) : Partial → Type 0 where
 
 form-of : (pre : Bool) (a b c : Option ℕ) (x y : List Id) → is_plain pre (partial a b c x y) ≡ true → Form pre (partial a b c x y)
 form-of pre (Some M) (Some m) (Some p) x y h = three M m p x y h
-form-of pre (Some M) None (Some p) x y h = cc h
-form-of pre None b (Some p) x y h = cc h
 form-of pre (Some M) (Some m) None [] [] h = two M m
 form-of pre (Some M) None None [] [] h = one M
 form-of pre None None None [] [] h = any
+form-of pre None b (Some p) x y h = cc h
 form-of pre None (Some m) None x y h = cc h
-form-of pre (Some M) (Some m) None [] (j ∷ y) h = cc h
-form-of pre (Some M) None None [] (j ∷ y) h = cc h
-form-of pre None None None [] (j ∷ y) h = cc h
-form-of pre (Some M) (Some m) None (i ∷ x) y h = cc h
-form-of pre (Some M) None None (i ∷ x) y h = cc h
-form-of pre None None None (i ∷ x) y h = cc h
+form-of pre a b c x y h = cc h
 
 pub form : (pre : Bool) (p : Partial) → is_plain pre p ≡ true → Form pre p
 form pre p h = form-of pre p.major p.minor p.patch p.pre_release p.build h
@@ -192,7 +185,8 @@ module _ (pre : Bool) (v : VersionValue) (within : IsWithin MAX_SAFE_INTEGER v) 
   signed-good Npm.tilde p (three M n o x y e) m t h = until-word pre v (version M n o x []) (M, n + 1, 0) e h
   signed-good Npm.caret p (one zero) m t h = tame-word pre v Unbounded (Before (lowest (1, 0, 0))) (from false (0, 0, 0) ∷ [])
       (under (1, 0, 0) ∷ []) (open-tame v) (under-tame v (1, 0, 0))
-  signed-good Npm.caret p (one (suc M)) m t h = band-word pre v (suc M, 0, 0) (suc M + 1, 0, 0) h
+  signed-good Npm.caret p (one (suc M)) m t h =
+      changed-word (release (suc M, 0, 0)) (suc M + 1, 0, 0) (next_changed (Npm.major (suc M))) (rw (not_zero M) refl) (or-true pre) h
   signed-good Npm.caret p (two zero n) m t h = band-word pre v (0, n, 0) (0, n + 1, 0) h
   signed-good Npm.caret p (two (suc M) n) m t h =
       changed-word (release (suc M, n, 0)) (suc M + 1, 0, 0) (next_changed (minor (suc M) n)) (rw (not_zero M) refl) (or-true pre) h

@@ -70,7 +70,7 @@ unfolding encode_utf8
 one_blank = record { characters = 32 ∷ []; each = refl; spelled = refl }
 
 no_ends : AreMarks []
-no_ends = record { characters = []; spelled = refl; each = refl }
+no_ends = ([], refl, refl)
 
 pub sign_text : (s : Sign) → IsSignText (spelling s) s
 sign_text s = rw append-nil at (Npm.sign s [] no_blank)
@@ -117,22 +117,19 @@ all-are : (limit : ℕ) (pre : Bool) (text : List ℕ) (list : List (Span Versio
     → IsGap gap → ArePlain limit pre text list all → AllByRecursion IsUtf8 (cut_bars false (gap ++ text))
     → AreAlternatives false false (cut_bars false (gap ++ text)) all
 all-are limit pre text list all gap g (one t s cs h) u =
-    let c = part-compact limit pre t s cs h in
-    let same : trim (gap ++ t) ≡ t = rw append-nil at (compact-trim gap t [] g (inl refl) c) in
-    joined false _ [] (gap ++ t) t cs [] (cut-last (gap ++ t) (all-join is_part_byte gap t (gap-bytes gap g) c.each)) same
-    (part-is limit pre t s cs h) u (λ _. none)
+    let c = part-compact _ _ _ _ _ h in
+    let same : trim (gap ++ t) ≡ t = rw append-nil at (compact-trim _ _ _ g (inl refl) c) in
+    joined _ _ _ _ _ _ _ (cut-last _ (all-join is_part_byte gap t (gap-bytes _ g) c.each)) same (part-is _ _ _ _ _ h) u (λ _. none)
 all-are limit pre text list all gap g (more t before after rest s cs ss others h b a k) u =
-    let c = part-compact limit pre t s cs h in
+    let c = part-compact _ _ _ _ _ h in
     let piece = gap ++ (t ++ before) in
     let behind = 124 ∷ (124 ∷ (after ++ rest)) in
     let whole : gap ++ (t ++ (before ++ behind)) ≡ piece ++ behind =
     sym (append_assoc gap (t ++ before) behind ∙ ap (λ (x : List ℕ). gap ++ x) (append_assoc t before behind)) in
-    let bytes : list_all is_part_byte piece ≡ true = all-join is_part_byte gap (t ++ before) (gap-bytes gap g)
-    (all-join is_part_byte t before c.each (gap-bytes before b)) in
-    joined false _ (cut_bars false (after ++ rest)) piece t cs others
-    (ap (λ (x : List ℕ). cut_bars false x) whole ∙ cut-first piece (after ++ rest) bytes)
-    (compact-trim gap t before g b c) (part-is limit pre t s cs h) u
-    (λ v. all-are limit pre rest ss others after a k v)
+    let bytes : list_all is_part_byte piece ≡ true = all-join is_part_byte gap (t ++ before) (gap-bytes _ g)
+    (all-join is_part_byte t before c.each (gap-bytes _ b)) in
+    joined _ _ _ _ _ _ _ (ap (λ (x : List ℕ). cut_bars false x) whole ∙ cut-first _ _ bytes)
+    (compact-trim _ _ _ g b c) (part-is _ _ _ _ _ h) u (λ v. all-are _ _ _ _ _ _ a k v)
 
 some-all : (limit : ℕ) (pre : Bool) (text : List ℕ) (list : List (Span VersionValue)) (all : List (List Comparison))
     → ArePlain limit pre text list all → is_empty all ≡ false
@@ -157,8 +154,7 @@ alternative_accepts v cs = meets false v (filter (counts false) cs)
 
 part-same : (pre : Bool) (v : VersionValue) (text : List ℕ) (s : Span VersionValue) (cs : List Comparison) → IsWithin MAX_SAFE_INTEGER v
     → IsPlainAlternative MAX_SAFE_INTEGER pre text s cs → list_all (is_valid MAX_SAFE_INTEGER) cs ≡ true → SameWord pre v s cs
-part-same pre v text s cs w (one_word t word s' cs' h e) k =
-    subst (λ o. Good pre v o cs') e (word-good pre v t word cs' w h k)
+part-same pre v text s cs w (one_word t word s' cs' h e) k = subst (λ o. Good pre v o cs') e (word-good _ _ _ _ _ w h k)
 part-same pre v text s cs w (two_words c d x y p q a b m hp mp ep hq mq eq e apart) k =
     two-good pre v c d x y p q a b m w hp mp ep hq mq eq e apart k
 part-same pre v text s cs w (between x y p q m h g some e) k = between-good pre v x y p q m h g some e k
@@ -166,8 +162,7 @@ part-same pre v text s cs w (between x y p q m h g some e) k = between-good pre 
 each-same : (pre : Bool) (v : VersionValue) (text : List ℕ) (list : List (Span VersionValue)) (all : List (List Comparison))
     → IsWithin MAX_SAFE_INTEGER v → ArePlain MAX_SAFE_INTEGER pre text list all
     → list_all (list_all (is_valid MAX_SAFE_INTEGER)) all ≡ true → accepts list v false ≡ list_any (alternative_accepts v) all
-each-same pre v text list all w (one t s cs h) k =
-    ap (λ (a : Bool). a || false) (part-same pre v t s cs w h (first_so (list_all (is_valid MAX_SAFE_INTEGER) cs) true k)).same
+each-same pre v text list all w (one t s cs h) k = grind (arith, nat_tests, common_steps, part-same, first_so)
 each-same pre v text list all w (more t before after rest s cs ss others h b a m) k =
     grind (arith, nat_tests, common_steps, part-same, each-same pre v rest ss others w m)
 
@@ -216,8 +211,7 @@ plain-same text list all v h small =
 
 pub plain-read : (text : List ℕ) (list : List (Span VersionValue)) (all : List (List Comparison)) → IsUtf8 text
     → IsPlainText MAX_SAFE_INTEGER text list all → Means MAX_SAFE_INTEGER text list × (0 < length list)
-plain-read text list all u h =
-    (plain-means text list all u h, list-some MAX_SAFE_INTEGER text list (parts-common MAX_SAFE_INTEGER h.pre text list all h.divided))
+plain-read text list all u h = (plain-means _ _ _ u h, list-some _ _ _ (parts-common _ _ _ _ _ h.divided))
 
 -- ---- ranges of the text
 
@@ -231,15 +225,4 @@ pub there-means : (text : List ℕ) (there : List (Span VersionValue)) (all : Li
     → IsUtf8 text → IsRangeOf MAX_SAFE_INTEGER false text there → HasAlternatives MAX_SAFE_INTEGER false text all
     → accepts there v false ≡ Ranges.accepts false all v
 there-means text there all v u r k = r.accepted v
-    ∙ ap (λ l. Ranges.accepts false l v)
-    (alternatives_once false MAX_SAFE_INTEGER false text r.alternatives all u r.has k)
-
--- both accept the same
-pub accepted-alike : (text : List ℕ) (here there : List (Span VersionValue)) (v : VersionValue) → IsUtf8 text
-    → Means MAX_SAFE_INTEGER text here → IsRangeOf MAX_SAFE_INTEGER false text there → (list : List (Span VersionValue))
-    (all : List (List Comparison)) → IsPlainText MAX_SAFE_INTEGER text list all → is_within MAX_SAFE_INTEGER v ≡ true
-    → accepts here v false ≡ accepts there v false
-accepted-alike text here there v u m r list all h w =
-    here-means text here list v u m (plain-means text list all u h)
-    ∙ plain-same text list all v h w
-    ∙ sym (there-means text there all v u r (plain-has text list all u h))
+    ∙ ap (λ l. Ranges.accepts false l v) (alternatives_once _ _ _ _ _ _ u r.has k)

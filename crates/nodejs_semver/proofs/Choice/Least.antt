@@ -429,14 +429,14 @@ all_built : (kss : List (List (Span VersionValue))) (v : VersionValue) (b : List
 all_built [] v b = refl
 all_built (ks ∷ kss) v b = ap₂ (λ p q. p && q) (accepts_built ks v b) (all_built kss v b)
 
-improves_bare : (best : Option VersionValue) (w : VersionValue) (kss : List (List (Span VersionValue)))
-    (ls : List (Span VersionValue)) → (improves best (bare w) && wanted kss ls (bare w)) ≡ (improves best w && wanted kss ls w)
-improves_bare best w kss ls = grind (arith, all_built, accepts_built)
+pub wanted_bare : (w : VersionValue) (kss : List (List (Span VersionValue))) (ls : List (Span VersionValue))
+    → wanted kss ls (bare w) ≡ wanted kss ls w
+wanted_bare w kss ls = grind (arith, all_built, accepts_built)
 
-pub better_bare : (b : Bool) (best : Option VersionValue) (w : VersionValue) (kss : List (List (Span VersionValue)))
-    (ls : List (Span VersionValue)) → b ≡ (improves best w && wanted kss ls w)
-    → (if b then Some (bare w) else best) ≡ better (wanted kss ls) best (bare w)
-better_bare b best w kss ls e = ap (λ t. if t then Some (bare w) else best) (e ∙ sym (improves_bare best w kss ls))
+pub better_bare : (set : VersionValue → Bool) (b : Bool) (best : Option VersionValue) (w : VersionValue) → b ≡ (improves best w && set (bare w))
+    → (if b then Some (bare w) else best) ≡ better set best (bare w)
+better_bare set b None w e = ap (λ t. if t then Some (bare w) else None) e
+better_bare set b (Some x) w e = ap (λ t. if t then Some (bare w) else Some x) e
 
 -- the least beyond nothing is the least that is accepted, whatever its build
 pub least_accepted : (ks : List (Span VersionValue)) (v : VersionValue) (b : List Id) → IsLeastOf (beyond ks []) (Some v)
@@ -527,10 +527,9 @@ pub held_bare : (ss : List (Span VersionValue)) (r : Option VersionValue) → r 
     → IfSome r (λ v. v.build ≡ [])
 held_bare ss r e = list_bare (λ v. accepts ss v true) (firsts_past ss) r (bare_firsts ss) e
 
--- a version without its build improves on the best so far, and is held, as it does and is with it
-pub improves_held : (best : Option VersionValue) (w : VersionValue) (ss : List (Span VersionValue))
-    → (improves best (bare w) && accepts ss (bare w) true) ≡ (improves best w && accepts ss w true)
-improves_held best w ss = grind (arith, nat_tests, common_steps, cut_total, precedence_total, triple_total, any_same)
+-- a version without its build is held as it is with it
+pub held_alike : (w : VersionValue) (ss : List (Span VersionValue)) → accepts ss (bare w) true ≡ accepts ss w true
+held_alike w ss = grind (arith, nat_tests, common_steps, cut_total, precedence_total, triple_total, any_same)
 
 -- ---- the build of a least version, that of the lower bound from which it comes
 

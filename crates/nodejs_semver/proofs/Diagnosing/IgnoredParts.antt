@@ -1,19 +1,20 @@
 -- What is computed of the ignored words of a text, part by part, is what the statement says of them.
-use Rattle.nodejs_semver.proofs.Common.{nat_tests, common_steps, ◌≡◌, ◌∙◌, ap, ℕ, List, Bool, Some, refl, Option, is_some, arith, Partial}
-use Rattle.nodejs_semver.proofs.Common.{table, Word, hyphen, malformed, Sign, ◌<◌, ◌≤◌, ◌+◌, ◌-◌, zero, suc, [], ◌∷◌, ◌++◌, length, sym}
+use Rattle.nodejs_semver.proofs.Common.{nat_tests, common_steps, ◌≡◌, ap, ℕ, List, Bool, Some, refl, Option, is_some, arith, Partial}
+use Rattle.nodejs_semver.proofs.Common.{table, Word, malformed, Sign, None, Result, Span, VersionValue, if◌then◌else◌, ◌<◌, ◌≤◌, ◌+◌, ◌-◌, zero, suc, [], ◌∷◌, ◌++◌, length, sym}
 use Rattle.nodejs_semver.proofs.Common.{subst, append_assoc, drop_spaces, space_len, trim, MAX_SAFE_INTEGER, rest_view, true, false, inl}
 use Rattle.nodejs_semver.proofs.Common.{inr, length-append, ◌&&◌, ◌⊎◌, IsUtf8, AllByRecursion, list_all, is_empty, IsTrim, and_parts, ◌↔◌}
 use Rattle.nodejs_semver.proofs.Common.{words, length-take-le, encode_utf8_all, encodes-append, drop_end_spaces, drop_spaces-blank}
 use Rattle.nodejs_semver.proofs.Common.{middle_is_trim, trim_is_middle, cut_bars, length-drop, word_at, words_within, empty_is}
 use Rattle.semver_core.proofs.Text.Trims.{drop_spaces-dark}
 use Rattle.nodejs_semver.specs.Diagnosis.IgnoredWords.{ignored_as, if_ignored, AreAllIgnored, AreIgnored, AreIgnoredOf, IsWhollyBounded}
-use Rattle.nodejs_semver.specs.Internal.Ignored.{kind_at, unless_bounded, all_ignored, ignored_behind, ignored_of, ignored_within}
+use Rattle.nodejs_semver.specs.Internal.Ignored.{kind_at, read_at, all_ignored, ignored_behind, ignored_of, ignored_within}
 use Rattle.nodejs_semver.specs.Diagnosis.IgnoredWords.{next_piece, next_word, no_piece, no_word}
-use Rattle.nodejs_semver.specs.{Internal.Ignored.{left_list, option_list, part_end}, Internal.Words.{signed_word}}
+use Rattle.nodejs_semver.specs.{Internal.Ignored.{left_list, option_list, part_end}, Internal.Words.{careted, compared, signed_word, tilded, unsigned}}
 use Rattle.nodejs_semver.specs.declared.diagnosis.ranges.IgnoredKind.{IgnoredKind}
-use Rattle.nodejs_semver.specs.{declared.diagnosis.ranges.IgnoredKind.TheVariants.{Malformed}, Internal.PartFronts.{front_part, left_over}}
+use Rattle.nodejs_semver.specs.{declared.diagnosis.ranges.IgnoredKind.TheVariants.{Malformed, WithoutBounds}, Internal.PartFronts.{front_part, left_over}}
 use Rattle.nodejs_semver.specs.{declared.diagnosis.unread.Unread.{Unread}, declared.diagnosis.ranges.IgnoredWord.{IgnoredWord}}
 use Rattle.nodejs_semver.specs.Text.Meaning.{HasWords}
+use Rattle.std.specs.{Option.{ok_or}, Result.{result_err, result_ok}}
 use Rattle.nodejs_semver.proofs.{Dividing.BarLemmas.{bars_room, cut_bars-front}, Reading.PartialLaw.{spaces-gone, spaces-le, word-shorter}}
 use Rattle.nodejs_semver.proofs.{Dividing.BarsDivide.{bars_divide, bars_once}, Dividing.MeaningLaw.{pieces-utf8, words-law}}
 use Rattle.nodejs_semver.proofs.{Reading.Bytes.{trim-starts}, Reading.WordLaw.{skips-is, skips-utf8, trim-utf8, word-utf8, words_are}}
@@ -21,24 +22,33 @@ use Rattle.nodejs_semver.proofs.{Reading.Bytes.{trim-starts}, Reading.WordLaw.{s
 abbrev Kind : Type 0
 Kind = Option IgnoredKind × List ℕ
 
-at_word : (limit : ℕ) (text : List ℕ) (kind : Option IgnoredKind) (w : Word × List ℕ) → word_at limit text ≡ w
-    → kind ≡ ignored_as limit w.0 → ◌≡◌ {A = Kind} (kind, w.1) (kind_at limit text)
-at_word limit text kind w e h = grind arith
+abbrev Read : Type 0
+Read = (Option (Span VersionValue) × Option IgnoredKind) × List ℕ
 
-pub at_malformed : (limit : ℕ) (text rest behind : List ℕ) → word_at limit text ≡ (malformed, behind) → rest ≡ behind
-    → ◌≡◌ {A = Kind} (Some Malformed, rest) (kind_at limit text)
-at_malformed limit text rest behind e h = grind (arith, nat_tests, common_steps, at_word)
+-- the word at the front is malformed
+pub read-malformed : (limit : ℕ) (text rest behind : List ℕ) → word_at limit text ≡ (malformed, behind) → rest ≡ behind
+    → ◌≡◌ {A = Read} ((None, Some Malformed), rest) (read_at limit text)
+unfolding table
+read-malformed limit text rest behind e h = rw (e, h) refl
 
-pub at_hyphen : (limit : ℕ) (text rest : List ℕ) (p q : Partial) (kind : Option IgnoredKind) (bounded : Bool)
-    → word_at limit text ≡ (hyphen p q, rest) → bounded ≡ is_some (table limit (hyphen p q)) → kind ≡ unless_bounded bounded
-    → ◌≡◌ {A = Kind} (kind, rest) (kind_at limit text)
-at_hyphen limit text rest p q kind bounded e h k = at_word limit text kind (hyphen p q, rest) e (k ∙ ap unless_bounded h)
+abbrev unless : Option (Span VersionValue) → Option IgnoredKind
+unless o = if is_some o then None else Some WithoutBounds
 
-pub at_signed : (limit : ℕ) (text rest : List ℕ) (s : Sign) (p : Partial) (kind : Option IgnoredKind) (bounded : Bool)
-    → word_at limit text ≡ (signed_word s p, rest)
-    → bounded ≡ is_some (table limit (signed_word s p)) → kind ≡ unless_bounded bounded
-    → ◌≡◌ {A = Kind} (kind, rest) (kind_at limit text)
-at_signed limit text rest s p kind bounded e h k = grind (arith, at_word)
+-- it has a form, so that the table decides
+pub read-formed : (limit : ℕ) (text rest : List ℕ) (w : Word) (o : Option (Span VersionValue)) (r : Result (Span VersionValue) IgnoredKind)
+    → ignored_as limit w ≡ unless (table limit w) → word_at limit text ≡ (w, rest) → o ≡ table limit w → r ≡ ok_or o WithoutBounds
+    → ◌≡◌ {A = Read} ((result_ok r, result_err r), rest) (read_at limit text)
+read-formed limit text rest w o r kind e h k = rw (e, kind, ← h, k) (go o)
+  where
+    go : (o : Option (Span VersionValue)) → ◌≡◌ {A = Read} ((result_ok (ok_or o WithoutBounds), result_err (ok_or o WithoutBounds)), rest) ((o, unless o), rest)
+    go None = refl
+    go (Some s) = refl
+
+pub signed-formed : (limit : ℕ) (s : Sign) (p : Partial) → ignored_as limit (signed_word s p) ≡ unless (table limit (signed_word s p))
+signed-formed limit unsigned p = refl
+signed-formed limit (compared c) p = refl
+signed-formed limit (tilded greater) p = refl
+signed-formed limit careted p = refl
 
 -- ---- the words of a part
 

@@ -3,7 +3,7 @@ use Rattle.nodejs_semver.proofs.Common.{nat_tests, common_steps, ◌≡◌, ℕ,
 use Rattle.nodejs_semver.proofs.Common.{Bool, append_assoc, subst, Some, flat_map, Option, Ordering, arith, AllByRecursion, list_all}
 use Rattle.nodejs_semver.proofs.Common.{and_parts, cases_Bool, Span, is_interval, precedence, table, Run, fits, run_items, part_bounds}
 use Rattle.nodejs_semver.proofs.Common.{words, runs_of, longer, append-nil, IsTotalOrder, precedence_total, VersionValue, ◌<◌, length, None}
-use Rattle.nodejs_semver.proofs.Common.{length-append, option_to_list, meet, space_len, part_intervals, runs_from, joined, joined_from}
+use Rattle.nodejs_semver.proofs.Common.{length-append, meet, space_len, part_intervals, runs_from, joined, joined_from}
 use Rattle.nodejs_semver.proofs.Common.{next_at, filter_map, words_within}
 use Rattle.std.specs.List.{cons_option}
 use Rattle.nodejs_semver.specs.Text.Runs.{AreLongest, AreRuns}
@@ -139,9 +139,6 @@ read-starts limit text after o e = grind (arith, spaces-gone)
 pub read-is : (limit : ℕ) (text after : List ℕ) (o p : Option (Span VersionValue)) → p ≡ o → (o, after) ≡ next_at limit text → (p, after) ≡ next_at limit text
 read-is limit text after o p h e = rw h e
 
-pub read-next : (limit : ℕ) (text after : List ℕ) → after ≡ (next_at limit text).1 → ◌≡◌ {A = Option (Span VersionValue) × List ℕ} ((next_at limit text).0, after) (next_at limit text)
-read-next limit text after h = rw h refl
-
 -- the bounds of the word at the front, before those of what follows
 pub bounds-step : (limit : ℕ) (text after : List ℕ) (o : Option (Span VersionValue)) → 0 < length text → space_len text ≡ 0
     → (o, after) ≡ next_at limit text → part_bounds limit text ≡ cons_option o (part_bounds limit after)
@@ -169,10 +166,9 @@ pub part-step : (limit : ℕ) (text after : List ℕ) (o : Option (Span VersionV
     → joined precedence None (part_bounds limit text) ≡ joined precedence None (cons_option o (part_bounds limit after))
 part-step limit text after o some h e = grind (arith, nat_tests, common_steps, bounds-step)
 
--- a last word before which no word had one
-pub part-last : (limit : ℕ) (text after : List ℕ) (o : Option (Span VersionValue)) → 0 < length text → space_len text ≡ 0 → length after ≡ 0
-    → (o, after) ≡ next_at limit text → joined precedence None (part_bounds limit text) ≡ option_to_list o
-part-last limit text after o some h none e = grind (arith, part-step limit text after o some h e, bounds-end, words-last)
+-- no word is left
+pub part-last : (limit : ℕ) (rest : List ℕ) → length rest ≡ 0 → joined precedence None (part_bounds limit rest) ≡ []
+part-last limit rest none = rw (bounds-end limit rest none) refl
 
 -- ---- lists that are to have two intervals or more
 
@@ -192,17 +188,3 @@ joined-some running (next ∷ rest) =
 pub longer_joined : (found : List (Span VersionValue)) (running : Span VersionValue) (rest : List (Span VersionValue))
     → 0 < length found → 1 < length (found ++ joined_from precedence running rest)
 longer_joined found running rest some = grind (arith, nat_tests, common_steps, length-append, joined-some)
-
--- one interval more, where there is one
-pub had_one : (found : List (Span VersionValue)) (o : Option (Span VersionValue)) → 1 < length (found ++ option_to_list o)
-    → 0 < length found
-had_one found o long = grind (arith, length-append)
-
--- the intervals of a part are no fewer than those of its first word
-pub longer_part : (limit : ℕ) (part rest : List ℕ) (old found : List (Span VersionValue)) → found ≡ old
-    → joined precedence None (part_bounds limit rest) ≡ part_intervals limit part → 0 < length rest → space_len rest ≡ 0
-    → 1 < length (found ++ option_to_list (next_at limit rest).0) → 1 < length (old ++ part_intervals limit part)
-longer_part limit part rest old found same whole some starts long =
-    let next = next_at limit rest in
-    let step = part-step limit rest next.1 next.0 some starts refl in
-    rw (← whole, step, ← same) (grind (arith, length-append, joined-some))

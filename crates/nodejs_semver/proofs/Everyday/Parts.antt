@@ -3,8 +3,8 @@ use Rattle.nodejs_semver.proofs.Common.{common_steps, arith, ◌≡◌, ℕ, Lis
 use Rattle.nodejs_semver.proofs.Common.{suc, ◌<◌, ◌≤◌, [], ◌∷◌, length, drop, refl, true, false, inl, inr, append-nil, append_assoc}
 use Rattle.nodejs_semver.proofs.Common.{length-append, cases_Bool, eqb-true, nat_tests, begins, Span, meet, precedence, is_empty}
 use Rattle.nodejs_semver.proofs.Common.{VersionValue, AreCommonParts, table, IsSign, Comparator, Word, hyphen, plain, tilde, tilde_sign}
-use Rattle.nodejs_semver.proofs.Common.{same_Some, bind_some, ◌↔◌, ◌==◌, Bool, None, interval, Bound, Unbounded, if◌then◌else◌, ◌⊎◌, if_any}
-use Rattle.nodejs_semver.proofs.Common.{IsSomeAnd, begins_second, comparison_front, comparisons_front, is_sign, word_read, passed, pushed}
+use Rattle.nodejs_semver.proofs.Common.{same_Some, bind_some, ◌↔◌, ◌==◌, None, interval, Bound, Unbounded, if◌then◌else◌, ◌⊎◌, if_any}
+use Rattle.nodejs_semver.proofs.Common.{IsSomeAnd, begins_second, comparison_front, comparisons_front, is_sign, word_read, passed}
 use Rattle.nodejs_semver.proofs.Common.{has_bars, above, at_most, below}
 use Rattle.semver_core.specs.{Internal.Reading.{◌>>?◌}, Failures.{NoValue}}
 use Rattle.nodejs_semver.specs.Internal.CommonFronts.{bare_front, after_bars, after_gap, begins_dash, caret_front, common_parts}
@@ -12,7 +12,7 @@ use Rattle.nodejs_semver.specs.Internal.CommonFronts.{common_range, common_withi
 use Rattle.nodejs_semver.specs.Text.Common.{IsCommonPart, IsCommonRange, IsCommonWord, IsComparison, IsGap, caret_word, compare_word}
 use Rattle.nodejs_semver.specs.Text.Common.{comparison, hyphen_word, more_parts, one_part, one_word, plain_word, tilde_greater_word}
 use Rattle.nodejs_semver.specs.{Internal.CommonFronts.{both_of, onto}, Internal.Fronts.{after_byte}}
-use Rattle.nodejs_semver.specs.{Text.Common.{tilde_word, two_comparisons}, Internal.Words.{comparator_at}, Internal.CommonViews.{both_view}}
+use Rattle.nodejs_semver.specs.{Text.Common.{tilde_word, two_comparisons}, Internal.Words.{comparator_at}}
 use Rattle.nodejs_semver.specs.Text.WordText.{above_sign, below_sign, at_least}
 use Rattle.nodejs_semver.proofs.Reading.PartialLaw.{components-read, components-then, components-begin}
 use Rattle.nodejs_semver.proofs.Reading.Bytes.{Stop, quiet-before, stop-bar, stop-nil, stop-space, begins-on, begins_component, is_solid}
@@ -311,10 +311,6 @@ Behind = Option (List ℕ) × List (Span VersionValue)
 abbrev pub behind : Option (List ℕ) → List (Span VersionValue) → Behind
 behind r list = (r, list)
 
-pub passed-part : (there : Bool) (rest : List ℕ) (done new : List (Span VersionValue)) (o : Option (Span VersionValue)) (r : Option (List ℕ))
-    → both_view there new ≡ pushed done o → r ≡ (if there then Some rest else None) → behind r new ≡ passed done (part_read rest o)
-passed-part there rest done new o r h k = grind arith
-
 -- the step behind the first comparison
 abbrev behind-first : ℕ → Span VersionValue × List ℕ → Front (Span VersionValue)
 behind-first limit s =
@@ -339,7 +335,8 @@ none-second limit text a rest h second k = rw (← h) (go (interval precedence a
     go : (o : Option (Span VersionValue)) → (part_read rest o >>? λ s. behind-first limit s) ≡ None
     go o = grind arith
 
-second-read : (limit : ℕ) (text : List ℕ) (a b : Span VersionValue) (rest more : List ℕ) → part_read rest (interval precedence a) ≡ word_read limit (comparison_front limit text)
+-- two comparisons
+pub second-read : (limit : ℕ) (text : List ℕ) (a b : Span VersionValue) (rest more : List ℕ) → part_read rest (interval precedence a) ≡ word_read limit (comparison_front limit text)
     → begins_second rest ≡ true → part_read more (interval precedence b) ≡ word_read limit (comparison_front limit (drop 1 rest))
     → comparisons_front limit text ≡ part_read more (both_of a b)
 unfolding comparisons_front
@@ -353,14 +350,6 @@ second-read limit text a b rest more h second k = rw (← h) (go (interval prece
         → (part_read rest o >>? λ s. behind-first limit s)
         ≡ part_read more (o >>? λ s. interval precedence b >>? λ t. meet precedence s t)
     go o = grind (arith, last)
-
--- two comparisons
-pub passed-second : (limit : ℕ) (text : List ℕ) (a b : Span VersionValue) (rest more : List ℕ) (there : Bool) (done new : List (Span VersionValue)) (r : Option (List ℕ))
-    → part_read rest (interval precedence a) ≡ word_read limit (comparison_front limit text) → begins_second rest ≡ true
-    → part_read more (interval precedence b) ≡ word_read limit (comparison_front limit (drop 1 rest))
-    → both_view there new ≡ pushed done (both_of a b) → r ≡ (if there then Some more else None) → behind r new ≡ passed done (comparisons_front limit text)
-passed-second limit text a b rest more there done new r h second k p e =
-    grind (arith, nat_tests, passed-part there more done new (both_of a b) r p e, second-read limit text a b rest more h second k)
 
 -- what was added, and that nothing was
 pub record Added (done new : List (Span VersionValue)) (o : Front (Span VersionValue)) (rest : List ℕ) : Type 0 where

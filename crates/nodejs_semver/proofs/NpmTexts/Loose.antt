@@ -14,15 +14,12 @@ use Rattle.nodejs_semver.proofs.{Reading.Numbers.{number-of, number-read, run-en
 use Rattle.nodejs_semver.proofs.Strict.{Hyphens.{ends-found, ends-read}, Places.{digits-many_on, digits-of}, Qualifiers.build-found}
 use Rattle.nodejs_semver.proofs.Strict.Qualifiers.{Follows, PreFound, build-quiet, build-taken, ends-nil, letter-on, pre-follows, pre-found}
 use Rattle.nodejs_semver.{proofs.Strict.{Qualifiers.{pre-taken, stopped}, VersionLaw.empty-is}, specs.Internal.NpmLooseVersions.patch_len}
-use Rattle.nodejs_semver.specs.Npm.{Grammar.IsPreRelease, VersionText.{IsLooseVersion, IsLooseVersionText}}
+use Rattle.nodejs_semver.specs.Npm.{Grammar.IsPreRelease, VersionText.{IsLooseVersion, IsLooseVersionText, written}}
 
 -- ---- the patch number that the code finds
 
-patch-le : (text : List ℕ) → patch_len text ≤ prefix_len is_ascii_digit text
-patch-le text = grind (arith, nat_tests, common_steps)
-
 patch-digits : (text : List ℕ) → list_all is_ascii_digit (take (patch_len text) text) ≡ true
-patch-digits text = digits-of (patch_len text) text (patch-le text)
+patch-digits text = digits-of (patch_len text) text (grind (arith, nat_tests, common_steps))
 
 -- a number that is found in digits alone is that of all of them
 piece-of : (limit : ℕ) (text : List ℕ) (n end : ℕ) → list_all is_ascii_digit text ≡ true
@@ -153,9 +150,6 @@ dotted-found limit text n rest h =
     let f = number-found limit t.0 n rest t.2 in
     (f.run, byte-is 46 text t.0 t.1 ∙ ap (λ (t : List ℕ). 46 ∷ t) f.split, f.is)
 
-number-along : (limit : ℕ) (digits : List ℕ) (n m : ℕ) → n ≡ m → IsNumber limit digits m → IsNumber limit digits n
-number-along limit digits n m e h = rw e h
-
 pub loose-found : (limit : ℕ) (text : List ℕ) (v : VersionValue) → IsUtf8 text → loose_version limit text ≡ Some v → IsLooseVersion limit text v
 unfolding loose_version
 loose-found limit text v u h =
@@ -168,7 +162,12 @@ loose-found limit text v u h =
     let patch = patch-found limit b.0.1 c.0.0 c.0.1 c.1 in
     let q = qualified-found a.0.0 b.0.0 c.0.0 c.0.1 v patch.behind c.2 in
     let front = encode_utf8_all marks.characters in
-    grind (arith, nat_tests, common_steps, number-along)
+    let e : text ≡ front ++ (major.run ++ 46 ∷ (minor.0 ++ 46 ∷ (patch.digits ++ (q.pre ++ q.build)))) =
+    grind (arith, nat_tests, common_steps) in
+    subst (λ (t : List ℕ). IsLooseVersion limit t v) (sym e) (written front major.run minor.0 patch.digits q.pre q.build v
+    (marks.characters, refl, marks.each) (subst (IsNumber limit major.run) (sym q.numbers.0) major.is)
+    (subst (IsNumber limit minor.0) (sym q.numbers.1) minor.2) (subst (IsNumber limit patch.digits) (sym q.numbers.2) patch.is)
+    q.pre_is q.build_is)
 
 -- ---- what is written is read
 
@@ -181,8 +180,7 @@ unfolding loose_patch patch_front
 patch-read limit digits rest n h follows = grind (arith, drop_at, number-of, patch-exact, take_at)
 
 follows : (p b : List ℕ) (l m : List Id) → IsPreRelease true (λ ids. true) p l → IsStrictBuild b m → Follows true (p ++ b)
-follows p b l m h k =
-    subst (λ (t : List ℕ). Follows true (p ++ t)) (append-nil b) (pre-follows true (λ ids. true) p b [] l m h k ends-nil)
+follows p b l m h k = subst (λ (t : List ℕ). Follows true (p ++ t)) (append-nil b) (pre-follows _ _ _ _ _ _ _ h k ends-nil)
 
 pre-open : (p b : List ℕ) (l m : List Id) → IsPreRelease true (λ ids. true) p l → IsStrictBuild b m
     → (begins_undashed (p ++ (b ++ [])) ≡ true) ⊎ (begins is_ascii_digit (p ++ (b ++ [])) ≡ false)
@@ -206,9 +204,15 @@ marks-read mark [] rest m some each = absurd (omega (arith, some))
 marks-read mark (c ∷ digits) rest m some each =
     grind (arith, nat_tests, common_steps, and_parts, ends-read, solid-dark, component-solid, or_right)
 
-pub loose-read : (limit : ℕ) (text : List ℕ) (v : VersionValue) → IsLooseVersion limit text v → loose_version limit text ≡ Some v
+parts-read : (limit : ℕ) (mark x y z pre build : List ℕ) (v : VersionValue) → AreMarks mark → IsNumber limit x v.major
+    → IsNumber limit y v.minor → IsNumber limit z v.patch → IsPreRelease true (λ ids. true) pre v.pre_release → IsStrictBuild build v.build
+    → loose_version limit (mark ++ (x ++ 46 ∷ (y ++ 46 ∷ (z ++ (pre ++ build))))) ≡ Some v
 unfolding loose_version
-loose-read limit text v h = grind (arith, marks-read, number-read, dotted-read, patch-read, follows, qualified-read)
+parts-read limit mark x y z pre build v m i j k p q =
+    grind (arith, marks-read, number-read, dotted-read, patch-read, follows, qualified-read)
+
+pub loose-read : (limit : ℕ) (text : List ℕ) (v : VersionValue) → IsLooseVersion limit text v → loose_version limit text ≡ Some v
+loose-read limit text v (written mark x y z pre build w m i j k p q) = parts-read limit mark x y z pre build w m i j k p q
 
 -- ---- whole texts
 

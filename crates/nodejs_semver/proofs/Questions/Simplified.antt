@@ -24,8 +24,7 @@ chosen (x ∷ xs) all h = refl
 
 simplified-is : (vs : List VersionValue) (ss : List (Span VersionValue))
     → simplified vs ss ≡ (if is_empty (used_of vs ss) then ss else used_of vs ss)
-simplified-is vs ss =
-    λ i. let used = filter (λ s. list_any (λ v. one_span s v i) vs) ss in if is_empty used then ss else used
+simplified-is vs ss = λ i. let used = filter (λ s. list_any (λ v. one_span s v i) vs) ss in if is_empty used then ss else used
 
 -- where a version is accepted
 some-simple : (vs : List VersionValue) (ss : List (Span VersionValue)) → 0 < length (used_of vs ss)
@@ -36,16 +35,13 @@ some-simple vs ss h = simplified-is vs ss ∙ chosen (used_of vs ss) ss h
 none-simple : (vs : List VersionValue) (ss : List (Span VersionValue)) → used_of vs ss ≡ [] → simplified vs ss ≡ ss
 none-simple vs ss e = simplified-is vs ss ∙ ap (λ l. if is_empty l then ss else l) e
 
-contrary : (a : Bool) → a ≡ false → a ≡ true → false ≡ true
-contrary a h k = sym h ∙ k
-
 -- a filter that keeps whatever one of these versions needs
 kept_same : (p : Span VersionValue → Bool) (ss : List (Span VersionValue)) (vs : List VersionValue)
     → ((s : Span VersionValue) → list_any (λ v. admits s v) vs ≡ true → p s ≡ true)
     → AllByRecursion (λ v. accepts (filter p ss) v false ≡ accepts ss v false) vs
 kept_same p ss [] h = tt
 kept_same p ss (v ∷ vs) h = (
-  filtered p (λ s. admits s v) false (λ s n k. contrary (p s) n (h s (or_left _ _ k))) ss,
+  filtered p (λ s. admits s v) false (λ s n k. (sym n ∙ (h s (or_left _ _ k)))) ss,
   kept_same p ss vs (λ s k. h s (or_right _ _ k)),
 )
 

@@ -1,7 +1,6 @@
 -- When one range is part of another, by what is found beyond it.
-use Rattle.nodejs_semver.proofs.Common.{Bool, IfOk, IfOk-weaker, IsLeastOf, IsTrue, List, Option, Result, Some, Span}
-use Rattle.nodejs_semver.proofs.Common.{VersionValue, accepts, ap, arith, common_steps, false, inl, is_some, nat_tests, not}
-use Rattle.{nodejs_semver.proofs.Common.{on_err, sym, true, ◌&&◌, ◌↔◌, ◌∙◌, ◌≡◌, ◌⊎◌}, std.proofs.Common.OnErr}
+use Rattle.nodejs_semver.proofs.Common.{Bool, IfOk, IfOk-weaker, IsLeastOf, IsTrue, List, Option, Result, Span, VersionValue}
+use Rattle.nodejs_semver.proofs.Common.{accepts, arith, common_steps, false, nat_tests, not, true, ◌&&◌, ◌↔◌, ◌≡◌}
 use Rattle.nodejs_semver.{proofs.NpmCommon.is_none, specs.Npm.Subsets.{AcceptSame, IsSubset}}
 
 -- by the least version beyond, and by what a set of what is left has
@@ -20,13 +19,6 @@ pub by_difference : (a b d : List (Span VersionValue))
     → (answer : Bool) → IsTrue answer ↔ ((v : VersionValue) → accepts d v true ≡ false) → IsTrue answer ↔ IsSubset true a b
 by_difference a b d e answer h = grind (arith, nat_tests, common_steps)
 
--- the same of a result
-pub of_difference : {E : Type 0} (a b d : List (Span VersionValue)) (r : Result Bool E)
-    → ((v : VersionValue) → accepts d v true ≡ (accepts a v true && not (accepts b v true)))
-    → IfOk r (λ answer. IsTrue answer ↔ ((v : VersionValue) → accepts d v true ≡ false))
-    → IfOk r (λ answer. IsTrue answer ↔ IsSubset true a b)
-of_difference a b d r e h = IfOk-weaker r _ _ (by_difference a b d e) h
-
 -- ranges that are part of each other accept the same
 by_both : (include : Bool) (a b : List (Span VersionValue)) → IsSubset include a b → (answer : Bool)
     → IsTrue answer ↔ IsSubset include b a → IsTrue answer ↔ AcceptSame include a b
@@ -41,8 +33,3 @@ pub not_both : (include answer : Bool) (a b : List (Span VersionValue)) → IsTr
 not_both include answer a b h e = grind (arith, nat_tests, common_steps)
 
 -- ---- when memory is taken
-
--- something is left of a list, and so there is a difference
-pub left_some : {E : Type 0} (P : Type 0) (d list : Option (List (Span VersionValue))) (left : List (Span VersionValue))
-    (r : Result Bool E) → d ≡ list → d ≡ Some left → OnErr r (IsTrue (is_some list) ⊎ P)
-left_some P d list left r e k = on_err r (inl (ap is_some (sym e) ∙ ap is_some k))

@@ -5,7 +5,7 @@ use Rattle.nodejs_semver.proofs.Common.{is_past-down, is_release, length, length
 use Rattle.nodejs_semver.proofs.Common.{list_any-append, list_any-map, map, map-append, names, nat_tests, not, not-true, or_cases, or_left}
 use Rattle.nodejs_semver.proofs.Common.{or_parts, or_right, passes, precedence, precedence_total, refl, same_triple, span_of, spans_of, suc}
 use Rattle.nodejs_semver.proofs.Common.{sym, take, tells, true, zero, ℕ, ◌&&◌, ◌++◌, ◌+◌, ◌<◌, ◌||◌, ◌∷◌, ◌≡◌, ◌⊎◌}
-use Rattle.nodejs_semver.specs.{Internal.{Questions.is_said, Shorthands.lets_in_bounds}, Npm.Unions.{says_all, union}}
+use Rattle.nodejs_semver.specs.{Internal.{Questions.is_said}, Npm.Unions.{says_all, union}}
 use Rattle.semver_core.specs.Cuts.{covers}
 
 -- what a span holds, one that covers it holds
@@ -26,14 +26,11 @@ named_let_in : (s : Span VersionValue) (b : Bound VersionValue) (v : VersionValu
     → passes (λ w. not (lets_in s w)) b ≡ false → lets_in s v ≡ true
 named_let_in s b v n k = grind (arith, nat_tests, common_steps, let_in_by)
 
-says_all-lets_in : (s t : Span VersionValue) (v : VersionValue) → lets_in_bounds s t ≡ true → lets_in t v ≡ true
-    → lets_in s v ≡ true
-says_all-lets_in s t v a l = grind (arith, nat_tests, common_steps, or_parts, not-true, or_cases, or_left, named_let_in)
-
 -- what a span accepts, one that says all of it accepts
 says_all-accepts : (s t : Span VersionValue) (v : VersionValue) (include : Bool) → says_all s t ≡ true
     → (holds precedence t v && (include || lets_in t v)) ≡ true → (holds precedence s v && (include || lets_in s v)) ≡ true
-says_all-accepts s t v include a h = grind (arith, nat_tests, common_steps, and_parts, covers-holds, says_all-lets_in)
+says_all-accepts s t v include a h =
+    grind (arith, nat_tests, common_steps, and_parts, covers-holds, or_parts, not-true, or_cases, or_left, named_let_in)
 
 -- a list that is filtered finds with another what the whole list finds with it
 pub filtered : {A : Type 0} (p q : A → Bool) (a : Bool) → ((x : A) → p x ≡ false → q x ≡ true → a ≡ true) → (xs : List A)
@@ -67,10 +64,6 @@ pub goes_behind : {A : Type 0} (p : A → Bool) (xs : List A) (i : ℕ) (x : A) 
     → x ≡ get_or xs i x → p x ≡ false → old ≡ front ++ filter p (take i xs) → old ≡ front ++ filter p (take (i + 1) xs)
 goes_behind p xs i x front old h at k e = grind (arith, nat_tests, common_steps)
 
-taking_at : {V : Type 0} (takes : V → Bool) (now : List (Span V)) (x : Span V) (rest : List (Span V))
-    → (0 < length now) ⊎ (has_bound takes x ≡ true) → AreTaking takes (now ++ x ∷ rest)
-taking_at takes now x rest h = grind (arith, nat_tests, common_steps)
-
 -- what stays of a list, from an element on that stays
 filter-parts : {A : Type 0} (p : A → Bool) (xs : List A) (i : ℕ) (x : A) → i < length xs → x ≡ get_or xs i x → p x ≡ true
     → (rest : List A) × (filter p xs ≡ filter p (take i xs) ++ x ∷ rest)
@@ -85,7 +78,7 @@ pub taken_at : {V : Type 0} (takes : V → Bool) (p : Span V → Bool) (xs front
     → (0 < length now) ⊎ (has_bound takes x ≡ true) → AreTaking takes (front ++ filter p xs)
 taken_at takes p xs front now i x h at k e m =
     let (rest, parts) = filter-parts p xs i x h at k in
-    rw parts (rw (sym (append_assoc front (filter p (take i xs)) (x ∷ rest)), sym e) (taking_at takes now x rest m))
+    rw parts (rw (sym (append_assoc front (filter p (take i xs)) (x ∷ rest)), sym e) (grind (arith, nat_tests, common_steps)))
 
 -- ---- whatever holds the versions
 
@@ -103,19 +96,14 @@ module _ {V : Type 0} (R : V → V → Ordering) (value : V → VersionValue)
   pub covers-values : (s t : Span V) → covers R s t ≡ covers precedence (span_of value s) (span_of value t)
   covers-values s t = grind (arith, ordered)
 
-pub union-is : {V : Type 0} (value : V → VersionValue) (xs ys : List (Span V))
-    → spans_of value (xs ++ filter (λ t. not (is_said value xs t)) ys) ≡ union (spans_of value xs) (spans_of value ys)
-union-is value xs ys = grind (arith, nat_tests, common_steps, map-append, map-filter, not, list_any-map)
-
 pub union-valid : (limit : ℕ) (ss ts : List (Span VersionValue)) → IsRange limit ss → IsRange limit ts → IsRange limit (union ss ts)
-union-valid limit ss ts h k =
-    grind (arith, nat_tests, common_steps, length-append, not, list_all-append, ap₂, all-filter)
+union-valid limit ss ts h k = grind (arith, nat_tests, common_steps, length-append, list_all-append, all-filter)
 
 -- the list of a union that was made so
 pub union-made : {V : Type 0} (value : V → VersionValue) (xs ys one both : List (Span V)) (ss ts : List (Span VersionValue))
     → spans_of value xs ≡ ss → spans_of value ys ≡ ts → one ≡ xs
     → both ≡ one ++ filter (λ t. not (is_said value xs t)) ys → spans_of value both ≡ union ss ts
-union-made value xs ys one both ss ts p q e k = grind (arith, nat_tests, common_steps, not, union-is, ap₂)
+union-made value xs ys one both ss ts p q e k = grind (arith, nat_tests, common_steps, not, map-append, map-filter, list_any-map, ap₂)
 
 -- copies that take memory make the union take it
 pub more-taking : {V : Type 0} (takes : V → Bool) (xs ys : List (Span V)) → AreTaking takes xs → AreTaking takes (xs ++ ys)

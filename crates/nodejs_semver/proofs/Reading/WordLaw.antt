@@ -1,24 +1,23 @@
 -- The word that is computed is the one that is written, and the one that its sign tells.
-use Rattle.nodejs_semver.proofs.Common.{common_steps, ◌≡◌, ℕ, ◌<◌, ◌+◌, List, [], ◌∷◌, length, drop, refl, true, false, ◌⊎◌, ◌≤◌, Bool}
+use Rattle.nodejs_semver.proofs.Common.{◌≡◌, ℕ, ◌<◌, ◌+◌, List, [], ◌∷◌, length, drop, refl, true, false, ◌⊎◌, ◌≤◌, Bool}
 use Rattle.nodejs_semver.proofs.Common.{◌++◌, sym, ap, ◌∙◌, arith, Some, None, inl, inr, subst, append_assoc, length-append, IfSome, ◌↔◌}
 use Rattle.nodejs_semver.proofs.Common.{◌||◌, Option, IsUtf8, ◌==◌, cases_Bool, eqb-true, nat_tests, cond_some, same_Some, drop_at, take_at}
 use Rattle.nodejs_semver.proofs.Common.{IsUtf8-drop, IsCharBoundary-after_ascii, IsTrim, drop_spaces, space_len, drop_spaces-none}
 use Rattle.nodejs_semver.proofs.Common.{space_len-nil, Partial, Word, hyphen, plain, bind_some, encode_utf8, upper_of, Sign, sign_at}
-use Rattle.nodejs_semver.proofs.Common.{tilde_sign, IsSign, Comparator, append-nil, Span, VersionValue, table, malformed, option_to_list}
+use Rattle.nodejs_semver.proofs.Common.{tilde_sign, IsSign, Comparator}
 use Rattle.nodejs_semver.proofs.Common.{drop_more, encode_utf8_all, IsCharBoundary, nat_lt, lt-ltb, encodes-append, len_utf8_bounds}
-use Rattle.nodejs_semver.proofs.Common.{IsUtf8-take, drop_spaces-blank, component_front, pushed, is_boundary, from_boundary, word_at}
+use Rattle.nodejs_semver.proofs.Common.{IsUtf8-take, drop_spaces-blank, component_front, is_boundary, from_boundary, word_at}
 use Rattle.nodejs_semver.proofs.Common.{partial_front}
 use Rattle.std.proofs.{Math.Seq.{get_or-append_seam}, lemmas.Str.{IsUtf8-past_char, IsUtf8-nil, IsCharBoundary-at_seam}}
 use Rattle.semver_core.specs.{Text.Characters.{BeginsBlank}, Internal.Reading.{◌>>?◌}}
 use Rattle.semver_core.proofs.Text.SpaceLaw.{space_len-dark, space_len-inside, space_len-white}
 use Rattle.nodejs_semver.specs.Internal.Words.{signed_word, after_some_space, at_boundary, behind_sign, careted, comparator_at, compared}
-use Rattle.nodejs_semver.specs.Internal.Words.{comparing, or_equal, tilded, unsigned, upper_behind, hyphen_pushed, or_malformed}
+use Rattle.nodejs_semver.specs.Internal.Words.{comparing, or_equal, tilded, unsigned, upper_behind, or_malformed}
 use Rattle.nodejs_semver.specs.Text.WordText.{IsBehind, IsBoundary, IsFirstBoundary, IsForm, IsHyphen, IsWhole, IsWordAt, SkipsBlank}
 use Rattle.nodejs_semver.specs.Text.WordText.{above_sign, at_least_sign, at_most_sign, below_sign, caret_form, compare_form, equal_sign}
-use Rattle.nodejs_semver.specs.{Internal.Words.{word_behind, word_pushed}, Internal.Fronts.{after_byte, number_of}}
+use Rattle.nodejs_semver.specs.{Internal.Words.{word_behind}, Internal.Fronts.{after_byte, number_of}}
 use Rattle.nodejs_semver.specs.Text.LongestText.{IsLongestPartial}
 use Rattle.nodejs_semver.specs.Text.WordText.{formed, hyphen_form, no_form, plain_form, tilde_form, tilde_greater_form}
-use Rattle.nodejs_semver.specs.Internal.CommonViews.{both_view}
 use Rattle.nodejs_semver.proofs.{Reading.Bytes.{solid-dark}, Reading.PartialLaw.{longest_are, spaced, spaces-gone}}
 use Rattle.nodejs_semver.proofs.Reading.Steps.{option-cases}
 
@@ -406,48 +405,3 @@ word-as limit text s o h k = grind arith
 pub upper_none : (limit : ℕ) (s : Sign) (rest : List ℕ) → length rest ≡ 0 → upper_of limit s rest ≡ None
 unfolding space_len
 upper_none limit s rest h = grind arith
-
--- ---- a list to which the interval of a word was added
-
-pub pushed_malformed : (limit : ℕ) (old : List (Span VersionValue)) (w : Word × List ℕ) (rest behind : List ℕ) → w ≡ (malformed, behind) → rest ≡ behind
-    → ◌≡◌ {A = (Bool × List ℕ) × List (Span VersionValue)} ((false, rest), old) (word_pushed limit old w)
-unfolding table
-pushed_malformed limit old w rest behind e h = rw (e, h, append-nil old) refl
-
-pub pushed_word : (limit : ℕ) (old new : List (Span VersionValue)) (there : Bool) (word : Word) (w : Word × List ℕ) (rest : List ℕ) → w ≡ (word, rest)
-    → both_view there new ≡ pushed old (table limit word) → ◌≡◌ {A = (Bool × List ℕ) × List (Span VersionValue)} ((there, rest), new) (word_pushed limit old w)
-pushed_word limit old new there word w rest e h = grind (arith, append-nil)
-
--- a hyphen word was read
-pub pushed_hyphen : (limit : ℕ) (text : List ℕ) (s : Sign × List ℕ) (o : Option (Partial × List ℕ)) (p : Partial) (rest : List ℕ) (u : Option (Partial × List ℕ))
-    (old new : List (Span VersionValue)) (read : Bool × List ℕ)
-    → s ≡ sign_at text → o ≡ partial_front limit s.1 → o ≡ Some (p, rest) → u ≡ upper_of limit s.0 rest
-    → ◌≡◌ {A = Option (Bool × List ℕ) × List (Span VersionValue)} (Some read, new) (hyphen_pushed limit old p u)
-    → ◌≡◌ {A = (Bool × List ℕ) × List (Span VersionValue)} (read, new) (word_pushed limit old (word_at limit text))
-pushed_hyphen limit text s o p rest None old new read h k e m n = grind arith
-pushed_hyphen limit text s o p rest (Some q) old new read h k e m n = grind (arith, nat_tests, word-as limit text s o h k)
-
--- none was read
-pub no_hyphen : (limit : ℕ) (p : Partial) (u : Option (Partial × List ℕ)) (old new : List (Span VersionValue))
-    → ◌≡◌ {A = Option (Bool × List ℕ) × List (Span VersionValue)} (None, new) (hyphen_pushed limit old p u) → (u ≡ None) × (new ≡ old)
-no_hyphen limit p u old new h = grind arith
-
--- ---- a list that is to have two intervals or more
-
--- that has them with the interval of a hyphen word, where one is read
-pub longer_hyphen : (limit : ℕ) (text : List ℕ) (s : Sign × List ℕ) (o : Option (Partial × List ℕ)) (p : Partial) (rest : List ℕ)
-    (u : Option (Partial × List ℕ)) (old : List (Span VersionValue))
-    → s ≡ sign_at text → o ≡ partial_front limit s.1 → o ≡ Some (p, rest) → u ≡ upper_of limit s.0 rest
-    → 1 < length (hyphen_pushed limit old p u).1 → 1 < length (word_pushed limit old (word_at limit text)).1
-longer_hyphen limit text s o p rest None old h k e m long = grind (arith, nat_tests, common_steps, length-append)
-longer_hyphen limit text s o p rest (Some q) old h k e m long = grind (arith, nat_tests, word-as limit text s o h k)
-
--- that has them with the interval of the word of one partial
-pub longer_signed : (limit : ℕ) (text : List ℕ) (s : Sign × List ℕ) (o : Option (Partial × List ℕ)) (p : Partial) (rest : List ℕ)
-    (old new : List (Span VersionValue)) → s ≡ sign_at text → o ≡ partial_front limit s.1 → o ≡ Some (p, rest)
-    → ◌≡◌ {A = Option (Bool × List ℕ) × List (Span VersionValue)} (None, new)
-    (hyphen_pushed limit old p (upper_of limit s.0 rest))
-    → is_boundary rest ≡ true → 1 < length (new ++ option_to_list (table limit (signed_word s.0 p)))
-    → 1 < length (word_pushed limit old (word_at limit text)).1
-longer_signed limit text s o p rest old new h k e m ends long =
-    grind (arith, nat_tests, no_hyphen limit p (upper_of limit s.0 rest) old new m, word-as limit text s o h k)

@@ -20,11 +20,6 @@ right-read : (include : Bool) (text behind : List ℕ) → (r : Right include te
     → word_front false include text ≡ Some (r.comparators, behind)
 right-read include text behind r = grind (arith, nat_tests, common_steps, word-read, boundary-of)
 
-right-once : (include : Bool) (text x y : List ℕ) → Right include text x → Right include text y → x ≡ y
-right-once include text x y r s =
-    ap (λ (q : List Comparison × List ℕ). q.1)
-    (same_Some _ _ (sym (right-read include text x r) ∙ right-read include text y s))
-
 right-utf8 : (include : Bool) (text behind : List ℕ) → IsUtf8 text → Right include text behind → IsUtf8 behind
 right-utf8 include text behind u r = boundary-utf8 r.word behind (subst (λ (t : List ℕ). IsUtf8 t) r.divided u) r.ended
 
@@ -113,16 +108,14 @@ left-once include l m text u here here w z = refl
 left-once include l m text u here (on t b x r s h) w z = absurd (w b r)
 left-once include l m text u (on t b x r s h) here w z = absurd (z b r)
 left-once include l m text u (on t b x r s h) (on t' c y q v k) w z =
-    let behind : b ≡ c = right-once include t b c r q in
-    let utf8 = right-utf8 include t b u r in
-    let rests : x ≡ y =
-    sym (skips-of b x utf8 s) ∙ ap drop_spaces behind ∙ skips-of c y (right-utf8 include t c u q) v in
-    left-once include l m x (skips-utf8 b x s utf8) h (subst (λ (n : List ℕ). Left include m n) (sym rests) k) w z
+    let behind : b ≡ c = (ap (λ (q : List Comparison × List ℕ). q.1) (same_Some _ _ (sym (right-read _ _ _ r) ∙ right-read _ _ _ q))) in
+    let utf8 = right-utf8 _ _ _ u r in
+    let rests : x ≡ y = sym (skips-of _ _ utf8 s) ∙ ap drop_spaces behind ∙ skips-of _ _ (right-utf8 _ _ _ u q) v in
+    left-once _ _ _ _ (skips-utf8 _ _ s utf8) h (subst (λ (n : List ℕ). Left include m n) (sym rests) k) w z
 
 left-utf8 : (include : Bool) (left text : List ℕ) → IsUtf8 text → Left include left text → IsUtf8 left
 left-utf8 include left text u here = u
-left-utf8 include left text u (on t b x r s h) =
-    left-utf8 include left x (skips-utf8 b x s (right-utf8 include t b u r)) h
+left-utf8 include left text u (on t b x r s h) = left-utf8 _ _ _ (skips-utf8 _ _ s (right-utf8 _ _ _ u r)) h
 
 -- ---- the malformed word
 

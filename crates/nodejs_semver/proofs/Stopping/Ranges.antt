@@ -40,10 +40,9 @@ pub piece_wrong : (include : Bool) (piece part : List ℕ) → IsUtf8 piece → 
     → IsFound include (valid_alternative false include part) None → NoValue (IsAlternativeText MAX_SAFE_INTEGER include piece)
 unfolding valid_alternative
 piece_wrong include piece part u t h = λ cs w.
-    let same : w.middle ≡ part = middle_is_trim piece w.middle w.trimmed ∙ sym (middle_is_trim piece part t) in
+    let same : w.middle ≡ part = middle_is_trim _ _ w.trimmed ∙ sym (middle_is_trim _ _ t) in
     let read : alternative_of false include part ≡ Some cs =
-    ap (λ (m : List ℕ). alternative_of false include m) (sym same)
-    ∙ alternative-read false include w.middle cs (trim-utf8 piece w.middle u w.trimmed) w.is in
+    ap (λ (m : List ℕ). alternative_of false include m) (sym same) ∙ alternative-read _ _ _ _ (trim-utf8 _ _ u w.trimmed) w.is in
     let some : valid_alternative false include part ≡ Some cs = rw (read, w.valid) refl in
     rw some at h
 
@@ -74,9 +73,8 @@ piece-of include (q ∷ front) piece behind ls (next p text others cs rest t is 
 pub flawed-none : (include : Bool) (text : List ℕ) (flaw : RangeFlaw) → IsRangeFlaw MAX_SAFE_INTEGER include text flaw
     → (ls : List (List Comparison)) → HasAlternatives MAX_SAFE_INTEGER include text ls → ⊥
 flawed-none include text flaw x ls h =
-    let same : h.parts ≡ x.front ++ x.piece ∷ x.behind = bars_once text h.parts h.divided ∙ sym (bars_once text (x.front ++ x.piece ∷ x.behind) x.divided) in
-    let p = piece-of include x.front x.piece x.behind ls
-    (subst (λ (ps : List (List ℕ)). AreAlternatives false include ps ls) same h.each) h.valid in
+    let same : h.parts ≡ x.front ++ x.piece ∷ x.behind = bars_once _ _ h.divided ∙ sym (bars_once _ _ x.divided) in
+    let p = piece-of _ _ _ _ _ (subst (λ (ps : List (List ℕ)). AreAlternatives false include ps ls) same h.each) h.valid in
     x.wrong p.0 p.1
 
 -- ---- the loop
@@ -105,88 +103,63 @@ bytes-append : (ps : List (List ℕ)) (p : List ℕ) → bytes_of (ps ++ p ∷ [
 bytes-append [] p = omega arith
 bytes-append (q ∷ ps) p = omega (arith, bytes-append ps p)
 
-front-divides : (include : Bool) (text rest : List ℕ) (cut : List ℕ × Option (List ℕ)) → (h : Passed include text (Some rest))
-    → cut ≡ front_part rest → cut_bars false text ≡ h.front ++ cut.0 ∷ parts_after cut.1
-front-divides include text rest cut h e = grind (arith, nat_tests, common_steps, cut_bars-front, parts_after)
-
-pub passed_more : (include : Bool) (text rest : List ℕ) (cut : List ℕ × Option (List ℕ)) → Passed include text (Some rest)
-    → cut ≡ front_part rest → IsPiece include cut.0 → Passed include text cut.1
-passed_more include text rest cut h e p = record {
-  front = h.front ++ cut.0 ∷ [];
-  divided = front-divides include text rest cut h e ∙ sym (append_assoc h.front (cut.0 ∷ []) (parts_after cut.1));
-  right = all-append include h.front cut.0 h.right p;
-  leaves = left cut.1 refl;
-}
-  where
-    left : (o : Option (List ℕ)) → cut.1 ≡ o → Leaves (length text) (h.front ++ cut.0 ∷ []) o
-    left None k = tt
-    left (Some t) k = omega (arith, bytes-append h.front cut.0, (sizes_of rest cut e).behind t k, h.leaves)
-
-passed_wrong : (include : Bool) (text rest : List ℕ) (cut : List ℕ × Option (List ℕ)) (part : List ℕ) (blank at to : ℕ) (flaw : RangeFlaw)
-    → Passed include text (Some rest)
-    → cut ≡ front_part rest → IsAfterBlank cut.0 0 blank → IsTrim cut.0 part
-    → NoValue (IsAlternativeText MAX_SAFE_INTEGER include cut.0)
-    → IsMalformedWord MAX_SAFE_INTEGER include part at to
-    → flaw.start ≡ length text - length rest + blank → flaw.end ≡ flaw.start + length part
-    → flaw.word_start ≡ flaw.start + at → flaw.word_end ≡ flaw.start + to
-    → IsRangeFlaw MAX_SAFE_INTEGER include text flaw
-passed_wrong include text rest cut part blank at to flaw h e a t w word start end word_start word_end = record {
-  front = h.front;
-  piece = cut.0;
-  behind = parts_after cut.1;
-  divided = subst (λ (ps : List (List ℕ)). IsCutAtBars text ps) (front-divides include text rest cut h e) (bars_divide text);
-  right = h.right;
-  wrong = w;
-  blank = blank;
-  after_blank = a;
-  middle = part;
-  trimmed = t;
-  start = omega (arith, start, h.leaves);
-  end = end;
-  at = at;
-  to = to;
-  word = word;
-  word_start = word_start;
-  word_end = word_end;
-}
-
 -- a piece is UTF-8 as the text is
 piece-utf8 : (front : List (List ℕ)) (piece : List ℕ) (behind : List (List ℕ)) → AllByRecursion IsUtf8 (front ++ piece ∷ behind)
     → IsUtf8 piece
 piece-utf8 [] piece behind h = h.0
 piece-utf8 (q ∷ front) piece behind h = piece-utf8 front piece behind h.1
 
-next-utf8 : (include : Bool) (text rest : List ℕ) (cut : List ℕ × Option (List ℕ)) → IsUtf8 text → Passed include text (Some rest)
-    → cut ≡ front_part rest → IsUtf8 cut.0
-next-utf8 include text rest cut u h e =
-    piece-utf8 h.front cut.0 (parts_after cut.1)
-    (subst (λ (ps : List (List ℕ)). AllByRecursion IsUtf8 ps) (front-divides include text rest cut h e)
-    (pieces-utf8 text (cut_bars false text) (bars_divide text) u))
-
 -- what is read of the next piece
-pub wrong_here : (include : Bool) (text rest : List ℕ) (cut : List ℕ × Option (List ℕ)) (part bytes : List ℕ) (blank at to : ℕ)
-    (found : Option Alternative) (flaw : RangeFlaw) → IsUtf8 text → Passed include text (Some rest) → cut ≡ front_part rest
-    → IsAfterBlank cut.0 0 blank → IsTrim cut.0 part → bytes ≡ part → IsFound include (valid_alternative false include bytes) found
-    → is_none found ≡ true → IsMalformedWord MAX_SAFE_INTEGER include bytes at to
-    → flaw.start ≡ length text - length rest + blank → flaw.end ≡ flaw.start + length part
-    → flaw.word_start ≡ flaw.start + at → flaw.word_end ≡ flaw.start + to → IsRangeFlaw MAX_SAFE_INTEGER include text flaw
-wrong_here include text rest cut part bytes blank at to None flaw u h e a t same found empty word start end word_start word_end =
-    passed_wrong include text rest cut part blank at to flaw h e a t
-    (piece_wrong include cut.0 part (next-utf8 include text rest cut u h e) t
-    (subst (λ (x : List ℕ). IsFound include (valid_alternative false include x) None) same found))
-    (subst (λ (x : List ℕ). IsMalformedWord MAX_SAFE_INTEGER include x at to) same word) start end word_start word_end
-wrong_here include text rest cut part bytes blank at to (Some x) flaw u h e a t same found empty word start end word_start word_end =
-    cc empty
+module _ (include : Bool) (text rest : List ℕ) (cut : List ℕ × Option (List ℕ)) (h : Passed include text (Some rest)) (e : cut ≡ front_part rest) where
+  front-divides : cut_bars false text ≡ h.front ++ cut.0 ∷ parts_after cut.1
+  front-divides = grind (arith, nat_tests, common_steps, cut_bars-front, parts_after)
 
-pub right_here : (include : Bool) (text rest : List ℕ) (cut : List ℕ × Option (List ℕ)) (part bytes : List ℕ)
-    (found : Option Alternative) → IsUtf8 text → Passed include text (Some rest) → cut ≡ front_part rest
-    → IsTrim cut.0 part → bytes ≡ part → IsFound include (valid_alternative false include bytes) found
-    → is_none found ≡ false → Passed include text cut.1
-right_here include text rest cut part bytes None u h e t same found empty = cc empty
-right_here include text rest cut part bytes (Some x) u h e t same found empty =
-    passed_more include text rest cut h e
-    (piece_right include cut.0 part x (next-utf8 include text rest cut u h e) t
-    (subst (λ (b : List ℕ). IsFound include (valid_alternative false include b) (Some x)) same found))
+  next-divides : IsCutAtBars text (h.front ++ cut.0 ∷ parts_after cut.1)
+  next-divides = subst (λ (ps : List (List ℕ)). IsCutAtBars text ps) front-divides (bars_divide text)
+
+  next-utf8 : IsUtf8 text → IsUtf8 cut.0
+  next-utf8 u = piece-utf8 h.front _ (parts_after cut.1) (pieces-utf8 _ _ next-divides u)
+
+  pub wrong_here : (part bytes : List ℕ) (blank at to : ℕ) (found : Option Alternative) (flaw : RangeFlaw) → IsUtf8 text
+      → IsAfterBlank cut.0 0 blank → IsTrim cut.0 part → bytes ≡ part → IsFound include (valid_alternative false include bytes) found
+      → is_none found ≡ true → IsMalformedWord MAX_SAFE_INTEGER include bytes at to
+      → flaw.start ≡ length text - length rest + blank → flaw.end ≡ flaw.start + length part
+      → flaw.word_start ≡ flaw.start + at → flaw.word_end ≡ flaw.start + to → IsRangeFlaw MAX_SAFE_INTEGER include text flaw
+  wrong_here part bytes blank at to (Some x) flaw u a t same found empty word start end word_start word_end = cc empty
+  wrong_here part bytes blank at to None flaw u a t same found empty word start end word_start word_end = record {
+    front = h.front;
+    piece = cut.0;
+    behind = parts_after cut.1;
+    divided = next-divides;
+    right = h.right;
+    wrong = piece_wrong _ _ _ (next-utf8 u) t (subst (λ (x : List ℕ). IsFound include (valid_alternative false include x) None) same found);
+    blank = blank;
+    after_blank = a;
+    middle = part;
+    trimmed = t;
+    start = omega (arith, start, h.leaves);
+    end = end;
+    at = at;
+    to = to;
+    word = subst (λ (x : List ℕ). IsMalformedWord MAX_SAFE_INTEGER include x at to) same word;
+    word_start = word_start;
+    word_end = word_end;
+  }
+
+  pub right_here : (part bytes : List ℕ) (found : Option Alternative) → IsUtf8 text → IsTrim cut.0 part → bytes ≡ part
+      → IsFound include (valid_alternative false include bytes) found → is_none found ≡ false → Passed include text cut.1
+  right_here part bytes None u t same found empty = cc empty
+  right_here part bytes (Some x) u t same found empty = record {
+    front = h.front ++ cut.0 ∷ [];
+    divided = front-divides ∙ sym (append_assoc h.front (cut.0 ∷ []) (parts_after cut.1));
+    right = all-append include h.front cut.0 h.right (piece_right _ _ _ _ (next-utf8 u) t
+        (subst (λ (b : List ℕ). IsFound include (valid_alternative false include b) (Some x)) same found));
+    leaves = left cut.1 refl;
+  }
+    where
+      left : (o : Option (List ℕ)) → cut.1 ≡ o → Leaves (length text) (h.front ++ cut.0 ∷ []) o
+      left None k = tt
+      left (Some t) k = omega (arith, bytes-append h.front cut.0, (sizes_of rest cut e).behind t k, h.leaves)
 
 some-pieces : (text : List ℕ) (pieces : List (List ℕ)) → IsCutAtBars text pieces → is_empty pieces ≡ false
 some-pieces text pieces (one_piece t h) = refl
@@ -225,22 +198,19 @@ one-piece include (x ∷ xs) p us (y ∷ ys) q vs h k w z e =
 pub one_range_flaw : (include : Bool) (text : List ℕ) (f g : RangeFlaw) → IsUtf8 text → IsRangeFlaw MAX_SAFE_INTEGER include text f
     → IsRangeFlaw MAX_SAFE_INTEGER include text g → f ≡ g
 one_range_flaw include text f g u x y =
-    let pieces = bars_once text (x.front ++ x.piece ∷ x.behind) x.divided
-    ∙ sym (bars_once text (y.front ++ y.piece ∷ y.behind) y.divided) in
-    let same = one-piece include x.front x.piece x.behind y.front y.piece y.behind x.right y.right x.wrong y.wrong pieces in
-    let utf8 = piece-utf8 x.front x.piece x.behind (pieces-utf8 text (x.front ++ x.piece ∷ x.behind) x.divided u) in
+    let pieces = bars_once _ _ x.divided ∙ sym (bars_once _ _ y.divided) in
+    let same = one-piece _ _ _ _ _ _ _ x.right y.right x.wrong y.wrong pieces in
+    let utf8 = piece-utf8 _ _ _ (pieces-utf8 _ _ x.divided u) in
     let blank : x.blank ≡ y.blank =
-    one_after_blank x.piece 0 x.blank y.blank utf8 x.after_blank
-    (subst (λ (t : List ℕ). IsAfterBlank t 0 y.blank) (sym same.1) y.after_blank) in
-    let middle : x.middle ≡ y.middle =
-    middle_is_trim x.piece x.middle x.trimmed ∙ (ap trim same.1 ∙ sym (middle_is_trim y.piece y.middle y.trimmed)) in
+    one_after_blank _ _ _ _ utf8 x.after_blank (subst (λ (t : List ℕ). IsAfterBlank t 0 y.blank) (sym same.1) y.after_blank) in
+    let middle : x.middle ≡ y.middle = middle_is_trim _ _ x.trimmed ∙ (ap trim same.1 ∙ sym (middle_is_trim _ _ y.trimmed)) in
     let start : f.start ≡ g.start = omega (arith, x.start, y.start, ap bytes_of same.0, blank) in
     let end : f.end ≡ g.end = omega (arith, x.end, y.end, start, ap length middle) in
-    let word = one_malformed_word include x.middle x.at x.to y.at y.to (trim-utf8 x.piece x.middle utf8 x.trimmed) x.word
+    let word = one_malformed_word _ _ _ _ _ _ (trim-utf8 _ _ utf8 x.trimmed) x.word
     (subst (λ (m : List ℕ). IsMalformedWord MAX_SAFE_INTEGER include m y.at y.to) (sym middle) y.word) in
     let word_start : f.word_start ≡ g.word_start = omega (arith, x.word_start, y.word_start, start, word.0) in
     let word_end : f.word_end ≡ g.word_end = omega (arith, x.word_end, y.word_end, start, word.1) in
-    flaws-same f g start end word_start word_end
+    flaws-same _ _ start end word_start word_end
   where
     flaws-same : (f g : RangeFlaw) → f.start ≡ g.start → f.end ≡ g.end → f.word_start ≡ g.word_start → f.word_end ≡ g.word_end
         → f ≡ g

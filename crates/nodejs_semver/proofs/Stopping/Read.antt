@@ -9,6 +9,7 @@ use Rattle.nodejs_semver.proofs.NpmCommon.{encodes_same, is_strict_identifier, i
 use Rattle.nodejs_semver.proofs.{NpmCommon.{runs_tail, tail_runs}, Reading.Bytes.all-join, Stopping.Steps.identifier-more}
 use Rattle.nodejs_semver.proofs.Stopping.Steps.{identifier_read, run-nil, run-step, run-then, spaces-behind, spaces-start, start-digit}
 use Rattle.{nodejs_semver.specs.declared.npm.flaws.State.TheVariants.Start, semver_core.proofs.Text.Listed.plain_runs}
+use Rattle.nodejs_semver.specs.Npm.VersionText.{written}
 use Rattle.semver_core.specs.Internal.CommonReading.{is_plain}
 
 -- ---- numbers
@@ -18,8 +19,7 @@ digits-read : (limit left v : ℕ) (ds : List ℕ) → list_all is_ascii_digit d
 unfolding run next
 digits-read limit left v [] each some safe = refl
 digits-read limit left v (c ∷ ds) each some safe =
-    let h = and_parts (is_ascii_digit c) (list_all is_ascii_digit ds) each in
-    grind (arith, digits_grow, nat_lt, digits-read limit left (v * 10 + digit_value c) ds h.1 (omega arith) safe)
+    grind (arith, nat_tests, common_steps, and_parts, digits_grow, digits-read limit left (v * 10 + digit_value c) ds)
 
 number-read : (limit left n : ℕ) (digits : List ℕ) → IsStrictNumber limit digits n
     → run limit (Digit left) digits ≡ Some (Number left n)
@@ -30,11 +30,10 @@ number-read limit left n (c ∷ d ∷ ds) h =
     let each = and_parts (is_ascii_digit c) (list_all is_ascii_digit (d ∷ ds)) h.number.each in
     let first : 0 * 10 + digit_value c ≡ digit_value c = omega arith in
     let value : n ≡ digits_value_after 10 (digit_value c) (d ∷ ds) = rw first at h.number.value in
-    let some : 0 < digit_value c = positive c each.0 h.shortest in
+    let some : 0 < digit_value c = positive _ each.0 h.shortest in
     let safe : digits_value_after 10 (digit_value c) (d ∷ ds) ≤ limit = rw value at h.number.safe in
     run-step limit (Digit left) (Number left (digit_value c)) c (d ∷ ds) (rw each.0 refl)
-    ∙ digits-read limit left (digit_value c) (d ∷ ds) each.1 some safe
-    ∙ ap (λ (m : ℕ). Some (Number left m)) (sym value)
+    ∙ digits-read _ _ _ (d ∷ ds) each.1 some safe ∙ ap (λ (m : ℕ). Some (Number left m)) (sym value)
   where
     positive : (c : ℕ) → is_ascii_digit c ≡ true → (c == 48) ≡ false → 0 < digit_value c
     positive c h k = grind (arith, nat_tests)
@@ -45,11 +44,8 @@ numbers-read : (limit a b c : ℕ) (x y z rest : List ℕ) → IsStrictNumber li
     → run limit (Digit 2) (x ++ 46 ∷ (y ++ 46 ∷ (z ++ rest))) ≡ run limit (Number 0 c) rest
 unfolding next
 numbers-read limit a b c x y z rest ha hb hc =
-    run-then limit (Digit 2) (Number 2 a) x _ (number-read limit 2 a x ha)
-    ∙ run-step limit (Number 2 a) (Digit 1) 46 _ refl
-    ∙ run-then limit (Digit 1) (Number 1 b) y _ (number-read limit 1 b y hb)
-    ∙ run-step limit (Number 1 b) (Digit 0) 46 _ refl
-    ∙ run-then limit (Digit 0) (Number 0 c) z _ (number-read limit 0 c z hc)
+    run-then _ _ _ _ _ (number-read _ _ _ _ ha) ∙ run-step _ _ _ _ _ refl ∙ run-then _ _ _ _ _ (number-read _ _ _ _ hb)
+    ∙ run-step _ _ _ _ _ refl ∙ run-then _ _ _ _ _ (number-read _ _ _ _ hc)
 
 marked-read : (limit a : ℕ) (mark x rest : List ℕ) → (mark ≡ []) ⊎ (mark ≡ 118 ∷ []) → IsStrictNumber limit x a
     → run limit Start (mark ++ (x ++ rest)) ≡ run limit (Digit 2) (x ++ rest)
@@ -141,8 +137,7 @@ record Ready (limit : ℕ) (s : State) (t : List ℕ) : Type 0 where
 
 pre_release-read : (limit n : ℕ) (p : List ℕ) (l : List Id) → IsStrictPreRelease p l → Ready limit (Number 0 n) p
 unfolding next
-pre_release-read limit n p l no_pre_release =
-    record { state = Number 0 n; reads = run-nil limit (Number 0 n); whole = refl; plus = refl }
+pre_release-read limit n p l no_pre_release = record { state = Number 0 n; reads = run-nil _ _; whole = refl; plus = refl }
 pre_release-read limit n p l (bare text list h strict f) = cc f
 pre_release-read limit n p l (dashed text list h strict) =
     let e = (identifiers limit text).1 h.runs strict in
@@ -155,17 +150,13 @@ Whole limit s text = (t : State) × (run limit s text ≡ Some t) × (is_whole t
 build-read : (limit : ℕ) (s : State) (b : List ℕ) (l : List Id) → is_whole s ≡ true → next limit s 43 ≡ Some Plus
     → IsStrictBuild b l → Whole limit s b
 build-read limit s b l whole next no_build = (s, run-nil limit s, whole)
-build-read limit s b l whole next (plus text list h) =
-    (Build, run-step limit s Plus 43 text next ∙ (builds limit text).1 h.runs, refl)
+build-read limit s b l whole next (plus text list h) = (Build, run-step _ _ _ _ _ next ∙ (builds _ _).1 h.runs, refl)
 
 middle-read : (limit : ℕ) (middle : List ℕ) (v : VersionValue) → IsStrictVersion limit middle v → Whole limit Start middle
-middle-read limit middle v h =
-    let behind = h.pre_release ++ h.build in
-    let numbers : run limit Start middle ≡ run limit (Number 0 v.patch) behind =
-    ap (λ (t : List ℕ). run limit Start t) h.divided
-    ∙ marked-read limit v.major h.mark h.major _ h.mark_is h.major_is
-    ∙ numbers-read limit v.major v.minor v.patch h.major h.minor h.patch behind h.major_is h.minor_is h.patch_is in
-    let p = pre_release-read limit v.patch h.pre_release v.pre_release h.pre_release_is in
+middle-read limit middle v (written mark x y z pre build w m i j k p q) =
+    let numbers : run limit Start (mark ++ (x ++ 46 ∷ (y ++ 46 ∷ (z ++ (pre ++ build))))) ≡ run limit (Number 0 w.patch) (pre ++ build) =
+    marked-read limit w.major mark x _ m i ∙ numbers-read limit w.major w.minor w.patch x y z (pre ++ build) i j k in
+    let r = pre_release-read limit w.patch pre w.pre_release p in
     grind (arith, nat_tests, common_steps, build-read, run-then)
 
 -- ---- its characters are bytes
@@ -181,13 +172,9 @@ pub plain-both : (x y : List ℕ) → list_all is_plain x ≡ true → list_all 
 plain-both x y h k = all-join is_plain x y h k
 
 pub plain-middle : (limit : ℕ) (middle : List ℕ) (v : VersionValue) → IsStrictVersion limit middle v → list_all is_plain middle ≡ true
-plain-middle limit middle v h =
-    rw h.divided (plain-both h.mark _ (mark h.mark h.mark_is)
-    (plain-both h.major _ (plain-digits h.major h.major_is.number.each)
-    (plain-both h.minor _ (plain-digits h.minor h.minor_is.number.each)
-    (plain-both h.patch _ (plain-digits h.patch h.patch_is.number.each)
-    (plain-both h.pre_release h.build (pre h.pre_release v.pre_release h.pre_release_is)
-    (build h.build v.build h.build_is))))))
+plain-middle limit middle v (written s x y z t u w m i j k p q) =
+    plain-both s _ (mark s m) (plain-both x _ (plain-digits x i.number.each) (plain-both y _ (plain-digits y j.number.each)
+    (plain-both z _ (plain-digits z k.number.each) (plain-both t u (pre t w.pre_release p) (build u w.build q)))))
   where
     mark : (m : List ℕ) → (m ≡ []) ⊎ (m ≡ 118 ∷ []) → list_all is_plain m ≡ true
     mark m (inl e) = rw e refl
@@ -208,15 +195,13 @@ pub spelled-read : (limit : ℕ) (cs : List ℕ) → IsSpelled limit (encode_utf
 spelled-read limit cs h =
     let t = h.trimmed in
     let divided : cs ≡ t.before ++ (t.characters ++ t.after) = encodes_same cs (t.before ++ (t.characters ++ t.after)) t.divided in
-    let plain = plain-encodes h.middle (plain-middle limit h.middle h.version h.is) in
+    let plain = plain-encodes _ (plain-middle _ _ _ h.is) in
     let middle : h.middle ≡ t.characters = encodes_same h.middle t.characters (plain ∙ t.middle_is) in
-    let m = middle-read limit h.middle h.version h.is in
-    let e = spaces-behind limit m.0 t.after m.2 t.blank_after in (
+    let m = middle-read _ _ _ h.is in
+    let e = spaces-behind _ _ _ m.2 t.blank_after in (
       e.0,
       ap (λ (x : List ℕ). run limit Start x) divided
-          ∙ run-then limit Start Start t.before _ (spaces-start limit t.before t.blank_before)
-          ∙ ap (λ (x : List ℕ). run limit Start (x ++ t.after)) (sym middle)
-          ∙ run-then limit Start m.0 h.middle t.after m.1
-          ∙ e.1,
+          ∙ run-then _ _ _ _ _ (spaces-start _ _ t.blank_before) ∙ ap (λ (x : List ℕ). run limit Start (x ++ t.after)) (sym middle)
+          ∙ run-then _ _ _ _ _ m.1 ∙ e.1,
       e.2,
     )

@@ -5,7 +5,7 @@ use Rattle.nodejs_semver.proofs.Common.{length-append, length-encode, nat_tests,
 use Rattle.nodejs_semver.proofs.{Common.{◌∷◌, ◌≡◌, ◌≤◌, ◌⊎◌}, NpmCommon.{At, GoesOn, IsFront, IsSpelled, IsVersionText, State}}
 use Rattle.nodejs_semver.proofs.{NpmCommon.{encodes_same, is_whole, len_utf8, next, run, wrong_at, wrong_of}, Stopping.Fronts.front-stops}
 use Rattle.nodejs_semver.proofs.Stopping.{Fronts.read-front, Read.{Whole, spelled-read}, Steps.{run-nil, run-step, run-then}}
-use Rattle.nodejs_semver.proofs.Stopping.{Written.read-spelled, Wrongs.{ended-wrong, goes_on, one_wrong, stopped-wrong}}
+use Rattle.nodejs_semver.proofs.Stopping.{Written.read-spelled, Wrongs.{ended-wrong, front-whole, goes_on, one_wrong, stopped-wrong}}
 use Rattle.nodejs_semver.specs.{Npm.Flaws.{IsFlaw, IsStop, IsWrong}, declared.npm.flaws.Flaw.{Flaw, TheVariants.TooLong}}
 use Rattle.{nodejs_semver.specs.declared.npm.flaws.{State.TheVariants.Start, Wrong.Wrong}, std.proofs.lemmas.Str.cons_from_encodes}
 
@@ -16,10 +16,15 @@ abbrev Stuck : ℕ → State → List ℕ → Type 0
 Stuck limit s [] = is_whole s ≡ false
 Stuck limit s (c ∷ rest) = next limit s c ≡ None
 
-not-whole : (limit : ℕ) (before : List ℕ) (s : State) (behind : List ℕ) → run limit Start before ≡ Some s → Stuck limit s behind
-    → Whole limit Start (before ++ behind) → ⊥
-not-whole limit before s [] h stuck w = let r = rw (append-nil before) at w in cc (same_Some _ _ (sym h ∙ r.1), r.2, stuck)
-not-whole limit before s (c ∷ rest) h stuck w = front-stops limit before s c rest h stuck w
+-- neither does the text go further with the next character, nor is it a version
+stops : (limit : ℕ) (before : List ℕ) (s : State) (behind : List ℕ) → run limit Start before ≡ Some s → Stuck limit s behind
+    → ((c : ℕ) (r : List ℕ) → behind ≡ c ∷ r → IsFront limit (before ++ c ∷ []) → ⊥) × (Whole limit Start (before ++ behind) → ⊥)
+stops limit before s [] h stuck =
+    (λ c r same f. cc same, λ w. let r = rw (append-nil before) at w in cc (same_Some _ _ (sym h ∙ r.1), r.2, stuck))
+stops limit before s (b ∷ rest) h stuck = (
+  λ c r same f. front-stops limit before s c f.0 h (subst (λ (d : ℕ). next limit s d ≡ None) (cc same) stuck) (front-whole limit before c f),
+  front-stops limit before s b rest h stuck,
+)
 
 stop : (limit : ℕ) (text before : List ℕ) (s : State) (behind : List ℕ) → 9 ≤ limit → text ≡ encode_utf8_all (before ++ behind)
     → run limit Start before ≡ Some s → Stuck limit s behind → IsStop limit text (length (encode_utf8_all before))
@@ -29,18 +34,9 @@ stop limit text before s behind nine e h stuck = record {
   divided = e;
   place = refl;
   right = read-front limit before s nine h;
-  wrong = wrong behind stuck;
-  none = λ w. not-whole limit before s behind h stuck
-      (spelled-read limit (before ++ behind) (subst (λ (t : List ℕ). IsSpelled limit t) e w));
+  wrong = (stops limit before s behind h stuck).0;
+  none = λ w. (stops limit before s behind h stuck).1 (spelled-read limit (before ++ behind) (subst (λ (t : List ℕ). IsSpelled limit t) e w));
 }
-  where
-    wrong : (behind : List ℕ) → Stuck limit s behind → (d : ℕ) (r : List ℕ) → behind ≡ d ∷ r → IsFront limit (before ++ d ∷ []) → ⊥
-    wrong [] stuck d r same f = cc same
-    wrong (c ∷ rest) none d r same f =
-        let first : d ≡ c = cc same in
-        front-stops limit before s c f.0 h none
-        (spelled-read limit (before ++ c ∷ f.0) (subst (λ (t : List ℕ). IsSpelled limit (encode_utf8_all t))
-        (append_assoc before (d ∷ []) f.0 ∙ ap (λ (b : ℕ). before ++ b ∷ f.0) first) f.1))
 
 -- what is wrong where a text stops
 abbrev first : List ℕ → Option ℕ
@@ -50,8 +46,7 @@ first (c ∷ rest) = Some c
 wrong : (limit : ℕ) (text before : List ℕ) (s : State) (behind : List ℕ) → 9 ≤ limit → text ≡ encode_utf8_all (before ++ behind)
     → run limit Start before ≡ Some s → Stuck limit s behind → IsWrong limit text (wrong_at s (first behind)) (length (encode_utf8_all before))
 unfolding stop
-wrong limit text before s [] nine e h stuck =
-    (stop limit text before s [] nine e h stuck, goes_on limit before s nine h, ended-wrong limit before s nine h stuck)
+wrong limit text before s [] nine e h stuck = (stop _ _ _ _ _ nine e h stuck, goes_on _ _ _ nine h, ended-wrong _ _ _ _ _ stuck)
 wrong limit text before s (c ∷ rest) nine e h stuck =
     (stop limit text before s (c ∷ rest) nine e h stuck, goes_on limit before s nine h, stopped-wrong limit before s c rest nine h stuck)
 
@@ -72,43 +67,36 @@ behind (c ∷ passed) all rest e = grind (arith, nat_tests, common_steps, cons_f
 pub passed_none : (text rest : List ℕ) → rest ≡ text → Passed text 0 Start rest []
 passed_none text rest e = record { divided = sym e; place = refl; reads = run-nil MAX_SAFE_INTEGER Start }
 
-pub passed_more : (text : List ℕ) (at : ℕ) (s t : State) (rest passed next-rest : List ℕ) (c n : ℕ) → Passed text at s rest passed
-    → rest ≡ encode_utf8 c ++ next-rest → n ≡ len_utf8 c → next MAX_SAFE_INTEGER s c ≡ Some t
-    → Passed text (at + n) t next-rest (passed ++ c ∷ [])
-passed_more text at s t rest passed next-rest c n p e size h =
-    let one : encode_utf8_all (passed ++ c ∷ []) ≡ encode_utf8_all passed ++ encode_utf8 c =
-    encodes-append passed (c ∷ []) ∙ ap (λ (x : List ℕ). encode_utf8_all passed ++ x) (append-nil (encode_utf8 c)) in
-    record {
-      divided = grind (arith, nat_tests, common_steps);
-      place = omega (arith, p.place, size, length-encode c, ap length one, length-append (encode_utf8_all passed) (encode_utf8 c));
-      reads = run-then MAX_SAFE_INTEGER Start s passed (c ∷ []) p.reads
-          ∙ (run-step MAX_SAFE_INTEGER s t c [] h ∙ run-nil MAX_SAFE_INTEGER t);
-    }
+module _ (text : List ℕ) (at : ℕ) (s : State) (rest passed : List ℕ) (p : Passed text at s rest passed) where
+  pub passed_more : (t : State) (next-rest : List ℕ) (c n : ℕ) → rest ≡ encode_utf8 c ++ next-rest → n ≡ len_utf8 c
+      → next MAX_SAFE_INTEGER s c ≡ Some t → Passed text (at + n) t next-rest (passed ++ c ∷ [])
+  passed_more t next-rest c n e size h =
+      let one : encode_utf8_all (passed ++ c ∷ []) ≡ encode_utf8_all passed ++ encode_utf8 c =
+      encodes-append passed (c ∷ []) ∙ ap (λ (x : List ℕ). encode_utf8_all passed ++ x) (append-nil (encode_utf8 c)) in
+      record {
+        divided = grind (arith, nat_tests, common_steps);
+        place = omega (arith, p.place, size, length-encode c, ap length one, length-append (encode_utf8_all passed) (encode_utf8 c));
+        reads = run-then _ _ _ passed (c ∷ []) p.reads ∙ (run-step _ _ _ c [] h ∙ run-nil _ t);
+      }
 
-pub passed_stop : (text : List ℕ) (at : ℕ) (s : State) (rest passed next-rest : List ℕ) (c : ℕ) (w : Wrong) → IsUtf8 text
-    → Passed text at s rest passed → rest ≡ encode_utf8 c ++ next-rest → next MAX_SAFE_INTEGER s c ≡ None
-    → w ≡ wrong_at s (Some c) → IsWrong MAX_SAFE_INTEGER text w at
-passed_stop text at s rest passed next-rest c w u p e none is =
-    let b = behind passed u.0 rest (u.1.1 ∙ p.divided) in
-    let d = cons_from_encodes b.0 next-rest c (b.2 ∙ e) in
-    let whole : text ≡ encode_utf8_all (passed ++ c ∷ d.0) =
-    sym u.1.1 ∙ ap encode_utf8_all (b.1 ∙ ap (λ (x : List ℕ). passed ++ x) d.1) in
-    rw (is, p.place) (wrong MAX_SAFE_INTEGER text passed s (c ∷ d.0) (omega arith) whole p.reads none)
+  pub passed_stop : (next-rest : List ℕ) (c : ℕ) (w : Wrong) → IsUtf8 text → rest ≡ encode_utf8 c ++ next-rest
+      → next MAX_SAFE_INTEGER s c ≡ None → w ≡ wrong_at s (Some c) → IsWrong MAX_SAFE_INTEGER text w at
+  passed_stop next-rest c w u e none is =
+      let b = behind passed u.0 rest (u.1.1 ∙ p.divided) in
+      let d = cons_from_encodes b.0 next-rest c (b.2 ∙ e) in
+      let whole : text ≡ encode_utf8_all (passed ++ c ∷ d.0) =
+      sym u.1.1 ∙ ap encode_utf8_all (b.1 ∙ ap (λ (x : List ℕ). passed ++ x) d.1) in
+      rw (is, p.place) (wrong MAX_SAFE_INTEGER text passed s (c ∷ d.0) (omega arith) whole p.reads none)
 
-at-end : (text : List ℕ) (at : ℕ) (s : State) (rest passed : List ℕ) → Passed text at s rest passed → length rest ≡ 0
-    → text ≡ encode_utf8_all passed
-at-end text at s rest passed p h = grind (arith, nat_tests, common_steps)
+  at-end : length rest ≡ 0 → text ≡ encode_utf8_all passed
+  at-end h = grind (arith, nat_tests, common_steps)
 
-pub passed_end : (text : List ℕ) (at : ℕ) (s : State) (rest passed : List ℕ) (w : Wrong) → Passed text at s rest passed
-    → length rest ≡ 0 → is_whole s ≡ false → w ≡ wrong_at s None → IsWrong MAX_SAFE_INTEGER text w at
-passed_end text at s rest passed w p h none is =
-    rw (is, p.place)
-    (wrong MAX_SAFE_INTEGER text passed s [] (omega arith)
-    (at-end text at s rest passed p h ∙ ap encode_utf8_all (sym (append-nil passed))) p.reads none)
+  pub passed_end : (w : Wrong) → length rest ≡ 0 → is_whole s ≡ false → w ≡ wrong_at s None → IsWrong MAX_SAFE_INTEGER text w at
+  passed_end w h none is =
+      rw (is, p.place) (wrong _ _ _ _ _ (omega arith) (at-end h ∙ ap encode_utf8_all (sym (append-nil passed))) p.reads none)
 
-pub passed_whole : (text : List ℕ) (at : ℕ) (s : State) (rest passed : List ℕ) → Passed text at s rest passed
-    → length rest ≡ 0 → is_whole s ≡ true → IsSpelled MAX_SAFE_INTEGER text
-passed_whole text at s rest passed p h whole = grind (arith, nat_tests, common_steps, at-end, read-spelled)
+  pub passed_whole : length rest ≡ 0 → is_whole s ≡ true → IsSpelled MAX_SAFE_INTEGER text
+  passed_whole h whole = grind (arith, nat_tests, common_steps, at-end, read-spelled)
 
 -- ---- a text has one flaw
 
@@ -157,8 +145,7 @@ one_flaw limit text (At w a) (At v b) x y =
     let t = y.1.0 in
     let same = same-stop limit text a b s t in
     let place : a ≡ b = s.place ∙ (ap (λ (c : List ℕ). length (encode_utf8_all c)) same.0 ∙ sym t.place) in
-    let wrong : w ≡ v =
-    x.1.2 ∙ (same-wrong limit s.before t.before s.behind t.behind same.0 same.1 x.1.1 y.1.1 ∙ sym y.1.2) in
+    let wrong : w ≡ v = x.1.2 ∙ (same-wrong limit _ _ _ _ same.0 same.1 x.1.1 y.1.1 ∙ sym y.1.2) in
     cc (place, wrong)
 
 spelled : (limit : ℕ) (text : List ℕ) (v : VersionValue) → IsVersionText limit text v → IsSpelled limit text

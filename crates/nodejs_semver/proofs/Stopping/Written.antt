@@ -12,6 +12,7 @@ use Rattle.nodejs_semver.{proofs.Stopping.Steps.{identifier-more, identifier_rea
 use Rattle.{nodejs_semver.specs.declared.npm.flaws.State.TheVariants.{End, Start}, semver_core.proofs.Text.Pieces.onto_tail}
 use Rattle.{semver_core.specs.Internal.CommonReading.is_plain, std.proofs.lemmas.{Int.Digits.digits_value_push, List.reverse-append}}
 use Rattle.std.specs.Prelude.{reverse}
+use Rattle.nodejs_semver.specs.Npm.VersionText as VersionText
 
 -- ---- steps
 
@@ -191,9 +192,6 @@ behind-written limit a x s c cs (ends e strict) other later w = go e
     go (inl e) = step (rw (e, other, letter-digit c other) at w)
     go (inr e) = step (rw (e, other) at w)
 
-list-onto : (c : ℕ) (ps : List (List ℕ)) → strict_behind (c ∷ []) ps ≡ true → list_all is_strict_identifier (onto_first c ps) ≡ true
-list-onto c ps h = grind (arith, nat_tests, common_steps)
-
 whole-strict : (a : ℕ) (x : List ℕ) (s : State) → Reads a x s → is_whole s ≡ true → is_strict_identifier (a ∷ x) ≡ true
 whole-strict a x s h w = grind (arith, nat_tests, common_steps)
 
@@ -224,7 +222,7 @@ identifiers limit (c ∷ cs) = elim (cases_Bool (is_identifier_char c)) [
             rw (identifier-more limit [] c letter) at (from limit Dash c cs w) in
             more-qualified c cs (IsTail c []) IsList p.0 (λ t k. (
               rw p.1 (onto_tail c (pieces t) letter k.0),
-              rw p.1 (list-onto c (pieces t) k.1),
+              rw p.1 (grind (arith, nat_tests, common_steps)),
             )) ((identifiers limit cs).0 c [] next),
       )
   | inr other ↦ (
@@ -281,8 +279,7 @@ strict-push limit n c x h some digit safe =
 
 -- no digit more, and one more
 none-numeral : (limit left n : ℕ) (x cs : List ℕ) → IsStrictNumber limit x n → Behind limit left cs → Numeral limit left x cs
-none-numeral limit left n x cs h b =
-    record { digits = []; rest = cs; n = n; divided = refl; plain = refl; is = rw (append-nil x) h; behind = b }
+none-numeral limit left n x cs h b = grind (arith, nat_tests, common_steps, append-nil)
 
 more-numeral : (limit left c : ℕ) (x cs : List ℕ) → is_ascii_digit c ≡ true → Numeral limit left (x ++ c ∷ []) cs → Numeral limit left x (c ∷ cs)
 more-numeral limit left c x cs digit r = grind (arith, nat_tests, common_steps, append_assoc, digit-plain)
@@ -366,7 +363,7 @@ version-written limit mark cs nine plain is w =
           a.divided a.behind.1 b.divided b.behind.1 c.divided q.divided;
       plain = grind (arith, plain-both);
       blank = q.blank;
-      is = grind (arith, nat_tests, common_steps);
+      is = VersionText.written mark a.digits b.digits c.digits q.text q.build _ is a.is b.is c.is q.is.1 q.build_is.1;
     }
 
 -- the same behind whitespace
@@ -408,8 +405,7 @@ plain-dark cs h = grind (arith, nat_tests, common_steps)
 
 pub plain-reverse : (cs : List ℕ) → list_all is_plain cs ≡ true → list_all is_plain (reverse cs) ≡ true
 plain-reverse [] h = refl
-plain-reverse (c ∷ cs) h =
-    grind (arith, nat_tests, common_steps, and_parts, is_plain, reverse-append, plain-both, plain-reverse cs)
+plain-reverse (c ∷ cs) h = grind (arith, nat_tests, common_steps, and_parts, reverse-append, plain-both, plain-reverse cs)
 
 pub read-spelled : (limit : ℕ) (cs : List ℕ) → 9 ≤ limit → Whole limit Start cs → IsSpelled limit (encode_utf8_all cs)
 read-spelled limit cs nine w =

@@ -22,17 +22,13 @@ behind-last : (i w : Bool) (t : State) (c : ℕ)
     → last t (is_ascii_digit c) ≡ true
 behind-last i w t c h = grind (arith, nat_tests)
 
-build-last : (i w : Bool) (t : State) (c : ℕ)
-    → (if i then Some Build else if c == 46 then Some Plus else if w then Some End else None) ≡ Some t → last t (is_ascii_digit c) ≡ true
-build-last i w t c h = grind (arith, nat_tests)
-
 last-read : (limit : ℕ) (s t : State) (c : ℕ) → next limit s c ≡ Some t → last t (is_ascii_digit c) ≡ true
 unfolding next
 last-read limit (Number zero n) t c h = grind (arith, nat_tests)
 last-read limit (Number (suc k) n) t c h = grind (arith, nat_tests)
 last-read limit Zero t c h = grind (arith, nat_tests, common_steps, behind-last, same_Some)
 last-read limit PreRelease t c h = behind-last _ _ t c h
-last-read limit Build t c h = build-last _ _ t c h
+last-read limit Build t c h = grind (arith, nat_tests)
 last-read limit s t c h = grind arith
 
 run-last : (limit : ℕ) (s t : State) (c : ℕ) (cs : List ℕ) → run limit s (c ∷ cs) ≡ Some t
@@ -85,11 +81,9 @@ none-next o h = grind (arith, nat_tests, common_steps)
 
 longer : (limit : ℕ) (before : List ℕ) (s t : State) (c : ℕ) → 9 ≤ limit → run limit Start before ≡ Some s → next limit s c ≡ Some t
     → IsFront limit (before ++ c ∷ [])
-longer limit before s t c nine h k =
-    read-front limit (before ++ c ∷ []) t nine
-    (run-then limit Start s before (c ∷ []) h ∙ (run-step limit s t c [] k ∙ run-nil limit t))
+longer limit before s t c nine h k = read-front _ _ _ nine (run-then _ _ _ _ _ h ∙ (run-step _ _ _ _ _ k ∙ run-nil _ _))
 
-front-whole : (limit : ℕ) (before : List ℕ) (c : ℕ) → (f : IsFront limit (before ++ c ∷ [])) → Whole limit Start (before ++ c ∷ f.0)
+pub front-whole : (limit : ℕ) (before : List ℕ) (c : ℕ) → (f : IsFront limit (before ++ c ∷ [])) → Whole limit Start (before ++ c ∷ f.0)
 front-whole limit before c f = grind (arith, nat_tests, common_steps, spelled-read, append_assoc)
 
 pub goes_on : (limit : ℕ) (before : List ℕ) (s : State) → 9 ≤ limit → run limit Start before ≡ Some s → GoesOn limit before

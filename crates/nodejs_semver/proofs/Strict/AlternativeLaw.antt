@@ -35,9 +35,7 @@ apart (b ∷ rest) = (not (is_visible b) && lone rest) || apart rest
 
 tight-passed : (u v : List ℕ) → list_all is_visible u ≡ true → apart (u ++ v) ≡ apart v
 tight-passed [] v h = refl
-tight-passed (b ∷ u) v h =
-    let each = and_parts (is_visible b) (list_all is_visible u) h in
-    rw each.0 (tight-passed u v each.1)
+tight-passed (b ∷ u) v h = grind (arith, nat_tests, common_steps, and_parts, tight-passed u v)
 
 other-first : (u v : List ℕ) → list_all is_other u ≡ true → lone v ≡ false → lone (u ++ v) ≡ false
 other-first [] v h k = k
@@ -48,9 +46,7 @@ and-none a b h = grind arith
 
 other-passed : (u v : List ℕ) → list_all is_other u ≡ true → lone v ≡ false → apart (u ++ v) ≡ apart v
 other-passed [] v h k = refl
-other-passed (b ∷ u) v h k =
-    let each = and_parts (is_other b) (list_all is_other u) h in
-    rw (and-none (not (is_visible b)) (lone (u ++ v)) (other-first u v each.1 k)) (other-passed u v each.1 k)
+other-passed (b ∷ u) v h k = grind (arith, nat_tests, common_steps, and_parts, and-none, other-first, other-passed u v)
 
 loose-more : (u v : List ℕ) → apart v ≡ true → apart (u ++ v) ≡ true
 loose-more [] v h = h
@@ -62,9 +58,7 @@ loose-blank : (x z : List ℕ) → list_all is_dark x ≡ true → 0 < length x 
     → apart (x ++ (45 ∷ z)) ≡ true
 loose-blank [] z h some filled ends = absurd (omega (arith, some))
 loose-blank (b ∷ []) z h some filled ends = rw ((and_parts (is_dark b) true h).0, filled, ends) refl
-loose-blank (b ∷ c ∷ x) z h some filled ends =
-    loose-more (b ∷ []) ((c ∷ x) ++ (45 ∷ z))
-    (loose-blank (c ∷ x) z (and_parts (is_dark b) (list_all is_dark (c ∷ x)) h).1 (omega arith) filled ends)
+loose-blank (b ∷ c ∷ x) z h some filled ends = grind (arith, nat_tests, common_steps, loose-more, and_parts, loose-blank (c ∷ x) z)
 
 -- ---- the texts of words
 
@@ -142,8 +136,7 @@ upper-read loose include gap b y q hg h w k =
     ap (λ (t : List ℕ). drop_spaces (t ++ (b ++ y))) hg.spelled ∙ drop_spaces-blank hg.characters (b ++ y) hg.each in
     elim (cases_Bool (is_free_upper include q)) [
       | inl free ↦
-          let passed : drop_ends second ≡ y =
-          ap drop_ends at_gap ∙ ends-after 0 (b ++ y) ∙ marks-passed b y h begin in
+          let passed : drop_ends second ≡ y = ap drop_ends at_gap ∙ ends-after 0 (b ++ y) ∙ marks-passed b y h begin in
           record {
             taken = take (length second - 0) second;
             is = rw (passed, read, free) refl;

@@ -1,10 +1,10 @@
 -- Common texts: what the reader of these finds are alternatives of the text, and what their comparators have in common.
-use Rattle.nodejs_semver.proofs.Common.{AllByRecursion, Bool, Bound, IsUtf8, List, MAX_SAFE_INTEGER, Option, Some, None, Span, VersionValue}
-use Rattle.nodejs_semver.proofs.Common.{Unbounded, [], all_weaker, ap, append-nil, append_assoc, arith, begins, codes, cond_some}
+use Rattle.nodejs_semver.proofs.Common.{AllByRecursion, Bool, Bound, IfSome, IsUtf8, List, MAX_SAFE_INTEGER, Option, Some, None, Span, VersionValue}
+use Rattle.nodejs_semver.proofs.Common.{Unbounded, [], all_weaker, ap, append-nil, append_assoc, arith, begins, bind_some, codes, common_steps, drop, cond_some, release_value}
 use Rattle.nodejs_semver.proofs.Common.{cut_bars, false, has_bars, inl, inr, interval, is_empty, is_interval, length, length-append, cond_both, option_holds-interval, precedence_total, trim, IsRange}
 use Rattle.nodejs_semver.proofs.Common.{list_all, list_all-append, nat_tests, option_to_list, precedence, refl, subst, sym, take, true, ℕ}
 use Rattle.nodejs_semver.proofs.Common.{◌++◌, ◌-◌, ◌<◌, ◌∙◌, ◌∷◌, ◌≡◌, ◌≤◌, ◌⊎◌}
-use Rattle.nodejs_semver.proofs.NpmCommon.{are_normal, AcceptAsRanged, AreAlternatives, Comparison, IsCommon, IsNarrowed, IsPartial, IsPlace}
+use Rattle.nodejs_semver.proofs.NpmCommon.{AreRead, bounds_view, within, after_byte, are_normal, begins_wildcard, dotted_patch, dotted_place, listed, patch_place, strict_number, AcceptAsRanged, AreAlternatives, Comparison, IsCommon, IsNarrowed, IsPartial, IsPlace}
 use Rattle.nodejs_semver.proofs.NpmCommon.{IsRangeIn, compared, counted_front, is_small, is_valid, limited, lit<, no_sign, spelling}
 use Rattle.nodejs_semver.proofs.Alike.Texts.{gap-bytes, joined, no_mark, no_marks, one_blank, sign_text}
 use Rattle.nodejs_semver.proofs.Algebra.Gate.{both}
@@ -12,13 +12,14 @@ use Rattle.nodejs_semver.specs.Internal.NpmAlternatives.{ranged}
 use Rattle.nodejs_semver.proofs.Dividing.{BarsDivide.bars_divide, MeaningLaw.pieces-utf8}
 use Rattle.nodejs_semver.proofs.Everyday.{Parts.bars-sound, Texts.{compact-trim, cut-first, cut-last}, Words.{Compact, compact-spaced, is_part_byte}}
 use Rattle.nodejs_semver.proofs.Reading.Bytes.{all-end, all-join}
-use Rattle.nodejs_semver.proofs.Strict.{Limits.counted_limited, Malformed.{is_part, partial-part}, Narrowing.both_common, WordReads.{partial-le, partial-normal}}
+use Rattle.nodejs_semver.proofs.Strict.{Limits.{counted_limited, number_placed, over_counted, wildcard_placed}, Malformed.{is_part, partial-part}, Narrowing.both_common, WordReads.{partial-le, partial-normal}}
 use Rattle.nodejs_semver.proofs.Strict.PartialLaw.{PartialAt, partial-found}
 use Rattle.nodejs_semver.proofs.Strict.RangeReads.{found_spans, ranged_range}
-use Rattle.nodejs_semver.specs.Internal.{CommonFronts.after_bars, NpmFronts.{AreIn, AreParts, IsPartAt, IsSignAt, IsWordAt, is_below, is_word_byte}}
-use Rattle.nodejs_semver.specs.Internal.{NpmReads.AreFound, NpmWords.partial_front}
-use Rattle.nodejs_semver.specs.Npm.{RangeText.{AreWords, IsWord}, Table.{Partial, Sign, table}}
+use Rattle.nodejs_semver.specs.Internal.{CommonFronts.after_bars, NpmFronts.{AreIn, AreJoined, AreParts, IsLeft, IsPartAt, IsSignAt, IsTried, IsWordAt, is_word_byte}}
+use Rattle.nodejs_semver.specs.Internal.{NpmReads.AreFound, NpmReadings.dotted_number, NpmWords.{any, is_over, number, partial_front, place_zeros, placed}}
+use Rattle.nodejs_semver.specs.Npm.{RangeText.{AreWords, IsWord}, Table.{Partial, Sign, first, major, minor, table, whole, wildcard}}
 use Rattle.nodejs_semver.specs.Text.{Common.IsGap, WordText.equal}
+use Rattle.nodejs_semver.specs.declared.readers.syntax.Bounds.{Bounds}
 use Rattle.nodejs_semver.specs.Internal.NpmFronts as Front
 use Rattle.nodejs_semver.specs.Npm.RangeText as Npm
 use Rattle.std.proofs.Math.Seq.{take-append_seam}
@@ -88,6 +89,89 @@ word-shorter text p rest h = partial-le false MAX_SAFE_INTEGER text p rest h
 pub word-normal : (text : List ℕ) (p : Partial) (rest : List ℕ) → Some (p, rest) ≡ counted_front false MAX_SAFE_INTEGER text → are_normal p ≡ true
 word-normal text p rest h = let f = piece-at text p rest h in partial-normal false f.piece p f.is
 
+small-within : (p : Partial) → is_small MAX_SAFE_INTEGER p ≡ true → within (first p) ≡ true
+small-within p h = grind (arith, nat_tests, common_steps)
+
+pub word-within : (text : List ℕ) (p : Partial) (rest : List ℕ) → Some (p, rest) ≡ counted_front false MAX_SAFE_INTEGER text → within (first p) ≡ true
+word-within text p rest h = go (partial_front false text) (h ∙ counted_limited false MAX_SAFE_INTEGER text)
+  where
+    go : (o : Option (Partial × List ℕ)) → Some (p, rest) ≡ limited MAX_SAFE_INTEGER o → within (first p) ≡ true
+    go None k = cc k
+    go (Some q) k =
+        let same = cond_some (is_small MAX_SAFE_INTEGER q.0) q (p, rest) (sym k) in
+        small-within p (ap (λ (x : Partial × List ℕ). is_small MAX_SAFE_INTEGER x.0) (sym same.1) ∙ same.0)
+
+pub ruleset words_found = (word-normal, word-shorter, word-within)
+
+-- ---- a short partial
+
+over-ends : (text : List ℕ) → is_over text ≡ true → after_byte 46 text ≡ None
+over-ends [] h = refl
+over-ends (b ∷ text) h = grind (arith, nat_tests, common_steps)
+
+no_place : (zeros : Bool) (text : List ℕ) → is_over text ≡ true
+    → (dotted_place false zeros text ≡ None) × (dotted_patch false zeros text ≡ None)
+unfolding dotted_place dotted_patch
+no_place zeros text h = (rw (over-ends text h) refl, rw (over-ends text h) refl)
+
+wild_place : (zeros : Bool) (b : ℕ) (rest : List ℕ) → begins_wildcard (b ∷ rest) ≡ true
+    → (placed MAX_SAFE_INTEGER (dotted_place false zeros (46 ∷ (b ∷ rest))) ≡ Some (any, rest))
+    × (placed MAX_SAFE_INTEGER (dotted_patch false zeros (46 ∷ (b ∷ rest))) ≡ Some (any, rest))
+unfolding dotted_place dotted_patch patch_place
+wild_place zeros b rest h = (wildcard_placed false zeros (b ∷ rest) h, wildcard_placed false zeros (b ∷ rest) h)
+
+number_place : (zeros : Bool) (text : List ℕ) (n : ℕ) (rest : List ℕ) → Some (n, rest) ≡ dotted_number MAX_SAFE_INTEGER text
+    → (placed MAX_SAFE_INTEGER (dotted_place false zeros text) ≡ Some (number n, rest))
+    × (placed MAX_SAFE_INTEGER (dotted_patch false zeros text) ≡ Some (number n, rest))
+unfolding dotted_number dotted_place dotted_patch patch_place
+number_place zeros text n rest h =
+    let t = bind_some (after_byte 46 text) _ (n, rest) (sym h) in
+    let k = number_placed false zeros t.0 n rest t.2 in
+    (rw t.1 k, rw t.1 k)
+
+pub short-any : (text end : List ℕ) → begins_wildcard text ≡ true → end ≡ drop 1 text → is_over end ≡ true
+    → Some (wildcard, end) ≡ counted_front false MAX_SAFE_INTEGER text
+short-any text end h e over = rw (wildcard_placed false false text h, sym e, (no_place true end over).0) refl
+
+pub short-one : (text : List ℕ) (a : ℕ) (one end : List ℕ) → Some (a, one) ≡ strict_number MAX_SAFE_INTEGER text → IsLeft one end
+    → Some (major a, end) ≡ counted_front false MAX_SAFE_INTEGER text
+short-one text a one end h (over, inl e) =
+    rw (number_placed false false text a one (sym h), e, (no_place (place_zeros (number a)) end over).0) refl
+short-one text a one end h (over, inr (b, e, w)) =
+    rw (number_placed false false text a one (sym h), e, (wild_place (place_zeros (number a)) b end w).0, (no_place (place_zeros (number a)) end over).1) refl
+
+pub short-two : (text : List ℕ) (a b : ℕ) (one two end : List ℕ) → Some (a, one) ≡ strict_number MAX_SAFE_INTEGER text
+    → Some (b, two) ≡ dotted_number MAX_SAFE_INTEGER one → IsLeft two end → Some (minor a b, end) ≡ counted_front false MAX_SAFE_INTEGER text
+short-two text a b one two end h k (over, inl e) =
+    rw (
+      number_placed false false text a one (sym h),
+      (number_place (place_zeros (number a)) one b two k).0,
+      e,
+      (no_place (place_zeros (number a)) end over).1,
+    ) refl
+short-two text a b one two end h k (over, inr (c, e, w)) =
+    rw (
+      number_placed false false text a one (sym h),
+      (number_place (place_zeros (number a)) one b two k).0,
+      e,
+      (wild_place (place_zeros (number a)) c end w).1,
+      over_counted false (number a) (number b) any end over,
+    ) refl
+
+pub short-three : (text : List ℕ) (a b c : ℕ) (one two end : List ℕ) → Some (a, one) ≡ strict_number MAX_SAFE_INTEGER text
+    → Some (b, two) ≡ dotted_number MAX_SAFE_INTEGER one → Some (c, end) ≡ dotted_number MAX_SAFE_INTEGER two → is_over end ≡ true
+    → Some (whole (release_value a b c), end) ≡ counted_front false MAX_SAFE_INTEGER text
+unfolding listed
+short-three text a b c one two end h k l over =
+    rw (
+      number_placed false false text a one (sym h),
+      (number_place (place_zeros (number a)) one b two k).0,
+      (number_place (place_zeros (number a)) two c end l).1,
+      over_counted false (number a) (number b) (number c) end over,
+    ) refl
+
+pub ruleset short_fronts = (short-one, short-two, short-three)
+
 -- ---- a part
 
 begins-all : (x : List ℕ) → 0 < length x → list_all is_word_byte x ≡ true → begins is_word_byte x ≡ true
@@ -125,7 +209,7 @@ half-open include cs ds s t h k e f =
     let whole : both s t ≡ record { lower = s.lower; upper = t.upper } = rw (e, f) (open_both s.lower t.upper) in
     (list_all-append (is_valid MAX_SAFE_INTEGER) cs ds ∙ rw (h.0, k.0) refl, rw whole at (both_common include cs ds s t h.1 k.1))
 
-pub part-of_two : (include : Bool) (text rest behind last : List ℕ) (s t : Span VersionValue) → IsWordAt include text s rest
+part-of_two : (include : Bool) (text rest behind last : List ℕ) (s t : Span VersionValue) → IsWordAt include text s rest
     → rest ≡ 32 ∷ behind → IsWordAt include behind t last → s.upper ≡ Unbounded → t.lower ≡ Unbounded
     → IsPartAt include text (record { lower = s.lower; upper = t.upper }) last
 part-of_two include text rest behind last s t v e w open_above open_below =
@@ -142,6 +226,20 @@ part-of_two include text rest behind last s t v e w open_above open_below =
       are = half-open include v.comparators w.comparators s t v.are w.are open_above open_below;
     }
 
+pub word-read : (include : Bool) (text behind rest : List ℕ) (s : Sign) (p : Partial) (o : Option Bounds) → IsSignAt text s behind
+    → Some (p, rest) ≡ counted_front false MAX_SAFE_INTEGER behind
+    → AreRead include (table include s p (take (length behind - length rest) behind)) o → IfSome o (λ b. IsPartAt include text (bounds_view b) rest)
+word-read include text behind rest s p None sign read are = tt
+word-read include text behind rest s p (Some b) sign read are =
+    part-of_one include text rest (bounds_view b) (word-found include text behind rest s p (bounds_view b) sign read are)
+
+pub joined-read : (include : Bool) (text rest behind last : List ℕ) (s t : Span VersionValue) (o : Option Bounds) → IsWordAt include text s rest
+    → rest ≡ 32 ∷ behind → IsWordAt include behind t last → IfSome o (λ b. AreJoined s t (bounds_view b))
+    → IfSome o (λ b. IsPartAt include text (bounds_view b) last)
+joined-read include text rest behind last s t None v e w are = tt
+joined-read include text rest behind last s t (Some b) v e w (open_above, open_below, same) =
+    rw same (part-of_two include text rest behind last s t v e w open_above open_below)
+
 -- ---- the loop
 
 abbrev HasBars : List ℕ → Type 0
@@ -153,10 +251,9 @@ pub record Reaches (include : Bool) (text : List ℕ) (found : List (Span Versio
   pub some : (found ≡ []) ⊎ HasBars text
   pub within : HasBars rest → HasBars text
 
-pub loop-ends : (include : Bool) (text : List ℕ) (found new : List (Span VersionValue)) (rest behind : List ℕ) (s : Span VersionValue)
-    → Reaches include text found rest → IsPartAt include rest s behind → new ≡ found ++ option_to_list (interval precedence s)
-    → length behind ≡ 0 → AreParts include text new
-loop-ends include text found new rest behind s r p e none =
+pub loop-ends : (include : Bool) (text : List ℕ) (found new : List (Span VersionValue)) (rest behind : List ℕ)
+    → Reaches include text found rest → IsTried include rest (Some behind) found new → length behind ≡ 0 → AreParts include text new
+loop-ends include text found new rest behind r (s, p, e) none =
     let h : IsPartAt include rest s [] = subst (λ (t : List ℕ). IsPartAt include rest s t) (no-text behind none) p in
     rw e (r.read (option_to_list (interval precedence s)) (Front.one rest s h))
   where
@@ -186,21 +283,23 @@ bars-there include rest behind next s p e =
       ),
     )
 
-pub loop-goes : (include : Bool) (text : List ℕ) (found new : List (Span VersionValue)) (rest behind next : List ℕ) (s : Span VersionValue)
-    → Reaches include text found rest → IsPartAt include rest s behind → new ≡ found ++ option_to_list (interval precedence s)
-    → after_bars behind ≡ Some next → Reaches include text new next
-loop-goes include text found new rest behind next s r p e bars =
+pub loop-goes : (include : Bool) (text : List ℕ) (found new : List (Span VersionValue)) (rest behind next : List ℕ)
+    → Reaches include text found rest → IsTried include rest (Some behind) found new → after_bars behind ≡ Some next
+    → Reaches include text new next × HasBars text
+loop-goes include text found new rest behind next r (s, p, e) bars =
     let there = bars-there include rest behind next s p bars in
-    let o = option_to_list (interval precedence s) in
-    record {
-      read = λ ss h. rw (e, append_assoc found o ss) (r.read (o ++ ss) (Front.more rest behind next s ss p bars h));
-      some = inr (r.within there.0);
-      within = λ h. r.within there.0;
-    }
+    let o = option_to_list (interval precedence s) in (
+      record {
+        read = λ ss h. rw (e, append_assoc found o ss) (r.read (o ++ ss) (Front.more rest behind next s ss p bars h));
+        some = inr (r.within there.0);
+        within = λ h. r.within there.0;
+      },
+      r.within there.0,
+    )
 
-pub loop-shorter : (include : Bool) (rest behind next : List ℕ) (s : Span VersionValue) → IsPartAt include rest s behind
-    → after_bars behind ≡ Some next → length next < length rest
-loop-shorter include rest behind next s p bars = (bars-there include rest behind next s p bars).2
+pub loop-shorter : (include : Bool) (found new : List (Span VersionValue)) (rest behind next : List ℕ)
+    → IsTried include rest (Some behind) found new → after_bars behind ≡ Some next → length next < length rest
+loop-shorter include found new rest behind next (s, p, e) bars = (bars-there include rest behind next s p bars).2
 
 -- ---- the whole text
 

@@ -3,9 +3,9 @@ use Rattle.nodejs_semver.proofs.Common.{Bool, IsBlank, IsUtf8, List, Some, [], a
 use Rattle.nodejs_semver.proofs.Common.{bind_some, cases_Bool, common_steps, cond_some, drop, drop_at, drop_spaces, encode_utf8}
 use Rattle.nodejs_semver.proofs.Common.{encode_utf8_all, false, inl, inr, is_empty, is_whitespace, len_utf8_bounds, length, length-encode}
 use Rattle.nodejs_semver.proofs.Common.{list_all, nat_tests, refl, space_len, space_len-nil, subst, suc, sym, take, true, zero, ℕ, ◌++◌}
-use Rattle.nodejs_semver.proofs.{Common.{◌-◌, ◌<◌, ◌||◌, ◌∙◌, ◌∷◌, ◌≡◌, ◌⊎◌}, NpmCommon.{AreMarks, Ended, IsAlternative, IsPartial}}
+use Rattle.nodejs_semver.proofs.{Common.{◌-◌, ◌<◌, ◌||◌, ◌∙◌, ◌∷◌, ◌≡◌}, NpmCommon.{AreMarks, Ended, IsAlternative, IsPartial}}
 use Rattle.nodejs_semver.proofs.NpmCommon.{after_byte, after_ends, are_whole_marks, drop_ends, encode_ascii, end_front, ended_end}
-use Rattle.nodejs_semver.proofs.NpmCommon.{hyphen_comparisons, hyphen_ends, is_free_lower, is_free_upper, is_mark, is_one_v, last_end}
+use Rattle.nodejs_semver.proofs.NpmCommon.{hyphen_comparisons, hyphen_ends, is_free_lower, is_free_upper, is_mark, last_end}
 use Rattle.nodejs_semver.proofs.{NpmCommon.{len_utf8, space_len-white}, Reading.Bytes.{begins_component, component-solid, is_solid}}
 use Rattle.nodejs_semver.proofs.{Reading.{Bytes.solid-dark, WordLaw.{byte-is, tail-utf8}}, Strict.PartialLaw.{partial-found, partial-read}}
 use Rattle.nodejs_semver.proofs.Strict.{Signs.{blank-at, blank-skipped}, VersionLaw.empty-is, Words.{blank-some, blank-space, front-text}}
@@ -109,7 +109,7 @@ component-dark : (u : List ℕ) → begins_component u ≡ true → space_len u 
 component-dark u h = solid-dark u (component-solid u h)
 
 pub marks-passed : (a u : List ℕ) → AreMarks a → begins_component u ≡ true → drop_ends (a ++ u) ≡ u
-marks-passed a u h k = rw h.spelled (ends-read h.characters u h.each (grind (arith, nat_tests)) (component-dark u k))
+marks-passed a u h k = rw h.1 (ends-read h.0 u h.2 (grind (arith, nat_tests)) (component-dark u k))
 
 pub end-read : (loose : Bool) (free : Partial → Bool) (a x rest : List ℕ) (p : Partial) → AreMarks a → (free p || are_whole_marks loose a) ≡ true
     → IsPartial loose x p → begins is_solid rest ≡ false → end_front loose free (a ++ (x ++ rest)) ≡ Some ((p, a ++ x), rest)
@@ -143,7 +143,7 @@ end-found loose free text e u h =
     let front_is : front ≡ marks = ap (λ (t : List ℕ). take (length t - length behind) t) ends.split ∙ front-text marks behind in
     let taken_is = front-text (marks ++ part.piece) p.0.1 in
     let fits = subst (λ (x : List ℕ). (free p.0.0 || are_whole_marks loose x) ≡ true) front_is t.0 in
-    let are : AreMarks marks = record { characters = ends.characters; spelled = refl; each = ends.each } in
+    let are : AreMarks marks = (ends.characters, refl, ends.each) in
     grind (arith, nat_tests, common_steps, append_assoc)
 
 -- ---- what stands between the ends
@@ -206,8 +206,5 @@ hyphen-found loose include text e u h =
 
 -- ---- marks are no whitespace
 
-one-first : (text : List ℕ) → is_one_v text ≡ true → (text ≡ []) ⊎ (text ≡ 118 ∷ [])
-one-first text h = grind (arith, nat_tests, common_steps)
-
 pub whole-dark : (loose : Bool) (b u : List ℕ) → are_whole_marks loose b ≡ true → begins_component u ≡ true → space_len (b ++ u) ≡ 0
-whole-dark loose b u h k = grind (arith, nat_tests, common_steps, component-dark, mark-dark, and_parts, one-first)
+whole-dark loose b u h k = grind (arith, nat_tests, common_steps, component-dark, mark-dark, and_parts)

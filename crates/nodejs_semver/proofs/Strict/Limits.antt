@@ -1,17 +1,17 @@
 -- Places and partial versions with numbers past the limit: what the code reads is what stands there, where no such number counts.
-use Rattle.nodejs_semver.proofs.Common.{Bool, Front, Id, IsNumber, List, MAX_SAFE_INTEGER, None, Option, Some, [], and_parts, ap}
-use Rattle.nodejs_semver.proofs.Common.{append-nil, arith, begins, bind_some, cases_Bool, common_steps, drop, drop_at, false, if◌then◌else◌}
+use Rattle.nodejs_semver.proofs.Common.{Bool, Front, Id, IsNumber, List, MAX_SAFE_INTEGER, None, Option, Some, [], ap}
+use Rattle.nodejs_semver.proofs.Common.{append-nil, arith, bind_some, cases_Bool, common_steps, drop, drop_at, false, if◌then◌else◌}
 use Rattle.nodejs_semver.proofs.Common.{inl, inr, is_ascii_digit, is_empty, length, list_all, nat_lt, nat_tests, not, prefix_len, refl}
 use Rattle.nodejs_semver.proofs.Common.{same_Some, subst, sym, take, take-append-drop, take_at, take_rest, true, ℕ, ◌&&◌, ◌++◌, ◌-◌, ◌<◌}
 use Rattle.nodejs_semver.proofs.{Common.{◌||◌, ◌∙◌, ◌∷◌, ◌≡◌, ◌≤◌}, NpmCommon.{IsPlace, begins_byte, begins_padded, begins_wildcard, build_front, dashed_front, listed, pre_front}}
 use Rattle.nodejs_semver.proofs.NpmCommon.{counted_front, digits_value, has_leading_zero, has_zeros, is_small, is_spelled}
 use Rattle.nodejs_semver.proofs.NpmCommon.{length-prefix_len, limited, most_digits, nat_le, number_front, number_of, or-true, partial_of}
 use Rattle.nodejs_semver.proofs.NpmCommon.{patch_place, place_front, qualified_partial, run_place, second_front, strict_number, take_while}
-use Rattle.nodejs_semver.proofs.{NpmCommon.{third_front, ◌>>?◌}, Reading.Numbers.{digits-taken, number-found, number-no_wildcard}}
+use Rattle.nodejs_semver.proofs.{NpmCommon.{◌>>?◌}, Reading.Numbers.{digits-taken, number-found, number-no_wildcard}}
 use Rattle.nodejs_semver.proofs.{Reading.Numbers.number-of, Strict.{Numbers.{number-short, padded-same}, Places.{digits-of, place-read}}}
 use Rattle.nodejs_semver.{proofs.Strict.Places.{prefix-all, some-run}, specs.Internal.NpmWords.{Place, any, counted, great, is_over, may_follow, number}}
 use Rattle.nodejs_semver.specs.Internal.NpmWords.{partial_front, place_of, place_zeros, placed, qualified_counted, second_counted}
-use Rattle.nodejs_semver.specs.{Internal.NpmWords.third_counted, Npm.Table.Partial}
+use Rattle.nodejs_semver.specs.{Npm.Table.Partial}
 use Rattle.nodejs_semver.specs.Npm.RangeText as Text
 
 -- ---- places
@@ -53,9 +53,6 @@ wildcard_placed loose zeros text h = rw h refl
 past-limit : (limit : ℕ) (run : List ℕ) → 1 ≤ length run → list_all is_ascii_digit run ≡ true → number_of limit run ≡ None
     → nat_le (digits_value 10 run) limit ≡ false
 past-limit limit run some each none = grind (arith, nat_tests, common_steps, number-of)
-
-bind-none : {A B : Type 0} (o : Option A) (f : A → B) → (o >>? λ x. Some (f x)) ≡ None → o ≡ None
-bind-none o f h = grind (arith, nat_tests, common_steps)
 
 -- what stands where no wildcard does, by the digits at the front
 run-placed : (loose zeros : Bool) (text : List ℕ) → begins_wildcard text ≡ false → place_front loose zeros text
@@ -101,7 +98,7 @@ pub great_placed : (loose zeros : Bool) (text : List ℕ) (at : ℕ) → number_
     → (not loose && begins_padded text) ≡ false → at ≡ prefix_len is_ascii_digit text → 1 ≤ at → at ≤ most_digits loose
     → placed MAX_SAFE_INTEGER (place_front loose zeros text) ≡ some_place great (take (length text - at) (drop at text))
 great_placed loose zeros text at front dark bare is first last =
-    grind (arith, nat_tests, common_steps, length-prefix_len, prefix-all, bind-none, past-limit, spelled-great, run-valued, take_rest)
+    grind (arith, nat_tests, common_steps, length-prefix_len, prefix-all, past-limit, spelled-great, run-valued, take_rest)
 
 -- ---- leading zeros
 
@@ -147,18 +144,12 @@ pub patch_whole : (loose zeros : Bool) (text : List ℕ) (at : ℕ) → at ≡ p
 unfolding patch_place
 patch_whole loose zeros text at e h = rw (rw e at h) refl
 
--- digits alone are a place as their run is
-run-first : (loose zeros : Bool) (run more : List ℕ) → begins is_ascii_digit run ≡ true → list_all is_ascii_digit run ≡ true
-    → begins is_ascii_digit more ≡ false → place_front loose zeros (run ++ more) ≡ run_place loose zeros run more
-unfolding place_front
-run-first loose zeros run more first each stop = grind (arith, nat_tests, common_steps, number-no_wildcard, digits-taken, take_at, drop_at)
-
 run-alone : (loose zeros : Bool) (run : List ℕ) → list_all is_ascii_digit run ≡ true → place_front loose zeros run ≡ run_place loose zeros run []
 unfolding place_front
 run-alone loose zeros [] h = refl
 run-alone loose zeros (c ∷ run) h =
     subst (λ (t : List ℕ). place_front loose zeros t ≡ run_place loose zeros (c ∷ run) []) (append-nil (c ∷ run))
-    (run-first loose zeros (c ∷ run) [] (and_parts (is_ascii_digit c) _ h).0 h refl)
+    (grind (arith, nat_tests, common_steps, number-no_wildcard, digits-taken, take_at, drop_at))
 
 run-behind : (limit : ℕ) (loose zeros : Bool) (run rest : List ℕ) → placed limit (run_place loose zeros run rest)
     ≡ (placed limit (run_place loose zeros run []) >>? λ p. Some (p.0, rest))
@@ -182,29 +173,17 @@ counted-small : (limit : ℕ) (a b c : Option ℕ) (pre build : List Id)
     → counted (place_of limit a) (place_of limit b) (place_of limit c) pre build ≡ if_small limit (partial_of a b c pre build)
 counted-small limit a b c pre build = grind (arith, nat_tests, common_steps)
 
-counted-short : (limit : ℕ) (a b : Option ℕ) (text : List ℕ)
-    → (counted (place_of limit a) (place_of limit b) any [] [] >>? λ p. Some (p, text)) ≡ limited limit (Some (partial_of a b None [] [], text))
-counted-short limit a b text = rw (counted-small limit a b None [] []) (grind arith)
-
 qualified-limited : (loose : Bool) (limit : ℕ) (a b c : Option ℕ) (text : List ℕ)
     → qualified_counted loose (place_of limit a) (place_of limit b) (place_of limit c) text ≡ limited limit (qualified_partial loose a b c text)
 unfolding qualified_counted qualified_partial
 qualified-limited loose limit a b c text = grind (arith, nat_tests, common_steps)
 
-third-limited : (loose : Bool) (limit : ℕ) (a b : Option ℕ) (text : List ℕ) (o : Front (Option ℕ))
-    → third_counted loose (place_of limit a) (place_of limit b) text (placed limit o) ≡ limited limit (third_front loose a b text o)
-third-limited loose limit a b text o = grind (arith, nat_tests, common_steps, counted-short, qualified-limited)
-
 zeros-placed : (limit : ℕ) (a : Option ℕ) → place_zeros (place_of limit a) ≡ has_zeros a
 zeros-placed limit a = grind (arith, nat_tests, common_steps)
 
-second-limited : (loose : Bool) (limit : ℕ) (a : Option ℕ) (text : List ℕ) (o : Front (Option ℕ))
-    → second_counted loose limit (place_of limit a) text (placed limit o) ≡ limited limit (second_front loose a text o)
-second-limited loose limit a text o = grind (arith, nat_tests, common_steps, counted-short, zeros-placed, third-limited)
-
 pub counted_limited : (loose : Bool) (limit : ℕ) (text : List ℕ) → counted_front loose limit text ≡ limited limit (partial_front loose text)
 unfolding partial_front
-counted_limited loose limit text = grind (arith, nat_tests, common_steps, zeros-placed, second-limited)
+counted_limited loose limit text = grind (arith, nat_tests, common_steps, zeros-placed, qualified-limited)
 
 -- ---- nothing stands behind the numbers
 

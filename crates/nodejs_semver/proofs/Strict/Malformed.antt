@@ -1,20 +1,23 @@
 -- The malformed words that are ignored are no well-formed ones.
-use Rattle.nodejs_semver.proofs.Common.{Bool, Id, IsBlank, IsIdentifiers, List, Option, Some, [], all_weaker, and-false, and_from}
+use Rattle.nodejs_semver.proofs.Common.{Bool, Id, IsBlank, IsIdentifiers, List, Option, Some, [], all_weaker, and-false}
 use Rattle.nodejs_semver.proofs.Common.{and_parts, ap, append-nil, append_assoc, arith, begins, cases_Bool, common_steps, drop, drop_all}
 use Rattle.nodejs_semver.proofs.Common.{encode_utf8, encode_utf8_all, ends, equal, false, get_or, inl, inr, is_ascii_digit, is_boundary}
 use Rattle.nodejs_semver.proofs.Common.{is_empty, is_identifier_char, is_whitespace, le-ltb, length, length-drop, list_all, list_all-append}
-use Rattle.nodejs_semver.proofs.Common.{list_any, lt-ltb, nat_tests, not, not-true, pieces, prefix_len, refl, space_len, suc, sym, take}
+use Rattle.nodejs_semver.proofs.Common.{list_any, lt-ltb, nat_tests, not, pieces, prefix_len, refl, space_len, suc, sym, take}
 use Rattle.nodejs_semver.proofs.Common.{take-append-drop, true, zero, ℕ, ◌&&◌, ◌++◌, ◌+◌, ◌-◌, ◌<◌, ◌==◌, ◌||◌, ◌∙◌, ◌∷◌, ◌≡◌, ◌≤◌, ◌⊎◌}
-use Rattle.nodejs_semver.proofs.NpmCommon.{IsPartial, IsPlace, IsSignText, IsStrictBuild, after_dot, are_first, bare, begins_malformed}
+use Rattle.nodejs_semver.proofs.NpmCommon.{IsPartial, IsPlace, IsSignText, IsStrictBuild, bare, begins_malformed}
 use Rattle.nodejs_semver.proofs.NpmCommon.{bytes_eq, caret_equal, compared, dashed, encode_ascii, has_zeros, ignored_front, is_malformed}
 use Rattle.nodejs_semver.proofs.NpmCommon.{is_mark, is_visible, late_above, late_below, may_stand, no_build, no_pre_release, no_sign, one}
 use Rattle.nodejs_semver.proofs.NpmCommon.{or-true, plus, runs_tail, sign, spelling, tail_runs, take_while, three, tilde_twice, two}
-use Rattle.nodejs_semver.proofs.Reading.Bytes.{all-end, all-join, begins-on, begins_component, ends-append, ends-some}
+use Rattle.nodejs_semver.proofs.Reading.Bytes.{all-end, all-join, begins_component, ends-append, ends-some}
 use Rattle.nodejs_semver.{proofs.Strict.Places.prefix-all, specs.{Internal.Fronts.is_wildcard, Npm.Grammar.IsPreRelease}}
-use Rattle.nodejs_semver.specs.Npm.Malformed.{begins_place, begins_places, behind_sign, has_four_parts, is_first, is_inner, is_last}
-use Rattle.nodejs_semver.specs.Npm.{Malformed.{is_regular, is_sign, last_visible}, RangeText.tilde_sign, Table.{Partial, Sign}}
+use Rattle.nodejs_semver.specs.Internal.NpmMalformed.{behind_sign, is_inner}
+use Rattle.nodejs_semver.specs.Npm.Malformed.{are_places, is_first, is_last, is_regular, is_sign}
+use Rattle.nodejs_semver.specs.Npm.{RangeText.tilde_sign, Table.{Partial, Sign}}
+use Rattle.nodejs_semver.proofs.{Common.{if◌then◌else◌, nat_lt, onto_first, take_all}, NpmCommon.nat_le}
+use Rattle.std.proofs.lemmas.List.Sums.{suffix_len-take_no, suffix_len-take_yes}
+use Rattle.std.specs.List.{suffix_len}
 use Rattle.semver_core.{proofs.Text.{Listed.plain_runs, Pieces.tail_onto}, specs.Internal.CommonReading.is_plain}
-use Rattle.std.proofs.{Common.add-one, Math.Seq.drop-cons, lemmas.List.Folds.list_all_at}
 use Rattle.nodejs_semver.specs.Npm.RangeText as Text
 
 -- ---- the characters of partials
@@ -116,81 +119,84 @@ sign-dark (b ∷ signs) h = elim (cases_Bool (is_sign b)) [
 pub part-visible : (b : ℕ) → is_part b ≡ true → is_visible b ≡ true
 part-visible b h = grind (arith, nat_tests)
 
--- ---- no well-formed word has four parts
+-- ---- the pieces of a well-formed word between dots
 
-abbrev is_dotless : ℕ → Bool
-is_dotless b = not (b == 46)
+first-other : (b : ℕ) → is_first b ≡ true → (b == 46) ≡ false
+first-other b h = grind (arith, nat_tests)
 
-dotless-passed : (u v : List ℕ) → list_all is_dotless u ≡ true → after_dot (u ++ v) ≡ after_dot v
-dotless-passed [] v h = refl
-dotless-passed (b ∷ u) v h =
-    let each = and_parts (is_dotless b) (list_all is_dotless u) h in
-    rw (not-true (b == 46) each.0) (dotless-passed u v each.1)
+alone-piece : (x : List ℕ) → list_all is_first x ≡ true → pieces x ≡ x ∷ []
+alone-piece [] h = refl
+alone-piece (b ∷ x) h =
+    let each = and_parts (is_first b) (list_all is_first x) h in rw (first-other b each.0, alone-piece x each.1) refl
 
-place-first : (loose zeros : Bool) (x : List ℕ) (a : Option ℕ) → IsPlace loose zeros x a → list_all is_first x ≡ true
-place-first loose zeros x a h = all_weaker is_place_byte is_first (λ b k. grind (arith, nat_tests)) x (place-bytes loose zeros x a h).0
+dotted-piece : (x y : List ℕ) → list_all is_first x ≡ true → pieces (x ++ 46 ∷ y) ≡ x ∷ pieces y
+dotted-piece [] y h = refl
+dotted-piece (b ∷ x) y h =
+    let each = and_parts (is_first b) (list_all is_first x) h in rw (first-other b each.0, dotted-piece x y each.1) refl
 
-place-dotless : (loose zeros : Bool) (x : List ℕ) (a : Option ℕ) → IsPlace loose zeros x a → list_all is_dotless x ≡ true
-place-dotless loose zeros x a h = all_weaker is_first is_dotless (λ b k. grind (arith, nat_tests)) x (place-first loose zeros x a h)
+-- it begins with such a character and has no others
+abbrev Firsts : List ℕ → Type 0
+Firsts x = (list_all is_first x ≡ true) × (begins is_first x ≡ true)
 
-abbrev is_dot : ℕ → Bool
-is_dot b = b == 46
+place-firsts : (loose zeros : Bool) (x : List ℕ) (a : Option ℕ) → IsPlace loose zeros x a → Firsts x
+place-firsts loose zeros x a h =
+    let bytes = place-bytes loose zeros x a h in
+    go x (all_weaker is_place_byte is_first (λ b k. grind (arith, nat_tests)) x bytes.0) bytes.1
+  where
+    go : (x : List ℕ) → list_all is_first x ≡ true → 0 < length x → Firsts x
+    go [] h s = absurd (omega (arith, s))
+    go (b ∷ x) h s = (h, (and_parts (is_first b) (list_all is_first x) h).0)
 
-pre-first : (loose : Bool) (p b : List ℕ) (l m : List Id) → IsPreRelease loose (may_stand loose) p l → IsStrictBuild b m → begins is_dot (p ++ b) ≡ false
+firsts-behind : (u x : List ℕ) → list_all is_first u ≡ true → Firsts x → Firsts (u ++ x)
+firsts-behind [] x h k = k
+firsts-behind (b ∷ u) x h k = (all-join is_first (b ∷ u) x h k.0, (and_parts (is_first b) (list_all is_first u) h).0)
+
+-- the third one, and those behind it
+abbrev Third : List (List ℕ) → Type 0
+Third ps = (list_all (begins is_first) (take 1 ps) ≡ true)
+    × ((nat_le (length ps) 1 || list_all (λ part. nat_lt 1 (length part)) (take 1 ps)) ≡ true)
+
+third-long : (c d : ℕ) (ps : List (List ℕ)) → is_first c ≡ true → Third (onto_first c (onto_first d ps))
+third-long c d ps h = grind (arith, nat_tests)
+
+third-placed : (z q : List ℕ) → Firsts z → begins (λ b. b == 46) q ≡ false → Third (pieces (z ++ q))
+third-placed [] q h k = cc h.1
+third-placed (c ∷ []) [] h k = rw (first-other c h.1, h.1) (refl, refl)
+third-placed (c ∷ []) (d ∷ q) h k = rw (first-other c h.1, k) (third-long c d (pieces q) h.1)
+third-placed (c ∷ d ∷ z) q h k =
+    let others = (and_parts (is_first c) (is_first d && list_all is_first z) h.0).1 in
+    rw (first-other c h.1, first-other d (and_parts (is_first d) (list_all is_first z) others).0) (third-long c d (pieces (z ++ q)) h.1)
+
+three-placed : (a b : List ℕ) (ps : List (List ℕ)) → Firsts a → Firsts b → Third ps → are_places (a ∷ b ∷ ps) ≡ true
+three-placed a b ps h k t = grind (arith, nat_tests)
+
+pre-first : (loose : Bool) (p b : List ℕ) (l m : List Id) → IsPreRelease loose (may_stand loose) p l → IsStrictBuild b m
+    → begins (λ b. b == 46) (p ++ b) ≡ false
 pre-first loose p b l m h k = grind (arith, nat_tests, common_steps)
 
-third : (z q : List ℕ) → list_all is_dotless z ≡ true → 0 < length z → begins is_dot q ≡ false → begins is_dot (drop 1 (z ++ q)) ≡ false
-third [] q h s k = absurd (omega (arith, s))
-third (c ∷ []) q h s k = k
-third (c ∷ d ∷ z) q h s k = grind arith
-
-partial-parts : (loose : Bool) (x : List ℕ) (p : Partial) → IsPartial loose x p → has_four_parts x ≡ false
-partial-parts loose x p (one x1 a h) =
-    let e : after_dot x1 ≡ [] = rw append-nil at (dotless-passed x1 [] (place-dotless loose false x1 a h)) in
-    rw e refl
-partial-parts loose x p (two x1 y a b h k) =
-    let d : after_dot (x1 ++ 46 ∷ y) ≡ y = dotless-passed x1 (46 ∷ y) (place-dotless loose false x1 a h) in
-    let e : after_dot y ≡ [] = rw append-nil at (dotless-passed y [] (place-dotless loose (has_zeros a) y b k)) in
-    rw (d, e) refl
-partial-parts loose x p (three x1 y z pre build a b c ids builds h k l m n t) =
-    grind (arith, nat_tests, common_steps, dotless-passed, place-dotless, place-bytes, third, pre-first)
-
--- ---- the parts of a well-formed word
-
-first-begins : (u v : List ℕ) → list_all is_first u ≡ true → begins is_first v ≡ true → begins is_first (u ++ v) ≡ true
-first-begins [] v h k = k
-first-begins (b ∷ u) v h k = (and_parts (is_first b) (list_all is_first u) h).0
-
-first-joined : (u v : List ℕ) → list_all is_first u ≡ true → are_first v ≡ true → are_first (u ++ v) ≡ true
-first-joined [] v h k = k
-first-joined (b ∷ u) v h k =
-    let each = and_parts (is_first b) (list_all is_first u) h in
-    rw (each.0, first-joined u v each.1 k) (or-true (b == 46))
-
-place-joined : (u v : List ℕ) → list_all is_first u ≡ true → 0 < length u → are_first v ≡ true → begins_place (u ++ v) ≡ true
-place-joined [] v h some k = absurd (omega (arith, some))
-place-joined (b ∷ u) v h some k =
-    and_from (is_first b) (are_first ((b ∷ u) ++ v)) (and_parts (is_first b) (list_all is_first u) h).0 (first-joined (b ∷ u) v h k)
-
--- a place alone, and one before a dot
-place-alone : (loose zeros : Bool) (x : List ℕ) (a : Option ℕ) → IsPlace loose zeros x a → begins_place x ≡ true
-place-alone loose zeros x a h = rw append-nil at (place-joined x [] (place-first loose zeros x a h) (place-bytes loose zeros x a h).1 refl)
-
-place-dotted : (loose zeros : Bool) (x rest : List ℕ) (a : Option ℕ) → IsPlace loose zeros x a → begins_place (x ++ 46 ∷ rest) ≡ true
-place-dotted loose zeros x rest a h = place-joined x (46 ∷ rest) (place-first loose zeros x a h) (place-bytes loose zeros x a h).1 refl
-
-partial-places : (loose : Bool) (x : List ℕ) (p : Partial) → IsPartial loose x p → begins_places x ≡ true
-partial-places loose x p (one x1 a h) =
-    let e : after_dot x1 ≡ [] = rw append-nil at (dotless-passed x1 [] (place-dotless loose false x1 a h)) in
-    rw (e, place-alone loose false x1 a h) refl
-partial-places loose x p (two x1 y a b h k) =
-    let d : after_dot (x1 ++ 46 ∷ y) ≡ y = dotless-passed x1 (46 ∷ y) (place-dotless loose false x1 a h) in
-    let e : after_dot y ≡ [] = rw append-nil at (dotless-passed y [] (place-dotless loose (has_zeros a) y b k)) in
-    rw (d, e, place-dotted loose false x1 y a h, place-alone loose (has_zeros a) y b k, or-true (is_empty y)) refl
-partial-places loose x p (three x1 y z pre build a b c ids builds h k l m n t) =
-    grind (arith, dotless-passed, place-dotless, begins-on, place-first, place-bytes, place-dotted, or-true, and_parts)
+-- behind some characters that begin words
+placed : (loose : Bool) (u x : List ℕ) (p : Partial) → list_all is_first u ≡ true → IsPartial loose x p → are_places (pieces (u ++ x)) ≡ true
+placed loose u x p h (one x1 a k) =
+    let first = firsts-behind u x1 h (place-firsts loose false x1 a k) in rw (alone-piece (u ++ x1) first.0, first.0, first.1) refl
+placed loose u x p h (two x1 y a b k l) =
+    let first = firsts-behind u x1 h (place-firsts loose false x1 a k) in
+    let second = place-firsts loose (has_zeros a) y b l in
+    let joined : u ++ (x1 ++ 46 ∷ y) ≡ (u ++ x1) ++ 46 ∷ y = sym (append_assoc u x1 (46 ∷ y)) in
+    rw (joined, dotted-piece (u ++ x1) y first.0, alone-piece y second.0, first.0, first.1, second.0, second.1) refl
+placed loose u x p h (three x1 y z pre build a b c ids builds k l m n o t) =
+    let first = firsts-behind u x1 h (place-firsts loose false x1 a k) in
+    let second = place-firsts loose (has_zeros a) y b l in
+    let q = z ++ (pre ++ build) in
+    let joined : u ++ (x1 ++ 46 ∷ (y ++ 46 ∷ q)) ≡ (u ++ x1) ++ 46 ∷ (y ++ 46 ∷ q) = sym (append_assoc u x1 (46 ∷ (y ++ 46 ∷ q))) in
+    rw (joined, dotted-piece (u ++ x1) (y ++ 46 ∷ q) first.0, dotted-piece y q second.0) (three-placed (u ++ x1) y (pieces q) first second
+    (third-placed z (pre ++ build) (place-firsts loose (has_zeros a) z c m) (pre-first loose pre build ids builds n o)))
 
 -- ---- the signs of a well-formed word
+
+behind-drop : (w : List ℕ) → behind_sign w ≡ drop (if bytes_eq (take 2 w) (126 ∷ 62 ∷ []) then 2 else 1) w
+behind-drop [] = refl
+behind-drop (b ∷ []) = elim (cases_Bool (b == 126)) [ inl e ↦ rw e refl | inr o ↦ rw o refl ]
+behind-drop (b ∷ c ∷ w) = grind (arith, nat_tests)
 
 -- no character of a sign but `=`
 abbrev is_unsigned : ℕ → Bool
@@ -282,11 +288,11 @@ sign-kept front b rest h some dark =
     and-none : (a c : Bool) → (a && (not c && false)) ≡ false
     and-none a c = grind arith
 
-regular-kept : (w rest : List ℕ) → list_all is_visible w ≡ true → begins is_visible rest ≡ false → has_four_parts w ≡ false
-    → is_regular w ≡ true → begins_malformed (w ++ rest) ≡ false
-regular-kept w rest h dark parts regular =
+regular-kept : (w rest : List ℕ) → list_all is_visible w ≡ true → begins is_visible rest ≡ false → is_regular w ≡ true
+    → begins_malformed (w ++ rest) ≡ false
+regular-kept w rest h dark regular =
     let r = run-is w rest h dark in
-    rw (r.0, r.1, parts, regular) (none (list_all is_visible w) (is_empty w) (is_empty rest || not (ends is_sign w || bytes_eq w (45 ∷ []))))
+    rw (r.0, r.1, regular) (none (list_all is_visible w) (is_empty w) (is_empty rest || not (ends is_sign w || bytes_eq w (45 ∷ []))))
   where
     none : (a c d : Bool) → (a && (not c && (d && false))) ≡ false
     none a c d = grind arith
@@ -295,24 +301,14 @@ regular-kept w rest h dark parts regular =
 first-word : (loose : Bool) (u x rest : List ℕ) (p : Partial) → list_all is_first u ≡ true
     → list_all is_unsigned (behind_sign (u ++ x)) ≡ true → IsPartial loose x p → begins_component x ≡ true → begins is_visible rest ≡ false → begins_malformed ((u ++ x) ++ rest) ≡ false
 first-word loose u x rest p h plain k first dark =
-    let passed = dotless-passed u x (all_weaker is_first is_dotless (λ b k. grind (arith, nat_tests)) u h) in
     let part = partial-part loose x p k in
     let inner = all-join is_inner u x (all_weaker is_first is_inner (λ b k. grind (arith, nat_tests)) u h) (all_weaker is_part is_inner (λ b k. grind (arith, nat_tests)) x part) in
     let visible = all_weaker is_inner is_visible (λ b k. grind (arith, nat_tests)) (u ++ x) inner in
-    let places = and_parts (begins_place x) _ (partial-places loose x p k) in
-    let begun = and_parts (begins is_first x) (are_first x) places.0 in
-    let parts : has_four_parts (u ++ x) ≡ false = rw passed (partial-parts loose x p k) in
-    let regular : is_regular (u ++ x) ≡ true = rw (
-      inner,
-      last-end u x (partial-end loose x p k),
-      more u x first,
-      plain,
-      or-true (list_any (λ b. b == 42) (u ++ x)),
-      passed,
-      first-begins u x h begun.0,
-      first-joined u x h begun.1,
-    ) places.1 in
-    regular-kept (u ++ x) rest visible dark parts regular
+    let end = last-end u x (partial-end loose x p k) in
+    let behind = ap (λ (t : List ℕ). list_all is_unsigned t) (sym (behind-drop (u ++ x))) ∙ plain in
+    let regular : is_regular (u ++ x) ≡ true =
+    rw (inner, end, more u x first, behind, or-true (list_any (λ b. b == 42) (u ++ x)), placed loose u x p h k) refl in
+    regular-kept (u ++ x) rest visible dark regular
   where
     is_mark_or_sign : ℕ → Bool
     is_mark_or_sign b = is_sign b || b == 118
@@ -400,70 +396,31 @@ begins_at text at r e fits h = rw e at (h ∙ ap (λ (l : Bool). is_malformed l 
 
 pub ruleset begins_visible = (visible_front, begins_at)
 
--- ---- the first dot
-
-pub dot_here : (text : List ℕ) (at d : ℕ) → after_dot text ≡ after_dot (drop at text) → at < length text → get_or text at d ≡ 46
-    → drop (at + 1) text ≡ after_dot text
-dot_here text at d e h k = rw (e, add-one at, drop-cons text at d h, k) refl
-
-pub dot_behind : (text : List ℕ) (at d : ℕ) → after_dot text ≡ after_dot (drop at text) → at < length text → (get_or text at d == 46) ≡ false
-    → after_dot text ≡ after_dot (drop (at + 1) text)
-dot_behind text at d e h k = rw (e, add-one at, drop-cons text at d h, k) refl
-
-pub no_dot : (text : List ℕ) → after_dot text ≡ after_dot (drop (length text) text) → [] ≡ after_dot text
-no_dot text e = rw (e, drop_all (length text) text (omega arith)) refl
-
-pub ruleset dots = (dot_here, dot_behind, no_dot)
-
--- ---- the characters in front of the first dot
-
-pub first_dot : (text : List ℕ) (at d : ℕ) → are_first text ≡ are_first (drop at text) → at < length text → get_or text at d ≡ 46
-    → are_first text ≡ true
-first_dot text at d e h k = rw (e, drop-cons text at d h, k) refl
-
-pub first_other : (text : List ℕ) (at d : ℕ) → are_first text ≡ are_first (drop at text) → at < length text → (get_or text at d == 46) ≡ false
-    → is_first (get_or text at d) ≡ false → are_first text ≡ false
-first_other text at d e h k l = rw (e, drop-cons text at d h, k, l) refl
-
-pub first_step : (text : List ℕ) (at d : ℕ) → are_first text ≡ are_first (drop at text) → at < length text → (get_or text at d == 46) ≡ false
-    → is_first (get_or text at d) ≡ true → are_first text ≡ are_first (drop (at + 1) text)
-first_step text at d e h k l = rw (e, add-one at, drop-cons text at d h, k, l) refl
-
-pub first_end : (text : List ℕ) → are_first text ≡ are_first (drop (length text) text) → are_first text ≡ true
-first_end text e = rw (e, drop_all (length text) text (omega arith)) refl
-
-pub ruleset firsts = (first_dot, first_other, first_step, first_end)
-
 -- ---- the visible characters at the end
 
-all-last : (text : List ℕ) → list_all is_visible text ≡ true → last_visible text ≡ text
-all-last [] h = refl
-all-last (b ∷ text) h = rw h refl
+module _ (text : List ℕ) (start d : ℕ) (e : suffix_len is_visible text ≡ (length text - start) + suffix_len is_visible (take start text)) where
+  pub suffix_on : 0 < start → start ≤ length text → is_visible (get_or text (start - 1) d) ≡ true
+      → suffix_len is_visible text ≡ (length text - (start - 1)) + suffix_len is_visible (take (start - 1) text)
+  suffix_on some fits h = omega (arith, e, suffix_len-take_yes is_visible text start d some fits h)
 
-last-behind : (text : List ℕ) (at d : ℕ) → at < length text → is_visible (get_or text at d) ≡ false
-    → list_all is_visible (drop (suc at) text) ≡ true → last_visible text ≡ drop (suc at) text
-last-behind [] at d h k l = absurd (omega (arith, h))
-last-behind (b ∷ text) zero d h k l = rw k (all-last text l)
-last-behind (b ∷ text) (suc at) d h k l =
-    rw (list_all_at is_visible (b ∷ text) (suc at) d h k) (last-behind text at d (omega (arith, h)) k l)
+  pub suffix_here : 0 < start → start ≤ length text → is_visible (get_or text (start - 1) d) ≡ false
+      → drop start text ≡ drop (length text - suffix_len is_visible text) text
+  suffix_here some fits h =
+      let same : start ≡ length text - suffix_len is_visible text =
+      omega (arith, e, fits, suffix_len-take_no is_visible text start d some fits h) in
+      ap (λ (n : ℕ). drop n text) same
 
--- the last one is at the front, or behind one that is not visible
-pub last_all : (text : List ℕ) (start : ℕ) → list_all is_visible (drop start text) ≡ true → start ≡ 0 → drop start text ≡ last_visible text
-last_all text start h e = rw e (sym (all-last text (rw e at h)))
+pub suffix_all : (text : List ℕ) (start : ℕ) → suffix_len is_visible text ≡ (length text - start) + suffix_len is_visible (take start text)
+    → start ≡ 0 → drop start text ≡ drop (length text - suffix_len is_visible text) text
+suffix_all text zero e none =
+    let none : 0 ≡ length text - suffix_len is_visible text = omega (arith, e) in ap (λ (n : ℕ). drop n text) none
+suffix_all text (suc n) e none = absurd (omega (arith, none))
 
-pub last_found : (text : List ℕ) (start d : ℕ) → list_all is_visible (drop start text) ≡ true → 0 < start → start ≤ length text
-    → is_visible (get_or text (start - 1) d) ≡ false → drop start text ≡ last_visible text
-last_found text zero d h some fits k = absurd (omega (arith, some))
-last_found text (suc at) d h some fits k = grind (arith, nat_tests, common_steps, last-behind)
+pub suffix_begin : (text : List ℕ) (start : ℕ) → start ≡ length text → list_all is_visible (drop start text) ≡ true
+    × (suffix_len is_visible text ≡ (length text - start) + suffix_len is_visible (take start text))
+suffix_begin text start e = (rw (drop_all start text (omega arith)) refl, rw (e, take_all (length text) text (omega arith)) (omega arith))
 
-pub last_begin : (text : List ℕ) (start : ℕ) → start ≡ length text → list_all is_visible (drop start text) ≡ true
-last_begin text start e = rw (drop_all start text (omega arith)) refl
-
-pub visible_last : (text : List ℕ) → list_all is_visible (last_visible text) ≡ true
-visible_last [] = refl
-visible_last (b ∷ text) = grind (arith, nat_tests, common_steps, visible_last text)
-
-pub ruleset ends_visible = (visible_last)
+pub ruleset visible_end = (suffix_on, suffix_begin)
 
 -- ---- the last character
 

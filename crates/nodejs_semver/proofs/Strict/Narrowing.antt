@@ -49,17 +49,13 @@ holds-compared equal w build text v = grind (arith, nat_tests, common_steps, ap�
 holds-compared at_most w build text v = ap not (past-after w v) ∙ (tests (precedence v w)).1
 holds-compared below w build text v = ap not (past-before w v) ∙ (tests (precedence v w)).0
 
-lets_in-compared : (c : Comparator) (w : VersionValue) (build : List Id) (text : List ℕ) (v : VersionValue)
-    → lets_in (compared_span c w) v ≡ (is_release v || names v (comparison c w build text))
-lets_in-compared c w build text v = grind (arith, nat_tests, common_steps)
-
 -- the bounds are of that version, whose numbers may be greater by one
 pub one_common : (include : Bool) (c : Comparator) (w : VersionValue) (build : List Id) (text : List ℕ)
     → is_readable MAX_SAFE_INTEGER w ≡ true → counts include (comparison c w build text) ≡ true
     → IsCommon include (comparison c w build text ∷ []) (compared_span c w)
 one_common include c w build text r h = record {
   held = λ v. rw h (holds-compared c w build text v ∙ sym (and-true _));
-  let_in = λ v _. rw h (grind (arith, lets_in-compared));
+  let_in = λ v _. rw h (grind (arith, nat_tests, common_steps));
   unbounded = rw h (grind arith);
   lower = grind (arith, nat_tests, common_steps);
   upper = grind (arith, nat_tests, common_steps);

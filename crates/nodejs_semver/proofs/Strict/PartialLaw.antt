@@ -2,7 +2,7 @@
 use Rattle.nodejs_semver.proofs.Common.{Bool, Front, Id, List, None, Option, Some, [], and_parts, append_assoc, arith, begins, bind_some}
 use Rattle.nodejs_semver.proofs.Common.{cases_Bool, common_steps, drop, false, inl, inr, is_ascii_digit, is_boundary, nat_tests, refl, true}
 use Rattle.nodejs_semver.proofs.{Common.{ℕ, ◌&&◌, ◌++◌, ◌∷◌, ◌≡◌}, NpmCommon.{IsPartial, IsPlace, IsStrictBuild, build_front, dotted_patch}}
-use Rattle.nodejs_semver.proofs.NpmCommon.{dotted_place, has_zeros, may_stand, one, partial_of, place_front, pre_front, qualified_partial}
+use Rattle.nodejs_semver.proofs.NpmCommon.{dotted_place, has_zeros, may_stand, one, partial_of, pre_front, qualified_partial}
 use Rattle.nodejs_semver.proofs.{NpmCommon.{second_front, third_front, three, two}, Reading.Bytes.{is_solid, solid-dark}}
 use Rattle.nodejs_semver.proofs.Strict.Places.{dotted_patch-found, dotted_place-found, dotted_place-read, patch-read, place-found}
 use Rattle.nodejs_semver.proofs.Strict.{Places.place-read, Qualifiers.{Ends, build-found, build-taken, ends-nil, pre-follows, pre-found}}
@@ -104,7 +104,6 @@ second-found loose a x behind (Some b) p rest h e r =
 pub partial-found : (loose : Bool) (text : List ℕ) (p : Partial) (rest : List ℕ) → partial_front loose text ≡ Some (p, rest) → PartialAt loose text p rest
 unfolding partial_front
 partial-found loose text p rest h =
-    let a = bind_some (place_front loose false text)
-    (λ a. second_front loose a.0 a.1 (dotted_place loose (has_zeros a.0) a.1)) (p, rest) h in
-    let x = place-found loose false text a.0.0 a.0.1 a.1 in
-    rw x.split (second-found loose a.0.0 x.piece a.0.1 (dotted_place loose (has_zeros a.0.0) a.0.1) p rest x.is refl a.2)
+    let a = bind_some _ _ _ h in
+    let x = place-found _ _ _ _ _ a.1 in
+    rw x.split (second-found _ _ _ _ _ _ _ x.is refl a.2)

@@ -16,13 +16,6 @@ pub ruleset prefix_steps = (prefix_len-drop_all, prefix_len-drop_no, prefix_len-
 pub some-run : (run : List ℕ) → 1 ≤ length run → not (is_empty run) ≡ true
 some-run run h = grind (arith, nat_tests, common_steps)
 
-run-read : (loose zeros : Bool) (digits more : List ℕ) → 0 < length digits → list_all is_ascii_digit digits ≡ true → length digits ≤ most_digits loose
-    → is_spelled loose zeros (digits_value 10 digits) digits ≡ true → begins is_ascii_digit more ≡ false
-    → run_place loose zeros (take_while is_ascii_digit (digits ++ more)) (drop (prefix_len is_ascii_digit (digits ++ more)) (digits ++ more))
-    ≡ Some (Some (digits_value 10 digits), more)
-run-read loose zeros digits more some each short spelled stop =
-    grind (arith, nat_tests, common_steps, digits-taken, take_at, drop_at, some-run)
-
 pub digits-begin : (digits : List ℕ) → 0 < length digits → list_all is_ascii_digit digits ≡ true → begins is_ascii_digit digits ≡ true
 digits-begin digits some each = grind arith
 
@@ -31,7 +24,7 @@ pub place-read : (loose zeros : Bool) (x more : List ℕ) (a : Option ℕ) → I
 unfolding place_front
 place-read loose zeros x more a (Text.any b h) stop = rw h refl
 place-read loose zeros x more a (Text.number digits n k spelled short) stop =
-    grind (arith, nat_tests, common_steps, number-no_wildcard, digits-begin, run-read)
+    grind (arith, nat_tests, common_steps, number-no_wildcard, digits-begin, digits-taken, take_at, drop_at, some-run)
 
 pub dotted_place-read : (loose zeros : Bool) (x more : List ℕ) (a : Option ℕ) → IsPlace loose zeros x a → begins is_ascii_digit more ≡ false
     → dotted_place loose zeros (46 ∷ (x ++ more)) ≡ Some (a, more)

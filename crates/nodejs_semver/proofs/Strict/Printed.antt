@@ -49,15 +49,10 @@ front_zero n rest t h e = grind (arith, nat_tests, common_steps, front_digit, de
 unmarked : (ids builds : List Id) → marked_list (45 ∷ []) ids ++ marked_list (43 ∷ []) builds ≡ [] → (ids ≡ []) × (builds ≡ [])
 unmarked ids builds e = grind (arith, nat_tests, common_steps)
 
-zero_parts : (v : VersionValue) → v.major < 2 ^ 64 → v.minor < 2 ^ 64 → v.patch < 2 ^ 64 → version_text v ≡ codes "0.0.0" → is_zero v ≡ true
-zero_parts v a b c e = grind (arith, nat_tests, common_steps, front_zero, last_digit, decimal_some, unmarked, zero_from)
-
-zero_text : (v : VersionValue) → is_zero v ≡ true → version_text v ≡ codes "0.0.0"
-zero_text v h = grind (arith, nat_tests, common_steps, and_parts, eqb-true, empty_is, decimal_digit)
-
 pub prints_zero : (v : VersionValue) → v.major < 2 ^ 64 → v.minor < 2 ^ 64 → v.patch < 2 ^ 64
     → bytes_eq (version_text v) (codes "0.0.0") ≡ is_zero v
-prints_zero v a b c = grind (arith, nat_tests, common_steps, bytes_eq-Decides, both_ways, zero_parts, zero_text)
+prints_zero v a b c =
+    grind (arith, nat_tests, common_steps, bytes_eq-Decides, both_ways, front_zero, last_digit, decimal_some, unmarked, zero_from, and_parts, eqb-true, empty_is, decimal_digit)
 
 -- ---- what is valid
 

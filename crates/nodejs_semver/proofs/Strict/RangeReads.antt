@@ -1,16 +1,16 @@
 -- The alternatives of a range text, read one after another, and what their intervals accept.
-use Rattle.nodejs_semver.proofs.Common.{Beside, Bool, Equal, Err, Failure, IfSome, IsCutAtBars, IsRange, IsUtf8, List, MAX_SAFE_INTEGER}
-use Rattle.nodejs_semver.proofs.Common.{Memory, MemoryOnlyIf, None, Ok, Option, Ordering, Refused, Result, Some, Span, VersionValue, []}
+use Rattle.nodejs_semver.proofs.Common.{Beside, Bool, Err, Failure, IfSome, IsCutAtBars, IsRange, IsUtf8, List, MAX_SAFE_INTEGER}
+use Rattle.nodejs_semver.proofs.Common.{Memory, MemoryOnlyIf, None, Ok, Option, Refused, Result, Some, Span, VersionValue, []}
 use Rattle.nodejs_semver.proofs.Common.{accepts, any_version, any_weaker, ap, append-nil, append_assoc, arith, cases_Bool, common_steps}
-use Rattle.nodejs_semver.proofs.Common.{cond_some, false, flat_map, holds, if◌then◌else◌, inl, inr, is_empty, is_le, is_past, is_range_span}
+use Rattle.nodejs_semver.proofs.Common.{cond_some, false, flat_map, holds, if◌then◌else◌, inl, inr, is_empty, is_past, is_range_span}
 use Rattle.nodejs_semver.proofs.Common.{is_release, later_parts, length, length-append, lets_in, list_all, list_all-append, list_any}
-use Rattle.nodejs_semver.proofs.Common.{list_any-append, nat_tests, not, not-true, option_to_list, ordering_then, parts, precedence, refl}
+use Rattle.nodejs_semver.proofs.Common.{list_any-append, nat_tests, not, not-true, option_to_list, parts, precedence, refl}
 use Rattle.nodejs_semver.proofs.Common.{subst, sym, true, ℕ, ◌&&◌, ◌++◌, ◌+◌, ◌<◌, ◌||◌, ◌∙◌, ◌∷◌, ◌≡◌, ◌≤◌}
 use Rattle.nodejs_semver.proofs.{Dividing.BarsDivide.bars_once, NpmCommon.{AcceptAsRanged, Alternative, AreNarrowed, Comparison, Ended}}
 use Rattle.nodejs_semver.proofs.NpmCommon.{HasAlternativesIn, IsFound, IsNarrowed, IsRangeIn, NarrowedBy, NoValue, alternative_of}
 use Rattle.nodejs_semver.proofs.NpmCommon.{alternatives_of, begins_malformed, counted, counts, hyphen_comparisons, hyphen_ends}
 use Rattle.nodejs_semver.proofs.NpmCommon.{hyphen_lower, hyphen_of, hyphen_upper, is_lost, is_unbounded, is_valid, kept, meets, nothing}
-use Rattle.nodejs_semver.proofs.NpmCommon.{satisfies, upto_patch, valid_alternative, valid_only, words_of, zero_least, ◌>>?◌}
+use Rattle.nodejs_semver.proofs.NpmCommon.{satisfies, valid_alternative, valid_only, words_of, ◌>>?◌}
 use Rattle.nodejs_semver.proofs.{Reading.Steps.option-cases, Strict.AlternativeLaw.{alternative-read, alternatives_are}}
 use Rattle.nodejs_semver.proofs.Strict.{Hyphens.hyphen-found, Valid.{hyphen-valid, words-valid}, WordReads.hyphen_limited}
 use Rattle.nodejs_semver.{proofs.Strict.WordSteps.empty-append, specs.Internal.{NpmAlternatives.ranged, NpmReads.{AddsOne, AddsPart}}}
@@ -53,25 +53,19 @@ all_accept : (include : Bool) (v : VersionValue) (alternatives : List (List Comp
     → AreNarrowed include alternatives os
     → accepts (flat_map option_to_list os) v include ≡ list_any (λ cs. meets include v (counted include cs)) alternatives
 all_accept include v [] [] h = refl
-all_accept include v [] (o ∷ os) h = absurd h
-all_accept include v (cs ∷ rest) [] h = absurd h
 all_accept include v (cs ∷ rest) (o ∷ os) h =
     grind (arith, nat_tests, common_steps, list_any-append, one_accepts, all_accept include v rest os)
+all_accept include v _ _ h = absurd h
 
 some_open : (include : Bool) (alternatives : List (List Comparison)) (os : List (Option (Span VersionValue)))
     → AreNarrowed include alternatives os
     → list_any is_unbounded (flat_map option_to_list os) ≡ list_any (λ cs. not (list_any (counts include) cs)) alternatives
 some_open include [] [] h = refl
-some_open include [] (o ∷ os) h = absurd h
-some_open include (cs ∷ rest) [] h = absurd h
 some_open include (cs ∷ rest) (o ∷ os) h = grind (arith, nat_tests, common_steps, list_any-append, one_open, some_open include rest os)
-
--- no version is below `0.0.0-0`
-le_then : (r : Ordering) → is_le r ≡ true → is_le (ordering_then r Equal) ≡ true
-le_then r h = grind arith
+some_open include _ _ h = absurd h
 
 least : (v : VersionValue) → is_past precedence (Beside (lowest (0, 0, 0)) false) v ≡ true
-least v = le_then _ (upto_patch (lowest (0, 0, 0)) v (omega arith) (omega arith) (omega arith) (zero_least v.pre_release))
+least v = (grind arith)
 
 -- what an alternative without comparators accepts
 open_meets : (v : VersionValue) (cs : List Comparison) → not (list_any (counts true) cs) ≡ true → meets true v (counted true cs) ≡ true
@@ -107,6 +101,15 @@ ranged_kept found h k = rw (h, k) refl
 pub ranged_open : (found ss : List (Span VersionValue)) → list_any is_unbounded found ≡ true → ss ≡ any_version → ss ≡ ranged found
 ranged_open found ss h e = rw h e
 
+-- one interval is kept, since one without bounds is any version
+pub ranged_one : (found : List (Span VersionValue)) → length found ≡ 1 → found ≡ ranged found
+ranged_one (s ∷ []) h = elim (cases_Bool (is_unbounded s)) [
+  | inl free ↦ grind (arith, common_steps)
+  | inr bound ↦ rw bound refl
+]
+ranged_one [] h = absurd (omega (arith, h))
+ranged_one (s ∷ (t ∷ ss)) h = absurd (omega (arith, h))
+
 pub ranged_none : (found ss : List (Span VersionValue)) → list_any is_unbounded found ≡ false → is_empty found ≡ true
     → ss ≡ nothing ∷ [] → ss ≡ ranged found
 ranged_none found ss h k e = rw (h, k) e
@@ -121,10 +124,9 @@ one_span include cs (Some s) h = rw (h.1, h.0.lower, h.0.upper) refl
 narrowed_spans : (include : Bool) (alternatives : List (List Comparison)) (os : List (Option (Span VersionValue)))
     → AreNarrowed include alternatives os → list_all (is_range_span (MAX_SAFE_INTEGER + 1)) (flat_map option_to_list os) ≡ true
 narrowed_spans include [] [] h = refl
-narrowed_spans include [] (o ∷ os) h = absurd h
-narrowed_spans include (cs ∷ rest) [] h = absurd h
 narrowed_spans include (cs ∷ rest) (o ∷ os) h =
     grind (arith, nat_tests, common_steps, list_all-append, one_span, narrowed_spans include rest os)
+narrowed_spans include _ _ h = absurd h
 
 pub found_spans : (include : Bool) (alternatives : List (List Comparison)) (os : List (Option (Span VersionValue)))
     (found : List (Span VersionValue)) → AreNarrowed include alternatives os → found ≡ flat_map option_to_list os
@@ -165,10 +167,6 @@ valid-both cs ds h = grind (arith, nat_tests, common_steps, list_all-append)
 -- what is found between two ends
 abbrev Between : Bool → Ended × Ended → Option Alternative → Type 0
 Between include e r = IsFound include (valid_only MAX_SAFE_INTEGER (hyphen_comparisons include e)) r
-
-pub lower-invalid : (include : Bool) (e : Ended × Ended) (all : Option (Span VersionValue))
-    → NarrowedBy include all (hyphen_lower include e.0.0 e.0.1) None → Between include e None
-lower-invalid include e all n = rw (list_all-append (is_valid MAX_SAFE_INTEGER) (hyphen_lower include e.0.0 e.0.1) (hyphen_upper include e.1.0 e.1.1), n) tt
 
 pub upper-read : (include : Bool) (e : Ended × Ended) (all : Option (Span VersionValue)) (a : Alternative) (r : Option Alternative)
     → IsNarrowed include [] all → NarrowedBy include all (hyphen_lower include e.0.0 e.0.1) (Some a)
@@ -215,8 +213,7 @@ found-none include o h = grind (arith, nat_tests, common_steps)
 
 pub words-found : (loose : Bool) (include : Bool) (text : List ℕ) (a : Alternative) → 0 < length text → IsFound include (words_of loose include text) (Some a)
     → IsFound include (valid_alternative loose include text) (Some a)
-words-found loose include text a some h =
-    let f = found-some include (words_of loose include text) a h in rw (words-are loose include text f.0 some f.1) f.2
+words-found loose include text a some h = grind (arith, nat_tests, common_steps, found-some, words-are)
 
 pub no-words : (loose : Bool) (include : Bool) (text : List ℕ) (r : Option Alternative) → IsUtf8 text → 0 < length text
     → IsFound include (words_of loose include text) None → IsFound include (valid_hyphen loose include text) r
@@ -228,9 +225,8 @@ no-words loose include text r u some h k = rw (hyphen-is loose include text u so
 narrowed-append : (include : Bool) (ls : List (List Comparison)) (os : List (Option (Span VersionValue))) (cs : List Comparison)
     (o : Option (Span VersionValue)) → AreNarrowed include ls os → IsNarrowed include cs o → AreNarrowed include (ls ++ cs ∷ []) (os ++ o ∷ [])
 narrowed-append include [] [] cs o h k = (k, tt)
-narrowed-append include [] (p ∷ os) cs o h k = absurd h
-narrowed-append include (c ∷ ls) [] cs o h k = absurd h
 narrowed-append include (c ∷ ls) (p ∷ os) cs o h k = (h.0, narrowed-append include ls os cs o h.1 k)
+narrowed-append include _ _ cs o h k = absurd h
 
 flat-append : (os : List (Option (Span VersionValue))) (o : Option (Span VersionValue))
     → flat_map option_to_list (os ++ o ∷ []) ≡ flat_map option_to_list os ++ option_to_list o
@@ -275,7 +271,7 @@ rest-step loose include rest part behind o e d = grind (arith, nat_tests, common
 pub read-part : (loose : Bool) (include : Bool) (text : List ℕ) (was is : Bool) (found after : List (Span VersionValue)) (rest : List ℕ) (part : List ℕ)
     (behind : Option (List ℕ)) → AreReadTo loose include text was found (Some rest) → part ∷ later_parts behind ≡ parts rest
     → AddsPart loose include part (valid_alternative loose include part) was is found after → AreReadTo loose include text is after behind
-read-part loose include text was is found after rest part behind h e a = go (valid_alternative loose include part) refl a
+read-part loose include text was is found after rest part behind h e a = go _ refl a
   where
     later : Option (List (List Comparison))
     later = valid_alternatives loose include (later_parts behind)
@@ -291,8 +287,7 @@ read-part loose include text was is found after rest part behind h e a = go (val
     one : (cs : List Comparison) (l : Bool) → is_lost loose part cs ≡ l → valid_alternative loose include part ≡ Some cs
         → AddsOne include l cs was is found after → AreReadTo loose include text is after behind
     one cs true f d k =
-        let step : valid_alternatives loose include (parts rest) ≡ later =
-        rest-step loose include rest part behind (Some cs) e d ∙ rw f (whole later) in
+        let step : valid_alternatives loose include (parts _) ≡ later = rest-step _ _ _ _ _ _ e d ∙ rw f (whole _) in
         record {
           read = h.read;
           are = subst (λ (l : List (Span VersionValue)). AreFound include h.read l) (sym k.1) h.are;
@@ -301,12 +296,12 @@ read-part loose include text was is found after rest part behind h e a = go (val
           some = k.0 ∙ h.some;
         }
     one cs false f d k =
-        let step : valid_alternatives loose include (parts rest) ≡ (later >>? λ ls. Some (cs ∷ ls)) =
-        rest-step loose include rest part behind (Some cs) e d ∙ rw f refl in
+        let step : valid_alternatives loose include (parts _) ≡ (later >>? λ ls. Some (cs ∷ ls)) =
+        rest-step _ _ _ _ _ _ e d ∙ rw f refl in
         record {
           read = h.read ++ cs ∷ [];
           are = k.1 h.read h.are;
-          same = h.same ∙ rw step (joined cs later);
+          same = h.same ∙ rw step (joined _ _);
           count = omega (arith, h.count, ap length e, length-append h.read (cs ∷ []));
           some = k.0 ∙ grind (arith, nat_tests, common_steps);
         }
@@ -314,17 +309,16 @@ read-part loose include text was is found after rest part behind h e a = go (val
     go : (o : Option (List Comparison)) → valid_alternative loose include part ≡ o → AddsPart loose include part o was is found after
         → AreReadTo loose include text is after behind
     go None d k = absurd k
-    go (Some cs) d k = one cs (is_lost loose part cs) refl d k
+    go (Some cs) d k = one _ _ refl d k
 
 -- the same of a call that rejects the part
 pub read-refused : (loose : Bool) {A E : Type 0} (r : Result A (Failure E)) (include : Bool) (text : List ℕ) (was : Bool) (found : List (Span VersionValue)) (rest : List ℕ)
     (part : List ℕ) (behind : Option (List ℕ)) → AreReadTo loose include text was found (Some rest) → part ∷ later_parts behind ≡ parts rest
     → RefusedOnlyIf r (valid_alternative loose include part ≡ None) → RefusedOnlyIf r (valid_range loose include text ≡ None)
-read-refused loose (Ok v) include text was found rest part behind h e k = tt
-read-refused loose (Err (Memory x)) include text was found rest part behind h e k = tt
 read-refused loose (Err (Refused x)) include text was found rest part behind h e k =
     let step : valid_alternatives loose include (parts rest) ≡ None = rest-step loose include rest part behind None e k in
     grind (arith, nat_tests, common_steps)
+read-refused loose r include text was found rest part behind h e k = tt
 
 all-read : (loose : Bool) (include : Bool) (text : List ℕ) (is_some : Bool) (found : List (Span VersionValue)) (h : AreReadTo loose include text is_some found None)
     → valid_alternatives loose include (parts text) ≡ Some h.read
@@ -341,19 +335,6 @@ pub read-all : (loose : Bool) (include : Bool) (text : List ℕ) (found : List (
 read-all loose include text found h =
     let whole : valid_range loose include text ≡ Some h.read = rw (all-read loose include text true found h, sym h.some) refl in
     rw whole h.are
-
--- an interval more than there is: the text has two alternatives
-short-flat : (os : List (Option (Span VersionValue))) → length (flat_map option_to_list os) ≤ length os
-short-flat [] = omega arith
-short-flat (None ∷ os) = omega (arith, short-flat os)
-short-flat (Some s ∷ os) = omega (arith, short-flat os)
-
-narrowed-length : (include : Bool) (ls : List (List Comparison)) (os : List (Option (Span VersionValue))) → AreNarrowed include ls os
-    → length os ≡ length ls
-narrowed-length include [] [] h = refl
-narrowed-length include [] (p ∷ os) h = absurd h
-narrowed-length include (c ∷ ls) [] h = absurd h
-narrowed-length include (c ∷ ls) (p ∷ os) h = omega (arith, narrowed-length include ls os h.1)
 
 -- ---- the range of a text
 
@@ -392,11 +373,6 @@ all-valid loose include (text ∷ texts) = go (all-valid loose include texts) (a
       | inr bad ↦ rw bad (invalid cs (alternatives_of loose include texts) bad (regular-of cs bad))
     ]
 
--- the alternatives that are read are those of the text
-pub alternatives-read : (loose : Bool) (include : Bool) (text : List ℕ) (ls : List (List Comparison)) → IsUtf8 text
-    → valid_range loose include text ≡ Some ls → HasAlternativesIn loose MAX_SAFE_INTEGER include text ls
-alternatives-read loose include text ls u h = grind (arith, nat_tests, common_steps, cond_some, not, all-valid, not-true, alternatives_are)
-
 pub none-read : (loose : Bool) (include : Bool) (text : List ℕ) → IsUtf8 text → valid_range loose include text ≡ None
     → NoValue (HasAlternativesIn loose MAX_SAFE_INTEGER include text)
 none-read loose include text u h ls has =
@@ -406,10 +382,8 @@ none-read loose include text u h ls has =
 pub range-read : (loose : Bool) (include : Bool) (text : List ℕ) (found range : List (Span VersionValue)) → IsUtf8 text
     → AreAllFound include (valid_range loose include text) found → AcceptAsRanged found range
     → IsRangeIn loose MAX_SAFE_INTEGER include text range
-range-read loose include text found range u h a = grind (arith, nat_tests, common_steps, alternatives-read)
-
-pub two-pieces : (text : List ℕ) → 1 < length (parts text) → (pieces : List (List ℕ)) → IsCutAtBars text pieces → 1 < length pieces
-two-pieces text h pieces cut = grind (arith, nat_tests, common_steps, bars_once)
+range-read loose include text found range u h a =
+    grind (arith, nat_tests, common_steps, cond_some, not, all-valid, not-true, alternatives_are)
 
 pub refused-none : (loose : Bool) {A E : Type 0} (r : Result A (Failure E)) (include : Bool) (text : List ℕ) → IsUtf8 text
     → RefusedOnlyIf r (valid_range loose include text ≡ None) → RefusedOnlyIf r (NoValue (HasAlternativesIn loose MAX_SAFE_INTEGER include text))
@@ -419,7 +393,7 @@ refused-none loose (Err (Memory x)) include text u k = tt
 
 pub memory-pieces : {A E : Type 0} (r : Result A (Failure E)) (text : List ℕ) → MemoryOnlyIf r (1 < length (parts text))
     → MemoryOnlyIf r ((pieces : List (List ℕ)) → IsCutAtBars text pieces → 1 < length pieces)
-memory-pieces r text k = grind (arith, nat_tests, common_steps, two-pieces)
+memory-pieces r text k = grind (arith, nat_tests, common_steps, bars_once)
 
 pub all-spans : (loose : Bool) (include : Bool) (text : List ℕ) (found : List (Span VersionValue)) → AreAllFound include (valid_range loose include text) found
     → list_all (is_range_span (MAX_SAFE_INTEGER + 1)) found ≡ true

@@ -9,6 +9,8 @@ use Rattle.nodejs_semver.proofs.Stopping.{Read.{plain-encodes, plain-middle}, Wr
 use Rattle.{nodejs_semver.proofs.Strict.Numbers.{digits_printed, number_printed}, semver_core.specs.Internal.CommonReading.is_plain}
 use Rattle.{semver_core.specs.Text.Identifiers.is_u64_text, std.proofs.{Common.reverse, lemmas.List.Splits.join_with_byte-slice_split}}
 use Rattle.std.{proofs.lemmas.{List.Splits.length-slice_split, Str.{IsUtf8-from_ascii, chars-IsAscii}}, specs.Str.IsAscii}
+use Rattle.nodejs_semver.proofs.Common.{subst}
+use Rattle.nodejs_semver.specs.Npm.VersionText.{written}
 use Rattle.nodejs_semver.specs.Npm.Table as Table
 
 -- ---- numbers and identifiers print as they are written
@@ -38,21 +40,11 @@ pre_printed text ids (dashed rest list is strict) =
 -- ---- what is printed is a version strictly
 
 printed : (text : List ℕ) (v : VersionValue) → IsStrictVersion MAX_SAFE_INTEGER text v → IsStrictVersion MAX_SAFE_INTEGER (version_text (Table.no_build v)) (Table.no_build v)
-printed text v h = record {
-  mark = [];
-  major = h.major;
-  minor = h.minor;
-  patch = h.patch;
-  pre_release = h.pre_release;
-  build = [];
-  divided = grind (arith, nat_tests, common_steps, number_printed, pre_printed);
-  mark_is = inl refl;
-  major_is = h.major_is;
-  minor_is = h.minor_is;
-  patch_is = h.patch_is;
-  pre_release_is = h.pre_release_is;
-  build_is = no_build;
-}
+printed text v (written mark x y z pre build w m i j k p q) =
+    let e : x ++ 46 ∷ (y ++ 46 ∷ (z ++ (pre ++ []))) ≡ version_text (Table.no_build w) =
+    grind (arith, nat_tests, common_steps, number_printed, pre_printed) in
+    subst (λ (t : List ℕ). IsStrictVersion MAX_SAFE_INTEGER t (Table.no_build w)) e
+    (written [] x y z pre [] (Table.no_build w) (inl refl) i j k p no_build)
 
 -- ---- its characters
 
@@ -86,7 +78,7 @@ shorter : (a b c d e f p q m k : List ℕ) → a ≡ d → b ≡ e → c ≡ f �
 shorter a b c d e f p q m k h g l n = rw (h, g, l, n) (grind (arith, length-append))
 
 printed_short : (text : List ℕ) (v : VersionValue) → IsStrictVersion MAX_SAFE_INTEGER text v → length (version_text (Table.no_build v)) ≤ length text
-printed_short text v h = grind (arith, nat_tests, common_steps, shorter, number_printed, pre_printed)
+printed_short text v (written mark x y z pre build w m i j k p q) = grind (arith, nat_tests, common_steps, shorter, number_printed, pre_printed)
 
 pub reread : (text : List ℕ) (v : VersionValue) → IsUtf8 text → IsVersionText MAX_SAFE_INTEGER text v
     → IsVersionText MAX_SAFE_INTEGER (version_text (Table.no_build v)) (Table.no_build v)

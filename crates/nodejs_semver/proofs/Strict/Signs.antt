@@ -125,21 +125,20 @@ twice-found text u = elim (cases_Bool (nat_lt 0 (space_len text) && begins_byte 
 
 tilde-found : (text : List ℕ) → IsUtf8 text → SignAt (126 ∷ text) tilde (skip_tilde text (drop_spaces text))
 tilde-found text u =
-    let x = blank-at text u in
+    let x = blank-at _ u in
     elim (cases_Bool (begins_byte 62 text)) [
       | inl mark ↦
-          let e = byte-begins 62 text mark in
-          let f = twice-found (drop 1 text) (tail-utf8 62 (drop 1 text) (omega arith) (subst (λ (t : List ℕ). IsUtf8 t) e u)) in
+          let e = byte-begins _ _ mark in
+          let f = twice-found _ (tail-utf8 _ _ (omega arith) (subst (λ (t : List ℕ). IsUtf8 t) e u)) in
           rw mark (record { signs = f.signs; split = ap (λ (t : List ℕ). 126 ∷ t) e ∙ f.split; is = f.is; utf8 = f.utf8 })
       | inr other ↦ elim (cases_Bool (begins_byte 62 (drop_spaces text))) [
         | inl mark ↦
-            let e = byte-begins 62 (drop_spaces text) mark in
+            let e = byte-begins _ _ mark in
             let behind = drop 1 (drop_spaces text) in
-            let f = tilde-greater x.blank behind x.is
-            (tail-utf8 62 behind (omega arith) (subst (λ (t : List ℕ). IsUtf8 t) e x.utf8)) in
+            let f = tilde-greater _ _ x.is (tail-utf8 _ _ (omega arith) (subst (λ (t : List ℕ). IsUtf8 t) e x.utf8)) in
             grind (arith, nat_tests, common_steps)
         | inr none ↦
-            let f = equal-found 126 x.blank (drop_spaces text) tilde x.is x.utf8 (sign tilde x.blank x.is)
+            let f = equal-found _ _ _ _ x.is x.utf8 (sign tilde x.blank x.is)
             (λ y h. tilde_sign equal x.blank y x.is h (inr (inr refl))) in
             rw (other, none) (record { signs = f.signs; split = ap (λ (t : List ℕ). 126 ∷ t) x.split ∙ f.split; is = f.is; utf8 = f.utf8 })
       ]
@@ -168,13 +167,12 @@ pub sign-found : (text : List ℕ) → IsUtf8 text → SignAt text (npm_sign tex
 unfolding npm_sign
 sign-found [] u = record { signs = []; split = refl; is = no_sign; utf8 = u }
 sign-found (b ∷ rest) u =
-    on-byte b 62 rest _ _ (omega arith) u (λ v. late-found 62 above at_least rest v (λ x h. sign (compared above) x h)
-    (λ x h. sign (compared at_least) x h) (λ x h. late_above x h))
-    (on-byte b 60 rest _ _ (omega arith) u (λ v. late-found 60 below at_most rest v (λ x h. sign (compared below) x h)
-    (λ x h. sign (compared at_most) x h) (λ x h. late_below x h))
-    (on-byte b 61 rest _ _ (omega arith) u (λ v. plain-found rest v)
-    (on-byte b 94 rest _ _ (omega arith) u (λ v. caret-found rest v)
-    (on-byte b 126 rest _ _ (omega arith) u (λ v. tilde-found rest v) (record { signs = []; split = refl; is = no_sign; utf8 = u })))))
+    on-byte _ _ _ _ _ (omega arith) u (λ v. late-found _ _ _ _ v (λ x h. sign (compared _) x h)
+    (λ x h. sign (compared _) x h) (λ x h. late_above x h))
+    (on-byte _ _ _ _ _ (omega arith) u (λ v. late-found _ _ _ _ v (λ x h. sign (compared _) x h)
+    (λ x h. sign (compared _) x h) (λ x h. late_below x h)) (on-byte _ _ _ _ _ (omega arith) u (λ v. plain-found _ v)
+    (on-byte _ _ _ _ _ (omega arith) u (λ v. caret-found _ v)
+    (on-byte _ _ _ _ _ (omega arith) u (λ v. tilde-found _ v) (record { signs = []; split = refl; is = no_sign; utf8 = u })))))
 
 -- ---- the signs of node-semver's words before marks and a partial version: what is written is read, or means the same
 
@@ -209,8 +207,7 @@ record Opens (text : List ℕ) : Type 0 where
 
 opens : (marks u : List ℕ) → list_all is_mark marks ≡ true → begins_component u ≡ true → Opens (marks ++ u)
 opens [] u h k = record { dark = solid-dark u (grind (arith, nat_tests)); greater = grind (arith, nat_tests) }
-opens (b ∷ marks) u h k =
-    record { dark = solid-dark (b ∷ (marks ++ u)) (grind (arith, nat_tests)); greater = grind (arith, nat_tests) }
+opens (b ∷ marks) u h k = record { dark = solid-dark _ (grind (arith, nat_tests)); greater = grind (arith, nat_tests) }
 
 component-other : (u : List ℕ) → begins_component u ≡ true → begins_byte 61 u ≡ false
 component-other u h = grind (arith, nat_tests)

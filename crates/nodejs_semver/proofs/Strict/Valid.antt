@@ -1,9 +1,9 @@
 -- Words with a number past the limit that counts have a comparator that is not valid: they may be left out as soon as they are read.
-use Rattle.nodejs_semver.proofs.Common.{Bool, Front, List, None, Option, Some, [], arith, cases_Bool, common_steps, drop_spaces, false}
+use Rattle.nodejs_semver.proofs.Common.{Bool, Front, List, None, Option, Some, arith, cases_Bool, common_steps, drop_spaces, false}
 use Rattle.nodejs_semver.proofs.Common.{if◌then◌else◌, inl, inr, is_empty, list_all, nat_tests, refl, suc, true, zero, ℕ}
 use Rattle.nodejs_semver.proofs.{Common.{◌&&◌, ◌++◌, ◌+◌, ◌∷◌, ◌≡◌}, NpmCommon.{Comparison, Ended, Numbers, Signed, any_word, from}}
 use Rattle.nodejs_semver.proofs.NpmCommon.{hyphen_comparisons, hyphen_upper, is_small, is_valid, limited_hyphen, limited_word}
-use Rattle.nodejs_semver.proofs.NpmCommon.{nat_le, under, valid_only, valid_words, word_front, ◌>>?◌}
+use Rattle.nodejs_semver.proofs.NpmCommon.{nat_le, valid_only, valid_words, word_front, ◌>>?◌}
 use Rattle.nodejs_semver.specs.{Internal.NpmWords.words_within, Npm.Table.{Partial, Sign, table}}
 
 -- ---- three numbers
@@ -21,12 +21,6 @@ from-invalid : (limit : ℕ) (include : Bool) (n : Numbers) (cs : List Compariso
 from-invalid limit true n cs h = invalid limit (from true n) cs h
 from-invalid limit false n cs h = invalid limit (from false n) cs h
 
-under-invalid : (limit : ℕ) (n : Numbers) → three limit n.0 n.1 n.2 ≡ false → list_all (is_valid limit) (under n ∷ []) ≡ false
-under-invalid limit n h = invalid limit (under n) [] h
-
-next-le : (limit a : ℕ) → nat_le a limit ≡ false → nat_le (a + 1) limit ≡ false
-next-le limit a h = grind (arith, nat_tests)
-
 one-three : (limit a b c : ℕ) → nat_le a limit ≡ false → three limit a b c ≡ false
 unfolding three
 one-three limit a b c h = rw h refl
@@ -37,13 +31,13 @@ two-three limit a b c h = grind arith
 
 next-three : (limit a b c : ℕ) → (nat_le a limit && nat_le b limit) ≡ false → three limit a (b + 1) c ≡ false
 unfolding three
-next-three limit a b c h = grind (arith, next-le)
+next-three limit a b c h = grind (arith, nat_tests)
 
 -- ---- the table
 
 pub table-invalid : (limit : ℕ) (include : Bool) (s : Sign) (p : Partial) (text : List ℕ) → is_small limit p ≡ false
     → list_all (is_valid limit) (table include s p text) ≡ false
-table-invalid limit include s p text h = grind (arith, from-invalid, one-three, two-three, next-three, under-invalid)
+table-invalid limit include s p text h = grind (arith, from-invalid, one-three, two-three, next-three)
 
 -- ---- the ends of a hyphen range
 

@@ -5,6 +5,7 @@ use Rattle.nodejs_semver.proofs.Common.{is_ascii_digit, is_empty, length, length
 use Rattle.nodejs_semver.proofs.Common.{prefix_len, refl, subst, sym, true, ℕ, ◌&&◌, ◌++◌, ◌<◌, ◌==◌, ◌∙◌, ◌∷◌, ◌≡◌, ◌≤◌, ◌⊎◌}
 use Rattle.nodejs_semver.proofs.NpmCommon.{IsClean, IsStrictBuild, IsStrictNumber, IsStrictPreRelease, IsStrictVersion, IsVersionText}
 use Rattle.nodejs_semver.proofs.NpmCommon.{MAX_LENGTH, NoValue, build_front, chars, chars_from_encodes, dashed_front, dotted_number}
+use Rattle.nodejs_semver.specs.Npm.VersionText.{written}
 use Rattle.nodejs_semver.proofs.NpmCommon.{is_mark, is_strict_list, len_utf8, pre_front, qualified_version, strict_number, strict_version}
 use Rattle.nodejs_semver.proofs.Strict.{Numbers.{dotted-found, dotted-read, strict-found, strict-read}, Qualifiers.build-found}
 use Rattle.nodejs_semver.proofs.Strict.Qualifiers.{build-taken, dashed-found, ends-nil, pre-taken, quiet-behind}
@@ -51,7 +52,10 @@ strict-found-version limit text v h =
     let q = qualified-found a.0.0 b.0.0 c.0.0 c.0.1 v c.2 in
     let m = marked text in
     let behind : drop_v text ≡ major.digits ++ 46 ∷ (minor.0 ++ 46 ∷ (patch.0 ++ (q.pre ++ q.build))) = cc (major.split, minor.1, patch.1, q.split) in
-    grind (arith, nat_tests, common_steps)
+    subst (λ (t : List ℕ). IsStrictVersion limit t v) (sym (m.1 ∙ ap (λ (t : List ℕ). m.0 ++ t) behind))
+    (written m.0 major.digits minor.0 patch.0 q.pre q.build v m.2 (subst (IsStrictNumber limit major.digits) (sym q.numbers.0) major.is)
+    (subst (IsStrictNumber limit minor.0) (sym q.numbers.1) minor.2) (subst (IsStrictNumber limit patch.0) (sym q.numbers.2) patch.2)
+    q.pre_is q.build_is)
   where
     marked : (t : List ℕ) → (mark : List ℕ) × (t ≡ mark ++ drop_v t) × ((mark ≡ []) ⊎ (mark ≡ 118 ∷ []))
     marked [] = ([], refl, inl refl)
@@ -73,16 +77,14 @@ unmarked limit mark digits rest n k h = grind (arith, nat_tests, common_steps)
 
 pub strict-read-version : (limit : ℕ) (text : List ℕ) (v : VersionValue) → IsStrictVersion limit text v → strict_version limit text ≡ Some v
 unfolding strict_version
-strict-read-version limit text v h =
-    let behind = h.pre_release ++ h.build in
-    let last = h.patch ++ behind in
-    let middle = h.minor ++ (46 ∷ last) in
+strict-read-version limit text v (written mark x y z pre build w m i j k p q) =
+    let behind = pre ++ build in
     let quiet : begins is_ascii_digit behind ≡ false =
-    rw (append-nil h.build) at (quiet-behind h.pre_release h.build [] v.pre_release v.build h.pre_release_is h.build_is ends-nil) in
-    let front = unmarked limit h.mark h.major (46 ∷ middle) v.major h.mark_is h.major_is in
-    let a = strict-read limit h.major (46 ∷ middle) v.major h.major_is refl in
-    let b = dotted-read limit h.minor (46 ∷ last) v.minor h.minor_is refl in
-    let c = dotted-read limit h.patch behind v.patch h.patch_is quiet in
+    rw (append-nil build) at (quiet-behind pre build [] w.pre_release w.build p q ends-nil) in
+    let front = unmarked limit mark x (46 ∷ (y ++ 46 ∷ (z ++ behind))) w.major m i in
+    let a = strict-read limit x (46 ∷ (y ++ 46 ∷ (z ++ behind))) w.major i refl in
+    let b = dotted-read limit y (46 ∷ (z ++ behind)) w.minor j refl in
+    let c = dotted-read limit z behind w.patch k quiet in
     grind (arith, nat_tests, common_steps, qualified-read)
 
 -- ---- whole texts

@@ -7,7 +7,7 @@ use Rattle.nodejs_semver.proofs.{Common.{take_rest, true, zero, ℕ, ◌&&◌, �
 use Rattle.nodejs_semver.proofs.NpmCommon.{IsStrictBuild, Signed, after_ends, any_word, are_normal, begins_malformed, compared}
 use Rattle.nodejs_semver.proofs.NpmCommon.{counted_front, drop_ends, end_front, ended_end, hyphen_ends, hyphen_of, ignored_front, is_mark}
 use Rattle.nodejs_semver.proofs.NpmCommon.{is_small, is_visible, limited, limited_end, limited_hyphen, limited_word, marked_word, marks_len}
-use Rattle.nodejs_semver.proofs.NpmCommon.{may_stand, no_build, npm_sign, or_else, partial_of, plus, signed_front_view, signed_word}
+use Rattle.nodejs_semver.proofs.NpmCommon.{may_stand, no_build, npm_sign, or_else, plus, signed_front_view, signed_word}
 use Rattle.nodejs_semver.proofs.{NpmCommon.{wildcard, ◌>>?◌}, Strict.Hyphens.{after_ends-drop, ends-mark, ends-more, ends-space, ends-stop}}
 use Rattle.nodejs_semver.proofs.Strict.{Limits.counted_limited, PartialLaw.partial-found, Places.prefix-all}
 use Rattle.nodejs_semver.specs.{Internal.NpmWords.{end_len, last_limited, partial_front}, Npm.{Grammar.IsPreRelease, Table.{Partial, Sign}}}
@@ -102,12 +102,8 @@ build-normal : (text : List ℕ) (ids : List Id) → IsStrictBuild text ids → 
 build-normal text ids no_build = refl
 build-normal text ids (plus t list h) = identifiers-normal t list h
 
-placed-normal : (a b c : Option ℕ) (ids builds : List Id) → list_all is_normal ids ≡ true → list_all is_normal builds ≡ true
-    → are_normal (partial_of a b c ids builds) ≡ true
-placed-normal a b c ids builds h k = grind (arith, nat_tests, common_steps)
-
 pub partial-normal : (loose : Bool) (text : List ℕ) (p : Partial) → IsPartial loose text p → are_normal p ≡ true
-partial-normal loose text p h = grind (arith, nat_tests, common_steps, placed-normal, pre-normal, build-normal)
+partial-normal loose text p h = grind (arith, nat_tests, common_steps, pre-normal, build-normal)
 
 front-normal : (loose : Bool) (text : List ℕ) (p : Partial × List ℕ) → partial_front loose text ≡ Some p → are_normal p.0 ≡ true
 front-normal loose text p h = let found = partial-found loose text p.0 p.1 h in partial-normal loose found.piece p.0 found.is
@@ -182,12 +178,6 @@ pub end_here : (loose : Bool) (free : Partial → Bool) (text behind : List ℕ)
     → (o >>? λ p. ended_end loose free text behind p) ≡ limited_end MAX_SAFE_INTEGER (end_front loose free text)
 unfolding end_front
 end_here loose free text behind o e read = grind (arith, nat_tests, common_steps, counted_limited, end-limited)
-
--- the same of one partial, of which it is known whether any marks may stand before it
-pub end_some : (loose : Bool) (free : Partial → Bool) (any_marks : Bool) (text behind : List ℕ) (p : Partial) (rest : List ℕ) → behind ≡ drop_ends text
-    → Some (p, rest) ≡ counted_front loose MAX_SAFE_INTEGER behind → any_marks ≡ free p
-    → ended_end loose (λ q. any_marks) text behind (p, rest) ≡ limited_end MAX_SAFE_INTEGER (end_front loose free text)
-end_some loose free any_marks text behind p rest e read same = rw same (end_here loose free text behind (Some (p, rest)) e read)
 
 -- ---- a hyphen range
 

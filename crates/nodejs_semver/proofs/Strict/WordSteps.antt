@@ -86,42 +86,41 @@ pub words-begin : (loose : Bool) (include : Bool) (text : List ℕ) (all : Optio
     → IsNarrowed include [] all → is_bare ≡ true → AreWordsTo loose include text all is_bare text
 words-begin loose include text all is_bare u h b = grind (arith, nat_tests, common_steps)
 
--- one word more
-pub words-next : (loose : Bool) (include : Bool) (text rest : List ℕ) (all : Option (Span VersionValue)) (is_bare : Bool) (w : Signed × List ℕ)
-    (a : Alternative) → AreWordsTo loose include text all is_bare rest → word_at_front loose rest ≡ Some w
-    → NarrowedBy include all (row_of include w.0) (Some a) → a.is_bare ≡ (is_bare && is_empty (row_of include w.0))
-    → is_empty w.1 ≡ false → AreWordsTo loose include text a.interval a.is_bare (drop_spaces w.1)
-words-next loose include text rest all is_bare w a h e n b goes =
-    let row = row_of include w.0 in
-    let step : words_of loose include rest ≡ (words_of loose include (drop_spaces w.1) >>? λ ds. Some (row ++ ds)) =
-    words-step loose include rest h.utf8 (Some w) e ∙ rw (n.0, goes) refl in
-    record {
-      read = h.read ++ row;
-      bare = b ∙ rw h.bare (sym (empty-append h.read row));
-      narrowed = n.1 h.read h.narrowed;
-      same = h.same ∙ rw step (joined h.read row (words_of loose include (drop_spaces w.1)));
-      utf8 = left-utf8 loose include rest w h.utf8 e;
-    }
-  where
-    joined : (cs row : List Comparison) (o : Option (List Comparison))
-        → ((o >>? λ ds. Some (row ++ ds)) >>? λ ds. Some (cs ++ ds)) ≡ (o >>? λ ds. Some ((cs ++ row) ++ ds))
-    joined cs row None = refl
-    joined cs row (Some ds) = ap (λ (l : List Comparison). Some l) (sym (append_assoc cs row ds))
+module _ (loose include : Bool) (text rest : List ℕ) (all : Option (Span VersionValue)) (is_bare : Bool)
+    (h : AreWordsTo loose include text all is_bare rest) where
+  -- one word more
+  pub words-next : (w : Signed × List ℕ) (a : Alternative) → word_at_front loose rest ≡ Some w
+      → NarrowedBy include all (row_of include w.0) (Some a) → a.is_bare ≡ (is_bare && is_empty (row_of include w.0))
+      → is_empty w.1 ≡ false → AreWordsTo loose include text a.interval a.is_bare (drop_spaces w.1)
+  words-next w a e n b goes =
+      let row = row_of include w.0 in
+      let step : words_of loose include rest ≡ (words_of loose include (drop_spaces w.1) >>? λ ds. Some (row ++ ds)) =
+      words-step loose include rest h.utf8 (Some w) e ∙ rw (n.0, goes) refl in
+      record {
+        read = h.read ++ row;
+        bare = b ∙ rw h.bare (sym (empty-append h.read row));
+        narrowed = n.1 h.read h.narrowed;
+        same = h.same ∙ rw step (joined (words_of loose include (drop_spaces w.1)));
+        utf8 = left-utf8 loose include rest w h.utf8 e;
+      }
+    where
+      joined : (o : Option (List Comparison))
+          → ((o >>? λ ds. Some (row_of include w.0 ++ ds)) >>? λ ds. Some (h.read ++ ds))
+          ≡ (o >>? λ ds. Some ((h.read ++ row_of include w.0) ++ ds))
+      joined None = refl
+      joined (Some ds) = ap (λ (l : List Comparison). Some l) (sym (append_assoc h.read (row_of include w.0) ds))
 
--- the last word
-pub words-end : (loose : Bool) (include : Bool) (text rest : List ℕ) (all : Option (Span VersionValue)) (is_bare : Bool) (w : Signed × List ℕ)
-    (a : Alternative) → AreWordsTo loose include text all is_bare rest → word_at_front loose rest ≡ Some w
-    → NarrowedBy include all (row_of include w.0) (Some a) → a.is_bare ≡ (is_bare && is_empty (row_of include w.0))
-    → is_empty w.1 ≡ true → IsFound include (words_of loose include text) (Some a)
-words-end loose include text rest all is_bare w a h e n b ended = grind (arith, nat_tests, common_steps, words-step, empty-append)
+  -- the last word
+  pub words-end : (w : Signed × List ℕ) (a : Alternative) → word_at_front loose rest ≡ Some w
+      → NarrowedBy include all (row_of include w.0) (Some a) → a.is_bare ≡ (is_bare && is_empty (row_of include w.0))
+      → is_empty w.1 ≡ true → IsFound include (words_of loose include text) (Some a)
+  words-end w a e n b ended = grind (arith, nat_tests, common_steps, words-step, empty-append)
 
--- no word where one is to be
-pub words-none : (loose : Bool) (include : Bool) (text rest : List ℕ) (all : Option (Span VersionValue)) (is_bare : Bool)
-    → AreWordsTo loose include text all is_bare rest → word_at_front loose rest ≡ None → IsFound include (words_of loose include text) None
-words-none loose include text rest all is_bare h e = grind (arith, nat_tests, common_steps, words-step)
+  -- no word where one is to be
+  pub words-none : word_at_front loose rest ≡ None → IsFound include (words_of loose include text) None
+  words-none e = grind (arith, nat_tests, common_steps, words-step)
 
--- a comparator that is not valid
-pub words-invalid : (loose : Bool) (include : Bool) (text rest : List ℕ) (all : Option (Span VersionValue)) (is_bare : Bool)
-    (w : Signed × List ℕ) → AreWordsTo loose include text all is_bare rest → word_at_front loose rest ≡ Some w → NarrowedBy include all (row_of include w.0) None
-    → IsFound include (words_of loose include text) None
-words-invalid loose include text rest all is_bare w h e n = grind (arith, nat_tests, common_steps, words-step)
+  -- a comparator that is not valid
+  pub words-invalid : (w : Signed × List ℕ) → word_at_front loose rest ≡ Some w → NarrowedBy include all (row_of include w.0) None
+      → IsFound include (words_of loose include text) None
+  words-invalid w e n = grind (arith, nat_tests, common_steps, words-step)

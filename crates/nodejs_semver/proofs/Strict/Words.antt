@@ -25,9 +25,7 @@ partial-begins loose x rest p h = grind (arith, nat_tests, common_steps, begins-
 
 marks-counted : (marks u : List ℕ) → list_all is_mark marks ≡ true → begins_component u ≡ true → marks_len (marks ++ u) ≡ length marks
 marks-counted [] u h k = grind (arith, nat_tests)
-marks-counted (b ∷ marks) u h k =
-    let each = and_parts (is_mark b) (list_all is_mark marks) h in
-    rw each.0 (omega (arith, marks-counted marks u each.1 k))
+marks-counted (b ∷ marks) u h k = grind (arith, nat_tests, common_steps, and_parts, marks-counted marks u)
 
 pub front-text : (front rest : List ℕ) → take (length (front ++ rest) - length rest) (front ++ rest) ≡ front
 front-text front rest = grind (arith, take_at, length-append)

@@ -147,9 +147,9 @@ abbrev pub lesser : Option VersionValue → VersionValue → VersionValue
 lesser None next = next
 lesser (Some best) next = if is_le (precedence best next) then best else next
 
--- there is such a version
-abbrev pub Finds : List (List (Span VersionValue)) → List (Span VersionValue) → Type 0
-Finds kss ls = (v : VersionValue) × (wanted kss ls v ≡ true)
+-- there is a version in the set
+abbrev pub Finds : (VersionValue → Bool) → Type 0
+Finds set = (v : VersionValue) × (set v ≡ true)
 
 -- the bound is `>v` of a pre-release v: the version after v is made before it is known to be in the set
 abbrev pub IsAfterPre : Bound VersionValue → Type 0
@@ -163,4 +163,4 @@ EndsAfterPre ss = Any (λ s. IsAfterPre s.upper) ss
 
 -- when the search may allocate: it finds a version, or has to make one to try it
 abbrev pub MayAllocate : List (List (Span VersionValue)) → List (Span VersionValue) → Type 0
-MayAllocate kss ls = Finds kss ls ⊎ Any BeginsAfterPre kss ⊎ EndsAfterPre ls
+MayAllocate kss ls = Finds (wanted kss ls) ⊎ Any BeginsAfterPre kss ⊎ EndsAfterPre ls

@@ -1,5 +1,5 @@
 -- For proofs and private contracts. What of a common range text stands at the front of a text, read from the left.
-use Rattle.std.specs.Prelude.{ℕ, zero, suc, ◌==◌, ◌&&◌, ◌||◌, Bool, true, false, List, [], ◌∷◌, ◌++◌, length, drop, Option, Some, None, if◌then◌else◌}
+use Rattle.std.specs.Prelude.{ℕ, zero, suc, ◌==◌, ◌&&◌, ◌||◌, Bool, false, List, [], ◌∷◌, ◌++◌, length, drop, Option, Some, None, if◌then◌else◌}
 use Rattle.semver_core.specs.Text.Characters.{begins}
 use Rattle.semver_core.specs.Cuts.{Span, interval, meet}
 use Rattle.semver_core.specs.Values.Order.{precedence}
@@ -89,11 +89,7 @@ part_front limit (b ∷ rest) =
     else if b == 94 then word_read limit (caret_front limit rest)
     else word_read limit (partials_front limit (b ∷ rest))
 
--- a list to which an interval was added, if there is one; and the same with what follows the interval's part
-abbrev pub pushed : List (Span VersionValue) → Option (Span VersionValue) → Bool × List (Span VersionValue)
-pushed list None = (false, list)
-pushed list (Some s) = (true, list ++ s ∷ [])
-
+-- a list to which an interval was added, if there is one, with what follows the interval's part
 abbrev pub passed : List (Span VersionValue) → Front (Span VersionValue) → Option (List ℕ) × List (Span VersionValue)
 passed list None = (None, list)
 passed list (Some p) = (Some p.1, list ++ p.0 ∷ [])

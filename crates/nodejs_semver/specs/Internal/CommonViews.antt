@@ -1,5 +1,5 @@
 -- For proofs and private contracts. What the fast reader gives, seen without places in memory.
-use Rattle.std.specs.Prelude.{ℕ, Bool, List, Option, Some, None}
+use Rattle.std.specs.Prelude.{ℕ, List, Option, Some, None}
 use Rattle.std.specs.Borrow.{Bor}
 use Rattle.semver_core.specs.Cuts.{Span, interval}
 use Rattle.semver_core.specs.Values.Order.{precedence}
@@ -7,20 +7,12 @@ use Rattle.semver_core.specs.Values.Versions.{VersionValue}
 use Rattle.nodejs_semver.specs.Internal.CommonFronts.{part_read}
 use Rattle.nodejs_semver.specs.Internal.Fronts.{Front}
 use Rattle.nodejs_semver.specs.Internal.Readings.{bounds_view, rest_view}
-use Rattle.semver_core.specs.declared.cuts.bound.Bound.{Bound}
 use Rattle.nodejs_semver.specs.declared.readers.syntax.Bounds.{Bounds}
 
 -- the interval of the bounds, where they make one, and what follows the word
 abbrev pub bounds_front_view : Option (Bounds × Bor (List ℕ)) → Front (Span VersionValue)
 bounds_front_view None = None
 bounds_front_view (Some p) = part_read p.1.now (interval precedence (bounds_view p.0))
-
-abbrev pub between_view : Bound VersionValue → Bound VersionValue → Span VersionValue
-between_view lower upper = record { lower = lower; upper = upper }
-
--- whether an interval was added, and the list
-abbrev pub both_view : Bool → List (Span VersionValue) → Bool × List (Span VersionValue)
-both_view there list = (there, list)
 
 -- what follows a part, and the list
 abbrev pub passed_view : Option (Bor (List ℕ)) → List (Span VersionValue) → Option (List ℕ) × List (Span VersionValue)

@@ -1,5 +1,5 @@
 -- For proofs and private contracts. The ignored words of a range text, computed.
-use Rattle.std.specs.Prelude.{ℕ, zero, suc, ◌+◌, ◌-◌, Bool, false, if◌then◌else◌, List, [], ◌∷◌, ◌++◌, Option, Some, None, length}
+use Rattle.std.specs.Prelude.{ℕ, zero, suc, ◌+◌, ◌-◌, false, List, [], ◌∷◌, ◌++◌, Option, Some, None, length, Result}
 use Rattle.std.specs.Borrow.{Bor}
 use Rattle.semver_core.specs.Internal.Spaces.{drop_spaces, trim}
 use Rattle.semver_core.specs.declared.TheConstants.{MAX_SAFE_INTEGER}
@@ -8,18 +8,24 @@ use Rattle.nodejs_semver.specs.Internal.PartFronts.{left_over}
 use Rattle.nodejs_semver.specs.Internal.Parts.{cut_bars}
 use Rattle.nodejs_semver.specs.Internal.Readings.{rest_view}
 use Rattle.nodejs_semver.specs.Internal.Words.{word_at}
+use Rattle.nodejs_semver.specs.Text.Table.{table}
+use Rattle.semver_core.specs.Cuts.{Span}
+use Rattle.semver_core.specs.Values.Versions.{VersionValue}
+use Rattle.std.specs.Result.{result_err, result_ok}
 use Rattle.nodejs_semver.specs.declared.diagnosis.unread.Unread.{Unread}
 use Rattle.nodejs_semver.specs.declared.diagnosis.ranges.IgnoredKind.{IgnoredKind}
-use Rattle.nodejs_semver.specs.declared.diagnosis.ranges.IgnoredKind.TheVariants.{WithoutBounds}
 use Rattle.nodejs_semver.specs.declared.diagnosis.ranges.IgnoredWord.{IgnoredWord}
-
--- why a word that has a form is ignored, if it is
-abbrev pub unless_bounded : Bool → Option IgnoredKind
-unless_bounded bounded = if bounded then None else Some WithoutBounds
 
 -- why the word at the front is ignored, if it is, and what follows it
 abbrev pub kind_at : ℕ → List ℕ → Option IgnoredKind × List ℕ
 kind_at limit text = (ignored_as limit (word_at limit text).0, (word_at limit text).1)
+
+-- the interval of the word at the front or why the word is ignored, and what follows it
+abbrev pub read_at : ℕ → List ℕ → (Option (Span VersionValue) × Option IgnoredKind) × List ℕ
+read_at limit text = ((table limit (word_at limit text).0, ignored_as limit (word_at limit text).0), (word_at limit text).1)
+
+abbrev pub word_view : Result (Span VersionValue) IgnoredKind × Bor (List ℕ) → (Option (Span VersionValue) × Option IgnoredKind) × List ℕ
+word_view read = ((result_ok read.0, result_err read.0), read.1.now)
 
 abbrev pub kind_view : Option IgnoredKind × Bor (List ℕ) → Option IgnoredKind × List ℕ
 kind_view read = (read.0, read.1.now)

@@ -1,15 +1,15 @@
 -- For proofs and private contracts. What the reader of common range texts finds at the front of a text, as node-semver's
 -- strict reading has it.
-use Rattle.std.specs.Prelude.{◌≡◌, ◌⊎◌, ◌<◌, ◌||◌, ◌&&◌, ◌==◌, not, nat_lt, ℕ, Bool, true, false, List, [], ◌++◌, Some, length}
+use Rattle.std.specs.Prelude.{◌≡◌, ◌⊎◌, ◌<◌, ◌||◌, ◌&&◌, ◌==◌, not, nat_lt, ℕ, Bool, true, false, List, [], ◌∷◌, ◌++◌, Option, None, Some, length}
 use Rattle.std.specs.List.{list_all}
 use Rattle.std.specs.Option.{option_to_list}
 use Rattle.semver_core.specs.Cuts.{Span, interval}
 use Rattle.semver_core.specs.Text.Characters.{begins, ends}
 use Rattle.semver_core.specs.Values.Order.{precedence}
 use Rattle.semver_core.specs.Values.Versions.{VersionValue}
-use Rattle.semver_core.specs.declared.TheConstants.{MAX_SAFE_INTEGER}
+use Rattle.semver_core.specs.declared.{TheConstants.MAX_SAFE_INTEGER, cuts.bound.Bound.TheVariants.Unbounded}
 use Rattle.nodejs_semver.specs.Internal.CommonFronts.{after_bars}
-use Rattle.nodejs_semver.specs.Internal.NpmMeaning.{IsCommon}
+use Rattle.nodejs_semver.specs.Internal.{Fronts.begins_wildcard, NpmMeaning.IsCommon, NpmWords.is_over}
 use Rattle.nodejs_semver.specs.Npm.RangeText.{AreWords, IsWord, spelling}
 use Rattle.nodejs_semver.specs.Npm.Ranges.{is_valid}
 use Rattle.nodejs_semver.specs.Npm.Table.{Comparison, Sign, compared}
@@ -18,6 +18,11 @@ use Rattle.nodejs_semver.specs.Text.WordText.{equal}
 -- the sign at the front of a text, and what follows it
 abbrev pub IsSignAt : List ℕ → Sign → List ℕ → Type 0
 IsSignAt text s rest = (text ≡ spelling s ++ rest) ⊎ ((text ≡ rest) × (s ≡ compared equal))
+
+-- behind the numbers of a partial no place stands, or a wildcard, and then the text ends or goes on with a space or a bar
+abbrev pub IsLeft : List ℕ → List ℕ → Type 0
+IsLeft text rest = (is_over rest ≡ true)
+    × ((text ≡ rest) ⊎ ((b : ℕ) × (text ≡ 46 ∷ (b ∷ rest)) × (begins_wildcard (b ∷ rest) ≡ true)))
 
 -- a visible character other than the bar; or a space
 abbrev pub is_word_byte : ℕ → Bool
@@ -55,6 +60,16 @@ pub record IsPartAt (include : Bool) (text : List ℕ) (s : Span VersionValue) (
   pub each : list_all is_part_byte part ≡ true
   pub end : ends is_word_byte part ≡ true
   pub are : AreIn include comparators s
+
+-- the bounds of two words together, of which the first has no upper bound and the second no lower one
+abbrev pub AreJoined : Span VersionValue → Span VersionValue → Span VersionValue → Type 0
+AreJoined s t b = (s.upper ≡ Unbounded) × (t.lower ≡ Unbounded) × (b ≡ record { lower = s.lower; upper = t.upper })
+
+-- the part at the front was read, and its interval added to a list, where its cuts meet; or the list is as it was
+abbrev pub IsTried : Bool → List ℕ → Option (List ℕ) → List (Span VersionValue) → List (Span VersionValue) → Type 0
+IsTried include text None old new = new ≡ old
+IsTried include text (Some rest) old new =
+    (s : Span VersionValue) × IsPartAt include text s rest × (new ≡ old ++ option_to_list (interval precedence s))
 
 -- the intervals of the parts of a text, of those whose cuts meet
 pub data AreParts (include : Bool) : List ℕ → List (Span VersionValue) → Type 0 where

@@ -1,12 +1,13 @@
 -- For proofs and private contracts. The signs and the partial versions of node-semver's range texts, seen without
 -- places in memory.
-use Rattle.std.specs.Prelude.{◌&&◌, nat_le, Bool, true, false}
+use Rattle.std.specs.Prelude.{◌&&◌, nat_le, ℕ, Bool, true, false}
 use Rattle.std.specs.List.{list_all}
 use Rattle.semver_core.specs.Printing.RoundTrip.{is_normal}
+use Rattle.semver_core.specs.Values.Versions.{VersionValue, release_value}
 use Rattle.semver_core.specs.declared.TheConstants.{MAX_SAFE_INTEGER}
 use Rattle.nodejs_semver.specs.Internal.Readings.{comparator_view}
 use Rattle.nodejs_semver.specs.Npm.Table as Spec
-use Rattle.nodejs_semver.specs.Npm.Table.{Numbers, caret, compared, major, minor, tilde, whole, wildcard}
+use Rattle.nodejs_semver.specs.Npm.Table.{caret, compared, major, minor, tilde, whole, wildcard}
 use Rattle.nodejs_semver.specs.Text.WordText.{above, below}
 use Rattle.nodejs_semver.specs.declared.npm.partial.Partial.{Partial}
 use Rattle.nodejs_semver.specs.declared.npm.partial.Partial.TheVariants.{Major, Minor, Whole, Wildcard}
@@ -23,6 +24,13 @@ abbrev pub npm_sign_view : Sign → Spec.Sign
 npm_sign_view (Compared c) = compared (comparator_view c)
 npm_sign_view Caret = caret
 npm_sign_view Tilde = tilde
+
+-- three numbers, and their release
+abbrev pub Numbers : Type 0
+Numbers = ℕ × ℕ × ℕ
+
+abbrev pub release : Numbers → VersionValue
+release n = release_value n.0 n.1 n.2
 
 -- none of three numbers is past the limit
 abbrev pub within : Numbers → Bool

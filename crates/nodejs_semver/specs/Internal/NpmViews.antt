@@ -5,7 +5,7 @@ use Rattle.nodejs_semver.specs.Internal.Fronts.{Front}
 use Rattle.nodejs_semver.specs.Internal.NpmParts.{npm_partial_view, npm_sign_view}
 use Rattle.nodejs_semver.specs.Internal.NpmWords as Spec
 use Rattle.nodejs_semver.specs.Internal.NpmWords.{any, great, number}
-use Rattle.nodejs_semver.specs.Npm.RangeText.{is_free_lower, is_free_upper}
+use Rattle.nodejs_semver.specs.Internal.NpmWords.{is_free_lower, is_free_upper}
 use Rattle.nodejs_semver.specs.Npm.Table as Table
 use Rattle.nodejs_semver.specs.declared.npm.hyphens.{End.{End}, Side.{Side, TheVariants.{Lower, Upper}}}
 use Rattle.nodejs_semver.specs.declared.npm.partial.Partial.{Partial}

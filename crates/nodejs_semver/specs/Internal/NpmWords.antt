@@ -8,13 +8,15 @@ use Rattle.semver_core.specs.Internal.Reading.{◌>>?◌}
 use Rattle.semver_core.specs.Internal.Spaces.{drop_spaces, space_len}
 use Rattle.semver_core.specs.Lists.{is_empty}
 use Rattle.semver_core.specs.Text.Identifiers.{Id, listed, pieces}
+use Rattle.semver_core.specs.Values.Versions.{is_release}
 use Rattle.nodejs_semver.specs.Internal.Fronts.{Front, after_byte, begins_byte, begins_identifier, begins_wildcard, build_front, marked_list}
-use Rattle.nodejs_semver.specs.Internal.NpmReadings.{dashed_front}
+use Rattle.nodejs_semver.specs.Internal.NpmReadings.{dashed_front, is_strict_list}
 use Rattle.nodejs_semver.specs.Internal.Parts.{parts}
 use Rattle.nodejs_semver.specs.Internal.Words.{after_some_space, is_boundary, or_else}
-use Rattle.nodejs_semver.specs.Npm.Malformed.{begins_malformed, is_visible}
-use Rattle.nodejs_semver.specs.Npm.RangeText.{are_marks, are_whole_marks, has_zeros, is_free_lower, is_free_upper, is_lost, is_mark, is_short_identifier, is_spelled, may_stand, partial_of}
-use Rattle.nodejs_semver.specs.Npm.Grammar.{begins_undashed, is_strict_list}
+use Rattle.nodejs_semver.specs.Internal.NpmMalformed.{is_visible}
+use Rattle.nodejs_semver.specs.Npm.Malformed.{begins_malformed}
+use Rattle.nodejs_semver.specs.Npm.RangeText.{are_marks, are_whole_marks, has_zeros, is_free, is_lost, is_mark, is_short_identifier, is_spelled, may_stand, partial_of}
+use Rattle.nodejs_semver.specs.Npm.Grammar.{begins_undashed}
 use Rattle.nodejs_semver.specs.Npm.Ranges.{is_valid}
 use Rattle.nodejs_semver.specs.Npm.Table.{Comparison, Partial, Sign, caret, compared, hyphen_lower, hyphen_upper, major, minor, table, tilde, whole, wildcard}
 use Rattle.nodejs_semver.specs.Text.WordText.{Comparator, above, at_least, at_most, below, equal}
@@ -251,6 +253,17 @@ unfoldable pub words_within : Bool → Bool → ℕ → List ℕ → Option (Lis
 words_within loose include zero text = None
 words_within loose include (suc n) text = word_front loose include text >>? λ w. if is_empty w.1 then Some w.0
     else (words_within loose include n (drop_spaces w.1) >>? λ ds. Some (w.0 ++ ds))
+
+-- `v` or nothing
+abbrev pub is_one_v : List ℕ → Bool
+is_one_v marks = are_whole_marks false marks
+
+-- any marks may stand before such an end of a hyphen range
+abbrev pub is_free_lower : Partial → Bool
+is_free_lower p = is_free (λ v. false) p
+
+abbrev pub is_free_upper : Bool → Partial → Bool
+is_free_upper include p = is_free (λ v. include || not (is_release v)) p
 
 -- what follows the marks and the whitespace at the front. The number counts bytes that still belong to a
 -- whitespace character.

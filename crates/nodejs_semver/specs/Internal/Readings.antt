@@ -68,14 +68,6 @@ table_view (Some b) = Some (bounds_view b)
 abbrev pub part_view : Bor (List ℕ) × Option (Bor (List ℕ)) → List ℕ × Option (List ℕ)
 part_view p = (p.0.now, rest_view p.1)
 
--- whether an interval was added, the text behind its word, and the list
-abbrev pub word_pushed_view : Bool × Bor (List ℕ) → List (Span VersionValue) → (Bool × List ℕ) × List (Span VersionValue)
-word_pushed_view read list = ((read.0, read.1.now), list)
-
-abbrev pub hyphen_pushed_view : Option (Bool × Bor (List ℕ)) → List (Span VersionValue) → Option (Bool × List ℕ) × List (Span VersionValue)
-hyphen_pushed_view None list = (None, list)
-hyphen_pushed_view (Some read) list = (Some (read.0, read.1.now), list)
-
 -- an interval that may be absent, and the text behind it
 abbrev pub next_view : Option (Span VersionValue) → Bor (List ℕ) → Option (Span VersionValue) × List ℕ
 next_view found rest = (found, rest.now)

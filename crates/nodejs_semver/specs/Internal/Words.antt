@@ -1,11 +1,7 @@
 -- For proofs and private contracts. The words of a part, computed: a word is read from its sign on. `word_at` gives the word of
 -- `IsWordAt`.
-use Rattle.std.specs.Option.{option_to_list}
-use Rattle.std.specs.Prelude.{ℕ, zero, suc, ◌==◌, ◌||◌, ◌++◌, nat_lt, Bool, true, false, List, [], ◌∷◌}
-use Rattle.std.specs.Prelude.{length, Option, Some, None, if◌then◌else◌, is_some}
-use Rattle.semver_core.specs.Cuts.{Span}
-use Rattle.semver_core.specs.Values.Versions.{VersionValue}
-use Rattle.nodejs_semver.specs.Text.Table.{table}
+use Rattle.std.specs.Prelude.{ℕ, zero, suc, ◌==◌, ◌||◌, nat_lt, Bool, true, false, List, [], ◌∷◌}
+use Rattle.std.specs.Prelude.{length, Option, Some, None, if◌then◌else◌}
 use Rattle.semver_core.specs.Internal.Spaces.{drop_spaces, space_len}
 use Rattle.semver_core.specs.Lists.{is_empty}
 use Rattle.nodejs_semver.specs.Text.PartialText.{Partial}
@@ -126,13 +122,3 @@ words_within limit (suc n) (b ∷ text) =
 
 abbrev pub words : ℕ → List ℕ → List Word
 words limit part = words_within limit (length part) part
-
--- whether a word has an interval, what follows the word, and a list to which its interval was added
-abbrev pub word_pushed : ℕ → List (Span VersionValue) → Word × List ℕ → (Bool × List ℕ) × List (Span VersionValue)
-word_pushed limit list w = ((is_some (table limit w.0), w.1), list ++ option_to_list (table limit w.0))
-
--- the same of a hyphen word, where its second partial is there
-abbrev pub hyphen_pushed : ℕ → List (Span VersionValue) → Partial → Front Partial → Option (Bool × List ℕ) × List (Span VersionValue)
-hyphen_pushed limit list lower None = (None, list)
-hyphen_pushed limit list lower (Some q) =
-    let w = word_pushed limit list (hyphen lower q.0, q.1) in (Some w.0, w.1)

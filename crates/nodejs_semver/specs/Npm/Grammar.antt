@@ -1,38 +1,33 @@
--- Statement: how node-semver's readings have numbers, pre-releases and build metadata written.
-use Rattle.std.specs.Prelude.{◌≡◌, ◌==◌, ◌&&◌, ◌||◌, not, nat_le, ℕ, Bool, true, false, List, [], ◌∷◌, ◌++◌, codes, drop}
-use Rattle.std.specs.Char.{is_ascii_digit}
+-- Statement: how node-semver's readings have numbers, pre-releases and build metadata written. In parentheses
+-- stand the names of the grammar that node-semver publishes.
+use Rattle.std.specs.Prelude.{◌≡◌, ◌==◌, ◌&&◌, ◌||◌, not, ℕ, Bool, true, false, List, [], ◌∷◌, ◌++◌, codes, drop}
+use Rattle.std.specs.Char.{is_ascii_alphabetic, is_ascii_digit}
 use Rattle.std.specs.List.{list_all}
 use Rattle.semver_core.specs.Text.Characters.{begins, is_identifier_char}
-use Rattle.semver_core.specs.Text.Identifiers.{Id, IsIdentifiers, pieces}
+use Rattle.semver_core.specs.Text.Identifiers.{Id, IsIdentifiers}
 use Rattle.semver_core.specs.Text.Numbers.{IsNumber}
 
 -- the text has more than one character and begins with `0`
 abbrev pub has_leading_zero : List ℕ → Bool
-has_leading_zero [] = false
-has_leading_zero (c ∷ []) = false
-has_leading_zero (c ∷ d ∷ rest) = c == 48
+has_leading_zero text = elim text [ c ∷ (d ∷ rest) ↦ c == 48 | _ ↦ false ]
 
--- a number up to the limit, without leading zeros
+-- a number up to the limit, without leading zeros (nr)
 pub record IsStrictNumber (limit : ℕ) (digits : List ℕ) (n : ℕ) : Type 0 where
   pub number : IsNumber limit digits n
   pub shortest : has_leading_zero digits ≡ false
 
--- an identifier of a strict pre-release: if it is digits alone, it has no leading zero; and identifiers joined by dots
+-- an identifier of a strict pre-release: if it is digits alone, it has no leading zero
 abbrev pub is_strict_identifier : List ℕ → Bool
 is_strict_identifier text = not (list_all is_ascii_digit text && has_leading_zero text)
-
-abbrev pub is_strict_list : List ℕ → Bool
-is_strict_list text = list_all is_strict_identifier (pieces text)
 
 -- a pre-release may begin so without `-`: with a letter, with one digit before a dot, which the patch number does
 -- not take, as `4.5` in `1.2.34.5`, or with a `-` that no identifier follows, as in `1.2.3-`
 abbrev pub begins_undashed : List ℕ → Bool
 begins_undashed [] = false
-begins_undashed (b ∷ rest) = nat_le 65 b && nat_le b 90 || nat_le 97 b && nat_le b 122
-    || (is_ascii_digit b && (begins (λ b. b == 46) rest && begins is_identifier_char (drop 1 rest))
-    || b == 45 && not (begins is_identifier_char rest))
+begins_undashed (b ∷ rest) = is_ascii_alphabetic b || (is_ascii_digit b && (begins (λ b. b == 46) rest
+    && begins is_identifier_char (drop 1 rest)) || b == 45 && not (begins is_identifier_char rest))
 
--- a pre-release: `-` and identifiers joined by dots, or nothing; loosely `-` may be absent. `fits` says which texts
+-- a pre-release (pre): `-` and identifiers joined by dots (parts), or nothing; loosely `-` may be absent. `fits` says which texts
 -- of identifiers may stand there.
 pub data IsPreRelease (loose : Bool) (fits : List ℕ → Bool) : List ℕ → List Id → Type 0 where
   no_pre_release : IsPreRelease loose fits [] []
@@ -41,7 +36,7 @@ pub data IsPreRelease (loose : Bool) (fits : List ℕ → Bool) : List ℕ → L
   bare : (text : List ℕ) (list : List Id) → IsIdentifiers text list → fits text ≡ true
       → (loose && begins_undashed text) ≡ true → IsPreRelease loose fits text list
 
--- build metadata: `+` and identifiers joined by dots, or nothing
+-- build metadata (build): `+` and identifiers joined by dots, or nothing
 pub data IsStrictBuild : List ℕ → List Id → Type 0 where
   no_build : IsStrictBuild [] []
   plus : (text : List ℕ) (list : List Id) → IsIdentifiers text list → IsStrictBuild (codes "+" ++ text) list

@@ -1,20 +1,22 @@
 -- Statement: how range texts are written for node-semver, strictly and by its option `loose`, and the
--- comparators of each alternative. Left out is one `*`, and a comparator before it, in a word that is else
--- a whole version, as in `>*1.2.3`, which node-semver passes over. Of the loose reading these are left out
--- too, and a text that has one is rejected: malformed words but those that `Malformed` defines; zero as
--- several digits, where it is the major number or that is zero; more than 32 digits of a number, and 128
--- characters of a pre-release; a pre-release without `-` that begins with a digit behind `x`; whitespace
--- among the marks of a whole end of a hyphen range.
+-- comparators of each alternative. In parentheses stand the names of the grammar that node-semver publishes.
+-- Left out is one `*`, and a comparator before it, in a word that is else a whole version, as in `>*1.2.3`,
+-- which node-semver passes over. Of the loose reading these are left out too, and a text that has one is
+-- rejected: malformed words but those that `Malformed` defines; zero as several digits, where it is the major
+-- number or that is zero; more than 32 digits of a number, and 128 characters of a pre-release; a pre-release
+-- without `-` that begins with a digit behind `x`; whitespace among the marks of a whole end of a hyphen range.
 use Rattle.std.specs.Prelude.{◌≡◌, ◌⊎◌, ◌==◌, ◌<◌, ◌≤◌, ◌+◌, ◌&&◌, ◌||◌, not, nat_le, nat_lt, ℕ, Bool, true}
 use Rattle.std.specs.Prelude.{false, List, [], ◌∷◌, ◌++◌, length, drop, Option, Some, None, codes}
 use Rattle.std.specs.Prelude.{encode_utf8_all, if◌then◌else◌}
 use Rattle.std.specs.Char.{is_ascii_digit}
 use Rattle.std.specs.List.{list_all, prefix_len}
+use Rattle.std.specs.Str.{bytes_eq}
 use Rattle.semver_core.specs.Lists.{is_empty}
 use Rattle.semver_core.specs.Text.Characters.{begins, is_whitespace, IsBlank, IsTrim}
 use Rattle.semver_core.specs.Text.Identifiers.{Id, pieces}
 use Rattle.semver_core.specs.Text.Numbers.{IsNumber}
-use Rattle.nodejs_semver.specs.Npm.Grammar.{IsPreRelease, IsStrictBuild, has_leading_zero, is_strict_list}
+use Rattle.semver_core.specs.Values.Versions.{VersionValue, is_release}
+use Rattle.nodejs_semver.specs.Npm.Grammar.{IsPreRelease, IsStrictBuild, has_leading_zero, is_strict_identifier}
 use Rattle.nodejs_semver.specs.Npm.Malformed.{begins_malformed, ends_malformed, is_malformed}
 use Rattle.nodejs_semver.specs.Npm.Table.{Comparison, Partial, Sign, caret, compared, hyphen_lower, major}
 use Rattle.nodejs_semver.specs.Npm.Table.{hyphen_upper, minor, table, tilde, whole, wildcard}
@@ -32,7 +34,7 @@ is_short_identifier text = let run = prefix_len is_ascii_digit text in
 abbrev pub is_spelled : Bool → Bool → ℕ → List ℕ → Bool
 is_spelled loose zeros n digits = not (has_leading_zero digits) || (loose && (zeros || nat_lt 0 n))
 
--- a place: `x`, `X`, `*`, or a number of any value
+-- a place (xr): `x`, `X`, `*`, or a number of any value (nr)
 pub data IsPlace (loose zeros : Bool) : List ℕ → Option ℕ → Type 0 where
   any : (b : ℕ) → (b == 120 || b == 88 || b == 42) ≡ true → IsPlace loose zeros (b ∷ []) None
   number : (run : List ℕ) (n : ℕ) → IsNumber n run n → is_spelled loose zeros n run ≡ true
@@ -44,18 +46,18 @@ has_zeros a = elim a [ None ↦ true | Some M ↦ nat_lt 0 M ]
 
 -- the identifiers of a pre-release: strictly they are such, and loosely their text is as long at most
 abbrev pub may_stand : Bool → List ℕ → Bool
-may_stand loose ids = (if loose then nat_le (length ids) 128 else is_strict_list ids)
+may_stand loose ids = (if loose then nat_le (length ids) 128 else list_all is_strict_identifier (pieces ids))
     && list_all is_short_identifier (pieces ids)
 
 -- the partial of its places
 abbrev pub partial_of : Option ℕ → Option ℕ → Option ℕ → List Id → List Id → Partial
-partial_of (Some M) (Some m) (Some p) pre build =
-    whole (record { major = M; minor = m; patch = p; pre_release = pre; build = build })
-partial_of (Some M) (Some m) None pre build = minor M m
-partial_of (Some M) None c pre build = major M
-partial_of None b c pre build = wildcard
+partial_of (Some M) (Some m) (Some p) i j = whole (record { major = M; minor = m; patch = p; pre_release = i; build = j })
+partial_of (Some M) (Some m) None i j = minor M m
+partial_of (Some M) None c i j = major M
+partial_of None b c i j = wildcard
 
--- one to three places joined by dots, and behind the third a pre-release and build metadata, or nothing
+-- one to three places joined by dots (partial), and behind the third a pre-release and build metadata (qualifier), or
+-- nothing
 pub data IsPartial (loose : Bool) : List ℕ → Partial → Type 0 where
   one : (x : List ℕ) (a : Option ℕ) → IsPlace loose false x a → IsPartial loose x (partial_of a None None [] [])
   two : (x y : List ℕ) (a b : Option ℕ) → IsPlace loose false x a → IsPlace loose (has_zeros a) y b
@@ -73,7 +75,7 @@ spelling (compared c) =
 spelling caret = codes "^"
 spelling tilde = codes "~"
 
--- the sign of a word, with the whitespace behind it. A `=` behind `>` or `<` belongs to the sign,
+-- the sign of a word (of primitive, tilde and caret), with the whitespace behind it. A `=` behind `>` or `<` belongs to the sign,
 -- whitespace between them or not; `^` may have a `=` behind it, `~` one of `>`, `>=` and `=`, and `~>` one
 -- of `>` and `>=`.
 pub data IsSignText : List ℕ → Sign → Type 0 where
@@ -91,21 +93,19 @@ pub data IsSignText : List ℕ → Sign → Type 0 where
 abbrev pub is_mark : ℕ → Bool
 is_mark b = b == 118 || b == 61
 
--- `v` or nothing
-abbrev pub is_one_v : List ℕ → Bool
-is_one_v [] = true
-is_one_v (b ∷ []) = b == 118
-is_one_v (b ∷ c ∷ rest) = false
+-- the marks before a whole version that is compared: strictly one `v` at most, and loosely any
+abbrev pub are_whole_marks : Bool → List ℕ → Bool
+are_whole_marks loose marks = if loose then list_all is_mark marks else is_empty marks || bytes_eq marks (codes "v")
 
--- the marks that may stand between a sign and a partial: strictly one `v` at most before a whole version
--- that is compared, and else any, but no `=` first behind `>` and `<`
+-- the marks that may stand between a sign and a partial: strictly those before a whole version that is compared, and
+-- else any, but no `=` first behind `>` and `<`
 abbrev pub are_marks : Bool → Sign → Partial → List ℕ → Bool
-are_marks false (compared c) (whole v) marks = is_one_v marks
+are_marks false (compared c) (whole v) marks = are_whole_marks false marks
 are_marks loose (compared above) p marks = list_all is_mark marks && not (begins (λ b. b == 61) marks)
 are_marks loose (compared below) p marks = list_all is_mark marks && not (begins (λ b. b == 61) marks)
 are_marks loose s p marks = list_all is_mark marks
 
--- a word, the last one or not: a sign, marks and a partial. Without a sign the first mark is no `=`, since that
+-- a word (simple), the last one or not: a sign, marks and a partial. Without a sign the first mark is no `=`, since that
 -- would be the sign. Loosely it may also be malformed, and has then no comparators.
 pub data IsWord (loose include is_last : Bool) : List ℕ → List Comparison → Type 0 where
   ignored : (x : List ℕ) → loose ≡ true → is_malformed is_last x ≡ true → IsWord loose include is_last x []
@@ -121,29 +121,22 @@ pub data AreWords (loose include : Bool) : List ℕ → List Comparison → Type
   more : (x blank rest : List ℕ) (cs ds : List Comparison) → IsWord loose include false x cs → IsBlank blank
       → 0 < length blank → AreWords loose include rest ds → AreWords loose include (x ++ (blank ++ rest)) (cs ++ ds)
 
--- the marks before a whole version in a hyphen range: strictly one `v` at most, and loosely any
-abbrev pub are_whole_marks : Bool → List ℕ → Bool
-are_whole_marks loose marks = if loose then list_all is_mark marks else is_one_v marks
-
 -- any marks and whitespace
-pub record AreMarks (text : List ℕ) : Type 0 where
-  pub characters : List ℕ
-  pub spelled : text ≡ encode_utf8_all characters
-  pub each : list_all (λ c. is_mark c || is_whitespace c) characters ≡ true
+abbrev pub AreMarks : List ℕ → Type 0
+AreMarks text = (cs : List ℕ) × (text ≡ encode_utf8_all cs) × (list_all (λ c. is_mark c || is_whitespace c) cs ≡ true)
 
--- they may stand before an end of a hyphen range; but before a whole version that stays as it is written its marks alone
-abbrev pub is_free_upper : Bool → Partial → Bool
-is_free_upper include p = elim p [ whole v ↦ include || not (is_empty v.pre_release) | _ ↦ true ]
+-- they may stand before an end of a hyphen range that is a partial version, or a whole one of which this is true, that
+-- it is written anew; before another whole version stand marks as where it is compared
+abbrev pub is_free : (VersionValue → Bool) → Partial → Bool
+is_free changes p = elim p [ whole v ↦ changes v | _ ↦ true ]
 
-abbrev pub is_free_lower : Partial → Bool
-is_free_lower p = elim p [ whole v ↦ false | _ ↦ true ]
-
--- an alternative: nothing, a hyphen range or words
+-- an alternative (range): nothing, a hyphen range (hyphen) or words
 pub data IsAlternative (loose include : Bool) : List ℕ → List Comparison → Type 0 where
   nothing : IsAlternative loose include [] []
-  hyphen : (a x blank gap b y : List ℕ) (p q : Partial) → AreMarks a → (is_free_lower p || are_whole_marks loose a) ≡ true
-      → IsPartial loose x p → IsBlank blank → 0 < length blank → IsBlank gap → 0 < length gap → AreMarks b
-      → (is_free_upper include q || are_whole_marks loose b) ≡ true → IsPartial loose y q
+  hyphen : (a x blank gap b y : List ℕ) (p q : Partial) → AreMarks a
+      → (is_free (λ v. false) p || are_whole_marks loose a) ≡ true → IsPartial loose x p → IsBlank blank → 0 < length blank
+      → IsBlank gap → 0 < length gap → AreMarks b
+      → (is_free (λ v. include || not (is_release v)) q || are_whole_marks loose b) ≡ true → IsPartial loose y q
       → IsAlternative loose include (a ++ (x ++ (blank ++ (codes "-" ++ (gap ++ (b ++ y))))))
       (hyphen_lower include p (a ++ x) ++ hyphen_upper include q (b ++ y))
   words : (x : List ℕ) (cs : List Comparison) → AreWords loose include x cs → IsAlternative loose include x cs
@@ -152,7 +145,7 @@ pub data IsAlternative (loose include : Bool) : List ℕ → List Comparison →
 abbrev pub is_lost : Bool → List ℕ → List Comparison → Bool
 is_lost loose text cs = loose && (is_empty cs && (begins_malformed text && ends_malformed text))
 
--- the alternatives between bars, each without the whitespace around it
+-- the alternatives between bars (range-set), each without the whitespace around it
 pub data AreAlternatives (loose include : Bool) : List (List ℕ) → List (List Comparison) → Type 0 where
   none : AreAlternatives loose include [] []
   next : (piece text : List ℕ) (others : List (List ℕ)) (cs : List Comparison) (rest : List (List Comparison))

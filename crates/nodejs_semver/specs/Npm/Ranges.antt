@@ -39,8 +39,7 @@ satisfies v c = let r = precedence v c.version in
 
 -- the comparator names a pre-release of the same three numbers
 abbrev pub names : VersionValue → Comparison → Bool
-names v c = not (is_release c.version)
-    && ((c.version.major == v.major) && ((c.version.minor == v.minor) && (c.version.patch == v.patch)))
+names v c = let w = c.version in not (is_release w) && (w.major == v.major && (w.minor == v.minor && w.patch == v.patch))
 
 -- all comparators of the alternative are satisfied, and the version is a release, or pre-releases are
 -- included, or one comparator of this alternative names a pre-release of the same three numbers

@@ -36,37 +36,29 @@ made c v = record { sign = c; version = v; text = version_text v }
 abbrev pub counts : Bool → Comparison → Bool
 counts include c = include || not (elim c.sign [ at_least ↦ bytes_eq c.text (codes "0.0.0") | _ ↦ false ])
 
--- three numbers as a release, and as the least pre-release of it, `M.m.p-0`
-abbrev pub Numbers : Type 0
-Numbers = ℕ × ℕ × ℕ
-
-abbrev pub release : Numbers → VersionValue
-release n = release_value n.0 n.1 n.2
-
-abbrev pub lowest : Numbers → VersionValue
-lowest n = record (release n) { pre_release = Numeric 0 ∷ [] }
+-- the least pre-release of three numbers, `M.m.p-0`
+abbrev pub lowest : ℕ × ℕ × ℕ → VersionValue
+lowest n = record (release_value n.0 n.1 n.2) { pre_release = Numeric 0 ∷ [] }
 
 -- the numbers of a partial, with zeros behind them
-abbrev pub first : Partial → Numbers
+abbrev pub first : Partial → ℕ × ℕ × ℕ
 first p = elim p [ major M ↦ (M, 0, 0) | minor M m ↦ (M, m, 0) | whole v ↦ (v.major, v.minor, v.patch) | _ ↦ (0, 0, 0) ]
 
 -- those of the next release above M, above M.m, and above the M.m of a whole version
-abbrev pub next : Partial → Numbers
+abbrev pub next : Partial → ℕ × ℕ × ℕ
 next p =
     elim p [ major M ↦ (M + 1, 0, 0) | minor M m ↦ (M, m + 1, 0) | whole v ↦ (v.major, v.minor + 1, 0) | _ ↦ (0, 0, 0) ]
 
 -- those of the next release in which the first number changes that is not 0, or the last one written
-abbrev pub next_changed : Partial → Numbers
-next_changed (minor M m) = if M == 0 then (0, m + 1, 0) else (M + 1, 0, 0)
-next_changed (whole v) = if not (v.major == 0) then (v.major + 1, 0, 0)
-    else if not (v.minor == 0) then (0, v.minor + 1, 0) else (0, 0, v.patch + 1)
-next_changed p = next p
+abbrev pub next_changed : Partial → ℕ × ℕ × ℕ
+next_changed p = if not ((first p).0 == 0) then ((first p).0 + 1, 0, 0)
+    else elim p [ whole v ↦ if v.minor == 0 then (0, 0, v.patch + 1) else next (whole v) | q ↦ next q ]
 
 -- `>=` of three numbers: of their least pre-release if pre-releases are included; and `<` of that of others
-abbrev pub from : Bool → Numbers → Comparison
-from include n = made at_least (if include then lowest n else release n)
+abbrev pub from : Bool → ℕ × ℕ × ℕ → Comparison
+from include n = made at_least (if include then lowest n else release_value n.0 n.1 n.2)
 
-abbrev pub under : Numbers → Comparison
+abbrev pub under : ℕ × ℕ × ℕ → Comparison
 under n = made below (lowest n)
 
 abbrev pub no_build : VersionValue → VersionValue
@@ -79,27 +71,24 @@ caret_from include v = if include && (is_release v && (v.major == 0)) then from 
 
 -- the table: by the sign and by the partial, whose text is `text`
 abbrev pub table : Bool → Sign → Partial → List ℕ → List Comparison
-table include (compared below) wildcard text = under (0, 0, 0) ∷ []
+table include (compared c) (whole v) text = record { sign = c; version = v; text = text } ∷ []
+table include (compared below) p text = under (first p) ∷ []
 table include (compared above) wildcard text = under (0, 0, 0) ∷ []
 table include s wildcard text = []
 table include caret (whole v) text = caret_from include v ∷ (under (next_changed (whole v)) ∷ [])
 table include tilde (whole v) text = made at_least (no_build v) ∷ (under (next (whole v)) ∷ [])
-table include (compared c) (whole v) text = record { sign = c; version = v; text = text } ∷ []
 table include caret p text = from include (first p) ∷ (under (next_changed p) ∷ [])
 table include tilde p text = from false (first p) ∷ (under (next p) ∷ [])
 table include (compared equal) p text = from include (first p) ∷ (under (next p) ∷ [])
 table include (compared at_least) p text = from include (first p) ∷ []
 table include (compared above) p text = from include (next p) ∷ []
-table include (compared below) p text = under (first p) ∷ []
 table include (compared at_most) p text = under (next p) ∷ []
 
 -- the ends of a hyphen range. The lower one gets `-0` as a text, which belongs to the build where there is
 -- one.
 abbrev pub hyphen_lower : Bool → Partial → List ℕ → List Comparison
-hyphen_lower include (whole v) text = if not (include && is_release v)
-    then table include (compared at_least) (whole v) text
-    else if is_empty v.build then from true (first (whole v)) ∷ []
-    else table include (compared at_least) (whole v) (text ++ codes "-0")
+hyphen_lower true (whole v) text = if is_release v && is_empty v.build then from true (first (whole v)) ∷ []
+    else table true (compared at_least) (whole v) (if is_release v then text ++ codes "-0" else text)
 hyphen_lower include p text = table include (compared at_least) p text
 
 abbrev pub hyphen_upper : Bool → Partial → List ℕ → List Comparison

@@ -1,38 +1,27 @@
 -- Statement: the version texts of node-semver's strict reading, its default, and of its loose one.
 use Rattle.std.specs.Prelude.{◌≡◌, ◌⊎◌, ◌≤◌, ℕ, true, false, List, [], ◌++◌}
 use Rattle.std.specs.Prelude.{codes, drop, length}
-use Rattle.std.specs.List.{prefix_len}
+use Rattle.std.specs.List.{list_all, prefix_len}
 use Rattle.std.specs.Str.{chars}
 use Rattle.semver_core.specs.Text.Characters.{IsTrim}
-use Rattle.semver_core.specs.Text.Identifiers.{Id}
+use Rattle.semver_core.specs.Text.Identifiers.{Id, pieces}
 use Rattle.semver_core.specs.Text.Numbers.{IsNumber}
 use Rattle.semver_core.specs.Values.Versions.{VersionValue}
 use Rattle.semver_core.specs.declared.TheConstants.{MAX_LENGTH}
-use Rattle.nodejs_semver.specs.Npm.Grammar.{IsPreRelease, IsStrictBuild, IsStrictNumber, is_strict_list}
+use Rattle.nodejs_semver.specs.Npm.Grammar.{IsPreRelease, IsStrictBuild, IsStrictNumber, is_strict_identifier}
 use Rattle.nodejs_semver.specs.Npm.RangeText.{AreMarks, is_mark}
 
 -- the whole text is this version, in a reading that has these marks, numbers and pre-releases
-pub record IsWritten (Marks : List ℕ → Type 0) (Number : List ℕ → ℕ → Type 0)
-    (PreRelease : List ℕ → List Id → Type 0) (text : List ℕ) (v : VersionValue) : Type 0 where
-  pub mark : List ℕ
-  pub major : List ℕ
-  pub minor : List ℕ
-  pub patch : List ℕ
-  pub pre_release : List ℕ
-  pub build : List ℕ
-  pub divided : text ≡ mark ++ (major ++ (codes "." ++ (minor ++ (codes "." ++ (patch
-      ++ (pre_release ++ build))))))
-  pub mark_is : Marks mark
-  pub major_is : Number major v.major
-  pub minor_is : Number minor v.minor
-  pub patch_is : Number patch v.patch
-  pub pre_release_is : PreRelease pre_release v.pre_release
-  pub build_is : IsStrictBuild build v.build
+pub data IsWritten (Marks : List ℕ → Type 0) (Number : List ℕ → ℕ → Type 0) (PreRelease : List ℕ → List Id → Type 0)
+    : List ℕ → VersionValue → Type 0 where
+  written : (mark x y z pre build : List ℕ) (v : VersionValue) → Marks mark → Number x v.major → Number y v.minor
+      → Number z v.patch → PreRelease pre v.pre_release → IsStrictBuild build v.build
+      → IsWritten Marks Number PreRelease (mark ++ (x ++ (codes "." ++ (y ++ (codes "." ++ (z ++ (pre ++ build))))))) v
 
 -- strict: one `v` or none, no leading zeros, `-` before the pre-release
 abbrev pub IsStrictVersion : ℕ → List ℕ → VersionValue → Type 0
-IsStrictVersion limit =
-    IsWritten (λ mark. (mark ≡ []) ⊎ (mark ≡ codes "v")) (IsStrictNumber limit) (IsPreRelease false is_strict_list)
+IsStrictVersion limit = IsWritten (λ mark. (mark ≡ []) ⊎ (mark ≡ codes "v")) (IsStrictNumber limit)
+    (IsPreRelease false (λ ids. list_all is_strict_identifier (pieces ids)))
 
 -- loose: any of `v`, `=` and whitespace, leading zeros, and a pre-release without `-`
 abbrev pub IsLooseVersion : ℕ → List ℕ → VersionValue → Type 0

@@ -4,7 +4,7 @@ ghost use Rattle.std.specs.Prelude.{◌&&◌, ◌↔◌, ◌≡◌, ◌⊎◌, [
 ghost use Rattle.nodejs_semver.specs.Words.{accepts, IsLeastOf, Means, not, OnOk, RefusedOnlyIf};
 ghost use Rattle.nodejs_semver.specs.Words.{Span, true, unwrap_or, VersionValue, Writes};
 
-use crate::{Failure, MAX_SAFE_INTEGER, Range, RangeOf, SemverError, Version};
+use crate::{Allocated, Failure, MAX_SAFE_INTEGER, Range, RangeOf, SemverError, Version};
 use semver_core::{VersionPoint, Versioned};
 use std::alloc::Global;
 
@@ -48,12 +48,11 @@ pub fn headline(alloc: Global, a: &str, b: &str) -> Result<Findings, Failure<Sem
 {
     let first = Range::parse(alloc, a)?;
     let second = Range::parse(alloc, b)?;
-    findings_of(alloc, first, &second)
+    Ok(findings_of(alloc, first, &second)?)
 }
 
 // What the public calls return for two ranges.
-fn findings_of(alloc: Global, first: Range, other: &Range) -> Result<Findings, Failure<SemverError>>
-    ensures never_refused { RefusedOnlyIf result ⊥ }
+fn findings_of(alloc: Global, first: Range, other: &Range) -> Allocated<Findings>
     ensures first { IfOk result (λ found. found.first ≡ first) }
     ensures both { IfOk result (λ found. (v : VersionValue) →
         accepts (unwrap_or found.both []) v true

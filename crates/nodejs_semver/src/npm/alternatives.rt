@@ -168,6 +168,9 @@ pub(crate) fn set_ranged<'a>(alloc: Global, found: &mut Intervals<VersionRef<'a>
     // They accept what the alternatives do.
     ensures accepts { AcceptAsRanged found.old.items found.new.items }
 {
+    if found.len() == 1 {
+        return;
+    }
     if is_some_unbounded(found) {
         *found = one(alloc, Interval::default());
     } else if found.is_empty() {

@@ -1,22 +1,42 @@
 // The reader of common range texts as node-semver's strict reading has them, in one pass from the
 // left.
 
-ghost use Rattle.std.specs.Prelude.{◌++◌, ◌<◌, ◌∷◌, ◌≡◌, IfOk, IfSome, [], true};
-ghost use Rattle.nodejs_semver.specs.Words.{bounds_view, has_bars, interval, is_interval, IsTrue};
-ghost use Rattle.nodejs_semver.specs.Words.{length, OnErr, OnOk, option_to_list, precedence};
-ghost use Rattle.nodejs_semver.specs.Internal.{NpmParts.npm_sign_view, NpmFronts.AreParts};
-ghost use Rattle.nodejs_semver.specs.Internal.NpmFronts.{IsPartAt, IsSignAt, IsWordAt, is_below};
+ghost use Rattle.std.specs.Prelude.{◌++◌, ◌<◌, ◌∷◌, ◌≡◌, IfOk, IfSome, List, Some, [], false, true};
+ghost use Rattle.std.specs.Prelude.{ℕ};
+ghost use Rattle.nodejs_semver.specs.Words.{Bool, bounds_view, comparator_view, has_bars, interval};
+ghost use Rattle.nodejs_semver.specs.Words.{is_interval, IsTrue, length, MAX_SAFE_INTEGER, OnErr};
+ghost use Rattle.nodejs_semver.specs.Words.{OnOk, option_to_list, precedence, rest_view};
+ghost use Rattle.nodejs_semver.specs.Internal.NpmFronts.{AreJoined, AreParts, IsLeft, IsPartAt};
+ghost use Rattle.nodejs_semver.specs.Internal.NpmFronts.{IsSignAt, IsTried, IsWordAt, is_below};
+ghost use Rattle.nodejs_semver.specs.Internal.NpmParts.{npm_partial_view, npm_sign_view};
+ghost use Rattle.nodejs_semver.specs.{Internal.NpmWords.counted_front, Npm.Table.compared};
 
 use crate::Allocated;
-use crate::npm::comparators::row;
-use crate::npm::partial::Sign;
-use crate::npm::places::partial_front;
+use crate::npm::comparators::{caret, compared, row, tilde};
+use crate::npm::partial::{Partial, Sign};
+use crate::npm::places::{is_over, partial_front};
+use crate::npm::versions::{dotted_number, strict_number};
 use crate::range::Intervals;
-use crate::readers::{Bounds, Comparator, Found, after_bars};
+use crate::readers::{Bounds, Comparator, Found, after_bars, release};
 use semver_core::VersionRef;
 use semver_core::cuts::{Bound, Interval};
 
-// The sign at the front, and what follows it. Whitespace behind it is not skipped.
+// The comparator at the front, and what follows it. Whitespace behind it is not skipped.
+#[inline(always)]
+fn comparator_front(text: &[u8]) -> (Comparator, &[u8])
+    ensures { IsSignAt text.now (compared (comparator_view result.0)) result.1.now }
+{
+    match text {
+        [b'>', b'=', rest @ ..] => (Comparator::AtLeast, rest),
+        [b'>', rest @ ..] => (Comparator::Above, rest),
+        [b'<', b'=', rest @ ..] => (Comparator::AtMost, rest),
+        [b'<', rest @ ..] => (Comparator::Below, rest),
+        [b'=', rest @ ..] => (Comparator::Equal, rest),
+        _ => (Comparator::Equal, text),
+    }
+}
+
+// The sign at the front, and what follows it.
 #[inline(always)]
 fn sign_front(text: &[u8]) -> (Sign, &[u8])
     ensures { IsSignAt text.now (npm_sign_view result.0) result.1.now }
@@ -24,17 +44,66 @@ fn sign_front(text: &[u8]) -> (Sign, &[u8])
     match text {
         [b'^', rest @ ..] => (Sign::Caret, rest),
         [b'~', rest @ ..] => (Sign::Tilde, rest),
-        [b'>', b'=', rest @ ..] => (Sign::Compared(Comparator::AtLeast), rest),
-        [b'>', rest @ ..] => (Sign::Compared(Comparator::Above), rest),
-        [b'<', b'=', rest @ ..] => (Sign::Compared(Comparator::AtMost), rest),
-        [b'<', rest @ ..] => (Sign::Compared(Comparator::Below), rest),
-        [b'=', rest @ ..] => (Sign::Compared(Comparator::Equal), rest),
-        _ => (Sign::Compared(Comparator::Equal), text),
+        _ => {
+            let (comparator, rest) = comparator_front(text);
+            (Sign::Compared(comparator), rest)
+        }
+    }
+}
+
+// What follows a partial of which only the numbers were read, where a wildcard or no more stands
+// behind these, and then the text ends or goes on with a space or a bar.
+#[inline(always)]
+fn after_numbers(text: &[u8]) -> Option<&[u8]>
+    ensures { IfSome result (λ rest. IsLeft text.now rest.now) }
+{
+    match text {
+        [b'.', b'x' | b'X' | b'*', rest @ ..] if is_over(rest) => Some(rest),
+        _ if is_over(text) => Some(text),
+        _ => None,
+    }
+}
+
+// The wildcard at the front, and what follows it, where the text ends there or goes on with a space
+// or a bar.
+#[inline(always)]
+fn wildcard_front(text: &[u8]) -> Option<(Partial<'_>, &[u8])>
+    ensures { IfSome result (λ p. Some (npm_partial_view p.0, p.1.now)
+        ≡ counted_front false MAX_SAFE_INTEGER text.now) }
+{
+    if matches!(text, [b'x' | b'X' | b'*', ..]) && is_over(&text[1..]) {
+        Some((Partial::Wildcard, &text[1..]))
+    } else {
+        None
+    }
+}
+
+// The partial at the front, and what follows it, where it has no identifiers, stands alone or
+// begins with a number, and the text ends behind it or goes on with a space or a bar.
+#[inline(always)]
+#[tactic(auto, using(crate::proofs::Strict::CommonReads::short_fronts))]
+fn short_front(text: &[u8]) -> Option<(Partial<'_>, &[u8])>
+    ensures { IfSome result (λ p. Some (npm_partial_view p.0, p.1.now)
+        ≡ counted_front false MAX_SAFE_INTEGER text.now) }
+{
+    let Some((major, rest)) = strict_number(text) else {
+        return wildcard_front(text);
+    };
+    let Some((minor, rest)) = dotted_number(rest) else {
+        return Some((Partial::Major(major), after_numbers(rest)?));
+    };
+    let Some((patch, rest)) = dotted_number(rest) else {
+        return Some((Partial::Minor(major, minor), after_numbers(rest)?));
+    };
+    if is_over(rest) {
+        Some((Partial::Whole(release(major, minor, patch)), rest))
+    } else {
+        None
     }
 }
 
 // The bounds of the word at the front, and what follows it.
-#[inline(always)]
+#[inline(never)]
 fn word(include: bool, text: &[u8]) -> Option<(Bounds<'_>, &[u8])>
     ensures { IfSome result (λ w. IsWordAt include text.now (bounds_view w.0) w.1.now) }
 {
@@ -49,12 +118,21 @@ fn word(include: bool, text: &[u8]) -> Option<(Bounds<'_>, &[u8])>
     Some((bounds, rest))
 }
 
-// The same of a second word.
-#[inline(never)]
-fn other_word(include: bool, text: &[u8]) -> Option<(Bounds<'_>, &[u8])>
+// The same of a comparator and a short partial.
+#[inline(always)]
+#[tactic(auto, using(crate::proofs::Strict::CommonReads::words_found))]
+fn comparison(include: bool, text: &[u8]) -> Option<(Bounds<'_>, &[u8])>
     ensures { IfSome result (λ w. IsWordAt include text.now (bounds_view w.0) w.1.now) }
 {
-    word(include, text)
+    let (comparator, behind) = comparator_front(text);
+    let (partial, rest) = short_front(behind)?;
+    let bounds = compared(
+        include,
+        comparator,
+        &partial,
+        &behind[..behind.len() - rest.len()],
+    )?;
+    Some((bounds, rest))
 }
 
 // The word that stands behind a space, where it has a comparator.
@@ -68,25 +146,17 @@ fn second_word(text: &[u8]) -> Option<&[u8]>
     }
 }
 
-// The bounds of the part at the front, and what follows it: a word, or two words with a space
-// between them, of which the first has no upper bound and the second no lower one.
+// The bounds of two words, of which the first has no upper bound and the second no lower one.
 #[inline(always)]
-fn part(include: bool, text: &[u8]) -> Option<(Bounds<'_>, &[u8])>
-    ensures { IfSome result (λ p. IsPartAt include text.now (bounds_view p.0) p.1.now) }
+fn joined<'a>(first: Bounds<'a>, second: Bounds<'a>) -> Option<Bounds<'a>>
+    ensures { IfSome result (λ b. AreJoined (bounds_view first.entry) (bounds_view second.entry)
+        (bounds_view b)) }
 {
-    let (first, rest) = word(include, text)?;
-    let Some(behind) = second_word(rest) else {
-        return Some((first, rest));
-    };
-    let (second, rest) = other_word(include, behind)?;
     match (first.upper, second.lower) {
-        (Bound::Unbounded, Bound::Unbounded) => {
-            let bounds = Bounds {
-                lower: first.lower,
-                upper: second.upper,
-            };
-            Some((bounds, rest))
-        }
+        (Bound::Unbounded, Bound::Unbounded) => Some(Bounds {
+            lower: first.lower,
+            upper: second.upper,
+        }),
         _ => None,
     }
 }
@@ -143,6 +213,166 @@ fn push<'a>(bounds: Bounds<'a>, found: &mut Intervals<VersionRef<'a>>) -> Alloca
     }
 }
 
+// Adds the interval of a part that has these bounds, and returns what follows the part.
+#[inline(always)]
+fn push_read<'a>(
+    bounds: Option<Bounds<'a>>,
+    rest: &'a [u8],
+    found: &mut Intervals<VersionRef<'a>>,
+) -> Allocated<Option<&'a [u8]>>
+    ensures added { (include : Bool) → (text : List ℕ) →
+        IfSome bounds.entry (λ b. IsPartAt include text (bounds_view b) rest.now) →
+        IfOk result (λ after. IsTried include text (rest_view after) found.old.items
+        found.new.items) }
+    ensures memory { OnErr result (0 < length found.old.items) }
+{
+    let Some(bounds) = bounds else {
+        return Ok(None);
+    };
+    push(bounds, found)?;
+    Ok(Some(rest))
+}
+
+// Adds the interval of the part at the front, and returns what follows it: one word, or two with a
+// space between them.
+#[inline(never)]
+fn push_any<'a>(
+    include: bool,
+    text: &'a [u8],
+    found: &mut Intervals<VersionRef<'a>>,
+) -> Allocated<Option<&'a [u8]>>
+    ensures added { IfOk result (λ rest. IsTried include text.now (rest_view rest) found.old.items
+        found.new.items) }
+    ensures memory { OnErr result (0 < length found.old.items) }
+{
+    let Some((first, rest)) = word(include, text) else {
+        return Ok(None);
+    };
+    let Some(behind) = second_word(rest) else {
+        return push_read(Some(first), rest, found);
+    };
+    let Some((second, rest)) = word(include, behind) else {
+        return Ok(None);
+    };
+    push_read(joined(first, second), rest, found)
+}
+
+// The same of one comparison, or of two.
+fn push_comparisons<'a>(
+    include: bool,
+    text: &'a [u8],
+    found: &mut Intervals<VersionRef<'a>>,
+) -> Allocated<Option<&'a [u8]>>
+    ensures added { IfOk result (λ rest. IsTried include text.now (rest_view rest) found.old.items
+        found.new.items) }
+    ensures memory { OnErr result (0 < length found.old.items) }
+{
+    let Some((first, rest)) = comparison(include, text) else {
+        return Ok(None);
+    };
+    let Some(behind) = second_word(rest) else {
+        return push_read(Some(first), rest, found);
+    };
+    let Some((second, rest)) = comparison(include, behind) else {
+        return Ok(None);
+    };
+    push_read(joined(first, second), rest, found)
+}
+
+// The same of a short partial behind a caret.
+#[tactic(auto, using(crate::proofs::Strict::CommonReads::words_found))]
+fn push_caret<'a>(
+    include: bool,
+    text: &'a [u8],
+    found: &mut Intervals<VersionRef<'a>>,
+) -> Allocated<Option<&'a [u8]>>
+    ensures added { IfOk result (λ rest. IsTried include (94 ∷ text.now) (rest_view rest)
+        found.old.items found.new.items) }
+    ensures memory { OnErr result (0 < length found.old.items) }
+{
+    let Some((partial, rest)) = short_front(text) else {
+        return Ok(None);
+    };
+    push_read(caret(include, &partial), rest, found)
+}
+
+// The same behind a tilde.
+#[tactic(auto, using(crate::proofs::Strict::CommonReads::words_found))]
+fn push_tilde<'a>(
+    include: bool,
+    text: &'a [u8],
+    found: &mut Intervals<VersionRef<'a>>,
+) -> Allocated<Option<&'a [u8]>>
+    ensures added { IfOk result (λ rest. IsTried include (126 ∷ text.now) (rest_view rest)
+        found.old.items found.new.items) }
+    ensures memory { OnErr result (0 < length found.old.items) }
+{
+    let Some((partial, rest)) = short_front(text) else {
+        return Ok(None);
+    };
+    push_read(tilde(include, &partial), rest, found)
+}
+
+// The same of a short partial alone.
+#[tactic(auto, using(crate::proofs::Strict::CommonReads::words_found))]
+fn push_plain<'a>(
+    include: bool,
+    text: &'a [u8],
+    found: &mut Intervals<VersionRef<'a>>,
+) -> Allocated<Option<&'a [u8]>>
+    ensures added { IfOk result (λ rest. IsTried include text.now (rest_view rest) found.old.items
+        found.new.items) }
+    ensures memory { OnErr result (0 < length found.old.items) }
+{
+    let Some((partial, rest)) = short_front(text) else {
+        return Ok(None);
+    };
+    let piece = &text[..text.len() - rest.len()];
+    push_read(
+        compared(include, Comparator::Equal, &partial, piece),
+        rest,
+        found,
+    )
+}
+
+// Adds the interval of the part at the front where its partials are short ones.
+#[inline(always)]
+fn push_short<'a>(
+    include: bool,
+    text: &'a [u8],
+    found: &mut Intervals<VersionRef<'a>>,
+) -> Allocated<Option<&'a [u8]>>
+    ensures added { IfOk result (λ rest. IsTried include text.now (rest_view rest) found.old.items
+        found.new.items) }
+    ensures memory { OnErr result (0 < length found.old.items) }
+{
+    match text {
+        [b'^', rest @ ..] => push_caret(include, rest, found),
+        [b'~', rest @ ..] => push_tilde(include, rest, found),
+        [b'<' | b'=' | b'>', ..] => push_comparisons(include, text, found),
+        _ => push_plain(include, text, found),
+    }
+}
+
+// Adds the interval of the part at the front. Mostly its partials are short ones. Words with `v` in
+// front are not read here, so that none begins with a letter before `x`, as tags like `latest` do.
+#[inline(always)]
+fn push_part<'a>(
+    include: bool,
+    text: &'a [u8],
+    found: &mut Intervals<VersionRef<'a>>,
+) -> Allocated<Option<&'a [u8]>>
+    ensures added { IfOk result (λ rest. IsTried include text.now (rest_view rest) found.old.items
+        found.new.items) }
+    ensures memory { OnErr result (0 < length found.old.items) }
+{
+    match push_short(include, text, found)? {
+        Some(rest) => Ok(Some(rest)),
+        None if matches!(text, [b'a'..=b'w', ..]) => Ok(None),
+        None => push_any(include, text, found),
+    }
+}
+
 /// Adds the intervals of a common text to an empty list, one for each part whose cuts meet, and
 /// returns whether the text is one. If it is not, the list may hold some of them.
 ///
@@ -160,16 +390,16 @@ pub(crate) fn read_common<'a>(
 {
     let mut rest = text;
     'parts: loop {
-        let Some((bounds, behind)) = part(include, rest) else {
+        let Some(behind) = push_part(include, rest, found)? else {
             return Ok(false);
         };
-        push(bounds, found)?;
         if behind.is_empty() {
             return Ok(true);
         }
         let Some(next) = after_bars(behind) else {
             return Ok(false);
         };
+        found.reserve_for(next)?;
         rest = next;
     }
 }

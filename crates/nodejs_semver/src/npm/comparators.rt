@@ -58,9 +58,9 @@ fn is_within(room: usize, ids: IdentifierRefs<'_>) -> bool
 // Whether a version prints at most as many characters as a version text may have, without its
 // build.
 #[inline(never)]
-fn prints_within(version: &VersionRef<'_>) -> bool
-    requires { within (Spec.first (Spec.whole version.now)) ≡ true }
-    ensures { result ≡ nat_le (length (version_text (no_build version.now))) MAX_LENGTH }
+fn prints_within(version: VersionRef<'_>) -> bool
+    requires { within (Spec.first (Spec.whole version)) ≡ true }
+    ensures { result ≡ nat_le (length (version_text (no_build version.entry))) MAX_LENGTH }
 {
     let (major, minor, patch) = (version.major(), version.minor(), version.patch());
     let numbers = decimal_len(major) + decimal_len(minor) + decimal_len(patch) + 2;
@@ -76,7 +76,7 @@ fn prints_short(version: &VersionRef<'_>) -> bool
     if version.is_release() {
         return true;
     }
-    prints_within(version)
+    prints_within(version.copy())
 }
 
 // Whether a version is `0.0.0`, whatever its build is.
@@ -184,9 +184,9 @@ fn until<'a>(lower: Bound<VersionRef<'a>>, end: Numbers) -> Option<Bounds<'a>>
     }
 }
 
-// `^`
+/// `^`
 #[inline(always)]
-fn caret<'a>(include: bool, partial: &Partial<'a>) -> Option<Bounds<'a>>
+pub(crate) fn caret<'a>(include: bool, partial: &Partial<'a>) -> Option<Bounds<'a>>
     requires within { within (first (npm_partial_view partial.now)) ≡ true }
     requires normal { are_normal (npm_partial_view partial.now) ≡ true }
     ensures { (text : List ℕ) →
@@ -234,9 +234,9 @@ fn caret_from<'a>(include: bool, version: &VersionRef<'a>) -> Bound<VersionRef<'
     }
 }
 
-// `~`
+/// `~`
 #[inline(always)]
-fn tilde<'a>(include: bool, partial: &Partial<'a>) -> Option<Bounds<'a>>
+pub(crate) fn tilde<'a>(include: bool, partial: &Partial<'a>) -> Option<Bounds<'a>>
     requires within { within (first (npm_partial_view partial.now)) ≡ true }
     requires normal { are_normal (npm_partial_view partial.now) ≡ true }
     ensures { (text : List ℕ) →
@@ -345,9 +345,9 @@ fn wildcard<'a>(comparator: Comparator) -> Option<Bounds<'a>>
     }
 }
 
-// A comparator, or none, before a partial, which has this text.
+/// A comparator, or none, before a partial, which has this text.
 #[inline(always)]
-fn compared<'a>(
+pub(crate) fn compared<'a>(
     include: bool,
     comparator: Comparator,
     partial: &Partial<'a>,

@@ -1,15 +1,18 @@
 // The malformed words of range texts that node-semver's loose reading ignores.
 
-ghost use Rattle.std.specs.List.{list_all, list_any, prefix_len};
-ghost use Rattle.std.specs.Prelude.{◌≡◌, ◌==◌, ◌≤◌, ◌&&◌, ◌||◌, codes, length, not, true};
+ghost use Rattle.std.specs.List.{list_all, list_any, prefix_len, suffix_len};
+ghost use Rattle.std.specs.Prelude.{◌≡◌, ◌==◌, ◌-◌, ◌≤◌, ◌&&◌, ◌||◌, codes, drop, length, nat_lt};
+ghost use Rattle.std.specs.Prelude.{not, take, true};
 ghost use Rattle.std.specs.Str.{bytes_eq};
+ghost use Rattle.nodejs_semver.specs.Internal.NpmMalformed as Bytes;
 ghost use Rattle.nodejs_semver.specs.Npm.Malformed as Text;
-ghost use Rattle.semver_core.specs.Text.Characters.{ends};
+ghost use Rattle.semver_core.specs.Text.Characters.{begins, ends};
+ghost use Rattle.semver_core.specs.Text.Identifiers.{pieces};
 
 // Whether a character may stand in such a word.
 #[inline(always)]
 fn is_visible(byte: u8) -> bool
-    ensures { result ≡ Text.is_visible byte }
+    ensures { result ≡ Bytes.is_visible byte }
 {
     matches!(byte, b'!'..=b'~')
 }
@@ -49,7 +52,7 @@ fn is_last(byte: u8) -> bool
 // Whether a character may stand in a well-formed word.
 #[inline(always)]
 fn is_inner(byte: u8) -> bool
-    ensures { result ≡ Text.is_inner byte }
+    ensures { result ≡ Bytes.is_inner byte }
 {
     is_sign(byte) || is_last(byte) || matches!(byte, b'+' | b'.')
 }
@@ -57,7 +60,7 @@ fn is_inner(byte: u8) -> bool
 /// How many such characters stand at the front.
 #[tactic(auto, using(crate::proofs::Strict::Places::prefix_steps))]
 pub(crate) fn visible_len(text: &[u8]) -> usize
-    ensures value { result ≡ prefix_len Text.is_visible text.now }
+    ensures value { result ≡ prefix_len Bytes.is_visible text.now }
     ensures fits { result ≤ length text.now }
 {
     'visible: for at in 0..text.len() {
@@ -71,7 +74,7 @@ pub(crate) fn visible_len(text: &[u8]) -> usize
 // Whether characters are those of a well-formed word.
 #[inline(always)]
 fn are_inner(word: &[u8]) -> bool
-    ensures { result ≡ list_all Text.is_inner word.now }
+    ensures { result ≡ list_all Bytes.is_inner word.now }
 {
     word.iter().all(|byte| is_inner(*byte))
 }
@@ -82,26 +85,6 @@ fn are_marks_or_signs(word: &[u8]) -> bool
     ensures { result ≡ list_all (λ b. Text.is_sign b || b == 118) word.now }
 {
     word.iter().all(|byte| is_mark_or_sign(*byte))
-}
-
-// The text behind its first dot.
-#[tactic(auto, using(crate::proofs::Strict::Malformed::dots))]
-fn after_dot(text: &[u8]) -> &[u8]
-    ensures { result.now ≡ Text.after_dot text.now }
-{
-    'bytes: for at in 0..text.len() {
-        if text[at] == b'.' {
-            return &text[at + 1..];
-        }
-    }
-    b""
-}
-
-// Whether a word has four parts between dots, of which the third is one character.
-fn has_four_parts(word: &[u8]) -> bool
-    ensures { result ≡ Text.has_four_parts word.now }
-{
-    matches!(after_dot(after_dot(word)), [_, b'.', ..])
 }
 
 // Whether its last character is of a sign.
@@ -125,43 +108,61 @@ fn is_open(word: &[u8]) -> bool
     ends_in_sign(word) || matches!(word, [b'-'])
 }
 
-// Whether the characters in front of the first dot are such as begin well-formed words.
-#[tactic(auto, using(crate::proofs::Strict::Malformed::firsts))]
-fn are_first(text: &[u8]) -> bool
-    ensures { result ≡ Text.are_first text.now }
+// Whether a part begins as well-formed words do.
+fn begins_place(part: &[u8]) -> bool
+    ensures { result ≡ begins Text.is_first part.now }
 {
-    'bytes: for at in 0..text.len() {
-        if text[at] == b'.' {
-            return true;
-        }
-        if !is_first(text[at]) {
-            return false;
-        }
-    }
-    true
+    matches!(part, [first, ..] if is_first(*first))
 }
 
-// Whether the part at the front may be a place.
-fn begins_place(text: &[u8]) -> bool
-    ensures { result ≡ Text.begins_place text.now }
+// Whether the first three parts between dots do.
+fn begin_places(word: &[u8]) -> bool
+    ensures { result ≡ list_all (begins Text.is_first) (take 3 (pieces word.now)) }
 {
-    matches!(text, [first, ..] if is_first(*first)) && are_first(text)
+    word.split(|byte| *byte == b'.').take(3).all(begins_place)
 }
 
-// Whether the first two parts of a word and the front of its third may be places.
-fn begins_places(word: &[u8]) -> bool
-    ensures { result ≡ Text.begins_places word.now }
+// Whether a part has only characters that begin well-formed words.
+fn is_place(part: &[u8]) -> bool
+    ensures { result ≡ list_all Text.is_first part.now }
 {
-    let second = after_dot(word);
-    let third = after_dot(second);
-    begins_place(word)
-        && (second.is_empty() || begins_place(second))
-        && (third.is_empty() || matches!(third, [first, ..] if is_first(*first)))
+    part.iter().all(|byte| is_first(*byte))
+}
+
+// Whether the first two parts between dots do.
+fn are_first_places(word: &[u8]) -> bool
+    ensures { result ≡ list_all (list_all Text.is_first) (take 2 (pieces word.now)) }
+{
+    word.split(|byte| *byte == b'.').take(2).all(is_place)
+}
+
+// How many parts a word has between dots.
+fn part_count(word: &[u8]) -> usize
+    ensures { result ≡ length (pieces word.now) }
+{
+    word.split(|byte| *byte == b'.').count()
+}
+
+fn is_long(part: &[u8]) -> bool
+    ensures { result ≡ nat_lt 1 (length part.now) }
+{
+    part.len() > 1
+}
+
+// Whether its third part, if there is one, is more than one character.
+fn has_long_third(word: &[u8]) -> bool
+    ensures { result ≡ list_all (λ part. nat_lt 1 (length part))
+        (take 1 (drop 2 (pieces word.now))) }
+{
+    word.split(|byte| *byte == b'.')
+        .skip(2)
+        .take(1)
+        .all(is_long)
 }
 
 // The text behind its first character, or behind `~>`.
 fn behind_sign(word: &[u8]) -> &[u8]
-    ensures { result.now ≡ Text.behind_sign word.now }
+    ensures { result.now ≡ Bytes.behind_sign word.now }
 {
     match word {
         [b'~', b'>', rest @ ..] => rest,
@@ -193,13 +194,20 @@ fn has_one_sign(word: &[u8]) -> bool
     has_star(word) || are_unsigned(behind_sign(word))
 }
 
+// Whether the parts of a word may be places.
+fn has_places(word: &[u8]) -> bool
+    ensures { result ≡ Text.are_places (pieces word.now) }
+{
+    begin_places(word) && are_first_places(word) && (part_count(word) <= 3 || has_long_third(word))
+}
+
 // Whether a word begins and ends as well-formed words do.
 fn has_right_ends(word: &[u8]) -> bool
     ensures { result ≡ (ends Text.is_last word.now
         && (not (list_all (λ b. Text.is_sign b || b == 118) word.now)
-        && (Text.has_one_sign word.now && Text.begins_places word.now))) }
+        && (Text.has_one_sign word.now && Text.are_places (pieces word.now)))) }
 {
-    ends_well(word) && !are_marks_or_signs(word) && has_one_sign(word) && begins_places(word)
+    ends_well(word) && !are_marks_or_signs(word) && has_one_sign(word) && has_places(word)
 }
 
 // Whether a word may be well-formed by its characters, its end and its front.
@@ -209,23 +217,20 @@ fn is_regular(word: &[u8]) -> bool
     are_inner(word) && has_right_ends(word)
 }
 
-fn is_misfit(word: &[u8]) -> bool
-    ensures { result ≡ (Text.has_four_parts word.now || not (Text.is_regular word.now)) }
-{
-    has_four_parts(word) || !is_regular(word)
-}
-
 // Whether such characters are a malformed word, which is the last one or not.
 fn is_malformed(is_last: bool, word: &[u8]) -> bool
-    requires { list_all Text.is_visible word.now ≡ true }
+    requires { list_all Bytes.is_visible word.now ≡ true }
     ensures { result ≡ Text.is_malformed is_last word.now }
 {
-    !word.is_empty() && (is_last || !is_open(word)) && is_misfit(word)
+    !word.is_empty() && (is_last || !is_open(word)) && !is_regular(word)
 }
 
 // The visible characters at the end.
+#[tactic(auto, using(crate::proofs::Strict::Malformed::visible_end))]
 fn last_visible(text: &[u8]) -> &[u8]
-    ensures { result.now ≡ Text.last_visible text.now }
+    ensures value { result.now ≡ drop
+        (length text.now - suffix_len Bytes.is_visible text.now) text.now }
+    ensures visible { list_all Bytes.is_visible result.now ≡ true }
 {
     let mut start = text.len();
     'visible: while start > 0 && is_visible(text[start - 1]) {
@@ -235,7 +240,6 @@ fn last_visible(text: &[u8]) -> &[u8]
 }
 
 /// Whether a malformed word stands at the end.
-#[tactic(auto, using(crate::proofs::Strict::Malformed::ends_visible))]
 pub(crate) fn ends_malformed(text: &[u8]) -> bool
     ensures { result ≡ Text.ends_malformed text.now }
 {

@@ -311,7 +311,7 @@ fn pre_front(loose: bool, text: &[u8]) -> (&[u8], &[u8])
 
 // Whether a text ends here, or goes on with a space or a bar, which stand in no version.
 #[inline(always)]
-fn is_over(text: &[u8]) -> bool
+pub(crate) fn is_over(text: &[u8]) -> bool
     ensures { result ≡ Spec.is_over text.now }
 {
     matches!(text, [] | [b' ' | b'|', ..])

@@ -4,7 +4,8 @@ ghost use Rattle.std.specs.{Prelude.{◌↔◌, ◌≡◌, ◌≤◌, IfErr, dro
 ghost use Rattle.nodejs_semver.specs.Words.{IfOk, IsTrue, IsVersionText, MAX_SAFE_INTEGER, NoValue};
 ghost use Rattle.nodejs_semver.specs.Words.{front_view, is_ascii_digit, is_listed, length};
 ghost use Rattle.nodejs_semver.specs.Words.{list_all, pair_view, true};
-ghost use Rattle.nodejs_semver.specs.Npm.Grammar.{is_strict_identifier, is_strict_list};
+ghost use Rattle.nodejs_semver.specs.Internal.NpmReadings.{is_strict_list};
+ghost use Rattle.nodejs_semver.specs.Npm.Grammar.{is_strict_identifier};
 ghost use Rattle.nodejs_semver.specs.Npm.RangeText.{is_mark};
 ghost use Rattle.nodejs_semver.specs.Npm.VersionText.{IsClean};
 ghost use Rattle.nodejs_semver.specs.Internal.NpmReadings as Spec;
@@ -38,7 +39,7 @@ pub(crate) fn strict_number(text: &[u8]) -> Option<(u64, &[u8])>
 // The same behind a dot.
 #[inline(always)]
 #[tactic(auto, unfolding(crate::specs::Internal::NpmReadings::dotted_number))]
-fn dotted_number(text: &[u8]) -> Option<(u64, &[u8])>
+pub(crate) fn dotted_number(text: &[u8]) -> Option<(u64, &[u8])>
     ensures { front_view result ≡ Spec.dotted_number MAX_SAFE_INTEGER text.now }
 {
     match text {

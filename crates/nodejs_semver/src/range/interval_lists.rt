@@ -55,8 +55,7 @@ pub(crate) fn push_differences<V: Point>(
         return push_remainders(alloc, found, these, &others[0]);
     }
     let pieces = complement(alloc, others)?;
-    clip_each(alloc, found, these, &pieces)?;
-    Ok(())
+    clip_each(alloc, found, these, &pieces)
 }
 
 /// Whether some interval of the first list meets some interval of the second: whether they have an
@@ -132,10 +131,23 @@ fn complement<V: Point>(alloc: Global, intervals: &[Interval<V>]) -> Allocated<I
     let (front, back) = intervals.split_at(intervals.len() / 2);
     let before = complement(alloc, front)?;
     let after = complement(alloc, back)?;
-    let room = before.len().min(30) + after.len().min(30);
-    let mut pieces = SmallVec::with_capacity(alloc, room)?;
-    clip_each(alloc, &mut pieces, &before, &after)?;
-    Ok(pieces)
+    clipped(alloc, &before, &after)
+}
+
+// What of each interval lies within each of the pieces, which stand in order along the line.
+fn clipped<V: Point>(
+    alloc: Global,
+    these: &[Interval<V>],
+    pieces: &[Interval<V>],
+) -> Allocated<Intervals<V>>
+    requires { IsAlong V.cmp Start pieces.now }
+    ensures { IfOk result (λ r. r.items
+        ≡ flat_map (λ s. flat_map (λ t. option_to_list (clip V.cmp s t)) pieces.now) these.now) }
+{
+    let room = these.len().min(30) + pieces.len().min(30);
+    let mut found = SmallVec::with_capacity(alloc, room)?;
+    clip_each(alloc, &mut found, these, pieces)?;
+    Ok(found)
 }
 
 // The complement of a few intervals, which are taken away one after another. Of three it has four
@@ -148,8 +160,7 @@ fn complement_of_few<V: Point>(alloc: Global, intervals: &[Interval<V>]) -> Allo
     left.push_reserved(Interval::default());
     for interval in intervals {
         let mut next = SmallVec::new(alloc);
-        push_remainders(alloc, &mut next, &left, interval)?;
-        left = next;
+        left = push_remainders(alloc, &mut next, &left, interval).and(Ok(next))?;
     }
     Ok(left)
 }

@@ -11,11 +11,14 @@
 
 ghost use Rattle.nodejs_semver.specs.Internal.Candidates as spec;
 ghost use Rattle.nodejs_semver.specs.Ranges.Least as stated;
-ghost use Rattle.std.specs.Prelude.{◌-◌, ◌<◌, ◌^◌, ◌≡◌, ◌⊎◌};
-ghost use Rattle.nodejs_semver.specs.Words.{[], accepts, After, All, Any, Before, Beside, bound_of};
-ghost use Rattle.nodejs_semver.specs.Words.{false, Far, flat_map, fold, IfNone, IfOk, IfSome};
-ghost use Rattle.nodejs_semver.specs.Words.{is_release, IsOk, length, list_all, Near, OnErr, OnOk};
-ghost use Rattle.nodejs_semver.specs.Words.{Some, span_of, spans_of, true, value_of, VersionValue};
+ghost use Rattle.nodejs_semver.specs.contracts.range.RangeOf.{the_row};
+ghost use Rattle.std.specs.Mem.{FitsInMemory};
+ghost use Rattle.std.specs.Prelude.{◌-◌, ◌<◌, ◌^◌, ◌≡◌, ◌⊎◌, ⊤};
+ghost use Rattle.nodejs_semver.specs.Words.{[], accepts, After, All, Any, Before, Beside, Bool};
+ghost use Rattle.nodejs_semver.specs.Words.{bound_of, false, Far, flat_map, fold, IfNone, IfOk};
+ghost use Rattle.nodejs_semver.specs.Words.{IfSome, is_release, IsOk, length, list_all, Near, OnErr};
+ghost use Rattle.nodejs_semver.specs.Words.{OnOk, Some, span_of, spans_of, true, value_of};
+ghost use Rattle.nodejs_semver.specs.Words.{VersionValue};
 
 use crate::range::choice::all_accept;
 use crate::range::gate::accepts;
@@ -151,7 +154,6 @@ impl<V: VersionPoint> RangeOf<V> {
     /// let least = Some(Version::from((1u64, 2, 3)));
     /// assert!(rt; Range::least_of_all(alloc, &ranges) == Ok(least));
     /// ```
-    #[tactic(auto, using(crate::proofs::Choice::Kinds::raisable))]
     pub fn least_of_all(alloc: Global, ranges: &[RangeOf<V>]) -> Result<Option<Version>, AllocError>
         ensures least { IfOk result (λ r. stated.IsLeastOf
             (λ v. list_all (λ range. accepts range v false) ranges.now) r) }
@@ -203,7 +205,7 @@ impl<V: VersionPoint> RangeOf<V> {
         let intervals = self.items();
         let mut best: Option<Version> = None;
         for interval in intervals {
-            consider_past_held(self, alloc, &mut best, interval.lower())?;
+            consider_first(alloc, self, &mut best, interval.lower())?;
         }
         Ok(best)
     }
@@ -233,8 +235,54 @@ fn lesser<'v, V: Versioned>(best: Option<&'v V>, next: &'v V) -> &'v V
     }
 }
 
-// The search goes through the candidates for the least version that each range of `kept` accepts
-// and no interval of `removed`: `best` is the least so far that is such a version.
+// The search goes through the candidates for the least version of a set: `best` is the least so far
+// that is in it.
+
+// A set of versions, of which the least is searched for.
+trait Search {
+    // The versions in the set.
+    ghost wanted: { Self → VersionValue → Bool };
+
+    // What types the set wants to be no larger than memory. That is so wherever there is a value of
+    // the type, and references to values in a struct do not show it.
+    ghost fits: { Type 0 };
+
+    // Whether the version, without its build, is in the set.
+    fn wants<C: Versioned>(&self, version: &C) -> bool
+        requires { fits }
+        ensures { result ≡ wanted self.now (spec.bare (C.value version.now)) };
+}
+
+// The versions that each range of `kept` accepts and no interval of `removed`.
+#[derive(Drop)]
+struct Beyond<'a, V: VersionPoint, W: VersionPoint> {
+    kept: &'a [RangeOf<V>],
+    removed: &'a [Interval<W>],
+}
+
+impl<'a, V: VersionPoint, W: VersionPoint> Search for Beyond<'a, V, W> {
+    ghost wanted = { λ s. spec.wanted s.kept.now (spans_of W.value s.removed.now) };
+
+    ghost fits = { FitsInMemory (the_row V.row V.Versioned (record { takes = V.takes })
+        (record { cmp = V.cmp }) V.PartialEq (record { partial_cmp = V.partial_cmp })) };
+
+    #[tactic(auto, using(crate::proofs::Choice::Least::wanted_bare))]
+    fn wants<C: Versioned>(&self, version: &C) -> bool {
+        all_accept(self.kept, version) && !accepts(self.removed, version, false)
+    }
+}
+
+// The versions that the range accepts with pre-releases included.
+impl<V: VersionPoint> Search for RangeOf<V> {
+    ghost wanted = { λ range v. accepts range v true };
+
+    ghost fits = { ⊤ };
+
+    #[tactic(auto, using(crate::proofs::Choice::Least::held_alike))]
+    fn wants<C: Versioned>(&self, version: &C) -> bool {
+        self.satisfies_with_prerelease(version, true)
+    }
+}
 
 // Whether the best so far is not above the version: nothing from the version on improves on it.
 fn is_reached<C: Versioned>(best: &Option<Version>, version: &C) -> bool
@@ -249,22 +297,19 @@ fn is_reached<C: Versioned>(best: &Option<Version>, version: &C) -> bool
 // Keeps a copy of the version, without its build, where it improves on the best so far. Otherwise
 // nothing is copied.
 #[inline(never)]
-fn consider<V: VersionPoint, W: VersionPoint, C: Versioned>(
+fn consider<S: Search, C: Versioned>(
     alloc: Global,
-    kept: &[RangeOf<V>],
-    removed: &[Interval<W>],
+    search: &S,
     best: &mut Option<Version>,
     version: &C,
 ) -> Allocated<()>
+    requires { S.fits }
     ensures best { OnOk result (best.new
-        ≡ spec.better (spec.wanted kept.now (spans_of W.value removed.now)) best.old
+        ≡ spec.better (S.wanted search.now) best.old
         (spec.bare (C.value version.now))) }
-    ensures memory { OnErr result (spec.Finds kept.now (spans_of W.value removed.now)) }
+    ensures memory { OnErr result (spec.Finds (S.wanted search.now)) }
 {
-    if !is_reached(best, version)
-        && all_accept(kept, version)
-        && !accepts(removed, version, false)
-    {
+    if !is_reached(best, version) && search.wants(version) {
         *best = Some(bare(alloc, version)?);
     }
     Ok(())
@@ -273,93 +318,93 @@ fn consider<V: VersionPoint, W: VersionPoint, C: Versioned>(
 // Considers the first versions from this one on. Mostly a better one is known.
 #[inline(always)]
 #[tactic(auto, using(crate::proofs::Choice::Least::reached_near))]
-fn consider_from<V: VersionPoint, W: VersionPoint, C: Versioned>(
+fn consider_from<S: Search, C: Versioned>(
     alloc: Global,
-    kept: &[RangeOf<V>],
-    removed: &[Interval<W>],
+    search: &S,
     best: &mut Option<Version>,
     version: &C,
 ) -> Allocated<()>
+    requires { S.fits }
     ensures best { OnOk result (best.new
-        ≡ fold (spec.better (spec.wanted kept.now (spans_of W.value removed.now))) best.old
+        ≡ fold (spec.better (S.wanted search.now)) best.old
         (spec.firsts (Beside (C.value version.now) Near))) }
-    ensures memory { OnErr result (spec.Finds kept.now (spans_of W.value removed.now)) }
+    ensures memory { OnErr result (spec.Finds (S.wanted search.now)) }
 {
     if is_reached(best, version) {
         return Ok(());
     }
-    consider(alloc, kept, removed, best, version)?;
+    consider(alloc, search, best, version)?;
     if version.is_release() {
         return Ok(());
     }
-    consider(alloc, kept, removed, best, &bare_release(version))
+    consider(alloc, search, best, &bare_release(version))
 }
 
 // Considers the first versions after this one. That after a pre-release is made before it is known
 // to improve on the best so far.
-fn consider_after<V: VersionPoint, W: VersionPoint, C: Versioned>(
+fn consider_after<S: Search, C: Versioned>(
     alloc: Global,
-    kept: &[RangeOf<V>],
-    removed: &[Interval<W>],
+    search: &S,
     best: &mut Option<Version>,
     version: &C,
 ) -> Allocated<()>
-    requires { (C.value version.now).patch < 2 ^ 64 - 1 }
+    requires fits { S.fits }
+    requires raisable { (C.value version.now).patch < 2 ^ 64 - 1 }
     ensures best { OnOk result (best.new
-        ≡ fold (spec.better (spec.wanted kept.now (spans_of W.value removed.now))) best.old
+        ≡ fold (spec.better (S.wanted search.now)) best.old
         (spec.firsts (Beside (C.value version.now) Far))) }
-    ensures memory { OnErr result (spec.Finds kept.now (spans_of W.value removed.now)
+    ensures memory { OnErr result (spec.Finds (S.wanted search.now)
         ⊎ (is_release (C.value version.now) ≡ false)) }
 {
     if is_reached(best, version) {
         return Ok(());
     }
     if version.is_release() {
-        return consider(alloc, kept, removed, best, &patch_after(version));
+        return consider(alloc, search, best, &patch_after(version));
     }
-    let tried = consider(alloc, kept, removed, best, &pre_after(alloc, version)?);
+    let tried = consider(alloc, search, best, &pre_after(alloc, version)?);
     tried?;
-    consider(alloc, kept, removed, best, &bare_release(version))
+    consider(alloc, search, best, &bare_release(version))
 }
 
 // Considers the first versions past the cut of a bound.
-fn consider_past<V: VersionPoint, W: VersionPoint, C: Versioned>(
+fn consider_past<S: Search, C: Versioned>(
     alloc: Global,
-    kept: &[RangeOf<V>],
-    removed: &[Interval<W>],
+    search: &S,
     best: &mut Option<Version>,
     bound: &Bound<C>,
 ) -> Allocated<()>
-    requires { spec.Raisable (bound_of C.value bound.now) }
+    requires fits { S.fits }
+    requires raisable { spec.Raisable (bound_of C.value bound.now) }
     ensures best { OnOk result (best.new
-        ≡ fold (spec.better (spec.wanted kept.now (spans_of W.value removed.now))) best.old
+        ≡ fold (spec.better (S.wanted search.now)) best.old
         (flat_map spec.firsts (spec.beside (bound_of C.value bound.now)))) }
-    ensures memory { OnErr result (spec.Finds kept.now (spans_of W.value removed.now)
+    ensures memory { OnErr result (spec.Finds (S.wanted search.now)
         ⊎ spec.IsAfterPre (bound_of C.value bound.now)) }
 {
     match bound {
         Bound::Unbounded => Ok(()),
-        Bound::Before(version) => consider_from(alloc, kept, removed, best, version),
-        Bound::After(version) => consider_after(alloc, kept, removed, best, version),
+        Bound::Before(version) => consider_from(alloc, search, best, version),
+        Bound::After(version) => consider_after(alloc, search, best, version),
     }
 }
 
 // Considers the first versions past the cut below the pre-releases that a bound names.
-fn consider_named<V: VersionPoint, W: VersionPoint, C: Versioned>(
+fn consider_named<S: Search, C: Versioned>(
     alloc: Global,
-    kept: &[RangeOf<V>],
-    removed: &[Interval<W>],
+    search: &S,
     best: &mut Option<Version>,
     bound: &Bound<C>,
 ) -> Allocated<()>
+    requires { S.fits }
     ensures best { OnOk result (best.new
-        ≡ fold (spec.better (spec.wanted kept.now (spans_of W.value removed.now))) best.old
+        ≡ fold (spec.better (S.wanted search.now)) best.old
         (flat_map spec.firsts (spec.below_named (bound_of C.value bound.now)))) }
-    ensures memory { OnErr result (spec.Finds kept.now (spans_of W.value removed.now)) }
+    ensures memory { OnErr result (spec.Finds (S.wanted search.now)) }
 {
     match bound {
         Bound::Before(version) | Bound::After(version) if !version.is_release() => {
-            consider_from(alloc, kept, removed, best, &first_pre(version))
+            consider_from(alloc, search, best, &first_pre(version))
         }
         _ => Ok(()),
     }
@@ -367,23 +412,23 @@ fn consider_named<V: VersionPoint, W: VersionPoint, C: Versioned>(
 
 // Considers all that the intervals of a range bring which accepts the versions searched for.
 #[inline(always)]
-fn consider_range<V: VersionPoint, W: VersionPoint>(
+fn consider_range<S: Search, V: VersionPoint>(
     alloc: Global,
-    kept: &[RangeOf<V>],
-    removed: &[Interval<W>],
+    search: &S,
     best: &mut Option<Version>,
     range: &RangeOf<V>,
 ) -> Allocated<()>
+    requires { S.fits }
     ensures best { OnOk result (best.new
-        ≡ fold (spec.better (spec.wanted kept.now (spans_of W.value removed.now))) best.old
+        ≡ fold (spec.better (S.wanted search.now)) best.old
         (flat_map spec.firsts (spec.list_marks range.now))) }
-    ensures memory { OnErr result (spec.Finds kept.now (spans_of W.value removed.now)
+    ensures memory { OnErr result (spec.Finds (S.wanted search.now)
         ⊎ spec.BeginsAfterPre range.now) }
 {
     let intervals = range.items();
     for interval in intervals {
-        consider_past(alloc, kept, removed, best, interval.lower())?;
-        consider_named(alloc, kept, removed, best, interval.upper())?;
+        consider_past(alloc, search, best, interval.lower())?;
+        consider_named(alloc, search, best, interval.upper())?;
     }
     Ok(())
 }
@@ -396,17 +441,19 @@ fn consider_all<V: VersionPoint, W: VersionPoint>(
     best: &mut Option<Version>,
 ) -> Allocated<()>
     requires { All spec.IsRaisable (spans_of W.value removed.now) }
-    ensures best { OnOk result (best.new
-        ≡ fold (spec.better (spec.wanted kept.now (spans_of W.value removed.now))) best.old
+    ensures best { OnOk result (best.new ≡ fold (spec.better
+        (spec.wanted kept.now (spans_of W.value removed.now))) best.old
         (spec.candidates kept.now (spans_of W.value removed.now))) }
-    ensures memory { OnErr result (spec.MayAllocate kept.now (spans_of W.value removed.now)) }
+    ensures memory { OnErr result
+        (spec.MayAllocate kept.now (spans_of W.value removed.now)) }
 {
-    consider(alloc, kept, removed, best, &release(0, 0, 0))?;
+    let search = Beyond { kept, removed };
+    consider(alloc, &search, best, &release(0, 0, 0))?;
     for range in kept {
-        consider_range(alloc, kept, removed, best, range)?;
+        consider_range(alloc, &search, best, range)?;
     }
     for interval in removed {
-        consider_past(alloc, kept, removed, best, interval.upper())?;
+        consider_past(alloc, &search, best, interval.upper())?;
     }
     Ok(())
 }
@@ -430,45 +477,28 @@ fn least_among<V: VersionPoint, W: VersionPoint>(
     Ok(best)
 }
 
-// Keeps a copy of the version, without its build, where it improves on the best so far.
-#[tactic(auto, using(crate::proofs::Choice::Least::improves_held))]
-fn consider_held<V: VersionPoint, C: Versioned>(
-    range: &RangeOf<V>,
+// Considers the first version past the cut of a lower bound, pre-releases included.
+fn consider_first<S: Search, C: Versioned>(
     alloc: Global,
+    search: &S,
     best: &mut Option<Version>,
-    version: &C,
+    bound: &Bound<C>,
 ) -> Allocated<()>
-    ensures best { OnOk result (best.new ≡ spec.better (λ v. accepts range.now v true) best.old
-        (spec.bare (C.value version.now))) }
-    ensures memory { OnErr result ((v : VersionValue) × (accepts range.now v true ≡ true)) }
-{
-    if !is_reached(best, version) && range.satisfies_with_prerelease(version, true) {
-        *best = Some(bare(alloc, version)?);
-    }
-    Ok(())
-}
-
-// Considers the first version past the cut of a lower bound.
-fn consider_past_held<V: VersionPoint>(
-    range: &RangeOf<V>,
-    alloc: Global,
-    best: &mut Option<Version>,
-    bound: &Bound<V>,
-) -> Allocated<()>
-    requires { spec.Raisable (bound_of V.value bound.now) }
-    ensures best { OnOk result (best.new ≡ spec.better (λ v. accepts range.now v true) best.old
-        (spec.first_past (bound_of V.value bound.now))) }
-    ensures memory { OnErr result (((v : VersionValue) × (accepts range.now v true ≡ true))
-        ⊎ spec.IsAfterPre (bound_of V.value bound.now)) }
+    requires fits { S.fits }
+    requires raisable { spec.Raisable (bound_of C.value bound.now) }
+    ensures best { OnOk result (best.new ≡ spec.better (S.wanted search.now) best.old
+        (spec.first_past (bound_of C.value bound.now))) }
+    ensures memory { OnErr result (spec.Finds (S.wanted search.now)
+        ⊎ spec.IsAfterPre (bound_of C.value bound.now)) }
 {
     match bound {
-        Bound::Unbounded => consider_held(range, alloc, best, &lowest(0, 0, 0)),
-        Bound::Before(version) => consider_held(range, alloc, best, version),
+        Bound::Unbounded => consider(alloc, search, best, &lowest(0, 0, 0)),
+        Bound::Before(version) => consider(alloc, search, best, version),
         Bound::After(version) => {
             if version.is_release() {
-                return consider_held(range, alloc, best, &first_pre(&patch_after(version)));
+                return consider(alloc, search, best, &first_pre(&patch_after(version)));
             }
-            consider_held(range, alloc, best, &pre_after(alloc, version)?)
+            consider(alloc, search, best, &pre_after(alloc, version)?)
         }
     }
 }

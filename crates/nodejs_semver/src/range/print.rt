@@ -6,12 +6,12 @@ ghost use Rattle.nodejs_semver.specs.Words.{range_text, Some, span_of, span_text
 ghost use Rattle.nodejs_semver.specs.Words.{upper_text, version_text};
 
 use crate::RangeOf;
-use semver_core::VersionPoint;
 use semver_core::cuts::{Bound, Interval};
+use semver_core::{VersionPoint, Versioned};
 use std::fmt;
 
 // A sign and a version.
-fn write_signed<V: VersionPoint, W: fmt::Write>(
+fn write_signed<V: Versioned, W: fmt::Write>(
     sign: &str,
     version: &V,
     f: &mut fmt::Formatter<W>,
@@ -24,7 +24,7 @@ fn write_signed<V: VersionPoint, W: fmt::Write>(
 }
 
 // A lower bound: `>=v` or `>v`, and nothing where there is none.
-fn write_lower<V: VersionPoint, W: fmt::Write>(
+fn write_lower<V: Versioned, W: fmt::Write>(
     bound: &Bound<V>,
     f: &mut fmt::Formatter<W>,
 ) -> fmt::Result
@@ -39,7 +39,7 @@ fn write_lower<V: VersionPoint, W: fmt::Write>(
 }
 
 // An upper bound: `<v` or `<=v`, and nothing where there is none.
-fn write_upper<V: VersionPoint, W: fmt::Write>(
+fn write_upper<V: Versioned, W: fmt::Write>(
     bound: &Bound<V>,
     f: &mut fmt::Formatter<W>,
 ) -> fmt::Result

@@ -2,8 +2,8 @@
 
 ghost use Rattle.nodejs_semver.specs.Internal.CommonFronts as Spec;
 ghost use Rattle.std.specs.Prelude.{◌≡◌, ◌≤◌, ◌⊎◌, if◌then◌else◌, [], IfNone, IfOk, IfSome};
-ghost use Rattle.nodejs_semver.specs.Words.{AreCommonParts, both_view, bounds_front_view};
-ghost use Rattle.nodejs_semver.specs.Words.{bounds_view, has_bars, is_interval, IsCommonRange};
+ghost use Rattle.nodejs_semver.specs.Words.{AreCommonParts, bounds_front_view, bounds_view};
+ghost use Rattle.nodejs_semver.specs.Words.{has_bars, hyphen, is_interval, IsCommonRange, table};
 ghost use Rattle.nodejs_semver.specs.Words.{IsFalse, IsTrue, length, List, MAX_SAFE_INTEGER, Means};
 ghost use Rattle.nodejs_semver.specs.Words.{None, NoValue, OnErr, partial_front_view, partial_view};
 ghost use Rattle.nodejs_semver.specs.Words.{passed_view, precedence, rest_view, Some, Span};
@@ -11,9 +11,9 @@ ghost use Rattle.nodejs_semver.specs.Words.{table_view, TakesMemory, true, Versi
 
 use crate::range::owned::owned_range;
 use crate::readers::found::Found;
-use crate::readers::intervals::{between, push_between, push_ordered};
+use crate::readers::intervals::{between, ordered};
 use crate::readers::syntax::{Bounds, Partial};
-use crate::readers::{intervals, partial, table, words};
+use crate::readers::{partial, table, words};
 use crate::{Allocated, Range, RangeRef};
 use semver_core::cuts::{Bound, Interval};
 use semver_core::{MAX_SAFE_INTEGER, VersionRef};
@@ -46,40 +46,66 @@ fn comparison(text: &[u8]) -> Option<(Bounds<'_>, &[u8])>
 }
 
 // What the intervals of two pairs of bounds have in common.
+#[cold]
+#[inline(never)]
 fn common_interval<'a>(first: Bounds<'a>, second: Bounds<'a>) -> Option<Interval<VersionRef<'a>>>
     ensures { result ≡ Spec.both_of (bounds_view first.entry) (bounds_view second.entry) }
 {
     between(first)?.into_intersection(between(second)?).ok()
 }
 
-// Adds what two comparisons have in common, where that is an interval.
-#[cold]
-#[inline(never)]
-fn push_common<'a, S: Found<'a>>(one: Bounds<'a>, two: Bounds<'a>, found: &mut S) -> Allocated<bool>
-    ensures added { let both = Spec.both_of (bounds_view one.entry) (bounds_view two.entry) in
-        IfOk result (λ there. both_view there (S.items found.new)
-        ≡ Spec.pushed (S.items found.old) both) }
+// Adds the interval of a part, if it has one, and returns what follows the part.
+#[inline(always)]
+fn push<'a, S: Found<'a>>(
+    interval: Option<Interval<VersionRef<'a>>>,
+    rest: &'a [u8],
+    found: &mut S,
+) -> Allocated<Option<&'a [u8]>>
+    ensures added { IfOk result (λ after. passed_view after (S.items found.new)
+        ≡ Spec.passed (S.items found.old) (Spec.part_read rest.now interval.entry)) }
     ensures full { OnErr result (S.room ≤ length (S.items found.old)) }
 {
-    let Some(interval) = common_interval(one, two) else {
-        return Ok(false);
+    let Some(interval) = interval else {
+        return Ok(None);
     };
     found.add(interval)?;
-    Ok(true)
+    Ok(Some(rest))
+}
+
+// The same, of a rare part.
+#[cold]
+#[inline(never)]
+fn push_rare<'a, S: Found<'a>>(
+    interval: Option<Interval<VersionRef<'a>>>,
+    rest: &'a [u8],
+    found: &mut S,
+) -> Allocated<Option<&'a [u8]>>
+    ensures added { IfOk result (λ after. passed_view after (S.items found.new)
+        ≡ Spec.passed (S.items found.old) (Spec.part_read rest.now interval.entry)) }
+    ensures full { OnErr result (S.room ≤ length (S.items found.old)) }
+{
+    push(interval, rest, found)
 }
 
 // Adds what two comparisons have in common, where that is an interval. Mostly the first one has a
 // lower bound and the second an upper one.
 #[tactic(auto, using(crate::proofs::Everyday::Parts::half_open))]
-fn push_both<'a, S: Found<'a>>(one: Bounds<'a>, two: Bounds<'a>, found: &mut S) -> Allocated<bool>
+fn push_both<'a, S: Found<'a>>(
+    one: Bounds<'a>,
+    two: Bounds<'a>,
+    rest: &'a [u8],
+    found: &mut S,
+) -> Allocated<Option<&'a [u8]>>
     ensures added { let both = Spec.both_of (bounds_view one.entry) (bounds_view two.entry) in
-        IfOk result (λ there. both_view there (S.items found.new)
-        ≡ Spec.pushed (S.items found.old) both) }
+        IfOk result (λ after. passed_view after (S.items found.new)
+        ≡ Spec.passed (S.items found.old) (Spec.part_read rest.now both)) }
     ensures full { OnErr result (S.room ≤ length (S.items found.old)) }
 {
     match (&one.upper, &two.lower) {
-        (Bound::Unbounded, Bound::Unbounded) => { push_between(one.lower, two.upper, found) }
-        _ => push_common(one, two, found),
+        (Bound::Unbounded, Bound::Unbounded) => {
+            push(Interval::new(one.lower, two.upper), rest, found)
+        }
+        _ => push_rare(common_interval(one, two), rest, found),
     }
 }
 
@@ -94,14 +120,12 @@ fn push_comparisons<'a, S: Found<'a>>(text: &'a [u8], found: &mut S) -> Allocate
         return Ok(None);
     };
     if !matches!(rest, [b' ', b'<' | b'=' | b'>', ..]) {
-        let there = push_between(first.lower, first.upper, found)?;
-        return Ok(there.then_some(rest));
+        return push(between(first), rest, found);
     }
-    let Some((second, rest)) = comparison(&rest[1..]) else {
-        return Ok(None);
-    };
-    let there = push_both(first, second, found)?;
-    Ok(there.then_some(rest))
+    match comparison(&rest[1..]) {
+        Some((second, rest)) => push_both(first, second, rest, found),
+        None => Ok(None),
+    }
 }
 
 // Adds the interval of a word that has these bounds, and returns what follows the word. The bounds
@@ -120,7 +144,7 @@ fn push_word<'a, S: Found<'a>>(
     let Some(bounds) = bounds else {
         return Ok(None);
     };
-    push_ordered(bounds, found)?;
+    found.add(ordered(bounds))?;
     Ok(Some(rest))
 }
 
@@ -153,6 +177,15 @@ fn push_caret<'a, S: Found<'a>>(text: &'a [u8], found: &mut S) -> Allocated<Opti
     push_word(table::caret(&partial), rest, found)
 }
 
+// The interval of a hyphen word, if it has one.
+#[inline(never)]
+fn hyphen<'a>(lower: Partial<'a>, upper: Partial<'a>) -> Option<Interval<VersionRef<'a>>>
+    ensures { result ≡ table MAX_SAFE_INTEGER
+        (hyphen (partial_view lower.entry) (partial_view upper.entry)) }
+{
+    between(table::hyphen(&lower, &upper))
+}
+
 // Adds the interval from a partial to the one at the front, and returns what follows it.
 fn push_hyphen<'a, S: Found<'a>>(
     lower: Partial<'a>,
@@ -165,11 +198,10 @@ fn push_hyphen<'a, S: Found<'a>>(
         (Spec.upper_front MAX_SAFE_INTEGER (partial_view lower.entry) text.now))) }
     ensures full { OnErr result (S.room ≤ length (S.items found.old)) }
 {
-    let Some((upper, rest)) = bare_front(text) else {
-        return Ok(None);
-    };
-    let there = intervals::push_hyphen(lower, upper, found)?;
-    Ok(there.then_some(rest))
+    match bare_front(text) {
+        Some((upper, rest)) => push_rare(hyphen(lower, upper), rest, found),
+        None => Ok(None),
+    }
 }
 
 // Adds the interval of one partial, or of two with a dash between them, and returns what follows.

@@ -4,7 +4,7 @@ ghost use Rattle.nodejs_semver.specs.Internal.Words as Spec;
 ghost use Rattle.std.specs.Prelude.{◌≡◌};
 ghost use Rattle.nodejs_semver.specs.Words.{comparator_front_view, greater_view, is_boundary};
 ghost use Rattle.nodejs_semver.specs.Words.{MAX_SAFE_INTEGER, partial_front_view, rest_view};
-ghost use Rattle.nodejs_semver.specs.Words.{sign_pair_view};
+ghost use Rattle.nodejs_semver.specs.Words.{sign_pair_view, sign_view, upper_of};
 
 use crate::readers::syntax::{Comparator, Partial, Sign};
 use crate::readers::{partial, spaces};
@@ -31,9 +31,9 @@ pub(crate) fn after_some_space(text: &[u8]) -> Option<&[u8]>
     }
 }
 
-/// The second partial of a hyphen word, and what follows it: behind whitespace, `-` and whitespace,
-/// and up to a boundary.
-pub(crate) fn upper_behind(text: &[u8]) -> Option<(Partial<'_>, &[u8])>
+// The second partial of a hyphen word, and what follows it: behind whitespace, `-` and whitespace,
+// and up to a boundary.
+fn upper_behind(text: &[u8]) -> Option<(Partial<'_>, &[u8])>
     ensures { partial_front_view result ≡ Spec.upper_behind MAX_SAFE_INTEGER text.now }
 {
     let sign = after_some_space(text)?;
@@ -46,6 +46,19 @@ pub(crate) fn upper_behind(text: &[u8]) -> Option<(Partial<'_>, &[u8])>
         Some((upper, rest))
     } else {
         None
+    }
+}
+
+/// The second partial of the hyphen word that begins with a partial of this sign, if there is such
+/// a word, and what follows it. Mostly the part ends behind the partial.
+#[inline(always)]
+pub(crate) fn upper_of<'a>(sign: Sign, rest: &'a [u8]) -> Option<(Partial<'a>, &'a [u8])>
+    ensures { partial_front_view result ≡ upper_of MAX_SAFE_INTEGER (sign_view sign) rest.now }
+{
+    match (sign, rest) {
+        (_, []) => None,
+        (Sign::Nothing, _) => upper_behind(rest),
+        (Sign::Comparator(_) | Sign::Tilde(_) | Sign::Caret, _) => None,
     }
 }
 

@@ -5,8 +5,10 @@ use Rattle.semver_core.proofs.Common.{digits_end, digits_from, placed, if◌then
 use Rattle.semver_core.proofs.Common.{IsWholeNumber, Option, sym, number_at, IsPieceAt, IfSome, IfNone, is_identifier_char}
 use Rattle.semver_core.proofs.Common.{AlphaNumeric, Numeric, identifier_of, [], add_comm, ap, take, ◌∙◌, ◌∷◌, cases_Bool}
 use Rattle.semver_core.proofs.Common.{length-drop, first_so, second_so, list_all, prefix_len, digits_value, number_of_run}
-use Rattle.semver_core.proofs.Common.{run_from, add-zero, ◌^◌, prefix_len-le-length, digits_value_after, ltb-true}
+use Rattle.semver_core.proofs.Common.{MAX_SAFE_INTEGER, ◌++◌, run_from, add-zero, ◌^◌, prefix_len-le-length, digits_value_after, ltb-true}
 use Rattle.semver_core.specs.{Internal.CommonReading.{grown, id_by}, Text.Characters.NoPieceAt}
+use Rattle.std.proofs.{Common.{ap₂, drop-drop}, lemmas.Option.{same_Some}}
+use Rattle.semver_core.proofs.Text.Runs.{prefix_ends}
 use Rattle.{std.proofs.lemmas.Str.digit_value_digit, semver_core.proofs.Text.Pieces.{number_sound, number_complete, digits_grow}}
 
 pub digit_value-is : (c : ℕ) → is_ascii_digit c ≡ true → digit_value c ≡ c - 48
@@ -167,6 +169,12 @@ scan_fits text start r e le =
     let end = (scan_end text start r e).0 in
     (omega (arith, end), omega (arith, end, prefix_len-le-length is_identifier_char (drop start text), length-drop start text))
 
+-- no character of identifiers stands there
+pub scan_stops : (text : List ℕ) (start : ℕ) (r : ℕ × Option ℕ) → r ≡ run_from (Some 0) start (drop start text) → begins is_identifier_char (drop r.0 text) ≡ false
+scan_stops text start r e =
+    let n = prefix_len is_identifier_char (drop start text) in
+    rw (ap (λ p. drop p text) (scan_end text start r e).0 ∙ sym (drop-drop n start text)) (prefix_ends (drop start text))
+
 -- the end of a run, whatever it writes
 pub run_place : (text : List ℕ) (start end : ℕ) → (end, None) ≡ run_from None start (drop start text) → start ≤ length text
     → (end ≡ start + prefix_len is_identifier_char (drop start text)) × (end ≤ length text)
@@ -179,6 +187,30 @@ scan_number run v e = sym (id_spelled run) ∙ ap (λ n. id_by n run) (sym e)
 
 pub scan_text : (run : List ℕ) → None ≡ number_of_run (Some 0) run → identifier_of run ≡ AlphaNumeric run
 scan_text run e = sym (id_spelled run) ∙ ap (λ n. id_by n run) (sym e)
+
+-- digits that no character of identifiers follows are the whole run
+run_over : (v at : ℕ) (digits rest : List ℕ) → list_all is_ascii_digit digits ≡ true → digits_value_after 10 v digits < 2 ^ 64
+    → begins is_identifier_char rest ≡ false → run_from (Some v) at (digits ++ rest) ≡ (at + length digits, Some (digits_value_after 10 v digits))
+unfolding run_from
+run_over v at [] [] each small stop = rw (add-zero at) refl
+run_over v at [] (c ∷ rest) each small stop = rw (stop, add-zero at) refl
+run_over v at (c ∷ digits) rest each small stop =
+    let digit = first_so (is_ascii_digit c) (list_all is_ascii_digit digits) each in
+    let grows = digits_grow (v * 10 + digit_value c) digits in
+    let fits : ltb (v * 10 + digit_value c) (2 ^ 64) ≡ true = grind (arith, nat_tests) in
+    let inside : is_identifier_char c ≡ true = rw digit refl in
+    let sum : at + 1 + length digits ≡ at + length (c ∷ digits) = omega arith in
+    rw (inside, digit, fits, ← sum)
+    (run_over (v * 10 + digit_value c) (at + 1) digits rest (second_so (is_ascii_digit c) (list_all is_ascii_digit digits) each) small stop)
+
+pub run_of_number : (text : List ℕ) (at n end : ℕ) → Some (n, end) ≡ number_at MAX_SAFE_INTEGER text at → begins is_identifier_char (drop end text) ≡ false
+    → (end, Some n) ≡ run_from (Some 0) at (drop at text)
+run_of_number text at n end e stop =
+    let s = number_sound MAX_SAFE_INTEGER text at n end (sym e) in
+    let place : end ≡ at + length s.0 =
+    ap (λ (q : ℕ × ℕ). q.1) (same_Some _ _ (e ∙ (number_complete MAX_SAFE_INTEGER text at n s.0 (drop end text) s.1 s.2).0)) in
+    let run = run_over 0 at s.0 (drop end text) s.2.number.each (omega (arith, s.2.number.value, s.2.number.safe)) stop in
+    ap₂ (λ p v. (p, Some v)) place s.2.number.value ∙ sym run ∙ ap (λ t. run_from (Some 0) at t) (sym s.1)
 
 pub ruleset grown_either = (grown_small, grown_big)
 

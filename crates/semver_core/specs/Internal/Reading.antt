@@ -1,6 +1,6 @@
 -- For proofs and private contracts: what a reader finds at the front of a text, as a function. It is proved to be what the
 -- grammar says.
-use Rattle.std.specs.Prelude.{◌≡◌, ℕ, ◌+◌, ◌*◌, ◌==◌, ◌||◌, nat_lt, if◌then◌else◌, List, []}
+use Rattle.std.specs.Prelude.{◌≡◌, ℕ, ◌++◌, ◌+◌, ◌*◌, ◌==◌, ◌||◌, nat_lt, if◌then◌else◌, List, []}
 use Rattle.std.specs.Prelude.{◌∷◌, Option, Some, None, map, take, drop}
 use Rattle.std.specs.Char.{is_ascii_digit, digit_value}
 use Rattle.semver_core.specs.Text.Characters.{begins, is_identifier_char}
@@ -44,6 +44,12 @@ list_front text = if begins is_identifier_char text then Some (list_of text, lis
 -- the identifier list at a place, and the place after it
 abbrev pub list_at : List ℕ → ℕ → Option (List Id × ℕ)
 list_at text at = placed at (list_front (drop at text))
+
+-- the identifier list at a place ends there, and was added to a list
+pub record IsListAdded (text : List ℕ) (at end : ℕ) (old new : List Id) : Type 0 where
+  pub ids : List Id
+  pub exact : Some (ids, end) ≡ list_at text at
+  pub added : new ≡ old ++ ids
 
 infixl 10 ◌>>?◌
 abbrev pub ◌>>?◌ : {A B : Type 0} → Option A → (A → Option B) → Option B

@@ -1,15 +1,13 @@
 // Lists of identifiers, one by one.
 
-ghost use Rattle.std.specs.Prelude.{◌≡◌, ◌∷◌};
+ghost use Rattle.std.specs.Prelude.{◌≡◌, ◌∷◌, ◌++◌};
 ghost use Rattle.semver_core.specs.Words.{is_listed, item_count, lent_id_view, OnOk, YieldsFirstBy};
 ghost use Rattle.semver_core.specs.Words.{id_cmp, ids_of, ids_view, is_empty, IsSource, slice_cmp};
 ghost use Rattle.semver_core.specs.Words.{[], IfNone, IfSome, length, listed, true};
 
 use crate::borrowed::dotted::{IdRef, cmp_texts, first_id};
-use crate::version::lists::Identifiers;
-use crate::version::parts::copy_into;
-use crate::{Identifier, IdentifierRef, scan};
-use std::alloc::{AllocError, Global};
+use crate::{Allocated, Identifier, IdentifierRef, scan};
+use std::alloc::Global;
 use std::cmp::Ordering;
 use std::marker::Model;
 
@@ -92,16 +90,26 @@ impl<'a> IdentifierRefs<'a> {
         }
     }
 
-    // Fills an empty list with copies of the identifiers that are left.
-    pub(crate) fn copy_into(&self, alloc: Global, list: &mut Identifiers) -> Result<(), AllocError>
-        requires { list.old.items ≡ [] }
-        ensures { OnOk result (ids_view list.new.items ≡ self.now) }
+    // Adds copies of the identifiers that are left to a list.
+    #[inline(never)]
+    pub(crate) fn copy_into(&self, alloc: Global, list: &mut Vec<Identifier>) -> Allocated<()>
+        ensures { OnOk result (ids_view list.new.items ≡ ids_view list.old.items ++ self.now) }
     {
         match self.source {
-            Source::Items(items) => copy_into(alloc, items, list),
+            Source::Items(items) => push_copies(alloc, items, list),
             Source::Text(text) => scan::read_listed(alloc, text, list),
         }
     }
+}
+
+// Adds copies of these identifiers to a list.
+fn push_copies(alloc: Global, items: &[Identifier], list: &mut Vec<Identifier>) -> Allocated<()>
+    ensures { OnOk result (ids_view list.new.items ≡ ids_view list.old.items ++ ids_view items.now) }
+{
+    for id in items {
+        list.push(id.copy(alloc)?)?;
+    }
+    Ok(())
 }
 
 // The first identifier, and where the others stand.

@@ -12,9 +12,8 @@ use crate::increment::pre_release::{
     advance, first_number, is_kept, is_replaced, new_list, unless_overflow,
 };
 use crate::increment::{IdentifierBase, IncrementError, one_more, refused_argument};
-use crate::version::lists::{Identifiers, Lists, Qualifier};
-use crate::version::parts::copied;
-use crate::{Failure, Identifier, IdentifierRefs, Version};
+use crate::version::lists::{Lists, Qualifier};
+use crate::{Failure, Identifier, Version};
 use std::alloc::{AllocError, Global};
 
 // The row of a word.
@@ -140,7 +139,7 @@ fn release_of(alloc: Global, version: &PartsRef<'_>) -> Result<Version, Failure<
     if version.build.is_empty() {
         return Ok(Version::release(version.major, version.minor, version.patch));
     }
-    let lists = Qualifier::Lists(copied(alloc, &IdentifierRefs::of_items(&[]), &version.build)?);
+    let lists = Qualifier::Lists(Lists::with_build(alloc, Vec::new(alloc), &version.build)?);
     Ok(Version::from_parts(version.major, version.minor, version.patch, lists))
 }
 
@@ -167,10 +166,9 @@ fn replaced(
     ensures { IfOk result (λ next.
         next ≡ record (parts_ref_value version.now) { pre_release = begun id.now base }) }
 {
-    let mut lists = Lists::boxed(alloc)?;
-    new_list(alloc, &mut lists.pre_release, id, base)?;
-    version.build.copy_into(alloc, &mut lists.build)?;
-    let lists = Qualifier::Lists(lists);
+    let mut list = Vec::new(alloc);
+    new_list(alloc, &mut list, id, base)?;
+    let lists = Qualifier::Lists(Lists::with_build(alloc, list, &version.build)?);
     Ok(Version::from_parts(version.major, version.minor, version.patch, lists))
 }
 
@@ -191,19 +189,19 @@ fn pre_step(
     if is_replaced(&version.pre_release, id, base) {
         return Ok(replaced(alloc, version, id, base)?);
     }
-    let mut lists = match copied(alloc, &version.pre_release, &version.build) {
-        Ok(lists) => lists,
-        Err(error) => return Err(unless_overflow(&version.pre_release, error)),
-    };
-    step(alloc, &mut lists.pre_release, id, base)?;
-    let lists = Qualifier::Lists(lists);
+    let mut list = Vec::new(alloc);
+    if let Err(error) = version.pre_release.copy_into(alloc, &mut list) {
+        return Err(unless_overflow(&version.pre_release, error));
+    }
+    step(alloc, &mut list, id, base)?;
+    let lists = Qualifier::Lists(Lists::with_build(alloc, list, &version.build)?);
     Ok(Version::from_parts(version.major, version.minor, version.patch, lists))
 }
 
 // Turns a pre-release into the next one.
 fn step(
     alloc: Global,
-    list: &mut Identifiers,
+    list: &mut Vec<Identifier>,
     id: &str,
     base: IdentifierBase,
 ) -> Result<(), Failure<IncrementError>>

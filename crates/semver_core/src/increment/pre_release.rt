@@ -8,7 +8,6 @@ ghost use Rattle.semver_core.specs.Words.{Numeric, OnOk, stepped, Steps, string_
 ghost use Rattle.semver_core.specs.Increments.Table as spec;
 
 use crate::increment::{IdentifierBase, IncrementError, one_more, refused_argument};
-use crate::version::lists::Identifiers;
 use crate::{Failure, Identifier, IdentifierRef, IdentifierRefs};
 use std::alloc::{AllocError, Global};
 use std::fmt::Write;
@@ -16,7 +15,7 @@ use std::fmt::Write;
 // The first three steps: the last number rises, and a list without a number gets one.
 pub(super) fn advance(
     alloc: Global,
-    list: &mut Identifiers,
+    list: &mut Vec<Identifier>,
     id: &str,
     base: IdentifierBase,
 ) -> Result<(), Failure<IncrementError>>
@@ -113,7 +112,7 @@ fn last_number(list: &[Identifier]) -> Option<(usize, u64)>
 }
 
 // One more number at the end of a list.
-fn push_number(list: &mut Identifiers, n: u64) -> Result<(), AllocError>
+fn push_number(list: &mut Vec<Identifier>, n: u64) -> Result<(), AllocError>
     ensures { OnOk result (ids_view list.new.items ≡ ids_view list.old.items ++ Numeric n ∷ []) }
 {
     list.push(Identifier::Numeric(n))?;
@@ -137,7 +136,7 @@ fn list_text(alloc: Global, list: &[Identifier]) -> Result<String, AllocError>
 // The list that an identifier begins, in place of another one.
 pub(super) fn new_list(
     alloc: Global,
-    list: &mut Identifiers,
+    list: &mut Vec<Identifier>,
     id: &str,
     base: IdentifierBase,
 ) -> Result<(), AllocError>

@@ -13,7 +13,7 @@ ghost use Rattle.semver_core.specs.Values.{Versions.{VersionValue, HasIdentifier
 
 use crate::readers::fast::numbers;
 use crate::version::lists::{Lists, Qualifier};
-use crate::{Allocated, MAX_SAFE_INTEGER, Version, scan};
+use crate::{Allocated, Identifier, MAX_SAFE_INTEGER, Version, scan};
 use std::alloc::{AllocError, Global};
 
 // Whether a mark stands at a place.
@@ -84,25 +84,44 @@ pub(crate) fn lists_at(alloc: Global, text: &str, at: usize) -> Allocated<(Quali
         ⊎ (0 < length (lists_at text.now at).1)) }
 {
     let Some(first) = pre_release_start(text, at) else {
-        let Some(start) = build_start(text, at) else {
-            return Ok((Qualifier::Absent, at));
-        };
-        let mut lists = Lists::boxed(alloc)?;
-        let end = scan::read_into(alloc, text, start, &mut lists.build)?;
-        return Ok((Qualifier::Lists(lists), end));
+        let (build, end) = build_behind(alloc, text, at, Vec::new(alloc))?;
+        return Ok((build, end));
     };
     let run = scan::scan_run(text.as_bytes(), first);
     if !scan::goes_on_at(text, run.0) && build_start(text, run.0).is_none() {
         let id = scan::run_id(alloc, text, first, run)?;
         return Ok((Qualifier::One(id), run.0));
     }
-    let mut lists = Lists::boxed(alloc)?;
-    let next = scan::read_into(alloc, text, first, &mut lists.pre_release)?;
-    let Some(start) = build_start(text, next) else {
-        return Ok((Qualifier::Lists(lists), next));
+    let mut ids = Vec::with_capacity(alloc, 4)?;
+    let next = scan::read_from(alloc, text, first, run, &mut ids)?;
+    let (lists, end) = build_behind(alloc, text, next, ids)?;
+    Ok((lists, end))
+}
+
+// The qualifier of a pre-release and of the build metadata at a place, and the place behind it.
+#[inline(always)]
+fn build_behind(
+    alloc: Global,
+    text: &str,
+    at: usize,
+    pre_release: Vec<Identifier>,
+) -> Allocated<(Qualifier, usize)>
+    requires { at ≤ length text.now }
+    ensures pre_release { IfOk result (λ found.
+        pre_release_of found.0 ≡ ids_view pre_release.items) }
+    ensures build { IfOk result (λ found. build_of found.0 ≡ (build_at text.now at).0) }
+    ensures end { IfOk result (λ found. found.1 ≡ (build_at text.now at).1) }
+    ensures full { IfOk result (λ found. IsFull found.0) }
+    ensures place { IfOk result (λ found. found.1 ≤ length text.now) }
+    ensures memory { OnErr result (0 < length (build_at text.now at).0) }
+{
+    let mut ids = pre_release;
+    let pre_len = ids.len();
+    let Some(start) = build_start(text, at) else {
+        return Ok((Qualifier::Lists(Lists { pre_len, ids }), at));
     };
-    let end = scan::read_into(alloc, text, start, &mut lists.build)?;
-    Ok((Qualifier::Lists(lists), end))
+    let end = scan::read_list(alloc, text, start, &mut ids)?;
+    Ok((Qualifier::Lists(Lists { pre_len, ids }), end))
 }
 
 // The place behind the mark and the whitespace at the front.

@@ -10,9 +10,8 @@ ghost use Rattle.semver_core.specs.Values.Versions.{HasIdentifiers, release_valu
 ghost use Rattle.semver_core.specs.Values.Views.{ids_view, parts_value};
 
 use crate::cuts::Point;
-use crate::version::lists::{Identifiers, Lists, Qualifier};
+use crate::version::lists::{Lists, Qualifier};
 use crate::{Allocated, Identifier, IdentifierRefs, Version};
-use smallvec::SmallVec;
 use std::alloc::{AllocError, Global};
 
 /// The five values of a version, open to read and to change. Its equality counts all five, build
@@ -78,10 +77,15 @@ impl Version {
         }) }
         ensures bare { pre_release.items ≡ [] → build.items ≡ [] → IsOk result }
     {
-        if pre_release.is_empty() && build.is_empty() {
-            return Ok(Version::release(major, minor, patch));
-        }
-        let Ok(mut lists) = Lists::boxed(alloc) else {
+        let (mut pre_release, mut build) = (pre_release, build);
+        let pre_len = pre_release.len();
+        let ids = if build.is_empty() {
+            pre_release
+        } else if let Ok(mut ids) = Vec::with_capacity(alloc, pre_len + build.len()) {
+            let _ = ids.append(&mut pre_release);
+            let _ = ids.append(&mut build);
+            ids
+        } else {
             return Err(VersionParts {
                 major,
                 minor,
@@ -90,9 +94,8 @@ impl Version {
                 build,
             });
         };
-        lists.pre_release = SmallVec::from_vec(pre_release);
-        lists.build = SmallVec::from_vec(build);
-        Ok(Version::from_parts(major, minor, patch, Qualifier::Lists(lists)))
+        let lists = Qualifier::Lists(Lists { ids, pre_len });
+        Ok(Version::from_parts(major, minor, patch, lists))
     }
 
     /// The pre-release `major.minor.patch-number`, with one identifier, which is numeric.
@@ -158,7 +161,7 @@ impl Version {
             }
             _ => {
                 let pre_release = IdentifierRefs::of_text(pre_release);
-                let lists = copied(alloc, &pre_release, &IdentifierRefs::of_text(build))?;
+                let lists = Lists::copied(alloc, &pre_release, &IdentifierRefs::of_text(build))?;
                 Ok(Version::from_parts(major, minor, patch, Qualifier::Lists(lists)))
             }
         }
@@ -181,34 +184,33 @@ impl Version {
         ensures handed_back { IfErr result (λ v. v ≡ self) }
         ensures memory { OnErr result (HasIdentifiers self) }
     {
-        let Ok(mut pre_release) = Vec::with_capacity(alloc, self.pre_release().len()) else {
-            return Err(self);
-        };
-        let Ok(mut build) = Vec::with_capacity(alloc, self.build().len()) else {
-            return Err(self);
-        };
         let Version {
             major,
             minor,
             patch,
             qualifier,
         } = self;
-        match qualifier {
-            Qualifier::Absent => {}
-            Qualifier::One(id) => pre_release.push_reserved(id),
-            Qualifier::Lists(lists) => {
-                let lists = Box::into_inner(lists);
-                move_items(lists.pre_release, &mut pre_release);
-                move_items(lists.build, &mut build);
+        let split = match qualifier {
+            Qualifier::Absent => Ok((Vec::new(alloc), Vec::new(alloc))),
+            Qualifier::One(id) => {
+                let mut one = Vec::new(alloc);
+                match one.push(id) {
+                    Ok(()) => Ok((one, Vec::new(alloc))),
+                    Err(refused) => Err(Qualifier::One(refused.value)),
+                }
             }
+            Qualifier::Lists(lists) => lists.split().map_err(Qualifier::Lists),
+        };
+        match split {
+            Ok((pre_release, build)) => Ok(VersionParts {
+                major,
+                minor,
+                patch,
+                pre_release,
+                build,
+            }),
+            Err(qualifier) => Err(Version::from_parts(major, minor, patch, qualifier)),
         }
-        Ok(VersionParts {
-            major,
-            minor,
-            patch,
-            pre_release,
-            build,
-        })
     }
 
     /// A copy of the whole version, build included. Fails only if allocation fails, which never
@@ -222,29 +224,9 @@ impl Version {
         let qualifier = match &self.qualifier {
             Qualifier::Absent => Qualifier::Absent,
             Qualifier::One(id) => Qualifier::One(id.copy(alloc)?),
-            Qualifier::Lists(lists) => match number_alone(lists) {
-                Some(number) => Qualifier::One(Identifier::Numeric(number)),
-                None => {
-                    let pre_release = IdentifierRefs::of_items(&lists.pre_release);
-                    let build = IdentifierRefs::of_items(&lists.build);
-                    Qualifier::Lists(copied(alloc, &pre_release, &build)?)
-                }
-            },
+            Qualifier::Lists(lists) => lists.copy(alloc)?,
         };
         Ok(Version::from_parts(self.major, self.minor, self.patch, qualifier))
-    }
-}
-
-// The number that is the only identifier of the pre-release, where there is no build metadata.
-fn number_alone(lists: &Lists) -> Option<u64>
-    ensures some { IfSome result (λ n. (ids_view lists.now.pre_release.items ≡ id.Numeric n ∷ [])
-        × (ids_view lists.now.build.items ≡ [])) }
-    ensures none { IfNone result ((n : ℕ) → ids_view lists.now.pre_release.items ≡ id.Numeric n ∷ []
-        → ids_view lists.now.build.items ≡ [] → ⊥) }
-{
-    match (lists.pre_release.as_slice(), lists.build.as_slice()) {
-        ([Identifier::Numeric(number)], []) => Some(*number),
-        _ => None,
     }
 }
 
@@ -256,24 +238,6 @@ fn is_zeros(text: &[u8]) -> bool
     text.iter().all(|byte| *byte == b'0')
 }
 
-// Lists with identifiers of their own. A pointer is returned, so that a version without lists is
-// made where it goes.
-#[inline(never)]
-pub(crate) fn copied(
-    alloc: Global,
-    pre_release: &IdentifierRefs<'_>,
-    build: &IdentifierRefs<'_>,
-) -> Result<Box<Lists>, AllocError>
-    ensures pre_release { IfOk result (λ lists.
-        ids_view lists.value.pre_release.items ≡ pre_release.now) }
-    ensures build { IfOk result (λ lists. ids_view lists.value.build.items ≡ build.now) }
-{
-    let mut lists = Lists::boxed(alloc)?;
-    pre_release.copy_into(alloc, &mut lists.pre_release)?;
-    build.copy_into(alloc, &mut lists.build)?;
-    Ok(lists)
-}
-
 /// A bound holds a version, in the order of versions.
 impl Point for Version {
     ghost takes = { takes_memory };
@@ -281,28 +245,5 @@ impl Point for Version {
     #[tactic(auto, using(crate::proofs::Taking::taking))]
     fn copy(&self, alloc: Global) -> Result<Version, AllocError> {
         Version::copy(self, alloc)
-    }
-}
-
-// Fills an empty list with copies of these identifiers. An empty list allocates nothing.
-pub(crate) fn copy_into(alloc: Global, from: &[Identifier], to: &mut Identifiers) -> Allocated<()>
-    requires { to.old.items ≡ [] }
-    ensures whole { OnOk result (ids_view to.new.items ≡ ids_view from.now) }
-    ensures memory { OnErr result (0 < length from.now) }
-{
-    to.reserve_exact(from.len())?;
-    for id in from {
-        to.push_reserved(id.copy(alloc)?);
-    }
-    Ok(())
-}
-
-// Appends the identifiers to a list that has room for them.
-fn move_items(from: Identifiers, to: &mut Vec<Identifier>)
-    requires { vec_len to.old + length from.items ≤ vec_capacity to.old }
-    ensures { to.new.items ≡ to.old.items ++ from.items }
-{
-    for id in from {
-        to.push_reserved(id);
     }
 }

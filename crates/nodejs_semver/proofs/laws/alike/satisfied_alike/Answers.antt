@@ -1,5 +1,4 @@
-use Rattle.nodejs_semver.proofs.Common.{◌∙◌, sym}
-use Rattle.nodejs_semver.proofs.Alike.Texts.{accepted-alike, here-means, there-means}
+use Rattle.nodejs_semver.proofs.{Alike.Texts.{here-means, plain-has, plain-means, plain-same, there-means}, Common.{sym, ◌∙◌}}
 use Rattle.nodejs_semver.proofs.laws.alike.satisfied_alike.Goals as goal
 
 pub returns-clause-here : goal.returns-clause-here
@@ -12,6 +11,6 @@ returns-clause-there c = λ all k. c.satisfies-2.ensures.gate
 
 pub returns-clause-same : goal.returns-clause-same
 returns-clause-same c = λ list all h w.
-    c.satisfies.ensures.gate
-    ∙ accepted-alike c.args.text.now _ _ c.args.version.now c.utf8.text c.in_ok-here.ensures.ok c.in_ok-there.ensures.ok list all h w
+    c.satisfies.ensures.gate ∙ here-means _ _ _ _ c.utf8.text c.in_ok-here.ensures.ok (plain-means _ _ _ c.utf8.text h)
+    ∙ plain-same _ _ _ _ h w ∙ sym (there-means _ _ _ _ c.utf8.text c.in_ok-there.ensures.ok (plain-has _ _ _ c.utf8.text h))
     ∙ sym c.satisfies-2.ensures.gate

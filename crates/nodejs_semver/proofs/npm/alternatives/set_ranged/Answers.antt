@@ -1,6 +1,12 @@
-use Rattle.nodejs_semver.proofs.Common.{[], any_version, arith, common_steps, false, is_empty, list_any, rules, true, ◌∷◌, ◌≡◌}
-use Rattle.nodejs_semver.proofs.{NpmCommon.{is_unbounded, nothing}, Strict.RangeReads.{ranged_kept, ranged_list, ranged_none, ranged_open}}
+use Rattle.nodejs_semver.proofs.Common.{[], any_version, arith, common_steps, false, is_empty, length, list_any, rules, true, ◌∷◌, ◌≡◌}
+use Rattle.nodejs_semver.proofs.{NpmCommon.{is_unbounded, nothing}, Strict.RangeReads.{ranged_kept, ranged_list, ranged_none, ranged_one, ranged_open}}
 use Rattle.nodejs_semver.proofs.npm.alternatives.set_ranged.Goals as goal
+
+pub returns-then-len-eq1-clause-accepts : goal.returns-then-len-eq1-clause-accepts
+returns-then-len-eq1-clause-accepts c =
+    let found = c.args.found.now.items in
+    let one : length found ≡ 1 = first_of (search rules, grind (arith, common_steps)) in
+    ranged_list found found (ranged_one found one)
 
 pub returns-then-is_some_unbounded-clause-accepts : goal.returns-then-is_some_unbounded-clause-accepts
 returns-then-is_some_unbounded-clause-accepts c =

@@ -10,23 +10,17 @@ letters-init c =
 pub returns-in_default : goal.returns-in_default
 returns-in_default c =
     let none : next MAX_SAFE_INTEGER c.letters.state c.in-Some.letter ≡ None = sym c.next-in-letters.ensures ∙ c.in_default.is in
-    passed_stop c.args.text.now c.letters.at c.letters.state c.letters.letter-iterator.rest.now c.letters.yielded
-    c.next.new.self.rest.now c.in-Some.letter c.wrong_at.result c.utf8.text c.letters.invariant c.in-Some.ensures.steps.0
-    none c.wrong_at.ensures
+    passed_stop _ _ _ _ _ c.letters.invariant _ _ _ c.utf8.text c.in-Some.ensures.steps.0 none c.wrong_at.ensures
 
 pub letters-preserved : goal.letters-preserved
 letters-preserved c =
-    passed_more c.args.text.now c.letters.at c.letters.state c.in-Some-next.read c.letters.letter-iterator.rest.now c.letters.yielded
-    c.next.new.self.rest.now c.in-Some.letter c.len_utf8-at.result c.letters.invariant c.in-Some.ensures.steps.0
-    c.len_utf8-at.ensures.value (sym c.in-Some-next.ensures)
+    passed_more _ _ _ _ _ c.letters.invariant _ _ _ _ c.in-Some.ensures.steps.0 c.len_utf8-at.ensures.value (sym c.in-Some-next.ensures)
 
 pub returns-then-is_whole : goal.returns-then-is_whole
 returns-then-is_whole c =
-    passed_whole c.args.text.now c.letters.at c.letters.state c.letters.letter-iterator.rest.now c.letters.yielded
-    c.letters.invariant c.in-None.ensures.steps.0.0 (sym c.is_whole.ensures ∙ c.if-is_whole.true)
+    passed_whole _ _ _ _ _ c.letters.invariant c.in-None.ensures.steps.0.0 (sym c.is_whole.ensures ∙ c.if-is_whole.true)
 
 pub returns-else-is_whole : goal.returns-else-is_whole
 returns-else-is_whole c =
-    passed_end c.args.text.now c.letters.at c.letters.state c.letters.letter-iterator.rest.now c.letters.yielded
-    c.wrong_at-else-is_whole.result c.letters.invariant c.in-None.ensures.steps.0.0
+    passed_end _ _ _ _ _ c.letters.invariant _ c.in-None.ensures.steps.0.0
     (sym c.is_whole.ensures ∙ c.if-is_whole.false) c.wrong_at-else-is_whole.ensures

@@ -1,5 +1,5 @@
-use Rattle.nodejs_semver.proofs.{Common.{MAX_SAFE_INTEGER, None, ap, arith, length, ◌∙◌}, NpmCommon.npm_partial_view}
-use Rattle.nodejs_semver.{proofs.Strict.WordReads.{end_here, end_some, ends_le, partial-le}, specs.Internal.NpmViews.is_free_end}
+use Rattle.nodejs_semver.proofs.{Common.{MAX_SAFE_INTEGER, None, Some, ap, arith, length, ◌∙◌}, NpmCommon.npm_partial_view}
+use Rattle.nodejs_semver.{proofs.Strict.WordReads.{end_here, ends_le, partial-le}, specs.Internal.NpmViews.is_free_end}
 use Rattle.nodejs_semver.proofs.npm.hyphens.end_front.Goals as goal
 
 pub ended_end-requires-clause-behind : goal.ended_end-requires-clause-behind
@@ -16,8 +16,7 @@ ended_end-requires-clause-rest c =
 
 pub returns-in-Some : goal.returns-in-Some
 returns-in-Some c =
-    c.ended_end.ensures ∙ end_some c.args.loose (is_free_end c.args.side) c.is_free-free.result c.args.text.now c.skip_marks-behind.result.now (npm_partial_view c.in-Some.read.0)
-    c.in-Some.read.1.now c.skip_marks-behind.ensures c.in-Some.ensures c.is_free-free.ensures
+    c.ended_end.ensures ∙ rw c.is_free-free.ensures (end_here _ _ _ _ (Some (_, _)) c.skip_marks-behind.ensures c.in-Some.ensures)
 
 pub returns-in-None : goal.returns-in-None
 returns-in-None c = end_here c.args.loose (is_free_end c.args.side) c.args.text.now c.skip_marks-behind.result.now None c.skip_marks-behind.ensures c.in-None.ensures

@@ -13,8 +13,7 @@ row-requires c =
 pub returns-in_err-row-clause-none : goal.returns-in_err-row-clause-none
 returns-in_err-row-clause-none c =
     let w : Signed × List ℕ = (signed_view c.in_ok-word.word, c.in_ok-word.behind.now) in
-    rw c.from_residual-in_err-row.ensures
-    (invalid-word c.args.include c.args.text.now w (sym c.in_ok-word.ensures) c.in_err-row.ensures)
+    rw c.from_residual-in_err-row.ensures (invalid-word _ _ _ (sym c.in_ok-word.ensures) c.in_err-row.ensures)
 
 pub returns-clause-some : goal.returns-clause-some
 returns-clause-some c =

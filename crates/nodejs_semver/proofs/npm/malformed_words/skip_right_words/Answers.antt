@@ -5,14 +5,10 @@ pub words-init : goal.words-init
 words-init c = (here, c.requires)
 
 pub words-smaller : goal.words-smaller
-words-smaller c =
-    rw c.skip_spaces-rest.ensures
-    (left-less c.args.include c.words.rest.now c.in-Some.behind.now c.words.invariant.1 c.in-Some.ensures.some)
+words-smaller c = rw c.skip_spaces-rest.ensures (left-less _ _ _ c.words.invariant.1 c.in-Some.ensures.some)
 
 pub words-preserved : goal.words-preserved
-words-preserved c =
-    rw c.skip_spaces-rest.ensures (left-next c.args.include c.args.text.now c.words.rest.now c.in-Some.behind.now
-    c.words.invariant.1 c.words.invariant.0 c.in-Some.ensures.some)
+words-preserved c = rw c.skip_spaces-rest.ensures (left-next _ _ _ _ c.words.invariant.1 c.words.invariant.0 c.in-Some.ensures.some)
 
 pub returns-clause-fits : goal.returns-clause-fits
 returns-clause-fits c = left-fits c.args.include c.words.rest.now c.args.text.now c.words.invariant.0

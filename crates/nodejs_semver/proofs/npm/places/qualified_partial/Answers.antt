@@ -1,6 +1,5 @@
+use Rattle.nodejs_semver.{proofs.{Common.{refl, sym, ◌∙◌}, Strict.Limits.over_counted}, specs.Internal.NpmViews.place_view}
 use Rattle.semver_core.proofs.Text.Ends.{nothing_listed}
-use Rattle.nodejs_semver.proofs.{Common.{refl, sym, ◌∙◌}, Strict.Limits.over_counted}
-use Rattle.nodejs_semver.specs.Internal.NpmViews.{place_view}
 use Rattle.nodejs_semver.proofs.npm.places.qualified_partial.Goals as goal
 
 pub long_partial-requires-clause-pre_release : goal.long_partial-requires-clause-pre_release

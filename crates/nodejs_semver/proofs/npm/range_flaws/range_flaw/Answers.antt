@@ -1,15 +1,13 @@
 use Rattle.nodejs_semver.proofs.{Common.{None, arith, false, refl, rules, true, ◌≡◌}, NpmCommon.is_none, Stopping.Ranges.flawed}
-use Rattle.nodejs_semver.{proofs.Stopping.Ranges.{right_here, unflawed, wrong_here}, specs.Internal.Readings.part_view}
+use Rattle.nodejs_semver.{proofs.Stopping.Ranges.{right_here, unflawed, wrong_here}}
 use Rattle.nodejs_semver.proofs.npm.range_flaws.range_flaw.Goals as goal
 
 pub returns-then-is_none-clause-flaw : goal.returns-then-is_none-clause-flaw
 returns-then-is_none-clause-flaw c =
     let empty : is_none c.alternative.result ≡ true = first_of (search rules, grind arith) in
-    wrong_here c.args.include_prerelease c.args.text.now c.in-Some.left.now (part_view c.cut_part.result)
-    c.trimmed-blank.result.1.now c.as_bytes-bytes.result.now c.trimmed-blank.result.0 c.malformed_word-word_start.result.0
-    c.malformed_word-word_start.result.1 c.alternative.result _ c.utf8.text
-    (rw c.in-Some.is at c.pieces.invariant) c.cut_part.ensures c.trimmed-blank.ensures.start c.trimmed-blank.ensures.middle
-    c.as_bytes-bytes.ensures.value c.alternative.ensures empty c.malformed_word-word_start.ensures.word refl refl refl refl
+    wrong_here _ _ _ _ (rw c.in-Some.is at c.pieces.invariant) c.cut_part.ensures _ _ _ _ _ _ _ c.utf8.text c.trimmed-blank.ensures.start
+    c.trimmed-blank.ensures.middle c.as_bytes-bytes.ensures.value c.alternative.ensures empty c.malformed_word-word_start.ensures.word
+    refl refl refl refl
 
 pub returns-then-is_none-clause-none : goal.returns-then-is_none-clause-none
 returns-then-is_none-clause-none c = (flawed c.args.include_prerelease c.args.text.now _ c.utf8.text (returns-then-is_none-clause-flaw c)).0
@@ -20,9 +18,7 @@ returns-then-is_none-clause-only c = (flawed c.args.include_prerelease c.args.te
 pub pieces-preserved : goal.pieces-preserved
 pieces-preserved c =
     let some : is_none c.alternative.result ≡ false = first_of (search rules, grind arith) in
-    right_here c.args.include_prerelease c.args.text.now c.in-Some.left.now (part_view c.cut_part.result)
-    c.trimmed-blank.result.1.now c.as_bytes-bytes.result.now c.alternative.result c.utf8.text
-    (rw c.in-Some.is at c.pieces.invariant) c.cut_part.ensures c.trimmed-blank.ensures.middle
+    right_here _ _ _ _ (rw c.in-Some.is at c.pieces.invariant) c.cut_part.ensures _ _ _ c.utf8.text c.trimmed-blank.ensures.middle
     c.as_bytes-bytes.ensures.value c.alternative.ensures some
 
 pub returns-clause-none : goal.returns-clause-none

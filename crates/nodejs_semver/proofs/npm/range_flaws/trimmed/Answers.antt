@@ -5,6 +5,4 @@ pub skip_whitespace-requires : goal.skip_whitespace-requires
 skip_whitespace-requires c = IsCharBoundary-start c.args.text.now c.utf8.text
 
 pub returns-clause-fits : goal.returns-clause-fits
-returns-clause-fits c =
-    trimmed_fits c.args.text.now c.trim.result.now c.skip_whitespace.result c.utf8.text c.skip_whitespace.ensures
-    c.trim.ensures.middle
+returns-clause-fits c = trimmed_fits _ _ _ c.utf8.text c.skip_whitespace.ensures c.trim.ensures.middle

@@ -1,12 +1,12 @@
-use Rattle.nodejs_semver.proofs.{Common.◌∙◌, NpmCommon.{Ended, hyphen_lower, hyphen_upper}, Strict.Narrowing.{lower-bare, upper-bare}}
-use Rattle.nodejs_semver.{proofs.Strict.RangeReads.{lower-invalid, upper-read}, specs.Internal.NpmViews.end_view}
+use Rattle.nodejs_semver.proofs.{Common.{list_all-append, ◌∙◌}, NpmCommon.{Ended, hyphen_lower, hyphen_upper}}
+use Rattle.nodejs_semver.{proofs.Strict.{Narrowing.{lower-bare, upper-bare}, RangeReads.upper-read}, specs.Internal.NpmViews.end_view}
 use Rattle.nodejs_semver.proofs.npm.ranges.between.Goals as goal
 
 pub returns-in_err-from : goal.returns-in_err-from
 returns-in_err-from c =
     let e : Ended × Ended = (end_view c.args.lower.now, end_view c.args.upper.now) in
     rw c.from_residual.ensures
-    (lower-invalid c.args.include e c.all.result.interval (c.in_err-from.ensures.narrowed c.args.include (hyphen_lower c.args.include e.0.0 e.0.1) c.lower_end-first.ensures))
+    (rw (list_all-append, c.in_err-from.ensures.narrowed c.args.include (hyphen_lower c.args.include e.0.0 e.0.1) c.lower_end-first.ensures) tt)
 
 pub returns : goal.returns
 returns c =

@@ -4,11 +4,9 @@ use Rattle.nodejs_semver.proofs.npm.ranges.fill.Goals as goal
 pub returns-clause-ok : goal.returns-clause-ok
 returns-clause-ok c =
     let read = rw c.as_bytes.ensures.value at (c.in_ok-read_common.ensures.read c.if-not-branch.false) in
-    rw c.if-loose.false (common-range c.args.include c.args.text.now c.read_common.new.found.items c.set_ranged.new.found.items
-    c.utf8.text read c.set_ranged.ensures.accepts)
+    rw c.if-loose.false (common-range _ _ _ _ c.utf8.text read c.set_ranged.ensures.accepts)
 
 pub returns-clause-range : goal.returns-clause-range
 returns-clause-range c =
     let read = rw c.as_bytes.ensures.value at (c.in_ok-read_common.ensures.read c.if-not-branch.false) in
-    common-spans c.args.include c.args.text.now c.read_common.new.found.items c.set_ranged.new.found.items c.utf8.text read
-    c.set_ranged.ensures.value
+    common-spans _ _ _ _ c.utf8.text read c.set_ranged.ensures.value

@@ -12,14 +12,10 @@ returns-in_err-is_some-clause-refused c =
 
 pub parts-preserved : goal.parts-preserved
 parts-preserved c =
-    read-part c.args.loose c.args.include c.args.text.now c.parts.is_some c.in_ok-is_some.is_some c.parts.found.items c.add_part.new.found.items c.in-Some.text.now
-    c.next_part.result.0.now (rest_view c.next_part.result.1) (rw c.in-Some.is at c.parts.invariant) c.next_part.ensures.value
-    c.in_ok-is_some.ensures.added
+    read-part _ _ _ _ _ _ _ _ _ _ (rw c.in-Some.is at c.parts.invariant) c.next_part.ensures.value c.in_ok-is_some.ensures.added
 
 pub returns-then-is_some-clause-ok : goal.returns-then-is_some-clause-ok
-returns-then-is_some-clause-ok c =
-    read-all c.args.loose c.args.include c.args.text.now c.parts.found.items (rw (c.in_default.is, c.if-is_some.true) at c.parts.invariant)
+returns-then-is_some-clause-ok c = read-all _ _ _ _ (rw (c.in_default.is, c.if-is_some.true) at c.parts.invariant)
 
 pub returns-else-is_some-clause-refused : goal.returns-else-is_some-clause-refused
-returns-else-is_some-clause-refused c =
-    read-nothing c.args.loose c.args.include c.args.text.now c.parts.found.items (rw (c.in_default.is, c.if-is_some.false) at c.parts.invariant)
+returns-else-is_some-clause-refused c = read-nothing _ _ _ _ (rw (c.in_default.is, c.if-is_some.false) at c.parts.invariant)

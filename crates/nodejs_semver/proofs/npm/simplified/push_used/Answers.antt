@@ -4,8 +4,7 @@ use Rattle.nodejs_semver.proofs.npm.simplified.push_used.Goals as goal
 
 pub returns-in_err-push_copy-clause-memory : goal.returns-in_err-push_copy-clause-memory
 returns-in_err-push_copy-clause-memory g c =
-    on_err c.from_residual.result (taken_at g.V.Point.takes _ c.args.intervals.now _ c.loop-interval.found.items
-    c.loop-interval.interval-index c.interval-item.result c.loop-interval-test.true c.interval-item.is
+    on_err _ (taken_at _ _ _ _ _ _ _ c.loop-interval-test.true c.interval-item.is
     (sym c.is_used.ensures ∙ c.if-is_used.true) c.loop-interval.invariant.1 c.in_err-push_copy.ensures.memory)
 
 pub loop-interval-preserved : goal.loop-interval-preserved

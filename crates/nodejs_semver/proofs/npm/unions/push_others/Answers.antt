@@ -4,8 +4,7 @@ use Rattle.nodejs_semver.proofs.npm.unions.push_others.Goals as goal
 
 pub returns-in_err-push_copy-clause-memory : goal.returns-in_err-push_copy-clause-memory
 returns-in_err-push_copy-clause-memory g c =
-    on_err c.from_residual.result (taken_at g.V.Point.takes _ c.args.others.now _ c.loop-other.found.items
-    c.loop-other.other-index c.other-item.result c.loop-other-test.true c.other-item.is
+    on_err _ (taken_at _ _ _ _ _ _ _ c.loop-other-test.true c.other-item.is
     (ap not (sym c.is_said.ensures ∙ c.if-not-is_said.true)) c.loop-other.invariant.1 c.in_err-push_copy.ensures.memory)
 
 pub loop-other-preserved : goal.loop-other-preserved

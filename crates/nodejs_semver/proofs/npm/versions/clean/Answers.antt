@@ -5,6 +5,5 @@ use Rattle.nodejs_semver.proofs.npm.versions.clean.Goals as goal
 pub returns-clause-refused : goal.returns-clause-refused
 returns-clause-refused c =
     IfErr-weaker c.version.result (λ _. NoValue (IsVersionText MAX_SAFE_INTEGER c.unmarked.result.now))
-    (λ _. NoValue (IsClean MAX_SAFE_INTEGER c.args.text.now))
-    (λ _. clean_refused MAX_SAFE_INTEGER c.args.text.now c.trim.result.now c.unmarked.result.now c.trim.ensures.middle c.unmarked.ensures)
+    (λ _. NoValue (IsClean MAX_SAFE_INTEGER c.args.text.now)) (λ _. clean_refused _ _ _ _ c.trim.ensures.middle c.unmarked.ensures)
     c.version.ensures.refused

@@ -2,8 +2,7 @@ use Rattle.nodejs_semver.proofs.{Common.{MAX_SAFE_INTEGER, rules}, Strict.Versio
 use Rattle.nodejs_semver.proofs.npm.versions.version.Goals as goal
 
 pub returns-in-Some-clause-ok : goal.returns-in-Some-clause-ok
-returns-in-Some-clause-ok c =
-    text_read MAX_SAFE_INTEGER c.args.text.now c.trim.result.now c.in-Some.version (search rules) c.trim.ensures.middle (cc)
+returns-in-Some-clause-ok c = text_read _ _ _ _ (search rules) c.trim.ensures.middle (cc)
 
 pub returns-in-None-clause-refused : goal.returns-in-None-clause-refused
 returns-in-None-clause-refused c = text_refused MAX_SAFE_INTEGER c.args.text.now c.trim.result.now c.trim.ensures.middle (cc)

@@ -12,8 +12,7 @@ returns-then-not-loose c = elim c.then-not-loose.branch [
 
 pub returns-then-not-is_boundary : goal.returns-then-not-is_boundary
 returns-then-not-is_boundary c =
-    sym (no-boundary c.args.loose c.args.text.now c.visible_len.result c.is_boundary.result c.visible_len.ensures.value c.is_boundary.ensures
-    c.if-not-is_boundary.true)
+    sym (no-boundary _ _ _ _ c.visible_len.ensures.value c.is_boundary.ensures c.if-not-is_boundary.true)
 
 pub returns : goal.returns
 returns c =

@@ -2,16 +2,15 @@ use Rattle.nodejs_semver.proofs.Common.{IsLeastOf, None, accepts, arith, common_
 use Rattle.nodejs_semver.proofs.{Choice.Kinds.{begins_after, held_further, lower_raisable}, Choice.Least.{firsts_past, least_held, held_bare}}
 use Rattle.nodejs_semver.proofs.range.RangeOf.min_version_with_prerelease.Goals as goal
 
-pub consider_past_held-requires : goal.consider_past_held-requires
-consider_past_held-requires g c =
-    let lower = lower_raisable g.V.Versioned.value c.items-intervals.result.now _ c.interval-item.result c.loop-interval-test.true
-    c.interval-item.is _ c.items-intervals.ensures.valid c.items-intervals.ensures.value _ c.lower.ensures.value in
-    (omega arith, lower)
+pub consider_first-requires-clause-raisable : goal.consider_first-requires-clause-raisable
+consider_first-requires-clause-raisable g c =
+    lower_raisable g.V.Versioned.value c.items-intervals.result.now _ c.interval-item.result c.loop-interval-test.true
+    c.interval-item.is _ c.items-intervals.ensures.valid c.items-intervals.ensures.value _ c.lower.ensures.value
 
-pub returns-in_err-consider_past_held-clause-memory : goal.returns-in_err-consider_past_held-clause-memory
-returns-in_err-consider_past_held-clause-memory g c =
+pub returns-in_err-consider_first-clause-memory : goal.returns-in_err-consider_first-clause-memory
+returns-in_err-consider_first-clause-memory g c =
     on_err _ (begins_after g.V.Versioned.value c.items-intervals.result.now _ c.interval-item.result c.loop-interval-test.true
-    c.interval-item.is _ c.items-intervals.ensures.value _ c.lower.ensures.value c.in_err-consider_past_held.ensures.memory)
+    c.interval-item.is _ c.items-intervals.ensures.value _ c.lower.ensures.value c.in_err-consider_first.ensures.memory)
 
 pub returns : goal.returns
 returns g c =
@@ -26,4 +25,4 @@ pub loop-interval-preserved : goal.loop-interval-preserved
 loop-interval-preserved g c = held_further g.V.Versioned.value (λ v. accepts (spans_of g.V.Versioned.value c.items-intervals.result.now) v true)
     c.items-intervals.result.now c.loop-interval.interval-index c.interval-item.result c.loop-interval-test.true c.interval-item.is
     None _ _ c.loop-interval.invariant
-    (rw (c.lower.ensures.value, sym c.items-intervals.ensures.value) at c.in_ok-consider_past_held.ensures.best)
+    (rw (c.lower.ensures.value, sym c.items-intervals.ensures.value) at c.in_ok-consider_first.ensures.best)

@@ -1,4 +1,4 @@
-use Rattle.nodejs_semver.proofs.Common.{ap, arith, inl, inr, on_err, on_err_weaker, ◌++◌, ◌∙◌}
+use Rattle.nodejs_semver.proofs.Common.{ap, arith, inl, inr, on_err, on_err_weaker, on_ok_weaker, ◌++◌, ◌∙◌}
 use Rattle.nodejs_semver.proofs.Algebra.{Differences.{minus-clips, along-gaps}, FlatMaps.{lone}}
 use Rattle.nodejs_semver.proofs.range.interval_lists.push_differences.Goals as goal
 
@@ -11,13 +11,13 @@ clip_each-requires g c = (
 pub returns-in_err-pieces-clause-memory : goal.returns-in_err-pieces-clause-memory
 returns-in_err-pieces-clause-memory g c = on_err c.from_residual.result (inr (λ e. omega arith))
 
-pub returns-in_err-clip_each-clause-memory : goal.returns-in_err-clip_each-clause-memory
-returns-in_err-clip_each-clause-memory g c = on_err c.from_residual-in_err-clip_each.result (inr (λ e. omega arith))
-
 pub returns-clause-items : goal.returns-clause-items
-returns-clause-items g c = rw c.deref.ensures at c.in_ok-clip_each.ensures
+returns-clause-items g c = on_ok_weaker c.clip_each.result (λ e. rw c.deref.ensures at e
     ∙ ap (λ l. c.args.found.now.items ++ l) (minus-clips g.met.V.Ord.total c.args.these.now c.args.others.now
-    c.in_ok-pieces.pieces.items c.requires c.in_ok-pieces.ensures)
+    c.in_ok-pieces.pieces.items c.requires c.in_ok-pieces.ensures)) c.clip_each.ensures
+
+pub returns-clause-memory : goal.returns-clause-memory
+returns-clause-memory g c = on_err _ (inr (λ e. omega arith))
 
 pub returns-then-others-eq1 : goal.returns-then-others-eq1
 returns-then-others-eq1 g c =

@@ -25,4 +25,4 @@ pub returns-clause-memory : goal.returns-clause-memory
 returns-clause-memory g c = on_err_weaker c.consider-3.result (λ found. inl found) c.consider-3.ensures.memory
 
 pub patch_after-requires : goal.patch_after-requires
-patch_after-requires g c = c.requires
+patch_after-requires g c = c.requires.raisable

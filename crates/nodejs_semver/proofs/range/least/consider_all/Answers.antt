@@ -17,12 +17,18 @@ returns-in_err-consider_range-clause-memory g c = on_err _ (elim c.in_err-consid
       inr (inl (any_here BeginsAfterPre c.args.kept.now _ _ c.loop-range-test.true c.range-item.is begins))
 ])
 
+pub consider-requires : goal.consider-requires
+consider-requires g c = omega arith
+
+pub consider_range-requires : goal.consider_range-requires
+consider_range-requires g c = (omega arith, omega arith)
+
 pub consider_past-requires : goal.consider_past-requires
 consider_past-requires g c =
     let value = g.W.Versioned.value in
     let (lower, upper) = raisable_at value c.args.removed.now c.loop-interval.interval-index c.interval-item.result
     c.loop-interval-test.true c.interval-item.is c.requires in
-    (omega arith, subst (λ b. Raisable (bound_of value b)) (sym c.upper.ensures) upper)
+    record { fits = omega arith; raisable = subst (λ b. Raisable (bound_of value b)) (sym c.upper.ensures) upper }
 
 pub returns-in_err-consider_past-clause-memory : goal.returns-in_err-consider_past-clause-memory
 returns-in_err-consider_past-clause-memory g c =

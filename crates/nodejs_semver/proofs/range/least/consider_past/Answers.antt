@@ -1,4 +1,4 @@
-use Rattle.nodejs_semver.proofs.Common.{ap, append-nil, arith, bound_of, inl, inr, on_err_weaker}
+use Rattle.nodejs_semver.proofs.Common.{ap, append-nil, bound_of, inl, inr, on_err_weaker}
 use Rattle.nodejs_semver.proofs.range.least.consider_past.Goals as goal
 
 pub returns-in-Before : goal.returns-in-Before
@@ -7,8 +7,8 @@ returns-in-Before g c = record {
   memory = on_err_weaker c.consider_from.result (λ found. inl found) c.consider_from.ensures.memory;
 }
 
-pub consider_after-requires : goal.consider_after-requires
-consider_after-requires g c = (omega arith, rw c.in-After.is at c.requires)
+pub consider_after-requires-clause-raisable : goal.consider_after-requires-clause-raisable
+consider_after-requires-clause-raisable g c = rw c.in-After.is at c.requires.raisable
 
 pub returns-in-After : goal.returns-in-After
 returns-in-After g c = record {

@@ -1,14 +1,9 @@
-use Rattle.nodejs_semver.proofs.Common.{arith, ◌≡◌, rules, List, ℕ, sym, ap, ◌∙◌, true, refl, take_rest, Span, VersionValue}
-use Rattle.nodejs_semver.proofs.Common.{MAX_SAFE_INTEGER, Front, rest_view, begins_second, comparison_front, comparisons_front, passed}
-use Rattle.nodejs_semver.proofs.Common.{word_read, Bool, Bor, None, Option, Some, if◌then◌else◌}
-use Rattle.nodejs_semver.specs.{Internal.CommonViews.{bounds_front_view}, Internal.Readings.{bounds_view}}
-use Rattle.nodejs_semver.proofs.Everyday.Parts.{first-read, none-second, passed-part, passed-second}
-use Rattle.std.specs.Bool.{then_some}
+use Rattle.nodejs_semver.proofs.Common.{◌≡◌, rules, List, ℕ, sym, ap, ◌∙◌, true, refl, take_rest, Span, VersionValue}
+use Rattle.nodejs_semver.proofs.Common.{MAX_SAFE_INTEGER, Front, begins_second, comparison_front, comparisons_front, passed}
+use Rattle.nodejs_semver.proofs.Common.{word_read, IfOk, subst}
+use Rattle.nodejs_semver.specs.{Internal.CommonFronts.{part_read}, Internal.CommonViews.{bounds_front_view, passed_view}, Internal.Readings.{bounds_view}}
+use Rattle.nodejs_semver.proofs.Everyday.Parts.{first-read, none-second, second-read}
 use Rattle.nodejs_semver.proofs.readers.fast.push_comparisons.Goals as goal
-
-then-rest : (there : Bool) (rest : Bor (List ℕ)) (r : Option (Bor (List ℕ))) → r ≡ then_some there rest
-    → rest_view r ≡ (if there then Some rest.now else None)
-then-rest there rest r h = grind arith
 
 pub returns-in_default-clause-added : goal.returns-in_default-clause-added
 unfolding comparisons_front
@@ -16,26 +11,27 @@ returns-in_default-clause-added g c = rw (sym c.comparison.ensures ∙ ap bounds
 
 pub returns-then-not-matches-clause-added : goal.returns-then-not-matches-clause-added
 returns-then-not-matches-clause-added g c =
-    passed-part c.in_ok-there.there c.in-Some.rest.now (g.S.Found.items c.args.found.now) _ _ _ c.in_ok-there.ensures.added
-    (then-rest _ _ _ c.then_some.ensures) ∙ ap (λ (o : Front (Span VersionValue)). passed (g.S.Found.items c.args.found.now) o)
-    (first-read MAX_SAFE_INTEGER c.args.text.now (bounds_view c.in-Some.first) c.in-Some.rest.now
-    (sym (ap bounds_front_view c.in-Some.is) ∙ c.comparison.ensures) (search rules))
+    let a = bounds_view c.in-Some.first in
+    let rest = c.in-Some.rest.now in
+    subst (λ (o : Front (Span VersionValue)). IfOk c.push.result (λ r. passed_view r (g.S.Found.items c.push.new.found) ≡ passed (g.S.Found.items c.args.found.now) o))
+    (ap (part_read rest) c.between.ensures
+    ∙ first-read MAX_SAFE_INTEGER c.args.text.now a rest (sym (ap bounds_front_view c.in-Some.is) ∙ c.comparison.ensures) (search rules)) c.push.ensures.added
 
-pub returns-in_default-comparison-clause-added : goal.returns-in_default-comparison-clause-added
-returns-in_default-comparison-clause-added g c =
+pub returns-in-None-clause-added : goal.returns-in-None-clause-added
+returns-in-None-clause-added g c =
     let rest = c.in-Some.rest.now in
     let second : begins_second rest ≡ true = search rules in
     ap (λ (o : Front (Span VersionValue)). passed (g.S.Found.items c.args.found.now) o)
     (sym (none-second MAX_SAFE_INTEGER c.args.text.now (bounds_view c.in-Some.first) rest (sym (ap bounds_front_view c.in-Some.is) ∙ c.comparison.ensures)
     second (ap (λ (t : List ℕ). word_read MAX_SAFE_INTEGER (comparison_front MAX_SAFE_INTEGER t)) (sym (take_rest rest 1))
-    ∙ (sym c.comparison-2.ensures ∙ ap bounds_front_view c.in_default-comparison.is))))
+    ∙ (sym c.comparison-2.ensures ∙ ap bounds_front_view c.in-None.is))))
 
-pub returns-clause-added : goal.returns-clause-added
-returns-clause-added g c =
+pub returns-in-Some-comparison-clause-added : goal.returns-in-Some-comparison-clause-added
+returns-in-Some-comparison-clause-added g c =
     let rest = c.in-Some.rest.now in
     let second : begins_second rest ≡ true = search rules in
-    passed-second MAX_SAFE_INTEGER c.args.text.now (bounds_view c.in-Some.first) (bounds_view c.in-Some-comparison.second) rest c.in-Some-comparison.rest.now
-    c.in_ok-there-2.there (g.S.Found.items c.args.found.now) (g.S.Found.items c.push_both.new.found) (rest_view c.then_some-2.result)
+    subst (λ (o : Front (Span VersionValue)). IfOk c.push_both.result (λ r. passed_view r (g.S.Found.items c.push_both.new.found) ≡ passed (g.S.Found.items c.args.found.now) o))
+    (sym (second-read MAX_SAFE_INTEGER c.args.text.now (bounds_view c.in-Some.first) (bounds_view c.in-Some-comparison.second) rest c.in-Some-comparison.rest.now
     (sym (ap bounds_front_view c.in-Some.is) ∙ c.comparison.ensures) second (sym (ap bounds_front_view c.in-Some-comparison.is)
-    ∙ (c.comparison-2.ensures ∙ ap (λ (t : List ℕ). word_read MAX_SAFE_INTEGER (comparison_front MAX_SAFE_INTEGER t)) (take_rest rest 1)))
-    c.in_ok-there-2.ensures.added (then-rest _ _ _ c.then_some-2.ensures)
+    ∙ (c.comparison-2.ensures ∙ ap (λ (t : List ℕ). word_read MAX_SAFE_INTEGER (comparison_front MAX_SAFE_INTEGER t)) (take_rest rest 1)))))
+    c.push_both.ensures.added

@@ -1,6 +1,9 @@
 use Rattle.semver_core.proofs.Common.{sym, take_rest, length-take-le}
-use Rattle.semver_core.proofs.Text.{Firsts.{front_end, front_fits, front_number, ids_first, ids_others}, Listed.front_utf8}
+use Rattle.semver_core.proofs.Text.{Firsts.{front_end, front_fits, front_number, ids_first, ids_others}, Listed.{front_utf8, listed_begins}}
 use Rattle.semver_core.proofs.borrowed.dotted.first_id.Goals as goal
+
+pub scan_run-end-requires-clause-here : goal.scan_run-end-requires-clause-here
+scan_run-end-requires-clause-here c = listed_begins c.args.text.now c.requires.listed c.requires.some
 
 pub slice_bounds-run_id-end : goal.slice_bounds-run_id-end
 slice_bounds-run_id-end c =
