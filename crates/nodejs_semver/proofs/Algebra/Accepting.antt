@@ -7,7 +7,8 @@ use Rattle.nodejs_semver.proofs.Common.{lower_cut, lt, meet, meets_of, minus, na
 use Rattle.nodejs_semver.proofs.Common.{option_holds-interval, option_holds-meet, option_list_holds, option_to_list, or_left, or_parts}
 use Rattle.nodejs_semver.proofs.Common.{or_right, past_below, precedence, precedence_total, refl, remainder, remainders-hold, remainders_by}
 use Rattle.nodejs_semver.proofs.Common.{sym, true, turned_lower, turned_upper, upper_cut, ◌&&◌, ◌++◌, ◌||◌, ◌∙◌, ◌∷◌, ◌≡◌}
-use Rattle.nodejs_semver.proofs.Algebra.Gate.{both, lets_in-meet, names_above, names_below}
+use Rattle.nodejs_semver.proofs.{Algebra.Gate.{both, lets_in-meet, names_above, names_below}, Common.{get_or, length, take, ℕ, ◌+◌, ◌<◌}}
+use Rattle.std.proofs.lemmas.List.Folds.{list_any_at, list_any_more}
 
 -- ---- the points of lists
 
@@ -158,3 +159,13 @@ option_some m = grind arith
 pub meets_one_some : {V : Type 0} (R : V → V → Ordering) (ss ts : List (Span V)) → list_any
     (λ s. list_any (λ t. is_some (meet R s t)) ts) ss ≡ is_some (if_any (meets_of R ss ts))
 meets_one_some R ss ts = grind (arith, any_same, option_some, any_flat, if_any_some)
+
+-- a walk through two lists: no pair up to here passes the test, and a pair that does settles the answer
+pub none_further : {A : Type 0} (p : A → Bool) (xs : List A) (i : ℕ) (x : A) → i < length xs → x ≡ get_or xs i x
+    → list_any p (take i xs) ≡ false → p x ≡ false → list_any p (take (i + 1) xs) ≡ false
+none_further p xs i x within at h k = list_any_more p xs i x within ∙ rw (h, sym at, k) refl
+
+pub pair_found : {A B : Type 0} (p : A → B → Bool) (xs : List A) (ys : List B) (i j : ℕ) (x : A) (y : B) → i < length xs → x ≡ get_or xs i x
+    → j < length ys → y ≡ get_or ys j y → p x y ≡ true → list_any (λ a. list_any (p a) ys) xs ≡ true
+pair_found p xs ys i j x y within at in_ys at_y h = list_any_at _ xs i x within
+    (rw (sym at) (list_any_at (p x) ys j y in_ys (rw (sym at_y) h)))

@@ -8,7 +8,8 @@ use Rattle.nodejs_semver.proofs.Common.{is_some, is_some-interval, left_above, l
 use Rattle.nodejs_semver.proofs.Common.{minus, not, not-false, not-true, not_above, not_below, not_if, one_way, option_to_list, refl, remainder}
 use Rattle.nodejs_semver.proofs.Common.{remainders_by, subst, suc, sym, take, take_all, true, turned_lower, turned_upper, upper_cut}
 use Rattle.nodejs_semver.proofs.Common.{upto_below, zero, ℕ, ◌&&◌, ◌++◌, ◌+◌, ◌<◌, ◌∙◌, ◌∷◌, ◌≡◌, ◌≤◌}
-use Rattle.std.specs.List.Sorted.{IsPartitionedBy, IsPartitionPoint}
+use Rattle.nodejs_semver.proofs.Common.{Err, IfOk, IsTrue, Ok, Result}
+use Rattle.std.specs.{List.Sorted.{IsPartitionedBy, IsPartitionPoint}, Result.{IsOkAnd, MatchResult, OnErr}}
 use Rattle.nodejs_semver.proofs.Dividing.RunLemmas.{greater_assoc, lesser_assoc}
 use Rattle.nodejs_semver.specs.Internal.Along.{IsAlong}
 
@@ -332,3 +333,21 @@ module _ {V : Type 0} {R : V → V → Ordering} (o : IsTotalOrder R) where
     pub clips-to_none : (near : List (Span V)) (i : ℕ) (d : Span V) (part : Option (Span V)) → near ≡ drop r cs → IsAlong R Start cs → i < length near
         → d ≡ get_or near i d → part ≡ clip R s d → is_some part ≡ false → clips (take i near) s ≡ clips cs s
     clips-to_none near i d part e h k at is n = grind (arith, to_none)
+
+-- a part that was put at the end is the one that was to be made; and where that failed, there was one to make
+pub pushed : {A E : Type 0} (part : Result (Option A) E) (made : Option A) (old new : List A) → IfOk part (λ p. p ≡ made)
+    → IsOkAnd part (λ p. new ≡ old ++ option_to_list p) → new ≡ old ++ option_to_list made
+pushed (Ok p) made old new is k = rw (sym is) k
+pushed (Err e) made old new is k = absurd k
+
+pub unpushed : {A E : Type 0} (part : Result (Option A) E) (made : Option A) → IfOk part (λ p. p ≡ made)
+    → OnErr part (IsTrue (is_some made)) → IfOk part (λ p. IsTrue (is_some p)) → IsTrue (is_some made)
+unpushed (Ok p) made is h k = rw (sym is) k
+unpushed (Err e) made is h k = h
+
+-- what `map(Some)` returns
+pub some-map : {A E : Type 0} (r : Result A E) (part : Result (Option A) E) (x : A) → IfOk r (λ y. y ≡ x)
+    → MatchResult r (λ y. IsOkAnd part (λ p. p ≡ Some y)) (λ e. part ≡ Err e) → IfOk part (λ p. p ≡ Some x)
+some-map (Ok y) (Ok p) x is k = rw (sym is) k
+some-map (Ok y) (Err e) x is k = absurd k
+some-map (Err e) part x is k = rw k tt

@@ -131,8 +131,7 @@ impl<V: VersionPoint> RangeOf<V> {
         ensures memory { OnErr result
             (IsTrue (is_some (difference self.now other.now)) ⊎ (1 < length other.now)) }
     {
-        let mut left = SmallVec::new(alloc);
-        interval_lists::push_differences(alloc, &mut left, self.items(), other.items())?;
+        let left = interval_lists::differences(alloc, self.items(), other.items())?;
         Ok(RangeOf::from_intervals(left))
     }
 }

@@ -1,6 +1,6 @@
 // Lists of intervals: what two of them have in common, and what one leaves of another.
 
-ghost use Rattle.std.specs.Prelude.{◌++◌, ◌<◌, ◌∷◌, ◌≡◌, ◌≢◌, ◌⊎◌};
+ghost use Rattle.std.specs.Prelude.{◌++◌, ◌<◌, ◌∷◌, ◌≡◌, ◌≢◌, ◌⊎◌, IsOkAnd};
 ghost use Rattle.nodejs_semver.specs.Words.{[], clip, covers, flat_map, if_any, IfOk, is_interval};
 ghost use Rattle.nodejs_semver.specs.Words.{is_some, IsAlong, IsTrue, length, list_all, list_any};
 ghost use Rattle.nodejs_semver.specs.Words.{meet, meets_of, minus, OnErr, OnOk, option_to_list};
@@ -31,31 +31,29 @@ pub(crate) fn push_all_intersections<V: Point>(
     Ok(())
 }
 
-/// Puts the differences at the end: what is left of these intervals, in order, when the others are
-/// taken away one after another.
+/// The differences: what is left of these intervals, in order, when the others are taken away one
+/// after another.
 ///
 /// That is what of each of them lies within the complement of the others, so each is clipped to the
 /// complement's pieces, which stand in order along the line. For n intervals, m others and k
 /// results that is about n log m + m log m + k steps, which no clause promises; taking the others
 /// away one by one would copy each survivor m times.
-pub(crate) fn push_differences<V: Point>(
+pub(crate) fn differences<V: Point>(
     alloc: Global,
-    found: &mut Intervals<V>,
     these: &[Interval<V>],
     others: &[Interval<V>],
-) -> Allocated<()>
+) -> Allocated<Intervals<V>>
     requires { list_all (is_interval V.cmp) these.now ≡ true }
-    ensures items { OnOk result (found.new.items
-        ≡ found.old.items ++ minus V.cmp these.now others.now) }
+    ensures items { IfOk result (λ r. r.items ≡ minus V.cmp these.now others.now) }
     // The complement of one other interval is not made.
     ensures memory { OnErr result
         ((0 < length (minus V.cmp these.now others.now)) ⊎ (length others.now ≢ 1)) }
 {
     if others.len() == 1 {
-        return push_remainders(alloc, found, these, &others[0]);
+        return remainders(alloc, these, &others[0]);
     }
     let pieces = complement(alloc, others)?;
-    clip_each(alloc, found, these, &pieces)
+    clipped(alloc, these, &pieces)
 }
 
 /// Whether some interval of the first list meets some interval of the second: whether they have an
@@ -63,23 +61,28 @@ pub(crate) fn push_differences<V: Point>(
 pub(crate) fn meet_somewhere<V: Point>(these: &[Interval<V>], others: &[Interval<V>]) -> bool
     ensures { result ≡ is_some (if_any (meets_of V.cmp these.now others.now)) }
 {
-    these.iter().any(
-        |interval| -> bool
-            ensures { result
-                ≡ list_any (λ t. is_some (meet V.cmp interval.now t)) others.entry.now }
-        { others.iter().any(|other| interval.meets(other)) },
-    )
+    for interval in these {
+        for other in others {
+            if interval.meets(other) {
+                return true;
+            }
+        }
+    }
+    false
 }
 
 /// Whether some interval of the first list covers some interval of the second.
 pub(crate) fn cover_somewhere<V: Point>(these: &[Interval<V>], others: &[Interval<V>]) -> bool
     ensures { result ≡ list_any (λ s. list_any (λ t. covers V.cmp s t) others.now) these.now }
 {
-    these.iter().any(
-        |interval| -> bool
-            ensures { result ≡ list_any (λ t. covers V.cmp interval.now t) others.entry.now }
-        { others.iter().any(|other| interval.covers(other)) },
-    )
+    for interval in these {
+        for other in others {
+            if interval.covers(other) {
+                return true;
+            }
+        }
+    }
+    false
 }
 
 // Puts what one interval has in common with each of the others at the end. Most pairs do not meet.
@@ -116,7 +119,7 @@ fn push_common<V: Point>(
         ≡ found.old.items ++ option_to_list (meet V.cmp interval.now other.now)) }
     ensures memory { OnErr result (IsTrue (is_some (meet V.cmp interval.now other.now))) }
 {
-    push(interval.intersect(alloc, other)?, found, room)
+    push(interval.intersect(alloc, other), found, room)
 }
 
 // The complement: what the intervals leave of the whole line, in order along it. It is found by
@@ -144,9 +147,10 @@ fn clipped<V: Point>(
     ensures { IfOk result (λ r. r.items
         ≡ flat_map (λ s. flat_map (λ t. option_to_list (clip V.cmp s t)) pieces.now) these.now) }
 {
-    let room = these.len().min(30) + pieces.len().min(30);
-    let mut found = SmallVec::with_capacity(alloc, room)?;
-    clip_each(alloc, &mut found, these, pieces)?;
+    let mut found = SmallVec::new(alloc);
+    for interval in these {
+        push_clipped(alloc, &mut found, interval, pieces)?;
+    }
     Ok(found)
 }
 
@@ -156,50 +160,29 @@ fn complement_of_few<V: Point>(alloc: Global, intervals: &[Interval<V>]) -> Allo
     ensures { IfOk result (λ r. r.items
         ≡ minus V.cmp (record { lower = Unbounded; upper = Unbounded } ∷ []) intervals.now) }
 {
-    let mut left = SmallVec::new(alloc);
-    left.push_reserved(Interval::default());
+    let mut left = SmallVec::from_buf(alloc, [Interval::default()]);
     for interval in intervals {
-        let mut next = SmallVec::new(alloc);
-        left = push_remainders(alloc, &mut next, &left, interval).and(Ok(next))?;
+        left = remainders(alloc, &left, interval)?;
     }
     Ok(left)
 }
 
-// Puts what is left of each interval below and above one other at the end.
-fn push_remainders<V: Point>(
+// What is left of each interval below and above one other.
+fn remainders<V: Point>(
     alloc: Global,
-    left: &mut Intervals<V>,
     these: &[Interval<V>],
     other: &Interval<V>,
-) -> Allocated<()>
-    ensures items { OnOk result (left.new.items
-        ≡ left.old.items ++ flat_map (λ s. remainder V.cmp s other.now) these.now) }
+) -> Allocated<Intervals<V>>
+    ensures items { IfOk result (λ r. r.items
+        ≡ flat_map (λ s. remainder V.cmp s other.now) these.now) }
     ensures memory { OnErr result
         (0 < length (flat_map (λ s. remainder V.cmp s other.now) these.now)) }
 {
+    let mut left = SmallVec::new(alloc);
     for interval in these {
-        push_remainder(alloc, left, interval, other, these.len())?;
+        push_remainder(alloc, &mut left, interval, other, these.len())?;
     }
-    Ok(())
-}
-
-// Puts what of each interval lies within each of the pieces, which stand in order along the line,
-// at the end.
-fn clip_each<V: Point>(
-    alloc: Global,
-    found: &mut Intervals<V>,
-    these: &[Interval<V>],
-    pieces: &[Interval<V>],
-) -> Allocated<()>
-    requires { IsAlong V.cmp Start pieces.now }
-    ensures { OnOk result (found.new.items
-        ≡ found.old.items
-        ++ flat_map (λ s. flat_map (λ t. option_to_list (clip V.cmp s t)) pieces.now) these.now) }
-{
-    for interval in these {
-        push_clipped(alloc, found, interval, pieces)?;
-    }
-    Ok(())
+    Ok(left)
 }
 
 // Puts what of one interval lies within each of the pieces at the end. Those that do so stand
@@ -221,7 +204,7 @@ fn push_clipped<V: Point>(
         let Some(part) = interval.clip(alloc, piece)? else {
             return Ok(());
         };
-        push(Some(part), found, pieces.len())?;
+        push(Ok(Some(part)), found, pieces.len())?;
     }
     Ok(())
 }
@@ -240,20 +223,25 @@ fn push_remainder<V: Point>(
     ensures memory { OnErr result (0 < length (remainder V.cmp interval.now other.now)) }
 {
     if !interval.meets(other) {
-        return push(Some(interval.copy(alloc)?), left, room);
+        return push(interval.copy(alloc).map(Some), left, room);
     }
-    push(interval.left_below(alloc, other)?, left, room)?;
-    push(interval.left_above(alloc, other)?, left, room)
+    push(interval.left_below(alloc, other), left, room)?;
+    push(interval.left_above(alloc, other), left, room)
 }
 
-// Puts the interval at the end, if there is one. A list without room takes some for so many more,
+// Puts the interval at the end, if one was made. A list without room takes some for so many more,
 // at most 31 at once.
 #[inline(always)]
-fn push<V: Point>(part: Option<Interval<V>>, found: &mut Intervals<V>, room: usize) -> Allocated<()>
-    ensures items { OnOk result (found.new.items ≡ found.old.items ++ option_to_list part) }
-    ensures memory { OnErr result (IsTrue (is_some part)) }
+fn push<V: Point>(
+    part: Allocated<Option<Interval<V>>>,
+    found: &mut Intervals<V>,
+    room: usize,
+) -> Allocated<()>
+    ensures items { OnOk result (IsOkAnd part (λ p.
+        found.new.items ≡ found.old.items ++ option_to_list p)) }
+    ensures memory { OnErr result (IfOk part (λ p. IsTrue (is_some p))) }
 {
-    let Some(interval) = part else {
+    let Some(interval) = part? else {
         return Ok(());
     };
     if found.len() == found.capacity() {

@@ -86,15 +86,11 @@ impl<V: VersionPoint> RangeOf<V> {
             self.now) }
     {
         if let Some(version) = self.least_start() {
-            let found = owned(alloc, version)?;
-            return Ok(Some(found));
+            return owned(alloc, version).map(Some);
         }
         match least_among::<V, Version>(alloc, from_ref(self), &[])? {
             None => Ok(None),
-            Some(version) => {
-                let built = with_least_build(alloc, version, self.items())?;
-                Ok(Some(built))
-            }
+            Some(version) => with_least_build(alloc, version, self.items()).map(Some),
         }
     }
 
@@ -266,7 +262,6 @@ impl<'a, V: VersionPoint, W: VersionPoint> Search for Beyond<'a, V, W> {
     ghost fits = { FitsInMemory (the_row V.row V.Versioned (record { takes = V.takes })
         (record { cmp = V.cmp }) V.PartialEq (record { partial_cmp = V.partial_cmp })) };
 
-    #[tactic(auto, using(crate::proofs::Choice::Least::wanted_bare))]
     fn wants<C: Versioned>(&self, version: &C) -> bool {
         all_accept(self.kept, version) && !accepts(self.removed, version, false)
     }
@@ -434,26 +429,28 @@ fn consider_range<S: Search, V: VersionPoint>(
 }
 
 // Considers all candidates.
-fn consider_all<V: VersionPoint, W: VersionPoint>(
+fn consider_all<S: Search, V: VersionPoint, W: VersionPoint>(
     alloc: Global,
+    search: &S,
+    best: &mut Option<Version>,
     kept: &[RangeOf<V>],
     removed: &[Interval<W>],
-    best: &mut Option<Version>,
 ) -> Allocated<()>
-    requires { All spec.IsRaisable (spans_of W.value removed.now) }
-    ensures best { OnOk result (best.new ≡ fold (spec.better
-        (spec.wanted kept.now (spans_of W.value removed.now))) best.old
+    requires fits { S.fits }
+    requires removed { All spec.IsRaisable (spans_of W.value removed.now) }
+    ensures best { OnOk result (best.new
+        ≡ fold (spec.better (S.wanted search.now)) best.old
         (spec.candidates kept.now (spans_of W.value removed.now))) }
-    ensures memory { OnErr result
-        (spec.MayAllocate kept.now (spans_of W.value removed.now)) }
+    ensures memory { OnErr result (spec.Finds (S.wanted search.now)
+        ⊎ Any spec.BeginsAfterPre kept.now ⊎ spec.EndsAfterPre (spans_of W.value removed.now)) }
 {
-    let search = Beyond { kept, removed };
-    consider(alloc, &search, best, &release(0, 0, 0))?;
+    let first = consider(alloc, search, best, &release(0, 0, 0));
+    first?;
     for range in kept {
-        consider_range(alloc, &search, best, range)?;
+        consider_range(alloc, search, best, range)?;
     }
     for interval in removed {
-        consider_past(alloc, &search, best, interval.upper())?;
+        consider_past(alloc, search, best, interval.upper())?;
     }
     Ok(())
 }
@@ -473,7 +470,7 @@ fn least_among<V: VersionPoint, W: VersionPoint>(
     ensures memory { OnErr result (spec.MayAllocate kept.now (spans_of W.value removed.now)) }
 {
     let mut best = None;
-    consider_all(alloc, kept, removed, &mut best)?;
+    consider_all(alloc, &Beyond { kept, removed }, &mut best, kept, removed)?;
     Ok(best)
 }
 

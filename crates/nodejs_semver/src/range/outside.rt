@@ -84,10 +84,14 @@ impl<V: VersionPoint> RangeOf<V> {
             ≡ Ok (spec.is_outside direction include_prerelease self.now (W.value version.now)) }
     {
         let intervals = self.items();
-        let lies_beside = intervals
-            .iter()
-            .all(|interval| lies_opposite(interval, version, direction));
-        Ok(lies_beside && !accepts(intervals, version, include_prerelease))
+        if accepts(intervals, version, include_prerelease) {
+            return Ok(false);
+        }
+        Ok(
+            intervals
+                .iter()
+                .all(|interval| lies_opposite(interval, version, direction)),
+        )
     }
 }
 

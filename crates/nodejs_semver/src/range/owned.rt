@@ -31,7 +31,7 @@ pub(crate) fn owned_range(alloc: Global, range: Option<RangeRef<'_>>) -> Allocat
     ensures memory { OnErr result (IsSomeAnd range.entry TakesMemory) }
 {
     match range {
-        Some(range) => Ok(Some(range.to_range(alloc)?)),
+        Some(range) => range.to_range(alloc).map(Some),
         None => Ok(None),
     }
 }

@@ -1,6 +1,7 @@
-use Rattle.nodejs_semver.proofs.Common.{All, IsLeastOf, IsRaisable, None, Some, VersionValue, [], accepts, arith, false, first_so, inl}
-use Rattle.nodejs_semver.proofs.Common.{least_build, on_err, subst, sym, wanted, ◌∷◌, ◌≡◌}
+use Rattle.nodejs_semver.proofs.Common.{All, IfOk-weaker, IsLeastOf, IsRaisable, None, Some, [], arith, first_so, inl}
+use Rattle.nodejs_semver.proofs.Common.{least_build, on_err, subst, sym, wanted, ◌∷◌}
 use Rattle.nodejs_semver.proofs.Choice.{Kinds.{alone_allocates, raisable}, Least.{least_accepted, least_build_built, least_of_itself, least_of_one}}
+use Rattle.nodejs_semver.proofs.Algebra.Differences.{some-map}
 use Rattle.nodejs_semver.proofs.range.RangeOf.min_version.Goals as goal
 
 pub returns-in-None-clause-least : goal.returns-in-None-clause-least
@@ -10,17 +11,17 @@ returns-in-None-clause-least g c =
     rw (c.from_ref.ensures.value, c.in-None.is) at c.in_ok-least_among.ensures.least in
     least_of_itself ks None (least_of_one ks [] None h)
 
-pub returns-in_ok-built-in-Some-2 : goal.returns-in_ok-built-in-Some-2
-returns-in_ok-built-in-Some-2 g c =
+pub returns-in-Some-2 : goal.returns-in-Some-2
+returns-in-Some-2 g c =
     let ks = c.args.self.now in
     let v = c.in-Some-2.version in
     let h : IsLeastOf (wanted (ks ∷ []) []) (Some v) =
     rw (c.from_ref.ensures.value, c.in-Some-2.is) at c.in_ok-least_among.ensures.least in
-    let built = sym (rw c.items.ensures.value at c.in_ok-built-in-Some-2.ensures) in record {
-      least = subst (λ (x : VersionValue). IsLeastOf (λ w. accepts ks w false) (Some x)) built
-          (least_accepted ks v (least_build ks v) (least_of_one ks [] (Some v) h));
-      build = subst (λ (x : VersionValue). x.build ≡ least_build ks x) built (sym (least_build_built ks v _));
-      memory = tt;
+    let least = least_accepted ks v (least_build ks v) (least_of_one ks [] (Some v) h) in
+    let built = some-map _ _ _ (rw c.items.ensures.value at c.with_least_build.ensures) c.map-in-Some-2.ensures.cases in record {
+      least = IfOk-weaker c.map-in-Some-2.result _ _ (λ r e. rw e least) built;
+      build = IfOk-weaker c.map-in-Some-2.result _ _ (λ r e. rw e (sym (least_build_built ks v _))) built;
+      memory = on_err _ (inl (v, first_so _ _ (least_of_one ks [] (Some v) h).0));
     }
 
 pub returns-in_err-least_among-clause-memory : goal.returns-in_err-least_among-clause-memory
@@ -36,18 +37,9 @@ with_least_build-requires g c = record {
 }
 
 pub returns-in-Some : goal.returns-in-Some
-returns-in-Some g c = record {
-  least = rw c.in_ok-found.ensures c.in-Some.ensures.least;
-  build = subst (λ (x : VersionValue). x.build ≡ least_build c.args.self.now x) (sym c.in_ok-found.ensures) c.in-Some.ensures.build;
-  memory = tt;
-}
-
-pub returns-in_err-found-clause-memory : goal.returns-in_err-found-clause-memory
-returns-in_err-found-clause-memory g c = on_err _ (inl (g.V.Versioned.value c.in-Some.version.now, c.in-Some.ensures.least.0))
-
-pub returns-in_err-built-in-Some-2-clause-memory : goal.returns-in_err-built-in-Some-2-clause-memory
-returns-in_err-built-in-Some-2-clause-memory g c =
-    let v = c.in-Some-2.version in
-    let h : IsLeastOf (wanted (c.args.self.now ∷ []) []) (Some v) =
-    rw (c.from_ref.ensures.value, c.in-Some-2.is) at c.in_ok-least_among.ensures.least in
-    on_err _ (inl (v, first_so _ _ (least_of_one c.args.self.now [] (Some v) h).0))
+returns-in-Some g c =
+    let is = some-map _ _ _ c.owned.ensures c.map.ensures.cases in record {
+      least = IfOk-weaker c.map.result _ _ (λ r e. rw e c.in-Some.ensures.least) is;
+      build = IfOk-weaker c.map.result _ _ (λ r e. rw e c.in-Some.ensures.build) is;
+      memory = on_err _ (inl (g.V.Versioned.value c.in-Some.version.now, c.in-Some.ensures.least.0));
+    }

@@ -2,8 +2,8 @@ use Rattle.nodejs_semver.proofs.Common.{ap, arith, if_any, on_err}
 use Rattle.nodejs_semver.proofs.Algebra.Clauses.{intervals-ordered, minus-is, minus-some, minus-valid}
 use Rattle.nodejs_semver.proofs.range.RangeOf.remaining.Goals as goal
 
-pub push_differences-requires : goal.push_differences-requires
-push_differences-requires g c = (
+pub differences-requires : goal.differences-requires
+differences-requires g c = (
   omega arith,
   intervals-ordered _ _ g.met.V.VersionPoint.ordered _ _ _ _
       c.items.ensures.valid c.items-2.ensures.valid c.items.ensures.value c.items-2.ensures.value,
@@ -13,15 +13,15 @@ pub from_intervals-requires : goal.from_intervals-requires
 from_intervals-requires g c =
     let valid = minus-valid _ _ g.met.V.VersionPoint.ordered _ _ _ _
     c.items.ensures.valid c.items-2.ensures.valid c.items.ensures.value c.items-2.ensures.value in
-    (omega arith, (omega arith, rw (rw c.new-left.ensures.items at c.in_ok-push_differences.ensures.items) valid))
+    (omega arith, (omega arith, rw (c.in_ok-left.ensures.items) valid))
 
 pub returns-clause-list : goal.returns-clause-list
 returns-clause-list g c =
-    let items = rw c.new-left.ensures.items at c.in_ok-push_differences.ensures.items in
+    let items = c.in_ok-left.ensures.items in
     rw (c.from_intervals.ensures, items) (ap if_any (minus-is _ _ g.met.V.VersionPoint.ordered _ _ _ _
     c.items.ensures.valid c.items-2.ensures.valid c.items.ensures.value c.items-2.ensures.value))
 
-pub returns-in_err-push_differences-clause-memory : goal.returns-in_err-push_differences-clause-memory
-returns-in_err-push_differences-clause-memory g c = on_err c.from_residual.result (minus-some _ _ g.met.V.VersionPoint.ordered _ _ _ _
+pub returns-in_err-left-clause-memory : goal.returns-in_err-left-clause-memory
+returns-in_err-left-clause-memory g c = on_err c.from_residual.result (minus-some _ _ g.met.V.VersionPoint.ordered _ _ _ _
     c.items.ensures.valid c.items-2.ensures.valid c.items.ensures.value c.items-2.ensures.value
-    c.in_err-push_differences.ensures.memory)
+    c.in_err-left.ensures.memory)

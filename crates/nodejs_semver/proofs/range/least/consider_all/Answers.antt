@@ -1,5 +1,5 @@
 use Rattle.nodejs_semver.proofs.Common.{BeginsAfterPre, IsAfterPre, Raisable, arith, bound_of, inl, inr, on_err, spans_of, subst}
-use Rattle.nodejs_semver.proofs.Common.{sym, take_all, wanted}
+use Rattle.nodejs_semver.proofs.Common.{sym, take_all}
 use Rattle.nodejs_semver.proofs.Choice.Kinds.{all_marks, any_at, any_here, raisable_at, range_further, removed_further}
 use Rattle.nodejs_semver.proofs.range.least.consider_all.Goals as goal
 
@@ -7,8 +7,8 @@ pub loop-range-preserved : goal.loop-range-preserved
 loop-range-preserved g c = range_further _ c.args.kept.now _ c.range-item.result c.loop-range-test.true c.range-item.is _ _ _ c.loop-range.invariant
     c.in_ok-consider_range.ensures.best
 
-pub returns-in_err-consider-clause-memory : goal.returns-in_err-consider-clause-memory
-returns-in_err-consider-clause-memory g c = on_err _ (inl c.in_err-consider.ensures.memory)
+pub returns-in_err-first-clause-memory : goal.returns-in_err-first-clause-memory
+returns-in_err-first-clause-memory g c = on_err _ (inl c.in_err-first.ensures.memory)
 
 pub returns-in_err-consider_range-clause-memory : goal.returns-in_err-consider_range-clause-memory
 returns-in_err-consider_range-clause-memory g c = on_err _ (elim c.in_err-consider_range.ensures.memory [
@@ -17,18 +17,18 @@ returns-in_err-consider_range-clause-memory g c = on_err _ (elim c.in_err-consid
       inr (inl (any_here BeginsAfterPre c.args.kept.now _ _ c.loop-range-test.true c.range-item.is begins))
 ])
 
-pub consider-requires : goal.consider-requires
-consider-requires g c = omega arith
+pub consider-first-requires : goal.consider-first-requires
+consider-first-requires g c = c.requires.fits
 
 pub consider_range-requires : goal.consider_range-requires
-consider_range-requires g c = (omega arith, omega arith)
+consider_range-requires g c = (omega arith, c.requires.fits)
 
 pub consider_past-requires : goal.consider_past-requires
 consider_past-requires g c =
     let value = g.W.Versioned.value in
     let (lower, upper) = raisable_at value c.args.removed.now c.loop-interval.interval-index c.interval-item.result
-    c.loop-interval-test.true c.interval-item.is c.requires in
-    record { fits = omega arith; raisable = subst (λ b. Raisable (bound_of value b)) (sym c.upper.ensures) upper }
+    c.loop-interval-test.true c.interval-item.is c.requires.removed in
+    record { fits = c.requires.fits; raisable = subst (λ b. Raisable (bound_of value b)) (sym c.upper.ensures) upper }
 
 pub returns-in_err-consider_past-clause-memory : goal.returns-in_err-consider_past-clause-memory
 returns-in_err-consider_past-clause-memory g c =
@@ -41,14 +41,14 @@ returns-in_err-consider_past-clause-memory g c =
     ])
 
 pub loop-interval-preserved : goal.loop-interval-preserved
-loop-interval-preserved g c = removed_further g.W.Versioned.value (wanted c.args.kept.now (spans_of g.W.Versioned.value c.args.removed.now))
+loop-interval-preserved g c = removed_further g.W.Versioned.value (g.S.Search.wanted c.args.search.now)
     c.args.removed.now c.loop-interval.interval-index c.interval-item.result c.loop-interval-test.true c.interval-item.is
     _ _ _ c.loop-interval.invariant (rw c.upper.ensures at c.in_ok-consider_past.ensures.best)
 
 pub returns-clause-best : goal.returns-clause-best
 returns-clause-best g c =
     let removed = spans_of g.W.Versioned.value c.args.removed.now in
-    all_marks (wanted c.args.kept.now removed) c.args.kept.now removed c.args.best.now c.consider.new.best
-    c.loop-range.best c.loop-interval.best (rw c.release.ensures at c.in_ok-consider.ensures.best)
+    all_marks (g.S.Search.wanted c.args.search.now) c.args.kept.now removed c.args.best.now c.consider-first.new.best
+    c.loop-range.best c.loop-interval.best (rw c.release.ensures at c.in_ok-first.ensures.best)
     (rw (take_all _ c.args.kept.now c.loop-range-test.false) at c.loop-range.invariant)
     (rw (take_all _ c.args.removed.now c.loop-interval-test.false) at c.loop-interval.invariant)

@@ -1,9 +1,9 @@
-use Rattle.nodejs_semver.proofs.Common.{ap, arith, inl, inr, on_err, on_err_weaker, on_ok_weaker, ◌++◌, ◌∙◌}
+use Rattle.nodejs_semver.proofs.Common.{IfOk-weaker, arith, inl, inr, on_err, on_err_weaker, ◌∙◌}
 use Rattle.nodejs_semver.proofs.Algebra.{Differences.{minus-clips, along-gaps}, FlatMaps.{lone}}
-use Rattle.nodejs_semver.proofs.range.interval_lists.push_differences.Goals as goal
+use Rattle.nodejs_semver.proofs.range.interval_lists.differences.Goals as goal
 
-pub clip_each-requires : goal.clip_each-requires
-clip_each-requires g c = (
+pub clipped-requires : goal.clipped-requires
+clipped-requires g c = (
   omega arith,
   rw c.deref.ensures (along-gaps g.met.V.Ord.total c.args.others.now c.in_ok-pieces.pieces.items c.in_ok-pieces.ensures),
 )
@@ -12,9 +12,9 @@ pub returns-in_err-pieces-clause-memory : goal.returns-in_err-pieces-clause-memo
 returns-in_err-pieces-clause-memory g c = on_err c.from_residual.result (inr (λ e. omega arith))
 
 pub returns-clause-items : goal.returns-clause-items
-returns-clause-items g c = on_ok_weaker c.clip_each.result (λ e. rw c.deref.ensures at e
-    ∙ ap (λ l. c.args.found.now.items ++ l) (minus-clips g.met.V.Ord.total c.args.these.now c.args.others.now
-    c.in_ok-pieces.pieces.items c.requires c.in_ok-pieces.ensures)) c.clip_each.ensures
+returns-clause-items g c = IfOk-weaker c.clipped.result _ _ (λ r e. rw c.deref.ensures at e
+    ∙ minus-clips g.met.V.Ord.total c.args.these.now c.args.others.now c.in_ok-pieces.pieces.items c.requires c.in_ok-pieces.ensures)
+    c.clipped.ensures
 
 pub returns-clause-memory : goal.returns-clause-memory
 returns-clause-memory g c = on_err _ (inr (λ e. omega arith))
@@ -22,6 +22,6 @@ returns-clause-memory g c = on_err _ (inr (λ e. omega arith))
 pub returns-then-others-eq1 : goal.returns-then-others-eq1
 returns-then-others-eq1 g c =
     let alone = lone c.args.others.now c.index-others-0.result c.if-others-eq1.true c.index-others-0.is in record {
-      items = rw alone c.push_remainders.ensures.items;
-      memory = on_err_weaker c.push_remainders.result (λ k. inl (rw alone k)) c.push_remainders.ensures.memory;
+      items = rw alone c.remainders.ensures.items;
+      memory = on_err_weaker c.remainders.result (λ k. inl (rw alone k)) c.remainders.ensures.memory;
     }
