@@ -160,12 +160,10 @@ pub meets_one_some : {V : Type 0} (R : V → V → Ordering) (ss ts : List (Span
     (λ s. list_any (λ t. is_some (meet R s t)) ts) ss ≡ is_some (if_any (meets_of R ss ts))
 meets_one_some R ss ts = grind (arith, any_same, option_some, any_flat, if_any_some)
 
--- a walk through two lists: no pair up to here passes the test, and a pair that does settles the answer
+-- no element up to here passes the test
 pub none_further : {A : Type 0} (p : A → Bool) (xs : List A) (i : ℕ) (x : A) → i < length xs → x ≡ get_or xs i x
     → list_any p (take i xs) ≡ false → p x ≡ false → list_any p (take (i + 1) xs) ≡ false
 none_further p xs i x within at h k = list_any_more p xs i x within ∙ rw (h, sym at, k) refl
 
-pub pair_found : {A B : Type 0} (p : A → B → Bool) (xs : List A) (ys : List B) (i j : ℕ) (x : A) (y : B) → i < length xs → x ≡ get_or xs i x
-    → j < length ys → y ≡ get_or ys j y → p x y ≡ true → list_any (λ a. list_any (p a) ys) xs ≡ true
-pair_found p xs ys i j x y within at in_ys at_y h = list_any_at _ xs i x within
-    (rw (sym at) (list_any_at (p x) ys j y in_ys (rw (sym at_y) h)))
+pub one_passes : {A : Type 0} (p : A → Bool) (xs : List A) (i : ℕ) (x : A) → i < length xs → x ≡ get_or xs i x → p x ≡ true → list_any p xs ≡ true
+one_passes p xs i x within at h = list_any_at p xs i x within (rw (sym at) h)

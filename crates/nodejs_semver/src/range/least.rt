@@ -262,6 +262,7 @@ impl<'a, V: VersionPoint, W: VersionPoint> Search for Beyond<'a, V, W> {
     ghost fits = { FitsInMemory (the_row V.row V.Versioned (record { takes = V.takes })
         (record { cmp = V.cmp }) V.PartialEq (record { partial_cmp = V.partial_cmp })) };
 
+    #[tactic(auto, using(crate::proofs::Choice::Least::wanted_bare))]
     fn wants<C: Versioned>(&self, version: &C) -> bool {
         all_accept(self.kept, version) && !accepts(self.removed, version, false)
     }

@@ -1,5 +1,4 @@
-use Rattle.nodejs_semver.proofs.Common.{list_any, take, false, ◌≡◌}
-use Rattle.semver_core.specs.Cuts.{covers}
+use Rattle.nodejs_semver.{proofs.Common.{false, list_any, take, ◌≡◌}, specs.Words.{covers}}
 use Rattle.nodejs_semver.proofs.range.interval_lists.cover_somewhere.Given as goal
 
 abbrev pub invariant-loop-interval : goal.invariant-loop-interval
