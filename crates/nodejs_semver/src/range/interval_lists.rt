@@ -241,8 +241,10 @@ fn push<V: Point>(
         found.new.items ≡ found.old.items ++ option_to_list p)) }
     ensures memory { OnErr result (IfOk part (λ p. IsTrue (is_some p))) }
 {
-    let Some(interval) = part? else {
-        return Ok(());
+    let interval = match part {
+        Ok(Some(interval)) => interval,
+        Ok(None) => return Ok(()),
+        Err(error) => return Err(error),
     };
     if found.len() == found.capacity() {
         found.reserve(room.min(30) + 1)?;

@@ -17,4 +17,4 @@ returns g c =
       | then-len-capacity+in_ok-reserve w ↦ rw w.found-is w.reserve.ensures.items
       | else-len-capacity w ↦ rw w.found-is refl
     ] in
-    record { items = rw c.in_ok-interval.was (c.push_reserved.ensures.items ∙ rw (same, c.in-Some.is) refl); memory = tt }
+    record { items = rw (c.in-Ok-Some.is, c.in-Ok-Some.field-0-is) (c.push_reserved.ensures.items ∙ rw same refl); memory = tt }
