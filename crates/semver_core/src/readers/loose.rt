@@ -84,8 +84,7 @@ pub(crate) fn lists_at(alloc: Global, text: &str, at: usize) -> Allocated<(Quali
         ⊎ (0 < length (lists_at text.now at).1)) }
 {
     let Some(first) = pre_release_start(text, at) else {
-        let (build, end) = build_behind(alloc, text, at, Vec::new(alloc))?;
-        return Ok((build, end));
+        return build_behind(alloc, text, at, Vec::new(alloc));
     };
     let run = scan::scan_run(text.as_bytes(), first);
     if !scan::goes_on_at(text, run.0) && build_start(text, run.0).is_none() {
@@ -94,8 +93,7 @@ pub(crate) fn lists_at(alloc: Global, text: &str, at: usize) -> Allocated<(Quali
     }
     let mut ids = Vec::with_capacity(alloc, 4)?;
     let next = scan::read_from(alloc, text, first, run, &mut ids)?;
-    let (lists, end) = build_behind(alloc, text, next, ids)?;
-    Ok((lists, end))
+    build_behind(alloc, text, next, ids)
 }
 
 // The qualifier of a pre-release and of the build metadata at a place, and the place behind it.
@@ -109,8 +107,7 @@ fn build_behind(
     requires { at ≤ length text.now }
     ensures pre_release { IfOk result (λ found.
         pre_release_of found.0 ≡ ids_view pre_release.items) }
-    ensures build { IfOk result (λ found. build_of found.0 ≡ (build_at text.now at).0) }
-    ensures end { IfOk result (λ found. found.1 ≡ (build_at text.now at).1) }
+    ensures build { IfOk result (λ found. (build_of found.0, found.1) ≡ build_at text.now at) }
     ensures full { IfOk result (λ found. IsFull found.0) }
     ensures place { IfOk result (λ found. found.1 ≤ length text.now) }
     ensures memory { OnErr result (0 < length (build_at text.now at).0) }
