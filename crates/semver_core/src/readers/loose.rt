@@ -84,7 +84,8 @@ pub(crate) fn lists_at(alloc: Global, text: &str, at: usize) -> Allocated<(Quali
         ⊎ (0 < length (lists_at text.now at).1)) }
 {
     let Some(first) = pre_release_start(text, at) else {
-        return build_behind(alloc, text, at, Vec::new(alloc));
+        let (build, end) = build_behind(alloc, text, at, Vec::new(alloc))?;
+        return Ok((build, end));
     };
     let run = scan::scan_run(text.as_bytes(), first);
     if !scan::goes_on_at(text, run.0) && build_start(text, run.0).is_none() {
@@ -93,7 +94,8 @@ pub(crate) fn lists_at(alloc: Global, text: &str, at: usize) -> Allocated<(Quali
     }
     let mut ids = Vec::with_capacity(alloc, 4)?;
     let next = scan::read_from(alloc, text, first, run, &mut ids)?;
-    build_behind(alloc, text, next, ids)
+    let (lists, end) = build_behind(alloc, text, next, ids)?;
+    Ok((lists, end))
 }
 
 // The qualifier of a pre-release and of the build metadata at a place, and the place behind it.

@@ -8,3 +8,12 @@ returns-in-Err c =
 
 pub returns-in_err-step : goal.returns-in_err-step
 returns-in_err-step c = grind (arith, common_steps, step_may)
+
+pub returns-then-is_replaced : goal.returns-then-is_replaced
+returns-then-is_replaced c = grind (arith, common_steps)
+
+pub returns-in_err-with_build : goal.returns-in_err-with_build
+returns-in_err-with_build c = grind (arith, common_steps)
+
+pub returns : goal.returns
+returns c = grind (arith, common_steps)
