@@ -24,7 +24,8 @@ pub(super) fn by_word(
     id: &str,
     base: IdentifierBase,
 ) -> Result<Version, Failure<IncrementError>>
-    ensures { steps.IsAnswer (spec.by_word word.now id.now base (parts_ref_value version.now)) result }
+    ensures { steps.IsAnswer
+        (spec.by_word word.now id.now base (parts_ref_value version.now)) result }
 {
     match word {
         "major" => major(alloc, version),
@@ -76,7 +77,8 @@ fn prerelease(
     id: &str,
     base: IdentifierBase,
 ) -> Result<Version, Failure<IncrementError>>
-    ensures { steps.IsAnswer (steps.by_prerelease id.now base (parts_ref_value version.now)) result }
+    ensures { steps.IsAnswer
+        (steps.by_prerelease id.now base (parts_ref_value version.now)) result }
 {
     if version.pre_release.is_empty() {
         pre_step(alloc, &next_patch(version)?, id, base)
