@@ -6,6 +6,7 @@ ghost use Rattle.semver_core.specs.Words.{False, fault_of, HasIdentifiers, IfOk,
 ghost use Rattle.semver_core.specs.Words.{MemoryOnlyIf, OnErr, option_copied, parts_ref_value};
 ghost use Rattle.semver_core.specs.Words.{RefusedWith, Returns, Value};
 ghost use Rattle.semver_core.specs.Increments.Table as spec;
+ghost use Rattle.semver_core.specs.Internal.IncrementSteps as steps;
 
 use crate::increment::levels::by_word;
 use crate::increment::parts_ref::PartsRef;
@@ -156,12 +157,8 @@ fn increment(
     identifier: Option<&str>,
     base: Option<IdentifierBase>,
 ) -> Result<Version, Failure<IncrementError>>
-    ensures value { Returns
-        (spec.answer_of_inc (parts_ref_value version.now) word.now (option_copied identifier.entry)
-        base) result }
-    ensures memory { MemoryOnlyIf result (MayAllocate HasIdentifiers
-        (spec.answer_of_inc (parts_ref_value version.now) word.now (option_copied identifier.entry)
-        base)) }
+    ensures { steps.IsAnswer (spec.answer_of_inc (parts_ref_value version.now) word.now
+        (option_copied identifier.entry) base) result }
 {
     let id = identifier.unwrap_or("");
     let base = base.unwrap_or_default();

@@ -5,6 +5,7 @@ use Rattle.semver_core.proofs.Common.{arith, false, inl, length, refl, subst, sy
 use Rattle.semver_core.proofs.Common.{Err, Ok, Result, ⊤, bytes_eq, Overflow, identify, is_false, is_kept, pre_step, ◌>>=◌}
 use Rattle.semver_core.proofs.Common.{ends_at_max, Failure, Memory, Refused, IfOk, ◌&&◌, ◌^◌, MemoryOnlyIf, Returns, FailsWith}
 use Rattle.semver_core.proofs.Common.{MayAllocate, IncrementError, ◌≢◌, cond_both}
+use Rattle.semver_core.specs.Internal.IncrementSteps.{IsAnswer}
 
 -- in the words of the public clause
 may_allocate : {A : Type 0} (P : A → Type 0) (answer : Result A Fault) → MayAllocate P answer
@@ -122,19 +123,15 @@ step_may id base v h =
 -- the error where an allocation failed before the pre step
 pub step_fails : (id : List ℕ) (base : IdentifierBase) (v : VersionValue) (e : Failure IncrementError)
     → FailsWith (raise_last v.pre_release) e
-    → Returns {A = VersionValue} (pre_step id base v) (Err e)
-    × MemoryOnlyIf {A = VersionValue} (Err e) (MayAllocate HasIdentifiers (pre_step id base v))
-step_fails id base v (Refused e) h = (
-  ap (λ r. r >>= λ list. Ok (record v { pre_release = identify id base list }))
-      (advance_fails v.pre_release id base (Refused e) h),
-  tt,
-)
-step_fails id base v (Memory e) h = (tt, step_may id base v (advance_fails v.pre_release id base (Memory e) h))
+    → IsAnswer (pre_step id base v) (Err e)
+step_fails id base v (Refused e) h =
+    ap (λ r. r >>= λ list. Ok (record v { pre_release = identify id base list }))
+    (advance_fails v.pre_release id base (Refused e) h)
+step_fails id base v (Memory e) h = step_may id base v (advance_fails v.pre_release id base (Memory e) h)
 
--- an answer, in the words of the public clause
-pub memory_of : (answer : Result VersionValue Fault) (r : Result VersionValue (Failure IncrementError))
-    → MemoryOnlyIf r (MayAllocate HasIdentifiers answer)
-    → MemoryOnlyIf r ((answer ≢ Err Overflow) × IfOk answer HasIdentifiers)
-memory_of answer (Ok v) h = tt
-memory_of answer (Err (Refused e)) h = tt
-memory_of answer (Err (Memory e)) h = may_allocate HasIdentifiers answer h
+-- an answer, in the words of the public clauses
+pub answered : (answer : Result VersionValue Fault) (r : Result VersionValue (Failure IncrementError))
+    → IsAnswer answer r → Returns answer r × MemoryOnlyIf r ((answer ≢ Err Overflow) × IfOk answer HasIdentifiers)
+answered answer (Ok v) h = (h, tt)
+answered answer (Err (Refused e)) h = (h, tt)
+answered answer (Err (Memory e)) h = (tt, may_allocate HasIdentifiers answer h)

@@ -8,7 +8,7 @@ use Rattle.semver_core.specs.Increments.Table.{◌>>=◌, Fault, NotAPrerelease,
 use Rattle.semver_core.specs.Increments.Table.{by_word, checked, identify, is_false, next_major, next_minor, next_patch, pre_step, release_of}
 use Rattle.semver_core.specs.Increments.View.{fault_of}
 use Rattle.semver_core.specs.Printing.Text.{id_text, version_text}
-use Rattle.semver_core.specs.Values.Versions.{VersionValue, is_release}
+use Rattle.semver_core.specs.Values.Versions.{HasIdentifiers, VersionValue, is_release}
 use Rattle.semver_core.specs.declared.error.Failure.{Failure}
 use Rattle.semver_core.specs.declared.error.Failure.TheVariants.{Refused, Memory}
 use Rattle.semver_core.specs.declared.increment.IdentifierBase.{IdentifierBase}
@@ -19,11 +19,11 @@ use Rattle.semver_core.specs.declared.increment.parts_ref.PartsRef.{PartsRef}
 abbrev pub parts_ref_value : PartsRef → VersionValue
 parts_ref_value p = record { major = p.major; minor = p.minor; patch = p.patch; pre_release = p.pre_release; build = p.build }
 
--- the call returns these values or this error
+-- the call returns these values or this error, and takes no memory
 abbrev pub ReturnsParts : Result VersionValue Fault → Result PartsRef (Failure IncrementError) → Type 0
 ReturnsParts expected (Ok parts) = expected ≡ Ok (parts_ref_value parts)
 ReturnsParts expected (Err (Refused e)) = expected ≡ Err (fault_of e)
-ReturnsParts expected (Err (Memory e)) = ⊤
+ReturnsParts expected (Err (Memory e)) = ⊥
 
 -- the answer of `inc` by an identifier and a base that are given
 abbrev pub incremented : VersionValue → List ℕ → List ℕ → IdentifierBase → Result VersionValue Fault
@@ -87,6 +87,12 @@ abbrev pub MayAllocate : {A : Type 0} → (A → Type 0) → Result A Fault → 
 MayAllocate P (Ok value) = P value
 MayAllocate P (Err Overflow) = ⊥
 MayAllocate P (Err fault) = ⊤
+
+-- the call returns this version or this error, or an allocation fails where one may
+abbrev pub IsAnswer : Result VersionValue Fault → Result VersionValue (Failure IncrementError) → Type 0
+IsAnswer expected (Ok version) = expected ≡ Ok version
+IsAnswer expected (Err (Refused e)) = expected ≡ Err (fault_of e)
+IsAnswer expected (Err (Memory e)) = MayAllocate HasIdentifiers expected
 
 -- it is the error of this answer, or an allocation failure and the answer is not `Overflow`
 abbrev pub FailsWith : {A : Type 0} → Result A Fault → Failure IncrementError → Type 0

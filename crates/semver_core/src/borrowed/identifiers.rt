@@ -104,7 +104,8 @@ impl<'a> IdentifierRefs<'a> {
 
 // Adds copies of these identifiers to a list.
 fn push_copies(alloc: Global, items: &[Identifier], list: &mut Vec<Identifier>) -> Allocated<()>
-    ensures { OnOk result (ids_view list.new.items ≡ ids_view list.old.items ++ ids_view items.now) }
+    ensures { OnOk result
+        (ids_view list.new.items ≡ ids_view list.old.items ++ ids_view items.now) }
 {
     for id in items {
         list.push(id.copy(alloc)?)?;

@@ -1,9 +1,9 @@
 // The words of increments, a row each.
 
 ghost use Rattle.std.specs.Prelude.{◌≡◌, ◌<◌, ◌∷◌};
-ghost use Rattle.semver_core.specs.Words.{[], ⊤, begun, HasIdentifiers, ids_view, IfOk, length};
-ghost use Rattle.semver_core.specs.Words.{MayAllocate, MemoryOnlyIf, Numeric, OnOk};
-ghost use Rattle.semver_core.specs.Words.{parts_ref_value, Returns, ReturnsParts, stepped, Steps};
+ghost use Rattle.semver_core.specs.Words.{[], ⊤, begun, ids_view, IfOk, length, MayAllocate};
+ghost use Rattle.semver_core.specs.Words.{MemoryOnlyIf, Numeric, OnOk, parts_ref_value};
+ghost use Rattle.semver_core.specs.Words.{ReturnsParts, stepped, Steps};
 ghost use Rattle.semver_core.specs.Increments.Table as spec;
 ghost use Rattle.semver_core.specs.Internal.IncrementSteps as steps;
 
@@ -24,10 +24,8 @@ pub(super) fn by_word(
     id: &str,
     base: IdentifierBase,
 ) -> Result<Version, Failure<IncrementError>>
-    ensures value { Returns
+    ensures { steps.IsAnswer
         (spec.by_word word.now id.now base (parts_ref_value version.now)) result }
-    ensures memory { MemoryOnlyIf result (MayAllocate HasIdentifiers
-        (spec.by_word word.now id.now base (parts_ref_value version.now))) }
 {
     match word {
         "major" => major(alloc, version),
@@ -44,9 +42,7 @@ pub(super) fn by_word(
 }
 
 fn major(alloc: Global, version: &PartsRef<'_>) -> Result<Version, Failure<IncrementError>>
-    ensures value { Returns (steps.by_major (parts_ref_value version.now)) result }
-    ensures memory { MemoryOnlyIf result (MayAllocate HasIdentifiers
-        (steps.by_major (parts_ref_value version.now))) }
+    ensures { steps.IsAnswer (steps.by_major (parts_ref_value version.now)) result }
 {
     if version.minor == 0 && version.patch == 0 && !version.pre_release.is_empty() {
         release_of(alloc, version)
@@ -56,9 +52,7 @@ fn major(alloc: Global, version: &PartsRef<'_>) -> Result<Version, Failure<Incre
 }
 
 fn minor(alloc: Global, version: &PartsRef<'_>) -> Result<Version, Failure<IncrementError>>
-    ensures value { Returns (steps.by_minor (parts_ref_value version.now)) result }
-    ensures memory { MemoryOnlyIf result (MayAllocate HasIdentifiers
-        (steps.by_minor (parts_ref_value version.now))) }
+    ensures { steps.IsAnswer (steps.by_minor (parts_ref_value version.now)) result }
 {
     if version.patch == 0 && !version.pre_release.is_empty() {
         release_of(alloc, version)
@@ -68,9 +62,7 @@ fn minor(alloc: Global, version: &PartsRef<'_>) -> Result<Version, Failure<Incre
 }
 
 fn patch(alloc: Global, version: &PartsRef<'_>) -> Result<Version, Failure<IncrementError>>
-    ensures value { Returns (steps.by_patch (parts_ref_value version.now)) result }
-    ensures memory { MemoryOnlyIf result (MayAllocate HasIdentifiers
-        (steps.by_patch (parts_ref_value version.now))) }
+    ensures { steps.IsAnswer (steps.by_patch (parts_ref_value version.now)) result }
 {
     if version.pre_release.is_empty() {
         release_of(alloc, &next_patch(version)?)
@@ -85,9 +77,8 @@ fn prerelease(
     id: &str,
     base: IdentifierBase,
 ) -> Result<Version, Failure<IncrementError>>
-    ensures value { Returns (steps.by_prerelease id.now base (parts_ref_value version.now)) result }
-    ensures memory { MemoryOnlyIf result (MayAllocate HasIdentifiers
-        (steps.by_prerelease id.now base (parts_ref_value version.now))) }
+    ensures { steps.IsAnswer
+        (steps.by_prerelease id.now base (parts_ref_value version.now)) result }
 {
     if version.pre_release.is_empty() {
         pre_step(alloc, &next_patch(version)?, id, base)
@@ -97,9 +88,7 @@ fn prerelease(
 }
 
 fn release(alloc: Global, version: &PartsRef<'_>) -> Result<Version, Failure<IncrementError>>
-    ensures value { Returns (steps.by_release (parts_ref_value version.now)) result }
-    ensures memory { MemoryOnlyIf result (MayAllocate HasIdentifiers
-        (steps.by_release (parts_ref_value version.now))) }
+    ensures { steps.IsAnswer (steps.by_release (parts_ref_value version.now)) result }
 {
     if version.pre_release.is_empty() {
         let text = release_of(alloc, version)?.to_string(alloc)?;
@@ -111,30 +100,26 @@ fn release(alloc: Global, version: &PartsRef<'_>) -> Result<Version, Failure<Inc
 
 // The next release of a kind. Its build stands where it stood.
 fn next_major<'a>(version: &PartsRef<'a>) -> Result<PartsRef<'a>, Failure<IncrementError>>
-    ensures value { ReturnsParts (spec.next_major (parts_ref_value version.now)) result }
-    ensures memory { MemoryOnlyIf result ⊥ }
+    ensures { ReturnsParts (spec.next_major (parts_ref_value version.now)) result }
 {
     Ok(version.with_numbers(one_more(version.major)?, 0, 0))
 }
 
 fn next_minor<'a>(version: &PartsRef<'a>) -> Result<PartsRef<'a>, Failure<IncrementError>>
-    ensures value { ReturnsParts (spec.next_minor (parts_ref_value version.now)) result }
-    ensures memory { MemoryOnlyIf result ⊥ }
+    ensures { ReturnsParts (spec.next_minor (parts_ref_value version.now)) result }
 {
     Ok(version.with_numbers(version.major, one_more(version.minor)?, 0))
 }
 
 fn next_patch<'a>(version: &PartsRef<'a>) -> Result<PartsRef<'a>, Failure<IncrementError>>
-    ensures value { ReturnsParts (spec.next_patch (parts_ref_value version.now)) result }
-    ensures memory { MemoryOnlyIf result ⊥ }
+    ensures { ReturnsParts (spec.next_patch (parts_ref_value version.now)) result }
 {
     Ok(version.with_numbers(version.major, version.minor, one_more(version.patch)?))
 }
 
 // The release of the same numbers. Its build has identifiers of its own.
 fn release_of(alloc: Global, version: &PartsRef<'_>) -> Result<Version, Failure<IncrementError>>
-    ensures value { Returns (Ok (spec.release_of (parts_ref_value version.now))) result }
-    ensures memory { MemoryOnlyIf result (0 < length version.now.build) }
+    ensures { steps.IsAnswer (Ok (spec.release_of (parts_ref_value version.now))) result }
 {
     if version.build.is_empty() {
         return Ok(Version::release(version.major, version.minor, version.patch));
@@ -172,16 +157,13 @@ fn replaced(
     Ok(Version::from_parts(version.major, version.minor, version.patch, lists))
 }
 
-#[tactic(auto, using(crate::proofs::Increments::Memory::step_may))]
 fn pre_step(
     alloc: Global,
     version: &PartsRef<'_>,
     id: &str,
     base: IdentifierBase,
 ) -> Result<Version, Failure<IncrementError>>
-    ensures value { Returns (spec.pre_step id.now base (parts_ref_value version.now)) result }
-    ensures memory { MemoryOnlyIf result (MayAllocate HasIdentifiers
-        (spec.pre_step id.now base (parts_ref_value version.now))) }
+    ensures { steps.IsAnswer (spec.pre_step id.now base (parts_ref_value version.now)) result }
 {
     if id.is_empty() && version.pre_release.is_empty() && version.build.is_empty() {
         return Ok(numbered(version, base));

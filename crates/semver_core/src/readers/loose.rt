@@ -109,8 +109,7 @@ fn build_behind(
     requires { at ≤ length text.now }
     ensures pre_release { IfOk result (λ found.
         pre_release_of found.0 ≡ ids_view pre_release.items) }
-    ensures build { IfOk result (λ found. build_of found.0 ≡ (build_at text.now at).0) }
-    ensures end { IfOk result (λ found. found.1 ≡ (build_at text.now at).1) }
+    ensures build { IfOk result (λ found. (build_of found.0, found.1) ≡ build_at text.now at) }
     ensures full { IfOk result (λ found. IsFull found.0) }
     ensures place { IfOk result (λ found. found.1 ≤ length text.now) }
     ensures memory { OnErr result (0 < length (build_at text.now at).0) }

@@ -1,6 +1,7 @@
 // What stands behind the three numbers of a version.
 
-ghost use Rattle.std.specs.Prelude.{◌≡◌, ◌≤◌, ◌<◌, ◌∷◌, [], drop, IfErr, IfOk, IsOk, length, OnErr, take};
+ghost use Rattle.std.specs.Prelude.{◌≡◌, ◌≤◌, ◌<◌, ◌∷◌, [], drop, IfErr, IfOk, IsOk, length};
+ghost use Rattle.std.specs.Prelude.{OnErr, take};
 ghost use Rattle.semver_core.specs.Internal.Inside.{AreLists, IsFull, build_of, pre_release_of};
 ghost use Rattle.semver_core.specs.{Text.Identifiers.Numeric, Values.Views.ids_view};
 

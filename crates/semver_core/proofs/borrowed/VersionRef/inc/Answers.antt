@@ -1,7 +1,7 @@
-use Rattle.semver_core.proofs.Increments.Memory.{memory_of}
+use Rattle.semver_core.proofs.Increments.Memory.{answered}
 use Rattle.semver_core.proofs.borrowed.VersionRef.inc.Goals as goal
 
 pub returns : goal.returns
 returns c =
-    rw (← c.of.ensures)
-    (record { value = c.increment.ensures.value; memory = memory_of _ _ c.increment.ensures.memory })
+    let said = answered _ _ c.increment.ensures in
+    rw (← c.of.ensures) (record { value = said.0; memory = said.1 })

@@ -20,12 +20,12 @@ returns-in-pre c = rw c.in-pre.is c.pre_step-in-pre.ensures
 
 pub returns-in_ok-next_major-in-premajor : goal.returns-in_ok-next_major-in-premajor
 returns-in_ok-next_major-in-premajor c =
-    rw (c.in-premajor.is, c.in_ok-next_major-in-premajor.ensures.value) c.pre_step.ensures
+    rw (c.in-premajor.is, c.in_ok-next_major-in-premajor.ensures) c.pre_step.ensures
 
 pub returns-in_ok-next_minor-in-preminor : goal.returns-in_ok-next_minor-in-preminor
 returns-in_ok-next_minor-in-preminor c =
-    rw (c.in-preminor.is, c.in_ok-next_minor-in-preminor.ensures.value) c.pre_step-in-preminor.ensures
+    rw (c.in-preminor.is, c.in_ok-next_minor-in-preminor.ensures) c.pre_step-in-preminor.ensures
 
 pub returns-in_ok-next_patch-in-prepatch : goal.returns-in_ok-next_patch-in-prepatch
 returns-in_ok-next_patch-in-prepatch c =
-    rw (c.in-prepatch.is, c.in_ok-next_patch-in-prepatch.ensures.value) c.pre_step-in-prepatch.ensures
+    rw (c.in-prepatch.is, c.in_ok-next_patch-in-prepatch.ensures) c.pre_step-in-prepatch.ensures
