@@ -176,16 +176,8 @@ fn push_caret<'a, S: Found<'a>>(text: &'a [u8], found: &mut S) -> Allocated<Opti
     push_word(table::caret(&partial), rest, found)
 }
 
-// The interval of a hyphen word, if it has one.
-#[inline(never)]
-fn hyphen<'a>(lower: Partial<'a>, upper: Partial<'a>) -> Option<Interval<VersionRef<'a>>>
-    ensures { result ≡ table MAX_SAFE_INTEGER
-        (hyphen (partial_view lower.entry) (partial_view upper.entry)) }
-{
-    between(table::hyphen(&lower, &upper))
-}
-
 // Adds the interval from a partial to the one at the front, and returns what follows it.
+#[inline(never)]
 fn push_hyphen<'a, S: Found<'a>>(
     lower: Partial<'a>,
     text: &'a [u8],
@@ -198,7 +190,7 @@ fn push_hyphen<'a, S: Found<'a>>(
     ensures full { OnErr result (S.room ≤ length (S.items found.old)) }
 {
     match bare_front(text) {
-        Some((upper, rest)) => push_rare(hyphen(lower, upper), rest, found),
+        Some((upper, rest)) => push(between(table::hyphen(&lower, &upper)), rest, found),
         None => Ok(None),
     }
 }

@@ -159,12 +159,34 @@ impl Version {
                 let zero = Qualifier::One(Identifier::Numeric(0));
                 Ok(Version::from_parts(major, minor, patch, zero))
             }
-            _ => {
-                let pre_release = IdentifierRefs::of_text(pre_release);
-                let lists = Lists::copied(alloc, &pre_release, &IdentifierRefs::of_text(build))?;
-                Ok(Version::from_parts(major, minor, patch, Qualifier::Lists(lists)))
-            }
+            _ => Version::with_lists(alloc, major, minor, patch, pre_release, build),
         }
+    }
+
+    // The version of three numbers and of lists of the identifiers that two texts spell. It is
+    // inlined: room for the lists is made only where there are some.
+    #[inline(always)]
+    fn with_lists(
+        alloc: Global,
+        major: u64,
+        minor: u64,
+        patch: u64,
+        pre_release: &[u8],
+        build: &[u8],
+    ) -> Allocated<Version>
+        requires pre_release { is_listed pre_release.now ≡ true }
+        requires build { is_listed build.now ≡ true }
+        ensures { IfOk result (λ v. v ≡ record {
+          major = major;
+          minor = minor;
+          patch = patch;
+          pre_release = listed pre_release.now;
+          build = listed build.now;
+        }) }
+    {
+        let pre_release = IdentifierRefs::of_text(pre_release);
+        let lists = Lists::copied(alloc, &pre_release, &IdentifierRefs::of_text(build))?;
+        Ok(Version::from_parts(major, minor, patch, Qualifier::Lists(lists)))
     }
 
     /// The five values of the version.
