@@ -2,23 +2,23 @@
 pub use Rattle.nodejs_semver.specs.Internal.Fronts.{after_byte, begins_byte, begins_wildcard, number_front}
 pub use Rattle.nodejs_semver.specs.Internal.{NpmAlternatives.{AcceptAsRanged, AreNarrowed, NarrowedBy, nothing}, NpmMeaning.AreRead}
 pub use Rattle.nodejs_semver.specs.Internal.{NpmMeaning.{IsCommon, IsNarrowed, counted, is_unbounded, is_zero}, NpmParts.are_normal}
-pub use Rattle.nodejs_semver.specs.Internal.{NpmParts.{Numbers, npm_partial_view, npm_sign_view, release, within}, NpmReadings.{IsStrictPreRelease, is_strict_list}}
+pub use Rattle.nodejs_semver.specs.Internal.{NpmParts.{Numbers, npm_partial_view, npm_sign_view, release, within}, NpmReadings.{IsStrictPreRelease, is_strict_identifier}}
 pub use Rattle.nodejs_semver.specs.Internal.{NpmReadings.begins_padded, NpmReads.{IsFound, words_of}, NpmStates.is_whole}
 pub use Rattle.nodejs_semver.specs.Internal.{NpmTuples.IsLastBefore, NpmViews.{signed_front_view, signed_view}, NpmWords.{Ended, Signed}}
 pub use Rattle.nodejs_semver.specs.Internal.NpmWords.{are_spelled, counted_front, drop_ends, ended_end, hyphen_comparisons, hyphen_of}
-pub use Rattle.nodejs_semver.specs.Internal.NpmWords.{is_free_lower, is_free_upper, is_one_v, is_short_build, is_small, kept, last_end, limited, limited_end, limited_hyphen}
+pub use Rattle.nodejs_semver.specs.Internal.NpmWords.{is_free_lower, is_free_upper, is_lost, is_one_v, is_short_build, is_small, kept, last_end, limited, limited_end, limited_hyphen}
 pub use Rattle.nodejs_semver.specs.Internal.NpmWords.{limited_word, marked_word, marks_len, most_digits, or_late, run_place, second_front}
 pub use Rattle.nodejs_semver.specs.Internal.{NpmWords.{skip_equal, skip_greater, skip_tilde, third_front, valid_only}, PartFronts.left_over}
 pub use Rattle.nodejs_semver.specs.{Internal.{Readings.{bounds_view, comparator_view}, Words.or_else}, Npm.Alike.IsPlainPartial}
 pub use Rattle.nodejs_semver.specs.Npm.Alike.{IsPlainText, IsPlainWord, is_firm, is_plain, may_have, more, npm_partial, one_word, signed}
 pub use Rattle.nodejs_semver.specs.Npm.{Alike.two_words, Coerced.{IsLeftmost, IsRightmost, IsRun, IsTuple, IsTupleIn}, Flaws.GoesOn}
 pub use Rattle.nodejs_semver.specs.Npm.{Flaws.{IsFront, IsSpelled, wrong_of}, Grammar.{IsStrictBuild, IsStrictNumber, bare}}
-pub use Rattle.nodejs_semver.specs.Npm.Grammar.{begins_undashed, dashed, has_leading_zero, is_strict_identifier, no_build}
+pub use Rattle.nodejs_semver.specs.Npm.Grammar.{begins_undashed, dashed, has_leading_zero, is_strict_list, no_build}
 pub use Rattle.nodejs_semver.specs.Npm.{Grammar.{no_pre_release, plus}, Malformed.{begins_malformed, is_malformed}}
 pub use Rattle.nodejs_semver.specs.Internal.NpmMalformed.{is_visible}
 pub use Rattle.nodejs_semver.specs.Npm.{MalformedWords.{IsLeft, IsMalformedWord, here}, RangeText.AreAlternatives}
 pub use Rattle.nodejs_semver.specs.Npm.RangeText.{AreMarks, AreWords, IsAlternative, IsPartial, IsPlace, IsSignText, IsWord, are_marks}
-pub use Rattle.nodejs_semver.specs.Npm.RangeText.{are_whole_marks, caret_equal, has_zeros, ignored, is_lost}
+pub use Rattle.nodejs_semver.specs.Npm.RangeText.{are_whole_marks, caret_equal, has_zeros, ignored}
 pub use Rattle.nodejs_semver.specs.Npm.RangeText.{is_mark, is_short_identifier, is_spelled, last, late_above, late_below}
 pub use Rattle.nodejs_semver.specs.Npm.RangeText.{may_stand, no_sign, none, one, partial_of, sign, spelling, three, tilde_twice, two, word}
 pub use Rattle.nodejs_semver.specs.Npm.Ranges.{HasAlternatives, HasAlternativesIn, IsRangeIn, is_valid, meets, satisfies}

@@ -82,7 +82,7 @@ word-is : (is_last : Bool) (limit : ℕ) (pre : Bool) (text : List ℕ) (word : 
     → IsWord false false is_last text cs
 word-is is_last limit pre text word cs (bare t p h) = Npm.word [] [] t (compared equal) _ Npm.no_sign (no_marks (compared equal) _) refl h.npm
 word-is is_last limit pre text word cs (signed s t p h m) =
-    Npm.word (spelling s) [] t s _ (sign_text s) (no_marks s _) (no_mark (is_empty (spelling s))) h.npm
+    Npm.word (spelling s) [] t s _ (sign_text s) (no_marks s _) (no_mark _) h.npm
 
 part-is : (limit : ℕ) (pre : Bool) (text : List ℕ) (s : Span VersionValue) (cs : List Comparison)
     → IsPlainAlternative limit pre text s cs → IsAlternative false false text cs

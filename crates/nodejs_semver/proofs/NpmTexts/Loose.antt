@@ -219,10 +219,10 @@ loose-read limit text v (written mark x y z pre build w m i j k p q) = parts-rea
 pub loose_text_read : (limit : ℕ) (text middle : List ℕ) (v : VersionValue) → IsUtf8 middle → length (chars text) ≤ MAX_LENGTH
     → IsTrim text middle → loose_version limit middle ≡ Some v → IsLooseVersionText limit text v
 loose_text_read limit text middle v u short trimmed h =
-    record { short = short; middle = middle; trimmed = trimmed; is = loose-found limit middle v u h }
+    (short, middle, trimmed, loose-found limit middle v u h)
 
 pub loose_text_refused : (limit : ℕ) (text middle : List ℕ) → IsTrim text middle → loose_version limit middle ≡ None
     → NoValue (IsLooseVersionText limit text)
 loose_text_refused limit text middle trimmed h = λ v w.
-    let same = middle_is_trim text middle trimmed ∙ sym (middle_is_trim text w.middle w.trimmed) in
-    cc (loose-read limit w.middle v w.is, h, same)
+    let same = middle_is_trim text middle trimmed ∙ sym (middle_is_trim text w.1 w.2) in
+    cc (loose-read limit w.1 v w.3, h, same)

@@ -164,10 +164,10 @@ row-identifiers : are_spelled true (codes "rc.01") ∷ are_spelled false (codes 
     ≡ true ∷ false ∷ true ∷ []
 row-identifiers = refl
 
--- `==1.2.3` and `>=vv1.2.3` have marks that stand there loosely, and `>=1.2.3` is read as one sign
+-- `==1.2.3` and `>=vv1.2.3` have marks that stand there loosely
 row-marks : map (λ loose. are_marks loose (compared equal) (plain 1 2 3) (codes "=") ∷ (are_marks loose (compared at_least) (plain 1 2 3) (codes "vv")
-    ∷ (are_marks loose (compared above) (plain 1 2 3) (codes "=") ∷ []))) (true ∷ false ∷ [])
-    ≡ (true ∷ true ∷ false ∷ []) ∷ ((false ∷ false ∷ false ∷ []) ∷ [])
+    ∷ [])) (true ∷ false ∷ [])
+    ≡ (true ∷ true ∷ []) ∷ ((false ∷ false ∷ []) ∷ [])
 row-marks = refl
 
 -- ---- malformed words

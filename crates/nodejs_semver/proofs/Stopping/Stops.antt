@@ -149,11 +149,11 @@ one_flaw limit text (At w a) (At v b) x y =
     cc (place, wrong)
 
 spelled : (limit : ℕ) (text : List ℕ) (v : VersionValue) → IsVersionText limit text v → IsSpelled limit text
-spelled limit text v h = record { version = v; middle = h.middle; trimmed = h.trimmed; is = h.is }
+spelled limit text v h = record { version = v; middle = h.1; trimmed = h.2; is = h.3 }
 
 -- a version has none
 pub no_flaw : (limit : ℕ) (text : List ℕ) (f : Flaw) (v : VersionValue) → IsVersionText limit text v → IsFlaw limit text f → ⊥
-no_flaw limit text TooLong v h x = omega (arith, x, h.short)
+no_flaw limit text TooLong v h x = omega (arith, x, h.0)
 no_flaw limit text (At w a) v h x = x.1.0.none (spelled limit text v h)
 
 pub flaw_none : (limit : ℕ) (text : List ℕ) (f : Flaw) → IsFlaw limit text f

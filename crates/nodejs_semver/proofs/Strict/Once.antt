@@ -5,8 +5,8 @@ use Rattle.nodejs_semver.proofs.Strict.{AlternativeLaw.alternatives_are, Version
 
 pub version_once : (limit : ℕ) (text : List ℕ) (v w : VersionValue) → IsVersionText limit text v → IsVersionText limit text w → v ≡ w
 version_once limit text v w h k =
-    let same : h.middle ≡ k.middle = middle_is_trim text h.middle h.trimmed ∙ sym (middle_is_trim text k.middle k.trimmed) in
-    same_Some v w (sym (strict-read-version limit h.middle v h.is) ∙ ap (λ (t : List ℕ). strict_version limit t) same ∙ strict-read-version limit k.middle w k.is)
+    let same : h.1 ≡ k.1 = middle_is_trim text h.1 h.2 ∙ sym (middle_is_trim text k.1 k.2) in
+    same_Some v w (sym (strict-read-version limit h.1 v h.3) ∙ ap (λ (t : List ℕ). strict_version limit t) same ∙ strict-read-version limit k.1 w k.3)
 
 pub alternatives_once : (loose : Bool) (limit : ℕ) (include : Bool) (text : List ℕ) (a b : List (List Comparison)) → IsUtf8 text
     → HasAlternativesIn loose limit include text a → HasAlternativesIn loose limit include text b → a ≡ b

@@ -83,21 +83,21 @@ printed_short text v (written mark x y z pre build w m i j k p q) = grind (arith
 pub reread : (text : List ℕ) (v : VersionValue) → IsUtf8 text → IsVersionText MAX_SAFE_INTEGER text v
     → IsVersionText MAX_SAFE_INTEGER (version_text (Table.no_build v)) (Table.no_build v)
     × (list_all (λ c. is_identifier_char c || (c == 46 || c == 43)) (version_text (Table.no_build v)) ≡ true)
-reread text v u h =
-    let is = printed h.middle v h.is in
+reread text v u (short, middle, trimmed, h) =
+    let is = printed middle v h in
     let all = plain-middle MAX_SAFE_INTEGER (version_text (Table.no_build v)) (Table.no_build v) is in
     let same : chars (version_text (Table.no_build v)) ≡ version_text (Table.no_build v) = chars-IsAscii _ (all_ascii _ all) in (
-      record {
-        short = omega (
+      (
+        omega (
           arith,
-          h.short,
+          short,
           ap length same,
-          printed_short h.middle v h.is,
-          middle_short text h.middle u h.trimmed (plain-middle MAX_SAFE_INTEGER h.middle v h.is),
-        );
-        middle = version_text (Table.no_build v);
-        trimmed = plain_trim _ all;
-        is = is;
-      },
+          printed_short middle v h,
+          middle_short text middle u trimmed (plain-middle MAX_SAFE_INTEGER middle v h),
+        ),
+        version_text (Table.no_build v),
+        plain_trim _ all,
+        is,
+      ),
       all,
     )

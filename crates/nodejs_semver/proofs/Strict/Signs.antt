@@ -1,10 +1,10 @@
 -- The signs of node-semver's words, with the whitespace behind them: what is read is written, and what is written is read.
 use Rattle.nodejs_semver.proofs.Common.{Bool, Comparator, IsBlank, IsUtf8, List, [], above, and_parts, ap, append_assoc, arith, at_most}
-use Rattle.nodejs_semver.proofs.Common.{begins, below, cases_Bool, common_steps, drop, drop_spaces, drop_spaces-blank, drop_spaces-none}
+use Rattle.nodejs_semver.proofs.Common.{below, cases_Bool, common_steps, drop, drop_spaces, drop_spaces-blank, drop_spaces-none}
 use Rattle.nodejs_semver.proofs.Common.{encode_utf8_all, eqb-true, equal, false, if◌then◌else◌, inl, inr, is_empty, is_whitespace, len_utf8_bounds, length}
-use Rattle.nodejs_semver.proofs.Common.{list_all, nat_lt, nat_tests, not, refl, space_len, subst, true, ℕ, ◌&&◌, ◌++◌, ◌<◌, ◌==◌, ◌||◌, ◌∙◌}
+use Rattle.nodejs_semver.proofs.Common.{list_all, nat_lt, nat_tests, refl, space_len, subst, true, ℕ, ◌&&◌, ◌++◌, ◌<◌, ◌==◌, ◌||◌, ◌∙◌}
 use Rattle.nodejs_semver.proofs.{Common.{◌∷◌, ◌≡◌, ◌⊎◌}, NpmCommon.{IsSignText, are_marks, at_least, begins_byte, caret_equal, compared}}
-use Rattle.nodejs_semver.proofs.NpmCommon.{is_mark, is_one_v, late_above, late_below, no_sign, npm_sign, or_late, sign, skip_equal}
+use Rattle.nodejs_semver.proofs.NpmCommon.{is_mark, late_above, late_below, no_sign, npm_sign, or_late, sign, skip_equal}
 use Rattle.nodejs_semver.proofs.NpmCommon.{skip_greater, skip_tilde, space_len-white, spelling, tilde_twice}
 use Rattle.nodejs_semver.proofs.Reading.{Bytes.{begins_component, is_solid, solid-dark}, WordLaw.{skips-is, skips-utf8, tail-utf8}}
 use Rattle.nodejs_semver.{proofs.Strict.Qualifiers.byte-begins, specs.{Internal.NpmWords.skip_twice, Npm.RangeText.tilde_sign}}
@@ -263,20 +263,16 @@ kept loose s p marks x text u e h = record { left = marks; is = e; marked = h; s
 pub marks-all : (loose : Bool) (s : Sign) (p : Partial) (marks : List ℕ) → are_marks loose s p marks ≡ true → list_all is_mark marks ≡ true
 marks-all loose s p marks h = grind (arith, nat_tests, common_steps)
 
--- `>` and `<` are followed by no `=` among the marks
-one-other : (marks u : List ℕ) → is_one_v marks ≡ true → begins_component u ≡ true → begins_byte 61 (marks ++ u) ≡ false
-one-other marks u h k = grind (arith, nat_tests, common_steps)
+-- behind this sign no `=` stands first among the marks
+abbrev pub is_open : Sign → Bool
+is_open s = list_all (λ b. b == 60 || b == 62) (spelling s)
 
-not-other : (marks u : List ℕ) → not (begins (λ b. b == 61) marks) ≡ true → begins_component u ≡ true → begins_byte 61 (marks ++ u) ≡ false
+pub open-first : (text : List ℕ) → is_open (npm_sign text).0 ≡ true → begins_byte 61 (npm_sign text).1 ≡ false
+unfolding npm_sign
+open-first text h = grind (arith, nat_tests, common_steps)
+
+not-other : (marks u : List ℕ) → begins_byte 61 marks ≡ false → begins_component u ≡ true → begins_byte 61 (marks ++ u) ≡ false
 not-other marks u h k = grind (arith, nat_tests, common_steps)
-
-above-other : (loose : Bool) (p : Partial) (marks u : List ℕ) → are_marks loose (compared above) p marks ≡ true
-    → begins_component u ≡ true → begins_byte 61 (marks ++ u) ≡ false
-above-other loose p marks u h k = grind (arith, nat_tests, common_steps, not-other, and_parts, one-other)
-
-below-other : (loose : Bool) (p : Partial) (marks u : List ℕ) → are_marks loose (compared below) p marks ≡ true
-    → begins_component u ≡ true → begins_byte 61 (marks ++ u) ≡ false
-below-other loose p marks u h k = grind (arith, nat_tests, common_steps, not-other, and_parts, one-other)
 
 -- ---- no sign
 
@@ -324,22 +320,22 @@ late-read one two y t h dark = grind (arith, nat_tests, common_steps, blank-case
 
 -- ---- what is written is read
 
-signed-taken : (loose : Bool) (s : Sign) (p : Partial) (y marks x u : List ℕ) → IsBlank y → are_marks loose s p marks ≡ true → begins_component u ≡ true
-    → Taken loose s p marks x u ((spelling s ++ y) ++ (marks ++ u))
+signed-taken : (loose : Bool) (s : Sign) (p : Partial) (y marks x u : List ℕ) → IsBlank y → are_marks loose s p marks ≡ true
+    → (is_open s && begins_byte 61 marks) ≡ false → begins_component u ≡ true → Taken loose s p marks x u ((spelling s ++ y) ++ (marks ++ u))
 unfolding npm_sign
-signed-taken loose (compared at_least) p y marks x u h m k =
+signed-taken loose (compared at_least) p y marks x u h m none k =
     grind (arith, nat_tests, common_steps, opens, marks-all, kept, blank-skipped)
-signed-taken loose (compared above) p y marks x u h m k =
-    grind (arith, nat_tests, common_steps, opens, marks-all, one-read, above-other, kept)
-signed-taken loose (compared equal) p y marks x u h m k =
+signed-taken loose (compared above) p y marks x u h m none k =
+    grind (arith, nat_tests, common_steps, opens, marks-all, one-read, not-other, kept)
+signed-taken loose (compared equal) p y marks x u h m none k =
     grind (arith, nat_tests, common_steps, opens, marks-all, equal-front, kept, blank-skipped)
-signed-taken loose (compared at_most) p y marks x u h m k =
+signed-taken loose (compared at_most) p y marks x u h m none k =
     grind (arith, nat_tests, common_steps, opens, marks-all, kept, blank-skipped)
-signed-taken loose (compared below) p y marks x u h m k =
-    grind (arith, nat_tests, common_steps, opens, marks-all, one-read, below-other, kept)
-signed-taken loose caret p y marks x u h m k =
+signed-taken loose (compared below) p y marks x u h m none k =
+    grind (arith, nat_tests, common_steps, opens, marks-all, one-read, not-other, kept)
+signed-taken loose caret p y marks x u h m none k =
     grind (arith, nat_tests, common_steps, marks-all, blank-skipped, opens, caret-taken, equal-left)
-signed-taken loose tilde p y marks x u h m k =
+signed-taken loose tilde p y marks x u h m none k =
     grind (arith, nat_tests, common_steps, marks-all, opens, no_greater-left, tilde-taken, equal-left)
 
 bare-taken : (loose : Bool) (p : Partial) (marks x u : List ℕ) → are_marks loose (compared equal) p marks ≡ true → begins_byte 61 marks ≡ false
@@ -347,10 +343,10 @@ bare-taken : (loose : Bool) (p : Partial) (marks x u : List ℕ) → are_marks l
 bare-taken loose p marks x u m none k = grind (arith, plain-front, component-other, and_parts, marks-all)
 
 pub sign-taken : (loose : Bool) (signs : List ℕ) (s : Sign) (p : Partial) (marks x u : List ℕ) → IsSignText signs s → are_marks loose s p marks ≡ true
-    → (is_empty signs && begins_byte 61 marks) ≡ false → begins_component u ≡ true → Taken loose s p marks x u (signs ++ (marks ++ u))
+    → ((is_empty signs || is_open s) && begins_byte 61 marks) ≡ false → begins_component u ≡ true → Taken loose s p marks x u (signs ++ (marks ++ u))
 unfolding npm_sign
 sign-taken loose signs s p marks x u no_sign m none k = bare-taken loose p marks x u m none k
-sign-taken loose signs s p marks x u (sign t y h) m none k = signed-taken loose t p y marks x u h m k
+sign-taken loose signs s p marks x u (sign t y h) m none k = signed-taken loose t p y marks x u h m (grind arith) k
 sign-taken loose signs s p marks x u (late_above y h) m none k =
     grind (arith, nat_tests, common_steps, opens, marks-all, append_assoc, late-read, kept)
 sign-taken loose signs s p marks x u (late_below y h) m none k =

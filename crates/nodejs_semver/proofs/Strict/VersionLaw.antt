@@ -92,20 +92,20 @@ strict-read-version limit text v (written mark x y z pre build w m i j k p q) =
 pub text_read : (limit : ℕ) (text middle : List ℕ) (v : VersionValue) → length (chars text) ≤ MAX_LENGTH → IsTrim text middle
     → strict_version limit middle ≡ Some v → IsVersionText limit text v
 text_read limit text middle v short trimmed h =
-    record { short = short; middle = middle; trimmed = trimmed; is = strict-found-version limit middle v h }
+    (short, middle, trimmed, strict-found-version limit middle v h)
 
 pub text_refused : (limit : ℕ) (text middle : List ℕ) → IsTrim text middle → strict_version limit middle ≡ None
     → NoValue (IsVersionText limit text)
 text_refused limit text middle trimmed h = λ v w.
-    let same = middle_is_trim text middle trimmed ∙ sym (middle_is_trim text w.middle w.trimmed) in
-    cc (strict-read-version limit w.middle v w.is, h, same)
+    let same = middle_is_trim text middle trimmed ∙ sym (middle_is_trim text w.1 w.2) in
+    cc (strict-read-version limit w.1 v w.3, h, same)
 
 -- the same of a text that is cleaned
 pub clean_refused : (limit : ℕ) (text middle rest : List ℕ) → IsTrim text middle → rest ≡ drop (prefix_len is_mark middle) middle
     → NoValue (IsVersionText limit rest) → NoValue (IsClean limit text)
 clean_refused limit text middle rest trimmed e none = λ v w.
-    let same : w.middle ≡ middle = middle_is_trim text w.middle w.trimmed ∙ sym (middle_is_trim text middle trimmed) in
-    none v (subst (λ (t : List ℕ). IsVersionText limit t v) (ap (λ (m : List ℕ). drop (prefix_len is_mark m) m) same ∙ sym e) w.is)
+    let same : w.0 ≡ middle = middle_is_trim text w.0 w.1 ∙ sym (middle_is_trim text middle trimmed) in
+    none v (subst (λ (t : List ℕ). IsVersionText limit t v) (ap (λ (m : List ℕ). drop (prefix_len is_mark m) m) same ∙ sym e) w.2)
 
 -- ---- a text has no more characters than bytes, and as many as its iterator counts
 

@@ -3,14 +3,14 @@ use Rattle.nodejs_semver.proofs.Common.{Bool, Front, IsBlank, IsUtf8, List, None
 use Rattle.nodejs_semver.proofs.Common.{arith, begins, bind_some, cases_Bool, common_steps, cond_some, drop, drop_at, drop_spaces, eqb-true}
 use Rattle.nodejs_semver.proofs.Common.{equal, false, inl, inr, is_boundary, is_empty, length, length-append, list_all, lt-ltb, nat_tests}
 use Rattle.nodejs_semver.proofs.Common.{prefix_len, refl, same_Some, space_len, subst, suc, sym, take, take-append-drop, take_at, true}
-use Rattle.nodejs_semver.proofs.{Common.{zero, ℕ, ◌&&◌, ◌++◌, ◌-◌, ◌<◌, ◌==◌, ◌∙◌, ◌∷◌, ◌≡◌, ◌≤◌}, NpmCommon.{AreWords, Comparison}}
+use Rattle.nodejs_semver.proofs.{Common.{zero, ℕ, ◌&&◌, ◌++◌, ◌-◌, ◌<◌, ◌==◌, ◌||◌, ◌∙◌, ◌∷◌, ◌≡◌, ◌≤◌}, NpmCommon.{AreWords, Comparison}}
 use Rattle.nodejs_semver.proofs.NpmCommon.{IsPartial, IsPlace, IsWord, Signed, any_word, are_marks, begins_byte, begins_malformed, compared}
 use Rattle.nodejs_semver.proofs.NpmCommon.{ignored, ignored_front, is_mark, is_visible, last, marked_word, marks_len, npm_sign, signed_word}
 use Rattle.nodejs_semver.proofs.{NpmCommon.{wildcard, word, word_front, ◌>>?◌}, Reading.Bytes.{begins-on, begins-some, begins_component}}
 use Rattle.nodejs_semver.proofs.Reading.{Bytes.is_component_byte, PartialLaw.{spaces-gone, spaces-le}, WordLaw.boundary-utf8}
 use Rattle.nodejs_semver.proofs.{Reading.WordLaw.suffix-boundary, Strict.Malformed.{boundary-dark, ignored-read, malformed-visible}}
 use Rattle.nodejs_semver.proofs.Strict.{Malformed.{sign-visible, visible-dark, word-regular}, PartialLaw.{boundary-quiet, partial-found}}
-use Rattle.nodejs_semver.proofs.Strict.{PartialLaw.partial-read, Places.digits-begin, Signs.{blank-at, blank-cases, blank-skipped}}
+use Rattle.nodejs_semver.proofs.Strict.{PartialLaw.partial-read, Places.digits-begin, Signs.{blank-at, blank-cases, blank-skipped, is_open, open-first}}
 use Rattle.nodejs_semver.proofs.Strict.{Signs.{marks-all, sign-found, sign-taken}, VersionLaw.empty-is}
 use Rattle.nodejs_semver.specs.{Internal.NpmWords.{ended_word, partial_front, words_within}, Npm.{RangeText.more, Table.{Partial, Sign}}}
 use Rattle.nodejs_semver.specs.Npm.Table.{table}
@@ -83,9 +83,12 @@ first-take : (n : ℕ) (text : List ℕ) → begins_byte 61 text ≡ false → b
 first-take n text h = grind arith
 
 unsigned : (text signs : List ℕ) (n : ℕ) → text ≡ signs ++ (npm_sign text).1
-    → (is_empty signs && begins_byte 61 (take n (npm_sign text).1)) ≡ false
+    → ((is_empty signs || is_open (npm_sign text).0) && begins_byte 61 (take n (npm_sign text).1)) ≡ false
 unsigned text [] n e = first-take n (npm_sign text).1 (rw e at (none-first text e))
-unsigned text (b ∷ signs) n e = refl
+unsigned text (b ∷ signs) n e = elim (cases_Bool (is_open (npm_sign text).0)) [
+  | inl mark ↦ rw mark (first-take n (npm_sign text).1 (open-first text mark))
+  | inr other ↦ rw other refl
+]
 
 abbrev read_as : Bool → Signed × List ℕ → Front (List Comparison)
 read_as include w = Some (table include w.0.0 w.0.1 w.0.2, w.1)

@@ -1,13 +1,13 @@
 -- For proofs and private contracts. What node-semver's strict reading finds in a text, as functions.
-use Rattle.std.specs.Prelude.{◌==◌, ◌&&◌, ℕ, Bool, false, List, [], ◌∷◌, Option, Some, None, if◌then◌else◌}
+use Rattle.std.specs.Prelude.{◌==◌, ◌&&◌, not, ℕ, Bool, false, List, [], ◌∷◌, Option, Some, None, if◌then◌else◌}
 use Rattle.std.specs.Char.{is_ascii_digit}
 use Rattle.std.specs.List.{list_all}
 use Rattle.semver_core.specs.Internal.Reading.{◌>>?◌}
 use Rattle.semver_core.specs.Lists.{is_empty}
-use Rattle.semver_core.specs.Text.Identifiers.{Id, listed, pieces}
+use Rattle.semver_core.specs.Text.Identifiers.{Id, listed}
 use Rattle.semver_core.specs.Values.Versions.{VersionValue}
 use Rattle.nodejs_semver.specs.Internal.Fronts.{Front, after_byte, begins_byte, build_front, drop_v, number_front, pre_release_front}
-use Rattle.nodejs_semver.specs.Npm.Grammar.{IsPreRelease, is_strict_identifier}
+use Rattle.nodejs_semver.specs.Npm.Grammar.{IsPreRelease, has_leading_zero, is_strict_list}
 
 -- the text begins with `0` and a digit
 abbrev pub begins_padded : List ℕ → Bool
@@ -26,9 +26,9 @@ dotted_number limit text = after_byte 46 text >>? λ rest. strict_number limit r
 unfoldable pub dashed_front : List ℕ → List ℕ × List ℕ
 dashed_front text = if begins_byte 45 text then pre_release_front text else ([], text)
 
--- identifiers of a strict pre-release, joined by dots
-abbrev pub is_strict_list : List ℕ → Bool
-is_strict_list text = list_all is_strict_identifier (pieces text)
+-- an identifier of a strict pre-release: if it is digits alone, it has no leading zero
+abbrev pub is_strict_identifier : List ℕ → Bool
+is_strict_identifier text = not (list_all is_ascii_digit text && has_leading_zero text)
 
 abbrev pub IsStrictPreRelease : List ℕ → List Id → Type 0
 IsStrictPreRelease = IsPreRelease false is_strict_list

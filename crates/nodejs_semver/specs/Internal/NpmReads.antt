@@ -8,8 +8,7 @@ use Rattle.semver_core.specs.declared.TheConstants.{MAX_SAFE_INTEGER}
 use Rattle.nodejs_semver.specs.Internal.NpmAlternatives.{AreNarrowed}
 use Rattle.nodejs_semver.specs.Internal.NpmMeaning.{IsNarrowed}
 use Rattle.nodejs_semver.specs.Internal.NpmWords.{alternative_of, hyphen_comparisons, hyphen_ends}
-use Rattle.nodejs_semver.specs.Internal.NpmWords.{kept, valid_only, valid_words}
-use Rattle.nodejs_semver.specs.Npm.RangeText.{is_lost}
+use Rattle.nodejs_semver.specs.Internal.NpmWords.{is_lost, kept, valid_only, valid_words}
 use Rattle.nodejs_semver.specs.Internal.Parts.{parts}
 use Rattle.semver_core.specs.Lists.{is_empty}
 use Rattle.nodejs_semver.specs.Npm.Table.{Comparison}

@@ -10,13 +10,13 @@ use Rattle.semver_core.specs.Lists.{is_empty}
 use Rattle.semver_core.specs.Text.Identifiers.{Id, listed, pieces}
 use Rattle.semver_core.specs.Values.Versions.{is_release}
 use Rattle.nodejs_semver.specs.Internal.Fronts.{Front, after_byte, begins_byte, begins_identifier, begins_wildcard, build_front, marked_list}
-use Rattle.nodejs_semver.specs.Internal.NpmReadings.{dashed_front, is_strict_list}
+use Rattle.nodejs_semver.specs.Internal.NpmReadings.{dashed_front}
 use Rattle.nodejs_semver.specs.Internal.Parts.{parts}
 use Rattle.nodejs_semver.specs.Internal.Words.{after_some_space, is_boundary, or_else}
 use Rattle.nodejs_semver.specs.Internal.NpmMalformed.{is_visible}
-use Rattle.nodejs_semver.specs.Npm.Malformed.{begins_malformed}
-use Rattle.nodejs_semver.specs.Npm.RangeText.{are_marks, are_whole_marks, has_zeros, is_free, is_lost, is_mark, is_short_identifier, is_spelled, may_stand, partial_of}
-use Rattle.nodejs_semver.specs.Npm.Grammar.{begins_undashed}
+use Rattle.nodejs_semver.specs.Npm.Malformed.{begins_malformed, ends_malformed}
+use Rattle.nodejs_semver.specs.Npm.RangeText.{are_marks, are_whole_marks, has_zeros, is_free, is_mark, is_short_identifier, is_spelled, may_stand, partial_of}
+use Rattle.nodejs_semver.specs.Npm.Grammar.{begins_undashed, is_strict_list}
 use Rattle.nodejs_semver.specs.Npm.Ranges.{is_valid}
 use Rattle.nodejs_semver.specs.Npm.Table.{Comparison, Partial, Sign, caret, compared, hyphen_lower, hyphen_upper, major, minor, table, tilde, whole, wildcard}
 use Rattle.nodejs_semver.specs.Text.WordText.{Comparator, above, at_least, at_most, below, equal}
@@ -336,6 +336,10 @@ alternative_of loose include [] = Some []
 alternative_of loose include (b ∷ rest) = or_else
     (words_within loose include (length (b ∷ rest)) (b ∷ rest))
     (hyphen_ends loose include (b ∷ rest) >>? λ e. Some (hyphen_comparisons include e))
+
+-- loosely words without comparators are no alternative if the first and the last one are malformed
+abbrev pub is_lost : Bool → List ℕ → List Comparison → Bool
+is_lost loose text cs = loose && (is_empty cs && (begins_malformed text && ends_malformed text))
 
 -- alternatives with one more before them, unless that is lost
 abbrev pub kept : Bool → List ℕ → List Comparison → List (List Comparison) → List (List Comparison)

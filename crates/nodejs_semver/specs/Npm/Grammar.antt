@@ -4,7 +4,7 @@ use Rattle.std.specs.Prelude.{◌≡◌, ◌==◌, ◌&&◌, ◌||◌, not, ℕ,
 use Rattle.std.specs.Char.{is_ascii_alphabetic, is_ascii_digit}
 use Rattle.std.specs.List.{list_all}
 use Rattle.semver_core.specs.Text.Characters.{begins, is_identifier_char}
-use Rattle.semver_core.specs.Text.Identifiers.{Id, IsIdentifiers}
+use Rattle.semver_core.specs.Text.Identifiers.{Id, IsIdentifiers, pieces}
 use Rattle.semver_core.specs.Text.Numbers.{IsNumber}
 
 -- the text has more than one character and begins with `0`
@@ -16,23 +16,21 @@ pub record IsStrictNumber (limit : ℕ) (digits : List ℕ) (n : ℕ) : Type 0 w
   pub number : IsNumber limit digits n
   pub shortest : has_leading_zero digits ≡ false
 
--- an identifier of a strict pre-release: if it is digits alone, it has no leading zero
-abbrev pub is_strict_identifier : List ℕ → Bool
-is_strict_identifier text = not (list_all is_ascii_digit text && has_leading_zero text)
+-- the identifiers of a strict pre-release: one that is digits alone has no leading zero
+abbrev pub is_strict_list : List ℕ → Bool
+is_strict_list text = list_all (λ id. not (list_all is_ascii_digit id && has_leading_zero id)) (pieces text)
 
 -- a pre-release may begin so without `-`: with a letter, with one digit before a dot, which the patch number does
 -- not take, as `4.5` in `1.2.34.5`, or with a `-` that no identifier follows, as in `1.2.3-`
 abbrev pub begins_undashed : List ℕ → Bool
-begins_undashed [] = false
-begins_undashed (b ∷ rest) = is_ascii_alphabetic b || (is_ascii_digit b && (begins (λ b. b == 46) rest
-    && begins is_identifier_char (drop 1 rest)) || b == 45 && not (begins is_identifier_char rest))
+begins_undashed text = begins is_ascii_alphabetic text || (begins is_ascii_digit text && (begins (λ b. b == 46) (drop 1 text)
+    && begins is_identifier_char (drop 2 text)) || begins (λ b. b == 45) text && not (begins is_identifier_char (drop 1 text)))
 
 -- a pre-release (pre): `-` and identifiers joined by dots (parts), or nothing; loosely `-` may be absent. `fits` says which texts
 -- of identifiers may stand there.
 pub data IsPreRelease (loose : Bool) (fits : List ℕ → Bool) : List ℕ → List Id → Type 0 where
   no_pre_release : IsPreRelease loose fits [] []
-  dashed : (text : List ℕ) (list : List Id) → IsIdentifiers text list → fits text ≡ true
-      → IsPreRelease loose fits (codes "-" ++ text) list
+  dashed : (text : List ℕ) (list : List Id) → IsIdentifiers text list → fits text ≡ true → IsPreRelease loose fits (codes "-" ++ text) list
   bare : (text : List ℕ) (list : List Id) → IsIdentifiers text list → fits text ≡ true
       → (loose && begins_undashed text) ≡ true → IsPreRelease loose fits text list
 

@@ -16,7 +16,7 @@ use Rattle.semver_core.specs.Text.Characters.{begins, is_whitespace, IsBlank, Is
 use Rattle.semver_core.specs.Text.Identifiers.{Id, pieces}
 use Rattle.semver_core.specs.Text.Numbers.{IsNumber}
 use Rattle.semver_core.specs.Values.Versions.{VersionValue, is_release}
-use Rattle.nodejs_semver.specs.Npm.Grammar.{IsPreRelease, IsStrictBuild, has_leading_zero, is_strict_identifier}
+use Rattle.nodejs_semver.specs.Npm.Grammar.{IsPreRelease, IsStrictBuild, has_leading_zero, is_strict_list}
 use Rattle.nodejs_semver.specs.Npm.Malformed.{begins_malformed, ends_malformed, is_malformed}
 use Rattle.nodejs_semver.specs.Npm.Table.{Comparison, Partial, Sign, caret, compared, hyphen_lower, major}
 use Rattle.nodejs_semver.specs.Npm.Table.{hyphen_upper, minor, table, tilde, whole, wildcard}
@@ -46,8 +46,7 @@ has_zeros a = elim a [ None ↦ true | Some M ↦ nat_lt 0 M ]
 
 -- the identifiers of a pre-release: strictly they are such, and loosely their text is as long at most
 abbrev pub may_stand : Bool → List ℕ → Bool
-may_stand loose ids = (if loose then nat_le (length ids) 128 else list_all is_strict_identifier (pieces ids))
-    && list_all is_short_identifier (pieces ids)
+may_stand loose ids = (if loose then nat_le (length ids) 128 else is_strict_list ids) && list_all is_short_identifier (pieces ids)
 
 -- the partial of its places
 abbrev pub partial_of : Option ℕ → Option ℕ → Option ℕ → List Id → List Id → Partial
@@ -70,8 +69,7 @@ pub data IsPartial (loose : Bool) : List ℕ → Partial → Type 0 where
 -- ---- words
 
 abbrev pub spelling : Sign → List ℕ
-spelling (compared c) =
-    elim c [ at_least ↦ codes ">=" | above ↦ codes ">" | equal ↦ codes "=" | at_most ↦ codes "<=" | below ↦ codes "<" ]
+spelling (compared c) = elim c [ at_least ↦ codes ">=" | above ↦ codes ">" | equal ↦ codes "=" | at_most ↦ codes "<=" | below ↦ codes "<" ]
 spelling caret = codes "^"
 spelling tilde = codes "~"
 
@@ -98,20 +96,18 @@ abbrev pub are_whole_marks : Bool → List ℕ → Bool
 are_whole_marks loose marks = if loose then list_all is_mark marks else is_empty marks || bytes_eq marks (codes "v")
 
 -- the marks that may stand between a sign and a partial: strictly those before a whole version that is compared, and
--- else any, but no `=` first behind `>` and `<`
+-- else any
 abbrev pub are_marks : Bool → Sign → Partial → List ℕ → Bool
 are_marks false (compared c) (whole v) marks = are_whole_marks false marks
-are_marks loose (compared above) p marks = list_all is_mark marks && not (begins (λ b. b == 61) marks)
-are_marks loose (compared below) p marks = list_all is_mark marks && not (begins (λ b. b == 61) marks)
 are_marks loose s p marks = list_all is_mark marks
 
--- a word (simple), the last one or not: a sign, marks and a partial. Without a sign the first mark is no `=`, since that
--- would be the sign. Loosely it may also be malformed, and has then no comparators.
+-- a word (simple), the last one or not: a sign, marks and a partial. Without a sign, and behind `>` and `<`, the first mark
+-- is no `=`, since that would belong to the sign. Loosely it may also be malformed, and has then no comparators.
 pub data IsWord (loose include is_last : Bool) : List ℕ → List Comparison → Type 0 where
   ignored : (x : List ℕ) → loose ≡ true → is_malformed is_last x ≡ true → IsWord loose include is_last x []
   word : (signs marks text : List ℕ) (s : Sign) (p : Partial) → IsSignText signs s → are_marks loose s p marks ≡ true
-      → (is_empty signs && begins (λ b. b == 61) marks) ≡ false → IsPartial loose text p
-      → IsWord loose include is_last (signs ++ (marks ++ text)) (table include s p (marks ++ text))
+      → ((is_empty signs || list_all (λ b. b == 60 || b == 62) (spelling s)) && begins (λ b. b == 61) marks) ≡ false
+      → IsPartial loose text p → IsWord loose include is_last (signs ++ (marks ++ text)) (table include s p (marks ++ text))
 
 -- ---- alternatives
 
@@ -133,21 +129,17 @@ is_free changes p = elim p [ whole v ↦ changes v | _ ↦ true ]
 -- an alternative (range): nothing, a hyphen range (hyphen) or words
 pub data IsAlternative (loose include : Bool) : List ℕ → List Comparison → Type 0 where
   nothing : IsAlternative loose include [] []
-  hyphen : (a x blank gap b y : List ℕ) (p q : Partial) → AreMarks a
-      → (is_free (λ v. false) p || are_whole_marks loose a) ≡ true → IsPartial loose x p → IsBlank blank → 0 < length blank
-      → IsBlank gap → 0 < length gap → AreMarks b
+  hyphen : (a x blank gap b y : List ℕ) (p q : Partial) → AreMarks a → (is_free (λ v. false) p || are_whole_marks loose a) ≡ true
+      → IsPartial loose x p → IsBlank blank → 0 < length blank → IsBlank gap → 0 < length gap → AreMarks b
       → (is_free (λ v. include || not (is_release v)) q || are_whole_marks loose b) ≡ true → IsPartial loose y q
       → IsAlternative loose include (a ++ (x ++ (blank ++ (codes "-" ++ (gap ++ (b ++ y))))))
       (hyphen_lower include p (a ++ x) ++ hyphen_upper include q (b ++ y))
   words : (x : List ℕ) (cs : List Comparison) → AreWords loose include x cs → IsAlternative loose include x cs
 
--- loosely words without comparators are no alternative if the first and the last one are malformed
-abbrev pub is_lost : Bool → List ℕ → List Comparison → Bool
-is_lost loose text cs = loose && (is_empty cs && (begins_malformed text && ends_malformed text))
-
--- the alternatives between bars (range-set), each without the whitespace around it
+-- the alternatives between bars (range-set), each without the whitespace around it. Loosely words without comparators are none if
+-- the first and the last one are malformed.
 pub data AreAlternatives (loose include : Bool) : List (List ℕ) → List (List Comparison) → Type 0 where
   none : AreAlternatives loose include [] []
-  next : (piece text : List ℕ) (others : List (List ℕ)) (cs : List Comparison) (rest : List (List Comparison))
-      → IsTrim piece text → IsAlternative loose include text cs → AreAlternatives loose include others rest
-      → AreAlternatives loose include (piece ∷ others) (if is_lost loose text cs then rest else cs ∷ rest)
+  next : (piece text : List ℕ) (others : List (List ℕ)) (cs : List Comparison) (rest : List (List Comparison)) → IsTrim piece text
+      → IsAlternative loose include text cs → AreAlternatives loose include others rest → AreAlternatives loose include (piece ∷ others)
+      (if loose && (is_empty cs && (begins_malformed text && ends_malformed text)) then rest else cs ∷ rest)

@@ -16,8 +16,7 @@ use Rattle.nodejs_semver.specs.Text.WordText.{above, at_least, at_most, below, e
 
 -- the numbers of a comparator are up to the limit, and its version has at most 256 characters as a text
 abbrev pub is_valid : ℕ → Comparison → Bool
-is_valid limit c = nat_le c.version.major limit && nat_le c.version.minor limit
-    && nat_le c.version.patch limit && nat_le (length c.text) MAX_LENGTH
+is_valid max c = let v = c.version in nat_le v.major max && nat_le v.minor max && nat_le v.patch max && nat_le (length c.text) MAX_LENGTH
 
 -- the text has these alternatives, one or more, each a list of comparators. A text that has none is
 -- rejected. `loose` says whether it is read by node-semver's option of this name.
@@ -49,14 +48,12 @@ meets include v cs = list_all (satisfies v) cs && (is_release v || (include || l
 -- the alternatives accept the version: some one does. Without pre-releases included, an alternative in
 -- which no comparator counts accepts each release, and leaves the others out.
 abbrev pub accepts : Bool → List (List Comparison) → VersionValue → Bool
-accepts include alternatives v =
-    if not include && list_any (λ cs. not (list_any (counts include) cs)) alternatives then is_release v
+accepts include alternatives v = if not include && list_any (λ cs. not (list_any (counts include) cs)) alternatives then is_release v
     else list_any (λ cs. meets include v (filter (counts include) cs)) alternatives
 
 -- a range, as its intervals, of a text: asked whether pre-releases are included as its text was, it accepts
 -- the versions that the alternatives of the text accept
-pub record IsRangeIn (loose : Bool) (limit : ℕ) (include : Bool) (text : List ℕ)
-    (range : List (Span VersionValue)) : Type 0 where
+pub record IsRangeIn (loose : Bool) (limit : ℕ) (include : Bool) (text : List ℕ) (range : List (Span VersionValue)) : Type 0 where
   pub alternatives : List (List Comparison)
   pub has : HasAlternativesIn loose limit include text alternatives
   pub accepted : (v : VersionValue) → Gate.accepts range v include ≡ accepts include alternatives v

@@ -46,8 +46,7 @@ first p = elim p [ major M ↦ (M, 0, 0) | minor M m ↦ (M, m, 0) | whole v ↦
 
 -- those of the next release above M, above M.m, and above the M.m of a whole version
 abbrev pub next : Partial → ℕ × ℕ × ℕ
-next p =
-    elim p [ major M ↦ (M + 1, 0, 0) | minor M m ↦ (M, m + 1, 0) | whole v ↦ (v.major, v.minor + 1, 0) | _ ↦ (0, 0, 0) ]
+next p = elim p [ major M ↦ (M + 1, 0, 0) | minor M m ↦ (M, m + 1, 0) | whole v ↦ (v.major, v.minor + 1, 0) | _ ↦ (0, 0, 0) ]
 
 -- those of the next release in which the first number changes that is not 0, or the last one written
 abbrev pub next_changed : Partial → ℕ × ℕ × ℕ
@@ -66,8 +65,7 @@ no_build v = record v { build = [] }
 
 -- the lower end of a caret range of a whole version
 abbrev pub caret_from : Bool → VersionValue → Comparison
-caret_from include v = if include && (is_release v && (v.major == 0)) then from true (first (whole v))
-    else made at_least (no_build v)
+caret_from include v = if include && (is_release v && (v.major == 0)) then from true (first (whole v)) else made at_least (no_build v)
 
 -- the table: by the sign and by the partial, whose text is `text`
 abbrev pub table : Bool → Sign → Partial → List ℕ → List Comparison

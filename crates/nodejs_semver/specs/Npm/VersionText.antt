@@ -1,14 +1,14 @@
 -- Statement: the version texts of node-semver's strict reading, its default, and of its loose one.
 use Rattle.std.specs.Prelude.{◌≡◌, ◌⊎◌, ◌≤◌, ℕ, true, false, List, [], ◌++◌}
 use Rattle.std.specs.Prelude.{codes, drop, length}
-use Rattle.std.specs.List.{list_all, prefix_len}
+use Rattle.std.specs.List.{prefix_len}
 use Rattle.std.specs.Str.{chars}
 use Rattle.semver_core.specs.Text.Characters.{IsTrim}
-use Rattle.semver_core.specs.Text.Identifiers.{Id, pieces}
+use Rattle.semver_core.specs.Text.Identifiers.{Id}
 use Rattle.semver_core.specs.Text.Numbers.{IsNumber}
 use Rattle.semver_core.specs.Values.Versions.{VersionValue}
 use Rattle.semver_core.specs.declared.TheConstants.{MAX_LENGTH}
-use Rattle.nodejs_semver.specs.Npm.Grammar.{IsPreRelease, IsStrictBuild, IsStrictNumber, is_strict_identifier}
+use Rattle.nodejs_semver.specs.Npm.Grammar.{IsPreRelease, IsStrictBuild, IsStrictNumber, is_strict_list}
 use Rattle.nodejs_semver.specs.Npm.RangeText.{AreMarks, is_mark}
 
 -- the whole text is this version, in a reading that has these marks, numbers and pre-releases
@@ -20,8 +20,7 @@ pub data IsWritten (Marks : List ℕ → Type 0) (Number : List ℕ → ℕ → 
 
 -- strict: one `v` or none, no leading zeros, `-` before the pre-release
 abbrev pub IsStrictVersion : ℕ → List ℕ → VersionValue → Type 0
-IsStrictVersion limit = IsWritten (λ mark. (mark ≡ []) ⊎ (mark ≡ codes "v")) (IsStrictNumber limit)
-    (IsPreRelease false (λ ids. list_all is_strict_identifier (pieces ids)))
+IsStrictVersion limit = IsWritten (λ mark. (mark ≡ []) ⊎ (mark ≡ codes "v")) (IsStrictNumber limit) (IsPreRelease false is_strict_list)
 
 -- loose: any of `v`, `=` and whitespace, leading zeros, and a pre-release without `-`
 abbrev pub IsLooseVersion : ℕ → List ℕ → VersionValue → Type 0
@@ -29,11 +28,8 @@ IsLooseVersion limit = IsWritten AreMarks (IsNumber limit) (IsPreRelease true (�
 
 -- the text, of at most 256 characters with the whitespace around it, is this version. (node-semver counts
 -- UTF-16 units. A character that is two of them stands in no version text.)
-pub record IsWhole (Is : List ℕ → VersionValue → Type 0) (text : List ℕ) (v : VersionValue) : Type 0 where
-  pub short : length (chars text) ≤ MAX_LENGTH
-  pub middle : List ℕ
-  pub trimmed : IsTrim text middle
-  pub is : Is middle v
+abbrev pub IsWhole : (List ℕ → VersionValue → Type 0) → List ℕ → VersionValue → Type 0
+IsWhole Is text v = (length (chars text) ≤ MAX_LENGTH) × (middle : List ℕ) × IsTrim text middle × Is middle v
 
 abbrev pub IsVersionText : ℕ → List ℕ → VersionValue → Type 0
 IsVersionText limit = IsWhole (IsStrictVersion limit)
@@ -43,7 +39,5 @@ IsLooseVersionText limit = IsWhole (IsLooseVersion limit)
 
 -- node-semver's `clean`: without the whitespace around it, and without the `v` and `=` then at its front, the
 -- text is this version
-pub record IsClean (limit : ℕ) (text : List ℕ) (v : VersionValue) : Type 0 where
-  pub middle : List ℕ
-  pub trimmed : IsTrim text middle
-  pub is : IsVersionText limit (drop (prefix_len is_mark middle) middle) v
+abbrev pub IsClean : ℕ → List ℕ → VersionValue → Type 0
+IsClean limit text v = (middle : List ℕ) × IsTrim text middle × IsVersionText limit (drop (prefix_len is_mark middle) middle) v

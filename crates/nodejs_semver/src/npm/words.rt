@@ -118,9 +118,6 @@ fn are_marks(loose: bool, sign: Sign, partial: &Partial<'_>, marks: &[u8]) -> bo
 {
     match (sign, partial) {
         (Sign::Compared(_), Partial::Whole(_)) if !loose => matches!(marks, [] | [b'v']),
-        (Sign::Compared(Comparator::Above | Comparator::Below), _) => {
-            !matches!(marks, [b'=', ..])
-        }
         _ => true,
     }
 }
