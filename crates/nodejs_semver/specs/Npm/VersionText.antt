@@ -21,11 +21,11 @@ pub data IsWritten (Marks : List ℕ → Type 0) (Number : List ℕ → ℕ → 
 -- strict: one `v` or none, no leading zeros, `-` before the pre-release
 abbrev pub IsStrictVersion : ℕ → List ℕ → VersionValue → Type 0
 IsStrictVersion limit = IsWritten (λ mark. (mark ≡ []) ⊎ (mark ≡ codes "v")) (IsStrictNumber limit)
-    (IsPreRelease false (λ ids. list_all is_strict_identifier (pieces ids)))
+    (IsPreRelease false false (λ ids. list_all is_strict_identifier (pieces ids)))
 
 -- loose: any of `v`, `=` and whitespace, leading zeros, and a pre-release without `-`
 abbrev pub IsLooseVersion : ℕ → List ℕ → VersionValue → Type 0
-IsLooseVersion limit = IsWritten AreMarks (IsNumber limit) (IsPreRelease true (λ ids. true))
+IsLooseVersion limit = IsWritten AreMarks (IsNumber limit) (IsPreRelease true false (λ ids. true))
 
 -- the text, of at most 256 characters with the whitespace around it, is this version. (node-semver counts
 -- UTF-16 units. A character that is two of them stands in no version text.)
