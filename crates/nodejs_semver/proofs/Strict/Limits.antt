@@ -4,16 +4,15 @@ use Rattle.nodejs_semver.proofs.Common.{append-nil, arith, bind_some, cases_Bool
 use Rattle.nodejs_semver.proofs.Common.{inl, inr, is_ascii_digit, is_empty, length, list_all, nat_lt, nat_tests, not, prefix_len, refl}
 use Rattle.nodejs_semver.proofs.Common.{same_Some, subst, sym, take, take-append-drop, take_at, take_rest, true, ℕ, ◌&&◌, ◌++◌, ◌-◌, ◌<◌}
 use Rattle.nodejs_semver.proofs.{Common.{◌||◌, ◌∙◌, ◌∷◌, ◌≡◌, ◌≤◌}, NpmCommon.{IsPlace, begins_byte, begins_padded, begins_wildcard, build_front, dashed_front, listed, pre_front}}
-use Rattle.nodejs_semver.proofs.NpmCommon.{counted_front, digits_value, has_leading_zero, has_zeros, is_small, is_spelled}
-use Rattle.nodejs_semver.proofs.NpmCommon.{length-prefix_len, limited, nat_le, number_front, number_of, or-true, partial_of}
-use Rattle.nodejs_semver.proofs.NpmCommon.{patch_place, place_front, qualified_partial, run_place, strict_number, take_while}
+use Rattle.nodejs_semver.proofs.NpmCommon.{counted_front, digits_value, has_leading_zero, has_zeros, is_none, is_small, is_spelled}
+use Rattle.nodejs_semver.proofs.NpmCommon.{length-prefix_len, limited, nat_le, number_front, number_of, or-true, partial_of, patch_place}
+use Rattle.nodejs_semver.proofs.NpmCommon.{place_front, qualified_partial, run_place, strict_number, take_while}
 use Rattle.nodejs_semver.proofs.{NpmCommon.{◌>>?◌}, Reading.Numbers.{digits-taken, number-found, number-no_wildcard}}
 use Rattle.nodejs_semver.proofs.{Reading.Numbers.number-of, Strict.{Numbers.{number-short, padded-same}, Places.{digits-of, place-read}}}
 use Rattle.nodejs_semver.{proofs.Strict.Places.{prefix-all, some-run}, specs.Internal.NpmWords.{Place, any, counted, counted_places, great, is_any, is_over, may_follow, number}}
 use Rattle.nodejs_semver.specs.Internal.NpmWords.{partial_front, places_front, short_only, place_of, place_zeros, placed, qualified_counted}
 use Rattle.nodejs_semver.specs.{Npm.Table.Partial}
 use Rattle.nodejs_semver.specs.Npm.RangeText as Text
-use Rattle.nodejs_semver.proofs.NpmCommon.{is_none}
 
 -- ---- places
 

@@ -5,10 +5,10 @@ use Rattle.nodejs_semver.proofs.Common.{encode_utf8, encode_utf8_all, ends, equa
 use Rattle.nodejs_semver.proofs.Common.{is_empty, is_identifier_char, is_whitespace, le-ltb, length, length-drop, list_all, list_all-append}
 use Rattle.nodejs_semver.proofs.Common.{list_any, lt-ltb, nat_tests, not, pieces, prefix_len, refl, space_len, suc, sym, take}
 use Rattle.nodejs_semver.proofs.Common.{take-append-drop, true, zero, ℕ, ◌&&◌, ◌++◌, ◌+◌, ◌-◌, ◌<◌, ◌==◌, ◌||◌, ◌∙◌, ◌∷◌, ◌≡◌, ◌≤◌, ◌⊎◌}
-use Rattle.nodejs_semver.proofs.NpmCommon.{IsPartial, IsPlace, IsSignText, IsStrictBuild, bare, begins_malformed}
-use Rattle.nodejs_semver.proofs.NpmCommon.{bytes_eq, caret_equal, compared, dashed, encode_ascii, has_zeros, ignored_front, is_malformed}
-use Rattle.nodejs_semver.proofs.NpmCommon.{is_mark, is_visible, late_above, late_below, no_build, no_pre_release, no_sign, one}
-use Rattle.nodejs_semver.proofs.NpmCommon.{or-true, plus, runs_tail, sign, spelling, tail_runs, take_while, three, tilde_twice, two}
+use Rattle.nodejs_semver.proofs.NpmCommon.{IsPartial, IsPlace, IsPlaces, IsSignText, IsStrictBuild, bare, begins_malformed, bytes_eq}
+use Rattle.nodejs_semver.proofs.NpmCommon.{caret_equal, compared, dashed, encode_ascii, has_zeros, ignored_front, is_malformed, is_mark}
+use Rattle.nodejs_semver.proofs.NpmCommon.{is_none, is_visible, late_above, late_below, no_build, no_pre_release, no_sign, one, or-true}
+use Rattle.nodejs_semver.proofs.NpmCommon.{plus, runs_tail, sign, spelling, tail_runs, take_while, three, tilde_twice, two}
 use Rattle.nodejs_semver.proofs.Reading.Bytes.{all-end, all-join, begins_component, ends-append, ends-some}
 use Rattle.nodejs_semver.{proofs.Strict.Places.prefix-all, specs.{Internal.Fronts.is_wildcard, Npm.Grammar.IsPreRelease}}
 use Rattle.nodejs_semver.specs.Internal.NpmMalformed.{behind_sign, is_inner}
@@ -19,8 +19,6 @@ use Rattle.std.proofs.lemmas.List.Sums.{suffix_len-take_no, suffix_len-take_yes}
 use Rattle.std.specs.List.{suffix_len}
 use Rattle.semver_core.{proofs.Text.{Listed.plain_runs, Pieces.tail_onto}, specs.Internal.CommonReading.is_plain}
 use Rattle.nodejs_semver.specs.Npm.RangeText as Text
-use Rattle.nodejs_semver.proofs.NpmCommon.{IsPlaces}
-use Rattle.nodejs_semver.proofs.NpmCommon.{is_none}
 
 -- ---- the characters of partials
 

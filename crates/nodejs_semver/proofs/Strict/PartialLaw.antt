@@ -2,19 +2,17 @@
 use Rattle.nodejs_semver.proofs.Common.{Bool, Front, Id, List, None, Option, Some, [], and_parts, append_assoc, arith, begins, bind_some}
 use Rattle.nodejs_semver.proofs.Common.{cases_Bool, common_steps, drop, false, inl, inr, is_ascii_digit, is_boundary, nat_tests, refl, true}
 use Rattle.nodejs_semver.proofs.{Common.{ℕ, ◌&&◌, ◌++◌, ◌∷◌, ◌≡◌}, NpmCommon.{IsPartial, IsPlace, IsStrictBuild, build_front, dotted_patch}}
-use Rattle.nodejs_semver.proofs.NpmCommon.{dotted_place, has_zeros, may_stand, one, partial_of, pre_front, qualified_partial}
+use Rattle.nodejs_semver.proofs.NpmCommon.{IsPlaces, begins_undashed, dotted_place, has_zeros, is_none, is_short, may_stand, one}
+use Rattle.nodejs_semver.proofs.NpmCommon.{partial_of, pre_front, qualified_partial}
 use Rattle.nodejs_semver.proofs.{NpmCommon.{second_front, third_front, three, two}, Reading.Bytes.{is_solid, solid-dark}}
 use Rattle.nodejs_semver.proofs.Strict.Places.{dotted_patch-found, dotted_place-found, dotted_place-read, patch-read, place-found}
 use Rattle.nodejs_semver.proofs.Strict.{Places.place-read, Qualifiers.{Ends, build-found, build-taken, ends-nil, pre-follows, pre-found}}
 use Rattle.nodejs_semver.{proofs.Strict.Qualifiers.pre-taken, specs.Internal.NpmWords.{are_short_builds, partial_front}}
 use Rattle.{nodejs_semver.specs.Npm.{Grammar.IsPreRelease, Table.Partial}, semver_core.proofs.Text.Runs.list_len_stop}
 use Rattle.nodejs_semver.proofs.Common.{take, length, length-append, take_at, cond_some, ap, sym, ◌-◌, ◌∙◌}
-use Rattle.nodejs_semver.proofs.NpmCommon.{IsPlaces, is_short}
 use Rattle.nodejs_semver.specs.Internal.NpmWords.{places_front, short_only}
 use Rattle.nodejs_semver.proofs.Strict.Places.{wild-patch}
 use Rattle.nodejs_semver.specs.Npm.RangeText.{any}
-use Rattle.nodejs_semver.proofs.NpmCommon.{begins_undashed}
-use Rattle.nodejs_semver.proofs.NpmCommon.{is_none}
 
 -- ---- nothing goes on at a boundary
 

@@ -4,17 +4,15 @@ use Rattle.nodejs_semver.proofs.Common.{IsUtf8-drop, List, MAX_SAFE_INTEGER, Non
 use Rattle.nodejs_semver.proofs.Common.{cond_some, drop, equal, false, if◌then◌else◌, inl, inr, is_boundary, is_normal, is_some, length}
 use Rattle.nodejs_semver.proofs.Common.{length-append, length-drop, list_all, nat_tests, prefix_len, refl, space_len, suc, sym, take}
 use Rattle.nodejs_semver.proofs.{Common.{take_rest, true, zero, ℕ, ◌&&◌, ◌+◌, ◌-◌, ◌<◌, ◌∙◌, ◌∷◌, ◌≡◌, ◌≤◌}, NpmCommon.{Ended, IsPartial}}
-use Rattle.nodejs_semver.proofs.NpmCommon.{IsStrictBuild, Signed, after_ends, any_word, are_normal, begins_malformed, compared}
+use Rattle.nodejs_semver.proofs.NpmCommon.{IsPlaces, IsStrictBuild, Signed, after_ends, any_word, are_normal, begins_malformed, compared}
 use Rattle.nodejs_semver.proofs.NpmCommon.{counted_front, drop_ends, end_front, ended_end, hyphen_ends, hyphen_of, ignored_front, is_mark}
-use Rattle.nodejs_semver.proofs.NpmCommon.{is_small, is_visible, limited, limited_end, limited_hyphen, limited_word, marked_word, marks_len}
-use Rattle.nodejs_semver.proofs.NpmCommon.{no_build, npm_sign, or_else, plus, signed_front_view, signed_word}
+use Rattle.nodejs_semver.proofs.NpmCommon.{is_short, is_small, is_visible, limited, limited_end, limited_hyphen, limited_word}
+use Rattle.nodejs_semver.proofs.NpmCommon.{marked_word, marks_len, no_build, npm_sign, or_else, plus, signed_front_view, signed_word}
 use Rattle.nodejs_semver.proofs.{NpmCommon.{wildcard, ◌>>?◌}, Strict.Hyphens.{after_ends-drop, ends-mark, ends-more, ends-space, ends-stop}}
 use Rattle.nodejs_semver.proofs.Strict.{Limits.counted_limited, PartialLaw.partial-found, Places.prefix-all}
 use Rattle.nodejs_semver.specs.{Internal.NpmWords.{end_len, last_limited, partial_front}, Npm.{Grammar.IsPreRelease, Table.{Partial, Sign}}}
 use Rattle.nodejs_semver.specs.declared.npm.words.Signed as Runtime
-use Rattle.nodejs_semver.proofs.NpmCommon.{IsPlaces}
 use Rattle.nodejs_semver.specs.Internal.NpmWords.{counted_places, places_front, short_only}
-use Rattle.nodejs_semver.proofs.NpmCommon.{is_short}
 use Rattle.nodejs_semver.proofs.Strict.PartialLaw.{places-found}
 use Rattle.nodejs_semver.proofs.Strict.Limits.{places-limited}
 
