@@ -6,7 +6,7 @@ pub use Rattle.nodejs_semver.specs.Internal.{NpmParts.{Numbers, npm_partial_view
 pub use Rattle.nodejs_semver.specs.Internal.{NpmReadings.begins_padded, NpmReads.{IsFound, words_of}, NpmStates.is_whole}
 pub use Rattle.nodejs_semver.specs.Internal.{NpmTuples.IsLastBefore, NpmViews.{signed_front_view, signed_view}, NpmWords.{Ended, Signed}}
 pub use Rattle.nodejs_semver.specs.Internal.NpmWords.{counted_front, drop_ends, ended_end, hyphen_comparisons, hyphen_of}
-pub use Rattle.nodejs_semver.specs.Internal.NpmWords.{is_free_lower, is_free_upper, is_one_v, is_short_build, is_short, is_small, kept, last_end, limited, limited_end, limited_hyphen}
+pub use Rattle.nodejs_semver.specs.Internal.NpmWords.{is_free_lower, is_free_upper, is_one_v, is_short_build, is_short, is_small, is_spelled, kept, last_end, limited, limited_end, limited_hyphen}
 pub use Rattle.nodejs_semver.specs.Internal.NpmWords.{limited_word, marked_word, marks_len, may_stand, or_late, run_place, second_front}
 pub use Rattle.nodejs_semver.specs.Internal.{NpmWords.{skip_equal, skip_greater, skip_tilde, third_front, valid_only}, PartFronts.left_over}
 pub use Rattle.nodejs_semver.specs.{Internal.{Readings.{bounds_view, comparator_view}, Words.or_else}, Npm.Alike.IsPlainPartial}
@@ -19,7 +19,7 @@ pub use Rattle.nodejs_semver.specs.Internal.NpmMalformed.{is_visible}
 pub use Rattle.nodejs_semver.specs.Npm.{MalformedWords.{IsLeft, IsMalformedWord, here}, RangeText.AreAlternatives}
 pub use Rattle.nodejs_semver.specs.Npm.RangeText.{AreMarks, AreWords, IsAlternative, IsPartial, IsPlace, IsPlaces, IsSignText, IsWord, are_marks}
 pub use Rattle.nodejs_semver.specs.Npm.RangeText.{are_whole_marks, caret_equal, has_zeros, ignored, is_lost}
-pub use Rattle.nodejs_semver.specs.Npm.RangeText.{is_mark, is_short_identifier, is_spelled, last, late_above, late_below}
+pub use Rattle.nodejs_semver.specs.Npm.RangeText.{is_mark, is_short_identifier, last, late_above, late_below}
 pub use Rattle.nodejs_semver.specs.Npm.RangeText.{no_sign, none, one, partial_of, sign, spelling, three, tilde_twice, two, word}
 pub use Rattle.nodejs_semver.specs.Npm.Ranges.{HasAlternatives, HasAlternativesIn, IsRangeIn, is_valid, meets, satisfies}
 pub use Rattle.nodejs_semver.specs.Npm.Table.{Comparison, caret_from, compared, counts, first, from, hyphen_lower, hyphen_upper}

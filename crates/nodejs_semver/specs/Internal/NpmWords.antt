@@ -15,13 +15,17 @@ use Rattle.nodejs_semver.specs.Internal.Parts.{parts}
 use Rattle.nodejs_semver.specs.Internal.Words.{after_some_space, is_boundary, or_else}
 use Rattle.nodejs_semver.specs.Internal.NpmMalformed.{is_visible}
 use Rattle.nodejs_semver.specs.Npm.Malformed.{begins_malformed}
-use Rattle.nodejs_semver.specs.Npm.RangeText.{are_marks, are_whole_marks, has_zeros, is_free, is_lost, is_mark, is_short_identifier, is_spelled, partial_of}
-use Rattle.nodejs_semver.specs.Npm.Grammar.{begins_undashed}
+use Rattle.nodejs_semver.specs.Npm.RangeText.{are_marks, are_whole_marks, has_zeros, is_free, is_lost, is_mark, is_short_identifier, partial_of}
+use Rattle.nodejs_semver.specs.Npm.Grammar.{begins_undashed, has_leading_zero}
 use Rattle.nodejs_semver.specs.Npm.Ranges.{is_valid}
 use Rattle.nodejs_semver.specs.Npm.Table.{Comparison, Partial, Sign, caret, compared, hyphen_lower, hyphen_upper, major, minor, table, tilde, whole, wildcard}
 use Rattle.nodejs_semver.specs.Text.WordText.{Comparator, above, at_least, at_most, below, equal}
 
 -- ---- partials
+
+-- a number has no leading zeros; loosely it may have some, zero only where `zeros` says so
+abbrev pub is_spelled : Bool → Bool → ℕ → List ℕ → Bool
+is_spelled loose zeros n digits = not (has_leading_zero digits) || (loose && (zeros || nat_lt 0 n))
 
 -- the place that a run of digits is, with what stands behind it
 abbrev pub run_place : Bool → Bool → List ℕ → List ℕ → Front (Option ℕ)

@@ -30,14 +30,11 @@ abbrev pub is_short_identifier : List ℕ → Bool
 is_short_identifier text = let run = prefix_len is_ascii_digit text in
     nat_le (length text) run && nat_le run 257 || nat_le run 256 && nat_le (length text) (run + 251)
 
--- a number has no leading zeros; loosely it may have some, zero only where `zeros` says so
-abbrev pub is_spelled : Bool → Bool → ℕ → List ℕ → Bool
-is_spelled loose zeros n digits = not (has_leading_zero digits) || (loose && (zeros || nat_lt 0 n))
-
--- a place (xr): `x`, `X`, `*`, or a number of any value (nr)
+-- a place (xr): `x`, `X`, `*`, or a number of any value without leading zeros (nr); loosely it may have some, zero only
+-- where `zeros` says so
 pub data IsPlace (loose zeros : Bool) : List ℕ → Option ℕ → Type 0 where
   any : (b : ℕ) → (b == 120 || b == 88 || b == 42) ≡ true → IsPlace loose zeros (b ∷ []) None
-  number : (run : List ℕ) (n : ℕ) → IsNumber n run n → is_spelled loose zeros n run ≡ true
+  number : (run : List ℕ) (n : ℕ) → IsNumber n run n → (not (has_leading_zero run) || (loose && (zeros || nat_lt 0 n))) ≡ true
       → length run ≤ 257 → IsPlace loose zeros run (Some n)
 
 -- zero may be several digits behind this major number: where that is zero, the table asks how zero is written
