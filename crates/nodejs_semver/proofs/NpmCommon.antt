@@ -5,9 +5,9 @@ pub use Rattle.nodejs_semver.specs.Internal.{NpmMeaning.{IsCommon, IsNarrowed, c
 pub use Rattle.nodejs_semver.specs.Internal.{NpmParts.{Numbers, npm_partial_view, npm_sign_view, release, within}, NpmReadings.{IsStrictPreRelease, is_strict_identifier}}
 pub use Rattle.nodejs_semver.specs.Internal.{NpmReadings.begins_padded, NpmReads.{IsFound, words_of}, NpmStates.is_whole}
 pub use Rattle.nodejs_semver.specs.Internal.{NpmTuples.IsLastBefore, NpmViews.{signed_front_view, signed_view}, NpmWords.{Ended, Signed}}
-pub use Rattle.nodejs_semver.specs.Internal.NpmWords.{are_spelled, counted_front, drop_ends, ended_end, hyphen_comparisons, hyphen_of}
-pub use Rattle.nodejs_semver.specs.Internal.NpmWords.{is_free_lower, is_free_upper, is_lost, is_one_v, is_short_build, is_small, kept, last_end, limited, limited_end, limited_hyphen}
-pub use Rattle.nodejs_semver.specs.Internal.NpmWords.{limited_word, marked_word, marks_len, most_digits, or_late, run_place, second_front}
+pub use Rattle.nodejs_semver.specs.Internal.NpmWords.{counted_front, drop_ends, ended_end, hyphen_comparisons, hyphen_of}
+pub use Rattle.nodejs_semver.specs.Internal.NpmWords.{is_free_lower, is_free_upper, is_lost, is_one_v, is_short_build, is_short, is_small, is_spelled, kept, last_end, limited, limited_end, limited_hyphen}
+pub use Rattle.nodejs_semver.specs.Internal.NpmWords.{limited_word, marked_word, marks_len, may_stand, or_late, run_place, second_front}
 pub use Rattle.nodejs_semver.specs.Internal.{NpmWords.{skip_equal, skip_greater, skip_tilde, third_front, valid_only}, PartFronts.left_over}
 pub use Rattle.nodejs_semver.specs.{Internal.{Readings.{bounds_view, comparator_view}, Words.or_else}, Npm.Alike.IsPlainPartial}
 pub use Rattle.nodejs_semver.specs.Npm.Alike.{IsPlainText, IsPlainWord, is_firm, is_plain, may_have, more, npm_partial, one_word, signed}
@@ -17,10 +17,10 @@ pub use Rattle.nodejs_semver.specs.Npm.Grammar.{begins_undashed, dashed, has_lea
 pub use Rattle.nodejs_semver.specs.Npm.{Grammar.{no_pre_release, plus}, Malformed.{begins_malformed, is_malformed}}
 pub use Rattle.nodejs_semver.specs.Internal.NpmMalformed.{is_visible}
 pub use Rattle.nodejs_semver.specs.Npm.{MalformedWords.{IsLeft, IsMalformedWord, here}, RangeText.AreAlternatives}
-pub use Rattle.nodejs_semver.specs.Npm.RangeText.{AreMarks, AreWords, IsAlternative, IsPartial, IsPlace, IsSignText, IsWord, are_marks}
+pub use Rattle.nodejs_semver.specs.Npm.RangeText.{AreMarks, AreWords, IsAlternative, IsPartial, IsPlace, IsPlaces, IsSignText, IsWord, are_marks}
 pub use Rattle.nodejs_semver.specs.Npm.RangeText.{are_whole_marks, caret_equal, has_zeros, ignored}
-pub use Rattle.nodejs_semver.specs.Npm.RangeText.{is_mark, is_short_identifier, is_spelled, last, late_above, late_below}
-pub use Rattle.nodejs_semver.specs.Npm.RangeText.{may_stand, no_sign, none, one, partial_of, sign, spelling, three, tilde_twice, two, word}
+pub use Rattle.nodejs_semver.specs.Npm.RangeText.{is_mark, is_short_identifier, last, late_above, late_below}
+pub use Rattle.nodejs_semver.specs.Npm.RangeText.{no_sign, none, one, partial_of, sign, spelling, three, tilde_twice, two, word}
 pub use Rattle.nodejs_semver.specs.Npm.Ranges.{HasAlternatives, HasAlternativesIn, IsRangeIn, is_valid, meets, satisfies}
 pub use Rattle.nodejs_semver.specs.Npm.Table.{Comparison, caret_from, compared, counts, first, from, hyphen_lower, hyphen_upper}
 pub use Rattle.nodejs_semver.specs.Npm.{Table.{made, major, minor, next_changed, under, whole, wildcard}, VersionText.IsClean}
@@ -34,7 +34,7 @@ pub use Rattle.semver_core.specs.{Printing.Text.version_text, Text.Identifiers.g
 pub use Rattle.std.proofs.{Common.{lit<, ◌%◌, ◌/◌}, Math.{Bool.or-true, Seq.drop-append-add}, lemmas.Iterator.Search.all_from_yields_List}
 pub use Rattle.std.proofs.lemmas.{Iterator.Splits.YieldsList-from_slice_split, List.{Elements.filter-append, Folds.length-prefix_len}}
 pub use Rattle.std.{proofs.lemmas.{Slice.Eq.bytes_eq-Decides, Str.{chars_from_encodes, encode_ascii, encodes_same}}, specs.Char.digit_value}
-pub use Rattle.std.specs.{Char.len_utf8, Cmp.both_ways, List.join_with_byte, Option.is_none, Prelude.{nat_le, take_while}, Str.bytes_eq}
+pub use Rattle.std.specs.{Char.len_utf8, Cmp.both_ways, List.join_with_byte, Prelude.{is_none, nat_le, take_while}, Str.bytes_eq}
 pub use Rattle.std.specs.Str.{chars, Parse.{digits_value, digits_value_after}}
 unfoldable pub use Rattle.nodejs_semver.specs.Internal.{Fronts.{build_front, number_of, pre_release_front}, NpmLooseVersions.loose_dotted}
 unfoldable pub use Rattle.nodejs_semver.specs.Internal.NpmLooseVersions.{loose_front, loose_patch, loose_qualified, loose_version}

@@ -30,6 +30,10 @@ fn admits(
     Ok(range.satisfies_with_prerelease(&version, include))
 }
 
+// `1.2.3beta.` and the number 1 with 134 zeros in front of it.
+const LONG_PRE_RELEASE: &str = "1.2.3beta.0000000000000000000000000000000000000000000000000000000\
+    00000000000000000000000000000000000000000000000000000000000000000000000000000001";
+
 // Texts that the strict reading rejects, without pre-releases included, with a version that the
 // range accepts and one that it does not.
 const READ: &[(&str, &str, &str)] = &[
@@ -78,6 +82,12 @@ const READ: &[(&str, &str, &str)] = &[
     ("1.2.34.5", "1.2.3-4.5", "1.2.34"),
     ("^1.2.10.5-a || 3", "1.2.1-0.5-a", "1.2.1-0.5"),
     ("1.2.x4.5", "1.2.9", "1.3.0"),
+    ("1.2.x4", "1.2.9", "1.3.0"),
+    ("^0.*.X0a-1+b || 3", "3.1.0", "1.0.0"),
+    ("1.x.x0.01 - 2.0.x7", "2.0.9", "2.1.0"),
+    ("1.x.01111111111111111111111111111111111111", "1.9.9", "2.0.0"),
+    ("^000000000000000000000000000000000000001.2", "1.9.0", "2.0.0"),
+    (LONG_PRE_RELEASE, "1.2.3-beta.1", "1.2.3-beta"),
     ("1.*, 2.*", "2.9.9", "1.0.0"),
     ("1.2. 1", "1.9.9", "2.0.0"),
     ("1.2.x. 1.x.y 1..2 ~1.2.3-a. ^1", "1.9.9", "2.0.0"),
@@ -119,7 +129,6 @@ const REJECTED: &[&str] = &[
 
 // Texts that node-semver reads, and `range_loose` does not.
 const LEFT_OUT: &[&str] = &[
-    "1.2.x4",
     "1x 1",
     "<>*1.2 1",
     "foo= 1 2",
@@ -127,6 +136,7 @@ const LEFT_OUT: &[&str] = &[
     "> = 1",
     "0.00.1",
     "00.1.2",
+    ">1000000000000000000000 1",
     "1 - v 2.0.0",
 ];
 

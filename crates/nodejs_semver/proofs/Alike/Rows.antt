@@ -14,6 +14,7 @@ use Rattle.nodejs_semver.proofs.NpmCommon.{place_front, pre_front, qualified_par
 use Rattle.nodejs_semver.{proofs.Strict.PartialLaw.partial-read, specs.{Internal.NpmWords.partial_front, Npm.Alike.{bare, word_of}}}
 use Rattle.nodejs_semver.specs.Npm.Table.{Sign, lowest}
 use Rattle.nodejs_semver.specs.Npm.Table as Npm
+use Rattle.nodejs_semver.specs.Internal.NpmWords.{places_front}
 
 -- a span and comparators accept alike, and where no pre-release is written releases alone
 pub record SameWord (pre : Bool) (v : VersionValue) (s : Span VersionValue) (cs : List Comparison) : Type 0 where
@@ -114,7 +115,7 @@ zero_found None = false
 zero_found (Some p) = elim p.0 [ whole w ↦ is_zero w | _ ↦ false ]
 
 zero_read : zero_found (partial_front false (codes "0.0.0" ++ [])) ≡ true
-unfolding partial_front place_front dotted_place dotted_patch patch_place qualified_partial pre_front dashed_front build_front listed zero_found
+unfolding partial_front places_front place_front dotted_place dotted_patch patch_place qualified_partial pre_front dashed_front build_front listed zero_found
 zero_read = refl
 
 pub text-spelled : (text : List ℕ) (w : VersionValue) → IsPartial false text (whole w) → Spelled w text

@@ -88,15 +88,15 @@ patch-found limit text n rest h =
     grind (arith, nat_tests, common_steps, same_Some, number-is, byte-is, take-append-drop, run-ends, lone-digit)
 
 -- a pre-release, with `-` before it or not, is read as in range texts
-fronts-same : (text : List ℕ) → (begins_undashed text ≡ true) ⊎ (begins is_ascii_digit text ≡ false)
-    → loose_front text ≡ pre_front true text
+fronts-same : (text : List ℕ) → (begins_undashed false text ≡ true) ⊎ (begins is_ascii_digit text ≡ false)
+    → loose_front text ≡ pre_front true false text
 unfolding loose_front pre_front dashed_front pre_release_front
 fronts-same [] h = refl
 fronts-same (b ∷ rest) h = grind (arith, nat_tests, common_steps, eqb-true)
 
 -- an identifier follows the dot, since else that would be left
 lone-here : (text : List ℕ) → Behind text → is_empty (build_front (loose_front text).1).1 ≡ true
-    → (begins_undashed text ≡ true) ⊎ (begins is_ascii_digit text ≡ false)
+    → (begins_undashed false text ≡ true) ⊎ (begins is_ascii_digit text ≡ false)
 unfolding loose_front list_len build_front
 lone-here text (inl dark) e = inr dark
 lone-here [] (inr lone) e = cc lone
@@ -116,7 +116,7 @@ record LooseQualified (text : List ℕ) (v : VersionValue) (major minor patch : 
   pre : List ℕ
   build : List ℕ
   split : text ≡ pre ++ build
-  pre_is : IsPreRelease true (λ ids. true) pre v.pre_release
+  pre_is : IsPreRelease true false (λ ids. true) pre v.pre_release
   build_is : IsStrictBuild build v.build
   numbers : (v.major ≡ major) × (v.minor ≡ minor) × (v.patch ≡ patch)
 
@@ -130,7 +130,7 @@ qualified-found a b c text v behind h =
       | inr other ↦ cc (rw other at h)
       | inl whole ↦
           let same = fronts-same text (lone-here text behind whole) in
-          let p = subst (λ (f : List ℕ × List ℕ). PreFound true (λ ids. true) text f.0 f.1) (sym same) (pre-found true (λ ids. true) text refl) in
+          let p = subst (λ (f : List ℕ × List ℕ). PreFound true false (λ ids. true) text f.0 f.1) (sym same) (pre-found true false (λ ids. true) text refl) in
           let q = build-found front.1 in
           rw (← same_Some _ _ (rw whole at h)) (record {
             pre = p.0;
@@ -179,16 +179,16 @@ patch-read : (limit : ℕ) (digits rest : List ℕ) (n : ℕ) → IsNumber limit
 unfolding loose_patch patch_front
 patch-read limit digits rest n h follows = grind (arith, drop_at, number-of, patch-exact, take_at)
 
-follows : (p b : List ℕ) (l m : List Id) → IsPreRelease true (λ ids. true) p l → IsStrictBuild b m → Follows true (p ++ b)
+follows : (p b : List ℕ) (l m : List Id) → IsPreRelease true false (λ ids. true) p l → IsStrictBuild b m → Follows true (p ++ b)
 follows p b l m h k = subst (λ (t : List ℕ). Follows true (p ++ t)) (append-nil b) (pre-follows _ _ _ _ _ _ _ h k ends-nil)
 
-pre-open : (p b : List ℕ) (l m : List Id) → IsPreRelease true (λ ids. true) p l → IsStrictBuild b m
-    → (begins_undashed (p ++ (b ++ [])) ≡ true) ⊎ (begins is_ascii_digit (p ++ (b ++ [])) ≡ false)
+pre-open : (p b : List ℕ) (l m : List Id) → IsPreRelease true false (λ ids. true) p l → IsStrictBuild b m
+    → (begins_undashed false (p ++ (b ++ [])) ≡ true) ⊎ (begins is_ascii_digit (p ++ (b ++ [])) ≡ false)
 pre-open p b l m no_pre_release k = inr (build-quiet b [] m k ends-nil).2
 pre-open p b l m (dashed t list h s) k = inr refl
-pre-open p b l m (bare t list h s f) k = inl (letter-on t (b ++ []) f (stopped (b ++ []) (build-quiet b [] m k ends-nil).0))
+pre-open p b l m (bare t list h s f) k = inl (letter-on false t (b ++ []) f (stopped (b ++ []) (build-quiet b [] m k ends-nil).0))
 
-qualified-read : (p b : List ℕ) (v : VersionValue) → IsPreRelease true (λ ids. true) p v.pre_release → IsStrictBuild b v.build
+qualified-read : (p b : List ℕ) (v : VersionValue) → IsPreRelease true false (λ ids. true) p v.pre_release → IsStrictBuild b v.build
     → loose_qualified v.major v.minor v.patch (p ++ b) ≡ Some v
 unfolding loose_qualified
 qualified-read p b v h k = grind (arith, nat_tests, common_steps, append-nil, build-taken, ends-nil, fronts-same, pre-open, pre-taken)
@@ -205,7 +205,7 @@ marks-read mark (c ∷ digits) rest m some each =
     grind (arith, nat_tests, common_steps, and_parts, ends-read, solid-dark, component-solid, or_right)
 
 parts-read : (limit : ℕ) (mark x y z pre build : List ℕ) (v : VersionValue) → AreMarks mark → IsNumber limit x v.major
-    → IsNumber limit y v.minor → IsNumber limit z v.patch → IsPreRelease true (λ ids. true) pre v.pre_release → IsStrictBuild build v.build
+    → IsNumber limit y v.minor → IsNumber limit z v.patch → IsPreRelease true false (λ ids. true) pre v.pre_release → IsStrictBuild build v.build
     → loose_version limit (mark ++ (x ++ 46 ∷ (y ++ 46 ∷ (z ++ (pre ++ build))))) ≡ Some v
 unfolding loose_version
 parts-read limit mark x y z pre build v m i j k p q =

@@ -19,7 +19,7 @@ IsPart text M = IsPlainPartial limit false text (part M)
 part_is : (text : List ℕ) (M : ℕ) → IsNumber limit text M → is_spelled false false M text ≡ true → length text ≤ 257 → IsPart text M
 part_is text M n spelled short = record {
   here = Here.one text (Some M) (Here.number text M n);
-  npm = Npm.one text (Some M) (Npm.number text M (record { some = n.some; each = n.each; value = n.value; safe = omega arith }) spelled short);
+  npm = (Npm.one text (Some M) (Npm.number text M (record { some = n.some; each = n.each; value = n.value; safe = omega arith }) spelled short), refl);
   plain = refl;
 }
 

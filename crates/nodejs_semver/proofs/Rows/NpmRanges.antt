@@ -1,7 +1,7 @@
 -- Worked rows, computed: node-semver's table, which versions a list of alternatives accepts, and how some words are written.
 use Rattle.nodejs_semver.proofs.Common.{AlphaNumeric, Bool, IsBlank, List, Some, VersionValue, [], above, at_most, below, codes}
 use Rattle.nodejs_semver.proofs.Common.{encode_utf8, equal, false, inl, list_all, lit≤, map, refl, release_value, true, ℕ, ◌++◌}
-use Rattle.nodejs_semver.proofs.{Common.{◌∷◌, ◌≡◌}, NpmCommon.{AreWords, Comparison, IsPartial, are_marks, are_spelled}}
+use Rattle.nodejs_semver.proofs.{Common.{◌∷◌, ◌≡◌}, NpmCommon.{AreWords, Comparison, IsPartial, are_marks, may_stand}}
 use Rattle.nodejs_semver.proofs.NpmCommon.{at_least, begins_undashed, caret_equal, compared, digits, hyphen_lower, hyphen_upper}
 use Rattle.nodejs_semver.proofs.NpmCommon.{is_lost, is_malformed, is_spelled, is_valid, join_with_byte, last, late_above, lit<}
 use Rattle.nodejs_semver.proofs.NpmCommon.{major, minor, one, sign, spelling, tilde_twice, whole, wildcard, word}
@@ -132,7 +132,7 @@ no_blank : IsBlank []
 no_blank = record { characters = []; each = refl; spelled = refl }
 
 abbrev one_is : IsPartial false (codes "1") (major 1)
-one_is = one (codes "1") (Some 1) (number (codes "1") 1 (record { some = lit< tt; each = refl; value = refl; safe = lit≤ tt }) refl (lit≤ tt))
+one_is = (one (codes "1") (Some 1) (number (codes "1") 1 (record { some = lit< tt; each = refl; value = refl; safe = lit≤ tt }) refl (lit≤ tt)), refl)
 
 -- `> =1` is `>=1`, `^ = 1` is `^1` and `~> >1` is `~1`
 row-late : AreWords false false (codes "> =1") (table false (compared at_least) (major 1) (codes "1"))
@@ -148,19 +148,23 @@ row-tilde_twice =
 -- loosely `^01` is `^1`, `01` stands for no number strictly, and `00` for none but loosely behind a major number
 row-leading : AreWords true false (codes "^01") (table false caret (major 1) (codes "01"))
 row-leading = last _ _ (word (codes "^") [] (codes "01") caret (major 1) (sign caret [] no_blank) refl refl
-    (one (codes "01") (Some 1) (number (codes "01") 1 (record { some = lit< tt; each = refl; value = refl; safe = lit≤ tt }) refl (lit≤ tt))))
+    (one (codes "01") (Some 1) (number (codes "01") 1 (record { some = lit< tt; each = refl; value = refl; safe = lit≤ tt }) refl (lit≤ tt)), refl))
 
 row-spelled : is_spelled true false 1 (codes "01") ∷ is_spelled false true 1 (codes "01") ∷ is_spelled true false 0 (codes "00")
     ∷ is_spelled true true 0 (codes "00") ∷ is_spelled false false 0 (codes "0") ∷ []
     ≡ true ∷ false ∷ false ∷ true ∷ true ∷ []
 row-spelled = refl
 
--- `beta` and `4.5` may stand without `-` loosely, and the identifier `01`
-row-bare : map begins_undashed (codes "beta" ∷ codes "-beta" ∷ codes "1beta" ∷ codes "4.5" ∷ codes "-" ∷ codes "--" ∷ [])
+-- `beta` and `4.5` may stand without `-` loosely, behind a wildcard `1beta`, and the identifier `01`
+row-bare : map (begins_undashed false) (codes "beta" ∷ codes "-beta" ∷ codes "1beta" ∷ codes "4.5" ∷ codes "-" ∷ codes "--" ∷ [])
     ≡ true ∷ false ∷ false ∷ true ∷ true ∷ false ∷ []
 row-bare = refl
 
-row-identifiers : are_spelled true (codes "rc.01") ∷ are_spelled false (codes "rc.01") ∷ are_spelled false (codes "rc.1") ∷ []
+row-wild : map (begins_undashed true) (codes "beta" ∷ codes "-beta" ∷ codes "1beta" ∷ codes "4" ∷ codes "-" ∷ codes "--" ∷ [])
+    ≡ true ∷ false ∷ true ∷ true ∷ true ∷ false ∷ []
+row-wild = refl
+
+row-identifiers : may_stand true (codes "rc.01") ∷ may_stand false (codes "rc.01") ∷ may_stand false (codes "rc.1") ∷ []
     ≡ true ∷ false ∷ true ∷ []
 row-identifiers = refl
 

@@ -26,7 +26,7 @@ unfolding loose_version loose_dotted loose_patch patch_front loose_qualified loo
 row-rejected = refl
 
 -- how a pre-release without a `-` before it may begin
-row-bare : map begins_undashed (codes "beta" ∷ codes "-" ∷ codes "-.5" ∷ codes "4.5" ∷ codes "4" ∷ codes "45.6" ∷ codes "4a" ∷ codes "-a" ∷ [])
+row-bare : map (begins_undashed false) (codes "beta" ∷ codes "-" ∷ codes "-.5" ∷ codes "4.5" ∷ codes "4" ∷ codes "45.6" ∷ codes "4a" ∷ codes "-a" ∷ [])
     ≡ true ∷ true ∷ true ∷ true ∷ false ∷ false ∷ false ∷ false ∷ []
 row-bare = refl
 

@@ -23,6 +23,7 @@ use Rattle.nodejs_semver.specs.declared.readers.syntax.Bounds.{Bounds}
 use Rattle.nodejs_semver.specs.Internal.NpmFronts as Front
 use Rattle.nodejs_semver.specs.Npm.RangeText as Npm
 use Rattle.std.proofs.Math.Seq.{take-append_seam}
+use Rattle.nodejs_semver.proofs.NpmCommon.{IsPlaces}
 
 -- ---- a word
 
@@ -36,7 +37,7 @@ place-some : (zeros : Bool) (x : List ℕ) (a : Option ℕ) → IsPlace false ze
 place-some zeros x a (Npm.any b h) = lit< tt
 place-some zeros x a (Npm.number digits n k spelled short) = k.some
 
-piece-some : (x : List ℕ) (p : Partial) → IsPartial false x p → 0 < length x
+piece-some : (x : List ℕ) (p : Partial) → IsPlaces false x p → 0 < length x
 piece-some x p h = grind (arith, place-some)
 
 -- the partial that is read at the front
@@ -67,7 +68,7 @@ word-found include text behind rest s p span sign read are =
         comparators = table include s p f.piece;
         split = e ∙ ap (λ (t : List ℕ). spelling s ++ t) f.split ∙ sym (append_assoc (spelling s) f.piece rest);
         is = λ _. Npm.word (spelling s) [] f.piece s p (sign_text s) (no_marks s p) (no_mark _) f.is;
-        some = omega (arith, length-append (spelling s) f.piece, piece-some f.piece p f.is);
+        some = omega (arith, length-append (spelling s) f.piece, piece-some f.piece p f.is.0);
         bytes = all-join is_word_byte (spelling s) f.piece (sign-bytes s) (piece-bytes f.piece p f.is);
         are = k;
       }
@@ -76,7 +77,7 @@ word-found include text behind rest s p span sign read are =
         comparators = table include (compared equal) p f.piece;
         split = e.0 ∙ f.split;
         is = λ _. Npm.word [] [] f.piece (compared equal) p no_sign (no_marks (compared equal) p) refl f.is;
-        some = piece-some f.piece p f.is;
+        some = piece-some f.piece p f.is.0;
         bytes = piece-bytes f.piece p f.is;
         are = subst (λ (t : Sign). AreIn include (table include t p f.piece) span) e.1 k;
       }

@@ -8,10 +8,11 @@ use Rattle.nodejs_semver.proofs.NpmCommon.{after_byte, after_ends, are_whole_mar
 use Rattle.nodejs_semver.proofs.NpmCommon.{hyphen_comparisons, hyphen_ends, is_free_lower, is_free_upper, is_mark, last_end}
 use Rattle.nodejs_semver.proofs.{NpmCommon.{len_utf8, space_len-white}, Reading.Bytes.{begins_component, component-solid, is_solid}}
 use Rattle.nodejs_semver.proofs.{Reading.{Bytes.solid-dark, WordLaw.{byte-is, tail-utf8}}, Strict.PartialLaw.{partial-found, partial-read}}
-use Rattle.nodejs_semver.proofs.Strict.{Signs.{blank-at, blank-skipped}, VersionLaw.empty-is, Words.{blank-some, blank-space, front-text}}
+use Rattle.nodejs_semver.proofs.Strict.{Signs.{blank-at, blank-skipped}, VersionLaw.empty-is, Words.{blank-some, blank-space}}
 use Rattle.nodejs_semver.{proofs.Strict.Words.{partial-begins, rest-utf8, space-boundary}, specs.Internal.NpmWords.after_dash}
 use Rattle.nodejs_semver.specs.{Internal.{NpmWords.partial_front, Words.after_some_space}, Npm.{RangeText.hyphen, Table.Partial}}
 use Rattle.{semver_core.proofs.Text.SpaceLaw.space_len-dark, std.proofs.lemmas.Str.{IsUtf8-past_char, encode_same}}
+use Rattle.nodejs_semver.proofs.Strict.PartialLaw.{front-text}
 
 -- ---- marks and whitespace at the front
 

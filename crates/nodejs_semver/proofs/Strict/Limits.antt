@@ -4,13 +4,13 @@ use Rattle.nodejs_semver.proofs.Common.{append-nil, arith, bind_some, cases_Bool
 use Rattle.nodejs_semver.proofs.Common.{inl, inr, is_ascii_digit, is_empty, length, list_all, nat_lt, nat_tests, not, prefix_len, refl}
 use Rattle.nodejs_semver.proofs.Common.{same_Some, subst, sym, take, take-append-drop, take_at, take_rest, true, ℕ, ◌&&◌, ◌++◌, ◌-◌, ◌<◌}
 use Rattle.nodejs_semver.proofs.{Common.{◌||◌, ◌∙◌, ◌∷◌, ◌≡◌, ◌≤◌}, NpmCommon.{IsPlace, begins_byte, begins_padded, begins_wildcard, build_front, dashed_front, listed, pre_front}}
-use Rattle.nodejs_semver.proofs.NpmCommon.{counted_front, digits_value, has_leading_zero, has_zeros, is_small, is_spelled}
-use Rattle.nodejs_semver.proofs.NpmCommon.{length-prefix_len, limited, most_digits, nat_le, number_front, number_of, or-true, partial_of}
-use Rattle.nodejs_semver.proofs.NpmCommon.{patch_place, place_front, qualified_partial, run_place, second_front, strict_number, take_while}
+use Rattle.nodejs_semver.proofs.NpmCommon.{counted_front, digits_value, has_leading_zero, has_zeros, is_none, is_small, is_spelled}
+use Rattle.nodejs_semver.proofs.NpmCommon.{length-prefix_len, limited, nat_le, number_front, number_of, or-true, partial_of, patch_place}
+use Rattle.nodejs_semver.proofs.NpmCommon.{place_front, qualified_partial, run_place, strict_number, take_while}
 use Rattle.nodejs_semver.proofs.{NpmCommon.{◌>>?◌}, Reading.Numbers.{digits-taken, number-found, number-no_wildcard}}
 use Rattle.nodejs_semver.proofs.{Reading.Numbers.number-of, Strict.{Numbers.{number-short, padded-same}, Places.{digits-of, place-read}}}
-use Rattle.nodejs_semver.{proofs.Strict.Places.{prefix-all, some-run}, specs.Internal.NpmWords.{Place, any, counted, great, is_over, may_follow, number}}
-use Rattle.nodejs_semver.specs.Internal.NpmWords.{partial_front, place_of, place_zeros, placed, qualified_counted, second_counted}
+use Rattle.nodejs_semver.{proofs.Strict.Places.{prefix-all, some-run}, specs.Internal.NpmWords.{Place, any, counted, counted_places, great, is_any, is_over, may_follow, number}}
+use Rattle.nodejs_semver.specs.Internal.NpmWords.{partial_front, places_front, short_only, place_of, place_zeros, placed, qualified_counted}
 use Rattle.nodejs_semver.specs.{Npm.Table.Partial}
 use Rattle.nodejs_semver.specs.Npm.RangeText as Text
 
@@ -39,7 +39,7 @@ number_placed loose zeros text n rest h = elim (cases_Bool (begins_padded text))
       let shortest = sym (padded-same f.run rest f.is.each f.ended) ∙ ap begins_padded (sym f.split) ∙ bare in
       let short = number-short f.run n (record { number = f.is; shortest = shortest }) in
       let same : IsNumber n f.run n = record { some = f.is.some; each = f.is.each; value = f.is.value; safe = omega arith } in
-      let few : length f.run ≤ most_digits loose = grind (arith, nat_tests, common_steps) in
+      let few : length f.run ≤ 257 = grind (arith, nat_tests, common_steps) in
       let place : IsPlace loose zeros f.run (Some n) = Text.number f.run n same (rw shortest refl) few in
       grind (arith, nat_tests, common_steps, place-read)
 ]
@@ -64,7 +64,7 @@ pub none_placed : (loose zeros : Bool) (text : List ℕ) → begins_wildcard tex
     → placed MAX_SAFE_INTEGER (place_front loose zeros text) ≡ None
 none_placed loose zeros text h k = rw (run-placed loose zeros text h, k) refl
 
-pub long_placed : (loose zeros : Bool) (text : List ℕ) → begins_wildcard text ≡ false → most_digits loose < prefix_len is_ascii_digit text
+pub long_placed : (loose zeros : Bool) (text : List ℕ) → begins_wildcard text ≡ false → 257 < prefix_len is_ascii_digit text
     → placed MAX_SAFE_INTEGER (place_front loose zeros text) ≡ None
 long_placed loose zeros text h k = grind (arith, nat_tests, common_steps, length-prefix_len, some-run, run-placed)
 
@@ -76,7 +76,7 @@ misspelled_placed loose zeros text h k = grind (arith, nat_tests, common_steps, 
 
 -- a run of some value
 run-valued : (loose zeros : Bool) (text : List ℕ) → begins_wildcard text ≡ false → 1 ≤ prefix_len is_ascii_digit text
-    → prefix_len is_ascii_digit text ≤ most_digits loose
+    → prefix_len is_ascii_digit text ≤ 257
     → is_spelled loose zeros (digits_value 10 (take_while is_ascii_digit text)) (take_while is_ascii_digit text) ≡ true
     → placed MAX_SAFE_INTEGER (place_front loose zeros text)
     ≡ some_place (place_of MAX_SAFE_INTEGER (Some (digits_value 10 (take_while is_ascii_digit text)))) (drop (prefix_len is_ascii_digit text) text)
@@ -84,7 +84,7 @@ run-valued loose zeros text dark some short spelled = grind (arith, nat_tests, c
 
 -- a number up to the limit with leading zeros, read loosely
 pub padded_placed : (zeros : Bool) (text : List ℕ) (n : ℕ) (rest : List ℕ) → begins_wildcard text ≡ false
-    → number_front MAX_SAFE_INTEGER text ≡ Some (n, rest) → prefix_len is_ascii_digit text ≤ 32 → (zeros || nat_lt 0 n) ≡ true
+    → number_front MAX_SAFE_INTEGER text ≡ Some (n, rest) → prefix_len is_ascii_digit text ≤ 257 → (zeros || nat_lt 0 n) ≡ true
     → placed MAX_SAFE_INTEGER (place_front true zeros text) ≡ Some (number n, rest)
 padded_placed zeros text n rest dark h short some =
     let f = number-found MAX_SAFE_INTEGER text n rest h in
@@ -95,7 +95,7 @@ padded_placed zeros text n rest dark h short some =
     grind (arith, nat_tests, common_steps, place-read)
 
 pub great_placed : (loose zeros : Bool) (text : List ℕ) (at : ℕ) → number_front MAX_SAFE_INTEGER text ≡ None → begins_wildcard text ≡ false
-    → (not loose && begins_padded text) ≡ false → at ≡ prefix_len is_ascii_digit text → 1 ≤ at → at ≤ most_digits loose
+    → (not loose && begins_padded text) ≡ false → at ≡ prefix_len is_ascii_digit text → 1 ≤ at → at ≤ 257
     → placed MAX_SAFE_INTEGER (place_front loose zeros text) ≡ some_place great (take (length text - at) (drop at text))
 great_placed loose zeros text at front dark bare is first last =
     grind (arith, nat_tests, common_steps, length-prefix_len, prefix-all, past-limit, spelled-great, run-valued, take_rest)
@@ -153,7 +153,7 @@ run-alone loose zeros (c ∷ run) h =
 
 run-behind : (limit : ℕ) (loose zeros : Bool) (run rest : List ℕ) → placed limit (run_place loose zeros run rest)
     ≡ (placed limit (run_place loose zeros run []) >>? λ p. Some (p.0, rest))
-run-behind limit loose zeros run rest = elim (cases_Bool (not (is_empty run) && nat_le (length run) (most_digits loose)
+run-behind limit loose zeros run rest = elim (cases_Bool (not (is_empty run) && nat_le (length run) 257
     && is_spelled loose zeros (digits_value 10 run) run)) [ inl good ↦ rw good refl | inr other ↦ rw other refl ]
 
 -- the last digit is not its own
@@ -173,17 +173,30 @@ counted-small : (limit : ℕ) (a b c : Option ℕ) (pre build : List Id)
     → counted (place_of limit a) (place_of limit b) (place_of limit c) pre build ≡ if_small limit (partial_of a b c pre build)
 counted-small limit a b c pre build = grind (arith, nat_tests, common_steps)
 
+any-placed : (limit : ℕ) (c : Option ℕ) → is_any (place_of limit c) ≡ is_none c
+any-placed limit c = grind (arith, nat_tests, common_steps)
+
 qualified-limited : (loose : Bool) (limit : ℕ) (a b c : Option ℕ) (text : List ℕ)
     → qualified_counted loose (place_of limit a) (place_of limit b) (place_of limit c) text ≡ limited limit (qualified_partial loose a b c text)
 unfolding qualified_counted qualified_partial
-qualified-limited loose limit a b c text = grind (arith, nat_tests, common_steps)
+qualified-limited loose limit a b c text = rw (any-placed limit c) grind (arith, nat_tests, common_steps)
 
 zeros-placed : (limit : ℕ) (a : Option ℕ) → place_zeros (place_of limit a) ≡ has_zeros a
 zeros-placed limit a = grind (arith, nat_tests, common_steps)
 
+pub places-limited : (loose : Bool) (limit : ℕ) (text : List ℕ) → counted_places loose limit text ≡ limited limit (places_front loose text)
+unfolding places_front
+places-limited loose limit text = grind (arith, nat_tests, common_steps, zeros-placed, qualified-limited)
+
+short-limited : (loose : Bool) (limit : ℕ) (text : List ℕ) (o : Front Partial)
+    → short_only loose text (limited limit o) ≡ limited limit (short_only loose text o)
+short-limited loose limit text None = refl
+short-limited loose limit text (Some p) = grind (arith, nat_tests, common_steps)
+
 pub counted_limited : (loose : Bool) (limit : ℕ) (text : List ℕ) → counted_front loose limit text ≡ limited limit (partial_front loose text)
 unfolding partial_front
-counted_limited loose limit text = grind (arith, nat_tests, common_steps, zeros-placed, qualified-limited)
+counted_limited loose limit text =
+    ap (short_only loose text) (places-limited loose limit text) ∙ short-limited loose limit text (places_front loose text)
 
 -- ---- nothing stands behind the numbers
 
@@ -191,10 +204,10 @@ none-follow : (loose : Bool) → may_follow loose [] [] ≡ true
 none-follow true = refl
 none-follow false = refl
 
-none-front : (loose : Bool) (text : List ℕ) → is_over text ≡ true → pre_front loose text ≡ ([], text)
+none-front : (loose wild : Bool) (text : List ℕ) → is_over text ≡ true → pre_front loose wild text ≡ ([], text)
 unfolding pre_front dashed_front
-none-front loose [] h = grind (arith, nat_tests, common_steps)
-none-front loose (b ∷ rest) h = grind (arith, nat_tests, common_steps)
+none-front loose wild [] h = grind (arith, nat_tests, common_steps)
+none-front loose wild (b ∷ rest) h = grind (arith, nat_tests, common_steps)
 
 no-build-front : (text : List ℕ) → is_over text ≡ true → build_front text ≡ ([], text)
 unfolding build_front
@@ -204,4 +217,4 @@ no-build-front (b ∷ rest) h = grind (arith, nat_tests, common_steps)
 pub over_counted : (loose : Bool) (a b c : Place) (text : List ℕ) → is_over text ≡ true
     → qualified_counted loose a b c text ≡ (counted a b c (listed []) (listed []) >>? λ p. Some (p, text))
 unfolding qualified_counted
-over_counted loose a b c text h = rw (none-front loose text h, no-build-front text h, none-follow loose) refl
+over_counted loose a b c text h = rw (none-front loose (is_any c) text h, no-build-front text h, none-follow loose) refl

@@ -5,10 +5,10 @@ use Rattle.nodejs_semver.proofs.Common.{encode_utf8, encode_utf8_all, ends, equa
 use Rattle.nodejs_semver.proofs.Common.{is_empty, is_identifier_char, is_whitespace, le-ltb, length, length-drop, list_all, list_all-append}
 use Rattle.nodejs_semver.proofs.Common.{list_any, lt-ltb, nat_tests, not, pieces, prefix_len, refl, space_len, suc, sym, take}
 use Rattle.nodejs_semver.proofs.Common.{take-append-drop, true, zero, ℕ, ◌&&◌, ◌++◌, ◌+◌, ◌-◌, ◌<◌, ◌==◌, ◌||◌, ◌∙◌, ◌∷◌, ◌≡◌, ◌≤◌, ◌⊎◌}
-use Rattle.nodejs_semver.proofs.NpmCommon.{IsPartial, IsPlace, IsSignText, IsStrictBuild, bare, begins_malformed}
-use Rattle.nodejs_semver.proofs.NpmCommon.{bytes_eq, caret_equal, compared, dashed, encode_ascii, has_zeros, ignored_front, is_malformed}
-use Rattle.nodejs_semver.proofs.NpmCommon.{is_mark, is_visible, late_above, late_below, may_stand, no_build, no_pre_release, no_sign, one}
-use Rattle.nodejs_semver.proofs.NpmCommon.{or-true, plus, runs_tail, sign, spelling, tail_runs, take_while, three, tilde_twice, two}
+use Rattle.nodejs_semver.proofs.NpmCommon.{IsPartial, IsPlace, IsPlaces, IsSignText, IsStrictBuild, bare, begins_malformed, bytes_eq}
+use Rattle.nodejs_semver.proofs.NpmCommon.{caret_equal, compared, dashed, encode_ascii, has_zeros, ignored_front, is_malformed, is_mark}
+use Rattle.nodejs_semver.proofs.NpmCommon.{is_none, is_visible, late_above, late_below, no_build, no_pre_release, no_sign, one, or-true}
+use Rattle.nodejs_semver.proofs.NpmCommon.{plus, runs_tail, sign, spelling, tail_runs, take_while, three, tilde_twice, two}
 use Rattle.nodejs_semver.proofs.Reading.Bytes.{all-end, all-join, begins_component, ends-append, ends-some}
 use Rattle.nodejs_semver.{proofs.Strict.Places.prefix-all, specs.{Internal.Fronts.is_wildcard, Npm.Grammar.IsPreRelease}}
 use Rattle.nodejs_semver.specs.Internal.NpmMalformed.{behind_sign, is_inner}
@@ -41,19 +41,22 @@ place-part loose zeros x a h = all_weaker is_place_byte is_part (λ b k. grind (
 pieces-part : (t : List ℕ) → tail_runs (pieces t) ≡ true → list_all is_part t ≡ true
 pieces-part t h = all_weaker is_plain is_part (λ b k. grind (arith, nat_tests)) t (plain_runs t h)
 
-pre-part : (loose : Bool) (p : List ℕ) (l : List Id) → IsPreRelease loose (may_stand loose) p l → list_all is_part p ≡ true
-pre-part loose p l no_pre_release = refl
-pre-part loose p l (dashed t list h s) = pieces-part t (runs_tail (pieces t) h.runs)
-pre-part loose p l (bare t list h s f) = pieces-part t (runs_tail (pieces t) h.runs)
+pre-part : (loose wild : Bool) (fits : List ℕ → Bool) (p : List ℕ) (l : List Id) → IsPreRelease loose wild fits p l → list_all is_part p ≡ true
+pre-part loose wild fits p l no_pre_release = refl
+pre-part loose wild fits p l (dashed t list h s) = pieces-part t (runs_tail (pieces t) h.runs)
+pre-part loose wild fits p l (bare t list h s f) = pieces-part t (runs_tail (pieces t) h.runs)
 
 build-part : (p : List ℕ) (l : List Id) → IsStrictBuild p l → list_all is_part p ≡ true
 build-part p l no_build = refl
 build-part p l (plus t list h) = pieces-part t (runs_tail (pieces t) h.runs)
 
+places-part : (loose : Bool) (x : List ℕ) (p : Partial) → IsPlaces loose x p → list_all is_part x ≡ true
+places-part loose x p (one x1 a h) = place-part loose false x1 a h
+places-part loose x p (two x1 y a b h k) = all-join is_part x1 (46 ∷ y) (place-part loose false x1 a h) (place-part loose (has_zeros a) y b k)
+places-part loose x p (three x1 y z pre build a b c ids builds h k l m n t) = grind (arith, nat_tests, common_steps, all-join, build-part, place-part, pre-part)
+
 pub partial-part : (loose : Bool) (x : List ℕ) (p : Partial) → IsPartial loose x p → list_all is_part x ≡ true
-partial-part loose x p (one x1 a h) = place-part loose false x1 a h
-partial-part loose x p (two x1 y a b h k) = all-join is_part x1 (46 ∷ y) (place-part loose false x1 a h) (place-part loose (has_zeros a) y b k)
-partial-part loose x p (three x1 y z pre build a b c ids builds h k l m n t) = grind (arith, nat_tests, common_steps, all-join, build-part, place-part, pre-part)
+partial-part loose x p h = places-part loose x p h.0
 
 -- ---- the characters of whitespace
 
@@ -170,12 +173,12 @@ third-placed (c ∷ d ∷ z) q h k =
 three-placed : (a b : List ℕ) (ps : List (List ℕ)) → Firsts a → Firsts b → Third ps → are_places (a ∷ b ∷ ps) ≡ true
 three-placed a b ps h k t = grind (arith, nat_tests)
 
-pre-first : (loose : Bool) (p b : List ℕ) (l m : List Id) → IsPreRelease loose (may_stand loose) p l → IsStrictBuild b m
+pre-first : (loose wild : Bool) (fits : List ℕ → Bool) (p b : List ℕ) (l m : List Id) → IsPreRelease loose wild fits p l → IsStrictBuild b m
     → begins (λ b. b == 46) (p ++ b) ≡ false
-pre-first loose p b l m h k = grind (arith, nat_tests, common_steps)
+pre-first loose wild fits p b l m h k = grind (arith, nat_tests, common_steps)
 
 -- behind some characters that begin words
-placed : (loose : Bool) (u x : List ℕ) (p : Partial) → list_all is_first u ≡ true → IsPartial loose x p → are_places (pieces (u ++ x)) ≡ true
+placed : (loose : Bool) (u x : List ℕ) (p : Partial) → list_all is_first u ≡ true → IsPlaces loose x p → are_places (pieces (u ++ x)) ≡ true
 placed loose u x p h (one x1 a k) =
     let first = firsts-behind u x1 h (place-firsts loose false x1 a k) in rw (alone-piece (u ++ x1) first.0, first.0, first.1) refl
 placed loose u x p h (two x1 y a b k l) =
@@ -189,7 +192,7 @@ placed loose u x p h (three x1 y z pre build a b c ids builds k l m n o t) =
     let q = z ++ (pre ++ build) in
     let joined : u ++ (x1 ++ 46 ∷ (y ++ 46 ∷ q)) ≡ (u ++ x1) ++ 46 ∷ (y ++ 46 ∷ q) = sym (append_assoc u x1 (46 ∷ (y ++ 46 ∷ q))) in
     rw (joined, dotted-piece (u ++ x1) (y ++ 46 ∷ q) first.0, dotted-piece y q second.0) (three-placed (u ++ x1) y (pieces q) first second
-    (third-placed z (pre ++ build) (place-firsts loose (has_zeros a) z c m) (pre-first loose pre build ids builds n o)))
+    (third-placed z (pre ++ build) (place-firsts loose (has_zeros a) z c m) (pre-first loose (is_none c) _ pre build ids builds n o)))
 
 -- ---- the signs of a well-formed word
 
@@ -249,21 +252,21 @@ place-end loose zeros x a h = grind (arith, nat_tests, common_steps, place-bytes
 last-end : (u v : List ℕ) → ends is_last v ≡ true → ends is_last (u ++ v) ≡ true
 last-end u v h = ends-append is_last u v (ends-some is_last v h) ∙ h
 
-qualified-end : (loose : Bool) (z pre build : List ℕ) (ids builds : List Id) → ends is_last z ≡ true → IsPreRelease loose (may_stand loose) pre ids
+qualified-end : (loose wild : Bool) (fits : List ℕ → Bool) (z pre build : List ℕ) (ids builds : List Id) → ends is_last z ≡ true → IsPreRelease loose wild fits pre ids
     → IsStrictBuild build builds → ends is_last (z ++ (pre ++ build)) ≡ true
-qualified-end loose z pre build ids builds e m (plus t list h) =
+qualified-end loose wild fits z pre build ids builds e m (plus t list h) =
     last-end z (pre ++ 43 ∷ t) (last-end pre (43 ∷ t) (last-end (43 ∷ []) t (identifiers-end t list h)))
-qualified-end loose z pre build ids builds e no_pre_release no_build = rw (append-nil z) e
-qualified-end loose z pre build ids builds e (dashed t list h s) no_build =
+qualified-end loose wild fits z pre build ids builds e no_pre_release no_build = rw (append-nil z) e
+qualified-end loose wild fits z pre build ids builds e (dashed t list h s) no_build =
     rw (append-nil t) (last-end z (45 ∷ t) (last-end (45 ∷ []) t (identifiers-end t list h)))
-qualified-end loose z pre build ids builds e (bare t list h s f) no_build = rw (append-nil t) (last-end z t (identifiers-end t list h))
+qualified-end loose wild fits z pre build ids builds e (bare t list h s f) no_build = rw (append-nil t) (last-end z t (identifiers-end t list h))
 
-partial-end : (loose : Bool) (x : List ℕ) (p : Partial) → IsPartial loose x p → ends is_last x ≡ true
+partial-end : (loose : Bool) (x : List ℕ) (p : Partial) → IsPlaces loose x p → ends is_last x ≡ true
 partial-end loose x p (one x1 a h) = place-end loose false x1 a h
 partial-end loose x p (two x1 y a b h k) = last-end x1 (46 ∷ y) (last-end (46 ∷ []) y (place-end loose (has_zeros a) y b k))
 partial-end loose x p (three x1 y z pre build a b c ids builds h k l m n t) =
     let q = z ++ (pre ++ build) in
-    let last = qualified-end loose z pre build ids builds (place-end loose (has_zeros a) z c l) m n in
+    let last = qualified-end loose (is_none c) _ z pre build ids builds (place-end loose (has_zeros a) z c l) m n in
     last-end x1 (46 ∷ (y ++ 46 ∷ q)) (last-end (46 ∷ []) (y ++ 46 ∷ q) (last-end y (46 ∷ q) (last-end (46 ∷ []) q last)))
 
 -- ---- no malformed word is at the front of a text that begins as a word does
@@ -304,10 +307,10 @@ first-word loose u x rest p h plain k first dark =
     let part = partial-part loose x p k in
     let inner = all-join is_inner u x (all_weaker is_first is_inner (λ b k. grind (arith, nat_tests)) u h) (all_weaker is_part is_inner (λ b k. grind (arith, nat_tests)) x part) in
     let visible = all_weaker is_inner is_visible (λ b k. grind (arith, nat_tests)) (u ++ x) inner in
-    let end = last-end u x (partial-end loose x p k) in
+    let end = last-end u x (partial-end loose x p k.0) in
     let behind = ap (λ (t : List ℕ). list_all is_unsigned t) (sym (behind-drop (u ++ x))) ∙ plain in
     let regular : is_regular (u ++ x) ≡ true =
-    rw (inner, end, more u x first, behind, or-true (list_any (λ b. b == 42) (u ++ x)), placed loose u x p h k) refl in
+    rw (inner, end, more u x first, behind, or-true (list_any (λ b. b == 42) (u ++ x)), placed loose u x p h k.0) refl in
     regular-kept (u ++ x) rest visible dark regular
   where
     is_mark_or_sign : ℕ → Bool

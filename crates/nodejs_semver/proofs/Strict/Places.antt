@@ -4,7 +4,7 @@ use Rattle.nodejs_semver.proofs.Common.{common_steps, drop, drop_at, false, inl,
 use Rattle.nodejs_semver.proofs.Common.{nat_tests, not, prefix_len, refl, same_Some, suc, sym, take, take-append-drop, take_at, true, zero}
 use Rattle.nodejs_semver.proofs.{Common.{ℕ, ◌&&◌, ◌++◌, ◌+◌, ◌-◌, ◌<◌, ◌==◌, ◌||◌, ◌∙◌, ◌∷◌, ◌≡◌, ◌≤◌}, NpmCommon.{IsPlace, begins_byte}}
 use Rattle.nodejs_semver.proofs.NpmCommon.{after_byte, begins_wildcard, digits_value, dotted_patch, dotted_place, drop-append-add, is_spelled}
-use Rattle.nodejs_semver.proofs.NpmCommon.{most_digits, nat_le, patch_place, place_front, run_place, take_while}
+use Rattle.nodejs_semver.proofs.NpmCommon.{nat_le, patch_place, place_front, run_place, take_while}
 use Rattle.nodejs_semver.proofs.{Reading.{Numbers.{digits-taken, number-no_wildcard}, WordLaw.byte-is}, Strict.Qualifiers.Follows}
 use Rattle.std.proofs.lemmas.List.Sums.{prefix_len-drop_all, prefix_len-drop_no, prefix_len-drop_yes}
 use Rattle.nodejs_semver.specs.Npm.RangeText as Text
@@ -51,13 +51,13 @@ run-found : (loose zeros : Bool) (run rest : List ℕ) (a : Option ℕ) (left : 
     → list_all is_ascii_digit run ≡ true → IsPlace loose zeros run a × (rest ≡ left)
 run-found loose zeros run rest a left h each =
     let n = digits_value 10 run in
-    let fits = nat_le (length run) (most_digits loose) in
+    let fits = nat_le (length run) 257 in
     elim (cases_Bool (not (is_empty run) && fits && is_spelled loose zeros n run)) [
       | inr other ↦ cc (rw other at h)
       | inl good ↦
           let parts = and_parts (not (is_empty run) && fits) (is_spelled loose zeros n run) good in
           let some = and_parts (not (is_empty run)) fits parts.0 in
-          let short : length run ≤ most_digits loose = grind (arith, nat_tests) in
+          let short : length run ≤ 257 = grind (arith, nat_tests) in
           let number : IsNumber n run n = grind (arith, nat_tests, common_steps) in
           let is : IsPlace loose zeros run (Some n) = Text.number run n number parts.1 short in
           grind (arith, nat_tests, common_steps, same_Some)
@@ -107,10 +107,16 @@ wild-read : (loose zeros : Bool) (b : ℕ) (rest : List ℕ) → (b == 120 || b 
 unfolding place_front
 wild-read loose zeros b rest h = rw h refl
 
+-- behind a wildcard anything may stand
+pub wild-patch : (loose zeros : Bool) (b : ℕ) (rest : List ℕ) → (b == 120 || b == 88 || b == 42) ≡ true
+    → dotted_patch loose zeros (46 ∷ b ∷ rest) ≡ Some (None, rest)
+unfolding dotted_patch patch_place
+wild-patch loose zeros b rest h = grind (arith, nat_tests, common_steps, no-digit, and-false, wild-read)
+
 pub patch-read : (loose zeros : Bool) (x rest : List ℕ) (a : Option ℕ) → IsPlace loose zeros x a → Follows loose rest
     → dotted_patch loose zeros (46 ∷ (x ++ rest)) ≡ Some (a, rest)
 unfolding dotted_patch patch_place
-patch-read loose zeros x rest a (Text.any b h) f = grind (arith, nat_tests, common_steps, no-digit, and-false, wild-read)
+patch-read loose zeros x rest a (Text.any b h) f = wild-patch loose zeros b rest h
 patch-read loose zeros x rest a (Text.number digits n k spelled short) (inl stop) =
     let len : prefix_len is_ascii_digit (digits ++ rest) ≡ length digits = digits-taken digits rest k.each stop.0 in
     let e : drop (length digits) (digits ++ rest) ≡ rest = drop_at digits rest (length digits) refl in

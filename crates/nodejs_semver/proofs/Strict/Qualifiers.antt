@@ -35,12 +35,12 @@ pub record Ends (rest : List ℕ) : Type 0 where
   pub dash : begins_byte 45 rest ≡ false
   pub plus : begins_byte 43 rest ≡ false
   pub digit : begins is_ascii_digit rest ≡ false
-  pub letter : begins_undashed rest ≡ false
+  pub letter : (wild : Bool) → begins_undashed wild rest ≡ false
   pub dot : begins_byte 46 rest ≡ false
 
 pub ends-nil : Ends []
 unfolding list_len
-ends-nil = record { run = refl; dash = refl; plus = refl; digit = refl; letter = refl; dot = refl }
+ends-nil = record { run = refl; dash = refl; plus = refl; digit = refl; letter = λ wild. refl; dot = refl }
 
 -- build metadata, or nothing, ends a list and begins with no digit
 pub build-quiet : (b more : List ℕ) (l : List Id) → IsStrictBuild b l → Ends more
@@ -65,49 +65,49 @@ build-taken b more l (plus t list h) e =
 
 -- ---- pre-releases, strict or loose
 
-undashed-begins : (text : List ℕ) → begins_undashed text ≡ true → begins_identifier text ≡ true
-undashed-begins text h = grind (arith, nat_tests)
+undashed-begins : (wild : Bool) (text : List ℕ) → begins_undashed wild text ≡ true → begins_identifier text ≡ true
+undashed-begins wild text h = grind (arith, nat_tests)
 
-pub letter-on : (text more : List ℕ) → begins_undashed text ≡ true → begins_identifier more ≡ false → begins_undashed (text ++ more) ≡ true
-letter-on text more h k = grind (arith, nat_tests, common_steps)
+pub letter-on : (wild : Bool) (text more : List ℕ) → begins_undashed wild text ≡ true → begins_identifier more ≡ false → begins_undashed wild (text ++ more) ≡ true
+letter-on wild text more h k = grind (arith, nat_tests, common_steps)
 
 goes-on : (more : List ℕ) → goes_on more ≡ false → begins_identifier more ≡ false
 goes-on more h = grind (arith, nat_tests)
 
 -- the letters that begin it stand in its list of identifiers
-letter-off : (text more : List ℕ) → begins_undashed (text ++ more) ≡ true → goes_on more ≡ false → begins_undashed text ≡ true
-letter-off [] more h k = cc (undashed-begins more h, goes-on more k)
-letter-off (b ∷ []) more h k = grind (arith, nat_tests, goes-on)
-letter-off (b ∷ c ∷ []) more h k = grind (arith, nat_tests, goes-on)
-letter-off (b ∷ c ∷ d ∷ text) more h k = h
+letter-off : (wild : Bool) (text more : List ℕ) → begins_undashed wild (text ++ more) ≡ true → goes_on more ≡ false → begins_undashed wild text ≡ true
+letter-off wild [] more h k = cc (undashed-begins wild more h, goes-on more k)
+letter-off wild (b ∷ []) more h k = grind (arith, nat_tests, goes-on)
+letter-off wild (b ∷ c ∷ []) more h k = grind (arith, nat_tests, goes-on)
+letter-off wild (b ∷ c ∷ d ∷ text) more h k = h
 
-letter-take : (text : List ℕ) → begins_undashed text ≡ true → begins_undashed (take (list_len text) text) ≡ true
-letter-take text h =
-    let whole = subst (λ (t : List ℕ). begins_undashed t ≡ true) (sym (take-append-drop (list_len text) text)) h in
-    letter-off (take (list_len text) text) (drop (list_len text) text) whole (list_ended text)
+letter-take : (wild : Bool) (text : List ℕ) → begins_undashed wild text ≡ true → begins_undashed wild (take (list_len text) text) ≡ true
+letter-take wild text h =
+    let whole = subst (λ (t : List ℕ). begins_undashed wild t ≡ true) (sym (take-append-drop (list_len text) text)) h in
+    letter-off wild (take (list_len text) text) (drop (list_len text) text) whole (list_ended text)
 
 -- a pre-release at the front of a text, of which this is read
-abbrev pub PreFound : Bool → (List ℕ → Bool) → List ℕ → List ℕ → List ℕ → Type 0
-PreFound loose fits text read rest = (piece : List ℕ) × (text ≡ piece ++ rest) × IsPreRelease loose fits piece (listed read)
+abbrev pub PreFound : Bool → Bool → (List ℕ → Bool) → List ℕ → List ℕ → List ℕ → Type 0
+PreFound loose wild fits text read rest = (piece : List ℕ) × (text ≡ piece ++ rest) × IsPreRelease loose wild fits piece (listed read)
 
-none-found : (loose : Bool) (fits : List ℕ → Bool) (text : List ℕ) → PreFound loose fits text [] text
+none-found : (loose wild : Bool) (fits : List ℕ → Bool) (text : List ℕ) → PreFound loose wild fits text [] text
 unfolding listed
-none-found loose fits text = ([], refl, no_pre_release)
+none-found loose wild fits text = ([], refl, no_pre_release)
 
-without-dash : (fits : List ℕ → Bool) (text : List ℕ) → begins_undashed text ≡ true → fits (take (list_len text) text) ≡ true
-    → PreFound true fits text (take (list_len text) text) (drop (list_len text) text)
-without-dash fits text letter h =
+without-dash : (wild : Bool) (fits : List ℕ → Bool) (text : List ℕ) → begins_undashed wild text ≡ true → fits (take (list_len text) text) ≡ true
+    → PreFound true wild fits text (take (list_len text) text) (drop (list_len text) text)
+without-dash wild fits text letter h =
     let read = take (list_len text) text in
-    let is = front-identifiers text (undashed-begins text letter) in
-    (read, sym (take-append-drop (list_len text) text), bare read (listed read) is h (letter-take text letter))
+    let is = front-identifiers text (undashed-begins wild text letter) in
+    (read, sym (take-append-drop (list_len text) text), bare read (listed read) is h (letter-take wild text letter))
 
-pub dashed-found : (loose : Bool) (fits : List ℕ → Bool) (text : List ℕ) → fits (dashed_front text).0 ≡ true
-    → PreFound loose fits text (dashed_front text).0 (dashed_front text).1
+pub dashed-found : (loose wild : Bool) (fits : List ℕ → Bool) (text : List ℕ) → fits (dashed_front text).0 ≡ true
+    → PreFound loose wild fits text (dashed_front text).0 (dashed_front text).1
 unfolding dashed_front pre_release_front
-dashed-found loose fits text h = elim (cases_Bool (begins_byte 45 text)) [
-  | inr other ↦ rw other (none-found loose fits text)
+dashed-found loose wild fits text h = elim (cases_Bool (begins_byte 45 text)) [
+  | inr other ↦ rw other (none-found loose wild fits text)
   | inl dash ↦ elim (cases_Bool (begins_identifier (drop 1 text))) [
-    | inr none ↦ rw (dash, none) (none-found loose fits text)
+    | inr none ↦ rw (dash, none) (none-found loose wild fits text)
     | inl some ↦
         let y = drop 1 text in
         let read = take (list_len y) y in
@@ -116,21 +116,21 @@ dashed-found loose fits text h = elim (cases_Bool (begins_byte 45 text)) [
   ]
 ]
 
-pub pre-found : (loose : Bool) (fits : List ℕ → Bool) (text : List ℕ) → fits (pre_front loose text).0 ≡ true
-    → PreFound loose fits text (pre_front loose text).0 (pre_front loose text).1
+pub pre-found : (loose wild : Bool) (fits : List ℕ → Bool) (text : List ℕ) → fits (pre_front loose wild text).0 ≡ true
+    → PreFound loose wild fits text (pre_front loose wild text).0 (pre_front loose wild text).1
 unfolding pre_front
-pre-found false fits text h = dashed-found false fits text h
-pre-found true fits text h = elim (cases_Bool (begins_undashed text)) [
-  | inr other ↦ rw other (dashed-found true fits text (rw other at h))
+pre-found false wild fits text h = dashed-found false wild fits text h
+pre-found true wild fits text h = elim (cases_Bool (begins_undashed wild text)) [
+  | inr other ↦ rw other (dashed-found true wild fits text (rw other at h))
   | inl letter ↦
-      let begins = undashed-begins text letter in
-      rw (letter, begins) (without-dash fits text letter (rw (letter, begins) at h))
+      let begins = undashed-begins wild text letter in
+      rw (letter, begins) (without-dash wild fits text letter (rw (letter, begins) at h))
 ]
 
 -- build metadata, or nothing, begins with no letter
-build-letter : (b more : List ℕ) (l : List Id) → IsStrictBuild b l → Ends more → begins_undashed (b ++ more) ≡ false
-build-letter b more l no_build e = e.letter
-build-letter b more l (plus t list h) e = refl
+build-letter : (wild : Bool) (b more : List ℕ) (l : List Id) → IsStrictBuild b l → Ends more → begins_undashed wild (b ++ more) ≡ false
+build-letter wild b more l no_build e = e.letter wild
+build-letter wild b more l (plus t list h) e = refl
 
 -- what stands behind a third place: no digit and no dot, or loosely one digit before a dot
 abbrev pub Follows : Bool → List ℕ → Type 0
@@ -141,19 +141,19 @@ build-dotless : (b more : List ℕ) (l : List Id) → IsStrictBuild b l → Ends
 build-dotless b more l no_build e = e.dot
 build-dotless b more l (plus t list h) e = refl
 
-pub pre-follows : (loose : Bool) (fits : List ℕ → Bool) (p b more : List ℕ) (l m : List Id) → IsPreRelease loose fits p l
+pub pre-follows : (loose : Bool) (fits : List ℕ → Bool) (p b more : List ℕ) (l m : List Id) → IsPreRelease loose false fits p l
     → IsStrictBuild b m → Ends more → Follows loose (p ++ (b ++ more))
 pre-follows loose fits p b more l m no_pre_release k e = inl ((build-quiet b more m k e).2, build-dotless b more m k e)
 pre-follows loose fits p b more l m (dashed t list h s) k e = inl (refl, refl)
-pre-follows loose fits p b more l m (bare t list h s x) k e = go t (and_parts loose (begins_undashed t) x).1
+pre-follows loose fits p b more l m (bare t list h s x) k e = go t (and_parts loose (begins_undashed false t) x).1
   where
-    letter-dotless : (c : ℕ) (t : List ℕ) → begins_undashed (c ∷ t) ≡ true → (c == 46) ≡ false
+    letter-dotless : (c : ℕ) (t : List ℕ) → begins_undashed false (c ∷ t) ≡ true → (c == 46) ≡ false
     letter-dotless c t f = grind (arith, nat_tests)
 
-    digit-dot : (c : ℕ) (t : List ℕ) → begins_undashed (c ∷ t) ≡ true → is_ascii_digit c ≡ true → begins_byte 46 t ≡ true
+    digit-dot : (c : ℕ) (t : List ℕ) → begins_undashed false (c ∷ t) ≡ true → is_ascii_digit c ≡ true → begins_byte 46 t ≡ true
     digit-dot c t f d = grind (arith, nat_tests)
 
-    go : (t : List ℕ) → begins_undashed t ≡ true → Follows loose (t ++ (b ++ more))
+    go : (t : List ℕ) → begins_undashed false t ≡ true → Follows loose (t ++ (b ++ more))
     go [] f = cc f
     go (c ∷ t) f = elim (cases_Bool (is_ascii_digit c)) [
       | inr other ↦ inl (other, letter-dotless c t f)
@@ -169,19 +169,19 @@ stopped [] e = refl
 stopped (b ∷ rest) e = grind (arith, nat_tests, common_steps)
 
 -- the text is the pre-release and this rest, and its identifiers fit
-pub pre-taken : (loose : Bool) (fits : List ℕ → Bool) (p b more : List ℕ) (l m : List Id) → fits [] ≡ true → IsPreRelease loose fits p l
+pub pre-taken : (loose wild : Bool) (fits : List ℕ → Bool) (p b more : List ℕ) (l m : List Id) → fits [] ≡ true → IsPreRelease loose wild fits p l
     → IsStrictBuild b m → Ends more
-    → (ids : List ℕ) × (pre_front loose (p ++ (b ++ more)) ≡ (ids, b ++ more)) × (listed ids ≡ l) × (fits ids ≡ true)
+    → (ids : List ℕ) × (pre_front loose wild (p ++ (b ++ more)) ≡ (ids, b ++ more)) × (listed ids ≡ l) × (fits ids ≡ true)
 unfolding pre_front dashed_front pre_release_front listed
-pre-taken loose fits p b more l m none no_pre_release k e =
-    ([], rw (build-letter b more m k e, and-false loose, (build-quiet b more m k e).1) refl, refl, none)
-pre-taken loose fits p b more l m none (dashed t list h s) k e =
+pre-taken loose wild fits p b more l m none no_pre_release k e =
+    ([], rw (build-letter wild b more m k e, and-false loose, (build-quiet b more m k e).1) refl, refl, none)
+pre-taken loose wild fits p b more l m none (dashed t list h s) k e =
     let begins = written-begins t (b ++ more) list h in
     let exact = written-exact t (b ++ more) list h (build-quiet b more m k e).0 in
     (t, rw (begins, and-false loose, exact) refl, written-spelled t list h, s)
-pre-taken loose fits p b more l m none (bare t list h s x) k e =
-    let is = and_parts loose (begins_undashed t) x in
+pre-taken loose wild fits p b more l m none (bare t list h s x) k e =
+    let is = and_parts loose (begins_undashed wild t) x in
     let stop = (build-quiet b more m k e).0 in
-    let on = letter-on t (b ++ more) is.1 (stopped (b ++ more) stop) in
+    let on = letter-on wild t (b ++ more) is.1 (stopped (b ++ more) stop) in
     let exact = written-exact t (b ++ more) list h stop in
-    (t, rw (is.0, on, undashed-begins (t ++ (b ++ more)) on) exact, written-spelled t list h, s)
+    (t, rw (is.0, on, undashed-begins wild (t ++ (b ++ more)) on) exact, written-spelled t list h, s)

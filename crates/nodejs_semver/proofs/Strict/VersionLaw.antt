@@ -33,7 +33,7 @@ qualified-found a b c text v h =
       | inr other ↦ cc (rw other at h)
       | inl whole ↦
           let parts = and_parts (is_empty build.1) (is_strict_list front.0) whole in
-          let p = dashed-found false is_strict_list text parts.1 in
+          let p = dashed-found false false is_strict_list text parts.1 in
           let q = build-found front.1 in
           let none = empty-is build.1 parts.0 in
           let last = append-nil q.0 in

@@ -4,14 +4,17 @@ use Rattle.nodejs_semver.proofs.Common.{IsUtf8-drop, List, MAX_SAFE_INTEGER, Non
 use Rattle.nodejs_semver.proofs.Common.{cond_some, drop, equal, false, if◌then◌else◌, inl, inr, is_boundary, is_normal, is_some, length}
 use Rattle.nodejs_semver.proofs.Common.{length-append, length-drop, list_all, nat_tests, prefix_len, refl, space_len, suc, sym, take}
 use Rattle.nodejs_semver.proofs.{Common.{take_rest, true, zero, ℕ, ◌&&◌, ◌+◌, ◌-◌, ◌<◌, ◌∙◌, ◌∷◌, ◌≡◌, ◌≤◌}, NpmCommon.{Ended, IsPartial}}
-use Rattle.nodejs_semver.proofs.NpmCommon.{IsStrictBuild, Signed, after_ends, any_word, are_normal, begins_malformed, compared}
+use Rattle.nodejs_semver.proofs.NpmCommon.{IsPlaces, IsStrictBuild, Signed, after_ends, any_word, are_normal, begins_malformed, compared}
 use Rattle.nodejs_semver.proofs.NpmCommon.{counted_front, drop_ends, end_front, ended_end, hyphen_ends, hyphen_of, ignored_front, is_mark}
-use Rattle.nodejs_semver.proofs.NpmCommon.{is_small, is_visible, limited, limited_end, limited_hyphen, limited_word, marked_word, marks_len}
-use Rattle.nodejs_semver.proofs.NpmCommon.{may_stand, no_build, npm_sign, or_else, plus, signed_front_view, signed_word}
+use Rattle.nodejs_semver.proofs.NpmCommon.{is_short, is_small, is_visible, limited, limited_end, limited_hyphen, limited_word}
+use Rattle.nodejs_semver.proofs.NpmCommon.{marked_word, marks_len, no_build, npm_sign, or_else, plus, signed_front_view, signed_word}
 use Rattle.nodejs_semver.proofs.{NpmCommon.{wildcard, ◌>>?◌}, Strict.Hyphens.{after_ends-drop, ends-mark, ends-more, ends-space, ends-stop}}
 use Rattle.nodejs_semver.proofs.Strict.{Limits.counted_limited, PartialLaw.partial-found, Places.prefix-all}
 use Rattle.nodejs_semver.specs.{Internal.NpmWords.{end_len, last_limited, partial_front}, Npm.{Grammar.IsPreRelease, Table.{Partial, Sign}}}
 use Rattle.nodejs_semver.specs.declared.npm.words.Signed as Runtime
+use Rattle.nodejs_semver.specs.Internal.NpmWords.{counted_places, places_front, short_only}
+use Rattle.nodejs_semver.proofs.Strict.PartialLaw.{places-found}
+use Rattle.nodejs_semver.proofs.Strict.Limits.{places-limited}
 
 pub marks_all : (text : List ℕ) (at : ℕ) → at ≡ marks_len text → list_all is_mark (take at text) ≡ true
 marks_all text at e = rw e (prefix-all is_mark text)
@@ -38,15 +41,25 @@ unfolding signed_word
 word_here loose text s at o e is read = grind (arith, nat_tests, common_steps, take_rest, counted_limited, word-limited)
 
 -- what stands behind a partial is no longer than the text
-pub partial-le : (loose : Bool) (limit : ℕ) (text : List ℕ) (p : Partial) (rest : List ℕ) → Some (p, rest) ≡ counted_front loose limit text → length rest ≤ length text
-partial-le loose limit text p rest h = go (partial_front loose text) refl (h ∙ counted_limited loose limit text)
+pub places-le : (loose : Bool) (limit : ℕ) (text : List ℕ) (p : Partial) (rest : List ℕ) → Some (p, rest) ≡ counted_places loose limit text
+    → length rest ≤ length text
+places-le loose limit text p rest h = go (places_front loose text) refl (h ∙ places-limited loose limit text)
   where
-    go : (o : Front Partial) → partial_front loose text ≡ o → Some (p, rest) ≡ limited limit o → length rest ≤ length text
+    go : (o : Front Partial) → places_front loose text ≡ o → Some (p, rest) ≡ limited limit o → length rest ≤ length text
     go None e k = cc k
     go (Some q) e k =
         let same = cond_some (is_small limit q.0) q (p, rest) (sym k) in
-        let at_partial = partial-found loose text q.0 q.1 e in
+        let at_partial = places-found loose text q.0 q.1 e in
         omega (arith, ap length at_partial.split, length-append at_partial.piece q.1, ap (λ (x : Partial × List ℕ). length x.1) same.1)
+
+pub partial-le : (loose : Bool) (limit : ℕ) (text : List ℕ) (p : Partial) (rest : List ℕ) → Some (p, rest) ≡ counted_front loose limit text → length rest ≤ length text
+partial-le loose limit text p rest h = go (counted_places loose limit text) refl h
+  where
+    go : (o : Front Partial) → counted_places loose limit text ≡ o → Some (p, rest) ≡ short_only loose text o → length rest ≤ length text
+    go None e k = cc k
+    go (Some q) e k =
+        let same = cond_some (is_short loose (take (length text - length q.1) text)) q (p, rest) (sym k) in
+        places-le loose limit text p rest (sym (e ∙ ap (λ (x : Partial × List ℕ). Some x) same.1))
 
 pub behind-le : (loose : Bool) (limit : ℕ) (text : List ℕ) (at : ℕ) (p : Partial) (rest : List ℕ)
     → Some (p, rest) ≡ counted_front loose limit (take (length text - at) (drop at text)) → length rest ≤ length text
@@ -95,15 +108,18 @@ pub ruleset marks_found = (marks_all)
 
 -- ---- the identifiers of the partials that are read are in normal form
 
-pre-normal : (loose : Bool) (text : List ℕ) (ids : List Id) → IsPreRelease loose (may_stand loose) text ids → list_all is_normal ids ≡ true
-pre-normal loose text ids h = grind (arith, nat_tests, common_steps, identifiers-normal)
+pre-normal : (loose wild : Bool) (fits : List ℕ → Bool) (text : List ℕ) (ids : List Id) → IsPreRelease loose wild fits text ids → list_all is_normal ids ≡ true
+pre-normal loose wild fits text ids h = grind (arith, nat_tests, common_steps, identifiers-normal)
 
 build-normal : (text : List ℕ) (ids : List Id) → IsStrictBuild text ids → list_all is_normal ids ≡ true
 build-normal text ids no_build = refl
 build-normal text ids (plus t list h) = identifiers-normal t list h
 
+places-normal : (loose : Bool) (text : List ℕ) (p : Partial) → IsPlaces loose text p → are_normal p ≡ true
+places-normal loose text p h = grind (arith, nat_tests, common_steps, pre-normal, build-normal)
+
 pub partial-normal : (loose : Bool) (text : List ℕ) (p : Partial) → IsPartial loose text p → are_normal p ≡ true
-partial-normal loose text p h = grind (arith, nat_tests, common_steps, pre-normal, build-normal)
+partial-normal loose text p h = places-normal loose text p h.0
 
 front-normal : (loose : Bool) (text : List ℕ) (p : Partial × List ℕ) → partial_front loose text ≡ Some p → are_normal p.0 ≡ true
 front-normal loose text p h = let found = partial-found loose text p.0 p.1 h in partial-normal loose found.piece p.0 found.is

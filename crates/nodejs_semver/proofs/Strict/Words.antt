@@ -14,21 +14,23 @@ use Rattle.nodejs_semver.proofs.Strict.{PartialLaw.partial-read, Places.digits-b
 use Rattle.nodejs_semver.proofs.Strict.{Signs.{marks-all, sign-found, sign-taken}, VersionLaw.empty-is}
 use Rattle.nodejs_semver.specs.{Internal.NpmWords.{ended_word, partial_front, words_within}, Npm.{RangeText.more, Table.{Partial, Sign}}}
 use Rattle.nodejs_semver.specs.Npm.Table.{table}
+use Rattle.nodejs_semver.proofs.NpmCommon.{IsPlaces}
+use Rattle.nodejs_semver.proofs.Strict.PartialLaw.{front-text}
 
 -- ---- how partials and marks begin
 
 place-begins : (loose zeros : Bool) (x : List ℕ) (a : Option ℕ) → IsPlace loose zeros x a → begins_component x ≡ true
 place-begins loose zeros x a h = grind (arith, nat_tests, common_steps, digits-begin)
 
+places-begin : (loose : Bool) (x rest : List ℕ) (p : Partial) → IsPlaces loose x p → begins_component (x ++ rest) ≡ true
+places-begin loose x rest p h = grind (arith, nat_tests, common_steps, begins-on, is_component_byte, place-begins)
+
 pub partial-begins : (loose : Bool) (x rest : List ℕ) (p : Partial) → IsPartial loose x p → begins_component (x ++ rest) ≡ true
-partial-begins loose x rest p h = grind (arith, nat_tests, common_steps, begins-on, is_component_byte, place-begins)
+partial-begins loose x rest p h = places-begin loose x rest p h.0
 
 marks-counted : (marks u : List ℕ) → list_all is_mark marks ≡ true → begins_component u ≡ true → marks_len (marks ++ u) ≡ length marks
 marks-counted [] u h k = grind (arith, nat_tests)
 marks-counted (b ∷ marks) u h k = grind (arith, nat_tests, common_steps, and_parts, marks-counted marks u)
-
-pub front-text : (front rest : List ℕ) → take (length (front ++ rest) - length rest) (front ++ rest) ≡ front
-front-text front rest = grind (arith, take_at, length-append)
 
 -- ---- one word: what is written is read
 

@@ -31,7 +31,7 @@ abbrev pub is_strict_identifier : List ℕ → Bool
 is_strict_identifier text = not (list_all is_ascii_digit text && has_leading_zero text)
 
 abbrev pub IsStrictPreRelease : List ℕ → List Id → Type 0
-IsStrictPreRelease = IsPreRelease false is_strict_list
+IsStrictPreRelease = IsPreRelease false false is_strict_list
 
 -- the version of three numbers, with these texts of its pre-release and of its build, behind which this stands
 abbrev pub ended_version : ℕ → ℕ → ℕ → List ℕ → List ℕ × List ℕ → Option VersionValue

@@ -1,6 +1,6 @@
 -- For proofs and private contracts. What node-semver's readings, strict or loose, find in a range text, as functions.
 -- Numbers have any value; `limited` leaves out what has a number past the limit that counts.
-use Rattle.std.specs.Prelude.{◌==◌, ◌&&◌, ◌||◌, not, nat_le, nat_lt, ℕ, zero, suc, Bool, true, false, List, [], ◌∷◌, ◌++◌, ◌-◌, length, take, drop, Option, Some, None, if◌then◌else◌, take_while}
+use Rattle.std.specs.Prelude.{◌==◌, ◌&&◌, ◌||◌, not, nat_le, nat_lt, ℕ, zero, suc, Bool, true, false, List, [], ◌∷◌, ◌++◌, ◌-◌, is_none, length, take, drop, Option, Some, None, if◌then◌else◌, take_while}
 use Rattle.std.specs.Char.{is_ascii_digit}
 use Rattle.std.specs.List.{list_all, prefix_len}
 use Rattle.std.specs.Str.Parse.{digits_value}
@@ -15,22 +15,22 @@ use Rattle.nodejs_semver.specs.Internal.Parts.{parts}
 use Rattle.nodejs_semver.specs.Internal.Words.{after_some_space, is_boundary, or_else}
 use Rattle.nodejs_semver.specs.Internal.NpmMalformed.{is_visible}
 use Rattle.nodejs_semver.specs.Npm.Malformed.{begins_malformed, ends_malformed}
-use Rattle.nodejs_semver.specs.Npm.RangeText.{are_marks, are_whole_marks, has_zeros, is_free, is_mark, is_short_identifier, is_spelled, may_stand, partial_of}
-use Rattle.nodejs_semver.specs.Npm.Grammar.{begins_undashed, is_strict_list}
+use Rattle.nodejs_semver.specs.Npm.RangeText.{are_marks, are_whole_marks, has_zeros, is_free, is_mark, is_short_identifier, partial_of}
+use Rattle.nodejs_semver.specs.Npm.Grammar.{begins_undashed, has_leading_zero, is_strict_list}
 use Rattle.nodejs_semver.specs.Npm.Ranges.{is_valid}
 use Rattle.nodejs_semver.specs.Npm.Table.{Comparison, Partial, Sign, caret, compared, hyphen_lower, hyphen_upper, major, minor, table, tilde, whole, wildcard}
 use Rattle.nodejs_semver.specs.Text.WordText.{Comparator, above, at_least, at_most, below, equal}
 
 -- ---- partials
 
--- how many digits a number may have
-abbrev pub most_digits : Bool → ℕ
-most_digits loose = if loose then 32 else 257
+-- a number has no leading zeros; loosely it may have some, zero only where `zeros` says so
+abbrev pub is_spelled : Bool → Bool → ℕ → List ℕ → Bool
+is_spelled loose zeros n digits = not (has_leading_zero digits) || (loose && (zeros || nat_lt 0 n))
 
 -- the place that a run of digits is, with what stands behind it
 abbrev pub run_place : Bool → Bool → List ℕ → List ℕ → Front (Option ℕ)
 run_place loose zeros run rest =
-    if not (is_empty run) && nat_le (length run) (most_digits loose) && is_spelled loose zeros (digits_value 10 run) run
+    if not (is_empty run) && nat_le (length run) 257 && is_spelled loose zeros (digits_value 10 run) run
     then Some (Some (digits_value 10 run), rest) else None
 
 -- a place
@@ -51,10 +51,7 @@ patch_place loose zeros text = let digits = prefix_len is_ascii_digit text in
 unfoldable pub dotted_patch : Bool → Bool → List ℕ → Front (Option ℕ)
 dotted_patch loose zeros text = after_byte 46 text >>? λ rest. patch_place loose zeros rest
 
--- the identifiers of a pre-release and of a build may be written
-abbrev pub are_spelled : Bool → List ℕ → Bool
-are_spelled loose ids = if loose then nat_le (length ids) 128 else is_strict_list ids
-
+-- the identifiers of a pre-release and of a build are short enough
 abbrev pub are_short_identifiers : List ℕ → Bool
 are_short_identifiers text = list_all is_short_identifier (pieces text)
 
@@ -64,14 +61,18 @@ is_short_build text = nat_le (length text) 250
 abbrev pub are_short_builds : List ℕ → Bool
 are_short_builds text = list_all is_short_build (pieces text)
 
+-- the identifiers of a pre-release may be written: loosely any
+abbrev pub may_stand : Bool → List ℕ → Bool
+may_stand loose ids = loose || is_strict_list ids && are_short_identifiers ids
+
 -- this pre-release and this build may be written
 abbrev pub may_follow : Bool → List ℕ → List ℕ → Bool
 may_follow loose pre build = may_stand loose pre && are_short_builds build
 
--- the text begins with one digit before a dot and an identifier
-abbrev pub begins_lone_digit : List ℕ → Bool
-begins_lone_digit [] = false
-begins_lone_digit (b ∷ rest) = is_ascii_digit b && (begins_byte 46 rest && begins_identifier (drop 1 rest))
+-- the text begins with a digit, which stands behind a wildcard, or before a dot and an identifier
+abbrev pub begins_own_digit : Bool → List ℕ → Bool
+begins_own_digit wild [] = false
+begins_own_digit wild (b ∷ rest) = is_ascii_digit b && (wild || begins_byte 46 rest && begins_identifier (drop 1 rest))
 
 -- or with a `-` that no identifier follows
 abbrev pub begins_lone_dash : List ℕ → Bool
@@ -79,8 +80,8 @@ begins_lone_dash [] = false
 begins_lone_dash (b ∷ rest) = b == 45 && not (begins_identifier rest)
 
 -- the text of a pre-release, and what stands behind it
-unfoldable pub pre_front : Bool → List ℕ → List ℕ × List ℕ
-pre_front loose text = if loose && begins_undashed text then marked_list text text else dashed_front text
+unfoldable pub pre_front : Bool → Bool → List ℕ → List ℕ × List ℕ
+pre_front loose wild text = if loose && begins_undashed wild text then marked_list text text else dashed_front text
 
 -- the partial of three places, with these texts of its pre-release and of its build, behind which this stands
 abbrev pub ended_partial : Bool → Option ℕ → Option ℕ → Option ℕ → List ℕ → List ℕ × List ℕ → Front Partial
@@ -88,7 +89,8 @@ ended_partial loose a b c pre build = if may_follow loose pre build.0
     then Some (partial_of a b c (listed pre) (listed build.0), build.1) else None
 
 unfoldable pub qualified_partial : Bool → Option ℕ → Option ℕ → Option ℕ → List ℕ → Front Partial
-qualified_partial loose a b c text = ended_partial loose a b c (pre_front loose text).0 (build_front (pre_front loose text).1)
+qualified_partial loose a b c text = ended_partial loose a b c (pre_front loose (is_none c) text).0
+    (build_front (pre_front loose (is_none c) text).1)
 
 -- the text ends here, or goes on with a space or a bar
 abbrev pub is_over : List ℕ → Bool
@@ -104,10 +106,23 @@ abbrev pub second_front : Bool → Option ℕ → List ℕ → Front (Option ℕ
 second_front loose a text None = Some (partial_of a None None [] [], text)
 second_front loose a text (Some b) = third_front loose a b.0 b.1 (dotted_patch loose (has_zeros a) b.1)
 
+-- the places at the front, with what stands behind them
+unfoldable pub places_front : Bool → List ℕ → Front Partial
+places_front loose text =
+    place_front loose false text >>? λ a. second_front loose a.0 a.1 (dotted_place loose (has_zeros a.0) a.1)
+
+-- loosely a partial has at most 250 characters in front of its `+`
+abbrev pub is_short : Bool → List ℕ → Bool
+is_short loose text = not loose || nat_le (prefix_len (λ b. not (b == 43)) text) 250
+
+-- what was found at the front of the text, if it is short
+abbrev pub short_only : Bool → List ℕ → Front Partial → Front Partial
+short_only loose text None = None
+short_only loose text (Some p) = if is_short loose (take (length text - length p.1) text) then Some p else None
+
 -- the partial at the front
 unfoldable pub partial_front : Bool → List ℕ → Front Partial
-partial_front loose text =
-    place_front loose false text >>? λ a. second_front loose a.0 a.1 (dotted_place loose (has_zeros a.0) a.1)
+partial_front loose text = short_only loose text (places_front loose text)
 
 -- the numbers that count are up to the limit
 abbrev pub is_small : ℕ → Partial → Bool
@@ -136,6 +151,10 @@ place_zeros any = true
 place_zeros (number M) = nat_lt 0 M
 place_zeros great = true
 
+abbrev pub is_any : Place → Bool
+is_any any = true
+is_any p = false
+
 abbrev pub placed : ℕ → Front (Option ℕ) → Front Place
 placed limit None = None
 placed limit (Some a) = Some (place_of limit a.0, a.1)
@@ -157,7 +176,8 @@ ended_counted loose a b c pre build = if may_follow loose pre build.0
     then (counted a b c (listed pre) (listed build.0) >>? λ p. Some (p, build.1)) else None
 
 unfoldable pub qualified_counted : Bool → Place → Place → Place → List ℕ → Front Partial
-qualified_counted loose a b c text = ended_counted loose a b c (pre_front loose text).0 (build_front (pre_front loose text).1)
+qualified_counted loose a b c text = ended_counted loose a b c (pre_front loose (is_any c) text).0
+    (build_front (pre_front loose (is_any c) text).1)
 
 abbrev pub third_counted : Bool → Place → Place → List ℕ → Front Place → Front Partial
 third_counted loose a b text None = counted a b any [] [] >>? λ p. Some (p, text)
@@ -167,10 +187,13 @@ abbrev pub second_counted : Bool → ℕ → Place → List ℕ → Front Place 
 second_counted loose limit a text None = counted a any any [] [] >>? λ p. Some (p, text)
 second_counted loose limit a text (Some b) = third_counted loose a b.0 b.1 (placed limit (dotted_patch loose (place_zeros a) b.1))
 
-abbrev pub counted_front : Bool → ℕ → List ℕ → Front Partial
-counted_front loose limit text =
+abbrev pub counted_places : Bool → ℕ → List ℕ → Front Partial
+counted_places loose limit text =
     placed limit (place_front loose false text) >>? λ a.
     second_counted loose limit a.0 a.1 (placed limit (dotted_place loose (place_zeros a.0) a.1))
+
+abbrev pub counted_front : Bool → ℕ → List ℕ → Front Partial
+counted_front loose limit text = short_only loose text (counted_places loose limit text)
 
 -- ---- signs
 

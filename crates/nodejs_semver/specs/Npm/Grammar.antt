@@ -20,19 +20,19 @@ pub record IsStrictNumber (limit : ℕ) (digits : List ℕ) (n : ℕ) : Type 0 w
 abbrev pub is_strict_list : List ℕ → Bool
 is_strict_list text = list_all (λ id. not (list_all is_ascii_digit id && has_leading_zero id)) (pieces text)
 
--- a pre-release may begin so without `-`: with a letter, with one digit before a dot, which the patch number does
--- not take, as `4.5` in `1.2.34.5`, or with a `-` that no identifier follows, as in `1.2.3-`
-abbrev pub begins_undashed : List ℕ → Bool
-begins_undashed text = begins is_ascii_alphabetic text || (begins is_ascii_digit text && (begins (λ b. b == 46) (drop 1 text)
+-- a pre-release may begin so without `-`: with a letter, with a digit behind a wildcard, and else with one before a dot,
+-- which the patch number does not take, as `4.5` in `1.2.34.5`, or with a `-` that no identifier follows, as in `1.2.3-`
+abbrev pub begins_undashed : Bool → List ℕ → Bool
+begins_undashed wild text = begins is_ascii_alphabetic text || (begins is_ascii_digit text && (wild || begins (λ b. b == 46) (drop 1 text)
     && begins is_identifier_char (drop 2 text)) || begins (λ b. b == 45) text && not (begins is_identifier_char (drop 1 text)))
 
--- a pre-release (pre): `-` and identifiers joined by dots (parts), or nothing; loosely `-` may be absent. `fits` says which texts
--- of identifiers may stand there.
-pub data IsPreRelease (loose : Bool) (fits : List ℕ → Bool) : List ℕ → List Id → Type 0 where
-  no_pre_release : IsPreRelease loose fits [] []
-  dashed : (text : List ℕ) (list : List Id) → IsIdentifiers text list → fits text ≡ true → IsPreRelease loose fits (codes "-" ++ text) list
+-- a pre-release (pre): `-` and identifiers joined by dots (parts), or nothing; loosely `-` may be absent. `wild` says whether
+-- it stands behind a wildcard, and `fits` which texts of identifiers may stand there.
+pub data IsPreRelease (loose wild : Bool) (fits : List ℕ → Bool) : List ℕ → List Id → Type 0 where
+  no_pre_release : IsPreRelease loose wild fits [] []
+  dashed : (text : List ℕ) (list : List Id) → IsIdentifiers text list → fits text ≡ true → IsPreRelease loose wild fits (codes "-" ++ text) list
   bare : (text : List ℕ) (list : List Id) → IsIdentifiers text list → fits text ≡ true
-      → (loose && begins_undashed text) ≡ true → IsPreRelease loose fits text list
+      → (loose && begins_undashed wild text) ≡ true → IsPreRelease loose wild fits text list
 
 -- build metadata (build): `+` and identifiers joined by dots, or nothing
 pub data IsStrictBuild : List ℕ → List Id → Type 0 where

@@ -20,11 +20,11 @@ pub data IsWritten (Marks : List ℕ → Type 0) (Number : List ℕ → ℕ → 
 
 -- strict: one `v` or none, no leading zeros, `-` before the pre-release
 abbrev pub IsStrictVersion : ℕ → List ℕ → VersionValue → Type 0
-IsStrictVersion limit = IsWritten (λ mark. (mark ≡ []) ⊎ (mark ≡ codes "v")) (IsStrictNumber limit) (IsPreRelease false is_strict_list)
+IsStrictVersion limit = IsWritten (λ mark. (mark ≡ []) ⊎ (mark ≡ codes "v")) (IsStrictNumber limit) (IsPreRelease false false is_strict_list)
 
 -- loose: any of `v`, `=` and whitespace, leading zeros, and a pre-release without `-`
 abbrev pub IsLooseVersion : ℕ → List ℕ → VersionValue → Type 0
-IsLooseVersion limit = IsWritten AreMarks (IsNumber limit) (IsPreRelease true (λ ids. true))
+IsLooseVersion limit = IsWritten AreMarks (IsNumber limit) (IsPreRelease true false (λ ids. true))
 
 -- the text, of at most 256 characters with the whitespace around it, is this version. (node-semver counts
 -- UTF-16 units. A character that is two of them stands in no version text.)

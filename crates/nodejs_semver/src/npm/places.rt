@@ -1,9 +1,10 @@
 // The partial version at the front of a text, as node-semver's readings have it.
 
-ghost use Rattle.std.specs.{Prelude.{◌&&◌, ◌≡◌, ◌≤◌, drop}, List.prefix_len};
+ghost use Rattle.std.specs.{Prelude.{◌&&◌, ◌==◌, ◌≡◌, ◌≤◌, drop}, List.prefix_len};
 ghost use Rattle.nodejs_semver.specs.Words.{MAX_SAFE_INTEGER, None, Some, [], false, front_view};
 ghost use Rattle.nodejs_semver.specs.Words.{is_ascii_digit, is_listed, length, not, pair_view};
-ghost use Rattle.nodejs_semver.specs.{Words.true, Internal.Fronts.{begins_byte, begins_wildcard}};
+ghost use Rattle.nodejs_semver.specs.{Words.true, Internal.Fronts.{begins_byte, begins_identifier}};
+ghost use Rattle.nodejs_semver.specs.Internal.Fronts.{begins_wildcard};
 ghost use Rattle.nodejs_semver.specs.Internal.{Fronts.number_front, NpmReadings.begins_padded};
 ghost use Rattle.nodejs_semver.specs.Internal.NpmReadings.{strict_number};
 ghost use Rattle.nodejs_semver.specs.Internal.NpmViews.{npm_partial_front_view};
@@ -42,14 +43,6 @@ pub(crate) fn digits_len(text: &[u8]) -> usize
     text.len()
 }
 
-// The most digits that a number may have.
-#[inline(always)]
-fn most_digits(loose: bool) -> usize
-    ensures { result ≡ Spec.most_digits loose }
-{
-    if loose { 32 } else { 257 }
-}
-
 // The number up to the limit that the run of digits at the front is, and the text behind it.
 #[inline(always)]
 #[tactic(auto, using(crate::proofs::Strict::Numbers::numbers_in))]
@@ -71,7 +64,7 @@ fn great_place(loose: bool, zeros: bool, text: &[u8]) -> Option<(Place, &[u8])>
         ≡ Spec.placed MAX_SAFE_INTEGER (Spec.place_front loose zeros text.now) }
 {
     let len = digits_len(text);
-    if len == 0 || len > most_digits(loose) {
+    if len == 0 || len > 257 {
         return None;
     }
     Some((Place::Great, &text[len..]))
@@ -89,7 +82,7 @@ fn padded_place(loose: bool, zeros: bool, text: &[u8]) -> Option<(Place, &[u8])>
     if !begins_padded(text) {
         return great_place(loose, zeros, text);
     }
-    if !loose || digits_len(text) > most_digits(true) {
+    if !loose || digits_len(text) > 257 {
         return None;
     }
     match number_front(text) {
@@ -249,16 +242,12 @@ fn are_short_builds(text: &[u8]) -> bool
     text.split(|byte| *byte == b'.').all(is_short_build)
 }
 
-// Whether the identifiers of a pre-release are spelled as they have to be.
+// Whether these identifiers of a pre-release may be written.
 #[inline(always)]
-fn are_spelled(loose: bool, pre_release: &[u8]) -> bool
-    ensures { result ≡ Spec.are_spelled loose pre_release.now }
+fn may_stand(loose: bool, pre_release: &[u8]) -> bool
+    ensures { result ≡ Spec.may_stand loose pre_release.now }
 {
-    if loose {
-        pre_release.len() <= 128
-    } else {
-        is_strict_list(pre_release)
-    }
+    loose || (is_strict_list(pre_release) && are_short_identifiers(pre_release))
 }
 
 // Whether this pre-release and this build may be written.
@@ -266,15 +255,23 @@ fn are_spelled(loose: bool, pre_release: &[u8]) -> bool
 fn may_follow(loose: bool, pre_release: &[u8], build: &[u8]) -> bool
     ensures { result ≡ Spec.may_follow loose pre_release.now build.now }
 {
-    are_spelled(loose, pre_release) && are_short_identifiers(pre_release) && are_short_builds(build)
+    may_stand(loose, pre_release) && are_short_builds(build)
 }
 
-// Whether a text begins with one digit before a dot and an identifier.
+// Whether a text begins with a dot and an identifier.
 #[inline(always)]
-fn begins_lone_digit(text: &[u8]) -> bool
-    ensures { result ≡ Spec.begins_lone_digit text.now }
+fn begins_dotted(text: &[u8]) -> bool
+    ensures { result ≡ (begins_byte 46 text.now && begins_identifier (drop 1 text.now)) }
 {
-    matches!(text, [digit, b'.', rest @ ..] if digit.is_ascii_digit() && begins_identifier(rest))
+    matches!(text, [b'.', rest @ ..] if begins_identifier(rest))
+}
+
+// Whether a text begins with a digit that may begin a pre-release, behind a wildcard or not.
+#[inline(always)]
+fn begins_own_digit(wild: bool, text: &[u8]) -> bool
+    ensures { result ≡ Spec.begins_own_digit wild text.now }
+{
+    matches!(text, [digit, rest @ ..] if digit.is_ascii_digit() && (wild || begins_dotted(rest)))
 }
 
 // Whether a text begins with a `-` that no identifier follows.
@@ -287,22 +284,22 @@ fn begins_lone_dash(text: &[u8]) -> bool
 
 // Whether a text begins as a pre-release may without `-`.
 #[inline(always)]
-fn begins_undashed(text: &[u8]) -> bool
-    ensures { result ≡ begins_undashed text.now }
+fn begins_undashed(wild: bool, text: &[u8]) -> bool
+    ensures { result ≡ begins_undashed wild text.now }
 {
     matches!(text, [b'A'..=b'Z' | b'a'..=b'z', ..])
-        || begins_lone_digit(text)
+        || begins_own_digit(wild, text)
         || begins_lone_dash(text)
 }
 
-// The text of the pre-release at the front, and what stands behind it.
+// The text of the pre-release at the front, behind a wildcard or not, and what stands behind it.
 #[inline(always)]
 #[tactic(auto, unfolding(crate::specs::Internal::NpmWords::pre_front))]
-fn pre_front(loose: bool, text: &[u8]) -> (&[u8], &[u8])
+fn pre_front(loose: bool, wild: bool, text: &[u8]) -> (&[u8], &[u8])
     ensures listed { is_listed result.0.now ≡ true }
-    ensures value { pair_view result ≡ Spec.pre_front loose text.now }
+    ensures value { pair_view result ≡ Spec.pre_front loose wild text.now }
 {
-    if loose && begins_undashed(text) {
+    if loose && begins_undashed(wild, text) {
         marked_list(text, text)
     } else {
         dashed_front(text)
@@ -315,6 +312,14 @@ pub(crate) fn is_over(text: &[u8]) -> bool
     ensures { result ≡ Spec.is_over text.now }
 {
     matches!(text, [] | [b' ' | b'|', ..])
+}
+
+// Whether a place is a wildcard.
+#[inline(always)]
+fn is_wildcard(place: Place) -> bool
+    ensures { result ≡ Spec.is_any (place_view place) }
+{
+    matches!(place, Place::Wildcard)
 }
 
 // The partial of three places, and of what stands behind them.
@@ -333,7 +338,7 @@ fn qualified_partial(
     if is_over(text) {
         return Some((long_partial(major, minor, patch, b"", b"")?, text));
     }
-    let (pre_release, rest) = pre_front(loose, text);
+    let (pre_release, rest) = pre_front(loose, is_wildcard(patch), text);
     let (build, rest) = build_front(rest);
     if !may_follow(loose, pre_release, build) {
         return None;
@@ -355,15 +360,50 @@ fn third_front(loose: bool, major: Place, minor: Place, text: &[u8]) -> Option<(
     }
 }
 
+// The partial of the places at the front whose numbers that count are up to the limit, and the text
+// behind it.
+#[inline(always)]
+fn places_front(loose: bool, text: &[u8]) -> Option<(Partial<'_>, &[u8])>
+    ensures { npm_partial_front_view result ≡ Spec.counted_places loose MAX_SAFE_INTEGER text.now }
+{
+    let (major, rest) = place_front(loose, false, text)?;
+    match dotted_place(loose, has_zeros(major), rest) {
+        Some((minor, rest)) => third_front(loose, major, minor, rest),
+        None => Some((short_partial(major, Place::Wildcard)?, rest)),
+    }
+}
+
+// How many characters stand in front of the first `+`.
+#[tactic(auto, using(crate::proofs::Strict::Places::prefix_steps))]
+fn len_before_plus(text: &[u8]) -> usize
+    ensures { result ≡ prefix_len (λ b. not (b == 43)) text.now }
+{
+    'characters: for at in 0..text.len() {
+        if text[at] == b'+' {
+            return at;
+        }
+    }
+    text.len()
+}
+
+// Whether a partial is short enough.
+#[inline(always)]
+fn is_short(loose: bool, text: &[u8]) -> bool
+    ensures { result ≡ Spec.is_short loose text.now }
+{
+    !loose || len_before_plus(text) <= 250
+}
+
 /// The partial version at the front whose numbers that count are up to the limit, and the text
 /// behind it.
 #[inline(always)]
 pub(crate) fn partial_front(loose: bool, text: &[u8]) -> Option<(Partial<'_>, &[u8])>
     ensures { npm_partial_front_view result ≡ Spec.counted_front loose MAX_SAFE_INTEGER text.now }
 {
-    let (major, rest) = place_front(loose, false, text)?;
-    match dotted_place(loose, has_zeros(major), rest) {
-        Some((minor, rest)) => third_front(loose, major, minor, rest),
-        None => Some((short_partial(major, Place::Wildcard)?, rest)),
+    let (partial, rest) = places_front(loose, text)?;
+    if is_short(loose, &text[..text.len() - rest.len()]) {
+        Some((partial, rest))
+    } else {
+        None
     }
 }
