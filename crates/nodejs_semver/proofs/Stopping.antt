@@ -1,6 +1,4 @@
-pub mod Steps
 pub mod Read
-pub mod Written
 pub mod Fronts
 pub mod Wrongs
 pub mod Stops

@@ -1,17 +1,18 @@
 -- What is read of a version text goes on to a version.
 use Rattle.nodejs_semver.proofs.Common.{List, None, Some, [], refl, suc, sym, true, zero, ℕ, ◌++◌, ◌∙◌, ◌∷◌, ◌≡◌, ◌≤◌}
 use Rattle.nodejs_semver.proofs.NpmCommon.{Build, Dash, Digit, IsFront, Number, Padded, Plus, PreRelease, State, Zero, is_whole}
-use Rattle.nodejs_semver.proofs.{NpmCommon.{next, run}, Stopping.{Read.Whole, Steps.{run-nil, run-none, run-step, run-then}}}
-use Rattle.nodejs_semver.{proofs.Stopping.Written.read-spelled, specs.declared.npm.flaws.State.TheVariants.{End, Start}}
+use Rattle.nodejs_semver.proofs.{Common.ap, NpmCommon.{next, run}, Stopping.Read.{Whole, ends_whole, read-spelled, run-none, run-step, run-then}}
+use Rattle.nodejs_semver.specs.declared.npm.flaws.State.TheVariants.{End, Start}
 
 -- ---- what is read goes on to a version
 
 finished : (limit : ℕ) (s : State) → is_whole s ≡ true → (more : List ℕ) × Whole limit s more
-finished limit s w = ([], (s, run-nil limit s, w))
+unfolding run
+finished limit s w = ([], w)
 
 stepped : (limit : ℕ) (s t : State) (c : ℕ) → next limit s c ≡ Some t → (more : List ℕ) × Whole limit t more
     → (more : List ℕ) × Whole limit s more
-stepped limit s t c h f = (c ∷ f.0, (f.1.0, run-step limit s t c f.0 h ∙ f.1.1, f.1.2))
+stepped limit s t c h f = (c ∷ f.0, ap ends_whole (run-step limit s t c f.0 h) ∙ f.1)
 
 finish-numbers : (limit left : ℕ) → ((n : ℕ) → (more : List ℕ) × Whole limit (Number left n) more)
     × ((more : List ℕ) × Whole limit (Digit left) more)
@@ -43,11 +44,11 @@ finish limit End = finished limit End refl
 pub read-front : (limit : ℕ) (before : List ℕ) (s : State) → 9 ≤ limit → run limit Start before ≡ Some s → IsFront limit before
 read-front limit before s nine h =
     let f = finish limit s in
-    (f.0, read-spelled limit (before ++ f.0) nine (f.1.0, run-then limit Start s before f.0 h ∙ f.1.1, f.1.2))
+    (f.0, read-spelled limit (before ++ f.0) nine (ap ends_whole (run-then limit Start s before f.0 h) ∙ f.1))
 
 -- ---- and what is not read does not
 
 pub front-stops : (limit : ℕ) (before : List ℕ) (s : State) (c : ℕ) (rest : List ℕ) → run limit Start before ≡ Some s
     → next limit s c ≡ None → Whole limit Start (before ++ c ∷ rest) → ⊥
 front-stops limit before s c rest h none w =
-    cc (sym (run-then limit Start s before (c ∷ rest) h ∙ run-none limit s c rest none) ∙ w.1)
+    cc (sym (ap ends_whole (run-then limit Start s before (c ∷ rest) h ∙ run-none limit s c rest none)) ∙ w)

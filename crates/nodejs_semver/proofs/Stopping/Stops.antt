@@ -1,11 +1,11 @@
 -- Where a text stops being a version text.
 use Rattle.nodejs_semver.proofs.Common.{IsUtf8, List, MAX_SAFE_INTEGER, None, Option, Some, VersionValue, [], ap, append-nil, append_assoc}
 use Rattle.nodejs_semver.proofs.Common.{arith, common_steps, encode_utf8, encode_utf8_all, encodes-append, false, inl, inr, length}
-use Rattle.nodejs_semver.proofs.Common.{length-append, length-encode, nat_tests, refl, same_Some, subst, sym, true, ℕ, ◌++◌, ◌+◌, ◌↔◌, ◌∙◌}
+use Rattle.nodejs_semver.proofs.Common.{length-append, length-encode, nat_tests, refl, subst, sym, true, ℕ, ◌++◌, ◌+◌, ◌↔◌, ◌∙◌}
 use Rattle.nodejs_semver.proofs.{Common.{◌∷◌, ◌≡◌, ◌≤◌, ◌⊎◌}, NpmCommon.{At, GoesOn, IsFront, IsSpelled, IsVersionText, State}}
 use Rattle.nodejs_semver.proofs.{NpmCommon.{encodes_same, is_whole, len_utf8, next, run, wrong_at, wrong_of}, Stopping.Fronts.front-stops}
-use Rattle.nodejs_semver.proofs.Stopping.{Fronts.read-front, Read.{Whole, spelled-read}, Steps.{run-nil, run-step, run-then}}
-use Rattle.nodejs_semver.proofs.Stopping.{Written.read-spelled, Wrongs.{ended-wrong, front-whole, goes_on, one_wrong, stopped-wrong}}
+use Rattle.nodejs_semver.proofs.Stopping.{Fronts.read-front, Read.{Whole, read-spelled, run-nil, run-step, run-then, spelled-read}}
+use Rattle.nodejs_semver.proofs.Stopping.{Wrongs.{ended-wrong, front-whole, goes_on, one_wrong, stopped-wrong}}
 use Rattle.nodejs_semver.specs.{Npm.Flaws.{IsFlaw, IsStop, IsWrong}, declared.npm.flaws.Flaw.{Flaw, TheVariants.TooLong}}
 use Rattle.{nodejs_semver.specs.declared.npm.flaws.{State.TheVariants.Start, Wrong.Wrong}, std.proofs.lemmas.Str.cons_from_encodes}
 
@@ -17,12 +17,11 @@ Stuck limit s [] = is_whole s ≡ false
 Stuck limit s (c ∷ rest) = next limit s c ≡ None
 
 -- neither does the text go further with the next character, nor is it a version
-stops : (limit : ℕ) (before : List ℕ) (s : State) (behind : List ℕ) → run limit Start before ≡ Some s → Stuck limit s behind
+stops : (limit : ℕ) (before : List ℕ) (s : State) (behind : List ℕ) → 9 ≤ limit → run limit Start before ≡ Some s → Stuck limit s behind
     → ((c : ℕ) (r : List ℕ) → behind ≡ c ∷ r → IsFront limit (before ++ c ∷ []) → ⊥) × (Whole limit Start (before ++ behind) → ⊥)
-stops limit before s [] h stuck =
-    (λ c r same f. cc same, λ w. let r = rw (append-nil before) at w in cc (same_Some _ _ (sym h ∙ r.1), r.2, stuck))
-stops limit before s (b ∷ rest) h stuck = (
-  λ c r same f. front-stops limit before s c f.0 h (subst (λ (d : ℕ). next limit s d ≡ None) (cc same) stuck) (front-whole limit before c f),
+stops limit before s [] nine h stuck = (λ c r same f. cc same, λ w. let r = rw (append-nil before, h) at w in cc (r, stuck))
+stops limit before s (b ∷ rest) nine h stuck = (
+  λ c r same f. front-stops limit before s c f.0 h (subst (λ (d : ℕ). next limit s d ≡ None) (cc same) stuck) (front-whole limit limit before c nine (omega arith) f),
   front-stops limit before s b rest h stuck,
 )
 
@@ -34,8 +33,8 @@ stop limit text before s behind nine e h stuck = record {
   divided = e;
   place = refl;
   right = read-front limit before s nine h;
-  wrong = (stops limit before s behind h stuck).0;
-  none = λ w. (stops limit before s behind h stuck).1 (spelled-read limit (before ++ behind) (subst (λ (t : List ℕ). IsSpelled limit t) e w));
+  wrong = (stops limit before s behind nine h stuck).0;
+  none = λ w. (stops limit before s behind nine h stuck).1 (spelled-read limit limit (before ++ behind) nine (omega arith) (subst (λ (t : List ℕ). IsSpelled limit t) e w));
 }
 
 -- what is wrong where a text stops
@@ -96,7 +95,7 @@ module _ (text : List ℕ) (at : ℕ) (s : State) (rest passed : List ℕ) (p : 
       rw (is, p.place) (wrong _ _ _ _ _ (omega arith) (at-end h ∙ ap encode_utf8_all (sym (append-nil passed))) p.reads none)
 
   pub passed_whole : length rest ≡ 0 → is_whole s ≡ true → IsSpelled MAX_SAFE_INTEGER text
-  passed_whole h whole = grind (arith, nat_tests, common_steps, at-end, read-spelled)
+  passed_whole h whole = rw (at-end h) (read-spelled MAX_SAFE_INTEGER passed (omega arith) (rw p.reads whole))
 
 -- ---- a text has one flaw
 

@@ -4,7 +4,7 @@ use Rattle.nodejs_semver.proofs.Common.{common_steps, ends, false, if◌then◌e
 use Rattle.nodejs_semver.proofs.Common.{not, not-true, refl, same_Some, suc, sym, true, zero, ℕ, ◌*◌, ◌++◌, ◌+◌, ◌==◌, ◌↔◌, ◌∙◌}
 use Rattle.nodejs_semver.proofs.{Common.{◌∷◌, ◌≡◌, ◌≤◌}, NpmCommon.{Dash, GoesOn, IsFront, Number, Padded, Plus, State}}
 use Rattle.nodejs_semver.proofs.{NpmCommon.{digit_value, is_whole, next, run, wrong_at, wrong_of}, Stopping.Fronts.front-stops}
-use Rattle.nodejs_semver.proofs.Stopping.{Fronts.read-front, Read.{Whole, spelled-read}, Steps.{run-nil, run-step, run-then}}
+use Rattle.nodejs_semver.proofs.Stopping.{Fronts.read-front, Read.{Whole, run-nil, run-step, run-then, spelled-read}}
 use Rattle.nodejs_semver.specs.declared.npm.flaws.State.TheVariants.{Build, End, PreRelease, Start, Zero}
 
 -- ---- the character that was read last
@@ -83,8 +83,9 @@ longer : (limit : ℕ) (before : List ℕ) (s t : State) (c : ℕ) → 9 ≤ lim
     → IsFront limit (before ++ c ∷ [])
 longer limit before s t c nine h k = read-front _ _ _ nine (run-then _ _ _ _ _ h ∙ (run-step _ _ _ _ _ k ∙ run-nil _ _))
 
-pub front-whole : (limit : ℕ) (before : List ℕ) (c : ℕ) → (f : IsFront limit (before ++ c ∷ [])) → Whole limit Start (before ++ c ∷ f.0)
-front-whole limit before c f = grind (arith, nat_tests, common_steps, spelled-read, append_assoc)
+pub front-whole : (limit more : ℕ) (before : List ℕ) (c : ℕ) → 9 ≤ more → limit ≤ more → (f : IsFront limit (before ++ c ∷ []))
+    → Whole more Start (before ++ c ∷ f.0)
+front-whole limit more before c nine le f = rw append_assoc at (spelled-read limit more ((before ++ c ∷ []) ++ f.0) nine le f.1)
 
 pub goes_on : (limit : ℕ) (before : List ℕ) (s : State) → 9 ≤ limit → run limit Start before ≡ Some s → GoesOn limit before
 unfolding may-of great-of
@@ -95,7 +96,7 @@ goes_on limit before s nine h = record {
     λ k. let t = some-next (next limit s c) k in longer limit before s t.0 c nine h t.1,
     λ f. elim (cases_Bool (is_some (next limit s c))) [
       | inl some ↦ some
-      | inr none ↦ absurd (front-stops limit before s c f.0 h (none-next (next limit s c) none) (front-whole limit before c f))
+      | inr none ↦ absurd (front-stops limit before s c f.0 h (none-next (next limit s c) none) (front-whole limit limit before c nine (omega arith) f))
     ],
   );
   great_is = λ c.
@@ -106,10 +107,9 @@ goes_on limit before s nine h = record {
           | inl some ↦ some
           | inr none ↦
               let all = f.0 + limit in
-              let w = front-whole f.0 before c f.1 in
               absurd (front-stops all before s c f.1.0 (run-larger limit all Start s before (omega arith) h)
               (next-room more all s c (omega arith) (none-next (next more s c) none))
-              (w.0, run-larger f.0 all Start w.0 (before ++ c ∷ f.1.0) (omega arith) w.1, w.2))
+              (front-whole f.0 all before c (omega arith) (omega arith) f.1))
         ],
       );
 }

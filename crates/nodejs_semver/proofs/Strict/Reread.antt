@@ -5,9 +5,9 @@ use Rattle.nodejs_semver.proofs.Common.{is_identifier_char, length, length-appen
 use Rattle.nodejs_semver.proofs.{Common.{◌++◌, ◌<◌, ◌==◌, ◌||◌, ◌∙◌, ◌∷◌, ◌≡◌, ◌≤◌}, NpmCommon.{IsStrictPreRelease, IsStrictVersion}}
 use Rattle.nodejs_semver.proofs.NpmCommon.{IsVersionText, bare, chars, chars_from_encodes, dashed, id_text, is_strict_identifier}
 use Rattle.nodejs_semver.proofs.NpmCommon.{join_with_byte, marked_list, no_build, no_pre_release, version_text}
-use Rattle.nodejs_semver.proofs.Stopping.{Read.{plain-encodes, plain-middle}, Written.{plain-dark, plain-reverse}}
+use Rattle.nodejs_semver.proofs.Stopping.Read.{plain-encodes, plain-middle, plain-trim}
 use Rattle.{nodejs_semver.proofs.Strict.Numbers.{digits_printed, number_printed}, semver_core.specs.Internal.CommonReading.is_plain}
-use Rattle.{semver_core.specs.Text.Identifiers.is_u64_text, std.proofs.{Common.reverse, lemmas.List.Splits.join_with_byte-slice_split}}
+use Rattle.{semver_core.specs.Text.Identifiers.is_u64_text, std.proofs.{lemmas.List.Splits.join_with_byte-slice_split}}
 use Rattle.std.{proofs.lemmas.{List.Splits.length-slice_split, Str.{IsUtf8-from_ascii, chars-IsAscii}}, specs.Str.IsAscii}
 use Rattle.nodejs_semver.proofs.Common.{subst}
 use Rattle.nodejs_semver.specs.Npm.VersionText.{written}
@@ -54,17 +54,8 @@ all_ascii text h = grind (arith, nat_tests, common_steps)
 -- ---- whole texts
 
 plain_trim : (text : List ℕ) → list_all is_plain text ≡ true → IsTrim text text
-plain_trim text h = record {
-  before = [];
-  characters = text;
-  after = [];
-  divided = sym (plain-encodes text h) ∙ ap encode_utf8_all (sym (append-nil text));
-  middle_is = sym (plain-encodes text h);
-  blank_before = refl;
-  blank_after = refl;
-  begins_dark = plain-dark text h;
-  ends_dark = plain-dark (reverse text) (plain-reverse text h);
-}
+plain_trim text h =
+    subst (λ (t : List ℕ). IsTrim t text) (ap encode_utf8_all (append-nil text) ∙ plain-encodes text h) (plain-trim [] text [] refl h refl)
 
 -- a trimmed text of these characters has no more of them than the whole
 middle_short : (text middle : List ℕ) → IsUtf8 text → IsTrim text middle → list_all is_plain middle ≡ true → length middle ≤ length (chars text)
