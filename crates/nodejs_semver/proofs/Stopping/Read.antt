@@ -1,29 +1,21 @@
--- A text is read to its end as a version, character by character, exactly if the strict reader finds one in it.
-use Rattle.nodejs_semver.proofs.Common.{Bool, Front, Id, List, None, Option, Some, VersionValue, [], and-true, and_parts, ap}
-use Rattle.nodejs_semver.proofs.Common.{append-nil, arith, begins, begins_identifier, cases_Bool, common_steps, drop, encode_utf8_all}
-use Rattle.nodejs_semver.proofs.Common.{eqb-true, false, if◌then◌else◌, is_ascii_digit, is_empty, is_identifier_char, is_some}
-use Rattle.nodejs_semver.proofs.Common.{is_whitespace, list_all, list_all-append, list_len, nat_tests, not, not-false, not-true, onto_first}
-use Rattle.nodejs_semver.proofs.Common.{pieces, prefix_len, refl, suc, sym, take, take-append-drop, true, zero, ℕ, ◌&&◌, ◌++◌, ◌==◌}
-use Rattle.nodejs_semver.proofs.{Common.{◌+◌, ◌*◌, ◌<◌, ◌∙◌, ◌∷◌, ◌≡◌, ◌≤◌, all_weaker, drop_at, length}}
-use Rattle.nodejs_semver.proofs.NpmCommon.{Build, Dash, Digit, Number, Padded, Plus, PreRelease, State, Zero, is_whole, next, run}
-use Rattle.nodejs_semver.proofs.NpmCommon.{build_front, dashed_front, digit_value, digits_grow, digits_value, digits_value_after}
-use Rattle.nodejs_semver.proofs.NpmCommon.{dotted_number, encode_ascii, encodes_same, has_leading_zero, is_strict_identifier, is_strict_list}
-use Rattle.nodejs_semver.proofs.NpmCommon.{nat_le, pre_release_front, qualified_version, strict_number, strict_version, ◌>>?◌}
-use Rattle.nodejs_semver.specs.declared.npm.flaws.State.TheVariants.{End, Start}
-use Rattle.nodejs_semver.specs.Internal.{Fronts.drop_v, NpmStates.ended}
-use Rattle.nodejs_semver.proofs.Common.{and-false, take_at}
-use Rattle.nodejs_semver.proofs.NpmCommon.{number_of}
-use Rattle.nodejs_semver.proofs.Strict.{Numbers.{padded-same, strict-found}, Places.prefix-all}
-use Rattle.nodejs_semver.proofs.Reading.Numbers.{digits-taken, run-ends}
-use Rattle.nodejs_semver.proofs.Common.{IsTrim, inl, inr}
-use Rattle.nodejs_semver.proofs.NpmCommon.{IsSpelled, IsStrictBuild, IsStrictNumber, IsStrictPreRelease, IsStrictVersion}
-use Rattle.nodejs_semver.proofs.NpmCommon.{runs_tail}
-use Rattle.nodejs_semver.specs.Npm.VersionText.{written}
-use Rattle.nodejs_semver.proofs.Reading.Bytes.{all-join}
-use Rattle.nodejs_semver.proofs.Strict.VersionLaw.{strict-found-version, strict-read-version}
-use Rattle.semver_core.{proofs.Text.Listed.plain_runs, specs.Internal.CommonReading.is_plain}
-use Rattle.std.proofs.lemmas.List.{reverse-append}
-use Rattle.std.specs.Prelude.{reverse}
+-- A text is read to its end as a version, character by character, exactly if the strict reader finds one in it; and what is read
+-- of a text goes on to a version.
+use Rattle.nodejs_semver.proofs.Common.{Bool, Front, Id, IsTrim, List, None, Option, Some, VersionValue, [], all_weaker, and-false}
+use Rattle.nodejs_semver.proofs.Common.{and-true, and_parts, ap, append-nil, arith, begins, begins_identifier, cases_Bool, common_steps}
+use Rattle.nodejs_semver.proofs.Common.{drop, drop_at, encode_utf8_all, eqb-true, false, if◌then◌else◌, inl, inr, is_ascii_digit, is_empty}
+use Rattle.nodejs_semver.proofs.Common.{is_identifier_char, is_some, is_whitespace, length, list_all, list_all-append, list_len, nat_tests}
+use Rattle.nodejs_semver.proofs.Common.{not, not-false, not-true, onto_first, pieces, prefix_len, refl, suc, sym, take, take-append-drop}
+use Rattle.nodejs_semver.proofs.{Common.{take_at, true, zero, ℕ, ◌&&◌, ◌*◌, ◌++◌, ◌+◌, ◌<◌, ◌==◌, ◌∙◌, ◌∷◌, ◌≡◌, ◌≤◌}, NpmCommon.Build}
+use Rattle.nodejs_semver.proofs.NpmCommon.{Dash, Digit, IsFront, IsSpelled, IsStrictBuild, IsStrictNumber, IsStrictPreRelease}
+use Rattle.nodejs_semver.proofs.NpmCommon.{IsStrictVersion, Number, Padded, Plus, PreRelease, State, Zero, build_front, dashed_front}
+use Rattle.nodejs_semver.proofs.NpmCommon.{digit_value, digits_grow, digits_value, digits_value_after, dotted_number, encode_ascii}
+use Rattle.nodejs_semver.proofs.NpmCommon.{encodes_same, has_leading_zero, is_strict_identifier, is_strict_list, is_whole, nat_le, next}
+use Rattle.nodejs_semver.proofs.NpmCommon.{number_of, pre_release_front, qualified_version, run, runs_tail, strict_number, strict_version}
+use Rattle.nodejs_semver.proofs.{NpmCommon.◌>>?◌, Reading.{Bytes.all-join, Numbers.{digits-taken, run-ends}}, Strict.Numbers.padded-same}
+use Rattle.nodejs_semver.proofs.Strict.{Numbers.strict-found, Places.prefix-all, VersionLaw.{strict-found-version, strict-read-version}}
+use Rattle.nodejs_semver.specs.{Internal.{Fronts.drop_v, NpmStates.ended}, Npm.VersionText.written}
+use Rattle.{nodejs_semver.specs.declared.npm.flaws.State.TheVariants.{End, Start}, semver_core.proofs.Text.Listed.plain_runs}
+use Rattle.{semver_core.specs.Internal.CommonReading.is_plain, std.{proofs.lemmas.List.reverse-append, specs.Prelude.reverse}}
 
 -- ---- runs
 
@@ -460,3 +452,52 @@ read-spelled limit cs nine h =
     let f = middle-found limit a.0 b.0 b.1 nine a.3 b.3 b.4 (rw b.2 at a.4) (rw whole at h) in
     let is = strict-found-version limit b.0 f.0.0 f.0.1 in
     rw whole (record { version = f.0.0; middle = b.0; trimmed = plain-trim a.0 b.0 b.1 a.3 (plain-middle limit b.0 f.0.0 is) f.1; is = is })
+
+-- ---- what is read goes on to a version
+
+finished : (limit : ℕ) (s : State) → is_whole s ≡ true → (more : List ℕ) × Whole limit s more
+unfolding run
+finished limit s w = ([], w)
+
+stepped : (limit : ℕ) (s t : State) (c : ℕ) → next limit s c ≡ Some t → (more : List ℕ) × Whole limit t more
+    → (more : List ℕ) × Whole limit s more
+stepped limit s t c h f = (c ∷ f.0, ap ends_whole (run-step limit s t c f.0 h) ∙ f.1)
+
+finish-numbers : (limit left : ℕ) → ((n : ℕ) → (more : List ℕ) × Whole limit (Number left n) more)
+    × ((more : List ℕ) × Whole limit (Digit left) more)
+unfolding next
+finish-numbers limit zero = (
+  λ n. finished limit (Number 0 n) refl,
+  stepped limit (Digit 0) (Number 0 0) 48 refl (finished limit (Number 0 0) refl),
+)
+finish-numbers limit (suc k) =
+    let later = (finish-numbers limit k).1 in (
+      λ n. stepped limit (Number (suc k) n) (Digit k) 46 refl later,
+      stepped limit (Digit (suc k)) (Number (suc k) 0) 48 refl
+          (stepped limit (Number (suc k) 0) (Digit k) 46 refl later),
+    )
+
+finish : (limit : ℕ) (s : State) → (more : List ℕ) × Whole limit s more
+unfolding next
+finish limit Start = stepped limit Start (Number 2 0) 48 refl ((finish-numbers limit 2).0 0)
+finish limit (Digit left) = (finish-numbers limit left).1
+finish limit (Number left n) = (finish-numbers limit left).0 n
+finish limit Dash = stepped limit Dash PreRelease 97 refl (finished limit PreRelease refl)
+finish limit Zero = finished limit Zero refl
+finish limit Padded = stepped limit Padded PreRelease 97 refl (finished limit PreRelease refl)
+finish limit PreRelease = finished limit PreRelease refl
+finish limit Plus = stepped limit Plus Build 97 refl (finished limit Build refl)
+finish limit Build = finished limit Build refl
+finish limit End = finished limit End refl
+
+pub read-front : (limit : ℕ) (before : List ℕ) (s : State) → 9 ≤ limit → run limit Start before ≡ Some s → IsFront limit before
+read-front limit before s nine h =
+    let f = finish limit s in
+    (f.0, read-spelled limit (before ++ f.0) nine (ap ends_whole (run-then limit Start s before f.0 h) ∙ f.1))
+
+-- ---- and what is not read does not
+
+pub front-stops : (limit : ℕ) (before : List ℕ) (s : State) (c : ℕ) (rest : List ℕ) → run limit Start before ≡ Some s
+    → next limit s c ≡ None → Whole limit Start (before ++ c ∷ rest) → ⊥
+front-stops limit before s c rest h none w =
+    cc (sym (ap ends_whole (run-then limit Start s before (c ∷ rest) h ∙ run-none limit s c rest none)) ∙ w)
