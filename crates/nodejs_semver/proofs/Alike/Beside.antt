@@ -12,8 +12,8 @@ use Rattle.nodejs_semver.proofs.Common.{list_all, list_all-append, meet, nat_tes
 use Rattle.nodejs_semver.proofs.Common.{pre_cmp, precedence, refl, same_triple, subst, sym, table, true, version_of, ℕ, ◌&&◌, ◌++◌, ◌+◌}
 use Rattle.nodejs_semver.proofs.{Common.{◌==◌, ◌||◌, ◌∙◌, ◌∷◌, ◌≡◌}, NpmCommon.{Comparison, IsPartial, IsPlainPartial, Numbers, at_least}}
 use Rattle.nodejs_semver.proofs.NpmCommon.{compared, from, is_firm, is_plain, is_valid, is_zero, may_have, npm_partial, release, under}
-use Rattle.nodejs_semver.{proofs.{NpmCommon.zero_least, Strict.Narrowing.{holds-both, lets_in-both}}, specs.Npm.Alike.is_apart}
-use Rattle.{nodejs_semver.specs.Npm.Table.lowest, semver_core.specs.Internal.OrderLaws.pre_total}
+use Rattle.nodejs_semver.{proofs.{NpmCommon.zero_least, Strict.Rows.{holds-both, lets_in-both}}, specs.Npm.{Alike.is_apart, Table.lowest}}
+use Rattle.semver_core.specs.Internal.OrderLaws.{pre_total}
 use Rattle.nodejs_semver.specs.Npm.Ranges as Npm
 use Rattle.nodejs_semver.specs.Npm.Table as Table
 

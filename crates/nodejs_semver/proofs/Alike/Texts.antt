@@ -11,11 +11,11 @@ use Rattle.nodejs_semver.proofs.{Everyday.Words.{Compact, is_part_byte}, NpmComm
 use Rattle.nodejs_semver.proofs.NpmCommon.{HasAlternatives, IsAlternative, IsPlainText, IsPlainWord, IsSignText, IsWord, are_marks}
 use Rattle.nodejs_semver.proofs.NpmCommon.{at_least, compared, counts, is_free_lower, is_free_upper, is_valid, is_within, lit<, meets}
 use Rattle.nodejs_semver.proofs.{NpmCommon.{more, none, one_word, signed, spelling, two_words}, Reading.Bytes.all-join}
-use Rattle.nodejs_semver.{proofs.Strict.{Once.alternatives_once, Rows.either_true}, specs.Npm.Alike.{ArePlain, IsPlainAlternative, bare}}
-use Rattle.nodejs_semver.specs.{Npm.{Alike.{between, one}, RangeText.next, Ranges.IsRangeOf, Table.Sign}, Text.Common.IsCommonPart}
-use Rattle.nodejs_semver.specs.Text.Common.{IsCommonWord, IsGap, caret_word, compare_word, comparison, hyphen_word, more_parts, one_part}
-use Rattle.nodejs_semver.specs.Text.{Common.{plain_word, tilde_word, two_comparisons}, WordText.{above_sign, at_least_sign, at_most_sign}}
-use Rattle.nodejs_semver.specs.Text.WordText.{below_sign, equal_sign}
+use Rattle.nodejs_semver.{proofs.Strict.{AlternativeLaw.alternatives_once, Rows.either_true}, specs.Npm.Alike.ArePlain}
+use Rattle.nodejs_semver.specs.Npm.{Alike.{IsPlainAlternative, bare, between, one}, RangeText.next, Ranges.IsRangeOf, Table.Sign}
+use Rattle.nodejs_semver.specs.Text.Common.{IsCommonPart, IsCommonWord, IsGap, caret_word, compare_word, comparison, hyphen_word}
+use Rattle.nodejs_semver.specs.Text.{Common.{more_parts, one_part, plain_word, tilde_word, two_comparisons}, WordText.above_sign}
+use Rattle.nodejs_semver.specs.Text.WordText.{at_least_sign, at_most_sign, below_sign, equal_sign}
 use Rattle.nodejs_semver.proofs.Dividing.MeaningLaw as meaning
 use Rattle.nodejs_semver.specs.Npm.RangeText as Npm
 use Rattle.nodejs_semver.specs.Npm.Ranges as Ranges

@@ -7,7 +7,7 @@ use Rattle.nodejs_semver.proofs.{Common.{take_at, true, ℕ, ◌++◌, ◌+◌, 
 use Rattle.nodejs_semver.proofs.NpmCommon.{IsLeftmost, IsRightmost, IsRun, IsStrictNumber, IsTuple, IsTupleIn, NoValue, drop-append-add}
 use Rattle.nodejs_semver.proofs.NpmCommon.{has_leading_zero, length-prefix_len, nat_le, number_front, strict_number, tuple_len}
 use Rattle.nodejs_semver.proofs.{NpmCommon.tuple_release, Reading.Numbers.{digits-taken, number-is, number-read, run-ends}}
-use Rattle.nodejs_semver.proofs.Strict.{Malformed.last-byte, Numbers.{padded-same, strict-read}, Places.digits-of}
+use Rattle.nodejs_semver.proofs.Strict.{Malformed.last-byte, PartialLaw.digits-of, VersionLaw.{padded-same, strict-read}}
 use Rattle.nodejs_semver.specs.Internal.NpmTuples.{HasNoTuple, IsLongestAt, behind_first, dotted_len, number_in_reading, run_len}
 use Rattle.{nodejs_semver.specs.Npm.Coerced.{IsCoerced, IsRelease, one, three, two}, semver_core.proofs.Text.Pieces.rest_at}
 use Rattle.nodejs_semver.specs.Npm.Coerced as Npm

@@ -11,11 +11,10 @@ use Rattle.nodejs_semver.proofs.NpmCommon.{alternative_of, any_word, here, is_no
 use Rattle.nodejs_semver.proofs.{NpmCommon.{valid_alternative, valid_only, word_front}, Reading.{Bytes.begins-some, WordLaw.boundary-of}}
 use Rattle.nodejs_semver.proofs.Reading.WordLaw.{boundary-utf8, first-is, first-of, skips-is, skips-of, skips-utf8, suffix-boundary}
 use Rattle.nodejs_semver.proofs.{Reading.WordLaw.trim-utf8, Strict.AlternativeLaw.{alternative-found, alternative-read}}
-use Rattle.nodejs_semver.proofs.Strict.{RangeReads.found-some, Valid.table-invalid, WordSteps.{row_of, word-at, word_at_front}}
-use Rattle.nodejs_semver.{proofs.Strict.Words.{word-read, word-visible}, specs.Internal.PartFronts.front_part}
-use Rattle.nodejs_semver.specs.Npm.{MalformedWords.{IsRightWord, on}, RangeFlaws.{IsAlternativeText, IsRangeFlaw, bytes_of}}
-use Rattle.nodejs_semver.specs.{Npm.RangeText.next, Text.WordText.SkipsBlank, declared.npm.range_flaws.RangeFlaw.RangeFlaw}
-use Rattle.semver_core.proofs.Text.Trims.{one_after_blank}
+use Rattle.nodejs_semver.proofs.Strict.{Printed.table-invalid, RangeReads.found-some, Words.{row_of, word-at, word-read, word-visible}}
+use Rattle.nodejs_semver.{proofs.Strict.Words.word_at_front, specs.{Internal.PartFronts.front_part, Npm.MalformedWords.{IsRightWord, on}}}
+use Rattle.nodejs_semver.specs.{Npm.{RangeFlaws.{IsAlternativeText, IsRangeFlaw, bytes_of}, RangeText.next}, Text.WordText.SkipsBlank}
+use Rattle.{nodejs_semver.specs.declared.npm.range_flaws.RangeFlaw.RangeFlaw, semver_core.proofs.Text.Trims.one_after_blank}
 
 abbrev Right : Bool → List ℕ → List ℕ → Type 0
 Right = IsRightWord MAX_SAFE_INTEGER

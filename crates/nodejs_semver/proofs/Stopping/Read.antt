@@ -11,8 +11,8 @@ use Rattle.nodejs_semver.proofs.NpmCommon.{IsStrictVersion, Number, Padded, Plus
 use Rattle.nodejs_semver.proofs.NpmCommon.{digit_value, digits_grow, digits_value, digits_value_after, dotted_number, encode_ascii}
 use Rattle.nodejs_semver.proofs.NpmCommon.{encodes_same, has_leading_zero, is_strict_identifier, is_strict_list, is_whole, nat_le, next}
 use Rattle.nodejs_semver.proofs.NpmCommon.{number_of, pre_release_front, qualified_version, run, runs_tail, strict_number, strict_version}
-use Rattle.nodejs_semver.proofs.{NpmCommon.◌>>?◌, Reading.{Bytes.all-join, Numbers.{digits-taken, run-ends}}, Strict.Numbers.padded-same}
-use Rattle.nodejs_semver.proofs.Strict.{Numbers.strict-found, Places.prefix-all, VersionLaw.{strict-found-version, strict-read-version}}
+use Rattle.nodejs_semver.proofs.{NpmCommon.◌>>?◌, Reading.{Bytes.all-join, Numbers.{digits-taken, run-ends}}, Strict.PartialLaw.prefix-all}
+use Rattle.nodejs_semver.proofs.Strict.VersionLaw.{padded-same, strict-found, strict-found-version, strict-read-version}
 use Rattle.nodejs_semver.specs.{Internal.{Fronts.drop_v, NpmStates.ended}, Npm.VersionText.written}
 use Rattle.{nodejs_semver.specs.declared.npm.flaws.State.TheVariants.{End, Start}, semver_core.proofs.Text.Listed.plain_runs}
 use Rattle.{semver_core.specs.Internal.CommonReading.is_plain, std.{proofs.lemmas.List.reverse-append, specs.Prelude.reverse}}

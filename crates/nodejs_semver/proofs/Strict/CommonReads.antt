@@ -1,28 +1,28 @@
 -- Common texts: what the reader of these finds are alternatives of the text, and what their comparators have in common.
-use Rattle.nodejs_semver.proofs.Common.{AllByRecursion, Bool, Bound, IfSome, IsUtf8, List, MAX_SAFE_INTEGER, Option, Some, None, Span, VersionValue}
-use Rattle.nodejs_semver.proofs.Common.{Unbounded, [], all_weaker, ap, append-nil, append_assoc, arith, begins, bind_some, codes, common_steps, drop, cond_some, release_value}
-use Rattle.nodejs_semver.proofs.Common.{cut_bars, false, has_bars, inl, inr, interval, is_empty, is_interval, length, length-append, cond_both, option_holds-interval, precedence_total, trim, IsRange}
-use Rattle.nodejs_semver.proofs.Common.{list_all, list_all-append, nat_tests, option_to_list, precedence, refl, subst, sym, take, true, ℕ}
-use Rattle.nodejs_semver.proofs.Common.{◌++◌, ◌-◌, ◌<◌, ◌∙◌, ◌∷◌, ◌≡◌, ◌≤◌, ◌⊎◌}
-use Rattle.nodejs_semver.proofs.NpmCommon.{AreRead, bounds_view, within, after_byte, are_normal, begins_wildcard, dotted_patch, dotted_place, listed, patch_place, strict_number, AcceptAsRanged, AreAlternatives, Comparison, IsCommon, IsNarrowed, IsPartial, IsPlace}
-use Rattle.nodejs_semver.proofs.NpmCommon.{IsRangeIn, compared, counted_front, is_small, is_valid, limited, lit<, no_sign, spelling}
-use Rattle.nodejs_semver.proofs.Alike.Texts.{gap-bytes, joined, no_mark, no_marks, one_blank, sign_text}
-use Rattle.nodejs_semver.proofs.Algebra.Gate.{both}
-use Rattle.nodejs_semver.specs.Internal.NpmAlternatives.{ranged}
-use Rattle.nodejs_semver.proofs.Dividing.{BarsDivide.bars_divide, MeaningLaw.pieces-utf8}
-use Rattle.nodejs_semver.proofs.Everyday.{Parts.bars-sound, Texts.{compact-trim, cut-first, cut-last}, Words.{Compact, compact-spaced, is_part_byte}}
-use Rattle.nodejs_semver.proofs.Reading.Bytes.{all-end, all-join}
-use Rattle.nodejs_semver.proofs.Strict.{Limits.{counted_limited, number_placed, over_counted, wildcard_placed}, Malformed.{is_part, partial-part}, Narrowing.both_common, WordReads.{partial-le, partial-normal}}
-use Rattle.nodejs_semver.proofs.Strict.PartialLaw.{PartialAt, partial-found}
-use Rattle.nodejs_semver.proofs.Strict.RangeReads.{found_spans, ranged_range}
-use Rattle.nodejs_semver.specs.Internal.{CommonFronts.after_bars, NpmFronts.{AreIn, AreJoined, AreParts, IsLeft, IsPartAt, IsSignAt, IsTried, IsWordAt, is_word_byte}}
-use Rattle.nodejs_semver.specs.Internal.{NpmReads.AreFound, NpmReadings.dotted_number, NpmWords.{any, is_over, number, partial_front, place_zeros, placed}}
-use Rattle.nodejs_semver.specs.Npm.{RangeText.{AreWords, IsWord}, Table.{Partial, Sign, first, major, minor, table, whole, wildcard}}
-use Rattle.nodejs_semver.specs.Text.{Common.IsGap, WordText.equal}
-use Rattle.nodejs_semver.specs.declared.readers.syntax.Bounds.{Bounds}
+use Rattle.nodejs_semver.proofs.{Algebra.Gate.both, Alike.Texts.{gap-bytes, joined, no_mark, no_marks, one_blank, sign_text}}
+use Rattle.nodejs_semver.proofs.Common.{AllByRecursion, Bool, Bound, IfSome, IsRange, IsUtf8, List, MAX_SAFE_INTEGER, None, Option, Some}
+use Rattle.nodejs_semver.proofs.Common.{Span, Unbounded, VersionValue, [], all_weaker, ap, append-nil, append_assoc, arith, begins}
+use Rattle.nodejs_semver.proofs.Common.{bind_some, codes, common_steps, cond_both, cond_some, cut_bars, drop, false, has_bars, inl, inr}
+use Rattle.nodejs_semver.proofs.Common.{interval, is_empty, is_interval, length, length-append, list_all, list_all-append, nat_tests}
+use Rattle.nodejs_semver.proofs.Common.{option_holds-interval, option_to_list, precedence, precedence_total, refl, release_value, subst}
+use Rattle.nodejs_semver.proofs.Common.{sym, take, trim, true, ℕ, ◌++◌, ◌-◌, ◌<◌, ◌∙◌, ◌∷◌, ◌≡◌, ◌≤◌, ◌⊎◌}
+use Rattle.nodejs_semver.proofs.{Dividing.{BarsDivide.bars_divide, MeaningLaw.pieces-utf8}, Everyday.Parts.bars-sound}
+use Rattle.nodejs_semver.proofs.Everyday.{Texts.{compact-trim, cut-first, cut-last}, Words.{Compact, compact-spaced, is_part_byte}}
+use Rattle.nodejs_semver.proofs.NpmCommon.{AcceptAsRanged, AreAlternatives, AreRead, Comparison, IsCommon, IsNarrowed, IsPartial, IsPlace}
+use Rattle.nodejs_semver.proofs.NpmCommon.{IsRangeIn, after_byte, are_normal, begins_wildcard, bounds_view, compared, counted_front}
+use Rattle.nodejs_semver.proofs.NpmCommon.{dotted_patch, dotted_place, is_small, is_valid, limited, listed, lit<, no_sign, patch_place}
+use Rattle.nodejs_semver.proofs.{NpmCommon.{spelling, strict_number, within}, Reading.Bytes.{all-end, all-join}}
+use Rattle.nodejs_semver.proofs.Strict.{AlternativeLaw.{partial-le, partial-normal}, Malformed.{is_part, partial-part}}
+use Rattle.nodejs_semver.proofs.Strict.PartialLaw.{PartialAt, counted_limited, number_placed, over_counted, partial-found, wildcard_placed}
+use Rattle.nodejs_semver.{proofs.Strict.{RangeReads.{found_spans, ranged_range}, Rows.both_common}, specs.Internal.CommonFronts.after_bars}
+use Rattle.nodejs_semver.specs.Internal.{NpmAlternatives.ranged, NpmFronts.{AreIn, AreJoined, AreParts, IsLeft, IsPartAt, IsSignAt}}
+use Rattle.nodejs_semver.specs.Internal.{NpmFronts.{IsTried, IsWordAt, is_word_byte}, NpmReadings.dotted_number, NpmReads.AreFound}
+use Rattle.nodejs_semver.specs.{Internal.NpmWords.{any, is_over, number, partial_front, place_zeros, placed}, Npm.RangeText.AreWords}
+use Rattle.nodejs_semver.specs.Npm.{RangeText.IsWord, Table.{Partial, Sign, first, major, minor, table, whole, wildcard}}
+use Rattle.nodejs_semver.specs.{Text.{Common.IsGap, WordText.equal}, declared.readers.syntax.Bounds.Bounds}
+use Rattle.std.proofs.Math.Seq.{take-append_seam}
 use Rattle.nodejs_semver.specs.Internal.NpmFronts as Front
 use Rattle.nodejs_semver.specs.Npm.RangeText as Npm
-use Rattle.std.proofs.Math.Seq.{take-append_seam}
 
 -- ---- a word
 
