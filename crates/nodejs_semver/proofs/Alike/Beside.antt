@@ -33,9 +33,6 @@ release_in s v r = rw r refl
 
 -- ---- versions of other numbers
 
-triple_zero : (w v : VersionValue) → is_zero w ≡ true → is_le (triple_cmp w v) ≡ true
-triple_zero w v z = grind (arith, nat_tests, common_steps, and_parts, eqb-true)
-
 -- a version of other numbers is above 0.0.0
 zero-upto : (w v : VersionValue) → is_zero w ≡ true → same_triple w v ≡ false → is_ge (precedence v w) ≡ true
 zero-upto w v z h = grind (arith, nat_tests, common_steps, ge_is, in_two_steps)
@@ -54,10 +51,6 @@ apart-lt v n h = grind (arith, nat_tests, common_steps, in_two_steps, apart_bits
 
 greater_bits : (t s : Ordering) → is_lt s ≡ false → is_lt (ordering_then t Greater) ≡ is_lt (ordering_then t s)
 greater_bits t s h = grind arith
-
-pre_below : (x : List Id) → is_empty x ≡ false → is_lt (pre_cmp x []) ≡ true
-pre_below [] h = cc h
-pre_below (a ∷ x) h = refl
 
 most-held : (v : VersionValue) (w n : Numbers) → is_release v ≡ false
     → is_le (triple_cmp v (release w)) ≡ is_lt (ordering_then (triple_cmp v (lowest n)) Greater)

@@ -85,11 +85,6 @@ tame_bits r t n t' n' u m u' m' f g a b c d = grind arith
 pub apart_bits : (r t n u m : Bool) → r ≡ false → (n && t) ≡ false → (m && u) ≡ false → ((t && u) && (r || (n || m))) ≡ false
 apart_bits r t n u m e a b = grind arith
 
-pub tame-both : (v : VersionValue) (b u : Bound VersionValue) (cs ds : List Comparison) → Tame v (from_lower b v) (names b v) cs
-    → Tame v (to_upper u v) (names u v) ds → Alike v (record { lower = b; upper = u }) (cs ++ ds)
-tame-both v b u cs ds h k =
-    tame_bits _ _ _ _ _ _ _ _ _ h.released k.released h.here k.here h.there k.there ∙ sym (meets-both v cs ds)
-
 pub exact-span : (v : VersionValue) (b u : Bound VersionValue) (cs ds : List Comparison) → Exact v (from_lower b v) (names b v) cs
     → Exact v (to_upper u v) (names u v) ds → ExactWord v (record { lower = b; upper = u }) (cs ++ ds)
 exact-span v b u cs ds h k = grind (arith, nat_tests, common_steps, named-both, passed-both)
@@ -223,12 +218,8 @@ low-exact v w cs (inr o) h = cc (zero-release w o.zero, h)
 
 -- ---- bounds of releases above, beside `<M.m.p-0`
 
--- a release is below another one exactly if it is below its least pre-release
-release_lt : (v : VersionValue) (n : Numbers) → is_release v ≡ true → is_lt (precedence v (release n)) ≡ is_lt (precedence v (lowest n))
-release_lt v n r = grind (arith, nat_tests, common_steps)
-
 pub below-tame : (v : VersionValue) (n : Numbers) → Tame v (to_upper (Before (release n)) v) (names (Before (release n)) v) (under n ∷ [])
-below-tame v n = grind (arith, nat_tests, common_steps, and-true, release_lt, under-there, upper-before)
+below-tame v n = grind (arith, nat_tests, common_steps, and-true, under-there, upper-before)
 
 -- a release up to w is below n, where their numbers say so
 pub most-tame : (v : VersionValue) (w n : Numbers) → is_le (triple_cmp v (release w)) ≡ is_lt (ordering_then (triple_cmp v (lowest n)) Greater)
@@ -291,7 +282,7 @@ Good pre v o cs = IfSome o (λ s. SameWord pre v s cs)
 
 pub tame-word : (pre : Bool) (v : VersionValue) (b u : Bound VersionValue) (cs ds : List Comparison) → Tame v (from_lower b v) (names b v) cs
     → Tame v (to_upper u v) (names u v) ds → SameWord pre v (record { lower = b; upper = u }) (cs ++ ds)
-tame-word pre v b u cs ds h k = grind (arith, nat_tests, common_steps, apart_bits, meets-both, tame-both)
+tame-word pre v b u cs ds h k = grind (arith, nat_tests, common_steps, apart_bits, meets-both)
 
 unnamed_bits : (t r n : Bool) → r ≡ false → n ≡ false → (t && (r || n)) ≡ false
 unnamed_bits t r n e f = grind arith

@@ -132,16 +132,7 @@ span-longest y z runs (three a b c h k m) stop =
     append_assoc a (46 ∷ (b ++ (46 ∷ c))) z ∙ ap (λ (t : List ℕ). a ++ (46 ∷ t)) (append_assoc b (46 ∷ c) z) in
     let behind : drop (length a + (1 + length b)) (a ++ (46 ∷ (b ++ u))) ≡ u =
     drop-append-add a (46 ∷ (b ++ u)) (1 + length b) ∙ drop_at (46 ∷ b) u (1 + length b) (omega arith) in
-    rw (
-      same,
-      run-long a (46 ∷ (b ++ u)) h refl,
-      some,
-      drop_at a (46 ∷ (b ++ u)) (length a) refl,
-      dotted-long b u k refl,
-      more,
-      behind,
-      dotted-long c z m stop,
-    ) (omega (arith, length-append a (46 ∷ (b ++ (46 ∷ c))), length-append b (46 ∷ c)))
+    grind (arith, nat_tests, common_steps, run-long, drop_at, dotted-long, length-append)
 
 -- ---- the longest tuple at a place
 

@@ -97,14 +97,7 @@ pub left-less : (include : Bool) (left behind : List ℕ) → IsUtf8 left → Ri
     → length (drop_spaces behind) < length left
 left-less include left behind u r =
     let s = skips-is behind (right-utf8 include left behind u r) in
-    omega (
-      arith,
-      ap length r.divided,
-      length-append r.word behind,
-      ap length s.1,
-      length-append s.0 (drop_spaces behind),
-      begins-some is_visible r.word (word-visible false include (is_empty behind) r.word r.comparators r.is),
-    )
+    grind (arith, nat_tests, common_steps, length-append, drop_spaces, begins-some, word-visible)
 
 pub left-fits : (include : Bool) (left text : List ℕ) → Left include left text → length left ≤ length text
 left-fits include left text here = omega arith
@@ -198,12 +191,6 @@ all-right include (p ∷ ps) h =
     let more = all-right include ps h.1 in
     let w = h.0.1 in
     (h.0.0 ∷ more.0, next p w.middle ps h.0.0 more.0 w.trimmed w.is more.1, rw (w.valid, more.2) refl)
-
-all-some : (include : Bool) (ps : List (List ℕ)) (h : AllByRecursion (IsPiece include) ps) → is_empty ps ≡ false
-    → is_empty (all-right include ps h).0 ≡ false
-unfolding all-right
-all-some include [] h some = cc some
-all-some include (p ∷ ps) h some = refl
 
 -- the piece behind some is one too, where a text has alternatives
 piece-of : (include : Bool) (front : List (List ℕ)) (piece : List ℕ) (behind : List (List ℕ)) (ls : List (List Comparison))
@@ -310,11 +297,12 @@ some-pieces text pieces (more_pieces x rest others h k more) = refl
 
 pub passed_all : (include : Bool) (text : List ℕ) → Passed include text None
     → (ls : List (List Comparison)) × HasAlternatives MAX_SAFE_INTEGER include text ls
+unfolding all-right
 passed_all include text h =
     let a = all-right include (h.front ++ []) (right h.front h.right) in
     let cut = subst (λ (ps : List (List ℕ)). IsCutAtBars text ps) h.divided (bars_divide text) in (
       a.0,
-      grind (arith, nat_tests, common_steps, all-some, some-pieces),
+      grind (arith, nat_tests, common_steps, some-pieces),
     )
   where
     right : (ps : List (List ℕ)) → AllByRecursion (IsPiece include) ps → AllByRecursion (IsPiece include) (ps ++ [])

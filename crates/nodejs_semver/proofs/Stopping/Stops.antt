@@ -2,8 +2,8 @@
 use Rattle.nodejs_semver.proofs.Common.{Bool, IsUtf8, List, MAX_SAFE_INTEGER, None, Option, Some, VersionValue, [], ap, append-nil}
 use Rattle.nodejs_semver.proofs.Common.{append_assoc, arith, bind_some, cases_Bool, common_steps, encode_utf8, encode_utf8_all}
 use Rattle.nodejs_semver.proofs.Common.{encodes-append, ends, false, if◌then◌else◌, inl, inr, is_ascii_digit, is_some, length}
-use Rattle.nodejs_semver.proofs.Common.{length-append, length-encode, nat_tests, not, not-true, refl, same_Some, subst, suc, sym, true}
-use Rattle.nodejs_semver.proofs.{Common.{zero, ℕ, ◌*◌, ◌++◌, ◌+◌, ◌==◌, ◌↔◌, ◌∙◌, ◌∷◌, ◌≡◌, ◌≤◌, ◌⊎◌}, NpmCommon.{At, Dash, GoesOn}}
+use Rattle.nodejs_semver.proofs.Common.{length-append, length-encode, nat_tests, none_of, not, not-true, refl, same_Some, subst, suc, sym}
+use Rattle.nodejs_semver.proofs.{Common.{true, zero, ℕ, ◌*◌, ◌++◌, ◌+◌, ◌==◌, ◌↔◌, ◌∙◌, ◌∷◌, ◌≡◌, ◌≤◌, ◌⊎◌}, NpmCommon.{At, Dash, GoesOn}}
 use Rattle.nodejs_semver.proofs.NpmCommon.{IsFront, IsSpelled, IsVersionText, Number, Padded, Plus, State, digit_value, encodes_same}
 use Rattle.nodejs_semver.proofs.{NpmCommon.{is_whole, len_utf8, next, run, wrong_at, wrong_of}, Stopping.Read.{Whole, front-stops}}
 use Rattle.nodejs_semver.proofs.Stopping.Read.{read-front, read-spelled, run-nil, run-step, run-then, spelled-read}
@@ -80,9 +80,6 @@ great-of limit s c = is_some (next (limit + room s c) s c)
 some-next : (o : Option State) → is_some o ≡ true → (t : State) × (o ≡ Some t)
 some-next o h = grind (arith, nat_tests, common_steps)
 
-none-next : (o : Option State) → is_some o ≡ false → o ≡ None
-none-next o h = grind (arith, nat_tests, common_steps)
-
 longer : (limit : ℕ) (before : List ℕ) (s t : State) (c : ℕ) → 9 ≤ limit → run limit Start before ≡ Some s → next limit s c ≡ Some t
     → IsFront limit (before ++ c ∷ [])
 longer limit before s t c nine h k = read-front _ _ _ nine (run-then _ _ _ _ _ h ∙ (run-step _ _ _ _ _ k ∙ run-nil _ _))
@@ -100,7 +97,7 @@ goes_on limit before s nine h = record {
     λ k. let t = some-next (next limit s c) k in longer limit before s t.0 c nine h t.1,
     λ f. elim (cases_Bool (is_some (next limit s c))) [
       | inl some ↦ some
-      | inr none ↦ absurd (front-stops limit before s c f.0 h (none-next (next limit s c) none) (front-whole limit limit before c nine (omega arith) f))
+      | inr none ↦ absurd (front-stops limit before s c f.0 h (none_of (next limit s c) none) (front-whole limit limit before c nine (omega arith) f))
     ],
   );
   great_is = λ c.
@@ -112,7 +109,7 @@ goes_on limit before s nine h = record {
           | inr none ↦
               let all = f.0 + limit in
               absurd (front-stops all before s c f.1.0 (run-larger limit all Start s before (omega arith) h)
-              (next-room more all s c (omega arith) (none-next (next more s c) none))
+              (next-room more all s c (omega arith) (none_of (next more s c) none))
               (front-whole f.0 all before c (omega arith) (omega arith) f.1))
         ],
       );
@@ -151,20 +148,8 @@ stopped-wrong limit before s c rest nine h none = go s h none
   where
     go : (s : State) → run limit Start before ≡ Some s → next limit s c ≡ None
         → wrong_at s (Some c) ≡ wrong_of (may-of limit s) (great-of limit s) before (c ∷ rest)
-    go (Number zero n) h none = elim (cases_Bool (is_ascii_digit c)) [
-      | inr other ↦ rw (not-great limit zero n c other none, other) refl
-      | inl digit ↦ elim (cases_Bool (n == 0)) [
-        | inl none_is ↦ rw (zero-stops limit zero n c digit none_is, digit, none_is) refl
-        | inr some ↦ rw (too-great limit zero n c digit some, digit, some) refl
-      ]
-    ]
-    go (Number (suc k) n) h none = elim (cases_Bool (is_ascii_digit c)) [
-      | inr other ↦ rw (not-great limit (suc k) n c other none, other) refl
-      | inl digit ↦ elim (cases_Bool (n == 0)) [
-        | inl none_is ↦ rw (zero-stops limit (suc k) n c digit none_is, digit, none_is) refl
-        | inr some ↦ rw (too-great limit (suc k) n c digit some, digit, some) refl
-      ]
-    ]
+    go (Number zero n) h none = grind (arith, not-great limit zero n c, zero-stops limit zero n c, too-great limit zero n c)
+    go (Number (suc k) n) h none = grind (arith, not-great limit (suc k) n c, zero-stops limit (suc k) n c, too-great limit (suc k) n c)
     go Dash h none = rw (calm limit Dash c refl none, not-true _ (text-last limit Dash before h)) refl
     go Padded h none = rw (calm limit Padded c refl none, text-last limit Padded before h) refl
     go Plus h none = rw (calm limit Plus c refl none, not-true _ (text-last limit Plus before h)) refl

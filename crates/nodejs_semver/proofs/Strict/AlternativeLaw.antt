@@ -328,22 +328,16 @@ signed-normal : (loose : Bool) (text : List ℕ) (w : Signed × List ℕ) → si
 unfolding signed_word
 signed-normal loose text w h = grind (arith, nat_tests, common_steps, cond_some, front-normal)
 
-any-normal : (loose : Bool) (text : List ℕ) (w : Signed × List ℕ) → any_word loose text ≡ Some w → are_normal w.0.1 ≡ true
-unfolding any_word ignored_front
-any-normal loose text w h = grind (arith, nat_tests, common_steps, signed-normal)
-
 pub word-normal : (loose : Bool) (text : List ℕ) (w : Signed × List ℕ) → limited_word MAX_SAFE_INTEGER (any_word loose text) ≡ Some w → are_normal w.0.1 ≡ true
-word-normal loose text w h = grind (arith, nat_tests, common_steps, cond_some, any-normal)
+unfolding any_word ignored_front
+word-normal loose text w h = grind (arith, nat_tests, common_steps, cond_some, signed-normal)
 
 -- ---- the ends of a hyphen range
 
-end-normal : (loose : Bool) (free : Partial → Bool) (text : List ℕ) (e : Ended × List ℕ) → end_front loose free text ≡ Some e → are_normal e.0.0 ≡ true
-unfolding end_front
-end-normal loose free text e h = grind (arith, nat_tests, common_steps, cond_some, front-normal)
-
 limited-normal : (loose : Bool) (free : Partial → Bool) (text : List ℕ) (e : Ended × List ℕ) → limited_end MAX_SAFE_INTEGER (end_front loose free text) ≡ Some e
     → are_normal e.0.0 ≡ true
-limited-normal loose free text e h = grind (arith, nat_tests, common_steps, cond_some, end-normal)
+unfolding end_front
+limited-normal loose free text e h = grind (arith, nat_tests, common_steps, cond_some, front-normal)
 
 last-normal : (loose : Bool) (include : Bool) (text : List ℕ) (e : Ended) → last_limited loose MAX_SAFE_INTEGER include text ≡ Some e → are_normal e.0 ≡ true
 last-normal loose include text e h = grind (arith, nat_tests, common_steps, cond_some, limited-normal)

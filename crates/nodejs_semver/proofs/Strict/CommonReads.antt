@@ -32,22 +32,13 @@ sign-bytes s = grind (arith, nat_tests)
 piece-bytes : (x : List ℕ) (p : Partial) → IsPartial false x p → list_all is_word_byte x ≡ true
 piece-bytes x p h = all_weaker is_part is_word_byte (λ b k. grind (arith, nat_tests)) x (partial-part false x p h)
 
-place-some : (zeros : Bool) (x : List ℕ) (a : Option ℕ) → IsPlace false zeros x a → 0 < length x
-place-some zeros x a (Npm.any b h) = lit< tt
-place-some zeros x a (Npm.number digits n k spelled short) = k.some
-
 piece-some : (x : List ℕ) (p : Partial) → IsPartial false x p → 0 < length x
-piece-some x p h = grind (arith, place-some)
+piece-some x p h = grind (arith)
 
 -- the partial that is read at the front
 piece-at : (text : List ℕ) (p : Partial) (rest : List ℕ) → Some (p, rest) ≡ counted_front false MAX_SAFE_INTEGER text → PartialAt false text p rest
-piece-at text p rest h = go (partial_front false text) refl (h ∙ counted_limited false MAX_SAFE_INTEGER text)
-  where
-    go : (o : Option (Partial × List ℕ)) → partial_front false text ≡ o → Some (p, rest) ≡ limited MAX_SAFE_INTEGER o → PartialAt false text p rest
-    go None e k = cc k
-    go (Some q) e k =
-        let same = cond_some (is_small MAX_SAFE_INTEGER q.0) q (p, rest) (sym k) in
-        partial-found false text p rest (e ∙ ap (λ (x : Partial × List ℕ). Some x) same.1)
+piece-at text p rest h =
+    grind (arith, nat_tests, common_steps, counted_limited, cond_some, partial-found)
 
 -- the text of that partial, as it is cut out
 piece-cut : (text : List ℕ) (p : Partial) (rest : List ℕ) (f : PartialAt false text p rest) → take (length text - length rest) text ≡ f.piece
@@ -89,17 +80,9 @@ word-shorter text p rest h = partial-le false MAX_SAFE_INTEGER text p rest h
 pub word-normal : (text : List ℕ) (p : Partial) (rest : List ℕ) → Some (p, rest) ≡ counted_front false MAX_SAFE_INTEGER text → are_normal p ≡ true
 word-normal text p rest h = let f = piece-at text p rest h in partial-normal false f.piece p f.is
 
-small-within : (p : Partial) → is_small MAX_SAFE_INTEGER p ≡ true → within (first p) ≡ true
-small-within p h = grind (arith, nat_tests, common_steps)
-
 pub word-within : (text : List ℕ) (p : Partial) (rest : List ℕ) → Some (p, rest) ≡ counted_front false MAX_SAFE_INTEGER text → within (first p) ≡ true
-word-within text p rest h = go (partial_front false text) (h ∙ counted_limited false MAX_SAFE_INTEGER text)
-  where
-    go : (o : Option (Partial × List ℕ)) → Some (p, rest) ≡ limited MAX_SAFE_INTEGER o → within (first p) ≡ true
-    go None k = cc k
-    go (Some q) k =
-        let same = cond_some (is_small MAX_SAFE_INTEGER q.0) q (p, rest) (sym k) in
-        small-within p (ap (λ (x : Partial × List ℕ). is_small MAX_SAFE_INTEGER x.0) (sym same.1) ∙ same.0)
+word-within text p rest h =
+    grind (arith, nat_tests, common_steps, counted_limited, cond_some)
 
 pub ruleset words_found = (word-normal, word-shorter, word-within)
 
@@ -374,12 +357,7 @@ text-at include text ss u h = all-at include text [] ss (inl refl) h (pieces-utf
 pub common-range : (include : Bool) (text : List ℕ) (found range : List (Span VersionValue)) → IsUtf8 text → AreParts include text found
     → AcceptAsRanged found range → IsRangeIn false MAX_SAFE_INTEGER include text range
 common-range include text found range u h a =
-    let k = text-at include text found u h in
-    record {
-      alternatives = k.alternatives;
-      has = record { parts = cut_bars false text; divided = bars_divide text; each = k.each; some = k.some; valid = k.valid };
-      accepted = λ v. a include k.alternatives k.found.intervals k.found.narrowed k.found.are v;
-    }
+    grind (arith, nat_tests, common_steps, text-at, cut_bars, bars_divide)
 
 pub common-spans : (include : Bool) (text : List ℕ) (found range : List (Span VersionValue)) → IsUtf8 text → AreParts include text found
     → range ≡ ranged found → IsRange MAX_SAFE_INTEGER range

@@ -199,16 +199,13 @@ behind-drop (b ∷ c ∷ w) = grind (arith, nat_tests)
 abbrev is_unsigned : ℕ → Bool
 is_unsigned b = not (is_sign b) || b == 61
 
-one-sign : (b : ℕ) (v : List ℕ) → list_all is_unsigned v ≡ true → list_all is_unsigned (behind_sign (b ∷ v)) ≡ true
-one-sign b v h = grind (arith, nat_tests, common_steps, and_parts)
-
 -- whitespace that is signs is none
 blank-none : (y : List ℕ) → IsBlank y → list_all is_sign y ≡ true → y ≡ []
 blank-none [] h k = refl
 blank-none (b ∷ y) h k = grind (arith, nat_tests, and_parts, blank-dark (b ∷ y) h)
 
 spelling-one : (s : Sign) (v : List ℕ) → list_all is_unsigned v ≡ true → list_all is_unsigned (behind_sign (spelling s ++ v)) ≡ true
-spelling-one s v h = grind (arith, nat_tests, common_steps, one-sign)
+spelling-one s v h = grind (arith, nat_tests, common_steps, and_parts)
 
 all-front : (u v : List ℕ) → list_all is_sign (u ++ v) ≡ true → (list_all is_sign u ≡ true) × (list_all is_sign v ≡ true)
 all-front u v h = and_parts (list_all is_sign u) (list_all is_sign v) (sym (list_all-append is_sign u v) ∙ h)

@@ -159,10 +159,6 @@ quiet-ends : (more : List ℕ) → begins is_solid more ≡ false → Ends more
 quiet-ends [] h = ends-nil
 quiet-ends (b ∷ more) h = grind (arith, nat_tests, common_steps, list_len_stop)
 
-quiet-patch : (loose zeros : Bool) (more : List ℕ) → begins is_solid more ≡ false → dotted_patch loose zeros more ≡ None
-unfolding dotted_patch
-quiet-patch loose zeros more h = grind (arith, nat_tests, common_steps)
-
 quiet-dot : (loose zeros : Bool) (more : List ℕ) → begins is_solid more ≡ false → dotted_place loose zeros more ≡ None
 unfolding dotted_place
 quiet-dot loose zeros more h = grind (arith, nat_tests, common_steps)
@@ -177,10 +173,10 @@ qualified-read loose a b c pre build more l m h k t e = grind (arith, nat_tests,
 
 pub partial-read : (loose : Bool) (x more : List ℕ) (p : Partial) → IsPartial loose x p → begins is_solid more ≡ false
     → partial_front loose (x ++ more) ≡ Some (p, more)
-unfolding partial_front
+unfolding partial_front dotted_patch
 partial-read loose x more p (one x1 a h) quiet = rw (place-read loose false x more a h (quiet-digit more quiet), quiet-dot loose (has_zeros a) more quiet) refl
 partial-read loose x more p (two x1 y a b h k) quiet =
-    grind (arith, nat_tests, common_steps, append_assoc, place-read, dotted_place-read, quiet-digit, quiet-patch)
+    grind (arith, nat_tests, common_steps, append_assoc, place-read, dotted_place-read, quiet-digit)
 partial-read loose x more p (three x1 y z pre build a b c ids builds h k l m n t) quiet =
     grind (arith, quiet-ends, append_assoc, place-read, dotted_place-read, patch-read, pre-follows, qualified-read)
 
@@ -397,24 +393,14 @@ patch_cut loose zeros text at own o e h less is = grind (arith, nat_tests, commo
 
 -- ---- partial versions
 
-abbrev if_small : ℕ → Partial → Option Partial
-if_small limit p = if is_small limit p then Some p else None
-
-counted-small : (limit : ℕ) (a b c : Option ℕ) (pre build : List Id)
-    → counted (place_of limit a) (place_of limit b) (place_of limit c) pre build ≡ if_small limit (partial_of a b c pre build)
-counted-small limit a b c pre build = grind (arith, nat_tests, common_steps)
-
 qualified-limited : (loose : Bool) (limit : ℕ) (a b c : Option ℕ) (text : List ℕ)
     → qualified_counted loose (place_of limit a) (place_of limit b) (place_of limit c) text ≡ limited limit (qualified_partial loose a b c text)
 unfolding qualified_counted qualified_partial
 qualified-limited loose limit a b c text = grind (arith, nat_tests, common_steps)
 
-zeros-placed : (limit : ℕ) (a : Option ℕ) → place_zeros (place_of limit a) ≡ has_zeros a
-zeros-placed limit a = grind (arith, nat_tests, common_steps)
-
 pub counted_limited : (loose : Bool) (limit : ℕ) (text : List ℕ) → counted_front loose limit text ≡ limited limit (partial_front loose text)
 unfolding partial_front
-counted_limited loose limit text = grind (arith, nat_tests, common_steps, zeros-placed, qualified-limited)
+counted_limited loose limit text = grind (arith, nat_tests, common_steps, qualified-limited)
 
 -- ---- nothing stands behind the numbers
 

@@ -47,16 +47,8 @@ front_digit [] rest t d s e = absurd (omega arith)
 front_digit (c ∷ []) rest t d s e = (grind arith, grind arith)
 front_digit (c ∷ (b ∷ ds)) rest t d s e = grind arith
 
-last_digit : (ds rest : List ℕ) → 0 < length ds → ds ++ rest ≡ 48 ∷ [] → (ds ≡ 48 ∷ []) × (rest ≡ [])
-last_digit [] rest s e = absurd (omega arith)
-last_digit (c ∷ []) rest s e = (grind arith, grind arith)
-last_digit (c ∷ (b ∷ ds)) rest s e = grind arith
-
 zero_from : (n : ℕ) → n < 2 ^ 64 → decimal n ≡ 48 ∷ [] → n ≡ 0
 zero_from n h e = decimal_injective n 0 h (omega arith) (e ∙ sym (decimal_digit 0 (omega arith)))
-
-front_zero : (n : ℕ) (rest t : List ℕ) → n < 2 ^ 64 → decimal n ++ 46 ∷ rest ≡ 48 ∷ (46 ∷ t) → (n ≡ 0) × (rest ≡ t)
-front_zero n rest t h e = grind (arith, nat_tests, common_steps, front_digit, decimal_digits, decimal_some, zero_from)
 
 unmarked : (ids builds : List Id) → marked_list (45 ∷ []) ids ++ marked_list (43 ∷ []) builds ≡ [] → (ids ≡ []) × (builds ≡ [])
 unmarked ids builds e = grind (arith, nat_tests, common_steps)
@@ -64,7 +56,7 @@ unmarked ids builds e = grind (arith, nat_tests, common_steps)
 pub prints_zero : (v : VersionValue) → v.major < 2 ^ 64 → v.minor < 2 ^ 64 → v.patch < 2 ^ 64
     → bytes_eq (version_text v) (codes "0.0.0") ≡ is_zero v
 prints_zero v a b c =
-    grind (arith, nat_tests, common_steps, bytes_eq-Decides, both_ways, front_zero, last_digit, decimal_some, unmarked, zero_from, and_parts, eqb-true, empty_is, decimal_digit)
+    grind (arith, nat_tests, common_steps, bytes_eq-Decides, both_ways, front_digit, decimal_digits, decimal_some, unmarked, zero_from, and_parts, eqb-true, empty_is, decimal_digit)
 
 -- ---- what is valid
 
@@ -99,18 +91,9 @@ invalid : (limit : ℕ) (c : Comparison) (cs : List Comparison) → three limit 
 unfolding three
 invalid limit c cs h = grind arith
 
-from-invalid : (limit : ℕ) (include : Bool) (n : Numbers) (cs : List Comparison) → three limit n.0 n.1 n.2 ≡ false
-    → list_all (is_valid limit) (from include n ∷ cs) ≡ false
-from-invalid limit true n cs h = invalid limit (from true n) cs h
-from-invalid limit false n cs h = invalid limit (from false n) cs h
-
 one-three : (limit a b c : ℕ) → nat_le a limit ≡ false → three limit a b c ≡ false
 unfolding three
 one-three limit a b c h = rw h refl
-
-two-three : (limit a b c : ℕ) → (nat_le a limit && nat_le b limit) ≡ false → three limit a b c ≡ false
-unfolding three
-two-three limit a b c h = grind arith
 
 next-three : (limit a b c : ℕ) → (nat_le a limit && nat_le b limit) ≡ false → three limit a (b + 1) c ≡ false
 unfolding three
@@ -120,7 +103,8 @@ next-three limit a b c h = grind (arith, nat_tests)
 
 pub table-invalid : (limit : ℕ) (include : Bool) (s : Sign) (p : Partial) (text : List ℕ) → is_small limit p ≡ false
     → list_all (is_valid limit) (table include s p text) ≡ false
-table-invalid limit include s p text h = grind (arith, from-invalid, one-three, two-three, next-three)
+unfolding three
+table-invalid limit include s p text h = grind (arith, one-three, next-three)
 
 -- ---- the ends of a hyphen range
 

@@ -132,14 +132,9 @@ pub found_spans : (include : Bool) (alternatives : List (List Comparison)) (os :
     → list_all (is_range_span (MAX_SAFE_INTEGER + 1)) found ≡ true
 found_spans include alternatives os found h e = rw e (narrowed_spans include alternatives os h)
 
-some_range : (found : List (Span VersionValue)) → list_all (is_range_span (MAX_SAFE_INTEGER + 1)) found ≡ true
-    → IsRange MAX_SAFE_INTEGER (if is_empty found then nothing ∷ [] else found)
-some_range [] h = record { some = omega arith; each = refl }
-some_range (s ∷ ss) h = record { some = omega arith; each = h }
-
 pub ranged_range : (found : List (Span VersionValue)) → list_all (is_range_span (MAX_SAFE_INTEGER + 1)) found ≡ true
     → IsRange MAX_SAFE_INTEGER (ranged found)
-ranged_range found h = grind (arith, nat_tests, common_steps, some_range)
+ranged_range found h = grind (arith, nat_tests, common_steps)
 
 -- ---- an alternative is found exactly where the text has one whose comparators are valid
 
@@ -255,16 +250,12 @@ pub record AreReadTo (loose : Bool) (include : Bool) (text : List ℕ) (is_some 
   pub count : length read + length (later_parts rest) ≤ length (parts text)
   pub some : is_some ≡ not (is_empty read)
 
-alternatives-step : (loose : Bool) (include : Bool) (part : List ℕ) (others : List (List ℕ)) → valid_alternatives loose include (part ∷ others)
-    ≡ (valid_alternative loose include part >>? λ cs. valid_alternatives loose include others >>? λ rest. Some (kept loose part cs rest))
-unfolding valid_alternatives
-alternatives-step loose include part others = refl
-
 -- the same of the text that is left
 rest-step : (loose : Bool) (include : Bool) (rest part : List ℕ) (behind : Option (List ℕ)) (o : Option (List Comparison))
     → part ∷ later_parts behind ≡ parts rest → valid_alternative loose include part ≡ o → valid_alternatives loose include (parts rest)
     ≡ (o >>? λ cs. valid_alternatives loose include (later_parts behind) >>? λ ls. Some (kept loose part cs ls))
-rest-step loose include rest part behind o e d = grind (arith, nat_tests, common_steps, alternatives-step)
+unfolding valid_alternatives
+rest-step loose include rest part behind o e d = grind (arith, nat_tests, common_steps)
 
 -- one part more
 pub read-part : (loose : Bool) (include : Bool) (text : List ℕ) (was is : Bool) (found after : List (Span VersionValue)) (rest : List ℕ) (part : List ℕ)

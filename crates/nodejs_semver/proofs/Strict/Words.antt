@@ -147,10 +147,7 @@ pub word-visible : (loose : Bool) (include : Bool) (is_last : Bool) (w : List �
 word-visible loose include is_last w cs (ignored x l h) = malformed-visible is_last x h
 word-visible loose include is_last w cs (word signs marks x s p h m e k) =
     let u : begins_component x ≡ true = rw (append-nil x) at (partial-begins loose x [] p k) in
-    elim (sign-visible signs s h) [
-      | inl none ↦ rw none (marks-visible marks x (marks-all loose s p marks m) u)
-      | inr visible ↦ begins-on is_visible signs (marks ++ x) visible
-    ]
+    grind (arith, nat_tests, common_steps, sign-visible, marks-visible, marks-all, begins-on)
 
 pub words-visible : (loose : Bool) (include : Bool) (text : List ℕ) (cs : List Comparison) → AreWords loose include text cs → begins is_visible text ≡ true
 words-visible loose include text cs (last t ds h) = word-visible loose include true t ds h
