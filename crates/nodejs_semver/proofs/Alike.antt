@@ -1,5 +1,3 @@
-pub mod Ends
-pub mod Rows
 pub mod Beside
-pub mod Hyphens
+pub mod Rows
 pub mod Texts

@@ -1,3 +1,2 @@
 pub mod Loose
-pub mod Tuples
 pub mod Coerced

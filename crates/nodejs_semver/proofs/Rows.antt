@@ -1,6 +1,4 @@
 pub mod Ranges
 pub mod Printed
-pub mod NpmVersions
-pub mod NpmTexts
-pub mod NpmRanges
+pub mod Npm
 pub mod NpmAlike

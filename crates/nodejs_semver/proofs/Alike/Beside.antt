@@ -1,26 +1,23 @@
 -- Two comparisons beside each other, of which one may be of a pre-release.
-use Rattle.nodejs_semver.proofs.{Algebra.Gate.{both, in_two_steps, lt_is, same_triple_is, triple_cmp, triple_total}, Alike.Ends.IsWithin}
-use Rattle.nodejs_semver.proofs.Alike.Ends.{Low, any_low, from_low, from_lower, ge_is, lower-before, meets-both, most_major, most_minor}
-use Rattle.nodejs_semver.proofs.Alike.Ends.{named_by, passed, passed-both, put, to_upper, under-exact, upper-after, upper-before}
-use Rattle.nodejs_semver.proofs.Alike.{Ends.{whole_above, whole_below, whole_equal, whole_low, whole_most}, Rows.{Form, Good, SameWord}}
-use Rattle.nodejs_semver.proofs.{Alike.Rows.{any, form, one, partial, signed-good, text-spelled, three, two, version}, Common.After}
+use Rattle.nodejs_semver.proofs.{Algebra.Gate.{both, in_two_steps, lt_is, same_triple_is, triple_cmp, triple_total}, Alike.Rows.Form}
+use Rattle.nodejs_semver.proofs.Alike.Rows.{Good, IsWithin, Low, SameWord, any, any_low, form, from_low, from_lower, ge_is, interval-is}
+use Rattle.nodejs_semver.proofs.Alike.Rows.{lower-before, meets-both, most_major, most_minor, named_by, one, partial, passed, passed-both}
+use Rattle.nodejs_semver.proofs.Alike.Rows.{put, signed-good, text-spelled, three, to_upper, two, under-exact, upper-after, upper-before}
+use Rattle.nodejs_semver.proofs.{Alike.Rows.{version, whole_above, whole_below, whole_equal, whole_low, whole_most}, Common.After}
 use Rattle.nodejs_semver.proofs.Common.{Before, Bool, Bound, Comparator, Greater, Id, IfSome, List, MAX_SAFE_INTEGER, Numeric, Ordering}
-use Rattle.nodejs_semver.proofs.Common.{Partial, Some, Span, Unbounded, VersionValue, [], above, and-true, and_parts, ap, append-nil, arith}
-use Rattle.nodejs_semver.proofs.Common.{at_most, below, cases_Bool, common_steps, compare, eqb-true, equal, false, first_so, holds, inl}
-use Rattle.nodejs_semver.proofs.Common.{inr, interval, is_empty, is_eq, is_ge, is_interval, is_le, is_lt, is_release, lets_in, list_all}
-use Rattle.nodejs_semver.proofs.Common.{list_all-append, meet, nat_tests, not, not-true, ordering_reverse, ordering_then, pre_cmp}
-use Rattle.nodejs_semver.proofs.Common.{precedence, refl, same_triple, subst, sym, table, true, version_of, ℕ, ◌&&◌, ◌++◌, ◌+◌, ◌==◌, ◌||◌}
-use Rattle.nodejs_semver.proofs.{Common.{◌∙◌, ◌∷◌, ◌≡◌}, NpmCommon.{Comparison, IsPartial, IsPlainPartial, Numbers, at_least, compared}}
-use Rattle.nodejs_semver.proofs.NpmCommon.{from, is_firm, is_plain, is_valid, is_zero, may_have, npm_partial, release, under, zero_least}
-use Rattle.nodejs_semver.{proofs.Strict.Narrowing.{holds-both, lets_in-both}, specs.Npm.{Alike.is_apart, Table.lowest}}
+use Rattle.nodejs_semver.proofs.Common.{Partial, Some, Span, Unbounded, VersionValue, [], above, and-true, and_parts, ap, append-nil}
+use Rattle.nodejs_semver.proofs.Common.{arith, at_most, below, cases_Bool, common_steps, compare, eqb-true, equal, false, first_so, holds}
+use Rattle.nodejs_semver.proofs.Common.{inl, inr, interval, is_empty, is_eq, is_ge, is_interval, is_le, is_lt, is_release, lets_in}
+use Rattle.nodejs_semver.proofs.Common.{list_all, list_all-append, meet, nat_tests, not, not-true, ordering_reverse, ordering_then}
+use Rattle.nodejs_semver.proofs.Common.{pre_cmp, precedence, refl, same_triple, subst, sym, table, true, version_of, ℕ, ◌&&◌, ◌++◌, ◌+◌}
+use Rattle.nodejs_semver.proofs.{Common.{◌==◌, ◌||◌, ◌∙◌, ◌∷◌, ◌≡◌}, NpmCommon.{Comparison, IsPartial, IsPlainPartial, Numbers, at_least}}
+use Rattle.nodejs_semver.proofs.NpmCommon.{compared, from, is_firm, is_plain, is_valid, is_zero, may_have, npm_partial, release, under}
+use Rattle.nodejs_semver.{proofs.{NpmCommon.zero_least, Strict.Rows.{holds-both, lets_in-both}}, specs.Npm.{Alike.is_apart, Table.lowest}}
 use Rattle.semver_core.specs.Internal.OrderLaws.{pre_total}
 use Rattle.nodejs_semver.specs.Npm.Ranges as Npm
 use Rattle.nodejs_semver.specs.Npm.Table as Table
 
 -- ---- what two spans have in common
-
-pub interval-is : (s t : Span VersionValue) → interval precedence s ≡ Some t → (t ≡ s) × (is_interval precedence s ≡ true)
-interval-is s t e = grind arith
 
 met_bits : (r hs ht ls lt l ps pt ns nt : Bool) → (r ≡ true → ls ≡ true) → (r ≡ true → lt ≡ true) → (hs ≡ true → ht ≡ true → l ≡ (ls || lt))
     → (hs && ls) ≡ (ps && (r || ns)) → (ht && lt) ≡ (pt && (r || nt)) → (r ≡ false → (ps && ns) ≡ true → ht ≡ pt)
@@ -35,9 +32,6 @@ release_in : (s : Span VersionValue) (v : VersionValue) → is_release v ≡ tru
 release_in s v r = rw r refl
 
 -- ---- versions of other numbers
-
-triple_zero : (w v : VersionValue) → is_zero w ≡ true → is_le (triple_cmp w v) ≡ true
-triple_zero w v z = grind (arith, nat_tests, common_steps, and_parts, eqb-true)
 
 -- a version of other numbers is above 0.0.0
 zero-upto : (w v : VersionValue) → is_zero w ≡ true → same_triple w v ≡ false → is_ge (precedence v w) ≡ true
@@ -57,10 +51,6 @@ apart-lt v n h = grind (arith, nat_tests, common_steps, in_two_steps, apart_bits
 
 greater_bits : (t s : Ordering) → is_lt s ≡ false → is_lt (ordering_then t Greater) ≡ is_lt (ordering_then t s)
 greater_bits t s h = grind arith
-
-pre_below : (x : List Id) → is_empty x ≡ false → is_lt (pre_cmp x []) ≡ true
-pre_below [] h = cc h
-pre_below (a ∷ x) h = refl
 
 most-held : (v : VersionValue) (w n : Numbers) → is_release v ≡ false
     → is_le (triple_cmp v (release w)) ≡ is_lt (ordering_then (triple_cmp v (lowest n)) Greater)

@@ -1,5 +1,5 @@
 -- Plain texts: what they mean here, their alternatives to node-semver, and that both accept the same versions.
-use Rattle.nodejs_semver.proofs.Alike.{Beside.two-good, Ends.{IsWithin, within}, Hyphens.between-good, Rows.{Good, SameWord, word-good}}
+use Rattle.nodejs_semver.proofs.Alike.{Beside.two-good, Rows.{Good, IsWithin, SameWord, between-good, within, word-good}}
 use Rattle.nodejs_semver.proofs.Common.{AllByRecursion, AreCommonParts, Bool, Comparator, IsBlank, IsSign, IsTrim, IsUtf8, List}
 use Rattle.nodejs_semver.proofs.Common.{MAX_SAFE_INTEGER, Means, Span, VersionValue, Word, [], above, accepts, any_weaker, ap, append-nil}
 use Rattle.nodejs_semver.proofs.Common.{append_assoc, ap₂, arith, at_most, below, cases_Bool, codes, common_steps, cut_bars, encode_utf8}
@@ -7,19 +7,20 @@ use Rattle.nodejs_semver.proofs.Common.{equal, false, filter, first_so, inl, inr
 use Rattle.nodejs_semver.proofs.Common.{nat_tests, not, refl, second_so, subst, sym, trim, trim_is_middle, true, ℕ, ◌&&◌, ◌++◌, ◌<◌, ◌||◌}
 use Rattle.nodejs_semver.proofs.{Common.{◌∙◌, ◌∷◌, ◌≡◌}, Dividing.{BarsDivide.bars_divide, MeaningLaw.pieces-utf8}}
 use Rattle.nodejs_semver.proofs.Everyday.Texts.{common_parts_are_denoted, compact-trim, cut-first, cut-last, list-some, part-tidy}
-use Rattle.nodejs_semver.proofs.{Everyday.Words.{Compact, is_part_byte}, NpmCommon.{AreAlternatives, AreMarks, Comparison, HasAlternatives}}
-use Rattle.nodejs_semver.proofs.NpmCommon.{IsAlternative, IsPlainText, IsPlainWord, IsSignText, IsWord, are_marks, at_least, compared}
-use Rattle.nodejs_semver.proofs.NpmCommon.{counts, is_free_lower, is_free_upper, is_valid, is_within, lit<, meets, more, none, one_word}
-use Rattle.nodejs_semver.proofs.{NpmCommon.{signed, spelling, two_words}, Reading.Bytes.all-join, Strict.Once.alternatives_once}
-use Rattle.nodejs_semver.{proofs.Strict.Rows.either_true, specs.Npm.Alike.{ArePlain, IsPlainAlternative, bare, between, one}}
-use Rattle.nodejs_semver.specs.{Npm.{RangeText.next, Ranges.IsRangeOf, Table.Sign}, Text.Common.{IsCommonPart, IsCommonWord, IsGap}}
-use Rattle.nodejs_semver.specs.Text.Common.{caret_word, compare_word, comparison, hyphen_word, more_parts, one_part, plain_word, tilde_word}
-use Rattle.nodejs_semver.specs.Text.{Common.two_comparisons, WordText.{above_sign, at_least_sign, at_most_sign, below_sign, equal_sign}}
+use Rattle.nodejs_semver.proofs.{Everyday.Words.{Compact, is_part_byte}, NpmCommon.{AreAlternatives, AreMarks, Comparison}}
+use Rattle.nodejs_semver.proofs.NpmCommon.{HasAlternatives, IsAlternative, IsPlainText, IsPlainWord, IsSignText, IsWord, are_marks}
+use Rattle.nodejs_semver.proofs.NpmCommon.{at_least, compared, counts, is_free_lower, is_free_upper, is_valid, is_within, lit<, meets}
+use Rattle.nodejs_semver.proofs.{NpmCommon.{more, none, one_word, signed, spelling, two_words}, Reading.Bytes.all-join}
+use Rattle.nodejs_semver.{proofs.Strict.{AlternativeLaw.alternatives_once, Rows.either_true}, specs.Npm.Alike.ArePlain}
+use Rattle.nodejs_semver.specs.Npm.{Alike.{IsPlainAlternative, bare, between, one}, RangeText.next, Ranges.IsRangeOf, Table.Sign}
+use Rattle.nodejs_semver.specs.Text.Common.{IsCommonPart, IsCommonWord, IsGap, caret_word, compare_word, comparison, hyphen_word}
+use Rattle.nodejs_semver.specs.Text.{Common.{more_parts, one_part, plain_word, tilde_word, two_comparisons}, WordText.above_sign}
+use Rattle.nodejs_semver.specs.Text.WordText.{at_least_sign, at_most_sign, below_sign, equal_sign}
+use Rattle.nodejs_semver.proofs.Dividing.MeaningLaw as meaning
 use Rattle.nodejs_semver.specs.Npm.RangeText as Npm
 use Rattle.nodejs_semver.specs.Npm.Ranges as Ranges
 use Rattle.nodejs_semver.specs.Npm.Table as Table
 use Rattle.nodejs_semver.specs.Text.Common as Common
-use Rattle.nodejs_semver.proofs.Dividing.MeaningLaw as meaning
 
 -- ---- here
 

@@ -1,19 +1,19 @@
 -- Version texts of the loose reading: the function that reads them finds exactly what the statement has.
-use Rattle.nodejs_semver.proofs.Common.{Bool, Front, Id, IsNumber, IsPieceAt, IsTrim, IsUtf8, IsWholeNumber, List, NoPieceAt, None}
-use Rattle.nodejs_semver.proofs.Common.{Some, VersionValue, [], and_parts, ap, append-nil, arith, begins, begins_identifier, bind_some}
+use Rattle.nodejs_semver.proofs.Common.{Bool, Front, Id, IsNumber, IsPieceAt, IsTrim, IsUtf8, IsWholeNumber, List, NoPieceAt, None, Some}
+use Rattle.nodejs_semver.proofs.Common.{VersionValue, [], and_parts, ap, append-nil, arith, begins, begins_identifier, bind_some}
 use Rattle.nodejs_semver.proofs.Common.{cases_Bool, common_steps, drop, drop_at, encode_utf8_all, eqb-true, false, inl, inr}
 use Rattle.nodejs_semver.proofs.Common.{is_ascii_digit, is_empty, is_identifier_char, length, list_all, list_len, middle_is_trim}
 use Rattle.nodejs_semver.proofs.Common.{nat_tests, or_right, prefix_len, refl, same_Some, subst, suc, sym, take, take-append-drop, take_at}
 use Rattle.nodejs_semver.proofs.Common.{take_rest, true, zero, ℕ, ◌&&◌, ◌++◌, ◌-◌, ◌<◌, ◌==◌, ◌||◌, ◌∙◌, ◌∷◌, ◌≡◌, ◌≤◌, ◌⊎◌}
 use Rattle.nodejs_semver.proofs.NpmCommon.{AreMarks, IsStrictBuild, MAX_LENGTH, NoValue, after_byte, bare, begins_byte, begins_undashed}
-use Rattle.nodejs_semver.proofs.NpmCommon.{build_front, chars, dashed, dashed_front, drop-append-add, drop_ends, loose_dotted}
-use Rattle.nodejs_semver.proofs.NpmCommon.{loose_front, loose_patch, loose_qualified, loose_version, nat_le, no_pre_release, number_front}
-use Rattle.nodejs_semver.proofs.NpmCommon.{number_of, or-true, patch_front, pre_front, pre_release_front}
-use Rattle.nodejs_semver.proofs.Reading.{Bytes.{component-solid, solid-dark}, Numbers.{digits-taken, number-found, number-is}}
-use Rattle.nodejs_semver.proofs.{Reading.Numbers.{number-of, number-read, run-ends}, Reading.Steps.option-cases, Reading.WordLaw.byte-is}
-use Rattle.nodejs_semver.proofs.Strict.{Hyphens.{ends-found, ends-read}, Places.{digits-many_on, digits-of}, Qualifiers.build-found}
-use Rattle.nodejs_semver.proofs.Strict.Qualifiers.{Follows, PreFound, build-quiet, build-taken, ends-nil, letter-on, pre-follows, pre-found}
-use Rattle.nodejs_semver.{proofs.Strict.{Qualifiers.{pre-taken, stopped}, VersionLaw.empty-is}, specs.Internal.NpmLooseVersions.patch_len}
+use Rattle.nodejs_semver.proofs.NpmCommon.{build_front, chars, dashed, dashed_front, drop-append-add, drop_ends, loose_dotted, loose_front}
+use Rattle.nodejs_semver.proofs.NpmCommon.{loose_patch, loose_qualified, loose_version, nat_le, no_pre_release, number_front, number_of}
+use Rattle.nodejs_semver.proofs.{NpmCommon.{or-true, patch_front, pre_front, pre_release_front}, Reading.Bytes.component-solid}
+use Rattle.nodejs_semver.proofs.Reading.{Bytes.solid-dark, Numbers.{digits-taken, number-found, number-is, number-of, number-read}}
+use Rattle.nodejs_semver.proofs.{Reading.{Numbers.run-ends, Steps.option-cases, WordLaw.byte-is}, Strict.AlternativeLaw.ends-found}
+use Rattle.nodejs_semver.proofs.Strict.{AlternativeLaw.ends-read, PartialLaw.{digits-many_on, digits-of}, VersionLaw.{Follows, PreFound}}
+use Rattle.nodejs_semver.proofs.Strict.VersionLaw.{build-found, build-quiet, build-taken, empty-is, ends-nil, letter-on, pre-follows}
+use Rattle.nodejs_semver.{proofs.Strict.VersionLaw.{pre-found, pre-taken, stopped}, specs.Internal.NpmLooseVersions.patch_len}
 use Rattle.nodejs_semver.specs.Npm.{Grammar.IsPreRelease, VersionText.{IsLooseVersion, IsLooseVersionText, written}}
 
 -- ---- the patch number that the code finds

@@ -1,163 +1,348 @@
--- A text that is written as a version is read to its end as one.
-use Rattle.nodejs_semver.proofs.Common.{Bool, Id, List, Some, VersionValue, [], all_weaker, and_parts, ap, append-nil, arith, cases_Bool}
-use Rattle.nodejs_semver.proofs.Common.{common_steps, encode_utf8_all, eqb-true, false, inl, inr, is_ascii_digit, is_identifier}
-use Rattle.nodejs_semver.proofs.Common.{is_identifier_char, list_all, nat_lt, nat_tests, onto_first, pieces, refl, sym, true, ℕ, ◌&&◌, ◌*◌}
-use Rattle.nodejs_semver.proofs.{Common.{◌++◌, ◌+◌, ◌<◌, ◌==◌, ◌∙◌, ◌∷◌, ◌≡◌, ◌≤◌, ◌⊎◌}, NpmCommon.{Build, Dash, Digit, IsSpelled}}
-use Rattle.nodejs_semver.proofs.NpmCommon.{IsStrictBuild, IsStrictNumber, IsStrictPreRelease, IsStrictVersion, Number, Plus, PreRelease}
-use Rattle.nodejs_semver.proofs.NpmCommon.{State, Zero, bare, dashed, digit_value, digits_grow, digits_value_after, encode_ascii}
-use Rattle.nodejs_semver.proofs.NpmCommon.{encodes_same, is_strict_identifier, is_whole, next, no_build, no_pre_release, plus, run}
-use Rattle.nodejs_semver.proofs.{NpmCommon.{runs_tail, tail_runs}, Reading.Bytes.all-join, Stopping.Steps.identifier-more}
-use Rattle.nodejs_semver.proofs.Stopping.Steps.{identifier_read, run-nil, run-step, run-then, spaces-behind, spaces-start, start-digit}
-use Rattle.{nodejs_semver.specs.declared.npm.flaws.State.TheVariants.Start, semver_core.proofs.Text.Listed.plain_runs}
-use Rattle.nodejs_semver.specs.Npm.VersionText.{written}
-use Rattle.semver_core.specs.Internal.CommonReading.{is_plain}
+-- A text is read to its end as a version, character by character, exactly if the strict reader finds one in it; and what is read
+-- of a text goes on to a version.
+use Rattle.nodejs_semver.proofs.Common.{Bool, Front, Id, IsTrim, List, None, Option, Some, VersionValue, [], all_weaker, and-false}
+use Rattle.nodejs_semver.proofs.Common.{and-true, and_parts, ap, append-nil, arith, begins, begins_identifier, cases_Bool, common_steps}
+use Rattle.nodejs_semver.proofs.Common.{drop, drop_at, encode_utf8_all, eqb-true, false, if◌then◌else◌, inl, inr, is_ascii_digit, is_empty}
+use Rattle.nodejs_semver.proofs.Common.{is_identifier_char, is_some, is_whitespace, length, list_all, list_all-append, list_len, nat_tests}
+use Rattle.nodejs_semver.proofs.Common.{not, not-false, not-true, onto_first, pieces, prefix_len, refl, suc, sym, take, take-append-drop}
+use Rattle.nodejs_semver.proofs.{Common.{take_at, true, zero, ℕ, ◌&&◌, ◌*◌, ◌++◌, ◌+◌, ◌<◌, ◌==◌, ◌∙◌, ◌∷◌, ◌≡◌, ◌≤◌}, NpmCommon.Build}
+use Rattle.nodejs_semver.proofs.NpmCommon.{Dash, Digit, IsFront, IsSpelled, IsStrictBuild, IsStrictNumber, IsStrictPreRelease}
+use Rattle.nodejs_semver.proofs.NpmCommon.{IsStrictVersion, Number, Padded, Plus, PreRelease, State, Zero, build_front, dashed_front}
+use Rattle.nodejs_semver.proofs.NpmCommon.{digit_value, digits_grow, digits_value, digits_value_after, dotted_number, encode_ascii}
+use Rattle.nodejs_semver.proofs.NpmCommon.{encodes_same, has_leading_zero, is_strict_identifier, is_strict_list, is_whole, nat_le, next}
+use Rattle.nodejs_semver.proofs.NpmCommon.{number_of, pre_release_front, qualified_version, run, runs_tail, strict_number, strict_version}
+use Rattle.nodejs_semver.proofs.{NpmCommon.◌>>?◌, Reading.{Bytes.all-join, Numbers.{digits-taken, run-ends}}, Strict.PartialLaw.prefix-all}
+use Rattle.nodejs_semver.proofs.Strict.VersionLaw.{padded-same, strict-found, strict-found-version, strict-read-version}
+use Rattle.nodejs_semver.specs.{Internal.{Fronts.drop_v, NpmStates.ended}, Npm.VersionText.written}
+use Rattle.{nodejs_semver.specs.declared.npm.flaws.State.TheVariants.{End, Start}, semver_core.proofs.Text.Listed.plain_runs}
+use Rattle.{semver_core.specs.Internal.CommonReading.is_plain, std.{proofs.lemmas.List.reverse-append, specs.Prelude.reverse}}
 
--- ---- numbers
+-- ---- runs
 
-digits-read : (limit left v : ℕ) (ds : List ℕ) → list_all is_ascii_digit ds ≡ true → 0 < v → digits_value_after 10 v ds ≤ limit
-    → run limit (Number left v) ds ≡ Some (Number left (digits_value_after 10 v ds))
+bind-append : (limit : ℕ) (o : Option State) (xs ys : List ℕ)
+    → ((t : State) → run limit t (xs ++ ys) ≡ (run limit t xs >>? λ u. run limit u ys))
+    → (o >>? λ t. run limit t (xs ++ ys)) ≡ ((o >>? λ t. run limit t xs) >>? λ u. run limit u ys)
+bind-append limit o xs ys h = grind (arith, nat_tests, common_steps)
+
+run-append : (limit : ℕ) (xs ys : List ℕ) (s : State) → run limit s (xs ++ ys) ≡ (run limit s xs >>? λ t. run limit t ys)
+unfolding run
+run-append limit [] ys s = refl
+run-append limit (c ∷ xs) ys s = bind-append limit (next limit s c) xs ys (run-append limit xs ys)
+
+-- what is read of a front is read further
+pub run-then : (limit : ℕ) (s t : State) (xs ys : List ℕ) → run limit s xs ≡ Some t → run limit s (xs ++ ys) ≡ run limit t ys
+run-then limit s t xs ys h = run-append limit xs ys s ∙ ap (λ (o : Option State). o >>? λ u. run limit u ys) h
+
+pub run-nil : (limit : ℕ) (s : State) → run limit s [] ≡ Some s
+unfolding run
+run-nil limit s = refl
+
+pub run-step : (limit : ℕ) (s t : State) (c : ℕ) (cs : List ℕ) → next limit s c ≡ Some t → run limit s (c ∷ cs) ≡ run limit t cs
+unfolding run
+run-step limit s t c cs h = rw h refl
+
+pub run-none : (limit : ℕ) (s : State) (c : ℕ) (cs : List ℕ) → next limit s c ≡ None → run limit s (c ∷ cs) ≡ None
+unfolding run
+run-none limit s c cs h = rw h refl
+
+-- ---- texts that are read to their end
+
+abbrev pub ends_whole : Option State → Bool
+ends_whole None = false
+ends_whole (Some s) = is_whole s
+
+-- the text is read to its end, and is a version
+abbrev pub is_read : ℕ → State → List ℕ → Bool
+is_read limit s text = ends_whole (run limit s text)
+
+-- ---- whitespace
+
+spaces-start : (limit : ℕ) (w cs : List ℕ) → list_all is_whitespace w ≡ true → is_read limit Start (w ++ cs) ≡ is_read limit Start cs
 unfolding run next
-digits-read limit left v [] each some safe = refl
-digits-read limit left v (c ∷ ds) each some safe =
-    grind (arith, nat_tests, common_steps, and_parts, digits_grow, digits-read limit left (v * 10 + digit_value c) ds)
+spaces-start limit [] cs h = refl
+spaces-start limit (c ∷ w) cs h =
+    let each = and_parts (is_whitespace c) (list_all is_whitespace w) h in rw each.0 (spaces-start limit w cs each.1)
 
-number-read : (limit left n : ℕ) (digits : List ℕ) → IsStrictNumber limit digits n
-    → run limit (Digit left) digits ≡ Some (Number left n)
+spaces-end : (limit : ℕ) (cs : List ℕ) → is_read limit End cs ≡ list_all is_whitespace cs
 unfolding run next
-number-read limit left n [] h = absurd (omega (arith, h.number.some))
-number-read limit left n (c ∷ []) h = grind (arith, nat_tests, common_steps)
-number-read limit left n (c ∷ d ∷ ds) h =
-    let each = and_parts (is_ascii_digit c) (list_all is_ascii_digit (d ∷ ds)) h.number.each in
-    let first : 0 * 10 + digit_value c ≡ digit_value c = omega arith in
-    let value : n ≡ digits_value_after 10 (digit_value c) (d ∷ ds) = rw first at h.number.value in
-    let some : 0 < digit_value c = positive _ each.0 h.shortest in
-    let safe : digits_value_after 10 (digit_value c) (d ∷ ds) ≤ limit = rw value at h.number.safe in
-    run-step limit (Digit left) (Number left (digit_value c)) c (d ∷ ds) (rw each.0 refl)
-    ∙ digits-read _ _ _ (d ∷ ds) each.1 some safe ∙ ap (λ (m : ℕ). Some (Number left m)) (sym value)
-  where
-    positive : (c : ℕ) → is_ascii_digit c ≡ true → (c == 48) ≡ false → 0 < digit_value c
-    positive c h k = grind (arith, nat_tests)
+spaces-end limit [] = refl
+spaces-end limit (c ∷ cs) = elim (cases_Bool (is_whitespace c)) [ inl white ↦ rw white (spaces-end limit cs) | inr dark ↦ rw dark refl ]
 
--- the numbers and the dots, behind the mark
-numbers-read : (limit a b c : ℕ) (x y z rest : List ℕ) → IsStrictNumber limit x a → IsStrictNumber limit y b
-    → IsStrictNumber limit z c
-    → run limit (Digit 2) (x ++ 46 ∷ (y ++ 46 ∷ (z ++ rest))) ≡ run limit (Number 0 c) rest
+abbrev is_dark : ℕ → Bool
+is_dark c = not (is_whitespace c)
+
+-- whitespace stands neither before nor behind what is read so far
+abbrev is_inside : State → Bool
+is_inside Start = false
+is_inside End = false
+is_inside s = true
+
+dark-inside : (limit : ℕ) (s t : State) (c : ℕ) → is_inside s ≡ true → is_whitespace c ≡ false → next limit s c ≡ Some t → is_inside t ≡ true
 unfolding next
-numbers-read limit a b c x y z rest ha hb hc =
-    run-then _ _ _ _ _ (number-read _ _ _ _ ha) ∙ run-step _ _ _ _ _ refl ∙ run-then _ _ _ _ _ (number-read _ _ _ _ hb)
-    ∙ run-step _ _ _ _ _ refl ∙ run-then _ _ _ _ _ (number-read _ _ _ _ hc)
+dark-inside limit (Number zero n) t c i dark h = grind arith
+dark-inside limit (Number (suc k) n) t c i dark h = grind arith
+dark-inside limit s t c i dark h = grind arith
 
-marked-read : (limit a : ℕ) (mark x rest : List ℕ) → (mark ≡ []) ⊎ (mark ≡ 118 ∷ []) → IsStrictNumber limit x a
-    → run limit Start (mark ++ (x ++ rest)) ≡ run limit (Digit 2) (x ++ rest)
+space-other : (c : ℕ) → is_whitespace c ≡ true → (is_identifier_char c ≡ false) × (is_ascii_digit c ≡ false)
+    × ((c == 46) ≡ false) × ((c == 45) ≡ false) × ((c == 43) ≡ false) × ((c == 48) ≡ false)
+space-other c h = grind (arith, nat_tests)
+
+not_zero : (k : ℕ) → (suc k == 0) ≡ false
+not_zero k = grind arith
+
+space-ends : (limit : ℕ) (s : State) (c : ℕ) → is_inside s ≡ true → is_whitespace c ≡ true
+    → next limit s c ≡ (if is_whole s then Some End else None)
 unfolding next
-marked-read limit a mark x rest k h = grind (arith, nat_tests, common_steps, run-step, start-digit, and_parts)
+space-ends limit (Number zero n) c i h = let p = space-other c h in rw (p.1, p.3, p.4, h) refl
+space-ends limit (Number (suc k) n) c i h = let p = space-other c h in rw (p.1, p.2, not_zero k) refl
+space-ends limit Zero c i h = grind (arith, space-other c h)
+space-ends limit s c i h = grind (arith, space-other c h)
 
--- ---- identifiers
+bind-behind : (limit : ℕ) (o : Option State) (x r : List ℕ)
+    → ((t : State) → o ≡ Some t → is_read limit t (x ++ r) ≡ (is_read limit t x && list_all is_whitespace r))
+    → ends_whole (o >>? λ t. run limit t (x ++ r)) ≡ (ends_whole (o >>? λ t. run limit t x) && list_all is_whitespace r)
+bind-behind limit None x r h = refl
+bind-behind limit (Some t) x r h = h t refl
+
+-- whitespace behind other characters
+behind : (limit : ℕ) (s : State) (x r : List ℕ) → is_inside s ≡ true → list_all is_dark x ≡ true → begins is_dark r ≡ false
+    → is_read limit s (x ++ r) ≡ (is_read limit s x && list_all is_whitespace r)
+unfolding run
+behind limit s [] [] i each stop = sym (and-true (is_whole s))
+behind limit s [] (c ∷ r) i each stop = grind (arith, space-ends limit s c i (not-false _ stop), spaces-end limit r)
+behind limit s (c ∷ x) r i each stop =
+    let p = and_parts (is_dark c) (list_all is_dark x) each in
+    bind-behind limit (next limit s c) x r (λ t e. behind limit t x r (dark-inside limit s t c i (not-true _ p.0) e) p.1 stop)
+
+-- ---- build metadata
+
+-- behind a character of an identifier, and behind `+` or a dot
+builds : (limit : ℕ) (x : List ℕ) → list_all is_dark x ≡ true
+    → (is_read limit Build x ≡ is_empty (drop (list_len x) x))
+    × (is_read limit Plus x ≡ (begins_identifier x && is_empty (drop (list_len x) x)))
+unfolding run next list_len
+builds limit [] each = (refl, refl)
+builds limit (c ∷ x) each =
+    let p = and_parts (is_dark c) (list_all is_dark x) each in
+    let e : 1 + list_len x ≡ suc (list_len x) = omega arith in
+    (grind (arith, builds limit x p.1, not-true), grind (arith, builds limit x p.1))
+
+-- where no identifier goes on
+ended-read : (limit c : ℕ) (x : List ℕ) → list_all is_dark (c ∷ x) ≡ true
+    → ends_whole (ended c >>? λ t. run limit t x) ≡ is_empty (build_front (c ∷ x)).1
+unfolding build_front
+ended-read limit c x each =
+    let p = and_parts (is_dark c) (list_all is_dark x) each in grind (arith, builds limit x p.1, not-true)
+
+-- ---- pre-releases
+
+-- what is read with these characters of an identifier
+abbrev identifier_read : List ℕ → State
+identifier_read [] = Dash
+identifier_read (c ∷ []) = if c == 48 then Zero else PreRelease
+identifier_read (c ∷ d ∷ x) = if list_all is_ascii_digit (c ∷ d ∷ x) && c == 48 then Padded else PreRelease
+
+identifier-more : (limit : ℕ) (x : List ℕ) (c : ℕ) → is_identifier_char c ≡ true
+    → next limit (identifier_read x) c ≡ Some (identifier_read (x ++ c ∷ []))
+unfolding next
+identifier-more limit [] c h = elim (cases_Bool (c == 48)) [ inl none ↦ rw none refl | inr other ↦ rw (other, h) refl ]
+identifier-more limit (a ∷ []) c h = grind (arith, nat_tests, common_steps)
+identifier-more limit (a ∷ b ∷ x) c h = rw (list_all-append is_ascii_digit (a ∷ b ∷ x) (c ∷ [])) (grind arith)
+
+letter-digit : (c : ℕ) → is_identifier_char c ≡ false → is_ascii_digit c ≡ false
+letter-digit c h = grind (arith, nat_tests)
+
+-- it ends here if it is a strict one
+identifier-whole : (a : ℕ) (x : List ℕ) → is_whole (identifier_read (a ∷ x)) ≡ is_strict_identifier (a ∷ x)
+identifier-whole a [] = grind (arith, nat_tests, common_steps)
+identifier-whole a (b ∷ x) = elim (cases_Bool (list_all is_ascii_digit (a ∷ b ∷ x) && a == 48)) [ inl e ↦ rw e refl | inr e ↦ rw e refl ]
+
+identifier-other : (limit a : ℕ) (x : List ℕ) (c : ℕ) (cs : List ℕ) → is_identifier_char c ≡ false
+    → is_read limit (identifier_read (a ∷ x)) (c ∷ cs)
+    ≡ (is_strict_identifier (a ∷ x) && ends_whole ((if c == 46 then Some Dash else ended c) >>? λ t. run limit t cs))
+unfolding next run
+identifier-other limit a [] c cs h = grind (arith, letter-digit, and-false)
+identifier-other limit a (b ∷ x) c cs h = grind (arith, letter-digit)
+
+dash-other : (limit c : ℕ) → is_identifier_char c ≡ false → next limit Dash c ≡ None
+unfolding next
+dash-other limit c h = grind (arith, nat_tests)
 
 -- the first of these pieces, behind these characters, and the others have no leading zeros
-abbrev pub strict_behind : List ℕ → List (List ℕ) → Bool
+abbrev strict_behind : List ℕ → List (List ℕ) → Bool
 strict_behind x [] = is_strict_identifier x
 strict_behind x (p ∷ ps) = is_strict_identifier (x ++ p) && list_all is_strict_identifier ps
 
-pub runs-first : (c : ℕ) (ps : List (List ℕ)) → tail_runs (onto_first c ps) ≡ true
-    → (is_identifier_char c ≡ true) × (tail_runs ps ≡ true)
-runs-first c ps h = grind (arith, nat_tests, common_steps)
-
-pub strict-onto : (x : List ℕ) (c : ℕ) (ps : List (List ℕ))
+strict-onto : (x : List ℕ) (c : ℕ) (ps : List (List ℕ))
     → strict_behind x (onto_first c ps) ≡ strict_behind (x ++ c ∷ []) ps
 strict-onto x c ps = grind (arith, nat_tests, common_steps)
 
--- the build metadata: behind a character of an identifier, and behind `+` or a dot
-builds : (limit : ℕ) (t : List ℕ) → (tail_runs (pieces t) ≡ true → run limit Build t ≡ Some Build)
-    × (list_all is_identifier (pieces t) ≡ true → run limit Plus t ≡ Some Build)
-unfolding run next
-builds limit [] = (λ h. refl, λ h. cc h)
-builds limit (c ∷ t) = elim (cases_Bool (c == 46)) [
-  | inl dot ↦ (λ h. rw (eqb-true c 46 dot) ((builds limit t).1 (rw dot at h)), λ h. cc (rw dot at h))
-  | inr other ↦ (
-    λ h. let r = runs-first c (pieces t) (rw other at h) in rw r.0 ((builds limit t).0 r.1),
-    λ h. let r = runs-first c (pieces t) (runs_tail (onto_first c (pieces t)) (rw other at h)) in rw r.0 ((builds limit t).0 r.1),
-  )
-]
+strict-first : (c : ℕ) (ps : List (List ℕ)) → list_all is_strict_identifier (onto_first c ps) ≡ strict_behind (c ∷ []) ps
+strict-first c ps = grind (arith, nat_tests, common_steps)
 
--- a pre-release ends here
-abbrev IsEnd : State → Type 0
-IsEnd s = (s ≡ Zero) ⊎ (s ≡ PreRelease)
+letter-dotless : (c : ℕ) → is_identifier_char c ≡ true → (c == 46) ≡ false
+letter-dotless c h = grind (arith, nat_tests)
 
-read-end : (a : ℕ) (x : List ℕ) → is_strict_identifier (a ∷ x) ≡ true → IsEnd (identifier_read (a ∷ x))
-read-end a [] h = elim (cases_Bool (a == 48)) [ inl none ↦ rw none (inl refl) | inr other ↦ rw other (inr refl) ]
-read-end a (b ∷ x) h = grind (arith, nat_tests, common_steps)
-
-end-dot : (limit : ℕ) (s : State) → IsEnd s → next limit s 46 ≡ Some Dash
-unfolding next
-end-dot limit s h = grind (arith, nat_tests, common_steps)
-
--- it is read so far
-record Ended (limit : ℕ) (s : State) (t : List ℕ) : Type 0 where
-  state : State
-  reads : run limit s t ≡ Some state
-  is : IsEnd state
-
-ended-step : (limit : ℕ) (s u : State) (c : ℕ) (t : List ℕ) → next limit s c ≡ Some u → Ended limit u t → Ended limit s (c ∷ t)
-ended-step limit s u c t h e = record { state = e.state; reads = run-step limit s u c t h ∙ e.reads; is = e.is }
-
--- the identifiers of a pre-release: behind some characters of one, and behind `-` or a dot
-identifiers : (limit : ℕ) (t : List ℕ)
-    → ((a : ℕ) (x : List ℕ) → tail_runs (pieces t) ≡ true → strict_behind (a ∷ x) (pieces t) ≡ true
-    → Ended limit (identifier_read (a ∷ x)) t)
-    × (list_all is_identifier (pieces t) ≡ true → list_all is_strict_identifier (pieces t) ≡ true → Ended limit Dash t)
-identifiers limit [] = grind (arith, nat_tests, common_steps, identifier_read, run-nil, read-end, append-nil, and_parts)
-identifiers limit (c ∷ t) = elim (cases_Bool (c == 46)) [
-  | inl dot ↦ grind (arith, nat_tests, common_steps, eqb-true, and_parts, read-end, append-nil, ended-step, identifier_read, end-dot, identifiers limit t)
-  | inr other ↦ (
-    λ a x h k.
-        let f = runs-first c (pieces t) (rw other at h) in
-        let strict = sym (strict-onto (a ∷ x) c (pieces t)) ∙ rw other at k in
-        ended-step limit (identifier_read (a ∷ x)) (identifier_read (a ∷ (x ++ c ∷ []))) c t
-        (identifier-more limit (a ∷ x) c f.0) ((identifiers limit t).0 a (x ++ c ∷ []) f.1 strict),
-    λ h k.
-        let f = runs-first c (pieces t) (runs_tail (onto_first c (pieces t)) (rw other at h)) in
-        let strict = sym (strict-onto [] c (pieces t)) ∙ strict-first (onto_first c (pieces t)) (rw other at k) in
-        ended-step limit Dash (identifier_read (c ∷ [])) c t (identifier-more limit [] c f.0)
-        ((identifiers limit t).0 c [] f.1 strict),
-  )
-]
+-- behind some characters of an identifier, and behind `-` or a dot
+identifiers : (limit : ℕ) (x : List ℕ) → list_all is_dark x ≡ true
+    → ((a : ℕ) (y : List ℕ) → is_read limit (identifier_read (a ∷ y)) x
+    ≡ (strict_behind (a ∷ y) (pieces (take (list_len x) x)) && is_empty (build_front (drop (list_len x) x)).1))
+    × (is_read limit Dash x
+    ≡ (begins_identifier x && (is_strict_list (take (list_len x) x) && is_empty (build_front (drop (list_len x) x)).1)))
+unfolding run list_len build_front
+identifiers limit [] each = (
+  λ a y.
+      let last : (is_strict_identifier (a ∷ (y ++ [])) && true) ≡ is_strict_identifier (a ∷ y) = rw (append-nil y) (and-true _) in
+      identifier-whole a y ∙ sym (and-true _ ∙ last),
+  refl,
+)
+identifiers limit (c ∷ x) each =
+    let p = and_parts (is_dark c) (list_all is_dark x) each in
+    let later = identifiers limit x p.1 in
+    let e : 1 + list_len x ≡ suc (list_len x) = omega arith in
+    elim (cases_Bool (is_identifier_char c)) [
+      | inl letter ↦
+          let apart = letter-dotless c letter in (
+            λ a y. rw (letter, e, apart, identifier-more limit (a ∷ y) c letter, strict-onto (a ∷ y) c _) (later.0 a (y ++ c ∷ [])),
+            rw (letter, e, apart, identifier-more limit [] c letter, strict-first c _) (later.0 c []),
+          )
+      | inr other ↦ (
+        λ a y. identifier-other limit a y c x other ∙ (elim (cases_Bool (c == 46)) [
+          | inr apart ↦ rw (other, apart, append-nil y) (and_more _ true _ _ (ended-read limit c x each))
+          | inl dot ↦ rw (eqb-true c 46 dot) (elim (cases_Bool (begins_identifier x)) [
+            | inl more ↦ rw (more, e, append-nil y) (and_more _ (is_strict_list (take (list_len x) x)) _ _ (rw more at later.1))
+            | inr none ↦ rw (none, append-nil y) (and_more _ true false _ (rw none at later.1))
+          ])
+        ]),
+        rw (other, dash-other limit c other) refl,
+      )
+    ]
   where
-    strict-first : (ps : List (List ℕ)) → list_all is_strict_identifier ps ≡ true → strict_behind [] ps ≡ true
-    strict-first [] h = refl
-    strict-first (p ∷ ps) h = h
+    and_more : (s l e a : Bool) → a ≡ (l && e) → (s && a) ≡ ((s && l) && e)
+    and_more s l e a h = grind (arith, nat_tests)
 
--- ---- what stands behind the numbers
+-- ---- behind the numbers
 
-record Ready (limit : ℕ) (s : State) (t : List ℕ) : Type 0 where
-  state : State
-  reads : run limit s t ≡ Some state
-  whole : is_whole state ≡ true
-  plus : next limit state 43 ≡ Some Plus
+qualified : (limit a b c : ℕ) (x : List ℕ) → list_all is_dark x ≡ true
+    → is_read limit (Number 0 0) x ≡ is_some (qualified_version a b c x)
+unfolding run next qualified_version dashed_front pre_release_front build_front
+qualified limit a b c [] each = refl
+qualified limit a b c (d ∷ x) each =
+    let p = and_parts (is_dark d) (list_all is_dark x) each in
+    elim (cases_Bool (d == 45)) [
+      | inl dash ↦ rw (eqb-true d 45 dash) (elim (cases_Bool (begins_identifier x)) [
+        | inl more ↦ rw more ((identifiers limit x p.1).1 ∙ rw more (bits (is_strict_list (take (list_len x) x)) _ _))
+        | inr none ↦ rw none ((identifiers limit x p.1).1 ∙ rw none refl)
+      ])
+      | inr other ↦ grind (arith, ended-read limit d x each)
+    ]
+  where
+    bits : (s e : Bool) (v : VersionValue) → (s && e) ≡ is_some (if e && s then Some v else None)
+    bits s e v = grind (arith, nat_tests)
 
-pre_release-read : (limit n : ℕ) (p : List ℕ) (l : List Id) → IsStrictPreRelease p l → Ready limit (Number 0 n) p
-unfolding next
-pre_release-read limit n p l no_pre_release = record { state = Number 0 n; reads = run-nil _ _; whole = refl; plus = refl }
-pre_release-read limit n p l (bare text list h strict f) = cc f
-pre_release-read limit n p l (dashed text list h strict) =
-    let e = (identifiers limit text).1 h.runs strict in
-    grind (arith, nat_tests, common_steps, run-step)
+-- ---- numbers
 
--- the text is read to its end, and is a version
-abbrev pub Whole : ℕ → State → List ℕ → Type 0
-Whole limit s text = (t : State) × (run limit s text ≡ Some t) × (is_whole t ≡ true)
+no-digit : (limit left n : ℕ) (r : List ℕ) → begins is_ascii_digit r ≡ false → is_read limit (Number left n) r ≡ is_read limit (Number left 0) r
+unfolding run next
+no-digit limit left n [] stop = refl
+no-digit limit left n (c ∷ r) stop = rw stop refl
 
-build-read : (limit : ℕ) (s : State) (b : List ℕ) (l : List Id) → is_whole s ≡ true → next limit s 43 ≡ Some Plus
-    → IsStrictBuild b l → Whole limit s b
-build-read limit s b l whole next no_build = (s, run-nil limit s, whole)
-build-read limit s b l whole next (plus text list h) = (Build, run-step _ _ _ _ _ next ∙ (builds _ _).1 h.runs, refl)
+digits-on : (limit left v : ℕ) (ds r : List ℕ) → list_all is_ascii_digit ds ≡ true → begins is_ascii_digit r ≡ false → 0 < v → v ≤ limit
+    → is_read limit (Number left v) (ds ++ r) ≡ (nat_le (digits_value_after 10 v ds) limit && is_read limit (Number left 0) r)
+unfolding run next
+digits-on limit left v [] r each stop some safe = grind (arith, nat_tests, no-digit)
+digits-on limit left v (c ∷ ds) r each stop some safe =
+    grind (arith, nat_tests, common_steps, and_parts, digits_grow, digits-on limit left (v * 10 + digit_value c) ds r)
 
-middle-read : (limit : ℕ) (middle : List ℕ) (v : VersionValue) → IsStrictVersion limit middle v → Whole limit Start middle
-middle-read limit middle v (written mark x y z pre build w m i j k p q) =
-    let numbers : run limit Start (mark ++ (x ++ 46 ∷ (y ++ 46 ∷ (z ++ (pre ++ build))))) ≡ run limit (Number 0 w.patch) (pre ++ build) =
-    marked-read limit w.major mark x _ m i ∙ numbers-read limit w.major w.minor w.patch x y z (pre ++ build) i j k in
-    let r = pre_release-read limit w.patch pre w.pre_release p in
-    grind (arith, nat_tests, common_steps, build-read, run-then)
+-- digits that are a number
+abbrev is_number : ℕ → List ℕ → Bool
+is_number limit ds = not (is_empty ds) && (not (has_leading_zero ds) && nat_le (digits_value 10 ds) limit)
+
+number-on : (limit left : ℕ) (ds r : List ℕ) → 9 ≤ limit → list_all is_ascii_digit ds ≡ true → begins is_ascii_digit r ≡ false
+    → is_read limit (Digit left) (ds ++ r) ≡ (is_number limit ds && is_read limit (Number left 0) r)
+unfolding run next
+number-on limit left [] [] nine each stop = refl
+number-on limit left [] (c ∷ r) nine each stop = rw stop refl
+number-on limit left (c ∷ []) r nine each stop = grind (arith, and_parts, no-digit, nat_tests)
+number-on limit left (c ∷ d ∷ ds) r nine each stop =
+    let first : 0 * 10 + digit_value c ≡ digit_value c = omega arith in
+    grind (arith, nat_tests, and_parts, digits-on limit left (digit_value c) (d ∷ ds) r)
+
+abbrev number_if : Bool → ℕ → List ℕ → Front ℕ
+number_if b n rest = if b then Some (n, rest) else None
+
+number-front : (limit : ℕ) (ds r : List ℕ) → list_all is_ascii_digit ds ≡ true → begins is_ascii_digit r ≡ false
+    → strict_number limit (ds ++ r) ≡ number_if (is_number limit ds) (digits_value 10 ds) r
+unfolding strict_number number_of
+number-front limit ds r each stop = grind (
+  arith,
+  nat_tests,
+  padded-same ds r each stop,
+  digits-taken ds r each stop,
+  take_at ds r (length ds) refl,
+  drop_at ds r (length ds) refl,
+)
+
+-- what stands behind a number is read
+abbrev behind_read : ℕ → ℕ → Front ℕ → Bool
+behind_read limit left None = false
+behind_read limit left (Some p) = is_read limit (Number left 0) p.1
+
+number : (limit left : ℕ) (text : List ℕ) → 9 ≤ limit → is_read limit (Digit left) text ≡ behind_read limit left (strict_number limit text)
+number limit left text nine =
+    let n = prefix_len is_ascii_digit text in
+    let each = prefix-all is_ascii_digit text in
+    let whole = take-append-drop n text in
+    let read = number-on limit left (take n text) (drop n text) nine each (run-ends text) in
+    let found = number-front limit (take n text) (drop n text) each (run-ends text) in
+    rw whole at (read ∙ bits (is_number limit (take n text)) (digits_value 10 (take n text)) (drop n text)
+    ∙ sym (ap (behind_read limit left) found))
+  where
+    bits : (b : Bool) (n : ℕ) (r : List ℕ) → (b && is_read limit (Number left 0) r) ≡ behind_read limit left (number_if b n r)
+    bits true n r = refl
+    bits false n r = refl
+
+-- a number, and behind it what goes on so
+number-step : (limit left : ℕ) (f : ℕ × List ℕ → Option VersionValue) (text : List ℕ) → 9 ≤ limit → list_all is_dark text ≡ true
+    → ((p : ℕ × List ℕ) → list_all is_dark p.1 ≡ true → is_read limit (Number left 0) p.1 ≡ is_some (f p))
+    → is_read limit (Digit left) text ≡ is_some (strict_number limit text >>? f)
+number-step limit left f text nine each h = number limit left text nine ∙ go (strict_number limit text) refl
+  where
+    go : (o : Front ℕ) → strict_number limit text ≡ o → behind_read limit left o ≡ is_some (o >>? f)
+    go None e = refl
+    go (Some p) e =
+        let s = strict-found limit text p.0 p.1 e in
+        h p (and_parts (list_all is_dark s.digits) _ (sym (list_all-append is_dark s.digits p.1) ∙ rw s.split at each)).1
+
+dotted-step : (limit left : ℕ) (f : ℕ × List ℕ → Option VersionValue) (text : List ℕ) → 9 ≤ limit → list_all is_dark text ≡ true
+    → ((p : ℕ × List ℕ) → list_all is_dark p.1 ≡ true → is_read limit (Number left 0) p.1 ≡ is_some (f p))
+    → is_read limit (Number (suc left) 0) text ≡ is_some (dotted_number limit text >>? f)
+unfolding run next dotted_number
+dotted-step limit left f [] nine each h = rw (not_zero left) refl
+dotted-step limit left f (c ∷ text) nine each h = grind (arith, nat_tests, number-step limit left f text, and_parts)
+
+-- ---- versions
+
+version : (limit : ℕ) (text : List ℕ) → 9 ≤ limit → list_all is_dark (drop_v text) ≡ true
+    → is_read limit (Digit 2) (drop_v text) ≡ is_some (strict_version limit text)
+unfolding strict_version
+version limit text nine each = number-step limit 2 _ (drop_v text) nine each
+    (λ a h. dotted-step limit 1 _ a.1 nine h (λ b k. dotted-step limit 0 _ b.1 nine k (λ c l. qualified limit a.0 b.0 c.0 c.1 l)))
+
+-- whitespace, other characters and whitespace
+text-read : (limit : ℕ) (w : List ℕ) (c : ℕ) (x r : List ℕ) → 9 ≤ limit → list_all is_whitespace w ≡ true
+    → list_all is_dark (c ∷ x) ≡ true → begins is_dark r ≡ false
+    → is_read limit Start (w ++ c ∷ (x ++ r)) ≡ (is_some (strict_version limit (c ∷ x)) && list_all is_whitespace r)
+unfolding run next
+text-read limit w c x r nine blank each stop =
+    let p = and_parts (is_dark c) (list_all is_dark x) each in
+    let ends = λ (b : Bool). b && list_all is_whitespace r in
+    spaces-start limit w (c ∷ (x ++ r)) blank ∙ (elim (cases_Bool (c == 118)) [
+      | inl mark ↦ rw (eqb-true c 118 mark) (behind limit (Digit 2) x r refl p.1 stop ∙ ap ends (version limit (118 ∷ x) nine p.1))
+      | inr other ↦
+          let read = rw other at (version limit (c ∷ x) nine (rw other each)) in
+          rw (not-true _ p.0, other) (behind limit (Digit 2) (c ∷ x) r refl each stop ∙ ap ends read)
+    ])
 
 -- ---- its characters are bytes
 
@@ -171,37 +356,148 @@ plain-digits ds h = all_weaker is_ascii_digit is_plain (λ c k. grind (arith, na
 pub plain-both : (x y : List ℕ) → list_all is_plain x ≡ true → list_all is_plain y ≡ true → list_all is_plain (x ++ y) ≡ true
 plain-both x y h k = all-join is_plain x y h k
 
+pre-plain : (p : List ℕ) (l : List Id) → IsStrictPreRelease p l → list_all is_plain p ≡ true
+pre-plain p l h = grind (arith, nat_tests, common_steps, plain_runs, runs_tail)
+
+build-plain : (b : List ℕ) (l : List Id) → IsStrictBuild b l → list_all is_plain b ≡ true
+build-plain b l h = grind (arith, nat_tests, common_steps, plain_runs, runs_tail)
+
 pub plain-middle : (limit : ℕ) (middle : List ℕ) (v : VersionValue) → IsStrictVersion limit middle v → list_all is_plain middle ≡ true
 plain-middle limit middle v (written s x y z t u w m i j k p q) =
-    plain-both s _ (mark s m) (plain-both x _ (plain-digits x i.number.each) (plain-both y _ (plain-digits y j.number.each)
-    (plain-both z _ (plain-digits z k.number.each) (plain-both t u (pre t w.pre_release p) (build u w.build q)))))
+    grind (arith, plain-both, plain-digits, pre-plain t w.pre_release p, build-plain u w.build q)
+
+pub plain-dark : (cs : List ℕ) → list_all is_plain cs ≡ true → begins is_whitespace cs ≡ false
+plain-dark cs h = grind (arith, nat_tests, common_steps)
+
+plain-reverse : (cs : List ℕ) → list_all is_plain cs ≡ true → list_all is_plain (reverse cs) ≡ true
+plain-reverse [] h = refl
+plain-reverse (c ∷ cs) h = grind (arith, nat_tests, common_steps, and_parts, reverse-append, plain-both, plain-reverse cs)
+
+pub plain-trim : (w x r : List ℕ) → list_all is_whitespace w ≡ true → list_all is_plain x ≡ true → list_all is_whitespace r ≡ true
+    → IsTrim (encode_utf8_all (w ++ (x ++ r))) x
+plain-trim w x r before h after = record {
+  before = w;
+  characters = x;
+  after = r;
+  divided = refl;
+  middle_is = sym (plain-encodes x h);
+  blank_before = before;
+  blank_after = after;
+  begins_dark = plain-dark x h;
+  ends_dark = plain-dark (reverse x) (plain-reverse x h);
+}
+
+-- ---- what is written is read, also with a greater limit
+
+larger : (limit more : ℕ) (middle : List ℕ) (v : VersionValue) → limit ≤ more → IsStrictVersion limit middle v → IsStrictVersion more middle v
+larger limit more middle v le (written mark x y z pre build w m i j k p q) =
+    written mark x y z pre build w m (number x _ i) (number y _ j) (number z _ k) p q
   where
-    mark : (m : List ℕ) → (m ≡ []) ⊎ (m ≡ 118 ∷ []) → list_all is_plain m ≡ true
-    mark m (inl e) = rw e refl
-    mark m (inr e) = rw e refl
+    number : (ds : List ℕ) (n : ℕ) → IsStrictNumber limit ds n → IsStrictNumber more ds n
+    number ds n h = record {
+      number = record { some = h.number.some; each = h.number.each; value = h.number.value; safe = omega (arith, le, h.number.safe) };
+      shortest = h.shortest;
+    }
 
-    pre : (p : List ℕ) (l : List Id) → IsStrictPreRelease p l → list_all is_plain p ≡ true
-    pre p l no_pre_release = refl
-    pre p l (dashed text list h strict) = plain_runs text (runs_tail (pieces text) h.runs)
-    pre p l (bare text list h strict f) = cc f
+middle-read : (limit : ℕ) (w middle r : List ℕ) (v : VersionValue) → 9 ≤ limit → list_all is_whitespace w ≡ true
+    → list_all is_whitespace r ≡ true → IsStrictVersion limit middle v → is_read limit Start (w ++ (middle ++ r)) ≡ true
+unfolding strict_version strict_number number_of
+middle-read limit w [] r v nine before after is = cc (strict-read-version limit [] v is)
+middle-read limit w (c ∷ x) r v nine before after is =
+    let dark = all_weaker is_plain is_dark (λ b k. grind (arith, nat_tests)) (c ∷ x) (plain-middle limit (c ∷ x) v is) in
+    text-read limit w c x r nine before dark (stop r after) ∙ rw (strict-read-version limit (c ∷ x) v is, after) refl
+  where
+    stop : (r : List ℕ) → list_all is_whitespace r ≡ true → begins is_dark r ≡ false
+    stop r h = grind (arith, nat_tests, common_steps)
 
-    build : (b : List ℕ) (l : List Id) → IsStrictBuild b l → list_all is_plain b ≡ true
-    build b l no_build = refl
-    build b l (plus text list h) = plain_runs text (runs_tail (pieces text) h.runs)
+-- the text is read to its end, and is a version
+abbrev pub Whole : ℕ → State → List ℕ → Type 0
+Whole limit s text = is_read limit s text ≡ true
 
--- ---- texts
-
-pub spelled-read : (limit : ℕ) (cs : List ℕ) → IsSpelled limit (encode_utf8_all cs) → Whole limit Start cs
-spelled-read limit cs h =
+pub spelled-read : (limit more : ℕ) (cs : List ℕ) → 9 ≤ more → limit ≤ more → IsSpelled limit (encode_utf8_all cs) → Whole more Start cs
+spelled-read limit more cs nine le h =
     let t = h.trimmed in
-    let divided : cs ≡ t.before ++ (t.characters ++ t.after) = encodes_same cs (t.before ++ (t.characters ++ t.after)) t.divided in
-    let plain = plain-encodes _ (plain-middle _ _ _ h.is) in
-    let middle : h.middle ≡ t.characters = encodes_same h.middle t.characters (plain ∙ t.middle_is) in
-    let m = middle-read _ _ _ h.is in
-    let e = spaces-behind _ _ _ m.2 t.blank_after in (
-      e.0,
-      ap (λ (x : List ℕ). run limit Start x) divided
-          ∙ run-then _ _ _ _ _ (spaces-start _ _ t.blank_before) ∙ ap (λ (x : List ℕ). run limit Start (x ++ t.after)) (sym middle)
-          ∙ run-then _ _ _ _ _ m.1 ∙ e.1,
-      e.2,
+    let divided = encodes_same cs (t.before ++ (t.characters ++ t.after)) t.divided in
+    let middle = encodes_same h.middle t.characters (plain-encodes h.middle (plain-middle limit h.middle h.version h.is) ∙ t.middle_is) in
+    let whole : cs ≡ t.before ++ (h.middle ++ t.after) = divided ∙ ap (λ (m : List ℕ). t.before ++ (m ++ t.after)) (sym middle) in
+    rw whole (middle-read more t.before h.middle t.after h.version nine t.blank_before t.blank_after (larger limit more h.middle h.version le h.is))
+
+-- ---- what is read is written
+
+divides : (p : ℕ → Bool) (cs : List ℕ) → (x : List ℕ) × (r : List ℕ) × (cs ≡ x ++ r) × (list_all p x ≡ true) × (begins p r ≡ false)
+divides p [] = ([], [], refl, refl, refl)
+divides p (c ∷ cs) = elim (cases_Bool (p c)) [
+  | inl passes ↦ (let d = divides p cs in (c ∷ d.0, d.1, ap (λ (t : List ℕ). c ∷ t) d.2, rw (passes, d.3) refl, d.4))
+  | inr other ↦ ([], c ∷ cs, refl, refl, other)
+]
+
+middle-found : (limit : ℕ) (w x r : List ℕ) → 9 ≤ limit → list_all is_whitespace w ≡ true → list_all is_dark x ≡ true → begins is_dark r ≡ false
+    → begins is_whitespace (x ++ r) ≡ false → is_read limit Start (w ++ (x ++ r)) ≡ true
+    → ((v : VersionValue) × (strict_version limit x ≡ Some v)) × (list_all is_whitespace r ≡ true)
+unfolding run
+middle-found limit w [] [] nine blank each stop dark h = cc (sym (spaces-start limit w [] blank) ∙ h)
+middle-found limit w [] (c ∷ r) nine blank each stop dark h = cc (not-false _ stop, dark)
+middle-found limit w (c ∷ x) r nine blank each stop dark h =
+    let p = and_parts _ _ (sym (text-read limit w c x r nine blank each stop) ∙ h) in (some (strict_version limit (c ∷ x)) p.0, p.1)
+  where
+    some : (o : Option VersionValue) → is_some o ≡ true → (v : VersionValue) × (o ≡ Some v)
+    some None h = cc h
+    some (Some v) h = (v, refl)
+
+pub read-spelled : (limit : ℕ) (cs : List ℕ) → 9 ≤ limit → Whole limit Start cs → IsSpelled limit (encode_utf8_all cs)
+read-spelled limit cs nine h =
+    let a = divides is_whitespace cs in
+    let b = divides is_dark a.1 in
+    let whole : cs ≡ a.0 ++ (b.0 ++ b.1) = a.2 ∙ ap (λ (t : List ℕ). a.0 ++ t) b.2 in
+    let f = middle-found limit a.0 b.0 b.1 nine a.3 b.3 b.4 (rw b.2 at a.4) (rw whole at h) in
+    let is = strict-found-version limit b.0 f.0.0 f.0.1 in
+    rw whole (record { version = f.0.0; middle = b.0; trimmed = plain-trim a.0 b.0 b.1 a.3 (plain-middle limit b.0 f.0.0 is) f.1; is = is })
+
+-- ---- what is read goes on to a version
+
+finished : (limit : ℕ) (s : State) → is_whole s ≡ true → (more : List ℕ) × Whole limit s more
+unfolding run
+finished limit s w = ([], w)
+
+stepped : (limit : ℕ) (s t : State) (c : ℕ) → next limit s c ≡ Some t → (more : List ℕ) × Whole limit t more
+    → (more : List ℕ) × Whole limit s more
+stepped limit s t c h f = (c ∷ f.0, ap ends_whole (run-step limit s t c f.0 h) ∙ f.1)
+
+finish-numbers : (limit left : ℕ) → ((n : ℕ) → (more : List ℕ) × Whole limit (Number left n) more)
+    × ((more : List ℕ) × Whole limit (Digit left) more)
+unfolding next
+finish-numbers limit zero = (
+  λ n. finished limit (Number 0 n) refl,
+  stepped limit (Digit 0) (Number 0 0) 48 refl (finished limit (Number 0 0) refl),
+)
+finish-numbers limit (suc k) =
+    let later = (finish-numbers limit k).1 in (
+      λ n. stepped limit (Number (suc k) n) (Digit k) 46 refl later,
+      stepped limit (Digit (suc k)) (Number (suc k) 0) 48 refl
+          (stepped limit (Number (suc k) 0) (Digit k) 46 refl later),
     )
+
+finish : (limit : ℕ) (s : State) → (more : List ℕ) × Whole limit s more
+unfolding next
+finish limit Start = stepped limit Start (Number 2 0) 48 refl ((finish-numbers limit 2).0 0)
+finish limit (Digit left) = (finish-numbers limit left).1
+finish limit (Number left n) = (finish-numbers limit left).0 n
+finish limit Dash = stepped limit Dash PreRelease 97 refl (finished limit PreRelease refl)
+finish limit Zero = finished limit Zero refl
+finish limit Padded = stepped limit Padded PreRelease 97 refl (finished limit PreRelease refl)
+finish limit PreRelease = finished limit PreRelease refl
+finish limit Plus = stepped limit Plus Build 97 refl (finished limit Build refl)
+finish limit Build = finished limit Build refl
+finish limit End = finished limit End refl
+
+pub read-front : (limit : ℕ) (before : List ℕ) (s : State) → 9 ≤ limit → run limit Start before ≡ Some s → IsFront limit before
+read-front limit before s nine h =
+    let f = finish limit s in
+    (f.0, read-spelled limit (before ++ f.0) nine (ap ends_whole (run-then limit Start s before f.0 h) ∙ f.1))
+
+-- ---- and what is not read does not
+
+pub front-stops : (limit : ℕ) (before : List ℕ) (s : State) (c : ℕ) (rest : List ℕ) → run limit Start before ≡ Some s
+    → next limit s c ≡ None → Whole limit Start (before ++ c ∷ rest) → ⊥
+front-stops limit before s c rest h none w =
+    cc (sym (ap ends_whole (run-then limit Start s before (c ∷ rest) h ∙ run-none limit s c rest none)) ∙ w)

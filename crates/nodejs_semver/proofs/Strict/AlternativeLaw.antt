@@ -1,22 +1,410 @@
--- The alternatives of node-semver's range texts: the function that reads them finds exactly what the statement has.
-use Rattle.nodejs_semver.proofs.Common.{AllByRecursion, Bool, IsBlank, IsUtf8, List, None, Some, [], after_spaces, all_weaker, and_parts}
-use Rattle.nodejs_semver.proofs.Common.{ap, append-nil, append_assoc, arith, begins, bind_some, cases_Bool, common_steps}
-use Rattle.nodejs_semver.proofs.Common.{drop_spaces, drop_spaces-blank, drop_spaces-none, false, inl, inr, is_empty, length, list_all, map}
-use Rattle.nodejs_semver.proofs.Common.{middle_is_trim, nat_tests, not, or_right, refl, same_Some, space_len, subst, suc, sym, take, trim}
-use Rattle.nodejs_semver.proofs.Common.{trim_is_middle, true, zero, ℕ, ◌&&◌, ◌++◌, ◌-◌, ◌<◌, ◌==◌, ◌||◌, ◌↔◌, ◌∙◌, ◌∷◌, ◌≡◌}
+-- Hyphen ranges and alternatives of node-semver's range texts: the functions that read them find exactly what the statement has, and the code
+-- those whose numbers are up to the limit.
+use Rattle.nodejs_semver.proofs.{Bounds.Bounded.identifiers-normal, Common.{AllByRecursion, Bool, Bor, Front, Id, IsBlank}}
+use Rattle.nodejs_semver.proofs.Common.{IsCharBoundary-after_ascii, IsUtf8, IsUtf8-drop, List, MAX_SAFE_INTEGER, None, Option, Some}
+use Rattle.nodejs_semver.proofs.Common.{VersionValue, [], after_spaces, all_weaker, and_parts, ap, append-nil, append_assoc, arith, begins}
+use Rattle.nodejs_semver.proofs.Common.{bind_some, cases_Bool, common_steps, cond_some, drop, drop_at, drop_spaces, drop_spaces-blank}
+use Rattle.nodejs_semver.proofs.Common.{drop_spaces-none, encode_utf8, encode_utf8_all, equal, false, if◌then◌else◌, inl, inr, is_boundary}
+use Rattle.nodejs_semver.proofs.Common.{is_empty, is_normal, is_some, is_whitespace, len_utf8_bounds, length, length-append, length-drop}
+use Rattle.nodejs_semver.proofs.Common.{length-encode, list_all, map, middle_is_trim, nat_tests, not, or_right, prefix_len, refl}
+use Rattle.nodejs_semver.proofs.Common.{same_Some, space_len, space_len-nil, subst, suc, sym, take, take_rest, trim, trim_is_middle, true}
+use Rattle.nodejs_semver.proofs.Common.{zero, ℕ, ◌&&◌, ◌++◌, ◌+◌, ◌-◌, ◌<◌, ◌==◌, ◌||◌, ◌↔◌, ◌∙◌, ◌∷◌, ◌≡◌, ◌≤◌}
 use Rattle.nodejs_semver.proofs.{Dividing.{BarsDivide.{bars_divide, bars_once}, MeaningLaw.pieces-utf8}, NpmCommon.AreAlternatives}
-use Rattle.nodejs_semver.proofs.NpmCommon.{AreMarks, AreWords, Comparison, Ended, HasAlternativesIn, IsAlternative, IsPartial, IsWord}
-use Rattle.nodejs_semver.proofs.NpmCommon.{after_ends, alternative_of, alternatives_of, are_whole_marks, drop_ends, end_front, hyphen_comparisons}
-use Rattle.nodejs_semver.proofs.NpmCommon.{hyphen_ends, hyphen_lower, hyphen_upper, ignored, is_free_lower, is_free_upper, is_malformed}
-use Rattle.nodejs_semver.proofs.{NpmCommon.{is_mark, is_valid, is_visible, kept, last, last_end, word}, Reading.Bytes.all-join}
-use Rattle.nodejs_semver.proofs.{Reading.{Bytes.begins_component, Steps.option-cases, WordLaw.trim-utf8}, Strict.Hyphens.after_ends-drop}
-use Rattle.nodejs_semver.proofs.Strict.Hyphens.{dash-read, end-read, ends-space, hyphen-found, mark-dark, marks-passed}
-use Rattle.nodejs_semver.proofs.Strict.{Hyphens.whole-dark, Malformed.{blank-dark, blank-signal, boundary-dark, is_dark, is_part}}
-use Rattle.nodejs_semver.proofs.Strict.Malformed.{is_signal, malformed-all, malformed-more, part-visible, partial-part, sign-signal}
-use Rattle.nodejs_semver.proofs.Strict.{PartialLaw.{boundary-quiet, partial-read}, Signs.marks-all, Words.{blank-boundary, blank-space}}
-use Rattle.nodejs_semver.proofs.Strict.Words.{not-empty, partial-begins, words-found, words-read, words-visible}
-use Rattle.nodejs_semver.specs.{Internal.NpmWords.{npm_alternatives, partial_front, words_within}, Npm.RangeText.{hyphen, more, next}}
-use Rattle.nodejs_semver.specs.Npm.{RangeText.{nothing, words}, Table.Partial}
+use Rattle.nodejs_semver.proofs.NpmCommon.{AreMarks, AreWords, Comparison, Ended, HasAlternativesIn, IsAlternative, IsPartial}
+use Rattle.nodejs_semver.proofs.NpmCommon.{IsStrictBuild, IsVersionText, IsWord, Signed, after_byte, after_ends, alternative_of}
+use Rattle.nodejs_semver.proofs.NpmCommon.{alternatives_of, any_word, are_normal, are_whole_marks, begins_malformed, compared}
+use Rattle.nodejs_semver.proofs.NpmCommon.{counted_front, drop_ends, encode_ascii, end_front, ended_end, hyphen_comparisons, hyphen_ends}
+use Rattle.nodejs_semver.proofs.NpmCommon.{hyphen_lower, hyphen_of, hyphen_upper, ignored, ignored_front, is_free_lower, is_free_upper}
+use Rattle.nodejs_semver.proofs.NpmCommon.{is_malformed, is_mark, is_small, is_valid, is_visible, kept, last, last_end, len_utf8, limited}
+use Rattle.nodejs_semver.proofs.NpmCommon.{limited_end, limited_hyphen, limited_word, marked_word, marks_len, may_stand, no_build}
+use Rattle.nodejs_semver.proofs.NpmCommon.{npm_sign, or_else, plus, signed_front_view, signed_word, space_len-white, strict_version}
+use Rattle.nodejs_semver.proofs.{NpmCommon.{wildcard, word, ◌>>?◌}, Reading.Bytes.{all-join, begins_component, component-solid, is_solid}}
+use Rattle.nodejs_semver.proofs.Reading.{Bytes.solid-dark, Steps.option-cases, WordLaw.{byte-is, tail-utf8, trim-utf8}}
+use Rattle.nodejs_semver.proofs.Strict.Malformed.{blank-dark, blank-signal, boundary-dark, is_dark, is_part, is_signal, malformed-all}
+use Rattle.nodejs_semver.proofs.Strict.{Malformed.{malformed-more, part-visible, partial-part, sign-signal}, PartialLaw.boundary-quiet}
+use Rattle.nodejs_semver.proofs.Strict.{PartialLaw.{counted_limited, partial-found, partial-read, prefix-all}, Signs.blank-at}
+use Rattle.nodejs_semver.proofs.Strict.{Signs.{blank-skipped, marks-all}, VersionLaw.{empty-is, strict-read-version}, Words.blank-boundary}
+use Rattle.nodejs_semver.proofs.Strict.Words.{blank-some, blank-space, front-text, not-empty, partial-begins, rest-utf8, space-boundary}
+use Rattle.nodejs_semver.{proofs.Strict.Words.{words-found, words-read, words-visible}, specs.Internal.NpmWords.{after_dash, end_len}}
+use Rattle.nodejs_semver.specs.Internal.{NpmWords.{last_limited, npm_alternatives, partial_front, words_within}, Words.after_some_space}
+use Rattle.nodejs_semver.specs.Npm.{Grammar.IsPreRelease, RangeText.{hyphen, more, next, nothing, words}, Table.{Partial, Sign}}
+use Rattle.{semver_core.proofs.Text.SpaceLaw.space_len-dark, std.proofs.lemmas.Str.{IsUtf8-past_char, encode_same}}
+use Rattle.nodejs_semver.specs.declared.npm.words.Signed as Runtime
+
+-- ---- marks and whitespace at the front
+
+pub after_ends-drop : (n : ℕ) (text : List ℕ) → after_ends n text ≡ drop_ends (drop n text)
+unfolding after_ends
+after_ends-drop zero text = refl
+after_ends-drop (suc n) [] = refl
+after_ends-drop (suc n) (b ∷ rest) = after_ends-drop n rest
+
+pub ends-mark : (b : ℕ) (rest : List ℕ) → is_mark b ≡ true → drop_ends (b ∷ rest) ≡ drop_ends rest
+unfolding after_ends
+ends-mark b rest h = rw (h, after_ends) refl
+
+-- nothing more
+pub ends-stop : (b : ℕ) (rest : List ℕ) → is_mark b ≡ false → space_len (b ∷ rest) ≡ 0 → drop_ends (b ∷ rest) ≡ b ∷ rest
+unfolding after_ends
+ends-stop b rest h k = rw (h, k, after_ends) refl
+
+pub ends-space : (b : ℕ) (rest : List ℕ) (n : ℕ) → is_mark b ≡ false → space_len (b ∷ rest) ≡ suc n → drop_ends (b ∷ rest) ≡ drop_ends (drop n rest)
+unfolding after_ends
+ends-space b rest n h k = rw (h, k, after_ends) (after_ends-drop n rest)
+
+pub mark-dark : (b : ℕ) (rest : List ℕ) → is_mark b ≡ true → space_len (b ∷ rest) ≡ 0
+mark-dark b rest h = solid-dark (b ∷ rest) (grind (arith, nat_tests))
+
+pub ends-more : (text : List ℕ) → 0 < space_len text → drop_ends (drop (space_len text) text) ≡ drop_ends text
+ends-more text some = grind (arith, nat_tests, common_steps, space_len-nil, mark-dark, ends-space)
+
+pub ends-none : (text : List ℕ) → begins is_mark text ≡ false → space_len text ≡ 0 → drop_ends text ≡ text
+unfolding after_ends
+ends-none text h k = grind (arith, nat_tests, common_steps)
+
+-- a character
+ends-white : (c : ℕ) (rest : List ℕ) → is_whitespace c ≡ true → drop_ends (encode_utf8 c ++ rest) ≡ drop_ends rest
+ends-white c rest h =
+    let size = space_len-white c rest h in
+    let some : 0 < space_len (encode_utf8 c ++ rest) = omega (arith, size, (len_utf8_bounds c).0) in
+    sym (ends-more (encode_utf8 c ++ rest) some)
+    ∙ ap drop_ends (ap (λ n. drop n (encode_utf8 c ++ rest)) size ∙ drop_at (encode_utf8 c) rest (len_utf8 c) (length-encode c))
+
+mark-ascii : (c : ℕ) → is_mark c ≡ true → c < 128
+mark-ascii c h = grind (arith, nat_tests)
+
+abbrev is_end : ℕ → Bool
+is_end c = is_mark c || is_whitespace c
+
+ends-char : (c : ℕ) (rest : List ℕ) → is_end c ≡ true → drop_ends (encode_utf8 c ++ rest) ≡ drop_ends rest
+ends-char c rest h = grind (arith, nat_tests, common_steps, encode_ascii, mark-ascii, ends-mark, ends-white)
+
+ends-dark : (c : ℕ) (rest : List ℕ) → is_end c ≡ false → drop_ends (encode_utf8 c ++ rest) ≡ encode_utf8 c ++ rest
+ends-dark c rest h =
+    let none : is_whitespace c ≡ false = grind arith in
+    let other : is_mark c ≡ false = grind arith in
+    ends-none (encode_utf8 c ++ rest) (first (encode_utf8 c ++ rest) refl other) (space_len-dark c rest none)
+  where
+    first : (text : List ℕ) → encode_utf8 c ++ rest ≡ text → is_mark c ≡ false → begins is_mark text ≡ false
+    first [] e other = refl
+    first (b ∷ text) e other = elim (cases_Bool (is_mark b)) [
+      | inr plain ↦ plain
+      | inl mark ↦
+          let same = encode_same c b rest text (e ∙ rw (encode_ascii b (mark-ascii b mark)) refl) in
+          cc (mark, other, same.0)
+    ]
+
+-- what is passed
+pub record EndsAt (text : List ℕ) : Type 0 where
+  pub characters : List ℕ
+  pub each : list_all is_end characters ≡ true
+  pub split : text ≡ encode_utf8_all characters ++ drop_ends text
+  pub utf8 : IsUtf8 (drop_ends text)
+
+ends-from : (cs text : List ℕ) → IsUtf8 text → encode_utf8_all cs ≡ text → EndsAt text
+unfolding after_ends
+ends-from [] text u e = rw (← e) (record { characters = []; each = refl; split = refl; utf8 = rw (← e) at u })
+ends-from (c ∷ cs) text u e =
+    let rest = encode_utf8_all cs in
+    elim (cases_Bool (is_end c)) [
+      | inr other ↦ grind (arith, ends-dark)
+      | inl passed ↦
+          let step : drop_ends text ≡ drop_ends rest = ap drop_ends (sym e) ∙ ends-char c rest passed in
+          let r = ends-from cs rest (IsUtf8-past_char text rest c u (sym e)) refl in
+          record { characters = c ∷ r.characters; each = rw passed r.each; split = grind (arith, nat_tests, common_steps); utf8 = rw step r.utf8 }
+    ]
+
+pub ends-found : (text : List ℕ) → IsUtf8 text → EndsAt text
+ends-found text u = ends-from u.0 text u u.1.1
+
+pub ends-read : (cs u : List ℕ) → list_all is_end cs ≡ true → begins is_mark u ≡ false → space_len u ≡ 0 → drop_ends (encode_utf8_all cs ++ u) ≡ u
+ends-read [] u h other dark = ends-none u other dark
+ends-read (c ∷ cs) u h other dark = grind (arith, nat_tests, common_steps, and_parts, append_assoc, ends-char, ends-read cs u)
+
+-- ---- an end: what is written is read
+
+component-dark : (u : List ℕ) → begins_component u ≡ true → space_len u ≡ 0
+component-dark u h = solid-dark u (component-solid u h)
+
+pub marks-passed : (a u : List ℕ) → AreMarks a → begins_component u ≡ true → drop_ends (a ++ u) ≡ u
+marks-passed a u h k = rw h.1 (ends-read h.0 u h.2 (grind (arith, nat_tests)) (component-dark u k))
+
+pub end-read : (loose : Bool) (free : Partial → Bool) (a x rest : List ℕ) (p : Partial) → AreMarks a → (free p || are_whole_marks loose a) ≡ true
+    → IsPartial loose x p → begins is_solid rest ≡ false → end_front loose free (a ++ (x ++ rest)) ≡ Some ((p, a ++ x), rest)
+unfolding end_front
+end-read loose free a x rest p h w k quiet = grind (arith, nat_tests, common_steps, append_assoc, front-text, marks-passed, partial-begins, partial-read)
+
+-- ---- an end: what is read is written
+
+pub record EndAt (loose : Bool) (free : Bool) (text : List ℕ) (p : Partial) (taken rest : List ℕ) : Type 0 where
+  pub marks : List ℕ
+  pub piece : List ℕ
+  pub split : text ≡ marks ++ (piece ++ rest)
+  pub are : AreMarks marks
+  pub fits : (free || are_whole_marks loose marks) ≡ true
+  pub is : IsPartial loose piece p
+  pub text_is : taken ≡ marks ++ piece
+
+pub end-found : (loose : Bool) (free : Partial → Bool) (text : List ℕ) (e : Ended × List ℕ) → IsUtf8 text → end_front loose free text ≡ Some e
+    → EndAt loose (free e.0.0) text e.0.0 e.0.1 e.1
+unfolding end_front
+end-found loose free text e u h =
+    let ends = ends-found text u in
+    let behind = drop_ends text in
+    let marks = encode_utf8_all ends.characters in
+    let p = bind_some (partial_front loose behind) (λ p. ended_end loose free text behind p) e h in
+    let front = take (length text - length behind) text in
+    let taken = take (length text - length p.0.1) text in
+    let t = cond_some (free p.0.0 || are_whole_marks loose front) ((p.0.0, taken), p.0.1) e p.2 in
+    let part = partial-found loose behind p.0.0 p.0.1 p.1 in
+    let whole : text ≡ marks ++ (part.piece ++ p.0.1) = ends.split ∙ ap (λ (t : List ℕ). marks ++ t) part.split in
+    let front_is : front ≡ marks = ap (λ (t : List ℕ). take (length t - length behind) t) ends.split ∙ front-text marks behind in
+    let taken_is = front-text (marks ++ part.piece) p.0.1 in
+    let fits = subst (λ (x : List ℕ). (free p.0.0 || are_whole_marks loose x) ≡ true) front_is t.0 in
+    let are : AreMarks marks = (ends.characters, refl, ends.each) in
+    grind (arith, nat_tests, common_steps, append_assoc)
+
+-- ---- what stands between the ends
+
+pub dash-read : (blank z : List ℕ) → IsBlank blank → 0 < length blank → 0 < space_len z → after_dash (blank ++ (45 ∷ z)) ≡ Some (drop_spaces z)
+dash-read blank z h some after = grind (arith, nat_tests, common_steps, blank-space, solid-dark, blank-skipped)
+
+record DashAt (text second : List ℕ) : Type 0 where
+  blank : List ℕ
+  gap : List ℕ
+  split : text ≡ blank ++ (45 ∷ (gap ++ second))
+  blank_is : IsBlank blank
+  gap_is : IsBlank gap
+  some : 0 < length blank
+  more : 0 < length gap
+  utf8 : IsUtf8 second
+
+space-taken : (text rest : List ℕ) → after_some_space text ≡ Some rest → (0 < space_len text) × (drop_spaces text ≡ rest)
+space-taken text rest h = grind (arith, nat_tests)
+
+dash-found : (text second : List ℕ) → IsUtf8 text → after_dash text ≡ Some second → DashAt text second
+dash-found text second u h =
+    let d = bind_some (after_some_space text) _ second h in
+    let g = bind_some (after_byte 45 d.0) after_some_space second d.2 in
+    let first = space-taken text d.0 d.1 in
+    let last = space-taken g.0 second g.2 in
+    let dash = byte-is 45 d.0 g.0 g.1 in
+    let x = blank-at text u in
+    let gap_utf8 = tail-utf8 45 g.0 (omega arith) (subst (λ (t : List ℕ). IsUtf8 t) (first.1 ∙ dash) x.utf8) in
+    let y = blank-at g.0 gap_utf8 in
+    let some = blank-some text x.blank x.split first.0 in
+    let more = blank-some g.0 y.blank y.split last.0 in
+    grind (arith, nat_tests, common_steps)
+
+-- ---- hyphen ranges
+
+pub hyphen-found : (loose : Bool) (include : Bool) (text : List ℕ) (e : Ended × Ended) → IsUtf8 text → hyphen_ends loose include text ≡ Some e
+    → IsAlternative loose include text (hyphen_comparisons include e)
+unfolding hyphen_ends
+hyphen-found loose include text e u h =
+    let free = is_free_upper include in
+    let a = bind_some (end_front loose is_free_lower text) _ e h in
+    let second = bind_some (after_dash a.0.1) _ e a.2 in
+    let b = bind_some (last_end loose free second.0) (λ b. Some (a.0.0, b)) e second.2 in
+    let l = bind_some (end_front loose free second.0) _ b.0 b.1 in
+    let ended = cond_some (is_empty l.0.1) l.0.0 b.0 l.2 in
+    let lower = end-found loose is_free_lower text a.0 u a.1 in
+    let space = bind_some (after_some_space a.0.1) _ second.0 second.1 in
+    let boundary = space-boundary a.0.1 (space-taken a.0.1 space.0 space.1).0 in
+    let front = lower.marks ++ lower.piece in
+    let whole : text ≡ front ++ a.0.1 = lower.split ∙ sym (append_assoc lower.marks lower.piece a.0.1) in
+    let v = rest-utf8 front a.0.1 (subst (λ (t : List ℕ). IsUtf8 t) whole u) boundary in
+    let dash = dash-found a.0.1 second.0 v second.1 in
+    let upper = end-found loose free second.0 l.0 dash.utf8 l.1 in
+    let none = empty-is l.0.1 ended.0 in
+    let last = append-nil upper.piece in
+    let is = hyphen lower.marks lower.piece dash.blank dash.gap upper.marks upper.piece a.0.0.0 l.0.0.0 lower.are lower.fits lower.is dash.blank_is
+    dash.some dash.gap_is dash.more upper.are upper.fits upper.is in
+    grind (arith, nat_tests, common_steps)
+
+-- ---- marks are no whitespace
+
+pub whole-dark : (loose : Bool) (b u : List ℕ) → are_whole_marks loose b ≡ true → begins_component u ≡ true → space_len (b ++ u) ≡ 0
+whole-dark loose b u h k = grind (arith, nat_tests, common_steps, component-dark, mark-dark, and_parts)
+
+pub marks_all : (text : List ℕ) (at : ℕ) → at ≡ marks_len text → list_all is_mark (take at text) ≡ true
+marks_all text at e = rw e (prefix-all is_mark text)
+
+-- what stands behind marks is a text
+pub marks-utf8 : (text : List ℕ) → IsUtf8 text → IsUtf8 (drop (marks_len text) text)
+marks-utf8 [] u = u
+marks-utf8 (c ∷ rest) u = elim (cases_Bool (is_mark c)) [
+  | inr other ↦ rw other u
+  | inl mark ↦
+      let low : c < 128 = grind (arith, nat_tests, common_steps) in
+      let more : 1 + prefix_len is_mark rest ≡ suc (prefix_len is_mark rest) = omega arith in
+      rw (mark, more) (marks-utf8 rest (IsUtf8-drop (c ∷ rest) 1 u (IsCharBoundary-after_ascii (c ∷ rest) 0 u (omega arith) low)))
+]
+
+word-limited : (loose : Bool) (limit : ℕ) (s : Sign × List ℕ) (o : Front Partial) → limited_word limit (marked_word loose s o) ≡ marked_word loose s (limited limit o)
+word-limited loose limit s None = refl
+word-limited loose limit s (Some p) = grind (arith, nat_tests, common_steps)
+
+-- the word of a sign and of the partial that was read behind the marks
+pub word_here : (loose : Bool) (text : List ℕ) (s : Sign × List ℕ) (at : ℕ) (o : Front Partial) → s ≡ npm_sign text → at ≡ marks_len s.1
+    → o ≡ counted_front loose MAX_SAFE_INTEGER (take (length s.1 - at) (drop at s.1)) → marked_word loose s o ≡ limited_word MAX_SAFE_INTEGER (signed_word loose text)
+unfolding signed_word
+word_here loose text s at o e is read = grind (arith, nat_tests, common_steps, take_rest, counted_limited, word-limited)
+
+-- what stands behind a partial is no longer than the text
+pub places-le : (loose : Bool) (limit : ℕ) (text : List ℕ) (p : Partial) (rest : List ℕ) → Some (p, rest) ≡ counted_places loose limit text
+    → length rest ≤ length text
+places-le loose limit text p rest h = go (places_front loose text) refl (h ∙ places-limited loose limit text)
+  where
+    go : (o : Front Partial) → places_front loose text ≡ o → Some (p, rest) ≡ limited limit o → length rest ≤ length text
+    go None e k = cc k
+    go (Some q) e k =
+        let same = cond_some (is_small limit q.0) q (p, rest) (sym k) in
+        let at_partial = places-found loose text q.0 q.1 e in
+        omega (arith, ap length at_partial.split, length-append at_partial.piece q.1, ap (λ (x : Partial × List ℕ). length x.1) same.1)
+
+pub partial-le : (loose : Bool) (limit : ℕ) (text : List ℕ) (p : Partial) (rest : List ℕ) → Some (p, rest) ≡ counted_front loose limit text → length rest ≤ length text
+partial-le loose limit text p rest h = go (counted_places loose limit text) refl h
+  where
+    go : (o : Front Partial) → counted_places loose limit text ≡ o → Some (p, rest) ≡ short_only loose text o → length rest ≤ length text
+    go None e k = cc k
+    go (Some q) e k =
+        let same = cond_some (is_short loose (take (length text - length q.1) text)) q (p, rest) (sym k) in
+        places-le loose limit text p rest (sym (e ∙ ap (λ (x : Partial × List ℕ). Some x) same.1))
+
+pub behind-le : (loose : Bool) (limit : ℕ) (text : List ℕ) (at : ℕ) (p : Partial) (rest : List ℕ)
+    → Some (p, rest) ≡ counted_front loose limit (take (length text - at) (drop at text)) → length rest ≤ length text
+behind-le loose limit text at p rest h = grind (arith, nat_tests, common_steps, partial-le, take_rest, length-drop)
+
+-- ---- malformed words
+
+pub not-loose : (loose : Bool) (text : List ℕ) → loose ≡ false → ignored_front loose text ≡ None
+unfolding ignored_front
+not-loose loose text h = rw h refl
+
+pub no-boundary : (loose : Bool) (text : List ℕ) (at : ℕ) (ends : Bool) → at ≡ prefix_len is_visible text
+    → ends ≡ is_boundary (take (length text - at) (drop at text)) → ends ≡ false → ignored_front loose text ≡ None
+unfolding ignored_front
+no-boundary loose text at ends e h k =
+    let none : is_boundary (drop (prefix_len is_visible text) text) ≡ false =
+    ap (λ (n : ℕ). is_boundary (drop n text)) (sym e) ∙ ap is_boundary (sym (take_rest text at)) ∙ sym h ∙ k in
+    rw none (no-ending loose (begins_malformed text) (drop (prefix_len is_visible text) text))
+  where
+    no-ending : (a b : Bool) (rest : List ℕ)
+        → ◌≡◌ {A = Front Signed} (if a && (b && false) then Some ((compared equal, wildcard, []), rest) else None) None
+    no-ending a b rest = grind arith
+
+pub ignored-here : (loose : Bool) (text : List ℕ) (at : ℕ) (ends : Bool) → loose ≡ true → begins_malformed text ≡ true
+    → at ≡ prefix_len is_visible text → ends ≡ is_boundary (take (length text - at) (drop at text)) → ends ≡ true
+    → ◌≡◌ {A = Front Signed} (Some ((compared equal, wildcard, []), take (length text - at) (drop at text))) (ignored_front loose text)
+unfolding ignored_front
+ignored-here loose text at ends l m e h k = grind (arith, nat_tests, common_steps)
+
+any-limited : (loose : Bool) (text : List ℕ)
+    → limited_word MAX_SAFE_INTEGER (any_word loose text) ≡ or_else (ignored_front loose text) (limited_word MAX_SAFE_INTEGER (signed_word loose text))
+unfolding any_word ignored_front
+any-limited loose text = grind (arith, nat_tests, common_steps)
+
+-- the malformed word that is there, or else a well-formed one
+pub any-ignored : (loose : Bool) (text : List ℕ) (o : Option (Runtime.Signed × Bor (List ℕ))) → signed_front_view o ≡ ignored_front loose text
+    → is_some o ≡ true → signed_front_view o ≡ limited_word MAX_SAFE_INTEGER (any_word loose text)
+any-ignored loose text o e h = grind (arith, nat_tests, common_steps, any-limited)
+
+pub any-signed : (loose : Bool) (text : List ℕ) (o : Option (Runtime.Signed × Bor (List ℕ))) (r : Front Signed)
+    → signed_front_view o ≡ ignored_front loose text → is_some o ≡ false
+    → r ≡ limited_word MAX_SAFE_INTEGER (signed_word loose text) → r ≡ limited_word MAX_SAFE_INTEGER (any_word loose text)
+any-signed loose text o r e h k = grind (arith, nat_tests, common_steps, any-limited)
+
+pub ruleset marks_found = (marks_all)
+
+-- ---- the identifiers of the partials that are read are in normal form
+
+pre-normal : (loose wild : Bool) (fits : List ℕ → Bool) (text : List ℕ) (ids : List Id) → IsPreRelease loose wild fits text ids → list_all is_normal ids ≡ true
+pre-normal loose wild fits text ids h = grind (arith, nat_tests, common_steps, identifiers-normal)
+
+build-normal : (text : List ℕ) (ids : List Id) → IsStrictBuild text ids → list_all is_normal ids ≡ true
+build-normal text ids no_build = refl
+build-normal text ids (plus t list h) = identifiers-normal t list h
+
+places-normal : (loose : Bool) (text : List ℕ) (p : Partial) → IsPlaces loose text p → are_normal p ≡ true
+places-normal loose text p h = grind (arith, nat_tests, common_steps, pre-normal, build-normal)
+
+pub partial-normal : (loose : Bool) (text : List ℕ) (p : Partial) → IsPartial loose text p → are_normal p ≡ true
+partial-normal loose text p h = places-normal loose text p h.0
+
+front-normal : (loose : Bool) (text : List ℕ) (p : Partial × List ℕ) → partial_front loose text ≡ Some p → are_normal p.0 ≡ true
+front-normal loose text p h = let found = partial-found loose text p.0 p.1 h in partial-normal loose found.piece p.0 found.is
+
+-- ---- words
+
+signed-normal : (loose : Bool) (text : List ℕ) (w : Signed × List ℕ) → signed_word loose text ≡ Some w → are_normal w.0.1 ≡ true
+unfolding signed_word
+signed-normal loose text w h = grind (arith, nat_tests, common_steps, cond_some, front-normal)
+
+pub word-normal : (loose : Bool) (text : List ℕ) (w : Signed × List ℕ) → limited_word MAX_SAFE_INTEGER (any_word loose text) ≡ Some w → are_normal w.0.1 ≡ true
+unfolding any_word ignored_front
+word-normal loose text w h = grind (arith, nat_tests, common_steps, cond_some, signed-normal)
+
+-- ---- the ends of a hyphen range
+
+limited-normal : (loose : Bool) (free : Partial → Bool) (text : List ℕ) (e : Ended × List ℕ) → limited_end MAX_SAFE_INTEGER (end_front loose free text) ≡ Some e
+    → are_normal e.0.0 ≡ true
+unfolding end_front
+limited-normal loose free text e h = grind (arith, nat_tests, common_steps, cond_some, front-normal)
+
+last-normal : (loose : Bool) (include : Bool) (text : List ℕ) (e : Ended) → last_limited loose MAX_SAFE_INTEGER include text ≡ Some e → are_normal e.0 ≡ true
+last-normal loose include text e h = grind (arith, nat_tests, common_steps, cond_some, limited-normal)
+
+pub hyphen-normal : (loose : Bool) (include : Bool) (text : List ℕ) (e : Ended × Ended) → hyphen_of loose MAX_SAFE_INTEGER include text ≡ Some e
+    → (are_normal e.0.0 ≡ true) × (are_normal e.1.0 ≡ true)
+hyphen-normal loose include text e h = grind (arith, limited-normal, last-normal)
+
+-- ---- the hyphen ranges that the code reads are those whose numbers are up to the limit
+
+-- ---- marks and whitespace
+
+pub ends_stop : (text : List ℕ) → end_len text ≡ 0 → drop_ends text ≡ text
+unfolding after_ends
+ends_stop text h = grind (arith, nat_tests, common_steps)
+
+pub ends_step : (text : List ℕ) (len : ℕ) → len ≡ end_len text → 0 < len → drop_ends (drop len text) ≡ drop_ends text
+ends_step text len e some = grind (arith, nat_tests, common_steps, ends-mark, ends-more)
+
+ends_le-from : (n : ℕ) (text : List ℕ) → length (after_ends n text) ≤ length text
+unfolding after_ends
+ends_le-from n [] = omega arith
+ends_le-from (suc n) (b ∷ rest) = omega (arith, ends_le-from n rest)
+ends_le-from zero (b ∷ rest) = elim (cases_Bool (is_mark b)) [
+  | inl mark ↦ omega (arith, ap length (ends-mark b rest mark), ends_le-from 0 rest)
+  | inr other ↦ go other (λ n. ends_le-from n rest) (space_len (b ∷ rest)) refl
+]
+  where
+    go : is_mark b ≡ false → ((n : ℕ) → length (after_ends n rest) ≤ length rest) → (n : ℕ) → space_len (b ∷ rest) ≡ n
+        → length (drop_ends (b ∷ rest)) ≤ length (b ∷ rest)
+    go other f zero e = omega (arith, ap length (ends-stop b rest other e))
+    go other f (suc n) e = omega (arith, ap length (ends-space b rest n other e ∙ sym (after_ends-drop n rest)), f n)
+
+pub ends_le : (text : List ℕ) → length (drop_ends text) ≤ length text
+ends_le text = ends_le-from 0 text
+
+-- ---- an end
+
+end-limited : (loose : Bool) (limit : ℕ) (free : Partial → Bool) (text behind : List ℕ) (o : Front Partial)
+    → limited_end limit (o >>? λ p. ended_end loose free text behind p) ≡ (limited limit o >>? λ p. ended_end loose free text behind p)
+end-limited loose limit free text behind None = refl
+end-limited loose limit free text behind (Some p) = grind (arith)
+
+pub end_here : (loose : Bool) (free : Partial → Bool) (text behind : List ℕ) (o : Front Partial) → behind ≡ drop_ends text
+    → o ≡ counted_front loose MAX_SAFE_INTEGER behind
+    → (o >>? λ p. ended_end loose free text behind p) ≡ limited_end MAX_SAFE_INTEGER (end_front loose free text)
+unfolding end_front
+end_here loose free text behind o e read = grind (arith, nat_tests, common_steps, counted_limited, end-limited)
+
+-- ---- a hyphen range
+
+pub hyphen_limited : (loose : Bool) (limit : ℕ) (include : Bool) (text : List ℕ) → hyphen_of loose limit include text ≡ limited_hyphen limit (hyphen_ends loose include text)
+unfolding hyphen_ends
+hyphen_limited loose limit include text = grind (arith, nat_tests, common_steps)
 
 -- ---- no `-` stands alone behind whitespace in words
 
@@ -248,3 +636,13 @@ alternatives_are loose limit include text ls u = (
       let cut = bars_divide text in
       grind (arith, nat_tests, common_steps, each-found, pieces-utf8),
 )
+
+pub version_once : (limit : ℕ) (text : List ℕ) (v w : VersionValue) → IsVersionText limit text v → IsVersionText limit text w → v ≡ w
+version_once limit text v w h k =
+    let same : h.1 ≡ k.1 = middle_is_trim text h.1 h.2 ∙ sym (middle_is_trim text k.1 k.2) in
+    same_Some v w (sym (strict-read-version limit h.1 v h.3) ∙ ap (λ (t : List ℕ). strict_version limit t) same ∙ strict-read-version limit k.1 w k.3)
+
+pub alternatives_once : (loose : Bool) (limit : ℕ) (include : Bool) (text : List ℕ) (a b : List (List Comparison)) → IsUtf8 text
+    → HasAlternativesIn loose limit include text a → HasAlternativesIn loose limit include text b → a ≡ b
+alternatives_once loose limit include text a b u h k =
+    same_Some a b (sym ((alternatives_are loose limit include text a u).0 h).0 ∙ ((alternatives_are loose limit include text b u).0 k).0)

@@ -1,29 +1,28 @@
 -- Common texts: what the reader of these finds are alternatives of the text, and what their comparators have in common.
-use Rattle.nodejs_semver.proofs.Common.{AllByRecursion, Bool, Bound, IfSome, IsUtf8, List, MAX_SAFE_INTEGER, Option, Some, None, Span, VersionValue}
-use Rattle.nodejs_semver.proofs.Common.{Unbounded, [], all_weaker, ap, append-nil, append_assoc, arith, begins, bind_some, codes, common_steps, drop, cond_some, release_value}
-use Rattle.nodejs_semver.proofs.Common.{cut_bars, false, has_bars, inl, inr, interval, is_empty, is_interval, length, length-append, cond_both, option_holds-interval, precedence_total, trim, IsRange}
-use Rattle.nodejs_semver.proofs.Common.{list_all, list_all-append, nat_tests, option_to_list, precedence, refl, subst, sym, take, true, ℕ}
-use Rattle.nodejs_semver.proofs.Common.{◌++◌, ◌-◌, ◌<◌, ◌∙◌, ◌∷◌, ◌≡◌, ◌≤◌, ◌⊎◌}
-use Rattle.nodejs_semver.proofs.NpmCommon.{AreRead, bounds_view, within, after_byte, are_normal, begins_wildcard, dotted_patch, dotted_place, listed, patch_place, strict_number, AcceptAsRanged, AreAlternatives, Comparison, IsCommon, IsNarrowed, IsPartial, IsPlace}
-use Rattle.nodejs_semver.proofs.NpmCommon.{IsRangeIn, compared, counted_front, is_small, is_valid, limited, lit<, no_sign, spelling}
-use Rattle.nodejs_semver.proofs.Alike.Texts.{gap-bytes, joined, no_mark, no_marks, one_blank, sign_text}
-use Rattle.nodejs_semver.proofs.Algebra.Gate.{both}
-use Rattle.nodejs_semver.specs.Internal.NpmAlternatives.{ranged}
-use Rattle.nodejs_semver.proofs.Dividing.{BarsDivide.bars_divide, MeaningLaw.pieces-utf8}
-use Rattle.nodejs_semver.proofs.Everyday.{Parts.bars-sound, Texts.{compact-trim, cut-first, cut-last}, Words.{Compact, compact-spaced, is_part_byte}}
-use Rattle.nodejs_semver.proofs.Reading.Bytes.{all-end, all-join}
-use Rattle.nodejs_semver.proofs.Strict.{Limits.{counted_limited, number_placed, over_counted, wildcard_placed}, Malformed.{is_part, partial-part}, Narrowing.both_common, WordReads.{partial-le, partial-normal}}
-use Rattle.nodejs_semver.proofs.Strict.PartialLaw.{PartialAt, partial-found}
-use Rattle.nodejs_semver.proofs.Strict.RangeReads.{found_spans, ranged_range}
-use Rattle.nodejs_semver.specs.Internal.{CommonFronts.after_bars, NpmFronts.{AreIn, AreJoined, AreParts, IsLeft, IsPartAt, IsSignAt, IsTried, IsWordAt, is_word_byte}}
-use Rattle.nodejs_semver.specs.Internal.{NpmReads.AreFound, NpmReadings.dotted_number, NpmWords.{any, is_over, number, partial_front, place_zeros, placed}}
-use Rattle.nodejs_semver.specs.Npm.{RangeText.{AreWords, IsWord}, Table.{Partial, Sign, first, major, minor, table, whole, wildcard}}
-use Rattle.nodejs_semver.specs.Text.{Common.IsGap, WordText.equal}
-use Rattle.nodejs_semver.specs.declared.readers.syntax.Bounds.{Bounds}
+use Rattle.nodejs_semver.proofs.{Algebra.Gate.both, Alike.Texts.{gap-bytes, joined, no_mark, no_marks, one_blank, sign_text}}
+use Rattle.nodejs_semver.proofs.Common.{AllByRecursion, Bool, Bound, IfSome, IsRange, IsUtf8, List, MAX_SAFE_INTEGER, None, Option, Some}
+use Rattle.nodejs_semver.proofs.Common.{Span, Unbounded, VersionValue, [], all_weaker, ap, append-nil, append_assoc, arith, begins}
+use Rattle.nodejs_semver.proofs.Common.{bind_some, codes, common_steps, cond_both, cond_some, cut_bars, drop, false, has_bars, inl, inr}
+use Rattle.nodejs_semver.proofs.Common.{interval, is_empty, is_interval, length, length-append, list_all, list_all-append, nat_tests}
+use Rattle.nodejs_semver.proofs.Common.{option_holds-interval, option_to_list, precedence, precedence_total, refl, release_value, subst}
+use Rattle.nodejs_semver.proofs.Common.{sym, take, trim, true, ℕ, ◌++◌, ◌-◌, ◌<◌, ◌∙◌, ◌∷◌, ◌≡◌, ◌≤◌, ◌⊎◌}
+use Rattle.nodejs_semver.proofs.{Dividing.{BarsDivide.bars_divide, MeaningLaw.pieces-utf8}, Everyday.Parts.bars-sound}
+use Rattle.nodejs_semver.proofs.Everyday.{Texts.{compact-trim, cut-first, cut-last}, Words.{Compact, compact-spaced, is_part_byte}}
+use Rattle.nodejs_semver.proofs.NpmCommon.{AcceptAsRanged, AreAlternatives, AreRead, Comparison, IsCommon, IsNarrowed, IsPartial, IsPlace}
+use Rattle.nodejs_semver.proofs.NpmCommon.{IsRangeIn, after_byte, are_normal, begins_wildcard, bounds_view, compared, counted_front}
+use Rattle.nodejs_semver.proofs.NpmCommon.{dotted_patch, dotted_place, is_small, is_valid, limited, listed, lit<, no_sign, patch_place}
+use Rattle.nodejs_semver.proofs.{NpmCommon.{spelling, strict_number, within}, Reading.Bytes.{all-end, all-join}}
+use Rattle.nodejs_semver.proofs.Strict.{AlternativeLaw.{partial-le, partial-normal}, Malformed.{is_part, partial-part}}
+use Rattle.nodejs_semver.proofs.Strict.PartialLaw.{PartialAt, counted_limited, number_placed, over_counted, partial-found, wildcard_placed}
+use Rattle.nodejs_semver.{proofs.Strict.{RangeReads.{found_spans, ranged_range}, Rows.both_common}, specs.Internal.CommonFronts.after_bars}
+use Rattle.nodejs_semver.specs.Internal.{NpmAlternatives.ranged, NpmFronts.{AreIn, AreJoined, AreParts, IsLeft, IsPartAt, IsSignAt}}
+use Rattle.nodejs_semver.specs.Internal.{NpmFronts.{IsTried, IsWordAt, is_word_byte}, NpmReadings.dotted_number, NpmReads.AreFound}
+use Rattle.nodejs_semver.specs.{Internal.NpmWords.{any, is_over, number, partial_front, place_zeros, placed}, Npm.RangeText.AreWords}
+use Rattle.nodejs_semver.specs.Npm.{RangeText.IsWord, Table.{Partial, Sign, first, major, minor, table, whole, wildcard}}
+use Rattle.nodejs_semver.specs.{Text.{Common.IsGap, WordText.equal}, declared.readers.syntax.Bounds.Bounds}
+use Rattle.std.proofs.Math.Seq.{take-append_seam}
 use Rattle.nodejs_semver.specs.Internal.NpmFronts as Front
 use Rattle.nodejs_semver.specs.Npm.RangeText as Npm
-use Rattle.std.proofs.Math.Seq.{take-append_seam}
-use Rattle.nodejs_semver.proofs.NpmCommon.{IsPlaces}
 
 -- ---- a word
 
@@ -33,22 +32,13 @@ sign-bytes s = grind (arith, nat_tests)
 piece-bytes : (x : List ℕ) (p : Partial) → IsPartial false x p → list_all is_word_byte x ≡ true
 piece-bytes x p h = all_weaker is_part is_word_byte (λ b k. grind (arith, nat_tests)) x (partial-part false x p h)
 
-place-some : (zeros : Bool) (x : List ℕ) (a : Option ℕ) → IsPlace false zeros x a → 0 < length x
-place-some zeros x a (Npm.any b h) = lit< tt
-place-some zeros x a (Npm.number digits n k spelled short) = k.some
-
 piece-some : (x : List ℕ) (p : Partial) → IsPlaces false x p → 0 < length x
-piece-some x p h = grind (arith, place-some)
+piece-some x p h = grind (arith)
 
 -- the partial that is read at the front
 piece-at : (text : List ℕ) (p : Partial) (rest : List ℕ) → Some (p, rest) ≡ counted_front false MAX_SAFE_INTEGER text → PartialAt false text p rest
-piece-at text p rest h = go (partial_front false text) refl (h ∙ counted_limited false MAX_SAFE_INTEGER text)
-  where
-    go : (o : Option (Partial × List ℕ)) → partial_front false text ≡ o → Some (p, rest) ≡ limited MAX_SAFE_INTEGER o → PartialAt false text p rest
-    go None e k = cc k
-    go (Some q) e k =
-        let same = cond_some (is_small MAX_SAFE_INTEGER q.0) q (p, rest) (sym k) in
-        partial-found false text p rest (e ∙ ap (λ (x : Partial × List ℕ). Some x) same.1)
+piece-at text p rest h =
+    grind (arith, nat_tests, common_steps, counted_limited, cond_some, partial-found)
 
 -- the text of that partial, as it is cut out
 piece-cut : (text : List ℕ) (p : Partial) (rest : List ℕ) (f : PartialAt false text p rest) → take (length text - length rest) text ≡ f.piece
@@ -90,17 +80,9 @@ word-shorter text p rest h = partial-le false MAX_SAFE_INTEGER text p rest h
 pub word-normal : (text : List ℕ) (p : Partial) (rest : List ℕ) → Some (p, rest) ≡ counted_front false MAX_SAFE_INTEGER text → are_normal p ≡ true
 word-normal text p rest h = let f = piece-at text p rest h in partial-normal false f.piece p f.is
 
-small-within : (p : Partial) → is_small MAX_SAFE_INTEGER p ≡ true → within (first p) ≡ true
-small-within p h = grind (arith, nat_tests, common_steps)
-
 pub word-within : (text : List ℕ) (p : Partial) (rest : List ℕ) → Some (p, rest) ≡ counted_front false MAX_SAFE_INTEGER text → within (first p) ≡ true
-word-within text p rest h = go (partial_front false text) (h ∙ counted_limited false MAX_SAFE_INTEGER text)
-  where
-    go : (o : Option (Partial × List ℕ)) → Some (p, rest) ≡ limited MAX_SAFE_INTEGER o → within (first p) ≡ true
-    go None k = cc k
-    go (Some q) k =
-        let same = cond_some (is_small MAX_SAFE_INTEGER q.0) q (p, rest) (sym k) in
-        small-within p (ap (λ (x : Partial × List ℕ). is_small MAX_SAFE_INTEGER x.0) (sym same.1) ∙ same.0)
+word-within text p rest h =
+    grind (arith, nat_tests, common_steps, counted_limited, cond_some)
 
 pub ruleset words_found = (word-normal, word-shorter, word-within)
 
@@ -375,12 +357,7 @@ text-at include text ss u h = all-at include text [] ss (inl refl) h (pieces-utf
 pub common-range : (include : Bool) (text : List ℕ) (found range : List (Span VersionValue)) → IsUtf8 text → AreParts include text found
     → AcceptAsRanged found range → IsRangeIn false MAX_SAFE_INTEGER include text range
 common-range include text found range u h a =
-    let k = text-at include text found u h in
-    record {
-      alternatives = k.alternatives;
-      has = record { parts = cut_bars false text; divided = bars_divide text; each = k.each; some = k.some; valid = k.valid };
-      accepted = λ v. a include k.alternatives k.found.intervals k.found.narrowed k.found.are v;
-    }
+    grind (arith, nat_tests, common_steps, text-at, cut_bars, bars_divide)
 
 pub common-spans : (include : Bool) (text : List ℕ) (found range : List (Span VersionValue)) → IsUtf8 text → AreParts include text found
     → range ≡ ranged found → IsRange MAX_SAFE_INTEGER range

@@ -1,23 +1,20 @@
 -- The malformed words that are ignored are no well-formed ones.
-use Rattle.nodejs_semver.proofs.Common.{Bool, Id, IsBlank, IsIdentifiers, List, Option, Some, [], all_weaker, and-false}
-use Rattle.nodejs_semver.proofs.Common.{and_parts, ap, append-nil, append_assoc, arith, begins, cases_Bool, common_steps, drop, drop_all}
-use Rattle.nodejs_semver.proofs.Common.{encode_utf8, encode_utf8_all, ends, equal, false, get_or, inl, inr, is_ascii_digit, is_boundary}
-use Rattle.nodejs_semver.proofs.Common.{is_empty, is_identifier_char, is_whitespace, le-ltb, length, length-drop, list_all, list_all-append}
-use Rattle.nodejs_semver.proofs.Common.{list_any, lt-ltb, nat_tests, not, pieces, prefix_len, refl, space_len, suc, sym, take}
-use Rattle.nodejs_semver.proofs.Common.{take-append-drop, true, zero, ℕ, ◌&&◌, ◌++◌, ◌+◌, ◌-◌, ◌<◌, ◌==◌, ◌||◌, ◌∙◌, ◌∷◌, ◌≡◌, ◌≤◌, ◌⊎◌}
-use Rattle.nodejs_semver.proofs.NpmCommon.{IsPartial, IsPlace, IsPlaces, IsSignText, IsStrictBuild, bare, begins_malformed, bytes_eq}
-use Rattle.nodejs_semver.proofs.NpmCommon.{caret_equal, compared, dashed, encode_ascii, has_zeros, ignored_front, is_malformed, is_mark}
-use Rattle.nodejs_semver.proofs.NpmCommon.{is_none, is_visible, late_above, late_below, no_build, no_pre_release, no_sign, one, or-true}
-use Rattle.nodejs_semver.proofs.NpmCommon.{plus, runs_tail, sign, spelling, tail_runs, take_while, three, tilde_twice, two}
-use Rattle.nodejs_semver.proofs.Reading.Bytes.{all-end, all-join, begins_component, ends-append, ends-some}
-use Rattle.nodejs_semver.{proofs.Strict.Places.prefix-all, specs.{Internal.Fronts.is_wildcard, Npm.Grammar.IsPreRelease}}
-use Rattle.nodejs_semver.specs.Internal.NpmMalformed.{behind_sign, is_inner}
-use Rattle.nodejs_semver.specs.Npm.Malformed.{are_places, is_first, is_last, is_regular, is_sign}
-use Rattle.nodejs_semver.specs.Npm.{RangeText.tilde_sign, Table.{Partial, Sign}}
-use Rattle.nodejs_semver.proofs.{Common.{if◌then◌else◌, nat_lt, onto_first, take_all}, NpmCommon.nat_le}
-use Rattle.std.proofs.lemmas.List.Sums.{suffix_len-take_no, suffix_len-take_yes}
-use Rattle.std.specs.List.{suffix_len}
+use Rattle.nodejs_semver.proofs.Common.{Bool, Id, IsBlank, IsIdentifiers, List, Option, Some, [], all_weaker, and-false, and_parts, ap}
+use Rattle.nodejs_semver.proofs.Common.{append-nil, append_assoc, arith, begins, cases_Bool, common_steps, drop, drop_all, encode_utf8}
+use Rattle.nodejs_semver.proofs.Common.{encode_utf8_all, ends, equal, false, get_or, if◌then◌else◌, inl, inr, is_ascii_digit, is_boundary}
+use Rattle.nodejs_semver.proofs.Common.{is_empty, is_identifier_char, is_whitespace, le-ltb, length, length-drop, list_all}
+use Rattle.nodejs_semver.proofs.Common.{list_all-append, list_any, lt-ltb, nat_lt, nat_tests, not, onto_first, pieces, prefix_len, refl}
+use Rattle.nodejs_semver.proofs.Common.{space_len, suc, sym, take, take-append-drop, take_all, true, zero, ℕ, ◌&&◌, ◌++◌, ◌+◌, ◌-◌, ◌<◌}
+use Rattle.nodejs_semver.proofs.{Common.{◌==◌, ◌||◌, ◌∙◌, ◌∷◌, ◌≡◌, ◌≤◌, ◌⊎◌}, NpmCommon.{IsPartial, IsPlace, IsSignText, IsStrictBuild}}
+use Rattle.nodejs_semver.proofs.NpmCommon.{bare, begins_malformed, bytes_eq, caret_equal, compared, dashed, encode_ascii, has_zeros}
+use Rattle.nodejs_semver.proofs.NpmCommon.{ignored_front, is_malformed, is_mark, is_visible, late_above, late_below, may_stand, nat_le}
+use Rattle.nodejs_semver.proofs.NpmCommon.{no_build, no_pre_release, no_sign, one, or-true, plus, runs_tail, sign, spelling, tail_runs}
+use Rattle.nodejs_semver.proofs.{NpmCommon.{take_while, three, tilde_twice, two}, Reading.Bytes.{all-end, all-join, begins_component}}
+use Rattle.nodejs_semver.{proofs.{Reading.Bytes.{ends-append, ends-some}, Strict.PartialLaw.prefix-all}, specs.Internal.Fronts.is_wildcard}
+use Rattle.nodejs_semver.specs.{Internal.NpmMalformed.{behind_sign, is_inner}, Npm.{Grammar.IsPreRelease, Malformed.are_places}}
+use Rattle.nodejs_semver.specs.Npm.{Malformed.{is_first, is_last, is_regular, is_sign}, RangeText.tilde_sign, Table.{Partial, Sign}}
 use Rattle.semver_core.{proofs.Text.{Listed.plain_runs, Pieces.tail_onto}, specs.Internal.CommonReading.is_plain}
+use Rattle.std.{proofs.lemmas.List.Sums.{suffix_len-take_no, suffix_len-take_yes}, specs.List.suffix_len}
 use Rattle.nodejs_semver.specs.Npm.RangeText as Text
 
 -- ---- the characters of partials
@@ -205,16 +202,13 @@ behind-drop (b ∷ c ∷ w) = grind (arith, nat_tests)
 abbrev is_unsigned : ℕ → Bool
 is_unsigned b = not (is_sign b) || b == 61
 
-one-sign : (b : ℕ) (v : List ℕ) → list_all is_unsigned v ≡ true → list_all is_unsigned (behind_sign (b ∷ v)) ≡ true
-one-sign b v h = grind (arith, nat_tests, common_steps, and_parts)
-
 -- whitespace that is signs is none
 blank-none : (y : List ℕ) → IsBlank y → list_all is_sign y ≡ true → y ≡ []
 blank-none [] h k = refl
 blank-none (b ∷ y) h k = grind (arith, nat_tests, and_parts, blank-dark (b ∷ y) h)
 
 spelling-one : (s : Sign) (v : List ℕ) → list_all is_unsigned v ≡ true → list_all is_unsigned (behind_sign (spelling s ++ v)) ≡ true
-spelling-one s v h = grind (arith, nat_tests, common_steps, one-sign)
+spelling-one s v h = grind (arith, nat_tests, common_steps, and_parts)
 
 all-front : (u v : List ℕ) → list_all is_sign (u ++ v) ≡ true → (list_all is_sign u ≡ true) × (list_all is_sign v ≡ true)
 all-front u v h = and_parts (list_all is_sign u) (list_all is_sign v) (sym (list_all-append is_sign u v) ∙ h)

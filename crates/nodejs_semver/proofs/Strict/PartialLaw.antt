@@ -1,18 +1,156 @@
--- Partial versions of node-semver's range texts: the function that reads them finds exactly what the statement has.
-use Rattle.nodejs_semver.proofs.Common.{Bool, Front, Id, List, None, Option, Some, [], and_parts, append_assoc, arith, begins, bind_some}
-use Rattle.nodejs_semver.proofs.Common.{cases_Bool, common_steps, drop, false, inl, inr, is_ascii_digit, is_boundary, nat_tests, refl, true}
-use Rattle.nodejs_semver.proofs.{Common.{ℕ, ◌&&◌, ◌++◌, ◌∷◌, ◌≡◌}, NpmCommon.{IsPartial, IsPlace, IsStrictBuild, build_front, dotted_patch}}
-use Rattle.nodejs_semver.proofs.NpmCommon.{IsPlaces, begins_undashed, dotted_place, has_zeros, is_none, is_short, may_stand, one}
-use Rattle.nodejs_semver.proofs.NpmCommon.{partial_of, pre_front, qualified_partial}
-use Rattle.nodejs_semver.proofs.{NpmCommon.{second_front, third_front, three, two}, Reading.Bytes.{is_solid, solid-dark}}
-use Rattle.nodejs_semver.proofs.Strict.Places.{dotted_patch-found, dotted_place-found, dotted_place-read, patch-read, place-found}
-use Rattle.nodejs_semver.proofs.Strict.{Places.place-read, Qualifiers.{Ends, build-found, build-taken, ends-nil, pre-follows, pre-found}}
-use Rattle.nodejs_semver.{proofs.Strict.Qualifiers.pre-taken, specs.Internal.NpmWords.{are_short_builds, partial_front}}
-use Rattle.{nodejs_semver.specs.Npm.{Grammar.IsPreRelease, Table.Partial}, semver_core.proofs.Text.Runs.list_len_stop}
-use Rattle.nodejs_semver.proofs.Common.{take, length, length-append, take_at, cond_some, ap, sym, ◌-◌, ◌∙◌}
-use Rattle.nodejs_semver.specs.Internal.NpmWords.{places_front, short_only}
-use Rattle.nodejs_semver.proofs.Strict.Places.{wild-patch}
-use Rattle.nodejs_semver.specs.Npm.RangeText.{any}
+-- Places and partial versions of node-semver's range texts: what is read is written, and what is written is read; also by the code, which passes over
+-- numbers past the limit where none counts.
+use Rattle.nodejs_semver.proofs.Common.{Bool, Front, Id, IsNumber, List, MAX_SAFE_INTEGER, None, Option, Some, [], and-false, and_parts}
+use Rattle.nodejs_semver.proofs.Common.{ap, append-nil, append_assoc, arith, begins, bind_some, cases_Bool, common_steps, drop, drop_at}
+use Rattle.nodejs_semver.proofs.Common.{false, if◌then◌else◌, inl, inr, is_ascii_digit, is_boundary, is_empty, length, list_all, nat_lt}
+use Rattle.nodejs_semver.proofs.Common.{nat_tests, not, prefix_len, refl, same_Some, subst, suc, sym, take, take-append-drop, take_at}
+use Rattle.nodejs_semver.proofs.Common.{take_rest, true, zero, ℕ, ◌&&◌, ◌++◌, ◌+◌, ◌-◌, ◌<◌, ◌==◌, ◌||◌, ◌∙◌, ◌∷◌, ◌≡◌, ◌≤◌}
+use Rattle.nodejs_semver.proofs.NpmCommon.{IsPartial, IsPlace, IsStrictBuild, after_byte, begins_byte, begins_padded, begins_wildcard}
+use Rattle.nodejs_semver.proofs.NpmCommon.{build_front, counted_front, dashed_front, digits_value, dotted_patch, dotted_place}
+use Rattle.nodejs_semver.proofs.NpmCommon.{drop-append-add, has_leading_zero, has_zeros, is_small, is_spelled, length-prefix_len, limited}
+use Rattle.nodejs_semver.proofs.NpmCommon.{listed, may_stand, most_digits, nat_le, number_front, number_of, one, or-true, partial_of}
+use Rattle.nodejs_semver.proofs.NpmCommon.{patch_place, place_front, pre_front, qualified_partial, run_place, second_front, strict_number}
+use Rattle.nodejs_semver.proofs.{NpmCommon.{take_while, third_front, three, two, ◌>>?◌}, Reading.Bytes.{is_solid, solid-dark}}
+use Rattle.nodejs_semver.proofs.Reading.{Numbers.{digits-taken, number-found, number-no_wildcard, number-of}, WordLaw.byte-is}
+use Rattle.nodejs_semver.proofs.Strict.VersionLaw.{Ends, Follows, build-found, build-taken, ends-nil, number-short, padded-same}
+use Rattle.nodejs_semver.{proofs.Strict.VersionLaw.{pre-follows, pre-found, pre-taken}, specs.Internal.NpmWords.{Place, any}}
+use Rattle.nodejs_semver.specs.Internal.NpmWords.{are_short_builds, counted, great, is_over, may_follow, number, partial_front, place_of}
+use Rattle.nodejs_semver.specs.{Internal.NpmWords.{place_zeros, placed, qualified_counted}, Npm.{Grammar.IsPreRelease, Table.Partial}}
+use Rattle.{semver_core.proofs.Text.Runs.list_len_stop, std.proofs.lemmas.List.Sums.{prefix_len-drop_all, prefix_len-drop_no}}
+use Rattle.std.proofs.lemmas.List.Sums.{prefix_len-drop_yes}
+use Rattle.nodejs_semver.specs.Npm.RangeText as Text
+
+pub ruleset prefix_steps = (prefix_len-drop_all, prefix_len-drop_no, prefix_len-drop_yes)
+
+-- ---- what is written is read
+
+pub some-run : (run : List ℕ) → 1 ≤ length run → not (is_empty run) ≡ true
+some-run run h = grind (arith, nat_tests, common_steps)
+
+pub digits-begin : (digits : List ℕ) → 0 < length digits → list_all is_ascii_digit digits ≡ true → begins is_ascii_digit digits ≡ true
+digits-begin digits some each = grind arith
+
+pub place-read : (loose zeros : Bool) (x more : List ℕ) (a : Option ℕ) → IsPlace loose zeros x a → begins is_ascii_digit more ≡ false
+    → place_front loose zeros (x ++ more) ≡ Some (a, more)
+unfolding place_front
+place-read loose zeros x more a (Text.any b h) stop = rw h refl
+place-read loose zeros x more a (Text.number digits n k spelled short) stop =
+    grind (arith, nat_tests, common_steps, number-no_wildcard, digits-begin, digits-taken, take_at, drop_at, some-run)
+
+pub dotted_place-read : (loose zeros : Bool) (x more : List ℕ) (a : Option ℕ) → IsPlace loose zeros x a → begins is_ascii_digit more ≡ false
+    → dotted_place loose zeros (46 ∷ (x ++ more)) ≡ Some (a, more)
+unfolding dotted_place
+dotted_place-read loose zeros x more a h stop = place-read loose zeros x more a h stop
+
+-- ---- what is read is written
+
+pub record PlaceAt (loose zeros : Bool) (text : List ℕ) (a : Option ℕ) (rest : List ℕ) : Type 0 where
+  pub piece : List ℕ
+  pub split : text ≡ piece ++ rest
+  pub is : IsPlace loose zeros piece a
+
+pub prefix-all : (p : ℕ → Bool) (text : List ℕ) → list_all p (take_while p text) ≡ true
+prefix-all p [] = refl
+prefix-all p (c ∷ text) = elim (cases_Bool (p c)) [
+  | inl passes ↦
+      let e : 1 + prefix_len p text ≡ suc (prefix_len p text) = omega arith in
+      rw (passes, e, passes) (prefix-all p text)
+  | inr other ↦ rw other refl
+]
+
+run-found : (loose zeros : Bool) (run rest : List ℕ) (a : Option ℕ) (left : List ℕ) → run_place loose zeros run rest ≡ Some (a, left)
+    → list_all is_ascii_digit run ≡ true → IsPlace loose zeros run a × (rest ≡ left)
+run-found loose zeros run rest a left h each =
+    let n = digits_value 10 run in
+    let fits = nat_le (length run) 257 in
+    elim (cases_Bool (not (is_empty run) && fits && is_spelled loose zeros n run)) [
+      | inr other ↦ cc (rw other at h)
+      | inl good ↦
+          let parts = and_parts (not (is_empty run) && fits) (is_spelled loose zeros n run) good in
+          let some = and_parts (not (is_empty run)) fits parts.0 in
+          let short : length run ≤ 257 = grind (arith, nat_tests) in
+          let number : IsNumber n run n = grind (arith, nat_tests, common_steps) in
+          let is : IsPlace loose zeros run (Some n) = Text.number run n number parts.1 short in
+          grind (arith, nat_tests, common_steps, same_Some)
+    ]
+
+pub place-found : (loose zeros : Bool) (text : List ℕ) (a : Option ℕ) (rest : List ℕ) → place_front loose zeros text ≡ Some (a, rest)
+    → PlaceAt loose zeros text a rest
+unfolding place_front
+place-found loose zeros [] a rest h = cc h
+place-found loose zeros (c ∷ text) a rest h = elim (cases_Bool (begins_wildcard (c ∷ text))) [
+  | inl wild ↦
+      let is : IsPlace loose zeros (c ∷ []) None = Text.any c wild in
+      grind (arith, nat_tests, common_steps)
+  | inr dark ↦
+      let run = take_while is_ascii_digit (c ∷ text) in
+      let behind = drop (prefix_len is_ascii_digit (c ∷ text)) (c ∷ text) in
+      let whole : c ∷ text ≡ run ++ behind = sym (take-append-drop (prefix_len is_ascii_digit (c ∷ text)) (c ∷ text)) in
+      let f = run-found loose zeros run behind a rest (rw dark at h) (prefix-all is_ascii_digit (c ∷ text)) in
+      record { piece = run; split = whole ∙ ap (λ (t : List ℕ). run ++ t) f.1; is = f.0 }
+]
+
+pub dotted_place-found : (loose zeros : Bool) (text : List ℕ) (a : Option ℕ) (rest : List ℕ) → dotted_place loose zeros text ≡ Some (a, rest)
+    → (x : List ℕ) × (text ≡ 46 ∷ (x ++ rest)) × IsPlace loose zeros x a
+unfolding dotted_place
+dotted_place-found loose zeros text a rest h =
+    let t = bind_some (after_byte 46 text) _ (a, rest) h in
+    let f = place-found loose zeros t.0 a rest t.2 in
+    (f.piece, byte-is 46 text t.0 t.1 ∙ ap (λ (l : List ℕ). 46 ∷ l) f.split, f.is)
+
+-- ---- the third place
+
+pub digits-of : (k : ℕ) (text : List ℕ) → k ≤ prefix_len is_ascii_digit text → list_all is_ascii_digit (take k text) ≡ true
+digits-of zero text h = refl
+digits-of (suc k) [] h = refl
+digits-of (suc k) (c ∷ text) h = grind (arith, nat_tests, common_steps, digits-of k text)
+
+pub digits-many_on : (digits rest : List ℕ) → list_all is_ascii_digit digits ≡ true
+    → prefix_len is_ascii_digit (digits ++ rest) ≡ length digits + prefix_len is_ascii_digit rest
+digits-many_on [] rest h = omega arith
+digits-many_on (c ∷ digits) rest h = grind (arith, nat_tests, common_steps, and_parts, digits-many_on digits rest)
+
+no-digit : (b : ℕ) → (b == 120 || b == 88 || b == 42) ≡ true → (is_ascii_digit b ≡ false) × ((b == 46) ≡ false)
+no-digit b h = (grind (arith, nat_tests), grind (arith, nat_tests))
+
+wild-read : (loose zeros : Bool) (b : ℕ) (rest : List ℕ) → (b == 120 || b == 88 || b == 42) ≡ true
+    → place_front loose zeros (b ∷ rest) ≡ Some (None, rest)
+unfolding place_front
+wild-read loose zeros b rest h = rw h refl
+
+-- behind a wildcard anything may stand
+pub wild-patch : (loose zeros : Bool) (b : ℕ) (rest : List ℕ) → (b == 120 || b == 88 || b == 42) ≡ true
+    → dotted_patch loose zeros (46 ∷ b ∷ rest) ≡ Some (None, rest)
+unfolding dotted_patch patch_place
+wild-patch loose zeros b rest h = grind (arith, nat_tests, common_steps, no-digit, and-false, wild-read)
+
+pub patch-read : (loose zeros : Bool) (x rest : List ℕ) (a : Option ℕ) → IsPlace loose zeros x a → Follows loose rest
+    → dotted_patch loose zeros (46 ∷ (x ++ rest)) ≡ Some (a, rest)
+unfolding dotted_patch patch_place
+patch-read loose zeros x rest a (Text.any b h) f = wild-patch loose zeros b rest h
+patch-read loose zeros x rest a (Text.number digits n k spelled short) (inl stop) =
+    let len : prefix_len is_ascii_digit (digits ++ rest) ≡ length digits = digits-taken digits rest k.each stop.0 in
+    let e : drop (length digits) (digits ++ rest) ≡ rest = drop_at digits rest (length digits) refl in
+    let read = place-read loose zeros digits rest (Some n) (Text.number digits n k spelled short) stop.0 in
+    rw (len, e, stop.1, and-false loose) read
+patch-read loose zeros x rest a (Text.number digits n k spelled short) (inr lone) =
+    grind (arith, nat_tests, common_steps, digits-many_on, drop-append-add, take_at, drop_at, some-run)
+
+pub dotted_patch-found : (loose zeros : Bool) (text : List ℕ) (a : Option ℕ) (rest : List ℕ) → dotted_patch loose zeros text ≡ Some (a, rest)
+    → (x : List ℕ) × (text ≡ 46 ∷ (x ++ rest)) × IsPlace loose zeros x a
+unfolding dotted_patch patch_place
+dotted_patch-found loose zeros text a rest h =
+    let b = bind_some (after_byte 46 text) _ (a, rest) h in
+    let t = b.0 in
+    let n = prefix_len is_ascii_digit t in
+    let dotted = λ (l : List ℕ) (e : t ≡ l). byte-is 46 text t b.1 ∙ ap (λ (l : List ℕ). 46 ∷ l) e in
+    elim (cases_Bool (loose && begins_byte 46 (drop n t))) [
+      | inr bare ↦ (let f = place-found loose zeros t a rest (rw bare at b.2) in (f.piece, dotted _ f.split, f.is))
+      | inl cut ↦
+          let run = take (n - 1) t in
+          let f = run-found loose zeros run (drop (n - 1) t) a rest (rw cut at b.2) (digits-of (n - 1) t (omega arith)) in
+          (run, dotted _ (sym (take-append-drop (n - 1) t) ∙ ap (λ (l : List ℕ). run ++ l) f.1), f.0)
+    ]
 
 -- ---- nothing goes on at a boundary
 
@@ -36,10 +174,6 @@ quiet-ends (b ∷ more) h = record {
   letter = λ wild. quiet-letter wild (b ∷ more) h;
   dot = grind (arith, nat_tests, common_steps);
 }
-
-quiet-patch : (loose zeros : Bool) (more : List ℕ) → begins is_solid more ≡ false → dotted_patch loose zeros more ≡ None
-unfolding dotted_patch
-quiet-patch loose zeros more h = grind (arith, nat_tests, common_steps)
 
 quiet-dot : (loose zeros : Bool) (more : List ℕ) → begins is_solid more ≡ false → dotted_place loose zeros more ≡ None
 unfolding dotted_place
@@ -69,7 +203,7 @@ places-read : (loose : Bool) (x more : List ℕ) (p : Partial) → IsPlaces loos
 unfolding places_front
 places-read loose x more p (one x1 a h) quiet = rw (place-read loose false x more a h (quiet-digit more quiet), quiet-dot loose (has_zeros a) more quiet) refl
 places-read loose x more p (two x1 y a b h k) quiet =
-    grind (arith, nat_tests, common_steps, append_assoc, place-read, dotted_place-read, quiet-digit, quiet-patch)
+    grind (arith, nat_tests, common_steps, append_assoc, place-read, dotted_place-read, quiet-digit)
 places-read loose x more p (three x1 y z pre build a b c ids builds h k l m n t) quiet =
     let read = qualified-read loose a b c pre build more ids builds m n t (quiet-ends more quiet) in
     grind (arith, quiet-ends, append_assoc, place-read, dotted_place-read, third-read)
@@ -159,3 +293,198 @@ partial-found loose text p rest h = go (places_front loose text) refl h
         let short : is_short loose f.piece ≡ true =
         ap (is_short loose) (sym cut) ∙ ap (λ (x : Partial × List ℕ). is_short loose (take (length text - length x.1) text)) (sym same.1) ∙ same.0 in
         record { piece = f.piece; split = f.split; is = (f.is, short) }
+
+-- ---- places
+
+abbrev pub some_place : Place → List ℕ → Front Place
+some_place p rest = Some (p, rest)
+
+-- the run at the front, where it is not padded, or read loosely
+spelled-great : (loose zeros : Bool) (text run : List ℕ) → 0 < digits_value 10 run → run ≡ take_while is_ascii_digit text
+    → (not loose && begins_padded text) ≡ false → is_spelled loose zeros (digits_value 10 run) run ≡ true
+spelled-great true zeros text run some is bare = grind (arith, nat_tests, common_steps)
+spelled-great false zeros text run some is bare =
+    let behind = drop (prefix_len is_ascii_digit text) text in
+    let whole : text ≡ run ++ behind = sym (take-append-drop (prefix_len is_ascii_digit text) text) ∙ ap (λ (t : List ℕ). t ++ behind) (sym is) in
+    grind (arith, nat_tests, common_steps)
+
+-- a number up to the limit was found
+pub number_placed : (loose zeros : Bool) (text : List ℕ) (n : ℕ) (rest : List ℕ) → strict_number MAX_SAFE_INTEGER text ≡ Some (n, rest)
+    → placed MAX_SAFE_INTEGER (place_front loose zeros text) ≡ Some (number n, rest)
+unfolding strict_number
+number_placed loose zeros text n rest h = elim (cases_Bool (begins_padded text)) [
+  | inl padded ↦ cc (rw padded at h)
+  | inr bare ↦
+      let f = number-found MAX_SAFE_INTEGER text n rest (rw bare at h) in
+      let shortest = sym (padded-same f.run rest f.is.each f.ended) ∙ ap begins_padded (sym f.split) ∙ bare in
+      let short = number-short f.run n (record { number = f.is; shortest = shortest }) in
+      let same : IsNumber n f.run n = record { some = f.is.some; each = f.is.each; value = f.is.value; safe = omega arith } in
+      let few : length f.run ≤ 257 = grind (arith, nat_tests, common_steps) in
+      let place : IsPlace loose zeros f.run (Some n) = Text.number f.run n same (rw shortest refl) few in
+      grind (arith, nat_tests, common_steps, place-read)
+]
+
+pub wildcard_placed : (loose zeros : Bool) (text : List ℕ) → begins_wildcard text ≡ true
+    → placed MAX_SAFE_INTEGER (place_front loose zeros text) ≡ Some (any, drop 1 text)
+unfolding place_front
+wildcard_placed loose zeros text h = rw h refl
+
+-- a run of digits that is no number up to the limit
+past-limit : (limit : ℕ) (run : List ℕ) → 1 ≤ length run → list_all is_ascii_digit run ≡ true → number_of limit run ≡ None
+    → nat_le (digits_value 10 run) limit ≡ false
+past-limit limit run some each none = grind (arith, nat_tests, common_steps, number-of)
+
+-- what stands where no wildcard does, by the digits at the front
+run-placed : (loose zeros : Bool) (text : List ℕ) → begins_wildcard text ≡ false → place_front loose zeros text
+    ≡ run_place loose zeros (take_while is_ascii_digit text) (drop (prefix_len is_ascii_digit text) text)
+unfolding place_front
+run-placed loose zeros text h = rw h refl
+
+pub none_placed : (loose zeros : Bool) (text : List ℕ) → begins_wildcard text ≡ false → prefix_len is_ascii_digit text ≡ 0
+    → placed MAX_SAFE_INTEGER (place_front loose zeros text) ≡ None
+none_placed loose zeros text h k = rw (run-placed loose zeros text h, k) refl
+
+pub long_placed : (loose zeros : Bool) (text : List ℕ) → begins_wildcard text ≡ false → 257 < prefix_len is_ascii_digit text
+    → placed MAX_SAFE_INTEGER (place_front loose zeros text) ≡ None
+long_placed loose zeros text h k = grind (arith, nat_tests, common_steps, length-prefix_len, some-run, run-placed)
+
+-- a run that is not spelled as it has to be
+pub misspelled_placed : (loose zeros : Bool) (text : List ℕ) → begins_wildcard text ≡ false
+    → is_spelled loose zeros (digits_value 10 (take_while is_ascii_digit text)) (take_while is_ascii_digit text) ≡ false
+    → placed MAX_SAFE_INTEGER (place_front loose zeros text) ≡ None
+misspelled_placed loose zeros text h k = grind (arith, nat_tests, common_steps, run-placed, not)
+
+-- a run of some value
+run-valued : (loose zeros : Bool) (text : List ℕ) → begins_wildcard text ≡ false → 1 ≤ prefix_len is_ascii_digit text
+    → prefix_len is_ascii_digit text ≤ 257
+    → is_spelled loose zeros (digits_value 10 (take_while is_ascii_digit text)) (take_while is_ascii_digit text) ≡ true
+    → placed MAX_SAFE_INTEGER (place_front loose zeros text)
+    ≡ some_place (place_of MAX_SAFE_INTEGER (Some (digits_value 10 (take_while is_ascii_digit text)))) (drop (prefix_len is_ascii_digit text) text)
+run-valued loose zeros text dark some short spelled = grind (arith, nat_tests, common_steps, length-prefix_len, some-run, run-placed)
+
+-- a number up to the limit with leading zeros, read loosely
+pub padded_placed : (zeros : Bool) (text : List ℕ) (n : ℕ) (rest : List ℕ) → begins_wildcard text ≡ false
+    → number_front MAX_SAFE_INTEGER text ≡ Some (n, rest) → prefix_len is_ascii_digit text ≤ 257 → (zeros || nat_lt 0 n) ≡ true
+    → placed MAX_SAFE_INTEGER (place_front true zeros text) ≡ Some (number n, rest)
+padded_placed zeros text n rest dark h short some =
+    let f = number-found MAX_SAFE_INTEGER text n rest h in
+    let size : prefix_len is_ascii_digit text ≡ length f.run =
+    ap (λ (t : List ℕ). prefix_len is_ascii_digit t) f.split ∙ digits-taken f.run rest f.is.each f.ended in
+    let same : IsNumber n f.run n = record { some = f.is.some; each = f.is.each; value = f.is.value; safe = omega arith } in
+    let place : IsPlace true zeros f.run (Some n) = Text.number f.run n same (rw some (or-true (not (has_leading_zero f.run)))) (omega (arith, size, short)) in
+    grind (arith, nat_tests, common_steps, place-read)
+
+pub great_placed : (loose zeros : Bool) (text : List ℕ) (at : ℕ) → number_front MAX_SAFE_INTEGER text ≡ None → begins_wildcard text ≡ false
+    → (not loose && begins_padded text) ≡ false → at ≡ prefix_len is_ascii_digit text → 1 ≤ at → at ≤ 257
+    → placed MAX_SAFE_INTEGER (place_front loose zeros text) ≡ some_place great (take (length text - at) (drop at text))
+great_placed loose zeros text at front dark bare is first last =
+    grind (arith, nat_tests, common_steps, length-prefix_len, prefix-all, past-limit, spelled-great, run-valued, take_rest)
+
+-- ---- leading zeros
+
+run-leading : (text : List ℕ) → has_leading_zero (take_while is_ascii_digit text) ≡ begins_padded text
+run-leading text = grind (arith, nat_tests, common_steps)
+
+-- strictly there are none
+pub strict_leading_placed : (loose zeros : Bool) (text : List ℕ) → begins_wildcard text ≡ false → begins_padded text ≡ true → loose ≡ false
+    → placed MAX_SAFE_INTEGER (place_front loose zeros text) ≡ None
+strict_leading_placed true zeros text dark padded e = cc e
+strict_leading_placed false zeros text dark padded e = misspelled_placed false zeros text dark (rw (run-leading text, padded) refl)
+
+number-value : (limit : ℕ) (run : List ℕ) (n : ℕ) → number_of limit run ≡ Some n → digits_value 10 run ≡ n
+unfolding number_of
+number-value limit run n h = grind (arith, nat_tests, common_steps)
+
+-- zero has none
+pub zero_placed : (zeros : Bool) (text : List ℕ) (rest : List ℕ) → zeros ≡ false → begins_wildcard text ≡ false → begins_padded text ≡ true
+    → number_front MAX_SAFE_INTEGER text ≡ Some (0, rest) → placed MAX_SAFE_INTEGER (place_front true zeros text) ≡ None
+zero_placed zeros text rest none dark padded h =
+    let run = take_while is_ascii_digit text in
+    let behind = drop (prefix_len is_ascii_digit text) text in
+    let f = bind_some (number_of MAX_SAFE_INTEGER run) (λ n. Some (n, behind)) (0, rest) h in
+    let value : digits_value 10 run ≡ 0 = number-value MAX_SAFE_INTEGER run f.0 f.1 ∙ ap (λ (q : ℕ × List ℕ). q.0) (same_Some _ _ f.2) in
+    misspelled_placed true zeros text dark (rw (run-leading text, padded, value, none) refl)
+
+pub unpadded_front : (text : List ℕ) → begins_padded text ≡ false → strict_number MAX_SAFE_INTEGER text ≡ None
+    → number_front MAX_SAFE_INTEGER text ≡ None
+unfolding strict_number
+unpadded_front text bare h = rw bare at h
+
+pub ruleset places_found = (number_placed, wildcard_placed)
+
+pub ruleset no_places = (none_placed, long_placed)
+
+pub ruleset padded_places = (strict_leading_placed, long_placed, zero_placed, padded_placed, unpadded_front)
+
+-- ---- the third place
+
+pub patch_whole : (loose zeros : Bool) (text : List ℕ) (at : ℕ) → at ≡ prefix_len is_ascii_digit text
+    → (loose && begins_byte 46 (drop at text)) ≡ false
+    → placed MAX_SAFE_INTEGER (place_front loose zeros text) ≡ placed MAX_SAFE_INTEGER (patch_place loose zeros text)
+unfolding patch_place
+patch_whole loose zeros text at e h = rw (rw e at h) refl
+
+run-alone : (loose zeros : Bool) (run : List ℕ) → list_all is_ascii_digit run ≡ true → place_front loose zeros run ≡ run_place loose zeros run []
+unfolding place_front
+run-alone loose zeros [] h = refl
+run-alone loose zeros (c ∷ run) h =
+    subst (λ (t : List ℕ). place_front loose zeros t ≡ run_place loose zeros (c ∷ run) []) (append-nil (c ∷ run))
+    (grind (arith, nat_tests, common_steps, number-no_wildcard, digits-taken, take_at, drop_at))
+
+run-behind : (limit : ℕ) (loose zeros : Bool) (run rest : List ℕ) → placed limit (run_place loose zeros run rest)
+    ≡ (placed limit (run_place loose zeros run []) >>? λ p. Some (p.0, rest))
+run-behind limit loose zeros run rest = elim (cases_Bool (not (is_empty run) && nat_le (length run) 257
+    && is_spelled loose zeros (digits_value 10 run) run)) [ inl good ↦ rw good refl | inr other ↦ rw other refl ]
+
+-- the last digit is not its own
+pub patch_cut : (loose zeros : Bool) (text : List ℕ) (at own : ℕ) (o : Front Place) → at ≡ prefix_len is_ascii_digit text
+    → (loose && begins_byte 46 (drop at text)) ≡ true → own ≡ at - 1
+    → o ≡ placed MAX_SAFE_INTEGER (place_front loose zeros (take own text))
+    → (o >>? λ p. Some (p.0, take (length text - own) (drop own text))) ≡ placed MAX_SAFE_INTEGER (patch_place loose zeros text)
+unfolding patch_place
+patch_cut loose zeros text at own o e h less is = grind (arith, nat_tests, common_steps, digits-of, run-alone, take_rest, run-behind)
+
+-- ---- partial versions
+
+any-placed : (limit : ℕ) (c : Option ℕ) → is_any (place_of limit c) ≡ is_none c
+any-placed limit c = grind (arith, nat_tests, common_steps)
+
+qualified-limited : (loose : Bool) (limit : ℕ) (a b c : Option ℕ) (text : List ℕ)
+    → qualified_counted loose (place_of limit a) (place_of limit b) (place_of limit c) text ≡ limited limit (qualified_partial loose a b c text)
+unfolding qualified_counted qualified_partial
+qualified-limited loose limit a b c text = rw (any-placed limit c) grind (arith, nat_tests, common_steps)
+
+pub places-limited : (loose : Bool) (limit : ℕ) (text : List ℕ) → counted_places loose limit text ≡ limited limit (places_front loose text)
+unfolding places_front
+places-limited loose limit text = grind (arith, nat_tests, common_steps, qualified-limited)
+
+short-limited : (loose : Bool) (limit : ℕ) (text : List ℕ) (o : Front Partial)
+    → short_only loose text (limited limit o) ≡ limited limit (short_only loose text o)
+short-limited loose limit text None = refl
+short-limited loose limit text (Some p) = grind (arith, nat_tests, common_steps)
+
+pub counted_limited : (loose : Bool) (limit : ℕ) (text : List ℕ) → counted_front loose limit text ≡ limited limit (partial_front loose text)
+unfolding partial_front
+counted_limited loose limit text =
+    ap (short_only loose text) (places-limited loose limit text) ∙ short-limited loose limit text (places_front loose text)
+
+-- ---- nothing stands behind the numbers
+
+none-follow : (loose : Bool) → may_follow loose [] [] ≡ true
+none-follow true = refl
+none-follow false = refl
+
+none-front : (loose wild : Bool) (text : List ℕ) → is_over text ≡ true → pre_front loose wild text ≡ ([], text)
+unfolding pre_front dashed_front
+none-front loose wild [] h = grind (arith, nat_tests, common_steps)
+none-front loose wild (b ∷ rest) h = grind (arith, nat_tests, common_steps)
+
+no-build-front : (text : List ℕ) → is_over text ≡ true → build_front text ≡ ([], text)
+unfolding build_front
+no-build-front [] h = refl
+no-build-front (b ∷ rest) h = grind (arith, nat_tests, common_steps)
+
+pub over_counted : (loose : Bool) (a b c : Place) (text : List ℕ) → is_over text ≡ true
+    → qualified_counted loose a b c text ≡ (counted a b c (listed []) (listed []) >>? λ p. Some (p, text))
+unfolding qualified_counted
+over_counted loose a b c text h = rw (none-front loose (is_any c) text h, no-build-front text h, none-follow loose) refl

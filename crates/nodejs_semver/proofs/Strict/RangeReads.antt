@@ -1,21 +1,20 @@
 -- The alternatives of a range text, read one after another, and what their intervals accept.
-use Rattle.nodejs_semver.proofs.Common.{Beside, Bool, Err, Failure, IfSome, IsCutAtBars, IsRange, IsUtf8, List, MAX_SAFE_INTEGER}
-use Rattle.nodejs_semver.proofs.Common.{Memory, MemoryOnlyIf, None, Ok, Option, Refused, Result, Some, Span, VersionValue, []}
-use Rattle.nodejs_semver.proofs.Common.{accepts, any_version, any_weaker, ap, append-nil, append_assoc, arith, cases_Bool, common_steps}
-use Rattle.nodejs_semver.proofs.Common.{cond_some, false, flat_map, holds, if◌then◌else◌, inl, inr, is_empty, is_past, is_range_span}
-use Rattle.nodejs_semver.proofs.Common.{is_release, later_parts, length, length-append, lets_in, list_all, list_all-append, list_any}
-use Rattle.nodejs_semver.proofs.Common.{list_any-append, nat_tests, not, not-true, option_to_list, parts, precedence, refl}
-use Rattle.nodejs_semver.proofs.Common.{subst, sym, true, ℕ, ◌&&◌, ◌++◌, ◌+◌, ◌<◌, ◌||◌, ◌∙◌, ◌∷◌, ◌≡◌, ◌≤◌}
-use Rattle.nodejs_semver.proofs.{Dividing.BarsDivide.bars_once, NpmCommon.{AcceptAsRanged, Alternative, AreNarrowed, Comparison, Ended}}
-use Rattle.nodejs_semver.proofs.NpmCommon.{HasAlternativesIn, IsFound, IsNarrowed, IsRangeIn, NarrowedBy, NoValue, alternative_of}
-use Rattle.nodejs_semver.proofs.NpmCommon.{alternatives_of, begins_malformed, counted, counts, hyphen_comparisons, hyphen_ends}
-use Rattle.nodejs_semver.proofs.NpmCommon.{hyphen_lower, hyphen_of, hyphen_upper, is_lost, is_unbounded, is_valid, kept, meets, nothing}
-use Rattle.nodejs_semver.proofs.NpmCommon.{satisfies, valid_alternative, valid_only, words_of, ◌>>?◌}
-use Rattle.nodejs_semver.proofs.{Reading.Steps.option-cases, Strict.AlternativeLaw.{alternative-read, alternatives_are}}
-use Rattle.nodejs_semver.proofs.Strict.{Hyphens.hyphen-found, Valid.{hyphen-valid, words-valid}, WordReads.hyphen_limited}
-use Rattle.nodejs_semver.{proofs.Strict.WordSteps.empty-append, specs.Internal.{NpmAlternatives.ranged, NpmReads.{AddsOne, AddsPart}}}
-use Rattle.nodejs_semver.specs.Internal.NpmReads.{AreAllFound, AreFound, valid_alternatives, valid_hyphen, valid_range}
-use Rattle.{nodejs_semver.specs.Npm.{Malformed.ends_malformed, Ranges.names, Table.lowest}, semver_core.specs.Failures.RefusedOnlyIf}
+use Rattle.nodejs_semver.proofs.Common.{Beside, Bool, Err, Failure, IfSome, IsCutAtBars, IsRange, IsUtf8, List, MAX_SAFE_INTEGER, Memory}
+use Rattle.nodejs_semver.proofs.Common.{MemoryOnlyIf, None, Ok, Option, Refused, Result, Some, Span, VersionValue, [], accepts}
+use Rattle.nodejs_semver.proofs.Common.{any_version, any_weaker, ap, append-nil, append_assoc, arith, cases_Bool, common_steps, cond_some}
+use Rattle.nodejs_semver.proofs.Common.{false, flat_map, holds, if◌then◌else◌, inl, inr, is_empty, is_past, is_range_span, is_release}
+use Rattle.nodejs_semver.proofs.Common.{later_parts, length, length-append, lets_in, list_all, list_all-append, list_any, list_any-append}
+use Rattle.nodejs_semver.proofs.Common.{nat_tests, not, not-true, option_to_list, parts, precedence, refl, subst, sym, true, ℕ, ◌&&◌, ◌++◌}
+use Rattle.nodejs_semver.proofs.{Common.{◌+◌, ◌<◌, ◌||◌, ◌∙◌, ◌∷◌, ◌≡◌, ◌≤◌}, Dividing.BarsDivide.bars_once, NpmCommon.AcceptAsRanged}
+use Rattle.nodejs_semver.proofs.NpmCommon.{Alternative, AreNarrowed, Comparison, Ended, HasAlternativesIn, IsFound, IsNarrowed, IsRangeIn}
+use Rattle.nodejs_semver.proofs.NpmCommon.{NarrowedBy, NoValue, alternative_of, alternatives_of, begins_malformed, counted, counts}
+use Rattle.nodejs_semver.proofs.NpmCommon.{hyphen_comparisons, hyphen_ends, hyphen_lower, hyphen_of, hyphen_upper, is_lost, is_unbounded}
+use Rattle.nodejs_semver.proofs.NpmCommon.{is_valid, kept, meets, nothing, satisfies, valid_alternative, valid_only, words_of, ◌>>?◌}
+use Rattle.nodejs_semver.proofs.{Reading.Steps.option-cases, Strict.AlternativeLaw.{alternative-read, alternatives_are, hyphen-found}}
+use Rattle.nodejs_semver.proofs.Strict.{AlternativeLaw.hyphen_limited, Printed.{hyphen-valid, words-valid}, Words.empty-append}
+use Rattle.nodejs_semver.specs.Internal.{NpmAlternatives.ranged, NpmReads.{AddsOne, AddsPart, AreAllFound, AreFound, valid_alternatives}}
+use Rattle.nodejs_semver.specs.{Internal.NpmReads.{valid_hyphen, valid_range}, Npm.{Malformed.ends_malformed, Ranges.names}}
+use Rattle.{nodejs_semver.specs.Npm.{Readings.{OfAccepted, ReadText}, Table.lowest}, semver_core.specs.Failures.RefusedOnlyIf}
 use Rattle.nodejs_semver.specs.Npm.Ranges as Npm
 
 -- ---- the intervals of alternatives accept what the alternatives do
@@ -133,14 +132,9 @@ pub found_spans : (include : Bool) (alternatives : List (List Comparison)) (os :
     → list_all (is_range_span (MAX_SAFE_INTEGER + 1)) found ≡ true
 found_spans include alternatives os found h e = rw e (narrowed_spans include alternatives os h)
 
-some_range : (found : List (Span VersionValue)) → list_all (is_range_span (MAX_SAFE_INTEGER + 1)) found ≡ true
-    → IsRange MAX_SAFE_INTEGER (if is_empty found then nothing ∷ [] else found)
-some_range [] h = record { some = omega arith; each = refl }
-some_range (s ∷ ss) h = record { some = omega arith; each = h }
-
 pub ranged_range : (found : List (Span VersionValue)) → list_all (is_range_span (MAX_SAFE_INTEGER + 1)) found ≡ true
     → IsRange MAX_SAFE_INTEGER (ranged found)
-ranged_range found h = grind (arith, nat_tests, common_steps, some_range)
+ranged_range found h = grind (arith, nat_tests, common_steps)
 
 -- ---- an alternative is found exactly where the text has one whose comparators are valid
 
@@ -256,16 +250,12 @@ pub record AreReadTo (loose : Bool) (include : Bool) (text : List ℕ) (is_some 
   pub count : length read + length (later_parts rest) ≤ length (parts text)
   pub some : is_some ≡ not (is_empty read)
 
-alternatives-step : (loose : Bool) (include : Bool) (part : List ℕ) (others : List (List ℕ)) → valid_alternatives loose include (part ∷ others)
-    ≡ (valid_alternative loose include part >>? λ cs. valid_alternatives loose include others >>? λ rest. Some (kept loose part cs rest))
-unfolding valid_alternatives
-alternatives-step loose include part others = refl
-
 -- the same of the text that is left
 rest-step : (loose : Bool) (include : Bool) (rest part : List ℕ) (behind : Option (List ℕ)) (o : Option (List Comparison))
     → part ∷ later_parts behind ≡ parts rest → valid_alternative loose include part ≡ o → valid_alternatives loose include (parts rest)
     ≡ (o >>? λ cs. valid_alternatives loose include (later_parts behind) >>? λ ls. Some (kept loose part cs ls))
-rest-step loose include rest part behind o e d = grind (arith, nat_tests, common_steps, alternatives-step)
+unfolding valid_alternatives
+rest-step loose include rest part behind o e d = grind (arith, nat_tests, common_steps)
 
 -- one part more
 pub read-part : (loose : Bool) (include : Bool) (text : List ℕ) (was is : Bool) (found after : List (Span VersionValue)) (rest : List ℕ) (part : List ℕ)
@@ -398,3 +388,8 @@ memory-pieces r text k = grind (arith, nat_tests, common_steps, bars_once)
 pub all-spans : (loose : Bool) (include : Bool) (text : List ℕ) (found : List (Span VersionValue)) → AreAllFound include (valid_range loose include text) found
     → list_all (is_range_span (MAX_SAFE_INTEGER + 1)) found ≡ true
 all-spans loose include text found h = grind (arith, nat_tests, common_steps, found_spans)
+
+pub of_accepted : {Holds : (VersionValue → Bool) → Type 0} (r : ReadText) (range : List (Span VersionValue))
+    → IsRangeIn r.reading.loose MAX_SAFE_INTEGER r.reading.include_prerelease r.text range
+    → Holds (λ v. accepts range v r.reading.include_prerelease) → OfAccepted MAX_SAFE_INTEGER r Holds
+of_accepted {Holds} r range h k = record { alternatives = h.alternatives; has = h.has; holds = subst Holds (λ i v. h.accepted v i) k }

@@ -1,21 +1,20 @@
--- The words of node-semver's range texts: the functions that read them find exactly what the statement has.
-use Rattle.nodejs_semver.proofs.Common.{Bool, Front, IsBlank, IsUtf8, List, None, Option, Some, [], and_parts, ap, append-nil, append_assoc}
-use Rattle.nodejs_semver.proofs.Common.{arith, begins, bind_some, cases_Bool, common_steps, cond_some, drop, drop_at, drop_spaces, eqb-true}
-use Rattle.nodejs_semver.proofs.Common.{equal, false, inl, inr, is_boundary, is_empty, length, length-append, list_all, lt-ltb, nat_tests}
-use Rattle.nodejs_semver.proofs.Common.{prefix_len, refl, same_Some, space_len, subst, suc, sym, take, take-append-drop, take_at, true}
-use Rattle.nodejs_semver.proofs.{Common.{zero, ℕ, ◌&&◌, ◌++◌, ◌-◌, ◌<◌, ◌==◌, ◌||◌, ◌∙◌, ◌∷◌, ◌≡◌, ◌≤◌}, NpmCommon.{AreWords, Comparison}}
-use Rattle.nodejs_semver.proofs.NpmCommon.{IsPartial, IsPlace, IsWord, Signed, any_word, are_marks, begins_byte, begins_malformed, compared}
-use Rattle.nodejs_semver.proofs.NpmCommon.{ignored, ignored_front, is_mark, is_visible, last, marked_word, marks_len, npm_sign, signed_word}
-use Rattle.nodejs_semver.proofs.{NpmCommon.{wildcard, word, word_front, ◌>>?◌}, Reading.Bytes.{begins-on, begins-some, begins_component}}
+-- The words of node-semver's range texts: the functions that read them find exactly what the statement has, one word after another.
+use Rattle.nodejs_semver.proofs.Common.{Bool, Front, IsBlank, IsUtf8, List, MAX_SAFE_INTEGER, None, Option, Some, Span, VersionValue, []}
+use Rattle.nodejs_semver.proofs.Common.{and_parts, ap, append-nil, append_assoc, arith, begins, bind_some, cases_Bool, common_steps}
+use Rattle.nodejs_semver.proofs.Common.{cond_some, drop, drop_at, drop_spaces, eqb-true, equal, false, if◌then◌else◌, inl, inr}
+use Rattle.nodejs_semver.proofs.Common.{is_boundary, is_empty, length, length-append, list_all, lt-ltb, nat_tests, prefix_len, refl}
+use Rattle.nodejs_semver.proofs.Common.{same_Some, space_len, subst, suc, sym, take, take-append-drop, take_at, true, zero, ℕ, ◌&&◌, ◌++◌}
+use Rattle.nodejs_semver.proofs.{Common.{◌-◌, ◌<◌, ◌==◌, ◌∙◌, ◌∷◌, ◌≡◌, ◌≤◌}, NpmCommon.{Alternative, AreWords, Comparison, IsFound}}
+use Rattle.nodejs_semver.proofs.NpmCommon.{IsNarrowed, IsPartial, IsPlace, IsWord, NarrowedBy, Signed, any_word, are_marks, begins_byte}
+use Rattle.nodejs_semver.proofs.NpmCommon.{begins_malformed, compared, ignored, ignored_front, is_mark, is_visible, last, limited_word}
+use Rattle.nodejs_semver.proofs.NpmCommon.{marked_word, marks_len, npm_sign, signed_word, valid_only, valid_words, wildcard, word}
+use Rattle.nodejs_semver.proofs.{NpmCommon.{word_front, words_of, ◌>>?◌}, Reading.Bytes.{begins-on, begins-some, begins_component}}
 use Rattle.nodejs_semver.proofs.Reading.{Bytes.is_component_byte, PartialLaw.{spaces-gone, spaces-le}, WordLaw.boundary-utf8}
 use Rattle.nodejs_semver.proofs.{Reading.WordLaw.suffix-boundary, Strict.Malformed.{boundary-dark, ignored-read, malformed-visible}}
-use Rattle.nodejs_semver.proofs.Strict.{Malformed.{sign-visible, visible-dark, word-regular}, PartialLaw.{boundary-quiet, partial-found}}
-use Rattle.nodejs_semver.proofs.Strict.{PartialLaw.partial-read, Places.digits-begin, Signs.{blank-at, blank-cases, blank-skipped, is_open, open-first}}
-use Rattle.nodejs_semver.proofs.Strict.{Signs.{marks-all, sign-found, sign-taken}, VersionLaw.empty-is}
-use Rattle.nodejs_semver.specs.{Internal.NpmWords.{ended_word, partial_front, words_within}, Npm.{RangeText.more, Table.{Partial, Sign}}}
-use Rattle.nodejs_semver.specs.Npm.Table.{table}
-use Rattle.nodejs_semver.proofs.NpmCommon.{IsPlaces}
-use Rattle.nodejs_semver.proofs.Strict.PartialLaw.{front-text}
+use Rattle.nodejs_semver.proofs.Strict.{Malformed.{sign-visible, visible-dark, word-regular}, PartialLaw.{boundary-quiet, digits-begin}}
+use Rattle.nodejs_semver.proofs.Strict.{PartialLaw.{partial-found, partial-read}, Signs.{blank-at, blank-cases, blank-skipped, marks-all}}
+use Rattle.nodejs_semver.{proofs.Strict.{Signs.{sign-found, sign-taken}, VersionLaw.empty-is}, specs.Internal.NpmWords.ended_word}
+use Rattle.nodejs_semver.specs.{Internal.NpmWords.{partial_front, words_within}, Npm.{RangeText.more, Table.{Partial, Sign, table}}}
 
 -- ---- how partials and marks begin
 
@@ -151,10 +150,7 @@ pub word-visible : (loose : Bool) (include : Bool) (is_last : Bool) (w : List �
 word-visible loose include is_last w cs (ignored x l h) = malformed-visible is_last x h
 word-visible loose include is_last w cs (word signs marks x s p h m e k) =
     let u : begins_component x ≡ true = rw (append-nil x) at (partial-begins loose x [] p k) in
-    elim (sign-visible signs s h) [
-      | inl none ↦ rw none (marks-visible marks x (marks-all loose s p marks m) u)
-      | inr visible ↦ begins-on is_visible signs (marks ++ x) visible
-    ]
+    grind (arith, nat_tests, common_steps, sign-visible, marks-visible, marks-all, begins-on)
 
 pub words-visible : (loose : Bool) (include : Bool) (text : List ℕ) (cs : List Comparison) → AreWords loose include text cs → begins is_visible text ≡ true
 words-visible loose include text cs (last t ds h) = word-visible loose include true t ds h
@@ -221,3 +217,122 @@ words-found loose include (suc n) text cs u h =
           let is = more at_word.piece x.blank rest w.0.0 d.0 here x.is some (words-found loose include n rest d.0 x.utf8 d.1) in
           grind (arith, nat_tests, common_steps)
     ]
+
+abbrev pub word_at_front : (loose : Bool) → List ℕ → Front Signed
+word_at_front loose text = limited_word MAX_SAFE_INTEGER (any_word loose text)
+
+abbrev pub row_of : Bool → Signed → List Comparison
+row_of include w = table include w.0 w.1 w.2
+
+limited-some : (o : Front Signed) (w : Signed × List ℕ) → limited_word MAX_SAFE_INTEGER o ≡ Some w → o ≡ Some w
+limited-some o w h = grind (arith, nat_tests, common_steps)
+
+pub word-at : (loose : Bool) (include : Bool) (text : List ℕ) (w : Signed × List ℕ) → IsUtf8 text → word_at_front loose text ≡ Some w
+    → WordAt loose include text (row_of include w.0) w.1
+unfolding word_front
+word-at loose include text w u h = word-found loose include text (row_of include w.0) w.1 u (rw (limited-some (any_word loose text) w h) refl)
+
+-- the text behind a word and its whitespace is shorter
+pub word-shorter : (loose : Bool) (include : Bool) (text : List ℕ) (w : Signed × List ℕ) → IsUtf8 text → word_at_front loose text ≡ Some w
+    → length (drop_spaces w.1) < length text
+word-shorter loose include text w u h =
+    let x = word-at loose include text w u h in
+    let b = blank-at w.1 x.utf8 in
+    let some = begins-some is_visible x.piece (word-visible loose include (is_empty w.1) x.piece (row_of include w.0) x.is) in
+    omega (arith, ap length x.split, length-append x.piece w.1, ap length b.split, length-append b.blank (drop_spaces w.1), some)
+
+pub left-utf8 : (loose : Bool) (include : Bool) (text : List ℕ) (w : Signed × List ℕ) → IsUtf8 text → word_at_front loose text ≡ Some w → IsUtf8 (drop_spaces w.1)
+left-utf8 loose include text w u h = (blank-at w.1 (word-at loose include text w u h).utf8).utf8
+
+-- the words that follow one
+abbrev pub go_on : (loose : Bool) → Bool → ℕ → Signed × List ℕ → Option (List Comparison)
+go_on loose include n w = valid_only MAX_SAFE_INTEGER (row_of include w.0) >>? λ cs. if is_empty w.1 then Some cs
+    else (valid_words loose MAX_SAFE_INTEGER include n (drop_spaces w.1) >>? λ ds. Some (cs ++ ds))
+
+none-short : (loose : Bool) (include : Bool) (n : ℕ) (text : List ℕ) → IsUtf8 text → length text ≤ 0 → (o : Front Signed) → word_at_front loose text ≡ o
+    → None ≡ (o >>? λ w. go_on loose include n w)
+none-short loose include n text u h None e = refl
+none-short loose include n text u h (Some w) e = absurd (omega (arith, h, word-shorter loose include text w u e))
+
+-- the number only bounds the words
+enough : (loose : Bool) (include : Bool) (n m : ℕ) (text : List ℕ) → IsUtf8 text → length text ≤ n → length text ≤ m
+    → valid_words loose MAX_SAFE_INTEGER include n text ≡ valid_words loose MAX_SAFE_INTEGER include m text
+unfolding valid_words
+enough loose include zero zero text u h k = refl
+enough loose include zero (suc m) text u h k = none-short loose include m text u h (word_at_front loose text) refl
+enough loose include (suc n) zero text u h k = sym (none-short loose include n text u k (word_at_front loose text) refl)
+enough loose include (suc n) (suc m) text u h k = go (λ t u h k. enough loose include n m t u h k) (word_at_front loose text) refl
+  where
+    go : ((t : List ℕ) → IsUtf8 t → length t ≤ n → length t ≤ m
+        → valid_words loose MAX_SAFE_INTEGER include n t ≡ valid_words loose MAX_SAFE_INTEGER include m t)
+        → (o : Front Signed) → word_at_front loose text ≡ o → (o >>? λ w. go_on loose include n w) ≡ (o >>? λ w. go_on loose include m w)
+    go f None e = refl
+    go f (Some w) e =
+        let less = word-shorter loose include text w u e in
+        rw (f (drop_spaces w.1) (left-utf8 loose include text w u e) (omega (arith, less, h)) (omega (arith, less, k))) refl
+
+-- ---- the steps
+
+abbrev pub behind_word : (loose : Bool) → Bool → Signed × List ℕ → Option (List Comparison)
+behind_word loose include w = valid_only MAX_SAFE_INTEGER (row_of include w.0) >>? λ cs. if is_empty w.1 then Some cs
+    else (words_of loose include (drop_spaces w.1) >>? λ ds. Some (cs ++ ds))
+
+pub words-step : (loose : Bool) (include : Bool) (text : List ℕ) → IsUtf8 text → (o : Front Signed) → word_at_front loose text ≡ o
+    → words_of loose include text ≡ (o >>? λ w. behind_word loose include w)
+unfolding valid_words
+words-step loose include text u o e = grind (arith, word-shorter, left-utf8, enough)
+
+pub empty-append : (cs ds : List Comparison) → is_empty (cs ++ ds) ≡ (is_empty cs && is_empty ds)
+empty-append cs ds = grind (arith, nat_tests, common_steps)
+
+-- what was read of a text, and what is left
+pub record AreWordsTo (loose : Bool) (include : Bool) (text : List ℕ) (all : Option (Span VersionValue)) (is_bare : Bool) (rest : List ℕ)
+    : Type 0 where
+  pub read : List Comparison
+  pub bare : is_bare ≡ is_empty read
+  pub narrowed : IsNarrowed include read all
+  pub same : words_of loose include text ≡ (words_of loose include rest >>? λ ds. Some (read ++ ds))
+  pub utf8 : IsUtf8 rest
+
+pub words-begin : (loose : Bool) (include : Bool) (text : List ℕ) (all : Option (Span VersionValue)) (is_bare : Bool) → IsUtf8 text
+    → IsNarrowed include [] all → is_bare ≡ true → AreWordsTo loose include text all is_bare text
+words-begin loose include text all is_bare u h b = grind (arith, nat_tests, common_steps)
+
+module _ (loose include : Bool) (text rest : List ℕ) (all : Option (Span VersionValue)) (is_bare : Bool)
+    (h : AreWordsTo loose include text all is_bare rest) where
+  -- one word more
+  pub words-next : (w : Signed × List ℕ) (a : Alternative) → word_at_front loose rest ≡ Some w
+      → NarrowedBy include all (row_of include w.0) (Some a) → a.is_bare ≡ (is_bare && is_empty (row_of include w.0))
+      → is_empty w.1 ≡ false → AreWordsTo loose include text a.interval a.is_bare (drop_spaces w.1)
+  words-next w a e n b goes =
+      let row = row_of include w.0 in
+      let step : words_of loose include rest ≡ (words_of loose include (drop_spaces w.1) >>? λ ds. Some (row ++ ds)) =
+      words-step loose include rest h.utf8 (Some w) e ∙ rw (n.0, goes) refl in
+      record {
+        read = h.read ++ row;
+        bare = b ∙ rw h.bare (sym (empty-append h.read row));
+        narrowed = n.1 h.read h.narrowed;
+        same = h.same ∙ rw step (joined (words_of loose include (drop_spaces w.1)));
+        utf8 = left-utf8 loose include rest w h.utf8 e;
+      }
+    where
+      joined : (o : Option (List Comparison))
+          → ((o >>? λ ds. Some (row_of include w.0 ++ ds)) >>? λ ds. Some (h.read ++ ds))
+          ≡ (o >>? λ ds. Some ((h.read ++ row_of include w.0) ++ ds))
+      joined None = refl
+      joined (Some ds) = ap (λ (l : List Comparison). Some l) (sym (append_assoc h.read (row_of include w.0) ds))
+
+  -- the last word
+  pub words-end : (w : Signed × List ℕ) (a : Alternative) → word_at_front loose rest ≡ Some w
+      → NarrowedBy include all (row_of include w.0) (Some a) → a.is_bare ≡ (is_bare && is_empty (row_of include w.0))
+      → is_empty w.1 ≡ true → IsFound include (words_of loose include text) (Some a)
+  words-end w a e n b ended = grind (arith, nat_tests, common_steps, words-step, empty-append)
+
+  -- no word where one is to be
+  pub words-none : word_at_front loose rest ≡ None → IsFound include (words_of loose include text) None
+  words-none e = grind (arith, nat_tests, common_steps, words-step)
+
+  -- a comparator that is not valid
+  pub words-invalid : (w : Signed × List ℕ) → word_at_front loose rest ≡ Some w → NarrowedBy include all (row_of include w.0) None
+      → IsFound include (words_of loose include text) None
+  words-invalid w e n = grind (arith, nat_tests, common_steps, words-step)

@@ -57,7 +57,7 @@ fn tuple_len(text: &[u8]) -> usize
 }
 
 // Whether a digit stands before a place.
-#[tactic(auto, using(crate::proofs::NpmTexts::Tuples::last_before))]
+#[tactic(auto, using(crate::proofs::NpmTexts::Coerced::last_before))]
 fn follows_digit(text: &[u8], at: usize) -> bool
     requires { at ≤ length text.now }
     ensures { result ≡ ends is_ascii_digit (take at text.now) }
@@ -78,7 +78,7 @@ fn tuple_len_at(text: &[u8], at: usize) -> usize
 }
 
 // The leftmost tuple.
-#[tactic(auto, using(crate::proofs::NpmTexts::Tuples::firsts))]
+#[tactic(auto, using(crate::proofs::NpmTexts::Coerced::firsts))]
 fn first_tuple(text: &[u8]) -> Option<&[u8]>
     ensures some { IfSome result (λ tuple. (front back : List ℕ)
         × IsTupleIn text.now front tuple.now back × IsLeftmost text.now front tuple.now back) }
@@ -94,7 +94,7 @@ fn first_tuple(text: &[u8]) -> Option<&[u8]>
 }
 
 // The tuple that ends last.
-#[tactic(auto, using(crate::proofs::NpmTexts::Tuples::lasts))]
+#[tactic(auto, using(crate::proofs::NpmTexts::Coerced::lasts))]
 fn last_tuple(text: &[u8]) -> Option<&[u8]>
     ensures some { IfSome result (λ tuple. (front back : List ℕ)
         × IsTupleIn text.now front tuple.now back × IsRightmost text.now front tuple.now back) }

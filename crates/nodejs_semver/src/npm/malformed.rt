@@ -58,7 +58,7 @@ fn is_inner(byte: u8) -> bool
 }
 
 /// How many such characters stand at the front.
-#[tactic(auto, using(crate::proofs::Strict::Places::prefix_steps))]
+#[tactic(auto, using(crate::proofs::Strict::PartialLaw::prefix_steps))]
 pub(crate) fn visible_len(text: &[u8]) -> usize
     ensures value { result ≡ prefix_len Bytes.is_visible text.now }
     ensures fits { result ≤ length text.now }

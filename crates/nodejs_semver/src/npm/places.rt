@@ -30,7 +30,7 @@ enum Place {
 }
 
 // How many digits stand at the front.
-#[tactic(auto, using(crate::proofs::Strict::Places::prefix_steps))]
+#[tactic(auto, using(crate::proofs::Strict::PartialLaw::prefix_steps))]
 pub(crate) fn digits_len(text: &[u8]) -> usize
     ensures value { result ≡ prefix_len is_ascii_digit text.now }
     ensures fits { result ≤ length text.now }
@@ -45,7 +45,7 @@ pub(crate) fn digits_len(text: &[u8]) -> usize
 
 // The number up to the limit that the run of digits at the front is, and the text behind it.
 #[inline(always)]
-#[tactic(auto, using(crate::proofs::Strict::Numbers::numbers_in))]
+#[tactic(auto, using(crate::proofs::Strict::VersionLaw::numbers_in))]
 fn number_front(text: &[u8]) -> Option<(u64, &[u8])>
     ensures { front_view result ≡ number_front MAX_SAFE_INTEGER text.now }
 {
@@ -55,7 +55,7 @@ fn number_front(text: &[u8]) -> Option<(u64, &[u8])>
 
 // The place at the front that is a run of digits past the limit.
 #[inline(never)]
-#[tactic(auto, using(crate::proofs::Strict::Limits::no_places))]
+#[tactic(auto, using(crate::proofs::Strict::PartialLaw::no_places))]
 fn great_place(loose: bool, zeros: bool, text: &[u8]) -> Option<(Place, &[u8])>
     requires no_number { number_front MAX_SAFE_INTEGER text.now ≡ None }
     requires no_wildcard { begins_wildcard text.now ≡ false }
@@ -72,7 +72,7 @@ fn great_place(loose: bool, zeros: bool, text: &[u8]) -> Option<(Place, &[u8])>
 
 // The place at the front where no number without leading zeros stands and no wildcard.
 #[inline(never)]
-#[tactic(auto, using(crate::proofs::Strict::Limits::padded_places))]
+#[tactic(auto, using(crate::proofs::Strict::PartialLaw::padded_places))]
 fn padded_place(loose: bool, zeros: bool, text: &[u8]) -> Option<(Place, &[u8])>
     requires no_number { strict_number MAX_SAFE_INTEGER text.now ≡ None }
     requires no_wildcard { begins_wildcard text.now ≡ false }
@@ -94,7 +94,7 @@ fn padded_place(loose: bool, zeros: bool, text: &[u8]) -> Option<(Place, &[u8])>
 
 // The place at the front, and the text behind it.
 #[inline(always)]
-#[tactic(auto, using(crate::proofs::Strict::Limits::places_found))]
+#[tactic(auto, using(crate::proofs::Strict::PartialLaw::places_found))]
 fn place_front(loose: bool, zeros: bool, text: &[u8]) -> Option<(Place, &[u8])>
     ensures { place_front_view result
         ≡ Spec.placed MAX_SAFE_INTEGER (Spec.place_front loose zeros text.now) }

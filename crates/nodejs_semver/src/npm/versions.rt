@@ -25,7 +25,7 @@ pub(crate) fn begins_padded(text: &[u8]) -> bool
 
 // A number without leading zeros, and the text behind it.
 #[inline(always)]
-#[tactic(auto, using(crate::proofs::Strict::Numbers::numbers_found))]
+#[tactic(auto, using(crate::proofs::Strict::VersionLaw::numbers_found))]
 pub(crate) fn strict_number(text: &[u8]) -> Option<(u64, &[u8])>
     ensures { front_view result ≡ Spec.strict_number MAX_SAFE_INTEGER text.now }
 {

@@ -97,7 +97,7 @@ fn sign_front(text: &[u8]) -> (Sign, &[u8])
 }
 
 // How many marks, `v` and `=`, stand at the front.
-#[tactic(auto, using(crate::proofs::Strict::Places::prefix_steps))]
+#[tactic(auto, using(crate::proofs::Strict::PartialLaw::prefix_steps))]
 pub(crate) fn marks_len(text: &[u8]) -> usize
     ensures value { result ≡ Spec.marks_len text.now }
     ensures fits { result ≤ length text.now }
@@ -123,7 +123,7 @@ fn are_marks(loose: bool, sign: Sign, partial: &Partial<'_>, marks: &[u8]) -> bo
 }
 
 // The word of a sign, marks and the partial that was read behind them.
-#[tactic(auto, using(crate::proofs::Strict::WordReads::marks_found))]
+#[tactic(auto, using(crate::proofs::Strict::AlternativeLaw::marks_found))]
 fn ended_word<'a>(
     loose: bool,
     sign: Sign,

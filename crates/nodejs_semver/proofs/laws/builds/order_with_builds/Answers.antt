@@ -1,4 +1,4 @@
-use Rattle.nodejs_semver.proofs.Questions.Builds as law
+use Rattle.nodejs_semver.proofs.Questions as law
 use Rattle.nodejs_semver.proofs.laws.builds.order_with_builds.Goals as goal
 
 pub returns : goal.returns

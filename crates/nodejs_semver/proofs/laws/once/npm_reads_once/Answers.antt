@@ -1,5 +1,5 @@
-use Rattle.nodejs_semver.proofs.Strict.Reread.{reread}
-use Rattle.nodejs_semver.proofs.Strict.Once as law
+use Rattle.nodejs_semver.proofs.Strict.Printed.{reread}
+use Rattle.nodejs_semver.proofs.Strict.AlternativeLaw as law
 use Rattle.nodejs_semver.proofs.laws.once.npm_reads_once.Goals as goal
 
 pub returns : goal.returns

@@ -1,4 +1,4 @@
-use Rattle.nodejs_semver.proofs.NpmTexts.Tuples.{first_none, first_step}
+use Rattle.nodejs_semver.proofs.NpmTexts.Coerced.{first_none, first_step}
 use Rattle.nodejs_semver.proofs.npm.coerced.first_tuple.Goals as goal
 
 pub places-preserved : goal.places-preserved

@@ -1,4 +1,4 @@
-use Rattle.nodejs_semver.proofs.NpmTexts.Tuples.{BeginsAfter}
+use Rattle.nodejs_semver.proofs.NpmTexts.Coerced.{BeginsAfter}
 use Rattle.nodejs_semver.proofs.npm.coerced.first_tuple.Given as goal
 
 abbrev pub invariant-places : goal.invariant-places

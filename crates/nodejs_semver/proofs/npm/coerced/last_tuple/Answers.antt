@@ -1,6 +1,7 @@
-use Rattle.nodejs_semver.proofs.{NpmTexts.Tuples.{last_found, last_kept, last_none, last_taken}, npm.coerced.last_tuple.Goals.else-len-gt0}
-use Rattle.nodejs_semver.proofs.npm.coerced.last_tuple.Goals.{else-len-gt0-via-else-len-gt0, else-len-gt0-via-then-len-gt0+else-at-len}
-use Rattle.{nodejs_semver.proofs.npm.coerced.last_tuple.Goals.then-len-gt0+then-at-len, std.proofs.Common.{arith, inl, inr}}
+use Rattle.nodejs_semver.proofs.NpmTexts.Coerced.{last_found, last_kept, last_none, last_taken}
+use Rattle.nodejs_semver.proofs.npm.coerced.last_tuple.Goals.{else-len-gt0, else-len-gt0-via-else-len-gt0}
+use Rattle.nodejs_semver.proofs.npm.coerced.last_tuple.Goals.{else-len-gt0-via-then-len-gt0+else-at-len, then-len-gt0+then-at-len}
+use Rattle.std.proofs.Common.{arith, inl, inr}
 use Rattle.nodejs_semver.proofs.npm.coerced.last_tuple.Goals as goal
 
 pub places-preserved : goal.places-preserved

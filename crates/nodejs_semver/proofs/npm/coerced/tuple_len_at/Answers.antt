@@ -1,4 +1,4 @@
-use Rattle.nodejs_semver.proofs.{Common.{sym, take_rest, ◌∙◌}, NpmTexts.Tuples.{longest_none, longest_some}}
+use Rattle.nodejs_semver.proofs.{Common.{sym, take_rest, ◌∙◌}, NpmTexts.Coerced.{longest_none, longest_some}}
 use Rattle.nodejs_semver.proofs.npm.coerced.tuple_len_at.Goals as goal
 
 pub returns-then-follows_digit : goal.returns-then-follows_digit

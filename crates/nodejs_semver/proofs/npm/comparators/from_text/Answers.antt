@@ -1,5 +1,5 @@
 use Rattle.nodejs_semver.proofs.{Common.{ap, arith, codes, common_steps, false, not, refl, ◌||◌, ◌∙◌, ◌≡◌}, NpmCommon.{at_least, bytes_eq}}
-use Rattle.nodejs_semver.proofs.Strict.{Narrowing.one_common, Rows.{either_true, whole_readable}}
+use Rattle.nodejs_semver.proofs.Strict.Rows.{either_true, one_common, whole_readable}
 use Rattle.nodejs_semver.proofs.npm.comparators.from_text.Goals as goal
 
 pub returns-then-include : goal.returns-then-include

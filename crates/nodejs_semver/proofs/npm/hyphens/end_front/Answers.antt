@@ -1,5 +1,5 @@
 use Rattle.nodejs_semver.proofs.{Common.{MAX_SAFE_INTEGER, None, Some, ap, arith, length, ◌∙◌}, NpmCommon.npm_partial_view}
-use Rattle.nodejs_semver.{proofs.Strict.WordReads.{end_here, ends_le, partial-le}, specs.Internal.NpmViews.is_free_end}
+use Rattle.nodejs_semver.{proofs.Strict.AlternativeLaw.{end_here, ends_le, partial-le}, specs.Internal.NpmViews.is_free_end}
 use Rattle.nodejs_semver.proofs.npm.hyphens.end_front.Goals as goal
 
 pub ended_end-requires-clause-behind : goal.ended_end-requires-clause-behind

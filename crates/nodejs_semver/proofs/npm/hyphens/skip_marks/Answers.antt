@@ -1,4 +1,4 @@
-use Rattle.nodejs_semver.proofs.{Common.{arith, sym, take_rest, ◌∙◌}, Strict.WordReads.{ends_step, ends_stop}}
+use Rattle.nodejs_semver.proofs.{Common.{arith, sym, take_rest, ◌∙◌}, Strict.AlternativeLaw.{ends_step, ends_stop}}
 use Rattle.nodejs_semver.proofs.npm.hyphens.skip_marks.Goals as goal
 
 pub returns-then-len-eq0 : goal.returns-then-len-eq0

@@ -1,4 +1,4 @@
-use Rattle.nodejs_semver.proofs.{Common.{ap, arith, length}, Stopping.MalformedWords.{boundary-fits, word-is}}
+use Rattle.nodejs_semver.proofs.{Common.{ap, arith, length}, Stopping.Ranges.{boundary-fits, word-is}}
 use Rattle.nodejs_semver.proofs.npm.malformed_words.malformed_word.Goals as goal
 
 pub overflow_sub-result-2 : goal.overflow_sub-result-2

@@ -1,5 +1,5 @@
-use Rattle.nodejs_semver.proofs.{Common.{List, false, sym, ℕ}, NpmCommon.{Signed, signed_view}, Stopping.MalformedWords.invalid-word}
-use Rattle.nodejs_semver.proofs.{Stopping.MalformedWords.{no-word, right-word}, Strict.WordReads.word-normal}
+use Rattle.nodejs_semver.proofs.{Common.{List, false, sym, ℕ}, NpmCommon.{Signed, signed_view}, Stopping.Ranges.{invalid-word, no-word}}
+use Rattle.nodejs_semver.proofs.{Stopping.Ranges.right-word, Strict.AlternativeLaw.word-normal}
 use Rattle.nodejs_semver.proofs.npm.malformed_words.right_word.Goals as goal
 
 pub returns-in_err-word-clause-none : goal.returns-in_err-word-clause-none

@@ -1,4 +1,4 @@
-use Rattle.nodejs_semver.proofs.{Common.{arith, sym}, Strict.Limits.great_placed}
+use Rattle.nodejs_semver.proofs.{Common.{arith, sym}, Strict.PartialLaw.great_placed}
 use Rattle.nodejs_semver.proofs.npm.places.great_place.Goals as goal
 
 pub returns : goal.returns

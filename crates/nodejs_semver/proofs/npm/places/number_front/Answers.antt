@@ -1,4 +1,4 @@
-use Rattle.nodejs_semver.proofs.{Common.{MAX_SAFE_INTEGER, sym}, Strict.Numbers.front_there}
+use Rattle.nodejs_semver.proofs.{Common.{MAX_SAFE_INTEGER, sym}, Strict.VersionLaw.front_there}
 use Rattle.nodejs_semver.proofs.npm.places.number_front.Goals as goal
 
 pub returns : goal.returns

@@ -1,4 +1,4 @@
-use Rattle.nodejs_semver.proofs.{Common.{arith, sym, ◌∙◌}, Strict.Limits.{patch_cut, patch_whole}}
+use Rattle.nodejs_semver.proofs.{Common.{arith, sym, ◌∙◌}, Strict.PartialLaw.{patch_cut, patch_whole}}
 use Rattle.nodejs_semver.specs.Internal.NpmViews.{place_front_view}
 use Rattle.nodejs_semver.proofs.npm.places.patch_place.Goals as goal
 

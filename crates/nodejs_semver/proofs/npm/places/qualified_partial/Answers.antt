@@ -1,4 +1,4 @@
-use Rattle.nodejs_semver.{proofs.{Common.{refl, sym, ◌∙◌}, Strict.Limits.over_counted}, specs.Internal.NpmViews.place_view}
+use Rattle.nodejs_semver.{proofs.{Common.{refl, sym, ◌∙◌}, Strict.PartialLaw.over_counted}, specs.Internal.NpmViews.place_view}
 use Rattle.semver_core.proofs.Text.Ends.{nothing_listed}
 use Rattle.nodejs_semver.proofs.npm.places.qualified_partial.Goals as goal
 

@@ -1,5 +1,5 @@
 use Rattle.nodejs_semver.proofs.{Common.{list_all-append, ◌∙◌}, NpmCommon.{Ended, hyphen_lower, hyphen_upper}}
-use Rattle.nodejs_semver.{proofs.Strict.{Narrowing.{lower-bare, upper-bare}, RangeReads.upper-read}, specs.Internal.NpmViews.end_view}
+use Rattle.nodejs_semver.{proofs.Strict.{RangeReads.upper-read, Rows.{lower-bare, upper-bare}}, specs.Internal.NpmViews.end_view}
 use Rattle.nodejs_semver.proofs.npm.ranges.between.Goals as goal
 
 pub returns-in_err-from : goal.returns-in_err-from

@@ -1,4 +1,4 @@
-use Rattle.nodejs_semver.proofs.{Common.sym, NpmCommon.Ended, Strict.{RangeReads.{hyphen-none, hyphen-some}, WordReads.hyphen-normal}}
+use Rattle.nodejs_semver.proofs.{Common.sym, NpmCommon.Ended, Strict.{AlternativeLaw.hyphen-normal, RangeReads.{hyphen-none, hyphen-some}}}
 use Rattle.nodejs_semver.specs.Internal.NpmViews.{end_view}
 use Rattle.nodejs_semver.proofs.npm.ranges.hyphen.Goals as goal
 

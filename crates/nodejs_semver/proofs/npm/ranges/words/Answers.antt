@@ -1,6 +1,6 @@
-use Rattle.nodejs_semver.proofs.{Common.{List, sym, ℕ, ◌∙◌}, NpmCommon.{Signed, signed_view}, Strict.WordReads.word-normal}
-use Rattle.nodejs_semver.proofs.Strict.WordSteps.{word-shorter, words-begin, words-end, words-invalid, words-next, words-none}
-use Rattle.nodejs_semver.proofs.Strict.Malformed.{empty-length}
+use Rattle.nodejs_semver.proofs.{Common.{List, sym, ℕ, ◌∙◌}, NpmCommon.{Signed, signed_view}, Strict.AlternativeLaw.word-normal}
+use Rattle.nodejs_semver.proofs.Strict.{Malformed.empty-length, Words.{word-shorter, words-begin, words-end, words-invalid, words-next}}
+use Rattle.nodejs_semver.proofs.Strict.Words.{words-none}
 use Rattle.nodejs_semver.proofs.npm.ranges.words.Goals as goal
 
 pub words-init : goal.words-init

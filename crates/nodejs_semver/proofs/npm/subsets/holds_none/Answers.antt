@@ -1,5 +1,4 @@
-use Rattle.nodejs_semver.proofs.{Common.{None, Some, accepts, true}, Questions.Subsets.none_in, npm.subsets.holds_none.Goals.in-None}
-use Rattle.nodejs_semver.proofs.npm.subsets.holds_none.Goals.{in-Some}
+use Rattle.nodejs_semver.proofs.{Common.{None, Some, accepts, true}, Questions.none_in, npm.subsets.holds_none.Goals.{in-None, in-Some}}
 use Rattle.nodejs_semver.proofs.npm.subsets.holds_none.Goals as goal
 
 pub returns : goal.returns

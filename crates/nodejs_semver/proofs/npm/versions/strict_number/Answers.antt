@@ -1,4 +1,4 @@
-use Rattle.nodejs_semver.proofs.{Common.{sym, ◌∙◌}, Strict.Numbers.strict_some}
+use Rattle.nodejs_semver.proofs.{Common.{sym, ◌∙◌}, Strict.VersionLaw.strict_some}
 use Rattle.nodejs_semver.proofs.npm.versions.strict_number.Goals as goal
 
 pub returns : goal.returns

@@ -1,4 +1,5 @@
-use Rattle.{nodejs_semver.proofs.{Common.{ap, arith, length}, Strict.WordReads.marks-utf8}, std.proofs.lemmas.Str.IsCharBoundary-from_drop}
+use Rattle.nodejs_semver.proofs.{Common.{ap, arith, length}, Strict.AlternativeLaw.marks-utf8}
+use Rattle.std.proofs.lemmas.Str.{IsCharBoundary-from_drop}
 use Rattle.nodejs_semver.proofs.npm.versions.unmarked.Goals as goal
 
 pub range_from-requires : goal.range_from-requires

@@ -1,4 +1,4 @@
-use Rattle.nodejs_semver.proofs.Strict.{WordReads.{ignored-here, no-boundary, not-loose}, Words.none-ignored}
+use Rattle.nodejs_semver.proofs.Strict.{AlternativeLaw.{ignored-here, no-boundary, not-loose}, Words.none-ignored}
 use Rattle.nodejs_semver.proofs.npm.words.ignored_word.Goals.{then-not-loose-via-else-not-loose+then-not-begins_malformed}
 use Rattle.{nodejs_semver.proofs.npm.words.ignored_word.Goals.then-not-loose-via-then-not-loose, std.proofs.Common.{sym, ◌∙◌}}
 use Rattle.nodejs_semver.proofs.npm.words.ignored_word.Goals as goal

@@ -1,4 +1,4 @@
-use Rattle.nodejs_semver.proofs.{Common.◌∙◌, Strict.WordReads.{behind-le, word_here}}
+use Rattle.nodejs_semver.proofs.{Common.◌∙◌, Strict.AlternativeLaw.{behind-le, word_here}}
 use Rattle.nodejs_semver.proofs.npm.words.signed_word.Goals as goal
 
 pub ended_word-requires-clause-rest : goal.ended_word-requires-clause-rest

@@ -1,4 +1,4 @@
-use Rattle.nodejs_semver.proofs.{Common.{sym, ◌∙◌}, Strict.WordReads.{any-ignored, any-signed}}
+use Rattle.nodejs_semver.proofs.{Common.{sym, ◌∙◌}, Strict.AlternativeLaw.{any-ignored, any-signed}}
 use Rattle.nodejs_semver.proofs.npm.words.word_front.Goals as goal
 
 pub returns-then-is_some : goal.returns-then-is_some

@@ -1,5 +1,5 @@
-use Rattle.nodejs_semver.proofs.Common.{None, Some, beyond, false, on_err, refl}
-use Rattle.nodejs_semver.proofs.{Questions.Subsets.{by_least}, range.RangeOf.is_subset.Goals.{in-None, in-Some}}
+use Rattle.nodejs_semver.proofs.{Common.{None, Some, beyond, false, on_err, refl}, Questions.by_least}
+use Rattle.nodejs_semver.proofs.range.RangeOf.is_subset.Goals.{in-None, in-Some}
 use Rattle.nodejs_semver.proofs.range.RangeOf.is_subset.Goals as goal
 
 pub returns-in_err-least_beyond-clause-memory : goal.returns-in_err-least_beyond-clause-memory

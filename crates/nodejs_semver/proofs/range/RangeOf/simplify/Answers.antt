@@ -1,6 +1,5 @@
-use Rattle.nodejs_semver.proofs.Common.{IfOk-weaker, arith, on_err, refl, sym, ◌∙◌}
-use Rattle.nodejs_semver.proofs.Questions.Simplified.{copy-same, copy-shorter, none-list, some-list, some-same, some-shorter, used-taking}
-use Rattle.nodejs_semver.proofs.{Questions.Simplified.{used-valid}, Values.{taking-values}}
+use Rattle.nodejs_semver.proofs.{Common.{IfOk-weaker, arith, on_err, refl, sym, ◌∙◌}, Questions.{copy-same, copy-shorter, none-list}}
+use Rattle.nodejs_semver.proofs.{Questions.{some-list, some-same, some-shorter, used-taking, used-valid}, Values.taking-values}
 use Rattle.nodejs_semver.proofs.range.RangeOf.simplify.Goals as goal
 
 pub returns-in_err-push_used-clause-memory : goal.returns-in_err-push_used-clause-memory

@@ -1,4 +1,4 @@
-use Rattle.nodejs_semver.{proofs.{NpmCommon.{npm_partial_view, npm_sign_view}, Strict.Narrowing.table-bare}, specs.Npm.Table.table}
+use Rattle.nodejs_semver.{proofs.{NpmCommon.{npm_partial_view, npm_sign_view}, Strict.Rows.table-bare}, specs.Npm.Table.table}
 use Rattle.nodejs_semver.proofs.npm.alternatives.Alternative.meet.Goals as goal
 
 pub returns-clause-narrowed : goal.returns-clause-narrowed

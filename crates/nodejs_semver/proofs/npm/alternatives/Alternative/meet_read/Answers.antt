@@ -1,4 +1,4 @@
-use Rattle.nodejs_semver.proofs.{Common.Some, NpmCommon.AreRead, Strict.Narrowing.narrowed_read}
+use Rattle.nodejs_semver.proofs.{Common.Some, NpmCommon.AreRead, Strict.Rows.narrowed_read}
 use Rattle.nodejs_semver.proofs.npm.alternatives.Alternative.meet_read.Goals as goal
 
 pub returns-clause-narrowed : goal.returns-clause-narrowed

@@ -1,4 +1,4 @@
-use Rattle.nodejs_semver.proofs.Strict.Readings.{of_accepted}
+use Rattle.nodejs_semver.proofs.Strict.RangeReads.{of_accepted}
 use Rattle.nodejs_semver.proofs.npm.readings.ReadRange.min_satisfying.Goals as goal
 
 pub returns : goal.returns

@@ -1,10 +1,13 @@
--- Worked rows, computed: node-semver's table, which versions a list of alternatives accepts, and how some words are written.
-use Rattle.nodejs_semver.proofs.Common.{AlphaNumeric, Bool, IsBlank, List, Some, VersionValue, [], above, at_most, below, codes}
-use Rattle.nodejs_semver.proofs.Common.{encode_utf8, equal, false, inl, list_all, lit≤, map, refl, release_value, true, ℕ, ◌++◌}
-use Rattle.nodejs_semver.proofs.{Common.{◌∷◌, ◌≡◌}, NpmCommon.{AreWords, Comparison, IsPartial, are_marks, may_stand}}
-use Rattle.nodejs_semver.proofs.NpmCommon.{at_least, begins_undashed, caret_equal, compared, digits, hyphen_lower, hyphen_upper}
-use Rattle.nodejs_semver.proofs.NpmCommon.{is_lost, is_malformed, is_spelled, is_valid, join_with_byte, last, late_above, lit<}
-use Rattle.nodejs_semver.proofs.NpmCommon.{major, minor, one, sign, spelling, tilde_twice, whole, wildcard, word}
+-- Worked rows, computed: node-semver's table, which versions a list of alternatives accepts, and which texts are versions.
+use Rattle.nodejs_semver.proofs.Common.{AlphaNumeric, Bool, Id, IsBlank, List, None, Numeric, Option, Some, VersionValue, [], above}
+use Rattle.nodejs_semver.proofs.Common.{at_most, below, codes, encode_utf8, equal, false, inl, is_some, list_all, list_len, lit≤, map}
+use Rattle.nodejs_semver.proofs.{Common.{refl, release_value, space_len, true, ℕ, ◌++◌, ◌∷◌, ◌≡◌}, NpmCommon.{AreWords, Comparison}}
+use Rattle.nodejs_semver.proofs.NpmCommon.{IsPartial, after_ends, are_marks, are_spelled, at_least, begins_undashed, build_front}
+use Rattle.nodejs_semver.proofs.NpmCommon.{caret_equal, compared, dashed_front, digits, dotted_number, hyphen_lower, hyphen_upper, is_lost}
+use Rattle.nodejs_semver.proofs.NpmCommon.{is_malformed, is_spelled, is_valid, join_with_byte, last, late_above, listed, lit<}
+use Rattle.nodejs_semver.proofs.NpmCommon.{loose_dotted, loose_front, loose_patch, loose_qualified, loose_version, major, minor, number_of}
+use Rattle.nodejs_semver.proofs.NpmCommon.{one, patch_front, pre_release_front, qualified_version, sign, spelling, strict_number}
+use Rattle.nodejs_semver.proofs.NpmCommon.{strict_version, tilde_twice, tuple_len, tuple_release, whole, wildcard, word}
 use Rattle.nodejs_semver.specs.Npm.{RangeText.number, Ranges.accepts, Table.{Partial, Sign, caret, table, tilde}}
 
 -- ---- the table, as node-semver prints the range of each word
@@ -194,3 +197,76 @@ row-lost : map (λ text. is_lost true text []) (codes "foo" ∷ (codes "foo * ba
     ++ is_lost false (codes "foo") [] ∷ (is_lost true (codes "foo 1 bar") (table false (compared equal) (major 1) []) ∷ [])
     ≡ true ∷ (true ∷ (false ∷ (false ∷ (false ∷ (false ∷ [])))))
 row-lost = refl
+
+abbrev read_loose : List ℕ → Option VersionValue
+read_loose text = loose_version 9007199254740991 text
+
+-- 1.2.3 with a pre-release and a build
+abbrev tagged : List Id → List Id → Option VersionValue
+tagged pre build = Some (record { major = 1; minor = 2; patch = 3; pre_release = pre; build = build })
+
+row-loose : map read_loose (codes "1.2.3" ∷ codes "=v 01.02.003" ∷ codes "1.2.3-01" ∷ codes "1.2.3beta+07" ∷ codes "1.2.3-" ∷ codes "1.2.3--"
+    ∷ codes "1.2.34.5" ∷ [])
+    ≡ tagged [] [] ∷ tagged [] [] ∷ tagged (Numeric 1 ∷ []) [] ∷ tagged (AlphaNumeric (codes "beta") ∷ []) (Numeric 7 ∷ [])
+    ∷ tagged (AlphaNumeric (codes "-") ∷ []) [] ∷ tagged (AlphaNumeric (codes "-") ∷ []) [] ∷ tagged (Numeric 4 ∷ Numeric 5 ∷ []) [] ∷ []
+unfolding loose_version loose_dotted loose_patch patch_front loose_qualified loose_front build_front number_of list_len listed after_ends space_len
+row-loose = refl
+
+-- a missing number, what stands behind, no digit left for the patch number, the mark `V`, a number past the limit
+row-rejected-loose : map (λ (text : List ℕ). is_some (read_loose text)) (codes "1.2" ∷ codes "1.2.3.4" ∷ codes "1.2.3 4" ∷ codes "1.2.34." ∷ codes "V1.2.3"
+    ∷ codes "1.2.3+" ∷ codes "1.2.3a..b" ∷ codes "0.0.9007199254740992" ∷ [])
+    ≡ false ∷ false ∷ false ∷ false ∷ false ∷ false ∷ false ∷ false ∷ []
+unfolding loose_version loose_dotted loose_patch patch_front loose_qualified loose_front build_front number_of list_len listed after_ends space_len
+row-rejected-loose = refl
+
+-- how a pre-release without a `-` before it may begin
+row-bare-loose : map (begins_undashed false) (codes "beta" ∷ codes "-" ∷ codes "-.5" ∷ codes "4.5" ∷ codes "4" ∷ codes "45.6" ∷ codes "4a" ∷ codes "-a" ∷ [])
+    ≡ true ∷ true ∷ true ∷ true ∷ false ∷ false ∷ false ∷ false ∷ []
+row-bare-loose = refl
+
+-- the longest tuple at the front
+row-tuples : map tuple_len (codes "1.2.3.4" ∷ codes "1.2.x" ∷ codes "20.11 (LTS)" ∷ codes "x1" ∷ codes "1..2" ∷ codes "1234567890123456"
+    ∷ codes "12345678901234567.1" ∷ codes "1.12345678901234567" ∷ [])
+    ≡ 5 ∷ 3 ∷ 5 ∷ 0 ∷ 1 ∷ 16 ∷ 0 ∷ 1 ∷ []
+unfolding tuple_len
+row-tuples = refl
+
+abbrev released : Bool → List ℕ → Option VersionValue
+released zeros tuple = tuple_release zeros 9007199254740991 tuple
+
+row-releases : map (released false) (codes "1.2.3" ∷ codes "20.11" ∷ codes "2" ∷ codes "01.2" ∷ codes "1.02" ∷ codes "9007199254740992" ∷ [])
+    ≡ Some (release_value 1 2 3) ∷ Some (release_value 20 11 0) ∷ Some (release_value 2 0 0) ∷ None ∷ None ∷ None ∷ []
+unfolding tuple_release strict_number number_of
+row-releases = refl
+
+row-zeros : map (released true) (codes "01.2" ∷ codes "1.02" ∷ codes "00.0.9007199254740992" ∷ [])
+    ≡ Some (release_value 1 2 0) ∷ Some (release_value 1 2 0) ∷ None ∷ []
+unfolding tuple_release number_of
+row-zeros = refl
+
+abbrev read : List ℕ → Option VersionValue
+read text = strict_version 9007199254740991 text
+
+abbrev is_read : List ℕ → Bool
+is_read text = is_some (read text)
+
+row-versions : map read (codes "1.2.3" ∷ codes "v0.20.0" ∷ codes "1.2.3-0.a-1.00a+007.x" ∷ codes "0.0.9007199254740991" ∷ [])
+    ≡ Some (release_value 1 2 3) ∷ Some (release_value 0 20 0)
+    ∷ Some (record {
+      major = 1;
+      minor = 2;
+      patch = 3;
+      pre_release = Numeric 0 ∷ AlphaNumeric (codes "a-1") ∷ AlphaNumeric (codes "00a") ∷ [];
+      build = Numeric 7 ∷ AlphaNumeric (codes "x") ∷ [];
+    })
+    ∷ Some (release_value 0 0 9007199254740991) ∷ []
+unfolding strict_version strict_number dotted_number qualified_version dashed_front pre_release_front build_front number_of list_len listed
+row-versions = refl
+
+-- a missing number, leading zeros, a number past the limit, a missing hyphen, other marks, a mark with a blank, what stands behind
+row-rejected : map is_read (codes "1.2" ∷ codes "01.2.3" ∷ codes "1.2.00" ∷ codes "1.2.3-01" ∷ codes "1.2.3-a.00" ∷ codes "0.0.9007199254740992"
+    ∷ codes "1.2.3beta" ∷ codes "V1.2.3" ∷ codes "=1.2.3" ∷ codes "v 1.2.3" ∷ codes "1.2.3.4" ∷ codes "1.2.3-" ∷ codes "1.2.3-a..b" ∷ codes "1.2.3+"
+    ∷ codes "1.2.3+a+b" ∷ codes "1.2.x" ∷ [])
+    ≡ false ∷ false ∷ false ∷ false ∷ false ∷ false ∷ false ∷ false ∷ false ∷ false ∷ false ∷ false ∷ false ∷ false ∷ false ∷ false ∷ []
+unfolding strict_version strict_number dotted_number qualified_version dashed_front pre_release_front build_front number_of list_len listed
+row-rejected = refl
