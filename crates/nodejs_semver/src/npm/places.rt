@@ -374,7 +374,7 @@ fn places_front(loose: bool, text: &[u8]) -> Option<(Partial<'_>, &[u8])>
 }
 
 // How many characters stand in front of the first `+`.
-#[tactic(auto, using(crate::proofs::Strict::Places::prefix_steps))]
+#[tactic(auto, using(crate::proofs::Strict::PartialLaw::prefix_steps))]
 fn len_before_plus(text: &[u8]) -> usize
     ensures { result ≡ prefix_len (λ b. not (b == 43)) text.now }
 {

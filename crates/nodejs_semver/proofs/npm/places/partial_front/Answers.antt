@@ -1,4 +1,4 @@
-use Rattle.nodejs_semver.proofs.Strict.WordReads.{places-le}
+use Rattle.nodejs_semver.proofs.Strict.AlternativeLaw.{places-le}
 use Rattle.nodejs_semver.proofs.npm.places.partial_front.Goals as goal
 
 pub slice_bounds-is_short-count : goal.slice_bounds-is_short-count
