@@ -7,7 +7,7 @@ use Rattle.nodejs_semver.proofs.{Alike.Rows.{version, whole_above, whole_below, 
 use Rattle.nodejs_semver.proofs.Common.{Before, Bool, Bound, Comparator, Greater, Id, IfSome, List, MAX_SAFE_INTEGER, Numeric, Ordering}
 use Rattle.nodejs_semver.proofs.Common.{Partial, Some, Span, Unbounded, VersionValue, [], above, and-true, and_parts, ap, append-nil}
 use Rattle.nodejs_semver.proofs.Common.{arith, at_most, below, cases_Bool, common_steps, compare, eqb-true, equal, false, first_so, holds}
-use Rattle.nodejs_semver.proofs.Common.{inl, inr, interval, is_empty, is_eq, is_ge, is_interval, is_le, is_lt, is_release, lets_in}
+use Rattle.nodejs_semver.proofs.Common.{inl, inr, is_empty, is_eq, is_ge, is_le, is_lt, is_release, lets_in}
 use Rattle.nodejs_semver.proofs.Common.{list_all, list_all-append, meet, nat_tests, not, not-true, ordering_reverse, ordering_then}
 use Rattle.nodejs_semver.proofs.Common.{pre_cmp, precedence, refl, same_triple, subst, sym, table, true, version_of, ℕ, ◌&&◌, ◌++◌, ◌+◌}
 use Rattle.nodejs_semver.proofs.{Common.{◌==◌, ◌||◌, ◌∙◌, ◌∷◌, ◌≡◌}, NpmCommon.{Comparison, IsPartial, IsPlainPartial, Numbers, at_least}}

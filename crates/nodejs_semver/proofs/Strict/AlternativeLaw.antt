@@ -16,7 +16,7 @@ use Rattle.nodejs_semver.proofs.NpmCommon.{alternatives_of, any_word, are_normal
 use Rattle.nodejs_semver.proofs.NpmCommon.{counted_front, drop_ends, encode_ascii, end_front, ended_end, hyphen_comparisons, hyphen_ends}
 use Rattle.nodejs_semver.proofs.NpmCommon.{hyphen_lower, hyphen_of, hyphen_upper, ignored, ignored_front, is_free_lower, is_free_upper}
 use Rattle.nodejs_semver.proofs.NpmCommon.{is_malformed, is_mark, is_small, is_valid, is_visible, kept, last, last_end, len_utf8, limited}
-use Rattle.nodejs_semver.proofs.NpmCommon.{limited_end, limited_hyphen, limited_word, marked_word, marks_len, may_stand, no_build}
+use Rattle.nodejs_semver.proofs.NpmCommon.{limited_end, limited_hyphen, limited_word, marked_word, marks_len, no_build}
 use Rattle.nodejs_semver.proofs.NpmCommon.{npm_sign, or_else, plus, signed_front_view, signed_word, space_len-white, strict_version}
 use Rattle.nodejs_semver.proofs.{NpmCommon.{wildcard, word, ◌>>?◌}, Reading.Bytes.{all-join, begins_component, component-solid, is_solid}}
 use Rattle.nodejs_semver.proofs.Reading.{Bytes.solid-dark, Steps.option-cases, WordLaw.{byte-is, tail-utf8, trim-utf8}}
@@ -24,11 +24,19 @@ use Rattle.nodejs_semver.proofs.Strict.Malformed.{blank-dark, blank-signal, boun
 use Rattle.nodejs_semver.proofs.Strict.{Malformed.{malformed-more, part-visible, partial-part, sign-signal}, PartialLaw.boundary-quiet}
 use Rattle.nodejs_semver.proofs.Strict.{PartialLaw.{counted_limited, partial-found, partial-read, prefix-all}, Signs.blank-at}
 use Rattle.nodejs_semver.proofs.Strict.{Signs.{blank-skipped, marks-all}, VersionLaw.{empty-is, strict-read-version}, Words.blank-boundary}
-use Rattle.nodejs_semver.proofs.Strict.Words.{blank-some, blank-space, front-text, not-empty, partial-begins, rest-utf8, space-boundary}
+use Rattle.nodejs_semver.proofs.Strict.Words.{blank-some, blank-space, not-empty, partial-begins, rest-utf8, space-boundary}
 use Rattle.nodejs_semver.{proofs.Strict.Words.{words-found, words-read, words-visible}, specs.Internal.NpmWords.{after_dash, end_len}}
 use Rattle.nodejs_semver.specs.Internal.{NpmWords.{last_limited, npm_alternatives, partial_front, words_within}, Words.after_some_space}
 use Rattle.nodejs_semver.specs.Npm.{Grammar.IsPreRelease, RangeText.{hyphen, more, next, nothing, words}, Table.{Partial, Sign}}
 use Rattle.{semver_core.proofs.Text.SpaceLaw.space_len-dark, std.proofs.lemmas.Str.{IsUtf8-past_char, encode_same}}
+use Rattle.nodejs_semver.specs.Internal.NpmWords.{counted_places}
+use Rattle.nodejs_semver.proofs.NpmCommon.{IsPlaces}
+use Rattle.nodejs_semver.specs.Internal.NpmWords.{short_only}
+use Rattle.nodejs_semver.specs.Internal.NpmWords.{places_front}
+use Rattle.nodejs_semver.proofs.Strict.PartialLaw.{front-text}
+use Rattle.nodejs_semver.proofs.Strict.PartialLaw.{places-found}
+use Rattle.nodejs_semver.proofs.NpmCommon.{is_short}
+use Rattle.nodejs_semver.proofs.Strict.PartialLaw.{places-limited}
 use Rattle.nodejs_semver.specs.declared.npm.words.Signed as Runtime
 
 -- ---- marks and whitespace at the front

@@ -8,19 +8,20 @@ use Rattle.nodejs_semver.proofs.Common.{option_holds-interval, option_to_list, p
 use Rattle.nodejs_semver.proofs.Common.{sym, take, trim, true, ℕ, ◌++◌, ◌-◌, ◌<◌, ◌∙◌, ◌∷◌, ◌≡◌, ◌≤◌, ◌⊎◌}
 use Rattle.nodejs_semver.proofs.{Dividing.{BarsDivide.bars_divide, MeaningLaw.pieces-utf8}, Everyday.Parts.bars-sound}
 use Rattle.nodejs_semver.proofs.Everyday.{Texts.{compact-trim, cut-first, cut-last}, Words.{Compact, compact-spaced, is_part_byte}}
-use Rattle.nodejs_semver.proofs.NpmCommon.{AcceptAsRanged, AreAlternatives, AreRead, Comparison, IsCommon, IsNarrowed, IsPartial, IsPlace}
+use Rattle.nodejs_semver.proofs.NpmCommon.{AcceptAsRanged, AreAlternatives, AreRead, Comparison, IsCommon, IsNarrowed, IsPartial}
 use Rattle.nodejs_semver.proofs.NpmCommon.{IsRangeIn, after_byte, are_normal, begins_wildcard, bounds_view, compared, counted_front}
-use Rattle.nodejs_semver.proofs.NpmCommon.{dotted_patch, dotted_place, is_small, is_valid, limited, listed, lit<, no_sign, patch_place}
+use Rattle.nodejs_semver.proofs.NpmCommon.{dotted_patch, dotted_place, is_valid, listed, lit<, no_sign, patch_place}
 use Rattle.nodejs_semver.proofs.{NpmCommon.{spelling, strict_number, within}, Reading.Bytes.{all-end, all-join}}
 use Rattle.nodejs_semver.proofs.Strict.{AlternativeLaw.{partial-le, partial-normal}, Malformed.{is_part, partial-part}}
 use Rattle.nodejs_semver.proofs.Strict.PartialLaw.{PartialAt, counted_limited, number_placed, over_counted, partial-found, wildcard_placed}
 use Rattle.nodejs_semver.{proofs.Strict.{RangeReads.{found_spans, ranged_range}, Rows.both_common}, specs.Internal.CommonFronts.after_bars}
 use Rattle.nodejs_semver.specs.Internal.{NpmAlternatives.ranged, NpmFronts.{AreIn, AreJoined, AreParts, IsLeft, IsPartAt, IsSignAt}}
 use Rattle.nodejs_semver.specs.Internal.{NpmFronts.{IsTried, IsWordAt, is_word_byte}, NpmReadings.dotted_number, NpmReads.AreFound}
-use Rattle.nodejs_semver.specs.{Internal.NpmWords.{any, is_over, number, partial_front, place_zeros, placed}, Npm.RangeText.AreWords}
+use Rattle.nodejs_semver.specs.{Internal.NpmWords.{any, is_over, number, place_zeros, placed}, Npm.RangeText.AreWords}
 use Rattle.nodejs_semver.specs.Npm.{RangeText.IsWord, Table.{Partial, Sign, first, major, minor, table, whole, wildcard}}
 use Rattle.nodejs_semver.specs.{Text.{Common.IsGap, WordText.equal}, declared.readers.syntax.Bounds.Bounds}
 use Rattle.std.proofs.Math.Seq.{take-append_seam}
+use Rattle.nodejs_semver.proofs.NpmCommon.{IsPlaces}
 use Rattle.nodejs_semver.specs.Internal.NpmFronts as Front
 use Rattle.nodejs_semver.specs.Npm.RangeText as Npm
 

@@ -2,22 +2,32 @@
 -- numbers past the limit where none counts.
 use Rattle.nodejs_semver.proofs.Common.{Bool, Front, Id, IsNumber, List, MAX_SAFE_INTEGER, None, Option, Some, [], and-false, and_parts}
 use Rattle.nodejs_semver.proofs.Common.{ap, append-nil, append_assoc, arith, begins, bind_some, cases_Bool, common_steps, drop, drop_at}
-use Rattle.nodejs_semver.proofs.Common.{false, if◌then◌else◌, inl, inr, is_ascii_digit, is_boundary, is_empty, length, list_all, nat_lt}
+use Rattle.nodejs_semver.proofs.Common.{false, inl, inr, is_ascii_digit, is_boundary, is_empty, length, list_all, nat_lt}
 use Rattle.nodejs_semver.proofs.Common.{nat_tests, not, prefix_len, refl, same_Some, subst, suc, sym, take, take-append-drop, take_at}
 use Rattle.nodejs_semver.proofs.Common.{take_rest, true, zero, ℕ, ◌&&◌, ◌++◌, ◌+◌, ◌-◌, ◌<◌, ◌==◌, ◌||◌, ◌∙◌, ◌∷◌, ◌≡◌, ◌≤◌}
 use Rattle.nodejs_semver.proofs.NpmCommon.{IsPartial, IsPlace, IsStrictBuild, after_byte, begins_byte, begins_padded, begins_wildcard}
 use Rattle.nodejs_semver.proofs.NpmCommon.{build_front, counted_front, dashed_front, digits_value, dotted_patch, dotted_place}
-use Rattle.nodejs_semver.proofs.NpmCommon.{drop-append-add, has_leading_zero, has_zeros, is_small, is_spelled, length-prefix_len, limited}
-use Rattle.nodejs_semver.proofs.NpmCommon.{listed, may_stand, most_digits, nat_le, number_front, number_of, one, or-true, partial_of}
+use Rattle.nodejs_semver.proofs.NpmCommon.{drop-append-add, has_leading_zero, has_zeros, is_spelled, length-prefix_len, limited}
+use Rattle.nodejs_semver.proofs.NpmCommon.{listed, may_stand, nat_le, number_front, number_of, one, or-true, partial_of}
 use Rattle.nodejs_semver.proofs.NpmCommon.{patch_place, place_front, pre_front, qualified_partial, run_place, second_front, strict_number}
 use Rattle.nodejs_semver.proofs.{NpmCommon.{take_while, third_front, three, two, ◌>>?◌}, Reading.Bytes.{is_solid, solid-dark}}
 use Rattle.nodejs_semver.proofs.Reading.{Numbers.{digits-taken, number-found, number-no_wildcard, number-of}, WordLaw.byte-is}
 use Rattle.nodejs_semver.proofs.Strict.VersionLaw.{Ends, Follows, build-found, build-taken, ends-nil, number-short, padded-same}
 use Rattle.nodejs_semver.{proofs.Strict.VersionLaw.{pre-follows, pre-found, pre-taken}, specs.Internal.NpmWords.{Place, any}}
 use Rattle.nodejs_semver.specs.Internal.NpmWords.{are_short_builds, counted, great, is_over, may_follow, number, partial_front, place_of}
-use Rattle.nodejs_semver.specs.{Internal.NpmWords.{place_zeros, placed, qualified_counted}, Npm.{Grammar.IsPreRelease, Table.Partial}}
+use Rattle.nodejs_semver.specs.{Internal.NpmWords.{placed, qualified_counted}, Npm.{Grammar.IsPreRelease, Table.Partial}}
 use Rattle.{semver_core.proofs.Text.Runs.list_len_stop, std.proofs.lemmas.List.Sums.{prefix_len-drop_all, prefix_len-drop_no}}
 use Rattle.std.proofs.lemmas.List.Sums.{prefix_len-drop_yes}
+use Rattle.nodejs_semver.specs.Internal.NpmWords.{short_only}
+use Rattle.nodejs_semver.specs.Internal.NpmWords.{places_front}
+use Rattle.nodejs_semver.specs.Internal.NpmWords.{is_any}
+use Rattle.nodejs_semver.proofs.NpmCommon.{is_none}
+use Rattle.nodejs_semver.proofs.NpmCommon.{begins_undashed}
+use Rattle.nodejs_semver.proofs.NpmCommon.{IsPlaces}
+use Rattle.nodejs_semver.proofs.Common.{length-append}
+use Rattle.nodejs_semver.specs.Internal.NpmWords.{counted_places}
+use Rattle.nodejs_semver.proofs.Common.{cond_some}
+use Rattle.nodejs_semver.proofs.NpmCommon.{is_short}
 use Rattle.nodejs_semver.specs.Npm.RangeText as Text
 
 pub ruleset prefix_steps = (prefix_len-drop_all, prefix_len-drop_no, prefix_len-drop_yes)
@@ -194,13 +204,13 @@ qualified-read loose a b c pre build more l m h k t e = grind (arith, nat_tests,
 third-read : (loose zeros : Bool) (fits : List ℕ → Bool) (z pre build more : List ℕ) (c : Option ℕ) (l m : List Id) → IsPlace loose zeros z c
     → IsPreRelease loose (is_none c) fits pre l → IsStrictBuild build m → Ends more
     → dotted_patch loose zeros (46 ∷ (z ++ (pre ++ (build ++ more)))) ≡ Some (c, pre ++ (build ++ more))
-third-read loose zeros fits z pre build more None l m (any b w) h k e = wild-patch loose zeros b (pre ++ (build ++ more)) w
+third-read loose zeros fits z pre build more None l m (Text.any b w) h k e = wild-patch loose zeros b (pre ++ (build ++ more)) w
 third-read loose zeros fits z pre build more (Some n) l m i h k e =
     patch-read loose zeros z (pre ++ (build ++ more)) (Some n) i (pre-follows loose fits pre build more l m h k e)
 
 places-read : (loose : Bool) (x more : List ℕ) (p : Partial) → IsPlaces loose x p → begins is_solid more ≡ false
     → places_front loose (x ++ more) ≡ Some (p, more)
-unfolding places_front
+unfolding places_front dotted_patch
 places-read loose x more p (one x1 a h) quiet = rw (place-read loose false x more a h (quiet-digit more quiet), quiet-dot loose (has_zeros a) more quiet) refl
 places-read loose x more p (two x1 y a b h k) quiet =
     grind (arith, nat_tests, common_steps, append_assoc, place-read, dotted_place-read, quiet-digit)

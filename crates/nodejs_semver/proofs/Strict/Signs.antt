@@ -1,10 +1,10 @@
 -- The signs of node-semver's words, with the whitespace behind them: what is read is written, and what is written is read.
 use Rattle.nodejs_semver.proofs.Common.{Bool, Comparator, IsBlank, IsUtf8, List, [], above, and_parts, ap, append_assoc, arith, at_most}
-use Rattle.nodejs_semver.proofs.Common.{begins, below, cases_Bool, common_steps, drop, drop_spaces, drop_spaces-blank, drop_spaces-none}
+use Rattle.nodejs_semver.proofs.Common.{below, cases_Bool, common_steps, drop, drop_spaces, drop_spaces-blank, drop_spaces-none}
 use Rattle.nodejs_semver.proofs.Common.{encode_utf8_all, eqb-true, equal, false, if◌then◌else◌, inl, inr, is_empty, is_whitespace}
-use Rattle.nodejs_semver.proofs.Common.{len_utf8_bounds, length, list_all, nat_lt, nat_tests, not, refl, space_len, subst, true, ℕ, ◌&&◌}
+use Rattle.nodejs_semver.proofs.Common.{len_utf8_bounds, length, list_all, nat_lt, nat_tests, refl, space_len, subst, true, ℕ, ◌&&◌}
 use Rattle.nodejs_semver.proofs.{Common.{◌++◌, ◌<◌, ◌==◌, ◌||◌, ◌∙◌, ◌∷◌, ◌≡◌, ◌⊎◌}, NpmCommon.{IsSignText, are_marks, at_least}}
-use Rattle.nodejs_semver.proofs.NpmCommon.{begins_byte, caret_equal, compared, is_mark, is_one_v, late_above, late_below, no_sign}
+use Rattle.nodejs_semver.proofs.NpmCommon.{begins_byte, caret_equal, compared, is_mark, late_above, late_below, no_sign}
 use Rattle.nodejs_semver.proofs.NpmCommon.{npm_sign, or_late, sign, skip_equal, skip_greater, skip_tilde, space_len-white, spelling}
 use Rattle.nodejs_semver.proofs.{NpmCommon.tilde_twice, Reading.{Bytes.{begins_component, is_solid, solid-dark}, WordLaw.skips-is}}
 use Rattle.nodejs_semver.proofs.{Reading.WordLaw.{skips-utf8, tail-utf8}, Strict.VersionLaw.byte-begins}

@@ -162,7 +162,9 @@ undashed-begins : (wild : Bool) (text : List ℕ) → begins_undashed wild text 
 undashed-begins wild text h = grind (arith, nat_tests)
 
 pub letter-on : (wild : Bool) (text more : List ℕ) → begins_undashed wild text ≡ true → begins_identifier more ≡ false → begins_undashed wild (text ++ more) ≡ true
-letter-on wild text more h k = grind (arith, nat_tests, common_steps)
+letter-on wild [] more h k = cc h
+letter-on true (c ∷ text) more h k = grind (arith, nat_tests, common_steps)
+letter-on false (c ∷ text) more h k = grind (arith, nat_tests, common_steps)
 
 goes-on : (more : List ℕ) → goes_on more ≡ false → begins_identifier more ≡ false
 goes-on more h = grind (arith, nat_tests)

@@ -1,4 +1,5 @@
 -- The words of node-semver's range texts: the functions that read them find exactly what the statement has, one word after another.
+use Rattle.nodejs_semver.proofs.Common.{◌||◌}
 use Rattle.nodejs_semver.proofs.Common.{Bool, Front, IsBlank, IsUtf8, List, MAX_SAFE_INTEGER, None, Option, Some, Span, VersionValue, []}
 use Rattle.nodejs_semver.proofs.Common.{and_parts, ap, append-nil, append_assoc, arith, begins, bind_some, cases_Bool, common_steps}
 use Rattle.nodejs_semver.proofs.Common.{cond_some, drop, drop_at, drop_spaces, eqb-true, equal, false, if◌then◌else◌, inl, inr}
@@ -15,6 +16,10 @@ use Rattle.nodejs_semver.proofs.Strict.{Malformed.{sign-visible, visible-dark, w
 use Rattle.nodejs_semver.proofs.Strict.{PartialLaw.{partial-found, partial-read}, Signs.{blank-at, blank-cases, blank-skipped, marks-all}}
 use Rattle.nodejs_semver.{proofs.Strict.{Signs.{sign-found, sign-taken}, VersionLaw.empty-is}, specs.Internal.NpmWords.ended_word}
 use Rattle.nodejs_semver.specs.{Internal.NpmWords.{partial_front, words_within}, Npm.{RangeText.more, Table.{Partial, Sign, table}}}
+use Rattle.nodejs_semver.proofs.Strict.PartialLaw.{front-text}
+use Rattle.nodejs_semver.proofs.NpmCommon.{IsPlaces}
+use Rattle.nodejs_semver.proofs.Strict.Signs.{is_open}
+use Rattle.nodejs_semver.proofs.Strict.Signs.{open-first}
 
 -- ---- how partials and marks begin
 
