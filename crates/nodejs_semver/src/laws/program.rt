@@ -6,7 +6,7 @@ ghost use Rattle.nodejs_semver.specs.Words.{MAX_SAFE_INTEGER, Means, not, NoValu
 ghost use Rattle.nodejs_semver.specs.Words.{RefusedOnlyIf, Span, true, VersionValue, Writes};
 
 use crate::laws::headline::{FindingsAt, is_in};
-use crate::{Allocated, Failure, MAX_SAFE_INTEGER, RangeRef, SemverError, VersionRef};
+use crate::{Failure, MAX_SAFE_INTEGER, RangeRef, SemverError, VersionRef};
 use semver_core::laws::one_reading;
 use std::alloc::Global;
 
@@ -43,7 +43,7 @@ pub fn headline_of_texts<'t>(
     let version = VersionRef::parse(v)?;
     let first = RangeRef::parse(alloc, a)?;
     let second = RangeRef::parse(alloc, b)?;
-    Ok(findings_at(alloc, &first, &second, &version)?)
+    findings_at(alloc, &first, &second, &version)
 }
 
 // What the calls return for two ranges and a version.
@@ -52,7 +52,8 @@ fn findings_at<'t>(
     first: &RangeRef<'t>,
     second: &RangeRef<'t>,
     version: &VersionRef<'_>,
-) -> Allocated<FindingsAt>
+) -> Result<FindingsAt, Failure<SemverError>>
+    ensures refused { RefusedOnlyIf result ⊥ }
     ensures first { IfOk result (λ found. found.in_first ≡ accepts first.now version.now true) }
     ensures both { IfOk result (λ found. found.in_both
         ≡ (accepts first.now version.now true && accepts second.now version.now true)) }

@@ -3,6 +3,3 @@ use Rattle.nodejs_semver.proofs.readers.fast.push_both.Goals as goal
 
 pub returns-in-Unbounded-Unbounded-clause-added : goal.returns-in-Unbounded-Unbounded-clause-added
 returns-in-Unbounded-Unbounded-clause-added g c = grind (arith, half_open)
-
-pub returns-in_default : goal.returns-in_default
-returns-in_default g c = rw c.common_interval.ensures at c.push_rare.ensures
