@@ -7,7 +7,7 @@ use Rattle.nodejs_semver.proofs.{Common.{true, ℕ, ◌++◌, ◌+◌, ◌-◌, 
 use Rattle.nodejs_semver.proofs.{Diagnosing.IgnoredParts.{part_fits, sizes_of}, Dividing.BarLemmas.{cut_bars-front, parts_after}}
 use Rattle.nodejs_semver.proofs.{Dividing.{BarsDivide.{bars_divide, bars_once}, MeaningLaw.pieces-utf8}, NpmCommon.Alternative}
 use Rattle.nodejs_semver.proofs.NpmCommon.{AreAlternatives, Comparison, HasAlternatives, IsFound, IsLeft, IsMalformedWord, NoValue, Signed}
-use Rattle.nodejs_semver.proofs.NpmCommon.{alternative_of, any_word, here, is_none, is_small, is_valid, is_visible, limited_word, none}
+use Rattle.nodejs_semver.proofs.NpmCommon.{alternative_of, any_word, here, is_none, is_small, is_valid, limited_word, none}
 use Rattle.nodejs_semver.proofs.{NpmCommon.{valid_alternative, valid_only, word_front}, Reading.{Bytes.begins-some, WordLaw.boundary-of}}
 use Rattle.nodejs_semver.proofs.Reading.WordLaw.{boundary-utf8, first-is, first-of, skips-is, skips-of, skips-utf8, suffix-boundary}
 use Rattle.nodejs_semver.proofs.{Reading.WordLaw.trim-utf8, Strict.AlternativeLaw.{alternative-found, alternative-read}}

@@ -3,8 +3,8 @@
 use Rattle.nodejs_semver.proofs.Common.{Bool, Front, Id, IsTrim, List, None, Option, Some, VersionValue, [], all_weaker, and-false}
 use Rattle.nodejs_semver.proofs.Common.{and-true, and_parts, ap, append-nil, arith, begins, begins_identifier, cases_Bool, common_steps}
 use Rattle.nodejs_semver.proofs.Common.{drop, drop_at, encode_utf8_all, eqb-true, false, if◌then◌else◌, inl, inr, is_ascii_digit, is_empty}
-use Rattle.nodejs_semver.proofs.Common.{is_identifier_char, is_some, is_whitespace, length, list_all, list_all-append, list_len, nat_tests}
-use Rattle.nodejs_semver.proofs.Common.{not, not-false, not-true, onto_first, pieces, prefix_len, refl, suc, sym, take, take-append-drop}
+use Rattle.nodejs_semver.proofs.Common.{is_identifier_char, is_some, is_whitespace, list_all, list_all-append, list_len, nat_tests, not}
+use Rattle.nodejs_semver.proofs.Common.{not-false, not-true, onto_first, pieces, prefix_len, refl, suc, sym, take, take-append-drop}
 use Rattle.nodejs_semver.proofs.{Common.{take_at, true, zero, ℕ, ◌&&◌, ◌*◌, ◌++◌, ◌+◌, ◌<◌, ◌==◌, ◌∙◌, ◌∷◌, ◌≡◌, ◌≤◌}, NpmCommon.Build}
 use Rattle.nodejs_semver.proofs.NpmCommon.{Dash, Digit, IsFront, IsSpelled, IsStrictBuild, IsStrictNumber, IsStrictPreRelease}
 use Rattle.nodejs_semver.proofs.NpmCommon.{IsStrictVersion, Number, Padded, Plus, PreRelease, State, Zero, build_front, dashed_front}

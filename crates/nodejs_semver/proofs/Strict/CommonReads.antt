@@ -107,9 +107,7 @@ number_place : (zeros : Bool) (text : List ℕ) (n : ℕ) (rest : List ℕ) → 
     × (placed MAX_SAFE_INTEGER (dotted_patch false zeros text) ≡ Some (number n, rest))
 unfolding dotted_number dotted_place dotted_patch patch_place
 number_place zeros text n rest h =
-    let t = bind_some (after_byte 46 text) _ (n, rest) (sym h) in
-    let k = number_placed false zeros t.0 n rest t.2 in
-    (rw t.1 k, rw t.1 k)
+    grind (arith, nat_tests, common_steps, after_byte, number_placed)
 
 pub short-any : (text end : List ℕ) → begins_wildcard text ≡ true → end ≡ drop 1 text → is_over end ≡ true
     → Some (wildcard, end) ≡ counted_front false MAX_SAFE_INTEGER text

@@ -2,13 +2,13 @@
 -- numbers past the limit where none counts.
 use Rattle.nodejs_semver.proofs.Common.{Bool, Front, Id, IsNumber, List, MAX_SAFE_INTEGER, None, Option, Some, [], and-false, and_parts}
 use Rattle.nodejs_semver.proofs.Common.{ap, append-nil, append_assoc, arith, begins, bind_some, cases_Bool, common_steps, drop, drop_at}
-use Rattle.nodejs_semver.proofs.Common.{false, if◌then◌else◌, inl, inr, is_ascii_digit, is_boundary, is_empty, length, list_all, nat_lt}
-use Rattle.nodejs_semver.proofs.Common.{nat_tests, not, prefix_len, refl, same_Some, subst, suc, sym, take, take-append-drop, take_at}
-use Rattle.nodejs_semver.proofs.Common.{take_rest, true, zero, ℕ, ◌&&◌, ◌++◌, ◌+◌, ◌-◌, ◌<◌, ◌==◌, ◌||◌, ◌∙◌, ◌∷◌, ◌≡◌, ◌≤◌}
-use Rattle.nodejs_semver.proofs.NpmCommon.{IsPartial, IsPlace, IsStrictBuild, after_byte, begins_byte, begins_padded, begins_wildcard}
-use Rattle.nodejs_semver.proofs.NpmCommon.{build_front, counted_front, dashed_front, digits_value, dotted_patch, dotted_place}
-use Rattle.nodejs_semver.proofs.NpmCommon.{drop-append-add, has_leading_zero, has_zeros, is_spelled, length-prefix_len, limited, listed}
-use Rattle.nodejs_semver.proofs.NpmCommon.{may_stand, most_digits, nat_le, number_front, number_of, one, or-true, partial_of, patch_place}
+use Rattle.nodejs_semver.proofs.Common.{false, inl, inr, is_ascii_digit, is_boundary, is_empty, length, list_all, nat_lt, nat_tests, not}
+use Rattle.nodejs_semver.proofs.Common.{prefix_len, refl, same_Some, subst, suc, sym, take, take-append-drop, take_at, take_rest, true}
+use Rattle.nodejs_semver.proofs.{Common.{zero, ℕ, ◌&&◌, ◌++◌, ◌+◌, ◌-◌, ◌<◌, ◌==◌, ◌||◌, ◌∙◌, ◌∷◌, ◌≡◌, ◌≤◌}, NpmCommon.IsPartial}
+use Rattle.nodejs_semver.proofs.NpmCommon.{IsPlace, IsStrictBuild, after_byte, begins_byte, begins_padded, begins_wildcard, build_front}
+use Rattle.nodejs_semver.proofs.NpmCommon.{counted_front, dashed_front, digits_value, dotted_patch, dotted_place, drop-append-add}
+use Rattle.nodejs_semver.proofs.NpmCommon.{has_leading_zero, has_zeros, is_spelled, length-prefix_len, limited, listed, may_stand}
+use Rattle.nodejs_semver.proofs.NpmCommon.{most_digits, nat_le, number_front, number_of, one, or-true, partial_of, patch_place}
 use Rattle.nodejs_semver.proofs.NpmCommon.{place_front, pre_front, qualified_partial, run_place, second_front, strict_number, take_while}
 use Rattle.nodejs_semver.proofs.{NpmCommon.{third_front, three, two, ◌>>?◌}, Reading.{Bytes.{is_solid, solid-dark}, Numbers.digits-taken}}
 use Rattle.nodejs_semver.proofs.{Reading.{Numbers.{number-found, number-no_wildcard, number-of}, WordLaw.byte-is}, Strict.VersionLaw.Ends}
