@@ -7,12 +7,12 @@ use Rattle.nodejs_semver.proofs.{Alike.Rows.{version, whole_above, whole_below, 
 use Rattle.nodejs_semver.proofs.Common.{Before, Bool, Bound, Comparator, Greater, Id, IfSome, List, MAX_SAFE_INTEGER, Numeric, Ordering}
 use Rattle.nodejs_semver.proofs.Common.{Partial, Some, Span, Unbounded, VersionValue, [], above, and-true, and_parts, ap, append-nil}
 use Rattle.nodejs_semver.proofs.Common.{arith, at_most, below, cases_Bool, common_steps, compare, eqb-true, equal, false, first_so, holds}
-use Rattle.nodejs_semver.proofs.Common.{inl, inr, is_empty, is_eq, is_ge, is_le, is_lt, is_release, lets_in}
-use Rattle.nodejs_semver.proofs.Common.{list_all, list_all-append, meet, nat_tests, not, not-true, ordering_reverse, ordering_then}
-use Rattle.nodejs_semver.proofs.Common.{pre_cmp, precedence, refl, same_triple, subst, sym, table, true, version_of, ℕ, ◌&&◌, ◌++◌, ◌+◌}
-use Rattle.nodejs_semver.proofs.{Common.{◌==◌, ◌||◌, ◌∙◌, ◌∷◌, ◌≡◌}, NpmCommon.{Comparison, IsPartial, IsPlainPartial, Numbers, at_least}}
-use Rattle.nodejs_semver.proofs.NpmCommon.{compared, from, is_firm, is_plain, is_valid, is_zero, may_have, npm_partial, release, under}
-use Rattle.nodejs_semver.{proofs.{NpmCommon.zero_least, Strict.Rows.{holds-both, lets_in-both}}, specs.Npm.{Alike.is_apart, Table.lowest}}
+use Rattle.nodejs_semver.proofs.Common.{inl, inr, is_empty, is_eq, is_ge, is_le, is_lt, is_release, lets_in, list_all, list_all-append}
+use Rattle.nodejs_semver.proofs.Common.{meet, nat_tests, not, not-true, ordering_reverse, ordering_then, pre_cmp, precedence, refl}
+use Rattle.nodejs_semver.proofs.Common.{same_triple, subst, sym, table, true, version_of, ℕ, ◌&&◌, ◌++◌, ◌+◌, ◌==◌, ◌||◌, ◌∙◌, ◌∷◌, ◌≡◌}
+use Rattle.nodejs_semver.proofs.NpmCommon.{Comparison, IsPartial, IsPlainPartial, Numbers, at_least, compared, from, is_firm, is_plain}
+use Rattle.nodejs_semver.proofs.{NpmCommon.{is_valid, is_zero, may_have, npm_partial, release, under, zero_least}, Strict.Rows.holds-both}
+use Rattle.nodejs_semver.{proofs.Strict.Rows.lets_in-both, specs.Npm.{Alike.is_apart, Table.lowest}}
 use Rattle.semver_core.specs.Internal.OrderLaws.{pre_total}
 use Rattle.nodejs_semver.specs.Npm.Ranges as Npm
 use Rattle.nodejs_semver.specs.Npm.Table as Table

@@ -15,9 +15,8 @@ use Rattle.nodejs_semver.proofs.Common.{tells, tied_itself, true, upper_cut, ver
 use Rattle.nodejs_semver.specs.Internal.Candidates.{zero, bare_release, first_pre, pre_after, patch_after, bare, after_cut, release_after}
 use Rattle.nodejs_semver.specs.Internal.Candidates.{below_at, kept_marks, among, improves, is_reached, first_past}
 use Rattle.semver_core.proofs.Values.NextLaws.{least_after_pre_release, first_of_all, least_after_release}
-use Rattle.nodejs_semver.proofs.Algebra.Gate.{triple_cmp, upto_by_both, below, in_order, past_order, named, named_parts, not_gt_then}
+use Rattle.nodejs_semver.proofs.Algebra.Gate.{below, in_order, lt_is, named, named_parts, not_gt_then, past_order, triple_cmp, upto_by_both}
 use Rattle.nodejs_semver.proofs.Algebra.Gate.{pre_upto, same_triple_is, triple_between, triple_total, triple_upto, le_of_lt, le_trans}
-use Rattle.nodejs_semver.proofs.Algebra.Gate.{lt_is}
 use Rattle.semver_core.specs.Internal.Successors.{above_pre, below_cases, below_more, upto_patch, zero_least}
 
 pub le_not_gt : (r : Ordering) → is_le r ≡ true → is_gt r ≡ false

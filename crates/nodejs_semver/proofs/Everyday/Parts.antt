@@ -366,10 +366,10 @@ passed-none done new o r h k = grind arith
 
 -- ---- one part of a common text after another
 
-abbrev HasBars : List ℕ → Type 0
+abbrev pub HasBars : List ℕ → Type 0
 HasBars text = has_bars text ≡ true
 
-behind-bars : (front rest : List ℕ) → HasBars rest → HasBars (front ++ rest)
+pub behind-bars : (front rest : List ℕ) → HasBars rest → HasBars (front ++ rest)
 behind-bars [] rest h = h
 behind-bars (b ∷ front) rest h = grind (arith, behind-bars front rest h)
 

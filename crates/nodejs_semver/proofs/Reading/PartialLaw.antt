@@ -63,7 +63,7 @@ bare-read x d h = record {
   stop = ended-quiet (take (list_len x) x) x;
 }
 
-byte-begins : (c : ℕ) (x : List ℕ) → begins_byte c x ≡ true → x ≡ c ∷ drop 1 x
+pub byte-begins : (c : ℕ) (x : List ℕ) → begins_byte c x ≡ true → x ≡ c ∷ drop 1 x
 byte-begins c x h = grind arith
 
 pub pre-read : (x : List ℕ) → (p : List ℕ) × PreRead x p (pre_release_front x).1 (pre_release_front x).0
@@ -462,7 +462,7 @@ words-step limit text h k = grind (arith, word-shorter, spaces-le, words-enough,
 
 -- ---- a text that begins with a component has neither `v` nor whitespace in front
 
-front-dark : (text : List ℕ) → begins_component text ≡ true → space_len text ≡ 0
+pub front-dark : (text : List ℕ) → begins_component text ≡ true → space_len text ≡ 0
 front-dark text h = solid-dark text (component-solid text h)
 
 front-kept : (text : List ℕ) → begins_component text ≡ true → drop_spaces (drop_v text) ≡ text

@@ -1,5 +1,5 @@
 -- The word that is computed is the one that is written, and the one that its sign tells.
-use Rattle.nodejs_semver.proofs.Common.{◌≡◌, ℕ, ◌<◌, ◌+◌, List, [], ◌∷◌, length, drop, refl, true, false, ◌⊎◌, ◌≤◌, Bool}
+use Rattle.nodejs_semver.proofs.Common.{Bool, List, [], drop, false, length, partial_front, refl, true, ℕ, ◌+◌, ◌<◌, ◌∷◌, ◌≡◌, ◌≤◌, ◌⊎◌}
 use Rattle.nodejs_semver.proofs.Common.{◌++◌, sym, ap, ◌∙◌, arith, Some, None, inl, inr, subst, append_assoc, length-append, IfSome, ◌↔◌}
 use Rattle.nodejs_semver.proofs.Common.{◌||◌, Option, IsUtf8, ◌==◌, cases_Bool, eqb-true, nat_tests, cond_some, same_Some, drop_at, take_at}
 use Rattle.nodejs_semver.proofs.Common.{IsUtf8-drop, IsCharBoundary-after_ascii, IsTrim, drop_spaces, space_len, drop_spaces-none}
@@ -7,7 +7,6 @@ use Rattle.nodejs_semver.proofs.Common.{space_len-nil, Partial, Word, hyphen, pl
 use Rattle.nodejs_semver.proofs.Common.{tilde_sign, IsSign, Comparator}
 use Rattle.nodejs_semver.proofs.Common.{drop_more, encode_utf8_all, IsCharBoundary, nat_lt, lt-ltb, encodes-append, len_utf8_bounds}
 use Rattle.nodejs_semver.proofs.Common.{IsUtf8-take, drop_spaces-blank, component_front, is_boundary, from_boundary, word_at}
-use Rattle.nodejs_semver.proofs.Common.{partial_front}
 use Rattle.std.proofs.{Math.Seq.{get_or-append_seam}, lemmas.Str.{IsUtf8-past_char, IsUtf8-nil, IsCharBoundary-at_seam}}
 use Rattle.semver_core.specs.{Text.Characters.{BeginsBlank}, Internal.Reading.{◌>>?◌}}
 use Rattle.semver_core.proofs.Text.SpaceLaw.{space_len-dark, space_len-inside, space_len-white}

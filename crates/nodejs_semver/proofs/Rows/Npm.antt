@@ -2,14 +2,13 @@
 use Rattle.nodejs_semver.proofs.Common.{AlphaNumeric, Bool, Id, IsBlank, List, None, Numeric, Option, Some, VersionValue, [], above}
 use Rattle.nodejs_semver.proofs.Common.{at_most, below, codes, encode_utf8, equal, false, inl, is_some, list_all, list_len, lit≤, map}
 use Rattle.nodejs_semver.proofs.{Common.{refl, release_value, space_len, true, ℕ, ◌++◌, ◌∷◌, ◌≡◌}, NpmCommon.{AreWords, Comparison}}
-use Rattle.nodejs_semver.proofs.NpmCommon.{IsPartial, after_ends, are_marks, at_least, begins_undashed, build_front}
+use Rattle.nodejs_semver.proofs.NpmCommon.{IsPartial, after_ends, are_marks, at_least, begins_undashed, build_front, may_stand}
 use Rattle.nodejs_semver.proofs.NpmCommon.{caret_equal, compared, dashed_front, digits, dotted_number, hyphen_lower, hyphen_upper, is_lost}
 use Rattle.nodejs_semver.proofs.NpmCommon.{is_malformed, is_spelled, is_valid, join_with_byte, last, late_above, listed, lit<}
 use Rattle.nodejs_semver.proofs.NpmCommon.{loose_dotted, loose_front, loose_patch, loose_qualified, loose_version, major, minor, number_of}
 use Rattle.nodejs_semver.proofs.NpmCommon.{one, patch_front, pre_release_front, qualified_version, sign, spelling, strict_number}
 use Rattle.nodejs_semver.proofs.NpmCommon.{strict_version, tilde_twice, tuple_len, tuple_release, whole, wildcard, word}
 use Rattle.nodejs_semver.specs.Npm.{RangeText.number, Ranges.accepts, Table.{Partial, Sign, caret, table, tilde}}
-use Rattle.nodejs_semver.proofs.NpmCommon.{may_stand}
 
 -- ---- the table, as node-semver prints the range of each word
 

@@ -3,8 +3,8 @@
 use Rattle.nodejs_semver.proofs.Common.{Bool, Front, Id, IsTrim, List, None, Option, Some, VersionValue, [], all_weaker, and-false}
 use Rattle.nodejs_semver.proofs.Common.{and-true, and_parts, ap, append-nil, arith, begins, begins_identifier, cases_Bool, common_steps}
 use Rattle.nodejs_semver.proofs.Common.{drop, drop_at, encode_utf8_all, eqb-true, false, if◌then◌else◌, inl, inr, is_ascii_digit, is_empty}
-use Rattle.nodejs_semver.proofs.Common.{is_identifier_char, is_some, is_whitespace, length, list_all, list_all-append, list_len, nat_tests}
-use Rattle.nodejs_semver.proofs.Common.{not, not-false, not-true, onto_first, pieces, prefix_len, refl, suc, sym, take, take-append-drop}
+use Rattle.nodejs_semver.proofs.Common.{is_identifier_char, is_some, is_whitespace, list_all, list_all-append, list_len, nat_tests, not}
+use Rattle.nodejs_semver.proofs.Common.{not-false, not-true, onto_first, pieces, prefix_len, refl, suc, sym, take, take-append-drop}
 use Rattle.nodejs_semver.proofs.{Common.{take_at, true, zero, ℕ, ◌&&◌, ◌*◌, ◌++◌, ◌+◌, ◌<◌, ◌==◌, ◌∙◌, ◌∷◌, ◌≡◌, ◌≤◌}, NpmCommon.Build}
 use Rattle.nodejs_semver.proofs.NpmCommon.{Dash, Digit, IsFront, IsSpelled, IsStrictBuild, IsStrictNumber, IsStrictPreRelease}
 use Rattle.nodejs_semver.proofs.NpmCommon.{IsStrictVersion, Number, Padded, Plus, PreRelease, State, Zero, build_front, dashed_front}
@@ -274,14 +274,8 @@ number_if b n rest = if b then Some (n, rest) else None
 number-front : (limit : ℕ) (ds r : List ℕ) → list_all is_ascii_digit ds ≡ true → begins is_ascii_digit r ≡ false
     → strict_number limit (ds ++ r) ≡ number_if (is_number limit ds) (digits_value 10 ds) r
 unfolding strict_number number_of
-number-front limit ds r each stop = grind (
-  arith,
-  nat_tests,
-  padded-same ds r each stop,
-  digits-taken ds r each stop,
-  take_at ds r (length ds) refl,
-  drop_at ds r (length ds) refl,
-)
+number-front limit ds r each stop =
+    grind (arith, nat_tests, common_steps, padded-same, digits-taken, take_at, drop_at)
 
 -- what stands behind a number is read
 abbrev behind_read : ℕ → ℕ → Front ℕ → Bool
@@ -292,15 +286,10 @@ number : (limit left : ℕ) (text : List ℕ) → 9 ≤ limit → is_read limit 
 number limit left text nine =
     let n = prefix_len is_ascii_digit text in
     let each = prefix-all is_ascii_digit text in
-    let whole = take-append-drop n text in
-    let read = number-on limit left (take n text) (drop n text) nine each (run-ends text) in
     let found = number-front limit (take n text) (drop n text) each (run-ends text) in
-    rw whole at (read ∙ bits (is_number limit (take n text)) (digits_value 10 (take n text)) (drop n text)
-    ∙ sym (ap (behind_read limit left) found))
-  where
-    bits : (b : Bool) (n : ℕ) (r : List ℕ) → (b && is_read limit (Number left 0) r) ≡ behind_read limit left (number_if b n r)
-    bits true n r = refl
-    bits false n r = refl
+    let read : is_read limit (Digit left) (take n text ++ drop n text) ≡ behind_read limit left (strict_number limit (take n text ++ drop n text)) =
+    rw found (grind (arith, number-on limit left (take n text) (drop n text) nine each (run-ends text))) in
+    rw (take-append-drop n text) at read
 
 -- a number, and behind it what goes on so
 number-step : (limit left : ℕ) (f : ℕ × List ℕ → Option VersionValue) (text : List ℕ) → 9 ≤ limit → list_all is_dark text ≡ true
@@ -375,17 +364,8 @@ plain-reverse (c ∷ cs) h = grind (arith, nat_tests, common_steps, and_parts, r
 
 pub plain-trim : (w x r : List ℕ) → list_all is_whitespace w ≡ true → list_all is_plain x ≡ true → list_all is_whitespace r ≡ true
     → IsTrim (encode_utf8_all (w ++ (x ++ r))) x
-plain-trim w x r before h after = record {
-  before = w;
-  characters = x;
-  after = r;
-  divided = refl;
-  middle_is = sym (plain-encodes x h);
-  blank_before = before;
-  blank_after = after;
-  begins_dark = plain-dark x h;
-  ends_dark = plain-dark (reverse x) (plain-reverse x h);
-}
+plain-trim w x r before h after =
+    grind (arith, nat_tests, common_steps, plain-encodes, plain-dark, plain-reverse)
 
 -- ---- what is written is read, also with a greater limit
 

@@ -10,16 +10,16 @@ use Rattle.nodejs_semver.proofs.Common.{length-encode, list_all, map, middle_is_
 use Rattle.nodejs_semver.proofs.Common.{same_Some, space_len, space_len-nil, subst, suc, sym, take, take_rest, trim, trim_is_middle, true}
 use Rattle.nodejs_semver.proofs.Common.{zero, ℕ, ◌&&◌, ◌++◌, ◌+◌, ◌-◌, ◌<◌, ◌==◌, ◌||◌, ◌↔◌, ◌∙◌, ◌∷◌, ◌≡◌, ◌≤◌}
 use Rattle.nodejs_semver.proofs.{Dividing.{BarsDivide.{bars_divide, bars_once}, MeaningLaw.pieces-utf8}, NpmCommon.AreAlternatives}
-use Rattle.nodejs_semver.proofs.NpmCommon.{AreMarks, AreWords, Comparison, Ended, HasAlternativesIn, IsAlternative, IsPartial}
-use Rattle.nodejs_semver.proofs.NpmCommon.{IsStrictBuild, IsVersionText, IsWord, Signed, after_byte, after_ends, alternative_of}
+use Rattle.nodejs_semver.proofs.NpmCommon.{AreMarks, AreWords, Comparison, Ended, HasAlternativesIn, IsAlternative, IsPartial, IsPlaces}
+use Rattle.nodejs_semver.proofs.NpmCommon.{IsStrictBuild, IsVersionText, IsWord, Signed, after_byte, after_ends, alternative_of, is_short}
 use Rattle.nodejs_semver.proofs.NpmCommon.{alternatives_of, any_word, are_normal, are_whole_marks, begins_malformed, compared}
 use Rattle.nodejs_semver.proofs.NpmCommon.{counted_front, drop_ends, encode_ascii, end_front, ended_end, hyphen_comparisons, hyphen_ends}
 use Rattle.nodejs_semver.proofs.NpmCommon.{hyphen_lower, hyphen_of, hyphen_upper, ignored, ignored_front, is_free_lower, is_free_upper}
 use Rattle.nodejs_semver.proofs.NpmCommon.{is_malformed, is_mark, is_small, is_valid, is_visible, kept, last, last_end, len_utf8, limited}
 use Rattle.nodejs_semver.proofs.NpmCommon.{limited_end, limited_hyphen, limited_word, marked_word, marks_len, no_build}
 use Rattle.nodejs_semver.proofs.NpmCommon.{npm_sign, or_else, plus, signed_front_view, signed_word, space_len-white, strict_version}
-use Rattle.nodejs_semver.proofs.{NpmCommon.{wildcard, word, ◌>>?◌}, Reading.Bytes.{all-join, begins_component, component-solid, is_solid}}
-use Rattle.nodejs_semver.proofs.Reading.{Bytes.solid-dark, Steps.option-cases, WordLaw.{byte-is, tail-utf8, trim-utf8}}
+use Rattle.nodejs_semver.proofs.{NpmCommon.{wildcard, word, ◌>>?◌}, Reading.Bytes.{all-join, begins_component, is_solid, solid-dark}}
+use Rattle.nodejs_semver.proofs.Reading.{PartialLaw.front-dark, Steps.option-cases, WordLaw.{byte-is, tail-utf8, trim-utf8}}
 use Rattle.nodejs_semver.proofs.Strict.Malformed.{blank-dark, blank-signal, boundary-dark, is_dark, is_part, is_signal, malformed-all}
 use Rattle.nodejs_semver.proofs.Strict.{Malformed.{malformed-more, part-visible, partial-part, sign-signal}, PartialLaw.boundary-quiet}
 use Rattle.nodejs_semver.proofs.Strict.{PartialLaw.{counted_limited, partial-found, partial-read, prefix-all}, Signs.blank-at}
@@ -30,12 +30,10 @@ use Rattle.nodejs_semver.specs.Internal.{NpmWords.{last_limited, npm_alternative
 use Rattle.nodejs_semver.specs.Npm.{Grammar.IsPreRelease, RangeText.{hyphen, more, next, nothing, words}, Table.{Partial, Sign}}
 use Rattle.{semver_core.proofs.Text.SpaceLaw.space_len-dark, std.proofs.lemmas.Str.{IsUtf8-past_char, encode_same}}
 use Rattle.nodejs_semver.specs.Internal.NpmWords.{counted_places}
-use Rattle.nodejs_semver.proofs.NpmCommon.{IsPlaces}
 use Rattle.nodejs_semver.specs.Internal.NpmWords.{short_only}
 use Rattle.nodejs_semver.specs.Internal.NpmWords.{places_front}
 use Rattle.nodejs_semver.proofs.Strict.PartialLaw.{front-text}
 use Rattle.nodejs_semver.proofs.Strict.PartialLaw.{places-found}
-use Rattle.nodejs_semver.proofs.NpmCommon.{is_short}
 use Rattle.nodejs_semver.proofs.Strict.PartialLaw.{places-limited}
 use Rattle.nodejs_semver.specs.declared.npm.words.Signed as Runtime
 
@@ -131,11 +129,8 @@ ends-read (c ∷ cs) u h other dark = grind (arith, nat_tests, common_steps, and
 
 -- ---- an end: what is written is read
 
-component-dark : (u : List ℕ) → begins_component u ≡ true → space_len u ≡ 0
-component-dark u h = solid-dark u (component-solid u h)
-
 pub marks-passed : (a u : List ℕ) → AreMarks a → begins_component u ≡ true → drop_ends (a ++ u) ≡ u
-marks-passed a u h k = rw h.1 (ends-read h.0 u h.2 (grind (arith, nat_tests)) (component-dark u k))
+marks-passed a u h k = rw h.1 (ends-read h.0 u h.2 (grind (arith, nat_tests)) (front-dark u k))
 
 pub end-read : (loose : Bool) (free : Partial → Bool) (a x rest : List ℕ) (p : Partial) → AreMarks a → (free p || are_whole_marks loose a) ≡ true
     → IsPartial loose x p → begins is_solid rest ≡ false → end_front loose free (a ++ (x ++ rest)) ≡ Some ((p, a ++ x), rest)
@@ -233,7 +228,7 @@ hyphen-found loose include text e u h =
 -- ---- marks are no whitespace
 
 pub whole-dark : (loose : Bool) (b u : List ℕ) → are_whole_marks loose b ≡ true → begins_component u ≡ true → space_len (b ++ u) ≡ 0
-whole-dark loose b u h k = grind (arith, nat_tests, common_steps, component-dark, mark-dark, and_parts)
+whole-dark loose b u h k = grind (arith, nat_tests, common_steps, front-dark, mark-dark, and_parts)
 
 pub marks_all : (text : List ℕ) (at : ℕ) → at ≡ marks_len text → list_all is_mark (take at text) ≡ true
 marks_all text at e = rw e (prefix-all is_mark text)

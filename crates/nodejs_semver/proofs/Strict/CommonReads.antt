@@ -2,26 +2,24 @@
 use Rattle.nodejs_semver.proofs.{Algebra.Gate.both, Alike.Texts.{gap-bytes, joined, no_mark, no_marks, one_blank, sign_text}}
 use Rattle.nodejs_semver.proofs.Common.{AllByRecursion, Bool, Bound, IfSome, IsRange, IsUtf8, List, MAX_SAFE_INTEGER, None, Option, Some}
 use Rattle.nodejs_semver.proofs.Common.{Span, Unbounded, VersionValue, [], all_weaker, ap, append-nil, append_assoc, arith, begins}
-use Rattle.nodejs_semver.proofs.Common.{bind_some, codes, common_steps, cond_both, cond_some, cut_bars, drop, false, has_bars, inl, inr}
-use Rattle.nodejs_semver.proofs.Common.{interval, is_empty, is_interval, length, length-append, list_all, list_all-append, nat_tests}
+use Rattle.nodejs_semver.proofs.Common.{bind_some, codes, common_steps, cond_both, cond_some, cut_bars, drop, false, inl, inr, interval}
+use Rattle.nodejs_semver.proofs.Common.{is_empty, is_interval, length, length-append, list_all, list_all-append, nat_tests}
 use Rattle.nodejs_semver.proofs.Common.{option_holds-interval, option_to_list, precedence, precedence_total, refl, release_value, subst}
 use Rattle.nodejs_semver.proofs.Common.{sym, take, trim, true, ℕ, ◌++◌, ◌-◌, ◌<◌, ◌∙◌, ◌∷◌, ◌≡◌, ◌≤◌, ◌⊎◌}
-use Rattle.nodejs_semver.proofs.{Dividing.{BarsDivide.bars_divide, MeaningLaw.pieces-utf8}, Everyday.Parts.bars-sound}
-use Rattle.nodejs_semver.proofs.Everyday.{Texts.{compact-trim, cut-first, cut-last}, Words.{Compact, compact-spaced, is_part_byte}}
-use Rattle.nodejs_semver.proofs.NpmCommon.{AcceptAsRanged, AreAlternatives, AreRead, Comparison, IsCommon, IsNarrowed, IsPartial}
-use Rattle.nodejs_semver.proofs.NpmCommon.{IsRangeIn, after_byte, are_normal, begins_wildcard, bounds_view, compared, counted_front}
-use Rattle.nodejs_semver.proofs.NpmCommon.{dotted_patch, dotted_place, is_valid, listed, lit<, no_sign, patch_place}
-use Rattle.nodejs_semver.proofs.{NpmCommon.{spelling, strict_number, within}, Reading.Bytes.{all-end, all-join}}
+use Rattle.nodejs_semver.proofs.{Dividing.{BarsDivide.bars_divide, MeaningLaw.pieces-utf8}, Everyday.Parts.{HasBars, bars-sound}}
+use Rattle.nodejs_semver.proofs.Everyday.{Parts.behind-bars, Texts.{compact-trim, cut-first, cut-last}, Words.{Compact, compact-spaced}}
+use Rattle.nodejs_semver.proofs.{Everyday.Words.is_part_byte, NpmCommon.{AcceptAsRanged, AreAlternatives, AreRead, Comparison, IsCommon}}
+use Rattle.nodejs_semver.proofs.NpmCommon.{IsNarrowed, IsPartial, IsPlaces, IsRangeIn, after_byte, are_normal, begins_wildcard, bounds_view}
+use Rattle.nodejs_semver.proofs.NpmCommon.{compared, counted_front, dotted_patch, dotted_place, is_valid, listed, lit<, no_sign}
+use Rattle.nodejs_semver.proofs.{NpmCommon.{patch_place, spelling, strict_number, within}, Reading.Bytes.{all-end, all-join}}
 use Rattle.nodejs_semver.proofs.Strict.{AlternativeLaw.{partial-le, partial-normal}, Malformed.{is_part, partial-part}}
 use Rattle.nodejs_semver.proofs.Strict.PartialLaw.{PartialAt, counted_limited, number_placed, over_counted, partial-found, wildcard_placed}
 use Rattle.nodejs_semver.{proofs.Strict.{RangeReads.{found_spans, ranged_range}, Rows.both_common}, specs.Internal.CommonFronts.after_bars}
 use Rattle.nodejs_semver.specs.Internal.{NpmAlternatives.ranged, NpmFronts.{AreIn, AreJoined, AreParts, IsLeft, IsPartAt, IsSignAt}}
 use Rattle.nodejs_semver.specs.Internal.{NpmFronts.{IsTried, IsWordAt, is_word_byte}, NpmReadings.dotted_number, NpmReads.AreFound}
-use Rattle.nodejs_semver.specs.{Internal.NpmWords.{any, is_over, number, place_zeros, placed}, Npm.RangeText.AreWords}
-use Rattle.nodejs_semver.specs.Npm.{RangeText.IsWord, Table.{Partial, Sign, first, major, minor, table, whole, wildcard}}
-use Rattle.nodejs_semver.specs.{Text.{Common.IsGap, WordText.equal}, declared.readers.syntax.Bounds.Bounds}
-use Rattle.std.proofs.Math.Seq.{take-append_seam}
-use Rattle.nodejs_semver.proofs.NpmCommon.{IsPlaces}
+use Rattle.nodejs_semver.specs.{Internal.NpmWords.{any, is_over, number, place_zeros, placed}, Npm.Table.{Partial, Sign, first, major}}
+use Rattle.nodejs_semver.specs.{Npm.Table.{minor, table, whole, wildcard}, Text.{Common.IsGap, WordText.equal}}
+use Rattle.{nodejs_semver.specs.declared.readers.syntax.Bounds.Bounds, std.proofs.Math.Seq.take-append_seam}
 use Rattle.nodejs_semver.specs.Internal.NpmFronts as Front
 use Rattle.nodejs_semver.specs.Npm.RangeText as Npm
 
@@ -109,9 +107,7 @@ number_place : (zeros : Bool) (text : List ℕ) (n : ℕ) (rest : List ℕ) → 
     × (placed MAX_SAFE_INTEGER (dotted_patch false zeros text) ≡ Some (number n, rest))
 unfolding dotted_number dotted_place dotted_patch patch_place
 number_place zeros text n rest h =
-    let t = bind_some (after_byte 46 text) _ (n, rest) (sym h) in
-    let k = number_placed false zeros t.0 n rest t.2 in
-    (rw t.1 k, rw t.1 k)
+    grind (arith, nat_tests, common_steps, after_byte, number_placed)
 
 pub short-any : (text end : List ℕ) → begins_wildcard text ≡ true → end ≡ drop 1 text → is_over end ≡ true
     → Some (wildcard, end) ≡ counted_front false MAX_SAFE_INTEGER text
@@ -226,9 +222,6 @@ joined-read include text rest behind last s t (Some b) v e w (open_above, open_b
 
 -- ---- the loop
 
-abbrev HasBars : List ℕ → Type 0
-HasBars text = has_bars text ≡ true
-
 -- what was found, and what is read in the rest, is what is read in the text
 pub record Reaches (include : Bool) (text : List ℕ) (found : List (Span VersionValue)) (rest : List ℕ) : Type 0 where
   pub read : (ss : List (Span VersionValue)) → AreParts include rest ss → AreParts include text (found ++ ss)
@@ -244,10 +237,6 @@ loop-ends include text found new rest behind r (s, p, e) none =
     no-text : (t : List ℕ) → length t ≡ 0 → t ≡ []
     no-text [] h = refl
     no-text (b ∷ t) h = absurd (omega (arith, h))
-
-behind-bars : (front rest : List ℕ) → HasBars rest → HasBars (front ++ rest)
-behind-bars [] rest h = h
-behind-bars (b ∷ front) rest h = grind (arith, behind-bars front rest h)
 
 -- the part and the bars behind it hold bars
 bars-there : (include : Bool) (rest behind next : List ℕ) (s : Span VersionValue) → IsPartAt include rest s behind → after_bars behind ≡ Some next

@@ -7,7 +7,7 @@ use Rattle.nodejs_semver.proofs.Common.{list_all-append, list_any, lt-ltb, nat_l
 use Rattle.nodejs_semver.proofs.Common.{space_len, suc, sym, take, take-append-drop, take_all, true, zero, ℕ, ◌&&◌, ◌++◌, ◌+◌, ◌-◌, ◌<◌}
 use Rattle.nodejs_semver.proofs.{Common.{◌==◌, ◌||◌, ◌∙◌, ◌∷◌, ◌≡◌, ◌≤◌, ◌⊎◌}, NpmCommon.{IsPartial, IsPlace, IsSignText, IsStrictBuild}}
 use Rattle.nodejs_semver.proofs.NpmCommon.{bare, begins_malformed, bytes_eq, caret_equal, compared, dashed, encode_ascii, has_zeros}
-use Rattle.nodejs_semver.proofs.NpmCommon.{ignored_front, is_malformed, is_mark, is_visible, late_above, late_below, nat_le}
+use Rattle.nodejs_semver.proofs.NpmCommon.{IsPlaces, ignored_front, is_malformed, is_mark, is_visible, late_above, late_below, nat_le}
 use Rattle.nodejs_semver.proofs.NpmCommon.{no_build, no_pre_release, no_sign, one, or-true, plus, runs_tail, sign, spelling, tail_runs}
 use Rattle.nodejs_semver.proofs.{NpmCommon.{take_while, three, tilde_twice, two}, Reading.Bytes.{all-end, all-join, begins_component}}
 use Rattle.nodejs_semver.{proofs.{Reading.Bytes.{ends-append, ends-some}, Strict.PartialLaw.prefix-all}, specs.Internal.Fronts.is_wildcard}
@@ -15,7 +15,6 @@ use Rattle.nodejs_semver.specs.{Internal.NpmMalformed.{behind_sign, is_inner}, N
 use Rattle.nodejs_semver.specs.Npm.{Malformed.{is_first, is_last, is_regular, is_sign}, RangeText.tilde_sign, Table.{Partial, Sign}}
 use Rattle.semver_core.{proofs.Text.{Listed.plain_runs, Pieces.tail_onto}, specs.Internal.CommonReading.is_plain}
 use Rattle.std.{proofs.lemmas.List.Sums.{suffix_len-take_no, suffix_len-take_yes}, specs.List.suffix_len}
-use Rattle.nodejs_semver.proofs.NpmCommon.{IsPlaces}
 use Rattle.nodejs_semver.proofs.NpmCommon.{is_none}
 use Rattle.nodejs_semver.specs.Npm.RangeText as Text
 

@@ -2,28 +2,24 @@
 -- numbers past the limit where none counts.
 use Rattle.nodejs_semver.proofs.Common.{Bool, Front, Id, IsNumber, List, MAX_SAFE_INTEGER, None, Option, Some, [], and-false, and_parts}
 use Rattle.nodejs_semver.proofs.Common.{ap, append-nil, append_assoc, arith, begins, bind_some, cases_Bool, common_steps, drop, drop_at}
-use Rattle.nodejs_semver.proofs.Common.{false, inl, inr, is_ascii_digit, is_boundary, is_empty, length, list_all, nat_lt}
-use Rattle.nodejs_semver.proofs.Common.{nat_tests, not, prefix_len, refl, same_Some, subst, suc, sym, take, take-append-drop, take_at}
-use Rattle.nodejs_semver.proofs.Common.{take_rest, true, zero, ℕ, ◌&&◌, ◌++◌, ◌+◌, ◌-◌, ◌<◌, ◌==◌, ◌||◌, ◌∙◌, ◌∷◌, ◌≡◌, ◌≤◌}
-use Rattle.nodejs_semver.proofs.NpmCommon.{IsPartial, IsPlace, IsStrictBuild, after_byte, begins_byte, begins_padded, begins_wildcard}
-use Rattle.nodejs_semver.proofs.NpmCommon.{build_front, counted_front, dashed_front, digits_value, dotted_patch, dotted_place}
-use Rattle.nodejs_semver.proofs.NpmCommon.{drop-append-add, has_leading_zero, has_zeros, is_spelled, length-prefix_len, limited}
-use Rattle.nodejs_semver.proofs.NpmCommon.{listed, may_stand, nat_le, number_front, number_of, one, or-true, partial_of}
-use Rattle.nodejs_semver.proofs.NpmCommon.{patch_place, place_front, pre_front, qualified_partial, run_place, second_front, strict_number}
-use Rattle.nodejs_semver.proofs.{NpmCommon.{take_while, third_front, three, two, ◌>>?◌}, Reading.Bytes.{is_solid, solid-dark}}
-use Rattle.nodejs_semver.proofs.Reading.{Numbers.{digits-taken, number-found, number-no_wildcard, number-of}, WordLaw.byte-is}
-use Rattle.nodejs_semver.proofs.Strict.VersionLaw.{Ends, Follows, build-found, build-taken, ends-nil, number-short, padded-same}
-use Rattle.nodejs_semver.{proofs.Strict.VersionLaw.{pre-follows, pre-found, pre-taken}, specs.Internal.NpmWords.{Place, any}}
-use Rattle.nodejs_semver.specs.Internal.NpmWords.{are_short_builds, counted, great, is_over, may_follow, number, partial_front, place_of}
-use Rattle.nodejs_semver.specs.{Internal.NpmWords.{placed, qualified_counted}, Npm.{Grammar.IsPreRelease, Table.Partial}}
-use Rattle.{semver_core.proofs.Text.Runs.list_len_stop, std.proofs.lemmas.List.Sums.{prefix_len-drop_all, prefix_len-drop_no}}
-use Rattle.std.proofs.lemmas.List.Sums.{prefix_len-drop_yes}
+use Rattle.nodejs_semver.proofs.Common.{false, inl, inr, is_ascii_digit, is_boundary, is_empty, length, list_all, nat_lt, nat_tests, not}
+use Rattle.nodejs_semver.proofs.Common.{prefix_len, refl, same_Some, subst, suc, sym, take, take-append-drop, take_at, take_rest, true}
+use Rattle.nodejs_semver.proofs.{Common.{zero, ℕ, ◌&&◌, ◌++◌, ◌+◌, ◌-◌, ◌<◌, ◌==◌, ◌||◌, ◌∙◌, ◌∷◌, ◌≡◌, ◌≤◌}, NpmCommon.IsPartial}
+use Rattle.nodejs_semver.proofs.NpmCommon.{IsPlace, IsStrictBuild, after_byte, begins_byte, begins_padded, begins_wildcard, build_front}
+use Rattle.nodejs_semver.proofs.NpmCommon.{counted_front, dashed_front, digits_value, dotted_patch, dotted_place, drop-append-add, is_none}
+use Rattle.nodejs_semver.proofs.NpmCommon.{IsPlaces, has_leading_zero, has_zeros, is_spelled, length-prefix_len, limited, listed, may_stand}
+use Rattle.nodejs_semver.proofs.NpmCommon.{begins_undashed, nat_le, number_front, number_of, one, or-true, partial_of, patch_place}
+use Rattle.nodejs_semver.proofs.NpmCommon.{place_front, pre_front, qualified_partial, run_place, second_front, strict_number, take_while}
+use Rattle.nodejs_semver.proofs.{NpmCommon.{third_front, three, two, ◌>>?◌}, Reading.{Bytes.{is_solid, solid-dark}, Numbers.digits-taken}}
+use Rattle.nodejs_semver.proofs.{Reading.{Numbers.{number-found, number-no_wildcard, number-of}, WordLaw.byte-is}, Strict.VersionLaw.Ends}
+use Rattle.nodejs_semver.proofs.Strict.VersionLaw.{Follows, build-found, build-taken, ends-nil, number-short, padded-same, pre-follows}
+use Rattle.nodejs_semver.{proofs.Strict.VersionLaw.{pre-found, pre-taken}, specs.Internal.NpmWords.{Place, any, are_short_builds, counted}}
+use Rattle.nodejs_semver.specs.Internal.NpmWords.{great, is_over, may_follow, number, partial_front, place_of, placed, qualified_counted}
+use Rattle.{nodejs_semver.specs.Npm.{Grammar.IsPreRelease, Table.Partial}, semver_core.proofs.Text.Runs.list_len_stop}
+use Rattle.std.proofs.lemmas.List.Sums.{prefix_len-drop_all, prefix_len-drop_no, prefix_len-drop_yes}
 use Rattle.nodejs_semver.specs.Internal.NpmWords.{short_only}
 use Rattle.nodejs_semver.specs.Internal.NpmWords.{places_front}
 use Rattle.nodejs_semver.specs.Internal.NpmWords.{is_any}
-use Rattle.nodejs_semver.proofs.NpmCommon.{is_none}
-use Rattle.nodejs_semver.proofs.NpmCommon.{begins_undashed}
-use Rattle.nodejs_semver.proofs.NpmCommon.{IsPlaces}
 use Rattle.nodejs_semver.proofs.Common.{length-append}
 use Rattle.nodejs_semver.specs.Internal.NpmWords.{counted_places}
 use Rattle.nodejs_semver.proofs.Common.{cond_some}

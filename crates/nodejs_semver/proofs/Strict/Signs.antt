@@ -6,9 +6,9 @@ use Rattle.nodejs_semver.proofs.Common.{len_utf8_bounds, length, list_all, nat_l
 use Rattle.nodejs_semver.proofs.{Common.{◌++◌, ◌<◌, ◌==◌, ◌||◌, ◌∙◌, ◌∷◌, ◌≡◌, ◌⊎◌}, NpmCommon.{IsSignText, are_marks, at_least}}
 use Rattle.nodejs_semver.proofs.NpmCommon.{begins_byte, caret_equal, compared, is_mark, late_above, late_below, no_sign}
 use Rattle.nodejs_semver.proofs.NpmCommon.{npm_sign, or_late, sign, skip_equal, skip_greater, skip_tilde, space_len-white, spelling}
-use Rattle.nodejs_semver.proofs.{NpmCommon.tilde_twice, Reading.{Bytes.{begins_component, is_solid, solid-dark}, WordLaw.skips-is}}
-use Rattle.nodejs_semver.proofs.{Reading.WordLaw.{skips-utf8, tail-utf8}, Strict.VersionLaw.byte-begins}
-use Rattle.nodejs_semver.specs.{Internal.NpmWords.skip_twice, Npm.{RangeText.tilde_sign, Table.{Partial, Sign, caret, table, tilde}}}
+use Rattle.nodejs_semver.proofs.{NpmCommon.tilde_twice, Reading.{Bytes.{begins_component, is_solid, solid-dark}, PartialLaw.byte-begins}}
+use Rattle.nodejs_semver.{proofs.Reading.WordLaw.{skips-is, skips-utf8, tail-utf8}, specs.Internal.NpmWords.skip_twice}
+use Rattle.nodejs_semver.specs.Npm.{RangeText.tilde_sign, Table.{Partial, Sign, caret, table, tilde}}
 
 -- ---- whitespace
 

@@ -13,9 +13,9 @@ use Rattle.nodejs_semver.proofs.NpmCommon.{has_leading_zero, is_mark, is_strict_
 use Rattle.nodejs_semver.proofs.NpmCommon.{number_front, plus, pre_front, pre_release_front, qualified_version, strict_number}
 use Rattle.nodejs_semver.proofs.{NpmCommon.strict_version, Reading.IdentifierLists.{front-identifiers, written-begins, written-exact}}
 use Rattle.nodejs_semver.proofs.Reading.{IdentifierLists.written-spelled, Numbers.{front_none, front_some, number-found, number-read}}
-use Rattle.nodejs_semver.{proofs.Reading.WordLaw.byte-is, specs.{Internal.Fronts.drop_v, Npm.{Grammar.IsPreRelease, VersionText.written}}}
-use Rattle.{semver_core.proofs.Text.{Pieces.list_ended, Runs.numerals}, std.proofs.lemmas.Fmt.{decimal-digits_value, length-decimal-le}}
-use Rattle.std.proofs.lemmas.Str.{encodes-chars}
+use Rattle.nodejs_semver.{proofs.Reading.{PartialLaw.byte-begins, WordLaw.byte-is}, specs.Internal.Fronts.drop_v}
+use Rattle.{nodejs_semver.specs.Npm.{Grammar.IsPreRelease, VersionText.written}, semver_core.proofs.Text.Pieces.list_ended}
+use Rattle.{semver_core.proofs.Text.Runs.numerals, std.proofs.lemmas.{Fmt.{decimal-digits_value, length-decimal-le}, Str.encodes-chars}}
 
 -- ---- the number that the code finds
 
@@ -101,9 +101,6 @@ number-short digits n h =
     rw (number_printed digits n h) at (length-decimal-le 20 n (omega arith) (omega arith) small)
 
 -- ---- what is read is written
-
-pub byte-begins : (c : ℕ) (x : List ℕ) → begins_byte c x ≡ true → x ≡ c ∷ drop 1 x
-byte-begins c x h = grind arith
 
 pub build-found : (text : List ℕ)
     → (piece : List ℕ) × (text ≡ piece ++ (build_front text).1) × IsStrictBuild piece (listed (build_front text).0)

@@ -1,14 +1,13 @@
 -- The words of node-semver's range texts: the functions that read them find exactly what the statement has, one word after another.
-use Rattle.nodejs_semver.proofs.Common.{◌||◌}
 use Rattle.nodejs_semver.proofs.Common.{Bool, Front, IsBlank, IsUtf8, List, MAX_SAFE_INTEGER, None, Option, Some, Span, VersionValue, []}
-use Rattle.nodejs_semver.proofs.Common.{and_parts, ap, append-nil, append_assoc, arith, begins, bind_some, cases_Bool, common_steps}
+use Rattle.nodejs_semver.proofs.Common.{and_parts, ap, append-nil, append_assoc, arith, begins, bind_some, cases_Bool, common_steps, ◌||◌}
 use Rattle.nodejs_semver.proofs.Common.{cond_some, drop, drop_at, drop_spaces, eqb-true, equal, false, if◌then◌else◌, inl, inr}
 use Rattle.nodejs_semver.proofs.Common.{is_boundary, is_empty, length, length-append, list_all, lt-ltb, nat_tests, prefix_len, refl}
 use Rattle.nodejs_semver.proofs.Common.{same_Some, space_len, subst, suc, sym, take, take-append-drop, take_at, true, zero, ℕ, ◌&&◌, ◌++◌}
 use Rattle.nodejs_semver.proofs.{Common.{◌-◌, ◌<◌, ◌==◌, ◌∙◌, ◌∷◌, ◌≡◌, ◌≤◌}, NpmCommon.{Alternative, AreWords, Comparison, IsFound}}
 use Rattle.nodejs_semver.proofs.NpmCommon.{IsNarrowed, IsPartial, IsPlace, IsWord, NarrowedBy, Signed, any_word, are_marks, begins_byte}
 use Rattle.nodejs_semver.proofs.NpmCommon.{begins_malformed, compared, ignored, ignored_front, is_mark, is_visible, last, limited_word}
-use Rattle.nodejs_semver.proofs.NpmCommon.{marked_word, marks_len, npm_sign, signed_word, valid_only, valid_words, wildcard, word}
+use Rattle.nodejs_semver.proofs.NpmCommon.{IsPlaces, marked_word, marks_len, npm_sign, signed_word, valid_only, valid_words, wildcard, word}
 use Rattle.nodejs_semver.proofs.{NpmCommon.{word_front, words_of, ◌>>?◌}, Reading.Bytes.{begins-on, begins-some, begins_component}}
 use Rattle.nodejs_semver.proofs.Reading.{Bytes.is_component_byte, PartialLaw.{spaces-gone, spaces-le}, WordLaw.boundary-utf8}
 use Rattle.nodejs_semver.proofs.{Reading.WordLaw.suffix-boundary, Strict.Malformed.{boundary-dark, ignored-read, malformed-visible}}
@@ -17,7 +16,6 @@ use Rattle.nodejs_semver.proofs.Strict.{PartialLaw.{partial-found, partial-read}
 use Rattle.nodejs_semver.{proofs.Strict.{Signs.{sign-found, sign-taken}, VersionLaw.empty-is}, specs.Internal.NpmWords.ended_word}
 use Rattle.nodejs_semver.specs.{Internal.NpmWords.{partial_front, words_within}, Npm.{RangeText.more, Table.{Partial, Sign, table}}}
 use Rattle.nodejs_semver.proofs.Strict.PartialLaw.{front-text}
-use Rattle.nodejs_semver.proofs.NpmCommon.{IsPlaces}
 use Rattle.nodejs_semver.proofs.Strict.Signs.{is_open}
 use Rattle.nodejs_semver.proofs.Strict.Signs.{open-first}
 

@@ -1,5 +1,4 @@
-use Rattle.nodejs_semver.proofs.NpmCommon.{bounds_view, comparator_view, compared, npm_partial_view}
-use Rattle.nodejs_semver.proofs.Strict.CommonReads.{word-found}
+use Rattle.nodejs_semver.proofs.{NpmCommon.{bounds_view, comparator_view, compared, npm_partial_view}, Strict.CommonReads.word-found}
 use Rattle.nodejs_semver.proofs.npm.common.comparison.Goals as goal
 
 pub returns : goal.returns

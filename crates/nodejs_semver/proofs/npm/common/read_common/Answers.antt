@@ -1,5 +1,4 @@
-use Rattle.nodejs_semver.proofs.Common.{ap, arith, on_err, rest_view, sym, ◌∙◌}
-use Rattle.nodejs_semver.proofs.Strict.CommonReads.{loop-ends, loop-goes, loop-shorter}
+use Rattle.nodejs_semver.proofs.{Common.{ap, arith, on_err, rest_view, sym, ◌∙◌}, Strict.CommonReads.{loop-ends, loop-goes, loop-shorter}}
 use Rattle.nodejs_semver.proofs.npm.common.read_common.Goals as goal
 
 pub returns-then-is_empty-clause-read : goal.returns-then-is_empty-clause-read

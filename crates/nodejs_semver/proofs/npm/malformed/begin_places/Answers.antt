@@ -1,6 +1,5 @@
-use Rattle.nodejs_semver.proofs.{Common.{eqb, rules, tests, begins}, NpmCommon.{YieldsList-from_slice_split, all_from_yields_List}}
-use Rattle.nodejs_semver.specs.Npm.Malformed.{is_first}
-use Rattle.std.proofs.lemmas.Iterator.{Consumers.YieldsList-at, YieldsList-from_take}
+use Rattle.nodejs_semver.proofs.{Common.{begins, eqb, rules, tests}, NpmCommon.{YieldsList-from_slice_split, all_from_yields_List}}
+use Rattle.{nodejs_semver.specs.Npm.Malformed.is_first, std.proofs.lemmas.Iterator.{Consumers.YieldsList-at, YieldsList-from_take}}
 use Rattle.nodejs_semver.proofs.npm.malformed.begin_places.Goals as goal
 
 pub returns : goal.returns
