@@ -2,7 +2,7 @@
 use Rattle.nodejs_semver.proofs.{Algebra.Gate.both, Alike.Texts.{gap-bytes, joined, no_mark, no_marks, one_blank, sign_text}}
 use Rattle.nodejs_semver.proofs.Common.{AllByRecursion, Bool, Bound, IfSome, IsRange, IsUtf8, List, MAX_SAFE_INTEGER, None, Option, Some}
 use Rattle.nodejs_semver.proofs.Common.{Span, Unbounded, VersionValue, [], all_weaker, ap, append-nil, append_assoc, arith, begins}
-use Rattle.nodejs_semver.proofs.Common.{bind_some, codes, common_steps, cond_both, cond_some, cut_bars, drop, false, inl, inr, interval}
+use Rattle.nodejs_semver.proofs.Common.{codes, common_steps, cond_both, cond_some, cut_bars, drop, false, inl, inr, interval}
 use Rattle.nodejs_semver.proofs.Common.{is_empty, is_interval, length, length-append, list_all, list_all-append, nat_tests}
 use Rattle.nodejs_semver.proofs.Common.{option_holds-interval, option_to_list, precedence, precedence_total, refl, release_value, subst}
 use Rattle.nodejs_semver.proofs.Common.{sym, take, trim, true, ℕ, ◌++◌, ◌-◌, ◌<◌, ◌∙◌, ◌∷◌, ◌≡◌, ◌≤◌, ◌⊎◌}
