@@ -16,8 +16,8 @@ ghost use Rattle.std.specs.Mem.{FitsInMemory};
 ghost use Rattle.std.specs.Prelude.{◌-◌, ◌<◌, ◌^◌, ◌≡◌, ◌⊎◌, ⊤};
 ghost use Rattle.nodejs_semver.specs.Words.{[], accepts, After, All, Any, Before, Beside, Bool};
 ghost use Rattle.nodejs_semver.specs.Words.{bound_of, false, Far, flat_map, fold, IfNone, IfOk};
-ghost use Rattle.nodejs_semver.specs.Words.{IfSome, is_release, IsOk, length, list_all, Near, OnErr};
-ghost use Rattle.nodejs_semver.specs.Words.{OnOk, Some, span_of, spans_of, true, value_of};
+ghost use Rattle.nodejs_semver.specs.Words.{IfSome, is_release, IsOk, length, list_all, Near};
+ghost use Rattle.nodejs_semver.specs.Words.{OnErr, OnOk, Some, span_of, spans_of, true, value_of};
 ghost use Rattle.nodejs_semver.specs.Words.{VersionValue};
 
 use crate::range::choice::all_accept;
