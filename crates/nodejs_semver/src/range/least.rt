@@ -445,8 +445,7 @@ fn consider_all<S: Search, V: VersionPoint, W: VersionPoint>(
     ensures memory { OnErr result (spec.Finds (S.wanted search.now)
         ⊎ Any spec.BeginsAfterPre kept.now ⊎ spec.EndsAfterPre (spans_of W.value removed.now)) }
 {
-    let first = consider(alloc, search, best, &release(0, 0, 0));
-    first?;
+    consider(alloc, search, best, &release(0, 0, 0))?;
     for range in kept {
         consider_range(alloc, search, best, range)?;
     }

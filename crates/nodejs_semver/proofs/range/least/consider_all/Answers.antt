@@ -7,8 +7,8 @@ pub loop-range-preserved : goal.loop-range-preserved
 loop-range-preserved g c = range_further _ c.args.kept.now _ c.range-item.result c.loop-range-test.true c.range-item.is _ _ _ c.loop-range.invariant
     c.in_ok-consider_range.ensures.best
 
-pub returns-in_err-first-clause-memory : goal.returns-in_err-first-clause-memory
-returns-in_err-first-clause-memory g c = on_err _ (inl c.in_err-first.ensures.memory)
+pub returns-in_err-consider-clause-memory : goal.returns-in_err-consider-clause-memory
+returns-in_err-consider-clause-memory g c = on_err _ (inl c.in_err-consider.ensures.memory)
 
 pub returns-in_err-consider_range-clause-memory : goal.returns-in_err-consider_range-clause-memory
 returns-in_err-consider_range-clause-memory g c = on_err _ (elim c.in_err-consider_range.ensures.memory [
@@ -17,8 +17,8 @@ returns-in_err-consider_range-clause-memory g c = on_err _ (elim c.in_err-consid
       inr (inl (any_here BeginsAfterPre c.args.kept.now _ _ c.loop-range-test.true c.range-item.is begins))
 ])
 
-pub consider-first-requires : goal.consider-first-requires
-consider-first-requires g c = c.requires.fits
+pub consider-requires : goal.consider-requires
+consider-requires g c = c.requires.fits
 
 pub consider_range-requires : goal.consider_range-requires
 consider_range-requires g c = (omega arith, c.requires.fits)
@@ -48,7 +48,7 @@ loop-interval-preserved g c = removed_further g.W.Versioned.value (g.S.Search.wa
 pub returns-clause-best : goal.returns-clause-best
 returns-clause-best g c =
     let removed = spans_of g.W.Versioned.value c.args.removed.now in
-    all_marks (g.S.Search.wanted c.args.search.now) c.args.kept.now removed c.args.best.now c.consider-first.new.best
-    c.loop-range.best c.loop-interval.best (rw c.release.ensures at c.in_ok-first.ensures.best)
+    all_marks (g.S.Search.wanted c.args.search.now) c.args.kept.now removed c.args.best.now c.consider.new.best
+    c.loop-range.best c.loop-interval.best (rw c.release.ensures at c.in_ok-consider.ensures.best)
     (rw (take_all _ c.args.kept.now c.loop-range-test.false) at c.loop-range.invariant)
     (rw (take_all _ c.args.removed.now c.loop-interval-test.false) at c.loop-interval.invariant)
