@@ -56,7 +56,7 @@ pub data IsPlaces (loose : Bool) : List ℕ → Partial → Type 0 where
       → IsPlaces loose (x ++ (codes "." ++ y)) (partial_of a b None [] [])
   three : (x y z pre build : List ℕ) (a b c : Option ℕ) (ids builds : List Id) → IsPlace loose false x a
       → IsPlace loose (has_zeros a) y b → IsPlace loose (has_zeros a) z c → IsPreRelease loose (is_none c)
-          (λ ids. loose || is_strict_list ids && list_all is_short_identifier (pieces ids)) pre ids
+      (λ ids. loose || is_strict_list ids && list_all is_short_identifier (pieces ids)) pre ids
       → IsStrictBuild build builds → list_all (λ text. nat_le (length text) 250) (pieces (drop 1 build)) ≡ true
       → IsPlaces loose (x ++ (codes "." ++ (y ++ (codes "." ++ (z ++ (pre ++ build)))))) (partial_of a b c ids builds)
 
