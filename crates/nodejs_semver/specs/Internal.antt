@@ -19,7 +19,6 @@ pub mod Ignored
 pub mod Sets
 pub mod Questions
 pub mod NpmReadings
-pub mod NpmMalformed
 pub mod NpmLooseVersions
 pub mod NpmTuples
 pub mod NpmParts

@@ -1,6 +1,6 @@
 -- For proofs and private contracts. The signs and the partial versions of node-semver's range texts, seen without
 -- places in memory.
-use Rattle.std.specs.Prelude.{◌&&◌, nat_le, ℕ, Bool, true, false}
+use Rattle.std.specs.Prelude.{◌&&◌, nat_le, ℕ, Bool, true, false, Option, None, Some}
 use Rattle.std.specs.List.{list_all}
 use Rattle.semver_core.specs.Printing.RoundTrip.{is_normal}
 use Rattle.semver_core.specs.Values.Versions.{VersionValue, release_value}
@@ -41,10 +41,18 @@ abbrev pub are_normal : Spec.Partial → Bool
 are_normal (whole v) = list_all is_normal v.pre_release && list_all is_normal v.build
 are_normal p = true
 
+abbrev pub some_normal : Option Spec.Partial → Bool
+some_normal None = true
+some_normal (Some p) = are_normal p
+
 -- a word of a wildcard has no comparators, unless its sign is `<` or `>`
 abbrev pub is_wildcard : Spec.Partial → Bool
 is_wildcard wildcard = true
 is_wildcard p = false
+
+abbrev pub is_some_wildcard : Option Spec.Partial → Bool
+is_some_wildcard None = false
+is_some_wildcard (Some p) = is_wildcard p
 
 abbrev pub has_no_comparators : Spec.Sign → Spec.Partial → Bool
 has_no_comparators (compared above) p = false

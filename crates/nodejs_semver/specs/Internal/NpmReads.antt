@@ -1,43 +1,52 @@
 -- For proofs and private contracts. What the readers of node-semver's range texts find, by the comparators.
-use Rattle.std.specs.Prelude.{◌≡◌, not, if◌then◌else◌, true, false, Bool, List, [], ◌∷◌, ◌++◌, ℕ, Option, Some, None, length, flat_map}
-use Rattle.std.specs.Option.{option_to_list}
+use Rattle.std.specs.Prelude.{◌≡◌, not, if◌then◌else◌, true, false, Bool, List, [], ◌∷◌, ◌++◌, ℕ, Option, Some, None, length, flat_map, get_or, is_none}
+use Rattle.std.specs.Borrow.{Bor}
+use Rattle.std.specs.{List.{list_all}, Option.{option_to_list}}
 use Rattle.semver_core.specs.Cuts.{Span}
 use Rattle.semver_core.specs.Internal.Reading.{◌>>?◌}
 use Rattle.semver_core.specs.Values.Versions.{VersionValue}
 use Rattle.semver_core.specs.declared.TheConstants.{MAX_SAFE_INTEGER}
-use Rattle.nodejs_semver.specs.Internal.NpmAlternatives.{AreNarrowed}
+use Rattle.nodejs_semver.specs.Internal.NpmAlternatives.{AreNarrowed, NarrowedBy}
 use Rattle.nodejs_semver.specs.Internal.NpmMeaning.{IsNarrowed}
-use Rattle.nodejs_semver.specs.Internal.NpmWords.{alternative_of, hyphen_comparisons, hyphen_ends}
-use Rattle.nodejs_semver.specs.Internal.NpmWords.{is_lost, kept, valid_only, valid_words}
+use Rattle.nodejs_semver.specs.Internal.NpmWords.{CountedEnd, alternative_of, kept, lower_counted, upper_counted, valid_words}
 use Rattle.nodejs_semver.specs.Internal.Parts.{parts}
 use Rattle.semver_core.specs.Lists.{is_empty}
-use Rattle.nodejs_semver.specs.Npm.Table.{Comparison}
+use Rattle.nodejs_semver.specs.Npm.{Ranges.{is_valid}, Table.{Comparison}}
 use Rattle.nodejs_semver.specs.declared.npm.alternatives.Alternative.{Alternative}
 
--- the comparators of words, if each is valid
-abbrev pub words_of : Bool → Bool → List ℕ → Option (List Comparison)
+-- the words, if their comparators are valid
+abbrev pub words_of : Bool → Bool → List ℕ → Option (List (Option (List Comparison)))
 words_of loose include text = valid_words loose MAX_SAFE_INTEGER include (length text) text
 
--- the comparators of an alternative, if each is valid
-unfoldable pub valid_alternative : Bool → Bool → List ℕ → Option (List Comparison)
-valid_alternative loose include text = alternative_of loose include text >>? λ cs. valid_only MAX_SAFE_INTEGER cs
+-- an alternative whose comparators are valid
+abbrev pub valid_one : Bool × List Comparison → Option (Bool × List Comparison)
+valid_one a = if list_all (is_valid MAX_SAFE_INTEGER) a.1 then Some a else None
 
--- the same of a hyphen range
-unfoldable pub valid_hyphen : Bool → Bool → List ℕ → Option (List Comparison)
-valid_hyphen loose include text =
-    hyphen_ends loose include text >>? λ e. valid_only MAX_SAFE_INTEGER (hyphen_comparisons include e)
+unfoldable pub valid_alternative : Bool → Bool → List ℕ → Option (Bool × List Comparison)
+valid_alternative loose include text = alternative_of loose include text >>? valid_one
 
 -- an alternative is found exactly if there are comparators, and is that of these
-abbrev pub IsFound : Bool → Option (List Comparison) → Option Alternative → Type 0
+abbrev pub IsFound : Bool → Option (Bool × List Comparison) → Option Alternative → Type 0
 IsFound include None None = Unit {0}
-IsFound include (Some cs) (Some a) = IsNarrowed include cs a.interval × (a.is_bare ≡ is_empty cs)
-IsFound include cs a = ⊥
+IsFound include (Some c) (Some a) = IsNarrowed include c.1 a.interval × (a.is_lost ≡ c.0)
+IsFound include c a = ⊥
+
+-- an alternative with one word more, whether that is ignored, and what follows it
+abbrev pub IsStep : Bool → Alternative → Option (Option (List Comparison) × List ℕ) → Option (Alternative × Bool × Bor (List ℕ)) → Type 0
+IsStep include all None None = Unit {0}
+IsStep include all (Some w) (Some s) = NarrowedBy include all.interval (get_or [] w.0) (Some s.0)
+    × (s.0.is_bare ≡ (all.is_bare && is_empty (get_or [] w.0))) × (s.1 ≡ is_none w.0) × (s.2.now ≡ w.1)
+IsStep include all w s = ⊥
+
+-- the comparators between two ends of a hyphen range, if they are valid
+abbrev pub hyphen_valid : Bool → Bool → CountedEnd → CountedEnd → Option (Bool × List Comparison)
+hyphen_valid loose include a b = lower_counted loose include a >>? λ cs. upper_counted loose include b >>? λ ds. valid_one (false, cs ++ ds)
 
 -- the comparators of each of some alternatives, if each is valid
 unfoldable pub valid_alternatives : Bool → Bool → List (List ℕ) → Option (List (List Comparison))
 valid_alternatives loose include [] = Some []
-valid_alternatives loose include (text ∷ texts) = valid_alternative loose include text >>? λ cs.
-    valid_alternatives loose include texts >>? λ rest. Some (kept loose text cs rest)
+valid_alternatives loose include (text ∷ texts) = valid_alternative loose include text >>? λ a.
+    valid_alternatives loose include texts >>? λ rest. Some (kept a rest)
 
 -- the intervals of some alternatives, of those that have one
 pub record AreFound (include : Bool) (alternatives : List (List Comparison)) (found : List (Span VersionValue))
@@ -48,17 +57,11 @@ pub record AreFound (include : Bool) (alternatives : List (List Comparison)) (fo
 
 -- one part more with these comparators, which may be lost. The flags say whether there was an alternative
 -- before it, and with it.
-abbrev pub AddsOne : Bool → Bool → List Comparison → Bool → Bool → List (Span VersionValue)
-    → List (Span VersionValue) → Type 0
-AddsOne include true cs was is before after = (is ≡ was) × (after ≡ before)
-AddsOne include false cs was is before after = (is ≡ true) × ((alternatives : List (List Comparison))
+abbrev pub AddsPart : Bool → Option (Bool × List Comparison) → Bool → Bool → List (Span VersionValue) → List (Span VersionValue) → Type 0
+AddsPart include None was is before after = ⊥
+AddsPart include (Some (true, cs)) was is before after = (is ≡ was) × (after ≡ before)
+AddsPart include (Some (false, cs)) was is before after = (is ≡ true) × ((alternatives : List (List Comparison))
     → AreFound include alternatives before → AreFound include (alternatives ++ cs ∷ []) after)
-
-abbrev pub AddsPart : Bool → Bool → List ℕ → Option (List Comparison) → Bool → Bool → List (Span VersionValue)
-    → List (Span VersionValue) → Type 0
-AddsPart loose include text None was is before after = ⊥
-AddsPart loose include text (Some cs) was is before after =
-    AddsOne include (is_lost loose text cs) cs was is before after
 
 -- some alternative or more
 abbrev pub some_only : List (List Comparison) → Option (List (List Comparison))

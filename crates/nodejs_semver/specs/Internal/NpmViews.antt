@@ -31,28 +31,33 @@ abbrev pub npm_partial_front_view : Option (Partial × Bor (List ℕ)) → Front
 npm_partial_front_view None = None
 npm_partial_front_view (Some p) = Some (npm_partial_view p.0, p.1.now)
 
+-- the partial at the front, which is left out where its numbers that count are not up to the limit or it is too long
+abbrev pub counted_partial_view : Option (Option Partial × Bor (List ℕ)) → Front (Option Table.Partial)
+counted_partial_view None = None
+counted_partial_view (Some p) = Some (npm_partial_some_view p.0, p.1.now)
+
 abbrev pub npm_sign_pair_view : Sign × Bor (List ℕ) → Table.Sign × List ℕ
 npm_sign_pair_view p = (npm_sign_view p.0, p.1.now)
 
-abbrev pub signed_view : Signed → Spec.Signed
-signed_view w = (npm_sign_view w.sign, npm_partial_view w.partial, w.text.now)
+abbrev pub counted_view : Signed → Spec.Counted
+counted_view w = (npm_sign_view w.sign, npm_partial_some_view w.partial, w.text.now)
 
-abbrev pub signed_front_view : Option (Signed × Bor (List ℕ)) → Front Spec.Signed
-signed_front_view None = None
-signed_front_view (Some w) = Some (signed_view w.0, w.1.now)
+abbrev pub counted_front_view : Option (Signed × Bor (List ℕ)) → Front Spec.Counted
+counted_front_view None = None
+counted_front_view (Some w) = Some (counted_view w.0, w.1.now)
 
-abbrev pub end_view : End → Spec.Ended
-end_view e = (npm_partial_view e.partial, e.text.now)
+abbrev pub end_view : End → Spec.CountedEnd
+end_view e = (e.marks.now, npm_partial_some_view e.partial, e.text.now)
 
-abbrev pub end_front_view : Option (End × Bor (List ℕ)) → Front Spec.Ended
+abbrev pub end_front_view : Option (End × Bor (List ℕ)) → Front Spec.CountedEnd
 end_front_view None = None
 end_front_view (Some e) = Some (end_view e.0, e.1.now)
 
-abbrev pub end_some_view : Option End → Option Spec.Ended
+abbrev pub end_some_view : Option End → Option Spec.CountedEnd
 end_some_view None = None
 end_some_view (Some e) = Some (end_view e)
 
-abbrev pub hyphen_view : Option (End × End) → Option (Spec.Ended × Spec.Ended)
+abbrev pub hyphen_view : Option (End × End) → Option (Spec.CountedEnd × Spec.CountedEnd)
 hyphen_view None = None
 hyphen_view (Some e) = Some (end_view e.0, end_view e.1)
 

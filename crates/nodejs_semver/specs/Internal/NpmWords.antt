@@ -12,10 +12,9 @@ use Rattle.semver_core.specs.Values.Versions.{is_release}
 use Rattle.nodejs_semver.specs.Internal.Fronts.{Front, after_byte, begins_byte, begins_identifier, begins_wildcard, build_front, marked_list}
 use Rattle.nodejs_semver.specs.Internal.NpmReadings.{dashed_front}
 use Rattle.nodejs_semver.specs.Internal.Parts.{parts}
-use Rattle.nodejs_semver.specs.Internal.Words.{after_some_space, is_boundary, or_else}
-use Rattle.nodejs_semver.specs.Internal.NpmMalformed.{is_visible}
-use Rattle.nodejs_semver.specs.Npm.Malformed.{begins_malformed, ends_malformed}
-use Rattle.nodejs_semver.specs.Npm.RangeText.{are_marks, are_whole_marks, has_zeros, is_free, is_mark, is_short_identifier, partial_of}
+use Rattle.nodejs_semver.specs.Internal.Words.{after_some_space, from_boundary, is_boundary}
+use Rattle.nodejs_semver.specs.Npm.Malformed.{is_mark, takes}
+use Rattle.nodejs_semver.specs.Npm.RangeText.{are_marks, are_whole_marks, comparators_of, end_sign, has_zeros, is_free, is_lost, is_short, is_short_identifier, last_marks, partial_of}
 use Rattle.nodejs_semver.specs.Npm.Grammar.{begins_undashed, has_leading_zero, is_strict_list}
 use Rattle.nodejs_semver.specs.Npm.Ranges.{is_valid}
 use Rattle.nodejs_semver.specs.Npm.Table.{Comparison, Partial, Sign, caret, compared, hyphen_lower, hyphen_upper, major, minor, table, tilde, whole, wildcard}
@@ -111,10 +110,6 @@ unfoldable pub places_front : Bool → List ℕ → Front Partial
 places_front loose text =
     place_front loose false text >>? λ a. second_front loose a.0 a.1 (dotted_place loose (has_zeros a.0) a.1)
 
--- loosely a partial has at most 250 characters in front of its `+`
-abbrev pub is_short : Bool → List ℕ → Bool
-is_short loose text = not loose || nat_le (prefix_len (λ b. not (b == 43)) text) 250
-
 -- what was found at the front of the text, if it is short
 abbrev pub short_only : Bool → List ℕ → Front Partial → Front Partial
 short_only loose text None = None
@@ -192,8 +187,9 @@ counted_places loose limit text =
     placed limit (place_front loose false text) >>? λ a.
     second_counted loose limit a.0 a.1 (placed limit (dotted_place loose (place_zeros a.0) a.1))
 
-abbrev pub counted_front : Bool → ℕ → List ℕ → Front Partial
-counted_front loose limit text = short_only loose text (counted_places loose limit text)
+abbrev pub counted_front : Bool → ℕ → List ℕ → Front (Option Partial)
+counted_front loose limit text = places_front loose text >>? λ p.
+    Some (if is_small limit p.0 && is_short loose (take (length text - length p.1) text) then Some p.0 else None, p.1)
 
 -- ---- signs
 
@@ -250,43 +246,69 @@ abbrev pub marked_word : Bool → Sign × List ℕ → Front Partial → Front S
 marked_word loose s p = p >>? λ p. ended_word loose s.0 s.1 (marks_len s.1) p
 
 unfoldable pub signed_word : Bool → List ℕ → Front Signed
-signed_word loose text = let s = npm_sign text in marked_word loose s (partial_front loose (drop (marks_len s.1) s.1))
+signed_word loose text = let s = npm_sign text in marked_word loose s (places_front loose (drop (marks_len s.1) s.1))
 
--- the malformed word at the front, as one that has no comparators
-unfoldable pub ignored_front : Bool → List ℕ → Front Signed
-ignored_front loose text = let rest = drop (prefix_len is_visible text) text in
-    if loose && (begins_malformed text && is_boundary rest) then Some ((compared equal, wildcard, []), rest) else None
+-- the partial of a word is short enough
+abbrev pub is_short_word : Bool → List ℕ → Bool
+is_short_word loose text = is_short loose (drop (marks_len text) text)
 
-unfoldable pub any_word : Bool → List ℕ → Front Signed
-any_word loose text = or_else (ignored_front loose text) (signed_word loose text)
+-- what stands behind a malformed word that is ignored: of at most so many pieces
+unfoldable pub behind_ignored : ℕ → List ℕ → List ℕ
+behind_ignored zero text = text
+behind_ignored (suc n) text = let behind = from_boundary text in let rest = drop_spaces behind in
+    if takes (take (length text - length behind) text) rest then behind_ignored n rest else behind
 
--- the numbers of its partial that count are up to the limit
-abbrev pub limited_word : ℕ → Front Signed → Front Signed
-limited_word limit None = None
-limited_word limit (Some w) = if is_small limit w.0.1 then Some w else None
+-- the word at the front, and what stands behind it and its whitespace; loosely also a malformed one, which has no comparators
+abbrev pub ignored_or : Bool → List ℕ → Option (Option (List Comparison) × List ℕ)
+ignored_or loose text = if loose then Some (None, drop_spaces (behind_ignored (length text) text)) else None
 
--- its comparators
-unfoldable pub word_front : Bool → Bool → List ℕ → Front (List Comparison)
-word_front loose include text = any_word loose text >>? λ w. Some (table include w.0.0 w.0.1 w.0.2, w.1)
-
--- ---- alternatives
+unfoldable pub first_word : Bool → Bool → List ℕ → Option (Option (List Comparison) × List ℕ)
+first_word loose include text = elim (signed_word loose text) [
+  | None ↦ ignored_or loose text
+  | Some w ↦ if is_short_word loose w.0.2 then Some (Some (table include w.0.0 w.0.1 w.0.2), drop_spaces w.1) else None
+]
 
 -- words up to the end of an alternative, of which there are at most so many
-unfoldable pub words_within : Bool → Bool → ℕ → List ℕ → Option (List Comparison)
-words_within loose include zero text = None
-words_within loose include (suc n) text = word_front loose include text >>? λ w. if is_empty w.1 then Some w.0
-    else (words_within loose include n (drop_spaces w.1) >>? λ ds. Some (w.0 ++ ds))
+unfoldable pub words_within : Bool → Bool → ℕ → List ℕ → Option (List (Option (List Comparison)))
+words_within loose include n [] = Some []
+words_within loose include zero (b ∷ text) = None
+words_within loose include (suc n) (b ∷ text) =
+    first_word loose include (b ∷ text) >>? λ w. words_within loose include n w.1 >>? λ read. Some (w.0 ∷ read)
 
--- `v` or nothing
-abbrev pub is_one_v : List ℕ → Bool
-is_one_v marks = are_whole_marks false marks
+-- a word whose partial is left out where its numbers that count are not up to the limit, or where it is too long
+abbrev pub Counted : Type 0
+Counted = Sign × Option Partial × List ℕ
 
--- any marks may stand before such an end of a hyphen range
-abbrev pub is_free_lower : Partial → Bool
-is_free_lower p = is_free (λ v. false) p
+abbrev pub are_counted_marks : Bool → Sign → Option Partial → List ℕ → Bool
+are_counted_marks loose s None marks = true
+are_counted_marks loose s (Some p) marks = are_marks loose s p marks
 
-abbrev pub is_free_upper : Bool → Partial → Bool
-is_free_upper include p = is_free (λ v. include || not (is_release v)) p
+abbrev pub ended_counted_word : Bool → Sign → List ℕ → ℕ → Option Partial × List ℕ → Front Counted
+ended_counted_word loose s text n p = if are_counted_marks loose s p.0 (take n text) && is_boundary p.1
+    then Some ((s, p.0, take (length text - length p.1) text), p.1) else None
+
+unfoldable pub counted_word : Bool → ℕ → List ℕ → Front Counted
+counted_word loose limit text = let s = npm_sign text in
+    counted_front loose limit (drop (marks_len s.1) s.1) >>? λ p. ended_counted_word loose s.0 s.1 (marks_len s.1) p
+
+-- the comparators, if each is valid
+abbrev pub valid_only : ℕ → List Comparison → Option (List Comparison)
+valid_only limit cs = if list_all (is_valid limit) cs then Some cs else None
+
+-- the same where the comparators are valid
+unfoldable pub first_valid : Bool → ℕ → Bool → List ℕ → Option (Option (List Comparison) × List ℕ)
+first_valid loose limit include text = elim (counted_word loose limit text) [
+  | None ↦ ignored_or loose text
+  | Some w ↦ w.0.1 >>? λ p. valid_only limit (table include w.0.0 p w.0.2) >>? λ cs. Some (Some cs, drop_spaces w.1)
+]
+
+unfoldable pub valid_words : Bool → ℕ → Bool → ℕ → List ℕ → Option (List (Option (List Comparison)))
+valid_words loose limit include n [] = Some []
+valid_words loose limit include zero (b ∷ text) = None
+valid_words loose limit include (suc n) (b ∷ text) =
+    first_valid loose limit include (b ∷ text) >>? λ w. valid_words loose limit include n w.1 >>? λ read. Some (w.0 ∷ read)
+
+-- ---- alternatives
 
 -- what follows the marks and the whitespace at the front. The number counts bytes that still belong to a
 -- whitespace character.
@@ -306,86 +328,98 @@ abbrev pub end_len : List ℕ → ℕ
 end_len [] = 0
 end_len (b ∷ rest) = if is_mark b then 1 else space_len (b ∷ rest)
 
--- a partial, and the text of it with its marks
+-- an end of a hyphen range: its marks, its partial, and the text of that with the last marks
 abbrev pub Ended : Type 0
-Ended = Partial × List ℕ
+Ended = List ℕ × Partial × List ℕ
 
-abbrev pub ended_end : Bool → (Partial → Bool) → List ℕ → List ℕ → Partial × List ℕ → Front Ended
-ended_end loose free text behind p = if free p.0 || are_whole_marks loose (take (length text - length behind) text)
-    then Some ((p.0, take (length text - length p.1) text), p.1) else None
+-- the end whose partial was read behind its marks, and what follows it
+abbrev pub ended_as : {A : Type 0} → List ℕ → List ℕ → A × List ℕ → (List ℕ × A × List ℕ) × List ℕ
+ended_as text behind p = let marks = take (length text - length behind) text in
+    ((marks, p.0, last_marks marks ++ take (length behind - length p.1) behind), p.1)
 
--- an end of a hyphen range
-unfoldable pub end_front : Bool → (Partial → Bool) → List ℕ → Front Ended
-end_front loose free text = partial_front loose (drop_ends text) >>? λ p. ended_end loose free text (drop_ends text) p
+-- an end of a hyphen range at the front
+unfoldable pub end_front : Bool → List ℕ → Front Ended
+end_front loose text = places_front loose (drop_ends text) >>? λ p. Some (ended_as text (drop_ends text) p)
+
+-- the same, whose partial is left out where its numbers that count are not up to the limit, or where it is too long
+abbrev pub CountedEnd : Type 0
+CountedEnd = List ℕ × Option Partial × List ℕ
+
+abbrev pub ended_counted : List ℕ → List ℕ → Option Partial × List ℕ → CountedEnd × List ℕ
+ended_counted text behind p = ended_as text behind p
+
+unfoldable pub counted_end : Bool → ℕ → List ℕ → Front CountedEnd
+counted_end loose limit text = counted_front loose limit (drop_ends text) >>? λ p. Some (ended_counted text (drop_ends text) p)
 
 -- what stands behind whitespace, `-` and whitespace
 abbrev pub after_dash : List ℕ → Option (List ℕ)
 after_dash text = after_some_space text >>? λ dash. after_byte 45 dash >>? λ gap. after_some_space gap
 
 -- the upper end, where it ends the text
-abbrev pub last_end : Bool → (Partial → Bool) → List ℕ → Option Ended
-last_end loose free text = end_front loose free text >>? λ b. if is_empty b.1 then Some b.0 else None
+abbrev pub last_end : Bool → List ℕ → Option Ended
+last_end loose text = end_front loose text >>? λ b. if is_empty b.1 then Some b.0 else None
 
 -- the ends of the hyphen range that the text is
-unfoldable pub hyphen_ends : Bool → Bool → List ℕ → Option (Ended × Ended)
-hyphen_ends loose include text = end_front loose is_free_lower text >>? λ a. after_dash a.1 >>? λ second.
-    last_end loose (is_free_upper include) second >>? λ b. Some (a.0, b)
+unfoldable pub hyphen_ends : Bool → List ℕ → Option (Ended × Ended)
+hyphen_ends loose text = end_front loose text >>? λ a. after_dash a.1 >>? λ second. last_end loose second >>? λ b. Some (a.0, b)
 
--- its comparators
-abbrev pub hyphen_comparisons : Bool → Ended × Ended → List Comparison
-hyphen_comparisons include e = hyphen_lower include e.0.0 e.0.1 ++ hyphen_upper include e.1.0 e.1.1
+abbrev pub last_counted : Bool → ℕ → List ℕ → Option CountedEnd
+last_counted loose limit text = counted_end loose limit text >>? λ b. if is_empty b.1 then Some b.0 else None
 
--- the numbers of the partials that count are up to the limit
-abbrev pub limited_end : ℕ → Front Ended → Front Ended
-limited_end limit None = None
-limited_end limit (Some e) = if is_small limit e.0.0 then Some e else None
+abbrev pub counted_hyphen : Bool → ℕ → List ℕ → Option (CountedEnd × CountedEnd)
+counted_hyphen loose limit text = counted_end loose limit text >>? λ a. after_dash a.1 >>? λ second.
+    last_counted loose limit second >>? λ b. Some (a.0, b)
 
-abbrev pub limited_hyphen : ℕ → Option (Ended × Ended) → Option (Ended × Ended)
-limited_hyphen limit None = None
-limited_hyphen limit (Some e) = if is_small limit e.0.0 && is_small limit e.1.0 then Some e else None
+-- any marks may stand before such an end of a hyphen range
+abbrev pub is_free_lower : Partial → Bool
+is_free_lower p = is_free (λ v. false) p
 
--- the same, end by end
-abbrev pub last_limited : Bool → ℕ → Bool → List ℕ → Option Ended
-last_limited loose limit include text = after_dash text >>? λ second.
-    limited_end limit (end_front loose (is_free_upper include) second) >>? λ b. if is_empty b.1 then Some b.0 else None
+abbrev pub is_free_upper : Bool → Partial → Bool
+is_free_upper include p = is_free (λ v. include || not (is_release v)) p
 
-abbrev pub hyphen_of : Bool → ℕ → Bool → List ℕ → Option (Ended × Ended)
-hyphen_of loose limit include text =
-    limited_end limit (end_front loose is_free_lower text) >>? λ a. last_limited loose limit include a.1 >>? λ b. Some (a.0, b)
+-- these marks may stand before such an end, and it is short enough
+abbrev pub is_right : Bool → (Partial → Bool) → Ended → Bool
+is_right loose free e = is_short_word loose e.2 && (loose || (free e.1 || are_whole_marks e.0))
 
--- the comparators of an alternative
-unfoldable pub alternative_of : Bool → Bool → List ℕ → Option (List Comparison)
-alternative_of loose include [] = Some []
-alternative_of loose include (b ∷ rest) = or_else
-    (words_within loose include (length (b ∷ rest)) (b ∷ rest))
-    (hyphen_ends loose include (b ∷ rest) >>? λ e. Some (hyphen_comparisons include e))
+-- the comparators of the ends
+abbrev pub lower_of : Bool → Ended → List Comparison
+lower_of include e = hyphen_lower (end_sign at_least e.0) include e.1 e.2
 
--- loosely words without comparators are no alternative if the first and the last one are malformed
-abbrev pub is_lost : Bool → List ℕ → List Comparison → Bool
-is_lost loose text cs = loose && (is_empty cs && (begins_malformed text && ends_malformed text))
+abbrev pub upper_of : Bool → Ended → List Comparison
+upper_of include e = hyphen_upper (end_sign at_most e.0) include e.1 e.2
+
+abbrev pub lower_counted : Bool → Bool → CountedEnd → Option (List Comparison)
+lower_counted loose include e = e.1 >>? λ p.
+    if loose || (is_free_lower p || are_whole_marks e.0) then Some (lower_of include (e.0, p, e.2)) else None
+
+abbrev pub upper_counted : Bool → Bool → CountedEnd → Option (List Comparison)
+upper_counted loose include e = e.1 >>? λ p.
+    if loose || (is_free_upper include p || are_whole_marks e.0) then Some (upper_of include (e.0, p, e.2)) else None
+
+-- the comparators of an alternative, and whether it is lost
+abbrev pub hyphen_of : Bool → Bool → Ended × Ended → Option (Bool × List Comparison)
+hyphen_of loose include e = if is_right loose is_free_lower e.0 && is_right loose (is_free_upper include) e.1
+    then Some (false, lower_of include e.0 ++ upper_of include e.1) else None
+
+abbrev pub words_of_all : List (Option (List Comparison)) → Bool × List Comparison
+words_of_all read = (is_lost read, comparators_of read)
+
+unfoldable pub alternative_of : Bool → Bool → List ℕ → Option (Bool × List Comparison)
+alternative_of loose include text = elim (hyphen_ends loose text) [
+  | Some e ↦ hyphen_of loose include e
+  | None ↦ words_within loose include (length text) text >>? λ read. Some (words_of_all read)
+]
 
 -- alternatives with one more before them, unless that is lost
-abbrev pub kept : Bool → List ℕ → List Comparison → List (List Comparison) → List (List Comparison)
-kept loose text cs rest = if is_lost loose text cs then rest else cs ∷ rest
+abbrev pub kept : Bool × List Comparison → List (List Comparison) → List (List Comparison)
+kept a rest = if a.0 then rest else a.1 ∷ rest
 
 -- the comparators of each of some alternatives
 unfoldable pub alternatives_of : Bool → Bool → List (List ℕ) → Option (List (List Comparison))
 alternatives_of loose include [] = Some []
-alternatives_of loose include (text ∷ texts) = alternative_of loose include text >>? λ cs.
-    alternatives_of loose include texts >>? λ rest. Some (kept loose text cs rest)
+alternatives_of loose include (text ∷ texts) = alternative_of loose include text >>? λ a.
+    alternatives_of loose include texts >>? λ rest. Some (kept a rest)
 
 -- the alternatives of a range text
 abbrev pub npm_alternatives : Bool → Bool → List ℕ → Option (List (List Comparison))
 npm_alternatives loose include text = alternatives_of loose include (parts text)
-
--- the comparators, if each is valid
-abbrev pub valid_only : ℕ → List Comparison → Option (List Comparison)
-valid_only limit cs = if list_all (is_valid limit) cs then Some cs else None
-
--- words up to the end of an alternative, whose comparators are valid, word by word
-unfoldable pub valid_words : Bool → ℕ → Bool → ℕ → List ℕ → Option (List Comparison)
-valid_words loose limit include zero text = None
-valid_words loose limit include (suc n) text = limited_word limit (any_word loose text) >>? λ w.
-    valid_only limit (table include w.0.0 w.0.1 w.0.2) >>? λ cs.
-    if is_empty w.1 then Some cs
-    else (valid_words loose limit include n (drop_spaces w.1) >>? λ ds. Some (cs ++ ds))

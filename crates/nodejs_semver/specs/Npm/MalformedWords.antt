@@ -1,20 +1,17 @@
 -- Statement: which word of an alternative node-semver's strict reading rejects first, and where it stands.
 use Rattle.std.specs.Prelude.{◌≡◌, ◌+◌, ℕ, Bool, true, false, List, ◌++◌, length}
 use Rattle.std.specs.List.{list_all}
-use Rattle.semver_core.specs.{Failures.{NoValue}, Lists.{is_empty}}
-use Rattle.nodejs_semver.specs.Npm.RangeText.{IsWord}
+use Rattle.semver_core.specs.Failures.{NoValue}
+use Rattle.nodejs_semver.specs.Npm.RangeText.{BeginsWord}
 use Rattle.nodejs_semver.specs.Npm.Ranges.{is_valid}
 use Rattle.nodejs_semver.specs.Npm.Table.{Comparison}
-use Rattle.nodejs_semver.specs.Text.WordText.{IsBoundary, IsFirstBoundary, SkipsBlank}
+use Rattle.nodejs_semver.specs.Text.WordText.{IsFirstBoundary, SkipsBlank}
 
--- a word of valid comparators stands at the front of the text, up to whitespace or the end, and this behind it
+-- a word of valid comparators is at the front of the text, and this behind it
 pub record IsRightWord (limit : ℕ) (include : Bool) (text behind : List ℕ) : Type 0 where
-  pub word : List ℕ
   pub comparators : List Comparison
-  pub divided : text ≡ word ++ behind
-  pub is : IsWord false include (is_empty behind) word comparators
+  pub is : BeginsWord false include text behind comparators
   pub valid : list_all (is_valid limit) comparators ≡ true
-  pub ended : IsBoundary behind
 
 -- this is left of a text behind some such words, and the whitespace behind each
 pub data IsLeft (limit : ℕ) (include : Bool) (left : List ℕ) : List ℕ → Type 0 where

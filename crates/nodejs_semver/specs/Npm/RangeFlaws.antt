@@ -15,7 +15,7 @@ pub record IsAlternativeText (limit : ℕ) (include : Bool) (text : List ℕ) (c
     : Type 0 where
   pub middle : List ℕ
   pub trimmed : IsTrim text middle
-  pub is : IsAlternative false include middle cs
+  pub is : IsAlternative false include middle false cs
   pub valid : list_all (is_valid limit) cs ≡ true
 
 -- how many bytes these pieces take, with the bars behind each

@@ -1,26 +1,25 @@
 -- Statement: how range texts are written for node-semver, strictly and by its option `loose`, and the
 -- comparators of each alternative. In parentheses stand the names of the grammar that node-semver publishes.
 -- Left out is one `*`, and a comparator before it, in a word that is else a whole version, as in `>*1.2.3`,
--- which node-semver passes over. Of the loose reading these are left out too, and a text that has one is
--- rejected: malformed words but those that `Malformed` defines; zero as several digits, where it is the major
--- number or that is zero; more than 250 characters of a partial in front of its build; whitespace among the
--- marks of a whole end of a hyphen range.
-use Rattle.std.specs.Prelude.{◌≡◌, ◌⊎◌, ◌==◌, ◌<◌, ◌≤◌, ◌+◌, ◌&&◌, ◌||◌, not, nat_le, nat_lt, ℕ, Bool, true}
+-- which node-semver passes over: such a word is malformed. Of the loose reading these are left out too: zero as
+-- several digits, where it is the major number or that is zero, and a text with a partial that has more than 250
+-- characters in front of its build, which is rejected.
+use Rattle.std.specs.Prelude.{◌≡◌, ◌⊎◌, ◌==◌, ◌<◌, ◌≤◌, ◌+◌, ◌-◌, ◌&&◌, ◌||◌, not, nat_le, nat_lt, ℕ, Bool, true}
 use Rattle.std.specs.Prelude.{false, List, [], ◌∷◌, ◌++◌, length, drop, Option, Some, None, codes}
-use Rattle.std.specs.Prelude.{encode_utf8_all, if◌then◌else◌, is_none}
+use Rattle.std.specs.Prelude.{encode_utf8_all, flat_map, get_or, if◌then◌else◌, is_none}
 use Rattle.std.specs.Char.{is_ascii_digit}
-use Rattle.std.specs.List.{list_all, prefix_len}
+use Rattle.std.specs.List.{list_all, prefix_len, suffix_len}
 use Rattle.std.specs.Str.{bytes_eq}
-use Rattle.semver_core.specs.Lists.{is_empty}
-use Rattle.semver_core.specs.Text.Characters.{begins, is_whitespace, IsBlank, IsTrim}
+use Rattle.semver_core.specs.{Failures.{NoValue}, Lists.{is_empty}}
+use Rattle.semver_core.specs.Text.Characters.{BeginsBlank, begins, is_whitespace, IsBlank, IsTrim}
 use Rattle.semver_core.specs.Text.Identifiers.{Id, pieces}
 use Rattle.semver_core.specs.Text.Numbers.{IsNumber}
 use Rattle.semver_core.specs.Values.Versions.{VersionValue, is_release}
 use Rattle.nodejs_semver.specs.Npm.Grammar.{IsPreRelease, IsStrictBuild, has_leading_zero, is_strict_list}
-use Rattle.nodejs_semver.specs.Npm.Malformed.{begins_malformed, ends_malformed, is_malformed}
+use Rattle.nodejs_semver.specs.Npm.Malformed.{IsIgnored, is_mark}
 use Rattle.nodejs_semver.specs.Npm.Table.{Comparison, Partial, Sign, caret, compared, hyphen_lower, major}
 use Rattle.nodejs_semver.specs.Npm.Table.{hyphen_upper, minor, table, tilde, whole, wildcard}
-use Rattle.nodejs_semver.specs.Text.WordText.{Comparator, above, at_least, at_most, below, equal}
+use Rattle.nodejs_semver.specs.Text.WordText.{Comparator, IsBoundary, SkipsBlank, above, at_least, at_most, below, equal}
 
 -- ---- partials
 
@@ -60,9 +59,12 @@ pub data IsPlaces (loose : Bool) : List ℕ → Partial → Type 0 where
       → IsStrictBuild build builds → list_all (λ text. nat_le (length text) 250) (pieces (drop 1 build)) ≡ true
       → IsPlaces loose (x ++ (codes "." ++ (y ++ (codes "." ++ (z ++ (pre ++ build)))))) (partial_of a b c ids builds)
 
--- such a partial, which loosely has at most 250 characters in front of its `+`
+-- loosely a partial has at most 250 characters in front of its `+`
+abbrev pub is_short : Bool → List ℕ → Bool
+is_short loose text = not loose || nat_le (prefix_len (λ b. not (b == 43)) text) 250
+
 abbrev pub IsPartial : Bool → List ℕ → Partial → Type 0
-IsPartial loose text p = IsPlaces loose text p × ((not loose || nat_le (prefix_len (λ b. not (b == 43)) text) 250) ≡ true)
+IsPartial loose text p = IsPlaces loose text p × (is_short loose text ≡ true)
 
 -- ---- words
 
@@ -85,59 +87,106 @@ pub data IsSignText : List ℕ → Sign → Type 0 where
   tilde_twice : (c : Comparator) (x y : List ℕ) → IsBlank x → 0 < length x → IsBlank y → (c ≡ above) ⊎ (c ≡ at_least)
       → IsSignText (codes "~>" ++ (x ++ (spelling (compared c) ++ y))) tilde
 
--- `v` or `=`
-abbrev pub is_mark : ℕ → Bool
-is_mark b = b == 118 || b == 61
+-- the marks before a whole version that is compared: strictly one `v` at most
+abbrev pub are_whole_marks : List ℕ → Bool
+are_whole_marks marks = is_empty marks || bytes_eq marks (codes "v")
 
--- the marks before a whole version that is compared: strictly one `v` at most, and loosely any
-abbrev pub are_whole_marks : Bool → List ℕ → Bool
-are_whole_marks loose marks = if loose then list_all is_mark marks else is_empty marks || bytes_eq marks (codes "v")
-
--- the marks that may stand between a sign and a partial: strictly those before a whole version that is compared, and
--- else any
+-- the marks that may stand between a sign and a partial: loosely any
 abbrev pub are_marks : Bool → Sign → Partial → List ℕ → Bool
-are_marks false (compared c) (whole v) marks = are_whole_marks false marks
+are_marks false (compared c) (whole v) marks = are_whole_marks marks
 are_marks loose s p marks = list_all is_mark marks
 
--- a word (simple), the last one or not: a sign, marks and a partial. Without a sign, and behind `>` and `<`, the first mark
--- is no `=`, since that would belong to the sign. Loosely it may also be malformed, and has then no comparators.
-pub data IsWord (loose include is_last : Bool) : List ℕ → List Comparison → Type 0 where
-  ignored : (x : List ℕ) → loose ≡ true → is_malformed is_last x ≡ true → IsWord loose include is_last x []
+-- a word (simple), with the text of its partial: a sign, marks and the partial. Without a sign, and behind `>` and `<`, the
+-- first mark is no `=`, since that would belong to the sign.
+pub data IsWord (loose include : Bool) : List ℕ → List ℕ → List Comparison → Type 0 where
   word : (signs marks text : List ℕ) (s : Sign) (p : Partial) → IsSignText signs s → are_marks loose s p marks ≡ true
       → ((is_empty signs || list_all (λ b. b == 60 || b == 62) (spelling s)) && begins (λ b. b == 61) marks) ≡ false
-      → IsPartial loose text p → IsWord loose include is_last (signs ++ (marks ++ text)) (table include s p (marks ++ text))
+      → IsPlaces loose text p → IsWord loose include (signs ++ (marks ++ text)) text (table include s p (marks ++ text))
+
+-- a word is at the front of the text, up to whitespace or the end, and this behind it
+pub record BeginsWord (loose include : Bool) (text behind : List ℕ) (cs : List Comparison) : Type 0 where
+  pub word : List ℕ
+  pub partial : List ℕ
+  pub divided : text ≡ word ++ behind
+  pub is : IsWord loose include word partial cs
+  pub ended : IsBoundary behind
 
 -- ---- alternatives
 
--- one word or more, with whitespace between them
-pub data AreWords (loose include : Bool) : List ℕ → List Comparison → Type 0 where
-  last : (x : List ℕ) (cs : List Comparison) → IsWord loose include true x cs → AreWords loose include x cs
-  more : (x blank rest : List ℕ) (cs ds : List Comparison) → IsWord loose include false x cs → IsBlank blank
-      → 0 < length blank → AreWords loose include rest ds → AreWords loose include (x ++ (blank ++ rest)) (cs ++ ds)
+-- words with whitespace between them, each with its comparators. Where no word stands, a malformed one is ignored loosely.
+pub data AreWords (loose include : Bool) : List ℕ → List (Option (List Comparison)) → Type 0 where
+  none : AreWords loose include [] []
+  word : (text behind rest : List ℕ) (cs : List Comparison) (read : List (Option (List Comparison)))
+      (w : BeginsWord loose include text behind cs) → is_short loose w.partial ≡ true → SkipsBlank behind rest
+      → AreWords loose include rest read → AreWords loose include text (Some cs ∷ read)
+  ignored : (text behind rest : List ℕ) (read : List (Option (List Comparison))) → loose ≡ true → is_empty text ≡ false
+      → ((behind : List ℕ) → NoValue (BeginsWord loose include text behind)) → IsIgnored text behind → SkipsBlank behind rest
+      → AreWords loose include rest read → AreWords loose include text (None ∷ read)
+
+-- all their comparators
+abbrev pub comparators_of : List (Option (List Comparison)) → List Comparison
+comparators_of read = flat_map (get_or []) read
+
+-- there are none, and the first word and the last one are ignored
+abbrev pub is_lost : List (Option (List Comparison)) → Bool
+is_lost read = is_empty (comparators_of read) && (nat_lt 0 (prefix_len is_none read) && nat_lt 0 (suffix_len is_none read))
 
 -- any marks and whitespace
 abbrev pub AreMarks : List ℕ → Type 0
 AreMarks text = (cs : List ℕ) × (text ≡ encode_utf8_all cs) × (list_all (λ c. is_mark c || is_whitespace c) cs ≡ true)
 
--- they may stand before an end of a hyphen range that is a partial version, or a whole one of which this is true, that
--- it is written anew; before another whole version stand marks as where it is compared
+-- an end of a hyphen range at the front of the text, and this behind it
+pub record IsEnd (loose : Bool) (text behind : List ℕ) : Type 0 where
+  pub marks : List ℕ
+  pub places : List ℕ
+  pub partial : Partial
+  pub divided : text ≡ marks ++ (places ++ behind)
+  pub are : AreMarks marks
+  pub is : IsPlaces loose places partial
+
+-- the text is a hyphen range (hyphen): two ends with ` - ` between them
+pub record IsHyphen (loose : Bool) (text : List ℕ) : Type 0 where
+  pub before : List ℕ
+  pub after : List ℕ
+  pub second : List ℕ
+  pub lower : IsEnd loose text before
+  pub blank : BeginsBlank before
+  pub dash : SkipsBlank before (codes "-" ++ after)
+  pub gap : BeginsBlank after
+  pub skipped : SkipsBlank after second
+  pub upper : IsEnd loose second []
+
+-- the marks behind the last whitespace among them. Where they are not all, the end is compared by `=`, as a word is that
+-- begins there.
+abbrev pub last_marks : List ℕ → List ℕ
+last_marks marks = drop (length marks - suffix_len is_mark marks) marks
+
+abbrev pub end_sign : Comparator → List ℕ → Comparator
+end_sign c marks = if list_all is_mark marks then c else equal
+
+-- any marks may stand loosely, before a partial version, and before a whole one of which this is true, that it is written
+-- anew; before another whole version stand marks as where it is compared
 abbrev pub is_free : (VersionValue → Bool) → Partial → Bool
 is_free changes p = elim p [ whole v ↦ changes v | _ ↦ true ]
 
--- an alternative (range): nothing, a hyphen range (hyphen) or words
-pub data IsAlternative (loose include : Bool) : List ℕ → List Comparison → Type 0 where
-  nothing : IsAlternative loose include [] []
-  hyphen : (a x blank gap b y : List ℕ) (p q : Partial) → AreMarks a → (is_free (λ v. false) p || are_whole_marks loose a) ≡ true
-      → IsPartial loose x p → IsBlank blank → 0 < length blank → IsBlank gap → 0 < length gap → AreMarks b
-      → (is_free (λ v. include || not (is_release v)) q || are_whole_marks loose b) ≡ true → IsPartial loose y q
-      → IsAlternative loose include (a ++ (x ++ (blank ++ (codes "-" ++ (gap ++ (b ++ y))))))
-      (hyphen_lower include p (a ++ x) ++ hyphen_upper include q (b ++ y))
-  words : (x : List ℕ) (cs : List Comparison) → AreWords loose include x cs → IsAlternative loose include x cs
+abbrev pub is_right_end : Bool → (VersionValue → Bool) → Partial → List ℕ → List ℕ → Bool
+is_right_end loose changes p marks places = is_short loose places && (loose || (is_free changes p || are_whole_marks marks))
 
--- the alternatives between bars (range-set), each without the whitespace around it. Loosely words without comparators are none if
--- the first and the last one are malformed.
+-- an alternative (range): a hyphen range, or words, of which none may be left
+pub data IsAlternative (loose include : Bool) : List ℕ → Bool → List Comparison → Type 0 where
+  hyphen : (text : List ℕ) (h : IsHyphen loose text)
+      → is_right_end loose (λ v. false) h.lower.partial h.lower.marks h.lower.places ≡ true
+      → is_right_end loose (λ v. include || not (is_release v)) h.upper.partial h.upper.marks h.upper.places ≡ true
+      → IsAlternative loose include text false
+      (hyphen_lower (end_sign at_least h.lower.marks) include h.lower.partial (last_marks h.lower.marks ++ h.lower.places)
+      ++ hyphen_upper (end_sign at_most h.upper.marks) include h.upper.partial (last_marks h.upper.marks ++ h.upper.places))
+  words : (text : List ℕ) (read : List (Option (List Comparison))) → (IsHyphen loose text → ⊥) → AreWords loose include text read
+      → IsAlternative loose include text (is_lost read) (comparators_of read)
+
+-- the alternatives between bars (range-set), each without the whitespace around it. Words without comparators are none if
+-- the first and the last one are ignored.
 pub data AreAlternatives (loose include : Bool) : List (List ℕ) → List (List Comparison) → Type 0 where
   none : AreAlternatives loose include [] []
-  next : (piece text : List ℕ) (others : List (List ℕ)) (cs : List Comparison) (rest : List (List Comparison)) → IsTrim piece text
-      → IsAlternative loose include text cs → AreAlternatives loose include others rest → AreAlternatives loose include (piece ∷ others)
-      (if loose && (is_empty cs && (begins_malformed text && ends_malformed text)) then rest else cs ∷ rest)
+  next : (piece text : List ℕ) (others : List (List ℕ)) (lost : Bool) (cs : List Comparison) (rest : List (List Comparison)) → IsTrim piece text
+      → IsAlternative loose include text lost cs → AreAlternatives loose include others rest
+      → AreAlternatives loose include (piece ∷ others) (if lost then rest else cs ∷ rest)

@@ -82,14 +82,15 @@ table include (compared at_least) p text = from include (first p) ∷ []
 table include (compared above) p text = from include (next p) ∷ []
 table include (compared at_most) p text = under (next p) ∷ []
 
--- the ends of a hyphen range. The lower one gets `-0` as a text, which belongs to the build where there is
--- one.
-abbrev pub hyphen_lower : Bool → Partial → List ℕ → List Comparison
-hyphen_lower true (whole v) text = if is_release v && is_empty v.build then from true (first (whole v)) ∷ []
-    else table true (compared at_least) (whole v) (if is_release v then text ++ codes "-0" else text)
-hyphen_lower include p text = table include (compared at_least) p text
+-- the ends of a hyphen range, which are compared so where they are whole. With pre-releases included the lower one gets
+-- `-0` as a text, which belongs to the build where there is one.
+abbrev pub hyphen_lower : Comparator → Bool → Partial → List ℕ → List Comparison
+hyphen_lower c include (whole v) text = if include && is_release v
+    then record { sign = c; version = if is_empty v.build then lowest (first (whole v)) else v; text = text ++ codes "-0" } ∷ []
+    else table include (compared c) (whole v) text
+hyphen_lower c include p text = table include (compared at_least) p text
 
-abbrev pub hyphen_upper : Bool → Partial → List ℕ → List Comparison
-hyphen_upper include (whole v) text = if not (is_release v) then made at_most (no_build v) ∷ []
-    else if include then under (v.major, v.minor, v.patch + 1) ∷ [] else table include (compared at_most) (whole v) text
-hyphen_upper include p text = table include (compared at_most) p text
+abbrev pub hyphen_upper : Comparator → Bool → Partial → List ℕ → List Comparison
+hyphen_upper c include (whole v) text = if not (is_release v) then made at_most (no_build v) ∷ []
+    else if include then under (v.major, v.minor, v.patch + 1) ∷ [] else table include (compared c) (whole v) text
+hyphen_upper c include p text = table include (compared at_most) p text

@@ -22,11 +22,13 @@ use smallvec::SmallVec;
 use std::alloc::Global;
 
 /// What the comparators that were read so far have in common; no interval where their cuts do not
-/// meet. It is bare if there were none.
+/// meet. It is bare if there were none. It is lost, and no alternative, if it is bare and its first
+/// and its last word are ignored.
 #[derive(Drop)]
 pub(crate) struct Alternative<'a> {
     interval: Option<Interval<VersionRef<'a>>>,
     is_bare: bool,
+    is_lost: bool,
 }
 
 // What two intervals have in common.
@@ -64,10 +66,12 @@ impl<'a> Alternative<'a> {
     pub(crate) fn all() -> Alternative<'a>
         ensures narrowed { (include : Bool) → IsNarrowed include [] result.interval }
         ensures bare { result.is_bare ≡ true }
+        ensures lost { result.is_lost ≡ false }
     {
         Alternative {
             interval: Some(Interval::default()),
             is_bare: true,
+            is_lost: false,
         }
     }
 
@@ -85,6 +89,7 @@ impl<'a> Alternative<'a> {
             (table include (npm_sign_view sign) (npm_partial_view partial.now) text.now) result }
         ensures bare { IfSome result (λ a. a.is_bare ≡ (self.entry.is_bare && is_empty
             (table include (npm_sign_view sign) (npm_partial_view partial.now) text.now))) }
+        ensures lost { IfSome result (λ a. a.is_lost ≡ self.entry.is_lost) }
     {
         let read = row(include, sign, partial, text);
         self.meet_read(read, has_no_comparators(sign, partial))
@@ -100,6 +105,7 @@ impl<'a> Alternative<'a> {
         ensures narrowed { (include : Bool) → (cs : List Comparison) →
             AreRead include cs read.entry → NarrowedBy include self.entry.interval cs result }
         ensures bare { IfSome result (λ a. a.is_bare ≡ (self.entry.is_bare && is_bare)) }
+        ensures lost { IfSome result (λ a. a.is_lost ≡ self.entry.is_lost) }
     {
         Some(self.narrow(read?, is_bare))
     }
@@ -110,18 +116,32 @@ impl<'a> Alternative<'a> {
         ensures bounds { result.interval
             ≡ met self.entry.interval (interval precedence (bounds_view bounds.entry)) }
         ensures bare { result.is_bare ≡ (self.entry.is_bare && is_bare) }
+        ensures lost { result.is_lost ≡ self.entry.is_lost }
     {
         Alternative {
             interval: common(self.interval, Interval::new(bounds.lower, bounds.upper)),
             is_bare: self.is_bare && is_bare,
+            is_lost: self.is_lost,
         }
     }
 
-    /// Whether no comparator was read.
-    pub(crate) fn is_bare(&self) -> bool
-        ensures { result ≡ self.now.is_bare }
+    /// The same, lost if it is bare and its ends are ignored.
+    pub(crate) fn ended(self, are_ends_ignored: bool) -> Alternative<'a>
+        ensures interval { result.interval ≡ self.entry.interval }
+        ensures lost { result.is_lost ≡ (self.entry.is_bare && are_ends_ignored) }
     {
-        self.is_bare
+        Alternative {
+            interval: self.interval,
+            is_bare: self.is_bare,
+            is_lost: self.is_bare && are_ends_ignored,
+        }
+    }
+
+    /// Whether it is no alternative.
+    pub(crate) fn is_lost(&self) -> bool
+        ensures { result ≡ self.now.is_lost }
+    {
+        self.is_lost
     }
 
     /// The interval, where the cuts meet.

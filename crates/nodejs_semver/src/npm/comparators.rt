@@ -323,10 +323,21 @@ fn whole<'a>(
             lower: from_text(include, version, text),
             upper: Bound::Unbounded,
         }),
-        Comparator::Above => Some(Bounds::above(version.copy())),
-        Comparator::Equal => Some(Bounds::through(version.copy(), version.copy())),
-        Comparator::AtMost => Some(Bounds::at_most(version.copy())),
-        Comparator::Below => Some(Bounds::below(version.copy())),
+        _ => Some(bounds(comparator, version.copy())),
+    }
+}
+
+// The bounds of a version that is compared.
+#[inline(always)]
+fn bounds<'a>(comparator: Comparator, version: VersionRef<'a>) -> Bounds<'a>
+    ensures { bounds_view result ≡ compared_span (comparator_view comparator) version.entry }
+{
+    match comparator {
+        Comparator::AtLeast => Bounds::at_least(version),
+        Comparator::Above => Bounds::above(version),
+        Comparator::Equal => Bounds::through(version.copy(), version),
+        Comparator::AtMost => Bounds::at_most(version),
+        Comparator::Below => Bounds::below(version),
     }
 }
 
@@ -389,39 +400,74 @@ pub(crate) fn row<'a>(
     }
 }
 
-/// The bounds of the lower end of a hyphen range, as `row` gives those of a word.
-pub(crate) fn lower_end<'a>(include: bool, partial: &Partial<'a>, text: &[u8]) -> Option<Bounds<'a>>
+/// The bounds of the lower end of a hyphen range, as `row` gives those of a word. A whole version is
+/// compared by the comparator.
+pub(crate) fn lower_end<'a>(
+    include: bool,
+    comparator: Comparator,
+    partial: &Partial<'a>,
+    text: &[u8],
+) -> Option<Bounds<'a>>
     requires { are_normal (npm_partial_view partial.now) ≡ true }
-    ensures { AreRead include (Spec.hyphen_lower include (npm_partial_view partial.now) text.now)
-        result }
-{
-    match partial {
-        Partial::Whole(version) if include && version.is_release() => {
-            if version.build().is_empty() {
-                return from(true, partial.first());
-            }
-            // `-0` goes to the end of the text, and so into the build.
-            if !within(partial.first()) || text.len() + 2 > MAX_LENGTH {
-                return None;
-            }
-            Some(Bounds::at_least(version.copy()))
-        }
-        _ => row(include, Sign::Compared(Comparator::AtLeast), partial, text),
-    }
-}
-
-/// The bounds of the upper end of a hyphen range, as `row` gives those of a word.
-pub(crate) fn upper_end<'a>(include: bool, partial: &Partial<'a>, text: &[u8]) -> Option<Bounds<'a>>
-    requires { are_normal (npm_partial_view partial.now) ≡ true }
-    ensures { AreRead include (Spec.hyphen_upper include (npm_partial_view partial.now) text.now)
-        result }
+    ensures { AreRead include (Spec.hyphen_lower (comparator_view comparator) include
+        (npm_partial_view partial.now) text.now) result }
 {
     match partial {
         Partial::Whole(version) => {
             if !within(partial.first()) {
                 return None;
             }
-            whole_upper(include, version, text)
+            whole_lower(include, comparator, version, text)
+        }
+        _ => row(include, Sign::Compared(Comparator::AtLeast), partial, text),
+    }
+}
+
+// The lower end that is a whole version. With pre-releases included, `-0` goes to the end of the
+// text of a release, and into its build if it has one.
+#[inline(always)]
+fn whole_lower<'a>(
+    include: bool,
+    comparator: Comparator,
+    version: &VersionRef<'a>,
+    text: &[u8],
+) -> Option<Bounds<'a>>
+    requires within { within (first (Spec.whole version.now)) ≡ true }
+    requires normal { are_normal (Spec.whole version.now) ≡ true }
+    ensures { AreRead include (Spec.hyphen_lower (comparator_view comparator) include
+        (Spec.whole version.now) text.now) result }
+{
+    if !include || !version.is_release() {
+        return whole(include, comparator, version, text);
+    }
+    if text.len() + 2 > MAX_LENGTH {
+        return None;
+    }
+    if version.build().is_empty() {
+        let least = lowest(version.major(), version.minor(), version.patch());
+        return Some(bounds(comparator, least));
+    }
+    Some(bounds(comparator, version.copy()))
+}
+
+/// The bounds of the upper end of a hyphen range, as `row` gives those of a word. A whole version is
+/// compared by the comparator.
+pub(crate) fn upper_end<'a>(
+    include: bool,
+    comparator: Comparator,
+    partial: &Partial<'a>,
+    text: &[u8],
+) -> Option<Bounds<'a>>
+    requires { are_normal (npm_partial_view partial.now) ≡ true }
+    ensures { AreRead include (Spec.hyphen_upper (comparator_view comparator) include
+        (npm_partial_view partial.now) text.now) result }
+{
+    match partial {
+        Partial::Whole(version) => {
+            if !within(partial.first()) {
+                return None;
+            }
+            whole_upper(include, comparator, version, text)
         }
         _ => row(include, Sign::Compared(Comparator::AtMost), partial, text),
     }
@@ -429,16 +475,22 @@ pub(crate) fn upper_end<'a>(include: bool, partial: &Partial<'a>, text: &[u8]) -
 
 // The upper end that is a whole version.
 #[inline(always)]
-fn whole_upper<'a>(include: bool, version: &VersionRef<'a>, text: &[u8]) -> Option<Bounds<'a>>
+fn whole_upper<'a>(
+    include: bool,
+    comparator: Comparator,
+    version: &VersionRef<'a>,
+    text: &[u8],
+) -> Option<Bounds<'a>>
     requires within { within (first (Spec.whole version.now)) ≡ true }
     requires normal { are_normal (Spec.whole version.now) ≡ true }
-    ensures { AreRead include (Spec.hyphen_upper include (Spec.whole version.now) text.now) result }
+    ensures { AreRead include (Spec.hyphen_upper (comparator_view comparator) include
+        (Spec.whole version.now) text.now) result }
 {
     if version.is_release() {
         if include {
             return under((version.major(), version.minor(), version.patch() + 1));
         }
-        return whole(include, Comparator::AtMost, version, text);
+        return whole(include, comparator, version, text);
     }
     if prints_short(version) {
         Some(Bounds::at_most(version.copy()))

@@ -1,22 +1,30 @@
 // The hyphen ranges of node-semver's readings: two partial versions with ` - ` between them.
 
 ghost use Rattle.std.specs.Prelude.{◌≡◌, ◌≤◌};
-ghost use Rattle.nodejs_semver.specs.Words.{MAX_SAFE_INTEGER, length, list_all, rest_view};
-ghost use Rattle.nodejs_semver.specs.Internal.{NpmParts.npm_partial_view, NpmViews.end_front_view};
-ghost use Rattle.nodejs_semver.specs.Internal.NpmViews.{end_some_view, hyphen_view, is_free_end};
+ghost use Rattle.nodejs_semver.specs.Words.{MAX_SAFE_INTEGER, comparator_view, length, list_all};
+ghost use Rattle.nodejs_semver.specs.{Words.{rest_view, true}, Internal.NpmMeaning.AreReadOf};
+ghost use Rattle.nodejs_semver.specs.Internal.{NpmParts.{npm_partial_view, some_normal}};
+ghost use Rattle.nodejs_semver.specs.Internal.NpmViews.{end_front_view, end_some_view, end_view};
+ghost use Rattle.nodejs_semver.specs.Internal.NpmViews.{hyphen_view, is_free_end};
+ghost use Rattle.nodejs_semver.specs.Internal.NpmViews.{npm_partial_some_view};
 ghost use Rattle.nodejs_semver.specs.Internal.NpmWords as Spec;
-ghost use Rattle.nodejs_semver.specs.Npm.RangeText as Text;
+ghost use Rattle.nodejs_semver.specs.Npm.{Malformed, RangeText as Text};
+ghost use Rattle.semver_core.specs.Internal.Reading.{◌>>?◌};
 
+use crate::npm::comparators::{lower_end, upper_end};
 use crate::npm::partial::Partial;
 use crate::npm::places::partial_front;
-use crate::readers::{after_some_space, space_len};
+use crate::readers::{Bounds, Comparator, after_some_space, space_len};
 use semver_core::MAX_SAFE_INTEGER;
 
-/// An end of a hyphen range: its partial version, and the text of that with its marks.
+/// An end of a hyphen range: the marks and the whitespace in front, its partial version, and the
+/// text of that with the marks behind the last whitespace. There is no partial where a number that
+/// counts is past the limit, or where its text is too long.
 #[derive(Drop)]
 pub(crate) struct End<'a> {
-    pub(crate) partial: Partial<'a>,
-    pub(crate) text: &'a [u8],
+    marks: &'a [u8],
+    pub(crate) partial: Option<Partial<'a>>,
+    text: &'a [u8],
 }
 
 // Which end it is, and of the upper one whether pre-releases are included.
@@ -53,7 +61,7 @@ pub(crate) fn skip_marks(text: &[u8]) -> &[u8]
 
 #[inline(always)]
 fn is_mark(byte: u8) -> bool
-    ensures { result ≡ Text.is_mark byte }
+    ensures { result ≡ Malformed.is_mark byte }
 {
     matches!(byte, b'v' | b'=')
 }
@@ -61,20 +69,22 @@ fn is_mark(byte: u8) -> bool
 // Whether a text is marks alone.
 #[inline(always)]
 fn are_marks(text: &[u8]) -> bool
-    ensures { result ≡ list_all Text.is_mark text.now }
+    ensures { result ≡ list_all Malformed.is_mark text.now }
 {
     text.iter().all(|byte| is_mark(*byte))
 }
 
-// Whether marks of a text may stand before a whole version.
-fn are_whole_marks(loose: bool, text: &[u8]) -> bool
-    ensures { result ≡ Text.are_whole_marks loose text.now }
+// The marks behind the last whitespace.
+#[tactic(auto, using(crate::proofs::Strict::Ignored::marks_end))]
+fn last_marks(marks: &[u8]) -> &[u8]
+    ensures value { result.now ≡ Text.last_marks marks.now }
+    ensures fits { length result.now ≤ length marks.now }
 {
-    if loose {
-        are_marks(text)
-    } else {
-        matches!(text, [] | [b'v'])
+    let mut start = marks.len();
+    'marks: while start > 0 && is_mark(marks[start - 1]) {
+        start -= 1;
     }
+    &marks[start..]
 }
 
 // Whether any marks may stand before this end of a hyphen range.
@@ -88,38 +98,89 @@ fn is_free(side: Side, partial: &Partial<'_>) -> bool
     }
 }
 
-// The end whose partial was read at `behind`, which stands behind its marks.
-fn ended_end<'a>(
-    loose: bool,
-    free: bool,
+impl<'a> End<'a> {
+    // Whether its marks may stand before this partial.
+    fn are_right(&self, loose: bool, side: Side, partial: &Partial<'_>) -> bool
+        ensures { result ≡ (loose || (is_free_end side (npm_partial_view partial.now)
+            || Text.are_whole_marks self.now.marks.now)) }
+    {
+        loose || is_free(side, partial) || matches!(self.marks, [] | [b'v'])
+    }
+
+    // The comparator by which a whole version is compared: `=` where whitespace is among the marks.
+    fn comparator(&self, written: Comparator) -> Comparator
+        ensures { comparator_view result
+            ≡ Text.end_sign (comparator_view written) self.now.marks.now }
+    {
+        if are_marks(self.marks) {
+            written
+        } else {
+            Comparator::Equal
+        }
+    }
+}
+
+/// The bounds of the lower end, as `row` gives those of a word; none also where its marks may not
+/// stand there.
+pub(crate) fn lower_bounds<'a>(loose: bool, include: bool, end: &End<'a>) -> Option<Bounds<'a>>
+    requires { some_normal (npm_partial_some_view end.now.partial) ≡ true }
+    ensures { AreReadOf include (Spec.lower_counted loose include (end_view end.now)) result }
+{
+    match &end.partial {
+        Some(partial) if end.are_right(loose, Side::Lower, partial) => {
+            let comparator = end.comparator(Comparator::AtLeast);
+            lower_end(include, comparator, partial, end.text)
+        }
+        _ => None,
+    }
+}
+
+/// The same of the upper end.
+pub(crate) fn upper_bounds<'a>(loose: bool, include: bool, end: &End<'a>) -> Option<Bounds<'a>>
+    requires { some_normal (npm_partial_some_view end.now.partial) ≡ true }
+    ensures { AreReadOf include (Spec.upper_counted loose include (end_view end.now)) result }
+{
+    match &end.partial {
+        Some(partial) if end.are_right(loose, Side::Upper { include }, partial) => {
+            let comparator = end.comparator(Comparator::AtMost);
+            upper_end(include, comparator, partial, end.text)
+        }
+        _ => None,
+    }
+}
+
+// An end of a hyphen range, behind whose marks a text stands: its partial, and what follows it.
+fn ended<'a>(
     text: &'a [u8],
     behind: &'a [u8],
-    partial: Partial<'a>,
+    partial: Option<Partial<'a>>,
     rest: &'a [u8],
-) -> Option<(End<'a>, &'a [u8])>
-    requires behind { length behind.now ≤ length text.now }
-    requires rest { length rest.now ≤ length text.now }
-    ensures { end_front_view result ≡ Spec.ended_end loose (λ p. free) text.now behind.now
-        (npm_partial_view partial.entry, rest.now) }
+) -> (End<'a>, &'a [u8])
+    requires behind { behind.now ≡ Spec.drop_ends text.now }
+    requires rest { length rest.now ≤ length behind.now }
+    ensures { (end_view result.0, result.1.now) ≡ Spec.ended_counted text.now behind.now
+        (npm_partial_some_view partial.entry, rest.now) }
 {
-    if !free && !are_whole_marks(loose, &text[..text.len() - behind.len()]) {
-        return None;
-    }
-    let text = &text[..text.len() - rest.len()];
-    Some((End { partial, text }, rest))
+    let marks = &text[..text.len() - behind.len()];
+    let start = marks.len() - last_marks(marks).len();
+    let text = &text[start..text.len() - rest.len()];
+    (
+        End {
+            marks,
+            partial,
+            text,
+        },
+        rest,
+    )
 }
 
 // An end of a hyphen range at the front, and the text behind it.
-fn end_front(loose: bool, side: Side, text: &[u8]) -> Option<(End<'_>, &[u8])>
-    ensures { end_front_view result
-        ≡ Spec.limited_end MAX_SAFE_INTEGER (Spec.end_front loose (is_free_end side) text.now) }
+fn end_front(loose: bool, text: &[u8]) -> Option<(End<'_>, &[u8])>
+    ensures { end_front_view result ≡ Spec.counted_end loose MAX_SAFE_INTEGER text.now }
 {
     let behind = skip_marks(text);
     match partial_front(loose, behind) {
-        Some(read) => {
-            let free = is_free(side, &read.0);
-            ended_end(loose, free, text, behind, read.0, read.1)
-        }
+        Some(read) => Some(ended(text, behind, read.0, read.1)),
         None => None,
     }
 }
@@ -135,18 +196,19 @@ fn after_dash(text: &[u8]) -> Option<&[u8]>
 }
 
 // The upper end behind whitespace, `-` and whitespace, where it ends the text.
-fn last_end(loose: bool, include: bool, text: &[u8]) -> Option<End<'_>>
-    ensures { end_some_view result ≡ Spec.last_limited loose MAX_SAFE_INTEGER include text.now }
+fn last_end(loose: bool, text: &[u8]) -> Option<End<'_>>
+    ensures { end_some_view result ≡ (Spec.after_dash text.now >>? λ second.
+        Spec.last_counted loose MAX_SAFE_INTEGER second) }
 {
-    let (upper, rest) = end_front(loose, Side::Upper { include }, after_dash(text)?)?;
+    let (upper, rest) = end_front(loose, after_dash(text)?)?;
     if rest.is_empty() { Some(upper) } else { None }
 }
 
-/// The ends of the hyphen range that the text is, if their numbers that count are up to the limit.
-pub(crate) fn hyphen_ends(loose: bool, include: bool, text: &[u8]) -> Option<(End<'_>, End<'_>)>
-    ensures { hyphen_view result ≡ Spec.hyphen_of loose MAX_SAFE_INTEGER include text.now }
+/// The ends of the hyphen range that the text is.
+pub(crate) fn hyphen_ends(loose: bool, text: &[u8]) -> Option<(End<'_>, End<'_>)>
+    ensures { hyphen_view result ≡ Spec.counted_hyphen loose MAX_SAFE_INTEGER text.now }
 {
-    let (lower, rest) = end_front(loose, Side::Lower, text)?;
-    let upper = last_end(loose, include, rest)?;
+    let (lower, rest) = end_front(loose, text)?;
+    let upper = last_end(loose, rest)?;
     Some((lower, upper))
 }

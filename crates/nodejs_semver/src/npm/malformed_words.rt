@@ -16,8 +16,13 @@ fn right_word(include: bool, text: &[u8]) -> Option<&[u8]>
     ensures none { IfNone result (NoValue (IsRightWord MAX_SAFE_INTEGER include text.now)) }
 {
     let (word, behind) = word_front(false, text)?;
-    row(include, word.sign, &word.partial, word.text)?;
-    Some(behind)
+    match &word.partial {
+        Some(partial) => {
+            row(include, word.sign, partial, word.text)?;
+            Some(behind)
+        }
+        None => None,
+    }
 }
 
 // What is left of a text behind the words at its front that are right.

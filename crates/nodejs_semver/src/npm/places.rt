@@ -7,7 +7,7 @@ ghost use Rattle.nodejs_semver.specs.{Words.true, Internal.Fronts.{begins_byte, 
 ghost use Rattle.nodejs_semver.specs.Internal.Fronts.{begins_wildcard};
 ghost use Rattle.nodejs_semver.specs.Internal.{Fronts.number_front, NpmReadings.begins_padded};
 ghost use Rattle.nodejs_semver.specs.Internal.NpmReadings.{strict_number};
-ghost use Rattle.nodejs_semver.specs.Internal.NpmViews.{npm_partial_front_view};
+ghost use Rattle.nodejs_semver.specs.Internal.NpmViews.{counted_partial_view, npm_partial_front_view};
 ghost use Rattle.nodejs_semver.specs.Internal.NpmViews.{npm_partial_some_view, place_front_view};
 ghost use Rattle.nodejs_semver.specs.Internal.NpmViews.{place_view};
 ghost use Rattle.semver_core.specs.{Internal.Reading.◌>>?◌, Text.Identifiers.listed};
@@ -389,21 +389,21 @@ fn len_before_plus(text: &[u8]) -> usize
 // Whether a partial is short enough.
 #[inline(always)]
 fn is_short(loose: bool, text: &[u8]) -> bool
-    ensures { result ≡ Spec.is_short loose text.now }
+    ensures { result ≡ Text.is_short loose text.now }
 {
     !loose || len_before_plus(text) <= 250
 }
 
-/// The partial version at the front whose numbers that count are up to the limit, and the text
-/// behind it.
+/// The partial version at the front, and the text behind it. It is left out where its numbers that
+/// count are not up to the limit, or where it is too long.
 #[inline(always)]
-pub(crate) fn partial_front(loose: bool, text: &[u8]) -> Option<(Partial<'_>, &[u8])>
-    ensures { npm_partial_front_view result ≡ Spec.counted_front loose MAX_SAFE_INTEGER text.now }
+pub(crate) fn partial_front(loose: bool, text: &[u8]) -> Option<(Option<Partial<'_>>, &[u8])>
+    ensures { counted_partial_view result ≡ Spec.counted_front loose MAX_SAFE_INTEGER text.now }
 {
     let (partial, rest) = places_front(loose, text)?;
     if is_short(loose, &text[..text.len() - rest.len()]) {
-        Some((partial, rest))
+        Some((Some(partial), rest))
     } else {
-        None
+        Some((None, rest))
     }
 }

@@ -4,21 +4,22 @@ ghost use Rattle.std.specs.{Prelude.{◌&&◌, ◌<◌, ◌≡◌, []}, Str.IsUt
 ghost use Rattle.nodejs_semver.specs.Words.{Comparison, HasAlternativesIn, IfOk, IsCutAtBars, List};
 ghost use Rattle.nodejs_semver.specs.Words.{IsRange, MAX_SAFE_INTEGER, MemoryOnlyIf, NoValue};
 ghost use Rattle.nodejs_semver.specs.Words.{None, OnOk, RefusedOnlyIf, length, parts, true, ℕ};
-ghost use Rattle.nodejs_semver.specs.Internal.NpmParts.{are_normal, npm_partial_view};
-ghost use Rattle.nodejs_semver.specs.Internal.NpmViews.{end_view};
-ghost use Rattle.nodejs_semver.specs.Internal.NpmWords.{hyphen_comparisons, valid_only};
+ghost use Rattle.nodejs_semver.specs.Words.{Some};
+ghost use Rattle.nodejs_semver.specs.Internal.NpmParts.{is_some_wildcard, some_normal};
+ghost use Rattle.nodejs_semver.specs.Internal.NpmViews.{end_view, npm_partial_some_view};
+ghost use Rattle.nodejs_semver.specs.Internal.NpmWords.{first_valid, words_of_all};
 ghost use Rattle.nodejs_semver.specs.Internal.NpmReads.{AddsPart, AreAllFound, IsFound};
-ghost use Rattle.nodejs_semver.specs.Internal.NpmReads.{valid_alternative, valid_hyphen};
-ghost use Rattle.nodejs_semver.specs.Internal.NpmReads.{valid_range, words_of};
-ghost use Rattle.nodejs_semver.specs.Npm.Malformed.{begins_malformed, ends_malformed};
+ghost use Rattle.nodejs_semver.specs.Internal.NpmReads.{IsStep, hyphen_valid};
+ghost use Rattle.nodejs_semver.specs.Internal.NpmReads.{valid_alternative, valid_range, words_of};
+ghost use Rattle.semver_core.specs.Internal.Reading.{◌>>?◌};
 ghost use Rattle.nodejs_semver.specs.Npm.Ranges.{HasAlternatives, IsRangeIn, IsRangeOf};
 
 use crate::RangeRef;
 use crate::npm::alternatives::{Alternative, is_wildcard, set_ranged};
 use crate::npm::common::read_common;
-use crate::npm::comparators::{lower_end, upper_end};
-use crate::npm::hyphens::{End, hyphen_ends};
-use crate::npm::malformed::{begins_malformed, ends_malformed};
+use crate::npm::hyphens::{End, hyphen_ends, lower_bounds, upper_bounds};
+use crate::npm::ignored::behind_ignored;
+use crate::npm::partial::Partial;
 use crate::npm::words::word_front;
 use crate::range::Intervals;
 use crate::readers::{Found, next_part, skip_spaces};
@@ -26,42 +27,71 @@ use semver_core::{Failure, MAX_SAFE_INTEGER, SemverError, VersionRef};
 use smallvec::SmallVec;
 use std::alloc::Global;
 
+// What the alternative is with the word at the front, which is well-formed or ignored, and what
+// follows it and its whitespace. Says also whether it was ignored.
+fn with_word<'a>(
+    loose: bool,
+    include: bool,
+    all: Alternative<'a>,
+    text: &'a [u8],
+) -> Option<(Alternative<'a>, bool, &'a [u8])>
+    ensures { IsStep include all.entry (first_valid loose MAX_SAFE_INTEGER include text.now)
+        result }
+{
+    let Some((word, behind)) = word_front(loose, text) else {
+        if loose {
+            return Some((all, true, skip_spaces(behind_ignored(text))));
+        }
+        return None;
+    };
+    let Some(partial) = word.partial else {
+        return None;
+    };
+    let all = all.meet(include, word.sign, &partial, word.text)?;
+    Some((all, false, skip_spaces(behind)))
+}
+
 // The alternative of words, with whitespace between them.
 fn words(loose: bool, include: bool, text: &[u8]) -> Option<Alternative<'_>>
     requires { IsUtf8 text.now }
-    ensures { IsFound include (words_of loose include text.now) result }
+    ensures { IsFound include (words_of loose include text.now >>? λ read.
+        Some (words_of_all read)) result }
 {
     let mut all = Alternative::all();
+    let mut is_last_ignored = false;
     let mut rest = text;
-    'words: loop {
-        let (word, behind) = word_front(loose, rest)?;
-        all = all.meet(include, word.sign, &word.partial, word.text)?;
-        if behind.is_empty() {
-            return Some(all);
-        }
-        rest = skip_spaces(behind);
+    'words: while !rest.is_empty() {
+        (all, is_last_ignored, rest) = with_word(loose, include, all, rest)?;
+    }
+    Some(all.ended(is_last_ignored && word_front(loose, text).is_none()))
+}
+
+// Whether a partial that may be left out is a wildcard.
+fn is_some_wildcard(partial: &Option<Partial<'_>>) -> bool
+    ensures { result ≡ is_some_wildcard (npm_partial_some_view partial.now) }
+{
+    match partial {
+        Some(partial) => is_wildcard(partial),
+        None => false,
     }
 }
 
 // The alternative between two ends of a hyphen range.
-fn between<'a>(include: bool, lower: &End<'a>, upper: &End<'a>) -> Option<Alternative<'a>>
-    requires lower { are_normal (npm_partial_view lower.now.partial) ≡ true }
-    requires upper { are_normal (npm_partial_view upper.now.partial) ≡ true }
-    ensures { IsFound include (valid_only MAX_SAFE_INTEGER (hyphen_comparisons include
-        (end_view lower.now, end_view upper.now))) result }
+fn between<'a>(
+    loose: bool,
+    include: bool,
+    lower: &End<'a>,
+    upper: &End<'a>,
+) -> Option<Alternative<'a>>
+    requires lower { some_normal (npm_partial_some_view lower.now.partial) ≡ true }
+    requires upper { some_normal (npm_partial_some_view upper.now.partial) ≡ true }
+    ensures { IsFound include (hyphen_valid loose include (end_view lower.now)
+        (end_view upper.now)) result }
 {
-    let first = lower_end(include, &lower.partial, lower.text);
-    let from = Alternative::all().meet_read(first, is_wildcard(&lower.partial))?;
-    let second = upper_end(include, &upper.partial, upper.text);
-    from.meet_read(second, is_wildcard(&upper.partial))
-}
-
-// The alternative of a hyphen range.
-fn hyphen(loose: bool, include: bool, text: &[u8]) -> Option<Alternative<'_>>
-    ensures { IsFound include (valid_hyphen loose include text.now) result }
-{
-    let (lower, upper) = hyphen_ends(loose, include, text)?;
-    between(include, &lower, &upper)
+    let first = lower_bounds(loose, include, lower);
+    let from = Alternative::all().meet_read(first, is_some_wildcard(&lower.partial))?;
+    let second = upper_bounds(loose, include, upper);
+    from.meet_read(second, is_some_wildcard(&upper.partial))
 }
 
 /// The alternative that a text is, without whitespace around it.
@@ -69,22 +99,10 @@ pub(crate) fn alternative(loose: bool, include: bool, text: &[u8]) -> Option<Alt
     requires { IsUtf8 text.now }
     ensures { IsFound include (valid_alternative loose include text.now) result }
 {
-    if text.is_empty() {
-        return Some(Alternative::all());
+    match hyphen_ends(loose, text) {
+        Some((lower, upper)) => between(loose, include, &lower, &upper),
+        None => words(loose, include, text),
     }
-    match words(loose, include, text) {
-        Some(found) => Some(found),
-        None => hyphen(loose, include, text),
-    }
-}
-
-// Whether words without comparators are no alternative, as the first and the last one are
-// malformed.
-fn is_lost(loose: bool, text: &[u8], is_bare: bool) -> bool
-    ensures { result
-        ≡ (loose && (is_bare && (begins_malformed text.now && ends_malformed text.now))) }
-{
-    loose && is_bare && begins_malformed(text) && ends_malformed(text)
 }
 
 // Adds the interval of the alternative that a part of the text is, where its cuts meet, unless it
@@ -96,7 +114,7 @@ fn add_part<'a>(
     is_some: bool,
     found: &mut Intervals<VersionRef<'a>>,
 ) -> Result<bool, Failure<SemverError>>
-    ensures added { IfOk result (λ some. AddsPart loose include text.now
+    ensures added { IfOk result (λ some. AddsPart include
         (valid_alternative loose include text.now) is_some some found.old.items found.new.items) }
     ensures refused { RefusedOnlyIf result (valid_alternative loose include text.now ≡ None) }
     ensures memory { MemoryOnlyIf result (0 < length found.old.items) }
@@ -104,7 +122,7 @@ fn add_part<'a>(
     let Some(read) = alternative(loose, include, text.as_bytes()) else {
         return Err(Failure::Refused(SemverError));
     };
-    if is_lost(loose, text.as_bytes(), read.is_bare()) {
+    if read.is_lost() {
         return Ok(is_some);
     }
     if let Some(interval) = read.interval() {

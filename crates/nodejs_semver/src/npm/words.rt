@@ -5,21 +5,21 @@ ghost use Rattle.std.specs.Prelude.{◌≡◌, ◌≤◌};
 ghost use Rattle.nodejs_semver.specs.Words.{MAX_SAFE_INTEGER, comparator_view, drop_spaces, length};
 ghost use Rattle.nodejs_semver.specs.{Words.{list_all, true}, Internal.NpmParts.npm_partial_view};
 ghost use Rattle.nodejs_semver.specs.Internal.{NpmParts.npm_sign_view, NpmViews.npm_sign_pair_view};
-ghost use Rattle.nodejs_semver.specs.Internal.NpmViews.{signed_front_view};
+ghost use Rattle.nodejs_semver.specs.Internal.NpmViews.{counted_front_view, npm_partial_some_view};
 ghost use Rattle.nodejs_semver.specs.Internal.NpmWords as Spec;
-ghost use Rattle.nodejs_semver.specs.Npm.RangeText as Text;
+ghost use Rattle.nodejs_semver.specs.Npm.{Malformed.is_mark, RangeText as Text};
 
-use crate::npm::malformed::{begins_malformed, visible_len};
 use crate::npm::partial::{Partial, Sign};
 use crate::npm::places::partial_front;
 use crate::readers::{Comparator, after_some_space, is_boundary, skip_spaces};
 use semver_core::MAX_SAFE_INTEGER;
 
-/// A word: its sign, its partial version, and the text of the partial with its marks.
+/// A word: its sign, its partial version, and the text of the partial with its marks. There is no
+/// partial where a number that counts is past the limit, or where its text is too long.
 #[derive(Drop)]
 pub(crate) struct Signed<'a> {
     pub(crate) sign: Sign,
-    pub(crate) partial: Partial<'a>,
+    pub(crate) partial: Option<Partial<'a>>,
     pub(crate) text: &'a [u8],
 }
 
@@ -112,13 +112,25 @@ pub(crate) fn marks_len(text: &[u8]) -> usize
 
 // Whether these marks may stand between the sign and the partial.
 fn are_marks(loose: bool, sign: Sign, partial: &Partial<'_>, marks: &[u8]) -> bool
-    requires { list_all Text.is_mark marks.now ≡ true }
+    requires { list_all is_mark marks.now ≡ true }
     ensures { result
         ≡ Text.are_marks loose (npm_sign_view sign) (npm_partial_view partial.now) marks.now }
 {
     match (sign, partial) {
         (Sign::Compared(_), Partial::Whole(_)) if !loose => matches!(marks, [] | [b'v']),
         _ => true,
+    }
+}
+
+// Whether these marks may stand before a partial, which may be left out.
+fn are_right_marks(loose: bool, sign: Sign, partial: &Option<Partial<'_>>, marks: &[u8]) -> bool
+    requires { list_all is_mark marks.now ≡ true }
+    ensures { result ≡ Spec.are_counted_marks loose (npm_sign_view sign)
+        (npm_partial_some_view partial.now) marks.now }
+{
+    match partial {
+        Some(partial) => are_marks(loose, sign, partial, marks),
+        None => true,
     }
 }
 
@@ -129,19 +141,16 @@ fn ended_word<'a>(
     sign: Sign,
     text: &'a [u8],
     marks: usize,
-    partial: Partial<'a>,
+    partial: Option<Partial<'a>>,
     rest: &'a [u8],
 ) -> Option<(Signed<'a>, &'a [u8])>
     requires marks { marks ≡ Spec.marks_len text.now }
     requires inside { marks ≤ length text.now }
     requires rest { length rest.now ≤ length text.now }
-    ensures { signed_front_view result ≡ Spec.ended_word loose (npm_sign_view sign)
-        text.now (Spec.marks_len text.now) (npm_partial_view partial.entry, rest.now) }
+    ensures { counted_front_view result ≡ Spec.ended_counted_word loose (npm_sign_view sign)
+        text.now (Spec.marks_len text.now) (npm_partial_some_view partial.entry, rest.now) }
 {
-    if !are_marks(loose, sign, &partial, &text[..marks]) {
-        return None;
-    }
-    if !is_boundary(rest) {
+    if !are_right_marks(loose, sign, &partial, &text[..marks]) || !is_boundary(rest) {
         return None;
     }
     let text = &text[..text.len() - rest.len()];
@@ -155,11 +164,9 @@ fn ended_word<'a>(
     ))
 }
 
-// The well-formed word at the front whose numbers that count are up to the limit, and the text
-// behind it.
-fn signed_word(loose: bool, text: &[u8]) -> Option<(Signed<'_>, &[u8])>
-    ensures { signed_front_view result
-        ≡ Spec.limited_word MAX_SAFE_INTEGER (Spec.signed_word loose text.now) }
+/// The word at the front, and the text behind it.
+pub(crate) fn word_front(loose: bool, text: &[u8]) -> Option<(Signed<'_>, &[u8])>
+    ensures { counted_front_view result ≡ Spec.counted_word loose MAX_SAFE_INTEGER text.now }
 {
     let (sign, behind) = sign_front(text);
     let marks = marks_len(behind);
@@ -167,39 +174,4 @@ fn signed_word(loose: bool, text: &[u8]) -> Option<(Signed<'_>, &[u8])>
         Some(read) => ended_word(loose, sign, behind, marks, read.0, read.1),
         None => None,
     }
-}
-
-// The malformed word at the front that is ignored, as a word without comparators, and the text
-// behind it.
-fn ignored_word(loose: bool, text: &[u8]) -> Option<(Signed<'_>, &[u8])>
-    ensures { signed_front_view result ≡ Spec.ignored_front loose text.now }
-{
-    if !loose || !begins_malformed(text) {
-        return None;
-    }
-    let rest = &text[visible_len(text)..];
-    if !is_boundary(rest) {
-        return None;
-    }
-    Some((
-        Signed {
-            sign: Sign::Compared(Comparator::Equal),
-            partial: Partial::Wildcard,
-            text: b"",
-        },
-        rest,
-    ))
-}
-
-/// The word at the front, ignored or with numbers that count up to the limit, and the text behind
-/// it.
-pub(crate) fn word_front(loose: bool, text: &[u8]) -> Option<(Signed<'_>, &[u8])>
-    ensures { signed_front_view result
-        ≡ Spec.limited_word MAX_SAFE_INTEGER (Spec.any_word loose text.now) }
-{
-    let ignored = ignored_word(loose, text);
-    if ignored.is_some() {
-        return ignored;
-    }
-    signed_word(loose, text)
 }
