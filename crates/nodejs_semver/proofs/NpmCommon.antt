@@ -1,25 +1,24 @@
 -- The words that most proofs on npm's readings use beside those of `Common`, brought together here.
 pub use Rattle.nodejs_semver.specs.Internal.Fronts.{after_byte, begins_byte, begins_wildcard, number_front}
 pub use Rattle.nodejs_semver.specs.Internal.{NpmAlternatives.{AcceptAsRanged, AreNarrowed, NarrowedBy, nothing}, NpmMeaning.AreRead}
-pub use Rattle.nodejs_semver.specs.Internal.{NpmMeaning.{IsCommon, IsNarrowed, counted, is_unbounded, is_zero}, NpmParts.are_normal}
+pub use Rattle.nodejs_semver.specs.Internal.{NpmMeaning.{AreReadOf, IsCommon, IsNarrowed, counted, is_unbounded, is_zero}, NpmParts.are_normal}
 pub use Rattle.nodejs_semver.specs.Internal.{NpmParts.{Numbers, npm_partial_view, npm_sign_view, release, within}, NpmReadings.{IsStrictPreRelease, is_strict_identifier}}
 pub use Rattle.nodejs_semver.specs.Internal.{NpmReadings.begins_padded, NpmReads.{IsFound, words_of}, NpmStates.is_whole}
-pub use Rattle.nodejs_semver.specs.Internal.{NpmTuples.IsLastBefore, NpmViews.{signed_front_view, signed_view}, NpmWords.{Ended, Signed}}
-pub use Rattle.nodejs_semver.specs.Internal.NpmWords.{counted_front, drop_ends, ended_end, hyphen_comparisons, hyphen_of}
-pub use Rattle.nodejs_semver.specs.Internal.NpmWords.{is_free_lower, is_free_upper, is_lost, is_one_v, is_short_build, is_short, is_small, is_spelled, kept, last_end, limited, limited_end, limited_hyphen}
-pub use Rattle.nodejs_semver.specs.Internal.NpmWords.{limited_word, marked_word, marks_len, may_stand, or_late, run_place, second_front}
+pub use Rattle.nodejs_semver.specs.Internal.{NpmTuples.IsLastBefore, NpmViews.{counted_front_view, counted_view, end_view, npm_partial_some_view}, NpmWords.{Counted, CountedEnd, Ended, Signed}}
+pub use Rattle.nodejs_semver.specs.Internal.NpmWords.{counted_front, drop_ends, ended_as, counted_as, hyphen_of, is_right, lower_of, upper_of, lower_counted, upper_counted, counted_hyphen, last_counted}
+pub use Rattle.nodejs_semver.specs.Internal.NpmWords.{is_free_lower, is_free_upper, is_short_build, is_short_word, is_small, is_spelled, kept, last_end, limited, words_of_all, ignored_or}
+pub use Rattle.nodejs_semver.specs.Internal.NpmWords.{marked_word, marks_len, may_stand, or_late, run_place, second_front}
 pub use Rattle.nodejs_semver.specs.Internal.{NpmWords.{skip_equal, skip_greater, skip_tilde, third_front, valid_only}, PartFronts.left_over}
 pub use Rattle.nodejs_semver.specs.{Internal.{Readings.{bounds_view, comparator_view}, Words.or_else}, Npm.Alike.IsPlainPartial}
 pub use Rattle.nodejs_semver.specs.Npm.Alike.{IsPlainText, IsPlainWord, is_firm, is_plain, may_have, more, npm_partial, one_word, signed}
 pub use Rattle.nodejs_semver.specs.Npm.{Alike.two_words, Coerced.{IsLeftmost, IsRightmost, IsRun, IsTuple, IsTupleIn}, Flaws.GoesOn}
 pub use Rattle.nodejs_semver.specs.Npm.{Flaws.{IsFront, IsSpelled, wrong_of}, Grammar.{IsStrictBuild, IsStrictNumber, bare}}
 pub use Rattle.nodejs_semver.specs.Npm.Grammar.{begins_undashed, dashed, has_leading_zero, is_strict_list, no_build}
-pub use Rattle.nodejs_semver.specs.Npm.{Grammar.{no_pre_release, plus}, Malformed.{begins_malformed, is_malformed}}
-pub use Rattle.nodejs_semver.specs.Internal.NpmMalformed.{is_visible}
+pub use Rattle.nodejs_semver.specs.Npm.{Grammar.{no_pre_release, plus}, Malformed.{IsIgnored, is_mark, takes}}
 pub use Rattle.nodejs_semver.specs.Npm.{MalformedWords.{IsLeft, IsMalformedWord, here}, RangeText.AreAlternatives}
 pub use Rattle.nodejs_semver.specs.Npm.RangeText.{AreMarks, AreWords, IsAlternative, IsPartial, IsPlace, IsPlaces, IsSignText, IsWord, are_marks}
-pub use Rattle.nodejs_semver.specs.Npm.RangeText.{are_whole_marks, caret_equal, has_zeros, ignored}
-pub use Rattle.nodejs_semver.specs.Npm.RangeText.{is_mark, is_short_identifier, last, late_above, late_below}
+pub use Rattle.nodejs_semver.specs.Npm.RangeText.{BeginsWord, IsEnd, IsHyphen, are_whole_marks, caret_equal, comparators_of, end_sign, has_zeros, ignored, is_lost, is_right_end, is_short, last_marks}
+pub use Rattle.nodejs_semver.specs.Npm.RangeText.{is_short_identifier, late_above, late_below}
 pub use Rattle.nodejs_semver.specs.Npm.RangeText.{no_sign, none, one, partial_of, sign, spelling, three, tilde_twice, two, word}
 pub use Rattle.nodejs_semver.specs.Npm.Ranges.{HasAlternatives, HasAlternativesIn, IsRangeIn, is_valid, meets, satisfies}
 pub use Rattle.nodejs_semver.specs.Npm.Table.{Comparison, caret_from, compared, counts, first, from, hyphen_lower, hyphen_upper}
@@ -42,7 +41,7 @@ unfoldable pub use Rattle.nodejs_semver.specs.Internal.{NpmLooseVersions.patch_f
 unfoldable pub use Rattle.nodejs_semver.specs.Internal.NpmReadings.{qualified_version, strict_number, strict_version}
 unfoldable pub use Rattle.nodejs_semver.specs.Internal.{NpmReads.valid_alternative, NpmStates.{next, run, wrong_at}, NpmTuples.tuple_len}
 unfoldable pub use Rattle.nodejs_semver.specs.Internal.{NpmTuples.tuple_release, NpmWords.{after_ends, alternative_of, alternatives_of}}
-unfoldable pub use Rattle.nodejs_semver.specs.Internal.NpmWords.{any_word, dotted_patch, dotted_place, end_front, hyphen_ends}
-unfoldable pub use Rattle.nodejs_semver.specs.Internal.NpmWords.{ignored_front, npm_sign, patch_place, place_front, pre_front}
-unfoldable pub use Rattle.nodejs_semver.specs.Internal.NpmWords.{qualified_partial, signed_word, valid_words, word_front}
+unfoldable pub use Rattle.nodejs_semver.specs.Internal.NpmWords.{behind_ignored, counted_end, counted_word, dotted_patch, dotted_place, end_front, first_valid, first_word, hyphen_ends}
+unfoldable pub use Rattle.nodejs_semver.specs.Internal.NpmWords.{npm_sign, patch_place, place_front, pre_front}
+unfoldable pub use Rattle.nodejs_semver.specs.Internal.NpmWords.{qualified_partial, signed_word, valid_words, words_within}
 unfoldable pub use Rattle.{semver_core.specs.Text.Identifiers.listed, std.specs.Fmt.digits}

@@ -10,7 +10,7 @@ use Rattle.semver_core.specs.Values.Versions.{VersionValue}
 use Rattle.semver_core.specs.declared.{TheConstants.MAX_SAFE_INTEGER, cuts.bound.Bound.TheVariants.Unbounded}
 use Rattle.nodejs_semver.specs.Internal.CommonFronts.{after_bars}
 use Rattle.nodejs_semver.specs.Internal.{Fronts.begins_wildcard, NpmMeaning.IsCommon, NpmWords.is_over}
-use Rattle.nodejs_semver.specs.Npm.RangeText.{AreWords, IsWord, spelling}
+use Rattle.nodejs_semver.specs.Npm.RangeText.{AreWords, IsWord, comparators_of, spelling}
 use Rattle.nodejs_semver.specs.Npm.Ranges.{is_valid}
 use Rattle.nodejs_semver.specs.Npm.Table.{Comparison, Sign, compared}
 use Rattle.nodejs_semver.specs.Text.WordText.{equal}
@@ -45,7 +45,8 @@ pub record IsWordAt (include : Bool) (text : List ℕ) (s : Span VersionValue) (
   pub word : List ℕ
   pub comparators : List Comparison
   pub split : text ≡ word ++ rest
-  pub is : (is_last : Bool) → IsWord false include is_last word comparators
+  pub partial : List ℕ
+  pub is : IsWord false include word partial comparators
   pub some : 0 < length word
   pub bytes : list_all is_word_byte word ≡ true
   pub are : AreIn include comparators s
@@ -53,9 +54,11 @@ pub record IsWordAt (include : Bool) (text : List ℕ) (s : Span VersionValue) (
 -- the same of a part, which is words with one space between them
 pub record IsPartAt (include : Bool) (text : List ℕ) (s : Span VersionValue) (rest : List ℕ) : Type 0 where
   pub part : List ℕ
+  pub read : List (Option (List Comparison))
   pub comparators : List Comparison
   pub split : text ≡ part ++ rest
-  pub is : AreWords false include part comparators
+  pub is : AreWords false include part read
+  pub of_all : comparators ≡ comparators_of read
   pub front : begins is_word_byte part ≡ true
   pub each : list_all is_part_byte part ≡ true
   pub end : ends is_word_byte part ≡ true

@@ -1,7 +1,7 @@
 -- For proofs and private contracts. What the readers of node-semver's range texts find, by the comparators.
-use Rattle.std.specs.Prelude.{◌≡◌, not, if◌then◌else◌, true, false, Bool, List, [], ◌∷◌, ◌++◌, ℕ, Option, Some, None, length, flat_map, get_or, is_none}
+use Rattle.std.specs.Prelude.{◌≡◌, ◌&&◌, not, if◌then◌else◌, true, false, Bool, List, [], ◌∷◌, ◌++◌, ℕ, Option, Some, None, length, flat_map, is_none}
 use Rattle.std.specs.Borrow.{Bor}
-use Rattle.std.specs.{List.{list_all}, Option.{option_to_list}}
+use Rattle.std.specs.{List.{list_all}, Option.{option_to_list, unwrap_or}}
 use Rattle.semver_core.specs.Cuts.{Span}
 use Rattle.semver_core.specs.Internal.Reading.{◌>>?◌}
 use Rattle.semver_core.specs.Values.Versions.{VersionValue}
@@ -34,8 +34,8 @@ IsFound include c a = ⊥
 -- an alternative with one word more, whether that is ignored, and what follows it
 abbrev pub IsStep : Bool → Alternative → Option (Option (List Comparison) × List ℕ) → Option (Alternative × Bool × Bor (List ℕ)) → Type 0
 IsStep include all None None = Unit {0}
-IsStep include all (Some w) (Some s) = NarrowedBy include all.interval (get_or [] w.0) (Some s.0)
-    × (s.0.is_bare ≡ (all.is_bare && is_empty (get_or [] w.0))) × (s.1 ≡ is_none w.0) × (s.2.now ≡ w.1)
+IsStep include all (Some w) (Some s) = NarrowedBy include all.interval (unwrap_or w.0 []) (Some s.0)
+    × (s.0.is_bare ≡ (all.is_bare && is_empty (unwrap_or w.0 []))) × (s.1 ≡ is_none w.0) × (s.2.now ≡ w.1)
 IsStep include all w s = ⊥
 
 -- the comparators between two ends of a hyphen range, if they are valid

@@ -345,11 +345,11 @@ end_front loose text = places_front loose (drop_ends text) >>? λ p. Some (ended
 abbrev pub CountedEnd : Type 0
 CountedEnd = List ℕ × Option Partial × List ℕ
 
-abbrev pub ended_counted : List ℕ → List ℕ → Option Partial × List ℕ → CountedEnd × List ℕ
-ended_counted text behind p = ended_as text behind p
+abbrev pub counted_as : List ℕ → List ℕ → Option Partial × List ℕ → CountedEnd × List ℕ
+counted_as text behind p = ended_as text behind p
 
 unfoldable pub counted_end : Bool → ℕ → List ℕ → Front CountedEnd
-counted_end loose limit text = counted_front loose limit (drop_ends text) >>? λ p. Some (ended_counted text (drop_ends text) p)
+counted_end loose limit text = counted_front loose limit (drop_ends text) >>? λ p. Some (counted_as text (drop_ends text) p)
 
 -- what stands behind whitespace, `-` and whitespace
 abbrev pub after_dash : List ℕ → Option (List ℕ)

@@ -13,7 +13,7 @@ use Rattle.nodejs_semver.specs.Npm.Table.{Comparison, Sign, compared, counts, hy
 use Rattle.nodejs_semver.specs.Text.Common.{IsGap}
 use Rattle.nodejs_semver.specs.Text.PartialText.{AreComponents, Partial}
 use Rattle.nodejs_semver.specs.Text.Table.{table, version_of}
-use Rattle.nodejs_semver.specs.Text.WordText.{Comparator, Word, at_least, caret, compare, equal, hyphen, plain, tilde}
+use Rattle.nodejs_semver.specs.Text.WordText.{Comparator, Word, at_least, at_most, caret, compare, equal, hyphen, plain, tilde}
 
 -- the partial as node-semver's table has it
 abbrev pub npm_partial : Partial → Npm.Partial
@@ -75,7 +75,7 @@ pub data IsPlainAlternative (limit : ℕ) (pre : Bool) : List ℕ → Span Versi
   between : (x y : List ℕ) (p q : Partial) (s : Span VersionValue) → IsPlainPartial limit pre x p
       → IsPlainPartial limit pre y q → is_some q.major ≡ true → table limit (hyphen p q) ≡ Some s
       → IsPlainAlternative limit pre (x ++ (codes " - " ++ y)) s
-      (hyphen_lower false (npm_partial p) x ++ hyphen_upper false (npm_partial q) y)
+      (hyphen_lower at_least false (npm_partial p) x ++ hyphen_upper at_most false (npm_partial q) y)
 
 -- alternatives with `||` between them, and one space or none on each side of that
 pub data ArePlain (limit : ℕ) (pre : Bool) : List ℕ → List (Span VersionValue) → List (List Comparison) → Type 0 where

@@ -1,6 +1,6 @@
 -- Statement: how far a malformed word goes that is ignored loosely, as node-semver ignores it.
 use Rattle.std.specs.Prelude.{◌≡◌, ◌==◌, ◌-◌, ◌&&◌, ◌||◌, not, ℕ, Bool, true, false, List, codes, drop, length, take}
-use Rattle.std.specs.Char.{is_ascii_digit}
+use Rattle.std.specs.Char.{is_ascii_digit, is_ascii_graphic}
 use Rattle.std.specs.List.{prefix_len}
 use Rattle.std.specs.Str.{bytes_eq}
 use Rattle.semver_core.specs.Text.Characters.{begins, ends}
@@ -10,10 +10,7 @@ use Rattle.nodejs_semver.specs.Text.WordText.{IsFirstBoundary, SkipsBlank}
 abbrev pub is_mark : ℕ → Bool
 is_mark b = b == 118 || b == 61
 
--- the text ends in `^`, `~` or `~>`; in `<`, `>`, or a `=` that stands behind no mark
-abbrev pub ends_open : List ℕ → Bool
-ends_open text = ends (λ b. b == 94 || b == 126) text || bytes_eq (drop (length text - 2) text) (codes "~>")
-
+-- the text ends in a comparator: in `<`, `>`, or a `=` that stands behind no mark
 abbrev pub ends_compared : List ℕ → Bool
 ends_compared text = ends (λ b. b == 60 || b == 62) text || (ends (λ b. b == 61) text && not (ends is_mark (take (length text - 1) text)))
 
@@ -21,10 +18,15 @@ ends_compared text = ends (λ b. b == 60 || b == 62) text || (ends (λ b. b == 6
 abbrev pub begins_place : List ℕ → Bool
 begins_place text = begins (λ b. is_ascii_digit b || (b == 120 || (b == 88 || b == 42))) (drop (prefix_len is_mark text) text)
 
--- what follows these characters behind whitespace belongs to their word: behind `^` and `~` anything, and a place behind a
--- comparator
+-- a `=` alone is at its front
+abbrev pub begins_equal : List ℕ → Bool
+begins_equal text = begins (λ b. b == 61) text && not (begins is_ascii_graphic (drop 1 text))
+
+-- what follows these characters behind whitespace belongs to their word: behind `^` and `~` anything, behind `~>` all but a `=`
+-- alone, and behind a comparator a place
 abbrev pub takes : List ℕ → List ℕ → Bool
-takes text rest = ends_open text || (ends_compared text && begins_place rest)
+takes text rest = ends (λ b. b == 94 || b == 126) text
+    || ((bytes_eq (drop (length text - 2) text) (codes "~>") && not (begins_equal rest)) || (ends_compared text && begins_place rest))
 
 -- a malformed word at the front of a text ends here: at the first whitespace or the end, unless what follows belongs to it
 pub data IsIgnored : List ℕ → List ℕ → Type 0 where

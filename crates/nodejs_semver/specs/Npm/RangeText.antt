@@ -6,7 +6,8 @@
 -- characters in front of its build, which is rejected.
 use Rattle.std.specs.Prelude.{◌≡◌, ◌⊎◌, ◌==◌, ◌<◌, ◌≤◌, ◌+◌, ◌-◌, ◌&&◌, ◌||◌, not, nat_le, nat_lt, ℕ, Bool, true}
 use Rattle.std.specs.Prelude.{false, List, [], ◌∷◌, ◌++◌, length, drop, Option, Some, None, codes}
-use Rattle.std.specs.Prelude.{encode_utf8_all, flat_map, get_or, if◌then◌else◌, is_none}
+use Rattle.std.specs.Prelude.{encode_utf8_all, flat_map, if◌then◌else◌, is_none}
+use Rattle.std.specs.Option.{unwrap_or}
 use Rattle.std.specs.Char.{is_ascii_digit}
 use Rattle.std.specs.List.{list_all, prefix_len, suffix_len}
 use Rattle.std.specs.Str.{bytes_eq}
@@ -125,7 +126,7 @@ pub data AreWords (loose include : Bool) : List ℕ → List (Option (List Compa
 
 -- all their comparators
 abbrev pub comparators_of : List (Option (List Comparison)) → List Comparison
-comparators_of read = flat_map (get_or []) read
+comparators_of read = flat_map (λ cs. unwrap_or cs []) read
 
 -- there are none, and the first word and the last one are ignored
 abbrev pub is_lost : List (Option (List Comparison)) → Bool

@@ -14,7 +14,7 @@ ghost use Rattle.nodejs_semver.specs.{Internal.NpmWords.counted_front, Npm.Table
 use crate::Allocated;
 use crate::npm::comparators::{caret, compared, row, tilde};
 use crate::npm::partial::{Partial, Sign};
-use crate::npm::places::{is_over, partial_front};
+use crate::npm::places::{is_over, places_front};
 use crate::npm::versions::{dotted_number, strict_number};
 use crate::range::Intervals;
 use crate::readers::{Bounds, Comparator, Found, after_bars, release};
@@ -108,7 +108,7 @@ fn word(include: bool, text: &[u8]) -> Option<(Bounds<'_>, &[u8])>
     ensures { IfSome result (λ w. IsWordAt include text.now (bounds_view w.0) w.1.now) }
 {
     let (sign, behind) = sign_front(text);
-    let (partial, rest) = partial_front(false, behind)?;
+    let (partial, rest) = places_front(false, behind)?;
     let bounds = row(
         include,
         sign,

@@ -323,21 +323,10 @@ fn whole<'a>(
             lower: from_text(include, version, text),
             upper: Bound::Unbounded,
         }),
-        _ => Some(bounds(comparator, version.copy())),
-    }
-}
-
-// The bounds of a version that is compared.
-#[inline(always)]
-fn bounds<'a>(comparator: Comparator, version: VersionRef<'a>) -> Bounds<'a>
-    ensures { bounds_view result ≡ compared_span (comparator_view comparator) version.entry }
-{
-    match comparator {
-        Comparator::AtLeast => Bounds::at_least(version),
-        Comparator::Above => Bounds::above(version),
-        Comparator::Equal => Bounds::through(version.copy(), version),
-        Comparator::AtMost => Bounds::at_most(version),
-        Comparator::Below => Bounds::below(version),
+        Comparator::Above => Some(Bounds::above(version.copy())),
+        Comparator::Equal => Some(Bounds::through(version.copy(), version.copy())),
+        Comparator::AtMost => Some(Bounds::at_most(version.copy())),
+        Comparator::Below => Some(Bounds::below(version.copy())),
     }
 }
 
@@ -445,9 +434,9 @@ fn whole_lower<'a>(
     }
     if version.build().is_empty() {
         let least = lowest(version.major(), version.minor(), version.patch());
-        return Some(bounds(comparator, least));
+        return whole(true, comparator, &least, text);
     }
-    Some(bounds(comparator, version.copy()))
+    whole(true, comparator, version, text)
 }
 
 /// The bounds of the upper end of a hyphen range, as `row` gives those of a word. A whole version is

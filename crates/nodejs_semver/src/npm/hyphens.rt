@@ -8,7 +8,8 @@ ghost use Rattle.nodejs_semver.specs.Internal.NpmViews.{end_front_view, end_some
 ghost use Rattle.nodejs_semver.specs.Internal.NpmViews.{hyphen_view, is_free_end};
 ghost use Rattle.nodejs_semver.specs.Internal.NpmViews.{npm_partial_some_view};
 ghost use Rattle.nodejs_semver.specs.Internal.NpmWords as Spec;
-ghost use Rattle.nodejs_semver.specs.Npm.{Malformed, RangeText as Text};
+ghost use Rattle.nodejs_semver.specs.Npm.Malformed as Malformed;
+ghost use Rattle.nodejs_semver.specs.Npm.RangeText as Text;
 ghost use Rattle.semver_core.specs.Internal.Reading.{◌>>?◌};
 
 use crate::npm::comparators::{lower_end, upper_end};
@@ -158,7 +159,7 @@ fn ended<'a>(
 ) -> (End<'a>, &'a [u8])
     requires behind { behind.now ≡ Spec.drop_ends text.now }
     requires rest { length rest.now ≤ length behind.now }
-    ensures { (end_view result.0, result.1.now) ≡ Spec.ended_counted text.now behind.now
+    ensures { (end_view result.0, result.1.now) ≡ Spec.counted_as text.now behind.now
         (npm_partial_some_view partial.entry, rest.now) }
 {
     let marks = &text[..text.len() - behind.len()];

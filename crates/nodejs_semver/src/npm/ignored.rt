@@ -1,18 +1,12 @@
 // The malformed words of range texts that node-semver's loose reading ignores: how far they go.
 
 ghost use Rattle.std.specs.Prelude.{◌≡◌, ◌≤◌};
-ghost use Rattle.nodejs_semver.specs.{Internal.NpmWords.behind_ignored, Npm.Malformed as Text};
-ghost use Rattle.nodejs_semver.specs.Words.length;
+ghost use Rattle.nodejs_semver.specs.Internal.NpmWords.{behind_ignored};
+ghost use Rattle.nodejs_semver.specs.Npm.Malformed as Text;
+ghost use Rattle.nodejs_semver.specs.Words.{length};
 
 use crate::npm::words::marks_len;
 use crate::readers::{skip_spaces, skip_to_boundary};
-
-// Whether a text ends in a sign to which belongs whatever follows behind whitespace.
-fn ends_open(text: &[u8]) -> bool
-    ensures { result ≡ Text.ends_open text.now }
-{
-    matches!(text, [.., b'^' | b'~'] | [.., b'~', b'>'])
-}
 
 // Whether a text ends in a comparator.
 fn ends_compared(text: &[u8]) -> bool
@@ -33,11 +27,25 @@ fn begins_place(text: &[u8]) -> bool
     matches!(&text[marks_len(text)..], [b'0'..=b'9' | b'x' | b'X' | b'*', ..])
 }
 
+// Whether a `=` alone is at the front.
+fn begins_equal(text: &[u8]) -> bool
+    ensures { result ≡ Text.begins_equal text.now }
+{
+    match text {
+        [b'=', next, ..] => !next.is_ascii_graphic(),
+        _ => matches!(text, [b'=']),
+    }
+}
+
 // Whether what follows a piece of a malformed word behind whitespace belongs to the word.
 fn takes(piece: &[u8], rest: &[u8]) -> bool
     ensures { result ≡ Text.takes piece.now rest.now }
 {
-    ends_open(piece) || ends_compared(piece) && begins_place(rest)
+    match piece {
+        [.., b'^' | b'~'] => true,
+        [.., b'~', b'>'] if !begins_equal(rest) => true,
+        _ => ends_compared(piece) && begins_place(rest),
+    }
 }
 
 /// What stands behind the malformed word at the front.

@@ -363,7 +363,7 @@ fn third_front(loose: bool, major: Place, minor: Place, text: &[u8]) -> Option<(
 // The partial of the places at the front whose numbers that count are up to the limit, and the text
 // behind it.
 #[inline(always)]
-fn places_front(loose: bool, text: &[u8]) -> Option<(Partial<'_>, &[u8])>
+pub(crate) fn places_front(loose: bool, text: &[u8]) -> Option<(Partial<'_>, &[u8])>
     ensures { npm_partial_front_view result ≡ Spec.counted_places loose MAX_SAFE_INTEGER text.now }
 {
     let (major, rest) = place_front(loose, false, text)?;

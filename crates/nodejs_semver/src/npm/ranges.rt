@@ -61,7 +61,10 @@ fn words(loose: bool, include: bool, text: &[u8]) -> Option<Alternative<'_>>
     let mut is_last_ignored = false;
     let mut rest = text;
     'words: while !rest.is_empty() {
-        (all, is_last_ignored, rest) = with_word(loose, include, all, rest)?;
+        let (met, is_ignored, behind) = with_word(loose, include, all, rest)?;
+        all = met;
+        is_last_ignored = is_ignored;
+        rest = behind;
     }
     Some(all.ended(is_last_ignored && word_front(loose, text).is_none()))
 }

@@ -7,7 +7,8 @@ ghost use Rattle.nodejs_semver.specs.{Words.{list_all, true}, Internal.NpmParts.
 ghost use Rattle.nodejs_semver.specs.Internal.{NpmParts.npm_sign_view, NpmViews.npm_sign_pair_view};
 ghost use Rattle.nodejs_semver.specs.Internal.NpmViews.{counted_front_view, npm_partial_some_view};
 ghost use Rattle.nodejs_semver.specs.Internal.NpmWords as Spec;
-ghost use Rattle.nodejs_semver.specs.Npm.{Malformed.is_mark, RangeText as Text};
+ghost use Rattle.nodejs_semver.specs.Npm.Malformed.{is_mark};
+ghost use Rattle.nodejs_semver.specs.Npm.RangeText as Text;
 
 use crate::npm::partial::{Partial, Sign};
 use crate::npm::places::partial_front;
