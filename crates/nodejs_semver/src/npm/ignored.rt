@@ -1,21 +1,35 @@
 // The malformed words of range texts that node-semver's loose reading ignores: how far they go.
 
-ghost use Rattle.std.specs.Prelude.{◌≡◌, ◌≤◌};
+ghost use Rattle.std.specs.Prelude.{◌≡◌, ◌==◌};
 ghost use Rattle.nodejs_semver.specs.Internal.NpmWords.{behind_ignored};
 ghost use Rattle.nodejs_semver.specs.Npm.Malformed as Text;
 ghost use Rattle.nodejs_semver.specs.Words.{length};
+ghost use Rattle.semver_core.specs.Text.Characters.{ends};
 
 use crate::npm::words::marks_len;
 use crate::readers::{skip_spaces, skip_to_boundary};
+
+// Whether a text ends in a mark.
+fn ends_in_mark(text: &[u8]) -> bool
+    ensures { result ≡ ends Text.is_mark text.now }
+{
+    matches!(text, [.., last] if matches!(*last, b'v' | b'='))
+}
+
+// Whether a text ends in `~`.
+fn ends_in_tilde(text: &[u8]) -> bool
+    ensures { result ≡ ends (λ b. b == 126) text.now }
+{
+    matches!(text, [.., last] if *last == b'~')
+}
 
 // Whether a text ends in a comparator.
 fn ends_compared(text: &[u8]) -> bool
     ensures { result ≡ Text.ends_compared text.now }
 {
-    match text {
-        [.., b'<' | b'>'] => true,
-        [.., b'v' | b'=', b'='] => false,
-        [.., b'='] => true,
+    match text.split_last() {
+        Some((b'<' | b'>', _)) => true,
+        Some((b'=', before)) => !ends_in_mark(before),
         _ => false,
     }
 }
@@ -41,9 +55,9 @@ fn begins_equal(text: &[u8]) -> bool
 fn takes(piece: &[u8], rest: &[u8]) -> bool
     ensures { result ≡ Text.takes piece.now rest.now }
 {
-    match piece {
-        [.., b'^' | b'~'] => true,
-        [.., b'~', b'>'] if !begins_equal(rest) => true,
+    match piece.split_last() {
+        Some((b'^' | b'~', _)) => true,
+        Some((b'>', before)) if ends_in_tilde(before) && !begins_equal(rest) => true,
         _ => ends_compared(piece) && begins_place(rest),
     }
 }
@@ -56,7 +70,8 @@ pub(crate) fn behind_ignored(text: &[u8]) -> &[u8]
     'pieces: loop {
         let behind = skip_to_boundary(rest);
         let next = skip_spaces(behind);
-        if !takes(&rest[..rest.len() - behind.len()], next) {
+        let len = rest.len() - behind.len();
+        if !takes(&rest[..len], next) {
             return behind;
         }
         rest = next;
