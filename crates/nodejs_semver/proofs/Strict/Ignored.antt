@@ -1,9 +1,10 @@
 -- How far a malformed word goes: the function that looks for its end finds exactly what the statement has.
-use Rattle.nodejs_semver.proofs.Common.{IsUtf8, List, SkipsBlank, [], ap, arith, drop_spaces, false, from_boundary, length, length-append, subst, suc, sym}
+use Rattle.nodejs_semver.proofs.Common.{if◌then◌else◌, is_boundary, length-take-le, IsUtf8, List, [], ap, arith, drop_spaces, false, from_boundary, length, length-append, subst, suc, sym}
 use Rattle.nodejs_semver.proofs.Common.{take, true, zero, ℕ, ◌+◌, ◌-◌, ◌<◌, ◌∙◌, ◌∷◌, ◌≡◌, ◌≤◌, cases_Bool, inl, inr, refl}
 use Rattle.nodejs_semver.proofs.{NpmCommon.{IsIgnored, behind_ignored, takes}, Reading.WordLaw.{boundary-utf8, first-is, first-of}}
 use Rattle.nodejs_semver.proofs.{Reading.WordLaw.{skips-is, skips-of, skips-utf8}, Strict.PartialLaw.front-text}
-use Rattle.nodejs_semver.specs.{Npm.Malformed.{goes_on, stops}, Text.WordText.{IsBoundary, IsFirstBoundary}}
+use Rattle.nodejs_semver.proofs.Reading.PartialLaw.{spaces-le}
+use Rattle.nodejs_semver.specs.{Npm.Malformed.{goes_on, stops}, Text.WordText.{IsBoundary, IsFirstBoundary, SkipsBlank}}
 
 nil-of : (text : List ℕ) → length text ≤ 0 → text ≡ []
 nil-of [] le = refl
@@ -52,7 +53,7 @@ pub record IgnoredAt (text end : List ℕ) : Type 0 where
 nil-ignored : (text : List ℕ) → IsUtf8 text → length text ≤ 0 → IgnoredAt text text
 nil-ignored [] u le =
     let f : IsFirstBoundary [] [] = ([], refl, inl refl, λ x y e h. omega arith) in
-    record { is = stops [] [] [] f (skips-is [] u) refl; ended = inl refl; utf8 = u; fits = omega arith }
+    record { is = stops [] [] [] f ([], refl, blank-nil, λ h. cc h) refl; ended = inl refl; utf8 = u; fits = omega arith }
 nil-ignored (b ∷ text) u le = absurd (omega (arith, le))
 
 pub ignored-found : (n : ℕ) (text : List ℕ) → IsUtf8 text → length text ≤ n → IgnoredAt text (behind_ignored n text)
@@ -82,16 +83,49 @@ ignored-found (suc n) text u le =
           })
     ]
 
+-- ---- the loop that looks for the end
+
+pub boundary-le : (text : List ℕ) → length (from_boundary text) ≤ length text
+unfolding from_boundary
+boundary-le [] = omega arith
+boundary-le (b ∷ text) = elim (cases_Bool (is_boundary (b ∷ text))) [
+  | inl here ↦ grind (arith, here)
+  | inr on ↦ grind (arith, on, boundary-le text)
+]
+
+-- what is taken is shorter
+pub taken-less : (text : List ℕ) (len : ℕ) → len ≡ length text - length (from_boundary text)
+    → takes (take len text) (drop_spaces (from_boundary text)) ≡ true → length (drop_spaces (from_boundary text)) < length text
+taken-less text len e h =
+    omega (arith, e, takes-some (take len text) (drop_spaces (from_boundary text)) h, length-take-le len text, spaces-le (from_boundary text), boundary-le text)
+
 -- the number only bounds the pieces
-pub ignored-enough : (n : ℕ) (text : List ℕ) → IsUtf8 text → length text ≤ n → behind_ignored n text ≡ behind_ignored (length text) text
-ignored-enough n text u le = ignored-read n text _ u (ignored-found (length text) text u (omega arith)).is le
-
--- one step of the search for the end
-pub piece-stops : (text : List ℕ) (len : ℕ) → len ≡ length text - length (from_boundary text)
-    → takes (take len text) (drop_spaces (from_boundary text)) ≡ false → from_boundary text ≡ behind_ignored (length text) text
+enough : (n m : ℕ) (text : List ℕ) → length text ≤ n → length text ≤ m → behind_ignored n text ≡ behind_ignored m text
 unfolding behind_ignored from_boundary
-piece-stops [] len e h = refl
-piece-stops (b ∷ text) len e h = rw (← e, h) refl
+enough zero zero text h k = refl
+enough zero (suc m) text h k = rw (nil-of text h) refl
+enough (suc n) zero text h k = rw (nil-of text k) refl
+enough (suc n) (suc m) text h k = elim (cases_Bool (takes (take (length text - length (from_boundary text)) text) (drop_spaces (from_boundary text)))) [
+  | inr stop ↦ rw stop refl
+  | inl go ↦
+      let less = taken-less text _ refl go in
+      rw go (enough n m (drop_spaces (from_boundary text)) (omega (arith, less, h)) (omega (arith, less, k)))
+]
 
-pub pieces-le : (text : List ℕ) → IsUtf8 text → length (from_boundary text) ≤ length text
-pieces-le text u = let f = first-is [] text u in omega (arith, ap length f.1, length-append f.0 (from_boundary text))
+module _ (text : List ℕ) (len : ℕ) (e : len ≡ length text - length (from_boundary text)) where
+  step : (n : ℕ) → behind_ignored (suc n) text ≡ (let rest = drop_spaces (from_boundary text) in
+      if takes (take len text) rest then behind_ignored n rest else from_boundary text)
+  unfolding behind_ignored
+  step n = rw (← e) refl
+
+  more : behind_ignored (length text) text ≡ behind_ignored (suc (length text)) text
+  more = enough (length text) (suc (length text)) text (omega arith) (omega arith)
+
+  pub piece-stops : takes (take len text) (drop_spaces (from_boundary text)) ≡ false → from_boundary text ≡ behind_ignored (length text) text
+  piece-stops h = sym (more ∙ step (length text) ∙ rw h refl)
+
+  pub piece-goes : takes (take len text) (drop_spaces (from_boundary text)) ≡ true
+      → behind_ignored (length (drop_spaces (from_boundary text))) (drop_spaces (from_boundary text)) ≡ behind_ignored (length text) text
+  piece-goes h =
+      let less = taken-less text len e h in
+      sym (more ∙ step (length text) ∙ rw h (enough (length text) _ (drop_spaces (from_boundary text)) (omega (arith, less)) (omega arith)))
