@@ -115,13 +115,10 @@ fn end_front(loose: bool, side: Side, text: &[u8]) -> Option<(End<'_>, &[u8])>
         ≡ Spec.limited_end MAX_SAFE_INTEGER (Spec.end_front loose (is_free_end side) text.now) }
 {
     let behind = skip_marks(text);
-    match partial_front(loose, behind) {
-        Some(read) => {
-            let free = is_free(side, &read.0);
-            ended_end(loose, free, text, behind, read.0, read.1)
-        }
-        None => None,
-    }
+    let (read, rest) = partial_front(loose, behind)?;
+    let partial = read?;
+    let free = is_free(side, &partial);
+    ended_end(loose, free, text, behind, partial, rest)
 }
 
 // What stands behind whitespace, `-` and whitespace.

@@ -163,10 +163,9 @@ fn signed_word(loose: bool, text: &[u8]) -> Option<(Signed<'_>, &[u8])>
 {
     let (sign, behind) = sign_front(text);
     let marks = marks_len(behind);
-    match partial_front(loose, &behind[marks..]) {
-        Some(read) => ended_word(loose, sign, behind, marks, read.0, read.1),
-        None => None,
-    }
+    let (read, rest) = partial_front(loose, &behind[marks..])?;
+    let partial = read?;
+    ended_word(loose, sign, behind, marks, partial, rest)
 }
 
 // The malformed word at the front that is ignored, as a word without comparators, and the text
