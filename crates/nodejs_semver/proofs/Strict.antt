@@ -7,5 +7,6 @@ pub mod AlternativeLaw
 pub mod Printed
 pub mod Rows
 pub mod Words
+pub mod Counted
 pub mod CommonReads
 pub mod RangeReads

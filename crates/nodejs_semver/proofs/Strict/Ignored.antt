@@ -1,10 +1,11 @@
 -- How far a malformed word goes: the function that looks for its end finds exactly what the statement has.
-use Rattle.nodejs_semver.proofs.Common.{if◌then◌else◌, is_boundary, length-take-le, IsUtf8, List, [], ap, arith, drop_spaces, false, from_boundary, length, length-append, subst, suc, sym}
+use Rattle.nodejs_semver.proofs.Common.{nat_lt, nat_tests, space_len, ◌++◌, encode_utf8, len_utf8_bounds, length-encode, if◌then◌else◌, is_boundary, length-take-le, IsUtf8, List, [], ap, arith, drop_spaces, false, from_boundary, length, length-append, subst, suc, sym}
 use Rattle.nodejs_semver.proofs.Common.{take, true, zero, ℕ, ◌+◌, ◌-◌, ◌<◌, ◌∙◌, ◌∷◌, ◌≡◌, ◌≤◌, cases_Bool, inl, inr, refl}
 use Rattle.nodejs_semver.proofs.{NpmCommon.{IsIgnored, behind_ignored, takes}, Reading.WordLaw.{boundary-utf8, first-is, first-of}}
 use Rattle.nodejs_semver.proofs.{Reading.WordLaw.{skips-is, skips-of, skips-utf8}, Strict.PartialLaw.front-text}
-use Rattle.nodejs_semver.proofs.Reading.PartialLaw.{spaces-le}
+use Rattle.nodejs_semver.proofs.{Reading.PartialLaw.{spaces-gone, spaces-le}, Strict.Signs.{blank-at, blank-nil}}
 use Rattle.nodejs_semver.specs.{Npm.Malformed.{goes_on, stops}, Text.WordText.{IsBoundary, IsFirstBoundary, SkipsBlank}}
+use Rattle.semver_core.specs.Text.Characters.{BeginsBlank}
 
 nil-of : (text : List ℕ) → length text ≤ 0 → text ≡ []
 nil-of [] le = refl
@@ -44,16 +45,47 @@ ignored-read (suc n) text end u (goes_on t behind rest e f s h more) le =
     let less = taken-shorter t behind rest f s h in
     rw (first-of t behind u f, skips-of behind rest v.0 s, piece-is t behind f, h) (ignored-read n rest e v.1 more (omega (arith, less, le)))
 
+-- ---- what is left behind a boundary and whitespace
+
+pub boundary-le : (text : List ℕ) → length (from_boundary text) ≤ length text
+unfolding from_boundary
+boundary-le [] = omega arith
+boundary-le (b ∷ text) = elim (cases_Bool (is_boundary (b ∷ text))) [
+  | inl here ↦ grind (arith, here)
+  | inr on ↦ grind (arith, on, boundary-le text)
+]
+
+-- whitespace is some characters
+pub blank-some : (text blank : List ℕ) → text ≡ blank ++ drop_spaces text → 0 < space_len text → 0 < length blank
+blank-some text [] e some = absurd (omega (arith, some, ap space_len e, spaces-gone 0 text))
+blank-some text (b ∷ blank) e some = omega arith
+
+pub spaces-less : (text : List ℕ) → IsUtf8 text → 0 < space_len text → length (drop_spaces text) < length text
+spaces-less text u some =
+    let b = blank-at text u in omega (arith, ap length b.split, length-append b.blank (drop_spaces text), blank-some text b.blank b.split some)
+
+boundary-less : (text : List ℕ) → IsUtf8 text → 0 < length text → length (drop_spaces (from_boundary text)) < length text
+unfolding from_boundary is_boundary
+boundary-less [] u some = absurd (omega (arith, some))
+boundary-less (b ∷ text) u some = elim (cases_Bool (nat_lt 0 (space_len (b ∷ text)))) [
+  | inl here ↦ grind (arith, here, nat_tests, spaces-less (b ∷ text) u)
+  | inr on ↦ grind (arith, on, spaces-le (from_boundary text), boundary-le text)
+]
+
 pub record IgnoredAt (text end : List ℕ) : Type 0 where
   pub is : IsIgnored text end
   pub ended : IsBoundary end
   pub utf8 : IsUtf8 end
   pub fits : length end ≤ length text
+  pub less : 0 < length text → length (drop_spaces end) < length text
+
+no-blank : BeginsBlank [] → ⊥
+no-blank h = omega (arith, ap length h.spelled, length-append (encode_utf8 h.character) h.rest, length-encode h.character, (len_utf8_bounds h.character).0)
 
 nil-ignored : (text : List ℕ) → IsUtf8 text → length text ≤ 0 → IgnoredAt text text
 nil-ignored [] u le =
     let f : IsFirstBoundary [] [] = ([], refl, inl refl, λ x y e h. omega arith) in
-    record { is = stops [] [] [] f ([], refl, blank-nil, λ h. cc h) refl; ended = inl refl; utf8 = u; fits = omega arith }
+    record { is = stops [] [] [] f ([], refl, blank-nil, no-blank) refl; ended = inl refl; utf8 = u; fits = omega arith; less = λ some. omega (arith, some) }
 nil-ignored (b ∷ text) u le = absurd (omega (arith, le))
 
 pub ignored-found : (n : ℕ) (text : List ℕ) → IsUtf8 text → length text ≤ n → IgnoredAt text (behind_ignored n text)
@@ -71,6 +103,7 @@ ignored-found (suc n) text u le =
         ended = f.2;
         utf8 = v;
         fits = omega (arith, ap length f.1, length-append f.0 behind);
+        less = boundary-less text u;
       })
       | inl go ↦
           let less = taken-shorter text behind rest f s go in
@@ -80,24 +113,17 @@ ignored-found (suc n) text u le =
             ended = r.ended;
             utf8 = r.utf8;
             fits = omega (arith, r.fits, less);
+            less = λ some. omega (arith, less, r.fits, spaces-le (behind_ignored n rest));
           })
     ]
 
 -- ---- the loop that looks for the end
 
-pub boundary-le : (text : List ℕ) → length (from_boundary text) ≤ length text
-unfolding from_boundary
-boundary-le [] = omega arith
-boundary-le (b ∷ text) = elim (cases_Bool (is_boundary (b ∷ text))) [
-  | inl here ↦ grind (arith, here)
-  | inr on ↦ grind (arith, on, boundary-le text)
-]
-
 -- what is taken is shorter
-pub taken-less : (text : List ℕ) (len : ℕ) → len ≡ length text - length (from_boundary text)
-    → takes (take len text) (drop_spaces (from_boundary text)) ≡ true → length (drop_spaces (from_boundary text)) < length text
-taken-less text len e h =
-    omega (arith, e, takes-some (take len text) (drop_spaces (from_boundary text)) h, length-take-le len text, spaces-le (from_boundary text), boundary-le text)
+taken-less : (text : List ℕ) (n : ℕ) → n ≡ length text - length (from_boundary text)
+    → takes (take n text) (drop_spaces (from_boundary text)) ≡ true → length (drop_spaces (from_boundary text)) < length text
+taken-less text n e h =
+    omega (arith, e, takes-some (take n text) (drop_spaces (from_boundary text)) h, length-take-le n text, spaces-le (from_boundary text), boundary-le text)
 
 -- the number only bounds the pieces
 enough : (n m : ℕ) (text : List ℕ) → length text ≤ n → length text ≤ m → behind_ignored n text ≡ behind_ignored m text
@@ -112,20 +138,21 @@ enough (suc n) (suc m) text h k = elim (cases_Bool (takes (take (length text - l
       rw go (enough n m (drop_spaces (from_boundary text)) (omega (arith, less, h)) (omega (arith, less, k)))
 ]
 
-module _ (text : List ℕ) (len : ℕ) (e : len ≡ length text - length (from_boundary text)) where
-  step : (n : ℕ) → behind_ignored (suc n) text ≡ (let rest = drop_spaces (from_boundary text) in
-      if takes (take len text) rest then behind_ignored n rest else from_boundary text)
-  unfolding behind_ignored
-  step n = rw (← e) refl
+step : (n : ℕ) (text : List ℕ) → behind_ignored (suc n) text ≡ (let rest = drop_spaces (from_boundary text) in
+    if takes (take (length text - length (from_boundary text)) text) rest then behind_ignored n rest else from_boundary text)
+unfolding behind_ignored
+step n text = refl
 
-  more : behind_ignored (length text) text ≡ behind_ignored (suc (length text)) text
-  more = enough (length text) (suc (length text)) text (omega arith) (omega arith)
+module _ (text behind next : List ℕ) (e : behind ≡ from_boundary text) (f : next ≡ drop_spaces behind) where
+  more : behind_ignored (length text) text
+      ≡ (if takes (take (length text - length behind) text) next then behind_ignored (length text) next else behind)
+  more = rw (f, e) (enough (length text) (suc (length text)) text (omega arith) (omega arith) ∙ step (length text) text)
 
-  pub piece-stops : takes (take len text) (drop_spaces (from_boundary text)) ≡ false → from_boundary text ≡ behind_ignored (length text) text
-  piece-stops h = sym (more ∙ step (length text) ∙ rw h refl)
+  pub piece-stops : takes (take (length text - length behind) text) next ≡ false → behind ≡ behind_ignored (length text) text
+  piece-stops h = sym (more ∙ rw h refl)
 
-  pub piece-goes : takes (take len text) (drop_spaces (from_boundary text)) ≡ true
-      → behind_ignored (length (drop_spaces (from_boundary text))) (drop_spaces (from_boundary text)) ≡ behind_ignored (length text) text
-  piece-goes h =
-      let less = taken-less text len e h in
-      sym (more ∙ step (length text) ∙ rw h (enough (length text) _ (drop_spaces (from_boundary text)) (omega (arith, less)) (omega arith)))
+  pub piece-less : takes (take (length text - length behind) text) next ≡ true → length next < length text
+  piece-less h = rw (f, e) (taken-less text (length text - length (from_boundary text)) refl (rw (f, e) at h))
+
+  pub piece-goes : takes (take (length text - length behind) text) next ≡ true → behind_ignored (length text) text ≡ behind_ignored (length next) next
+  piece-goes h = more ∙ rw h (enough (length text) (length next) next (omega (arith, piece-less h)) (omega arith))

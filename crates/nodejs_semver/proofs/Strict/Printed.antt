@@ -122,35 +122,6 @@ pub hyphen-valid : (limit : ℕ) (include : Bool) (o : Option (Ended × Ended))
 hyphen-valid limit include None = refl
 hyphen-valid limit include (Some e) = grind (arith, none-right, upper-invalid)
 
--- ---- words
-
-abbrev read_as : Bool → Signed × List ℕ → Front (List Comparison)
-read_as include w = Some (table include w.0.0 w.0.1 w.0.2, w.1)
-
--- the words that are valid, read one after another
-pub words-valid : (loose : Bool) (limit : ℕ) (include : Bool) (n : ℕ) (text : List ℕ)
-    → valid_words loose limit include n text ≡ (words_within loose include n text >>? λ cs. valid_only limit cs)
-unfolding valid_words words_within word_front
-words-valid loose limit include zero text = refl
-words-valid loose limit include (suc n) text = go (λ t. words-valid loose limit include n t) (any_word loose text)
-  where
-    behind : ((t : List ℕ) → valid_words loose limit include n t ≡ (words_within loose include n t >>? λ cs. valid_only limit cs))
-        → (w : Signed × List ℕ) (cs : List Comparison)
-        → (valid_only limit cs >>? λ cs. if is_empty w.1 then Some cs else (valid_words loose limit include n (drop_spaces w.1) >>? λ ds. Some (cs ++ ds)))
-        ≡ ((if is_empty w.1 then Some cs else (words_within loose include n (drop_spaces w.1) >>? λ ds. Some (cs ++ ds))) >>? λ all. valid_only limit all)
-    behind f w cs = grind (arith, nat_tests, common_steps)
-
-    go : ((t : List ℕ) → valid_words loose limit include n t ≡ (words_within loose include n t >>? λ cs. valid_only limit cs))
-        → (o : Front Signed) → (limited_word limit o >>? λ w. valid_only limit (table include w.0.0 w.0.1 w.0.2) >>? λ cs.
-        if is_empty w.1 then Some cs else (valid_words loose limit include n (drop_spaces w.1) >>? λ ds. Some (cs ++ ds)))
-        ≡ (((o >>? read_as include) >>? λ w. if is_empty w.1 then Some w.0
-        else (words_within loose include n (drop_spaces w.1) >>? λ ds. Some (w.0 ++ ds))) >>? λ all. valid_only limit all)
-    go f None = refl
-    go f (Some w) = elim (cases_Bool (is_small limit w.0.1)) [
-      | inl small ↦ rw small (behind f w (table include w.0.0 w.0.1 w.0.2))
-      | inr big ↦ grind (arith, nat_tests, common_steps, table-invalid)
-    ]
-
 -- ---- numbers and identifiers print as they are written
 
 id_printed : (piece : List ℕ) → is_identifier piece ≡ true → is_strict_identifier piece ≡ true → id_text (identifier_of piece) ≡ piece

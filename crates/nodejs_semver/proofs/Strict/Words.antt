@@ -2,75 +2,99 @@
 use Rattle.nodejs_semver.proofs.Common.{Bool, Front, IsBlank, IsUtf8, List, MAX_SAFE_INTEGER, None, Option, Some, Span, VersionValue, []}
 use Rattle.nodejs_semver.proofs.Common.{and_parts, ap, append-nil, append_assoc, arith, begins, bind_some, cases_Bool, common_steps, ◌||◌}
 use Rattle.nodejs_semver.proofs.Common.{cond_some, drop, drop_at, drop_spaces, eqb-true, equal, false, if◌then◌else◌, inl, inr}
-use Rattle.nodejs_semver.proofs.Common.{is_boundary, is_empty, length, length-append, list_all, lt-ltb, nat_tests, prefix_len, refl}
+use Rattle.nodejs_semver.proofs.Common.{is_boundary, is_empty, length, length-append, list_all, list_all-append, lt-ltb, nat_lt, nat_tests, not, prefix_len, refl}
 use Rattle.nodejs_semver.proofs.Common.{same_Some, space_len, subst, suc, sym, take, take-append-drop, take_at, true, zero, ℕ, ◌&&◌, ◌++◌}
-use Rattle.nodejs_semver.proofs.{Common.{◌-◌, ◌<◌, ◌==◌, ◌∙◌, ◌∷◌, ◌≡◌, ◌≤◌}, NpmCommon.{Alternative, AreWords, Comparison, IsFound}}
-use Rattle.nodejs_semver.proofs.NpmCommon.{IsNarrowed, IsPartial, IsPlace, IsWord, NarrowedBy, Signed, any_word, are_marks, begins_byte}
-use Rattle.nodejs_semver.proofs.NpmCommon.{begins_malformed, compared, ignored, ignored_front, is_mark, is_visible, last, limited_word}
-use Rattle.nodejs_semver.proofs.NpmCommon.{IsPlaces, marked_word, marks_len, npm_sign, signed_word, valid_only, valid_words, wildcard, word}
-use Rattle.nodejs_semver.proofs.{NpmCommon.{word_front, words_of, ◌>>?◌}, Reading.Bytes.{begins-on, begins-some, begins_component}}
-use Rattle.nodejs_semver.proofs.Reading.{Bytes.is_component_byte, PartialLaw.{spaces-gone, spaces-le}, WordLaw.boundary-utf8}
-use Rattle.nodejs_semver.proofs.{Reading.WordLaw.suffix-boundary, Strict.Malformed.{boundary-dark, ignored-read, malformed-visible}}
-use Rattle.nodejs_semver.proofs.Strict.{Malformed.{sign-visible, visible-dark, word-regular}, PartialLaw.{boundary-quiet, digits-begin}}
-use Rattle.nodejs_semver.proofs.Strict.{PartialLaw.{partial-found, partial-read}, Signs.{blank-at, blank-cases, blank-skipped, marks-all}}
-use Rattle.nodejs_semver.{proofs.Strict.{Signs.{sign-found, sign-taken}, VersionLaw.empty-is}, specs.Internal.NpmWords.ended_word}
-use Rattle.nodejs_semver.specs.{Internal.NpmWords.{partial_front, words_within}, Npm.{RangeText.more, Table.{Partial, Sign, table}}}
-use Rattle.nodejs_semver.proofs.Strict.PartialLaw.{front-text}
-use Rattle.nodejs_semver.proofs.Strict.Signs.{is_open}
-use Rattle.nodejs_semver.proofs.Strict.Signs.{open-first}
+use Rattle.nodejs_semver.proofs.{Common.{◌+◌, ◌-◌, ◌<◌, ◌==◌, ◌∙◌, ◌∷◌, ◌≡◌, ◌≤◌}, NpmCommon.{Alternative, AreWords, BeginsAs, BeginsWord, Comparison, IsFound, IsIgnored}}
+use Rattle.nodejs_semver.proofs.NpmCommon.{IsNarrowed, IsPartial, IsPlace, IsPlaces, IsWord, NarrowedBy, NoValue, Signed, are_marks, begins_byte, behind_ignored}
+use Rattle.nodejs_semver.proofs.NpmCommon.{comparators_of, compared, counted_front, counted_word, first_valid, first_word, ignored_or, is_lost, is_mark, is_none, is_short, is_short_word, is_small, is_valid}
+use Rattle.nodejs_semver.proofs.NpmCommon.{marked_word, marks_len, npm_sign, signed_word, valid_only, valid_words, word, words_of, words_within, ◌>>?◌}
+use Rattle.nodejs_semver.proofs.{Reading.Bytes.{begins-on, begins-some, begins_component, is_component_byte}, Reading.Steps.option-cases}
+use Rattle.nodejs_semver.proofs.Reading.{PartialLaw.{spaces-gone, spaces-le}, WordLaw.{boundary-of, boundary-utf8, skips-is, skips-of, skips-utf8, suffix-boundary}}
+use Rattle.nodejs_semver.proofs.Strict.{Ignored.{IgnoredAt, ignored-found, ignored-read}, PartialLaw.{boundary-quiet, digits-begin, front-text, places-found, places-read}}
+use Rattle.nodejs_semver.proofs.Strict.{Printed.table-invalid, Signs.{blank-at, blank-cases, is_open, marks-all, open-first, sign-found, sign-taken}, VersionLaw.empty-is}
+use Rattle.nodejs_semver.specs.{Internal.NpmWords.{ended_word, places_front, signed_or}, Npm.{RangeText.{formed, ignored, more}, Table.{Partial, Sign, table}}}
+use Rattle.nodejs_semver.specs.Text.WordText.{IsBoundary, SkipsBlank}
 
 -- ---- how partials and marks begin
 
 place-begins : (loose zeros : Bool) (x : List ℕ) (a : Option ℕ) → IsPlace loose zeros x a → begins_component x ≡ true
 place-begins loose zeros x a h = grind (arith, nat_tests, common_steps, digits-begin)
 
-places-begin : (loose : Bool) (x rest : List ℕ) (p : Partial) → IsPlaces loose x p → begins_component (x ++ rest) ≡ true
+pub places-begin : (loose : Bool) (x rest : List ℕ) (p : Partial) → IsPlaces loose x p → begins_component (x ++ rest) ≡ true
 places-begin loose x rest p h = grind (arith, nat_tests, common_steps, begins-on, is_component_byte, place-begins)
 
 pub partial-begins : (loose : Bool) (x rest : List ℕ) (p : Partial) → IsPartial loose x p → begins_component (x ++ rest) ≡ true
 partial-begins loose x rest p h = places-begin loose x rest p h.0
 
-marks-counted : (marks u : List ℕ) → list_all is_mark marks ≡ true → begins_component u ≡ true → marks_len (marks ++ u) ≡ length marks
+pub marks-counted : (marks u : List ℕ) → list_all is_mark marks ≡ true → begins_component u ≡ true → marks_len (marks ++ u) ≡ length marks
 marks-counted [] u h k = grind (arith, nat_tests)
 marks-counted (b ∷ marks) u h k = grind (arith, nat_tests, common_steps, and_parts, marks-counted marks u)
+
+-- the partial behind marks
+pub marks-dropped : (loose : Bool) (marks x : List ℕ) (p : Partial) → list_all is_mark marks ≡ true → IsPlaces loose x p
+    → drop (marks_len (marks ++ x)) (marks ++ x) ≡ x
+marks-dropped loose marks x p h k =
+    drop_at marks x (marks_len (marks ++ x)) (sym (marks-counted marks x h (rw (append-nil x) at (places-begin loose x [] p k))))
 
 -- ---- one word: what is written is read
 
 marked-read : (loose : Bool) (s : Sign × List ℕ) (p : Partial) (marks x rest : List ℕ) → s.1 ≡ marks ++ (x ++ rest) → are_marks loose s.0 p marks ≡ true
-    → IsPartial loose x p → is_boundary rest ≡ true
-    → marked_word loose s (partial_front loose (drop (marks_len s.1) s.1)) ≡ Some ((s.0, p, marks ++ x), rest)
+    → IsPlaces loose x p → is_boundary rest ≡ true
+    → marked_word loose s (places_front loose (drop (marks_len s.1) s.1)) ≡ Some ((s.0, p, marks ++ x), rest)
 marked-read loose s p marks x rest e m k b =
-    grind (arith, nat_tests, common_steps, marks-counted, marks-all, partial-begins, partial-read, boundary-quiet, append_assoc, front-text, drop_at, take_at)
+    grind (arith, nat_tests, common_steps, marks-counted, marks-all, places-begin, places-read, boundary-quiet, append_assoc, front-text, drop_at, take_at)
 
-pub none-ignored : (loose : Bool) (text : List ℕ) → begins_malformed text ≡ false → ignored_front loose text ≡ None
-unfolding ignored_front
-none-ignored true text h = rw h refl
-none-ignored false text h = refl
+pub record WordRead (loose include : Bool) (text x : List ℕ) (cs : List Comparison) (rest : List ℕ) : Type 0 where
+  pub word : Signed
+  pub read : signed_word loose text ≡ Some (word, rest)
+  pub same : table include word.0 word.1 word.2 ≡ cs
+  pub partial : drop (marks_len word.2) word.2 ≡ x
 
-pub word-read : (loose : Bool) (include : Bool) (w rest : List ℕ) (cs : List Comparison) → IsWord loose include (is_empty rest) w cs
-    → is_boundary rest ≡ true → word_front loose include (w ++ rest) ≡ Some (cs, rest)
-unfolding word_front any_word signed_word ignored_front
-word-read loose include w rest cs (ignored x l h) b = rw (ignored-read loose x rest l h b) refl
-word-read loose include w rest cs (word signs marks x s p h m e k) b =
+pub word-read : (loose include : Bool) (w x rest : List ℕ) (cs : List Comparison) → IsWord loose include w x cs → is_boundary rest ≡ true
+    → WordRead loose include (w ++ rest) x cs rest
+unfolding signed_word
+word-read loose include w y rest cs (word signs marks x s p h m e k) b =
     let u = x ++ rest in
-    let begin : begins_component x ≡ true = rw (append-nil x) at (partial-begins loose x [] p k) in
-    let regular = word-regular loose signs marks x rest s p h (marks-all loose s p marks m) k begin (boundary-dark rest b) in
-    let none : ignored_front loose ((signs ++ (marks ++ x)) ++ rest) ≡ None = none-ignored loose ((signs ++ (marks ++ x)) ++ rest) regular in
-    let t = sign-taken loose signs s p marks x u h m e (partial-begins loose x rest p k) in
+    let t = sign-taken loose signs s p marks x u h m e (places-begin loose x rest p k) in
     let whole : (signs ++ (marks ++ x)) ++ rest ≡ signs ++ (marks ++ u) = simp append_assoc refl in
-    rw (none, whole, marked-read loose (npm_sign (signs ++ (marks ++ u))) p t.left x rest t.is t.marked k b, t.same include) refl
+    let r = npm_sign (signs ++ (marks ++ u)) in
+    record {
+      word = (r.0, p, t.left ++ x);
+      read = rw whole (marked-read loose r p t.left x rest t.is t.marked k b);
+      same = t.same include;
+      partial = marks-dropped loose t.left x p (marks-all loose r.0 p t.left t.marked) k;
+    }
+
+-- ---- whitespace
+
+pub blank-space : (blank rest : List ℕ) → IsBlank blank → 0 < length blank → 0 < space_len (blank ++ rest)
+blank-space blank rest h some = elim (blank-cases blank h) [
+  | inl e ↦ absurd (omega (arith, some, ap length e))
+  | inr white ↦ white rest
+]
+
+pub space-boundary : (text : List ℕ) → 0 < space_len text → is_boundary text ≡ true
+unfolding is_boundary
+space-boundary [] h = refl
+space-boundary (b ∷ text) h = rw (lt-ltb 0 (space_len (b ∷ text)) h) refl
+
+pub blank-boundary : (blank rest : List ℕ) → IsBlank blank → 0 < length blank → is_boundary (blank ++ rest) ≡ true
+blank-boundary blank rest h some = space-boundary (blank ++ rest) (blank-space blank rest h some)
+
+pub not-empty : (blank rest : List ℕ) → 0 < length blank → is_empty (blank ++ rest) ≡ false
+not-empty [] rest some = absurd (omega arith)
+not-empty (b ∷ blank) rest some = refl
 
 -- ---- one word: what is read is written
 
-pub record WordAt (loose : Bool) (include : Bool) (text : List ℕ) (cs : List Comparison) (rest : List ℕ) : Type 0 where
-  pub piece : List ℕ
-  pub split : text ≡ piece ++ rest
-  pub is : IsWord loose include (is_empty rest) piece cs
-  pub ended : is_boundary rest ≡ true
-  pub utf8 : IsUtf8 rest
-
 pub rest-utf8 : (front rest : List ℕ) → IsUtf8 (front ++ rest) → is_boundary rest ≡ true → IsUtf8 rest
 rest-utf8 front rest u b = boundary-utf8 front rest u (suffix-boundary front rest u b)
+
+pub record WordAt (loose include : Bool) (text : List ℕ) (w : Signed) (rest : List ℕ) : Type 0 where
+  pub is : BeginsWord loose include text rest (table include w.0 w.1 w.2)
+  pub partial : is.partial ≡ drop (marks_len w.2) w.2
+  pub utf8 : IsUtf8 rest
+  pub shorter : length rest < length text
 
 -- without a sign no `=` is at the front, since it would be one
 none-first : (text : List ℕ) → text ≡ (npm_sign text).1 → begins_byte 61 text ≡ false
@@ -94,248 +118,144 @@ unsigned text (b ∷ signs) n e = elim (cases_Bool (is_open (npm_sign text).0)) 
   | inr other ↦ rw other refl
 ]
 
-abbrev read_as : Bool → Signed × List ℕ → Front (List Comparison)
-read_as include w = Some (table include w.0.0 w.0.1 w.0.2, w.1)
+places-some : (loose : Bool) (x : List ℕ) (p : Partial) → IsPlaces loose x p → 0 < length x
+places-some loose x p h = begins-some is_component_byte x (rw (append-nil x) at (places-begin loose x [] p h))
 
-signed-found : (loose : Bool) (include : Bool) (text : List ℕ) (cs : List Comparison) (rest : List ℕ) → IsUtf8 text
-    → (signed_word loose text >>? read_as include) ≡ Some (cs, rest) → WordAt loose include text cs rest
+pub signed-found : (loose include : Bool) (text : List ℕ) (w : Signed) (rest : List ℕ) → IsUtf8 text → signed_word loose text ≡ Some (w, rest)
+    → WordAt loose include text w rest
 unfolding signed_word
-signed-found loose include text cs rest u h =
+signed-found loose include text w rest u h =
     let s = npm_sign text in
     let at_sign = sign-found text u in
     let n = marks_len s.1 in
     let marks = take n s.1 in
-    let w = bind_some (signed_word loose text) (λ w. Some (table include w.0.0 w.0.1 w.0.2, w.1)) (cs, rest) h in
-    let p = bind_some (partial_front loose (drop n s.1)) (λ p. ended_word loose s.0 s.1 n p) w.0 w.1 in
+    let p = bind_some (places_front loose (drop n s.1)) (λ p. ended_word loose s.0 s.1 n p) (w, rest) h in
     let whole_text = take (length s.1 - length p.0.1) s.1 in
-    let t = cond_some (are_marks loose s.0 p.0.0 marks && is_boundary p.0.1) ((s.0, p.0.0, whole_text), p.0.1) w.0 p.2 in
+    let t = cond_some (are_marks loose s.0 p.0.0 marks && is_boundary p.0.1) ((s.0, p.0.0, whole_text), p.0.1) (w, rest) p.2 in
     let tests = and_parts (are_marks loose s.0 p.0.0 marks) (is_boundary p.0.1) t.0 in
-    let part = partial-found loose (drop n s.1) p.0.0 p.0.1 p.1 in
+    let part = places-found loose (drop n s.1) p.0.0 p.0.1 p.1 in
     let front = marks ++ part.piece in
     let behind : s.1 ≡ front ++ p.0.1 =
     sym (take-append-drop n s.1) ∙ ap (λ (t : List ℕ). marks ++ t) part.split ∙ sym (append_assoc marks part.piece p.0.1) in
     let front_is : whole_text ≡ front = ap (λ (t : List ℕ). take (length t - length p.0.1) t) behind ∙ front-text front p.0.1 in
-    let whole = append_assoc at_sign.signs front p.0.1 in
-    let is : IsWord loose include (is_empty p.0.1) (at_sign.signs ++ front) (table include s.0 p.0.0 whole_text) =
+    let all = at_sign.signs ++ front in
+    let whole : text ≡ all ++ p.0.1 = at_sign.split ∙ ap (λ (t : List ℕ). at_sign.signs ++ t) behind ∙ sym (append_assoc at_sign.signs front p.0.1) in
+    let is : IsWord loose include all part.piece (table include s.0 p.0.0 whole_text) =
     rw front_is (word at_sign.signs marks part.piece s.0 p.0.0 at_sign.is tests.0 (unsigned text at_sign.signs n at_sign.split) part.is) in
-    let utf8 = rest-utf8 front p.0.1 (subst (λ (t : List ℕ). IsUtf8 t) behind at_sign.utf8) tests.1 in
-    grind (arith, nat_tests, common_steps, same_Some)
+    let ended = suffix-boundary all p.0.1 (subst (λ (t : List ℕ). IsUtf8 t) whole u) tests.1 in
+    let begin : BeginsWord loose include text p.0.1 (table include s.0 p.0.0 whole_text) = record { word = all; partial = part.piece; divided = whole; is = is; ended = ended } in
+    let dropped : part.piece ≡ drop (marks_len whole_text) whole_text =
+    sym (ap (λ (t : List ℕ). drop (marks_len t) t) front_is ∙ marks-dropped loose marks part.piece p.0.0 (marks-all loose s.0 p.0.0 marks tests.0) part.is) in
+    subst (λ (r : Signed × List ℕ). WordAt loose include text r.0 r.1) t.1 (record {
+      is = begin;
+      partial = dropped;
+      utf8 = boundary-utf8 all p.0.1 (subst (λ (t : List ℕ). IsUtf8 t) whole u) ended;
+      shorter = omega (arith, ap length whole, length-append all p.0.1, length-append at_sign.signs front, length-append marks part.piece, places-some loose part.piece p.0.0 part.is);
+    })
 
-ignored-found : (loose : Bool) (include : Bool) (text : List ℕ) (w : Signed × List ℕ) → IsUtf8 text → ignored_front loose text ≡ Some w
-    → WordAt loose include text (table include w.0.0 w.0.1 w.0.2) w.1
-unfolding ignored_front
-ignored-found loose include text w u h =
-    let n = prefix_len is_visible text in
-    let rest = drop n text in
-    let run = take n text in
-    let read : Signed × List ℕ = ((compared equal, wildcard, []), rest) in
-    let t = cond_some (loose && (begins_malformed text && is_boundary rest)) read w h in
-    let tests = and_parts loose (begins_malformed text && is_boundary rest) t.0 in
-    let both = and_parts (begins_malformed text) (is_boundary rest) tests.1 in
-    let split : text ≡ run ++ rest = sym (take-append-drop n text) in
-    let is : IsWord loose include (is_empty rest) run [] = ignored run tests.0 both.0 in
-    let utf8 = rest-utf8 run rest (subst (λ (t : List ℕ). IsUtf8 t) split u) both.1 in
-    grind (arith, nat_tests, common_steps)
+-- ---- the first word
 
-pub word-found : (loose : Bool) (include : Bool) (text : List ℕ) (cs : List Comparison) (rest : List ℕ) → IsUtf8 text
-    → word_front loose include text ≡ Some (cs, rest) → WordAt loose include text cs rest
-unfolding word_front any_word
-word-found loose include text cs rest u h = grind (arith, nat_tests, common_steps, signed-found, same_Some, ignored-found)
+pub first-read : (loose include : Bool) (text rest : List ℕ) (cs : Option (List Comparison)) → IsUtf8 text → BeginsAs loose include text rest cs
+    → first_word loose include text ≡ Some (cs, rest)
+unfolding first_word
+first-read loose include text rest cs u (formed behind ds w short s) =
+    let utf8 = boundary-utf8 w.word behind (subst (λ (t : List ℕ). IsUtf8 t) w.divided u) w.ended in
+    let r = word-read loose include w.word w.partial behind ds w.is (boundary-of behind w.ended) in
+    let here : signed_word loose text ≡ Some (r.word, behind) = ap (λ (t : List ℕ). signed_word loose t) w.divided ∙ r.read in
+    rw (here, r.partial, short, r.same, skips-of behind rest utf8 s) refl
+first-read loose include text rest cs u (ignored behind l some absent i s) =
+    let none : signed_word loose text ≡ None = elim (option-cases (signed_word loose text)) [
+      | inl e ↦ e
+      | inr w ↦ absurd (absent w.0.1 (table include w.0.0.0 w.0.0.1 w.0.0.2) (signed-found loose include text w.0.0 w.0.1 u w.1).is)
+    ] in
+    let end = ignored-read (length text) text behind u i (omega arith) in
+    let utf8 = (ignored-found (length text) text u (omega arith)).utf8 in
+    rw (none, l, end) (ap (λ (t : List ℕ). Some (None, t)) (skips-of behind rest (rw end at utf8) s))
+
+-- what is read at the front
+pub record FirstAt (loose include : Bool) (text : List ℕ) (cs : Option (List Comparison)) (rest : List ℕ) : Type 0 where
+  pub is : BeginsAs loose include text rest cs
+  pub utf8 : IsUtf8 rest
+  pub shorter : length rest < length text
+
+pub first-found : (loose include : Bool) (text : List ℕ) (cs : Option (List Comparison)) (rest : List ℕ) → IsUtf8 text → 0 < length text
+    → first_word loose include text ≡ Some (cs, rest) → FirstAt loose include text cs rest
+unfolding first_word
+first-found loose include text cs rest u some h = go (signed_word loose text) refl h
+  where
+    skipped : (behind : List ℕ) → IsUtf8 behind → SkipsBlank behind (drop_spaces behind) × IsUtf8 (drop_spaces behind) × (length (drop_spaces behind) ≤ length behind)
+    skipped behind v = let s = skips-is behind v in (s, skips-utf8 behind (drop_spaces behind) s v, spaces-le behind)
+
+    go : (o : Front Signed) → signed_word loose text ≡ o
+        → signed_or loose include text o ≡ Some (cs, rest) → FirstAt loose include text cs rest
+    go None e k =
+        let end = behind_ignored (length text) text in
+        let t = cond_some loose (None, drop_spaces end) (cs, rest) k in
+        let i = ignored-found (length text) text u (omega arith) in
+        let s = skipped end i.utf8 in
+        let absent : (behind : List ℕ) → NoValue (BeginsWord loose include text behind) = λ behind ds w.
+            let r = word-read loose include w.word w.partial behind ds w.is (boundary-of behind w.ended) in
+            cc (e, ap (λ (t : List ℕ). signed_word loose t) w.divided ∙ r.read) in
+        subst (λ (r : Option (List Comparison) × List ℕ). FirstAt loose include text r.0 r.1) t.1
+        (record { is = ignored end t.0 (grind (arith, nat_tests)) absent i.is s.0; utf8 = s.1; shorter = i.less some })
+    go (Some w) e k =
+        let t = cond_some (is_short_word loose w.0.2) (Some (table include w.0.0 w.0.1 w.0.2), drop_spaces w.1) (cs, rest) k in
+        let f = signed-found loose include text w.0 w.1 u e in
+        let s = skipped w.1 f.utf8 in
+        subst (λ (r : Option (List Comparison) × List ℕ). FirstAt loose include text r.0 r.1) t.1
+        (record { is = formed w.1 (table include w.0.0 w.0.1 w.0.2) f.is (rw f.partial t.0) s.0; utf8 = s.1; shorter = omega (arith, s.2, f.shorter) })
 
 -- ---- words
 
-marks-visible : (marks u : List ℕ) → list_all is_mark marks ≡ true → begins_component u ≡ true → begins is_visible (marks ++ u) ≡ true
-marks-visible [] u h k = grind (arith, nat_tests)
-marks-visible (b ∷ marks) u h k = grind (arith, nat_tests)
-
-pub word-visible : (loose : Bool) (include : Bool) (is_last : Bool) (w : List ℕ) (cs : List Comparison) → IsWord loose include is_last w cs
-    → begins is_visible w ≡ true
-word-visible loose include is_last w cs (ignored x l h) = malformed-visible is_last x h
-word-visible loose include is_last w cs (word signs marks x s p h m e k) =
-    let u : begins_component x ≡ true = rw (append-nil x) at (partial-begins loose x [] p k) in
-    grind (arith, nat_tests, common_steps, sign-visible, marks-visible, marks-all, begins-on)
-
-pub words-visible : (loose : Bool) (include : Bool) (text : List ℕ) (cs : List Comparison) → AreWords loose include text cs → begins is_visible text ≡ true
-words-visible loose include text cs (last t ds h) = word-visible loose include true t ds h
-words-visible loose include text cs (more t blank rest ds es h hb some k) =
-    begins-on is_visible t (blank ++ rest) (word-visible loose include false t ds h)
-
-pub blank-space : (blank rest : List ℕ) → IsBlank blank → 0 < length blank → 0 < space_len (blank ++ rest)
-blank-space blank rest h some = elim (blank-cases blank h) [
-  | inl none ↦ absurd (omega (arith, some, ap length none))
-  | inr white ↦ white rest
-]
-
-pub space-boundary : (text : List ℕ) → 0 < space_len text → is_boundary text ≡ true
-unfolding is_boundary
-space-boundary [] h = refl
-space-boundary (b ∷ text) h = rw (lt-ltb 0 (space_len (b ∷ text)) h) refl
-
-pub blank-boundary : (blank rest : List ℕ) → IsBlank blank → 0 < length blank → is_boundary (blank ++ rest) ≡ true
-blank-boundary blank rest h some = space-boundary (blank ++ rest) (blank-space blank rest h some)
-
-pub not-empty : (blank rest : List ℕ) → 0 < length blank → is_empty (blank ++ rest) ≡ false
-not-empty [] rest some = absurd (omega arith)
-not-empty (b ∷ blank) rest some = refl
-
-pub words-read : (loose : Bool) (include : Bool) (n : ℕ) (text : List ℕ) (cs : List Comparison) → AreWords loose include text cs → length text ≤ n
-    → words_within loose include n text ≡ Some cs
-unfolding words_within is_boundary
-words-read loose include zero text cs h le = absurd (omega (arith, le, begins-some is_visible text (words-visible loose include text cs h)))
-words-read loose include (suc n) text cs (last t ds h) le =
-    let read : word_front loose include t ≡ Some (ds, []) = rw (append-nil t) at (word-read loose include t [] ds h refl) in
-    rw read refl
-words-read loose include (suc n) text cs (more t blank rest ds es h hb some k) le =
-    let here = subst (λ (l : Bool). IsWord loose include l t ds) (sym (not-empty blank rest some)) h in
-    let read = word-read loose include t (blank ++ rest) ds here (blank-boundary blank rest hb some) in
-    let dark = visible-dark rest (words-visible loose include rest es k) in
-    let shorter : length rest ≤ n = omega (arith, le, length-append t (blank ++ rest), length-append blank rest, some) in
-    rw (read, not-empty blank rest some, blank-skipped blank rest hb dark, words-read loose include n rest es k shorter) refl
-
-some-space : (text : List ℕ) → is_boundary text ≡ true → is_empty text ≡ false → 0 < space_len text
-unfolding is_boundary
-some-space text h k = grind (arith, nat_tests)
-
-pub blank-some : (text blank : List ℕ) → text ≡ blank ++ drop_spaces text → 0 < space_len text → 0 < length blank
-blank-some text [] e some = absurd (omega (arith, some, ap space_len e, spaces-gone 0 text))
-blank-some text (b ∷ blank) e some = omega arith
-
-pub words-found : (loose : Bool) (include : Bool) (n : ℕ) (text : List ℕ) (cs : List Comparison) → IsUtf8 text → words_within loose include n text ≡ Some cs
-    → AreWords loose include text cs
+words-step : (loose include : Bool) (n : ℕ) (text : List ℕ) → 0 < length text → words_within loose include (suc n) text
+    ≡ (first_word loose include text >>? λ w. words_within loose include n w.1 >>? λ ds. Some (w.0 ∷ ds))
 unfolding words_within
-words-found loose include zero text cs u h = cc h
-words-found loose include (suc n) text cs u h =
-    let w = bind_some (word_front loose include text) _ cs h in
-    let at_word = word-found loose include text w.0.0 w.0.1 u w.1 in
-    elim (cases_Bool (is_empty w.0.1)) [
-      | inl ended ↦
-          let is = last at_word.piece w.0.0 (subst (λ (l : Bool). IsWord loose include l at_word.piece w.0.0) ended at_word.is) in
-          grind (arith, nat_tests, common_steps, empty-is, append-nil)
-      | inr goes ↦
-          let rest = drop_spaces w.0.1 in
-          let d = bind_some (words_within loose include n rest) (λ ds. Some (w.0.0 ++ ds)) cs (rw goes at w.2) in
-          let x = blank-at w.0.1 at_word.utf8 in
-          let some = blank-some w.0.1 x.blank x.split (some-space w.0.1 at_word.ended goes) in
-          let here = subst (λ (l : Bool). IsWord loose include l at_word.piece w.0.0) goes at_word.is in
-          let is = more at_word.piece x.blank rest w.0.0 d.0 here x.is some (words-found loose include n rest d.0 x.utf8 d.1) in
-          grind (arith, nat_tests, common_steps)
-    ]
+words-step loose include n [] some = absurd (omega (arith, some))
+words-step loose include n (b ∷ text) some = refl
 
-abbrev pub word_at_front : (loose : Bool) → List ℕ → Front Signed
-word_at_front loose text = limited_word MAX_SAFE_INTEGER (any_word loose text)
+begins-longer : (loose include : Bool) (text rest : List ℕ) (cs : Option (List Comparison)) → IsUtf8 text → BeginsAs loose include text rest cs → 0 < length text
+begins-longer loose include text rest cs u (ignored behind l some absent i s) = grind (arith, nat_tests)
+begins-longer loose include text rest cs u (formed behind ds w short s) =
+    let r = word-read loose include w.word w.partial behind ds w.is (boundary-of behind w.ended) in
+    let here : signed_word loose text ≡ Some (r.word, behind) = ap (λ (t : List ℕ). signed_word loose t) w.divided ∙ r.read in
+    omega (arith, (signed-found loose include text r.word behind u here).shorter)
 
-abbrev pub row_of : Bool → Signed → List Comparison
-row_of include w = table include w.0 w.1 w.2
+pub words-read : (loose include : Bool) (n : ℕ) (text : List ℕ) (all : List (Option (List Comparison))) → IsUtf8 text → AreWords loose include text all
+    → length text ≤ n → words_within loose include n text ≡ Some all
+unfolding words_within
+words-read loose include n text all u AreWords.none le = refl
+words-read loose include zero text all u (more t rest cs ds h k) le = absurd (omega (arith, le, begins-longer loose include t rest cs u h))
+words-read loose include (suc n) text all u (more t rest cs ds h k) le =
+    let some = begins-longer loose include t rest cs u h in
+    let first = first-read loose include t rest cs u h in
+    let f = first-found loose include t cs rest u some first in
+    words-step loose include n t some ∙ rw (first, words-read loose include n rest ds f.utf8 k (omega (arith, le, f.shorter))) refl
 
-limited-some : (o : Front Signed) (w : Signed × List ℕ) → limited_word MAX_SAFE_INTEGER o ≡ Some w → o ≡ Some w
-limited-some o w h = grind (arith, nat_tests, common_steps)
-
-pub word-at : (loose : Bool) (include : Bool) (text : List ℕ) (w : Signed × List ℕ) → IsUtf8 text → word_at_front loose text ≡ Some w
-    → WordAt loose include text (row_of include w.0) w.1
-unfolding word_front
-word-at loose include text w u h = word-found loose include text (row_of include w.0) w.1 u (rw (limited-some (any_word loose text) w h) refl)
-
--- the text behind a word and its whitespace is shorter
-pub word-shorter : (loose : Bool) (include : Bool) (text : List ℕ) (w : Signed × List ℕ) → IsUtf8 text → word_at_front loose text ≡ Some w
-    → length (drop_spaces w.1) < length text
-word-shorter loose include text w u h =
-    let x = word-at loose include text w u h in
-    let b = blank-at w.1 x.utf8 in
-    let some = begins-some is_visible x.piece (word-visible loose include (is_empty w.1) x.piece (row_of include w.0) x.is) in
-    omega (arith, ap length x.split, length-append x.piece w.1, ap length b.split, length-append b.blank (drop_spaces w.1), some)
-
-pub left-utf8 : (loose : Bool) (include : Bool) (text : List ℕ) (w : Signed × List ℕ) → IsUtf8 text → word_at_front loose text ≡ Some w → IsUtf8 (drop_spaces w.1)
-left-utf8 loose include text w u h = (blank-at w.1 (word-at loose include text w u h).utf8).utf8
-
--- the words that follow one
-abbrev pub go_on : (loose : Bool) → Bool → ℕ → Signed × List ℕ → Option (List Comparison)
-go_on loose include n w = valid_only MAX_SAFE_INTEGER (row_of include w.0) >>? λ cs. if is_empty w.1 then Some cs
-    else (valid_words loose MAX_SAFE_INTEGER include n (drop_spaces w.1) >>? λ ds. Some (cs ++ ds))
-
-none-short : (loose : Bool) (include : Bool) (n : ℕ) (text : List ℕ) → IsUtf8 text → length text ≤ 0 → (o : Front Signed) → word_at_front loose text ≡ o
-    → None ≡ (o >>? λ w. go_on loose include n w)
-none-short loose include n text u h None e = refl
-none-short loose include n text u h (Some w) e = absurd (omega (arith, h, word-shorter loose include text w u e))
+pub words-found : (loose include : Bool) (n : ℕ) (text : List ℕ) (all : List (Option (List Comparison))) → IsUtf8 text
+    → words_within loose include n text ≡ Some all → AreWords loose include text all
+unfolding words_within
+words-found loose include n [] all u h = subst (λ (l : List (Option (List Comparison))). AreWords loose include [] l) (same_Some _ _ h) AreWords.none
+words-found loose include zero (b ∷ text) all u h = cc h
+words-found loose include (suc n) (b ∷ text) all u h =
+    let w = bind_some (first_word loose include (b ∷ text)) _ all h in
+    let d = bind_some (words_within loose include n w.0.1) (λ ds. Some (w.0.0 ∷ ds)) all w.2 in
+    let f = first-found loose include (b ∷ text) w.0.0 w.0.1 u (omega arith) w.1 in
+    subst (λ (l : List (Option (List Comparison))). AreWords loose include (b ∷ text) l) (same_Some _ _ d.2)
+    (more (b ∷ text) w.0.1 w.0.0 d.0 f.is (words-found loose include n w.0.1 d.0 f.utf8 d.1))
 
 -- the number only bounds the words
-enough : (loose : Bool) (include : Bool) (n m : ℕ) (text : List ℕ) → IsUtf8 text → length text ≤ n → length text ≤ m
-    → valid_words loose MAX_SAFE_INTEGER include n text ≡ valid_words loose MAX_SAFE_INTEGER include m text
-unfolding valid_words
-enough loose include zero zero text u h k = refl
-enough loose include zero (suc m) text u h k = none-short loose include m text u h (word_at_front loose text) refl
-enough loose include (suc n) zero text u h k = sym (none-short loose include n text u k (word_at_front loose text) refl)
-enough loose include (suc n) (suc m) text u h k = go (λ t u h k. enough loose include n m t u h k) (word_at_front loose text) refl
-  where
-    go : ((t : List ℕ) → IsUtf8 t → length t ≤ n → length t ≤ m
-        → valid_words loose MAX_SAFE_INTEGER include n t ≡ valid_words loose MAX_SAFE_INTEGER include m t)
-        → (o : Front Signed) → word_at_front loose text ≡ o → (o >>? λ w. go_on loose include n w) ≡ (o >>? λ w. go_on loose include m w)
-    go f None e = refl
-    go f (Some w) e =
-        let less = word-shorter loose include text w u e in
-        rw (f (drop_spaces w.1) (left-utf8 loose include text w u e) (omega (arith, less, h)) (omega (arith, less, k))) refl
+pub words-enough : (loose include : Bool) (n m : ℕ) (text : List ℕ) → IsUtf8 text → length text ≤ n → length text ≤ m
+    → words_within loose include n text ≡ words_within loose include m text
+words-enough loose include n m text u h k = elim (option-cases (words_within loose include n text)) [
+  | inr one ↦ one.1 ∙ sym (words-read loose include m text one.0 u (words-found loose include n text one.0 u one.1) k)
+  | inl e ↦ elim (option-cases (words_within loose include m text)) [
+    | inl f ↦ e ∙ sym f
+    | inr other ↦ cc (e, words-read loose include n text other.0 u (words-found loose include m text other.0 u other.1) h)
+  ]
+]
 
--- ---- the steps
-
-abbrev pub behind_word : (loose : Bool) → Bool → Signed × List ℕ → Option (List Comparison)
-behind_word loose include w = valid_only MAX_SAFE_INTEGER (row_of include w.0) >>? λ cs. if is_empty w.1 then Some cs
-    else (words_of loose include (drop_spaces w.1) >>? λ ds. Some (cs ++ ds))
-
-pub words-step : (loose : Bool) (include : Bool) (text : List ℕ) → IsUtf8 text → (o : Front Signed) → word_at_front loose text ≡ o
-    → words_of loose include text ≡ (o >>? λ w. behind_word loose include w)
-unfolding valid_words
-words-step loose include text u o e = grind (arith, word-shorter, left-utf8, enough)
-
-pub empty-append : (cs ds : List Comparison) → is_empty (cs ++ ds) ≡ (is_empty cs && is_empty ds)
-empty-append cs ds = grind (arith, nat_tests, common_steps)
-
--- what was read of a text, and what is left
-pub record AreWordsTo (loose : Bool) (include : Bool) (text : List ℕ) (all : Option (Span VersionValue)) (is_bare : Bool) (rest : List ℕ)
-    : Type 0 where
-  pub read : List Comparison
-  pub bare : is_bare ≡ is_empty read
-  pub narrowed : IsNarrowed include read all
-  pub same : words_of loose include text ≡ (words_of loose include rest >>? λ ds. Some (read ++ ds))
-  pub utf8 : IsUtf8 rest
-
-pub words-begin : (loose : Bool) (include : Bool) (text : List ℕ) (all : Option (Span VersionValue)) (is_bare : Bool) → IsUtf8 text
-    → IsNarrowed include [] all → is_bare ≡ true → AreWordsTo loose include text all is_bare text
-words-begin loose include text all is_bare u h b = grind (arith, nat_tests, common_steps)
-
-module _ (loose include : Bool) (text rest : List ℕ) (all : Option (Span VersionValue)) (is_bare : Bool)
-    (h : AreWordsTo loose include text all is_bare rest) where
-  -- one word more
-  pub words-next : (w : Signed × List ℕ) (a : Alternative) → word_at_front loose rest ≡ Some w
-      → NarrowedBy include all (row_of include w.0) (Some a) → a.is_bare ≡ (is_bare && is_empty (row_of include w.0))
-      → is_empty w.1 ≡ false → AreWordsTo loose include text a.interval a.is_bare (drop_spaces w.1)
-  words-next w a e n b goes =
-      let row = row_of include w.0 in
-      let step : words_of loose include rest ≡ (words_of loose include (drop_spaces w.1) >>? λ ds. Some (row ++ ds)) =
-      words-step loose include rest h.utf8 (Some w) e ∙ rw (n.0, goes) refl in
-      record {
-        read = h.read ++ row;
-        bare = b ∙ rw h.bare (sym (empty-append h.read row));
-        narrowed = n.1 h.read h.narrowed;
-        same = h.same ∙ rw step (joined (words_of loose include (drop_spaces w.1)));
-        utf8 = left-utf8 loose include rest w h.utf8 e;
-      }
-    where
-      joined : (o : Option (List Comparison))
-          → ((o >>? λ ds. Some (row_of include w.0 ++ ds)) >>? λ ds. Some (h.read ++ ds))
-          ≡ (o >>? λ ds. Some ((h.read ++ row_of include w.0) ++ ds))
-      joined None = refl
-      joined (Some ds) = ap (λ (l : List Comparison). Some l) (sym (append_assoc h.read (row_of include w.0) ds))
-
-  -- the last word
-  pub words-end : (w : Signed × List ℕ) (a : Alternative) → word_at_front loose rest ≡ Some w
-      → NarrowedBy include all (row_of include w.0) (Some a) → a.is_bare ≡ (is_bare && is_empty (row_of include w.0))
-      → is_empty w.1 ≡ true → IsFound include (words_of loose include text) (Some a)
-  words-end w a e n b ended = grind (arith, nat_tests, common_steps, words-step, empty-append)
-
-  -- no word where one is to be
-  pub words-none : word_at_front loose rest ≡ None → IsFound include (words_of loose include text) None
-  words-none e = grind (arith, nat_tests, common_steps, words-step)
-
-  -- a comparator that is not valid
-  pub words-invalid : (w : Signed × List ℕ) → word_at_front loose rest ≡ Some w → NarrowedBy include all (row_of include w.0) None
-      → IsFound include (words_of loose include text) None
-  words-invalid w e n = grind (arith, nat_tests, common_steps, words-step)
+-- strictly no word is ignored
+pub strict-kept : (include : Bool) (text : List ℕ) (all : List (Option (List Comparison))) → AreWords false include text all → is_lost all ≡ false
+strict-kept include text all AreWords.none = refl
+strict-kept include text all (more t rest cs ds (formed behind es w short s) k) = grind (arith, nat_tests)
+strict-kept include text all (more t rest cs ds (ignored behind l some absent i s) k) = cc l

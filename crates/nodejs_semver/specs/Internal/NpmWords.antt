@@ -263,11 +263,13 @@ behind_ignored (suc n) text = let behind = from_boundary text in let rest = drop
 abbrev pub ignored_or : Bool → List ℕ → Option (Option (List Comparison) × List ℕ)
 ignored_or loose text = if loose then Some (None, drop_spaces (behind_ignored (length text) text)) else None
 
+abbrev pub signed_or : Bool → Bool → List ℕ → Front Signed → Option (Option (List Comparison) × List ℕ)
+signed_or loose include text None = ignored_or loose text
+signed_or loose include text (Some w) =
+    if is_short_word loose w.0.2 then Some (Some (table include w.0.0 w.0.1 w.0.2), drop_spaces w.1) else None
+
 unfoldable pub first_word : Bool → Bool → List ℕ → Option (Option (List Comparison) × List ℕ)
-first_word loose include text = elim (signed_word loose text) [
-  | None ↦ ignored_or loose text
-  | Some w ↦ if is_short_word loose w.0.2 then Some (Some (table include w.0.0 w.0.1 w.0.2), drop_spaces w.1) else None
-]
+first_word loose include text = signed_or loose include text (signed_word loose text)
 
 -- words up to the end of an alternative, of which there are at most so many
 unfoldable pub words_within : Bool → Bool → ℕ → List ℕ → Option (List (Option (List Comparison)))
@@ -297,11 +299,13 @@ abbrev pub valid_only : ℕ → List Comparison → Option (List Comparison)
 valid_only limit cs = if list_all (is_valid limit) cs then Some cs else None
 
 -- the same where the comparators are valid
+abbrev pub counted_or : Bool → ℕ → Bool → List ℕ → Front Counted → Option (Option (List Comparison) × List ℕ)
+counted_or loose limit include text None = ignored_or loose text
+counted_or loose limit include text (Some w) =
+    w.0.1 >>? λ p. valid_only limit (table include w.0.0 p w.0.2) >>? λ cs. Some (Some cs, drop_spaces w.1)
+
 unfoldable pub first_valid : Bool → ℕ → Bool → List ℕ → Option (Option (List Comparison) × List ℕ)
-first_valid loose limit include text = elim (counted_word loose limit text) [
-  | None ↦ ignored_or loose text
-  | Some w ↦ w.0.1 >>? λ p. valid_only limit (table include w.0.0 p w.0.2) >>? λ cs. Some (Some cs, drop_spaces w.1)
-]
+first_valid loose limit include text = counted_or loose limit include text (counted_word loose limit text)
 
 unfoldable pub valid_words : Bool → ℕ → Bool → ℕ → List ℕ → Option (List (Option (List Comparison)))
 valid_words loose limit include n [] = Some []

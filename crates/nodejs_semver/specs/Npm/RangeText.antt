@@ -114,15 +114,20 @@ pub record BeginsWord (loose include : Bool) (text behind : List ℕ) (cs : List
 
 -- ---- alternatives
 
--- words with whitespace between them, each with its comparators. Where no word stands, a malformed one is ignored loosely.
+-- the first word, with its comparators, and this behind it and its whitespace. Where no word is, a malformed one is ignored
+-- loosely.
+pub data BeginsAs (loose include : Bool) (text rest : List ℕ) : Option (List Comparison) → Type 0 where
+  formed : (behind : List ℕ) (cs : List Comparison) (w : BeginsWord loose include text behind cs) → is_short loose w.partial ≡ true
+      → SkipsBlank behind rest → BeginsAs loose include text rest (Some cs)
+  ignored : (behind : List ℕ) → loose ≡ true → is_empty text ≡ false
+      → ((behind : List ℕ) → NoValue (BeginsWord loose include text behind)) → IsIgnored text behind → SkipsBlank behind rest
+      → BeginsAs loose include text rest None
+
+-- words with whitespace between them
 pub data AreWords (loose include : Bool) : List ℕ → List (Option (List Comparison)) → Type 0 where
   none : AreWords loose include [] []
-  word : (text behind rest : List ℕ) (cs : List Comparison) (read : List (Option (List Comparison)))
-      (w : BeginsWord loose include text behind cs) → is_short loose w.partial ≡ true → SkipsBlank behind rest
-      → AreWords loose include rest read → AreWords loose include text (Some cs ∷ read)
-  ignored : (text behind rest : List ℕ) (read : List (Option (List Comparison))) → loose ≡ true → is_empty text ≡ false
-      → ((behind : List ℕ) → NoValue (BeginsWord loose include text behind)) → IsIgnored text behind → SkipsBlank behind rest
-      → AreWords loose include rest read → AreWords loose include text (None ∷ read)
+  more : (text rest : List ℕ) (cs : Option (List Comparison)) (read : List (Option (List Comparison)))
+      → BeginsAs loose include text rest cs → AreWords loose include rest read → AreWords loose include text (cs ∷ read)
 
 -- all their comparators
 abbrev pub comparators_of : List (Option (List Comparison)) → List Comparison

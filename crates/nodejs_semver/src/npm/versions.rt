@@ -6,7 +6,7 @@ ghost use Rattle.nodejs_semver.specs.Words.{front_view, is_ascii_digit, is_liste
 ghost use Rattle.nodejs_semver.specs.Words.{list_all, pair_view, true};
 ghost use Rattle.nodejs_semver.specs.Internal.NpmReadings.{is_strict_identifier};
 ghost use Rattle.nodejs_semver.specs.Npm.Grammar.{is_strict_list};
-ghost use Rattle.nodejs_semver.specs.Npm.RangeText.{is_mark};
+ghost use Rattle.nodejs_semver.specs.Npm.Malformed.{is_mark};
 ghost use Rattle.nodejs_semver.specs.Npm.VersionText.{IsClean};
 ghost use Rattle.nodejs_semver.specs.Internal.NpmReadings as Spec;
 

@@ -171,7 +171,6 @@ pub(crate) fn word_front(loose: bool, text: &[u8]) -> Option<(Signed<'_>, &[u8])
 {
     let (sign, behind) = sign_front(text);
     let marks = marks_len(behind);
-    let (read, rest) = partial_front(loose, &behind[marks..])?;
-    let partial = read?;
+    let (partial, rest) = partial_front(loose, &behind[marks..])?;
     ended_word(loose, sign, behind, marks, partial, rest)
 }
