@@ -1,14 +1,14 @@
 -- The words whose comparators are valid, as the code reads them: those of the statement, where their comparators are valid.
 use Rattle.nodejs_semver.proofs.Common.{Bool, Front, IsUtf8, List, MAX_SAFE_INTEGER, None, Option, Some, Span, VersionValue, [], and_parts, ap}
 use Rattle.nodejs_semver.proofs.Common.{append-nil, append_assoc, arith, bind_some, cases_Bool, common_steps, cond_some, drop, drop_spaces, false, if◌then◌else◌, inl, inr, is_boundary}
-use Rattle.nodejs_semver.proofs.Common.{is_empty, length, list_all, list_all-append, nat_lt, nat_tests, not, prefix_len, refl, reverse, same_Some, subst, suc, sym, take, take-append-drop, take_rest}
+use Rattle.nodejs_semver.proofs.Common.{is_empty, length, list_all, list_all-append, nat_lt, nat_tests, not, prefix_len, refl, same_Some, subst, suc, sym, take, take-append-drop, take_rest}
 use Rattle.nodejs_semver.proofs.{Common.{true, zero, ℕ, ◌&&◌, ◌++◌, ◌-◌, ◌<◌, ◌==◌, ◌∙◌, ◌∷◌, ◌≡◌, ◌≤◌}, NpmCommon.{Alternative, Comparison, Counted, IsFound, IsNarrowed, IsPlaces}}
 use Rattle.nodejs_semver.proofs.NpmCommon.{IsStep, NarrowedBy, Signed, are_marks, are_normal, comparators_of, counted_front, counted_word, first_valid, first_word, ignored_or}
 use Rattle.nodejs_semver.proofs.NpmCommon.{is_lost, is_mark, is_none, is_short, is_short_word, is_small, is_valid, marked_word, marks_len, npm_sign, signed_word}
 use Rattle.nodejs_semver.proofs.NpmCommon.{valid_only, valid_words, words_of, words_of_all, words_within, ◌>>?◌}
 use Rattle.nodejs_semver.proofs.Strict.{PartialLaw.{front-text, places-found, prefix-all}, Printed.table-invalid, VersionLaw.empty-is, Words.{FirstAt, first-found, marks-dropped, words-enough}}
 use Rattle.nodejs_semver.specs.{Internal.NpmWords.{are_counted_marks, counted_or, signed_or, ended_counted_word, ended_word, places_front}, Npm.Table.{Partial, Sign, table}}
-use Rattle.std.specs.{List.suffix_len, Option.unwrap_or}
+use Rattle.std.specs.{List.suffix_len, Option.unwrap_or, Prelude.reverse}
 use Rattle.std.proofs.lemmas.{Grind.flat_map-append, List.reverse-append}
 
 pub counted_here : (loose : Bool) (text : List ℕ) (s : Sign × List ℕ) (at : ℕ) (o : Front (Option Partial)) → s ≡ npm_sign text → at ≡ marks_len s.1
@@ -218,12 +218,16 @@ first-kind loose include text w h = go (counted_word loose MAX_SAFE_INTEGER text
   where
     go : (o : Front Counted) → counted_or loose MAX_SAFE_INTEGER include text o ≡ Some w → is_none o ≡ is_none w.0
     go None k = grind (arith, k)
-    go (Some c) k = grind (arith, nat_tests, common_steps, k)
+    go (Some c) k =
+        let p = bind_some c.0.1 _ w k in
+        let cs = bind_some (valid_only MAX_SAFE_INTEGER (table include c.0.0 p.0 c.0.2)) (λ cs. Some (Some cs, drop_spaces c.1)) w p.2 in
+        ap (λ (r : Option (List Comparison) × List ℕ). is_none r.0) (same_Some _ _ cs.2)
 
 -- the first word is ignored where none is found
 pub first-none : (loose include : Bool) (text : List ℕ) (all : List (Option (List Comparison))) → IsUtf8 text → words_of loose include text ≡ Some all
     → nat_lt 0 (suffix_len is_none all) ≡ true → is_none (counted_word loose MAX_SAFE_INTEGER text) ≡ nat_lt 0 (prefix_len is_none all)
-first-none loose include [] all u h some = cc (some, ap (λ o. elim o [ None ↦ false | Some l ↦ nat_lt 0 (suffix_len is_none l) ]) (sym (words-nil loose include) ∙ h))
+first-none loose include [] all u h some =
+    cc (some, ap (λ (l : List (Option (List Comparison))). nat_lt 0 (suffix_len is_none l)) (same_Some _ _ (sym (words-nil loose include) ∙ h)))
 first-none loose include (b ∷ text) all u h some =
     let t = b ∷ text in
     let w = bind_some (first_valid loose MAX_SAFE_INTEGER include t) _ all (sym (words-on loose include t u (omega arith)) ∙ h) in
