@@ -3,6 +3,7 @@ pub mod PartialLaw
 pub mod Signs
 pub mod Malformed
 pub mod AlternativeLaw
+pub mod Hyphens
 pub mod Printed
 pub mod Rows
 pub mod Words

@@ -204,7 +204,7 @@ third-read loose zeros fits z pre build more None l m (Text.any b w) h k e = wil
 third-read loose zeros fits z pre build more (Some n) l m i h k e =
     patch-read loose zeros z (pre ++ (build ++ more)) (Some n) i (pre-follows loose fits pre build more l m h k e)
 
-places-read : (loose : Bool) (x more : List ℕ) (p : Partial) → IsPlaces loose x p → begins is_solid more ≡ false
+pub places-read : (loose : Bool) (x more : List ℕ) (p : Partial) → IsPlaces loose x p → begins is_solid more ≡ false
     → places_front loose (x ++ more) ≡ Some (p, more)
 unfolding places_front dotted_patch
 places-read loose x more p (one x1 a h) quiet = rw (place-read loose false x more a h (quiet-digit more quiet), quiet-dot loose (has_zeros a) more quiet) refl
