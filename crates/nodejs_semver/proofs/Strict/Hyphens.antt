@@ -15,7 +15,13 @@ use Rattle.nodejs_semver.proofs.Strict.VersionLaw.{empty-is}
 use Rattle.nodejs_semver.specs.Internal.{NpmWords.{after_dash, end_len, places_front}, Words.after_some_space}
 use Rattle.nodejs_semver.specs.{Npm.{Grammar.IsPreRelease, Table.Partial}, Text.WordText.SkipsBlank}
 use Rattle.semver_core.{proofs.Text.SpaceLaw.space_len-dark, specs.{Printing.RoundTrip.is_normal, Text.Characters.BeginsBlank}}
+use Rattle.std.proofs.lemmas.{List.{Sums.{list_all-from_AllPass, prefix_len_passes, suffix_len-le-length}, get_or-drop, get_or-reverse}}
 use Rattle.std.proofs.lemmas.Str.{IsUtf8-past_char, encode_same}
+use Rattle.std.specs.{List.suffix_len, Prelude.reverse}
+use Rattle.nodejs_semver.proofs.Common.{Front, VersionValue, append-nil, get_or, if◌then◌else◌}
+use Rattle.nodejs_semver.proofs.NpmCommon.{CountedEnd, are_whole_marks, counted_as, counted_end, counted_hyphen, is_right, is_right_end, is_short}
+use Rattle.nodejs_semver.proofs.NpmCommon.{is_short_word, is_small, marks_len}
+use Rattle.nodejs_semver.specs.{Internal.NpmParts.some_normal, Npm.RangeText.is_free}
 
 -- ---- marks and whitespace at the front
 
@@ -215,6 +221,104 @@ hyphen-found loose text e u h =
       },
       sym (same_Some (a.0.0, b.0) e b.2) ∙ ap₂ (λ (x y : Ended). (x, y)) lower.1 (sym ended.1 ∙ upper.1),
     )
+
+-- ---- the marks behind the last whitespace
+
+last-marks : (marks : List ℕ) → list_all is_mark (last_marks marks) ≡ true
+last-marks marks = list_all-from_AllPass is_mark (last_marks marks) go
+  where
+    size : ℕ
+    size = length marks
+
+    start : ℕ
+    start = size - suffix_len is_mark marks
+
+    go : (k d : ℕ) → k < length (drop start marks) → is_mark (get_or (drop start marks) k d) ≡ true
+    go k d l =
+        let at : size - 1 - (size - 1 - (start + k)) ≡ start + k = omega (arith, length-drop start marks) in
+        ap is_mark (get_or-drop start marks k d ∙ ap (λ (i : ℕ). get_or marks i d) (sym at)
+        ∙ sym (get_or-reverse marks (size - 1 - (start + k)) d (omega (arith, length-drop start marks))))
+        ∙ prefix_len_passes is_mark (reverse marks) (size - 1 - (start + k)) d (omega (arith, length-drop start marks, suffix_len-le-length is_mark marks))
+
+marks-counted : (marks u : List ℕ) → list_all is_mark marks ≡ true → begins_component u ≡ true → marks_len (marks ++ u) ≡ length marks
+marks-counted [] u h k = grind (arith, nat_tests)
+marks-counted (b ∷ marks) u h k = grind (arith, nat_tests, common_steps, and_parts, marks-counted marks u)
+
+short-places : (loose : Bool) (marks x : List ℕ) (p : Partial) → IsPlaces loose x p → is_short_word loose (last_marks marks ++ x) ≡ is_short loose x
+short-places loose marks x p h =
+    let begin : begins_component x ≡ true = rw append-nil at (places-begin loose x [] p h) in
+    let passed = drop_at (last_marks marks) x _ (sym (marks-counted (last_marks marks) x (last-marks marks) begin)) in
+    ap (is_short loose) passed
+
+-- ---- which ends are right
+
+-- the ends that are right are those of the statement
+pub right-end : (loose : Bool) (changes : VersionValue → Bool) (text rest : List ℕ) (h : IsEnd loose text rest)
+    → is_right loose (is_free changes) (ended_of loose text rest h) ≡ is_right_end loose changes h.partial h.marks h.places
+right-end loose changes text rest h =
+    ap (λ (short : Bool). short && (loose || (is_free changes h.partial || are_whole_marks h.marks))) (short-places loose h.marks h.places h.partial h.is)
+
+-- ---- partials that are left out
+
+-- the partial is left out where its numbers that count are past the limit, or where it is too long
+abbrev pub counted_of : Bool → ℕ → Ended → CountedEnd
+counted_of loose limit e = (e.0, (if is_small limit e.1 && is_short_word loose e.2 then Some e.1 else None), e.2)
+
+end-counted : (loose : Bool) (limit : ℕ) (text : List ℕ) → counted_end loose limit text ≡ (end_front loose text >>? λ e. Some (counted_of loose limit e.0, e.1))
+unfolding counted_end end_front
+end-counted loose limit text = go (places_front loose (drop_ends text)) refl
+  where
+    behind : List ℕ
+    behind = drop_ends text
+
+    front : List ℕ
+    front = take (length text - length behind) text
+
+    go : (o : Front Partial) → places_front loose behind ≡ o
+        → ((o >>? λ p. Some (if is_small limit p.0 && is_short loose (take (length behind - length p.1) behind) then Some p.0 else None, p.1))
+        >>? λ p. Some (counted_as text behind p)) ≡ ((o >>? λ p. Some (ended_as text behind p)) >>? λ e. Some (counted_of loose limit e.0, e.1))
+    go None e = refl
+    go (Some p) e =
+        let f = places-found loose behind p.0 p.1 e in
+        let piece : take (length behind - length p.1) behind ≡ f.piece =
+        ap (λ (t : List ℕ). take (length t - length p.1) t) f.split ∙ front-text f.piece p.1 in
+        let short : is_short_word loose (last_marks front ++ take (length behind - length p.1) behind)
+        ≡ is_short loose (take (length behind - length p.1) behind) = rw piece (short-places loose front f.piece p.0 f.is) in
+        rw short refl
+
+pub hyphen-counted : (loose : Bool) (limit : ℕ) (text : List ℕ)
+    → counted_hyphen loose limit text ≡ (hyphen_ends loose text >>? λ e. Some (counted_of loose limit e.0, counted_of loose limit e.1))
+unfolding hyphen_ends
+hyphen-counted loose limit text = grind (arith, nat_tests, common_steps, end-counted)
+
+-- the identifiers of the others are in normal form
+pre-normal : (loose wild : Bool) (fits : List ℕ → Bool) (text : List ℕ) (ids : List Id) → IsPreRelease loose wild fits text ids → list_all is_normal ids ≡ true
+pre-normal loose wild fits text ids h = grind (arith, nat_tests, common_steps, identifiers-normal)
+
+build-normal : (text : List ℕ) (ids : List Id) → IsStrictBuild text ids → list_all is_normal ids ≡ true
+build-normal text ids no_build = refl
+build-normal text ids (plus t list h) = identifiers-normal t list h
+
+pub places-normal : (loose : Bool) (text : List ℕ) (p : Partial) → IsPlaces loose text p → are_normal p ≡ true
+places-normal loose text p h = grind (arith, nat_tests, common_steps, pre-normal, build-normal)
+
+counted-normal : (loose : Bool) (limit : ℕ) (text : List ℕ) (e : Ended) (rest : List ℕ) → end_front loose text ≡ Some (e, rest)
+    → some_normal (counted_of loose limit e).1 ≡ true
+unfolding end_front
+counted-normal loose limit text e rest h =
+    let p = bind_some (places_front loose (drop_ends text)) (λ p. Some (ended_as text (drop_ends text) p)) (e, rest) h in
+    let f = places-found loose (drop_ends text) p.0.0 p.0.1 p.1 in
+    let same : p.0.0 ≡ e.1 = ap (λ (x : Ended × List ℕ). x.0.1) (same_Some _ _ p.2) in
+    kept (is_small limit e.1 && is_short_word loose e.2) e.1 (rw same at (places-normal loose f.piece p.0.0 f.is))
+  where
+    kept : (b : Bool) (p : Partial) → are_normal p ≡ true → some_normal (if b then Some p else None) ≡ true
+    kept true p h = h
+    kept false p h = refl
+
+pub hyphen-normal : (loose : Bool) (limit : ℕ) (text : List ℕ) (e : CountedEnd × CountedEnd) → counted_hyphen loose limit text ≡ Some e
+    → (some_normal e.0.1 ≡ true) × (some_normal e.1.1 ≡ true)
+unfolding hyphen_ends
+hyphen-normal loose limit text e h = grind (arith, nat_tests, common_steps, hyphen-counted, counted-normal)
 
 -- ---- marks
 
