@@ -15,7 +15,7 @@ use Rattle.nodejs_semver.proofs.Strict.VersionLaw.{empty-is}
 use Rattle.nodejs_semver.specs.Internal.{NpmWords.{after_dash, end_len, places_front}, Words.after_some_space}
 use Rattle.nodejs_semver.specs.{Npm.{Grammar.IsPreRelease, Table.Partial}, Text.WordText.SkipsBlank}
 use Rattle.semver_core.{proofs.Text.SpaceLaw.space_len-dark, specs.{Printing.RoundTrip.is_normal, Text.Characters.BeginsBlank}}
-use Rattle.std.proofs.lemmas.{List.{Sums.{list_all-from_AllPass, prefix_len_passes, suffix_len-le-length}, get_or-drop, get_or-reverse}}
+use Rattle.std.proofs.lemmas.{List.{Sums.{list_all-from_AllPass, prefix_len_passes, suffix_len-le-length, suffix_len_is}, get_or-drop, get_or-reverse}}
 use Rattle.std.proofs.lemmas.Str.{IsUtf8-past_char, encode_same}
 use Rattle.std.specs.{List.suffix_len, Prelude.reverse}
 use Rattle.nodejs_semver.proofs.Common.{Front, VersionValue, append-nil, get_or, if◌then◌else◌}
@@ -328,3 +328,11 @@ ends_stop text h = grind (arith, nat_tests, common_steps)
 
 pub ends_step : (text : List ℕ) (len : ℕ) → len ≡ end_len text → 0 < len → drop_ends (drop len text) ≡ drop_ends text
 ends_step text len e some = grind (arith, nat_tests, common_steps, ends-mark, ends-more)
+
+-- where the marks begin that are behind the last whitespace
+pub marks-begin : (marks : List ℕ) (start : ℕ) → start ≤ length marks
+    → ((k : ℕ) → start ≤ k → k < length marks → is_mark (get_or marks k 0) ≡ true)
+    → (0 < start → is_mark (get_or marks (start - 1) 0) ≡ false) → drop start marks ≡ last_marks marks
+marks-begin marks start fits each none =
+    let at : start ≡ length marks - suffix_len is_mark marks = omega (arith, suffix_len_is is_mark marks start 0 fits each none) in
+    ap (λ (n : ℕ). drop n marks) at

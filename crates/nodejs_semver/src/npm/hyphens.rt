@@ -77,7 +77,6 @@ fn are_marks(text: &[u8]) -> bool
 }
 
 // The marks behind the last whitespace.
-#[tactic(auto, using(crate::proofs::Strict::Hyphens::marks_end))]
 fn last_marks(marks: &[u8]) -> &[u8]
     ensures value { result.now ≡ Text.last_marks marks.now }
     ensures fits { length result.now ≤ length marks.now }
