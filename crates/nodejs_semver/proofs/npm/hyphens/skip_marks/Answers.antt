@@ -1,4 +1,4 @@
-use Rattle.nodejs_semver.proofs.{Common.{arith, sym, take_rest, ◌∙◌}, Strict.Hyphens.{ends_step, ends_stop}}
+use Rattle.nodejs_semver.proofs.{Common.{arith, common_steps, nat_tests, sym, take_rest, ◌∙◌}, Strict.Hyphens.{ends_step, ends_stop}}
 use Rattle.nodejs_semver.proofs.npm.hyphens.skip_marks.Goals as goal
 
 pub returns-then-len-eq0-clause-value : goal.returns-then-len-eq0-clause-value
@@ -8,4 +8,5 @@ pub marks-preserved : goal.marks-preserved
 marks-preserved c = record {
   same = grind (arith, take_rest, ends_step);
   fits = grind (arith, take_rest);
+  ends = grind (arith, nat_tests, common_steps, take_rest);
 }
