@@ -2,6 +2,7 @@ pub mod VersionLaw
 pub mod PartialLaw
 pub mod Signs
 pub mod Malformed
+pub mod Ignored
 pub mod AlternativeLaw
 pub mod Hyphens
 pub mod Printed

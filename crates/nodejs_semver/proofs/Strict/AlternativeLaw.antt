@@ -22,19 +22,16 @@ use Rattle.nodejs_semver.proofs.{NpmCommon.{wildcard, word, ◌>>?◌}, Reading.
 use Rattle.nodejs_semver.proofs.Reading.{PartialLaw.front-dark, Steps.option-cases, WordLaw.{byte-is, tail-utf8, trim-utf8}}
 use Rattle.nodejs_semver.proofs.Strict.Malformed.{blank-dark, blank-signal, boundary-dark, is_dark, is_part, is_signal, malformed-all}
 use Rattle.nodejs_semver.proofs.Strict.{Malformed.{malformed-more, part-visible, partial-part, sign-signal}, PartialLaw.boundary-quiet}
-use Rattle.nodejs_semver.proofs.Strict.{PartialLaw.{counted_limited, partial-found, partial-read, prefix-all}, Signs.blank-at}
+use Rattle.nodejs_semver.proofs.Strict.{PartialLaw.{counted_limited, held, partial-found, partial-read, prefix-all}, Signs.blank-at}
 use Rattle.nodejs_semver.proofs.Strict.{Signs.{blank-skipped, marks-all}, VersionLaw.{empty-is, strict-read-version}, Words.blank-boundary}
 use Rattle.nodejs_semver.proofs.Strict.Words.{blank-some, blank-space, not-empty, partial-begins, rest-utf8, space-boundary}
 use Rattle.nodejs_semver.{proofs.Strict.Words.{words-found, words-read, words-visible}, specs.Internal.NpmWords.{after_dash, end_len}}
 use Rattle.nodejs_semver.specs.Internal.{NpmWords.{last_limited, npm_alternatives, partial_front, words_within}, Words.after_some_space}
 use Rattle.nodejs_semver.specs.Npm.{Grammar.IsPreRelease, RangeText.{hyphen, more, next, nothing, words}, Table.{Partial, Sign}}
 use Rattle.{semver_core.proofs.Text.SpaceLaw.space_len-dark, std.proofs.lemmas.Str.{IsUtf8-past_char, encode_same}}
-use Rattle.nodejs_semver.specs.Internal.NpmWords.{counted_places}
-use Rattle.nodejs_semver.specs.Internal.NpmWords.{short_only}
 use Rattle.nodejs_semver.specs.Internal.NpmWords.{places_front}
 use Rattle.nodejs_semver.proofs.Strict.PartialLaw.{front-text}
 use Rattle.nodejs_semver.proofs.Strict.PartialLaw.{places-found}
-use Rattle.nodejs_semver.proofs.Strict.PartialLaw.{places-limited}
 use Rattle.nodejs_semver.specs.declared.npm.words.Signed as Runtime
 
 -- ---- marks and whitespace at the front
@@ -249,33 +246,21 @@ word-limited loose limit s None = refl
 word-limited loose limit s (Some p) = grind (arith, nat_tests, common_steps)
 
 -- the word of a sign and of the partial that was read behind the marks
-pub word_here : (loose : Bool) (text : List ℕ) (s : Sign × List ℕ) (at : ℕ) (o : Front Partial) → s ≡ npm_sign text → at ≡ marks_len s.1
-    → o ≡ counted_front loose MAX_SAFE_INTEGER (take (length s.1 - at) (drop at s.1)) → marked_word loose s o ≡ limited_word MAX_SAFE_INTEGER (signed_word loose text)
+pub word_here : (loose : Bool) (text : List ℕ) (s : Sign × List ℕ) (at : ℕ) (o : Front (Option Partial)) → s ≡ npm_sign text → at ≡ marks_len s.1
+    → o ≡ counted_front loose MAX_SAFE_INTEGER (take (length s.1 - at) (drop at s.1))
+    → marked_word loose s (held o) ≡ limited_word MAX_SAFE_INTEGER (signed_word loose text)
 unfolding signed_word
 word_here loose text s at o e is read = grind (arith, nat_tests, common_steps, take_rest, counted_limited, word-limited)
 
 -- what stands behind a partial is no longer than the text
-pub places-le : (loose : Bool) (limit : ℕ) (text : List ℕ) (p : Partial) (rest : List ℕ) → Some (p, rest) ≡ counted_places loose limit text
+pub partial-le : (loose : Bool) (limit : ℕ) (text : List ℕ) (p : Option Partial) (rest : List ℕ) → Some (p, rest) ≡ counted_front loose limit text
     → length rest ≤ length text
-places-le loose limit text p rest h = go (places_front loose text) refl (h ∙ places-limited loose limit text)
-  where
-    go : (o : Front Partial) → places_front loose text ≡ o → Some (p, rest) ≡ limited limit o → length rest ≤ length text
-    go None e k = cc k
-    go (Some q) e k =
-        let same = cond_some (is_small limit q.0) q (p, rest) (sym k) in
-        let at_partial = places-found loose text q.0 q.1 e in
-        omega (arith, ap length at_partial.split, length-append at_partial.piece q.1, ap (λ (x : Partial × List ℕ). length x.1) same.1)
+partial-le loose limit text p rest h =
+    let q = bind_some (places_front loose text) _ (p, rest) (sym h) in
+    let f = places-found loose text q.0.0 q.0.1 q.1 in
+    omega (arith, ap length f.split, length-append f.piece q.0.1, ap (λ (x : Option Partial × List ℕ). length x.1) (same_Some _ _ q.2))
 
-pub partial-le : (loose : Bool) (limit : ℕ) (text : List ℕ) (p : Partial) (rest : List ℕ) → Some (p, rest) ≡ counted_front loose limit text → length rest ≤ length text
-partial-le loose limit text p rest h = go (counted_places loose limit text) refl h
-  where
-    go : (o : Front Partial) → counted_places loose limit text ≡ o → Some (p, rest) ≡ short_only loose text o → length rest ≤ length text
-    go None e k = cc k
-    go (Some q) e k =
-        let same = cond_some (is_short loose (take (length text - length q.1) text)) q (p, rest) (sym k) in
-        places-le loose limit text p rest (sym (e ∙ ap (λ (x : Partial × List ℕ). Some x) same.1))
-
-pub behind-le : (loose : Bool) (limit : ℕ) (text : List ℕ) (at : ℕ) (p : Partial) (rest : List ℕ)
+pub behind-le : (loose : Bool) (limit : ℕ) (text : List ℕ) (at : ℕ) (p : Option Partial) (rest : List ℕ)
     → Some (p, rest) ≡ counted_front loose limit (take (length text - at) (drop at text)) → length rest ≤ length text
 behind-le loose limit text at p rest h = grind (arith, nat_tests, common_steps, partial-le, take_rest, length-drop)
 
@@ -397,9 +382,9 @@ end-limited : (loose : Bool) (limit : ℕ) (free : Partial → Bool) (text behin
 end-limited loose limit free text behind None = refl
 end-limited loose limit free text behind (Some p) = grind (arith)
 
-pub end_here : (loose : Bool) (free : Partial → Bool) (text behind : List ℕ) (o : Front Partial) → behind ≡ drop_ends text
+pub end_here : (loose : Bool) (free : Partial → Bool) (text behind : List ℕ) (o : Front (Option Partial)) → behind ≡ drop_ends text
     → o ≡ counted_front loose MAX_SAFE_INTEGER behind
-    → (o >>? λ p. ended_end loose free text behind p) ≡ limited_end MAX_SAFE_INTEGER (end_front loose free text)
+    → (held o >>? λ p. ended_end loose free text behind p) ≡ limited_end MAX_SAFE_INTEGER (end_front loose free text)
 unfolding end_front
 end_here loose free text behind o e read = grind (arith, nat_tests, common_steps, counted_limited, end-limited)
 

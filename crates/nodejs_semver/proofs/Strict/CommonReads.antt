@@ -13,14 +13,16 @@ use Rattle.nodejs_semver.proofs.NpmCommon.{IsNarrowed, IsPartial, IsPlaces, IsRa
 use Rattle.nodejs_semver.proofs.NpmCommon.{compared, counted_front, dotted_patch, dotted_place, is_valid, listed, lit<, no_sign}
 use Rattle.nodejs_semver.proofs.{NpmCommon.{patch_place, spelling, strict_number, within}, Reading.Bytes.{all-end, all-join}}
 use Rattle.nodejs_semver.proofs.Strict.{AlternativeLaw.{partial-le, partial-normal}, Malformed.{is_part, partial-part}}
-use Rattle.nodejs_semver.proofs.Strict.PartialLaw.{PartialAt, counted_limited, number_placed, over_counted, partial-found, wildcard_placed}
+use Rattle.nodejs_semver.proofs.Strict.PartialLaw.{PartialAt, counted-some, strict-counted, number_placed, over_counted, partial-found, wildcard_placed}
 use Rattle.nodejs_semver.{proofs.Strict.{RangeReads.{found_spans, ranged_range}, Rows.both_common}, specs.Internal.CommonFronts.after_bars}
 use Rattle.nodejs_semver.specs.Internal.{NpmAlternatives.ranged, NpmFronts.{AreIn, AreJoined, AreParts, IsLeft, IsPartAt, IsSignAt}}
 use Rattle.nodejs_semver.specs.Internal.{NpmFronts.{IsTried, IsWordAt, is_word_byte}, NpmReadings.dotted_number, NpmReads.AreFound}
 use Rattle.nodejs_semver.specs.{Internal.NpmWords.{any, is_over, number, place_zeros, placed}, Npm.Table.{Partial, Sign, first, major}}
 use Rattle.nodejs_semver.specs.{Npm.Table.{minor, table, whole, wildcard}, Text.{Common.IsGap, WordText.equal}}
 use Rattle.{nodejs_semver.specs.declared.readers.syntax.Bounds.Bounds, std.proofs.Math.Seq.take-append_seam}
-use Rattle.nodejs_semver.specs.Internal.NpmFronts as Front
+use Rattle.nodejs_semver.proofs.{Common.Front, NpmCommon.{is_small, limited}}
+use Rattle.nodejs_semver.specs.Internal.NpmWords.{partial_front}
+use Rattle.nodejs_semver.specs.Internal.NpmFronts as Fronts
 use Rattle.nodejs_semver.specs.Npm.RangeText as Npm
 
 -- ---- a word
@@ -35,9 +37,9 @@ piece-some : (x : List ℕ) (p : Partial) → IsPlaces false x p → 0 < length 
 piece-some x p h = grind (arith)
 
 -- the partial that is read at the front
-piece-at : (text : List ℕ) (p : Partial) (rest : List ℕ) → Some (p, rest) ≡ counted_front false MAX_SAFE_INTEGER text → PartialAt false text p rest
+piece-at : (text : List ℕ) (p : Partial) (rest : List ℕ) → Some (Some p, rest) ≡ counted_front false MAX_SAFE_INTEGER text → PartialAt false text p rest
 piece-at text p rest h =
-    grind (arith, nat_tests, common_steps, counted_limited, cond_some, partial-found)
+    grind (arith, nat_tests, common_steps, counted-some, cond_some, partial-found)
 
 -- the text of that partial, as it is cut out
 piece-cut : (text : List ℕ) (p : Partial) (rest : List ℕ) (f : PartialAt false text p rest) → take (length text - length rest) text ≡ f.piece
@@ -46,7 +48,7 @@ piece-cut text p rest f =
     rw (some, f.split) (take-append_seam f.piece rest)
 
 pub word-found : (include : Bool) (text behind rest : List ℕ) (s : Sign) (p : Partial) (span : Span VersionValue) → IsSignAt text s behind
-    → Some (p, rest) ≡ counted_front false MAX_SAFE_INTEGER behind
+    → Some (Some p, rest) ≡ counted_front false MAX_SAFE_INTEGER behind
     → AreIn include (table include s p (take (length behind - length rest) behind)) span → IsWordAt include text span rest
 word-found include text behind rest s p span sign read are =
     let f = piece-at behind p rest read in
@@ -72,16 +74,23 @@ word-found include text behind rest s p span sign read are =
       }
     ]
 
-pub word-shorter : (text : List ℕ) (p : Partial) (rest : List ℕ) → Some (p, rest) ≡ counted_front false MAX_SAFE_INTEGER text
+pub word-shorter : (text : List ℕ) (p : Partial) (rest : List ℕ) → Some (Some p, rest) ≡ counted_front false MAX_SAFE_INTEGER text
     → length rest ≤ length text
-word-shorter text p rest h = partial-le false MAX_SAFE_INTEGER text p rest h
+word-shorter text p rest h = partial-le false MAX_SAFE_INTEGER text (Some p) rest h
 
-pub word-normal : (text : List ℕ) (p : Partial) (rest : List ℕ) → Some (p, rest) ≡ counted_front false MAX_SAFE_INTEGER text → are_normal p ≡ true
+pub word-normal : (text : List ℕ) (p : Partial) (rest : List ℕ) → Some (Some p, rest) ≡ counted_front false MAX_SAFE_INTEGER text → are_normal p ≡ true
 word-normal text p rest h = let f = piece-at text p rest h in partial-normal false f.piece p f.is
 
-pub word-within : (text : List ℕ) (p : Partial) (rest : List ℕ) → Some (p, rest) ≡ counted_front false MAX_SAFE_INTEGER text → within (first p) ≡ true
+pub word-within : (text : List ℕ) (p : Partial) (rest : List ℕ) → Some (Some p, rest) ≡ counted_front false MAX_SAFE_INTEGER text → within (first p) ≡ true
 word-within text p rest h =
-    grind (arith, nat_tests, common_steps, counted_limited, cond_some)
+    small-within p (limited-small MAX_SAFE_INTEGER (partial_front false text) p rest (counted-some false MAX_SAFE_INTEGER text p rest h))
+  where
+    limited-small : (limit : ℕ) (o : Front Partial) (p : Partial) (rest : List ℕ) → Some (p, rest) ≡ limited limit o → is_small limit p ≡ true
+    limited-small limit None p rest h = cc h
+    limited-small limit (Some q) p rest h = grind (arith, nat_tests, common_steps, cond_some)
+
+    small-within : (p : Partial) → is_small MAX_SAFE_INTEGER p ≡ true → within (first p) ≡ true
+    small-within p h = grind (arith, nat_tests, common_steps)
 
 pub ruleset words_found = (word-normal, word-shorter, word-within)
 
@@ -110,45 +119,45 @@ number_place zeros text n rest h =
     grind (arith, nat_tests, common_steps, after_byte, number_placed)
 
 pub short-any : (text end : List ℕ) → begins_wildcard text ≡ true → end ≡ drop 1 text → is_over end ≡ true
-    → Some (wildcard, end) ≡ counted_front false MAX_SAFE_INTEGER text
-short-any text end h e over = rw (wildcard_placed false false text h, sym e, (no_place true end over).0) refl
+    → Some (Some wildcard, end) ≡ counted_front false MAX_SAFE_INTEGER text
+short-any text end h e over = strict-counted MAX_SAFE_INTEGER text _ (rw (wildcard_placed false false text h, sym e, (no_place true end over).0) refl)
 
 pub short-one : (text : List ℕ) (a : ℕ) (one end : List ℕ) → Some (a, one) ≡ strict_number MAX_SAFE_INTEGER text → IsLeft one end
-    → Some (major a, end) ≡ counted_front false MAX_SAFE_INTEGER text
+    → Some (Some (major a), end) ≡ counted_front false MAX_SAFE_INTEGER text
 short-one text a one end h (over, inl e) =
-    rw (number_placed false false text a one (sym h), e, (no_place (place_zeros (number a)) end over).0) refl
+    strict-counted MAX_SAFE_INTEGER text _ (rw (number_placed false false text a one (sym h), e, (no_place (place_zeros (number a)) end over).0) refl)
 short-one text a one end h (over, inr (b, e, w)) =
-    rw (number_placed false false text a one (sym h), e, (wild_place (place_zeros (number a)) b end w).0, (no_place (place_zeros (number a)) end over).1) refl
+    strict-counted MAX_SAFE_INTEGER text _ (rw (number_placed false false text a one (sym h), e, (wild_place (place_zeros (number a)) b end w).0, (no_place (place_zeros (number a)) end over).1) refl)
 
 pub short-two : (text : List ℕ) (a b : ℕ) (one two end : List ℕ) → Some (a, one) ≡ strict_number MAX_SAFE_INTEGER text
-    → Some (b, two) ≡ dotted_number MAX_SAFE_INTEGER one → IsLeft two end → Some (minor a b, end) ≡ counted_front false MAX_SAFE_INTEGER text
+    → Some (b, two) ≡ dotted_number MAX_SAFE_INTEGER one → IsLeft two end → Some (Some (minor a b), end) ≡ counted_front false MAX_SAFE_INTEGER text
 short-two text a b one two end h k (over, inl e) =
-    rw (
+    strict-counted MAX_SAFE_INTEGER text _ (rw (
       number_placed false false text a one (sym h),
       (number_place (place_zeros (number a)) one b two k).0,
       e,
       (no_place (place_zeros (number a)) end over).1,
-    ) refl
+    ) refl)
 short-two text a b one two end h k (over, inr (c, e, w)) =
-    rw (
+    strict-counted MAX_SAFE_INTEGER text _ (rw (
       number_placed false false text a one (sym h),
       (number_place (place_zeros (number a)) one b two k).0,
       e,
       (wild_place (place_zeros (number a)) c end w).1,
       over_counted false (number a) (number b) any end over,
-    ) refl
+    ) refl)
 
 pub short-three : (text : List ℕ) (a b c : ℕ) (one two end : List ℕ) → Some (a, one) ≡ strict_number MAX_SAFE_INTEGER text
     → Some (b, two) ≡ dotted_number MAX_SAFE_INTEGER one → Some (c, end) ≡ dotted_number MAX_SAFE_INTEGER two → is_over end ≡ true
-    → Some (whole (release_value a b c), end) ≡ counted_front false MAX_SAFE_INTEGER text
+    → Some (Some (whole (release_value a b c)), end) ≡ counted_front false MAX_SAFE_INTEGER text
 unfolding listed
 short-three text a b c one two end h k l over =
-    rw (
+    strict-counted MAX_SAFE_INTEGER text _ (rw (
       number_placed false false text a one (sym h),
       (number_place (place_zeros (number a)) one b two k).0,
       (number_place (place_zeros (number a)) two c end l).1,
       over_counted false (number a) (number b) (number c) end over,
-    ) refl
+    ) refl)
 
 pub ruleset short_fronts = (short-one, short-two, short-three)
 
@@ -207,7 +216,7 @@ part-of_two include text rest behind last s t v e w open_above open_below =
     }
 
 pub word-read : (include : Bool) (text behind rest : List ℕ) (s : Sign) (p : Partial) (o : Option Bounds) → IsSignAt text s behind
-    → Some (p, rest) ≡ counted_front false MAX_SAFE_INTEGER behind
+    → Some (Some p, rest) ≡ counted_front false MAX_SAFE_INTEGER behind
     → AreRead include (table include s p (take (length behind - length rest) behind)) o → IfSome o (λ b. IsPartAt include text (bounds_view b) rest)
 word-read include text behind rest s p None sign read are = tt
 word-read include text behind rest s p (Some b) sign read are =
@@ -232,7 +241,7 @@ pub loop-ends : (include : Bool) (text : List ℕ) (found new : List (Span Versi
     → Reaches include text found rest → IsTried include rest (Some behind) found new → length behind ≡ 0 → AreParts include text new
 loop-ends include text found new rest behind r (s, p, e) none =
     let h : IsPartAt include rest s [] = subst (λ (t : List ℕ). IsPartAt include rest s t) (no-text behind none) p in
-    rw e (r.read (option_to_list (interval precedence s)) (Front.one rest s h))
+    rw e (r.read (option_to_list (interval precedence s)) (Fronts.one rest s h))
   where
     no-text : (t : List ℕ) → length t ≡ 0 → t ≡ []
     no-text [] h = refl
@@ -263,7 +272,7 @@ loop-goes include text found new rest behind next r (s, p, e) bars =
     let there = bars-there include rest behind next s p bars in
     let o = option_to_list (interval precedence s) in (
       record {
-        read = λ ss h. rw (e, append_assoc found o ss) (r.read (o ++ ss) (Front.more rest behind next s ss p bars h));
+        read = λ ss h. rw (e, append_assoc found o ss) (r.read (o ++ ss) (Fronts.more rest behind next s ss p bars h));
         some = inr (r.within there.0);
         within = λ h. r.within there.0;
       },
@@ -293,7 +302,7 @@ compact-of include text rest s p = record { front = p.front; each = p.each; end 
 
 all-at : (include : Bool) (text gap : List ℕ) (ss : List (Span VersionValue)) → IsGap gap → AreParts include text ss
     → AllByRecursion IsUtf8 (cut_bars false (gap ++ text)) → AllAt include (cut_bars false (gap ++ text)) ss
-all-at include text gap ss g (Front.one t s p) u =
+all-at include text gap ss g (Fronts.one t s p) u =
     let c = compact-of include t [] s p in
     let whole : t ≡ p.part = p.split ∙ append-nil p.part in
     let same : trim (gap ++ p.part) ≡ p.part = rw append-nil at (compact-trim gap p.part [] g (inl refl) c) in
@@ -312,7 +321,7 @@ all-at include text gap ss g (Front.one t s p) u =
         are = sym (append-nil (option_to_list (interval precedence s)));
       };
     }
-all-at include text gap ss g (Front.more t behind next s more p bars h) u =
+all-at include text gap ss g (Fronts.more t behind next s more p bars h) u =
     let c = compact-of include t behind s p in
     let b = bars-sound behind next bars in
     let piece = gap ++ (p.part ++ b.before) in

@@ -22,8 +22,8 @@ use Rattle.nodejs_semver.specs.Internal.NpmWords.{places_front}
 use Rattle.nodejs_semver.specs.Internal.NpmWords.{is_any}
 use Rattle.nodejs_semver.proofs.Common.{length-append}
 use Rattle.nodejs_semver.specs.Internal.NpmWords.{counted_places}
-use Rattle.nodejs_semver.proofs.Common.{cond_some}
-use Rattle.nodejs_semver.proofs.NpmCommon.{is_short}
+use Rattle.nodejs_semver.proofs.Common.{cond_some, if◌then◌else◌}
+use Rattle.nodejs_semver.proofs.NpmCommon.{is_short, is_small}
 use Rattle.nodejs_semver.specs.Npm.RangeText as Text
 
 pub ruleset prefix_steps = (prefix_len-drop_all, prefix_len-drop_no, prefix_len-drop_yes)
@@ -455,24 +455,39 @@ patch_cut loose zeros text at own o e h less is = grind (arith, nat_tests, commo
 any-placed : (limit : ℕ) (c : Option ℕ) → is_any (place_of limit c) ≡ is_none c
 any-placed limit c = grind (arith, nat_tests, common_steps)
 
+-- what was found, with the partial only where its numbers that count are up to the limit
+abbrev small_only : ℕ → Front Partial → Front (Option Partial)
+small_only limit o = o >>? λ p. Some (if is_small limit p.0 then Some p.0 else None, p.1)
+
 qualified-limited : (loose : Bool) (limit : ℕ) (a b c : Option ℕ) (text : List ℕ)
-    → qualified_counted loose (place_of limit a) (place_of limit b) (place_of limit c) text ≡ limited limit (qualified_partial loose a b c text)
+    → qualified_counted loose (place_of limit a) (place_of limit b) (place_of limit c) text ≡ small_only limit (qualified_partial loose a b c text)
 unfolding qualified_counted qualified_partial
 qualified-limited loose limit a b c text = rw (any-placed limit c) grind (arith, nat_tests, common_steps)
 
-pub places-limited : (loose : Bool) (limit : ℕ) (text : List ℕ) → counted_places loose limit text ≡ limited limit (places_front loose text)
+places-limited : (loose : Bool) (limit : ℕ) (text : List ℕ) → counted_places loose limit text ≡ small_only limit (places_front loose text)
 unfolding places_front
 places-limited loose limit text = grind (arith, nat_tests, common_steps, qualified-limited)
 
-short-limited : (loose : Bool) (limit : ℕ) (text : List ℕ) (o : Front Partial)
-    → short_only loose text (limited limit o) ≡ limited limit (short_only loose text o)
-short-limited loose limit text None = refl
-short-limited loose limit text (Some p) = grind (arith, nat_tests, common_steps)
+-- the partial of the places at the front, unless it is too long
+pub front_counted : (loose : Bool) (limit : ℕ) (text : List ℕ) (o : Front (Option Partial)) → o ≡ counted_places loose limit text
+    → (o >>? λ p. Some (if is_short loose (take (length text - length p.1) text) then p.0 else None, p.1)) ≡ counted_front loose limit text
+front_counted loose limit text o h = grind (arith, nat_tests, common_steps, places-limited)
 
-pub counted_limited : (loose : Bool) (limit : ℕ) (text : List ℕ) → counted_front loose limit text ≡ limited limit (partial_front loose text)
+-- strictly none is
+pub strict-counted : (limit : ℕ) (text : List ℕ) (o : Front (Option Partial)) → o ≡ counted_places false limit text → o ≡ counted_front false limit text
+strict-counted limit text o h = grind (arith, nat_tests, common_steps, places-limited)
+
+-- that partial, if there is one, and what stands behind it
+abbrev pub held : Front (Option Partial) → Front Partial
+held o = o >>? λ q. q.0 >>? λ p. Some (p, q.1)
+
+pub counted_limited : (loose : Bool) (limit : ℕ) (text : List ℕ) → held (counted_front loose limit text) ≡ limited limit (partial_front loose text)
 unfolding partial_front
-counted_limited loose limit text =
-    ap (short_only loose text) (places-limited loose limit text) ∙ short-limited loose limit text (places_front loose text)
+counted_limited loose limit text = grind (arith, nat_tests, common_steps)
+
+pub counted-some : (loose : Bool) (limit : ℕ) (text : List ℕ) (p : Partial) (rest : List ℕ) → Some (Some p, rest) ≡ counted_front loose limit text
+    → Some (p, rest) ≡ limited limit (partial_front loose text)
+counted-some loose limit text p rest h = ap held h ∙ counted_limited loose limit text
 
 -- ---- nothing stands behind the numbers
 
@@ -491,6 +506,6 @@ no-build-front [] h = refl
 no-build-front (b ∷ rest) h = grind (arith, nat_tests, common_steps)
 
 pub over_counted : (loose : Bool) (a b c : Place) (text : List ℕ) → is_over text ≡ true
-    → qualified_counted loose a b c text ≡ (counted a b c (listed []) (listed []) >>? λ p. Some (p, text))
+    → qualified_counted loose a b c text ≡ Some (counted a b c (listed []) (listed []), text)
 unfolding qualified_counted
 over_counted loose a b c text h = rw (none-front loose (is_any c) text h, no-build-front text h, none-follow loose) refl

@@ -27,14 +27,9 @@ abbrev pub npm_partial_some_view : Option Partial → Option Table.Partial
 npm_partial_some_view None = None
 npm_partial_some_view (Some p) = Some (npm_partial_view p)
 
-abbrev pub npm_partial_front_view : Option (Partial × Bor (List ℕ)) → Front Table.Partial
-npm_partial_front_view None = None
-npm_partial_front_view (Some p) = Some (npm_partial_view p.0, p.1.now)
-
--- the partial at the front, which is left out where its numbers that count are not up to the limit or it is too long
-abbrev pub counted_partial_view : Option (Option Partial × Bor (List ℕ)) → Front (Option Table.Partial)
-counted_partial_view None = None
-counted_partial_view (Some p) = Some (npm_partial_some_view p.0, p.1.now)
+abbrev pub npm_counted_front_view : Option (Option Partial × Bor (List ℕ)) → Front (Option Table.Partial)
+npm_counted_front_view None = None
+npm_counted_front_view (Some p) = Some (npm_partial_some_view p.0, p.1.now)
 
 abbrev pub npm_sign_pair_view : Sign × Bor (List ℕ) → Table.Sign × List ℕ
 npm_sign_pair_view p = (npm_sign_view p.0, p.1.now)

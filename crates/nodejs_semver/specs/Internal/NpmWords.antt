@@ -166,27 +166,28 @@ counted (number M) (number m) (number p) pre build =
     Some (whole (record { major = M; minor = m; patch = p; pre_release = pre; build = build }))
 
 -- the same with what stands behind it
-abbrev pub ended_counted : Bool → Place → Place → Place → List ℕ → List ℕ × List ℕ → Front Partial
+abbrev pub ended_counted : Bool → Place → Place → Place → List ℕ → List ℕ × List ℕ → Front (Option Partial)
 ended_counted loose a b c pre build = if may_follow loose pre build.0
-    then (counted a b c (listed pre) (listed build.0) >>? λ p. Some (p, build.1)) else None
+    then Some (counted a b c (listed pre) (listed build.0), build.1) else None
 
-unfoldable pub qualified_counted : Bool → Place → Place → Place → List ℕ → Front Partial
+unfoldable pub qualified_counted : Bool → Place → Place → Place → List ℕ → Front (Option Partial)
 qualified_counted loose a b c text = ended_counted loose a b c (pre_front loose (is_any c) text).0
     (build_front (pre_front loose (is_any c) text).1)
 
-abbrev pub third_counted : Bool → Place → Place → List ℕ → Front Place → Front Partial
-third_counted loose a b text None = counted a b any [] [] >>? λ p. Some (p, text)
+abbrev pub third_counted : Bool → Place → Place → List ℕ → Front Place → Front (Option Partial)
+third_counted loose a b text None = Some (counted a b any [] [], text)
 third_counted loose a b text (Some c) = qualified_counted loose a b c.0 c.1
 
-abbrev pub second_counted : Bool → ℕ → Place → List ℕ → Front Place → Front Partial
-second_counted loose limit a text None = counted a any any [] [] >>? λ p. Some (p, text)
+abbrev pub second_counted : Bool → ℕ → Place → List ℕ → Front Place → Front (Option Partial)
+second_counted loose limit a text None = Some (counted a any any [] [], text)
 second_counted loose limit a text (Some b) = third_counted loose a b.0 b.1 (placed limit (dotted_patch loose (place_zeros a) b.1))
 
-abbrev pub counted_places : Bool → ℕ → List ℕ → Front Partial
+abbrev pub counted_places : Bool → ℕ → List ℕ → Front (Option Partial)
 counted_places loose limit text =
     placed limit (place_front loose false text) >>? λ a.
     second_counted loose limit a.0 a.1 (placed limit (dotted_place loose (place_zeros a.0) a.1))
 
+-- the partial at the front; none where it has a number that counts past the limit, or is too long
 abbrev pub counted_front : Bool → ℕ → List ℕ → Front (Option Partial)
 counted_front loose limit text = places_front loose text >>? λ p.
     Some (if is_small limit p.0 && is_short loose (take (length text - length p.1) text) then Some p.0 else None, p.1)

@@ -14,7 +14,7 @@ ghost use Rattle.nodejs_semver.specs.{Internal.NpmWords.counted_front, Npm.Table
 use crate::Allocated;
 use crate::npm::comparators::{caret, compared, row, tilde};
 use crate::npm::partial::{Partial, Sign};
-use crate::npm::places::{is_over, places_front};
+use crate::npm::places::{is_over, partial_front};
 use crate::npm::versions::{dotted_number, strict_number};
 use crate::range::Intervals;
 use crate::readers::{Bounds, Comparator, Found, after_bars, release};
@@ -68,7 +68,7 @@ fn after_numbers(text: &[u8]) -> Option<&[u8]>
 // or a bar.
 #[inline(always)]
 fn wildcard_front(text: &[u8]) -> Option<(Partial<'_>, &[u8])>
-    ensures { IfSome result (λ p. Some (npm_partial_view p.0, p.1.now)
+    ensures { IfSome result (λ p. Some (Some (npm_partial_view p.0), p.1.now)
         ≡ counted_front false MAX_SAFE_INTEGER text.now) }
 {
     if matches!(text, [b'x' | b'X' | b'*', ..]) && is_over(&text[1..]) {
@@ -83,7 +83,7 @@ fn wildcard_front(text: &[u8]) -> Option<(Partial<'_>, &[u8])>
 #[inline(always)]
 #[tactic(auto, using(crate::proofs::Strict::CommonReads::short_fronts))]
 fn short_front(text: &[u8]) -> Option<(Partial<'_>, &[u8])>
-    ensures { IfSome result (λ p. Some (npm_partial_view p.0, p.1.now)
+    ensures { IfSome result (λ p. Some (Some (npm_partial_view p.0), p.1.now)
         ≡ counted_front false MAX_SAFE_INTEGER text.now) }
 {
     let Some((major, rest)) = strict_number(text) else {
@@ -108,7 +108,8 @@ fn word(include: bool, text: &[u8]) -> Option<(Bounds<'_>, &[u8])>
     ensures { IfSome result (λ w. IsWordAt include text.now (bounds_view w.0) w.1.now) }
 {
     let (sign, behind) = sign_front(text);
-    let (partial, rest) = places_front(false, behind)?;
+    let (read, rest) = partial_front(false, behind)?;
+    let partial = read?;
     let bounds = row(
         include,
         sign,

@@ -7,7 +7,7 @@ ghost use Rattle.nodejs_semver.specs.{Words.true, Internal.Fronts.{begins_byte, 
 ghost use Rattle.nodejs_semver.specs.Internal.Fronts.{begins_wildcard};
 ghost use Rattle.nodejs_semver.specs.Internal.{Fronts.number_front, NpmReadings.begins_padded};
 ghost use Rattle.nodejs_semver.specs.Internal.NpmReadings.{strict_number};
-ghost use Rattle.nodejs_semver.specs.Internal.NpmViews.{counted_partial_view, npm_partial_front_view};
+ghost use Rattle.nodejs_semver.specs.Internal.NpmViews.{npm_counted_front_view};
 ghost use Rattle.nodejs_semver.specs.Internal.NpmViews.{npm_partial_some_view, place_front_view};
 ghost use Rattle.nodejs_semver.specs.Internal.NpmViews.{place_view};
 ghost use Rattle.semver_core.specs.{Internal.Reading.◌>>?◌, Text.Identifiers.listed};
@@ -331,45 +331,50 @@ fn qualified_partial(
     minor: Place,
     patch: Place,
     text: &[u8],
-) -> Option<(Partial<'_>, &[u8])>
-    ensures { npm_partial_front_view result ≡ Spec.qualified_counted loose (place_view major)
+) -> Option<(Option<Partial<'_>>, &[u8])>
+    ensures { npm_counted_front_view result ≡ Spec.qualified_counted loose (place_view major)
         (place_view minor) (place_view patch) text.now }
 {
     if is_over(text) {
-        return Some((long_partial(major, minor, patch, b"", b"")?, text));
+        return Some((long_partial(major, minor, patch, b"", b""), text));
     }
     let (pre_release, rest) = pre_front(loose, is_wildcard(patch), text);
     let (build, rest) = build_front(rest);
     if !may_follow(loose, pre_release, build) {
         return None;
     }
-    Some((long_partial(major, minor, patch, pre_release, build)?, rest))
+    Some((long_partial(major, minor, patch, pre_release, build), rest))
 }
 
 // The partial of two places, and of what stands behind them.
 #[inline(always)]
-fn third_front(loose: bool, major: Place, minor: Place, text: &[u8]) -> Option<(Partial<'_>, &[u8])>
-    ensures { npm_partial_front_view result ≡ Spec.third_counted loose (place_view major)
+fn third_front(
+    loose: bool,
+    major: Place,
+    minor: Place,
+    text: &[u8],
+) -> Option<(Option<Partial<'_>>, &[u8])>
+    ensures { npm_counted_front_view result ≡ Spec.third_counted loose (place_view major)
         (place_view minor) text.now
         (Spec.placed MAX_SAFE_INTEGER
         (Spec.dotted_patch loose (Spec.place_zeros (place_view major)) text.now)) }
 {
     match dotted_patch(loose, has_zeros(major), text) {
         Some((patch, rest)) => qualified_partial(loose, major, minor, patch, rest),
-        None => Some((short_partial(major, minor)?, text)),
+        None => Some((short_partial(major, minor), text)),
     }
 }
 
-// The partial of the places at the front whose numbers that count are up to the limit, and the text
-// behind it.
+// The partial of the places at the front, if its numbers that count are up to the limit, and the
+// text behind it.
 #[inline(always)]
-pub(crate) fn places_front(loose: bool, text: &[u8]) -> Option<(Partial<'_>, &[u8])>
-    ensures { npm_partial_front_view result ≡ Spec.counted_places loose MAX_SAFE_INTEGER text.now }
+fn places_front(loose: bool, text: &[u8]) -> Option<(Option<Partial<'_>>, &[u8])>
+    ensures { npm_counted_front_view result ≡ Spec.counted_places loose MAX_SAFE_INTEGER text.now }
 {
     let (major, rest) = place_front(loose, false, text)?;
     match dotted_place(loose, has_zeros(major), rest) {
         Some((minor, rest)) => third_front(loose, major, minor, rest),
-        None => Some((short_partial(major, Place::Wildcard)?, rest)),
+        None => Some((short_partial(major, Place::Wildcard), rest)),
     }
 }
 
@@ -394,15 +399,15 @@ fn is_short(loose: bool, text: &[u8]) -> bool
     !loose || len_before_plus(text) <= 250
 }
 
-/// The partial version at the front, and the text behind it. It is left out where its numbers that
-/// count are not up to the limit, or where it is too long.
+/// The partial version at the front, and the text behind it: none where it has a number that counts
+/// past the limit, or is too long.
 #[inline(always)]
 pub(crate) fn partial_front(loose: bool, text: &[u8]) -> Option<(Option<Partial<'_>>, &[u8])>
-    ensures { counted_partial_view result ≡ Spec.counted_front loose MAX_SAFE_INTEGER text.now }
+    ensures { npm_counted_front_view result ≡ Spec.counted_front loose MAX_SAFE_INTEGER text.now }
 {
     let (partial, rest) = places_front(loose, text)?;
     if is_short(loose, &text[..text.len() - rest.len()]) {
-        Some((Some(partial), rest))
+        Some((partial, rest))
     } else {
         Some((None, rest))
     }

@@ -171,8 +171,7 @@ pub(crate) fn word_front(loose: bool, text: &[u8]) -> Option<(Signed<'_>, &[u8])
 {
     let (sign, behind) = sign_front(text);
     let marks = marks_len(behind);
-    match partial_front(loose, &behind[marks..]) {
-        Some(read) => ended_word(loose, sign, behind, marks, read.0, read.1),
-        None => None,
-    }
+    let (read, rest) = partial_front(loose, &behind[marks..])?;
+    let partial = read?;
+    ended_word(loose, sign, behind, marks, partial, rest)
 }

@@ -13,5 +13,5 @@ returns-then-is_over c =
     rw (
       over_counted c.args.loose (place_view c.args.major) (place_view c.args.minor) (place_view c.args.patch) c.args.text.now
           (sym c.is_over.ensures ∙ c.if-is_over.true),
-      sym c.in_ok-long_partial.ensures,
+      sym c.long_partial.ensures,
     ) refl

@@ -1,0 +1,131 @@
+-- How far a malformed word goes: the function that looks for its end finds exactly what the statement has.
+use Rattle.nodejs_semver.proofs.Common.{if◌then◌else◌, is_boundary, length-take-le, IsUtf8, List, [], ap, arith, drop_spaces, false, from_boundary, length, length-append, subst, suc, sym}
+use Rattle.nodejs_semver.proofs.Common.{take, true, zero, ℕ, ◌+◌, ◌-◌, ◌<◌, ◌∙◌, ◌∷◌, ◌≡◌, ◌≤◌, cases_Bool, inl, inr, refl}
+use Rattle.nodejs_semver.proofs.{NpmCommon.{IsIgnored, behind_ignored, takes}, Reading.WordLaw.{boundary-utf8, first-is, first-of}}
+use Rattle.nodejs_semver.proofs.{Reading.WordLaw.{skips-is, skips-of, skips-utf8}, Strict.PartialLaw.front-text}
+use Rattle.nodejs_semver.proofs.Reading.PartialLaw.{spaces-le}
+use Rattle.nodejs_semver.specs.{Npm.Malformed.{goes_on, stops}, Text.WordText.{IsBoundary, IsFirstBoundary, SkipsBlank}}
+
+nil-of : (text : List ℕ) → length text ≤ 0 → text ≡ []
+nil-of [] le = refl
+nil-of (b ∷ text) le = absurd (omega (arith, le))
+
+takes-some : (piece rest : List ℕ) → takes piece rest ≡ true → 0 < length piece
+takes-some [] rest h = cc h
+takes-some (b ∷ piece) rest h = omega arith
+
+-- a piece is what stands before the boundary
+piece-is : (text behind : List ℕ) (f : IsFirstBoundary text behind) → take (length text - length behind) text ≡ f.0
+piece-is text behind f = ap (λ (t : List ℕ). take (length t - length behind) t) f.1 ∙ front-text f.0 behind
+
+-- what is taken is shorter
+taken-shorter : (text behind rest : List ℕ) (f : IsFirstBoundary text behind) → SkipsBlank behind rest → takes f.0 rest ≡ true → length rest < length text
+taken-shorter text behind rest f s h =
+    omega (arith, ap length f.1, length-append f.0 behind, takes-some f.0 rest h, ap length s.1, length-append s.0 rest)
+
+module _ (text : List ℕ) (u : IsUtf8 text) where
+  behind-utf8 : (behind rest : List ℕ) (f : IsFirstBoundary text behind) → SkipsBlank behind rest → IsUtf8 behind × IsUtf8 rest
+  behind-utf8 behind rest f s =
+      let v = boundary-utf8 f.0 behind (subst (λ (t : List ℕ). IsUtf8 t) f.1 u) f.2 in (v, skips-utf8 behind rest s v)
+
+-- where nothing is left, nothing is taken
+nil-left : (text end : List ℕ) → IsIgnored text end → length text ≤ 0 → end ≡ []
+nil-left text end (stops t behind rest f s h) le = nil-of behind (omega (arith, le, ap length f.1, length-append f.0 behind))
+nil-left text end (goes_on t behind rest e f s h more) le = absurd (omega (arith, le, taken-shorter t behind rest f s h))
+
+pub ignored-read : (n : ℕ) (text end : List ℕ) → IsUtf8 text → IsIgnored text end → length text ≤ n → behind_ignored n text ≡ end
+unfolding behind_ignored
+ignored-read zero text end u h le = nil-of text le ∙ sym (nil-left text end h le)
+ignored-read (suc n) text end u (stops t behind rest f s h) le =
+    let v = behind-utf8 t u behind rest f s in
+    rw (first-of t behind u f, skips-of behind rest v.0 s, piece-is t behind f, h) refl
+ignored-read (suc n) text end u (goes_on t behind rest e f s h more) le =
+    let v = behind-utf8 t u behind rest f s in
+    let less = taken-shorter t behind rest f s h in
+    rw (first-of t behind u f, skips-of behind rest v.0 s, piece-is t behind f, h) (ignored-read n rest e v.1 more (omega (arith, less, le)))
+
+pub record IgnoredAt (text end : List ℕ) : Type 0 where
+  pub is : IsIgnored text end
+  pub ended : IsBoundary end
+  pub utf8 : IsUtf8 end
+  pub fits : length end ≤ length text
+
+nil-ignored : (text : List ℕ) → IsUtf8 text → length text ≤ 0 → IgnoredAt text text
+nil-ignored [] u le =
+    let f : IsFirstBoundary [] [] = ([], refl, inl refl, λ x y e h. omega arith) in
+    record { is = stops [] [] [] f ([], refl, blank-nil, λ h. cc h) refl; ended = inl refl; utf8 = u; fits = omega arith }
+nil-ignored (b ∷ text) u le = absurd (omega (arith, le))
+
+pub ignored-found : (n : ℕ) (text : List ℕ) → IsUtf8 text → length text ≤ n → IgnoredAt text (behind_ignored n text)
+unfolding behind_ignored
+ignored-found zero text u le = nil-ignored text u le
+ignored-found (suc n) text u le =
+    let behind = from_boundary text in
+    let rest = drop_spaces behind in
+    let f = first-is [] text u in
+    let v = boundary-utf8 f.0 behind (subst (λ (t : List ℕ). IsUtf8 t) f.1 u) f.2 in
+    let s = skips-is behind v in
+    elim (cases_Bool (takes f.0 rest)) [
+      | inr stop ↦ rw (piece-is text behind f, stop) (record {
+        is = stops text behind rest f s stop;
+        ended = f.2;
+        utf8 = v;
+        fits = omega (arith, ap length f.1, length-append f.0 behind);
+      })
+      | inl go ↦
+          let less = taken-shorter text behind rest f s go in
+          let r = ignored-found n rest (skips-utf8 behind rest s v) (omega (arith, less, le)) in
+          rw (piece-is text behind f, go) (record {
+            is = goes_on text behind rest (behind_ignored n rest) f s go r.is;
+            ended = r.ended;
+            utf8 = r.utf8;
+            fits = omega (arith, r.fits, less);
+          })
+    ]
+
+-- ---- the loop that looks for the end
+
+pub boundary-le : (text : List ℕ) → length (from_boundary text) ≤ length text
+unfolding from_boundary
+boundary-le [] = omega arith
+boundary-le (b ∷ text) = elim (cases_Bool (is_boundary (b ∷ text))) [
+  | inl here ↦ grind (arith, here)
+  | inr on ↦ grind (arith, on, boundary-le text)
+]
+
+-- what is taken is shorter
+pub taken-less : (text : List ℕ) (len : ℕ) → len ≡ length text - length (from_boundary text)
+    → takes (take len text) (drop_spaces (from_boundary text)) ≡ true → length (drop_spaces (from_boundary text)) < length text
+taken-less text len e h =
+    omega (arith, e, takes-some (take len text) (drop_spaces (from_boundary text)) h, length-take-le len text, spaces-le (from_boundary text), boundary-le text)
+
+-- the number only bounds the pieces
+enough : (n m : ℕ) (text : List ℕ) → length text ≤ n → length text ≤ m → behind_ignored n text ≡ behind_ignored m text
+unfolding behind_ignored from_boundary
+enough zero zero text h k = refl
+enough zero (suc m) text h k = rw (nil-of text h) refl
+enough (suc n) zero text h k = rw (nil-of text k) refl
+enough (suc n) (suc m) text h k = elim (cases_Bool (takes (take (length text - length (from_boundary text)) text) (drop_spaces (from_boundary text)))) [
+  | inr stop ↦ rw stop refl
+  | inl go ↦
+      let less = taken-less text _ refl go in
+      rw go (enough n m (drop_spaces (from_boundary text)) (omega (arith, less, h)) (omega (arith, less, k)))
+]
+
+module _ (text : List ℕ) (len : ℕ) (e : len ≡ length text - length (from_boundary text)) where
+  step : (n : ℕ) → behind_ignored (suc n) text ≡ (let rest = drop_spaces (from_boundary text) in
+      if takes (take len text) rest then behind_ignored n rest else from_boundary text)
+  unfolding behind_ignored
+  step n = rw (← e) refl
+
+  more : behind_ignored (length text) text ≡ behind_ignored (suc (length text)) text
+  more = enough (length text) (suc (length text)) text (omega arith) (omega arith)
+
+  pub piece-stops : takes (take len text) (drop_spaces (from_boundary text)) ≡ false → from_boundary text ≡ behind_ignored (length text) text
+  piece-stops h = sym (more ∙ step (length text) ∙ rw h refl)
+
+  pub piece-goes : takes (take len text) (drop_spaces (from_boundary text)) ≡ true
+      → behind_ignored (length (drop_spaces (from_boundary text))) (drop_spaces (from_boundary text)) ≡ behind_ignored (length text) text
+  piece-goes h =
+      let less = taken-less text len e h in
+      sym (more ∙ step (length text) ∙ rw h (enough (length text) _ (drop_spaces (from_boundary text)) (omega (arith, less)) (omega arith)))
