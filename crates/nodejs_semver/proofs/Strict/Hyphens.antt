@@ -19,7 +19,7 @@ use Rattle.std.proofs.lemmas.{List.{Sums.{list_all-from_AllPass, prefix_len_pass
 use Rattle.std.proofs.lemmas.Str.{IsUtf8-past_char, encode_same}
 use Rattle.std.specs.{List.suffix_len, Prelude.reverse}
 use Rattle.nodejs_semver.proofs.Common.{Front, VersionValue, append-nil, get_or, if◌then◌else◌}
-use Rattle.nodejs_semver.proofs.NpmCommon.{CountedEnd, are_whole_marks, counted_as, counted_end, counted_hyphen, is_right, is_right_end, is_short}
+use Rattle.nodejs_semver.proofs.NpmCommon.{CountedEnd, are_whole_marks, counted_as, counted_end, counted_front, counted_hyphen, is_right, is_right_end, is_short}
 use Rattle.nodejs_semver.proofs.NpmCommon.{is_short_word, is_small, marks_len}
 use Rattle.nodejs_semver.specs.{Internal.NpmParts.some_normal, Npm.RangeText.is_free}
 
@@ -320,7 +320,15 @@ pub hyphen-normal : (loose : Bool) (limit : ℕ) (text : List ℕ) (e : CountedE
 unfolding hyphen_ends
 hyphen-normal loose limit text e h = grind (arith, nat_tests, common_steps, hyphen-counted, counted-normal)
 
--- ---- marks
+-- ---- readers
+
+-- what stands behind a partial is no longer than the text
+pub partial-le : (loose : Bool) (limit : ℕ) (text : List ℕ) (p : Option Partial) (rest : List ℕ) → Some (p, rest) ≡ counted_front loose limit text
+    → length rest ≤ length text
+partial-le loose limit text p rest h =
+    let q = bind_some (places_front loose text) _ (p, rest) (sym h) in
+    let f = places-found loose text q.0.0 q.0.1 q.1 in
+    omega (arith, ap length f.split, length-append f.piece q.0.1, ap (λ (x : Option Partial × List ℕ). length x.1) (same_Some _ _ q.2))
 
 pub ends_stop : (text : List ℕ) → end_len text ≡ 0 → drop_ends text ≡ text
 unfolding after_ends

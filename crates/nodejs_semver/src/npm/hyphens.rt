@@ -182,10 +182,8 @@ fn end_front(loose: bool, text: &[u8]) -> Option<(End<'_>, &[u8])>
     ensures { end_front_view result ≡ Spec.counted_end loose MAX_SAFE_INTEGER text.now }
 {
     let behind = skip_marks(text);
-    match partial_front(loose, behind) {
-        Some(read) => Some(ended(text, behind, read.0, read.1)),
-        None => None,
-    }
+    let (partial, rest) = partial_front(loose, behind)?;
+    Some(ended(text, behind, partial, rest))
 }
 
 // What stands behind whitespace, `-` and whitespace.
