@@ -4,6 +4,7 @@ pub mod Signs
 pub mod Malformed
 pub mod Ignored
 pub mod AlternativeLaw
+pub mod Hyphens
 pub mod Printed
 pub mod Rows
 pub mod Words

@@ -10,7 +10,7 @@ use Rattle.nodejs_semver.proofs.NpmCommon.{build_front, chars, dashed, dashed_fr
 use Rattle.nodejs_semver.proofs.NpmCommon.{loose_patch, loose_qualified, loose_version, nat_le, no_pre_release, number_front, number_of}
 use Rattle.nodejs_semver.proofs.{NpmCommon.{or-true, patch_front, pre_front, pre_release_front}, Reading.Bytes.component-solid}
 use Rattle.nodejs_semver.proofs.Reading.{Bytes.solid-dark, Numbers.{digits-taken, number-found, number-is, number-of, number-read}}
-use Rattle.nodejs_semver.proofs.{Reading.{Numbers.run-ends, Steps.option-cases, WordLaw.byte-is}, Strict.AlternativeLaw.ends-found}
+use Rattle.nodejs_semver.proofs.{Reading.{Numbers.run-ends, Steps.option-cases, WordLaw.byte-is}, Strict.Hyphens.ends-found}
 use Rattle.nodejs_semver.proofs.Strict.{AlternativeLaw.ends-read, PartialLaw.{digits-many_on, digits-of}, VersionLaw.{Follows, PreFound}}
 use Rattle.nodejs_semver.proofs.Strict.VersionLaw.{build-found, build-quiet, build-taken, empty-is, ends-nil, letter-on, pre-follows}
 use Rattle.nodejs_semver.{proofs.Strict.VersionLaw.{pre-found, pre-taken, stopped}, specs.Internal.NpmLooseVersions.patch_len}

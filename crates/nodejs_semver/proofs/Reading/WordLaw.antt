@@ -98,7 +98,7 @@ skips-of text rest u h =
     ap drop_spaces h.1 ∙ (ap (λ (t : List ℕ). drop_spaces (t ++ rest)) h.2.spelled
     ∙ (drop_spaces-blank h.2.characters rest h.2.each ∙ drop_spaces-none rest none))
 
-some_space-is : (front text rest : List ℕ) → IsUtf8 (front ++ text) → after_some_space text ≡ Some rest → IsUtf8 text
+pub some_space-is : (front text rest : List ℕ) → IsUtf8 (front ++ text) → after_some_space text ≡ Some rest → IsUtf8 text
     × BeginsBlank text × SkipsBlank text rest
 some_space-is front text rest u h =
     let b = cond_some (nat_lt 0 (space_len text)) (drop_spaces text) rest h in

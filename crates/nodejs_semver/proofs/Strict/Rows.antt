@@ -27,11 +27,11 @@ use Rattle.nodejs_semver.specs.declared.readers.syntax.Comparator.TheVariants as
 pub table-bare : (include : Bool) (s : Sign) (p : Partial) (text : List ℕ) → is_empty (table include s p text) ≡ has_no_comparators s p
 table-bare include s p text = grind (arith, nat_tests, common_steps)
 
-pub lower-bare : (include : Bool) (p : Partial) (text : List ℕ) → is_empty (hyphen_lower include p text) ≡ is_wildcard p
-lower-bare include p text = grind (arith, nat_tests, common_steps)
+pub lower-bare : (c : Comparator) (include : Bool) (p : Partial) (text : List ℕ) → is_empty (hyphen_lower c include p text) ≡ is_wildcard p
+lower-bare c include p text = grind (arith, nat_tests, common_steps)
 
-pub upper-bare : (include : Bool) (p : Partial) (text : List ℕ) → is_empty (hyphen_upper include p text) ≡ is_wildcard p
-upper-bare include p text = grind (arith, nat_tests, common_steps)
+pub upper-bare : (c : Comparator) (include : Bool) (p : Partial) (text : List ℕ) → is_empty (hyphen_upper c include p text) ≡ is_wildcard p
+upper-bare c include p text = grind (arith, nat_tests, common_steps)
 
 -- ---- one comparator
 
@@ -280,13 +280,13 @@ within_whole p v e h = rw e at h
 
 -- ---- the upper end of a hyphen range of a whole version
 
-module _ (include : Bool) (v : VersionValue) (text : List ℕ) (r : Option Bounds) where
-  pub upper_under : (a b c : ℕ) → is_release v ≡ true → include ≡ true → a ≡ v.major → b ≡ v.minor → c ≡ v.patch
-      → AreRead include (under (a, b, c + 1) ∷ []) r → AreRead include (hyphen_upper include (whole v) text) r
-  upper_under a b c i j e f g h = rw (i, j) (rw (j, e, f, g) at h)
+module _ (c : Comparator) (include : Bool) (v : VersionValue) (text : List ℕ) (r : Option Bounds) where
+  pub upper_under : (M m p : ℕ) → is_release v ≡ true → include ≡ true → M ≡ v.major → m ≡ v.minor → p ≡ v.patch
+      → AreRead include (under (M, m, p + 1) ∷ []) r → AreRead include (hyphen_upper c include (whole v) text) r
+  upper_under M m p i j e f g h = rw (i, j) (rw (j, e, f, g) at h)
 
   pub upper_printed : is_release v ≡ false → AreRead include (made at_most (no_build v) ∷ []) r
-      → AreRead include (hyphen_upper include (whole v) text) r
+      → AreRead include (hyphen_upper c include (whole v) text) r
   upper_printed i h = rw i h
 
 pub printed_read : (include : Bool) (v : VersionValue) (s : Span VersionValue) → within (first (whole v)) ≡ true

@@ -1,6 +1,6 @@
 // The hyphen ranges of node-semver's readings: two partial versions with ` - ` between them.
 
-ghost use Rattle.std.specs.Prelude.{◌≡◌, ◌≤◌};
+ghost use Rattle.std.specs.Prelude.{◌-◌, ◌||◌, ◌≡◌, ◌≤◌, drop};
 ghost use Rattle.nodejs_semver.specs.Words.{MAX_SAFE_INTEGER, comparator_view, length, list_all};
 ghost use Rattle.nodejs_semver.specs.{Words.{rest_view, true}, Internal.NpmMeaning.AreReadOf};
 ghost use Rattle.nodejs_semver.specs.Internal.{NpmParts.{npm_partial_view, some_normal}};
@@ -48,7 +48,9 @@ fn mark_len(text: &[u8]) -> usize
 
 // What follows the marks and the whitespace at the front.
 pub(crate) fn skip_marks(text: &[u8]) -> &[u8]
-    ensures { result.now ≡ Spec.drop_ends text.now }
+    ensures value { result.now ≡ Spec.drop_ends text.now }
+    ensures fits { length result.now ≤ length text.now }
+    ensures ends { drop (length text.now - length result.now) text.now ≡ result.now }
 {
     let mut left = text;
     'marks: loop {
@@ -76,7 +78,6 @@ fn are_marks(text: &[u8]) -> bool
 }
 
 // The marks behind the last whitespace.
-#[tactic(auto, using(crate::proofs::Strict::Ignored::marks_end))]
 fn last_marks(marks: &[u8]) -> &[u8]
     ensures value { result.now ≡ Text.last_marks marks.now }
     ensures fits { length result.now ≤ length marks.now }
@@ -157,7 +158,8 @@ fn ended<'a>(
     partial: Option<Partial<'a>>,
     rest: &'a [u8],
 ) -> (End<'a>, &'a [u8])
-    requires behind { behind.now ≡ Spec.drop_ends text.now }
+    requires fits { length behind.now ≤ length text.now }
+    requires ends { drop (length text.now - length behind.now) text.now ≡ behind.now }
     requires rest { length rest.now ≤ length behind.now }
     ensures { (end_view result.0, result.1.now) ≡ Spec.counted_as text.now behind.now
         (npm_partial_some_view partial.entry, rest.now) }
@@ -180,10 +182,8 @@ fn end_front(loose: bool, text: &[u8]) -> Option<(End<'_>, &[u8])>
     ensures { end_front_view result ≡ Spec.counted_end loose MAX_SAFE_INTEGER text.now }
 {
     let behind = skip_marks(text);
-    match partial_front(loose, behind) {
-        Some(read) => Some(ended(text, behind, read.0, read.1)),
-        None => None,
-    }
+    let (partial, rest) = partial_front(loose, behind)?;
+    Some(ended(text, behind, partial, rest))
 }
 
 // What stands behind whitespace, `-` and whitespace.

@@ -1,5 +1,5 @@
 use Rattle.nodejs_semver.proofs.NpmCommon.{bounds_view, npm_partial_view, npm_sign_view}
-use Rattle.nodejs_semver.proofs.Strict.{AlternativeLaw.partial-le, CommonReads.{word-found, word-normal}}
+use Rattle.nodejs_semver.proofs.Strict.{Hyphens.partial-le, CommonReads.{word-found, word-normal}}
 use Rattle.nodejs_semver.proofs.npm.common.word.Goals as goal
 
 pub slice_bounds-row-count : goal.slice_bounds-row-count

@@ -1,25 +1,20 @@
-use Rattle.nodejs_semver.proofs.{Common.{None, Some, ap, arith, length, ◌∙◌}, NpmCommon.npm_partial_view}
-use Rattle.nodejs_semver.{proofs.Strict.AlternativeLaw.{end_here, ends_le, partial-le}, specs.Internal.NpmViews.is_free_end}
+use Rattle.nodejs_semver.proofs.Common.{Bool, Front, List, MAX_SAFE_INTEGER, None, Option, Some, ap, refl, ℕ, ◌∙◌, ◌≡◌}
+use Rattle.nodejs_semver.proofs.NpmCommon.{CountedEnd, counted_as, counted_end, counted_front, drop_ends, npm_partial_some_view, ◌>>?◌}
+use Rattle.nodejs_semver.{proofs.Strict.Hyphens.partial-le, specs.Npm.Table.Partial}
 use Rattle.nodejs_semver.proofs.npm.hyphens.end_front.Goals as goal
 
-pub ended_end-requires-clause-behind : goal.ended_end-requires-clause-behind
-ended_end-requires-clause-behind c = omega (arith, ap length c.skip_marks-behind.ensures, ends_le c.args.text.now)
+end-is : (loose : Bool) (text behind : List ℕ) (o : Front (Option Partial)) → behind ≡ drop_ends text → o ≡ counted_front loose MAX_SAFE_INTEGER behind
+    → (o >>? λ p. Some (counted_as text behind p)) ≡ counted_end loose MAX_SAFE_INTEGER text
+unfolding counted_end
+end-is loose text behind o e h = rw (h, e) refl
 
-pub ended_end-requires-clause-rest : goal.ended_end-requires-clause-rest
-ended_end-requires-clause-rest c =
-    omega (arith, partial-le _ _ _ _ _ c.in_ok-read.ensures, ap length c.skip_marks-behind.ensures, ends_le c.args.text.now)
-
-pub returns-in_err-read : goal.returns-in_err-read
-returns-in_err-read c =
-    rw c.from_residual.ensures (end_here c.args.loose (is_free_end c.args.side) _ _ None c.skip_marks-behind.ensures c.in_err-read.ensures)
+pub ended-requires-clause-rest : goal.ended-requires-clause-rest
+ended-requires-clause-rest c = partial-le _ _ _ _ _ c.in_ok-partial.ensures
 
 pub returns-in_err-partial : goal.returns-in_err-partial
-returns-in_err-partial c =
-    rw c.from_residual-in_err-partial.ensures (end_here c.args.loose (is_free_end c.args.side) _ _ (Some (None, c.in_ok-read.rest.now))
-    c.skip_marks-behind.ensures (rw c.in_err-partial.was at c.in_ok-read.ensures))
+returns-in_err-partial c = rw c.from_residual.ensures (end-is _ _ _ None c.skip_marks-behind.ensures.value c.in_err-partial.ensures)
 
 pub returns : goal.returns
 returns c =
-    c.ended_end.ensures ∙ rw c.is_free-free.ensures (end_here c.args.loose (is_free_end c.args.side) _ _
-    (Some (Some (npm_partial_view c.in_ok-partial.partial), c.in_ok-read.rest.now)) c.skip_marks-behind.ensures
-    (rw c.in_ok-partial.was at c.in_ok-read.ensures))
+    ap (λ (e : CountedEnd × List ℕ). Some e) c.ended.ensures
+    ∙ end-is _ _ _ (Some (npm_partial_some_view c.in_ok-partial.partial, c.in_ok-partial.rest.now)) c.skip_marks-behind.ensures.value c.in_ok-partial.ensures

@@ -1,5 +1,5 @@
 use Rattle.nodejs_semver.proofs.Common.{MAX_SAFE_INTEGER, None, Some, sym, ◌∙◌}
-use Rattle.nodejs_semver.proofs.Strict.{AlternativeLaw.partial-le, PartialLaw.front_counted}
+use Rattle.nodejs_semver.proofs.Strict.{Hyphens.partial-le, PartialLaw.front_counted}
 use Rattle.nodejs_semver.specs.Internal.NpmViews.{npm_partial_some_view}
 use Rattle.nodejs_semver.proofs.npm.places.partial_front.Goals as goal
 

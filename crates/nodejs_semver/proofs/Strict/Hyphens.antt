@@ -1,0 +1,346 @@
+-- Hyphen ranges of node-semver's range texts: the functions that read them find exactly what the statement has, and the code those whose
+-- numbers that count are up to the limit.
+use Rattle.nodejs_semver.proofs.{Bounds.Bounded.identifiers-normal, Common.{Bool, Id, IsUtf8, List, None, Option, Some, [], ap, append_assoc}}
+use Rattle.nodejs_semver.proofs.Common.{and_parts, arith, begins, bind_some, cases_Bool, common_steps, cond_some, drop, drop_at, encode_utf8}
+use Rattle.nodejs_semver.proofs.Common.{encode_utf8_all, false, inl, inr, is_empty, is_whitespace, len_utf8_bounds, length, length-append}
+use Rattle.nodejs_semver.proofs.Common.{length-drop, length-encode, list_all, lt-ltb, nat_tests, not, refl, same_Some, space_len, ap₂}
+use Rattle.nodejs_semver.proofs.Common.{space_len-nil, subst, suc, sym, take, true, zero, ℕ, ◌&&◌, ◌++◌, ◌+◌, ◌-◌, ◌<◌, ◌||◌, ◌∙◌, ◌∷◌, ◌≡◌, ◌≤◌}
+use Rattle.nodejs_semver.proofs.NpmCommon.{AreMarks, Ended, IsEnd, IsHyphen, IsPlace, IsPlaces, IsStrictBuild, after_byte, after_ends, are_normal}
+use Rattle.nodejs_semver.proofs.NpmCommon.{drop_ends, encode_ascii, end_front, ended_as, hyphen_ends, is_mark, last_end, last_marks, len_utf8, plus}
+use Rattle.nodejs_semver.proofs.NpmCommon.{space_len-white, no_build, ◌>>?◌}
+use Rattle.nodejs_semver.proofs.Reading.{Bytes.{begins-on, begins_component, is_component_byte, is_solid, solid-dark}, PartialLaw.front-dark}
+use Rattle.nodejs_semver.proofs.Reading.WordLaw.{blank-len, boundary-of, boundary-utf8, byte-is, skips-of, skips-utf8, some_space-is, tail-utf8}
+use Rattle.nodejs_semver.proofs.Strict.PartialLaw.{boundary-quiet, digits-begin, front-text, places-found, places-read}
+use Rattle.nodejs_semver.proofs.Strict.VersionLaw.{empty-is}
+use Rattle.nodejs_semver.specs.Internal.{NpmWords.{after_dash, end_len, places_front}, Words.after_some_space}
+use Rattle.nodejs_semver.specs.{Npm.{Grammar.IsPreRelease, Table.Partial}, Text.WordText.SkipsBlank}
+use Rattle.semver_core.{proofs.Text.SpaceLaw.space_len-dark, specs.{Printing.RoundTrip.is_normal, Text.Characters.BeginsBlank}}
+use Rattle.std.proofs.lemmas.{List.{Sums.{list_all-from_AllPass, prefix_len_passes, suffix_len-le-length, suffix_len_is}, get_or-drop, get_or-reverse}}
+use Rattle.std.proofs.lemmas.Str.{IsUtf8-past_char, encode_same}
+use Rattle.std.specs.{List.suffix_len, Prelude.reverse}
+use Rattle.nodejs_semver.proofs.Common.{Front, VersionValue, append-nil, get_or, if◌then◌else◌}
+use Rattle.nodejs_semver.proofs.NpmCommon.{CountedEnd, are_whole_marks, counted_as, counted_end, counted_front, counted_hyphen, is_right, is_right_end, is_short}
+use Rattle.nodejs_semver.proofs.NpmCommon.{is_short_word, is_small, marks_len}
+use Rattle.nodejs_semver.specs.{Internal.NpmParts.some_normal, Npm.RangeText.is_free}
+
+-- ---- marks and whitespace at the front
+
+pub after_ends-drop : (n : ℕ) (text : List ℕ) → after_ends n text ≡ drop_ends (drop n text)
+unfolding after_ends
+after_ends-drop zero text = refl
+after_ends-drop (suc n) [] = refl
+after_ends-drop (suc n) (b ∷ rest) = after_ends-drop n rest
+
+pub ends-mark : (b : ℕ) (rest : List ℕ) → is_mark b ≡ true → drop_ends (b ∷ rest) ≡ drop_ends rest
+unfolding after_ends
+ends-mark b rest h = rw (h, after_ends) refl
+
+-- nothing more
+pub ends-stop : (b : ℕ) (rest : List ℕ) → is_mark b ≡ false → space_len (b ∷ rest) ≡ 0 → drop_ends (b ∷ rest) ≡ b ∷ rest
+unfolding after_ends
+ends-stop b rest h k = rw (h, k, after_ends) refl
+
+pub ends-space : (b : ℕ) (rest : List ℕ) (n : ℕ) → is_mark b ≡ false → space_len (b ∷ rest) ≡ suc n → drop_ends (b ∷ rest) ≡ drop_ends (drop n rest)
+unfolding after_ends
+ends-space b rest n h k = rw (h, k, after_ends) (after_ends-drop n rest)
+
+pub mark-dark : (b : ℕ) (rest : List ℕ) → is_mark b ≡ true → space_len (b ∷ rest) ≡ 0
+mark-dark b rest h = solid-dark (b ∷ rest) (grind (arith, nat_tests))
+
+pub ends-more : (text : List ℕ) → 0 < space_len text → drop_ends (drop (space_len text) text) ≡ drop_ends text
+ends-more text some = grind (arith, nat_tests, common_steps, space_len-nil, mark-dark, ends-space)
+
+pub ends-none : (text : List ℕ) → begins is_mark text ≡ false → space_len text ≡ 0 → drop_ends text ≡ text
+unfolding after_ends
+ends-none text h k = grind (arith, nat_tests, common_steps)
+
+-- a character
+ends-white : (c : ℕ) (rest : List ℕ) → is_whitespace c ≡ true → drop_ends (encode_utf8 c ++ rest) ≡ drop_ends rest
+ends-white c rest h =
+    let size = space_len-white c rest h in
+    let some : 0 < space_len (encode_utf8 c ++ rest) = omega (arith, size, (len_utf8_bounds c).0) in
+    sym (ends-more (encode_utf8 c ++ rest) some)
+    ∙ ap drop_ends (ap (λ n. drop n (encode_utf8 c ++ rest)) size ∙ drop_at (encode_utf8 c) rest (len_utf8 c) (length-encode c))
+
+mark-ascii : (c : ℕ) → is_mark c ≡ true → c < 128
+mark-ascii c h = grind (arith, nat_tests)
+
+abbrev is_end : ℕ → Bool
+is_end c = is_mark c || is_whitespace c
+
+ends-char : (c : ℕ) (rest : List ℕ) → is_end c ≡ true → drop_ends (encode_utf8 c ++ rest) ≡ drop_ends rest
+ends-char c rest h = grind (arith, nat_tests, common_steps, encode_ascii, mark-ascii, ends-mark, ends-white)
+
+ends-dark : (c : ℕ) (rest : List ℕ) → is_end c ≡ false → drop_ends (encode_utf8 c ++ rest) ≡ encode_utf8 c ++ rest
+ends-dark c rest h =
+    let none : is_whitespace c ≡ false = grind arith in
+    let other : is_mark c ≡ false = grind arith in
+    ends-none (encode_utf8 c ++ rest) (first (encode_utf8 c ++ rest) refl other) (space_len-dark c rest none)
+  where
+    first : (text : List ℕ) → encode_utf8 c ++ rest ≡ text → is_mark c ≡ false → begins is_mark text ≡ false
+    first [] e other = refl
+    first (b ∷ text) e other = elim (cases_Bool (is_mark b)) [
+      | inr plain ↦ plain
+      | inl mark ↦
+          let same = encode_same c b rest text (e ∙ rw (encode_ascii b (mark-ascii b mark)) refl) in
+          cc (mark, other, same.0)
+    ]
+
+-- what is passed
+pub record EndsAt (text : List ℕ) : Type 0 where
+  pub characters : List ℕ
+  pub each : list_all is_end characters ≡ true
+  pub split : text ≡ encode_utf8_all characters ++ drop_ends text
+  pub utf8 : IsUtf8 (drop_ends text)
+
+ends-from : (cs text : List ℕ) → IsUtf8 text → encode_utf8_all cs ≡ text → EndsAt text
+unfolding after_ends
+ends-from [] text u e = rw (← e) (record { characters = []; each = refl; split = refl; utf8 = rw (← e) at u })
+ends-from (c ∷ cs) text u e =
+    let rest = encode_utf8_all cs in
+    elim (cases_Bool (is_end c)) [
+      | inr other ↦ grind (arith, ends-dark)
+      | inl passed ↦
+          let step : drop_ends text ≡ drop_ends rest = ap drop_ends (sym e) ∙ ends-char c rest passed in
+          let r = ends-from cs rest (IsUtf8-past_char text rest c u (sym e)) refl in
+          record { characters = c ∷ r.characters; each = rw passed r.each; split = grind (arith, nat_tests, common_steps); utf8 = rw step r.utf8 }
+    ]
+
+pub ends-found : (text : List ℕ) → IsUtf8 text → EndsAt text
+ends-found text u = ends-from u.0 text u u.1.1
+
+pub ends-read : (cs u : List ℕ) → list_all is_end cs ≡ true → begins is_mark u ≡ false → space_len u ≡ 0 → drop_ends (encode_utf8_all cs ++ u) ≡ u
+ends-read [] u h other dark = ends-none u other dark
+ends-read (c ∷ cs) u h other dark = grind (arith, nat_tests, common_steps, and_parts, append_assoc, ends-char, ends-read cs u)
+
+pub marks-passed : (a u : List ℕ) → AreMarks a → begins_component u ≡ true → drop_ends (a ++ u) ≡ u
+marks-passed a u h k = rw h.1 (ends-read h.0 u h.2 (grind (arith, nat_tests)) (front-dark u k))
+
+-- ---- an end
+
+-- the partial of an end begins with a number or a wildcard
+places-begin : (loose : Bool) (x rest : List ℕ) (p : Partial) → IsPlaces loose x p → begins_component (x ++ rest) ≡ true
+places-begin loose x rest p h = grind (arith, nat_tests, common_steps, begins-on, is_component_byte, place-begins)
+  where
+    place-begins : (loose zeros : Bool) (x : List ℕ) (a : Option ℕ) → IsPlace loose zeros x a → begins_component x ≡ true
+    place-begins loose zeros x a h = grind (arith, nat_tests, common_steps, digits-begin)
+
+-- what is read of an end
+abbrev pub ended_of : (loose : Bool) (text rest : List ℕ) → IsEnd loose text rest → Ended
+ended_of loose text rest h = (h.marks, h.partial, last_marks h.marks ++ h.places)
+
+end-written : (loose : Bool) (marks x rest : List ℕ) (p : Partial) → AreMarks marks → IsPlaces loose x p → begins is_solid rest ≡ false
+    → end_front loose (marks ++ (x ++ rest)) ≡ Some ((marks, p, last_marks marks ++ x), rest)
+unfolding end_front
+end-written loose marks x rest p h k quiet =
+    rw (marks-passed marks (x ++ rest) h (places-begin loose x rest p k), places-read loose x rest p k quiet, front-text marks (x ++ rest),
+    front-text x rest) refl
+
+end-read : (loose : Bool) (text rest : List ℕ) (h : IsEnd loose text rest) → begins is_solid rest ≡ false
+    → end_front loose text ≡ Some (ended_of loose text rest h, rest)
+end-read loose text rest h quiet = ap (end_front loose) h.divided ∙ end-written loose h.marks h.places rest h.partial h.are h.is quiet
+
+-- an end that was read
+abbrev EndRead : (loose : Bool) (text : List ℕ) → Ended × List ℕ → Type 0
+EndRead loose text e = (h : IsEnd loose text e.1) × (e.0 ≡ ended_of loose text e.1 h)
+
+end-found : (loose : Bool) (text : List ℕ) (e : Ended × List ℕ) → IsUtf8 text → end_front loose text ≡ Some e → EndRead loose text e
+unfolding end_front
+end-found loose text e u h =
+    let ends = ends-found text u in
+    let behind = drop_ends text in
+    let marks = encode_utf8_all ends.characters in
+    let p = bind_some (places_front loose behind) (λ p. Some (ended_as text behind p)) e h in
+    let f = places-found loose behind p.0.0 p.0.1 p.1 in
+    let is : IsEnd loose text p.0.1 = record {
+      marks = marks;
+      places = f.piece;
+      partial = p.0.0;
+      divided = ends.split ∙ ap (λ (t : List ℕ). marks ++ t) f.split;
+      are = (ends.characters, refl, ends.each);
+      is = f.is;
+    } in
+    let front : take (length text - length behind) text ≡ marks =
+    ap (λ (t : List ℕ). take (length t - length behind) t) ends.split ∙ front-text marks behind in
+    let piece : take (length behind - length p.0.1) behind ≡ f.piece =
+    ap (λ (t : List ℕ). take (length t - length p.0.1) t) f.split ∙ front-text f.piece p.0.1 in
+    subst (EndRead loose text) (same_Some (ended_as text behind p.0) e p.2)
+    (is, ap₂ (λ (m x : List ℕ). (m, p.0.0, last_marks m ++ x)) front piece)
+
+-- ---- hyphen ranges
+
+-- what is read of a hyphen range
+abbrev pub ends_of : (loose : Bool) (text : List ℕ) → IsHyphen loose text → Ended × Ended
+ends_of loose text h = (ended_of loose text h.before h.lower, ended_of loose h.second [] h.upper)
+
+before-utf8 : (loose : Bool) (text rest : List ℕ) (h : IsEnd loose text rest) → IsUtf8 text → BeginsBlank rest → IsUtf8 rest
+before-utf8 loose text rest h u blank =
+    let whole : text ≡ (h.marks ++ h.places) ++ rest = h.divided ∙ sym (append_assoc h.marks h.places rest) in
+    boundary-utf8 (h.marks ++ h.places) rest (subst (λ (t : List ℕ). IsUtf8 t) whole u) (inr blank)
+
+pub hyphen-read : (loose : Bool) (text : List ℕ) → IsUtf8 text → (h : IsHyphen loose text) → hyphen_ends loose text ≡ Some (ends_of loose text h)
+unfolding hyphen_ends
+hyphen-read loose text u h =
+    let v = before-utf8 loose text h.before h.lower u h.blank in
+    let w = tail-utf8 45 h.after (omega arith) (skips-utf8 h.before (45 ∷ h.after) h.dash v) in
+    let quiet = boundary-quiet h.before (boundary-of h.before (inr h.blank)) in
+    rw (end-read loose text h.before h.lower quiet, lt-ltb 0 (space_len h.before) (blank-len h.before h.blank),
+    skips-of h.before (45 ∷ h.after) v h.dash, lt-ltb 0 (space_len h.after) (blank-len h.after h.gap), skips-of h.after h.second w h.skipped,
+    end-read loose h.second [] h.upper refl) refl
+
+pub hyphen-found : (loose : Bool) (text : List ℕ) (e : Ended × Ended) → IsUtf8 text → hyphen_ends loose text ≡ Some e
+    → (h : IsHyphen loose text) × (e ≡ ends_of loose text h)
+unfolding hyphen_ends
+hyphen-found loose text e u h =
+    let a = bind_some (end_front loose text) _ e h in
+    let second = bind_some (after_dash a.0.1) _ e a.2 in
+    let b = bind_some (last_end loose second.0) (λ b. Some (a.0.0, b)) e second.2 in
+    let l = bind_some (end_front loose second.0) _ b.0 b.1 in
+    let ended = cond_some (is_empty l.0.1) l.0.0 b.0 l.2 in
+    let lower = end-found loose text a.0 u a.1 in
+    let front = lower.0.marks ++ lower.0.places in
+    let whole : text ≡ front ++ a.0.1 = lower.0.divided ∙ sym (append_assoc lower.0.marks lower.0.places a.0.1) in
+    let sign = bind_some (after_some_space a.0.1) _ second.0 second.1 in
+    let s = some_space-is front a.0.1 sign.0 (subst (λ (t : List ℕ). IsUtf8 t) whole u) sign.1 in
+    let gap = bind_some (after_byte 45 sign.0) after_some_space second.0 sign.2 in
+    let dash = byte-is 45 sign.0 gap.0 gap.1 in
+    let w = tail-utf8 45 gap.0 (omega arith) (subst (λ (t : List ℕ). IsUtf8 t) dash (skips-utf8 a.0.1 sign.0 s.2 s.0)) in
+    let t = some_space-is [] gap.0 second.0 w gap.2 in
+    let found = end-found loose second.0 l.0 (skips-utf8 gap.0 second.0 t.2 w) l.1 in
+    let upper = subst (λ (r : List ℕ). EndRead loose second.0 (l.0.0, r)) (empty-is l.0.1 ended.0) found in (
+      record {
+        before = a.0.1;
+        after = gap.0;
+        second = second.0;
+        lower = lower.0;
+        blank = s.1;
+        dash = subst (λ (t : List ℕ). SkipsBlank a.0.1 t) dash s.2;
+        gap = t.1;
+        skipped = t.2;
+        upper = upper.0;
+      },
+      sym (same_Some (a.0.0, b.0) e b.2) ∙ ap₂ (λ (x y : Ended). (x, y)) lower.1 (sym ended.1 ∙ upper.1),
+    )
+
+-- ---- the marks behind the last whitespace
+
+last-marks : (marks : List ℕ) → list_all is_mark (last_marks marks) ≡ true
+last-marks marks = list_all-from_AllPass is_mark (last_marks marks) go
+  where
+    size : ℕ
+    size = length marks
+
+    start : ℕ
+    start = size - suffix_len is_mark marks
+
+    go : (k d : ℕ) → k < length (drop start marks) → is_mark (get_or (drop start marks) k d) ≡ true
+    go k d l =
+        let at : size - 1 - (size - 1 - (start + k)) ≡ start + k = omega (arith, length-drop start marks) in
+        ap is_mark (get_or-drop start marks k d ∙ ap (λ (i : ℕ). get_or marks i d) (sym at)
+        ∙ sym (get_or-reverse marks (size - 1 - (start + k)) d (omega (arith, length-drop start marks))))
+        ∙ prefix_len_passes is_mark (reverse marks) (size - 1 - (start + k)) d (omega (arith, length-drop start marks, suffix_len-le-length is_mark marks))
+
+marks-counted : (marks u : List ℕ) → list_all is_mark marks ≡ true → begins_component u ≡ true → marks_len (marks ++ u) ≡ length marks
+marks-counted [] u h k = grind (arith, nat_tests)
+marks-counted (b ∷ marks) u h k = grind (arith, nat_tests, common_steps, and_parts, marks-counted marks u)
+
+short-places : (loose : Bool) (marks x : List ℕ) (p : Partial) → IsPlaces loose x p → is_short_word loose (last_marks marks ++ x) ≡ is_short loose x
+short-places loose marks x p h =
+    let begin : begins_component x ≡ true = rw append-nil at (places-begin loose x [] p h) in
+    let passed = drop_at (last_marks marks) x _ (sym (marks-counted (last_marks marks) x (last-marks marks) begin)) in
+    ap (is_short loose) passed
+
+-- ---- which ends are right
+
+-- the ends that are right are those of the statement
+pub right-end : (loose : Bool) (changes : VersionValue → Bool) (text rest : List ℕ) (h : IsEnd loose text rest)
+    → is_right loose (is_free changes) (ended_of loose text rest h) ≡ is_right_end loose changes h.partial h.marks h.places
+right-end loose changes text rest h =
+    ap (λ (short : Bool). short && (loose || (is_free changes h.partial || are_whole_marks h.marks))) (short-places loose h.marks h.places h.partial h.is)
+
+-- ---- partials that are left out
+
+-- the partial is left out where its numbers that count are past the limit, or where it is too long
+abbrev pub counted_of : Bool → ℕ → Ended → CountedEnd
+counted_of loose limit e = (e.0, (if is_small limit e.1 && is_short_word loose e.2 then Some e.1 else None), e.2)
+
+end-counted : (loose : Bool) (limit : ℕ) (text : List ℕ) → counted_end loose limit text ≡ (end_front loose text >>? λ e. Some (counted_of loose limit e.0, e.1))
+unfolding counted_end end_front
+end-counted loose limit text = go (places_front loose (drop_ends text)) refl
+  where
+    behind : List ℕ
+    behind = drop_ends text
+
+    front : List ℕ
+    front = take (length text - length behind) text
+
+    go : (o : Front Partial) → places_front loose behind ≡ o
+        → ((o >>? λ p. Some (if is_small limit p.0 && is_short loose (take (length behind - length p.1) behind) then Some p.0 else None, p.1))
+        >>? λ p. Some (counted_as text behind p)) ≡ ((o >>? λ p. Some (ended_as text behind p)) >>? λ e. Some (counted_of loose limit e.0, e.1))
+    go None e = refl
+    go (Some p) e =
+        let f = places-found loose behind p.0 p.1 e in
+        let piece : take (length behind - length p.1) behind ≡ f.piece =
+        ap (λ (t : List ℕ). take (length t - length p.1) t) f.split ∙ front-text f.piece p.1 in
+        let short : is_short_word loose (last_marks front ++ take (length behind - length p.1) behind)
+        ≡ is_short loose (take (length behind - length p.1) behind) = rw piece (short-places loose front f.piece p.0 f.is) in
+        rw short refl
+
+pub hyphen-counted : (loose : Bool) (limit : ℕ) (text : List ℕ)
+    → counted_hyphen loose limit text ≡ (hyphen_ends loose text >>? λ e. Some (counted_of loose limit e.0, counted_of loose limit e.1))
+unfolding hyphen_ends
+hyphen-counted loose limit text = grind (arith, nat_tests, common_steps, end-counted)
+
+-- the identifiers of the others are in normal form
+pre-normal : (loose wild : Bool) (fits : List ℕ → Bool) (text : List ℕ) (ids : List Id) → IsPreRelease loose wild fits text ids → list_all is_normal ids ≡ true
+pre-normal loose wild fits text ids h = grind (arith, nat_tests, common_steps, identifiers-normal)
+
+build-normal : (text : List ℕ) (ids : List Id) → IsStrictBuild text ids → list_all is_normal ids ≡ true
+build-normal text ids no_build = refl
+build-normal text ids (plus t list h) = identifiers-normal t list h
+
+pub places-normal : (loose : Bool) (text : List ℕ) (p : Partial) → IsPlaces loose text p → are_normal p ≡ true
+places-normal loose text p h = grind (arith, nat_tests, common_steps, pre-normal, build-normal)
+
+counted-normal : (loose : Bool) (limit : ℕ) (text : List ℕ) (e : Ended) (rest : List ℕ) → end_front loose text ≡ Some (e, rest)
+    → some_normal (counted_of loose limit e).1 ≡ true
+unfolding end_front
+counted-normal loose limit text e rest h =
+    let p = bind_some (places_front loose (drop_ends text)) (λ p. Some (ended_as text (drop_ends text) p)) (e, rest) h in
+    let f = places-found loose (drop_ends text) p.0.0 p.0.1 p.1 in
+    let same : p.0.0 ≡ e.1 = ap (λ (x : Ended × List ℕ). x.0.1) (same_Some _ _ p.2) in
+    kept (is_small limit e.1 && is_short_word loose e.2) e.1 (rw same at (places-normal loose f.piece p.0.0 f.is))
+  where
+    kept : (b : Bool) (p : Partial) → are_normal p ≡ true → some_normal (if b then Some p else None) ≡ true
+    kept true p h = h
+    kept false p h = refl
+
+pub hyphen-normal : (loose : Bool) (limit : ℕ) (text : List ℕ) (e : CountedEnd × CountedEnd) → counted_hyphen loose limit text ≡ Some e
+    → (some_normal e.0.1 ≡ true) × (some_normal e.1.1 ≡ true)
+unfolding hyphen_ends
+hyphen-normal loose limit text e h = grind (arith, nat_tests, common_steps, hyphen-counted, counted-normal)
+
+-- ---- readers
+
+-- what stands behind a partial is no longer than the text
+pub partial-le : (loose : Bool) (limit : ℕ) (text : List ℕ) (p : Option Partial) (rest : List ℕ) → Some (p, rest) ≡ counted_front loose limit text
+    → length rest ≤ length text
+partial-le loose limit text p rest h =
+    let q = bind_some (places_front loose text) _ (p, rest) (sym h) in
+    let f = places-found loose text q.0.0 q.0.1 q.1 in
+    omega (arith, ap length f.split, length-append f.piece q.0.1, ap (λ (x : Option Partial × List ℕ). length x.1) (same_Some _ _ q.2))
+
+pub ends_stop : (text : List ℕ) → end_len text ≡ 0 → drop_ends text ≡ text
+unfolding after_ends
+ends_stop text h = grind (arith, nat_tests, common_steps)
+
+pub ends_step : (text : List ℕ) (len : ℕ) → len ≡ end_len text → 0 < len → drop_ends (drop len text) ≡ drop_ends text
+ends_step text len e some = grind (arith, nat_tests, common_steps, ends-mark, ends-more)
+
+-- where the marks begin that are behind the last whitespace
+pub marks-begin : (marks : List ℕ) (start : ℕ) → start ≤ length marks
+    → ((k : ℕ) → start ≤ k → k < length marks → is_mark (get_or marks k 0) ≡ true)
+    → (0 < start → is_mark (get_or marks (start - 1) 0) ≡ false) → drop start marks ≡ last_marks marks
+marks-begin marks start fits each none =
+    let at : start ≡ length marks - suffix_len is_mark marks = omega (arith, suffix_len_is is_mark marks start 0 fits each none) in
+    ap (λ (n : ℕ). drop n marks) at
