@@ -22,6 +22,10 @@ use Rattle.nodejs_semver.proofs.Common.{Front, VersionValue, append-nil, get_or,
 use Rattle.nodejs_semver.proofs.NpmCommon.{CountedEnd, are_whole_marks, counted_as, counted_end, counted_front, counted_hyphen, is_right, is_right_end, is_short}
 use Rattle.nodejs_semver.proofs.NpmCommon.{is_short_word, is_small, marks_len}
 use Rattle.nodejs_semver.specs.{Internal.NpmParts.some_normal, Npm.RangeText.is_free}
+use Rattle.nodejs_semver.proofs.{Common.MAX_SAFE_INTEGER, NpmCommon.{Comparison, hyphen_of, is_free_lower, is_free_upper, is_valid, lower_counted}}
+use Rattle.nodejs_semver.proofs.NpmCommon.{lower_of, upper_counted, upper_of}
+use Rattle.nodejs_semver.proofs.Strict.{Printed.{lower-invalid, upper-invalid}, Words.{marks-dropped, places-begin}}
+use Rattle.nodejs_semver.specs.Internal.NpmReads.{hyphen_valid, valid_one}
 
 -- ---- marks and whitespace at the front
 
@@ -117,13 +121,6 @@ pub marks-passed : (a u : List ℕ) → AreMarks a → begins_component u ≡ tr
 marks-passed a u h k = rw h.1 (ends-read h.0 u h.2 (grind (arith, nat_tests)) (front-dark u k))
 
 -- ---- an end
-
--- the partial of an end begins with a number or a wildcard
-places-begin : (loose : Bool) (x rest : List ℕ) (p : Partial) → IsPlaces loose x p → begins_component (x ++ rest) ≡ true
-places-begin loose x rest p h = grind (arith, nat_tests, common_steps, begins-on, is_component_byte, place-begins)
-  where
-    place-begins : (loose zeros : Bool) (x : List ℕ) (a : Option ℕ) → IsPlace loose zeros x a → begins_component x ≡ true
-    place-begins loose zeros x a h = grind (arith, nat_tests, common_steps, digits-begin)
 
 -- what is read of an end
 abbrev pub ended_of : (loose : Bool) (text rest : List ℕ) → IsEnd loose text rest → Ended
@@ -240,15 +237,8 @@ last-marks marks = list_all-from_AllPass is_mark (last_marks marks) go
         ∙ sym (get_or-reverse marks (size - 1 - (start + k)) d (omega (arith, length-drop start marks))))
         ∙ prefix_len_passes is_mark (reverse marks) (size - 1 - (start + k)) d (omega (arith, length-drop start marks, suffix_len-le-length is_mark marks))
 
-marks-counted : (marks u : List ℕ) → list_all is_mark marks ≡ true → begins_component u ≡ true → marks_len (marks ++ u) ≡ length marks
-marks-counted [] u h k = grind (arith, nat_tests)
-marks-counted (b ∷ marks) u h k = grind (arith, nat_tests, common_steps, and_parts, marks-counted marks u)
-
 short-places : (loose : Bool) (marks x : List ℕ) (p : Partial) → IsPlaces loose x p → is_short_word loose (last_marks marks ++ x) ≡ is_short loose x
-short-places loose marks x p h =
-    let begin : begins_component x ≡ true = rw append-nil at (places-begin loose x [] p h) in
-    let passed = drop_at (last_marks marks) x _ (sym (marks-counted (last_marks marks) x (last-marks marks) begin)) in
-    ap (is_short loose) passed
+short-places loose marks x p h = ap (is_short loose) (marks-dropped loose (last_marks marks) x p (last-marks marks) h)
 
 -- ---- which ends are right
 
@@ -290,6 +280,31 @@ pub hyphen-counted : (loose : Bool) (limit : ℕ) (text : List ℕ)
     → counted_hyphen loose limit text ≡ (hyphen_ends loose text >>? λ e. Some (counted_of loose limit e.0, counted_of loose limit e.1))
 unfolding hyphen_ends
 hyphen-counted loose limit text = grind (arith, nat_tests, common_steps, end-counted)
+
+lower-counted : (loose include : Bool) (limit : ℕ) (e : Ended)
+    → lower_counted loose include (counted_of loose limit e) ≡ (if is_small limit e.1 && is_right loose is_free_lower e then Some (lower_of include e) else None)
+lower-counted loose include limit e = grind arith
+
+upper-counted : (loose include : Bool) (limit : ℕ) (e : Ended)
+    → upper_counted loose include (counted_of loose limit e) ≡ (if is_small limit e.1 && is_right loose (is_free_upper include) e then Some (upper_of include e) else None)
+upper-counted loose include limit e = grind arith
+
+-- the hyphen ranges of which an end is left out are not right, or not valid
+pub hyphen-valid : (loose include : Bool) (e : Ended × Ended)
+    → hyphen_valid loose include (counted_of loose MAX_SAFE_INTEGER e.0) (counted_of loose MAX_SAFE_INTEGER e.1) ≡ (hyphen_of loose include e >>? valid_one)
+hyphen-valid loose include e =
+    rw (lower-counted loose include MAX_SAFE_INTEGER e.0, upper-counted loose include MAX_SAFE_INTEGER e.1)
+    (both (is_small MAX_SAFE_INTEGER e.0.1) (is_right loose is_free_lower e.0) (is_small MAX_SAFE_INTEGER e.1.1) (is_right loose (is_free_upper include) e.1)
+    (lower_of include e.0) (upper_of include e.1) (lower-invalid MAX_SAFE_INTEGER _ include e.0.1 e.0.2)
+    (upper-invalid MAX_SAFE_INTEGER _ include e.1.1 e.1.2))
+  where
+    both : (a b c d : Bool) (cs ds : List Comparison) → (a ≡ false → list_all (is_valid MAX_SAFE_INTEGER) cs ≡ false)
+        → (c ≡ false → list_all (is_valid MAX_SAFE_INTEGER) ds ≡ false)
+        → ((if a && b then Some cs else None) >>? λ cs. (if c && d then Some ds else None) >>? λ ds. valid_one (false, cs ++ ds))
+        ≡ ((if b && d then Some (false, cs ++ ds) else None) >>? valid_one)
+    both true b true d cs ds f g = grind arith
+    both false b c d cs ds f g = let none = f refl in grind (arith, nat_tests, common_steps)
+    both true b false d cs ds f g = let none = g refl in grind (arith, nat_tests, common_steps)
 
 -- the identifiers of the others are in normal form
 pre-normal : (loose wild : Bool) (fits : List ℕ → Bool) (text : List ℕ) (ids : List Id) → IsPreRelease loose wild fits text ids → list_all is_normal ids ≡ true

@@ -18,9 +18,7 @@ use Rattle.semver_core.{proofs.Printing.Returns.decimal_some, specs.{Internal.Co
 use Rattle.std.proofs.lemmas.{Fmt.{decimal_digit, decimal_injective, length-decimal-le}, List.Splits.join_with_byte-slice_split}
 use Rattle.std.{proofs.lemmas.{List.Splits.length-slice_split, Str.{IsUtf8-from_ascii, chars-IsAscii}}, specs.Str.IsAscii}
 use Rattle.nodejs_semver.proofs.Common.{Comparator}
-use Rattle.nodejs_semver.proofs.NpmCommon.{hyphen_lower, hyphen_of, is_free_lower, is_free_upper, is_right, lower_counted, lower_of}
-use Rattle.nodejs_semver.proofs.NpmCommon.{upper_counted, upper_of}
-use Rattle.nodejs_semver.{proofs.Strict.Hyphens.counted_of, specs.Internal.NpmReads.{hyphen_valid, valid_one}}
+use Rattle.nodejs_semver.proofs.NpmCommon.{hyphen_lower}
 use Rattle.nodejs_semver.specs.Npm.Table as Table
 
 -- ---- lengths
@@ -112,38 +110,13 @@ table-invalid limit include s p text h = grind (arith, one-three, next-three)
 
 -- ---- the ends of a hyphen range
 
-lower-invalid : (limit : ℕ) (c : Comparator) (include : Bool) (p : Partial) (text : List ℕ) → is_small limit p ≡ false
+pub lower-invalid : (limit : ℕ) (c : Comparator) (include : Bool) (p : Partial) (text : List ℕ) → is_small limit p ≡ false
     → list_all (is_valid limit) (hyphen_lower c include p text) ≡ false
 lower-invalid limit c include p text h = grind (arith, nat_tests, common_steps, table-invalid)
 
-upper-invalid : (limit : ℕ) (c : Comparator) (include : Bool) (p : Partial) (text : List ℕ) → is_small limit p ≡ false
+pub upper-invalid : (limit : ℕ) (c : Comparator) (include : Bool) (p : Partial) (text : List ℕ) → is_small limit p ≡ false
     → list_all (is_valid limit) (hyphen_upper c include p text) ≡ false
 upper-invalid limit c include p text h = grind (arith, nat_tests, common_steps, table-invalid)
-
-lower-counted : (loose include : Bool) (limit : ℕ) (e : Ended)
-    → lower_counted loose include (counted_of loose limit e) ≡ (if is_small limit e.1 && is_right loose is_free_lower e then Some (lower_of include e) else None)
-lower-counted loose include limit e = grind arith
-
-upper-counted : (loose include : Bool) (limit : ℕ) (e : Ended)
-    → upper_counted loose include (counted_of loose limit e) ≡ (if is_small limit e.1 && is_right loose (is_free_upper include) e then Some (upper_of include e) else None)
-upper-counted loose include limit e = grind arith
-
--- the hyphen ranges of which an end is left out are not right, or not valid
-pub hyphen-valid : (loose include : Bool) (e : Ended × Ended)
-    → hyphen_valid loose include (counted_of loose MAX_SAFE_INTEGER e.0) (counted_of loose MAX_SAFE_INTEGER e.1) ≡ (hyphen_of loose include e >>? valid_one)
-hyphen-valid loose include e =
-    rw (lower-counted loose include MAX_SAFE_INTEGER e.0, upper-counted loose include MAX_SAFE_INTEGER e.1)
-    (both (is_small MAX_SAFE_INTEGER e.0.1) (is_right loose is_free_lower e.0) (is_small MAX_SAFE_INTEGER e.1.1) (is_right loose (is_free_upper include) e.1)
-    (lower_of include e.0) (upper_of include e.1) (lower-invalid MAX_SAFE_INTEGER _ include e.0.1 e.0.2)
-    (upper-invalid MAX_SAFE_INTEGER _ include e.1.1 e.1.2))
-  where
-    both : (a b c d : Bool) (cs ds : List Comparison) → (a ≡ false → list_all (is_valid MAX_SAFE_INTEGER) cs ≡ false)
-        → (c ≡ false → list_all (is_valid MAX_SAFE_INTEGER) ds ≡ false)
-        → ((if a && b then Some cs else None) >>? λ cs. (if c && d then Some ds else None) >>? λ ds. valid_one (false, cs ++ ds))
-        ≡ ((if b && d then Some (false, cs ++ ds) else None) >>? valid_one)
-    both true b true d cs ds f g = grind arith
-    both false b c d cs ds f g = let none = f refl in grind (arith, nat_tests, common_steps)
-    both true b false d cs ds f g = let none = g refl in grind (arith, nat_tests, common_steps)
 
 -- ---- numbers and identifiers print as they are written
 
