@@ -6,11 +6,11 @@ use Rattle.nodejs_semver.proofs.Common.{empty_is, encode_utf8_all, eqb-true, fal
 use Rattle.nodejs_semver.proofs.Common.{is_empty, is_identifier, is_identifier_char, is_release, length, length-append, list_all, map}
 use Rattle.nodejs_semver.proofs.Common.{nat_tests, pieces, refl, subst, suc, sym, true, zero, ℕ, ◌&&◌, ◌++◌, ◌+◌, ◌<◌, ◌==◌, ◌^◌, ◌||◌}
 use Rattle.nodejs_semver.proofs.{Common.{◌∙◌, ◌∷◌, ◌≡◌, ◌≤◌}, NpmCommon.{Comparison, Ended, IsStrictPreRelease, IsStrictVersion}}
-use Rattle.nodejs_semver.proofs.NpmCommon.{IsVersionText, MAX_LENGTH, Numbers, Signed, any_word, bare, both_ways, bytes_eq}
+use Rattle.nodejs_semver.proofs.NpmCommon.{IsVersionText, MAX_LENGTH, Numbers, bare, both_ways, bytes_eq}
 use Rattle.nodejs_semver.proofs.NpmCommon.{bytes_eq-Decides, chars, chars_from_encodes, dashed, first, from}
 use Rattle.nodejs_semver.proofs.NpmCommon.{hyphen_upper, id_text, is_small, is_strict_identifier, is_valid, is_zero, join_with_byte}
-use Rattle.nodejs_semver.proofs.NpmCommon.{limited_hyphen, limited_word, marked_list, nat_le, no_build, no_pre_release, release, under}
-use Rattle.nodejs_semver.proofs.NpmCommon.{valid_only, valid_words, version_text, whole, within, word_front, ◌>>?◌}
+use Rattle.nodejs_semver.proofs.NpmCommon.{marked_list, nat_le, no_build, no_pre_release, release, under}
+use Rattle.nodejs_semver.proofs.NpmCommon.{version_text, whole, within}
 use Rattle.nodejs_semver.proofs.{Stopping.Read.{plain-encodes, plain-middle, plain-trim}, Strict.VersionLaw.digits_printed}
 use Rattle.nodejs_semver.{proofs.Strict.VersionLaw.number_printed, specs.{Internal.NpmWords.words_within, Npm.Table.{Partial, Sign}}}
 use Rattle.{nodejs_semver.specs.Npm.{Table.{lowest, table}, VersionText.written}, semver_core.proofs.Printing.Returns.decimal_digits}
