@@ -5,12 +5,12 @@ use Rattle.nodejs_semver.proofs.Common.{and_parts, arith, begins, bind_some, cas
 use Rattle.nodejs_semver.proofs.Common.{encode_utf8_all, false, inl, inr, is_empty, is_whitespace, len_utf8_bounds, length, length-append}
 use Rattle.nodejs_semver.proofs.Common.{length-drop, length-encode, list_all, lt-ltb, nat_tests, not, refl, same_Some, space_len, ap₂}
 use Rattle.nodejs_semver.proofs.Common.{space_len-nil, subst, suc, sym, take, true, zero, ℕ, ◌&&◌, ◌++◌, ◌+◌, ◌-◌, ◌<◌, ◌||◌, ◌∙◌, ◌∷◌, ◌≡◌, ◌≤◌}
-use Rattle.nodejs_semver.proofs.NpmCommon.{AreMarks, Ended, IsEnd, IsHyphen, IsPlace, IsPlaces, IsStrictBuild, after_byte, after_ends, are_normal}
+use Rattle.nodejs_semver.proofs.NpmCommon.{AreMarks, Ended, IsEnd, IsHyphen, IsPlaces, IsStrictBuild, after_byte, after_ends, are_normal}
 use Rattle.nodejs_semver.proofs.NpmCommon.{drop_ends, encode_ascii, end_front, ended_as, hyphen_ends, is_mark, last_end, last_marks, len_utf8, plus}
 use Rattle.nodejs_semver.proofs.NpmCommon.{space_len-white, no_build, ◌>>?◌}
-use Rattle.nodejs_semver.proofs.Reading.{Bytes.{begins-on, begins_component, is_component_byte, is_solid, solid-dark}, PartialLaw.front-dark}
+use Rattle.nodejs_semver.proofs.Reading.{Bytes.{begins_component, is_component_byte, is_solid, solid-dark}, PartialLaw.front-dark}
 use Rattle.nodejs_semver.proofs.Reading.WordLaw.{blank-len, boundary-of, boundary-utf8, byte-is, skips-of, skips-utf8, some_space-is, tail-utf8}
-use Rattle.nodejs_semver.proofs.Strict.PartialLaw.{boundary-quiet, digits-begin, front-text, places-found, places-read}
+use Rattle.nodejs_semver.proofs.Strict.PartialLaw.{boundary-quiet, front-text, places-found, places-read}
 use Rattle.nodejs_semver.proofs.Strict.VersionLaw.{empty-is}
 use Rattle.nodejs_semver.specs.Internal.{NpmWords.{after_dash, end_len, places_front}, Words.after_some_space}
 use Rattle.nodejs_semver.specs.{Npm.{Grammar.IsPreRelease, Table.Partial}, Text.WordText.SkipsBlank}
@@ -20,7 +20,7 @@ use Rattle.std.proofs.lemmas.Str.{IsUtf8-past_char, encode_same}
 use Rattle.std.specs.{List.suffix_len, Prelude.reverse}
 use Rattle.nodejs_semver.proofs.Common.{Front, VersionValue, append-nil, get_or, if◌then◌else◌}
 use Rattle.nodejs_semver.proofs.NpmCommon.{CountedEnd, are_whole_marks, counted_as, counted_end, counted_front, counted_hyphen, is_right, is_right_end, is_short}
-use Rattle.nodejs_semver.proofs.NpmCommon.{is_short_word, is_small, marks_len}
+use Rattle.nodejs_semver.proofs.NpmCommon.{is_short_word, is_small}
 use Rattle.nodejs_semver.specs.{Internal.NpmParts.some_normal, Npm.RangeText.is_free}
 use Rattle.nodejs_semver.proofs.{Common.MAX_SAFE_INTEGER, NpmCommon.{Comparison, hyphen_of, is_free_lower, is_free_upper, is_valid, lower_counted}}
 use Rattle.nodejs_semver.proofs.NpmCommon.{lower_of, upper_counted, upper_of}
