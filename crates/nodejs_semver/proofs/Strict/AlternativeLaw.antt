@@ -1,39 +1,16 @@
--- Hyphen ranges and alternatives of node-semver's range texts: the functions that read them find exactly what the statement has, and the code
--- those whose numbers are up to the limit.
-use Rattle.nodejs_semver.proofs.{Bounds.Bounded.identifiers-normal, Common.{AllByRecursion, Bool, Bor, Front, Id, IsBlank}}
-use Rattle.nodejs_semver.proofs.Common.{IsCharBoundary-after_ascii, IsUtf8, IsUtf8-drop, List, MAX_SAFE_INTEGER, None, Option, Some}
-use Rattle.nodejs_semver.proofs.Common.{VersionValue, [], after_spaces, all_weaker, and_parts, ap, append-nil, append_assoc, arith, begins}
-use Rattle.nodejs_semver.proofs.Common.{bind_some, cases_Bool, common_steps, cond_some, drop, drop_at, drop_spaces, drop_spaces-blank}
-use Rattle.nodejs_semver.proofs.Common.{drop_spaces-none, encode_utf8, encode_utf8_all, equal, false, if◌then◌else◌, inl, inr, is_boundary}
-use Rattle.nodejs_semver.proofs.Common.{is_empty, is_normal, is_some, is_whitespace, len_utf8_bounds, length, length-append, length-drop}
-use Rattle.nodejs_semver.proofs.Common.{length-encode, list_all, map, middle_is_trim, nat_tests, not, or_right, prefix_len, refl}
-use Rattle.nodejs_semver.proofs.Common.{same_Some, space_len, space_len-nil, subst, suc, sym, take, take_rest, trim, trim_is_middle, true}
-use Rattle.nodejs_semver.proofs.Common.{zero, ℕ, ◌&&◌, ◌++◌, ◌+◌, ◌-◌, ◌<◌, ◌==◌, ◌||◌, ◌↔◌, ◌∙◌, ◌∷◌, ◌≡◌, ◌≤◌}
+-- Alternatives of node-semver's range texts: the functions that read them find exactly what the statement has.
+use Rattle.nodejs_semver.proofs.Common.{AllByRecursion, Bool, Front, IsCharBoundary-after_ascii, IsUtf8, IsUtf8-drop, List, MAX_SAFE_INTEGER, None, Option, Some}
+use Rattle.nodejs_semver.proofs.Common.{VersionValue, [], and_parts, ap, arith, bind_some, cases_Bool, common_steps, cond_some, drop, false, if◌then◌else◌, inl, inr, is_boundary, ◌++◌}
+use Rattle.nodejs_semver.proofs.Common.{is_empty, length, length-append, length-drop, list_all, map, middle_is_trim, nat_tests, prefix_len, refl}
+use Rattle.nodejs_semver.proofs.Common.{same_Some, subst, suc, sym, take, take_rest, trim, trim_is_middle, true, ℕ, ◌&&◌, ◌+◌, ◌-◌, ◌<◌, ◌↔◌, ◌∙◌, ◌∷◌, ◌≡◌, ◌≤◌}
 use Rattle.nodejs_semver.proofs.{Dividing.{BarsDivide.{bars_divide, bars_once}, MeaningLaw.pieces-utf8}, NpmCommon.AreAlternatives}
-use Rattle.nodejs_semver.proofs.NpmCommon.{AreMarks, AreWords, Comparison, Ended, HasAlternativesIn, IsAlternative, IsPartial, IsPlaces}
-use Rattle.nodejs_semver.proofs.NpmCommon.{IsStrictBuild, IsVersionText, IsWord, Signed, after_byte, after_ends, alternative_of, is_short}
-use Rattle.nodejs_semver.proofs.NpmCommon.{alternatives_of, any_word, are_normal, are_whole_marks, begins_malformed, compared}
-use Rattle.nodejs_semver.proofs.NpmCommon.{counted_front, drop_ends, encode_ascii, end_front, ended_end, hyphen_comparisons, hyphen_ends}
-use Rattle.nodejs_semver.proofs.NpmCommon.{hyphen_lower, hyphen_of, hyphen_upper, ignored, ignored_front, is_free_lower, is_free_upper}
-use Rattle.nodejs_semver.proofs.NpmCommon.{is_malformed, is_mark, is_small, is_valid, is_visible, kept, last, last_end, len_utf8, limited}
-use Rattle.nodejs_semver.proofs.NpmCommon.{limited_end, limited_hyphen, limited_word, marked_word, marks_len, no_build}
-use Rattle.nodejs_semver.proofs.NpmCommon.{npm_sign, or_else, plus, signed_front_view, signed_word, space_len-white, strict_version}
-use Rattle.nodejs_semver.proofs.{NpmCommon.{wildcard, word, ◌>>?◌}, Reading.Bytes.{all-join, begins_component, is_solid, solid-dark}}
-use Rattle.nodejs_semver.proofs.Reading.{PartialLaw.front-dark, Steps.option-cases, WordLaw.{byte-is, tail-utf8, trim-utf8}}
-use Rattle.nodejs_semver.proofs.Strict.Malformed.{blank-dark, blank-signal, boundary-dark, is_dark, is_part, is_signal, malformed-all}
-use Rattle.nodejs_semver.proofs.Strict.{Malformed.{malformed-more, part-visible, partial-part, sign-signal}, PartialLaw.boundary-quiet}
-use Rattle.nodejs_semver.proofs.Strict.{PartialLaw.{counted_limited, held, partial-found, partial-read, prefix-all}, Signs.blank-at}
-use Rattle.nodejs_semver.proofs.Strict.{Signs.{blank-skipped, marks-all}, VersionLaw.{empty-is, strict-read-version}, Words.blank-boundary}
-use Rattle.nodejs_semver.proofs.Strict.Words.{blank-some, blank-space, not-empty, partial-begins, rest-utf8, space-boundary}
-use Rattle.nodejs_semver.{proofs.Strict.Words.{words-found, words-read, words-visible}, specs.Internal.NpmWords.{after_dash, end_len}}
-use Rattle.nodejs_semver.specs.Internal.{NpmWords.{last_limited, npm_alternatives, partial_front, words_within}, Words.after_some_space}
-use Rattle.nodejs_semver.specs.Npm.{Grammar.IsPreRelease, RangeText.{hyphen, more, next, nothing, words}, Table.{Partial, Sign}}
-use Rattle.{semver_core.proofs.Text.SpaceLaw.space_len-dark, std.proofs.lemmas.Str.{IsUtf8-past_char, encode_same}}
-use Rattle.nodejs_semver.specs.Internal.NpmWords.{places_front}
-use Rattle.nodejs_semver.proofs.Strict.PartialLaw.{front-text}
-use Rattle.nodejs_semver.proofs.Strict.PartialLaw.{places-found}
-use Rattle.nodejs_semver.proofs.Strict.Hyphens.{partial-le, places-normal}
-use Rattle.nodejs_semver.specs.declared.npm.words.Signed as Runtime
+use Rattle.nodejs_semver.proofs.NpmCommon.{AreWords, Comparison, Counted, HasAlternativesIn, IsAlternative, IsHyphen, IsPartial, IsVersionText, Ended, alternative_of}
+use Rattle.nodejs_semver.proofs.NpmCommon.{alternatives_of, are_normal, comparators_of, counted_front, counted_word, hyphen_ends, hyphen_of, is_free_lower, is_free_upper, is_lost}
+use Rattle.nodejs_semver.proofs.NpmCommon.{is_mark, is_right, is_valid, kept, lower_of, marks_len, npm_sign, strict_version, upper_of, words_of_all, words_within, ◌>>?◌}
+use Rattle.nodejs_semver.proofs.{Reading.{Steps.option-cases, WordLaw.trim-utf8}, Strict.Hyphens.{ended_of, ends_of, hyphen-found, hyphen-read, partial-le, places-normal}}
+use Rattle.nodejs_semver.proofs.Strict.{Hyphens.right-end, PartialLaw.{places-found, prefix-all}, VersionLaw.strict-read-version, Words.{words-found, words-read}}
+use Rattle.nodejs_semver.specs.Internal.{NpmParts.some_normal, NpmWords.{are_counted_marks, hyphen_or, npm_alternatives, places_front}}
+use Rattle.nodejs_semver.specs.Npm.{RangeText.{hyphen, next, words}, Table.Partial}
 
 -- ---- marks
 
@@ -51,59 +28,9 @@ marks-utf8 (c ∷ rest) u = elim (cases_Bool (is_mark c)) [
       rw (mark, more) (marks-utf8 rest (IsUtf8-drop (c ∷ rest) 1 u (IsCharBoundary-after_ascii (c ∷ rest) 0 u (omega arith) low)))
 ]
 
-word-limited : (loose : Bool) (limit : ℕ) (s : Sign × List ℕ) (o : Front Partial) → limited_word limit (marked_word loose s o) ≡ marked_word loose s (limited limit o)
-word-limited loose limit s None = refl
-word-limited loose limit s (Some p) = grind (arith, nat_tests, common_steps)
-
--- the word of a sign and of the partial that was read behind the marks
-pub word_here : (loose : Bool) (text : List ℕ) (s : Sign × List ℕ) (at : ℕ) (o : Front (Option Partial)) → s ≡ npm_sign text → at ≡ marks_len s.1
-    → o ≡ counted_front loose MAX_SAFE_INTEGER (take (length s.1 - at) (drop at s.1))
-    → marked_word loose s (held o) ≡ limited_word MAX_SAFE_INTEGER (signed_word loose text)
-unfolding signed_word
-word_here loose text s at o e is read = grind (arith, nat_tests, common_steps, take_rest, counted_limited, word-limited)
-
 pub behind-le : (loose : Bool) (limit : ℕ) (text : List ℕ) (at : ℕ) (p : Option Partial) (rest : List ℕ)
     → Some (p, rest) ≡ counted_front loose limit (take (length text - at) (drop at text)) → length rest ≤ length text
 behind-le loose limit text at p rest h = grind (arith, nat_tests, common_steps, partial-le, take_rest, length-drop)
-
--- ---- malformed words
-
-pub not-loose : (loose : Bool) (text : List ℕ) → loose ≡ false → ignored_front loose text ≡ None
-unfolding ignored_front
-not-loose loose text h = rw h refl
-
-pub no-boundary : (loose : Bool) (text : List ℕ) (at : ℕ) (ends : Bool) → at ≡ prefix_len is_visible text
-    → ends ≡ is_boundary (take (length text - at) (drop at text)) → ends ≡ false → ignored_front loose text ≡ None
-unfolding ignored_front
-no-boundary loose text at ends e h k =
-    let none : is_boundary (drop (prefix_len is_visible text) text) ≡ false =
-    ap (λ (n : ℕ). is_boundary (drop n text)) (sym e) ∙ ap is_boundary (sym (take_rest text at)) ∙ sym h ∙ k in
-    rw none (no-ending loose (begins_malformed text) (drop (prefix_len is_visible text) text))
-  where
-    no-ending : (a b : Bool) (rest : List ℕ)
-        → ◌≡◌ {A = Front Signed} (if a && (b && false) then Some ((compared equal, wildcard, []), rest) else None) None
-    no-ending a b rest = grind arith
-
-pub ignored-here : (loose : Bool) (text : List ℕ) (at : ℕ) (ends : Bool) → loose ≡ true → begins_malformed text ≡ true
-    → at ≡ prefix_len is_visible text → ends ≡ is_boundary (take (length text - at) (drop at text)) → ends ≡ true
-    → ◌≡◌ {A = Front Signed} (Some ((compared equal, wildcard, []), take (length text - at) (drop at text))) (ignored_front loose text)
-unfolding ignored_front
-ignored-here loose text at ends l m e h k = grind (arith, nat_tests, common_steps)
-
-any-limited : (loose : Bool) (text : List ℕ)
-    → limited_word MAX_SAFE_INTEGER (any_word loose text) ≡ or_else (ignored_front loose text) (limited_word MAX_SAFE_INTEGER (signed_word loose text))
-unfolding any_word ignored_front
-any-limited loose text = grind (arith, nat_tests, common_steps)
-
--- the malformed word that is there, or else a well-formed one
-pub any-ignored : (loose : Bool) (text : List ℕ) (o : Option (Runtime.Signed × Bor (List ℕ))) → signed_front_view o ≡ ignored_front loose text
-    → is_some o ≡ true → signed_front_view o ≡ limited_word MAX_SAFE_INTEGER (any_word loose text)
-any-ignored loose text o e h = grind (arith, nat_tests, common_steps, any-limited)
-
-pub any-signed : (loose : Bool) (text : List ℕ) (o : Option (Runtime.Signed × Bor (List ℕ))) (r : Front Signed)
-    → signed_front_view o ≡ ignored_front loose text → is_some o ≡ false
-    → r ≡ limited_word MAX_SAFE_INTEGER (signed_word loose text) → r ≡ limited_word MAX_SAFE_INTEGER (any_word loose text)
-any-signed loose text o r e h k = grind (arith, nat_tests, common_steps, any-limited)
 
 pub ruleset marks_found = (marks_all)
 
@@ -112,168 +39,83 @@ pub ruleset marks_found = (marks_all)
 pub partial-normal : (loose : Bool) (text : List ℕ) (p : Partial) → IsPartial loose text p → are_normal p ≡ true
 partial-normal loose text p h = places-normal loose text p h.0
 
-front-normal : (loose : Bool) (text : List ℕ) (p : Partial × List ℕ) → partial_front loose text ≡ Some p → are_normal p.0 ≡ true
-front-normal loose text p h = let found = partial-found loose text p.0 p.1 h in partial-normal loose found.piece p.0 found.is
-
--- ---- words
-
-signed-normal : (loose : Bool) (text : List ℕ) (w : Signed × List ℕ) → signed_word loose text ≡ Some w → are_normal w.0.1 ≡ true
-unfolding signed_word
-signed-normal loose text w h = grind (arith, nat_tests, common_steps, cond_some, front-normal)
-
-pub word-normal : (loose : Bool) (text : List ℕ) (w : Signed × List ℕ) → limited_word MAX_SAFE_INTEGER (any_word loose text) ≡ Some w → are_normal w.0.1 ≡ true
-unfolding any_word ignored_front
-word-normal loose text w h = grind (arith, nat_tests, common_steps, cond_some, signed-normal)
-
--- ---- no `-` stands alone behind whitespace in words
-
-abbrev is_other : ℕ → Bool
-is_other b = not (b == 45)
-
--- a `-` behind which a byte stands that is no visible character
-abbrev lone : List ℕ → Bool
-lone [] = false
-lone (b ∷ rest) = (b == 45) && (not (is_empty rest) && not (begins is_visible rest))
-
--- such a `-` stands behind a byte that is no visible character
-abbrev apart : List ℕ → Bool
-apart [] = false
-apart (b ∷ rest) = (not (is_visible b) && lone rest) || apart rest
-
-tight-passed : (u v : List ℕ) → list_all is_visible u ≡ true → apart (u ++ v) ≡ apart v
-tight-passed [] v h = refl
-tight-passed (b ∷ u) v h = grind (arith, nat_tests, common_steps, and_parts, tight-passed u v)
-
-other-first : (u v : List ℕ) → list_all is_other u ≡ true → lone v ≡ false → lone (u ++ v) ≡ false
-other-first [] v h k = k
-other-first (b ∷ u) v h k = grind (arith, nat_tests)
-
-and-none : (a b : Bool) → b ≡ false → (a && b) ≡ false
-and-none a b h = grind arith
-
-other-passed : (u v : List ℕ) → list_all is_other u ≡ true → lone v ≡ false → apart (u ++ v) ≡ apart v
-other-passed [] v h k = refl
-other-passed (b ∷ u) v h k = grind (arith, nat_tests, common_steps, and_parts, and-none, other-first, other-passed u v)
-
-loose-more : (u v : List ℕ) → apart v ≡ true → apart (u ++ v) ≡ true
-loose-more [] v h = h
-loose-more (b ∷ u) v h = or_right (not (is_visible b) && lone (u ++ v)) (apart (u ++ v)) (loose-more u v h)
-
--- ---- bytes of whitespace
-
-loose-blank : (x z : List ℕ) → list_all is_dark x ≡ true → 0 < length x → is_empty z ≡ false → begins is_visible z ≡ false
-    → apart (x ++ (45 ∷ z)) ≡ true
-loose-blank [] z h some filled ends = absurd (omega (arith, some))
-loose-blank (b ∷ []) z h some filled ends = rw ((and_parts (is_dark b) true h).0, filled, ends) refl
-loose-blank (b ∷ c ∷ x) z h some filled ends = grind (arith, nat_tests, common_steps, loose-more, and_parts, loose-blank (c ∷ x) z)
-
--- ---- the texts of words
-
-component-first : (u : List ℕ) → begins_component u ≡ true → lone u ≡ false
-component-first u h = grind (arith, nat_tests)
-
--- a word begins with no such `-`, and what is behind it decides
-word-first : (loose : Bool) (include : Bool) (w v : List ℕ) (cs : List Comparison) → IsWord loose include (is_empty v) w cs
-    → (apart (w ++ v) ≡ apart v) × (lone (w ++ v) ≡ false)
-word-first loose include w v cs (ignored x l h) = (tight-passed x v (malformed-all (is_empty v) x h), no-dash x v h)
+counted-normal : (loose : Bool) (limit : ℕ) (text : List ℕ) (p : Option Partial × List ℕ) → counted_front loose limit text ≡ Some p → some_normal p.0 ≡ true
+counted-normal loose limit text p h =
+    let q = bind_some (places_front loose text) _ p h in
+    let f = places-found loose text q.0.0 q.0.1 q.1 in
+    let n = places-normal loose f.piece q.0.0 f.is in
+    subst (λ (r : Option Partial × List ℕ). some_normal r.0 ≡ true) (same_Some _ p q.2) (go _ q.0.0 n)
   where
-    no-dash : (x v : List ℕ) → is_malformed (is_empty v) x ≡ true → lone (x ++ v) ≡ false
-    no-dash [] v h = cc h
-    no-dash (b ∷ []) [] h = and-none (b == 45) false refl
-    no-dash (b ∷ []) (c ∷ v) h =
-        let other = malformed-more (b ∷ []) h in
-        grind arith
-    no-dash (b ∷ c ∷ x) v h =
-        let each = and_parts (is_visible b) (list_all is_visible (c ∷ x)) (malformed-all (is_empty v) (b ∷ c ∷ x) h) in
-        let tight = (and_parts (is_visible c) (list_all is_visible x) each.1).0 in
-        rw tight (and-none (b == 45) false refl)
-word-first loose include w v cs (word signs marks x s p h m e k) =
-    let text_is : (signs ++ (marks ++ x)) ++ v ≡ (signs ++ marks) ++ (x ++ v) = simp append_assoc refl in
-    let sign_other = all_weaker is_signal is_other (λ b k. grind (arith, nat_tests)) signs (sign-signal signs s h) in
-    let mark_other = all_weaker is_mark is_other (λ b k. grind (arith, nat_tests)) marks (marks-all loose s p marks m) in
-    let front = all-join is_other signs marks sign_other mark_other in
-    let tight = all_weaker is_part is_visible part-visible x (partial-part loose x p k) in
-    let first = component-first (x ++ v) (partial-begins loose x v p k) in (
-      rw text_is (other-passed (signs ++ marks) (x ++ v) front first ∙ tight-passed x v tight),
-      rw text_is (other-first (signs ++ marks) (x ++ v) front first),
-    )
+    go : (b : Bool) (q : Partial) → are_normal q ≡ true → some_normal (if b then Some q else None) ≡ true
+    go true q n = n
+    go false q n = refl
 
-words-first : (loose : Bool) (include : Bool) (text : List ℕ) (cs : List Comparison) → AreWords loose include text cs
-    → (apart text ≡ false) × (lone text ≡ false)
-words-first loose include text cs (last t ds h) = rw append-nil at (word-first loose include t [] ds h)
-words-first loose include text cs (more t blank rest ds es h hb some k) =
-    let here = subst (λ (l : Bool). IsWord loose include l t ds) (sym (not-empty blank rest some)) h in
-    let w = word-first loose include t (blank ++ rest) ds here in
-    let r = words-first loose include rest es k in
-    let other = all_weaker is_signal is_other (λ b k. grind (arith, nat_tests)) blank (blank-signal blank hb) in
-    (w.0 ∙ other-passed blank rest other r.1 ∙ r.0, w.1)
+-- the partial of a word that is read
+pub word-normal : (loose : Bool) (text : List ℕ) (w : Counted × List ℕ) → counted_word loose MAX_SAFE_INTEGER text ≡ Some w → some_normal w.0.1 ≡ true
+unfolding counted_word
+word-normal loose text w h =
+    let s = npm_sign text in
+    let p = bind_some (counted_front loose MAX_SAFE_INTEGER (drop (marks_len s.1) s.1)) _ w h in
+    let t = cond_some (are_counted_marks loose s.0 p.0.0 (take (marks_len s.1) s.1) && is_boundary p.0.1) _ w p.2 in
+    subst (λ (r : Counted × List ℕ). some_normal r.0.1 ≡ true) t.1 (counted-normal loose MAX_SAFE_INTEGER _ p.0 p.1)
 
 -- ---- alternatives
 
-no-words : (loose : Bool) (include : Bool) (n : ℕ) (text : List ℕ) → IsUtf8 text → apart text ≡ true → words_within loose include n text ≡ None
-no-words loose include n text u h = elim (option-cases (words_within loose include n text)) [
-  | inl none ↦ none
-  | inr some ↦ cc (h, (words-first loose include text some.0 (words-found loose include n text some.0 u some.1)).0)
-]
-
-by-words : (loose : Bool) (include : Bool) (text : List ℕ) (cs : List Comparison) → AreWords loose include text cs
-    → alternative_of loose include text ≡ Some cs
+pub alternative-read : (loose include : Bool) (text : List ℕ) (lost : Bool) (cs : List Comparison) → IsUtf8 text → IsAlternative loose include text lost cs
+    → alternative_of loose include text ≡ Some (lost, cs)
 unfolding alternative_of
-by-words loose include [] cs h = cc (words-visible loose include [] cs h)
-by-words loose include (b ∷ text) cs h = rw (words-read loose include (length (b ∷ text)) (b ∷ text) cs h (omega arith)) refl
+alternative-read loose include text lost cs u (hyphen t h lower upper) =
+    let low : is_right loose is_free_lower (ended_of loose t h.before h.lower) ≡ true = right-end loose (λ v. false) t h.before h.lower ∙ lower in
+    let high : is_right loose (is_free_upper include) (ended_of loose h.second [] h.upper) ≡ true = right-end loose _ h.second [] h.upper ∙ upper in
+    rw (hyphen-read loose t u h, low, high) refl
+alternative-read loose include text lost cs u (words t all absent w) =
+    let none : hyphen_ends loose t ≡ None = elim (option-cases (hyphen_ends loose t)) [
+      | inl e ↦ e
+      | inr e ↦ absurd (absent (hyphen-found loose t e.0 u e.1).0)
+    ] in
+    rw (none, words-read loose include (length t) t all u w (omega arith)) refl
 
-by-hyphen : (loose : Bool) (include : Bool) (text : List ℕ) (e : Ended × Ended) → IsUtf8 text → apart text ≡ true → hyphen_ends loose include text ≡ Some e
-    → alternative_of loose include text ≡ Some (hyphen_comparisons include e)
+pub alternative-found : (loose include : Bool) (text : List ℕ) (a : Bool × List Comparison) → IsUtf8 text → alternative_of loose include text ≡ Some a
+    → IsAlternative loose include text a.0 a.1
 unfolding alternative_of
-by-hyphen loose include [] e u l h = cc l
-by-hyphen loose include (b ∷ text) e u l h = rw (no-words loose include (length (b ∷ text)) (b ∷ text) u l, h) refl
-
-pub alternative-read : (loose : Bool) (include : Bool) (text : List ℕ) (cs : List Comparison) → IsUtf8 text → IsAlternative loose include text cs
-    → alternative_of loose include text ≡ Some cs
-unfolding alternative_of
-alternative-read loose include text cs u nothing = refl
-alternative-read loose include text cs u (words t ds h) = by-words loose include t ds h
-alternative-read loose include text cs u (hyphen a x blank gap b y p q ha wa hx hb some hg more_gap hc wc hy) =
-    let r = hyphen-read loose include a x blank gap b y p q ha wa hx hb some hg more_gap hc wc hy in
-    let behind = blank ++ 45 ∷ (gap ++ (b ++ y)) in
-    let ends = boundary-dark (gap ++ (b ++ y)) (blank-boundary gap (b ++ y) hg more_gap) in
-    let l = loose-more a (x ++ behind) (loose-more x behind (loose-blank blank (gap ++ (b ++ y)) (blank-dark blank hb) some (not-empty gap (b ++ y) more_gap) ends)) in
-    by-hyphen loose include (a ++ (x ++ behind)) r.0 u l r.1 ∙ ap (λ (l : List Comparison). Some l) r.2
-
-pub alternative-found : (loose : Bool) (include : Bool) (text : List ℕ) (cs : List Comparison) → IsUtf8 text → alternative_of loose include text ≡ Some cs
-    → IsAlternative loose include text cs
-unfolding alternative_of
-alternative-found loose include [] cs u h = subst (λ (l : List Comparison). IsAlternative loose include [] l) (same_Some _ _ h) nothing
-alternative-found loose include (b ∷ text) cs u h =
-    let found = words_within loose include (length (b ∷ text)) (b ∷ text) in
-    elim (option-cases found) [
-      | inr some ↦
-          let is = words (b ∷ text) some.0 (words-found loose include (length (b ∷ text)) (b ∷ text) some.0 u some.1) in
-          grind (arith, nat_tests, common_steps, same_Some)
-      | inl none ↦ grind (arith, nat_tests, common_steps, same_Some, hyphen-found)
-    ]
+alternative-found loose include text a u h = go (hyphen_ends loose text) refl h
+  where
+    go : (o : Option (Ended × Ended)) → hyphen_ends loose text ≡ o → hyphen_or loose include text o ≡ Some a → IsAlternative loose include text a.0 a.1
+    go (Some e) k l =
+        let f = hyphen-found loose text e u k in
+        let t = cond_some (is_right loose is_free_lower e.0 && is_right loose (is_free_upper include) e.1) _ a l in
+        let both = and_parts (is_right loose is_free_lower e.0) (is_right loose (is_free_upper include) e.1) t.0 in
+        let lower = sym (right-end loose (λ v. false) text f.0.before f.0.lower) ∙ ap (λ (x : Ended × Ended). is_right loose is_free_lower x.0) (sym f.1) ∙ both.0 in
+        let upper = sym (right-end loose _ f.0.second [] f.0.upper) ∙ ap (λ (x : Ended × Ended). is_right loose (is_free_upper include) x.1) (sym f.1) ∙ both.1 in
+        subst (λ (r : Bool × List Comparison). IsAlternative loose include text r.0 r.1)
+        (ap (λ (x : Ended × Ended). (false, lower_of include x.0 ++ upper_of include x.1)) (sym f.1) ∙ t.1) (hyphen text f.0 lower upper)
+    go None k l =
+        let w = bind_some (words_within loose include (length text) text) (λ all. Some (words_of_all all)) a l in
+        let absent : IsHyphen loose text → ⊥ = λ h. cc (k, hyphen-read loose text u h) in
+        subst (λ (r : Bool × List Comparison). IsAlternative loose include text r.0 r.1) (same_Some _ _ w.2)
+        (words text w.0 absent (words-found loose include (length text) text w.0 u w.1))
 
 -- ---- range texts as node-semver reads them: the function that reads the alternatives finds exactly what the statement has
 
-each-read : (loose : Bool) (include : Bool) (pieces : List (List ℕ)) (ls : List (List Comparison)) → AllByRecursion IsUtf8 pieces
+each-read : (loose include : Bool) (pieces : List (List ℕ)) (ls : List (List Comparison)) → AllByRecursion IsUtf8 pieces
     → AreAlternatives loose include pieces ls → alternatives_of loose include (map trim pieces) ≡ Some ls
 unfolding alternatives_of
 each-read loose include pieces ls u AreAlternatives.none = refl
-each-read loose include pieces ls u (next piece text others cs rest is_trim is each) =
+each-read loose include pieces ls u (next piece text others lost cs rest is_trim is each) =
     let v = trim-utf8 piece text u.0 is_trim in
     let same : text ≡ trim piece = middle_is_trim piece text is_trim in
     grind (arith, alternative-read, each-read loose include others rest u.1 each)
 
-each-found : (loose : Bool) (include : Bool) (pieces : List (List ℕ)) (ls : List (List Comparison)) → AllByRecursion IsUtf8 pieces
+each-found : (loose include : Bool) (pieces : List (List ℕ)) (ls : List (List Comparison)) → AllByRecursion IsUtf8 pieces
     → alternatives_of loose include (map trim pieces) ≡ Some ls → AreAlternatives loose include pieces ls
 unfolding alternatives_of
 each-found loose include [] ls u h = subst (λ (l : List (List Comparison)). AreAlternatives loose include [] l) (same_Some _ _ h) AreAlternatives.none
 each-found loose include (piece ∷ others) ls u h =
-    let cs = bind_some (alternative_of loose include (trim piece)) _ ls h in
-    let rest = bind_some (alternatives_of loose include (map trim others)) (λ rest. Some (kept loose (trim piece) cs.0 rest)) ls cs.2 in
+    let a = bind_some (alternative_of loose include (trim piece)) _ ls h in
+    let rest = bind_some (alternatives_of loose include (map trim others)) (λ rest. Some (kept a.0 rest)) ls a.2 in
     let is_trim = trim_is_middle piece u.0 in
-    let is = alternative-found loose include (trim piece) cs.0 (trim-utf8 piece (trim piece) u.0 is_trim) cs.1 in
-    let found = next piece (trim piece) others cs.0 rest.0 is_trim is (each-found loose include others rest.0 u.1 rest.1) in
+    let is = alternative-found loose include (trim piece) a.0 (trim-utf8 piece (trim piece) u.0 is_trim) a.1 in
+    let found = next piece (trim piece) others a.0.0 a.0.1 rest.0 is_trim is (each-found loose include others rest.0 u.1 rest.1) in
     grind (arith, nat_tests, common_steps)
 
 -- a text has the alternatives that are read, if they are valid

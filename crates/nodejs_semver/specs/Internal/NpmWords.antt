@@ -409,11 +409,12 @@ hyphen_of loose include e = if is_right loose is_free_lower e.0 && is_right loos
 abbrev pub words_of_all : List (Option (List Comparison)) → Bool × List Comparison
 words_of_all read = (is_lost read, comparators_of read)
 
+abbrev pub hyphen_or : Bool → Bool → List ℕ → Option (Ended × Ended) → Option (Bool × List Comparison)
+hyphen_or loose include text (Some e) = hyphen_of loose include e
+hyphen_or loose include text None = words_within loose include (length text) text >>? λ all. Some (words_of_all all)
+
 unfoldable pub alternative_of : Bool → Bool → List ℕ → Option (Bool × List Comparison)
-alternative_of loose include text = elim (hyphen_ends loose text) [
-  | Some e ↦ hyphen_of loose include e
-  | None ↦ words_within loose include (length text) text >>? λ read. Some (words_of_all read)
-]
+alternative_of loose include text = hyphen_or loose include text (hyphen_ends loose text)
 
 -- alternatives with one more before them, unless that is lost
 abbrev pub kept : Bool × List Comparison → List (List Comparison) → List (List Comparison)
