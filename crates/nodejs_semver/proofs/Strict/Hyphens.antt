@@ -133,8 +133,12 @@ end-written : (loose : Bool) (marks x rest : List ℕ) (p : Partial) → AreMark
     → end_front loose (marks ++ (x ++ rest)) ≡ Some ((marks, p, last_marks marks ++ x), rest)
 unfolding end_front
 end-written loose marks x rest p h k quiet =
-    rw (marks-passed marks (x ++ rest) h (places-begin loose x rest p k), places-read loose x rest p k quiet, front-text marks (x ++ rest),
-    front-text x rest) refl
+    rw (
+      marks-passed marks (x ++ rest) h (places-begin loose x rest p k),
+      places-read loose x rest p k quiet,
+      front-text marks (x ++ rest),
+      front-text x rest,
+    ) refl
 
 end-read : (loose : Bool) (text rest : List ℕ) (h : IsEnd loose text rest) → begins is_solid rest ≡ false
     → end_front loose text ≡ Some (ended_of loose text rest h, rest)
@@ -184,9 +188,14 @@ hyphen-read loose text u h =
     let v = before-utf8 loose text h.before h.lower u h.blank in
     let w = tail-utf8 45 h.after (omega arith) (skips-utf8 h.before (45 ∷ h.after) h.dash v) in
     let quiet = boundary-quiet h.before (boundary-of h.before (inr h.blank)) in
-    rw (end-read loose text h.before h.lower quiet, lt-ltb 0 (space_len h.before) (blank-len h.before h.blank),
-    skips-of h.before (45 ∷ h.after) v h.dash, lt-ltb 0 (space_len h.after) (blank-len h.after h.gap), skips-of h.after h.second w h.skipped,
-    end-read loose h.second [] h.upper refl) refl
+    rw (
+      end-read loose text h.before h.lower quiet,
+      lt-ltb 0 (space_len h.before) (blank-len h.before h.blank),
+      skips-of h.before (45 ∷ h.after) v h.dash,
+      lt-ltb 0 (space_len h.after) (blank-len h.after h.gap),
+      skips-of h.after h.second w h.skipped,
+      end-read loose h.second [] h.upper refl,
+    ) refl
 
 pub hyphen-found : (loose : Bool) (text : List ℕ) (e : Ended × Ended) → IsUtf8 text → hyphen_ends loose text ≡ Some e
     → (h : IsHyphen loose text) × (e ≡ ends_of loose text h)
