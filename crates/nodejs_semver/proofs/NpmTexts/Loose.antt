@@ -11,7 +11,7 @@ use Rattle.nodejs_semver.proofs.NpmCommon.{loose_patch, loose_qualified, loose_v
 use Rattle.nodejs_semver.proofs.{NpmCommon.{or-true, patch_front, pre_front, pre_release_front}, Reading.Bytes.component-solid}
 use Rattle.nodejs_semver.proofs.Reading.{Bytes.solid-dark, Numbers.{digits-taken, number-found, number-is, number-of, number-read}}
 use Rattle.nodejs_semver.proofs.{Reading.{Numbers.run-ends, Steps.option-cases, WordLaw.byte-is}, Strict.Hyphens.ends-found}
-use Rattle.nodejs_semver.proofs.Strict.{AlternativeLaw.ends-read, PartialLaw.{digits-many_on, digits-of}, VersionLaw.{Follows, PreFound}}
+use Rattle.nodejs_semver.proofs.Strict.{Hyphens.ends-read, PartialLaw.{digits-many_on, digits-of}, VersionLaw.{Follows, PreFound}}
 use Rattle.nodejs_semver.proofs.Strict.VersionLaw.{build-found, build-quiet, build-taken, empty-is, ends-nil, letter-on, pre-follows}
 use Rattle.nodejs_semver.{proofs.Strict.VersionLaw.{pre-found, pre-taken, stopped}, specs.Internal.NpmLooseVersions.patch_len}
 use Rattle.nodejs_semver.specs.Npm.{Grammar.IsPreRelease, VersionText.{IsLooseVersion, IsLooseVersionText, written}}

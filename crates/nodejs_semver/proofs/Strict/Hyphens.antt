@@ -5,12 +5,12 @@ use Rattle.nodejs_semver.proofs.Common.{and_parts, arith, begins, bind_some, cas
 use Rattle.nodejs_semver.proofs.Common.{encode_utf8_all, false, inl, inr, is_empty, is_whitespace, len_utf8_bounds, length, length-append}
 use Rattle.nodejs_semver.proofs.Common.{length-drop, length-encode, list_all, lt-ltb, nat_tests, not, refl, same_Some, space_len, ap₂}
 use Rattle.nodejs_semver.proofs.Common.{space_len-nil, subst, suc, sym, take, true, zero, ℕ, ◌&&◌, ◌++◌, ◌+◌, ◌-◌, ◌<◌, ◌||◌, ◌∙◌, ◌∷◌, ◌≡◌, ◌≤◌}
-use Rattle.nodejs_semver.proofs.NpmCommon.{AreMarks, Ended, IsEnd, IsHyphen, IsPlace, IsPlaces, IsStrictBuild, after_byte, after_ends, are_normal}
+use Rattle.nodejs_semver.proofs.NpmCommon.{AreMarks, Ended, IsEnd, IsHyphen, IsPlaces, IsStrictBuild, after_byte, after_ends, are_normal}
 use Rattle.nodejs_semver.proofs.NpmCommon.{drop_ends, encode_ascii, end_front, ended_as, hyphen_ends, is_mark, last_end, last_marks, len_utf8, plus}
 use Rattle.nodejs_semver.proofs.NpmCommon.{space_len-white, no_build, ◌>>?◌}
-use Rattle.nodejs_semver.proofs.Reading.{Bytes.{begins-on, begins_component, is_component_byte, is_solid, solid-dark}, PartialLaw.front-dark}
+use Rattle.nodejs_semver.proofs.Reading.{Bytes.{begins_component, is_component_byte, is_solid, solid-dark}, PartialLaw.front-dark}
 use Rattle.nodejs_semver.proofs.Reading.WordLaw.{blank-len, boundary-of, boundary-utf8, byte-is, skips-of, skips-utf8, some_space-is, tail-utf8}
-use Rattle.nodejs_semver.proofs.Strict.PartialLaw.{boundary-quiet, digits-begin, front-text, places-found, places-read}
+use Rattle.nodejs_semver.proofs.Strict.PartialLaw.{boundary-quiet, front-text, places-found, places-read}
 use Rattle.nodejs_semver.proofs.Strict.VersionLaw.{empty-is}
 use Rattle.nodejs_semver.specs.Internal.{NpmWords.{after_dash, end_len, places_front}, Words.after_some_space}
 use Rattle.nodejs_semver.specs.{Npm.{Grammar.IsPreRelease, Table.Partial}, Text.WordText.SkipsBlank}
@@ -20,12 +20,15 @@ use Rattle.std.proofs.lemmas.Str.{IsUtf8-past_char, encode_same}
 use Rattle.std.specs.{List.suffix_len, Prelude.reverse}
 use Rattle.nodejs_semver.proofs.Common.{Front, VersionValue, append-nil, get_or, if◌then◌else◌}
 use Rattle.nodejs_semver.proofs.NpmCommon.{CountedEnd, are_whole_marks, counted_as, counted_end, counted_front, counted_hyphen, is_right, is_right_end, is_short}
-use Rattle.nodejs_semver.proofs.NpmCommon.{is_short_word, is_small, marks_len}
+use Rattle.nodejs_semver.proofs.NpmCommon.{is_short_word, is_small}
 use Rattle.nodejs_semver.specs.{Internal.NpmParts.some_normal, Npm.RangeText.is_free}
 use Rattle.nodejs_semver.proofs.{Common.MAX_SAFE_INTEGER, NpmCommon.{Comparison, hyphen_of, is_free_lower, is_free_upper, is_valid, lower_counted}}
 use Rattle.nodejs_semver.proofs.NpmCommon.{lower_of, upper_counted, upper_of}
 use Rattle.nodejs_semver.proofs.Strict.{Printed.{lower-invalid, upper-invalid}, Words.{marks-dropped, places-begin}}
 use Rattle.nodejs_semver.specs.Internal.NpmReads.{hyphen_valid, valid_one}
+use Rattle.nodejs_semver.proofs.{Common.{all_weaker, drop_spaces, prefix_len, ◌==◌}, NpmCommon.{AreWords, IsWord}, Reading.Bytes.{all-join, begins-some}}
+use Rattle.nodejs_semver.proofs.Strict.{Malformed.{blank-signal, is_signal, sign-signal}, Signs.marks-all}
+use Rattle.nodejs_semver.specs.Npm.RangeText.{formed, ignored, more}
 
 -- ---- marks and whitespace at the front
 
@@ -130,8 +133,12 @@ end-written : (loose : Bool) (marks x rest : List ℕ) (p : Partial) → AreMark
     → end_front loose (marks ++ (x ++ rest)) ≡ Some ((marks, p, last_marks marks ++ x), rest)
 unfolding end_front
 end-written loose marks x rest p h k quiet =
-    rw (marks-passed marks (x ++ rest) h (places-begin loose x rest p k), places-read loose x rest p k quiet, front-text marks (x ++ rest),
-    front-text x rest) refl
+    rw (
+      marks-passed marks (x ++ rest) h (places-begin loose x rest p k),
+      places-read loose x rest p k quiet,
+      front-text marks (x ++ rest),
+      front-text x rest,
+    ) refl
 
 end-read : (loose : Bool) (text rest : List ℕ) (h : IsEnd loose text rest) → begins is_solid rest ≡ false
     → end_front loose text ≡ Some (ended_of loose text rest h, rest)
@@ -181,9 +188,14 @@ hyphen-read loose text u h =
     let v = before-utf8 loose text h.before h.lower u h.blank in
     let w = tail-utf8 45 h.after (omega arith) (skips-utf8 h.before (45 ∷ h.after) h.dash v) in
     let quiet = boundary-quiet h.before (boundary-of h.before (inr h.blank)) in
-    rw (end-read loose text h.before h.lower quiet, lt-ltb 0 (space_len h.before) (blank-len h.before h.blank),
-    skips-of h.before (45 ∷ h.after) v h.dash, lt-ltb 0 (space_len h.after) (blank-len h.after h.gap), skips-of h.after h.second w h.skipped,
-    end-read loose h.second [] h.upper refl) refl
+    rw (
+      end-read loose text h.before h.lower quiet,
+      lt-ltb 0 (space_len h.before) (blank-len h.before h.blank),
+      skips-of h.before (45 ∷ h.after) v h.dash,
+      lt-ltb 0 (space_len h.after) (blank-len h.after h.gap),
+      skips-of h.after h.second w h.skipped,
+      end-read loose h.second [] h.upper refl,
+    ) refl
 
 pub hyphen-found : (loose : Bool) (text : List ℕ) (e : Ended × Ended) → IsUtf8 text → hyphen_ends loose text ≡ Some e
     → (h : IsHyphen loose text) × (e ≡ ends_of loose text h)
@@ -356,6 +368,103 @@ ends_step text len e some = grind (arith, nat_tests, common_steps, ends-mark, en
 pub marks-begin : (marks : List ℕ) (start : ℕ) → start ≤ length marks
     → ((k : ℕ) → start ≤ k → k < length marks → is_mark (get_or marks k 0) ≡ true)
     → (0 < start → is_mark (get_or marks (start - 1) 0) ≡ false) → drop start marks ≡ last_marks marks
-marks-begin marks start fits each none =
-    let at : start ≡ length marks - suffix_len is_mark marks = omega (arith, suffix_len_is is_mark marks start 0 fits each none) in
+marks-begin marks start fits each other =
+    let at : start ≡ length marks - suffix_len is_mark marks = omega (arith, suffix_len_is is_mark marks start 0 fits each other) in
     ap (λ (n : ℕ). drop n marks) at
+
+-- ---- strictly no words are a hyphen range
+
+-- no `-`, and none with which a partial begins
+abbrev is_front : ℕ → Bool
+is_front b = not (is_component_byte b) && not (b == 45)
+
+signal-front : (b : ℕ) → is_signal b ≡ true → is_front b ≡ true
+signal-front b h = grind (arith, nat_tests)
+
+mark-front : (b : ℕ) → is_mark b ≡ true → is_front b ≡ true
+mark-front b h = grind (arith, nat_tests)
+
+marks-front : (cs : List ℕ) → list_all is_end cs ≡ true → list_all is_front (encode_utf8_all cs) ≡ true
+marks-front [] h = refl
+marks-front (c ∷ cs) h =
+    let parts = and_parts (is_end c) (list_all is_end cs) h in
+    all-join is_front (encode_utf8 c) (encode_utf8_all cs) (elim (cases_Bool (is_mark c)) [
+      | inl mark ↦ rw (encode_ascii c (mark-ascii c mark), mark-front c mark) refl
+      | inr other ↦ all_weaker is_signal is_front signal-front (encode_utf8 c) (rw append-nil at (blank-signal (encode_utf8 c ++ []) (record {
+        characters = c ∷ [];
+        each = grind arith;
+        spelled = refl;
+      })))
+    ]) (marks-front cs parts.1)
+
+-- a partial is behind the first of these bytes
+place-at : (a u : List ℕ) → list_all is_front a ≡ true → begins_component u ≡ true → drop (prefix_len is_front (a ++ u)) (a ++ u) ≡ u
+place-at a u h k = drop_at a u (prefix_len is_front (a ++ u)) (sym (counted a h))
+  where
+    counted : (a : List ℕ) → list_all is_front a ≡ true → prefix_len is_front (a ++ u) ≡ length a
+    counted [] h = grind (arith, nat_tests)
+    counted (b ∷ a) h = grind (arith, nat_tests, common_steps, and_parts, counted a)
+
+-- a word, and what begins with it
+record WordFront (text behind : List ℕ) : Type 0 where
+  front : List ℕ
+  places : List ℕ
+  partial : Partial
+  divided : text ≡ front ++ (places ++ behind)
+  each : list_all is_front front ≡ true
+  is : IsPlaces false places partial
+
+word-front : (include : Bool) (w x text behind : List ℕ) (cs : List Comparison) → text ≡ w ++ behind → IsWord false include w x cs → WordFront text behind
+word-front include w x text behind cs e (IsWord.word signs marks y s p h m n k) = record {
+  front = signs ++ marks;
+  places = y;
+  partial = p;
+  divided = e ∙ simp append_assoc refl;
+  each = all-join is_front signs marks (all_weaker is_signal is_front signal-front signs (sign-signal signs s h))
+      (all_weaker is_mark is_front mark-front marks (marks-all false s p marks m));
+  is = k;
+}
+
+-- the first word ends where the lower end does
+same-behind : (text before behind : List ℕ) (h : IsEnd false text before) (w : WordFront text behind) → begins is_solid before ≡ false
+    → begins is_solid behind ≡ false → behind ≡ before
+same-behind text before behind h w quiet stop =
+    let first = place-at w.front (w.places ++ behind) w.each (places-begin false w.places behind w.partial w.is) in
+    let second = place-at h.marks (h.places ++ before) (rw h.are.1 (marks-front h.are.0 h.are.2)) (places-begin false h.places before h.partial h.is) in
+    let same : w.places ++ behind ≡ h.places ++ before =
+    sym first ∙ ap (λ (t : List ℕ). drop (prefix_len is_front t) t) (sym w.divided ∙ h.divided) ∙ second in
+    let read = sym (places-read false w.places behind w.partial w.is stop) ∙ ap (places_front false) same
+    ∙ places-read false h.places before h.partial h.is quiet in
+    ap (λ (p : Partial × List ℕ). p.1) (same_Some (w.partial, behind) (h.partial, before) read)
+
+-- no word begins with `-`
+no_dash : (after behind : List ℕ) → WordFront (45 ∷ after) behind → ⊥
+no_dash after behind w = go w.front w.each w.divided
+  where
+    go : (front : List ℕ) → list_all is_front front ≡ true → 45 ∷ after ≡ front ++ (w.places ++ behind) → ⊥
+    go [] each e = cc (rw (← e) at (places-begin false w.places behind w.partial w.is))
+    go (b ∷ front) each e = grind (arith, nat_tests)
+
+no_dash-words : (include : Bool) (text after : List ℕ) (read : List (Option (List Comparison))) → text ≡ 45 ∷ after → AreWords false include text read → ⊥
+no_dash-words include text after read e AreWords.none = cc e
+no_dash-words include text after read e (more t rest cs others (ignored behind l some other is skips) k) = cc l
+no_dash-words include text after read e (more t rest cs others (formed behind ds w short skips) k) =
+    no_dash after behind (word-front include w.word w.partial (45 ∷ after) behind ds (sym e ∙ w.divided) w.is)
+
+pub hyphen_none-strict : (include : Bool) (text : List ℕ) (read : List (Option (List Comparison))) → IsUtf8 text → AreWords false include text read
+    → IsHyphen false text → ⊥
+hyphen_none-strict include text read u AreWords.none h =
+    omega (
+      arith,
+      ap length h.lower.divided,
+      length-append h.lower.marks (h.lower.places ++ h.before),
+      begins-some is_component_byte (h.lower.places ++ h.before) (places-begin false h.lower.places h.before h.lower.partial h.lower.is),
+    )
+hyphen_none-strict include text read u (more t rest cs others (ignored behind l some other is skips) k) h = cc l
+hyphen_none-strict include text read u (more t rest cs others (formed behind ds w short skips) k) h =
+    let front = word-front include w.word w.partial t behind ds w.divided w.is in
+    let quiet = boundary-quiet h.before (boundary-of h.before (inr h.blank)) in
+    let same = same-behind t h.before behind h.lower front quiet (boundary-quiet behind (boundary-of behind w.ended)) in
+    let v = before-utf8 false t h.before h.lower u h.blank in
+    let left = sym (skips-of behind rest (rw (← same) at v) skips) ∙ ap drop_spaces same ∙ skips-of h.before (45 ∷ h.after) v h.dash in
+    no_dash-words include rest h.after others left k

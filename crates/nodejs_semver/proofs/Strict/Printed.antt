@@ -1,18 +1,18 @@
 -- How versions print: how long, and which one prints `0.0.0`; which words have a comparator that is not valid; and that what is
 -- printed is read again.
-use Rattle.nodejs_semver.proofs.Common.{Bool, Front, Id, IsTrim, IsUtf8, List, MAX_SAFE_INTEGER, None, Numeric, Option, Some, VersionValue}
-use Rattle.nodejs_semver.proofs.Common.{[], and_parts, ap, append-nil, arith, cases_Bool, codes, common_steps, decimal, drop_spaces}
-use Rattle.nodejs_semver.proofs.Common.{empty_is, encode_utf8_all, eqb-true, false, identifier_of, if◌then◌else◌, inl, inr, is_ascii_digit}
-use Rattle.nodejs_semver.proofs.Common.{is_empty, is_identifier, is_identifier_char, is_release, length, length-append, list_all, map}
-use Rattle.nodejs_semver.proofs.Common.{nat_tests, pieces, refl, subst, suc, sym, true, zero, ℕ, ◌&&◌, ◌++◌, ◌+◌, ◌<◌, ◌==◌, ◌^◌, ◌||◌}
-use Rattle.nodejs_semver.proofs.{Common.{◌∙◌, ◌∷◌, ◌≡◌, ◌≤◌}, NpmCommon.{Comparison, Ended, IsStrictPreRelease, IsStrictVersion}}
-use Rattle.nodejs_semver.proofs.NpmCommon.{IsVersionText, MAX_LENGTH, Numbers, Signed, any_word, bare, both_ways, bytes_eq}
+use Rattle.nodejs_semver.proofs.Common.{Bool, Id, IsTrim, IsUtf8, List, MAX_SAFE_INTEGER, Numeric, VersionValue}
+use Rattle.nodejs_semver.proofs.Common.{[], and_parts, ap, append-nil, arith, cases_Bool, codes, common_steps, decimal}
+use Rattle.nodejs_semver.proofs.Common.{empty_is, encode_utf8_all, eqb-true, false, identifier_of, inl, inr, is_ascii_digit}
+use Rattle.nodejs_semver.proofs.Common.{is_identifier, is_identifier_char, is_release, length, length-append, list_all, map}
+use Rattle.nodejs_semver.proofs.Common.{nat_tests, pieces, refl, subst, sym, true, ℕ, ◌&&◌, ◌++◌, ◌+◌, ◌<◌, ◌==◌, ◌^◌, ◌||◌}
+use Rattle.nodejs_semver.proofs.{Common.{◌∙◌, ◌∷◌, ◌≡◌, ◌≤◌}, NpmCommon.{Comparison, IsStrictPreRelease, IsStrictVersion}}
+use Rattle.nodejs_semver.proofs.NpmCommon.{IsVersionText, MAX_LENGTH, Numbers, bare, both_ways, bytes_eq}
 use Rattle.nodejs_semver.proofs.NpmCommon.{bytes_eq-Decides, chars, chars_from_encodes, dashed, first, from}
 use Rattle.nodejs_semver.proofs.NpmCommon.{hyphen_upper, id_text, is_small, is_strict_identifier, is_valid, is_zero, join_with_byte}
-use Rattle.nodejs_semver.proofs.NpmCommon.{limited_hyphen, limited_word, marked_list, nat_le, no_build, no_pre_release, release, under}
-use Rattle.nodejs_semver.proofs.NpmCommon.{valid_only, valid_words, version_text, whole, within, word_front, ◌>>?◌}
+use Rattle.nodejs_semver.proofs.NpmCommon.{marked_list, nat_le, no_build, no_pre_release, release, under}
+use Rattle.nodejs_semver.proofs.NpmCommon.{version_text, whole, within}
 use Rattle.nodejs_semver.proofs.{Stopping.Read.{plain-encodes, plain-middle, plain-trim}, Strict.VersionLaw.digits_printed}
-use Rattle.nodejs_semver.{proofs.Strict.VersionLaw.number_printed, specs.{Internal.NpmWords.words_within, Npm.Table.{Partial, Sign}}}
+use Rattle.nodejs_semver.{proofs.Strict.VersionLaw.number_printed, specs.{Npm.Table.{Partial, Sign}}}
 use Rattle.{nodejs_semver.specs.Npm.{Table.{lowest, table}, VersionText.written}, semver_core.proofs.Printing.Returns.decimal_digits}
 use Rattle.semver_core.{proofs.Printing.Returns.decimal_some, specs.{Internal.CommonReading.is_plain, Text.Identifiers.is_u64_text}}
 use Rattle.std.proofs.lemmas.{Fmt.{decimal_digit, decimal_injective, length-decimal-le}, List.Splits.join_with_byte-slice_split}
