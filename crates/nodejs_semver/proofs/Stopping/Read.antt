@@ -15,35 +15,22 @@ use Rattle.nodejs_semver.proofs.{NpmCommon.◌>>?◌, Reading.{Bytes.all-join, N
 use Rattle.nodejs_semver.proofs.Strict.VersionLaw.{padded-same, strict-found, strict-found-version, strict-read-version}
 use Rattle.nodejs_semver.specs.{Internal.{Fronts.drop_v, NpmStates.ended}, Npm.VersionText.written}
 use Rattle.{nodejs_semver.specs.declared.npm.flaws.State.TheVariants.{End, Start}, semver_core.proofs.Text.Listed.plain_runs}
+use Rattle.nodejs_semver.proofs.{Common.{bind_some, same_Some}, Reading.Steps.option-cases}
 use Rattle.{semver_core.specs.Internal.CommonReading.is_plain, std.{proofs.lemmas.List.reverse-append, specs.Prelude.reverse}}
 
 -- ---- runs
 
-bind-append : (limit : ℕ) (o : Option State) (xs ys : List ℕ)
-    → ((t : State) → run limit t (xs ++ ys) ≡ (run limit t xs >>? λ u. run limit u ys))
-    → (o >>? λ t. run limit t (xs ++ ys)) ≡ ((o >>? λ t. run limit t xs) >>? λ u. run limit u ys)
-bind-append limit o xs ys h = grind (arith, nat_tests, common_steps)
-
-run-append : (limit : ℕ) (xs ys : List ℕ) (s : State) → run limit s (xs ++ ys) ≡ (run limit s xs >>? λ t. run limit t ys)
-unfolding run
-run-append limit [] ys s = refl
-run-append limit (c ∷ xs) ys s = bind-append limit (next limit s c) xs ys (run-append limit xs ys)
-
 -- what is read of a front is read further
-pub run-then : (limit : ℕ) (s t : State) (xs ys : List ℕ) → run limit s xs ≡ Some t → run limit s (xs ++ ys) ≡ run limit t ys
-run-then limit s t xs ys h = run-append limit xs ys s ∙ ap (λ (o : Option State). o >>? λ u. run limit u ys) h
-
-pub run-nil : (limit : ℕ) (s : State) → run limit s [] ≡ Some s
+run-then : (limit : ℕ) (s t : State) (xs ys : List ℕ) → run limit s xs ≡ Some t → run limit s (xs ++ ys) ≡ run limit t ys
 unfolding run
-run-nil limit s = refl
+run-then limit s t [] ys h = ap (λ u. run limit u ys) (same_Some s t h)
+run-then limit s t (c ∷ xs) ys h =
+    let b = bind_some (next limit s c) _ t h in rw b.1 (run-then limit b.0 t xs ys b.2)
 
-pub run-step : (limit : ℕ) (s t : State) (c : ℕ) (cs : List ℕ) → next limit s c ≡ Some t → run limit s (c ∷ cs) ≡ run limit t cs
+pub run-more : (limit : ℕ) (s t : State) (c : ℕ) (xs : List ℕ) → run limit Start xs ≡ Some s → next limit s c ≡ Some t
+    → run limit Start (xs ++ c ∷ []) ≡ Some t
 unfolding run
-run-step limit s t c cs h = rw h refl
-
-pub run-none : (limit : ℕ) (s : State) (c : ℕ) (cs : List ℕ) → next limit s c ≡ None → run limit s (c ∷ cs) ≡ None
-unfolding run
-run-none limit s c cs h = rw h refl
+run-more limit s t c xs h k = run-then limit Start s xs (c ∷ []) h ∙ rw k refl
 
 -- ---- texts that are read to their end
 
@@ -60,8 +47,7 @@ is_read limit s text = ends_whole (run limit s text)
 spaces-start : (limit : ℕ) (w cs : List ℕ) → list_all is_whitespace w ≡ true → is_read limit Start (w ++ cs) ≡ is_read limit Start cs
 unfolding run next
 spaces-start limit [] cs h = refl
-spaces-start limit (c ∷ w) cs h =
-    let each = and_parts (is_whitespace c) (list_all is_whitespace w) h in rw each.0 (spaces-start limit w cs each.1)
+spaces-start limit (c ∷ w) cs h = grind (arith, and_parts, spaces-start limit w cs)
 
 spaces-end : (limit : ℕ) (cs : List ℕ) → is_read limit End cs ≡ list_all is_whitespace cs
 unfolding run next
@@ -98,21 +84,18 @@ space-ends limit (Number (suc k) n) c i h = let p = space-other c h in rw (p.1, 
 space-ends limit Zero c i h = grind (arith, space-other c h)
 space-ends limit s c i h = grind (arith, space-other c h)
 
-bind-behind : (limit : ℕ) (o : Option State) (x r : List ℕ)
-    → ((t : State) → o ≡ Some t → is_read limit t (x ++ r) ≡ (is_read limit t x && list_all is_whitespace r))
-    → ends_whole (o >>? λ t. run limit t (x ++ r)) ≡ (ends_whole (o >>? λ t. run limit t x) && list_all is_whitespace r)
-bind-behind limit None x r h = refl
-bind-behind limit (Some t) x r h = h t refl
-
 -- whitespace behind other characters
 behind : (limit : ℕ) (s : State) (x r : List ℕ) → is_inside s ≡ true → list_all is_dark x ≡ true → begins is_dark r ≡ false
     → is_read limit s (x ++ r) ≡ (is_read limit s x && list_all is_whitespace r)
 unfolding run
 behind limit s [] [] i each stop = sym (and-true (is_whole s))
 behind limit s [] (c ∷ r) i each stop = grind (arith, space-ends limit s c i (not-false _ stop), spaces-end limit r)
-behind limit s (c ∷ x) r i each stop =
-    let p = and_parts (is_dark c) (list_all is_dark x) each in
-    bind-behind limit (next limit s c) x r (λ t e. behind limit t x r (dark-inside limit s t c i (not-true _ p.0) e) p.1 stop)
+behind limit s (c ∷ x) r i each stop = elim (option-cases (next limit s c)) [
+  | inl none ↦ rw none refl
+  | inr t ↦
+      let p = and_parts (is_dark c) (list_all is_dark x) each in
+      rw t.1 (behind limit t.0 x r (dark-inside limit s t.0 c i (not-true _ p.0) t.1) p.1 stop)
+]
 
 -- ---- build metadata
 
@@ -435,49 +418,33 @@ read-spelled limit cs nine h =
 
 -- ---- what is read goes on to a version
 
-finished : (limit : ℕ) (s : State) → is_whole s ≡ true → (more : List ℕ) × Whole limit s more
-unfolding run
-finished limit s w = ([], w)
+-- what is written behind a number
+abbrev zeros : ℕ → List ℕ
+zeros zero = []
+zeros (suc k) = 46 ∷ 48 ∷ zeros k
 
-stepped : (limit : ℕ) (s t : State) (c : ℕ) → next limit s c ≡ Some t → (more : List ℕ) × Whole limit t more
-    → (more : List ℕ) × Whole limit s more
-stepped limit s t c h f = (c ∷ f.0, ap ends_whole (run-step limit s t c f.0 h) ∙ f.1)
-
-finish-numbers : (limit left : ℕ) → ((n : ℕ) → (more : List ℕ) × Whole limit (Number left n) more)
-    × ((more : List ℕ) × Whole limit (Digit left) more)
-unfolding next
-finish-numbers limit zero = (
-  λ n. finished limit (Number 0 n) refl,
-  stepped limit (Digit 0) (Number 0 0) 48 refl (finished limit (Number 0 0) refl),
-)
-finish-numbers limit (suc k) =
-    let later = (finish-numbers limit k).1 in (
-      λ n. stepped limit (Number (suc k) n) (Digit k) 46 refl later,
-      stepped limit (Digit (suc k)) (Number (suc k) 0) 48 refl
-          (stepped limit (Number (suc k) 0) (Digit k) 46 refl later),
-    )
+zeros-read : (limit left n : ℕ) → Whole limit (Number left n) (zeros left)
+unfolding run next
+zeros-read limit zero n = refl
+zeros-read limit (suc k) n = zeros-read limit k 0
 
 finish : (limit : ℕ) (s : State) → (more : List ℕ) × Whole limit s more
-unfolding next
-finish limit Start = stepped limit Start (Number 2 0) 48 refl ((finish-numbers limit 2).0 0)
-finish limit (Digit left) = (finish-numbers limit left).1
-finish limit (Number left n) = (finish-numbers limit left).0 n
-finish limit Dash = stepped limit Dash PreRelease 97 refl (finished limit PreRelease refl)
-finish limit Zero = finished limit Zero refl
-finish limit Padded = stepped limit Padded PreRelease 97 refl (finished limit PreRelease refl)
-finish limit PreRelease = finished limit PreRelease refl
-finish limit Plus = stepped limit Plus Build 97 refl (finished limit Build refl)
-finish limit Build = finished limit Build refl
-finish limit End = finished limit End refl
+unfolding run next
+finish limit Start = (48 ∷ zeros 2, zeros-read limit 2 0)
+finish limit (Digit left) = (48 ∷ zeros left, zeros-read limit left 0)
+finish limit (Number left n) = (zeros left, zeros-read limit left n)
+finish limit Dash = (97 ∷ [], refl)
+finish limit Padded = (97 ∷ [], refl)
+finish limit Plus = (97 ∷ [], refl)
+finish limit s = ([], refl)
 
 pub read-front : (limit : ℕ) (before : List ℕ) (s : State) → 9 ≤ limit → run limit Start before ≡ Some s → IsFront limit before
 read-front limit before s nine h =
     let f = finish limit s in
     (f.0, read-spelled limit (before ++ f.0) nine (ap ends_whole (run-then limit Start s before f.0 h) ∙ f.1))
 
--- ---- and what is not read does not
-
+-- and what is not read does not
 pub front-stops : (limit : ℕ) (before : List ℕ) (s : State) (c : ℕ) (rest : List ℕ) → run limit Start before ≡ Some s
     → next limit s c ≡ None → Whole limit Start (before ++ c ∷ rest) → ⊥
-front-stops limit before s c rest h none w =
-    cc (sym (ap ends_whole (run-then limit Start s before (c ∷ rest) h ∙ run-none limit s c rest none)) ∙ w)
+unfolding run
+front-stops limit before s c rest h none w = cc (rw (run-then limit Start s before (c ∷ rest) h, none) at w)

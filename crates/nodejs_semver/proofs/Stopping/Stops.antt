@@ -6,7 +6,7 @@ use Rattle.nodejs_semver.proofs.Common.{length-append, length-encode, nat_tests,
 use Rattle.nodejs_semver.proofs.{Common.{true, zero, ℕ, ◌*◌, ◌++◌, ◌+◌, ◌==◌, ◌↔◌, ◌∙◌, ◌∷◌, ◌≡◌, ◌≤◌, ◌⊎◌}, NpmCommon.{At, Dash, GoesOn}}
 use Rattle.nodejs_semver.proofs.NpmCommon.{IsFront, IsSpelled, IsVersionText, Number, Padded, Plus, State, digit_value, encodes_same}
 use Rattle.nodejs_semver.proofs.{NpmCommon.{is_whole, len_utf8, next, run, wrong_at, wrong_of}, Stopping.Read.{Whole, front-stops}}
-use Rattle.nodejs_semver.proofs.Stopping.Read.{read-front, read-spelled, run-nil, run-step, run-then, spelled-read}
+use Rattle.nodejs_semver.proofs.Stopping.Read.{read-front, read-spelled, run-more, spelled-read}
 use Rattle.nodejs_semver.specs.{Npm.Flaws.{IsFlaw, IsStop, IsWrong}, declared.npm.flaws.Flaw.{Flaw, TheVariants.TooLong}}
 use Rattle.nodejs_semver.specs.declared.npm.flaws.{State.TheVariants.{Build, End, PreRelease, Start, Zero}, Wrong.Wrong}
 use Rattle.std.proofs.lemmas.Str.{cons_from_encodes}
@@ -82,7 +82,7 @@ some-next o h = grind (arith, nat_tests, common_steps)
 
 longer : (limit : ℕ) (before : List ℕ) (s t : State) (c : ℕ) → 9 ≤ limit → run limit Start before ≡ Some s → next limit s c ≡ Some t
     → IsFront limit (before ++ c ∷ [])
-longer limit before s t c nine h k = read-front _ _ _ nine (run-then _ _ _ _ _ h ∙ (run-step _ _ _ _ _ k ∙ run-nil _ _))
+longer limit before s t c nine h k = read-front _ _ _ nine (run-more limit s t c before h k)
 
 pub front-whole : (limit more : ℕ) (before : List ℕ) (c : ℕ) → 9 ≤ more → limit ≤ more → (f : IsFront limit (before ++ c ∷ []))
     → Whole more Start (before ++ c ∷ f.0)
@@ -235,7 +235,8 @@ behind [] all rest e = (all, refl, e)
 behind (c ∷ passed) all rest e = grind (arith, nat_tests, common_steps, cons_from_encodes, append_assoc, behind passed)
 
 pub passed_none : (text rest : List ℕ) → rest ≡ text → Passed text 0 Start rest []
-passed_none text rest e = record { divided = sym e; place = refl; reads = run-nil MAX_SAFE_INTEGER Start }
+unfolding run
+passed_none text rest e = record { divided = sym e; place = refl; reads = refl }
 
 module _ (text : List ℕ) (at : ℕ) (s : State) (rest passed : List ℕ) (p : Passed text at s rest passed) where
   pub passed_more : (t : State) (next-rest : List ℕ) (c n : ℕ) → rest ≡ encode_utf8 c ++ next-rest → n ≡ len_utf8 c
@@ -246,7 +247,7 @@ module _ (text : List ℕ) (at : ℕ) (s : State) (rest passed : List ℕ) (p : 
       record {
         divided = grind (arith, nat_tests, common_steps);
         place = omega (arith, p.place, size, length-encode c, ap length one, length-append (encode_utf8_all passed) (encode_utf8 c));
-        reads = run-then _ _ _ passed (c ∷ []) p.reads ∙ (run-step _ _ _ c [] h ∙ run-nil _ t);
+        reads = run-more _ s t c passed p.reads h;
       }
 
   pub passed_stop : (next-rest : List ℕ) (c : ℕ) (w : Wrong) → IsUtf8 text → rest ≡ encode_utf8 c ++ next-rest
