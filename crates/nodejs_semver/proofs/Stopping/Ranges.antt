@@ -1,5 +1,5 @@
 -- The malformed word of a range text, and its first alternative that is malformed.
-use Rattle.nodejs_semver.proofs.Common.{AllByRecursion, Bool, Front, IsAfterBlank, IsCutAtBars, IsTrim, IsUtf8, List, MAX_SAFE_INTEGER}
+use Rattle.nodejs_semver.proofs.Common.{append-nil, AllByRecursion, Bool, Front, IsAfterBlank, IsCutAtBars, IsTrim, IsUtf8, List, MAX_SAFE_INTEGER}
 use Rattle.nodejs_semver.proofs.Common.{None, Option, Some, [], after_blank-place, and_parts, ap, append_assoc, arith, bind_some}
 use Rattle.nodejs_semver.proofs.Common.{common_steps, cut_bars, drop_spaces, false, from_boundary, is_empty, length, length-append}
 use Rattle.nodejs_semver.proofs.Common.{list_all, middle_is_trim, more_pieces, nat_tests, one_piece, refl, same_Some, subst, sym, trim}
@@ -41,26 +41,18 @@ right-found include text behind r =
     let row : row_of include b.0.0 ≡ r.comparators = ap (λ (q : List Comparison × List ℕ). q.0) (same_Some _ _ b.2) in
     (b.0, b.1, ap (list_all (is_valid MAX_SAFE_INTEGER)) row ∙ r.valid)
 
-limited-none : (o : Front Signed) → limited_word MAX_SAFE_INTEGER o ≡ None → (w : Signed × List ℕ) → o ≡ Some w
-    → is_small MAX_SAFE_INTEGER w.0.1 ≡ false
-limited-none o h w e = grind (arith, nat_tests, common_steps, same_Some)
-
 pub no-word : (include : Bool) (text : List ℕ) → word_at_front false text ≡ None → NoValue (Right include text)
 no-word include text e = λ behind r.
     let f = right-found include text behind r in
     let w = f.0 in
-    let great = limited-none (any_word false text) e w f.1 in
+    let great : is_small MAX_SAFE_INTEGER w.0.1 ≡ false = grind (arith, nat_tests, common_steps, same_Some) in
     cc (sym f.2 ∙ table-invalid MAX_SAFE_INTEGER include w.0.0 w.0.1 w.0.2 great)
-
-limited-is : (o : Front Signed) (w : Signed × List ℕ) → o ≡ Some w → (v : Signed × List ℕ)
-    → limited_word MAX_SAFE_INTEGER o ≡ Some v → w ≡ v
-limited-is o w e v h = grind (arith, nat_tests, common_steps, same_Some)
 
 pub invalid-word : (include : Bool) (text : List ℕ) (w : Signed × List ℕ) → word_at_front false text ≡ Some w
     → list_all (is_valid MAX_SAFE_INTEGER) (row_of include w.0) ≡ false → NoValue (Right include text)
 invalid-word include text w e bad = λ behind r.
     let f = right-found include text behind r in
-    let same = limited-is (any_word false text) f.0 f.1 w e in
+    let same : f.0 ≡ w = grind (arith, nat_tests, common_steps, same_Some) in
     cc (sym f.2 ∙ ap (λ (v : Signed × List ℕ). list_all (is_valid MAX_SAFE_INTEGER) (row_of include v.0)) same ∙ bad)
 
 pub right-word : (include : Bool) (text : List ℕ) (w : Signed × List ℕ) → IsUtf8 text
@@ -120,19 +112,6 @@ left-utf8 include left text u (on t b x r s h) = left-utf8 _ _ _ (skips-utf8 _ _
 
 -- ---- the malformed word
 
-pub word-is : (include : Bool) (text left : List ℕ) (start end : ℕ) → IsUtf8 left → Left include left text
-    → NoValue (Right include left) → start + length left ≡ length text → end + length (from_boundary left) ≡ length text
-    → IsMalformedWord MAX_SAFE_INTEGER include text start end
-word-is include text left start end u h w a b = record {
-  left = left;
-  behind = from_boundary left;
-  right = h;
-  wrong = w;
-  ended = first-is [] left u;
-  start_is = a;
-  end_is = b;
-}
-
 pub boundary-fits : (left : List ℕ) → IsUtf8 left → length (from_boundary left) ≤ length left
 boundary-fits left u =
     let f = first-is [] left u in
@@ -159,18 +138,14 @@ trimmed_fits text middle start u a t =
 abbrev pub IsPiece : Bool → List ℕ → Type 0
 IsPiece include piece = (cs : List Comparison) × IsAlternativeText MAX_SAFE_INTEGER include piece cs
 
-valid-some : (cs ds : List Comparison) → valid_only MAX_SAFE_INTEGER cs ≡ Some ds
-    → (list_all (is_valid MAX_SAFE_INTEGER) cs ≡ true) × (cs ≡ ds)
-valid-some cs ds h = grind arith
-
 pub piece_right : (include : Bool) (piece part : List ℕ) (a : Alternative) → IsUtf8 piece → IsTrim piece part
     → IsFound include (valid_alternative false include part) (Some a) → IsPiece include piece
 unfolding valid_alternative
 piece_right include piece part a u t h =
     let f = found-some include (valid_alternative false include part) a h in
     let b = bind_some (alternative_of false include part) (λ cs. valid_only MAX_SAFE_INTEGER cs) f.0 f.1 in
-    let v = valid-some b.0 f.0 b.2 in
-    (b.0, record { middle = part; trimmed = t; is = alternative-found false include part b.0 (trim-utf8 piece part u t) b.1; valid = v.0 })
+    let valid : list_all (is_valid MAX_SAFE_INTEGER) b.0 ≡ true = grind (arith, b.2) in
+    (b.0, record { middle = part; trimmed = t; is = alternative-found false include part b.0 (trim-utf8 piece part u t) b.1; valid = valid })
 
 pub piece_wrong : (include : Bool) (piece part : List ℕ) → IsUtf8 piece → IsTrim piece part
     → IsFound include (valid_alternative false include part) None → NoValue (IsAlternativeText MAX_SAFE_INTEGER include piece)
@@ -299,16 +274,11 @@ pub passed_all : (include : Bool) (text : List ℕ) → Passed include text None
     → (ls : List (List Comparison)) × HasAlternatives MAX_SAFE_INTEGER include text ls
 unfolding all-right
 passed_all include text h =
-    let a = all-right include (h.front ++ []) (right h.front h.right) in
+    let a = all-right include (h.front ++ []) (rw (append-nil h.front) h.right) in
     let cut = subst (λ (ps : List (List ℕ)). IsCutAtBars text ps) h.divided (bars_divide text) in (
       a.0,
       grind (arith, nat_tests, common_steps, some-pieces),
     )
-  where
-    right : (ps : List (List ℕ)) → AllByRecursion (IsPiece include) ps → AllByRecursion (IsPiece include) (ps ++ [])
-    right [] h = tt
-    right (p ∷ ps) h = (h.0, right ps h.1)
-
 -- ---- a text has one such flaw
 
 -- the first pieces that are wrong are one
@@ -317,12 +287,8 @@ one-piece : (include : Bool) (xs : List (List ℕ)) (p : List ℕ) (us ys : List
     → NoValue (IsAlternativeText MAX_SAFE_INTEGER include p) → NoValue (IsAlternativeText MAX_SAFE_INTEGER include q)
     → xs ++ p ∷ us ≡ ys ++ q ∷ vs → (xs ≡ ys) × (p ≡ q)
 one-piece include [] p us [] q vs h k w z e = (refl, cc e)
-one-piece include [] p us (y ∷ ys) q vs h k w z e =
-    let same : p ≡ y = cc e in
-    absurd (w k.0.0 (subst (λ (t : List ℕ). IsAlternativeText MAX_SAFE_INTEGER include t k.0.0) (sym same) k.0.1))
-one-piece include (x ∷ xs) p us [] q vs h k w z e =
-    let same : x ≡ q = cc e in
-    absurd (z h.0.0 (subst (λ (t : List ℕ). IsAlternativeText MAX_SAFE_INTEGER include t h.0.0) same h.0.1))
+one-piece include [] p us (y ∷ ys) q vs h k w z e = let same : p ≡ y = cc e in absurd (w k.0.0 (rw same k.0.1))
+one-piece include (x ∷ xs) p us [] q vs h k w z e = let same : x ≡ q = cc e in absurd (z h.0.0 (rw (sym same) h.0.1))
 one-piece include (x ∷ xs) p us (y ∷ ys) q vs h k w z e =
     grind (arith, nat_tests, common_steps, one-piece include xs p us ys q vs)
 
@@ -341,15 +307,7 @@ one_range_flaw include text f g u x y =
     (subst (λ (m : List ℕ). IsMalformedWord MAX_SAFE_INTEGER include m y.at y.to) (sym middle) y.word) in
     let word_start : f.word_start ≡ g.word_start = omega (arith, x.word_start, y.word_start, start, word.0) in
     let word_end : f.word_end ≡ g.word_end = omega (arith, x.word_end, y.word_end, start, word.1) in
-    flaws-same _ _ start end word_start word_end
-  where
-    flaws-same : (f g : RangeFlaw) → f.start ≡ g.start → f.end ≡ g.end → f.word_start ≡ g.word_start → f.word_end ≡ g.word_end
-        → f ≡ g
-    flaws-same f g s e v w =
-        let both : record { start = f.start; end = f.end; word_start = f.word_start; word_end = f.word_end }
-        ≡ record { start = g.start; end = g.end; word_start = g.word_start; word_end = g.word_end } =
-        rw (s, e, v, w) refl in
-        both
+    λ i. record { start = start i; end = end i; word_start = word_start i; word_end = word_end i }
 
 -- what the call says
 pub flawed : (include : Bool) (text : List ℕ) (f : RangeFlaw) → IsUtf8 text → IsRangeFlaw MAX_SAFE_INTEGER include text f
@@ -360,9 +318,9 @@ flawed include text f u x = (
   λ g y. ap (λ (h : RangeFlaw). Some h) (one_range_flaw include text f g u x y),
 )
 
-pub unflawed : (include : Bool) (text : List ℕ) (found : Option RangeFlaw) → found ≡ None → Passed include text None
-    → ((found ≡ None) ↔ ((ls : List (List Comparison)) × HasAlternatives MAX_SAFE_INTEGER include text ls))
-    × ((g : RangeFlaw) → IsRangeFlaw MAX_SAFE_INTEGER include text g → found ≡ Some g)
-unflawed include text found e h =
+pub unflawed : (include : Bool) (text : List ℕ) → Passed include text None
+    → ((◌≡◌ {A = Option RangeFlaw} None None) ↔ ((ls : List (List Comparison)) × HasAlternatives MAX_SAFE_INTEGER include text ls))
+    × ((g : RangeFlaw) → IsRangeFlaw MAX_SAFE_INTEGER include text g → None ≡ Some g)
+unflawed include text h =
     let ls = passed_all include text h in
-    ((λ k. ls, λ k. e), λ g y. absurd (flawed-none include text g y ls.0 ls.1))
+    ((λ k. ls, λ k. refl), λ g y. absurd (flawed-none include text g y ls.0 ls.1))

@@ -15,7 +15,7 @@ use Rattle.nodejs_semver.proofs.{NpmCommon.◌>>?◌, Reading.{Bytes.all-join, N
 use Rattle.nodejs_semver.proofs.Strict.VersionLaw.{padded-same, strict-found, strict-found-version, strict-read-version}
 use Rattle.nodejs_semver.specs.{Internal.{Fronts.drop_v, NpmStates.ended}, Npm.VersionText.written}
 use Rattle.{nodejs_semver.specs.declared.npm.flaws.State.TheVariants.{End, Start}, semver_core.proofs.Text.Listed.plain_runs}
-use Rattle.nodejs_semver.proofs.{Common.{bind_some, same_Some}, Reading.Steps.option-cases}
+use Rattle.nodejs_semver.proofs.{Common.{bind_some, same_Some, subst}, Reading.Steps.option-cases}
 use Rattle.{semver_core.specs.Internal.CommonReading.is_plain, std.{proofs.lemmas.List.reverse-append, specs.Prelude.reverse}}
 
 -- ---- runs
@@ -52,7 +52,7 @@ spaces-start limit (c ∷ w) cs h = grind (arith, and_parts, spaces-start limit 
 spaces-end : (limit : ℕ) (cs : List ℕ) → is_read limit End cs ≡ list_all is_whitespace cs
 unfolding run next
 spaces-end limit [] = refl
-spaces-end limit (c ∷ cs) = elim (cases_Bool (is_whitespace c)) [ inl white ↦ rw white (spaces-end limit cs) | inr dark ↦ rw dark refl ]
+spaces-end limit (c ∷ cs) = grind (arith, spaces-end limit cs)
 
 abbrev is_dark : ℕ → Bool
 is_dark c = not (is_whitespace c)
@@ -81,7 +81,6 @@ space-ends : (limit : ℕ) (s : State) (c : ℕ) → is_inside s ≡ true → is
 unfolding next
 space-ends limit (Number zero n) c i h = let p = space-other c h in rw (p.1, p.3, p.4, h) refl
 space-ends limit (Number (suc k) n) c i h = let p = space-other c h in rw (p.1, p.2, not_zero k) refl
-space-ends limit Zero c i h = grind (arith, space-other c h)
 space-ends limit s c i h = grind (arith, space-other c h)
 
 -- whitespace behind other characters
@@ -106,16 +105,14 @@ builds : (limit : ℕ) (x : List ℕ) → list_all is_dark x ≡ true
 unfolding run next list_len
 builds limit [] each = (refl, refl)
 builds limit (c ∷ x) each =
-    let p = and_parts (is_dark c) (list_all is_dark x) each in
-    let e : 1 + list_len x ≡ suc (list_len x) = omega arith in
-    (grind (arith, builds limit x p.1, not-true), grind (arith, builds limit x p.1))
+    let later = builds limit x (and_parts (is_dark c) _ each).1 in
+    let e : 1 + list_len x ≡ suc (list_len x) = omega arith in (grind (arith, later, not-true), grind (arith, later))
 
 -- where no identifier goes on
 ended-read : (limit c : ℕ) (x : List ℕ) → list_all is_dark (c ∷ x) ≡ true
     → ends_whole (ended c >>? λ t. run limit t x) ≡ is_empty (build_front (c ∷ x)).1
 unfolding build_front
-ended-read limit c x each =
-    let p = and_parts (is_dark c) (list_all is_dark x) each in grind (arith, builds limit x p.1, not-true)
+ended-read limit c x each = grind (arith, builds limit x (and_parts (is_dark c) _ each).1, not-true)
 
 -- ---- pre-releases
 
@@ -128,7 +125,7 @@ identifier_read (c ∷ d ∷ x) = if list_all is_ascii_digit (c ∷ d ∷ x) && 
 identifier-more : (limit : ℕ) (x : List ℕ) (c : ℕ) → is_identifier_char c ≡ true
     → next limit (identifier_read x) c ≡ Some (identifier_read (x ++ c ∷ []))
 unfolding next
-identifier-more limit [] c h = elim (cases_Bool (c == 48)) [ inl none ↦ rw none refl | inr other ↦ rw (other, h) refl ]
+identifier-more limit [] c h = grind arith
 identifier-more limit (a ∷ []) c h = grind (arith, nat_tests, common_steps)
 identifier-more limit (a ∷ b ∷ x) c h = rw (list_all-append is_ascii_digit (a ∷ b ∷ x) (c ∷ [])) (grind arith)
 
@@ -138,7 +135,7 @@ letter-digit c h = grind (arith, nat_tests)
 -- it ends here if it is a strict one
 identifier-whole : (a : ℕ) (x : List ℕ) → is_whole (identifier_read (a ∷ x)) ≡ is_strict_identifier (a ∷ x)
 identifier-whole a [] = grind (arith, nat_tests, common_steps)
-identifier-whole a (b ∷ x) = elim (cases_Bool (list_all is_ascii_digit (a ∷ b ∷ x) && a == 48)) [ inl e ↦ rw e refl | inr e ↦ rw e refl ]
+identifier-whole a (b ∷ x) = grind arith
 
 identifier-other : (limit a : ℕ) (x : List ℕ) (c : ℕ) (cs : List ℕ) → is_identifier_char c ≡ false
     → is_read limit (identifier_read (a ∷ x)) (c ∷ cs)
@@ -251,40 +248,28 @@ number-on limit left (c ∷ d ∷ ds) r nine each stop =
     let first : 0 * 10 + digit_value c ≡ digit_value c = omega arith in
     grind (arith, nat_tests, and_parts, digits-on limit left (digit_value c) (d ∷ ds) r)
 
-abbrev number_if : Bool → ℕ → List ℕ → Front ℕ
-number_if b n rest = if b then Some (n, rest) else None
-
 number-front : (limit : ℕ) (ds r : List ℕ) → list_all is_ascii_digit ds ≡ true → begins is_ascii_digit r ≡ false
-    → strict_number limit (ds ++ r) ≡ number_if (is_number limit ds) (digits_value 10 ds) r
+    → strict_number limit (ds ++ r) ≡ (if is_number limit ds then Some (digits_value 10 ds, r) else None)
 unfolding strict_number number_of
 number-front limit ds r each stop =
     grind (arith, nat_tests, common_steps, padded-same, digits-taken, take_at, drop_at)
-
--- what stands behind a number is read
-abbrev behind_read : ℕ → ℕ → Front ℕ → Bool
-behind_read limit left None = false
-behind_read limit left (Some p) = is_read limit (Number left 0) p.1
-
-number : (limit left : ℕ) (text : List ℕ) → 9 ≤ limit → is_read limit (Digit left) text ≡ behind_read limit left (strict_number limit text)
-number limit left text nine =
-    let n = prefix_len is_ascii_digit text in
-    let each = prefix-all is_ascii_digit text in
-    let found = number-front limit (take n text) (drop n text) each (run-ends text) in
-    let read : is_read limit (Digit left) (take n text ++ drop n text) ≡ behind_read limit left (strict_number limit (take n text ++ drop n text)) =
-    rw found (grind (arith, number-on limit left (take n text) (drop n text) nine each (run-ends text))) in
-    rw (take-append-drop n text) at read
 
 -- a number, and behind it what goes on so
 number-step : (limit left : ℕ) (f : ℕ × List ℕ → Option VersionValue) (text : List ℕ) → 9 ≤ limit → list_all is_dark text ≡ true
     → ((p : ℕ × List ℕ) → list_all is_dark p.1 ≡ true → is_read limit (Number left 0) p.1 ≡ is_some (f p))
     → is_read limit (Digit left) text ≡ is_some (strict_number limit text >>? f)
-number-step limit left f text nine each h = number limit left text nine ∙ go (strict_number limit text) refl
+number-step limit left f text nine dark h =
+    let n = prefix_len is_ascii_digit text in
+    let each = prefix-all is_ascii_digit text in
+    let rest = and_parts _ _ (sym (list_all-append is_dark (take n text) (drop n text)) ∙ rw (take-append-drop n text) dark) in
+    subst (λ (t : List ℕ). is_read limit (Digit left) t ≡ is_some (strict_number limit t >>? f)) (take-append-drop n text)
+    (rw (number-on limit left (take n text) (drop n text) nine each (run-ends text), number-front limit (take n text) (drop n text) each (run-ends text))
+    (go (is_number limit (take n text)) _ (h (digits_value 10 (take n text), drop n text) rest.1)))
   where
-    go : (o : Front ℕ) → strict_number limit text ≡ o → behind_read limit left o ≡ is_some (o >>? f)
-    go None e = refl
-    go (Some p) e =
-        let s = strict-found limit text p.0 p.1 e in
-        h p (and_parts (list_all is_dark s.digits) _ (sym (list_all-append is_dark s.digits p.1) ∙ rw s.split at each)).1
+    go : (b : Bool) (p : ℕ × List ℕ) → is_read limit (Number left 0) p.1 ≡ is_some (f p)
+        → (b && is_read limit (Number left 0) p.1) ≡ is_some ((if b then Some p else None) >>? f)
+    go true p e = e
+    go false p e = refl
 
 dotted-step : (limit left : ℕ) (f : ℕ × List ℕ → Option VersionValue) (text : List ℕ) → 9 ≤ limit → list_all is_dark text ≡ true
     → ((p : ℕ × List ℕ) → list_all is_dark p.1 ≡ true → is_read limit (Number left 0) p.1 ≡ is_some (f p))
@@ -325,25 +310,19 @@ plain-encodes (c ∷ cs) h = grind (arith, nat_tests, common_steps, and_parts, e
 plain-digits : (ds : List ℕ) → list_all is_ascii_digit ds ≡ true → list_all is_plain ds ≡ true
 plain-digits ds h = all_weaker is_ascii_digit is_plain (λ c k. grind (arith, nat_tests)) ds h
 
-pub plain-both : (x y : List ℕ) → list_all is_plain x ≡ true → list_all is_plain y ≡ true → list_all is_plain (x ++ y) ≡ true
-plain-both x y h k = all-join is_plain x y h k
-
-pre-plain : (p : List ℕ) (l : List Id) → IsStrictPreRelease p l → list_all is_plain p ≡ true
-pre-plain p l h = grind (arith, nat_tests, common_steps, plain_runs, runs_tail)
-
-build-plain : (b : List ℕ) (l : List Id) → IsStrictBuild b l → list_all is_plain b ≡ true
-build-plain b l h = grind (arith, nat_tests, common_steps, plain_runs, runs_tail)
+qualified-plain : (p b : List ℕ) (l m : List Id) → IsStrictPreRelease p l → IsStrictBuild b m → list_all is_plain (p ++ b) ≡ true
+qualified-plain p b l m h k = grind (arith, nat_tests, common_steps, plain_runs, runs_tail, all-join)
 
 pub plain-middle : (limit : ℕ) (middle : List ℕ) (v : VersionValue) → IsStrictVersion limit middle v → list_all is_plain middle ≡ true
 plain-middle limit middle v (written s x y z t u w m i j k p q) =
-    grind (arith, plain-both, plain-digits, pre-plain t w.pre_release p, build-plain u w.build q)
+    grind (arith, all-join, plain-digits, qualified-plain t u w.pre_release w.build p q)
 
-pub plain-dark : (cs : List ℕ) → list_all is_plain cs ≡ true → begins is_whitespace cs ≡ false
+plain-dark : (cs : List ℕ) → list_all is_plain cs ≡ true → begins is_whitespace cs ≡ false
 plain-dark cs h = grind (arith, nat_tests, common_steps)
 
 plain-reverse : (cs : List ℕ) → list_all is_plain cs ≡ true → list_all is_plain (reverse cs) ≡ true
 plain-reverse [] h = refl
-plain-reverse (c ∷ cs) h = grind (arith, nat_tests, common_steps, and_parts, reverse-append, plain-both, plain-reverse cs)
+plain-reverse (c ∷ cs) h = grind (arith, nat_tests, common_steps, and_parts, reverse-append, plain-reverse cs)
 
 pub plain-trim : (w x r : List ℕ) → list_all is_whitespace w ≡ true → list_all is_plain x ≡ true → list_all is_whitespace r ≡ true
     → IsTrim (encode_utf8_all (w ++ (x ++ r))) x
@@ -357,10 +336,9 @@ larger limit more middle v le (written mark x y z pre build w m i j k p q) =
     written mark x y z pre build w m (number x _ i) (number y _ j) (number z _ k) p q
   where
     number : (ds : List ℕ) (n : ℕ) → IsStrictNumber limit ds n → IsStrictNumber more ds n
-    number ds n h = record {
-      number = record { some = h.number.some; each = h.number.each; value = h.number.value; safe = omega (arith, le, h.number.safe) };
-      shortest = h.shortest;
-    }
+    number ds n h =
+        let i = h.number in
+        record { number = record { some = i.some; each = i.each; value = i.value; safe = omega (arith, le, i.safe) }; shortest = h.shortest }
 
 middle-read : (limit : ℕ) (w middle r : List ℕ) (v : VersionValue) → 9 ≤ limit → list_all is_whitespace w ≡ true
     → list_all is_whitespace r ≡ true → IsStrictVersion limit middle v → is_read limit Start (w ++ (middle ++ r)) ≡ true
@@ -401,11 +379,10 @@ unfolding run
 middle-found limit w [] [] nine blank each stop dark h = cc (sym (spaces-start limit w [] blank) ∙ h)
 middle-found limit w [] (c ∷ r) nine blank each stop dark h = cc (not-false _ stop, dark)
 middle-found limit w (c ∷ x) r nine blank each stop dark h =
-    let p = and_parts _ _ (sym (text-read limit w c x r nine blank each stop) ∙ h) in (some (strict_version limit (c ∷ x)) p.0, p.1)
-  where
-    some : (o : Option VersionValue) → is_some o ≡ true → (v : VersionValue) × (o ≡ Some v)
-    some None h = cc h
-    some (Some v) h = (v, refl)
+    let p = and_parts _ _ (sym (text-read limit w c x r nine blank each stop) ∙ h) in elim (option-cases (strict_version limit (c ∷ x))) [
+      | inl none ↦ cc (sym (ap is_some none) ∙ p.0)
+      | inr v ↦ (v, p.1)
+    ]
 
 pub read-spelled : (limit : ℕ) (cs : List ℕ) → 9 ≤ limit → Whole limit Start cs → IsSpelled limit (encode_utf8_all cs)
 read-spelled limit cs nine h =
