@@ -15,7 +15,7 @@ use Rattle.nodejs_semver.proofs.{NpmCommon.strict_version, Reading.IdentifierLis
 use Rattle.nodejs_semver.proofs.Reading.{IdentifierLists.written-spelled, Numbers.{front_none, front_some, number-found, number-read}}
 use Rattle.nodejs_semver.{proofs.Reading.{PartialLaw.byte-begins, WordLaw.byte-is}, specs.Internal.Fronts.drop_v}
 use Rattle.{nodejs_semver.specs.Npm.{Grammar.IsPreRelease, VersionText.written}, semver_core.proofs.Text.Pieces.list_ended}
-use Rattle.{semver_core.proofs.Text.Runs.numerals, std.proofs.lemmas.{Fmt.{decimal-digits_value, length-decimal-le}, Str.encodes-chars}}
+use Rattle.{semver_core.proofs.Text.Runs.numerals, std.proofs.lemmas.{Fmt.{decimal-digits_value, length-decimal-le}, Str.{encodes-chars, length-le-encodes}}}
 
 -- ---- the number that the code finds
 
@@ -28,12 +28,9 @@ pub strict_none : (limit : ℕ) (text : List ℕ) → begins_padded text ≡ fal
 unfolding strict_number
 strict_none limit text h none = rw h (front_none limit text none)
 
-abbrev found : ℕ → List ℕ → Front ℕ
-found n rest = Some (n, rest)
-
 pub strict_some : (limit : ℕ) (text : List ℕ) (n end : ℕ) → begins_padded text ≡ false
     → IsPieceAt (λ digits rest. IsWholeNumber limit digits rest n) text 0 end
-    → strict_number limit text ≡ found n (take (length text - end) (drop end text))
+    → strict_number limit text ≡ Some (n, take (length text - end) (drop end text))
 unfolding strict_number
 strict_some limit text n end h piece = rw (h, take_rest text end) (front_some limit text n end piece)
 
@@ -41,7 +38,7 @@ pub ruleset numbers_found = (strict_padded, strict_none, strict_some)
 
 -- the same with leading zeros
 pub front_there : (limit : ℕ) (text : List ℕ) (n end : ℕ) → IsPieceAt (λ digits rest. IsWholeNumber limit digits rest n) text 0 end
-    → number_front limit text ≡ found n (take (length text - end) (drop end text))
+    → number_front limit text ≡ Some (n, take (length text - end) (drop end text))
 front_there limit text n end piece = rw (take_rest text end) (front_some limit text n end piece)
 
 pub ruleset numbers_in = (front_none, front_there)
@@ -80,11 +77,6 @@ dotted-found limit text n rest h =
     let t = bind_some (after_byte 46 text) _ (n, rest) h in
     let f = strict-found limit t.0 n rest t.2 in
     (f.digits, byte-is 46 text t.0 t.1 ∙ ap (λ (t : List ℕ). 46 ∷ t) f.split, f.is)
-
-pub dotted-read : (limit : ℕ) (digits rest : List ℕ) (n : ℕ) → IsStrictNumber limit digits n → begins is_ascii_digit rest ≡ false
-    → dotted_number limit (46 ∷ (digits ++ rest)) ≡ Some (n, rest)
-unfolding dotted_number
-dotted-read limit digits rest n h stop = strict-read limit digits rest n h stop
 
 -- ---- a number prints as it is written, and one up to the limit is short
 
@@ -132,18 +124,13 @@ pub ends-nil : Ends []
 unfolding list_len
 ends-nil = record { run = refl; dash = refl; plus = refl; digit = refl; letter = λ wild. refl; dot = refl }
 
--- build metadata, or nothing, ends a list and begins with no digit
+-- build metadata, or nothing, ends a list and begins with no digit, no letter and no dot
 pub build-quiet : (b more : List ℕ) (l : List Id) → IsStrictBuild b l → Ends more
     → (list_len (b ++ more) ≡ 0) × (begins_byte 45 (b ++ more) ≡ false) × (begins is_ascii_digit (b ++ more) ≡ false)
+    × ((wild : Bool) → begins_undashed wild (b ++ more) ≡ false) × (begins_byte 46 (b ++ more) ≡ false)
 unfolding list_len
-build-quiet b more l no_build e = (e.run, e.dash, e.digit)
-build-quiet b more l (plus t list h) e = (refl, refl, refl)
-
-pub quiet-behind : (p b more : List ℕ) (l m : List Id) → IsStrictPreRelease p l → IsStrictBuild b m → Ends more
-    → begins is_ascii_digit (p ++ (b ++ more)) ≡ false
-quiet-behind p b more l m no_pre_release k e = (build-quiet b more m k e).2
-quiet-behind p b more l m (dashed t list h s) k e = refl
-quiet-behind p b more l m (bare t list h s f) k e = cc f
+build-quiet b more l no_build e = (e.run, e.dash, e.digit, e.letter, e.dot)
+build-quiet b more l (plus t list h) e = (refl, refl, refl, λ wild. refl, refl)
 
 pub build-taken : (b more : List ℕ) (l : List Id) → IsStrictBuild b l → Ends more
     → (build_front (b ++ more) ≡ (drop 1 b, more)) × (listed (drop 1 b) ≡ l)
@@ -160,8 +147,7 @@ undashed-begins wild text h = grind (arith, nat_tests)
 
 pub letter-on : (wild : Bool) (text more : List ℕ) → begins_undashed wild text ≡ true → begins_identifier more ≡ false → begins_undashed wild (text ++ more) ≡ true
 letter-on wild [] more h k = cc h
-letter-on true (c ∷ text) more h k = grind (arith, nat_tests, common_steps)
-letter-on false (c ∷ text) more h k = grind (arith, nat_tests, common_steps)
+letter-on wild (c ∷ text) more h k = grind (arith, nat_tests, common_steps)
 
 goes-on : (more : List ℕ) → goes_on more ≡ false → begins_identifier more ≡ false
 goes-on more h = grind (arith, nat_tests)
@@ -182,24 +168,13 @@ letter-take wild text h =
 abbrev pub PreFound : Bool → Bool → (List ℕ → Bool) → List ℕ → List ℕ → List ℕ → Type 0
 PreFound loose wild fits text read rest = (piece : List ℕ) × (text ≡ piece ++ rest) × IsPreRelease loose wild fits piece (listed read)
 
-none-found : (loose wild : Bool) (fits : List ℕ → Bool) (text : List ℕ) → PreFound loose wild fits text [] text
-unfolding listed
-none-found loose wild fits text = ([], refl, no_pre_release)
-
-without-dash : (wild : Bool) (fits : List ℕ → Bool) (text : List ℕ) → begins_undashed wild text ≡ true → fits (take (list_len text) text) ≡ true
-    → PreFound true wild fits text (take (list_len text) text) (drop (list_len text) text)
-without-dash wild fits text letter h =
-    let read = take (list_len text) text in
-    let is = front-identifiers text (undashed-begins wild text letter) in
-    (read, sym (take-append-drop (list_len text) text), bare read (listed read) is h (letter-take wild text letter))
-
 pub dashed-found : (loose wild : Bool) (fits : List ℕ → Bool) (text : List ℕ) → fits (dashed_front text).0 ≡ true
     → PreFound loose wild fits text (dashed_front text).0 (dashed_front text).1
-unfolding dashed_front pre_release_front
+unfolding dashed_front pre_release_front listed
 dashed-found loose wild fits text h = elim (cases_Bool (begins_byte 45 text)) [
-  | inr other ↦ rw other (none-found loose wild fits text)
+  | inr other ↦ rw other ([], refl, no_pre_release)
   | inl dash ↦ elim (cases_Bool (begins_identifier (drop 1 text))) [
-    | inr none ↦ rw (dash, none) (none-found loose wild fits text)
+    | inr none ↦ rw (dash, none) ([], refl, no_pre_release)
     | inl some ↦
         let y = drop 1 text in
         let read = take (list_len y) y in
@@ -216,41 +191,28 @@ pre-found true wild fits text h = elim (cases_Bool (begins_undashed wild text)) 
   | inr other ↦ rw other (dashed-found true wild fits text (rw other at h))
   | inl letter ↦
       let begins = undashed-begins wild text letter in
-      rw (letter, begins) (without-dash wild fits text letter (rw (letter, begins) at h))
+      let n = list_len text in
+      rw (letter, begins) (take n text, sym (take-append-drop n text),
+      bare (take n text) _ (front-identifiers text begins) (rw (letter, begins) at h) (letter-take wild text letter))
 ]
-
--- build metadata, or nothing, begins with no letter
-build-letter : (wild : Bool) (b more : List ℕ) (l : List Id) → IsStrictBuild b l → Ends more → begins_undashed wild (b ++ more) ≡ false
-build-letter wild b more l no_build e = e.letter wild
-build-letter wild b more l (plus t list h) e = refl
 
 -- what stands behind a third place: no digit and no dot, or loosely one digit before a dot
 abbrev pub Follows : Bool → List ℕ → Type 0
 Follows loose rest = ((begins is_ascii_digit rest ≡ false) × (begins_byte 46 rest ≡ false))
     ⊎ ((c : ℕ) × (more : List ℕ) × (rest ≡ c ∷ 46 ∷ more) × (is_ascii_digit c ≡ true) × (loose ≡ true))
 
-build-dotless : (b more : List ℕ) (l : List Id) → IsStrictBuild b l → Ends more → begins_byte 46 (b ++ more) ≡ false
-build-dotless b more l no_build e = e.dot
-build-dotless b more l (plus t list h) e = refl
-
 pub pre-follows : (loose : Bool) (fits : List ℕ → Bool) (p b more : List ℕ) (l m : List Id) → IsPreRelease loose false fits p l
     → IsStrictBuild b m → Ends more → Follows loose (p ++ (b ++ more))
-pre-follows loose fits p b more l m no_pre_release k e = inl ((build-quiet b more m k e).2, build-dotless b more m k e)
+pre-follows loose fits p b more l m no_pre_release k e = inl ((build-quiet b more m k e).2, (build-quiet b more m k e).4)
 pre-follows loose fits p b more l m (dashed t list h s) k e = inl (refl, refl)
 pre-follows loose fits p b more l m (bare t list h s x) k e = go t (and_parts loose (begins_undashed false t) x).1
   where
-    letter-dotless : (c : ℕ) (t : List ℕ) → begins_undashed false (c ∷ t) ≡ true → (c == 46) ≡ false
-    letter-dotless c t f = grind (arith, nat_tests)
-
-    digit-dot : (c : ℕ) (t : List ℕ) → begins_undashed false (c ∷ t) ≡ true → is_ascii_digit c ≡ true → begins_byte 46 t ≡ true
-    digit-dot c t f d = grind (arith, nat_tests)
-
     go : (t : List ℕ) → begins_undashed false t ≡ true → Follows loose (t ++ (b ++ more))
     go [] f = cc f
     go (c ∷ t) f = elim (cases_Bool (is_ascii_digit c)) [
-      | inr other ↦ inl (other, letter-dotless c t f)
+      | inr other ↦ inl (other, grind (arith, nat_tests))
       | inl digit ↦
-          let dot = byte-begins 46 t (digit-dot c t f digit) in
+          let dot = byte-begins 46 t (grind (arith, nat_tests)) in
           inr (c, drop 1 t ++ (b ++ more), ap (λ (r : List ℕ). c ∷ (r ++ (b ++ more))) dot, digit, (and_parts loose _ x).0)
     ]
 
@@ -266,7 +228,7 @@ pub pre-taken : (loose wild : Bool) (fits : List ℕ → Bool) (p b more : List 
     → (ids : List ℕ) × (pre_front loose wild (p ++ (b ++ more)) ≡ (ids, b ++ more)) × (listed ids ≡ l) × (fits ids ≡ true)
 unfolding pre_front dashed_front pre_release_front listed
 pre-taken loose wild fits p b more l m none no_pre_release k e =
-    ([], rw (build-letter wild b more m k e, and-false loose, (build-quiet b more m k e).1) refl, refl, none)
+    ([], rw ((build-quiet b more m k e).3 wild, and-false loose, (build-quiet b more m k e).1) refl, refl, none)
 pre-taken loose wild fits p b more l m none (dashed t list h s) k e =
     let begins = written-begins t (b ++ more) list h in
     let exact = written-exact t (b ++ more) list h (build-quiet b more m k e).0 in
@@ -343,15 +305,15 @@ unmarked : (limit : ℕ) (mark digits rest : List ℕ) (n : ℕ) → (mark ≡ [
 unmarked limit mark digits rest n k h = grind (arith, nat_tests, common_steps)
 
 pub strict-read-version : (limit : ℕ) (text : List ℕ) (v : VersionValue) → IsStrictVersion limit text v → strict_version limit text ≡ Some v
-unfolding strict_version
+unfolding strict_version dotted_number
 strict-read-version limit text v (written mark x y z pre build w m i j k p q) =
     let behind = pre ++ build in
     let quiet : begins is_ascii_digit behind ≡ false =
-    rw (append-nil build) at (quiet-behind pre build [] w.pre_release w.build p q ends-nil) in
+    elim (pre-follows false is_strict_list pre build [] w.pre_release w.build p q ends-nil) [ inl x ↦ rw (append-nil build) at x.0 | inr y ↦ cc y.4 ] in
     let front = unmarked limit mark x (46 ∷ (y ++ 46 ∷ (z ++ behind))) w.major m i in
     let a = strict-read limit x (46 ∷ (y ++ 46 ∷ (z ++ behind))) w.major i refl in
-    let b = dotted-read limit y (46 ∷ (z ++ behind)) w.minor j refl in
-    let c = dotted-read limit z behind w.patch k quiet in
+    let b = strict-read limit y (46 ∷ (z ++ behind)) w.minor j refl in
+    let c = strict-read limit z behind w.patch k quiet in
     grind (arith, nat_tests, common_steps, qualified-read)
 
 -- ---- whole texts
@@ -376,15 +338,7 @@ clean_refused limit text middle rest trimmed e none = λ v w.
 
 -- ---- a text has no more characters than bytes, and as many as its iterator counts
 
-character-takes : (c : ℕ) → 0 < len_utf8 c
-character-takes c = grind (arith, nat_tests)
-
-characters-le : (cs : List ℕ) → length cs ≤ length (encode_utf8_all cs)
-characters-le [] = omega arith
-characters-le (c ∷ cs) =
-    omega (arith, length-append (encode_utf8 c) (encode_utf8_all cs), length-encode c, character-takes c, characters-le cs)
-
 pub characters-fit : (text : List ℕ) → IsUtf8 text → length (chars text) ≤ length text
-characters-fit text h = rw (encodes-chars text h) at (characters-le (chars text))
+characters-fit text h = rw (encodes-chars text h) at (length-le-encodes (chars text))
 
 pub ruleset characters_counted = (characters-fit, chars_from_encodes)
