@@ -11,7 +11,7 @@ use Rattle.nodejs_semver.proofs.NpmCommon.{loose_patch, loose_qualified, loose_v
 use Rattle.nodejs_semver.proofs.{NpmCommon.{or-true, patch_front, pre_front, pre_release_front}, Reading.Bytes.component-solid}
 use Rattle.nodejs_semver.proofs.Reading.{Bytes.solid-dark, Numbers.{digits-taken, number-found, number-is, number-of, number-read}}
 use Rattle.nodejs_semver.proofs.{Reading.{Numbers.run-ends, Steps.option-cases, WordLaw.byte-is}, Strict.AlternativeLaw.ends-found}
-use Rattle.nodejs_semver.proofs.Strict.{AlternativeLaw.ends-read, PartialLaw.{digits-many_on, digits-of}, VersionLaw.{Follows, PreFound}}
+use Rattle.nodejs_semver.proofs.Strict.{AlternativeLaw.ends-read, PartialLaw.{digits-many_on, digits-of}, VersionLaw.{Follows, PreFound, Qualified}}
 use Rattle.nodejs_semver.proofs.Strict.VersionLaw.{build-found, build-quiet, build-taken, empty-is, ends-nil, letter-on, pre-follows}
 use Rattle.nodejs_semver.{proofs.Strict.VersionLaw.{pre-found, pre-taken, stopped}, specs.Internal.NpmLooseVersions.patch_len}
 use Rattle.nodejs_semver.specs.Npm.{Grammar.IsPreRelease, VersionText.{IsLooseVersion, IsLooseVersionText, written}}
@@ -26,12 +26,9 @@ piece-of : (limit : ℕ) (text : List ℕ) (n end : ℕ) → list_all is_ascii_d
     → IsPieceAt (λ digits rest. IsWholeNumber limit digits rest n) text 0 end → number_of limit text ≡ Some n
 piece-of limit text n end each s = grind (arith, nat_tests, common_steps, number-of, append-nil, and_parts)
 
-abbrev found : ℕ → List ℕ → Front ℕ
-found n rest = Some (n, rest)
-
 pub patch_some : (limit : ℕ) (rest : List ℕ) (n end len : ℕ) → len ≡ patch_len rest
     → IsPieceAt (λ digits rest. IsWholeNumber limit digits rest n) (take len rest) 0 end
-    → patch_front limit rest ≡ found n (take (length rest - len) (drop len rest))
+    → patch_front limit rest ≡ Some (n, take (length rest - len) (drop len rest))
 unfolding patch_front
 patch_some limit rest n end len e s =
     rw (take_rest rest len, e, piece-of limit (take (patch_len rest) rest) n end (patch-digits rest) (rw e at s)) refl
@@ -67,14 +64,9 @@ lone-digit : (text : List ℕ) (n : ℕ) → n ≡ prefix_len is_ascii_digit tex
 lone-digit [] n e some dot = absurd (omega (arith, some, e))
 lone-digit (c ∷ text) zero e some dot = absurd (omega (arith, some))
 lone-digit (c ∷ text) (suc zero) e some dot = dot
-lone-digit (c ∷ text) (suc (suc n)) e some dot = elim (cases_Bool (is_ascii_digit c)) [
-  | inr other ↦ absurd (omega (arith, rw other at e))
-  | inl digit ↦
-      let next : suc n ≡ prefix_len is_ascii_digit text = omega (arith, rw digit at e) in
-      let k : suc (suc n) - 1 ≡ suc n = omega arith in
-      let m : suc n - 1 ≡ n = omega arith in
-      rw k (rw m at (lone-digit text (suc n) next (omega arith) dot))
-]
+lone-digit (c ∷ text) (suc (suc n)) e some dot =
+    let k : suc (suc n) - 1 ≡ suc n = omega arith in
+    let m : suc n - 1 ≡ n = omega arith in grind (arith, nat_tests, lone-digit text (suc n))
 
 record PatchAt (limit : ℕ) (text : List ℕ) (n : ℕ) (rest : List ℕ) : Type 0 where
   digits : List ℕ
@@ -107,21 +99,12 @@ lone-here (c ∷ d ∷ more) (inr lone) e = elim (cases_Bool (is_ascii_digit c))
     | inl on ↦ inl (rw (eqb-true d 46 lone, digit, on) (or-true (nat_le 65 c && nat_le c 90 || nat_le 97 c && nat_le c 122)))
     | inr none ↦
         let letter : is_identifier_char c ≡ true = grind (arith, nat_tests) in
-        let apart : (c == 45) ≡ false = grind (arith, nat_tests) in
-        cc (rw (eqb-true d 46 lone, letter, apart, none) at e)
+        let apart : (c == 45) ≡ false = grind (arith, nat_tests) in cc (rw (eqb-true d 46 lone, letter, apart, none) at e)
   ]
 ]
 
-record LooseQualified (text : List ℕ) (v : VersionValue) (major minor patch : ℕ) : Type 0 where
-  pre : List ℕ
-  build : List ℕ
-  split : text ≡ pre ++ build
-  pre_is : IsPreRelease true false (λ ids. true) pre v.pre_release
-  build_is : IsStrictBuild build v.build
-  numbers : (v.major ≡ major) × (v.minor ≡ minor) × (v.patch ≡ patch)
-
 qualified-found : (a b c : ℕ) (text : List ℕ) (v : VersionValue) → Behind text → loose_qualified a b c text ≡ Some v
-    → LooseQualified text v a b c
+    → Qualified true (λ ids. true) text v a b c
 unfolding loose_qualified
 qualified-found a b c text v behind h =
     let front = loose_front text in
@@ -164,10 +147,9 @@ loose-found limit text v u h =
     let front = encode_utf8_all marks.characters in
     let e : text ≡ front ++ (major.run ++ 46 ∷ (minor.0 ++ 46 ∷ (patch.digits ++ (q.pre ++ q.build)))) =
     grind (arith, nat_tests, common_steps) in
-    subst (λ (t : List ℕ). IsLooseVersion limit t v) (sym e) (written front major.run minor.0 patch.digits q.pre q.build v
-    (marks.characters, refl, marks.each) (subst (IsNumber limit major.run) (sym q.numbers.0) major.is)
-    (subst (IsNumber limit minor.0) (sym q.numbers.1) minor.2) (subst (IsNumber limit patch.digits) (sym q.numbers.2) patch.is)
-    q.pre_is q.build_is)
+    rw e (written front major.run minor.0 patch.digits q.pre q.build v (marks.characters, refl, marks.each)
+    (subst (IsNumber limit major.run) q.numbers.0 major.is) (subst (IsNumber limit minor.0) q.numbers.1 minor.2)
+    (subst (IsNumber limit patch.digits) q.numbers.2 patch.is) q.pre_is q.build_is)
 
 -- ---- what is written is read
 
@@ -193,11 +175,6 @@ qualified-read : (p b : List ℕ) (v : VersionValue) → IsPreRelease true false
 unfolding loose_qualified
 qualified-read p b v h k = grind (arith, nat_tests, common_steps, append-nil, build-taken, ends-nil, fronts-same, pre-open, pre-taken)
 
-dotted-read : (limit : ℕ) (digits rest : List ℕ) (n : ℕ) → IsNumber limit digits n → begins is_ascii_digit rest ≡ false
-    → loose_dotted limit (46 ∷ (digits ++ rest)) ≡ Some (n, rest)
-unfolding loose_dotted
-dotted-read limit digits rest n h stop = number-read limit digits rest n h stop
-
 marks-read : (mark digits rest : List ℕ) → AreMarks mark → 0 < length digits → list_all is_ascii_digit digits ≡ true
     → drop_ends (mark ++ (digits ++ rest)) ≡ digits ++ rest
 marks-read mark [] rest m some each = absurd (omega (arith, some))
@@ -207,9 +184,9 @@ marks-read mark (c ∷ digits) rest m some each =
 parts-read : (limit : ℕ) (mark x y z pre build : List ℕ) (v : VersionValue) → AreMarks mark → IsNumber limit x v.major
     → IsNumber limit y v.minor → IsNumber limit z v.patch → IsPreRelease true false (λ ids. true) pre v.pre_release → IsStrictBuild build v.build
     → loose_version limit (mark ++ (x ++ 46 ∷ (y ++ 46 ∷ (z ++ (pre ++ build))))) ≡ Some v
-unfolding loose_version
+unfolding loose_version loose_dotted
 parts-read limit mark x y z pre build v m i j k p q =
-    grind (arith, marks-read, number-read, dotted-read, patch-read, follows, qualified-read)
+    grind (arith, marks-read, number-read, patch-read, follows, qualified-read)
 
 pub loose-read : (limit : ℕ) (text : List ℕ) (v : VersionValue) → IsLooseVersion limit text v → loose_version limit text ≡ Some v
 loose-read limit text v (written mark x y z pre build w m i j k p q) = parts-read limit mark x y z pre build w m i j k p q

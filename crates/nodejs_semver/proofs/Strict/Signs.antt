@@ -174,9 +174,7 @@ sign-found (b ∷ rest) u =
     (on-byte _ _ _ _ _ (omega arith) u (λ v. caret-found _ v)
     (on-byte _ _ _ _ _ (omega arith) u (λ v. tilde-found _ v) (record { signs = []; split = refl; is = no_sign; utf8 = u })))))
 
--- ---- the signs of node-semver's words before marks and a partial version: what is written is read, or means the same
-
--- ---- whitespace before marks and a partial
+-- ---- whitespace before marks and a partial: what is written is read, or means the same
 
 -- the text is empty, or whitespace stands at the front of it, whatever follows
 pub blank-cases : (x : List ℕ) → IsBlank x → (x ≡ []) ⊎ ((rest : List ℕ) → 0 < space_len (x ++ rest))
@@ -295,18 +293,15 @@ no_greater-left : (x t : List ℕ) → IsBlank x → space_len t ≡ 0 → begin
     → skip_tilde (x ++ t) (drop_spaces (x ++ t)) ≡ skip_equal t
 no_greater-left x t h dark other = rw (blank-skipped x t h dark, blank-byte 62 x t refl h other, other) refl
 
-dark-byte : (b : ℕ) (rest : List ℕ) → is_solid b ≡ true → space_len (b ∷ rest) ≡ 0
-dark-byte b rest h = solid-dark (b ∷ rest) h
-
 -- one `>` stands there
 one_greater-left : (x t rest : List ℕ) → IsBlank x → drop_spaces t ≡ rest → begins_byte 62 rest ≡ false
     → skip_tilde (x ++ (62 ∷ t)) (drop_spaces (x ++ (62 ∷ t))) ≡ skip_greater t
-one_greater-left x t rest h e other = grind (arith, blank-cases, blank-skipped, dark-byte, space-byte)
+one_greater-left x t rest h e other = grind (arith, blank-cases, blank-skipped, solid-dark, space-byte)
 
 -- `~>` and one `>` more
 twice-left : (y v : List ℕ) → IsBlank y → 0 < length y
     → skip_tilde (62 ∷ (y ++ (62 ∷ v))) (drop_spaces (62 ∷ (y ++ (62 ∷ v)))) ≡ skip_greater v
-twice-left y v h some = grind (arith, nat_tests, common_steps, blank-cases, blank-skipped, dark-byte)
+twice-left y v h some = grind (arith, nat_tests, common_steps, blank-cases, blank-skipped, solid-dark)
 
 -- ---- `>` and `<`
 
@@ -316,27 +311,18 @@ one-read one two y t h dark other = rw (blank-byte 61 y t refl h other, blank-sk
 
 late-read : (one two : Comparator) (y t : List ℕ) → IsBlank y → space_len t ≡ 0
     → or_late one two (y ++ (61 ∷ t)) (drop_spaces (y ++ (61 ∷ t))) ≡ (compared two, t)
-late-read one two y t h dark = grind (arith, nat_tests, common_steps, blank-cases, drop_spaces-none, space-byte, blank-skipped, dark-byte)
+late-read one two y t h dark = grind (arith, nat_tests, common_steps, blank-cases, drop_spaces-none, space-byte, blank-skipped, solid-dark)
 
 -- ---- what is written is read
 
 signed-taken : (loose : Bool) (s : Sign) (p : Partial) (y marks x u : List ℕ) → IsBlank y → are_marks loose s p marks ≡ true
     → (is_open s && begins_byte 61 marks) ≡ false → begins_component u ≡ true → Taken loose s p marks x u ((spelling s ++ y) ++ (marks ++ u))
 unfolding npm_sign
-signed-taken loose (compared at_least) p y marks x u h m none k =
-    grind (arith, nat_tests, common_steps, opens, marks-all, kept, blank-skipped)
-signed-taken loose (compared above) p y marks x u h m none k =
-    grind (arith, nat_tests, common_steps, opens, marks-all, one-read, not-other, kept)
-signed-taken loose (compared equal) p y marks x u h m none k =
-    grind (arith, nat_tests, common_steps, opens, marks-all, equal-front, kept, blank-skipped)
-signed-taken loose (compared at_most) p y marks x u h m none k =
-    grind (arith, nat_tests, common_steps, opens, marks-all, kept, blank-skipped)
-signed-taken loose (compared below) p y marks x u h m none k =
-    grind (arith, nat_tests, common_steps, opens, marks-all, one-read, not-other, kept)
-signed-taken loose caret p y marks x u h m none k =
-    grind (arith, nat_tests, common_steps, marks-all, blank-skipped, opens, caret-taken, equal-left)
-signed-taken loose tilde p y marks x u h m none k =
-    grind (arith, nat_tests, common_steps, marks-all, opens, no_greater-left, tilde-taken, equal-left)
+signed-taken loose (compared above) p y marks x u h m none k = grind (arith, nat_tests, common_steps, opens, marks-all, one-read, not-other, kept)
+signed-taken loose (compared below) p y marks x u h m none k = grind (arith, nat_tests, common_steps, opens, marks-all, one-read, not-other, kept)
+signed-taken loose caret p y marks x u h m none k = grind (arith, nat_tests, common_steps, marks-all, blank-skipped, opens, caret-taken, equal-left)
+signed-taken loose tilde p y marks x u h m none k = grind (arith, nat_tests, common_steps, marks-all, opens, no_greater-left, tilde-taken, equal-left)
+signed-taken loose s p y marks x u h m none k = grind (arith, nat_tests, common_steps, opens, marks-all, equal-front, kept, blank-skipped)
 
 bare-taken : (loose : Bool) (p : Partial) (marks x u : List ℕ) → are_marks loose (compared equal) p marks ≡ true → begins_byte 61 marks ≡ false
     → begins_component u ≡ true → Taken loose (compared equal) p marks x u (marks ++ u)
@@ -352,9 +338,9 @@ sign-taken loose signs s p marks x u (late_above y h) m none k =
 sign-taken loose signs s p marks x u (late_below y h) m none k =
     grind (arith, nat_tests, common_steps, opens, marks-all, append_assoc, late-read, kept)
 sign-taken loose signs s p marks x u (caret_equal y z h l) m none k =
-    grind (arith, nat_tests, common_steps, append_assoc, blank-skipped, dark-byte, kept, opens, marks-all)
-sign-taken loose signs s p marks x u (tilde_sign c y z h l (inr (inr e))) m none k = grind (arith, nat_tests, common_steps, append_assoc, blank-skipped, dark-byte, kept, marks-all, no_greater-left, opens)
+    grind (arith, nat_tests, common_steps, append_assoc, blank-skipped, solid-dark, kept, opens, marks-all)
+sign-taken loose signs s p marks x u (tilde_sign c y z h l (inr (inr e))) m none k = grind (arith, nat_tests, common_steps, append_assoc, blank-skipped, solid-dark, kept, marks-all, no_greater-left, opens)
 sign-taken loose signs s p marks x u (tilde_sign c y z h l (inl e)) m none k = grind (arith, append_assoc, blank-skipped, greater-left, marks-all, one_greater-left, opens, tilde-taken)
-sign-taken loose signs s p marks x u (tilde_sign c y z h l (inr (inl e))) m none k = grind (arith, nat_tests, common_steps, append_assoc, blank-skipped, dark-byte, drop_spaces-none, kept, marks-all, one_greater-left, opens)
+sign-taken loose signs s p marks x u (tilde_sign c y z h l (inr (inl e))) m none k = grind (arith, nat_tests, common_steps, append_assoc, blank-skipped, solid-dark, drop_spaces-none, kept, marks-all, one_greater-left, opens)
 sign-taken loose signs s p marks x u (tilde_twice c y z h some l (inl e)) m none k = grind (arith, nat_tests, common_steps, append_assoc, greater-left, marks-all, tilde-taken, twice-left)
 sign-taken loose signs s p marks x u (tilde_twice c y z h some l (inr e)) m none k = grind (arith, nat_tests, common_steps, append_assoc, blank-skipped, kept, marks-all, opens, twice-left)

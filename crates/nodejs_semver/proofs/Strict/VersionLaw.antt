@@ -245,15 +245,15 @@ pre-taken loose wild fits p b more l m none (bare t list h s x) k e =
 pub empty-is : (t : List ℕ) → is_empty t ≡ true → t ≡ []
 empty-is t h = grind (arith, nat_tests, common_steps)
 
-record Qualified (text : List ℕ) (v : VersionValue) (major minor patch : ℕ) : Type 0 where
-  pre : List ℕ
-  build : List ℕ
-  split : text ≡ pre ++ build
-  pre_is : IsStrictPreRelease pre v.pre_release
-  build_is : IsStrictBuild build v.build
-  numbers : (v.major ≡ major) × (v.minor ≡ minor) × (v.patch ≡ patch)
+pub record Qualified (loose : Bool) (fits : List ℕ → Bool) (text : List ℕ) (v : VersionValue) (major minor patch : ℕ) : Type 0 where
+  pub pre : List ℕ
+  pub build : List ℕ
+  pub split : text ≡ pre ++ build
+  pub pre_is : IsPreRelease loose false fits pre v.pre_release
+  pub build_is : IsStrictBuild build v.build
+  pub numbers : (major ≡ v.major) × (minor ≡ v.minor) × (patch ≡ v.patch)
 
-qualified-found : (a b c : ℕ) (text : List ℕ) (v : VersionValue) → qualified_version a b c text ≡ Some v → Qualified text v a b c
+qualified-found : (a b c : ℕ) (text : List ℕ) (v : VersionValue) → qualified_version a b c text ≡ Some v → Qualified false is_strict_list text v a b c
 unfolding qualified_version
 qualified-found a b c text v h =
     let front = dashed_front text in
@@ -281,10 +281,9 @@ strict-found-version limit text v h =
     let q = qualified-found a.0.0 b.0.0 c.0.0 c.0.1 v c.2 in
     let m = marked text in
     let behind : drop_v text ≡ major.digits ++ 46 ∷ (minor.0 ++ 46 ∷ (patch.0 ++ (q.pre ++ q.build))) = cc (major.split, minor.1, patch.1, q.split) in
-    subst (λ (t : List ℕ). IsStrictVersion limit t v) (sym (m.1 ∙ ap (λ (t : List ℕ). m.0 ++ t) behind))
-    (written m.0 major.digits minor.0 patch.0 q.pre q.build v m.2 (subst (IsStrictNumber limit major.digits) (sym q.numbers.0) major.is)
-    (subst (IsStrictNumber limit minor.0) (sym q.numbers.1) minor.2) (subst (IsStrictNumber limit patch.0) (sym q.numbers.2) patch.2)
-    q.pre_is q.build_is)
+    rw (m.1, behind) (written m.0 major.digits minor.0 patch.0 q.pre q.build v m.2
+    (subst (IsStrictNumber limit major.digits) q.numbers.0 major.is) (subst (IsStrictNumber limit minor.0) q.numbers.1 minor.2)
+    (subst (IsStrictNumber limit patch.0) q.numbers.2 patch.2) q.pre_is q.build_is)
   where
     marked : (t : List ℕ) → (mark : List ℕ) × (t ≡ mark ++ drop_v t) × ((mark ≡ []) ⊎ (mark ≡ 118 ∷ []))
     marked [] = ([], refl, inl refl)
