@@ -1,19 +1,17 @@
 -- Questions about ranges: the order that counts builds, parts of ranges, unions, and the ranges of some versions.
-use Rattle.nodejs_semver.proofs.Common.{All, All-from_recursion, AllByRecursion, AreTaking, Bool, Bound, Equal, IfOk, IfOk-weaker}
-use Rattle.nodejs_semver.proofs.Common.{IsLeastOf, IsRange, IsTotalOrder, IsTrue, List, None, Option, Ordering, Result, Some, Span}
-use Rattle.nodejs_semver.proofs.Common.{VersionValue, [], accepts, and_parts, ap, append_assoc, ap₂, arith, common_steps, false, filter}
-use Rattle.nodejs_semver.proofs.Common.{get_or, gt_lt, has_bound, holds, if_any, if◌then◌else◌, inl, inr, is_empty, is_le, is_past-down}
-use Rattle.nodejs_semver.proofs.Common.{is_range_span, is_release, length, length-append, length-map, lets_in, list_all, list_all-append}
-use Rattle.nodejs_semver.proofs.Common.{list_any, list_any-append, list_any-map, map, map-append, names, nat_tests, not, not-true}
-use Rattle.nodejs_semver.proofs.Common.{or_cases, or_left, or_parts, or_right, ordering_reverse, ordering_then, passes, precedence}
-use Rattle.nodejs_semver.proofs.Common.{precedence_total, refl, same_triple, span_of, spans_of, suc, sym, take, tells, tied_itself, true}
-use Rattle.nodejs_semver.proofs.{Common.{zero, ℕ, ◌&&◌, ◌++◌, ◌+◌, ◌<◌, ◌||◌, ◌↔◌, ◌∙◌, ◌∷◌, ◌≡◌, ◌≤◌, ◌⊎◌}, NpmCommon.is_none}
-use Rattle.nodejs_semver.specs.{Internal.Questions.{admits, is_said, is_used}, Npm.{Builds.build_order, Simple.simplified}}
-use Rattle.{nodejs_semver.specs.Npm.{Subsets.{AcceptSame, IsSubset}, Unions.{says_all, union}}, semver_core.specs.Cuts.covers}
-use Rattle.{semver_core.specs.Internal.OrderLaws.{id_same, id_total, same_key}, std.specs.Cmp.{Lexicographic.lists_total, on_total}}
-use Rattle.std.{proofs.lemmas.List.{Elements.All-contains_itself, Filters.length-filter_both, Folds.list_any_at}}
-use Rattle.nodejs_semver.proofs.Common.{All-weaker, Contains, or-false}
-use Rattle.std.specs.{Cmp.{then_total, upto}, FinMap.slice_cmp-IsAntisymmetric}
+use Rattle.nodejs_semver.proofs.Common.{All, All-weaker, AreTaking, Bool, Bound, Contains, Equal, IfOk, IfOk-weaker, IsLeastOf, IsRange, IsTotalOrder}
+use Rattle.nodejs_semver.proofs.Common.{IsTrue, List, None, Option, Ordering, Result, Some, Span, VersionValue, [], accepts, and_parts, ap}
+use Rattle.nodejs_semver.proofs.Common.{append_assoc, ap₂, arith, common_steps, false, filter, get_or, gt_lt, has_bound, holds, if_any, if◌then◌else◌}
+use Rattle.nodejs_semver.proofs.Common.{is_empty, is_le, is_past-down, is_range_span, is_release, length, length-append, lets_in, list_all}
+use Rattle.nodejs_semver.proofs.Common.{list_all-append, list_any, list_any-append, list_any-map, map, map-append, names, nat_tests, not, not-true}
+use Rattle.nodejs_semver.proofs.Common.{or-false, or_cases, or_left, or_parts, or_right, ordering_reverse, ordering_then, passes, precedence}
+use Rattle.nodejs_semver.proofs.Common.{precedence_total, refl, same_triple, span_of, spans_of, suc, sym, take, tells, tied_itself, true, zero, ℕ}
+use Rattle.nodejs_semver.proofs.{Common.{◌&&◌, ◌++◌, ◌+◌, ◌<◌, ◌||◌, ◌↔◌, ◌∙◌, ◌∷◌, ◌≡◌, ◌≤◌, ◌⊎◌}, NpmCommon.is_none}
+use Rattle.nodejs_semver.specs.{Internal.Questions.{admits, is_said, is_used}, Npm.{Builds.build_order, Simple.simplified, Subsets.AcceptSame}}
+use Rattle.{nodejs_semver.specs.Npm.{Subsets.IsSubset, Unions.{says_all, union}}, semver_core.specs.{Cuts.covers, Internal.OrderLaws.id_same}}
+use Rattle.{semver_core.specs.Internal.OrderLaws.{id_total, same_key}, std.proofs.lemmas.List.Elements.All-contains_itself}
+use Rattle.std.{proofs.lemmas.List.{Filters.length-filter_both, Folds.list_any_at}, specs.Cmp.{Lexicographic.lists_total, on_total, then_total, upto}}
+use Rattle.std.specs.FinMap.{slice_cmp-IsAntisymmetric}
 
 build_total : IsTotalOrder build_order
 build_total = then_total precedence_total (on_total (λ (v : VersionValue). v.build) (lists_total id_total))
@@ -55,12 +53,10 @@ pub by_least : (a b : List (Span VersionValue)) (set : VersionValue → Bool) (i
 by_least a b set include e r h = grind (arith, nat_tests, common_steps)
 
 -- nothing is in a set that has no least version
-pub none_in : (set : VersionValue → Bool) (r : Option VersionValue) → IsLeastOf set r
-    → IsTrue (is_none r) ↔ ((v : VersionValue) → set v ≡ false)
+pub none_in : (set : VersionValue → Bool) (r : Option VersionValue) → IsLeastOf set r → IsTrue (is_none r) ↔ ((v : VersionValue) → set v ≡ false)
 none_in set r h = grind (arith, nat_tests, common_steps)
 
-pub by_difference : (a b d : List (Span VersionValue))
-    → ((v : VersionValue) → accepts d v true ≡ (accepts a v true && not (accepts b v true)))
+pub by_difference : (a b d : List (Span VersionValue)) → ((v : VersionValue) → accepts d v true ≡ (accepts a v true && not (accepts b v true)))
     → (answer : Bool) → IsTrue answer ↔ ((v : VersionValue) → accepts d v true ≡ false) → IsTrue answer ↔ IsSubset true a b
 by_difference a b d e answer h = grind (arith, nat_tests, common_steps)
 
@@ -76,8 +72,7 @@ not_both include answer a b h e = grind (arith, nat_tests, common_steps)
 -- ---- unions
 
 -- what a span holds, one that covers it holds
-covers-holds : (s t : Span VersionValue) (v : VersionValue) → covers precedence s t ≡ true → holds precedence t v ≡ true
-    → holds precedence s v ≡ true
+covers-holds : (s t : Span VersionValue) (v : VersionValue) → covers precedence s t ≡ true → holds precedence t v ≡ true → holds precedence s v ≡ true
 covers-holds s t v c h = grind (arith, and_parts, is_past-down, precedence_total, tells, gt_lt, not-true)
 
 -- a bound names alike two versions of the same three numbers
@@ -104,9 +99,8 @@ pub filtered : {A : Type 0} (p q : A → Bool) (a : Bool) → ((x : A) → p x �
 filtered p q a h [] = refl
 filtered p q a h (x ∷ xs) = grind (arith, h x, filtered p q a h xs)
 
-said : (ss : List (Span VersionValue)) (t : Span VersionValue) (v : VersionValue) (include : Bool)
-    → list_any (λ s. says_all s t) ss ≡ true → (holds precedence t v && (include || lets_in t v)) ≡ true
-    → accepts ss v include ≡ true
+said : (ss : List (Span VersionValue)) (t : Span VersionValue) (v : VersionValue) (include : Bool) → list_any (λ s. says_all s t) ss ≡ true
+    → (holds precedence t v && (include || lets_in t v)) ≡ true → accepts ss v include ≡ true
 said [] t v include a h = cc
 said (s ∷ ss) t v include a h = grind (arith, or_cases, says_all-accepts s t v include, said ss t v include, or_left, or_right)
 
@@ -117,9 +111,8 @@ union-accepts ss ts v include = grind (arith, list_any-append, filtered, not, sa
 -- ---- the loops
 
 -- the same, for an element that stays and for one that goes
-pub stays_behind : {A : Type 0} (p : A → Bool) (xs : List A) (i : ℕ) (x : A) (front old new : List A) → i < length xs
-    → x ≡ get_or xs i x → p x ≡ true → old ≡ front ++ filter p (take i xs) → new ≡ old ++ x ∷ []
-    → new ≡ front ++ filter p (take (i + 1) xs)
+pub stays_behind : {A : Type 0} (p : A → Bool) (xs : List A) (i : ℕ) (x : A) (front old new : List A) → i < length xs → x ≡ get_or xs i x → p x ≡ true
+    → old ≡ front ++ filter p (take i xs) → new ≡ old ++ x ∷ [] → new ≡ front ++ filter p (take (i + 1) xs)
 stays_behind p xs i x front old new h at k e n = grind (arith, nat_tests, common_steps)
 
 pub goes_behind : {A : Type 0} (p : A → Bool) (xs : List A) (i : ℕ) (x : A) (front old : List A) → i < length xs
@@ -131,8 +124,7 @@ filter-parts : {A : Type 0} (p : A → Bool) (xs : List A) (i : ℕ) (x : A) →
     → (rest : List A) × (filter p xs ≡ filter p (take i xs) ++ x ∷ rest)
 filter-parts p [] i x h at k = absurd (omega (arith, h))
 filter-parts p (y ∷ ys) zero x h at k = (filter p ys, rw (sym at, k) refl)
-filter-parts {A = A} p (y ∷ ys) (suc i) x h at k =
-    grind (arith, nat_tests, common_steps, filter-parts p ys i x (omega (arith, h)))
+filter-parts {A = A} p (y ∷ ys) (suc i) x h at k = grind (arith, nat_tests, common_steps, filter-parts p ys i x (omega (arith, h)))
 
 -- an element that stays takes memory by itself, or is not the first: so does the whole list that is made
 pub taken_at : {V : Type 0} (takes : V → Bool) (p : Span V → Bool) (xs front now : List (Span V)) (i : ℕ) (x : Span V)
@@ -162,9 +154,8 @@ pub union-valid : (limit : ℕ) (ss ts : List (Span VersionValue)) → IsRange l
 union-valid limit ss ts h k = grind (arith, nat_tests, common_steps, length-append, list_all-append, all-filter)
 
 -- the list of a union that was made so
-pub union-made : {V : Type 0} (value : V → VersionValue) (xs ys one both : List (Span V)) (ss ts : List (Span VersionValue))
-    → spans_of value xs ≡ ss → spans_of value ys ≡ ts → one ≡ xs
-    → both ≡ one ++ filter (λ t. not (is_said value xs t)) ys → spans_of value both ≡ union ss ts
+pub union-made : {V : Type 0} (value : V → VersionValue) (xs ys one both : List (Span V)) (ss ts : List (Span VersionValue)) → spans_of value xs ≡ ss
+    → spans_of value ys ≡ ts → one ≡ xs → both ≡ one ++ filter (λ t. not (is_said value xs t)) ys → spans_of value both ≡ union ss ts
 union-made value xs ys one both ss ts p q e k = grind (arith, nat_tests, common_steps, not, map-append, map-filter, list_any-map, ap₂)
 
 -- copies that take memory make the union take it
@@ -180,12 +171,10 @@ used_of vs ss = filter (λ s. list_any (λ v. admits s v) vs) ss
 one_span : (s : Span VersionValue) (v : VersionValue) → accepts (s ∷ []) v false ≡ admits s v
 one_span s v = or-false (admits s v)
 
-simplified-is : (vs : List VersionValue) (ss : List (Span VersionValue))
-    → simplified vs ss ≡ (if is_empty (used_of vs ss) then ss else used_of vs ss)
+simplified-is : (vs : List VersionValue) (ss : List (Span VersionValue)) → simplified vs ss ≡ (if is_empty (used_of vs ss) then ss else used_of vs ss)
 simplified-is vs ss = λ i. let used = filter (λ s. list_any (λ v. one_span s v i) vs) ss in if is_empty used then ss else used
 
-used_same : (vs : List VersionValue) (ss : List (Span VersionValue))
-    → All (λ v. accepts (used_of vs ss) v false ≡ accepts ss v false) vs
+used_same : (vs : List VersionValue) (ss : List (Span VersionValue)) → All (λ v. accepts (used_of vs ss) v false ≡ accepts ss v false) vs
 used_same vs ss =
     All-weaker (Contains vs) _ (λ v at. filtered _ (λ s. admits s v) false (λ s n k. sym n
     ∙ list_any_at (λ w. admits s w) vs at.0 v at.1 (ap (λ w. admits s w) at.2 ∙ k)) ss) vs (All-contains_itself vs)
@@ -233,8 +222,7 @@ module _ {V W : Type 0} (value : V → VersionValue) (other : W → VersionValue
       go (x ∷ xs) t = refl
 
 -- a copy answers the same about every version
-pub copy-same : (r ss : List (Span VersionValue)) (vs : List VersionValue) → r ≡ ss
-    → All (λ v. accepts r v false ≡ accepts ss v false) vs
+pub copy-same : (r ss : List (Span VersionValue)) (vs : List VersionValue) → r ≡ ss → All (λ v. accepts r v false ≡ accepts ss v false) vs
 copy-same r ss vs e = All-weaker (Contains vs) (λ v. accepts r v false ≡ accepts ss v false) (λ v at i. accepts (e i) v false) vs (All-contains_itself vs)
 
 pub copy-shorter : (r ss : List (Span VersionValue)) → r ≡ ss → length r ≤ length ss

@@ -1,22 +1,20 @@
 -- A text is read to its end as a version, character by character, exactly if the strict reader finds one in it; and what is read
 -- of a text goes on to a version.
-use Rattle.nodejs_semver.proofs.Common.{Bool, Front, Id, IsTrim, List, None, Option, Some, VersionValue, [], all_weaker, and-false}
-use Rattle.nodejs_semver.proofs.Common.{and-true, and_parts, ap, append-nil, arith, begins, begins_identifier, cases_Bool, common_steps}
-use Rattle.nodejs_semver.proofs.Common.{drop, drop_at, encode_utf8_all, eqb-true, false, if◌then◌else◌, inl, inr, is_ascii_digit, is_empty}
-use Rattle.nodejs_semver.proofs.Common.{is_identifier_char, is_some, is_whitespace, list_all, list_all-append, list_len, nat_tests, not}
-use Rattle.nodejs_semver.proofs.Common.{not-false, not-true, onto_first, pieces, prefix_len, refl, suc, sym, take, take-append-drop}
-use Rattle.nodejs_semver.proofs.{Common.{take_at, true, zero, ℕ, ◌&&◌, ◌*◌, ◌++◌, ◌+◌, ◌<◌, ◌==◌, ◌∙◌, ◌∷◌, ◌≡◌, ◌≤◌}, NpmCommon.Build}
-use Rattle.nodejs_semver.proofs.NpmCommon.{Dash, Digit, IsFront, IsSpelled, IsStrictBuild, IsStrictNumber, IsStrictPreRelease}
-use Rattle.nodejs_semver.proofs.NpmCommon.{IsStrictVersion, Number, Padded, Plus, PreRelease, State, Zero, build_front, dashed_front}
-use Rattle.nodejs_semver.proofs.NpmCommon.{digit_value, digits_grow, digits_value, digits_value_after, dotted_number, encode_ascii}
-use Rattle.nodejs_semver.proofs.NpmCommon.{encodes_same, has_leading_zero, is_strict_identifier, is_strict_list, is_whole, nat_le, next}
-use Rattle.nodejs_semver.proofs.NpmCommon.{number_of, pre_release_front, qualified_version, run, runs_tail, strict_number, strict_version}
-use Rattle.nodejs_semver.proofs.{NpmCommon.◌>>?◌, Reading.{Bytes.all-join, Numbers.{digits-taken, run-ends}}, Strict.PartialLaw.prefix-all}
-use Rattle.nodejs_semver.proofs.Strict.VersionLaw.{padded-same, strict-found, strict-found-version, strict-read-version}
-use Rattle.nodejs_semver.specs.{Internal.{Fronts.drop_v, NpmStates.ended}, Npm.VersionText.written}
-use Rattle.{nodejs_semver.specs.declared.npm.flaws.State.TheVariants.{End, Start}, semver_core.proofs.Text.Listed.plain_runs}
-use Rattle.nodejs_semver.proofs.{Common.{bind_some, same_Some, subst}, Reading.Steps.option-cases}
-use Rattle.{semver_core.specs.Internal.CommonReading.is_plain, std.{proofs.lemmas.List.reverse-append, specs.Prelude.reverse}}
+use Rattle.nodejs_semver.proofs.Common.{Bool, Id, IsTrim, List, None, Option, Some, VersionValue, [], all_weaker, and-false, and-true, and_parts, ap}
+use Rattle.nodejs_semver.proofs.Common.{append-nil, arith, begins, begins_identifier, bind_some, cases_Bool, common_steps, drop, drop_at}
+use Rattle.nodejs_semver.proofs.Common.{encode_utf8_all, eqb-true, false, if◌then◌else◌, inl, inr, is_ascii_digit, is_empty, is_identifier_char}
+use Rattle.nodejs_semver.proofs.Common.{is_some, is_whitespace, list_all, list_all-append, list_len, nat_tests, not, not-false, not-true, onto_first}
+use Rattle.nodejs_semver.proofs.Common.{pieces, prefix_len, refl, same_Some, subst, suc, sym, take, take-append-drop, take_at, true, zero, ℕ, ◌&&◌}
+use Rattle.nodejs_semver.proofs.{Common.{◌*◌, ◌++◌, ◌+◌, ◌<◌, ◌==◌, ◌∙◌, ◌∷◌, ◌≡◌, ◌≤◌}, NpmCommon.{Build, Dash, Digit, IsFront, IsSpelled}}
+use Rattle.nodejs_semver.proofs.NpmCommon.{IsStrictBuild, IsStrictNumber, IsStrictPreRelease, IsStrictVersion, Number, Padded, Plus, PreRelease}
+use Rattle.nodejs_semver.proofs.NpmCommon.{State, Zero, build_front, dashed_front, digit_value, digits_grow, digits_value, digits_value_after}
+use Rattle.nodejs_semver.proofs.NpmCommon.{dotted_number, encode_ascii, encodes_same, has_leading_zero, is_strict_identifier, is_strict_list}
+use Rattle.nodejs_semver.proofs.NpmCommon.{is_whole, nat_le, next, number_of, pre_release_front, qualified_version, run, runs_tail, strict_number}
+use Rattle.nodejs_semver.proofs.{NpmCommon.{strict_version, ◌>>?◌}, Reading.{Bytes.all-join, Numbers.{digits-taken, run-ends}, Steps.option-cases}}
+use Rattle.nodejs_semver.proofs.Strict.{PartialLaw.prefix-all, VersionLaw.{padded-same, strict-found-version, strict-read-version}}
+use Rattle.nodejs_semver.specs.{Internal.{Fronts.drop_v, NpmStates.ended}, Npm.VersionText.written, declared.npm.flaws.State.TheVariants.{End, Start}}
+use Rattle.{semver_core.{proofs.Text.Listed.plain_runs, specs.Internal.CommonReading.is_plain}, std.proofs.lemmas.List.reverse-append}
+use Rattle.std.specs.Prelude.{reverse}
 
 -- ---- runs
 
@@ -24,8 +22,7 @@ use Rattle.{semver_core.specs.Internal.CommonReading.is_plain, std.{proofs.lemma
 run-then : (limit : ℕ) (s t : State) (xs ys : List ℕ) → run limit s xs ≡ Some t → run limit s (xs ++ ys) ≡ run limit t ys
 unfolding run
 run-then limit s t [] ys h = ap (λ u. run limit u ys) (same_Some s t h)
-run-then limit s t (c ∷ xs) ys h =
-    let b = bind_some (next limit s c) _ t h in rw b.1 (run-then limit b.0 t xs ys b.2)
+run-then limit s t (c ∷ xs) ys h = let b = bind_some (next limit s c) _ t h in rw b.1 (run-then limit b.0 t xs ys b.2)
 
 pub run-more : (limit : ℕ) (s t : State) (c : ℕ) (xs : List ℕ) → run limit Start xs ≡ Some s → next limit s c ≡ Some t
     → run limit Start (xs ++ c ∷ []) ≡ Some t
@@ -76,8 +73,7 @@ space-other c h = grind (arith, nat_tests)
 not_zero : (k : ℕ) → (suc k == 0) ≡ false
 not_zero k = grind arith
 
-space-ends : (limit : ℕ) (s : State) (c : ℕ) → is_inside s ≡ true → is_whitespace c ≡ true
-    → next limit s c ≡ (if is_whole s then Some End else None)
+space-ends : (limit : ℕ) (s : State) (c : ℕ) → is_inside s ≡ true → is_whitespace c ≡ true → next limit s c ≡ (if is_whole s then Some End else None)
 unfolding next
 space-ends limit (Number zero n) c i h = let p = space-other c h in rw (p.1, p.3, p.4, h) refl
 space-ends limit (Number (suc k) n) c i h = let p = space-other c h in rw (p.1, p.2, not_zero k) refl
@@ -100,8 +96,7 @@ behind limit s (c ∷ x) r i each stop = elim (option-cases (next limit s c)) [
 
 -- behind a character of an identifier, and behind `+` or a dot
 builds : (limit : ℕ) (x : List ℕ) → list_all is_dark x ≡ true
-    → (is_read limit Build x ≡ is_empty (drop (list_len x) x))
-    × (is_read limit Plus x ≡ (begins_identifier x && is_empty (drop (list_len x) x)))
+    → (is_read limit Build x ≡ is_empty (drop (list_len x) x)) × (is_read limit Plus x ≡ (begins_identifier x && is_empty (drop (list_len x) x)))
 unfolding run next list_len
 builds limit [] each = (refl, refl)
 builds limit (c ∷ x) each =
@@ -137,8 +132,7 @@ identifier-whole : (a : ℕ) (x : List ℕ) → is_whole (identifier_read (a ∷
 identifier-whole a [] = grind (arith, nat_tests, common_steps)
 identifier-whole a (b ∷ x) = grind arith
 
-identifier-other : (limit a : ℕ) (x : List ℕ) (c : ℕ) (cs : List ℕ) → is_identifier_char c ≡ false
-    → is_read limit (identifier_read (a ∷ x)) (c ∷ cs)
+identifier-other : (limit a : ℕ) (x : List ℕ) (c : ℕ) (cs : List ℕ) → is_identifier_char c ≡ false → is_read limit (identifier_read (a ∷ x)) (c ∷ cs)
     ≡ (is_strict_identifier (a ∷ x) && ends_whole ((if c == 46 then Some Dash else ended c) >>? λ t. run limit t cs))
 unfolding next run
 identifier-other limit a [] c cs h = grind (arith, letter-digit, and-false)
@@ -153,8 +147,7 @@ abbrev strict_behind : List ℕ → List (List ℕ) → Bool
 strict_behind x [] = is_strict_identifier x
 strict_behind x (p ∷ ps) = is_strict_identifier (x ++ p) && list_all is_strict_identifier ps
 
-strict-onto : (x : List ℕ) (c : ℕ) (ps : List (List ℕ))
-    → strict_behind x (onto_first c ps) ≡ strict_behind (x ++ c ∷ []) ps
+strict-onto : (x : List ℕ) (c : ℕ) (ps : List (List ℕ)) → strict_behind x (onto_first c ps) ≡ strict_behind (x ++ c ∷ []) ps
 strict-onto x c ps = grind (arith, nat_tests, common_steps)
 
 strict-first : (c : ℕ) (ps : List (List ℕ)) → list_all is_strict_identifier (onto_first c ps) ≡ strict_behind (c ∷ []) ps
@@ -203,8 +196,7 @@ identifiers limit (c ∷ x) each =
 
 -- ---- behind the numbers
 
-qualified : (limit a b c : ℕ) (x : List ℕ) → list_all is_dark x ≡ true
-    → is_read limit (Number 0 0) x ≡ is_some (qualified_version a b c x)
+qualified : (limit a b c : ℕ) (x : List ℕ) → list_all is_dark x ≡ true → is_read limit (Number 0 0) x ≡ is_some (qualified_version a b c x)
 unfolding run next qualified_version dashed_front pre_release_front build_front
 qualified limit a b c [] each = refl
 qualified limit a b c (d ∷ x) each =
@@ -251,8 +243,7 @@ number-on limit left (c ∷ d ∷ ds) r nine each stop =
 number-front : (limit : ℕ) (ds r : List ℕ) → list_all is_ascii_digit ds ≡ true → begins is_ascii_digit r ≡ false
     → strict_number limit (ds ++ r) ≡ (if is_number limit ds then Some (digits_value 10 ds, r) else None)
 unfolding strict_number number_of
-number-front limit ds r each stop =
-    grind (arith, nat_tests, common_steps, padded-same, digits-taken, take_at, drop_at)
+number-front limit ds r each stop = grind (arith, nat_tests, common_steps, padded-same, digits-taken, take_at, drop_at)
 
 -- a number, and behind it what goes on so
 number-step : (limit left : ℕ) (f : ℕ × List ℕ → Option VersionValue) (text : List ℕ) → 9 ≤ limit → list_all is_dark text ≡ true
@@ -287,9 +278,8 @@ version limit text nine each = number-step limit 2 _ (drop_v text) nine each
     (λ a h. dotted-step limit 1 _ a.1 nine h (λ b k. dotted-step limit 0 _ b.1 nine k (λ c l. qualified limit a.0 b.0 c.0 c.1 l)))
 
 -- whitespace, other characters and whitespace
-text-read : (limit : ℕ) (w : List ℕ) (c : ℕ) (x r : List ℕ) → 9 ≤ limit → list_all is_whitespace w ≡ true
-    → list_all is_dark (c ∷ x) ≡ true → begins is_dark r ≡ false
-    → is_read limit Start (w ++ c ∷ (x ++ r)) ≡ (is_some (strict_version limit (c ∷ x)) && list_all is_whitespace r)
+text-read : (limit : ℕ) (w : List ℕ) (c : ℕ) (x r : List ℕ) → 9 ≤ limit → list_all is_whitespace w ≡ true → list_all is_dark (c ∷ x) ≡ true
+    → begins is_dark r ≡ false → is_read limit Start (w ++ c ∷ (x ++ r)) ≡ (is_some (strict_version limit (c ∷ x)) && list_all is_whitespace r)
 unfolding run next
 text-read limit w c x r nine blank each stop =
     let p = and_parts (is_dark c) (list_all is_dark x) each in
@@ -314,8 +304,7 @@ qualified-plain : (p b : List ℕ) (l m : List Id) → IsStrictPreRelease p l �
 qualified-plain p b l m h k = grind (arith, nat_tests, common_steps, plain_runs, runs_tail, all-join)
 
 pub plain-middle : (limit : ℕ) (middle : List ℕ) (v : VersionValue) → IsStrictVersion limit middle v → list_all is_plain middle ≡ true
-plain-middle limit middle v (written s x y z t u w m i j k p q) =
-    grind (arith, all-join, plain-digits, qualified-plain t u w.pre_release w.build p q)
+plain-middle limit middle v (written s x y z t u w m i j k p q) = grind (arith, all-join, plain-digits, qualified-plain t u w.pre_release w.build p q)
 
 plain-dark : (cs : List ℕ) → list_all is_plain cs ≡ true → begins is_whitespace cs ≡ false
 plain-dark cs h = grind (arith, nat_tests, common_steps)
@@ -326,8 +315,7 @@ plain-reverse (c ∷ cs) h = grind (arith, nat_tests, common_steps, and_parts, r
 
 pub plain-trim : (w x r : List ℕ) → list_all is_whitespace w ≡ true → list_all is_plain x ≡ true → list_all is_whitespace r ≡ true
     → IsTrim (encode_utf8_all (w ++ (x ++ r))) x
-plain-trim w x r before h after =
-    grind (arith, nat_tests, common_steps, plain-encodes, plain-dark, plain-reverse)
+plain-trim w x r before h after = grind (arith, nat_tests, common_steps, plain-encodes, plain-dark, plain-reverse)
 
 -- ---- what is written is read, also with a greater limit
 
@@ -417,8 +405,7 @@ finish limit s = ([], refl)
 
 pub read-front : (limit : ℕ) (before : List ℕ) (s : State) → 9 ≤ limit → run limit Start before ≡ Some s → IsFront limit before
 read-front limit before s nine h =
-    let f = finish limit s in
-    (f.0, read-spelled limit (before ++ f.0) nine (ap ends_whole (run-then limit Start s before f.0 h) ∙ f.1))
+    let f = finish limit s in (f.0, read-spelled limit (before ++ f.0) nine (ap ends_whole (run-then limit Start s before f.0 h) ∙ f.1))
 
 -- and what is not read does not
 pub front-stops : (limit : ℕ) (before : List ℕ) (s : State) (c : ℕ) (rest : List ℕ) → run limit Start before ≡ Some s

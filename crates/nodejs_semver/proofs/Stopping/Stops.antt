@@ -1,16 +1,13 @@
 -- Where a text stops being a version text, and what is wrong there.
-use Rattle.nodejs_semver.proofs.Common.{Bool, IsUtf8, List, MAX_SAFE_INTEGER, None, Option, Some, VersionValue, [], ap, append-nil}
-use Rattle.nodejs_semver.proofs.Common.{append_assoc, arith, bind_some, cases_Bool, common_steps, encode_utf8, encode_utf8_all}
-use Rattle.nodejs_semver.proofs.Common.{encodes-append, ends, false, if◌then◌else◌, inl, inr, is_ascii_digit, is_some, length}
-use Rattle.nodejs_semver.proofs.Common.{length-append, length-encode, nat_tests, none_of, not, not-true, refl, same_Some, subst, suc, sym}
-use Rattle.nodejs_semver.proofs.{Common.{true, zero, ℕ, ◌*◌, ◌++◌, ◌+◌, ◌==◌, ◌↔◌, ◌∙◌, ◌∷◌, ◌≡◌, ◌≤◌, ◌⊎◌}, NpmCommon.{At, Dash, GoesOn}}
-use Rattle.nodejs_semver.proofs.NpmCommon.{IsFront, IsSpelled, IsVersionText, Number, Padded, Plus, State, digit_value, encodes_same}
-use Rattle.nodejs_semver.proofs.{NpmCommon.{is_whole, len_utf8, next, run, wrong_at, wrong_of}, Stopping.Read.{Whole, front-stops}}
-use Rattle.nodejs_semver.proofs.Stopping.Read.{read-front, read-spelled, run-more, spelled-read}
-use Rattle.nodejs_semver.specs.{Npm.Flaws.{IsFlaw, IsStop, IsWrong}, declared.npm.flaws.Flaw.{Flaw, TheVariants.TooLong}}
-use Rattle.nodejs_semver.specs.declared.npm.flaws.{State.TheVariants.{Build, End, PreRelease, Start, Zero}, Wrong.Wrong}
-use Rattle.std.proofs.lemmas.Str.{cons_from_encodes}
-use Rattle.nodejs_semver.proofs.{Common.◌&&◌, Reading.Steps.option-cases}
+use Rattle.nodejs_semver.proofs.Common.{Bool, IsUtf8, List, MAX_SAFE_INTEGER, None, Option, Some, VersionValue, [], ap, append-nil, append_assoc}
+use Rattle.nodejs_semver.proofs.Common.{arith, bind_some, common_steps, encode_utf8, encode_utf8_all, encodes-append, ends, false, if◌then◌else◌, inl}
+use Rattle.nodejs_semver.proofs.Common.{inr, is_ascii_digit, is_some, length, length-append, length-encode, nat_tests, not, not-true, refl, same_Some}
+use Rattle.nodejs_semver.proofs.{Common.{subst, suc, sym, true, zero, ℕ, ◌&&◌, ◌*◌, ◌++◌, ◌+◌, ◌==◌, ◌↔◌, ◌∙◌, ◌∷◌, ◌≡◌, ◌≤◌, ◌⊎◌}, NpmCommon.At}
+use Rattle.nodejs_semver.proofs.NpmCommon.{Dash, GoesOn, IsFront, IsSpelled, IsVersionText, Number, Padded, Plus, State, digit_value, encodes_same}
+use Rattle.nodejs_semver.proofs.{NpmCommon.{is_whole, len_utf8, next, run, wrong_at, wrong_of}, Reading.Steps.option-cases, Stopping.Read.Whole}
+use Rattle.nodejs_semver.{proofs.Stopping.Read.{front-stops, read-front, read-spelled, run-more, spelled-read}, specs.Npm.Flaws.{IsFlaw, IsStop}}
+use Rattle.nodejs_semver.specs.{Npm.Flaws.IsWrong, declared.npm.flaws.{Flaw.{Flaw, TheVariants.TooLong}, State.TheVariants.{Build, End, PreRelease}}}
+use Rattle.{nodejs_semver.specs.declared.npm.flaws.{State.TheVariants.{Start, Zero}, Wrong.Wrong}, std.proofs.lemmas.Str.cons_from_encodes}
 
 -- ---- the character that was read last
 
@@ -36,12 +33,10 @@ last-read limit PreRelease t c h = behind-last _ _ t c h
 last-read limit Build t c h = grind (arith, nat_tests)
 last-read limit s t c h = grind arith
 
-run-last : (limit : ℕ) (s t : State) (c : ℕ) (cs : List ℕ) → run limit s (c ∷ cs) ≡ Some t
-    → last t (ends is_ascii_digit (c ∷ cs)) ≡ true
+run-last : (limit : ℕ) (s t : State) (c : ℕ) (cs : List ℕ) → run limit s (c ∷ cs) ≡ Some t → last t (ends is_ascii_digit (c ∷ cs)) ≡ true
 unfolding run
 run-last limit s t c [] h = grind (arith, nat_tests, common_steps, last-read)
-run-last limit s t c (d ∷ cs) h =
-    let b = bind_some (next limit s c) (λ u. run limit u (d ∷ cs)) t h in run-last limit b.0 t d cs b.2
+run-last limit s t c (d ∷ cs) h = let b = bind_some (next limit s c) (λ u. run limit u (d ∷ cs)) t h in run-last limit b.0 t d cs b.2
 
 text-last : (limit : ℕ) (t : State) (cs : List ℕ) → run limit Start cs ≡ Some t → last t (ends is_ascii_digit cs) ≡ true
 unfolding run
@@ -58,8 +53,7 @@ run-larger : (limit more : ℕ) (s t : State) (cs : List ℕ) → limit ≤ more
 unfolding run
 run-larger limit more s t [] le h = h
 run-larger limit more s t (c ∷ cs) le h =
-    let b = bind_some (next limit s c) (λ u. run limit u cs) t h in
-    rw (next-larger limit more s b.0 c le b.1) (run-larger limit more b.0 t cs le b.2)
+    let b = bind_some (next limit s c) (λ u. run limit u cs) t h in rw (next-larger limit more s b.0 c le b.1) (run-larger limit more b.0 t cs le b.2)
 
 -- a limit with which a number may have a further digit
 room : State → ℕ → ℕ
@@ -225,8 +219,7 @@ module _ (text : List ℕ) (at : ℕ) (s : State) (rest passed : List ℕ) (p : 
   at-end h = grind (arith, nat_tests, common_steps)
 
   pub passed_end : (w : Wrong) → length rest ≡ 0 → is_whole s ≡ false → w ≡ wrong_at s None → IsWrong MAX_SAFE_INTEGER text w at
-  passed_end w h none is =
-      rw (is, p.place) (wrong _ _ _ _ _ (omega arith) (at-end h ∙ ap encode_utf8_all (sym (append-nil passed))) p.reads none)
+  passed_end w h none is = rw (is, p.place) (wrong _ _ _ _ _ (omega arith) (at-end h ∙ ap encode_utf8_all (sym (append-nil passed))) p.reads none)
 
   pub passed_whole : length rest ≡ 0 → is_whole s ≡ true → IsSpelled MAX_SAFE_INTEGER text
   passed_whole h whole = rw (at-end h) (read-spelled MAX_SAFE_INTEGER passed (omega arith) (rw p.reads whole))
@@ -235,8 +228,7 @@ module _ (text : List ℕ) (at : ℕ) (s : State) (rest passed : List ℕ) (p : 
 
 -- two divisions of one text: they are the same, or one goes on where the other ends
 divisions : (xs us ys vs : List ℕ) → xs ++ us ≡ ys ++ vs → ((xs ≡ ys) × (us ≡ vs))
-    ⊎ (((c : ℕ) × (r : List ℕ) × (ys ≡ xs ++ c ∷ r) × (us ≡ c ∷ (r ++ vs)))
-    ⊎ ((c : ℕ) × (r : List ℕ) × (xs ≡ ys ++ c ∷ r) × (vs ≡ c ∷ (r ++ us))))
+    ⊎ (((c : ℕ) × (r : List ℕ) × (ys ≡ xs ++ c ∷ r) × (us ≡ c ∷ (r ++ vs))) ⊎ ((c : ℕ) × (r : List ℕ) × (xs ≡ ys ++ c ∷ r) × (vs ≡ c ∷ (r ++ us))))
 divisions [] us [] vs e = inl (refl, e)
 divisions [] us (c ∷ ys) vs e = inr (inl (c, ys, refl, e))
 divisions (c ∷ xs) us [] vs e = inr (inr (c, xs, refl, sym e))
@@ -252,8 +244,7 @@ not-behind limit text a c r front vs x e k f =
           (ap (λ (t : List ℕ). t ++ f.0) e ∙ simp append_assoc) f.1,
     )
 
-same-stop : (limit : ℕ) (text : List ℕ) (a b : ℕ) (x : IsStop limit text a) (y : IsStop limit text b)
-    → (x.before ≡ y.before) × (x.behind ≡ y.behind)
+same-stop : (limit : ℕ) (text : List ℕ) (a b : ℕ) (x : IsStop limit text a) (y : IsStop limit text b) → (x.before ≡ y.before) × (x.behind ≡ y.behind)
 same-stop limit text a b x y =
     elim (divisions x.before x.behind y.before y.behind
     (encodes_same (x.before ++ x.behind) (y.before ++ y.behind) (sym x.divided ∙ y.divided))) [
@@ -271,16 +262,14 @@ one_flaw limit text (At w a) (At v b) x y =
     let t = y.1.0 in
     let same = same-stop limit text a b s t in
     let place : a ≡ b = s.place ∙ (ap (λ (c : List ℕ). length (encode_utf8_all c)) same.0 ∙ sym t.place) in
-    let wrong : w ≡ v = x.1.2 ∙ (one_wrong limit _ _ _ _ same.0 same.1 x.1.1 y.1.1 ∙ sym y.1.2) in
-    cc (place, wrong)
+    let wrong : w ≡ v = x.1.2 ∙ (one_wrong limit _ _ _ _ same.0 same.1 x.1.1 y.1.1 ∙ sym y.1.2) in cc (place, wrong)
 
 -- a version has none
 no_flaw : (limit : ℕ) (text : List ℕ) (f : Flaw) (v : VersionValue) → IsVersionText limit text v → IsFlaw limit text f → ⊥
 no_flaw limit text TooLong v h x = omega (arith, x, h.0)
 no_flaw limit text (At w a) v h x = x.1.0.none (record { version = v; middle = h.1; trimmed = h.2; is = h.3 })
 
-pub flaw_none : (limit : ℕ) (text : List ℕ) (f : Flaw) → IsFlaw limit text f
-    → (Some f ≡ None) ↔ ((v : VersionValue) × IsVersionText limit text v)
+pub flaw_none : (limit : ℕ) (text : List ℕ) (f : Flaw) → IsFlaw limit text f → (Some f ≡ None) ↔ ((v : VersionValue) × IsVersionText limit text v)
 flaw_none limit text f x = (λ e. cc e, λ h. absurd (no_flaw limit text f h.0 h.1 x))
 
 pub flaw_only : (limit : ℕ) (text : List ℕ) (f : Flaw) → IsFlaw limit text f → (g : Flaw) → IsFlaw limit text g → Some f ≡ Some g

@@ -1,21 +1,19 @@
 -- Version texts of the strict reading: numbers without leading zeros, pre-releases, builds and whole texts. What is read is written, and what is
 -- written is read.
-use Rattle.nodejs_semver.proofs.Common.{Bool, Front, Id, IsPieceAt, IsTrim, IsUtf8, IsWholeNumber, List, MAX_SAFE_INTEGER, NoPieceAt, None}
-use Rattle.nodejs_semver.proofs.Common.{Some, VersionValue, [], and-false, and_parts, ap, append-nil, arith, begins, begins_identifier}
-use Rattle.nodejs_semver.proofs.Common.{bind_some, cases_Bool, common_steps, decimal, drop, encode_utf8, encode_utf8_all, eqb-true, false}
-use Rattle.nodejs_semver.proofs.Common.{inl, inr, is_ascii_digit, is_empty, length, length-append, length-encode, list_all, list_len}
-use Rattle.nodejs_semver.proofs.Common.{middle_is_trim, nat_tests, prefix_len, refl, subst, sym, take, take-append-drop, take_rest, true}
-use Rattle.nodejs_semver.proofs.{Common.{ℕ, ◌&&◌, ◌++◌, ◌-◌, ◌<◌, ◌==◌, ◌^◌, ◌∙◌, ◌∷◌, ◌≡◌, ◌≤◌, ◌⊎◌}, NpmCommon.{IsClean, IsStrictBuild}}
-use Rattle.nodejs_semver.proofs.NpmCommon.{IsStrictNumber, IsStrictPreRelease, IsStrictVersion, IsVersionText, MAX_LENGTH, NoValue}
-use Rattle.nodejs_semver.proofs.NpmCommon.{after_byte, bare, begins_byte, begins_padded, begins_undashed, build_front, chars}
-use Rattle.nodejs_semver.proofs.NpmCommon.{chars_from_encodes, dashed, dashed_front, digits_value, dotted_number, goes_on}
-use Rattle.nodejs_semver.proofs.NpmCommon.{has_leading_zero, is_mark, is_strict_list, len_utf8, listed, no_build, no_pre_release}
-use Rattle.nodejs_semver.proofs.NpmCommon.{number_front, plus, pre_front, pre_release_front, qualified_version, strict_number}
-use Rattle.nodejs_semver.proofs.{NpmCommon.strict_version, Reading.IdentifierLists.{front-identifiers, written-begins, written-exact}}
-use Rattle.nodejs_semver.proofs.Reading.{IdentifierLists.written-spelled, Numbers.{front_none, front_some, number-found, number-read}}
-use Rattle.nodejs_semver.{proofs.Reading.{PartialLaw.byte-begins, WordLaw.byte-is}, specs.Internal.Fronts.drop_v}
-use Rattle.{nodejs_semver.specs.Npm.{Grammar.IsPreRelease, VersionText.written}, semver_core.proofs.Text.Pieces.list_ended}
-use Rattle.{semver_core.proofs.Text.Runs.numerals, std.proofs.lemmas.{Fmt.{decimal-digits_value, length-decimal-le}, Str.{encodes-chars, length-le-encodes}}}
+use Rattle.nodejs_semver.proofs.Common.{Bool, Id, IsPieceAt, IsTrim, IsUtf8, IsWholeNumber, List, MAX_SAFE_INTEGER, NoPieceAt, None, Some}
+use Rattle.nodejs_semver.proofs.Common.{VersionValue, [], and-false, and_parts, ap, append-nil, arith, begins, begins_identifier, bind_some}
+use Rattle.nodejs_semver.proofs.Common.{cases_Bool, common_steps, decimal, drop, eqb-true, false, inl, inr, is_ascii_digit, is_empty, length}
+use Rattle.nodejs_semver.proofs.Common.{list_all, list_len, middle_is_trim, nat_tests, prefix_len, refl, subst, sym, take, take-append-drop}
+use Rattle.nodejs_semver.proofs.{Common.{take_rest, true, ℕ, ◌&&◌, ◌++◌, ◌-◌, ◌<◌, ◌==◌, ◌^◌, ◌∙◌, ◌∷◌, ◌≡◌, ◌≤◌, ◌⊎◌}, NpmCommon.IsClean}
+use Rattle.nodejs_semver.proofs.NpmCommon.{IsStrictBuild, IsStrictNumber, IsStrictPreRelease, IsStrictVersion, IsVersionText, MAX_LENGTH, NoValue}
+use Rattle.nodejs_semver.proofs.NpmCommon.{after_byte, bare, begins_byte, begins_padded, begins_undashed, build_front, chars, chars_from_encodes}
+use Rattle.nodejs_semver.proofs.NpmCommon.{dashed, dashed_front, digits_value, dotted_number, goes_on, has_leading_zero, is_mark, is_strict_list}
+use Rattle.nodejs_semver.proofs.NpmCommon.{len_utf8, listed, no_build, no_pre_release, number_front, plus, pre_front, pre_release_front}
+use Rattle.nodejs_semver.proofs.{NpmCommon.{qualified_version, strict_number, strict_version}, Reading.IdentifierLists.front-identifiers}
+use Rattle.nodejs_semver.proofs.Reading.{IdentifierLists.{written-begins, written-exact, written-spelled}, Numbers.{front_none, front_some}}
+use Rattle.nodejs_semver.{proofs.Reading.{Numbers.{number-found, number-read}, PartialLaw.byte-begins, WordLaw.byte-is}, specs.Internal.Fronts.drop_v}
+use Rattle.{nodejs_semver.specs.Npm.{Grammar.IsPreRelease, VersionText.written}, semver_core.proofs.Text.{Pieces.list_ended, Runs.numerals}}
+use Rattle.std.proofs.lemmas.{Fmt.{decimal-digits_value, length-decimal-le}, Str.{encodes-chars, length-le-encodes}}
 
 -- ---- the number that the code finds
 
@@ -54,29 +52,25 @@ pub record StrictNumberAt (limit : ℕ) (text : List ℕ) (n : ℕ) (rest : List
   pub split : text ≡ digits ++ rest
   pub is : IsStrictNumber limit digits n
 
-pub strict-found : (limit : ℕ) (text : List ℕ) (n : ℕ) (rest : List ℕ) → strict_number limit text ≡ Some (n, rest)
-    → StrictNumberAt limit text n rest
+pub strict-found : (limit : ℕ) (text : List ℕ) (n : ℕ) (rest : List ℕ) → strict_number limit text ≡ Some (n, rest) → StrictNumberAt limit text n rest
 unfolding strict_number
 strict-found limit text n rest h = elim (cases_Bool (begins_padded text)) [
   | inl padded ↦ cc (rw padded at h)
   | inr other ↦
-      let f = number-found limit text n rest (rw other at h) in
-      grind (arith, nat_tests, common_steps, padded-same)
+      let f = number-found limit text n rest (rw other at h) in grind (arith, nat_tests, common_steps, padded-same)
 ]
 
 pub strict-read : (limit : ℕ) (digits rest : List ℕ) (n : ℕ) → IsStrictNumber limit digits n → begins is_ascii_digit rest ≡ false
     → strict_number limit (digits ++ rest) ≡ Some (n, rest)
 unfolding strict_number
-strict-read limit digits rest n h stop =
-    rw (padded-same digits rest h.number.each stop, h.shortest) (number-read limit digits rest n h.number stop)
+strict-read limit digits rest n h stop = rw (padded-same digits rest h.number.each stop, h.shortest) (number-read limit digits rest n h.number stop)
 
 pub dotted-found : (limit : ℕ) (text : List ℕ) (n : ℕ) (rest : List ℕ) → dotted_number limit text ≡ Some (n, rest)
     → (digits : List ℕ) × (text ≡ 46 ∷ (digits ++ rest)) × IsStrictNumber limit digits n
 unfolding dotted_number
 dotted-found limit text n rest h =
     let t = bind_some (after_byte 46 text) _ (n, rest) h in
-    let f = strict-found limit t.0 n rest t.2 in
-    (f.digits, byte-is 46 text t.0 t.1 ∙ ap (λ (t : List ℕ). 46 ∷ t) f.split, f.is)
+    let f = strict-found limit t.0 n rest t.2 in (f.digits, byte-is 46 text t.0 t.1 ∙ ap (λ (t : List ℕ). 46 ∷ t) f.split, f.is)
 
 -- ---- a number prints as it is written, and one up to the limit is short
 
@@ -94,8 +88,7 @@ number-short digits n h =
 
 -- ---- what is read is written
 
-pub build-found : (text : List ℕ)
-    → (piece : List ℕ) × (text ≡ piece ++ (build_front text).1) × IsStrictBuild piece (listed (build_front text).0)
+pub build-found : (text : List ℕ) → (piece : List ℕ) × (text ≡ piece ++ (build_front text).1) × IsStrictBuild piece (listed (build_front text).0)
     × (drop 1 piece ≡ (build_front text).0)
 unfolding build_front listed
 build-found text = elim (cases_Bool (begins_byte 43 text)) [
@@ -125,9 +118,8 @@ unfolding list_len
 ends-nil = record { run = refl; dash = refl; plus = refl; digit = refl; letter = λ wild. refl; dot = refl }
 
 -- build metadata, or nothing, ends a list and begins with no digit, no letter and no dot
-pub build-quiet : (b more : List ℕ) (l : List Id) → IsStrictBuild b l → Ends more
-    → (list_len (b ++ more) ≡ 0) × (begins_byte 45 (b ++ more) ≡ false) × (begins is_ascii_digit (b ++ more) ≡ false)
-    × ((wild : Bool) → begins_undashed wild (b ++ more) ≡ false) × (begins_byte 46 (b ++ more) ≡ false)
+pub build-quiet : (b more : List ℕ) (l : List Id) → IsStrictBuild b l → Ends more → (list_len (b ++ more) ≡ 0) × (begins_byte 45 (b ++ more) ≡ false)
+    × (begins is_ascii_digit (b ++ more) ≡ false) × ((wild : Bool) → begins_undashed wild (b ++ more) ≡ false) × (begins_byte 46 (b ++ more) ≡ false)
 unfolding list_len
 build-quiet b more l no_build e = (e.run, e.dash, e.digit, e.letter, e.dot)
 build-quiet b more l (plus t list h) e = (refl, refl, refl, λ wild. refl, refl)
@@ -137,8 +129,7 @@ pub build-taken : (b more : List ℕ) (l : List Id) → IsStrictBuild b l → En
 unfolding build_front listed
 build-taken b more l no_build e = (rw e.plus refl, refl)
 build-taken b more l (plus t list h) e =
-    let begins = written-begins t more list h in
-    (rw begins (written-exact t more list h e.run), written-spelled t list h)
+    let begins = written-begins t more list h in (rw begins (written-exact t more list h e.run), written-spelled t list h)
 
 -- ---- pre-releases, strict or loose
 
@@ -192,8 +183,11 @@ pre-found true wild fits text h = elim (cases_Bool (begins_undashed wild text)) 
   | inl letter ↦
       let begins = undashed-begins wild text letter in
       let n = list_len text in
-      rw (letter, begins) (take n text, sym (take-append-drop n text),
-      bare (take n text) _ (front-identifiers text begins) (rw (letter, begins) at h) (letter-take wild text letter))
+      rw (letter, begins) (
+        take n text,
+        sym (take-append-drop n text),
+        bare (take n text) _ (front-identifiers text begins) (rw (letter, begins) at h) (letter-take wild text letter),
+      )
 ]
 
 -- what stands behind a third place: no digit and no dot, or loosely one digit before a dot
@@ -265,8 +259,7 @@ qualified-found a b c text v h =
           let p = dashed-found false false is_strict_list text parts.1 in
           let q = build-found front.1 in
           let none = empty-is build.1 parts.0 in
-          let last = append-nil q.0 in
-          grind (arith, nat_tests, common_steps)
+          let last = append-nil q.0 in grind (arith, nat_tests, common_steps)
     ]
 
 pub strict-found-version : (limit : ℕ) (text : List ℕ) (v : VersionValue) → strict_version limit text ≡ Some v → IsStrictVersion limit text v
@@ -312,21 +305,17 @@ strict-read-version limit text v (written mark x y z pre build w m i j k p q) =
     let front = unmarked limit mark x (46 ∷ (y ++ 46 ∷ (z ++ behind))) w.major m i in
     let a = strict-read limit x (46 ∷ (y ++ 46 ∷ (z ++ behind))) w.major i refl in
     let b = strict-read limit y (46 ∷ (z ++ behind)) w.minor j refl in
-    let c = strict-read limit z behind w.patch k quiet in
-    grind (arith, nat_tests, common_steps, qualified-read)
+    let c = strict-read limit z behind w.patch k quiet in grind (arith, nat_tests, common_steps, qualified-read)
 
 -- ---- whole texts
 
 pub text_read : (limit : ℕ) (text middle : List ℕ) (v : VersionValue) → length (chars text) ≤ MAX_LENGTH → IsTrim text middle
     → strict_version limit middle ≡ Some v → IsVersionText limit text v
-text_read limit text middle v short trimmed h =
-    (short, middle, trimmed, strict-found-version limit middle v h)
+text_read limit text middle v short trimmed h = (short, middle, trimmed, strict-found-version limit middle v h)
 
-pub text_refused : (limit : ℕ) (text middle : List ℕ) → IsTrim text middle → strict_version limit middle ≡ None
-    → NoValue (IsVersionText limit text)
+pub text_refused : (limit : ℕ) (text middle : List ℕ) → IsTrim text middle → strict_version limit middle ≡ None → NoValue (IsVersionText limit text)
 text_refused limit text middle trimmed h = λ v w.
-    let same = middle_is_trim text middle trimmed ∙ sym (middle_is_trim text w.1 w.2) in
-    cc (strict-read-version limit w.1 v w.3, h, same)
+    let same = middle_is_trim text middle trimmed ∙ sym (middle_is_trim text w.1 w.2) in cc (strict-read-version limit w.1 v w.3, h, same)
 
 -- the same of a text that is cleaned
 pub clean_refused : (limit : ℕ) (text middle rest : List ℕ) → IsTrim text middle → rest ≡ drop (prefix_len is_mark middle) middle

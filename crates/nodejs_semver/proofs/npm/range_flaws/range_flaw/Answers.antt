@@ -1,4 +1,4 @@
-use Rattle.nodejs_semver.proofs.{Common.{None, arith, false, refl, rules, true, ◌≡◌}, NpmCommon.is_none, Stopping.Ranges.flawed}
+use Rattle.nodejs_semver.proofs.{Common.{arith, false, refl, rules, true, ◌≡◌}, NpmCommon.is_none, Stopping.Ranges.flawed}
 use Rattle.nodejs_semver.{proofs.Stopping.Ranges.{right_here, unflawed, wrong_here}}
 use Rattle.nodejs_semver.proofs.npm.range_flaws.range_flaw.Goals as goal
 
