@@ -67,7 +67,7 @@ row-wildcards = refl
 
 -- `1 - 2`, `1.2.3 - 2.3.4` and `1 - 2.3.4-a`
 abbrev hyphens : Bool → List (List ℕ)
-hyphens include = map (λ (row : Partial × Partial). printed (hyphen_lower include row.0 (codes "1.2.3") ++ hyphen_upper include row.1 (codes "2.3.4")))
+hyphens include = map (λ (row : Partial × Partial). printed (hyphen_lower at_least include row.0 (codes "1.2.3") ++ hyphen_upper at_most include row.1 (codes "2.3.4")))
     ((major 1, major 2) ∷ (plain 1 2 3, plain 2 3 4) ∷ (major 1, whole (lettered 2 3 4)) ∷ [])
 
 row-hyphens : hyphens false ≡ codes ">=1.0.0 <3.0.0-0" ∷ codes ">=1.2.3 <=2.3.4" ∷ codes ">=1.0.0 <=2.3.4-a" ∷ []
@@ -134,24 +134,32 @@ blank = record { characters = 32 ∷ []; each = refl; spelled = refl }
 no_blank : IsBlank []
 no_blank = record { characters = []; each = refl; spelled = refl }
 
-abbrev one_is : IsPartial false (codes "1") (major 1)
-one_is = (one (codes "1") (Some 1) (number (codes "1") 1 (record { some = lit< tt; each = refl; value = refl; safe = lit≤ tt }) refl (lit≤ tt)), refl)
+one_is : IsPlaces false (codes "1") (major 1)
+one_is = one (codes "1") (Some 1) (number (codes "1") 1 (record { some = lit< tt; each = refl; value = refl; safe = lit≤ tt }) refl (lit≤ tt))
+
+-- words of one word, that ends the text
+words-one : (loose : Bool) (text partial : List ℕ) (cs : List Comparison) → IsWord loose false text partial cs → is_short loose partial ≡ true
+    → AreWords loose false text (Some cs ∷ [])
+words-one loose text partial cs h short =
+    let w : BeginsWord loose false text [] cs = record { word = text; partial = partial; divided = sym (append-nil text); is = h; ended = inl refl } in
+    more text [] (Some cs) [] (formed [] cs w short ([], refl, no_blank, no-blank)) none
 
 -- `> =1` is `>=1`, `^ = 1` is `^1` and `~> >1` is `~1`
-row-late : AreWords false false (codes "> =1") (table false (compared at_least) (major 1) (codes "1"))
-row-late = last _ _ (word (codes "> =") [] (codes "1") (compared at_least) (major 1) (late_above (codes " ") blank) refl refl one_is)
+row-late : AreWords false false (codes "> =1") (Some (table false (compared at_least) (major 1) (codes "1")) ∷ [])
+row-late = words-one false _ _ _ (word (codes "> =") [] (codes "1") (compared at_least) (major 1) (late_above (codes " ") blank) refl refl one_is) refl
 
-row-caret_equal : AreWords false false (codes "^ = 1") (table false caret (major 1) (codes "1"))
-row-caret_equal = last _ _ (word (codes "^ = ") [] (codes "1") caret (major 1) (caret_equal (codes " ") (codes " ") blank blank) refl refl one_is)
+row-caret_equal : AreWords false false (codes "^ = 1") (Some (table false caret (major 1) (codes "1")) ∷ [])
+row-caret_equal =
+    words-one false _ _ _ (word (codes "^ = ") [] (codes "1") caret (major 1) (caret_equal (codes " ") (codes " ") blank blank) refl refl one_is) refl
 
-row-tilde_twice : AreWords false false (codes "~> >1") (table false tilde (major 1) (codes "1"))
-row-tilde_twice =
-    last _ _ (word (codes "~> >") [] (codes "1") tilde (major 1) (tilde_twice above (codes " ") [] blank (lit< tt) no_blank (inl refl)) refl refl one_is)
+row-tilde_twice : AreWords false false (codes "~> >1") (Some (table false tilde (major 1) (codes "1")) ∷ [])
+row-tilde_twice = words-one false _ _ _
+    (word (codes "~> >") [] (codes "1") tilde (major 1) (tilde_twice above (codes " ") [] blank (lit< tt) no_blank (inl refl)) refl refl one_is) refl
 
 -- loosely `^01` is `^1`, `01` stands for no number strictly, and `00` for none but loosely behind a major number
-row-leading : AreWords true false (codes "^01") (table false caret (major 1) (codes "01"))
-row-leading = last _ _ (word (codes "^") [] (codes "01") caret (major 1) (sign caret [] no_blank) refl refl
-    (one (codes "01") (Some 1) (number (codes "01") 1 (record { some = lit< tt; each = refl; value = refl; safe = lit≤ tt }) refl (lit≤ tt)), refl))
+row-leading : AreWords true false (codes "^01") (Some (table false caret (major 1) (codes "01")) ∷ [])
+row-leading = words-one true _ _ _ (word (codes "^") [] (codes "01") caret (major 1) (sign caret [] no_blank) refl refl
+    (one (codes "01") (Some 1) (number (codes "01") 1 (record { some = lit< tt; each = refl; value = refl; safe = lit≤ tt }) refl (lit≤ tt)))) refl
 
 row-spelled : is_spelled true false 1 (codes "01") ∷ is_spelled false true 1 (codes "01") ∷ is_spelled true false 0 (codes "00")
     ∷ is_spelled true true 0 (codes "00") ∷ is_spelled false false 0 (codes "0") ∷ []
@@ -179,23 +187,34 @@ row-marks = refl
 
 -- ---- malformed words
 
--- `-1`, `1|2`, `1.2.3.4`, `1/*`, `1.2-`, `1.2.`, `^v`, `1.x.y` and `>>1` are ignored
-row-malformed : list_all (is_malformed false) (codes "-1" ∷ (codes "1|2" ∷ (codes "1.2.3.4" ∷ (codes "1/*" ∷ (codes "1.2-" ∷
-    (codes "1.2." ∷ (codes "^v" ∷ (codes "1.x.y" ∷ (codes ">>1" ∷ []))))))))) ≡ true
-row-malformed = refl
+-- behind `^`, `~` and `~>` goes on what follows, but for a `=` alone behind `~>`; behind `<` and `foo=` a place, also
+-- one with marks; and behind `v=` nothing
+row-takes : map (λ (row : List ℕ × List ℕ). takes row.0 row.1)
+    ((codes "foo^", codes "bar") ∷ (codes "~", codes "=") ∷ (codes "~>", codes "a") ∷ (codes "~>", codes "= 1") ∷ (codes "a<", codes "v1") ∷ (codes "foo=", codes "1")
+    ∷ (codes "foo=", codes "a") ∷ (codes "v=", codes "1") ∷ (codes "foo", codes "1") ∷ [])
+    ≡ true ∷ true ∷ true ∷ false ∷ true ∷ true ∷ false ∷ false ∷ false ∷ []
+row-takes = refl
 
--- `-`, `foo=` and `^` are so as the last word alone, and `<>*1.2`, `1.2.34.5`, `~>=1` and nothing are not
-row-last : map (λ last. map (is_malformed last) (codes "-" ∷ (codes "foo=" ∷ (codes "^" ∷ (codes "<>*1.2" ∷ [])))))
-    (false ∷ true ∷ []) ≡ (false ∷ false ∷ false ∷ false ∷ []) ∷ ((true ∷ true ∷ true ∷ false ∷ []) ∷ [])
-row-last = refl
+row-behind : map (λ (text : List ℕ). behind_ignored (length text) text)
+    (codes "foo 1" ∷ codes "foo= 1 2" ∷ codes "foo^ bar 1" ∷ codes "~> = 1" ∷ codes "1x 1" ∷ codes "v= 1" ∷ codes "foo" ∷ [])
+    ≡ codes " 1" ∷ codes " 2" ∷ codes " 1" ∷ codes " = 1" ∷ codes " 1" ∷ codes " 1" ∷ [] ∷ []
+unfolding behind_ignored from_boundary space_len is_boundary
+row-behind = refl
 
-row-regular : map (is_malformed true) (codes "1.2.34.5" ∷ (codes "~>=1" ∷ ([] ∷ []))) ≡ false ∷ (false ∷ (false ∷ []))
-row-regular = refl
+-- `>=1.0.0, <2.0.0` and `latest 1` have an ignored word loosely, and are rejected strictly
+abbrev loose_words : Bool → List ℕ → Option (List (Option (List ℕ)))
+loose_words loose text = words_within loose false (length text) text >>? λ read. Some (map (λ o. o >>? λ cs. Some (printed cs)) read)
 
--- `foo` and `foo * bar` are no alternatives, and `foo *`, `foo *.1`, strictly `foo`, and `foo 1 bar` are
-row-lost : map (λ text. is_lost true text []) (codes "foo" ∷ (codes "foo * bar" ∷ (codes "foo *" ∷ (codes "foo *.1" ∷ []))))
-    ++ is_lost false (codes "foo") [] ∷ (is_lost true (codes "foo 1 bar") (table false (compared equal) (major 1) []) ∷ [])
-    ≡ true ∷ (true ∷ (false ∷ (false ∷ (false ∷ (false ∷ [])))))
+row-ignored : map (loose_words true) (codes ">=1.0.0, <2.0.0" ∷ codes "latest 1" ∷ codes "foo= 1 <2" ∷ []) ++ map (loose_words false) (codes ">=1.0.0, <2.0.0" ∷ [])
+    ≡ Some (None ∷ Some (codes "<2.0.0") ∷ []) ∷ Some (None ∷ Some (codes ">=1.0.0 <2.0.0-0") ∷ []) ∷ Some (None ∷ Some (codes "<2.0.0-0") ∷ []) ∷ None ∷ []
+unfolding words_within first_word signed_word behind_ignored from_boundary space_len is_boundary npm_sign places_front place_front dotted_place dotted_patch patch_place
+    second_front qualified_partial pre_front pre_release_front build_front number_of listed digits
+row-ignored = refl
+
+-- nothing is left of `foo`, `foo bar` and `foo * bar`, and something of `foo *`, `foo 1 bar` and no words
+row-lost : map is_lost ((None ∷ []) ∷ (None ∷ None ∷ []) ∷ (None ∷ Some [] ∷ None ∷ []) ∷ (None ∷ Some [] ∷ [])
+    ∷ (None ∷ Some (table false (compared equal) (major 1) []) ∷ None ∷ []) ∷ [] ∷ [])
+    ≡ true ∷ true ∷ true ∷ false ∷ false ∷ false ∷ []
 row-lost = refl
 
 abbrev read_loose : List ℕ → Option VersionValue

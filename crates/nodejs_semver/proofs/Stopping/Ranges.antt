@@ -5,15 +5,18 @@ use Rattle.nodejs_semver.proofs.Common.{drop_spaces, false, from_boundary, is_em
 use Rattle.nodejs_semver.proofs.Common.{nat_tests, one_piece, refl, same_Some, subst, sym, trim, true, ℕ, ◌++◌, ◌+◌, ◌-◌, ◌<◌, ◌↔◌, ◌∙◌, ◌∷◌, ◌≡◌}
 use Rattle.nodejs_semver.proofs.{Common.◌≤◌, Diagnosing.IgnoredParts.{part_ends, part_fits, sizes_of}, Dividing.BarLemmas.cut_bars-front}
 use Rattle.nodejs_semver.proofs.{Dividing.{BarLemmas.parts_after, BarsDivide.{bars_divide, bars_once}, MeaningLaw.pieces-utf8}, NpmCommon.Alternative}
-use Rattle.nodejs_semver.proofs.NpmCommon.{AreAlternatives, Comparison, HasAlternatives, IsFound, IsLeft, IsMalformedWord, NoValue, Signed}
-use Rattle.nodejs_semver.proofs.NpmCommon.{alternative_of, any_word, here, is_none, is_small, is_valid, none, valid_alternative, valid_only}
-use Rattle.nodejs_semver.proofs.{NpmCommon.word_front, Reading.{Bytes.begins-some, WordLaw.{boundary-of, boundary-utf8, first-is, first-of}}}
-use Rattle.nodejs_semver.proofs.Reading.WordLaw.{skips-is, skips-of, skips-utf8, suffix-boundary, trim-utf8}
-use Rattle.nodejs_semver.proofs.Strict.{AlternativeLaw.{alternative-found, alternative-read}, Printed.table-invalid, RangeReads.found-some}
-use Rattle.nodejs_semver.{proofs.Strict.Words.{row_of, word-at, word-read, word-visible, word_at_front}, specs.Internal.PartFronts.front_part}
-use Rattle.nodejs_semver.specs.Npm.{MalformedWords.{IsRightWord, on}, RangeFlaws.{IsAlternativeText, IsRangeFlaw, bytes_of}, RangeText.next}
+use Rattle.nodejs_semver.proofs.NpmCommon.{AreAlternatives, Comparison, Counted, HasAlternatives, IsAlternative, IsFound, IsLeft, IsMalformedWord, NoValue}
+use Rattle.nodejs_semver.proofs.NpmCommon.{Signed, alternative_of, counted_word, first_valid, here, is_none, is_short, is_small, is_valid, marks_len, none}
+use Rattle.nodejs_semver.proofs.NpmCommon.{npm_sign, signed_word, valid_alternative, valid_one, ◌>>?◌}
+use Rattle.nodejs_semver.proofs.Reading.{PartialLaw.spaces-le, WordLaw.{boundary-of, first-is, first-of}}
+use Rattle.nodejs_semver.proofs.Reading.WordLaw.{skips-is, skips-of, skips-utf8, trim-utf8}
+use Rattle.nodejs_semver.proofs.Strict.{AlternativeLaw.{alternative-found, alternative-read}, Counted.first-valid, RangeReads.found-some}
+use Rattle.nodejs_semver.proofs.Strict.Words.{WordAt, WordRead, first-read, signed-found, strict-kept, word-read}
+use Rattle.nodejs_semver.specs.Internal.{NpmWords.{counted_or, ended_counted_word, ended_word, places_front}, PartFronts.front_part}
+use Rattle.nodejs_semver.specs.Npm.{MalformedWords.{IsRightWord, on}, RangeFlaws.{IsAlternativeText, IsRangeFlaw, bytes_of}, RangeText.{formed, hyphen, next, words}, Table.{Partial, Sign, table}}
 use Rattle.nodejs_semver.specs.{Text.WordText.SkipsBlank, declared.npm.range_flaws.RangeFlaw.RangeFlaw}
 use Rattle.semver_core.proofs.Text.Trims.{one_after_blank}
+use Rattle.nodejs_semver.proofs.Common.{Front, cond_some, drop, if◌then◌else◌, take, ◌&&◌}
 
 abbrev Right : Bool → List ℕ → List ℕ → Type 0
 Right = IsRightWord MAX_SAFE_INTEGER
@@ -23,47 +26,51 @@ Left = IsLeft MAX_SAFE_INTEGER
 
 -- ---- one word
 
-right-read : (include : Bool) (text behind : List ℕ) → (r : Right include text behind) → word_front false include text ≡ Some (r.comparators, behind)
-right-read include text behind r = grind (arith, nat_tests, common_steps, word-read, boundary-of)
+right-read : (include : Bool) (text behind : List ℕ) → (r : Right include text behind) → WordRead false include text r.is.partial r.comparators behind
+right-read include text behind r = subst (λ (t : List ℕ). WordRead false include t r.is.partial r.comparators behind) (sym r.is.divided)
+    (word-read false include r.is.word r.is.partial behind r.comparators r.is.is (boundary-of behind r.is.ended))
 
-right-utf8 : (include : Bool) (text behind : List ℕ) → IsUtf8 text → Right include text behind → IsUtf8 behind
-right-utf8 include text behind u r = boundary-utf8 r.word behind (subst (λ (t : List ℕ). IsUtf8 t) r.divided u) r.ended
+right-at : (include : Bool) (text behind : List ℕ) → IsUtf8 text → (r : Right include text behind)
+    → WordAt false include text (right-read include text behind r).word behind
+right-at include text behind u r = let w = right-read include text behind r in signed-found false include text w.word behind u w.read
 
--- the word that is found has the comparators of a right one
-right-found : (include : Bool) (text behind : List ℕ) → Right include text behind
-    → (w : Signed × List ℕ) × (any_word false text ≡ Some w) × (list_all (is_valid MAX_SAFE_INTEGER) (row_of include w.0) ≡ true)
-unfolding word_front
-right-found include text behind r =
-    let b = bind_some (any_word false text) _ (r.comparators, behind) (right-read include text behind r) in
-    let row : row_of include b.0.0 ≡ r.comparators = ap (λ (q : List Comparison × List ℕ). q.0) (same_Some _ _ b.2) in
-    (b.0, b.1, ap (list_all (is_valid MAX_SAFE_INTEGER)) row ∙ r.valid)
+-- where none is read, there is none
+pub no-word : (include : Bool) (text : List ℕ) (o : Front Counted) → IsUtf8 text → o ≡ counted_word false MAX_SAFE_INTEGER text
+    → counted_or false MAX_SAFE_INTEGER include text o ≡ None → NoValue (Right include text)
+unfolding first_valid
+no-word include text o u e empty = λ behind r.
+    let skips = skips-is behind (right-at include text behind u r).utf8 in
+    let first = first-read false include text (drop_spaces behind) (Some r.comparators) u (formed behind r.comparators r.is refl skips) in
+    let some : first_valid false MAX_SAFE_INTEGER include text ≡ Some (Some r.comparators, drop_spaces behind) =
+    first-valid false include text ∙ rw (first, r.valid) refl in
+    cc (some, ap (counted_or false MAX_SAFE_INTEGER include text) e, empty)
 
-pub no-word : (include : Bool) (text : List ℕ) → word_at_front false text ≡ None → NoValue (Right include text)
-no-word include text e = λ behind r.
-    let f = right-found include text behind r in
-    let w = f.0 in
-    let great : is_small MAX_SAFE_INTEGER w.0.1 ≡ false = grind (arith, nat_tests, common_steps, same_Some) in
-    cc (sym f.2 ∙ table-invalid MAX_SAFE_INTEGER include w.0.0 w.0.1 w.0.2 great)
+counted-signed : (text : List ℕ) (w : Counted × List ℕ) (p : Partial) → counted_word false MAX_SAFE_INTEGER text ≡ Some w → w.0.1 ≡ Some p
+    → signed_word false text ≡ Some ((w.0.0, p, w.0.2), w.1)
+unfolding counted_word signed_word
+counted-signed text w p h e = go (places_front false behind) h
+  where
+    s : Sign × List ℕ
+    s = npm_sign text
 
-pub invalid-word : (include : Bool) (text : List ℕ) (w : Signed × List ℕ) → word_at_front false text ≡ Some w
-    → list_all (is_valid MAX_SAFE_INTEGER) (row_of include w.0) ≡ false → NoValue (Right include text)
-invalid-word include text w e bad = λ behind r.
-    let f = right-found include text behind r in
-    let same : f.0 ≡ w = grind (arith, nat_tests, common_steps, same_Some) in
-    cc (sym f.2 ∙ ap (λ (v : Signed × List ℕ). list_all (is_valid MAX_SAFE_INTEGER) (row_of include v.0)) same ∙ bad)
+    behind : List ℕ
+    behind = drop (marks_len s.1) s.1
 
-pub right-word : (include : Bool) (text : List ℕ) (w : Signed × List ℕ) → IsUtf8 text → word_at_front false text ≡ Some w
-    → list_all (is_valid MAX_SAFE_INTEGER) (row_of include w.0) ≡ true → Right include text w.1
-right-word include text w u e good =
-    let x = word-at false include text w u e in
-    record {
-      word = x.piece;
-      comparators = row_of include w.0;
-      divided = x.split;
-      is = x.is;
-      valid = good;
-      ended = suffix-boundary x.piece w.1 (subst (λ (t : List ℕ). IsUtf8 t) x.split u) x.ended;
-    }
+    go : (o : Front Partial)
+        → ((o >>? λ q. Some (if is_small MAX_SAFE_INTEGER q.0 && is_short false (take (length behind - length q.1) behind) then Some q.0 else None, q.1))
+        >>? λ q. ended_counted_word false s.0 s.1 (marks_len s.1) q) ≡ Some w
+        → (o >>? λ q. ended_word false s.0 s.1 (marks_len s.1) q) ≡ Some ((w.0.0, p, w.0.2), w.1)
+    go None k = cc k
+    go (Some q) k = grind (arith, nat_tests, common_steps, cond_some)
+
+pub right-word : (include : Bool) (text : List ℕ) (w : Counted × List ℕ) (p : Partial) → IsUtf8 text
+    → Some w ≡ counted_word false MAX_SAFE_INTEGER text → w.0.1 ≡ Some p
+    → list_all (is_valid MAX_SAFE_INTEGER) (table include w.0.0 p w.0.2) ≡ true → Right include text w.1
+right-word include text w p u e some good = record {
+  comparators = table include w.0.0 p w.0.2;
+  is = (signed-found false include text (w.0.0, p, w.0.2) w.1 u (counted-signed text w p (sym e) some)).is;
+  valid = good;
+}
 
 -- ---- the words before it
 
@@ -76,13 +83,11 @@ left-more include left text behind rest (on t b x k z h) r s = on t b x k z (lef
 pub left-next : (include : Bool) (text left behind : List ℕ) → IsUtf8 left → Left include left text → Right include left behind
     → Left include (drop_spaces behind) text × IsUtf8 (drop_spaces behind)
 left-next include text left behind u h r =
-    let v = right-utf8 include left behind u r in
+    let v = (right-at include left behind u r).utf8 in
     let s = skips-is behind v in (left-more include left text behind (drop_spaces behind) h r s, skips-utf8 behind (drop_spaces behind) s v)
 
 pub left-less : (include : Bool) (left behind : List ℕ) → IsUtf8 left → Right include left behind → length (drop_spaces behind) < length left
-left-less include left behind u r =
-    let s = skips-is behind (right-utf8 include left behind u r) in
-    grind (arith, nat_tests, common_steps, length-append, drop_spaces, begins-some, word-visible)
+left-less include left behind u r = omega (arith, (right-at include left behind u r).shorter, spaces-le behind)
 
 pub left-fits : (include : Bool) (left text : List ℕ) → Left include left text → length left ≤ length text
 left-fits include left text here = omega arith
@@ -94,14 +99,14 @@ left-once include l m text u here here w z = refl
 left-once include l m text u here (on t b x r s h) w z = absurd (w b r)
 left-once include l m text u (on t b x r s h) here w z = absurd (z b r)
 left-once include l m text u (on t b x r s h) (on t' c y q v k) w z =
-    let behind : b ≡ c = (ap (λ (q : List Comparison × List ℕ). q.1) (same_Some _ _ (sym (right-read _ _ _ r) ∙ right-read _ _ _ q))) in
-    let utf8 = right-utf8 _ _ _ u r in
-    let rests : x ≡ y = sym (skips-of _ _ utf8 s) ∙ ap drop_spaces behind ∙ skips-of _ _ (right-utf8 _ _ _ u q) v in
+    let behind : b ≡ c = ap (λ (q : Signed × List ℕ). q.1) (same_Some _ _ (sym (right-read _ _ _ r).read ∙ (right-read _ _ _ q).read)) in
+    let utf8 = (right-at _ _ _ u r).utf8 in
+    let rests : x ≡ y = sym (skips-of _ _ utf8 s) ∙ ap drop_spaces behind ∙ skips-of _ _ (right-at _ _ _ u q).utf8 v in
     left-once _ _ _ _ (skips-utf8 _ _ s utf8) h (subst (λ (n : List ℕ). Left include m n) (sym rests) k) w z
 
 left-utf8 : (include : Bool) (left text : List ℕ) → IsUtf8 text → Left include left text → IsUtf8 left
 left-utf8 include left text u here = u
-left-utf8 include left text u (on t b x r s h) = left-utf8 _ _ _ (skips-utf8 _ _ s (right-utf8 _ _ _ u r)) h
+left-utf8 include left text u (on t b x r s h) = left-utf8 _ _ _ (skips-utf8 _ _ s (right-at _ _ _ u r).utf8) h
 
 -- ---- the malformed word
 
@@ -128,39 +133,51 @@ trimmed_fits text middle start u a t =
 abbrev pub IsPiece : Bool → List ℕ → Type 0
 IsPiece include piece = (cs : List Comparison) × IsAlternativeText MAX_SAFE_INTEGER include piece cs
 
+-- strictly none is lost
+kept-strict : (include : Bool) (text : List ℕ) (lost : Bool) (cs : List Comparison) → IsAlternative false include text lost cs → lost ≡ false
+kept-strict include text lost cs (hyphen t h lower upper) = refl
+kept-strict include text lost cs (words t read absent are) = strict-kept include t read are
+
 pub piece_right : (include : Bool) (piece part : List ℕ) (a : Alternative) → IsUtf8 piece → IsTrim piece part
     → IsFound include (valid_alternative false include part) (Some a) → IsPiece include piece
 unfolding valid_alternative
 piece_right include piece part a u t h =
     let f = found-some include (valid_alternative false include part) a h in
-    let b = bind_some (alternative_of false include part) (λ cs. valid_only MAX_SAFE_INTEGER cs) f.0 f.1 in
-    let valid : list_all (is_valid MAX_SAFE_INTEGER) b.0 ≡ true = grind (arith, b.2) in
-    (b.0, record { middle = part; trimmed = t; is = alternative-found false include part b.0 (trim-utf8 piece part u t) b.1; valid = valid })
+    let b = bind_some (alternative_of false include part) valid_one f.0 f.1 in
+    let valid = cond_some (list_all (is_valid MAX_SAFE_INTEGER) b.0.1) b.0 f.0 b.2 in
+    let is = alternative-found false include part b.0 (trim-utf8 piece part u t) b.1 in
+    (b.0.1, record { middle = part; trimmed = t; is = rw (kept-strict include part b.0.0 b.0.1 is) at is; valid = valid.0 })
 
 pub piece_wrong : (include : Bool) (piece part : List ℕ) → IsUtf8 piece → IsTrim piece part
     → IsFound include (valid_alternative false include part) None → NoValue (IsAlternativeText MAX_SAFE_INTEGER include piece)
 unfolding valid_alternative
 piece_wrong include piece part u t h = λ cs w.
     let same : w.middle ≡ part = middle_is_trim _ _ w.trimmed ∙ sym (middle_is_trim _ _ t) in
-    let read : alternative_of false include part ≡ Some cs =
-    ap (λ (m : List ℕ). alternative_of false include m) (sym same) ∙ alternative-read _ _ _ _ (trim-utf8 _ _ u w.trimmed) w.is in
-    let some : valid_alternative false include part ≡ Some cs = rw (read, w.valid) refl in rw some at h
+    let read : alternative_of false include part ≡ Some (false, cs) =
+    ap (λ (m : List ℕ). alternative_of false include m) (sym same) ∙ alternative-read _ _ _ _ _ (trim-utf8 _ _ u w.trimmed) w.is in
+    let some : valid_alternative false include part ≡ Some (false, cs) = rw (read, w.valid) refl in rw some at h
 
 -- ---- all pieces
 
 all-right : (include : Bool) (ps : List (List ℕ)) → AllByRecursion (IsPiece include) ps
     → (ls : List (List Comparison)) × AreAlternatives false include ps ls × (list_all (list_all (is_valid MAX_SAFE_INTEGER)) ls ≡ true)
-all-right include [] h = ([], none, refl)
+    × (is_empty ls ≡ is_empty ps)
+all-right include [] h = ([], none, refl, refl)
 all-right include (p ∷ ps) h =
     let more = all-right include ps h.1 in
-    let w = h.0.1 in (h.0.0 ∷ more.0, next p w.middle ps h.0.0 more.0 w.trimmed w.is more.1, rw (w.valid, more.2) refl)
+    let w = h.0.1 in (h.0.0 ∷ more.0, next p w.middle ps false h.0.0 more.0 w.trimmed w.is more.1, rw (w.valid, more.2) refl, refl)
 
 -- the piece behind some is one too, where a text has alternatives
 piece-of : (include : Bool) (front : List (List ℕ)) (piece : List ℕ) (behind : List (List ℕ)) (ls : List (List Comparison))
     → AreAlternatives false include (front ++ piece ∷ behind) ls → list_all (list_all (is_valid MAX_SAFE_INTEGER)) ls ≡ true → IsPiece include piece
-piece-of include [] piece behind ls (next p text others cs rest t is more) v = grind (arith, nat_tests, common_steps, and_parts)
-piece-of include (q ∷ front) piece behind ls (next p text others cs rest t is more) v =
-    grind (arith, nat_tests, common_steps, and_parts, piece-of include front piece behind rest more)
+piece-of include [] piece behind ls (next p text others lost cs rest t is more) v =
+    let kept = kept-strict include text lost cs is in
+    let valid = and_parts (list_all (is_valid MAX_SAFE_INTEGER) cs) (list_all (list_all (is_valid MAX_SAFE_INTEGER)) rest) (rw kept at v) in
+    (cs, record { middle = text; trimmed = t; is = rw kept at is; valid = valid.0 })
+piece-of include (q ∷ front) piece behind ls (next p text others lost cs rest t is more) v =
+    let kept = kept-strict include text lost cs is in
+    let valid = and_parts (list_all (is_valid MAX_SAFE_INTEGER) cs) (list_all (list_all (is_valid MAX_SAFE_INTEGER)) rest) (rw kept at v) in
+    piece-of include front piece behind rest more valid.1
 
 pub flawed-none : (include : Bool) (text : List ℕ) (flaw : RangeFlaw) → IsRangeFlaw MAX_SAFE_INTEGER include text flaw
     → (ls : List (List Comparison)) → HasAlternatives MAX_SAFE_INTEGER include text ls → ⊥
@@ -256,13 +273,10 @@ some-pieces text pieces (more_pieces x rest others h k more) = refl
 
 pub passed_all : (include : Bool) (text : List ℕ) → Passed include text None
     → (ls : List (List Comparison)) × HasAlternatives MAX_SAFE_INTEGER include text ls
-unfolding all-right
 passed_all include text h =
     let a = all-right include (h.front ++ []) (rw (append-nil h.front) h.right) in
-    let cut = subst (λ (ps : List (List ℕ)). IsCutAtBars text ps) h.divided (bars_divide text) in (
-      a.0,
-      grind (arith, nat_tests, common_steps, some-pieces),
-    )
+    let cut = subst (λ (ps : List (List ℕ)). IsCutAtBars text ps) h.divided (bars_divide text) in
+    (a.0, record { parts = h.front ++ []; divided = cut; each = a.1; some = a.3 ∙ some-pieces text (h.front ++ []) cut; valid = a.2 })
 
 -- ---- a text has one such flaw
 
