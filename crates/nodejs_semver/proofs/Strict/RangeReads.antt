@@ -261,23 +261,25 @@ module _ (loose include : Bool) (text rest : List ℕ) (all : Alternative) (is_l
   word-next s some k =
       let w = step-found include all (first_valid loose MAX_SAFE_INTEGER include rest) s k in
       let f = valid-found loose include rest w.0 h.utf8 some w.1 in (
-        rw (w.2.2, w.2.3) (words-next loose include text rest all.interval all.is_bare is_last h w.0 s.0 some w.1 w.2.0 w.2.1),
+        subst (λ (b : Bool). AreWordsTo loose include text s.0.interval s.0.is_bare b s.2.now) (sym w.2.2)
+        (subst (λ (t : List ℕ). AreWordsTo loose include text s.0.interval s.0.is_bare (is_none w.0.0) t) (sym w.2.3)
+        (words-next loose include text rest all.interval all.is_bare is_last h w.0 s.0 some w.1 w.2.0 w.2.1)),
         rw w.2.3 f.shorter,
       )
 
   pub words-all : (a : Alternative) (lost : Bool) → IsUtf8 text → is_empty rest ≡ true → a.interval ≡ all.interval → a.is_lost ≡ (all.is_bare && lost)
       → (is_last ≡ false → lost ≡ false) → (is_last ≡ true → lost ≡ is_none (counted_word loose MAX_SAFE_INTEGER text))
       → IsFound include (found_of loose include text) (Some a)
-  words-all a lost u e f g no yes =
+  words-all a lost u e f g not_last if_last =
       let read = words-end loose include text rest all.interval all.is_bare is_last h e in
       rw (read, f) (h.narrowed, g ∙ same read)
     where
       same : words_of loose include text ≡ Some h.read → (all.is_bare && lost) ≡ is_lost h.read
       same read = elim (cases_Bool is_last) [
-        | inr k ↦ grind (arith, h.bare, h.last, k, no k)
+        | inr k ↦ grind (arith, h.bare, h.last, k, not_last k)
         | inl k ↦
             let first = first-none loose include text h.read u read (sym h.last ∙ k) in
-            grind (arith, h.bare, h.last, k, yes k, first)
+            grind (arith, h.bare, h.last, k, if_last k, first)
       ]
 
 pub view-none : (o : Option (Signed × Bor (List ℕ))) → is_none o ≡ is_none (counted_front_view o)

@@ -1,6 +1,6 @@
 use Rattle.nodejs_semver.proofs.{Common.{Bool, arith, length, sym, ◌<◌, ◌∙◌}, Strict.Counted.words-begin}
 use Rattle.nodejs_semver.proofs.Strict.RangeReads.{view-none, word-next, word-none, words-all}
-use Rattle.nodejs_semver.proofs.{NpmCommon.is_none, Common.ap}
+use Rattle.nodejs_semver.proofs.{Common.ap, NpmCommon.{Alternative, is_none}, Strict.Malformed.empty-length}
 use Rattle.nodejs_semver.proofs.npm.ranges.words.Goals.{else-is_last_ignored, then-is_last_ignored}
 use Rattle.nodejs_semver.proofs.npm.ranges.words.Goals as goal
 
@@ -9,20 +9,34 @@ words-init c = words-begin c.args.loose c.args.include c.args.text.now c.all-all
 
 pub returns-in_err-met : goal.returns-in_err-met
 returns-in_err-met c =
+    let all : Alternative = record { interval = c.words.all.0; is_bare = c.words.all.1.0; is_lost = c.words.all.1.1.0 } in
     let some : 0 < length c.words.rest.now = grind arith in
-    rw c.from_residual.ensures (word-none c.args.loose c.args.include c.args.text.now c.words.rest.now c.words.all _ c.words.invariant some c.in_err-met.ensures)
+    rw c.from_residual.ensures (word-none c.args.loose c.args.include c.args.text.now c.words.rest.now all _ c.words.invariant some c.in_err-met.ensures)
 
 pub words-smaller : goal.words-smaller
 words-smaller c =
+    let all : Alternative = record { interval = c.words.all.0; is_bare = c.words.all.1.0; is_lost = c.words.all.1.1.0 } in
     let some : 0 < length c.words.rest.now = grind arith in
-    (word-next c.args.loose c.args.include c.args.text.now c.words.rest.now c.words.all _ c.words.invariant
+    (word-next c.args.loose c.args.include c.args.text.now c.words.rest.now all _ c.words.invariant
     (c.in_ok-met.met, c.in_ok-met.is_ignored, c.in_ok-met.behind) some c.in_ok-met.ensures).1
 
 pub words-preserved : goal.words-preserved
 words-preserved c =
+    let all : Alternative = record { interval = c.words.all.0; is_bare = c.words.all.1.0; is_lost = c.words.all.1.1.0 } in
     let some : 0 < length c.words.rest.now = grind arith in
-    (word-next c.args.loose c.args.include c.args.text.now c.words.rest.now c.words.all _ c.words.invariant
+    (word-next c.args.loose c.args.include c.args.text.now c.words.rest.now all _ c.words.invariant
     (c.in_ok-met.met, c.in_ok-met.is_ignored, c.in_ok-met.behind) some c.in_ok-met.ensures).0
 
 pub returns : goal.returns
-returns c = ?
+returns c =
+    let all : Alternative = record { interval = c.words.all.0; is_bare = c.words.all.1.0; is_lost = c.words.all.1.1.0 } in
+    words-all c.args.loose c.args.include c.args.text.now c.words.rest.now all _ c.words.invariant c.ended.result c.if-is_last_ignored.ended c.requires
+    (empty-length c.words.rest.now ∙ sym c.is_empty.ensures ∙ c.words-test.false) c.ended.ensures.interval c.ended.ensures.lost
+    (λ k. elim c.if-is_last_ignored.branch [
+      | then-is_last_ignored w ↦ cc (k, w.if-is_last_ignored.true)
+      | else-is_last_ignored w ↦ w.ended-is ∙ k
+    ])
+    (λ k. elim c.if-is_last_ignored.branch [
+      | then-is_last_ignored w ↦ w.ended-is ∙ w.is_none.ensures ∙ view-none w.word_front.result ∙ ap is_none w.word_front.ensures
+      | else-is_last_ignored w ↦ cc (k, w.if-is_last_ignored.false)
+    ])
