@@ -1,34 +1,31 @@
 -- Hyphen ranges of node-semver's range texts: the functions that read them find exactly what the statement has, and the code those whose
 -- numbers that count are up to the limit.
-use Rattle.nodejs_semver.proofs.{Bounds.Bounded.identifiers-normal, Common.{Bool, Id, IsUtf8, List, None, Option, Some, [], ap, append_assoc}}
-use Rattle.nodejs_semver.proofs.Common.{and_parts, arith, begins, bind_some, cases_Bool, common_steps, cond_some, drop, drop_at, encode_utf8}
-use Rattle.nodejs_semver.proofs.Common.{encode_utf8_all, false, inl, inr, is_empty, is_whitespace, len_utf8_bounds, length, length-append}
-use Rattle.nodejs_semver.proofs.Common.{length-drop, length-encode, list_all, lt-ltb, nat_tests, not, refl, same_Some, space_len, ap₂}
-use Rattle.nodejs_semver.proofs.Common.{space_len-nil, subst, suc, sym, take, true, zero, ℕ, ◌&&◌, ◌++◌, ◌+◌, ◌-◌, ◌<◌, ◌||◌, ◌∙◌, ◌∷◌, ◌≡◌, ◌≤◌}
-use Rattle.nodejs_semver.proofs.NpmCommon.{AreMarks, Ended, IsEnd, IsHyphen, IsPlaces, IsStrictBuild, after_byte, after_ends, are_normal}
-use Rattle.nodejs_semver.proofs.NpmCommon.{drop_ends, encode_ascii, end_front, ended_as, hyphen_ends, is_mark, last_end, last_marks, len_utf8, plus}
-use Rattle.nodejs_semver.proofs.NpmCommon.{space_len-white, no_build, ◌>>?◌}
-use Rattle.nodejs_semver.proofs.Reading.{Bytes.{begins_component, is_component_byte, is_solid, solid-dark}, PartialLaw.front-dark}
+use Rattle.nodejs_semver.proofs.Bounds.Bounded.{identifiers-normal}
+use Rattle.nodejs_semver.proofs.Common.{Bool, Front, Id, IsUtf8, List, MAX_SAFE_INTEGER, None, Option, Some, VersionValue, [], all_weaker}
+use Rattle.nodejs_semver.proofs.Common.{and_parts, ap, append-nil, append_assoc, ap₂, arith, begins, bind_some, cases_Bool, common_steps, cond_some}
+use Rattle.nodejs_semver.proofs.Common.{drop, drop_at, drop_spaces, encode_utf8, encode_utf8_all, false, get_or, if◌then◌else◌, inl, inr, is_empty}
+use Rattle.nodejs_semver.proofs.Common.{is_whitespace, len_utf8_bounds, length, length-append, length-drop, length-encode, list_all, lt-ltb}
+use Rattle.nodejs_semver.proofs.Common.{nat_tests, not, prefix_len, refl, same_Some, space_len, space_len-nil, subst, suc, sym, take, true, zero, ℕ}
+use Rattle.nodejs_semver.proofs.Common.{◌&&◌, ◌++◌, ◌+◌, ◌-◌, ◌<◌, ◌==◌, ◌||◌, ◌∙◌, ◌∷◌, ◌≡◌, ◌≤◌}
+use Rattle.nodejs_semver.proofs.NpmCommon.{AreMarks, AreWords, Comparison, CountedEnd, Ended, IsAlternative, IsEnd, IsHyphen, IsPlaces}
+use Rattle.nodejs_semver.proofs.NpmCommon.{IsStrictBuild, IsWord, after_byte, after_ends, are_normal, are_whole_marks, comparators_of, counted_as}
+use Rattle.nodejs_semver.proofs.NpmCommon.{counted_end, counted_front, counted_hyphen, drop_ends, encode_ascii, end_front, ended_as, hyphen_ends}
+use Rattle.nodejs_semver.proofs.NpmCommon.{hyphen_of, is_free_lower, is_free_upper, is_lost, is_mark, is_right, is_right_end, is_short}
+use Rattle.nodejs_semver.proofs.NpmCommon.{is_short_word, is_small, is_valid, last_end, last_marks, len_utf8, lower_of, no_build, plus}
+use Rattle.nodejs_semver.proofs.NpmCommon.{space_len-white, upper_of, ◌>>?◌}
+use Rattle.nodejs_semver.proofs.Reading.Bytes.{all-join, begins-some, begins_component, is_component_byte, is_solid, solid-dark}
+use Rattle.nodejs_semver.proofs.Reading.PartialLaw.{front-dark}
 use Rattle.nodejs_semver.proofs.Reading.WordLaw.{blank-len, boundary-of, boundary-utf8, byte-is, skips-of, skips-utf8, some_space-is, tail-utf8}
-use Rattle.nodejs_semver.proofs.Strict.PartialLaw.{boundary-quiet, front-text, places-found, places-read}
-use Rattle.nodejs_semver.proofs.Strict.VersionLaw.{empty-is}
-use Rattle.nodejs_semver.specs.Internal.{NpmWords.{after_dash, end_len, places_front}, Words.after_some_space}
-use Rattle.nodejs_semver.specs.{Npm.{Grammar.IsPreRelease, Table.Partial}, Text.WordText.SkipsBlank}
-use Rattle.semver_core.{proofs.Text.SpaceLaw.space_len-dark, specs.{Printing.RoundTrip.is_normal, Text.Characters.BeginsBlank}}
-use Rattle.std.proofs.lemmas.{List.{Sums.{list_all-from_AllPass, prefix_len_passes, suffix_len-le-length, suffix_len_is}, get_or-drop, get_or-reverse}}
-use Rattle.std.proofs.lemmas.Str.{IsUtf8-past_char, encode_same}
+use Rattle.nodejs_semver.proofs.Strict.Malformed.{blank-signal, is_signal, sign-signal}
+use Rattle.nodejs_semver.proofs.Strict.{PartialLaw.{boundary-quiet, front-text, places-found, places-read}, Printed.{lower-invalid, upper-invalid}}
+use Rattle.nodejs_semver.proofs.Strict.{Signs.marks-all, VersionLaw.empty-is, Words.{marks-dropped, places-begin}}
+use Rattle.nodejs_semver.specs.Internal.{NpmParts.some_normal, NpmReads.{hyphen_valid, valid_one}, NpmWords.{after_dash, end_len, places_front}}
+use Rattle.nodejs_semver.specs.{Internal.Words.after_some_space, Npm.Grammar.IsPreRelease, Npm.RangeText.{formed, ignored, is_free, more, words}}
+use Rattle.nodejs_semver.specs.{Npm.Table.Partial, Text.WordText.SkipsBlank}
+use Rattle.semver_core.{proofs.Text.SpaceLaw.space_len-dark, specs.Printing.RoundTrip.is_normal, specs.Text.Characters.BeginsBlank}
+use Rattle.std.proofs.lemmas.List.{get_or-drop, get_or-reverse}
+use Rattle.std.proofs.lemmas.{List.Sums.{list_all-from_AllPass, prefix_len_passes, suffix_len-le-length, suffix_len_is}, Str.encode_same}
 use Rattle.std.specs.{List.suffix_len, Prelude.reverse}
-use Rattle.nodejs_semver.proofs.Common.{Front, VersionValue, append-nil, get_or, if◌then◌else◌}
-use Rattle.nodejs_semver.proofs.NpmCommon.{CountedEnd, are_whole_marks, counted_as, counted_end, counted_front, counted_hyphen, is_right, is_right_end, is_short}
-use Rattle.nodejs_semver.proofs.NpmCommon.{is_short_word, is_small}
-use Rattle.nodejs_semver.specs.{Internal.NpmParts.some_normal, Npm.RangeText.is_free}
-use Rattle.nodejs_semver.proofs.{Common.MAX_SAFE_INTEGER, NpmCommon.{Comparison, hyphen_of, is_free_lower, is_free_upper, is_valid, lower_counted}}
-use Rattle.nodejs_semver.proofs.NpmCommon.{lower_of, upper_counted, upper_of}
-use Rattle.nodejs_semver.proofs.Strict.{Printed.{lower-invalid, upper-invalid}, Words.{marks-dropped, places-begin}}
-use Rattle.nodejs_semver.specs.Internal.NpmReads.{hyphen_valid, valid_one}
-use Rattle.nodejs_semver.proofs.{Common.{all_weaker, drop_spaces, prefix_len, ◌==◌}, NpmCommon.{AreWords, IsAlternative, IsWord, comparators_of, is_lost}, Reading.Bytes.{all-join, begins-some}}
-use Rattle.nodejs_semver.proofs.Strict.{Malformed.{blank-signal, is_signal, sign-signal}, Signs.marks-all}
-use Rattle.nodejs_semver.specs.Npm.RangeText.{formed, ignored, more, words}
 
 -- ---- marks and whitespace at the front
 
