@@ -6,15 +6,16 @@ use Rattle.nodejs_semver.proofs.Common.{false, flat_map, holds, if◌then◌else
 use Rattle.nodejs_semver.proofs.Common.{later_parts, length, length-append, lets_in, list_all, list_all-append, list_any, list_any-append}
 use Rattle.nodejs_semver.proofs.Common.{nat_tests, not, not-true, option_to_list, parts, precedence, refl, subst, sym, true, ℕ, ◌&&◌, ◌++◌}
 use Rattle.nodejs_semver.proofs.{Common.{◌+◌, ◌<◌, ◌||◌, ◌∙◌, ◌∷◌, ◌≡◌, ◌≤◌}, Dividing.BarsDivide.bars_once, NpmCommon.AcceptAsRanged}
-use Rattle.nodejs_semver.proofs.NpmCommon.{Alternative, AreNarrowed, Comparison, Ended, HasAlternativesIn, IsFound, IsNarrowed, IsRangeIn}
-use Rattle.nodejs_semver.proofs.NpmCommon.{NarrowedBy, NoValue, alternative_of, alternatives_of, begins_malformed, counted, counts}
-use Rattle.nodejs_semver.proofs.NpmCommon.{hyphen_comparisons, hyphen_ends, hyphen_lower, hyphen_of, hyphen_upper, is_lost, is_unbounded}
-use Rattle.nodejs_semver.proofs.NpmCommon.{is_valid, kept, meets, nothing, satisfies, valid_alternative, valid_only, words_of, ◌>>?◌}
-use Rattle.nodejs_semver.proofs.{Reading.Steps.option-cases, Strict.AlternativeLaw.{alternative-read, alternatives_are, hyphen-found}}
-use Rattle.nodejs_semver.proofs.Strict.{AlternativeLaw.hyphen_limited, Printed.{hyphen-valid, words-valid}, Words.empty-append}
-use Rattle.nodejs_semver.specs.Internal.{NpmAlternatives.ranged, NpmReads.{AddsOne, AddsPart, AreAllFound, AreFound, valid_alternatives}}
-use Rattle.nodejs_semver.specs.{Internal.NpmReads.{valid_hyphen, valid_range}, Npm.{Malformed.ends_malformed, Ranges.names}}
+use Rattle.nodejs_semver.proofs.NpmCommon.{Alternative, AreNarrowed, AreRead, AreReadOf, Comparison, Counted, CountedEnd, Ended, HasAlternativesIn, IsFound, IsNarrowed, IsRangeIn}
+use Rattle.nodejs_semver.proofs.NpmCommon.{IsStep, NarrowedBy, NoValue, alternative_of, alternatives_of, behind_ignored, comparators_of, counted, counted_hyphen, counted_word, counts}
+use Rattle.nodejs_semver.proofs.NpmCommon.{first_valid, hyphen_ends, hyphen_of, hyphen_valid, is_unbounded, lower_counted, upper_counted, valid_one, words_of_all, words_within}
+use Rattle.nodejs_semver.proofs.NpmCommon.{is_valid, kept, meets, nothing, satisfies, valid_alternative, valid_only, words_of, ◌>>?◌, Bounds}
+use Rattle.nodejs_semver.proofs.{Reading.Steps.option-cases, Strict.AlternativeLaw.alternatives_are}
+use Rattle.nodejs_semver.proofs.Strict.{Counted.{valid_all, words-valid}, Hyphens.{counted_of, hyphen-counted, hyphen-valid}}
+use Rattle.nodejs_semver.specs.Internal.{NpmAlternatives.ranged, NpmReads.{AddsPart, AreAllFound, AreFound, valid_alternatives}}
+use Rattle.nodejs_semver.specs.{Internal.{NpmReads.valid_range, NpmWords.hyphen_or}, Npm.{Ranges.names, Table.{Partial, Sign, table}}}
 use Rattle.{nodejs_semver.specs.Npm.{Readings.{OfAccepted, ReadText}, Table.lowest}, semver_core.specs.Failures.RefusedOnlyIf}
+use Rattle.nodejs_semver.proofs.Common.{Bor, and_parts, bind_some, drop_spaces, same_Some}
 use Rattle.nodejs_semver.specs.Npm.Ranges as Npm
 
 -- ---- the intervals of alternatives accept what the alternatives do
@@ -138,81 +139,103 @@ ranged_range found h = grind (arith, nat_tests, common_steps)
 
 -- ---- an alternative is found exactly where the text has one whose comparators are valid
 
--- ---- hyphen ranges
+-- where the text is a hyphen range
+pub hyphen-alternative : (loose include : Bool) (text : List ℕ) (e : CountedEnd × CountedEnd) → counted_hyphen loose MAX_SAFE_INTEGER text ≡ Some e
+    → valid_alternative loose include text ≡ hyphen_valid loose include e.0 e.1
+unfolding valid_alternative alternative_of
+hyphen-alternative loose include text e h =
+    let f = bind_some (hyphen_ends loose text) _ e (sym (hyphen-counted loose MAX_SAFE_INTEGER text) ∙ h) in
+    rw f.1 (sym (hyphen-valid loose include f.0) ∙ ap (λ (x : CountedEnd × CountedEnd). hyphen_valid loose include x.0 x.1) (same_Some _ e f.2))
 
--- what is read of a hyphen range is all that is valid
-hyphen-read : (loose : Bool) (include : Bool) (text : List ℕ)
-    → valid_hyphen loose include text ≡ (hyphen_of loose MAX_SAFE_INTEGER include text >>? λ e. valid_only MAX_SAFE_INTEGER (hyphen_comparisons include e))
-unfolding valid_hyphen
-hyphen-read loose include text =
-    rw (hyphen_limited loose MAX_SAFE_INTEGER include text) (sym (hyphen-valid MAX_SAFE_INTEGER include (hyphen_ends loose include text)))
-
-pub hyphen-none : (loose : Bool) (include : Bool) (text : List ℕ) → hyphen_of loose MAX_SAFE_INTEGER include text ≡ None → IsFound include (valid_hyphen loose include text) None
-hyphen-none loose include text h = grind (arith, nat_tests, common_steps, hyphen-read)
-
-pub hyphen-some : (loose : Bool) (include : Bool) (text : List ℕ) (e : Ended × Ended) → hyphen_of loose MAX_SAFE_INTEGER include text ≡ Some e
-    → valid_hyphen loose include text ≡ valid_only MAX_SAFE_INTEGER (hyphen_comparisons include e)
-hyphen-some loose include text e h = hyphen-read loose include text ∙ rw h refl
+-- and where it is words
+pub words-alternative : (loose include : Bool) (text : List ℕ) → counted_hyphen loose MAX_SAFE_INTEGER text ≡ None
+    → valid_alternative loose include text ≡ (words_of loose include text >>? λ all. Some (words_of_all all))
+unfolding valid_alternative alternative_of
+words-alternative loose include text h =
+    let none : hyphen_ends loose text ≡ None = elim (option-cases (hyphen_ends loose text)) [
+      | inl e ↦ e
+      | inr e ↦ cc (h, hyphen-counted loose MAX_SAFE_INTEGER text ∙ rw e.1 refl)
+    ] in
+    rw (none, words-valid loose include (length text) text) (go (words_within loose include (length text) text))
+  where
+    go : (o : Option (List (Option (List Comparison))))
+        → ((o >>? λ all. Some (words_of_all all)) >>? valid_one) ≡ ((o >>? valid_all) >>? λ all. Some (words_of_all all))
+    go None = refl
+    go (Some all) = grind arith
 
 valid-both : (cs ds : List Comparison) → list_all (is_valid MAX_SAFE_INTEGER) cs ≡ true
-    → valid_only MAX_SAFE_INTEGER (cs ++ ds) ≡ (valid_only MAX_SAFE_INTEGER ds >>? λ l. Some (cs ++ l))
+    → valid_one (false, cs ++ ds) ≡ (if list_all (is_valid MAX_SAFE_INTEGER) ds then Some (false, cs ++ ds) else None)
 valid-both cs ds h = grind (arith, nat_tests, common_steps, list_all-append)
 
--- what is found between two ends
-abbrev Between : Bool → Ended × Ended → Option Alternative → Type 0
-Between include e r = IsFound include (valid_only MAX_SAFE_INTEGER (hyphen_comparisons include e)) r
+-- ---- what is found between two ends
 
-pub upper-read : (include : Bool) (e : Ended × Ended) (all : Option (Span VersionValue)) (a : Alternative) (r : Option Alternative)
-    → IsNarrowed include [] all → NarrowedBy include all (hyphen_lower include e.0.0 e.0.1) (Some a)
-    → NarrowedBy include a.interval (hyphen_upper include e.1.0 e.1.1) r → a.is_bare ≡ is_empty (hyphen_lower include e.0.0 e.0.1)
-    → IfSome r (λ b. b.is_bare ≡ (a.is_bare && is_empty (hyphen_upper include e.1.0 e.1.1))) → Between include e r
-upper-read include e all a None first n m k l =
-    rw (valid-both (hyphen_lower include e.0.0 e.0.1) (hyphen_upper include e.1.0 e.1.1) n.0, m) tt
-upper-read include e all a (Some b) first n m k l =
-    let cs = hyphen_lower include e.0.0 e.0.1 in
-    rw (valid-both cs (hyphen_upper include e.1.0 e.1.1) n.0, m.0) (m.1 cs (n.1 [] first), l ∙ rw k (sym (empty-append cs _)))
+module _ (loose include : Bool) (a b : CountedEnd) (all : Alternative) (r : Option Bounds) (h : AreReadOf include (lower_counted loose include a) r) where
+  pub lower-none : ((cs : List Comparison) → AreRead include cs r → NarrowedBy include all.interval cs None) → IsFound include (hyphen_valid loose include a b) None
+  lower-none n = go (lower_counted loose include a) h
+    where
+      go : (o : Option (List Comparison)) → AreReadOf include o r
+          → IsFound include (o >>? λ cs. upper_counted loose include b >>? λ ds. valid_one (false, cs ++ ds)) None
+      go None k = tt
+      go (Some cs) k = last (upper_counted loose include b)
+        where
+          last : (o : Option (List Comparison)) → IsFound include (o >>? λ ds. valid_one (false, cs ++ ds)) None
+          last None = tt
+          last (Some ds) = rw (list_all-append, n cs k) tt
 
--- ---- alternatives
+  pub upper-found : (f : Alternative) (s : Option Bounds) (g : Option Alternative) → IsNarrowed include [] all.interval → (r ≡ None → Some f ≡ None)
+      → ((cs : List Comparison) → AreRead include cs r → NarrowedBy include all.interval cs (Some f)) → AreReadOf include (upper_counted loose include b) s
+      → (s ≡ None → g ≡ None) → ((cs : List Comparison) → AreRead include cs s → NarrowedBy include f.interval cs g)
+      → IfSome g (λ g. g.is_lost ≡ false) → IsFound include (hyphen_valid loose include a b) g
+  upper-found f s g first some n k none m lost = go (lower_counted loose include a) h
+    where
+      last : (cs : List Comparison) → NarrowedBy include all.interval cs (Some f) → (o : Option (List Comparison)) → AreReadOf include o s
+          → IsFound include (o >>? λ ds. valid_one (false, cs ++ ds)) g
+      last cs c None l = rw (none l) tt
+      last cs c (Some ds) l = rw (valid-both cs ds c.0) (end g (m ds l) lost)
+        where
+          end : (g : Option Alternative) → NarrowedBy include f.interval ds g → IfSome g (λ g. g.is_lost ≡ false)
+              → IsFound include (if list_all (is_valid MAX_SAFE_INTEGER) ds then Some (false, cs ++ ds) else None) g
+          end None q w = rw q tt
+          end (Some g) q w = rw q.0 (q.1 cs (c.1 [] first), w)
 
-pub no-text : (loose : Bool) (include : Bool) (all : Alternative) → IsNarrowed include [] all.interval → all.is_bare ≡ true
-    → IsFound include (valid_alternative loose include []) (Some all)
-unfolding valid_alternative alternative_of
-no-text loose include all h k = (h, k)
+      go : (o : Option (List Comparison)) → AreReadOf include o r
+          → IsFound include (o >>? λ cs. upper_counted loose include b >>? λ ds. valid_one (false, cs ++ ds)) g
+      go None l = cc (some l)
+      go (Some cs) l = last cs (n cs l) (upper_counted loose include b) k
 
--- the words of an alternative
-words-are : (loose : Bool) (include : Bool) (text : List ℕ) (cs : List Comparison) → 0 < length text → words_of loose include text ≡ Some cs
-    → valid_alternative loose include text ≡ Some cs
-unfolding valid_alternative alternative_of
-words-are loose include text cs some h = grind (arith, nat_tests, common_steps, words-valid)
+-- ---- one word more
 
--- a text that is no words
-hyphen-is : (loose : Bool) (include : Bool) (text : List ℕ) → IsUtf8 text → 0 < length text → words_of loose include text ≡ None
-    → valid_alternative loose include text ≡ valid_hyphen loose include text
-unfolding valid_alternative valid_hyphen alternative_of
-hyphen-is loose include [] u some h = absurd (omega (arith, some))
-hyphen-is loose include (b ∷ text) u some h = elim (option-cases (hyphen_ends loose include (b ∷ text))) [
-  | inr e ↦
-      let is = alternative-read loose include (b ∷ text) (hyphen_comparisons include e.0) u (hyphen-found loose include (b ∷ text) e.0 u e.1) in
-      rw (is, e.1) refl
-  | inl none ↦ grind (arith, nat_tests, common_steps, words-valid)
-]
+module _ (loose include : Bool) (text : List ℕ) (all : Alternative) where
+  pub step-ignored : (next : Bor (List ℕ)) → loose ≡ true → None ≡ counted_word loose MAX_SAFE_INTEGER text
+      → next.now ≡ drop_spaces (behind_ignored (length text) text) → IsStep include all (first_valid loose MAX_SAFE_INTEGER include text) (Some (all, true, next))
+  unfolding first_valid
+  step-ignored next l e f =
+      rw (← e, l) ((refl, λ cs h. subst (λ (ds : List Comparison). IsNarrowed include ds all.interval) (sym (append-nil cs)) h), grind arith, refl, f)
 
-pub found-some : (include : Bool) (o : Option (List Comparison)) (a : Alternative) → IsFound include o (Some a)
-    → (cs : List Comparison) × (o ≡ Some cs) × IsFound include (Some cs) (Some a)
+  pub step-strict : loose ≡ false → None ≡ counted_word loose MAX_SAFE_INTEGER text → IsStep include all (first_valid loose MAX_SAFE_INTEGER include text) None
+  unfolding first_valid
+  step-strict l e = rw (← e, l) tt
+
+  pub step-great : (w : Counted × List ℕ) → w.0.1 ≡ None → Some w ≡ counted_word loose MAX_SAFE_INTEGER text
+      → IsStep include all (first_valid loose MAX_SAFE_INTEGER include text) None
+  unfolding first_valid
+  step-great w n e = rw (← e, n) tt
+
+  pub step-invalid : (w : Counted × List ℕ) (p : Partial) → w.0.1 ≡ Some p → Some w ≡ counted_word loose MAX_SAFE_INTEGER text
+      → NarrowedBy include all.interval (table include w.0.0 p w.0.2) None → IsStep include all (first_valid loose MAX_SAFE_INTEGER include text) None
+  unfolding first_valid
+  step-invalid w p n e k = rw (← e, n, k) tt
+
+  pub step-read : (w : Counted × List ℕ) (p : Partial) (a : Alternative) (next : Bor (List ℕ)) → w.0.1 ≡ Some p → Some w ≡ counted_word loose MAX_SAFE_INTEGER text
+      → NarrowedBy include all.interval (table include w.0.0 p w.0.2) (Some a) → a.is_bare ≡ (all.is_bare && is_empty (table include w.0.0 p w.0.2))
+      → next.now ≡ drop_spaces w.1 → IsStep include all (first_valid loose MAX_SAFE_INTEGER include text) (Some (a, false, next))
+  unfolding first_valid
+  step-read w p a next n e k b f = rw (← e, n, k.0) (k, b, refl, f)
+
+pub found-some : (include : Bool) (o : Option (Bool × List Comparison)) (a : Alternative) → IsFound include o (Some a)
+    → (c : Bool × List Comparison) × (o ≡ Some c) × IsFound include (Some c) (Some a)
 found-some include None a h = absurd h
-found-some include (Some cs) a h = (cs, refl, h)
-
-pub found-none : (include : Bool) (o : Option (List Comparison)) → IsFound include o None → o ≡ None
-found-none include o h = grind (arith, nat_tests, common_steps)
-
-pub words-found : (loose : Bool) (include : Bool) (text : List ℕ) (a : Alternative) → 0 < length text → IsFound include (words_of loose include text) (Some a)
-    → IsFound include (valid_alternative loose include text) (Some a)
-words-found loose include text a some h = grind (arith, nat_tests, common_steps, found-some, words-are)
-
-pub no-words : (loose : Bool) (include : Bool) (text : List ℕ) (r : Option Alternative) → IsUtf8 text → 0 < length text
-    → IsFound include (words_of loose include text) None → IsFound include (valid_hyphen loose include text) r
-    → IsFound include (valid_alternative loose include text) r
-no-words loose include text r u some h k = rw (hyphen-is loose include text u some (found-none include (words_of loose include text) h)) k
+found-some include (Some c) a h = (c, refl, h)
 
 -- ---- one alternative more
 
@@ -227,18 +250,21 @@ flat-append : (os : List (Option (Span VersionValue))) (o : Option (Span Version
 flat-append os o = grind (arith, nat_tests, common_steps)
 
 -- one part more, which is lost or not
-pub part-lost : (loose : Bool) (include : Bool) (text : List ℕ) (a : Alternative) (was : Bool) (before : List (Span VersionValue))
-    → IsFound include (valid_alternative loose include text) (Some a)
-    → (loose && (a.is_bare && (begins_malformed text && ends_malformed text))) ≡ true
-    → AddsPart loose include text (valid_alternative loose include text) was was before before
-part-lost loose include text a was before h l = grind (arith, nat_tests, common_steps)
+pub part-lost : (include : Bool) (o : Option (Bool × List Comparison)) (a : Alternative) (was : Bool) (before : List (Span VersionValue))
+    → IsFound include o (Some a) → a.is_lost ≡ true → AddsPart include o was was before before
+part-lost include (Some (true, cs)) a was before h l = (refl, refl)
+part-lost include (Some (false, cs)) a was before h l = cc (h.1, l)
+part-lost include None a was before h l = h
 
-pub part-added : (loose : Bool) (include : Bool) (text : List ℕ) (a : Alternative) (was : Bool) (before after : List (Span VersionValue))
-    → IsFound include (valid_alternative loose include text) (Some a)
-    → (loose && (a.is_bare && (begins_malformed text && ends_malformed text))) ≡ false
-    → after ≡ before ++ option_to_list a.interval
-    → AddsPart loose include text (valid_alternative loose include text) was true before after
-part-added loose include text a was before after h l e = grind (arith, flat-append, found-some, narrowed-append)
+pub part-added : (include : Bool) (o : Option (Bool × List Comparison)) (a : Alternative) (was : Bool) (before after : List (Span VersionValue))
+    → IsFound include o (Some a) → a.is_lost ≡ false → after ≡ before ++ option_to_list a.interval → AddsPart include o was true before after
+part-added include (Some (true, cs)) a was before after h l e = cc (h.1, l)
+part-added include (Some (false, cs)) a was before after h l e = (refl, λ ls k. record {
+  intervals = k.intervals ++ a.interval ∷ [];
+  narrowed = narrowed-append include ls k.intervals cs a.interval k.narrowed h.0;
+  are = e ∙ ap (λ (l : List (Span VersionValue)). l ++ option_to_list a.interval) k.are ∙ sym (flat-append k.intervals a.interval);
+})
+part-added include None a was before after h l e = h
 
 -- ---- the alternatives, up to a rest of the text
 
@@ -251,16 +277,16 @@ pub record AreReadTo (loose : Bool) (include : Bool) (text : List ℕ) (is_some 
   pub some : is_some ≡ not (is_empty read)
 
 -- the same of the text that is left
-rest-step : (loose : Bool) (include : Bool) (rest part : List ℕ) (behind : Option (List ℕ)) (o : Option (List Comparison))
+rest-step : (loose : Bool) (include : Bool) (rest part : List ℕ) (behind : Option (List ℕ)) (o : Option (Bool × List Comparison))
     → part ∷ later_parts behind ≡ parts rest → valid_alternative loose include part ≡ o → valid_alternatives loose include (parts rest)
-    ≡ (o >>? λ cs. valid_alternatives loose include (later_parts behind) >>? λ ls. Some (kept loose part cs ls))
+    ≡ (o >>? λ a. valid_alternatives loose include (later_parts behind) >>? λ ls. Some (kept a ls))
 unfolding valid_alternatives
 rest-step loose include rest part behind o e d = grind (arith, nat_tests, common_steps)
 
 -- one part more
 pub read-part : (loose : Bool) (include : Bool) (text : List ℕ) (was is : Bool) (found after : List (Span VersionValue)) (rest : List ℕ) (part : List ℕ)
     (behind : Option (List ℕ)) → AreReadTo loose include text was found (Some rest) → part ∷ later_parts behind ≡ parts rest
-    → AddsPart loose include part (valid_alternative loose include part) was is found after → AreReadTo loose include text is after behind
+    → AddsPart include (valid_alternative loose include part) was is found after → AreReadTo loose include text is after behind
 read-part loose include text was is found after rest part behind h e a = go _ refl a
   where
     later : Option (List (List Comparison))
@@ -274,10 +300,11 @@ read-part loose include text was is found after rest part behind h e a = go _ re
     whole : (o : Option (List (List Comparison))) → (o >>? λ ls. Some ls) ≡ o
     whole o = grind arith
 
-    one : (cs : List Comparison) (l : Bool) → is_lost loose part cs ≡ l → valid_alternative loose include part ≡ Some cs
-        → AddsOne include l cs was is found after → AreReadTo loose include text is after behind
-    one cs true f d k =
-        let step : valid_alternatives loose include (parts _) ≡ later = rest-step _ _ _ _ _ _ e d ∙ rw f (whole _) in
+    go : (o : Option (Bool × List Comparison)) → valid_alternative loose include part ≡ o → AddsPart include o was is found after
+        → AreReadTo loose include text is after behind
+    go None d k = absurd k
+    go (Some (true, cs)) d k =
+        let step : valid_alternatives loose include (parts _) ≡ later = rest-step _ _ _ _ _ _ e d ∙ whole _ in
         record {
           read = h.read;
           are = subst (λ (l : List (Span VersionValue)). AreFound include h.read l) (sym k.1) h.are;
@@ -285,9 +312,8 @@ read-part loose include text was is found after rest part behind h e a = go _ re
           count = omega (arith, h.count, ap length e);
           some = k.0 ∙ h.some;
         }
-    one cs false f d k =
-        let step : valid_alternatives loose include (parts _) ≡ (later >>? λ ls. Some (cs ∷ ls)) =
-        rest-step _ _ _ _ _ _ e d ∙ rw f refl in
+    go (Some (false, cs)) d k =
+        let step : valid_alternatives loose include (parts _) ≡ (later >>? λ ls. Some (cs ∷ ls)) = rest-step _ _ _ _ _ _ e d in
         record {
           read = h.read ++ cs ∷ [];
           are = k.1 h.read h.are;
@@ -295,11 +321,6 @@ read-part loose include text was is found after rest part behind h e a = go _ re
           count = omega (arith, h.count, ap length e, length-append h.read (cs ∷ []));
           some = k.0 ∙ grind (arith, nat_tests, common_steps);
         }
-
-    go : (o : Option (List Comparison)) → valid_alternative loose include part ≡ o → AddsPart loose include part o was is found after
-        → AreReadTo loose include text is after behind
-    go None d k = absurd k
-    go (Some cs) d k = one _ _ refl d k
 
 -- the same of a call that rejects the part
 pub read-refused : (loose : Bool) {A E : Type 0} (r : Result A (Failure E)) (include : Bool) (text : List ℕ) (was : Bool) (found : List (Span VersionValue)) (rest : List ℕ)
@@ -328,40 +349,54 @@ read-all loose include text found h =
 
 -- ---- the range of a text
 
-all-valid : (loose : Bool) (include : Bool) (texts : List (List ℕ)) → valid_alternatives loose include texts
-    ≡ (alternatives_of loose include texts >>? λ ls. if list_all (list_all (is_valid MAX_SAFE_INTEGER)) ls then Some ls else None)
+-- an alternative that is lost has no comparators
+lost-empty : (loose include : Bool) (text : List ℕ) (cs : List Comparison) → alternative_of loose include text ≡ Some (true, cs) → is_empty cs ≡ true
+unfolding alternative_of
+lost-empty loose include text cs h = go (hyphen_ends loose text) h
+  where
+    go : (o : Option (Ended × Ended)) → hyphen_or loose include text o ≡ Some (true, cs) → is_empty cs ≡ true
+    go (Some e) k = grind (arith, k)
+    go None k =
+        let w = bind_some (words_within loose include (length text) text) (λ all. Some (words_of_all all)) (true, cs) k in
+        let e = same_Some _ _ w.2 in
+        ap (λ (x : Bool × List Comparison). is_empty x.1) (sym e) ∙ (and_parts (is_empty (comparators_of w.0)) _ (ap (λ (x : Bool × List Comparison). x.0) e)).0
+
+none-valid : (cs : List Comparison) → is_empty cs ≡ true → list_all (is_valid MAX_SAFE_INTEGER) cs ≡ true
+none-valid cs h = grind (arith, nat_tests, common_steps)
+
+-- those of which each comparator is valid
+abbrev valid_lists : List (List Comparison) → Option (List (List Comparison))
+valid_lists ls = if list_all (list_all (is_valid MAX_SAFE_INTEGER)) ls then Some ls else None
+
+all-valid : (loose include : Bool) (texts : List (List ℕ)) → valid_alternatives loose include texts ≡ (alternatives_of loose include texts >>? valid_lists)
 unfolding valid_alternatives valid_alternative alternatives_of
 all-valid loose include [] = refl
-all-valid loose include (text ∷ texts) = go (all-valid loose include texts) (alternative_of loose include text)
+all-valid loose include (text ∷ texts) = go (all-valid loose include texts) (alternative_of loose include text) refl
   where
-    behind : (cs : List Comparison) (o : Option (List (List Comparison))) → list_all (is_valid MAX_SAFE_INTEGER) cs ≡ true
-        → ((o >>? λ ls. if list_all (list_all (is_valid MAX_SAFE_INTEGER)) ls then Some ls else None) >>? λ rest. Some (kept loose text cs rest))
-        ≡ ((o >>? λ rest. Some (kept loose text cs rest)) >>? λ ls. if list_all (list_all (is_valid MAX_SAFE_INTEGER)) ls then Some ls else None)
-    behind cs None h = refl
-    behind cs (Some ls) h = elim (cases_Bool (list_all (list_all (is_valid MAX_SAFE_INTEGER)) ls)) [
-      | inl good ↦ elim (cases_Bool (is_lost loose text cs)) [ inl lost ↦ rw (lost, good) refl | inr regular ↦ rw (regular, h, good) refl ]
-      | inr bad ↦ elim (cases_Bool (is_lost loose text cs)) [ inl lost ↦ rw (lost, bad) refl | inr regular ↦ rw (regular, h, bad) refl ]
+    good-first : (a : Bool × List Comparison) (o : Option (List (List Comparison))) → list_all (is_valid MAX_SAFE_INTEGER) a.1 ≡ true
+        → ((o >>? valid_lists) >>? λ rest. Some (kept a rest)) ≡ ((o >>? λ rest. Some (kept a rest)) >>? valid_lists)
+    good-first a None h = refl
+    good-first a (Some ls) h = grind (arith, h)
+
+    bad-first : (cs : List Comparison) (o : Option (List (List Comparison))) → list_all (is_valid MAX_SAFE_INTEGER) cs ≡ false
+        → None ≡ ((o >>? λ rest. Some (kept (false, cs) rest)) >>? valid_lists)
+    bad-first cs None h = refl
+    bad-first cs (Some ls) h = grind (arith, h)
+
+    go : (valid_alternatives loose include texts ≡ (alternatives_of loose include texts >>? valid_lists)) → (o : Option (Bool × List Comparison))
+        → alternative_of loose include text ≡ o
+        → ((o >>? valid_one) >>? λ a. valid_alternatives loose include texts >>? λ rest. Some (kept a rest))
+        ≡ ((o >>? λ a. alternatives_of loose include texts >>? λ rest. Some (kept a rest)) >>? valid_lists)
+    go f None e = refl
+    go f (Some (lost, cs)) e = elim (cases_Bool (list_all (is_valid MAX_SAFE_INTEGER) cs)) [
+      | inl good ↦ rw (good, f) (good-first (lost, cs) (alternatives_of loose include texts) good)
+      | inr bad ↦ rw bad (cases lost e bad)
     ]
-
-    invalid : (cs : List Comparison) (o : Option (List (List Comparison))) → list_all (is_valid MAX_SAFE_INTEGER) cs ≡ false
-        → is_lost loose text cs ≡ false
-        → None ≡ ((o >>? λ rest. Some (kept loose text cs rest)) >>? λ ls. if list_all (list_all (is_valid MAX_SAFE_INTEGER)) ls then Some ls else None)
-    invalid cs o h k = grind (arith, nat_tests, common_steps)
-
-    regular-of : (cs : List Comparison) → list_all (is_valid MAX_SAFE_INTEGER) cs ≡ false → is_lost loose text cs ≡ false
-    regular-of cs h = grind (arith, nat_tests, common_steps)
-
-    go : (valid_alternatives loose include texts
-        ≡ (alternatives_of loose include texts >>? λ ls. if list_all (list_all (is_valid MAX_SAFE_INTEGER)) ls then Some ls else None))
-        → (o : Option (List Comparison))
-        → ((o >>? λ cs. valid_only MAX_SAFE_INTEGER cs) >>? λ cs. valid_alternatives loose include texts >>? λ rest. Some (kept loose text cs rest))
-        ≡ ((o >>? λ cs. alternatives_of loose include texts >>? λ rest. Some (kept loose text cs rest))
-        >>? λ ls. if list_all (list_all (is_valid MAX_SAFE_INTEGER)) ls then Some ls else None)
-    go f None = refl
-    go f (Some cs) = elim (cases_Bool (list_all (is_valid MAX_SAFE_INTEGER) cs)) [
-      | inl good ↦ rw (good, f) (behind cs (alternatives_of loose include texts) good)
-      | inr bad ↦ rw bad (invalid cs (alternatives_of loose include texts) bad (regular-of cs bad))
-    ]
+      where
+        cases : (lost : Bool) → alternative_of loose include text ≡ Some (lost, cs) → list_all (is_valid MAX_SAFE_INTEGER) cs ≡ false
+            → None ≡ ((alternatives_of loose include texts >>? λ rest. Some (kept (lost, cs) rest)) >>? valid_lists)
+        cases true e bad = cc (bad, none-valid cs (lost-empty loose include text cs e))
+        cases false e bad = bad-first cs (alternatives_of loose include texts) bad
 
 pub none-read : (loose : Bool) (include : Bool) (text : List ℕ) → IsUtf8 text → valid_range loose include text ≡ None
     → NoValue (HasAlternativesIn loose MAX_SAFE_INTEGER include text)

@@ -50,10 +50,6 @@ abbrev pub is_wildcard : Spec.Partial → Bool
 is_wildcard wildcard = true
 is_wildcard p = false
 
-abbrev pub is_some_wildcard : Option Spec.Partial → Bool
-is_some_wildcard None = false
-is_some_wildcard (Some p) = is_wildcard p
-
 abbrev pub has_no_comparators : Spec.Sign → Spec.Partial → Bool
 has_no_comparators (compared above) p = false
 has_no_comparators (compared below) p = false

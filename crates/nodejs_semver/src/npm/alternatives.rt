@@ -1,7 +1,8 @@
 // What an alternative of a range text accepts: the interval that its comparators have in common.
 
 ghost use Rattle.std.specs.Prelude.{◌&&◌, ◌+◌, ◌∷◌, ◌≡◌};
-ghost use Rattle.nodejs_semver.specs.Words.{Bool, Comparison, IfSome, List, MAX_SAFE_INTEGER, []};
+ghost use Rattle.nodejs_semver.specs.Words.{Bool, Comparison, IfSome, List, MAX_SAFE_INTEGER};
+ghost use Rattle.nodejs_semver.specs.Words.{None, []};
 ghost use Rattle.nodejs_semver.specs.Words.{interval, is_empty, is_range_span, list_all, list_any};
 ghost use Rattle.nodejs_semver.specs.Words.{bounds_view, precedence, true};
 ghost use Rattle.nodejs_semver.specs.Internal.NpmAlternatives.{AcceptAsRanged, NarrowedBy, met};
@@ -42,9 +43,9 @@ fn common<'a>(
     first?.into_intersection(second?).ok()
 }
 
-/// Whether a partial is a wildcard.
+// Whether a partial is a wildcard.
 #[inline(always)]
-pub(crate) fn is_wildcard(partial: &Partial<'_>) -> bool
+fn is_wildcard(partial: &Partial<'_>) -> bool
     ensures { result ≡ is_wildcard (npm_partial_view partial.now) }
 {
     matches!(partial, Partial::Wildcard)
@@ -104,6 +105,7 @@ impl<'a> Alternative<'a> {
     ) -> Option<Alternative<'a>>
         ensures narrowed { (include : Bool) → (cs : List Comparison) →
             AreRead include cs read.entry → NarrowedBy include self.entry.interval cs result }
+        ensures none { read.entry ≡ None → result ≡ None }
         ensures bare { IfSome result (λ a. a.is_bare ≡ (self.entry.is_bare && is_bare)) }
         ensures lost { IfSome result (λ a. a.is_lost ≡ self.entry.is_lost) }
     {

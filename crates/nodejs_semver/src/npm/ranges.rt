@@ -5,7 +5,7 @@ ghost use Rattle.nodejs_semver.specs.Words.{Comparison, HasAlternativesIn, IfOk,
 ghost use Rattle.nodejs_semver.specs.Words.{IsRange, MAX_SAFE_INTEGER, MemoryOnlyIf, NoValue};
 ghost use Rattle.nodejs_semver.specs.Words.{None, OnOk, RefusedOnlyIf, length, parts, true, ℕ};
 ghost use Rattle.nodejs_semver.specs.Words.{Some};
-ghost use Rattle.nodejs_semver.specs.Internal.NpmParts.{is_some_wildcard, some_normal};
+ghost use Rattle.nodejs_semver.specs.Internal.NpmParts.{some_normal};
 ghost use Rattle.nodejs_semver.specs.Internal.NpmViews.{end_view, npm_partial_some_view};
 ghost use Rattle.nodejs_semver.specs.Internal.NpmWords.{first_valid, words_of_all};
 ghost use Rattle.nodejs_semver.specs.Internal.NpmReads.{AddsPart, AreAllFound, IsFound};
@@ -15,11 +15,10 @@ ghost use Rattle.semver_core.specs.Internal.Reading.{◌>>?◌};
 ghost use Rattle.nodejs_semver.specs.Npm.Ranges.{HasAlternatives, IsRangeIn, IsRangeOf};
 
 use crate::RangeRef;
-use crate::npm::alternatives::{Alternative, is_wildcard, set_ranged};
+use crate::npm::alternatives::{Alternative, set_ranged};
 use crate::npm::common::read_common;
 use crate::npm::hyphens::{End, hyphen_ends, lower_bounds, upper_bounds};
 use crate::npm::ignored::behind_ignored;
-use crate::npm::partial::Partial;
 use crate::npm::words::word_front;
 use crate::range::Intervals;
 use crate::readers::{Found, next_part, skip_spaces};
@@ -44,11 +43,13 @@ fn with_word<'a>(
         }
         return None;
     };
-    let Some(partial) = word.partial else {
-        return None;
-    };
-    let all = all.meet(include, word.sign, &partial, word.text)?;
-    Some((all, false, skip_spaces(behind)))
+    match &word.partial {
+        Some(partial) => {
+            let all = all.meet(include, word.sign, partial, word.text)?;
+            Some((all, false, skip_spaces(behind)))
+        }
+        None => None,
+    }
 }
 
 // The alternative of words, with whitespace between them.
@@ -69,16 +70,6 @@ fn words(loose: bool, include: bool, text: &[u8]) -> Option<Alternative<'_>>
     Some(all.ended(is_last_ignored && word_front(loose, text).is_none()))
 }
 
-// Whether a partial that may be left out is a wildcard.
-fn is_some_wildcard(partial: &Option<Partial<'_>>) -> bool
-    ensures { result ≡ is_some_wildcard (npm_partial_some_view partial.now) }
-{
-    match partial {
-        Some(partial) => is_wildcard(partial),
-        None => false,
-    }
-}
-
 // The alternative between two ends of a hyphen range.
 fn between<'a>(
     loose: bool,
@@ -92,9 +83,9 @@ fn between<'a>(
         (end_view upper.now)) result }
 {
     let first = lower_bounds(loose, include, lower);
-    let from = Alternative::all().meet_read(first, is_some_wildcard(&lower.partial))?;
+    let from = Alternative::all().meet_read(first, false)?;
     let second = upper_bounds(loose, include, upper);
-    from.meet_read(second, is_some_wildcard(&upper.partial))
+    from.meet_read(second, false)
 }
 
 /// The alternative that a text is, without whitespace around it.
