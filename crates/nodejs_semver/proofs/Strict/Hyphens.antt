@@ -10,7 +10,7 @@ use Rattle.nodejs_semver.proofs.Common.{◌&&◌, ◌++◌, ◌+◌, ◌-◌, �
 use Rattle.nodejs_semver.proofs.NpmCommon.{AreMarks, AreWords, Comparison, CountedEnd, Ended, IsAlternative, IsEnd, IsHyphen, IsPlaces}
 use Rattle.nodejs_semver.proofs.NpmCommon.{IsStrictBuild, IsWord, after_byte, after_ends, are_normal, are_whole_marks, comparators_of, counted_as}
 use Rattle.nodejs_semver.proofs.NpmCommon.{counted_end, counted_front, counted_hyphen, drop_ends, encode_ascii, end_front, ended_as, hyphen_ends}
-use Rattle.nodejs_semver.proofs.NpmCommon.{hyphen_of, is_free_lower, is_free_upper, is_lost, is_mark, is_right, is_right_end, is_short}
+use Rattle.nodejs_semver.proofs.NpmCommon.{hyphen_of, is_free_lower, is_free_upper, is_mark, is_right, is_right_end, is_short}
 use Rattle.nodejs_semver.proofs.NpmCommon.{is_short_word, is_small, is_valid, last_end, last_marks, len_utf8, lower_of, no_build, plus}
 use Rattle.nodejs_semver.proofs.NpmCommon.{space_len-white, upper_of, ◌>>?◌}
 use Rattle.nodejs_semver.proofs.Reading.Bytes.{all-join, begins-some, begins_component, is_component_byte, is_solid, solid-dark}
@@ -18,7 +18,7 @@ use Rattle.nodejs_semver.proofs.Reading.PartialLaw.{front-dark}
 use Rattle.nodejs_semver.proofs.Reading.WordLaw.{blank-len, boundary-of, boundary-utf8, byte-is, skips-of, skips-utf8, some_space-is, tail-utf8}
 use Rattle.nodejs_semver.proofs.Strict.Malformed.{blank-signal, is_signal, sign-signal}
 use Rattle.nodejs_semver.proofs.Strict.{PartialLaw.{boundary-quiet, front-text, places-found, places-read}, Printed.{lower-invalid, upper-invalid}}
-use Rattle.nodejs_semver.proofs.Strict.{Signs.marks-all, VersionLaw.empty-is, Words.{marks-dropped, places-begin}}
+use Rattle.nodejs_semver.proofs.Strict.{Signs.marks-all, VersionLaw.empty-is, Words.{marks-dropped, places-begin, strict-kept}}
 use Rattle.nodejs_semver.specs.Internal.{NpmParts.some_normal, NpmReads.{hyphen_valid, valid_one}, NpmWords.{after_dash, end_len, places_front}}
 use Rattle.nodejs_semver.specs.{Internal.Words.after_some_space, Npm.Grammar.IsPreRelease, Npm.RangeText.{formed, ignored, is_free, more, words}}
 use Rattle.nodejs_semver.specs.{Npm.Table.Partial, Text.WordText.SkipsBlank}
@@ -448,10 +448,5 @@ hyphen_none-strict include text read u (more t rest cs others (formed behind ds 
 -- they are an alternative, which is not lost
 pub strict-words : (include : Bool) (text : List ℕ) (read : List (Option (List Comparison))) → IsUtf8 text → AreWords false include text read
     → IsAlternative false include text false (comparators_of read)
-strict-words include text read u w = subst (λ (lost : Bool). IsAlternative false include text lost (comparators_of read)) (kept text read w)
-    (words text read (hyphen_none-strict include text read u w) w)
-  where
-    kept : (text : List ℕ) (read : List (Option (List Comparison))) → AreWords false include text read → is_lost read ≡ false
-    kept text read AreWords.none = refl
-    kept text read (more t rest cs others (ignored behind l some other is skips) k) = cc l
-    kept text read (more t rest cs others (formed behind ds w short skips) k) = grind arith
+strict-words include text read u w = subst (λ (lost : Bool). IsAlternative false include text lost (comparators_of read))
+    (strict-kept include text read w) (words text read (hyphen_none-strict include text read u w) w)
