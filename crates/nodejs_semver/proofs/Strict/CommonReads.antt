@@ -1,5 +1,5 @@
 -- Common texts: what the reader of these finds are alternatives of the text, and what their comparators have in common.
-use Rattle.nodejs_semver.proofs.{Algebra.Gate.both, Alike.Texts.{gap-bytes, joined, no_mark, no_marks, one_blank, sign_text}}
+use Rattle.nodejs_semver.proofs.{Algebra.Gate.both, Alike.Texts.{gap-bytes, joined, no_mark, no_marks, sign_text, word-alone, words-spaced}}
 use Rattle.nodejs_semver.proofs.Common.{AllByRecursion, Bool, Bound, IfSome, IsRange, IsUtf8, List, MAX_SAFE_INTEGER, None, Option, Some}
 use Rattle.nodejs_semver.proofs.Common.{Span, Unbounded, VersionValue, [], all_weaker, ap, append-nil, append_assoc, arith, begins}
 use Rattle.nodejs_semver.proofs.Common.{codes, common_steps, cond_both, cond_some, cut_bars, drop, false, inl, inr, interval}
@@ -12,7 +12,7 @@ use Rattle.nodejs_semver.proofs.{Everyday.Words.is_part_byte, NpmCommon.{AcceptA
 use Rattle.nodejs_semver.proofs.NpmCommon.{IsNarrowed, IsPartial, IsPlaces, IsRangeIn, after_byte, are_normal, begins_wildcard, bounds_view}
 use Rattle.nodejs_semver.proofs.NpmCommon.{compared, counted_front, dotted_patch, dotted_place, is_valid, listed, lit<, no_sign}
 use Rattle.nodejs_semver.proofs.{NpmCommon.{patch_place, spelling, strict_number, within}, Reading.Bytes.{all-end, all-join}}
-use Rattle.nodejs_semver.proofs.Strict.{AlternativeLaw.{partial-le, partial-normal}, Malformed.{is_part, partial-part}}
+use Rattle.nodejs_semver.proofs.Strict.{AlternativeLaw.partial-normal, Hyphens.{partial-le, strict-words}, Malformed.{is_part, partial-part}}
 use Rattle.nodejs_semver.proofs.Strict.PartialLaw.{PartialAt, counted-some, strict-counted, number_placed, over_counted, partial-found, wildcard_placed}
 use Rattle.nodejs_semver.{proofs.Strict.{RangeReads.{found_spans, ranged_range}, Rows.both_common}, specs.Internal.CommonFronts.after_bars}
 use Rattle.nodejs_semver.specs.Internal.{NpmAlternatives.ranged, NpmFronts.{AreIn, AreJoined, AreParts, IsLeft, IsPartAt, IsSignAt}}
@@ -20,7 +20,7 @@ use Rattle.nodejs_semver.specs.Internal.{NpmFronts.{IsTried, IsWordAt, is_word_b
 use Rattle.nodejs_semver.specs.{Internal.NpmWords.{any, is_over, number, place_zeros, placed}, Npm.Table.{Partial, Sign, first, major}}
 use Rattle.nodejs_semver.specs.{Npm.Table.{minor, table, whole, wildcard}, Text.{Common.IsGap, WordText.equal}}
 use Rattle.{nodejs_semver.specs.declared.readers.syntax.Bounds.Bounds, std.proofs.Math.Seq.take-append_seam}
-use Rattle.nodejs_semver.proofs.{Common.Front, NpmCommon.{is_small, limited}}
+use Rattle.nodejs_semver.proofs.{Common.Front, NpmCommon.{IsAlternative, is_small, limited}}
 use Rattle.nodejs_semver.specs.Internal.NpmWords.{partial_front}
 use Rattle.nodejs_semver.specs.Internal.NpmFronts as Fronts
 use Rattle.nodejs_semver.specs.Npm.RangeText as Npm
@@ -58,7 +58,8 @@ word-found include text behind rest s p span sign read are =
         word = spelling s ++ f.piece;
         comparators = table include s p f.piece;
         split = e ∙ ap (λ (t : List ℕ). spelling s ++ t) f.split ∙ sym (append_assoc (spelling s) f.piece rest);
-        is = λ _. Npm.word (spelling s) [] f.piece s p (sign_text s) (no_marks s p) (no_mark _) f.is;
+        partial = f.piece;
+        is = Npm.word (spelling s) [] f.piece s p (sign_text s) (no_marks s p) (no_mark _) f.is.0;
         some = omega (arith, length-append (spelling s) f.piece, piece-some f.piece p f.is.0);
         bytes = all-join is_word_byte (spelling s) f.piece (sign-bytes s) (piece-bytes f.piece p f.is);
         are = k;
@@ -67,7 +68,8 @@ word-found include text behind rest s p span sign read are =
         word = f.piece;
         comparators = table include (compared equal) p f.piece;
         split = e.0 ∙ f.split;
-        is = λ _. Npm.word [] [] f.piece (compared equal) p no_sign (no_marks (compared equal) p) refl f.is;
+        partial = f.piece;
+        is = Npm.word [] [] f.piece (compared equal) p no_sign (no_marks (compared equal) p) refl f.is.0;
         some = piece-some f.piece p f.is.0;
         bytes = piece-bytes f.piece p f.is;
         are = subst (λ (t : Sign). AreIn include (table include t p f.piece) span) e.1 k;
@@ -179,9 +181,11 @@ part-of_one include text rest s w =
     let c = word-compact w.word w.some w.bytes in
     record {
       part = w.word;
+      read = Some w.comparators ∷ [];
       comparators = w.comparators;
       split = w.split;
-      is = Npm.last w.word w.comparators (w.is true);
+      is = word-alone include w.word w.partial w.comparators w.is;
+      of_all = sym (append-nil w.comparators);
       front = c.front;
       each = c.each;
       end = c.end;
@@ -205,10 +209,11 @@ part-of_two include text rest behind last s t v e w open_above open_below =
     let c = compact-spaced v.word w.word (word-compact v.word v.some v.bytes) (word-compact w.word w.some w.bytes) in
     record {
       part = v.word ++ 32 ∷ w.word;
+      read = Some v.comparators ∷ (Some w.comparators ∷ []);
       comparators = v.comparators ++ w.comparators;
       split = v.split ∙ ap (λ (t : List ℕ). v.word ++ t) (e ∙ ap (λ (t : List ℕ). 32 ∷ t) w.split) ∙ sym (append_assoc v.word (32 ∷ w.word) last);
-      is = Npm.more v.word (codes " ") w.word v.comparators w.comparators (v.is false) one_blank (lit< tt)
-          (Npm.last w.word w.comparators (w.is true));
+      is = words-spaced include v.word v.partial w.word w.partial v.comparators w.comparators v.is w.is (begins-all w.word w.some w.bytes);
+      of_all = ap (λ (cs : List Comparison). v.comparators ++ cs) (sym (append-nil w.comparators));
       front = c.front;
       each = c.each;
       end = c.end;
@@ -300,6 +305,11 @@ narrowed include cs s h = cond_both (is_interval precedence s) (Some s) None (λ
 compact-of : (include : Bool) (text rest : List ℕ) (s : Span VersionValue) (p : IsPartAt include text s rest) → Compact p.part
 compact-of include text rest s p = record { front = p.front; each = p.each; end = p.end }
 
+part-alternative : (include : Bool) (text rest : List ℕ) (s : Span VersionValue) (p : IsPartAt include text s rest) → IsUtf8 p.part
+    → IsAlternative false include p.part false p.comparators
+part-alternative include text rest s p u =
+    subst (λ (cs : List Comparison). IsAlternative false include p.part false cs) (sym p.of_all) (strict-words include p.part p.read u p.is)
+
 all-at : (include : Bool) (text gap : List ℕ) (ss : List (Span VersionValue)) → IsGap gap → AreParts include text ss
     → AllByRecursion IsUtf8 (cut_bars false (gap ++ text)) → AllAt include (cut_bars false (gap ++ text)) ss
 all-at include text gap ss g (Fronts.one t s p) u =
@@ -309,7 +319,7 @@ all-at include text gap ss g (Fronts.one t s p) u =
     let is : AreAlternatives false include (cut_bars false (gap ++ t)) (p.comparators ∷ []) =
     joined include _ [] (gap ++ p.part) p.part p.comparators [] (ap (λ (x : List ℕ). cut_bars false (gap ++ x)) whole
     ∙ cut-last (gap ++ p.part) (all-join is_part_byte gap p.part (gap-bytes gap g) c.each)) same
-    (Npm.words p.part p.comparators p.is) u (λ _. Npm.none) in
+    (part-alternative include t [] s p) u (λ _. Npm.none) in
     record {
       alternatives = p.comparators ∷ [];
       each = is;
@@ -338,7 +348,7 @@ all-at include text gap ss g (Fronts.more t behind next s more p bars h) u =
     record {
       alternatives = p.comparators ∷ k.alternatives;
       each = joined include _ (cut_bars false (b.after ++ next)) piece p.part p.comparators k.alternatives cut
-          (compact-trim gap p.part b.before g b.is_before c) (Npm.words p.part p.comparators p.is) u (λ _. k.each);
+          (compact-trim gap p.part b.before g b.is_before c) (part-alternative include t behind s p) u (λ _. k.each);
       some = refl;
       valid = rw (p.are.0, k.valid) refl;
       found = record {
