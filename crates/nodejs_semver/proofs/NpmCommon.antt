@@ -18,7 +18,7 @@ pub use Rattle.nodejs_semver.specs.Npm.{Grammar.{no_pre_release, plus}, Malforme
 pub use Rattle.nodejs_semver.specs.Internal.NpmMalformed.{is_visible}
 pub use Rattle.nodejs_semver.specs.Npm.{MalformedWords.{IsLeft, IsMalformedWord, here}, RangeText.AreAlternatives}
 pub use Rattle.nodejs_semver.specs.Npm.RangeText.{AreMarks, AreWords, IsAlternative, IsPartial, IsPlace, IsPlaces, IsSignText, IsWord, are_marks}
-pub use Rattle.nodejs_semver.specs.Npm.RangeText.{are_whole_marks, caret_equal, has_zeros, ignored}
+pub use Rattle.nodejs_semver.specs.Npm.RangeText.{are_whole_marks, caret_equal, ignored}
 pub use Rattle.nodejs_semver.specs.Npm.RangeText.{is_mark, is_short_identifier, last, late_above, late_below}
 pub use Rattle.nodejs_semver.specs.Npm.RangeText.{no_sign, none, one, partial_of, sign, spelling, three, tilde_twice, two, word}
 pub use Rattle.nodejs_semver.specs.Npm.Ranges.{HasAlternatives, HasAlternativesIn, IsRangeIn, is_valid, meets, satisfies}

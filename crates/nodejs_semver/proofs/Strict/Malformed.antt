@@ -6,7 +6,7 @@ use Rattle.nodejs_semver.proofs.Common.{is_empty, is_identifier_char, is_whitesp
 use Rattle.nodejs_semver.proofs.Common.{list_all-append, list_any, lt-ltb, nat_lt, nat_tests, not, onto_first, pieces, prefix_len, refl}
 use Rattle.nodejs_semver.proofs.Common.{space_len, suc, sym, take, take-append-drop, take_all, true, zero, ℕ, ◌&&◌, ◌++◌, ◌+◌, ◌-◌, ◌<◌}
 use Rattle.nodejs_semver.proofs.{Common.{◌==◌, ◌||◌, ◌∙◌, ◌∷◌, ◌≡◌, ◌≤◌, ◌⊎◌}, NpmCommon.{IsPartial, IsPlace, IsSignText, IsStrictBuild}}
-use Rattle.nodejs_semver.proofs.NpmCommon.{bare, begins_malformed, bytes_eq, caret_equal, compared, dashed, encode_ascii, has_zeros}
+use Rattle.nodejs_semver.proofs.NpmCommon.{bare, begins_malformed, bytes_eq, caret_equal, compared, dashed, encode_ascii}
 use Rattle.nodejs_semver.proofs.NpmCommon.{IsPlaces, ignored_front, is_malformed, is_mark, is_visible, late_above, late_below, nat_le}
 use Rattle.nodejs_semver.proofs.NpmCommon.{no_build, no_pre_release, no_sign, one, or-true, plus, runs_tail, sign, spelling, tail_runs}
 use Rattle.nodejs_semver.proofs.{NpmCommon.{take_while, three, tilde_twice, two}, Reading.Bytes.{all-end, all-join, begins_component}}
@@ -27,14 +27,14 @@ is_part b = is_identifier_char b || (b == 46 || (b == 43 || b == 42))
 abbrev is_place_byte : ℕ → Bool
 is_place_byte b = is_wildcard b || is_ascii_digit b
 
-place-bytes : (loose zeros : Bool) (x : List ℕ) (a : Option ℕ) → IsPlace loose zeros x a
+place-bytes : (loose : Bool) (x : List ℕ) (a : Option ℕ) → IsPlace loose x a
     → (list_all is_place_byte x ≡ true) × (0 < length x)
-place-bytes loose zeros x a (Text.any b h) = (rw h refl, omega arith)
-place-bytes loose zeros x a (Text.number digits n k spelled short) =
+place-bytes loose x a (Text.any b h) = (rw h refl, omega arith)
+place-bytes loose x a (Text.number digits n k spelled short) =
     (all_weaker is_ascii_digit is_place_byte (λ b k. grind (arith, nat_tests)) digits k.each, k.some)
 
-place-part : (loose zeros : Bool) (x : List ℕ) (a : Option ℕ) → IsPlace loose zeros x a → list_all is_part x ≡ true
-place-part loose zeros x a h = all_weaker is_place_byte is_part (λ b k. grind (arith, nat_tests)) x (place-bytes loose zeros x a h).0
+place-part : (loose : Bool) (x : List ℕ) (a : Option ℕ) → IsPlace loose x a → list_all is_part x ≡ true
+place-part loose x a h = all_weaker is_place_byte is_part (λ b k. grind (arith, nat_tests)) x (place-bytes loose x a h).0
 
 pieces-part : (t : List ℕ) → tail_runs (pieces t) ≡ true → list_all is_part t ≡ true
 pieces-part t h = all_weaker is_plain is_part (λ b k. grind (arith, nat_tests)) t (plain_runs t h)
@@ -49,8 +49,8 @@ build-part p l no_build = refl
 build-part p l (plus t list h) = pieces-part t (runs_tail (pieces t) h.runs)
 
 places-part : (loose : Bool) (x : List ℕ) (p : Partial) → IsPlaces loose x p → list_all is_part x ≡ true
-places-part loose x p (one x1 a h) = place-part loose false x1 a h
-places-part loose x p (two x1 y a b h k) = all-join is_part x1 (46 ∷ y) (place-part loose false x1 a h) (place-part loose (has_zeros a) y b k)
+places-part loose x p (one x1 a h) = place-part loose x1 a h
+places-part loose x p (two x1 y a b h k) = all-join is_part x1 (46 ∷ y) (place-part loose x1 a h) (place-part loose y b k)
 places-part loose x p (three x1 y z pre build a b c ids builds h k l m n t) = grind (arith, nat_tests, common_steps, all-join, build-part, place-part, pre-part)
 
 pub partial-part : (loose : Bool) (x : List ℕ) (p : Partial) → IsPartial loose x p → list_all is_part x ≡ true
@@ -139,9 +139,9 @@ dotted-piece (b ∷ x) y h =
 abbrev Firsts : List ℕ → Type 0
 Firsts x = (list_all is_first x ≡ true) × (begins is_first x ≡ true)
 
-place-firsts : (loose zeros : Bool) (x : List ℕ) (a : Option ℕ) → IsPlace loose zeros x a → Firsts x
-place-firsts loose zeros x a h =
-    let bytes = place-bytes loose zeros x a h in
+place-firsts : (loose : Bool) (x : List ℕ) (a : Option ℕ) → IsPlace loose x a → Firsts x
+place-firsts loose x a h =
+    let bytes = place-bytes loose x a h in
     go x (all_weaker is_place_byte is_first (λ b k. grind (arith, nat_tests)) x bytes.0) bytes.1
   where
     go : (x : List ℕ) → list_all is_first x ≡ true → 0 < length x → Firsts x
@@ -178,19 +178,19 @@ pre-first loose wild fits p b l m h k = grind (arith, nat_tests, common_steps)
 -- behind some characters that begin words
 placed : (loose : Bool) (u x : List ℕ) (p : Partial) → list_all is_first u ≡ true → IsPlaces loose x p → are_places (pieces (u ++ x)) ≡ true
 placed loose u x p h (one x1 a k) =
-    let first = firsts-behind u x1 h (place-firsts loose false x1 a k) in rw (alone-piece (u ++ x1) first.0, first.0, first.1) refl
+    let first = firsts-behind u x1 h (place-firsts loose x1 a k) in rw (alone-piece (u ++ x1) first.0, first.0, first.1) refl
 placed loose u x p h (two x1 y a b k l) =
-    let first = firsts-behind u x1 h (place-firsts loose false x1 a k) in
-    let second = place-firsts loose (has_zeros a) y b l in
+    let first = firsts-behind u x1 h (place-firsts loose x1 a k) in
+    let second = place-firsts loose y b l in
     let joined : u ++ (x1 ++ 46 ∷ y) ≡ (u ++ x1) ++ 46 ∷ y = sym (append_assoc u x1 (46 ∷ y)) in
     rw (joined, dotted-piece (u ++ x1) y first.0, alone-piece y second.0, first.0, first.1, second.0, second.1) refl
 placed loose u x p h (three x1 y z pre build a b c ids builds k l m n o t) =
-    let first = firsts-behind u x1 h (place-firsts loose false x1 a k) in
-    let second = place-firsts loose (has_zeros a) y b l in
+    let first = firsts-behind u x1 h (place-firsts loose x1 a k) in
+    let second = place-firsts loose y b l in
     let q = z ++ (pre ++ build) in
     let joined : u ++ (x1 ++ 46 ∷ (y ++ 46 ∷ q)) ≡ (u ++ x1) ++ 46 ∷ (y ++ 46 ∷ q) = sym (append_assoc u x1 (46 ∷ (y ++ 46 ∷ q))) in
     rw (joined, dotted-piece (u ++ x1) (y ++ 46 ∷ q) first.0, dotted-piece y q second.0) (three-placed (u ++ x1) y (pieces q) first second
-    (third-placed z (pre ++ build) (place-firsts loose (has_zeros a) z c m) (pre-first loose (is_none c) _ pre build ids builds n o)))
+    (third-placed z (pre ++ build) (place-firsts loose z c m) (pre-first loose (is_none c) _ pre build ids builds n o)))
 
 -- ---- the signs of a well-formed word
 
@@ -240,8 +240,8 @@ identifiers-end : (t : List ℕ) (list : List Id) → IsIdentifiers t list → e
 identifiers-end [] list h = cc h.runs
 identifiers-end (c ∷ t) list h = tail-end c t (runs_tail (pieces (c ∷ t)) h.runs)
 
-place-end : (loose zeros : Bool) (x : List ℕ) (a : Option ℕ) → IsPlace loose zeros x a → ends is_last x ≡ true
-place-end loose zeros x a h = grind (arith, nat_tests, common_steps, place-bytes, all-end, all_weaker)
+place-end : (loose : Bool) (x : List ℕ) (a : Option ℕ) → IsPlace loose x a → ends is_last x ≡ true
+place-end loose x a h = grind (arith, nat_tests, common_steps, place-bytes, all-end, all_weaker)
 
 -- a text ends as its last piece does
 last-end : (u v : List ℕ) → ends is_last v ≡ true → ends is_last (u ++ v) ≡ true
@@ -257,11 +257,11 @@ qualified-end loose wild fits z pre build ids builds e (dashed t list h s) no_bu
 qualified-end loose wild fits z pre build ids builds e (bare t list h s f) no_build = rw (append-nil t) (last-end z t (identifiers-end t list h))
 
 partial-end : (loose : Bool) (x : List ℕ) (p : Partial) → IsPlaces loose x p → ends is_last x ≡ true
-partial-end loose x p (one x1 a h) = place-end loose false x1 a h
-partial-end loose x p (two x1 y a b h k) = last-end x1 (46 ∷ y) (last-end (46 ∷ []) y (place-end loose (has_zeros a) y b k))
+partial-end loose x p (one x1 a h) = place-end loose x1 a h
+partial-end loose x p (two x1 y a b h k) = last-end x1 (46 ∷ y) (last-end (46 ∷ []) y (place-end loose y b k))
 partial-end loose x p (three x1 y z pre build a b c ids builds h k l m n t) =
     let q = z ++ (pre ++ build) in
-    let last = qualified-end loose (is_none c) _ z pre build ids builds (place-end loose (has_zeros a) z c l) m n in
+    let last = qualified-end loose (is_none c) _ z pre build ids builds (place-end loose z c l) m n in
     last-end x1 (46 ∷ (y ++ 46 ∷ q)) (last-end (46 ∷ []) (y ++ 46 ∷ q) (last-end y (46 ∷ q) (last-end (46 ∷ []) q last)))
 
 -- ---- no malformed word is at the front of a text that begins as a word does

@@ -8,7 +8,9 @@ use Rattle.nodejs_semver.proofs.NpmCommon.{begins_byte, caret_equal, compared, i
 use Rattle.nodejs_semver.proofs.NpmCommon.{npm_sign, or_late, sign, skip_equal, skip_greater, skip_tilde, space_len-white, spelling}
 use Rattle.nodejs_semver.proofs.{NpmCommon.tilde_twice, Reading.{Bytes.{begins_component, is_solid, solid-dark}, PartialLaw.byte-begins}}
 use Rattle.nodejs_semver.{proofs.Reading.WordLaw.{skips-is, skips-utf8, tail-utf8}, specs.Internal.NpmWords.skip_twice}
-use Rattle.nodejs_semver.specs.Npm.{RangeText.tilde_sign, Table.{Partial, Sign, caret, table, tilde}}
+use Rattle.nodejs_semver.specs.Npm.{RangeText.tilde_sign, Table.{Partial, Sign, caret, major, minor, table, tilde, whole, wildcard}}
+use Rattle.nodejs_semver.specs.Npm.Table.{written_zeros}
+use Rattle.nodejs_semver.proofs.{Common.{all_weaker, is_ascii_digit, not, sym}, Strict.Zeros.zeros-marked}
 
 -- ---- whitespace
 
@@ -250,11 +252,42 @@ pub record SignTaken (loose : Bool) (s : Sign) (p : Partial) (marks x : List ℕ
   pub marked : are_marks loose r.0 p left ≡ true
   pub same : (include : Bool) → table include r.0 p (left ++ x) ≡ table include s p (marks ++ x)
 
-caret-taken : (loose : Bool) (p : Partial) (marks x text u : List ℕ) → MarksLeft text u → SignTaken loose caret p marks x (caret, text) u
-caret-taken loose p marks x text u l = grind (arith, nat_tests, common_steps)
+-- marks are no digits, so that with other ones as many numbers are written `0`
+zeros-other : (left marks x : List ℕ) → list_all is_mark left ≡ true → list_all is_mark marks ≡ true
+    → written_zeros (left ++ x) ≡ written_zeros (marks ++ x)
+zeros-other left marks x h k = none left h ∙ sym (none marks k)
+  where
+    none : (m : List ℕ) → list_all is_mark m ≡ true → written_zeros (m ++ x) ≡ written_zeros x
+    none m h = zeros-marked m x (all_weaker is_mark (λ b. not (is_ascii_digit b)) (λ b k. grind (arith, nat_tests)) m h)
 
-tilde-taken : (loose : Bool) (p : Partial) (marks x text u : List ℕ) → MarksLeft text u → SignTaken loose tilde p marks x (tilde, text) u
-tilde-taken loose p marks x text u l = grind (arith, nat_tests, common_steps)
+free-marks : (loose : Bool) (s : Sign) (p : Partial) (marks : List ℕ) → (s ≡ caret) ⊎ (s ≡ tilde) → list_all is_mark marks ≡ true
+    → are_marks loose s p marks ≡ true
+free-marks loose s p marks e h = grind (arith, nat_tests, common_steps)
+
+same-row : (include : Bool) (s : Sign) (p : Partial) (t u : List ℕ) → (s ≡ caret) ⊎ (s ≡ tilde) → written_zeros t ≡ written_zeros u
+    → table include s p t ≡ table include s p u
+same-row include s wildcard t u i e = elim i [ inl c ↦ rw c refl | inr c ↦ rw c refl ]
+same-row include s (major M) t u i e = elim i [ inl c ↦ rw (c, e) refl | inr c ↦ rw (c, e) refl ]
+same-row include s (minor M m) t u i e = elim i [ inl c ↦ rw (c, e) refl | inr c ↦ rw (c, e) refl ]
+same-row include s (whole v) t u i e = elim i [ inl c ↦ rw (c, e) refl | inr c ↦ rw (c, e) refl ]
+
+caret-taken : (loose : Bool) (p : Partial) (marks x text u : List ℕ) → list_all is_mark marks ≡ true → MarksLeft text u
+    → SignTaken loose caret p marks x (caret, text) u
+caret-taken loose p marks x text u h l = record {
+  left = l.left;
+  is = l.is;
+  marked = free-marks loose caret p l.left (inl refl) l.each;
+  same = λ include. same-row include caret p (l.left ++ x) (marks ++ x) (inl refl) (zeros-other l.left marks x l.each h);
+}
+
+tilde-taken : (loose : Bool) (p : Partial) (marks x text u : List ℕ) → list_all is_mark marks ≡ true → MarksLeft text u
+    → SignTaken loose tilde p marks x (tilde, text) u
+tilde-taken loose p marks x text u h l = record {
+  left = l.left;
+  is = l.is;
+  marked = free-marks loose tilde p l.left (inr refl) l.each;
+  same = λ include. same-row include tilde p (l.left ++ x) (marks ++ x) (inr refl) (zeros-other l.left marks x l.each h);
+}
 
 kept : (loose : Bool) (s : Sign) (p : Partial) (marks x text u : List ℕ) → text ≡ marks ++ u → are_marks loose s p marks ≡ true
     → SignTaken loose s p marks x (s, text) u
@@ -334,9 +367,13 @@ signed-taken loose (compared at_most) p y marks x u h m none k =
 signed-taken loose (compared below) p y marks x u h m none k =
     grind (arith, nat_tests, common_steps, opens, marks-all, one-read, not-other, kept)
 signed-taken loose caret p y marks x u h m none k =
-    grind (arith, nat_tests, common_steps, marks-all, blank-skipped, opens, caret-taken, equal-left)
+    let all = marks-all loose caret p marks m in
+    rw (blank-skipped y (marks ++ u) h (opens marks u all k).dark) (caret-taken loose p marks x (skip_equal (marks ++ u)) u all (equal-left marks u all k))
 signed-taken loose tilde p y marks x u h m none k =
-    grind (arith, nat_tests, common_steps, marks-all, opens, no_greater-left, tilde-taken, equal-left)
+    let all = marks-all loose tilde p marks m in
+    let o = opens marks u all k in
+    rw (no_greater-left y (marks ++ u) h o.dark o.greater)
+    (tilde-taken loose p marks x (skip_equal (marks ++ u)) u all (equal-left marks u all k))
 
 bare-taken : (loose : Bool) (p : Partial) (marks x u : List ℕ) → are_marks loose (compared equal) p marks ≡ true → begins_byte 61 marks ≡ false
     → begins_component u ≡ true → Taken loose (compared equal) p marks x u (marks ++ u)
@@ -354,7 +391,12 @@ sign-taken loose signs s p marks x u (late_below y h) m none k =
 sign-taken loose signs s p marks x u (caret_equal y z h l) m none k =
     grind (arith, nat_tests, common_steps, append_assoc, blank-skipped, dark-byte, kept, opens, marks-all)
 sign-taken loose signs s p marks x u (tilde_sign c y z h l (inr (inr e))) m none k = grind (arith, nat_tests, common_steps, append_assoc, blank-skipped, dark-byte, kept, marks-all, no_greater-left, opens)
-sign-taken loose signs s p marks x u (tilde_sign c y z h l (inl e)) m none k = grind (arith, append_assoc, blank-skipped, greater-left, marks-all, one_greater-left, opens, tilde-taken)
+sign-taken loose signs s p marks x u (tilde_sign c y z h l (inl e)) m none k =
+    let all = marks-all loose tilde p marks m in
+    let o = opens marks u all k in
+    let skipped = one_greater-left y (z ++ (marks ++ u)) (marks ++ u) h (blank-skipped z (marks ++ u) l o.dark) o.greater in
+    rw (e, append_assoc y (62 ∷ z) (marks ++ u), skipped)
+    (tilde-taken loose p marks x (skip_greater (z ++ (marks ++ u))) u all (greater-left z marks u l all k))
 sign-taken loose signs s p marks x u (tilde_sign c y z h l (inr (inl e))) m none k = grind (arith, nat_tests, common_steps, append_assoc, blank-skipped, dark-byte, drop_spaces-none, kept, marks-all, one_greater-left, opens)
 sign-taken loose signs s p marks x u (tilde_twice c y z h some l (inl e)) m none k = grind (arith, nat_tests, common_steps, append_assoc, greater-left, marks-all, tilde-taken, twice-left)
 sign-taken loose signs s p marks x u (tilde_twice c y z h some l (inr e)) m none k = grind (arith, nat_tests, common_steps, append_assoc, blank-skipped, kept, marks-all, opens, twice-left)
