@@ -270,9 +270,9 @@ pub fn range(
 ///
 /// What it reads means what it means to node-semver. It rejects more than node-semver does: a text
 /// with another malformed word, such as `1x`, or `foo=` and `-` in front of another word, which
-/// node-semver ignores where another word is well formed; zero as several digits where the major
-/// number is zero (`0.00.1`); a partial version of more than 250 characters in front of its build;
-/// and whitespace among the marks of a whole version in a hyphen range.
+/// node-semver ignores where another word is well formed; a partial version of more than 250
+/// characters in front of its build; and whitespace among the marks of a whole version in a hyphen
+/// range.
 ///
 /// All else is as for [`range`]: how to ask the range, what it borrows and when allocation fails.
 ///
