@@ -5,7 +5,7 @@ use Rattle.std.specs.Char.{is_ascii_digit}
 use Rattle.std.specs.List.{prefix_len}
 use Rattle.semver_core.specs.Internal.Reading.{◌>>?◌}
 use Rattle.semver_core.specs.Text.Characters.{begins, ends}
-use Rattle.semver_core.specs.Text.Identifiers.{listed}
+use Rattle.semver_core.specs.Text.Identifiers.{Id, listed}
 use Rattle.semver_core.specs.Text.Numbers.{IsNumber}
 use Rattle.semver_core.specs.Values.Versions.{VersionValue, release_value}
 use Rattle.semver_core.specs.declared.TheConstants.{MAX_LENGTH, MAX_SAFE_INTEGER}
@@ -113,9 +113,11 @@ abbrev pub marked_front : Bool → Bool → ℕ → List ℕ → List ℕ × Lis
 marked_front included strict mark text =
     let len = marked_len included strict mark text in (drop 1 (take len text), drop len text)
 
--- the version of a release with the lists behind it, if its text is short enough
-abbrev pub qualified : List ℕ → List ℕ → VersionValue → VersionValue
-qualified pre build release = record release { pre_release = listed pre; build = listed build }
+-- a release with the identifiers behind it
+abbrev pub qualified : List Id → List Id → VersionValue → VersionValue
+qualified pre build release = record release { pre_release = pre; build = build }
+
+-- the version of the tuple at the front with the lists behind it, if its text is short enough
 
 unfoldable pub version_front : Bool → Bool → ℕ → List ℕ → Option VersionValue
 version_front included zeros limit text =
@@ -123,4 +125,4 @@ version_front included zeros limit text =
     let pre = marked_front included true 45 (drop (tuple_len text) text) in
     let build = marked_front included false 43 pre.1 in
     if nat_le (length text - length build.1 + absent_len tuple) MAX_LENGTH
-    then option_map (qualified pre.0 build.0) (tuple_release zeros limit tuple) else None
+    then option_map (qualified (listed pre.0) (listed build.0)) (tuple_release zeros limit tuple) else None

@@ -287,17 +287,23 @@ fn absent_len(tuple: &[u8]) -> usize
     }
 }
 
+fn behind_first(text: &[u8]) -> &[u8]
+    ensures { result.now ≡ drop 1 text.now }
+{
+    match text {
+        [_, rest @ ..] => rest,
+        [] => text,
+    }
+}
+
 // The list behind a mark at the front, and what stands behind it.
 fn marked_list(included: bool, strict: bool, mark: u8, text: &[u8]) -> (&[u8], &[u8])
     ensures listed { is_listed result.0.now ≡ true }
     ensures value { pair_view result ≡ Spec.marked_front included strict mark text.now }
 {
     let len = marked_end(included, strict, mark, text, 0, &mut Stretch::empty());
-    let (list, rest) = text.split_at(len);
-    match list {
-        [_, list @ ..] => (list, rest),
-        [] => (list, rest),
-    }
+    let (marked, rest) = text.split_at(len);
+    (behind_first(marked), rest)
 }
 
 // The version of the tuple at the front and of what it goes on with.
