@@ -15,7 +15,7 @@ use Rattle.nodejs_semver.specs.Internal.NpmTuples.{tuple_len_at, version_front}
 use Rattle.nodejs_semver.specs.Npm.Coerced.{IsCoerced, IsContinuedIn, IsMarkedList, IsRelease, absent, marked, one, three, two, unmarked}
 use Rattle.semver_core.proofs.Text.Pieces.{rest_at}
 use Rattle.std.specs.List.{count_by}
-use Rattle.nodejs_semver.proofs.Common.{if◌then◌else◌}
+use Rattle.nodejs_semver.proofs.Common.{MAX_SAFE_INTEGER, if◌then◌else◌, take_rest}
 use Rattle.nodejs_semver.specs.Npm.Coerced as Npm
 
 -- ---- runs
@@ -343,7 +343,7 @@ end-some included text at h = elim (cases_Bool (tuple_len_at text at == 0)) [
 pub rightmost-chosen : (included : Bool) (text : List ℕ) (at : ℕ) → IsLastPlace included text at → Chooses IsRightmost included text at
 rightmost-chosen included text at h =
     let here : end_at included text at ≡ h.end = h.is.here h.some in
-    let p = place included text at h.is.inside (end-some included text at (omega (arith, here, h.some))) in
+    let p = place included text at h.is.before (end-some included text at (omega (arith, here, h.some))) in
     let whole = total included text (take at text) p.whole p.back p.is in
     let before : (x y z : List ℕ) → IsContinuedIn included text x y z → length x < length text = λ x y z is.
         omega (arith, total included text x y z is, size included text x y z is, tuple-some is.tuple is.found.runs is.found.is) in
@@ -365,6 +365,39 @@ rightmost-chosen included text at h =
           let e : length x ≡ at = omega (arith, whole, p.front, same, long, total included text x y z is) in
           (e, omega (arith, p.end, e, long));
     }
+
+pub last_begin : (included : Bool) (text : List ℕ) → IsLastBefore included text 0 0 0
+last_begin included text = grind (arith, nat_tests, common_steps)
+
+pub last_kept : (included : Bool) (text : List ℕ) (at start end there : ℕ) → there ≡ end_at included text at → there ≤ end
+    → IsLastBefore included text at start end → IsLastBefore included text (at + 1) start end
+last_kept included text at start end there e le h = record {
+  before = omega arith;
+  here = h.here;
+  last = λ x lt. elim (cases_lt x at) [
+    | inl sooner ↦ h.last x sooner
+    | inr past ↦ let same : x ≡ at = omega arith in rw same (omega (arith, e, le))
+  ];
+  longest = λ x lt some tie. elim (cases_lt x at) [
+    | inl sooner ↦ h.longest x sooner some tie
+    | inr past ↦ omega (arith, past, h.before)
+  ];
+}
+
+pub last_taken : (included : Bool) (text : List ℕ) (at start end there : ℕ) → there ≡ end_at included text at → end < there
+    → IsLastBefore included text at start end → IsLastBefore included text (at + 1) at there
+last_taken included text at start end there e more h = record {
+  before = omega arith;
+  here = λ _. sym e;
+  last = λ x lt. elim (cases_lt x at) [
+    | inl sooner ↦ omega (arith, more, h.last x sooner)
+    | inr past ↦ let same : x ≡ at = omega arith in rw same (omega (arith, e))
+  ];
+  longest = λ x lt some tie. elim (cases_lt x at) [
+    | inl sooner ↦ absurd (omega (arith, more, tie, h.last x sooner))
+    | inr past ↦ past
+  ];
+}
 
 -- ---- the numbers of a tuple
 
@@ -531,26 +564,44 @@ module _ (included zeros : Bool) (limit : ℕ) (N : Number) (C : Chosen) (reads 
             }
       ]
 
-  pub coerced-some : (at : ℕ) → Chooses C included text at → (o : Option VersionValue) → o ≡ version_front included zeros limit (drop at text)
-      → IfSome o (IsCoerced included C N text)
-  coerced-some at h None e = tt
-  coerced-some at h (Some v) e = coerced-found at h v (sym e)
+in-reading : (zeros : Bool) → Reads zeros MAX_SAFE_INTEGER (IsNumberIn zeros)
+in-reading true = loose-reads MAX_SAFE_INTEGER
+in-reading false = strict-reads MAX_SAFE_INTEGER
 
-  pub coerced-none : (at : ℕ) → Chooses C included text at → (o : Option VersionValue) → o ≡ version_front included zeros limit (drop at text)
-      → IfNone o (NoValue (IsCoerced included C N text))
-  coerced-none at h (Some v) e = tt
-  coerced-none at h None e = λ v w.
+-- ---- what the code returns, over the bytes of the text
+
+module _ (included zeros : Bool) (C : Chosen) (text bytes : List ℕ) where
+  abbrev pub Is : VersionValue → Type 0
+  Is = IsCoerced included C (IsNumberIn zeros) text
+
+  abbrev pub found-at : ℕ → Option VersionValue
+  found-at at = version_front included zeros MAX_SAFE_INTEGER (take (length bytes - at) (drop at bytes))
+
+  pub coerced_some : (o : Option VersionValue) (at : ℕ) → bytes ≡ text → Chooses C included bytes at → o ≡ found-at at → IfSome o Is
+  coerced_some None at same h e = tt
+  coerced_some (Some v) at same h e =
+      rw (← same) (coerced-found included zeros MAX_SAFE_INTEGER (IsNumberIn zeros) C (in-reading zeros) bytes at h v
+      (rw (take_rest bytes at) at (sym e)))
+
+  pub coerced_none : (o : Option VersionValue) (at : ℕ) → bytes ≡ text → Chooses C included bytes at → o ≡ found-at at → IfNone o (NoValue Is)
+  coerced_none (Some v) at same h e = tt
+  coerced_none None at same h e = rw (← same) (λ v w.
       let o = h.only w.front w.whole w.back w.found w.chosen in
-      let read = coerced-read v w (omega (arith, o.1, ap (λ (n : ℕ). end_at included text n) o.0)) in
-      cc (rw o.0 at read, e)
+      let fits : end_at included bytes (length w.front) ≤ length w.front + length w.whole =
+      omega (arith, o.1, ap (λ (n : ℕ). end_at included bytes n) o.0) in
+      let read = coerced-read included zeros MAX_SAFE_INTEGER (IsNumberIn zeros) C (in-reading zeros) bytes v w fits in
+      let none = rw (take_rest bytes at, ← o.0) at e in
+      cc (none ∙ read))
 
--- where there is no tuple, nothing is found
-pub coerced-absent : (included : Bool) (C : Chosen) (N : Number) (text : List ℕ) → BeginsAfter text (length text)
-    → NoValue (IsCoerced included C N text)
-coerced-absent included C N text h = λ v w.
-    let is = w.found in
-    let some = some-at included text w.front w.whole w.back is in
-    let whole = total included text w.front w.whole w.back is in
-    let front = size included text w.front w.whole w.back is in
-    let tuple = tuple-some is.tuple is.found.runs is.found.is in
-    absurd (omega (arith, some, h (length w.front) (omega (arith, whole, front, tuple))))
+  -- where there is no tuple, nothing is found
+  pub coerced_absent : (o : Option VersionValue) → bytes ≡ text → BeginsAfter bytes (length bytes) → IfNone o (NoValue Is)
+  coerced_absent (Some v) same h = tt
+  coerced_absent None same h = rw (← same) (λ v w.
+      let is = w.found in
+      let whole = total included bytes w.front w.whole w.back is in
+      let front = size included bytes w.front w.whole w.back is in
+      let tuple = tuple-some is.tuple is.found.runs is.found.is in
+      absurd (omega (arith, some-at included bytes w.front w.whole w.back is, h (length w.front) (omega (arith, whole, front, tuple)))))
+
+pub ruleset absents = (coerced_absent)
+

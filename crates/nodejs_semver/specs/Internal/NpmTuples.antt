@@ -75,7 +75,7 @@ pub record IsFirstPlace (text : List ℕ) (at : ℕ) : Type 0 where
 
 -- of the tuples that begin before a place none ends later than the one here, and none that ends there begins sooner
 pub record IsLastBefore (included : Bool) (text : List ℕ) (place start end : ℕ) : Type 0 where
-  pub inside : start ≤ length text
+  pub before : start ≤ place
   pub here : 0 < end → end_at included text start ≡ end
   pub last : (x : ℕ) → x < place → end_at included text x ≤ end
   pub longest : (x : ℕ) → x < place → 0 < end → end_at included text x ≡ end → start ≤ x

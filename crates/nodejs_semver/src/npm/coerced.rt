@@ -328,6 +328,7 @@ fn version_front(included: bool, zeros: bool, text: &[u8]) -> Option<VersionRef<
 }
 
 // The version that is found from the left, with its pre-release and its build or without.
+#[tactic(auto, using(crate::proofs::NpmTexts::Coerced::absents))]
 fn leftmost(included: bool, zeros: bool, text: &str) -> Option<VersionRef<'_>>
     ensures some { IfSome result (IsCoerced included IsLeftmost (IsNumberIn zeros) text.now) }
     ensures none { IfNone result
@@ -338,6 +339,7 @@ fn leftmost(included: bool, zeros: bool, text: &str) -> Option<VersionRef<'_>>
 }
 
 // The same from the right.
+#[tactic(auto, using(crate::proofs::NpmTexts::Coerced::absents))]
 fn rightmost(included: bool, zeros: bool, text: &str) -> Option<VersionRef<'_>>
     ensures some { IfSome result (IsCoerced included IsRightmost (IsNumberIn zeros) text.now) }
     ensures none { IfNone result
