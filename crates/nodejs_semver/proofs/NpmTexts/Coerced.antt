@@ -175,14 +175,16 @@ tuple-here text at inside some = elim (cases_Bool (ends is_ascii_digit (take at 
       let len = tuple_len (drop at text) in
       let s = span-at (drop at text) len refl (rw dark at some) in
       let taken : take len (drop at text) ≡ s.tuple = ap (λ (t : List ℕ). take len t) s.split ∙ take_at s.tuple s.rest len s.long in
-      let left : drop len (drop at text) ≡ s.rest = ap (λ (t : List ℕ). drop len t) s.split ∙ drop_at s.tuple s.rest len s.long in
-      (record {
-        divided = rw (taken, left) (sym (take-append-drop at text) ∙ ap (λ (t : List ℕ). take at text ++ t) s.split);
-        runs = s.runs;
-        is = rw taken s.is;
-        begun = dark;
-        ended = rw left s.ended;
-      }, rw taken s.long)
+      let left : drop len (drop at text) ≡ s.rest = ap (λ (t : List ℕ). drop len t) s.split ∙ drop_at s.tuple s.rest len s.long in (
+        record {
+          divided = rw (taken, left) (sym (take-append-drop at text) ∙ ap (λ (t : List ℕ). take at text ++ t) s.split);
+          runs = s.runs;
+          is = rw taken s.is;
+          begun = dark;
+          ended = rw left s.ended;
+        },
+        rw taken s.long,
+      )
 ]
 
 -- ---- a tuple with what it goes on with
@@ -209,9 +211,13 @@ module _ (included : Bool) (text x y z : List ℕ) (is : IsContinuedIn included 
 
   len-at : tuple_len_at text (length x) ≡ tuple_len (is.tuple ++ (is.pre ++ (is.build ++ z)))
   len-at = rw (front, is.found.begun, there) refl
+
   some-at : 0 < tuple_len_at text (length x)
-  some-at = rw len-at (omega (arith, tuple-some is.tuple is.found.runs is.found.is,
-      span-longest is.tuple (is.pre ++ (is.build ++ z)) is.found.runs is.found.is is.found.ended))
+  some-at = rw len-at (omega (
+    arith,
+    tuple-some is.tuple is.found.runs is.found.is,
+    span-longest is.tuple (is.pre ++ (is.build ++ z)) is.found.runs is.found.is is.found.ended,
+  ))
 
   -- what it goes on with is read, if its tuple is the longest there
   exact : tuple_len (is.tuple ++ (is.pre ++ (is.build ++ z))) ≡ length is.tuple → end_at included text (length x) ≡ length x + length y
@@ -248,8 +254,15 @@ reached included text x y z is =
         | inl dot ↦
             let no_pre = unmarked-dot included true 45 is.pre (is.build ++ z) is.pre_ids refl is.pre_is dot in
             let no_build = unmarked-dot included false 43 is.build z is.build_ids refl is.build_is (rw no_pre at dot) in
-            inr (omega (arith, less, size included text x y z is, ap length no_pre, ap length no_build, len-at included text x y z is,
-            end-le included text (length x) (some-at included text x y z is)))
+            inr (omega (
+              arith,
+              less,
+              size included text x y z is,
+              ap length no_pre,
+              ap length no_build,
+              len-at included text x y z is,
+              end-le included text (length x) (some-at included text x y z is),
+            ))
       ]
     ]
 
@@ -346,15 +359,23 @@ rightmost-chosen included text at h =
     let p = place included text at h.is.before (end-some included text at (omega (arith, here, h.some))) in
     let whole = total included text (take at text) p.whole p.back p.is in
     let before : (x y z : List ℕ) → IsContinuedIn included text x y z → length x < length text = λ x y z is.
-        omega (arith, total included text x y z is, size included text x y z is, tuple-some is.tuple is.found.runs is.found.is) in
+    omega (arith, total included text x y z is, size included text x y z is, tuple-some is.tuple is.found.runs is.found.is) in
     let last : (x y z : List ℕ) → IsContinuedIn included text x y z → length p.back ≤ length z = λ x y z is.
-        omega (arith, whole, p.front, p.end, here, total included text x y z is, reaches included text x y z is,
-        h.is.last (length x) (before x y z is)) in
+    omega (
+      arith,
+      whole,
+      p.front,
+      p.end,
+      here,
+      total included text x y z is,
+      reaches included text x y z is,
+      h.is.last (length x) (before x y z is),
+    ) in
     let longest : (x y z : List ℕ) → IsContinuedIn included text x y z → length z ≡ length p.back → length y ≤ length p.whole = λ x y z is same.
-        let sum : length x + length y ≡ h.end = omega (arith, whole, p.front, p.end, here, same, total included text x y z is) in
-        let there : end_at included text (length x) ≡ h.end =
-        omega (arith, sum, reaches included text x y z is, h.is.last (length x) (before x y z is)) in
-        omega (arith, sum, p.end, here, h.is.longest (length x) (before x y z is) h.some there) in
+    let sum : length x + length y ≡ h.end = omega (arith, whole, p.front, p.end, here, same, total included text x y z is) in
+    let there : end_at included text (length x) ≡ h.end =
+    omega (arith, sum, reaches included text x y z is, h.is.last (length x) (before x y z is)) in
+    omega (arith, sum, p.end, here, h.is.longest (length x) (before x y z is) h.some there) in
     record {
       found = p;
       chosen = record { last = last; longest = longest };
@@ -511,8 +532,13 @@ Number = List ℕ → ℕ → Type 0
 short-same : (tuple pre build : List ℕ) (runs : List (List ℕ)) → IsTuple tuple runs
     → length (tuple ++ (absent runs ++ (pre ++ build))) ≡ length tuple + (length pre + length build) + absent_len tuple
 short-same tuple pre build runs h =
-    omega (arith, length-append tuple (absent runs ++ (pre ++ build)), length-append (absent runs) (pre ++ build), length-append pre build,
-    absent-len tuple runs h)
+    omega (
+      arith,
+      length-append tuple (absent runs ++ (pre ++ build)),
+      length-append (absent runs) (pre ++ build),
+      length-append pre build,
+      absent-len tuple runs h,
+    )
 
 longest-at : (included : Bool) (text x y z : List ℕ) (is : IsContinuedIn included text x y z) → end_at included text (length x) ≤ length x + length y
     → tuple_len (is.tuple ++ (is.pre ++ (is.build ++ z))) ≡ length is.tuple
@@ -568,6 +594,55 @@ in-reading : (zeros : Bool) → Reads zeros MAX_SAFE_INTEGER (IsNumberIn zeros)
 in-reading true = loose-reads MAX_SAFE_INTEGER
 in-reading false = strict-reads MAX_SAFE_INTEGER
 
+-- ---- at most one version is found
+
+-- what is chosen reaches as far as anything at its place, and all that is chosen begins there
+pub record IsSettled (C : Chosen) : Type 0 where
+  pub farthest : (included : Bool) (text x y z : List ℕ) → IsContinuedIn included text x y z → C included text x y z
+      → end_at included text (length x) ≤ length x + length y
+  pub place : (included : Bool) (text f g h x y z : List ℕ) → IsContinuedIn included text f g h → C included text f g h
+      → IsContinuedIn included text x y z → C included text x y z → length f ≡ length x
+
+-- what stands at the place of another
+beside : (included : Bool) (text x y z : List ℕ) → IsContinuedIn included text x y z → Place included text (length x)
+beside included text x y z is = place included text (length x) (omega (arith, total included text x y z is)) (some-at included text x y z is)
+
+pub leftmost-settled : IsSettled IsLeftmost
+leftmost-settled = record {
+  farthest = λ included text x y z is c.
+      let p = beside included text x y z is in
+      omega (arith, p.end, c.longest (take (length x) text) p.whole p.back p.is p.front);
+  place = λ included text f g h x y z is c of d. omega (arith, c.first x y z of, d.first f g h is);
+}
+
+pub rightmost-settled : IsSettled IsRightmost
+rightmost-settled = record {
+  farthest = λ included text x y z is c.
+      let p = beside included text x y z is in
+      omega (
+        arith,
+        p.end,
+        p.front,
+        c.last (take (length x) text) p.whole p.back p.is,
+        total included text x y z is,
+        total included text (take (length x) text) p.whole p.back p.is,
+      );
+  place = λ included text f g h x y z is c of d.
+      let same : length h ≡ length z = omega (arith, c.last x y z of, d.last f g h is) in
+      omega (arith, same, c.longest x y z of (sym same), d.longest f g h is same, total included text f g h is, total included text x y z of);
+}
+
+pub coerced-once : (included zeros : Bool) (C : Chosen) (text : List ℕ) (v w : VersionValue) → IsSettled C
+    → IsCoerced included C (IsNumberIn zeros) text v → IsCoerced included C (IsNumberIn zeros) text w → v ≡ w
+coerced-once included zeros C text v w s h k =
+    let N = IsNumberIn zeros in
+    let same = s.place included text h.front h.whole h.back k.front k.whole k.back h.found h.chosen k.found k.chosen in
+    let one = coerced-read included zeros MAX_SAFE_INTEGER N C (in-reading zeros) text v h
+    (s.farthest included text h.front h.whole h.back h.found h.chosen) in
+    let other = coerced-read included zeros MAX_SAFE_INTEGER N C (in-reading zeros) text w k
+    (s.farthest included text k.front k.whole k.back k.found k.chosen) in
+    same_Some _ _ (sym (rw same at one) ∙ other)
+
 -- ---- what the code returns, over the bytes of the text
 
 module _ (included zeros : Bool) (C : Chosen) (text bytes : List ℕ) where
@@ -604,4 +679,3 @@ module _ (included zeros : Bool) (C : Chosen) (text bytes : List ℕ) where
       absurd (omega (arith, some-at included bytes w.front w.whole w.back is, h (length w.front) (omega (arith, whole, front, tuple)))))
 
 pub ruleset absents = (coerced_absent)
-

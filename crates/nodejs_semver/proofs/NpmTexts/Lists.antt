@@ -125,7 +125,6 @@ len_past strict text i past = rw (drop_all i text past) refl
 
 pub ruleset list_lens = (len_step, len_stop, len_past, take_rest)
 
-
 -- ---- the pieces of a list
 
 abbrev first_piece : List (List ℕ) → List ℕ
@@ -179,7 +178,7 @@ taken strict (c ∷ t) = elim (cases_Bool (goes_on_in strict (c ∷ t))) [
 
 list-taken : (strict : Bool) (t : List ℕ) → begins_identifier_in strict t ≡ true
     → list_all (is_identifier_in strict) (pieces (take (list_len_in strict t) t)) ≡ true
-list-taken strict t h = let r = taken strict t in 
+list-taken strict t h = let r = taken strict t in
     all-pieces (is_identifier_in strict) (pieces (take (list_len_in strict t) t)) (rw r.front h) r.others
 
 list-ended : (strict : Bool) (t : List ℕ) → goes_on_in strict (drop (list_len_in strict t) t) ≡ false
@@ -297,8 +296,7 @@ marked-read included strict mark p more l (marked t rest inc all stop) =
     let first = first-is strict (pieces t) (pieces-some t) all in
     let r = are-read strict t rest (id-chars strict (first_piece (pieces t)) first) (later-are strict (pieces t) all) stop in
     let begins : begins_identifier_in strict (t ++ rest) ≡ true = rw r.front first in
-    let same : (mark == mark) ≡ true = grind (arith, nat_tests) in
-    (
+    let same : (mark == mark) ≡ true = grind (arith, nat_tests) in (
       rw (inc, same, begins, r.len) (omega arith),
       written-spelled t (map identifier_of (pieces t)) (record { runs = plain-ids strict (pieces t) all; spelled = refl }),
     )
