@@ -32,7 +32,10 @@ mod versions;
 mod words;
 
 pub use crate::npm::builds::cmp_build;
-pub use crate::npm::coerced::{coerce, coerce_loose, coerce_rtl, coerce_rtl_loose};
+pub use crate::npm::coerced::{
+    coerce, coerce_loose, coerce_rtl, coerce_rtl_loose, coerce_rtl_with_prerelease,
+    coerce_rtl_with_prerelease_loose, coerce_with_prerelease, coerce_with_prerelease_loose,
+};
 pub use crate::npm::flaws::{Flaw, Wrong, version_flaw};
 pub use crate::npm::loose_versions::version_loose;
 pub use crate::npm::range_flaws::{RangeFlaw, range_flaw};

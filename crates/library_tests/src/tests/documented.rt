@@ -40,6 +40,18 @@ fn npm_coerce_rtl(rt: HostRuntime) {
 }
 
 #[test]
+fn npm_coerce_with_prerelease(rt: HostRuntime) {
+    let found = npm::coerce_with_prerelease("v1.2-rc.3 (beta)");
+    assert!(rt; found == VersionRef::parse("1.2.0-rc.3").ok());
+}
+
+#[test]
+fn npm_coerce_rtl_with_prerelease(rt: HostRuntime) {
+    let found = npm::coerce_rtl_with_prerelease("app-2 1.4.0-b.1");
+    assert!(rt; found == VersionRef::parse("1.4.0-b.1").ok());
+}
+
+#[test]
 fn npm_range(rt: HostRuntime) -> Result<(), Fail> {
     let alloc = rt.alloc();
     let version = VersionRef::parse("3.1.4")?;

@@ -8,7 +8,7 @@ ghost use Rattle.nodejs_semver.specs.Versions.{VersionValue};
 
 use super::{found_prints, prints};
 use nodejs_semver::{MAX_SAFE_INTEGER, SemverError, VersionRef, npm};
-use std::alloc::Global;
+use std::alloc::{AllocError, Global};
 
 // The first number of the version that a text is, read loosely.
 fn major_of(text: &str) -> Result<u64, SemverError>
@@ -115,12 +115,53 @@ const FOUND_LOOSELY: &[(&str, &str, &str)] = &[
     ("9007199254740992", "-", "-"),
 ];
 
+// The same with pre-releases included.
+const FOUND_WITH_PRERELEASE: &[(&str, &str, &str)] = &[
+    ("v1.2-rc.3+b.4 (LTS)", "1.2.0-rc.3+b.4", "1.2.0-rc.3+b.4"),
+    ("1.2.3.4-rc", "1.2.3", "2.3.4-rc"),
+    ("app-2 1.4.0-b.1", "2.0.0", "1.4.0-b.1"),
+    ("2 1-2.3", "2.0.0", "1.0.0-2.3"),
+    ("1+2+3", "1.0.0+2", "2.0.0+3"),
+    ("1.2.3-a..b", "1.2.3-a", "1.2.3-a"),
+    ("1.2.3-a.01+b", "1.2.3-a", "-"),
+    ("1.2.3-01+b", "1.2.3", "-"),
+    ("1-2.01", "1.0.0-2", "-"),
+    ("1.2.3-+b", "1.2.3", "1.2.3"),
+    ("1.2.3--", "1.2.3--", "1.2.3--"),
+    ("01.2-a", "-", "-"),
+    ("", "-", "-"),
+];
+
+const FOUND_LOOSELY_WITH_PRERELEASE: &[(&str, &str, &str)] = &[
+    ("01.2-a", "1.2.0-a", "1.2.0-a"),
+    ("1-2.01", "1.0.0-2", "2.1.0"),
+    ("1.2.3-01+b", "1.2.3", "1.0.0+b"),
+];
+
 fn finds(alloc: Global, found: Option<VersionRef<'_>>, printed: &str) -> bool {
     if printed == "-" {
         found.is_none()
     } else {
         found_prints(alloc, found, printed)
     }
+}
+
+#[test]
+fn pre_releases_are_found_in_texts(rt: HostRuntime) -> Result<(), AllocError> {
+    let alloc = rt.alloc();
+    for (text, first, last) in FOUND_WITH_PRERELEASE {
+        assert!(rt; finds(alloc, npm::coerce_with_prerelease(text), first));
+        assert!(rt; finds(alloc, npm::coerce_rtl_with_prerelease(text), last));
+    }
+    for (text, first, last) in FOUND_LOOSELY_WITH_PRERELEASE {
+        assert!(rt; finds(alloc, npm::coerce_with_prerelease_loose(text), first));
+        assert!(rt; finds(alloc, npm::coerce_rtl_with_prerelease_loose(text), last));
+    }
+    let longest = format!(in alloc; "1-{}", "a".repeat(alloc, 250)?)?;
+    assert!(rt; npm::coerce_with_prerelease(longest.as_str()).is_some());
+    let too_long = format!(in alloc; "{longest}a")?;
+    assert!(rt; npm::coerce_with_prerelease(too_long.as_str()).is_none());
+    Ok(())
 }
 
 #[test]

@@ -1,15 +1,21 @@
--- The tuple that `coerce` looks for: the longest at a place, the leftmost and the one that ends last; and its version.
-use Rattle.nodejs_semver.proofs.Common.{Bool, IfNone, IfSome, IsNumber, List, None, Option, Some, VersionValue, [], ap, append-nil}
+-- The tuple that `coerce` looks for: the longest at a place with what it goes on with, the leftmost and the one that ends last; and its version.
+use Rattle.nodejs_semver.proofs.Common.{Bool, Id, IfNone, IfSome, IsNumber, List, None, Option, Some, VersionValue, [], ap, append-nil}
 use Rattle.nodejs_semver.proofs.Common.{append_assoc, arith, begins, bind_some, cases_Bool, cases_lt, common_steps, drop, drop_at, ends}
 use Rattle.nodejs_semver.proofs.Common.{eqb-true, false, get_or, inl, inr, is_ascii_digit, length, length-append, length-drop}
-use Rattle.nodejs_semver.proofs.Common.{length-take-le, nat_tests, prefix_len, refl, same_Some, subst, sym, take, take-append-drop}
-use Rattle.nodejs_semver.proofs.{Common.{take_at, true, ℕ, ◌++◌, ◌+◌, ◌-◌, ◌<◌, ◌==◌, ◌∙◌, ◌∷◌, ◌≡◌, ◌≤◌, ◌⊎◌}, NpmCommon.IsLastBefore}
-use Rattle.nodejs_semver.proofs.NpmCommon.{IsLeftmost, IsRightmost, IsRun, IsStrictNumber, IsTuple, IsTupleIn, NoValue, drop-append-add}
-use Rattle.nodejs_semver.proofs.NpmCommon.{has_leading_zero, length-prefix_len, nat_le, number_front, strict_number, tuple_len}
-use Rattle.nodejs_semver.proofs.{NpmCommon.tuple_release, Reading.Numbers.{digits-taken, number-is, number-read, run-ends}}
+use Rattle.nodejs_semver.proofs.Common.{length-take-le, list_all, nat_tests, option_map, prefix_len, refl, same_Some, subst, sym, take}
+use Rattle.nodejs_semver.proofs.Common.{take-append-drop, take_at, true, ℕ, ◌++◌, ◌+◌, ◌-◌, ◌<◌, ◌==◌, ◌∙◌, ◌∷◌, ◌≡◌, ◌≤◌, ◌⊎◌}
+use Rattle.nodejs_semver.proofs.NpmCommon.{IsLastBefore, IsLeftmost, IsRightmost, IsRun, IsStrictNumber, IsTuple, IsTupleIn, MAX_LENGTH}
+use Rattle.nodejs_semver.proofs.NpmCommon.{NoValue, begins_byte, drop-append-add, has_leading_zero, length-prefix_len, listed, nat_le}
+use Rattle.nodejs_semver.proofs.{NpmCommon.{number_front, strict_number, tuple_len, tuple_release}, NpmTexts.Lists.{marked-found, marked-read}}
+use Rattle.nodejs_semver.proofs.Reading.Numbers.{digits-taken, number-is, number-read, run-ends}
 use Rattle.nodejs_semver.proofs.Strict.{Malformed.last-byte, PartialLaw.digits-of, VersionLaw.{padded-same, strict-read}}
-use Rattle.nodejs_semver.specs.Internal.NpmTuples.{HasNoTuple, IsLongestAt, behind_first, dotted_len, number_in_reading, run_len}
-use Rattle.{nodejs_semver.specs.Npm.Coerced.{IsCoerced, IsRelease, one, three, two}, semver_core.proofs.Text.Pieces.rest_at}
+use Rattle.nodejs_semver.specs.Internal.NpmTuples.{BeginsAfter, IsFirstPlace, IsLastPlace, IsNumberIn, absent_len, behind_first, build_len}
+use Rattle.nodejs_semver.specs.Internal.NpmTuples.{dotted_len, end_at, marked_len, number_in_reading, pre_len, qualified, run_len}
+use Rattle.nodejs_semver.specs.Internal.NpmTuples.{tuple_len_at, version_front}
+use Rattle.nodejs_semver.specs.Npm.Coerced.{IsCoerced, IsContinuedIn, IsMarkedList, IsRelease, absent, marked, one, three, two, unmarked}
+use Rattle.semver_core.proofs.Text.Pieces.{rest_at}
+use Rattle.std.specs.List.{count_by}
+use Rattle.nodejs_semver.proofs.Common.{MAX_SAFE_INTEGER, if◌then◌else◌, take_rest}
 use Rattle.nodejs_semver.specs.Npm.Coerced as Npm
 
 -- ---- runs
@@ -118,13 +124,10 @@ span-at text n e some = elim (cases_Bool (run_len text == 0)) [
               }
         ]
 
--- no tuple at the front is longer
-span-longest : (y z : List ℕ) (runs : List (List ℕ)) → IsTuple y runs → begins is_ascii_digit z ≡ false → length y ≤ tuple_len (y ++ z)
+span-three : (a b c z : List ℕ) → IsRun a → IsRun b → IsRun c → begins is_ascii_digit z ≡ false
+    → tuple_len ((a ++ (46 ∷ (b ++ (46 ∷ c)))) ++ z) ≡ length (a ++ (46 ∷ (b ++ (46 ∷ c))))
 unfolding tuple_len
-span-longest y z runs (one a h) stop = grind (arith, nat_tests, common_steps, run-long)
-span-longest y z runs (two a b h k) stop =
-    grind (arith, nat_tests, common_steps, append_assoc, run-long, drop_at, dotted-long, length-append)
-span-longest y z runs (three a b c h k m) stop =
+span-three a b c z h k m stop =
     let some : (length a == 0) ≡ false = grind (arith, nat_tests, h.some) in
     let more : (1 + length b == 0) ≡ false = grind (arith, nat_tests) in
     let u = 46 ∷ (c ++ z) in
@@ -134,6 +137,27 @@ span-longest y z runs (three a b c h k m) stop =
     drop-append-add a (46 ∷ (b ++ u)) (1 + length b) ∙ drop_at (46 ∷ b) u (1 + length b) (omega arith) in
     grind (arith, nat_tests, common_steps, run-long, drop_at, dotted-long, length-append)
 
+-- no tuple at the front is longer
+span-longest : (y z : List ℕ) (runs : List (List ℕ)) → IsTuple y runs → begins is_ascii_digit z ≡ false → length y ≤ tuple_len (y ++ z)
+unfolding tuple_len
+span-longest y z runs (one a h) stop = grind (arith, nat_tests, common_steps, run-long)
+span-longest y z runs (two a b h k) stop =
+    grind (arith, nat_tests, common_steps, append_assoc, run-long, drop_at, dotted-long, length-append)
+span-longest y z runs (three a b c h k m) stop = omega (arith, span-three a b c z h k m stop)
+
+-- behind a tuple that is not the longest a dot stands
+dotted-none : (z : List ℕ) → begins_byte 46 z ≡ false → dotted_len z ≡ 0
+dotted-none [] h = refl
+dotted-none (c ∷ z) h = rw h refl
+
+span-exact : (y z : List ℕ) (runs : List (List ℕ)) → IsTuple y runs → begins is_ascii_digit z ≡ false → begins_byte 46 z ≡ false
+    → tuple_len (y ++ z) ≡ length y
+unfolding tuple_len
+span-exact y z runs (one a h) stop dark = grind (arith, nat_tests, common_steps, run-long, drop_at, dotted-none)
+span-exact y z runs (two a b h k) stop dark =
+    grind (arith, nat_tests, common_steps, append_assoc, run-long, drop_at, dotted-long, dotted-none, length-append, drop-append-add)
+span-exact y z runs (three a b c h k m) stop dark = span-three a b c z h k m stop
+
 -- ---- the longest tuple at a place
 
 pub last_before : (text : List ℕ) (at d : ℕ) → 0 < at → at ≤ length text
@@ -142,110 +166,259 @@ last_before text at d some fits =
     let long = length-take-le at text fits in
     rw (take-append-drop at text, long) at (last-byte is_ascii_digit (take at text) (drop at text) d (omega (arith, long, some)))
 
--- where a digit stands before, no tuple begins
-pub longest_none : (text : List ℕ) (at : ℕ) → at ≤ length text → ends is_ascii_digit (take at text) ≡ true → IsLongestAt text at 0
-longest_none text at fits digit = grind (arith, nat_tests, common_steps)
-
-pub longest_some : (text : List ℕ) (at len : ℕ) → at ≤ length text → ends is_ascii_digit (take at text) ≡ false
-    → len ≡ tuple_len (drop at text) → len ≤ length (drop at text) → IsLongestAt text at len
-longest_some text at len inside dark e short = record {
-  fits = omega (arith, short, inside, length-drop at text);
-  here = λ some.
-      let s = span-at (drop at text) len e some in
+tuple-here : (text : List ℕ) (at : ℕ) → at ≤ length text → 0 < tuple_len_at text at
+    → IsTupleIn text (take at text) (take (tuple_len (drop at text)) (drop at text)) (drop (tuple_len (drop at text)) (drop at text))
+    × (length (take (tuple_len (drop at text)) (drop at text)) ≡ tuple_len (drop at text))
+tuple-here text at inside some = elim (cases_Bool (ends is_ascii_digit (take at text))) [
+  | inl digit ↦ absurd (omega (arith, rw digit at some))
+  | inr dark ↦
+      let len = tuple_len (drop at text) in
+      let s = span-at (drop at text) len refl (rw dark at some) in
       let taken : take len (drop at text) ≡ s.tuple = ap (λ (t : List ℕ). take len t) s.split ∙ take_at s.tuple s.rest len s.long in
-      let left : drop (at + len) text ≡ s.rest = rest_at text at (at + len) s.tuple s.rest s.split (omega (arith, s.long)) in
-      record {
-        divided = rw (taken, left) (sym (take-append-drop at text) ∙ ap (λ (t : List ℕ). take at text ++ t) s.split);
-        runs = s.runs;
-        is = rw taken s.is;
-        begun = dark;
-        ended = rw left s.ended;
-      };
-  longest = grind (arith, nat_tests, common_steps, drop_at, span-longest);
-}
+      let left : drop len (drop at text) ≡ s.rest = ap (λ (t : List ℕ). drop len t) s.split ∙ drop_at s.tuple s.rest len s.long in (
+        record {
+          divided = rw (taken, left) (sym (take-append-drop at text) ∙ ap (λ (t : List ℕ). take at text ++ t) s.split);
+          runs = s.runs;
+          is = rw taken s.is;
+          begun = dark;
+          ended = rw left s.ended;
+        },
+        rw taken s.long,
+      )
+]
 
-record Parts (text x y z : List ℕ) : Type 0 where
-  whole : length text ≡ length x + (length y + length z)
-  some : 0 < length y
+-- ---- a tuple with what it goes on with
 
-parts : (text x y z : List ℕ) → IsTupleIn text x y z → Parts text x y z
-parts text x y z is = grind (arith, nat_tests, common_steps)
+tuple-some : (t : List ℕ) (runs : List (List ℕ)) → IsTuple t runs → 0 < length t
+tuple-some t runs (one a h) = h.some
+tuple-some t runs (two a b h k) = omega (arith, length-append a (46 ∷ b))
+tuple-some t runs (three a b c h k m) = omega (arith, length-append a (46 ∷ (b ++ (46 ∷ c))))
 
--- ---- the leftmost tuple
+module _ (included : Bool) (text x y z : List ℕ) (is : IsContinuedIn included text x y z) where
+  there : drop (length x) text ≡ is.tuple ++ (is.pre ++ (is.build ++ z))
+  there = ap (λ (t : List ℕ). drop (length x) t) is.found.divided ∙ drop_at x (is.tuple ++ (is.pre ++ (is.build ++ z))) (length x) refl
 
-abbrev pub BeginsAfter : List ℕ → ℕ → Type 0
-BeginsAfter text at = (x y z : List ℕ) → IsTupleIn text x y z → at ≤ length x
+  front : take (length x) text ≡ x
+  front = ap (λ (t : List ℕ). take (length x) t) is.found.divided ∙ take_at x (is.tuple ++ (is.pre ++ (is.build ++ z))) (length x) refl
 
-pub first_step : (text : List ℕ) (at len : ℕ) → IsLongestAt text at len → len ≤ 0 → BeginsAfter text at → BeginsAfter text (at + 1)
-first_step text at len there none after = λ x y z is.
-    let past = after x y z is in
-    let some = (parts text x y z is).some in
-    elim (cases_lt at (length x)) [
-      | inl more ↦ omega (arith, more)
-      | inr le ↦ absurd (omega (arith, some, none, there.longest x y z is (omega (arith, le, past))))
+  size : length y ≡ length is.tuple + (length is.pre + length is.build)
+  size = ap length is.joined ∙ length-append is.tuple (is.pre ++ is.build) ∙ omega (arith, length-append is.pre is.build)
+
+  total : length text ≡ length x + (length y + length z)
+  total =
+      ap length is.found.divided ∙ length-append x (is.tuple ++ (is.pre ++ (is.build ++ z)))
+      ∙ omega (arith, length-append is.tuple (is.pre ++ (is.build ++ z)), length-append is.pre (is.build ++ z), length-append is.build z, size)
+
+  len-at : tuple_len_at text (length x) ≡ tuple_len (is.tuple ++ (is.pre ++ (is.build ++ z)))
+  len-at = rw (front, is.found.begun, there) refl
+
+  some-at : 0 < tuple_len_at text (length x)
+  some-at = rw len-at (omega (
+    arith,
+    tuple-some is.tuple is.found.runs is.found.is,
+    span-longest is.tuple (is.pre ++ (is.build ++ z)) is.found.runs is.found.is is.found.ended,
+  ))
+
+  -- what it goes on with is read, if its tuple is the longest there
+  exact : tuple_len (is.tuple ++ (is.pre ++ (is.build ++ z))) ≡ length is.tuple → end_at included text (length x) ≡ length x + length y
+  exact e =
+      let some : (length is.tuple == 0) ≡ false = grind (arith, nat_tests, tuple-some is.tuple is.found.runs is.found.is) in
+      let behind : drop (length x + length is.tuple) text ≡ is.pre ++ (is.build ++ z) =
+      rest_at text (length x) (length x + length is.tuple) is.tuple (is.pre ++ (is.build ++ z)) there refl in
+      let pre = (marked-read included true 45 is.pre (is.build ++ z) is.pre_ids is.pre_is).0 in
+      let left = drop_at is.pre (is.build ++ z) (length is.pre) refl in
+      let build = (marked-read included false 43 is.build z is.build_ids is.build_is).0 in
+      rw (len-at, e, some, behind, pre, left, build) (omega (arith, size))
+
+end-le : (included : Bool) (text : List ℕ) (at : ℕ) → 0 < tuple_len_at text at → at + tuple_len_at text at ≤ end_at included text at
+end-le included text at some =
+    let other : (tuple_len_at text at == 0) ≡ false = grind (arith, nat_tests) in
+    rw other (omega arith)
+
+-- no dot begins a list with its mark
+unmarked-dot : (included strict : Bool) (mark : ℕ) (p more : List ℕ) (l : List Id) → (mark == 46) ≡ false
+    → IsMarkedList included strict mark p more l → begins_byte 46 (p ++ more) ≡ true → p ≡ []
+unmarked-dot included strict mark p more l other (unmarked rest h) dot = refl
+unmarked-dot included strict mark p more l other (marked t rest inc all stop) dot = cc (other, dot)
+
+-- the tuple is the longest there, or ends sooner than that one does
+reached : (included : Bool) (text x y z : List ℕ) (is : IsContinuedIn included text x y z)
+    → (tuple_len (is.tuple ++ (is.pre ++ (is.build ++ z))) ≡ length is.tuple) ⊎ (length x + length y < end_at included text (length x))
+reached included text x y z is =
+    let behind = is.pre ++ (is.build ++ z) in
+    let longest = span-longest is.tuple behind is.found.runs is.found.is is.found.ended in
+    elim (cases_lt (length is.tuple) (tuple_len (is.tuple ++ behind))) [
+      | inr le ↦ inl (omega (arith, le, longest))
+      | inl less ↦ elim (cases_Bool (begins_byte 46 behind)) [
+        | inr dark ↦ absurd (omega (arith, less, span-exact is.tuple behind is.found.runs is.found.is is.found.ended dark))
+        | inl dot ↦
+            let no_pre = unmarked-dot included true 45 is.pre (is.build ++ z) is.pre_ids refl is.pre_is dot in
+            let no_build = unmarked-dot included false 43 is.build z is.build_ids refl is.build_is (rw no_pre at dot) in
+            inr (omega (
+              arith,
+              less,
+              size included text x y z is,
+              ap length no_pre,
+              ap length no_build,
+              len-at included text x y z is,
+              end-le included text (length x) (some-at included text x y z is),
+            ))
+      ]
     ]
 
-abbrev pub Found : (List ℕ → List ℕ → List ℕ → List ℕ → Type 0) → List ℕ → List ℕ → Type 0
-Found IsChosen text tuple = (front back : List ℕ) × IsTupleIn text front tuple back × IsChosen text front tuple back
+reaches : (included : Bool) (text x y z : List ℕ) → IsContinuedIn included text x y z → length x + length y ≤ end_at included text (length x)
+reaches included text x y z is = elim (reached included text x y z is) [
+  | inl e ↦ omega (arith, exact included text x y z is e)
+  | inr less ↦ omega (arith, less)
+]
 
-pub first_found : (text : List ℕ) (at len : ℕ) → IsLongestAt text at len → 0 < len → BeginsAfter text at
-    → Found IsLeftmost text (take len (drop at text))
-first_found text at len there some after =
-    let long : length (take at text) ≡ at = length-take-le at text (omega (arith, there.fits)) in
-    let size : length (take len (drop at text)) ≡ len =
-    length-take-le len (drop at text) (omega (arith, there.fits, length-drop at text)) in (
-      take at text,
-      drop (at + len) text,
-      there.here some,
-      record {
-        first = λ x y z is. omega (arith, long, after x y z is);
-        longest = λ x y z is same. omega (arith, size, there.longest x y z is (same ∙ long));
-      },
-    )
+-- what is found at a place
+pub record Place (included : Bool) (text : List ℕ) (at : ℕ) : Type 0 where
+  pub whole : List ℕ
+  pub back : List ℕ
+  pub is : IsContinuedIn included text (take at text) whole back
+  pub front : length (take at text) ≡ at
+  pub end : at + length whole ≡ end_at included text at
 
-pub first_none : (text : List ℕ) (at : ℕ) → length text ≤ at → BeginsAfter text at → HasNoTuple text
-first_none text at past after = record {
-  none = λ x y z is. let p = parts text x y z is in omega (arith, past, after x y z is, p.whole, p.some);
-}
-
-pub ruleset firsts = (first_found)
-
--- ---- the tuple that ends last
-
-pub last_begin : (text : List ℕ) → IsLastBefore text 0 0 0
-last_begin text = grind (arith, nat_tests, common_steps)
-
-pub last_kept : (text : List ℕ) (at len start end : ℕ) → IsLongestAt text at len → (len ≤ 0) ⊎ (at + len ≤ end)
-    → IsLastBefore text at start end → IsLastBefore text (at + 1) start end
-last_kept text at len start end there less h = grind (arith, parts)
-
-pub last_taken : (text : List ℕ) (at len start end : ℕ) → IsLongestAt text at len → 0 < len → end < at + len
-    → IsLastBefore text at start end → IsLastBefore text (at + 1) at (at + len)
-last_taken text at len start end there some more h =
-    let size : at + len - at ≡ len = omega arith in
+place : (included : Bool) (text : List ℕ) (at : ℕ) → at ≤ length text → 0 < tuple_len_at text at → Place included text at
+place included text at inside some =
+    let found = tuple-here text at inside some in
+    let t = drop at text in
+    let len = tuple_len t in
+    let rest = drop len t in
+    let n = pre_len included rest in
+    let left = drop n rest in
+    let m = build_len included rest in
+    let pre = marked-found included true 45 rest in
+    let build = marked-found included false 43 left in
+    let inner : take m left ++ drop m left ≡ left = take-append-drop m left in
+    let outer : take n rest ++ left ≡ rest = take-append-drop n rest in
+    let is : IsContinuedIn included text (take at text) (take len t ++ (take n rest ++ take m left)) (drop m left) = record {
+      tuple = take len t;
+      pre = take n rest;
+      build = take m left;
+      joined = refl;
+      found = rw (inner, outer) found.0;
+      pre_ids = listed (drop 1 (take n rest));
+      pre_is = rw inner pre.0;
+      build_ids = listed (drop 1 (take m left));
+      build_is = build.0;
+    } in
+    let front = length-take-le at text inside in
+    let long : tuple_len (take len t ++ (take n rest ++ (take m left ++ drop m left))) ≡ length (take len t) =
+    rw (inner, outer, take-append-drop len t) (sym found.1) in
     record {
-      before = omega arith;
-      order = omega arith;
-      fits = there.fits;
-      here = λ _. rw size (there.here some);
-      last = λ x y z is lt. elim (cases_lt (length x) at) [
-        | inl sooner ↦ omega (arith, more, h.last x y z is sooner)
-        | inr le ↦ omega (arith, lt, le, there.longest x y z is (omega (arith, lt, le)))
-      ];
-      longest = λ x y z is lt e. elim (cases_lt (length x) at) [
-        | inl sooner ↦ absurd (omega (arith, more, e, h.last x y z is sooner))
-        | inr le ↦ le
-      ];
+      whole = take len t ++ (take n rest ++ take m left);
+      back = drop m left;
+      is = is;
+      front = front;
+      end = sym (rw front at (exact included text (take at text) (take len t ++ (take n rest ++ take m left)) (drop m left) is long));
     }
 
-pub last_found : (text : List ℕ) (at start end : ℕ) → IsLastBefore text at start end → length text ≤ at → 0 < end
-    → Found IsRightmost text (take (end - start) (drop start text))
-last_found text at start end h past some = grind (arith, length-take-le, length-drop, parts)
+-- ---- the leftmost, and the one that ends last
 
-pub last_none : (text : List ℕ) (at start end : ℕ) → IsLastBefore text at start end → length text ≤ at → end ≡ 0 → HasNoTuple text
-last_none text at start end h past none = grind (arith, nat_tests, common_steps, parts)
+abbrev pub Chosen : Type 1
+Chosen = Bool → List ℕ → List ℕ → List ℕ → List ℕ → Type 0
 
-pub ruleset lasts = (last_begin)
+-- what is found at a place is chosen, and nothing else is
+pub record Chooses (C : Chosen) (included : Bool) (text : List ℕ) (at : ℕ) : Type 0 where
+  pub found : Place included text at
+  pub chosen : C included text (take at text) found.whole found.back
+  pub only : (x y z : List ℕ) → IsContinuedIn included text x y z → C included text x y z
+      → (length x ≡ at) × (end_at included text at ≤ length x + length y)
+
+pub leftmost-chosen : (included : Bool) (text : List ℕ) (at : ℕ) → IsFirstPlace text at → Chooses IsLeftmost included text at
+leftmost-chosen included text at h =
+    let p = place included text at h.inside h.here in
+    let later : (x y z : List ℕ) → IsContinuedIn included text x y z → at ≤ length x = λ x y z is. elim (cases_lt (length x) at) [
+      | inr le ↦ le
+      | inl sooner ↦ absurd (omega (arith, h.first (length x) sooner, some-at included text x y z is))
+    ] in
+    record {
+      found = p;
+      chosen = record {
+        first = λ x y z is. omega (arith, p.front, later x y z is);
+        longest = λ x y z is same.
+            let e : length x ≡ at = same ∙ p.front in
+            omega (arith, e, p.end, rw e at (reaches included text x y z is));
+      };
+      only = λ x y z is c.
+          let e : length x ≡ at = omega (arith, later x y z is, p.front, c.first (take at text) p.whole p.back p.is) in
+          (e, omega (arith, p.end, e, c.longest (take at text) p.whole p.back p.is (p.front ∙ sym e)));
+    }
+
+end-some : (included : Bool) (text : List ℕ) (at : ℕ) → 0 < end_at included text at → 0 < tuple_len_at text at
+end-some included text at h = elim (cases_Bool (tuple_len_at text at == 0)) [
+  | inl none ↦ absurd (omega (arith, rw none at h))
+  | inr some ↦ positive (tuple_len_at text at) some
+]
+
+pub rightmost-chosen : (included : Bool) (text : List ℕ) (at : ℕ) → IsLastPlace included text at → Chooses IsRightmost included text at
+rightmost-chosen included text at h =
+    let here : end_at included text at ≡ h.end = h.is.here h.some in
+    let p = place included text at h.is.before (end-some included text at (omega (arith, here, h.some))) in
+    let whole = total included text (take at text) p.whole p.back p.is in
+    let before : (x y z : List ℕ) → IsContinuedIn included text x y z → length x < length text = λ x y z is.
+    omega (arith, total included text x y z is, size included text x y z is, tuple-some is.tuple is.found.runs is.found.is) in
+    let last : (x y z : List ℕ) → IsContinuedIn included text x y z → length p.back ≤ length z = λ x y z is.
+    omega (
+      arith,
+      whole,
+      p.front,
+      p.end,
+      here,
+      total included text x y z is,
+      reaches included text x y z is,
+      h.is.last (length x) (before x y z is),
+    ) in
+    let longest : (x y z : List ℕ) → IsContinuedIn included text x y z → length z ≡ length p.back → length y ≤ length p.whole = λ x y z is same.
+    let sum : length x + length y ≡ h.end = omega (arith, whole, p.front, p.end, here, same, total included text x y z is) in
+    let there : end_at included text (length x) ≡ h.end =
+    omega (arith, sum, reaches included text x y z is, h.is.last (length x) (before x y z is)) in
+    omega (arith, sum, p.end, here, h.is.longest (length x) (before x y z is) h.some there) in
+    record {
+      found = p;
+      chosen = record { last = last; longest = longest };
+      only = λ x y z is c.
+          let same : length z ≡ length p.back = omega (arith, last x y z is, c.last (take at text) p.whole p.back p.is) in
+          let long : length y ≡ length p.whole =
+          omega (arith, longest x y z is same, c.longest (take at text) p.whole p.back p.is (sym same)) in
+          let e : length x ≡ at = omega (arith, whole, p.front, same, long, total included text x y z is) in
+          (e, omega (arith, p.end, e, long));
+    }
+
+pub last_begin : (included : Bool) (text : List ℕ) → IsLastBefore included text 0 0 0
+last_begin included text = grind (arith, nat_tests, common_steps)
+
+pub last_kept : (included : Bool) (text : List ℕ) (at start end there : ℕ) → there ≡ end_at included text at → there ≤ end
+    → IsLastBefore included text at start end → IsLastBefore included text (at + 1) start end
+last_kept included text at start end there e le h = record {
+  before = omega arith;
+  here = h.here;
+  last = λ x lt. elim (cases_lt x at) [
+    | inl sooner ↦ h.last x sooner
+    | inr past ↦ let same : x ≡ at = omega arith in rw same (omega (arith, e, le))
+  ];
+  longest = λ x lt some tie. elim (cases_lt x at) [
+    | inl sooner ↦ h.longest x sooner some tie
+    | inr past ↦ omega (arith, past, h.before)
+  ];
+}
+
+pub last_taken : (included : Bool) (text : List ℕ) (at start end there : ℕ) → there ≡ end_at included text at → end < there
+    → IsLastBefore included text at start end → IsLastBefore included text (at + 1) at there
+last_taken included text at start end there e more h = record {
+  before = omega arith;
+  here = λ _. sym e;
+  last = λ x lt. elim (cases_lt x at) [
+    | inl sooner ↦ omega (arith, more, h.last x sooner)
+    | inr past ↦ let same : x ≡ at = omega arith in rw same (omega (arith, e))
+  ];
+  longest = λ x lt some tie. elim (cases_lt x at) [
+    | inl sooner ↦ absurd (omega (arith, more, tie, h.last x sooner))
+    | inr past ↦ past
+  ];
+}
 
 -- ---- the numbers of a tuple
 
@@ -310,72 +483,199 @@ release-read zeros limit Number reads t runs v (Npm.two a b h k) (Npm.two _ _ x 
 release-read zeros limit Number reads t runs v (Npm.three a b c h k m) (Npm.three _ _ _ x y z p q r) =
     rw (reads.read a (46 ∷ (b ++ (46 ∷ c))) x p refl, reads.read b (46 ∷ c) y q refl, rw (append-nil c) at (reads.read c [] z r refl)) refl
 
--- ---- the tuple that is looked for
+-- ---- the version of a continued tuple
 
-same-tuple : (text f t b x y z : List ℕ) → text ≡ f ++ (t ++ b) → text ≡ x ++ (y ++ z) → length f ≡ length x → length t ≡ length y → y ≡ t
-same-tuple text f t b x y z e g same long =
-    let one : drop (length f) text ≡ t ++ b = ap (λ (s : List ℕ). drop (length f) s) e ∙ drop_at f (t ++ b) (length f) refl in
-    let other : drop (length f) text ≡ y ++ z = ap (λ (s : List ℕ). drop (length f) s) g ∙ drop_at x (y ++ z) (length f) (sym same) in
-    sym (take_at y z (length t) (sym long)) ∙ ap (λ (s : List ℕ). take (length t) s) (sym other ∙ one) ∙ take_at t b (length t) refl
+abbrev dot_count : List ℕ → ℕ
+dot_count t = count_by (λ c. c == 46) t
 
-abbrev pub Chosen : Type 1
-Chosen = List ℕ → List ℕ → List ℕ → List ℕ → Type 0
+dots : (a more : List ℕ) → list_all is_ascii_digit a ≡ true → dot_count (a ++ more) ≡ dot_count more
+dots [] more h = refl
+dots (c ∷ a) more h = grind (arith, nat_tests, common_steps, dots a more)
 
--- only one tuple is chosen
-pub record IsUnique (C : Chosen) : Type 0 where
-  pub same : (text f t b x y z : List ℕ) → IsTupleIn text f t b → C text f t b → IsTupleIn text x y z → C text x y z → y ≡ t
+dots-last : (a : List ℕ) → list_all is_ascii_digit a ≡ true → dot_count a ≡ 0
+dots-last a h = subst (λ (t : List ℕ). dot_count t ≡ 0) (append-nil a) (dots a [] h)
 
-pub leftmost-unique : IsUnique IsLeftmost
-leftmost-unique = record {
-  same = λ text f t b x y z h k m n.
-      let same : length f ≡ length x = omega (arith, k.first x y z m, n.first f t b h) in
-      let long : length t ≡ length y = omega (arith, k.longest x y z m (sym same), n.longest f t b h same) in
-      same-tuple text f t b x y z h.divided m.divided same long;
-}
+dots-behind : (a more : List ℕ) (n : ℕ) → list_all is_ascii_digit a ≡ true → dot_count more ≡ n → dot_count (a ++ (46 ∷ more)) ≡ 1 + n
+dots-behind a more n h e = grind (arith, nat_tests, common_steps, dots a (46 ∷ more) h)
 
-pub rightmost-unique : IsUnique IsRightmost
-rightmost-unique = record {
-  same = λ text f t b x y z h k m n.
-      let same : length b ≡ length z = omega (arith, k.last x y z m, n.last f t b h) in
-      let long : length t ≡ length y = omega (arith, k.longest x y z m (sym same), n.longest f t b h same) in
-      let one : length text ≡ length f + (length t + length b) = ap length h.divided ∙ length-append f (t ++ b) ∙ omega (arith, length-append t b) in
-      let other : length text ≡ length x + (length y + length z) = ap length m.divided ∙ length-append x (y ++ z) ∙ omega (arith, length-append y z) in
-      same-tuple text f t b x y z h.divided m.divided (omega (arith, one, other, same, long)) long;
-}
+absent-len : (t : List ℕ) (runs : List (List ℕ)) → IsTuple t runs → length (absent runs) ≡ absent_len t
+absent-len t runs (Npm.one a h) = rw (dots-last a h.each) refl
+absent-len t runs (Npm.two a b h k) = rw (dots-behind a b 0 h.each (dots-last b k.each)) refl
+absent-len t runs (Npm.three a b c h k m) =
+    rw (dots-behind a (b ++ (46 ∷ c)) 1 h.each (dots-behind b c 0 k.each (dots-last c m.each))) refl
+
+module _ (included zeros : Bool) (limit : ℕ) (text x y z : List ℕ) (is : IsContinuedIn included text x y z) where
+  version-is : tuple_len (is.tuple ++ (is.pre ++ (is.build ++ z))) ≡ length is.tuple
+      → version_front included zeros limit (drop (length x) text)
+      ≡ (if nat_le (length is.tuple + (length is.pre + length is.build) + absent_len is.tuple) MAX_LENGTH
+      then option_map (qualified is.pre_ids is.build_ids) (tuple_release zeros limit is.tuple) else None)
+  unfolding version_front
+  version-is e =
+      let t = is.tuple ++ (is.pre ++ (is.build ++ z)) in
+      let first = take_at is.tuple (is.pre ++ (is.build ++ z)) (length is.tuple) refl in
+      let behind = drop_at is.tuple (is.pre ++ (is.build ++ z)) (length is.tuple) refl in
+      let pre = marked-read included true 45 is.pre (is.build ++ z) is.pre_ids is.pre_is in
+      let build = marked-read included false 43 is.build z is.build_ids is.build_is in
+      let pre_text = take_at is.pre (is.build ++ z) (length is.pre) refl in
+      let left = drop_at is.pre (is.build ++ z) (length is.pre) refl in
+      let build_text = take_at is.build z (length is.build) refl in
+      let rest = drop_at is.build z (length is.build) refl in
+      let sum : length t - length z ≡ length is.tuple + (length is.pre + length is.build) =
+      omega (arith, length-append is.tuple (is.pre ++ (is.build ++ z)), length-append is.pre (is.build ++ z), length-append is.build z) in
+      rw (there included text x y z is, e, first, behind, pre.0, left, build.0, rest, sum, pre_text, build_text, pre.1, build.1) refl
+
+-- ---- the version that is looked for
 
 abbrev pub Number : Type 1
 Number = List ℕ → ℕ → Type 0
 
-module _ (zeros : Bool) (limit : ℕ) (N : Number) (C : Chosen) (text tuple : List ℕ) (reads : Reads zeros limit N) (f : Found C text tuple) where
-  pub coerced_some : IfSome (tuple_release zeros limit tuple) (IsCoerced C N text)
-  coerced_some = go (tuple_release zeros limit tuple) refl
-    where
-      go : (o : Option VersionValue) → tuple_release zeros limit tuple ≡ o → IfSome o (IsCoerced C N text)
-      go None e = tt
-      go (Some v) e = record {
-        front = f.0;
-        tuple = tuple;
-        back = f.1;
-        found = f.2;
-        chosen = f.3;
-        is = release-found zeros limit N reads tuple f.2.runs v f.2.is e;
-      }
+short-same : (tuple pre build : List ℕ) (runs : List (List ℕ)) → IsTuple tuple runs
+    → length (tuple ++ (absent runs ++ (pre ++ build))) ≡ length tuple + (length pre + length build) + absent_len tuple
+short-same tuple pre build runs h =
+    omega (
+      arith,
+      length-append tuple (absent runs ++ (pre ++ build)),
+      length-append (absent runs) (pre ++ build),
+      length-append pre build,
+      absent-len tuple runs h,
+    )
 
-  pub coerced_none : IsUnique C → IfNone (tuple_release zeros limit tuple) (NoValue (IsCoerced C N text))
-  coerced_none unique = go (tuple_release zeros limit tuple) refl
-    where
-      go : (o : Option VersionValue) → tuple_release zeros limit tuple ≡ o → IfNone o (NoValue (IsCoerced C N text))
-      go (Some v) e = tt
-      go None e = λ v w.
-          let same = unique.same text f.0 tuple f.1 w.front w.tuple w.back f.2 f.3 w.found w.chosen in
-          cc (release-read zeros limit N reads w.tuple w.found.runs v w.found.is w.is, same, e)
+longest-at : (included : Bool) (text x y z : List ℕ) (is : IsContinuedIn included text x y z) → end_at included text (length x) ≤ length x + length y
+    → tuple_len (is.tuple ++ (is.pre ++ (is.build ++ z))) ≡ length is.tuple
+longest-at included text x y z is h = elim (reached included text x y z is) [
+  | inl e ↦ e
+  | inr less ↦ absurd (omega (arith, less, h))
+]
 
--- where there is none, nothing is found
-pub coerced_absent : (o : Option VersionValue) (C : Chosen) (N : Number) (text bytes : List ℕ) → bytes ≡ text
-    → HasNoTuple bytes → IfNone o (NoValue (IsCoerced C N text))
-coerced_absent None C N text bytes same h = λ v w. (rw same at h).none w.front w.tuple w.back w.found
-coerced_absent (Some v) C N text bytes same none = tt
+mapped : (f : VersionValue → VersionValue) (o : Option VersionValue) (v : VersionValue) → option_map f o ≡ Some v
+    → (r : VersionValue) × (o ≡ Some r) × (v ≡ f r)
+mapped f None v e = cc e
+mapped f (Some r) v e = (r, refl, sym (same_Some _ _ e))
 
-pub ruleset lefts = (coerced_absent, coerced_some, coerced_none, strict-reads, loose-reads, leftmost-unique)
+module _ (included zeros : Bool) (limit : ℕ) (N : Number) (C : Chosen) (reads : Reads zeros limit N) (text : List ℕ) where
+  -- a version that is looked for is read where it stands
+  coerced-read : (v : VersionValue) (w : IsCoerced included C N text v) → end_at included text (length w.front) ≤ length w.front + length w.whole
+      → version_front included zeros limit (drop (length w.front) text) ≡ Some v
+  coerced-read v w h =
+      let is = w.found in
+      let fits = rw (short-same is.tuple is.pre is.build is.found.runs is.found.is) at w.short in
+      let short : nat_le (length is.tuple + (length is.pre + length is.build) + absent_len is.tuple) MAX_LENGTH ≡ true = grind (arith, nat_tests) in
+      let release = release-read zeros limit N reads is.tuple is.found.runs w.release is.found.is w.numbers in
+      rw (version-is included zeros limit text w.front w.whole w.back is (longest-at included text w.front w.whole w.back is h), short, release)
+      (ap (λ (u : VersionValue). Some u) (sym w.is))
 
-pub ruleset rights = (coerced_absent, coerced_some, coerced_none, strict-reads, loose-reads, rightmost-unique)
+  coerced-found : (at : ℕ) → Chooses C included text at → (v : VersionValue) → version_front included zeros limit (drop at text) ≡ Some v
+      → IsCoerced included C N text v
+  coerced-found at h v e =
+      let p = h.found in
+      let is = p.is in
+      let longest = longest-at included text (take at text) p.whole p.back is (omega (arith, p.front, rw (sym p.front) at p.end)) in
+      let read = rw (sym p.front, version-is included zeros limit text (take at text) p.whole p.back is longest) at e in
+      let long = length is.tuple + (length is.pre + length is.build) + absent_len is.tuple in
+      elim (cases_Bool (nat_le long MAX_LENGTH)) [
+        | inr over ↦ cc (rw over at read)
+        | inl short ↦
+            let r = mapped (qualified is.pre_ids is.build_ids) (tuple_release zeros limit is.tuple) v (rw short at read) in
+            let fits : long ≤ MAX_LENGTH = grind (arith, nat_tests) in
+            record {
+              front = take at text;
+              whole = p.whole;
+              back = p.back;
+              found = is;
+              chosen = h.chosen;
+              release = r.0;
+              numbers = release-found zeros limit N reads is.tuple is.found.runs r.0 is.found.is r.1;
+              is = r.2;
+              short = rw (short-same is.tuple is.pre is.build is.found.runs is.found.is) fits;
+            }
+      ]
+
+in-reading : (zeros : Bool) → Reads zeros MAX_SAFE_INTEGER (IsNumberIn zeros)
+in-reading true = loose-reads MAX_SAFE_INTEGER
+in-reading false = strict-reads MAX_SAFE_INTEGER
+
+-- ---- at most one version is found
+
+-- what is chosen reaches as far as anything at its place, and all that is chosen begins there
+pub record IsSettled (C : Chosen) : Type 0 where
+  pub farthest : (included : Bool) (text x y z : List ℕ) → IsContinuedIn included text x y z → C included text x y z
+      → end_at included text (length x) ≤ length x + length y
+  pub place : (included : Bool) (text f g h x y z : List ℕ) → IsContinuedIn included text f g h → C included text f g h
+      → IsContinuedIn included text x y z → C included text x y z → length f ≡ length x
+
+-- what stands at the place of another
+beside : (included : Bool) (text x y z : List ℕ) → IsContinuedIn included text x y z → Place included text (length x)
+beside included text x y z is = place included text (length x) (omega (arith, total included text x y z is)) (some-at included text x y z is)
+
+pub leftmost-settled : IsSettled IsLeftmost
+leftmost-settled = record {
+  farthest = λ included text x y z is c.
+      let p = beside included text x y z is in
+      omega (arith, p.end, c.longest (take (length x) text) p.whole p.back p.is p.front);
+  place = λ included text f g h x y z is c of d. omega (arith, c.first x y z of, d.first f g h is);
+}
+
+pub rightmost-settled : IsSettled IsRightmost
+rightmost-settled = record {
+  farthest = λ included text x y z is c.
+      let p = beside included text x y z is in
+      omega (
+        arith,
+        p.end,
+        p.front,
+        c.last (take (length x) text) p.whole p.back p.is,
+        total included text x y z is,
+        total included text (take (length x) text) p.whole p.back p.is,
+      );
+  place = λ included text f g h x y z is c of d.
+      let same : length h ≡ length z = omega (arith, c.last x y z of, d.last f g h is) in
+      omega (arith, same, c.longest x y z of (sym same), d.longest f g h is same, total included text f g h is, total included text x y z of);
+}
+
+pub coerced-once : (included zeros : Bool) (C : Chosen) (text : List ℕ) (v w : VersionValue) → IsSettled C
+    → IsCoerced included C (IsNumberIn zeros) text v → IsCoerced included C (IsNumberIn zeros) text w → v ≡ w
+coerced-once included zeros C text v w s h k =
+    let N = IsNumberIn zeros in
+    let same = s.place included text h.front h.whole h.back k.front k.whole k.back h.found h.chosen k.found k.chosen in
+    let one = coerced-read included zeros MAX_SAFE_INTEGER N C (in-reading zeros) text v h
+    (s.farthest included text h.front h.whole h.back h.found h.chosen) in
+    let other = coerced-read included zeros MAX_SAFE_INTEGER N C (in-reading zeros) text w k
+    (s.farthest included text k.front k.whole k.back k.found k.chosen) in
+    same_Some _ _ (sym (rw same at one) ∙ other)
+
+-- ---- what the code returns, over the bytes of the text
+
+module _ (included zeros : Bool) (C : Chosen) (text bytes : List ℕ) where
+  abbrev pub Is : VersionValue → Type 0
+  Is = IsCoerced included C (IsNumberIn zeros) text
+
+  abbrev pub found-at : ℕ → Option VersionValue
+  found-at at = version_front included zeros MAX_SAFE_INTEGER (take (length bytes - at) (drop at bytes))
+
+  pub coerced_some : (o : Option VersionValue) (at : ℕ) → bytes ≡ text → Chooses C included bytes at → o ≡ found-at at → IfSome o Is
+  coerced_some None at same h e = tt
+  coerced_some (Some v) at same h e =
+      rw (← same) (coerced-found included zeros MAX_SAFE_INTEGER (IsNumberIn zeros) C (in-reading zeros) bytes at h v
+      (rw (take_rest bytes at) at (sym e)))
+
+  pub coerced_none : (o : Option VersionValue) (at : ℕ) → bytes ≡ text → Chooses C included bytes at → o ≡ found-at at → IfNone o (NoValue Is)
+  coerced_none (Some v) at same h e = tt
+  coerced_none None at same h e = rw (← same) (λ v w.
+      let o = h.only w.front w.whole w.back w.found w.chosen in
+      let fits : end_at included bytes (length w.front) ≤ length w.front + length w.whole =
+      omega (arith, o.1, ap (λ (n : ℕ). end_at included bytes n) o.0) in
+      let read = coerced-read included zeros MAX_SAFE_INTEGER (IsNumberIn zeros) C (in-reading zeros) bytes v w fits in
+      let none = rw (take_rest bytes at, ← o.0) at e in
+      cc (none ∙ read))
+
+  -- where there is no tuple, nothing is found
+  pub coerced_absent : (o : Option VersionValue) → bytes ≡ text → BeginsAfter bytes (length bytes) → IfNone o (NoValue Is)
+  coerced_absent (Some v) same h = tt
+  coerced_absent None same h = rw (← same) (λ v w.
+      let is = w.found in
+      let whole = total included bytes w.front w.whole w.back is in
+      let front = size included bytes w.front w.whole w.back is in
+      let tuple = tuple-some is.tuple is.found.runs is.found.is in
+      absurd (omega (arith, some-at included bytes w.front w.whole w.back is, h (length w.front) (omega (arith, whole, front, tuple)))))
+
+pub ruleset absents = (coerced_absent)

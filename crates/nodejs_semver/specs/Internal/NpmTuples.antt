@@ -1,12 +1,19 @@
--- For proofs and private contracts. The tuples of numbers in a text that `coerce` looks for.
-use Rattle.std.specs.Prelude.{◌≡◌, ◌<◌, ◌≤◌, ◌+◌, ◌-◌, ◌==◌, nat_le, ℕ, Bool, List, [], ◌∷◌, Option, Some, drop, take, if◌then◌else◌, length}
+-- For proofs and private contracts. What `coerce` finds in a text, as functions.
+use Rattle.std.specs.Prelude.{◌≡◌, ◌<◌, ◌≤◌, ◌+◌, ◌-◌, ◌==◌, ◌&&◌, nat_le, ℕ, Bool, true, false, List, [], ◌∷◌}
+use Rattle.std.specs.Prelude.{Option, Some, None, count_by, drop, take, if◌then◌else◌, length, option_map}
 use Rattle.std.specs.Char.{is_ascii_digit}
 use Rattle.std.specs.List.{prefix_len}
 use Rattle.semver_core.specs.Internal.Reading.{◌>>?◌}
+use Rattle.semver_core.specs.Text.Characters.{begins, ends}
+use Rattle.semver_core.specs.Text.Identifiers.{Id, listed}
+use Rattle.semver_core.specs.Text.Numbers.{IsNumber}
 use Rattle.semver_core.specs.Values.Versions.{VersionValue, release_value}
+use Rattle.semver_core.specs.declared.TheConstants.{MAX_LENGTH, MAX_SAFE_INTEGER}
 use Rattle.nodejs_semver.specs.Internal.Fronts.{Front, number_front}
 use Rattle.nodejs_semver.specs.Internal.NpmReadings.{strict_number}
-use Rattle.nodejs_semver.specs.Npm.Coerced.{IsTupleIn}
+use Rattle.nodejs_semver.specs.Npm.Coerced.{begins_identifier_in, goes_on_in}
+use Rattle.nodejs_semver.specs.Npm.Grammar.{IsStrictNumber}
+use Rattle.nodejs_semver.specs.declared.npm.coerced.Stretch.{Stretch}
 
 -- how long the run at the front is, and 0 where none stands there
 abbrev pub run_len : List ℕ → ℕ
@@ -24,28 +31,68 @@ behind_first text major minor = if minor == 0 then major else major + minor + do
 unfoldable pub tuple_len : List ℕ → ℕ
 tuple_len text = if run_len text == 0 then 0 else behind_first text (run_len text) (dotted_len (drop (run_len text) text))
 
--- this long is the longest tuple at a place, and 0 where none stands there
-pub record IsLongestAt (text : List ℕ) (at len : ℕ) : Type 0 where
-  pub fits : at + len ≤ length text
-  pub here : 0 < len → IsTupleIn text (take at text) (take len (drop at text)) (drop (at + len) text)
-  pub longest : (x y z : List ℕ) → IsTupleIn text x y z → length x ≡ at → length y ≤ len
+-- the same at a place, before which no digit may stand
+abbrev pub tuple_len_at : List ℕ → ℕ → ℕ
+tuple_len_at text at = if ends is_ascii_digit (take at text) then 0 else tuple_len (drop at text)
 
--- no tuple stands in the text
-pub record HasNoTuple (text : List ℕ) : Type 0 where
-  pub none : (x y z : List ℕ) → IsTupleIn text x y z → ⊥
+-- how far the longest list of identifiers goes
+unfoldable pub list_len_in : Bool → List ℕ → ℕ
+list_len_in strict [] = 0
+list_len_in strict (c ∷ rest) = if goes_on_in strict (c ∷ rest) then 1 + list_len_in strict rest else 0
 
--- of the tuples that begin before a place none ends later than this one, and none that ends there is longer
-pub record IsLastBefore (text : List ℕ) (place start end : ℕ) : Type 0 where
+-- how long the list at the front is with its mark, and 0 where none stands there
+abbrev pub marked_len : Bool → Bool → ℕ → List ℕ → ℕ
+marked_len included strict mark text = if included && begins (λ c. c == mark) text && begins_identifier_in strict (drop 1 text)
+    then 1 + list_len_in strict (drop 1 text) else 0
+
+abbrev pub pre_len : Bool → List ℕ → ℕ
+pre_len included text = marked_len included true 45 text
+
+abbrev pub build_len : Bool → List ℕ → ℕ
+build_len included text = marked_len included false 43 (drop (pre_len included text) text)
+
+-- where the tuple at a place ends with what it goes on with, and 0 where none begins there
+abbrev pub end_behind : Bool → List ℕ → ℕ → ℕ
+end_behind included text end = let behind = drop end text in end + pre_len included behind + build_len included behind
+
+abbrev pub end_at : Bool → List ℕ → ℕ → ℕ
+end_at included text at = let len = tuple_len_at text at in if len == 0 then 0 else end_behind included text (at + len)
+
+-- from each place of the stretch a list goes up to its end
+pub record IsStretch (strict : Bool) (text : List ℕ) (s : Stretch) : Type 0 where
+  pub fits : s.to ≤ length text
+  pub each : (i : ℕ) → s.from ≤ i → i < s.to → i + list_len_in strict (drop i text) ≡ s.to
+
+-- no tuple begins before the place
+abbrev pub BeginsAfter : List ℕ → ℕ → Type 0
+BeginsAfter text at = (x : ℕ) → x < at → tuple_len_at text x ≡ 0
+
+-- the first tuple begins at the place
+pub record IsFirstPlace (text : List ℕ) (at : ℕ) : Type 0 where
+  pub inside : at ≤ length text
+  pub here : 0 < tuple_len_at text at
+  pub first : BeginsAfter text at
+
+-- of the tuples that begin before a place none ends later than the one here, and none that ends there begins sooner
+pub record IsLastBefore (included : Bool) (text : List ℕ) (place start end : ℕ) : Type 0 where
   pub before : start ≤ place
-  pub order : start ≤ end
-  pub fits : end ≤ length text
-  pub here : 0 < end → IsTupleIn text (take start text) (take (end - start) (drop start text)) (drop end text)
-  pub last : (x y z : List ℕ) → IsTupleIn text x y z → length x < place → length x + length y ≤ end
-  pub longest : (x y z : List ℕ) → IsTupleIn text x y z → length x < place → length x + length y ≡ end → start ≤ length x
+  pub here : 0 < end → end_at included text start ≡ end
+  pub last : (x : ℕ) → x < place → end_at included text x ≤ end
+  pub longest : (x : ℕ) → x < place → 0 < end → end_at included text x ≡ end → start ≤ x
+
+-- the tuple that ends last begins at the place
+pub record IsLastPlace (included : Bool) (text : List ℕ) (at : ℕ) : Type 0 where
+  pub end : ℕ
+  pub some : 0 < end
+  pub is : IsLastBefore included text (length text) at end
 
 -- a number, with leading zeros or only without
 abbrev pub number_in_reading : Bool → ℕ → List ℕ → Front ℕ
 number_in_reading zeros limit text = if zeros then number_front limit text else strict_number limit text
+
+abbrev pub IsNumberIn : Bool → List ℕ → ℕ → Type 0
+IsNumberIn true = IsNumber MAX_SAFE_INTEGER
+IsNumberIn false = IsStrictNumber MAX_SAFE_INTEGER
 
 -- the number behind a dot, and 0 where no dot stands
 abbrev pub next_number : Bool → ℕ → List ℕ → Front ℕ
@@ -56,3 +103,26 @@ next_number zeros limit (b ∷ rest) = if b == 46 then number_in_reading zeros l
 unfoldable pub tuple_release : Bool → ℕ → List ℕ → Option VersionValue
 tuple_release zeros limit text = number_in_reading zeros limit text >>? λ a. next_number zeros limit a.1 >>? λ b.
     next_number zeros limit b.1 >>? λ c. Some (release_value a.0 b.0 c.0)
+
+-- how long `.0` for each number is that a tuple does not have
+abbrev pub absent_len : List ℕ → ℕ
+absent_len tuple = let dots = count_by (λ c. c == 46) tuple in if dots == 0 then 4 else if dots == 1 then 2 else 0
+
+-- the list behind a mark at the front, and what stands behind it
+abbrev pub marked_front : Bool → Bool → ℕ → List ℕ → List ℕ × List ℕ
+marked_front included strict mark text =
+    let len = marked_len included strict mark text in (drop 1 (take len text), drop len text)
+
+-- a release with the identifiers behind it
+abbrev pub qualified : List Id → List Id → VersionValue → VersionValue
+qualified pre build release = record release { pre_release = pre; build = build }
+
+-- the version of the tuple at the front with the lists behind it, if its text is short enough
+
+unfoldable pub version_front : Bool → Bool → ℕ → List ℕ → Option VersionValue
+version_front included zeros limit text =
+    let tuple = take (tuple_len text) text in
+    let pre = marked_front included true 45 (drop (tuple_len text) text) in
+    let build = marked_front included false 43 pre.1 in
+    if nat_le (length text - length build.1 + absent_len tuple) MAX_LENGTH
+    then option_map (qualified (listed pre.0) (listed build.0)) (tuple_release zeros limit tuple) else None

@@ -1,19 +1,23 @@
 // The version that a text has anywhere in it, as node-semver's `coerce` finds it.
 
-ghost use Rattle.std.specs.Prelude.{◌≡◌, ◌≤◌, take};
-ghost use Rattle.nodejs_semver.specs.Words.{IfNone, IfSome, IsNumber, List, MAX_SAFE_INTEGER};
-ghost use Rattle.nodejs_semver.specs.Words.{NoValue, front_view, is_ascii_digit, length, ℕ};
-ghost use Rattle.nodejs_semver.specs.Internal.NpmTuples.{HasNoTuple, IsLongestAt};
-ghost use Rattle.nodejs_semver.specs.Npm.Coerced.{IsCoerced, IsLeftmost, IsRightmost, IsTupleIn};
+ghost use Rattle.std.specs.Prelude.{◌≡◌, ◌≤◌, ◌<◌, ◌+◌, ◌&&◌, ◌==◌, drop, take, false};
+ghost use Rattle.nodejs_semver.specs.Words.{IfNone, IfSome, IsNumber, MAX_SAFE_INTEGER, NoValue};
+ghost use Rattle.nodejs_semver.specs.Words.{begins, front_view, is_ascii_digit, is_listed, length};
+ghost use Rattle.nodejs_semver.specs.Words.{pair_view, true, Bool, List, ℕ};
+ghost use Rattle.nodejs_semver.specs.Internal.NpmTuples.{BeginsAfter, IsFirstPlace, IsLastPlace};
+ghost use Rattle.nodejs_semver.specs.Internal.NpmTuples.{IsNumberIn, IsStretch};
+ghost use Rattle.nodejs_semver.specs.Npm.Coerced.{IsCoerced, IsLeftmost, IsRightmost};
+ghost use Rattle.nodejs_semver.specs.Npm.Coerced.{begins_identifier_in, goes_on_in};
 ghost use Rattle.nodejs_semver.specs.Npm.Grammar.{IsStrictNumber};
 ghost use Rattle.semver_core.specs.Text.Characters.{ends};
 ghost use Rattle.nodejs_semver.specs.Internal.NpmTuples as Spec;
 
 use crate::npm::loose_versions::number;
 use crate::npm::places::digits_len;
-use crate::npm::versions::strict_number;
+use crate::npm::versions::{begins_padded, strict_number};
 use crate::readers;
-use semver_core::{MAX_SAFE_INTEGER, VersionRef};
+use semver_core::scan::{begins_identifier, is_identifier_char};
+use semver_core::{MAX_LENGTH, MAX_SAFE_INTEGER, VersionRef};
 
 // How long the run of 1 to 16 digits at the front is, and 0 where none stands there.
 fn run_len(text: &[u8]) -> usize
@@ -68,7 +72,8 @@ fn follows_digit(text: &[u8], at: usize) -> bool
 // How long the longest tuple at a place is, which begins with no digit of a run before it.
 fn tuple_len_at(text: &[u8], at: usize) -> usize
     requires { at ≤ length text.now }
-    ensures { IsLongestAt text.now at result }
+    ensures value { result ≡ Spec.tuple_len_at text.now at }
+    ensures fits { at + result ≤ length text.now }
 {
     if follows_digit(text, at) {
         0
@@ -77,42 +82,166 @@ fn tuple_len_at(text: &[u8], at: usize) -> usize
     }
 }
 
-// The leftmost tuple.
-#[tactic(auto, using(crate::proofs::NpmTexts::Coerced::firsts))]
-fn first_tuple(text: &[u8]) -> Option<&[u8]>
-    ensures some { IfSome result (λ tuple. (front back : List ℕ)
-        × IsTupleIn text.now front tuple.now back × IsLeftmost text.now front tuple.now back) }
-    ensures none { IfNone result (HasNoTuple text.now) }
+// Whether a text begins with an identifier, strictly with one that has no leading zero if it is
+// digits alone.
+#[tactic(auto, using(crate::proofs::NpmTexts::Lists::identifier_begins))]
+fn begins_identifier_in(strict: bool, text: &[u8]) -> bool
+    ensures { result ≡ begins_identifier_in strict text.now }
+{
+    if strict && begins_padded(text) {
+        begins_identifier(&text[digits_len(text)..])
+    } else {
+        begins_identifier(text)
+    }
+}
+
+// Whether a list of such identifiers that ends before this text would go on with it.
+fn goes_on_in(strict: bool, text: &[u8]) -> bool
+    ensures { result ≡ goes_on_in strict text.now }
+{
+    match text {
+        [byte, rest @ ..] => is_identifier_char(*byte)
+            || (*byte == b'.' && begins_identifier_in(strict, rest)),
+        [] => false,
+    }
+}
+
+// How far the longest list of such identifiers goes.
+#[tactic(auto, using(crate::proofs::NpmTexts::Lists::list_lens))]
+fn list_len(strict: bool, text: &[u8]) -> usize
+    ensures value { result ≡ Spec.list_len_in strict text.now }
+    ensures fits { result ≤ length text.now }
+{
+    'characters: for at in 0..text.len() {
+        if !goes_on_in(strict, &text[at..]) {
+            return at;
+        }
+    }
+    text.len()
+}
+
+/// A stretch of a text, from each place of which a list goes up to its end.
+#[derive(Clone, Copy)]
+struct Stretch {
+    from: usize,
+    to: usize,
+}
+
+impl Stretch {
+    fn empty() -> Stretch
+        ensures { (strict : Bool) (text : List ℕ) → IsStretch strict text result }
+    {
+        Stretch { from: 0, to: 0 }
+    }
+
+    // Where the list at a place ends. A place of the stretch is not searched again: if the places
+    // that are asked for ascend, no character is passed twice.
+    fn list_end(&mut self, strict: bool, text: &[u8], at: usize) -> usize
+        requires inside { at ≤ length text.now }
+        requires known { IsStretch strict text.now self.old }
+        ensures end { result ≡ at + Spec.list_len_in strict (drop at text.now) }
+        ensures fits { result ≤ length text.now }
+        ensures known { IsStretch strict text.now self.new }
+    {
+        if at < self.from || self.to <= at {
+            *self = Stretch {
+                from: at,
+                to: at + list_len(strict, &text[at..]),
+            };
+        }
+        self.to
+    }
+}
+
+// Whether a mark stands at the front, and behind it such an identifier.
+fn begins_marked(strict: bool, mark: u8, text: &[u8]) -> bool
+    ensures { result ≡ (begins (λ c. c == mark) text.now
+        && begins_identifier_in strict (drop 1 text.now)) }
+{
+    match text {
+        [first, rest @ ..] => *first == mark && begins_identifier_in(strict, rest),
+        [] => false,
+    }
+}
+
+// Where the list behind a mark at a place ends: at that place, where none is included or stands.
+fn marked_end(
+    included: bool,
+    strict: bool,
+    mark: u8,
+    text: &[u8],
+    at: usize,
+    known: &mut Stretch,
+) -> usize
+    requires inside { at ≤ length text.now }
+    requires known { IsStretch strict text.now known.old }
+    ensures end { result ≡ at + Spec.marked_len included strict mark (drop at text.now) }
+    ensures fits { result ≤ length text.now }
+    ensures known { IsStretch strict text.now known.new }
+{
+    if included && begins_marked(strict, mark, &text[at..]) {
+        known.list_end(strict, text, at + 1)
+    } else {
+        at
+    }
+}
+
+// Where the tuple at a place ends with what it goes on with, and 0 where none begins there.
+fn end_at(
+    included: bool,
+    text: &[u8],
+    at: usize,
+    pre_releases: &mut Stretch,
+    builds: &mut Stretch,
+) -> usize
+    requires inside { at ≤ length text.now }
+    requires pre_releases { IsStretch true text.now pre_releases.old }
+    requires builds { IsStretch false text.now builds.old }
+    ensures end { result ≡ Spec.end_at included text.now at }
+    ensures pre_releases { IsStretch true text.now pre_releases.new }
+    ensures builds { IsStretch false text.now builds.new }
+{
+    let len = tuple_len_at(text, at);
+    if len == 0 {
+        return 0;
+    }
+    let end = marked_end(included, true, b'-', text, at + len, pre_releases);
+    marked_end(included, false, b'+', text, end, builds)
+}
+
+// The place where the leftmost tuple begins.
+fn first_place(text: &[u8]) -> Option<usize>
+    ensures some { IfSome result (IsFirstPlace text.now) }
+    ensures none { IfNone result (BeginsAfter text.now (length text.now)) }
 {
     'places: for at in 0..text.len() {
-        let len = tuple_len_at(text, at);
-        if len > 0 {
-            return Some(&text[at..at + len]);
+        if tuple_len_at(text, at) > 0 {
+            return Some(at);
         }
     }
     None
 }
 
-// The tuple that ends last.
-#[tactic(auto, using(crate::proofs::NpmTexts::Coerced::lasts))]
-fn last_tuple(text: &[u8]) -> Option<&[u8]>
-    ensures some { IfSome result (λ tuple. (front back : List ℕ)
-        × IsTupleIn text.now front tuple.now back × IsRightmost text.now front tuple.now back) }
-    ensures none { IfNone result (HasNoTuple text.now) }
+// The place where the tuple begins that ends last with what it goes on with.
+fn last_place(included: bool, text: &[u8]) -> Option<usize>
+    ensures some { IfSome result (IsLastPlace included text.now) }
+    ensures none { IfNone result (BeginsAfter text.now (length text.now)) }
 {
     let mut start = 0;
     let mut end = 0;
+    let mut pre_releases = Stretch::empty();
+    let mut builds = Stretch::empty();
     'places: for at in 0..text.len() {
-        let len = tuple_len_at(text, at);
-        if len > 0 && at + len > end {
+        let there = end_at(included, text, at, &mut pre_releases, &mut builds);
+        if there > end {
             start = at;
-            end = at + len;
+            end = there;
         }
     }
     if end == 0 {
         return None;
     }
-    Some(&text[start..end])
+    Some(start)
 }
 
 // The number at the front, with leading zeros or only without, and the text behind it.
@@ -147,6 +276,79 @@ fn release(zeros: bool, tuple: &[u8]) -> Option<VersionRef<'_>>
     Some(readers::release(major, minor, patch))
 }
 
+// How long `.0` for each number is that a tuple does not have.
+fn absent_len(tuple: &[u8]) -> usize
+    ensures { result ≡ Spec.absent_len tuple.now }
+{
+    match tuple.iter().filter(|byte| **byte == b'.').count() {
+        0 => 4,
+        1 => 2,
+        _ => 0,
+    }
+}
+
+fn behind_first(text: &[u8]) -> &[u8]
+    ensures { result.now ≡ drop 1 text.now }
+{
+    match text {
+        [_, rest @ ..] => rest,
+        [] => text,
+    }
+}
+
+// The list behind a mark at the front, and what stands behind it.
+fn marked_list(included: bool, strict: bool, mark: u8, text: &[u8]) -> (&[u8], &[u8])
+    ensures listed { is_listed result.0.now ≡ true }
+    ensures value { pair_view result ≡ Spec.marked_front included strict mark text.now }
+{
+    let len = marked_end(included, strict, mark, text, 0, &mut Stretch::empty());
+    let (marked, rest) = text.split_at(len);
+    (behind_first(marked), rest)
+}
+
+// The version of the tuple at the front and of what it goes on with.
+#[tactic(auto, unfolding(crate::specs::Internal::NpmTuples::version_front))]
+fn version_front(included: bool, zeros: bool, text: &[u8]) -> Option<VersionRef<'_>>
+    ensures { result ≡ Spec.version_front included zeros MAX_SAFE_INTEGER text.now }
+{
+    let (tuple, behind) = text.split_at(tuple_len(text));
+    let (pre_release, rest) = marked_list(included, true, b'-', behind);
+    let (build, rest) = marked_list(included, false, b'+', rest);
+    if text.len() - rest.len() + absent_len(tuple) > MAX_LENGTH {
+        return None;
+    }
+    let release = release(zeros, tuple)?;
+    Some(VersionRef::from_texts(
+        release.major(),
+        release.minor(),
+        release.patch(),
+        pre_release,
+        build,
+    ))
+}
+
+// The version that is found from the left, with its pre-release and its build or without.
+#[tactic(auto, using(crate::proofs::NpmTexts::Coerced::absents))]
+fn leftmost(included: bool, zeros: bool, text: &str) -> Option<VersionRef<'_>>
+    ensures some { IfSome result (IsCoerced included IsLeftmost (IsNumberIn zeros) text.now) }
+    ensures none { IfNone result
+        (NoValue (IsCoerced included IsLeftmost (IsNumberIn zeros) text.now)) }
+{
+    let bytes = text.as_bytes();
+    version_front(included, zeros, &bytes[first_place(bytes)?..])
+}
+
+// The same from the right.
+#[tactic(auto, using(crate::proofs::NpmTexts::Coerced::absents))]
+fn rightmost(included: bool, zeros: bool, text: &str) -> Option<VersionRef<'_>>
+    ensures some { IfSome result (IsCoerced included IsRightmost (IsNumberIn zeros) text.now) }
+    ensures none { IfNone result
+        (NoValue (IsCoerced included IsRightmost (IsNumberIn zeros) text.now)) }
+{
+    let bytes = text.as_bytes();
+    version_front(included, zeros, &bytes[last_place(included, bytes)?..])
+}
+
 /// Returns the version that a text has anywhere in it, as node-semver's `coerce` does: the leftmost
 /// number, and up to two more behind it that dots join. Missing numbers are 0, and what else stands
 /// in the text is ignored: `coerce("v1.2-rc.3")` is 1.2.0.
@@ -159,27 +361,26 @@ fn release(zeros: bool, tuple: &[u8]) -> Option<VersionRef<'_>>
 /// assert!(rt; npm::coerce("node-20.11 (LTS)") == VersionRef::parse("20.11.0").ok());
 /// assert!(rt; npm::coerce("01.2").is_none());
 /// ```
-#[tactic(auto, using(crate::proofs::NpmTexts::Coerced::lefts))]
 pub fn coerce(text: &str) -> Option<VersionRef<'_>>
     // What is found is the release of the leftmost tuple of numbers.
     ensures some { IfSome result
-        (IsCoerced IsLeftmost (IsStrictNumber MAX_SAFE_INTEGER) text.now) }
+        (IsCoerced false IsLeftmost (IsStrictNumber MAX_SAFE_INTEGER) text.now) }
     // Nothing is found only if the text has no such release.
     ensures none { IfNone result
-        (NoValue (IsCoerced IsLeftmost (IsStrictNumber MAX_SAFE_INTEGER) text.now)) }
+        (NoValue (IsCoerced false IsLeftmost (IsStrictNumber MAX_SAFE_INTEGER) text.now)) }
 {
-    release(false, first_tuple(text.as_bytes())?)
+    leftmost(false, false, text)
 }
 
 /// `coerce` with numbers that may have leading zeros, as node-semver's does if it is told to be
 /// loose.
-#[tactic(auto, using(crate::proofs::NpmTexts::Coerced::lefts))]
 pub fn coerce_loose(text: &str) -> Option<VersionRef<'_>>
-    ensures some { IfSome result (IsCoerced IsLeftmost (IsNumber MAX_SAFE_INTEGER) text.now) }
+    ensures some { IfSome result
+        (IsCoerced false IsLeftmost (IsNumber MAX_SAFE_INTEGER) text.now) }
     ensures none { IfNone result
-        (NoValue (IsCoerced IsLeftmost (IsNumber MAX_SAFE_INTEGER) text.now)) }
+        (NoValue (IsCoerced false IsLeftmost (IsNumber MAX_SAFE_INTEGER) text.now)) }
 {
-    release(true, first_tuple(text.as_bytes())?)
+    leftmost(false, true, text)
 }
 
 /// `coerce` from the right, as node-semver's with `rtl`: of the numbers that dots join, the up to
@@ -188,25 +389,86 @@ pub fn coerce_loose(text: &str) -> Option<VersionRef<'_>>
 /// ```rust
 /// assert!(rt; npm::coerce_rtl("app-2 1.4.0") == VersionRef::parse("1.4.0").ok());
 /// ```
-#[tactic(auto, using(crate::proofs::NpmTexts::Coerced::rights))]
 pub fn coerce_rtl(text: &str) -> Option<VersionRef<'_>>
     // What is found is the release of the tuple of numbers that ends last.
     ensures some { IfSome result
-        (IsCoerced IsRightmost (IsStrictNumber MAX_SAFE_INTEGER) text.now) }
+        (IsCoerced false IsRightmost (IsStrictNumber MAX_SAFE_INTEGER) text.now) }
     // Nothing is found only if the text has no such release.
     ensures none { IfNone result
-        (NoValue (IsCoerced IsRightmost (IsStrictNumber MAX_SAFE_INTEGER) text.now)) }
+        (NoValue (IsCoerced false IsRightmost (IsStrictNumber MAX_SAFE_INTEGER) text.now)) }
 {
-    release(false, last_tuple(text.as_bytes())?)
+    rightmost(false, false, text)
 }
 
 /// `coerce_rtl` with numbers that may have leading zeros, as node-semver's does if it is told to be
 /// loose.
-#[tactic(auto, using(crate::proofs::NpmTexts::Coerced::rights))]
 pub fn coerce_rtl_loose(text: &str) -> Option<VersionRef<'_>>
-    ensures some { IfSome result (IsCoerced IsRightmost (IsNumber MAX_SAFE_INTEGER) text.now) }
+    ensures some { IfSome result
+        (IsCoerced false IsRightmost (IsNumber MAX_SAFE_INTEGER) text.now) }
     ensures none { IfNone result
-        (NoValue (IsCoerced IsRightmost (IsNumber MAX_SAFE_INTEGER) text.now)) }
+        (NoValue (IsCoerced false IsRightmost (IsNumber MAX_SAFE_INTEGER) text.now)) }
 {
-    release(true, last_tuple(text.as_bytes())?)
+    rightmost(false, true, text)
+}
+
+/// `coerce` with the pre-release and the build metadata that stand behind the numbers, as
+/// node-semver's with `includePrerelease`: `v1.2-rc.3+b` is 1.2.0-rc.3+b.
+///
+/// A pre-release is `-` and identifiers joined by dots, and ends before one that is a number with a
+/// leading zero; a build is `+` and identifiers. Each is as long as it can be. Returns `None` also
+/// if the version's text, with `.0` for each missing number, has more than `MAX_LENGTH` characters.
+///
+/// ```rust
+/// assert!(rt; npm::coerce_with_prerelease("v1.2-rc.3 (beta)")
+///     == VersionRef::parse("1.2.0-rc.3").ok());
+/// ```
+pub fn coerce_with_prerelease(text: &str) -> Option<VersionRef<'_>>
+    // What is found is the version of the leftmost tuple of numbers and of what it goes on with.
+    ensures some { IfSome result
+        (IsCoerced true IsLeftmost (IsStrictNumber MAX_SAFE_INTEGER) text.now) }
+    // Nothing is found only if the text has no such version.
+    ensures none { IfNone result
+        (NoValue (IsCoerced true IsLeftmost (IsStrictNumber MAX_SAFE_INTEGER) text.now)) }
+{
+    leftmost(true, false, text)
+}
+
+/// `coerce_with_prerelease` with numbers that may have leading zeros, as node-semver's does if it
+/// is told to be loose. Those of the pre-release may have none.
+pub fn coerce_with_prerelease_loose(text: &str) -> Option<VersionRef<'_>>
+    ensures some { IfSome result (IsCoerced true IsLeftmost (IsNumber MAX_SAFE_INTEGER) text.now) }
+    ensures none { IfNone result
+        (NoValue (IsCoerced true IsLeftmost (IsNumber MAX_SAFE_INTEGER) text.now)) }
+{
+    leftmost(true, true, text)
+}
+
+/// `coerce_with_prerelease` from the right: of the numbers that dots join, with the pre-release and
+/// the build behind them, those that end last, and the longest of these. `1.2.3.4-rc` is 2.3.4-rc.
+///
+/// ```rust
+/// assert!(rt; npm::coerce_rtl_with_prerelease("app-2 1.4.0-b.1")
+///     == VersionRef::parse("1.4.0-b.1").ok());
+/// ```
+pub fn coerce_rtl_with_prerelease(text: &str) -> Option<VersionRef<'_>>
+    // What is found is the version of the tuple of numbers that ends last with what it goes on
+    // with.
+    ensures some { IfSome result
+        (IsCoerced true IsRightmost (IsStrictNumber MAX_SAFE_INTEGER) text.now) }
+    // Nothing is found only if the text has no such version.
+    ensures none { IfNone result
+        (NoValue (IsCoerced true IsRightmost (IsStrictNumber MAX_SAFE_INTEGER) text.now)) }
+{
+    rightmost(true, false, text)
+}
+
+/// `coerce_rtl_with_prerelease` with numbers that may have leading zeros, as node-semver's does if
+/// it is told to be loose. Those of the pre-release may have none.
+pub fn coerce_rtl_with_prerelease_loose(text: &str) -> Option<VersionRef<'_>>
+    ensures some { IfSome result
+        (IsCoerced true IsRightmost (IsNumber MAX_SAFE_INTEGER) text.now) }
+    ensures none { IfNone result
+        (NoValue (IsCoerced true IsRightmost (IsNumber MAX_SAFE_INTEGER) text.now)) }
+{
+    rightmost(true, true, text)
 }
