@@ -156,11 +156,7 @@ const REJECTED: &[&str] = &[
 ];
 
 // Texts that node-semver reads, and `range_loose` does not.
-const LEFT_OUT: &[&str] = &[
-    "0.00.1",
-    "00.1.2",
-    ">1000000000000000000000 1",
-];
+const LEFT_OUT: &[&str] = &["0.00.1", "00.1.2", ">1000000000000000000000 1"];
 
 fn tells(alloc: Global, include: bool, text: &str, version: &str, wanted: bool) -> bool {
     match admits(alloc, include, text, version) {
