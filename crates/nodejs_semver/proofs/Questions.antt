@@ -1,17 +1,17 @@
 -- Questions about ranges: the order that counts builds, parts of ranges, unions, and the ranges of some versions.
-use Rattle.nodejs_semver.proofs.Common.{All, All-from_recursion, AllByRecursion, AreTaking, Bool, Bound, Equal, IfOk, IfOk-weaker}
-use Rattle.nodejs_semver.proofs.Common.{IsLeastOf, IsRange, IsTotalOrder, IsTrue, List, None, Option, Ordering, Result, Some, Span}
-use Rattle.nodejs_semver.proofs.Common.{VersionValue, [], accepts, and_parts, ap, append_assoc, ap₂, arith, common_steps, false, filter}
-use Rattle.nodejs_semver.proofs.Common.{get_or, gt_lt, has_bound, holds, if_any, if◌then◌else◌, inl, inr, is_empty, is_le, is_past-down}
-use Rattle.nodejs_semver.proofs.Common.{is_range_span, is_release, length, length-append, length-map, lets_in, list_all, list_all-append}
-use Rattle.nodejs_semver.proofs.Common.{list_any, list_any-append, list_any-map, map, map-append, names, nat_tests, not, not-true}
-use Rattle.nodejs_semver.proofs.Common.{or_cases, or_left, or_parts, or_right, ordering_reverse, ordering_then, passes, precedence}
-use Rattle.nodejs_semver.proofs.Common.{precedence_total, refl, same_triple, span_of, spans_of, suc, sym, take, tells, tied_itself, true}
-use Rattle.nodejs_semver.proofs.{Common.{zero, ℕ, ◌&&◌, ◌++◌, ◌+◌, ◌<◌, ◌||◌, ◌↔◌, ◌∙◌, ◌∷◌, ◌≡◌, ◌≤◌, ◌⊎◌}, NpmCommon.is_none}
-use Rattle.nodejs_semver.specs.{Internal.Questions.{admits, is_said, is_used}, Npm.{Builds.build_order, Simple.simplified}}
-use Rattle.{nodejs_semver.specs.Npm.{Subsets.{AcceptSame, IsSubset}, Unions.{says_all, union}}, semver_core.specs.Cuts.covers}
-use Rattle.{semver_core.specs.Internal.OrderLaws.{id_same, id_total, same_key}, std.specs.Cmp.{Lexicographic.lists_total, on_total}}
-use Rattle.std.specs.{Cmp.{then_total, upto}, FinMap.slice_cmp-IsAntisymmetric}
+use Rattle.nodejs_semver.proofs.Common.{All, All-weaker, AreTaking, Bool, Bound, Contains, Equal, IfOk, IfOk-weaker, IsLeastOf, IsRange, IsTotalOrder}
+use Rattle.nodejs_semver.proofs.Common.{IsTrue, List, None, Option, Ordering, Result, Some, Span, VersionValue, [], accepts, and_parts, ap}
+use Rattle.nodejs_semver.proofs.Common.{append_assoc, ap₂, arith, common_steps, false, filter, get_or, gt_lt, has_bound, holds, if_any, if◌then◌else◌}
+use Rattle.nodejs_semver.proofs.Common.{is_empty, is_le, is_past-down, is_range_span, is_release, length, length-append, lets_in, list_all}
+use Rattle.nodejs_semver.proofs.Common.{list_all-append, list_any, list_any-append, list_any-map, map, map-append, names, nat_tests, not, not-true}
+use Rattle.nodejs_semver.proofs.Common.{or-false, or_cases, or_left, or_parts, or_right, ordering_reverse, ordering_then, passes, precedence}
+use Rattle.nodejs_semver.proofs.Common.{precedence_total, refl, same_triple, span_of, spans_of, suc, sym, take, tells, tied_itself, true, zero, ℕ}
+use Rattle.nodejs_semver.proofs.{Common.{◌&&◌, ◌++◌, ◌+◌, ◌<◌, ◌||◌, ◌↔◌, ◌∙◌, ◌∷◌, ◌≡◌, ◌≤◌, ◌⊎◌}, NpmCommon.is_none}
+use Rattle.nodejs_semver.specs.{Internal.Questions.{admits, is_said, is_used}, Npm.{Builds.build_order, Simple.simplified, Subsets.AcceptSame}}
+use Rattle.{nodejs_semver.specs.Npm.{Subsets.IsSubset, Unions.{says_all, union}}, semver_core.specs.{Cuts.covers, Internal.OrderLaws.id_same}}
+use Rattle.{semver_core.specs.Internal.OrderLaws.{id_total, same_key}, std.proofs.lemmas.List.Elements.All-contains_itself}
+use Rattle.std.{proofs.lemmas.List.{Filters.length-filter_both, Folds.list_any_at}, specs.Cmp.{Lexicographic.lists_total, on_total, then_total, upto}}
+use Rattle.std.specs.FinMap.{slice_cmp-IsAntisymmetric}
 
 build_total : IsTotalOrder build_order
 build_total = then_total precedence_total (on_total (λ (v : VersionValue). v.build) (lists_total id_total))
@@ -53,49 +53,39 @@ pub by_least : (a b : List (Span VersionValue)) (set : VersionValue → Bool) (i
 by_least a b set include e r h = grind (arith, nat_tests, common_steps)
 
 -- nothing is in a set that has no least version
-pub none_in : (set : VersionValue → Bool) (r : Option VersionValue) → IsLeastOf set r
-    → IsTrue (is_none r) ↔ ((v : VersionValue) → set v ≡ false)
+pub none_in : (set : VersionValue → Bool) (r : Option VersionValue) → IsLeastOf set r → IsTrue (is_none r) ↔ ((v : VersionValue) → set v ≡ false)
 none_in set r h = grind (arith, nat_tests, common_steps)
 
-pub by_difference : (a b d : List (Span VersionValue))
-    → ((v : VersionValue) → accepts d v true ≡ (accepts a v true && not (accepts b v true)))
+pub by_difference : (a b d : List (Span VersionValue)) → ((v : VersionValue) → accepts d v true ≡ (accepts a v true && not (accepts b v true)))
     → (answer : Bool) → IsTrue answer ↔ ((v : VersionValue) → accepts d v true ≡ false) → IsTrue answer ↔ IsSubset true a b
 by_difference a b d e answer h = grind (arith, nat_tests, common_steps)
 
 -- ranges that are part of each other accept the same
-by_both : (include : Bool) (a b : List (Span VersionValue)) → IsSubset include a b → (answer : Bool)
-    → IsTrue answer ↔ IsSubset include b a → IsTrue answer ↔ AcceptSame include a b
-by_both include a b h answer k = grind (arith, nat_tests, common_steps)
-
 pub of_both : {E : Type 0} (include : Bool) (a b : List (Span VersionValue)) (r : Result Bool E) → IsSubset include a b
     → IfOk r (λ answer. IsTrue answer ↔ IsSubset include b a) → IfOk r (λ answer. IsTrue answer ↔ AcceptSame include a b)
-of_both include a b r h k = IfOk-weaker r _ _ (by_both include a b h) k
+of_both include a b r h k = IfOk-weaker r _ _ (λ answer is. grind (arith, nat_tests, common_steps)) k
 
 pub not_both : (include answer : Bool) (a b : List (Span VersionValue)) → IsTrue answer ↔ IsSubset include a b → answer ≡ false
     → IsTrue false ↔ AcceptSame include a b
 not_both include answer a b h e = grind (arith, nat_tests, common_steps)
 
--- ---- when memory is taken
-
 -- ---- unions
 
 -- what a span holds, one that covers it holds
-covers-holds : (s t : Span VersionValue) (v : VersionValue) → covers precedence s t ≡ true → holds precedence t v ≡ true
-    → holds precedence s v ≡ true
+covers-holds : (s t : Span VersionValue) (v : VersionValue) → covers precedence s t ≡ true → holds precedence t v ≡ true → holds precedence s v ≡ true
 covers-holds s t v c h = grind (arith, and_parts, is_past-down, precedence_total, tells, gt_lt, not-true)
 
 -- a bound names alike two versions of the same three numbers
 same_names : (b : Bound VersionValue) (w v : VersionValue) → same_triple w v ≡ true → names b w ≡ names b v
 same_names b w v h = grind (arith, nat_tests, common_steps)
 
-let_in_by : (s : Span VersionValue) (w v : VersionValue) → (not (is_release w) && same_triple w v) ≡ true
-    → not (lets_in s w) ≡ false → lets_in s v ≡ true
-let_in_by s w v n k = grind (arith, and_parts, or_right, ap₂, same_names, not)
-
 -- a bound names v: a span that lets in the bound's version lets in v
 named_let_in : (s : Span VersionValue) (b : Bound VersionValue) (v : VersionValue) → names b v ≡ true
     → passes (λ w. not (lets_in s w)) b ≡ false → lets_in s v ≡ true
-named_let_in s b v n k = grind (arith, nat_tests, common_steps, let_in_by)
+named_let_in s b v n k = grind (arith, nat_tests, common_steps, let_in)
+  where
+    let_in : (w : VersionValue) → (not (is_release w) && same_triple w v) ≡ true → not (lets_in s w) ≡ false → lets_in s v ≡ true
+    let_in w n k = grind (arith, and_parts, or_right, ap₂, same_names, not)
 
 -- what a span accepts, one that says all of it accepts
 says_all-accepts : (s t : Span VersionValue) (v : VersionValue) (include : Bool) → says_all s t ≡ true
@@ -109,15 +99,10 @@ pub filtered : {A : Type 0} (p q : A → Bool) (a : Bool) → ((x : A) → p x �
 filtered p q a h [] = refl
 filtered p q a h (x ∷ xs) = grind (arith, h x, filtered p q a h xs)
 
-said : (ss : List (Span VersionValue)) (t : Span VersionValue) (v : VersionValue) (include : Bool)
-    → list_any (λ s. says_all s t) ss ≡ true → (holds precedence t v && (include || lets_in t v)) ≡ true
-    → accepts ss v include ≡ true
+said : (ss : List (Span VersionValue)) (t : Span VersionValue) (v : VersionValue) (include : Bool) → list_any (λ s. says_all s t) ss ≡ true
+    → (holds precedence t v && (include || lets_in t v)) ≡ true → accepts ss v include ≡ true
 said [] t v include a h = cc
-said (s ∷ ss) t v include a h =
-    elim (or_cases (says_all s t) _ a) [
-      | inl here ↦ or_left _ _ (says_all-accepts s t v include here h)
-      | inr there ↦ or_right _ _ (said ss t v include there h)
-    ]
+said (s ∷ ss) t v include a h = grind (arith, or_cases, says_all-accepts s t v include, said ss t v include, or_left, or_right)
 
 pub union-accepts : (ss ts : List (Span VersionValue)) (v : VersionValue) (include : Bool)
     → accepts (union ss ts) v include ≡ (accepts ss v include || accepts ts v include)
@@ -126,9 +111,8 @@ union-accepts ss ts v include = grind (arith, list_any-append, filtered, not, sa
 -- ---- the loops
 
 -- the same, for an element that stays and for one that goes
-pub stays_behind : {A : Type 0} (p : A → Bool) (xs : List A) (i : ℕ) (x : A) (front old new : List A) → i < length xs
-    → x ≡ get_or xs i x → p x ≡ true → old ≡ front ++ filter p (take i xs) → new ≡ old ++ x ∷ []
-    → new ≡ front ++ filter p (take (i + 1) xs)
+pub stays_behind : {A : Type 0} (p : A → Bool) (xs : List A) (i : ℕ) (x : A) (front old new : List A) → i < length xs → x ≡ get_or xs i x → p x ≡ true
+    → old ≡ front ++ filter p (take i xs) → new ≡ old ++ x ∷ [] → new ≡ front ++ filter p (take (i + 1) xs)
 stays_behind p xs i x front old new h at k e n = grind (arith, nat_tests, common_steps)
 
 pub goes_behind : {A : Type 0} (p : A → Bool) (xs : List A) (i : ℕ) (x : A) (front old : List A) → i < length xs
@@ -140,8 +124,7 @@ filter-parts : {A : Type 0} (p : A → Bool) (xs : List A) (i : ℕ) (x : A) →
     → (rest : List A) × (filter p xs ≡ filter p (take i xs) ++ x ∷ rest)
 filter-parts p [] i x h at k = absurd (omega (arith, h))
 filter-parts p (y ∷ ys) zero x h at k = (filter p ys, rw (sym at, k) refl)
-filter-parts {A = A} p (y ∷ ys) (suc i) x h at k =
-    grind (arith, nat_tests, common_steps, filter-parts p ys i x (omega (arith, h)))
+filter-parts {A = A} p (y ∷ ys) (suc i) x h at k = grind (arith, nat_tests, common_steps, filter-parts p ys i x (omega (arith, h)))
 
 -- an element that stays takes memory by itself, or is not the first: so does the whole list that is made
 pub taken_at : {V : Type 0} (takes : V → Bool) (p : Span V → Bool) (xs front now : List (Span V)) (i : ℕ) (x : Span V)
@@ -171,9 +154,8 @@ pub union-valid : (limit : ℕ) (ss ts : List (Span VersionValue)) → IsRange l
 union-valid limit ss ts h k = grind (arith, nat_tests, common_steps, length-append, list_all-append, all-filter)
 
 -- the list of a union that was made so
-pub union-made : {V : Type 0} (value : V → VersionValue) (xs ys one both : List (Span V)) (ss ts : List (Span VersionValue))
-    → spans_of value xs ≡ ss → spans_of value ys ≡ ts → one ≡ xs
-    → both ≡ one ++ filter (λ t. not (is_said value xs t)) ys → spans_of value both ≡ union ss ts
+pub union-made : {V : Type 0} (value : V → VersionValue) (xs ys one both : List (Span V)) (ss ts : List (Span VersionValue)) → spans_of value xs ≡ ss
+    → spans_of value ys ≡ ts → one ≡ xs → both ≡ one ++ filter (λ t. not (is_said value xs t)) ys → spans_of value both ≡ union ss ts
 union-made value xs ys one both ss ts p q e k = grind (arith, nat_tests, common_steps, not, map-append, map-filter, list_any-map, ap₂)
 
 -- copies that take memory make the union take it
@@ -187,127 +169,61 @@ abbrev used_of : List VersionValue → List (Span VersionValue) → List (Span V
 used_of vs ss = filter (λ s. list_any (λ v. admits s v) vs) ss
 
 one_span : (s : Span VersionValue) (v : VersionValue) → accepts (s ∷ []) v false ≡ admits s v
-one_span s v = end (holds precedence s v) (lets_in s v)
-  where
-    end : (a b : Bool) → ((a && (false || b)) || false) ≡ (a && b)
-    end false b = refl
-    end true false = refl
-    end true true = refl
+one_span s v = or-false (admits s v)
 
-chosen : {A : Type 0} (used all : List A) → 0 < length used → (if is_empty used then all else used) ≡ used
-chosen [] all h = absurd (omega (arith, h))
-chosen (x ∷ xs) all h = refl
-
-simplified-is : (vs : List VersionValue) (ss : List (Span VersionValue))
-    → simplified vs ss ≡ (if is_empty (used_of vs ss) then ss else used_of vs ss)
+simplified-is : (vs : List VersionValue) (ss : List (Span VersionValue)) → simplified vs ss ≡ (if is_empty (used_of vs ss) then ss else used_of vs ss)
 simplified-is vs ss = λ i. let used = filter (λ s. list_any (λ v. one_span s v i) vs) ss in if is_empty used then ss else used
 
--- where a version is accepted
-some-simple : (vs : List VersionValue) (ss : List (Span VersionValue)) → 0 < length (used_of vs ss)
-    → simplified vs ss ≡ used_of vs ss
-some-simple vs ss h = simplified-is vs ss ∙ chosen (used_of vs ss) ss h
+used_same : (vs : List VersionValue) (ss : List (Span VersionValue)) → All (λ v. accepts (used_of vs ss) v false ≡ accepts ss v false) vs
+used_same vs ss =
+    All-weaker (Contains vs) _ (λ v at. filtered _ (λ s. admits s v) false (λ s n k. sym n
+    ∙ list_any_at (λ w. admits s w) vs at.0 v at.1 (ap (λ w. admits s w) at.2 ∙ k)) ss) vs (All-contains_itself vs)
 
--- where none is
-none-simple : (vs : List VersionValue) (ss : List (Span VersionValue)) → used_of vs ss ≡ [] → simplified vs ss ≡ ss
-none-simple vs ss e = simplified-is vs ss ∙ ap (λ l. if is_empty l then ss else l) e
+-- a list that is not empty, and an empty one
+some_list : {A : Type 0} (r list all : List A) → Some r ≡ if_any list → (r ≡ list) × ((if is_empty list then all else list) ≡ r)
+some_list r [] all e = cc
+some_list r (x ∷ xs) all e = (cc, cc)
 
--- a filter that keeps whatever one of these versions needs
-kept_same : (p : Span VersionValue → Bool) (ss : List (Span VersionValue)) (vs : List VersionValue)
-    → ((s : Span VersionValue) → list_any (λ v. admits s v) vs ≡ true → p s ≡ true)
-    → AllByRecursion (λ v. accepts (filter p ss) v false ≡ accepts ss v false) vs
-kept_same p ss [] h = tt
-kept_same p ss (v ∷ vs) h = (
-  filtered p (λ s. admits s v) false (λ s n k. (sym n ∙ (h s (or_left _ _ k)))) ss,
-  kept_same p ss vs (λ s k. h s (or_right _ _ k)),
-)
+no_list : {A : Type 0} (list all : List A) → None ≡ if_any list → (if is_empty list then all else list) ≡ all
+no_list [] all e = refl
+no_list (x ∷ xs) all e = cc
 
-used_same : (vs : List VersionValue) (ss : List (Span VersionValue))
-    → All (λ v. accepts (used_of vs ss) v false ≡ accepts ss v false) vs
-used_same vs ss = All-from_recursion _ vs (kept_same _ ss vs (λ s k. k))
+module _ {V W : Type 0} (value : V → VersionValue) (other : W → VersionValue) (ws : List W) (xs used : List (Span V))
+    (ss : List (Span VersionValue)) (p : spans_of value xs ≡ ss) (e : used ≡ filter (is_used value other ws) xs) where
+  made : spans_of value used ≡ used_of (map other ws) ss
+  made = ap (spans_of value) e ∙ (map-filter (span_of value) _ (λ s. list_any (λ v. admits s v) (map other ws))
+      (λ x. sym (list_any-map (λ v. admits (span_of value x) v) other ws)) xs ∙ ap (used_of (map other ws)) p)
 
-shorter : {A : Type 0} (p : A → Bool) (xs : List A) → length (filter p xs) ≤ length xs
-shorter p [] = omega arith
-shorter p (x ∷ xs) = grind (arith, shorter p xs)
+  simplified-made : simplified (map other ws) ss ≡ (if is_empty (spans_of value used) then ss else spans_of value used)
+  simplified-made = simplified-is (map other ws) ss ∙ ap (λ l. if is_empty l then ss else l) (sym made)
 
-module _ {V W : Type 0} (value : V → VersionValue) (other : W → VersionValue) (ws : List W) where
-  used-values : (xs : List (Span V)) → spans_of value (filter (is_used value other ws) xs)
-      ≡ used_of (map other ws) (spans_of value xs)
-  used-values xs =
-      map-filter (span_of value) _ (λ s. list_any (λ v. admits s v) (map other ws))
-      (λ x. sym (list_any-map (λ v. admits (span_of value x) v) other ws)) xs
+  pub used-valid : (limit : ℕ) → IsRange limit ss → list_all (is_range_span (limit + 1)) (spans_of value used) ≡ true
+  used-valid limit h = ap (list_all (is_range_span (limit + 1))) made ∙ all-filter _ _ ss h.each
 
-  made : (xs used : List (Span V)) (ss : List (Span VersionValue)) → spans_of value xs ≡ ss
-      → used ≡ filter (is_used value other ws) xs → spans_of value used ≡ used_of (map other ws) ss
-  made xs used ss p e = ap (spans_of value) e ∙ used-values xs ∙ ap (used_of (map other ws)) p
+  pub some-list : (r : List (Span VersionValue)) → Some r ≡ if_any (spans_of value used) → r ≡ simplified (map other ws) ss
+  some-list r k = sym (simplified-made ∙ (some_list r _ ss k).1)
 
-  pub used-valid : (limit : ℕ) (xs used : List (Span V)) (ss : List (Span VersionValue)) → spans_of value xs ≡ ss
-      → used ≡ filter (is_used value other ws) xs → IsRange limit ss
-      → list_all (is_range_span (limit + 1)) (spans_of value used) ≡ true
-  used-valid limit xs used ss p e h = ap (list_all (is_range_span (limit + 1))) (made xs used ss p e) ∙ all-filter _ _ ss h.each
-
-  -- the list of a result that is a list, if it is not empty
-  list_of : {A : Type 0} (r list : List A) → Some r ≡ if_any list → r ≡ list
-  list_of r [] e = cc
-  list_of r (x ∷ xs) e = cc
-
-  found : (xs used : List (Span V)) (ss r : List (Span VersionValue)) → spans_of value xs ≡ ss
-      → used ≡ filter (is_used value other ws) xs → Some r ≡ if_any (spans_of value used) → r ≡ used_of (map other ws) ss
-  found xs used ss r p e k = list_of r (spans_of value used) k ∙ made xs used ss p e
-
-  pub some-same : (xs used : List (Span V)) (ss r : List (Span VersionValue)) → spans_of value xs ≡ ss
-      → used ≡ filter (is_used value other ws) xs → Some r ≡ if_any (spans_of value used)
+  pub some-same : (r : List (Span VersionValue)) → Some r ≡ if_any (spans_of value used)
       → All (λ v. accepts r v false ≡ accepts ss v false) (map other ws)
-  some-same xs used ss r p e k = rw (found xs used ss r p e k) (used_same (map other ws) ss)
+  some-same r k = rw ((some_list r _ ss k).0, made) (used_same (map other ws) ss)
 
-  pub some-shorter : (xs used : List (Span V)) (ss r : List (Span VersionValue)) → spans_of value xs ≡ ss
-      → used ≡ filter (is_used value other ws) xs → Some r ≡ if_any (spans_of value used) → length r ≤ length ss
-  some-shorter xs used ss r p e k = rw (found xs used ss r p e k) (shorter _ ss)
+  pub some-shorter : (r : List (Span VersionValue)) → Some r ≡ if_any (spans_of value used) → length r ≤ length ss
+  some-shorter r k = rw ((some_list r _ ss k).0, made) (omega (arith, length-filter_both _ (λ s. not (list_any (λ v. admits s v) (map other ws))) (λ s. refl) ss))
 
-  -- a list that is not empty, and an empty one
-  filled : {A : Type 0} (r list : List A) → Some r ≡ if_any list → 0 < length list
-  filled r [] e = cc
-  filled r (x ∷ xs) e = omega arith
-
-  empty : {A : Type 0} (list : List A) → None ≡ if_any list → list ≡ []
-  empty [] e = refl
-  empty (x ∷ xs) e = cc
-
-  pub some-list : (xs used : List (Span V)) (ss r : List (Span VersionValue)) → spans_of value xs ≡ ss
-      → used ≡ filter (is_used value other ws) xs → Some r ≡ if_any (spans_of value used) → r ≡ simplified (map other ws) ss
-  some-list xs used ss r p e k =
-      found xs used ss r p e k
-      ∙ sym (some-simple (map other ws) ss (omega (arith, filled r _ k, ap length (made xs used ss p e))))
-
-  pub none-list : (xs used : List (Span V)) (ss : List (Span VersionValue)) → spans_of value xs ≡ ss
-      → used ≡ filter (is_used value other ws) xs → None ≡ if_any (spans_of value used) → ss ≡ simplified (map other ws) ss
-  none-list xs used ss p e k = sym (none-simple (map other ws) ss (sym (made xs used ss p e) ∙ empty _ k))
+  pub none-list : None ≡ if_any (spans_of value used) → ss ≡ simplified (map other ws) ss
+  none-list k = sym (simplified-made ∙ no_list _ ss k)
 
   -- what takes memory is not empty
-  taking_some : (takes : V → Bool) (used : List (Span V)) → AreTaking takes used → 0 < length used
-  taking_some takes used (inl many) = omega (arith, many)
-  taking_some takes [] (inr any) = cc
-  taking_some takes (x ∷ xs) (inr any) = omega arith
-
-  pub used-taking : (takes : V → Bool) (xs used : List (Span V)) (ss : List (Span VersionValue)) → spans_of value xs ≡ ss
-      → used ≡ filter (is_used value other ws) xs → AreTaking takes used → spans_of value used ≡ simplified (map other ws) ss
-  used-taking takes xs used ss p e t =
-      made xs used ss p e
-      ∙ sym (some-simple (map other ws) ss (omega (
-        arith,
-        taking_some takes used t,
-        length-map used (span_of value),
-        ap length (made xs used ss p e),
-      )))
-
-each_same : (ss : List (Span VersionValue)) (vs : List VersionValue)
-    → AllByRecursion (λ v. accepts ss v false ≡ accepts ss v false) vs
-each_same ss [] = tt
-each_same ss (v ∷ vs) = (refl, each_same ss vs)
+  pub used-taking : (takes : V → Bool) → AreTaking takes used → spans_of value used ≡ simplified (map other ws) ss
+  used-taking takes t = sym (simplified-made ∙ go used t)
+    where
+      go : (all : List (Span V)) → AreTaking takes all → (if is_empty (spans_of value all) then ss else spans_of value all) ≡ spans_of value all
+      go [] t = grind arith
+      go (x ∷ xs) t = refl
 
 -- a copy answers the same about every version
-pub copy-same : (r ss : List (Span VersionValue)) (vs : List VersionValue) → r ≡ ss
-    → All (λ v. accepts r v false ≡ accepts ss v false) vs
-copy-same r ss vs e = rw e (All-from_recursion _ vs (each_same ss vs))
+pub copy-same : (r ss : List (Span VersionValue)) (vs : List VersionValue) → r ≡ ss → All (λ v. accepts r v false ≡ accepts ss v false) vs
+copy-same r ss vs e = All-weaker (Contains vs) (λ v. accepts r v false ≡ accepts ss v false) (λ v at i. accepts (e i) v false) vs (All-contains_itself vs)
 
 pub copy-shorter : (r ss : List (Span VersionValue)) → r ≡ ss → length r ≤ length ss
 copy-shorter r ss e = omega (arith, ap length e)

@@ -463,8 +463,8 @@ word-good pre v text word cs w (signed s t p h m) k = signed-good pre v w t s p 
 -- ---- the lower end
 
 low-form : (pre : Bool) (v : VersionValue) (text : List ℕ) (p : Partial) → Form pre p → IsPartial false text (npm_partial p)
-    → list_all (is_valid MAX_SAFE_INTEGER) (hyphen_lower false (npm_partial p) text) ≡ true
-    → Low v (version_of p) (hyphen_lower false (npm_partial p) text)
+    → list_all (is_valid MAX_SAFE_INTEGER) (hyphen_lower at_least false (npm_partial p) text) ≡ true
+    → Low v (version_of p) (hyphen_lower at_least false (npm_partial p) text)
 low-form pre v text p any t h = any_low v
 low-form pre v text p (one M) t h = from_low v (M, 0, 0) (first_so (is_valid MAX_SAFE_INTEGER (from false (M, 0, 0))) _ h)
 low-form pre v text p (two M m) t h = from_low v (M, m, 0) (first_so (is_valid MAX_SAFE_INTEGER (from false (M, m, 0))) _ h)
@@ -498,7 +498,7 @@ made-word pre v w u t cs e f = let (same, i) = interval-is _ t e in subst (λ t.
 
 hyphen-form : (pre : Bool) (v : VersionValue) (p q : Partial) (cs : List Comparison) (text : List ℕ) (s : Span VersionValue)
     → Low v (version_of p) cs → (pre || is_release (version_of p)) ≡ true → Form pre q
-    → is_some q.major ≡ true → table MAX_SAFE_INTEGER (hyphen p q) ≡ Some s → SameWord pre v s (cs ++ hyphen_upper false (npm_partial q) text)
+    → is_some q.major ≡ true → table MAX_SAFE_INTEGER (hyphen p q) ≡ Some s → SameWord pre v s (cs ++ hyphen_upper at_most false (npm_partial q) text)
 unfolding table
 hyphen-form pre v p q cs text s low w any m e = cc m
 hyphen-form pre v p q cs text s low w (one M) m e = made-word pre v (version_of p) (Before (lowest (M + 1, 0, 0))) s _ e
@@ -521,10 +521,10 @@ hyphen-form pre v p q cs text s low w (three M n o (i ∷ x) y f) m e =
 pub between-good : (pre : Bool) (v : VersionValue) (x y : List ℕ) (p q : Partial) (s : Span VersionValue)
     → IsPlainPartial MAX_SAFE_INTEGER pre x p → IsPlainPartial MAX_SAFE_INTEGER pre y q → is_some q.major ≡ true
     → table MAX_SAFE_INTEGER (hyphen p q) ≡ Some s
-    → list_all (is_valid MAX_SAFE_INTEGER) (hyphen_lower false (npm_partial p) x ++ hyphen_upper false (npm_partial q) y) ≡ true
-    → SameWord pre v s (hyphen_lower false (npm_partial p) x ++ hyphen_upper false (npm_partial q) y)
+    → list_all (is_valid MAX_SAFE_INTEGER) (hyphen_lower at_least false (npm_partial p) x ++ hyphen_upper at_most false (npm_partial q) y) ≡ true
+    → SameWord pre v s (hyphen_lower at_least false (npm_partial p) x ++ hyphen_upper at_most false (npm_partial q) y)
 between-good pre v x y p q s h g m e k =
-    let cs = hyphen_lower false (npm_partial p) x in
-    let (kc, kd) = and_parts _ _ (sym (list_all-append (is_valid MAX_SAFE_INTEGER) cs (hyphen_upper false (npm_partial q) y)) ∙ k) in
+    let cs = hyphen_lower at_least false (npm_partial p) x in
+    let (kc, kd) = and_parts _ _ (sym (list_all-append (is_valid MAX_SAFE_INTEGER) cs (hyphen_upper at_most false (npm_partial q) y)) ∙ k) in
     hyphen-form pre v p q cs y s (low-form pre v x p (form pre p h.plain) h.npm kc) (grind (arith, nat_tests, common_steps))
     (form pre q g.plain) m e

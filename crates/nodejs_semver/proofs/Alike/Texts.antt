@@ -16,6 +16,10 @@ use Rattle.nodejs_semver.specs.Npm.{Alike.{IsPlainAlternative, bare, between, on
 use Rattle.nodejs_semver.specs.Text.Common.{IsCommonPart, IsCommonWord, IsGap, caret_word, compare_word, comparison, hyphen_word}
 use Rattle.nodejs_semver.specs.Text.{Common.{more_parts, one_part, plain_word, tilde_word, two_comparisons}, WordText.above_sign}
 use Rattle.nodejs_semver.specs.Text.WordText.{at_least_sign, at_most_sign, below_sign, equal_sign}
+use Rattle.nodejs_semver.proofs.{Common.{None, Option, Some, begins, space_len-nil}, NpmCommon.{AreWords, BeginsWord, npm_partial}, Reading.Bytes.{component-solid, is_solid, solid-dark}}
+use Rattle.nodejs_semver.proofs.{Reading.WordLaw.{blank-len, trim-utf8}, Strict.{Hyphens.strict-words, Words.places-begin}}
+use Rattle.nodejs_semver.specs.Text.WordText.{SkipsBlank}
+use Rattle.semver_core.specs.Text.Characters.{BeginsBlank}
 use Rattle.nodejs_semver.proofs.Dividing.MeaningLaw as meaning
 use Rattle.nodejs_semver.specs.Npm.RangeText as Npm
 use Rattle.nodejs_semver.specs.Npm.Ranges as Ranges
@@ -79,21 +83,65 @@ sign_text s = rw append-nil at (Npm.sign s [] no_blank)
 pub no_mark : (a : Bool) → (a && false) ≡ false
 no_mark a = grind arith
 
-word-is : (is_last : Bool) (limit : ℕ) (pre : Bool) (text : List ℕ) (word : Word) (cs : List Comparison) → IsPlainWord limit pre text word cs
-    → IsWord false false is_last text cs
-word-is is_last limit pre text word cs (bare t p h) = Npm.word [] [] t (compared equal) _ Npm.no_sign (no_marks (compared equal) _) refl h.npm
-word-is is_last limit pre text word cs (signed s t p h m) =
-    Npm.word (spelling s) [] t s _ (sign_text s) (no_marks s _) (no_mark _) h.npm
+-- a text that does not begin with whitespace
+pub solid-start : (text : List ℕ) → begins is_solid text ≡ true → BeginsBlank text → ⊥
+solid-start text h b = omega (arith, blank-len text b, solid-dark text h)
 
-part-is : (limit : ℕ) (pre : Bool) (text : List ℕ) (s : Span VersionValue) (cs : List Comparison)
-    → IsPlainAlternative limit pre text s cs → IsAlternative false false text cs
-part-is limit pre text s cs (one_word t word s' cs' h e) = Npm.words t cs' (Npm.last t cs' (word-is true limit pre t word cs' h))
-part-is limit pre text s cs (two_words c d x y p q a b m hp mp ep hq mq eq e apart) =
-    Npm.words _ _ (Npm.more _ (codes " ") _ _ _ (word-is false limit pre _ _ _ (signed (compared c) x p hp mp)) one_blank (lit< tt)
-    (Npm.last _ _ (word-is true limit pre _ _ _ (signed (compared d) y q hq mq))))
-part-is limit pre text s cs (between x y p q m h k some e) =
-    Npm.hyphen [] x (codes " ") (codes " ") [] y _ _ no_ends (either_true (is_free_lower _)) h.npm one_blank (lit< tt) one_blank (lit< tt)
-    no_ends (either_true (is_free_upper false _)) k.npm
+begins-space : (rest : List ℕ) → BeginsBlank (32 ∷ rest)
+unfolding encode_utf8
+begins-space rest = record { character = 32; rest = rest; passes = refl; spelled = refl }
+
+-- one word, and two with a space between them
+pub word-alone : (include : Bool) (w x : List ℕ) (cs : List Comparison) → IsWord false include w x cs → AreWords false include w (Some cs ∷ [])
+word-alone include w x cs h =
+    let nothing : SkipsBlank [] [] = ([], refl, no_blank, λ b. omega (arith, blank-len [] b, space_len-nil)) in
+    Npm.more w [] (Some cs) [] (Npm.formed [] cs (record { word = w; partial = x; divided = sym (append-nil w); is = h; ended = inl refl }) refl nothing) Npm.none
+
+pub words-spaced : (include : Bool) (v x w y : List ℕ) (cs ds : List Comparison) → IsWord false include v x cs → IsWord false include w y ds
+    → begins is_solid w ≡ true → AreWords false include (v ++ 32 ∷ w) (Some cs ∷ (Some ds ∷ []))
+words-spaced include v x w y cs ds h k solid =
+    let skips : SkipsBlank (32 ∷ w) w = (codes " ", refl, one_blank, solid-start w solid) in
+    let first : BeginsWord false include (v ++ 32 ∷ w) (32 ∷ w) cs = record { word = v; partial = x; divided = refl; is = h; ended = inr (begins-space w) } in
+    Npm.more _ w (Some cs) _ (Npm.formed (32 ∷ w) cs first refl skips) (word-alone include w y ds k)
+
+record WordIs (text : List ℕ) (cs : List Comparison) : Type 0 where
+  partial : List ℕ
+  is : IsWord false false text partial cs
+
+word-is : (limit : ℕ) (pre : Bool) (text : List ℕ) (word : Word) (cs : List Comparison) → IsPlainWord limit pre text word cs → WordIs text cs
+word-is limit pre text word cs (bare t p h) = record {
+  partial = t;
+  is = Npm.word [] [] t (compared equal) _ Npm.no_sign (no_marks (compared equal) _) refl h.npm.0;
+}
+word-is limit pre text word cs (signed s t p h m) = record {
+  partial = t;
+  is = Npm.word (spelling s) [] t s _ (sign_text s) (no_marks s _) (no_mark _) h.npm.0;
+}
+
+sign-solid : (c : Comparator) (y : List ℕ) → begins is_solid (spelling (compared c) ++ y) ≡ true
+sign-solid c y = grind arith
+
+part-is : (limit : ℕ) (pre : Bool) (text : List ℕ) (s : Span VersionValue) (cs : List Comparison) → IsPlainAlternative limit pre text s cs
+    → IsUtf8 text → IsAlternative false false text false cs
+part-is limit pre text s cs (one_word t word s' cs' h e) u =
+    let w = word-is limit pre t word cs' h in
+    rw append-nil at (strict-words false t (Some cs' ∷ []) u (word-alone false t w.partial cs' w.is))
+part-is limit pre text s cs (two_words c d x y p q a b m hp mp ep hq mq eq e apart) u =
+    let v = word-is limit pre _ _ _ (signed (compared c) x p hp mp) in
+    let w = word-is limit pre _ _ _ (signed (compared d) y q hq mq) in
+    rw append-nil at (strict-words false _ _ u (words-spaced false _ v.partial _ w.partial _ _ v.is w.is (sign-solid d y)))
+part-is limit pre text s cs (between x y p q m h k some e) u =
+    Npm.hyphen _ (record {
+      before = codes " - " ++ y;
+      after = codes " " ++ y;
+      second = y;
+      lower = record { marks = []; places = x; partial = npm_partial p; divided = refl; are = no_ends; is = h.npm.0 };
+      blank = begins-space _;
+      dash = (codes " ", refl, one_blank, solid-start _ refl);
+      gap = begins-space y;
+      skipped = (codes " ", refl, one_blank, solid-start y (component-solid y (rw append-nil at (places-begin false y [] _ k.npm.0))));
+      upper = record { marks = []; places = y; partial = npm_partial q; divided = sym (append-nil y); are = no_ends; is = k.npm.0 };
+    }) (either_true _) (either_true _)
 
 part-compact : (limit : ℕ) (pre : Bool) (text : List ℕ) (s : Span VersionValue) (cs : List Comparison)
     → IsPlainAlternative limit pre text s cs → Compact text
@@ -107,12 +155,13 @@ trimmed piece part u e = subst (λ (t : List ℕ). IsTrim piece t) e (trim_is_mi
 
 -- one alternative among others
 pub joined : (include : Bool) (pieces others : List (List ℕ)) (piece part : List ℕ) (cs : List Comparison) (rest : List (List Comparison))
-    → pieces ≡ piece ∷ others → trim piece ≡ part → IsAlternative false include part cs → AllByRecursion IsUtf8 pieces
+    → pieces ≡ piece ∷ others → trim piece ≡ part → (IsUtf8 part → IsAlternative false include part false cs) → AllByRecursion IsUtf8 pieces
     → (AllByRecursion IsUtf8 others → AreAlternatives false include others rest) → AreAlternatives false include pieces (cs ∷ rest)
 joined include pieces others piece part cs rest e t is u f =
     let v : AllByRecursion IsUtf8 (piece ∷ others) = subst (AllByRecursion IsUtf8) e u in
+    let m = trimmed piece part v.0 t in
     subst (λ (ps : List (List ℕ)). AreAlternatives false include ps (cs ∷ rest)) (sym e)
-    (next piece part others cs rest (trimmed piece part v.0 t) is (f v.1))
+    (next piece part others false cs rest m (is (trim-utf8 piece part v.0 m)) (f v.1))
 
 all-are : (limit : ℕ) (pre : Bool) (text : List ℕ) (list : List (Span VersionValue)) (all : List (List Comparison)) (gap : List ℕ)
     → IsGap gap → ArePlain limit pre text list all → AllByRecursion IsUtf8 (cut_bars false (gap ++ text))

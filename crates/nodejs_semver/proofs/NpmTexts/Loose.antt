@@ -1,19 +1,17 @@
 -- Version texts of the loose reading: the function that reads them finds exactly what the statement has.
-use Rattle.nodejs_semver.proofs.Common.{Bool, Front, Id, IsNumber, IsPieceAt, IsTrim, IsUtf8, IsWholeNumber, List, NoPieceAt, None, Some}
-use Rattle.nodejs_semver.proofs.Common.{VersionValue, [], and_parts, ap, append-nil, arith, begins, begins_identifier, bind_some}
-use Rattle.nodejs_semver.proofs.Common.{cases_Bool, common_steps, drop, drop_at, encode_utf8_all, eqb-true, false, inl, inr}
-use Rattle.nodejs_semver.proofs.Common.{is_ascii_digit, is_empty, is_identifier_char, length, list_all, list_len, middle_is_trim}
-use Rattle.nodejs_semver.proofs.Common.{nat_tests, or_right, prefix_len, refl, same_Some, subst, suc, sym, take, take-append-drop, take_at}
-use Rattle.nodejs_semver.proofs.Common.{take_rest, true, zero, ℕ, ◌&&◌, ◌++◌, ◌-◌, ◌<◌, ◌==◌, ◌||◌, ◌∙◌, ◌∷◌, ◌≡◌, ◌≤◌, ◌⊎◌}
-use Rattle.nodejs_semver.proofs.NpmCommon.{AreMarks, IsStrictBuild, MAX_LENGTH, NoValue, after_byte, bare, begins_byte, begins_undashed}
+use Rattle.nodejs_semver.proofs.Common.{Bool, Id, IsNumber, IsPieceAt, IsTrim, IsUtf8, IsWholeNumber, List, NoPieceAt, None, Some, VersionValue, []}
+use Rattle.nodejs_semver.proofs.Common.{and_parts, ap, append-nil, arith, begins, begins_identifier, bind_some, cases_Bool, common_steps, drop}
+use Rattle.nodejs_semver.proofs.Common.{drop_at, encode_utf8_all, eqb-true, false, inl, inr, is_ascii_digit, is_empty, is_identifier_char, length}
+use Rattle.nodejs_semver.proofs.Common.{list_all, list_len, middle_is_trim, nat_tests, or_right, prefix_len, refl, same_Some, subst, suc, sym, take}
+use Rattle.nodejs_semver.proofs.Common.{take-append-drop, take_at, take_rest, true, zero, ℕ, ◌&&◌, ◌++◌, ◌-◌, ◌<◌, ◌==◌, ◌||◌, ◌∙◌, ◌∷◌, ◌≡◌, ◌≤◌}
+use Rattle.nodejs_semver.proofs.{Common.◌⊎◌, NpmCommon.{AreMarks, IsStrictBuild, MAX_LENGTH, NoValue, after_byte, bare, begins_byte, begins_undashed}}
 use Rattle.nodejs_semver.proofs.NpmCommon.{build_front, chars, dashed, dashed_front, drop-append-add, drop_ends, loose_dotted, loose_front}
-use Rattle.nodejs_semver.proofs.NpmCommon.{loose_patch, loose_qualified, loose_version, nat_le, no_pre_release, number_front, number_of}
-use Rattle.nodejs_semver.proofs.{NpmCommon.{or-true, patch_front, pre_front, pre_release_front}, Reading.Bytes.component-solid}
-use Rattle.nodejs_semver.proofs.Reading.{Bytes.solid-dark, Numbers.{digits-taken, number-found, number-is, number-of, number-read}}
-use Rattle.nodejs_semver.proofs.{Reading.{Numbers.run-ends, Steps.option-cases, WordLaw.byte-is}, Strict.Hyphens.ends-found}
-use Rattle.nodejs_semver.proofs.Strict.{Hyphens.ends-read, PartialLaw.{digits-many_on, digits-of}, VersionLaw.{Follows, PreFound}}
-use Rattle.nodejs_semver.proofs.Strict.VersionLaw.{build-found, build-quiet, build-taken, empty-is, ends-nil, letter-on, pre-follows}
-use Rattle.nodejs_semver.{proofs.Strict.VersionLaw.{pre-found, pre-taken, stopped}, specs.Internal.NpmLooseVersions.patch_len}
+use Rattle.nodejs_semver.proofs.NpmCommon.{loose_patch, loose_qualified, loose_version, nat_le, no_pre_release, number_front, number_of, or-true}
+use Rattle.nodejs_semver.proofs.{NpmCommon.{patch_front, pre_front, pre_release_front}, Reading.Bytes.{component-solid, solid-dark}}
+use Rattle.nodejs_semver.proofs.Reading.{Numbers.{digits-taken, number-found, number-is, number-of, number-read, run-ends}, Steps.option-cases}
+use Rattle.nodejs_semver.proofs.{Reading.WordLaw.byte-is, Strict.{Hyphens.{ends-found, ends-read}, PartialLaw.{digits-many_on, digits-of}}}
+use Rattle.nodejs_semver.proofs.Strict.VersionLaw.{Follows, PreFound, Qualified, build-found, build-quiet, build-taken, empty-is, ends-nil, letter-on}
+use Rattle.nodejs_semver.{proofs.Strict.VersionLaw.{pre-follows, pre-found, pre-taken, stopped}, specs.Internal.NpmLooseVersions.patch_len}
 use Rattle.nodejs_semver.specs.Npm.{Grammar.IsPreRelease, VersionText.{IsLooseVersion, IsLooseVersionText, written}}
 
 -- ---- the patch number that the code finds
@@ -26,19 +24,15 @@ piece-of : (limit : ℕ) (text : List ℕ) (n end : ℕ) → list_all is_ascii_d
     → IsPieceAt (λ digits rest. IsWholeNumber limit digits rest n) text 0 end → number_of limit text ≡ Some n
 piece-of limit text n end each s = grind (arith, nat_tests, common_steps, number-of, append-nil, and_parts)
 
-abbrev found : ℕ → List ℕ → Front ℕ
-found n rest = Some (n, rest)
-
 pub patch_some : (limit : ℕ) (rest : List ℕ) (n end len : ℕ) → len ≡ patch_len rest
     → IsPieceAt (λ digits rest. IsWholeNumber limit digits rest n) (take len rest) 0 end
-    → patch_front limit rest ≡ found n (take (length rest - len) (drop len rest))
+    → patch_front limit rest ≡ Some (n, take (length rest - len) (drop len rest))
 unfolding patch_front
 patch_some limit rest n end len e s =
     rw (take_rest rest len, e, piece-of limit (take (patch_len rest) rest) n end (patch-digits rest) (rw e at s)) refl
 
 pub patch_none : (limit : ℕ) (rest : List ℕ) (len : ℕ) → len ≡ patch_len rest
-    → ((n : ℕ) → NoPieceAt (λ digits rest. IsWholeNumber limit digits rest n) (take len rest) 0)
-    → patch_front limit rest ≡ None
+    → ((n : ℕ) → NoPieceAt (λ digits rest. IsWholeNumber limit digits rest n) (take len rest) 0) → patch_front limit rest ≡ None
 unfolding patch_front
 patch_none limit rest len same stuck =
     let none : (n : ℕ) → NoPieceAt (λ digits rest. IsWholeNumber limit digits rest n) (take (patch_len rest) rest) 0 = rw same at stuck in elim (option-cases (number_of limit (take (patch_len rest) rest))) [
@@ -67,14 +61,9 @@ lone-digit : (text : List ℕ) (n : ℕ) → n ≡ prefix_len is_ascii_digit tex
 lone-digit [] n e some dot = absurd (omega (arith, some, e))
 lone-digit (c ∷ text) zero e some dot = absurd (omega (arith, some))
 lone-digit (c ∷ text) (suc zero) e some dot = dot
-lone-digit (c ∷ text) (suc (suc n)) e some dot = elim (cases_Bool (is_ascii_digit c)) [
-  | inr other ↦ absurd (omega (arith, rw other at e))
-  | inl digit ↦
-      let next : suc n ≡ prefix_len is_ascii_digit text = omega (arith, rw digit at e) in
-      let k : suc (suc n) - 1 ≡ suc n = omega arith in
-      let m : suc n - 1 ≡ n = omega arith in
-      rw k (rw m at (lone-digit text (suc n) next (omega arith) dot))
-]
+lone-digit (c ∷ text) (suc (suc n)) e some dot =
+    let k : suc (suc n) - 1 ≡ suc n = omega arith in
+    let m : suc n - 1 ≡ n = omega arith in grind (arith, nat_tests, lone-digit text (suc n))
 
 record PatchAt (limit : ℕ) (text : List ℕ) (n : ℕ) (rest : List ℕ) : Type 0 where
   digits : List ℕ
@@ -84,8 +73,7 @@ record PatchAt (limit : ℕ) (text : List ℕ) (n : ℕ) (rest : List ℕ) : Typ
 
 patch-found : (limit : ℕ) (text : List ℕ) (n : ℕ) (rest : List ℕ) → loose_patch limit text ≡ Some (n, rest) → PatchAt limit text n rest
 unfolding loose_patch patch_front
-patch-found limit text n rest h =
-    grind (arith, nat_tests, common_steps, same_Some, number-is, byte-is, take-append-drop, run-ends, lone-digit)
+patch-found limit text n rest h = grind (arith, nat_tests, common_steps, same_Some, number-is, byte-is, take-append-drop, run-ends, lone-digit)
 
 -- a pre-release, with `-` before it or not, is read as in range texts
 fronts-same : (text : List ℕ) → (begins_undashed false text ≡ true) ⊎ (begins is_ascii_digit text ≡ false)
@@ -107,21 +95,12 @@ lone-here (c ∷ d ∷ more) (inr lone) e = elim (cases_Bool (is_ascii_digit c))
     | inl on ↦ inl (rw (eqb-true d 46 lone, digit, on) (or-true (nat_le 65 c && nat_le c 90 || nat_le 97 c && nat_le c 122)))
     | inr none ↦
         let letter : is_identifier_char c ≡ true = grind (arith, nat_tests) in
-        let apart : (c == 45) ≡ false = grind (arith, nat_tests) in
-        cc (rw (eqb-true d 46 lone, letter, apart, none) at e)
+        let apart : (c == 45) ≡ false = grind (arith, nat_tests) in cc (rw (eqb-true d 46 lone, letter, apart, none) at e)
   ]
 ]
 
-record LooseQualified (text : List ℕ) (v : VersionValue) (major minor patch : ℕ) : Type 0 where
-  pre : List ℕ
-  build : List ℕ
-  split : text ≡ pre ++ build
-  pre_is : IsPreRelease true false (λ ids. true) pre v.pre_release
-  build_is : IsStrictBuild build v.build
-  numbers : (v.major ≡ major) × (v.minor ≡ minor) × (v.patch ≡ patch)
-
 qualified-found : (a b c : ℕ) (text : List ℕ) (v : VersionValue) → Behind text → loose_qualified a b c text ≡ Some v
-    → LooseQualified text v a b c
+    → Qualified true (λ ids. true) text v a b c
 unfolding loose_qualified
 qualified-found a b c text v behind h =
     let front = loose_front text in
@@ -147,8 +126,7 @@ dotted-found : (limit : ℕ) (text : List ℕ) (n : ℕ) (rest : List ℕ) → l
 unfolding loose_dotted
 dotted-found limit text n rest h =
     let t = bind_some (after_byte 46 text) _ (n, rest) h in
-    let f = number-found limit t.0 n rest t.2 in
-    (f.run, byte-is 46 text t.0 t.1 ∙ ap (λ (t : List ℕ). 46 ∷ t) f.split, f.is)
+    let f = number-found limit t.0 n rest t.2 in (f.run, byte-is 46 text t.0 t.1 ∙ ap (λ (t : List ℕ). 46 ∷ t) f.split, f.is)
 
 pub loose-found : (limit : ℕ) (text : List ℕ) (v : VersionValue) → IsUtf8 text → loose_version limit text ≡ Some v → IsLooseVersion limit text v
 unfolding loose_version
@@ -164,10 +142,9 @@ loose-found limit text v u h =
     let front = encode_utf8_all marks.characters in
     let e : text ≡ front ++ (major.run ++ 46 ∷ (minor.0 ++ 46 ∷ (patch.digits ++ (q.pre ++ q.build)))) =
     grind (arith, nat_tests, common_steps) in
-    subst (λ (t : List ℕ). IsLooseVersion limit t v) (sym e) (written front major.run minor.0 patch.digits q.pre q.build v
-    (marks.characters, refl, marks.each) (subst (IsNumber limit major.run) (sym q.numbers.0) major.is)
-    (subst (IsNumber limit minor.0) (sym q.numbers.1) minor.2) (subst (IsNumber limit patch.digits) (sym q.numbers.2) patch.is)
-    q.pre_is q.build_is)
+    rw e (written front major.run minor.0 patch.digits q.pre q.build v (marks.characters, refl, marks.each)
+    (subst (IsNumber limit major.run) q.numbers.0 major.is) (subst (IsNumber limit minor.0) q.numbers.1 minor.2)
+    (subst (IsNumber limit patch.digits) q.numbers.2 patch.is) q.pre_is q.build_is)
 
 -- ---- what is written is read
 
@@ -193,23 +170,16 @@ qualified-read : (p b : List ℕ) (v : VersionValue) → IsPreRelease true false
 unfolding loose_qualified
 qualified-read p b v h k = grind (arith, nat_tests, common_steps, append-nil, build-taken, ends-nil, fronts-same, pre-open, pre-taken)
 
-dotted-read : (limit : ℕ) (digits rest : List ℕ) (n : ℕ) → IsNumber limit digits n → begins is_ascii_digit rest ≡ false
-    → loose_dotted limit (46 ∷ (digits ++ rest)) ≡ Some (n, rest)
-unfolding loose_dotted
-dotted-read limit digits rest n h stop = number-read limit digits rest n h stop
-
 marks-read : (mark digits rest : List ℕ) → AreMarks mark → 0 < length digits → list_all is_ascii_digit digits ≡ true
     → drop_ends (mark ++ (digits ++ rest)) ≡ digits ++ rest
 marks-read mark [] rest m some each = absurd (omega (arith, some))
-marks-read mark (c ∷ digits) rest m some each =
-    grind (arith, nat_tests, common_steps, and_parts, ends-read, solid-dark, component-solid, or_right)
+marks-read mark (c ∷ digits) rest m some each = grind (arith, nat_tests, common_steps, and_parts, ends-read, solid-dark, component-solid, or_right)
 
 parts-read : (limit : ℕ) (mark x y z pre build : List ℕ) (v : VersionValue) → AreMarks mark → IsNumber limit x v.major
     → IsNumber limit y v.minor → IsNumber limit z v.patch → IsPreRelease true false (λ ids. true) pre v.pre_release → IsStrictBuild build v.build
     → loose_version limit (mark ++ (x ++ 46 ∷ (y ++ 46 ∷ (z ++ (pre ++ build))))) ≡ Some v
-unfolding loose_version
-parts-read limit mark x y z pre build v m i j k p q =
-    grind (arith, marks-read, number-read, dotted-read, patch-read, follows, qualified-read)
+unfolding loose_version loose_dotted
+parts-read limit mark x y z pre build v m i j k p q = grind (arith, marks-read, number-read, patch-read, follows, qualified-read)
 
 pub loose-read : (limit : ℕ) (text : List ℕ) (v : VersionValue) → IsLooseVersion limit text v → loose_version limit text ≡ Some v
 loose-read limit text v (written mark x y z pre build w m i j k p q) = parts-read limit mark x y z pre build w m i j k p q
@@ -218,11 +188,9 @@ loose-read limit text v (written mark x y z pre build w m i j k p q) = parts-rea
 
 pub loose_text_read : (limit : ℕ) (text middle : List ℕ) (v : VersionValue) → IsUtf8 middle → length (chars text) ≤ MAX_LENGTH
     → IsTrim text middle → loose_version limit middle ≡ Some v → IsLooseVersionText limit text v
-loose_text_read limit text middle v u short trimmed h =
-    (short, middle, trimmed, loose-found limit middle v u h)
+loose_text_read limit text middle v u short trimmed h = (short, middle, trimmed, loose-found limit middle v u h)
 
 pub loose_text_refused : (limit : ℕ) (text middle : List ℕ) → IsTrim text middle → loose_version limit middle ≡ None
     → NoValue (IsLooseVersionText limit text)
 loose_text_refused limit text middle trimmed h = λ v w.
-    let same = middle_is_trim text middle trimmed ∙ sym (middle_is_trim text w.1 w.2) in
-    cc (loose-read limit w.1 v w.3, h, same)
+    let same = middle_is_trim text middle trimmed ∙ sym (middle_is_trim text w.1 w.2) in cc (loose-read limit w.1 v w.3, h, same)

@@ -1,49 +1,33 @@
 -- A text is read to its end as a version, character by character, exactly if the strict reader finds one in it; and what is read
 -- of a text goes on to a version.
-use Rattle.nodejs_semver.proofs.Common.{Bool, Front, Id, IsTrim, List, None, Option, Some, VersionValue, [], all_weaker, and-false}
-use Rattle.nodejs_semver.proofs.Common.{and-true, and_parts, ap, append-nil, arith, begins, begins_identifier, cases_Bool, common_steps}
-use Rattle.nodejs_semver.proofs.Common.{drop, drop_at, encode_utf8_all, eqb-true, false, if◌then◌else◌, inl, inr, is_ascii_digit, is_empty}
-use Rattle.nodejs_semver.proofs.Common.{is_identifier_char, is_some, is_whitespace, list_all, list_all-append, list_len, nat_tests, not}
-use Rattle.nodejs_semver.proofs.Common.{not-false, not-true, onto_first, pieces, prefix_len, refl, suc, sym, take, take-append-drop}
-use Rattle.nodejs_semver.proofs.{Common.{take_at, true, zero, ℕ, ◌&&◌, ◌*◌, ◌++◌, ◌+◌, ◌<◌, ◌==◌, ◌∙◌, ◌∷◌, ◌≡◌, ◌≤◌}, NpmCommon.Build}
-use Rattle.nodejs_semver.proofs.NpmCommon.{Dash, Digit, IsFront, IsSpelled, IsStrictBuild, IsStrictNumber, IsStrictPreRelease}
-use Rattle.nodejs_semver.proofs.NpmCommon.{IsStrictVersion, Number, Padded, Plus, PreRelease, State, Zero, build_front, dashed_front}
-use Rattle.nodejs_semver.proofs.NpmCommon.{digit_value, digits_grow, digits_value, digits_value_after, dotted_number, encode_ascii}
-use Rattle.nodejs_semver.proofs.NpmCommon.{encodes_same, has_leading_zero, is_strict_identifier, is_strict_list, is_whole, nat_le, next}
-use Rattle.nodejs_semver.proofs.NpmCommon.{number_of, pre_release_front, qualified_version, run, runs_tail, strict_number, strict_version}
-use Rattle.nodejs_semver.proofs.{NpmCommon.◌>>?◌, Reading.{Bytes.all-join, Numbers.{digits-taken, run-ends}}, Strict.PartialLaw.prefix-all}
-use Rattle.nodejs_semver.proofs.Strict.VersionLaw.{padded-same, strict-found, strict-found-version, strict-read-version}
-use Rattle.nodejs_semver.specs.{Internal.{Fronts.drop_v, NpmStates.ended}, Npm.VersionText.written}
-use Rattle.{nodejs_semver.specs.declared.npm.flaws.State.TheVariants.{End, Start}, semver_core.proofs.Text.Listed.plain_runs}
-use Rattle.{semver_core.specs.Internal.CommonReading.is_plain, std.{proofs.lemmas.List.reverse-append, specs.Prelude.reverse}}
+use Rattle.nodejs_semver.proofs.Common.{Bool, Id, IsTrim, List, None, Option, Some, VersionValue, [], all_weaker, and-false, and-true, and_parts, ap}
+use Rattle.nodejs_semver.proofs.Common.{append-nil, arith, begins, begins_identifier, bind_some, cases_Bool, common_steps, drop, drop_at}
+use Rattle.nodejs_semver.proofs.Common.{encode_utf8_all, eqb-true, false, if◌then◌else◌, inl, inr, is_ascii_digit, is_empty, is_identifier_char}
+use Rattle.nodejs_semver.proofs.Common.{is_some, is_whitespace, list_all, list_all-append, list_len, nat_tests, not, not-false, not-true, onto_first}
+use Rattle.nodejs_semver.proofs.Common.{pieces, prefix_len, refl, same_Some, subst, suc, sym, take, take-append-drop, take_at, true, zero, ℕ, ◌&&◌}
+use Rattle.nodejs_semver.proofs.{Common.{◌*◌, ◌++◌, ◌+◌, ◌<◌, ◌==◌, ◌∙◌, ◌∷◌, ◌≡◌, ◌≤◌}, NpmCommon.{Build, Dash, Digit, IsFront, IsSpelled}}
+use Rattle.nodejs_semver.proofs.NpmCommon.{IsStrictBuild, IsStrictNumber, IsStrictPreRelease, IsStrictVersion, Number, Padded, Plus, PreRelease}
+use Rattle.nodejs_semver.proofs.NpmCommon.{State, Zero, build_front, dashed_front, digit_value, digits_grow, digits_value, digits_value_after}
+use Rattle.nodejs_semver.proofs.NpmCommon.{dotted_number, encode_ascii, encodes_same, has_leading_zero, is_strict_identifier, is_strict_list}
+use Rattle.nodejs_semver.proofs.NpmCommon.{is_whole, nat_le, next, number_of, pre_release_front, qualified_version, run, runs_tail, strict_number}
+use Rattle.nodejs_semver.proofs.{NpmCommon.{strict_version, ◌>>?◌}, Reading.{Bytes.all-join, Numbers.{digits-taken, run-ends}, Steps.option-cases}}
+use Rattle.nodejs_semver.proofs.Strict.{PartialLaw.prefix-all, VersionLaw.{padded-same, strict-found-version, strict-read-version}}
+use Rattle.nodejs_semver.specs.{Internal.{Fronts.drop_v, NpmStates.ended}, Npm.VersionText.written, declared.npm.flaws.State.TheVariants.{End, Start}}
+use Rattle.{semver_core.{proofs.Text.Listed.plain_runs, specs.Internal.CommonReading.is_plain}, std.proofs.lemmas.List.reverse-append}
+use Rattle.std.specs.Prelude.{reverse}
 
 -- ---- runs
 
-bind-append : (limit : ℕ) (o : Option State) (xs ys : List ℕ)
-    → ((t : State) → run limit t (xs ++ ys) ≡ (run limit t xs >>? λ u. run limit u ys))
-    → (o >>? λ t. run limit t (xs ++ ys)) ≡ ((o >>? λ t. run limit t xs) >>? λ u. run limit u ys)
-bind-append limit o xs ys h = grind (arith, nat_tests, common_steps)
-
-run-append : (limit : ℕ) (xs ys : List ℕ) (s : State) → run limit s (xs ++ ys) ≡ (run limit s xs >>? λ t. run limit t ys)
-unfolding run
-run-append limit [] ys s = refl
-run-append limit (c ∷ xs) ys s = bind-append limit (next limit s c) xs ys (run-append limit xs ys)
-
 -- what is read of a front is read further
-pub run-then : (limit : ℕ) (s t : State) (xs ys : List ℕ) → run limit s xs ≡ Some t → run limit s (xs ++ ys) ≡ run limit t ys
-run-then limit s t xs ys h = run-append limit xs ys s ∙ ap (λ (o : Option State). o >>? λ u. run limit u ys) h
-
-pub run-nil : (limit : ℕ) (s : State) → run limit s [] ≡ Some s
+run-then : (limit : ℕ) (s t : State) (xs ys : List ℕ) → run limit s xs ≡ Some t → run limit s (xs ++ ys) ≡ run limit t ys
 unfolding run
-run-nil limit s = refl
+run-then limit s t [] ys h = ap (λ u. run limit u ys) (same_Some s t h)
+run-then limit s t (c ∷ xs) ys h = let b = bind_some (next limit s c) _ t h in rw b.1 (run-then limit b.0 t xs ys b.2)
 
-pub run-step : (limit : ℕ) (s t : State) (c : ℕ) (cs : List ℕ) → next limit s c ≡ Some t → run limit s (c ∷ cs) ≡ run limit t cs
+pub run-more : (limit : ℕ) (s t : State) (c : ℕ) (xs : List ℕ) → run limit Start xs ≡ Some s → next limit s c ≡ Some t
+    → run limit Start (xs ++ c ∷ []) ≡ Some t
 unfolding run
-run-step limit s t c cs h = rw h refl
-
-pub run-none : (limit : ℕ) (s : State) (c : ℕ) (cs : List ℕ) → next limit s c ≡ None → run limit s (c ∷ cs) ≡ None
-unfolding run
-run-none limit s c cs h = rw h refl
+run-more limit s t c xs h k = run-then limit Start s xs (c ∷ []) h ∙ rw k refl
 
 -- ---- texts that are read to their end
 
@@ -60,13 +44,12 @@ is_read limit s text = ends_whole (run limit s text)
 spaces-start : (limit : ℕ) (w cs : List ℕ) → list_all is_whitespace w ≡ true → is_read limit Start (w ++ cs) ≡ is_read limit Start cs
 unfolding run next
 spaces-start limit [] cs h = refl
-spaces-start limit (c ∷ w) cs h =
-    let each = and_parts (is_whitespace c) (list_all is_whitespace w) h in rw each.0 (spaces-start limit w cs each.1)
+spaces-start limit (c ∷ w) cs h = grind (arith, and_parts, spaces-start limit w cs)
 
 spaces-end : (limit : ℕ) (cs : List ℕ) → is_read limit End cs ≡ list_all is_whitespace cs
 unfolding run next
 spaces-end limit [] = refl
-spaces-end limit (c ∷ cs) = elim (cases_Bool (is_whitespace c)) [ inl white ↦ rw white (spaces-end limit cs) | inr dark ↦ rw dark refl ]
+spaces-end limit (c ∷ cs) = grind (arith, spaces-end limit cs)
 
 abbrev is_dark : ℕ → Bool
 is_dark c = not (is_whitespace c)
@@ -90,19 +73,11 @@ space-other c h = grind (arith, nat_tests)
 not_zero : (k : ℕ) → (suc k == 0) ≡ false
 not_zero k = grind arith
 
-space-ends : (limit : ℕ) (s : State) (c : ℕ) → is_inside s ≡ true → is_whitespace c ≡ true
-    → next limit s c ≡ (if is_whole s then Some End else None)
+space-ends : (limit : ℕ) (s : State) (c : ℕ) → is_inside s ≡ true → is_whitespace c ≡ true → next limit s c ≡ (if is_whole s then Some End else None)
 unfolding next
 space-ends limit (Number zero n) c i h = let p = space-other c h in rw (p.1, p.3, p.4, h) refl
 space-ends limit (Number (suc k) n) c i h = let p = space-other c h in rw (p.1, p.2, not_zero k) refl
-space-ends limit Zero c i h = grind (arith, space-other c h)
 space-ends limit s c i h = grind (arith, space-other c h)
-
-bind-behind : (limit : ℕ) (o : Option State) (x r : List ℕ)
-    → ((t : State) → o ≡ Some t → is_read limit t (x ++ r) ≡ (is_read limit t x && list_all is_whitespace r))
-    → ends_whole (o >>? λ t. run limit t (x ++ r)) ≡ (ends_whole (o >>? λ t. run limit t x) && list_all is_whitespace r)
-bind-behind limit None x r h = refl
-bind-behind limit (Some t) x r h = h t refl
 
 -- whitespace behind other characters
 behind : (limit : ℕ) (s : State) (x r : List ℕ) → is_inside s ≡ true → list_all is_dark x ≡ true → begins is_dark r ≡ false
@@ -110,29 +85,29 @@ behind : (limit : ℕ) (s : State) (x r : List ℕ) → is_inside s ≡ true →
 unfolding run
 behind limit s [] [] i each stop = sym (and-true (is_whole s))
 behind limit s [] (c ∷ r) i each stop = grind (arith, space-ends limit s c i (not-false _ stop), spaces-end limit r)
-behind limit s (c ∷ x) r i each stop =
-    let p = and_parts (is_dark c) (list_all is_dark x) each in
-    bind-behind limit (next limit s c) x r (λ t e. behind limit t x r (dark-inside limit s t c i (not-true _ p.0) e) p.1 stop)
+behind limit s (c ∷ x) r i each stop = elim (option-cases (next limit s c)) [
+  | inl none ↦ rw none refl
+  | inr t ↦
+      let p = and_parts (is_dark c) (list_all is_dark x) each in
+      rw t.1 (behind limit t.0 x r (dark-inside limit s t.0 c i (not-true _ p.0) t.1) p.1 stop)
+]
 
 -- ---- build metadata
 
 -- behind a character of an identifier, and behind `+` or a dot
 builds : (limit : ℕ) (x : List ℕ) → list_all is_dark x ≡ true
-    → (is_read limit Build x ≡ is_empty (drop (list_len x) x))
-    × (is_read limit Plus x ≡ (begins_identifier x && is_empty (drop (list_len x) x)))
+    → (is_read limit Build x ≡ is_empty (drop (list_len x) x)) × (is_read limit Plus x ≡ (begins_identifier x && is_empty (drop (list_len x) x)))
 unfolding run next list_len
 builds limit [] each = (refl, refl)
 builds limit (c ∷ x) each =
-    let p = and_parts (is_dark c) (list_all is_dark x) each in
-    let e : 1 + list_len x ≡ suc (list_len x) = omega arith in
-    (grind (arith, builds limit x p.1, not-true), grind (arith, builds limit x p.1))
+    let later = builds limit x (and_parts (is_dark c) _ each).1 in
+    let e : 1 + list_len x ≡ suc (list_len x) = omega arith in (grind (arith, later, not-true), grind (arith, later))
 
 -- where no identifier goes on
 ended-read : (limit c : ℕ) (x : List ℕ) → list_all is_dark (c ∷ x) ≡ true
     → ends_whole (ended c >>? λ t. run limit t x) ≡ is_empty (build_front (c ∷ x)).1
 unfolding build_front
-ended-read limit c x each =
-    let p = and_parts (is_dark c) (list_all is_dark x) each in grind (arith, builds limit x p.1, not-true)
+ended-read limit c x each = grind (arith, builds limit x (and_parts (is_dark c) _ each).1, not-true)
 
 -- ---- pre-releases
 
@@ -145,7 +120,7 @@ identifier_read (c ∷ d ∷ x) = if list_all is_ascii_digit (c ∷ d ∷ x) && 
 identifier-more : (limit : ℕ) (x : List ℕ) (c : ℕ) → is_identifier_char c ≡ true
     → next limit (identifier_read x) c ≡ Some (identifier_read (x ++ c ∷ []))
 unfolding next
-identifier-more limit [] c h = elim (cases_Bool (c == 48)) [ inl none ↦ rw none refl | inr other ↦ rw (other, h) refl ]
+identifier-more limit [] c h = grind arith
 identifier-more limit (a ∷ []) c h = grind (arith, nat_tests, common_steps)
 identifier-more limit (a ∷ b ∷ x) c h = rw (list_all-append is_ascii_digit (a ∷ b ∷ x) (c ∷ [])) (grind arith)
 
@@ -155,10 +130,9 @@ letter-digit c h = grind (arith, nat_tests)
 -- it ends here if it is a strict one
 identifier-whole : (a : ℕ) (x : List ℕ) → is_whole (identifier_read (a ∷ x)) ≡ is_strict_identifier (a ∷ x)
 identifier-whole a [] = grind (arith, nat_tests, common_steps)
-identifier-whole a (b ∷ x) = elim (cases_Bool (list_all is_ascii_digit (a ∷ b ∷ x) && a == 48)) [ inl e ↦ rw e refl | inr e ↦ rw e refl ]
+identifier-whole a (b ∷ x) = grind arith
 
-identifier-other : (limit a : ℕ) (x : List ℕ) (c : ℕ) (cs : List ℕ) → is_identifier_char c ≡ false
-    → is_read limit (identifier_read (a ∷ x)) (c ∷ cs)
+identifier-other : (limit a : ℕ) (x : List ℕ) (c : ℕ) (cs : List ℕ) → is_identifier_char c ≡ false → is_read limit (identifier_read (a ∷ x)) (c ∷ cs)
     ≡ (is_strict_identifier (a ∷ x) && ends_whole ((if c == 46 then Some Dash else ended c) >>? λ t. run limit t cs))
 unfolding next run
 identifier-other limit a [] c cs h = grind (arith, letter-digit, and-false)
@@ -173,8 +147,7 @@ abbrev strict_behind : List ℕ → List (List ℕ) → Bool
 strict_behind x [] = is_strict_identifier x
 strict_behind x (p ∷ ps) = is_strict_identifier (x ++ p) && list_all is_strict_identifier ps
 
-strict-onto : (x : List ℕ) (c : ℕ) (ps : List (List ℕ))
-    → strict_behind x (onto_first c ps) ≡ strict_behind (x ++ c ∷ []) ps
+strict-onto : (x : List ℕ) (c : ℕ) (ps : List (List ℕ)) → strict_behind x (onto_first c ps) ≡ strict_behind (x ++ c ∷ []) ps
 strict-onto x c ps = grind (arith, nat_tests, common_steps)
 
 strict-first : (c : ℕ) (ps : List (List ℕ)) → list_all is_strict_identifier (onto_first c ps) ≡ strict_behind (c ∷ []) ps
@@ -223,8 +196,7 @@ identifiers limit (c ∷ x) each =
 
 -- ---- behind the numbers
 
-qualified : (limit a b c : ℕ) (x : List ℕ) → list_all is_dark x ≡ true
-    → is_read limit (Number 0 0) x ≡ is_some (qualified_version a b c x)
+qualified : (limit a b c : ℕ) (x : List ℕ) → list_all is_dark x ≡ true → is_read limit (Number 0 0) x ≡ is_some (qualified_version a b c x)
 unfolding run next qualified_version dashed_front pre_release_front build_front
 qualified limit a b c [] each = refl
 qualified limit a b c (d ∷ x) each =
@@ -268,40 +240,27 @@ number-on limit left (c ∷ d ∷ ds) r nine each stop =
     let first : 0 * 10 + digit_value c ≡ digit_value c = omega arith in
     grind (arith, nat_tests, and_parts, digits-on limit left (digit_value c) (d ∷ ds) r)
 
-abbrev number_if : Bool → ℕ → List ℕ → Front ℕ
-number_if b n rest = if b then Some (n, rest) else None
-
 number-front : (limit : ℕ) (ds r : List ℕ) → list_all is_ascii_digit ds ≡ true → begins is_ascii_digit r ≡ false
-    → strict_number limit (ds ++ r) ≡ number_if (is_number limit ds) (digits_value 10 ds) r
+    → strict_number limit (ds ++ r) ≡ (if is_number limit ds then Some (digits_value 10 ds, r) else None)
 unfolding strict_number number_of
-number-front limit ds r each stop =
-    grind (arith, nat_tests, common_steps, padded-same, digits-taken, take_at, drop_at)
-
--- what stands behind a number is read
-abbrev behind_read : ℕ → ℕ → Front ℕ → Bool
-behind_read limit left None = false
-behind_read limit left (Some p) = is_read limit (Number left 0) p.1
-
-number : (limit left : ℕ) (text : List ℕ) → 9 ≤ limit → is_read limit (Digit left) text ≡ behind_read limit left (strict_number limit text)
-number limit left text nine =
-    let n = prefix_len is_ascii_digit text in
-    let each = prefix-all is_ascii_digit text in
-    let found = number-front limit (take n text) (drop n text) each (run-ends text) in
-    let read : is_read limit (Digit left) (take n text ++ drop n text) ≡ behind_read limit left (strict_number limit (take n text ++ drop n text)) =
-    rw found (grind (arith, number-on limit left (take n text) (drop n text) nine each (run-ends text))) in
-    rw (take-append-drop n text) at read
+number-front limit ds r each stop = grind (arith, nat_tests, common_steps, padded-same, digits-taken, take_at, drop_at)
 
 -- a number, and behind it what goes on so
 number-step : (limit left : ℕ) (f : ℕ × List ℕ → Option VersionValue) (text : List ℕ) → 9 ≤ limit → list_all is_dark text ≡ true
     → ((p : ℕ × List ℕ) → list_all is_dark p.1 ≡ true → is_read limit (Number left 0) p.1 ≡ is_some (f p))
     → is_read limit (Digit left) text ≡ is_some (strict_number limit text >>? f)
-number-step limit left f text nine each h = number limit left text nine ∙ go (strict_number limit text) refl
+number-step limit left f text nine dark h =
+    let n = prefix_len is_ascii_digit text in
+    let each = prefix-all is_ascii_digit text in
+    let rest = and_parts _ _ (sym (list_all-append is_dark (take n text) (drop n text)) ∙ rw (take-append-drop n text) dark) in
+    subst (λ (t : List ℕ). is_read limit (Digit left) t ≡ is_some (strict_number limit t >>? f)) (take-append-drop n text)
+    (rw (number-on limit left (take n text) (drop n text) nine each (run-ends text), number-front limit (take n text) (drop n text) each (run-ends text))
+    (go (is_number limit (take n text)) _ (h (digits_value 10 (take n text), drop n text) rest.1)))
   where
-    go : (o : Front ℕ) → strict_number limit text ≡ o → behind_read limit left o ≡ is_some (o >>? f)
-    go None e = refl
-    go (Some p) e =
-        let s = strict-found limit text p.0 p.1 e in
-        h p (and_parts (list_all is_dark s.digits) _ (sym (list_all-append is_dark s.digits p.1) ∙ rw s.split at each)).1
+    go : (b : Bool) (p : ℕ × List ℕ) → is_read limit (Number left 0) p.1 ≡ is_some (f p)
+        → (b && is_read limit (Number left 0) p.1) ≡ is_some ((if b then Some p else None) >>? f)
+    go true p e = e
+    go false p e = refl
 
 dotted-step : (limit left : ℕ) (f : ℕ × List ℕ → Option VersionValue) (text : List ℕ) → 9 ≤ limit → list_all is_dark text ≡ true
     → ((p : ℕ × List ℕ) → list_all is_dark p.1 ≡ true → is_read limit (Number left 0) p.1 ≡ is_some (f p))
@@ -319,9 +278,8 @@ version limit text nine each = number-step limit 2 _ (drop_v text) nine each
     (λ a h. dotted-step limit 1 _ a.1 nine h (λ b k. dotted-step limit 0 _ b.1 nine k (λ c l. qualified limit a.0 b.0 c.0 c.1 l)))
 
 -- whitespace, other characters and whitespace
-text-read : (limit : ℕ) (w : List ℕ) (c : ℕ) (x r : List ℕ) → 9 ≤ limit → list_all is_whitespace w ≡ true
-    → list_all is_dark (c ∷ x) ≡ true → begins is_dark r ≡ false
-    → is_read limit Start (w ++ c ∷ (x ++ r)) ≡ (is_some (strict_version limit (c ∷ x)) && list_all is_whitespace r)
+text-read : (limit : ℕ) (w : List ℕ) (c : ℕ) (x r : List ℕ) → 9 ≤ limit → list_all is_whitespace w ≡ true → list_all is_dark (c ∷ x) ≡ true
+    → begins is_dark r ≡ false → is_read limit Start (w ++ c ∷ (x ++ r)) ≡ (is_some (strict_version limit (c ∷ x)) && list_all is_whitespace r)
 unfolding run next
 text-read limit w c x r nine blank each stop =
     let p = and_parts (is_dark c) (list_all is_dark x) each in
@@ -342,30 +300,22 @@ plain-encodes (c ∷ cs) h = grind (arith, nat_tests, common_steps, and_parts, e
 plain-digits : (ds : List ℕ) → list_all is_ascii_digit ds ≡ true → list_all is_plain ds ≡ true
 plain-digits ds h = all_weaker is_ascii_digit is_plain (λ c k. grind (arith, nat_tests)) ds h
 
-pub plain-both : (x y : List ℕ) → list_all is_plain x ≡ true → list_all is_plain y ≡ true → list_all is_plain (x ++ y) ≡ true
-plain-both x y h k = all-join is_plain x y h k
-
-pre-plain : (p : List ℕ) (l : List Id) → IsStrictPreRelease p l → list_all is_plain p ≡ true
-pre-plain p l h = grind (arith, nat_tests, common_steps, plain_runs, runs_tail)
-
-build-plain : (b : List ℕ) (l : List Id) → IsStrictBuild b l → list_all is_plain b ≡ true
-build-plain b l h = grind (arith, nat_tests, common_steps, plain_runs, runs_tail)
+qualified-plain : (p b : List ℕ) (l m : List Id) → IsStrictPreRelease p l → IsStrictBuild b m → list_all is_plain (p ++ b) ≡ true
+qualified-plain p b l m h k = grind (arith, nat_tests, common_steps, plain_runs, runs_tail, all-join)
 
 pub plain-middle : (limit : ℕ) (middle : List ℕ) (v : VersionValue) → IsStrictVersion limit middle v → list_all is_plain middle ≡ true
-plain-middle limit middle v (written s x y z t u w m i j k p q) =
-    grind (arith, plain-both, plain-digits, pre-plain t w.pre_release p, build-plain u w.build q)
+plain-middle limit middle v (written s x y z t u w m i j k p q) = grind (arith, all-join, plain-digits, qualified-plain t u w.pre_release w.build p q)
 
-pub plain-dark : (cs : List ℕ) → list_all is_plain cs ≡ true → begins is_whitespace cs ≡ false
+plain-dark : (cs : List ℕ) → list_all is_plain cs ≡ true → begins is_whitespace cs ≡ false
 plain-dark cs h = grind (arith, nat_tests, common_steps)
 
 plain-reverse : (cs : List ℕ) → list_all is_plain cs ≡ true → list_all is_plain (reverse cs) ≡ true
 plain-reverse [] h = refl
-plain-reverse (c ∷ cs) h = grind (arith, nat_tests, common_steps, and_parts, reverse-append, plain-both, plain-reverse cs)
+plain-reverse (c ∷ cs) h = grind (arith, nat_tests, common_steps, and_parts, reverse-append, plain-reverse cs)
 
 pub plain-trim : (w x r : List ℕ) → list_all is_whitespace w ≡ true → list_all is_plain x ≡ true → list_all is_whitespace r ≡ true
     → IsTrim (encode_utf8_all (w ++ (x ++ r))) x
-plain-trim w x r before h after =
-    grind (arith, nat_tests, common_steps, plain-encodes, plain-dark, plain-reverse)
+plain-trim w x r before h after = grind (arith, nat_tests, common_steps, plain-encodes, plain-dark, plain-reverse)
 
 -- ---- what is written is read, also with a greater limit
 
@@ -374,10 +324,9 @@ larger limit more middle v le (written mark x y z pre build w m i j k p q) =
     written mark x y z pre build w m (number x _ i) (number y _ j) (number z _ k) p q
   where
     number : (ds : List ℕ) (n : ℕ) → IsStrictNumber limit ds n → IsStrictNumber more ds n
-    number ds n h = record {
-      number = record { some = h.number.some; each = h.number.each; value = h.number.value; safe = omega (arith, le, h.number.safe) };
-      shortest = h.shortest;
-    }
+    number ds n h =
+        let i = h.number in
+        record { number = record { some = i.some; each = i.each; value = i.value; safe = omega (arith, le, i.safe) }; shortest = h.shortest }
 
 middle-read : (limit : ℕ) (w middle r : List ℕ) (v : VersionValue) → 9 ≤ limit → list_all is_whitespace w ≡ true
     → list_all is_whitespace r ≡ true → IsStrictVersion limit middle v → is_read limit Start (w ++ (middle ++ r)) ≡ true
@@ -418,11 +367,10 @@ unfolding run
 middle-found limit w [] [] nine blank each stop dark h = cc (sym (spaces-start limit w [] blank) ∙ h)
 middle-found limit w [] (c ∷ r) nine blank each stop dark h = cc (not-false _ stop, dark)
 middle-found limit w (c ∷ x) r nine blank each stop dark h =
-    let p = and_parts _ _ (sym (text-read limit w c x r nine blank each stop) ∙ h) in (some (strict_version limit (c ∷ x)) p.0, p.1)
-  where
-    some : (o : Option VersionValue) → is_some o ≡ true → (v : VersionValue) × (o ≡ Some v)
-    some None h = cc h
-    some (Some v) h = (v, refl)
+    let p = and_parts _ _ (sym (text-read limit w c x r nine blank each stop) ∙ h) in elim (option-cases (strict_version limit (c ∷ x))) [
+      | inl none ↦ cc (sym (ap is_some none) ∙ p.0)
+      | inr v ↦ (v, p.1)
+    ]
 
 pub read-spelled : (limit : ℕ) (cs : List ℕ) → 9 ≤ limit → Whole limit Start cs → IsSpelled limit (encode_utf8_all cs)
 read-spelled limit cs nine h =
@@ -435,49 +383,32 @@ read-spelled limit cs nine h =
 
 -- ---- what is read goes on to a version
 
-finished : (limit : ℕ) (s : State) → is_whole s ≡ true → (more : List ℕ) × Whole limit s more
-unfolding run
-finished limit s w = ([], w)
+-- what is written behind a number
+abbrev zeros : ℕ → List ℕ
+zeros zero = []
+zeros (suc k) = 46 ∷ 48 ∷ zeros k
 
-stepped : (limit : ℕ) (s t : State) (c : ℕ) → next limit s c ≡ Some t → (more : List ℕ) × Whole limit t more
-    → (more : List ℕ) × Whole limit s more
-stepped limit s t c h f = (c ∷ f.0, ap ends_whole (run-step limit s t c f.0 h) ∙ f.1)
-
-finish-numbers : (limit left : ℕ) → ((n : ℕ) → (more : List ℕ) × Whole limit (Number left n) more)
-    × ((more : List ℕ) × Whole limit (Digit left) more)
-unfolding next
-finish-numbers limit zero = (
-  λ n. finished limit (Number 0 n) refl,
-  stepped limit (Digit 0) (Number 0 0) 48 refl (finished limit (Number 0 0) refl),
-)
-finish-numbers limit (suc k) =
-    let later = (finish-numbers limit k).1 in (
-      λ n. stepped limit (Number (suc k) n) (Digit k) 46 refl later,
-      stepped limit (Digit (suc k)) (Number (suc k) 0) 48 refl
-          (stepped limit (Number (suc k) 0) (Digit k) 46 refl later),
-    )
+zeros-read : (limit left n : ℕ) → Whole limit (Number left n) (zeros left)
+unfolding run next
+zeros-read limit zero n = refl
+zeros-read limit (suc k) n = zeros-read limit k 0
 
 finish : (limit : ℕ) (s : State) → (more : List ℕ) × Whole limit s more
-unfolding next
-finish limit Start = stepped limit Start (Number 2 0) 48 refl ((finish-numbers limit 2).0 0)
-finish limit (Digit left) = (finish-numbers limit left).1
-finish limit (Number left n) = (finish-numbers limit left).0 n
-finish limit Dash = stepped limit Dash PreRelease 97 refl (finished limit PreRelease refl)
-finish limit Zero = finished limit Zero refl
-finish limit Padded = stepped limit Padded PreRelease 97 refl (finished limit PreRelease refl)
-finish limit PreRelease = finished limit PreRelease refl
-finish limit Plus = stepped limit Plus Build 97 refl (finished limit Build refl)
-finish limit Build = finished limit Build refl
-finish limit End = finished limit End refl
+unfolding run next
+finish limit Start = (48 ∷ zeros 2, zeros-read limit 2 0)
+finish limit (Digit left) = (48 ∷ zeros left, zeros-read limit left 0)
+finish limit (Number left n) = (zeros left, zeros-read limit left n)
+finish limit Dash = (97 ∷ [], refl)
+finish limit Padded = (97 ∷ [], refl)
+finish limit Plus = (97 ∷ [], refl)
+finish limit s = ([], refl)
 
 pub read-front : (limit : ℕ) (before : List ℕ) (s : State) → 9 ≤ limit → run limit Start before ≡ Some s → IsFront limit before
 read-front limit before s nine h =
-    let f = finish limit s in
-    (f.0, read-spelled limit (before ++ f.0) nine (ap ends_whole (run-then limit Start s before f.0 h) ∙ f.1))
+    let f = finish limit s in (f.0, read-spelled limit (before ++ f.0) nine (ap ends_whole (run-then limit Start s before f.0 h) ∙ f.1))
 
--- ---- and what is not read does not
-
+-- and what is not read does not
 pub front-stops : (limit : ℕ) (before : List ℕ) (s : State) (c : ℕ) (rest : List ℕ) → run limit Start before ≡ Some s
     → next limit s c ≡ None → Whole limit Start (before ++ c ∷ rest) → ⊥
-front-stops limit before s c rest h none w =
-    cc (sym (ap ends_whole (run-then limit Start s before (c ∷ rest) h ∙ run-none limit s c rest none)) ∙ w)
+unfolding run
+front-stops limit before s c rest h none w = cc (rw (run-then limit Start s before (c ∷ rest) h, none) at w)

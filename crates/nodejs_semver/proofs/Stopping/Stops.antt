@@ -1,15 +1,13 @@
 -- Where a text stops being a version text, and what is wrong there.
-use Rattle.nodejs_semver.proofs.Common.{Bool, IsUtf8, List, MAX_SAFE_INTEGER, None, Option, Some, VersionValue, [], ap, append-nil}
-use Rattle.nodejs_semver.proofs.Common.{append_assoc, arith, bind_some, cases_Bool, common_steps, encode_utf8, encode_utf8_all}
-use Rattle.nodejs_semver.proofs.Common.{encodes-append, ends, false, if◌then◌else◌, inl, inr, is_ascii_digit, is_some, length}
-use Rattle.nodejs_semver.proofs.Common.{length-append, length-encode, nat_tests, none_of, not, not-true, refl, same_Some, subst, suc, sym}
-use Rattle.nodejs_semver.proofs.{Common.{true, zero, ℕ, ◌*◌, ◌++◌, ◌+◌, ◌==◌, ◌↔◌, ◌∙◌, ◌∷◌, ◌≡◌, ◌≤◌, ◌⊎◌}, NpmCommon.{At, Dash, GoesOn}}
-use Rattle.nodejs_semver.proofs.NpmCommon.{IsFront, IsSpelled, IsVersionText, Number, Padded, Plus, State, digit_value, encodes_same}
-use Rattle.nodejs_semver.proofs.{NpmCommon.{is_whole, len_utf8, next, run, wrong_at, wrong_of}, Stopping.Read.{Whole, front-stops}}
-use Rattle.nodejs_semver.proofs.Stopping.Read.{read-front, read-spelled, run-nil, run-step, run-then, spelled-read}
-use Rattle.nodejs_semver.specs.{Npm.Flaws.{IsFlaw, IsStop, IsWrong}, declared.npm.flaws.Flaw.{Flaw, TheVariants.TooLong}}
-use Rattle.nodejs_semver.specs.declared.npm.flaws.{State.TheVariants.{Build, End, PreRelease, Start, Zero}, Wrong.Wrong}
-use Rattle.std.proofs.lemmas.Str.{cons_from_encodes}
+use Rattle.nodejs_semver.proofs.Common.{Bool, IsUtf8, List, MAX_SAFE_INTEGER, None, Option, Some, VersionValue, [], ap, append-nil, append_assoc}
+use Rattle.nodejs_semver.proofs.Common.{arith, bind_some, common_steps, encode_utf8, encode_utf8_all, encodes-append, ends, false, if◌then◌else◌, inl}
+use Rattle.nodejs_semver.proofs.Common.{inr, is_ascii_digit, is_some, length, length-append, length-encode, nat_tests, not, not-true, refl, same_Some}
+use Rattle.nodejs_semver.proofs.{Common.{subst, suc, sym, true, zero, ℕ, ◌&&◌, ◌*◌, ◌++◌, ◌+◌, ◌==◌, ◌↔◌, ◌∙◌, ◌∷◌, ◌≡◌, ◌≤◌, ◌⊎◌}, NpmCommon.At}
+use Rattle.nodejs_semver.proofs.NpmCommon.{Dash, GoesOn, IsFront, IsSpelled, IsVersionText, Number, Padded, Plus, State, digit_value, encodes_same}
+use Rattle.nodejs_semver.proofs.{NpmCommon.{is_whole, len_utf8, next, run, wrong_at, wrong_of}, Reading.Steps.option-cases, Stopping.Read.Whole}
+use Rattle.nodejs_semver.{proofs.Stopping.Read.{front-stops, read-front, read-spelled, run-more, spelled-read}, specs.Npm.Flaws.{IsFlaw, IsStop}}
+use Rattle.nodejs_semver.specs.{Npm.Flaws.IsWrong, declared.npm.flaws.{Flaw.{Flaw, TheVariants.TooLong}, State.TheVariants.{Build, End, PreRelease}}}
+use Rattle.{nodejs_semver.specs.declared.npm.flaws.{State.TheVariants.{Start, Zero}, Wrong.Wrong}, std.proofs.lemmas.Str.cons_from_encodes}
 
 -- ---- the character that was read last
 
@@ -35,12 +33,10 @@ last-read limit PreRelease t c h = behind-last _ _ t c h
 last-read limit Build t c h = grind (arith, nat_tests)
 last-read limit s t c h = grind arith
 
-run-last : (limit : ℕ) (s t : State) (c : ℕ) (cs : List ℕ) → run limit s (c ∷ cs) ≡ Some t
-    → last t (ends is_ascii_digit (c ∷ cs)) ≡ true
+run-last : (limit : ℕ) (s t : State) (c : ℕ) (cs : List ℕ) → run limit s (c ∷ cs) ≡ Some t → last t (ends is_ascii_digit (c ∷ cs)) ≡ true
 unfolding run
 run-last limit s t c [] h = grind (arith, nat_tests, common_steps, last-read)
-run-last limit s t c (d ∷ cs) h =
-    let b = bind_some (next limit s c) (λ u. run limit u (d ∷ cs)) t h in run-last limit b.0 t d cs b.2
+run-last limit s t c (d ∷ cs) h = let b = bind_some (next limit s c) (λ u. run limit u (d ∷ cs)) t h in run-last limit b.0 t d cs b.2
 
 text-last : (limit : ℕ) (t : State) (cs : List ℕ) → run limit Start cs ≡ Some t → last t (ends is_ascii_digit cs) ≡ true
 unfolding run
@@ -57,15 +53,14 @@ run-larger : (limit more : ℕ) (s t : State) (cs : List ℕ) → limit ≤ more
 unfolding run
 run-larger limit more s t [] le h = h
 run-larger limit more s t (c ∷ cs) le h =
-    let b = bind_some (next limit s c) (λ u. run limit u cs) t h in
-    rw (next-larger limit more s b.0 c le b.1) (run-larger limit more b.0 t cs le b.2)
+    let b = bind_some (next limit s c) (λ u. run limit u cs) t h in rw (next-larger limit more s b.0 c le b.1) (run-larger limit more b.0 t cs le b.2)
 
 -- a limit with which a number may have a further digit
 room : State → ℕ → ℕ
 room (Number left n) c = n * 10 + digit_value c
 room s c = 0
 
-next-room : (limit more : ℕ) (s : State) (c : ℕ) → room s c ≤ limit → next limit s c ≡ None → next more s c ≡ None
+next-room : (limit more : ℕ) (s : State) (c : ℕ) → room s c ≤ limit → is_some (next more s c) ≡ true → is_some (next limit s c) ≡ true
 unfolding next room
 next-room limit more s c le h = grind (arith, nat_tests, common_steps)
 
@@ -77,60 +72,39 @@ may-of limit s c = is_some (next limit s c)
 great-of : ℕ → State → ℕ → Bool
 great-of limit s c = is_some (next (limit + room s c) s c)
 
-some-next : (o : Option State) → is_some o ≡ true → (t : State) × (o ≡ Some t)
-some-next o h = grind (arith, nat_tests, common_steps)
-
-longer : (limit : ℕ) (before : List ℕ) (s t : State) (c : ℕ) → 9 ≤ limit → run limit Start before ≡ Some s → next limit s c ≡ Some t
+goes : (limit : ℕ) (before : List ℕ) (s : State) (c : ℕ) → 9 ≤ limit → run limit Start before ≡ Some s → is_some (next limit s c) ≡ true
     → IsFront limit (before ++ c ∷ [])
-longer limit before s t c nine h k = read-front _ _ _ nine (run-then _ _ _ _ _ h ∙ (run-step _ _ _ _ _ k ∙ run-nil _ _))
+goes limit before s c nine h k = elim (option-cases (next limit s c)) [
+  | inl none ↦ cc (rw none at k)
+  | inr t ↦ read-front _ _ _ nine (run-more limit s t.0 c before h t.1)
+]
 
-pub front-whole : (limit more : ℕ) (before : List ℕ) (c : ℕ) → 9 ≤ more → limit ≤ more → (f : IsFront limit (before ++ c ∷ []))
-    → Whole more Start (before ++ c ∷ f.0)
-front-whole limit more before c nine le f = rw append_assoc at (spelled-read limit more ((before ++ c ∷ []) ++ f.0) nine le f.1)
+may-go : (limit more : ℕ) (before : List ℕ) (s : State) (c : ℕ) → 9 ≤ more → limit ≤ more → run more Start before ≡ Some s
+    → IsFront limit (before ++ c ∷ []) → is_some (next more s c) ≡ true
+may-go limit more before s c nine le h f = elim (option-cases (next more s c)) [
+  | inr t ↦ ap is_some t.1
+  | inl none ↦ absurd (front-stops more before s c f.0 h none (rw append_assoc at (spelled-read limit more _ nine le f.1)))
+]
 
 pub goes_on : (limit : ℕ) (before : List ℕ) (s : State) → 9 ≤ limit → run limit Start before ≡ Some s → GoesOn limit before
 unfolding may-of great-of
-goes_on limit before s nine h = record {
-  may = may-of limit s;
-  great = great-of limit s;
-  may_is = λ c. (
-    λ k. let t = some-next (next limit s c) k in longer limit before s t.0 c nine h t.1,
-    λ f. elim (cases_Bool (is_some (next limit s c))) [
-      | inl some ↦ some
-      | inr none ↦ absurd (front-stops limit before s c f.0 h (none_of (next limit s c) none) (front-whole limit limit before c nine (omega arith) f))
-    ],
-  );
-  great_is = λ c.
-      let more = limit + room s c in
-      let wide = run-larger limit more Start s before (omega arith) h in (
-        λ k. let t = some-next (next more s c) k in (more, longer more before s t.0 c (omega arith) wide t.1),
-        λ f. elim (cases_Bool (is_some (next more s c))) [
-          | inl some ↦ some
-          | inr none ↦
-              let all = f.0 + limit in
-              absurd (front-stops all before s c f.1.0 (run-larger limit all Start s before (omega arith) h)
-              (next-room more all s c (omega arith) (none_of (next more s c) none))
-              (front-whole f.0 all before c (omega arith) (omega arith) f.1))
-        ],
+goes_on limit before s nine h =
+    let wide = λ (more : ℕ) (le : limit ≤ more). run-larger limit more Start s before le h in record {
+      may = may-of limit s;
+      great = great-of limit s;
+      may_is = λ c. (goes limit before s c nine h, may-go limit limit before s c nine (omega arith) h);
+      great_is = λ c. (
+        λ k. (limit + room s c, goes _ before s c (omega arith) (wide _ (omega arith)) k),
+        λ f. next-room _ (f.0 + limit) s c (omega arith) (may-go f.0 _ before s c (omega arith) (omega arith) (wide _ (omega arith)) f.1),
       );
-}
+    }
 
 -- ---- what is wrong
 
--- a digit that goes on with a number, or would
-too-great : (limit left n c : ℕ) → is_ascii_digit c ≡ true → (n == 0) ≡ false → great-of limit (Number left n) c ≡ true
+-- a digit that would go on with a number
+great-number : (limit left n c : ℕ) → next limit (Number left n) c ≡ None → great-of limit (Number left n) c ≡ (is_ascii_digit c && not (n == 0))
 unfolding great-of next room
-too-great limit left n c digit some = grind (arith, nat_tests, common_steps)
-
--- and others, which do not
-not-great : (limit left n c : ℕ) → is_ascii_digit c ≡ false → next limit (Number left n) c ≡ None
-    → great-of limit (Number left n) c ≡ false
-unfolding great-of next room
-not-great limit left n c other none = rw other (ap is_some (rw other at none))
-
-zero-stops : (limit left n c : ℕ) → is_ascii_digit c ≡ true → (n == 0) ≡ true → great-of limit (Number left n) c ≡ false
-unfolding great-of next room
-zero-stops limit left n c digit zero_is = rw (digit, zero_is) refl
+great-number limit left n c none = grind (arith, nat_tests, common_steps)
 
 is_number : State → Bool
 is_number (Number left n) = true
@@ -140,85 +114,67 @@ calm : (limit : ℕ) (s : State) (c : ℕ) → is_number s ≡ false → next li
 unfolding great-of next is_number
 calm limit s c e none = grind (arith, nat_tests, common_steps)
 
-pub stopped-wrong : (limit : ℕ) (before : List ℕ) (s : State) (c : ℕ) (rest : List ℕ) → (nine : 9 ≤ limit)
-    → (h : run limit Start before ≡ Some s) → next limit s c ≡ None
-    → wrong_at s (Some c) ≡ wrong_of (goes_on limit before s nine h).may (goes_on limit before s nine h).great before (c ∷ rest)
-unfolding goes_on may-of next wrong_at is_number
-stopped-wrong limit before s c rest nine h none = go s h none
-  where
-    go : (s : State) → run limit Start before ≡ Some s → next limit s c ≡ None
-        → wrong_at s (Some c) ≡ wrong_of (may-of limit s) (great-of limit s) before (c ∷ rest)
-    go (Number zero n) h none = grind (arith, not-great limit zero n c, zero-stops limit zero n c, too-great limit zero n c)
-    go (Number (suc k) n) h none = grind (arith, not-great limit (suc k) n c, zero-stops limit (suc k) n c, too-great limit (suc k) n c)
-    go Dash h none = rw (calm limit Dash c refl none, not-true _ (text-last limit Dash before h)) refl
-    go Padded h none = rw (calm limit Padded c refl none, text-last limit Padded before h) refl
-    go Plus h none = rw (calm limit Plus c refl none, not-true _ (text-last limit Plus before h)) refl
-    go s h none = rw (calm limit s c refl none) refl
+-- what stands behind goes no further
+abbrev Stuck : ℕ → State → List ℕ → Type 0
+Stuck limit s [] = is_whole s ≡ false
+Stuck limit s (c ∷ rest) = next limit s c ≡ None
 
-pub ended-wrong : (limit : ℕ) (before : List ℕ) (s : State) → (nine : 9 ≤ limit) → (h : run limit Start before ≡ Some s)
-    → is_whole s ≡ false
-    → wrong_at s None ≡ wrong_of (goes_on limit before s nine h).may (goes_on limit before s nine h).great before []
-unfolding goes_on may-of next wrong_at
-ended-wrong limit before Dash nine h none = rw (not-true _ (text-last limit Dash before h)) refl
-ended-wrong limit before Plus nine h none = rw (not-true _ (text-last limit Plus before h)) refl
-ended-wrong limit before Padded nine h none = rw (text-last limit Padded before h) refl
-ended-wrong limit before (Number zero n) nine h none = cc none
-ended-wrong limit before s nine h none = grind (arith, nat_tests)
+abbrev first : List ℕ → Option ℕ
+first [] = None
+first (c ∷ rest) = Some c
+
+stuck-wrong : (limit : ℕ) (before : List ℕ) (s : State) (behind : List ℕ) → run limit Start before ≡ Some s → Stuck limit s behind
+    → wrong_at s (first behind) ≡ wrong_of (may-of limit s) (great-of limit s) before behind
+unfolding may-of next wrong_at is_number
+stuck-wrong limit before Dash [] h none = rw (not-true _ (text-last limit Dash before h)) refl
+stuck-wrong limit before Plus [] h none = rw (not-true _ (text-last limit Plus before h)) refl
+stuck-wrong limit before Padded [] h none = rw (text-last limit Padded before h) refl
+stuck-wrong limit before (Number zero n) [] h none = cc
+stuck-wrong limit before s [] h none = grind (arith, nat_tests)
+stuck-wrong limit before (Number zero n) (c ∷ rest) h none = grind (arith, great-number limit zero n c)
+stuck-wrong limit before (Number (suc k) n) (c ∷ rest) h none = grind (arith, great-number limit (suc k) n c)
+stuck-wrong limit before Dash (c ∷ rest) h none = rw (calm limit Dash c refl none, not-true _ (text-last limit Dash before h)) refl
+stuck-wrong limit before Padded (c ∷ rest) h none = rw (calm limit Padded c refl none, text-last limit Padded before h) refl
+stuck-wrong limit before Plus (c ∷ rest) h none = rw (calm limit Plus c refl none, not-true _ (text-last limit Plus before h)) refl
+stuck-wrong limit before s (c ∷ rest) h none = rw (calm limit s c refl none) refl
 
 -- ---- which characters go on is one thing
 
 same-test : (a b : Bool) (P : Type 0) → ((a ≡ true) ↔ P) → ((b ≡ true) ↔ P) → a ≡ b
 same-test a b P x y = grind (arith, nat_tests, common_steps)
 
-same-wrong : (may may' great great' : ℕ → Bool) → ((c : ℕ) → may c ≡ may' c) → ((c : ℕ) → great c ≡ great' c)
-    → (before behind : List ℕ) → wrong_of may great before behind ≡ wrong_of may' great' before behind
-same-wrong may may' great great' m g before behind = grind (arith, nat_tests, common_steps)
-
-pub one_wrong : (limit : ℕ) (before behind : List ℕ) (x y : GoesOn limit before)
-    → wrong_of x.may x.great before behind ≡ wrong_of y.may y.great before behind
-one_wrong limit before behind x y =
-    same-wrong x.may y.may x.great y.great (λ c. same-test (x.may c) (y.may c) _ (x.may_is c) (y.may_is c))
-    (λ c. same-test (x.great c) (y.great c) _ (x.great_is c) (y.great_is c)) before behind
+one_wrong : (limit : ℕ) (before before' behind behind' : List ℕ) → before ≡ before' → behind ≡ behind'
+    → (x : GoesOn limit before) (y : GoesOn limit before') → wrong_of x.may x.great before behind ≡ wrong_of y.may y.great before' behind'
+one_wrong limit before before' behind behind' e k x y =
+    let z = subst (λ (t : List ℕ). GoesOn limit t) (sym e) y in
+    λ i. wrong_of (λ c. same-test (x.may c) (y.may c) _ (x.may_is c) (z.may_is c) i)
+    (λ c. same-test (x.great c) (y.great c) _ (x.great_is c) (z.great_is c) i) (e i) (k i)
 
 -- ---- where a text stops
 
--- what stands behind goes no further
-abbrev Stuck : ℕ → State → List ℕ → Type 0
-Stuck limit s [] = is_whole s ≡ false
-Stuck limit s (c ∷ rest) = next limit s c ≡ None
-
--- neither does the text go further with the next character, nor is it a version
-stops : (limit : ℕ) (before : List ℕ) (s : State) (behind : List ℕ) → 9 ≤ limit → run limit Start before ≡ Some s → Stuck limit s behind
-    → ((c : ℕ) (r : List ℕ) → behind ≡ c ∷ r → IsFront limit (before ++ c ∷ []) → ⊥) × (Whole limit Start (before ++ behind) → ⊥)
-stops limit before s [] nine h stuck = (λ c r same f. cc same, λ w. let r = rw (append-nil before, h) at w in cc (r, stuck))
-stops limit before s (b ∷ rest) nine h stuck = (
-  λ c r same f. front-stops limit before s c f.0 h (subst (λ (d : ℕ). next limit s d ≡ None) (cc same) stuck) (front-whole limit limit before c nine (omega arith) f),
-  front-stops limit before s b rest h stuck,
-)
-
-stop : (limit : ℕ) (text before : List ℕ) (s : State) (behind : List ℕ) → 9 ≤ limit → text ≡ encode_utf8_all (before ++ behind)
-    → run limit Start before ≡ Some s → Stuck limit s behind → IsStop limit text (length (encode_utf8_all before))
-stop limit text before s behind nine e h stuck = record {
-  before = before;
-  behind = behind;
-  divided = e;
-  place = refl;
-  right = read-front limit before s nine h;
-  wrong = (stops limit before s behind nine h stuck).0;
-  none = λ w. (stops limit before s behind nine h stuck).1 (spelled-read limit limit (before ++ behind) nine (omega arith) (subst (λ (t : List ℕ). IsSpelled limit t) e w));
-}
-
--- what is wrong where a text stops
-abbrev first : List ℕ → Option ℕ
-first [] = None
-first (c ∷ rest) = Some c
+-- the text is no version
+stuck-none : (limit : ℕ) (before : List ℕ) (s : State) (behind : List ℕ) → run limit Start before ≡ Some s → Stuck limit s behind
+    → Whole limit Start (before ++ behind) → ⊥
+stuck-none limit before s [] h stuck w = let r = rw (append-nil before, h) at w in cc (r, stuck)
+stuck-none limit before s (c ∷ rest) h stuck w = front-stops limit before s c rest h stuck w
 
 wrong : (limit : ℕ) (text before : List ℕ) (s : State) (behind : List ℕ) → 9 ≤ limit → text ≡ encode_utf8_all (before ++ behind)
     → run limit Start before ≡ Some s → Stuck limit s behind → IsWrong limit text (wrong_at s (first behind)) (length (encode_utf8_all before))
-unfolding stop
-wrong limit text before s [] nine e h stuck = (stop _ _ _ _ _ nine e h stuck, goes_on _ _ _ nine h, ended-wrong _ _ _ _ _ stuck)
-wrong limit text before s (c ∷ rest) nine e h stuck =
-    (stop limit text before s (c ∷ rest) nine e h stuck, goes_on limit before s nine h, stopped-wrong limit before s c rest nine h stuck)
+unfolding goes_on
+wrong limit text before s behind nine e h stuck = (
+  record {
+    before = before;
+    behind = behind;
+    divided = e;
+    place = refl;
+    right = read-front limit before s nine h;
+    wrong = λ c r same f.
+        let none : next limit s c ≡ None = subst (Stuck limit s) same stuck in cc (may-go limit limit before s c nine (omega arith) h f, none);
+    none = λ w. stuck-none limit before s behind h stuck (spelled-read limit limit (before ++ behind) nine (omega arith) (rw e at w));
+  },
+  goes_on limit before s nine h,
+  stuck-wrong limit before s behind h stuck,
+)
 
 -- ---- the loop
 
@@ -235,7 +191,8 @@ behind [] all rest e = (all, refl, e)
 behind (c ∷ passed) all rest e = grind (arith, nat_tests, common_steps, cons_from_encodes, append_assoc, behind passed)
 
 pub passed_none : (text rest : List ℕ) → rest ≡ text → Passed text 0 Start rest []
-passed_none text rest e = record { divided = sym e; place = refl; reads = run-nil MAX_SAFE_INTEGER Start }
+unfolding run
+passed_none text rest e = record { divided = sym e; place = refl; reads = refl }
 
 module _ (text : List ℕ) (at : ℕ) (s : State) (rest passed : List ℕ) (p : Passed text at s rest passed) where
   pub passed_more : (t : State) (next-rest : List ℕ) (c n : ℕ) → rest ≡ encode_utf8 c ++ next-rest → n ≡ len_utf8 c
@@ -246,7 +203,7 @@ module _ (text : List ℕ) (at : ℕ) (s : State) (rest passed : List ℕ) (p : 
       record {
         divided = grind (arith, nat_tests, common_steps);
         place = omega (arith, p.place, size, length-encode c, ap length one, length-append (encode_utf8_all passed) (encode_utf8 c));
-        reads = run-then _ _ _ passed (c ∷ []) p.reads ∙ (run-step _ _ _ c [] h ∙ run-nil _ t);
+        reads = run-more _ s t c passed p.reads h;
       }
 
   pub passed_stop : (next-rest : List ℕ) (c : ℕ) (w : Wrong) → IsUtf8 text → rest ≡ encode_utf8 c ++ next-rest
@@ -262,8 +219,7 @@ module _ (text : List ℕ) (at : ℕ) (s : State) (rest passed : List ℕ) (p : 
   at-end h = grind (arith, nat_tests, common_steps)
 
   pub passed_end : (w : Wrong) → length rest ≡ 0 → is_whole s ≡ false → w ≡ wrong_at s None → IsWrong MAX_SAFE_INTEGER text w at
-  passed_end w h none is =
-      rw (is, p.place) (wrong _ _ _ _ _ (omega arith) (at-end h ∙ ap encode_utf8_all (sym (append-nil passed))) p.reads none)
+  passed_end w h none is = rw (is, p.place) (wrong _ _ _ _ _ (omega arith) (at-end h ∙ ap encode_utf8_all (sym (append-nil passed))) p.reads none)
 
   pub passed_whole : length rest ≡ 0 → is_whole s ≡ true → IsSpelled MAX_SAFE_INTEGER text
   passed_whole h whole = rw (at-end h) (read-spelled MAX_SAFE_INTEGER passed (omega arith) (rw p.reads whole))
@@ -272,8 +228,7 @@ module _ (text : List ℕ) (at : ℕ) (s : State) (rest passed : List ℕ) (p : 
 
 -- two divisions of one text: they are the same, or one goes on where the other ends
 divisions : (xs us ys vs : List ℕ) → xs ++ us ≡ ys ++ vs → ((xs ≡ ys) × (us ≡ vs))
-    ⊎ (((c : ℕ) × (r : List ℕ) × (ys ≡ xs ++ c ∷ r) × (us ≡ c ∷ (r ++ vs)))
-    ⊎ ((c : ℕ) × (r : List ℕ) × (xs ≡ ys ++ c ∷ r) × (vs ≡ c ∷ (r ++ us))))
+    ⊎ (((c : ℕ) × (r : List ℕ) × (ys ≡ xs ++ c ∷ r) × (us ≡ c ∷ (r ++ vs))) ⊎ ((c : ℕ) × (r : List ℕ) × (xs ≡ ys ++ c ∷ r) × (vs ≡ c ∷ (r ++ us))))
 divisions [] us [] vs e = inl (refl, e)
 divisions [] us (c ∷ ys) vs e = inr (inl (c, ys, refl, e))
 divisions (c ∷ xs) us [] vs e = inr (inr (c, xs, refl, sym e))
@@ -289,8 +244,7 @@ not-behind limit text a c r front vs x e k f =
           (ap (λ (t : List ℕ). t ++ f.0) e ∙ simp append_assoc) f.1,
     )
 
-same-stop : (limit : ℕ) (text : List ℕ) (a b : ℕ) (x : IsStop limit text a) (y : IsStop limit text b)
-    → (x.before ≡ y.before) × (x.behind ≡ y.behind)
+same-stop : (limit : ℕ) (text : List ℕ) (a b : ℕ) (x : IsStop limit text a) (y : IsStop limit text b) → (x.before ≡ y.before) × (x.behind ≡ y.behind)
 same-stop limit text a b x y =
     elim (divisions x.before x.behind y.before y.behind
     (encodes_same (x.before ++ x.behind) (y.before ++ y.behind) (sym x.divided ∙ y.divided))) [
@@ -299,14 +253,7 @@ same-stop limit text a b x y =
       | inr (inr m) ↦ absurd (not-behind limit text b m.0 m.1 x.before x.behind y m.2 m.3 x.right)
     ]
 
-divided-wrong : (limit : ℕ) (before before' behind behind' : List ℕ) → before ≡ before' → behind ≡ behind'
-    → (x : GoesOn limit before) (y : GoesOn limit before')
-    → wrong_of x.may x.great before behind ≡ wrong_of y.may y.great before' behind'
-divided-wrong limit before before' behind behind' e k x y =
-    one_wrong limit before behind x (subst (λ (t : List ℕ). GoesOn limit t) (sym e) y)
-    ∙ (ap (λ (t : List ℕ). wrong_of y.may y.great t behind) e ∙ ap (λ (t : List ℕ). wrong_of y.may y.great before' t) k)
-
-pub one_flaw : (limit : ℕ) (text : List ℕ) (f g : Flaw) → IsFlaw limit text f → IsFlaw limit text g → f ≡ g
+one_flaw : (limit : ℕ) (text : List ℕ) (f g : Flaw) → IsFlaw limit text f → IsFlaw limit text g → f ≡ g
 one_flaw limit text TooLong TooLong x y = refl
 one_flaw limit text TooLong (At v b) x y = absurd (omega (arith, x, y.0))
 one_flaw limit text (At w a) TooLong x y = absurd (omega (arith, y, x.0))
@@ -315,19 +262,14 @@ one_flaw limit text (At w a) (At v b) x y =
     let t = y.1.0 in
     let same = same-stop limit text a b s t in
     let place : a ≡ b = s.place ∙ (ap (λ (c : List ℕ). length (encode_utf8_all c)) same.0 ∙ sym t.place) in
-    let wrong : w ≡ v = x.1.2 ∙ (divided-wrong limit _ _ _ _ same.0 same.1 x.1.1 y.1.1 ∙ sym y.1.2) in
-    cc (place, wrong)
-
-spelled : (limit : ℕ) (text : List ℕ) (v : VersionValue) → IsVersionText limit text v → IsSpelled limit text
-spelled limit text v h = record { version = v; middle = h.1; trimmed = h.2; is = h.3 }
+    let wrong : w ≡ v = x.1.2 ∙ (one_wrong limit _ _ _ _ same.0 same.1 x.1.1 y.1.1 ∙ sym y.1.2) in cc (place, wrong)
 
 -- a version has none
-pub no_flaw : (limit : ℕ) (text : List ℕ) (f : Flaw) (v : VersionValue) → IsVersionText limit text v → IsFlaw limit text f → ⊥
+no_flaw : (limit : ℕ) (text : List ℕ) (f : Flaw) (v : VersionValue) → IsVersionText limit text v → IsFlaw limit text f → ⊥
 no_flaw limit text TooLong v h x = omega (arith, x, h.0)
-no_flaw limit text (At w a) v h x = x.1.0.none (spelled limit text v h)
+no_flaw limit text (At w a) v h x = x.1.0.none (record { version = v; middle = h.1; trimmed = h.2; is = h.3 })
 
-pub flaw_none : (limit : ℕ) (text : List ℕ) (f : Flaw) → IsFlaw limit text f
-    → (Some f ≡ None) ↔ ((v : VersionValue) × IsVersionText limit text v)
+pub flaw_none : (limit : ℕ) (text : List ℕ) (f : Flaw) → IsFlaw limit text f → (Some f ≡ None) ↔ ((v : VersionValue) × IsVersionText limit text v)
 flaw_none limit text f x = (λ e. cc e, λ h. absurd (no_flaw limit text f h.0 h.1 x))
 
 pub flaw_only : (limit : ℕ) (text : List ℕ) (f : Flaw) → IsFlaw limit text f → (g : Flaw) → IsFlaw limit text g → Some f ≡ Some g

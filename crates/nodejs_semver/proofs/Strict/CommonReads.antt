@@ -1,8 +1,8 @@
 -- Common texts: what the reader of these finds are alternatives of the text, and what their comparators have in common.
-use Rattle.nodejs_semver.proofs.{Algebra.Gate.both, Alike.Texts.{gap-bytes, joined, no_mark, no_marks, one_blank, sign_text}}
+use Rattle.nodejs_semver.proofs.{Algebra.Gate.both, Strict.{Hyphens.hyphen_none-strict, Ignored.no-blank, Signs.blank-nil, Words.strict-kept}}
 use Rattle.nodejs_semver.proofs.Common.{AllByRecursion, Bool, Bound, IfSome, IsRange, IsUtf8, List, MAX_SAFE_INTEGER, None, Option, Some}
 use Rattle.nodejs_semver.proofs.Common.{Span, Unbounded, VersionValue, [], all_weaker, ap, append-nil, append_assoc, arith, begins}
-use Rattle.nodejs_semver.proofs.Common.{codes, common_steps, cond_both, cond_some, cut_bars, drop, false, inl, inr, interval}
+use Rattle.nodejs_semver.proofs.Common.{common_steps, cond_both, cond_some, cut_bars, drop, false, inl, inr, interval}
 use Rattle.nodejs_semver.proofs.Common.{is_empty, is_interval, length, length-append, list_all, list_all-append, nat_tests}
 use Rattle.nodejs_semver.proofs.Common.{option_holds-interval, option_to_list, precedence, precedence_total, refl, release_value, subst}
 use Rattle.nodejs_semver.proofs.Common.{sym, take, trim, true, ℕ, ◌++◌, ◌-◌, ◌<◌, ◌∙◌, ◌∷◌, ◌≡◌, ◌≤◌, ◌⊎◌}
@@ -12,7 +12,7 @@ use Rattle.nodejs_semver.proofs.{Everyday.Words.is_part_byte, NpmCommon.{AcceptA
 use Rattle.nodejs_semver.proofs.NpmCommon.{IsNarrowed, IsPartial, IsPlaces, IsRangeIn, after_byte, are_normal, begins_wildcard, bounds_view}
 use Rattle.nodejs_semver.proofs.NpmCommon.{compared, counted_front, dotted_patch, dotted_place, is_valid, listed, lit<, no_sign}
 use Rattle.nodejs_semver.proofs.{NpmCommon.{patch_place, spelling, strict_number, within}, Reading.Bytes.{all-end, all-join}}
-use Rattle.nodejs_semver.proofs.Strict.{AlternativeLaw.{partial-le, partial-normal}, Malformed.{is_part, partial-part}}
+use Rattle.nodejs_semver.proofs.Strict.{AlternativeLaw.partial-normal, Hyphens.partial-le, Malformed.{is_part, partial-part}}
 use Rattle.nodejs_semver.proofs.Strict.PartialLaw.{PartialAt, counted-some, strict-counted, number_placed, over_counted, partial-found, wildcard_placed}
 use Rattle.nodejs_semver.{proofs.Strict.{RangeReads.{found_spans, ranged_range}, Rows.both_common}, specs.Internal.CommonFronts.after_bars}
 use Rattle.nodejs_semver.specs.Internal.{NpmAlternatives.ranged, NpmFronts.{AreIn, AreJoined, AreParts, IsLeft, IsPartAt, IsSignAt}}
@@ -22,10 +22,20 @@ use Rattle.nodejs_semver.specs.{Npm.Table.{minor, table, whole, wildcard}, Text.
 use Rattle.{nodejs_semver.specs.declared.readers.syntax.Bounds.Bounds, std.proofs.Math.Seq.take-append_seam}
 use Rattle.nodejs_semver.proofs.{Common.Front, NpmCommon.{is_small, limited}}
 use Rattle.nodejs_semver.specs.Internal.NpmWords.{partial_front}
+use Rattle.nodejs_semver.proofs.Common.{IsBlank, IsTrim, encode_utf8, trim_is_middle}
+use Rattle.nodejs_semver.proofs.NpmCommon.{AreWords, BeginsWord, IsSignText, IsWord, are_marks, comparators_of, is_lost}
+use Rattle.nodejs_semver.proofs.Reading.{Bytes.solid-dark, WordLaw.{blank-len, trim-utf8}}
+use Rattle.semver_core.specs.Text.Characters.{BeginsBlank}
 use Rattle.nodejs_semver.specs.Internal.NpmFronts as Fronts
 use Rattle.nodejs_semver.specs.Npm.RangeText as Npm
 
 -- ---- a word
+
+sign_text : (s : Sign) → IsSignText (spelling s) s
+sign_text s = rw append-nil at (Npm.sign s [] blank-nil)
+
+no_marks : (s : Sign) (p : Partial) → are_marks false s p [] ≡ true
+no_marks s p = grind (arith, nat_tests, common_steps)
 
 sign-bytes : (s : Sign) → list_all is_word_byte (spelling s) ≡ true
 sign-bytes s = grind (arith, nat_tests)
@@ -58,7 +68,8 @@ word-found include text behind rest s p span sign read are =
         word = spelling s ++ f.piece;
         comparators = table include s p f.piece;
         split = e ∙ ap (λ (t : List ℕ). spelling s ++ t) f.split ∙ sym (append_assoc (spelling s) f.piece rest);
-        is = λ _. Npm.word (spelling s) [] f.piece s p (sign_text s) (no_marks s p) (no_mark _) f.is;
+        partial = f.piece;
+        is = Npm.word (spelling s) [] f.piece s p (sign_text s) (no_marks s p) (grind arith) f.is.0;
         some = omega (arith, length-append (spelling s) f.piece, piece-some f.piece p f.is.0);
         bytes = all-join is_word_byte (spelling s) f.piece (sign-bytes s) (piece-bytes f.piece p f.is);
         are = k;
@@ -67,7 +78,8 @@ word-found include text behind rest s p span sign read are =
         word = f.piece;
         comparators = table include (compared equal) p f.piece;
         split = e.0 ∙ f.split;
-        is = λ _. Npm.word [] [] f.piece (compared equal) p no_sign (no_marks (compared equal) p) refl f.is;
+        partial = f.piece;
+        is = Npm.word [] [] f.piece (compared equal) p no_sign (no_marks (compared equal) p) refl f.is.0;
         some = piece-some f.piece p f.is.0;
         bytes = piece-bytes f.piece p f.is;
         are = subst (λ (t : Sign). AreIn include (table include t p f.piece) span) e.1 k;
@@ -174,18 +186,34 @@ word-compact x h k = record {
   end = all-end is_word_byte x h k;
 }
 
+-- a word that is the last one, and one with a space behind it
+last-word : (include : Bool) (x partial : List ℕ) (cs : List Comparison) → IsWord false include x partial cs → AreWords false include x (Some cs ∷ [])
+last-word include x partial cs h =
+    let w : BeginsWord false include x [] cs = record { word = x; partial = partial; divided = sym (append-nil x); is = h; ended = inl refl } in
+    Npm.more x [] (Some cs) [] (Npm.formed [] cs w refl ([], refl, blank-nil, no-blank)) Npm.none
+
+spaced-word : (include : Bool) (x partial y : List ℕ) (cs : List Comparison) (read : List (Option (List Comparison))) → IsWord false include x partial cs
+    → 0 < length y → list_all is_word_byte y ≡ true → AreWords false include y read → AreWords false include (x ++ 32 ∷ y) (Some cs ∷ read)
+unfolding encode_utf8
+spaced-word include x partial y cs read h some bytes k =
+    let white : BeginsBlank (32 ∷ y) = record { character = 32; rest = y; passes = refl; spelled = refl } in
+    let w : BeginsWord false include (x ++ 32 ∷ y) (32 ∷ y) cs = record { word = x; partial = partial; divided = refl; is = h; ended = inr white } in
+    let dark : BeginsBlank y → ⊥ = λ b. omega (arith, blank-len y b, solid-dark y (begins-all y some bytes)) in
+    let one : IsBlank (32 ∷ []) = record { characters = 32 ∷ []; each = refl; spelled = refl } in
+    Npm.more (x ++ 32 ∷ y) y (Some cs) read (Npm.formed (32 ∷ y) cs w refl (32 ∷ [], refl, one, dark)) k
+
 pub part-of_one : (include : Bool) (text rest : List ℕ) (s : Span VersionValue) → IsWordAt include text s rest → IsPartAt include text s rest
 part-of_one include text rest s w =
     let c = word-compact w.word w.some w.bytes in
     record {
       part = w.word;
-      comparators = w.comparators;
+      read = Some w.comparators ∷ [];
       split = w.split;
-      is = Npm.last w.word w.comparators (w.is true);
+      is = last-word include w.word w.partial w.comparators w.is;
       front = c.front;
       each = c.each;
       end = c.end;
-      are = w.are;
+      are = rw append-nil w.are;
     }
 
 open_both : (a b : Bound VersionValue) → both (record { lower = a; upper = Unbounded }) (record { lower = Unbounded; upper = b }) ≡ record { lower = a; upper = b }
@@ -205,14 +233,14 @@ part-of_two include text rest behind last s t v e w open_above open_below =
     let c = compact-spaced v.word w.word (word-compact v.word v.some v.bytes) (word-compact w.word w.some w.bytes) in
     record {
       part = v.word ++ 32 ∷ w.word;
-      comparators = v.comparators ++ w.comparators;
+      read = Some v.comparators ∷ (Some w.comparators ∷ []);
       split = v.split ∙ ap (λ (t : List ℕ). v.word ++ t) (e ∙ ap (λ (t : List ℕ). 32 ∷ t) w.split) ∙ sym (append_assoc v.word (32 ∷ w.word) last);
-      is = Npm.more v.word (codes " ") w.word v.comparators w.comparators (v.is false) one_blank (lit< tt)
-          (Npm.last w.word w.comparators (w.is true));
+      is = spaced-word include v.word v.partial w.word v.comparators (Some w.comparators ∷ []) v.is w.some w.bytes
+          (last-word include w.word w.partial w.comparators w.is);
       front = c.front;
       each = c.each;
       end = c.end;
-      are = half-open include v.comparators w.comparators s t v.are w.are open_above open_below;
+      are = rw append-nil (half-open include v.comparators w.comparators s t v.are w.are open_above open_below);
     }
 
 pub word-read : (include : Bool) (text behind rest : List ℕ) (s : Sign) (p : Partial) (o : Option Bounds) → IsSignAt text s behind
@@ -300,24 +328,38 @@ narrowed include cs s h = cond_both (is_interval precedence s) (Some s) None (λ
 compact-of : (include : Bool) (text rest : List ℕ) (s : Span VersionValue) (p : IsPartAt include text s rest) → Compact p.part
 compact-of include text rest s p = record { front = p.front; each = p.each; end = p.end }
 
+gap-bytes : (gap : List ℕ) → IsGap gap → list_all is_part_byte gap ≡ true
+gap-bytes gap g = grind arith
+
+-- one part among others
+joined : (include : Bool) (text rest : List ℕ) (s : Span VersionValue) (p : IsPartAt include text s rest) (pieces others : List (List ℕ)) (piece : List ℕ)
+    (more : List (List Comparison)) → pieces ≡ piece ∷ others → trim piece ≡ p.part → AllByRecursion IsUtf8 pieces
+    → (AllByRecursion IsUtf8 others → AreAlternatives false include others more) → AreAlternatives false include pieces (comparators_of p.read ∷ more)
+joined include text rest s p pieces others piece more e t u f =
+    let v : AllByRecursion IsUtf8 (piece ∷ others) = subst (AllByRecursion IsUtf8) e u in
+    let is_trim : IsTrim piece p.part = subst (λ (t : List ℕ). IsTrim piece t) t (trim_is_middle piece v.0) in
+    let absent = hyphen_none-strict include p.part p.read (trim-utf8 piece p.part v.0 is_trim) p.is in
+    subst (λ (ps : List (List ℕ)). AreAlternatives false include ps (comparators_of p.read ∷ more)) (sym e)
+    (rw (strict-kept include p.part p.read p.is) at (Npm.next piece p.part others (is_lost p.read) (comparators_of p.read) more is_trim
+    (Npm.words p.part p.read absent p.is) (f v.1)))
+
 all-at : (include : Bool) (text gap : List ℕ) (ss : List (Span VersionValue)) → IsGap gap → AreParts include text ss
     → AllByRecursion IsUtf8 (cut_bars false (gap ++ text)) → AllAt include (cut_bars false (gap ++ text)) ss
 all-at include text gap ss g (Fronts.one t s p) u =
     let c = compact-of include t [] s p in
     let whole : t ≡ p.part = p.split ∙ append-nil p.part in
     let same : trim (gap ++ p.part) ≡ p.part = rw append-nil at (compact-trim gap p.part [] g (inl refl) c) in
-    let is : AreAlternatives false include (cut_bars false (gap ++ t)) (p.comparators ∷ []) =
-    joined include _ [] (gap ++ p.part) p.part p.comparators [] (ap (λ (x : List ℕ). cut_bars false (gap ++ x)) whole
-    ∙ cut-last (gap ++ p.part) (all-join is_part_byte gap p.part (gap-bytes gap g) c.each)) same
-    (Npm.words p.part p.comparators p.is) u (λ _. Npm.none) in
+    let is : AreAlternatives false include (cut_bars false (gap ++ t)) (comparators_of p.read ∷ []) =
+    joined include t [] s p _ [] (gap ++ p.part) [] (ap (λ (x : List ℕ). cut_bars false (gap ++ x)) whole
+    ∙ cut-last (gap ++ p.part) (all-join is_part_byte gap p.part (gap-bytes gap g) c.each)) same u (λ _. Npm.none) in
     record {
-      alternatives = p.comparators ∷ [];
+      alternatives = comparators_of p.read ∷ [];
       each = is;
       some = refl;
       valid = rw p.are.0 refl;
       found = record {
         intervals = interval precedence s ∷ [];
-        narrowed = (narrowed include p.comparators s p.are.1, tt);
+        narrowed = (narrowed include (comparators_of p.read) s p.are.1, tt);
         are = sym (append-nil (option_to_list (interval precedence s)));
       };
     }
@@ -336,14 +378,14 @@ all-at include text gap ss g (Fronts.more t behind next s more p bars h) u =
     let v : AllByRecursion IsUtf8 (piece ∷ cut_bars false (b.after ++ next)) = subst (AllByRecursion IsUtf8) cut u in
     let k = all-at include next b.after more b.is_after h v.1 in
     record {
-      alternatives = p.comparators ∷ k.alternatives;
-      each = joined include _ (cut_bars false (b.after ++ next)) piece p.part p.comparators k.alternatives cut
-          (compact-trim gap p.part b.before g b.is_before c) (Npm.words p.part p.comparators p.is) u (λ _. k.each);
+      alternatives = comparators_of p.read ∷ k.alternatives;
+      each = joined include t behind s p _ (cut_bars false (b.after ++ next)) piece k.alternatives cut
+          (compact-trim gap p.part b.before g b.is_before c) u (λ _. k.each);
       some = refl;
       valid = rw (p.are.0, k.valid) refl;
       found = record {
         intervals = interval precedence s ∷ k.found.intervals;
-        narrowed = (narrowed include p.comparators s p.are.1, k.found.narrowed);
+        narrowed = (narrowed include (comparators_of p.read) s p.are.1, k.found.narrowed);
         are = ap (λ (l : List (Span VersionValue)). option_to_list (interval precedence s) ++ l) k.found.are;
       };
     }

@@ -1,63 +1,55 @@
 -- Hyphen ranges of node-semver's range texts: the functions that read them find exactly what the statement has, and the code those whose
 -- numbers that count are up to the limit.
-use Rattle.nodejs_semver.proofs.{Bounds.Bounded.identifiers-normal, Common.{Bool, Id, IsUtf8, List, None, Option, Some, [], ap, append_assoc}}
-use Rattle.nodejs_semver.proofs.Common.{and_parts, arith, begins, bind_some, cases_Bool, common_steps, cond_some, drop, drop_at, encode_utf8}
-use Rattle.nodejs_semver.proofs.Common.{encode_utf8_all, false, inl, inr, is_empty, is_whitespace, len_utf8_bounds, length, length-append}
-use Rattle.nodejs_semver.proofs.Common.{length-drop, length-encode, list_all, lt-ltb, nat_tests, not, refl, same_Some, space_len, ap₂}
-use Rattle.nodejs_semver.proofs.Common.{space_len-nil, subst, suc, sym, take, true, zero, ℕ, ◌&&◌, ◌++◌, ◌+◌, ◌-◌, ◌<◌, ◌||◌, ◌∙◌, ◌∷◌, ◌≡◌, ◌≤◌}
-use Rattle.nodejs_semver.proofs.NpmCommon.{AreMarks, Ended, IsEnd, IsHyphen, IsPlaces, IsStrictBuild, after_byte, after_ends, are_normal}
-use Rattle.nodejs_semver.proofs.NpmCommon.{drop_ends, encode_ascii, end_front, ended_as, hyphen_ends, is_mark, last_end, last_marks, len_utf8, plus}
-use Rattle.nodejs_semver.proofs.NpmCommon.{space_len-white, no_build, ◌>>?◌}
-use Rattle.nodejs_semver.proofs.Reading.{Bytes.{begins_component, is_component_byte, is_solid, solid-dark}, PartialLaw.front-dark}
+use Rattle.nodejs_semver.proofs.Bounds.Bounded.{identifiers-normal}
+use Rattle.nodejs_semver.proofs.Common.{Bool, Front, Id, IsUtf8, List, MAX_SAFE_INTEGER, None, Option, Some, VersionValue, [], all_weaker}
+use Rattle.nodejs_semver.proofs.Common.{and_parts, ap, append-nil, append_assoc, ap₂, arith, begins, bind_some, cases_Bool, common_steps, cond_some}
+use Rattle.nodejs_semver.proofs.Common.{drop, drop_at, drop_spaces, encode_utf8, encode_utf8_all, false, get_or, if◌then◌else◌, inl, inr, is_empty}
+use Rattle.nodejs_semver.proofs.Common.{is_whitespace, len_utf8_bounds, length, length-append, length-drop, length-encode, list_all, lt-ltb}
+use Rattle.nodejs_semver.proofs.Common.{nat_tests, not, prefix_len, refl, same_Some, space_len, space_len-nil, subst, suc, sym, take, true, zero, ℕ}
+use Rattle.nodejs_semver.proofs.Common.{◌&&◌, ◌++◌, ◌+◌, ◌-◌, ◌<◌, ◌==◌, ◌||◌, ◌∙◌, ◌∷◌, ◌≡◌, ◌≤◌}
+use Rattle.nodejs_semver.proofs.NpmCommon.{AreMarks, AreWords, Comparison, CountedEnd, Ended, IsAlternative, IsEnd, IsHyphen, IsPlaces}
+use Rattle.nodejs_semver.proofs.NpmCommon.{IsStrictBuild, IsWord, after_byte, after_ends, are_normal, are_whole_marks, comparators_of, counted_as}
+use Rattle.nodejs_semver.proofs.NpmCommon.{counted_end, counted_front, counted_hyphen, drop_ends, encode_ascii, end_front, ended_as, hyphen_ends}
+use Rattle.nodejs_semver.proofs.NpmCommon.{hyphen_of, is_free_lower, is_free_upper, is_mark, is_right, is_right_end, is_short}
+use Rattle.nodejs_semver.proofs.NpmCommon.{is_short_word, is_small, is_valid, last_end, last_marks, len_utf8, lower_of, no_build, plus}
+use Rattle.nodejs_semver.proofs.NpmCommon.{space_len-white, upper_of, ◌>>?◌}
+use Rattle.nodejs_semver.proofs.Reading.Bytes.{all-join, begins-some, begins_component, is_component_byte, is_solid, solid-dark}
+use Rattle.nodejs_semver.proofs.Reading.PartialLaw.{front-dark}
 use Rattle.nodejs_semver.proofs.Reading.WordLaw.{blank-len, boundary-of, boundary-utf8, byte-is, skips-of, skips-utf8, some_space-is, tail-utf8}
-use Rattle.nodejs_semver.proofs.Strict.PartialLaw.{boundary-quiet, front-text, places-found, places-read}
-use Rattle.nodejs_semver.proofs.Strict.VersionLaw.{empty-is}
-use Rattle.nodejs_semver.specs.Internal.{NpmWords.{after_dash, end_len, places_front}, Words.after_some_space}
-use Rattle.nodejs_semver.specs.{Npm.{Grammar.IsPreRelease, Table.Partial}, Text.WordText.SkipsBlank}
-use Rattle.semver_core.{proofs.Text.SpaceLaw.space_len-dark, specs.{Printing.RoundTrip.is_normal, Text.Characters.BeginsBlank}}
-use Rattle.std.proofs.lemmas.{List.{Sums.{list_all-from_AllPass, prefix_len_passes, suffix_len-le-length, suffix_len_is}, get_or-drop, get_or-reverse}}
-use Rattle.std.proofs.lemmas.Str.{IsUtf8-past_char, encode_same}
+use Rattle.nodejs_semver.proofs.Strict.Malformed.{blank-signal, is_signal, sign-signal}
+use Rattle.nodejs_semver.proofs.Strict.{PartialLaw.{boundary-quiet, front-text, places-found, places-read}, Printed.{lower-invalid, upper-invalid}}
+use Rattle.nodejs_semver.proofs.Strict.{Signs.marks-all, VersionLaw.empty-is, Words.{marks-dropped, places-begin, strict-kept}}
+use Rattle.nodejs_semver.specs.Internal.{NpmParts.some_normal, NpmReads.{hyphen_valid, valid_one}, NpmWords.{after_dash, end_len, places_front}}
+use Rattle.nodejs_semver.specs.{Internal.Words.after_some_space, Npm.Grammar.IsPreRelease, Npm.RangeText.{formed, ignored, is_free, more, words}}
+use Rattle.nodejs_semver.specs.{Npm.Table.Partial, Text.WordText.SkipsBlank}
+use Rattle.semver_core.{proofs.Text.SpaceLaw.space_len-dark, specs.Printing.RoundTrip.is_normal, specs.Text.Characters.BeginsBlank}
+use Rattle.std.proofs.lemmas.List.{get_or-drop, get_or-reverse}
+use Rattle.std.proofs.lemmas.{List.Sums.{list_all-from_AllPass, prefix_len_passes, suffix_len-le-length, suffix_len_is}, Str.encode_same}
 use Rattle.std.specs.{List.suffix_len, Prelude.reverse}
-use Rattle.nodejs_semver.proofs.Common.{Front, VersionValue, append-nil, get_or, if◌then◌else◌}
-use Rattle.nodejs_semver.proofs.NpmCommon.{CountedEnd, are_whole_marks, counted_as, counted_end, counted_front, counted_hyphen, is_right, is_right_end, is_short}
-use Rattle.nodejs_semver.proofs.NpmCommon.{is_short_word, is_small}
-use Rattle.nodejs_semver.specs.{Internal.NpmParts.some_normal, Npm.RangeText.is_free}
-use Rattle.nodejs_semver.proofs.{Common.MAX_SAFE_INTEGER, NpmCommon.{Comparison, hyphen_of, is_free_lower, is_free_upper, is_valid, lower_counted}}
-use Rattle.nodejs_semver.proofs.NpmCommon.{lower_of, upper_counted, upper_of}
-use Rattle.nodejs_semver.proofs.Strict.{Printed.{lower-invalid, upper-invalid}, Words.{marks-dropped, places-begin}}
-use Rattle.nodejs_semver.specs.Internal.NpmReads.{hyphen_valid, valid_one}
-use Rattle.nodejs_semver.proofs.{Common.{all_weaker, drop_spaces, prefix_len, ◌==◌}, NpmCommon.{AreWords, IsWord}, Reading.Bytes.{all-join, begins-some}}
-use Rattle.nodejs_semver.proofs.Strict.{Malformed.{blank-signal, is_signal, sign-signal}, Signs.marks-all}
-use Rattle.nodejs_semver.specs.Npm.RangeText.{formed, ignored, more}
 
 -- ---- marks and whitespace at the front
 
-pub after_ends-drop : (n : ℕ) (text : List ℕ) → after_ends n text ≡ drop_ends (drop n text)
+after_ends-drop : (n : ℕ) (text : List ℕ) → after_ends n text ≡ drop_ends (drop n text)
 unfolding after_ends
 after_ends-drop zero text = refl
 after_ends-drop (suc n) [] = refl
 after_ends-drop (suc n) (b ∷ rest) = after_ends-drop n rest
 
-pub ends-mark : (b : ℕ) (rest : List ℕ) → is_mark b ≡ true → drop_ends (b ∷ rest) ≡ drop_ends rest
+ends-mark : (b : ℕ) (rest : List ℕ) → is_mark b ≡ true → drop_ends (b ∷ rest) ≡ drop_ends rest
 unfolding after_ends
 ends-mark b rest h = rw (h, after_ends) refl
 
--- nothing more
-pub ends-stop : (b : ℕ) (rest : List ℕ) → is_mark b ≡ false → space_len (b ∷ rest) ≡ 0 → drop_ends (b ∷ rest) ≡ b ∷ rest
-unfolding after_ends
-ends-stop b rest h k = rw (h, k, after_ends) refl
-
-pub ends-space : (b : ℕ) (rest : List ℕ) (n : ℕ) → is_mark b ≡ false → space_len (b ∷ rest) ≡ suc n → drop_ends (b ∷ rest) ≡ drop_ends (drop n rest)
+ends-space : (b : ℕ) (rest : List ℕ) (n : ℕ) → is_mark b ≡ false → space_len (b ∷ rest) ≡ suc n → drop_ends (b ∷ rest) ≡ drop_ends (drop n rest)
 unfolding after_ends
 ends-space b rest n h k = rw (h, k, after_ends) (after_ends-drop n rest)
 
-pub mark-dark : (b : ℕ) (rest : List ℕ) → is_mark b ≡ true → space_len (b ∷ rest) ≡ 0
+mark-dark : (b : ℕ) (rest : List ℕ) → is_mark b ≡ true → space_len (b ∷ rest) ≡ 0
 mark-dark b rest h = solid-dark (b ∷ rest) (grind (arith, nat_tests))
 
-pub ends-more : (text : List ℕ) → 0 < space_len text → drop_ends (drop (space_len text) text) ≡ drop_ends text
+ends-more : (text : List ℕ) → 0 < space_len text → drop_ends (drop (space_len text) text) ≡ drop_ends text
 ends-more text some = grind (arith, nat_tests, common_steps, space_len-nil, mark-dark, ends-space)
 
-pub ends-none : (text : List ℕ) → begins is_mark text ≡ false → space_len text ≡ 0 → drop_ends text ≡ text
+ends-none : (text : List ℕ) → begins is_mark text ≡ false → space_len text ≡ 0 → drop_ends text ≡ text
 unfolding after_ends
 ends-none text h k = grind (arith, nat_tests, common_steps)
 
@@ -90,7 +82,7 @@ ends-dark c rest h =
       | inr plain ↦ plain
       | inl mark ↦
           let same = encode_same c b rest text (e ∙ rw (encode_ascii b (mark-ascii b mark)) refl) in
-          cc (mark, other, same.0)
+          cc (other, same.0)
     ]
 
 -- what is passed
@@ -98,29 +90,25 @@ pub record EndsAt (text : List ℕ) : Type 0 where
   pub characters : List ℕ
   pub each : list_all is_end characters ≡ true
   pub split : text ≡ encode_utf8_all characters ++ drop_ends text
-  pub utf8 : IsUtf8 (drop_ends text)
 
-ends-from : (cs text : List ℕ) → IsUtf8 text → encode_utf8_all cs ≡ text → EndsAt text
+ends-of : (cs : List ℕ) → EndsAt (encode_utf8_all cs)
 unfolding after_ends
-ends-from [] text u e = rw (← e) (record { characters = []; each = refl; split = refl; utf8 = rw (← e) at u })
-ends-from (c ∷ cs) text u e =
-    let rest = encode_utf8_all cs in
-    elim (cases_Bool (is_end c)) [
-      | inr other ↦ grind (arith, ends-dark)
-      | inl passed ↦
-          let step : drop_ends text ≡ drop_ends rest = ap drop_ends (sym e) ∙ ends-char c rest passed in
-          let r = ends-from cs rest (IsUtf8-past_char text rest c u (sym e)) refl in
-          record { characters = c ∷ r.characters; each = rw passed r.each; split = grind (arith, nat_tests, common_steps); utf8 = rw step r.utf8 }
-    ]
+ends-of [] = record { characters = []; each = refl; split = refl }
+ends-of (c ∷ cs) = elim (cases_Bool (is_end c)) [
+  | inr other ↦ record { characters = []; each = refl; split = sym (ends-dark c (encode_utf8_all cs) other) }
+  | inl passed ↦
+      let r = ends-of cs in
+      record { characters = c ∷ r.characters; each = rw passed r.each; split = grind (arith, nat_tests, common_steps, ends-char) }
+]
 
 pub ends-found : (text : List ℕ) → IsUtf8 text → EndsAt text
-ends-found text u = ends-from u.0 text u u.1.1
+ends-found text u = subst EndsAt u.1.1 (ends-of u.0)
 
 pub ends-read : (cs u : List ℕ) → list_all is_end cs ≡ true → begins is_mark u ≡ false → space_len u ≡ 0 → drop_ends (encode_utf8_all cs ++ u) ≡ u
 ends-read [] u h other dark = ends-none u other dark
 ends-read (c ∷ cs) u h other dark = grind (arith, nat_tests, common_steps, and_parts, append_assoc, ends-char, ends-read cs u)
 
-pub marks-passed : (a u : List ℕ) → AreMarks a → begins_component u ≡ true → drop_ends (a ++ u) ≡ u
+marks-passed : (a u : List ℕ) → AreMarks a → begins_component u ≡ true → drop_ends (a ++ u) ≡ u
 marks-passed a u h k = rw h.1 (ends-read h.0 u h.2 (grind (arith, nat_tests)) (front-dark u k))
 
 -- ---- an end
@@ -129,20 +117,16 @@ marks-passed a u h k = rw h.1 (ends-read h.0 u h.2 (grind (arith, nat_tests)) (f
 abbrev pub ended_of : (loose : Bool) (text rest : List ℕ) → IsEnd loose text rest → Ended
 ended_of loose text rest h = (h.marks, h.partial, last_marks h.marks ++ h.places)
 
-end-written : (loose : Bool) (marks x rest : List ℕ) (p : Partial) → AreMarks marks → IsPlaces loose x p → begins is_solid rest ≡ false
-    → end_front loose (marks ++ (x ++ rest)) ≡ Some ((marks, p, last_marks marks ++ x), rest)
-unfolding end_front
-end-written loose marks x rest p h k quiet =
-    rw (
-      marks-passed marks (x ++ rest) h (places-begin loose x rest p k),
-      places-read loose x rest p k quiet,
-      front-text marks (x ++ rest),
-      front-text x rest,
-    ) refl
-
 end-read : (loose : Bool) (text rest : List ℕ) (h : IsEnd loose text rest) → begins is_solid rest ≡ false
     → end_front loose text ≡ Some (ended_of loose text rest h, rest)
-end-read loose text rest h quiet = ap (end_front loose) h.divided ∙ end-written loose h.marks h.places rest h.partial h.are h.is quiet
+unfolding end_front
+end-read loose text rest h quiet =
+    ap (end_front loose) h.divided ∙ rw (
+      marks-passed h.marks (h.places ++ rest) h.are (places-begin loose h.places rest h.partial h.is),
+      places-read loose h.places rest h.partial h.is quiet,
+      front-text h.marks (h.places ++ rest),
+      front-text h.places rest,
+    ) refl
 
 -- an end that was read
 abbrev EndRead : (loose : Bool) (text : List ℕ) → Ended × List ℕ → Type 0
@@ -234,20 +218,13 @@ hyphen-found loose text e u h =
 -- ---- the marks behind the last whitespace
 
 last-marks : (marks : List ℕ) → list_all is_mark (last_marks marks) ≡ true
-last-marks marks = list_all-from_AllPass is_mark (last_marks marks) go
-  where
-    size : ℕ
-    size = length marks
-
-    start : ℕ
-    start = size - suffix_len is_mark marks
-
-    go : (k d : ℕ) → k < length (drop start marks) → is_mark (get_or (drop start marks) k d) ≡ true
-    go k d l =
-        let at : size - 1 - (size - 1 - (start + k)) ≡ start + k = omega (arith, length-drop start marks) in
-        ap is_mark (get_or-drop start marks k d ∙ ap (λ (i : ℕ). get_or marks i d) (sym at)
-        ∙ sym (get_or-reverse marks (size - 1 - (start + k)) d (omega (arith, length-drop start marks))))
-        ∙ prefix_len_passes is_mark (reverse marks) (size - 1 - (start + k)) d (omega (arith, length-drop start marks, suffix_len-le-length is_mark marks))
+last-marks marks = list_all-from_AllPass is_mark (last_marks marks) (λ k d l.
+    let start = length marks - suffix_len is_mark marks in
+    let size = length-drop start marks in
+    let back = length marks - 1 - (start + k) in
+    let at : length marks - 1 - back ≡ start + k = omega arith in
+    ap is_mark (get_or-drop start marks k d ∙ ap (λ (i : ℕ). get_or marks i d) (sym at) ∙ sym (get_or-reverse marks back d (omega arith)))
+    ∙ prefix_len_passes is_mark (reverse marks) back d (omega (arith, suffix_len-le-length is_mark marks)))
 
 short-places : (loose : Bool) (marks x : List ℕ) (p : Partial) → IsPlaces loose x p → is_short_word loose (last_marks marks ++ x) ≡ is_short loose x
 short-places loose marks x p h = ap (is_short loose) (marks-dropped loose (last_marks marks) x p (last-marks marks) h)
@@ -293,19 +270,16 @@ pub hyphen-counted : (loose : Bool) (limit : ℕ) (text : List ℕ)
 unfolding hyphen_ends
 hyphen-counted loose limit text = grind (arith, nat_tests, common_steps, end-counted)
 
-lower-counted : (loose include : Bool) (limit : ℕ) (e : Ended)
-    → lower_counted loose include (counted_of loose limit e) ≡ (if is_small limit e.1 && is_right loose is_free_lower e then Some (lower_of include e) else None)
-lower-counted loose include limit e = grind arith
-
-upper-counted : (loose include : Bool) (limit : ℕ) (e : Ended)
-    → upper_counted loose include (counted_of loose limit e) ≡ (if is_small limit e.1 && is_right loose (is_free_upper include) e then Some (upper_of include e) else None)
-upper-counted loose include limit e = grind arith
+end-right : (loose : Bool) (limit : ℕ) (free : Partial → Bool) (of : Ended → List Comparison) (e : Ended)
+    → ((counted_of loose limit e).1 >>? λ p. if loose || (free p || are_whole_marks e.0) then Some (of (e.0, p, e.2)) else None)
+    ≡ (if is_small limit e.1 && is_right loose free e then Some (of e) else None)
+end-right loose limit free of e = grind arith
 
 -- the hyphen ranges of which an end is left out are not right, or not valid
 pub hyphen-valid : (loose include : Bool) (e : Ended × Ended)
     → hyphen_valid loose include (counted_of loose MAX_SAFE_INTEGER e.0) (counted_of loose MAX_SAFE_INTEGER e.1) ≡ (hyphen_of loose include e >>? valid_one)
 hyphen-valid loose include e =
-    rw (lower-counted loose include MAX_SAFE_INTEGER e.0, upper-counted loose include MAX_SAFE_INTEGER e.1)
+    rw (end-right loose MAX_SAFE_INTEGER is_free_lower (lower_of include) e.0, end-right loose MAX_SAFE_INTEGER (is_free_upper include) (upper_of include) e.1)
     (both (is_small MAX_SAFE_INTEGER e.0.1) (is_right loose is_free_lower e.0) (is_small MAX_SAFE_INTEGER e.1.1) (is_right loose (is_free_upper include) e.1)
     (lower_of include e.0) (upper_of include e.1) (lower-invalid MAX_SAFE_INTEGER _ include e.0.1 e.0.2)
     (upper-invalid MAX_SAFE_INTEGER _ include e.1.1 e.1.2))
@@ -329,23 +303,25 @@ build-normal text ids (plus t list h) = identifiers-normal t list h
 pub places-normal : (loose : Bool) (text : List ℕ) (p : Partial) → IsPlaces loose text p → are_normal p ≡ true
 places-normal loose text p h = grind (arith, nat_tests, common_steps, pre-normal, build-normal)
 
-counted-normal : (loose : Bool) (limit : ℕ) (text : List ℕ) (e : Ended) (rest : List ℕ) → end_front loose text ≡ Some (e, rest)
-    → some_normal (counted_of loose limit e).1 ≡ true
-unfolding end_front
-counted-normal loose limit text e rest h =
-    let p = bind_some (places_front loose (drop_ends text)) (λ p. Some (ended_as text (drop_ends text) p)) (e, rest) h in
-    let f = places-found loose (drop_ends text) p.0.0 p.0.1 p.1 in
-    let same : p.0.0 ≡ e.1 = ap (λ (x : Ended × List ℕ). x.0.1) (same_Some _ _ p.2) in
-    kept (is_small limit e.1 && is_short_word loose e.2) e.1 (rw same at (places-normal loose f.piece p.0.0 f.is))
+pub counted-normal : (loose : Bool) (limit : ℕ) (text : List ℕ) (p : Option Partial × List ℕ) → counted_front loose limit text ≡ Some p → some_normal p.0 ≡ true
+counted-normal loose limit text p h =
+    let q = bind_some (places_front loose text) _ p h in
+    let f = places-found loose text q.0.0 q.0.1 q.1 in
+    subst (λ (r : Option Partial × List ℕ). some_normal r.0 ≡ true) (same_Some _ p q.2) (kept _ q.0.0 (places-normal loose f.piece q.0.0 f.is))
   where
-    kept : (b : Bool) (p : Partial) → are_normal p ≡ true → some_normal (if b then Some p else None) ≡ true
-    kept true p h = h
-    kept false p h = refl
+    kept : (b : Bool) (q : Partial) → are_normal q ≡ true → some_normal (if b then Some q else None) ≡ true
+    kept true q n = n
+    kept false q n = refl
+
+end-normal : (loose : Bool) (limit : ℕ) (text : List ℕ) (e : CountedEnd × List ℕ) → counted_end loose limit text ≡ Some e → some_normal e.0.1 ≡ true
+unfolding counted_end
+end-normal loose limit text e h =
+    let p = bind_some (counted_front loose limit (drop_ends text)) (λ p. Some (counted_as text (drop_ends text) p)) e h in
+    rw (← same_Some _ e p.2) (counted-normal loose limit (drop_ends text) p.0 p.1)
 
 pub hyphen-normal : (loose : Bool) (limit : ℕ) (text : List ℕ) (e : CountedEnd × CountedEnd) → counted_hyphen loose limit text ≡ Some e
     → (some_normal e.0.1 ≡ true) × (some_normal e.1.1 ≡ true)
-unfolding hyphen_ends
-hyphen-normal loose limit text e h = grind (arith, nat_tests, common_steps, hyphen-counted, counted-normal)
+hyphen-normal loose limit text e h = grind (arith, end-normal)
 
 -- ---- readers
 
@@ -468,3 +444,9 @@ hyphen_none-strict include text read u (more t rest cs others (formed behind ds 
     let v = before-utf8 false t h.before h.lower u h.blank in
     let left = sym (skips-of behind rest (rw (← same) at v) skips) ∙ ap drop_spaces same ∙ skips-of h.before (45 ∷ h.after) v h.dash in
     no_dash-words include rest h.after others left k
+
+-- they are an alternative, which is not lost
+pub strict-words : (include : Bool) (text : List ℕ) (read : List (Option (List Comparison))) → IsUtf8 text → AreWords false include text read
+    → IsAlternative false include text false (comparators_of read)
+strict-words include text read u w = subst (λ (lost : Bool). IsAlternative false include text lost (comparators_of read))
+    (strict-kept include text read w) (words text read (hyphen_none-strict include text read u w) w)

@@ -79,7 +79,7 @@ pub record IgnoredAt (text end : List ℕ) : Type 0 where
   pub fits : length end ≤ length text
   pub less : 0 < length text → length (drop_spaces end) < length text
 
-no-blank : BeginsBlank [] → ⊥
+pub no-blank : BeginsBlank [] → ⊥
 no-blank h = omega (arith, ap length h.spelled, length-append (encode_utf8 h.character) h.rest, length-encode h.character, (len_utf8_bounds h.character).0)
 
 nil-ignored : (text : List ℕ) → IsUtf8 text → length text ≤ 0 → IgnoredAt text text

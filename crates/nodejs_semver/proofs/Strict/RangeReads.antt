@@ -11,10 +11,12 @@ use Rattle.nodejs_semver.proofs.NpmCommon.{IsStep, NarrowedBy, NoValue, alternat
 use Rattle.nodejs_semver.proofs.NpmCommon.{first_valid, hyphen_ends, hyphen_of, hyphen_valid, is_unbounded, lower_counted, upper_counted, valid_one, words_of_all, words_within}
 use Rattle.nodejs_semver.proofs.NpmCommon.{is_valid, kept, meets, nothing, satisfies, valid_alternative, valid_only, words_of, ◌>>?◌, Bounds}
 use Rattle.nodejs_semver.proofs.{Reading.Steps.option-cases, Strict.AlternativeLaw.alternatives_are}
-use Rattle.nodejs_semver.proofs.Strict.{Counted.{valid_all, words-valid}, Hyphens.{counted_of, hyphen-counted, hyphen-valid}}
+use Rattle.nodejs_semver.proofs.Strict.{Counted.{AreWordsTo, first-none, valid-found, valid_all, words-end, words-next, words-none, words-valid}, Hyphens.{counted_of, hyphen-counted, hyphen-valid}}
 use Rattle.nodejs_semver.specs.Internal.{NpmAlternatives.ranged, NpmReads.{AddsPart, AreAllFound, AreFound, valid_alternatives}}
 use Rattle.nodejs_semver.specs.{Internal.{NpmReads.valid_range, NpmWords.hyphen_or}, Npm.{Ranges.names, Table.{Partial, Sign, table}}}
 use Rattle.{nodejs_semver.specs.Npm.{Readings.{OfAccepted, ReadText}, Table.lowest}, semver_core.specs.Failures.RefusedOnlyIf}
+use Rattle.nodejs_semver.proofs.NpmCommon.{counted_front_view, is_lost, is_none}
+use Rattle.nodejs_semver.specs.declared.npm.words.Signed.{Signed}
 use Rattle.nodejs_semver.proofs.Common.{Bor, and_parts, bind_some, drop_spaces, same_Some}
 use Rattle.nodejs_semver.specs.Npm.Ranges as Npm
 
@@ -154,7 +156,9 @@ unfolding valid_alternative alternative_of
 words-alternative loose include text h =
     let none : hyphen_ends loose text ≡ None = elim (option-cases (hyphen_ends loose text)) [
       | inl e ↦ e
-      | inr e ↦ cc (h, hyphen-counted loose MAX_SAFE_INTEGER text ∙ rw e.1 refl)
+      | inr e ↦
+          let k = hyphen-counted loose MAX_SAFE_INTEGER text ∙ ap (λ o. o >>? λ e. Some (counted_of loose MAX_SAFE_INTEGER e.0, counted_of loose MAX_SAFE_INTEGER e.1)) e.1 in
+          cc (h, k)
     ] in
     rw (none, words-valid loose include (length text) text) (go (words_within loose include (length text) text))
   where
@@ -231,6 +235,56 @@ module _ (loose include : Bool) (text : List ℕ) (all : Alternative) where
       → next.now ≡ drop_spaces w.1 → IsStep include all (first_valid loose MAX_SAFE_INTEGER include text) (Some (a, false, next))
   unfolding first_valid
   step-read w p a next n e k b f = rw (← e, n, k.0) (k, b, refl, f)
+
+-- ---- words, one after another
+
+step-found : (include : Bool) (all : Alternative) (o : Option (Option (List Comparison) × List ℕ)) (s : Alternative × Bool × Bor (List ℕ))
+    → IsStep include all o (Some s) → (w : Option (List Comparison) × List ℕ) × (o ≡ Some w) × IsStep include all (Some w) (Some s)
+step-found include all None s h = absurd h
+step-found include all (Some w) s h = (w, refl, h)
+
+step-none : (include : Bool) (all : Alternative) (o : Option (Option (List Comparison) × List ℕ)) → IsStep include all o None → o ≡ None
+step-none include all None h = refl
+step-none include all (Some w) h = absurd h
+
+abbrev pub found_of : Bool → Bool → List ℕ → Option (Bool × List Comparison)
+found_of loose include text = words_of loose include text >>? λ all. Some (words_of_all all)
+
+module _ (loose include : Bool) (text rest : List ℕ) (all : Alternative) (is_last : Bool)
+    (h : AreWordsTo loose include text all.interval all.is_bare is_last rest) where
+  pub word-none : 0 < length rest → IsStep include all (first_valid loose MAX_SAFE_INTEGER include rest) None → IsFound include (found_of loose include text) None
+  word-none some k =
+      rw (words-none loose include text rest all.interval all.is_bare is_last h some (step-none include all (first_valid loose MAX_SAFE_INTEGER include rest) k)) tt
+
+  pub word-next : (s : Alternative × Bool × Bor (List ℕ)) → 0 < length rest → IsStep include all (first_valid loose MAX_SAFE_INTEGER include rest) (Some s)
+      → AreWordsTo loose include text s.0.interval s.0.is_bare s.1 s.2.now × (length s.2.now < length rest)
+  word-next s some k =
+      let w = step-found include all (first_valid loose MAX_SAFE_INTEGER include rest) s k in
+      let f = valid-found loose include rest w.0 h.utf8 some w.1 in (
+        subst (λ (b : Bool). AreWordsTo loose include text s.0.interval s.0.is_bare b s.2.now) (sym w.2.2)
+        (subst (λ (t : List ℕ). AreWordsTo loose include text s.0.interval s.0.is_bare (is_none w.0.0) t) (sym w.2.3)
+        (words-next loose include text rest all.interval all.is_bare is_last h w.0 s.0 some w.1 w.2.0 w.2.1)),
+        rw w.2.3 f.shorter,
+      )
+
+  pub words-all : (a : Alternative) (lost : Bool) → IsUtf8 text → is_empty rest ≡ true → a.interval ≡ all.interval → a.is_lost ≡ (all.is_bare && lost)
+      → (is_last ≡ false → lost ≡ false) → (is_last ≡ true → lost ≡ is_none (counted_word loose MAX_SAFE_INTEGER text))
+      → IsFound include (found_of loose include text) (Some a)
+  words-all a lost u e f g not_last if_last =
+      let read = words-end loose include text rest all.interval all.is_bare is_last h e in
+      rw (read, f) (h.narrowed, g ∙ same read)
+    where
+      same : words_of loose include text ≡ Some h.read → (all.is_bare && lost) ≡ is_lost h.read
+      same read = elim (cases_Bool is_last) [
+        | inr k ↦ grind (arith, h.bare, h.last, k, not_last k)
+        | inl k ↦
+            let first = first-none loose include text h.read u read (sym h.last ∙ k) in
+            grind (arith, h.bare, h.last, k, if_last k, first)
+      ]
+
+pub view-none : (o : Option (Signed × Bor (List ℕ))) → is_none o ≡ is_none (counted_front_view o)
+view-none None = refl
+view-none (Some w) = refl
 
 pub found-some : (include : Bool) (o : Option (Bool × List Comparison)) (a : Alternative) → IsFound include o (Some a)
     → (c : Bool × List Comparison) × (o ≡ Some c) × IsFound include (Some c) (Some a)

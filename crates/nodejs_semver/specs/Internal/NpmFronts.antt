@@ -55,14 +55,12 @@ pub record IsWordAt (include : Bool) (text : List ℕ) (s : Span VersionValue) (
 pub record IsPartAt (include : Bool) (text : List ℕ) (s : Span VersionValue) (rest : List ℕ) : Type 0 where
   pub part : List ℕ
   pub read : List (Option (List Comparison))
-  pub comparators : List Comparison
   pub split : text ≡ part ++ rest
   pub is : AreWords false include part read
-  pub of_all : comparators ≡ comparators_of read
   pub front : begins is_word_byte part ≡ true
   pub each : list_all is_part_byte part ≡ true
   pub end : ends is_word_byte part ≡ true
-  pub are : AreIn include comparators s
+  pub are : AreIn include (comparators_of read) s
 
 -- the bounds of two words together, of which the first has no upper bound and the second no lower one
 abbrev pub AreJoined : Span VersionValue → Span VersionValue → Span VersionValue → Type 0

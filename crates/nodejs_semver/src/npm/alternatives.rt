@@ -2,7 +2,7 @@
 
 ghost use Rattle.std.specs.Prelude.{◌&&◌, ◌+◌, ◌∷◌, ◌≡◌};
 ghost use Rattle.nodejs_semver.specs.Words.{Bool, Comparison, IfSome, List, MAX_SAFE_INTEGER};
-ghost use Rattle.nodejs_semver.specs.Words.{None, []};
+ghost use Rattle.nodejs_semver.specs.Words.{None, [], false};
 ghost use Rattle.nodejs_semver.specs.Words.{interval, is_empty, is_range_span, list_all, list_any};
 ghost use Rattle.nodejs_semver.specs.Words.{bounds_view, precedence, true};
 ghost use Rattle.nodejs_semver.specs.Internal.NpmAlternatives.{AcceptAsRanged, NarrowedBy, met};

@@ -5,8 +5,7 @@ use Rattle.nodejs_semver.proofs.npm.alternatives.set_ranged.Goals as goal
 pub returns-then-len-eq1-clause-accepts : goal.returns-then-len-eq1-clause-accepts
 returns-then-len-eq1-clause-accepts c =
     let found = c.args.found.now.items in
-    let one : length found ≡ 1 = first_of (search rules, grind (arith, common_steps)) in
-    ranged_list found found (ranged_one found one)
+    let one : length found ≡ 1 = first_of (search rules, grind (arith, common_steps)) in ranged_list found found (ranged_one found one)
 
 pub returns-then-is_some_unbounded-clause-accepts : goal.returns-then-is_some_unbounded-clause-accepts
 returns-then-is_some_unbounded-clause-accepts c =
@@ -27,5 +26,4 @@ pub returns-else-is_empty-clause-accepts : goal.returns-else-is_empty-clause-acc
 returns-else-is_empty-clause-accepts c =
     let found = c.args.found.now.items in
     let some : list_any is_unbounded found ≡ false = first_of (search rules, grind (arith, common_steps)) in
-    let none : is_empty found ≡ false = first_of (search rules, grind (arith, common_steps)) in
-    ranged_list found found (ranged_kept found some none)
+    let none : is_empty found ≡ false = first_of (search rules, grind (arith, common_steps)) in ranged_list found found (ranged_kept found some none)

@@ -17,8 +17,7 @@ letters-preserved c =
     passed_more _ _ _ _ _ c.letters.invariant _ _ _ _ c.in-Some.ensures.steps.0 c.len_utf8-at.ensures.value (sym c.in-Some-next.ensures)
 
 pub returns-then-is_whole : goal.returns-then-is_whole
-returns-then-is_whole c =
-    passed_whole _ _ _ _ _ c.letters.invariant c.in-None.ensures.steps.0.0 (sym c.is_whole.ensures ∙ c.if-is_whole.true)
+returns-then-is_whole c = passed_whole _ _ _ _ _ c.letters.invariant c.in-None.ensures.steps.0.0 (sym c.is_whole.ensures ∙ c.if-is_whole.true)
 
 pub returns-else-is_whole : goal.returns-else-is_whole
 returns-else-is_whole c =

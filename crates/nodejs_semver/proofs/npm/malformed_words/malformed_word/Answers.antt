@@ -1,4 +1,4 @@
-use Rattle.nodejs_semver.proofs.{Common.{ap, arith, length}, Stopping.Ranges.{boundary-fits, word-is}}
+use Rattle.nodejs_semver.proofs.{Common.{[], ap, arith, length}, Reading.WordLaw.first-is, Stopping.Ranges.boundary-fits}
 use Rattle.nodejs_semver.proofs.npm.malformed_words.malformed_word.Goals as goal
 
 pub overflow_sub-result-2 : goal.overflow_sub-result-2
@@ -9,6 +9,13 @@ overflow_sub-result-2 c =
 pub returns-clause-word : goal.returns-clause-word
 returns-clause-word c =
     let r = c.skip_right_words-rest.ensures in
-    let fits = boundary-fits c.skip_right_words-rest.result.now r.utf8 in
-    word-is c.args.include c.args.text.now c.skip_right_words-rest.result.now _ _ r.utf8 r.left r.wrong (omega (arith, r.fits))
-    (omega (arith, r.fits, fits, ap length c.skip_to_boundary-behind.ensures))
+    let e = c.skip_to_boundary-behind.ensures in
+    let fits = boundary-fits c.skip_right_words-rest.result.now r.utf8 in record {
+      left = c.skip_right_words-rest.result.now;
+      behind = _;
+      right = r.left;
+      wrong = r.wrong;
+      ended = first-is [] _ r.utf8;
+      start_is = omega (arith, r.fits);
+      end_is = omega (arith, r.fits, fits, ap length e);
+    }

@@ -1,4 +1,4 @@
-use Rattle.nodejs_semver.proofs.{Common.{None, arith, false, refl, rules, true, ◌≡◌}, NpmCommon.is_none, Stopping.Ranges.flawed}
+use Rattle.nodejs_semver.proofs.{Common.{arith, false, refl, rules, true, ◌≡◌}, NpmCommon.is_none, Stopping.Ranges.flawed}
 use Rattle.nodejs_semver.{proofs.Stopping.Ranges.{right_here, unflawed, wrong_here}}
 use Rattle.nodejs_semver.proofs.npm.range_flaws.range_flaw.Goals as goal
 
@@ -22,7 +22,7 @@ pieces-preserved c =
     c.as_bytes-bytes.ensures.value c.alternative.ensures some
 
 pub returns-clause-none : goal.returns-clause-none
-returns-clause-none c = (unflawed c.args.include_prerelease c.args.text.now None refl (rw c.in_default.is at c.pieces.invariant)).0
+returns-clause-none c = (unflawed c.args.include_prerelease c.args.text.now (rw c.in_default.is at c.pieces.invariant)).0
 
 pub returns-clause-only : goal.returns-clause-only
-returns-clause-only c = (unflawed c.args.include_prerelease c.args.text.now None refl (rw c.in_default.is at c.pieces.invariant)).1
+returns-clause-only c = (unflawed c.args.include_prerelease c.args.text.now (rw c.in_default.is at c.pieces.invariant)).1

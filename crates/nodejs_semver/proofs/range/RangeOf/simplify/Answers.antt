@@ -6,13 +6,13 @@ pub returns-in_err-push_used-clause-memory : goal.returns-in_err-push_used-claus
 returns-in_err-push_used-clause-memory g c =
     let memory = rw c.new-used.ensures.items at c.in_err-push_used.ensures.memory in
     on_err c.from_residual.result (taking-values g.V.Point.takes g.V.Versioned.value g.met.V.VersionPoint.copied _ _
-    (used-taking g.V.Versioned.value g.W.Versioned.value c.args.versions.now g.V.Point.takes _ _ _ c.items.ensures.value refl memory)
+    (used-taking g.V.Versioned.value g.W.Versioned.value c.args.versions.now _ _ _ c.items.ensures.value refl g.V.Point.takes memory)
     memory)
 
 pub from_intervals-requires : goal.from_intervals-requires
 from_intervals-requires g c =
-    let valid = used-valid g.V.Versioned.value g.W.Versioned.value c.args.versions.now _ _ _ _ c.items.ensures.value
-    (rw c.new-used.ensures.items at c.in_ok-push_used.ensures.whole) c.items.ensures.valid in
+    let valid = used-valid g.V.Versioned.value g.W.Versioned.value c.args.versions.now _ _ _ c.items.ensures.value
+    (rw c.new-used.ensures.items at c.in_ok-push_used.ensures.whole) _ c.items.ensures.valid in
     (omega arith, (omega arith, valid))
 
 pub returns-in-Some : goal.returns-in-Some
@@ -20,9 +20,9 @@ returns-in-Some g c =
     let items = rw c.new-used.ensures.items at c.in_ok-push_used.ensures.whole in
     let v = g.V.Versioned.value in
     let w = g.W.Versioned.value in record {
-      list = some-list v w c.args.versions.now _ _ _ _ c.items.ensures.value items c.in-Some.ensures;
-      same = some-same v w c.args.versions.now _ _ _ _ c.items.ensures.value items c.in-Some.ensures;
-      shorter = some-shorter v w c.args.versions.now _ _ _ _ c.items.ensures.value items c.in-Some.ensures;
+      list = some-list v w c.args.versions.now _ _ _ c.items.ensures.value items _ c.in-Some.ensures;
+      same = some-same v w c.args.versions.now _ _ _ c.items.ensures.value items _ c.in-Some.ensures;
+      shorter = some-shorter v w c.args.versions.now _ _ _ c.items.ensures.value items _ c.in-Some.ensures;
       memory = tt;
     }
 
