@@ -17,7 +17,7 @@ pub use Rattle.nodejs_semver.specs.Npm.Grammar.{begins_undashed, dashed, has_lea
 pub use Rattle.nodejs_semver.specs.Npm.{Grammar.{no_pre_release, plus}, Malformed.{IsIgnored, is_mark, takes}}
 pub use Rattle.nodejs_semver.specs.Npm.{MalformedWords.{IsLeft, IsMalformedWord, here}, RangeText.AreAlternatives}
 pub use Rattle.nodejs_semver.specs.Npm.RangeText.{AreMarks, AreWords, IsAlternative, IsPartial, IsPlace, IsPlaces, IsSignText, IsWord, are_marks}
-pub use Rattle.nodejs_semver.specs.Npm.RangeText.{BeginsAs, BeginsWord, IsEnd, IsHyphen, are_whole_marks, caret_equal, comparators_of, end_sign, has_zeros, is_lost, is_right_end, is_short, last_marks}
+pub use Rattle.nodejs_semver.specs.Npm.RangeText.{BeginsAs, BeginsWord, IsEnd, IsHyphen, are_whole_marks, caret_equal, comparators_of, end_sign, is_lost, is_right_end, is_short, last_marks}
 pub use Rattle.nodejs_semver.specs.Npm.RangeText.{is_short_identifier, late_above, late_below}
 pub use Rattle.nodejs_semver.specs.Npm.RangeText.{no_sign, none, one, partial_of, sign, spelling, three, tilde_twice, two, word}
 pub use Rattle.nodejs_semver.specs.Npm.Ranges.{HasAlternatives, HasAlternativesIn, IsRangeIn, is_valid, meets, satisfies}

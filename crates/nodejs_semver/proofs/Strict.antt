@@ -1,5 +1,6 @@
 pub mod VersionLaw
 pub mod PartialLaw
+pub mod Zeros
 pub mod Signs
 pub mod Malformed
 pub mod Ignored

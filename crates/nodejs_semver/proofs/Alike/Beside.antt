@@ -16,6 +16,7 @@ use Rattle.nodejs_semver.{proofs.Strict.Rows.lets_in-both, specs.Npm.{Alike.is_a
 use Rattle.semver_core.specs.Internal.OrderLaws.{pre_total}
 use Rattle.nodejs_semver.specs.Npm.Ranges as Npm
 use Rattle.nodejs_semver.specs.Npm.Table as Table
+use Rattle.nodejs_semver.proofs.Strict.Zeros.{plain_table, table-plain}
 
 -- ---- what two spans have in common
 
@@ -81,11 +82,11 @@ module _ (pre : Bool) (v : VersionValue) (within : IsWithin MAX_SAFE_INTEGER v) 
   abbrev Valid : List Comparison → Type 0
   Valid cs = list_all (is_valid MAX_SAFE_INTEGER) cs ≡ true
 
-  abbrev Rows : Comparator → Type 0
-  Rows d = (p : Partial) → Form pre p → may_have (compared d) p ≡ true
-      → IsPartial false text (npm_partial p) → Valid (Table.table false (compared d) (npm_partial p) text)
+  abbrev Values : Comparator → Type 0
+  Values d = (p : Partial) → Form pre p → may_have (compared d) p ≡ true
+      → IsPartial false text (npm_partial p) → Valid (plain_table false (compared d) (npm_partial p) text)
       → (is_firm p || not (same_triple (version_of p) v)) ≡ true
-      → IfSome (table MAX_SAFE_INTEGER (compare d p)) (λ s. holds precedence s v ≡ passed v (Table.table false (compared d) (npm_partial p) text))
+      → IfSome (table MAX_SAFE_INTEGER (compare d p)) (λ s. holds precedence s v ≡ passed v (plain_table false (compared d) (npm_partial p) text))
 
   -- from a version that is not v's 0.0.0 on
   low-held : (w : VersionValue) (cs : List Comparison) → Low v w cs → (is_zero w ≡ true → same_triple w v ≡ false)
@@ -110,31 +111,40 @@ module _ (pre : Bool) (v : VersionValue) (within : IsWithin MAX_SAFE_INTEGER v) 
       → holds precedence (record { lower = Unbounded; upper = u }) v ≡ passed v (under n ∷ [])
   upper-held u n h = held-both v Unbounded u [] (under n ∷ []) refl h
 
-  pub compared-held : (d : Comparator) → Rows d
+  values-held : (d : Comparator) → Values d
   unfolding table
-  compared-held at_least p any m t h k = least-held (release (0, 0, 0)) [] (any_low v) (λ _. not-true _ k)
-  compared-held d p any m t h k = cc m
-  compared-held at_least p (one M) m t h k = lower-held (M, 0, 0) h (λ _. not-true _ k)
-  compared-held at_least p (two M n) m t h k = lower-held (M, n, 0) h (λ _. not-true _ k)
-  compared-held at_least p (three M n o x y e) m t h k =
+  values-held at_least p any m t h k = least-held (release (0, 0, 0)) [] (any_low v) (λ _. not-true _ k)
+  values-held d p any m t h k = cc m
+  values-held at_least p (one M) m t h k = lower-held (M, 0, 0) h (λ _. not-true _ k)
+  values-held at_least p (two M n) m t h k = lower-held (M, n, 0) h (λ _. not-true _ k)
+  values-held at_least p (three M n o x y e) m t h k =
       let w = version M n o x y in
       least-held w (put at_least w text ∷ []) (whole_low v w text (text-spelled text w t)) (λ z. one_so _ _ k (zero-bare M n o x y z))
-  compared-held above p (one M) m t h k = lower-held (M + 1, 0, 0) h (λ z. absurd (positive M (and_parts (M + 1 == 0) _ z).0))
-  compared-held above p (two M n) m t h k =
+  values-held above p (one M) m t h k = lower-held (M + 1, 0, 0) h (λ z. absurd (positive M (and_parts (M + 1 == 0) _ z).0))
+  values-held above p (two M n) m t h k =
       lower-held (M, n + 1, 0) h (λ z. absurd (positive n (and_parts (n + 1 == 0) _ (and_parts (M == 0) _ z).1).0))
-  compared-held above p (three M n o x y e) m t h k = (whole_above v (version M n o x y) text).held
-  compared-held equal p (one M) m t h k = band-held (M, 0, 0) (M + 1, 0, 0) h (not-true _ k)
-  compared-held equal p (two M n) m t h k = band-held (M, n, 0) (M, n + 1, 0) h (not-true _ k)
-  compared-held equal p (three M n o x y e) m t h k = (whole_equal v (version M n o x []) y text).held
-  compared-held at_most p (one M) m t h k = upper-held (After (release (M, MAX_SAFE_INTEGER, MAX_SAFE_INTEGER))) (M + 1, 0, 0)
+  values-held above p (three M n o x y e) m t h k = (whole_above v (version M n o x y) text).held
+  values-held equal p (one M) m t h k = band-held (M, 0, 0) (M + 1, 0, 0) h (not-true _ k)
+  values-held equal p (two M n) m t h k = band-held (M, n, 0) (M, n + 1, 0) h (not-true _ k)
+  values-held equal p (three M n o x y e) m t h k = (whole_equal v (version M n o x []) y text).held
+  values-held at_most p (one M) m t h k = upper-held (After (release (M, MAX_SAFE_INTEGER, MAX_SAFE_INTEGER))) (M + 1, 0, 0)
       (most-held v (M, MAX_SAFE_INTEGER, MAX_SAFE_INTEGER) (M + 1, 0, 0) r (most_major v MAX_SAFE_INTEGER M within.minor within.patch))
-  compared-held at_most p (two M n) m t h k = upper-held (After (release (M, n, MAX_SAFE_INTEGER))) (M, n + 1, 0)
+  values-held at_most p (two M n) m t h k = upper-held (After (release (M, n, MAX_SAFE_INTEGER))) (M, n + 1, 0)
       (most-held v (M, n, MAX_SAFE_INTEGER) (M, n + 1, 0) r (most_minor v MAX_SAFE_INTEGER M n within.patch))
-  compared-held at_most p (three M n o x y e) m t h k = (whole_most v (version M n o x y) text).held
-  compared-held below p (one M) m t h k = upper-held (Before (release (M, 0, 0))) (M, 0, 0)
+  values-held at_most p (three M n o x y e) m t h k = (whole_most v (version M n o x y) text).held
+  values-held below p (one M) m t h k = upper-held (Before (release (M, 0, 0))) (M, 0, 0)
       (upper-before (release (M, 0, 0)) v ∙ apart-lt v (M, 0, 0) (not-true _ k) ∙ sym (and-true _))
-  compared-held below p (two M n) m t h k = upper-held (Before (lowest (M, n, 0))) (M, n, 0) (under-exact v (M, n, 0)).tested
-  compared-held below p (three M n o x y e) m t h k = (whole_below v (version M n o x y) text).held
+  values-held below p (two M n) m t h k = upper-held (Before (lowest (M, n, 0))) (M, n, 0) (under-exact v (M, n, 0)).tested
+  values-held below p (three M n o x y e) m t h k = (whole_below v (version M n o x y) text).held
+
+  pub compared-held : (d : Comparator) (p : Partial) → Form pre p → may_have (compared d) p ≡ true
+      → IsPartial false text (npm_partial p) → Valid (Table.table false (compared d) (npm_partial p) text)
+      → (is_firm p || not (same_triple (version_of p) v)) ≡ true
+      → IfSome (table MAX_SAFE_INTEGER (compare d p)) (λ s. holds precedence s v ≡ passed v (Table.table false (compared d) (npm_partial p) text))
+  compared-held d p f m t h k =
+      let e = table-plain false text (compared d) (npm_partial p) t in
+      subst (λ cs. IfSome (table MAX_SAFE_INTEGER (compare d p)) (λ s. holds precedence s v ≡ passed v cs)) (sym e)
+      (values-held d p f m t (subst Valid e h) k)
 
 -- ---- a pre-release names its own numbers alone
 
@@ -147,7 +157,10 @@ own-version v c w text h = (and_parts (not (is_release w)) _ (named-own v (put c
 
 own-numbers : (v : VersionValue) (c : Comparator) (pre : Bool) (p : Partial) (text : List ℕ) → Form pre p → is_empty p.pre_release ≡ false
     → named_by v (Table.table false (compared c) (npm_partial p) text) ≡ true → same_triple (version_of p) v ≡ true
-own-numbers v c pre p text h e k = grind (arith, nat_tests, common_steps, any, one, two, three, own-version)
+own-numbers v c pre p text any e k = cc e
+own-numbers v c pre p text (one M) e k = cc e
+own-numbers v c pre p text (two M m) e k = cc e
+own-numbers v c pre p text (three M m n x y f) e k = own-version v c (version M m n x y) text k
 
 same-right : (w u v : VersionValue) → same_triple u v ≡ true → same_triple w u ≡ same_triple w v
 same-right w u v h = grind (arith, nat_tests, common_steps, and_parts, eqb-true)

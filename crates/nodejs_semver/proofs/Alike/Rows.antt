@@ -10,7 +10,7 @@ use Rattle.nodejs_semver.proofs.Common.{subst, suc, sym, table, true, upper_cut,
 use Rattle.nodejs_semver.proofs.{Common.{◌∷◌, ◌≡◌, ◌≤◌, ◌⊎◌}, NpmCommon.{Comparison, IsPartial, IsPlainPartial, IsPlainWord, Numbers}}
 use Rattle.nodejs_semver.proofs.NpmCommon.{at_least, build_front, bytes_eq, bytes_eq-Decides, compared, counts, dashed_front, dotted_patch}
 use Rattle.nodejs_semver.proofs.NpmCommon.{dotted_place, filter-append, from, hyphen_lower, hyphen_upper, is_plain, is_valid, is_within}
-use Rattle.nodejs_semver.proofs.NpmCommon.{is_zero, listed, made, may_have, meets, minor, next_changed, npm_partial, or-true, patch_place}
+use Rattle.nodejs_semver.proofs.NpmCommon.{is_zero, listed, made, may_have, meets, minor, npm_partial, or-true, patch_place}
 use Rattle.nodejs_semver.proofs.NpmCommon.{place_front, pre_front, qualified_partial, release, satisfies, signed, under, upto_patch}
 use Rattle.nodejs_semver.proofs.{NpmCommon.{version_text, whole, zero_least}, Strict.{PartialLaw.partial-read, Printed.prints_zero}}
 use Rattle.nodejs_semver.{proofs.Values.{past-after, past-before}, specs.{Internal.NpmWords.partial_front, Npm.Alike.{bare, word_of}}}
@@ -18,6 +18,7 @@ use Rattle.nodejs_semver.specs.Npm.Table.{Sign, lowest, no_build}
 use Rattle.nodejs_semver.specs.Npm.Ranges as Ranges
 use Rattle.nodejs_semver.specs.Npm.Table as Npm
 use Rattle.nodejs_semver.specs.Internal.NpmWords.{places_front}
+use Rattle.nodejs_semver.proofs.Strict.Zeros.{plain_changed, plain_table, table-plain}
 
 -- no number of the version is above the limit
 pub record IsWithin (limit : ℕ) (v : VersionValue) : Type 0 where
@@ -395,18 +396,18 @@ module _ (pre : Bool) (v : VersionValue) (within : IsWithin MAX_SAFE_INTEGER v) 
   abbrev Valid : List Comparison → Type 0
   Valid cs = list_all (is_valid MAX_SAFE_INTEGER) cs ≡ true
 
-  plain-good : (p : Partial) → Form pre p → Valid (Npm.table false (compared equal) (npm_partial p) text)
-      → Good pre v (table MAX_SAFE_INTEGER (plain p)) (Npm.table false (compared equal) (npm_partial p) text)
+  values-plain : (p : Partial) → Form pre p → Valid (plain_table false (compared equal) (npm_partial p) text)
+      → Good pre v (table MAX_SAFE_INTEGER (plain p)) (plain_table false (compared equal) (npm_partial p) text)
   unfolding table
-  plain-good p any h = any-word pre v
-  plain-good p (one M) h = band-word pre v (M, 0, 0) (M + 1, 0, 0) h
-  plain-good p (two M m) h = band-word pre v (M, m, 0) (M, m + 1, 0) h
-  plain-good p (three M m o x y e) h =
+  values-plain p any h = any-word pre v
+  values-plain p (one M) h = band-word pre v (M, 0, 0) (M + 1, 0, 0) h
+  values-plain p (two M m) h = band-word pre v (M, m, 0) (M, m + 1, 0) h
+  values-plain p (three M m o x y e) h =
       whole-word pre v (version M m o x y) _ _ e (whole_equal v (version M m o x y) y text) (λ r. rw r refl)
 
-  abbrev Rows : Sign → Type 0
-  Rows s = (p : Partial) → Form pre p → may_have s p ≡ true → IsPartial false text (npm_partial p) → Valid (Npm.table false s (npm_partial p) text)
-      → Good pre v (table MAX_SAFE_INTEGER (word_of s p)) (Npm.table false s (npm_partial p) text)
+  abbrev Values : Sign → Type 0
+  Values s = (p : Partial) → Form pre p → may_have s p ≡ true → IsPartial false text (npm_partial p) → Valid (plain_table false s (npm_partial p) text)
+      → Good pre v (table MAX_SAFE_INTEGER (word_of s p)) (plain_table false s (npm_partial p) text)
 
   -- to the next numbers in which the first one changes that is not 0
   changed-word : (w : VersionValue) (n k : Numbers) → k ≡ n → (pre || is_release w) ≡ true → Valid (made at_least w ∷ (under k ∷ []))
@@ -414,50 +415,62 @@ module _ (pre : Bool) (v : VersionValue) (within : IsWithin MAX_SAFE_INTEGER v) 
   changed-word w n k e p h = subst (λ m. SameWord pre v (record { lower = Before w; upper = Before (lowest m) }) (made at_least w ∷ (under k ∷ []))) e
       (until-word pre v w k p h)
 
-  pub signed-good : (s : Sign) → Rows s
+  values-signed : (s : Sign) → Values s
   unfolding table
-  signed-good (compared at_least) p any m t h = any-word pre v
-  signed-good s p any m t h = cc m
-  signed-good (compared at_least) p (one M) m t h = from-word pre v (M, 0, 0) h
-  signed-good (compared at_least) p (two M n) m t h = from-word pre v (M, n, 0) h
-  signed-good (compared at_least) p (three M n o x y e) m t h =
+  values-signed (compared at_least) p any m t h = any-word pre v
+  values-signed s p any m t h = cc m
+  values-signed (compared at_least) p (one M) m t h = from-word pre v (M, 0, 0) h
+  values-signed (compared at_least) p (two M n) m t h = from-word pre v (M, n, 0) h
+  values-signed (compared at_least) p (three M n o x y e) m t h =
       let w = version M n o x y in
       low-word pre v w Unbounded (put at_least w text ∷ []) [] e (whole_low v w text (text-spelled text w t)) (free-tame v) (free-exact v)
-  signed-good (compared above) p (one M) m t h = from-word pre v (M + 1, 0, 0) h
-  signed-good (compared above) p (two M n) m t h = from-word pre v (M, n + 1, 0) h
-  signed-good (compared above) p (three M n o x y e) m t h = whole-word pre v (version M n o x y) _ _ e (whole_above v _ text) (λ r. rw r refl)
-  signed-good (compared equal) p (one M) m t h = band-word pre v (M, 0, 0) (M + 1, 0, 0) h
-  signed-good (compared equal) p (two M n) m t h = band-word pre v (M, n, 0) (M, n + 1, 0) h
-  signed-good (compared equal) p (three M n o x y e) m t h =
+  values-signed (compared above) p (one M) m t h = from-word pre v (M + 1, 0, 0) h
+  values-signed (compared above) p (two M n) m t h = from-word pre v (M, n + 1, 0) h
+  values-signed (compared above) p (three M n o x y e) m t h = whole-word pre v (version M n o x y) _ _ e (whole_above v _ text) (λ r. rw r refl)
+  values-signed (compared equal) p (one M) m t h = band-word pre v (M, 0, 0) (M + 1, 0, 0) h
+  values-signed (compared equal) p (two M n) m t h = band-word pre v (M, n, 0) (M, n + 1, 0) h
+  values-signed (compared equal) p (three M n o x y e) m t h =
       let w = version M n o x [] in whole-word pre v w _ _ e (whole_equal v w y text) (λ r. rw r refl)
-  signed-good (compared at_most) p (one M) m t h = upper-word pre v _ (under (M + 1, 0, 0))
+  values-signed (compared at_most) p (one M) m t h = upper-word pre v _ (under (M + 1, 0, 0))
       (most-tame v _ (M + 1, 0, 0) (most_major v MAX_SAFE_INTEGER M within.minor within.patch))
-  signed-good (compared at_most) p (two M n) m t h = upper-word pre v _ (under (M, n + 1, 0))
+  values-signed (compared at_most) p (two M n) m t h = upper-word pre v _ (under (M, n + 1, 0))
       (most-tame v _ (M, n + 1, 0) (most_minor v MAX_SAFE_INTEGER M n within.patch))
-  signed-good (compared at_most) p (three M n o x y e) m t h = whole-word pre v (version M n o x y) _ _ e (whole_most v _ text) (λ r. rw r refl)
-  signed-good (compared below) p (one M) m t h = upper-word pre v _ (under (M, 0, 0)) (below-tame v (M, 0, 0))
-  signed-good (compared below) p (two M n) m t h = upper-word pre v _ (under (M, n, 0)) (under-tame v (M, n, 0))
-  signed-good (compared below) p (three M n o x y e) m t h = whole-word pre v (version M n o x y) _ _ e (whole_below v _ text) (λ r. rw r refl)
-  signed-good Npm.tilde p (one M) m t h = band-word pre v (M, 0, 0) (M + 1, 0, 0) h
-  signed-good Npm.tilde p (two M n) m t h = band-word pre v (M, n, 0) (M, n + 1, 0) h
-  signed-good Npm.tilde p (three M n o x y e) m t h = until-word pre v (version M n o x []) (M, n + 1, 0) e h
-  signed-good Npm.caret p (one zero) m t h = tame-word pre v Unbounded (Before (lowest (1, 0, 0))) (from false (0, 0, 0) ∷ [])
+  values-signed (compared at_most) p (three M n o x y e) m t h = whole-word pre v (version M n o x y) _ _ e (whole_most v _ text) (λ r. rw r refl)
+  values-signed (compared below) p (one M) m t h = upper-word pre v _ (under (M, 0, 0)) (below-tame v (M, 0, 0))
+  values-signed (compared below) p (two M n) m t h = upper-word pre v _ (under (M, n, 0)) (under-tame v (M, n, 0))
+  values-signed (compared below) p (three M n o x y e) m t h = whole-word pre v (version M n o x y) _ _ e (whole_below v _ text) (λ r. rw r refl)
+  values-signed Npm.tilde p (one M) m t h = band-word pre v (M, 0, 0) (M + 1, 0, 0) h
+  values-signed Npm.tilde p (two M n) m t h = band-word pre v (M, n, 0) (M, n + 1, 0) h
+  values-signed Npm.tilde p (three M n o x y e) m t h = until-word pre v (version M n o x []) (M, n + 1, 0) e h
+  values-signed Npm.caret p (one zero) m t h = tame-word pre v Unbounded (Before (lowest (1, 0, 0))) (from false (0, 0, 0) ∷ [])
       (under (1, 0, 0) ∷ []) (open-tame v) (under-tame v (1, 0, 0))
-  signed-good Npm.caret p (one (suc M)) m t h =
-      changed-word (release (suc M, 0, 0)) (suc M + 1, 0, 0) (next_changed (Npm.major (suc M))) (rw (not_zero M) refl) (or-true pre) h
-  signed-good Npm.caret p (two zero n) m t h = band-word pre v (0, n, 0) (0, n + 1, 0) h
-  signed-good Npm.caret p (two (suc M) n) m t h =
-      changed-word (release (suc M, n, 0)) (suc M + 1, 0, 0) (next_changed (minor (suc M) n)) (rw (not_zero M) refl) (or-true pre) h
-  signed-good Npm.caret p (three zero zero o x y e) m t h = until-word pre v (version 0 0 o x []) (0, 0, o + 1) e h
-  signed-good Npm.caret p (three zero (suc n) o x y e) m t h =
-      let w = version 0 (suc n) o x [] in changed-word w (0, suc n + 1, 0) (next_changed (whole w)) (rw (not_zero n) refl) e h
-  signed-good Npm.caret p (three (suc M) n o x y e) m t h =
-      let w = version (suc M) n o x [] in changed-word w (suc M + 1, 0, 0) (next_changed (whole w)) (rw (not_zero M) refl) e h
+  values-signed Npm.caret p (one (suc M)) m t h =
+      changed-word (release (suc M, 0, 0)) (suc M + 1, 0, 0) (plain_changed (Npm.major (suc M))) (rw (not_zero M) refl) (or-true pre) h
+  values-signed Npm.caret p (two zero n) m t h = band-word pre v (0, n, 0) (0, n + 1, 0) h
+  values-signed Npm.caret p (two (suc M) n) m t h =
+      changed-word (release (suc M, n, 0)) (suc M + 1, 0, 0) (plain_changed (minor (suc M) n)) (rw (not_zero M) refl) (or-true pre) h
+  values-signed Npm.caret p (three zero zero o x y e) m t h = until-word pre v (version 0 0 o x []) (0, 0, o + 1) e h
+  values-signed Npm.caret p (three zero (suc n) o x y e) m t h =
+      let w = version 0 (suc n) o x [] in changed-word w (0, suc n + 1, 0) (plain_changed (whole w)) (rw (not_zero n) refl) e h
+  values-signed Npm.caret p (three (suc M) n o x y e) m t h =
+      let w = version (suc M) n o x [] in changed-word w (suc M + 1, 0, 0) (plain_changed (whole w)) (rw (not_zero M) refl) e h
+
+  pub signed-good : (s : Sign) (p : Partial) → Form pre p → may_have s p ≡ true → IsPartial false text (npm_partial p)
+      → Valid (Npm.table false s (npm_partial p) text) → Good pre v (table MAX_SAFE_INTEGER (word_of s p)) (Npm.table false s (npm_partial p) text)
+  signed-good s p f m t h =
+      let e = table-plain false text s (npm_partial p) t in
+      subst (λ cs. Good pre v (table MAX_SAFE_INTEGER (word_of s p)) cs) (sym e) (values-signed s p f m t (subst Valid e h))
+
+  plain-good : (p : Partial) → Form pre p → IsPartial false text (npm_partial p) → Valid (Npm.table false (compared equal) (npm_partial p) text)
+      → Good pre v (table MAX_SAFE_INTEGER (plain p)) (Npm.table false (compared equal) (npm_partial p) text)
+  plain-good p f t h =
+      let e = table-plain false text (compared equal) (npm_partial p) t in
+      subst (λ cs. Good pre v (table MAX_SAFE_INTEGER (plain p)) cs) (sym e) (values-plain p f (subst Valid e h))
 
 pub word-good : (pre : Bool) (v : VersionValue) (text : List ℕ) (word : Word) (cs : List Comparison) → IsWithin MAX_SAFE_INTEGER v
     → IsPlainWord MAX_SAFE_INTEGER pre text word cs → list_all (is_valid MAX_SAFE_INTEGER) cs ≡ true
     → Good pre v (table MAX_SAFE_INTEGER word) cs
-word-good pre v text word cs w (bare t p h) k = plain-good pre v w t p (form pre p h.plain) k
+word-good pre v text word cs w (bare t p h) k = plain-good pre v w t p (form pre p h.plain) h.npm k
 word-good pre v text word cs w (signed s t p h m) k = signed-good pre v w t s p (form pre p h.plain) m h.npm k
 
 -- ---- the lower end
@@ -466,8 +479,14 @@ low-form : (pre : Bool) (v : VersionValue) (text : List ℕ) (p : Partial) → F
     → list_all (is_valid MAX_SAFE_INTEGER) (hyphen_lower at_least false (npm_partial p) text) ≡ true
     → Low v (version_of p) (hyphen_lower at_least false (npm_partial p) text)
 low-form pre v text p any t h = any_low v
-low-form pre v text p (one M) t h = from_low v (M, 0, 0) (first_so (is_valid MAX_SAFE_INTEGER (from false (M, 0, 0))) _ h)
-low-form pre v text p (two M m) t h = from_low v (M, m, 0) (first_so (is_valid MAX_SAFE_INTEGER (from false (M, m, 0))) _ h)
+low-form pre v text p (one M) t h =
+    let e = table-plain false text (compared at_least) (Npm.major M) t in
+    subst (Low v (release (M, 0, 0))) (sym e) (from_low v (M, 0, 0) (first_so (is_valid MAX_SAFE_INTEGER (from false (M, 0, 0))) _
+    (subst (λ cs. list_all (is_valid MAX_SAFE_INTEGER) cs ≡ true) e h)))
+low-form pre v text p (two M m) t h =
+    let e = table-plain false text (compared at_least) (minor M m) t in
+    subst (Low v (release (M, m, 0))) (sym e) (from_low v (M, m, 0) (first_so (is_valid MAX_SAFE_INTEGER (from false (M, m, 0))) _
+    (subst (λ cs. list_all (is_valid MAX_SAFE_INTEGER) cs ≡ true) e h)))
 low-form pre v text p (three M m o x y e) t h = whole_low v _ text (text-spelled text _ t)
 
 -- ---- both ends

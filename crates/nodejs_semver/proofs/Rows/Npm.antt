@@ -8,7 +8,7 @@ use Rattle.nodejs_semver.proofs.NpmCommon.{is_malformed, is_spelled, is_valid, j
 use Rattle.nodejs_semver.proofs.NpmCommon.{loose_dotted, loose_front, loose_patch, loose_qualified, loose_version, major, minor, number_of}
 use Rattle.nodejs_semver.proofs.NpmCommon.{one, patch_front, pre_release_front, qualified_version, sign, spelling, strict_number}
 use Rattle.nodejs_semver.proofs.NpmCommon.{strict_version, tilde_twice, tuple_len, tuple_release, whole, wildcard, word}
-use Rattle.nodejs_semver.specs.Npm.{RangeText.number, Ranges.accepts, Table.{Partial, Sign, caret, table, tilde}}
+use Rattle.nodejs_semver.specs.Npm.{RangeText.number, Ranges.accepts, Table.{Partial, Sign, caret, table, tilde, written_zeros}}
 
 -- ---- the table, as node-semver prints the range of each word
 
@@ -22,18 +22,23 @@ lettered M m p = record (release_value M m p) { pre_release = AlphaNumeric (code
 abbrev printed : List Comparison → List ℕ
 printed cs = join_with_byte 32 (map (λ (c : Comparison). spelling (compared c.sign) ++ c.text) cs)
 
+-- of a word of a partial with this text
+abbrev row : Bool → Sign × Partial × List ℕ → List ℕ
+row include w = printed (table include w.0 w.1 w.2)
+
 abbrev partials : Bool → List (List ℕ)
-partials include = map (λ (row : Sign × Partial). printed (table include row.0 row.1 []))
-    ((compared equal, major 1) ∷ (compared equal, minor 1 2) ∷ (caret, major 1) ∷ (caret, minor 0 2) ∷ (caret, minor 1 2)
-    ∷ (tilde, major 1) ∷ (tilde, minor 1 2) ∷ (compared at_least, major 1) ∷ (compared above, major 1) ∷ (compared above, minor 1 2)
-    ∷ (compared below, major 1) ∷ (compared below, minor 1 2) ∷ (compared at_most, major 1) ∷ (compared at_most, minor 1 2) ∷ [])
+partials include = map (row include)
+    ((compared equal, major 1, codes "1") ∷ (compared equal, minor 1 2, codes "1.2") ∷ (caret, major 1, codes "1") ∷ (caret, minor 0 2, codes "0.2")
+    ∷ (caret, minor 1 2, codes "1.2") ∷ (tilde, major 1, codes "1") ∷ (tilde, minor 1 2, codes "1.2") ∷ (compared at_least, major 1, codes "1")
+    ∷ (compared above, major 1, codes "1") ∷ (compared above, minor 1 2, codes "1.2") ∷ (compared below, major 1, codes "1")
+    ∷ (compared below, minor 1 2, codes "1.2") ∷ (compared at_most, major 1, codes "1") ∷ (compared at_most, minor 1 2, codes "1.2") ∷ [])
 
 -- without pre-releases included: `1`, `1.2`, `^1`, `^0.2`, `^1.2`, `~1`, `~1.2`, `>=1`, `>1`, `>1.2`, `<1`, `<1.2`, `<=1`, `<=1.2`
 row-partials : partials false
     ≡ codes ">=1.0.0 <2.0.0-0" ∷ codes ">=1.2.0 <1.3.0-0" ∷ codes ">=1.0.0 <2.0.0-0" ∷ codes ">=0.2.0 <0.3.0-0" ∷ codes ">=1.2.0 <2.0.0-0"
     ∷ codes ">=1.0.0 <2.0.0-0" ∷ codes ">=1.2.0 <1.3.0-0" ∷ codes ">=1.0.0" ∷ codes ">=2.0.0" ∷ codes ">=1.3.0"
     ∷ codes "<1.0.0-0" ∷ codes "<1.2.0-0" ∷ codes "<2.0.0-0" ∷ codes "<1.3.0-0" ∷ []
-unfolding digits
+unfolding digits written_zeros
 row-partials = refl
 
 -- the same with them
@@ -41,28 +46,52 @@ row-partials_included : partials true
     ≡ codes ">=1.0.0-0 <2.0.0-0" ∷ codes ">=1.2.0-0 <1.3.0-0" ∷ codes ">=1.0.0-0 <2.0.0-0" ∷ codes ">=0.2.0-0 <0.3.0-0" ∷ codes ">=1.2.0-0 <2.0.0-0"
     ∷ codes ">=1.0.0 <2.0.0-0" ∷ codes ">=1.2.0 <1.3.0-0" ∷ codes ">=1.0.0-0" ∷ codes ">=2.0.0-0" ∷ codes ">=1.3.0-0"
     ∷ codes "<1.0.0-0" ∷ codes "<1.2.0-0" ∷ codes "<2.0.0-0" ∷ codes "<1.3.0-0" ∷ []
-unfolding digits
+unfolding digits written_zeros
 row-partials_included = refl
 
 -- `^1.2.3`, `^0.2.3`, `^0.0.3`, `^0.0.3-a` and `~1.2.3-a`, without pre-releases included and with them
 abbrev carets : Bool → List (List ℕ)
-carets include = map (λ (row : Sign × Partial). printed (table include row.0 row.1 []))
-    ((caret, plain 1 2 3) ∷ (caret, plain 0 2 3) ∷ (caret, plain 0 0 3) ∷ (caret, whole (lettered 0 0 3)) ∷ (tilde, whole (lettered 1 2 3)) ∷ [])
+carets include = map (row include)
+    ((caret, plain 1 2 3, codes "1.2.3") ∷ (caret, plain 0 2 3, codes "0.2.3") ∷ (caret, plain 0 0 3, codes "0.0.3")
+    ∷ (caret, whole (lettered 0 0 3), codes "0.0.3-a") ∷ (tilde, whole (lettered 1 2 3), codes "1.2.3-a") ∷ [])
 
 row-carets : carets false ≡ codes ">=1.2.3 <2.0.0-0" ∷ codes ">=0.2.3 <0.3.0-0" ∷ codes ">=0.0.3 <0.0.4-0" ∷ codes ">=0.0.3-a <0.0.4-0"
     ∷ codes ">=1.2.3-a <1.3.0-0" ∷ []
-unfolding digits
+unfolding digits written_zeros
 row-carets = refl
 
 row-carets_included : carets true ≡ codes ">=1.2.3 <2.0.0-0" ∷ codes ">=0.2.3-0 <0.3.0-0" ∷ codes ">=0.0.3-0 <0.0.4-0"
     ∷ codes ">=0.0.3-a <0.0.4-0" ∷ codes ">=1.2.3-a <1.3.0-0" ∷ []
-unfolding digits
+unfolding digits written_zeros
 row-carets_included = refl
+
+-- loosely, zero as several digits: `^00.1.2`, `^0.00.3`, `^v00.1`, and `>=00`, `^0.00`, `~0.0.00` and `0.0`
+abbrev zeros_padded : Bool → List (List ℕ)
+zeros_padded include = map (row include)
+    ((caret, plain 0 1 2, codes "00.1.2") ∷ (caret, plain 0 0 3, codes "0.00.3") ∷ (caret, minor 0 1, codes "v00.1")
+    ∷ (compared at_least, major 0, codes "00") ∷ (caret, minor 0 0, codes "0.00") ∷ (tilde, plain 0 0 0, codes "0.0.00")
+    ∷ (compared equal, minor 0 0, codes "0.0") ∷ [])
+
+row-zeros_padded : zeros_padded false ≡ codes ">=0.1.2 <1.0.0-0" ∷ codes ">=0.0.3 <0.1.0-0" ∷ codes ">=0.1.0 <1.0.0-0" ∷ codes ">=00.0.0"
+    ∷ codes ">=00.0.0 <0.1.0-0" ∷ codes ">=00.0.0 <0.1.0-0" ∷ codes ">=0.0.0 <0.1.0-0" ∷ []
+unfolding digits written_zeros
+row-zeros_padded = refl
+
+row-zeros_padded_included : zeros_padded true ≡ codes ">=0.1.2 <1.0.0-0" ∷ codes ">=0.0.3-0 <0.1.0-0" ∷ codes ">=0.1.0-0 <1.0.0-0"
+    ∷ codes ">=0.0.0-0" ∷ codes ">=0.0.0-0 <0.1.0-0" ∷ codes ">=00.0.0 <0.1.0-0" ∷ codes ">=0.0.0-0 <0.1.0-0" ∷ []
+unfolding digits written_zeros
+row-zeros_padded_included = refl
+
+-- a wildcard ends the numbers, and a pre-release does
+row-written_zeros : map written_zeros (codes "0" ∷ codes "= 0.x.0" ∷ codes "0.10" ∷ codes "0.0.0-a.0" ∷ codes "1.0.0" ∷ [])
+    ≡ 1 ∷ 1 ∷ 1 ∷ 3 ∷ 0 ∷ []
+unfolding written_zeros
+row-written_zeros = refl
 
 -- `*`, `^*`, `>=*`, `>*` and `<*`
 row-wildcards : map (λ s. printed (table false s wildcard [])) (compared equal ∷ caret ∷ compared at_least ∷ compared above ∷ compared below ∷ [])
     ≡ [] ∷ [] ∷ [] ∷ codes "<0.0.0-0" ∷ codes "<0.0.0-0" ∷ []
-unfolding digits
+unfolding digits written_zeros
 row-wildcards = refl
 
 -- `1 - 2`, `1.2.3 - 2.3.4` and `1 - 2.3.4-a`
@@ -71,11 +100,11 @@ hyphens include = map (λ (row : Partial × Partial). printed (hyphen_lower incl
     ((major 1, major 2) ∷ (plain 1 2 3, plain 2 3 4) ∷ (major 1, whole (lettered 2 3 4)) ∷ [])
 
 row-hyphens : hyphens false ≡ codes ">=1.0.0 <3.0.0-0" ∷ codes ">=1.2.3 <=2.3.4" ∷ codes ">=1.0.0 <=2.3.4-a" ∷ []
-unfolding digits
+unfolding digits written_zeros
 row-hyphens = refl
 
 row-hyphens_included : hyphens true ≡ codes ">=1.0.0-0 <3.0.0-0" ∷ codes ">=1.2.3-0 <2.3.5-0" ∷ codes ">=1.0.0-0 <=2.3.4-a" ∷ []
-unfolding digits
+unfolding digits written_zeros
 row-hyphens_included = refl
 
 -- ---- which versions are accepted
@@ -83,12 +112,12 @@ row-hyphens_included = refl
 -- `* || 1.0.0-a` does not accept `1.0.0-a`, and `1 || 1.0.0-a` does
 row-star_beside : map (λ p. accepts false (table false (compared equal) p [] ∷ (table false (compared equal) (whole (lettered 1 0 0)) (codes "1.0.0-a") ∷ [])) (lettered 1 0 0))
     (wildcard ∷ major 1 ∷ []) ≡ false ∷ true ∷ []
-unfolding digits
+unfolding digits written_zeros
 row-star_beside = refl
 
 -- `^1` accepts `1.0.0-a` where pre-releases are included, and only there
 row-included : map (λ include. accepts include (table include caret (major 1) [] ∷ []) (lettered 1 0 0)) (false ∷ true ∷ []) ≡ false ∷ true ∷ []
-unfolding digits
+unfolding digits written_zeros
 row-included = refl
 
 -- `>=1.2.3-a` accepts `1.2.3-a`, and `1.2.4-a` only where pre-releases are included
@@ -96,7 +125,7 @@ abbrev from_a : Bool → VersionValue → Bool
 from_a include v = accepts include (table include (compared at_least) (whole (lettered 1 2 3)) (codes "1.2.3-a") ∷ []) v
 
 row-named : from_a false (lettered 1 2 3) ∷ from_a false (lettered 1 2 4) ∷ from_a true (lettered 1 2 4) ∷ [] ≡ true ∷ false ∷ true ∷ []
-unfolding digits
+unfolding digits written_zeros
 row-named = refl
 
 -- `>=0 >=0.0.0-a` accepts `0.0.0-a`, since `>=0.0.0` does not count, and `>=v0.0.0 >=0.0.0-a` does not
@@ -106,23 +135,23 @@ zero_and_a text = accepts false
     (lettered 0 0 0)
 
 row-zero : zero_and_a (codes "0.0.0") ∷ zero_and_a (codes "v0.0.0") ∷ [] ≡ true ∷ false ∷ []
-unfolding digits
+unfolding digits written_zeros
 row-zero = refl
 
 -- `>1 <1` accepts neither `1.0.0` nor `2.0.0`; `>* || 1` accepts `1.0.0`
 row-nothing : map (accepts false ((table false (compared above) (major 1) [] ++ table false (compared below) (major 1) []) ∷ []))
     (release_value 1 0 0 ∷ release_value 2 0 0 ∷ []) ≡ false ∷ false ∷ []
-unfolding digits
+unfolding digits written_zeros
 row-nothing = refl
 
 row-beside_nothing : accepts false (table false (compared above) wildcard [] ∷ (table false (compared equal) (major 1) [] ∷ [])) (release_value 1 0 0) ≡ true
-unfolding digits
+unfolding digits written_zeros
 row-beside_nothing = refl
 
 -- `>9007199254740991` is rejected for its number, and `<9007199254740991` is not
 row-limit : map (λ s. map (is_valid 9007199254740991) (table false (compared s) (major 9007199254740991) [])) (above ∷ below ∷ [])
     ≡ (false ∷ []) ∷ ((true ∷ []) ∷ [])
-unfolding digits
+unfolding digits written_zeros
 row-limit = refl
 
 -- ---- how words are written
@@ -148,14 +177,13 @@ row-tilde_twice : AreWords false false (codes "~> >1") (table false tilde (major
 row-tilde_twice =
     last _ _ (word (codes "~> >") [] (codes "1") tilde (major 1) (tilde_twice above (codes " ") [] blank (lit< tt) no_blank (inl refl)) refl refl one_is)
 
--- loosely `^01` is `^1`, `01` stands for no number strictly, and `00` for none but loosely behind a major number
+-- loosely `^01` is `^1`, `01` stands for no number strictly, and `00` for none
 row-leading : AreWords true false (codes "^01") (table false caret (major 1) (codes "01"))
 row-leading = last _ _ (word (codes "^") [] (codes "01") caret (major 1) (sign caret [] no_blank) refl refl
     (one (codes "01") (Some 1) (number (codes "01") 1 (record { some = lit< tt; each = refl; value = refl; safe = lit≤ tt }) refl (lit≤ tt)), refl))
 
-row-spelled : is_spelled true false 1 (codes "01") ∷ is_spelled false true 1 (codes "01") ∷ is_spelled true false 0 (codes "00")
-    ∷ is_spelled true true 0 (codes "00") ∷ is_spelled false false 0 (codes "0") ∷ []
-    ≡ true ∷ false ∷ false ∷ true ∷ true ∷ []
+row-spelled : is_spelled true (codes "01") ∷ is_spelled false (codes "01") ∷ is_spelled true (codes "00") ∷ is_spelled false (codes "00")
+    ∷ is_spelled false (codes "0") ∷ [] ≡ true ∷ false ∷ true ∷ false ∷ true ∷ []
 row-spelled = refl
 
 -- `beta` and `4.5` may stand without `-` loosely, behind a wildcard `1beta`, and the identifier `01`

@@ -2,7 +2,7 @@
 use Rattle.nodejs_semver.proofs.Common.{Before, IsNumber, List, None, Partial, Some, Span, VersionValue, [], above, arith}
 use Rattle.nodejs_semver.proofs.Common.{below, codes, false, inr, length, lit≤, lowest, refl, release_value, true, ℕ, ◌∷◌, ◌≡◌}
 use Rattle.nodejs_semver.proofs.{Common.◌≤◌, NpmCommon.{IsPlainPartial, IsPlainText, digits, from, is_spelled, lit<, more}}
-use Rattle.nodejs_semver.{proofs.NpmCommon.{one_word, signed, two_words, under}, specs.Npm.{Alike.one, Table.caret}}
+use Rattle.nodejs_semver.{proofs.NpmCommon.{one_word, signed, two_words, under}, specs.Npm.{Alike.one, Table.{caret, written_zeros}}}
 use Rattle.nodejs_semver.specs.Npm.RangeText as Npm
 use Rattle.nodejs_semver.specs.Text.PartialText as Here
 use Rattle.nodejs_semver.specs.Text.Table as Spans
@@ -16,7 +16,7 @@ part M = record { major = Some M; minor = None; patch = None; pre_release = []; 
 abbrev IsPart : List ℕ → ℕ → Type 0
 IsPart text M = IsPlainPartial limit false text (part M)
 
-part_is : (text : List ℕ) (M : ℕ) → IsNumber limit text M → is_spelled false false M text ≡ true → length text ≤ 257 → IsPart text M
+part_is : (text : List ℕ) (M : ℕ) → IsNumber limit text M → is_spelled false text ≡ true → length text ≤ 257 → IsPart text M
 part_is text M n spelled short = record {
   here = Here.one text (Some M) (Here.number text M n);
   npm = (Npm.one text (Some M) (Npm.number text M (record { some = n.some; each = n.each; value = n.value; safe = omega arith }) spelled short), refl);
@@ -40,7 +40,7 @@ band M n = record { lower = Before (release_value M 0 0); upper = Before (lowest
 row-plain : IsPlainText limit (codes "^1 || >2 <4")
     (band 1 2 ∷ (record { lower = Before (release_value 3 0 0); upper = Before (release_value 4 0 0) } ∷ []))
     ((from false (1, 0, 0) ∷ (under (2, 0, 0) ∷ [])) ∷ ((from false (3, 0, 0) ∷ (under (4, 0, 0) ∷ [])) ∷ []))
-unfolding digits Spans.table
+unfolding digits Spans.table written_zeros
 row-plain = record {
   pre = false;
   divided = more (codes "^1") (codes " ") (codes " ") (codes ">2 <4") _ _ _ _ (one_word (codes "^1") _ _ _ (signed caret (codes "1") (part 1) one_is refl) refl)

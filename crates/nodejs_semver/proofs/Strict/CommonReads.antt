@@ -17,15 +17,16 @@ use Rattle.nodejs_semver.proofs.Strict.PartialLaw.{PartialAt, counted-some, stri
 use Rattle.nodejs_semver.{proofs.Strict.{RangeReads.{found_spans, ranged_range}, Rows.both_common}, specs.Internal.CommonFronts.after_bars}
 use Rattle.nodejs_semver.specs.Internal.{NpmAlternatives.ranged, NpmFronts.{AreIn, AreJoined, AreParts, IsLeft, IsPartAt, IsSignAt}}
 use Rattle.nodejs_semver.specs.Internal.{NpmFronts.{IsTried, IsWordAt, is_word_byte}, NpmReadings.dotted_number, NpmReads.AreFound}
-use Rattle.nodejs_semver.specs.{Internal.NpmWords.{any, is_over, number, place_zeros, placed}, Npm.Table.{Partial, Sign, first, major}}
+use Rattle.nodejs_semver.specs.{Internal.NpmWords.{any, is_over, number, placed}, Npm.Table.{Partial, Sign, first, major}}
 use Rattle.nodejs_semver.specs.{Npm.Table.{minor, table, whole, wildcard}, Text.{Common.IsGap, WordText.equal}}
 use Rattle.{nodejs_semver.specs.declared.readers.syntax.Bounds.Bounds, std.proofs.Math.Seq.take-append_seam}
 use Rattle.nodejs_semver.proofs.{Common.Front, NpmCommon.{is_small, limited}}
-use Rattle.nodejs_semver.specs.Internal.NpmWords.{partial_front}
 use Rattle.nodejs_semver.proofs.Common.{IsBlank, IsTrim, encode_utf8, trim_is_middle}
 use Rattle.nodejs_semver.proofs.NpmCommon.{AreWords, BeginsWord, IsSignText, IsWord, are_marks, comparators_of, is_lost}
 use Rattle.nodejs_semver.proofs.Reading.{Bytes.solid-dark, WordLaw.{blank-len, trim-utf8}}
 use Rattle.semver_core.specs.Text.Characters.{BeginsBlank}
+use Rattle.nodejs_semver.specs.{Internal.{NpmParts.{AreZeros, is_padded}, NpmWords.partial_front}, Npm.Table.{written_zeros, zeros}}
+use Rattle.nodejs_semver.proofs.Strict.Zeros.{strict-unpadded, strict-zeros}
 use Rattle.nodejs_semver.specs.Internal.NpmFronts as Fronts
 use Rattle.nodejs_semver.specs.Npm.RangeText as Npm
 
@@ -106,56 +107,69 @@ word-within text p rest h =
 
 pub ruleset words_found = (word-normal, word-shorter, word-within)
 
+-- so many numbers are written `0` as are 0
+pub word-zeros : (text : List ℕ) (p : Partial) (rest : List ℕ) (z : ℕ) → Some (Some p, rest) ≡ counted_front false MAX_SAFE_INTEGER text
+    → z ≡ zeros p → AreZeros p z (take (length text - length rest) text)
+word-zeros text p rest z h e =
+    let f = piece-at text p rest h in
+    rw (piece-cut text p rest f, e) (strict-zeros f.piece p f.is)
+
+pub word-unpadded : (text : List ℕ) (p : Partial) (rest : List ℕ) → Some (Some p, rest) ≡ counted_front false MAX_SAFE_INTEGER text
+    → false ≡ is_padded (written_zeros (take (length text - length rest) text)) p
+word-unpadded text p rest h =
+    let f = piece-at text p rest h in
+    rw (piece-cut text p rest f) (strict-unpadded f.piece p f.is)
+
 -- ---- a short partial
 
 over-ends : (text : List ℕ) → is_over text ≡ true → after_byte 46 text ≡ None
 over-ends [] h = refl
 over-ends (b ∷ text) h = grind (arith, nat_tests, common_steps)
 
-no_place : (zeros : Bool) (text : List ℕ) → is_over text ≡ true
-    → (dotted_place false zeros text ≡ None) × (dotted_patch false zeros text ≡ None)
+no_place : (text : List ℕ) → is_over text ≡ true
+    → (dotted_place false text ≡ None) × (dotted_patch false text ≡ None)
 unfolding dotted_place dotted_patch
-no_place zeros text h = (rw (over-ends text h) refl, rw (over-ends text h) refl)
+no_place text h = (rw (over-ends text h) refl, rw (over-ends text h) refl)
 
-wild_place : (zeros : Bool) (b : ℕ) (rest : List ℕ) → begins_wildcard (b ∷ rest) ≡ true
-    → (placed MAX_SAFE_INTEGER (dotted_place false zeros (46 ∷ (b ∷ rest))) ≡ Some (any, rest))
-    × (placed MAX_SAFE_INTEGER (dotted_patch false zeros (46 ∷ (b ∷ rest))) ≡ Some (any, rest))
+wild_place : (b : ℕ) (rest : List ℕ) → begins_wildcard (b ∷ rest) ≡ true
+    → (placed MAX_SAFE_INTEGER (dotted_place false (46 ∷ (b ∷ rest))) ≡ Some (any, rest))
+    × (placed MAX_SAFE_INTEGER (dotted_patch false (46 ∷ (b ∷ rest))) ≡ Some (any, rest))
 unfolding dotted_place dotted_patch patch_place
-wild_place zeros b rest h = (wildcard_placed false zeros (b ∷ rest) h, wildcard_placed false zeros (b ∷ rest) h)
+wild_place b rest h = (wildcard_placed false (b ∷ rest) h, wildcard_placed false (b ∷ rest) h)
 
-number_place : (zeros : Bool) (text : List ℕ) (n : ℕ) (rest : List ℕ) → Some (n, rest) ≡ dotted_number MAX_SAFE_INTEGER text
-    → (placed MAX_SAFE_INTEGER (dotted_place false zeros text) ≡ Some (number n, rest))
-    × (placed MAX_SAFE_INTEGER (dotted_patch false zeros text) ≡ Some (number n, rest))
+number_place : (text : List ℕ) (n : ℕ) (rest : List ℕ) → Some (n, rest) ≡ dotted_number MAX_SAFE_INTEGER text
+    → (placed MAX_SAFE_INTEGER (dotted_place false text) ≡ Some (number n, rest))
+    × (placed MAX_SAFE_INTEGER (dotted_patch false text) ≡ Some (number n, rest))
 unfolding dotted_number dotted_place dotted_patch patch_place
-number_place zeros text n rest h =
+number_place text n rest h =
     grind (arith, nat_tests, common_steps, after_byte, number_placed)
 
 pub short-any : (text end : List ℕ) → begins_wildcard text ≡ true → end ≡ drop 1 text → is_over end ≡ true
     → Some (Some wildcard, end) ≡ counted_front false MAX_SAFE_INTEGER text
-short-any text end h e over = strict-counted MAX_SAFE_INTEGER text _ (rw (wildcard_placed false false text h, sym e, (no_place true end over).0) refl)
+short-any text end h e over = strict-counted MAX_SAFE_INTEGER text _ (rw (wildcard_placed false text h, sym e, (no_place end over).0) refl)
 
 pub short-one : (text : List ℕ) (a : ℕ) (one end : List ℕ) → Some (a, one) ≡ strict_number MAX_SAFE_INTEGER text → IsLeft one end
     → Some (Some (major a), end) ≡ counted_front false MAX_SAFE_INTEGER text
 short-one text a one end h (over, inl e) =
-    strict-counted MAX_SAFE_INTEGER text _ (rw (number_placed false false text a one (sym h), e, (no_place (place_zeros (number a)) end over).0) refl)
+    strict-counted MAX_SAFE_INTEGER text _ (rw (number_placed false text a one (sym h), e, (no_place end over).0) refl)
 short-one text a one end h (over, inr (b, e, w)) =
-    strict-counted MAX_SAFE_INTEGER text _ (rw (number_placed false false text a one (sym h), e, (wild_place (place_zeros (number a)) b end w).0, (no_place (place_zeros (number a)) end over).1) refl)
+    strict-counted MAX_SAFE_INTEGER text _ (rw (number_placed false text a one (sym h), e, (wild_place b end w).0, (no_place end over).1) refl)
 
 pub short-two : (text : List ℕ) (a b : ℕ) (one two end : List ℕ) → Some (a, one) ≡ strict_number MAX_SAFE_INTEGER text
     → Some (b, two) ≡ dotted_number MAX_SAFE_INTEGER one → IsLeft two end → Some (Some (minor a b), end) ≡ counted_front false MAX_SAFE_INTEGER text
 short-two text a b one two end h k (over, inl e) =
     strict-counted MAX_SAFE_INTEGER text _ (rw (
-      number_placed false false text a one (sym h),
-      (number_place (place_zeros (number a)) one b two k).0,
+      number_placed false text a one (sym h),
+      (number_place one b two k).0,
       e,
-      (no_place (place_zeros (number a)) end over).1,
+      (no_place end over).1,
     ) refl)
 short-two text a b one two end h k (over, inr (c, e, w)) =
     strict-counted MAX_SAFE_INTEGER text _ (rw (
-      number_placed false false text a one (sym h),
-      (number_place (place_zeros (number a)) one b two k).0,
+      number_placed false text a one (sym h),
+      (number_place one b two k).0,
       e,
-      (wild_place (place_zeros (number a)) c end w).1,
+      (wild_place c end w).1,
       over_counted false (number a) (number b) any end over,
     ) refl)
 
@@ -165,9 +179,9 @@ pub short-three : (text : List ℕ) (a b c : ℕ) (one two end : List ℕ) → S
 unfolding listed
 short-three text a b c one two end h k l over =
     strict-counted MAX_SAFE_INTEGER text _ (rw (
-      number_placed false false text a one (sym h),
-      (number_place (place_zeros (number a)) one b two k).0,
-      (number_place (place_zeros (number a)) two c end l).1,
+      number_placed false text a one (sym h),
+      (number_place one b two k).0,
+      (number_place two c end l).1,
       over_counted false (number a) (number b) (number c) end over,
     ) refl)
 

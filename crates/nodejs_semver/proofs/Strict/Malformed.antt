@@ -6,7 +6,7 @@ use Rattle.nodejs_semver.proofs.Common.{is_empty, is_identifier_char, is_whitesp
 use Rattle.nodejs_semver.proofs.Common.{lt-ltb, nat_tests, not, pieces, refl, append-nil}
 use Rattle.nodejs_semver.proofs.Common.{space_len, true, ℕ, ◌&&◌, ◌++◌, ◌-◌, ◌<◌}
 use Rattle.nodejs_semver.proofs.{Common.{◌==◌, ◌||◌, ◌∷◌, ◌≡◌, ◌≤◌, ◌⊎◌, false}, NpmCommon.{IsPartial, IsPlace, IsSignText, IsStrictBuild}}
-use Rattle.nodejs_semver.proofs.NpmCommon.{bare, caret_equal, compared, dashed, encode_ascii, has_zeros}
+use Rattle.nodejs_semver.proofs.NpmCommon.{bare, caret_equal, compared, dashed, encode_ascii}
 use Rattle.nodejs_semver.proofs.NpmCommon.{IsPlaces, late_above, late_below, nat_le}
 use Rattle.nodejs_semver.proofs.NpmCommon.{no_build, no_pre_release, no_sign, one, plus, runs_tail, sign, spelling, tail_runs}
 use Rattle.nodejs_semver.proofs.{NpmCommon.{three, tilde_twice, two}, Reading.Bytes.all-join}
@@ -32,14 +32,14 @@ is_part b = is_identifier_char b || (b == 46 || (b == 43 || b == 42))
 abbrev is_place_byte : ℕ → Bool
 is_place_byte b = is_wildcard b || is_ascii_digit b
 
-place-bytes : (loose zeros : Bool) (x : List ℕ) (a : Option ℕ) → IsPlace loose zeros x a
+place-bytes : (loose : Bool) (x : List ℕ) (a : Option ℕ) → IsPlace loose x a
     → (list_all is_place_byte x ≡ true) × (0 < length x)
-place-bytes loose zeros x a (Text.any b h) = (rw h refl, omega arith)
-place-bytes loose zeros x a (Text.number digits n k spelled short) =
+place-bytes loose x a (Text.any b h) = (rw h refl, omega arith)
+place-bytes loose x a (Text.number digits n k spelled short) =
     (all_weaker is_ascii_digit is_place_byte (λ b k. grind (arith, nat_tests)) digits k.each, k.some)
 
-place-part : (loose zeros : Bool) (x : List ℕ) (a : Option ℕ) → IsPlace loose zeros x a → list_all is_part x ≡ true
-place-part loose zeros x a h = all_weaker is_place_byte is_part (λ b k. grind (arith, nat_tests)) x (place-bytes loose zeros x a h).0
+place-part : (loose : Bool) (x : List ℕ) (a : Option ℕ) → IsPlace loose x a → list_all is_part x ≡ true
+place-part loose x a h = all_weaker is_place_byte is_part (λ b k. grind (arith, nat_tests)) x (place-bytes loose x a h).0
 
 pieces-part : (t : List ℕ) → tail_runs (pieces t) ≡ true → list_all is_part t ≡ true
 pieces-part t h = all_weaker is_plain is_part (λ b k. grind (arith, nat_tests)) t (plain_runs t h)
@@ -54,8 +54,8 @@ build-part p l no_build = refl
 build-part p l (plus t list h) = pieces-part t (runs_tail (pieces t) h.runs)
 
 places-part : (loose : Bool) (x : List ℕ) (p : Partial) → IsPlaces loose x p → list_all is_part x ≡ true
-places-part loose x p (one x1 a h) = place-part loose false x1 a h
-places-part loose x p (two x1 y a b h k) = all-join is_part x1 (46 ∷ y) (place-part loose false x1 a h) (place-part loose (has_zeros a) y b k)
+places-part loose x p (one x1 a h) = place-part loose x1 a h
+places-part loose x p (two x1 y a b h k) = all-join is_part x1 (46 ∷ y) (place-part loose x1 a h) (place-part loose y b k)
 places-part loose x p (three x1 y z pre build a b c ids builds h k l m n t) = grind (arith, nat_tests, common_steps, all-join, build-part, place-part, pre-part)
 
 pub partial-part : (loose : Bool) (x : List ℕ) (p : Partial) → IsPartial loose x p → list_all is_part x ≡ true

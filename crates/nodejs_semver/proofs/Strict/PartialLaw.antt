@@ -7,7 +7,7 @@ use Rattle.nodejs_semver.proofs.Common.{prefix_len, refl, same_Some, subst, suc,
 use Rattle.nodejs_semver.proofs.{Common.{zero, ℕ, ◌&&◌, ◌++◌, ◌+◌, ◌-◌, ◌<◌, ◌==◌, ◌||◌, ◌∙◌, ◌∷◌, ◌≡◌, ◌≤◌}, NpmCommon.IsPartial}
 use Rattle.nodejs_semver.proofs.NpmCommon.{IsPlace, IsStrictBuild, after_byte, begins_byte, begins_padded, begins_wildcard, build_front}
 use Rattle.nodejs_semver.proofs.NpmCommon.{counted_front, dashed_front, digits_value, dotted_patch, dotted_place, drop-append-add, is_none}
-use Rattle.nodejs_semver.proofs.NpmCommon.{IsPlaces, has_leading_zero, has_zeros, is_spelled, length-prefix_len, limited, listed, may_stand}
+use Rattle.nodejs_semver.proofs.NpmCommon.{IsPlaces, has_leading_zero, is_spelled, length-prefix_len, limited, listed, may_stand}
 use Rattle.nodejs_semver.proofs.NpmCommon.{begins_undashed, nat_le, number_front, number_of, one, or-true, partial_of, patch_place}
 use Rattle.nodejs_semver.proofs.NpmCommon.{place_front, pre_front, qualified_partial, run_place, second_front, strict_number, take_while}
 use Rattle.nodejs_semver.proofs.{NpmCommon.{third_front, three, two, ◌>>?◌}, Reading.{Bytes.{is_solid, solid-dark}, Numbers.digits-taken}}
@@ -36,24 +36,24 @@ some-run run h = grind (arith, nat_tests, common_steps)
 pub digits-begin : (digits : List ℕ) → 0 < length digits → list_all is_ascii_digit digits ≡ true → begins is_ascii_digit digits ≡ true
 digits-begin digits some each = grind arith
 
-pub place-read : (loose zeros : Bool) (x more : List ℕ) (a : Option ℕ) → IsPlace loose zeros x a → begins is_ascii_digit more ≡ false
-    → place_front loose zeros (x ++ more) ≡ Some (a, more)
+pub place-read : (loose : Bool) (x more : List ℕ) (a : Option ℕ) → IsPlace loose x a → begins is_ascii_digit more ≡ false
+    → place_front loose (x ++ more) ≡ Some (a, more)
 unfolding place_front
-place-read loose zeros x more a (Text.any b h) stop = rw h refl
-place-read loose zeros x more a (Text.number digits n k spelled short) stop =
+place-read loose x more a (Text.any b h) stop = rw h refl
+place-read loose x more a (Text.number digits n k spelled short) stop =
     grind (arith, nat_tests, common_steps, number-no_wildcard, digits-begin, digits-taken, take_at, drop_at, some-run)
 
-pub dotted_place-read : (loose zeros : Bool) (x more : List ℕ) (a : Option ℕ) → IsPlace loose zeros x a → begins is_ascii_digit more ≡ false
-    → dotted_place loose zeros (46 ∷ (x ++ more)) ≡ Some (a, more)
+pub dotted_place-read : (loose : Bool) (x more : List ℕ) (a : Option ℕ) → IsPlace loose x a → begins is_ascii_digit more ≡ false
+    → dotted_place loose (46 ∷ (x ++ more)) ≡ Some (a, more)
 unfolding dotted_place
-dotted_place-read loose zeros x more a h stop = place-read loose zeros x more a h stop
+dotted_place-read loose x more a h stop = place-read loose x more a h stop
 
 -- ---- what is read is written
 
-pub record PlaceAt (loose zeros : Bool) (text : List ℕ) (a : Option ℕ) (rest : List ℕ) : Type 0 where
+pub record PlaceAt (loose : Bool) (text : List ℕ) (a : Option ℕ) (rest : List ℕ) : Type 0 where
   pub piece : List ℕ
   pub split : text ≡ piece ++ rest
-  pub is : IsPlace loose zeros piece a
+  pub is : IsPlace loose piece a
 
 pub prefix-all : (p : ℕ → Bool) (text : List ℕ) → list_all p (take_while p text) ≡ true
 prefix-all p [] = refl
@@ -64,44 +64,44 @@ prefix-all p (c ∷ text) = elim (cases_Bool (p c)) [
   | inr other ↦ rw other refl
 ]
 
-run-found : (loose zeros : Bool) (run rest : List ℕ) (a : Option ℕ) (left : List ℕ) → run_place loose zeros run rest ≡ Some (a, left)
-    → list_all is_ascii_digit run ≡ true → IsPlace loose zeros run a × (rest ≡ left)
-run-found loose zeros run rest a left h each =
+run-found : (loose : Bool) (run rest : List ℕ) (a : Option ℕ) (left : List ℕ) → run_place loose run rest ≡ Some (a, left)
+    → list_all is_ascii_digit run ≡ true → IsPlace loose run a × (rest ≡ left)
+run-found loose run rest a left h each =
     let n = digits_value 10 run in
     let fits = nat_le (length run) 257 in
-    elim (cases_Bool (not (is_empty run) && fits && is_spelled loose zeros n run)) [
+    elim (cases_Bool (not (is_empty run) && fits && is_spelled loose run)) [
       | inr other ↦ cc (rw other at h)
       | inl good ↦
-          let parts = and_parts (not (is_empty run) && fits) (is_spelled loose zeros n run) good in
+          let parts = and_parts (not (is_empty run) && fits) (is_spelled loose run) good in
           let some = and_parts (not (is_empty run)) fits parts.0 in
           let short : length run ≤ 257 = grind (arith, nat_tests) in
           let number : IsNumber n run n = grind (arith, nat_tests, common_steps) in
-          let is : IsPlace loose zeros run (Some n) = Text.number run n number parts.1 short in
+          let is : IsPlace loose run (Some n) = Text.number run n number parts.1 short in
           grind (arith, nat_tests, common_steps, same_Some)
     ]
 
-pub place-found : (loose zeros : Bool) (text : List ℕ) (a : Option ℕ) (rest : List ℕ) → place_front loose zeros text ≡ Some (a, rest)
-    → PlaceAt loose zeros text a rest
+pub place-found : (loose : Bool) (text : List ℕ) (a : Option ℕ) (rest : List ℕ) → place_front loose text ≡ Some (a, rest)
+    → PlaceAt loose text a rest
 unfolding place_front
-place-found loose zeros [] a rest h = cc h
-place-found loose zeros (c ∷ text) a rest h = elim (cases_Bool (begins_wildcard (c ∷ text))) [
+place-found loose [] a rest h = cc h
+place-found loose (c ∷ text) a rest h = elim (cases_Bool (begins_wildcard (c ∷ text))) [
   | inl wild ↦
-      let is : IsPlace loose zeros (c ∷ []) None = Text.any c wild in
+      let is : IsPlace loose (c ∷ []) None = Text.any c wild in
       grind (arith, nat_tests, common_steps)
   | inr dark ↦
       let run = take_while is_ascii_digit (c ∷ text) in
       let behind = drop (prefix_len is_ascii_digit (c ∷ text)) (c ∷ text) in
       let whole : c ∷ text ≡ run ++ behind = sym (take-append-drop (prefix_len is_ascii_digit (c ∷ text)) (c ∷ text)) in
-      let f = run-found loose zeros run behind a rest (rw dark at h) (prefix-all is_ascii_digit (c ∷ text)) in
+      let f = run-found loose run behind a rest (rw dark at h) (prefix-all is_ascii_digit (c ∷ text)) in
       record { piece = run; split = whole ∙ ap (λ (t : List ℕ). run ++ t) f.1; is = f.0 }
 ]
 
-pub dotted_place-found : (loose zeros : Bool) (text : List ℕ) (a : Option ℕ) (rest : List ℕ) → dotted_place loose zeros text ≡ Some (a, rest)
-    → (x : List ℕ) × (text ≡ 46 ∷ (x ++ rest)) × IsPlace loose zeros x a
+pub dotted_place-found : (loose : Bool) (text : List ℕ) (a : Option ℕ) (rest : List ℕ) → dotted_place loose text ≡ Some (a, rest)
+    → (x : List ℕ) × (text ≡ 46 ∷ (x ++ rest)) × IsPlace loose x a
 unfolding dotted_place
-dotted_place-found loose zeros text a rest h =
+dotted_place-found loose text a rest h =
     let t = bind_some (after_byte 46 text) _ (a, rest) h in
-    let f = place-found loose zeros t.0 a rest t.2 in
+    let f = place-found loose t.0 a rest t.2 in
     (f.piece, byte-is 46 text t.0 t.1 ∙ ap (λ (l : List ℕ). 46 ∷ l) f.split, f.is)
 
 -- ---- the third place
@@ -119,42 +119,42 @@ digits-many_on (c ∷ digits) rest h = grind (arith, nat_tests, common_steps, an
 no-digit : (b : ℕ) → (b == 120 || b == 88 || b == 42) ≡ true → (is_ascii_digit b ≡ false) × ((b == 46) ≡ false)
 no-digit b h = (grind (arith, nat_tests), grind (arith, nat_tests))
 
-wild-read : (loose zeros : Bool) (b : ℕ) (rest : List ℕ) → (b == 120 || b == 88 || b == 42) ≡ true
-    → place_front loose zeros (b ∷ rest) ≡ Some (None, rest)
+wild-read : (loose : Bool) (b : ℕ) (rest : List ℕ) → (b == 120 || b == 88 || b == 42) ≡ true
+    → place_front loose (b ∷ rest) ≡ Some (None, rest)
 unfolding place_front
-wild-read loose zeros b rest h = rw h refl
+wild-read loose b rest h = rw h refl
 
 -- behind a wildcard anything may stand
-pub wild-patch : (loose zeros : Bool) (b : ℕ) (rest : List ℕ) → (b == 120 || b == 88 || b == 42) ≡ true
-    → dotted_patch loose zeros (46 ∷ b ∷ rest) ≡ Some (None, rest)
+pub wild-patch : (loose : Bool) (b : ℕ) (rest : List ℕ) → (b == 120 || b == 88 || b == 42) ≡ true
+    → dotted_patch loose (46 ∷ b ∷ rest) ≡ Some (None, rest)
 unfolding dotted_patch patch_place
-wild-patch loose zeros b rest h = grind (arith, nat_tests, common_steps, no-digit, and-false, wild-read)
+wild-patch loose b rest h = grind (arith, nat_tests, common_steps, no-digit, and-false, wild-read)
 
-pub patch-read : (loose zeros : Bool) (x rest : List ℕ) (a : Option ℕ) → IsPlace loose zeros x a → Follows loose rest
-    → dotted_patch loose zeros (46 ∷ (x ++ rest)) ≡ Some (a, rest)
+pub patch-read : (loose : Bool) (x rest : List ℕ) (a : Option ℕ) → IsPlace loose x a → Follows loose rest
+    → dotted_patch loose (46 ∷ (x ++ rest)) ≡ Some (a, rest)
 unfolding dotted_patch patch_place
-patch-read loose zeros x rest a (Text.any b h) f = wild-patch loose zeros b rest h
-patch-read loose zeros x rest a (Text.number digits n k spelled short) (inl stop) =
+patch-read loose x rest a (Text.any b h) f = wild-patch loose b rest h
+patch-read loose x rest a (Text.number digits n k spelled short) (inl stop) =
     let len : prefix_len is_ascii_digit (digits ++ rest) ≡ length digits = digits-taken digits rest k.each stop.0 in
     let e : drop (length digits) (digits ++ rest) ≡ rest = drop_at digits rest (length digits) refl in
-    let read = place-read loose zeros digits rest (Some n) (Text.number digits n k spelled short) stop.0 in
+    let read = place-read loose digits rest (Some n) (Text.number digits n k spelled short) stop.0 in
     rw (len, e, stop.1, and-false loose) read
-patch-read loose zeros x rest a (Text.number digits n k spelled short) (inr lone) =
+patch-read loose x rest a (Text.number digits n k spelled short) (inr lone) =
     grind (arith, nat_tests, common_steps, digits-many_on, drop-append-add, take_at, drop_at, some-run)
 
-pub dotted_patch-found : (loose zeros : Bool) (text : List ℕ) (a : Option ℕ) (rest : List ℕ) → dotted_patch loose zeros text ≡ Some (a, rest)
-    → (x : List ℕ) × (text ≡ 46 ∷ (x ++ rest)) × IsPlace loose zeros x a
+pub dotted_patch-found : (loose : Bool) (text : List ℕ) (a : Option ℕ) (rest : List ℕ) → dotted_patch loose text ≡ Some (a, rest)
+    → (x : List ℕ) × (text ≡ 46 ∷ (x ++ rest)) × IsPlace loose x a
 unfolding dotted_patch patch_place
-dotted_patch-found loose zeros text a rest h =
+dotted_patch-found loose text a rest h =
     let b = bind_some (after_byte 46 text) _ (a, rest) h in
     let t = b.0 in
     let n = prefix_len is_ascii_digit t in
     let dotted = λ (l : List ℕ) (e : t ≡ l). byte-is 46 text t b.1 ∙ ap (λ (l : List ℕ). 46 ∷ l) e in
     elim (cases_Bool (loose && begins_byte 46 (drop n t))) [
-      | inr bare ↦ (let f = place-found loose zeros t a rest (rw bare at b.2) in (f.piece, dotted _ f.split, f.is))
+      | inr bare ↦ (let f = place-found loose t a rest (rw bare at b.2) in (f.piece, dotted _ f.split, f.is))
       | inl cut ↦
           let run = take (n - 1) t in
-          let f = run-found loose zeros run (drop (n - 1) t) a rest (rw cut at b.2) (digits-of (n - 1) t (omega arith)) in
+          let f = run-found loose run (drop (n - 1) t) a rest (rw cut at b.2) (digits-of (n - 1) t (omega arith)) in
           (run, dotted _ (sym (take-append-drop (n - 1) t) ∙ ap (λ (l : List ℕ). run ++ l) f.1), f.0)
     ]
 
@@ -181,9 +181,9 @@ quiet-ends (b ∷ more) h = record {
   dot = grind (arith, nat_tests, common_steps);
 }
 
-quiet-dot : (loose zeros : Bool) (more : List ℕ) → begins is_solid more ≡ false → dotted_place loose zeros more ≡ None
+quiet-dot : (loose : Bool) (more : List ℕ) → begins is_solid more ≡ false → dotted_place loose more ≡ None
 unfolding dotted_place
-quiet-dot loose zeros more h = grind (arith, nat_tests, common_steps)
+quiet-dot loose more h = grind (arith, nat_tests, common_steps)
 
 -- ---- what is written is read
 
@@ -197,17 +197,17 @@ unfolding qualified_partial
 qualified-read loose a b c pre build more l m h k t e = grind (arith, nat_tests, common_steps, build-taken, pre-taken)
 
 -- what stands behind a third place that is a number or a wildcard
-third-read : (loose zeros : Bool) (fits : List ℕ → Bool) (z pre build more : List ℕ) (c : Option ℕ) (l m : List Id) → IsPlace loose zeros z c
+third-read : (loose : Bool) (fits : List ℕ → Bool) (z pre build more : List ℕ) (c : Option ℕ) (l m : List Id) → IsPlace loose z c
     → IsPreRelease loose (is_none c) fits pre l → IsStrictBuild build m → Ends more
-    → dotted_patch loose zeros (46 ∷ (z ++ (pre ++ (build ++ more)))) ≡ Some (c, pre ++ (build ++ more))
-third-read loose zeros fits z pre build more None l m (Text.any b w) h k e = wild-patch loose zeros b (pre ++ (build ++ more)) w
-third-read loose zeros fits z pre build more (Some n) l m i h k e =
-    patch-read loose zeros z (pre ++ (build ++ more)) (Some n) i (pre-follows loose fits pre build more l m h k e)
+    → dotted_patch loose (46 ∷ (z ++ (pre ++ (build ++ more)))) ≡ Some (c, pre ++ (build ++ more))
+third-read loose fits z pre build more None l m (Text.any b w) h k e = wild-patch loose b (pre ++ (build ++ more)) w
+third-read loose fits z pre build more (Some n) l m i h k e =
+    patch-read loose z (pre ++ (build ++ more)) (Some n) i (pre-follows loose fits pre build more l m h k e)
 
 pub places-read : (loose : Bool) (x more : List ℕ) (p : Partial) → IsPlaces loose x p → begins is_solid more ≡ false
     → places_front loose (x ++ more) ≡ Some (p, more)
 unfolding places_front dotted_patch
-places-read loose x more p (one x1 a h) quiet = rw (place-read loose false x more a h (quiet-digit more quiet), quiet-dot loose (has_zeros a) more quiet) refl
+places-read loose x more p (one x1 a h) quiet = rw (place-read loose x more a h (quiet-digit more quiet), quiet-dot loose more quiet) refl
 places-read loose x more p (two x1 y a b h k) quiet =
     grind (arith, nat_tests, common_steps, append_assoc, place-read, dotted_place-read, quiet-digit)
 places-read loose x more p (three x1 y z pre build a b c ids builds h k l m n t) quiet =
@@ -252,32 +252,32 @@ pub record PlacesAt (loose : Bool) (text : List ℕ) (p : Partial) (rest : List 
   pub split : text ≡ piece ++ rest
   pub is : IsPlaces loose piece p
 
-third-found : (loose : Bool) (a b : Option ℕ) (x y behind : List ℕ) (o : Front (Option ℕ)) (p : Partial) (rest : List ℕ) → IsPlace loose false x a → IsPlace loose (has_zeros a) y b
-    → dotted_patch loose (has_zeros a) behind ≡ o → third_front loose a b behind o ≡ Some (p, rest) → PlacesAt loose (x ++ (46 ∷ (y ++ behind))) p rest
+third-found : (loose : Bool) (a b : Option ℕ) (x y behind : List ℕ) (o : Front (Option ℕ)) (p : Partial) (rest : List ℕ) → IsPlace loose x a → IsPlace loose y b
+    → dotted_patch loose behind ≡ o → third_front loose a b behind o ≡ Some (p, rest) → PlacesAt loose (x ++ (46 ∷ (y ++ behind))) p rest
 third-found loose a b x y behind None p rest h k e r =
     let is = two x y a b h k in
     let split = append_assoc x (46 ∷ y) behind in
     grind (arith, nat_tests, common_steps)
 third-found loose a b x y behind (Some c) p rest h k e r =
-    let z = dotted_patch-found loose (has_zeros a) behind c.0 c.1 e in
+    let z = dotted_patch-found loose behind c.0 c.1 e in
     let q = qualified-found loose a b c.0 c.1 p rest r in
     let is = three x y z.0 q.pre q.build a b c.0 q.ids q.builds h k z.2 q.pre_is q.build_is q.build_short in
     grind (arith, nat_tests, common_steps, append_assoc)
 
-second-found : (loose : Bool) (a : Option ℕ) (x behind : List ℕ) (o : Front (Option ℕ)) (p : Partial) (rest : List ℕ) → IsPlace loose false x a
-    → dotted_place loose (has_zeros a) behind ≡ o → second_front loose a behind o ≡ Some (p, rest) → PlacesAt loose (x ++ behind) p rest
+second-found : (loose : Bool) (a : Option ℕ) (x behind : List ℕ) (o : Front (Option ℕ)) (p : Partial) (rest : List ℕ) → IsPlace loose x a
+    → dotted_place loose behind ≡ o → second_front loose a behind o ≡ Some (p, rest) → PlacesAt loose (x ++ behind) p rest
 second-found loose a x behind None p rest h e r =
     let is = one x a h in
     grind (arith, nat_tests, common_steps)
 second-found loose a x behind (Some b) p rest h e r =
-    let y = dotted_place-found loose (has_zeros a) behind b.0 b.1 e in
-    rw y.1 (third-found loose a b.0 x y.0 b.1 (dotted_patch loose (has_zeros a) b.1) p rest h y.2 refl r)
+    let y = dotted_place-found loose behind b.0 b.1 e in
+    rw y.1 (third-found loose a b.0 x y.0 b.1 (dotted_patch loose b.1) p rest h y.2 refl r)
 
 pub places-found : (loose : Bool) (text : List ℕ) (p : Partial) (rest : List ℕ) → places_front loose text ≡ Some (p, rest) → PlacesAt loose text p rest
 unfolding places_front
 places-found loose text p rest h =
     let a = bind_some _ _ _ h in
-    let x = place-found _ _ _ _ _ a.1 in
+    let x = place-found _ _ _ _ a.1 in
     rw x.split (second-found _ _ _ _ _ _ _ x.is refl a.2)
 
 pub record PartialAt (loose : Bool) (text : List ℕ) (p : Partial) (rest : List ℕ) : Type 0 where
@@ -306,19 +306,19 @@ abbrev pub some_place : Place → List ℕ → Front Place
 some_place p rest = Some (p, rest)
 
 -- the run at the front, where it is not padded, or read loosely
-spelled-great : (loose zeros : Bool) (text run : List ℕ) → 0 < digits_value 10 run → run ≡ take_while is_ascii_digit text
-    → (not loose && begins_padded text) ≡ false → is_spelled loose zeros (digits_value 10 run) run ≡ true
-spelled-great true zeros text run some is bare = grind (arith, nat_tests, common_steps)
-spelled-great false zeros text run some is bare =
+spelled-great : (loose : Bool) (text run : List ℕ) → run ≡ take_while is_ascii_digit text → (not loose && begins_padded text) ≡ false
+    → is_spelled loose run ≡ true
+spelled-great true text run is bare = or-true (not (has_leading_zero run))
+spelled-great false text run is bare =
     let behind = drop (prefix_len is_ascii_digit text) text in
     let whole : text ≡ run ++ behind = sym (take-append-drop (prefix_len is_ascii_digit text) text) ∙ ap (λ (t : List ℕ). t ++ behind) (sym is) in
     grind (arith, nat_tests, common_steps)
 
 -- a number up to the limit was found
-pub number_placed : (loose zeros : Bool) (text : List ℕ) (n : ℕ) (rest : List ℕ) → strict_number MAX_SAFE_INTEGER text ≡ Some (n, rest)
-    → placed MAX_SAFE_INTEGER (place_front loose zeros text) ≡ Some (number n, rest)
+pub number_placed : (loose : Bool) (text : List ℕ) (n : ℕ) (rest : List ℕ) → strict_number MAX_SAFE_INTEGER text ≡ Some (n, rest)
+    → placed MAX_SAFE_INTEGER (place_front loose text) ≡ Some (number n, rest)
 unfolding strict_number
-number_placed loose zeros text n rest h = elim (cases_Bool (begins_padded text)) [
+number_placed loose text n rest h = elim (cases_Bool (begins_padded text)) [
   | inl padded ↦ cc (rw padded at h)
   | inr bare ↦
       let f = number-found MAX_SAFE_INTEGER text n rest (rw bare at h) in
@@ -326,14 +326,14 @@ number_placed loose zeros text n rest h = elim (cases_Bool (begins_padded text))
       let short = number-short f.run n (record { number = f.is; shortest = shortest }) in
       let same : IsNumber n f.run n = record { some = f.is.some; each = f.is.each; value = f.is.value; safe = omega arith } in
       let few : length f.run ≤ 257 = grind (arith, nat_tests, common_steps) in
-      let place : IsPlace loose zeros f.run (Some n) = Text.number f.run n same (rw shortest refl) few in
+      let place : IsPlace loose f.run (Some n) = Text.number f.run n same (rw shortest refl) few in
       grind (arith, nat_tests, common_steps, place-read)
 ]
 
-pub wildcard_placed : (loose zeros : Bool) (text : List ℕ) → begins_wildcard text ≡ true
-    → placed MAX_SAFE_INTEGER (place_front loose zeros text) ≡ Some (any, drop 1 text)
+pub wildcard_placed : (loose : Bool) (text : List ℕ) → begins_wildcard text ≡ true
+    → placed MAX_SAFE_INTEGER (place_front loose text) ≡ Some (any, drop 1 text)
 unfolding place_front
-wildcard_placed loose zeros text h = rw h refl
+wildcard_placed loose text h = rw h refl
 
 -- a run of digits that is no number up to the limit
 past-limit : (limit : ℕ) (run : List ℕ) → 1 ≤ length run → list_all is_ascii_digit run ≡ true → number_of limit run ≡ None
@@ -341,49 +341,49 @@ past-limit : (limit : ℕ) (run : List ℕ) → 1 ≤ length run → list_all is
 past-limit limit run some each none = grind (arith, nat_tests, common_steps, number-of)
 
 -- what stands where no wildcard does, by the digits at the front
-run-placed : (loose zeros : Bool) (text : List ℕ) → begins_wildcard text ≡ false → place_front loose zeros text
-    ≡ run_place loose zeros (take_while is_ascii_digit text) (drop (prefix_len is_ascii_digit text) text)
+run-placed : (loose : Bool) (text : List ℕ) → begins_wildcard text ≡ false → place_front loose text
+    ≡ run_place loose (take_while is_ascii_digit text) (drop (prefix_len is_ascii_digit text) text)
 unfolding place_front
-run-placed loose zeros text h = rw h refl
+run-placed loose text h = rw h refl
 
-pub none_placed : (loose zeros : Bool) (text : List ℕ) → begins_wildcard text ≡ false → prefix_len is_ascii_digit text ≡ 0
-    → placed MAX_SAFE_INTEGER (place_front loose zeros text) ≡ None
-none_placed loose zeros text h k = rw (run-placed loose zeros text h, k) refl
+pub none_placed : (loose : Bool) (text : List ℕ) → begins_wildcard text ≡ false → prefix_len is_ascii_digit text ≡ 0
+    → placed MAX_SAFE_INTEGER (place_front loose text) ≡ None
+none_placed loose text h k = rw (run-placed loose text h, k) refl
 
-pub long_placed : (loose zeros : Bool) (text : List ℕ) → begins_wildcard text ≡ false → 257 < prefix_len is_ascii_digit text
-    → placed MAX_SAFE_INTEGER (place_front loose zeros text) ≡ None
-long_placed loose zeros text h k = grind (arith, nat_tests, common_steps, length-prefix_len, some-run, run-placed)
+pub long_placed : (loose : Bool) (text : List ℕ) → begins_wildcard text ≡ false → 257 < prefix_len is_ascii_digit text
+    → placed MAX_SAFE_INTEGER (place_front loose text) ≡ None
+long_placed loose text h k = grind (arith, nat_tests, common_steps, length-prefix_len, some-run, run-placed)
 
 -- a run that is not spelled as it has to be
-pub misspelled_placed : (loose zeros : Bool) (text : List ℕ) → begins_wildcard text ≡ false
-    → is_spelled loose zeros (digits_value 10 (take_while is_ascii_digit text)) (take_while is_ascii_digit text) ≡ false
-    → placed MAX_SAFE_INTEGER (place_front loose zeros text) ≡ None
-misspelled_placed loose zeros text h k = grind (arith, nat_tests, common_steps, run-placed, not)
+pub misspelled_placed : (loose : Bool) (text : List ℕ) → begins_wildcard text ≡ false
+    → is_spelled loose (take_while is_ascii_digit text) ≡ false
+    → placed MAX_SAFE_INTEGER (place_front loose text) ≡ None
+misspelled_placed loose text h k = grind (arith, nat_tests, common_steps, run-placed, not)
 
 -- a run of some value
-run-valued : (loose zeros : Bool) (text : List ℕ) → begins_wildcard text ≡ false → 1 ≤ prefix_len is_ascii_digit text
+run-valued : (loose : Bool) (text : List ℕ) → begins_wildcard text ≡ false → 1 ≤ prefix_len is_ascii_digit text
     → prefix_len is_ascii_digit text ≤ 257
-    → is_spelled loose zeros (digits_value 10 (take_while is_ascii_digit text)) (take_while is_ascii_digit text) ≡ true
-    → placed MAX_SAFE_INTEGER (place_front loose zeros text)
+    → is_spelled loose (take_while is_ascii_digit text) ≡ true
+    → placed MAX_SAFE_INTEGER (place_front loose text)
     ≡ some_place (place_of MAX_SAFE_INTEGER (Some (digits_value 10 (take_while is_ascii_digit text)))) (drop (prefix_len is_ascii_digit text) text)
-run-valued loose zeros text dark some short spelled = grind (arith, nat_tests, common_steps, length-prefix_len, some-run, run-placed)
+run-valued loose text dark some short spelled = grind (arith, nat_tests, common_steps, length-prefix_len, some-run, run-placed)
 
 -- a number up to the limit with leading zeros, read loosely
-pub padded_placed : (zeros : Bool) (text : List ℕ) (n : ℕ) (rest : List ℕ) → begins_wildcard text ≡ false
-    → number_front MAX_SAFE_INTEGER text ≡ Some (n, rest) → prefix_len is_ascii_digit text ≤ 257 → (zeros || nat_lt 0 n) ≡ true
-    → placed MAX_SAFE_INTEGER (place_front true zeros text) ≡ Some (number n, rest)
-padded_placed zeros text n rest dark h short some =
+pub padded_placed : (text : List ℕ) (n : ℕ) (rest : List ℕ) → begins_wildcard text ≡ false
+    → number_front MAX_SAFE_INTEGER text ≡ Some (n, rest) → prefix_len is_ascii_digit text ≤ 257
+    → placed MAX_SAFE_INTEGER (place_front true text) ≡ Some (number n, rest)
+padded_placed text n rest dark h short =
     let f = number-found MAX_SAFE_INTEGER text n rest h in
     let size : prefix_len is_ascii_digit text ≡ length f.run =
     ap (λ (t : List ℕ). prefix_len is_ascii_digit t) f.split ∙ digits-taken f.run rest f.is.each f.ended in
     let same : IsNumber n f.run n = record { some = f.is.some; each = f.is.each; value = f.is.value; safe = omega arith } in
-    let place : IsPlace true zeros f.run (Some n) = Text.number f.run n same (rw some (or-true (not (has_leading_zero f.run)))) (omega (arith, size, short)) in
+    let place : IsPlace true f.run (Some n) = Text.number f.run n same (or-true (not (has_leading_zero f.run))) (omega (arith, size, short)) in
     grind (arith, nat_tests, common_steps, place-read)
 
-pub great_placed : (loose zeros : Bool) (text : List ℕ) (at : ℕ) → number_front MAX_SAFE_INTEGER text ≡ None → begins_wildcard text ≡ false
+pub great_placed : (loose : Bool) (text : List ℕ) (at : ℕ) → number_front MAX_SAFE_INTEGER text ≡ None → begins_wildcard text ≡ false
     → (not loose && begins_padded text) ≡ false → at ≡ prefix_len is_ascii_digit text → 1 ≤ at → at ≤ 257
-    → placed MAX_SAFE_INTEGER (place_front loose zeros text) ≡ some_place great (take (length text - at) (drop at text))
-great_placed loose zeros text at front dark bare is first last =
+    → placed MAX_SAFE_INTEGER (place_front loose text) ≡ some_place great (take (length text - at) (drop at text))
+great_placed loose text at front dark bare is first last =
     grind (arith, nat_tests, common_steps, length-prefix_len, prefix-all, past-limit, spelled-great, run-valued, take_rest)
 
 -- ---- leading zeros
@@ -392,24 +392,10 @@ run-leading : (text : List ℕ) → has_leading_zero (take_while is_ascii_digit 
 run-leading text = grind (arith, nat_tests, common_steps)
 
 -- strictly there are none
-pub strict_leading_placed : (loose zeros : Bool) (text : List ℕ) → begins_wildcard text ≡ false → begins_padded text ≡ true → loose ≡ false
-    → placed MAX_SAFE_INTEGER (place_front loose zeros text) ≡ None
-strict_leading_placed true zeros text dark padded e = cc e
-strict_leading_placed false zeros text dark padded e = misspelled_placed false zeros text dark (rw (run-leading text, padded) refl)
-
-number-value : (limit : ℕ) (run : List ℕ) (n : ℕ) → number_of limit run ≡ Some n → digits_value 10 run ≡ n
-unfolding number_of
-number-value limit run n h = grind (arith, nat_tests, common_steps)
-
--- zero has none
-pub zero_placed : (zeros : Bool) (text : List ℕ) (rest : List ℕ) → zeros ≡ false → begins_wildcard text ≡ false → begins_padded text ≡ true
-    → number_front MAX_SAFE_INTEGER text ≡ Some (0, rest) → placed MAX_SAFE_INTEGER (place_front true zeros text) ≡ None
-zero_placed zeros text rest none dark padded h =
-    let run = take_while is_ascii_digit text in
-    let behind = drop (prefix_len is_ascii_digit text) text in
-    let f = bind_some (number_of MAX_SAFE_INTEGER run) (λ n. Some (n, behind)) (0, rest) h in
-    let value : digits_value 10 run ≡ 0 = number-value MAX_SAFE_INTEGER run f.0 f.1 ∙ ap (λ (q : ℕ × List ℕ). q.0) (same_Some _ _ f.2) in
-    misspelled_placed true zeros text dark (rw (run-leading text, padded, value, none) refl)
+pub strict_leading_placed : (loose : Bool) (text : List ℕ) → begins_wildcard text ≡ false → begins_padded text ≡ true → loose ≡ false
+    → placed MAX_SAFE_INTEGER (place_front loose text) ≡ None
+strict_leading_placed true text dark padded e = cc e
+strict_leading_placed false text dark padded e = misspelled_placed false text dark (rw (run-leading text, padded) refl)
 
 pub unpadded_front : (text : List ℕ) → begins_padded text ≡ false → strict_number MAX_SAFE_INTEGER text ≡ None
     → number_front MAX_SAFE_INTEGER text ≡ None
@@ -420,35 +406,35 @@ pub ruleset places_found = (number_placed, wildcard_placed)
 
 pub ruleset no_places = (none_placed, long_placed)
 
-pub ruleset padded_places = (strict_leading_placed, long_placed, zero_placed, padded_placed, unpadded_front)
+pub ruleset padded_places = (strict_leading_placed, long_placed, padded_placed, unpadded_front)
 
 -- ---- the third place
 
-pub patch_whole : (loose zeros : Bool) (text : List ℕ) (at : ℕ) → at ≡ prefix_len is_ascii_digit text
+pub patch_whole : (loose : Bool) (text : List ℕ) (at : ℕ) → at ≡ prefix_len is_ascii_digit text
     → (loose && begins_byte 46 (drop at text)) ≡ false
-    → placed MAX_SAFE_INTEGER (place_front loose zeros text) ≡ placed MAX_SAFE_INTEGER (patch_place loose zeros text)
+    → placed MAX_SAFE_INTEGER (place_front loose text) ≡ placed MAX_SAFE_INTEGER (patch_place loose text)
 unfolding patch_place
-patch_whole loose zeros text at e h = rw (rw e at h) refl
+patch_whole loose text at e h = rw (rw e at h) refl
 
-run-alone : (loose zeros : Bool) (run : List ℕ) → list_all is_ascii_digit run ≡ true → place_front loose zeros run ≡ run_place loose zeros run []
+run-alone : (loose : Bool) (run : List ℕ) → list_all is_ascii_digit run ≡ true → place_front loose run ≡ run_place loose run []
 unfolding place_front
-run-alone loose zeros [] h = refl
-run-alone loose zeros (c ∷ run) h =
-    subst (λ (t : List ℕ). place_front loose zeros t ≡ run_place loose zeros (c ∷ run) []) (append-nil (c ∷ run))
+run-alone loose [] h = refl
+run-alone loose (c ∷ run) h =
+    subst (λ (t : List ℕ). place_front loose t ≡ run_place loose (c ∷ run) []) (append-nil (c ∷ run))
     (grind (arith, nat_tests, common_steps, number-no_wildcard, digits-taken, take_at, drop_at))
 
-run-behind : (limit : ℕ) (loose zeros : Bool) (run rest : List ℕ) → placed limit (run_place loose zeros run rest)
-    ≡ (placed limit (run_place loose zeros run []) >>? λ p. Some (p.0, rest))
-run-behind limit loose zeros run rest = elim (cases_Bool (not (is_empty run) && nat_le (length run) 257
-    && is_spelled loose zeros (digits_value 10 run) run)) [ inl good ↦ rw good refl | inr other ↦ rw other refl ]
+run-behind : (limit : ℕ) (loose : Bool) (run rest : List ℕ) → placed limit (run_place loose run rest)
+    ≡ (placed limit (run_place loose run []) >>? λ p. Some (p.0, rest))
+run-behind limit loose run rest = elim (cases_Bool (not (is_empty run) && nat_le (length run) 257
+    && is_spelled loose run)) [ inl good ↦ rw good refl | inr other ↦ rw other refl ]
 
 -- the last digit is not its own
-pub patch_cut : (loose zeros : Bool) (text : List ℕ) (at own : ℕ) (o : Front Place) → at ≡ prefix_len is_ascii_digit text
+pub patch_cut : (loose : Bool) (text : List ℕ) (at own : ℕ) (o : Front Place) → at ≡ prefix_len is_ascii_digit text
     → (loose && begins_byte 46 (drop at text)) ≡ true → own ≡ at - 1
-    → o ≡ placed MAX_SAFE_INTEGER (place_front loose zeros (take own text))
-    → (o >>? λ p. Some (p.0, take (length text - own) (drop own text))) ≡ placed MAX_SAFE_INTEGER (patch_place loose zeros text)
+    → o ≡ placed MAX_SAFE_INTEGER (place_front loose (take own text))
+    → (o >>? λ p. Some (p.0, take (length text - own) (drop own text))) ≡ placed MAX_SAFE_INTEGER (patch_place loose text)
 unfolding patch_place
-patch_cut loose zeros text at own o e h less is = grind (arith, nat_tests, common_steps, digits-of, run-alone, take_rest, run-behind)
+patch_cut loose text at own o e h less is = grind (arith, nat_tests, common_steps, digits-of, run-alone, take_rest, run-behind)
 
 -- ---- partial versions
 

@@ -108,6 +108,13 @@ pub table-invalid : (limit : ℕ) (include : Bool) (s : Sign) (p : Partial) (tex
 unfolding three
 table-invalid limit include s p text h = grind (arith, one-three, next-three)
 
+pub table-past : (include : Bool) (s : Sign) (p : Partial) (text : List ℕ) (n : Numbers) → n ≡ first p → within n ≡ false
+    → list_all (is_valid MAX_SAFE_INTEGER) (table include s p text) ≡ false
+table-past include s p text n e h = table-invalid MAX_SAFE_INTEGER include s p text (past p (rw e at h))
+  where
+    past : (p : Partial) → within (first p) ≡ false → is_small MAX_SAFE_INTEGER p ≡ false
+    past p h = grind (arith, nat_tests, common_steps)
+
 -- ---- the ends of a hyphen range
 
 pub lower-invalid : (limit : ℕ) (c : Comparator) (include : Bool) (p : Partial) (text : List ℕ) → is_small limit p ≡ false

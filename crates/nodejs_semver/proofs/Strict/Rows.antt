@@ -13,8 +13,10 @@ use Rattle.nodejs_semver.proofs.NpmCommon.{bounds_view, bytes_eq, caret_from, co
 use Rattle.nodejs_semver.proofs.NpmCommon.{first, from, hyphen_lower, hyphen_upper, is_valid, is_zero, made, nat_le, next_changed}
 use Rattle.nodejs_semver.proofs.{NpmCommon.{npm_partial_view, satisfies, under, version_text, whole, within}, Strict.Printed.from_valid}
 use Rattle.nodejs_semver.proofs.{Strict.Printed.{prints_zero, under_valid}, Values.{past-after, past-before}}
-use Rattle.nodejs_semver.specs.Internal.{NpmAlternatives.met, NpmMeaning.{is_open, is_part}, NpmParts.{has_no_comparators, is_wildcard}}
-use Rattle.nodejs_semver.specs.Npm.{Ranges.names, Table.{Partial, Sign, caret, lowest, next, no_build, table, tilde}}
+use Rattle.nodejs_semver.specs.Internal.{NpmAlternatives.met, NpmMeaning.{is_open, is_part}, NpmParts.{AreZeros, has_no_comparators, is_padded}}
+use Rattle.nodejs_semver.specs.{Internal.NpmParts.{is_wildcard, noted}, Npm.{Ranges.names, Table.{Partial, Sign, caret, lowest, next, no_build}}}
+use Rattle.nodejs_semver.specs.Npm.Table.{major, minor, table, tilde, written_zeros}
+use Rattle.nodejs_semver.proofs.{Common.{cases_Bool, inl, inr, nat_lt, subst, ℕ}, NpmCommon.bytes_eq-Decides}
 use Rattle.semver_core.{proofs.CutLaws.{is_past-greater_lower, is_past-lesser_upper}, specs.Values.Versions.IsVersion}
 use Rattle.nodejs_semver.specs.Text.Table as Spans
 use Rattle.nodejs_semver.specs.declared.npm.partial.Partial as Declared
@@ -178,18 +180,49 @@ pub whole_readable : (v : VersionValue) → within (first (whole v)) ≡ true �
     → is_readable MAX_SAFE_INTEGER v ≡ true
 whole_readable v h k = grind arith
 
-pub from_included : (include : Bool) (v : VersionValue) → include ≡ true → within (first (whole v)) ≡ true → are_normal (whole v) ≡ true
-    → IsCommon include (made at_least (no_build v) ∷ []) (Spans.>= v)
-from_included include v h w n = one_common include at_least v [] _ (whole_readable v w n) (rw h refl)
+-- `>=` of a version, whose numbers may be written otherwise
+module _ (include padded : Bool) (v : VersionValue) where
+  abbrev low : Comparison
+  low = made at_least (no_build v)
 
-pub from_some : (include : Bool) (v : VersionValue) → IsVersion v → is_zero (no_build v) ≡ false → within (first (whole v)) ≡ true
-    → are_normal (whole v) ≡ true → IsCommon include (made at_least (no_build v) ∷ []) (Spans.>= v)
-from_some include v h e w n =
-    one_common include at_least v [] _ (whole_readable v w n) (ap (λ z. include || not z) (zero_of v h ∙ e) ∙ either_true include)
+  abbrev Reads : Span VersionValue → Comparison → Type 0
+  Reads s c = IsCommon include (c ∷ []) s
 
-pub from_none : (include : Bool) (v : VersionValue) → include ≡ false → IsVersion v → is_zero (no_build v) ≡ true
-    → IsCommon include (made at_least (no_build v) ∷ []) everything
-from_none include v i h e = uncounted_common include _ (rw i (ap not (zero_of v h ∙ e)))
+  pub from_none : include ≡ false → padded ≡ false → IsVersion v → is_zero (no_build v) ≡ true → Reads everything (noted padded low)
+  from_none i p h e = subst (Reads everything) (sym (ap (λ b. noted b low) p)) (uncounted_common include low (rw i (ap not (zero_of v h ∙ e))))
+
+  module _ (w : within (first (whole v)) ≡ true) (n : are_normal (whole v) ≡ true) where
+    reads : (text : List ℕ) → counts include (comparison at_least v [] text) ≡ true → Reads (Spans.>= v) (comparison at_least v [] text)
+    reads text h = one_common include at_least v [] text (whole_readable v w n) h
+
+    pub from_included : include ≡ true → Reads (Spans.>= v) (noted padded low)
+    from_included i =
+        cond_both (padded && bytes_eq low.text (codes "0.0.0")) (record low { text = codes "00.0.0" }) low (Reads (Spans.>= v))
+        (λ _. reads (codes "00.0.0") (rw i refl)) (λ _. reads low.text (rw i refl))
+
+    pub from_padded : padded ≡ true → Reads (Spans.>= v) (noted padded low)
+    from_padded p = elim (cases_Bool (bytes_eq low.text (codes "0.0.0"))) [
+      | inl z ↦ subst (Reads (Spans.>= v)) (sym (ap (λ b. noted b low) p ∙ rw z refl)) (reads (codes "00.0.0") (either_true include))
+      | inr z ↦ subst (Reads (Spans.>= v)) (sym (ap (λ b. noted b low) p ∙ rw z refl))
+          (reads low.text (ap (λ b. include || not b) z ∙ either_true include))
+    ]
+
+    pub from_some : padded ≡ false → IsVersion v → is_zero (no_build v) ≡ false → Reads (Spans.>= v) (noted padded low)
+    from_some p h e = subst (Reads (Spans.>= v)) (sym (ap (λ b. noted b low) p))
+        (reads low.text (ap (λ z. include || not z) (zero_of v h ∙ e) ∙ either_true include))
+
+pub from_lowest : (include padded : Bool) (n : Numbers) → include ≡ true → within n ≡ true
+    → IsCommon include (noted padded (from include n) ∷ []) (Spans.>= (lowest n))
+from_lowest include padded n i w = rw i (from_included true padded (lowest n) w refl refl)
+
+pub noted_valid : (padded : Bool) (c : Comparison) → is_valid MAX_SAFE_INTEGER (noted padded c) ≡ is_valid MAX_SAFE_INTEGER c
+noted_valid padded c = elim (cases_Bool (padded && bytes_eq c.text (codes "0.0.0"))) [
+  | inr e ↦ rw e refl
+  | inl e ↦
+      let same : c.text ≡ codes "0.0.0" = (bytes_eq-Decides c.text (codes "0.0.0")).0 (and_parts padded _ e).1 in
+      rw e (ap (λ b. nat_le c.version.major MAX_SAFE_INTEGER && nat_le c.version.minor MAX_SAFE_INTEGER && nat_le c.version.patch MAX_SAFE_INTEGER && b)
+      (sym (ap (λ (t : List ℕ). nat_le (length t) MAX_LENGTH) same)))
+]
 
 pub under_common : (include : Bool) (n : Numbers) → within n ≡ true → IsCommon include (under n ∷ []) (Spans.< (lowest n))
 under_common include n w = one_common include below (lowest n) [] _ (whole_readable (lowest n) w refl) (either_true include)
@@ -214,18 +247,35 @@ under_read include n s h e = (rw (under_valid n, h) refl, rw e (under_common inc
 
 -- ---- the rows of a partial of one number or two
 
-module _ (include : Bool) (text : List ℕ) (a b : Numbers) (r : Option Bounds) where
-  pub part_equal : (p : Partial) (d : DeclaredComparator.Comparator) → d ≡ Comparators.Equal → is_part p ≡ true → a ≡ first p → b ≡ next p
-      → AreRead include (from include a ∷ (under b ∷ [])) r → AreRead include (table include (compared (comparator_view d)) p text) r
-  part_equal p d g i e f h = grind arith
+pub part_known : (p : Partial) → is_part p ≡ true → is_wildcard p ≡ false
+part_known p i = grind arith
 
-  pub part_caret : (p : Partial) → is_part p ≡ true → a ≡ first p → b ≡ next_changed p
-      → AreRead include (from include a ∷ (under b ∷ [])) r → AreRead include (table include caret p text) r
-  part_caret p i e f h = grind arith
+module _ (include padded : Bool) (text : List ℕ) (a b : Numbers) (r : Option Bounds) where
+  pub part_equal : (p : Partial) (d : DeclaredComparator.Comparator) → d ≡ Comparators.Equal → is_part p ≡ true
+      → padded ≡ is_padded (written_zeros text) p → a ≡ first p → b ≡ next p
+      → AreRead include (noted padded (from include a) ∷ (under b ∷ [])) r → AreRead include (table include (compared (comparator_view d)) p text) r
+  part_equal (major M) d g i k e f h = rw g (rw (k, e, f) at h)
+  part_equal (minor M m) d g i k e f h = rw g (rw (k, e, f) at h)
+  part_equal p d g i k e f h = cc i
 
-  pub part_tilde : (p : Partial) → is_part p ≡ true → a ≡ first p → b ≡ next p
-      → AreRead include (from false a ∷ (under b ∷ [])) r → AreRead include (table include tilde p text) r
-  part_tilde p i e f h = grind arith
+  pub part_at_least : (p : Partial) (d : DeclaredComparator.Comparator) → d ≡ Comparators.AtLeast → is_part p ≡ true
+      → padded ≡ is_padded (written_zeros text) p → a ≡ first p
+      → AreRead include (noted padded (from include a) ∷ []) r → AreRead include (table include (compared (comparator_view d)) p text) r
+  part_at_least (major M) d g i k e h = rw g (rw (k, e) at h)
+  part_at_least (minor M m) d g i k e h = rw g (rw (k, e) at h)
+  part_at_least p d g i k e h = cc i
+
+  pub part_caret : (z : ℕ) (p : Partial) → is_part p ≡ true → z ≡ written_zeros text → padded ≡ is_padded z p → a ≡ first p → b ≡ next_changed z p
+      → AreRead include (noted padded (from include a) ∷ (under b ∷ [])) r → AreRead include (table include caret p text) r
+  part_caret z (major M) i l k e f h = rw (k, e, f, l) at h
+  part_caret z (minor M m) i l k e f h = rw (k, e, f, l) at h
+  part_caret z p i l k e f h = cc i
+
+  pub part_tilde : (p : Partial) → is_part p ≡ true → padded ≡ is_padded (written_zeros text) p → a ≡ first p → b ≡ next p
+      → AreRead include (noted padded (from false a) ∷ (under b ∷ [])) r → AreRead include (table include tilde p text) r
+  part_tilde (major M) i k e f h = rw (k, e, f) at h
+  part_tilde (minor M m) i k e f h = rw (k, e, f) at h
+  part_tilde p i k e f h = cc i
 
 module _ (include : Bool) (text : List ℕ) (a : Numbers) (r : Option Bounds) where
   pub part_below : (p : Partial) (d : DeclaredComparator.Comparator) → d ≡ Comparators.Below → is_part p ≡ true → a ≡ first p
@@ -262,17 +312,23 @@ pub whole_written : (include : Bool) (d : DeclaredComparator.Comparator) (c : Co
 whole_written include d c v text s e w n l is k =
     whole_read include d c v text s e w l (rw is (one_common include c v v.build text (whole_readable v w n) (k ∙ either_true include)))
 
-pub caret_valid : (include : Bool) (v : VersionValue) → within (first (whole v)) ≡ true
-    → nat_le (length (version_text (no_build v))) MAX_LENGTH ≡ true → is_valid MAX_SAFE_INTEGER (caret_from include v) ≡ true
-caret_valid include v w l =
-    cond_both (include && (is_release v && (v.major == 0))) (from true (first (whole v))) (made at_least (no_build v))
-    (λ c. is_valid MAX_SAFE_INTEGER c ≡ true) (λ _. from_valid true (first (whole v)) ∙ w) (λ _. rw (w, l) refl)
+pub caret_valid : (include : Bool) (z : ℕ) (v : VersionValue) → within (first (whole v)) ≡ true
+    → nat_le (length (version_text (no_build v))) MAX_LENGTH ≡ true → is_valid MAX_SAFE_INTEGER (caret_from include z v) ≡ true
+caret_valid include z v w l =
+    cond_both (include && (is_release v && nat_lt 0 z)) (from true (first (whole v))) (noted (is_padded z (whole v)) (made at_least (no_build v)))
+    (λ c. is_valid MAX_SAFE_INTEGER c ≡ true) (λ _. from_valid true (first (whole v)) ∙ w)
+    (λ _. noted_valid (is_padded z (whole v)) (made at_least (no_build v)) ∙ rw (w, l) refl)
 
-module _ (include : Bool) (text : List ℕ) (p : Declared.Partial) (v : VersionValue) (n : Numbers) (r : Option Bounds) (e : p ≡ Partials.Whole v) where
-  pub whole_caret : n ≡ next_changed (npm_partial_view p) → AreRead include (caret_from include v ∷ (under n ∷ [])) r
-      → AreRead include (table include caret (npm_partial_view p) text) r
-  whole_caret f h =
-      let g : n ≡ next_changed (whole v) = f ∙ ap (λ q. next_changed (npm_partial_view q)) e in rw e (rw g at h)
+module _ (include : Bool) (z : ℕ) (text : List ℕ) (p : Declared.Partial) (v : VersionValue) (n : Numbers) (r : Option Bounds) (e : p ≡ Partials.Whole v) where
+  pub whole_caret : n ≡ next_changed z (npm_partial_view p) → AreZeros (npm_partial_view p) z text
+      → AreRead include (caret_from include z v ∷ (under n ∷ [])) r → AreRead include (table include caret (npm_partial_view p) text) r
+  whole_caret f k h =
+      let g : n ≡ next_changed z (whole v) = f ∙ ap (λ q. next_changed z (npm_partial_view q)) e in
+      let l : z ≡ written_zeros text = (rw e at k) refl in
+      rw e (rw (g, l) at h)
+
+  pub whole_padded : (padded : Bool) → padded ≡ is_padded z (npm_partial_view p) → padded ≡ is_padded z (whole v)
+  whole_padded padded k = rw e at k
 
 pub within_whole : (p : Declared.Partial) (v : VersionValue) → p ≡ Partials.Whole v → within (first (npm_partial_view p)) ≡ true
     → within (first (whole v)) ≡ true

@@ -1,13 +1,16 @@
 -- The signs of node-semver's words, with the whitespace behind them: what is read is written, and what is written is read.
-use Rattle.nodejs_semver.proofs.Common.{Bool, Comparator, IsBlank, IsUtf8, List, [], above, and_parts, ap, append_assoc, arith, below, cases_Bool}
-use Rattle.nodejs_semver.proofs.Common.{common_steps, drop, drop_spaces, drop_spaces-blank, drop_spaces-none, encode_utf8_all, eqb-true, equal, false}
-use Rattle.nodejs_semver.proofs.Common.{if◌then◌else◌, inl, inr, is_empty, is_whitespace, len_utf8_bounds, length, list_all, nat_lt, nat_tests, refl}
-use Rattle.nodejs_semver.proofs.{Common.{space_len, subst, true, ℕ, ◌&&◌, ◌++◌, ◌<◌, ◌==◌, ◌||◌, ◌∙◌, ◌∷◌, ◌≡◌, ◌⊎◌}, NpmCommon.IsSignText}
-use Rattle.nodejs_semver.proofs.NpmCommon.{are_marks, at_least, begins_byte, caret_equal, compared, is_mark, late_above, late_below, no_sign}
-use Rattle.nodejs_semver.proofs.NpmCommon.{npm_sign, or_late, sign, skip_equal, skip_greater, skip_tilde, space_len-white, spelling, tilde_twice}
-use Rattle.nodejs_semver.proofs.Reading.{Bytes.{begins_component, is_solid, solid-dark}, PartialLaw.byte-begins, WordLaw.{skips-is, skips-utf8}}
-use Rattle.nodejs_semver.{proofs.Reading.WordLaw.tail-utf8, specs.{Internal.NpmWords.skip_twice, Npm.{RangeText.tilde_sign, Table.{Partial, Sign}}}}
-use Rattle.nodejs_semver.specs.Npm.Table.{caret, table, tilde}
+use Rattle.nodejs_semver.proofs.Common.{Bool, Comparator, IsBlank, IsUtf8, List, [], above, and_parts, ap, append_assoc, arith, at_most}
+use Rattle.nodejs_semver.proofs.Common.{below, cases_Bool, common_steps, drop, drop_spaces, drop_spaces-blank, drop_spaces-none}
+use Rattle.nodejs_semver.proofs.Common.{encode_utf8_all, eqb-true, equal, false, if◌then◌else◌, inl, inr, is_empty, is_whitespace}
+use Rattle.nodejs_semver.proofs.Common.{len_utf8_bounds, length, list_all, nat_lt, nat_tests, refl, space_len, subst, true, ℕ, ◌&&◌}
+use Rattle.nodejs_semver.proofs.{Common.{◌++◌, ◌<◌, ◌==◌, ◌||◌, ◌∙◌, ◌∷◌, ◌≡◌, ◌⊎◌}, NpmCommon.{IsSignText, are_marks, at_least}}
+use Rattle.nodejs_semver.proofs.NpmCommon.{begins_byte, caret_equal, compared, is_mark, late_above, late_below, no_sign}
+use Rattle.nodejs_semver.proofs.NpmCommon.{npm_sign, or_late, sign, skip_equal, skip_greater, skip_tilde, space_len-white, spelling}
+use Rattle.nodejs_semver.proofs.{NpmCommon.tilde_twice, Reading.{Bytes.{begins_component, is_solid, solid-dark}, PartialLaw.byte-begins}}
+use Rattle.nodejs_semver.{proofs.Reading.WordLaw.{skips-is, skips-utf8, tail-utf8}, specs.Internal.NpmWords.skip_twice}
+use Rattle.nodejs_semver.specs.Npm.{RangeText.tilde_sign, Table.{Partial, Sign, caret, major, minor, table, tilde, whole, wildcard}}
+use Rattle.nodejs_semver.specs.Npm.Table.{written_zeros}
+use Rattle.nodejs_semver.proofs.{Common.{all_weaker, is_ascii_digit, not, sym}, Strict.Zeros.zeros-marked}
 
 -- ---- whitespace
 
@@ -19,7 +22,9 @@ pub record BlankAt (text : List ℕ) : Type 0 where
   pub utf8 : IsUtf8 (drop_spaces text)
 
 pub blank-at : (text : List ℕ) → IsUtf8 text → BlankAt text
-blank-at text u = let s = skips-is text u in record { blank = s.0; is = s.2; split = s.1; utf8 = skips-utf8 text (drop_spaces text) s u }
+blank-at text u =
+    let s = skips-is text u in
+    record { blank = s.0; is = s.2; split = s.1; utf8 = skips-utf8 text (drop_spaces text) s u }
 
 pub blank-nil : IsBlank []
 blank-nil = record { characters = []; each = refl; spelled = refl }
@@ -43,20 +48,23 @@ equal-found b x text s blank u bare more = elim (cases_Bool (begins_byte 61 text
   | inl mark ↦
       let e = byte-begins 61 text mark in
       let y = blank-at (drop 1 text) (tail-utf8 61 (drop 1 text) (omega arith) (subst (λ (t : List ℕ). IsUtf8 t) e u)) in
-      let is = more y.blank y.is in grind (arith, nat_tests, common_steps, append_assoc)
+      let is = more y.blank y.is in
+      grind (arith, nat_tests, common_steps, append_assoc)
 ]
 
 -- `>` or `<`, behind which `=` may stand, also late
-late-found : (b : ℕ) (one two : Comparator) (text : List ℕ) → IsUtf8 text → ((x : List ℕ) → IsBlank x → IsSignText (b ∷ x) (compared one))
-    → ((x : List ℕ) → IsBlank x → IsSignText (b ∷ (61 ∷ x)) (compared two))
-    → ((x : List ℕ) → IsBlank x → IsSignText (b ∷ (x ++ 61 ∷ [])) (compared two)) → SignRead (b ∷ text) (or_late one two text (drop_spaces text))
+late-found : (b : ℕ) (one two : Comparator) (text : List ℕ) → IsUtf8 text
+    → ((x : List ℕ) → IsBlank x → IsSignText (b ∷ x) (compared one)) → ((x : List ℕ) → IsBlank x → IsSignText (b ∷ (61 ∷ x)) (compared two))
+    → ((x : List ℕ) → IsBlank x → IsSignText (b ∷ (x ++ 61 ∷ [])) (compared two))
+    → SignRead (b ∷ text) (or_late one two text (drop_spaces text))
 late-found b one two text u is_one is_two is_late =
     let x = blank-at text u in
     elim (cases_Bool (begins_byte 61 text)) [
       | inl mark ↦
           let e = byte-begins 61 text mark in
           let y = blank-at (drop 1 text) (tail-utf8 61 (drop 1 text) (omega arith) (subst (λ (t : List ℕ). IsUtf8 t) e u)) in
-          let is = is_two y.blank y.is in grind (arith, nat_tests, common_steps)
+          let is = is_two y.blank y.is in
+          grind (arith, nat_tests, common_steps)
       | inr other ↦ elim (cases_Bool (begins_byte 61 (drop_spaces text))) [
         | inl mark ↦
             let rest = drop_spaces text in
@@ -95,7 +103,8 @@ tilde-greater : (x text : List ℕ) → IsBlank x → IsUtf8 text → SignAt (12
 tilde-greater x text blank u =
     let g = greater-found text u in
     let which = elim g.either as (λ _. (g.sign_is ≡ above) ⊎ (g.sign_is ≡ at_least) ⊎ (g.sign_is ≡ equal)) [ inl e ↦ inl e | inr e ↦ inr (inl e) ] in
-    let is = tilde_sign g.sign_is x g.blank blank g.is which in grind (arith, nat_tests, common_steps, append_assoc)
+    let is = tilde_sign g.sign_is x g.blank blank g.is which in
+    grind (arith, nat_tests, common_steps, append_assoc)
 
 some-blank : (text x rest : List ℕ) → nat_lt 0 (space_len text) ≡ true → text ≡ x ++ (62 ∷ rest) → 0 < length x
 unfolding space_len
@@ -167,7 +176,9 @@ sign-found (b ∷ rest) u =
     (on-byte _ _ _ _ _ (omega arith) u (λ v. caret-found _ v)
     (on-byte _ _ _ _ _ (omega arith) u (λ v. tilde-found _ v) (record { signs = []; split = refl; is = no_sign; utf8 = u })))))
 
--- ---- whitespace before marks and a partial: what is written is read, or means the same
+-- ---- the signs of node-semver's words before marks and a partial version: what is written is read, or means the same
+
+-- ---- whitespace before marks and a partial
 
 -- the text is empty, or whitespace stands at the front of it, whatever follows
 pub blank-cases : (x : List ℕ) → IsBlank x → (x ≡ []) ⊎ ((rest : List ℕ) → 0 < space_len (x ++ rest))
@@ -241,11 +252,42 @@ pub record SignTaken (loose : Bool) (s : Sign) (p : Partial) (marks x : List ℕ
   pub marked : are_marks loose r.0 p left ≡ true
   pub same : (include : Bool) → table include r.0 p (left ++ x) ≡ table include s p (marks ++ x)
 
-caret-taken : (loose : Bool) (p : Partial) (marks x text u : List ℕ) → MarksLeft text u → SignTaken loose caret p marks x (caret, text) u
-caret-taken loose p marks x text u l = grind (arith, nat_tests, common_steps)
+-- marks are no digits, so that with other ones as many numbers are written `0`
+zeros-other : (left marks x : List ℕ) → list_all is_mark left ≡ true → list_all is_mark marks ≡ true
+    → written_zeros (left ++ x) ≡ written_zeros (marks ++ x)
+zeros-other left marks x h k = none left h ∙ sym (none marks k)
+  where
+    none : (m : List ℕ) → list_all is_mark m ≡ true → written_zeros (m ++ x) ≡ written_zeros x
+    none m h = zeros-marked m x (all_weaker is_mark (λ b. not (is_ascii_digit b)) (λ b k. grind (arith, nat_tests)) m h)
 
-tilde-taken : (loose : Bool) (p : Partial) (marks x text u : List ℕ) → MarksLeft text u → SignTaken loose tilde p marks x (tilde, text) u
-tilde-taken loose p marks x text u l = grind (arith, nat_tests, common_steps)
+free-marks : (loose : Bool) (s : Sign) (p : Partial) (marks : List ℕ) → (s ≡ caret) ⊎ (s ≡ tilde) → list_all is_mark marks ≡ true
+    → are_marks loose s p marks ≡ true
+free-marks loose s p marks e h = grind (arith, nat_tests, common_steps)
+
+same-row : (include : Bool) (s : Sign) (p : Partial) (t u : List ℕ) → (s ≡ caret) ⊎ (s ≡ tilde) → written_zeros t ≡ written_zeros u
+    → table include s p t ≡ table include s p u
+same-row include s wildcard t u i e = elim i [ inl c ↦ rw c refl | inr c ↦ rw c refl ]
+same-row include s (major M) t u i e = elim i [ inl c ↦ rw (c, e) refl | inr c ↦ rw (c, e) refl ]
+same-row include s (minor M m) t u i e = elim i [ inl c ↦ rw (c, e) refl | inr c ↦ rw (c, e) refl ]
+same-row include s (whole v) t u i e = elim i [ inl c ↦ rw (c, e) refl | inr c ↦ rw (c, e) refl ]
+
+caret-taken : (loose : Bool) (p : Partial) (marks x text u : List ℕ) → list_all is_mark marks ≡ true → MarksLeft text u
+    → SignTaken loose caret p marks x (caret, text) u
+caret-taken loose p marks x text u h l = record {
+  left = l.left;
+  is = l.is;
+  marked = free-marks loose caret p l.left (inl refl) l.each;
+  same = λ include. same-row include caret p (l.left ++ x) (marks ++ x) (inl refl) (zeros-other l.left marks x l.each h);
+}
+
+tilde-taken : (loose : Bool) (p : Partial) (marks x text u : List ℕ) → list_all is_mark marks ≡ true → MarksLeft text u
+    → SignTaken loose tilde p marks x (tilde, text) u
+tilde-taken loose p marks x text u h l = record {
+  left = l.left;
+  is = l.is;
+  marked = free-marks loose tilde p l.left (inr refl) l.each;
+  same = λ include. same-row include tilde p (l.left ++ x) (marks ++ x) (inr refl) (zeros-other l.left marks x l.each h);
+}
 
 kept : (loose : Bool) (s : Sign) (p : Partial) (marks x text u : List ℕ) → text ≡ marks ++ u → are_marks loose s p marks ≡ true
     → SignTaken loose s p marks x (s, text) u
@@ -282,17 +324,22 @@ Taken loose s p marks x u text = SignTaken loose s p marks x (npm_sign text) u
 -- ---- behind a tilde
 
 -- no `>` stands there
-no_greater-left : (x t : List ℕ) → IsBlank x → space_len t ≡ 0 → begins_byte 62 t ≡ false → skip_tilde (x ++ t) (drop_spaces (x ++ t)) ≡ skip_equal t
+no_greater-left : (x t : List ℕ) → IsBlank x → space_len t ≡ 0 → begins_byte 62 t ≡ false
+    → skip_tilde (x ++ t) (drop_spaces (x ++ t)) ≡ skip_equal t
 no_greater-left x t h dark other = rw (blank-skipped x t h dark, blank-byte 62 x t refl h other, other) refl
+
+dark-byte : (b : ℕ) (rest : List ℕ) → is_solid b ≡ true → space_len (b ∷ rest) ≡ 0
+dark-byte b rest h = solid-dark (b ∷ rest) h
 
 -- one `>` stands there
 one_greater-left : (x t rest : List ℕ) → IsBlank x → drop_spaces t ≡ rest → begins_byte 62 rest ≡ false
     → skip_tilde (x ++ (62 ∷ t)) (drop_spaces (x ++ (62 ∷ t))) ≡ skip_greater t
-one_greater-left x t rest h e other = grind (arith, blank-cases, blank-skipped, solid-dark, space-byte)
+one_greater-left x t rest h e other = grind (arith, blank-cases, blank-skipped, dark-byte, space-byte)
 
 -- `~>` and one `>` more
-twice-left : (y v : List ℕ) → IsBlank y → 0 < length y → skip_tilde (62 ∷ (y ++ (62 ∷ v))) (drop_spaces (62 ∷ (y ++ (62 ∷ v)))) ≡ skip_greater v
-twice-left y v h some = grind (arith, nat_tests, common_steps, blank-cases, blank-skipped, solid-dark)
+twice-left : (y v : List ℕ) → IsBlank y → 0 < length y
+    → skip_tilde (62 ∷ (y ++ (62 ∷ v))) (drop_spaces (62 ∷ (y ++ (62 ∷ v)))) ≡ skip_greater v
+twice-left y v h some = grind (arith, nat_tests, common_steps, blank-cases, blank-skipped, dark-byte)
 
 -- ---- `>` and `<`
 
@@ -302,18 +349,31 @@ one-read one two y t h dark other = rw (blank-byte 61 y t refl h other, blank-sk
 
 late-read : (one two : Comparator) (y t : List ℕ) → IsBlank y → space_len t ≡ 0
     → or_late one two (y ++ (61 ∷ t)) (drop_spaces (y ++ (61 ∷ t))) ≡ (compared two, t)
-late-read one two y t h dark = grind (arith, nat_tests, common_steps, blank-cases, drop_spaces-none, space-byte, blank-skipped, solid-dark)
+late-read one two y t h dark = grind (arith, nat_tests, common_steps, blank-cases, drop_spaces-none, space-byte, blank-skipped, dark-byte)
 
 -- ---- what is written is read
 
 signed-taken : (loose : Bool) (s : Sign) (p : Partial) (y marks x u : List ℕ) → IsBlank y → are_marks loose s p marks ≡ true
     → (is_open s && begins_byte 61 marks) ≡ false → begins_component u ≡ true → Taken loose s p marks x u ((spelling s ++ y) ++ (marks ++ u))
 unfolding npm_sign
-signed-taken loose (compared above) p y marks x u h m none k = grind (arith, nat_tests, common_steps, opens, marks-all, one-read, not-other, kept)
-signed-taken loose (compared below) p y marks x u h m none k = grind (arith, nat_tests, common_steps, opens, marks-all, one-read, not-other, kept)
-signed-taken loose caret p y marks x u h m none k = grind (arith, nat_tests, common_steps, marks-all, blank-skipped, opens, caret-taken, equal-left)
-signed-taken loose tilde p y marks x u h m none k = grind (arith, nat_tests, common_steps, marks-all, opens, no_greater-left, tilde-taken, equal-left)
-signed-taken loose s p y marks x u h m none k = grind (arith, nat_tests, common_steps, opens, marks-all, equal-front, kept, blank-skipped)
+signed-taken loose (compared at_least) p y marks x u h m none k =
+    grind (arith, nat_tests, common_steps, opens, marks-all, kept, blank-skipped)
+signed-taken loose (compared above) p y marks x u h m none k =
+    grind (arith, nat_tests, common_steps, opens, marks-all, one-read, not-other, kept)
+signed-taken loose (compared equal) p y marks x u h m none k =
+    grind (arith, nat_tests, common_steps, opens, marks-all, equal-front, kept, blank-skipped)
+signed-taken loose (compared at_most) p y marks x u h m none k =
+    grind (arith, nat_tests, common_steps, opens, marks-all, kept, blank-skipped)
+signed-taken loose (compared below) p y marks x u h m none k =
+    grind (arith, nat_tests, common_steps, opens, marks-all, one-read, not-other, kept)
+signed-taken loose caret p y marks x u h m none k =
+    let all = marks-all loose caret p marks m in
+    rw (blank-skipped y (marks ++ u) h (opens marks u all k).dark) (caret-taken loose p marks x (skip_equal (marks ++ u)) u all (equal-left marks u all k))
+signed-taken loose tilde p y marks x u h m none k =
+    let all = marks-all loose tilde p marks m in
+    let o = opens marks u all k in
+    rw (no_greater-left y (marks ++ u) h o.dark o.greater)
+    (tilde-taken loose p marks x (skip_equal (marks ++ u)) u all (equal-left marks u all k))
 
 bare-taken : (loose : Bool) (p : Partial) (marks x u : List ℕ) → are_marks loose (compared equal) p marks ≡ true → begins_byte 61 marks ≡ false
     → begins_component u ≡ true → Taken loose (compared equal) p marks x u (marks ++ u)
@@ -329,9 +389,14 @@ sign-taken loose signs s p marks x u (late_above y h) m none k =
 sign-taken loose signs s p marks x u (late_below y h) m none k =
     grind (arith, nat_tests, common_steps, opens, marks-all, append_assoc, late-read, kept)
 sign-taken loose signs s p marks x u (caret_equal y z h l) m none k =
-    grind (arith, nat_tests, common_steps, append_assoc, blank-skipped, solid-dark, kept, opens, marks-all)
-sign-taken loose signs s p marks x u (tilde_sign c y z h l (inr (inr e))) m none k = grind (arith, nat_tests, common_steps, append_assoc, blank-skipped, solid-dark, kept, marks-all, no_greater-left, opens)
-sign-taken loose signs s p marks x u (tilde_sign c y z h l (inl e)) m none k = grind (arith, append_assoc, blank-skipped, greater-left, marks-all, one_greater-left, opens, tilde-taken)
-sign-taken loose signs s p marks x u (tilde_sign c y z h l (inr (inl e))) m none k = grind (arith, nat_tests, common_steps, append_assoc, blank-skipped, solid-dark, drop_spaces-none, kept, marks-all, one_greater-left, opens)
+    grind (arith, nat_tests, common_steps, append_assoc, blank-skipped, dark-byte, kept, opens, marks-all)
+sign-taken loose signs s p marks x u (tilde_sign c y z h l (inr (inr e))) m none k = grind (arith, nat_tests, common_steps, append_assoc, blank-skipped, dark-byte, kept, marks-all, no_greater-left, opens)
+sign-taken loose signs s p marks x u (tilde_sign c y z h l (inl e)) m none k =
+    let all = marks-all loose tilde p marks m in
+    let o = opens marks u all k in
+    let skipped = one_greater-left y (z ++ (marks ++ u)) (marks ++ u) h (blank-skipped z (marks ++ u) l o.dark) o.greater in
+    rw (e, append_assoc y (62 ∷ z) (marks ++ u), skipped)
+    (tilde-taken loose p marks x (skip_greater (z ++ (marks ++ u))) u all (greater-left z marks u l all k))
+sign-taken loose signs s p marks x u (tilde_sign c y z h l (inr (inl e))) m none k = grind (arith, nat_tests, common_steps, append_assoc, blank-skipped, dark-byte, drop_spaces-none, kept, marks-all, one_greater-left, opens)
 sign-taken loose signs s p marks x u (tilde_twice c y z h some l (inl e)) m none k = grind (arith, nat_tests, common_steps, append_assoc, greater-left, marks-all, tilde-taken, twice-left)
 sign-taken loose signs s p marks x u (tilde_twice c y z h some l (inr e)) m none k = grind (arith, nat_tests, common_steps, append_assoc, blank-skipped, kept, marks-all, opens, twice-left)

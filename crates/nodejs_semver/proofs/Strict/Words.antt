@@ -17,8 +17,8 @@ use Rattle.nodejs_semver.specs.Text.WordText.{IsBoundary, SkipsBlank}
 
 -- ---- how partials and marks begin
 
-place-begins : (loose zeros : Bool) (x : List ℕ) (a : Option ℕ) → IsPlace loose zeros x a → begins_component x ≡ true
-place-begins loose zeros x a h = grind (arith, nat_tests, common_steps, digits-begin)
+place-begins : (loose : Bool) (x : List ℕ) (a : Option ℕ) → IsPlace loose x a → begins_component x ≡ true
+place-begins loose x a h = grind (arith, nat_tests, common_steps, digits-begin)
 
 pub places-begin : (loose : Bool) (x rest : List ℕ) (p : Partial) → IsPlaces loose x p → begins_component (x ++ rest) ≡ true
 places-begin loose x rest p h = grind (arith, nat_tests, common_steps, begins-on, is_component_byte, place-begins)

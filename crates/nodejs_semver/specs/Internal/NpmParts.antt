@@ -1,13 +1,13 @@
 -- For proofs and private contracts. The signs and the partial versions of node-semver's range texts, seen without
 -- places in memory.
-use Rattle.std.specs.Prelude.{◌&&◌, nat_le, ℕ, Bool, true, false, Option, None, Some}
-use Rattle.std.specs.List.{list_all}
+use Rattle.std.specs.Prelude.{◌≡◌, ◌&&◌, codes, if◌then◌else◌, nat_le, nat_lt, ℕ, Bool, List, true, false, Option, None, Some}
+use Rattle.std.specs.{List.{list_all}, Str.{bytes_eq}}
 use Rattle.semver_core.specs.Printing.RoundTrip.{is_normal}
 use Rattle.semver_core.specs.Values.Versions.{VersionValue, release_value}
 use Rattle.semver_core.specs.declared.TheConstants.{MAX_SAFE_INTEGER}
 use Rattle.nodejs_semver.specs.Internal.Readings.{comparator_view}
 use Rattle.nodejs_semver.specs.Npm.Table as Spec
-use Rattle.nodejs_semver.specs.Npm.Table.{caret, compared, major, minor, tilde, whole, wildcard}
+use Rattle.nodejs_semver.specs.Npm.Table.{Comparison, caret, compared, major, minor, tilde, whole, wildcard, written_zeros, zeros}
 use Rattle.nodejs_semver.specs.Text.WordText.{above, below}
 use Rattle.nodejs_semver.specs.declared.npm.partial.Partial.{Partial}
 use Rattle.nodejs_semver.specs.declared.npm.partial.Partial.TheVariants.{Major, Minor, Whole, Wildcard}
@@ -54,3 +54,15 @@ abbrev pub has_no_comparators : Spec.Sign → Spec.Partial → Bool
 has_no_comparators (compared above) p = false
 has_no_comparators (compared below) p = false
 has_no_comparators s p = is_wildcard p
+
+-- so many numbers at the front of a partial are written `0` in its text; of a wildcard none counts
+abbrev pub AreZeros : Spec.Partial → ℕ → List ℕ → Type 0
+AreZeros p z text = is_wildcard p ≡ false → z ≡ written_zeros text
+
+-- a number at its front that is 0 is written otherwise
+abbrev pub is_padded : ℕ → Spec.Partial → Bool
+is_padded z p = nat_lt z (zeros p)
+
+-- a comparator of numbers that are so written
+abbrev pub noted : Bool → Comparison → Comparison
+noted padded c = if padded && bytes_eq c.text (codes "0.0.0") then record c { text = codes "00.0.0" } else c

@@ -14,7 +14,7 @@ use Rattle.nodejs_semver.specs.Internal.NpmReadings.{dashed_front}
 use Rattle.nodejs_semver.specs.Internal.Parts.{parts}
 use Rattle.nodejs_semver.specs.Internal.Words.{after_some_space, from_boundary, is_boundary}
 use Rattle.nodejs_semver.specs.Npm.Malformed.{is_mark, takes}
-use Rattle.nodejs_semver.specs.Npm.RangeText.{are_marks, are_whole_marks, comparators_of, end_sign, has_zeros, is_free, is_lost, is_short, is_short_identifier, last_marks, partial_of}
+use Rattle.nodejs_semver.specs.Npm.RangeText.{are_marks, are_whole_marks, comparators_of, end_sign, is_free, is_lost, is_short, is_short_identifier, last_marks, partial_of}
 use Rattle.nodejs_semver.specs.Npm.Grammar.{begins_undashed, has_leading_zero, is_strict_list}
 use Rattle.nodejs_semver.specs.Npm.Ranges.{is_valid}
 use Rattle.nodejs_semver.specs.Npm.Table.{Comparison, Partial, Sign, caret, compared, hyphen_lower, hyphen_upper, major, minor, table, tilde, whole, wildcard}
@@ -22,33 +22,32 @@ use Rattle.nodejs_semver.specs.Text.WordText.{Comparator, above, at_least, at_mo
 
 -- ---- partials
 
--- a number has no leading zeros; loosely it may have some, zero only where `zeros` says so
-abbrev pub is_spelled : Bool → Bool → ℕ → List ℕ → Bool
-is_spelled loose zeros n digits = not (has_leading_zero digits) || (loose && (zeros || nat_lt 0 n))
+-- a number has no leading zeros; loosely it may have some
+abbrev pub is_spelled : Bool → List ℕ → Bool
+is_spelled loose digits = not (has_leading_zero digits) || loose
 
 -- the place that a run of digits is, with what stands behind it
-abbrev pub run_place : Bool → Bool → List ℕ → List ℕ → Front (Option ℕ)
-run_place loose zeros run rest =
-    if not (is_empty run) && nat_le (length run) 257 && is_spelled loose zeros (digits_value 10 run) run
+abbrev pub run_place : Bool → List ℕ → List ℕ → Front (Option ℕ)
+run_place loose run rest = if not (is_empty run) && nat_le (length run) 257 && is_spelled loose run
     then Some (Some (digits_value 10 run), rest) else None
 
 -- a place
-unfoldable pub place_front : Bool → Bool → List ℕ → Front (Option ℕ)
-place_front loose zeros text = if begins_wildcard text then Some (None, drop 1 text)
-    else run_place loose zeros (take_while is_ascii_digit text) (drop (prefix_len is_ascii_digit text) text)
+unfoldable pub place_front : Bool → List ℕ → Front (Option ℕ)
+place_front loose text = if begins_wildcard text then Some (None, drop 1 text)
+    else run_place loose (take_while is_ascii_digit text) (drop (prefix_len is_ascii_digit text) text)
 
 -- the same behind a dot
-unfoldable pub dotted_place : Bool → Bool → List ℕ → Front (Option ℕ)
-dotted_place loose zeros text = after_byte 46 text >>? λ rest. place_front loose zeros rest
+unfoldable pub dotted_place : Bool → List ℕ → Front (Option ℕ)
+dotted_place loose text = after_byte 46 text >>? λ rest. place_front loose rest
 
 -- the third place: loosely the last digit before a dot is not its own
-unfoldable pub patch_place : Bool → Bool → List ℕ → Front (Option ℕ)
-patch_place loose zeros text = let digits = prefix_len is_ascii_digit text in
-    if loose && begins_byte 46 (drop digits text) then run_place loose zeros (take (digits - 1) text) (drop (digits - 1) text)
-    else place_front loose zeros text
+unfoldable pub patch_place : Bool → List ℕ → Front (Option ℕ)
+patch_place loose text = let digits = prefix_len is_ascii_digit text in
+    if loose && begins_byte 46 (drop digits text) then run_place loose (take (digits - 1) text) (drop (digits - 1) text)
+    else place_front loose text
 
-unfoldable pub dotted_patch : Bool → Bool → List ℕ → Front (Option ℕ)
-dotted_patch loose zeros text = after_byte 46 text >>? λ rest. patch_place loose zeros rest
+unfoldable pub dotted_patch : Bool → List ℕ → Front (Option ℕ)
+dotted_patch loose text = after_byte 46 text >>? λ rest. patch_place loose rest
 
 -- the identifiers of a pre-release and of a build are short enough
 abbrev pub are_short_identifiers : List ℕ → Bool
@@ -103,12 +102,12 @@ third_front loose a b text (Some c) = qualified_partial loose a b c.0 c.1
 
 abbrev pub second_front : Bool → Option ℕ → List ℕ → Front (Option ℕ) → Front Partial
 second_front loose a text None = Some (partial_of a None None [] [], text)
-second_front loose a text (Some b) = third_front loose a b.0 b.1 (dotted_patch loose (has_zeros a) b.1)
+second_front loose a text (Some b) = third_front loose a b.0 b.1 (dotted_patch loose b.1)
 
 -- the places at the front, with what stands behind them
 unfoldable pub places_front : Bool → List ℕ → Front Partial
 places_front loose text =
-    place_front loose false text >>? λ a. second_front loose a.0 a.1 (dotted_place loose (has_zeros a.0) a.1)
+    place_front loose text >>? λ a. second_front loose a.0 a.1 (dotted_place loose a.1)
 
 -- what was found at the front of the text, if it is short
 abbrev pub short_only : Bool → List ℕ → Front Partial → Front Partial
@@ -139,12 +138,6 @@ pub data Place : Type 0 where
 abbrev pub place_of : ℕ → Option ℕ → Place
 place_of limit None = any
 place_of limit (Some n) = if nat_le n limit then number n else great
-
--- zero may be several digits behind such a major number
-abbrev pub place_zeros : Place → Bool
-place_zeros any = true
-place_zeros (number M) = nat_lt 0 M
-place_zeros great = true
 
 abbrev pub is_any : Place → Bool
 is_any any = true
@@ -180,12 +173,12 @@ third_counted loose a b text (Some c) = qualified_counted loose a b c.0 c.1
 
 abbrev pub second_counted : Bool → ℕ → Place → List ℕ → Front Place → Front (Option Partial)
 second_counted loose limit a text None = Some (counted a any any [] [], text)
-second_counted loose limit a text (Some b) = third_counted loose a b.0 b.1 (placed limit (dotted_patch loose (place_zeros a) b.1))
+second_counted loose limit a text (Some b) = third_counted loose a b.0 b.1 (placed limit (dotted_patch loose b.1))
 
 abbrev pub counted_places : Bool → ℕ → List ℕ → Front (Option Partial)
 counted_places loose limit text =
-    placed limit (place_front loose false text) >>? λ a.
-    second_counted loose limit a.0 a.1 (placed limit (dotted_place loose (place_zeros a.0) a.1))
+    placed limit (place_front loose text) >>? λ a.
+    second_counted loose limit a.0 a.1 (placed limit (dotted_place loose a.1))
 
 -- the partial at the front; none where it has a number that counts past the limit, or is too long
 abbrev pub counted_front : Bool → ℕ → List ℕ → Front (Option Partial)

@@ -1,9 +1,8 @@
 -- Statement: how range texts are written for node-semver, strictly and by its option `loose`, and the
 -- comparators of each alternative. In parentheses stand the names of the grammar that node-semver publishes.
 -- Left out is one `*`, and a comparator before it, in a word that is else a whole version, as in `>*1.2.3`,
--- which node-semver passes over: such a word is malformed. Of the loose reading these are left out too: zero as
--- several digits, where it is the major number or that is zero, and a text with a partial that has more than 250
--- characters in front of its build, which is rejected.
+-- which node-semver passes over: such a word is malformed. Of the loose reading a text is left out, and rejected, with a
+-- partial that has more than 250 characters in front of its build.
 use Rattle.std.specs.Prelude.{◌≡◌, ◌⊎◌, ◌==◌, ◌<◌, ◌≤◌, ◌+◌, ◌-◌, ◌&&◌, ◌||◌, not, nat_le, nat_lt, ℕ, Bool, true}
 use Rattle.std.specs.Prelude.{false, List, [], ◌∷◌, ◌++◌, length, drop, Option, Some, None, codes}
 use Rattle.std.specs.Prelude.{encode_utf8_all, flat_map, if◌then◌else◌, is_none}
@@ -27,19 +26,12 @@ use Rattle.nodejs_semver.specs.Text.WordText.{Comparator, IsBoundary, SkipsBlank
 -- node-semver's regular expressions count: numbers, the digits at the front of an identifier, and what
 -- follows these
 abbrev pub is_short_identifier : List ℕ → Bool
-is_short_identifier text = let run = prefix_len is_ascii_digit text in
-    nat_le (length text) run && nat_le run 257 || nat_le run 256 && nat_le (length text) (run + 251)
+is_short_identifier text = let n = prefix_len is_ascii_digit text in nat_le (length text) n && nat_le n 257 || nat_le n 256 && nat_le (length text) (n + 251)
 
--- a place (xr): `x`, `X`, `*`, or a number of any value without leading zeros (nr); loosely it may have some, zero only
--- where `zeros` says so
-pub data IsPlace (loose zeros : Bool) : List ℕ → Option ℕ → Type 0 where
-  any : (b : ℕ) → (b == 120 || b == 88 || b == 42) ≡ true → IsPlace loose zeros (b ∷ []) None
-  number : (run : List ℕ) (n : ℕ) → IsNumber n run n → (not (has_leading_zero run) || (loose && (zeros || nat_lt 0 n))) ≡ true
-      → length run ≤ 257 → IsPlace loose zeros run (Some n)
-
--- zero may be several digits behind this major number: where that is zero, the table asks how zero is written
-abbrev pub has_zeros : Option ℕ → Bool
-has_zeros a = elim a [ None ↦ true | Some M ↦ nat_lt 0 M ]
+-- a place (xr): `x`, `X`, `*`, or a number of any value without leading zeros (nr); loosely it may have some
+pub data IsPlace (loose : Bool) : List ℕ → Option ℕ → Type 0 where
+  any : (b : ℕ) → (b == 120 || b == 88 || b == 42) ≡ true → IsPlace loose (b ∷ []) None
+  number : (run : List ℕ) (n : ℕ) → IsNumber n run n → (not (has_leading_zero run) || loose) ≡ true → length run ≤ 257 → IsPlace loose run (Some n)
 
 -- the partial of its places
 abbrev pub partial_of : Option ℕ → Option ℕ → Option ℕ → List Id → List Id → Partial
@@ -51,12 +43,10 @@ partial_of None b c i j = wildcard
 -- one to three places joined by dots (partial), and behind the third a pre-release and build metadata (qualifier), or
 -- nothing
 pub data IsPlaces (loose : Bool) : List ℕ → Partial → Type 0 where
-  one : (x : List ℕ) (a : Option ℕ) → IsPlace loose false x a → IsPlaces loose x (partial_of a None None [] [])
-  two : (x y : List ℕ) (a b : Option ℕ) → IsPlace loose false x a → IsPlace loose (has_zeros a) y b
-      → IsPlaces loose (x ++ (codes "." ++ y)) (partial_of a b None [] [])
-  three : (x y z pre build : List ℕ) (a b c : Option ℕ) (ids builds : List Id) → IsPlace loose false x a
-      → IsPlace loose (has_zeros a) y b → IsPlace loose (has_zeros a) z c → IsPreRelease loose (is_none c)
-      (λ ids. loose || is_strict_list ids && list_all is_short_identifier (pieces ids)) pre ids
+  one : (x : List ℕ) (a : Option ℕ) → IsPlace loose x a → IsPlaces loose x (partial_of a None None [] [])
+  two : (x y : List ℕ) (a b : Option ℕ) → IsPlace loose x a → IsPlace loose y b → IsPlaces loose (x ++ (codes "." ++ y)) (partial_of a b None [] [])
+  three : (x y z pre build : List ℕ) (a b c : Option ℕ) (ids builds : List Id) → IsPlace loose x a → IsPlace loose y b → IsPlace loose z c
+      → IsPreRelease loose (is_none c) (λ ids. loose || is_strict_list ids && list_all is_short_identifier (pieces ids)) pre ids
       → IsStrictBuild build builds → list_all (λ text. nat_le (length text) 250) (pieces (drop 1 build)) ≡ true
       → IsPlaces loose (x ++ (codes "." ++ (y ++ (codes "." ++ (z ++ (pre ++ build)))))) (partial_of a b c ids builds)
 

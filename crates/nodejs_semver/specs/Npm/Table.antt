@@ -1,7 +1,9 @@
 -- Statement: what the signs of node-semver's range texts mean: each is one comparator of whole versions, or
 -- two. `include` says whether pre-releases are included.
-use Rattle.std.specs.Prelude.{◌==◌, ◌+◌, ◌&&◌, ◌||◌, not, ℕ, Bool, true, false, List, [], ◌∷◌, ◌++◌, codes}
-use Rattle.std.specs.Prelude.{if◌then◌else◌}
+use Rattle.std.specs.Prelude.{◌==◌, ◌+◌, ◌&&◌, ◌||◌, not, nat_lt, ℕ, Bool, true, false, List, [], ◌∷◌, ◌++◌, codes}
+use Rattle.std.specs.Prelude.{drop, if◌then◌else◌, take_while}
+use Rattle.std.specs.Char.{is_ascii_digit}
+use Rattle.std.specs.List.{prefix_len}
 use Rattle.std.specs.Str.{bytes_eq}
 use Rattle.semver_core.specs.Lists.{is_empty}
 use Rattle.semver_core.specs.Text.Identifiers.{Numeric}
@@ -48,10 +50,19 @@ first p = elim p [ major M ↦ (M, 0, 0) | minor M m ↦ (M, m, 0) | whole v ↦
 abbrev pub next : Partial → ℕ × ℕ × ℕ
 next p = elim p [ major M ↦ (M + 1, 0, 0) | minor M m ↦ (M, m + 1, 0) | whole v ↦ (v.major, v.minor + 1, 0) | _ ↦ (0, 0, 0) ]
 
--- those of the next release in which the first number changes that is not 0, or the last one written
-abbrev pub next_changed : Partial → ℕ × ℕ × ℕ
-next_changed p = if not ((first p).0 == 0) then ((first p).0 + 1, 0, 0)
-    else elim p [ whole v ↦ if v.minor == 0 then (0, 0, v.patch + 1) else next (whole v) | q ↦ next q ]
+-- how many numbers at the front of a partial are 0
+abbrev pub zeros : Partial → ℕ
+zeros p = prefix_len (λ n. n == 0) (elim p [ major M ↦ M ∷ [] | minor M m ↦ M ∷ (m ∷ []) | whole v ↦ v.major ∷ (v.minor ∷ (v.patch ∷ [])) | _ ↦ [] ])
+
+-- how many are written `0` in its text, which may have marks in front: `00`, as it may be written loosely, is not
+unfoldable pub written_zeros : List ℕ → ℕ
+written_zeros text = let numbers = drop (prefix_len (λ b. not (is_ascii_digit b)) text) text in
+    prefix_len (λ at. bytes_eq (take_while is_ascii_digit (drop at numbers)) (codes "0")) (0 ∷ (2 ∷ (4 ∷ [])))
+
+-- those of the next release in which the first number changes that is not written `0`, or the last one written, where
+-- so many at the front are written `0`
+abbrev pub next_changed : ℕ → Partial → ℕ × ℕ × ℕ
+next_changed z p = if z == 0 then ((first p).0 + 1, 0, 0) else elim p [ whole v ↦ if z == 1 then next (whole v) else (0, 0, v.patch + 1) | q ↦ next q ]
 
 -- `>=` of three numbers: of their least pre-release if pre-releases are included; and `<` of that of others
 abbrev pub from : Bool → ℕ × ℕ × ℕ → Comparison
@@ -63,9 +74,13 @@ under n = made below (lowest n)
 abbrev pub no_build : VersionValue → VersionValue
 no_build v = record v { build = [] }
 
+-- a comparator has its numbers as they are written: where one is 0 and not written so, `>=00.0.0` is not `>=0.0.0`
+abbrev pub as_written : ℕ → Partial → Comparison → Comparison
+as_written z p c = if nat_lt z (zeros p) && bytes_eq c.text (codes "0.0.0") then record c { text = codes "00.0.0" } else c
+
 -- the lower end of a caret range of a whole version
-abbrev pub caret_from : Bool → VersionValue → Comparison
-caret_from include v = if include && (is_release v && (v.major == 0)) then from true (first (whole v)) else made at_least (no_build v)
+abbrev pub caret_from : Bool → ℕ → VersionValue → Comparison
+caret_from include z v = if include && (is_release v && nat_lt 0 z) then from true (first (whole v)) else as_written z (whole v) (made at_least (no_build v))
 
 -- the table: by the sign and by the partial, whose text is `text`
 abbrev pub table : Bool → Sign → Partial → List ℕ → List Comparison
@@ -73,12 +88,12 @@ table include (compared c) (whole v) text = record { sign = c; version = v; text
 table include (compared below) p text = under (first p) ∷ []
 table include (compared above) wildcard text = under (0, 0, 0) ∷ []
 table include s wildcard text = []
-table include caret (whole v) text = caret_from include v ∷ (under (next_changed (whole v)) ∷ [])
-table include tilde (whole v) text = made at_least (no_build v) ∷ (under (next (whole v)) ∷ [])
-table include caret p text = from include (first p) ∷ (under (next_changed p) ∷ [])
-table include tilde p text = from false (first p) ∷ (under (next p) ∷ [])
-table include (compared equal) p text = from include (first p) ∷ (under (next p) ∷ [])
-table include (compared at_least) p text = from include (first p) ∷ []
+table include caret (whole v) text = caret_from include (written_zeros text) v ∷ (under (next_changed (written_zeros text) (whole v)) ∷ [])
+table include tilde (whole v) text = as_written (written_zeros text) (whole v) (made at_least (no_build v)) ∷ (under (next (whole v)) ∷ [])
+table include caret p text = as_written (written_zeros text) p (from include (first p)) ∷ (under (next_changed (written_zeros text) p) ∷ [])
+table include tilde p text = as_written (written_zeros text) p (from false (first p)) ∷ (under (next p) ∷ [])
+table include (compared equal) p text = as_written (written_zeros text) p (from include (first p)) ∷ (under (next p) ∷ [])
+table include (compared at_least) p text = as_written (written_zeros text) p (from include (first p)) ∷ []
 table include (compared above) p text = from include (next p) ∷ []
 table include (compared at_most) p text = under (next p) ∷ []
 

@@ -12,7 +12,7 @@ ghost use Rattle.nodejs_semver.specs.Internal.NpmParts.{npm_partial_view, npm_si
 ghost use Rattle.nodejs_semver.specs.{Internal.NpmWords.counted_front, Npm.Table.compared};
 
 use crate::Allocated;
-use crate::npm::comparators::{caret, compared, row, tilde};
+use crate::npm::comparators::{caret, compared, row_of_zeros, tilde};
 use crate::npm::partial::{Partial, Sign};
 use crate::npm::places::{is_over, partial_front};
 use crate::npm::versions::{dotted_number, strict_number};
@@ -110,8 +110,9 @@ fn word(include: bool, text: &[u8]) -> Option<(Bounds<'_>, &[u8])>
     let (sign, behind) = sign_front(text);
     let (read, rest) = partial_front(false, behind)?;
     let partial = read?;
-    let bounds = row(
+    let bounds = row_of_zeros(
         include,
+        partial.zeros(),
         sign,
         &partial,
         &behind[..behind.len() - rest.len()],
@@ -129,6 +130,7 @@ fn comparison(include: bool, text: &[u8]) -> Option<(Bounds<'_>, &[u8])>
     let (partial, rest) = short_front(behind)?;
     let bounds = compared(
         include,
+        false,
         comparator,
         &partial,
         &behind[..behind.len() - rest.len()],
@@ -294,7 +296,7 @@ fn push_caret<'a>(
     let Some((partial, rest)) = short_front(text) else {
         return Ok(None);
     };
-    push_read(caret(include, &partial), rest, found)
+    push_read(caret(include, partial.zeros(), &partial), rest, found)
 }
 
 // The same behind a tilde.
@@ -311,7 +313,7 @@ fn push_tilde<'a>(
     let Some((partial, rest)) = short_front(text) else {
         return Ok(None);
     };
-    push_read(tilde(include, &partial), rest, found)
+    push_read(tilde(include, false, &partial), rest, found)
 }
 
 // The same of a short partial alone.
@@ -330,7 +332,7 @@ fn push_plain<'a>(
     };
     let piece = &text[..text.len() - rest.len()];
     push_read(
-        compared(include, Comparator::Equal, &partial, piece),
+        compared(include, false, Comparator::Equal, &partial, piece),
         rest,
         found,
     )

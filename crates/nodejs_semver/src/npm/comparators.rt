@@ -6,14 +6,16 @@ ghost use Rattle.nodejs_semver.specs.Words.{bounds_view, comparator_view, decima
 ghost use Rattle.nodejs_semver.specs.Words.{lent_id_view, no_build, true, version_text, ℕ};
 ghost use Rattle.nodejs_semver.specs.Internal.NpmMeaning.{AreRead, IsCommon, is_part, is_zero};
 ghost use Rattle.nodejs_semver.specs.Internal.NpmParts.{are_normal, npm_partial_view};
+ghost use Rattle.nodejs_semver.specs.Internal.NpmParts.{AreZeros, is_padded, noted};
 ghost use Rattle.nodejs_semver.specs.Internal.NpmParts.{npm_sign_view, within};
 ghost use Rattle.nodejs_semver.specs.Npm.{Ranges.is_valid, Table.{first, from, made, table}};
+ghost use Rattle.nodejs_semver.specs.Npm.Table.{written_zeros};
 ghost use Rattle.semver_core.specs.Printing.Text.{id_text, marked_list};
 ghost use Rattle.semver_core.specs.{Values.Versions.IsVersion, declared.TheConstants.MAX_LENGTH};
 ghost use Rattle.nodejs_semver.specs.Npm.Table as Spec;
 ghost use Rattle.nodejs_semver.specs.Text.WordText as Words;
 
-use crate::npm::partial::{Numbers, Partial, Sign, within};
+use crate::npm::partial::{Numbers, Partial, Sign, within, written_zeros};
 use crate::readers::{Bounds, Comparator, lowest, release};
 use itoa::Buffer;
 use semver_core::cuts::Bound;
@@ -100,15 +102,18 @@ fn open<'a>() -> Bounds<'a>
 }
 
 // The lower bound of `>=version`, the build left out: without pre-releases included, `>=0.0.0` is
-// no comparator.
+// no comparator, unless a zero in it is written otherwise.
 #[inline(always)]
-fn from_version<'a>(include: bool, version: &VersionRef<'a>) -> Bound<VersionRef<'a>>
+fn from_version<'a>(include: bool, padded: bool, version: &VersionRef<'a>) -> Bound<VersionRef<'a>>
     requires within { within (first (Spec.whole version.now)) ≡ true }
     requires normal { are_normal (Spec.whole version.now) ≡ true }
-    ensures { IsCommon include (made Words.at_least (no_build version.now) ∷ [])
+    ensures { IsCommon include (noted padded (made Words.at_least (no_build version.now)) ∷ [])
         (record { lower = result; upper = Bound.Unbounded }) }
 {
     if include {
+        return Bound::Before(version.copy());
+    }
+    if padded {
         return Bound::Before(version.copy());
     }
     if is_zero(version) {
@@ -119,36 +124,36 @@ fn from_version<'a>(include: bool, version: &VersionRef<'a>) -> Bound<VersionRef
 
 // The lower bound of `>=` of three numbers, with `-0` where pre-releases are included.
 #[inline(always)]
-fn from_numbers<'a>(include: bool, numbers: Numbers) -> Bound<VersionRef<'a>>
+fn from_numbers<'a>(include: bool, padded: bool, numbers: Numbers) -> Bound<VersionRef<'a>>
     requires { within numbers ≡ true }
-    ensures { IsCommon include (from include numbers ∷ [])
+    ensures { IsCommon include (noted padded (from include numbers) ∷ [])
         (record { lower = result; upper = Bound.Unbounded }) }
 {
     if include {
         Bound::Before(lowest(numbers.0, numbers.1, numbers.2))
     } else {
-        from_version(false, &release(numbers.0, numbers.1, numbers.2))
+        from_version(false, padded, &release(numbers.0, numbers.1, numbers.2))
     }
 }
 
 // The lower bound of `>=` of three numbers.
 #[inline(always)]
-fn from_release<'a>(include: bool, numbers: Numbers) -> Bound<VersionRef<'a>>
+fn from_release<'a>(include: bool, padded: bool, numbers: Numbers) -> Bound<VersionRef<'a>>
     requires { within numbers ≡ true }
-    ensures { IsCommon include (from false numbers ∷ [])
+    ensures { IsCommon include (noted padded (from false numbers) ∷ [])
         (record { lower = result; upper = Bound.Unbounded }) }
 {
-    from_version(include, &release(numbers.0, numbers.1, numbers.2))
+    from_version(include, padded, &release(numbers.0, numbers.1, numbers.2))
 }
 
 // `>=` of three numbers, where none of them is past the limit.
 #[inline(always)]
-fn from<'a>(include: bool, numbers: Numbers) -> Option<Bounds<'a>>
-    ensures { AreRead include (from include numbers ∷ []) result }
+fn from<'a>(include: bool, padded: bool, numbers: Numbers) -> Option<Bounds<'a>>
+    ensures { AreRead include (noted padded (from include numbers) ∷ []) result }
 {
     if within(numbers) {
         Some(Bounds {
-            lower: from_numbers(include, numbers),
+            lower: from_numbers(include, padded, numbers),
             upper: Bound::Unbounded,
         })
     } else {
@@ -184,20 +189,21 @@ fn until<'a>(lower: Bound<VersionRef<'a>>, end: Numbers) -> Option<Bounds<'a>>
     }
 }
 
-/// `^`
+/// `^`. So many numbers at the front of the partial are written `0`.
 #[inline(always)]
-pub(crate) fn caret<'a>(include: bool, partial: &Partial<'a>) -> Option<Bounds<'a>>
+pub(crate) fn caret<'a>(include: bool, zeros: usize, partial: &Partial<'a>) -> Option<Bounds<'a>>
     requires within { within (first (npm_partial_view partial.now)) ≡ true }
     requires normal { are_normal (npm_partial_view partial.now) ≡ true }
-    ensures { (text : List ℕ) →
+    ensures { (text : List ℕ) → AreZeros (npm_partial_view partial.now) zeros text →
         AreRead include (table include Spec.caret (npm_partial_view partial.now) text) result }
 {
     match partial {
         Partial::Wildcard => Some(open()),
-        Partial::Major(_) | Partial::Minor(..) => caret_part(include, partial),
+        Partial::Major(_) | Partial::Minor(..) => caret_part(include, zeros, partial),
         Partial::Whole(version) => {
             if prints_short(version) {
-                until(caret_from(include, version), partial.next_changed())
+                let lower = caret_from(include, zeros, partial.is_padded(zeros), version);
+                until(lower, partial.next_changed(zeros))
             } else {
                 None
             }
@@ -207,47 +213,55 @@ pub(crate) fn caret<'a>(include: bool, partial: &Partial<'a>) -> Option<Bounds<'
 
 // `^` before a partial of one number or two.
 #[inline(always)]
-fn caret_part<'a>(include: bool, partial: &Partial<'a>) -> Option<Bounds<'a>>
+fn caret_part<'a>(include: bool, zeros: usize, partial: &Partial<'a>) -> Option<Bounds<'a>>
     requires part { is_part (npm_partial_view partial.now) ≡ true }
     requires within { within (first (npm_partial_view partial.now)) ≡ true }
-    ensures { (text : List ℕ) →
+    ensures { (text : List ℕ) → AreZeros (npm_partial_view partial.now) zeros text →
         AreRead include (table include Spec.caret (npm_partial_view partial.now) text) result }
 {
     until(
-        from_numbers(include, partial.first()),
-        partial.next_changed(),
+        from_numbers(include, partial.is_padded(zeros), partial.first()),
+        partial.next_changed(zeros),
     )
 }
 
 // The lower bound of a caret range of a whole version.
 #[inline(always)]
-fn caret_from<'a>(include: bool, version: &VersionRef<'a>) -> Bound<VersionRef<'a>>
+fn caret_from<'a>(
+    include: bool,
+    zeros: usize,
+    padded: bool,
+    version: &VersionRef<'a>,
+) -> Bound<VersionRef<'a>>
     requires within { within (first (Spec.whole version.now)) ≡ true }
     requires normal { are_normal (Spec.whole version.now) ≡ true }
-    ensures { IsCommon include (Spec.caret_from include version.now ∷ [])
+    ensures { padded ≡ is_padded zeros (Spec.whole version.now) →
+        IsCommon include (Spec.caret_from include zeros version.now ∷ [])
         (record { lower = result; upper = Bound.Unbounded }) }
 {
-    if include && version.is_release() && version.major() == 0 {
-        from_numbers(true, (version.major(), version.minor(), version.patch()))
+    if include && version.is_release() && zeros > 0 {
+        let numbers = (version.major(), version.minor(), version.patch());
+        from_numbers(true, false, numbers)
     } else {
-        from_version(include, version)
+        from_version(include, padded, version)
     }
 }
 
-/// `~`
+/// `~`, before a partial in which a zero is written otherwise, or not.
 #[inline(always)]
-pub(crate) fn tilde<'a>(include: bool, partial: &Partial<'a>) -> Option<Bounds<'a>>
+pub(crate) fn tilde<'a>(include: bool, padded: bool, partial: &Partial<'a>) -> Option<Bounds<'a>>
     requires within { within (first (npm_partial_view partial.now)) ≡ true }
     requires normal { are_normal (npm_partial_view partial.now) ≡ true }
     ensures { (text : List ℕ) →
+        padded ≡ is_padded (written_zeros text) (npm_partial_view partial.now) →
         AreRead include (table include Spec.tilde (npm_partial_view partial.now) text) result }
 {
     match partial {
         Partial::Wildcard => Some(open()),
-        Partial::Major(_) | Partial::Minor(..) => tilde_part(include, partial),
+        Partial::Major(_) | Partial::Minor(..) => tilde_part(include, padded, partial),
         Partial::Whole(version) => {
             if prints_short(version) {
-                until(from_version(include, version), partial.next())
+                until(from_version(include, padded, version), partial.next())
             } else {
                 None
             }
@@ -257,27 +271,40 @@ pub(crate) fn tilde<'a>(include: bool, partial: &Partial<'a>) -> Option<Bounds<'
 
 // `~` before a partial of one number or two.
 #[inline(always)]
-fn tilde_part<'a>(include: bool, partial: &Partial<'a>) -> Option<Bounds<'a>>
+fn tilde_part<'a>(include: bool, padded: bool, partial: &Partial<'a>) -> Option<Bounds<'a>>
     requires part { is_part (npm_partial_view partial.now) ≡ true }
     requires within { within (first (npm_partial_view partial.now)) ≡ true }
     ensures { (text : List ℕ) →
+        padded ≡ is_padded (written_zeros text) (npm_partial_view partial.now) →
         AreRead include (table include Spec.tilde (npm_partial_view partial.now) text) result }
 {
-    until(from_release(include, partial.first()), partial.next())
+    until(
+        from_release(include, padded, partial.first()),
+        partial.next(),
+    )
 }
 
 // A comparator, or none, before a partial of one number or two.
 #[inline(always)]
-fn part<'a>(include: bool, comparator: Comparator, partial: &Partial<'a>) -> Option<Bounds<'a>>
+fn part<'a>(
+    include: bool,
+    padded: bool,
+    comparator: Comparator,
+    partial: &Partial<'a>,
+) -> Option<Bounds<'a>>
     requires part { is_part (npm_partial_view partial.now) ≡ true }
     requires within { within (first (npm_partial_view partial.now)) ≡ true }
     ensures { (text : List ℕ) → let s = Spec.compared (comparator_view comparator) in
+        padded ≡ is_padded (written_zeros text) (npm_partial_view partial.now) →
         AreRead include (table include s (npm_partial_view partial.now) text) result }
 {
     match comparator {
-        Comparator::Equal => until(from_numbers(include, partial.first()), partial.next()),
-        Comparator::AtLeast => from(include, partial.first()),
-        Comparator::Above => from(include, partial.next()),
+        Comparator::Equal => until(
+            from_numbers(include, padded, partial.first()),
+            partial.next(),
+        ),
+        Comparator::AtLeast => from(include, padded, partial.first()),
+        Comparator::Above => from(include, false, partial.next()),
         Comparator::Below => under(partial.first()),
         Comparator::AtMost => under(partial.next()),
     }
@@ -345,10 +372,12 @@ fn wildcard<'a>(comparator: Comparator) -> Option<Bounds<'a>>
     }
 }
 
-/// A comparator, or none, before a partial, which has this text.
+/// A comparator, or none, before a partial, which has this text, and in which a zero is written
+/// otherwise, or not.
 #[inline(always)]
 pub(crate) fn compared<'a>(
     include: bool,
+    padded: bool,
     comparator: Comparator,
     partial: &Partial<'a>,
     text: &[u8],
@@ -356,18 +385,44 @@ pub(crate) fn compared<'a>(
     requires within { within (first (npm_partial_view partial.now)) ≡ true }
     requires normal { are_normal (npm_partial_view partial.now) ≡ true }
     ensures { let s = Spec.compared (comparator_view comparator) in
+        padded ≡ is_padded (written_zeros text.now) (npm_partial_view partial.now) →
         AreRead include (table include s (npm_partial_view partial.now) text.now) result }
 {
     match partial {
         Partial::Wildcard => wildcard(comparator),
-        Partial::Major(_) | Partial::Minor(..) => part(include, comparator, partial),
+        Partial::Major(_) | Partial::Minor(..) => part(include, padded, comparator, partial),
         Partial::Whole(version) => whole(include, comparator, version, text),
     }
 }
 
 /// The bounds that the comparators of a word have in common, those left out that do not count. None
 /// where one of them is not valid: it has a number past the limit, or its version too many
-/// characters. `text` is that of the partial, with its marks.
+/// characters. `text` is that of the partial, with its marks; so many numbers at its front are
+/// written `0`.
+#[inline(always)]
+pub(crate) fn row_of_zeros<'a>(
+    include: bool,
+    zeros: usize,
+    sign: Sign,
+    partial: &Partial<'a>,
+    text: &[u8],
+) -> Option<Bounds<'a>>
+    requires { are_normal (npm_partial_view partial.now) ≡ true }
+    ensures { let s = npm_sign_view sign in AreZeros (npm_partial_view partial.now) zeros text.now →
+        AreRead include (table include s (npm_partial_view partial.now) text.now) result }
+{
+    if !within(partial.first()) {
+        return None;
+    }
+    let padded = partial.is_padded(zeros);
+    match sign {
+        Sign::Caret => caret(include, zeros, partial),
+        Sign::Tilde => tilde(include, padded, partial),
+        Sign::Compared(comparator) => compared(include, padded, comparator, partial, text),
+    }
+}
+
+/// The same by the text alone.
 #[inline(always)]
 pub(crate) fn row<'a>(
     include: bool,
@@ -379,14 +434,7 @@ pub(crate) fn row<'a>(
     ensures { let s = npm_sign_view sign in
         AreRead include (table include s (npm_partial_view partial.now) text.now) result }
 {
-    if !within(partial.first()) {
-        return None;
-    }
-    match sign {
-        Sign::Caret => caret(include, partial),
-        Sign::Tilde => tilde(include, partial),
-        Sign::Compared(comparator) => compared(include, comparator, partial, text),
-    }
+    row_of_zeros(include, written_zeros(text), sign, partial, text)
 }
 
 /// The bounds of the lower end of a hyphen range, as `row` gives those of a word. A whole version is

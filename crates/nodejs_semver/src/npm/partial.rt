@@ -1,8 +1,9 @@
 // What a word of node-semver's range texts is made of: a sign and a partial version.
 
-ghost use Rattle.std.specs.Prelude.{◌≡◌, true};
-ghost use Rattle.nodejs_semver.specs.Internal.NpmParts.{npm_partial_view, within};
-ghost use Rattle.nodejs_semver.specs.Npm.Table.{first, next, next_changed};
+ghost use Rattle.std.specs.{Char.is_ascii_digit, List.prefix_len, Prelude.{◌≡◌, ◌≤◌, drop, true}};
+ghost use Rattle.std.specs.{Prelude.{codes, length, not, take_while}, Str.bytes_eq};
+ghost use Rattle.nodejs_semver.specs.Internal.NpmParts.{is_padded, npm_partial_view, within};
+ghost use Rattle.nodejs_semver.specs.Npm.Table.{first, next, next_changed, written_zeros, zeros};
 
 use crate::readers::Comparator;
 use semver_core::{MAX_SAFE_INTEGER, VersionRef};
@@ -27,6 +28,58 @@ pub(crate) enum Sign {
 
 /// Three numbers, as of a release.
 pub(crate) type Numbers = (u64, u64, u64);
+
+// Where the first digit stands.
+#[inline(always)]
+#[tactic(auto, using(crate::proofs::Strict::PartialLaw::prefix_steps))]
+fn digit_at(text: &[u8]) -> usize
+    ensures value { result ≡ prefix_len (λ b. not (is_ascii_digit b)) text.now }
+    ensures fits { result ≤ length text.now }
+{
+    'marks: for at in 0..text.len() {
+        if text[at].is_ascii_digit() {
+            return at;
+        }
+    }
+    text.len()
+}
+
+// Whether the number at the front is written `0`.
+#[inline(always)]
+fn begins_zero(text: &[u8]) -> bool
+    ensures { result ≡ bytes_eq (take_while is_ascii_digit text.now) (codes "0") }
+{
+    matches!(text, [b'0', rest @ ..] if !matches!(rest, [b'0'..=b'9', ..]))
+}
+
+// What stands behind two characters, a zero and a dot.
+#[inline(always)]
+fn after_two(text: &[u8]) -> &[u8]
+    ensures { result.now ≡ drop 2 text.now }
+{
+    match text {
+        [_, _, rest @ ..] => rest,
+        _ => b"",
+    }
+}
+
+/// How many numbers at the front of a partial are written `0` in its text, which may have marks in
+/// front.
+#[inline(always)]
+#[tactic(auto, using(crate::proofs::Strict::Zeros::zeros_taken))]
+pub(crate) fn written_zeros(text: &[u8]) -> usize
+    ensures { result ≡ written_zeros text.now }
+{
+    let major = &text[digit_at(text)..];
+    if !begins_zero(major) {
+        return 0;
+    }
+    let minor = after_two(major);
+    if !begins_zero(minor) {
+        return 1;
+    }
+    if begins_zero(after_two(minor)) { 3 } else { 2 }
+}
 
 /// Whether none of three numbers is past the limit.
 #[inline(always)]
@@ -64,22 +117,46 @@ impl<'a> Partial<'a> {
         }
     }
 
-    /// The numbers of the next release in which the first number changes that is not 0, or the last
-    /// one written.
+    /// How many numbers at the front are 0.
     #[inline(always)]
-    pub(crate) fn next_changed(&self) -> Numbers
-        requires { within (first (npm_partial_view self.now)) ≡ true }
-        ensures { result ≡ next_changed (npm_partial_view self.now) }
+    pub(crate) fn zeros(&self) -> usize
+        ensures { result ≡ zeros (npm_partial_view self.now) }
     {
         match self {
-            Partial::Wildcard | Partial::Major(_) => self.next(),
-            Partial::Minor(0, minor) => (0, *minor + 1, 0),
-            Partial::Minor(major, _) => (*major + 1, 0, 0),
-            Partial::Whole(version) => match (version.major(), version.minor()) {
-                (0, 0) => (0, 0, version.patch() + 1),
-                (0, minor) => (0, minor + 1, 0),
-                (major, _) => (major + 1, 0, 0),
+            Partial::Major(0) => 1,
+            Partial::Minor(0, 0) => 2,
+            Partial::Minor(0, _) => 1,
+            Partial::Whole(version) => match (version.major(), version.minor(), version.patch()) {
+                (0, 0, 0) => 3,
+                (0, 0, _) => 2,
+                (0, _, _) => 1,
+                _ => 0,
             },
+            _ => 0,
+        }
+    }
+
+    /// Whether a number at the front that is 0 is written otherwise, where so many are written `0`.
+    #[inline(always)]
+    pub(crate) fn is_padded(&self, zeros: usize) -> bool
+        ensures { result ≡ is_padded zeros (npm_partial_view self.now) }
+    {
+        zeros < self.zeros()
+    }
+
+    /// The numbers of the next release in which the first number changes that is not written `0`, or
+    /// the last one written, where so many at the front are written `0`.
+    #[inline(always)]
+    pub(crate) fn next_changed(&self, zeros: usize) -> Numbers
+        requires { within (first (npm_partial_view self.now)) ≡ true }
+        ensures { result ≡ next_changed zeros (npm_partial_view self.now) }
+    {
+        if zeros == 0 {
+            return (self.first().0 + 1, 0, 0);
+        }
+        match self {
+            Partial::Whole(version) if zeros > 1 => (0, 0, version.patch() + 1),
+            _ => self.next(),
         }
     }
 }

@@ -56,12 +56,12 @@ fn number_front(text: &[u8]) -> Option<(u64, &[u8])>
 // The place at the front that is a run of digits past the limit.
 #[inline(never)]
 #[tactic(auto, using(crate::proofs::Strict::PartialLaw::no_places))]
-fn great_place(loose: bool, zeros: bool, text: &[u8]) -> Option<(Place, &[u8])>
+fn great_place(loose: bool, text: &[u8]) -> Option<(Place, &[u8])>
     requires no_number { number_front MAX_SAFE_INTEGER text.now ≡ None }
     requires no_wildcard { begins_wildcard text.now ≡ false }
     requires spelled { (not loose && begins_padded text.now) ≡ false }
     ensures { place_front_view result
-        ≡ Spec.placed MAX_SAFE_INTEGER (Spec.place_front loose zeros text.now) }
+        ≡ Spec.placed MAX_SAFE_INTEGER (Spec.place_front loose text.now) }
 {
     let len = digits_len(text);
     if len == 0 || len > 257 {
@@ -73,48 +73,47 @@ fn great_place(loose: bool, zeros: bool, text: &[u8]) -> Option<(Place, &[u8])>
 // The place at the front where no number without leading zeros stands and no wildcard.
 #[inline(never)]
 #[tactic(auto, using(crate::proofs::Strict::PartialLaw::padded_places))]
-fn padded_place(loose: bool, zeros: bool, text: &[u8]) -> Option<(Place, &[u8])>
+fn padded_place(loose: bool, text: &[u8]) -> Option<(Place, &[u8])>
     requires no_number { strict_number MAX_SAFE_INTEGER text.now ≡ None }
     requires no_wildcard { begins_wildcard text.now ≡ false }
     ensures { place_front_view result
-        ≡ Spec.placed MAX_SAFE_INTEGER (Spec.place_front loose zeros text.now) }
+        ≡ Spec.placed MAX_SAFE_INTEGER (Spec.place_front loose text.now) }
 {
     if !begins_padded(text) {
-        return great_place(loose, zeros, text);
+        return great_place(loose, text);
     }
     if !loose || digits_len(text) > 257 {
         return None;
     }
     match number_front(text) {
-        Some((0, _)) if !zeros => None,
         Some((number, rest)) => Some((Place::Number(number), rest)),
-        None => great_place(true, zeros, text),
+        None => great_place(true, text),
     }
 }
 
 // The place at the front, and the text behind it.
 #[inline(always)]
 #[tactic(auto, using(crate::proofs::Strict::PartialLaw::places_found))]
-fn place_front(loose: bool, zeros: bool, text: &[u8]) -> Option<(Place, &[u8])>
+fn place_front(loose: bool, text: &[u8]) -> Option<(Place, &[u8])>
     ensures { place_front_view result
-        ≡ Spec.placed MAX_SAFE_INTEGER (Spec.place_front loose zeros text.now) }
+        ≡ Spec.placed MAX_SAFE_INTEGER (Spec.place_front loose text.now) }
 {
     match strict_number(text) {
         Some((number, rest)) => Some((Place::Number(number), rest)),
         None if matches!(text, [b'x' | b'X' | b'*', ..]) => Some((Place::Wildcard, &text[1..])),
-        None => padded_place(loose, zeros, text),
+        None => padded_place(loose, text),
     }
 }
 
 // The same behind a dot.
 #[inline(always)]
 #[tactic(auto, unfolding(crate::specs::Internal::NpmWords::dotted_place))]
-fn dotted_place(loose: bool, zeros: bool, text: &[u8]) -> Option<(Place, &[u8])>
+fn dotted_place(loose: bool, text: &[u8]) -> Option<(Place, &[u8])>
     ensures { place_front_view result
-        ≡ Spec.placed MAX_SAFE_INTEGER (Spec.dotted_place loose zeros text.now) }
+        ≡ Spec.placed MAX_SAFE_INTEGER (Spec.dotted_place loose text.now) }
 {
     match text {
-        [b'.', rest @ ..] => place_front(loose, zeros, rest),
+        [b'.', rest @ ..] => place_front(loose, rest),
         _ => None,
     }
 }
@@ -141,37 +140,29 @@ fn with_rest<'a>(found: Option<(Place, &'a [u8])>, rest: &'a [u8]) -> Option<(Pl
 
 // The third place at the front.
 #[inline(always)]
-fn patch_place(loose: bool, zeros: bool, text: &[u8]) -> Option<(Place, &[u8])>
+fn patch_place(loose: bool, text: &[u8]) -> Option<(Place, &[u8])>
     ensures { place_front_view result
-        ≡ Spec.placed MAX_SAFE_INTEGER (Spec.patch_place loose zeros text.now) }
+        ≡ Spec.placed MAX_SAFE_INTEGER (Spec.patch_place loose text.now) }
 {
     let digits = digits_len(text);
     if !shares_digits(loose, text, digits) {
-        return place_front(loose, zeros, text);
+        return place_front(loose, text);
     }
     let own = digits.saturating_sub(1);
-    with_rest(place_front(loose, zeros, &text[..own]), &text[own..])
+    with_rest(place_front(loose, &text[..own]), &text[own..])
 }
 
 // The same behind a dot.
 #[inline(always)]
 #[tactic(auto, unfolding(crate::specs::Internal::NpmWords::dotted_patch))]
-fn dotted_patch(loose: bool, zeros: bool, text: &[u8]) -> Option<(Place, &[u8])>
+fn dotted_patch(loose: bool, text: &[u8]) -> Option<(Place, &[u8])>
     ensures { place_front_view result
-        ≡ Spec.placed MAX_SAFE_INTEGER (Spec.dotted_patch loose zeros text.now) }
+        ≡ Spec.placed MAX_SAFE_INTEGER (Spec.dotted_patch loose text.now) }
 {
     match text {
-        [b'.', rest @ ..] => patch_place(loose, zeros, rest),
+        [b'.', rest @ ..] => patch_place(loose, rest),
         _ => None,
     }
-}
-
-// Whether zero may be several digits behind a major number.
-#[inline(always)]
-fn has_zeros(major: Place) -> bool
-    ensures { result ≡ Spec.place_zeros (place_view major) }
-{
-    !matches!(major, Place::Number(0))
 }
 
 // The partial of two places, if its numbers are up to the limit.
@@ -356,10 +347,9 @@ fn third_front(
 ) -> Option<(Option<Partial<'_>>, &[u8])>
     ensures { npm_counted_front_view result ≡ Spec.third_counted loose (place_view major)
         (place_view minor) text.now
-        (Spec.placed MAX_SAFE_INTEGER
-        (Spec.dotted_patch loose (Spec.place_zeros (place_view major)) text.now)) }
+        (Spec.placed MAX_SAFE_INTEGER (Spec.dotted_patch loose text.now)) }
 {
-    match dotted_patch(loose, has_zeros(major), text) {
+    match dotted_patch(loose, text) {
         Some((patch, rest)) => qualified_partial(loose, major, minor, patch, rest),
         None => Some((short_partial(major, minor), text)),
     }
@@ -371,8 +361,8 @@ fn third_front(
 fn places_front(loose: bool, text: &[u8]) -> Option<(Option<Partial<'_>>, &[u8])>
     ensures { npm_counted_front_view result ≡ Spec.counted_places loose MAX_SAFE_INTEGER text.now }
 {
-    let (major, rest) = place_front(loose, false, text)?;
-    match dotted_place(loose, has_zeros(major), rest) {
+    let (major, rest) = place_front(loose, text)?;
+    match dotted_place(loose, rest) {
         Some((minor, rest)) => third_front(loose, major, minor, rest),
         None => Some((short_partial(major, Place::Wildcard), rest)),
     }

@@ -268,9 +268,8 @@ pub fn range(
 /// `*`.
 ///
 /// Node-semver answers otherwise of a word that has one `*` and is else a whole version, such as
-/// `>*1.2.3`, where it passes over the `*`: here the word is malformed. It reads texts that are
-/// rejected here: zero as several digits where the major number is zero (`0.00.1`); and a partial
-/// version of more than 250 characters in front of its build.
+/// `>*1.2.3`, where it passes over the `*`: here the word is malformed. It reads partial versions
+/// of more than 250 characters in front of their builds, for which a text is rejected here.
 ///
 /// All else is as for [`range`]: how to ask the range, what it borrows and when allocation fails.
 ///

@@ -1,8 +1,9 @@
-use Rattle.nodejs_semver.proofs.{Common.{inl, refl, ◌∷◌}, NpmCommon.npm_partial_view, Strict.CommonReads.word-read}
+use Rattle.nodejs_semver.proofs.{Common.{inl, refl, ◌∷◌}, NpmCommon.npm_partial_view, Strict.CommonReads.{word-read, word-unpadded}}
 use Rattle.nodejs_semver.specs.Npm.Table.{tilde}
 use Rattle.nodejs_semver.proofs.npm.common.push_tilde.Goals as goal
 
 pub returns-clause-added : goal.returns-clause-added
 returns-clause-added c =
     c.push_read.ensures.added c.args.include (126 ∷ c.args.text.now) (word-read c.args.include (126 ∷ c.args.text.now) c.args.text.now
-    c.in-Some.rest.now tilde (npm_partial_view c.in-Some.partial) c.tilde.result (inl refl) c.in-Some.ensures (c.tilde.ensures _))
+    c.in-Some.rest.now tilde (npm_partial_view c.in-Some.partial) c.tilde.result (inl refl) c.in-Some.ensures
+    (c.tilde.ensures _ (word-unpadded _ _ _ c.in-Some.ensures)))

@@ -1,12 +1,12 @@
 use Rattle.nodejs_semver.proofs.NpmCommon.{bounds_view, npm_partial_view, npm_sign_view}
-use Rattle.nodejs_semver.proofs.Strict.{Hyphens.partial-le, CommonReads.{word-found, word-normal}}
+use Rattle.nodejs_semver.proofs.Strict.{Hyphens.partial-le, CommonReads.{word-found, word-normal, word-zeros}}
 use Rattle.nodejs_semver.proofs.npm.common.word.Goals as goal
 
-pub slice_bounds-row-count : goal.slice_bounds-row-count
-slice_bounds-row-count c = partial-le _ _ _ _ _ c.in_ok-read.ensures
+pub slice_bounds-row_of_zeros-count : goal.slice_bounds-row_of_zeros-count
+slice_bounds-row_of_zeros-count c = partial-le _ _ _ _ _ c.in_ok-read.ensures
 
-pub row-requires : goal.row-requires
-row-requires c =
+pub row_of_zeros-requires : goal.row_of_zeros-requires
+row_of_zeros-requires c =
     word-normal c.sign_front-sign.result.1.now (npm_partial_view c.in_ok-partial.partial) c.in_ok-read.rest.now
     (rw c.in_ok-partial.was at c.in_ok-read.ensures)
 
@@ -14,4 +14,5 @@ pub returns : goal.returns
 returns c =
     word-found c.args.include c.args.text.now c.sign_front-sign.result.1.now c.in_ok-read.rest.now (npm_sign_view c.sign_front-sign.result.0)
     (npm_partial_view c.in_ok-partial.partial) (bounds_view c.in_ok-bounds.bounds) c.sign_front-sign.ensures
-    (rw c.in_ok-partial.was at c.in_ok-read.ensures) c.in_ok-bounds.ensures
+    (rw c.in_ok-partial.was at c.in_ok-read.ensures) (c.in_ok-bounds.ensures (word-zeros _ _ _ c.zeros.result
+    (rw c.in_ok-partial.was at c.in_ok-read.ensures) c.zeros.ensures))

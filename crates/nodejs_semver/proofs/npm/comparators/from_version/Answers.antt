@@ -1,16 +1,20 @@
-use Rattle.nodejs_semver.proofs.{Common.{sym, ◌∙◌}, Strict.Rows.{from_included, from_none, from_some}}
+use Rattle.nodejs_semver.proofs.{Common.{sym, ◌∙◌}, Strict.Rows.{from_included, from_none, from_padded, from_some}}
 use Rattle.nodejs_semver.proofs.npm.comparators.from_version.Goals as goal
 
 pub returns-then-include : goal.returns-then-include
-returns-then-include c = rw c.copy.ensures (from_included c.args.include c.args.version.now c.if-include.true c.requires.within
-    c.requires.normal)
+returns-then-include c = rw c.copy.ensures (from_included c.args.include c.args.padded c.args.version.now c.requires.within
+    c.requires.normal c.if-include.true)
+
+pub returns-then-padded : goal.returns-then-padded
+returns-then-padded c = rw c.copy-then-padded.ensures (from_padded c.args.include c.args.padded c.args.version.now c.requires.within
+    c.requires.normal c.if-padded.true)
 
 pub returns-then-is_zero : goal.returns-then-is_zero
 returns-then-is_zero c =
-    from_none c.args.include c.args.version.now c.if-include.false c.is_zero.ensures.valid
+    from_none c.args.include c.args.padded c.args.version.now c.if-include.false c.if-padded.false c.is_zero.ensures.valid
     (sym c.is_zero.ensures.value ∙ c.if-is_zero.true)
 
 pub returns : goal.returns
 returns c =
-    rw c.copy-2.ensures (from_some c.args.include c.args.version.now c.is_zero.ensures.valid
-    (sym c.is_zero.ensures.value ∙ c.if-is_zero.false) c.requires.within c.requires.normal)
+    rw c.copy-2.ensures (from_some c.args.include c.args.padded c.args.version.now c.requires.within c.requires.normal
+    c.if-padded.false c.is_zero.ensures.valid (sym c.is_zero.ensures.value ∙ c.if-is_zero.false))

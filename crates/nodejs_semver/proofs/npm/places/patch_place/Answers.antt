@@ -4,11 +4,11 @@ use Rattle.nodejs_semver.proofs.npm.places.patch_place.Goals as goal
 
 pub returns-then-not-shares_digits : goal.returns-then-not-shares_digits
 returns-then-not-shares_digits c =
-    c.place_front.ensures ∙ patch_whole c.args.loose c.args.zeros c.args.text.now c.digits_len-digits.result c.digits_len-digits.ensures.value
+    c.place_front.ensures ∙ patch_whole c.args.loose c.args.text.now c.digits_len-digits.result c.digits_len-digits.ensures.value
     (sym c.shares_digits.ensures ∙ c.if-not-shares_digits.true)
 
 pub returns : goal.returns
 returns c =
-    c.with_rest.ensures ∙ patch_cut c.args.loose c.args.zeros c.args.text.now c.digits_len-digits.result c.saturating_sub-own.result
+    c.with_rest.ensures ∙ patch_cut c.args.loose c.args.text.now c.digits_len-digits.result c.saturating_sub-own.result
     (place_front_view c.place_front-2.result) c.digits_len-digits.ensures.value (sym c.shares_digits.ensures ∙ c.if-not-shares_digits.false)
     (omega (arith, c.saturating_sub-own.ensures)) c.place_front-2.ensures

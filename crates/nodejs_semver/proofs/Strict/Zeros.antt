@@ -1,0 +1,219 @@
+-- How many numbers of a partial are written `0`: strictly as many as are 0, so that node-semver's table goes by the values of the numbers.
+use Rattle.nodejs_semver.proofs.Common.{Bool, Id, List, None, Option, Some, VersionValue, [], and_parts, ap₂, append-nil, arith, begins}
+use Rattle.nodejs_semver.proofs.Common.{cases_Bool, codes, common_steps, drop, drop_at, false, if◌then◌else◌, inl, inr, is_ascii_digit}
+use Rattle.nodejs_semver.proofs.Common.{is_release, length, list_all, nat_lt, nat_tests, not, prefix_len, refl, subst, suc, sym, take_at, true}
+use Rattle.nodejs_semver.proofs.{Common.{ℕ, ◌&&◌, ◌++◌, ◌+◌, ◌<◌, ◌==◌, ◌∙◌, ◌∷◌, ◌≡◌}, NpmCommon.{Comparison, IsPartial, IsPlace}}
+use Rattle.nodejs_semver.proofs.Common.{IsNumber, ap, take, take_rest, ◌-◌}
+use Rattle.nodejs_semver.proofs.NpmCommon.{IsPlaces, IsStrictBuild, Numbers, at_least, bytes_eq, bytes_eq-Decides, caret_from, compared}
+use Rattle.nodejs_semver.proofs.NpmCommon.{digits_grow, digits_value_after, first, from, has_leading_zero, made, major, minor, next_changed}
+use Rattle.nodejs_semver.proofs.{NpmCommon.{partial_of, take_while, under, whole, wildcard}, Reading.Numbers.digits-taken}
+use Rattle.nodejs_semver.specs.{Internal.NpmParts.{AreZeros, is_padded, is_wildcard}, Npm.Grammar.IsPreRelease, Text.WordText.{above, at_most, below, equal}}
+use Rattle.nodejs_semver.specs.Npm.Table.{Partial, Sign, as_written, caret, next, no_build, table, tilde, written_zeros, zeros}
+use Rattle.nodejs_semver.specs.Npm.RangeText as Text
+
+-- ---- the text
+
+abbrev no_digit : ℕ → Bool
+no_digit b = not (is_ascii_digit b)
+
+-- the number at the front is written `0`
+abbrev pub zero_at : List ℕ → Bool
+zero_at text = bytes_eq (take_while is_ascii_digit text) (codes "0")
+
+abbrev counted : Bool → Bool → Bool → ℕ
+counted a b c = if a then (if b then (if c then 3 else 2) else 1) else 0
+
+drop_four : (text : List ℕ) → drop 2 (drop 2 text) ≡ drop 4 text
+drop_four [] = refl
+drop_four (a ∷ []) = refl
+drop_four (a ∷ b ∷ []) = refl
+drop_four (a ∷ b ∷ c ∷ []) = refl
+drop_four (a ∷ b ∷ c ∷ d ∷ text) = refl
+
+pub zeros_counted : (text numbers : List ℕ) → numbers ≡ drop (prefix_len no_digit text) text
+    → written_zeros text ≡ counted (zero_at numbers) (zero_at (drop 2 numbers)) (zero_at (drop 2 (drop 2 numbers)))
+unfolding written_zeros
+zeros_counted text numbers e = rw (← e, drop_four numbers) (go (zero_at numbers) (zero_at (drop 2 numbers)) (zero_at (drop 4 numbers)))
+  where
+    go : (a b c : Bool) → (if a then 1 + (if b then 1 + (if c then 1 + 0 else 0) else 0) else 0) ≡ counted a b c
+    go a b c = grind (arith, nat_tests)
+
+-- the same, as it is cut out
+pub zeros_taken : (text numbers : List ℕ) (at : ℕ) → at ≡ prefix_len no_digit text → numbers ≡ take (length text - at) (drop at text)
+    → written_zeros text ≡ counted (zero_at numbers) (zero_at (drop 2 numbers)) (zero_at (drop 2 (drop 2 numbers)))
+zeros_taken text numbers at e f = zeros_counted text numbers (f ∙ take_rest text at ∙ ap (λ n. drop n text) e)
+
+marks-dropped : (marks x : List ℕ) → list_all no_digit marks ≡ true
+    → drop (prefix_len no_digit (marks ++ x)) (marks ++ x) ≡ drop (prefix_len no_digit x) x
+marks-dropped [] x h = refl
+marks-dropped (b ∷ marks) x h =
+    let p = and_parts (no_digit b) (list_all no_digit marks) h in
+    let more : 1 + prefix_len no_digit (marks ++ x) ≡ suc (prefix_len no_digit (marks ++ x)) = omega arith in
+    rw (p.0, more) (marks-dropped marks x p.1)
+
+-- marks in front do not count
+pub zeros-marked : (marks x : List ℕ) → list_all no_digit marks ≡ true → written_zeros (marks ++ x) ≡ written_zeros x
+zeros-marked marks x h = zeros_counted (marks ++ x) _ (sym (marks-dropped marks x h)) ∙ sym (zeros_counted x _ refl)
+
+-- ---- strictly zero is written `0`
+
+digits-zero : (digits : List ℕ) (n : ℕ) → IsNumber n digits n → has_leading_zero digits ≡ false → bytes_eq digits (codes "0") ≡ (n == 0)
+digits-zero [] n k h = absurd (omega (arith, k.some))
+digits-zero (c ∷ []) n k h = grind (arith, nat_tests, common_steps)
+digits-zero (c ∷ d ∷ digits) n k h = grind (arith, nat_tests, common_steps, and_parts, digits_grow)
+
+abbrev is_zero_place : Option ℕ → Bool
+is_zero_place a = elim a [ None ↦ false | Some n ↦ n == 0 ]
+
+zero-place : (x more : List ℕ) (a : Option ℕ) → IsPlace false x a → begins is_ascii_digit more ≡ false → zero_at (x ++ more) ≡ is_zero_place a
+zero-place x more a (Text.any b h) stop = grind (arith, nat_tests, common_steps)
+zero-place x more a (Text.number digits n k spelled short) stop =
+    let e : take_while is_ascii_digit (digits ++ more) ≡ digits = grind (arith, nat_tests, common_steps, digits-taken, take_at) in
+    rw e (digits-zero digits n k (grind arith))
+
+-- a zero is one character
+zero-alone : (x : List ℕ) (n : ℕ) → IsPlace false x (Some n) → (n == 0) ≡ true → x ≡ codes "0"
+zero-alone x n (Text.number digits m k spelled short) h =
+    (bytes_eq-Decides digits (codes "0")).0 (digits-zero digits m k (grind arith) ∙ h)
+
+behind-quiet : (wild : Bool) (fits : List ℕ → Bool) (pre build : List ℕ) (l m : List Id) → IsPreRelease false wild fits pre l → IsStrictBuild build m
+    → begins is_ascii_digit (pre ++ build) ≡ false
+behind-quiet wild fits pre build l m h k = grind (arith, nat_tests, common_steps)
+
+place-first : (x more : List ℕ) (n : ℕ) → IsPlace false x (Some n) → drop (prefix_len no_digit (x ++ more)) (x ++ more) ≡ x ++ more
+place-first x more n (Text.number digits m k spelled short) = go digits k.some k.each
+  where
+    go : (digits : List ℕ) → 0 < length digits → list_all is_ascii_digit digits ≡ true
+        → drop (prefix_len no_digit (digits ++ more)) (digits ++ more) ≡ digits ++ more
+    go [] h k = absurd (omega (arith, h))
+    go (b ∷ digits) h k = grind (arith, nat_tests, common_steps, and_parts)
+
+-- the zeros of the places behind a number
+zeros-behind : (x rest : List ℕ) (n : ℕ) → IsPlace false x (Some n) → begins is_ascii_digit rest ≡ false
+    → written_zeros (x ++ rest) ≡ counted (n == 0) (zero_at (drop 1 rest)) (zero_at (drop 3 rest))
+zeros-behind x rest n h stop =
+    zeros_counted (x ++ rest) (x ++ rest) (sym (place-first x rest n h)) ∙ elim (cases_Bool (n == 0)) [
+      | inr some ↦ rw (zero-place x rest (Some n) h stop, some) refl
+      | inl zero ↦
+          let e : x ≡ codes "0" = zero-alone x n h zero in
+          rw (zero-place x rest (Some n) h stop, zero, e, drop_four (48 ∷ rest)) refl
+    ]
+
+zeros_of : Option ℕ → Option ℕ → Option ℕ → ℕ
+zeros_of a b c = counted (is_zero_place a) (is_zero_place b) (is_zero_place c)
+
+-- the second place, and what stands behind it
+zeros-dotted : (x y rest : List ℕ) (n : ℕ) (b c : Option ℕ) → IsPlace false x (Some n) → IsPlace false y b → begins is_ascii_digit rest ≡ false
+    → (is_zero_place b ≡ true → zero_at (drop 1 rest) ≡ is_zero_place c)
+    → written_zeros (x ++ (46 ∷ (y ++ rest))) ≡ zeros_of (Some n) b c
+unfolding zeros_of
+zeros-dotted x y rest n b c h k stop f =
+    zeros-behind x (46 ∷ (y ++ rest)) n h refl ∙ rw (zero-place y rest b k stop) (go b k f)
+  where
+    go : (b : Option ℕ) → IsPlace false y b → (is_zero_place b ≡ true → zero_at (drop 1 rest) ≡ is_zero_place c)
+        → counted (n == 0) (is_zero_place b) (zero_at (drop 2 (y ++ rest))) ≡ counted (n == 0) (is_zero_place b) (is_zero_place c)
+    go None k f = refl
+    go (Some m) k f = elim (cases_Bool (m == 0)) [
+      | inr some ↦ rw some refl
+      | inl zero ↦ (let e : y ≡ codes "0" = zero-alone y m k zero in rw (zero, e, f zero) refl)
+    ]
+
+zeros-partial : (n : ℕ) (b c : Option ℕ) (l m : List Id) → zeros_of (Some n) b c ≡ zeros (partial_of (Some n) b c l m)
+unfolding zeros_of
+zeros-partial n None c l m = grind (arith, nat_tests)
+zeros-partial n (Some k) None l m = grind (arith, nat_tests)
+zeros-partial n (Some k) (Some j) l m = grind (arith, nat_tests)
+
+zeros-strict : (x : List ℕ) (p : Partial) → IsPlaces false x p → AreZeros p (zeros p) x
+zeros-strict x p (Text.one x1 None h) w = cc w
+zeros-strict x p (Text.one x1 (Some n) h) w =
+    zeros-partial' n ∙ sym (subst (λ (t : List ℕ). written_zeros t ≡ counted (n == 0) false false) (append-nil x1) (zeros-behind x1 [] n h refl))
+  where
+    zeros-partial' : (n : ℕ) → zeros (major n) ≡ counted (n == 0) false false
+    zeros-partial' n = grind (arith, nat_tests)
+zeros-strict x p (Text.two x1 y None b h k) w = cc w
+zeros-strict x p (Text.two x1 y (Some n) b h k) w =
+    sym (subst (λ (t : List ℕ). written_zeros (x1 ++ (46 ∷ t)) ≡ zeros (partial_of (Some n) b None [] [])) (append-nil y)
+    (zeros-dotted x1 y [] n b None h k refl (λ _. refl) ∙ zeros-partial n b None [] []))
+zeros-strict x p (Text.three x1 y z pre build None b c ids builds h k l m n t) w = cc w
+zeros-strict x p (Text.three x1 y z pre build (Some a) b c ids builds h k l m n t) w =
+    sym (zeros-dotted x1 y (46 ∷ (z ++ (pre ++ build))) a b c h k refl (λ _. zero-place z (pre ++ build) c l (behind-quiet _ _ pre build ids builds m n))
+    ∙ zeros-partial a b c ids builds)
+
+-- strictly the table's numbers are written as they are
+pub strict-zeros : (text : List ℕ) (p : Partial) → IsPartial false text p → AreZeros p (zeros p) text
+strict-zeros text p h = zeros-strict text p h.0
+
+pub padded-same : (text : List ℕ) (p : Partial) (z : ℕ) → AreZeros p z text → is_padded z p ≡ is_padded (written_zeros text) p
+padded-same text wildcard z e = grind (arith, nat_tests)
+padded-same text (major M) z e = rw (e refl) refl
+padded-same text (minor M m) z e = rw (e refl) refl
+padded-same text (whole v) z e = rw (e refl) refl
+
+self-padded : (p : Partial) → is_padded (zeros p) p ≡ false
+self-padded p = below (zeros p)
+  where
+    below : (n : ℕ) → nat_lt n n ≡ false
+    below n = grind (arith, nat_tests)
+
+pub strict-unpadded : (text : List ℕ) (p : Partial) → IsPartial false text p → false ≡ is_padded (written_zeros text) p
+strict-unpadded text p h = sym (self-padded p) ∙ padded-same text p (zeros p) (strict-zeros text p h)
+
+-- ---- the table by the values of the numbers
+
+abbrev pub plain_changed : Partial → Numbers
+plain_changed p = if not ((first p).0 == 0) then ((first p).0 + 1, 0, 0)
+    else elim p [ whole v ↦ if v.minor == 0 then (0, 0, v.patch + 1) else next (whole v) | q ↦ next q ]
+
+abbrev pub plain_from : Bool → VersionValue → Comparison
+plain_from include v = if include && (is_release v && (v.major == 0)) then from true (first (whole v)) else made at_least (no_build v)
+
+abbrev pub plain_table : Bool → Sign → Partial → List ℕ → List Comparison
+plain_table include s wildcard text = table include s wildcard text
+plain_table include caret (whole v) text = plain_from include v ∷ (under (plain_changed (whole v)) ∷ [])
+plain_table include tilde (whole v) text = made at_least (no_build v) ∷ (under (next (whole v)) ∷ [])
+plain_table include (compared c) (whole v) text = table include (compared c) (whole v) text
+plain_table include caret p text = from include (first p) ∷ (under (plain_changed p) ∷ [])
+plain_table include tilde p text = from false (first p) ∷ (under (next p) ∷ [])
+plain_table include (compared equal) p text = from include (first p) ∷ (under (next p) ∷ [])
+plain_table include (compared at_least) p text = from include (first p) ∷ []
+plain_table include (compared c) p text = table include (compared c) p text
+
+as-plain : (p : Partial) (c : Comparison) → as_written (zeros p) p c ≡ c
+as-plain p c = rw (self-padded p) refl
+
+changed-plain : (p : Partial) → is_wildcard p ≡ false → next_changed (zeros p) p ≡ plain_changed p
+changed-plain wildcard w = cc w
+changed-plain (major M) w = elim (cases_Bool (M == 0)) [ inl e ↦ rw e refl | inr e ↦ rw e refl ]
+changed-plain (minor M m) w = elim (cases_Bool (M == 0)) [
+  | inr e ↦ rw e refl
+  | inl e ↦ elim (cases_Bool (m == 0)) [ inl f ↦ rw (e, f) grind arith | inr f ↦ rw (e, f) grind arith ]
+]
+changed-plain (whole v) w = grind (arith, nat_tests, common_steps)
+
+from-plain : (include : Bool) (v : VersionValue) → caret_from include (zeros (whole v)) v ≡ plain_from include v
+from-plain include v = grind (arith, nat_tests, common_steps, as-plain)
+
+module _ (include : Bool) (text : List ℕ) where
+  rows-plain : (s : Sign) (p : Partial) → AreZeros p (zeros p) text → table include s p text ≡ plain_table include s p text
+  rows-plain s wildcard h = refl
+  rows-plain caret (whole v) h = rw (sym (h refl)) (ap₂ (λ c n. c ∷ (under n ∷ [])) (from-plain include v) (changed-plain (whole v) refl))
+  rows-plain tilde (whole v) h = rw (sym (h refl), as-plain (whole v) (made at_least (no_build v))) refl
+  rows-plain (compared c) (whole v) h = refl
+  rows-plain caret (major M) h = rw (sym (h refl), as-plain (major M) (from include (M, 0, 0)), changed-plain (major M) refl) refl
+  rows-plain caret (minor M m) h = rw (sym (h refl), as-plain (minor M m) (from include (M, m, 0)), changed-plain (minor M m) refl) refl
+  rows-plain tilde (major M) h = rw (sym (h refl), as-plain (major M) (from false (M, 0, 0))) refl
+  rows-plain tilde (minor M m) h = rw (sym (h refl), as-plain (minor M m) (from false (M, m, 0))) refl
+  rows-plain (compared equal) (major M) h = rw (sym (h refl), as-plain (major M) (from include (M, 0, 0))) refl
+  rows-plain (compared equal) (minor M m) h = rw (sym (h refl), as-plain (minor M m) (from include (M, m, 0))) refl
+  rows-plain (compared at_least) (major M) h = rw (sym (h refl), as-plain (major M) (from include (M, 0, 0))) refl
+  rows-plain (compared at_least) (minor M m) h = rw (sym (h refl), as-plain (minor M m) (from include (M, m, 0))) refl
+  rows-plain (compared above) (major M) h = refl
+  rows-plain (compared above) (minor M m) h = refl
+  rows-plain (compared at_most) (major M) h = refl
+  rows-plain (compared at_most) (minor M m) h = refl
+  rows-plain (compared below) (major M) h = refl
+  rows-plain (compared below) (minor M m) h = refl
+
+  pub table-plain : (s : Sign) (p : Partial) → IsPartial false text p → table include s p text ≡ plain_table include s p text
+  table-plain s p h = rows-plain s p (strict-zeros text p h)
