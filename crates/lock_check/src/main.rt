@@ -18,10 +18,10 @@
 //! A lock file may come from anyone. What is printed of it stands on one line, in printable ASCII:
 //! all other characters, quotes and backslashes are escaped, as `\u{1b}`.
 //!
-//! Ranges and versions are read as npm's library node-semver reads them. It ignores malformed
-//! words, of which its readings here reject some: of a text with such a word the lenient reading of
-//! `parse` decides. Each word that this ignores is named with its place, which does not count as a
-//! finding: `foo=` in `foo= ^1`.
+//! Ranges and versions are read as npm's library node-semver reads them. Of a text that its
+//! readings here reject the lenient reading of `parse` decides, since npm reads a few of these. Each
+//! word that `parse` ignores is named with its place, which does not count as a finding: the first
+//! one of `>1000000000000000000000 ^1`.
 #![tactic(auto)]
 
 mod check;

@@ -2,8 +2,8 @@
 //
 // `npm ls` asks node-semver's loose reading. Versions are read so. Of ranges the strict reading
 // decides, which reads every range that a registry takes, and of a text that it rejects the loose
-// one. Some malformed words that npm ignores are rejected by both; of such a text `parse` decides,
-// which ignores them too.
+// one. Of a text that both reject `parse` decides: npm reads a few of these, and ignores a word of
+// them as `parse` does.
 
 ghost use Rattle.lock_check.specs.Readings.{IsNoNpmRange, IsNotWanted, IsNpmRange};
 ghost use Rattle.lock_check.specs.Readings.{IsUnmarked, IsWanted};

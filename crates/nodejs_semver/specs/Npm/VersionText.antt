@@ -9,7 +9,8 @@ use Rattle.semver_core.specs.Text.Numbers.{IsNumber}
 use Rattle.semver_core.specs.Values.Versions.{VersionValue}
 use Rattle.semver_core.specs.declared.TheConstants.{MAX_LENGTH}
 use Rattle.nodejs_semver.specs.Npm.Grammar.{IsPreRelease, IsStrictBuild, IsStrictNumber, is_strict_list}
-use Rattle.nodejs_semver.specs.Npm.{Malformed.{is_mark}, RangeText.{AreMarks}}
+use Rattle.nodejs_semver.specs.Npm.Malformed.{is_mark}
+use Rattle.nodejs_semver.specs.Npm.RangeText.{AreMarks}
 
 -- the whole text is this version, in a reading that has these marks, numbers and pre-releases
 pub data IsWritten (Marks : List ℕ → Type 0) (Number : List ℕ → ℕ → Type 0) (PreRelease : List ℕ → List Id → Type 0)

@@ -35,7 +35,10 @@ fn ends_compared(text: &[u8]) -> bool
 fn begins_place(text: &[u8]) -> bool
     ensures { result ≡ Text.begins_place text.now }
 {
-    matches!(&text[marks_len(text)..], [b'0'..=b'9' | b'x' | b'X' | b'*', ..])
+    matches!(
+        &text[marks_len(text)..],
+        [b'0'..=b'9' | b'x' | b'X' | b'*', ..]
+    )
 }
 
 // Whether a `=` alone is at the front.

@@ -261,18 +261,15 @@ pub fn range(
 /// Reads a range text as node-semver's `Range` does by its option `loose`, as `npm ls` reads the
 /// ranges of dependencies: all that [`range`] reads, and also numbers with leading zeros
 /// (`^01.2.3`), a pre-release without its `-` (`1.2.3beta`), and more marks than one `v` before a
-/// version (`==1.2.3`). It ignores a malformed word if that has a character that stands in no
-/// word, or two signs (`>>1`), does not begin or end as words do, or has not one to three places in
-/// front, as in `1.2-`, `1.x.y` and `1.2.3.4`; one that ends in a sign, and `-`, only at the end.
-/// So `>=1.0.0, <2.0.0` is `<2.0.0`, and `foo 1.2 ^` is `1.2`. Words without comparators are no
+/// version (`==1.2.3`). Malformed words are ignored: `>=1.0.0, <2.0.0` is `<2.0.0`. One that ends
+/// in a sign goes on behind the whitespace, behind a comparator only if a number or a wildcard
+/// follows: `foo^ bar 1` is `1`, and `foo= 1 2` is `2`. Words without comparators are no
 /// alternative if the first and the last one are malformed: `latest || 1` is `1`, and `foo *` is
 /// `*`.
 ///
-/// What it reads means what it means to node-semver. It rejects more than node-semver does: a text
-/// with another malformed word, such as `1x`, or `foo=` and `-` in front of another word, which
-/// node-semver ignores where another word is well formed; a partial version of more than 250
-/// characters in front of its build; and whitespace among the marks of a whole version in a hyphen
-/// range.
+/// Node-semver answers otherwise of a word that has one `*` and is else a whole version, such as
+/// `>*1.2.3`, where it passes over the `*`: here the word is malformed. It reads partial versions
+/// of more than 250 characters in front of their builds, for which a text is rejected here.
 ///
 /// All else is as for [`range`]: how to ask the range, what it borrows and when allocation fails.
 ///
