@@ -11,11 +11,11 @@ use Rattle.nodejs_semver.proofs.Common.{same_Some, space_len, space_len-nil, sub
 use Rattle.nodejs_semver.proofs.Common.{zero, ℕ, ◌&&◌, ◌++◌, ◌+◌, ◌-◌, ◌<◌, ◌==◌, ◌||◌, ◌↔◌, ◌∙◌, ◌∷◌, ◌≡◌, ◌≤◌}
 use Rattle.nodejs_semver.proofs.{Dividing.{BarsDivide.{bars_divide, bars_once}, MeaningLaw.pieces-utf8}, NpmCommon.AreAlternatives}
 use Rattle.nodejs_semver.proofs.NpmCommon.{AreMarks, AreWords, Comparison, Ended, HasAlternativesIn, IsAlternative, IsPartial, IsPlaces}
-use Rattle.nodejs_semver.proofs.NpmCommon.{IsStrictBuild, IsVersionText, IsWord, Signed, after_byte, after_ends, alternative_of, is_short}
+use Rattle.nodejs_semver.proofs.NpmCommon.{IsStrictBuild, IsVersionText, IsWord, Signed, after_byte, after_ends, alternative_of}
 use Rattle.nodejs_semver.proofs.NpmCommon.{alternatives_of, any_word, are_normal, are_whole_marks, begins_malformed, compared}
 use Rattle.nodejs_semver.proofs.NpmCommon.{counted_front, drop_ends, encode_ascii, end_front, ended_end, hyphen_comparisons, hyphen_ends}
 use Rattle.nodejs_semver.proofs.NpmCommon.{hyphen_lower, hyphen_of, hyphen_upper, ignored, ignored_front, is_free_lower, is_free_upper}
-use Rattle.nodejs_semver.proofs.NpmCommon.{is_malformed, is_mark, is_small, is_valid, is_visible, kept, last, last_end, len_utf8, limited}
+use Rattle.nodejs_semver.proofs.NpmCommon.{is_malformed, is_mark, is_valid, is_visible, kept, last, last_end, len_utf8, limited}
 use Rattle.nodejs_semver.proofs.NpmCommon.{limited_end, limited_hyphen, limited_word, marked_word, marks_len, no_build}
 use Rattle.nodejs_semver.proofs.NpmCommon.{npm_sign, or_else, plus, signed_front_view, signed_word, space_len-white, strict_version}
 use Rattle.nodejs_semver.proofs.{NpmCommon.{wildcard, word, ◌>>?◌}, Reading.Bytes.{all-join, begins_component, is_solid, solid-dark}}

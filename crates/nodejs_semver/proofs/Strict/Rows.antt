@@ -7,7 +7,7 @@ use Rattle.nodejs_semver.proofs.Common.{cond_both, cut_cmp, equal, false, greate
 use Rattle.nodejs_semver.proofs.Common.{is_interval, is_le, is_lt, is_past, is_range_bound, is_readable, is_release, length, lesser_upper}
 use Rattle.nodejs_semver.proofs.Common.{lets_in, list_all, list_all-append, list_any, list_any-append, lower_cut, meet, nat_tests, not}
 use Rattle.nodejs_semver.proofs.Common.{option_holds-interval, precedence, precedence_total, refl, sym, true, upper_cut, ℕ, ◌&&◌, ◌++◌}
-use Rattle.nodejs_semver.proofs.{Common.{◌+◌, ◌==◌, ◌||◌, ◌∙◌, ◌∷◌, ◌≡◌, ◌≤◌}, NpmCommon.{Alternative, AreRead, Bounds, Comparison}}
+use Rattle.nodejs_semver.proofs.{Common.{◌+◌, ◌||◌, ◌∙◌, ◌∷◌, ◌≡◌, ◌≤◌}, NpmCommon.{Alternative, AreRead, Bounds, Comparison}}
 use Rattle.nodejs_semver.proofs.NpmCommon.{IsCommon, IsNarrowed, MAX_LENGTH, NarrowedBy, Numbers, are_normal, at_least, both_ways}
 use Rattle.nodejs_semver.proofs.NpmCommon.{bounds_view, bytes_eq, caret_from, comparator_view, compared, counted, counts, filter-append}
 use Rattle.nodejs_semver.proofs.NpmCommon.{first, from, hyphen_lower, hyphen_upper, is_valid, is_zero, made, nat_le, next_changed}
