@@ -2,7 +2,7 @@
 -- numbers past the limit where none counts.
 use Rattle.nodejs_semver.proofs.Common.{Bool, Front, Id, IsNumber, List, MAX_SAFE_INTEGER, None, Option, Some, [], and-false, and_parts}
 use Rattle.nodejs_semver.proofs.Common.{ap, append-nil, append_assoc, arith, begins, bind_some, cases_Bool, common_steps, drop, drop_at}
-use Rattle.nodejs_semver.proofs.Common.{false, inl, inr, is_ascii_digit, is_boundary, is_empty, length, list_all, nat_lt, nat_tests, not}
+use Rattle.nodejs_semver.proofs.Common.{false, inl, inr, is_ascii_digit, is_boundary, is_empty, length, list_all, nat_tests, not}
 use Rattle.nodejs_semver.proofs.Common.{prefix_len, refl, same_Some, subst, suc, sym, take, take-append-drop, take_at, take_rest, true}
 use Rattle.nodejs_semver.proofs.{Common.{zero, ℕ, ◌&&◌, ◌++◌, ◌+◌, ◌-◌, ◌<◌, ◌==◌, ◌||◌, ◌∙◌, ◌∷◌, ◌≡◌, ◌≤◌}, NpmCommon.IsPartial}
 use Rattle.nodejs_semver.proofs.NpmCommon.{IsPlace, IsStrictBuild, after_byte, begins_byte, begins_padded, begins_wildcard, build_front}

@@ -7,7 +7,7 @@ use Rattle.nodejs_semver.proofs.Common.{cond_both, cut_cmp, equal, false, greate
 use Rattle.nodejs_semver.proofs.Common.{is_interval, is_le, is_lt, is_past, is_range_bound, is_readable, is_release, length, lesser_upper}
 use Rattle.nodejs_semver.proofs.Common.{lets_in, list_all, list_all-append, list_any, list_any-append, lower_cut, meet, nat_tests, not}
 use Rattle.nodejs_semver.proofs.Common.{option_holds-interval, precedence, precedence_total, refl, sym, true, upper_cut, ℕ, ◌&&◌, ◌++◌}
-use Rattle.nodejs_semver.proofs.{Common.{◌+◌, ◌==◌, ◌||◌, ◌∙◌, ◌∷◌, ◌≡◌, ◌≤◌}, NpmCommon.{Alternative, AreRead, Bounds, Comparison}}
+use Rattle.nodejs_semver.proofs.{Common.{◌+◌, ◌||◌, ◌∙◌, ◌∷◌, ◌≡◌, ◌≤◌}, NpmCommon.{Alternative, AreRead, Bounds, Comparison}}
 use Rattle.nodejs_semver.proofs.NpmCommon.{IsCommon, IsNarrowed, MAX_LENGTH, NarrowedBy, Numbers, are_normal, at_least, both_ways}
 use Rattle.nodejs_semver.proofs.NpmCommon.{bounds_view, bytes_eq, caret_from, comparator_view, compared, counted, counts, filter-append}
 use Rattle.nodejs_semver.proofs.NpmCommon.{first, from, hyphen_lower, hyphen_upper, is_valid, is_zero, made, nat_le, next_changed}
@@ -254,28 +254,20 @@ module _ (include padded : Bool) (text : List ℕ) (a b : Numbers) (r : Option B
   pub part_equal : (p : Partial) (d : DeclaredComparator.Comparator) → d ≡ Comparators.Equal → is_part p ≡ true
       → padded ≡ is_padded (written_zeros text) p → a ≡ first p → b ≡ next p
       → AreRead include (noted padded (from include a) ∷ (under b ∷ [])) r → AreRead include (table include (compared (comparator_view d)) p text) r
-  part_equal (major M) d g i k e f h = rw g (rw (k, e, f) at h)
-  part_equal (minor M m) d g i k e f h = rw g (rw (k, e, f) at h)
-  part_equal p d g i k e f h = cc i
+  part_equal p d g i k e f h = grind arith
 
   pub part_at_least : (p : Partial) (d : DeclaredComparator.Comparator) → d ≡ Comparators.AtLeast → is_part p ≡ true
       → padded ≡ is_padded (written_zeros text) p → a ≡ first p
       → AreRead include (noted padded (from include a) ∷ []) r → AreRead include (table include (compared (comparator_view d)) p text) r
-  part_at_least (major M) d g i k e h = rw g (rw (k, e) at h)
-  part_at_least (minor M m) d g i k e h = rw g (rw (k, e) at h)
-  part_at_least p d g i k e h = cc i
+  part_at_least p d g i k e h = grind arith
 
   pub part_caret : (z : ℕ) (p : Partial) → is_part p ≡ true → z ≡ written_zeros text → padded ≡ is_padded z p → a ≡ first p → b ≡ next_changed z p
       → AreRead include (noted padded (from include a) ∷ (under b ∷ [])) r → AreRead include (table include caret p text) r
-  part_caret z (major M) i l k e f h = rw (k, e, f, l) at h
-  part_caret z (minor M m) i l k e f h = rw (k, e, f, l) at h
-  part_caret z p i l k e f h = cc i
+  part_caret z p i l k e f h = grind arith
 
   pub part_tilde : (p : Partial) → is_part p ≡ true → padded ≡ is_padded (written_zeros text) p → a ≡ first p → b ≡ next p
       → AreRead include (noted padded (from false a) ∷ (under b ∷ [])) r → AreRead include (table include tilde p text) r
-  part_tilde (major M) i k e f h = rw (k, e, f) at h
-  part_tilde (minor M m) i k e f h = rw (k, e, f) at h
-  part_tilde p i k e f h = cc i
+  part_tilde p i k e f h = grind arith
 
 module _ (include : Bool) (text : List ℕ) (a : Numbers) (r : Option Bounds) where
   pub part_below : (p : Partial) (d : DeclaredComparator.Comparator) → d ≡ Comparators.Below → is_part p ≡ true → a ≡ first p

@@ -266,10 +266,7 @@ free-marks loose s p marks e h = grind (arith, nat_tests, common_steps)
 
 same-row : (include : Bool) (s : Sign) (p : Partial) (t u : List ℕ) → (s ≡ caret) ⊎ (s ≡ tilde) → written_zeros t ≡ written_zeros u
     → table include s p t ≡ table include s p u
-same-row include s wildcard t u i e = elim i [ inl c ↦ rw c refl | inr c ↦ rw c refl ]
-same-row include s (major M) t u i e = elim i [ inl c ↦ rw (c, e) refl | inr c ↦ rw (c, e) refl ]
-same-row include s (minor M m) t u i e = elim i [ inl c ↦ rw (c, e) refl | inr c ↦ rw (c, e) refl ]
-same-row include s (whole v) t u i e = elim i [ inl c ↦ rw (c, e) refl | inr c ↦ rw (c, e) refl ]
+same-row include s p t u i e = grind (arith, nat_tests, common_steps)
 
 caret-taken : (loose : Bool) (p : Partial) (marks x text u : List ℕ) → list_all is_mark marks ≡ true → MarksLeft text u
     → SignTaken loose caret p marks x (caret, text) u

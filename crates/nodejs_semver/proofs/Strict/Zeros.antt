@@ -1,11 +1,11 @@
 -- How many numbers of a partial are written `0`: strictly as many as are 0, so that node-semver's table goes by the values of the numbers.
 use Rattle.nodejs_semver.proofs.Common.{Bool, Id, List, None, Option, Some, VersionValue, [], and_parts, ap₂, append-nil, arith, begins}
-use Rattle.nodejs_semver.proofs.Common.{cases_Bool, codes, common_steps, drop, drop_at, false, if◌then◌else◌, inl, inr, is_ascii_digit}
+use Rattle.nodejs_semver.proofs.Common.{cases_Bool, codes, common_steps, drop, false, if◌then◌else◌, inl, inr, is_ascii_digit}
 use Rattle.nodejs_semver.proofs.Common.{is_release, length, list_all, nat_lt, nat_tests, not, prefix_len, refl, subst, suc, sym, take_at, true}
 use Rattle.nodejs_semver.proofs.{Common.{ℕ, ◌&&◌, ◌++◌, ◌+◌, ◌<◌, ◌==◌, ◌∙◌, ◌∷◌, ◌≡◌}, NpmCommon.{Comparison, IsPartial, IsPlace}}
 use Rattle.nodejs_semver.proofs.Common.{IsNumber, ap, take, take_rest, ◌-◌}
 use Rattle.nodejs_semver.proofs.NpmCommon.{IsPlaces, IsStrictBuild, Numbers, at_least, bytes_eq, bytes_eq-Decides, caret_from, compared}
-use Rattle.nodejs_semver.proofs.NpmCommon.{digits_grow, digits_value_after, first, from, has_leading_zero, made, major, minor, next_changed}
+use Rattle.nodejs_semver.proofs.NpmCommon.{digits_grow, first, from, has_leading_zero, made, major, minor, next_changed}
 use Rattle.nodejs_semver.proofs.{NpmCommon.{partial_of, take_while, under, whole, wildcard}, Reading.Numbers.digits-taken}
 use Rattle.nodejs_semver.specs.{Internal.NpmParts.{AreZeros, is_padded, is_wildcard}, Npm.Grammar.IsPreRelease, Text.WordText.{above, at_most, below, equal}}
 use Rattle.nodejs_semver.specs.Npm.Table.{Partial, Sign, as_written, caret, next, no_build, table, tilde, written_zeros, zeros}
@@ -145,10 +145,7 @@ pub strict-zeros : (text : List ℕ) (p : Partial) → IsPartial false text p �
 strict-zeros text p h = zeros-strict text p h.0
 
 pub padded-same : (text : List ℕ) (p : Partial) (z : ℕ) → AreZeros p z text → is_padded z p ≡ is_padded (written_zeros text) p
-padded-same text wildcard z e = grind (arith, nat_tests)
-padded-same text (major M) z e = rw (e refl) refl
-padded-same text (minor M m) z e = rw (e refl) refl
-padded-same text (whole v) z e = rw (e refl) refl
+padded-same text p z e = grind (arith, nat_tests)
 
 self-padded : (p : Partial) → is_padded (zeros p) p ≡ false
 self-padded p = below (zeros p)
@@ -183,37 +180,14 @@ as-plain : (p : Partial) (c : Comparison) → as_written (zeros p) p c ≡ c
 as-plain p c = rw (self-padded p) refl
 
 changed-plain : (p : Partial) → is_wildcard p ≡ false → next_changed (zeros p) p ≡ plain_changed p
-changed-plain wildcard w = cc w
-changed-plain (major M) w = elim (cases_Bool (M == 0)) [ inl e ↦ rw e refl | inr e ↦ rw e refl ]
-changed-plain (minor M m) w = elim (cases_Bool (M == 0)) [
-  | inr e ↦ rw e refl
-  | inl e ↦ elim (cases_Bool (m == 0)) [ inl f ↦ rw (e, f) grind arith | inr f ↦ rw (e, f) grind arith ]
-]
-changed-plain (whole v) w = grind (arith, nat_tests, common_steps)
+changed-plain p w = grind (arith, nat_tests, common_steps)
 
 from-plain : (include : Bool) (v : VersionValue) → caret_from include (zeros (whole v)) v ≡ plain_from include v
 from-plain include v = grind (arith, nat_tests, common_steps, as-plain)
 
 module _ (include : Bool) (text : List ℕ) where
   rows-plain : (s : Sign) (p : Partial) → AreZeros p (zeros p) text → table include s p text ≡ plain_table include s p text
-  rows-plain s wildcard h = refl
-  rows-plain caret (whole v) h = rw (sym (h refl)) (ap₂ (λ c n. c ∷ (under n ∷ [])) (from-plain include v) (changed-plain (whole v) refl))
-  rows-plain tilde (whole v) h = rw (sym (h refl), as-plain (whole v) (made at_least (no_build v))) refl
-  rows-plain (compared c) (whole v) h = refl
-  rows-plain caret (major M) h = rw (sym (h refl), as-plain (major M) (from include (M, 0, 0)), changed-plain (major M) refl) refl
-  rows-plain caret (minor M m) h = rw (sym (h refl), as-plain (minor M m) (from include (M, m, 0)), changed-plain (minor M m) refl) refl
-  rows-plain tilde (major M) h = rw (sym (h refl), as-plain (major M) (from false (M, 0, 0))) refl
-  rows-plain tilde (minor M m) h = rw (sym (h refl), as-plain (minor M m) (from false (M, m, 0))) refl
-  rows-plain (compared equal) (major M) h = rw (sym (h refl), as-plain (major M) (from include (M, 0, 0))) refl
-  rows-plain (compared equal) (minor M m) h = rw (sym (h refl), as-plain (minor M m) (from include (M, m, 0))) refl
-  rows-plain (compared at_least) (major M) h = rw (sym (h refl), as-plain (major M) (from include (M, 0, 0))) refl
-  rows-plain (compared at_least) (minor M m) h = rw (sym (h refl), as-plain (minor M m) (from include (M, m, 0))) refl
-  rows-plain (compared above) (major M) h = refl
-  rows-plain (compared above) (minor M m) h = refl
-  rows-plain (compared at_most) (major M) h = refl
-  rows-plain (compared at_most) (minor M m) h = refl
-  rows-plain (compared below) (major M) h = refl
-  rows-plain (compared below) (minor M m) h = refl
+  rows-plain s p h = grind (arith, nat_tests, common_steps, as-plain, changed-plain, from-plain)
 
   pub table-plain : (s : Sign) (p : Partial) → IsPartial false text p → table include s p text ≡ plain_table include s p text
   table-plain s p h = rows-plain s p (strict-zeros text p h)

@@ -110,10 +110,7 @@ fn from_version<'a>(include: bool, padded: bool, version: &VersionRef<'a>) -> Bo
     ensures { IsCommon include (noted padded (made Words.at_least (no_build version.now)) ∷ [])
         (record { lower = result; upper = Bound.Unbounded }) }
 {
-    if include {
-        return Bound::Before(version.copy());
-    }
-    if padded {
+    if include || padded {
         return Bound::Before(version.copy());
     }
     if is_zero(version) {
