@@ -157,7 +157,7 @@ under-exact v n = record { tested = upper-before (lowest n) v ∙ grind arith; n
 none_bits : (n s : Bool) → (n ≡ true → s ≡ false) → ((n || false) && (s && true)) ≡ false
 none_bits n s f = grind arith
 
-under-there : (v : VersionValue) (n : Numbers) → (named_by v (under n ∷ []) && passed v (under n ∷ [])) ≡ false
+pub under-there : (v : VersionValue) (n : Numbers) → (named_by v (under n ∷ []) && passed v (under n ∷ [])) ≡ false
 under-there v n = none_bits (Ranges.names v (under n)) (satisfies v (under n)) (under-named v n)
 
 pub under-tame : (v : VersionValue) (n : Numbers) → Tame v (to_upper (Before (lowest n)) v) (names (Before (lowest n)) v) (under n ∷ [])
@@ -386,7 +386,7 @@ text-spelled text w h = record {
 
 -- ---- which number changes
 
-not_zero : (M : ℕ) → (suc M == 0) ≡ false
+pub not_zero : (M : ℕ) → (suc M == 0) ≡ false
 not_zero M = grind (arith, nat_tests)
 
 -- ---- signs
@@ -458,7 +458,7 @@ pub word-good : (pre : Bool) (v : VersionValue) (text : List ℕ) (word : Word) 
     → IsPlainWord MAX_SAFE_INTEGER pre text word cs → list_all (is_valid MAX_SAFE_INTEGER) cs ≡ true
     → Good pre v (table MAX_SAFE_INTEGER word) cs
 word-good pre v text word cs w (bare t p h) k = plain-good pre v w t p (form pre p h.plain) k
-word-good pre v text word cs w (signed s t p h m) k = signed-good pre v w t s p (form pre p h.plain) m h.npm k
+word-good pre v text word cs w (signed s b t p x h m) k = signed-good pre v w t s p (form pre p h.plain) m h.npm k
 
 -- ---- the lower end
 

@@ -1,62 +1,102 @@
 -- Plain texts: what they mean here, their alternatives to node-semver, and that both accept the same versions.
-use Rattle.nodejs_semver.proofs.Alike.{Beside.two-good, Rows.{Good, IsWithin, SameWord, between-good, within, word-good}}
-use Rattle.nodejs_semver.proofs.Common.{AllByRecursion, AreCommonParts, Bool, Comparator, IsBlank, IsSign, IsTrim, IsUtf8, List}
-use Rattle.nodejs_semver.proofs.Common.{MAX_SAFE_INTEGER, Means, Span, VersionValue, Word, [], above, accepts, any_weaker, ap, append-nil}
-use Rattle.nodejs_semver.proofs.Common.{append_assoc, ap₂, arith, at_most, below, cases_Bool, codes, common_steps, cut_bars, encode_utf8}
-use Rattle.nodejs_semver.proofs.Common.{equal, false, filter, first_so, inl, inr, is_empty, is_release, length, list_all, list_any}
-use Rattle.nodejs_semver.proofs.Common.{nat_tests, not, refl, second_so, subst, sym, trim, trim_is_middle, true, ℕ, ◌&&◌, ◌++◌, ◌<◌, ◌||◌}
-use Rattle.nodejs_semver.proofs.{Common.{◌∙◌, ◌∷◌, ◌≡◌}, Dividing.{BarsDivide.bars_divide, MeaningLaw.pieces-utf8}}
-use Rattle.nodejs_semver.proofs.Everyday.Texts.{common_parts_are_denoted, compact-trim, cut-first, cut-last, list-some, part-tidy}
-use Rattle.nodejs_semver.proofs.{Everyday.Words.{Compact, is_part_byte}, NpmCommon.{AreAlternatives, AreMarks, Comparison}}
-use Rattle.nodejs_semver.proofs.NpmCommon.{HasAlternatives, IsAlternative, IsPlainText, IsPlainWord, IsSignText, IsWord, are_marks}
-use Rattle.nodejs_semver.proofs.NpmCommon.{at_least, compared, counts, is_free_lower, is_free_upper, is_valid, is_within, lit<, meets}
-use Rattle.nodejs_semver.proofs.{NpmCommon.{more, none, one_word, signed, spelling, two_words}, Reading.Bytes.all-join}
-use Rattle.nodejs_semver.{proofs.Strict.{AlternativeLaw.alternatives_once, Rows.either_true}, specs.Npm.Alike.ArePlain}
-use Rattle.nodejs_semver.specs.Npm.{Alike.{IsPlainAlternative, bare, between, one}, RangeText.next, Ranges.IsRangeOf, Table.Sign}
-use Rattle.nodejs_semver.specs.Text.Common.{IsCommonPart, IsCommonWord, IsGap, caret_word, compare_word, comparison, hyphen_word}
-use Rattle.nodejs_semver.specs.Text.{Common.{more_parts, one_part, plain_word, tilde_word, two_comparisons}, WordText.above_sign}
-use Rattle.nodejs_semver.specs.Text.WordText.{at_least_sign, at_most_sign, below_sign, equal_sign}
+use Rattle.nodejs_semver.proofs.Alike.Beside.{words-good}
+use Rattle.nodejs_semver.proofs.Alike.Rows.{IsWithin, SameWord, between-good, within}
+use Rattle.nodejs_semver.proofs.Alike.Words.{hyphen-read, words-read}
+use Rattle.nodejs_semver.proofs.Bounds.TableRows.{table-interval}
+use Rattle.nodejs_semver.proofs.Common.{AllByRecursion, Bool, IsBlank, IsCutAtBars, IsTrim, IsUtf8, List, MAX_SAFE_INTEGER, Means, Option}
+use Rattle.nodejs_semver.proofs.Common.{Run, Some, Span, VersionValue, Word, [], accepts, any_weaker, ap, append-nil, append_assoc, ap₂}
+use Rattle.nodejs_semver.proofs.Common.{arith, cases_Bool, codes, common_steps, encode_utf8, equal, false, filter, filter_map, first_so}
+use Rattle.nodejs_semver.proofs.Common.{hyphen, inl, inr, is_empty, is_release, length, list_all, list_any, map, middle_is_trim, nat_tests}
+use Rattle.nodejs_semver.proofs.Common.{not, part_bounds, precedence, refl, second_so, subst, sym, table, trim, trim_is_middle, true}
+use Rattle.nodejs_semver.proofs.Common.{ℕ, ◌&&◌, ◌++◌, ◌<◌, ◌||◌, ◌∙◌, ◌∷◌, ◌≡◌}
+use Rattle.nodejs_semver.proofs.Common.{empty_is}
+use Rattle.nodejs_semver.proofs.Dividing.RunsDivide.{words-none}
+use Rattle.nodejs_semver.proofs.Dividing.MeaningLaw.{blank-empty, pieces-utf8, words-law}
+use Rattle.nodejs_semver.proofs.Everyday.Words.{is_part_byte}
+use Rattle.nodejs_semver.proofs.NpmCommon.{AreAlternatives, AreMarks, AreWords, Comparison, HasAlternatives, IsAlternative, IsPlainText}
+use Rattle.nodejs_semver.proofs.NpmCommon.{IsPlainWord, IsSignText, IsWord, are_marks, compared, counts, is_free_lower}
+use Rattle.nodejs_semver.proofs.NpmCommon.{is_free_upper, is_valid, is_within, meets, npm_partial, spelling}
+use Rattle.nodejs_semver.proofs.Strict.AlternativeLaw.{alternatives_once}
+use Rattle.nodejs_semver.proofs.Strict.Rows.{either_true}
+use Rattle.nodejs_semver.specs.Npm.Alike.{ArePlain, ArePlainWords, IsPlainAlternative, bare, between, more_words, next, none, one_word}
+use Rattle.nodejs_semver.specs.Npm.Alike.{signed, words}
+use Rattle.nodejs_semver.specs.Npm.Ranges.{IsRangeOf}
+use Rattle.nodejs_semver.specs.Npm.Table.{Sign}
+use Rattle.nodejs_semver.specs.Text.Common.{IsGap}
+use Rattle.nodejs_semver.specs.Text.Meaning.{AreAllIntervals, HasRuns, all_intervals, next_piece, no_piece}
+use Rattle.nodejs_semver.specs.Text.Runs.{fits, interval_of}
 use Rattle.nodejs_semver.proofs.Dividing.MeaningLaw as meaning
+use Rattle.nodejs_semver.specs.Internal.Words as Reading
 use Rattle.nodejs_semver.specs.Npm.RangeText as Npm
 use Rattle.nodejs_semver.specs.Npm.Ranges as Ranges
 use Rattle.nodejs_semver.specs.Npm.Table as Table
-use Rattle.nodejs_semver.specs.Text.Common as Common
 
 -- ---- here
 
-sign_is : (c : Comparator) → IsSign c (spelling (compared c))
-sign_is at_least = at_least_sign
-sign_is above = above_sign
-sign_is equal = equal_sign
-sign_is at_most = at_most_sign
-sign_is below = below_sign
+-- the words of an alternative, of which there are some, and their one run
+record ReadAs (limit : ℕ) (text : List ℕ) (s : Span VersionValue) : Type 0 where
+  run : Run VersionValue
+  each : part_bounds limit text ≡ run.first ∷ run.others
+  fit : fits precedence run ≡ true
+  is : s ≡ interval_of precedence run
 
-word-common : (limit : ℕ) (pre : Bool) (text : List ℕ) (word : Word) (cs : List Comparison) → IsPlainWord limit pre text word cs
-    → IsCommonWord limit text word
-word-common limit pre text word cs (bare t p h) = plain_word t p h.here
-word-common limit pre text word cs (signed (compared c) t p h m) =
-    compare_word _ _ (comparison c (spelling (compared c)) t p (sign_is c) h.here)
-word-common limit pre text word cs (signed Table.caret t p h m) = caret_word t p h.here
-word-common limit pre text word cs (signed Table.tilde t p h m) = tilde_word t p h.here
+some-mapped : {A B : Type 0} (f : A → Option B) (xs : List A) (ys : List B) → map f xs ≡ map Some ys → filter_map f xs ≡ ys
+some-mapped f [] [] e = refl
+some-mapped f [] (y ∷ ys) e = cc e
+some-mapped f (x ∷ xs) [] e = cc e
+some-mapped f (x ∷ xs) (y ∷ ys) e = grind (arith, some-mapped f xs ys)
 
-part-common : (limit : ℕ) (pre : Bool) (text : List ℕ) (s : Span VersionValue) (cs : List Comparison)
-    → IsPlainAlternative limit pre text s cs → IsCommonPart limit text s
-part-common limit pre text s cs (one_word t word s' cs' h e) = Common.one_word t word s' (word-common limit pre t word cs' h) e
-part-common limit pre text s cs (two_words c d x y p q a b m hp mp ep hq mq eq e apart) =
-    two_comparisons _ _ _ _ a b m (comparison c (spelling (compared c)) x p (sign_is c) hp.here)
-    (comparison d (spelling (compared d)) y q (sign_is d) hq.here) ep eq e
-part-common limit pre text s cs (between x y p q m h k some e) = Common.one_word _ _ m (hyphen_word x y p q h.here k.here) e
+part-read : (limit : ℕ) (pre : Bool) (text : List ℕ) (s : Span VersionValue) (cs : List Comparison)
+    → IsPlainAlternative limit pre text s cs → ReadAs limit text s
+part-read limit pre text s cs (words t ws r cs' h e f apart) =
+    record { run = r; each = rw (words-read limit pre t ws cs' h) (some-mapped (table limit) ws (r.first ∷ r.others) e); fit = f; is = refl }
+part-read limit pre text s cs (between x b g y p q m h k some l more n to e) = record {
+  run = record { first = m; others = [] };
+  each = rw (hyphen-read limit x b g y p q h.here k some l more n.here, e) refl;
+  fit = table-interval limit (hyphen p q) m e;
+  is = refl;
+}
 
-parts-common : (limit : ℕ) (pre : Bool) (text : List ℕ) (list : List (Span VersionValue)) (all : List (List Comparison))
-    → ArePlain limit pre text list all → AreCommonParts limit text list
-parts-common limit pre text list all (one t s cs h) = one_part t s (part-common limit pre t s cs h)
-parts-common limit pre text list all (more t before after rest s cs ss others h b a k) =
-    more_parts t before after rest s ss (part-common limit pre t s cs h) b a (parts-common limit pre rest ss others k)
+has-run : (limit : ℕ) (piece text : List ℕ) (s : Span VersionValue) → IsUtf8 piece → IsTrim piece text → (r : ReadAs limit text s)
+    → HasRuns limit piece (r.run ∷ [])
+has-run limit piece text s u t r =
+    (Reading.words limit text, (text, t, (words-law limit piece text _ u t).0 refl), (append-nil _ ∙ sym r.each, (r.fit, tt), tt))
+
+not-blank : (limit : ℕ) (piece text : List ℕ) (s : Span VersionValue) → IsTrim piece text → ReadAs limit text s → IsBlank piece → ⊥
+not-blank limit piece text s t r blank =
+    let e : text ≡ [] = middle_is_trim piece text t ∙ empty_is (trim piece) (blank-empty piece blank) in
+    let none : part_bounds limit text ≡ [] = ap (λ l. filter_map (table limit) l) (words-none limit text (ap length e)) in
+    absurd (omega (arith, ap length (sym none ∙ r.each)))
+
+all-read : (limit : ℕ) (pre : Bool) (pieces : List (List ℕ)) (list : List (Span VersionValue)) (all : List (List Comparison))
+    → ArePlain limit pre pieces list all → AllByRecursion IsUtf8 pieces → AreAllIntervals limit pieces list
+all-read limit pre pieces list all none u = no_piece
+all-read limit pre pieces list all (next piece text rest s cs ss others t h more) u =
+    let r = part-read limit pre text s cs h in
+    rw r.is (next_piece piece rest (r.run ∷ []) ss (not-blank limit piece text s t r) (has-run limit piece text s u.0 t r)
+    (all-read limit pre rest ss others more u.1))
+
+some-pieces : (text : List ℕ) (pieces : List (List ℕ)) → IsCutAtBars text pieces → 0 < length pieces
+some-pieces text pieces h = grind arith
+
+-- there are some intervals and some alternatives, and the text is not blank
+some-all : (limit : ℕ) (pre : Bool) (pieces : List (List ℕ)) (list : List (Span VersionValue)) (all : List (List Comparison))
+    → ArePlain limit pre pieces list all → 0 < length pieces
+    → (0 < length list) × (is_empty all ≡ false) × (AllByRecursion IsBlank pieces → ⊥)
+some-all limit pre pieces list all none some = absurd (omega (arith, some))
+some-all limit pre pieces list all (next piece text rest s cs ss others t h more) some =
+    (omega arith, refl, λ blank. not-blank limit piece text s t (part-read limit pre text s cs h) blank.0)
 
 pub plain-means : (text : List ℕ) (list : List (Span VersionValue)) (all : List (List Comparison)) → IsUtf8 text
     → IsPlainText MAX_SAFE_INTEGER text list all → Means MAX_SAFE_INTEGER text list
-plain-means text list all u h = (meaning.one_meaning MAX_SAFE_INTEGER text list u).0
-    (common_parts_are_denoted MAX_SAFE_INTEGER text list (parts-common MAX_SAFE_INTEGER h.pre text list all h.divided)).0
+plain-means text list all u h =
+    all_intervals h.pieces list h.cut (some-all MAX_SAFE_INTEGER h.pre h.pieces list all h.each (some-pieces text h.pieces h.cut)).2
+    (all-read MAX_SAFE_INTEGER h.pre h.pieces list all h.each (pieces-utf8 text h.pieces h.cut u))
+
+pub plain-read : (text : List ℕ) (list : List (Span VersionValue)) (all : List (List Comparison)) → IsUtf8 text
+    → IsPlainText MAX_SAFE_INTEGER text list all → Means MAX_SAFE_INTEGER text list × (0 < length list)
+plain-read text list all u h =
+    (plain-means _ _ _ u h, (some-all MAX_SAFE_INTEGER h.pre h.pieces list all h.each (some-pieces text h.pieces h.cut)).0)
 
 -- ---- to node-semver
 
@@ -82,22 +122,23 @@ no_mark a = grind arith
 word-is : (is_last : Bool) (limit : ℕ) (pre : Bool) (text : List ℕ) (word : Word) (cs : List Comparison) → IsPlainWord limit pre text word cs
     → IsWord false false is_last text cs
 word-is is_last limit pre text word cs (bare t p h) = Npm.word [] [] t (compared equal) _ Npm.no_sign (no_marks (compared equal) _) refl h.npm
-word-is is_last limit pre text word cs (signed s t p h m) =
-    Npm.word (spelling s) [] t s _ (sign_text s) (no_marks s _) (no_mark _) h.npm
+word-is is_last limit pre text word cs (signed s b t p k h m) =
+    let w : IsWord false false is_last ((spelling s ++ b) ++ t) (Table.table false s (npm_partial p) t) =
+    Npm.word (spelling s ++ b) [] t s (npm_partial p) (Npm.sign s b k) (no_marks s (npm_partial p)) (no_mark _) h.npm in
+    rw (append_assoc (spelling s) b t) at w
+
+words-are : (limit : ℕ) (pre : Bool) (text : List ℕ) (ws : List Word) (cs : List Comparison) → ArePlainWords limit pre text ws cs
+    → AreWords false false text cs
+words-are limit pre text ws cs (one_word t w c h) = Npm.last t c (word-is true limit pre t w c h)
+words-are limit pre text ws cs (more_words t b rest w us c d h k some more) =
+    Npm.more t b rest c d (word-is false limit pre t w c h) k some (words-are limit pre rest us d more)
 
 part-is : (limit : ℕ) (pre : Bool) (text : List ℕ) (s : Span VersionValue) (cs : List Comparison)
     → IsPlainAlternative limit pre text s cs → IsAlternative false false text cs
-part-is limit pre text s cs (one_word t word s' cs' h e) = Npm.words t cs' (Npm.last t cs' (word-is true limit pre t word cs' h))
-part-is limit pre text s cs (two_words c d x y p q a b m hp mp ep hq mq eq e apart) =
-    Npm.words _ _ (Npm.more _ (codes " ") _ _ _ (word-is false limit pre _ _ _ (signed (compared c) x p hp mp)) one_blank (lit< tt)
-    (Npm.last _ _ (word-is true limit pre _ _ _ (signed (compared d) y q hq mq))))
-part-is limit pre text s cs (between x y p q m h k some e) =
-    Npm.hyphen [] x (codes " ") (codes " ") [] y _ _ no_ends (either_true (is_free_lower _)) h.npm one_blank (lit< tt) one_blank (lit< tt)
-    no_ends (either_true (is_free_upper false _)) k.npm
-
-part-compact : (limit : ℕ) (pre : Bool) (text : List ℕ) (s : Span VersionValue) (cs : List Comparison)
-    → IsPlainAlternative limit pre text s cs → Compact text
-part-compact limit pre text s cs h = (part-tidy limit text s (part-common limit pre text s cs h)).compact
+part-is limit pre text s cs (words t ws r cs' h e f apart) = Npm.words t cs' (words-are limit pre t ws cs' h)
+part-is limit pre text s cs (between x b g y p q m h k some l more n to e) =
+    Npm.hyphen [] x b g [] y _ _ no_ends (either_true (is_free_lower _)) h.npm k some l more
+    no_ends (either_true (is_free_upper false _)) n.npm
 
 pub gap-bytes : (gap : List ℕ) → IsGap gap → list_all is_part_byte gap ≡ true
 gap-bytes gap g = grind arith
@@ -112,38 +153,21 @@ pub joined : (include : Bool) (pieces others : List (List ℕ)) (piece part : Li
 joined include pieces others piece part cs rest e t is u f =
     let v : AllByRecursion IsUtf8 (piece ∷ others) = subst (AllByRecursion IsUtf8) e u in
     subst (λ (ps : List (List ℕ)). AreAlternatives false include ps (cs ∷ rest)) (sym e)
-    (next piece part others cs rest (trimmed piece part v.0 t) is (f v.1))
+    (Npm.next piece part others cs rest (trimmed piece part v.0 t) is (f v.1))
 
-all-are : (limit : ℕ) (pre : Bool) (text : List ℕ) (list : List (Span VersionValue)) (all : List (List Comparison)) (gap : List ℕ)
-    → IsGap gap → ArePlain limit pre text list all → AllByRecursion IsUtf8 (cut_bars false (gap ++ text))
-    → AreAlternatives false false (cut_bars false (gap ++ text)) all
-all-are limit pre text list all gap g (one t s cs h) u =
-    let c = part-compact _ _ _ _ _ h in
-    let same : trim (gap ++ t) ≡ t = rw append-nil at (compact-trim _ _ _ g (inl refl) c) in
-    joined _ _ _ _ _ _ _ (cut-last _ (all-join is_part_byte gap t (gap-bytes _ g) c.each)) same (part-is _ _ _ _ _ h) u (λ _. none)
-all-are limit pre text list all gap g (more t before after rest s cs ss others h b a k) u =
-    let c = part-compact _ _ _ _ _ h in
-    let piece = gap ++ (t ++ before) in
-    let behind = 124 ∷ (124 ∷ (after ++ rest)) in
-    let whole : gap ++ (t ++ (before ++ behind)) ≡ piece ++ behind =
-    sym (append_assoc gap (t ++ before) behind ∙ ap (λ (x : List ℕ). gap ++ x) (append_assoc t before behind)) in
-    let bytes : list_all is_part_byte piece ≡ true = all-join is_part_byte gap (t ++ before) (gap-bytes _ g)
-    (all-join is_part_byte t before c.each (gap-bytes _ b)) in
-    joined _ _ _ _ _ _ _ (ap (λ (x : List ℕ). cut_bars false x) whole ∙ cut-first _ _ bytes)
-    (compact-trim _ _ _ g b c) (part-is _ _ _ _ _ h) u (λ v. all-are _ _ _ _ _ _ a k v)
+all-are : (limit : ℕ) (pre : Bool) (pieces : List (List ℕ)) (list : List (Span VersionValue)) (all : List (List Comparison))
+    → ArePlain limit pre pieces list all → AreAlternatives false false pieces all
+all-are limit pre pieces list all none = Npm.none
+all-are limit pre pieces list all (next piece text rest s cs ss others t h more) =
+    Npm.next piece text rest cs others t (part-is limit pre text s cs h) (all-are limit pre rest ss others more)
 
-some-all : (limit : ℕ) (pre : Bool) (text : List ℕ) (list : List (Span VersionValue)) (all : List (List Comparison))
-    → ArePlain limit pre text list all → is_empty all ≡ false
-some-all limit pre text list all (one t s cs h) = refl
-some-all limit pre text list all (more t before after rest s cs ss others h b a k) = refl
-
-pub plain-has : (text : List ℕ) (list : List (Span VersionValue)) (all : List (List Comparison)) → IsUtf8 text
+pub plain-has : (text : List ℕ) (list : List (Span VersionValue)) (all : List (List Comparison))
     → IsPlainText MAX_SAFE_INTEGER text list all → HasAlternatives MAX_SAFE_INTEGER false text all
-plain-has text list all u h = let cut = bars_divide text in record {
-  parts = cut_bars false text;
-  divided = cut;
-  each = all-are MAX_SAFE_INTEGER h.pre text list all [] (inl refl) h.divided (pieces-utf8 text (cut_bars false text) cut u);
-  some = some-all MAX_SAFE_INTEGER h.pre text list all h.divided;
+plain-has text list all h = record {
+  parts = h.pieces;
+  divided = h.cut;
+  each = all-are MAX_SAFE_INTEGER h.pre h.pieces list all h.each;
+  some = (some-all MAX_SAFE_INTEGER h.pre h.pieces list all h.each (some-pieces text h.pieces h.cut)).1;
   valid = h.valid;
 }
 
@@ -155,28 +179,25 @@ alternative_accepts v cs = meets false v (filter (counts false) cs)
 
 part-same : (pre : Bool) (v : VersionValue) (text : List ℕ) (s : Span VersionValue) (cs : List Comparison) → IsWithin MAX_SAFE_INTEGER v
     → IsPlainAlternative MAX_SAFE_INTEGER pre text s cs → list_all (is_valid MAX_SAFE_INTEGER) cs ≡ true → SameWord pre v s cs
-part-same pre v text s cs w (one_word t word s' cs' h e) k = subst (λ o. Good pre v o cs') e (word-good _ _ _ _ _ w h k)
-part-same pre v text s cs w (two_words c d x y p q a b m hp mp ep hq mq eq e apart) k =
-    two-good pre v c d x y p q a b m w hp mp ep hq mq eq e apart k
-part-same pre v text s cs w (between x y p q m h g some e) k = between-good pre v x y p q m h g some e k
+part-same pre v text s cs w (words t ws r cs' h e f apart) k = words-good pre v w t ws r cs' h e apart k
+part-same pre v text s cs w (between x b g y p q m h k some l more n to e) valid = between-good pre v x y p q m h n to e valid
 
-each-same : (pre : Bool) (v : VersionValue) (text : List ℕ) (list : List (Span VersionValue)) (all : List (List Comparison))
-    → IsWithin MAX_SAFE_INTEGER v → ArePlain MAX_SAFE_INTEGER pre text list all
+each-same : (pre : Bool) (v : VersionValue) (pieces : List (List ℕ)) (list : List (Span VersionValue)) (all : List (List Comparison))
+    → IsWithin MAX_SAFE_INTEGER v → ArePlain MAX_SAFE_INTEGER pre pieces list all
     → list_all (list_all (is_valid MAX_SAFE_INTEGER)) all ≡ true → accepts list v false ≡ list_any (alternative_accepts v) all
-each-same pre v text list all w (one t s cs h) k = grind (arith, nat_tests, common_steps, part-same, first_so)
-each-same pre v text list all w (more t before after rest s cs ss others h b a m) k =
-    grind (arith, nat_tests, common_steps, part-same, each-same pre v rest ss others w m)
+each-same pre v pieces list all w none k = refl
+each-same pre v pieces list all w (next piece text rest s cs ss others t h more) k =
+    grind (arith, nat_tests, common_steps, part-same, each-same pre v rest ss others w more)
 
 -- where no pre-release is written, none is accepted
-each-released : (pre : Bool) (v : VersionValue) (text : List ℕ) (list : List (Span VersionValue)) (all : List (List Comparison))
-    → IsWithin MAX_SAFE_INTEGER v → ArePlain MAX_SAFE_INTEGER pre text list all
+each-released : (pre : Bool) (v : VersionValue) (pieces : List (List ℕ)) (list : List (Span VersionValue)) (all : List (List Comparison))
+    → IsWithin MAX_SAFE_INTEGER v → ArePlain MAX_SAFE_INTEGER pre pieces list all
     → list_all (list_all (is_valid MAX_SAFE_INTEGER)) all ≡ true → pre ≡ false → is_release v ≡ false
     → list_any (alternative_accepts v) all ≡ false
-each-released pre v text list all w (one t s cs h) k p r =
-    ap (λ (a : Bool). a || false) ((part-same pre v t s cs w h (first_so (list_all (is_valid MAX_SAFE_INTEGER) cs) true k)).released p r)
-each-released pre v text list all w (more t before after rest s cs ss others h b a m) k p r =
-    ap₂ (λ (x y : Bool). x || y) ((part-same pre v t s cs w h (first_so (list_all (is_valid MAX_SAFE_INTEGER) cs) _ k)).released p r)
-    (each-released pre v rest ss others w m (second_so (list_all (is_valid MAX_SAFE_INTEGER) cs) _ k) p r)
+each-released pre v pieces list all w none k p r = refl
+each-released pre v pieces list all w (next piece text rest s cs ss others t h more) k p r =
+    ap₂ (λ (x y : Bool). x || y) ((part-same pre v text s cs w h (first_so (list_all (is_valid MAX_SAFE_INTEGER) cs) _ k)).released p r)
+    (each-released pre v rest ss others w more (second_so (list_all (is_valid MAX_SAFE_INTEGER) cs) _ k) p r)
 
 abbrev is_bare : List Comparison → Bool
 is_bare cs = not (list_any (counts false) cs)
@@ -192,7 +213,7 @@ pub plain-same : (text : List ℕ) (list : List (Span VersionValue)) (all : List
     → IsPlainText MAX_SAFE_INTEGER text list all → is_within MAX_SAFE_INTEGER v ≡ true
     → accepts list v false ≡ Ranges.accepts false all v
 plain-same text list all v h small =
-    let same = each-same h.pre v text list all w h.divided h.valid in
+    let same = each-same h.pre v h.pieces list all w h.each h.valid in
     elim (cases_Bool (list_any is_bare all)) [
       | inr e ↦ rw e same
       | inl e ↦ rw e (same ∙ opened e)
@@ -207,12 +228,8 @@ plain-same text list all v h small =
     opened : list_any is_bare all ≡ true → list_any (alternative_accepts v) all ≡ is_release v
     opened e = elim (cases_Bool (is_release v)) [
       | inl r ↦ any_weaker is_bare (alternative_accepts v) (bare-accepts v r) all e ∙ sym r
-      | inr r ↦ each-released h.pre v text list all w h.divided h.valid (closed h.pre (list_any is_bare all) e h.counted) r ∙ sym r
+      | inr r ↦ each-released h.pre v h.pieces list all w h.each h.valid (closed h.pre (list_any is_bare all) e h.counted) r ∙ sym r
     ]
-
-pub plain-read : (text : List ℕ) (list : List (Span VersionValue)) (all : List (List Comparison)) → IsUtf8 text
-    → IsPlainText MAX_SAFE_INTEGER text list all → Means MAX_SAFE_INTEGER text list × (0 < length list)
-plain-read text list all u h = (plain-means _ _ _ u h, list-some _ _ _ (parts-common _ _ _ _ _ h.divided))
 
 -- ---- ranges of the text
 

@@ -1,8 +1,13 @@
 -- Worked rows: a text that means the same here and to node-semver, with its intervals and its comparators.
-use Rattle.nodejs_semver.proofs.Common.{Before, IsNumber, List, None, Partial, Some, Span, VersionValue, [], above, arith}
-use Rattle.nodejs_semver.proofs.Common.{below, codes, false, inr, length, lit≤, lowest, refl, release_value, true, ℕ, ◌∷◌, ◌≡◌}
-use Rattle.nodejs_semver.proofs.{Common.◌≤◌, NpmCommon.{IsPlainPartial, IsPlainText, digits, from, is_spelled, lit<, more}}
-use Rattle.nodejs_semver.{proofs.NpmCommon.{one_word, signed, two_words, under}, specs.Npm.{Alike.one, Table.caret}}
+use Rattle.nodejs_semver.proofs.Common.{Before, IsBlank, IsNumber, IsTrim, List, None, Partial, Some, Span, VersionValue, [], above, arith}
+use Rattle.nodejs_semver.proofs.Common.{begins, below, codes, encode_utf8, encode_utf8_all, false, length, list_all, lit≤, more_pieces}
+use Rattle.nodejs_semver.proofs.Common.{one_piece, pieces, plain, refl, release_value, sym, true, ℕ, ◌++◌, ◌<◌, ◌∷◌, ◌≡◌, ◌≤◌}
+use Rattle.nodejs_semver.proofs.NpmCommon.{IsPlainPartial, IsPlainText, counted, digits, first, from, here, is_spelled, major, minor, under}
+use Rattle.nodejs_semver.specs.Npm.Alike.{more_words, next, none, one_word, signed, words}
+use Rattle.nodejs_semver.specs.Npm.Table.{caret, compared, tilde}
+use Rattle.semver_core.specs.Text.Characters.{is_whitespace}
+use Rattle.std.proofs.Common.{lit<}
+use Rattle.std.specs.Prelude.{reverse}
 use Rattle.nodejs_semver.specs.Npm.RangeText as Npm
 use Rattle.nodejs_semver.specs.Text.PartialText as Here
 use Rattle.nodejs_semver.specs.Text.Table as Spans
@@ -29,24 +34,56 @@ one_is = part_is (codes "1") 1 (record { some = lit< tt; each = refl; value = re
 two_is : IsPart (codes "2") 2
 two_is = part_is (codes "2") 2 (record { some = lit< tt; each = refl; value = refl; safe = lit≤ tt }) refl (lit≤ tt)
 
+three_is : IsPart (codes "3") 3
+three_is = part_is (codes "3") 3 (record { some = lit< tt; each = refl; value = refl; safe = lit≤ tt }) refl (lit≤ tt)
+
 four_is : IsPart (codes "4") 4
 four_is = part_is (codes "4") 4 (record { some = lit< tt; each = refl; value = refl; safe = lit≤ tt }) refl (lit≤ tt)
 
+none_is : IsBlank []
+none_is = record { characters = []; each = refl; spelled = refl }
+
 -- from a release to below the least pre-release of another one
 abbrev band : ℕ → ℕ → Span VersionValue
-band M n = record { lower = Before (release_value M 0 0); upper = Before (lowest n 0 0) }
+band M n = record { lower = Before (release_value M 0 0); upper = Before (Spans.lowest n 0 0) }
 
--- `^1 || >2 <4` is `>=1.0.0 <2.0.0-0 || >=3.0.0 <4.0.0-0` to node-semver, and here `<4` is below 4.0.0
-row-plain : IsPlainText limit (codes "^1 || >2 <4")
-    (band 1 2 ∷ (record { lower = Before (release_value 3 0 0); upper = Before (release_value 4 0 0) } ∷ []))
-    ((from false (1, 0, 0) ∷ (under (2, 0, 0) ∷ [])) ∷ ((from false (3, 0, 0) ∷ (under (4, 0, 0) ∷ [])) ∷ []))
-unfolding digits Spans.table
-row-plain = record {
+-- such whitespace, and a text between two of them
+spaces : (cs : List ℕ) → list_all is_whitespace cs ≡ true → encode_utf8_all cs ≡ cs → IsBlank cs
+spaces cs h e = record { characters = cs; each = h; spelled = sym e }
+
+trim_is : (before text after : List ℕ) → list_all is_whitespace before ≡ true → list_all is_whitespace after ≡ true
+    → begins is_whitespace text ≡ false → begins is_whitespace (reverse text) ≡ false
+    → encode_utf8_all (before ++ (text ++ after)) ≡ before ++ (text ++ after) → encode_utf8_all text ≡ text → IsTrim (before ++ (text ++ after)) text
+trim_is before text after b a h k e f = record {
+  before = before;
+  characters = text;
+  after = after;
+  divided = sym e;
+  middle_is = sym f;
+  blank_before = b;
+  blank_after = a;
+  begins_dark = h;
+  ends_dark = k;
+}
+
+-- `^1  ||>2   < 4 ~3 ` is `>=1.0.0 <2.0.0-0 || >=3.0.0 <4.0.0-0 >=3.0.0 <4.0.0-0` to node-semver, and here `< 4` is below 4.0.0
+row-words : IsPlainText limit (codes "^1  ||>2   < 4 ~3 ") (band 1 2 ∷ (band 3 4 ∷ []))
+    ((from false (1, 0, 0) ∷ (under (2, 0, 0) ∷ []))
+    ∷ ((from false (3, 0, 0) ∷ (under (4, 0, 0) ∷ (from false (3, 0, 0) ∷ (under (4, 0, 0) ∷ [])))) ∷ []))
+unfolding digits Spans.table encode_utf8
+row-words = record {
   pre = false;
-  divided = more (codes "^1") (codes " ") (codes " ") (codes ">2 <4") _ _ _ _ (one_word (codes "^1") _ _ _ (signed caret (codes "1") (part 1) one_is refl) refl)
-      (inr refl) (inr refl)
-      (one (codes ">2 <4") _ _ (two_words above below (codes "2") (codes "4") (part 2) (part 4) (Spans.>= (release_value 3 0 0))
-      (Spans.< (release_value 4 0 0)) _ two_is refl refl four_is refl refl refl refl));
+  pieces = codes "^1  " ∷ (codes ">2   < 4 ~3 " ∷ []);
+  cut = more_pieces (codes "^1  ") (codes ">2   < 4 ~3 ") _ refl refl (one_piece _ refl);
+  each = next _ (codes "^1") _ _ _ _ _ (trim_is [] (codes "^1") (codes "  ") refl refl refl refl refl refl)
+      (words _ _ (record { first = band 1 2; others = [] }) _ (one_word (codes "^1") _ _ (signed caret [] (codes "1") (part 1) none_is one_is refl)) refl refl refl)
+      (next _ (codes ">2   < 4 ~3") _ _ _ _ _ (trim_is [] (codes ">2   < 4 ~3") (codes " ") refl refl refl refl refl refl)
+      (words _ _ (record { first = Spans.>= (release_value 3 0 0); others = Spans.< (release_value 4 0 0) ∷ (band 3 4 ∷ []) }) _
+      (more_words (codes ">2") (codes "   ") (codes "< 4 ~3") _ _ _ _ (signed (compared above) [] (codes "2") (part 2) none_is two_is refl)
+      (spaces (codes "   ") refl refl) (lit< tt)
+      (more_words (codes "< 4") (codes " ") (codes "~3") _ _ _ _ (signed (compared below) (codes " ") (codes "4") (part 4) (spaces (codes " ") refl refl) four_is refl)
+      (spaces (codes " ") refl refl) (lit< tt) (one_word (codes "~3") _ _ (signed tilde [] (codes "3") (part 3) none_is three_is refl)))) refl refl refl)
+      none);
   valid = refl;
   counted = refl;
 }

@@ -1,0 +1,189 @@
+-- The words of plain alternatives, as the range grammar here reads them.
+use Rattle.nodejs_semver.proofs.Common.{AreComponents, Bool, Comparator, IsBlank, IsSign, List, None, Partial, Some, Word, [], above}
+use Rattle.nodejs_semver.proofs.Common.{after_spaces, ap, append-nil, append_assoc, arith, at_most, below, codes, drop_spaces}
+use Rattle.nodejs_semver.proofs.Common.{drop_spaces-blank, drop_spaces-none, encode_utf8_all, equal, false, hyphen, is_boundary, is_sign}
+use Rattle.nodejs_semver.proofs.Common.{is_whitespace, len_utf8_bounds, length, begins, cases_Bool, list_all, list_len, lt-ltb, nat_tests, partial_front, refl}
+use Rattle.nodejs_semver.proofs.Common.{space_len, true, word_at, words, words_within, ℕ, ◌++◌, ◌<◌, ◌==◌, ◌||◌, ◌∙◌, ◌∷◌, ◌≡◌}
+use Rattle.std.proofs.lemmas.Bool.{false_from_ne_true}
+use Rattle.nodejs_semver.proofs.Common.{eqb-true, inl, inr, is_ascii_digit}
+use Rattle.semver_core.specs.Text.Characters.{is_identifier_char}
+use Rattle.nodejs_semver.proofs.Reading.Bytes.{component-solid}
+use Rattle.nodejs_semver.proofs.Everyday.Words.{no-greater}
+use Rattle.nodejs_semver.proofs.NpmCommon.{Comparison, IsPlainWord, after_byte, at_least, compared, space_len-white, spelling}
+use Rattle.nodejs_semver.proofs.Reading.Bytes.{Stop, begins-on, begins-some, is_component_byte, is_solid, solid-dark, stop-nil}
+use Rattle.nodejs_semver.proofs.Reading.PartialLaw.{components-begin, front-dark, front-exact, words-step}
+use Rattle.nodejs_semver.proofs.Reading.WordLaw.{compared-of, unsigned-at}
+use Rattle.nodejs_semver.specs.Internal.Fronts.{dotted_front}
+use Rattle.nodejs_semver.specs.Internal.Words.{upper_behind}
+use Rattle.nodejs_semver.specs.Npm.Alike.{ArePlainWords, bare, more_words, one_word, signed}
+use Rattle.nodejs_semver.specs.Text.WordText.{above_sign, at_least_sign, at_most_sign, below_sign, equal_sign}
+use Rattle.nodejs_semver.specs.Npm.Table as Npm
+
+-- what stands behind a word: the end, or whitespace and another word
+record Ends (limit : ℕ) (more : List ℕ) : Type 0 where
+  stop : Stop more
+  bound : is_boundary more ≡ true
+  alone : upper_behind limit more ≡ None
+
+ends-nil : (limit : ℕ) → Ends limit []
+unfolding is_boundary space_len
+ends-nil limit = record { stop = stop-nil; bound = refl; alone = refl }
+
+-- a byte at which a word begins: of a component or of a sign
+abbrev pub is_word_byte : ℕ → Bool
+is_word_byte b = is_component_byte b || (is_sign b || (b == 94 || b == 126))
+
+word-solid : (text : List ℕ) → begins is_word_byte text ≡ true → begins is_solid text ≡ true
+word-solid [] h = h
+word-solid (b ∷ rest) h = elim (cases_Bool (is_component_byte b)) [
+  | inl e ↦ component-solid (b ∷ rest) e
+  | inr e ↦ signed-solid (rw e at h)
+]
+  where
+    signed-solid : (is_sign b || (b == 94 || b == 126)) ≡ true → is_solid b ≡ true
+    signed-solid k = grind (arith, nat_tests)
+
+word-dark : (text : List ℕ) → begins is_word_byte text ≡ true → space_len text ≡ 0
+word-dark text h = solid-dark text (word-solid text h)
+
+no-dash : (text : List ℕ) → begins is_word_byte text ≡ true → after_byte 45 text ≡ None
+no-dash text h = grind arith
+
+-- ---- whitespace
+
+-- a byte that is not visible is no other one
+dull : (b c : ℕ) → is_solid b ≡ false → is_solid c ≡ true → (b == c) ≡ false
+dull b c h k = false_from_ne_true _ (λ e. cc (h, k, eqb-true b c e))
+
+dull-digit : (b : ℕ) → is_solid b ≡ false → is_ascii_digit b ≡ false
+dull-digit b h = grind (arith, nat_tests)
+
+dull-identifier : (b : ℕ) → is_solid b ≡ false → is_identifier_char b ≡ false
+dull-identifier b h = grind (arith, nat_tests)
+
+-- nothing goes on at a text that begins with whitespace
+stop-dark : (more : List ℕ) → 0 < space_len more → Stop more
+unfolding list_len dotted_front
+stop-dark [] h = stop-nil
+stop-dark (b ∷ rest) h =
+    let e : is_solid b ≡ false = false_from_ne_true _ (λ s. omega (arith, h, solid-dark (b ∷ rest) s)) in
+    record {
+      run = rw (dull-identifier b e, dull b 46 e refl) refl;
+      dash = dull b 45 e refl;
+      plus = dull b 43 e refl;
+      identifier = dull-identifier b e;
+      digit = dull-digit b e;
+      dot = λ limit. rw (dull b 46 e refl) refl;
+    }
+
+pub blank-some : (blank rest : List ℕ) → IsBlank blank → 0 < length blank → 0 < space_len (blank ++ rest)
+blank-some blank rest h some = go h.characters h.each h.spelled
+  where
+    go : (cs : List ℕ) → list_all is_whitespace cs ≡ true → blank ≡ encode_utf8_all cs → 0 < space_len (blank ++ rest)
+    go [] e s = absurd (omega (arith, some, ap length s))
+    go (c ∷ cs) e s = grind (arith, append_assoc, space_len-white, len_utf8_bounds)
+
+pub blank-skips : (blank rest : List ℕ) → IsBlank blank → space_len rest ≡ 0 → drop_spaces (blank ++ rest) ≡ rest
+blank-skips blank rest h e = ap (λ (t : List ℕ). drop_spaces (t ++ rest)) h.spelled ∙ drop_spaces-blank h.characters rest h.each
+    ∙ drop_spaces-none rest e
+
+ends-blank : (limit : ℕ) (blank rest : List ℕ) → IsBlank blank → 0 < length blank → begins is_word_byte rest ≡ true → Ends limit (blank ++ rest)
+unfolding is_boundary
+ends-blank limit blank rest h some e =
+    let white = blank-some blank rest h some in
+    record {
+      stop = stop-dark (blank ++ rest) white;
+      bound = grind (arith, nat_tests, lt-ltb);
+      alone = rw (lt-ltb 0 (space_len (blank ++ rest)) white, blank-skips blank rest h (word-dark rest e), no-dash rest e) refl;
+    }
+
+-- ---- words
+
+components-dark : (limit : ℕ) (x more : List ℕ) (p : Partial) → AreComponents limit x p → space_len (x ++ more) ≡ 0
+components-dark limit x more p h = front-dark (x ++ more) (begins-on is_component_byte x more (components-begin limit x p h))
+
+-- a partial behind whitespace or none
+partial-read : (limit : ℕ) (blank x more : List ℕ) (p : Partial) → IsBlank blank → AreComponents limit x p → Stop more
+    → partial_front limit (drop_spaces (blank ++ (x ++ more))) ≡ Some (p, more)
+partial-read limit blank x more p b h stop =
+    ap (λ (t : List ℕ). partial_front limit t) (blank-skips blank (x ++ more) b (components-dark limit x more p h)) ∙ front-exact limit x more p h stop
+
+pub sign_is : (c : Comparator) → IsSign c (spelling (compared c))
+sign_is at_least = at_least_sign
+sign_is above = above_sign
+sign_is equal = equal_sign
+sign_is at_most = at_most_sign
+sign_is below = below_sign
+
+word-read : (limit : ℕ) (pre : Bool) (text more : List ℕ) (w : Word) (cs : List Comparison) → IsPlainWord limit pre text w cs → Ends limit more
+    → word_at limit (text ++ more) ≡ (w, more)
+unfolding word_at
+word-read limit pre text more w cs (bare t p h) e =
+    let read = front-exact limit t more p h.here e.stop in
+    rw (unsigned-at limit (t ++ more) (p, more) read, read, e.alone, e.bound) refl
+word-read limit pre text more w cs (signed (compared c) b t p k h m) e =
+    let read = partial-read limit b t more p k h.here e.stop in
+    let sign = spelling (compared c) in
+    rw (append_assoc sign (b ++ t) more, append_assoc b t more, compared-of limit c sign (b ++ (t ++ more)) (p, more) (sign_is c) read, read, e.bound) refl
+word-read limit pre text more w cs (signed Npm.caret b t p k h m) e =
+    rw (append_assoc b t more, partial-read limit b t more p k h.here e.stop, e.bound) refl
+word-read limit pre text more w cs (signed Npm.tilde b t p k h m) e =
+    let opens = begins-on is_component_byte t more (components-begin limit t p h.here) in
+    let skips = blank-skips b (t ++ more) k (components-dark limit t more p h.here) in
+    rw (
+      append_assoc b t more,
+      skips,
+      no-greater (t ++ more) opens,
+      drop_spaces-none (t ++ more) (front-dark (t ++ more) opens),
+      front-exact limit t more p h.here e.stop,
+      e.bound,
+    ) refl
+
+word-begins : (limit : ℕ) (pre : Bool) (text : List ℕ) (w : Word) (cs : List Comparison) → IsPlainWord limit pre text w cs
+    → begins is_word_byte text ≡ true
+word-begins limit pre text w cs (bare t p h) = let b = components-begin limit t p h.here in grind arith
+word-begins limit pre text w cs (signed s b t p k h m) = grind arith
+
+words-begin : (limit : ℕ) (pre : Bool) (text : List ℕ) (ws : List Word) (cs : List Comparison) → ArePlainWords limit pre text ws cs
+    → begins is_word_byte text ≡ true
+words-begin limit pre text ws cs (one_word t w c h) = word-begins limit pre t w c h
+words-begin limit pre text ws cs (more_words t b rest w us c d h k some more) =
+    begins-on is_word_byte t (b ++ rest) (word-begins limit pre t w c h)
+
+words-from : (limit : ℕ) (text more : List ℕ) (w : Word) → begins is_word_byte text ≡ true → word_at limit text ≡ (w, more)
+    → words limit text ≡ w ∷ words limit (drop_spaces more)
+words-from limit text more w b read = grind (arith, words-step, word-dark, begins-some)
+
+pub words-read : (limit : ℕ) (pre : Bool) (text : List ℕ) (ws : List Word) (cs : List Comparison) → ArePlainWords limit pre text ws cs
+    → words limit text ≡ ws
+unfolding words_within after_spaces
+words-read limit pre text ws cs (one_word t w c h) =
+    words-from limit t [] w (word-begins limit pre t w c h) (rw append-nil at (word-read limit pre t [] w c h (ends-nil limit)))
+words-read limit pre text ws cs (more_words t b rest w us c d h k some more) =
+    let opens = words-begin limit pre rest us d more in
+    words-from limit (t ++ (b ++ rest)) (b ++ rest) w (begins-on is_word_byte t (b ++ rest) (word-begins limit pre t w c h))
+    (word-read limit pre t (b ++ rest) w c h (ends-blank limit b rest k some opens))
+    ∙ ap (λ (t : List ℕ). w ∷ words limit t) (blank-skips b rest k (word-dark rest opens))
+    ∙ ap (λ (l : List Word). w ∷ l) (words-read limit pre rest us d more)
+
+-- ---- hyphen ranges
+
+pub hyphen-read : (limit : ℕ) (x blank gap y : List ℕ) (p q : Partial) → AreComponents limit x p → IsBlank blank → 0 < length blank
+    → IsBlank gap → 0 < length gap → AreComponents limit y q → words limit (x ++ (blank ++ (codes "-" ++ (gap ++ y)))) ≡ hyphen p q ∷ []
+unfolding words_within word_at is_boundary space_len after_spaces
+hyphen-read limit x blank gap y p q h b some g more k =
+    let behind = blank ++ (45 ∷ (gap ++ y)) in
+    let white = blank-some blank (45 ∷ (gap ++ y)) b some in
+    let read = front-exact limit x behind p h (stop-dark behind white) in
+    let upper : partial_front limit y ≡ Some (q, []) = rw append-nil at (front-exact limit y [] q k stop-nil) in
+    let dark = rw append-nil at (components-dark limit y [] q k) in
+    words-from limit (x ++ behind) [] (hyphen p q) (grind (arith, components-begin, begins-on))
+    (rw (
+      unsigned-at limit (x ++ behind) (p, behind) read,
+      read,
+      lt-ltb 0 (space_len behind) white,
+      blank-skips blank (45 ∷ (gap ++ y)) b refl,
+      lt-ltb 0 (space_len (gap ++ y)) (blank-some gap y g more),
+      blank-skips gap y g dark,
+      upper,
+    ) refl)
