@@ -12,7 +12,7 @@ use Rattle.nodejs_semver.proofs.Common.{equal, false, first_so, holds, inl, inr,
 use Rattle.nodejs_semver.proofs.Common.{is_release, lets_in, list_all, list_all-append, list_any, nat_tests, not, not-true}
 use Rattle.nodejs_semver.proofs.Common.{ordering_reverse, ordering_then, plain, pre_cmp, precedence, refl, same_triple, subst, suc}
 use Rattle.nodejs_semver.proofs.Common.{sym, table, true, version_of, zero, ℕ, ◌&&◌, ◌++◌, ◌+◌, ◌==◌, ◌||◌, ◌∙◌, ◌∷◌, ◌≡◌}
-use Rattle.nodejs_semver.proofs.NpmCommon.{Comparison, IsPartial, IsPlainWord, Numbers, at_least, compared, from, is_plain}
+use Rattle.nodejs_semver.proofs.NpmCommon.{Comparison, IsPlainPartial, IsPlainWord, Numbers, at_least, compared, from, is_plain}
 use Rattle.nodejs_semver.proofs.NpmCommon.{digits, is_valid, is_zero, made, major, may_have, minor, next_changed, npm_partial, release, under}
 use Rattle.nodejs_semver.proofs.NpmCommon.{version_text, whole, zero_least}
 use Rattle.nodejs_semver.proofs.Strict.Rows.{holds-both, lets_in-both}
@@ -137,7 +137,7 @@ module _ (pre : Bool) (v : VersionValue) (within : IsWithin MAX_SAFE_INTEGER v) 
   plain-held p (two M n) h k = until-held (release (M, n, 0)) (M, n + 1, 0) h (far-low v M n 0 [] [] [] k)
   plain-held p (three M n o x y e) h k = (whole_equal v (version M n o x y) y text).held
 
-  pub signed-held : (s : Sign) (p : Partial) → Form pre p → may_have s p ≡ true → IsPartial false text (npm_partial p) → Valid (listed s p)
+  pub signed-held : (s : Sign) (p : Partial) → Form pre p → may_have s p ≡ true → IsPlainPartial MAX_SAFE_INTEGER pre text p → Valid (listed s p)
       → is_far v (word_of s p) ≡ true → Held (word_of s p) (listed s p)
   unfolding table
   signed-held (compared at_least) p any m t h k = least-held (release (0, 0, 0)) [] (any_low v) (far-low v 0 0 0 [] [] [] k)
@@ -146,7 +146,7 @@ module _ (pre : Bool) (v : VersionValue) (within : IsWithin MAX_SAFE_INTEGER v) 
   signed-held (compared at_least) p (two M n) m t h k = lower-held (M, n, 0) h (far-low v M n 0 [] [] [] k)
   signed-held (compared at_least) p (three M n o x y e) m t h k =
       let w = version M n o x y in
-      least-held w (put at_least w text ∷ []) (whole_low v w text (text-spelled text w t)) (far-low v M n o x y y k)
+      least-held w (put at_least w text ∷ []) (whole_low v w text (text-spelled _ pre text M n o x y t)) (far-low v M n o x y y k)
   signed-held (compared above) p (one M) m t h k = lower-held (M + 1, 0, 0) h (λ z. absurd (positive M (and_parts (M + 1 == 0) _ z).0))
   signed-held (compared above) p (two M n) m t h k =
       lower-held (M, n + 1, 0) h (λ z. absurd (positive n (and_parts (n + 1 == 0) _ (and_parts (M == 0) _ z).1).0))
@@ -234,11 +234,22 @@ module _ (pre : Bool) (v : VersionValue) (within : IsWithin MAX_SAFE_INTEGER v) 
   abbrev IsOne : Bool → List ℕ → Word → List Comparison → Type 0
   IsOne allowed text word cs = IsPlainWord MAX_SAFE_INTEGER allowed text word cs
 
+  released-partial : (text : List ℕ) (p : Partial) → IsPlainPartial MAX_SAFE_INTEGER pre text p → is_release (version_of p) ≡ true
+      → IsPlainPartial MAX_SAFE_INTEGER false text p
+  released-partial text p h e = record {
+    mark = h.mark;
+    rest = h.rest;
+    divided = h.divided;
+    marked = h.marked;
+    here = h.here;
+    npm = h.npm;
+    plain = plain-free pre p h.plain e;
+  }
+
   released-word : (text : List ℕ) (word : Word) (cs : List Comparison) → IsOne pre text word cs → is_release (version_in word) ≡ true
       → IsOne false text word cs
-  released-word text word cs (bare t p h) e = bare t p (record { here = h.here; npm = h.npm; plain = plain-free pre p h.plain e })
-  released-word text word cs (signed s b t p k h m) e =
-      signed s b t p k (record { here = h.here; npm = h.npm; plain = plain-free pre p h.plain (rw (in-word s p) at e) }) m
+  released-word text word cs (bare t p h) e = bare t p (released-partial t p h e)
+  released-word text word cs (signed s b t p k h m) e = signed s b t p k (released-partial t p h (rw (in-word s p) at e)) m
 
   own-word : (text : List ℕ) (word : Word) (cs : List Comparison) → IsOne pre text word cs → is_release (version_in word) ≡ false
       → (passed v cs && named_by v cs) ≡ true → same_triple (version_in word) v ≡ true
@@ -248,7 +259,7 @@ module _ (pre : Bool) (v : VersionValue) (within : IsWithin MAX_SAFE_INTEGER v) 
   word-held : (text : List ℕ) (word : Word) (cs : List Comparison) → IsOne pre text word cs → list_all (is_valid MAX_SAFE_INTEGER) cs ≡ true
       → is_release v ≡ false → is_far v word ≡ true → IfSome (table MAX_SAFE_INTEGER word) (λ s. holds precedence s v ≡ passed v cs)
   word-held text word cs (bare t p h) k r f = plain-held pre v within r t p (form pre p h.plain) k f
-  word-held text word cs (signed s b t p x h m) k r f = signed-held pre v within r t s p (form pre p h.plain) m h.npm k f
+  word-held text word cs (signed s b t p x h m) k r f = signed-held pre v within r t s p (form pre p h.plain) m h k f
 
   word-written : (text : List ℕ) (word : Word) (cs : List Comparison) (s : Span VersionValue) → table MAX_SAFE_INTEGER word ≡ Some s
       → IsOne pre text word cs → list_all (is_valid MAX_SAFE_INTEGER) cs ≡ true

@@ -375,14 +375,20 @@ zero_read : zero_found (partial_front false (codes "0.0.0" ++ [])) ≡ true
 unfolding partial_front places_front place_front dotted_place dotted_patch patch_place qualified_partial pre_front dashed_front build_front listed zero_found
 zero_read = refl
 
-pub text-spelled : (text : List ℕ) (w : VersionValue) → IsPartial false text (whole w) → Spelled w text
+pub text-spelled : (limit : ℕ) (pre : Bool) (text : List ℕ) (M m p : ℕ) (x y : List Id)
+    → IsPlainPartial limit pre text (partial (Some M) (Some m) (Some p) x y) → Spelled (version M m p x y) text
 unfolding zero_found
-text-spelled text w h = record {
-  zero = λ e.
-      let same : text ≡ codes "0.0.0" = (bytes_eq-Decides text (codes "0.0.0")).0 e in
-      sym (ap zero_found (partial-read false (codes "0.0.0") [] (whole w) (subst (λ (t : List ℕ). IsPartial false t (whole w)) same h) refl))
-      ∙ zero_read;
-}
+text-spelled limit pre text M m p x y h = record { zero = λ e. unmarked h.marked (sym h.divided ∙ (bytes_eq-Decides text (codes "0.0.0")).0 e) }
+  where
+    w : VersionValue
+    w = version M m p x y
+
+    unmarked : (h.mark ≡ []) ⊎ (h.mark ≡ codes "v") → h.mark ++ h.rest ≡ codes "0.0.0" → is_zero w ≡ true
+    unmarked (inl none) e =
+        let same : h.rest ≡ codes "0.0.0" = rw none at e in
+        sym (ap zero_found (partial-read false (codes "0.0.0") [] (whole w) (subst (λ (t : List ℕ). IsPartial false t (whole w)) same h.npm) refl))
+        ∙ zero_read
+    unmarked (inr v) e = cc (v, e)
 
 -- ---- which number changes
 
@@ -405,7 +411,7 @@ module _ (pre : Bool) (v : VersionValue) (within : IsWithin MAX_SAFE_INTEGER v) 
       whole-word pre v (version M m o x y) _ _ e (whole_equal v (version M m o x y) y text) (λ r. rw r refl)
 
   abbrev Rows : Sign → Type 0
-  Rows s = (p : Partial) → Form pre p → may_have s p ≡ true → IsPartial false text (npm_partial p) → Valid (Npm.table false s (npm_partial p) text)
+  Rows s = (p : Partial) → Form pre p → may_have s p ≡ true → IsPlainPartial MAX_SAFE_INTEGER pre text p → Valid (Npm.table false s (npm_partial p) text)
       → Good pre v (table MAX_SAFE_INTEGER (word_of s p)) (Npm.table false s (npm_partial p) text)
 
   -- to the next numbers in which the first one changes that is not 0
@@ -422,7 +428,7 @@ module _ (pre : Bool) (v : VersionValue) (within : IsWithin MAX_SAFE_INTEGER v) 
   signed-good (compared at_least) p (two M n) m t h = from-word pre v (M, n, 0) h
   signed-good (compared at_least) p (three M n o x y e) m t h =
       let w = version M n o x y in
-      low-word pre v w Unbounded (put at_least w text ∷ []) [] e (whole_low v w text (text-spelled text w t)) (free-tame v) (free-exact v)
+      low-word pre v w Unbounded (put at_least w text ∷ []) [] e (whole_low v w text (text-spelled _ pre text M n o x y t)) (free-tame v) (free-exact v)
   signed-good (compared above) p (one M) m t h = from-word pre v (M + 1, 0, 0) h
   signed-good (compared above) p (two M n) m t h = from-word pre v (M, n + 1, 0) h
   signed-good (compared above) p (three M n o x y e) m t h = whole-word pre v (version M n o x y) _ _ e (whole_above v _ text) (λ r. rw r refl)
@@ -458,17 +464,17 @@ pub word-good : (pre : Bool) (v : VersionValue) (text : List ℕ) (word : Word) 
     → IsPlainWord MAX_SAFE_INTEGER pre text word cs → list_all (is_valid MAX_SAFE_INTEGER) cs ≡ true
     → Good pre v (table MAX_SAFE_INTEGER word) cs
 word-good pre v text word cs w (bare t p h) k = plain-good pre v w t p (form pre p h.plain) k
-word-good pre v text word cs w (signed s b t p x h m) k = signed-good pre v w t s p (form pre p h.plain) m h.npm k
+word-good pre v text word cs w (signed s b t p x h m) k = signed-good pre v w t s p (form pre p h.plain) m h k
 
 -- ---- the lower end
 
-low-form : (pre : Bool) (v : VersionValue) (text : List ℕ) (p : Partial) → Form pre p → IsPartial false text (npm_partial p)
+low-form : (pre : Bool) (v : VersionValue) (text : List ℕ) (p : Partial) → Form pre p → IsPlainPartial MAX_SAFE_INTEGER pre text p
     → list_all (is_valid MAX_SAFE_INTEGER) (hyphen_lower false (npm_partial p) text) ≡ true
     → Low v (version_of p) (hyphen_lower false (npm_partial p) text)
 low-form pre v text p any t h = any_low v
 low-form pre v text p (one M) t h = from_low v (M, 0, 0) (first_so (is_valid MAX_SAFE_INTEGER (from false (M, 0, 0))) _ h)
 low-form pre v text p (two M m) t h = from_low v (M, m, 0) (first_so (is_valid MAX_SAFE_INTEGER (from false (M, m, 0))) _ h)
-low-form pre v text p (three M m o x y e) t h = whole_low v _ text (text-spelled text _ t)
+low-form pre v text p (three M m o x y e) t h = whole_low v _ text (text-spelled _ pre text M m o x y t)
 
 -- ---- both ends
 
@@ -526,5 +532,5 @@ pub between-good : (pre : Bool) (v : VersionValue) (x y : List ℕ) (p q : Parti
 between-good pre v x y p q s h g m e k =
     let cs = hyphen_lower false (npm_partial p) x in
     let (kc, kd) = and_parts _ _ (sym (list_all-append (is_valid MAX_SAFE_INTEGER) cs (hyphen_upper false (npm_partial q) y)) ∙ k) in
-    hyphen-form pre v p q cs y s (low-form pre v x p (form pre p h.plain) h.npm kc) (grind (arith, nat_tests, common_steps))
+    hyphen-form pre v p q cs y s (low-form pre v x p (form pre p h.plain) h kc) (grind (arith, nat_tests, common_steps))
     (form pre q g.plain) m e

@@ -9,13 +9,14 @@ use Rattle.nodejs_semver.proofs.Common.{arith, cases_Bool, codes, common_steps, 
 use Rattle.nodejs_semver.proofs.Common.{hyphen, inl, inr, is_empty, is_release, length, list_all, list_any, map, middle_is_trim, nat_tests}
 use Rattle.nodejs_semver.proofs.Common.{not, part_bounds, precedence, refl, second_so, subst, sym, table, trim, trim_is_middle, true}
 use Rattle.nodejs_semver.proofs.Common.{ℕ, ◌&&◌, ◌++◌, ◌<◌, ◌||◌, ◌∙◌, ◌∷◌, ◌≡◌}
-use Rattle.nodejs_semver.proofs.Common.{empty_is}
+use Rattle.nodejs_semver.proofs.Common.{begins, empty_is, ◌==◌, ◌⊎◌}
+use Rattle.nodejs_semver.proofs.NpmCommon.{are_whole_marks}
 use Rattle.nodejs_semver.proofs.Dividing.RunsDivide.{words-none}
 use Rattle.nodejs_semver.proofs.Dividing.MeaningLaw.{blank-empty, pieces-utf8, words-law}
 use Rattle.nodejs_semver.proofs.Everyday.Words.{is_part_byte}
 use Rattle.nodejs_semver.proofs.NpmCommon.{AreAlternatives, AreMarks, AreWords, Comparison, HasAlternatives, IsAlternative, IsPlainText}
-use Rattle.nodejs_semver.proofs.NpmCommon.{IsPlainWord, IsSignText, IsWord, are_marks, compared, counts, is_free_lower}
-use Rattle.nodejs_semver.proofs.NpmCommon.{is_free_upper, is_valid, is_within, meets, npm_partial, spelling}
+use Rattle.nodejs_semver.proofs.NpmCommon.{IsPlainWord, IsSignText, IsWord, are_marks, compared, counts}
+use Rattle.nodejs_semver.proofs.NpmCommon.{is_valid, is_within, meets, npm_partial, spelling}
 use Rattle.nodejs_semver.proofs.Strict.AlternativeLaw.{alternatives_once}
 use Rattle.nodejs_semver.proofs.Strict.Rows.{either_true}
 use Rattle.nodejs_semver.specs.Npm.Alike.{ArePlain, ArePlainWords, IsPlainAlternative, bare, between, more_words, next, none, one_word}
@@ -52,7 +53,7 @@ part-read limit pre text s cs (words t ws r cs' h e f apart) =
     record { run = r; each = rw (words-read limit pre t ws cs' h) (some-mapped (table limit) ws (r.first ∷ r.others) e); fit = f; is = refl }
 part-read limit pre text s cs (between x b g y p q m h k some l more n to e) = record {
   run = record { first = m; others = [] };
-  each = rw (hyphen-read limit x b g y p q h.here k some l more n.here, e) refl;
+  each = rw (hyphen-read limit pre x b g y p q h k some l more n, e) refl;
   fit = table-interval limit (hyphen p q) m e;
   is = refl;
 }
@@ -119,13 +120,34 @@ sign_text s = rw append-nil at (Npm.sign s [] no_blank)
 pub no_mark : (a : Bool) → (a && false) ≡ false
 no_mark a = grind arith
 
+-- one `v` or none
+abbrev IsMark : List ℕ → Type 0
+IsMark mark = (mark ≡ []) ⊎ (mark ≡ codes "v")
+
+mark-is : (mark : List ℕ) → IsMark mark → (are_whole_marks false mark ≡ true) × AreMarks mark
+unfolding encode_utf8
+mark-is mark (inl e) = rw e (refl, no_ends)
+mark-is mark (inr e) = rw e (refl, (118 ∷ [], refl, refl))
+
+mark-may : (s : Sign) (p : Table.Partial) (mark : List ℕ) → IsMark mark → are_marks false s p mark ≡ true
+mark-may s p mark (inl e) = rw e (no_marks s p)
+mark-may s p mark (inr e) = rw e (one_v s p)
+  where
+    one_v : (s : Sign) (p : Table.Partial) → are_marks false s p (codes "v") ≡ true
+    one_v s p = grind (arith, nat_tests, common_steps)
+
+no-equal : (a : Bool) (mark : List ℕ) → IsMark mark → (a && begins (λ b. b == 61) mark) ≡ false
+no-equal a mark (inl e) = rw e (no_mark a)
+no-equal a mark (inr e) = rw e (no_mark a)
+
 word-is : (is_last : Bool) (limit : ℕ) (pre : Bool) (text : List ℕ) (word : Word) (cs : List Comparison) → IsPlainWord limit pre text word cs
     → IsWord false false is_last text cs
-word-is is_last limit pre text word cs (bare t p h) = Npm.word [] [] t (compared equal) _ Npm.no_sign (no_marks (compared equal) _) refl h.npm
+word-is is_last limit pre text word cs (bare t p h) = rw h.divided
+    (Npm.word [] h.mark h.rest (compared equal) _ Npm.no_sign (mark-may (compared equal) _ h.mark h.marked) (no-equal true h.mark h.marked) h.npm)
 word-is is_last limit pre text word cs (signed s b t p k h m) =
-    let w : IsWord false false is_last ((spelling s ++ b) ++ t) (Table.table false s (npm_partial p) t) =
-    Npm.word (spelling s ++ b) [] t s (npm_partial p) (Npm.sign s b k) (no_marks s (npm_partial p)) (no_mark _) h.npm in
-    rw (append_assoc (spelling s) b t) at w
+    let w : IsWord false false is_last ((spelling s ++ b) ++ (h.mark ++ h.rest)) (Table.table false s (npm_partial p) (h.mark ++ h.rest)) =
+    Npm.word (spelling s ++ b) h.mark h.rest s (npm_partial p) (Npm.sign s b k) (mark-may s _ h.mark h.marked) (no-equal _ h.mark h.marked) h.npm in
+    rw h.divided (rw (append_assoc (spelling s) b (h.mark ++ h.rest)) at w)
 
 words-are : (limit : ℕ) (pre : Bool) (text : List ℕ) (ws : List Word) (cs : List Comparison) → ArePlainWords limit pre text ws cs
     → AreWords false false text cs
@@ -136,9 +158,12 @@ words-are limit pre text ws cs (more_words t b rest w us c d h k some more) =
 part-is : (limit : ℕ) (pre : Bool) (text : List ℕ) (s : Span VersionValue) (cs : List Comparison)
     → IsPlainAlternative limit pre text s cs → IsAlternative false false text cs
 part-is limit pre text s cs (words t ws r cs' h e f apart) = Npm.words t cs' (words-are limit pre t ws cs' h)
-part-is limit pre text s cs (between x b g y p q m h k some l more n to e) =
-    Npm.hyphen [] x b g [] y _ _ no_ends (either_true (is_free_lower _)) h.npm k some l more
-    no_ends (either_true (is_free_upper false _)) n.npm
+part-is limit pre text s cs (between x b g y p q m h k some l more n to e) = rw (h.divided, n.divided) (rw append_assoc
+    (Npm.hyphen h.mark h.rest b g n.mark n.rest _ _ (mark-is h.mark h.marked).1 (either _ (mark-is h.mark h.marked).0) h.npm k some l more
+    (mark-is n.mark n.marked).1 (either _ (mark-is n.mark n.marked).0) n.npm))
+  where
+    either : {b : Bool} (a : Bool) → b ≡ true → (a || b) ≡ true
+    either a e = rw e (either_true a)
 
 pub gap-bytes : (gap : List ℕ) → IsGap gap → list_all is_part_byte gap ≡ true
 gap-bytes gap g = grind arith

@@ -1,22 +1,22 @@
 -- The words of plain alternatives, as the range grammar here reads them.
-use Rattle.nodejs_semver.proofs.Common.{AreComponents, Bool, Comparator, IsBlank, IsSign, List, None, Partial, Some, Word, [], above}
-use Rattle.nodejs_semver.proofs.Common.{after_spaces, ap, append-nil, append_assoc, arith, at_most, below, codes, drop_spaces}
-use Rattle.nodejs_semver.proofs.Common.{drop_spaces-blank, drop_spaces-none, encode_utf8_all, equal, false, hyphen, is_boundary, is_sign}
-use Rattle.nodejs_semver.proofs.Common.{is_whitespace, len_utf8_bounds, length, begins, cases_Bool, list_all, list_len, lt-ltb, nat_tests, partial_front, refl}
-use Rattle.nodejs_semver.proofs.Common.{space_len, true, word_at, words, words_within, ℕ, ◌++◌, ◌<◌, ◌==◌, ◌||◌, ◌∙◌, ◌∷◌, ◌≡◌}
-use Rattle.std.proofs.lemmas.Bool.{false_from_ne_true}
-use Rattle.nodejs_semver.proofs.Common.{eqb-true, inl, inr, is_ascii_digit}
-use Rattle.semver_core.specs.Text.Characters.{is_identifier_char}
-use Rattle.nodejs_semver.proofs.Reading.Bytes.{component-solid}
-use Rattle.nodejs_semver.proofs.Everyday.Words.{no-greater}
-use Rattle.nodejs_semver.proofs.NpmCommon.{Comparison, IsPlainWord, after_byte, at_least, compared, space_len-white, spelling}
-use Rattle.nodejs_semver.proofs.Reading.Bytes.{Stop, begins-on, begins-some, is_component_byte, is_solid, solid-dark, stop-nil}
+use Rattle.nodejs_semver.proofs.Common.{Bool, Comparator, IsBlank, IsSign, List, None, Partial, Some, Word, [], above, after_spaces, ap}
+use Rattle.nodejs_semver.proofs.Common.{append-nil, append_assoc, arith, at_most, begins, below, cases_Bool, codes, drop_spaces}
+use Rattle.nodejs_semver.proofs.Common.{drop_spaces-blank, drop_spaces-none, encode_utf8_all, eqb-true, equal, false, hyphen, inl, inr}
+use Rattle.nodejs_semver.proofs.Common.{is_ascii_digit, is_boundary, is_sign, is_whitespace, len_utf8_bounds, length, list_all, list_len}
+use Rattle.nodejs_semver.proofs.Common.{lt-ltb, nat_tests, partial_front, refl, space_len, tilde_sign, true, word_at, words, words_within}
+use Rattle.nodejs_semver.proofs.Common.{ℕ, ◌++◌, ◌<◌, ◌==◌, ◌||◌, ◌∙◌, ◌∷◌, ◌≡◌}
+use Rattle.nodejs_semver.proofs.NpmCommon.{Comparison, IsPlainPartial, IsPlainWord, after_byte, at_least, compared}
+use Rattle.nodejs_semver.proofs.NpmCommon.{space_len-white, spelling}
+use Rattle.nodejs_semver.proofs.Reading.Bytes.{Stop, begins-on, begins-some, begins_component, component-solid, is_component_byte, is_solid}
+use Rattle.nodejs_semver.proofs.Reading.Bytes.{solid-dark, stop-nil}
 use Rattle.nodejs_semver.proofs.Reading.PartialLaw.{components-begin, front-dark, front-exact, words-step}
 use Rattle.nodejs_semver.proofs.Reading.WordLaw.{compared-of, unsigned-at}
-use Rattle.nodejs_semver.specs.Internal.Fronts.{dotted_front}
+use Rattle.nodejs_semver.specs.Internal.Fronts.{dotted_front, drop_v}
 use Rattle.nodejs_semver.specs.Internal.Words.{upper_behind}
 use Rattle.nodejs_semver.specs.Npm.Alike.{ArePlainWords, bare, more_words, one_word, signed}
 use Rattle.nodejs_semver.specs.Text.WordText.{above_sign, at_least_sign, at_most_sign, below_sign, equal_sign}
+use Rattle.semver_core.specs.Text.Characters.{is_identifier_char}
+use Rattle.std.proofs.lemmas.Bool.{false_from_ne_true}
 use Rattle.nodejs_semver.specs.Npm.Table as Npm
 
 -- what stands behind a word: the end, or whitespace and another word
@@ -29,9 +29,12 @@ ends-nil : (limit : ℕ) → Ends limit []
 unfolding is_boundary space_len
 ends-nil limit = record { stop = stop-nil; bound = refl; alone = refl }
 
--- a byte at which a word begins: of a component or of a sign
+-- a byte at which a partial begins, and one at which a word does
+abbrev is_front_byte : ℕ → Bool
+is_front_byte b = is_component_byte b || b == 118
+
 abbrev pub is_word_byte : ℕ → Bool
-is_word_byte b = is_component_byte b || (is_sign b || (b == 94 || b == 126))
+is_word_byte b = is_component_byte b || (b == 118 || (is_sign b || (b == 94 || b == 126)))
 
 word-solid : (text : List ℕ) → begins is_word_byte text ≡ true → begins is_solid text ≡ true
 word-solid [] h = h
@@ -40,7 +43,7 @@ word-solid (b ∷ rest) h = elim (cases_Bool (is_component_byte b)) [
   | inr e ↦ signed-solid (rw e at h)
 ]
   where
-    signed-solid : (is_sign b || (b == 94 || b == 126)) ≡ true → is_solid b ≡ true
+    signed-solid : (b == 118 || (is_sign b || (b == 94 || b == 126))) ≡ true → is_solid b ≡ true
     signed-solid k = grind (arith, nat_tests)
 
 word-dark : (text : List ℕ) → begins is_word_byte text ≡ true → space_len text ≡ 0
@@ -97,16 +100,48 @@ ends-blank limit blank rest h some e =
       alone = rw (lt-ltb 0 (space_len (blank ++ rest)) white, blank-skips blank rest h (word-dark rest e), no-dash rest e) refl;
     }
 
+-- ---- partials
+
+begins-word : (x more : List ℕ) → begins is_front_byte x ≡ true → begins is_word_byte (x ++ more) ≡ true
+begins-word x more h = grind arith
+
+no-greater : (text : List ℕ) → begins is_front_byte text ≡ true → tilde_sign text ≡ (false, text)
+no-greater text h = grind arith
+
+marked-read : (limit : ℕ) (text : List ℕ) → begins_component text ≡ true → partial_front limit (118 ∷ text) ≡ partial_front limit text
+unfolding partial_front
+marked-read limit text h = let dark = drop_spaces-none text (front-dark text h) in rw (unmarked text h, dark) refl
+  where
+    unmarked : (text : List ℕ) → begins_component text ≡ true → drop_v text ≡ text
+    unmarked text h = grind (arith, nat_tests)
+
+module _ (limit : ℕ) (pre : Bool) (x : List ℕ) (p : Partial) (h : IsPlainPartial limit pre x p) where
+  opened : begins_component h.rest ≡ true
+  opened = components-begin limit h.rest p h.here
+
+  pub partial-begins : begins is_front_byte x ≡ true
+  partial-begins = rw h.divided (elim h.marked [ inl e ↦ rw e (weaker h.rest opened) | inr v ↦ rw v refl ])
+    where
+      weaker : (text : List ℕ) → begins_component text ≡ true → begins is_front_byte text ≡ true
+      weaker text e = grind arith
+
+  partial-dark : (more : List ℕ) → space_len (x ++ more) ≡ 0
+  partial-dark more = word-dark (x ++ more) (begins-word x more partial-begins)
+
+  pub partial-read : (more : List ℕ) → Stop more → partial_front limit (x ++ more) ≡ Some (p, more)
+  partial-read more stop =
+      let read = front-exact limit h.rest more p h.here stop in
+      rw h.divided (elim h.marked [
+        | inl e ↦ rw e read
+        | inr v ↦ rw v (marked-read limit (h.rest ++ more) (begins-on is_component_byte h.rest more opened) ∙ read)
+      ])
+
+  -- behind whitespace or none
+  behind-read : (blank more : List ℕ) → IsBlank blank → Stop more → partial_front limit (drop_spaces (blank ++ (x ++ more))) ≡ Some (p, more)
+  behind-read blank more b stop =
+      ap (λ (t : List ℕ). partial_front limit t) (blank-skips blank (x ++ more) b (partial-dark more)) ∙ partial-read more stop
+
 -- ---- words
-
-components-dark : (limit : ℕ) (x more : List ℕ) (p : Partial) → AreComponents limit x p → space_len (x ++ more) ≡ 0
-components-dark limit x more p h = front-dark (x ++ more) (begins-on is_component_byte x more (components-begin limit x p h))
-
--- a partial behind whitespace or none
-partial-read : (limit : ℕ) (blank x more : List ℕ) (p : Partial) → IsBlank blank → AreComponents limit x p → Stop more
-    → partial_front limit (drop_spaces (blank ++ (x ++ more))) ≡ Some (p, more)
-partial-read limit blank x more p b h stop =
-    ap (λ (t : List ℕ). partial_front limit t) (blank-skips blank (x ++ more) b (components-dark limit x more p h)) ∙ front-exact limit x more p h stop
 
 pub sign_is : (c : Comparator) → IsSign c (spelling (compared c))
 sign_is at_least = at_least_sign
@@ -119,29 +154,28 @@ word-read : (limit : ℕ) (pre : Bool) (text more : List ℕ) (w : Word) (cs : L
     → word_at limit (text ++ more) ≡ (w, more)
 unfolding word_at
 word-read limit pre text more w cs (bare t p h) e =
-    let read = front-exact limit t more p h.here e.stop in
+    let read = partial-read limit pre t p h more e.stop in
     rw (unsigned-at limit (t ++ more) (p, more) read, read, e.alone, e.bound) refl
 word-read limit pre text more w cs (signed (compared c) b t p k h m) e =
-    let read = partial-read limit b t more p k h.here e.stop in
+    let read = behind-read limit pre t p h b more k e.stop in
     let sign = spelling (compared c) in
     rw (append_assoc sign (b ++ t) more, append_assoc b t more, compared-of limit c sign (b ++ (t ++ more)) (p, more) (sign_is c) read, read, e.bound) refl
 word-read limit pre text more w cs (signed Npm.caret b t p k h m) e =
-    rw (append_assoc b t more, partial-read limit b t more p k h.here e.stop, e.bound) refl
+    rw (append_assoc b t more, behind-read limit pre t p h b more k e.stop, e.bound) refl
 word-read limit pre text more w cs (signed Npm.tilde b t p k h m) e =
-    let opens = begins-on is_component_byte t more (components-begin limit t p h.here) in
-    let skips = blank-skips b (t ++ more) k (components-dark limit t more p h.here) in
+    let dark = partial-dark limit pre t p h more in
     rw (
       append_assoc b t more,
-      skips,
-      no-greater (t ++ more) opens,
-      drop_spaces-none (t ++ more) (front-dark (t ++ more) opens),
-      front-exact limit t more p h.here e.stop,
+      blank-skips b (t ++ more) k dark,
+      no-greater (t ++ more) (begins-on is_front_byte t more (partial-begins limit pre t p h)),
+      drop_spaces-none (t ++ more) dark,
+      partial-read limit pre t p h more e.stop,
       e.bound,
     ) refl
 
 word-begins : (limit : ℕ) (pre : Bool) (text : List ℕ) (w : Word) (cs : List Comparison) → IsPlainWord limit pre text w cs
     → begins is_word_byte text ≡ true
-word-begins limit pre text w cs (bare t p h) = let b = components-begin limit t p h.here in grind arith
+word-begins limit pre text w cs (bare t p h) = rw append-nil at (begins-word t [] (partial-begins limit pre t p h))
 word-begins limit pre text w cs (signed s b t p k h m) = grind arith
 
 words-begin : (limit : ℕ) (pre : Bool) (text : List ℕ) (ws : List Word) (cs : List Comparison) → ArePlainWords limit pre text ws cs
@@ -168,17 +202,17 @@ words-read limit pre text ws cs (more_words t b rest w us c d h k some more) =
 
 -- ---- hyphen ranges
 
-pub hyphen-read : (limit : ℕ) (x blank gap y : List ℕ) (p q : Partial) → AreComponents limit x p → IsBlank blank → 0 < length blank
-    → IsBlank gap → 0 < length gap → AreComponents limit y q → words limit (x ++ (blank ++ (codes "-" ++ (gap ++ y)))) ≡ hyphen p q ∷ []
+pub hyphen-read : (limit : ℕ) (pre : Bool) (x blank gap y : List ℕ) (p q : Partial) → IsPlainPartial limit pre x p → IsBlank blank
+    → 0 < length blank → IsBlank gap → 0 < length gap → IsPlainPartial limit pre y q
+    → words limit (x ++ (blank ++ (codes "-" ++ (gap ++ y)))) ≡ hyphen p q ∷ []
 unfolding words_within word_at is_boundary space_len after_spaces
-hyphen-read limit x blank gap y p q h b some g more k =
+hyphen-read limit pre x blank gap y p q h b some g more k =
     let behind = blank ++ (45 ∷ (gap ++ y)) in
     let white = blank-some blank (45 ∷ (gap ++ y)) b some in
-    let read = front-exact limit x behind p h (stop-dark behind white) in
-    let upper : partial_front limit y ≡ Some (q, []) = rw append-nil at (front-exact limit y [] q k stop-nil) in
-    let dark = rw append-nil at (components-dark limit y [] q k) in
-    words-from limit (x ++ behind) [] (hyphen p q) (grind (arith, components-begin, begins-on))
-    (rw (
+    let read = partial-read limit pre x p h behind (stop-dark behind white) in
+    let upper : partial_front limit y ≡ Some (q, []) = rw append-nil at (partial-read limit pre y q k [] stop-nil) in
+    let dark = rw append-nil at (partial-dark limit pre y q k []) in
+    words-from limit (x ++ behind) [] (hyphen p q) (begins-word x behind (partial-begins limit pre x p h)) (rw (
       unsigned-at limit (x ++ behind) (p, behind) read,
       read,
       lt-ltb 0 (space_len behind) white,

@@ -1,8 +1,8 @@
 -- Worked rows: a text that means the same here and to node-semver, with its intervals and its comparators.
-use Rattle.nodejs_semver.proofs.Common.{Before, IsBlank, IsNumber, IsTrim, List, None, Partial, Some, Span, VersionValue, [], above, arith}
+use Rattle.nodejs_semver.proofs.Common.{inl, inr, ◌⊎◌, Before, IsBlank, IsNumber, IsTrim, List, None, Partial, Some, Span, VersionValue, [], above, arith}
 use Rattle.nodejs_semver.proofs.Common.{begins, below, codes, encode_utf8, encode_utf8_all, false, length, list_all, lit≤, more_pieces}
-use Rattle.nodejs_semver.proofs.Common.{one_piece, pieces, plain, refl, release_value, sym, true, ℕ, ◌++◌, ◌<◌, ◌∷◌, ◌≡◌, ◌≤◌}
-use Rattle.nodejs_semver.proofs.NpmCommon.{IsPlainPartial, IsPlainText, counted, digits, first, from, here, is_spelled, major, minor, under}
+use Rattle.nodejs_semver.proofs.Common.{one_piece, refl, release_value, sym, true, ℕ, ◌++◌, ◌∷◌, ◌≡◌, ◌≤◌}
+use Rattle.nodejs_semver.proofs.NpmCommon.{IsPlainPartial, IsPlainText, digits, from, is_spelled, under}
 use Rattle.nodejs_semver.specs.Npm.Alike.{more_words, next, none, one_word, signed, words}
 use Rattle.nodejs_semver.specs.Npm.Table.{caret, compared, tilde}
 use Rattle.semver_core.specs.Text.Characters.{is_whitespace}
@@ -21,24 +21,29 @@ part M = record { major = Some M; minor = None; patch = None; pre_release = []; 
 abbrev IsPart : List ℕ → ℕ → Type 0
 IsPart text M = IsPlainPartial limit false text (part M)
 
-part_is : (text : List ℕ) (M : ℕ) → IsNumber limit text M → is_spelled false false M text ≡ true → length text ≤ 257 → IsPart text M
-part_is text M n spelled short = record {
+part_is : (mark text : List ℕ) (M : ℕ) → (mark ≡ []) ⊎ (mark ≡ codes "v") → IsNumber limit text M → is_spelled false false M text ≡ true
+    → length text ≤ 257 → IsPart (mark ++ text) M
+part_is mark text M marked n spelled short = record {
+  mark = mark;
+  rest = text;
+  divided = refl;
+  marked = marked;
   here = Here.one text (Some M) (Here.number text M n);
   npm = (Npm.one text (Some M) (Npm.number text M (record { some = n.some; each = n.each; value = n.value; safe = omega arith }) spelled short), refl);
   plain = refl;
 }
 
 one_is : IsPart (codes "1") 1
-one_is = part_is (codes "1") 1 (record { some = lit< tt; each = refl; value = refl; safe = lit≤ tt }) refl (lit≤ tt)
+one_is = part_is [] (codes "1") 1 (inl refl) (record { some = lit< tt; each = refl; value = refl; safe = lit≤ tt }) refl (lit≤ tt)
 
 two_is : IsPart (codes "2") 2
-two_is = part_is (codes "2") 2 (record { some = lit< tt; each = refl; value = refl; safe = lit≤ tt }) refl (lit≤ tt)
+two_is = part_is [] (codes "2") 2 (inl refl) (record { some = lit< tt; each = refl; value = refl; safe = lit≤ tt }) refl (lit≤ tt)
 
-three_is : IsPart (codes "3") 3
-three_is = part_is (codes "3") 3 (record { some = lit< tt; each = refl; value = refl; safe = lit≤ tt }) refl (lit≤ tt)
+three_is : IsPart (codes "v3") 3
+three_is = part_is (codes "v") (codes "3") 3 (inr refl) (record { some = lit< tt; each = refl; value = refl; safe = lit≤ tt }) refl (lit≤ tt)
 
 four_is : IsPart (codes "4") 4
-four_is = part_is (codes "4") 4 (record { some = lit< tt; each = refl; value = refl; safe = lit≤ tt }) refl (lit≤ tt)
+four_is = part_is [] (codes "4") 4 (inl refl) (record { some = lit< tt; each = refl; value = refl; safe = lit≤ tt }) refl (lit≤ tt)
 
 none_is : IsBlank []
 none_is = record { characters = []; each = refl; spelled = refl }
@@ -66,23 +71,23 @@ trim_is before text after b a h k e f = record {
   ends_dark = k;
 }
 
--- `^1  ||>2   < 4 ~3 ` is `>=1.0.0 <2.0.0-0 || >=3.0.0 <4.0.0-0 >=3.0.0 <4.0.0-0` to node-semver, and here `< 4` is below 4.0.0
-row-words : IsPlainText limit (codes "^1  ||>2   < 4 ~3 ") (band 1 2 ∷ (band 3 4 ∷ []))
+-- `^1  ||>2   < 4 ~v3 ` is `>=1.0.0 <2.0.0-0 || >=3.0.0 <4.0.0-0 >=3.0.0 <4.0.0-0` to node-semver, and here `< 4` is below 4.0.0
+row-words : IsPlainText limit (codes "^1  ||>2   < 4 ~v3 ") (band 1 2 ∷ (band 3 4 ∷ []))
     ((from false (1, 0, 0) ∷ (under (2, 0, 0) ∷ []))
     ∷ ((from false (3, 0, 0) ∷ (under (4, 0, 0) ∷ (from false (3, 0, 0) ∷ (under (4, 0, 0) ∷ [])))) ∷ []))
 unfolding digits Spans.table encode_utf8
 row-words = record {
   pre = false;
-  pieces = codes "^1  " ∷ (codes ">2   < 4 ~3 " ∷ []);
-  cut = more_pieces (codes "^1  ") (codes ">2   < 4 ~3 ") _ refl refl (one_piece _ refl);
+  pieces = codes "^1  " ∷ (codes ">2   < 4 ~v3 " ∷ []);
+  cut = more_pieces (codes "^1  ") (codes ">2   < 4 ~v3 ") _ refl refl (one_piece _ refl);
   each = next _ (codes "^1") _ _ _ _ _ (trim_is [] (codes "^1") (codes "  ") refl refl refl refl refl refl)
       (words _ _ (record { first = band 1 2; others = [] }) _ (one_word (codes "^1") _ _ (signed caret [] (codes "1") (part 1) none_is one_is refl)) refl refl refl)
-      (next _ (codes ">2   < 4 ~3") _ _ _ _ _ (trim_is [] (codes ">2   < 4 ~3") (codes " ") refl refl refl refl refl refl)
+      (next _ (codes ">2   < 4 ~v3") _ _ _ _ _ (trim_is [] (codes ">2   < 4 ~v3") (codes " ") refl refl refl refl refl refl)
       (words _ _ (record { first = Spans.>= (release_value 3 0 0); others = Spans.< (release_value 4 0 0) ∷ (band 3 4 ∷ []) }) _
-      (more_words (codes ">2") (codes "   ") (codes "< 4 ~3") _ _ _ _ (signed (compared above) [] (codes "2") (part 2) none_is two_is refl)
+      (more_words (codes ">2") (codes "   ") (codes "< 4 ~v3") _ _ _ _ (signed (compared above) [] (codes "2") (part 2) none_is two_is refl)
       (spaces (codes "   ") refl refl) (lit< tt)
-      (more_words (codes "< 4") (codes " ") (codes "~3") _ _ _ _ (signed (compared below) (codes " ") (codes "4") (part 4) (spaces (codes " ") refl refl) four_is refl)
-      (spaces (codes " ") refl refl) (lit< tt) (one_word (codes "~3") _ _ (signed tilde [] (codes "3") (part 3) none_is three_is refl)))) refl refl refl)
+      (more_words (codes "< 4") (codes " ") (codes "~v3") _ _ _ _ (signed (compared below) (codes " ") (codes "4") (part 4) (spaces (codes " ") refl refl) four_is refl)
+      (spaces (codes " ") refl refl) (lit< tt) (one_word (codes "~v3") _ _ (signed tilde [] (codes "v3") (part 3) none_is three_is refl)))) refl refl refl)
       none);
   valid = refl;
   counted = refl;

@@ -1,5 +1,5 @@
 -- Statement: range texts that mean the same here and to node-semver's strict reading.
-use Rattle.std.specs.Prelude.{◌≡◌, ◌==◌, ◌<◌, ◌&&◌, ◌||◌, not, ℕ, Bool, true, false, List, [], ◌∷◌, ◌++◌, Some, None}
+use Rattle.std.specs.Prelude.{◌≡◌, ◌⊎◌, ◌==◌, ◌<◌, ◌&&◌, ◌||◌, not, ℕ, Bool, true, false, List, [], ◌∷◌, ◌++◌, Some, None}
 use Rattle.std.specs.Prelude.{codes, is_some, length, map}
 use Rattle.std.specs.List.{list_all, list_any}
 use Rattle.semver_core.specs.Cuts.{Span}
@@ -29,10 +29,14 @@ is_plain pre p = elim p.patch [
   | None ↦ (is_some p.major || not (is_some p.minor)) && (is_empty p.pre_release && is_empty p.build)
 ]
 
--- the text is this partial in both grammars
+-- the text is one `v` or none, and this partial in both grammars
 pub record IsPlainPartial (limit : ℕ) (pre : Bool) (text : List ℕ) (p : Partial) : Type 0 where
-  pub here : AreComponents limit text p
-  pub npm : IsPartial false text (npm_partial p)
+  pub mark : List ℕ
+  pub rest : List ℕ
+  pub divided : text ≡ mark ++ rest
+  pub marked : (mark ≡ []) ⊎ (mark ≡ codes "v")
+  pub here : AreComponents limit rest p
+  pub npm : IsPartial false rest (npm_partial p)
   pub plain : is_plain pre p ≡ true
 
 -- the word of a sign
