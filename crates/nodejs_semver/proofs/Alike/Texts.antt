@@ -1,45 +1,38 @@
 -- Plain texts: what they mean here, their alternatives to node-semver, and that both accept the same versions.
 use Rattle.nodejs_semver.proofs.Alike.Beside.{words-good}
-use Rattle.nodejs_semver.proofs.Alike.Rows.{IsWithin, SameWord, between-good, within}
-use Rattle.nodejs_semver.proofs.Alike.Words.{hyphen-read, words-read}
+use Rattle.nodejs_semver.proofs.Alike.Rows.{IsWithin, SameWord, between-good, free-tame, tame-word, within}
+use Rattle.nodejs_semver.proofs.Alike.Words.{begins-word, filled, hyphen-read, is_word_byte, partial-begins, words-begin, words-read}
 use Rattle.nodejs_semver.proofs.Bounds.TableRows.{table-interval}
-use Rattle.nodejs_semver.proofs.Common.{AllByRecursion, Bool, IsBlank, IsCutAtBars, IsTrim, IsUtf8, List, MAX_SAFE_INTEGER, Means, Option}
-use Rattle.nodejs_semver.proofs.Common.{Run, Some, Span, VersionValue, Word, [], accepts, any_weaker, ap, append-nil, append_assoc, ap₂}
-use Rattle.nodejs_semver.proofs.Common.{arith, cases_Bool, codes, common_steps, encode_utf8, equal, false, filter, filter_map, first_so}
-use Rattle.nodejs_semver.proofs.Common.{hyphen, inl, inr, is_empty, is_release, length, list_all, list_any, map, middle_is_trim, nat_tests}
-use Rattle.nodejs_semver.proofs.Common.{not, part_bounds, precedence, refl, second_so, subst, sym, table, trim, trim_is_middle, true}
-use Rattle.nodejs_semver.proofs.Common.{ℕ, ◌&&◌, ◌++◌, ◌<◌, ◌||◌, ◌∙◌, ◌∷◌, ◌≡◌}
-use Rattle.nodejs_semver.proofs.Common.{begins, empty_is, ◌==◌, ◌⊎◌}
-use Rattle.nodejs_semver.proofs.NpmCommon.{are_whole_marks}
-use Rattle.nodejs_semver.proofs.Dividing.RunsDivide.{words-none}
-use Rattle.nodejs_semver.proofs.Dividing.MeaningLaw.{blank-empty, pieces-utf8, words-law}
+use Rattle.nodejs_semver.proofs.Common.{if◌then◌else◌, AllByRecursion, Bool, IsBlank, IsCutAtBars, IsTrim, IsUtf8, List, MAX_SAFE_INTEGER, Means, Option}
+use Rattle.nodejs_semver.proofs.Common.{Run, Some, Span, Unbounded, VersionValue, Word, [], accepts, and_parts, any_weaker, ap, append-nil}
+use Rattle.nodejs_semver.proofs.Common.{append_assoc, ap₂, arith, begins, cases_Bool, codes, common_steps, encode_utf8, equal, false}
+use Rattle.nodejs_semver.proofs.Common.{filter, filter_map, first_so, flat_map, hyphen, inl, inr, is_empty, is_release, length, list_all}
+use Rattle.nodejs_semver.proofs.Common.{list_any, map, middle_is_trim, nat_tests, not, part_bounds, part_denotes, precedence, refl}
+use Rattle.nodejs_semver.proofs.Common.{second_so, subst, sym, table, trim, trim_is_middle, true, ℕ, ◌&&◌, ◌++◌, ◌<◌, ◌==◌, ◌||◌, ◌∙◌, ◌∷◌}
+use Rattle.nodejs_semver.proofs.Common.{◌≡◌, ◌⊎◌}
+use Rattle.nodejs_semver.proofs.Dividing.BarsDivide.{bars_once}
+use Rattle.nodejs_semver.proofs.Dividing.RunsDivide.{runs_are}
 use Rattle.nodejs_semver.proofs.Everyday.Words.{is_part_byte}
 use Rattle.nodejs_semver.proofs.NpmCommon.{AreAlternatives, AreMarks, AreWords, Comparison, HasAlternatives, IsAlternative, IsPlainText}
-use Rattle.nodejs_semver.proofs.NpmCommon.{IsPlainWord, IsSignText, IsWord, are_marks, compared, counts}
-use Rattle.nodejs_semver.proofs.NpmCommon.{is_valid, is_within, meets, npm_partial, spelling}
+use Rattle.nodejs_semver.proofs.NpmCommon.{IsPlainWord, IsSignText, IsWord, are_marks, are_whole_marks, compared, counts, is_valid}
+use Rattle.nodejs_semver.proofs.NpmCommon.{is_within, meets, npm_partial, spelling}
 use Rattle.nodejs_semver.proofs.Strict.AlternativeLaw.{alternatives_once}
 use Rattle.nodejs_semver.proofs.Strict.Rows.{either_true}
-use Rattle.nodejs_semver.specs.Npm.Alike.{ArePlain, ArePlainWords, IsPlainAlternative, bare, between, more_words, next, none, one_word}
-use Rattle.nodejs_semver.specs.Npm.Alike.{signed, words}
+use Rattle.nodejs_semver.specs.Npm.Alike.{ArePlain, ArePlainWords, IsPlainAlternative, bare, between, more_words, next, none, nothing}
+use Rattle.nodejs_semver.specs.Npm.Alike.{one_word, signed, words}
 use Rattle.nodejs_semver.specs.Npm.Ranges.{IsRangeOf}
 use Rattle.nodejs_semver.specs.Npm.Table.{Sign}
+use Rattle.nodejs_semver.specs.Ranges.View.{any_version}
 use Rattle.nodejs_semver.specs.Text.Common.{IsGap}
-use Rattle.nodejs_semver.specs.Text.Meaning.{AreAllIntervals, HasRuns, all_intervals, next_piece, no_piece}
 use Rattle.nodejs_semver.specs.Text.Runs.{fits, interval_of}
+use Rattle.std.proofs.lemmas.Slice.Zip.{AllZip-long}
+use Rattle.std.specs.List.{AllZip}
 use Rattle.nodejs_semver.proofs.Dividing.MeaningLaw as meaning
-use Rattle.nodejs_semver.specs.Internal.Words as Reading
 use Rattle.nodejs_semver.specs.Npm.RangeText as Npm
 use Rattle.nodejs_semver.specs.Npm.Ranges as Ranges
 use Rattle.nodejs_semver.specs.Npm.Table as Table
 
 -- ---- here
-
--- the words of an alternative, of which there are some, and their one run
-record ReadAs (limit : ℕ) (text : List ℕ) (s : Span VersionValue) : Type 0 where
-  run : Run VersionValue
-  each : part_bounds limit text ≡ run.first ∷ run.others
-  fit : fits precedence run ≡ true
-  is : s ≡ interval_of precedence run
 
 some-mapped : {A B : Type 0} (f : A → Option B) (xs : List A) (ys : List B) → map f xs ≡ map Some ys → filter_map f xs ≡ ys
 some-mapped f [] [] e = refl
@@ -47,57 +40,66 @@ some-mapped f [] (y ∷ ys) e = cc e
 some-mapped f (x ∷ xs) [] e = cc e
 some-mapped f (x ∷ xs) (y ∷ ys) e = grind (arith, some-mapped f xs ys)
 
-part-read : (limit : ℕ) (pre : Bool) (text : List ℕ) (s : Span VersionValue) (cs : List Comparison)
-    → IsPlainAlternative limit pre text s cs → ReadAs limit text s
-part-read limit pre text s cs (words t ws r cs' h e f apart) =
-    record { run = r; each = rw (words-read limit pre t ws cs' h) (some-mapped (table limit) ws (r.first ∷ r.others) e); fit = f; is = refl }
-part-read limit pre text s cs (between x b g y p q m h k some l more n to e) = record {
-  run = record { first = m; others = [] };
-  each = rw (hyphen-read limit pre x b g y p q h k some l more n, e) refl;
-  fit = table-interval limit (hyphen p q) m e;
-  is = refl;
-}
+-- the words of an alternative are one run
+run-denotes : (limit : ℕ) (text : List ℕ) (r : Run VersionValue) → begins is_word_byte text ≡ true → part_bounds limit text ≡ r.first ∷ r.others
+    → fits precedence r ≡ true → part_denotes limit text ≡ interval_of precedence r ∷ []
+run-denotes limit text r b e f =
+    let one = runs_are (part_bounds limit text) (r ∷ []) (append-nil _ ∙ sym e, (f, tt), tt) in
+    rw (filled text b, sym one) refl
 
-has-run : (limit : ℕ) (piece text : List ℕ) (s : Span VersionValue) → IsUtf8 piece → IsTrim piece text → (r : ReadAs limit text s)
-    → HasRuns limit piece (r.run ∷ [])
-has-run limit piece text s u t r =
-    (Reading.words limit text, (text, t, (words-law limit piece text _ u t).0 refl), (append-nil _ ∙ sym r.each, (r.fit, tt), tt))
+-- an alternative means its interval, and has comparators only if it is not empty
+part-denotes : (limit : ℕ) (pre : Bool) (text : List ℕ) (s : Span VersionValue) (cs : List Comparison) → IsPlainAlternative limit pre text s cs
+    → (part_denotes limit text ≡ s ∷ []) × (is_empty text ≡ true → cs ≡ [])
+part-denotes limit pre text s cs nothing = (refl, λ e. refl)
+part-denotes limit pre text s cs (words t ws r cs' h e f apart) =
+    let b = words-begin limit pre t ws cs' h in
+    (run-denotes limit t r b (rw (words-read limit pre t ws cs' h) (some-mapped (table limit) ws (r.first ∷ r.others) e)) f, λ e. cc (filled t b, e))
+part-denotes limit pre text s cs (between x b g y p q m h k some l more n to e) =
+    let rest = b ++ (codes "-" ++ (g ++ y)) in
+    let o = begins-word x rest (partial-begins limit pre x p h) in (
+      run-denotes limit (x ++ rest) (record { first = m; others = [] }) o (rw (hyphen-read limit pre x b g y p q h k some l more n, e) refl)
+          (table-interval limit (hyphen p q) m e),
+      λ e. cc (filled (x ++ rest) o, e),
+    )
 
-not-blank : (limit : ℕ) (piece text : List ℕ) (s : Span VersionValue) → IsTrim piece text → ReadAs limit text s → IsBlank piece → ⊥
-not-blank limit piece text s t r blank =
-    let e : text ≡ [] = middle_is_trim piece text t ∙ empty_is (trim piece) (blank-empty piece blank) in
-    let none : part_bounds limit text ≡ [] = ap (λ l. filter_map (table limit) l) (words-none limit text (ap length e)) in
-    absurd (omega (arith, ap length (sym none ∙ r.each)))
+all-denote : (limit : ℕ) (pre : Bool) (texts : List (List ℕ)) (list : List (Span VersionValue)) (all : List (List Comparison))
+    → ArePlain limit pre texts list all → flat_map (part_denotes limit) texts ≡ list
+all-denote limit pre texts list all none = refl
+all-denote limit pre texts list all (next text rest s cs ss others h more) =
+    rw ((part-denotes limit pre text s cs h).0, all-denote limit pre rest ss others more) refl
 
-all-read : (limit : ℕ) (pre : Bool) (pieces : List (List ℕ)) (list : List (Span VersionValue)) (all : List (List Comparison))
-    → ArePlain limit pre pieces list all → AllByRecursion IsUtf8 pieces → AreAllIntervals limit pieces list
-all-read limit pre pieces list all none u = no_piece
-all-read limit pre pieces list all (next piece text rest s cs ss others t h more) u =
-    let r = part-read limit pre text s cs h in
-    rw r.is (next_piece piece rest (r.run ∷ []) ss (not-blank limit piece text s t r) (has-run limit piece text s u.0 t r)
-    (all-read limit pre rest ss others more u.1))
+trimmed-are : (pieces texts : List (List ℕ)) → AllZip IsTrim pieces texts → texts ≡ map trim pieces
+trimmed-are [] [] h = refl
+trimmed-are (piece ∷ pieces) (text ∷ texts) h =
+    ap₂ (λ (t : List ℕ) (ts : List (List ℕ)). t ∷ ts) (middle_is_trim piece text h.0) (trimmed-are pieces texts h.1)
+trimmed-are pieces texts h = absurd h
 
-some-pieces : (text : List ℕ) (pieces : List (List ℕ)) → IsCutAtBars text pieces → 0 < length pieces
-some-pieces text pieces h = grind arith
+some-pieces : (text : List ℕ) (pieces texts : List (List ℕ)) → IsCutAtBars text pieces → AllZip IsTrim pieces texts → 0 < length texts
+some-pieces text pieces texts cut h = grind (arith, AllZip-long)
 
--- there are some intervals and some alternatives, and the text is not blank
-some-all : (limit : ℕ) (pre : Bool) (pieces : List (List ℕ)) (list : List (Span VersionValue)) (all : List (List Comparison))
-    → ArePlain limit pre pieces list all → 0 < length pieces
-    → (0 < length list) × (is_empty all ≡ false) × (AllByRecursion IsBlank pieces → ⊥)
-some-all limit pre pieces list all none some = absurd (omega (arith, some))
-some-all limit pre pieces list all (next piece text rest s cs ss others t h more) some =
-    (omega arith, refl, λ blank. not-blank limit piece text s t (part-read limit pre text s cs h) blank.0)
+-- there are some intervals and some alternatives
+some-all : (limit : ℕ) (pre : Bool) (texts : List (List ℕ)) (list : List (Span VersionValue)) (all : List (List Comparison))
+    → ArePlain limit pre texts list all → 0 < length texts → (0 < length list) × (is_empty all ≡ false)
+some-all limit pre texts list all h some = grind arith
 
 pub plain-means : (text : List ℕ) (list : List (Span VersionValue)) (all : List (List Comparison)) → IsUtf8 text
     → IsPlainText MAX_SAFE_INTEGER text list all → Means MAX_SAFE_INTEGER text list
-plain-means text list all u h =
-    all_intervals h.pieces list h.cut (some-all MAX_SAFE_INTEGER h.pre h.pieces list all h.each (some-pieces text h.pieces h.cut)).2
-    (all-read MAX_SAFE_INTEGER h.pre h.pieces list all h.each (pieces-utf8 text h.pieces h.cut u))
+plain-means text list all u h = (meaning.one_meaning MAX_SAFE_INTEGER text list u).0
+    (rw (
+      sym (trimmed-are h.pieces h.texts h.trimmed ∙ ap (λ ps. map trim ps) (bars_once text h.pieces h.cut)),
+      all-denote MAX_SAFE_INTEGER h.pre h.texts h.spans all h.each,
+    ) (sym h.list_is))
 
 pub plain-read : (text : List ℕ) (list : List (Span VersionValue)) (all : List (List Comparison)) → IsUtf8 text
     → IsPlainText MAX_SAFE_INTEGER text list all → Means MAX_SAFE_INTEGER text list × (0 < length list)
-plain-read text list all u h =
-    (plain-means _ _ _ u h, (some-all MAX_SAFE_INTEGER h.pre h.pieces list all h.each (some-pieces text h.pieces h.cut)).0)
+plain-read text list all u h = (
+  plain-means text list all u h,
+  rw h.list_is (either (list_all is_empty h.texts)
+      (some-all MAX_SAFE_INTEGER h.pre h.texts h.spans all h.each (some-pieces text h.pieces h.texts h.cut h.trimmed)).0),
+)
+  where
+    either : (blank : Bool) → 0 < length h.spans → 0 < length (if blank then any_version else h.spans)
+    either blank e = grind arith
 
 -- ---- to node-semver
 
@@ -157,6 +159,7 @@ words-are limit pre text ws cs (more_words t b rest w us c d h k some more) =
 
 part-is : (limit : ℕ) (pre : Bool) (text : List ℕ) (s : Span VersionValue) (cs : List Comparison)
     → IsPlainAlternative limit pre text s cs → IsAlternative false false text cs
+part-is limit pre text s cs nothing = Npm.nothing
 part-is limit pre text s cs (words t ws r cs' h e f apart) = Npm.words t cs' (words-are limit pre t ws cs' h)
 part-is limit pre text s cs (between x b g y p q m h k some l more n to e) = rw (h.divided, n.divided) (rw append_assoc
     (Npm.hyphen h.mark h.rest b g n.mark n.rest _ _ (mark-is h.mark h.marked).1 (either _ (mark-is h.mark h.marked).0) h.npm k some l more
@@ -180,19 +183,20 @@ joined include pieces others piece part cs rest e t is u f =
     subst (λ (ps : List (List ℕ)). AreAlternatives false include ps (cs ∷ rest)) (sym e)
     (Npm.next piece part others cs rest (trimmed piece part v.0 t) is (f v.1))
 
-all-are : (limit : ℕ) (pre : Bool) (pieces : List (List ℕ)) (list : List (Span VersionValue)) (all : List (List Comparison))
-    → ArePlain limit pre pieces list all → AreAlternatives false false pieces all
-all-are limit pre pieces list all none = Npm.none
-all-are limit pre pieces list all (next piece text rest s cs ss others t h more) =
-    Npm.next piece text rest cs others t (part-is limit pre text s cs h) (all-are limit pre rest ss others more)
+all-are : (limit : ℕ) (pre : Bool) (pieces texts : List (List ℕ)) (list : List (Span VersionValue)) (all : List (List Comparison))
+    → ArePlain limit pre texts list all → AllZip IsTrim pieces texts → AreAlternatives false false pieces all
+all-are limit pre [] texts list all none t = Npm.none
+all-are limit pre (piece ∷ pieces) texts list all (next text rest s cs ss others h more) t =
+    Npm.next piece text pieces cs others t.0 (part-is limit pre text s cs h) (all-are limit pre pieces rest ss others more t.1)
+all-are limit pre pieces texts list all h t = absurd t
 
 pub plain-has : (text : List ℕ) (list : List (Span VersionValue)) (all : List (List Comparison))
     → IsPlainText MAX_SAFE_INTEGER text list all → HasAlternatives MAX_SAFE_INTEGER false text all
 plain-has text list all h = record {
   parts = h.pieces;
   divided = h.cut;
-  each = all-are MAX_SAFE_INTEGER h.pre h.pieces list all h.each;
-  some = (some-all MAX_SAFE_INTEGER h.pre h.pieces list all h.each (some-pieces text h.pieces h.cut)).1;
+  each = all-are MAX_SAFE_INTEGER h.pre h.pieces h.texts h.spans all h.each h.trimmed;
+  some = (some-all MAX_SAFE_INTEGER h.pre h.texts h.spans all h.each (some-pieces text h.pieces h.texts h.cut h.trimmed)).1;
   valid = h.valid;
 }
 
@@ -204,23 +208,24 @@ alternative_accepts v cs = meets false v (filter (counts false) cs)
 
 part-same : (pre : Bool) (v : VersionValue) (text : List ℕ) (s : Span VersionValue) (cs : List Comparison) → IsWithin MAX_SAFE_INTEGER v
     → IsPlainAlternative MAX_SAFE_INTEGER pre text s cs → list_all (is_valid MAX_SAFE_INTEGER) cs ≡ true → SameWord pre v s cs
+part-same pre v text s cs w nothing k = tame-word pre v Unbounded Unbounded [] [] (free-tame v) (free-tame v)
 part-same pre v text s cs w (words t ws r cs' h e f apart) k = words-good pre v w t ws r cs' h e apart k
 part-same pre v text s cs w (between x b g y p q m h k some l more n to e) valid = between-good pre v x y p q m h n to e valid
 
-each-same : (pre : Bool) (v : VersionValue) (pieces : List (List ℕ)) (list : List (Span VersionValue)) (all : List (List Comparison))
-    → IsWithin MAX_SAFE_INTEGER v → ArePlain MAX_SAFE_INTEGER pre pieces list all
+each-same : (pre : Bool) (v : VersionValue) (texts : List (List ℕ)) (list : List (Span VersionValue)) (all : List (List Comparison))
+    → IsWithin MAX_SAFE_INTEGER v → ArePlain MAX_SAFE_INTEGER pre texts list all
     → list_all (list_all (is_valid MAX_SAFE_INTEGER)) all ≡ true → accepts list v false ≡ list_any (alternative_accepts v) all
-each-same pre v pieces list all w none k = refl
-each-same pre v pieces list all w (next piece text rest s cs ss others t h more) k =
+each-same pre v texts list all w none k = refl
+each-same pre v texts list all w (next text rest s cs ss others h more) k =
     grind (arith, nat_tests, common_steps, part-same, each-same pre v rest ss others w more)
 
 -- where no pre-release is written, none is accepted
-each-released : (pre : Bool) (v : VersionValue) (pieces : List (List ℕ)) (list : List (Span VersionValue)) (all : List (List Comparison))
-    → IsWithin MAX_SAFE_INTEGER v → ArePlain MAX_SAFE_INTEGER pre pieces list all
+each-released : (pre : Bool) (v : VersionValue) (texts : List (List ℕ)) (list : List (Span VersionValue)) (all : List (List Comparison))
+    → IsWithin MAX_SAFE_INTEGER v → ArePlain MAX_SAFE_INTEGER pre texts list all
     → list_all (list_all (is_valid MAX_SAFE_INTEGER)) all ≡ true → pre ≡ false → is_release v ≡ false
     → list_any (alternative_accepts v) all ≡ false
-each-released pre v pieces list all w none k p r = refl
-each-released pre v pieces list all w (next piece text rest s cs ss others t h more) k p r =
+each-released pre v texts list all w none k p r = refl
+each-released pre v texts list all w (next text rest s cs ss others h more) k p r =
     ap₂ (λ (x y : Bool). x || y) ((part-same pre v text s cs w h (first_so (list_all (is_valid MAX_SAFE_INTEGER) cs) _ k)).released p r)
     (each-released pre v rest ss others w more (second_so (list_all (is_valid MAX_SAFE_INTEGER) cs) _ k) p r)
 
@@ -234,18 +239,33 @@ none-counted (c ∷ cs) h = grind (arith, nat_tests, common_steps, none-counted 
 bare-accepts : (v : VersionValue) → is_release v ≡ true → (cs : List Comparison) → is_bare cs ≡ true → alternative_accepts v cs ≡ true
 bare-accepts v r cs h = rw (none-counted cs h, r) refl
 
+-- and so does an empty one
+empty-bare : (limit : ℕ) (pre : Bool) (texts : List (List ℕ)) (list : List (Span VersionValue)) (all : List (List Comparison))
+    → ArePlain limit pre texts list all → list_all is_empty texts ≡ true → 0 < length texts → list_any is_bare all ≡ true
+empty-bare limit pre texts list all none e some = absurd (omega (arith, some))
+empty-bare limit pre texts list all (next text rest s cs ss others h more) e some =
+    rw ((part-denotes limit pre text s cs h).1 (and_parts (is_empty text) _ e).0) refl
+
 pub plain-same : (text : List ℕ) (list : List (Span VersionValue)) (all : List (List Comparison)) (v : VersionValue)
     → IsPlainText MAX_SAFE_INTEGER text list all → is_within MAX_SAFE_INTEGER v ≡ true
     → accepts list v false ≡ Ranges.accepts false all v
-plain-same text list all v h small =
-    let same = each-same h.pre v h.pieces list all w h.each h.valid in
-    elim (cases_Bool (list_any is_bare all)) [
-      | inr e ↦ rw e same
-      | inl e ↦ rw e (same ∙ opened e)
-    ]
+plain-same text list all v h small = rw h.list_is (elim (cases_Bool (list_all is_empty h.texts)) [
+  | inl e ↦ rw (e, empty-bare MAX_SAFE_INTEGER h.pre h.texts h.spans all h.each e (some-pieces text h.pieces h.texts h.cut h.trimmed))
+      (any-accepts v)
+  | inr e ↦ rw e (elim (cases_Bool (list_any is_bare all)) [
+    | inr e ↦ rw e same
+    | inl e ↦ rw e (same ∙ opened e)
+  ])
+])
   where
     w : IsWithin MAX_SAFE_INTEGER v
     w = within MAX_SAFE_INTEGER v small
+
+    any-accepts : (v : VersionValue) → accepts any_version v false ≡ is_release v
+    any-accepts v = grind (arith, nat_tests, common_steps)
+
+    same : accepts h.spans v false ≡ list_any (alternative_accepts v) all
+    same = each-same h.pre v h.texts h.spans all w h.each h.valid
 
     closed : (p e : Bool) → e ≡ true → (p && e) ≡ false → p ≡ false
     closed p e f g = grind arith
@@ -253,7 +273,7 @@ plain-same text list all v h small =
     opened : list_any is_bare all ≡ true → list_any (alternative_accepts v) all ≡ is_release v
     opened e = elim (cases_Bool (is_release v)) [
       | inl r ↦ any_weaker is_bare (alternative_accepts v) (bare-accepts v r) all e ∙ sym r
-      | inr r ↦ each-released h.pre v h.pieces list all w h.each h.valid (closed h.pre (list_any is_bare all) e h.counted) r ∙ sym r
+      | inr r ↦ each-released h.pre v h.texts h.spans all w h.each h.valid (closed h.pre (list_any is_bare all) e h.counted) r ∙ sym r
     ]
 
 -- ---- ranges of the text

@@ -1,5 +1,5 @@
 -- The words of plain alternatives, as the range grammar here reads them.
-use Rattle.nodejs_semver.proofs.Common.{Bool, Comparator, IsBlank, IsSign, List, None, Partial, Some, Word, [], above, after_spaces, ap}
+use Rattle.nodejs_semver.proofs.Common.{is_empty, Bool, Comparator, IsBlank, IsSign, List, None, Partial, Some, Word, [], above, after_spaces, ap}
 use Rattle.nodejs_semver.proofs.Common.{append-nil, append_assoc, arith, at_most, begins, below, cases_Bool, codes, drop_spaces}
 use Rattle.nodejs_semver.proofs.Common.{drop_spaces-blank, drop_spaces-none, encode_utf8_all, eqb-true, equal, false, hyphen, inl, inr}
 use Rattle.nodejs_semver.proofs.Common.{is_ascii_digit, is_boundary, is_sign, is_whitespace, len_utf8_bounds, length, list_all, list_len}
@@ -102,7 +102,10 @@ ends-blank limit blank rest h some e =
 
 -- ---- partials
 
-begins-word : (x more : List ℕ) → begins is_front_byte x ≡ true → begins is_word_byte (x ++ more) ≡ true
+pub filled : (text : List ℕ) → begins is_word_byte text ≡ true → is_empty text ≡ false
+filled text h = grind arith
+
+pub begins-word : (x more : List ℕ) → begins is_front_byte x ≡ true → begins is_word_byte (x ++ more) ≡ true
 begins-word x more h = grind arith
 
 no-greater : (text : List ℕ) → begins is_front_byte text ≡ true → tilde_sign text ≡ (false, text)
@@ -178,7 +181,7 @@ word-begins : (limit : ℕ) (pre : Bool) (text : List ℕ) (w : Word) (cs : List
 word-begins limit pre text w cs (bare t p h) = rw append-nil at (begins-word t [] (partial-begins limit pre t p h))
 word-begins limit pre text w cs (signed s b t p k h m) = grind arith
 
-words-begin : (limit : ℕ) (pre : Bool) (text : List ℕ) (ws : List Word) (cs : List Comparison) → ArePlainWords limit pre text ws cs
+pub words-begin : (limit : ℕ) (pre : Bool) (text : List ℕ) (ws : List Word) (cs : List Comparison) → ArePlainWords limit pre text ws cs
     → begins is_word_byte text ≡ true
 words-begin limit pre text ws cs (one_word t w c h) = word-begins limit pre t w c h
 words-begin limit pre text ws cs (more_words t b rest w us c d h k some more) =

@@ -3,8 +3,9 @@ use Rattle.nodejs_semver.proofs.Common.{inl, inr, ◌⊎◌, Before, IsBlank, Is
 use Rattle.nodejs_semver.proofs.Common.{begins, below, codes, encode_utf8, encode_utf8_all, false, length, list_all, lit≤, more_pieces}
 use Rattle.nodejs_semver.proofs.Common.{one_piece, refl, release_value, sym, true, ℕ, ◌++◌, ◌∷◌, ◌≡◌, ◌≤◌}
 use Rattle.nodejs_semver.proofs.NpmCommon.{IsPlainPartial, IsPlainText, digits, from, is_spelled, under}
-use Rattle.nodejs_semver.specs.Npm.Alike.{more_words, next, none, one_word, signed, words}
+use Rattle.nodejs_semver.specs.Npm.Alike.{more_words, next, none, nothing, one_word, signed, words}
 use Rattle.nodejs_semver.specs.Npm.Table.{caret, compared, tilde}
+use Rattle.nodejs_semver.specs.Ranges.View.{any_version}
 use Rattle.semver_core.specs.Text.Characters.{is_whitespace}
 use Rattle.std.proofs.Common.{lit<}
 use Rattle.std.specs.Prelude.{reverse}
@@ -71,24 +72,47 @@ trim_is before text after b a h k e f = record {
   ends_dark = k;
 }
 
--- `^1  ||>2   < 4 ~v3 ` is `>=1.0.0 <2.0.0-0 || >=3.0.0 <4.0.0-0 >=3.0.0 <4.0.0-0` to node-semver, and here `< 4` is below 4.0.0
-row-words : IsPlainText limit (codes "^1  ||>2   < 4 ~v3 ") (band 1 2 ∷ (band 3 4 ∷ []))
+-- `^1  ||>2   < 4 ~v3 ||` is `>=1.0.0 <2.0.0-0 || >=3.0.0 <4.0.0-0 >=3.0.0 <4.0.0-0 ||` to node-semver, and here `< 4` is below 4.0.0
+row-words : IsPlainText limit (codes "^1  ||>2   < 4 ~v3 ||") (band 1 2 ∷ (band 3 4 ∷ any_version))
     ((from false (1, 0, 0) ∷ (under (2, 0, 0) ∷ []))
-    ∷ ((from false (3, 0, 0) ∷ (under (4, 0, 0) ∷ (from false (3, 0, 0) ∷ (under (4, 0, 0) ∷ [])))) ∷ []))
+    ∷ ((from false (3, 0, 0) ∷ (under (4, 0, 0) ∷ (from false (3, 0, 0) ∷ (under (4, 0, 0) ∷ [])))) ∷ ([] ∷ [])))
 unfolding digits Spans.table encode_utf8
 row-words = record {
   pre = false;
-  pieces = codes "^1  " ∷ (codes ">2   < 4 ~v3 " ∷ []);
-  cut = more_pieces (codes "^1  ") (codes ">2   < 4 ~v3 ") _ refl refl (one_piece _ refl);
-  each = next _ (codes "^1") _ _ _ _ _ (trim_is [] (codes "^1") (codes "  ") refl refl refl refl refl refl)
+  pieces = codes "^1  " ∷ (codes ">2   < 4 ~v3 " ∷ ([] ∷ []));
+  texts = codes "^1" ∷ (codes ">2   < 4 ~v3" ∷ ([] ∷ []));
+  spans = band 1 2 ∷ (band 3 4 ∷ any_version);
+  cut = more_pieces (codes "^1  ") (codes ">2   < 4 ~v3 ||") _ refl refl (more_pieces (codes ">2   < 4 ~v3 ") [] _ refl refl (one_piece _ refl));
+  trimmed = (
+    trim_is [] (codes "^1") (codes "  ") refl refl refl refl refl refl,
+    (trim_is [] (codes ">2   < 4 ~v3") (codes " ") refl refl refl refl refl refl, (trim_is [] [] [] refl refl refl refl refl refl, tt)),
+  );
+  each = next (codes "^1") _ _ _ _ _
       (words _ _ (record { first = band 1 2; others = [] }) _ (one_word (codes "^1") _ _ (signed caret [] (codes "1") (part 1) none_is one_is refl)) refl refl refl)
-      (next _ (codes ">2   < 4 ~v3") _ _ _ _ _ (trim_is [] (codes ">2   < 4 ~v3") (codes " ") refl refl refl refl refl refl)
+      (next (codes ">2   < 4 ~v3") _ _ _ _ _
       (words _ _ (record { first = Spans.>= (release_value 3 0 0); others = Spans.< (release_value 4 0 0) ∷ (band 3 4 ∷ []) }) _
       (more_words (codes ">2") (codes "   ") (codes "< 4 ~v3") _ _ _ _ (signed (compared above) [] (codes "2") (part 2) none_is two_is refl)
       (spaces (codes "   ") refl refl) (lit< tt)
       (more_words (codes "< 4") (codes " ") (codes "~v3") _ _ _ _ (signed (compared below) (codes " ") (codes "4") (part 4) (spaces (codes " ") refl refl) four_is refl)
       (spaces (codes " ") refl refl) (lit< tt) (one_word (codes "~v3") _ _ (signed tilde [] (codes "v3") (part 3) none_is three_is refl)))) refl refl refl)
-      none);
+      (next [] _ _ _ _ _ nothing none));
+  list_is = refl;
+  valid = refl;
+  counted = refl;
+}
+
+-- a text of bars alone is one interval
+row-bars : IsPlainText limit (codes " || ") any_version ([] ∷ ([] ∷ []))
+unfolding encode_utf8
+row-bars = record {
+  pre = false;
+  pieces = codes " " ∷ (codes " " ∷ []);
+  texts = [] ∷ ([] ∷ []);
+  spans = any_version ++ any_version;
+  cut = more_pieces (codes " ") (codes " ") _ refl refl (one_piece _ refl);
+  trimmed = (trim_is (codes " ") [] [] refl refl refl refl refl refl, (trim_is (codes " ") [] [] refl refl refl refl refl refl, tt));
+  each = next [] _ _ _ _ _ nothing (next [] _ _ _ _ _ nothing none);
+  list_is = refl;
   valid = refl;
   counted = refl;
 }

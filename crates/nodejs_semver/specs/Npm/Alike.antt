@@ -1,16 +1,18 @@
 -- Statement: range texts that mean the same here and to node-semver's strict reading.
 use Rattle.std.specs.Prelude.{◌≡◌, ◌⊎◌, ◌==◌, ◌<◌, ◌&&◌, ◌||◌, not, ℕ, Bool, true, false, List, [], ◌∷◌, ◌++◌, Some, None}
-use Rattle.std.specs.Prelude.{codes, is_some, length, map}
-use Rattle.std.specs.List.{list_all, list_any}
+use Rattle.std.specs.Prelude.{codes, if◌then◌else◌, is_some, length, map}
+use Rattle.std.specs.List.{AllZip, list_all, list_any}
 use Rattle.semver_core.specs.Cuts.{Span}
 use Rattle.semver_core.specs.Lists.{is_empty}
 use Rattle.semver_core.specs.Text.Characters.{IsBlank, IsTrim}
 use Rattle.semver_core.specs.Values.Order.{precedence, version_eq}
 use Rattle.semver_core.specs.Values.Versions.{VersionValue, is_release, release_value}
+use Rattle.semver_core.specs.declared.cuts.bound.Bound.TheVariants.{Unbounded}
 use Rattle.nodejs_semver.specs.Npm.RangeText.{IsPartial, partial_of, spelling}
 use Rattle.nodejs_semver.specs.Npm.Ranges.{is_valid}
 use Rattle.nodejs_semver.specs.Npm.Table as Npm
 use Rattle.nodejs_semver.specs.Npm.Table.{Comparison, Sign, compared, counts, hyphen_lower, hyphen_upper}
+use Rattle.nodejs_semver.specs.Ranges.View.{any_version}
 use Rattle.nodejs_semver.specs.Text.Bars.{IsCutAtBars}
 use Rattle.nodejs_semver.specs.Text.PartialText.{AreComponents, Partial}
 use Rattle.nodejs_semver.specs.Text.Runs.{Run, fits, interval_of}
@@ -88,9 +90,10 @@ abbrev pub is_apart : Word → Word → Bool
 is_apart w other = let v = version_in w in let u = version_in other in
     not (is_blunt w && (not (is_release u) && ((v.major == u.major) && ((v.minor == u.minor) && (v.patch == u.patch)))))
 
--- an alternative, its interval here, and its comparators to node-semver: words whose intervals have one in
--- common, or a hyphen range
+-- an alternative, its interval here, and its comparators to node-semver: nothing, words whose intervals have
+-- one in common, or a hyphen range
 pub data IsPlainAlternative (limit : ℕ) (pre : Bool) : List ℕ → Span VersionValue → List Comparison → Type 0 where
+  nothing : IsPlainAlternative limit pre [] (record { lower = Unbounded; upper = Unbounded }) []
   words : (text : List ℕ) (ws : List Word) (r : Run VersionValue) (cs : List Comparison) → ArePlainWords limit pre text ws cs
       → map (table limit) ws ≡ map Some (r.first ∷ r.others) → fits precedence r ≡ true
       → list_all (λ w. list_all (is_apart w) ws) ws ≡ true → IsPlainAlternative limit pre text (interval_of precedence r) cs
@@ -99,21 +102,25 @@ pub data IsPlainAlternative (limit : ℕ) (pre : Bool) : List ℕ → Span Versi
       → table limit (hyphen p q) ≡ Some s → IsPlainAlternative limit pre (x ++ (blank ++ (codes "-" ++ (gap ++ y)))) s
       (hyphen_lower false (npm_partial p) x ++ hyphen_upper false (npm_partial q) y)
 
--- the pieces of a text, each an alternative with whitespace around it
+-- the alternatives of a text
 pub data ArePlain (limit : ℕ) (pre : Bool) : List (List ℕ) → List (Span VersionValue) → List (List Comparison) → Type 0 where
   none : ArePlain limit pre [] [] []
-  next : (piece text : List ℕ) (pieces : List (List ℕ)) (s : Span VersionValue) (cs : List Comparison)
-      (list : List (Span VersionValue)) (others : List (List Comparison)) → IsTrim piece text
-      → IsPlainAlternative limit pre text s cs → ArePlain limit pre pieces list others
-      → ArePlain limit pre (piece ∷ pieces) (s ∷ list) (cs ∷ others)
+  next : (text : List ℕ) (texts : List (List ℕ)) (s : Span VersionValue) (cs : List Comparison)
+      (list : List (Span VersionValue)) (others : List (List Comparison)) → IsPlainAlternative limit pre text s cs
+      → ArePlain limit pre texts list others → ArePlain limit pre (text ∷ texts) (s ∷ list) (cs ∷ others)
 
--- such a text, where node-semver does not reject it. Either no pre-release is written, or each alternative has
--- a comparator that counts: node-semver leaves out the pre-releases beside one that has none.
+-- a text whose pieces between bars, without the whitespace around each, are such alternatives, and which
+-- node-semver does not reject. Empty alternatives alone are one interval. Either no pre-release is written, or
+-- each alternative has a comparator that counts: node-semver leaves out the pre-releases beside one that has none.
 pub record IsPlainText (limit : ℕ) (text : List ℕ) (list : List (Span VersionValue))
     (alternatives : List (List Comparison)) : Type 0 where
   pub pre : Bool
   pub pieces : List (List ℕ)
+  pub texts : List (List ℕ)
+  pub spans : List (Span VersionValue)
   pub cut : IsCutAtBars text pieces
-  pub each : ArePlain limit pre pieces list alternatives
+  pub trimmed : AllZip IsTrim pieces texts
+  pub each : ArePlain limit pre texts spans alternatives
+  pub list_is : list ≡ (if list_all is_empty texts then any_version else spans)
   pub valid : list_all (list_all (is_valid limit)) alternatives ≡ true
   pub counted : (pre && list_any (λ cs. not (list_any (counts false) cs)) alternatives) ≡ false

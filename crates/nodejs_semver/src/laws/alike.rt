@@ -18,8 +18,8 @@ use crate::{Failure, Range, SemverError, Version, npm};
 use std::alloc::Global;
 
 /// Range texts that mean the same to `Range::parse` and to node-semver's strict reading, as
-/// `npm::range` reads: alternatives of any number of words, or hyphen ranges, with `||` and any
-/// whitespace between them, whose versions both grammars have (`IsPlainText`).
+/// `npm::range` reads: alternatives with `||` and any whitespace between them, each empty, or any
+/// number of words, or a hyphen range, whose versions both grammars have (`IsPlainText`).
 ///
 /// - `here`, `there`: such a text means these intervals, one or more, and has these alternatives to
 ///   node-semver.
