@@ -79,14 +79,14 @@ stop-dark (b ∷ rest) h =
       dot = λ limit. rw (dull b 46 e refl) refl;
     }
 
-pub blank-some : (blank rest : List ℕ) → IsBlank blank → 0 < length blank → 0 < space_len (blank ++ rest)
+blank-some : (blank rest : List ℕ) → IsBlank blank → 0 < length blank → 0 < space_len (blank ++ rest)
 blank-some blank rest h some = go h.characters h.each h.spelled
   where
     go : (cs : List ℕ) → list_all is_whitespace cs ≡ true → blank ≡ encode_utf8_all cs → 0 < space_len (blank ++ rest)
     go [] e s = absurd (omega (arith, some, ap length s))
     go (c ∷ cs) e s = grind (arith, append_assoc, space_len-white, len_utf8_bounds)
 
-pub blank-skips : (blank rest : List ℕ) → IsBlank blank → space_len rest ≡ 0 → drop_spaces (blank ++ rest) ≡ rest
+blank-skips : (blank rest : List ℕ) → IsBlank blank → space_len rest ≡ 0 → drop_spaces (blank ++ rest) ≡ rest
 blank-skips blank rest h e = ap (λ (t : List ℕ). drop_spaces (t ++ rest)) h.spelled ∙ drop_spaces-blank h.characters rest h.each
     ∙ drop_spaces-none rest e
 
