@@ -8,7 +8,7 @@ use Rattle.nodejs_semver.proofs.Common.{is_release, lets_in, list_all, list_all-
 use Rattle.nodejs_semver.proofs.Common.{same_triple, subst, sym, table, true, version_of, ℕ, ◌&&◌, ◌++◌, ◌||◌, ◌∙◌, ◌∷◌, ◌≡◌}
 use Rattle.nodejs_semver.proofs.NpmCommon.{Comparison, IsPlainWord, compared, is_valid}
 use Rattle.nodejs_semver.proofs.Strict.Rows.{holds-both, lets_in-both}
-use Rattle.nodejs_semver.specs.Npm.Alike.{ArePlainWords, bare, is_apart, more_words, one_word, signed, version_in, word_of}
+use Rattle.nodejs_semver.specs.Npm.Alike.{tilde_greater, ArePlainWords, bare, is_apart, more_words, one_word, signed, version_in, word_of}
 use Rattle.nodejs_semver.specs.Npm.Table.{Sign}
 use Rattle.nodejs_semver.specs.Text.Runs.{interval_of}
 use Rattle.std.proofs.lemmas.Bool.{false_from_ne_true}
@@ -115,6 +115,7 @@ word-released : (limit : ℕ) (v : VersionValue) (text : List ℕ) (w : Word) (c
     → is_written v w ≡ false
 word-released limit v text w cs (bare t p h) = rw (partial-released p (form false p h.plain)) refl
 word-released limit v text w cs (signed s b t p k h m) = rw (in-word s p, partial-released p (form false p h.plain)) refl
+word-released limit v text w cs (tilde_greater g b t p j k h m) = rw (partial-released p (form false p h.plain)) refl
 
 words-released : (limit : ℕ) (v : VersionValue) (text : List ℕ) (ws : List Word) (cs : List Comparison) → ArePlainWords limit false text ws cs
     → list_any (is_written v) ws ≡ false

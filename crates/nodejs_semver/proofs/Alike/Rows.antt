@@ -1,6 +1,6 @@
 -- What a bound and comparators accept, the rows of both tables, sign by sign, and hyphen ranges.
 use Rattle.nodejs_semver.proofs.Algebra.Gate.{in_two_steps, lt_is, same_triple_is, triple_cmp, triple_total}
-use Rattle.nodejs_semver.proofs.Common.{After, Before, Bool, Bound, Comparator, Front, Greater, Id, IfSome, List, MAX_SAFE_INTEGER, None}
+use Rattle.nodejs_semver.proofs.Common.{tilde, After, Before, Bool, Bound, Comparator, Front, Greater, Id, IfSome, List, MAX_SAFE_INTEGER, None}
 use Rattle.nodejs_semver.proofs.Common.{Numeric, Option, Ordering, Partial, Some, Span, Unbounded, VersionValue, Word, [], above, and-true}
 use Rattle.nodejs_semver.proofs.Common.{and_parts, ap, ap₂, arith, at_most, below, cases_Bool, codes, common_steps, empty_is, eqb-true}
 use Rattle.nodejs_semver.proofs.Common.{equal, false, filter, first_so, holds, hyphen, inl, inr, interval, is_empty, is_eq, is_ge}
@@ -17,7 +17,7 @@ use Rattle.nodejs_semver.proofs.Strict.PartialLaw.{partial-read}
 use Rattle.nodejs_semver.proofs.Strict.Printed.{prints_zero}
 use Rattle.nodejs_semver.proofs.Values.{past-after, past-before}
 use Rattle.nodejs_semver.specs.Internal.NpmWords.{partial_front, places_front}
-use Rattle.nodejs_semver.specs.Npm.Alike.{bare, is_blunt, signed, version_in, word_of}
+use Rattle.nodejs_semver.specs.Npm.Alike.{tilde_greater, bare, is_blunt, signed, version_in, word_of}
 use Rattle.nodejs_semver.specs.Npm.Table.{Sign, lowest, no_build}
 use Rattle.semver_core.specs.Internal.OrderLaws.{pre_total}
 use Rattle.semver_core.specs.Values.Order.{version_eq}
@@ -461,17 +461,17 @@ zero_read = refl
 text-spelled : (limit : ℕ) (pre : Bool) (text : List ℕ) (M m p : ℕ) (x y : List Id)
     → IsPlainPartial limit pre text (partial (Some M) (Some m) (Some p) x y) → Spelled (version M m p x y) text
 unfolding zero_found
-text-spelled limit pre text M m p x y h = record { zero = λ e. unmarked h.marked (sym h.divided ∙ (bytes_eq-Decides text (codes "0.0.0")).0 e) }
+text-spelled limit pre text M m p x y h = record { zero = λ e. unmarked ((bytes_eq-Decides text (codes "0.0.0")).0 e) h.marked }
   where
     w : VersionValue
     w = version M m p x y
 
-    unmarked : (h.mark ≡ []) ⊎ (h.mark ≡ codes "v") → h.mark ++ h.rest ≡ codes "0.0.0" → is_zero w ≡ true
-    unmarked (inl none) e =
-        let same : h.rest ≡ codes "0.0.0" = rw none at e in
+    unmarked : text ≡ codes "0.0.0" → (text ≡ h.rest) ⊎ (text ≡ codes "v" ++ h.rest) → is_zero w ≡ true
+    unmarked e (inl none) =
+        let same : h.rest ≡ codes "0.0.0" = sym none ∙ e in
         sym (ap zero_found (partial-read false (codes "0.0.0") [] (whole w) (subst (λ (t : List ℕ). IsPartial false t (whole w)) same h.npm) refl))
         ∙ zero_read
-    unmarked (inr v) e = cc (v, e)
+    unmarked e (inr v) = cc (v, e)
 
 -- ---- which number changes
 
@@ -566,11 +566,24 @@ module _ (pre : Bool) (v : VersionValue) (within : IsWithin MAX_SAFE_INTEGER v) 
       let w = version (suc M) n o x [] in
       changed-beside v w (suc M + 1, 0, 0) (next_changed (whole w)) (rw (not_zero M) refl) h (far-low v (suc M) n o x y []) (λ e. e)
 
+  -- `~>` is `~`
+  same-tilde : (p : Partial) → Form pre p → is_some p.major ≡ true → table MAX_SAFE_INTEGER (tilde true p) ≡ table MAX_SAFE_INTEGER (tilde false p)
+  unfolding table
+  same-tilde p any m = cc m
+  same-tilde p (one M) m = refl
+  same-tilde p (two M n) m = refl
+  same-tilde p (three M n o x y e) m = refl
+
+  greater-row : (p : Partial) → Form pre p → is_some p.major ≡ true → IsPlainPartial MAX_SAFE_INTEGER pre text p → Valid (these Npm.tilde p)
+      → Row (tilde true p) (these Npm.tilde p)
+  greater-row p f m t h = rw (same-tilde p f m) (signed-row Npm.tilde p f m t h)
+
 pub word-row : (pre : Bool) (v : VersionValue) (text : List ℕ) (word : Word) (cs : List Comparison) → IsWithin MAX_SAFE_INTEGER v
     → IsPlainWord MAX_SAFE_INTEGER pre text word cs → list_all (is_valid MAX_SAFE_INTEGER) cs ≡ true
     → IfSome (table MAX_SAFE_INTEGER word) (λ s. Beside (is_written v word) (is_far v word) v s cs)
 word-row pre v text word cs w (bare t p h) k = plain-row pre v w t p (form pre p h.plain) k
 word-row pre v text word cs w (signed s b t p x h m) k = signed-row pre v w t s p (form pre p h.plain) m h k
+word-row pre v text word cs w (tilde_greater g b t p x y h m) k = greater-row pre v w t p (form pre p h.plain) m h k
 
 -- ---- the lower end
 

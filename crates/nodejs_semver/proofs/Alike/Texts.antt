@@ -3,7 +3,7 @@ use Rattle.nodejs_semver.proofs.Alike.Beside.{words-good}
 use Rattle.nodejs_semver.proofs.Alike.Rows.{IsWithin, SameWord, between-good, free-tame, tame-word, within}
 use Rattle.nodejs_semver.proofs.Alike.Words.{begins-word, filled, hyphen-read, is_word_byte, partial-begins, words-begin, words-read}
 use Rattle.nodejs_semver.proofs.Bounds.TableRows.{table-interval}
-use Rattle.nodejs_semver.proofs.Common.{if◌then◌else◌, AllByRecursion, Bool, IsBlank, IsCutAtBars, IsTrim, IsUtf8, List, MAX_SAFE_INTEGER, Means, Option}
+use Rattle.nodejs_semver.proofs.Common.{Partial, above, if◌then◌else◌, AllByRecursion, Bool, IsBlank, IsCutAtBars, IsTrim, IsUtf8, List, MAX_SAFE_INTEGER, Means, Option}
 use Rattle.nodejs_semver.proofs.Common.{Run, Some, Span, Unbounded, VersionValue, Word, [], accepts, and_parts, any_weaker, ap, append-nil}
 use Rattle.nodejs_semver.proofs.Common.{append_assoc, ap₂, arith, begins, cases_Bool, codes, common_steps, encode_utf8, equal, false}
 use Rattle.nodejs_semver.proofs.Common.{filter, filter_map, first_so, flat_map, hyphen, inl, inr, is_empty, is_release, length, list_all}
@@ -13,12 +13,12 @@ use Rattle.nodejs_semver.proofs.Common.{◌≡◌, ◌⊎◌}
 use Rattle.nodejs_semver.proofs.Dividing.BarsDivide.{bars_once}
 use Rattle.nodejs_semver.proofs.Dividing.RunsDivide.{runs_are}
 use Rattle.nodejs_semver.proofs.Everyday.Words.{is_part_byte}
-use Rattle.nodejs_semver.proofs.NpmCommon.{AreAlternatives, AreMarks, AreWords, Comparison, HasAlternatives, IsAlternative, IsPlainText}
+use Rattle.nodejs_semver.proofs.NpmCommon.{IsPlainPartial, AreAlternatives, AreMarks, AreWords, Comparison, HasAlternatives, IsAlternative, IsPlainText}
 use Rattle.nodejs_semver.proofs.NpmCommon.{IsPlainWord, IsSignText, IsWord, are_marks, are_whole_marks, compared, counts, is_valid}
 use Rattle.nodejs_semver.proofs.NpmCommon.{is_within, meets, npm_partial, spelling}
 use Rattle.nodejs_semver.proofs.Strict.AlternativeLaw.{alternatives_once}
 use Rattle.nodejs_semver.proofs.Strict.Rows.{either_true}
-use Rattle.nodejs_semver.specs.Npm.Alike.{ArePlain, ArePlainWords, IsPlainAlternative, bare, between, more_words, next, none, nothing}
+use Rattle.nodejs_semver.specs.Npm.Alike.{tilde_greater, ArePlain, ArePlainWords, IsPlainAlternative, bare, between, more_words, next, none, nothing}
 use Rattle.nodejs_semver.specs.Npm.Alike.{one_word, signed, words}
 use Rattle.nodejs_semver.specs.Npm.Ranges.{IsRangeOf}
 use Rattle.nodejs_semver.specs.Npm.Table.{Sign}
@@ -29,6 +29,7 @@ use Rattle.std.proofs.lemmas.Slice.Zip.{AllZip-long}
 use Rattle.std.specs.List.{AllZip}
 use Rattle.nodejs_semver.proofs.Dividing.MeaningLaw as meaning
 use Rattle.nodejs_semver.specs.Npm.RangeText as Npm
+use Rattle.semver_core.specs.Text.Characters as Characters
 use Rattle.nodejs_semver.specs.Npm.Ranges as Ranges
 use Rattle.nodejs_semver.specs.Npm.Table as Table
 
@@ -122,34 +123,38 @@ sign_text s = rw append-nil at (Npm.sign s [] no_blank)
 pub no_mark : (a : Bool) → (a && false) ≡ false
 no_mark a = grind arith
 
--- one `v` or none
-abbrev IsMark : List ℕ → Type 0
-IsMark mark = (mark ≡ []) ⊎ (mark ≡ codes "v")
+-- one `v` or none, before a partial
+record Marked (text rest : List ℕ) : Type 0 where
+  mark : List ℕ
+  divided : text ≡ mark ++ rest
+  whole : are_whole_marks false mark ≡ true
+  any : AreMarks mark
+  may : (s : Sign) (p : Table.Partial) → are_marks false s p mark ≡ true
+  begins : (a : Bool) → (a && Characters.begins (λ b. b == 61) mark) ≡ false
 
-mark-is : (mark : List ℕ) → IsMark mark → (are_whole_marks false mark ≡ true) × AreMarks mark
+marked : (text rest : List ℕ) → (text ≡ rest) ⊎ (text ≡ codes "v" ++ rest) → Marked text rest
 unfolding encode_utf8
-mark-is mark (inl e) = rw e (refl, no_ends)
-mark-is mark (inr e) = rw e (refl, (118 ∷ [], refl, refl))
-
-mark-may : (s : Sign) (p : Table.Partial) (mark : List ℕ) → IsMark mark → are_marks false s p mark ≡ true
-mark-may s p mark (inl e) = rw e (no_marks s p)
-mark-may s p mark (inr e) = rw e (one_v s p)
+marked text rest (inl e) = record { mark = []; divided = e; whole = refl; any = no_ends; may = no_marks; begins = no_mark }
+marked text rest (inr e) =
+    record { mark = codes "v"; divided = e; whole = refl; any = (118 ∷ [], refl, refl); may = one_v; begins = no_mark }
   where
     one_v : (s : Sign) (p : Table.Partial) → are_marks false s p (codes "v") ≡ true
     one_v s p = grind (arith, nat_tests, common_steps)
 
-no-equal : (a : Bool) (mark : List ℕ) → IsMark mark → (a && begins (λ b. b == 61) mark) ≡ false
-no-equal a mark (inl e) = rw e (no_mark a)
-no-equal a mark (inr e) = rw e (no_mark a)
+-- a word behind its sign
+behind-sign : (is_last : Bool) (limit : ℕ) (pre : Bool) (signs text : List ℕ) (s : Sign) (p : Partial) → IsSignText signs s
+    → IsPlainPartial limit pre text p → IsWord false false is_last (signs ++ text) (Table.table false s (npm_partial p) text)
+behind-sign is_last limit pre signs text s p is h = let m = marked text h.rest h.marked in
+    rw m.divided (Npm.word signs m.mark h.rest s (npm_partial p) is (m.may s (npm_partial p)) (m.begins _) h.npm)
 
 word-is : (is_last : Bool) (limit : ℕ) (pre : Bool) (text : List ℕ) (word : Word) (cs : List Comparison) → IsPlainWord limit pre text word cs
     → IsWord false false is_last text cs
-word-is is_last limit pre text word cs (bare t p h) = rw h.divided
-    (Npm.word [] h.mark h.rest (compared equal) _ Npm.no_sign (mark-may (compared equal) _ h.mark h.marked) (no-equal true h.mark h.marked) h.npm)
+word-is is_last limit pre text word cs (bare t p h) = behind-sign is_last limit pre [] t (compared equal) p Npm.no_sign h
 word-is is_last limit pre text word cs (signed s b t p k h m) =
-    let w : IsWord false false is_last ((spelling s ++ b) ++ (h.mark ++ h.rest)) (Table.table false s (npm_partial p) (h.mark ++ h.rest)) =
-    Npm.word (spelling s ++ b) h.mark h.rest s (npm_partial p) (Npm.sign s b k) (mark-may s _ h.mark h.marked) (no-equal _ h.mark h.marked) h.npm in
-    rw h.divided (rw (append_assoc (spelling s) b (h.mark ++ h.rest)) at w)
+    let w = behind-sign is_last limit pre (spelling s ++ b) t s p (Npm.sign s b k) h in rw (append_assoc (spelling s) b t) at w
+word-is is_last limit pre text word cs (tilde_greater g b t p j k h m) =
+    let w = behind-sign is_last limit pre (codes "~" ++ (g ++ (codes ">" ++ b))) t Table.tilde p (Npm.tilde_sign above g b j k (inl refl)) h in
+    rw (append_assoc g (codes ">" ++ b) t) at w
 
 words-are : (limit : ℕ) (pre : Bool) (text : List ℕ) (ws : List Word) (cs : List Comparison) → ArePlainWords limit pre text ws cs
     → AreWords false false text cs
@@ -161,9 +166,11 @@ part-is : (limit : ℕ) (pre : Bool) (text : List ℕ) (s : Span VersionValue) (
     → IsPlainAlternative limit pre text s cs → IsAlternative false false text cs
 part-is limit pre text s cs nothing = Npm.nothing
 part-is limit pre text s cs (words t ws r cs' h e f apart) = Npm.words t cs' (words-are limit pre t ws cs' h)
-part-is limit pre text s cs (between x b g y p q m h k some l more n to e) = rw (h.divided, n.divided) (rw append_assoc
-    (Npm.hyphen h.mark h.rest b g n.mark n.rest _ _ (mark-is h.mark h.marked).1 (either _ (mark-is h.mark h.marked).0) h.npm k some l more
-    (mark-is n.mark n.marked).1 (either _ (mark-is n.mark n.marked).0) n.npm))
+part-is limit pre text s cs (between x b g y p q m h k some l more n to e) =
+    let lower = marked x h.rest h.marked in
+    let upper = marked y n.rest n.marked in
+    rw (lower.divided, upper.divided) (rw append_assoc (Npm.hyphen lower.mark h.rest b g upper.mark n.rest _ _ lower.any (either _ lower.whole) h.npm k some l more
+    upper.any (either _ upper.whole) n.npm))
   where
     either : {b : Bool} (a : Bool) → b ≡ true → (a || b) ≡ true
     either a e = rw e (either_true a)

@@ -13,7 +13,7 @@ use Rattle.nodejs_semver.proofs.Reading.PartialLaw.{components-begin, front-dark
 use Rattle.nodejs_semver.proofs.Reading.WordLaw.{compared-of, unsigned-at}
 use Rattle.nodejs_semver.specs.Internal.Fronts.{dotted_front, drop_v}
 use Rattle.nodejs_semver.specs.Internal.Words.{upper_behind}
-use Rattle.nodejs_semver.specs.Npm.Alike.{ArePlainWords, bare, more_words, one_word, signed}
+use Rattle.nodejs_semver.specs.Npm.Alike.{tilde_greater, ArePlainWords, bare, more_words, one_word, signed}
 use Rattle.nodejs_semver.specs.Text.WordText.{above_sign, at_least_sign, at_most_sign, below_sign, equal_sign}
 use Rattle.semver_core.specs.Text.Characters.{is_identifier_char}
 use Rattle.std.proofs.lemmas.Bool.{false_from_ne_true}
@@ -123,7 +123,7 @@ module _ (limit : ℕ) (pre : Bool) (x : List ℕ) (p : Partial) (h : IsPlainPar
   opened = components-begin limit h.rest p h.here
 
   pub partial-begins : begins is_front_byte x ≡ true
-  partial-begins = rw h.divided (elim h.marked [ inl e ↦ rw e (weaker h.rest opened) | inr v ↦ rw v refl ])
+  partial-begins = elim h.marked [ inl e ↦ rw e (weaker h.rest opened) | inr e ↦ rw e refl ]
     where
       weaker : (text : List ℕ) → begins_component text ≡ true → begins is_front_byte text ≡ true
       weaker text e = grind arith
@@ -134,10 +134,10 @@ module _ (limit : ℕ) (pre : Bool) (x : List ℕ) (p : Partial) (h : IsPlainPar
   pub partial-read : (more : List ℕ) → Stop more → partial_front limit (x ++ more) ≡ Some (p, more)
   partial-read more stop =
       let read = front-exact limit h.rest more p h.here stop in
-      rw h.divided (elim h.marked [
+      elim h.marked [
         | inl e ↦ rw e read
-        | inr v ↦ rw v (marked-read limit (h.rest ++ more) (begins-on is_component_byte h.rest more opened) ∙ read)
-      ])
+        | inr e ↦ rw e (marked-read limit (h.rest ++ more) (begins-on is_component_byte h.rest more opened) ∙ read)
+      ]
 
   -- behind whitespace or none
   behind-read : (blank more : List ℕ) → IsBlank blank → Stop more → partial_front limit (drop_spaces (blank ++ (x ++ more))) ≡ Some (p, more)
@@ -175,11 +175,19 @@ word-read limit pre text more w cs (signed Npm.tilde b t p k h m) e =
       partial-read limit pre t p h more e.stop,
       e.bound,
     ) refl
+word-read limit pre text more w cs (tilde_greater g b t p j k h m) e = rw (
+  append_assoc g (62 ∷ (b ++ t)) more,
+  append_assoc b t more,
+  blank-skips g (62 ∷ (b ++ (t ++ more))) j (solid-dark (62 ∷ (b ++ (t ++ more))) refl),
+  behind-read limit pre t p h b more k e.stop,
+  e.bound,
+) refl
 
 word-begins : (limit : ℕ) (pre : Bool) (text : List ℕ) (w : Word) (cs : List Comparison) → IsPlainWord limit pre text w cs
     → begins is_word_byte text ≡ true
 word-begins limit pre text w cs (bare t p h) = rw append-nil at (begins-word t [] (partial-begins limit pre t p h))
 word-begins limit pre text w cs (signed s b t p k h m) = grind arith
+word-begins limit pre text w cs (tilde_greater g b t p j k h m) = refl
 
 pub words-begin : (limit : ℕ) (pre : Bool) (text : List ℕ) (ws : List Word) (cs : List Comparison) → ArePlainWords limit pre text ws cs
     → begins is_word_byte text ≡ true

@@ -22,29 +22,27 @@ part M = record { major = Some M; minor = None; patch = None; pre_release = []; 
 abbrev IsPart : List ℕ → ℕ → Type 0
 IsPart text M = IsPlainPartial limit false text (part M)
 
-part_is : (mark text : List ℕ) (M : ℕ) → (mark ≡ []) ⊎ (mark ≡ codes "v") → IsNumber limit text M → is_spelled false false M text ≡ true
-    → length text ≤ 257 → IsPart (mark ++ text) M
-part_is mark text M marked n spelled short = record {
-  mark = mark;
-  rest = text;
-  divided = refl;
+part_is : (text rest : List ℕ) (M : ℕ) → (text ≡ rest) ⊎ (text ≡ codes "v" ++ rest) → IsNumber limit rest M
+    → is_spelled false false M rest ≡ true → length rest ≤ 257 → IsPart text M
+part_is text rest M marked n spelled short = record {
+  rest = rest;
   marked = marked;
-  here = Here.one text (Some M) (Here.number text M n);
-  npm = (Npm.one text (Some M) (Npm.number text M (record { some = n.some; each = n.each; value = n.value; safe = omega arith }) spelled short), refl);
+  here = Here.one rest (Some M) (Here.number rest M n);
+  npm = (Npm.one rest (Some M) (Npm.number rest M (record { some = n.some; each = n.each; value = n.value; safe = omega arith }) spelled short), refl);
   plain = refl;
 }
 
 one_is : IsPart (codes "1") 1
-one_is = part_is [] (codes "1") 1 (inl refl) (record { some = lit< tt; each = refl; value = refl; safe = lit≤ tt }) refl (lit≤ tt)
+one_is = part_is (codes "1") (codes "1") 1 (inl refl) (record { some = lit< tt; each = refl; value = refl; safe = lit≤ tt }) refl (lit≤ tt)
 
 two_is : IsPart (codes "2") 2
-two_is = part_is [] (codes "2") 2 (inl refl) (record { some = lit< tt; each = refl; value = refl; safe = lit≤ tt }) refl (lit≤ tt)
+two_is = part_is (codes "2") (codes "2") 2 (inl refl) (record { some = lit< tt; each = refl; value = refl; safe = lit≤ tt }) refl (lit≤ tt)
 
 three_is : IsPart (codes "v3") 3
-three_is = part_is (codes "v") (codes "3") 3 (inr refl) (record { some = lit< tt; each = refl; value = refl; safe = lit≤ tt }) refl (lit≤ tt)
+three_is = part_is (codes "v3") (codes "3") 3 (inr refl) (record { some = lit< tt; each = refl; value = refl; safe = lit≤ tt }) refl (lit≤ tt)
 
 four_is : IsPart (codes "4") 4
-four_is = part_is [] (codes "4") 4 (inl refl) (record { some = lit< tt; each = refl; value = refl; safe = lit≤ tt }) refl (lit≤ tt)
+four_is = part_is (codes "4") (codes "4") 4 (inl refl) (record { some = lit< tt; each = refl; value = refl; safe = lit≤ tt }) refl (lit≤ tt)
 
 none_is : IsBlank []
 none_is = record { characters = []; each = refl; spelled = refl }

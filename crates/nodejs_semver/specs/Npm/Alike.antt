@@ -33,10 +33,8 @@ is_plain pre p = elim p.patch [
 
 -- the text is one `v` or none, and this partial in both grammars
 pub record IsPlainPartial (limit : ℕ) (pre : Bool) (text : List ℕ) (p : Partial) : Type 0 where
-  pub mark : List ℕ
   pub rest : List ℕ
-  pub divided : text ≡ mark ++ rest
-  pub marked : (mark ≡ []) ⊎ (mark ≡ codes "v")
+  pub marked : (text ≡ rest) ⊎ (text ≡ codes "v" ++ rest)
   pub here : AreComponents limit rest p
   pub npm : IsPartial false rest (npm_partial p)
   pub plain : is_plain pre p ≡ true
@@ -58,6 +56,8 @@ pub data IsPlainWord (limit : ℕ) (pre : Bool) : List ℕ → Word → List Com
       → IsPlainWord limit pre text (plain p) (Npm.table false (compared equal) (npm_partial p) text)
   signed : (s : Sign) (blank text : List ℕ) (p : Partial) → IsBlank blank → IsPlainPartial limit pre text p → may_have s p ≡ true
       → IsPlainWord limit pre (spelling s ++ (blank ++ text)) (word_of s p) (Npm.table false s (npm_partial p) text)
+  tilde_greater : (gap blank text : List ℕ) (p : Partial) → IsBlank gap → IsBlank blank → IsPlainPartial limit pre text p → is_some p.major ≡ true
+      → IsPlainWord limit pre (codes "~" ++ (gap ++ (codes ">" ++ (blank ++ text)))) (tilde true p) (Npm.table false Npm.tilde (npm_partial p) text)
 
 -- words with whitespace between them, and the comparators of all
 pub data ArePlainWords (limit : ℕ) (pre : Bool) : List ℕ → List Word → List Comparison → Type 0 where
@@ -69,13 +69,11 @@ pub data ArePlainWords (limit : ℕ) (pre : Bool) : List ℕ → List Word → L
 
 -- the version that a word writes, with zeros for what it leaves out
 abbrev pub version_in : Word → VersionValue
-version_in w = elim w [
-  | plain p ↦ version_of p
-  | compare c p ↦ version_of p
-  | tilde g p ↦ version_of p
-  | caret p ↦ version_of p
-  | _ ↦ release_value 0 0 0
-]
+version_in (plain p) = version_of p
+version_in (compare c p) = version_of p
+version_in (tilde greater p) = version_of p
+version_in (caret p) = version_of p
+version_in w = release_value 0 0 0
 
 -- a word `<M`, which ends before M.0.0 here and before M.0.0-0 to node-semver, or one that begins with 0.0.0,
 -- which does not count to node-semver
