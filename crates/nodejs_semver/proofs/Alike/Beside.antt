@@ -1,6 +1,6 @@
 -- Words beside each other, of which some may be of a pre-release.
 use Rattle.nodejs_semver.proofs.Algebra.Gate.{both}
-use Rattle.nodejs_semver.proofs.Alike.Rows.{Beside, Form, IsWithin, SameWord, any, form, is_far, is_written, meets-both, named-both}
+use Rattle.nodejs_semver.proofs.Alike.Rows.{Beside, Form, IsWithin, any, form, is_far, is_written, meets-both, named-both}
 use Rattle.nodejs_semver.proofs.Alike.Rows.{named_by, one, passed, passed-both, three, two, word-row}
 use Rattle.nodejs_semver.proofs.Common.{Bool, IfSome, List, MAX_SAFE_INTEGER, Partial, Run, Some, Span, VersionValue, Word, [], all_weaker}
 use Rattle.nodejs_semver.proofs.Common.{and_parts, ap₂, arith, cases_Bool, common_steps, eqb-true, false, first_so, holds, inl, inr}
@@ -11,7 +11,6 @@ use Rattle.nodejs_semver.proofs.Strict.Rows.{holds-both, lets_in-both}
 use Rattle.nodejs_semver.specs.Npm.Alike.{tilde_greater, ArePlainWords, bare, is_apart, more_words, one_word, signed, version_in, word_of}
 use Rattle.nodejs_semver.specs.Npm.Table.{Sign}
 use Rattle.nodejs_semver.specs.Text.Runs.{interval_of}
-use Rattle.std.proofs.lemmas.Bool.{false_from_ne_true}
 use Rattle.nodejs_semver.specs.Npm.Table as Table
 
 -- ---- what two spans have in common
@@ -123,15 +122,15 @@ words-released limit v text ws cs (one_word t w c h) = rw (word-released limit v
 words-released limit v text ws cs (more_words t b rest w us c d h k l more) =
     rw (word-released limit v t w c h) (words-released limit v rest us d more)
 
+allowed : (limit : ℕ) (pre : Bool) (v : VersionValue) (text : List ℕ) (ws : List Word) (cs : List Comparison) → ArePlainWords limit pre text ws cs
+    → list_any (is_written v) ws ≡ true → pre ≡ true
+allowed limit true v text ws cs h k = refl
+allowed limit false v text ws cs h k = cc (k, words-released limit v text ws cs h)
+
 pub words-good : (pre : Bool) (v : VersionValue) → IsWithin MAX_SAFE_INTEGER v → (text : List ℕ) (ws : List Word) (r : Run VersionValue)
     (cs : List Comparison) → ArePlainWords MAX_SAFE_INTEGER pre text ws cs → map (table MAX_SAFE_INTEGER) ws ≡ map Some (r.first ∷ r.others)
     → list_all (λ w. list_all (is_apart w) ws) ws ≡ true → list_all (is_valid MAX_SAFE_INTEGER) cs ≡ true
-    → SameWord pre v (interval_of precedence r) cs
+    → Beside pre false v (interval_of precedence r) cs
 words-good pre v within text ws r cs h e apart k =
-    let all = words-beside pre (list_any (is_written v) ws) v within text ws cs r.first r.others h e k (all-fit v ws apart) in record {
-      same = all.same;
-      released = λ n r. rw r (false_from_ne_true (passed v cs && named_by v cs) (λ named. cc (
-        all.named r named,
-        words-released MAX_SAFE_INTEGER v text ws cs (subst (λ b. ArePlainWords MAX_SAFE_INTEGER b text ws cs) n h),
-      )));
-    }
+    let all = words-beside pre (list_any (is_written v) ws) v within text ws cs r.first r.others h e k (all-fit v ws apart) in
+    record { same = all.same; named = λ r n. allowed MAX_SAFE_INTEGER pre v text ws cs h (all.named r n); held = λ r f. cc f }

@@ -51,10 +51,6 @@ to_upper b v = not (is_past precedence (upper_cut b) v)
 abbrev pub Alike : VersionValue → Span VersionValue → List Comparison → Type 0
 Alike v s cs = (holds precedence s v && lets_in s v) ≡ meets false v (filter (counts false) cs)
 
--- they accept releases alone
-abbrev pub Released : VersionValue → List Comparison → Type 0
-Released v cs = is_release v ≡ false → meets false v (filter (counts false) cs) ≡ false
-
 -- a bound with this test, which names the version or not, beside comparators: they are the same
 pub record Exact (v : VersionValue) (test name : Bool) (cs : List Comparison) : Type 0 where
   pub tested : test ≡ passed v cs
@@ -83,13 +79,6 @@ named-both v cs ds = ap (λ l. list_any (Ranges.names v) l) (filter-append (coun
 pub meets-both : (v : VersionValue) (cs ds : List Comparison) → meets false v (filter (counts false) (cs ++ ds))
     ≡ ((passed v cs && passed v ds) && (is_release v || (named_by v cs || named_by v ds)))
 meets-both v cs ds = ap₂ (λ (a b : Bool). a && (is_release v || b)) (passed-both v cs ds) (named-both v cs ds)
-
-tame_bits : (r t n t' n' u m u' m' : Bool) → (r ≡ true → t ≡ t') → (r ≡ true → u ≡ u') → (n && t) ≡ false → (m && u) ≡ false
-    → (n' && t') ≡ false → (m' && u') ≡ false → ((t && u) && (r || (n || m))) ≡ ((t' && u') && (r || (n' || m')))
-tame_bits r t n t' n' u m u' m' f g a b c d = grind arith
-
-apart_bits : (r t n u m : Bool) → r ≡ false → (n && t) ≡ false → (m && u) ≡ false → ((t && u) && (r || (n || m))) ≡ false
-apart_bits r t n u m e a b = grind arith
 
 exact-span : (v : VersionValue) (b u : Bound VersionValue) (cs ds : List Comparison) → Exact v (from_lower b v) (names b v) cs
     → Exact v (to_upper u v) (names u v) ds → ExactWord v (record { lower = b; upper = u }) (cs ++ ds)
@@ -307,34 +296,18 @@ most-held v w n r h = upper-after (release w) v ∙ ap is_le (in_two_steps v (re
 
 -- ---- what a span and comparators accept
 
--- a span and comparators accept alike, and where no pre-release is written releases alone
-pub record SameWord (pre : Bool) (v : VersionValue) (s : Span VersionValue) (cs : List Comparison) : Type 0 where
-  pub same : Alike v s cs
-  pub released : pre ≡ false → Released v cs
+tame_bits : (r t n t' n' u m u' m' : Bool) → (r ≡ true → t ≡ t') → (r ≡ true → u ≡ u') → (n && t) ≡ false → (m && u) ≡ false
+    → (n' && t') ≡ false → (m' && u') ≡ false → ((t && u) && (r || (n || m))) ≡ ((t' && u') && (r || (n' || m')))
+tame_bits r t n t' n' u m u' m' f g a b c d = grind arith
 
-pub tame-word : (pre : Bool) (v : VersionValue) (b u : Bound VersionValue) (cs ds : List Comparison) → Tame v (from_lower b v) (names b v) cs
-    → Tame v (to_upper u v) (names u v) ds → SameWord pre v (record { lower = b; upper = u }) (cs ++ ds)
-tame-word pre v b u cs ds h k = grind (arith, nat_tests, common_steps, apart_bits, meets-both)
+tame-same : (v : VersionValue) (b u : Bound VersionValue) (cs ds : List Comparison) → Tame v (from_lower b v) (names b v) cs
+    → Tame v (to_upper u v) (names u v) ds → Alike v (record { lower = b; upper = u }) (cs ++ ds)
+tame-same v b u cs ds h k =
+    tame_bits (is_release v) (from_lower b v) (names b v) (passed v cs) (named_by v cs) (to_upper u v) (names u v) (passed v ds) (named_by v ds)
+    h.released k.released h.here k.here h.there k.there ∙ sym (meets-both v cs ds)
 
-unnamed_bits : (t r n : Bool) → r ≡ false → n ≡ false → (t && (r || n)) ≡ false
-unnamed_bits t r n e f = grind arith
-
-exact-word : (pre : Bool) (v : VersionValue) (s : Span VersionValue) (cs : List Comparison) → ExactWord v s cs
-    → (pre ≡ false → named_by v cs ≡ false) → SameWord pre v s cs
-exact-word pre v s cs e f = grind (arith, nat_tests, common_steps, unnamed_bits)
-
-written : (pre r : Bool) → (pre || r) ≡ true → pre ≡ false → r ≡ true
-written pre r h e = grind arith
-
--- from a whole version
-low-word : (pre : Bool) (v w : VersionValue) (u : Bound VersionValue) (cs ds : List Comparison) → (pre || is_release w) ≡ true → Low v w cs
-    → Tame v (to_upper u v) (names u v) ds → Exact v (to_upper u v) (names u v) ds
-    → SameWord pre v (record { lower = Before w; upper = u }) (cs ++ ds)
-low-word pre v w u cs ds p l h k = elim (cases_Bool (is_release w)) [
-  | inl r ↦ tame-word pre v (Before w) u cs ds (low-tame v w cs l r) h
-  | inr r ↦ exact-word pre v _ (cs ++ ds) (exact-span v (Before w) u cs ds (low-exact v w cs l r) k)
-      (λ n. cc (written pre (is_release w) p n, r))
-]
+exact-same : (v : VersionValue) (s : Span VersionValue) (cs : List Comparison) → ExactWord v s cs → Alike v s cs
+exact-same v s cs e = grind (arith, nat_tests, common_steps)
 
 -- ---- words
 
@@ -358,12 +331,12 @@ named-low : (v : VersionValue) (cs ds : List Comparison) → (named_by v ds && p
 named-low v cs ds h n = own_bits (passed v cs) (passed v ds) (named_by v cs) (named_by v ds) h (rw (passed-both v cs ds, named-both v cs ds) at n)
 
 -- an upper end alone, or behind a comparator that does not count
-upper-beside : {own far : Bool} (v : VersionValue) (u : Bound VersionValue) (cs ds : List Comparison)
+pub upper-beside : {own far : Bool} (v : VersionValue) (u : Bound VersionValue) (cs ds : List Comparison)
     → Tame v (from_lower Unbounded v) (names Unbounded v) cs → Tame v (to_upper u v) (names u v) ds → true ≡ passed v cs
     → (is_release v ≡ false → far ≡ true → to_upper u v ≡ passed v ds)
     → Beside own far v (record { lower = Unbounded; upper = u }) (cs ++ ds)
 upper-beside v u cs ds l t e f = record {
-  same = (tame-word true v Unbounded u cs ds l t).same;
+  same = tame-same v Unbounded u cs ds l t;
   named = λ r n. cc (l.there, named-low v cs ds t.there n);
   held = λ r k. held-both v Unbounded u cs ds e (f r k);
 }
@@ -383,7 +356,10 @@ low-beside : {own far : Bool} (v w : VersionValue) (u : Bound VersionValue) (cs 
     → (far ≡ true → is_zero w ≡ true → same_triple w v ≡ false) → (names (Before w) v ≡ true → own ≡ true)
     → Beside own far v (record { lower = Before w; upper = u }) (cs ++ ds)
 low-beside v w u cs ds l t e f o = record {
-  same = (low-word true v w u cs ds refl l t e).same;
+  same = elim (cases_Bool (is_release w)) [
+    | inl r ↦ tame-same v (Before w) u cs ds (low-tame v w cs l r) t
+    | inr r ↦ exact-same v _ (cs ++ ds) (exact-span v (Before w) u cs ds (low-exact v w cs l r) e)
+  ];
   named = λ r n. o (low-named v w cs l (and_parts (named_by v cs) _ (named-low v cs ds t.there n)).0);
   held = λ r k. held-both v (Before w) u cs ds (low-held v w cs l (f k)) e.tested;
 }
@@ -417,7 +393,7 @@ named-own v c h = grind (arith, nat_tests, common_steps)
 whole-beside : {own far : Bool} (v : VersionValue) (s : Span VersionValue) (c : Comparison) → ExactWord v s (c ∷ [])
     → (Ranges.names v c ≡ true → own ≡ true) → Beside own far v s (c ∷ [])
 whole-beside v s c e o = record {
-  same = (exact-word true v s (c ∷ []) e (λ n. cc n)).same;
+  same = exact-same v s (c ∷ []) e;
   named = λ r n. o (named-own v c (and_parts (passed v (c ∷ [])) _ n).1);
   held = λ r k. e.held;
 }
@@ -602,12 +578,18 @@ open_bits : (r l u n : Bool) → (r ≡ true → l ≡ true) → (n ≡ true →
 open_bits r l u n f g = grind arith
 
 -- up to a pre-release
-pre-word : (pre : Bool) (v w z : VersionValue) (cs ds : List Comparison) → pre ≡ true → is_release z ≡ false → Low v w cs
+pre-beside : (pre : Bool) (v w z : VersionValue) (cs ds : List Comparison) → pre ≡ true → is_release z ≡ false → Low v w cs
     → Exact v (to_upper (After z) v) (names (After z) v) ds → is_interval precedence (record { lower = Before w; upper = After z }) ≡ true
-    → SameWord pre v (record { lower = Before w; upper = After z }) (cs ++ ds)
-pre-word pre v w z cs ds p h (inl e) k i = exact-word pre v _ (cs ++ ds) (exact-span v (Before w) (After z) cs ds e k) (λ n. cc (p, n))
-pre-word pre v w z cs ds p h (inr o) k i =
-    record { same = (grind (arith, not_named, zero-release, open_bits, from_lower, to_upper, lower-before, zero_from, open-named, passed, named_by, meets-both)); released = λ n. cc (p, n) }
+    → Beside pre false v (record { lower = Before w; upper = After z }) (cs ++ ds)
+pre-beside pre v w z cs ds p h l k i = record { same = alike l; named = λ r n. p; held = λ r f. cc f }
+  where
+    alike : Low v w cs → Alike v (record { lower = Before w; upper = After z }) (cs ++ ds)
+    alike (inl e) = exact-same v _ (cs ++ ds) (exact-span v (Before w) (After z) cs ds e k)
+    alike (inr o) = grind (arith, not_named, zero-release, open_bits, from_lower, to_upper, lower-before, zero_from, open-named, passed, named_by, meets-both)
+
+-- a pre-release is named where one may be written
+named-pre : (pre r same : Bool) → (pre || r) ≡ true → (not r && same) ≡ true → pre ≡ true
+named-pre pre r same h n = grind arith
 
 -- ---- hyphen ranges
 
@@ -615,30 +597,30 @@ interval-is : (s t : Span VersionValue) → interval precedence s ≡ Some t →
 interval-is s t e = grind arith
 
 -- the interval is the span that was made
-made-word : (pre : Bool) (v w : VersionValue) (u : Bound VersionValue) (t : Span VersionValue) (cs : List Comparison)
+made-beside : (pre : Bool) (v w : VersionValue) (u : Bound VersionValue) (t : Span VersionValue) (cs : List Comparison)
     → interval precedence (record { lower = Before w; upper = u }) ≡ Some t
-    → (is_interval precedence (record { lower = Before w; upper = u }) ≡ true → SameWord pre v (record { lower = Before w; upper = u }) cs)
-    → SameWord pre v t cs
-made-word pre v w u t cs e f = let (same, i) = interval-is _ t e in subst (λ t. SameWord pre v t cs) (sym same) (f i)
+    → (is_interval precedence (record { lower = Before w; upper = u }) ≡ true → Beside pre false v (record { lower = Before w; upper = u }) cs)
+    → Beside pre false v t cs
+made-beside pre v w u t cs e f = let (same, i) = interval-is _ t e in subst (λ t. Beside pre false v t cs) (sym same) (f i)
 
 hyphen-form : (pre : Bool) (v : VersionValue) (p q : Partial) (cs : List Comparison) (text : List ℕ) (s : Span VersionValue)
     → Low v (version_of p) cs → (pre || is_release (version_of p)) ≡ true → Form pre q
-    → is_some q.major ≡ true → table MAX_SAFE_INTEGER (hyphen p q) ≡ Some s → SameWord pre v s (cs ++ hyphen_upper false (npm_partial q) text)
+    → is_some q.major ≡ true → table MAX_SAFE_INTEGER (hyphen p q) ≡ Some s → Beside pre false v s (cs ++ hyphen_upper false (npm_partial q) text)
 unfolding table
 hyphen-form pre v p q cs text s low w any m e = cc m
-hyphen-form pre v p q cs text s low w (one M) m e = made-word pre v (version_of p) (Before (lowest (M + 1, 0, 0))) s _ e
-    (λ _. low-word pre v (version_of p) _ cs (under (M + 1, 0, 0) ∷ []) w low (under-tame v _) (under-exact v _))
-hyphen-form pre v p q cs text s low w (two M n) m e = made-word pre v (version_of p) (Before (lowest (M, n + 1, 0))) s _ e
-    (λ _. low-word pre v (version_of p) _ cs (under (M, n + 1, 0) ∷ []) w low (under-tame v _) (under-exact v _))
+hyphen-form pre v p q cs text s low w (one M) m e = made-beside pre v (version_of p) (Before (lowest (M + 1, 0, 0))) s _ e
+    (λ _. low-beside v (version_of p) _ cs (under (M + 1, 0, 0) ∷ []) low (under-tame v _) (under-exact v _) (λ k z. cc k) (named-pre pre _ _ w))
+hyphen-form pre v p q cs text s low w (two M n) m e = made-beside pre v (version_of p) (Before (lowest (M, n + 1, 0))) s _ e
+    (λ _. low-beside v (version_of p) _ cs (under (M, n + 1, 0) ∷ []) low (under-tame v _) (under-exact v _) (λ k z. cc k) (named-pre pre _ _ w))
 hyphen-form pre v p q cs text s low w (three M n o [] y f) m e =
     let z = version M n o [] y in
     let exact = most-exact v z text in
-    made-word pre v (version_of p) (After z) s _ e (λ _. low-word pre v (version_of p) (After z) cs (put at_most z text ∷ []) w low (nameless-tame v _ _ _ exact refl) exact)
+    made-beside pre v (version_of p) (After z) s _ e (λ _. low-beside v (version_of p) (After z) cs (put at_most z text ∷ []) low (nameless-tame v _ _ _ exact refl) exact (λ k z. cc k) (named-pre pre _ _ w))
 hyphen-form pre v p q cs text s low w (three M n o (i ∷ x) y f) m e =
     let z = version M n o (i ∷ x) y in
     let exact : Exact v (to_upper (After z) v) (names (After z) v) (made at_most (no_build z) ∷ []) =
     counted-exact v _ _ (made at_most (no_build z)) refl (upper-after z v) refl in
-    made-word pre v (version_of p) (After z) s _ e (pre-word pre v (version_of p) z cs (made at_most (no_build z) ∷ []) (one_so pre f) refl low exact)
+    made-beside pre v (version_of p) (After z) s _ e (pre-beside pre v (version_of p) z cs (made at_most (no_build z) ∷ []) (one_so pre f) refl low exact)
   where
     one_so : (a : Bool) → (a || false) ≡ true → a ≡ true
     one_so a h = grind arith
@@ -647,7 +629,7 @@ pub between-good : (pre : Bool) (v : VersionValue) (x y : List ℕ) (p q : Parti
     → IsPlainPartial MAX_SAFE_INTEGER pre x p → IsPlainPartial MAX_SAFE_INTEGER pre y q → is_some q.major ≡ true
     → table MAX_SAFE_INTEGER (hyphen p q) ≡ Some s
     → list_all (is_valid MAX_SAFE_INTEGER) (hyphen_lower false (npm_partial p) x ++ hyphen_upper false (npm_partial q) y) ≡ true
-    → SameWord pre v s (hyphen_lower false (npm_partial p) x ++ hyphen_upper false (npm_partial q) y)
+    → Beside pre false v s (hyphen_lower false (npm_partial p) x ++ hyphen_upper false (npm_partial q) y)
 between-good pre v x y p q s h g m e k =
     let cs = hyphen_lower false (npm_partial p) x in
     let (kc, kd) = and_parts _ _ (sym (list_all-append (is_valid MAX_SAFE_INTEGER) cs (hyphen_upper false (npm_partial q) y)) ∙ k) in

@@ -1,14 +1,15 @@
 -- Plain texts: what they mean here, their alternatives to node-semver, and that both accept the same versions.
+use Rattle.std.proofs.lemmas.Bool.{false_from_ne_true}
 use Rattle.nodejs_semver.proofs.Alike.Beside.{words-good}
-use Rattle.nodejs_semver.proofs.Alike.Rows.{IsWithin, SameWord, between-good, free-tame, tame-word, within}
+use Rattle.nodejs_semver.proofs.Alike.Rows.{Beside, IsWithin, between-good, free-tame, named_by, passed, upper-beside, within}
 use Rattle.nodejs_semver.proofs.Alike.Words.{begins-word, filled, hyphen-read, is_word_byte, partial-begins, words-begin, words-read}
 use Rattle.nodejs_semver.proofs.Bounds.TableRows.{table-interval}
 use Rattle.nodejs_semver.proofs.Common.{Partial, above, if◌then◌else◌, AllByRecursion, Bool, IsBlank, IsCutAtBars, IsTrim, IsUtf8, List, MAX_SAFE_INTEGER, Means, Option}
 use Rattle.nodejs_semver.proofs.Common.{Run, Some, Span, Unbounded, VersionValue, Word, [], accepts, and_parts, any_weaker, ap, append-nil}
 use Rattle.nodejs_semver.proofs.Common.{append_assoc, ap₂, arith, begins, cases_Bool, codes, common_steps, encode_utf8, equal, false}
-use Rattle.nodejs_semver.proofs.Common.{filter, filter_map, first_so, flat_map, hyphen, inl, inr, is_empty, is_release, length, list_all}
+use Rattle.nodejs_semver.proofs.Common.{filter, filter_map, flat_map, hyphen, inl, inr, is_empty, is_release, length, list_all}
 use Rattle.nodejs_semver.proofs.Common.{list_any, map, middle_is_trim, nat_tests, not, part_bounds, part_denotes, precedence, refl}
-use Rattle.nodejs_semver.proofs.Common.{second_so, subst, sym, table, trim, trim_is_middle, true, ℕ, ◌&&◌, ◌++◌, ◌<◌, ◌==◌, ◌||◌, ◌∙◌, ◌∷◌}
+use Rattle.nodejs_semver.proofs.Common.{subst, sym, table, trim, trim_is_middle, true, ℕ, ◌&&◌, ◌++◌, ◌<◌, ◌==◌, ◌||◌, ◌∙◌, ◌∷◌}
 use Rattle.nodejs_semver.proofs.Common.{◌≡◌, ◌⊎◌}
 use Rattle.nodejs_semver.proofs.Dividing.BarsDivide.{bars_once}
 use Rattle.nodejs_semver.proofs.Dividing.RunsDivide.{runs_are}
@@ -214,8 +215,8 @@ abbrev alternative_accepts : VersionValue → List Comparison → Bool
 alternative_accepts v cs = meets false v (filter (counts false) cs)
 
 part-same : (pre : Bool) (v : VersionValue) (text : List ℕ) (s : Span VersionValue) (cs : List Comparison) → IsWithin MAX_SAFE_INTEGER v
-    → IsPlainAlternative MAX_SAFE_INTEGER pre text s cs → list_all (is_valid MAX_SAFE_INTEGER) cs ≡ true → SameWord pre v s cs
-part-same pre v text s cs w nothing k = tame-word pre v Unbounded Unbounded [] [] (free-tame v) (free-tame v)
+    → IsPlainAlternative MAX_SAFE_INTEGER pre text s cs → list_all (is_valid MAX_SAFE_INTEGER) cs ≡ true → Beside pre false v s cs
+part-same pre v text s cs w nothing k = upper-beside v Unbounded [] [] (free-tame v) (free-tame v) refl (λ r f. cc f)
 part-same pre v text s cs w (words t ws r cs' h e f apart) k = words-good pre v w t ws r cs' h e apart k
 part-same pre v text s cs w (between x b g y p q m h k some l more n to e) valid = between-good pre v x y p q m h n to e valid
 
@@ -227,14 +228,17 @@ each-same pre v texts list all w (next text rest s cs ss others h more) k =
     grind (arith, nat_tests, common_steps, part-same, each-same pre v rest ss others w more)
 
 -- where no pre-release is written, none is accepted
-each-released : (pre : Bool) (v : VersionValue) (texts : List (List ℕ)) (list : List (Span VersionValue)) (all : List (List Comparison))
-    → IsWithin MAX_SAFE_INTEGER v → ArePlain MAX_SAFE_INTEGER pre texts list all
-    → list_all (list_all (is_valid MAX_SAFE_INTEGER)) all ≡ true → pre ≡ false → is_release v ≡ false
-    → list_any (alternative_accepts v) all ≡ false
-each-released pre v texts list all w none k p r = refl
-each-released pre v texts list all w (next text rest s cs ss others h more) k p r =
-    ap₂ (λ (x y : Bool). x || y) ((part-same pre v text s cs w h (first_so (list_all (is_valid MAX_SAFE_INTEGER) cs) _ k)).released p r)
-    (each-released pre v rest ss others w more (second_so (list_all (is_valid MAX_SAFE_INTEGER) cs) _ k) p r)
+released-part : (v : VersionValue) (s : Span VersionValue) (cs : List Comparison) → Beside false false v s cs → is_release v ≡ false
+    → alternative_accepts v cs ≡ false
+released-part v s cs h r = rw r (false_from_ne_true (passed v cs && named_by v cs) (λ n. cc (h.named r n)))
+
+each-released : (v : VersionValue) (texts : List (List ℕ)) (list : List (Span VersionValue)) (all : List (List Comparison))
+    → IsWithin MAX_SAFE_INTEGER v → ArePlain MAX_SAFE_INTEGER false texts list all
+    → list_all (list_all (is_valid MAX_SAFE_INTEGER)) all ≡ true → is_release v ≡ false → list_any (alternative_accepts v) all ≡ false
+each-released v texts list all w none k r = refl
+each-released v texts list all w (next text rest s cs ss others h more) k r =
+    let (kc, ks) = and_parts (list_all (is_valid MAX_SAFE_INTEGER) cs) _ k in
+    rw (released-part v s cs (part-same false v text s cs w h kc) r) (each-released v rest ss others w more ks r)
 
 abbrev is_bare : List Comparison → Bool
 is_bare cs = not (list_any (counts false) cs)
@@ -280,7 +284,8 @@ plain-same text list all v h small = rw h.list_is (elim (cases_Bool (list_all is
     opened : list_any is_bare all ≡ true → list_any (alternative_accepts v) all ≡ is_release v
     opened e = elim (cases_Bool (is_release v)) [
       | inl r ↦ any_weaker is_bare (alternative_accepts v) (bare-accepts v r) all e ∙ sym r
-      | inr r ↦ each-released h.pre v h.texts h.spans all w h.each h.valid (closed h.pre (list_any is_bare all) e h.counted) r ∙ sym r
+      | inr r ↦ each-released v h.texts h.spans all w
+          (subst (λ b. ArePlain MAX_SAFE_INTEGER b h.texts h.spans all) (closed h.pre (list_any is_bare all) e h.counted) h.each) h.valid r ∙ sym r
     ]
 
 -- ---- ranges of the text
