@@ -3,7 +3,7 @@ use Rattle.nodejs_semver.proofs.Common.{inl, inr, ◌⊎◌, Before, IsBlank, Is
 use Rattle.nodejs_semver.proofs.Common.{begins, below, codes, encode_utf8, encode_utf8_all, false, length, list_all, lit≤, more_pieces}
 use Rattle.nodejs_semver.proofs.Common.{one_piece, refl, release_value, sym, true, ℕ, ◌++◌, ◌∷◌, ◌≡◌, ◌≤◌}
 use Rattle.nodejs_semver.proofs.NpmCommon.{IsPlainPartial, IsPlainText, digits, from, is_spelled, under}
-use Rattle.nodejs_semver.specs.Npm.Alike.{more_words, next, none, nothing, one_word, signed, words}
+use Rattle.nodejs_semver.specs.Npm.Alike.{between, more_words, next, none, nothing, one_word, signed, words}
 use Rattle.nodejs_semver.specs.Npm.Table.{caret, compared, tilde}
 use Rattle.nodejs_semver.specs.Ranges.View.{any_version}
 use Rattle.semver_core.specs.Text.Characters.{is_whitespace}
@@ -110,6 +110,23 @@ row-bars = record {
   cut = more_pieces (codes " ") (codes " ") _ refl refl (one_piece _ refl);
   trimmed = (trim_is (codes " ") [] [] refl refl refl refl refl refl, (trim_is (codes " ") [] [] refl refl refl refl refl refl, tt));
   each = next [] _ _ _ _ _ nothing (next [] _ _ _ _ _ nothing none);
+  list_is = refl;
+  valid = refl;
+  counted = refl;
+}
+
+-- a hyphen range with more whitespace
+row-hyphen : IsPlainText limit (codes "1  - v3") (band 1 4 ∷ []) ((from false (1, 0, 0) ∷ (under (4, 0, 0) ∷ [])) ∷ [])
+unfolding digits Spans.table encode_utf8
+row-hyphen = record {
+  pre = false;
+  pieces = codes "1  - v3" ∷ [];
+  texts = codes "1  - v3" ∷ [];
+  spans = band 1 4 ∷ [];
+  cut = one_piece (codes "1  - v3") refl;
+  trimmed = (trim_is [] (codes "1  - v3") [] refl refl refl refl refl refl, tt);
+  each = next (codes "1  - v3") _ _ _ _ _ (between (codes "1") (codes "  ") (codes " ") (codes "v3") (part 1) (part 3) _ one_is
+      (spaces (codes "  ") refl refl) (lit< tt) (spaces (codes " ") refl refl) (lit< tt) three_is refl refl) none;
   list_is = refl;
   valid = refl;
   counted = refl;
