@@ -195,7 +195,7 @@ from-plain : (include : Bool) (v : VersionValue) → caret_from include (zeros (
 from-plain include v = grind (arith, nat_tests, common_steps, as-plain)
 
 module _ (include : Bool) (text : List ℕ) where
-  rows-plain : (s : Sign) (p : Partial) → AreZeros p (zeros p) text → table include s p text ≡ plain_table include s p text
+  pub rows-plain : (s : Sign) (p : Partial) → AreZeros p (zeros p) text → table include s p text ≡ plain_table include s p text
   rows-plain s wildcard h = refl
   rows-plain caret (whole v) h = rw (sym (h refl)) (ap₂ (λ c n. c ∷ (under n ∷ [])) (from-plain include v) (changed-plain (whole v) refl))
   rows-plain tilde (whole v) h = rw (sym (h refl), as-plain (whole v) (made at_least (no_build v))) refl
