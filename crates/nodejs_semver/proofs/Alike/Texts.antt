@@ -5,7 +5,7 @@ use Rattle.nodejs_semver.proofs.Alike.Rows.{Beside, IsWithin, between-good, free
 use Rattle.nodejs_semver.proofs.Alike.Words.{begins-word, filled, hyphen-read, is_word_byte, partial-begins, word-dark, word-solid, no-dash, words-begin, words-read}
 use Rattle.nodejs_semver.proofs.Bounds.TableRows.{table-interval}
 use Rattle.nodejs_semver.proofs.Common.{Partial, above, if◌then◌else◌, AllByRecursion, Bool, IsBlank, IsCutAtBars, IsTrim, IsUtf8, List, MAX_SAFE_INTEGER, Means, Option}
-use Rattle.nodejs_semver.proofs.Common.{Comparator, None, drop_spaces, drop_spaces-none, encode_utf8_all, first_so, is_boundary, is_whitespace, space_len-nil}
+use Rattle.nodejs_semver.proofs.Common.{Comparator, None, drop_spaces, drop_spaces-none, encode_utf8_all, first_so, is_boundary, is_whitespace, length-append, space_len-nil}
 use Rattle.nodejs_semver.proofs.Common.{Run, Some, Span, Unbounded, VersionValue, Word, [], accepts, and_parts, any_weaker, ap, append-nil}
 use Rattle.nodejs_semver.proofs.Common.{append_assoc, ap₂, arith, at_most, begins, cases_Bool, codes, common_steps, encode_utf8, equal, false}
 use Rattle.nodejs_semver.proofs.Common.{filter, filter_map, flat_map, hyphen, inl, inr, is_empty, is_release, length, list_all}
@@ -22,7 +22,7 @@ use Rattle.nodejs_semver.proofs.Strict.Hyphens.{same-behind, word-front}
 use Rattle.nodejs_semver.proofs.Strict.PartialLaw.{boundary-quiet}
 use Rattle.nodejs_semver.proofs.Strict.Signs.{blank-skipped}
 use Rattle.nodejs_semver.proofs.Strict.Words.{blank-boundary, places-begin, strict-kept}
-use Rattle.nodejs_semver.proofs.Reading.Bytes.{begins_component, is_solid, solid-dark}
+use Rattle.nodejs_semver.proofs.Reading.Bytes.{begins-some, is_component_byte, is_solid, solid-dark}
 use Rattle.nodejs_semver.proofs.Reading.WordLaw.{blank-len, boundary-of}
 use Rattle.semver_core.specs.Text.Characters.{BeginsBlank}
 use Rattle.nodejs_semver.proofs.Strict.Rows.{either_true}
@@ -236,12 +236,15 @@ no_hyphen limit pre text ws cs (more_words t b rest w us c d h k some more) rang
 
 part-is : (limit : ℕ) (pre : Bool) (text : List ℕ) (s : Span VersionValue) (cs : List Comparison)
     → IsPlainAlternative limit pre text s cs → IsAlternative false false text false cs
-part-is limit pre text s cs nothing =
-    Npm.words [] [] (λ k. cc (k.lower.divided, empty-places k.lower.marks k.lower.places k.before (places-begin false k.lower.places k.before _ k.lower.is)))
-    Npm.none
+part-is limit pre text s cs nothing = Npm.words [] [] filled-range Npm.none
   where
-    empty-places : (marks places before : List ℕ) → begins_component (places ++ before) ≡ true → is_empty (marks ++ (places ++ before)) ≡ false
-    empty-places marks places before h = grind arith
+    filled-range : IsHyphen false [] → ⊥
+    filled-range k = omega (
+      arith,
+      ap length k.lower.divided,
+      length-append k.lower.marks (k.lower.places ++ k.before),
+      begins-some is_component_byte (k.lower.places ++ k.before) (places-begin false k.lower.places k.before k.lower.partial k.lower.is),
+    )
 part-is limit pre text s cs (words t ws r cs' h e f apart) =
     let are = words-are limit pre t ws cs' h in
     subst (λ (lost : Bool). IsAlternative false false t lost cs') (strict-kept false t are.read are.are)
