@@ -1,14 +1,14 @@
 -- Words beside each other, of which some may be of a pre-release.
 use Rattle.nodejs_semver.proofs.Algebra.Gate.{both}
-use Rattle.nodejs_semver.proofs.Alike.Rows.{Beside, Form, IsWithin, any, form, is_far, is_written, meets-both, named-both}
-use Rattle.nodejs_semver.proofs.Alike.Rows.{named_by, one, passed, passed-both, three, two, word-row}
-use Rattle.nodejs_semver.proofs.Common.{Bool, IfSome, List, MAX_SAFE_INTEGER, Partial, Run, Some, Span, VersionValue, Word, [], all_weaker}
-use Rattle.nodejs_semver.proofs.Common.{and_parts, ap₂, arith, cases_Bool, common_steps, eqb-true, false, first_so, holds, inl, inr}
-use Rattle.nodejs_semver.proofs.Common.{is_release, lets_in, list_all, list_all-append, list_any, map, nat_tests, not, precedence, refl}
-use Rattle.nodejs_semver.proofs.Common.{same_triple, subst, sym, table, true, version_of, ℕ, ◌&&◌, ◌++◌, ◌||◌, ◌∙◌, ◌∷◌, ◌≡◌}
-use Rattle.nodejs_semver.proofs.NpmCommon.{Comparison, IsPlainWord, compared, is_valid}
+use Rattle.nodejs_semver.proofs.Alike.Rows.{any, Beside, Form, form, is_far, is_written, IsWithin, meets-both, named-both, named_by, one}
+use Rattle.nodejs_semver.proofs.Alike.Rows.{passed, passed-both, three, two, word-row}
+use Rattle.nodejs_semver.proofs.Common.{[], all_weaker, and_parts, ap₂, arith, Bool, cases_Bool, common_steps, eqb-true, false, first_so}
+use Rattle.nodejs_semver.proofs.Common.{holds, IfSome, inl, inr, is_release, lets_in, List, list_all, list_all-append, list_any, map}
+use Rattle.nodejs_semver.proofs.Common.{MAX_SAFE_INTEGER, nat_tests, not, Partial, precedence, refl, Run, same_triple, Some, Span, subst}
+use Rattle.nodejs_semver.proofs.Common.{sym, table, true, version_of, VersionValue, Word, ℕ, ◌&&◌, ◌++◌, ◌||◌, ◌∙◌, ◌∷◌, ◌≡◌}
+use Rattle.nodejs_semver.proofs.NpmCommon.{compared, Comparison, is_valid, IsPlainWord}
 use Rattle.nodejs_semver.proofs.Strict.Rows.{holds-both, lets_in-both}
-use Rattle.nodejs_semver.specs.Npm.Alike.{tilde_greater, ArePlainWords, bare, is_apart, more_words, one_word, signed, version_in, word_of}
+use Rattle.nodejs_semver.specs.Npm.Alike.{ArePlainWords, bare, is_apart, more_words, one_word, signed, tilde_greater, version_in, word_of}
 use Rattle.nodejs_semver.specs.Npm.Table.{Sign}
 use Rattle.nodejs_semver.specs.Text.Runs.{interval_of}
 use Rattle.nodejs_semver.specs.Npm.Table as Table

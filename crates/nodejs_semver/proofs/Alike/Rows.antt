@@ -1,25 +1,26 @@
 -- What a bound and comparators accept, the rows of both tables, sign by sign, and hyphen ranges.
 use Rattle.nodejs_semver.proofs.Algebra.Gate.{in_two_steps, lt_is, same_triple_is, triple_cmp, triple_total}
-use Rattle.nodejs_semver.proofs.Common.{tilde, After, Before, Bool, Bound, Comparator, Front, Greater, Id, IfSome, List, MAX_SAFE_INTEGER, None}
-use Rattle.nodejs_semver.proofs.Common.{Numeric, Option, Ordering, Partial, Some, Span, Unbounded, VersionValue, Word, [], above, and-true}
-use Rattle.nodejs_semver.proofs.Common.{and_parts, ap, ap₂, arith, at_most, below, cases_Bool, codes, common_steps, empty_is, eqb-true}
-use Rattle.nodejs_semver.proofs.Common.{equal, false, filter, first_so, holds, hyphen, inl, inr, interval, is_empty, is_eq, is_ge}
-use Rattle.nodejs_semver.proofs.Common.{is_interval, is_le, is_lt, is_past, is_release, is_some, lets_in, list_all, list_all-append}
-use Rattle.nodejs_semver.proofs.Common.{list_any, list_any-append, lower_cut, names, nat_tests, not, not-false, not-true, ordering_reverse}
-use Rattle.nodejs_semver.proofs.Common.{ordering_then, plain, pre_cmp, precedence, precedence_total, refl, same_triple, subst, suc, sym}
-use Rattle.nodejs_semver.proofs.Common.{table, true, upper_cut, version_of, zero, ℕ, ◌&&◌, ◌++◌, ◌+◌, ◌==◌, ◌||◌, ◌∙◌, ◌∷◌, ◌≡◌, ◌≤◌, ◌⊎◌}
-use Rattle.nodejs_semver.proofs.NpmCommon.{Comparison, IsPartial, IsPlainPartial, IsPlainWord, Numbers, at_least, build_front, bytes_eq}
-use Rattle.nodejs_semver.proofs.NpmCommon.{bytes_eq-Decides, compared, counts, dashed_front, digits, dotted_patch, dotted_place}
-use Rattle.nodejs_semver.proofs.NpmCommon.{filter-append, from, hyphen_lower, hyphen_upper, is_plain, is_valid, is_within, is_zero, listed}
-use Rattle.nodejs_semver.proofs.NpmCommon.{made, may_have, meets, minor, npm_partial, patch_place, place_front, pre_front}
-use Rattle.nodejs_semver.proofs.NpmCommon.{qualified_partial, release, satisfies, under, upto_patch, version_text, whole, zero_least}
+use Rattle.nodejs_semver.proofs.Common.{[], above, After, and-true, and_parts, ap, ap₂, arith, at_most, Before, below, Bool, Bound}
+use Rattle.nodejs_semver.proofs.Common.{cases_Bool, codes, common_steps, Comparator, empty_is, eqb-true, equal, false, filter, first_so}
+use Rattle.nodejs_semver.proofs.Common.{Front, Greater, holds, hyphen, Id, IfSome, inl, inr, interval, is_empty, is_eq, is_ge, is_interval}
+use Rattle.nodejs_semver.proofs.Common.{is_le, is_lt, is_past, is_release, is_some, lets_in, List, list_all, list_all-append, list_any}
+use Rattle.nodejs_semver.proofs.Common.{list_any-append, lower_cut, MAX_SAFE_INTEGER, names, nat_tests, None, not, not-false, not-true}
+use Rattle.nodejs_semver.proofs.Common.{Numeric, Option, Ordering, ordering_reverse, ordering_then, Partial, plain, pre_cmp, precedence}
+use Rattle.nodejs_semver.proofs.Common.{precedence_total, refl, same_triple, Some, Span, subst, suc, sym, table, tilde, true, Unbounded}
+use Rattle.nodejs_semver.proofs.Common.{upper_cut, version_of, VersionValue, Word, zero, ℕ, ◌&&◌, ◌++◌, ◌+◌, ◌==◌, ◌||◌, ◌∙◌, ◌∷◌, ◌≡◌, ◌≤◌}
+use Rattle.nodejs_semver.proofs.Common.{◌⊎◌}
+use Rattle.nodejs_semver.proofs.NpmCommon.{at_least, build_front, bytes_eq, bytes_eq-Decides, compared, Comparison, counts, dashed_front}
+use Rattle.nodejs_semver.proofs.NpmCommon.{digits, dotted_patch, dotted_place, filter-append, from, hyphen_lower, hyphen_upper, is_plain}
+use Rattle.nodejs_semver.proofs.NpmCommon.{is_valid, is_within, is_zero, IsPartial, IsPlainPartial, IsPlainWord, listed, made, may_have}
+use Rattle.nodejs_semver.proofs.NpmCommon.{meets, minor, npm_partial, Numbers, patch_place, place_front, pre_front, qualified_partial}
+use Rattle.nodejs_semver.proofs.NpmCommon.{release, satisfies, under, upto_patch, version_text, whole, zero_least}
 use Rattle.nodejs_semver.proofs.Strict.PartialLaw.{partial-read}
 use Rattle.nodejs_semver.proofs.Strict.Printed.{prints_zero}
 use Rattle.nodejs_semver.proofs.Strict.Zeros.{plain_changed, plain_table, rows-plain, strict-zeros, zeros-marked}
 use Rattle.nodejs_semver.proofs.Values.{past-after, past-before}
 use Rattle.nodejs_semver.specs.Internal.NpmWords.{partial_front, places_front}
-use Rattle.nodejs_semver.specs.Npm.Alike.{tilde_greater, bare, is_blunt, signed, version_in, word_of}
-use Rattle.nodejs_semver.specs.Npm.Table.{Sign, lowest, no_build, written_zeros}
+use Rattle.nodejs_semver.specs.Npm.Alike.{bare, is_blunt, signed, tilde_greater, version_in, word_of}
+use Rattle.nodejs_semver.specs.Npm.Table.{lowest, no_build, Sign, written_zeros}
 use Rattle.semver_core.specs.Internal.OrderLaws.{pre_total}
 use Rattle.semver_core.specs.Values.Order.{version_eq}
 use Rattle.nodejs_semver.specs.Npm.Ranges as Ranges

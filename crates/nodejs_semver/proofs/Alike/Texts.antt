@@ -1,38 +1,41 @@
 -- Plain texts: what they mean here, their alternatives to node-semver, and that both accept the same versions.
-use Rattle.std.proofs.lemmas.Bool.{false_from_ne_true}
 use Rattle.nodejs_semver.proofs.Alike.Beside.{words-good}
-use Rattle.nodejs_semver.proofs.Alike.Rows.{Beside, IsWithin, between-good, free-tame, named_by, passed, upper-beside, within}
-use Rattle.nodejs_semver.proofs.Alike.Words.{begins-word, filled, hyphen-read, is_word_byte, partial-begins, word-dark, word-solid, no-dash, words-begin, words-read}
+use Rattle.nodejs_semver.proofs.Alike.Rows.{Beside, between-good, free-tame, IsWithin, named_by, passed, upper-beside, within}
+use Rattle.nodejs_semver.proofs.Alike.Words.{begins-word, filled, hyphen-read, is_word_byte, no-dash, partial-begins, word-dark, word-solid}
+use Rattle.nodejs_semver.proofs.Alike.Words.{words-begin, words-read}
 use Rattle.nodejs_semver.proofs.Bounds.TableRows.{table-interval}
-use Rattle.nodejs_semver.proofs.Common.{Partial, above, if◌then◌else◌, AllByRecursion, Bool, IsBlank, IsCutAtBars, IsTrim, IsUtf8, List, MAX_SAFE_INTEGER, Means, Option}
-use Rattle.nodejs_semver.proofs.Common.{Comparator, None, drop_spaces, drop_spaces-none, encode_utf8_all, first_so, is_boundary, is_whitespace, length-append, space_len-nil}
-use Rattle.nodejs_semver.proofs.Common.{Run, Some, Span, Unbounded, VersionValue, Word, [], accepts, and_parts, any_weaker, ap, append-nil}
-use Rattle.nodejs_semver.proofs.Common.{append_assoc, ap₂, arith, at_most, begins, cases_Bool, codes, common_steps, encode_utf8, equal, false}
-use Rattle.nodejs_semver.proofs.Common.{filter, filter_map, flat_map, hyphen, inl, inr, is_empty, is_release, length, list_all}
-use Rattle.nodejs_semver.proofs.Common.{list_any, map, middle_is_trim, nat_tests, not, part_bounds, part_denotes, precedence, refl}
-use Rattle.nodejs_semver.proofs.Common.{subst, sym, table, trim, trim_is_middle, true, ℕ, ◌&&◌, ◌++◌, ◌<◌, ◌==◌, ◌||◌, ◌∙◌, ◌∷◌}
-use Rattle.nodejs_semver.proofs.Common.{◌≡◌, ◌⊎◌}
+use Rattle.nodejs_semver.proofs.Common.{[], above, accepts, and_parts, any_weaker, ap, append-nil, append_assoc, ap₂, arith, at_most}
+use Rattle.nodejs_semver.proofs.Common.{begins, Bool, cases_Bool, codes, common_steps, Comparator, drop_spaces, drop_spaces-none}
+use Rattle.nodejs_semver.proofs.Common.{encode_utf8, encode_utf8_all, equal, false, filter, filter_map, first_so, flat_map, hyphen}
+use Rattle.nodejs_semver.proofs.Common.{if◌then◌else◌, inl, inr, is_boundary, is_empty, is_release, is_whitespace, IsBlank, IsCutAtBars}
+use Rattle.nodejs_semver.proofs.Common.{IsTrim, IsUtf8, length, length-append, List, list_all, list_any, map, MAX_SAFE_INTEGER, Means}
+use Rattle.nodejs_semver.proofs.Common.{middle_is_trim, nat_tests, None, not, Option, part_bounds, part_denotes, Partial, precedence, refl}
+use Rattle.nodejs_semver.proofs.Common.{Run, Some, space_len-nil, Span, subst, sym, table, trim, true, Unbounded, VersionValue, Word, ℕ}
+use Rattle.nodejs_semver.proofs.Common.{◌&&◌, ◌++◌, ◌<◌, ◌==◌, ◌||◌, ◌∙◌, ◌∷◌, ◌≡◌, ◌⊎◌}
 use Rattle.nodejs_semver.proofs.Dividing.BarsDivide.{bars_once}
 use Rattle.nodejs_semver.proofs.Dividing.RunsDivide.{runs_are}
-use Rattle.nodejs_semver.proofs.NpmCommon.{BeginsWord, is_lost, IsPlainPartial, IsHyphen, comparators_of, end_sign, last_marks, hyphen_lower, hyphen_upper, at_least, after_byte, AreAlternatives, AreMarks, AreWords, Comparison, HasAlternatives, IsAlternative, IsPlainText}
-use Rattle.nodejs_semver.proofs.NpmCommon.{IsPlainWord, IsSignText, IsWord, are_marks, are_whole_marks, compared, counts, is_valid}
-use Rattle.nodejs_semver.proofs.NpmCommon.{is_within, meets, npm_partial, spelling}
+use Rattle.nodejs_semver.proofs.NpmCommon.{after_byte, are_marks, are_whole_marks, AreAlternatives, AreMarks, AreWords, at_least}
+use Rattle.nodejs_semver.proofs.NpmCommon.{BeginsWord, comparators_of, compared, Comparison, counts, end_sign, HasAlternatives}
+use Rattle.nodejs_semver.proofs.NpmCommon.{hyphen_lower, hyphen_upper, is_lost, is_valid, is_within, IsAlternative, IsHyphen}
+use Rattle.nodejs_semver.proofs.NpmCommon.{IsPlainPartial, IsPlainText, IsPlainWord, IsSignText, IsWord, last_marks, meets, npm_partial}
+use Rattle.nodejs_semver.proofs.NpmCommon.{spelling}
+use Rattle.nodejs_semver.proofs.Reading.Bytes.{begins-some, is_component_byte, is_solid, solid-dark}
+use Rattle.nodejs_semver.proofs.Reading.WordLaw.{blank-len, boundary-of}
 use Rattle.nodejs_semver.proofs.Strict.AlternativeLaw.{alternatives_once}
 use Rattle.nodejs_semver.proofs.Strict.Hyphens.{same-behind, word-front}
 use Rattle.nodejs_semver.proofs.Strict.PartialLaw.{boundary-quiet}
+use Rattle.nodejs_semver.proofs.Strict.Rows.{either_true}
 use Rattle.nodejs_semver.proofs.Strict.Signs.{blank-skipped}
 use Rattle.nodejs_semver.proofs.Strict.Words.{blank-boundary, places-begin, strict-kept}
-use Rattle.nodejs_semver.proofs.Reading.Bytes.{begins-some, is_component_byte, is_solid, solid-dark}
-use Rattle.nodejs_semver.proofs.Reading.WordLaw.{blank-len, boundary-of}
-use Rattle.semver_core.specs.Text.Characters.{BeginsBlank}
-use Rattle.nodejs_semver.proofs.Strict.Rows.{either_true}
-use Rattle.nodejs_semver.specs.Npm.Alike.{tilde_greater, ArePlain, ArePlainWords, IsPlainAlternative, bare, between, more_words, next, none, nothing}
-use Rattle.nodejs_semver.specs.Npm.Alike.{one_word, signed, words}
+use Rattle.nodejs_semver.specs.Npm.Alike.{ArePlain, ArePlainWords, bare, between, IsPlainAlternative, more_words, next, none, nothing}
+use Rattle.nodejs_semver.specs.Npm.Alike.{one_word, signed, tilde_greater, words}
 use Rattle.nodejs_semver.specs.Npm.Ranges.{IsRangeOf}
 use Rattle.nodejs_semver.specs.Npm.Table.{Sign}
 use Rattle.nodejs_semver.specs.Ranges.View.{any_version}
 use Rattle.nodejs_semver.specs.Text.Runs.{fits, interval_of}
 use Rattle.nodejs_semver.specs.Text.WordText.{SkipsBlank}
+use Rattle.semver_core.specs.Text.Characters.{BeginsBlank}
+use Rattle.std.proofs.lemmas.Bool.{false_from_ne_true}
 use Rattle.std.proofs.lemmas.Slice.Zip.{AllZip-long}
 use Rattle.std.specs.List.{AllZip}
 use Rattle.nodejs_semver.proofs.Dividing.MeaningLaw as meaning

@@ -1,21 +1,19 @@
 -- The words of plain alternatives, as the range grammar here reads them.
-use Rattle.nodejs_semver.proofs.Common.{is_empty, Bool, Comparator, IsBlank, IsSign, List, None, Partial, Some, Word, [], above, after_spaces, ap}
-use Rattle.nodejs_semver.proofs.Common.{append-nil, append_assoc, arith, at_most, begins, below, cases_Bool, codes, drop_spaces}
-use Rattle.nodejs_semver.proofs.Common.{drop_spaces-blank, drop_spaces-none, encode_utf8_all, eqb-true, equal, false, hyphen, inl, inr}
-use Rattle.nodejs_semver.proofs.Common.{is_ascii_digit, is_boundary, is_sign, is_whitespace, len_utf8_bounds, length, list_all, list_len}
-use Rattle.nodejs_semver.proofs.Common.{lt-ltb, nat_tests, partial_front, refl, space_len, tilde_sign, true, word_at, words, words_within}
-use Rattle.nodejs_semver.proofs.Common.{ℕ, ◌++◌, ◌<◌, ◌==◌, ◌||◌, ◌∙◌, ◌∷◌, ◌≡◌}
-use Rattle.nodejs_semver.proofs.NpmCommon.{Comparison, IsPlainPartial, IsPlainWord, after_byte, at_least, compared}
-use Rattle.nodejs_semver.proofs.NpmCommon.{space_len-white, spelling}
-use Rattle.nodejs_semver.proofs.Reading.Bytes.{Stop, begins-on, begins-some, begins_component, component-solid, is_component_byte, is_solid}
-use Rattle.nodejs_semver.proofs.Reading.Bytes.{solid-dark, stop-nil}
+use Rattle.nodejs_semver.proofs.Common.{[], above, after_spaces, ap, append-nil, append_assoc, arith, at_most, begins, below, Bool}
+use Rattle.nodejs_semver.proofs.Common.{cases_Bool, codes, Comparator, drop_spaces, drop_spaces-none, eqb-true, equal, false, hyphen, inl}
+use Rattle.nodejs_semver.proofs.Common.{inr, is_ascii_digit, is_boundary, is_empty, is_sign, IsBlank, IsSign, length, List, list_len}
+use Rattle.nodejs_semver.proofs.Common.{lt-ltb, nat_tests, None, Partial, partial_front, refl, Some, space_len, tilde_sign, true, Word}
+use Rattle.nodejs_semver.proofs.Common.{word_at, words, words_within, ℕ, ◌++◌, ◌<◌, ◌==◌, ◌||◌, ◌∙◌, ◌∷◌, ◌≡◌}
+use Rattle.nodejs_semver.proofs.NpmCommon.{after_byte, at_least, compared, Comparison, IsPlainPartial, IsPlainWord, spelling}
+use Rattle.nodejs_semver.proofs.Reading.Bytes.{begins-on, begins-some, begins_component, component-solid, is_component_byte, is_solid}
+use Rattle.nodejs_semver.proofs.Reading.Bytes.{solid-dark, Stop, stop-nil}
 use Rattle.nodejs_semver.proofs.Reading.PartialLaw.{components-begin, front-dark, front-exact, words-step}
 use Rattle.nodejs_semver.proofs.Reading.WordLaw.{compared-of, unsigned-at}
 use Rattle.nodejs_semver.proofs.Strict.Signs.{blank-skipped}
 use Rattle.nodejs_semver.proofs.Strict.Words.{blank-boundary, blank-space}
 use Rattle.nodejs_semver.specs.Internal.Fronts.{dotted_front, drop_v}
 use Rattle.nodejs_semver.specs.Internal.Words.{upper_behind}
-use Rattle.nodejs_semver.specs.Npm.Alike.{tilde_greater, ArePlainWords, bare, more_words, one_word, signed}
+use Rattle.nodejs_semver.specs.Npm.Alike.{ArePlainWords, bare, more_words, one_word, signed, tilde_greater}
 use Rattle.nodejs_semver.specs.Text.WordText.{above_sign, at_least_sign, at_most_sign, below_sign, equal_sign}
 use Rattle.semver_core.specs.Text.Characters.{is_identifier_char}
 use Rattle.std.proofs.lemmas.Bool.{false_from_ne_true}

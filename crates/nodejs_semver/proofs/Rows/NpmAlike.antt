@@ -1,8 +1,8 @@
 -- Worked rows: a text that means the same here and to node-semver, with its intervals and its comparators.
-use Rattle.nodejs_semver.proofs.Common.{inl, inr, ◌⊎◌, Before, IsBlank, IsNumber, IsTrim, List, None, Partial, Some, Span, VersionValue, [], above, arith}
-use Rattle.nodejs_semver.proofs.Common.{begins, below, codes, encode_utf8, encode_utf8_all, false, length, list_all, lit≤, more_pieces}
-use Rattle.nodejs_semver.proofs.Common.{one_piece, refl, release_value, sym, true, ℕ, ◌++◌, ◌∷◌, ◌≡◌, ◌≤◌}
-use Rattle.nodejs_semver.proofs.NpmCommon.{IsPlainPartial, IsPlainText, digits, from, is_spelled, under}
+use Rattle.nodejs_semver.proofs.Common.{[], above, arith, Before, begins, below, codes, encode_utf8, encode_utf8_all, false, inl, inr}
+use Rattle.nodejs_semver.proofs.Common.{IsBlank, IsNumber, IsTrim, length, List, list_all, lit≤, more_pieces, None, one_piece, Partial}
+use Rattle.nodejs_semver.proofs.Common.{refl, release_value, Some, Span, sym, true, VersionValue, ℕ, ◌++◌, ◌∷◌, ◌≡◌, ◌≤◌, ◌⊎◌}
+use Rattle.nodejs_semver.proofs.NpmCommon.{digits, from, is_spelled, IsPlainPartial, IsPlainText, under}
 use Rattle.nodejs_semver.specs.Npm.Alike.{between, more_words, next, none, nothing, one_word, signed, words}
 use Rattle.nodejs_semver.specs.Npm.Table.{caret, compared, tilde, written_zeros}
 use Rattle.nodejs_semver.specs.Ranges.View.{any_version}
