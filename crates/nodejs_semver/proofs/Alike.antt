@@ -1,3 +1,4 @@
 pub mod Beside
 pub mod Rows
 pub mod Texts
+pub mod Words

@@ -10,8 +10,8 @@ pub use Rattle.nodejs_semver.specs.Internal.NpmWords.{is_free_lower, is_free_upp
 pub use Rattle.nodejs_semver.specs.Internal.NpmWords.{marked_word, marks_len, may_stand, or_late, run_place, second_front}
 pub use Rattle.nodejs_semver.specs.Internal.{NpmWords.{skip_equal, skip_greater, skip_tilde, third_front, valid_only}, PartFronts.left_over}
 pub use Rattle.nodejs_semver.specs.{Internal.{Readings.{bounds_view, comparator_view}, Words.or_else}, Npm.Alike.IsPlainPartial}
-pub use Rattle.nodejs_semver.specs.Npm.Alike.{IsPlainText, IsPlainWord, is_firm, is_plain, may_have, more, npm_partial, one_word, signed}
-pub use Rattle.nodejs_semver.specs.Npm.{Alike.two_words, Coerced.{IsLeftmost, IsRightmost, IsRun, IsTuple, IsTupleIn}, Flaws.GoesOn}
+pub use Rattle.nodejs_semver.specs.Npm.Alike.{IsPlainText, IsPlainWord, is_plain, may_have, npm_partial, signed}
+pub use Rattle.nodejs_semver.specs.Npm.{Coerced.{IsLeftmost, IsRightmost, IsRun, IsTuple, IsTupleIn}, Flaws.GoesOn}
 pub use Rattle.nodejs_semver.specs.Npm.{Flaws.{IsFront, IsSpelled, wrong_of}, Grammar.{IsStrictBuild, IsStrictNumber, bare}}
 pub use Rattle.nodejs_semver.specs.Npm.Grammar.{begins_undashed, dashed, has_leading_zero, is_strict_list, no_build}
 pub use Rattle.nodejs_semver.specs.Npm.{Grammar.{no_pre_release, plus}, Malformed.{IsIgnored, is_mark, takes}}

@@ -1,198 +1,311 @@
 -- Plain texts: what they mean here, their alternatives to node-semver, and that both accept the same versions.
-use Rattle.nodejs_semver.proofs.Alike.{Beside.two-good, Rows.{Good, IsWithin, SameWord, between-good, within, word-good}}
-use Rattle.nodejs_semver.proofs.Common.{AllByRecursion, AreCommonParts, Bool, Comparator, IsBlank, IsSign, IsTrim, IsUtf8, List}
-use Rattle.nodejs_semver.proofs.Common.{MAX_SAFE_INTEGER, Means, Span, VersionValue, Word, [], above, accepts, any_weaker, ap, append-nil}
-use Rattle.nodejs_semver.proofs.Common.{append_assoc, ap₂, arith, at_most, below, cases_Bool, codes, common_steps, cut_bars, encode_utf8}
-use Rattle.nodejs_semver.proofs.Common.{equal, false, filter, first_so, inl, inr, is_empty, is_release, length, list_all, list_any}
-use Rattle.nodejs_semver.proofs.Common.{nat_tests, not, refl, second_so, subst, sym, trim, trim_is_middle, true, ℕ, ◌&&◌, ◌++◌, ◌<◌, ◌||◌}
-use Rattle.nodejs_semver.proofs.{Common.{◌∙◌, ◌∷◌, ◌≡◌}, Dividing.{BarsDivide.bars_divide, MeaningLaw.pieces-utf8}}
-use Rattle.nodejs_semver.proofs.Everyday.Texts.{common_parts_are_denoted, compact-trim, cut-first, cut-last, list-some, part-tidy}
-use Rattle.nodejs_semver.proofs.{Everyday.Words.{Compact, is_part_byte}, NpmCommon.{AreAlternatives, AreMarks, Comparison}}
-use Rattle.nodejs_semver.proofs.NpmCommon.{HasAlternatives, IsAlternative, IsPlainText, IsPlainWord, IsSignText, IsWord, are_marks}
-use Rattle.nodejs_semver.proofs.NpmCommon.{at_least, compared, counts, is_free_lower, is_free_upper, is_valid, is_within, lit<, meets}
-use Rattle.nodejs_semver.proofs.{NpmCommon.{more, none, one_word, signed, spelling, two_words}, Reading.Bytes.all-join}
-use Rattle.nodejs_semver.{proofs.Strict.{AlternativeLaw.alternatives_once, Rows.either_true}, specs.Npm.Alike.ArePlain}
-use Rattle.nodejs_semver.specs.Npm.{Alike.{IsPlainAlternative, bare, between, one}, RangeText.next, Ranges.IsRangeOf, Table.Sign}
-use Rattle.nodejs_semver.specs.Text.Common.{IsCommonPart, IsCommonWord, IsGap, caret_word, compare_word, comparison, hyphen_word}
-use Rattle.nodejs_semver.specs.Text.{Common.{more_parts, one_part, plain_word, tilde_word, two_comparisons}, WordText.above_sign}
-use Rattle.nodejs_semver.specs.Text.WordText.{at_least_sign, at_most_sign, below_sign, equal_sign}
-use Rattle.nodejs_semver.proofs.{Common.{None, Option, Some, begins, space_len-nil}, NpmCommon.{AreWords, BeginsWord, npm_partial}, Reading.Bytes.{component-solid, is_solid, solid-dark}}
-use Rattle.nodejs_semver.proofs.{Reading.WordLaw.{blank-len, trim-utf8}, Strict.{Hyphens.strict-words, Words.places-begin}}
+use Rattle.nodejs_semver.proofs.Alike.Beside.{words-good}
+use Rattle.nodejs_semver.proofs.Alike.Rows.{Beside, between-good, free-tame, IsWithin, named_by, passed, upper-beside, within}
+use Rattle.nodejs_semver.proofs.Alike.Words.{begins-word, filled, hyphen-read, is_word_byte, no-dash, partial-begins, word-dark, word-solid}
+use Rattle.nodejs_semver.proofs.Alike.Words.{words-begin, words-read}
+use Rattle.nodejs_semver.proofs.Bounds.TableRows.{table-interval}
+use Rattle.nodejs_semver.proofs.Common.{[], above, accepts, and_parts, any_weaker, ap, append-nil, append_assoc, ap₂, arith, at_most}
+use Rattle.nodejs_semver.proofs.Common.{begins, Bool, cases_Bool, codes, common_steps, Comparator, drop_spaces, drop_spaces-none}
+use Rattle.nodejs_semver.proofs.Common.{encode_utf8, encode_utf8_all, equal, false, filter, filter_map, first_so, flat_map, hyphen}
+use Rattle.nodejs_semver.proofs.Common.{if◌then◌else◌, inl, inr, is_boundary, is_empty, is_release, is_whitespace, IsBlank, IsCutAtBars}
+use Rattle.nodejs_semver.proofs.Common.{IsTrim, IsUtf8, length, length-append, List, list_all, list_any, map, MAX_SAFE_INTEGER, Means}
+use Rattle.nodejs_semver.proofs.Common.{middle_is_trim, nat_tests, None, not, Option, part_bounds, part_denotes, Partial, precedence, refl}
+use Rattle.nodejs_semver.proofs.Common.{Run, Some, space_len-nil, Span, subst, sym, table, trim, true, Unbounded, VersionValue, Word, ℕ}
+use Rattle.nodejs_semver.proofs.Common.{◌&&◌, ◌++◌, ◌<◌, ◌==◌, ◌||◌, ◌∙◌, ◌∷◌, ◌≡◌, ◌⊎◌}
+use Rattle.nodejs_semver.proofs.Dividing.BarsDivide.{bars_once}
+use Rattle.nodejs_semver.proofs.Dividing.RunsDivide.{runs_are}
+use Rattle.nodejs_semver.proofs.NpmCommon.{after_byte, are_marks, are_whole_marks, AreAlternatives, AreMarks, AreWords, at_least}
+use Rattle.nodejs_semver.proofs.NpmCommon.{BeginsWord, comparators_of, compared, Comparison, counts, end_sign, HasAlternatives}
+use Rattle.nodejs_semver.proofs.NpmCommon.{hyphen_lower, hyphen_upper, is_lost, is_valid, is_within, IsAlternative, IsHyphen}
+use Rattle.nodejs_semver.proofs.NpmCommon.{IsPlainPartial, IsPlainText, IsPlainWord, IsSignText, IsWord, last_marks, meets, npm_partial}
+use Rattle.nodejs_semver.proofs.NpmCommon.{spelling}
+use Rattle.nodejs_semver.proofs.Reading.Bytes.{begins-some, is_component_byte, is_solid, solid-dark}
+use Rattle.nodejs_semver.proofs.Reading.WordLaw.{blank-len, boundary-of}
+use Rattle.nodejs_semver.proofs.Strict.AlternativeLaw.{alternatives_once}
+use Rattle.nodejs_semver.proofs.Strict.Hyphens.{same-behind, word-front}
+use Rattle.nodejs_semver.proofs.Strict.PartialLaw.{boundary-quiet}
+use Rattle.nodejs_semver.proofs.Strict.Rows.{either_true}
+use Rattle.nodejs_semver.proofs.Strict.Signs.{blank-skipped}
+use Rattle.nodejs_semver.proofs.Strict.Words.{blank-boundary, places-begin, strict-kept}
+use Rattle.nodejs_semver.specs.Npm.Alike.{ArePlain, ArePlainWords, bare, between, IsPlainAlternative, more_words, next, none, nothing}
+use Rattle.nodejs_semver.specs.Npm.Alike.{one_word, signed, tilde_greater, words}
+use Rattle.nodejs_semver.specs.Npm.Ranges.{IsRangeOf}
+use Rattle.nodejs_semver.specs.Npm.Table.{Sign}
+use Rattle.nodejs_semver.specs.Ranges.View.{any_version}
+use Rattle.nodejs_semver.specs.Text.Runs.{fits, interval_of}
 use Rattle.nodejs_semver.specs.Text.WordText.{SkipsBlank}
 use Rattle.semver_core.specs.Text.Characters.{BeginsBlank}
+use Rattle.std.proofs.lemmas.Bool.{false_from_ne_true}
+use Rattle.std.proofs.lemmas.Slice.Zip.{AllZip-long}
+use Rattle.std.specs.List.{AllZip}
 use Rattle.nodejs_semver.proofs.Dividing.MeaningLaw as meaning
 use Rattle.nodejs_semver.specs.Npm.RangeText as Npm
+use Rattle.semver_core.specs.Text.Characters as Characters
 use Rattle.nodejs_semver.specs.Npm.Ranges as Ranges
 use Rattle.nodejs_semver.specs.Npm.Table as Table
-use Rattle.nodejs_semver.specs.Text.Common as Common
 
 -- ---- here
 
-sign_is : (c : Comparator) → IsSign c (spelling (compared c))
-sign_is at_least = at_least_sign
-sign_is above = above_sign
-sign_is equal = equal_sign
-sign_is at_most = at_most_sign
-sign_is below = below_sign
+some-mapped : {A B : Type 0} (f : A → Option B) (xs : List A) (ys : List B) → map f xs ≡ map Some ys → filter_map f xs ≡ ys
+some-mapped f [] [] e = refl
+some-mapped f [] (y ∷ ys) e = cc e
+some-mapped f (x ∷ xs) [] e = cc e
+some-mapped f (x ∷ xs) (y ∷ ys) e = grind (arith, some-mapped f xs ys)
 
-word-common : (limit : ℕ) (pre : Bool) (text : List ℕ) (word : Word) (cs : List Comparison) → IsPlainWord limit pre text word cs
-    → IsCommonWord limit text word
-word-common limit pre text word cs (bare t p h) = plain_word t p h.here
-word-common limit pre text word cs (signed (compared c) t p h m) =
-    compare_word _ _ (comparison c (spelling (compared c)) t p (sign_is c) h.here)
-word-common limit pre text word cs (signed Table.caret t p h m) = caret_word t p h.here
-word-common limit pre text word cs (signed Table.tilde t p h m) = tilde_word t p h.here
+-- the words of an alternative are one run
+run-denotes : (limit : ℕ) (text : List ℕ) (r : Run VersionValue) → begins is_word_byte text ≡ true → part_bounds limit text ≡ r.first ∷ r.others
+    → fits precedence r ≡ true → part_denotes limit text ≡ interval_of precedence r ∷ []
+run-denotes limit text r b e f =
+    let one = runs_are (part_bounds limit text) (r ∷ []) (append-nil _ ∙ sym e, (f, tt), tt) in
+    rw (filled text b, sym one) refl
 
-part-common : (limit : ℕ) (pre : Bool) (text : List ℕ) (s : Span VersionValue) (cs : List Comparison)
-    → IsPlainAlternative limit pre text s cs → IsCommonPart limit text s
-part-common limit pre text s cs (one_word t word s' cs' h e) = Common.one_word t word s' (word-common limit pre t word cs' h) e
-part-common limit pre text s cs (two_words c d x y p q a b m hp mp ep hq mq eq e apart) =
-    two_comparisons _ _ _ _ a b m (comparison c (spelling (compared c)) x p (sign_is c) hp.here)
-    (comparison d (spelling (compared d)) y q (sign_is d) hq.here) ep eq e
-part-common limit pre text s cs (between x y p q m h k some e) = Common.one_word _ _ m (hyphen_word x y p q h.here k.here) e
+-- an alternative means its interval, and has comparators only if it is not empty
+part-denotes : (limit : ℕ) (pre : Bool) (text : List ℕ) (s : Span VersionValue) (cs : List Comparison) → IsPlainAlternative limit pre text s cs
+    → (part_denotes limit text ≡ s ∷ []) × (is_empty text ≡ true → cs ≡ [])
+part-denotes limit pre text s cs nothing = (refl, λ e. refl)
+part-denotes limit pre text s cs (words t ws r cs' h e f apart) =
+    let b = words-begin limit pre t ws cs' h in
+    (run-denotes limit t r b (rw (words-read limit pre t ws cs' h) (some-mapped (table limit) ws (r.first ∷ r.others) e)) f, λ e. cc (filled t b, e))
+part-denotes limit pre text s cs (between x b g y p q m h k some l more n to e) =
+    let rest = b ++ (codes "-" ++ (g ++ y)) in
+    let o = begins-word x rest (partial-begins limit pre x p h) in (
+      run-denotes limit (x ++ rest) (record { first = m; others = [] }) o (rw (hyphen-read limit pre x b g y p q h k some l more n, e) refl)
+          (table-interval limit (hyphen p q) m e),
+      λ e. cc (filled (x ++ rest) o, e),
+    )
 
-parts-common : (limit : ℕ) (pre : Bool) (text : List ℕ) (list : List (Span VersionValue)) (all : List (List Comparison))
-    → ArePlain limit pre text list all → AreCommonParts limit text list
-parts-common limit pre text list all (one t s cs h) = one_part t s (part-common limit pre t s cs h)
-parts-common limit pre text list all (more t before after rest s cs ss others h b a k) =
-    more_parts t before after rest s ss (part-common limit pre t s cs h) b a (parts-common limit pre rest ss others k)
+all-denote : (limit : ℕ) (pre : Bool) (texts : List (List ℕ)) (list : List (Span VersionValue)) (all : List (List Comparison))
+    → ArePlain limit pre texts list all → flat_map (part_denotes limit) texts ≡ list
+all-denote limit pre texts list all none = refl
+all-denote limit pre texts list all (next text rest s cs ss others h more) =
+    rw ((part-denotes limit pre text s cs h).0, all-denote limit pre rest ss others more) refl
+
+trimmed-are : (pieces texts : List (List ℕ)) → AllZip IsTrim pieces texts → texts ≡ map trim pieces
+trimmed-are [] [] h = refl
+trimmed-are (piece ∷ pieces) (text ∷ texts) h =
+    ap₂ (λ (t : List ℕ) (ts : List (List ℕ)). t ∷ ts) (middle_is_trim piece text h.0) (trimmed-are pieces texts h.1)
+trimmed-are pieces texts h = absurd h
+
+some-pieces : (text : List ℕ) (pieces texts : List (List ℕ)) → IsCutAtBars text pieces → AllZip IsTrim pieces texts → 0 < length texts
+some-pieces text pieces texts cut h = grind (arith, AllZip-long)
+
+-- there are some intervals and some alternatives
+some-all : (limit : ℕ) (pre : Bool) (texts : List (List ℕ)) (list : List (Span VersionValue)) (all : List (List Comparison))
+    → ArePlain limit pre texts list all → 0 < length texts → (0 < length list) × (is_empty all ≡ false)
+some-all limit pre texts list all h some = grind arith
 
 pub plain-means : (text : List ℕ) (list : List (Span VersionValue)) (all : List (List Comparison)) → IsUtf8 text
     → IsPlainText MAX_SAFE_INTEGER text list all → Means MAX_SAFE_INTEGER text list
 plain-means text list all u h = (meaning.one_meaning MAX_SAFE_INTEGER text list u).0
-    (common_parts_are_denoted MAX_SAFE_INTEGER text list (parts-common MAX_SAFE_INTEGER h.pre text list all h.divided)).0
+    (rw (
+      sym (trimmed-are h.pieces h.texts h.trimmed ∙ ap (λ ps. map trim ps) (bars_once text h.pieces h.cut)),
+      all-denote MAX_SAFE_INTEGER h.pre h.texts h.spans all h.each,
+    ) (sym h.list_is))
+
+pub plain-read : (text : List ℕ) (list : List (Span VersionValue)) (all : List (List Comparison)) → IsUtf8 text
+    → IsPlainText MAX_SAFE_INTEGER text list all → Means MAX_SAFE_INTEGER text list × (0 < length list)
+plain-read text list all u h = (
+  plain-means text list all u h,
+  rw h.list_is (either (list_all is_empty h.texts)
+      (some-all MAX_SAFE_INTEGER h.pre h.texts h.spans all h.each (some-pieces text h.pieces h.texts h.cut h.trimmed)).0),
+)
+  where
+    either : (blank : Bool) → 0 < length h.spans → 0 < length (if blank then any_version else h.spans)
+    either blank e = grind arith
 
 -- ---- to node-semver
 
-pub no_marks : (s : Sign) (p : Table.Partial) → are_marks false s p [] ≡ true
+no_marks : (s : Sign) (p : Table.Partial) → are_marks false s p [] ≡ true
 no_marks s p = grind (arith, nat_tests, common_steps)
-
-no_blank : IsBlank []
-no_blank = record { characters = []; each = refl; spelled = refl }
-
-pub one_blank : IsBlank (codes " ")
-unfolding encode_utf8
-one_blank = record { characters = 32 ∷ []; each = refl; spelled = refl }
 
 no_ends : AreMarks []
 no_ends = ([], refl, refl)
 
-pub sign_text : (s : Sign) → IsSignText (spelling s) s
-sign_text s = rw append-nil at (Npm.sign s [] no_blank)
-
-pub no_mark : (a : Bool) → (a && false) ≡ false
+no_mark : (a : Bool) → (a && false) ≡ false
 no_mark a = grind arith
 
--- a text that does not begin with whitespace
-pub solid-start : (text : List ℕ) → begins is_solid text ≡ true → BeginsBlank text → ⊥
-solid-start text h b = omega (arith, blank-len text b, solid-dark text h)
+-- one `v` or none, before a partial
+record Marked (text rest : List ℕ) : Type 0 where
+  mark : List ℕ
+  divided : text ≡ mark ++ rest
+  whole : are_whole_marks mark ≡ true
+  any : AreMarks mark
+  may : (s : Sign) (p : Table.Partial) → are_marks false s p mark ≡ true
+  begins : (a : Bool) → (a && Characters.begins (λ b. b == 61) mark) ≡ false
+  sign : (c : Comparator) → end_sign c mark ≡ c
+  last : last_marks mark ≡ mark
 
-begins-space : (rest : List ℕ) → BeginsBlank (32 ∷ rest)
+marked : (text rest : List ℕ) → (text ≡ rest) ⊎ (text ≡ codes "v" ++ rest) → Marked text rest
 unfolding encode_utf8
-begins-space rest = record { character = 32; rest = rest; passes = refl; spelled = refl }
-
--- one word, and two with a space between them
-pub word-alone : (include : Bool) (w x : List ℕ) (cs : List Comparison) → IsWord false include w x cs → AreWords false include w (Some cs ∷ [])
-word-alone include w x cs h =
-    let nothing : SkipsBlank [] [] = ([], refl, no_blank, λ b. omega (arith, blank-len [] b, space_len-nil)) in
-    Npm.more w [] (Some cs) [] (Npm.formed [] cs (record { word = w; partial = x; divided = sym (append-nil w); is = h; ended = inl refl }) refl nothing) Npm.none
-
-pub words-spaced : (include : Bool) (v x w y : List ℕ) (cs ds : List Comparison) → IsWord false include v x cs → IsWord false include w y ds
-    → begins is_solid w ≡ true → AreWords false include (v ++ 32 ∷ w) (Some cs ∷ (Some ds ∷ []))
-words-spaced include v x w y cs ds h k solid =
-    let skips : SkipsBlank (32 ∷ w) w = (codes " ", refl, one_blank, solid-start w solid) in
-    let first : BeginsWord false include (v ++ 32 ∷ w) (32 ∷ w) cs = record { word = v; partial = x; divided = refl; is = h; ended = inr (begins-space w) } in
-    Npm.more _ w (Some cs) _ (Npm.formed (32 ∷ w) cs first refl skips) (word-alone include w y ds k)
+marked text rest (inl e) =
+    record { mark = []; divided = e; whole = refl; any = no_ends; may = no_marks; begins = no_mark; sign = λ c. refl; last = refl }
+marked text rest (inr e) = record {
+  mark = codes "v";
+  divided = e;
+  whole = refl;
+  any = (118 ∷ [], refl, refl);
+  may = one_v;
+  begins = no_mark;
+  sign = λ c. refl;
+  last = refl;
+}
+  where
+    one_v : (s : Sign) (p : Table.Partial) → are_marks false s p (codes "v") ≡ true
+    one_v s p = grind (arith, nat_tests, common_steps)
 
 record WordIs (text : List ℕ) (cs : List Comparison) : Type 0 where
   partial : List ℕ
   is : IsWord false false text partial cs
 
+-- a word behind its sign
+behind-sign : (limit : ℕ) (pre : Bool) (signs text : List ℕ) (s : Sign) (p : Partial) → IsSignText signs s
+    → IsPlainPartial limit pre text p → WordIs (signs ++ text) (Table.table false s (npm_partial p) text)
+behind-sign limit pre signs text s p is h = let m = marked text h.rest h.marked in record {
+  partial = h.rest;
+  is = subst (λ (t : List ℕ). IsWord false false (signs ++ t) h.rest (Table.table false s (npm_partial p) t)) (sym m.divided)
+      (Npm.word signs m.mark h.rest s (npm_partial p) is (m.may s (npm_partial p)) (m.begins _) h.npm.0);
+}
+
 word-is : (limit : ℕ) (pre : Bool) (text : List ℕ) (word : Word) (cs : List Comparison) → IsPlainWord limit pre text word cs → WordIs text cs
-word-is limit pre text word cs (bare t p h) = record {
-  partial = t;
-  is = Npm.word [] [] t (compared equal) _ Npm.no_sign (no_marks (compared equal) _) refl h.npm.0;
-}
-word-is limit pre text word cs (signed s t p h m) = record {
-  partial = t;
-  is = Npm.word (spelling s) [] t s _ (sign_text s) (no_marks s _) (no_mark _) h.npm.0;
-}
+word-is limit pre text word cs (bare t p h) = behind-sign limit pre [] t (compared equal) p Npm.no_sign h
+word-is limit pre text word cs (signed s b t p k h m) =
+    let w = behind-sign limit pre (spelling s ++ b) t s p (Npm.sign s b k) h in rw (append_assoc (spelling s) b t) at w
+word-is limit pre text word cs (tilde_greater g b t p j k h m) =
+    let w = behind-sign limit pre (codes "~" ++ (g ++ (codes ">" ++ b))) t Table.tilde p (Npm.tilde_sign above g b j k (inl refl)) h in
+    rw (append_assoc g (codes ">" ++ b) t) at w
 
-sign-solid : (c : Comparator) (y : List ℕ) → begins is_solid (spelling (compared c) ++ y) ≡ true
-sign-solid c y = grind arith
+-- a text that does not begin with whitespace, and one that does
+solid-start : (text : List ℕ) → begins is_solid text ≡ true → BeginsBlank text → ⊥
+solid-start text h b = omega (arith, blank-len text b, solid-dark text h)
 
-part-is : (limit : ℕ) (pre : Bool) (text : List ℕ) (s : Span VersionValue) (cs : List Comparison) → IsPlainAlternative limit pre text s cs
-    → IsUtf8 text → IsAlternative false false text false cs
-part-is limit pre text s cs (one_word t word s' cs' h e) u =
-    let w = word-is limit pre t word cs' h in
-    rw append-nil at (strict-words false t (Some cs' ∷ []) u (word-alone false t w.partial cs' w.is))
-part-is limit pre text s cs (two_words c d x y p q a b m hp mp ep hq mq eq e apart) u =
-    let v = word-is limit pre _ _ _ (signed (compared c) x p hp mp) in
-    let w = word-is limit pre _ _ _ (signed (compared d) y q hq mq) in
-    rw append-nil at (strict-words false _ _ u (words-spaced false _ v.partial _ w.partial _ _ v.is w.is (sign-solid d y)))
-part-is limit pre text s cs (between x y p q m h k some e) u =
-    Npm.hyphen _ (record {
-      before = codes " - " ++ y;
-      after = codes " " ++ y;
+blank-begins : (blank rest : List ℕ) → IsBlank blank → 0 < length blank → BeginsBlank (blank ++ rest)
+blank-begins blank rest h some = go h.characters h.each h.spelled
+  where
+    go : (cs : List ℕ) → list_all is_whitespace cs ≡ true → blank ≡ encode_utf8_all cs → BeginsBlank (blank ++ rest)
+    go [] each e = absurd (omega (arith, some, ap length e))
+    go (c ∷ cs) each e = record {
+      character = c;
+      rest = encode_utf8_all cs ++ rest;
+      passes = first_so (is_whitespace c) (list_all is_whitespace cs) each;
+      spelled = ap (λ (t : List ℕ). t ++ rest) e ∙ append_assoc (encode_utf8 c) (encode_utf8_all cs) rest;
+    }
+
+record WordsAre (text : List ℕ) (cs : List Comparison) : Type 0 where
+  read : List (Option (List Comparison))
+  are : AreWords false false text read
+  same : comparators_of read ≡ cs
+
+words-are : (limit : ℕ) (pre : Bool) (text : List ℕ) (ws : List Word) (cs : List Comparison) → ArePlainWords limit pre text ws cs → WordsAre text cs
+words-are limit pre text ws cs (one_word t w c h) =
+    let word = word-is limit pre t w c h in
+    let nothing : SkipsBlank [] [] =
+    ([], refl, record { characters = []; each = refl; spelled = refl }, λ b. omega (arith, blank-len [] b, space_len-nil)) in
+    let first : BeginsWord false false t [] c =
+    record { word = t; partial = word.partial; divided = sym (append-nil t); is = word.is; ended = inl refl } in
+    record { read = Some c ∷ []; are = Npm.more t [] (Some c) [] (Npm.formed [] c first refl nothing) Npm.none; same = append-nil c }
+words-are limit pre text ws cs (more_words t b rest w us c d h k some more) =
+    let word = word-is limit pre t w c h in
+    let others = words-are limit pre rest us d more in
+    let first : BeginsWord false false (t ++ (b ++ rest)) (b ++ rest) c =
+    record { word = t; partial = word.partial; divided = refl; is = word.is; ended = inr (blank-begins b rest k some) } in
+    let skips : SkipsBlank (b ++ rest) rest = (b, refl, k, solid-start rest (word-solid rest (words-begin limit pre rest us d more))) in
+    record {
+      read = Some c ∷ others.read;
+      are = Npm.more (t ++ (b ++ rest)) rest (Some c) others.read (Npm.formed (b ++ rest) c first refl skips) others.are;
+      same = ap (λ (l : List Comparison). c ++ l) others.same;
+    }
+
+-- words are no hyphen range: behind the first one stands no `-`
+no_hyphen-first : (limit : ℕ) (pre : Bool) (t behind rest : List ℕ) (w : Word) (cs : List Comparison) → IsPlainWord limit pre t w cs
+    → is_boundary behind ≡ true → drop_spaces behind ≡ rest → after_byte 45 rest ≡ None → IsHyphen false (t ++ behind) → ⊥
+no_hyphen-first limit pre t behind rest w cs h stop skips other k =
+    let word = word-is limit pre t w cs h in
+    let same : behind ≡ k.before = same-behind (t ++ behind) k.before behind k.lower
+    (word-front false t word.partial (t ++ behind) behind cs refl word.is) (boundary-quiet k.before (boundary-of k.before (inr k.blank)))
+    (boundary-quiet behind stop) in
+    let gone : drop_spaces k.before ≡ 45 ∷ k.after = ap drop_spaces k.dash.1
+    ∙ blank-skipped k.dash.0 (45 ∷ k.after) k.dash.2 (solid-dark (45 ∷ k.after) refl) in
+    cc (sym (ap (after_byte 45) (sym skips ∙ ap drop_spaces same ∙ gone)) ∙ other)
+
+no_hyphen : (limit : ℕ) (pre : Bool) (text : List ℕ) (ws : List Word) (cs : List Comparison) → ArePlainWords limit pre text ws cs
+    → IsHyphen false text → ⊥
+unfolding is_boundary
+no_hyphen limit pre text ws cs (one_word t w c h) k =
+    no_hyphen-first limit pre t [] [] w c h refl (drop_spaces-none [] space_len-nil) refl (subst (IsHyphen false) (sym (append-nil t)) k)
+no_hyphen limit pre text ws cs (more_words t b rest w us c d h k some more) range =
+    let opens = words-begin limit pre rest us d more in
+    no_hyphen-first limit pre t (b ++ rest) rest w c h (blank-boundary b rest k some) (blank-skipped b rest k (word-dark rest opens))
+    (no-dash rest opens) range
+
+part-is : (limit : ℕ) (pre : Bool) (text : List ℕ) (s : Span VersionValue) (cs : List Comparison)
+    → IsPlainAlternative limit pre text s cs → IsAlternative false false text false cs
+part-is limit pre text s cs nothing = Npm.words [] [] filled-range Npm.none
+  where
+    filled-range : IsHyphen false [] → ⊥
+    filled-range k = omega (
+      arith,
+      ap length k.lower.divided,
+      length-append k.lower.marks (k.lower.places ++ k.before),
+      begins-some is_component_byte (k.lower.places ++ k.before) (places-begin false k.lower.places k.before k.lower.partial k.lower.is),
+    )
+part-is limit pre text s cs (words t ws r cs' h e f apart) =
+    let are = words-are limit pre t ws cs' h in
+    subst (λ (lost : Bool). IsAlternative false false t lost cs') (strict-kept false t are.read are.are)
+    (subst (λ (ds : List Comparison). IsAlternative false false t (is_lost are.read) ds) are.same
+    (Npm.words t are.read (no_hyphen limit pre t ws cs' h) are.are))
+part-is limit pre text s cs (between x b g y p q m h k some l more n to e) =
+    let lower = marked x h.rest h.marked in
+    let upper = marked y n.rest n.marked in
+    subst (λ (ds : List Comparison). IsAlternative false false (x ++ (b ++ (codes "-" ++ (g ++ y)))) false ds)
+    (ap₂ (λ (ds es : List Comparison). ds ++ es)
+    (ap₂ (λ (c : Comparator) (t : List ℕ). hyphen_lower c false (npm_partial p) t) (lower.sign at_least) (spelled x h.rest lower))
+    (ap₂ (λ (c : Comparator) (t : List ℕ). hyphen_upper c false (npm_partial q) t) (upper.sign at_most) (spelled y n.rest upper)))
+    (Npm.hyphen (x ++ (b ++ (codes "-" ++ (g ++ y)))) (record {
+      before = b ++ (codes "-" ++ (g ++ y));
+      after = g ++ y;
       second = y;
-      lower = record { marks = []; places = x; partial = npm_partial p; divided = refl; are = no_ends; is = h.npm.0 };
-      blank = begins-space _;
-      dash = (codes " ", refl, one_blank, solid-start _ refl);
-      gap = begins-space y;
-      skipped = (codes " ", refl, one_blank, solid-start y (component-solid y (rw append-nil at (places-begin false y [] _ k.npm.0))));
-      upper = record { marks = []; places = y; partial = npm_partial q; divided = sym (append-nil y); are = no_ends; is = k.npm.0 };
-    }) (either_true _) (either_true _)
+      lower = record {
+        marks = lower.mark;
+        places = h.rest;
+        partial = npm_partial p;
+        divided = ap (λ (t : List ℕ). t ++ (b ++ (codes "-" ++ (g ++ y)))) lower.divided ∙ append_assoc lower.mark h.rest _;
+        are = lower.any;
+        is = h.npm.0;
+      };
+      blank = blank-begins b _ k some;
+      dash = (b, refl, k, solid-start _ refl);
+      gap = blank-begins g y l more;
+      skipped = (g, refl, l, solid-start y (word-solid y (rw append-nil at (begins-word y [] (partial-begins limit pre y q n)))));
+      upper = record {
+        marks = upper.mark;
+        places = n.rest;
+        partial = npm_partial q;
+        divided = upper.divided ∙ ap (λ (t : List ℕ). upper.mark ++ t) (sym (append-nil n.rest));
+        are = upper.any;
+        is = n.npm.0;
+      };
+    }) (either _ lower.whole) (either _ upper.whole))
+  where
+    either : {b : Bool} (a : Bool) → b ≡ true → (a || b) ≡ true
+    either a e = rw e (either_true a)
 
-part-compact : (limit : ℕ) (pre : Bool) (text : List ℕ) (s : Span VersionValue) (cs : List Comparison)
-    → IsPlainAlternative limit pre text s cs → Compact text
-part-compact limit pre text s cs h = (part-tidy limit text s (part-common limit pre text s cs h)).compact
+    spelled : (text rest : List ℕ) (m : Marked text rest) → last_marks m.mark ++ rest ≡ text
+    spelled text rest m = ap (λ (t : List ℕ). t ++ rest) m.last ∙ sym m.divided
 
-pub gap-bytes : (gap : List ℕ) → IsGap gap → list_all is_part_byte gap ≡ true
-gap-bytes gap g = grind arith
+all-are : (limit : ℕ) (pre : Bool) (pieces texts : List (List ℕ)) (list : List (Span VersionValue)) (all : List (List Comparison))
+    → ArePlain limit pre texts list all → AllZip IsTrim pieces texts → AreAlternatives false false pieces all
+all-are limit pre [] texts list all none t = Npm.none
+all-are limit pre (piece ∷ pieces) texts list all (next text rest s cs ss others h more) t =
+    Npm.next piece text pieces false cs others t.0 (part-is limit pre text s cs h) (all-are limit pre pieces rest ss others more t.1)
+all-are limit pre pieces texts list all h t = absurd t
 
-trimmed : (piece part : List ℕ) → IsUtf8 piece → trim piece ≡ part → IsTrim piece part
-trimmed piece part u e = subst (λ (t : List ℕ). IsTrim piece t) e (trim_is_middle piece u)
-
--- one alternative among others
-pub joined : (include : Bool) (pieces others : List (List ℕ)) (piece part : List ℕ) (cs : List Comparison) (rest : List (List Comparison))
-    → pieces ≡ piece ∷ others → trim piece ≡ part → (IsUtf8 part → IsAlternative false include part false cs) → AllByRecursion IsUtf8 pieces
-    → (AllByRecursion IsUtf8 others → AreAlternatives false include others rest) → AreAlternatives false include pieces (cs ∷ rest)
-joined include pieces others piece part cs rest e t is u f =
-    let v : AllByRecursion IsUtf8 (piece ∷ others) = subst (AllByRecursion IsUtf8) e u in
-    let m = trimmed piece part v.0 t in
-    subst (λ (ps : List (List ℕ)). AreAlternatives false include ps (cs ∷ rest)) (sym e)
-    (next piece part others false cs rest m (is (trim-utf8 piece part v.0 m)) (f v.1))
-
-all-are : (limit : ℕ) (pre : Bool) (text : List ℕ) (list : List (Span VersionValue)) (all : List (List Comparison)) (gap : List ℕ)
-    → IsGap gap → ArePlain limit pre text list all → AllByRecursion IsUtf8 (cut_bars false (gap ++ text))
-    → AreAlternatives false false (cut_bars false (gap ++ text)) all
-all-are limit pre text list all gap g (one t s cs h) u =
-    let c = part-compact _ _ _ _ _ h in
-    let same : trim (gap ++ t) ≡ t = rw append-nil at (compact-trim _ _ _ g (inl refl) c) in
-    joined _ _ _ _ _ _ _ (cut-last _ (all-join is_part_byte gap t (gap-bytes _ g) c.each)) same (part-is _ _ _ _ _ h) u (λ _. none)
-all-are limit pre text list all gap g (more t before after rest s cs ss others h b a k) u =
-    let c = part-compact _ _ _ _ _ h in
-    let piece = gap ++ (t ++ before) in
-    let behind = 124 ∷ (124 ∷ (after ++ rest)) in
-    let whole : gap ++ (t ++ (before ++ behind)) ≡ piece ++ behind =
-    sym (append_assoc gap (t ++ before) behind ∙ ap (λ (x : List ℕ). gap ++ x) (append_assoc t before behind)) in
-    let bytes : list_all is_part_byte piece ≡ true = all-join is_part_byte gap (t ++ before) (gap-bytes _ g)
-    (all-join is_part_byte t before c.each (gap-bytes _ b)) in
-    joined _ _ _ _ _ _ _ (ap (λ (x : List ℕ). cut_bars false x) whole ∙ cut-first _ _ bytes)
-    (compact-trim _ _ _ g b c) (part-is _ _ _ _ _ h) u (λ v. all-are _ _ _ _ _ _ a k v)
-
-some-all : (limit : ℕ) (pre : Bool) (text : List ℕ) (list : List (Span VersionValue)) (all : List (List Comparison))
-    → ArePlain limit pre text list all → is_empty all ≡ false
-some-all limit pre text list all (one t s cs h) = refl
-some-all limit pre text list all (more t before after rest s cs ss others h b a k) = refl
-
-pub plain-has : (text : List ℕ) (list : List (Span VersionValue)) (all : List (List Comparison)) → IsUtf8 text
+pub plain-has : (text : List ℕ) (list : List (Span VersionValue)) (all : List (List Comparison))
     → IsPlainText MAX_SAFE_INTEGER text list all → HasAlternatives MAX_SAFE_INTEGER false text all
-plain-has text list all u h = let cut = bars_divide text in record {
-  parts = cut_bars false text;
-  divided = cut;
-  each = all-are MAX_SAFE_INTEGER h.pre text list all [] (inl refl) h.divided (pieces-utf8 text (cut_bars false text) cut u);
-  some = some-all MAX_SAFE_INTEGER h.pre text list all h.divided;
+plain-has text list all h = record {
+  parts = h.pieces;
+  divided = h.cut;
+  each = all-are MAX_SAFE_INTEGER h.pre h.pieces h.texts h.spans all h.each h.trimmed;
+  some = (some-all MAX_SAFE_INTEGER h.pre h.texts h.spans all h.each (some-pieces text h.pieces h.texts h.cut h.trimmed)).1;
   valid = h.valid;
 }
 
@@ -203,29 +316,30 @@ abbrev alternative_accepts : VersionValue → List Comparison → Bool
 alternative_accepts v cs = meets false v (filter (counts false) cs)
 
 part-same : (pre : Bool) (v : VersionValue) (text : List ℕ) (s : Span VersionValue) (cs : List Comparison) → IsWithin MAX_SAFE_INTEGER v
-    → IsPlainAlternative MAX_SAFE_INTEGER pre text s cs → list_all (is_valid MAX_SAFE_INTEGER) cs ≡ true → SameWord pre v s cs
-part-same pre v text s cs w (one_word t word s' cs' h e) k = subst (λ o. Good pre v o cs') e (word-good _ _ _ _ _ w h k)
-part-same pre v text s cs w (two_words c d x y p q a b m hp mp ep hq mq eq e apart) k =
-    two-good pre v c d x y p q a b m w hp mp ep hq mq eq e apart k
-part-same pre v text s cs w (between x y p q m h g some e) k = between-good pre v x y p q m h g some e k
+    → IsPlainAlternative MAX_SAFE_INTEGER pre text s cs → list_all (is_valid MAX_SAFE_INTEGER) cs ≡ true → Beside pre false v s cs
+part-same pre v text s cs w nothing k = upper-beside v Unbounded [] [] (free-tame v) (free-tame v) refl (λ r f. cc f)
+part-same pre v text s cs w (words t ws r cs' h e f apart) k = words-good pre v w t ws r cs' h e apart k
+part-same pre v text s cs w (between x b g y p q m h k some l more n to e) valid = between-good pre v x y p q m h n to e valid
 
-each-same : (pre : Bool) (v : VersionValue) (text : List ℕ) (list : List (Span VersionValue)) (all : List (List Comparison))
-    → IsWithin MAX_SAFE_INTEGER v → ArePlain MAX_SAFE_INTEGER pre text list all
+each-same : (pre : Bool) (v : VersionValue) (texts : List (List ℕ)) (list : List (Span VersionValue)) (all : List (List Comparison))
+    → IsWithin MAX_SAFE_INTEGER v → ArePlain MAX_SAFE_INTEGER pre texts list all
     → list_all (list_all (is_valid MAX_SAFE_INTEGER)) all ≡ true → accepts list v false ≡ list_any (alternative_accepts v) all
-each-same pre v text list all w (one t s cs h) k = grind (arith, nat_tests, common_steps, part-same, first_so)
-each-same pre v text list all w (more t before after rest s cs ss others h b a m) k =
-    grind (arith, nat_tests, common_steps, part-same, each-same pre v rest ss others w m)
+each-same pre v texts list all w none k = refl
+each-same pre v texts list all w (next text rest s cs ss others h more) k =
+    grind (arith, nat_tests, common_steps, part-same, each-same pre v rest ss others w more)
 
 -- where no pre-release is written, none is accepted
-each-released : (pre : Bool) (v : VersionValue) (text : List ℕ) (list : List (Span VersionValue)) (all : List (List Comparison))
-    → IsWithin MAX_SAFE_INTEGER v → ArePlain MAX_SAFE_INTEGER pre text list all
-    → list_all (list_all (is_valid MAX_SAFE_INTEGER)) all ≡ true → pre ≡ false → is_release v ≡ false
-    → list_any (alternative_accepts v) all ≡ false
-each-released pre v text list all w (one t s cs h) k p r =
-    ap (λ (a : Bool). a || false) ((part-same pre v t s cs w h (first_so (list_all (is_valid MAX_SAFE_INTEGER) cs) true k)).released p r)
-each-released pre v text list all w (more t before after rest s cs ss others h b a m) k p r =
-    ap₂ (λ (x y : Bool). x || y) ((part-same pre v t s cs w h (first_so (list_all (is_valid MAX_SAFE_INTEGER) cs) _ k)).released p r)
-    (each-released pre v rest ss others w m (second_so (list_all (is_valid MAX_SAFE_INTEGER) cs) _ k) p r)
+released-part : (v : VersionValue) (s : Span VersionValue) (cs : List Comparison) → Beside false false v s cs → is_release v ≡ false
+    → alternative_accepts v cs ≡ false
+released-part v s cs h r = rw r (false_from_ne_true (passed v cs && named_by v cs) (λ n. cc (h.named r n)))
+
+each-released : (v : VersionValue) (texts : List (List ℕ)) (list : List (Span VersionValue)) (all : List (List Comparison))
+    → IsWithin MAX_SAFE_INTEGER v → ArePlain MAX_SAFE_INTEGER false texts list all
+    → list_all (list_all (is_valid MAX_SAFE_INTEGER)) all ≡ true → is_release v ≡ false → list_any (alternative_accepts v) all ≡ false
+each-released v texts list all w none k r = refl
+each-released v texts list all w (next text rest s cs ss others h more) k r =
+    let (kc, ks) = and_parts (list_all (is_valid MAX_SAFE_INTEGER) cs) _ k in
+    rw (released-part v s cs (part-same false v text s cs w h kc) r) (each-released v rest ss others w more ks r)
 
 abbrev is_bare : List Comparison → Bool
 is_bare cs = not (list_any (counts false) cs)
@@ -237,18 +351,33 @@ none-counted (c ∷ cs) h = grind (arith, nat_tests, common_steps, none-counted 
 bare-accepts : (v : VersionValue) → is_release v ≡ true → (cs : List Comparison) → is_bare cs ≡ true → alternative_accepts v cs ≡ true
 bare-accepts v r cs h = rw (none-counted cs h, r) refl
 
+-- and so does an empty one
+empty-bare : (limit : ℕ) (pre : Bool) (texts : List (List ℕ)) (list : List (Span VersionValue)) (all : List (List Comparison))
+    → ArePlain limit pre texts list all → list_all is_empty texts ≡ true → 0 < length texts → list_any is_bare all ≡ true
+empty-bare limit pre texts list all none e some = absurd (omega (arith, some))
+empty-bare limit pre texts list all (next text rest s cs ss others h more) e some =
+    rw ((part-denotes limit pre text s cs h).1 (and_parts (is_empty text) _ e).0) refl
+
 pub plain-same : (text : List ℕ) (list : List (Span VersionValue)) (all : List (List Comparison)) (v : VersionValue)
     → IsPlainText MAX_SAFE_INTEGER text list all → is_within MAX_SAFE_INTEGER v ≡ true
     → accepts list v false ≡ Ranges.accepts false all v
-plain-same text list all v h small =
-    let same = each-same h.pre v text list all w h.divided h.valid in
-    elim (cases_Bool (list_any is_bare all)) [
-      | inr e ↦ rw e same
-      | inl e ↦ rw e (same ∙ opened e)
-    ]
+plain-same text list all v h small = rw h.list_is (elim (cases_Bool (list_all is_empty h.texts)) [
+  | inl e ↦ rw (e, empty-bare MAX_SAFE_INTEGER h.pre h.texts h.spans all h.each e (some-pieces text h.pieces h.texts h.cut h.trimmed))
+      (any-accepts v)
+  | inr e ↦ rw e (elim (cases_Bool (list_any is_bare all)) [
+    | inr e ↦ rw e same
+    | inl e ↦ rw e (same ∙ opened e)
+  ])
+])
   where
     w : IsWithin MAX_SAFE_INTEGER v
     w = within MAX_SAFE_INTEGER v small
+
+    any-accepts : (v : VersionValue) → accepts any_version v false ≡ is_release v
+    any-accepts v = grind (arith, nat_tests, common_steps)
+
+    same : accepts h.spans v false ≡ list_any (alternative_accepts v) all
+    same = each-same h.pre v h.texts h.spans all w h.each h.valid
 
     closed : (p e : Bool) → e ≡ true → (p && e) ≡ false → p ≡ false
     closed p e f g = grind arith
@@ -256,12 +385,9 @@ plain-same text list all v h small =
     opened : list_any is_bare all ≡ true → list_any (alternative_accepts v) all ≡ is_release v
     opened e = elim (cases_Bool (is_release v)) [
       | inl r ↦ any_weaker is_bare (alternative_accepts v) (bare-accepts v r) all e ∙ sym r
-      | inr r ↦ each-released h.pre v text list all w h.divided h.valid (closed h.pre (list_any is_bare all) e h.counted) r ∙ sym r
+      | inr r ↦ each-released v h.texts h.spans all w
+          (subst (λ b. ArePlain MAX_SAFE_INTEGER b h.texts h.spans all) (closed h.pre (list_any is_bare all) e h.counted) h.each) h.valid r ∙ sym r
     ]
-
-pub plain-read : (text : List ℕ) (list : List (Span VersionValue)) (all : List (List Comparison)) → IsUtf8 text
-    → IsPlainText MAX_SAFE_INTEGER text list all → Means MAX_SAFE_INTEGER text list × (0 < length list)
-plain-read text list all u h = (plain-means _ _ _ u h, list-some _ _ _ (parts-common _ _ _ _ _ h.divided))
 
 -- ---- ranges of the text
 

@@ -382,7 +382,7 @@ place-at a u h k = drop_at a u (prefix_len is_front (a ++ u)) (sym (counted a h)
     counted (b ∷ a) h = grind (arith, nat_tests, common_steps, and_parts, counted a)
 
 -- a word, and what begins with it
-record WordFront (text behind : List ℕ) : Type 0 where
+pub record WordFront (text behind : List ℕ) : Type 0 where
   front : List ℕ
   places : List ℕ
   partial : Partial
@@ -390,7 +390,7 @@ record WordFront (text behind : List ℕ) : Type 0 where
   each : list_all is_front front ≡ true
   is : IsPlaces false places partial
 
-word-front : (include : Bool) (w x text behind : List ℕ) (cs : List Comparison) → text ≡ w ++ behind → IsWord false include w x cs → WordFront text behind
+pub word-front : (include : Bool) (w x text behind : List ℕ) (cs : List Comparison) → text ≡ w ++ behind → IsWord false include w x cs → WordFront text behind
 word-front include w x text behind cs e (IsWord.word signs marks y s p h m n k) = record {
   front = signs ++ marks;
   places = y;
@@ -402,7 +402,7 @@ word-front include w x text behind cs e (IsWord.word signs marks y s p h m n k) 
 }
 
 -- the first word ends where the lower end does
-same-behind : (text before behind : List ℕ) (h : IsEnd false text before) (w : WordFront text behind) → begins is_solid before ≡ false
+pub same-behind : (text before behind : List ℕ) (h : IsEnd false text before) (w : WordFront text behind) → begins is_solid before ≡ false
     → begins is_solid behind ≡ false → behind ≡ before
 same-behind text before behind h w quiet stop =
     let first = place-at w.front (w.places ++ behind) w.each (places-begin false w.places behind w.partial w.is) in

@@ -15,7 +15,7 @@ use Rattle.nodejs_semver.proofs.Strict.{Counted.{AreWordsTo, first-none, valid-f
 use Rattle.nodejs_semver.specs.Internal.{NpmAlternatives.ranged, NpmReads.{AddsPart, AreAllFound, AreFound, valid_alternatives}}
 use Rattle.nodejs_semver.specs.{Internal.{NpmReads.valid_range, NpmWords.hyphen_or}, Npm.{Ranges.names, Table.{Partial, Sign, table}}}
 use Rattle.{nodejs_semver.specs.Npm.{Readings.{OfAccepted, ReadText}, Table.lowest}, semver_core.specs.Failures.RefusedOnlyIf}
-use Rattle.nodejs_semver.proofs.NpmCommon.{counted_front_view, is_lost, is_none}
+use Rattle.nodejs_semver.proofs.{Common.is_some, NpmCommon.{counted_front_view, is_lost, is_none}}
 use Rattle.nodejs_semver.specs.declared.npm.words.Signed.{Signed}
 use Rattle.nodejs_semver.proofs.Common.{Bor, and_parts, bind_some, drop_spaces, same_Some}
 use Rattle.nodejs_semver.specs.Npm.Ranges as Npm
@@ -282,9 +282,11 @@ module _ (loose include : Bool) (text rest : List ℕ) (all : Alternative) (is_l
             grind (arith, h.bare, h.last, k, if_last k, first)
       ]
 
-pub view-none : (o : Option (Signed × Bor (List ℕ))) → is_none o ≡ is_none (counted_front_view o)
-view-none None = refl
-view-none (Some w) = refl
+pub view-none : (o : Option (Signed × Bor (List ℕ))) (b : Bool) → is_some o ≡ not b → b ≡ is_none (counted_front_view o)
+view-none None true e = refl
+view-none None false e = cc e
+view-none (Some w) true e = cc e
+view-none (Some w) false e = refl
 
 pub found-some : (include : Bool) (o : Option (Bool × List Comparison)) (a : Alternative) → IsFound include o (Some a)
     → (c : Bool × List Comparison) × (o ≡ Some c) × IsFound include (Some c) (Some a)

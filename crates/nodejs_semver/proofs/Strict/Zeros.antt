@@ -186,7 +186,7 @@ from-plain : (include : Bool) (v : VersionValue) → caret_from include (zeros (
 from-plain include v = grind (arith, nat_tests, common_steps, as-plain)
 
 module _ (include : Bool) (text : List ℕ) where
-  rows-plain : (s : Sign) (p : Partial) → AreZeros p (zeros p) text → table include s p text ≡ plain_table include s p text
+  pub rows-plain : (s : Sign) (p : Partial) → AreZeros p (zeros p) text → table include s p text ≡ plain_table include s p text
   rows-plain s p h = grind (arith, nat_tests, common_steps, as-plain, changed-plain, from-plain)
 
   pub table-plain : (s : Sign) (p : Partial) → IsPartial false text p → table include s p text ≡ plain_table include s p text

@@ -1,19 +1,23 @@
 -- Statement: range texts that mean the same here and to node-semver's strict reading.
-use Rattle.std.specs.Prelude.{◌≡◌, ◌==◌, ◌&&◌, ◌||◌, not, ℕ, Bool, true, false, List, [], ◌∷◌, ◌++◌, Some, None}
-use Rattle.std.specs.Prelude.{codes, is_some}
-use Rattle.std.specs.List.{list_all, list_any}
-use Rattle.semver_core.specs.Cuts.{Span, meet}
+use Rattle.std.specs.Prelude.{◌≡◌, ◌⊎◌, ◌==◌, ◌<◌, ◌&&◌, ◌||◌, not, ℕ, Bool, true, false, List, [], ◌∷◌, ◌++◌, Some, None}
+use Rattle.std.specs.Prelude.{codes, if◌then◌else◌, is_some, length, map}
+use Rattle.std.specs.List.{AllZip, list_all, list_any}
+use Rattle.semver_core.specs.Cuts.{Span}
 use Rattle.semver_core.specs.Lists.{is_empty}
+use Rattle.semver_core.specs.Text.Characters.{IsBlank, IsTrim}
 use Rattle.semver_core.specs.Values.Order.{precedence, version_eq}
 use Rattle.semver_core.specs.Values.Versions.{VersionValue, is_release, release_value}
+use Rattle.semver_core.specs.declared.cuts.bound.Bound.TheVariants.{Unbounded}
 use Rattle.nodejs_semver.specs.Npm.RangeText.{IsPartial, partial_of, spelling}
 use Rattle.nodejs_semver.specs.Npm.Ranges.{is_valid}
 use Rattle.nodejs_semver.specs.Npm.Table as Npm
 use Rattle.nodejs_semver.specs.Npm.Table.{Comparison, Sign, compared, counts, hyphen_lower, hyphen_upper}
-use Rattle.nodejs_semver.specs.Text.Common.{IsGap}
+use Rattle.nodejs_semver.specs.Ranges.View.{any_version}
+use Rattle.nodejs_semver.specs.Text.Bars.{IsCutAtBars}
 use Rattle.nodejs_semver.specs.Text.PartialText.{AreComponents, Partial}
+use Rattle.nodejs_semver.specs.Text.Runs.{Run, fits, interval_of}
 use Rattle.nodejs_semver.specs.Text.Table.{table, version_of}
-use Rattle.nodejs_semver.specs.Text.WordText.{Comparator, Word, at_least, at_most, caret, compare, equal, hyphen, plain, tilde}
+use Rattle.nodejs_semver.specs.Text.WordText.{Word, above, at_least, at_most, below, caret, compare, equal, hyphen, plain, tilde}
 
 -- the partial as node-semver's table has it
 abbrev pub npm_partial : Partial → Npm.Partial
@@ -27,10 +31,12 @@ is_plain pre p = elim p.patch [
   | None ↦ (is_some p.major || not (is_some p.minor)) && (is_empty p.pre_release && is_empty p.build)
 ]
 
--- the text is this partial in both grammars
+-- the text is one `v` or none, and this partial in both grammars
 pub record IsPlainPartial (limit : ℕ) (pre : Bool) (text : List ℕ) (p : Partial) : Type 0 where
-  pub here : AreComponents limit text p
-  pub npm : IsPartial false text (npm_partial p)
+  pub rest : List ℕ
+  pub marked : (text ≡ rest) ⊎ (text ≡ codes "v" ++ rest)
+  pub here : AreComponents limit rest p
+  pub npm : IsPartial false rest (npm_partial p)
   pub plain : is_plain pre p ≡ true
 
 -- the word of a sign
@@ -44,53 +50,75 @@ abbrev pub may_have : Sign → Partial → Bool
 may_have (compared at_least) p = true
 may_have s p = is_some p.major
 
--- a word, what it is here, and its comparators to node-semver
+-- a word, what it is here, and its comparators to node-semver. Whitespace may stand behind its sign.
 pub data IsPlainWord (limit : ℕ) (pre : Bool) : List ℕ → Word → List Comparison → Type 0 where
   bare : (text : List ℕ) (p : Partial) → IsPlainPartial limit pre text p
       → IsPlainWord limit pre text (plain p) (Npm.table false (compared equal) (npm_partial p) text)
-  signed : (s : Sign) (text : List ℕ) (p : Partial) → IsPlainPartial limit pre text p → may_have s p ≡ true
-      → IsPlainWord limit pre (spelling s ++ text) (word_of s p) (Npm.table false s (npm_partial p) text)
+  signed : (s : Sign) (blank text : List ℕ) (p : Partial) → IsBlank blank → IsPlainPartial limit pre text p → may_have s p ≡ true
+      → IsPlainWord limit pre (spelling s ++ (blank ++ text)) (word_of s p) (Npm.table false s (npm_partial p) text)
+  tilde_greater : (gap blank text : List ℕ) (p : Partial) → IsBlank gap → IsBlank blank → IsPlainPartial limit pre text p → is_some p.major ≡ true
+      → IsPlainWord limit pre (codes "~" ++ (gap ++ (codes ">" ++ (blank ++ text)))) (tilde true p) (Npm.table false Npm.tilde (npm_partial p) text)
 
--- three numbers that are not 0.0.0, with what stands behind them
-abbrev pub is_firm : Partial → Bool
-is_firm p = is_some p.patch && not (version_eq (version_of p) (release_value 0 0 0))
+-- words with whitespace between them, and the comparators of all
+pub data ArePlainWords (limit : ℕ) (pre : Bool) : List ℕ → List Word → List Comparison → Type 0 where
+  one_word : (text : List ℕ) (w : Word) (cs : List Comparison) → IsPlainWord limit pre text w cs
+      → ArePlainWords limit pre text (w ∷ []) cs
+  more_words : (text blank rest : List ℕ) (w : Word) (ws : List Word) (cs ds : List Comparison) → IsPlainWord limit pre text w cs
+      → IsBlank blank → 0 < length blank → ArePlainWords limit pre rest ws ds
+      → ArePlainWords limit pre (text ++ (blank ++ rest)) (w ∷ ws) (cs ++ ds)
 
--- a comparator of q may stand beside one of p: q is no pre-release of M.0.0 or M.m.0 where p is M or M.m, and
--- none of 0.0.0 where p is 0.0.0
-abbrev pub is_apart : Partial → Partial → Bool
-is_apart p q = let v = version_of p in let w = version_of q in is_firm p
-    || not (not (is_release w) && ((v.major == w.major) && ((v.minor == w.minor) && (v.patch == w.patch))))
+-- the version that a word writes, with zeros for what it leaves out
+abbrev pub version_in : Word → VersionValue
+version_in (plain p) = version_of p
+version_in (compare c p) = version_of p
+version_in (tilde greater p) = version_of p
+version_in (caret p) = version_of p
+version_in w = release_value 0 0 0
 
--- an alternative, its interval here, and its comparators to node-semver: one word, two comparisons that meet, or
--- a hyphen range
+-- a word `<M`, which ends before M.0.0 here and before M.0.0-0 to node-semver, or one that begins with 0.0.0,
+-- which does not count to node-semver
+abbrev pub is_blunt : Word → Bool
+is_blunt (compare below p) = not (is_some p.minor)
+is_blunt (compare above p) = false
+is_blunt (compare at_most p) = false
+is_blunt w = version_eq (version_in w) (release_value 0 0 0)
+
+-- beside such a word no pre-release of the same numbers is written
+abbrev pub is_apart : Word → Word → Bool
+is_apart w other = let v = version_in w in let u = version_in other in
+    not (is_blunt w && (not (is_release u) && ((v.major == u.major) && ((v.minor == u.minor) && (v.patch == u.patch)))))
+
+-- an alternative, its interval here, and its comparators to node-semver: nothing, words whose intervals have
+-- one in common, or a hyphen range
 pub data IsPlainAlternative (limit : ℕ) (pre : Bool) : List ℕ → Span VersionValue → List Comparison → Type 0 where
-  one_word : (text : List ℕ) (word : Word) (s : Span VersionValue) (cs : List Comparison)
-      → IsPlainWord limit pre text word cs → table limit word ≡ Some s → IsPlainAlternative limit pre text s cs
-  two_words : (c d : Comparator) (x y : List ℕ) (p q : Partial) (s t both : Span VersionValue)
-      → IsPlainPartial limit pre x p → may_have (compared c) p ≡ true → table limit (compare c p) ≡ Some s
-      → IsPlainPartial limit pre y q → may_have (compared d) q ≡ true → table limit (compare d q) ≡ Some t
-      → meet precedence s t ≡ Some both → (is_apart p q && is_apart q p) ≡ true → IsPlainAlternative limit pre
-      ((spelling (compared c) ++ x) ++ (codes " " ++ (spelling (compared d) ++ y))) both
-      (Npm.table false (compared c) (npm_partial p) x ++ Npm.table false (compared d) (npm_partial q) y)
-  between : (x y : List ℕ) (p q : Partial) (s : Span VersionValue) → IsPlainPartial limit pre x p
-      → IsPlainPartial limit pre y q → is_some q.major ≡ true → table limit (hyphen p q) ≡ Some s
-      → IsPlainAlternative limit pre (x ++ (codes " - " ++ y)) s
+  nothing : IsPlainAlternative limit pre [] (record { lower = Unbounded; upper = Unbounded }) []
+  words : (text : List ℕ) (ws : List Word) (r : Run VersionValue) (cs : List Comparison) → ArePlainWords limit pre text ws cs
+      → map (table limit) ws ≡ map Some (r.first ∷ r.others) → fits precedence r ≡ true
+      → list_all (λ w. list_all (is_apart w) ws) ws ≡ true → IsPlainAlternative limit pre text (interval_of precedence r) cs
+  between : (x blank gap y : List ℕ) (p q : Partial) (s : Span VersionValue) → IsPlainPartial limit pre x p → IsBlank blank
+      → 0 < length blank → IsBlank gap → 0 < length gap → IsPlainPartial limit pre y q → is_some q.major ≡ true
+      → table limit (hyphen p q) ≡ Some s → IsPlainAlternative limit pre (x ++ (blank ++ (codes "-" ++ (gap ++ y)))) s
       (hyphen_lower at_least false (npm_partial p) x ++ hyphen_upper at_most false (npm_partial q) y)
 
--- alternatives with `||` between them, and one space or none on each side of that
-pub data ArePlain (limit : ℕ) (pre : Bool) : List ℕ → List (Span VersionValue) → List (List Comparison) → Type 0 where
-  one : (text : List ℕ) (s : Span VersionValue) (cs : List Comparison) → IsPlainAlternative limit pre text s cs
-      → ArePlain limit pre text (s ∷ []) (cs ∷ [])
-  more : (text before after rest : List ℕ) (s : Span VersionValue) (cs : List Comparison)
+-- the alternatives of a text
+pub data ArePlain (limit : ℕ) (pre : Bool) : List (List ℕ) → List (Span VersionValue) → List (List Comparison) → Type 0 where
+  none : ArePlain limit pre [] [] []
+  next : (text : List ℕ) (texts : List (List ℕ)) (s : Span VersionValue) (cs : List Comparison)
       (list : List (Span VersionValue)) (others : List (List Comparison)) → IsPlainAlternative limit pre text s cs
-      → IsGap before → IsGap after → ArePlain limit pre rest list others
-      → ArePlain limit pre (text ++ (before ++ (codes "||" ++ (after ++ rest)))) (s ∷ list) (cs ∷ others)
+      → ArePlain limit pre texts list others → ArePlain limit pre (text ∷ texts) (s ∷ list) (cs ∷ others)
 
--- such a text, where node-semver does not reject it. Either no pre-release is written, or each alternative has
--- a comparator that counts: node-semver leaves out the pre-releases beside one that has none.
+-- a text whose pieces between bars, without the whitespace around each, are such alternatives, and which
+-- node-semver does not reject. Empty alternatives alone are one interval. Either no pre-release is written, or
+-- each alternative has a comparator that counts: node-semver leaves out the pre-releases beside one that has none.
 pub record IsPlainText (limit : ℕ) (text : List ℕ) (list : List (Span VersionValue))
     (alternatives : List (List Comparison)) : Type 0 where
   pub pre : Bool
-  pub divided : ArePlain limit pre text list alternatives
+  pub pieces : List (List ℕ)
+  pub texts : List (List ℕ)
+  pub spans : List (Span VersionValue)
+  pub cut : IsCutAtBars text pieces
+  pub trimmed : AllZip IsTrim pieces texts
+  pub each : ArePlain limit pre texts spans alternatives
+  pub list_is : list ≡ (if list_all is_empty texts then any_version else spans)
   pub valid : list_all (list_all (is_valid limit)) alternatives ≡ true
   pub counted : (pre && list_any (λ cs. not (list_any (counts false) cs)) alternatives) ≡ false

@@ -18,8 +18,8 @@ use crate::{Failure, Range, SemverError, Version, npm};
 use std::alloc::Global;
 
 /// Range texts that mean the same to `Range::parse` and to node-semver's strict reading, as
-/// `npm::range` reads: words, pairs of comparisons and hyphen ranges, with `||` between them, whose
-/// versions both grammars have (`IsPlainText`).
+/// `npm::range` reads: alternatives with `||` and any whitespace between them, each empty, or any
+/// number of words, or a hyphen range, whose versions both grammars have (`IsPlainText`).
 ///
 /// - `here`, `there`: such a text means these intervals, one or more, and has these alternatives to
 ///   node-semver.
@@ -34,7 +34,7 @@ pub fn npm_reads_alike()
         → IsPlainText MAX_SAFE_INTEGER text list alternatives
         → Means MAX_SAFE_INTEGER text list × (0 < length list) }
     ensures there { (text : List ℕ) (list : List (Span VersionValue))
-        (alternatives : List (List Comparison)) → IsUtf8 text
+        (alternatives : List (List Comparison))
         → IsPlainText MAX_SAFE_INTEGER text list alternatives
         → HasAlternatives MAX_SAFE_INTEGER false text alternatives }
     ensures same { (text : List ℕ) (list : List (Span VersionValue))

@@ -12,5 +12,5 @@ returns-clause-there c = λ all k. c.satisfies-2.ensures.gate
 pub returns-clause-same : goal.returns-clause-same
 returns-clause-same c = λ list all h w.
     c.satisfies.ensures.gate ∙ here-means _ _ _ _ c.utf8.text c.in_ok-here.ensures.ok (plain-means _ _ _ c.utf8.text h)
-    ∙ plain-same _ _ _ _ h w ∙ sym (there-means _ _ _ _ c.utf8.text c.in_ok-there.ensures.ok (plain-has _ _ _ c.utf8.text h))
+    ∙ plain-same _ _ _ _ h w ∙ sym (there-means _ _ _ _ c.utf8.text c.in_ok-there.ensures.ok (plain-has _ _ _ h))
     ∙ sym c.satisfies-2.ensures.gate

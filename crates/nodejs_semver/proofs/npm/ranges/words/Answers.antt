@@ -37,6 +37,6 @@ returns c =
       | else-is_last_ignored w ↦ w.ended-is ∙ k
     ])
     (λ k. elim c.if-is_last_ignored.branch [
-      | then-is_last_ignored w ↦ w.ended-is ∙ w.is_none.ensures ∙ view-none w.word_front.result ∙ ap is_none w.word_front.ensures
+      | then-is_last_ignored w ↦ w.ended-is ∙ view-none w.word_front.result w.is_none.result w.is_none.ensures ∙ ap is_none w.word_front.ensures
       | else-is_last_ignored w ↦ cc (k, w.if-is_last_ignored.false)
     ])
