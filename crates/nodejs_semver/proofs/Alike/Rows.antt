@@ -542,8 +542,8 @@ module _ (pre : Bool) (v : VersionValue) (within : IsWithin MAX_SAFE_INTEGER v) 
   values-signed Npm.tilde p (one M) m t h = until-beside v (release (M, 0, 0)) (M + 1, 0, 0) h (far-low v M 0 0 [] [] []) (λ e. e)
   values-signed Npm.tilde p (two M n) m t h = until-beside v (release (M, n, 0)) (M, n + 1, 0) h (far-low v M n 0 [] [] []) (λ e. e)
   values-signed Npm.tilde p (three M n o x y e) m t h = until-beside v (version M n o x []) (M, n + 1, 0) h (far-low v M n o x y []) (λ e. e)
-  values-signed Npm.caret p (one zero) m t h = upper-beside v (Before (lowest (1, 0, 0))) (from false (0, 0, 0) ∷ []) (under (1, 0, 0) ∷ []) (open-tame v)
-      (under-tame v (1, 0, 0)) (open-held v) (λ r k. (under-exact v (1, 0, 0)).tested)
+  values-signed Npm.caret p (one zero) m t h = upper-beside v (Before (lowest (1, 0, 0))) (from false (0, 0, 0) ∷ [])
+      (under (1, 0, 0) ∷ []) (open-tame v) (under-tame v (1, 0, 0)) (open-held v) (λ r k. (under-exact v (1, 0, 0)).tested)
   values-signed Npm.caret p (one (suc M)) m t h = changed-beside v (release (suc M, 0, 0)) (suc M + 1, 0, 0) (plain_changed (Npm.major (suc M)))
       (rw (not_zero M) refl) h (far-low v (suc M) 0 0 [] [] []) (λ e. e)
   values-signed Npm.caret p (two zero n) m t h = until-beside v (release (0, n, 0)) (0, n + 1, 0) h (far-low v 0 n 0 [] [] []) (λ e. e)
@@ -589,18 +589,17 @@ word-row pre v text word cs w (tilde_greater g b t p x y h m) k = greater-row pr
 
 -- ---- the lower end
 
+low-table : (v : VersionValue) (n : Numbers) (cs : List Comparison) → cs ≡ from false n ∷ [] → list_all (is_valid MAX_SAFE_INTEGER) cs ≡ true
+    → Low v (release n) cs
+low-table v n cs e h = let k = subst (λ ds. list_all (is_valid MAX_SAFE_INTEGER) ds ≡ true) e h in
+    subst (Low v (release n)) (sym e) (from_low v n (first_so (is_valid MAX_SAFE_INTEGER (from false n)) _ k))
+
 low-form : (pre : Bool) (v : VersionValue) (text : List ℕ) (p : Partial) → Form pre p → IsPlainPartial MAX_SAFE_INTEGER pre text p
     → list_all (is_valid MAX_SAFE_INTEGER) (hyphen_lower at_least false (npm_partial p) text) ≡ true
     → Low v (version_of p) (hyphen_lower at_least false (npm_partial p) text)
 low-form pre v text p any t h = any_low v
-low-form pre v text p (one M) t h =
-    let e = table-values pre text (compared at_least) p t in
-    subst (Low v (release (M, 0, 0))) (sym e) (from_low v (M, 0, 0) (first_so (is_valid MAX_SAFE_INTEGER (from false (M, 0, 0))) _
-    (subst (λ cs. list_all (is_valid MAX_SAFE_INTEGER) cs ≡ true) e h)))
-low-form pre v text p (two M m) t h =
-    let e = table-values pre text (compared at_least) p t in
-    subst (Low v (release (M, m, 0))) (sym e) (from_low v (M, m, 0) (first_so (is_valid MAX_SAFE_INTEGER (from false (M, m, 0))) _
-    (subst (λ cs. list_all (is_valid MAX_SAFE_INTEGER) cs ≡ true) e h)))
+low-form pre v text p (one M) t h = low-table v (M, 0, 0) _ (table-values pre text (compared at_least) p t) h
+low-form pre v text p (two M m) t h = low-table v (M, m, 0) _ (table-values pre text (compared at_least) p t) h
 low-form pre v text p (three M m o x y e) t h = whole_low v _ text (text-spelled _ pre text M m o x y t)
 
 -- ---- both ends
@@ -617,7 +616,20 @@ pre-beside pre v w z cs ds p h l k i = record { same = alike l; named = λ r n. 
   where
     alike : Low v w cs → Alike v (record { lower = Before w; upper = After z }) (cs ++ ds)
     alike (inl e) = exact-same v _ (cs ++ ds) (exact-span v (Before w) (After z) cs ds e k)
-    alike (inr o) = grind (arith, not_named, zero-release, open_bits, from_lower, to_upper, lower-before, zero_from, open-named, passed, named_by, meets-both)
+    alike (inr o) = grind (
+      arith,
+      not_named,
+      zero-release,
+      open_bits,
+      from_lower,
+      to_upper,
+      lower-before,
+      zero_from,
+      open-named,
+      passed,
+      named_by,
+      meets-both,
+    )
 
 -- a pre-release is named where one may be written
 named-pre : (pre r same : Bool) → (pre || r) ≡ true → (not r && same) ≡ true → pre ≡ true
@@ -637,7 +649,8 @@ made-beside pre v w u t cs e f = let (same, i) = interval-is _ t e in subst (λ 
 
 hyphen-form : (pre : Bool) (v : VersionValue) (p q : Partial) (cs : List Comparison) (text : List ℕ) (s : Span VersionValue)
     → Low v (version_of p) cs → (pre || is_release (version_of p)) ≡ true → Form pre q
-    → is_some q.major ≡ true → table MAX_SAFE_INTEGER (hyphen p q) ≡ Some s → Beside pre false v s (cs ++ hyphen_upper at_most false (npm_partial q) text)
+    → is_some q.major ≡ true → table MAX_SAFE_INTEGER (hyphen p q) ≡ Some s
+    → Beside pre false v s (cs ++ hyphen_upper at_most false (npm_partial q) text)
 unfolding table
 hyphen-form pre v p q cs text s low w any m e = cc m
 hyphen-form pre v p q cs text s low w (one M) m e = made-beside pre v (version_of p) (Before (lowest (M + 1, 0, 0))) s _ e
@@ -647,12 +660,14 @@ hyphen-form pre v p q cs text s low w (two M n) m e = made-beside pre v (version
 hyphen-form pre v p q cs text s low w (three M n o [] y f) m e =
     let z = version M n o [] y in
     let exact = most-exact v z text in
-    made-beside pre v (version_of p) (After z) s _ e (λ _. low-beside v (version_of p) (After z) cs (put at_most z text ∷ []) low (nameless-tame v _ _ _ exact refl) exact (λ k z. cc k) (named-pre pre _ _ w))
+    made-beside pre v (version_of p) (After z) s _ e (λ _. low-beside v (version_of p) (After z) cs (put at_most z text ∷ []) low
+    (nameless-tame v _ _ _ exact refl) exact (λ k z. cc k) (named-pre pre _ _ w))
 hyphen-form pre v p q cs text s low w (three M n o (i ∷ x) y f) m e =
     let z = version M n o (i ∷ x) y in
     let exact : Exact v (to_upper (After z) v) (names (After z) v) (made at_most (no_build z) ∷ []) =
     counted-exact v _ _ (made at_most (no_build z)) refl (upper-after z v) refl in
-    made-beside pre v (version_of p) (After z) s _ e (pre-beside pre v (version_of p) z cs (made at_most (no_build z) ∷ []) (one_so pre f) refl low exact)
+    made-beside pre v (version_of p) (After z) s _ e
+    (pre-beside pre v (version_of p) z cs (made at_most (no_build z) ∷ []) (one_so pre f) refl low exact)
   where
     one_so : (a : Bool) → (a || false) ≡ true → a ≡ true
     one_so a h = grind arith

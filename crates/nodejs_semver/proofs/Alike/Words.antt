@@ -150,7 +150,13 @@ word-read limit pre text more w cs (bare t p h) e =
 word-read limit pre text more w cs (signed (compared c) b t p k h m) e =
     let read = behind-read limit pre t p h b more k e.stop in
     let sign = spelling (compared c) in
-    rw (append_assoc sign (b ++ t) more, append_assoc b t more, compared-of limit c sign (b ++ (t ++ more)) (p, more) (sign_is c) read, read, e.bound) refl
+    rw (
+      append_assoc sign (b ++ t) more,
+      append_assoc b t more,
+      compared-of limit c sign (b ++ (t ++ more)) (p, more) (sign_is c) read,
+      read,
+      e.bound,
+    ) refl
 word-read limit pre text more w cs (signed Npm.caret b t p k h m) e =
     rw (append_assoc b t more, behind-read limit pre t p h b more k e.stop, e.bound) refl
 word-read limit pre text more w cs (signed Npm.tilde b t p k h m) e =

@@ -28,7 +28,11 @@ part_is text rest M marked n spelled short = record {
   rest = rest;
   marked = marked;
   here = Here.one rest (Some M) (Here.number rest M n);
-  npm = (Npm.one rest (Some M) (Npm.number rest M (record { some = n.some; each = n.each; value = n.value; safe = omega arith }) spelled short), refl);
+  npm = (
+    Npm.one rest (Some M)
+        (Npm.number rest M (record { some = n.some; each = n.each; value = n.value; safe = omega arith }) spelled short),
+    refl,
+  );
   plain = refl;
 }
 
@@ -86,13 +90,16 @@ row-words = record {
     (trim_is [] (codes ">2   < 4 ~v3") (codes " ") refl refl refl refl refl refl, (trim_is [] [] [] refl refl refl refl refl refl, tt)),
   );
   each = next (codes "^1") _ _ _ _ _
-      (words _ _ (record { first = band 1 2; others = [] }) _ (one_word (codes "^1") _ _ (signed caret [] (codes "1") (part 1) none_is one_is refl)) refl refl refl)
+      (words _ _ (record { first = band 1 2; others = [] }) _
+      (one_word (codes "^1") _ _ (signed caret [] (codes "1") (part 1) none_is one_is refl)) refl refl refl)
       (next (codes ">2   < 4 ~v3") _ _ _ _ _
       (words _ _ (record { first = Spans.>= (release_value 3 0 0); others = Spans.< (release_value 4 0 0) ∷ (band 3 4 ∷ []) }) _
       (more_words (codes ">2") (codes "   ") (codes "< 4 ~v3") _ _ _ _ (signed (compared above) [] (codes "2") (part 2) none_is two_is refl)
       (spaces (codes "   ") refl refl) (lit< tt)
-      (more_words (codes "< 4") (codes " ") (codes "~v3") _ _ _ _ (signed (compared below) (codes " ") (codes "4") (part 4) (spaces (codes " ") refl refl) four_is refl)
-      (spaces (codes " ") refl refl) (lit< tt) (one_word (codes "~v3") _ _ (signed tilde [] (codes "v3") (part 3) none_is three_is refl)))) refl refl refl)
+      (more_words (codes "< 4") (codes " ") (codes "~v3") _ _ _ _
+      (signed (compared below) (codes " ") (codes "4") (part 4) (spaces (codes " ") refl refl) four_is refl)
+      (spaces (codes " ") refl refl) (lit< tt)
+      (one_word (codes "~v3") _ _ (signed tilde [] (codes "v3") (part 3) none_is three_is refl)))) refl refl refl)
       (next [] _ _ _ _ _ nothing none));
   list_is = refl;
   valid = refl;
