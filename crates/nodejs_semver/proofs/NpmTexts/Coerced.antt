@@ -1,7 +1,7 @@
 -- The tuple that `coerce` looks for: the longest at a place with what it goes on with, the leftmost and the one that ends last; and its version.
 use Rattle.nodejs_semver.proofs.Common.{Bool, Id, IfNone, IfSome, IsNumber, List, None, Option, Some, VersionValue, [], ap, append-nil}
 use Rattle.nodejs_semver.proofs.Common.{append_assoc, arith, begins, bind_some, cases_Bool, cases_lt, common_steps, drop, drop_at, ends}
-use Rattle.nodejs_semver.proofs.Common.{eqb-true, false, get_or, inl, inr, is_ascii_digit, length, length-append, length-drop}
+use Rattle.nodejs_semver.proofs.Common.{eqb-true, false, get_or, inl, inr, is_ascii_digit, length, length-append}
 use Rattle.nodejs_semver.proofs.Common.{length-take-le, list_all, nat_tests, option_map, prefix_len, refl, same_Some, subst, sym, take}
 use Rattle.nodejs_semver.proofs.Common.{take-append-drop, take_at, true, ℕ, ◌++◌, ◌+◌, ◌-◌, ◌<◌, ◌==◌, ◌∙◌, ◌∷◌, ◌≡◌, ◌≤◌, ◌⊎◌}
 use Rattle.nodejs_semver.proofs.NpmCommon.{IsLastBefore, IsLeftmost, IsRightmost, IsRun, IsStrictNumber, IsTuple, IsTupleIn, MAX_LENGTH}
@@ -10,7 +10,7 @@ use Rattle.nodejs_semver.proofs.{NpmCommon.{number_front, strict_number, tuple_l
 use Rattle.nodejs_semver.proofs.Reading.Numbers.{digits-taken, number-is, number-read, run-ends}
 use Rattle.nodejs_semver.proofs.Strict.{Malformed.last-byte, PartialLaw.digits-of, VersionLaw.{padded-same, strict-read}}
 use Rattle.nodejs_semver.specs.Internal.NpmTuples.{BeginsAfter, IsFirstPlace, IsLastPlace, IsNumberIn, absent_len, behind_first, build_len}
-use Rattle.nodejs_semver.specs.Internal.NpmTuples.{dotted_len, end_at, marked_len, number_in_reading, pre_len, qualified, run_len}
+use Rattle.nodejs_semver.specs.Internal.NpmTuples.{dotted_len, end_at, number_in_reading, pre_len, qualified, run_len}
 use Rattle.nodejs_semver.specs.Internal.NpmTuples.{tuple_len_at, version_front}
 use Rattle.nodejs_semver.specs.Npm.Coerced.{IsCoerced, IsContinuedIn, IsMarkedList, IsRelease, absent, marked, one, three, two, unmarked}
 use Rattle.semver_core.proofs.Text.Pieces.{rest_at}

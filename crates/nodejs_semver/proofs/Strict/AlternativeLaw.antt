@@ -1,13 +1,13 @@
 -- Alternatives of node-semver's range texts: the functions that read them find exactly what the statement has.
-use Rattle.nodejs_semver.proofs.Common.{AllByRecursion, Bool, Front, IsCharBoundary-after_ascii, IsUtf8, IsUtf8-drop, List, MAX_SAFE_INTEGER, None, Option, Some}
+use Rattle.nodejs_semver.proofs.Common.{AllByRecursion, Bool, IsCharBoundary-after_ascii, IsUtf8, IsUtf8-drop, List, MAX_SAFE_INTEGER, None, Option, Some}
 use Rattle.nodejs_semver.proofs.Common.{VersionValue, [], and_parts, ap, arith, bind_some, cases_Bool, common_steps, cond_some, drop, false, if◌then◌else◌, inl, inr, is_boundary, ◌++◌}
-use Rattle.nodejs_semver.proofs.Common.{is_empty, length, length-append, length-drop, list_all, map, middle_is_trim, nat_tests, prefix_len, refl}
+use Rattle.nodejs_semver.proofs.Common.{is_empty, length, length-drop, list_all, map, middle_is_trim, nat_tests, prefix_len, refl}
 use Rattle.nodejs_semver.proofs.Common.{same_Some, subst, suc, sym, take, take_rest, trim, trim_is_middle, true, ℕ, ◌&&◌, ◌+◌, ◌-◌, ◌<◌, ◌↔◌, ◌∙◌, ◌∷◌, ◌≡◌, ◌≤◌}
 use Rattle.nodejs_semver.proofs.{Dividing.{BarsDivide.{bars_divide, bars_once}, MeaningLaw.pieces-utf8}, NpmCommon.AreAlternatives}
-use Rattle.nodejs_semver.proofs.NpmCommon.{AreWords, Comparison, Counted, HasAlternativesIn, IsAlternative, IsHyphen, IsPartial, IsVersionText, Ended, alternative_of}
-use Rattle.nodejs_semver.proofs.NpmCommon.{alternatives_of, are_normal, comparators_of, counted_front, counted_word, hyphen_ends, hyphen_of, is_free_lower, is_free_upper, is_lost}
-use Rattle.nodejs_semver.proofs.NpmCommon.{is_mark, is_right, is_valid, kept, lower_of, marks_len, npm_sign, strict_version, upper_of, words_of_all, words_within, ◌>>?◌}
-use Rattle.nodejs_semver.proofs.{Reading.{Steps.option-cases, WordLaw.trim-utf8}, Strict.Hyphens.{ended_of, ends_of, hyphen-found, hyphen-read, partial-le, places-normal}}
+use Rattle.nodejs_semver.proofs.NpmCommon.{Comparison, Counted, HasAlternativesIn, IsAlternative, IsHyphen, IsPartial, IsVersionText, Ended, alternative_of}
+use Rattle.nodejs_semver.proofs.NpmCommon.{alternatives_of, are_normal, counted_front, counted_word, hyphen_ends, is_free_lower, is_free_upper}
+use Rattle.nodejs_semver.proofs.NpmCommon.{is_mark, is_right, is_valid, kept, lower_of, marks_len, npm_sign, strict_version, upper_of, words_of_all, words_within}
+use Rattle.nodejs_semver.proofs.{Reading.{Steps.option-cases, WordLaw.trim-utf8}, Strict.Hyphens.{ended_of, hyphen-found, hyphen-read, partial-le, places-normal}}
 use Rattle.nodejs_semver.proofs.Strict.{Hyphens.right-end, PartialLaw.{places-found, prefix-all}, VersionLaw.strict-read-version, Words.{words-found, words-read}}
 use Rattle.nodejs_semver.specs.Internal.{NpmParts.some_normal, NpmWords.{are_counted_marks, hyphen_or, npm_alternatives, places_front}}
 use Rattle.nodejs_semver.specs.Npm.{RangeText.{hyphen, next, words}, Table.Partial}

@@ -10,7 +10,7 @@ use Rattle.nodejs_semver.proofs.{Dividing.{BarsDivide.bars_divide, MeaningLaw.pi
 use Rattle.nodejs_semver.proofs.Everyday.{Parts.behind-bars, Texts.{compact-trim, cut-first, cut-last}, Words.{Compact, compact-spaced}}
 use Rattle.nodejs_semver.proofs.{Everyday.Words.is_part_byte, NpmCommon.{AcceptAsRanged, AreAlternatives, AreRead, Comparison, IsCommon}}
 use Rattle.nodejs_semver.proofs.NpmCommon.{IsNarrowed, IsPartial, IsPlaces, IsRangeIn, after_byte, are_normal, begins_wildcard, bounds_view}
-use Rattle.nodejs_semver.proofs.NpmCommon.{compared, counted_front, dotted_patch, dotted_place, is_valid, listed, lit<, no_sign}
+use Rattle.nodejs_semver.proofs.NpmCommon.{compared, counted_front, dotted_patch, dotted_place, is_valid, listed, no_sign}
 use Rattle.nodejs_semver.proofs.{NpmCommon.{patch_place, spelling, strict_number, within}, Reading.Bytes.{all-end, all-join}}
 use Rattle.nodejs_semver.proofs.Strict.{AlternativeLaw.partial-normal, Hyphens.partial-le, Malformed.{is_part, partial-part}}
 use Rattle.nodejs_semver.proofs.Strict.PartialLaw.{PartialAt, counted-some, strict-counted, number_placed, over_counted, partial-found, wildcard_placed}

@@ -1,13 +1,13 @@
 -- The words whose comparators are valid, as the code reads them: those of the statement, where their comparators are valid.
-use Rattle.nodejs_semver.proofs.Common.{Bool, Front, IsUtf8, List, MAX_SAFE_INTEGER, None, Option, Some, Span, VersionValue, [], and_parts, ap}
+use Rattle.nodejs_semver.proofs.Common.{Bool, Front, IsUtf8, List, MAX_SAFE_INTEGER, None, Option, Some, Span, VersionValue, [], ap}
 use Rattle.nodejs_semver.proofs.Common.{append-nil, append_assoc, arith, bind_some, cases_Bool, common_steps, cond_some, drop, drop_spaces, false, if◌then◌else◌, inl, inr, is_boundary}
-use Rattle.nodejs_semver.proofs.Common.{is_empty, length, list_all, list_all-append, nat_lt, nat_tests, not, prefix_len, refl, same_Some, subst, suc, sym, take, take-append-drop, take_rest}
-use Rattle.nodejs_semver.proofs.{Common.{true, zero, ℕ, ◌&&◌, ◌++◌, ◌-◌, ◌<◌, ◌==◌, ◌∙◌, ◌∷◌, ◌≡◌, ◌≤◌}, NpmCommon.{Alternative, Comparison, Counted, IsFound, IsNarrowed, IsPlaces}}
-use Rattle.nodejs_semver.proofs.NpmCommon.{IsStep, NarrowedBy, Signed, are_marks, are_normal, comparators_of, counted_front, counted_word, first_valid, first_word, ignored_or}
-use Rattle.nodejs_semver.proofs.NpmCommon.{is_lost, is_mark, is_none, is_short, is_short_word, is_small, is_valid, marked_word, marks_len, npm_sign, signed_word}
-use Rattle.nodejs_semver.proofs.NpmCommon.{valid_only, valid_words, words_of, words_of_all, words_within, ◌>>?◌}
+use Rattle.nodejs_semver.proofs.Common.{is_empty, length, list_all, list_all-append, nat_lt, nat_tests, prefix_len, refl, same_Some, subst, suc, sym, take, take-append-drop, take_rest}
+use Rattle.nodejs_semver.proofs.{Common.{true, zero, ℕ, ◌&&◌, ◌++◌, ◌-◌, ◌<◌, ◌∙◌, ◌∷◌, ◌≡◌, ◌≤◌}, NpmCommon.{Alternative, Comparison, Counted, IsNarrowed}}
+use Rattle.nodejs_semver.proofs.NpmCommon.{NarrowedBy, are_marks, comparators_of, counted_front, counted_word, first_valid, first_word, ignored_or}
+use Rattle.nodejs_semver.proofs.NpmCommon.{is_mark, is_none, is_short, is_short_word, is_small, is_valid, marks_len, npm_sign, signed_word}
+use Rattle.nodejs_semver.proofs.NpmCommon.{valid_only, valid_words, words_of, words_within, ◌>>?◌}
 use Rattle.nodejs_semver.proofs.Strict.{PartialLaw.{front-text, places-found, prefix-all}, Printed.table-invalid, VersionLaw.empty-is, Words.{FirstAt, first-found, marks-dropped, words-enough}}
-use Rattle.nodejs_semver.specs.{Internal.NpmWords.{are_counted_marks, counted_or, signed_or, ended_counted_word, ended_word, places_front}, Npm.Table.{Partial, Sign, table}}
+use Rattle.nodejs_semver.specs.{Internal.NpmWords.{counted_or, signed_or, ended_counted_word, ended_word, places_front}, Npm.Table.{Partial, Sign, table}}
 use Rattle.std.specs.{List.suffix_len, Option.unwrap_or, Prelude.reverse}
 use Rattle.std.proofs.lemmas.{Grind.flat_map-append, List.reverse-append}
 

@@ -1,6 +1,6 @@
 -- How far a malformed word goes: the function that looks for its end finds exactly what the statement has.
 use Rattle.nodejs_semver.proofs.Common.{nat_lt, nat_tests, space_len, ◌++◌, encode_utf8, len_utf8_bounds, length-encode, if◌then◌else◌, is_boundary, length-take-le, IsUtf8, List, [], ap, arith, drop_spaces, false, from_boundary, length, length-append, subst, suc, sym}
-use Rattle.nodejs_semver.proofs.Common.{take, true, zero, ℕ, ◌+◌, ◌-◌, ◌<◌, ◌∙◌, ◌∷◌, ◌≡◌, ◌≤◌, cases_Bool, inl, inr, refl}
+use Rattle.nodejs_semver.proofs.Common.{take, true, zero, ℕ, ◌-◌, ◌<◌, ◌∙◌, ◌∷◌, ◌≡◌, ◌≤◌, cases_Bool, inl, inr, refl}
 use Rattle.nodejs_semver.proofs.{NpmCommon.{IsIgnored, behind_ignored, takes}, Reading.WordLaw.{boundary-utf8, first-is, first-of}}
 use Rattle.nodejs_semver.proofs.{Reading.WordLaw.{skips-is, skips-of, skips-utf8}, Strict.PartialLaw.front-text}
 use Rattle.nodejs_semver.proofs.{Reading.PartialLaw.{spaces-gone, spaces-le}, Strict.Signs.{blank-at, blank-nil}}

@@ -8,12 +8,12 @@ use Rattle.nodejs_semver.proofs.Common.{nat_tests, not, not-true, option_to_list
 use Rattle.nodejs_semver.proofs.{Common.{◌+◌, ◌<◌, ◌||◌, ◌∙◌, ◌∷◌, ◌≡◌, ◌≤◌}, Dividing.BarsDivide.bars_once, NpmCommon.AcceptAsRanged}
 use Rattle.nodejs_semver.proofs.NpmCommon.{Alternative, AreNarrowed, AreRead, AreReadOf, Comparison, Counted, CountedEnd, Ended, HasAlternativesIn, IsFound, IsNarrowed, IsRangeIn}
 use Rattle.nodejs_semver.proofs.NpmCommon.{IsStep, NarrowedBy, NoValue, alternative_of, alternatives_of, behind_ignored, comparators_of, counted, counted_hyphen, counted_word, counts}
-use Rattle.nodejs_semver.proofs.NpmCommon.{first_valid, hyphen_ends, hyphen_of, hyphen_valid, is_unbounded, lower_counted, upper_counted, valid_one, words_of_all, words_within}
-use Rattle.nodejs_semver.proofs.NpmCommon.{is_valid, kept, meets, nothing, satisfies, valid_alternative, valid_only, words_of, ◌>>?◌, Bounds}
+use Rattle.nodejs_semver.proofs.NpmCommon.{first_valid, hyphen_ends, hyphen_valid, is_unbounded, lower_counted, upper_counted, valid_one, words_of_all, words_within}
+use Rattle.nodejs_semver.proofs.NpmCommon.{is_valid, kept, meets, nothing, satisfies, valid_alternative, words_of, ◌>>?◌, Bounds}
 use Rattle.nodejs_semver.proofs.{Reading.Steps.option-cases, Strict.AlternativeLaw.alternatives_are}
 use Rattle.nodejs_semver.proofs.Strict.{Counted.{AreWordsTo, first-none, valid-found, valid_all, words-end, words-next, words-none, words-valid}, Hyphens.{counted_of, hyphen-counted, hyphen-valid}}
 use Rattle.nodejs_semver.specs.Internal.{NpmAlternatives.ranged, NpmReads.{AddsPart, AreAllFound, AreFound, valid_alternatives}}
-use Rattle.nodejs_semver.specs.{Internal.{NpmReads.valid_range, NpmWords.hyphen_or}, Npm.{Ranges.names, Table.{Partial, Sign, table}}}
+use Rattle.nodejs_semver.specs.{Internal.{NpmReads.valid_range, NpmWords.hyphen_or}, Npm.{Ranges.names, Table.{Partial, table}}}
 use Rattle.{nodejs_semver.specs.Npm.{Readings.{OfAccepted, ReadText}, Table.lowest}, semver_core.specs.Failures.RefusedOnlyIf}
 use Rattle.nodejs_semver.proofs.{Common.is_some, NpmCommon.{counted_front_view, is_lost, is_none}}
 use Rattle.nodejs_semver.specs.declared.npm.words.Signed.{Signed}
@@ -262,8 +262,8 @@ module _ (loose include : Bool) (text rest : List ℕ) (all : Alternative) (is_l
       let w = step-found include all (first_valid loose MAX_SAFE_INTEGER include rest) s k in
       let f = valid-found loose include rest w.0 h.utf8 some w.1 in (
         subst (λ (b : Bool). AreWordsTo loose include text s.0.interval s.0.is_bare b s.2.now) (sym w.2.2)
-        (subst (λ (t : List ℕ). AreWordsTo loose include text s.0.interval s.0.is_bare (is_none w.0.0) t) (sym w.2.3)
-        (words-next loose include text rest all.interval all.is_bare is_last h w.0 s.0 some w.1 w.2.0 w.2.1)),
+            (subst (λ (t : List ℕ). AreWordsTo loose include text s.0.interval s.0.is_bare (is_none w.0.0) t) (sym w.2.3)
+            (words-next loose include text rest all.interval all.is_bare is_last h w.0 s.0 some w.1 w.2.0 w.2.1)),
         rw w.2.3 f.shorter,
       )
 
@@ -315,11 +315,14 @@ part-lost include None a was before h l = h
 pub part-added : (include : Bool) (o : Option (Bool × List Comparison)) (a : Alternative) (was : Bool) (before after : List (Span VersionValue))
     → IsFound include o (Some a) → a.is_lost ≡ false → after ≡ before ++ option_to_list a.interval → AddsPart include o was true before after
 part-added include (Some (true, cs)) a was before after h l e = cc (h.1, l)
-part-added include (Some (false, cs)) a was before after h l e = (refl, λ ls k. record {
-  intervals = k.intervals ++ a.interval ∷ [];
-  narrowed = narrowed-append include ls k.intervals cs a.interval k.narrowed h.0;
-  are = e ∙ ap (λ (l : List (Span VersionValue)). l ++ option_to_list a.interval) k.are ∙ sym (flat-append k.intervals a.interval);
-})
+part-added include (Some (false, cs)) a was before after h l e = (
+  refl,
+  λ ls k. record {
+    intervals = k.intervals ++ a.interval ∷ [];
+    narrowed = narrowed-append include ls k.intervals cs a.interval k.narrowed h.0;
+    are = e ∙ ap (λ (l : List (Span VersionValue)). l ++ option_to_list a.interval) k.are ∙ sym (flat-append k.intervals a.interval);
+  },
+)
 part-added include None a was before after h l e = h
 
 -- ---- the alternatives, up to a rest of the text

@@ -15,7 +15,7 @@ use Rattle.nodejs_semver.proofs.{NpmCommon.{npm_partial_view, satisfies, under, 
 use Rattle.nodejs_semver.proofs.{Strict.Printed.{prints_zero, under_valid}, Values.{past-after, past-before}}
 use Rattle.nodejs_semver.specs.Internal.{NpmAlternatives.met, NpmMeaning.{is_open, is_part}, NpmParts.{AreZeros, has_no_comparators, is_padded}}
 use Rattle.nodejs_semver.specs.{Internal.NpmParts.{is_wildcard, noted}, Npm.{Ranges.names, Table.{Partial, Sign, caret, lowest, next, no_build}}}
-use Rattle.nodejs_semver.specs.Npm.Table.{major, minor, table, tilde, written_zeros}
+use Rattle.nodejs_semver.specs.Npm.Table.{table, tilde, written_zeros}
 use Rattle.nodejs_semver.proofs.{Common.{cases_Bool, inl, inr, nat_lt, subst, ℕ}, NpmCommon.bytes_eq-Decides}
 use Rattle.semver_core.{proofs.CutLaws.{is_past-greater_lower, is_past-lesser_upper}, specs.Values.Versions.IsVersion}
 use Rattle.nodejs_semver.specs.Text.Table as Spans

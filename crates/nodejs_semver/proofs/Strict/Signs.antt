@@ -8,7 +8,7 @@ use Rattle.nodejs_semver.proofs.NpmCommon.{begins_byte, caret_equal, compared, i
 use Rattle.nodejs_semver.proofs.NpmCommon.{npm_sign, or_late, sign, skip_equal, skip_greater, skip_tilde, space_len-white, spelling}
 use Rattle.nodejs_semver.proofs.{NpmCommon.tilde_twice, Reading.{Bytes.{begins_component, is_solid, solid-dark}, PartialLaw.byte-begins}}
 use Rattle.nodejs_semver.{proofs.Reading.WordLaw.{skips-is, skips-utf8, tail-utf8}, specs.Internal.NpmWords.skip_twice}
-use Rattle.nodejs_semver.specs.Npm.{RangeText.tilde_sign, Table.{Partial, Sign, caret, major, minor, table, tilde, whole, wildcard}}
+use Rattle.nodejs_semver.specs.Npm.{RangeText.tilde_sign, Table.{Partial, Sign, caret, table, tilde}}
 use Rattle.nodejs_semver.specs.Npm.Table.{written_zeros}
 use Rattle.nodejs_semver.proofs.{Common.{all_weaker, is_ascii_digit, not, sym}, Strict.Zeros.zeros-marked}
 

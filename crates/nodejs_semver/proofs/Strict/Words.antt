@@ -1,19 +1,19 @@
 -- The words of node-semver's range texts: the functions that read them find exactly what the statement has, one word after another.
-use Rattle.nodejs_semver.proofs.Common.{Bool, Front, IsBlank, IsUtf8, List, MAX_SAFE_INTEGER, None, Option, Some, Span, VersionValue, []}
-use Rattle.nodejs_semver.proofs.Common.{and_parts, ap, append-nil, append_assoc, arith, begins, bind_some, cases_Bool, common_steps, ◌||◌}
-use Rattle.nodejs_semver.proofs.Common.{cond_some, drop, drop_at, drop_spaces, eqb-true, equal, false, if◌then◌else◌, inl, inr}
-use Rattle.nodejs_semver.proofs.Common.{is_boundary, is_empty, length, length-append, list_all, list_all-append, lt-ltb, nat_lt, nat_tests, not, prefix_len, refl}
+use Rattle.nodejs_semver.proofs.Common.{Bool, Front, IsBlank, IsUtf8, List, None, Option, Some, []}
+use Rattle.nodejs_semver.proofs.Common.{and_parts, ap, append-nil, append_assoc, arith, bind_some, cases_Bool, common_steps, ◌||◌}
+use Rattle.nodejs_semver.proofs.Common.{cond_some, drop, drop_at, drop_spaces, eqb-true, false, inl, inr}
+use Rattle.nodejs_semver.proofs.Common.{is_boundary, is_empty, length, length-append, list_all, lt-ltb, nat_tests, refl}
 use Rattle.nodejs_semver.proofs.Common.{same_Some, space_len, subst, suc, sym, take, take-append-drop, take_at, true, zero, ℕ, ◌&&◌, ◌++◌}
-use Rattle.nodejs_semver.proofs.{Common.{◌+◌, ◌-◌, ◌<◌, ◌==◌, ◌∙◌, ◌∷◌, ◌≡◌, ◌≤◌}, NpmCommon.{Alternative, AreWords, BeginsAs, BeginsWord, Comparison, IsFound, IsIgnored}}
-use Rattle.nodejs_semver.proofs.NpmCommon.{IsNarrowed, IsPartial, IsPlace, IsPlaces, IsWord, NarrowedBy, NoValue, Signed, are_marks, begins_byte, behind_ignored}
-use Rattle.nodejs_semver.proofs.NpmCommon.{comparators_of, compared, counted_front, counted_word, first_valid, first_word, ignored_or, is_lost, is_mark, is_none, is_short, is_short_word, is_small, is_valid}
-use Rattle.nodejs_semver.proofs.NpmCommon.{marked_word, marks_len, npm_sign, signed_word, valid_only, valid_words, word, words_of, words_within, ◌>>?◌}
+use Rattle.nodejs_semver.proofs.{Common.{◌-◌, ◌<◌, ◌==◌, ◌∙◌, ◌∷◌, ◌≡◌, ◌≤◌}, NpmCommon.{AreWords, BeginsAs, BeginsWord, Comparison}}
+use Rattle.nodejs_semver.proofs.NpmCommon.{IsPartial, IsPlace, IsPlaces, IsWord, NoValue, Signed, are_marks, begins_byte, behind_ignored}
+use Rattle.nodejs_semver.proofs.NpmCommon.{first_word, is_lost, is_mark, is_short_word}
+use Rattle.nodejs_semver.proofs.NpmCommon.{marked_word, marks_len, npm_sign, signed_word, word, words_within, ◌>>?◌}
 use Rattle.nodejs_semver.proofs.{Reading.Bytes.{begins-on, begins-some, begins_component, is_component_byte}, Reading.Steps.option-cases}
-use Rattle.nodejs_semver.proofs.Reading.{PartialLaw.{spaces-gone, spaces-le}, WordLaw.{boundary-of, boundary-utf8, skips-is, skips-of, skips-utf8, suffix-boundary}}
-use Rattle.nodejs_semver.proofs.Strict.{Ignored.{IgnoredAt, ignored-found, ignored-read}, PartialLaw.{boundary-quiet, digits-begin, front-text, places-found, places-read}}
-use Rattle.nodejs_semver.proofs.Strict.{Printed.table-invalid, Signs.{blank-at, blank-cases, is_open, marks-all, open-first, sign-found, sign-taken}, VersionLaw.empty-is}
+use Rattle.nodejs_semver.proofs.Reading.{PartialLaw.{spaces-le}, WordLaw.{boundary-of, boundary-utf8, skips-is, skips-of, skips-utf8, suffix-boundary}}
+use Rattle.nodejs_semver.proofs.Strict.{Ignored.{ignored-found, ignored-read}, PartialLaw.{boundary-quiet, digits-begin, front-text, places-found, places-read}}
+use Rattle.nodejs_semver.proofs.Strict.{Signs.{blank-cases, is_open, marks-all, open-first, sign-found, sign-taken}}
 use Rattle.nodejs_semver.specs.{Internal.NpmWords.{ended_word, places_front, signed_or}, Npm.{RangeText.{formed, ignored, more}, Table.{Partial, Sign, table}}}
-use Rattle.nodejs_semver.specs.Text.WordText.{IsBoundary, SkipsBlank}
+use Rattle.nodejs_semver.specs.Text.WordText.{SkipsBlank}
 
 -- ---- how partials and marks begin
 
@@ -194,8 +194,8 @@ first-found loose include text cs rest u some h = go (signed_word loose text) re
         let i = ignored-found (length text) text u (omega arith) in
         let s = skipped end i.utf8 in
         let absent : (behind : List ℕ) → NoValue (BeginsWord loose include text behind) = λ behind ds w.
-            let r = word-read loose include w.word w.partial behind ds w.is (boundary-of behind w.ended) in
-            cc (e, ap (λ (t : List ℕ). signed_word loose t) w.divided ∙ r.read) in
+        let r = word-read loose include w.word w.partial behind ds w.is (boundary-of behind w.ended) in
+        cc (e, ap (λ (t : List ℕ). signed_word loose t) w.divided ∙ r.read) in
         subst (λ (r : Option (List Comparison) × List ℕ). FirstAt loose include text r.0 r.1) t.1
         (record { is = ignored end t.0 (grind (arith, nat_tests)) absent i.is s.0; utf8 = s.1; shorter = i.less some })
     go (Some w) e k =

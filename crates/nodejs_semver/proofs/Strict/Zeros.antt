@@ -1,13 +1,13 @@
 -- How many numbers of a partial are written `0`: strictly as many as are 0, so that node-semver's table goes by the values of the numbers.
-use Rattle.nodejs_semver.proofs.Common.{Bool, Id, List, None, Option, Some, VersionValue, [], and_parts, ap₂, append-nil, arith, begins}
+use Rattle.nodejs_semver.proofs.Common.{Bool, Id, List, None, Option, Some, VersionValue, [], and_parts, append-nil, arith, begins}
 use Rattle.nodejs_semver.proofs.Common.{cases_Bool, codes, common_steps, drop, false, if◌then◌else◌, inl, inr, is_ascii_digit}
 use Rattle.nodejs_semver.proofs.Common.{is_release, length, list_all, nat_lt, nat_tests, not, prefix_len, refl, subst, suc, sym, take_at, true}
 use Rattle.nodejs_semver.proofs.{Common.{ℕ, ◌&&◌, ◌++◌, ◌+◌, ◌<◌, ◌==◌, ◌∙◌, ◌∷◌, ◌≡◌}, NpmCommon.{Comparison, IsPartial, IsPlace}}
 use Rattle.nodejs_semver.proofs.Common.{IsNumber, ap, take, take_rest, ◌-◌}
 use Rattle.nodejs_semver.proofs.NpmCommon.{IsPlaces, IsStrictBuild, Numbers, at_least, bytes_eq, bytes_eq-Decides, caret_from, compared}
-use Rattle.nodejs_semver.proofs.NpmCommon.{digits_grow, first, from, has_leading_zero, made, major, minor, next_changed}
+use Rattle.nodejs_semver.proofs.NpmCommon.{digits_grow, first, from, has_leading_zero, made, major, next_changed}
 use Rattle.nodejs_semver.proofs.{NpmCommon.{partial_of, take_while, under, whole, wildcard}, Reading.Numbers.digits-taken}
-use Rattle.nodejs_semver.specs.{Internal.NpmParts.{AreZeros, is_padded, is_wildcard}, Npm.Grammar.IsPreRelease, Text.WordText.{above, at_most, below, equal}}
+use Rattle.nodejs_semver.specs.{Internal.NpmParts.{AreZeros, is_padded, is_wildcard}, Npm.Grammar.IsPreRelease, Text.WordText.{equal}}
 use Rattle.nodejs_semver.specs.Npm.Table.{Partial, Sign, as_written, caret, next, no_build, table, tilde, written_zeros, zeros}
 use Rattle.nodejs_semver.specs.Npm.RangeText as Text
 

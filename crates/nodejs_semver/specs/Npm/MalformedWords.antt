@@ -1,5 +1,5 @@
 -- Statement: which word of an alternative node-semver's strict reading rejects first, and where it stands.
-use Rattle.std.specs.Prelude.{◌≡◌, ◌+◌, ℕ, Bool, true, false, List, ◌++◌, length}
+use Rattle.std.specs.Prelude.{◌≡◌, ◌+◌, ℕ, Bool, true, false, List, length}
 use Rattle.std.specs.List.{list_all}
 use Rattle.semver_core.specs.Failures.{NoValue}
 use Rattle.nodejs_semver.specs.Npm.RangeText.{BeginsWord}

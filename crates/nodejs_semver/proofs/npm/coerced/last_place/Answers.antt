@@ -1,4 +1,4 @@
-use Rattle.nodejs_semver.proofs.{Common.{arith, false, true}, NpmTexts.Coerced.{last_begin, last_kept, last_taken}}
+use Rattle.nodejs_semver.proofs.{Common.{false, true}, NpmTexts.Coerced.{last_begin, last_kept, last_taken}}
 use Rattle.nodejs_semver.proofs.npm.coerced.last_place.Goals.{else-there-end, then-there-end}
 use Rattle.nodejs_semver.proofs.npm.coerced.last_place.Goals as goal
 

@@ -1,5 +1,4 @@
-use Rattle.nodejs_semver.proofs.{Common.{ap, take_rest, ◌+◌, ℕ, ◌∙◌}, NpmTexts.Lists.stretch_new}
-use Rattle.nodejs_semver.specs.Internal.NpmTuples.{list_len_in}
+use Rattle.nodejs_semver.proofs.{Common.{ap, take_rest, ◌+◌, ℕ}, NpmTexts.Lists.stretch_new}
 use Rattle.nodejs_semver.proofs.npm.coerced.Stretch.list_end.Goals.{else-at-self+else-self-at, then-at-self}
 use Rattle.nodejs_semver.proofs.npm.coerced.Stretch.list_end.Goals as goal
 
