@@ -30,7 +30,7 @@ use Rattle.npm_semver.specs.Laws as Each
 use Rattle.npm_semver.specs.Listing.{AllSay, AreListed, Entry, IsListing, Says, order}
 use Rattle.npm_semver.specs.Listing as Listing
 use Rattle.npm_semver.specs.Readings.{IsVersionIn, SomeText, found, here, later, not_found, strict}
-use Rattle.npm_semver.specs.Responses.{IsRefused, Responds, Written, bare, json, coerced, in_order, increment, line, no_version, picked, refused, shown, text_of, unknown, unread, unshown, versions}
+use Rattle.npm_semver.specs.Responses.{IsRefused, Responds, Written, bare, json, in_order, increment, line, no_version, picked, refused, shown, text_of, unknown, unread, unshown, versions}
 use Rattle.npm_semver.specs.declared.question.Pick.{Pick}
 use Rattle.npm_semver.specs.declared.question.Pick.TheVariants as Picks
 use Rattle.npm_semver.specs.declared.reading.Reading.{Reading}
@@ -261,7 +261,6 @@ again_of reread q es can level plainly as_lines bare_asked u listing =
     ap lines (lines_asked q es as_lines bare_asked)
     ∙ all_lines (map (shown false) printed) (kept_plain reread q.reading q.ranges plainly printed of_printed) in
     let allowed : IsRefused (record q { versions = map (shown false) printed }) → ⊥ = λ is. elim is [
-      | coerced e ↦ can (coerced e)
       | unknown e ↦ can (unknown e)
       | unread some ↦ can (unread some)
       | no_version lacks ↦ none_lacks reread q.reading q.ranges plainly printed of_printed lacks.1

@@ -7,7 +7,7 @@ use Rattle.npm_semver.specs.Arguments.{Asked}
 use Rattle.npm_semver.specs.Listing.{AreListed, Entry, IsListing}
 use Rattle.npm_semver.specs.Listing as Listing
 use Rattle.npm_semver.specs.Readings.{SomeText, here, later}
-use Rattle.npm_semver.specs.Responses.{IsRefused, Responds, Written, coerced, increment, increment_written, no_version, refused, unknown, unread, unshown, versions}
+use Rattle.npm_semver.specs.Responses.{IsRefused, Responds, Written, increment, increment_written, no_version, refused, unknown, unread, unshown, versions}
 use Rattle.npm_semver.specs.declared.reading.Reading.{Reading}
 
 moved : (f u w k : List Entry) → IsPermutation (f ++ (u ++ (w ++ k))) (f ++ (w ++ (u ++ k)))
@@ -91,7 +91,6 @@ module _ (Is : List ℕ → Type 0) where
 
 refused_exchanged : (q : Asked) (front a b back : List (List ℕ)) → IsRefused (record q { versions = front ++ (a ++ (b ++ back)) })
     → IsRefused (record q { versions = front ++ (b ++ (a ++ back)) })
-refused_exchanged q front a b back (coerced e) = coerced e
 refused_exchanged q front a b back (unknown e) = unknown e
 refused_exchanged q front a b back (unread some) = unread some
 refused_exchanged q front a b back (no_version some) = no_version (some.0, some_exchanged _ front a b back some.1)

@@ -13,7 +13,7 @@ use Rattle.npm_semver.specs.Internal.Asked.{texts}
 use Rattle.npm_semver.specs.Readings.{HasRange, IsVersionIn, SomeText, here, later}
 use Rattle.npm_semver.specs.Listing.{AreListed, Entry}
 use Rattle.npm_semver.specs.Listing as Listing
-use Rattle.npm_semver.specs.Responses.{HasUnread, HasNoVersion, HasUnshown, IsRefused, coerced, is_plain, no_version, unknown, unread, unshown}
+use Rattle.npm_semver.specs.Responses.{HasUnread, HasNoVersion, HasUnshown, IsRefused, is_plain, no_version, unknown, unread, unshown}
 use Rattle.npm_semver.specs.declared.reading.Reading.{Reading}
 
 pub some_unread : (r : Reading) (texts : List (List ℕ)) (ranges : List (Option (List (Span VersionValue)))) → AreRead r texts ranges
@@ -29,13 +29,12 @@ all_read r texts ranges (more text rest None others is are) e some = absurd (gri
 all_read r texts ranges (more text rest (Some x) others is are) e (here t ts lacks) = lacks is.alternatives is.has
 all_read r texts ranges (more text rest (Some x) others is are) e (later t ts some) = all_read r rest others are e some
 
-pub not_refused : (q : Asked) → (q.reading.is_coerced && q.reading.include_prerelease) ≡ false → (q.is_strict && q.has_unknown) ≡ false
+pub not_refused : (q : Asked) → (q.is_strict && q.has_unknown) ≡ false
     → (HasUnread q → ⊥) → (HasNoVersion q → ⊥) → (HasUnshown q → ⊥) → IsRefused q → ⊥
-not_refused q plain known all versions shown (coerced e) = absurd (grind (arith, plain, e))
-not_refused q plain known all versions shown (unknown e) = absurd (grind (arith, known, e))
-not_refused q plain known all versions shown (unread some) = all some
-not_refused q plain known all versions shown (no_version some) = versions some
-not_refused q plain known all versions shown (unshown some) = shown some
+not_refused q known all versions shown (unknown e) = absurd (grind (arith, known, e))
+not_refused q known all versions shown (unread some) = all some
+not_refused q known all versions shown (no_version some) = versions some
+not_refused q known all versions shown (unshown some) = shown some
 
 -- no more versions are listed than there are texts, and as many only if each is a version
 at_most : (r : Reading) (texts : List (List ℕ)) (es : List Entry) → AreListed r [] texts es → length es ≤ length texts

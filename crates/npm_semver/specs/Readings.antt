@@ -15,8 +15,8 @@ use Rattle.npm_semver.specs.declared.reading.Reading.{Reading}
 abbrev pub strictly : Reading
 strictly = record { include_prerelease = false; is_loose = false; is_coerced = false; from_right = false }
 
--- the numbers that are coerced: of the leftmost, or of those that end last
-abbrev pub IsChosen : Bool → List ℕ → List ℕ → List ℕ → List ℕ → Type 0
+-- the numbers that are coerced: the leftmost, or those that end last
+abbrev pub IsChosen : Bool → Bool → List ℕ → List ℕ → List ℕ → List ℕ → Type 0
 IsChosen false = IsLeftmost
 IsChosen true = IsRightmost
 
@@ -25,8 +25,9 @@ abbrev pub IsNumeral : Bool → List ℕ → ℕ → Type 0
 IsNumeral false = IsStrictNumber MAX_SAFE_INTEGER
 IsNumeral true = IsNumber MAX_SAFE_INTEGER
 
+-- what is found is kept with its pre-release only where pre-releases are included
 abbrev pub IsFoundIn : Reading → List ℕ → VersionValue → Type 0
-IsFoundIn r = IsCoerced (IsChosen r.from_right) (IsNumeral r.is_loose)
+IsFoundIn r = IsCoerced r.include_prerelease (IsChosen r.from_right) (IsNumeral r.is_loose)
 
 -- the text is the version: strictly, also where the reading is loose; where it is coerced, what is found in
 -- it, and only if nothing is found what it is strictly

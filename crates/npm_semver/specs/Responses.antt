@@ -95,9 +95,8 @@ abbrev pub HasUnshown : Asked → Type 0
 HasUnshown q = ((q.reading.is_coerced && q.as_written) ≡ true)
     × SomeText (λ text. list_all is_plain text ≡ false) q.versions
 
--- why nothing is answered. With `-c` and `-p` npm's program keeps pre-releases.
+-- why nothing is answered
 pub data IsRefused (q : Asked) : Type 0 where
-  coerced : (q.reading.is_coerced && q.reading.include_prerelease) ≡ true → IsRefused q
   unknown : (q.is_strict && q.has_unknown) ≡ true → IsRefused q
   unread : HasUnread q → IsRefused q
   no_version : HasNoVersion q → IsRefused q

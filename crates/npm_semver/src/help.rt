@@ -35,7 +35,7 @@ beyond npm's program:
 
 Prints each version without its build metadata, in ascending order. Texts that are no versions are
 left out. Exits with 1 if no version is printed, and says why if the question cannot be answered:
-with -l, where a range has a word that is not read, with -c and -p together, and with -c and
---as-written, where a text has a control character, a quote or a backslash. The subcommands exit
-with 0 for yes, 1 for no and 2 for a malformed question.
+with -l, where a range has a word that is not read, and with -c and --as-written, where a text has a
+control character, a quote or a backslash. The subcommands exit with 0 for yes, 1 for no and 2 for a
+malformed question.
 ";

@@ -12,7 +12,8 @@ use std::alloc::{AllocError, Global};
 /// How texts are read.
 #[derive(Clone, Copy)]
 pub struct Reading {
-    /// Whether ranges accept every pre-release within their bounds.
+    /// Whether ranges accept every pre-release within their bounds, and texts that are coerced keep
+    /// theirs.
     pub include_prerelease: bool,
     /// Whether range texts, and the numbers of texts that are coerced, are read loosely.
     pub is_loose: bool,
@@ -54,11 +55,15 @@ impl Reading {
         ensures some { IfSome result (IsFoundIn self text.now) }
         ensures none { IfNone result (NoValue (IsFoundIn self text.now)) }
     {
-        match (self.from_right, self.is_loose) {
-            (false, false) => npm::coerce(text),
-            (false, true) => npm::coerce_loose(text),
-            (true, false) => npm::coerce_rtl(text),
-            (true, true) => npm::coerce_rtl_loose(text),
+        match (self.include_prerelease, self.from_right, self.is_loose) {
+            (false, false, false) => npm::coerce(text),
+            (false, false, true) => npm::coerce_loose(text),
+            (false, true, false) => npm::coerce_rtl(text),
+            (false, true, true) => npm::coerce_rtl_loose(text),
+            (true, false, false) => npm::coerce_with_prerelease(text),
+            (true, false, true) => npm::coerce_with_prerelease_loose(text),
+            (true, true, false) => npm::coerce_rtl_with_prerelease(text),
+            (true, true, true) => npm::coerce_rtl_with_prerelease_loose(text),
         }
     }
 

@@ -18,8 +18,6 @@ use thiserror::Error;
 pub enum Refusal {
     #[error("-i takes one version and no range")]
     NotOneVersion,
-    #[error("-c with -p is not supported")]
-    CoercedWithPrereleases,
     #[error("a word that begins with - is no option")]
     UnknownOption,
     #[error("a range is malformed, or has a word that is not read with -l")]
@@ -39,9 +37,6 @@ pub fn refusal_of(alloc: Global, question: &Question<'_>) -> Result<Option<Refus
     ensures none { IfOk result (λ refusal. IfNone refusal
         (IsRefused (asked_of question.now) → ⊥)) }
 {
-    if keeps_pre_releases(question) {
-        return Ok(Some(Refusal::CoercedWithPrereleases));
-    }
     if has_unknown(question) {
         return Ok(Some(Refusal::UnknownOption));
     }
@@ -55,14 +50,6 @@ pub fn refusal_of(alloc: Global, question: &Question<'_>) -> Result<Option<Refus
         return Ok(Some(Refusal::UnshownText));
     }
     Ok(None)
-}
-
-// Whether texts are coerced with their pre-releases.
-fn keeps_pre_releases(question: &Question<'_>) -> bool
-    ensures { result ≡
-        question.now.reading.is_coerced && question.now.reading.include_prerelease }
-{
-    question.reading.is_coerced && question.reading.include_prerelease
 }
 
 // Whether a word has to be an option, and is none.

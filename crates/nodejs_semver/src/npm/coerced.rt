@@ -419,8 +419,8 @@ pub fn coerce_rtl_loose(text: &str) -> Option<VersionRef<'_>>
 /// if the version's text, with `.0` for each missing number, has more than `MAX_LENGTH` characters.
 ///
 /// ```rust
-/// assert!(rt; npm::coerce_with_prerelease("v1.2-rc.3 (beta)")
-///     == VersionRef::parse("1.2.0-rc.3").ok());
+/// let found = npm::coerce_with_prerelease("v1.2-rc.3 (beta)");
+/// assert!(rt; found == VersionRef::parse("1.2.0-rc.3").ok());
 /// ```
 pub fn coerce_with_prerelease(text: &str) -> Option<VersionRef<'_>>
     // What is found is the version of the leftmost tuple of numbers and of what it goes on with.

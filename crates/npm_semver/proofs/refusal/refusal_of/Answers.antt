@@ -9,7 +9,6 @@ returns-then-branch-clause-some c = unread (c.in_ok-has_unread.ensures.some c.if
 
 pub returns-clause-none : goal.returns-clause-none
 returns-clause-none c =
-    not_refused (asked_of c.args.question.now) (sym c.keeps_pre_releases.ensures ∙ c.if-keeps_pre_releases.false)
-    (sym c.has_unknown.ensures ∙ c.if-has_unknown.false)
+    not_refused (asked_of c.args.question.now) (sym c.has_unknown.ensures ∙ c.if-has_unknown.false)
     (c.in_ok-has_unread.ensures.none c.if-branch.false) (c.in_ok-has_no_version.ensures.none c.if-branch-2.false)
     (c.has_unshown.ensures.none c.if-has_unshown.false)
