@@ -447,8 +447,8 @@ pub fn coerce_with_prerelease_loose(text: &str) -> Option<VersionRef<'_>>
 /// the build behind them, those that end last, and the longest of these. `1.2.3.4-rc` is 2.3.4-rc.
 ///
 /// ```rust
-/// assert!(rt; npm::coerce_rtl_with_prerelease("app-2 1.4.0-b.1")
-///     == VersionRef::parse("1.4.0-b.1").ok());
+/// let found = npm::coerce_rtl_with_prerelease("app-2 1.4.0-b.1");
+/// assert!(rt; found == VersionRef::parse("1.4.0-b.1").ok());
 /// ```
 pub fn coerce_rtl_with_prerelease(text: &str) -> Option<VersionRef<'_>>
     // What is found is the version of the tuple of numbers that ends last with what it goes on
