@@ -434,8 +434,8 @@ pub(crate) fn row<'a>(
     row_of_zeros(include, written_zeros(text), sign, partial, text)
 }
 
-/// The bounds of the lower end of a hyphen range, as `row` gives those of a word. A whole version is
-/// compared by the comparator.
+/// The bounds of the lower end of a hyphen range, as `row` gives those of a word. A whole version
+/// is compared by the comparator.
 pub(crate) fn lower_end<'a>(
     include: bool,
     comparator: Comparator,
@@ -484,8 +484,8 @@ fn whole_lower<'a>(
     whole(true, comparator, version, text)
 }
 
-/// The bounds of the upper end of a hyphen range, as `row` gives those of a word. A whole version is
-/// compared by the comparator.
+/// The bounds of the upper end of a hyphen range, as `row` gives those of a word. A whole version
+/// is compared by the comparator.
 pub(crate) fn upper_end<'a>(
     include: bool,
     comparator: Comparator,

@@ -144,8 +144,8 @@ impl<'a> Partial<'a> {
         zeros < self.zeros()
     }
 
-    /// The numbers of the next release in which the first number changes that is not written `0`, or
-    /// the last one written, where so many at the front are written `0`.
+    /// The numbers of the next release in which the first number changes that is not written `0`,
+    /// or the last one written, where so many at the front are written `0`.
     #[inline(always)]
     pub(crate) fn next_changed(&self, zeros: usize) -> Numbers
         requires { within (first (npm_partial_view self.now)) ≡ true }
