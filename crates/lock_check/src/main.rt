@@ -20,8 +20,8 @@
 //!
 //! Ranges and versions are read as npm's library node-semver reads them. Of a text that its
 //! readings here reject the lenient reading of `parse` decides, since npm reads a few of these.
-//! Each word that `parse` ignores is named with its place, which does not count as a finding: the first
-//! one of `>1000000000000000000000 ^1`.
+//! Each word that `parse` ignores is named with its place, which does not count as a finding: the
+//! first one of `>1000000000000000000000 ^1`.
 #![tactic(auto)]
 
 mod check;
