@@ -6,7 +6,7 @@ pub use Rattle.nodejs_semver.specs.Internal.{NpmParts.{Numbers, npm_partial_view
 pub use Rattle.nodejs_semver.specs.Internal.{NpmReadings.begins_padded, NpmReads.{IsFound, IsStep, hyphen_valid, valid_one, words_of}, NpmStates.is_whole}
 pub use Rattle.nodejs_semver.specs.Internal.{NpmTuples.IsLastBefore, NpmViews.{counted_front_view, counted_view, end_view, npm_partial_some_view}, NpmWords.{Counted, CountedEnd, Ended, Signed}}
 pub use Rattle.nodejs_semver.specs.Internal.NpmWords.{counted_front, drop_ends, ended_as, counted_as, hyphen_of, is_right, lower_of, upper_of, lower_counted, upper_counted, counted_hyphen, last_counted}
-pub use Rattle.nodejs_semver.specs.Internal.NpmWords.{is_free_lower, is_free_upper, is_short_build, is_short_word, is_small, is_spelled, kept, last_end, limited, words_of_all, ignored_or}
+pub use Rattle.nodejs_semver.specs.Internal.NpmWords.{IsPartial, are_whole_marks, is_free, is_free_lower, is_free_upper, is_short_build, is_short_word, is_small, is_spelled, kept, last_end, limited, words_of_all, ignored_or}
 pub use Rattle.nodejs_semver.specs.Internal.NpmWords.{marked_word, marks_len, may_stand, or_late, run_place, second_front}
 pub use Rattle.nodejs_semver.specs.Internal.{NpmWords.{skip_equal, skip_greater, skip_tilde, third_front, valid_only}, PartFronts.left_over}
 pub use Rattle.nodejs_semver.specs.{Internal.{Readings.{bounds_view, comparator_view}, Words.or_else}, Npm.Alike.IsPlainPartial}
@@ -16,8 +16,8 @@ pub use Rattle.nodejs_semver.specs.Npm.{Flaws.{IsFront, IsSpelled, wrong_of}, Gr
 pub use Rattle.nodejs_semver.specs.Npm.Grammar.{begins_undashed, dashed, has_leading_zero, is_strict_list, no_build}
 pub use Rattle.nodejs_semver.specs.Npm.{Grammar.{no_pre_release, plus}, Malformed.{IsIgnored, is_mark, takes}}
 pub use Rattle.nodejs_semver.specs.Npm.{MalformedWords.{IsLeft, IsMalformedWord, here}, RangeText.AreAlternatives}
-pub use Rattle.nodejs_semver.specs.Npm.RangeText.{AreMarks, AreWords, IsAlternative, IsPartial, IsPlace, IsPlaces, IsSignText, IsWord, are_marks}
-pub use Rattle.nodejs_semver.specs.Npm.RangeText.{BeginsAs, BeginsWord, IsEnd, IsHyphen, are_whole_marks, caret_equal, comparators_of, end_sign, is_lost, is_right_end, is_short, last_marks}
+pub use Rattle.nodejs_semver.specs.Npm.RangeText.{AreMarks, AreWords, IsAlternative, IsPlace, IsPlaces, IsSignText, IsWord, are_marks}
+pub use Rattle.nodejs_semver.specs.Npm.RangeText.{BeginsAs, BeginsWord, IsEnd, IsHyphen, caret_equal, comparators_of, end_sign, is_lost, is_right_end, is_short, last_marks}
 pub use Rattle.nodejs_semver.specs.Npm.RangeText.{is_short_identifier, late_above, late_below}
 pub use Rattle.nodejs_semver.specs.Npm.RangeText.{no_sign, none, one, partial_of, sign, spelling, three, tilde_twice, two, word}
 pub use Rattle.nodejs_semver.specs.Npm.Ranges.{HasAlternatives, HasAlternativesIn, IsRangeIn, is_valid, meets, satisfies}

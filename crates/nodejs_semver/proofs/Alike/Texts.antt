@@ -1,48 +1,29 @@
 -- Plain texts: what they mean here, their alternatives to node-semver, and that both accept the same versions.
-use Rattle.nodejs_semver.proofs.Alike.Beside.{words-good}
-use Rattle.nodejs_semver.proofs.Alike.Rows.{Beside, between-good, free-tame, IsWithin, named_by, passed, upper-beside, within}
-use Rattle.nodejs_semver.proofs.Alike.Words.{begins-word, filled, hyphen-read, is_word_byte, no-dash, partial-begins, word-dark, word-solid}
-use Rattle.nodejs_semver.proofs.Alike.Words.{words-begin, words-read}
-use Rattle.nodejs_semver.proofs.Bounds.TableRows.{table-interval}
-use Rattle.nodejs_semver.proofs.Common.{[], above, accepts, and_parts, any_weaker, ap, append-nil, append_assoc, ap₂, arith, at_most}
-use Rattle.nodejs_semver.proofs.Common.{begins, Bool, cases_Bool, codes, common_steps, Comparator, drop_spaces, drop_spaces-none}
-use Rattle.nodejs_semver.proofs.Common.{encode_utf8, encode_utf8_all, equal, false, filter, filter_map, first_so, flat_map, hyphen}
-use Rattle.nodejs_semver.proofs.Common.{if◌then◌else◌, inl, inr, is_boundary, is_empty, is_release, is_whitespace, IsBlank, IsCutAtBars}
-use Rattle.nodejs_semver.proofs.Common.{IsTrim, IsUtf8, length, length-append, List, list_all, list_any, map, MAX_SAFE_INTEGER, Means}
-use Rattle.nodejs_semver.proofs.Common.{middle_is_trim, nat_tests, None, not, Option, part_bounds, part_denotes, Partial, precedence, refl}
-use Rattle.nodejs_semver.proofs.Common.{Run, Some, space_len-nil, Span, subst, sym, table, trim, true, Unbounded, VersionValue, Word, ℕ}
-use Rattle.nodejs_semver.proofs.Common.{◌&&◌, ◌++◌, ◌<◌, ◌==◌, ◌||◌, ◌∙◌, ◌∷◌, ◌≡◌, ◌⊎◌}
-use Rattle.nodejs_semver.proofs.Dividing.BarsDivide.{bars_once}
-use Rattle.nodejs_semver.proofs.Dividing.RunsDivide.{runs_are}
-use Rattle.nodejs_semver.proofs.NpmCommon.{after_byte, are_marks, are_whole_marks, AreAlternatives, AreMarks, AreWords, at_least}
-use Rattle.nodejs_semver.proofs.NpmCommon.{BeginsWord, comparators_of, compared, Comparison, counts, end_sign, HasAlternatives}
-use Rattle.nodejs_semver.proofs.NpmCommon.{hyphen_lower, hyphen_upper, is_lost, is_valid, is_within, IsAlternative, IsHyphen}
-use Rattle.nodejs_semver.proofs.NpmCommon.{IsPlainPartial, IsPlainText, IsPlainWord, IsSignText, IsWord, last_marks, meets, npm_partial}
-use Rattle.nodejs_semver.proofs.NpmCommon.{spelling}
-use Rattle.nodejs_semver.proofs.Reading.Bytes.{begins-some, is_component_byte, is_solid, solid-dark}
-use Rattle.nodejs_semver.proofs.Reading.WordLaw.{blank-len, boundary-of}
-use Rattle.nodejs_semver.proofs.Strict.AlternativeLaw.{alternatives_once}
-use Rattle.nodejs_semver.proofs.Strict.Hyphens.{same-behind, word-front}
-use Rattle.nodejs_semver.proofs.Strict.PartialLaw.{boundary-quiet}
-use Rattle.nodejs_semver.proofs.Strict.Rows.{either_true}
-use Rattle.nodejs_semver.proofs.Strict.Signs.{blank-skipped}
-use Rattle.nodejs_semver.proofs.Strict.Words.{blank-boundary, places-begin, strict-kept}
-use Rattle.nodejs_semver.specs.Npm.Alike.{ArePlain, ArePlainWords, bare, between, IsPlainAlternative, more_words, next, none, nothing}
-use Rattle.nodejs_semver.specs.Npm.Alike.{one_word, signed, tilde_greater, words}
-use Rattle.nodejs_semver.specs.Npm.Ranges.{IsRangeOf}
-use Rattle.nodejs_semver.specs.Npm.Table.{Sign}
-use Rattle.nodejs_semver.specs.Ranges.View.{any_version}
-use Rattle.nodejs_semver.specs.Text.Runs.{fits, interval_of}
-use Rattle.nodejs_semver.specs.Text.WordText.{SkipsBlank}
-use Rattle.semver_core.specs.Text.Characters.{BeginsBlank}
-use Rattle.std.proofs.lemmas.Bool.{false_from_ne_true}
-use Rattle.std.proofs.lemmas.Slice.Zip.{AllZip-long}
-use Rattle.std.specs.List.{AllZip}
+use Rattle.nodejs_semver.proofs.Alike.{Beside.words-good, Rows.{Beside, between-good, named_by, passed}, Words.{begins-word, filled, hyphen-read}}
+use Rattle.nodejs_semver.proofs.Alike.Words.{is_word_byte, no-dash, partial-begins, word-dark, word-solid, words-begin, words-read}
+use Rattle.nodejs_semver.proofs.{Bounds.TableRows.table-interval, Common.{Bool, Comparator, IsBlank, IsCutAtBars, IsTrim, IsUtf8, List}}
+use Rattle.nodejs_semver.proofs.Common.{MAX_SAFE_INTEGER, Means, None, Option, Partial, Run, Some, Span, VersionValue, Word, [], above, accepts}
+use Rattle.nodejs_semver.proofs.Common.{and_parts, any_weaker, ap, append-nil, append_assoc, ap₂, arith, at_most, begins, cases_Bool, codes}
+use Rattle.nodejs_semver.proofs.Common.{common_steps, drop_spaces, drop_spaces-none, encode_utf8, encode_utf8_all, equal, false, filter, filter_map}
+use Rattle.nodejs_semver.proofs.Common.{first_so, flat_map, hyphen, if◌then◌else◌, inl, inr, is_boundary, is_empty, is_release, is_whitespace, length}
+use Rattle.nodejs_semver.proofs.Common.{length-append, list_all, list_any, map, middle_is_trim, nat_tests, not, or_right, part_bounds, part_denotes}
+use Rattle.nodejs_semver.proofs.Common.{precedence, refl, space_len-nil, subst, sym, table, trim, true, version_of, ℕ, ◌&&◌, ◌++◌, ◌<◌, ◌==◌, ◌∙◌}
+use Rattle.nodejs_semver.proofs.{Common.{◌∷◌, ◌≡◌, ◌⊎◌}, Dividing.{BarsDivide.bars_once, RunsDivide.runs_are}, NpmCommon.{AreAlternatives, AreMarks}}
+use Rattle.nodejs_semver.proofs.NpmCommon.{AreWords, BeginsWord, Comparison, HasAlternatives, IsAlternative, IsHyphen, IsPlainPartial, IsPlainText}
+use Rattle.nodejs_semver.proofs.NpmCommon.{IsPlainWord, IsSignText, IsWord, after_byte, are_marks, at_least, comparators_of, compared, counts}
+use Rattle.nodejs_semver.proofs.NpmCommon.{end_sign, hyphen_lower, hyphen_upper, is_lost, is_valid, is_within, last_marks, meets, npm_partial}
+use Rattle.nodejs_semver.proofs.{NpmCommon.spelling, Reading.{Bytes.{begins-some, is_component_byte, is_solid, solid-dark}, WordLaw.blank-len}}
+use Rattle.nodejs_semver.proofs.{Reading.WordLaw.boundary-of, Strict.{AlternativeLaw.alternatives_once, Hyphens.{free-marks, same-behind, word-front}}}
+use Rattle.nodejs_semver.proofs.Strict.{PartialLaw.boundary-quiet, Signs.blank-skipped, Words.{blank-boundary, places-begin, strict-kept}}
+use Rattle.nodejs_semver.specs.Npm.Alike.{ArePlain, ArePlainWords, IsPlainAlternative, bare, between, more_words, next, none, nothing, one_word}
+use Rattle.nodejs_semver.specs.{Npm.{Alike.{signed, tilde_greater, words}, Ranges.IsRangeOf, Table.Sign}, Ranges.View.any_version, Text.Runs.fits}
+use Rattle.{nodejs_semver.specs.Text.{Runs.interval_of, WordText.SkipsBlank}, semver_core.specs.Text.Characters.BeginsBlank}
+use Rattle.std.{proofs.lemmas.{Bool.false_from_ne_true, Slice.Zip.AllZip-long}, specs.List.AllZip}
 use Rattle.nodejs_semver.proofs.Dividing.MeaningLaw as meaning
 use Rattle.nodejs_semver.specs.Npm.RangeText as Npm
-use Rattle.semver_core.specs.Text.Characters as Characters
 use Rattle.nodejs_semver.specs.Npm.Ranges as Ranges
 use Rattle.nodejs_semver.specs.Npm.Table as Table
+use Rattle.semver_core.specs.Text.Characters as Characters
 
 -- ---- here
 
@@ -59,26 +40,26 @@ run-denotes limit text r b e f =
     let one = runs_are (part_bounds limit text) (r ∷ []) (append-nil _ ∙ sym e, (f, tt), tt) in
     rw (filled text b, sym one) refl
 
--- an alternative means its interval, and has comparators only if it is not empty
-part-denotes : (limit : ℕ) (pre : Bool) (text : List ℕ) (s : Span VersionValue) (cs : List Comparison) → IsPlainAlternative limit pre text s cs
-    → (part_denotes limit text ≡ s ∷ []) × (is_empty text ≡ true → cs ≡ [])
-part-denotes limit pre text s cs nothing = (refl, λ e. refl)
-part-denotes limit pre text s cs (words t ws r cs' h e f apart) =
-    let b = words-begin limit pre t ws cs' h in
-    (run-denotes limit t r b (rw (words-read limit pre t ws cs' h) (some-mapped (table limit) ws (r.first ∷ r.others) e)) f, λ e. cc (filled t b, e))
-part-denotes limit pre text s cs (between x b g y p q m h k some l more n to e) =
-    let rest = b ++ (codes "-" ++ (g ++ y)) in
-    let o = begins-word x rest (partial-begins limit pre x p h) in (
-      run-denotes limit (x ++ rest) (record { first = m; others = [] }) o (rw (hyphen-read limit pre x b g y p q h k some l more n, e) refl)
-          (table-interval limit (hyphen p q) m e),
-      λ e. cc (filled (x ++ rest) o, e),
-    )
+module _ {limit : ℕ} {pre : Bool} where
+  -- an alternative means its interval, and has comparators only if it is not empty
+  part-denotes : {text : List ℕ} {s : Span VersionValue} {cs : List Comparison} → IsPlainAlternative limit pre text s cs
+      → (part_denotes limit text ≡ s ∷ []) × (is_empty text ≡ true → cs ≡ [])
+  part-denotes nothing = (refl, λ e. refl)
+  part-denotes (words t ws r cs h e f apart) =
+      let b = words-begin h in
+      (run-denotes limit t r b (rw (words-read h) (some-mapped (table limit) ws (r.first ∷ r.others) e)) f, λ e. cc (filled t b, e))
+  part-denotes (between x b g y p q m h k some l more n to e) =
+      let rest = b ++ (codes "-" ++ (g ++ y)) in
+      let o = begins-word x rest (partial-begins limit pre x p h) in (
+        run-denotes limit (x ++ rest) (record { first = m; others = [] }) o (rw (hyphen-read limit pre x b g y p q h k some l more n, e) refl)
+            (table-interval limit (hyphen p q) m e),
+        λ e. cc (filled (x ++ rest) o, e),
+      )
 
-all-denote : (limit : ℕ) (pre : Bool) (texts : List (List ℕ)) (list : List (Span VersionValue)) (all : List (List Comparison))
-    → ArePlain limit pre texts list all → flat_map (part_denotes limit) texts ≡ list
-all-denote limit pre texts list all none = refl
-all-denote limit pre texts list all (next text rest s cs ss others h more) =
-    rw ((part-denotes limit pre text s cs h).0, all-denote limit pre rest ss others more) refl
+  all-denote : {texts : List (List ℕ)} {list : List (Span VersionValue)} {all : List (List Comparison)} → ArePlain limit pre texts list all
+      → flat_map (part_denotes limit) texts ≡ list
+  all-denote none = refl
+  all-denote (next text rest s cs ss others h more) = rw ((part-denotes h).0, all-denote more) refl
 
 trimmed-are : (pieces texts : List (List ℕ)) → AllZip IsTrim pieces texts → texts ≡ map trim pieces
 trimmed-are [] [] h = refl
@@ -97,10 +78,7 @@ some-all limit pre texts list all h some = grind arith
 pub plain-means : (text : List ℕ) (list : List (Span VersionValue)) (all : List (List Comparison)) → IsUtf8 text
     → IsPlainText MAX_SAFE_INTEGER text list all → Means MAX_SAFE_INTEGER text list
 plain-means text list all u h = (meaning.one_meaning MAX_SAFE_INTEGER text list u).0
-    (rw (
-      sym (trimmed-are h.pieces h.texts h.trimmed ∙ ap (λ ps. map trim ps) (bars_once text h.pieces h.cut)),
-      all-denote MAX_SAFE_INTEGER h.pre h.texts h.spans all h.each,
-    ) (sym h.list_is))
+    (rw (sym (trimmed-are h.pieces h.texts h.trimmed ∙ ap (λ ps. map trim ps) (bars_once text h.pieces h.cut)), all-denote h.each) (sym h.list_is))
 
 pub plain-read : (text : List ℕ) (list : List (Span VersionValue)) (all : List (List Comparison)) → IsUtf8 text
     → IsPlainText MAX_SAFE_INTEGER text list all → Means MAX_SAFE_INTEGER text list × (0 < length list)
@@ -115,12 +93,6 @@ plain-read text list all u h = (
 
 -- ---- to node-semver
 
-no_marks : (s : Sign) (p : Table.Partial) → are_marks false s p [] ≡ true
-no_marks s p = grind (arith, nat_tests, common_steps)
-
-no_ends : AreMarks []
-no_ends = ([], refl, refl)
-
 no_mark : (a : Bool) → (a && false) ≡ false
 no_mark a = grind arith
 
@@ -128,51 +100,40 @@ no_mark a = grind arith
 record Marked (text rest : List ℕ) : Type 0 where
   mark : List ℕ
   divided : text ≡ mark ++ rest
-  whole : are_whole_marks mark ≡ true
   any : AreMarks mark
   may : (s : Sign) (p : Table.Partial) → are_marks false s p mark ≡ true
   begins : (a : Bool) → (a && Characters.begins (λ b. b == 61) mark) ≡ false
   sign : (c : Comparator) → end_sign c mark ≡ c
-  last : last_marks mark ≡ mark
+  last : last_marks mark ++ rest ≡ text
+
+may_stand : (v : Bool) (s : Sign) (p : Table.Partial) → are_marks false s p (if v then codes "v" else []) ≡ true
+may_stand v s p = grind (arith, nat_tests, common_steps)
 
 marked : (text rest : List ℕ) → (text ≡ rest) ⊎ (text ≡ codes "v" ++ rest) → Marked text rest
 unfolding encode_utf8
 marked text rest (inl e) =
-    record { mark = []; divided = e; whole = refl; any = no_ends; may = no_marks; begins = no_mark; sign = λ c. refl; last = refl }
-marked text rest (inr e) = record {
-  mark = codes "v";
-  divided = e;
-  whole = refl;
-  any = (118 ∷ [], refl, refl);
-  may = one_v;
-  begins = no_mark;
-  sign = λ c. refl;
-  last = refl;
-}
-  where
-    one_v : (s : Sign) (p : Table.Partial) → are_marks false s p (codes "v") ≡ true
-    one_v s p = grind (arith, nat_tests, common_steps)
+    record { mark = []; divided = e; any = ([], refl, refl); may = may_stand false; begins = no_mark; sign = λ c. refl; last = sym e }
+marked text rest (inr e) =
+    record { mark = codes "v"; divided = e; any = (118 ∷ [], refl, refl); may = may_stand true; begins = no_mark; sign = λ c. refl; last = sym e }
 
-record WordIs (text : List ℕ) (cs : List Comparison) : Type 0 where
-  partial : List ℕ
-  is : IsWord false false text partial cs
+module _ {limit : ℕ} {pre : Bool} where
+  -- a word behind its sign, with the text of its partial
+  behind-sign : (signs text : List ℕ) (s : Sign) (p : Partial) → IsSignText signs s → IsPlainPartial limit pre text p
+      → (x : List ℕ) × IsWord false false (signs ++ text) x (Table.table false s (npm_partial p) text)
+  behind-sign signs text s p is h =
+      let m = marked text h.rest h.marked in (
+        h.rest,
+        subst (λ (t : List ℕ). IsWord false false (signs ++ t) h.rest (Table.table false s (npm_partial p) t)) (sym m.divided)
+            (Npm.word signs m.mark h.rest s (npm_partial p) is (m.may s (npm_partial p)) (m.begins _) h.npm),
+      )
 
--- a word behind its sign
-behind-sign : (limit : ℕ) (pre : Bool) (signs text : List ℕ) (s : Sign) (p : Partial) → IsSignText signs s
-    → IsPlainPartial limit pre text p → WordIs (signs ++ text) (Table.table false s (npm_partial p) text)
-behind-sign limit pre signs text s p is h = let m = marked text h.rest h.marked in record {
-  partial = h.rest;
-  is = subst (λ (t : List ℕ). IsWord false false (signs ++ t) h.rest (Table.table false s (npm_partial p) t)) (sym m.divided)
-      (Npm.word signs m.mark h.rest s (npm_partial p) is (m.may s (npm_partial p)) (m.begins _) h.npm.0);
-}
-
-word-is : (limit : ℕ) (pre : Bool) (text : List ℕ) (word : Word) (cs : List Comparison) → IsPlainWord limit pre text word cs → WordIs text cs
-word-is limit pre text word cs (bare t p h) = behind-sign limit pre [] t (compared equal) p Npm.no_sign h
-word-is limit pre text word cs (signed s b t p k h m) =
-    let w = behind-sign limit pre (spelling s ++ b) t s p (Npm.sign s b k) h in rw (append_assoc (spelling s) b t) at w
-word-is limit pre text word cs (tilde_greater g b t p j k h m) =
-    let w = behind-sign limit pre (codes "~" ++ (g ++ (codes ">" ++ b))) t Table.tilde p (Npm.tilde_sign above g b j k (inl refl)) h in
-    rw (append_assoc g (codes ">" ++ b) t) at w
+  word-is : {text : List ℕ} {word : Word} {cs : List Comparison} → IsPlainWord limit pre text word cs → (x : List ℕ) × IsWord false false text x cs
+  word-is (bare t p h) = behind-sign [] t (compared equal) p Npm.no_sign h
+  word-is (signed s b t p k h m) =
+      let w = behind-sign (spelling s ++ b) t s p (Npm.sign s b k) h in rw (append_assoc (spelling s) b t) at w
+  word-is (tilde_greater g b t p j k h m) =
+      let w = behind-sign (codes "~" ++ (g ++ (codes ">" ++ b))) t Table.tilde p (Npm.tilde_sign above g b j k (inl refl)) h in
+      rw (append_assoc g (codes ">" ++ b) t) at w
 
 -- a text that does not begin with whitespace, and one that does
 solid-start : (text : List ℕ) → begins is_solid text ≡ true → BeginsBlank text → ⊥
@@ -190,121 +151,108 @@ blank-begins blank rest h some = go h.characters h.each h.spelled
       spelled = ap (λ (t : List ℕ). t ++ rest) e ∙ append_assoc (encode_utf8 c) (encode_utf8_all cs) rest;
     }
 
-record WordsAre (text : List ℕ) (cs : List Comparison) : Type 0 where
-  read : List (Option (List Comparison))
-  are : AreWords false false text read
-  same : comparators_of read ≡ cs
+module _ {limit : ℕ} {pre : Bool} where
+  words-are : {text : List ℕ} {ws : List Word} {cs : List Comparison} → ArePlainWords limit pre text ws cs
+      → (read : List (Option (List Comparison))) × AreWords false false text read × (comparators_of read ≡ cs)
+  words-are (one_word t w c h) =
+      let word = word-is h in
+      let nothing : SkipsBlank [] [] =
+      ([], refl, record { characters = []; each = refl; spelled = refl }, λ b. omega (arith, blank-len [] b, space_len-nil)) in
+      let first : BeginsWord false false t word.0 [] c = (t, sym (append-nil t), word.1, inl refl) in
+      (Some c ∷ [], Npm.more t [] (Some c) [] (Npm.formed word.0 [] c first refl nothing) Npm.none, append-nil c)
+  words-are (more_words t b rest w us c d h k some more) =
+      let word = word-is h in
+      let others = words-are more in
+      let first : BeginsWord false false (t ++ (b ++ rest)) word.0 (b ++ rest) c = (t, refl, word.1, inr (blank-begins b rest k some)) in
+      let skips : SkipsBlank (b ++ rest) rest = (b, refl, k, solid-start rest (word-solid rest (words-begin more))) in (
+        Some c ∷ others.0,
+        Npm.more (t ++ (b ++ rest)) rest (Some c) others.0 (Npm.formed word.0 (b ++ rest) c first refl skips) others.1,
+        ap (λ (l : List Comparison). c ++ l) others.2,
+      )
 
-words-are : (limit : ℕ) (pre : Bool) (text : List ℕ) (ws : List Word) (cs : List Comparison) → ArePlainWords limit pre text ws cs → WordsAre text cs
-words-are limit pre text ws cs (one_word t w c h) =
-    let word = word-is limit pre t w c h in
-    let nothing : SkipsBlank [] [] =
-    ([], refl, record { characters = []; each = refl; spelled = refl }, λ b. omega (arith, blank-len [] b, space_len-nil)) in
-    let first : BeginsWord false false t [] c =
-    record { word = t; partial = word.partial; divided = sym (append-nil t); is = word.is; ended = inl refl } in
-    record { read = Some c ∷ []; are = Npm.more t [] (Some c) [] (Npm.formed [] c first refl nothing) Npm.none; same = append-nil c }
-words-are limit pre text ws cs (more_words t b rest w us c d h k some more) =
-    let word = word-is limit pre t w c h in
-    let others = words-are limit pre rest us d more in
-    let first : BeginsWord false false (t ++ (b ++ rest)) (b ++ rest) c =
-    record { word = t; partial = word.partial; divided = refl; is = word.is; ended = inr (blank-begins b rest k some) } in
-    let skips : SkipsBlank (b ++ rest) rest = (b, refl, k, solid-start rest (word-solid rest (words-begin limit pre rest us d more))) in
-    record {
-      read = Some c ∷ others.read;
-      are = Npm.more (t ++ (b ++ rest)) rest (Some c) others.read (Npm.formed (b ++ rest) c first refl skips) others.are;
-      same = ap (λ (l : List Comparison). c ++ l) others.same;
-    }
+  -- words are no hyphen range: behind the first one stands no `-`
+  no_hyphen-first : (t behind rest : List ℕ) {w : Word} {cs : List Comparison} → IsPlainWord limit pre t w cs → is_boundary behind ≡ true
+      → drop_spaces behind ≡ rest → after_byte 45 rest ≡ None → IsHyphen false (t ++ behind) → ⊥
+  no_hyphen-first t behind rest {w} {cs} h stop skips other k =
+      let word = word-is h in
+      let same : behind ≡ k.before = same-behind (t ++ behind) k.before behind k.lower (word-front false t word.0 (t ++ behind) behind cs refl word.1)
+      (boundary-quiet k.before (boundary-of k.before (inr k.dash.1))) (boundary-quiet behind stop) in
+      let gone : drop_spaces k.before ≡ 45 ∷ k.dash.0 = ap drop_spaces k.dash.2.1
+      ∙ blank-skipped k.dash.2.0 (45 ∷ k.dash.0) k.dash.2.2 (solid-dark (45 ∷ k.dash.0) refl) in
+      cc (sym (ap (after_byte 45) (sym skips ∙ ap drop_spaces same ∙ gone)) ∙ other)
 
--- words are no hyphen range: behind the first one stands no `-`
-no_hyphen-first : (limit : ℕ) (pre : Bool) (t behind rest : List ℕ) (w : Word) (cs : List Comparison) → IsPlainWord limit pre t w cs
-    → is_boundary behind ≡ true → drop_spaces behind ≡ rest → after_byte 45 rest ≡ None → IsHyphen false (t ++ behind) → ⊥
-no_hyphen-first limit pre t behind rest w cs h stop skips other k =
-    let word = word-is limit pre t w cs h in
-    let same : behind ≡ k.before = same-behind (t ++ behind) k.before behind k.lower
-    (word-front false t word.partial (t ++ behind) behind cs refl word.is) (boundary-quiet k.before (boundary-of k.before (inr k.blank)))
-    (boundary-quiet behind stop) in
-    let gone : drop_spaces k.before ≡ 45 ∷ k.after = ap drop_spaces k.dash.1
-    ∙ blank-skipped k.dash.0 (45 ∷ k.after) k.dash.2 (solid-dark (45 ∷ k.after) refl) in
-    cc (sym (ap (after_byte 45) (sym skips ∙ ap drop_spaces same ∙ gone)) ∙ other)
+  no_hyphen : {text : List ℕ} {ws : List Word} {cs : List Comparison} → ArePlainWords limit pre text ws cs → IsHyphen false text → ⊥
+  unfolding is_boundary
+  no_hyphen (one_word t w c h) k =
+      no_hyphen-first t [] [] h refl (drop_spaces-none [] space_len-nil) refl (subst (IsHyphen false) (sym (append-nil t)) k)
+  no_hyphen (more_words t b rest w us c d h k some more) range =
+      let opens = words-begin more in
+      no_hyphen-first t (b ++ rest) rest h (blank-boundary b rest k some) (blank-skipped b rest k (word-dark rest opens)) (no-dash rest opens) range
 
-no_hyphen : (limit : ℕ) (pre : Bool) (text : List ℕ) (ws : List Word) (cs : List Comparison) → ArePlainWords limit pre text ws cs
-    → IsHyphen false text → ⊥
-unfolding is_boundary
-no_hyphen limit pre text ws cs (one_word t w c h) k =
-    no_hyphen-first limit pre t [] [] w c h refl (drop_spaces-none [] space_len-nil) refl (subst (IsHyphen false) (sym (append-nil t)) k)
-no_hyphen limit pre text ws cs (more_words t b rest w us c d h k some more) range =
-    let opens = words-begin limit pre rest us d more in
-    no_hyphen-first limit pre t (b ++ rest) rest w c h (blank-boundary b rest k some) (blank-skipped b rest k (word-dark rest opens))
-    (no-dash rest opens) range
+  part-is : {text : List ℕ} {s : Span VersionValue} {cs : List Comparison} → IsPlainAlternative limit pre text s cs
+      → IsAlternative false false text false cs
+  part-is nothing = Npm.words [] [] filled-range Npm.none
+    where
+      filled-range : IsHyphen false [] → ⊥
+      filled-range k = omega (
+        arith,
+        ap length k.lower.divided,
+        length-append k.lower.marks (k.lower.places ++ k.before),
+        begins-some is_component_byte (k.lower.places ++ k.before) (places-begin false k.lower.places k.before k.lower.partial k.lower.is),
+      )
+  part-is (words t ws r cs h e f apart) =
+      let are = words-are h in
+      subst (λ (lost : Bool). IsAlternative false false t lost cs) (strict-kept false t are.0 are.1)
+      (subst (λ (ds : List Comparison). IsAlternative false false t (is_lost are.0) ds) are.2 (Npm.words t are.0 (no_hyphen h) are.1))
+  part-is (between x b g y p q m h k some l more n to e) =
+      let lower = marked x h.rest h.marked in
+      let upper = marked y n.rest n.marked in
+      subst (λ (ds : List Comparison). IsAlternative false false (x ++ (b ++ (codes "-" ++ (g ++ y)))) false ds)
+      (ap₂ (λ (ds es : List Comparison). ds ++ es)
+      (ap₂ (λ (c : Comparator) (t : List ℕ). hyphen_lower c false (npm_partial p) t) (lower.sign at_least) lower.last)
+      (ap₂ (λ (c : Comparator) (t : List ℕ). hyphen_upper c false (npm_partial q) t) (upper.sign at_most) upper.last))
+      (Npm.hyphen (x ++ (b ++ (codes "-" ++ (g ++ y)))) (record {
+        before = b ++ (codes "-" ++ (g ++ y));
+        second = y;
+        lower = record {
+          marks = lower.mark;
+          places = h.rest;
+          partial = npm_partial p;
+          divided = ap (λ (t : List ℕ). t ++ (b ++ (codes "-" ++ (g ++ y)))) lower.divided ∙ append_assoc lower.mark h.rest _;
+          are = lower.any;
+          is = h.npm;
+        };
+        dash = (
+          g ++ y,
+          blank-begins b _ k some,
+          (b, refl, k, solid-start _ refl),
+          blank-begins g y l more,
+          (g, refl, l, solid-start y (word-solid y (rw append-nil at (begins-word y [] (partial-begins limit pre y q n))))),
+        );
+        upper = record {
+          marks = upper.mark;
+          places = n.rest;
+          partial = npm_partial q;
+          divided = upper.divided ∙ ap (λ (t : List ℕ). upper.mark ++ t) (sym (append-nil n.rest));
+          are = upper.any;
+          is = n.npm;
+        };
+      }) (sym (free-marks (λ v. false) (npm_partial p) lower.mark) ∙ or_right _ _ (lower.may (compared equal) (Table.whole (version_of p))))
+      (sym (free-marks (λ v. not (is_release v)) (npm_partial q) upper.mark) ∙ or_right _ _ (upper.may (compared equal) (Table.whole (version_of q)))))
 
-part-is : (limit : ℕ) (pre : Bool) (text : List ℕ) (s : Span VersionValue) (cs : List Comparison)
-    → IsPlainAlternative limit pre text s cs → IsAlternative false false text false cs
-part-is limit pre text s cs nothing = Npm.words [] [] filled-range Npm.none
-  where
-    filled-range : IsHyphen false [] → ⊥
-    filled-range k = omega (
-      arith,
-      ap length k.lower.divided,
-      length-append k.lower.marks (k.lower.places ++ k.before),
-      begins-some is_component_byte (k.lower.places ++ k.before) (places-begin false k.lower.places k.before k.lower.partial k.lower.is),
-    )
-part-is limit pre text s cs (words t ws r cs' h e f apart) =
-    let are = words-are limit pre t ws cs' h in
-    subst (λ (lost : Bool). IsAlternative false false t lost cs') (strict-kept false t are.read are.are)
-    (subst (λ (ds : List Comparison). IsAlternative false false t (is_lost are.read) ds) are.same
-    (Npm.words t are.read (no_hyphen limit pre t ws cs' h) are.are))
-part-is limit pre text s cs (between x b g y p q m h k some l more n to e) =
-    let lower = marked x h.rest h.marked in
-    let upper = marked y n.rest n.marked in
-    subst (λ (ds : List Comparison). IsAlternative false false (x ++ (b ++ (codes "-" ++ (g ++ y)))) false ds)
-    (ap₂ (λ (ds es : List Comparison). ds ++ es)
-    (ap₂ (λ (c : Comparator) (t : List ℕ). hyphen_lower c false (npm_partial p) t) (lower.sign at_least) (spelled x h.rest lower))
-    (ap₂ (λ (c : Comparator) (t : List ℕ). hyphen_upper c false (npm_partial q) t) (upper.sign at_most) (spelled y n.rest upper)))
-    (Npm.hyphen (x ++ (b ++ (codes "-" ++ (g ++ y)))) (record {
-      before = b ++ (codes "-" ++ (g ++ y));
-      after = g ++ y;
-      second = y;
-      lower = record {
-        marks = lower.mark;
-        places = h.rest;
-        partial = npm_partial p;
-        divided = ap (λ (t : List ℕ). t ++ (b ++ (codes "-" ++ (g ++ y)))) lower.divided ∙ append_assoc lower.mark h.rest _;
-        are = lower.any;
-        is = h.npm.0;
-      };
-      blank = blank-begins b _ k some;
-      dash = (b, refl, k, solid-start _ refl);
-      gap = blank-begins g y l more;
-      skipped = (g, refl, l, solid-start y (word-solid y (rw append-nil at (begins-word y [] (partial-begins limit pre y q n)))));
-      upper = record {
-        marks = upper.mark;
-        places = n.rest;
-        partial = npm_partial q;
-        divided = upper.divided ∙ ap (λ (t : List ℕ). upper.mark ++ t) (sym (append-nil n.rest));
-        are = upper.any;
-        is = n.npm.0;
-      };
-    }) (either _ lower.whole) (either _ upper.whole))
-  where
-    either : {b : Bool} (a : Bool) → b ≡ true → (a || b) ≡ true
-    either a e = rw e (either_true a)
-
-    spelled : (text rest : List ℕ) (m : Marked text rest) → last_marks m.mark ++ rest ≡ text
-    spelled text rest m = ap (λ (t : List ℕ). t ++ rest) m.last ∙ sym m.divided
-
-all-are : (limit : ℕ) (pre : Bool) (pieces texts : List (List ℕ)) (list : List (Span VersionValue)) (all : List (List Comparison))
-    → ArePlain limit pre texts list all → AllZip IsTrim pieces texts → AreAlternatives false false pieces all
-all-are limit pre [] texts list all none t = Npm.none
-all-are limit pre (piece ∷ pieces) texts list all (next text rest s cs ss others h more) t =
-    Npm.next piece text pieces false cs others t.0 (part-is limit pre text s cs h) (all-are limit pre pieces rest ss others more t.1)
-all-are limit pre pieces texts list all h t = absurd t
+  all-are : (pieces : List (List ℕ)) {texts : List (List ℕ)} {list : List (Span VersionValue)} {all : List (List Comparison)}
+      → ArePlain limit pre texts list all → AllZip IsTrim pieces texts → AreAlternatives false false pieces all
+  all-are [] none t = Npm.none
+  all-are (piece ∷ pieces) (next text rest s cs ss others h more) t =
+      Npm.next piece text pieces false cs others t.0 (part-is h) (all-are pieces more t.1)
+  all-are pieces h t = absurd t
 
 pub plain-has : (text : List ℕ) (list : List (Span VersionValue)) (all : List (List Comparison))
     → IsPlainText MAX_SAFE_INTEGER text list all → HasAlternatives MAX_SAFE_INTEGER false text all
 plain-has text list all h = record {
   parts = h.pieces;
   divided = h.cut;
-  each = all-are MAX_SAFE_INTEGER h.pre h.pieces h.texts h.spans all h.each h.trimmed;
+  each = all-are h.pieces h.each h.trimmed;
   some = (some-all MAX_SAFE_INTEGER h.pre h.texts h.spans all h.each (some-pieces text h.pieces h.texts h.cut h.trimmed)).1;
   valid = h.valid;
 }
@@ -315,26 +263,26 @@ plain-has text list all h = record {
 abbrev alternative_accepts : VersionValue → List Comparison → Bool
 alternative_accepts v cs = meets false v (filter (counts false) cs)
 
-part-same : (pre : Bool) (v : VersionValue) (text : List ℕ) (s : Span VersionValue) (cs : List Comparison) → IsWithin MAX_SAFE_INTEGER v
-    → IsPlainAlternative MAX_SAFE_INTEGER pre text s cs → list_all (is_valid MAX_SAFE_INTEGER) cs ≡ true → Beside pre false v s cs
-part-same pre v text s cs w nothing k = upper-beside v Unbounded [] [] (free-tame v) (free-tame v) refl (λ r f. cc f)
+part-same : (pre : Bool) (v : VersionValue) (text : List ℕ) (s : Span VersionValue) (cs : List Comparison) → is_within MAX_SAFE_INTEGER v ≡ true
+    → IsPlainAlternative MAX_SAFE_INTEGER pre text s cs → list_all (is_valid MAX_SAFE_INTEGER) cs ≡ true → Beside v pre false s cs
+part-same pre v text s cs w nothing k = record { same = refl; named = λ n. cc n; held = λ f. refl }
 part-same pre v text s cs w (words t ws r cs' h e f apart) k = words-good pre v w t ws r cs' h e apart k
-part-same pre v text s cs w (between x b g y p q m h k some l more n to e) valid = between-good pre v x y p q m h n to e valid
+part-same pre v text s cs w (between x b g y p q m h k some l more n to e) valid = between-good v pre x y p q m h n to e valid
 
 each-same : (pre : Bool) (v : VersionValue) (texts : List (List ℕ)) (list : List (Span VersionValue)) (all : List (List Comparison))
-    → IsWithin MAX_SAFE_INTEGER v → ArePlain MAX_SAFE_INTEGER pre texts list all
+    → is_within MAX_SAFE_INTEGER v ≡ true → ArePlain MAX_SAFE_INTEGER pre texts list all
     → list_all (list_all (is_valid MAX_SAFE_INTEGER)) all ≡ true → accepts list v false ≡ list_any (alternative_accepts v) all
 each-same pre v texts list all w none k = refl
 each-same pre v texts list all w (next text rest s cs ss others h more) k =
     grind (arith, nat_tests, common_steps, part-same, each-same pre v rest ss others w more)
 
 -- where no pre-release is written, none is accepted
-released-part : (v : VersionValue) (s : Span VersionValue) (cs : List Comparison) → Beside false false v s cs → is_release v ≡ false
+released-part : (v : VersionValue) (s : Span VersionValue) (cs : List Comparison) → Beside v false false s cs → is_release v ≡ false
     → alternative_accepts v cs ≡ false
-released-part v s cs h r = rw r (false_from_ne_true (passed v cs && named_by v cs) (λ n. cc (h.named r n)))
+released-part v s cs h r = rw r (false_from_ne_true (passed v cs && named_by v cs) (λ n. cc (h.named n)))
 
 each-released : (v : VersionValue) (texts : List (List ℕ)) (list : List (Span VersionValue)) (all : List (List Comparison))
-    → IsWithin MAX_SAFE_INTEGER v → ArePlain MAX_SAFE_INTEGER false texts list all
+    → is_within MAX_SAFE_INTEGER v ≡ true → ArePlain MAX_SAFE_INTEGER false texts list all
     → list_all (list_all (is_valid MAX_SAFE_INTEGER)) all ≡ true → is_release v ≡ false → list_any (alternative_accepts v) all ≡ false
 each-released v texts list all w none k r = refl
 each-released v texts list all w (next text rest s cs ss others h more) k r =
@@ -356,12 +304,12 @@ empty-bare : (limit : ℕ) (pre : Bool) (texts : List (List ℕ)) (list : List (
     → ArePlain limit pre texts list all → list_all is_empty texts ≡ true → 0 < length texts → list_any is_bare all ≡ true
 empty-bare limit pre texts list all none e some = absurd (omega (arith, some))
 empty-bare limit pre texts list all (next text rest s cs ss others h more) e some =
-    rw ((part-denotes limit pre text s cs h).1 (and_parts (is_empty text) _ e).0) refl
+    rw ((part-denotes h).1 (and_parts (is_empty text) _ e).0) refl
 
 pub plain-same : (text : List ℕ) (list : List (Span VersionValue)) (all : List (List Comparison)) (v : VersionValue)
     → IsPlainText MAX_SAFE_INTEGER text list all → is_within MAX_SAFE_INTEGER v ≡ true
     → accepts list v false ≡ Ranges.accepts false all v
-plain-same text list all v h small = rw h.list_is (elim (cases_Bool (list_all is_empty h.texts)) [
+plain-same text list all v h w = rw h.list_is (elim (cases_Bool (list_all is_empty h.texts)) [
   | inl e ↦ rw (e, empty-bare MAX_SAFE_INTEGER h.pre h.texts h.spans all h.each e (some-pieces text h.pieces h.texts h.cut h.trimmed))
       (any-accepts v)
   | inr e ↦ rw e (elim (cases_Bool (list_any is_bare all)) [
@@ -370,23 +318,18 @@ plain-same text list all v h small = rw h.list_is (elim (cases_Bool (list_all is
   ])
 ])
   where
-    w : IsWithin MAX_SAFE_INTEGER v
-    w = within MAX_SAFE_INTEGER v small
-
     any-accepts : (v : VersionValue) → accepts any_version v false ≡ is_release v
     any-accepts v = grind (arith, nat_tests, common_steps)
 
     same : accepts h.spans v false ≡ list_any (alternative_accepts v) all
     same = each-same h.pre v h.texts h.spans all w h.each h.valid
 
-    closed : (p e : Bool) → e ≡ true → (p && e) ≡ false → p ≡ false
-    closed p e f g = grind arith
-
     opened : list_any is_bare all ≡ true → list_any (alternative_accepts v) all ≡ is_release v
     opened e = elim (cases_Bool (is_release v)) [
       | inl r ↦ any_weaker is_bare (alternative_accepts v) (bare-accepts v r) all e ∙ sym r
-      | inr r ↦ each-released v h.texts h.spans all w
-          (subst (λ b. ArePlain MAX_SAFE_INTEGER b h.texts h.spans all) (closed h.pre (list_any is_bare all) e h.counted) h.each) h.valid r ∙ sym r
+      | inr r ↦
+          let none : h.pre ≡ false = grind (arith, e, h.counted) in
+          each-released v h.texts h.spans all w (subst (λ b. ArePlain MAX_SAFE_INTEGER b h.texts h.spans all) none h.each) h.valid r ∙ sym r
     ]
 
 -- ---- ranges of the text

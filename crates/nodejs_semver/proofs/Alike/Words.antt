@@ -1,22 +1,16 @@
 -- The words of plain alternatives, as the range grammar here reads them.
-use Rattle.nodejs_semver.proofs.Common.{[], above, after_spaces, ap, append-nil, append_assoc, arith, at_most, begins, below, Bool}
-use Rattle.nodejs_semver.proofs.Common.{cases_Bool, codes, Comparator, drop_spaces, drop_spaces-none, eqb-true, equal, false, hyphen, inl}
-use Rattle.nodejs_semver.proofs.Common.{inr, is_ascii_digit, is_boundary, is_empty, is_sign, IsBlank, IsSign, length, List, list_len}
-use Rattle.nodejs_semver.proofs.Common.{lt-ltb, nat_tests, None, Partial, partial_front, refl, Some, space_len, tilde_sign, true, Word}
-use Rattle.nodejs_semver.proofs.Common.{word_at, words, words_within, ℕ, ◌++◌, ◌<◌, ◌==◌, ◌||◌, ◌∙◌, ◌∷◌, ◌≡◌}
-use Rattle.nodejs_semver.proofs.NpmCommon.{after_byte, at_least, compared, Comparison, IsPlainPartial, IsPlainWord, spelling}
-use Rattle.nodejs_semver.proofs.Reading.Bytes.{begins-on, begins-some, begins_component, component-solid, is_component_byte, is_solid}
-use Rattle.nodejs_semver.proofs.Reading.Bytes.{solid-dark, Stop, stop-nil}
-use Rattle.nodejs_semver.proofs.Reading.PartialLaw.{components-begin, front-dark, front-exact, words-step}
-use Rattle.nodejs_semver.proofs.Reading.WordLaw.{compared-of, unsigned-at}
-use Rattle.nodejs_semver.proofs.Strict.Signs.{blank-skipped}
-use Rattle.nodejs_semver.proofs.Strict.Words.{blank-boundary, blank-space}
-use Rattle.nodejs_semver.specs.Internal.Fronts.{dotted_front, drop_v}
-use Rattle.nodejs_semver.specs.Internal.Words.{upper_behind}
-use Rattle.nodejs_semver.specs.Npm.Alike.{ArePlainWords, bare, more_words, one_word, signed, tilde_greater}
-use Rattle.nodejs_semver.specs.Text.WordText.{above_sign, at_least_sign, at_most_sign, below_sign, equal_sign}
-use Rattle.semver_core.specs.Text.Characters.{is_identifier_char}
-use Rattle.std.proofs.lemmas.Bool.{false_from_ne_true}
+use Rattle.nodejs_semver.proofs.Common.{Bool, Comparator, IsBlank, IsSign, List, None, Partial, Some, Word, [], above, after_spaces, ap, append-nil}
+use Rattle.nodejs_semver.proofs.Common.{append_assoc, arith, at_most, begins, below, cases_Bool, codes, drop_spaces, drop_spaces-none, eqb-true}
+use Rattle.nodejs_semver.proofs.Common.{equal, false, hyphen, inl, inr, is_ascii_digit, is_boundary, is_empty, is_sign, length, list_len, lt-ltb}
+use Rattle.nodejs_semver.proofs.Common.{nat_tests, partial_front, refl, space_len, tilde_sign, true, word_at, words, words_within, ℕ, ◌++◌, ◌<◌, ◌==◌}
+use Rattle.nodejs_semver.proofs.{Common.{◌||◌, ◌∙◌, ◌∷◌, ◌≡◌}, NpmCommon.{Comparison, IsPlainPartial, IsPlainWord, after_byte, at_least, compared}}
+use Rattle.nodejs_semver.proofs.{NpmCommon.spelling, Reading.Bytes.{Stop, begins-on, begins-some, begins_component, component-solid}}
+use Rattle.nodejs_semver.proofs.Reading.{Bytes.{is_component_byte, is_solid, solid-dark, stop-nil}, PartialLaw.{components-begin, front-dark}}
+use Rattle.nodejs_semver.proofs.{Reading.{PartialLaw.{front-exact, words-step}, WordLaw.{compared-of, unsigned-at}}, Strict.Signs.blank-skipped}
+use Rattle.nodejs_semver.{proofs.Strict.Words.{blank-boundary, blank-space}, specs.Internal.{Fronts.{dotted_front, drop_v}, Words.upper_behind}}
+use Rattle.nodejs_semver.specs.{Npm.Alike.{ArePlainWords, bare, more_words, one_word, signed, tilde_greater}, Text.WordText.above_sign}
+use Rattle.nodejs_semver.specs.Text.WordText.{at_least_sign, at_most_sign, below_sign, equal_sign}
+use Rattle.{semver_core.specs.Text.Characters.is_identifier_char, std.proofs.lemmas.Bool.false_from_ne_true}
 use Rattle.nodejs_semver.specs.Npm.Table as Npm
 
 -- what stands behind a word: the end, or whitespace and another word
@@ -134,12 +128,8 @@ module _ (limit : ℕ) (pre : Bool) (x : List ℕ) (p : Partial) (h : IsPlainPar
 
 -- ---- words
 
-pub sign_is : (c : Comparator) → IsSign c (spelling (compared c))
-sign_is at_least = at_least_sign
-sign_is above = above_sign
-sign_is equal = equal_sign
-sign_is at_most = at_most_sign
-sign_is below = below_sign
+sign_is : (c : Comparator) → IsSign c (spelling (compared c))
+sign_is = elim [ at_least ↦ at_least_sign | above ↦ above_sign | equal ↦ equal_sign | at_most ↦ at_most_sign | below ↦ below_sign ]
 
 word-read : (limit : ℕ) (pre : Bool) (text more : List ℕ) (w : Word) (cs : List Comparison) → IsPlainWord limit pre text w cs → Ends limit more
     → word_at limit (text ++ more) ≡ (w, more)
@@ -177,33 +167,29 @@ word-read limit pre text more w cs (tilde_greater g b t p j k h m) e = rw (
   e.bound,
 ) refl
 
-word-begins : (limit : ℕ) (pre : Bool) (text : List ℕ) (w : Word) (cs : List Comparison) → IsPlainWord limit pre text w cs
-    → begins is_word_byte text ≡ true
-word-begins limit pre text w cs (bare t p h) = rw append-nil at (begins-word t [] (partial-begins limit pre t p h))
-word-begins limit pre text w cs (signed s b t p k h m) = grind arith
-word-begins limit pre text w cs (tilde_greater g b t p j k h m) = refl
-
-pub words-begin : (limit : ℕ) (pre : Bool) (text : List ℕ) (ws : List Word) (cs : List Comparison) → ArePlainWords limit pre text ws cs
-    → begins is_word_byte text ≡ true
-words-begin limit pre text ws cs (one_word t w c h) = word-begins limit pre t w c h
-words-begin limit pre text ws cs (more_words t b rest w us c d h k some more) =
-    begins-on is_word_byte t (b ++ rest) (word-begins limit pre t w c h)
-
 words-from : (limit : ℕ) (text more : List ℕ) (w : Word) → begins is_word_byte text ≡ true → word_at limit text ≡ (w, more)
     → words limit text ≡ w ∷ words limit (drop_spaces more)
 words-from limit text more w b read = grind (arith, words-step, word-dark, begins-some)
 
-pub words-read : (limit : ℕ) (pre : Bool) (text : List ℕ) (ws : List Word) (cs : List Comparison) → ArePlainWords limit pre text ws cs
-    → words limit text ≡ ws
-unfolding words_within after_spaces
-words-read limit pre text ws cs (one_word t w c h) =
-    words-from limit t [] w (word-begins limit pre t w c h) (rw append-nil at (word-read limit pre t [] w c h (ends-nil limit)))
-words-read limit pre text ws cs (more_words t b rest w us c d h k some more) =
-    let opens = words-begin limit pre rest us d more in
-    words-from limit (t ++ (b ++ rest)) (b ++ rest) w (begins-on is_word_byte t (b ++ rest) (word-begins limit pre t w c h))
-    (word-read limit pre t (b ++ rest) w c h (ends-blank limit b rest k some opens))
-    ∙ ap (λ (t : List ℕ). w ∷ words limit t) (blank-skipped b rest k (word-dark rest opens))
-    ∙ ap (λ (l : List Word). w ∷ l) (words-read limit pre rest us d more)
+module _ {limit : ℕ} {pre : Bool} where
+  word-begins : {text : List ℕ} {w : Word} {cs : List Comparison} → IsPlainWord limit pre text w cs → begins is_word_byte text ≡ true
+  word-begins (bare t p h) = rw append-nil at (begins-word t [] (partial-begins limit pre t p h))
+  word-begins (signed s b t p k h m) = grind arith
+  word-begins (tilde_greater g b t p j k h m) = refl
+
+  pub words-begin : {text : List ℕ} {ws : List Word} {cs : List Comparison} → ArePlainWords limit pre text ws cs
+      → begins is_word_byte text ≡ true
+  words-begin (one_word t w c h) = word-begins h
+  words-begin (more_words t b rest w us c d h k some more) = begins-on is_word_byte t (b ++ rest) (word-begins h)
+
+  pub words-read : {text : List ℕ} {ws : List Word} {cs : List Comparison} → ArePlainWords limit pre text ws cs → words limit text ≡ ws
+  unfolding words_within after_spaces
+  words-read (one_word t w c h) = words-from limit t [] w (word-begins h) (rw append-nil at (word-read limit pre t [] w c h (ends-nil limit)))
+  words-read (more_words t b rest w us c d h k some more) =
+      let opens = words-begin more in
+      words-from limit (t ++ (b ++ rest)) (b ++ rest) w (begins-on is_word_byte t (b ++ rest) (word-begins h))
+      (word-read limit pre t (b ++ rest) w c h (ends-blank limit b rest k some opens))
+      ∙ ap (λ (t : List ℕ). w ∷ words limit t) (blank-skipped b rest k (word-dark rest opens)) ∙ ap (λ (l : List Word). w ∷ l) (words-read more)
 
 -- ---- hyphen ranges
 

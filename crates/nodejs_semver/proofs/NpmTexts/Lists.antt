@@ -1,83 +1,43 @@
 -- The lists of identifiers behind a mark that `coerce` finds: as long as they can be, strict or not.
-use Rattle.nodejs_semver.proofs.Common.{Bool, Id, List, [], and_parts, ap, arith, begins, begins_identifier, cases_Bool, common_steps}
-use Rattle.nodejs_semver.proofs.Common.{drop, eqb-true, false, identifier_of, inl, inr, is_ascii_digit, is_identifier}
-use Rattle.nodejs_semver.proofs.Common.{is_identifier_char, length, list_all, map, nat_tests, not, onto_first, pieces, prefix_len, refl}
-use Rattle.nodejs_semver.proofs.Common.{suc, sym, take, take-append-drop, true, ℕ, ◌&&◌, ◌++◌, ◌+◌, ◌-◌, ◌<◌, ◌==◌, ◌∙◌, ◌∷◌, ◌≡◌, ◌≤◌}
-use Rattle.nodejs_semver.proofs.NpmCommon.{begins_padded, has_leading_zero, listed, take_while}
-use Rattle.nodejs_semver.specs.Internal.NpmTuples.{IsStretch, list_len_in, marked_len}
-use Rattle.nodejs_semver.specs.Npm.Coerced.{IsMarkedList, begins_identifier_in, goes_on_in, is_identifier_in, marked, unmarked}
+use Rattle.nodejs_semver.proofs.Common.{Bool, Id, List, [], all_weaker, and-true, and_parts, ap, arith, begins, begins_identifier, cases_Bool, drop}
+use Rattle.nodejs_semver.proofs.Common.{eqb-true, false, get_or, identifier_of, inl, inr, is_ascii_digit, is_identifier, is_identifier_char, length}
+use Rattle.nodejs_semver.proofs.Common.{length-drop, list_all, map, nat_tests, not, onto_first, or-false, or_parts, pieces, prefix_len, refl, suc}
+use Rattle.nodejs_semver.proofs.Common.{sym, take, take_rest, true, zero, ℕ, ◌&&◌, ◌++◌, ◌+◌, ◌-◌, ◌<◌, ◌==◌, ◌∙◌, ◌∷◌, ◌≡◌, ◌≤◌}
+use Rattle.nodejs_semver.proofs.{NpmCommon.{begins_padded, has_leading_zero, listed, take_while}, Reading.IdentifierLists.written-spelled}
+use Rattle.nodejs_semver.{proofs.{Reading.PartialLaw.byte-begins, Strict.PartialLaw.prefix-all}, specs.Internal.NpmTuples.{IsStretch, list_len_in}}
+use Rattle.nodejs_semver.specs.{Internal.NpmTuples.marked_len, Npm.Coerced.{IsMarkedList, begins_identifier_in, goes_on_in, is_identifier_in, marked}}
+use Rattle.{nodejs_semver.specs.Npm.Coerced.unmarked, semver_core.proofs.Text.Ends.{is_spelled, nothing_listed, nothing_spelled}}
+use Rattle.{semver_core.specs.Text.Identifiers.is_listed, std.proofs.{Common.add-one, Math.Seq.drop-cons, lemmas.List.{drop-drop, drop_all}}}
 use Rattle.std.proofs.lemmas.List.Splits.{length-slice_split}
-use Rattle.std.proofs.Math.Seq.{drop-cons}
-use Rattle.std.proofs.Common.{add-one}
-use Rattle.nodejs_semver.proofs.Common.{and-false, and-true, nat_lt, or-false, or_parts, take_rest, zero, IsIdentifiers, all_weaker, cases_lt, take_at, drop_at, length-drop}
-use Rattle.nodejs_semver.proofs.{Reading.IdentifierLists.written-spelled, Reading.PartialLaw.byte-begins}
-use Rattle.semver_core.proofs.Text.Ends.{is_spelled, nothing_listed, nothing_spelled}
-use Rattle.semver_core.specs.Text.Identifiers.{is_listed}
-use Rattle.std.proofs.lemmas.List.{drop-drop, drop_all}
 
 -- ---- an identifier at the front
 
 while-on : (p : ℕ → Bool) (c : ℕ) (t : List ℕ) → p c ≡ true → take_while p (c ∷ t) ≡ c ∷ take_while p t
 while-on p c t h = let e : 1 + prefix_len p t ≡ suc (prefix_len p t) = omega arith in rw (h, e) refl
 
+behind-on : (p : ℕ → Bool) (c : ℕ) (t : List ℕ) → p c ≡ true → drop (prefix_len p (c ∷ t)) (c ∷ t) ≡ drop (prefix_len p t) t
+behind-on p c t h = let e : 1 + prefix_len p t ≡ suc (prefix_len p t) = omega arith in rw (h, e) refl
+
 while-off : (p : ℕ → Bool) (t : List ℕ) → begins p t ≡ false → take_while p t ≡ []
 while-off p [] h = refl
 while-off p (c ∷ t) h = rw h refl
 
-all-while : (p : ℕ → Bool) (t : List ℕ) → list_all p (take_while p t) ≡ true
-all-while p [] = refl
-all-while p (c ∷ t) = elim (cases_Bool (p c)) [
-  | inl on ↦ rw (while-on p c t on, on) (all-while p t)
-  | inr off ↦ rw (while-off p (c ∷ t) off) refl
-]
-
--- what passes the narrower test alone goes on, behind that, with nothing
-alone : (p q : ℕ → Bool) → ((c : ℕ) → p c ≡ true → q c ≡ true) → (t : List ℕ)
-    → list_all p (take_while q t) ≡ not (begins q (drop (prefix_len p t) t))
-alone p q h [] = refl
-alone p q h (c ∷ t) = elim (cases_Bool (p c)) [
-  | inl narrow ↦
-      let e : 1 + prefix_len p t ≡ suc (prefix_len p t) = omega arith in
-      rw (while-on q c t (h c narrow), narrow, e) (alone p q h t)
-  | inr other ↦ elim (cases_Bool (q c)) [
-    | inl wide ↦ rw (while-on q c t wide, other, wide) refl
-    | inr off ↦ rw (while-off q (c ∷ t) off, other, off) refl
-  ]
-]
-
-digit-char : (c : ℕ) → is_ascii_digit c ≡ true → is_identifier_char c ≡ true
-digit-char c h = grind (arith, nat_tests)
-
+-- what is digits alone goes on, behind these, with nothing
 digits-alone : (t : List ℕ) → list_all is_ascii_digit (take_while is_identifier_char t)
     ≡ not (begins_identifier (drop (prefix_len is_ascii_digit t) t))
-digits-alone t = alone is_ascii_digit is_identifier_char digit-char t
+digits-alone [] = refl
+digits-alone (c ∷ t) = grind (arith, nat_tests, while-on is_identifier_char c t, behind-on is_ascii_digit c t, digits-alone t)
 
 is-id : (t : List ℕ) → is_identifier (take_while is_identifier_char t) ≡ begins_identifier t
 is-id [] = refl
-is-id (c ∷ t) = elim (cases_Bool (is_identifier_char c)) [
-  | inl on ↦ rw (while-on is_identifier_char c t on, on, all-while is_identifier_char t) (grind (arith, nat_tests))
-  | inr off ↦ rw (while-off is_identifier_char (c ∷ t) off, off) refl
-]
+is-id (c ∷ t) = grind (arith, nat_tests, while-on is_identifier_char c t, prefix-all is_identifier_char t)
 
 -- a leading zero, once all are digits
 zero-while : (t : List ℕ) → list_all is_ascii_digit (take_while is_identifier_char t) ≡ true
     → has_leading_zero (take_while is_identifier_char t) ≡ begins_padded t
 zero-while [] h = refl
-zero-while (c ∷ []) h = elim (cases_Bool (is_identifier_char c)) [
-  | inl on ↦ rw on refl
-  | inr off ↦ rw off refl
-]
-zero-while (c ∷ d ∷ t) h = elim (cases_Bool (is_identifier_char c)) [
-  | inr off ↦ rw off (grind (arith, nat_tests))
-  | inl on ↦ elim (cases_Bool (is_identifier_char d)) [
-    | inr off ↦ rw (while-on is_identifier_char c (d ∷ t) on, while-off is_identifier_char (d ∷ t) off) (grind (arith, nat_tests))
-    | inl more ↦
-        let long = while-on is_identifier_char c (d ∷ t) on ∙ ap (λ (r : List ℕ). c ∷ r) (while-on is_identifier_char d t more) in
-        let others = list_all is_ascii_digit (take_while is_identifier_char t) in
-        let each = and_parts (is_ascii_digit c) (is_ascii_digit d && others) (rw long at h) in
-        rw (long, (and_parts (is_ascii_digit d) others each.1).0) (sym (and-true (c == 48)))
-  ]
-]
+zero-while (c ∷ []) h = grind (arith, nat_tests)
+zero-while (c ∷ d ∷ t) h = grind (arith, nat_tests, while-on is_identifier_char c (d ∷ t), while-on is_identifier_char d t)
 
 pub begins_plain : (strict : Bool) (t : List ℕ) → (strict && begins_padded t) ≡ false → begins_identifier_in strict t ≡ begins_identifier t
 begins_plain false t h = rw (is-id t) (and-true (begins_identifier t))
@@ -91,17 +51,10 @@ padded-begins [] h = cc h
 padded-begins (c ∷ []) h = cc h
 padded-begins (c ∷ d ∷ t) h = grind (arith, nat_tests)
 
-not-swap : (a b : Bool) → a ≡ not b → not a ≡ b
-not-swap a true h = rw h refl
-not-swap a false h = rw h refl
-
 -- a number with a leading zero goes on, behind its digits, as no number
 pub begins_long : (t : List ℕ) → begins_padded t ≡ true
     → begins_identifier_in true t ≡ begins_identifier (drop (prefix_len is_ascii_digit t) t)
-begins_long t h = elim (cases_Bool (list_all is_ascii_digit (take_while is_identifier_char t))) [
-  | inl all ↦ rw (is-id t, all, zero-while t all, h, and-false (begins_identifier t)) (not-swap _ _ (sym all ∙ digits-alone t))
-  | inr some ↦ rw (is-id t, some, and-true (begins_identifier t)) (padded-begins t h ∙ not-swap _ _ (sym some ∙ digits-alone t))
-]
+begins_long t h = grind (arith, is-id t, zero-while t, digits-alone t, padded-begins t)
 
 pub ruleset identifier_begins = (begins_plain, begins_long, take_rest)
 
@@ -128,17 +81,10 @@ pub ruleset list_lens = (len_step, len_stop, len_past, take_rest)
 -- ---- the pieces of a list
 
 abbrev first_piece : List (List ℕ) → List ℕ
-first_piece [] = []
-first_piece (p ∷ ps) = p
+first_piece ps = get_or ps 0 []
 
 abbrev later : List (List ℕ) → List (List ℕ)
-later [] = []
-later (p ∷ ps) = ps
-
--- the pieces of the longest list at the front: the first is what the text begins with, and the others are identifiers
-record AreTaken (strict : Bool) (t : List ℕ) (ps : List (List ℕ)) : Type 0 where
-  front : first_piece ps ≡ take_while is_identifier_char t
-  others : list_all (is_identifier_in strict) (later ps) ≡ true
+later ps = drop 1 ps
 
 all-pieces : (p : List ℕ → Bool) (ps : List (List ℕ)) → p (first_piece ps) ≡ true → list_all p (later ps) ≡ true → list_all p ps ≡ true
 all-pieces p [] h k = refl
@@ -148,54 +94,47 @@ on-first : (c : ℕ) (ps : List (List ℕ)) → (first_piece (onto_first c ps) �
 on-first c [] = (refl, refl)
 on-first c (p ∷ ps) = (refl, refl)
 
-taken : (strict : Bool) (t : List ℕ) → AreTaken strict t (pieces (take (list_len_in strict t) t))
+quiet-begins : (strict : Bool) (more : List ℕ) → goes_on_in strict more ≡ false → begins_identifier more ≡ false
+quiet-begins strict [] h = refl
+quiet-begins strict (c ∷ more) h = (or_parts (is_identifier_char c) (c == 46 && begins_identifier_in strict more) h).0
+
+-- the pieces of the longest list at the front: the first is what the text begins with, and the others are identifiers
+taken : (strict : Bool) (t : List ℕ) → (first_piece (pieces (take (list_len_in strict t) t)) ≡ take_while is_identifier_char t)
+    × (list_all (is_identifier_in strict) (later (pieces (take (list_len_in strict t) t))) ≡ true)
 unfolding list_len_in
-taken strict [] = record { front = refl; others = refl }
+taken strict [] = (refl, refl)
 taken strict (c ∷ t) = elim (cases_Bool (goes_on_in strict (c ∷ t))) [
-  | inr stop ↦
-      let off = (or_parts (is_identifier_char c) (c == 46 && begins_identifier_in strict t) stop).0 in
-      rw stop (record { front = sym (while-off is_identifier_char (c ∷ t) off); others = refl })
+  | inr stop ↦ rw stop (sym (while-off is_identifier_char (c ∷ t) (quiet-begins strict (c ∷ t) stop)), refl)
   | inl more ↦
       let r = taken strict t in
       let z = take (list_len_in strict t) t in
-      let step : take (list_len_in strict (c ∷ t)) (c ∷ t) ≡ c ∷ z = let e : 1 + list_len_in strict t ≡ suc (list_len_in strict t) = omega arith in rw (more, e) refl in
-      rw step (elim (cases_Bool (c == 46)) [
+      let e : 1 + list_len_in strict t ≡ suc (list_len_in strict t) = omega arith in
+      rw (more, e) (elim (cases_Bool (c == 46)) [
         | inl dot ↦
             let is : begins_identifier_in strict t ≡ true = rw (eqb-true c 46 dot) at more in
-            rw dot (record {
-              front = rw (eqb-true c 46 dot) refl;
-              others = all-pieces (is_identifier_in strict) (pieces z) (rw r.front is) r.others;
-            })
+            rw (eqb-true c 46 dot) (refl, all-pieces (is_identifier_in strict) (pieces z) (rw r.0 is) r.1)
         | inr other ↦
             let on : is_identifier_char c ≡ true = sym (or-false (is_identifier_char c)) ∙ (rw other at more) in
             let onto = on-first c (pieces z) in
-            rw other (record {
-              front = onto.0 ∙ ap (λ (r : List ℕ). c ∷ r) r.front ∙ sym (while-on is_identifier_char c t on);
-              others = rw onto.1 r.others;
-            })
+            rw other (onto.0 ∙ ap (λ (r : List ℕ). c ∷ r) r.0 ∙ sym (while-on is_identifier_char c t on), rw onto.1 r.1)
       ])
 ]
 
 list-taken : (strict : Bool) (t : List ℕ) → begins_identifier_in strict t ≡ true
     → list_all (is_identifier_in strict) (pieces (take (list_len_in strict t) t)) ≡ true
 list-taken strict t h = let r = taken strict t in
-    all-pieces (is_identifier_in strict) (pieces (take (list_len_in strict t) t)) (rw r.front h) r.others
+    all-pieces (is_identifier_in strict) (pieces (take (list_len_in strict t) t)) (rw r.0 h) r.1
 
 list-ended : (strict : Bool) (t : List ℕ) → goes_on_in strict (drop (list_len_in strict t) t) ≡ false
 unfolding list_len_in
 list-ended strict [] = refl
-list-ended strict (c ∷ t) = elim (cases_Bool (goes_on_in strict (c ∷ t))) [
-  | inr stop ↦ rw stop stop
-  | inl more ↦ let e : 1 + list_len_in strict t ≡ suc (list_len_in strict t) = omega arith in rw (more, e) (list-ended strict t)
-]
+list-ended strict (c ∷ t) =
+    let e : 1 + list_len_in strict t ≡ suc (list_len_in strict t) = omega arith in grind (arith, e, list-ended strict t)
 
 len-le : (strict : Bool) (t : List ℕ) → list_len_in strict t ≤ length t
 unfolding list_len_in
 len-le strict [] = omega arith
-len-le strict (c ∷ t) = elim (cases_Bool (goes_on_in strict (c ∷ t))) [
-  | inr stop ↦ rw stop (omega arith)
-  | inl more ↦ rw more (omega (arith, len-le strict t))
-]
+len-le strict (c ∷ t) = grind (arith, len-le strict t)
 
 -- from each place in a list it goes on to the same end
 within : (strict : Bool) (t : List ℕ) (i : ℕ) → i < list_len_in strict t → i + list_len_in strict (drop i t) ≡ list_len_in strict t
@@ -209,67 +148,49 @@ within strict (c ∷ t) (suc i) h = elim (cases_Bool (goes_on_in strict (c ∷ t
 
 -- ---- a written list is read
 
-record AreRead (strict : Bool) (t more : List ℕ) : Type 0 where
-  len : list_len_in strict (t ++ more) ≡ length t
-  front : take_while is_identifier_char (t ++ more) ≡ first_piece (pieces t)
-
-first-is : (strict : Bool) (ps : List (List ℕ)) → 0 < length ps → list_all (is_identifier_in strict) ps ≡ true
-    → is_identifier_in strict (first_piece ps) ≡ true
-first-is strict [] some h = absurd (omega (arith, some))
-first-is strict (p ∷ ps) some h = (and_parts (is_identifier_in strict p) (list_all (is_identifier_in strict) ps) h).0
-
-later-are : (strict : Bool) (ps : List (List ℕ)) → list_all (is_identifier_in strict) ps ≡ true → list_all (is_identifier_in strict) (later ps) ≡ true
-later-are strict [] h = refl
-later-are strict (p ∷ ps) h = (and_parts (is_identifier_in strict p) (list_all (is_identifier_in strict) ps) h).1
+parts : (strict : Bool) (ps : List (List ℕ)) → 0 < length ps → list_all (is_identifier_in strict) ps ≡ true
+    → (is_identifier_in strict (first_piece ps) ≡ true) × (list_all is_identifier_char (first_piece ps) ≡ true)
+    × (list_all (is_identifier_in strict) (later ps) ≡ true)
+parts strict [] some h = absurd (omega (arith, some))
+parts strict (p ∷ ps) some h = let both = and_parts (is_identifier_in strict p) (list_all (is_identifier_in strict) ps) h in
+    (both.0, (and_parts _ _ (and_parts _ _ both.0).0).1, both.1)
 
 pieces-some : (t : List ℕ) → 0 < length (pieces t)
 pieces-some t = omega (arith, length-slice_split (λ c. c == 46) t)
 
-id-chars : (strict : Bool) (t : List ℕ) → is_identifier_in strict t ≡ true → list_all is_identifier_char t ≡ true
-id-chars strict t h =
-    let is = (and_parts (is_identifier t) (not (strict && list_all is_ascii_digit t && has_leading_zero t)) h).0 in
-    (and_parts (nat_lt 0 (length t)) (list_all is_identifier_char t) is).1
-
-quiet-begins : (strict : Bool) (more : List ℕ) → goes_on_in strict more ≡ false → begins_identifier more ≡ false
-quiet-begins strict [] h = refl
-quiet-begins strict (c ∷ more) h = (or_parts (is_identifier_char c) (c == 46 && begins_identifier_in strict more) h).0
-
 are-read : (strict : Bool) (t more : List ℕ) → list_all is_identifier_char (first_piece (pieces t)) ≡ true
-    → list_all (is_identifier_in strict) (later (pieces t)) ≡ true → goes_on_in strict more ≡ false → AreRead strict t more
+    → list_all (is_identifier_in strict) (later (pieces t)) ≡ true → goes_on_in strict more ≡ false
+    → (list_len_in strict (t ++ more) ≡ length t) × (take_while is_identifier_char (t ++ more) ≡ first_piece (pieces t))
 unfolding list_len_in
-are-read strict [] more h k stop =
-    record { len = len_stop strict more stop; front = while-off is_identifier_char more (quiet-begins strict more stop) }
+are-read strict [] more h k stop = (len_stop strict more stop, while-off is_identifier_char more (quiet-begins strict more stop))
 are-read strict (c ∷ t) more h k stop = elim (cases_Bool (c == 46)) [
   | inl dot ↦
-      let all : list_all (is_identifier_in strict) (pieces t) ≡ true = rw dot at k in
-      let first = first-is strict (pieces t) (pieces-some t) all in
-      let r = are-read strict t more (id-chars strict (first_piece (pieces t)) first) (later-are strict (pieces t) all) stop in
-      let begins : begins_identifier_in strict (t ++ more) ≡ true = rw r.front first in
-      record { len = rw (eqb-true c 46 dot, begins, r.len) (omega arith); front = rw (eqb-true c 46 dot) refl }
+      let all = parts strict (pieces t) (pieces-some t) (rw dot at k) in
+      let r = are-read strict t more all.1 all.2 stop in
+      let begins : begins_identifier_in strict (t ++ more) ≡ true = rw r.1 all.0 in
+      rw (eqb-true c 46 dot, begins, r.0) (omega arith, refl)
   | inr other ↦
       let onto = on-first c (pieces t) in
       let both = and_parts (is_identifier_char c) (list_all is_identifier_char (first_piece (pieces t))) (rw (other, onto.0) at h) in
-      let r = are-read strict t more both.1 (rw (other, onto.1) at k) stop in
-      record {
-        len = rw (both.0, r.len) (omega arith);
-        front = rw other (while-on is_identifier_char c (t ++ more) both.0 ∙ ap (λ (p : List ℕ). c ∷ p) r.front ∙ sym onto.0);
-      }
+      let r = are-read strict t more both.1 (rw (other, onto.1) at k) stop in (
+        rw (both.0, r.0) (omega arith),
+        rw other (while-on is_identifier_char c (t ++ more) both.0 ∙ ap (λ (p : List ℕ). c ∷ p) r.1 ∙ sym onto.0),
+      )
 ]
 
 -- ---- a list behind its mark
 
 plain-ids : (strict : Bool) (ps : List (List ℕ)) → list_all (is_identifier_in strict) ps ≡ true → list_all is_identifier ps ≡ true
-plain-ids strict ps h = all_weaker (is_identifier_in strict) is_identifier (λ t is.
-    (and_parts (is_identifier t) (not (strict && list_all is_ascii_digit t && has_leading_zero t)) is).0) ps h
+plain-ids strict ps h = all_weaker (is_identifier_in strict) is_identifier (λ t is. (and_parts _ _ is).0) ps h
 
 abbrev pub MarkedAt : Bool → Bool → ℕ → List ℕ → ℕ → Type 0
 MarkedAt included strict mark text len = IsMarkedList included strict mark (take len text) (drop len text) (listed (drop 1 (take len text)))
-    × (is_listed (drop 1 (take len text)) ≡ true) × (len ≤ length text)
+    × (is_listed (drop 1 (take len text)) ≡ true)
 
 pub marked-found : (included strict : Bool) (mark : ℕ) (text : List ℕ) → MarkedAt included strict mark text (marked_len included strict mark text)
 marked-found included strict mark text =
     elim (cases_Bool (included && begins (λ c. c == mark) text && begins_identifier_in strict (drop 1 text))) [
-      | inr none ↦ rw (none, nothing_spelled) (unmarked text none, nothing_listed, omega arith)
+      | inr none ↦ rw (none, nothing_spelled) (unmarked text none, nothing_listed)
       | inl some ↦
           let y = drop 1 text in
           let n = list_len_in strict y in
@@ -282,22 +203,18 @@ marked-found included strict mark text =
           let taken : take (1 + n) text ≡ mark ∷ take n y = rw e (ap (λ (t : List ℕ). take (suc n) t) whole) in
           let left : drop (1 + n) text ≡ drop n y = rw e (ap (λ (t : List ℕ). drop (suc n) t) whole) in
           let spelled = written-spelled (take n y) (map identifier_of (pieces (take n y))) (record { runs = runs; spelled = refl }) in
-          rw (some, taken, left, spelled) (
-            marked (take n y) (drop n y) one.0 all (list-ended strict y),
-            is_spelled (take n y) runs,
-            omega (arith, ap length whole, len-le strict y),
-          )
+          rw (some, taken, left, spelled) (marked (take n y) (drop n y) one.0 all (list-ended strict y), is_spelled (take n y) runs)
     ]
 
 pub marked-read : (included strict : Bool) (mark : ℕ) (p more : List ℕ) (l : List Id) → IsMarkedList included strict mark p more l
     → (marked_len included strict mark (p ++ more) ≡ length p) × (listed (drop 1 p) ≡ l)
 marked-read included strict mark p more l (unmarked rest h) = (rw h refl, nothing_spelled)
 marked-read included strict mark p more l (marked t rest inc all stop) =
-    let first = first-is strict (pieces t) (pieces-some t) all in
-    let r = are-read strict t rest (id-chars strict (first_piece (pieces t)) first) (later-are strict (pieces t) all) stop in
-    let begins : begins_identifier_in strict (t ++ rest) ≡ true = rw r.front first in
+    let is = parts strict (pieces t) (pieces-some t) all in
+    let r = are-read strict t rest is.1 is.2 stop in
+    let begins : begins_identifier_in strict (t ++ rest) ≡ true = rw r.1 is.0 in
     let same : (mark == mark) ≡ true = grind (arith, nat_tests) in (
-      rw (inc, same, begins, r.len) (omega arith),
+      rw (inc, same, begins, r.0) (omega arith),
       written-spelled t (map identifier_of (pieces t)) (record { runs = plain-ids strict (pieces t) all; spelled = refl }),
     )
 
@@ -321,6 +238,3 @@ stretch_new strict text at to inside e = record {
       let there = within strict (drop at text) (i - at) (omega (arith, before, past, e)) in
       omega (arith, e, past, rw (drop-drop (i - at) at text, k) at there);
 }
-
-pub stretch_empty : (strict : Bool) (text : List ℕ) → IsStretch strict text (record { from = 0; to = 0 })
-stretch_empty strict text = record { fits = omega arith; each = λ i past before. absurd (omega (arith, before)) }

@@ -172,8 +172,8 @@ one_is = one (codes "1") (Some 1) (number (codes "1") 1 (record { some = lit< tt
 words-one : (loose : Bool) (text partial : List ℕ) (cs : List Comparison) → IsWord loose false text partial cs → is_short loose partial ≡ true
     → AreWords loose false text (Some cs ∷ [])
 words-one loose text partial cs h short =
-    let w : BeginsWord loose false text [] cs = record { word = text; partial = partial; divided = sym (append-nil text); is = h; ended = inl refl } in
-    more text [] (Some cs) [] (formed [] cs w short ([], refl, no_blank, no-blank)) none
+    let w : BeginsWord loose false text partial [] cs = (text, sym (append-nil text), h, inl refl) in
+    more text [] (Some cs) [] (formed partial [] cs w short ([], refl, no_blank, no-blank)) none
 
 -- `> =1` is `>=1`, `^ = 1` is `^1` and `~> >1` is `~1`
 row-late : AreWords false false (codes "> =1") (Some (table false (compared at_least) (major 1) (codes "1")) ∷ [])

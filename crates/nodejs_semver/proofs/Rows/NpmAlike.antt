@@ -28,11 +28,8 @@ part_is text rest M marked n spelled short = record {
   rest = rest;
   marked = marked;
   here = Here.one rest (Some M) (Here.number rest M n);
-  npm = (
-    Npm.one rest (Some M)
-        (Npm.number rest M (record { some = n.some; each = n.each; value = n.value; safe = omega arith }) spelled short),
-    refl,
-  );
+  npm = Npm.one rest (Some M)
+      (Npm.number rest M (record { some = n.some; each = n.each; value = n.value; safe = omega arith }) spelled short);
   plain = refl;
 }
 

@@ -1,321 +1,251 @@
 -- The malformed word of a range text, and its first alternative that is malformed.
-use Rattle.nodejs_semver.proofs.Common.{AllByRecursion, Bool, IsAfterBlank, IsCutAtBars, IsTrim, IsUtf8, List, MAX_SAFE_INTEGER, None, Option, Some}
-use Rattle.nodejs_semver.proofs.Common.{[], after_blank-place, and_parts, ap, append-nil, append_assoc, arith, bind_some, common_steps, cut_bars}
-use Rattle.nodejs_semver.proofs.Common.{drop_spaces, false, from_boundary, is_empty, length, length-append, list_all, middle_is_trim, more_pieces}
-use Rattle.nodejs_semver.proofs.Common.{nat_tests, one_piece, refl, same_Some, subst, sym, trim, true, ℕ, ◌++◌, ◌+◌, ◌-◌, ◌<◌, ◌↔◌, ◌∙◌, ◌∷◌, ◌≡◌}
-use Rattle.nodejs_semver.proofs.{Common.◌≤◌, Diagnosing.IgnoredParts.{part_ends, part_fits, sizes_of}, Dividing.BarLemmas.cut_bars-front}
-use Rattle.nodejs_semver.proofs.{Dividing.{BarLemmas.parts_after, BarsDivide.{bars_divide, bars_once}, MeaningLaw.pieces-utf8}, NpmCommon.Alternative}
-use Rattle.nodejs_semver.proofs.NpmCommon.{AreAlternatives, Comparison, Counted, HasAlternatives, IsAlternative, IsFound, IsLeft, IsMalformedWord, NoValue}
-use Rattle.nodejs_semver.proofs.NpmCommon.{Signed, alternative_of, counted_word, first_valid, here, is_none, is_short, is_small, is_valid, marks_len, none}
-use Rattle.nodejs_semver.proofs.NpmCommon.{npm_sign, signed_word, valid_alternative, valid_one, ◌>>?◌}
-use Rattle.nodejs_semver.proofs.Reading.{PartialLaw.spaces-le, WordLaw.{boundary-of, first-is, first-of}}
-use Rattle.nodejs_semver.proofs.Reading.WordLaw.{skips-is, skips-of, skips-utf8, trim-utf8}
+use Rattle.nodejs_semver.proofs.Common.{AllByRecursion, Bool, Front, IsAfterBlank, IsCutAtBars, IsTrim, IsUtf8, List, MAX_SAFE_INTEGER, None, Option}
+use Rattle.nodejs_semver.proofs.Common.{Some, [], after_blank-place, and_parts, ap, append-nil, append_assoc, arith, bind_some, common_steps, ℕ, ◌<◌}
+use Rattle.nodejs_semver.proofs.Common.{cond_some, cut_bars, drop, drop_spaces, false, inl, inr, is_empty, length, length-append, list_all, ◌∙◌, ◌∷◌}
+use Rattle.nodejs_semver.proofs.Common.{middle_is_trim, more_pieces, nat_tests, one_piece, refl, same_Some, subst, sym, trim, true, ◌++◌, ◌+◌, ◌-◌}
+use Rattle.nodejs_semver.{proofs.{Common.{◌≡◌, ◌≤◌}, Diagnosing.IgnoredParts.{part_ends, part_fits, sizes_of}}, specs.Npm.Table.{Partial, table}}
+use Rattle.nodejs_semver.proofs.Dividing.{BarLemmas.{cut_bars-front, parts_after}, BarsDivide.{bars_divide, bars_once}, MeaningLaw.pieces-utf8}
+use Rattle.nodejs_semver.proofs.NpmCommon.{Alternative, AreAlternatives, Comparison, Counted, HasAlternatives, IsAlternative, IsFound, IsLeft, none}
+use Rattle.nodejs_semver.proofs.NpmCommon.{IsMalformedWord, NoValue, Signed, alternative_of, counted_word, first_valid, here, is_none, is_valid}
+use Rattle.nodejs_semver.proofs.{NpmCommon.{marks_len, npm_sign, signed_word, valid_alternative, valid_one}, Reading.PartialLaw.spaces-le}
+use Rattle.nodejs_semver.proofs.Reading.{Steps.option-cases, WordLaw.{boundary-of, first-of, skips-is, skips-of, skips-utf8, trim-utf8}}
 use Rattle.nodejs_semver.proofs.Strict.{AlternativeLaw.{alternative-found, alternative-read}, Counted.first-valid, RangeReads.found-some}
-use Rattle.nodejs_semver.proofs.Strict.Words.{WordAt, WordRead, first-read, signed-found, strict-kept, word-read}
-use Rattle.nodejs_semver.specs.Internal.{NpmWords.{counted_or, ended_counted_word, ended_word, places_front}, PartFronts.front_part}
-use Rattle.nodejs_semver.specs.Npm.{MalformedWords.{IsRightWord, on}, RangeFlaws.{IsAlternativeText, IsRangeFlaw, bytes_of}, RangeText.{formed, hyphen, next, words}, Table.{Partial, Sign, table}}
-use Rattle.nodejs_semver.specs.{Text.WordText.SkipsBlank, declared.npm.range_flaws.RangeFlaw.RangeFlaw}
-use Rattle.semver_core.proofs.Text.Trims.{one_after_blank}
-use Rattle.nodejs_semver.proofs.Common.{Front, cond_some, drop, if◌then◌else◌, take, ◌&&◌}
+use Rattle.nodejs_semver.{proofs.Strict.Words.{WordAt, first-read, signed-found, strict-kept, word-read}, specs.Internal.NpmWords.counted_or}
+use Rattle.nodejs_semver.specs.{Internal.{NpmWords.places_front, PartFronts.front_part}, Npm.{MalformedWords.{IsRightWord, on}, RangeFlaws.bytes_of}}
+use Rattle.nodejs_semver.specs.{Npm.{RangeFlaws.{IsAlternativeText, IsRangeFlaw}, RangeText.{formed, hyphen, next, words}}, Text.WordText.SkipsBlank}
+use Rattle.{nodejs_semver.specs.declared.npm.range_flaws.RangeFlaw.RangeFlaw, semver_core.proofs.Text.Trims.one_after_blank}
+use Rattle.std.proofs.lemmas.List.Elements.{All-from_recursion, All-push, recursion_from_All}
 
-abbrev Right : Bool → List ℕ → List ℕ → Type 0
-Right = IsRightWord MAX_SAFE_INTEGER
+-- of a list of which something is true, it is true of this element
+middle : (P : List ℕ → Type 0) (front : List (List ℕ)) (p : List ℕ) (behind : List (List ℕ)) → AllByRecursion P (front ++ p ∷ behind) → P p
+middle P [] p behind h = h.0
+middle P (q ∷ front) p behind h = middle P front p behind h.1
 
-abbrev Left : Bool → List ℕ → List ℕ → Type 0
-Left = IsLeft MAX_SAFE_INTEGER
+bytes-append : (ps : List (List ℕ)) (p : List ℕ) → bytes_of (ps ++ p ∷ []) ≡ bytes_of ps + (length p + 2)
+bytes-append [] p = omega arith
+bytes-append (q ∷ ps) p = omega (arith, bytes-append ps p)
 
--- ---- one word
-
-right-read : (include : Bool) (text behind : List ℕ) → (r : Right include text behind) → WordRead false include text r.is.partial r.comparators behind
-right-read include text behind r = subst (λ (t : List ℕ). WordRead false include t r.is.partial r.comparators behind) (sym r.is.divided)
-    (word-read false include r.is.word r.is.partial behind r.comparators r.is.is (boundary-of behind r.is.ended))
-
-right-at : (include : Bool) (text behind : List ℕ) → IsUtf8 text → (r : Right include text behind)
-    → WordAt false include text (right-read include text behind r).word behind
-right-at include text behind u r = let w = right-read include text behind r in signed-found false include text w.word behind u w.read
-
--- where none is read, there is none
-pub no-word : (include : Bool) (text : List ℕ) (o : Front Counted) → IsUtf8 text → o ≡ counted_word false MAX_SAFE_INTEGER text
-    → counted_or false MAX_SAFE_INTEGER include text o ≡ None → NoValue (Right include text)
-unfolding first_valid
-no-word include text o u e empty = λ behind r.
-    let skips = skips-is behind (right-at include text behind u r).utf8 in
-    let first = first-read false include text (drop_spaces behind) (Some r.comparators) u (formed behind r.comparators r.is refl skips) in
-    let some : first_valid false MAX_SAFE_INTEGER include text ≡ Some (Some r.comparators, drop_spaces behind) =
-    first-valid false include text ∙ rw (first, r.valid) refl in
-    cc (some, ap (counted_or false MAX_SAFE_INTEGER include text) e, empty)
-
-counted-signed : (text : List ℕ) (w : Counted × List ℕ) (p : Partial) → counted_word false MAX_SAFE_INTEGER text ≡ Some w → w.0.1 ≡ Some p
-    → signed_word false text ≡ Some ((w.0.0, p, w.0.2), w.1)
-unfolding counted_word signed_word
-counted-signed text w p h e = go (places_front false behind) h
-  where
-    s : Sign × List ℕ
-    s = npm_sign text
-
-    behind : List ℕ
-    behind = drop (marks_len s.1) s.1
-
-    go : (o : Front Partial)
-        → ((o >>? λ q. Some (if is_small MAX_SAFE_INTEGER q.0 && is_short false (take (length behind - length q.1) behind) then Some q.0 else None, q.1))
-        >>? λ q. ended_counted_word false s.0 s.1 (marks_len s.1) q) ≡ Some w
-        → (o >>? λ q. ended_word false s.0 s.1 (marks_len s.1) q) ≡ Some ((w.0.0, p, w.0.2), w.1)
-    go None k = cc k
-    go (Some q) k = grind (arith, nat_tests, common_steps, cond_some)
-
-pub right-word : (include : Bool) (text : List ℕ) (w : Counted × List ℕ) (p : Partial) → IsUtf8 text
-    → Some w ≡ counted_word false MAX_SAFE_INTEGER text → w.0.1 ≡ Some p
-    → list_all (is_valid MAX_SAFE_INTEGER) (table include w.0.0 p w.0.2) ≡ true → Right include text w.1
-right-word include text w p u e some good = record {
-  comparators = table include w.0.0 p w.0.2;
-  is = (signed-found false include text (w.0.0, p, w.0.2) w.1 u (counted-signed text w p (sym e) some)).is;
-  valid = good;
-}
-
--- ---- the words before it
-
-left-more : (include : Bool) (left text behind rest : List ℕ) → Left include left text → Right include left behind
-    → SkipsBlank behind rest → Left include rest text
-left-more include left text behind rest here r s = on left behind rest r s here
-left-more include left text behind rest (on t b x k z h) r s = on t b x k z (left-more include left x behind rest h r s)
-
--- one word more
-pub left-next : (include : Bool) (text left behind : List ℕ) → IsUtf8 left → Left include left text → Right include left behind
-    → Left include (drop_spaces behind) text × IsUtf8 (drop_spaces behind)
-left-next include text left behind u h r =
-    let v = (right-at include left behind u r).utf8 in
-    let s = skips-is behind v in (left-more include left text behind (drop_spaces behind) h r s, skips-utf8 behind (drop_spaces behind) s v)
-
-pub left-less : (include : Bool) (left behind : List ℕ) → IsUtf8 left → Right include left behind → length (drop_spaces behind) < length left
-left-less include left behind u r = omega (arith, (right-at include left behind u r).shorter, spaces-le behind)
-
-pub left-fits : (include : Bool) (left text : List ℕ) → Left include left text → length left ≤ length text
-left-fits include left text here = omega arith
-left-fits include left text (on t b x r s h) = grind (arith, nat_tests, common_steps, length-append, left-fits include left x h)
-
-left-once : (include : Bool) (l m text : List ℕ) → IsUtf8 text → Left include l text → Left include m text
-    → NoValue (Right include l) → NoValue (Right include m) → l ≡ m
-left-once include l m text u here here w z = refl
-left-once include l m text u here (on t b x r s h) w z = absurd (w b r)
-left-once include l m text u (on t b x r s h) here w z = absurd (z b r)
-left-once include l m text u (on t b x r s h) (on t' c y q v k) w z =
-    let behind : b ≡ c = ap (λ (q : Signed × List ℕ). q.1) (same_Some _ _ (sym (right-read _ _ _ r).read ∙ (right-read _ _ _ q).read)) in
-    let utf8 = (right-at _ _ _ u r).utf8 in
-    let rests : x ≡ y = sym (skips-of _ _ utf8 s) ∙ ap drop_spaces behind ∙ skips-of _ _ (right-at _ _ _ u q).utf8 v in
-    left-once _ _ _ _ (skips-utf8 _ _ s utf8) h (subst (λ (n : List ℕ). Left include m n) (sym rests) k) w z
-
-left-utf8 : (include : Bool) (left text : List ℕ) → IsUtf8 text → Left include left text → IsUtf8 left
-left-utf8 include left text u here = u
-left-utf8 include left text u (on t b x r s h) = left-utf8 _ _ _ (skips-utf8 _ _ s (right-at _ _ _ u r).utf8) h
-
--- ---- the malformed word
-
-pub boundary-fits : (left : List ℕ) → IsUtf8 left → length (from_boundary left) ≤ length left
-boundary-fits left u = let f = first-is [] left u in omega (arith, ap length f.1, length-append f.0 (from_boundary left))
-
-pub one_malformed_word : (include : Bool) (text : List ℕ) (a b c d : ℕ) → IsUtf8 text → IsMalformedWord MAX_SAFE_INTEGER include text a b
-    → IsMalformedWord MAX_SAFE_INTEGER include text c d → (a ≡ c) × (b ≡ d)
-one_malformed_word include text a b c d u x y =
-    let left = left-once include x.left y.left text u x.right y.right x.wrong y.wrong in
-    let behind : x.behind ≡ y.behind =
-    sym (first-of x.left x.behind (left-utf8 include x.left text u x.right) x.ended) ∙ ap from_boundary left
-    ∙ first-of y.left y.behind (left-utf8 include y.left text u y.right) y.ended in
-    (omega (arith, x.start_is, y.start_is, ap length left), omega (arith, x.end_is, y.end_is, ap length behind))
+some-pieces : (text : List ℕ) (pieces : List (List ℕ)) → IsCutAtBars text pieces → is_empty pieces ≡ false
+some-pieces text pieces (one_piece t h) = refl
+some-pieces text pieces (more_pieces x rest others h k more) = refl
 
 pub trimmed_fits : (text middle : List ℕ) (start : ℕ) → IsUtf8 text → IsAfterBlank text 0 start → IsTrim text middle
     → start + length middle ≤ length text
 trimmed_fits text middle start u a t =
     omega (arith, part_ends 0 start text middle (after_blank-place text 0 start u a) (middle_is_trim text middle t), part_fits text 0)
 
--- ---- one piece
+counted-signed : (text : List ℕ) (w : Counted × List ℕ) (p : Partial) → counted_word false MAX_SAFE_INTEGER text ≡ Some w → w.0.1 ≡ Some p
+    → signed_word false text ≡ Some ((w.0.0, p, w.0.2), w.1)
+unfolding counted_word signed_word
+counted-signed text w p h e = elim (option-cases (places_front false (drop (marks_len (npm_sign text).1) (npm_sign text).1))) [
+  | inl absent ↦ cc (rw absent at h)
+  | inr q ↦ let k = rw q.1 at h in rw q.1 (grind (arith, nat_tests, common_steps, cond_some))
+]
 
--- its comparators, valid ones
-abbrev pub IsPiece : Bool → List ℕ → Type 0
-IsPiece include piece = (cs : List Comparison) × IsAlternativeText MAX_SAFE_INTEGER include piece cs
+module _ (include : Bool) where
+  abbrev Right : List ℕ → List ℕ → Type 0
+  Right = IsRightWord MAX_SAFE_INTEGER include
 
--- strictly none is lost
-kept-strict : (include : Bool) (text : List ℕ) (lost : Bool) (cs : List Comparison) → IsAlternative false include text lost cs → lost ≡ false
-kept-strict include text lost cs (hyphen t h lower upper) = refl
-kept-strict include text lost cs (words t read absent are) = strict-kept include t read are
+  abbrev Left : List ℕ → List ℕ → Type 0
+  Left = IsLeft MAX_SAFE_INTEGER include
 
-pub piece_right : (include : Bool) (piece part : List ℕ) (a : Alternative) → IsUtf8 piece → IsTrim piece part
-    → IsFound include (valid_alternative false include part) (Some a) → IsPiece include piece
-unfolding valid_alternative
-piece_right include piece part a u t h =
-    let f = found-some include (valid_alternative false include part) a h in
-    let b = bind_some (alternative_of false include part) valid_one f.0 f.1 in
-    let valid = cond_some (list_all (is_valid MAX_SAFE_INTEGER) b.0.1) b.0 f.0 b.2 in
-    let is = alternative-found false include part b.0 (trim-utf8 piece part u t) b.1 in
-    (b.0.1, record { middle = part; trimmed = t; is = rw (kept-strict include part b.0.0 b.0.1 is) at is; valid = valid.0 })
+  -- ---- one word
 
-pub piece_wrong : (include : Bool) (piece part : List ℕ) → IsUtf8 piece → IsTrim piece part
-    → IsFound include (valid_alternative false include part) None → NoValue (IsAlternativeText MAX_SAFE_INTEGER include piece)
-unfolding valid_alternative
-piece_wrong include piece part u t h = λ cs w.
-    let same : w.middle ≡ part = middle_is_trim _ _ w.trimmed ∙ sym (middle_is_trim _ _ t) in
-    let read : alternative_of false include part ≡ Some (false, cs) =
-    ap (λ (m : List ℕ). alternative_of false include m) (sym same) ∙ alternative-read _ _ _ _ _ (trim-utf8 _ _ u w.trimmed) w.is in
-    let some : valid_alternative false include part ≡ Some (false, cs) = rw (read, w.valid) refl in rw some at h
+  right-at : (text behind : List ℕ) → IsUtf8 text → Right text behind
+      → (w : Signed) × (signed_word false text ≡ Some (w, behind)) × WordAt false include text w behind
+  right-at text behind u r =
+      let w = word-read false include r.is.0 r.partial behind r.comparators r.is.2 (boundary-of behind r.is.3) in
+      let read = ap (signed_word false) r.is.1 ∙ w.read in (w.word, read, signed-found false include text w.word behind u read)
 
--- ---- all pieces
+  -- where none is read, there is none
+  pub no-word : (text : List ℕ) (o : Front Counted) → IsUtf8 text → o ≡ counted_word false MAX_SAFE_INTEGER text
+      → counted_or false MAX_SAFE_INTEGER include text o ≡ None → NoValue (Right text)
+  unfolding first_valid
+  no-word text o u e empty = λ behind r.
+      let skips = skips-is behind (right-at text behind u r).2.utf8 in
+      let first = first-read false include text (drop_spaces behind) (Some r.comparators) u (formed r.partial behind r.comparators r.is refl skips) in
+      let some = rw (first, r.valid) at (first-valid false include text) in cc (some, ap (counted_or false MAX_SAFE_INTEGER include text) e, empty)
 
-all-right : (include : Bool) (ps : List (List ℕ)) → AllByRecursion (IsPiece include) ps
-    → (ls : List (List Comparison)) × AreAlternatives false include ps ls × (list_all (list_all (is_valid MAX_SAFE_INTEGER)) ls ≡ true)
-    × (is_empty ls ≡ is_empty ps)
-all-right include [] h = ([], none, refl, refl)
-all-right include (p ∷ ps) h =
-    let more = all-right include ps h.1 in
-    let w = h.0.1 in (h.0.0 ∷ more.0, next p w.middle ps false h.0.0 more.0 w.trimmed w.is more.1, rw (w.valid, more.2) refl, refl)
+  pub right-word : (text : List ℕ) (w : Counted × List ℕ) (p : Partial) → IsUtf8 text → Some w ≡ counted_word false MAX_SAFE_INTEGER text
+      → w.0.1 ≡ Some p → list_all (is_valid MAX_SAFE_INTEGER) (table include w.0.0 p w.0.2) ≡ true → Right text w.1
+  right-word text w p u e some good =
+      let f = signed-found false include text (w.0.0, p, w.0.2) w.1 u (counted-signed text w p (sym e) some) in
+      record { partial = drop (marks_len w.0.2) w.0.2; comparators = table include w.0.0 p w.0.2; is = f.is; valid = good }
 
--- the piece behind some is one too, where a text has alternatives
-piece-of : (include : Bool) (front : List (List ℕ)) (piece : List ℕ) (behind : List (List ℕ)) (ls : List (List Comparison))
-    → AreAlternatives false include (front ++ piece ∷ behind) ls → list_all (list_all (is_valid MAX_SAFE_INTEGER)) ls ≡ true → IsPiece include piece
-piece-of include [] piece behind ls (next p text others lost cs rest t is more) v =
-    let kept = kept-strict include text lost cs is in
-    let valid = and_parts (list_all (is_valid MAX_SAFE_INTEGER) cs) (list_all (list_all (is_valid MAX_SAFE_INTEGER)) rest) (rw kept at v) in
-    (cs, record { middle = text; trimmed = t; is = rw kept at is; valid = valid.0 })
-piece-of include (q ∷ front) piece behind ls (next p text others lost cs rest t is more) v =
-    let kept = kept-strict include text lost cs is in
-    let valid = and_parts (list_all (is_valid MAX_SAFE_INTEGER) cs) (list_all (list_all (is_valid MAX_SAFE_INTEGER)) rest) (rw kept at v) in
-    piece-of include front piece behind rest more valid.1
+  -- ---- the words before it
 
-pub flawed-none : (include : Bool) (text : List ℕ) (flaw : RangeFlaw) → IsRangeFlaw MAX_SAFE_INTEGER include text flaw
-    → (ls : List (List Comparison)) → HasAlternatives MAX_SAFE_INTEGER include text ls → ⊥
-flawed-none include text flaw x ls h =
-    let same : h.parts ≡ x.front ++ x.piece ∷ x.behind = bars_once _ _ h.divided ∙ sym (bars_once _ _ x.divided) in
-    let p = piece-of _ _ _ _ _ (subst (λ (ps : List (List ℕ)). AreAlternatives false include ps ls) same h.each) h.valid in x.wrong p.0 p.1
+  left-more : (left text behind rest : List ℕ) → Left left text → Right left behind → SkipsBlank behind rest → Left rest text
+  left-more left text behind rest here r s = on left behind rest r s here
+  left-more left text behind rest (on t b x k z h) r s = on t b x k z (left-more left x behind rest h r s)
 
--- ---- the loop
+  -- one word more
+  pub left-next : (text left behind : List ℕ) → IsUtf8 left → Left left text → Right left behind
+      → (Left (drop_spaces behind) text × IsUtf8 (drop_spaces behind)) × (length (drop_spaces behind) < length left)
+  left-next text left behind u h r =
+      let w = (right-at left behind u r).2 in
+      let s = skips-is behind w.utf8 in
+      ((left-more left text behind _ h r s, skips-utf8 behind _ s w.utf8), omega (arith, w.shorter, spaces-le behind))
 
--- so many bytes are left of a text
-abbrev Leaves : ℕ → List (List ℕ) → Option (List ℕ) → Type 0
-Leaves n front None = Unit {0}
-Leaves n front (Some rest) = bytes_of front + length rest ≡ n
+  pub left-fits : (left text : List ℕ) → Left left text → length left ≤ length text
+  left-fits left text here = omega arith
+  left-fits left text (on t b x r s h) = grind (arith, nat_tests, common_steps, length-append, left-fits left x h)
 
--- these pieces were passed, and this is left
-pub record Passed (include : Bool) (text : List ℕ) (rest : Option (List ℕ)) : Type 0 where
-  pub front : List (List ℕ)
-  pub divided : cut_bars false text ≡ front ++ parts_after rest
-  pub right : AllByRecursion (IsPiece include) front
-  pub leaves : Leaves (length text) front rest
+  left-once : (l m text : List ℕ) → IsUtf8 text → Left l text → Left m text → NoValue (Right l) → NoValue (Right m) → (l ≡ m) × IsUtf8 l
+  left-once l m text u here here w z = (refl, u)
+  left-once l m text u here (on t b x r s h) w z = absurd (w b r)
+  left-once l m text u (on t b x r s h) here w z = absurd (z b r)
+  left-once l m text u (on t b x r s h) (on t' c y q v k) w z =
+      let f = right-at _ _ u r in
+      let g = right-at _ _ u q in
+      let behind : b ≡ c = ap (λ (q : Signed × List ℕ). q.1) (same_Some _ _ (sym f.1 ∙ g.1)) in
+      let rests : x ≡ y = sym (skips-of _ _ f.2.utf8 s) ∙ ap drop_spaces behind ∙ skips-of _ _ g.2.utf8 v in
+      left-once _ _ _ (skips-utf8 _ _ s f.2.utf8) h (subst (λ (n : List ℕ). Left m n) (sym rests) k) w z
 
-pub passed_none : (include : Bool) (text : List ℕ) → Passed include text (Some text)
-passed_none include text = record { front = []; divided = refl; right = tt; leaves = omega arith }
+  one_malformed_word : (text : List ℕ) (a b c d : ℕ) → IsUtf8 text → IsMalformedWord MAX_SAFE_INTEGER include text a b
+      → IsMalformedWord MAX_SAFE_INTEGER include text c d → (a ≡ c) × (b ≡ d)
+  one_malformed_word text a b c d u x y =
+      let left = left-once x.left y.left text u x.right y.right x.wrong y.wrong in
+      let behind : x.behind ≡ y.behind = sym (first-of x.left x.behind left.1 x.ended) ∙ first-of x.left y.behind left.1 (rw left.0 y.ended) in
+      (omega (arith, x.start_is, y.start_is, ap length left.0), omega (arith, x.end_is, y.end_is, ap length behind))
 
-all-append : (include : Bool) (ps : List (List ℕ)) (p : List ℕ) → AllByRecursion (IsPiece include) ps → IsPiece include p
-    → AllByRecursion (IsPiece include) (ps ++ p ∷ [])
-all-append include [] p h k = (k, tt)
-all-append include (q ∷ ps) p h k = (h.0, all-append include ps p h.1 k)
+  -- ---- one piece
 
-bytes-append : (ps : List (List ℕ)) (p : List ℕ) → bytes_of (ps ++ p ∷ []) ≡ bytes_of ps + (length p + 2)
-bytes-append [] p = omega arith
-bytes-append (q ∷ ps) p = omega (arith, bytes-append ps p)
+  -- its comparators, valid ones
+  abbrev pub IsPiece : List ℕ → Type 0
+  IsPiece piece = (cs : List Comparison) × IsAlternativeText MAX_SAFE_INTEGER include piece cs
 
--- a piece is UTF-8 as the text is
-piece-utf8 : (front : List (List ℕ)) (piece : List ℕ) (behind : List (List ℕ)) → AllByRecursion IsUtf8 (front ++ piece ∷ behind) → IsUtf8 piece
-piece-utf8 [] piece behind h = h.0
-piece-utf8 (q ∷ front) piece behind h = piece-utf8 front piece behind h.1
+  -- strictly none is lost
+  kept-strict : (text : List ℕ) (lost : Bool) (cs : List Comparison) → IsAlternative false include text lost cs → lost ≡ false
+  kept-strict text lost cs (hyphen t h lower upper) = refl
+  kept-strict text lost cs (words t read absent are) = strict-kept include t read are
 
--- what is read of the next piece
-module _ (include : Bool) (text rest : List ℕ) (cut : List ℕ × Option (List ℕ)) (h : Passed include text (Some rest)) (e : cut ≡ front_part rest) where
-  front-divides : cut_bars false text ≡ h.front ++ cut.0 ∷ parts_after cut.1
+  piece_right : (piece part : List ℕ) (a : Alternative) → IsUtf8 piece → IsTrim piece part
+      → IsFound include (valid_alternative false include part) (Some a) → IsPiece piece
+  unfolding valid_alternative
+  piece_right piece part a u t h =
+      let f = found-some include (valid_alternative false include part) a h in
+      let b = bind_some (alternative_of false include part) valid_one f.0 f.1 in
+      let valid = cond_some (list_all (is_valid MAX_SAFE_INTEGER) b.0.1) b.0 f.0 b.2 in
+      let is = alternative-found false include part b.0 (trim-utf8 piece part u t) b.1 in
+      (b.0.1, record { middle = part; trimmed = t; is = rw (kept-strict part b.0.0 b.0.1 is) at is; valid = valid.0 })
+
+  piece_wrong : (piece part : List ℕ) → IsUtf8 piece → IsTrim piece part
+      → IsFound include (valid_alternative false include part) None → NoValue (IsAlternativeText MAX_SAFE_INTEGER include piece)
+  unfolding valid_alternative
+  piece_wrong piece part u t h = λ cs w.
+      let same : w.middle ≡ part = middle_is_trim _ _ w.trimmed ∙ sym (middle_is_trim _ _ t) in
+      let read : alternative_of false include part ≡ Some (false, cs) = rw (← same) (alternative-read _ _ _ _ _ (trim-utf8 _ _ u w.trimmed) w.is) in
+      let some : valid_alternative false include part ≡ Some (false, cs) = rw (read, w.valid) refl in rw some at h
+
+  -- ---- all pieces
+
+  all-right : (ps : List (List ℕ)) → AllByRecursion IsPiece ps
+      → (ls : List (List Comparison)) × AreAlternatives false include ps ls × (list_all (list_all (is_valid MAX_SAFE_INTEGER)) ls ≡ true)
+      × (is_empty ls ≡ is_empty ps)
+  all-right [] h = ([], none, refl, refl)
+  all-right (p ∷ ps) h =
+      let more = all-right ps h.1 in
+      let w = h.0.1 in (h.0.0 ∷ more.0, next p w.middle ps false h.0.0 more.0 w.trimmed w.is more.1, rw (w.valid, more.2) refl, refl)
+
+  right-all : (ps : List (List ℕ)) (ls : List (List Comparison)) → AreAlternatives false include ps ls
+      → list_all (list_all (is_valid MAX_SAFE_INTEGER)) ls ≡ true → AllByRecursion IsPiece ps
+  right-all ps ls none v = tt
+  right-all ps ls (next p text others lost cs rest t is more) v =
+      let kept = kept-strict text lost cs is in
+      let valid = and_parts (list_all (is_valid MAX_SAFE_INTEGER) cs) (list_all (list_all (is_valid MAX_SAFE_INTEGER)) rest) (rw kept at v) in
+      ((cs, record { middle = text; trimmed = t; is = rw kept at is; valid = valid.0 }), right-all others rest more valid.1)
+
+  pub flawed-none : (text : List ℕ) (flaw : RangeFlaw) → IsRangeFlaw MAX_SAFE_INTEGER include text flaw
+      → (ls : List (List Comparison)) → HasAlternatives MAX_SAFE_INTEGER include text ls → ⊥
+  flawed-none text flaw x ls h =
+      let same : h.parts ≡ x.front ++ x.piece ∷ x.behind = bars_once _ _ h.divided ∙ sym (bars_once _ _ x.divided) in
+      let p = middle IsPiece x.front x.piece x.behind (rw (← same) (right-all h.parts ls h.each h.valid)) in x.wrong p.0 p.1
+
+  -- these pieces were passed, and this is left
+  pub record Passed (text : List ℕ) (rest : Option (List ℕ)) : Type 0 where
+    pub front : List (List ℕ)
+    pub divided : cut_bars false text ≡ front ++ parts_after rest
+    pub right : AllByRecursion IsPiece front
+    pub leaves : (left : List ℕ) → rest ≡ Some left → bytes_of front + length left ≡ length text
+
+  pub passed_all : (text : List ℕ) → Passed text None → (ls : List (List Comparison)) × HasAlternatives MAX_SAFE_INTEGER include text ls
+  passed_all text h =
+      let a = all-right (h.front ++ []) (rw (append-nil h.front) h.right) in
+      let cut = rw h.divided at (bars_divide text) in
+      (a.0, record { parts = h.front ++ []; divided = cut; each = a.1; some = a.3 ∙ some-pieces text (h.front ++ []) cut; valid = a.2 })
+
+  -- ---- a text has one such flaw
+
+  -- the first pieces that are wrong are one
+  one-piece : (xs : List (List ℕ)) (p : List ℕ) (us ys : List (List ℕ)) (q : List ℕ) (vs : List (List ℕ)) → AllByRecursion IsPiece xs
+      → AllByRecursion IsPiece ys → NoValue (IsAlternativeText MAX_SAFE_INTEGER include p) → NoValue (IsAlternativeText MAX_SAFE_INTEGER include q)
+      → xs ++ p ∷ us ≡ ys ++ q ∷ vs → (xs ≡ ys) × (p ≡ q)
+  one-piece [] p us [] q vs h k w z e = (refl, cc e)
+  one-piece [] p us (y ∷ ys) q vs h k w z e = let same : p ≡ y = cc e in absurd (w k.0.0 (rw same k.0.1))
+  one-piece (x ∷ xs) p us [] q vs h k w z e = let same : x ≡ q = cc e in absurd (z h.0.0 (rw (sym same) h.0.1))
+  one-piece (x ∷ xs) p us (y ∷ ys) q vs h k w z e = grind (arith, nat_tests, common_steps, one-piece xs p us ys q vs)
+
+  pub one_range_flaw : (text : List ℕ) (f g : RangeFlaw) → IsUtf8 text → IsRangeFlaw MAX_SAFE_INTEGER include text f
+      → IsRangeFlaw MAX_SAFE_INTEGER include text g → f ≡ g
+  one_range_flaw text f g u x y =
+      let pieces = bars_once _ _ x.divided ∙ sym (bars_once _ _ y.divided) in
+      let same = one-piece _ _ _ _ _ _ x.right y.right x.wrong y.wrong pieces in
+      let utf8 = middle IsUtf8 x.front x.piece x.behind (pieces-utf8 _ _ x.divided u) in
+      let blank : x.blank ≡ y.blank = one_after_blank x.piece 0 x.blank y.blank utf8 x.after_blank (rw same.1 y.after_blank) in
+      let middle : x.middle ≡ y.middle = middle_is_trim _ _ x.trimmed ∙ (ap trim same.1 ∙ sym (middle_is_trim _ _ y.trimmed)) in
+      let start : f.start ≡ g.start = omega (arith, x.start, y.start, ap bytes_of same.0, blank) in
+      let end : f.end ≡ g.end = omega (arith, x.end, y.end, start, ap length middle) in
+      let word = one_malformed_word x.middle _ _ y.at y.to (trim-utf8 _ _ utf8 x.trimmed) x.word (rw middle y.word) in
+      let word_start : f.word_start ≡ g.word_start = omega (arith, x.word_start, y.word_start, start, word.0) in
+      let word_end : f.word_end ≡ g.word_end = omega (arith, x.word_end, y.word_end, start, word.1) in
+      λ i. record { start = start i; end = end i; word_start = word_start i; word_end = word_end i }
+
+-- ---- the loop: what is read of the next piece
+
+module _ (include : Bool) (text rest : List ℕ) (c : List ℕ × Option (List ℕ)) (h : Passed include text (Some rest)) (e : c ≡ front_part rest) where
+  front-divides : cut_bars false text ≡ h.front ++ c.0 ∷ parts_after c.1
   front-divides = grind (arith, nat_tests, common_steps, cut_bars-front, parts_after)
 
-  next-divides : IsCutAtBars text (h.front ++ cut.0 ∷ parts_after cut.1)
-  next-divides = subst (λ (ps : List (List ℕ)). IsCutAtBars text ps) front-divides (bars_divide text)
+  next-divides : IsCutAtBars text (h.front ++ c.0 ∷ parts_after c.1)
+  next-divides = rw front-divides at (bars_divide text)
 
-  next-utf8 : IsUtf8 text → IsUtf8 cut.0
-  next-utf8 u = piece-utf8 h.front _ (parts_after cut.1) (pieces-utf8 _ _ next-divides u)
+  -- a piece is UTF-8 as the text is
+  next-utf8 : IsUtf8 text → IsUtf8 c.0
+  next-utf8 u = middle IsUtf8 h.front c.0 (parts_after c.1) (pieces-utf8 _ _ next-divides u)
 
-  pub wrong_here : (part bytes : List ℕ) (blank at to : ℕ) (found : Option Alternative) (flaw : RangeFlaw) → IsUtf8 text → IsAfterBlank cut.0 0 blank
-      → IsTrim cut.0 part → bytes ≡ part → IsFound include (valid_alternative false include bytes) found → is_none found ≡ true
-      → IsMalformedWord MAX_SAFE_INTEGER include bytes at to → flaw.start ≡ length text - length rest + blank → flaw.end ≡ flaw.start + length part
+  pub wrong_here : (part bytes : List ℕ) (blank at to : ℕ) (flaw : RangeFlaw) → IsUtf8 text → IsAfterBlank c.0 0 blank → IsTrim c.0 part
+      → bytes ≡ part → IsFound include (valid_alternative false include bytes) None → IsMalformedWord MAX_SAFE_INTEGER include bytes at to
+      → flaw.start ≡ length text - length rest + blank → flaw.end ≡ flaw.start + length part
       → flaw.word_start ≡ flaw.start + at → flaw.word_end ≡ flaw.start + to → IsRangeFlaw MAX_SAFE_INTEGER include text flaw
-  wrong_here part bytes blank at to (Some x) flaw u a t same found empty word start end word_start word_end = cc empty
-  wrong_here part bytes blank at to None flaw u a t same found empty word start end word_start word_end = record {
+  wrong_here part bytes blank at to flaw u a t same found word start end word_start word_end = record {
     front = h.front;
-    piece = cut.0;
-    behind = parts_after cut.1;
+    piece = c.0;
+    behind = parts_after c.1;
     divided = next-divides;
     right = h.right;
-    wrong = piece_wrong _ _ _ (next-utf8 u) t (subst (λ (x : List ℕ). IsFound include (valid_alternative false include x) None) same found);
+    wrong = piece_wrong include _ _ (next-utf8 u) t (rw same at found);
     blank = blank;
     after_blank = a;
     middle = part;
     trimmed = t;
-    start = omega (arith, start, h.leaves);
+    start = omega (arith, start, h.leaves rest refl);
     end = end;
     at = at;
     to = to;
-    word = subst (λ (x : List ℕ). IsMalformedWord MAX_SAFE_INTEGER include x at to) same word;
+    word = rw same at word;
     word_start = word_start;
     word_end = word_end;
   }
 
-  pub right_here : (part bytes : List ℕ) (found : Option Alternative) → IsUtf8 text → IsTrim cut.0 part → bytes ≡ part
-      → IsFound include (valid_alternative false include bytes) found → is_none found ≡ false → Passed include text cut.1
+  pub right_here : (part bytes : List ℕ) (found : Option Alternative) → IsUtf8 text → IsTrim c.0 part → bytes ≡ part
+      → IsFound include (valid_alternative false include bytes) found → is_none found ≡ false → Passed include text c.1
   right_here part bytes None u t same found empty = cc empty
-  right_here part bytes (Some x) u t same found empty = record {
-    front = h.front ++ cut.0 ∷ [];
-    divided = front-divides ∙ sym (append_assoc h.front (cut.0 ∷ []) (parts_after cut.1));
-    right = all-append include h.front cut.0 h.right (piece_right _ _ _ _ (next-utf8 u) t
-        (subst (λ (b : List ℕ). IsFound include (valid_alternative false include b) (Some x)) same found));
-    leaves = left cut.1 refl;
-  }
-    where
-      left : (o : Option (List ℕ)) → cut.1 ≡ o → Leaves (length text) (h.front ++ cut.0 ∷ []) o
-      left None k = tt
-      left (Some t) k = omega (arith, bytes-append h.front cut.0, (sizes_of rest cut e).behind t k, h.leaves)
-
-some-pieces : (text : List ℕ) (pieces : List (List ℕ)) → IsCutAtBars text pieces → is_empty pieces ≡ false
-some-pieces text pieces (one_piece t h) = refl
-some-pieces text pieces (more_pieces x rest others h k more) = refl
-
-pub passed_all : (include : Bool) (text : List ℕ) → Passed include text None
-    → (ls : List (List Comparison)) × HasAlternatives MAX_SAFE_INTEGER include text ls
-passed_all include text h =
-    let a = all-right include (h.front ++ []) (rw (append-nil h.front) h.right) in
-    let cut = subst (λ (ps : List (List ℕ)). IsCutAtBars text ps) h.divided (bars_divide text) in
-    (a.0, record { parts = h.front ++ []; divided = cut; each = a.1; some = a.3 ∙ some-pieces text (h.front ++ []) cut; valid = a.2 })
-
--- ---- a text has one such flaw
-
--- the first pieces that are wrong are one
-one-piece : (include : Bool) (xs : List (List ℕ)) (p : List ℕ) (us ys : List (List ℕ)) (q : List ℕ) (vs : List (List ℕ))
-    → AllByRecursion (IsPiece include) xs → AllByRecursion (IsPiece include) ys → NoValue (IsAlternativeText MAX_SAFE_INTEGER include p)
-    → NoValue (IsAlternativeText MAX_SAFE_INTEGER include q) → xs ++ p ∷ us ≡ ys ++ q ∷ vs → (xs ≡ ys) × (p ≡ q)
-one-piece include [] p us [] q vs h k w z e = (refl, cc e)
-one-piece include [] p us (y ∷ ys) q vs h k w z e = let same : p ≡ y = cc e in absurd (w k.0.0 (rw same k.0.1))
-one-piece include (x ∷ xs) p us [] q vs h k w z e = let same : x ≡ q = cc e in absurd (z h.0.0 (rw (sym same) h.0.1))
-one-piece include (x ∷ xs) p us (y ∷ ys) q vs h k w z e = grind (arith, nat_tests, common_steps, one-piece include xs p us ys q vs)
-
-pub one_range_flaw : (include : Bool) (text : List ℕ) (f g : RangeFlaw) → IsUtf8 text → IsRangeFlaw MAX_SAFE_INTEGER include text f
-    → IsRangeFlaw MAX_SAFE_INTEGER include text g → f ≡ g
-one_range_flaw include text f g u x y =
-    let pieces = bars_once _ _ x.divided ∙ sym (bars_once _ _ y.divided) in
-    let same = one-piece _ _ _ _ _ _ _ x.right y.right x.wrong y.wrong pieces in
-    let utf8 = piece-utf8 _ _ _ (pieces-utf8 _ _ x.divided u) in
-    let blank : x.blank ≡ y.blank =
-    one_after_blank _ _ _ _ utf8 x.after_blank (subst (λ (t : List ℕ). IsAfterBlank t 0 y.blank) (sym same.1) y.after_blank) in
-    let middle : x.middle ≡ y.middle = middle_is_trim _ _ x.trimmed ∙ (ap trim same.1 ∙ sym (middle_is_trim _ _ y.trimmed)) in
-    let start : f.start ≡ g.start = omega (arith, x.start, y.start, ap bytes_of same.0, blank) in
-    let end : f.end ≡ g.end = omega (arith, x.end, y.end, start, ap length middle) in
-    let word = one_malformed_word _ _ _ _ _ _ (trim-utf8 _ _ utf8 x.trimmed) x.word
-    (subst (λ (m : List ℕ). IsMalformedWord MAX_SAFE_INTEGER include m y.at y.to) (sym middle) y.word) in
-    let word_start : f.word_start ≡ g.word_start = omega (arith, x.word_start, y.word_start, start, word.0) in
-    let word_end : f.word_end ≡ g.word_end = omega (arith, x.word_end, y.word_end, start, word.1) in
-    λ i. record { start = start i; end = end i; word_start = word_start i; word_end = word_end i }
-
--- what the call says
-pub flawed : (include : Bool) (text : List ℕ) (f : RangeFlaw) → IsUtf8 text → IsRangeFlaw MAX_SAFE_INTEGER include text f
-    → ((Some f ≡ None) ↔ ((ls : List (List Comparison)) × HasAlternatives MAX_SAFE_INTEGER include text ls))
-    × ((g : RangeFlaw) → IsRangeFlaw MAX_SAFE_INTEGER include text g → Some f ≡ Some g)
-flawed include text f u x = (
-  (λ e. cc e, λ h. absurd (flawed-none include text f x h.0 h.1)),
-  λ g y. ap (λ (h : RangeFlaw). Some h) (one_range_flaw include text f g u x y),
-)
-
-pub unflawed : (include : Bool) (text : List ℕ) → Passed include text None
-    → ((◌≡◌ {A = Option RangeFlaw} None None) ↔ ((ls : List (List Comparison)) × HasAlternatives MAX_SAFE_INTEGER include text ls))
-    × ((g : RangeFlaw) → IsRangeFlaw MAX_SAFE_INTEGER include text g → None ≡ Some g)
-unflawed include text h = let ls = passed_all include text h in ((λ k. ls, λ k. refl), λ g y. absurd (flawed-none include text g y ls.0 ls.1))
+  right_here part bytes (Some x) u t same found empty =
+      let all = All-from_recursion (IsPiece include) h.front h.right in
+      let more = All-push (IsPiece include) h.front c.0 all (piece_right include _ _ _ (next-utf8 u) t (rw same at found)) in
+      record {
+        front = h.front ++ c.0 ∷ [];
+        divided = front-divides ∙ sym (append_assoc h.front (c.0 ∷ []) (parts_after c.1));
+        right = recursion_from_All (IsPiece include) _ more;
+        leaves = λ left k. omega (arith, bytes-append h.front c.0, (sizes_of rest c e).behind left k, h.leaves rest refl);
+      }

@@ -1,310 +1,30 @@
--- A text is read to its end as a version, character by character, exactly if the strict reader finds one in it; and what is read
--- of a text goes on to a version.
-use Rattle.nodejs_semver.proofs.Common.{Bool, Id, IsTrim, List, None, Option, Some, VersionValue, [], all_weaker, and-false, and-true, and_parts, ap}
-use Rattle.nodejs_semver.proofs.Common.{append-nil, arith, begins, begins_identifier, bind_some, cases_Bool, common_steps, drop, drop_at}
-use Rattle.nodejs_semver.proofs.Common.{encode_utf8_all, eqb-true, false, if◌then◌else◌, inl, inr, is_ascii_digit, is_empty, is_identifier_char}
-use Rattle.nodejs_semver.proofs.Common.{is_some, is_whitespace, list_all, list_all-append, list_len, nat_tests, not, not-false, not-true, onto_first}
-use Rattle.nodejs_semver.proofs.Common.{pieces, prefix_len, refl, same_Some, subst, suc, sym, take, take-append-drop, take_at, true, zero, ℕ, ◌&&◌}
-use Rattle.nodejs_semver.proofs.{Common.{◌*◌, ◌++◌, ◌+◌, ◌<◌, ◌==◌, ◌∙◌, ◌∷◌, ◌≡◌, ◌≤◌}, NpmCommon.{Build, Dash, Digit, IsFront, IsSpelled}}
-use Rattle.nodejs_semver.proofs.NpmCommon.{IsStrictBuild, IsStrictNumber, IsStrictPreRelease, IsStrictVersion, Number, Padded, Plus, PreRelease}
-use Rattle.nodejs_semver.proofs.NpmCommon.{State, Zero, build_front, dashed_front, digit_value, digits_grow, digits_value, digits_value_after}
-use Rattle.nodejs_semver.proofs.NpmCommon.{dotted_number, encode_ascii, encodes_same, has_leading_zero, is_strict_identifier, is_strict_list}
-use Rattle.nodejs_semver.proofs.NpmCommon.{is_whole, nat_le, next, number_of, pre_release_front, qualified_version, run, runs_tail, strict_number}
-use Rattle.nodejs_semver.proofs.{NpmCommon.{strict_version, ◌>>?◌}, Reading.{Bytes.all-join, Numbers.{digits-taken, run-ends}, Steps.option-cases}}
-use Rattle.nodejs_semver.proofs.Strict.{PartialLaw.prefix-all, VersionLaw.{padded-same, strict-found-version, strict-read-version}}
-use Rattle.nodejs_semver.specs.{Internal.{Fronts.drop_v, NpmStates.ended}, Npm.VersionText.written, declared.npm.flaws.State.TheVariants.{End, Start}}
+-- A text is read to its end, character by character, exactly if it is a version; and what is read of a text goes on to a version.
+use Rattle.nodejs_semver.proofs.Common.{Bool, Id, IsTrim, List, None, Option, Some, VersionValue, [], all_weaker, and_parts, ap, append_assoc, arith}
+use Rattle.nodejs_semver.proofs.Common.{begins, begins_identifier, bind_some, cases_Bool, common_steps, drop, encode_utf8_all, eqb-true, false, ◌+◌}
+use Rattle.nodejs_semver.proofs.Common.{if◌then◌else◌, inl, inr, is_ascii_digit, is_empty, is_identifier_char, is_some, is_whitespace, list_all, ◌<◌}
+use Rattle.nodejs_semver.proofs.Common.{list_len, nat_tests, not, onto_first, pieces, refl, same_Some, suc, sym, take, true, zero, ℕ, ◌&&◌, ◌*◌, ◌++◌}
+use Rattle.nodejs_semver.proofs.{Common.{◌==◌, ◌||◌, ◌∙◌, ◌∷◌, ◌≡◌, ◌≤◌, ◌⊎◌}, NpmCommon.{Build, Dash, Digit, IsFront, IsSpelled, nat_le, next, run}}
+use Rattle.nodejs_semver.proofs.NpmCommon.{IsStrictBuild, IsStrictNumber, IsStrictPreRelease, IsStrictVersion, Number, Padded, Plus, PreRelease, Zero}
+use Rattle.nodejs_semver.proofs.NpmCommon.{State, build_front, dashed_front, digit_value, digits_grow, digits_value, digits_value_after, pre_front}
+use Rattle.nodejs_semver.proofs.NpmCommon.{encode_ascii, encodes_same, has_leading_zero, is_strict_identifier, is_strict_list, is_whole, listed}
+use Rattle.{nodejs_semver.proofs.{NpmCommon.{pre_release_front, runs_tail, ◌>>?◌}, Reading.Bytes.{all-join, is_solid}}, std.specs.Prelude.reverse}
+use Rattle.nodejs_semver.proofs.Strict.VersionLaw.{build-ends, build-found, build-taken, dashed-found, pre-follows, pre-taken}
+use Rattle.nodejs_semver.specs.{Internal.NpmStates.ended, Npm.VersionText.written, declared.npm.flaws.State.TheVariants.{End, Start}}
 use Rattle.{semver_core.{proofs.Text.Listed.plain_runs, specs.Internal.CommonReading.is_plain}, std.proofs.lemmas.List.reverse-append}
-use Rattle.std.specs.Prelude.{reverse}
 
--- ---- runs
-
--- what is read of a front is read further
-run-then : (limit : ℕ) (s t : State) (xs ys : List ℕ) → run limit s xs ≡ Some t → run limit s (xs ++ ys) ≡ run limit t ys
-unfolding run
-run-then limit s t [] ys h = ap (λ u. run limit u ys) (same_Some s t h)
-run-then limit s t (c ∷ xs) ys h = let b = bind_some (next limit s c) _ t h in rw b.1 (run-then limit b.0 t xs ys b.2)
-
-pub run-more : (limit : ℕ) (s t : State) (c : ℕ) (xs : List ℕ) → run limit Start xs ≡ Some s → next limit s c ≡ Some t
-    → run limit Start (xs ++ c ∷ []) ≡ Some t
-unfolding run
-run-more limit s t c xs h k = run-then limit Start s xs (c ∷ []) h ∙ rw k refl
-
--- ---- texts that are read to their end
-
-abbrev pub ends_whole : Option State → Bool
-ends_whole None = false
-ends_whole (Some s) = is_whole s
-
--- the text is read to its end, and is a version
-abbrev pub is_read : ℕ → State → List ℕ → Bool
-is_read limit s text = ends_whole (run limit s text)
-
--- ---- whitespace
-
-spaces-start : (limit : ℕ) (w cs : List ℕ) → list_all is_whitespace w ≡ true → is_read limit Start (w ++ cs) ≡ is_read limit Start cs
-unfolding run next
-spaces-start limit [] cs h = refl
-spaces-start limit (c ∷ w) cs h = grind (arith, and_parts, spaces-start limit w cs)
-
-spaces-end : (limit : ℕ) (cs : List ℕ) → is_read limit End cs ≡ list_all is_whitespace cs
-unfolding run next
-spaces-end limit [] = refl
-spaces-end limit (c ∷ cs) = grind (arith, spaces-end limit cs)
-
-abbrev is_dark : ℕ → Bool
-is_dark c = not (is_whitespace c)
-
--- whitespace stands neither before nor behind what is read so far
-abbrev is_inside : State → Bool
-is_inside Start = false
-is_inside End = false
-is_inside s = true
-
-dark-inside : (limit : ℕ) (s t : State) (c : ℕ) → is_inside s ≡ true → is_whitespace c ≡ false → next limit s c ≡ Some t → is_inside t ≡ true
-unfolding next
-dark-inside limit (Number zero n) t c i dark h = grind arith
-dark-inside limit (Number (suc k) n) t c i dark h = grind arith
-dark-inside limit s t c i dark h = grind arith
-
-space-other : (c : ℕ) → is_whitespace c ≡ true → (is_identifier_char c ≡ false) × (is_ascii_digit c ≡ false)
-    × ((c == 46) ≡ false) × ((c == 45) ≡ false) × ((c == 43) ≡ false) × ((c == 48) ≡ false)
-space-other c h = grind (arith, nat_tests)
-
-not_zero : (k : ℕ) → (suc k == 0) ≡ false
-not_zero k = grind arith
-
-space-ends : (limit : ℕ) (s : State) (c : ℕ) → is_inside s ≡ true → is_whitespace c ≡ true → next limit s c ≡ (if is_whole s then Some End else None)
-unfolding next
-space-ends limit (Number zero n) c i h = let p = space-other c h in rw (p.1, p.3, p.4, h) refl
-space-ends limit (Number (suc k) n) c i h = let p = space-other c h in rw (p.1, p.2, not_zero k) refl
-space-ends limit s c i h = grind (arith, space-other c h)
-
--- whitespace behind other characters
-behind : (limit : ℕ) (s : State) (x r : List ℕ) → is_inside s ≡ true → list_all is_dark x ≡ true → begins is_dark r ≡ false
-    → is_read limit s (x ++ r) ≡ (is_read limit s x && list_all is_whitespace r)
-unfolding run
-behind limit s [] [] i each stop = sym (and-true (is_whole s))
-behind limit s [] (c ∷ r) i each stop = grind (arith, space-ends limit s c i (not-false _ stop), spaces-end limit r)
-behind limit s (c ∷ x) r i each stop = elim (option-cases (next limit s c)) [
-  | inl none ↦ rw none refl
-  | inr t ↦
-      let p = and_parts (is_dark c) (list_all is_dark x) each in
-      rw t.1 (behind limit t.0 x r (dark-inside limit s t.0 c i (not-true _ p.0) t.1) p.1 stop)
-]
-
--- ---- build metadata
-
--- behind a character of an identifier, and behind `+` or a dot
-builds : (limit : ℕ) (x : List ℕ) → list_all is_dark x ≡ true
-    → (is_read limit Build x ≡ is_empty (drop (list_len x) x)) × (is_read limit Plus x ≡ (begins_identifier x && is_empty (drop (list_len x) x)))
-unfolding run next list_len
-builds limit [] each = (refl, refl)
-builds limit (c ∷ x) each =
-    let later = builds limit x (and_parts (is_dark c) _ each).1 in
-    let e : 1 + list_len x ≡ suc (list_len x) = omega arith in (grind (arith, later, not-true), grind (arith, later))
-
--- where no identifier goes on
-ended-read : (limit c : ℕ) (x : List ℕ) → list_all is_dark (c ∷ x) ≡ true
-    → ends_whole (ended c >>? λ t. run limit t x) ≡ is_empty (build_front (c ∷ x)).1
-unfolding build_front
-ended-read limit c x each = grind (arith, builds limit x (and_parts (is_dark c) _ each).1, not-true)
-
--- ---- pre-releases
-
--- what is read with these characters of an identifier
-abbrev identifier_read : List ℕ → State
-identifier_read [] = Dash
-identifier_read (c ∷ []) = if c == 48 then Zero else PreRelease
-identifier_read (c ∷ d ∷ x) = if list_all is_ascii_digit (c ∷ d ∷ x) && c == 48 then Padded else PreRelease
-
-identifier-more : (limit : ℕ) (x : List ℕ) (c : ℕ) → is_identifier_char c ≡ true
-    → next limit (identifier_read x) c ≡ Some (identifier_read (x ++ c ∷ []))
-unfolding next
-identifier-more limit [] c h = grind arith
-identifier-more limit (a ∷ []) c h = grind (arith, nat_tests, common_steps)
-identifier-more limit (a ∷ b ∷ x) c h = rw (list_all-append is_ascii_digit (a ∷ b ∷ x) (c ∷ [])) (grind arith)
-
-letter-digit : (c : ℕ) → is_identifier_char c ≡ false → is_ascii_digit c ≡ false
-letter-digit c h = grind (arith, nat_tests)
-
--- it ends here if it is a strict one
-identifier-whole : (a : ℕ) (x : List ℕ) → is_whole (identifier_read (a ∷ x)) ≡ is_strict_identifier (a ∷ x)
-identifier-whole a [] = grind (arith, nat_tests, common_steps)
-identifier-whole a (b ∷ x) = grind arith
-
-identifier-other : (limit a : ℕ) (x : List ℕ) (c : ℕ) (cs : List ℕ) → is_identifier_char c ≡ false → is_read limit (identifier_read (a ∷ x)) (c ∷ cs)
-    ≡ (is_strict_identifier (a ∷ x) && ends_whole ((if c == 46 then Some Dash else ended c) >>? λ t. run limit t cs))
-unfolding next run
-identifier-other limit a [] c cs h = grind (arith, letter-digit, and-false)
-identifier-other limit a (b ∷ x) c cs h = grind (arith, letter-digit)
-
-dash-other : (limit c : ℕ) → is_identifier_char c ≡ false → next limit Dash c ≡ None
-unfolding next
-dash-other limit c h = grind (arith, nat_tests)
-
--- the first of these pieces, behind these characters, and the others have no leading zeros
-abbrev strict_behind : List ℕ → List (List ℕ) → Bool
-strict_behind x [] = is_strict_identifier x
-strict_behind x (p ∷ ps) = is_strict_identifier (x ++ p) && list_all is_strict_identifier ps
-
-strict-onto : (x : List ℕ) (c : ℕ) (ps : List (List ℕ)) → strict_behind x (onto_first c ps) ≡ strict_behind (x ++ c ∷ []) ps
-strict-onto x c ps = grind (arith, nat_tests, common_steps)
-
-strict-first : (c : ℕ) (ps : List (List ℕ)) → list_all is_strict_identifier (onto_first c ps) ≡ strict_behind (c ∷ []) ps
-strict-first c ps = grind (arith, nat_tests, common_steps)
-
-letter-dotless : (c : ℕ) → is_identifier_char c ≡ true → (c == 46) ≡ false
-letter-dotless c h = grind (arith, nat_tests)
-
--- behind some characters of an identifier, and behind `-` or a dot
-identifiers : (limit : ℕ) (x : List ℕ) → list_all is_dark x ≡ true
-    → ((a : ℕ) (y : List ℕ) → is_read limit (identifier_read (a ∷ y)) x
-    ≡ (strict_behind (a ∷ y) (pieces (take (list_len x) x)) && is_empty (build_front (drop (list_len x) x)).1))
-    × (is_read limit Dash x
-    ≡ (begins_identifier x && (is_strict_list (take (list_len x) x) && is_empty (build_front (drop (list_len x) x)).1)))
-unfolding run list_len build_front
-identifiers limit [] each = (
-  λ a y.
-      let last : (is_strict_identifier (a ∷ (y ++ [])) && true) ≡ is_strict_identifier (a ∷ y) = rw (append-nil y) (and-true _) in
-      identifier-whole a y ∙ sym (and-true _ ∙ last),
-  refl,
-)
-identifiers limit (c ∷ x) each =
-    let p = and_parts (is_dark c) (list_all is_dark x) each in
-    let later = identifiers limit x p.1 in
-    let e : 1 + list_len x ≡ suc (list_len x) = omega arith in
-    elim (cases_Bool (is_identifier_char c)) [
-      | inl letter ↦
-          let apart = letter-dotless c letter in (
-            λ a y. rw (letter, e, apart, identifier-more limit (a ∷ y) c letter, strict-onto (a ∷ y) c _) (later.0 a (y ++ c ∷ [])),
-            rw (letter, e, apart, identifier-more limit [] c letter, strict-first c _) (later.0 c []),
-          )
-      | inr other ↦ (
-        λ a y. identifier-other limit a y c x other ∙ (elim (cases_Bool (c == 46)) [
-          | inr apart ↦ rw (other, apart, append-nil y) (and_more _ true _ _ (ended-read limit c x each))
-          | inl dot ↦ rw (eqb-true c 46 dot) (elim (cases_Bool (begins_identifier x)) [
-            | inl more ↦ rw (more, e, append-nil y) (and_more _ (is_strict_list (take (list_len x) x)) _ _ (rw more at later.1))
-            | inr none ↦ rw (none, append-nil y) (and_more _ true false _ (rw none at later.1))
-          ])
-        ]),
-        rw (other, dash-other limit c other) refl,
-      )
-    ]
-  where
-    and_more : (s l e a : Bool) → a ≡ (l && e) → (s && a) ≡ ((s && l) && e)
-    and_more s l e a h = grind (arith, nat_tests)
-
--- ---- behind the numbers
-
-qualified : (limit a b c : ℕ) (x : List ℕ) → list_all is_dark x ≡ true → is_read limit (Number 0 0) x ≡ is_some (qualified_version a b c x)
-unfolding run next qualified_version dashed_front pre_release_front build_front
-qualified limit a b c [] each = refl
-qualified limit a b c (d ∷ x) each =
-    let p = and_parts (is_dark d) (list_all is_dark x) each in
-    elim (cases_Bool (d == 45)) [
-      | inl dash ↦ rw (eqb-true d 45 dash) (elim (cases_Bool (begins_identifier x)) [
-        | inl more ↦ rw more ((identifiers limit x p.1).1 ∙ rw more (bits (is_strict_list (take (list_len x) x)) _ _))
-        | inr none ↦ rw none ((identifiers limit x p.1).1 ∙ rw none refl)
-      ])
-      | inr other ↦ grind (arith, ended-read limit d x each)
-    ]
-  where
-    bits : (s e : Bool) (v : VersionValue) → (s && e) ≡ is_some (if e && s then Some v else None)
-    bits s e v = grind (arith, nat_tests)
-
--- ---- numbers
-
-no-digit : (limit left n : ℕ) (r : List ℕ) → begins is_ascii_digit r ≡ false → is_read limit (Number left n) r ≡ is_read limit (Number left 0) r
-unfolding run next
-no-digit limit left n [] stop = refl
-no-digit limit left n (c ∷ r) stop = rw stop refl
-
-digits-on : (limit left v : ℕ) (ds r : List ℕ) → list_all is_ascii_digit ds ≡ true → begins is_ascii_digit r ≡ false → 0 < v → v ≤ limit
-    → is_read limit (Number left v) (ds ++ r) ≡ (nat_le (digits_value_after 10 v ds) limit && is_read limit (Number left 0) r)
-unfolding run next
-digits-on limit left v [] r each stop some safe = grind (arith, nat_tests, no-digit)
-digits-on limit left v (c ∷ ds) r each stop some safe =
-    grind (arith, nat_tests, common_steps, and_parts, digits_grow, digits-on limit left (v * 10 + digit_value c) ds r)
-
--- digits that are a number
-abbrev is_number : ℕ → List ℕ → Bool
-is_number limit ds = not (is_empty ds) && (not (has_leading_zero ds) && nat_le (digits_value 10 ds) limit)
-
-number-on : (limit left : ℕ) (ds r : List ℕ) → 9 ≤ limit → list_all is_ascii_digit ds ≡ true → begins is_ascii_digit r ≡ false
-    → is_read limit (Digit left) (ds ++ r) ≡ (is_number limit ds && is_read limit (Number left 0) r)
-unfolding run next
-number-on limit left [] [] nine each stop = refl
-number-on limit left [] (c ∷ r) nine each stop = rw stop refl
-number-on limit left (c ∷ []) r nine each stop = grind (arith, and_parts, no-digit, nat_tests)
-number-on limit left (c ∷ d ∷ ds) r nine each stop =
-    let first : 0 * 10 + digit_value c ≡ digit_value c = omega arith in
-    grind (arith, nat_tests, and_parts, digits-on limit left (digit_value c) (d ∷ ds) r)
-
-number-front : (limit : ℕ) (ds r : List ℕ) → list_all is_ascii_digit ds ≡ true → begins is_ascii_digit r ≡ false
-    → strict_number limit (ds ++ r) ≡ (if is_number limit ds then Some (digits_value 10 ds, r) else None)
-unfolding strict_number number_of
-number-front limit ds r each stop = grind (arith, nat_tests, common_steps, padded-same, digits-taken, take_at, drop_at)
-
--- a number, and behind it what goes on so
-number-step : (limit left : ℕ) (f : ℕ × List ℕ → Option VersionValue) (text : List ℕ) → 9 ≤ limit → list_all is_dark text ≡ true
-    → ((p : ℕ × List ℕ) → list_all is_dark p.1 ≡ true → is_read limit (Number left 0) p.1 ≡ is_some (f p))
-    → is_read limit (Digit left) text ≡ is_some (strict_number limit text >>? f)
-number-step limit left f text nine dark h =
-    let n = prefix_len is_ascii_digit text in
-    let each = prefix-all is_ascii_digit text in
-    let rest = and_parts _ _ (sym (list_all-append is_dark (take n text) (drop n text)) ∙ rw (take-append-drop n text) dark) in
-    subst (λ (t : List ℕ). is_read limit (Digit left) t ≡ is_some (strict_number limit t >>? f)) (take-append-drop n text)
-    (rw (number-on limit left (take n text) (drop n text) nine each (run-ends text), number-front limit (take n text) (drop n text) each (run-ends text))
-    (go (is_number limit (take n text)) _ (h (digits_value 10 (take n text), drop n text) rest.1)))
-  where
-    go : (b : Bool) (p : ℕ × List ℕ) → is_read limit (Number left 0) p.1 ≡ is_some (f p)
-        → (b && is_read limit (Number left 0) p.1) ≡ is_some ((if b then Some p else None) >>? f)
-    go true p e = e
-    go false p e = refl
-
-dotted-step : (limit left : ℕ) (f : ℕ × List ℕ → Option VersionValue) (text : List ℕ) → 9 ≤ limit → list_all is_dark text ≡ true
-    → ((p : ℕ × List ℕ) → list_all is_dark p.1 ≡ true → is_read limit (Number left 0) p.1 ≡ is_some (f p))
-    → is_read limit (Number (suc left) 0) text ≡ is_some (dotted_number limit text >>? f)
-unfolding run next dotted_number
-dotted-step limit left f [] nine each h = rw (not_zero left) refl
-dotted-step limit left f (c ∷ text) nine each h = grind (arith, nat_tests, number-step limit left f text, and_parts)
-
--- ---- versions
-
-version : (limit : ℕ) (text : List ℕ) → 9 ≤ limit → list_all is_dark (drop_v text) ≡ true
-    → is_read limit (Digit 2) (drop_v text) ≡ is_some (strict_version limit text)
-unfolding strict_version
-version limit text nine each = number-step limit 2 _ (drop_v text) nine each
-    (λ a h. dotted-step limit 1 _ a.1 nine h (λ b k. dotted-step limit 0 _ b.1 nine k (λ c l. qualified limit a.0 b.0 c.0 c.1 l)))
-
--- whitespace, other characters and whitespace
-text-read : (limit : ℕ) (w : List ℕ) (c : ℕ) (x r : List ℕ) → 9 ≤ limit → list_all is_whitespace w ≡ true → list_all is_dark (c ∷ x) ≡ true
-    → begins is_dark r ≡ false → is_read limit Start (w ++ c ∷ (x ++ r)) ≡ (is_some (strict_version limit (c ∷ x)) && list_all is_whitespace r)
-unfolding run next
-text-read limit w c x r nine blank each stop =
-    let p = and_parts (is_dark c) (list_all is_dark x) each in
-    let ends = λ (b : Bool). b && list_all is_whitespace r in
-    spaces-start limit w (c ∷ (x ++ r)) blank ∙ (elim (cases_Bool (c == 118)) [
-      | inl mark ↦ rw (eqb-true c 118 mark) (behind limit (Digit 2) x r refl p.1 stop ∙ ap ends (version limit (118 ∷ x) nine p.1))
-      | inr other ↦
-          let read = rw other at (version limit (c ∷ x) nine (rw other each)) in
-          rw (not-true _ p.0, other) (behind limit (Digit 2) (c ∷ x) r refl each stop ∙ ap ends read)
-    ])
-
--- ---- its characters are bytes
+-- ---- the characters of a version are bytes
 
 pub plain-encodes : (cs : List ℕ) → list_all is_plain cs ≡ true → encode_utf8_all cs ≡ cs
 plain-encodes [] h = refl
 plain-encodes (c ∷ cs) h = grind (arith, nat_tests, common_steps, and_parts, encode_ascii, plain-encodes cs)
 
-plain-digits : (ds : List ℕ) → list_all is_ascii_digit ds ≡ true → list_all is_plain ds ≡ true
-plain-digits ds h = all_weaker is_ascii_digit is_plain (λ c k. grind (arith, nat_tests)) ds h
-
 qualified-plain : (p b : List ℕ) (l m : List Id) → IsStrictPreRelease p l → IsStrictBuild b m → list_all is_plain (p ++ b) ≡ true
 qualified-plain p b l m h k = grind (arith, nat_tests, common_steps, plain_runs, runs_tail, all-join)
 
 pub plain-middle : (limit : ℕ) (middle : List ℕ) (v : VersionValue) → IsStrictVersion limit middle v → list_all is_plain middle ≡ true
-plain-middle limit middle v (written s x y z t u w m i j k p q) = grind (arith, all-join, plain-digits, qualified-plain t u w.pre_release w.build p q)
+plain-middle limit middle v (written s x y z t u w m i j k p q) =
+    let digits = all_weaker is_ascii_digit is_plain (λ c k. grind (arith, nat_tests)) in
+    grind (arith, all-join, digits, qualified-plain t u w.pre_release w.build p q)
 
 plain-dark : (cs : List ℕ) → list_all is_plain cs ≡ true → begins is_whitespace cs ≡ false
 plain-dark cs h = grind (arith, nat_tests, common_steps)
@@ -317,42 +37,38 @@ pub plain-trim : (w x r : List ℕ) → list_all is_whitespace w ≡ true → li
     → IsTrim (encode_utf8_all (w ++ (x ++ r))) x
 plain-trim w x r before h after = grind (arith, nat_tests, common_steps, plain-encodes, plain-dark, plain-reverse)
 
--- ---- what is written is read, also with a greater limit
+-- ---- texts that are read to their end
 
-larger : (limit more : ℕ) (middle : List ℕ) (v : VersionValue) → limit ≤ more → IsStrictVersion limit middle v → IsStrictVersion more middle v
-larger limit more middle v le (written mark x y z pre build w m i j k p q) =
-    written mark x y z pre build w m (number x _ i) (number y _ j) (number z _ k) p q
-  where
-    number : (ds : List ℕ) (n : ℕ) → IsStrictNumber limit ds n → IsStrictNumber more ds n
-    number ds n h =
-        let i = h.number in
-        record { number = record { some = i.some; each = i.each; value = i.value; safe = omega (arith, le, i.safe) }; shortest = h.shortest }
+abbrev ends_whole : Option State → Bool
+ends_whole None = false
+ends_whole (Some s) = is_whole s
 
-middle-read : (limit : ℕ) (w middle r : List ℕ) (v : VersionValue) → 9 ≤ limit → list_all is_whitespace w ≡ true
-    → list_all is_whitespace r ≡ true → IsStrictVersion limit middle v → is_read limit Start (w ++ (middle ++ r)) ≡ true
-unfolding strict_version strict_number number_of
-middle-read limit w [] r v nine before after is = cc (strict-read-version limit [] v is)
-middle-read limit w (c ∷ x) r v nine before after is =
-    let dark = all_weaker is_plain is_dark (λ b k. grind (arith, nat_tests)) (c ∷ x) (plain-middle limit (c ∷ x) v is) in
-    text-read limit w c x r nine before dark (stop r after) ∙ rw (strict-read-version limit (c ∷ x) v is, after) refl
-  where
-    stop : (r : List ℕ) → list_all is_whitespace r ≡ true → begins is_dark r ≡ false
-    stop r h = grind (arith, nat_tests, common_steps)
+abbrev blank : List ℕ → Bool
+blank text = list_all is_whitespace text
 
--- the text is read to its end, and is a version
-abbrev pub Whole : ℕ → State → List ℕ → Type 0
-Whole limit s text = is_read limit s text ≡ true
+-- an identifier may end so behind what is read of it
+abbrev may_end : State → List ℕ → Bool
+may_end Zero rest = is_empty rest || not (list_all is_ascii_digit rest)
+may_end Padded rest = not (list_all is_ascii_digit rest)
+may_end s rest = true
 
-pub spelled-read : (limit more : ℕ) (cs : List ℕ) → 9 ≤ more → limit ≤ more → IsSpelled limit (encode_utf8_all cs) → Whole more Start cs
-spelled-read limit more cs nine le h =
-    let t = h.trimmed in
-    let divided = encodes_same cs (t.before ++ (t.characters ++ t.after)) t.divided in
-    let middle = encodes_same h.middle t.characters (plain-encodes h.middle (plain-middle limit h.middle h.version h.is) ∙ t.middle_is) in
-    let whole : cs ≡ t.before ++ (h.middle ++ t.after) = divided ∙ ap (λ (m : List ℕ). t.before ++ (m ++ t.after)) (sym middle) in
-    rw whole (middle-read more t.before h.middle t.after h.version nine t.blank_before t.blank_after (larger limit more h.middle h.version le h.is))
+-- the first piece is such an end, and the others have no leading zeros
+abbrev fit : State → List (List ℕ) → Bool
+fit s [] = may_end s []
+fit s (p ∷ ps) = may_end s p && list_all is_strict_identifier ps
 
--- ---- what is read is written
+-- with a character more before the first piece
+onto : (c : ℕ) (ps : List (List ℕ)) → (list_all is_strict_identifier (onto_first c ps) ≡ (if c == 48 then fit Zero ps else fit PreRelease ps))
+    × (fit Zero (onto_first c ps) ≡ (if is_ascii_digit c then fit Padded ps else fit PreRelease ps))
+    × (fit Padded (onto_first c ps) ≡ (if is_ascii_digit c then fit Padded ps else fit PreRelease ps))
+    × (fit PreRelease (onto_first c ps) ≡ fit PreRelease ps)
+onto c ps = grind (arith, nat_tests, common_steps)
 
+-- digits that are a number
+abbrev is_number : ℕ → List ℕ → Bool
+is_number limit ds = not (is_empty ds) && (not (has_leading_zero ds) && nat_le (digits_value 10 ds) limit)
+
+-- the longest front of which a test is true
 divides : (p : ℕ → Bool) (cs : List ℕ) → (x : List ℕ) × (r : List ℕ) × (cs ≡ x ++ r) × (list_all p x ≡ true) × (begins p r ≡ false)
 divides p [] = ([], [], refl, refl, refl)
 divides p (c ∷ cs) = elim (cases_Bool (p c)) [
@@ -360,55 +76,223 @@ divides p (c ∷ cs) = elim (cases_Bool (p c)) [
   | inr other ↦ ([], c ∷ cs, refl, refl, other)
 ]
 
-middle-found : (limit : ℕ) (w x r : List ℕ) → 9 ≤ limit → list_all is_whitespace w ≡ true → list_all is_dark x ≡ true → begins is_dark r ≡ false
-    → begins is_whitespace (x ++ r) ≡ false → is_read limit Start (w ++ (x ++ r)) ≡ true
-    → ((v : VersionValue) × (strict_version limit x ≡ Some v)) × (list_all is_whitespace r ≡ true)
-unfolding run
-middle-found limit w [] [] nine blank each stop dark h = cc (sym (spaces-start limit w [] blank) ∙ h)
-middle-found limit w [] (c ∷ r) nine blank each stop dark h = cc (not-false _ stop, dark)
-middle-found limit w (c ∷ x) r nine blank each stop dark h =
-    let p = and_parts _ _ (sym (text-read limit w c x r nine blank each stop) ∙ h) in elim (option-cases (strict_version limit (c ∷ x))) [
-      | inl none ↦ cc (sym (ap is_some none) ∙ p.0)
-      | inr v ↦ (v, p.1)
-    ]
+-- nothing of a version goes on with whitespace
+blank-quiet : (r : List ℕ) → blank r ≡ true → begins is_solid r ≡ false
+blank-quiet r h = grind (arith, nat_tests)
 
-pub read-spelled : (limit : ℕ) (cs : List ℕ) → 9 ≤ limit → Whole limit Start cs → IsSpelled limit (encode_utf8_all cs)
-read-spelled limit cs nine h =
-    let a = divides is_whitespace cs in
-    let b = divides is_dark a.1 in
-    let whole : cs ≡ a.0 ++ (b.0 ++ b.1) = a.2 ∙ ap (λ (t : List ℕ). a.0 ++ t) b.2 in
-    let f = middle-found limit a.0 b.0 b.1 nine a.3 b.3 b.4 (rw b.2 at a.4) (rw whole at h) in
-    let is = strict-found-version limit b.0 f.0.0 f.0.1 in
-    rw whole (record { version = f.0.0; middle = b.0; trimmed = plain-trim a.0 b.0 b.1 a.3 (plain-middle limit b.0 f.0.0 is) f.1; is = is })
+module _ (limit : ℕ) where
+  -- the text is read to its end, and is a version
+  abbrev pub is_read : State → List ℕ → Bool
+  is_read s text = ends_whole (run limit s text)
 
--- ---- what is read goes on to a version
+  abbrev pub Whole : State → List ℕ → Type 0
+  Whole s text = is_read s text ≡ true
 
--- what is written behind a number
-abbrev zeros : ℕ → List ℕ
-zeros zero = []
-zeros (suc k) = 46 ∷ 48 ∷ zeros k
+  -- what is read of a front is read further
+  run-then : (s t : State) (xs ys : List ℕ) → run limit s xs ≡ Some t → run limit s (xs ++ ys) ≡ run limit t ys
+  unfolding run
+  run-then s t [] ys h = ap (λ u. run limit u ys) (same_Some s t h)
+  run-then s t (c ∷ xs) ys h = let b = bind_some (next limit s c) _ t h in rw b.1 (run-then b.0 t xs ys b.2)
 
-zeros-read : (limit left n : ℕ) → Whole limit (Number left n) (zeros left)
-unfolding run next
-zeros-read limit zero n = refl
-zeros-read limit (suc k) n = zeros-read limit k 0
+  pub run-more : (s t : State) (c : ℕ) (xs : List ℕ) → run limit Start xs ≡ Some s → next limit s c ≡ Some t → run limit Start (xs ++ c ∷ []) ≡ Some t
+  unfolding run
+  run-more s t c xs h k = run-then Start s xs (c ∷ []) h ∙ rw k refl
 
-finish : (limit : ℕ) (s : State) → (more : List ℕ) × Whole limit s more
-unfolding run next
-finish limit Start = (48 ∷ zeros 2, zeros-read limit 2 0)
-finish limit (Digit left) = (48 ∷ zeros left, zeros-read limit left 0)
-finish limit (Number left n) = (zeros left, zeros-read limit left n)
-finish limit Dash = (97 ∷ [], refl)
-finish limit Padded = (97 ∷ [], refl)
-finish limit Plus = (97 ∷ [], refl)
-finish limit s = ([], refl)
+  -- ---- whitespace
 
-pub read-front : (limit : ℕ) (before : List ℕ) (s : State) → 9 ≤ limit → run limit Start before ≡ Some s → IsFront limit before
-read-front limit before s nine h =
-    let f = finish limit s in (f.0, read-spelled limit (before ++ f.0) nine (ap ends_whole (run-then limit Start s before f.0 h) ∙ f.1))
+  spaces-start : (w cs : List ℕ) → blank w ≡ true → is_read Start (w ++ cs) ≡ is_read Start cs
+  unfolding run next
+  spaces-start [] cs h = refl
+  spaces-start (c ∷ w) cs h = grind (arith, and_parts, spaces-start w cs)
 
--- and what is not read does not
-pub front-stops : (limit : ℕ) (before : List ℕ) (s : State) (c : ℕ) (rest : List ℕ) → run limit Start before ≡ Some s
-    → next limit s c ≡ None → Whole limit Start (before ++ c ∷ rest) → ⊥
-unfolding run
-front-stops limit before s c rest h none w = cc (rw (run-then limit Start s before (c ∷ rest) h, none) at w)
+  spaces-end : (cs : List ℕ) → is_read End cs ≡ blank cs
+  unfolding run next
+  spaces-end [] = refl
+  spaces-end (c ∷ cs) = grind (arith, spaces-end cs)
+
+  -- ---- build metadata
+
+  -- behind a character of an identifier, and behind `+` or a dot
+  builds : (x : List ℕ) → (is_read Build x ≡ blank (drop (list_len x) x)) × (is_read Plus x ≡ (begins_identifier x && blank (drop (list_len x) x)))
+  unfolding run next list_len
+  builds [] = (refl, refl)
+  builds (c ∷ x) =
+      let later = builds x in
+      let e : 1 + list_len x ≡ suc (list_len x) = omega arith in (grind (arith, nat_tests, later, spaces-end x), grind (arith, later))
+
+  -- where no identifier goes on
+  ended-read : (c : ℕ) (x : List ℕ) → ends_whole (ended c >>? λ t. run limit t x) ≡ blank (build_front (c ∷ x)).1
+  unfolding build_front
+  ended-read c x = grind (arith, nat_tests, builds x, spaces-end x)
+
+  -- ---- pre-releases
+
+  abbrev ReadAs : State → List ℕ → Type 0
+  ReadAs s x = is_read s x ≡ (fit s (pieces (take (list_len x) x)) && blank (build_front (drop (list_len x) x)).1)
+
+  -- behind `-` or a dot, and behind some characters of an identifier
+  identifiers : (x : List ℕ)
+      → (is_read Dash x ≡ (begins_identifier x && (is_strict_list (take (list_len x) x) && blank (build_front (drop (list_len x) x)).1)))
+      × ReadAs Zero x × ReadAs Padded x × ReadAs PreRelease x
+  unfolding run next list_len build_front
+  identifiers [] = (refl, refl, refl, refl)
+  identifiers (c ∷ x) =
+      let later = identifiers x in
+      let e : 1 + list_len x ≡ suc (list_len x) = omega arith in
+      elim (cases_Bool (is_identifier_char c)) [
+        | inl letter ↦
+            let on = onto c (pieces (take (list_len x) x)) in
+            let apart : (c == 46) ≡ false = grind (arith, nat_tests, letter) in
+            rw (letter, e, apart) (
+              rw on.0 (grind (arith, later.1, later.3)),
+              rw on.1 (grind (arith, later.2, later.3)),
+              rw on.2 (grind (arith, later.2, later.3)),
+              rw on.3 later.3,
+            )
+        | inr other ↦ elim (cases_Bool (c == 46)) [
+          | inr apart ↦
+              let digit : is_ascii_digit c ≡ false = grind (arith, nat_tests, other) in
+              rw (other, apart, digit) (grind (arith, nat_tests), ended-read c x, refl, ended-read c x)
+          | inl dot ↦ rw (eqb-true c 46 dot) (elim (cases_Bool (begins_identifier x)) [
+            | inl more ↦ rw (more, e) (refl, rw more at later.0, refl, rw more at later.0)
+            | inr none ↦ rw none (refl, rw none at later.0, refl, rw none at later.0)
+          ])
+        ]
+      ]
+    where
+      either : (b : Bool) (s t : State) (f g e : Bool) → is_read s x ≡ (f && e) → is_read t x ≡ (g && e)
+          → ends_whole ((if b then Some s else Some t) >>? λ u. run limit u x) ≡ ((if b then f else g) && e)
+      either true s t f g e h k = h
+      either false s t f g e h k = k
+
+  -- behind the numbers
+  qualified : (x : List ℕ) → is_read (Number 0 0) x ≡ (is_strict_list (dashed_front x).0 && blank (build_front (dashed_front x).1).1)
+  unfolding run next dashed_front pre_release_front build_front
+  qualified [] = refl
+  qualified (d ∷ x) = grind (arith, nat_tests, ended-read d x, identifiers x)
+
+  -- ---- numbers
+
+  no-digit : (left n : ℕ) (r : List ℕ) → begins is_ascii_digit r ≡ false → is_read (Number left n) r ≡ is_read (Number left 0) r
+  unfolding run next
+  no-digit left n r stop = grind (arith, nat_tests)
+
+  digits-on : (left v : ℕ) (ds r : List ℕ) → list_all is_ascii_digit ds ≡ true → begins is_ascii_digit r ≡ false → 0 < v → v ≤ limit
+      → is_read (Number left v) (ds ++ r) ≡ (nat_le (digits_value_after 10 v ds) limit && is_read (Number left 0) r)
+  unfolding run next
+  digits-on left v [] r each stop some safe = grind (arith, nat_tests, no-digit)
+  digits-on left v (c ∷ ds) r each stop some safe =
+      grind (arith, nat_tests, common_steps, and_parts, digits_grow, digits-on left (v * 10 + digit_value c) ds r)
+
+  number-on : (left : ℕ) (ds r : List ℕ) → 9 ≤ limit → list_all is_ascii_digit ds ≡ true → begins is_ascii_digit r ≡ false
+      → is_read (Digit left) (ds ++ r) ≡ (is_number limit ds && is_read (Number left 0) r)
+  unfolding run next
+  number-on left [] r nine each stop = grind (arith, nat_tests)
+  number-on left (c ∷ ds) r nine each stop =
+      let first : 0 * 10 + digit_value c ≡ digit_value c = omega arith in
+      grind (arith, nat_tests, and_parts, no-digit, digits-on left (digit_value c) ds r)
+
+  number-found : (left : ℕ) (text : List ℕ) → 9 ≤ limit → Whole (Digit left) text
+      → (ds : List ℕ) × (n : ℕ) × (r : List ℕ) × (text ≡ ds ++ r) × IsStrictNumber limit ds n × Whole (Number left 0) r
+  number-found left text nine h =
+      let d = divides is_ascii_digit text in
+      let p = and_parts (is_number limit d.0) _ (sym (number-on left d.0 d.1 nine d.3 d.4) ∙ rw d.2 at h) in
+      (d.0, digits_value 10 d.0, d.1, d.2, grind (arith, nat_tests), p.1)
+
+  dot-found : (left : ℕ) (text : List ℕ) → Whole (Number (suc left) 0) text → (r : List ℕ) × (text ≡ 46 ∷ r) × Whole (Digit left) r
+  unfolding run next
+  dot-found left [] h = absurd (grind (arith, nat_tests))
+  dot-found left (c ∷ r) h = grind (arith, nat_tests, common_steps)
+
+  number-read : (less left n : ℕ) (ds r : List ℕ) → 9 ≤ limit → less ≤ limit → IsStrictNumber less ds n → begins is_ascii_digit r ≡ false
+      → is_read (Digit left) (ds ++ r) ≡ is_read (Number left 0) r
+  number-read less left n ds r nine le h stop = rw (number-on left ds r nine h.0.each stop) (grind (arith, nat_tests))
+
+  -- ---- what is written is read, also with a greater limit
+
+  start-read : (less n : ℕ) (mark ds r : List ℕ) → (mark ≡ []) ⊎ (mark ≡ 118 ∷ []) → IsStrictNumber less ds n
+      → is_read Start (mark ++ (ds ++ r)) ≡ is_read (Digit 2) (ds ++ r)
+  unfolding run next
+  start-read less n mark ds r m h = grind (arith, nat_tests, common_steps)
+
+  version-read : (less : ℕ) (middle r : List ℕ) (v : VersionValue) → 9 ≤ limit → less ≤ limit → blank r ≡ true → IsStrictVersion less middle v
+      → Whole Start (middle ++ r)
+  unfolding run next pre_front
+  version-read less middle r v nine le after (written mark x y z pre build w m i j k p q) =
+      let e = blank-quiet r after in
+      let ends = build-ends build r w.build q e in
+      let quiet : begins is_ascii_digit (pre ++ (build ++ r)) ≡ false =
+      grind (arith, pre-follows false is_strict_list pre (build ++ r) w.pre_release p ends) in
+      let front = pre-taken false false is_strict_list pre (build ++ r) w.pre_release refl p ends in
+      let behind = build-taken build r w.build q e in
+      let c : Whole (Number 0 0) (pre ++ (build ++ r)) = qualified (pre ++ (build ++ r)) ∙ rw (front.1, front.3, behind.0) after in
+      let b : Whole (Digit 0) (z ++ (pre ++ (build ++ r))) = number-read less 0 _ z _ nine le k quiet ∙ c in
+      let a : Whole (Digit 1) (y ++ 46 ∷ (z ++ (pre ++ (build ++ r)))) = number-read less 1 _ y (46 ∷ _) nine le j refl ∙ b in
+      let all : Whole (Digit 2) (x ++ 46 ∷ (y ++ 46 ∷ (z ++ (pre ++ (build ++ r))))) = number-read less 2 _ x (46 ∷ _) nine le i refl ∙ a in
+      simp append_assoc (start-read less _ mark x _ m i ∙ all)
+
+  pub spelled-read : (less : ℕ) (cs : List ℕ) → 9 ≤ limit → less ≤ limit → IsSpelled less (encode_utf8_all cs) → Whole Start cs
+  spelled-read less cs nine le h =
+      let t = h.trimmed in
+      let middle = encodes_same h.middle t.characters (plain-encodes h.middle (plain-middle less h.middle h.version h.is) ∙ t.middle_is) in
+      rw (encodes_same cs (t.before ++ (t.characters ++ t.after)) t.divided, ← middle)
+      (spaces-start t.before (h.middle ++ t.after) t.blank_before ∙ version-read less h.middle t.after h.version nine le t.blank_after h.is)
+
+  -- ---- what is read is written
+
+  start-found : (text : List ℕ) → begins is_whitespace text ≡ false → Whole Start text
+      → (mark : List ℕ) × (r : List ℕ) × (text ≡ mark ++ r) × ((mark ≡ []) ⊎ (mark ≡ 118 ∷ [])) × Whole (Digit 2) r
+  unfolding run next
+  start-found [] dark h = cc h
+  start-found (c ∷ text) dark h = elim (cases_Bool (c == 118)) [
+    | inl mark ↦ (118 ∷ [], text, ap (λ (b : ℕ). b ∷ text) (eqb-true c 118 mark), inr refl, rw (dark, mark) at h)
+    | inr other ↦ ([], c ∷ text, refl, inl refl, rw (dark, other) at h)
+  ]
+
+  pub read-spelled : (cs : List ℕ) → 9 ≤ limit → Whole Start cs → IsSpelled limit (encode_utf8_all cs)
+  read-spelled cs nine h =
+      let s = divides is_whitespace cs in
+      let m = start-found s.1 s.4 (sym (spaces-start s.0 s.1 s.3) ∙ rw s.2 at h) in
+      let x = number-found 2 m.1 nine m.4 in
+      let d = dot-found 1 x.2 x.5 in
+      let y = number-found 1 d.0 nine d.2 in
+      let f = dot-found 0 y.2 y.5 in
+      let z = number-found 0 f.0 nine f.2 in
+      let c = dashed_front z.2 in
+      let b = build_front c.1 in
+      let e = and_parts (is_strict_list c.0) _ (sym (qualified z.2) ∙ z.5) in
+      let p = dashed-found false false is_strict_list z.2 e.0 in
+      let q = build-found c.1 in
+      let v : VersionValue = record { major = x.1; minor = y.1; patch = z.1; pre_release = listed c.0; build = listed b.0 } in
+      let middle : List ℕ = m.0 ++ (x.0 ++ 46 ∷ (y.0 ++ 46 ∷ (z.0 ++ (p.0 ++ q.0)))) in
+      let is : IsStrictVersion limit middle v = written m.0 x.0 y.0 z.0 p.0 q.0 v m.3 x.4 y.4 z.4 p.2 q.2 in
+      let whole : cs ≡ s.0 ++ (middle ++ b.1) = grind (arith, append_assoc) in
+      rw whole (record { version = v; middle = middle; trimmed = plain-trim s.0 middle b.1 s.3 (plain-middle limit middle v is) e.1; is = is })
+
+  -- ---- what is read goes on to a version
+
+  -- what is written behind a number
+  numbers : (left n : ℕ) → (more : List ℕ) × Whole (Number left n) more
+  unfolding run next
+  numbers zero n = ([], refl)
+  numbers (suc k) n = let f = numbers k 0 in (46 ∷ 48 ∷ f.0, f.1)
+
+  finish : (s : State) → (more : List ℕ) × Whole s more
+  unfolding run next
+  finish Start = let f = numbers 2 0 in (48 ∷ f.0, f.1)
+  finish (Digit left) = let f = numbers left 0 in (48 ∷ f.0, f.1)
+  finish (Number left n) = numbers left n
+  finish Dash = (97 ∷ [], refl)
+  finish Padded = (97 ∷ [], refl)
+  finish Plus = (97 ∷ [], refl)
+  finish s = ([], refl)
+
+  pub read-front : (before : List ℕ) (s : State) → 9 ≤ limit → run limit Start before ≡ Some s → IsFront limit before
+  read-front before s nine h =
+      let f = finish s in (f.0, read-spelled (before ++ f.0) nine (ap ends_whole (run-then Start s before f.0 h) ∙ f.1))
+
+  -- and what is not read does not
+  pub front-goes : (before : List ℕ) (s : State) (c : ℕ) (rest : List ℕ) → run limit Start before ≡ Some s → Whole Start (before ++ c ∷ rest)
+      → is_some (next limit s c) ≡ true
+  unfolding run
+  front-goes before s c rest h w = let k = rw (run-then Start s before (c ∷ rest) h) at w in grind (arith, nat_tests)

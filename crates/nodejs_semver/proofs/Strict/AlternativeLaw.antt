@@ -1,16 +1,16 @@
 -- Alternatives of node-semver's range texts: the functions that read them find exactly what the statement has.
-use Rattle.nodejs_semver.proofs.Common.{AllByRecursion, Bool, IsCharBoundary-after_ascii, IsUtf8, IsUtf8-drop, List, MAX_SAFE_INTEGER, None, Option, Some}
-use Rattle.nodejs_semver.proofs.Common.{VersionValue, [], and_parts, ap, arith, bind_some, cases_Bool, common_steps, cond_some, drop, false, if◌then◌else◌, inl, inr, is_boundary, ◌++◌}
-use Rattle.nodejs_semver.proofs.Common.{is_empty, length, length-drop, list_all, map, middle_is_trim, nat_tests, prefix_len, refl}
-use Rattle.nodejs_semver.proofs.Common.{same_Some, subst, suc, sym, take, take_rest, trim, trim_is_middle, true, ℕ, ◌&&◌, ◌+◌, ◌-◌, ◌<◌, ◌↔◌, ◌∙◌, ◌∷◌, ◌≡◌, ◌≤◌}
-use Rattle.nodejs_semver.proofs.{Dividing.{BarsDivide.{bars_divide, bars_once}, MeaningLaw.pieces-utf8}, NpmCommon.AreAlternatives}
-use Rattle.nodejs_semver.proofs.NpmCommon.{Comparison, Counted, HasAlternativesIn, IsAlternative, IsHyphen, IsPartial, IsVersionText, Ended, alternative_of}
-use Rattle.nodejs_semver.proofs.NpmCommon.{alternatives_of, are_normal, counted_front, counted_word, hyphen_ends, is_free_lower, is_free_upper}
-use Rattle.nodejs_semver.proofs.NpmCommon.{is_mark, is_right, is_valid, kept, lower_of, marks_len, npm_sign, strict_version, upper_of, words_of_all, words_within}
-use Rattle.nodejs_semver.proofs.{Reading.{Steps.option-cases, WordLaw.trim-utf8}, Strict.Hyphens.{ended_of, hyphen-found, hyphen-read, partial-le, places-normal}}
-use Rattle.nodejs_semver.proofs.Strict.{Hyphens.right-end, PartialLaw.{places-found, prefix-all}, VersionLaw.strict-read-version, Words.{words-found, words-read}}
-use Rattle.nodejs_semver.specs.Internal.{NpmParts.some_normal, NpmWords.{are_counted_marks, hyphen_or, npm_alternatives, places_front}}
-use Rattle.nodejs_semver.specs.Npm.{RangeText.{hyphen, next, words}, Table.Partial}
+use Rattle.nodejs_semver.proofs.Common.{AllByRecursion, Bool, IsUtf8, List, MAX_SAFE_INTEGER, None, Option, Some, VersionValue, [], and_parts, ap}
+use Rattle.nodejs_semver.proofs.Common.{arith, bind_some, cases_Bool, common_steps, cond_some, drop, false, inl, inr, is_empty, length, length-drop}
+use Rattle.nodejs_semver.proofs.Common.{list_all, map, middle_is_trim, nat_tests, prefix_len, refl, same_Some, subst, suc, sym, take, take_rest, trim}
+use Rattle.nodejs_semver.proofs.{Common.{trim_is_middle, true, ℕ, ◌&&◌, ◌++◌, ◌+◌, ◌-◌, ◌↔◌, ◌∙◌, ◌∷◌, ◌≡◌, ◌≤◌}, Dividing.BarsDivide.bars_divide}
+use Rattle.nodejs_semver.proofs.{Dividing.{BarsDivide.bars_once, MeaningLaw.pieces-utf8}, NpmCommon.{AreAlternatives, Comparison, Counted, Ended}}
+use Rattle.nodejs_semver.proofs.NpmCommon.{HasAlternativesIn, IsAlternative, IsHyphen, IsPartial, IsVersionText, alternative_of, alternatives_of}
+use Rattle.nodejs_semver.proofs.NpmCommon.{are_normal, counted_front, counted_word, hyphen_ends, is_free_lower, is_free_upper, is_mark, is_right}
+use Rattle.nodejs_semver.proofs.NpmCommon.{is_valid, kept, lower_of, marks_len, strict_version, upper_of, words_of_all, words_within}
+use Rattle.nodejs_semver.proofs.{Reading.{Steps.option-cases, WordLaw.{tail-utf8, trim-utf8}}, Strict.Hyphens.{ended_of, front-normal, hyphen-found}}
+use Rattle.nodejs_semver.proofs.Strict.{Hyphens.{hyphen-read, partial-le, places-normal, right-end}, PartialLaw.prefix-all}
+use Rattle.nodejs_semver.{proofs.Strict.{VersionLaw.strict-read-version, Words.{words-found, words-read}}, specs.Internal.NpmParts.some_normal}
+use Rattle.nodejs_semver.specs.{Internal.NpmWords.{hyphen_or, npm_alternatives}, Npm.{RangeText.{hyphen, next, words}, Table.Partial}}
 
 -- ---- marks
 
@@ -23,9 +23,8 @@ marks-utf8 [] u = u
 marks-utf8 (c ∷ rest) u = elim (cases_Bool (is_mark c)) [
   | inr other ↦ rw other u
   | inl mark ↦
-      let low : c < 128 = grind (arith, nat_tests, common_steps) in
       let more : 1 + prefix_len is_mark rest ≡ suc (prefix_len is_mark rest) = omega arith in
-      rw (mark, more) (marks-utf8 rest (IsUtf8-drop (c ∷ rest) 1 u (IsCharBoundary-after_ascii (c ∷ rest) 0 u (omega arith) low)))
+      rw (mark, more) (marks-utf8 rest (tail-utf8 c rest (grind (arith, nat_tests)) u))
 ]
 
 pub behind-le : (loose : Bool) (limit : ℕ) (text : List ℕ) (at : ℕ) (p : Option Partial) (rest : List ℕ)
@@ -39,25 +38,10 @@ pub ruleset marks_found = (marks_all)
 pub partial-normal : (loose : Bool) (text : List ℕ) (p : Partial) → IsPartial loose text p → are_normal p ≡ true
 partial-normal loose text p h = places-normal loose text p h.0
 
-counted-normal : (loose : Bool) (limit : ℕ) (text : List ℕ) (p : Option Partial × List ℕ) → counted_front loose limit text ≡ Some p → some_normal p.0 ≡ true
-counted-normal loose limit text p h =
-    let q = bind_some (places_front loose text) _ p h in
-    let f = places-found loose text q.0.0 q.0.1 q.1 in
-    let n = places-normal loose f.piece q.0.0 f.is in
-    subst (λ (r : Option Partial × List ℕ). some_normal r.0 ≡ true) (same_Some _ p q.2) (go _ q.0.0 n)
-  where
-    go : (b : Bool) (q : Partial) → are_normal q ≡ true → some_normal (if b then Some q else None) ≡ true
-    go true q n = n
-    go false q n = refl
-
 -- the partial of a word that is read
 pub word-normal : (loose : Bool) (text : List ℕ) (w : Counted × List ℕ) → counted_word loose MAX_SAFE_INTEGER text ≡ Some w → some_normal w.0.1 ≡ true
 unfolding counted_word
-word-normal loose text w h =
-    let s = npm_sign text in
-    let p = bind_some (counted_front loose MAX_SAFE_INTEGER (drop (marks_len s.1) s.1)) _ w h in
-    let t = cond_some (are_counted_marks loose s.0 p.0.0 (take (marks_len s.1) s.1) && is_boundary p.0.1) _ w p.2 in
-    subst (λ (r : Counted × List ℕ). some_normal r.0.1 ≡ true) t.1 (counted-normal loose MAX_SAFE_INTEGER _ p.0 p.1)
+word-normal loose text w h = grind (arith, front-normal)
 
 -- ---- alternatives
 
@@ -68,12 +52,10 @@ alternative-read loose include text lost cs u (hyphen t h lower upper) =
     let low : is_right loose is_free_lower (ended_of loose t h.before h.lower) ≡ true = right-end loose (λ v. false) t h.before h.lower ∙ lower in
     let high : is_right loose (is_free_upper include) (ended_of loose h.second [] h.upper) ≡ true = right-end loose _ h.second [] h.upper ∙ upper in
     rw (hyphen-read loose t u h, low, high) refl
-alternative-read loose include text lost cs u (words t all absent w) =
-    let none : hyphen_ends loose t ≡ None = elim (option-cases (hyphen_ends loose t)) [
-      | inl e ↦ e
-      | inr e ↦ absurd (absent (hyphen-found loose t e.0 u e.1).0)
-    ] in
-    rw (none, words-read loose include (length t) t all u w (omega arith)) refl
+alternative-read loose include text lost cs u (words t all absent w) = elim (option-cases (hyphen_ends loose t)) [
+  | inl e ↦ rw (e, words-read loose include (length t) t all u w (omega arith)) refl
+  | inr e ↦ absurd (absent (hyphen-found loose t e.0 u e.1).0)
+]
 
 pub alternative-found : (loose include : Bool) (text : List ℕ) (a : Bool × List Comparison) → IsUtf8 text → alternative_of loose include text ≡ Some a
     → IsAlternative loose include text a.0 a.1

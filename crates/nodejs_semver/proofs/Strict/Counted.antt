@@ -1,15 +1,15 @@
 -- The words whose comparators are valid, as the code reads them: those of the statement, where their comparators are valid.
-use Rattle.nodejs_semver.proofs.Common.{Bool, Front, IsUtf8, List, MAX_SAFE_INTEGER, None, Option, Some, Span, VersionValue, [], ap}
-use Rattle.nodejs_semver.proofs.Common.{append-nil, append_assoc, arith, bind_some, cases_Bool, common_steps, cond_some, drop, drop_spaces, false, if◌then◌else◌, inl, inr, is_boundary}
-use Rattle.nodejs_semver.proofs.Common.{is_empty, length, list_all, list_all-append, nat_lt, nat_tests, prefix_len, refl, same_Some, subst, suc, sym, take, take-append-drop, take_rest}
-use Rattle.nodejs_semver.proofs.{Common.{true, zero, ℕ, ◌&&◌, ◌++◌, ◌-◌, ◌<◌, ◌∙◌, ◌∷◌, ◌≡◌, ◌≤◌}, NpmCommon.{Alternative, Comparison, Counted, IsNarrowed}}
-use Rattle.nodejs_semver.proofs.NpmCommon.{NarrowedBy, are_marks, comparators_of, counted_front, counted_word, first_valid, first_word, ignored_or}
-use Rattle.nodejs_semver.proofs.NpmCommon.{is_mark, is_none, is_short, is_short_word, is_small, is_valid, marks_len, npm_sign, signed_word}
-use Rattle.nodejs_semver.proofs.NpmCommon.{valid_only, valid_words, words_of, words_within, ◌>>?◌}
-use Rattle.nodejs_semver.proofs.Strict.{PartialLaw.{front-text, places-found, prefix-all}, Printed.table-invalid, VersionLaw.empty-is, Words.{FirstAt, first-found, marks-dropped, words-enough}}
-use Rattle.nodejs_semver.specs.{Internal.NpmWords.{counted_or, signed_or, ended_counted_word, ended_word, places_front}, Npm.Table.{Partial, Sign, table}}
-use Rattle.std.specs.{List.suffix_len, Option.unwrap_or, Prelude.reverse}
-use Rattle.std.proofs.lemmas.{Grind.flat_map-append, List.reverse-append}
+use Rattle.nodejs_semver.proofs.Common.{Bool, Front, IsUtf8, List, MAX_SAFE_INTEGER, None, Option, Some, Span, VersionValue, [], ap, append-nil}
+use Rattle.nodejs_semver.proofs.Common.{append_assoc, arith, bind_some, common_steps, cond_some, drop, false, if◌then◌else◌, is_empty, length}
+use Rattle.nodejs_semver.proofs.Common.{list_all, list_all-append, nat_lt, nat_tests, prefix_len, refl, same_Some, subst, suc, sym, take}
+use Rattle.nodejs_semver.proofs.Common.{take-append-drop, take_rest, true, zero, ℕ, ◌&&◌, ◌++◌, ◌-◌, ◌<◌, ◌||◌, ◌∙◌, ◌∷◌, ◌≡◌, ◌≤◌}
+use Rattle.nodejs_semver.proofs.NpmCommon.{Alternative, Comparison, IsNarrowed, NarrowedBy, are_marks, comparators_of, counted_front, counted_word}
+use Rattle.nodejs_semver.proofs.NpmCommon.{first_valid, first_word, ignored_or, is_mark, is_none, is_short, is_short_word, is_small, is_valid}
+use Rattle.nodejs_semver.proofs.{NpmCommon.{marks_len, npm_sign, signed_word, valid_words, words_of, words_within, ◌>>?◌}, Strict.Hyphens.front-is}
+use Rattle.nodejs_semver.proofs.Strict.{PartialLaw.{places-found, prefix-all}, Printed.table-invalid, VersionLaw.empty-is, Words.FirstAt}
+use Rattle.nodejs_semver.{proofs.Strict.Words.{first-found, marks-dropped, words-enough}, specs.Internal.NpmWords.{counted_or, ended_counted_word}}
+use Rattle.nodejs_semver.specs.{Internal.NpmWords.{ended_word, places_front, signed_or}, Npm.Table.{Partial, Sign}}
+use Rattle.std.{proofs.lemmas.{Grind.flat_map-append, List.reverse-append}, specs.{List.suffix_len, Option.unwrap_or, Prelude.reverse}}
 
 pub counted_here : (loose : Bool) (text : List ℕ) (s : Sign × List ℕ) (at : ℕ) (o : Front (Option Partial)) → s ≡ npm_sign text → at ≡ marks_len s.1
     → o ≡ counted_front loose MAX_SAFE_INTEGER (take (length s.1 - at) (drop at s.1))
@@ -24,61 +24,37 @@ abbrev pub valid_first : Option (List Comparison) × List ℕ → Option (Option
 valid_first w = if list_all (is_valid MAX_SAFE_INTEGER) (unwrap_or w.0 []) then Some w else None
 
 ignored-valid : (loose : Bool) (text : List ℕ) → ignored_or loose text ≡ (ignored_or loose text >>? valid_first)
-ignored-valid true text = refl
-ignored-valid false text = refl
+ignored-valid loose text = grind arith
 
-marks-loose : (s : Sign) (p : Partial) (text : List ℕ) → are_marks true s p (take (marks_len text) text) ≡ true
-marks-loose s p text = grind (arith, prefix-all is_mark text)
+-- loosely any marks may stand there
+marks-loose : (loose : Bool) (s : Sign) (p : Partial) (text : List ℕ)
+    → are_marks loose s p (take (marks_len text) text) ≡ (loose || are_marks false s p (take (marks_len text) text))
+marks-loose loose s p text = grind (arith, prefix-all is_mark text)
 
 -- the partial that was read behind the marks of this text
-module _ (loose include : Bool) (text : List ℕ) (s : Sign × List ℕ) where
-  abbrev cut : List ℕ → List ℕ
-  cut rest = take (length s.1 - length rest) s.1
+piece-short : (loose : Bool) (text : List ℕ) (p : Partial × List ℕ) → let behind = drop (marks_len text) text in places_front loose behind ≡ Some p
+    → is_short_word loose (take (length text - length p.1) text) ≡ is_short loose (take (length behind - length p.1) behind)
+piece-short loose text p h =
+    let n = marks_len text in
+    let f = places-found loose (drop n text) p.0 p.1 h in
+    let whole : text ≡ (take n text ++ f.piece) ++ p.1 =
+    sym (take-append-drop n text) ∙ ap (λ (t : List ℕ). take n text ++ t) f.split ∙ sym (append_assoc (take n text) f.piece p.1) in
+    rw (front-is text (take n text ++ f.piece) p.1 whole, front-is (drop n text) f.piece p.1 f.split)
+    (ap (is_short loose) (marks-dropped loose (take n text) f.piece p.0 (prefix-all is_mark text) f.is))
 
-  abbrev piece : List ℕ → List ℕ
-  piece rest = let behind = drop (marks_len s.1) s.1 in take (length behind - length rest) behind
-
-  piece-short : (p : Partial) (rest : List ℕ) → places_front loose (drop (marks_len s.1) s.1) ≡ Some (p, rest)
-      → is_short_word loose (cut rest) ≡ is_short loose (piece rest)
-  piece-short p rest h =
-      let n = marks_len s.1 in
-      let marks = take n s.1 in
-      let f = places-found loose (drop n s.1) p rest h in
-      let whole : s.1 ≡ (marks ++ f.piece) ++ rest =
-      sym (take-append-drop n s.1) ∙ ap (λ (t : List ℕ). marks ++ t) f.split ∙ sym (append_assoc marks f.piece rest) in
-      let cut_is : cut rest ≡ marks ++ f.piece = ap (λ (t : List ℕ). take (length t - length rest) t) whole ∙ front-text (marks ++ f.piece) rest in
-      let piece_is : piece rest ≡ f.piece = ap (λ (t : List ℕ). take (length t - length rest) t) f.split ∙ front-text f.piece rest in
-      ap (λ (t : List ℕ). is_short loose (drop (marks_len t) t)) cut_is
-      ∙ ap (is_short loose) (marks-dropped loose marks f.piece p (prefix-all is_mark s.1) f.is ∙ sym piece_is)
-
-  -- the word of the partial that was read
-  one : (p : Partial) (rest : List ℕ) → is_short_word loose (cut rest) ≡ is_short loose (piece rest)
-      → counted_or loose MAX_SAFE_INTEGER include text (ended_counted_word loose s.0 s.1 (marks_len s.1)
-      (if is_small MAX_SAFE_INTEGER p && is_short loose (piece rest) then Some p else None, rest))
-      ≡ (signed_or loose include text (ended_word loose s.0 s.1 (marks_len s.1) (p, rest)) >>? valid_first)
-  one p rest e = elim (cases_Bool (is_boundary rest)) [
-    | inr on ↦ grind (arith, on, ignored-valid)
-    | inl end ↦ elim (cases_Bool (are_marks loose s.0 p (take (marks_len s.1) s.1))) [
-      | inr wrong ↦ elim (cases_Bool loose) [
-        | inl l ↦ cc (wrong, subst (λ (b : Bool). are_marks b s.0 p (take (marks_len s.1) s.1) ≡ true) (sym l) (marks-loose s.0 p s.1))
-        | inr strict ↦ grind (arith, end, wrong, strict)
-      ]
-      | inl right ↦ elim (cases_Bool (is_short loose (piece rest))) [
-        | inr long ↦ grind (arith, end, right, long, e)
-        | inl short ↦ grind (arith, end, right, short, e, table-invalid MAX_SAFE_INTEGER include s.0 p (cut rest))
-      ]
-    ]
-  ]
+-- the word of the partial that was read
+one-valid : (loose include : Bool) (text : List ℕ) (s : Sign × List ℕ) (p : Partial) (rest piece : List ℕ)
+    → is_short_word loose (take (length s.1 - length rest) s.1) ≡ is_short loose piece
+    → counted_or loose MAX_SAFE_INTEGER include text (ended_counted_word loose s.0 s.1 (marks_len s.1)
+    (if is_small MAX_SAFE_INTEGER p && is_short loose piece then Some p else None, rest))
+    ≡ (signed_or loose include text (ended_word loose s.0 s.1 (marks_len s.1) (p, rest)) >>? valid_first)
+one-valid loose include text s p rest piece e =
+    grind (arith, e, ignored-valid loose text, marks-loose loose s.0 p s.1, table-invalid MAX_SAFE_INTEGER include s.0 p)
 
 pub first-valid : (loose include : Bool) (text : List ℕ)
     → first_valid loose MAX_SAFE_INTEGER include text ≡ (first_word loose include text >>? valid_first)
 unfolding first_valid first_word counted_word signed_word
-first-valid loose include text = go (places_front loose (drop (marks_len (npm_sign text).1) (npm_sign text).1)) refl
-  where
-    go : (o : Front Partial) → places_front loose (drop (marks_len (npm_sign text).1) (npm_sign text).1) ≡ o
-        → first_valid loose MAX_SAFE_INTEGER include text ≡ (first_word loose include text >>? valid_first)
-    go None e = rw e (ignored-valid loose text)
-    go (Some p) e = rw e (one loose include text (npm_sign text) p.0 p.1 (piece-short loose include text (npm_sign text) p.0 p.1 e))
+first-valid loose include text = grind (arith, ignored-valid, one-valid, piece-short)
 
 -- ---- words
 
@@ -86,16 +62,9 @@ first-valid loose include text = go (places_front loose (drop (marks_len (npm_si
 abbrev pub valid_all : List (Option (List Comparison)) → Option (List (Option (List Comparison)))
 valid_all all = if list_all (is_valid MAX_SAFE_INTEGER) (comparators_of all) then Some all else None
 
-module _ (c : Option (List Comparison)) where
-  bad-first : (o : Option (List (Option (List Comparison)))) → list_all (is_valid MAX_SAFE_INTEGER) (unwrap_or c []) ≡ false
-      → None ≡ ((o >>? λ ds. Some (c ∷ ds)) >>? valid_all)
-  bad-first None h = refl
-  bad-first (Some ds) h = grind (arith, h, list_all-append (is_valid MAX_SAFE_INTEGER) (unwrap_or c []) (comparators_of ds))
-
-  good-first : (o : Option (List (Option (List Comparison)))) → list_all (is_valid MAX_SAFE_INTEGER) (unwrap_or c []) ≡ true
-      → ((o >>? valid_all) >>? λ ds. Some (c ∷ ds)) ≡ ((o >>? λ ds. Some (c ∷ ds)) >>? valid_all)
-  good-first None h = refl
-  good-first (Some ds) h = grind (arith, h, list_all-append (is_valid MAX_SAFE_INTEGER) (unwrap_or c []) (comparators_of ds))
+first-then : (w : Option (List Comparison) × List ℕ) (f : List ℕ → Option (List (Option (List Comparison))))
+    → (valid_first w >>? λ w. (f w.1 >>? valid_all) >>? λ ds. Some (w.0 ∷ ds)) ≡ ((f w.1 >>? λ ds. Some (w.0 ∷ ds)) >>? valid_all)
+first-then w f = grind (arith, list_all-append (is_valid MAX_SAFE_INTEGER))
 
 pub words-valid : (loose include : Bool) (n : ℕ) (text : List ℕ)
     → valid_words loose MAX_SAFE_INTEGER include n text ≡ (words_within loose include n text >>? valid_all)
@@ -110,10 +79,7 @@ words-valid loose include (suc n) (b ∷ text) =
         → ((o >>? valid_first) >>? λ w. valid_words loose MAX_SAFE_INTEGER include n w.1 >>? λ ds. Some (w.0 ∷ ds))
         ≡ ((o >>? λ w. words_within loose include n w.1 >>? λ ds. Some (w.0 ∷ ds)) >>? valid_all)
     go f None = refl
-    go f (Some w) = elim (cases_Bool (list_all (is_valid MAX_SAFE_INTEGER) (unwrap_or w.0 []))) [
-      | inl right ↦ rw (right, f w.1) (good-first w.0 (words_within loose include n w.1) right)
-      | inr wrong ↦ rw wrong (bad-first w.0 (words_within loose include n w.1) wrong)
-    ]
+    go f (Some w) = simp f (first-then w (words_within loose include n))
 
 valid-enough : (loose include : Bool) (n : ℕ) (text : List ℕ) → IsUtf8 text → length text ≤ n
     → valid_words loose MAX_SAFE_INTEGER include n text ≡ words_of loose include text
@@ -128,20 +94,18 @@ valid-found loose include text w u some h =
     let t = cond_some (list_all (is_valid MAX_SAFE_INTEGER) (unwrap_or f.0.0 [])) f.0 w f.2 in
     first-found loose include text w.0 w.1 u some (f.1 ∙ ap (λ (r : Option (List Comparison) × List ℕ). Some r) t.1)
 
+bind_same : {A B : Type 0} (o : Option A) (f g : A → Option B) → ((x : A) → o ≡ Some x → f x ≡ g x) → (o >>? f) ≡ (o >>? g)
+bind_same None f g h = refl
+bind_same (Some x) f g h = h x refl
+
 -- one word after another
 words-on : (loose include : Bool) (text : List ℕ) → IsUtf8 text → 0 < length text
     → words_of loose include text ≡ (first_valid loose MAX_SAFE_INTEGER include text >>? λ w. words_of loose include w.1 >>? λ ds. Some (w.0 ∷ ds))
 unfolding valid_words
 words-on loose include [] u some = absurd (omega (arith, some))
-words-on loose include (b ∷ text) u some = go (first_valid loose MAX_SAFE_INTEGER include (b ∷ text)) refl
-  where
-    go : (o : Option (Option (List Comparison) × List ℕ)) → first_valid loose MAX_SAFE_INTEGER include (b ∷ text) ≡ o
-        → (o >>? λ w. valid_words loose MAX_SAFE_INTEGER include (length text) w.1 >>? λ ds. Some (w.0 ∷ ds))
-        ≡ (o >>? λ w. words_of loose include w.1 >>? λ ds. Some (w.0 ∷ ds))
-    go None e = refl
-    go (Some w) e =
-        let f = valid-found loose include (b ∷ text) w u some e in
-        rw (valid-enough loose include (length text) w.1 f.utf8 (omega (arith, f.shorter))) refl
+words-on loose include (b ∷ text) u some = bind_same (first_valid loose MAX_SAFE_INTEGER include (b ∷ text)) _ _ (λ w e.
+    let f = valid-found loose include (b ∷ text) w u some e in
+    rw (valid-enough loose include (length text) w.1 f.utf8 (omega (arith, f.shorter))) refl)
 
 -- ---- the loop over words
 
@@ -214,14 +178,7 @@ module _ (loose include : Bool) (text rest : List ℕ) (all : Option (Span Versi
 first-kind : (loose include : Bool) (text : List ℕ) (w : Option (List Comparison) × List ℕ) → first_valid loose MAX_SAFE_INTEGER include text ≡ Some w
     → is_none (counted_word loose MAX_SAFE_INTEGER text) ≡ is_none w.0
 unfolding first_valid
-first-kind loose include text w h = go (counted_word loose MAX_SAFE_INTEGER text) h
-  where
-    go : (o : Front Counted) → counted_or loose MAX_SAFE_INTEGER include text o ≡ Some w → is_none o ≡ is_none w.0
-    go None k = grind (arith, k)
-    go (Some c) k =
-        let p = bind_some c.0.1 _ w k in
-        let cs = bind_some (valid_only MAX_SAFE_INTEGER (table include c.0.0 p.0 c.0.2)) (λ cs. Some (Some cs, drop_spaces c.1)) w p.2 in
-        ap (λ (r : Option (List Comparison) × List ℕ). is_none r.0) (same_Some _ _ cs.2)
+first-kind loose include text w h = grind arith
 
 -- the first word is ignored where none is found
 pub first-none : (loose include : Bool) (text : List ℕ) (all : List (Option (List Comparison))) → IsUtf8 text → words_of loose include text ≡ Some all

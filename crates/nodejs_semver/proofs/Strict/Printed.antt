@@ -1,31 +1,21 @@
 -- How versions print: how long, and which one prints `0.0.0`; which words have a comparator that is not valid; and that what is
 -- printed is read again.
-use Rattle.nodejs_semver.proofs.Common.{Bool, Id, IsTrim, IsUtf8, List, MAX_SAFE_INTEGER, Numeric, VersionValue}
-use Rattle.nodejs_semver.proofs.Common.{[], and_parts, ap, append-nil, arith, cases_Bool, codes, common_steps, decimal}
-use Rattle.nodejs_semver.proofs.Common.{empty_is, encode_utf8_all, eqb-true, false, identifier_of, inl, inr, is_ascii_digit}
-use Rattle.nodejs_semver.proofs.Common.{is_identifier, is_identifier_char, is_release, length, length-append, list_all, map}
-use Rattle.nodejs_semver.proofs.Common.{nat_tests, pieces, refl, subst, sym, true, ℕ, ◌&&◌, ◌++◌, ◌+◌, ◌<◌, ◌==◌, ◌^◌, ◌||◌}
-use Rattle.nodejs_semver.proofs.{Common.{◌∙◌, ◌∷◌, ◌≡◌, ◌≤◌}, NpmCommon.{Comparison, IsStrictPreRelease, IsStrictVersion}}
-use Rattle.nodejs_semver.proofs.NpmCommon.{IsVersionText, MAX_LENGTH, Numbers, bare, both_ways, bytes_eq}
-use Rattle.nodejs_semver.proofs.NpmCommon.{bytes_eq-Decides, chars, chars_from_encodes, dashed, first, from}
-use Rattle.nodejs_semver.proofs.NpmCommon.{hyphen_upper, id_text, is_small, is_strict_identifier, is_valid, is_zero, join_with_byte}
-use Rattle.nodejs_semver.proofs.NpmCommon.{marked_list, nat_le, no_build, no_pre_release, release, under}
-use Rattle.nodejs_semver.proofs.NpmCommon.{version_text, whole, within}
-use Rattle.nodejs_semver.proofs.{Stopping.Read.{plain-encodes, plain-middle, plain-trim}, Strict.VersionLaw.digits_printed}
-use Rattle.nodejs_semver.{proofs.Strict.VersionLaw.number_printed, specs.{Npm.Table.{Partial, Sign}}}
-use Rattle.{nodejs_semver.specs.Npm.{Table.{lowest, table}, VersionText.written}, semver_core.proofs.Printing.Returns.decimal_digits}
-use Rattle.semver_core.{proofs.Printing.Returns.decimal_some, specs.{Internal.CommonReading.is_plain, Text.Identifiers.is_u64_text}}
-use Rattle.std.proofs.lemmas.{Fmt.{decimal_digit, decimal_injective, length-decimal-le}, List.Splits.join_with_byte-slice_split}
-use Rattle.std.{proofs.lemmas.{List.Splits.length-slice_split, Str.{IsUtf8-from_ascii, chars-IsAscii}}, specs.Str.IsAscii}
-use Rattle.nodejs_semver.proofs.Common.{Comparator}
-use Rattle.nodejs_semver.proofs.NpmCommon.{hyphen_lower}
+use Rattle.nodejs_semver.proofs.Common.{Bool, Comparator, Id, IsTrim, IsUtf8, List, MAX_SAFE_INTEGER, VersionValue, [], and_parts, ap, append-nil}
+use Rattle.nodejs_semver.proofs.Common.{arith, cases_Bool, codes, common_steps, decimal, empty_is, encode_utf8_all, eqb-true, false, identifier_of}
+use Rattle.nodejs_semver.proofs.Common.{inl, inr, is_ascii_digit, is_identifier, is_identifier_char, is_release, length, length-append, list_all, map}
+use Rattle.nodejs_semver.proofs.Common.{nat_tests, pieces, refl, subst, sym, true, ℕ, ◌&&◌, ◌++◌, ◌+◌, ◌<◌, ◌==◌, ◌^◌, ◌||◌, ◌∙◌, ◌∷◌, ◌≡◌, ◌≤◌}
+use Rattle.nodejs_semver.proofs.NpmCommon.{IsStrictPreRelease, IsStrictVersion, IsVersionText, MAX_LENGTH, Numbers, bare, both_ways, bytes_eq}
+use Rattle.nodejs_semver.proofs.NpmCommon.{bytes_eq-Decides, chars, chars_from_encodes, dashed, first, from, hyphen_lower, hyphen_upper, id_text}
+use Rattle.nodejs_semver.proofs.NpmCommon.{is_small, is_strict_identifier, is_valid, is_zero, join_with_byte, marked_list, nat_le, no_build}
+use Rattle.nodejs_semver.proofs.{NpmCommon.{no_pre_release, release, under, version_text, whole, within}, Stopping.Read.{plain-encodes, plain-middle}}
+use Rattle.nodejs_semver.{proofs.{Stopping.Read.plain-trim, Strict.VersionLaw.{digits_printed, number_printed}}, specs.Npm.Table.{Partial, Sign}}
+use Rattle.{nodejs_semver.specs.Npm.{Table.{lowest, table}, VersionText.written}, semver_core.proofs.Printing.Returns.{decimal_digits, decimal_some}}
+use Rattle.{semver_core.specs.{Internal.CommonReading.is_plain, Text.Identifiers.is_u64_text}, std.proofs.lemmas.Fmt.decimal_digit}
+use Rattle.std.proofs.lemmas.{Fmt.{decimal_injective, length-decimal-le}, List.Splits.{join_with_byte-slice_split, length-slice_split}}
+use Rattle.std.{proofs.lemmas.Str.{IsUtf8-from_ascii, chars-IsAscii}, specs.Str.IsAscii}
 use Rattle.nodejs_semver.specs.Npm.Table as Table
 
 -- ---- lengths
-
-pub marked_more : (x : Id) (xs : List Id)
-    → length (marked_list (45 ∷ []) (x ∷ xs)) ≡ 1 + length (id_text x) + length (marked_list (45 ∷ []) xs)
-marked_more x xs = grind (arith, nat_tests, common_steps)
 
 decimal_short : (n : ℕ) → n ≤ MAX_SAFE_INTEGER → length (decimal n) ≤ 16
 decimal_short n h = length-decimal-le 16 n (omega arith) (omega arith) (omega arith)
@@ -62,58 +52,38 @@ prints_zero v a b c =
 
 -- ---- what is valid
 
-release_short : (n : Numbers) → within n ≡ true → nat_le (length (version_text (release n))) MAX_LENGTH ≡ true
-release_short n h = grind (arith, nat_tests, text_length (release n), numbers_short n h)
-
-lowest_short : (n : Numbers) → within n ≡ true → nat_le (length (version_text (lowest n))) MAX_LENGTH ≡ true
-lowest_short n h = rw (text_length (lowest n), marked_more (Numeric 0) []) (grind (arith, nat_tests, decimal_digit, numbers_short n h))
-
-valid_if : (a b : Bool) → (a ≡ true → b ≡ true) → (a && b) ≡ a
-valid_if a b f = grind arith
-
-pub from_valid : (include : Bool) (n : Numbers) → is_valid MAX_SAFE_INTEGER (from include n) ≡ within n
-from_valid include n = grind (arith, nat_tests, common_steps, valid_if, lowest_short, release_short)
-
-pub under_valid : (n : Numbers) → is_valid MAX_SAFE_INTEGER (under n) ≡ within n
-under_valid n = valid_if (within n) _ (lowest_short n)
-
 pub bare_short : (v : VersionValue) → within (first (whole v)) ≡ true → is_release v ≡ true
     → true ≡ nat_le (length (version_text (Table.no_build v))) MAX_LENGTH
 bare_short v h e =
     let none : v.pre_release ≡ [] = empty_is v.pre_release e in
     rw (text_length v, none) (grind (arith, nat_tests, numbers_short (v.major, v.minor, v.patch) h))
 
--- ---- three numbers
+lowest_short : (n : Numbers) → within n ≡ true → nat_le (length (version_text (lowest n))) MAX_LENGTH ≡ true
+lowest_short n h = rw (text_length (lowest n)) (grind (arith, nat_tests, common_steps, decimal_digit, numbers_short n h))
 
-three : ℕ → ℕ → ℕ → ℕ → Bool
-three limit a b c = nat_le a limit && (nat_le b limit && nat_le c limit)
+valid_if : (a b : Bool) → (a ≡ true → b ≡ true) → (a && b) ≡ a
+valid_if a b f = grind arith
 
-invalid : (limit : ℕ) (c : Comparison) (cs : List Comparison) → three limit c.version.major c.version.minor c.version.patch ≡ false
-    → list_all (is_valid limit) (c ∷ cs) ≡ false
-unfolding three
-invalid limit c cs h = grind arith
+pub from_valid : (include : Bool) (n : Numbers) → is_valid MAX_SAFE_INTEGER (from include n) ≡ within n
+from_valid include n = grind (arith, nat_tests, common_steps, valid_if, lowest_short, bare_short (release n))
 
-one-three : (limit a b c : ℕ) → nat_le a limit ≡ false → three limit a b c ≡ false
-unfolding three
-one-three limit a b c h = rw h refl
-
-next-three : (limit a b c : ℕ) → (nat_le a limit && nat_le b limit) ≡ false → three limit a (b + 1) c ≡ false
-unfolding three
-next-three limit a b c h = grind (arith, nat_tests)
+pub under_valid : (n : Numbers) → is_valid MAX_SAFE_INTEGER (under n) ≡ within n
+under_valid n = valid_if (within n) _ (lowest_short n)
 
 -- ---- the table
 
+past-next : (limit n : ℕ) → nat_le n limit ≡ false → nat_le (n + 1) limit ≡ false
+past-next limit n h = grind (arith, nat_tests)
+
 pub table-invalid : (limit : ℕ) (include : Bool) (s : Sign) (p : Partial) (text : List ℕ) → is_small limit p ≡ false
     → list_all (is_valid limit) (table include s p text) ≡ false
-unfolding three
-table-invalid limit include s p text h = grind (arith, one-three, next-three)
+table-invalid limit include s p text h = grind (arith, past-next)
 
 pub table-past : (include : Bool) (s : Sign) (p : Partial) (text : List ℕ) (n : Numbers) → n ≡ first p → within n ≡ false
     → list_all (is_valid MAX_SAFE_INTEGER) (table include s p text) ≡ false
-table-past include s p text n e h = table-invalid MAX_SAFE_INTEGER include s p text (past p (rw e at h))
-  where
-    past : (p : Partial) → within (first p) ≡ false → is_small MAX_SAFE_INTEGER p ≡ false
-    past p h = grind (arith, nat_tests, common_steps)
+table-past include s p text n e h =
+    let past : within (first p) ≡ false → is_small MAX_SAFE_INTEGER p ≡ false = λ h. grind (arith, nat_tests, common_steps) in
+    table-invalid MAX_SAFE_INTEGER include s p text (past (rw e at h))
 
 -- ---- the ends of a hyphen range
 

@@ -1,39 +1,25 @@
 -- What comparators have in common, as spans: that of one, that of two lists, and that of the comparators of a word, by the rows of
 -- node-semver's table.
-use Rattle.nodejs_semver.proofs.{Algebra.{Accepting.lets_in_one, Gate.{both, lets_in-meet}}, Common.{After, Before, Bool, Bound}}
-use Rattle.nodejs_semver.proofs.Common.{Comparator, Id, List, MAX_SAFE_INTEGER, None, Option, Ordering, Some, Span, Unbounded}
-use Rattle.nodejs_semver.proofs.Common.{VersionValue, [], above, and-true, and_parts, ap, ap₂, arith, at_most, below, codes, common_steps}
-use Rattle.nodejs_semver.proofs.Common.{cond_both, cut_cmp, equal, false, greater_lower, holds, interval, is_empty, is_eq, is_ge, is_gt}
-use Rattle.nodejs_semver.proofs.Common.{is_interval, is_le, is_lt, is_past, is_range_bound, is_readable, is_release, length, lesser_upper}
-use Rattle.nodejs_semver.proofs.Common.{lets_in, list_all, list_all-append, list_any, list_any-append, lower_cut, meet, nat_tests, not}
-use Rattle.nodejs_semver.proofs.Common.{option_holds-interval, precedence, precedence_total, refl, sym, true, upper_cut, ℕ, ◌&&◌, ◌++◌}
-use Rattle.nodejs_semver.proofs.{Common.{◌+◌, ◌||◌, ◌∙◌, ◌∷◌, ◌≡◌, ◌≤◌}, NpmCommon.{Alternative, AreRead, Bounds, Comparison}}
-use Rattle.nodejs_semver.proofs.NpmCommon.{IsCommon, IsNarrowed, MAX_LENGTH, NarrowedBy, Numbers, are_normal, at_least, both_ways}
-use Rattle.nodejs_semver.proofs.NpmCommon.{bounds_view, bytes_eq, caret_from, comparator_view, compared, counted, counts, filter-append}
-use Rattle.nodejs_semver.proofs.NpmCommon.{first, from, hyphen_lower, hyphen_upper, is_valid, is_zero, made, nat_le, next_changed}
-use Rattle.nodejs_semver.proofs.{NpmCommon.{npm_partial_view, satisfies, under, version_text, whole, within}, Strict.Printed.from_valid}
-use Rattle.nodejs_semver.proofs.{Strict.Printed.{prints_zero, under_valid}, Values.{past-after, past-before}}
-use Rattle.nodejs_semver.specs.Internal.{NpmAlternatives.met, NpmMeaning.{is_open, is_part}, NpmParts.{AreZeros, has_no_comparators, is_padded}}
-use Rattle.nodejs_semver.specs.{Internal.NpmParts.{is_wildcard, noted}, Npm.{Ranges.names, Table.{Partial, Sign, caret, lowest, next, no_build}}}
-use Rattle.nodejs_semver.specs.Npm.Table.{table, tilde, written_zeros}
-use Rattle.nodejs_semver.proofs.{Common.{cases_Bool, inl, inr, nat_lt, subst, ℕ}, NpmCommon.bytes_eq-Decides}
+use Rattle.nodejs_semver.proofs.{Algebra.{Accepting.lets_in_one, Gate.{both, lets_in-meet}}, Common.{After, Before, Bool, Bound, Comparator, Id}}
+use Rattle.nodejs_semver.proofs.Common.{List, MAX_SAFE_INTEGER, None, Option, Ordering, Some, Span, Unbounded, VersionValue, [], above, and-true}
+use Rattle.nodejs_semver.proofs.Common.{and_parts, ap, ap₂, arith, at_most, below, codes, common_steps, cond_both, equal, false, greater_lower, holds}
+use Rattle.nodejs_semver.proofs.Common.{inl, interval, is_empty, is_eq, is_ge, is_gt, is_interval, is_le, is_lt, is_past, is_range_bound, is_readable}
+use Rattle.nodejs_semver.proofs.Common.{length, lesser_upper, lets_in, list_all, list_all-append, list_any, list_any-append, lower_cut, nat_tests}
+use Rattle.nodejs_semver.proofs.Common.{not, option_holds-interval, precedence, precedence_total, refl, sym, true, upper_cut, ℕ, ◌&&◌, ◌++◌, ◌+◌}
+use Rattle.nodejs_semver.proofs.{Common.{◌||◌, ◌∙◌, ◌∷◌, ◌≡◌, ◌≤◌, ◌⊎◌}, NpmCommon.{Alternative, AreRead, Bounds, Comparison, IsCommon, IsNarrowed}}
+use Rattle.nodejs_semver.proofs.NpmCommon.{MAX_LENGTH, NarrowedBy, Numbers, are_normal, at_least, both_ways, bounds_view, bytes_eq, bytes_eq-Decides}
+use Rattle.nodejs_semver.proofs.NpmCommon.{caret_from, compared, counted, counts, filter-append, first, from, is_valid, is_zero, made, nat_le}
+use Rattle.nodejs_semver.proofs.{NpmCommon.{next_changed, satisfies, under, version_text, whole, within}, Strict.Printed.{from_valid, prints_zero}}
+use Rattle.nodejs_semver.{proofs.{Strict.Printed.under_valid, Values.{past-after, past-before}}, specs.Internal.NpmAlternatives.met}
+use Rattle.nodejs_semver.specs.{Internal.{NpmMeaning.{is_open, is_part}, NpmParts.{AreZeros, has_no_comparators, is_padded, noted}}, Npm.Ranges.names}
+use Rattle.nodejs_semver.specs.Npm.Table.{Partial, Sign, caret, lowest, next, no_build, table, tilde, written_zeros}
 use Rattle.semver_core.{proofs.CutLaws.{is_past-greater_lower, is_past-lesser_upper}, specs.Values.Versions.IsVersion}
 use Rattle.nodejs_semver.specs.Text.Table as Spans
-use Rattle.nodejs_semver.specs.declared.npm.partial.Partial as Declared
-use Rattle.nodejs_semver.specs.declared.npm.partial.Partial.TheVariants as Partials
-use Rattle.nodejs_semver.specs.declared.readers.syntax.Comparator as DeclaredComparator
-use Rattle.nodejs_semver.specs.declared.readers.syntax.Comparator.TheVariants as Comparators
 
--- ---- where a word and an end of a hyphen range have no comparators
+-- ---- where a word has no comparators
 
 pub table-bare : (include : Bool) (s : Sign) (p : Partial) (text : List ℕ) → is_empty (table include s p text) ≡ has_no_comparators s p
 table-bare include s p text = grind (arith, nat_tests, common_steps)
-
-pub lower-bare : (c : Comparator) (include : Bool) (p : Partial) (text : List ℕ) → is_empty (hyphen_lower c include p text) ≡ is_wildcard p
-lower-bare c include p text = grind (arith, nat_tests, common_steps)
-
-pub upper-bare : (c : Comparator) (include : Bool) (p : Partial) (text : List ℕ) → is_empty (hyphen_upper c include p text) ≡ is_wildcard p
-upper-bare c include p text = grind (arith, nat_tests, common_steps)
 
 -- ---- one comparator
 
@@ -80,19 +66,14 @@ uncounted_common include c h = grind (arith, nat_tests, common_steps)
 
 -- ---- two lists
 
-open_greater : (b c : Bound VersionValue) → is_open (greater_lower precedence b c) ≡ (is_open b && is_open c)
-open_greater b c = grind arith
-
-open_lesser : (b c : Bound VersionValue) → is_open (lesser_upper precedence b c) ≡ (is_open b && is_open c)
-open_lesser b c = grind arith
+opened : (b c : Bound VersionValue) → (is_open (greater_lower precedence b c) ≡ (is_open b && is_open c))
+    × (is_open (lesser_upper precedence b c) ≡ (is_open b && is_open c))
+opened b c = (grind arith, grind arith)
 
 -- the bounds of two spans together are bounds of these
-module _ (F : Bound VersionValue → Bool) where
-  kept_greater : (b c : Bound VersionValue) → F b ≡ true → F c ≡ true → F (greater_lower precedence b c) ≡ true
-  kept_greater b c h k = cond_both (is_gt (cut_cmp precedence (lower_cut b) (lower_cut c))) b c (λ e. F e ≡ true) (λ _. h) (λ _. k)
-
-  kept_lesser : (b c : Bound VersionValue) → F b ≡ true → F c ≡ true → F (lesser_upper precedence b c) ≡ true
-  kept_lesser b c h k = cond_both (is_gt (cut_cmp precedence (upper_cut b) (upper_cut c))) c b (λ e. F e ≡ true) (λ _. k) (λ _. h)
+kept : (F : Bound VersionValue → Bool) (b c : Bound VersionValue) → F b ≡ true → F c ≡ true
+    → (F (greater_lower precedence b c) ≡ true) × (F (lesser_upper precedence b c) ≡ true)
+kept F b c h k = (grind arith, grind arith)
 
 pub holds-both : (s t : Span VersionValue) (v : VersionValue) → holds precedence (both s t) v ≡ (holds precedence s v && holds precedence t v)
 holds-both s t v =
@@ -105,6 +86,11 @@ holds-both s t v =
 pub lets_in-both : (s t : Span VersionValue) (v : VersionValue) → holds precedence s v ≡ true → holds precedence t v ≡ true
     → lets_in (both s t) v ≡ (lets_in s v || lets_in t v)
 lets_in-both s t v h k = both_ways _ _ (lets_in_one s t v) (lets_in-meet s t v h k)
+
+-- the interval of such a span
+pub narrowed : (include : Bool) (cs : List Comparison) (s : Span VersionValue) → IsCommon include cs s → IsNarrowed include cs (interval precedence s)
+narrowed include cs s h = cond_both (is_interval precedence s) (Some s) None (λ o. IsNarrowed include cs o) (λ i. (h, i))
+    (λ i v. sym (h.held v) ∙ sym (option_holds-interval precedence_total s v) ∙ rw i refl)
 
 module _ (include : Bool) (cs ds : List Comparison) where
   abbrev ours : List Comparison
@@ -124,50 +110,27 @@ module _ (include : Bool) (cs ds : List Comparison) where
     held = λ v. holds-both s t v ∙ ap₂ (λ (a b : Bool). a && b) (h.held v) (k.held v) ∙ sym (satisfied v);
     let_in = λ v e.
         let (a, b) = and_parts _ _ (sym (holds-both s t v) ∙ e) in
-        lets_in-both s t v a b ∙ ap₂ (λ (x y : Bool). x || y) (h.let_in v a) (k.let_in v b)
-        ∙ joined (is_release v) _ _ ∙ ap (λ x. is_release v || x) (sym (named_in v));
-    unbounded = ap₂ (λ (x y : Bool). x && y) (open_greater s.lower t.lower) (open_lesser s.upper t.upper)
-        ∙ crossed (is_open s.lower) (is_open t.lower) (is_open s.upper) (is_open t.upper) ∙ ap₂ (λ (x y : Bool). x && y) h.unbounded k.unbounded
-        ∙ neither _ _ ∙ ap not (sym (list_any-append (counts include) cs ds));
-    lower = kept_greater (is_range_bound (MAX_SAFE_INTEGER + 1)) s.lower t.lower h.lower k.lower;
-    upper = kept_lesser (is_range_bound (MAX_SAFE_INTEGER + 1)) s.upper t.upper h.upper k.upper;
+        let l = h.let_in v a in
+        let m = k.let_in v b in
+        grind (arith, lets_in-both, named_in);
+    unbounded = rw ((opened s.lower t.lower).0, (opened s.upper t.upper).1, list_any-append (counts include) cs ds)
+        (neither (is_open s.lower) (is_open s.upper) (is_open t.lower) (is_open t.upper) _ _ h.unbounded k.unbounded);
+    lower = (kept (is_range_bound (MAX_SAFE_INTEGER + 1)) s.lower t.lower h.lower k.lower).0;
+    upper = (kept (is_range_bound (MAX_SAFE_INTEGER + 1)) s.upper t.upper h.upper k.upper).1;
   }
     where
-      joined : (r a b : Bool) → ((r || a) || (r || b)) ≡ (r || (a || b))
-      joined r a b = grind arith
+      neither : (a b c d x y : Bool) → (a && b) ≡ not x → (c && d) ≡ not y → ((a && c) && (b && d)) ≡ not (x || y)
+      neither a b c d x y h k = grind arith
 
-      crossed : (a b c d : Bool) → ((a && b) && (c && d)) ≡ ((a && c) && (b && d))
-      crossed a b c d = grind arith
-
-      neither : (a b : Bool) → (not a && not b) ≡ not (a || b)
-      neither a b = grind arith
-
-  -- where the cuts do not meet, no version satisfies all
-  pub apart_first : IsNarrowed include cs None → IsNarrowed include (cs ++ ds) None
-  apart_first h v = satisfied v ∙ ap (λ a. a && list_all (satisfies v) theirs) (h v)
-
-  pub apart_second : IsNarrowed include ds None → IsNarrowed include (cs ++ ds) None
-  apart_second h v = satisfied v ∙ rw (h v) (grind arith)
-
-  pub meet_common : (s t : Span VersionValue) (m : Option (Span VersionValue)) → IsCommon include cs s → IsCommon include ds t
-      → m ≡ meet precedence s t → IsNarrowed include (cs ++ ds) m
-  meet_common s t m h k e = rw e
-      (cond_both (is_interval precedence (both s t)) (Some (both s t)) None (λ o. IsNarrowed include (cs ++ ds) o)
-      (λ i. (both_common s t h k, i))
-      (λ i v. sym ((both_common s t h k).held v) ∙ sym (option_holds-interval precedence_total (both s t) v) ∙ rw i refl))
-
-  -- the bounds of more comparators, which may be no interval
-  pub met_common : (o : Option (Span VersionValue)) (t : Span VersionValue) → IsNarrowed include cs o → IsCommon include ds t
-      → IsNarrowed include (cs ++ ds) (met o (interval precedence t))
-  met_common None t h k = apart_first h
-  met_common (Some s) t h k =
-      cond_both (is_interval precedence t) (Some t) None (λ o. IsNarrowed include (cs ++ ds) (met (Some s) o))
-      (λ _. meet_common s t (meet precedence s t) h.0 k refl)
-      (λ i. apart_second (λ v. sym (k.held v) ∙ sym (option_holds-interval precedence_total t v) ∙ rw i refl))
+  -- the bounds of more comparators, which may be no interval; where the cuts do not meet, no version satisfies all
+  met_common : (o m : Option (Span VersionValue)) → IsNarrowed include cs o → IsNarrowed include ds m → IsNarrowed include (cs ++ ds) (met o m)
+  met_common None m h k = λ v. satisfied v ∙ ap (λ a. a && list_all (satisfies v) theirs) (h v)
+  met_common (Some s) None h k = λ v. satisfied v ∙ rw (k v) (grind arith)
+  met_common (Some s) (Some t) h k = narrowed include (cs ++ ds) (both s t) (both_common s t h.0 k.0)
 
 pub narrowed_read : (include : Bool) (before : Option (Span VersionValue)) (ds : List Comparison) (b : Bounds) (a : Alternative)
     → AreRead include ds (Some b) → a.interval ≡ met before (interval precedence (bounds_view b)) → NarrowedBy include before ds (Some a)
-narrowed_read include before ds b a h e = (h.0, λ cs k. rw e (met_common include cs ds before (bounds_view b) k h.1))
+narrowed_read include before ds b a h e = (h.0, λ cs k. rw e (met_common include cs ds before _ k (narrowed include ds (bounds_view b) h.1)))
 
 pub either_true : (a : Bool) → (a || true) ≡ true
 either_true a = grind arith
@@ -189,40 +152,26 @@ module _ (include padded : Bool) (v : VersionValue) where
   Reads s c = IsCommon include (c ∷ []) s
 
   pub from_none : include ≡ false → padded ≡ false → IsVersion v → is_zero (no_build v) ≡ true → Reads everything (noted padded low)
-  from_none i p h e = subst (Reads everything) (sym (ap (λ b. noted b low) p)) (uncounted_common include low (rw i (ap not (zero_of v h ∙ e))))
+  from_none i p h e = rw p (uncounted_common include low (rw i (ap not (zero_of v h ∙ e))))
 
-  module _ (w : within (first (whole v)) ≡ true) (n : are_normal (whole v) ≡ true) where
-    reads : (text : List ℕ) → counts include (comparison at_least v [] text) ≡ true → Reads (Spans.>= v) (comparison at_least v [] text)
-    reads text h = one_common include at_least v [] text (whole_readable v w n) h
+  pub from_some : within (first (whole v)) ≡ true → are_normal (whole v) ≡ true
+      → (include ≡ true) ⊎ (padded ≡ true) ⊎ (IsVersion v × (is_zero (no_build v) ≡ false)) → Reads (Spans.>= v) (noted padded low)
+  from_some w n some =
+      cond_both (padded && bytes_eq low.text (codes "0.0.0")) (record low { text = codes "00.0.0" }) low
+      (λ c. counts include c ≡ true → Reads (Spans.>= v) c) (λ _. reads (codes "00.0.0")) (λ _. reads low.text) counted_low
+    where
+      reads : (text : List ℕ) → counts include (comparison at_least v [] text) ≡ true → Reads (Spans.>= v) (comparison at_least v [] text)
+      reads text h = one_common include at_least v [] text (whole_readable v w n) h
 
-    pub from_included : include ≡ true → Reads (Spans.>= v) (noted padded low)
-    from_included i =
-        cond_both (padded && bytes_eq low.text (codes "0.0.0")) (record low { text = codes "00.0.0" }) low (Reads (Spans.>= v))
-        (λ _. reads (codes "00.0.0") (rw i refl)) (λ _. reads low.text (rw i refl))
-
-    pub from_padded : padded ≡ true → Reads (Spans.>= v) (noted padded low)
-    from_padded p = elim (cases_Bool (bytes_eq low.text (codes "0.0.0"))) [
-      | inl z ↦ subst (Reads (Spans.>= v)) (sym (ap (λ b. noted b low) p ∙ rw z refl)) (reads (codes "00.0.0") (either_true include))
-      | inr z ↦ subst (Reads (Spans.>= v)) (sym (ap (λ b. noted b low) p ∙ rw z refl))
-          (reads low.text (ap (λ b. include || not b) z ∙ either_true include))
-    ]
-
-    pub from_some : padded ≡ false → IsVersion v → is_zero (no_build v) ≡ false → Reads (Spans.>= v) (noted padded low)
-    from_some p h e = subst (Reads (Spans.>= v)) (sym (ap (λ b. noted b low) p))
-        (reads low.text (ap (λ z. include || not z) (zero_of v h ∙ e) ∙ either_true include))
+      counted_low : counts include (noted padded low) ≡ true
+      counted_low = grind (arith, nat_tests, common_steps, zero_of)
 
 pub from_lowest : (include padded : Bool) (n : Numbers) → include ≡ true → within n ≡ true
     → IsCommon include (noted padded (from include n) ∷ []) (Spans.>= (lowest n))
-from_lowest include padded n i w = rw i (from_included true padded (lowest n) w refl refl)
+from_lowest include padded n i w = rw i (from_some true padded (lowest n) w refl (inl refl))
 
 pub noted_valid : (padded : Bool) (c : Comparison) → is_valid MAX_SAFE_INTEGER (noted padded c) ≡ is_valid MAX_SAFE_INTEGER c
-noted_valid padded c = elim (cases_Bool (padded && bytes_eq c.text (codes "0.0.0"))) [
-  | inr e ↦ rw e refl
-  | inl e ↦
-      let same : c.text ≡ codes "0.0.0" = (bytes_eq-Decides c.text (codes "0.0.0")).0 (and_parts padded _ e).1 in
-      rw e (ap (λ b. nat_le c.version.major MAX_SAFE_INTEGER && nat_le c.version.minor MAX_SAFE_INTEGER && nat_le c.version.patch MAX_SAFE_INTEGER && b)
-      (sym (ap (λ (t : List ℕ). nat_le (length t) MAX_LENGTH) same)))
-]
+noted_valid padded c = grind (arith, nat_tests, common_steps, bytes_eq-Decides)
 
 pub under_common : (include : Bool) (n : Numbers) → within n ≡ true → IsCommon include (under n ∷ []) (Spans.< (lowest n))
 under_common include n w = one_common include below (lowest n) [] _ (whole_readable (lowest n) w refl) (either_true include)
@@ -247,95 +196,50 @@ under_read include n s h e = (rw (under_valid n, h) refl, rw e (under_common inc
 
 -- ---- the rows of a partial of one number or two
 
-pub part_known : (p : Partial) → is_part p ≡ true → is_wildcard p ≡ false
-part_known p i = grind arith
+module _ (include padded : Bool) (text : List ℕ) (p : Partial) (a b : Numbers) (r : Option Bounds) (i : is_part p ≡ true) (e : a ≡ first p) where
+  abbrev Row : Sign → Type 0
+  Row s = AreRead include (table include s p text) r
 
-module _ (include padded : Bool) (text : List ℕ) (a b : Numbers) (r : Option Bounds) where
-  pub part_equal : (p : Partial) (d : DeclaredComparator.Comparator) → d ≡ Comparators.Equal → is_part p ≡ true
-      → padded ≡ is_padded (written_zeros text) p → a ≡ first p → b ≡ next p
-      → AreRead include (noted padded (from include a) ∷ (under b ∷ [])) r → AreRead include (table include (compared (comparator_view d)) p text) r
-  part_equal p d g i k e f h = grind arith
+  abbrev Until : Bool → List Comparison → Type 0
+  Until from_include ds = AreRead include (noted padded (from from_include a) ∷ ds) r
 
-  pub part_at_least : (p : Partial) (d : DeclaredComparator.Comparator) → d ≡ Comparators.AtLeast → is_part p ≡ true
-      → padded ≡ is_padded (written_zeros text) p → a ≡ first p
-      → AreRead include (noted padded (from include a) ∷ []) r → AreRead include (table include (compared (comparator_view d)) p text) r
-  part_at_least p d g i k e h = grind arith
+  pub part_equal : padded ≡ is_padded (written_zeros text) p → b ≡ next p → Until include (under b ∷ []) → Row (compared equal)
+  part_equal k f h = grind arith
 
-  pub part_caret : (z : ℕ) (p : Partial) → is_part p ≡ true → z ≡ written_zeros text → padded ≡ is_padded z p → a ≡ first p → b ≡ next_changed z p
-      → AreRead include (noted padded (from include a) ∷ (under b ∷ [])) r → AreRead include (table include caret p text) r
-  part_caret z p i l k e f h = grind arith
+  pub part_at_least : padded ≡ is_padded (written_zeros text) p → Until include [] → Row (compared at_least)
+  part_at_least k h = grind arith
 
-  pub part_tilde : (p : Partial) → is_part p ≡ true → padded ≡ is_padded (written_zeros text) p → a ≡ first p → b ≡ next p
-      → AreRead include (noted padded (from false a) ∷ (under b ∷ [])) r → AreRead include (table include tilde p text) r
-  part_tilde p i k e f h = grind arith
+  pub part_caret : (z : ℕ) → AreZeros p z text → padded ≡ is_padded z p → b ≡ next_changed z p → Until include (under b ∷ []) → Row caret
+  part_caret z l k f h = grind arith
 
-module _ (include : Bool) (text : List ℕ) (a : Numbers) (r : Option Bounds) where
-  pub part_below : (p : Partial) (d : DeclaredComparator.Comparator) → d ≡ Comparators.Below → is_part p ≡ true → a ≡ first p
-      → AreRead include (under a ∷ []) r → AreRead include (table include (compared (comparator_view d)) p text) r
-  part_below p d g i e h = grind arith
+  pub part_tilde : padded ≡ is_padded (written_zeros text) p → b ≡ next p → Until false (under b ∷ []) → Row tilde
+  part_tilde k f h = grind arith
 
-  pub part_at_most : (p : Partial) (d : DeclaredComparator.Comparator) → d ≡ Comparators.AtMost → is_part p ≡ true → a ≡ next p
-      → AreRead include (under a ∷ []) r → AreRead include (table include (compared (comparator_view d)) p text) r
-  part_at_most p d g i e h = grind arith
+  pub part_below : AreRead include (under a ∷ []) r → Row (compared below)
+  part_below h = grind arith
+
+  pub part_at_most : b ≡ next p → AreRead include (under b ∷ []) r → Row (compared at_most)
+  part_at_most f h = grind arith
 
 -- ---- the rows of a whole version
 
-whole_valid : (c : Comparator) (v : VersionValue) (text : List ℕ) → within (first (whole v)) ≡ true → length text ≤ MAX_LENGTH
-    → list_all (is_valid MAX_SAFE_INTEGER) (comparison c v v.build text ∷ []) ≡ true
-whole_valid c v text w l = rw w (grind (arith, nat_tests))
-
-whole_read : (include : Bool) (d : DeclaredComparator.Comparator) (c : Comparator) (v : VersionValue) (text : List ℕ) (s : Span VersionValue)
-    → comparator_view d ≡ c → within (first (whole v)) ≡ true → length text ≤ MAX_LENGTH
-    → IsCommon include (comparison c v v.build text ∷ []) s
-    → (list_all (is_valid MAX_SAFE_INTEGER) (table include (compared (comparator_view d)) (whole v) text) ≡ true)
-    × IsCommon include (table include (compared (comparator_view d)) (whole v) text) s
-whole_read include d at_least v text s e w l h = rw e (whole_valid at_least v text w l, h)
-whole_read include d above v text s e w l h = rw e (whole_valid above v text w l, h)
-whole_read include d equal v text s e w l h = rw e (whole_valid equal v text w l, h)
-whole_read include d at_most v text s e w l h = rw e (whole_valid at_most v text w l, h)
-whole_read include d below v text s e w l h = rw e (whole_valid below v text w l, h)
-
 -- a comparator that always counts
-pub whole_written : (include : Bool) (d : DeclaredComparator.Comparator) (c : Comparator) (v : VersionValue) (text : List ℕ) (s : Span VersionValue)
-    → comparator_view d ≡ c → within (first (whole v)) ≡ true → are_normal (whole v) ≡ true → length text ≤ MAX_LENGTH
-    → s ≡ compared_span c v → counts include (comparison c v v.build text) ≡ (include || not false)
-    → (list_all (is_valid MAX_SAFE_INTEGER) (table include (compared (comparator_view d)) (whole v) text) ≡ true)
-    × IsCommon include (table include (compared (comparator_view d)) (whole v) text) s
-whole_written include d c v text s e w n l is k =
-    whole_read include d c v text s e w l (rw is (one_common include c v v.build text (whole_readable v w n) (k ∙ either_true include)))
+pub whole_written : (include : Bool) (c : Comparator) (v : VersionValue) (text : List ℕ) (s : Span VersionValue) → within (first (whole v)) ≡ true
+    → are_normal (whole v) ≡ true → length text ≤ MAX_LENGTH → s ≡ compared_span c v
+    → counts include (comparison c v v.build text) ≡ (include || not false)
+    → (list_all (is_valid MAX_SAFE_INTEGER) (comparison c v v.build text ∷ []) ≡ true) × IsCommon include (comparison c v v.build text ∷ []) s
+whole_written include c v text s w n l is k =
+    (rw w (grind (arith, nat_tests)), rw is (one_common include c v v.build text (whole_readable v w n) (k ∙ either_true include)))
 
 pub caret_valid : (include : Bool) (z : ℕ) (v : VersionValue) → within (first (whole v)) ≡ true
     → nat_le (length (version_text (no_build v))) MAX_LENGTH ≡ true → is_valid MAX_SAFE_INTEGER (caret_from include z v) ≡ true
-caret_valid include z v w l =
-    cond_both (include && (is_release v && nat_lt 0 z)) (from true (first (whole v))) (noted (is_padded z (whole v)) (made at_least (no_build v)))
-    (λ c. is_valid MAX_SAFE_INTEGER c ≡ true) (λ _. from_valid true (first (whole v)) ∙ w)
-    (λ _. noted_valid (is_padded z (whole v)) (made at_least (no_build v)) ∙ rw (w, l) refl)
+caret_valid include z v w l = grind (arith, noted_valid (is_padded z (whole v)) (made at_least (no_build v)), from_valid true (first (whole v)))
 
-module _ (include : Bool) (z : ℕ) (text : List ℕ) (p : Declared.Partial) (v : VersionValue) (n : Numbers) (r : Option Bounds) (e : p ≡ Partials.Whole v) where
-  pub whole_caret : n ≡ next_changed z (npm_partial_view p) → AreZeros (npm_partial_view p) z text
-      → AreRead include (caret_from include z v ∷ (under n ∷ [])) r → AreRead include (table include caret (npm_partial_view p) text) r
-  whole_caret f k h =
-      let g : n ≡ next_changed z (whole v) = f ∙ ap (λ q. next_changed z (npm_partial_view q)) e in
-      let l : z ≡ written_zeros text = (rw e at k) refl in
-      rw e (rw (g, l) at h)
-
-  pub whole_padded : (padded : Bool) → padded ≡ is_padded z (npm_partial_view p) → padded ≡ is_padded z (whole v)
-  whole_padded padded k = rw e at k
-
-pub within_whole : (p : Declared.Partial) (v : VersionValue) → p ≡ Partials.Whole v → within (first (npm_partial_view p)) ≡ true
-    → within (first (whole v)) ≡ true
-within_whole p v e h = rw e at h
+pub whole_caret : (include : Bool) (z : ℕ) (text : List ℕ) (v : VersionValue) (n : Numbers) (r : Option Bounds) → n ≡ next_changed z (whole v)
+    → AreZeros (whole v) z text → AreRead include (caret_from include z v ∷ (under n ∷ [])) r → AreRead include (table include caret (whole v) text) r
+whole_caret include z text v n r f k h = rw (f, k refl) at h
 
 -- ---- the upper end of a hyphen range of a whole version
-
-module _ (c : Comparator) (include : Bool) (v : VersionValue) (text : List ℕ) (r : Option Bounds) where
-  pub upper_under : (M m p : ℕ) → is_release v ≡ true → include ≡ true → M ≡ v.major → m ≡ v.minor → p ≡ v.patch
-      → AreRead include (under (M, m, p + 1) ∷ []) r → AreRead include (hyphen_upper c include (whole v) text) r
-  upper_under M m p i j e f g h = rw (i, j) (rw (j, e, f, g) at h)
-
-  pub upper_printed : is_release v ≡ false → AreRead include (made at_most (no_build v) ∷ []) r
-      → AreRead include (hyphen_upper c include (whole v) text) r
-  upper_printed i h = rw i h
 
 pub printed_read : (include : Bool) (v : VersionValue) (s : Span VersionValue) → within (first (whole v)) ≡ true
     → are_normal (whole v) ≡ true → nat_le (length (version_text (no_build v))) MAX_LENGTH ≡ true → s ≡ compared_span at_most v

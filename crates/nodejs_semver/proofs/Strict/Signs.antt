@@ -1,16 +1,13 @@
 -- The signs of node-semver's words, with the whitespace behind them: what is read is written, and what is written is read.
-use Rattle.nodejs_semver.proofs.Common.{Bool, Comparator, IsBlank, IsUtf8, List, [], above, and_parts, ap, append_assoc, arith, at_most}
-use Rattle.nodejs_semver.proofs.Common.{below, cases_Bool, common_steps, drop, drop_spaces, drop_spaces-blank, drop_spaces-none}
-use Rattle.nodejs_semver.proofs.Common.{encode_utf8_all, eqb-true, equal, false, if◌then◌else◌, inl, inr, is_empty, is_whitespace}
-use Rattle.nodejs_semver.proofs.Common.{len_utf8_bounds, length, list_all, nat_lt, nat_tests, refl, space_len, subst, true, ℕ, ◌&&◌}
-use Rattle.nodejs_semver.proofs.{Common.{◌++◌, ◌<◌, ◌==◌, ◌||◌, ◌∙◌, ◌∷◌, ◌≡◌, ◌⊎◌}, NpmCommon.{IsSignText, are_marks, at_least}}
-use Rattle.nodejs_semver.proofs.NpmCommon.{begins_byte, caret_equal, compared, is_mark, late_above, late_below, no_sign}
-use Rattle.nodejs_semver.proofs.NpmCommon.{npm_sign, or_late, sign, skip_equal, skip_greater, skip_tilde, space_len-white, spelling}
-use Rattle.nodejs_semver.proofs.{NpmCommon.tilde_twice, Reading.{Bytes.{begins_component, is_solid, solid-dark}, PartialLaw.byte-begins}}
-use Rattle.nodejs_semver.{proofs.Reading.WordLaw.{skips-is, skips-utf8, tail-utf8}, specs.Internal.NpmWords.skip_twice}
-use Rattle.nodejs_semver.specs.Npm.{RangeText.tilde_sign, Table.{Partial, Sign, caret, table, tilde}}
-use Rattle.nodejs_semver.specs.Npm.Table.{written_zeros}
-use Rattle.nodejs_semver.proofs.{Common.{all_weaker, is_ascii_digit, not, sym}, Strict.Zeros.zeros-marked}
+use Rattle.nodejs_semver.proofs.Common.{Bool, Comparator, IsBlank, IsUtf8, List, [], above, all_weaker, and_parts, ap, append_assoc, arith}
+use Rattle.nodejs_semver.proofs.Common.{cases_Bool, common_steps, drop, drop_spaces, drop_spaces-blank, drop_spaces-none, encode_utf8_all, eqb-true}
+use Rattle.nodejs_semver.proofs.Common.{equal, false, if◌then◌else◌, inl, inr, is_ascii_digit, is_empty, is_whitespace, len_utf8_bounds, length}
+use Rattle.nodejs_semver.proofs.Common.{list_all, nat_lt, nat_tests, not, refl, space_len, subst, true, ℕ, ◌&&◌, ◌++◌, ◌<◌, ◌==◌, ◌||◌, ◌∙◌, ◌∷◌, ◌≡◌}
+use Rattle.nodejs_semver.proofs.{Common.◌⊎◌, NpmCommon.{IsSignText, are_marks, at_least, begins_byte, caret_equal, compared, is_mark, late_above}}
+use Rattle.nodejs_semver.proofs.NpmCommon.{late_below, no_sign, npm_sign, or_late, sign, skip_equal, skip_greater, skip_tilde, space_len-white}
+use Rattle.nodejs_semver.proofs.{NpmCommon.{spelling, tilde_twice}, Reading.{Bytes.{begins_component, is_solid, solid-dark}, PartialLaw.byte-begins}}
+use Rattle.nodejs_semver.{proofs.{Reading.WordLaw.{skips-is, skips-utf8, tail-utf8}, Strict.Zeros.zeros-marked}, specs.Internal.NpmWords.skip_twice}
+use Rattle.nodejs_semver.specs.Npm.{RangeText.tilde_sign, Table.{Partial, Sign, caret, table, tilde, written_zeros}}
 
 -- ---- whitespace
 
@@ -169,16 +166,12 @@ pub sign-found : (text : List ℕ) → IsUtf8 text → SignAt text (npm_sign tex
 unfolding npm_sign
 sign-found [] u = record { signs = []; split = refl; is = no_sign; utf8 = u }
 sign-found (b ∷ rest) u =
-    on-byte _ _ _ _ _ (omega arith) u (λ v. late-found _ _ _ _ v (λ x h. sign (compared _) x h)
-    (λ x h. sign (compared _) x h) (λ x h. late_above x h))
-    (on-byte _ _ _ _ _ (omega arith) u (λ v. late-found _ _ _ _ v (λ x h. sign (compared _) x h)
-    (λ x h. sign (compared _) x h) (λ x h. late_below x h)) (on-byte _ _ _ _ _ (omega arith) u (λ v. plain-found _ v)
-    (on-byte _ _ _ _ _ (omega arith) u (λ v. caret-found _ v)
-    (on-byte _ _ _ _ _ (omega arith) u (λ v. tilde-found _ v) (record { signs = []; split = refl; is = no_sign; utf8 = u })))))
+    on-byte _ _ _ _ _ (omega arith) u (λ v. late-found _ _ _ _ v (sign (compared _)) (sign (compared _)) late_above)
+    (on-byte _ _ _ _ _ (omega arith) u (λ v. late-found _ _ _ _ v (sign (compared _)) (sign (compared _)) late_below)
+    (on-byte _ _ _ _ _ (omega arith) u (plain-found _) (on-byte _ _ _ _ _ (omega arith) u (caret-found _)
+    (on-byte _ _ _ _ _ (omega arith) u (tilde-found _) (record { signs = []; split = refl; is = no_sign; utf8 = u })))))
 
--- ---- the signs of node-semver's words before marks and a partial version: what is written is read, or means the same
-
--- ---- whitespace before marks and a partial
+-- ---- the signs of words before marks and a partial: what is written is read, or means the same. First whitespace.
 
 -- the text is empty, or whitespace stands at the front of it, whatever follows
 pub blank-cases : (x : List ℕ) → IsBlank x → (x ≡ []) ⊎ ((rest : List ℕ) → 0 < space_len (x ++ rest))
@@ -202,14 +195,11 @@ blank-byte c x text s h other = elim (blank-cases x h) [
 
 -- ---- marks before a partial
 
--- what stands before a partial, and the partial
-record Opens (text : List ℕ) : Type 0 where
-  dark : space_len text ≡ 0
-  greater : begins_byte 62 text ≡ false
-
-opens : (marks u : List ℕ) → list_all is_mark marks ≡ true → begins_component u ≡ true → Opens (marks ++ u)
-opens [] u h k = record { dark = solid-dark u (grind (arith, nat_tests)); greater = grind (arith, nat_tests) }
-opens (b ∷ marks) u h k = record { dark = solid-dark _ (grind (arith, nat_tests)); greater = grind (arith, nat_tests) }
+-- whitespace is not at the front of these, nor is `>`
+opens : (marks u : List ℕ) → list_all is_mark marks ≡ true → begins_component u ≡ true
+    → (space_len (marks ++ u) ≡ 0) × (begins_byte 62 (marks ++ u) ≡ false)
+opens [] u h k = (solid-dark u (grind (arith, nat_tests)), grind (arith, nat_tests))
+opens (b ∷ marks) u h k = (solid-dark _ (grind (arith, nat_tests)), grind (arith, nat_tests))
 
 component-other : (u : List ℕ) → begins_component u ≡ true → begins_byte 61 u ≡ false
 component-other u h = grind (arith, nat_tests)
@@ -232,15 +222,10 @@ greater-left : (y marks u : List ℕ) → IsBlank y → list_all is_mark marks �
     → MarksLeft (skip_greater (y ++ (marks ++ u))) u
 greater-left y marks u blank h k =
     let o = opens marks u h k in
+    let same : skip_greater (marks ++ u) ≡ skip_equal (marks ++ u) = grind (arith, nat_tests, common_steps, drop_spaces-none) in
     elim (blank-cases y blank) [
       | inr some ↦ grind (arith, nat_tests, common_steps, space-byte, blank-skipped)
-      | inl none ↦ rw none (bare o.dark)
-    ]
-  where
-    bare : space_len (marks ++ u) ≡ 0 → MarksLeft (skip_greater (marks ++ u)) u
-    bare dark = elim (cases_Bool (begins_byte 61 (marks ++ u))) [
-      | inl mark ↦ (let e = equal-left marks u h k in rw mark (rw mark at e))
-      | inr other ↦ rw other (record { left = marks; is = drop_spaces-none (marks ++ u) dark; each = h })
+      | inl none ↦ rw (none, same) (equal-left marks u h k)
     ]
 
 -- ---- a sign, as it is read
@@ -253,37 +238,16 @@ pub record SignTaken (loose : Bool) (s : Sign) (p : Partial) (marks x : List ℕ
   pub same : (include : Bool) → table include r.0 p (left ++ x) ≡ table include s p (marks ++ x)
 
 -- marks are no digits, so that with other ones as many numbers are written `0`
-zeros-other : (left marks x : List ℕ) → list_all is_mark left ≡ true → list_all is_mark marks ≡ true
-    → written_zeros (left ++ x) ≡ written_zeros (marks ++ x)
-zeros-other left marks x h k = none left h ∙ sym (none marks k)
-  where
-    none : (m : List ℕ) → list_all is_mark m ≡ true → written_zeros (m ++ x) ≡ written_zeros x
-    none m h = zeros-marked m x (all_weaker is_mark (λ b. not (is_ascii_digit b)) (λ b k. grind (arith, nat_tests)) m h)
+zeros-behind : (marks x : List ℕ) → list_all is_mark marks ≡ true → written_zeros (marks ++ x) ≡ written_zeros x
+zeros-behind marks x h = zeros-marked marks x (all_weaker is_mark (λ b. not (is_ascii_digit b)) (λ b k. grind (arith, nat_tests)) marks h)
 
-free-marks : (loose : Bool) (s : Sign) (p : Partial) (marks : List ℕ) → (s ≡ caret) ⊎ (s ≡ tilde) → list_all is_mark marks ≡ true
-    → are_marks loose s p marks ≡ true
-free-marks loose s p marks e h = grind (arith, nat_tests, common_steps)
-
-same-row : (include : Bool) (s : Sign) (p : Partial) (t u : List ℕ) → (s ≡ caret) ⊎ (s ≡ tilde) → written_zeros t ≡ written_zeros u
-    → table include s p t ≡ table include s p u
-same-row include s p t u i e = grind (arith, nat_tests, common_steps)
-
-caret-taken : (loose : Bool) (p : Partial) (marks x text u : List ℕ) → list_all is_mark marks ≡ true → MarksLeft text u
-    → SignTaken loose caret p marks x (caret, text) u
-caret-taken loose p marks x text u h l = record {
+free-taken : (loose : Bool) (s : Sign) (p : Partial) (marks x text u : List ℕ) → (s ≡ caret) ⊎ (s ≡ tilde) → list_all is_mark marks ≡ true
+    → MarksLeft text u → SignTaken loose s p marks x (s, text) u
+free-taken loose s p marks x text u i h l = record {
   left = l.left;
   is = l.is;
-  marked = free-marks loose caret p l.left (inl refl) l.each;
-  same = λ include. same-row include caret p (l.left ++ x) (marks ++ x) (inl refl) (zeros-other l.left marks x l.each h);
-}
-
-tilde-taken : (loose : Bool) (p : Partial) (marks x text u : List ℕ) → list_all is_mark marks ≡ true → MarksLeft text u
-    → SignTaken loose tilde p marks x (tilde, text) u
-tilde-taken loose p marks x text u h l = record {
-  left = l.left;
-  is = l.is;
-  marked = free-marks loose tilde p l.left (inr refl) l.each;
-  same = λ include. same-row include tilde p (l.left ++ x) (marks ++ x) (inr refl) (zeros-other l.left marks x l.each h);
+  marked = grind (arith, nat_tests, common_steps, l.each);
+  same = λ include. grind (arith, nat_tests, common_steps, zeros-behind l.left x l.each, zeros-behind marks x h);
 }
 
 kept : (loose : Bool) (s : Sign) (p : Partial) (marks x text u : List ℕ) → text ≡ marks ++ u → are_marks loose s p marks ≡ true
@@ -353,24 +317,17 @@ late-read one two y t h dark = grind (arith, nat_tests, common_steps, blank-case
 signed-taken : (loose : Bool) (s : Sign) (p : Partial) (y marks x u : List ℕ) → IsBlank y → are_marks loose s p marks ≡ true
     → (is_open s && begins_byte 61 marks) ≡ false → begins_component u ≡ true → Taken loose s p marks x u ((spelling s ++ y) ++ (marks ++ u))
 unfolding npm_sign
-signed-taken loose (compared at_least) p y marks x u h m none k =
-    grind (arith, nat_tests, common_steps, opens, marks-all, kept, blank-skipped)
-signed-taken loose (compared above) p y marks x u h m none k =
-    grind (arith, nat_tests, common_steps, opens, marks-all, one-read, not-other, kept)
-signed-taken loose (compared equal) p y marks x u h m none k =
-    grind (arith, nat_tests, common_steps, opens, marks-all, equal-front, kept, blank-skipped)
-signed-taken loose (compared at_most) p y marks x u h m none k =
-    grind (arith, nat_tests, common_steps, opens, marks-all, kept, blank-skipped)
-signed-taken loose (compared below) p y marks x u h m none k =
-    grind (arith, nat_tests, common_steps, opens, marks-all, one-read, not-other, kept)
+signed-taken loose (compared c) p y marks x u h m none k =
+    grind (arith, nat_tests, common_steps, opens, marks-all, one-read, not-other, equal-front, kept, blank-skipped)
 signed-taken loose caret p y marks x u h m none k =
     let all = marks-all loose caret p marks m in
-    rw (blank-skipped y (marks ++ u) h (opens marks u all k).dark) (caret-taken loose p marks x (skip_equal (marks ++ u)) u all (equal-left marks u all k))
+    rw (blank-skipped y (marks ++ u) h (opens marks u all k).0)
+    (free-taken loose caret p marks x (skip_equal (marks ++ u)) u (inl refl) all (equal-left marks u all k))
 signed-taken loose tilde p y marks x u h m none k =
     let all = marks-all loose tilde p marks m in
     let o = opens marks u all k in
-    rw (no_greater-left y (marks ++ u) h o.dark o.greater)
-    (tilde-taken loose p marks x (skip_equal (marks ++ u)) u all (equal-left marks u all k))
+    rw (no_greater-left y (marks ++ u) h o.0 o.1)
+    (free-taken loose tilde p marks x (skip_equal (marks ++ u)) u (inr refl) all (equal-left marks u all k))
 
 bare-taken : (loose : Bool) (p : Partial) (marks x u : List ℕ) → are_marks loose (compared equal) p marks ≡ true → begins_byte 61 marks ≡ false
     → begins_component u ≡ true → Taken loose (compared equal) p marks x u (marks ++ u)
@@ -391,9 +348,9 @@ sign-taken loose signs s p marks x u (tilde_sign c y z h l (inr (inr e))) m none
 sign-taken loose signs s p marks x u (tilde_sign c y z h l (inl e)) m none k =
     let all = marks-all loose tilde p marks m in
     let o = opens marks u all k in
-    let skipped = one_greater-left y (z ++ (marks ++ u)) (marks ++ u) h (blank-skipped z (marks ++ u) l o.dark) o.greater in
+    let skipped = one_greater-left y (z ++ (marks ++ u)) (marks ++ u) h (blank-skipped z (marks ++ u) l o.0) o.1 in
     rw (e, append_assoc y (62 ∷ z) (marks ++ u), skipped)
-    (tilde-taken loose p marks x (skip_greater (z ++ (marks ++ u))) u all (greater-left z marks u l all k))
+    (free-taken loose tilde p marks x (skip_greater (z ++ (marks ++ u))) u (inr refl) all (greater-left z marks u l all k))
 sign-taken loose signs s p marks x u (tilde_sign c y z h l (inr (inl e))) m none k = grind (arith, nat_tests, common_steps, append_assoc, blank-skipped, dark-byte, drop_spaces-none, kept, marks-all, one_greater-left, opens)
-sign-taken loose signs s p marks x u (tilde_twice c y z h some l (inl e)) m none k = grind (arith, nat_tests, common_steps, append_assoc, greater-left, marks-all, tilde-taken, twice-left)
+sign-taken loose signs s p marks x u (tilde_twice c y z h some l (inl e)) m none k = grind (arith, nat_tests, common_steps, append_assoc, greater-left, marks-all, free-taken, twice-left)
 sign-taken loose signs s p marks x u (tilde_twice c y z h some l (inr e)) m none k = grind (arith, nat_tests, common_steps, append_assoc, blank-skipped, kept, marks-all, opens, twice-left)

@@ -1,18 +1,16 @@
 -- The words of node-semver's range texts: the functions that read them find exactly what the statement has, one word after another.
-use Rattle.nodejs_semver.proofs.Common.{Bool, Front, IsBlank, IsUtf8, List, None, Option, Some, []}
-use Rattle.nodejs_semver.proofs.Common.{and_parts, ap, append-nil, append_assoc, arith, bind_some, cases_Bool, common_steps, ◌||◌}
-use Rattle.nodejs_semver.proofs.Common.{cond_some, drop, drop_at, drop_spaces, eqb-true, false, inl, inr}
-use Rattle.nodejs_semver.proofs.Common.{is_boundary, is_empty, length, length-append, list_all, lt-ltb, nat_tests, refl}
-use Rattle.nodejs_semver.proofs.Common.{same_Some, space_len, subst, suc, sym, take, take-append-drop, take_at, true, zero, ℕ, ◌&&◌, ◌++◌}
-use Rattle.nodejs_semver.proofs.{Common.{◌-◌, ◌<◌, ◌==◌, ◌∙◌, ◌∷◌, ◌≡◌, ◌≤◌}, NpmCommon.{AreWords, BeginsAs, BeginsWord, Comparison}}
-use Rattle.nodejs_semver.proofs.NpmCommon.{IsPartial, IsPlace, IsPlaces, IsWord, NoValue, Signed, are_marks, begins_byte, behind_ignored}
-use Rattle.nodejs_semver.proofs.NpmCommon.{first_word, is_lost, is_mark, is_short_word}
-use Rattle.nodejs_semver.proofs.NpmCommon.{marked_word, marks_len, npm_sign, signed_word, word, words_within, ◌>>?◌}
-use Rattle.nodejs_semver.proofs.{Reading.Bytes.{begins-on, begins-some, begins_component, is_component_byte}, Reading.Steps.option-cases}
-use Rattle.nodejs_semver.proofs.Reading.{PartialLaw.{spaces-le}, WordLaw.{boundary-of, boundary-utf8, skips-is, skips-of, skips-utf8, suffix-boundary}}
-use Rattle.nodejs_semver.proofs.Strict.{Ignored.{ignored-found, ignored-read}, PartialLaw.{boundary-quiet, digits-begin, front-text, places-found, places-read}}
-use Rattle.nodejs_semver.proofs.Strict.{Signs.{blank-cases, is_open, marks-all, open-first, sign-found, sign-taken}}
-use Rattle.nodejs_semver.specs.{Internal.NpmWords.{ended_word, places_front, signed_or}, Npm.{RangeText.{formed, ignored, more}, Table.{Partial, Sign, table}}}
+use Rattle.nodejs_semver.proofs.Common.{Bool, Front, IsBlank, IsUtf8, List, None, Option, Some, [], and_parts, ap, append-nil, append_assoc, arith}
+use Rattle.nodejs_semver.proofs.Common.{bind_some, cases_Bool, common_steps, cond_some, drop, drop_at, drop_spaces, eqb-true, false, inl, inr}
+use Rattle.nodejs_semver.proofs.Common.{is_boundary, is_empty, length, length-append, list_all, nat_tests, refl, same_Some, space_len, subst, suc}
+use Rattle.nodejs_semver.proofs.Common.{sym, take, take-append-drop, take_at, true, zero, ℕ, ◌&&◌, ◌++◌, ◌-◌, ◌<◌, ◌==◌, ◌||◌, ◌∙◌, ◌∷◌, ◌≡◌, ◌≤◌}
+use Rattle.nodejs_semver.proofs.NpmCommon.{AreWords, BeginsAs, BeginsWord, Comparison, IsPlace, IsPlaces, IsWord, NoValue, Signed, are_marks}
+use Rattle.nodejs_semver.proofs.NpmCommon.{begins_byte, behind_ignored, first_word, is_lost, is_mark, is_short_word, marked_word, marks_len, npm_sign}
+use Rattle.nodejs_semver.proofs.{NpmCommon.{signed_word, word, words_within, ◌>>?◌}, Reading.Bytes.{begins-on, begins-some, begins_component}}
+use Rattle.nodejs_semver.proofs.Reading.{Bytes.is_component_byte, PartialLaw.spaces-le, Steps.option-cases, WordLaw.{boundary-of, boundary-utf8}}
+use Rattle.nodejs_semver.proofs.{Reading.WordLaw.{skips-is, skips-of, skips-utf8, suffix-boundary}, Strict.Ignored.{ignored-found, ignored-read}}
+use Rattle.nodejs_semver.proofs.Strict.{PartialLaw.{boundary-quiet, digits-begin, front-text, places-found, places-read}, Signs.blank-cases}
+use Rattle.nodejs_semver.{proofs.Strict.Signs.{is_open, marks-all, open-first, sign-found, sign-taken}, specs.Internal.NpmWords.ended_word}
+use Rattle.nodejs_semver.specs.{Internal.NpmWords.{places_front, signed_or}, Npm.{RangeText.{formed, ignored, more}, Table.{Partial, Sign, table}}}
 use Rattle.nodejs_semver.specs.Text.WordText.{SkipsBlank}
 
 -- ---- how partials and marks begin
@@ -22,9 +20,6 @@ place-begins loose x a h = grind (arith, nat_tests, common_steps, digits-begin)
 
 pub places-begin : (loose : Bool) (x rest : List ℕ) (p : Partial) → IsPlaces loose x p → begins_component (x ++ rest) ≡ true
 places-begin loose x rest p h = grind (arith, nat_tests, common_steps, begins-on, is_component_byte, place-begins)
-
-pub partial-begins : (loose : Bool) (x rest : List ℕ) (p : Partial) → IsPartial loose x p → begins_component (x ++ rest) ≡ true
-partial-begins loose x rest p h = places-begin loose x rest p h.0
 
 pub marks-counted : (marks u : List ℕ) → list_all is_mark marks ≡ true → begins_component u ≡ true → marks_len (marks ++ u) ≡ length marks
 marks-counted [] u h k = grind (arith, nat_tests)
@@ -73,26 +68,14 @@ blank-space blank rest h some = elim (blank-cases blank h) [
   | inr white ↦ white rest
 ]
 
-pub space-boundary : (text : List ℕ) → 0 < space_len text → is_boundary text ≡ true
-unfolding is_boundary
-space-boundary [] h = refl
-space-boundary (b ∷ text) h = rw (lt-ltb 0 (space_len (b ∷ text)) h) refl
-
 pub blank-boundary : (blank rest : List ℕ) → IsBlank blank → 0 < length blank → is_boundary (blank ++ rest) ≡ true
-blank-boundary blank rest h some = space-boundary (blank ++ rest) (blank-space blank rest h some)
-
-pub not-empty : (blank rest : List ℕ) → 0 < length blank → is_empty (blank ++ rest) ≡ false
-not-empty [] rest some = absurd (omega arith)
-not-empty (b ∷ blank) rest some = refl
+unfolding is_boundary
+blank-boundary blank rest h some = grind (arith, nat_tests, common_steps, blank-space)
 
 -- ---- one word: what is read is written
 
-pub rest-utf8 : (front rest : List ℕ) → IsUtf8 (front ++ rest) → is_boundary rest ≡ true → IsUtf8 rest
-rest-utf8 front rest u b = boundary-utf8 front rest u (suffix-boundary front rest u b)
-
 pub record WordAt (loose include : Bool) (text : List ℕ) (w : Signed) (rest : List ℕ) : Type 0 where
-  pub is : BeginsWord loose include text rest (table include w.0 w.1 w.2)
-  pub partial : is.partial ≡ drop (marks_len w.2) w.2
+  pub is : BeginsWord loose include text (drop (marks_len w.2) w.2) rest (table include w.0 w.1 w.2)
   pub utf8 : IsUtf8 rest
   pub shorter : length rest < length text
 
@@ -113,12 +96,9 @@ first-take n text h = grind arith
 unsigned : (text signs : List ℕ) (n : ℕ) → text ≡ signs ++ (npm_sign text).1
     → ((is_empty signs || is_open (npm_sign text).0) && begins_byte 61 (take n (npm_sign text).1)) ≡ false
 unsigned text [] n e = first-take n (npm_sign text).1 (rw e at (none-first text e))
-unsigned text (b ∷ signs) n e = elim (cases_Bool (is_open (npm_sign text).0)) [
-  | inl mark ↦ rw mark (first-take n (npm_sign text).1 (open-first text mark))
-  | inr other ↦ rw other refl
-]
+unsigned text (b ∷ signs) n e = grind (arith, first-take, open-first)
 
-places-some : (loose : Bool) (x : List ℕ) (p : Partial) → IsPlaces loose x p → 0 < length x
+pub places-some : (loose : Bool) (x : List ℕ) (p : Partial) → IsPlaces loose x p → 0 < length x
 places-some loose x p h = begins-some is_component_byte x (rw (append-nil x) at (places-begin loose x [] p h))
 
 pub signed-found : (loose include : Bool) (text : List ℕ) (w : Signed) (rest : List ℕ) → IsUtf8 text → signed_word loose text ≡ Some (w, rest)
@@ -143,12 +123,11 @@ signed-found loose include text w rest u h =
     let is : IsWord loose include all part.piece (table include s.0 p.0.0 whole_text) =
     rw front_is (word at_sign.signs marks part.piece s.0 p.0.0 at_sign.is tests.0 (unsigned text at_sign.signs n at_sign.split) part.is) in
     let ended = suffix-boundary all p.0.1 (subst (λ (t : List ℕ). IsUtf8 t) whole u) tests.1 in
-    let begin : BeginsWord loose include text p.0.1 (table include s.0 p.0.0 whole_text) = record { word = all; partial = part.piece; divided = whole; is = is; ended = ended } in
+    let begin : BeginsWord loose include text part.piece p.0.1 (table include s.0 p.0.0 whole_text) = (all, whole, is, ended) in
     let dropped : part.piece ≡ drop (marks_len whole_text) whole_text =
     sym (ap (λ (t : List ℕ). drop (marks_len t) t) front_is ∙ marks-dropped loose marks part.piece p.0.0 (marks-all loose s.0 p.0.0 marks tests.0) part.is) in
     subst (λ (r : Signed × List ℕ). WordAt loose include text r.0 r.1) t.1 (record {
-      is = begin;
-      partial = dropped;
+      is = subst (λ (x : List ℕ). BeginsWord loose include text x p.0.1 (table include s.0 p.0.0 whole_text)) dropped begin;
       utf8 = boundary-utf8 all p.0.1 (subst (λ (t : List ℕ). IsUtf8 t) whole u) ended;
       shorter = omega (arith, ap length whole, length-append all p.0.1, length-append at_sign.signs front, length-append marks part.piece, places-some loose part.piece p.0.0 part.is);
     })
@@ -158,15 +137,15 @@ signed-found loose include text w rest u h =
 pub first-read : (loose include : Bool) (text rest : List ℕ) (cs : Option (List Comparison)) → IsUtf8 text → BeginsAs loose include text rest cs
     → first_word loose include text ≡ Some (cs, rest)
 unfolding first_word
-first-read loose include text rest cs u (formed behind ds w short s) =
-    let utf8 = boundary-utf8 w.word behind (subst (λ (t : List ℕ). IsUtf8 t) w.divided u) w.ended in
-    let r = word-read loose include w.word w.partial behind ds w.is (boundary-of behind w.ended) in
-    let here : signed_word loose text ≡ Some (r.word, behind) = ap (λ (t : List ℕ). signed_word loose t) w.divided ∙ r.read in
+first-read loose include text rest cs u (formed partial behind ds w short s) =
+    let utf8 = boundary-utf8 w.0 behind (subst (λ (t : List ℕ). IsUtf8 t) w.1 u) w.3 in
+    let r = word-read loose include w.0 partial behind ds w.2 (boundary-of behind w.3) in
+    let here : signed_word loose text ≡ Some (r.word, behind) = ap (λ (t : List ℕ). signed_word loose t) w.1 ∙ r.read in
     rw (here, r.partial, short, r.same, skips-of behind rest utf8 s) refl
 first-read loose include text rest cs u (ignored behind l some absent i s) =
     let none : signed_word loose text ≡ None = elim (option-cases (signed_word loose text)) [
       | inl e ↦ e
-      | inr w ↦ absurd (absent w.0.1 (table include w.0.0.0 w.0.0.1 w.0.0.2) (signed-found loose include text w.0.0 w.0.1 u w.1).is)
+      | inr w ↦ absurd (absent (drop (marks_len w.0.0.2) w.0.0.2) w.0.1 (table include w.0.0.0 w.0.0.1 w.0.0.2) (signed-found loose include text w.0.0 w.0.1 u w.1).is)
     ] in
     let end = ignored-read (length text) text behind u i (omega arith) in
     let utf8 = (ignored-found (length text) text u (omega arith)).utf8 in
@@ -193,9 +172,9 @@ first-found loose include text cs rest u some h = go (signed_word loose text) re
         let t = cond_some loose (None, drop_spaces end) (cs, rest) k in
         let i = ignored-found (length text) text u (omega arith) in
         let s = skipped end i.utf8 in
-        let absent : (behind : List ℕ) → NoValue (BeginsWord loose include text behind) = λ behind ds w.
-        let r = word-read loose include w.word w.partial behind ds w.is (boundary-of behind w.ended) in
-        cc (e, ap (λ (t : List ℕ). signed_word loose t) w.divided ∙ r.read) in
+        let absent : (partial behind : List ℕ) → NoValue (BeginsWord loose include text partial behind) = λ partial behind ds w.
+        let r = word-read loose include w.0 partial behind ds w.2 (boundary-of behind w.3) in
+        cc (e, ap (λ (t : List ℕ). signed_word loose t) w.1 ∙ r.read) in
         subst (λ (r : Option (List Comparison) × List ℕ). FirstAt loose include text r.0 r.1) t.1
         (record { is = ignored end t.0 (grind (arith, nat_tests)) absent i.is s.0; utf8 = s.1; shorter = i.less some })
     go (Some w) e k =
@@ -203,7 +182,7 @@ first-found loose include text cs rest u some h = go (signed_word loose text) re
         let f = signed-found loose include text w.0 w.1 u e in
         let s = skipped w.1 f.utf8 in
         subst (λ (r : Option (List Comparison) × List ℕ). FirstAt loose include text r.0 r.1) t.1
-        (record { is = formed w.1 (table include w.0.0 w.0.1 w.0.2) f.is (rw f.partial t.0) s.0; utf8 = s.1; shorter = omega (arith, s.2, f.shorter) })
+        (record { is = formed (drop (marks_len w.0.2) w.0.2) w.1 (table include w.0.0 w.0.1 w.0.2) f.is t.0 s.0; utf8 = s.1; shorter = omega (arith, s.2, f.shorter) })
 
 -- ---- words
 
@@ -215,9 +194,9 @@ words-step loose include n (b ∷ text) some = refl
 
 begins-longer : (loose include : Bool) (text rest : List ℕ) (cs : Option (List Comparison)) → IsUtf8 text → BeginsAs loose include text rest cs → 0 < length text
 begins-longer loose include text rest cs u (ignored behind l some absent i s) = grind (arith, nat_tests)
-begins-longer loose include text rest cs u (formed behind ds w short s) =
-    let r = word-read loose include w.word w.partial behind ds w.is (boundary-of behind w.ended) in
-    let here : signed_word loose text ≡ Some (r.word, behind) = ap (λ (t : List ℕ). signed_word loose t) w.divided ∙ r.read in
+begins-longer loose include text rest cs u (formed partial behind ds w short s) =
+    let r = word-read loose include w.0 partial behind ds w.2 (boundary-of behind w.3) in
+    let here : signed_word loose text ≡ Some (r.word, behind) = ap (λ (t : List ℕ). signed_word loose t) w.1 ∙ r.read in
     omega (arith, (signed-found loose include text r.word behind u here).shorter)
 
 pub words-read : (loose include : Bool) (n : ℕ) (text : List ℕ) (all : List (Option (List Comparison))) → IsUtf8 text → AreWords loose include text all
@@ -257,5 +236,5 @@ words-enough loose include n m text u h k = elim (option-cases (words_within loo
 -- strictly no word is ignored
 pub strict-kept : (include : Bool) (text : List ℕ) (all : List (Option (List Comparison))) → AreWords false include text all → is_lost all ≡ false
 strict-kept include text all AreWords.none = refl
-strict-kept include text all (more t rest cs ds (formed behind es w short s) k) = grind (arith, nat_tests)
+strict-kept include text all (more t rest cs ds (formed partial behind es w short s) k) = grind (arith, nat_tests)
 strict-kept include text all (more t rest cs ds (ignored behind l some absent i s) k) = cc l

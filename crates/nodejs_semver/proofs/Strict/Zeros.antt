@@ -1,14 +1,13 @@
 -- How many numbers of a partial are written `0`: strictly as many as are 0, so that node-semver's table goes by the values of the numbers.
-use Rattle.nodejs_semver.proofs.Common.{Bool, Id, List, None, Option, Some, VersionValue, [], and_parts, append-nil, arith, begins}
-use Rattle.nodejs_semver.proofs.Common.{cases_Bool, codes, common_steps, drop, false, if◌then◌else◌, inl, inr, is_ascii_digit}
-use Rattle.nodejs_semver.proofs.Common.{is_release, length, list_all, nat_lt, nat_tests, not, prefix_len, refl, subst, suc, sym, take_at, true}
-use Rattle.nodejs_semver.proofs.{Common.{ℕ, ◌&&◌, ◌++◌, ◌+◌, ◌<◌, ◌==◌, ◌∙◌, ◌∷◌, ◌≡◌}, NpmCommon.{Comparison, IsPartial, IsPlace}}
-use Rattle.nodejs_semver.proofs.Common.{IsNumber, ap, take, take_rest, ◌-◌}
-use Rattle.nodejs_semver.proofs.NpmCommon.{IsPlaces, IsStrictBuild, Numbers, at_least, bytes_eq, bytes_eq-Decides, caret_from, compared}
-use Rattle.nodejs_semver.proofs.NpmCommon.{digits_grow, first, from, has_leading_zero, made, major, next_changed}
-use Rattle.nodejs_semver.proofs.{NpmCommon.{partial_of, take_while, under, whole, wildcard}, Reading.Numbers.digits-taken}
-use Rattle.nodejs_semver.specs.{Internal.NpmParts.{AreZeros, is_padded, is_wildcard}, Npm.Grammar.IsPreRelease, Text.WordText.{equal}}
-use Rattle.nodejs_semver.specs.Npm.Table.{Partial, Sign, as_written, caret, next, no_build, table, tilde, written_zeros, zeros}
+use Rattle.nodejs_semver.proofs.Common.{Bool, Id, IsNumber, List, None, Option, Some, VersionValue, [], and_parts, ap, append-nil, arith, begins}
+use Rattle.nodejs_semver.proofs.Common.{cases_Bool, codes, common_steps, drop, false, if◌then◌else◌, inl, inr, is_ascii_digit, is_release, length}
+use Rattle.nodejs_semver.proofs.Common.{list_all, nat_tests, not, prefix_len, refl, subst, suc, sym, take, take_at, take_rest, true, ℕ, ◌&&◌, ◌++◌}
+use Rattle.nodejs_semver.proofs.{Common.{◌+◌, ◌-◌, ◌==◌, ◌∙◌, ◌∷◌, ◌≡◌}, NpmCommon.{Comparison, IsPartial, IsPlace, IsPlaces, IsStrictBuild, Numbers}}
+use Rattle.nodejs_semver.proofs.NpmCommon.{at_least, bytes_eq, bytes_eq-Decides, caret_from, compared, digits_grow, first, from, has_leading_zero}
+use Rattle.nodejs_semver.proofs.{NpmCommon.{made, major, next_changed, partial_of, take_while, under, whole, wildcard}, Reading.Numbers.digits-taken}
+use Rattle.nodejs_semver.specs.{Internal.NpmParts.{AreZeros, is_padded, is_wildcard}, Npm.{Grammar.IsPreRelease, Table.{Partial, Sign, as_written}}}
+use Rattle.nodejs_semver.specs.{Npm.Table.{caret, next, no_build, table, tilde, written_zeros, zeros}, Text.WordText.equal}
+use Rattle.std.proofs.lemmas.{Bool.le-ltb, List.drop-drop}
 use Rattle.nodejs_semver.specs.Npm.RangeText as Text
 
 -- ---- the text
@@ -23,20 +22,10 @@ zero_at text = bytes_eq (take_while is_ascii_digit text) (codes "0")
 abbrev counted : Bool → Bool → Bool → ℕ
 counted a b c = if a then (if b then (if c then 3 else 2) else 1) else 0
 
-drop_four : (text : List ℕ) → drop 2 (drop 2 text) ≡ drop 4 text
-drop_four [] = refl
-drop_four (a ∷ []) = refl
-drop_four (a ∷ b ∷ []) = refl
-drop_four (a ∷ b ∷ c ∷ []) = refl
-drop_four (a ∷ b ∷ c ∷ d ∷ text) = refl
-
 pub zeros_counted : (text numbers : List ℕ) → numbers ≡ drop (prefix_len no_digit text) text
     → written_zeros text ≡ counted (zero_at numbers) (zero_at (drop 2 numbers)) (zero_at (drop 2 (drop 2 numbers)))
 unfolding written_zeros
-zeros_counted text numbers e = rw (← e, drop_four numbers) (go (zero_at numbers) (zero_at (drop 2 numbers)) (zero_at (drop 4 numbers)))
-  where
-    go : (a b c : Bool) → (if a then 1 + (if b then 1 + (if c then 1 + 0 else 0) else 0) else 0) ≡ counted a b c
-    go a b c = grind (arith, nat_tests)
+zeros_counted text numbers e = rw (← e, drop-drop 2 2 numbers) (grind (arith, nat_tests))
 
 -- the same, as it is cut out
 pub zeros_taken : (text numbers : List ℕ) (at : ℕ) → at ≡ prefix_len no_digit text → numbers ≡ take (length text - at) (drop at text)
@@ -81,12 +70,7 @@ behind-quiet : (wild : Bool) (fits : List ℕ → Bool) (pre build : List ℕ) (
 behind-quiet wild fits pre build l m h k = grind (arith, nat_tests, common_steps)
 
 place-first : (x more : List ℕ) (n : ℕ) → IsPlace false x (Some n) → drop (prefix_len no_digit (x ++ more)) (x ++ more) ≡ x ++ more
-place-first x more n (Text.number digits m k spelled short) = go digits k.some k.each
-  where
-    go : (digits : List ℕ) → 0 < length digits → list_all is_ascii_digit digits ≡ true
-        → drop (prefix_len no_digit (digits ++ more)) (digits ++ more) ≡ digits ++ more
-    go [] h k = absurd (omega (arith, h))
-    go (b ∷ digits) h k = grind (arith, nat_tests, common_steps, and_parts)
+place-first x more n (Text.number digits m k spelled short) = grind (arith, nat_tests, common_steps, and_parts, k.some, k.each)
 
 -- the zeros of the places behind a number
 zeros-behind : (x rest : List ℕ) (n : ℕ) → IsPlace false x (Some n) → begins is_ascii_digit rest ≡ false
@@ -96,7 +80,7 @@ zeros-behind x rest n h stop =
       | inr some ↦ rw (zero-place x rest (Some n) h stop, some) refl
       | inl zero ↦
           let e : x ≡ codes "0" = zero-alone x n h zero in
-          rw (zero-place x rest (Some n) h stop, zero, e, drop_four (48 ∷ rest)) refl
+          rw (zero-place x rest (Some n) h stop, zero, e, drop-drop 2 2 (48 ∷ rest)) refl
     ]
 
 zeros_of : Option ℕ → Option ℕ → Option ℕ → ℕ
@@ -120,17 +104,13 @@ zeros-dotted x y rest n b c h k stop f =
 
 zeros-partial : (n : ℕ) (b c : Option ℕ) (l m : List Id) → zeros_of (Some n) b c ≡ zeros (partial_of (Some n) b c l m)
 unfolding zeros_of
-zeros-partial n None c l m = grind (arith, nat_tests)
-zeros-partial n (Some k) None l m = grind (arith, nat_tests)
-zeros-partial n (Some k) (Some j) l m = grind (arith, nat_tests)
+zeros-partial n b c l m = grind (arith, nat_tests)
 
 zeros-strict : (x : List ℕ) (p : Partial) → IsPlaces false x p → AreZeros p (zeros p) x
 zeros-strict x p (Text.one x1 None h) w = cc w
 zeros-strict x p (Text.one x1 (Some n) h) w =
-    zeros-partial' n ∙ sym (subst (λ (t : List ℕ). written_zeros t ≡ counted (n == 0) false false) (append-nil x1) (zeros-behind x1 [] n h refl))
-  where
-    zeros-partial' : (n : ℕ) → zeros (major n) ≡ counted (n == 0) false false
-    zeros-partial' n = grind (arith, nat_tests)
+    let here : zeros (major n) ≡ counted (n == 0) false false = grind (arith, nat_tests) in
+    here ∙ sym (rw append-nil at (zeros-behind x1 [] n h refl))
 zeros-strict x p (Text.two x1 y None b h k) w = cc w
 zeros-strict x p (Text.two x1 y (Some n) b h k) w =
     sym (subst (λ (t : List ℕ). written_zeros (x1 ++ (46 ∷ t)) ≡ zeros (partial_of (Some n) b None [] [])) (append-nil y)
@@ -148,10 +128,7 @@ pub padded-same : (text : List ℕ) (p : Partial) (z : ℕ) → AreZeros p z tex
 padded-same text p z e = grind (arith, nat_tests)
 
 self-padded : (p : Partial) → is_padded (zeros p) p ≡ false
-self-padded p = below (zeros p)
-  where
-    below : (n : ℕ) → nat_lt n n ≡ false
-    below n = grind (arith, nat_tests)
+self-padded p = le-ltb (zeros p) (zeros p) (omega arith)
 
 pub strict-unpadded : (text : List ℕ) (p : Partial) → IsPartial false text p → false ≡ is_padded (written_zeros text) p
 strict-unpadded text p h = sym (self-padded p) ∙ padded-same text p (zeros p) (strict-zeros text p h)
@@ -185,9 +162,6 @@ changed-plain p w = grind (arith, nat_tests, common_steps)
 from-plain : (include : Bool) (v : VersionValue) → caret_from include (zeros (whole v)) v ≡ plain_from include v
 from-plain include v = grind (arith, nat_tests, common_steps, as-plain)
 
-module _ (include : Bool) (text : List ℕ) where
-  pub rows-plain : (s : Sign) (p : Partial) → AreZeros p (zeros p) text → table include s p text ≡ plain_table include s p text
-  rows-plain s p h = grind (arith, nat_tests, common_steps, as-plain, changed-plain, from-plain)
-
-  pub table-plain : (s : Sign) (p : Partial) → IsPartial false text p → table include s p text ≡ plain_table include s p text
-  table-plain s p h = rows-plain s p (strict-zeros text p h)
+pub rows-plain : (include : Bool) (text : List ℕ) (s : Sign) (p : Partial) → AreZeros p (zeros p) text
+    → table include s p text ≡ plain_table include s p text
+rows-plain include text s p h = grind (arith, nat_tests, common_steps, as-plain, changed-plain, from-plain)

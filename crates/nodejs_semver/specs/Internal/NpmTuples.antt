@@ -6,13 +6,11 @@ use Rattle.std.specs.List.{prefix_len}
 use Rattle.semver_core.specs.Internal.Reading.{◌>>?◌}
 use Rattle.semver_core.specs.Text.Characters.{begins, ends}
 use Rattle.semver_core.specs.Text.Identifiers.{Id, listed}
-use Rattle.semver_core.specs.Text.Numbers.{IsNumber}
 use Rattle.semver_core.specs.Values.Versions.{VersionValue, release_value}
-use Rattle.semver_core.specs.declared.TheConstants.{MAX_LENGTH, MAX_SAFE_INTEGER}
+use Rattle.semver_core.specs.declared.TheConstants.{MAX_LENGTH}
 use Rattle.nodejs_semver.specs.Internal.Fronts.{Front, number_front}
 use Rattle.nodejs_semver.specs.Internal.NpmReadings.{strict_number}
 use Rattle.nodejs_semver.specs.Npm.Coerced.{begins_identifier_in, goes_on_in}
-use Rattle.nodejs_semver.specs.Npm.Grammar.{IsStrictNumber}
 use Rattle.nodejs_semver.specs.declared.npm.coerced.Stretch.{Stretch}
 
 -- how long the run at the front is, and 0 where none stands there
@@ -89,10 +87,6 @@ pub record IsLastPlace (included : Bool) (text : List ℕ) (at : ℕ) : Type 0 w
 -- a number, with leading zeros or only without
 abbrev pub number_in_reading : Bool → ℕ → List ℕ → Front ℕ
 number_in_reading zeros limit text = if zeros then number_front limit text else strict_number limit text
-
-abbrev pub IsNumberIn : Bool → List ℕ → ℕ → Type 0
-IsNumberIn true = IsNumber MAX_SAFE_INTEGER
-IsNumberIn false = IsStrictNumber MAX_SAFE_INTEGER
 
 -- the number behind a dot, and 0 where no dot stands
 abbrev pub next_number : Bool → ℕ → List ℕ → Front ℕ

@@ -1,26 +1,31 @@
 -- For proofs and private contracts. What node-semver's readings, strict or loose, find in a range text, as functions.
 -- Numbers have any value; `limited` leaves out what has a number past the limit that counts.
-use Rattle.std.specs.Prelude.{◌==◌, ◌&&◌, ◌||◌, not, nat_le, nat_lt, ℕ, zero, suc, Bool, true, false, List, [], ◌∷◌, ◌++◌, ◌-◌, is_none, length, take, drop, Option, Some, None, if◌then◌else◌, take_while}
+use Rattle.std.specs.Prelude.{◌≡◌, codes, ◌==◌, ◌&&◌, ◌||◌, not, nat_le, nat_lt, ℕ, zero, suc, Bool, true, false, List, [], ◌∷◌, ◌++◌, ◌-◌, is_none, length, take, drop, Option, Some, None, if◌then◌else◌, take_while}
 use Rattle.std.specs.Char.{is_ascii_digit}
 use Rattle.std.specs.List.{list_all, prefix_len}
+use Rattle.std.specs.Str.{bytes_eq}
 use Rattle.std.specs.Str.Parse.{digits_value}
 use Rattle.semver_core.specs.Internal.Reading.{◌>>?◌}
 use Rattle.semver_core.specs.Internal.Spaces.{drop_spaces, space_len}
 use Rattle.semver_core.specs.Lists.{is_empty}
 use Rattle.semver_core.specs.Text.Identifiers.{Id, listed, pieces}
-use Rattle.semver_core.specs.Values.Versions.{is_release}
+use Rattle.semver_core.specs.Values.Versions.{VersionValue, is_release}
 use Rattle.nodejs_semver.specs.Internal.Fronts.{Front, after_byte, begins_byte, begins_identifier, begins_wildcard, build_front, marked_list}
 use Rattle.nodejs_semver.specs.Internal.NpmReadings.{dashed_front}
 use Rattle.nodejs_semver.specs.Internal.Parts.{parts}
 use Rattle.nodejs_semver.specs.Internal.Words.{after_some_space, from_boundary, is_boundary}
 use Rattle.nodejs_semver.specs.Npm.Malformed.{is_mark, takes}
-use Rattle.nodejs_semver.specs.Npm.RangeText.{are_marks, are_whole_marks, comparators_of, end_sign, is_free, is_lost, is_short, is_short_identifier, last_marks, partial_of}
+use Rattle.nodejs_semver.specs.Npm.RangeText.{IsPlaces, are_marks, comparators_of, end_sign, is_lost, is_short, is_short_identifier, last_marks, partial_of}
 use Rattle.nodejs_semver.specs.Npm.Grammar.{begins_undashed, has_leading_zero, is_strict_list}
 use Rattle.nodejs_semver.specs.Npm.Ranges.{is_valid}
 use Rattle.nodejs_semver.specs.Npm.Table.{Comparison, Partial, Sign, caret, compared, hyphen_lower, hyphen_upper, major, minor, table, tilde, whole, wildcard}
 use Rattle.nodejs_semver.specs.Text.WordText.{Comparator, above, at_least, at_most, below, equal}
 
 -- ---- partials
+
+-- a partial that is short enough
+abbrev pub IsPartial : Bool → List ℕ → Partial → Type 0
+IsPartial loose text p = IsPlaces loose text p × (is_short loose text ≡ true)
 
 -- a number has no leading zeros; loosely it may have some
 abbrev pub is_spelled : Bool → List ℕ → Bool
@@ -368,7 +373,14 @@ abbrev pub counted_hyphen : Bool → ℕ → List ℕ → Option (CountedEnd × 
 counted_hyphen loose limit text = counted_end loose limit text >>? λ a. after_dash a.1 >>? λ second.
     last_counted loose limit second >>? λ b. Some (a.0, b)
 
--- any marks may stand before such an end of a hyphen range
+-- any marks may stand before an end of a hyphen range: one of a partial version, or a whole one of which this is true
+abbrev pub is_free : (VersionValue → Bool) → Partial → Bool
+is_free changes p = elim p [ whole v ↦ changes v | _ ↦ true ]
+
+-- before another stands one `v` at most
+abbrev pub are_whole_marks : List ℕ → Bool
+are_whole_marks marks = is_empty marks || bytes_eq marks (codes "v")
+
 abbrev pub is_free_lower : Partial → Bool
 is_free_lower p = is_free (λ v. false) p
 

@@ -8,7 +8,7 @@ use Rattle.semver_core.specs.Text.Characters.{IsBlank, IsTrim}
 use Rattle.semver_core.specs.Values.Order.{precedence, version_eq}
 use Rattle.semver_core.specs.Values.Versions.{VersionValue, is_release, release_value}
 use Rattle.semver_core.specs.declared.cuts.bound.Bound.TheVariants.{Unbounded}
-use Rattle.nodejs_semver.specs.Npm.RangeText.{IsPartial, partial_of, spelling}
+use Rattle.nodejs_semver.specs.Npm.RangeText.{IsPlaces, partial_of, spelling}
 use Rattle.nodejs_semver.specs.Npm.Ranges.{is_valid}
 use Rattle.nodejs_semver.specs.Npm.Table as Npm
 use Rattle.nodejs_semver.specs.Npm.Table.{Comparison, Sign, compared, counts, hyphen_lower, hyphen_upper}
@@ -36,7 +36,7 @@ pub record IsPlainPartial (limit : ℕ) (pre : Bool) (text : List ℕ) (p : Part
   pub rest : List ℕ
   pub marked : (text ≡ rest) ⊎ (text ≡ codes "v" ++ rest)
   pub here : AreComponents limit rest p
-  pub npm : IsPartial false rest (npm_partial p)
+  pub npm : IsPlaces false rest (npm_partial p)
   pub plain : is_plain pre p ≡ true
 
 -- the word of a sign

@@ -1,13 +1,17 @@
 -- Statement: the version that node-semver's `coerce` finds in any text, without its pre-release or with it.
+-- Left out are three faults of node-semver where it is found with its pre-release: it cuts an identifier that begins
+-- with digits, as in `1.2.3-1a`, and one of a build behind 250 characters; and from the right it takes numbers inside a
+-- pre-release or a build, unless the text ends with these.
 use Rattle.std.specs.Prelude.{◌≡◌, ◌==◌, ◌&&◌, ◌||◌, ◌<◌, ◌≤◌, not, ℕ, Bool, true, false, List, [], ◌∷◌, ◌++◌, codes}
 use Rattle.std.specs.Prelude.{drop, length, map, take_while}
 use Rattle.std.specs.Char.{is_ascii_digit}
 use Rattle.std.specs.List.{list_all}
 use Rattle.semver_core.specs.Text.Characters.{begins, ends, is_identifier_char}
 use Rattle.semver_core.specs.Text.Identifiers.{Id, identifier_of, is_identifier, pieces}
+use Rattle.semver_core.specs.Text.Numbers.{IsNumber}
 use Rattle.semver_core.specs.Values.Versions.{VersionValue, release_value}
-use Rattle.semver_core.specs.declared.TheConstants.{MAX_LENGTH}
-use Rattle.nodejs_semver.specs.Npm.Grammar.{has_leading_zero}
+use Rattle.semver_core.specs.declared.TheConstants.{MAX_LENGTH, MAX_SAFE_INTEGER}
+use Rattle.nodejs_semver.specs.Npm.Grammar.{IsStrictNumber, has_leading_zero}
 
 -- 1 to 16 digits
 pub record IsRun (text : List ℕ) : Type 0 where
@@ -72,6 +76,10 @@ pub record IsLeftmost (included : Bool) (text front whole back : List ℕ) : Typ
 pub record IsRightmost (included : Bool) (text front whole back : List ℕ) : Type 0 where
   pub last : (x y z : List ℕ) → IsContinuedIn included text x y z → length back ≤ length z
   pub longest : (x y z : List ℕ) → IsContinuedIn included text x y z → length z ≡ length back → length y ≤ length whole
+
+-- a number up to the limit; loosely it may have leading zeros
+abbrev pub IsNumberIn : Bool → List ℕ → ℕ → Type 0
+IsNumberIn loose = elim loose [ false ↦ IsStrictNumber MAX_SAFE_INTEGER | true ↦ IsNumber MAX_SAFE_INTEGER ]
 
 -- the release of these numbers, with 0 for each that is absent
 pub data IsRelease (Number : List ℕ → ℕ → Type 0) : List (List ℕ) → VersionValue → Type 0 where

@@ -12,9 +12,8 @@ abbrev pub has_leading_zero : List ℕ → Bool
 has_leading_zero text = elim text [ c ∷ (d ∷ rest) ↦ c == 48 | _ ↦ false ]
 
 -- a number up to the limit, without leading zeros (nr)
-pub record IsStrictNumber (limit : ℕ) (digits : List ℕ) (n : ℕ) : Type 0 where
-  pub number : IsNumber limit digits n
-  pub shortest : has_leading_zero digits ≡ false
+abbrev pub IsStrictNumber : ℕ → List ℕ → ℕ → Type 0
+IsStrictNumber limit digits n = IsNumber limit digits n × (has_leading_zero digits ≡ false)
 
 -- the identifiers of a strict pre-release: one that is digits alone has no leading zero
 abbrev pub is_strict_list : List ℕ → Bool

@@ -9,8 +9,9 @@ use Rattle.nodejs_semver.specs.Text.WordText.{IsFirstBoundary, SkipsBlank}
 
 -- a word of valid comparators is at the front of the text, and this behind it
 pub record IsRightWord (limit : ℕ) (include : Bool) (text behind : List ℕ) : Type 0 where
+  pub partial : List ℕ
   pub comparators : List Comparison
-  pub is : BeginsWord false include text behind comparators
+  pub is : BeginsWord false include text partial behind comparators
   pub valid : list_all (is_valid limit) comparators ≡ true
 
 -- this is left of a text behind some such words, and the whitespace behind each

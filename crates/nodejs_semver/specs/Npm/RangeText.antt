@@ -35,10 +35,9 @@ pub data IsPlace (loose : Bool) : List ℕ → Option ℕ → Type 0 where
 
 -- the partial of its places
 abbrev pub partial_of : Option ℕ → Option ℕ → Option ℕ → List Id → List Id → Partial
-partial_of (Some M) (Some m) (Some p) i j = whole (record { major = M; minor = m; patch = p; pre_release = i; build = j })
-partial_of (Some M) (Some m) None i j = minor M m
-partial_of (Some M) None c i j = major M
 partial_of None b c i j = wildcard
+partial_of (Some M) None c i j = major M
+partial_of (Some M) (Some m) c i j = elim c [ None ↦ minor M m | Some p ↦ whole (record { major = M; minor = m; patch = p; pre_release = i; build = j }) ]
 
 -- one to three places joined by dots (partial), and behind the third a pre-release and build metadata (qualifier), or
 -- nothing
@@ -54,15 +53,11 @@ pub data IsPlaces (loose : Bool) : List ℕ → Partial → Type 0 where
 abbrev pub is_short : Bool → List ℕ → Bool
 is_short loose text = not loose || nat_le (prefix_len (λ b. not (b == 43)) text) 250
 
-abbrev pub IsPartial : Bool → List ℕ → Partial → Type 0
-IsPartial loose text p = IsPlaces loose text p × (is_short loose text ≡ true)
-
 -- ---- words
 
 abbrev pub spelling : Sign → List ℕ
 spelling (compared c) = elim c [ at_least ↦ codes ">=" | above ↦ codes ">" | equal ↦ codes "=" | at_most ↦ codes "<=" | below ↦ codes "<" ]
-spelling caret = codes "^"
-spelling tilde = codes "~"
+spelling s = elim s [ caret ↦ codes "^" | _ ↦ codes "~" ]
 
 -- the sign of a word (of primitive, tilde and caret), with the whitespace behind it. A `=` behind `>` or `<` belongs to the sign,
 -- whitespace between them or not; `^` may have a `=` behind it, `~` one of `>`, `>=` and `=`, and `~>` one
@@ -78,13 +73,10 @@ pub data IsSignText : List ℕ → Sign → Type 0 where
   tilde_twice : (c : Comparator) (x y : List ℕ) → IsBlank x → 0 < length x → IsBlank y → (c ≡ above) ⊎ (c ≡ at_least)
       → IsSignText (codes "~>" ++ (x ++ (spelling (compared c) ++ y))) tilde
 
--- the marks before a whole version that is compared: strictly one `v` at most
-abbrev pub are_whole_marks : List ℕ → Bool
-are_whole_marks marks = is_empty marks || bytes_eq marks (codes "v")
-
--- the marks that may stand between a sign and a partial: loosely any
+-- the marks that may stand between a sign and a partial: loosely any, strictly one `v` at most before a whole version that is
+-- compared
 abbrev pub are_marks : Bool → Sign → Partial → List ℕ → Bool
-are_marks false (compared c) (whole v) marks = are_whole_marks marks
+are_marks false (compared c) (whole v) marks = is_empty marks || bytes_eq marks (codes "v")
 are_marks loose s p marks = list_all is_mark marks
 
 -- a word (simple), with the text of its partial: a sign, marks and the partial. Without a sign, and behind `>` and `<`, the
@@ -94,24 +86,19 @@ pub data IsWord (loose include : Bool) : List ℕ → List ℕ → List Comparis
       → ((is_empty signs || list_all (λ b. b == 60 || b == 62) (spelling s)) && begins (λ b. b == 61) marks) ≡ false
       → IsPlaces loose text p → IsWord loose include (signs ++ (marks ++ text)) text (table include s p (marks ++ text))
 
--- a word is at the front of the text, up to whitespace or the end, and this behind it
-pub record BeginsWord (loose include : Bool) (text behind : List ℕ) (cs : List Comparison) : Type 0 where
-  pub word : List ℕ
-  pub partial : List ℕ
-  pub divided : text ≡ word ++ behind
-  pub is : IsWord loose include word partial cs
-  pub ended : IsBoundary behind
+-- a word of this partial is at the front of the text, up to whitespace or the end, and this behind it
+abbrev pub BeginsWord : Bool → Bool → List ℕ → List ℕ → List ℕ → List Comparison → Type 0
+BeginsWord loose include text partial behind cs = (word : List ℕ) × (text ≡ word ++ behind) × IsWord loose include word partial cs × IsBoundary behind
 
 -- ---- alternatives
 
 -- the first word, with its comparators, and this behind it and its whitespace. Where no word is, a malformed one is ignored
 -- loosely.
 pub data BeginsAs (loose include : Bool) (text rest : List ℕ) : Option (List Comparison) → Type 0 where
-  formed : (behind : List ℕ) (cs : List Comparison) (w : BeginsWord loose include text behind cs) → is_short loose w.partial ≡ true
+  formed : (partial behind : List ℕ) (cs : List Comparison) → BeginsWord loose include text partial behind cs → is_short loose partial ≡ true
       → SkipsBlank behind rest → BeginsAs loose include text rest (Some cs)
-  ignored : (behind : List ℕ) → loose ≡ true → is_empty text ≡ false
-      → ((behind : List ℕ) → NoValue (BeginsWord loose include text behind)) → IsIgnored text behind → SkipsBlank behind rest
-      → BeginsAs loose include text rest None
+  ignored : (behind : List ℕ) → loose ≡ true → is_empty text ≡ false → ((p r : List ℕ) → NoValue (BeginsWord loose include text p r))
+      → IsIgnored text behind → SkipsBlank behind rest → BeginsAs loose include text rest None
 
 -- words with whitespace between them
 pub data AreWords (loose include : Bool) : List ℕ → List (Option (List Comparison)) → Type 0 where
@@ -140,16 +127,16 @@ pub record IsEnd (loose : Bool) (text behind : List ℕ) : Type 0 where
   pub are : AreMarks marks
   pub is : IsPlaces loose places partial
 
+-- whitespace, `-` and whitespace are at the front of the text, and this behind them
+abbrev pub SkipsDash : List ℕ → List ℕ → Type 0
+SkipsDash text rest = (after : List ℕ) × BeginsBlank text × SkipsBlank text (codes "-" ++ after) × BeginsBlank after × SkipsBlank after rest
+
 -- the text is a hyphen range (hyphen): two ends with ` - ` between them
 pub record IsHyphen (loose : Bool) (text : List ℕ) : Type 0 where
   pub before : List ℕ
-  pub after : List ℕ
   pub second : List ℕ
   pub lower : IsEnd loose text before
-  pub blank : BeginsBlank before
-  pub dash : SkipsBlank before (codes "-" ++ after)
-  pub gap : BeginsBlank after
-  pub skipped : SkipsBlank after second
+  pub dash : SkipsDash before second
   pub upper : IsEnd loose second []
 
 -- the marks behind the last whitespace among them. Where they are not all, the end is compared by `=`, as a word is that
@@ -162,19 +149,15 @@ end_sign c marks = if list_all is_mark marks then c else equal
 
 -- any marks may stand loosely, before a partial version, and before a whole one of which this is true, that it is written
 -- anew; before another whole version stand marks as where it is compared
-abbrev pub is_free : (VersionValue → Bool) → Partial → Bool
-is_free changes p = elim p [ whole v ↦ changes v | _ ↦ true ]
-
 abbrev pub is_right_end : Bool → (VersionValue → Bool) → Partial → List ℕ → List ℕ → Bool
-is_right_end loose changes p marks places = is_short loose places && (loose || (is_free changes p || are_whole_marks marks))
+is_right_end loose changes p marks places = is_short loose places && (loose || elim p [ whole v ↦ changes v || are_marks false (compared equal) (whole v) marks | _ ↦ true ])
 
 -- an alternative (range): a hyphen range, or words, of which none may be left
 pub data IsAlternative (loose include : Bool) : List ℕ → Bool → List Comparison → Type 0 where
   hyphen : (text : List ℕ) (h : IsHyphen loose text)
       → is_right_end loose (λ v. false) h.lower.partial h.lower.marks h.lower.places ≡ true
       → is_right_end loose (λ v. include || not (is_release v)) h.upper.partial h.upper.marks h.upper.places ≡ true
-      → IsAlternative loose include text false
-      (hyphen_lower (end_sign at_least h.lower.marks) include h.lower.partial (last_marks h.lower.marks ++ h.lower.places)
+      → IsAlternative loose include text false (hyphen_lower (end_sign at_least h.lower.marks) include h.lower.partial (last_marks h.lower.marks ++ h.lower.places)
       ++ hyphen_upper (end_sign at_most h.upper.marks) include h.upper.partial (last_marks h.upper.marks ++ h.upper.places))
   words : (text : List ℕ) (read : List (Option (List Comparison))) → (IsHyphen loose text → ⊥) → AreWords loose include text read
       → IsAlternative loose include text (is_lost read) (comparators_of read)

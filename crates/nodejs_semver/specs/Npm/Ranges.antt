@@ -20,8 +20,7 @@ is_valid max c = let v = c.version in nat_le v.major max && nat_le v.minor max &
 
 -- the text has these alternatives, one or more, each a list of comparators. A text that has none is
 -- rejected. `loose` says whether it is read by node-semver's option of this name.
-pub record HasAlternativesIn (loose : Bool) (limit : ℕ) (include : Bool) (text : List ℕ)
-    (alternatives : List (List Comparison)) : Type 0 where
+pub record HasAlternativesIn (loose : Bool) (limit : ℕ) (include : Bool) (text : List ℕ) (alternatives : List (List Comparison)) : Type 0 where
   pub parts : List (List ℕ)
   pub divided : IsCutAtBars text parts
   pub each : AreAlternatives loose include parts alternatives

@@ -101,8 +101,7 @@ table include (compared at_most) p text = under (next p) ∷ []
 -- `-0` as a text, which belongs to the build where there is one.
 abbrev pub hyphen_lower : Comparator → Bool → Partial → List ℕ → List Comparison
 hyphen_lower c include (whole v) text = if include && is_release v
-    then record { sign = c; version = if is_empty v.build then lowest (first (whole v)) else v; text = text ++ codes "-0" } ∷ []
-    else table include (compared c) (whole v) text
+    then record { sign = c; version = if is_empty v.build then lowest (first (whole v)) else v; text = text ++ codes "-0" } ∷ [] else table include (compared c) (whole v) text
 hyphen_lower c include p text = table include (compared at_least) p text
 
 abbrev pub hyphen_upper : Comparator → Bool → Partial → List ℕ → List Comparison

@@ -3,12 +3,13 @@
 ghost use Rattle.std.specs.Prelude.{◌==◌, ◌||◌, ◌≡◌, Bool, IsUtf8};
 ghost use Rattle.nodejs_semver.specs.Words.{Comparison, HasAlternativesIn, is_identifier_char};
 ghost use Rattle.nodejs_semver.specs.Words.{IsVersionText, List, list_all, MAX_SAFE_INTEGER};
+ghost use Rattle.nodejs_semver.specs.Npm.Coerced.{IsCoerced, IsLeftmost, IsNumberIn, IsRightmost};
 ghost use Rattle.nodejs_semver.specs.Words.{no_build, true, version_text, VersionValue, ℕ};
 
 /// In node-semver's strict reading a text is one version at most, and what this version prints
 /// without its build is a text that is the same version without its build, of letters, digits,
 /// hyphens, dots and plus signs. A range text has one list of alternatives at most, strictly and
-/// loosely.
+/// loosely. In any text at most one version is found from the left, and one from the right.
 ///
 /// A caller that needs these facts in a proof calls this function, which does nothing at run time.
 pub fn npm_reads_once()
@@ -23,4 +24,10 @@ pub fn npm_reads_once()
         (a b : List (List Comparison)) → IsUtf8 text
         → HasAlternativesIn loose limit include text a
         → HasAlternativesIn loose limit include text b → a ≡ b }
+    ensures leftmost { (included loose : Bool) (text : List ℕ) (v w : VersionValue)
+        → IsCoerced included IsLeftmost (IsNumberIn loose) text v
+        → IsCoerced included IsLeftmost (IsNumberIn loose) text w → v ≡ w }
+    ensures rightmost { (included loose : Bool) (text : List ℕ) (v w : VersionValue)
+        → IsCoerced included IsRightmost (IsNumberIn loose) text v
+        → IsCoerced included IsRightmost (IsNumberIn loose) text w → v ≡ w }
 {}

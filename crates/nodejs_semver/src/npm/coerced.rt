@@ -5,8 +5,8 @@ ghost use Rattle.nodejs_semver.specs.Words.{IfNone, IfSome, IsNumber, MAX_SAFE_I
 ghost use Rattle.nodejs_semver.specs.Words.{begins, front_view, is_ascii_digit, is_listed, length};
 ghost use Rattle.nodejs_semver.specs.Words.{pair_view, true, Bool, List, ℕ};
 ghost use Rattle.nodejs_semver.specs.Internal.NpmTuples.{BeginsAfter, IsFirstPlace, IsLastPlace};
-ghost use Rattle.nodejs_semver.specs.Internal.NpmTuples.{IsNumberIn, IsStretch};
-ghost use Rattle.nodejs_semver.specs.Npm.Coerced.{IsCoerced, IsLeftmost, IsRightmost};
+ghost use Rattle.nodejs_semver.specs.Internal.NpmTuples.{IsStretch};
+ghost use Rattle.nodejs_semver.specs.Npm.Coerced.{IsCoerced, IsLeftmost, IsNumberIn, IsRightmost};
 ghost use Rattle.nodejs_semver.specs.Npm.Coerced.{begins_identifier_in, goes_on_in};
 ghost use Rattle.nodejs_semver.specs.Npm.Grammar.{IsStrictNumber};
 ghost use Rattle.semver_core.specs.Text.Characters.{ends};

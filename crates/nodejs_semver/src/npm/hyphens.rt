@@ -104,7 +104,7 @@ impl<'a> End<'a> {
     // Whether its marks may stand before this partial.
     fn are_right(&self, loose: bool, side: Side, partial: &Partial<'_>) -> bool
         ensures { result ≡ (loose || (is_free_end side (npm_partial_view partial.now)
-            || Text.are_whole_marks self.now.marks.now)) }
+            || Spec.are_whole_marks self.now.marks.now)) }
     {
         loose || is_free(side, partial) || matches!(self.marks, [] | [b'v'])
     }

@@ -1,34 +1,20 @@
 // The malformed words of range texts that node-semver's loose reading ignores: how far they go.
 
-ghost use Rattle.std.specs.Prelude.{◌≡◌};
+ghost use Rattle.std.specs.Prelude.{◌≡◌, ◌&&◌, ◌==◌, drop, not};
+ghost use Rattle.std.specs.Char.{is_ascii_graphic};
 ghost use Rattle.nodejs_semver.specs.Internal.NpmWords.{behind_ignored};
 ghost use Rattle.nodejs_semver.specs.Npm.Malformed as Text;
-ghost use Rattle.nodejs_semver.specs.Words.{length};
+ghost use Rattle.nodejs_semver.specs.Words.{begins, length};
 
 use crate::npm::words::marks_len;
 use crate::readers::{skip_spaces, skip_to_boundary};
 
-// Whether a text ends in this character.
-fn ends_in(byte: u8, text: &[u8]) -> bool
-    ensures { result ≡ Text.ends_in byte text.now }
-{
-    matches!(text, [.., last] if *last == byte)
-}
-
-// The text without its last character.
-fn before_last(text: &[u8]) -> &[u8]
-    ensures { result.now ≡ Text.before_last text.now }
-{
-    &text[..text.len().saturating_sub(1)]
-}
-
-// Whether a text ends in a comparator.
+// Whether a text ends in a comparator: in `<`, `>`, or a `=` that stands behind no mark.
 fn ends_compared(text: &[u8]) -> bool
     ensures { result ≡ Text.ends_compared text.now }
 {
-    let before = before_last(text);
-    let is_behind_mark = ends_in(b'v', before) || ends_in(b'=', before);
-    ends_in(b'<', text) || ends_in(b'>', text) || ends_in(b'=', text) && !is_behind_mark
+    let is_behind_mark = text.ends_with(b"v=") || text.ends_with(b"==");
+    text.ends_with(b"<") || text.ends_with(b">") || text.ends_with(b"=") && !is_behind_mark
 }
 
 // Whether a number or a wildcard is at the front, or stands there behind marks.
@@ -43,7 +29,8 @@ fn begins_place(text: &[u8]) -> bool
 
 // Whether a `=` alone is at the front.
 fn begins_equal(text: &[u8]) -> bool
-    ensures { result ≡ Text.begins_equal text.now }
+    ensures { result ≡ (begins (λ b. b == 61) text.now
+        && not (begins is_ascii_graphic (drop 1 text.now))) }
 {
     match text {
         [b'=', next, ..] => !next.is_ascii_graphic(),
@@ -55,10 +42,9 @@ fn begins_equal(text: &[u8]) -> bool
 fn takes(piece: &[u8], rest: &[u8]) -> bool
     ensures { result ≡ Text.takes piece.now rest.now }
 {
-    let is_tilde = ends_in(b'>', piece) && ends_in(b'~', before_last(piece)) && !begins_equal(rest);
-    ends_in(b'^', piece)
-        || ends_in(b'~', piece)
-        || is_tilde
+    piece.ends_with(b"^")
+        || piece.ends_with(b"~")
+        || piece.ends_with(b"~>") && !begins_equal(rest)
         || ends_compared(piece) && begins_place(rest)
 }
 

@@ -1,5 +1,5 @@
-use Rattle.nodejs_semver.proofs.Common.{[], any_version, arith, common_steps, false, is_empty, length, list_any, rules, true, ◌∷◌, ◌≡◌}
-use Rattle.nodejs_semver.proofs.{NpmCommon.{is_unbounded, nothing}, Strict.RangeReads.{ranged_kept, ranged_list, ranged_none, ranged_one, ranged_open}}
+use Rattle.nodejs_semver.proofs.Common.{[], refl, any_version, arith, common_steps, false, is_empty, length, list_any, rules, true, ◌∷◌, ◌≡◌}
+use Rattle.nodejs_semver.proofs.{NpmCommon.{is_unbounded, nothing}, Strict.RangeReads.{ranged_list, ranged_one}}
 use Rattle.nodejs_semver.proofs.npm.alternatives.set_ranged.Goals as goal
 
 pub returns-then-len-eq1-clause-accepts : goal.returns-then-len-eq1-clause-accepts
@@ -12,7 +12,7 @@ returns-then-is_some_unbounded-clause-accepts c =
     let found = c.args.found.now.items in
     let some : list_any is_unbounded found ≡ true = first_of (search rules, grind (arith, common_steps)) in
     let one : c.one.result.items ≡ any_version = first_of (search rules, grind (arith, common_steps)) in
-    ranged_list found c.one.result.items (ranged_open found c.one.result.items some one)
+    ranged_list found c.one.result.items (rw some one)
 
 pub returns-then-is_empty-clause-accepts : goal.returns-then-is_empty-clause-accepts
 returns-then-is_empty-clause-accepts c =
@@ -20,10 +20,10 @@ returns-then-is_empty-clause-accepts c =
     let some : list_any is_unbounded found ≡ false = first_of (search rules, grind (arith, common_steps)) in
     let none : is_empty found ≡ true = first_of (search rules, grind (arith, common_steps)) in
     let one : c.one-then-is_empty.result.items ≡ nothing ∷ [] = first_of (search rules, grind (arith, common_steps)) in
-    ranged_list found c.one-then-is_empty.result.items (ranged_none found c.one-then-is_empty.result.items some none one)
+    ranged_list found c.one-then-is_empty.result.items (rw (some, none) one)
 
 pub returns-else-is_empty-clause-accepts : goal.returns-else-is_empty-clause-accepts
 returns-else-is_empty-clause-accepts c =
     let found = c.args.found.now.items in
     let some : list_any is_unbounded found ≡ false = first_of (search rules, grind (arith, common_steps)) in
-    let none : is_empty found ≡ false = first_of (search rules, grind (arith, common_steps)) in ranged_list found found (ranged_kept found some none)
+    let none : is_empty found ≡ false = first_of (search rules, grind (arith, common_steps)) in ranged_list found found (rw (some, none) refl)

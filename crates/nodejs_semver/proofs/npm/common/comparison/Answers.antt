@@ -3,7 +3,7 @@ use Rattle.nodejs_semver.proofs.npm.common.comparison.Goals as goal
 
 pub returns : goal.returns
 returns c =
-    word-found c.args.include c.args.text.now c.comparator_front-comparator.result.1.now c.in_ok-partial.rest.now
-    (compared (comparator_view c.comparator_front-comparator.result.0)) (npm_partial_view c.in_ok-partial.partial)
-    (bounds_view c.in_ok-bounds.bounds) c.comparator_front-comparator.ensures c.in_ok-partial.ensures
+    word-found c.comparator_front-comparator.result.1.now (npm_partial_view c.in_ok-partial.partial) c.in_ok-partial.rest.now c.in_ok-partial.ensures
+    c.args.include c.args.text.now (compared (comparator_view c.comparator_front-comparator.result.0)) (bounds_view c.in_ok-bounds.bounds)
+    c.comparator_front-comparator.ensures
     (c.in_ok-bounds.ensures (word-unpadded _ _ _ c.in_ok-partial.ensures))

@@ -1,4 +1,4 @@
-use Rattle.nodejs_semver.proofs.{Common.{ap, arith, on_err, rest_view, sym, ◌∙◌}, Strict.CommonReads.{loop-ends, loop-goes, loop-shorter}}
+use Rattle.nodejs_semver.proofs.{Common.{ap, arith, on_err, rest_view, sym, ◌∙◌}, Strict.CommonReads.{loop-ends, loop-goes}}
 use Rattle.nodejs_semver.proofs.npm.common.read_common.Goals as goal
 
 pub returns-then-is_empty-clause-read : goal.returns-then-is_empty-clause-read
@@ -8,9 +8,9 @@ returns-then-is_empty-clause-read c = λ _.
 
 pub parts-smaller : goal.parts-smaller
 parts-smaller c =
-    loop-shorter c.args.include c.parts.found.items c.push_part.new.found.items c.parts.rest.now c.in-Some.behind.now
-    c.in-Some-after_bars.next.now (rw (ap rest_view c.in-Some.is) at c.in_ok-behind.ensures.added)
-    (sym c.after_bars.ensures ∙ ap rest_view c.in-Some-after_bars.is)
+    (loop-goes c.args.include c.args.text.now c.parts.found.items c.push_part.new.found.items c.parts.rest.now c.in-Some.behind.now
+    c.in-Some-after_bars.next.now c.parts.invariant (rw (ap rest_view c.in-Some.is) at c.in_ok-behind.ensures.added)
+    (sym c.after_bars.ensures ∙ ap rest_view c.in-Some-after_bars.is)).2
 
 pub parts-preserved : goal.parts-preserved
 parts-preserved c = rw c.reserve_for.ensures

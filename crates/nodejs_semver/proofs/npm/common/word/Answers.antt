@@ -12,7 +12,7 @@ row_of_zeros-requires c =
 
 pub returns : goal.returns
 returns c =
-    word-found c.args.include c.args.text.now c.sign_front-sign.result.1.now c.in_ok-read.rest.now (npm_sign_view c.sign_front-sign.result.0)
-    (npm_partial_view c.in_ok-partial.partial) (bounds_view c.in_ok-bounds.bounds) c.sign_front-sign.ensures
-    (rw c.in_ok-partial.was at c.in_ok-read.ensures) (c.in_ok-bounds.ensures (word-zeros _ _ _ c.zeros.result
-    (rw c.in_ok-partial.was at c.in_ok-read.ensures) c.zeros.ensures))
+    let read = rw c.in_ok-partial.was at c.in_ok-read.ensures in
+    word-found c.sign_front-sign.result.1.now (npm_partial_view c.in_ok-partial.partial) c.in_ok-read.rest.now read
+    c.args.include c.args.text.now (npm_sign_view c.sign_front-sign.result.0) (bounds_view c.in_ok-bounds.bounds) c.sign_front-sign.ensures
+    (c.in_ok-bounds.ensures (word-zeros _ _ _ read c.zeros.result c.zeros.ensures))

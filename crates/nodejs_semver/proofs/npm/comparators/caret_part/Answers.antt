@@ -1,5 +1,5 @@
 use Rattle.nodejs_semver.proofs.{Common.{ap, ◌∙◌}, NpmCommon.{from, npm_partial_view, within}}
-use Rattle.nodejs_semver.{proofs.Strict.{Printed.from_valid, Rows.{noted_valid, part_caret, part_known}}, specs.Internal.NpmParts.noted}
+use Rattle.nodejs_semver.{proofs.Strict.{Printed.from_valid, Rows.{noted_valid, part_caret}}, specs.Internal.NpmParts.noted}
 use Rattle.nodejs_semver.proofs.npm.comparators.caret_part.Goals as goal
 
 pub returns : goal.returns
@@ -7,8 +7,7 @@ returns c text e =
     let include = c.args.include in
     let n = c.first.result in
     let padded = c.is_padded.result in
-    let p = npm_partial_view c.args.partial.now in
-    part_caret include padded text n c.next_changed.result c.until.result c.args.zeros p c.requires.part (e (part_known p c.requires.part))
-    c.is_padded.ensures c.first.ensures c.next_changed.ensures
+    part_caret include padded text (npm_partial_view c.args.partial.now) n c.next_changed.result c.until.result c.requires.part
+    c.first.ensures c.args.zeros e c.is_padded.ensures c.next_changed.ensures
     (c.until.ensures include (noted padded (from include n))
     (noted_valid padded (from include n) ∙ from_valid include n ∙ ap within c.first.ensures ∙ c.requires.within) c.from_numbers.ensures)

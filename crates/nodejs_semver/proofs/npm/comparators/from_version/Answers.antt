@@ -1,15 +1,14 @@
-use Rattle.nodejs_semver.proofs.{Common.{sym, ◌∙◌}, Strict.Rows.{from_included, from_none, from_padded, from_some}}
+use Rattle.nodejs_semver.proofs.{Common.{inl, inr, sym, ◌∙◌}, Strict.Rows.{from_none, from_some}}
 use Rattle.nodejs_semver.proofs.npm.comparators.from_version.Goals.{then-include-via-else-include+then-padded}
 use Rattle.nodejs_semver.proofs.npm.comparators.from_version.Goals.{then-include-via-then-include}
 use Rattle.nodejs_semver.proofs.npm.comparators.from_version.Goals as goal
 
 pub returns-then-include : goal.returns-then-include
-returns-then-include c = rw c.copy.ensures elim c.then-include.branch [
-  | then-include-via-then-include w ↦
-      from_included c.args.include c.args.padded c.args.version.now c.requires.within c.requires.normal w.if-include.true
-  | then-include-via-else-include+then-padded w ↦
-      from_padded c.args.include c.args.padded c.args.version.now c.requires.within c.requires.normal w.if-padded.true
-]
+returns-then-include c =
+    rw c.copy.ensures (from_some c.args.include c.args.padded c.args.version.now c.requires.within c.requires.normal elim c.then-include.branch [
+      | then-include-via-then-include w ↦ inl w.if-include.true
+      | then-include-via-else-include+then-padded w ↦ inr (inl w.if-padded.true)
+    ])
 
 pub returns-then-is_zero : goal.returns-then-is_zero
 returns-then-is_zero c =
@@ -19,4 +18,4 @@ returns-then-is_zero c =
 pub returns : goal.returns
 returns c =
     rw c.copy-2.ensures (from_some c.args.include c.args.padded c.args.version.now c.requires.within c.requires.normal
-    c.if-padded.false c.is_zero.ensures.valid (sym c.is_zero.ensures.value ∙ c.if-is_zero.false))
+    (inr (inr (c.is_zero.ensures.valid, sym c.is_zero.ensures.value ∙ c.if-is_zero.false))))

@@ -4,10 +4,8 @@ use Rattle.nodejs_semver.proofs.npm.comparators.tilde_part.Goals as goal
 
 pub returns : goal.returns
 returns c text e =
-    let include = c.args.include in
     let padded = c.args.padded in
     let n = c.first.result in
-    part_tilde include padded text n c.next.result c.until.result (npm_partial_view c.args.partial.now) c.requires.part e
-    c.first.ensures c.next.ensures
-    (c.until.ensures include (noted padded (from false n))
+    part_tilde c.args.include padded text (npm_partial_view c.args.partial.now) n c.next.result c.until.result c.requires.part
+    c.first.ensures e c.next.ensures (c.until.ensures c.args.include (noted padded (from false n))
     (noted_valid padded (from false n) ∙ from_valid false n ∙ ap within c.first.ensures ∙ c.requires.within) c.from_release.ensures)

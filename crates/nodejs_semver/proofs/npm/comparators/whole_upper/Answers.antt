@@ -1,16 +1,16 @@
-use Rattle.nodejs_semver.proofs.{Common.{Some, ap, sym, ◌∙◌}, NpmCommon.bounds_view, Strict.Rows.{printed_read, upper_printed, upper_under}}
+use Rattle.nodejs_semver.proofs.{Common.{ap, sym, ◌∙◌}, NpmCommon.bounds_view, Strict.Rows.printed_read}
 use Rattle.nodejs_semver.proofs.npm.comparators.whole_upper.Goals as goal
 use Rattle.nodejs_semver.specs.Text.Table as Spans
 
 pub returns-then-include : goal.returns-then-include
 returns-then-include c =
-    upper_under _ c.args.include c.args.version.now c.args.text.now c.under.result c.major.result c.minor.result c.patch.result
-    (sym c.is_release.ensures ∙ c.if-is_release.true) c.if-include.true c.major.ensures.value c.minor.ensures.value
-    c.patch.ensures.value (c.under.ensures c.args.include)
+    let under = c.under.ensures c.args.include in
+    rw (sym c.is_release.ensures ∙ c.if-is_release.true, c.if-include.true)
+    (rw (c.if-include.true, c.major.ensures.value, c.minor.ensures.value, c.patch.ensures.value) at under)
 
 pub returns-then-prints_short : goal.returns-then-prints_short
 returns-then-prints_short c =
     let v = c.args.version.now in
-    upper_printed _ c.args.include v c.args.text.now (Some c.at_most.result) (sym c.is_release.ensures ∙ c.if-is_release.false)
+    rw (sym c.is_release.ensures ∙ c.if-is_release.false)
     (printed_read c.args.include v (bounds_view c.at_most.result) c.requires.within c.requires.normal (sym c.prints_short.ensures ∙ c.if-prints_short.true)
     (c.at_most.ensures ∙ ap (λ w. Spans.<= w) c.copy.ensures))

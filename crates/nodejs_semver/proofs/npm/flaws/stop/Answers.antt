@@ -5,12 +5,12 @@ use Rattle.nodejs_semver.proofs.npm.flaws.stop.Goals as goal
 pub letters-init : goal.letters-init
 letters-init c =
     let all : c.into_iter-letter-iterator.result.rest.now ≡ c.args.text.now = search rules in
-    passed_none c.args.text.now c.into_iter-letter-iterator.result.rest.now all
+    passed_none c.args.text.now c.into_iter-letter-iterator.result.rest.now c.utf8.text all
 
 pub returns-in_default : goal.returns-in_default
 returns-in_default c =
     let none : next MAX_SAFE_INTEGER c.letters.state c.in-Some.letter ≡ None = sym c.next-in-letters.ensures ∙ c.in_default.is in
-    passed_stop _ _ _ _ _ c.letters.invariant _ _ _ c.utf8.text c.in-Some.ensures.steps.0 none c.wrong_at.ensures
+    passed_stop _ _ _ _ _ c.letters.invariant _ _ _ c.in-Some.ensures.steps.0 none c.wrong_at.ensures
 
 pub letters-preserved : goal.letters-preserved
 letters-preserved c =

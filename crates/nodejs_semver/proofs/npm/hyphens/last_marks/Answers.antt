@@ -1,9 +1,14 @@
-use Rattle.nodejs_semver.proofs.{Common.{arith, sym, take_rest, ◌∙◌}, Strict.Hyphens.marks-begin}
+use Rattle.nodejs_semver.proofs.{Common.{ap, arith, drop, length, sym, take_rest, ℕ, ◌-◌, ◌∙◌, ◌≡◌}, NpmCommon.is_mark}
 use Rattle.nodejs_semver.proofs.npm.hyphens.last_marks.Goals.{else-marks-test, then-marks-test+else-is_mark}
+use Rattle.std.{proofs.lemmas.List.Sums.suffix_len_is, specs.List.suffix_len}
 use Rattle.nodejs_semver.proofs.npm.hyphens.last_marks.Goals as goal
 
 pub returns-clause-value : goal.returns-clause-value
-returns-clause-value c = take_rest c.args.marks.now c.marks.start ∙ marks-begin _ _ c.marks.invariant.fits c.marks.invariant.each (λ some. elim c.marks-test.branch [
-  | then-marks-test+else-is_mark w ↦ sym w.is_mark.ensures ∙ w.if-is_mark.false
-  | else-marks-test w ↦ absurd (omega arith)
-])
+returns-clause-value c =
+    let marks = c.args.marks.now in
+    let size = suffix_len_is is_mark marks c.marks.start 0 c.marks.invariant.fits c.marks.invariant.each (λ some. elim c.marks-test.branch [
+      | then-marks-test+else-is_mark w ↦ sym w.is_mark.ensures ∙ w.if-is_mark.false
+      | else-marks-test w ↦ absurd (omega arith)
+    ]) in
+    let at : c.marks.start ≡ length marks - suffix_len is_mark marks = omega (arith, size, c.marks.invariant.fits) in
+    take_rest marks c.marks.start ∙ ap (λ (n : ℕ). drop n marks) at

@@ -1,21 +1,19 @@
-use Rattle.nodejs_semver.proofs.{Common.{[], ap, arith, length}, Reading.WordLaw.first-is, Stopping.Ranges.boundary-fits}
+use Rattle.nodejs_semver.proofs.{Common.{[], ap, arith, length}, Reading.WordLaw.first-is, Strict.Ignored.boundary-le}
 use Rattle.nodejs_semver.proofs.npm.malformed_words.malformed_word.Goals as goal
 
 pub overflow_sub-result-2 : goal.overflow_sub-result-2
 overflow_sub-result-2 c =
-    let r = c.skip_right_words-rest.ensures in
-    omega (arith, r.fits, boundary-fits c.skip_right_words-rest.result.now r.utf8, ap length c.skip_to_boundary-behind.ensures)
+    omega (arith, c.skip_right_words-rest.ensures.fits, boundary-le c.skip_right_words-rest.result.now, ap length c.skip_to_boundary-behind.ensures)
 
 pub returns-clause-word : goal.returns-clause-word
 returns-clause-word c =
     let r = c.skip_right_words-rest.ensures in
-    let e = c.skip_to_boundary-behind.ensures in
-    let fits = boundary-fits c.skip_right_words-rest.result.now r.utf8 in record {
+    let e = c.skip_to_boundary-behind.ensures in record {
       left = c.skip_right_words-rest.result.now;
       behind = _;
       right = r.left;
       wrong = r.wrong;
       ended = first-is [] _ r.utf8;
       start_is = omega (arith, r.fits);
-      end_is = omega (arith, r.fits, fits, ap length e);
+      end_is = omega (arith, r.fits, boundary-le c.skip_right_words-rest.result.now, ap length e);
     }
