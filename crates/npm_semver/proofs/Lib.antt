@@ -6,7 +6,6 @@ pub mod Refused
 pub mod ReadTexts
 pub mod LawLemmas
 pub mod Exchanges
-pub mod CoercedOnce
 pub mod Ties
 pub mod Once
 pub mod Again

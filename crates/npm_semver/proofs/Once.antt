@@ -5,6 +5,7 @@ use Rattle.std.proofs.lemmas.List.Sorted.{IsPermutation-sym, IsPermutation-trans
 use Rattle.std.specs.List.Sorted.{IsPermutation}
 use Rattle.semver_core.specs.Text.Characters.{IsTrim}
 use Rattle.semver_core.specs.Values.Versions.{VersionValue}
+use Rattle.nodejs_semver.specs.Npm.Coerced.{IsCoerced, IsNumberIn}
 use Rattle.nodejs_semver.specs.Npm.Ranges.{HasAlternativesIn, accepts}
 use Rattle.nodejs_semver.specs.Npm.Table.{Comparison}
 use Rattle.nodejs_semver.specs.Npm.VersionText.{IsVersionText}
@@ -13,10 +14,9 @@ use Rattle.npm_semver.specs.Laws.{EachText}
 use Rattle.npm_semver.specs.Laws as Each
 use Rattle.npm_semver.specs.Listing.{AllSay, AreListed, Entry, IsListing, Says}
 use Rattle.npm_semver.specs.Listing as Listing
-use Rattle.npm_semver.specs.Readings.{IsVersionIn, found, not_found, strict}
+use Rattle.npm_semver.specs.Readings.{IsChosen, IsVersionIn, found, not_found, strict}
 use Rattle.npm_semver.specs.Responses.{Responds, Written, increment, refused, versions}
 use Rattle.npm_semver.specs.declared.reading.Reading.{Reading}
-use Rattle.npm_semver.proofs.CoercedOnce.{found_once}
 use Rattle.npm_semver.proofs.Ties.{same_text, same_emptiness}
 
 abbrev pub OneVersion : Type 0
@@ -30,13 +30,18 @@ OneRange = (loose : Bool) (limit : ℕ) (include : Bool) (text : List ℕ) (a b 
 abbrev pub OneTrim : Type 0
 OneTrim = (text middle other : List ℕ) → IsTrim text middle → IsTrim text other → middle ≡ other
 
-module _ (one_version : OneVersion) (one_range : OneRange) (one_trim : OneTrim) (r : Reading) where
+-- at most one version is found in a text, from the left and from the right
+abbrev pub OneFound : Bool → Type 0
+OneFound from_right = (included loose : Bool) (text : List ℕ) (v w : VersionValue) → IsCoerced included (IsChosen from_right) (IsNumberIn loose) text v
+    → IsCoerced included (IsChosen from_right) (IsNumberIn loose) text w → v ≡ w
+
+module _ (one_version : OneVersion) (one_range : OneRange) (one_trim : OneTrim) (one_found : (from_right : Bool) → OneFound from_right) (r : Reading) where
   version_once : (text : List ℕ) (v w : VersionValue) → IsVersionIn r text v → IsVersionIn r text w → v ≡ w
   version_once text v w (strict p is) (strict q of) = one_version _ text v w is of
   version_once text v w (strict p is) (found q of) = absurd (grind (arith, p, q))
   version_once text v w (strict p is) (not_found q lacks of) = one_version _ text v w is of
   version_once text v w (found p is) (strict q of) = absurd (grind (arith, p, q))
-  version_once text v w (found p is) (found q of) = found_once r text v w is of
+  version_once text v w (found p is) (found q of) = one_found r.from_right r.include_prerelease r.is_loose text v w is of
   version_once text v w (found p is) (not_found q lacks of) = absurd (lacks v is)
   version_once text v w (not_found p lacks is) (strict q of) = one_version _ text v w is of
   version_once text v w (not_found p lacks is) (found q of) = absurd (lacks w of)
@@ -87,17 +92,26 @@ module _ (one_version : OneVersion) (one_range : OneRange) (one_trim : OneTrim) 
       let same = listed_once ranges texts h.listed k.listed u h.are k.are in
       IsPermutation-trans vs h.listed ws (IsPermutation-sym h.listed vs h.same) (rw same k.same)
 
-pub responds_once : OneVersion → OneRange → OneTrim → (q : Asked) (a b : Written) → EachText IsUtf8 q.ranges → Responds (Some q) a → Responds (Some q) b → a ≡ b
-responds_once one_version one_range one_trim q a b u (refused _ is) (refused _ of) = refl
-responds_once one_version one_range one_trim q a b u (refused _ is) (versions _ ws can bare listing) = absurd (can is)
-responds_once one_version one_range one_trim q a b u (refused _ is) (increment _ word ws can has are) = absurd (can is)
-responds_once one_version one_range one_trim q a b u (versions _ vs can bare listing) (refused _ of) = absurd (can of)
-responds_once one_version one_range one_trim q a b u (versions _ vs can bare listing) (versions _ ws allowed none list) =
-    let moved = printed_once one_version one_range one_trim q.reading q.ranges q.versions vs ws u listing list in
+found_both : OneFound false → OneFound true → (from_right : Bool) → OneFound from_right
+found_both left right false = left
+found_both left right true = right
+
+responds_same : OneVersion → OneRange → OneTrim → ((from_right : Bool) → OneFound from_right) → (q : Asked) (a b : Written) → EachText IsUtf8 q.ranges
+    → Responds (Some q) a → Responds (Some q) b → a ≡ b
+responds_same one_version one_range one_trim one_found q a b u (refused _ is) (refused _ of) = refl
+responds_same one_version one_range one_trim one_found q a b u (refused _ is) (versions _ ws can bare listing) = absurd (can is)
+responds_same one_version one_range one_trim one_found q a b u (refused _ is) (increment _ word ws can has are) = absurd (can is)
+responds_same one_version one_range one_trim one_found q a b u (versions _ vs can bare listing) (refused _ of) = absurd (can of)
+responds_same one_version one_range one_trim one_found q a b u (versions _ vs can bare listing) (versions _ ws allowed none list) =
+    let moved = printed_once one_version one_range one_trim one_found q.reading q.ranges q.versions vs ws u listing list in
     rw (same_text q vs ws listing.sorted list.sorted moved, same_emptiness vs ws moved) refl
-responds_once one_version one_range one_trim q a b u (versions _ vs can bare listing) (increment _ word ws allowed has are) = absurd (grind (arith, bare, has))
-responds_once one_version one_range one_trim q a b u (increment _ word vs can has are) (refused _ of) = absurd (can of)
-responds_once one_version one_range one_trim q a b u (increment _ word vs can has are) (versions _ ws allowed bare list) = absurd (grind (arith, bare, has))
-responds_once one_version one_range one_trim q a b u (increment _ word vs can has are) (increment _ other ws allowed of were) =
+responds_same one_version one_range one_trim one_found q a b u (versions _ vs can bare listing) (increment _ word ws allowed has are) = absurd (grind (arith, bare, has))
+responds_same one_version one_range one_trim one_found q a b u (increment _ word vs can has are) (refused _ of) = absurd (can of)
+responds_same one_version one_range one_trim one_found q a b u (increment _ word vs can has are) (versions _ ws allowed bare list) = absurd (grind (arith, bare, has))
+responds_same one_version one_range one_trim one_found q a b u (increment _ word vs can has are) (increment _ other ws allowed of were) =
     let level : word ≡ other = same_Some word other (sym has ∙ of) in
-    rw (level, listed_once one_version one_range one_trim q.reading [] q.versions vs ws Each.none are were) refl
+    rw (level, listed_once one_version one_range one_trim one_found q.reading [] q.versions vs ws Each.none are were) refl
+
+pub responds_once : OneVersion → OneRange → OneTrim → OneFound false → OneFound true → (q : Asked) (a b : Written) → EachText IsUtf8 q.ranges
+    → Responds (Some q) a → Responds (Some q) b → a ≡ b
+responds_once one_version one_range one_trim left right = responds_same one_version one_range one_trim (found_both left right)

@@ -1,11 +1,9 @@
 -- Statement: how texts are read: the version that a text is, strictly or coerced, and the range.
-use Rattle.std.specs.Prelude.{◌≡◌, ◌∷◌, ℕ, Bool, true, false, List}
+use Rattle.std.specs.Prelude.{◌≡◌, ◌∷◌, Bool, true, false, List, ℕ}
 use Rattle.semver_core.specs.Failures.{NoValue}
-use Rattle.semver_core.specs.Text.Numbers.{IsNumber}
 use Rattle.semver_core.specs.Values.Versions.{VersionValue}
 use Rattle.semver_core.specs.declared.TheConstants.{MAX_SAFE_INTEGER}
-use Rattle.nodejs_semver.specs.Npm.Coerced.{IsCoerced, IsLeftmost, IsRightmost}
-use Rattle.nodejs_semver.specs.Npm.Grammar.{IsStrictNumber}
+use Rattle.nodejs_semver.specs.Npm.Coerced.{IsCoerced, IsLeftmost, IsNumberIn, IsRightmost}
 use Rattle.nodejs_semver.specs.Npm.Ranges.{HasAlternativesIn}
 use Rattle.nodejs_semver.specs.Npm.Table.{Comparison}
 use Rattle.nodejs_semver.specs.Npm.VersionText.{IsVersionText}
@@ -20,14 +18,9 @@ abbrev pub IsChosen : Bool → Bool → List ℕ → List ℕ → List ℕ → L
 IsChosen false = IsLeftmost
 IsChosen true = IsRightmost
 
--- loosely they may have leading zeros
-abbrev pub IsNumeral : Bool → List ℕ → ℕ → Type 0
-IsNumeral false = IsStrictNumber MAX_SAFE_INTEGER
-IsNumeral true = IsNumber MAX_SAFE_INTEGER
-
 -- what is found is kept with its pre-release only where pre-releases are included
 abbrev pub IsFoundIn : Reading → List ℕ → VersionValue → Type 0
-IsFoundIn r = IsCoerced r.include_prerelease (IsChosen r.from_right) (IsNumeral r.is_loose)
+IsFoundIn r = IsCoerced r.include_prerelease (IsChosen r.from_right) (IsNumberIn r.is_loose)
 
 -- the text is the version: strictly, also where the reading is loose; where it is coerced, what is found in
 -- it, and only if nothing is found what it is strictly
