@@ -1,5 +1,5 @@
 -- The parts of a text that std's clauses name.
-use Rattle.std.proofs.Common.{◌≡◌, ◌≢◌, ◌⊎◌, ◌==◌, ℕ, List, [], ◌∷◌, ◌++◌, false, length, drop, take, inl, inr, refl, sym, ap, ap₂, subst, arith}
+use Rattle.std.proofs.Common.{◌≡◌, ◌≢◌, ◌==◌, ℕ, List, [], ◌∷◌, ◌++◌, false, length, drop, take, refl, sym, ap, ap₂, subst, arith}
 use Rattle.std.proofs.Common.{encode_utf8, ◌∙◌, Bool, if◌then◌else◌}
 use Rattle.std.specs.List.{Contains, list_any, position_or_len}
 use Rattle.std.specs.Prelude.{◌<◌, codes, slice_index_or, true}

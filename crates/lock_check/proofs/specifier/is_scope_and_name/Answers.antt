@@ -1,4 +1,4 @@
-use Rattle.std.proofs.Common.{◌≡◌, ◌∷◌, ◌∙◌, List, arith, subst, sym, ℕ}
+use Rattle.std.proofs.Common.{◌∷◌, ◌∙◌, List, arith, subst, sym, ℕ}
 use Rattle.lock_check.specs.Specifiers.{IsName, scoped}
 use Rattle.lock_check.proofs.Parts.{cut_at}
 use Rattle.lock_check.proofs.specifier.is_scope_and_name.Goals as goal
