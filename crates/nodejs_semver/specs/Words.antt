@@ -30,7 +30,7 @@ pub use Rattle.nodejs_semver.specs.Internal.Writes.{writes}
 pub use Rattle.nodejs_semver.specs.Json.{json_string, ReadsString}
 pub use Rattle.nodejs_semver.specs.Npm.Builds.{build_order}
 pub use Rattle.nodejs_semver.specs.Npm.Ranges.{HasAlternativesIn}
-pub use Rattle.nodejs_semver.specs.Npm.Table.{Comparison, no_build}
+pub use Rattle.nodejs_semver.specs.Npm.Table.{Comparison}
 pub use Rattle.nodejs_semver.specs.Npm.VersionText.{IsVersionText}
 pub use Rattle.nodejs_semver.specs.Printing.RoundTrip.{bounds_back, is_printable}
 pub use Rattle.nodejs_semver.specs.Printing.Text.{lower_text, range_text, upper_text}

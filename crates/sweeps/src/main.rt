@@ -1,7 +1,8 @@
 //! Three sweeps over the calls, for what no contract can say or a second reader can confirm. The
 //! program fails where one of the last two finds a fault. Standard input says what it makes of
 //! these: with nothing there it stops after the first, and with `long` after the texts of 2,000,000
-//! bytes of the second, which take longer than all else and are left out without that word.
+//! bytes of the second, which take longer than all else and are left out without that word. With
+//! `?` and questions behind it, it makes none of them and answers the questions.
 //!
 //! The first makes each call that allocates, and prints one line for each: what it returned and
 //! what it borrowed, or `memory` in place of what it returned. `tools/allocation_failures.py` runs
@@ -19,6 +20,7 @@
 //! makes and one edit damages.
 #![tactic(auto)]
 
+mod answers;
 mod calls;
 mod memory;
 mod readers;
@@ -28,10 +30,16 @@ use std::process::ExitCode;
 
 fn main(rt: HostRuntime) -> io::Result<ExitCode> {
     let alloc = rt.alloc();
-    calls::show_all(&rt, alloc)?;
     // A buffer of one byte takes no memory that could be refused.
     let mut word = [0];
-    if rt.stdin().read(&mut word)? == 0 {
+    let is_given = rt.stdin().read(&mut word)? > 0;
+    if word == *b"?" {
+        let questions = io::read_to_string(alloc, rt.stdin())?;
+        answers::answer_all(&rt, alloc, &questions)?;
+        return Ok(ExitCode::SUCCESS);
+    }
+    calls::show_all(&rt, alloc)?;
+    if !is_given {
         return Ok(ExitCode::SUCCESS);
     }
     if word == *b"l" {

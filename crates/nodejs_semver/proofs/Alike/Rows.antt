@@ -13,8 +13,8 @@ use Rattle.nodejs_semver.proofs.NpmCommon.{hyphen_upper, is_plain, is_valid, is_
 use Rattle.nodejs_semver.proofs.NpmCommon.{patch_place, place_front, pre_front, qualified_partial, release, satisfies, under, upto_patch, whole}
 use Rattle.nodejs_semver.proofs.{NpmCommon.zero_least, Strict.{PartialLaw.partial-read, Printed.prints_zero, Zeros.{plain_changed, plain_table}}}
 use Rattle.nodejs_semver.proofs.{Strict.Zeros.{rows-plain, strict-zeros, zeros-marked}, Values.{past-after, past-before}}
-use Rattle.nodejs_semver.specs.{Internal.NpmWords.{partial_front, places_front}, Npm.Alike.{bare, is_blunt, signed, tilde_greater, version_in}}
-use Rattle.{nodejs_semver.specs.Npm.{Alike.word_of, Table.{Sign, lowest, no_build, written_zeros}}, semver_core.specs.Internal.OrderLaws.pre_total}
+use Rattle.nodejs_semver.specs.{Internal.{NpmParts.no_build, NpmWords.{partial_front, places_front}}, Npm.Alike.{bare, is_blunt, signed, tilde_greater, version_in}}
+use Rattle.{nodejs_semver.specs.Npm.{Alike.word_of, Table.{Sign, lowest, written_zeros}}, semver_core.specs.Internal.OrderLaws.pre_total}
 use Rattle.semver_core.specs.Values.Order.{version_eq}
 use Rattle.nodejs_semver.specs.Npm.Ranges as Ranges
 use Rattle.nodejs_semver.specs.Npm.Table as Npm

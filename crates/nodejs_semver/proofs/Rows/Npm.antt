@@ -10,7 +10,7 @@ use Rattle.nodejs_semver.proofs.NpmCommon.{none, npm_sign, number_of, one, patch
 use Rattle.nodejs_semver.proofs.NpmCommon.{qualified_partial, qualified_version, sign, signed_word, spelling, strict_number, strict_version, takes}
 use Rattle.nodejs_semver.proofs.NpmCommon.{tilde_twice, tuple_len, tuple_release, whole, wildcard, word, words_within, ◌>>?◌}
 use Rattle.nodejs_semver.{proofs.Strict.Ignored.no-blank, specs.Internal.NpmWords.places_front}
-use Rattle.nodejs_semver.specs.Npm.{RangeText.{formed, more, number}, Ranges.accepts, Table.{Partial, Sign, caret, table, tilde, written_zeros}}
+use Rattle.nodejs_semver.specs.Npm.{Malformed.ends_version, RangeText.{formed, more, number}, Ranges.accepts, Table.{Partial, Sign, caret, table, tilde, written_zeros}}
 
 -- ---- the table, as node-semver prints the range of each word
 
@@ -218,16 +218,22 @@ row-marks = refl
 -- ---- malformed words
 
 -- behind `^`, `~` and `~>` goes on what follows, but for a `=` alone behind `~>`; behind `<` and `foo=` a place, also
--- one with marks; and behind `v=` nothing
+-- one with marks; and behind `v=` nothing, unless a version ends in the `v`
 row-takes : map (λ (r : List ℕ × List ℕ). takes r.0 r.1)
     ((codes "foo^", codes "bar") ∷ (codes "~", codes "=") ∷ (codes "~>", codes "a") ∷ (codes "~>", codes "= 1") ∷ (codes "a<", codes "v1") ∷ (codes "foo=", codes "1")
-    ∷ (codes "foo=", codes "a") ∷ (codes "v=", codes "1") ∷ (codes "foo", codes "1") ∷ [])
-    ≡ true ∷ true ∷ true ∷ false ∷ true ∷ true ∷ false ∷ false ∷ false ∷ []
+    ∷ (codes "foo=", codes "a") ∷ (codes "v=", codes "1") ∷ (codes "foo", codes "1") ∷ (codes "1.2.3v=", codes "1") ∷ (codes "1.2v=", codes "1") ∷ [])
+    ≡ true ∷ true ∷ true ∷ false ∷ true ∷ true ∷ false ∷ false ∷ false ∷ true ∷ false ∷ []
 row-takes = refl
 
+-- a version at the first place, to the end, is found with its pre-release, but for an identifier of digits and others
+row-found : map ends_version (codes ">1.2.3-dev" ∷ codes "foo01.2.3dev" ∷ codes "1.2.3-rc.1.dev" ∷ codes "1.2.3-1v" ∷ codes "1.2.34.v" ∷ codes "1.2.3.4v"
+    ∷ codes "1.2v" ∷ codes "1.2.3-a,v" ∷ codes "x.2.3v" ∷ codes "1.2.3+v" ∷ [])
+    ≡ true ∷ true ∷ true ∷ false ∷ false ∷ false ∷ false ∷ false ∷ false ∷ false ∷ []
+row-found = refl
+
 row-behind : map (λ (text : List ℕ). behind_ignored (length text) text)
-    (codes "foo 1" ∷ codes "foo= 1 2" ∷ codes "foo^ bar 1" ∷ codes "~> = 1" ∷ codes "1x 1" ∷ codes "v= 1" ∷ codes "foo" ∷ [])
-    ≡ codes " 1" ∷ codes " 2" ∷ codes " 1" ∷ codes " = 1" ∷ codes " 1" ∷ codes " 1" ∷ [] ∷ []
+    (codes "foo 1" ∷ codes "foo= 1 2" ∷ codes "foo^ bar 1" ∷ codes "~> = 1" ∷ codes "1x 1" ∷ codes "v= 1" ∷ codes "1.2.3-dev= 1 2" ∷ codes "foo" ∷ [])
+    ≡ codes " 1" ∷ codes " 2" ∷ codes " 1" ∷ codes " = 1" ∷ codes " 1" ∷ codes " 1" ∷ codes " 2" ∷ [] ∷ []
 unfolding behind_ignored from_boundary is_boundary space_len after_spaces
 row-behind = refl
 

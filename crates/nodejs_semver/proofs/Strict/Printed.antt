@@ -13,7 +13,7 @@ use Rattle.{nodejs_semver.specs.Npm.{Table.{lowest, table}, VersionText.written}
 use Rattle.{semver_core.specs.{Internal.CommonReading.is_plain, Text.Identifiers.is_u64_text}, std.proofs.lemmas.Fmt.decimal_digit}
 use Rattle.std.proofs.lemmas.{Fmt.{decimal_injective, length-decimal-le}, List.Splits.{join_with_byte-slice_split, length-slice_split}}
 use Rattle.std.{proofs.lemmas.Str.{IsUtf8-from_ascii, chars-IsAscii}, specs.Str.IsAscii}
-use Rattle.nodejs_semver.specs.Npm.Table as Table
+use Rattle.nodejs_semver.specs.Internal.NpmParts as Parts
 
 -- ---- lengths
 
@@ -24,7 +24,7 @@ decimal_short n h = length-decimal-le 16 n (omega arith) (omega arith) (omega ar
 pub numbers_short : (n : Numbers) → within n ≡ true → length (decimal n.0) + length (decimal n.1) + length (decimal n.2) + 2 ≤ 50
 numbers_short n h = grind (arith, nat_tests, common_steps, and_parts, decimal_short)
 
-pub text_length : (v : VersionValue) → length (version_text (Table.no_build v))
+pub text_length : (v : VersionValue) → length (version_text (Parts.no_build v))
     ≡ (length (decimal v.major) + length (decimal v.minor) + length (decimal v.patch) + 2) + length (marked_list (45 ∷ []) v.pre_release)
 text_length v = grind (arith, length-append)
 
@@ -53,7 +53,7 @@ prints_zero v a b c =
 -- ---- what is valid
 
 pub bare_short : (v : VersionValue) → within (first (whole v)) ≡ true → is_release v ≡ true
-    → true ≡ nat_le (length (version_text (Table.no_build v))) MAX_LENGTH
+    → true ≡ nat_le (length (version_text (Parts.no_build v))) MAX_LENGTH
 bare_short v h e =
     let none : v.pre_release ≡ [] = empty_is v.pre_release e in
     rw (text_length v, none) (grind (arith, nat_tests, numbers_short (v.major, v.minor, v.patch) h))
@@ -121,12 +121,12 @@ pre_printed text ids (dashed rest list is strict) =
 
 -- ---- what is printed is a version strictly
 
-printed : (text : List ℕ) (v : VersionValue) → IsStrictVersion MAX_SAFE_INTEGER text v → IsStrictVersion MAX_SAFE_INTEGER (version_text (Table.no_build v)) (Table.no_build v)
+printed : (text : List ℕ) (v : VersionValue) → IsStrictVersion MAX_SAFE_INTEGER text v → IsStrictVersion MAX_SAFE_INTEGER (version_text (Parts.no_build v)) (Parts.no_build v)
 printed text v (written mark x y z pre build w m i j k p q) =
-    let e : x ++ 46 ∷ (y ++ 46 ∷ (z ++ (pre ++ []))) ≡ version_text (Table.no_build w) =
+    let e : x ++ 46 ∷ (y ++ 46 ∷ (z ++ (pre ++ []))) ≡ version_text (Parts.no_build w) =
     grind (arith, nat_tests, common_steps, number_printed, pre_printed) in
-    subst (λ (t : List ℕ). IsStrictVersion MAX_SAFE_INTEGER t (Table.no_build w)) e
-    (written [] x y z pre [] (Table.no_build w) (inl refl) i j k p no_build)
+    subst (λ (t : List ℕ). IsStrictVersion MAX_SAFE_INTEGER t (Parts.no_build w)) e
+    (written [] x y z pre [] (Parts.no_build w) (inl refl) i j k p no_build)
 
 -- ---- its characters
 
@@ -150,16 +150,16 @@ shorter : (a b c d e f p q m k : List ℕ) → a ≡ d → b ≡ e → c ≡ f �
     → length (a ++ 46 ∷ (b ++ 46 ∷ (c ++ (p ++ [])))) ≤ length (m ++ (d ++ 46 ∷ (e ++ 46 ∷ (f ++ (q ++ k)))))
 shorter a b c d e f p q m k h g l n = rw (h, g, l, n) (grind (arith, length-append))
 
-printed_short : (text : List ℕ) (v : VersionValue) → IsStrictVersion MAX_SAFE_INTEGER text v → length (version_text (Table.no_build v)) ≤ length text
+printed_short : (text : List ℕ) (v : VersionValue) → IsStrictVersion MAX_SAFE_INTEGER text v → length (version_text (Parts.no_build v)) ≤ length text
 printed_short text v (written mark x y z pre build w m i j k p q) = grind (arith, nat_tests, common_steps, shorter, number_printed, pre_printed)
 
 pub reread : (text : List ℕ) (v : VersionValue) → IsUtf8 text → IsVersionText MAX_SAFE_INTEGER text v
-    → IsVersionText MAX_SAFE_INTEGER (version_text (Table.no_build v)) (Table.no_build v)
-    × (list_all (λ c. is_identifier_char c || (c == 46 || c == 43)) (version_text (Table.no_build v)) ≡ true)
+    → IsVersionText MAX_SAFE_INTEGER (version_text (Parts.no_build v)) (Parts.no_build v)
+    × (list_all (λ c. is_identifier_char c || (c == 46 || c == 43)) (version_text (Parts.no_build v)) ≡ true)
 reread text v u (short, middle, trimmed, h) =
     let is = printed middle v h in
-    let all = plain-middle MAX_SAFE_INTEGER (version_text (Table.no_build v)) (Table.no_build v) is in
-    let same : chars (version_text (Table.no_build v)) ≡ version_text (Table.no_build v) = chars-IsAscii _ (all_ascii _ all) in (
+    let all = plain-middle MAX_SAFE_INTEGER (version_text (Parts.no_build v)) (Parts.no_build v) is in
+    let same : chars (version_text (Parts.no_build v)) ≡ version_text (Parts.no_build v) = chars-IsAscii _ (all_ascii _ all) in (
       (
         omega (
           arith,
@@ -168,7 +168,7 @@ reread text v u (short, middle, trimmed, h) =
           printed_short middle v h,
           middle_short text middle u trimmed (plain-middle MAX_SAFE_INTEGER middle v h),
         ),
-        version_text (Table.no_build v),
+        version_text (Parts.no_build v),
         plain_trim _ all,
         is,
       ),

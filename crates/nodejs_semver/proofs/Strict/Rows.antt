@@ -11,8 +11,8 @@ use Rattle.nodejs_semver.proofs.NpmCommon.{MAX_LENGTH, NarrowedBy, Numbers, are_
 use Rattle.nodejs_semver.proofs.NpmCommon.{caret_from, compared, counted, counts, filter-append, first, from, is_valid, is_zero, made, nat_le}
 use Rattle.nodejs_semver.proofs.{NpmCommon.{next_changed, satisfies, under, version_text, whole, within}, Strict.Printed.{from_valid, prints_zero}}
 use Rattle.nodejs_semver.{proofs.{Strict.Printed.under_valid, Values.{past-after, past-before}}, specs.Internal.NpmAlternatives.met}
-use Rattle.nodejs_semver.specs.{Internal.{NpmMeaning.{is_open, is_part}, NpmParts.{AreZeros, has_no_comparators, is_padded, noted}}, Npm.Ranges.names}
-use Rattle.nodejs_semver.specs.Npm.Table.{Partial, Sign, caret, lowest, next, no_build, table, tilde, written_zeros}
+use Rattle.nodejs_semver.specs.{Internal.{NpmMeaning.{is_open, is_part}, NpmParts.{AreZeros, has_no_comparators, is_padded, no_build, noted}}, Npm.Ranges.names}
+use Rattle.nodejs_semver.specs.Npm.Table.{Partial, Sign, caret, lowest, next, table, tilde, written_zeros}
 use Rattle.semver_core.{proofs.CutLaws.{is_past-greater_lower, is_past-lesser_upper}, specs.Values.Versions.IsVersion}
 use Rattle.nodejs_semver.specs.Text.Table as Spans
 

@@ -5,8 +5,8 @@ use Rattle.nodejs_semver.proofs.Common.{list_all, nat_tests, not, prefix_len, re
 use Rattle.nodejs_semver.proofs.{Common.{◌+◌, ◌-◌, ◌==◌, ◌∙◌, ◌∷◌, ◌≡◌}, NpmCommon.{Comparison, IsPartial, IsPlace, IsPlaces, IsStrictBuild, Numbers}}
 use Rattle.nodejs_semver.proofs.NpmCommon.{at_least, bytes_eq, bytes_eq-Decides, caret_from, compared, digits_grow, first, from, has_leading_zero}
 use Rattle.nodejs_semver.proofs.{NpmCommon.{made, major, next_changed, partial_of, take_while, under, whole, wildcard}, Reading.Numbers.digits-taken}
-use Rattle.nodejs_semver.specs.{Internal.NpmParts.{AreZeros, is_padded, is_wildcard}, Npm.{Grammar.IsPreRelease, Table.{Partial, Sign, as_written}}}
-use Rattle.nodejs_semver.specs.{Npm.Table.{caret, next, no_build, table, tilde, written_zeros, zeros}, Text.WordText.equal}
+use Rattle.nodejs_semver.specs.{Internal.NpmParts.{AreZeros, is_padded, is_wildcard, no_build}, Npm.{Grammar.IsPreRelease, Table.{Partial, Sign, as_written}}}
+use Rattle.nodejs_semver.specs.{Npm.Table.{caret, next, table, tilde, written_zeros, zeros}, Text.WordText.equal}
 use Rattle.std.proofs.lemmas.{Bool.le-ltb, List.drop-drop}
 use Rattle.nodejs_semver.specs.Npm.RangeText as Text
 

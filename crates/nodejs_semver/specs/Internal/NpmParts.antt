@@ -1,6 +1,6 @@
 -- For proofs and private contracts. The signs and the partial versions of node-semver's range texts, seen without
 -- places in memory.
-use Rattle.std.specs.Prelude.{◌≡◌, ◌&&◌, codes, if◌then◌else◌, nat_le, nat_lt, ℕ, Bool, List, true, false, Option, None, Some}
+use Rattle.std.specs.Prelude.{◌≡◌, ◌&&◌, [], codes, if◌then◌else◌, nat_le, nat_lt, ℕ, Bool, List, true, false, Option, None, Some}
 use Rattle.std.specs.{List.{list_all}, Str.{bytes_eq}}
 use Rattle.semver_core.specs.Printing.RoundTrip.{is_normal}
 use Rattle.semver_core.specs.Values.Versions.{VersionValue, release_value}
@@ -58,6 +58,10 @@ has_no_comparators s p = is_wildcard p
 -- so many numbers at the front of a partial are written `0` in its text; of a wildcard none counts
 abbrev pub AreZeros : Spec.Partial → ℕ → List ℕ → Type 0
 AreZeros p z text = is_wildcard p ≡ false → z ≡ written_zeros text
+
+-- a version without its build
+abbrev pub no_build : VersionValue → VersionValue
+no_build v = record v { build = [] }
 
 -- a number at its front that is 0 is written otherwise
 abbrev pub is_padded : ℕ → Spec.Partial → Bool

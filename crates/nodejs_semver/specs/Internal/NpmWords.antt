@@ -1,15 +1,15 @@
 -- For proofs and private contracts. What node-semver's readings, strict or loose, find in a range text, as functions.
 -- Numbers have any value; `limited` leaves out what has a number past the limit that counts.
-use Rattle.std.specs.Prelude.{◌≡◌, codes, ◌==◌, ◌&&◌, ◌||◌, not, nat_le, nat_lt, ℕ, zero, suc, Bool, true, false, List, [], ◌∷◌, ◌++◌, ◌-◌, is_none, length, take, drop, Option, Some, None, if◌then◌else◌, take_while}
+use Rattle.std.specs.Prelude.{◌≡◌, ◌==◌, ◌&&◌, ◌||◌, not, nat_le, nat_lt, ℕ, zero, suc, Bool, true, false, List, [], ◌∷◌, ◌++◌, ◌-◌, is_none, length, take, drop, Option, Some, None, if◌then◌else◌, take_while}
 use Rattle.std.specs.Char.{is_ascii_digit}
 use Rattle.std.specs.List.{list_all, prefix_len}
-use Rattle.std.specs.Str.{bytes_eq}
 use Rattle.std.specs.Str.Parse.{digits_value}
 use Rattle.semver_core.specs.Internal.Reading.{◌>>?◌}
 use Rattle.semver_core.specs.Internal.Spaces.{drop_spaces, space_len}
 use Rattle.semver_core.specs.Lists.{is_empty}
-use Rattle.semver_core.specs.Text.Identifiers.{Id, listed, pieces}
-use Rattle.semver_core.specs.Values.Versions.{VersionValue, is_release}
+use Rattle.semver_core.specs.Text.Characters.{begins}
+use Rattle.semver_core.specs.Text.Identifiers.{Id, is_identifier, listed, pieces}
+use Rattle.semver_core.specs.Values.Versions.{VersionValue, is_release, release_value}
 use Rattle.nodejs_semver.specs.Internal.Fronts.{Front, after_byte, begins_byte, begins_identifier, begins_wildcard, build_front, marked_list}
 use Rattle.nodejs_semver.specs.Internal.NpmReadings.{dashed_front}
 use Rattle.nodejs_semver.specs.Internal.Parts.{parts}
@@ -251,6 +251,10 @@ signed_word loose text = let s = npm_sign text in marked_word loose s (places_fr
 abbrev pub is_short_word : Bool → List ℕ → Bool
 is_short_word loose text = is_short loose (drop (marks_len text) text)
 
+-- an identifier of a pre-release that is found in a malformed word: one that begins with a digit is a number
+abbrev pub is_found : List ℕ → Bool
+is_found id = is_identifier id && (list_all is_ascii_digit id || not (begins is_ascii_digit id))
+
 -- what stands behind a malformed word that is ignored: of at most so many pieces
 unfoldable pub behind_ignored : ℕ → List ℕ → List ℕ
 behind_ignored zero text = text
@@ -379,7 +383,7 @@ is_free changes p = elim p [ whole v ↦ changes v | _ ↦ true ]
 
 -- before another stands one `v` at most
 abbrev pub are_whole_marks : List ℕ → Bool
-are_whole_marks marks = is_empty marks || bytes_eq marks (codes "v")
+are_whole_marks marks = are_marks false (compared equal) (whole (release_value 0 0 0)) marks
 
 abbrev pub is_free_lower : Partial → Bool
 is_free_lower p = is_free (λ v. false) p

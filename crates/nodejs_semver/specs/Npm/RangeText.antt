@@ -127,16 +127,12 @@ pub record IsEnd (loose : Bool) (text behind : List ℕ) : Type 0 where
   pub are : AreMarks marks
   pub is : IsPlaces loose places partial
 
--- whitespace, `-` and whitespace are at the front of the text, and this behind them
-abbrev pub SkipsDash : List ℕ → List ℕ → Type 0
-SkipsDash text rest = (after : List ℕ) × BeginsBlank text × SkipsBlank text (codes "-" ++ after) × BeginsBlank after × SkipsBlank after rest
-
--- the text is a hyphen range (hyphen): two ends with ` - ` between them
+-- the text is a hyphen range (hyphen): two ends with whitespace, `-` and whitespace between them
 pub record IsHyphen (loose : Bool) (text : List ℕ) : Type 0 where
   pub before : List ℕ
   pub second : List ℕ
   pub lower : IsEnd loose text before
-  pub dash : SkipsDash before second
+  pub dash : (after : List ℕ) × BeginsBlank before × SkipsBlank before (codes "-" ++ after) × BeginsBlank after × SkipsBlank after second
   pub upper : IsEnd loose second []
 
 -- the marks behind the last whitespace among them. Where they are not all, the end is compared by `=`, as a word is that
@@ -154,8 +150,7 @@ is_right_end loose changes p marks places = is_short loose places && (loose || e
 
 -- an alternative (range): a hyphen range, or words, of which none may be left
 pub data IsAlternative (loose include : Bool) : List ℕ → Bool → List Comparison → Type 0 where
-  hyphen : (text : List ℕ) (h : IsHyphen loose text)
-      → is_right_end loose (λ v. false) h.lower.partial h.lower.marks h.lower.places ≡ true
+  hyphen : (text : List ℕ) (h : IsHyphen loose text) → is_right_end loose (λ v. false) h.lower.partial h.lower.marks h.lower.places ≡ true
       → is_right_end loose (λ v. include || not (is_release v)) h.upper.partial h.upper.marks h.upper.places ≡ true
       → IsAlternative loose include text false (hyphen_lower (end_sign at_least h.lower.marks) include h.lower.partial (last_marks h.lower.marks ++ h.lower.places)
       ++ hyphen_upper (end_sign at_most h.upper.marks) include h.upper.partial (last_marks h.upper.marks ++ h.upper.places))

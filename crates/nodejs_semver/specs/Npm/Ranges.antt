@@ -32,8 +32,7 @@ HasAlternatives = HasAlternativesIn false
 
 -- the version satisfies the comparator
 abbrev pub satisfies : VersionValue → Comparison → Bool
-satisfies v c = let r = precedence v c.version in
-    elim c.sign [ below ↦ is_lt r | at_most ↦ is_le r | equal ↦ is_eq r | at_least ↦ is_ge r | above ↦ is_gt r ]
+satisfies v c = let r = precedence v c.version in elim c.sign [ below ↦ is_lt r | at_most ↦ is_le r | equal ↦ is_eq r | at_least ↦ is_ge r | above ↦ is_gt r ]
 
 -- the comparator names a pre-release of the same three numbers
 abbrev pub names : VersionValue → Comparison → Bool

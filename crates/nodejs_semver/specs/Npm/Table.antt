@@ -71,16 +71,13 @@ from include n = made at_least (if include then lowest n else release_value n.0 
 abbrev pub under : ℕ × ℕ × ℕ → Comparison
 under n = made below (lowest n)
 
-abbrev pub no_build : VersionValue → VersionValue
-no_build v = record v { build = [] }
-
 -- a comparator has its numbers as they are written: where one is 0 and not written so, `>=00.0.0` is not `>=0.0.0`
 abbrev pub as_written : ℕ → Partial → Comparison → Comparison
 as_written z p c = if nat_lt z (zeros p) && bytes_eq c.text (codes "0.0.0") then record c { text = codes "00.0.0" } else c
 
 -- the lower end of a caret range of a whole version
 abbrev pub caret_from : Bool → ℕ → VersionValue → Comparison
-caret_from include z v = if include && (is_release v && nat_lt 0 z) then from true (first (whole v)) else as_written z (whole v) (made at_least (no_build v))
+caret_from include z v = if include && (is_release v && nat_lt 0 z) then from true (first (whole v)) else as_written z (whole v) (made at_least (record v { build = [] }))
 
 -- the table: by the sign and by the partial, whose text is `text`
 abbrev pub table : Bool → Sign → Partial → List ℕ → List Comparison
@@ -89,7 +86,7 @@ table include (compared below) p text = under (first p) ∷ []
 table include (compared above) wildcard text = under (0, 0, 0) ∷ []
 table include s wildcard text = []
 table include caret (whole v) text = caret_from include (written_zeros text) v ∷ (under (next_changed (written_zeros text) (whole v)) ∷ [])
-table include tilde (whole v) text = as_written (written_zeros text) (whole v) (made at_least (no_build v)) ∷ (under (next (whole v)) ∷ [])
+table include tilde (whole v) text = as_written (written_zeros text) (whole v) (made at_least (record v { build = [] })) ∷ (under (next (whole v)) ∷ [])
 table include caret p text = as_written (written_zeros text) p (from include (first p)) ∷ (under (next_changed (written_zeros text) p) ∷ [])
 table include tilde p text = as_written (written_zeros text) p (from false (first p)) ∷ (under (next p) ∷ [])
 table include (compared equal) p text = as_written (written_zeros text) p (from include (first p)) ∷ (under (next p) ∷ [])
@@ -105,6 +102,6 @@ hyphen_lower c include (whole v) text = if include && is_release v
 hyphen_lower c include p text = table include (compared at_least) p text
 
 abbrev pub hyphen_upper : Comparator → Bool → Partial → List ℕ → List Comparison
-hyphen_upper c include (whole v) text = if not (is_release v) then made at_most (no_build v) ∷ []
+hyphen_upper c include (whole v) text = if not (is_release v) then made at_most (record v { build = [] }) ∷ []
     else if include then under (v.major, v.minor, v.patch + 1) ∷ [] else table include (compared c) (whole v) text
 hyphen_upper c include p text = table include (compared at_most) p text

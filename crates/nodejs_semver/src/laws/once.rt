@@ -4,7 +4,7 @@ ghost use Rattle.std.specs.Prelude.{◌==◌, ◌||◌, ◌≡◌, Bool, IsUtf8}
 ghost use Rattle.nodejs_semver.specs.Words.{Comparison, HasAlternativesIn, is_identifier_char};
 ghost use Rattle.nodejs_semver.specs.Words.{IsVersionText, List, list_all, MAX_SAFE_INTEGER};
 ghost use Rattle.nodejs_semver.specs.Npm.Coerced.{IsCoerced, IsLeftmost, IsNumberIn, IsRightmost};
-ghost use Rattle.nodejs_semver.specs.Words.{no_build, true, version_text, VersionValue, ℕ};
+ghost use Rattle.nodejs_semver.specs.Words.{[], true, version_text, VersionValue, ℕ};
 
 /// In node-semver's strict reading a text is one version at most, and what this version prints
 /// without its build is a text that is the same version without its build, of letters, digits,
@@ -16,10 +16,10 @@ pub fn npm_reads_once()
     ensures version { (limit : ℕ) (text : List ℕ) (v w : VersionValue)
         → IsVersionText limit text v → IsVersionText limit text w → v ≡ w }
     ensures printed { (text : List ℕ) (v : VersionValue) → IsUtf8 text
-        → IsVersionText MAX_SAFE_INTEGER text v
-        → IsVersionText MAX_SAFE_INTEGER (version_text (no_build v)) (no_build v)
-        × (list_all (λ c. is_identifier_char c || (c == 46 || c == 43))
-        (version_text (no_build v)) ≡ true) }
+        → IsVersionText MAX_SAFE_INTEGER text v → let w = record v { build = [] } in
+        IsVersionText MAX_SAFE_INTEGER (version_text w) w
+        × (list_all (λ c. is_identifier_char c || (c == 46 || c == 43)) (version_text w)
+        ≡ true) }
     ensures alternatives { (loose : Bool) (limit : ℕ) (include : Bool) (text : List ℕ)
         (a b : List (List Comparison)) → IsUtf8 text
         → HasAlternativesIn loose limit include text a

@@ -3,10 +3,10 @@
 ghost use Rattle.std.specs.Prelude.{◌+◌, ◌∷◌, ◌≡◌, ◌≤◌, nat_le};
 ghost use Rattle.nodejs_semver.specs.Words.{Bool, Comparison, List, MAX_SAFE_INTEGER, Some, []};
 ghost use Rattle.nodejs_semver.specs.Words.{bounds_view, comparator_view, decimal, false, length};
-ghost use Rattle.nodejs_semver.specs.Words.{lent_id_view, no_build, true, version_text, ℕ};
+ghost use Rattle.nodejs_semver.specs.Words.{lent_id_view, true, version_text, ℕ};
 ghost use Rattle.nodejs_semver.specs.Internal.NpmMeaning.{AreRead, IsCommon, is_part, is_zero};
 ghost use Rattle.nodejs_semver.specs.Internal.NpmParts.{are_normal, npm_partial_view};
-ghost use Rattle.nodejs_semver.specs.Internal.NpmParts.{AreZeros, is_padded, noted};
+ghost use Rattle.nodejs_semver.specs.Internal.NpmParts.{AreZeros, is_padded, no_build, noted};
 ghost use Rattle.nodejs_semver.specs.Internal.NpmParts.{npm_sign_view, within};
 ghost use Rattle.nodejs_semver.specs.Npm.{Ranges.is_valid, Table.{first, from, made, table}};
 ghost use Rattle.nodejs_semver.specs.Npm.Table.{written_zeros};

@@ -263,9 +263,9 @@ pub fn range(
 /// (`^01.2.3`), a pre-release without its `-` (`1.2.3beta`), and more marks than one `v` before a
 /// version (`==1.2.3`). Malformed words are ignored: `>=1.0.0, <2.0.0` is `<2.0.0`. One that ends
 /// in a sign goes on behind the whitespace, behind a comparator only if a number or a wildcard
-/// follows: `foo^ bar 1` is `1`, and `foo= 1 2` is `2`. Words without comparators are no
-/// alternative if the first and the last one are malformed: `latest || 1` is `1`, and `foo *` is
-/// `*`.
+/// follows: `foo^ bar 1` is `1`, and `foo= 1 2` and `1.2.3-dev= 1 2` are `2`. Words without
+/// comparators are no alternative if the first and the last one are malformed: `latest || 1` is
+/// `1`, and `foo *` is `*`.
 ///
 /// Node-semver answers otherwise of a word that has one `*` and is else a whole version, such as
 /// `>*1.2.3`, where it passes over the `*`: here the word is malformed. It reads partial versions

@@ -62,7 +62,7 @@ pub(crate) fn dashed_front(text: &[u8]) -> (&[u8], &[u8])
 }
 
 #[inline(always)]
-fn is_digits(text: &[u8]) -> bool
+pub(crate) fn is_digits(text: &[u8]) -> bool
     ensures { result ≡ list_all is_ascii_digit text.now }
 {
     text.iter().all(|byte| byte.is_ascii_digit())
