@@ -2,7 +2,7 @@ pub mod VersionLaw
 pub mod PartialLaw
 pub mod Zeros
 pub mod Signs
-pub mod Malformed
+pub mod Characters
 pub mod Ignored
 pub mod AlternativeLaw
 pub mod Hyphens

@@ -14,8 +14,8 @@ use Rattle.nodejs_semver.specs.Ranges.Gate.{accepts}
 use Rattle.std.proofs.lemmas.List.{get_or-replicate, get_or_past, length-replicate, get_or_read, length-set, set-get_or, set-set}
 use Rattle.std.proofs.lemmas.Option.{none-some, same_Some, slice_get-get_or, slice_get_past}
 use Rattle.std.proofs.lemmas.List.Elements.{All-contains, All-more}
-use Rattle.uses.specs.Resolver.{ArePicked, IsBegun, IsConflict, IsHopeless, IsMet, IsNeeded, IsPicked, IsPlan, MeetsAll}
-use Rattle.uses.specs.Resolver.{of_release, of_root, one_more, release_at, releases_of}
+use Rattle.uses.specs.Resolver.{IsBegun, IsConflict, IsHopeless, IsMet, IsNeeded, IsPicked, MeetsAll}
+use Rattle.uses.specs.Resolver.{of_release, of_root, release_at, releases_of}
 use Rattle.uses.specs.declared.resolver.Conflict.{Conflict}
 use Rattle.uses.specs.declared.resolver.Conflict.TheVariants.{Unmatched, Clash}
 use Rattle.uses.specs.declared.resolver.Package.{Package}

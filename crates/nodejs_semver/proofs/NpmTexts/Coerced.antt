@@ -7,7 +7,7 @@ use Rattle.nodejs_semver.proofs.{Common.{take_rest, true, ℕ, ◌++◌, ◌+◌
 use Rattle.nodejs_semver.proofs.NpmCommon.{IsRightmost, IsRun, IsTuple, MAX_LENGTH, NoValue, drop-append-add, has_leading_zero, length-prefix_len}
 use Rattle.nodejs_semver.proofs.NpmCommon.{listed, nat_le, number_front, strict_number, tuple_len, tuple_release, ◌>>?◌}
 use Rattle.nodejs_semver.proofs.{NpmTexts.Lists.{marked-found, marked-read}, Reading.Numbers.{digits-taken, number-is, number-read, run-ends}}
-use Rattle.nodejs_semver.proofs.Strict.{Malformed.last-byte, PartialLaw.digits-of, VersionLaw.{padded-same, strict-read}}
+use Rattle.nodejs_semver.proofs.Strict.{Characters.last-byte, PartialLaw.digits-of, VersionLaw.{padded-same, strict-read}}
 use Rattle.nodejs_semver.specs.Internal.NpmTuples.{BeginsAfter, IsFirstPlace, IsLastPlace, absent_len, build_len, dotted_len, end_at}
 use Rattle.nodejs_semver.specs.Internal.NpmTuples.{marked_len, number_in_reading, pre_len, qualified, run_len, tuple_len_at, version_front}
 use Rattle.nodejs_semver.specs.Npm.Coerced.{IsCoerced, IsContinuedIn, IsMarkedList, IsNumberIn, IsRelease, absent, marked, one, three, two, unmarked}

@@ -10,8 +10,8 @@ use Rattle.nodejs_semver.proofs.NpmCommon.{AcceptAsRanged, AreAlternatives, AreR
 use Rattle.nodejs_semver.proofs.NpmCommon.{after_byte, are_marks, are_normal, begins_wildcard, bounds_view, comparators_of, counted_front}
 use Rattle.nodejs_semver.proofs.NpmCommon.{dotted_patch, dotted_place, is_lost, is_small, is_valid, limited, listed, no_sign, patch_place, spelling}
 use Rattle.nodejs_semver.proofs.{NpmCommon.{strict_number, within}, Reading.{Bytes.{all-end, all-join, solid-dark}, WordLaw.{blank-len, trim-utf8}}}
-use Rattle.nodejs_semver.proofs.Strict.{AlternativeLaw.partial-normal, Hyphens.{hyphen_none-strict, partial-le}, Ignored.no-blank, Malformed.is_part}
-use Rattle.nodejs_semver.proofs.Strict.{Malformed.partial-part, PartialLaw.{PartialAt, counted-some, front-text, number_placed, over_counted}}
+use Rattle.nodejs_semver.proofs.Strict.{AlternativeLaw.partial-normal, Hyphens.{hyphen_none-strict, partial-le}, Ignored.no-blank, Characters.is_part}
+use Rattle.nodejs_semver.proofs.Strict.{Characters.partial-part, PartialLaw.{PartialAt, counted-some, front-text, number_placed, over_counted}}
 use Rattle.nodejs_semver.proofs.Strict.{PartialLaw.{partial-found, strict-counted, wildcard_placed}, RangeReads.{found_spans, ranged_range}}
 use Rattle.nodejs_semver.proofs.Strict.{Rows.{both_common, narrowed}, Signs.blank-nil, Words.{places-some, strict-kept}, Zeros.strict-unpadded}
 use Rattle.nodejs_semver.{proofs.Strict.Zeros.strict-zeros, specs.Internal.{CommonFronts.after_bars, NpmAlternatives.ranged, NpmFronts.AreIn}}

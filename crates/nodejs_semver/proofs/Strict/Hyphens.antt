@@ -12,7 +12,7 @@ use Rattle.nodejs_semver.proofs.NpmCommon.{drop_ends, end_front, ended_as, hyphe
 use Rattle.nodejs_semver.proofs.NpmCommon.{is_right_end, is_short, is_short_word, is_small, is_valid, last_end, last_marks, len_utf8, lower_of}
 use Rattle.nodejs_semver.proofs.{NpmCommon.{no_build, plus, upper_of, ◌>>?◌}, Reading.Bytes.{all-join, begins_component, is_component_byte, is_solid}}
 use Rattle.nodejs_semver.proofs.Reading.{PartialLaw.front-dark, WordLaw.{blank-len, boundary-of, boundary-utf8, byte-is, skips-of, skips-utf8}}
-use Rattle.nodejs_semver.proofs.{Reading.WordLaw.{some_space-is, tail-utf8}, Strict.{Malformed.{is_signal, sign-signal}, PartialLaw.boundary-quiet}}
+use Rattle.nodejs_semver.proofs.{Reading.WordLaw.{some_space-is, tail-utf8}, Strict.{Characters.{is_signal, sign-signal}, PartialLaw.boundary-quiet}}
 use Rattle.nodejs_semver.proofs.Strict.{PartialLaw.{front-text, places-found, places-read}, Printed.{lower-invalid, upper-invalid}, Signs.marks-all}
 use Rattle.nodejs_semver.{proofs.Strict.{VersionLaw.empty-is, Words.{marks-dropped, places-begin}}, specs.Internal.NpmParts.some_normal}
 use Rattle.nodejs_semver.specs.Internal.{NpmReads.{hyphen_valid, valid_one}, NpmWords.{after_dash, end_len, places_front}, Words.after_some_space}

@@ -1,4 +1,4 @@
-use Rattle.std.proofs.Common.{◌≡◌, ◌++◌, ◌∷◌, [], append_assoc, arith, ap, length, refl}
+use Rattle.std.proofs.Common.{◌++◌, ◌∷◌, [], append_assoc, arith, ap, length, refl}
 use Rattle.std.proofs.lemmas.Result.{err_from_is_err_and}
 use Rattle.semver_answers.proofs.Behind.{only, onward}
 use Rattle.semver_answers.proofs.Replies.{finds_none, refused_one}

@@ -1,6 +1,6 @@
 use Rattle.nodejs_semver.proofs.{Common.{arith, length, sym, ◌<◌, ◌∙◌}, Strict.Counted.words-begin}
 use Rattle.nodejs_semver.proofs.Strict.RangeReads.{view-none, word-next, word-none, words-all}
-use Rattle.nodejs_semver.proofs.{Common.ap, NpmCommon.{Alternative, is_none}, Strict.Malformed.empty-length}
+use Rattle.nodejs_semver.proofs.{Common.ap, NpmCommon.{Alternative, is_none}, Strict.Characters.empty-length}
 use Rattle.nodejs_semver.proofs.npm.ranges.words.Goals.{else-is_last_ignored, then-is_last_ignored}
 use Rattle.nodejs_semver.proofs.npm.ranges.words.Goals as goal
 
