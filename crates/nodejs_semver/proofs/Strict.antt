@@ -3,6 +3,7 @@ pub mod PartialLaw
 pub mod Zeros
 pub mod Signs
 pub mod Characters
+pub mod Inside
 pub mod Ignored
 pub mod AlternativeLaw
 pub mod Hyphens

@@ -10,8 +10,8 @@ use Rattle.nodejs_semver.proofs.{NpmCommon.{pre_front, pre_release_front, ◌>>?
 use Rattle.nodejs_semver.proofs.Reading.Numbers.{front_none, front_some, number-found, number-is, number-of, number-read, run-ends}
 use Rattle.nodejs_semver.proofs.Strict.{Hyphens.{ends-found, ends-read}, PartialLaw.{digits-of, patch-exact}, VersionLaw.{At, Ends, Follows}}
 use Rattle.nodejs_semver.proofs.Strict.VersionLaw.{PreFound, build-ends, build-taken, dotted-found, ended-found, letter-on, pre-follows, pre-found}
-use Rattle.nodejs_semver.{proofs.Strict.VersionLaw.pre-taken, specs.{Internal.NpmLooseVersions.{IsLooseVersion, patch_len}, Npm.Grammar.IsPreRelease}}
-use Rattle.{nodejs_semver.specs.Npm.VersionText.written, std.proofs.lemmas.List.drop-drop}
+use Rattle.nodejs_semver.{proofs.Strict.VersionLaw.pre-taken, specs.{Internal.NpmLooseVersions.patch_len, Npm.{Grammar.IsPreRelease, VersionText.IsLooseVersion}}}
+use Rattle.{nodejs_semver.specs.Npm.Grammar.written, std.proofs.lemmas.List.drop-drop}
 
 -- ---- the patch number that the code finds
 

@@ -9,7 +9,7 @@ use Rattle.nodejs_semver.proofs.NpmCommon.{State, build_front, dashed_front, dig
 use Rattle.nodejs_semver.proofs.NpmCommon.{encode_ascii, encodes_same, has_leading_zero, is_strict_identifier, is_strict_list, is_whole, listed}
 use Rattle.{nodejs_semver.proofs.{NpmCommon.{pre_release_front, runs_tail, ◌>>?◌}, Reading.Bytes.{all-join, is_solid}}, std.specs.Prelude.reverse}
 use Rattle.nodejs_semver.proofs.Strict.VersionLaw.{build-ends, build-found, build-taken, dashed-found, pre-follows, pre-taken}
-use Rattle.nodejs_semver.specs.{Internal.NpmStates.ended, Npm.VersionText.written, declared.npm.flaws.State.TheVariants.{End, Start}}
+use Rattle.nodejs_semver.specs.{Internal.NpmStates.ended, Npm.Grammar.written, declared.npm.flaws.State.TheVariants.{End, Start}}
 use Rattle.{semver_core.{proofs.Text.Listed.plain_runs, specs.Internal.CommonReading.is_plain}, std.proofs.lemmas.List.reverse-append}
 
 -- ---- the characters of a version are bytes

@@ -1,7 +1,8 @@
 -- How far a malformed word goes: the function that looks for its end finds exactly what the statement has.
 use Rattle.nodejs_semver.proofs.Common.{nat_lt, nat_tests, space_len, ◌++◌, encode_utf8, len_utf8_bounds, length-encode, if◌then◌else◌, is_boundary, length-take-le, IsUtf8, List, [], ap, arith, drop_spaces, false, from_boundary, length, length-append, subst, suc, sym}
 use Rattle.nodejs_semver.proofs.Common.{take, true, zero, ℕ, ◌-◌, ◌<◌, ◌∙◌, ◌∷◌, ◌≡◌, ◌≤◌, cases_Bool, inl, inr, refl}
-use Rattle.nodejs_semver.proofs.{NpmCommon.{IsIgnored, behind_ignored, takes}, Reading.WordLaw.{boundary-utf8, first-is, first-of}}
+use Rattle.nodejs_semver.proofs.{NpmCommon.{IsIgnored, behind_ignored}, Reading.WordLaw.{boundary-utf8, first-is, first-of}}
+use Rattle.nodejs_semver.{proofs.Strict.Inside.{not-takes, takes-found, takes-not, takes-read}, specs.Internal.NpmWords.takes_on}
 use Rattle.nodejs_semver.proofs.{Reading.WordLaw.{skips-is, skips-of, skips-utf8}, Strict.PartialLaw.front-text}
 use Rattle.nodejs_semver.proofs.{Reading.PartialLaw.{spaces-gone, spaces-le}, Strict.Signs.{blank-at, blank-nil}}
 use Rattle.nodejs_semver.specs.{Npm.Malformed.{goes_on, stops}, Text.WordText.{IsBoundary, IsFirstBoundary, SkipsBlank}}
@@ -11,7 +12,8 @@ nil-of : (text : List ℕ) → length text ≤ 0 → text ≡ []
 nil-of [] le = refl
 nil-of (b ∷ text) le = absurd (omega (arith, le))
 
-takes-some : (piece rest : List ℕ) → takes piece rest ≡ true → 0 < length piece
+takes-some : (piece rest : List ℕ) → takes_on piece rest ≡ true → 0 < length piece
+unfolding takes_on
 takes-some [] rest h = cc h
 takes-some (b ∷ piece) rest h = omega arith
 
@@ -20,7 +22,7 @@ piece-is : (text behind : List ℕ) (f : IsFirstBoundary text behind) → take (
 piece-is text behind f = ap (λ (t : List ℕ). take (length t - length behind) t) f.1 ∙ front-text f.0 behind
 
 -- what is taken is shorter
-taken-shorter : (text behind rest : List ℕ) (f : IsFirstBoundary text behind) → SkipsBlank behind rest → takes f.0 rest ≡ true → length rest < length text
+taken-shorter : (text behind rest : List ℕ) (f : IsFirstBoundary text behind) → SkipsBlank behind rest → takes_on f.0 rest ≡ true → length rest < length text
 taken-shorter text behind rest f s h =
     omega (arith, ap length f.1, length-append f.0 behind, takes-some f.0 rest h, ap length s.1, length-append s.0 rest)
 
@@ -32,18 +34,19 @@ module _ (text : List ℕ) (u : IsUtf8 text) where
 -- where nothing is left, nothing is taken
 nil-left : (text end : List ℕ) → IsIgnored text end → length text ≤ 0 → end ≡ []
 nil-left text end (stops t behind rest f s h) le = nil-of behind (omega (arith, le, ap length f.1, length-append f.0 behind))
-nil-left text end (goes_on t behind rest e f s h more) le = absurd (omega (arith, le, taken-shorter t behind rest f s h))
+nil-left text end (goes_on t behind rest e f s h more) le = absurd (omega (arith, le, taken-shorter t behind rest f s (takes-read f.0 rest h)))
 
 pub ignored-read : (n : ℕ) (text end : List ℕ) → IsUtf8 text → IsIgnored text end → length text ≤ n → behind_ignored n text ≡ end
 unfolding behind_ignored
 ignored-read zero text end u h le = nil-of text le ∙ sym (nil-left text end h le)
 ignored-read (suc n) text end u (stops t behind rest f s h) le =
     let v = behind-utf8 t u behind rest f s in
-    rw (first-of t behind u f, skips-of behind rest v.0 s, piece-is t behind f, h) refl
+    rw (first-of t behind u f, skips-of behind rest v.0 s, piece-is t behind f, takes-not f.0 rest h) refl
 ignored-read (suc n) text end u (goes_on t behind rest e f s h more) le =
     let v = behind-utf8 t u behind rest f s in
-    let less = taken-shorter t behind rest f s h in
-    rw (first-of t behind u f, skips-of behind rest v.0 s, piece-is t behind f, h) (ignored-read n rest e v.1 more (omega (arith, less, le)))
+    let on = takes-read f.0 rest h in
+    let less = taken-shorter t behind rest f s on in
+    rw (first-of t behind u f, skips-of behind rest v.0 s, piece-is t behind f, on) (ignored-read n rest e v.1 more (omega (arith, less, le)))
 
 -- ---- what is left behind a boundary and whitespace
 
@@ -83,9 +86,10 @@ pub no-blank : BeginsBlank [] → ⊥
 no-blank h = omega (arith, ap length h.spelled, length-append (encode_utf8 h.character) h.rest, length-encode h.character, (len_utf8_bounds h.character).0)
 
 nil-ignored : (text : List ℕ) → IsUtf8 text → length text ≤ 0 → IgnoredAt text text
+unfolding takes_on
 nil-ignored [] u le =
     let f : IsFirstBoundary [] [] = ([], refl, inl refl, λ x y e h. omega arith) in
-    record { is = stops [] [] [] f ([], refl, blank-nil, no-blank) refl; ended = inl refl; utf8 = u; fits = omega arith; less = λ some. omega (arith, some) }
+    record { is = stops [] [] [] f ([], refl, blank-nil, no-blank) (not-takes [] [] refl); ended = inl refl; utf8 = u; fits = omega arith; less = λ some. omega (arith, some) }
 nil-ignored (b ∷ text) u le = absurd (omega (arith, le))
 
 pub ignored-found : (n : ℕ) (text : List ℕ) → IsUtf8 text → length text ≤ n → IgnoredAt text (behind_ignored n text)
@@ -97,9 +101,9 @@ ignored-found (suc n) text u le =
     let f = first-is [] text u in
     let v = boundary-utf8 f.0 behind (subst (λ (t : List ℕ). IsUtf8 t) f.1 u) f.2 in
     let s = skips-is behind v in
-    elim (cases_Bool (takes f.0 rest)) [
+    elim (cases_Bool (takes_on f.0 rest)) [
       | inr stop ↦ rw (piece-is text behind f, stop) (record {
-        is = stops text behind rest f s stop;
+        is = stops text behind rest f s (not-takes f.0 rest stop);
         ended = f.2;
         utf8 = v;
         fits = omega (arith, ap length f.1, length-append f.0 behind);
@@ -109,7 +113,7 @@ ignored-found (suc n) text u le =
           let less = taken-shorter text behind rest f s go in
           let r = ignored-found n rest (skips-utf8 behind rest s v) (omega (arith, less, le)) in
           rw (piece-is text behind f, go) (record {
-            is = goes_on text behind rest (behind_ignored n rest) f s go r.is;
+            is = goes_on text behind rest (behind_ignored n rest) f s (takes-found f.0 rest go) r.is;
             ended = r.ended;
             utf8 = r.utf8;
             fits = omega (arith, r.fits, less);
@@ -121,17 +125,17 @@ ignored-found (suc n) text u le =
 
 -- what is taken is shorter
 taken-less : (text : List ℕ) (n : ℕ) → n ≡ length text - length (from_boundary text)
-    → takes (take n text) (drop_spaces (from_boundary text)) ≡ true → length (drop_spaces (from_boundary text)) < length text
+    → takes_on (take n text) (drop_spaces (from_boundary text)) ≡ true → length (drop_spaces (from_boundary text)) < length text
 taken-less text n e h =
     omega (arith, e, takes-some (take n text) (drop_spaces (from_boundary text)) h, length-take-le n text, spaces-le (from_boundary text), boundary-le text)
 
 -- the number only bounds the pieces
 enough : (n m : ℕ) (text : List ℕ) → length text ≤ n → length text ≤ m → behind_ignored n text ≡ behind_ignored m text
-unfolding behind_ignored from_boundary
+unfolding behind_ignored from_boundary takes_on
 enough zero zero text h k = refl
 enough zero (suc m) text h k = rw (nil-of text h) refl
 enough (suc n) zero text h k = rw (nil-of text k) refl
-enough (suc n) (suc m) text h k = elim (cases_Bool (takes (take (length text - length (from_boundary text)) text) (drop_spaces (from_boundary text)))) [
+enough (suc n) (suc m) text h k = elim (cases_Bool (takes_on (take (length text - length (from_boundary text)) text) (drop_spaces (from_boundary text)))) [
   | inr stop ↦ rw stop refl
   | inl go ↦
       let less = taken-less text _ refl go in
@@ -139,20 +143,20 @@ enough (suc n) (suc m) text h k = elim (cases_Bool (takes (take (length text - l
 ]
 
 step : (n : ℕ) (text : List ℕ) → behind_ignored (suc n) text ≡ (let rest = drop_spaces (from_boundary text) in
-    if takes (take (length text - length (from_boundary text)) text) rest then behind_ignored n rest else from_boundary text)
+    if takes_on (take (length text - length (from_boundary text)) text) rest then behind_ignored n rest else from_boundary text)
 unfolding behind_ignored
 step n text = refl
 
 module _ (text behind next : List ℕ) (e : behind ≡ from_boundary text) (f : next ≡ drop_spaces behind) where
   more : behind_ignored (length text) text
-      ≡ (if takes (take (length text - length behind) text) next then behind_ignored (length text) next else behind)
+      ≡ (if takes_on (take (length text - length behind) text) next then behind_ignored (length text) next else behind)
   more = rw (f, e) (enough (length text) (suc (length text)) text (omega arith) (omega arith) ∙ step (length text) text)
 
-  pub piece-stops : takes (take (length text - length behind) text) next ≡ false → behind ≡ behind_ignored (length text) text
+  pub piece-stops : takes_on (take (length text - length behind) text) next ≡ false → behind ≡ behind_ignored (length text) text
   piece-stops h = sym (more ∙ rw h refl)
 
-  pub piece-less : takes (take (length text - length behind) text) next ≡ true → length next < length text
+  pub piece-less : takes_on (take (length text - length behind) text) next ≡ true → length next < length text
   piece-less h = rw (f, e) (taken-less text (length text - length (from_boundary text)) refl (rw (f, e) at h))
 
-  pub piece-goes : takes (take (length text - length behind) text) next ≡ true → behind_ignored (length text) text ≡ behind_ignored (length next) next
+  pub piece-goes : takes_on (take (length text - length behind) text) next ≡ true → behind_ignored (length text) text ≡ behind_ignored (length next) next
   piece-goes h = more ∙ rw h (enough (length text) (length next) next (omega (arith, piece-less h)) (omega arith))

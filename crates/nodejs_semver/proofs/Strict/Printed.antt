@@ -9,7 +9,7 @@ use Rattle.nodejs_semver.proofs.NpmCommon.{bytes_eq-Decides, chars, chars_from_e
 use Rattle.nodejs_semver.proofs.NpmCommon.{is_small, is_strict_identifier, is_valid, is_zero, join_with_byte, marked_list, nat_le, no_build}
 use Rattle.nodejs_semver.proofs.{NpmCommon.{no_pre_release, release, under, version_text, whole, within}, Stopping.Read.{plain-encodes, plain-middle}}
 use Rattle.nodejs_semver.{proofs.{Stopping.Read.plain-trim, Strict.VersionLaw.{digits_printed, number_printed}}, specs.Npm.Table.{Partial, Sign}}
-use Rattle.{nodejs_semver.specs.Npm.{Table.{lowest, table}, VersionText.written}, semver_core.proofs.Printing.Returns.{decimal_digits, decimal_some}}
+use Rattle.{nodejs_semver.specs.Npm.{Table.{lowest, table}, Grammar.written}, semver_core.proofs.Printing.Returns.{decimal_digits, decimal_some}}
 use Rattle.{semver_core.specs.{Internal.CommonReading.is_plain, Text.Identifiers.is_u64_text}, std.proofs.lemmas.Fmt.decimal_digit}
 use Rattle.std.proofs.lemmas.{Fmt.{decimal_injective, length-decimal-le}, List.Splits.{join_with_byte-slice_split, length-slice_split}}
 use Rattle.std.{proofs.lemmas.Str.{IsUtf8-from_ascii, chars-IsAscii}, specs.Str.IsAscii}

@@ -12,7 +12,7 @@ use Rattle.nodejs_semver.proofs.NpmCommon.{is_strict_list, listed, no_build, no_
 use Rattle.nodejs_semver.proofs.{NpmCommon.{qualified_version, strict_number, strict_version, ◌>>?◌}, Reading.Bytes.is_solid}
 use Rattle.nodejs_semver.proofs.Reading.{IdentifierLists.{front-identifiers, written-begins, written-exact, written-spelled}, Numbers.front_none}
 use Rattle.nodejs_semver.proofs.Reading.{Numbers.{front_some, number-found, number-read}, PartialLaw.byte-begins, WordLaw.byte-is}
-use Rattle.nodejs_semver.specs.{Internal.Fronts.{Front, drop_v, marked_list}, Npm.{Grammar.IsPreRelease, VersionText.{IsWhole, IsWritten, written}}}
+use Rattle.nodejs_semver.specs.{Internal.Fronts.{Front, drop_v, marked_list}, Npm.{Grammar.{IsPreRelease, IsWritten, written}, VersionText.IsWhole}}
 use Rattle.{semver_core.proofs.Text.{Pieces.list_ended, Runs.{list_len_stop, numerals}}, std.proofs.lemmas.Fmt.decimal-digits_value}
 use Rattle.std.proofs.lemmas.{Fmt.length-decimal-le, Str.{encodes-chars, length-le-encodes}}
 

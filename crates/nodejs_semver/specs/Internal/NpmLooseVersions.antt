@@ -1,19 +1,13 @@
 -- For proofs and private contracts. What node-semver's loose reading finds in a version text, as functions.
-use Rattle.std.specs.Prelude.{◌&&◌, ◌-◌, ℕ, List, true, false, Option, Some, None, if◌then◌else◌, drop, take}
+use Rattle.std.specs.Prelude.{◌&&◌, ◌-◌, ℕ, List, Option, Some, None, if◌then◌else◌, drop, take}
 use Rattle.std.specs.Char.{is_ascii_digit}
 use Rattle.std.specs.List.{prefix_len}
 use Rattle.semver_core.specs.Internal.Reading.{◌>>?◌}
 use Rattle.semver_core.specs.Lists.{is_empty}
 use Rattle.semver_core.specs.Text.Identifiers.{listed}
-use Rattle.semver_core.specs.Text.Numbers.{IsNumber}
 use Rattle.semver_core.specs.Values.Versions.{VersionValue}
 use Rattle.nodejs_semver.specs.Internal.Fronts.{Front, after_byte, begins_byte, begins_identifier, build_front, marked_list, number_front, number_of}
 use Rattle.nodejs_semver.specs.Internal.NpmWords.{drop_ends}
-use Rattle.nodejs_semver.specs.Npm.{Grammar.{IsPreRelease}, RangeText.{AreMarks}, VersionText.{IsWritten}}
-
--- a version text without whitespace around it
-abbrev pub IsLooseVersion : ℕ → List ℕ → VersionValue → Type 0
-IsLooseVersion limit = IsWritten AreMarks (IsNumber limit) (IsPreRelease true false (λ ids. true))
 
 -- a number behind a dot
 unfoldable pub loose_dotted : ℕ → List ℕ → Front ℕ

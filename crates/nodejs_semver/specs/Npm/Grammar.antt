@@ -6,6 +6,7 @@ use Rattle.std.specs.List.{list_all}
 use Rattle.semver_core.specs.Text.Characters.{begins, is_identifier_char}
 use Rattle.semver_core.specs.Text.Identifiers.{Id, IsIdentifiers, pieces}
 use Rattle.semver_core.specs.Text.Numbers.{IsNumber}
+use Rattle.semver_core.specs.Values.Versions.{VersionValue}
 
 -- the text has more than one character and begins with `0`
 abbrev pub has_leading_zero : List ℕ → Bool
@@ -37,3 +38,9 @@ pub data IsPreRelease (loose wild : Bool) (fits : List ℕ → Bool) : List ℕ 
 pub data IsStrictBuild : List ℕ → List Id → Type 0 where
   no_build : IsStrictBuild [] []
   plus : (text : List ℕ) (list : List Id) → IsIdentifiers text list → IsStrictBuild (codes "+" ++ text) list
+
+-- the whole text is this version, in a reading that has these marks, numbers and pre-releases
+pub data IsWritten (Marks : List ℕ → Type 0) (Number : List ℕ → ℕ → Type 0) (PreRelease : List ℕ → List Id → Type 0) : List ℕ → VersionValue → Type 0 where
+  written : (mark x y z pre build : List ℕ) (v : VersionValue) → Marks mark → Number x v.major → Number y v.minor
+      → Number z v.patch → PreRelease pre v.pre_release → IsStrictBuild build v.build
+      → IsWritten Marks Number PreRelease (mark ++ (x ++ (codes "." ++ (y ++ (codes "." ++ (z ++ (pre ++ build))))))) v

@@ -1,10 +1,12 @@
 -- Statement: how far a malformed word goes that is ignored loosely, as node-semver ignores it.
-use Rattle.std.specs.Prelude.{◌≡◌, ◌==◌, ◌&&◌, ◌||◌, ◌-◌, not, ℕ, Bool, true, false, List, [], ◌∷◌, codes, drop, length}
-use Rattle.std.specs.Prelude.{if◌then◌else◌, take}
+use Rattle.std.specs.Prelude.{◌≡◌, ◌⊎◌, ◌==◌, ◌&&◌, ◌||◌, not, ℕ, Bool, true, false, List, [], ◌∷◌, ◌++◌, codes, drop}
 use Rattle.std.specs.Char.{is_ascii_digit, is_ascii_graphic}
 use Rattle.std.specs.List.{ends_with, list_all, prefix_len}
 use Rattle.semver_core.specs.Text.Characters.{begins}
-use Rattle.semver_core.specs.Text.Identifiers.{is_identifier, pieces}
+use Rattle.semver_core.specs.Text.Identifiers.{pieces}
+use Rattle.semver_core.specs.Text.Numbers.{IsNumber}
+use Rattle.semver_core.specs.Values.Versions.{VersionValue}
+use Rattle.nodejs_semver.specs.Npm.Grammar.{IsPreRelease, IsWritten}
 use Rattle.nodejs_semver.specs.Text.WordText.{IsFirstBoundary, SkipsBlank}
 
 -- `v` or `=`
@@ -15,21 +17,16 @@ is_mark b = b == 118 || b == 61
 abbrev pub begins_place : List ℕ → Bool
 begins_place text = begins (λ b. is_ascii_digit b || (b == 120 || (b == 88 || b == 42))) (drop (prefix_len is_mark text) text)
 
--- what stands behind a number and a dot at the front, and nothing where they do not stand there
-abbrev pub behind_number : List ℕ → List ℕ
-behind_number text = let rest = drop (prefix_len is_ascii_digit text) text in if begins is_ascii_digit text && begins (λ b. b == 46) rest then drop 1 rest else []
-
--- the first place in the text begins three numbers, and a pre-release stands behind them to the end, as in `>1.2.3-dev`: behind a `-` or
--- none identifiers, of which one that begins with a digit is a number
-abbrev pub ends_version : List ℕ → Bool
-ends_version text = let last = behind_number (behind_number (drop (prefix_len (λ b. not (begins_place (b ∷ []))) text) text)) in
-    let ids = drop (prefix_len is_ascii_digit last) last in begins is_ascii_digit last && list_all (λ id. is_identifier id
-    && (list_all is_ascii_digit id || not (begins is_ascii_digit id))) (pieces (if begins (λ b. b == 45) ids then drop 1 ids else ids))
-
--- the text ends in a comparator: in `<`, `>`, or a `=` that stands behind no mark. A `v` that ends a version is no mark.
+-- the text ends in a comparator: in `<`, `>`, or a `=` that stands behind no mark
 abbrev pub ends_compared : List ℕ → Bool
-ends_compared text = let ends = ends_with ◌==◌ text in
-    ends (codes "<") || ends (codes ">") || ends (codes "=") && not (ends (codes "v=") && not (ends_version (take (length text - 1) text)) || ends (codes "=="))
+ends_compared text = let ends = ends_with ◌==◌ text in ends (codes "<") || ends (codes ">") || ends (codes "=") && not (ends (codes "v=") || ends (codes "=="))
+
+-- the text ends in this version, with no number and no wildcard before it, as `>1.2.3-dev` does. Inside a malformed word an identifier of
+-- a pre-release that begins with a digit is a number, and a pre-release that does so stands behind `-`.
+abbrev pub EndsInVersion : List ℕ → VersionValue → Type 0
+EndsInVersion = IsWritten (λ front. list_all (λ b. not (begins_place (b ∷ []))) front ≡ true) (λ digits n. IsNumber n digits n)
+    (λ pre ids. (begins is_ascii_digit pre ≡ false)
+    × IsPreRelease true false (λ ids. list_all (λ id. list_all is_ascii_digit id || not (begins is_ascii_digit id)) (pieces ids)) pre ids)
 
 -- what follows these characters behind whitespace belongs to their word: behind `^` and `~` anything, behind a comparator a place, and
 -- behind `~>` all but a `=` alone
@@ -37,7 +34,11 @@ abbrev pub takes : List ℕ → List ℕ → Bool
 takes text rest = let ends = ends_with ◌==◌ text in ends (codes "^") || ends (codes "~") || ends_compared text && begins_place rest
     || ends (codes "~>") && not (begins (λ b. b == 61) rest && not (begins is_ascii_graphic (drop 1 rest)))
 
+-- and behind a version and a `=` a place, also where the version ends in `v`
+abbrev pub Takes : List ℕ → List ℕ → Type 0
+Takes text rest = (takes text rest ≡ true) ⊎ ((front : List ℕ) × (v : VersionValue) × (text ≡ front ++ codes "=") × EndsInVersion front v × (begins_place rest ≡ true))
+
 -- a malformed word at the front of a text ends here: at the first whitespace or the end, unless what follows belongs to it
 pub data IsIgnored : List ℕ → List ℕ → Type 0 where
-  stops : (text behind rest : List ℕ) (f : IsFirstBoundary text behind) → SkipsBlank behind rest → takes f.0 rest ≡ false → IsIgnored text behind
-  goes_on : (text behind rest end : List ℕ) (f : IsFirstBoundary text behind) → SkipsBlank behind rest → takes f.0 rest ≡ true → IsIgnored rest end → IsIgnored text end
+  stops : (text behind rest : List ℕ) (f : IsFirstBoundary text behind) → SkipsBlank behind rest → (Takes f.0 rest → ⊥) → IsIgnored text behind
+  goes_on : (text behind rest end : List ℕ) (f : IsFirstBoundary text behind) → SkipsBlank behind rest → Takes f.0 rest → IsIgnored rest end → IsIgnored text end

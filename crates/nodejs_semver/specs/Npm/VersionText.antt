@@ -1,26 +1,23 @@
 -- Statement: the version texts of node-semver's strict reading, its default, and of its loose one.
-use Rattle.std.specs.Prelude.{◌≡◌, ◌⊎◌, ◌≤◌, ℕ, true, false, List, [], ◌++◌}
+use Rattle.std.specs.Prelude.{◌≡◌, ◌⊎◌, ◌≤◌, ℕ, true, false, List, []}
 use Rattle.std.specs.Prelude.{codes, drop, length}
 use Rattle.std.specs.List.{prefix_len}
 use Rattle.std.specs.Str.{chars}
 use Rattle.semver_core.specs.Text.Characters.{IsTrim}
-use Rattle.semver_core.specs.Text.Identifiers.{Id}
 use Rattle.semver_core.specs.Text.Numbers.{IsNumber}
 use Rattle.semver_core.specs.Values.Versions.{VersionValue}
 use Rattle.semver_core.specs.declared.TheConstants.{MAX_LENGTH}
-use Rattle.nodejs_semver.specs.Npm.Grammar.{IsPreRelease, IsStrictBuild, IsStrictNumber, is_strict_list}
+use Rattle.nodejs_semver.specs.Npm.Grammar.{IsPreRelease, IsStrictNumber, IsWritten, is_strict_list}
 use Rattle.nodejs_semver.specs.Npm.Malformed.{is_mark}
 use Rattle.nodejs_semver.specs.Npm.RangeText.{AreMarks}
-
--- the whole text is this version, in a reading that has these marks, numbers and pre-releases
-pub data IsWritten (Marks : List ℕ → Type 0) (Number : List ℕ → ℕ → Type 0) (PreRelease : List ℕ → List Id → Type 0) : List ℕ → VersionValue → Type 0 where
-  written : (mark x y z pre build : List ℕ) (v : VersionValue) → Marks mark → Number x v.major → Number y v.minor
-      → Number z v.patch → PreRelease pre v.pre_release → IsStrictBuild build v.build
-      → IsWritten Marks Number PreRelease (mark ++ (x ++ (codes "." ++ (y ++ (codes "." ++ (z ++ (pre ++ build))))))) v
 
 -- strict: one `v` or none, no leading zeros, `-` before the pre-release
 abbrev pub IsStrictVersion : ℕ → List ℕ → VersionValue → Type 0
 IsStrictVersion limit = IsWritten (λ mark. (mark ≡ []) ⊎ (mark ≡ codes "v")) (IsStrictNumber limit) (IsPreRelease false false is_strict_list)
+
+-- loose: any of `v`, `=` and whitespace, leading zeros, and a pre-release without `-`
+abbrev pub IsLooseVersion : ℕ → List ℕ → VersionValue → Type 0
+IsLooseVersion limit = IsWritten AreMarks (IsNumber limit) (IsPreRelease true false (λ ids. true))
 
 -- the text, of at most 256 characters with the whitespace around it, is this version. (node-semver counts
 -- UTF-16 units. A character that is two of them stands in no version text.)
@@ -30,9 +27,8 @@ IsWhole Is text v = (length (chars text) ≤ MAX_LENGTH) × (middle : List ℕ) 
 abbrev pub IsVersionText : ℕ → List ℕ → VersionValue → Type 0
 IsVersionText limit = IsWhole (IsStrictVersion limit)
 
--- loose: any of `v`, `=` and whitespace, leading zeros, and a pre-release without `-`
 abbrev pub IsLooseVersionText : ℕ → List ℕ → VersionValue → Type 0
-IsLooseVersionText limit = IsWhole (IsWritten AreMarks (IsNumber limit) (IsPreRelease true false (λ ids. true)))
+IsLooseVersionText limit = IsWhole (IsLooseVersion limit)
 
 -- node-semver's `clean`: without the whitespace around it, and without the `v` and `=` then at its front, the
 -- text is this version

@@ -1,18 +1,17 @@
 // The malformed words of range texts that node-semver's loose reading ignores: how far they go.
 
-ghost use Rattle.std.specs.Prelude.{[], ◌∷◌, ◌≡◌, ◌≤◌, ◌&&◌, ◌==◌, drop, not};
+ghost use Rattle.std.specs.Prelude.{◌≡◌, ◌≤◌, ◌&&◌, ◌==◌, drop, not};
 ghost use Rattle.std.specs.Char.{is_ascii_digit, is_ascii_graphic};
-ghost use Rattle.std.specs.List.{list_all, prefix_len};
-ghost use Rattle.semver_core.specs.Text.{Characters.is_identifier_char, Identifiers.pieces};
-ghost use Rattle.nodejs_semver.specs.Internal.NpmWords.{behind_ignored, is_found};
+ghost use Rattle.std.specs.List.{prefix_len};
+ghost use Rattle.nodejs_semver.specs.Internal.NpmWords.{behind_ignored};
+ghost use Rattle.nodejs_semver.specs.Internal.NpmWords as Spec;
 ghost use Rattle.nodejs_semver.specs.Npm.Malformed as Text;
 ghost use Rattle.nodejs_semver.specs.Words.{begins, length};
 
-use crate::npm::places::digits_len;
+use crate::npm::places::{digits_len, pre_front};
 use crate::npm::versions::is_digits;
 use crate::npm::words::marks_len;
-use crate::readers::{skip_spaces, skip_to_boundary};
-use semver_core::scan::is_identifier_char;
+use crate::readers::{build_front, skip_spaces, skip_to_boundary};
 
 // Whether a number or a wildcard is at the front, or stands there behind marks.
 fn begins_place(text: &[u8]) -> bool
@@ -27,7 +26,7 @@ fn begins_place(text: &[u8]) -> bool
 // Where the first number or wildcard begins.
 #[tactic(auto, using(crate::proofs::Strict::PartialLaw::prefix_steps))]
 fn place_at(text: &[u8]) -> usize
-    ensures value { result ≡ prefix_len (λ b. not (Text.begins_place (b ∷ []))) text.now }
+    ensures value { result ≡ prefix_len Spec.is_apart text.now }
     ensures fits { result ≤ length text.now }
 {
     'others: for at in 0..text.len() {
@@ -45,8 +44,9 @@ fn begins_digit(text: &[u8]) -> bool
 }
 
 // What stands behind a number and a dot at the front, and nothing where they do not stand there.
+#[tactic(auto, unfolding(crate::specs::Internal::NpmWords::behind_number))]
 fn behind_number(text: &[u8]) -> &[u8]
-    ensures { result.now ≡ Text.behind_number text.now }
+    ensures { result.now ≡ Spec.behind_number text.now }
 {
     match &text[digits_len(text)..] {
         [b'.', rest @ ..] if begins_digit(text) => rest,
@@ -54,45 +54,44 @@ fn behind_number(text: &[u8]) -> &[u8]
     }
 }
 
-fn is_run(text: &[u8]) -> bool
-    ensures { result ≡ list_all is_identifier_char text.now }
-{
-    text.iter().all(|byte| is_identifier_char(*byte))
-}
-
 // Whether an identifier is a number, or a text that does not begin with a digit.
 fn is_found(id: &[u8]) -> bool
-    ensures { result ≡ is_found id.now }
+    ensures { result ≡ Spec.is_found id.now }
 {
-    !id.is_empty() && is_run(id) && (is_digits(id) || !begins_digit(id))
+    is_digits(id) || !begins_digit(id)
 }
 
 // Whether a text is such identifiers joined by dots.
 fn are_found(ids: &[u8]) -> bool
-    ensures { result ≡ list_all is_found (pieces ids.now) }
+    ensures { result ≡ Spec.are_found ids.now }
 {
     ids.split(|byte| *byte == b'.').all(is_found)
 }
 
-// Whether the first place begins three numbers with a pre-release behind them up to the end.
-fn ends_version(text: &[u8]) -> bool
-    ensures { result ≡ Text.ends_version text.now }
+// Whether a text is a pre-release and build metadata, as they stand inside a malformed word.
+#[tactic(auto, unfolding(crate::specs::Internal::NpmWords::is_tail))]
+fn is_tail(text: &[u8]) -> bool
+    ensures { result ≡ Spec.is_tail text.now }
 {
-    let last = behind_number(behind_number(&text[place_at(text)..]));
-    let ids = match &last[digits_len(last)..] {
-        [b'-', ids @ ..] => ids,
-        ids => ids,
-    };
-    begins_digit(last) && are_found(ids)
+    let (pre_release, rest) = pre_front(true, false, text);
+    let (_, rest) = build_front(rest);
+    !begins_digit(text) && rest.is_empty() && are_found(pre_release)
 }
 
-// Whether a text ends in a comparator: in `<`, `>`, or a `=` that stands behind no mark. A `v` that
-// ends a version is no mark.
+// Whether a text ends in a version, with no number and no wildcard before it.
+#[tactic(auto, unfolding(crate::specs::Internal::NpmWords::ends_in_version))]
+fn ends_in_version(text: &[u8]) -> bool
+    ensures { result ≡ Spec.ends_in_version text.now }
+{
+    let last = behind_number(behind_number(&text[place_at(text)..]));
+    begins_digit(last) && is_tail(&last[digits_len(last)..])
+}
+
+// Whether a text ends in a comparator: in `<`, `>`, or a `=` that stands behind no mark.
 fn ends_compared(text: &[u8]) -> bool
     ensures { result ≡ Text.ends_compared text.now }
 {
-    let front = &text[..text.len().saturating_sub(1)];
-    let is_behind_mark = text.ends_with(b"v=") && !ends_version(front) || text.ends_with(b"==");
+    let is_behind_mark = text.ends_with(b"v=") || text.ends_with(b"==");
     text.ends_with(b"<") || text.ends_with(b">") || text.ends_with(b"=") && !is_behind_mark
 }
 
@@ -107,7 +106,8 @@ fn begins_equal(text: &[u8]) -> bool
     }
 }
 
-// Whether what follows a piece of a malformed word behind whitespace belongs to the word.
+// Whether what follows a piece of a malformed word behind whitespace belongs to the word, unless it
+// does so since the piece ends in a version and a `=`.
 fn takes(piece: &[u8], rest: &[u8]) -> bool
     ensures { result ≡ Text.takes piece.now rest.now }
 {
@@ -115,6 +115,15 @@ fn takes(piece: &[u8], rest: &[u8]) -> bool
         || piece.ends_with(b"~")
         || ends_compared(piece) && begins_place(rest)
         || piece.ends_with(b"~>") && !begins_equal(rest)
+}
+
+// Whether it belongs to the word.
+#[tactic(auto, unfolding(crate::specs::Internal::NpmWords::takes_on))]
+fn takes_on(piece: &[u8], rest: &[u8]) -> bool
+    ensures { result ≡ Spec.takes_on piece.now rest.now }
+{
+    let front = &piece[..piece.len().saturating_sub(1)];
+    takes(piece, rest) || piece.ends_with(b"=") && ends_in_version(front) && begins_place(rest)
 }
 
 /// What stands behind the malformed word at the front.
@@ -126,7 +135,7 @@ pub(crate) fn behind_ignored(text: &[u8]) -> &[u8]
         let behind = skip_to_boundary(rest);
         let next = skip_spaces(behind);
         let len = rest.len() - behind.len();
-        if !takes(&rest[..len], next) {
+        if !takes_on(&rest[..len], next) {
             return behind;
         }
         rest = next;

@@ -286,7 +286,7 @@ fn begins_undashed(wild: bool, text: &[u8]) -> bool
 // The text of the pre-release at the front, behind a wildcard or not, and what stands behind it.
 #[inline(always)]
 #[tactic(auto, unfolding(crate::specs::Internal::NpmWords::pre_front))]
-fn pre_front(loose: bool, wild: bool, text: &[u8]) -> (&[u8], &[u8])
+pub(crate) fn pre_front(loose: bool, wild: bool, text: &[u8]) -> (&[u8], &[u8])
     ensures listed { is_listed result.0.now ≡ true }
     ensures value { pair_view result ≡ Spec.pre_front loose wild text.now }
 {

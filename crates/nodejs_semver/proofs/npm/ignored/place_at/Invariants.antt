@@ -1,7 +1,6 @@
-use Rattle.nodejs_semver.proofs.Common.{[], drop, not, prefix_len, ◌+◌, ◌∷◌, ◌≡◌}
-use Rattle.nodejs_semver.specs.Npm.Malformed.{begins_place}
+use Rattle.nodejs_semver.proofs.Common.{drop, prefix_len, ◌+◌, ◌≡◌}
+use Rattle.nodejs_semver.specs.Internal.NpmWords.{is_apart}
 use Rattle.nodejs_semver.proofs.npm.ignored.place_at.Given as goal
 
 abbrev pub invariant-others : goal.invariant-others
-invariant-others l = prefix_len (λ b. not (begins_place (b ∷ []))) l.text
-    ≡ l.at + prefix_len (λ b. not (begins_place (b ∷ []))) (drop l.at l.text)
+invariant-others l = prefix_len is_apart l.text ≡ l.at + prefix_len is_apart (drop l.at l.text)

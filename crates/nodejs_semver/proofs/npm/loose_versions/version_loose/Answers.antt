@@ -1,5 +1,5 @@
 use Rattle.nodejs_semver.proofs.{Common.{MAX_SAFE_INTEGER, rules}, NpmCommon.loose_version}
-use Rattle.nodejs_semver.{proofs.{NpmTexts.Loose.{loose-found, loose-read}, Strict.VersionLaw.text_refused}, specs.Internal.NpmLooseVersions.IsLooseVersion}
+use Rattle.nodejs_semver.{proofs.{NpmTexts.Loose.{loose-found, loose-read}, Strict.VersionLaw.text_refused}, specs.Npm.VersionText.IsLooseVersion}
 use Rattle.nodejs_semver.proofs.npm.loose_versions.version_loose.Goals as goal
 
 pub returns-in-Some-clause-ok : goal.returns-in-Some-clause-ok
