@@ -166,7 +166,7 @@ no_blank : IsBlank []
 no_blank = record { characters = []; each = refl; spelled = refl }
 
 one_is : IsPlaces false (codes "1") (major 1)
-one_is = one (codes "1") (Some 1) (number (codes "1") 1 (record { some = lit< tt; each = refl; value = refl; safe = lit≤ tt }) refl (lit≤ tt))
+one_is = one (codes "1") (Some 1) (number (codes "1") 1 (record { some = lit< tt; each = refl; value = refl; safe = lit≤ tt }) refl refl)
 
 -- words of one word, that ends the text
 words-one : (loose : Bool) (text partial : List ℕ) (cs : List Comparison) → IsWord loose false text partial cs → is_short loose partial ≡ true
@@ -190,7 +190,7 @@ row-tilde_twice = words-one false _ _ _
 -- loosely `^01` is `^1`, `01` stands for no number strictly, and `00` for none
 row-leading : AreWords true false (codes "^01") (Some (table false caret (major 1) (codes "01")) ∷ [])
 row-leading = words-one true _ _ _ (word (codes "^") [] (codes "01") caret (major 1) (sign caret [] no_blank) refl refl
-    (one (codes "01") (Some 1) (number (codes "01") 1 (record { some = lit< tt; each = refl; value = refl; safe = lit≤ tt }) refl (lit≤ tt)))) refl
+    (one (codes "01") (Some 1) (number (codes "01") 1 (record { some = lit< tt; each = refl; value = refl; safe = lit≤ tt }) refl refl))) refl
 
 row-spelled : is_spelled true (codes "01") ∷ is_spelled false (codes "01") ∷ is_spelled true (codes "00") ∷ is_spelled false (codes "00")
     ∷ is_spelled false (codes "0") ∷ [] ≡ true ∷ false ∷ true ∷ false ∷ true ∷ []

@@ -1,8 +1,8 @@
 -- Worked rows: a text that means the same here and to node-semver, with its intervals and its comparators.
 use Rattle.nodejs_semver.proofs.Common.{[], above, arith, Before, begins, below, codes, encode_utf8, encode_utf8_all, false, inl, inr}
 use Rattle.nodejs_semver.proofs.Common.{IsBlank, IsNumber, IsTrim, length, List, list_all, lit≤, more_pieces, None, one_piece, Partial}
-use Rattle.nodejs_semver.proofs.Common.{refl, release_value, Some, Span, sym, true, VersionValue, ℕ, ◌++◌, ◌∷◌, ◌≡◌, ◌≤◌, ◌⊎◌}
-use Rattle.nodejs_semver.proofs.NpmCommon.{digits, from, is_spelled, IsPlainPartial, IsPlainText, under}
+use Rattle.nodejs_semver.proofs.Common.{refl, release_value, Some, Span, sym, true, VersionValue, ℕ, ◌++◌, ◌∷◌, ◌≡◌, ◌⊎◌}
+use Rattle.nodejs_semver.proofs.NpmCommon.{nat_le, digits, from, is_spelled, IsPlainPartial, IsPlainText, under}
 use Rattle.nodejs_semver.specs.Npm.Alike.{between, more_words, next, none, nothing, one_word, signed, words}
 use Rattle.nodejs_semver.specs.Npm.Table.{caret, compared, tilde, written_zeros}
 use Rattle.nodejs_semver.specs.Ranges.View.{any_version}
@@ -23,7 +23,7 @@ abbrev IsPart : List ℕ → ℕ → Type 0
 IsPart text M = IsPlainPartial limit false text (part M)
 
 part_is : (text rest : List ℕ) (M : ℕ) → (text ≡ rest) ⊎ (text ≡ codes "v" ++ rest) → IsNumber limit rest M
-    → is_spelled false rest ≡ true → length rest ≤ 257 → IsPart text M
+    → is_spelled false rest ≡ true → nat_le (length rest) 257 ≡ true → IsPart text M
 part_is text rest M marked n spelled short = record {
   rest = rest;
   marked = marked;
@@ -34,16 +34,16 @@ part_is text rest M marked n spelled short = record {
 }
 
 one_is : IsPart (codes "1") 1
-one_is = part_is (codes "1") (codes "1") 1 (inl refl) (record { some = lit< tt; each = refl; value = refl; safe = lit≤ tt }) refl (lit≤ tt)
+one_is = part_is (codes "1") (codes "1") 1 (inl refl) (record { some = lit< tt; each = refl; value = refl; safe = lit≤ tt }) refl refl
 
 two_is : IsPart (codes "2") 2
-two_is = part_is (codes "2") (codes "2") 2 (inl refl) (record { some = lit< tt; each = refl; value = refl; safe = lit≤ tt }) refl (lit≤ tt)
+two_is = part_is (codes "2") (codes "2") 2 (inl refl) (record { some = lit< tt; each = refl; value = refl; safe = lit≤ tt }) refl refl
 
 three_is : IsPart (codes "v3") 3
-three_is = part_is (codes "v3") (codes "3") 3 (inr refl) (record { some = lit< tt; each = refl; value = refl; safe = lit≤ tt }) refl (lit≤ tt)
+three_is = part_is (codes "v3") (codes "3") 3 (inr refl) (record { some = lit< tt; each = refl; value = refl; safe = lit≤ tt }) refl refl
 
 four_is : IsPart (codes "4") 4
-four_is = part_is (codes "4") (codes "4") 4 (inl refl) (record { some = lit< tt; each = refl; value = refl; safe = lit≤ tt }) refl (lit≤ tt)
+four_is = part_is (codes "4") (codes "4") 4 (inl refl) (record { some = lit< tt; each = refl; value = refl; safe = lit≤ tt }) refl refl
 
 none_is : IsBlank []
 none_is = record { characters = []; each = refl; spelled = refl }

@@ -1,12 +1,12 @@
 -- Places and partial versions of node-semver's range texts: what is read is written, and what is written is read; also by the code, which passes over
 -- numbers past the limit where none counts.
-use Rattle.nodejs_semver.proofs.Common.{Bool, Front, Id, IsNumber, List, MAX_SAFE_INTEGER, None, Option, Some, [], and-false, and_parts, append-nil}
+use Rattle.nodejs_semver.proofs.Common.{◌||◌, ap, same_Some, sym, Bool, Front, Id, IsNumber, List, MAX_SAFE_INTEGER, None, Option, Some, [], and-false, and_parts, append-nil}
 use Rattle.nodejs_semver.proofs.Common.{append_assoc, arith, begins, bind_some, cases_Bool, common_steps, drop, drop_at, false, if◌then◌else◌, inl}
 use Rattle.nodejs_semver.proofs.Common.{inr, is_ascii_digit, is_boundary, is_empty, length, length-append, list_all, nat_tests, not, prefix_len, refl}
 use Rattle.nodejs_semver.proofs.Common.{subst, suc, take, take-append-drop, take_at, take_rest, true, zero, ℕ, ◌&&◌, ◌++◌, ◌+◌, ◌-◌, ◌<◌, ◌∙◌, ◌∷◌}
 use Rattle.nodejs_semver.proofs.{Common.{◌≡◌, ◌≤◌}, NpmCommon.{IsPartial, IsPlace, IsPlaces, IsStrictBuild, begins_byte, begins_padded}}
 use Rattle.nodejs_semver.proofs.NpmCommon.{begins_wildcard, build_front, counted_front, dashed_front, dotted_patch, dotted_place, drop-append-add}
-use Rattle.nodejs_semver.proofs.NpmCommon.{has_leading_zero, is_none, is_short, is_small, is_spelled, length-prefix_len, limited, listed, may_stand}
+use Rattle.nodejs_semver.proofs.NpmCommon.{digits_value, has_leading_zero, is_none, is_short, is_small, is_spelled, length-prefix_len, limited, listed, may_stand, nat_le}
 use Rattle.nodejs_semver.proofs.NpmCommon.{number_front, number_of, one, partial_of, patch_place, place_front, pre_front, qualified_partial}
 use Rattle.nodejs_semver.proofs.{NpmCommon.{run_place, strict_number, take_while, three, two, ◌>>?◌}, Reading.Bytes.{is_solid, solid-dark}}
 use Rattle.nodejs_semver.proofs.Reading.{Numbers.{digits-taken, number-found, number-is, number-no_wildcard}, Steps.option-cases}
@@ -67,13 +67,25 @@ patch-exact loose run rest each f = elim (cases_Bool (begins is_ascii_digit rest
       rw (digits-many_on run rest each, one, drop-append-add, free, dot) (omega arith)
 ]
 
-patch-read : (loose : Bool) (run rest : List ℕ) (n : ℕ) → IsNumber n run n → is_spelled loose run ≡ true → length run ≤ 257 → Follows loose rest
-    → patch_place loose (run ++ rest) ≡ Some (Some n, rest)
+run-read : (loose : Bool) (run rest : List ℕ) (n : ℕ) → IsNumber n run n → is_spelled loose run ≡ true → (loose || nat_le (length run) 257) ≡ true
+    → run_place loose run rest ≡ Some (Some n, rest)
+run-read loose [] rest n k spelled short = absurd (omega (arith, k.some))
+run-read loose (c ∷ run) rest n k spelled short = rw (short, spelled) (ap (λ (m : ℕ). Some (Some m, rest)) (sym k.value))
+
+patch-read : (loose : Bool) (run rest : List ℕ) (n : ℕ) → IsNumber n run n → is_spelled loose run ≡ true → (loose || nat_le (length run) 257) ≡ true
+    → Follows loose rest → patch_place loose (run ++ rest) ≡ Some (Some n, rest)
 unfolding patch_place place_front
 patch-read loose run rest n k spelled short f =
+    let text = run ++ rest in
     let dark = number-no_wildcard run rest (digits-begin run k.some k.each) in
-    let fits : run_place loose run rest ≡ Some (Some n, rest) = grind (arith, nat_tests, some-run) in
-    let len = patch-exact loose run rest k.each f in grind (arith, take_at, drop_at)
+    let fits = run-read loose run rest n k spelled short in
+    let len = patch-exact loose run rest k.each f in
+    let front = take_at run rest (length run) refl in
+    let behind = drop_at run rest (length run) refl in
+    elim (cases_Bool (loose && begins_byte 46 (drop (prefix_len is_ascii_digit text) text))) [
+      | inl cut ↦ rw (cut, rw cut at len, front, behind) fits
+      | inr whole ↦ rw (whole, dark, rw whole at len, front, behind) fits
+    ]
 
 -- behind a wildcard anything may stand
 third-read : (loose : Bool) (fits : List ℕ → Bool) (z pre behind : List ℕ) (c : Option ℕ) (l : List Id) → IsPlace loose z c
@@ -85,13 +97,26 @@ third-read loose fits z pre behind (Some n) l (Text.number run m k spelled short
 
 -- ---- what is read is written
 
+run-place : (loose : Bool) (run : List ℕ) → list_all is_ascii_digit run ≡ true
+    → (not (is_empty run) && (loose || nat_le (length run) 257) && is_spelled loose run) ≡ true → IsPlace loose run (Some (digits_value 10 run))
+run-place loose [] each h = cc h
+run-place loose (c ∷ run) each h =
+    let p = and_parts (loose || nat_le (length (c ∷ run)) 257) (is_spelled loose (c ∷ run)) h in
+    Text.number (c ∷ run) _ (record { some = omega arith; each = each; value = refl; safe = omega arith }) p.1 p.0
+
 -- a run of digits that is a place, and what stands behind it
 cut-found : (loose : Bool) (k : ℕ) (text : List ℕ) (a : Option ℕ) (rest : List ℕ) → k ≤ prefix_len is_ascii_digit text
     → run_place loose (take k text) (drop k text) ≡ Some (a, rest) → At (IsPlace loose) text a rest
 cut-found loose k text a rest h e =
-    let each = digits-of k text h in
-    let f : IsPlace loose (take k text) a × (drop k text ≡ rest) = grind (arith, nat_tests, common_steps, Text.number) in
-    record { piece = take k text; split = cc (take-append-drop k text, f.1); is = f.0 }
+    let run = take k text in
+    elim (cases_Bool (not (is_empty run) && (loose || nat_le (length run) 257) && is_spelled loose run)) [
+      | inr none ↦ cc (rw none at e)
+      | inl good ↦
+          let f = run-place loose run (digits-of k text h) good in
+          let same : ◌≡◌ {A = Front (Option ℕ)} (Some (Some (digits_value 10 run), drop k text)) (Some (a, rest)) = rw good at e in
+          let pair = same_Some _ _ same in
+          record { piece = run; split = sym (take-append-drop k text) ∙ ap (λ (p : Option ℕ × List ℕ). run ++ p.1) pair; is = subst (IsPlace loose run) (ap (λ (p : Option ℕ × List ℕ). p.0) pair) f }
+    ]
 
 place-found : (loose : Bool) (text : List ℕ) (a : Option ℕ) (rest : List ℕ) → place_front loose text ≡ Some (a, rest)
     → At (IsPlace loose) text a rest
@@ -212,12 +237,12 @@ run-leading text = grind (arith, nat_tests, common_steps)
 
 -- a number up to the limit
 pub valued_placed : (loose : Bool) (text : List ℕ) (n : ℕ) (rest : List ℕ) → number_front MAX_SAFE_INTEGER text ≡ Some (n, rest)
-    → (not loose && begins_padded text) ≡ false → prefix_len is_ascii_digit text ≤ 257
+    → (not loose && begins_padded text) ≡ false → (loose || nat_le (prefix_len is_ascii_digit text) 257) ≡ true
     → placed MAX_SAFE_INTEGER (place_front loose text) ≡ Some (number n, rest)
 valued_placed loose text n rest h spelled short =
     let f = number-found MAX_SAFE_INTEGER text n rest h in
     let same : IsNumber n f.run n = record { some = f.is.some; each = f.is.each; value = f.is.value; safe = omega arith } in
-    let few : length f.run ≤ 257 = grind (arith, digits-taken) in
+    let few : (loose || nat_le (length f.run) 257) ≡ true = grind (arith, digits-taken) in
     let place : IsPlace loose f.run (Some n) = Text.number f.run n same (grind (arith, nat_tests, padded-same)) few in
     grind (arith, nat_tests, common_steps, place-read)
 
@@ -229,7 +254,7 @@ number_placed loose text n rest h =
     let run = take_while is_ascii_digit text in
     let i = number-is MAX_SAFE_INTEGER run n (grind arith) in
     let short = number-short run n (i, run-leading text ∙ bare) in
-    valued_placed loose text n rest k (rw bare (and-false (not loose))) (omega (arith, short, length-prefix_len is_ascii_digit text))
+    valued_placed loose text n rest k (rw bare (and-false (not loose))) (grind (arith, nat_tests, short, length-prefix_len is_ascii_digit text))
 
 pub wildcard_placed : (loose : Bool) (text : List ℕ) → begins_wildcard text ≡ true
     → placed MAX_SAFE_INTEGER (place_front loose text) ≡ Some (any, drop 1 text)
@@ -237,7 +262,7 @@ unfolding place_front
 wildcard_placed loose text h = rw h refl
 
 pub great_placed : (loose : Bool) (text : List ℕ) (at : ℕ) → number_front MAX_SAFE_INTEGER text ≡ None → begins_wildcard text ≡ false
-    → (not loose && begins_padded text) ≡ false → at ≡ prefix_len is_ascii_digit text → 1 ≤ at → at ≤ 257
+    → (not loose && begins_padded text) ≡ false → at ≡ prefix_len is_ascii_digit text → 1 ≤ at → (loose || nat_le at 257) ≡ true
     → placed MAX_SAFE_INTEGER (place_front loose text) ≡ Some (great, take (length text - at) (drop at text))
 unfolding number_of
 great_placed loose text at front dark bare is first last =

@@ -33,7 +33,7 @@ is_spelled loose digits = not (has_leading_zero digits) || loose
 
 -- the place that a run of digits is, with what stands behind it
 abbrev pub run_place : Bool → List ℕ → List ℕ → Front (Option ℕ)
-run_place loose run rest = if not (is_empty run) && nat_le (length run) 257 && is_spelled loose run
+run_place loose run rest = if not (is_empty run) && (loose || nat_le (length run) 257) && is_spelled loose run
     then Some (Some (digits_value 10 run), rest) else None
 
 -- a place

@@ -3,7 +3,7 @@
 -- Left out is one `*`, and a comparator before it, in a word that is else a whole version, as in `>*1.2.3`,
 -- which node-semver passes over: such a word is malformed. Of the loose reading a text is left out, and rejected, with a
 -- partial that has more than 250 characters in front of its build.
-use Rattle.std.specs.Prelude.{◌≡◌, ◌⊎◌, ◌==◌, ◌<◌, ◌≤◌, ◌+◌, ◌-◌, ◌&&◌, ◌||◌, not, nat_le, nat_lt, ℕ, Bool, true}
+use Rattle.std.specs.Prelude.{◌≡◌, ◌⊎◌, ◌==◌, ◌<◌, ◌+◌, ◌-◌, ◌&&◌, ◌||◌, not, nat_le, nat_lt, ℕ, Bool, true}
 use Rattle.std.specs.Prelude.{false, List, [], ◌∷◌, ◌++◌, length, drop, Option, Some, None, codes}
 use Rattle.std.specs.Prelude.{encode_utf8_all, flat_map, if◌then◌else◌, is_none}
 use Rattle.std.specs.Option.{unwrap_or}
@@ -31,7 +31,7 @@ is_short_identifier text = let n = prefix_len is_ascii_digit text in nat_le (len
 -- a place (xr): `x`, `X`, `*`, or a number of any value without leading zeros (nr); loosely it may have some
 pub data IsPlace (loose : Bool) : List ℕ → Option ℕ → Type 0 where
   any : (b : ℕ) → (b == 120 || b == 88 || b == 42) ≡ true → IsPlace loose (b ∷ []) None
-  number : (run : List ℕ) (n : ℕ) → IsNumber n run n → (not (has_leading_zero run) || loose) ≡ true → length run ≤ 257 → IsPlace loose run (Some n)
+  number : (run : List ℕ) (n : ℕ) → IsNumber n run n → (not (has_leading_zero run) || loose) ≡ true → (loose || nat_le (length run) 257) ≡ true → IsPlace loose run (Some n)
 
 -- the partial of its places
 abbrev pub partial_of : Option ℕ → Option ℕ → Option ℕ → List Id → List Id → Partial

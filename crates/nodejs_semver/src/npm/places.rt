@@ -64,7 +64,7 @@ fn great_place(loose: bool, text: &[u8]) -> Option<(Place, &[u8])>
         ≡ Spec.placed MAX_SAFE_INTEGER (Spec.place_front loose text.now) }
 {
     let len = digits_len(text);
-    if len == 0 || len > 257 {
+    if len == 0 || !loose && len > 257 {
         return None;
     }
     Some((Place::Great, &text[len..]))
@@ -82,7 +82,7 @@ fn padded_place(loose: bool, text: &[u8]) -> Option<(Place, &[u8])>
     if !begins_padded(text) {
         return great_place(loose, text);
     }
-    if !loose || digits_len(text) > 257 {
+    if !loose {
         return None;
     }
     match number_front(text) {
