@@ -5,18 +5,18 @@ use Rattle.std.specs.Prelude.{◌≡◌, ◌<◌, ℕ, true, false, List, [], �
 use Rattle.std.specs.Char.{encode_utf8}
 use Rattle.nodejs_semver.specs.Cuts.{Span}
 use Rattle.nodejs_semver.specs.Failures.{NoValue}
-use Rattle.nodejs_semver.specs.Npm.Ranges.{HasAlternatives, HasAlternativesIn, IsRangeIn, IsRangeOf}
+use Rattle.nodejs_semver.specs.Npm.Ranges.{HasAlternativesIn, IsRangeIn}
 use Rattle.nodejs_semver.specs.Text.Meaning.{Means}
 use Rattle.nodejs_semver.specs.Versions.{VersionValue}
 
 -- node-semver reads the text as this range, strictly or else loosely; or neither way
 pub data IsNpmRange (limit : ℕ) (text : List ℕ) (range : List (Span VersionValue)) : Type 0 where
-  strict : IsRangeOf limit false text range → IsNpmRange limit text range
-  loose : NoValue (HasAlternatives limit false text) → IsRangeIn true limit false text range
+  strict : IsRangeIn false limit false text range → IsNpmRange limit text range
+  loose : NoValue (HasAlternativesIn false limit false text) → IsRangeIn true limit false text range
       → IsNpmRange limit text range
 
 abbrev pub IsNoNpmRange : ℕ → List ℕ → Type 0
-IsNoNpmRange n text = NoValue (HasAlternatives n false text) × NoValue (HasAlternativesIn true n false text)
+IsNoNpmRange n text = NoValue (HasAlternativesIn false n false text) × NoValue (HasAlternativesIn true n false text)
 
 -- the text is that range, or the one that `parse` reads; or none of them
 pub data IsWanted (limit : ℕ) (text : List ℕ) (range : List (Span VersionValue)) : Type 0 where

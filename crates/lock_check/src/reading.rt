@@ -8,7 +8,7 @@
 ghost use Rattle.lock_check.specs.Readings.{IsNoNpmRange, IsNotWanted, IsNpmRange};
 ghost use Rattle.lock_check.specs.Readings.{IsUnmarked, IsWanted};
 ghost use Rattle.nodejs_semver.specs.Failures.{NoValue};
-ghost use Rattle.nodejs_semver.specs.Npm.Ranges.{HasAlternatives, IsRangeOf};
+ghost use Rattle.nodejs_semver.specs.Npm.Ranges.{HasAlternativesIn, IsRangeIn};
 ghost use Rattle.nodejs_semver.specs.Npm.VersionText.{IsLooseVersionText};
 ghost use Rattle.std.specs.Prelude.{◌≡◌, IfNone, IfOk, IfSome, false};
 
@@ -19,9 +19,9 @@ use std::alloc::{AllocError, Global};
 /// The range that node-semver's strict reading finds in a text, or `None` if it rejects the text.
 /// Fails only if allocation fails.
 pub fn strict_range(alloc: Global, text: &str) -> Result<Option<RangeRef<'_>>, AllocError>
-    ensures some { IfOk result (λ r. IfSome r (IsRangeOf MAX_SAFE_INTEGER false text.now)) }
+    ensures some { IfOk result (λ r. IfSome r (IsRangeIn false MAX_SAFE_INTEGER false text.now)) }
     ensures none { IfOk result (λ r. IfNone r
-        (NoValue (HasAlternatives MAX_SAFE_INTEGER false text.now))) }
+        (NoValue (HasAlternativesIn false MAX_SAFE_INTEGER false text.now))) }
 {
     Failure::refused_as_none(npm::range(alloc, text, false))
 }

@@ -16,11 +16,11 @@ pub use Rattle.nodejs_semver.specs.Npm.{Flaws.{IsFront, IsSpelled, wrong_of}, Gr
 pub use Rattle.nodejs_semver.specs.Npm.Grammar.{begins_undashed, dashed, has_leading_zero, is_strict_list, no_build}
 pub use Rattle.nodejs_semver.specs.Npm.{Grammar.{no_pre_release, plus}, Malformed.{IsIgnored, is_mark, takes}}
 pub use Rattle.nodejs_semver.specs.Npm.{MalformedWords.{IsLeft, IsMalformedWord, here}, RangeText.AreAlternatives}
-pub use Rattle.nodejs_semver.specs.Npm.RangeText.{AreMarks, AreWords, IsAlternative, IsPlace, IsPlaces, IsSignText, IsWord, are_marks}
+pub use Rattle.nodejs_semver.specs.Npm.RangeText.{AreMarks, AreWords, IsAlternative, IsSignText, IsWord, are_marks}
 pub use Rattle.nodejs_semver.specs.Npm.RangeText.{BeginsAs, BeginsWord, IsEnd, IsHyphen, caret_equal, comparators_of, end_sign, is_lost, is_right_end, is_short, last_marks}
-pub use Rattle.nodejs_semver.specs.Npm.RangeText.{is_short_identifier, late_above, late_below}
-pub use Rattle.nodejs_semver.specs.Npm.RangeText.{no_sign, none, one, partial_of, sign, spelling, three, tilde_twice, two, word}
-pub use Rattle.nodejs_semver.specs.Npm.Ranges.{HasAlternatives, HasAlternativesIn, IsRangeIn, is_valid, meets, satisfies}
+pub use Rattle.nodejs_semver.specs.Npm.{Partials.{ArePlaces, IsPlace, IsPlaces, is_short_identifier, one, partial_of, three, two}, RangeText.{late_above, late_below}}
+pub use Rattle.nodejs_semver.specs.Npm.RangeText.{no_sign, none, sign, spelling, tilde_twice, word}
+pub use Rattle.nodejs_semver.specs.Npm.Ranges.{HasAlternativesIn, IsRangeIn, is_valid, meets, satisfies}
 pub use Rattle.nodejs_semver.specs.Npm.Table.{Comparison, caret_from, compared, counts, first, from, hyphen_lower, hyphen_upper}
 pub use Rattle.nodejs_semver.specs.Npm.{Table.{made, major, minor, next_changed, under, whole, wildcard}, VersionText.IsClean}
 pub use Rattle.nodejs_semver.specs.{Npm.VersionText.{IsStrictVersion, IsVersionText}, Text.WordText.at_least}

@@ -1,3 +1,4 @@
 pub mod Loose
 pub mod Coerced
 pub mod Lists
+pub mod Builds

@@ -4,6 +4,8 @@ pub mod Zeros
 pub mod Signs
 pub mod Characters
 pub mod Inside
+pub mod InsideIds
+pub mod InsideParts
 pub mod Ignored
 pub mod AlternativeLaw
 pub mod Hyphens

@@ -22,6 +22,7 @@ pub mod NpmReadings
 pub mod NpmLooseVersions
 pub mod NpmTuples
 pub mod NpmParts
+pub mod NpmInside
 pub mod NpmWords
 pub mod NpmViews
 pub mod NpmMeaning

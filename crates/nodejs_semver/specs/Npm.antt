@@ -5,6 +5,7 @@ pub mod Simple
 pub mod Grammar
 pub mod Coerced
 pub mod VersionText
+pub mod Partials
 pub mod Malformed
 pub mod MalformedWords
 pub mod RangeText

@@ -5,8 +5,9 @@
 //! no leading zeros, one `v` in front at most, a `-` before its pre-release, and nothing behind it.
 //! [`version_flaw`] says what is wrong with another text, and where.
 //!
-//! A version lies above or below a range by name, and an order counts builds. Ranges have from here
-//! their `union`, `is_subset`, `accepts_same` and `simplify`.
+//! A version lies above or below a range by name, an order counts builds, and [`build_text`]
+//! returns a build as it is written. Ranges have from here their `union`, `is_subset`,
+//! `accepts_same` and `simplify`.
 
 mod alternatives;
 mod builds;
@@ -16,6 +17,7 @@ mod comparators;
 mod flaws;
 mod hyphens;
 mod ignored;
+mod inside;
 mod loose_versions;
 mod malformed_words;
 mod messages;
@@ -31,7 +33,7 @@ mod unions;
 mod versions;
 mod words;
 
-pub use crate::npm::builds::cmp_build;
+pub use crate::npm::builds::{build_text, build_text_loose, cmp_build};
 pub use crate::npm::coerced::{
     coerce, coerce_loose, coerce_rtl, coerce_rtl_loose, coerce_rtl_with_prerelease,
     coerce_rtl_with_prerelease_loose, coerce_with_prerelease, coerce_with_prerelease_loose,

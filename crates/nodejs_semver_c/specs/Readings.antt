@@ -1,5 +1,5 @@
 -- Statement. How the texts of a call are read.
-use Rattle.std.specs.Prelude.{◌<◌, ◌==◌, if◌then◌else◌, Bool, ℕ, List, [], Option, Some, None, length}
+use Rattle.std.specs.Prelude.{◌<◌, ◌==◌, if◌then◌else◌, Bool, false, ℕ, List, [], Option, Some, None, length}
 use Rattle.semver_core.specs.Cuts.{Span}
 use Rattle.semver_core.specs.Failures.{NoValue}
 use Rattle.semver_core.specs.Text.Parsing.{Parses}
@@ -25,11 +25,11 @@ Spells Npm = IsVersionText MAX_SAFE_INTEGER
 -- it is read as this range, where npm may include pre-releases; or as none
 abbrev pub SpellsRange : Reading → Bool → List ℕ → List (Span VersionValue) → Type 0
 SpellsRange Port include text r = Means MAX_SAFE_INTEGER text r × (0 < length r)
-SpellsRange Npm include text r = npm.IsRangeOf MAX_SAFE_INTEGER include text r
+SpellsRange Npm include text r = npm.IsRangeIn false MAX_SAFE_INTEGER include text r
 
 abbrev pub SpellsNoRange : Reading → Bool → List ℕ → Type 0
 SpellsNoRange Port include text = Means MAX_SAFE_INTEGER text []
-SpellsNoRange Npm include text = NoValue (npm.HasAlternatives MAX_SAFE_INTEGER include text)
+SpellsNoRange Npm include text = NoValue (npm.HasAlternativesIn false MAX_SAFE_INTEGER include text)
 
 -- it means two intervals or more, or has two alternatives or more: reading it takes memory
 abbrev pub IsWide : Reading → List ℕ → Type 0

@@ -12,7 +12,7 @@ use Rattle.semver_core.specs.Values.Order.{precedence}
 use Rattle.semver_core.specs.Values.Versions.{VersionValue}
 use Rattle.semver_core.specs.declared.TheConstants.{MAX_SAFE_INTEGER}
 use Rattle.semver_core.specs.declared.difference.VersionDiff.{VersionDiff}
-use Rattle.nodejs_semver.specs.Npm.Ranges.{HasAlternatives}
+use Rattle.nodejs_semver.specs.Npm.Ranges.{HasAlternativesIn}
 use Rattle.nodejs_semver.specs.Npm.VersionText.{IsVersionText}
 use Rattle.nodejs_semver.specs.Printing.Text.{range_text}
 use Rattle.nodejs_semver.specs.Ranges.Gate.{accepts}
@@ -97,7 +97,7 @@ is_behind option id is = rw is (Spec.behind id)
 pub is_joined : (option id rest : List ℕ) → option ≡ codes "--preid=" ++ rest → id ≡ rest → HasIdentifier (option ∷ []) (Some id)
 is_joined option id rest cut is = rw (cut, is) (Spec.joined rest)
 
-pub no_range : (text : List ℕ) → NoValue (HasAlternatives MAX_SAFE_INTEGER false text) → NoValue (IsRange text)
+pub no_range : (text : List ℕ) → NoValue (HasAlternativesIn false MAX_SAFE_INTEGER false text) → NoValue (IsRange text)
 no_range text none range is = none is.alternatives is.has
 
 pub no_normal : (a : List ℕ) → NoRange a → NoValue (Answers (codes "range" ∷ a ∷ []))

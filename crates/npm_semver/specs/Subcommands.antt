@@ -13,7 +13,7 @@ use Rattle.semver_core.specs.Printing.Text.{version_text}
 use Rattle.semver_core.specs.Values.Order.{precedence}
 use Rattle.semver_core.specs.Values.Versions.{VersionValue}
 use Rattle.semver_core.specs.declared.TheConstants.{MAX_SAFE_INTEGER}
-use Rattle.nodejs_semver.specs.Npm.Ranges.{IsRangeOf}
+use Rattle.nodejs_semver.specs.Npm.Ranges.{IsRangeIn}
 use Rattle.nodejs_semver.specs.Npm.VersionText.{IsVersionText}
 use Rattle.nodejs_semver.specs.Printing.Text.{range_text}
 use Rattle.nodejs_semver.specs.Ranges.Algebra.{difference, intersection}
@@ -74,7 +74,7 @@ pub data IsShown : Option Range → Said → Type 0 where
 
 -- the text is a range, as npm reads it without pre-releases included
 abbrev pub IsRange : List ℕ → Range → Type 0
-IsRange = IsRangeOf MAX_SAFE_INTEGER false
+IsRange = IsRangeIn false MAX_SAFE_INTEGER false
 
 pub data AreRanges : List (List ℕ) → List Range → Type 0 where
   none : AreRanges [] []

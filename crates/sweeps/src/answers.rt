@@ -1,4 +1,5 @@
-//! What the loose reading of node-semver's range texts answers, for `bench/npm_readings`.
+//! What the loose reading of node-semver's range texts answers, and the strict one of its version
+//! texts with builds as they are written, for `bench/npm_readings`.
 
 use nodejs_semver::npm::{self, ReadRange, Reading};
 use nodejs_semver::{Failure, VersionRef};
@@ -46,4 +47,44 @@ fn answer(
         digits.push(if range.satisfies(version) { '1' } else { '0' })?;
     }
     Ok(digits)
+}
+
+/// Prints a line for each version text of a text, in which a NUL stands behind each: `-` if it is
+/// no version in the strict reading, and else the version as it prints without its build, and then
+/// `+` and the build as it is written if there is one.
+pub fn show_versions(rt: &impl Print, alloc: Global, texts: &str) -> io::Result<()> {
+    let Some(texts) = texts.strip_suffix('\0') else {
+        return Ok(());
+    };
+    for text in texts.split('\0') {
+        let shown = shown(alloc, text)?;
+        println!(rt; "{shown}")?;
+    }
+    Ok(())
+}
+
+fn shown(alloc: Global, text: &str) -> Result<String, AllocError> {
+    match (npm::version(text), npm::build_text(text)) {
+        (Ok(version), Some(build)) => with_build(alloc, &version, build),
+        _ => String::from_str(alloc, "-"),
+    }
+}
+
+// The version as it prints, with this text in place of its build.
+fn with_build(alloc: Global, version: &VersionRef<'_>, build: &str) -> Result<String, AllocError> {
+    let printed = version.to_string(alloc)?;
+    let bare = before_plus(printed.as_str());
+    if build.is_empty() {
+        String::from_str(alloc, bare)
+    } else {
+        format!(in alloc; "{bare}+{build}")
+    }
+}
+
+// The text in front of its first `+`, or all of it where there is none.
+fn before_plus(text: &str) -> &str {
+    match text.split_once('+') {
+        Some((front, _)) => front,
+        None => text,
+    }
 }

@@ -2,7 +2,8 @@
 //! program fails where one of the last two finds a fault. Standard input says what it makes of
 //! these: with nothing there it stops after the first, and with `long` after the texts of 2,000,000
 //! bytes of the second, which take longer than all else and are left out without that word. With
-//! `?` and questions behind it, it makes none of them and answers the questions.
+//! `?` and questions about range texts behind it, or `+` and version texts, it makes none of them
+//! and answers for these.
 //!
 //! The first makes each call that allocates, and prints one line for each: what it returned and
 //! what it borrowed, or `memory` in place of what it returned. `tools/allocation_failures.py` runs
@@ -33,9 +34,13 @@ fn main(rt: HostRuntime) -> io::Result<ExitCode> {
     // A buffer of one byte takes no memory that could be refused.
     let mut word = [0];
     let is_given = rt.stdin().read(&mut word)? > 0;
-    if word == *b"?" {
+    if word == *b"?" || word == *b"+" {
         let questions = io::read_to_string(alloc, rt.stdin())?;
-        answers::answer_all(&rt, alloc, &questions)?;
+        if word == *b"?" {
+            answers::answer_all(&rt, alloc, &questions)?;
+        } else {
+            answers::show_versions(&rt, alloc, &questions)?;
+        }
         return Ok(ExitCode::SUCCESS);
     }
     calls::show_all(&rt, alloc)?;

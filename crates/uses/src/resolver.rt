@@ -1,7 +1,7 @@
 //! A resolver: a release of each package that is needed, so that every requirement is met.
 
 ghost use Rattle.nodejs_semver.specs.Failures.{NoValue, RefusedOnlyIf};
-ghost use Rattle.nodejs_semver.specs.Npm.Ranges.{HasAlternatives, IsRangeOf};
+ghost use Rattle.nodejs_semver.specs.Npm.Ranges.{HasAlternativesIn, IsRangeIn};
 ghost use Rattle.uses.specs.Internal.Search.{HasNoPlan, IsUnmet, NeedsAll};
 ghost use Rattle.std.specs.Prelude.{◌≡◌, All, Contains, IfErr, IfNone, IfOk, IfSome, false};
 ghost use Rattle.std.specs.Prelude.{slice_index_or};
@@ -36,9 +36,9 @@ impl Requirement {
         text: &str,
     ) -> Result<Requirement, Failure<SemverError>>
         ensures package { IfOk result (λ q. q.package ≡ number) }
-        ensures range { IfOk result (λ q. IsRangeOf MAX_SAFE_INTEGER false text.now q.range) }
+        ensures range { IfOk result (λ q. IsRangeIn false MAX_SAFE_INTEGER false text.now q.range) }
         ensures refused { RefusedOnlyIf result
-            (NoValue (HasAlternatives MAX_SAFE_INTEGER false text.now)) }
+            (NoValue (HasAlternativesIn false MAX_SAFE_INTEGER false text.now)) }
     {
         let range = npm::range(alloc, text, false)?.to_range(alloc)?;
         Ok(Requirement {

@@ -280,6 +280,19 @@ fn cmp_build(rt: HostRuntime) -> Result<(), Fail> {
 }
 
 #[test]
+fn build_text(rt: HostRuntime) {
+    assert!(rt; npm::build_text(" v1.0.0-rc.1+001.0a ") == Some("001.0a"));
+    assert!(rt; npm::build_text("1.0.0") == Some(""));
+    assert!(rt; npm::build_text("1.0+001").is_none());
+}
+
+#[test]
+fn build_text_loose(rt: HostRuntime) {
+    assert!(rt; npm::build_text_loose("= v1.02.3beta+007") == Some("007"));
+    assert!(rt; npm::build_text("= v1.02.3beta+007").is_none());
+}
+
+#[test]
 fn gtr(rt: HostRuntime) -> Result<(), Fail> {
     let alloc = rt.alloc();
     let version = VersionRef::parse("2.0.0")?;

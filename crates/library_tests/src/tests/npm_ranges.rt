@@ -1,9 +1,9 @@
 // Range texts as node-semver's strict reading has them. The expected answers are those of
 // node-semver.
 
-ghost use Rattle.std.specs.Prelude.{◌≡◌, ◌⊎◌, IfOk, List};
+ghost use Rattle.std.specs.Prelude.{◌≡◌, ◌⊎◌, IfOk, List, false};
 ghost use Rattle.nodejs_semver.specs.Failures.{NoValue, RefusedOnlyIf};
-ghost use Rattle.nodejs_semver.specs.Npm.Ranges.{HasAlternatives, accepts};
+ghost use Rattle.nodejs_semver.specs.Npm.Ranges.{HasAlternativesIn, accepts};
 ghost use Rattle.nodejs_semver.specs.Npm.Table.{Comparison};
 ghost use Rattle.nodejs_semver.specs.Parsing.{Parses};
 ghost use Rattle.nodejs_semver.specs.Versions.{VersionValue};
@@ -25,10 +25,10 @@ fn admits(
     version: &str,
 ) -> Result<bool, Failure<SemverError>>
     ensures ok { IfOk result (λ answer. (a : List (List Comparison)) × (v : VersionValue)
-        × HasAlternatives MAX_SAFE_INTEGER include range.now a
+        × HasAlternativesIn false MAX_SAFE_INTEGER include range.now a
         × Parses MAX_SAFE_INTEGER version.now v × (answer ≡ accepts include a v)) }
     ensures refused { RefusedOnlyIf result
-        (NoValue (HasAlternatives MAX_SAFE_INTEGER include range.now)
+        (NoValue (HasAlternativesIn false MAX_SAFE_INTEGER include range.now)
         ⊎ NoValue (Parses MAX_SAFE_INTEGER version.now)) }
 {
     let range = npm::range(alloc, range, include)?;

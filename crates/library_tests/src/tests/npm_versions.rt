@@ -138,3 +138,33 @@ fn versions_are_cleaned(rt: HostRuntime) {
     assert!(rt; is_cleaned_behind(rt.alloc(), "", " ", 300));
     assert!(rt; !is_cleaned_behind(rt.alloc(), "=", " ", 300));
 }
+
+// Texts, and the builds of their versions as node-semver keeps them, with dots between their
+// identifiers: in the strict reading, and in the loose one.
+const BUILDS: &[(&str, Option<&str>, Option<&str>)] = &[
+    ("1.0.0+01", Some("01"), Some("01")),
+    (
+        " v1.2.3-rc.1+00.0a.-.007\n",
+        Some("00.0a.-.007"),
+        Some("00.0a.-.007"),
+    ),
+    (
+        "1.2.3+18446744073709551616",
+        Some("18446744073709551616"),
+        Some("18446744073709551616"),
+    ),
+    ("1.2.3-a", Some(""), Some("")),
+    ("=v\u{3000}01.2.3beta+00", None, Some("00")),
+    ("1.2.3-01", None, Some("")),
+    ("1.2.3+", None, None),
+    ("1.2.3+a+b", None, None),
+    ("+01", None, None),
+];
+
+#[test]
+fn builds_are_as_written(rt: HostRuntime) {
+    for &(text, strict, loose) in BUILDS {
+        assert!(rt; npm::build_text(text) == strict, "{text}");
+        assert!(rt; npm::build_text_loose(text) == loose, "{text}");
+    }
+}

@@ -3,8 +3,8 @@ use Rattle.nodejs_semver.proofs.{Algebra.Gate.{in_two_steps, lt_is, same_triple_
 use Rattle.nodejs_semver.proofs.Common.{Comparator, Front, Greater, Id, IfSome, List, MAX_SAFE_INTEGER, None, Numeric, Option, Ordering, Partial}
 use Rattle.nodejs_semver.proofs.Common.{Some, Span, Unbounded, VersionValue, Word, [], above, and-true, and_parts, ap, ap₂, arith, at_most, below}
 use Rattle.nodejs_semver.proofs.Common.{cases_Bool, codes, common_steps, eqb-true, equal, false, filter, first_so, holds, hyphen, inl, inr, interval}
-use Rattle.nodejs_semver.proofs.Common.{is_empty, is_eq, is_interval, is_le, is_lt, is_past, is_release, is_some, lets_in, list_all, list_all-append}
-use Rattle.nodejs_semver.proofs.Common.{list_any, list_any-append, lower_cut, names, nat_tests, not, not-false, or_left, or_right, ordering_reverse}
+use Rattle.nodejs_semver.proofs.Common.{is_empty, is_interval, is_le, is_lt, is_past, is_release, is_some, lets_in, list_all, list_all-append}
+use Rattle.nodejs_semver.proofs.Common.{list_any, list_any-append, lower_cut, names, nat_tests, not, not-false, or_left, or_right}
 use Rattle.nodejs_semver.proofs.Common.{ordering_then, plain, pre_cmp, precedence, precedence_total, refl, same_triple, subst, suc, sym, table, tilde}
 use Rattle.nodejs_semver.proofs.{Common.{true, upper_cut, version_of, zero, ℕ, ◌&&◌, ◌++◌, ◌+◌, ◌==◌, ◌||◌, ◌∙◌, ◌∷◌, ◌≡◌, ◌⊎◌}, NpmCommon.Comparison}
 use Rattle.nodejs_semver.proofs.NpmCommon.{IsPartial, IsPlainPartial, IsPlainWord, Numbers, at_least, build_front, bytes_eq, bytes_eq-Decides}
@@ -75,8 +75,7 @@ table-values pre text s p h =
     sym (rows-plain false text s (npm_partial p) (λ w. strict-zeros h.rest (npm_partial p) (h.npm, refl) w ∙ sym written))
 
 -- `~>` is `~`
-same-tilde : (pre : Bool) (p : Partial) → Form pre p → is_some p.major ≡ true
-    → table MAX_SAFE_INTEGER (tilde true p) ≡ table MAX_SAFE_INTEGER (tilde false p)
+same-tilde : (pre : Bool) (p : Partial) → Form pre p → is_some p.major ≡ true → table MAX_SAFE_INTEGER (tilde true p) ≡ table MAX_SAFE_INTEGER (tilde false p)
 unfolding table
 same-tilde pre p any m = cc m
 same-tilde pre p f m = refl
@@ -99,12 +98,6 @@ top_bits r far u s m f g = grind arith
 
 greater_bits : (t s : Ordering) → is_lt s ≡ false → is_lt (ordering_then t Greater) ≡ is_lt (ordering_then t s)
 greater_bits t s h = grind arith
-
-less_bits : (t s r : Ordering) → is_eq t ≡ false → is_lt (ordering_then t s) ≡ is_lt (ordering_then t r)
-less_bits t s r h = grind arith
-
-turned_eq : (t s : Ordering) → t ≡ ordering_reverse s → is_eq t ≡ is_eq s
-turned_eq t s e = grind arith
 
 -- a pre-release is named where one may be written
 named-pre : (pre r same : Bool) → (pre || r) ≡ true → (not r && same) ≡ true → pre ≡ true
@@ -198,16 +191,11 @@ module _ (v : VersionValue) where
       (zero_least v.pre_release))
 
   under-free : (n : Numbers) → (to_upper (Before (lowest n)) && names (Before (lowest n)) v) ≡ true → ⊥
-  under-free n h =
-      let (a, b) = and_parts (to_upper (Before (lowest n))) (names (Before (lowest n)) v) h in cc (a, upper-before (lowest n), under-named n b)
+  under-free n h = let (a, b) = and_parts (to_upper (Before (lowest n))) (names (Before (lowest n)) v) h in cc (a, upper-before (lowest n), under-named n b)
 
   -- a release, or a version of other numbers, is below a release exactly if it is below its least pre-release
-  below-lt : (n : Numbers) → (is_release v || not (same_triple (release n) v)) ≡ true
-      → is_lt (precedence v (release n)) ≡ is_lt (precedence v (lowest n))
-  below-lt n h = elim (cases_Bool (is_release v)) [
-    | inl r ↦ grind (arith, nat_tests, common_steps)
-    | inr r ↦ grind (arith, nat_tests, common_steps, in_two_steps, less_bits, turned_eq, triple_total, same_triple_is)
-  ]
+  below-lt : (n : Numbers) → (is_release v || not (same_triple (release n) v)) ≡ true → is_lt (precedence v (release n)) ≡ is_lt (precedence v (lowest n))
+  below-lt n h = grind (arith, nat_tests, common_steps, cases_Bool, in_two_steps, triple_total, same_triple_is)
 
   -- a version up to the release w is below n, where their numbers say so
   most : (w n : Numbers) → is_le (triple_cmp v (release w)) ≡ is_lt (ordering_then (triple_cmp v (lowest n)) Greater)
@@ -223,8 +211,7 @@ module _ (v : VersionValue) where
       → to_upper (After (release (M, MAX_SAFE_INTEGER, MAX_SAFE_INTEGER))) ≡ passed (under (M + 1, 0, 0) ∷ [])
   most_major M h = most _ _ (grind (arith, nat_tests, common_steps, and_parts))
 
-  most_minor : (M m : ℕ) → is_within MAX_SAFE_INTEGER v ≡ true
-      → to_upper (After (release (M, m, MAX_SAFE_INTEGER))) ≡ passed (under (M, m + 1, 0) ∷ [])
+  most_minor : (M m : ℕ) → is_within MAX_SAFE_INTEGER v ≡ true → to_upper (After (release (M, m, MAX_SAFE_INTEGER))) ≡ passed (under (M, m + 1, 0) ∷ [])
   most_minor M m h = most _ _ (grind (arith, nat_tests, common_steps, and_parts))
 
   -- ---- one end
@@ -237,8 +224,7 @@ module _ (v : VersionValue) where
   open-exact = record { tested = refl; named = refl }
 
   -- a comparator that counts
-  counted-exact : (test name : Bool) (c : Comparison) → counts false c ≡ true → test ≡ satisfies v c → name ≡ Ranges.names v c
-      → Exact test name (c ∷ [])
+  counted-exact : (test name : Bool) (c : Comparison) → counts false c ≡ true → test ≡ satisfies v c → name ≡ Ranges.names v c → Exact test name (c ∷ [])
   counted-exact test name c h e f = record { tested = rw h (grind arith); named = rw h (grind arith) }
 
   -- `<M.m.p-0`
@@ -260,8 +246,7 @@ module _ (v : VersionValue) where
   ]
 
   -- one that a table makes
-  made_low : (w : VersionValue) (cs : List Comparison) → list_all (is_valid MAX_SAFE_INTEGER) (made at_least w ∷ cs) ≡ true
-      → Low w (made at_least w ∷ [])
+  made_low : (w : VersionValue) (cs : List Comparison) → list_all (is_valid MAX_SAFE_INTEGER) (made at_least w ∷ cs) ≡ true → Low w (made at_least w ∷ [])
   made_low w cs h =
       let valid = first_so (is_valid MAX_SAFE_INTEGER (made at_least w)) _ h in
       whole_low w _ (λ e. grind (arith, nat_tests, common_steps, and_parts, prints_zero, not-false))
@@ -328,15 +313,13 @@ module _ (v : VersionValue) where
   from-beside : {own far : Bool} (n : Numbers) → Valid (from false n ∷ [])
       → (far ≡ true → is_zero (release n) ≡ true → same_triple (release n) v ≡ false)
       → Beside own far (record { lower = Before (release n); upper = Unbounded }) (from false n ∷ [])
-  from-beside n h f =
-      low-beside (release n) Unbounded (from false n ∷ []) [] (made_low (release n) [] h) free-exact (λ k. cc k) f (λ e. cc e)
+  from-beside n h f = low-beside (release n) Unbounded (from false n ∷ []) [] (made_low (release n) [] h) free-exact (λ k. cc k) f (λ e. cc e)
 
   module _ (pre : Bool) (text : List ℕ) (within : is_within MAX_SAFE_INTEGER v ≡ true) where
     values-plain : (p : Partial) → Form pre p → Valid (plain_table false (compared equal) (npm_partial p) text)
         → Row (plain p) (plain_table false (compared equal) (npm_partial p) text)
     unfolding table
-    values-plain p any h =
-        low-beside (release (0, 0, 0)) Unbounded [] [] (inr (refl, free-exact)) free-exact (λ k. cc k) (far-low (release (0, 0, 0))) (λ e. e)
+    values-plain p any h = low-beside (release (0, 0, 0)) Unbounded [] [] (inr (refl, free-exact)) free-exact (λ k. cc k) (far-low (release (0, 0, 0))) (λ e. e)
     values-plain p (one M) h = until (release (M, 0, 0)) (M + 1, 0, 0) _ refl h
     values-plain p (two M n) h = until (release (M, n, 0)) (M, n + 1, 0) _ refl h
     values-plain p (three M n o x y e) h = equal-beside (version M n o x y) y text
@@ -380,11 +363,9 @@ module _ (v : VersionValue) where
     values Npm.tilde p (three M n o x y e) m t h = until (version M n o x []) (M, n + 1, 0) _ refl h
     values Npm.caret p (one zero) m t h = exact-beside Unbounded (Before (lowest (1, 0, 0))) (from false (0, 0, 0) ∷ []) (under (1, 0, 0) ∷ [])
         open-exact (under-exact (1, 0, 0)) (λ k. cc k) (λ k. absurd (under-free _ k))
-    values Npm.caret p (one (suc M)) m t h =
-        until (release (suc M, 0, 0)) (suc M + 1, 0, 0) (plain_changed (Npm.major (suc M))) (rw (not_zero M) refl) h
+    values Npm.caret p (one (suc M)) m t h = until (release (suc M, 0, 0)) (suc M + 1, 0, 0) (plain_changed (Npm.major (suc M))) (rw (not_zero M) refl) h
     values Npm.caret p (two zero n) m t h = until (release (0, n, 0)) (0, n + 1, 0) _ refl h
-    values Npm.caret p (two (suc M) n) m t h =
-        until (release (suc M, n, 0)) (suc M + 1, 0, 0) (plain_changed (minor (suc M) n)) (rw (not_zero M) refl) h
+    values Npm.caret p (two (suc M) n) m t h = until (release (suc M, n, 0)) (suc M + 1, 0, 0) (plain_changed (minor (suc M) n)) (rw (not_zero M) refl) h
     values Npm.caret p (three zero zero o x y e) m t h = until (version 0 0 o x []) (0, 0, o + 1) _ refl h
     values Npm.caret p (three zero (suc n) o x y e) m t h =
         let w = version 0 (suc n) o x [] in until w (0, suc n + 1, 0) (plain_changed (whole w)) (rw (not_zero n) refl) h
@@ -400,8 +381,7 @@ module _ (v : VersionValue) where
       subst (λ cs. Valid cs → Row (word_of s p) cs) (table-values pre t s p h) (values pre t w s p (form pre p h.plain) m h) k
   word-row pre text word cs w (tilde_greater g b t p x y h m) k =
       let f = form pre p h.plain in
-      let row = subst (λ cs. Valid cs → Row (tilde false p) cs) (table-values pre t Npm.tilde p h) (values pre t w Npm.tilde p f m h) k in
-      rw (same-tilde pre p f m) row
+      rw (same-tilde pre p f m) (subst (λ cs. Valid cs → Row (tilde false p) cs) (table-values pre t Npm.tilde p h) (values pre t w Npm.tilde p f m h) k)
 
   -- ---- hyphen ranges
 

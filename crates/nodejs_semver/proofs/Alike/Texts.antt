@@ -9,14 +9,14 @@ use Rattle.nodejs_semver.proofs.Common.{first_so, flat_map, hyphen, if◌then◌
 use Rattle.nodejs_semver.proofs.Common.{length-append, list_all, list_any, map, middle_is_trim, nat_tests, not, or_right, part_bounds, part_denotes}
 use Rattle.nodejs_semver.proofs.Common.{precedence, refl, space_len-nil, subst, sym, table, trim, true, version_of, ℕ, ◌&&◌, ◌++◌, ◌<◌, ◌==◌, ◌∙◌}
 use Rattle.nodejs_semver.proofs.{Common.{◌∷◌, ◌≡◌, ◌⊎◌}, Dividing.{BarsDivide.bars_once, RunsDivide.runs_are}, NpmCommon.{AreAlternatives, AreMarks}}
-use Rattle.nodejs_semver.proofs.NpmCommon.{AreWords, BeginsWord, Comparison, HasAlternatives, IsAlternative, IsHyphen, IsPlainPartial, IsPlainText}
+use Rattle.nodejs_semver.proofs.NpmCommon.{AreWords, BeginsWord, Comparison, HasAlternativesIn, IsAlternative, IsHyphen, IsPlainPartial, IsPlainText}
 use Rattle.nodejs_semver.proofs.NpmCommon.{IsPlainWord, IsSignText, IsWord, after_byte, are_marks, at_least, comparators_of, compared, counts}
 use Rattle.nodejs_semver.proofs.NpmCommon.{end_sign, hyphen_lower, hyphen_upper, is_lost, is_valid, is_within, last_marks, meets, npm_partial}
 use Rattle.nodejs_semver.proofs.{NpmCommon.spelling, Reading.{Bytes.{begins-some, is_component_byte, is_solid, solid-dark}, WordLaw.blank-len}}
 use Rattle.nodejs_semver.proofs.{Reading.WordLaw.boundary-of, Strict.{AlternativeLaw.alternatives_once, Hyphens.{free-marks, same-behind, word-front}}}
 use Rattle.nodejs_semver.proofs.Strict.{PartialLaw.boundary-quiet, Signs.blank-skipped, Words.{blank-boundary, places-begin, strict-kept}}
 use Rattle.nodejs_semver.specs.Npm.Alike.{ArePlain, ArePlainWords, IsPlainAlternative, bare, between, more_words, next, none, nothing, one_word}
-use Rattle.nodejs_semver.specs.{Npm.{Alike.{signed, tilde_greater, words}, Ranges.IsRangeOf, Table.Sign}, Ranges.View.any_version, Text.Runs.fits}
+use Rattle.nodejs_semver.specs.{Npm.{Alike.{signed, tilde_greater, words}, Ranges.IsRangeIn, Table.Sign}, Ranges.View.any_version, Text.Runs.fits}
 use Rattle.{nodejs_semver.specs.Text.{Runs.interval_of, WordText.SkipsBlank}, semver_core.specs.Text.Characters.BeginsBlank}
 use Rattle.std.{proofs.lemmas.{Bool.false_from_ne_true, Slice.Zip.AllZip-long}, specs.List.AllZip}
 use Rattle.nodejs_semver.proofs.Dividing.MeaningLaw as meaning
@@ -37,8 +37,7 @@ some-mapped f (x ∷ xs) (y ∷ ys) e = grind (arith, some-mapped f xs ys)
 run-denotes : (limit : ℕ) (text : List ℕ) (r : Run VersionValue) → begins is_word_byte text ≡ true → part_bounds limit text ≡ r.first ∷ r.others
     → fits precedence r ≡ true → part_denotes limit text ≡ interval_of precedence r ∷ []
 run-denotes limit text r b e f =
-    let one = runs_are (part_bounds limit text) (r ∷ []) (append-nil _ ∙ sym e, (f, tt), tt) in
-    rw (filled text b, sym one) refl
+    rw (filled text b, sym (runs_are (part_bounds limit text) (r ∷ []) (append-nil _ ∙ sym e, (f, tt), tt))) refl
 
 module _ {limit : ℕ} {pre : Bool} where
   -- an alternative means its interval, and has comparators only if it is not empty
@@ -63,8 +62,7 @@ module _ {limit : ℕ} {pre : Bool} where
 
 trimmed-are : (pieces texts : List (List ℕ)) → AllZip IsTrim pieces texts → texts ≡ map trim pieces
 trimmed-are [] [] h = refl
-trimmed-are (piece ∷ pieces) (text ∷ texts) h =
-    ap₂ (λ (t : List ℕ) (ts : List (List ℕ)). t ∷ ts) (middle_is_trim piece text h.0) (trimmed-are pieces texts h.1)
+trimmed-are (piece ∷ pieces) (text ∷ texts) h = ap₂ (λ (t : List ℕ) (ts : List (List ℕ)). t ∷ ts) (middle_is_trim piece text h.0) (trimmed-are pieces texts h.1)
 trimmed-are pieces texts h = absurd h
 
 some-pieces : (text : List ℕ) (pieces texts : List (List ℕ)) → IsCutAtBars text pieces → AllZip IsTrim pieces texts → 0 < length texts
@@ -111,8 +109,7 @@ may_stand v s p = grind (arith, nat_tests, common_steps)
 
 marked : (text rest : List ℕ) → (text ≡ rest) ⊎ (text ≡ codes "v" ++ rest) → Marked text rest
 unfolding encode_utf8
-marked text rest (inl e) =
-    record { mark = []; divided = e; any = ([], refl, refl); may = may_stand false; begins = no_mark; sign = λ c. refl; last = sym e }
+marked text rest (inl e) = record { mark = []; divided = e; any = ([], refl, refl); may = may_stand false; begins = no_mark; sign = λ c. refl; last = sym e }
 marked text rest (inr e) =
     record { mark = codes "v"; divided = e; any = (118 ∷ [], refl, refl); may = may_stand true; begins = no_mark; sign = λ c. refl; last = sym e }
 
@@ -129,11 +126,9 @@ module _ {limit : ℕ} {pre : Bool} where
 
   word-is : {text : List ℕ} {word : Word} {cs : List Comparison} → IsPlainWord limit pre text word cs → (x : List ℕ) × IsWord false false text x cs
   word-is (bare t p h) = behind-sign [] t (compared equal) p Npm.no_sign h
-  word-is (signed s b t p k h m) =
-      let w = behind-sign (spelling s ++ b) t s p (Npm.sign s b k) h in rw (append_assoc (spelling s) b t) at w
+  word-is (signed s b t p k h m) = let w = behind-sign (spelling s ++ b) t s p (Npm.sign s b k) h in rw (append_assoc (spelling s) b t) at w
   word-is (tilde_greater g b t p j k h m) =
-      let w = behind-sign (codes "~" ++ (g ++ (codes ">" ++ b))) t Table.tilde p (Npm.tilde_sign above g b j k (inl refl)) h in
-      rw (append_assoc g (codes ">" ++ b) t) at w
+      rw (append_assoc g (codes ">" ++ b) t) at (behind-sign (codes "~" ++ (g ++ (codes ">" ++ b))) t Table.tilde p (Npm.tilde_sign above g b j k (inl refl)) h)
 
 -- a text that does not begin with whitespace, and one that does
 solid-start : (text : List ℕ) → begins is_solid text ≡ true → BeginsBlank text → ⊥
@@ -177,20 +172,16 @@ module _ {limit : ℕ} {pre : Bool} where
       let word = word-is h in
       let same : behind ≡ k.before = same-behind (t ++ behind) k.before behind k.lower (word-front false t word.0 (t ++ behind) behind cs refl word.1)
       (boundary-quiet k.before (boundary-of k.before (inr k.dash.1))) (boundary-quiet behind stop) in
-      let gone : drop_spaces k.before ≡ 45 ∷ k.dash.0 = ap drop_spaces k.dash.2.1
-      ∙ blank-skipped k.dash.2.0 (45 ∷ k.dash.0) k.dash.2.2 (solid-dark (45 ∷ k.dash.0) refl) in
-      cc (sym (ap (after_byte 45) (sym skips ∙ ap drop_spaces same ∙ gone)) ∙ other)
+      grind (arith, blank-skipped, solid-dark)
 
   no_hyphen : {text : List ℕ} {ws : List Word} {cs : List Comparison} → ArePlainWords limit pre text ws cs → IsHyphen false text → ⊥
   unfolding is_boundary
-  no_hyphen (one_word t w c h) k =
-      no_hyphen-first t [] [] h refl (drop_spaces-none [] space_len-nil) refl (subst (IsHyphen false) (sym (append-nil t)) k)
+  no_hyphen (one_word t w c h) k = no_hyphen-first t [] [] h refl (drop_spaces-none [] space_len-nil) refl (subst (IsHyphen false) (sym (append-nil t)) k)
   no_hyphen (more_words t b rest w us c d h k some more) range =
       let opens = words-begin more in
       no_hyphen-first t (b ++ rest) rest h (blank-boundary b rest k some) (blank-skipped b rest k (word-dark rest opens)) (no-dash rest opens) range
 
-  part-is : {text : List ℕ} {s : Span VersionValue} {cs : List Comparison} → IsPlainAlternative limit pre text s cs
-      → IsAlternative false false text false cs
+  part-is : {text : List ℕ} {s : Span VersionValue} {cs : List Comparison} → IsPlainAlternative limit pre text s cs → IsAlternative false false text false cs
   part-is nothing = Npm.words [] [] filled-range Npm.none
     where
       filled-range : IsHyphen false [] → ⊥
@@ -243,19 +234,12 @@ module _ {limit : ℕ} {pre : Bool} where
   all-are : (pieces : List (List ℕ)) {texts : List (List ℕ)} {list : List (Span VersionValue)} {all : List (List Comparison)}
       → ArePlain limit pre texts list all → AllZip IsTrim pieces texts → AreAlternatives false false pieces all
   all-are [] none t = Npm.none
-  all-are (piece ∷ pieces) (next text rest s cs ss others h more) t =
-      Npm.next piece text pieces false cs others t.0 (part-is h) (all-are pieces more t.1)
+  all-are (piece ∷ pieces) (next text rest s cs ss others h more) t = Npm.next piece text pieces false cs others (part-is h) t.0 (all-are pieces more t.1)
   all-are pieces h t = absurd t
 
 pub plain-has : (text : List ℕ) (list : List (Span VersionValue)) (all : List (List Comparison))
-    → IsPlainText MAX_SAFE_INTEGER text list all → HasAlternatives MAX_SAFE_INTEGER false text all
-plain-has text list all h = record {
-  parts = h.pieces;
-  divided = h.cut;
-  each = all-are h.pieces h.each h.trimmed;
-  some = (some-all MAX_SAFE_INTEGER h.pre h.texts h.spans all h.each (some-pieces text h.pieces h.texts h.cut h.trimmed)).1;
-  valid = h.valid;
-}
+    → IsPlainText MAX_SAFE_INTEGER text list all → HasAlternativesIn false MAX_SAFE_INTEGER false text all
+plain-has text list all h = grind (arith, nat_tests, common_steps, all-are, some-all, some-pieces)
 
 -- ---- what both accept
 
@@ -303,15 +287,13 @@ bare-accepts v r cs h = rw (none-counted cs h, r) refl
 empty-bare : (limit : ℕ) (pre : Bool) (texts : List (List ℕ)) (list : List (Span VersionValue)) (all : List (List Comparison))
     → ArePlain limit pre texts list all → list_all is_empty texts ≡ true → 0 < length texts → list_any is_bare all ≡ true
 empty-bare limit pre texts list all none e some = absurd (omega (arith, some))
-empty-bare limit pre texts list all (next text rest s cs ss others h more) e some =
-    rw ((part-denotes h).1 (and_parts (is_empty text) _ e).0) refl
+empty-bare limit pre texts list all (next text rest s cs ss others h more) e some = rw ((part-denotes h).1 (and_parts (is_empty text) _ e).0) refl
 
 pub plain-same : (text : List ℕ) (list : List (Span VersionValue)) (all : List (List Comparison)) (v : VersionValue)
     → IsPlainText MAX_SAFE_INTEGER text list all → is_within MAX_SAFE_INTEGER v ≡ true
     → accepts list v false ≡ Ranges.accepts false all v
 plain-same text list all v h w = rw h.list_is (elim (cases_Bool (list_all is_empty h.texts)) [
-  | inl e ↦ rw (e, empty-bare MAX_SAFE_INTEGER h.pre h.texts h.spans all h.each e (some-pieces text h.pieces h.texts h.cut h.trimmed))
-      (any-accepts v)
+  | inl e ↦ rw (e, empty-bare MAX_SAFE_INTEGER h.pre h.texts h.spans all h.each e (some-pieces text h.pieces h.texts h.cut h.trimmed)) (any-accepts v)
   | inr e ↦ rw e (elim (cases_Bool (list_any is_bare all)) [
     | inr e ↦ rw e same
     | inl e ↦ rw e (same ∙ opened e)
@@ -337,11 +319,9 @@ plain-same text list all v h w = rw h.list_is (elim (cases_Bool (list_all is_emp
 -- what the range of a text accepts here, and what that to node-semver does
 pub here-means : (text : List ℕ) (here list : List (Span VersionValue)) (v : VersionValue) → IsUtf8 text
     → Means MAX_SAFE_INTEGER text here → Means MAX_SAFE_INTEGER text list → accepts here v false ≡ accepts list v false
-here-means text here list v u m k =
-    ap (λ l. accepts l v false) (meaning.same_meaning MAX_SAFE_INTEGER text here list u m k)
+here-means text here list v u m k = ap (λ l. accepts l v false) (meaning.same_meaning MAX_SAFE_INTEGER text here list u m k)
 
 pub there-means : (text : List ℕ) (there : List (Span VersionValue)) (all : List (List Comparison)) (v : VersionValue)
-    → IsUtf8 text → IsRangeOf MAX_SAFE_INTEGER false text there → HasAlternatives MAX_SAFE_INTEGER false text all
+    → IsUtf8 text → IsRangeIn false MAX_SAFE_INTEGER false text there → HasAlternativesIn false MAX_SAFE_INTEGER false text all
     → accepts there v false ≡ Ranges.accepts false all v
-there-means text there all v u r k = r.accepted v
-    ∙ ap (λ l. Ranges.accepts false l v) (alternatives_once _ _ _ _ _ _ u r.has k)
+there-means text there all v u r k = r.accepted v ∙ ap (λ l. Ranges.accepts false l v) (alternatives_once _ _ _ _ _ _ u r.has k)

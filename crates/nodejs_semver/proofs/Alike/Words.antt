@@ -1,7 +1,7 @@
 -- The words of plain alternatives, as the range grammar here reads them.
 use Rattle.nodejs_semver.proofs.Common.{Bool, Comparator, IsBlank, IsSign, List, None, Partial, Some, Word, [], above, after_spaces, ap, append-nil}
 use Rattle.nodejs_semver.proofs.Common.{append_assoc, arith, at_most, begins, below, cases_Bool, codes, drop_spaces, drop_spaces-none, eqb-true}
-use Rattle.nodejs_semver.proofs.Common.{equal, false, hyphen, inl, inr, is_ascii_digit, is_boundary, is_empty, is_sign, length, list_len, lt-ltb}
+use Rattle.nodejs_semver.proofs.Common.{equal, false, hyphen, inl, inr, is_boundary, is_empty, is_sign, length, list_len, lt-ltb}
 use Rattle.nodejs_semver.proofs.Common.{nat_tests, partial_front, refl, space_len, tilde_sign, true, word_at, words, words_within, ℕ, ◌++◌, ◌<◌, ◌==◌}
 use Rattle.nodejs_semver.proofs.{Common.{◌||◌, ◌∙◌, ◌∷◌, ◌≡◌}, NpmCommon.{Comparison, IsPlainPartial, IsPlainWord, after_byte, at_least, compared}}
 use Rattle.nodejs_semver.proofs.{NpmCommon.spelling, Reading.Bytes.{Stop, begins-on, begins-some, begins_component, component-solid}}
@@ -10,7 +10,7 @@ use Rattle.nodejs_semver.proofs.{Reading.{PartialLaw.{front-exact, words-step}, 
 use Rattle.nodejs_semver.{proofs.Strict.Words.{blank-boundary, blank-space}, specs.Internal.{Fronts.{dotted_front, drop_v}, Words.upper_behind}}
 use Rattle.nodejs_semver.specs.{Npm.Alike.{ArePlainWords, bare, more_words, one_word, signed, tilde_greater}, Text.WordText.above_sign}
 use Rattle.nodejs_semver.specs.Text.WordText.{at_least_sign, at_most_sign, below_sign, equal_sign}
-use Rattle.{semver_core.specs.Text.Characters.is_identifier_char, std.proofs.lemmas.Bool.false_from_ne_true}
+use Rattle.{std.proofs.lemmas.Bool.false_from_ne_true}
 use Rattle.nodejs_semver.specs.Npm.Table as Npm
 
 -- what stands behind a word: the end, or whitespace and another word
@@ -48,30 +48,11 @@ no-dash text h = grind arith
 
 -- ---- whitespace
 
--- a byte that is not visible is no other one
-dull : (b c : ℕ) → is_solid b ≡ false → is_solid c ≡ true → (b == c) ≡ false
-dull b c h k = false_from_ne_true _ (λ e. cc (h, k, eqb-true b c e))
-
-dull-digit : (b : ℕ) → is_solid b ≡ false → is_ascii_digit b ≡ false
-dull-digit b h = grind (arith, nat_tests)
-
-dull-identifier : (b : ℕ) → is_solid b ≡ false → is_identifier_char b ≡ false
-dull-identifier b h = grind (arith, nat_tests)
-
 -- nothing goes on at a text that begins with whitespace
 stop-dark : (more : List ℕ) → 0 < space_len more → Stop more
 unfolding list_len dotted_front
 stop-dark [] h = stop-nil
-stop-dark (b ∷ rest) h =
-    let e : is_solid b ≡ false = false_from_ne_true _ (λ s. omega (arith, h, solid-dark (b ∷ rest) s)) in
-    record {
-      run = rw (dull-identifier b e, dull b 46 e refl) refl;
-      dash = dull b 45 e refl;
-      plus = dull b 43 e refl;
-      identifier = dull-identifier b e;
-      digit = dull-digit b e;
-      dot = λ limit. rw (dull b 46 e refl) refl;
-    }
+stop-dark (b ∷ rest) h = grind (arith, nat_tests, false_from_ne_true, solid-dark, eqb-true)
 
 ends-blank : (limit : ℕ) (blank rest : List ℕ) → IsBlank blank → 0 < length blank → begins is_word_byte rest ≡ true → Ends limit (blank ++ rest)
 ends-blank limit blank rest h some e =
@@ -114,17 +95,11 @@ module _ (limit : ℕ) (pre : Bool) (x : List ℕ) (p : Partial) (h : IsPlainPar
   partial-dark more = word-dark (x ++ more) (begins-word x more partial-begins)
 
   pub partial-read : (more : List ℕ) → Stop more → partial_front limit (x ++ more) ≡ Some (p, more)
-  partial-read more stop =
-      let read = front-exact limit h.rest more p h.here stop in
-      elim h.marked [
-        | inl e ↦ rw e read
-        | inr e ↦ rw e (marked-read limit (h.rest ++ more) (begins-on is_component_byte h.rest more opened) ∙ read)
-      ]
+  partial-read more stop = grind (arith, front-exact, marked-read, begins-on, opened)
 
   -- behind whitespace or none
   behind-read : (blank more : List ℕ) → IsBlank blank → Stop more → partial_front limit (drop_spaces (blank ++ (x ++ more))) ≡ Some (p, more)
-  behind-read blank more b stop =
-      ap (λ (t : List ℕ). partial_front limit t) (blank-skipped blank (x ++ more) b (partial-dark more)) ∙ partial-read more stop
+  behind-read blank more b stop = ap (λ (t : List ℕ). partial_front limit t) (blank-skipped blank (x ++ more) b (partial-dark more)) ∙ partial-read more stop
 
 -- ---- words
 
@@ -140,15 +115,8 @@ word-read limit pre text more w cs (bare t p h) e =
 word-read limit pre text more w cs (signed (compared c) b t p k h m) e =
     let read = behind-read limit pre t p h b more k e.stop in
     let sign = spelling (compared c) in
-    rw (
-      append_assoc sign (b ++ t) more,
-      append_assoc b t more,
-      compared-of limit c sign (b ++ (t ++ more)) (p, more) (sign_is c) read,
-      read,
-      e.bound,
-    ) refl
-word-read limit pre text more w cs (signed Npm.caret b t p k h m) e =
-    rw (append_assoc b t more, behind-read limit pre t p h b more k e.stop, e.bound) refl
+    rw (append_assoc sign (b ++ t) more, append_assoc b t more, compared-of limit c sign (b ++ (t ++ more)) (p, more) (sign_is c) read, read, e.bound) refl
+word-read limit pre text more w cs (signed Npm.caret b t p k h m) e = rw (append_assoc b t more, behind-read limit pre t p h b more k e.stop, e.bound) refl
 word-read limit pre text more w cs (signed Npm.tilde b t p k h m) e =
     let dark = partial-dark limit pre t p h more in
     rw (
@@ -177,8 +145,7 @@ module _ {limit : ℕ} {pre : Bool} where
   word-begins (signed s b t p k h m) = grind arith
   word-begins (tilde_greater g b t p j k h m) = refl
 
-  pub words-begin : {text : List ℕ} {ws : List Word} {cs : List Comparison} → ArePlainWords limit pre text ws cs
-      → begins is_word_byte text ≡ true
+  pub words-begin : {text : List ℕ} {ws : List Word} {cs : List Comparison} → ArePlainWords limit pre text ws cs → begins is_word_byte text ≡ true
   words-begin (one_word t w c h) = word-begins h
   words-begin (more_words t b rest w us c d h k some more) = begins-on is_word_byte t (b ++ rest) (word-begins h)
 
@@ -202,13 +169,12 @@ hyphen-read limit pre x blank gap y p q h b some g more k =
     let white = blank-space blank (45 ∷ (gap ++ y)) b some in
     let read = partial-read limit pre x p h behind (stop-dark behind white) in
     let upper : partial_front limit y ≡ Some (q, []) = rw append-nil at (partial-read limit pre y q k [] stop-nil) in
-    let dark = rw append-nil at (partial-dark limit pre y q k []) in
     words-from limit (x ++ behind) [] (hyphen p q) (begins-word x behind (partial-begins limit pre x p h)) (rw (
       unsigned-at limit (x ++ behind) (p, behind) read,
       read,
       lt-ltb 0 (space_len behind) white,
       blank-skipped blank (45 ∷ (gap ++ y)) b refl,
       lt-ltb 0 (space_len (gap ++ y)) (blank-space gap y g more),
-      blank-skipped gap y g dark,
+      blank-skipped gap y g (rw append-nil at (partial-dark limit pre y q k [])),
       upper,
     ) refl)

@@ -39,21 +39,15 @@ dotted-at : (text : List ℕ) → 0 < dotted_len text → (rest : List ℕ) × (
 dotted-at [] some = absurd (omega arith)
 dotted-at (b ∷ text) some = (text, grind (arith, nat_tests, eqb-true), run-at text (grind (arith, nat_tests)))
 
-dotted-long : (a z : List ℕ) → IsRun a → begins is_ascii_digit z ≡ false → dotted_len (46 ∷ (a ++ z)) ≡ 1 + length a
-dotted-long a z h stop = grind (arith, nat_tests, common_steps, run-long)
-
 -- ---- the longest tuple at the front
 
-span-two : (a b z : List ℕ) → IsRun a → IsRun b → begins is_ascii_digit z ≡ false
-    → tuple_len ((a ++ (46 ∷ b)) ++ z) ≡ length (a ++ (46 ∷ b)) + dotted_len z
+span-two : (a b z : List ℕ) → IsRun a → IsRun b → begins is_ascii_digit z ≡ false → tuple_len ((a ++ (46 ∷ b)) ++ z) ≡ length (a ++ (46 ∷ b)) + dotted_len z
 unfolding tuple_len
-span-two a b z h k stop =
-    grind (arith, nat_tests, common_steps, append_assoc, run-long, drop_at, dotted-long, length-append, drop-append-add)
+span-two a b z h k stop = grind (arith, nat_tests, common_steps, append_assoc, run-long, drop_at, length-append, drop-append-add)
 
 span-three : (a b c z : List ℕ) → IsRun a → IsRun b → IsRun c → begins is_ascii_digit z ≡ false
     → tuple_len ((a ++ (46 ∷ (b ++ (46 ∷ c)))) ++ z) ≡ length (a ++ (46 ∷ (b ++ (46 ∷ c))))
-span-three a b c z h k m stop =
-    let e = span-two a b (46 ∷ (c ++ z)) h k refl in grind (arith, append_assoc, dotted-long, length-append)
+span-three a b c z h k m stop = let e = span-two a b (46 ∷ (c ++ z)) h k refl in grind (arith, nat_tests, common_steps, append_assoc, run-long, length-append)
 
 -- none is longer than a tuple with no dot and run behind it
 span : (y z : List ℕ) (runs : List (List ℕ)) → IsTuple y runs → begins is_ascii_digit z ≡ false
@@ -72,8 +66,7 @@ record SpanAt (text : List ℕ) : Type 0 where
   long : tuple_len text ≡ length tuple
   ended : begins is_ascii_digit rest ≡ false
 
-whole-span : (y z : List ℕ) (runs : List (List ℕ)) → IsTuple y runs → begins is_ascii_digit z ≡ false
-    → tuple_len (y ++ z) ≡ length y → SpanAt (y ++ z)
+whole-span : (y z : List ℕ) (runs : List (List ℕ)) → IsTuple y runs → begins is_ascii_digit z ≡ false → tuple_len (y ++ z) ≡ length y → SpanAt (y ++ z)
 whole-span y z runs is stop e = record { tuple = y; rest = z; runs = runs; split = refl; is = is; long = e; ended = stop }
 
 -- a tuple is the longest, or goes on with a dot and a run
@@ -96,8 +89,7 @@ span-at text some =
 
 -- ---- the longest tuple at a place
 
-pub last_before : (text : List ℕ) (at d : ℕ) → 0 < at → at ≤ length text
-    → is_ascii_digit (get_or text (at - 1) d) ≡ ends is_ascii_digit (take at text)
+pub last_before : (text : List ℕ) (at d : ℕ) → 0 < at → at ≤ length text → is_ascii_digit (get_or text (at - 1) d) ≡ ends is_ascii_digit (take at text)
 last_before text at d some fits =
     let long = length-take-le at text fits in
     rw (take-append-drop at text, long) at (last-byte is_ascii_digit (take at text) (drop at text) d (omega (arith, long, some)))
@@ -125,9 +117,7 @@ module _ {included : Bool} {text x y z : List ℕ} (is : IsContinuedIn included 
   spanned = span is.tuple behind is.found.runs is.found.is is.found.ended
 
   len-at : tuple_len_at text (length x) ≡ tuple_len (is.tuple ++ behind)
-  len-at =
-      let front : take (length x) text ≡ x = cc (is.found.divided, take-append_seam x (is.tuple ++ behind)) in
-      rw (front, is.found.begun, there) refl
+  len-at = grind (arith, nat_tests, common_steps, there)
 
   pre : (pre_len included behind ≡ length is.pre) × (listed (drop 1 is.pre) ≡ is.pre_ids)
   pre = marked-read included true 45 is.pre (is.build ++ z) is.pre_ids is.pre_is
@@ -218,10 +208,7 @@ Chooses C included text at = (p : Place included text at) × C included text p.f
 pub leftmost-chosen : (included : Bool) (text : List ℕ) (at : ℕ) → IsFirstPlace text at → Chooses IsLeftmost included text at
 leftmost-chosen included text at h = let p = place included text at h.inside h.here in (
   p,
-  record {
-    first = λ x y z is. grind (arith, seen is, h.first (length x));
-    longest = λ x y z is same. omega (arith, same, rw same at (reaches is).0, p.end);
-  },
+  record { first = λ x y z is. grind (arith, seen is, h.first (length x)); longest = λ x y z is same. omega (arith, same, rw same at (reaches is).0, p.end) },
 )
 
 pub rightmost-chosen : (included : Bool) (text : List ℕ) (at : ℕ) → IsLastPlace included text at → Chooses IsRightmost included text at
@@ -243,28 +230,17 @@ last_begin included text = grind (arith, nat_tests, common_steps)
 
 pub last_kept : (included : Bool) (text : List ℕ) (at start end there : ℕ) → there ≡ end_at included text at → there ≤ end
     → IsLastBefore included text at start end → IsLastBefore included text (at + 1) start end
-last_kept included text at start end there e le h = record {
-  before = omega arith;
-  here = h.here;
-  last = λ x lt. grind (arith, h.last x);
-  longest = λ x lt some tie. grind (arith, h.longest x);
-}
+last_kept included text at start end there e le h = grind arith
 
 pub last_taken : (included : Bool) (text : List ℕ) (at start end there : ℕ) → there ≡ end_at included text at → end < there
     → IsLastBefore included text at start end → IsLastBefore included text (at + 1) at there
-last_taken included text at start end there e more h = record {
-  before = omega arith;
-  here = λ _. sym e;
-  last = λ x lt. grind (arith, h.last x);
-  longest = λ x lt some tie. grind (arith, h.last x);
-}
+last_taken included text at start end there e more h = grind arith
 
 -- ---- the numbers of a tuple
 
 front-found : (limit : ℕ) (a rest : List ℕ) (n : ℕ) (r : List ℕ) → IsRun a → begins is_ascii_digit rest ≡ false
     → number_front limit (a ++ rest) ≡ Some (n, r) → IsNumber limit a n × (r ≡ rest)
-front-found limit a rest n r h stop e =
-    grind (arith, nat_tests, common_steps, digits-taken, take_at, drop_at, same_Some, number-is)
+front-found limit a rest n r h stop e = grind (arith, nat_tests, common_steps, digits-taken, take_at, drop_at, same_Some, number-is)
 
 number-found : (zeros : Bool) (a rest : List ℕ) (n : ℕ) (r : List ℕ) → IsRun a → begins is_ascii_digit rest ≡ false
     → number_in_reading zeros MAX_SAFE_INTEGER (a ++ rest) ≡ Some (n, r) → IsNumberIn zeros a n × (r ≡ rest)
@@ -288,10 +264,7 @@ number-reads false = strict-read MAX_SAFE_INTEGER
 number-first : (zeros : Bool) (t a rest : List ℕ) (v : VersionValue) (f : ℕ × List ℕ → Option VersionValue) → t ≡ a ++ rest → IsRun a
     → begins is_ascii_digit rest ≡ false → (number_in_reading zeros MAX_SAFE_INTEGER t >>? f) ≡ Some v
     → (n : ℕ) × IsNumberIn zeros a n × (f (n, rest) ≡ Some v)
-number-first zeros t a rest v f same h stop e =
-    let x = bind_some (number_in_reading zeros MAX_SAFE_INTEGER t) f v e in
-    let p = number-found zeros a rest x.0.0 x.0.1 h stop (rw (← same) x.1) in
-    (x.0.0, p.0, subst (λ (r : List ℕ). f (x.0.0, r) ≡ Some v) p.1 x.2)
+number-first zeros t a rest v f same h stop e = grind (arith, nat_tests, common_steps, bind_some, number-found)
 
 release-found : (zeros : Bool) (t : List ℕ) (runs : List (List ℕ)) (v : VersionValue) → IsTuple t runs
     → tuple_release zeros MAX_SAFE_INTEGER t ≡ Some v → IsRelease (IsNumberIn zeros) runs v
@@ -431,8 +404,7 @@ module _ (included zeros : Bool) (C : Chosen) (text bytes : List ℕ) where
   coerced s None at same h e = (
     tt,
     rw (← same) (λ v w.
-        let place = (s.place included bytes _ _ _ _ _ _ h.0.is h.1 w.found w.chosen).0 in
-        let none = rw (take_rest bytes at, ← h.0.here, place) at e in
+        let none = rw (take_rest bytes at, ← h.0.here, (s.place included bytes _ _ _ _ _ _ h.0.is h.1 w.found w.chosen).0) at e in
         cc (none ∙ coerced-read included zeros C bytes s v w)),
   )
 

@@ -23,8 +23,7 @@ while-off p [] h = refl
 while-off p (c ∷ t) h = rw h refl
 
 -- what is digits alone goes on, behind these, with nothing
-digits-alone : (t : List ℕ) → list_all is_ascii_digit (take_while is_identifier_char t)
-    ≡ not (begins_identifier (drop (prefix_len is_ascii_digit t) t))
+digits-alone : (t : List ℕ) → list_all is_ascii_digit (take_while is_identifier_char t) ≡ not (begins_identifier (drop (prefix_len is_ascii_digit t) t))
 digits-alone [] = refl
 digits-alone (c ∷ t) = grind (arith, nat_tests, while-on is_identifier_char c t, behind-on is_ascii_digit c t, digits-alone t)
 
@@ -41,10 +40,7 @@ zero-while (c ∷ d ∷ t) h = grind (arith, nat_tests, while-on is_identifier_c
 
 pub begins_plain : (strict : Bool) (t : List ℕ) → (strict && begins_padded t) ≡ false → begins_identifier_in strict t ≡ begins_identifier t
 begins_plain false t h = rw (is-id t) (and-true (begins_identifier t))
-begins_plain true t h = elim (cases_Bool (list_all is_ascii_digit (take_while is_identifier_char t))) [
-  | inl all ↦ rw (is-id t, all, zero-while t all, h) (and-true (begins_identifier t))
-  | inr some ↦ rw (is-id t, some) (and-true (begins_identifier t))
-]
+begins_plain true t h = grind (arith, cases_Bool, is-id, zero-while, and-true)
 
 padded-begins : (t : List ℕ) → begins_padded t ≡ true → begins_identifier t ≡ true
 padded-begins [] h = cc h
@@ -52,8 +48,7 @@ padded-begins (c ∷ []) h = cc h
 padded-begins (c ∷ d ∷ t) h = grind (arith, nat_tests)
 
 -- a number with a leading zero goes on, behind its digits, as no number
-pub begins_long : (t : List ℕ) → begins_padded t ≡ true
-    → begins_identifier_in true t ≡ begins_identifier (drop (prefix_len is_ascii_digit t) t)
+pub begins_long : (t : List ℕ) → begins_padded t ≡ true → begins_identifier_in true t ≡ begins_identifier (drop (prefix_len is_ascii_digit t) t)
 begins_long t h = grind (arith, is-id t, zero-while t, digits-alone t, padded-begins t)
 
 pub ruleset identifier_begins = (begins_plain, begins_long, take_rest)
@@ -64,8 +59,7 @@ pub len_step : (strict : Bool) (text : List ℕ) (i : ℕ) → i < length text �
     → list_len_in strict (drop i text) ≡ 1 + list_len_in strict (drop (i + 1) text)
 unfolding list_len_in
 len_step strict text i inside h =
-    let more = rw (drop-cons text i 0 inside) at h in
-    rw (drop-cons text i 0 inside, add-one i, more) refl
+    rw (drop-cons text i 0 inside, add-one i, rw (drop-cons text i 0 inside) at h) refl
 
 pub len_stop : (strict : Bool) (t : List ℕ) → goes_on_in strict t ≡ false → list_len_in strict t ≡ 0
 unfolding list_len_in
@@ -122,14 +116,12 @@ taken strict (c ∷ t) = elim (cases_Bool (goes_on_in strict (c ∷ t))) [
 
 list-taken : (strict : Bool) (t : List ℕ) → begins_identifier_in strict t ≡ true
     → list_all (is_identifier_in strict) (pieces (take (list_len_in strict t) t)) ≡ true
-list-taken strict t h = let r = taken strict t in
-    all-pieces (is_identifier_in strict) (pieces (take (list_len_in strict t) t)) (rw r.0 h) r.1
+list-taken strict t h = let r = taken strict t in all-pieces (is_identifier_in strict) (pieces (take (list_len_in strict t) t)) (rw r.0 h) r.1
 
 list-ended : (strict : Bool) (t : List ℕ) → goes_on_in strict (drop (list_len_in strict t) t) ≡ false
 unfolding list_len_in
 list-ended strict [] = refl
-list-ended strict (c ∷ t) =
-    let e : 1 + list_len_in strict t ≡ suc (list_len_in strict t) = omega arith in grind (arith, e, list-ended strict t)
+list-ended strict (c ∷ t) = let e : 1 + list_len_in strict t ≡ suc (list_len_in strict t) = omega arith in grind (arith, e, list-ended strict t)
 
 len-le : (strict : Bool) (t : List ℕ) → list_len_in strict t ≤ length t
 unfolding list_len_in
@@ -152,8 +144,7 @@ parts : (strict : Bool) (ps : List (List ℕ)) → 0 < length ps → list_all (i
     → (is_identifier_in strict (first_piece ps) ≡ true) × (list_all is_identifier_char (first_piece ps) ≡ true)
     × (list_all (is_identifier_in strict) (later ps) ≡ true)
 parts strict [] some h = absurd (omega (arith, some))
-parts strict (p ∷ ps) some h = let both = and_parts (is_identifier_in strict p) (list_all (is_identifier_in strict) ps) h in
-    (both.0, (and_parts _ _ (and_parts _ _ both.0).0).1, both.1)
+parts strict (p ∷ ps) some h = grind (arith, and_parts)
 
 pieces-some : (t : List ℕ) → 0 < length (pieces t)
 pieces-some t = omega (arith, length-slice_split (λ c. c == 46) t)
@@ -235,6 +226,5 @@ stretch_new strict text at to inside e = record {
   fits = omega (arith, e, inside, len-le strict (drop at text), length-drop at text);
   each = λ i past before.
       let k : at + (i - at) ≡ i = omega arith in
-      let there = within strict (drop at text) (i - at) (omega (arith, before, past, e)) in
-      omega (arith, e, past, rw (drop-drop (i - at) at text, k) at there);
+      omega (arith, e, past, rw (drop-drop (i - at) at text, k) at (within strict (drop at text) (i - at) (omega (arith, before, past, e))));
 }

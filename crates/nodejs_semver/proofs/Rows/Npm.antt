@@ -9,8 +9,9 @@ use Rattle.nodejs_semver.proofs.NpmCommon.{lit<, loose_dotted, loose_front, loos
 use Rattle.nodejs_semver.proofs.NpmCommon.{none, npm_sign, number_of, one, patch_front, patch_place, place_front, pre_front, pre_release_front}
 use Rattle.nodejs_semver.proofs.NpmCommon.{qualified_partial, qualified_version, sign, signed_word, spelling, strict_number, strict_version}
 use Rattle.nodejs_semver.proofs.NpmCommon.{tilde_twice, tuple_len, tuple_release, whole, wildcard, word, words_within, ◌>>?◌}
-use Rattle.nodejs_semver.{proofs.Strict.Ignored.no-blank, specs.Internal.NpmWords.{behind_number, ends_in_version, is_tail, places_front, takes_on}}
-use Rattle.nodejs_semver.specs.Npm.{RangeText.{formed, more, number}, Ranges.accepts, Table.{Partial, Sign, caret, table, tilde, written_zeros}}
+use Rattle.nodejs_semver.specs.Internal.NpmInside.{are_inside, behind_id, behind_ids, behind_partial, behind_place, behind_places, behind_pre_release}
+use Rattle.nodejs_semver.{proofs.Strict.Ignored.no-blank, specs.Internal.NpmWords.{places_front, takes_on}}
+use Rattle.nodejs_semver.specs.Npm.{Partials.number, RangeText.{formed, more}, Ranges.accepts, Table.{Partial, Sign, caret, table, tilde, written_zeros}}
 
 -- ---- the table, as node-semver prints the range of each word
 
@@ -218,30 +219,35 @@ row-marks = refl
 -- ---- malformed words
 
 -- behind `^`, `~` and `~>` goes on what follows, but for a `=` alone behind `~>`; behind `<` and `foo=` a place, also
--- one with marks; and behind `v=` nothing, unless a version ends in the `v`
+-- one with marks; and behind `v=` nothing, unless a partial ends in the `v`
 row-takes : map (λ (r : List ℕ × List ℕ). takes_on r.0 r.1)
     ((codes "foo^", codes "bar") ∷ (codes "~", codes "=") ∷ (codes "~>", codes "a") ∷ (codes "~>", codes "= 1") ∷ (codes "a<", codes "v1") ∷ (codes "foo=", codes "1")
     ∷ (codes "foo=", codes "a") ∷ (codes "v=", codes "1") ∷ (codes "foo", codes "1") ∷ (codes "1.2.3v=", codes "1") ∷ (codes "1.2v=", codes "1") ∷ [])
     ≡ true ∷ true ∷ true ∷ false ∷ true ∷ true ∷ false ∷ false ∷ false ∷ true ∷ false ∷ []
-unfolding takes_on ends_in_version is_tail behind_number pre_front dashed_front pre_release_front build_front list_len
+unfolding takes_on are_inside behind_partial behind_places behind_place behind_pre_release behind_ids behind_id build_front list_len
 row-takes = refl
 
--- a version at the first place, to the end, but for an identifier of digits and others in its pre-release
-row-ends : map ends_in_version (codes ">1.2.3-dev" ∷ codes "foo01.2.3dev" ∷ codes "1.2.3-rc.1.dev" ∷ codes "1.2.3-.v" ∷ codes "1.2.3-a+1v" ∷ codes "1.2.3+v" ∷ [])
-    ≡ true ∷ true ∷ true ∷ true ∷ true ∷ true ∷ []
-unfolding ends_in_version is_tail behind_number pre_front dashed_front pre_release_front build_front list_len
+-- a text ends in a partial, the last of those that are found from the left, each the longest where it stands
+abbrev ends : List ℕ → Bool
+ends text = are_inside (length text) text
+
+row-ends : map ends (codes ">1.2.3-dev" ∷ codes "foo01.2.3dev" ∷ codes "1.2.3-rc.1.dev" ∷ codes "1.2.3-.v" ∷ codes "1.2.3-a+1v" ∷ codes "1.2.3+v"
+    ∷ codes "1.2.3,1.2.3v" ∷ codes "1.x.3-v" ∷ codes "x.2.3+v" ∷ codes "1.2.3-5a1.2.3v" ∷ [])
+    ≡ true ∷ true ∷ true ∷ true ∷ true ∷ true ∷ true ∷ true ∷ true ∷ true ∷ []
+unfolding are_inside behind_partial behind_places behind_place behind_pre_release behind_ids behind_id build_front list_len
 row-ends = refl
 
-row-ends_not : map ends_in_version (codes "1.2.3-1v" ∷ codes "1.2.34.v" ∷ codes "1.2.3.4v" ∷ codes "1.2v" ∷ codes "1.2.3-a,v" ∷ codes "x.2.3v" ∷ [])
-    ≡ false ∷ false ∷ false ∷ false ∷ false ∷ false ∷ []
-unfolding ends_in_version is_tail behind_number pre_front dashed_front pre_release_front build_front list_len
+row-ends_not : map ends (codes "1.2.3-1v" ∷ codes "1.2.34.v" ∷ codes "1.2.3.4v" ∷ codes "1.2v" ∷ codes "1.2.3-a,v" ∷ codes "x.2.3v" ∷ codes "1.02.x-v"
+    ∷ codes "1.x.3-01v" ∷ codes "1.1.2.3v" ∷ [])
+    ≡ false ∷ false ∷ false ∷ false ∷ false ∷ false ∷ false ∷ false ∷ false ∷ []
+unfolding are_inside behind_partial behind_places behind_place behind_pre_release behind_ids behind_id build_front list_len
 row-ends_not = refl
 
 row-behind : map (λ (text : List ℕ). behind_ignored (length text) text)
     (codes "foo 1" ∷ codes "foo= 1 2" ∷ codes "foo^ bar 1" ∷ codes "~> = 1" ∷ codes "1x 1" ∷ codes "v= 1" ∷ codes "1.2.3-dev= 1 2" ∷ codes "foo" ∷ [])
     ≡ codes " 1" ∷ codes " 2" ∷ codes " 1" ∷ codes " = 1" ∷ codes " 1" ∷ codes " 1" ∷ codes " 2" ∷ [] ∷ []
-unfolding behind_ignored from_boundary is_boundary space_len after_spaces takes_on ends_in_version is_tail behind_number pre_front dashed_front pre_release_front
-    build_front list_len
+unfolding behind_ignored from_boundary is_boundary space_len after_spaces takes_on are_inside behind_partial behind_places behind_place behind_pre_release
+    behind_ids behind_id build_front list_len
 row-behind = refl
 
 -- `>=1.0.0, <2.0.0` and `latest 1` have an ignored word loosely, and are rejected strictly
@@ -251,8 +257,8 @@ loose_words loose text = words_within loose false (length text) text >>? λ read
 row-ignored : map (loose_words true) (codes ">=1.0.0, <2.0.0" ∷ codes "latest 1" ∷ codes "foo= 1 <2" ∷ []) ++ map (loose_words false) (codes ">=1.0.0, <2.0.0" ∷ [])
     ≡ Some (None ∷ Some (codes "<2.0.0") ∷ []) ∷ Some (None ∷ Some (codes ">=1.0.0 <2.0.0-0") ∷ []) ∷ Some (None ∷ Some (codes "<2.0.0-0") ∷ []) ∷ None ∷ []
 unfolding words_within first_word signed_word behind_ignored from_boundary is_boundary space_len after_spaces npm_sign places_front place_front dotted_place
-    dotted_patch patch_place qualified_partial pre_front dashed_front pre_release_front build_front listed digits written_zeros takes_on ends_in_version is_tail
-    behind_number
+    dotted_patch patch_place qualified_partial pre_front dashed_front pre_release_front build_front listed digits written_zeros takes_on are_inside behind_partial
+    behind_places behind_place behind_pre_release behind_ids behind_id
 row-ignored = refl
 
 -- `latest || 1` is `1`

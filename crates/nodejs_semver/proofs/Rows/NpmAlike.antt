@@ -9,7 +9,7 @@ use Rattle.nodejs_semver.specs.Ranges.View.{any_version}
 use Rattle.semver_core.specs.Text.Characters.{is_whitespace}
 use Rattle.std.proofs.Common.{lit<}
 use Rattle.std.specs.Prelude.{reverse}
-use Rattle.nodejs_semver.specs.Npm.RangeText as Npm
+use Rattle.nodejs_semver.specs.Npm.Partials as Places
 use Rattle.nodejs_semver.specs.Text.PartialText as Here
 use Rattle.nodejs_semver.specs.Text.Table as Spans
 
@@ -28,8 +28,8 @@ part_is text rest M marked n spelled short = record {
   rest = rest;
   marked = marked;
   here = Here.one rest (Some M) (Here.number rest M n);
-  npm = Npm.one rest (Some M)
-      (Npm.number rest M (record { some = n.some; each = n.each; value = n.value; safe = omega arith }) spelled short);
+  npm = Places.one rest (Some M)
+      (Places.number rest M (record { some = n.some; each = n.each; value = n.value; safe = omega arith }) spelled short);
   plain = refl;
 }
 

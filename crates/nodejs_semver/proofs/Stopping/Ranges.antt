@@ -1,17 +1,17 @@
 -- The malformed word of a range text, and its first alternative that is malformed.
 use Rattle.nodejs_semver.proofs.Common.{AllByRecursion, Bool, Front, IsAfterBlank, IsCutAtBars, IsTrim, IsUtf8, List, MAX_SAFE_INTEGER, None, Option}
 use Rattle.nodejs_semver.proofs.Common.{Some, [], after_blank-place, and_parts, ap, append-nil, append_assoc, arith, bind_some, common_steps, ℕ, ◌<◌}
-use Rattle.nodejs_semver.proofs.Common.{cond_some, cut_bars, drop, drop_spaces, false, inl, inr, is_empty, length, length-append, list_all, ◌∙◌, ◌∷◌}
+use Rattle.nodejs_semver.proofs.Common.{cond_some, cut_bars, drop, drop_spaces, false, is_empty, length, length-append, list_all, ◌∙◌, ◌∷◌}
 use Rattle.nodejs_semver.proofs.Common.{middle_is_trim, more_pieces, nat_tests, one_piece, refl, same_Some, subst, sym, trim, true, ◌++◌, ◌+◌, ◌-◌}
 use Rattle.nodejs_semver.{proofs.{Common.{◌≡◌, ◌≤◌}, Diagnosing.IgnoredParts.{part_ends, part_fits, sizes_of}}, specs.Npm.Table.{Partial, table}}
 use Rattle.nodejs_semver.proofs.Dividing.{BarLemmas.{cut_bars-front, parts_after}, BarsDivide.{bars_divide, bars_once}, MeaningLaw.pieces-utf8}
-use Rattle.nodejs_semver.proofs.NpmCommon.{Alternative, AreAlternatives, Comparison, Counted, HasAlternatives, IsAlternative, IsFound, IsLeft, none}
+use Rattle.nodejs_semver.proofs.NpmCommon.{Alternative, AreAlternatives, Comparison, Counted, HasAlternativesIn, IsAlternative, IsFound, IsLeft, none}
 use Rattle.nodejs_semver.proofs.NpmCommon.{IsMalformedWord, NoValue, Signed, alternative_of, counted_word, first_valid, here, is_none, is_valid}
-use Rattle.nodejs_semver.proofs.{NpmCommon.{marks_len, npm_sign, signed_word, valid_alternative, valid_one}, Reading.PartialLaw.spaces-le}
+use Rattle.nodejs_semver.proofs.{NpmCommon.{marks_len, signed_word, valid_alternative, valid_one}, Reading.PartialLaw.spaces-le}
 use Rattle.nodejs_semver.proofs.Reading.{Steps.option-cases, WordLaw.{boundary-of, first-of, skips-is, skips-of, skips-utf8, trim-utf8}}
 use Rattle.nodejs_semver.proofs.Strict.{AlternativeLaw.{alternative-found, alternative-read}, Counted.first-valid, RangeReads.found-some}
 use Rattle.nodejs_semver.{proofs.Strict.Words.{WordAt, first-read, signed-found, strict-kept, word-read}, specs.Internal.NpmWords.counted_or}
-use Rattle.nodejs_semver.specs.{Internal.{NpmWords.places_front, PartFronts.front_part}, Npm.{MalformedWords.{IsRightWord, on}, RangeFlaws.bytes_of}}
+use Rattle.nodejs_semver.specs.{Internal.{PartFronts.front_part}, Npm.{MalformedWords.{IsRightWord, on}, RangeFlaws.bytes_of}}
 use Rattle.nodejs_semver.specs.{Npm.{RangeFlaws.{IsAlternativeText, IsRangeFlaw}, RangeText.{formed, hyphen, next, words}}, Text.WordText.SkipsBlank}
 use Rattle.{nodejs_semver.specs.declared.npm.range_flaws.RangeFlaw.RangeFlaw, semver_core.proofs.Text.Trims.one_after_blank}
 use Rattle.std.proofs.lemmas.List.Elements.{All-from_recursion, All-push, recursion_from_All}
@@ -29,18 +29,14 @@ some-pieces : (text : List ℕ) (pieces : List (List ℕ)) → IsCutAtBars text 
 some-pieces text pieces (one_piece t h) = refl
 some-pieces text pieces (more_pieces x rest others h k more) = refl
 
-pub trimmed_fits : (text middle : List ℕ) (start : ℕ) → IsUtf8 text → IsAfterBlank text 0 start → IsTrim text middle
-    → start + length middle ≤ length text
+pub trimmed_fits : (text middle : List ℕ) (start : ℕ) → IsUtf8 text → IsAfterBlank text 0 start → IsTrim text middle → start + length middle ≤ length text
 trimmed_fits text middle start u a t =
     omega (arith, part_ends 0 start text middle (after_blank-place text 0 start u a) (middle_is_trim text middle t), part_fits text 0)
 
 counted-signed : (text : List ℕ) (w : Counted × List ℕ) (p : Partial) → counted_word false MAX_SAFE_INTEGER text ≡ Some w → w.0.1 ≡ Some p
     → signed_word false text ≡ Some ((w.0.0, p, w.0.2), w.1)
 unfolding counted_word signed_word
-counted-signed text w p h e = elim (option-cases (places_front false (drop (marks_len (npm_sign text).1) (npm_sign text).1))) [
-  | inl absent ↦ cc (rw absent at h)
-  | inr q ↦ let k = rw q.1 at h in rw q.1 (grind (arith, nat_tests, common_steps, cond_some))
-]
+counted-signed text w p h e = grind (arith, option-cases, cond_some)
 
 module _ (include : Bool) where
   abbrev Right : List ℕ → List ℕ → Type 0
@@ -145,18 +141,15 @@ module _ (include : Bool) where
   all-right [] h = ([], none, refl, refl)
   all-right (p ∷ ps) h =
       let more = all-right ps h.1 in
-      let w = h.0.1 in (h.0.0 ∷ more.0, next p w.middle ps false h.0.0 more.0 w.trimmed w.is more.1, rw (w.valid, more.2) refl, refl)
+      let w = h.0.1 in (h.0.0 ∷ more.0, next p w.middle ps false h.0.0 more.0 w.is w.trimmed more.1, rw (w.valid, more.2) refl, refl)
 
   right-all : (ps : List (List ℕ)) (ls : List (List Comparison)) → AreAlternatives false include ps ls
       → list_all (list_all (is_valid MAX_SAFE_INTEGER)) ls ≡ true → AllByRecursion IsPiece ps
   right-all ps ls none v = tt
-  right-all ps ls (next p text others lost cs rest t is more) v =
-      let kept = kept-strict text lost cs is in
-      let valid = and_parts (list_all (is_valid MAX_SAFE_INTEGER) cs) (list_all (list_all (is_valid MAX_SAFE_INTEGER)) rest) (rw kept at v) in
-      ((cs, record { middle = text; trimmed = t; is = rw kept at is; valid = valid.0 }), right-all others rest more valid.1)
+  right-all ps ls (next p text others lost cs rest is t more) v = grind (arith, kept-strict, and_parts, middle, right-all others rest more)
 
   pub flawed-none : (text : List ℕ) (flaw : RangeFlaw) → IsRangeFlaw MAX_SAFE_INTEGER include text flaw
-      → (ls : List (List Comparison)) → HasAlternatives MAX_SAFE_INTEGER include text ls → ⊥
+      → (ls : List (List Comparison)) → HasAlternativesIn false MAX_SAFE_INTEGER include text ls → ⊥
   flawed-none text flaw x ls h =
       let same : h.parts ≡ x.front ++ x.piece ∷ x.behind = bars_once _ _ h.divided ∙ sym (bars_once _ _ x.divided) in
       let p = middle IsPiece x.front x.piece x.behind (rw (← same) (right-all h.parts ls h.each h.valid)) in x.wrong p.0 p.1
@@ -168,7 +161,7 @@ module _ (include : Bool) where
     pub right : AllByRecursion IsPiece front
     pub leaves : (left : List ℕ) → rest ≡ Some left → bytes_of front + length left ≡ length text
 
-  pub passed_all : (text : List ℕ) → Passed text None → (ls : List (List Comparison)) × HasAlternatives MAX_SAFE_INTEGER include text ls
+  pub passed_all : (text : List ℕ) → Passed text None → (ls : List (List Comparison)) × HasAlternativesIn false MAX_SAFE_INTEGER include text ls
   passed_all text h =
       let a = all-right (h.front ++ []) (rw (append-nil h.front) h.right) in
       let cut = rw h.divided at (bars_divide text) in
@@ -188,17 +181,14 @@ module _ (include : Bool) where
   pub one_range_flaw : (text : List ℕ) (f g : RangeFlaw) → IsUtf8 text → IsRangeFlaw MAX_SAFE_INTEGER include text f
       → IsRangeFlaw MAX_SAFE_INTEGER include text g → f ≡ g
   one_range_flaw text f g u x y =
-      let pieces = bars_once _ _ x.divided ∙ sym (bars_once _ _ y.divided) in
-      let same = one-piece _ _ _ _ _ _ x.right y.right x.wrong y.wrong pieces in
+      let same = one-piece _ _ _ _ _ _ x.right y.right x.wrong y.wrong (bars_once _ _ x.divided ∙ sym (bars_once _ _ y.divided)) in
       let utf8 = middle IsUtf8 x.front x.piece x.behind (pieces-utf8 _ _ x.divided u) in
       let blank : x.blank ≡ y.blank = one_after_blank x.piece 0 x.blank y.blank utf8 x.after_blank (rw same.1 y.after_blank) in
       let middle : x.middle ≡ y.middle = middle_is_trim _ _ x.trimmed ∙ (ap trim same.1 ∙ sym (middle_is_trim _ _ y.trimmed)) in
       let start : f.start ≡ g.start = omega (arith, x.start, y.start, ap bytes_of same.0, blank) in
       let end : f.end ≡ g.end = omega (arith, x.end, y.end, start, ap length middle) in
       let word = one_malformed_word x.middle _ _ y.at y.to (trim-utf8 _ _ utf8 x.trimmed) x.word (rw middle y.word) in
-      let word_start : f.word_start ≡ g.word_start = omega (arith, x.word_start, y.word_start, start, word.0) in
-      let word_end : f.word_end ≡ g.word_end = omega (arith, x.word_end, y.word_end, start, word.1) in
-      λ i. record { start = start i; end = end i; word_start = word_start i; word_end = word_end i }
+      grind arith
 
 -- ---- the loop: what is read of the next piece
 

@@ -22,9 +22,7 @@ qualified-plain : (p b : List ℕ) (l m : List Id) → IsStrictPreRelease p l �
 qualified-plain p b l m h k = grind (arith, nat_tests, common_steps, plain_runs, runs_tail, all-join)
 
 pub plain-middle : (limit : ℕ) (middle : List ℕ) (v : VersionValue) → IsStrictVersion limit middle v → list_all is_plain middle ≡ true
-plain-middle limit middle v (written s x y z t u w m i j k p q) =
-    let digits = all_weaker is_ascii_digit is_plain (λ c k. grind (arith, nat_tests)) in
-    grind (arith, all-join, digits, qualified-plain t u w.pre_release w.build p q)
+plain-middle limit middle v (written s x y z t u w m i j k p q) = grind (arith, nat_tests, common_steps, all_weaker, all-join, qualified-plain)
 
 plain-dark : (cs : List ℕ) → list_all is_plain cs ≡ true → begins is_whitespace cs ≡ false
 plain-dark cs h = grind (arith, nat_tests, common_steps)
@@ -181,8 +179,7 @@ module _ (limit : ℕ) where
       → is_read (Number left v) (ds ++ r) ≡ (nat_le (digits_value_after 10 v ds) limit && is_read (Number left 0) r)
   unfolding run next
   digits-on left v [] r each stop some safe = grind (arith, nat_tests, no-digit)
-  digits-on left v (c ∷ ds) r each stop some safe =
-      grind (arith, nat_tests, common_steps, and_parts, digits_grow, digits-on left (v * 10 + digit_value c) ds r)
+  digits-on left v (c ∷ ds) r each stop some safe = grind (arith, nat_tests, common_steps, and_parts, digits_grow, digits-on left (v * 10 + digit_value c) ds r)
 
   number-on : (left : ℕ) (ds r : List ℕ) → 9 ≤ limit → list_all is_ascii_digit ds ≡ true → begins is_ascii_digit r ≡ false
       → is_read (Digit left) (ds ++ r) ≡ (is_number limit ds && is_read (Number left 0) r)
@@ -224,8 +221,7 @@ module _ (limit : ℕ) where
       let quiet : begins is_ascii_digit (pre ++ (build ++ r)) ≡ false =
       grind (arith, pre-follows false is_strict_list pre (build ++ r) w.pre_release p ends) in
       let front = pre-taken false false is_strict_list pre (build ++ r) w.pre_release refl p ends in
-      let behind = build-taken build r w.build q e in
-      let c : Whole (Number 0 0) (pre ++ (build ++ r)) = qualified (pre ++ (build ++ r)) ∙ rw (front.1, front.3, behind.0) after in
+      let c : Whole (Number 0 0) (pre ++ (build ++ r)) = qualified (pre ++ (build ++ r)) ∙ rw (front.1, front.3, (build-taken build r w.build q e).0) after in
       let b : Whole (Digit 0) (z ++ (pre ++ (build ++ r))) = number-read less 0 _ z _ nine le k quiet ∙ c in
       let a : Whole (Digit 1) (y ++ 46 ∷ (z ++ (pre ++ (build ++ r)))) = number-read less 1 _ y (46 ∷ _) nine le j refl ∙ b in
       let all : Whole (Digit 2) (x ++ 46 ∷ (y ++ 46 ∷ (z ++ (pre ++ (build ++ r))))) = number-read less 2 _ x (46 ∷ _) nine le i refl ∙ a in
@@ -288,8 +284,7 @@ module _ (limit : ℕ) where
   finish s = ([], refl)
 
   pub read-front : (before : List ℕ) (s : State) → 9 ≤ limit → run limit Start before ≡ Some s → IsFront limit before
-  read-front before s nine h =
-      let f = finish s in (f.0, read-spelled (before ++ f.0) nine (ap ends_whole (run-then Start s before f.0 h) ∙ f.1))
+  read-front before s nine h = let f = finish s in (f.0, read-spelled (before ++ f.0) nine (ap ends_whole (run-then Start s before f.0 h) ∙ f.1))
 
   -- and what is not read does not
   pub front-goes : (before : List ℕ) (s : State) (c : ℕ) (rest : List ℕ) → run limit Start before ≡ Some s → Whole Start (before ++ c ∷ rest)

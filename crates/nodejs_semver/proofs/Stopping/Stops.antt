@@ -107,8 +107,7 @@ module _ (limit : ℕ) (before : List ℕ) (s : State) (nine : 9 ≤ limit) (rea
   -- the text is no version
   stuck-none : (behind : List ℕ) → Stuck limit s behind → IsSpelled limit (encode_utf8_all (before ++ behind)) → ⊥
   stuck-none [] stuck is = let w = rw (append-nil before, read) at (spelled-read limit limit _ nine (omega arith) is) in cc (w, stuck)
-  stuck-none (c ∷ rest) stuck is =
-      let w = front-goes limit before s c rest read (spelled-read limit limit _ nine (omega arith) is) in cc (w, ap is_some stuck)
+  stuck-none (c ∷ rest) stuck is = let w = front-goes limit before s c rest read (spelled-read limit limit _ nine (omega arith) is) in cc (w, ap is_some stuck)
 
   wrong : (text behind : List ℕ) → text ≡ encode_utf8_all (before ++ behind) → Stuck limit s behind
       → IsWrong limit text (wrong_at s (slice_get behind 0)) (length (encode_utf8_all before))
@@ -179,8 +178,7 @@ same-divisions (c ∷ xs) us (d ∷ ys) vs e f g =
 
 module _ (limit : ℕ) (text : List ℕ) where
   -- no front goes further than a stop
-  no-further : {a b : ℕ} (x : IsStop limit text a) (y : IsStop limit text b) (c : ℕ) (r m : List ℕ) → x.behind ≡ c ∷ r
-      → y.before ≡ x.before ++ c ∷ m → ⊥
+  no-further : {a b : ℕ} (x : IsStop limit text a) (y : IsStop limit text b) (c : ℕ) (r m : List ℕ) → x.behind ≡ c ∷ r → y.before ≡ x.before ++ c ∷ m → ⊥
   no-further x y c r m k e =
       let f = y.right in
       let longer : y.before ++ f.0 ≡ (x.before ++ c ∷ []) ++ (m ++ f.0) = rw e (simp append_assoc) in

@@ -83,7 +83,7 @@ each-read : (loose include : Bool) (pieces : List (List ℕ)) (ls : List (List C
     → AreAlternatives loose include pieces ls → alternatives_of loose include (map trim pieces) ≡ Some ls
 unfolding alternatives_of
 each-read loose include pieces ls u AreAlternatives.none = refl
-each-read loose include pieces ls u (next piece text others lost cs rest is_trim is each) =
+each-read loose include pieces ls u (next piece text others lost cs rest is is_trim each) =
     let v = trim-utf8 piece text u.0 is_trim in
     let same : text ≡ trim piece = middle_is_trim piece text is_trim in
     grind (arith, alternative-read, each-read loose include others rest u.1 each)
@@ -97,7 +97,7 @@ each-found loose include (piece ∷ others) ls u h =
     let rest = bind_some (alternatives_of loose include (map trim others)) (λ rest. Some (kept a.0 rest)) ls a.2 in
     let is_trim = trim_is_middle piece u.0 in
     let is = alternative-found loose include (trim piece) a.0 (trim-utf8 piece (trim piece) u.0 is_trim) a.1 in
-    let found = next piece (trim piece) others a.0.0 a.0.1 rest.0 is_trim is (each-found loose include others rest.0 u.1 rest.1) in
+    let found = next piece (trim piece) others a.0.0 a.0.1 rest.0 is is_trim (each-found loose include others rest.0 u.1 rest.1) in
     grind (arith, nat_tests, common_steps)
 
 -- a text has the alternatives that are read, if they are valid

@@ -6,7 +6,7 @@ use Rattle.nodejs_semver.proofs.{Common.{◌∷◌, ◌≡◌, ◌≤◌}, NpmCo
 use Rattle.nodejs_semver.proofs.NpmCommon.{encode_ascii, late_above, late_below, nat_le, no_sign, runs_tail, sign, spelling, tilde_twice}
 use Rattle.nodejs_semver.{proofs.Reading.Bytes.all-join, specs.Npm.{Grammar.IsPreRelease, RangeText.tilde_sign, Table.{Partial, Sign}}}
 use Rattle.{semver_core.{proofs.Text.Listed.plain_runs, specs.Internal.CommonReading.is_plain}, std.specs.Char.is_ascii_graphic}
-use Rattle.nodejs_semver.specs.Npm.RangeText as Text
+use Rattle.nodejs_semver.specs.Npm.Partials as Text
 
 -- `<`, `=`, `>`, `^` or `~`
 abbrev pub is_sign : ℕ → Bool

@@ -29,9 +29,7 @@ begins-all : (x : List ℕ) → 0 < length x → list_all is_word_byte x ≡ tru
 begins-all x h k = grind (arith, nat_tests)
 
 word-compact : (x : List ℕ) → 0 < length x → list_all is_word_byte x ≡ true → Compact x
-word-compact x h k =
-    let each = all_weaker is_word_byte is_part_byte (λ b e. grind (arith, nat_tests)) x k in
-    record { front = begins-all x h k; each = each; end = all-end is_word_byte x h k }
+word-compact x h k = grind (arith, all_weaker, begins-all, all-end)
 
 -- a word that is the last one, and one with a space behind it
 last-word : (include : Bool) (x partial : List ℕ) (cs : List Comparison) → IsWord false include x partial cs → AreWords false include x (Some cs ∷ [])
@@ -51,13 +49,10 @@ spaced-word include x partial y cs read h some bytes k =
 
 part-of : (include : Bool) (text rest part : List ℕ) (read : List (Option (List Comparison))) (s : Span VersionValue) → text ≡ part ++ rest
     → AreWords false include part read → Compact part → AreIn include (comparators_of read) s → IsPartAt include text s rest
-part-of include text rest part read s split is c are =
-    record { part = part; read = read; split = split; is = is; front = c.front; each = c.each; end = c.end; are = are }
+part-of include text rest part read s split is c are = grind arith
 
 pub part-of_one : (include : Bool) (text rest : List ℕ) (s : Span VersionValue) → IsWordAt include text s rest → IsPartAt include text s rest
-part-of_one include text rest s w =
-    part-of include text rest w.word (Some w.comparators ∷ []) s w.split (last-word include w.word w.partial w.comparators w.is)
-    (word-compact w.word w.some w.bytes) (rw append-nil w.are)
+part-of_one include text rest s w = grind (arith, part-of, last-word, word-compact, append-nil)
 
 -- what comparators have in common of which the first have no upper bound and the others no lower one
 half-open : (include : Bool) (cs ds : List Comparison) (s t : Span VersionValue) → AreIn include cs s → AreIn include ds t
@@ -119,8 +114,7 @@ module _ (text : List ℕ) (p : Partial) (rest : List ℕ) (h : Some (Some p, re
   pub word-read : (include : Bool) (signed : List ℕ) (s : Sign) (o : Option Bounds) → IsSignAt signed s text
       → AreRead include (table include s p cut) o → IfSome o (λ b. IsPartAt include signed (bounds_view b) rest)
   word-read include signed s None sign read = tt
-  word-read include signed s (Some b) sign read =
-      part-of_one include signed rest (bounds_view b) (word-found include signed s (bounds_view b) sign read)
+  word-read include signed s (Some b) sign read = part-of_one include signed rest (bounds_view b) (word-found include signed s (bounds_view b) sign read)
 
   pub word-shorter : length rest ≤ length text
   word-shorter = partial-le false MAX_SAFE_INTEGER text (Some p) rest h
@@ -157,9 +151,7 @@ joined-read include text rest behind last s t (Some b) v e w (open_above, open_b
 
 no_place : (text : List ℕ) → is_over text ≡ true → (dotted_place false text ≡ None) × (dotted_patch false text ≡ None)
 unfolding dotted_place dotted_patch
-no_place text h =
-    let ends : after_byte 46 text ≡ None = grind (arith, nat_tests, common_steps) in
-    (rw ends refl, rw ends refl)
+no_place text h = grind arith
 
 wild_place : (b : ℕ) (rest : List ℕ) → begins_wildcard (b ∷ rest) ≡ true
     → (placed MAX_SAFE_INTEGER (dotted_place false (46 ∷ (b ∷ rest))) ≡ Some (any, rest))
@@ -182,8 +174,7 @@ module _ (text : List ℕ) where
 
   module _ (a : ℕ) (one : List ℕ) (h : Some (a, one) ≡ strict_number MAX_SAFE_INTEGER text) where
     pub short-one : (end : List ℕ) → IsLeft one end → Reads (major a) end
-    short-one end (over, inl e) =
-        strict-counted MAX_SAFE_INTEGER text _ (rw (number_placed false text a one (sym h), e, (no_place end over).0) refl)
+    short-one end (over, inl e) = strict-counted MAX_SAFE_INTEGER text _ (rw (number_placed false text a one (sym h), e, (no_place end over).0) refl)
     short-one end (over, inr (b, e, w)) =
         strict-counted MAX_SAFE_INTEGER text _ (rw (number_placed false text a one (sym h), e, (wild_place b end w).0, (no_place end over).1) refl)
 
@@ -264,14 +255,13 @@ joined : (include : Bool) (text rest : List ℕ) (s : Span VersionValue) (p : Is
 joined include text rest s p pieces others piece ss e t u f =
     let v : AllByRecursion IsUtf8 (piece ∷ others) = subst (AllByRecursion IsUtf8) e u in
     let is_trim : IsTrim piece p.part = subst (λ (t : List ℕ). IsTrim piece t) t (trim_is_middle piece v.0) in
-    let absent = hyphen_none-strict include p.part p.read (trim-utf8 piece p.part v.0 is_trim) p.is in
     let cs = comparators_of p.read in
     let k = f v.1 in
     let o = interval precedence s in
     let found : AreFound include (cs ∷ k.alternatives) (option_to_list o ++ ss) =
     record { intervals = o ∷ k.found.intervals; narrowed = (narrowed include cs s p.are.1, k.found.narrowed); are = cc k.found.are } in
-    let each = rw (strict-kept include p.part p.read p.is) at (Npm.next piece p.part others (is_lost p.read) cs k.alternatives is_trim
-    (Npm.words p.part p.read absent p.is) k.each) in
+    let each = rw (strict-kept include p.part p.read p.is) at (Npm.next piece p.part others (is_lost p.read) cs k.alternatives
+    (Npm.words p.part p.read (hyphen_none-strict include p.part p.read (trim-utf8 piece p.part v.0 is_trim) p.is) p.is) is_trim k.each) in
     rw e (record { alternatives = cs ∷ k.alternatives; each = each; valid = rw (p.are.0, k.valid) refl; found = found }, refl)
 
 all-at : (include : Bool) (text gap : List ℕ) (ss : List (Span VersionValue)) → IsGap gap → AreParts include text ss
@@ -296,15 +286,13 @@ all-at include text gap ss g (Fronts.more t behind next s more p bars h) u =
     (ap (λ (x : List ℕ). cut_bars false x) whole ∙ cut-first piece (b.after ++ next) bytes)
     (compact-trim gap p.part b.before g b.is_before c) u (λ v. (all-at include next b.after more b.is_after h v).0)
 
-text-at : (include : Bool) (text : List ℕ) (ss : List (Span VersionValue)) → IsUtf8 text → AreParts include text ss
-    → SomeAt include (cut_bars false text) ss
+text-at : (include : Bool) (text : List ℕ) (ss : List (Span VersionValue)) → IsUtf8 text → AreParts include text ss → SomeAt include (cut_bars false text) ss
 text-at include text ss u h = all-at include text [] ss (inl refl) h (pieces-utf8 text (cut_bars false text) (bars_divide text) u)
 
 -- the range of a common text
 pub common-range : (include : Bool) (text : List ℕ) (found range : List (Span VersionValue)) → IsUtf8 text → AreParts include text found
     → AcceptAsRanged found range → IsRangeIn false MAX_SAFE_INTEGER include text range
-common-range include text found range u h a =
-    grind (arith, nat_tests, common_steps, text-at, cut_bars, bars_divide)
+common-range include text found range u h a = grind (arith, nat_tests, common_steps, text-at, cut_bars, bars_divide)
 
 pub common-spans : (include : Bool) (text : List ℕ) (found range : List (Span VersionValue)) → IsUtf8 text → AreParts include text found
     → range ≡ ranged found → IsRange MAX_SAFE_INTEGER range

@@ -4,11 +4,11 @@ use Rattle.nodejs_semver.proofs.Common.{append_assoc, arith, bind_some, common_s
 use Rattle.nodejs_semver.proofs.Common.{list_all, list_all-append, nat_lt, nat_tests, prefix_len, refl, same_Some, subst, suc, sym, take}
 use Rattle.nodejs_semver.proofs.Common.{take-append-drop, take_rest, true, zero, ℕ, ◌&&◌, ◌++◌, ◌-◌, ◌<◌, ◌||◌, ◌∙◌, ◌∷◌, ◌≡◌, ◌≤◌}
 use Rattle.nodejs_semver.proofs.NpmCommon.{Alternative, Comparison, IsNarrowed, NarrowedBy, are_marks, comparators_of, counted_front, counted_word}
-use Rattle.nodejs_semver.proofs.NpmCommon.{first_valid, first_word, ignored_or, is_mark, is_none, is_short, is_short_word, is_small, is_valid}
+use Rattle.nodejs_semver.proofs.NpmCommon.{first_valid, first_word, is_mark, is_none, is_short, is_short_word, is_valid}
 use Rattle.nodejs_semver.proofs.{NpmCommon.{marks_len, npm_sign, signed_word, valid_words, words_of, words_within, ◌>>?◌}, Strict.Hyphens.front-is}
 use Rattle.nodejs_semver.proofs.Strict.{PartialLaw.{places-found, prefix-all}, Printed.table-invalid, VersionLaw.empty-is, Words.FirstAt}
-use Rattle.nodejs_semver.{proofs.Strict.Words.{first-found, marks-dropped, words-enough}, specs.Internal.NpmWords.{counted_or, ended_counted_word}}
-use Rattle.nodejs_semver.specs.{Internal.NpmWords.{ended_word, places_front, signed_or}, Npm.Table.{Partial, Sign}}
+use Rattle.nodejs_semver.{proofs.Strict.Words.{first-found, marks-dropped, words-enough}, specs.Internal.NpmWords.{ended_counted_word}}
+use Rattle.nodejs_semver.specs.{Internal.NpmWords.{places_front}, Npm.Table.{Partial, Sign}}
 use Rattle.std.{proofs.lemmas.{Grind.flat_map-append, List.reverse-append}, specs.{List.suffix_len, Option.unwrap_or, Prelude.reverse}}
 
 pub counted_here : (loose : Bool) (text : List ℕ) (s : Sign × List ℕ) (at : ℕ) (o : Front (Option Partial)) → s ≡ npm_sign text → at ≡ marks_len s.1
@@ -22,9 +22,6 @@ counted_here loose text s at o e is read = grind (arith, nat_tests, common_steps
 -- those that are valid
 abbrev pub valid_first : Option (List Comparison) × List ℕ → Option (Option (List Comparison) × List ℕ)
 valid_first w = if list_all (is_valid MAX_SAFE_INTEGER) (unwrap_or w.0 []) then Some w else None
-
-ignored-valid : (loose : Bool) (text : List ℕ) → ignored_or loose text ≡ (ignored_or loose text >>? valid_first)
-ignored-valid loose text = grind arith
 
 -- loosely any marks may stand there
 marks-loose : (loose : Bool) (s : Sign) (p : Partial) (text : List ℕ)
@@ -42,19 +39,9 @@ piece-short loose text p h =
     rw (front-is text (take n text ++ f.piece) p.1 whole, front-is (drop n text) f.piece p.1 f.split)
     (ap (is_short loose) (marks-dropped loose (take n text) f.piece p.0 (prefix-all is_mark text) f.is))
 
--- the word of the partial that was read
-one-valid : (loose include : Bool) (text : List ℕ) (s : Sign × List ℕ) (p : Partial) (rest piece : List ℕ)
-    → is_short_word loose (take (length s.1 - length rest) s.1) ≡ is_short loose piece
-    → counted_or loose MAX_SAFE_INTEGER include text (ended_counted_word loose s.0 s.1 (marks_len s.1)
-    (if is_small MAX_SAFE_INTEGER p && is_short loose piece then Some p else None, rest))
-    ≡ (signed_or loose include text (ended_word loose s.0 s.1 (marks_len s.1) (p, rest)) >>? valid_first)
-one-valid loose include text s p rest piece e =
-    grind (arith, e, ignored-valid loose text, marks-loose loose s.0 p s.1, table-invalid MAX_SAFE_INTEGER include s.0 p)
-
-pub first-valid : (loose include : Bool) (text : List ℕ)
-    → first_valid loose MAX_SAFE_INTEGER include text ≡ (first_word loose include text >>? valid_first)
+pub first-valid : (loose include : Bool) (text : List ℕ) → first_valid loose MAX_SAFE_INTEGER include text ≡ (first_word loose include text >>? valid_first)
 unfolding first_valid first_word counted_word signed_word
-first-valid loose include text = grind (arith, ignored-valid, one-valid, piece-short)
+first-valid loose include text = grind (arith, marks-loose, table-invalid, piece-short)
 
 -- ---- words
 
@@ -83,9 +70,7 @@ words-valid loose include (suc n) (b ∷ text) =
 
 valid-enough : (loose include : Bool) (n : ℕ) (text : List ℕ) → IsUtf8 text → length text ≤ n
     → valid_words loose MAX_SAFE_INTEGER include n text ≡ words_of loose include text
-valid-enough loose include n text u le =
-    words-valid loose include n text ∙ ap (λ o. o >>? valid_all) (words-enough loose include n (length text) text u le (omega arith))
-    ∙ sym (words-valid loose include (length text) text)
+valid-enough loose include n text u le = grind (arith, words-valid, words-enough)
 
 pub valid-found : (loose include : Bool) (text : List ℕ) (w : Option (List Comparison) × List ℕ) → IsUtf8 text → 0 < length text
     → first_valid loose MAX_SAFE_INTEGER include text ≡ Some w → FirstAt loose include text w.0 w.1
@@ -141,10 +126,6 @@ first-kept (Some cs) l = refl
 last-more : (read : List (Option (List Comparison))) (w : Option (List Comparison)) → nat_lt 0 (suffix_len is_none (read ++ w ∷ [])) ≡ is_none w
 last-more read w = ap (λ l. nat_lt 0 (prefix_len is_none l)) (reverse-append read (w ∷ [])) ∙ first-kept w (reverse read)
 
-words-nil : (loose include : Bool) → words_of loose include [] ≡ Some []
-unfolding valid_words
-words-nil loose include = refl
-
 module _ (loose include : Bool) (text rest : List ℕ) (all : Option (Span VersionValue)) (is_bare is_last : Bool)
     (h : AreWordsTo loose include text all is_bare is_last rest) where
   -- one word more
@@ -171,22 +152,12 @@ module _ (loose include : Bool) (text rest : List ℕ) (all : Option (Span Versi
 
   -- nothing left
   pub words-end : is_empty rest ≡ true → words_of loose include text ≡ Some h.read
-  words-end e =
-      h.same ∙ ap (λ (t : List ℕ). words_of loose include t >>? λ ds. Some (h.read ++ ds)) (empty-is rest e)
-      ∙ rw (words-nil loose include) (ap (λ (l : List (Option (List Comparison))). Some l) (append-nil h.read))
-
-first-kind : (loose include : Bool) (text : List ℕ) (w : Option (List Comparison) × List ℕ) → first_valid loose MAX_SAFE_INTEGER include text ≡ Some w
-    → is_none (counted_word loose MAX_SAFE_INTEGER text) ≡ is_none w.0
-unfolding first_valid
-first-kind loose include text w h = grind arith
+  unfolding valid_words
+  words-end e = grind (arith, empty-is, append-nil)
 
 -- the first word is ignored where none is found
 pub first-none : (loose include : Bool) (text : List ℕ) (all : List (Option (List Comparison))) → IsUtf8 text → words_of loose include text ≡ Some all
     → nat_lt 0 (suffix_len is_none all) ≡ true → is_none (counted_word loose MAX_SAFE_INTEGER text) ≡ nat_lt 0 (prefix_len is_none all)
-first-none loose include [] all u h some =
-    cc (some, ap (λ (l : List (Option (List Comparison))). nat_lt 0 (suffix_len is_none l)) (same_Some _ _ (sym (words-nil loose include) ∙ h)))
-first-none loose include (b ∷ text) all u h some =
-    let t = b ∷ text in
-    let w = bind_some (first_valid loose MAX_SAFE_INTEGER include t) _ all (sym (words-on loose include t u (omega arith)) ∙ h) in
-    let d = bind_some (words_of loose include w.0.1) (λ ds. Some (w.0.0 ∷ ds)) all w.2 in
-    first-kind loose include t w.0 w.1 ∙ sym (first-kept w.0.0 d.0) ∙ ap (λ l. nat_lt 0 (prefix_len is_none l)) (same_Some _ _ d.2)
+unfolding valid_words first_valid
+first-none loose include [] all u h some = grind (arith, same_Some)
+first-none loose include (b ∷ text) all u h some = grind (arith, bind_some, words-on, first-kept, same_Some)

@@ -82,9 +82,6 @@ pub ends-read : (cs u : List ℕ) → list_all is_end cs ≡ true → begins is_
 ends-read [] u h other dark = ends_stop u (grind arith)
 ends-read (c ∷ cs) u h other dark = grind (arith, nat_tests, common_steps, and_parts, append_assoc, ends-char, ends-read cs u)
 
-marks-passed : (a u : List ℕ) → AreMarks a → begins_component u ≡ true → drop_ends (a ++ u) ≡ u
-marks-passed a u h k = rw h.1 (ends-read h.0 u h.2 (grind (arith, nat_tests)) (front-dark u k))
-
 -- ---- an end
 
 -- what is read of an end
@@ -97,10 +94,7 @@ front-is text front rest e = rw e (front-text front rest)
 end-read : (loose : Bool) (text rest : List ℕ) (h : IsEnd loose text rest) → begins is_solid rest ≡ false
     → end_front loose text ≡ Some (ended_of loose text rest h, rest)
 unfolding end_front
-end-read loose text rest h quiet =
-    let u = h.places ++ rest in
-    let at : drop_ends text ≡ u = rw h.divided (marks-passed h.marks u h.are (places-begin loose h.places rest h.partial h.is)) in
-    rw (at, places-read loose h.places rest h.partial h.is quiet, front-is text h.marks u h.divided, front-text h.places rest) refl
+end-read loose text rest h quiet = grind (arith, nat_tests, common_steps, ends-read, front-dark, places-begin, places-read, front-is, front-text)
 
 -- an end that was read
 abbrev EndRead : (loose : Bool) (text : List ℕ) → Ended × List ℕ → Type 0
@@ -118,8 +112,7 @@ end-found loose text e u h =
     let is : IsEnd loose text p.0.1 = record { marks = marks; places = f.piece; partial = p.0.0; divided = whole; are = are; is = f.is } in
     subst (EndRead loose text) (same_Some (ended_as text (drop_ends text) p.0) e p.2) (
       is,
-      ap₂ (λ (m x : List ℕ). (m, p.0.0, last_marks m ++ x))
-          (front-is text marks (drop_ends text) m.split) (front-is (drop_ends text) f.piece p.0.1 f.split),
+      ap₂ (λ (m x : List ℕ). (m, p.0.0, last_marks m ++ x)) (front-is text marks (drop_ends text) m.split) (front-is (drop_ends text) f.piece p.0.1 f.split),
     )
 
 -- ---- hyphen ranges
@@ -143,8 +136,7 @@ hyphen-read loose text u h =
     let v = before-utf8 loose text h.before h.lower u d.1 in
     let w = tail-utf8 45 d.0 (omega arith) (skips-utf8 h.before (45 ∷ d.0) d.2 v) in
     let lower = end-read loose text h.before h.lower (boundary-quiet h.before (boundary-of h.before (inr d.1))) in
-    let dash = some_space-read h.before (45 ∷ d.0) v d.1 d.2 in
-    rw (lower, dash, some_space-read d.0 h.second w d.3 d.4, end-read loose h.second [] h.upper refl) refl
+    rw (lower, some_space-read h.before (45 ∷ d.0) v d.1 d.2, some_space-read d.0 h.second w d.3 d.4, end-read loose h.second [] h.upper refl) refl
 
 pub hyphen-found : (loose : Bool) (text : List ℕ) (e : Ended × Ended) → IsUtf8 text → hyphen_ends loose text ≡ Some e
     → (h : IsHyphen loose text) × (e ≡ ends_of loose text h)
@@ -164,8 +156,7 @@ hyphen-found loose text e u h =
     let dash = byte-is 45 sign.0 g.0 g.1 in
     let w = tail-utf8 45 g.0 (omega arith) (rw dash at (skips-utf8 a.0.1 sign.0 s.2 s.0)) in
     let t = some_space-is [] g.0 q.0 w g.2 in
-    let found = end-found loose q.0 l.0 (skips-utf8 g.0 q.0 t.2 w) l.1 in
-    let up = subst (λ (r : List ℕ). EndRead loose q.0 (l.0.0, r)) (empty-is l.0.1 ended.0) found in (
+    let up = subst (λ (r : List ℕ). EndRead loose q.0 (l.0.0, r)) (empty-is l.0.1 ended.0) (end-found loose q.0 l.0 (skips-utf8 g.0 q.0 t.2 w) l.1) in (
       record { before = a.0.1; second = q.0; lower = low.0; dash = (g.0, s.1, rw dash at s.2, t.1, t.2); upper = up.0 },
       sym (same_Some (a.0.0, b.0) e b.2) ∙ ap₂ (λ (x y : Ended). (x, y)) low.1 (sym ended.1 ∙ up.1),
     )
@@ -193,8 +184,7 @@ free-marks changes p marks = grind arith
 -- the ends that are right are those of the statement
 pub right-end : (loose : Bool) (changes : VersionValue → Bool) (text rest : List ℕ) (h : IsEnd loose text rest)
     → is_right loose (is_free changes) (ended_of loose text rest h) ≡ is_right_end loose changes h.partial h.marks h.places
-right-end loose changes text rest h =
-    rw (short-places loose h.marks h.places h.partial h.is, free-marks changes h.partial h.marks) refl
+right-end loose changes text rest h = rw (short-places loose h.marks h.places h.partial h.is, free-marks changes h.partial h.marks) refl
 
 -- ---- partials that are left out
 
@@ -279,18 +269,10 @@ is_front b = not (is_component_byte b) && not (b == 45)
 high-front : (n : ℕ) → 128 ≤ n → is_front n ≡ true
 high-front n h = grind (arith, nat_tests)
 
-char-front : (c : ℕ) → is_front c ≡ true → list_all is_front (encode_utf8 c) ≡ true
-unfolding encode_utf8
-char-front c h = grind (arith, nat_tests, common_steps, le-ltb, lt-ltb, high-front)
-
-end-front : (c : ℕ) → is_end c ≡ true → is_front c ≡ true
-end-front c h = grind (arith, nat_tests)
-
 marks-front : (cs : List ℕ) → list_all is_end cs ≡ true → list_all is_front (encode_utf8_all cs) ≡ true
+unfolding encode_utf8
 marks-front [] h = refl
-marks-front (c ∷ cs) h =
-    let both = and_parts (is_end c) (list_all is_end cs) h in
-    all-join is_front (encode_utf8 c) (encode_utf8_all cs) (char-front c (end-front c both.0)) (marks-front cs both.1)
+marks-front (c ∷ cs) h = grind (arith, nat_tests, common_steps, and_parts, all-join, le-ltb, lt-ltb, high-front, marks-front cs)
 
 place-at : (p : ℕ → Bool) (a u : List ℕ) → list_all p a ≡ true → begins p u ≡ false → drop (prefix_len p (a ++ u)) (a ++ u) ≡ u
 place-at p [] u h k = grind arith
@@ -347,5 +329,4 @@ hyphen_none-strict include text read u (more t rest cs others (formed partial be
     let quiet = boundary-quiet h.before (boundary-of h.before (inr d.1)) in
     let same = same-behind t h.before behind h.lower front quiet (boundary-quiet behind (boundary-of behind w.3)) in
     let v = before-utf8 false t h.before h.lower u d.1 in
-    let left = sym (skips-of behind rest (rw (← same) at v) skips) ∙ ap drop_spaces same ∙ skips-of h.before (45 ∷ d.0) v d.2 in
-    no_dash-words include rest d.0 others left k
+    no_dash-words include rest d.0 others (sym (skips-of behind rest (rw (← same) at v) skips) ∙ ap drop_spaces same ∙ skips-of h.before (45 ∷ d.0) v d.2) k

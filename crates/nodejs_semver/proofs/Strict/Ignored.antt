@@ -2,7 +2,7 @@
 use Rattle.nodejs_semver.proofs.Common.{nat_lt, nat_tests, space_len, ◌++◌, encode_utf8, len_utf8_bounds, length-encode, if◌then◌else◌, is_boundary, length-take-le, IsUtf8, List, [], ap, arith, drop_spaces, false, from_boundary, length, length-append, subst, suc, sym}
 use Rattle.nodejs_semver.proofs.Common.{take, true, zero, ℕ, ◌-◌, ◌<◌, ◌∙◌, ◌∷◌, ◌≡◌, ◌≤◌, cases_Bool, inl, inr, refl}
 use Rattle.nodejs_semver.proofs.{NpmCommon.{IsIgnored, behind_ignored}, Reading.WordLaw.{boundary-utf8, first-is, first-of}}
-use Rattle.nodejs_semver.{proofs.Strict.Inside.{not-takes, takes-found, takes-not, takes-read}, specs.Internal.NpmWords.takes_on}
+use Rattle.nodejs_semver.{proofs.Strict.Inside.{not-taken, taken-found, taken-not, taken-read}, specs.Internal.NpmWords.takes_on}
 use Rattle.nodejs_semver.proofs.{Reading.WordLaw.{skips-is, skips-of, skips-utf8}, Strict.PartialLaw.front-text}
 use Rattle.nodejs_semver.proofs.{Reading.PartialLaw.{spaces-gone, spaces-le}, Strict.Signs.{blank-at, blank-nil}}
 use Rattle.nodejs_semver.specs.{Npm.Malformed.{goes_on, stops}, Text.WordText.{IsBoundary, IsFirstBoundary, SkipsBlank}}
@@ -34,17 +34,17 @@ module _ (text : List ℕ) (u : IsUtf8 text) where
 -- where nothing is left, nothing is taken
 nil-left : (text end : List ℕ) → IsIgnored text end → length text ≤ 0 → end ≡ []
 nil-left text end (stops t behind rest f s h) le = nil-of behind (omega (arith, le, ap length f.1, length-append f.0 behind))
-nil-left text end (goes_on t behind rest e f s h more) le = absurd (omega (arith, le, taken-shorter t behind rest f s (takes-read f.0 rest h)))
+nil-left text end (goes_on t behind rest e f s h more) le = absurd (omega (arith, le, taken-shorter t behind rest f s (taken-read f.0 rest h)))
 
 pub ignored-read : (n : ℕ) (text end : List ℕ) → IsUtf8 text → IsIgnored text end → length text ≤ n → behind_ignored n text ≡ end
 unfolding behind_ignored
 ignored-read zero text end u h le = nil-of text le ∙ sym (nil-left text end h le)
 ignored-read (suc n) text end u (stops t behind rest f s h) le =
     let v = behind-utf8 t u behind rest f s in
-    rw (first-of t behind u f, skips-of behind rest v.0 s, piece-is t behind f, takes-not f.0 rest h) refl
+    rw (first-of t behind u f, skips-of behind rest v.0 s, piece-is t behind f, taken-not f.0 rest h) refl
 ignored-read (suc n) text end u (goes_on t behind rest e f s h more) le =
     let v = behind-utf8 t u behind rest f s in
-    let on = takes-read f.0 rest h in
+    let on = taken-read f.0 rest h in
     let less = taken-shorter t behind rest f s on in
     rw (first-of t behind u f, skips-of behind rest v.0 s, piece-is t behind f, on) (ignored-read n rest e v.1 more (omega (arith, less, le)))
 
@@ -89,7 +89,7 @@ nil-ignored : (text : List ℕ) → IsUtf8 text → length text ≤ 0 → Ignore
 unfolding takes_on
 nil-ignored [] u le =
     let f : IsFirstBoundary [] [] = ([], refl, inl refl, λ x y e h. omega arith) in
-    record { is = stops [] [] [] f ([], refl, blank-nil, no-blank) (not-takes [] [] refl); ended = inl refl; utf8 = u; fits = omega arith; less = λ some. omega (arith, some) }
+    record { is = stops [] [] [] f ([], refl, blank-nil, no-blank) (not-taken [] [] refl); ended = inl refl; utf8 = u; fits = omega arith; less = λ some. omega (arith, some) }
 nil-ignored (b ∷ text) u le = absurd (omega (arith, le))
 
 pub ignored-found : (n : ℕ) (text : List ℕ) → IsUtf8 text → length text ≤ n → IgnoredAt text (behind_ignored n text)
@@ -103,7 +103,7 @@ ignored-found (suc n) text u le =
     let s = skips-is behind v in
     elim (cases_Bool (takes_on f.0 rest)) [
       | inr stop ↦ rw (piece-is text behind f, stop) (record {
-        is = stops text behind rest f s (not-takes f.0 rest stop);
+        is = stops text behind rest f s (not-taken f.0 rest stop);
         ended = f.2;
         utf8 = v;
         fits = omega (arith, ap length f.1, length-append f.0 behind);
@@ -113,7 +113,7 @@ ignored-found (suc n) text u le =
           let less = taken-shorter text behind rest f s go in
           let r = ignored-found n rest (skips-utf8 behind rest s v) (omega (arith, less, le)) in
           rw (piece-is text behind f, go) (record {
-            is = goes_on text behind rest (behind_ignored n rest) f s (takes-found f.0 rest go) r.is;
+            is = goes_on text behind rest (behind_ignored n rest) f s (taken-found f.0 rest go) r.is;
             ended = r.ended;
             utf8 = r.utf8;
             fits = omega (arith, r.fits, less);

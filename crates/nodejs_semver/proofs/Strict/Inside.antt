@@ -1,206 +1,197 @@
--- A version at the end of a malformed word, in front of a `=`: the functions find it exactly where the statement has one.
-use Rattle.nodejs_semver.proofs.Common.{Id, IsNumber, List, VersionValue, [], and_parts, append-nil, arith, begins, cases_Bool, codes, common_steps}
-use Rattle.nodejs_semver.proofs.Common.{drop, false, if◌then◌else◌, inl, inr, is_ascii_digit, is_empty, length, list_all, nat_tests, not, prefix_len, refl, subst}
-use Rattle.nodejs_semver.proofs.Common.{ap, drop_at, length-append, suc, sym, take, take_at, take-append-drop, true, ℕ, ◌&&◌, ◌++◌, ◌+◌, ◌-◌, ◌<◌, ◌==◌, ◌∙◌, ◌∷◌, ◌≡◌}
-use Rattle.nodejs_semver.proofs.NpmCommon.{IsStrictBuild, begins_byte, build_front, digits_value, no_build, plus, pre_front, takes}
-use Rattle.nodejs_semver.proofs.{Reading.{Numbers.digits-taken, PartialLaw.byte-begins}, Strict.PartialLaw.prefix-all}
-use Rattle.nodejs_semver.proofs.Strict.VersionLaw.{build-ends, build-found, build-taken, empty-is, pre-found, pre-taken}
-use Rattle.nodejs_semver.specs.{Internal.NpmWords.{are_found, behind_number, ends_in_version, is_apart, is_tail, takes_on}, Npm.Grammar.{IsPreRelease, written}}
-use Rattle.nodejs_semver.specs.Npm.Malformed.{EndsInVersion, Takes, begins_place}
+-- The partials inside a malformed word, in front of a `=`: the functions find them exactly where the statement has them.
+use Rattle.nodejs_semver.proofs.Common.{List, [], common_steps, and_parts, ap, arith, cases_Bool, codes, drop, drop_at, false, if◌then◌else◌}
+use Rattle.nodejs_semver.proofs.Common.{inl, inr, is_empty, length, length-append, length-drop, list_all, nat_tests, prefix_len, refl, subst, suc, sym}
+use Rattle.nodejs_semver.proofs.Common.{take, take_at, take_rest, take-append-drop, true, zero, ℕ, ◌&&◌, ◌++◌, ◌+◌, ◌-◌, ◌<◌, ◌==◌, ◌∙◌, ◌∷◌, ◌≡◌, ◌≤◌, ◌⊎◌}
+use Rattle.nodejs_semver.proofs.NpmCommon.{takes}
+use Rattle.nodejs_semver.proofs.Strict.{InsideParts.{inside-starts, partial-found, partial-less, partial-max, starts_place}, PartialLaw.prefix-all}
+use Rattle.nodejs_semver.specs.{Internal.{NpmInside.{are_inside, behind_partial, from_place, is_apart}, NpmWords.takes_on}, Npm.Malformed.{AreInside, IsInside, IsTaken}}
+use Rattle.nodejs_semver.specs.Npm.Malformed.{begins_place, more, none}
 use Rattle.std.specs.{Cmp.Lexicographic.{pointwise}, List.{ends_with}}
 use Rattle.std.proofs.Math.Bool.{or-true}
 
--- ---- what is found is there
+-- ---- the first place
 
-digits-number : (x : List ℕ) → list_all is_ascii_digit x ≡ true → 0 < length x → IsNumber (digits_value 10 x) x (digits_value 10 x)
-digits-number x each some = record { some = some; each = each; value = refl; safe = omega arith }
+apart-starts : (c : ℕ) (text : List ℕ) → is_apart c ≡ false → starts_place (c ∷ text) ≡ true
+apart-starts c text h = grind (arith, nat_tests, common_steps)
 
--- the digits at the front, and what stands behind them
-front-number : (text : List ℕ) → begins is_ascii_digit text ≡ true
-    → let x = take (prefix_len is_ascii_digit text) text in IsNumber (digits_value 10 x) x (digits_value 10 x)
-front-number [] h = cc h
-front-number (c ∷ text) h = digits-number _ (prefix-all is_ascii_digit (c ∷ text)) (grind (arith, nat_tests, common_steps))
+starts-apart : (c : ℕ) (text : List ℕ) → starts_place (c ∷ text) ≡ true → is_apart c ≡ false
+starts-apart c text h = grind (arith, nat_tests, common_steps)
 
-record BehindNumber (text rest : List ℕ) : Type 0 where
-  pub digits : List ℕ
-  pub split : text ≡ digits ++ 46 ∷ rest
-  pub is : IsNumber (digits_value 10 digits) digits (digits_value 10 digits)
+apart-on : (c : ℕ) (text : List ℕ) → is_apart c ≡ true → from_place (c ∷ text) ≡ from_place text
+apart-on c text h =
+    let e : 1 + prefix_len is_apart text ≡ suc (prefix_len is_apart text) = omega arith in rw (h, e) refl
 
-number-found : (text rest : List ℕ) → rest ≡ behind_number text → 0 < length rest → BehindNumber text rest
-unfolding behind_number
-number-found text rest e some =
-    let n = prefix_len is_ascii_digit text in
-    elim (cases_Bool (begins is_ascii_digit text && begins_byte 46 (drop n text))) [
-      | inr none ↦ absurd (omega (arith, some, ap length (rw none at e)))
-      | inl h ↦
-          let p = and_parts (begins is_ascii_digit text) (begins_byte 46 (drop n text)) h in
-          record {
-            digits = take n text;
-            split = rw (rw h at e) (sym (take-append-drop n text) ∙ rw (← byte-begins 46 (drop n text) p.1) refl);
-            is = front-number text p.0;
-          }
-    ]
+apart-off : (c : ℕ) (text : List ℕ) → is_apart c ≡ false → from_place (c ∷ text) ≡ c ∷ text
+apart-off c text h = rw h refl
 
-record TailFound (text : List ℕ) : Type 0 where
-  pub pre : List ℕ
-  pub build : List ℕ
-  pub ids : List Id
-  pub builds : List Id
-  pub split : text ≡ pre ++ build
-  pub quiet : begins is_ascii_digit pre ≡ false
-  pub pre_is : IsPreRelease true false are_found pre ids
-  pub build_is : IsStrictBuild build builds
+from-starts : (text : List ℕ) → (from_place text ≡ []) ⊎ (starts_place (from_place text) ≡ true)
+from-starts [] = inl refl
+from-starts (c ∷ text) = elim (cases_Bool (is_apart c)) [
+  | inl on ↦ rw (apart-on c text on) (from-starts text)
+  | inr off ↦ rw (apart-off c text off) (inr (apart-starts c text off))
+]
 
-quiet-front : (p text rest : List ℕ) → text ≡ p ++ rest → begins is_ascii_digit text ≡ false → begins is_ascii_digit p ≡ false
-quiet-front [] text rest e h = refl
-quiet-front (c ∷ p) text rest e h = rw e at h
+from-front : (front rest : List ℕ) → list_all is_apart front ≡ true → starts_place rest ≡ true → from_place (front ++ rest) ≡ rest
+from-front [] [] h k = cc k
+from-front [] (c ∷ rest) h k = apart-off c rest (starts-apart c rest k)
+from-front (c ∷ front) rest h k =
+    let p = and_parts (is_apart c) (list_all is_apart front) h in apart-on c (front ++ rest) p.0 ∙ from-front front rest p.1 k
 
-tail-found : (text : List ℕ) → is_tail text ≡ true → TailFound text
-unfolding is_tail
-tail-found text h =
-    let f = pre_front true false text in
-    let a = and_parts (not (begins is_ascii_digit text)) (is_empty (build_front f.1).1 && are_found f.0) h in
-    let b = and_parts (is_empty (build_front f.1).1) (are_found f.0) a.1 in
-    let p = pre-found true false are_found text b.1 in
-    let q = build-found f.1 in
-    record {
-      pre = p.0;
-      build = q.0;
-      ids = _;
-      builds = _;
-      split = p.1 ∙ ap (λ t. p.0 ++ t) (q.1 ∙ ap (λ t. q.0 ++ t) (empty-is (build_front f.1).1 b.0) ∙ append-nil q.0);
-      quiet = quiet-front p.0 text f.1 p.1 (grind (arith, nat_tests, a.0));
-      pre_is = p.2;
-      build_is = q.2;
-    }
+from-le : (text : List ℕ) → length (from_place text) ≤ length text
+from-le text = omega (arith, length-drop (prefix_len is_apart text) text)
 
-pub ends-found : (text : List ℕ) → ends_in_version text ≡ true → (v : VersionValue) × EndsInVersion text v
-unfolding ends_in_version
-ends-found text h =
-    let n = prefix_len is_apart text in
-    let first = drop n text in
-    let second = behind_number first in
-    let last = behind_number second in
-    let k = prefix_len is_ascii_digit last in
-    let a = and_parts (begins is_ascii_digit last) (is_tail (drop k last)) h in
-    let y = number-found second last refl (begins-some last a.0) in
-    let x = number-found first second refl (omega (arith, ap length y.split, length-append y.digits (46 ∷ last))) in
-    let z = front-number last a.0 in
-    let t = tail-found (drop k last) a.1 in
-    let split : text ≡ take n text ++ (x.digits ++ 46 ∷ (y.digits ++ 46 ∷ (take k last ++ (t.pre ++ t.build)))) =
-    sym (take-append-drop n text) ∙ ap (λ r. take n text ++ r) (x.split ∙ ap (λ r. x.digits ++ 46 ∷ r) (y.split ∙ ap (λ r. y.digits ++ 46 ∷ r)
-    (sym (take-append-drop k last) ∙ ap (λ r. take k last ++ r) t.split))) in
-    let v : VersionValue = record {
-      major = digits_value 10 x.digits;
-      minor = digits_value 10 y.digits;
-      patch = digits_value 10 (take k last);
-      pre_release = t.ids;
-      build = t.builds;
-    } in (
-      v,
-      subst (λ (r : List ℕ). EndsInVersion r v) (sym split)
-          (written (take n text) x.digits y.digits (take k last) t.pre t.build v (prefix-all is_apart text) x.is y.is z (t.quiet, t.pre_is) t.build_is),
-    )
+-- what is left is shorter
+less : (text : List ℕ) → is_empty (from_place text) ≡ false → length (behind_partial (from_place text)) < length text
+less text h = elim (from-starts text) [
+  | inl nothing ↦ cc (ap is_empty nothing, h)
+  | inr place ↦ omega (arith, partial-less (from_place text) place, from-le text)
+]
+
+-- ---- the loop
+
+nil-inside : (n : ℕ) (text : List ℕ) → length text ≤ 0 → are_inside n text ≡ true
+unfolding are_inside
+nil-inside zero [] h = refl
+nil-inside (suc n) [] h = refl
+nil-inside n (c ∷ text) h = absurd (omega (arith, h))
+
+enough : (n m : ℕ) (text : List ℕ) → length text ≤ n → length text ≤ m → are_inside n text ≡ are_inside m text
+unfolding are_inside
+enough zero m text h k = nil-inside zero text h ∙ sym (nil-inside m text h)
+enough (suc n) zero text h k = nil-inside (suc n) text k ∙ sym (nil-inside zero text k)
+enough (suc n) (suc m) text h k = elim (cases_Bool (is_empty (from_place text))) [
+  | inl stop ↦ rw stop refl
+  | inr on ↦ rw on (enough n m (behind_partial (from_place text)) (omega (arith, h, less text on)) (omega (arith, k, less text on)))
+]
+
+step : (n : ℕ) (text : List ℕ) → are_inside (suc n) text
+    ≡ (if is_empty (from_place text) then is_empty text else are_inside n (behind_partial (from_place text)))
+unfolding are_inside
+step n text = refl
+
+empty-is : (text : List ℕ) → (length text == 0) ≡ is_empty text
+empty-is [] = refl
+empty-is (c ∷ text) = grind (arith, nat_tests)
+
+module _ (text : List ℕ) (at : ℕ) (e : at ≡ prefix_len is_apart text) where
+  abbrev place : List ℕ
+  place = take (length text - at) (drop at text)
+
+  place-is : place ≡ from_place text
+  place-is = take_rest text at ∙ ap (λ n. drop n text) e
+
+  once : are_inside (length text) text
+      ≡ (if is_empty (from_place text) then is_empty text else are_inside (length text) (behind_partial (from_place text)))
+  once = enough (length text) (suc (length text)) text (omega arith) (omega arith) ∙ step (length text) text
+
+  pub inside-stops : true ≡ (length place == 0) → (length text == 0) ≡ are_inside (length text) text
+  inside-stops h =
+      let stop : is_empty (from_place text) ≡ true = ap is_empty (sym place-is) ∙ sym (empty-is place) ∙ sym h in
+      empty-is text ∙ sym (once ∙ rw stop refl)
+
+  on-of : false ≡ (length place == 0) → is_empty (from_place text) ≡ false
+  on-of h = ap is_empty (sym place-is) ∙ sym (empty-is place) ∙ sym h
+
+  pub inside-less : (next : List ℕ) → next ≡ behind_partial place → false ≡ (length place == 0) → length next < length text
+  inside-less next f h = omega (arith, less text (on-of h), ap length f, ap (λ t. length (behind_partial t)) place-is)
+
+  pub inside-goes : (next : List ℕ) → next ≡ behind_partial place → false ≡ (length place == 0) → are_inside (length text) text ≡ are_inside (length next) next
+  inside-goes next f h =
+      let same : next ≡ behind_partial (from_place text) = f ∙ ap behind_partial place-is in
+      once ∙ rw (on-of h, ← same) (enough (length text) (length next) next (omega (arith, inside-less next f h)) (omega arith))
+
+-- ---- what is found is there, and what is there is found
+
+pub inside-found : (n : ℕ) (text : List ℕ) → length text ≤ n → are_inside n text ≡ true → AreInside text
+unfolding are_inside
+inside-found zero [] k h = none
+inside-found zero (c ∷ text) k h = cc h
+inside-found (suc n) text k h = elim (cases_Bool (is_empty (from_place text))) [
+  | inl stop ↦ subst AreInside (sym (nil-of text (rw stop at h))) none
+  | inr on ↦
+      let first = from_place text in
+      let rest = behind_partial first in
+      let f = partial-found first (starts text on) in
+      let each = inside-found n rest (omega (arith, k, less text on)) (rw on at h) in
+      let split : text ≡ take (prefix_len is_apart text) text ++ (f.piece ++ rest) =
+      sym (take-append-drop (prefix_len is_apart text) text) ∙ ap (λ (t : List ℕ). take (prefix_len is_apart text) text ++ t) f.split in
+      subst AreInside (sym split) (more (take (prefix_len is_apart text) text) f.piece rest (prefix-all is_apart text) f.is
+      (λ y z e i. longest-of first f.piece rest y z (f.split ∙ e) f.split refl i) each)
+]
   where
-    begins-some : (r : List ℕ) → begins is_ascii_digit r ≡ true → 0 < length r
-    begins-some [] h = cc h
-    begins-some (c ∷ r) h = omega arith
+    nil-of : (text : List ℕ) → is_empty text ≡ true → text ≡ []
+    nil-of [] h = refl
+    nil-of (c ∷ text) h = cc h
 
--- ---- what is there is found
+    starts : (text : List ℕ) → is_empty (from_place text) ≡ false → starts_place (from_place text) ≡ true
+    starts text h = elim (from-starts text) [ inl nothing ↦ cc (ap is_empty nothing, h) | inr place ↦ place ]
 
-number-read : (x rest : List ℕ) (n : ℕ) → IsNumber n x n → behind_number (x ++ 46 ∷ rest) ≡ rest
-unfolding behind_number
-number-read [] rest n h = absurd (omega (arith, h.some))
-number-read (c ∷ x) rest n h =
-    let each = and_parts (is_ascii_digit c) (list_all is_ascii_digit x) h.each in
-    let k = digits-taken (c ∷ x) (46 ∷ rest) h.each refl in
-    rw (k, each.0) (drop-behind (c ∷ x) rest)
+    longest-of : (first piece rest y z : List ℕ) → first ≡ y ++ z → first ≡ piece ++ rest → rest ≡ behind_partial first → IsInside y
+        → length y ≤ length piece
+    longest-of first piece rest y z e f g i =
+        omega (arith, partial-max y z i, ap (λ t. length (behind_partial t)) e, ap length g, ap length e, ap length f, length-append y z, length-append piece rest)
+
+-- the longest one is what is read
+longest-read : (x rest : List ℕ) → IsInside x → ((y z : List ℕ) → x ++ rest ≡ y ++ z → IsInside y → length y ≤ length x) → behind_partial (x ++ rest) ≡ rest
+longest-read x rest i longest =
+    let left = behind_partial (x ++ rest) in
+    let f = partial-found (x ++ rest) (inside-starts x rest i) in
+    let same : length f.piece ≡ length x =
+    omega (arith, partial-max x rest i, longest f.piece left f.split f.is, ap length f.split, length-append x rest, length-append f.piece left) in
+    sym (drop_at f.piece left (length f.piece) refl) ∙ ap (λ (t : List ℕ). drop (length f.piece) t) (sym f.split)
+    ∙ ap (λ n. drop n (x ++ rest)) same ∙ drop_at x rest (length x) refl
+
+pub inside-read : (text : List ℕ) → AreInside text → are_inside (length text) text ≡ true
+inside-read text none = nil-inside 0 [] (omega arith)
+inside-read text (more front x rest h i longest k) =
+    let all = front ++ (x ++ rest) in
+    let starts = inside-starts x rest i in
+    let first : from_place all ≡ x ++ rest = from-front front (x ++ rest) h starts in
+    let on : is_empty (from_place all) ≡ false = ap is_empty first ∙ some-of (x ++ rest) starts in
+    let left : behind_partial (from_place all) ≡ rest = ap behind_partial first ∙ longest-read x rest i longest in
+    enough (length all) (suc (length all)) all (omega arith) (omega arith) ∙ step (length all) all
+    ∙ rw (on, left) (enough (length all) (length rest) rest (omega (arith, length-append front (x ++ rest), length-append x rest)) (omega arith))
+    ∙ inside-read rest k
   where
-    drop-behind : (x rest : List ℕ) → (if begins_byte 46 (drop (length x) (x ++ 46 ∷ rest)) then drop 1 (drop (length x) (x ++ 46 ∷ rest)) else []) ≡ rest
-    drop-behind x rest = rw (drop_at x (46 ∷ rest) (length x) refl) refl
-
-apart-dropped : (front : List ℕ) (c : ℕ) (more : List ℕ) → list_all is_apart front ≡ true → is_apart c ≡ false
-    → drop (prefix_len is_apart (front ++ c ∷ more)) (front ++ c ∷ more) ≡ c ∷ more
-apart-dropped [] c more h k = rw k refl
-apart-dropped (b ∷ front) c more h k =
-    let p = and_parts (is_apart b) (list_all is_apart front) h in
-    let e : 1 + prefix_len is_apart (front ++ c ∷ more) ≡ suc (prefix_len is_apart (front ++ c ∷ more)) = omega arith in
-    rw (p.0, e) (apart-dropped front c more p.1 k)
-
-digit-place : (c : ℕ) → is_ascii_digit c ≡ true → is_apart c ≡ false
-digit-place c h = grind (arith, nat_tests, common_steps)
-
-first-dropped : (front x rest : List ℕ) (n : ℕ) → list_all is_apart front ≡ true → IsNumber n x n
-    → drop (prefix_len is_apart (front ++ (x ++ rest))) (front ++ (x ++ rest)) ≡ x ++ rest
-first-dropped front [] rest n h k = absurd (omega (arith, k.some))
-first-dropped front (c ∷ x) rest n h k =
-    apart-dropped front c (x ++ rest) h (digit-place c (and_parts (is_ascii_digit c) (list_all is_ascii_digit x) k.each).0)
-
-build-quiet : (p b : List ℕ) (l : List Id) → begins is_ascii_digit p ≡ false → IsStrictBuild b l → begins is_ascii_digit (p ++ b) ≡ false
-build-quiet [] b l h no_build = refl
-build-quiet [] b l h (plus t list k) = refl
-build-quiet (c ∷ p) b l h k = h
-
-tail-read : (p b : List ℕ) (l m : List Id) → begins is_ascii_digit p ≡ false → IsPreRelease true false are_found p l → IsStrictBuild b m
-    → is_tail (p ++ b) ≡ true
-unfolding is_tail
-tail-read p b l m q h k =
-    let f = pre-taken true false are_found p b l refl h (rw append-nil at (build-ends b [] m k refl)) in
-    let t = rw append-nil at (build-taken b [] m k refl) in
-    rw (build-quiet p b m q k, f.1, t.0, f.3) refl
-
-last-read : (z tail : List ℕ) (n : ℕ) → IsNumber n z n → begins is_ascii_digit tail ≡ false → is_tail tail ≡ true
-    → (let last = z ++ tail in begins is_ascii_digit last && is_tail (drop (prefix_len is_ascii_digit last) last)) ≡ true
-last-read [] tail n h q k = absurd (omega (arith, h.some))
-last-read (c ∷ z) tail n h q k =
-    let each = and_parts (is_ascii_digit c) (list_all is_ascii_digit z) h.each in
-    rw (digits-taken (c ∷ z) tail h.each q, drop_at (c ∷ z) tail (length (c ∷ z)) refl, each.0) k
-
-pub ends-read : (text : List ℕ) (v : VersionValue) → EndsInVersion text v → ends_in_version text ≡ true
-unfolding ends_in_version
-ends-read text v (written front x y z pre build w m i j k p q) =
-    rw (
-      first-dropped front x (46 ∷ (y ++ 46 ∷ (z ++ (pre ++ build)))) w.major m i,
-      number-read x (y ++ 46 ∷ (z ++ (pre ++ build))) w.major i,
-      number-read y (z ++ (pre ++ build)) w.minor j,
-    )
-    (last-read z (pre ++ build) w.patch k (build-quiet pre build w.build p.0 q) (tail-read pre build w.pre_release w.build p.0 p.1 q))
+    some-of : (t : List ℕ) → starts_place t ≡ true → is_empty t ≡ false
+    some-of [] h = cc h
+    some-of (c ∷ t) h = refl
 
 -- ---- pieces
 
 -- a `=` ends the text
 equal-there : (text : List ℕ) → ends_with ◌==◌ text (codes "=") ≡ true → text ≡ take (length text - 1) text ++ codes "="
-equal-there text h = sym (take-append-drop (length text - 1) text) ∙ ap (λ r. take (length text - 1) text ++ r) (one (drop (length text - 1) text) h)
+equal-there text h = sym (take-append-drop (length text - 1) text) ∙ ap (λ r. take (length text - 1) text ++ r) (last (drop (length text - 1) text) h)
   where
-    one : (r : List ℕ) → pointwise ◌==◌ (codes "=") r ≡ true → r ≡ codes "="
-    one [] h = cc h
-    one (c ∷ []) h = grind (arith, nat_tests)
-    one (c ∷ d ∷ r) h = grind (arith, nat_tests)
+    last : (r : List ℕ) → pointwise ◌==◌ (codes "=") r ≡ true → r ≡ codes "="
+    last [] h = cc h
+    last (c ∷ []) h = grind (arith, nat_tests)
+    last (c ∷ d ∷ r) h = grind (arith, nat_tests)
 
 equal-read : (front : List ℕ) → (take (length (front ++ codes "=") - 1) (front ++ codes "=") ≡ front) × (ends_with ◌==◌ (front ++ codes "=") (codes "=") ≡ true)
 equal-read front =
     let n : length (front ++ codes "=") - 1 ≡ length front = omega (arith, length-append front (codes "=")) in
     rw n (take_at front (codes "=") (length front) refl, rw (drop_at front (codes "=") (length front) refl) refl)
 
-pub takes-found : (piece rest : List ℕ) → takes_on piece rest ≡ true → Takes piece rest
+pub taken-found : (piece rest : List ℕ) → takes_on piece rest ≡ true → IsTaken piece rest
 unfolding takes_on
-takes-found piece rest h = elim (cases_Bool (takes piece rest)) [
+taken-found piece rest h = elim (cases_Bool (takes piece rest)) [
   | inl first ↦ inl first
   | inr other ↦
       let front = take (length piece - 1) piece in
-      let a = and_parts (ends_with ◌==◌ piece (codes "=")) (ends_in_version front && begins_place rest) (rw other at h) in
-      let b = and_parts (ends_in_version front) (begins_place rest) a.1 in
-      let v = ends-found front b.0 in inr (front, v.0, equal-there piece a.0, v.1, b.1)
+      let a = and_parts (ends_with ◌==◌ piece (codes "=")) (are_inside (length front) front && begins_place rest) (rw other at h) in
+      let b = and_parts (are_inside (length front) front) (begins_place rest) a.1 in
+      inr (front, equal-there piece a.0, inside-found (length front) front (omega arith) b.0, b.1)
 ]
 
-pub takes-read : (piece rest : List ℕ) → Takes piece rest → takes_on piece rest ≡ true
+pub taken-read : (piece rest : List ℕ) → IsTaken piece rest → takes_on piece rest ≡ true
 unfolding takes_on
-takes-read piece rest (inl first) = rw first refl
-takes-read piece rest (inr (front, v, split, is, place)) =
-    let e = equal-read front in rw (split, e.0, e.1, ends-read front v is, place) (or-true _)
+taken-read piece rest (inl first) = rw first refl
+taken-read piece rest (inr (front, split, is, place)) =
+    let e = equal-read front in rw (split, e.0, e.1, inside-read front is, place) (or-true _)
 
-pub takes-not : (piece rest : List ℕ) → (Takes piece rest → ⊥) → takes_on piece rest ≡ false
-takes-not piece rest h = elim (cases_Bool (takes_on piece rest)) [ inl on ↦ absurd (h (takes-found piece rest on)) | inr off ↦ off ]
+pub taken-not : (piece rest : List ℕ) → (IsTaken piece rest → ⊥) → takes_on piece rest ≡ false
+taken-not piece rest h = elim (cases_Bool (takes_on piece rest)) [ inl on ↦ absurd (h (taken-found piece rest on)) | inr off ↦ off ]
 
-pub not-takes : (piece rest : List ℕ) → takes_on piece rest ≡ false → Takes piece rest → ⊥
-not-takes piece rest off t = cc (takes-read piece rest t, off)
+pub not-taken : (piece rest : List ℕ) → takes_on piece rest ≡ false → IsTaken piece rest → ⊥
+not-taken piece rest off t = cc (taken-read piece rest t, off)

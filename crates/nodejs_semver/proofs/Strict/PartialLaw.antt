@@ -15,7 +15,7 @@ use Rattle.nodejs_semver.{proofs.Strict.VersionLaw.{pre-follows, pre-found, pre-
 use Rattle.nodejs_semver.specs.Internal.NpmWords.{are_short_builds, counted, counted_places, great, is_any, is_over, number, partial_front, place_of}
 use Rattle.nodejs_semver.specs.{Internal.NpmWords.{placed, places_front, qualified_counted}, Npm.{Grammar.IsPreRelease, Table.Partial}}
 use Rattle.std.proofs.lemmas.List.Sums.{prefix_len-drop_all, prefix_len-drop_no, prefix_len-drop_yes}
-use Rattle.nodejs_semver.specs.Npm.RangeText as Text
+use Rattle.nodejs_semver.specs.Npm.Partials as Text
 
 pub ruleset prefix_steps = (prefix_len-drop_all, prefix_len-drop_no, prefix_len-drop_yes)
 
@@ -172,6 +172,15 @@ partial-read loose x more p h quiet = rw (places-read loose x more p h.0 quiet, 
 
 -- ---- what is read is written
 
+-- what was found, and what was asked for
+places-at : (loose : Bool) (text piece : List ℕ) (p : Partial) (rest : List ℕ) {q : Partial × List ℕ} → IsPlaces loose piece q.0 → q ≡ (p, rest)
+    → text ≡ piece ++ q.1 → At (IsPlaces loose) text p rest
+places-at loose text piece p rest is e split = record {
+  piece = piece;
+  split = split ∙ ap (λ (q : Partial × List ℕ). piece ++ q.1) e;
+  is = subst (λ (q : Partial × List ℕ). IsPlaces loose piece q.0) e is;
+}
+
 qualified-found : (loose : Bool) (a b c : Option ℕ) (x y z text : List ℕ) (p : Partial) (rest : List ℕ) → IsPlace loose x a → IsPlace loose y b
     → IsPlace loose z c → qualified_partial loose a b c text ≡ Some (p, rest) → At (IsPlaces loose) (x ++ 46 ∷ (y ++ 46 ∷ (z ++ text))) p rest
 unfolding qualified_partial
@@ -185,7 +194,10 @@ qualified-found loose a b c x y z text p rest i j k h =
           let f = pre-found loose (is_none c) (may_stand loose) text parts.0 in
           let g = build-found front.1 in
           let is = three x y z f.0 g.0 a b c _ _ i j k f.2 g.2 (rw g.3 parts.1) in
-          grind (arith, nat_tests, common_steps, append_assoc)
+          let same : ◌≡◌ {A = Front Partial} (Some (partial_of a b c (listed front.0) (listed last.0), last.1)) (Some (p, rest)) = rw good at h in
+          places-at loose _ _ p rest is (same_Some _ _ same)
+          (ap (λ (t : List ℕ). x ++ 46 ∷ (y ++ 46 ∷ (z ++ t))) (f.1 ∙ ap (λ (t : List ℕ). f.0 ++ t) g.1)
+          ∙ grind (arith, append_assoc))
     ]
 
 pub places-found : (loose : Bool) (text : List ℕ) (p : Partial) (rest : List ℕ) → places_front loose text ≡ Some (p, rest)
@@ -196,15 +208,16 @@ places-found loose text p rest h =
     let x = place-found loose text a.0.0 a.0.1 a.1 in
     elim (option-cases (dotted_place loose a.0.1)) [
       | inl none ↦
-          let is = one x.piece a.0.0 x.is in
-          let end = rw none at a.2 in grind (arith, nat_tests, common_steps)
+          let end : ◌≡◌ {A = Front Partial} (Some (partial_of a.0.0 None None [] [], a.0.1)) (Some (p, rest)) = rw none at a.2 in
+          places-at loose text x.piece p rest (one x.piece a.0.0 x.is) (same_Some _ _ end) x.split
       | inr b ↦
           let y = dotted-found (IsPlace loose) (place_front loose) a.0.1 b.0.0 b.0.1 (λ t e. place-found loose t b.0.0 b.0.1 e) b.1 in
           let third = rw b.1 at a.2 in
           elim (option-cases (dotted_patch loose b.0.1)) [
             | inl none ↦
-                let is = two x.piece y.0 a.0.0 b.0.0 x.is y.2 in
-                let end = rw none at third in grind (arith, nat_tests, common_steps, append_assoc)
+                let end : ◌≡◌ {A = Front Partial} (Some (partial_of a.0.0 b.0.0 None [] [], b.0.1)) (Some (p, rest)) = rw none at third in
+                places-at loose text _ p rest (two x.piece y.0 a.0.0 b.0.0 x.is y.2) (same_Some _ _ end)
+                (x.split ∙ ap (λ (t : List ℕ). x.piece ++ t) y.1 ∙ sym (append_assoc x.piece (46 ∷ y.0) b.0.1))
             | inr c ↦
                 let z = dotted-found (IsPlace loose) (patch_place loose) b.0.1 c.0.0 c.0.1 (λ t e. patch-found loose t c.0.0 c.0.1 e) c.1 in
                 let whole : x.piece ++ 46 ∷ (y.0 ++ 46 ∷ (z.0 ++ c.0.1)) ≡ text = cc (x.split, y.1, z.1) in

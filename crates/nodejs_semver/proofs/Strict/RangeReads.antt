@@ -79,10 +79,7 @@ ranged_list found ss e include alternatives os h f v =
 
 -- one interval is kept, since one without bounds is any version
 pub ranged_one : (found : List (Span VersionValue)) → length found ≡ 1 → found ≡ ranged found
-ranged_one (s ∷ []) h = elim (cases_Bool (is_unbounded s)) [
-  | inl free ↦ grind (arith, common_steps)
-  | inr bound ↦ rw bound refl
-]
+ranged_one (s ∷ []) h = grind (arith, cases_Bool)
 ranged_one [] h = absurd (omega (arith, h))
 ranged_one (s ∷ (t ∷ ss)) h = absurd (omega (arith, h))
 
@@ -97,12 +94,10 @@ pub found_spans : (include : Bool) (alternatives : List (List Comparison)) (os :
     (found : List (Span VersionValue)) → AreNarrowed include alternatives os → found ≡ flat_map option_to_list os
     → list_all (is_range_span (MAX_SAFE_INTEGER + 1)) found ≡ true
 found_spans include [] [] found h e = rw e refl
-found_spans include (cs ∷ rest) (o ∷ os) found h e =
-    rw e (grind (arith, nat_tests, common_steps, list_all-append, one_span, found_spans include rest os (flat_map option_to_list os) h.1 refl))
+found_spans include (cs ∷ rest) (o ∷ os) found h e = grind (arith, list_all-append, one_span, found_spans include rest os)
 found_spans include _ _ found h e = absurd h
 
-pub ranged_range : (found : List (Span VersionValue)) → list_all (is_range_span (MAX_SAFE_INTEGER + 1)) found ≡ true
-    → IsRange MAX_SAFE_INTEGER (ranged found)
+pub ranged_range : (found : List (Span VersionValue)) → list_all (is_range_span (MAX_SAFE_INTEGER + 1)) found ≡ true → IsRange MAX_SAFE_INTEGER (ranged found)
 ranged_range found h = grind (arith, nat_tests, common_steps)
 
 -- ---- an alternative is found exactly where the text has one whose comparators are valid
@@ -126,7 +121,8 @@ valid-both cs ds h = grind (arith, nat_tests, common_steps, list_all-append)
 -- ---- what is found between two ends
 
 module _ (loose include : Bool) (a b : CountedEnd) (all : Alternative) (r : Option Bounds) (h : AreReadOf include (lower_counted loose include a) r) where
-  pub lower-none : ((cs : List Comparison) → AreRead include cs r → NarrowedBy include all.interval cs None) → IsFound include (hyphen_valid loose include a b) None
+  pub lower-none : ((cs : List Comparison) → AreRead include cs r → NarrowedBy include all.interval cs None)
+      → IsFound include (hyphen_valid loose include a b) None
   lower-none n = grind (arith, list_all-append (is_valid MAX_SAFE_INTEGER), n, h)
 
   pub upper-found : (f : Alternative) (s : Option Bounds) (g : Option Alternative) → IsNarrowed include [] all.interval → (r ≡ None → Some f ≡ None)
@@ -154,10 +150,10 @@ module _ (loose include : Bool) (a b : CountedEnd) (all : Alternative) (r : Opti
 
 module _ (loose include : Bool) (text : List ℕ) (all : Alternative) where
   pub step-ignored : (next : Bor (List ℕ)) → loose ≡ true → None ≡ counted_word loose MAX_SAFE_INTEGER text
-      → next.now ≡ drop_spaces (behind_ignored (length text) text) → IsStep include all (first_valid loose MAX_SAFE_INTEGER include text) (Some (all, true, next))
+      → next.now ≡ drop_spaces (behind_ignored (length text) text)
+      → IsStep include all (first_valid loose MAX_SAFE_INTEGER include text) (Some (all, true, next))
   unfolding first_valid
-  step-ignored next l e f =
-      rw (← e, l) ((refl, λ cs h. subst (λ (ds : List Comparison). IsNarrowed include ds all.interval) (sym (append-nil cs)) h), grind arith, refl, f)
+  step-ignored next l e f = grind (arith, append-nil)
 
   pub step-strict : loose ≡ false → None ≡ counted_word loose MAX_SAFE_INTEGER text → IsStep include all (first_valid loose MAX_SAFE_INTEGER include text) None
   unfolding first_valid
@@ -173,7 +169,8 @@ module _ (loose include : Bool) (text : List ℕ) (all : Alternative) where
   unfolding first_valid
   step-invalid w p n e k = rw (← e, n, k) tt
 
-  pub step-read : (w : Counted × List ℕ) (p : Partial) (a : Alternative) (next : Bor (List ℕ)) → w.0.1 ≡ Some p → Some w ≡ counted_word loose MAX_SAFE_INTEGER text
+  pub step-read : (w : Counted × List ℕ) (p : Partial) (a : Alternative) (next : Bor (List ℕ)) → w.0.1 ≡ Some p
+      → Some w ≡ counted_word loose MAX_SAFE_INTEGER text
       → NarrowedBy include all.interval (table include w.0.0 p w.0.2) (Some a) → a.is_bare ≡ (all.is_bare && is_empty (table include w.0.0 p w.0.2))
       → next.now ≡ drop_spaces w.1 → IsStep include all (first_valid loose MAX_SAFE_INTEGER include text) (Some (a, false, next))
   unfolding first_valid
@@ -195,9 +192,11 @@ found_of loose include text = words_of loose include text >>? λ all. Some (word
 
 module _ (loose include : Bool) (text rest : List ℕ) (all : Alternative) (is_last : Bool)
     (h : AreWordsTo loose include text all.interval all.is_bare is_last rest) where
-  pub word-none : 0 < length rest → IsStep include all (first_valid loose MAX_SAFE_INTEGER include rest) None → IsFound include (found_of loose include text) None
+  pub word-none : 0 < length rest → IsStep include all (first_valid loose MAX_SAFE_INTEGER include rest) None
+      → IsFound include (found_of loose include text) None
   word-none some k =
-      rw (words-none loose include text rest all.interval all.is_bare is_last h some (step-none include all (first_valid loose MAX_SAFE_INTEGER include rest) k)) tt
+      rw (words-none loose include text rest all.interval all.is_bare is_last h some
+      (step-none include all (first_valid loose MAX_SAFE_INTEGER include rest) k)) tt
 
   pub word-next : (s : Alternative × Bool × Bor (List ℕ)) → 0 < length rest → IsStep include all (first_valid loose MAX_SAFE_INTEGER include rest) (Some s)
       → AreWordsTo loose include text s.0.interval s.0.is_bare s.1 s.2.now × (length s.2.now < length rest)
@@ -221,8 +220,7 @@ module _ (loose include : Bool) (text rest : List ℕ) (all : Alternative) (is_l
       same read = elim (cases_Bool is_last) [
         | inr k ↦ grind (arith, h.bare, h.last, k, not_last k)
         | inl k ↦
-            let first = first-none loose include text h.read u read (sym h.last ∙ k) in
-            grind (arith, h.bare, h.last, k, if_last k, first)
+            grind (arith, h.bare, h.last, k, if_last k, first-none loose include text h.read u read (sym h.last ∙ k))
       ]
 
 pub view-none : (o : Option (Signed × Bor (List ℕ))) (b : Bool) → is_some o ≡ not b → b ≡ is_none (counted_front_view o)
@@ -314,11 +312,11 @@ refused-weaker (Err (Refused x)) f k = f k
 refused-weaker (Err (Memory x)) f k = tt
 refused-weaker (Ok x) f k = tt
 
-pub read-refused : (loose : Bool) {A E : Type 0} (r : Result A (Failure E)) (include : Bool) (text : List ℕ) (was : Bool) (found : List (Span VersionValue)) (rest : List ℕ)
-    (part : List ℕ) (behind : Option (List ℕ)) → AreReadTo loose include text was found (Some rest) → part ∷ later_parts behind ≡ parts rest
-    → RefusedOnlyIf r (valid_alternative loose include part ≡ None) → RefusedOnlyIf r (valid_range loose include text ≡ None)
-read-refused loose r include text was found rest part behind h e =
-    refused-weaker r (λ k. rw (h.same, rest-step loose include rest part behind None e k) refl)
+pub read-refused : (loose : Bool) {A E : Type 0} (r : Result A (Failure E)) (include : Bool) (text : List ℕ) (was : Bool)
+    (found : List (Span VersionValue)) (rest part : List ℕ) (behind : Option (List ℕ)) → AreReadTo loose include text was found (Some rest)
+    → part ∷ later_parts behind ≡ parts rest → RefusedOnlyIf r (valid_alternative loose include part ≡ None)
+    → RefusedOnlyIf r (valid_range loose include text ≡ None)
+read-refused loose r include text was found rest part behind h e = refused-weaker r (λ k. rw (h.same, rest-step loose include rest part behind None e k) refl)
 
 all-read : (loose include is_some : Bool) (text : List ℕ) (found : List (Span VersionValue)) (h : AreReadTo loose include text is_some found None)
     → valid_range loose include text ≡ (if is_some then Some h.read else None)
@@ -370,8 +368,7 @@ none-read loose include text u h ls has =
 pub range-read : (loose include : Bool) (text : List ℕ) (found range : List (Span VersionValue)) → IsUtf8 text
     → AreAllFound include (valid_range loose include text) found → AcceptAsRanged found range
     → IsRangeIn loose MAX_SAFE_INTEGER include text range
-range-read loose include text found range u h a =
-    grind (arith, nat_tests, common_steps, cond_some, not, all-valid, not-true, alternatives_are)
+range-read loose include text found range u h a = grind (arith, nat_tests, common_steps, cond_some, not, all-valid, not-true, alternatives_are)
 
 pub refused-none : (loose : Bool) {A E : Type 0} (r : Result A (Failure E)) (include : Bool) (text : List ℕ) → IsUtf8 text
     → RefusedOnlyIf r (valid_range loose include text ≡ None) → RefusedOnlyIf r (NoValue (HasAlternativesIn loose MAX_SAFE_INTEGER include text))

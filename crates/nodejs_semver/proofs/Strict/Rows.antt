@@ -77,8 +77,9 @@ kept F b c h k = (grind arith, grind arith)
 
 pub holds-both : (s t : Span VersionValue) (v : VersionValue) → holds precedence (both s t) v ≡ (holds precedence s v && holds precedence t v)
 holds-both s t v =
-    rw (is_past-greater_lower precedence_total s.lower t.lower v, is_past-lesser_upper precedence_total s.upper t.upper v) (crossed (is_past precedence (lower_cut s.lower) v)
-    (is_past precedence (lower_cut t.lower) v) (is_past precedence (upper_cut s.upper) v) (is_past precedence (upper_cut t.upper) v))
+    rw (is_past-greater_lower precedence_total s.lower t.lower v, is_past-lesser_upper precedence_total s.upper t.upper v)
+    (crossed (is_past precedence (lower_cut s.lower) v) (is_past precedence (lower_cut t.lower) v) (is_past precedence (upper_cut s.upper) v)
+    (is_past precedence (upper_cut t.upper) v))
   where
     crossed : (a b c d : Bool) → ((a && b) && not (c || d)) ≡ ((a && not c) && (b && not d))
     crossed a b c d = grind arith
@@ -139,8 +140,7 @@ zero_of : (v : VersionValue) → IsVersion v → bytes_eq (made at_least (no_bui
 zero_of v h = prints_zero (no_build v) h.major h.minor h.patch
 
 -- the versions whose bounds are read
-pub whole_readable : (v : VersionValue) → within (first (whole v)) ≡ true → are_normal (whole v) ≡ true
-    → is_readable MAX_SAFE_INTEGER v ≡ true
+pub whole_readable : (v : VersionValue) → within (first (whole v)) ≡ true → are_normal (whole v) ≡ true → is_readable MAX_SAFE_INTEGER v ≡ true
 whole_readable v h k = grind arith
 
 -- `>=` of a version, whose numbers may be written otherwise

@@ -43,8 +43,7 @@ equal-found : (b : ℕ) (x text : List ℕ) (s : Sign) → IsBlank x → IsUtf8 
 equal-found b x text s blank u bare more = elim (cases_Bool (begins_byte 61 text)) [
   | inr other ↦ rw other (record { signs = b ∷ x; split = refl; is = bare; utf8 = u })
   | inl mark ↦
-      let e = byte-begins 61 text mark in
-      let y = blank-at (drop 1 text) (tail-utf8 61 (drop 1 text) (omega arith) (subst (λ (t : List ℕ). IsUtf8 t) e u)) in
+      let y = blank-at (drop 1 text) (tail-utf8 61 (drop 1 text) (omega arith) (subst (λ (t : List ℕ). IsUtf8 t) (byte-begins 61 text mark) u)) in
       let is = more y.blank y.is in
       grind (arith, nat_tests, common_steps, append_assoc)
 ]
@@ -58,16 +57,14 @@ late-found b one two text u is_one is_two is_late =
     let x = blank-at text u in
     elim (cases_Bool (begins_byte 61 text)) [
       | inl mark ↦
-          let e = byte-begins 61 text mark in
-          let y = blank-at (drop 1 text) (tail-utf8 61 (drop 1 text) (omega arith) (subst (λ (t : List ℕ). IsUtf8 t) e u)) in
+          let y = blank-at (drop 1 text) (tail-utf8 61 (drop 1 text) (omega arith) (subst (λ (t : List ℕ). IsUtf8 t) (byte-begins 61 text mark) u)) in
           let is = is_two y.blank y.is in
           grind (arith, nat_tests, common_steps)
       | inr other ↦ elim (cases_Bool (begins_byte 61 (drop_spaces text))) [
         | inl mark ↦
             let rest = drop_spaces text in
-            let e = byte-begins 61 rest mark in
             let is = is_late x.blank x.is in
-            let utf8 = tail-utf8 61 (drop 1 rest) (omega arith) (subst (λ (t : List ℕ). IsUtf8 t) e x.utf8) in
+            let utf8 = tail-utf8 61 (drop 1 rest) (omega arith) (subst (λ (t : List ℕ). IsUtf8 t) (byte-begins 61 rest mark) x.utf8) in
             grind (arith, nat_tests, common_steps, append_assoc)
         | inr none ↦ let is = is_one x.blank x.is in grind (arith, nat_tests, common_steps)
       ]
@@ -132,9 +129,8 @@ tilde-found text u =
           rw mark (record { signs = f.signs; split = ap (λ (t : List ℕ). 126 ∷ t) e ∙ f.split; is = f.is; utf8 = f.utf8 })
       | inr other ↦ elim (cases_Bool (begins_byte 62 (drop_spaces text))) [
         | inl mark ↦
-            let e = byte-begins _ _ mark in
             let behind = drop 1 (drop_spaces text) in
-            let f = tilde-greater _ _ x.is (tail-utf8 _ _ (omega arith) (subst (λ (t : List ℕ). IsUtf8 t) e x.utf8)) in
+            let f = tilde-greater _ _ x.is (tail-utf8 _ _ (omega arith) (subst (λ (t : List ℕ). IsUtf8 t) (byte-begins _ _ mark) x.utf8)) in
             grind (arith, nat_tests, common_steps)
         | inr none ↦
             let f = equal-found _ _ _ _ x.is x.utf8 (sign tilde x.blank x.is)
@@ -196,8 +192,7 @@ blank-byte c x text s h other = elim (blank-cases x h) [
 -- ---- marks before a partial
 
 -- whitespace is not at the front of these, nor is `>`
-opens : (marks u : List ℕ) → list_all is_mark marks ≡ true → begins_component u ≡ true
-    → (space_len (marks ++ u) ≡ 0) × (begins_byte 62 (marks ++ u) ≡ false)
+opens : (marks u : List ℕ) → list_all is_mark marks ≡ true → begins_component u ≡ true → (space_len (marks ++ u) ≡ 0) × (begins_byte 62 (marks ++ u) ≡ false)
 opens [] u h k = (solid-dark u (grind (arith, nat_tests)), grind (arith, nat_tests))
 opens (b ∷ marks) u h k = (solid-dark _ (grind (arith, nat_tests)), grind (arith, nat_tests))
 
@@ -218,8 +213,7 @@ equal-left (b ∷ marks) u h k = elim (cases_Bool (b == 61)) [
 ]
 
 -- behind `>` and whitespace
-greater-left : (y marks u : List ℕ) → IsBlank y → list_all is_mark marks ≡ true → begins_component u ≡ true
-    → MarksLeft (skip_greater (y ++ (marks ++ u))) u
+greater-left : (y marks u : List ℕ) → IsBlank y → list_all is_mark marks ≡ true → begins_component u ≡ true → MarksLeft (skip_greater (y ++ (marks ++ u))) u
 greater-left y marks u blank h k =
     let o = opens marks u h k in
     let same : skip_greater (marks ++ u) ≡ skip_equal (marks ++ u) = grind (arith, nat_tests, common_steps, drop_spaces-none) in
@@ -243,12 +237,7 @@ zeros-behind marks x h = zeros-marked marks x (all_weaker is_mark (λ b. not (is
 
 free-taken : (loose : Bool) (s : Sign) (p : Partial) (marks x text u : List ℕ) → (s ≡ caret) ⊎ (s ≡ tilde) → list_all is_mark marks ≡ true
     → MarksLeft text u → SignTaken loose s p marks x (s, text) u
-free-taken loose s p marks x text u i h l = record {
-  left = l.left;
-  is = l.is;
-  marked = grind (arith, nat_tests, common_steps, l.each);
-  same = λ include. grind (arith, nat_tests, common_steps, zeros-behind l.left x l.each, zeros-behind marks x h);
-}
+free-taken loose s p marks x text u i h l = grind (arith, nat_tests, common_steps, zeros-behind)
 
 kept : (loose : Bool) (s : Sign) (p : Partial) (marks x text u : List ℕ) → text ≡ marks ++ u → are_marks loose s p marks ≡ true
     → SignTaken loose s p marks x (s, text) u
@@ -270,14 +259,9 @@ not-other marks u h k = grind (arith, nat_tests, common_steps)
 
 -- ---- no sign
 
-plain-front : (b : ℕ) (rest : List ℕ) → (is_mark b || begins_component (b ∷ rest)) ≡ true → (b == 61) ≡ false
-    → npm_sign (b ∷ rest) ≡ (compared equal, b ∷ rest)
+plain-front : (b : ℕ) (rest : List ℕ) → (is_mark b || begins_component (b ∷ rest)) ≡ true → (b == 61) ≡ false → npm_sign (b ∷ rest) ≡ (compared equal, b ∷ rest)
 unfolding npm_sign
 plain-front b rest h other = grind (arith, nat_tests)
-
-equal-front : (b : ℕ) (rest : List ℕ) → (b == 61) ≡ true → npm_sign (b ∷ rest) ≡ (compared equal, drop_spaces rest)
-unfolding npm_sign
-equal-front b rest h = rw (eqb-true b 61 h) refl
 
 abbrev pub Taken : (loose : Bool) → Sign → Partial → List ℕ → List ℕ → List ℕ → List ℕ → Type 0
 Taken loose s p marks x u text = SignTaken loose s p marks x (npm_sign text) u
@@ -285,8 +269,7 @@ Taken loose s p marks x u text = SignTaken loose s p marks x (npm_sign text) u
 -- ---- behind a tilde
 
 -- no `>` stands there
-no_greater-left : (x t : List ℕ) → IsBlank x → space_len t ≡ 0 → begins_byte 62 t ≡ false
-    → skip_tilde (x ++ t) (drop_spaces (x ++ t)) ≡ skip_equal t
+no_greater-left : (x t : List ℕ) → IsBlank x → space_len t ≡ 0 → begins_byte 62 t ≡ false → skip_tilde (x ++ t) (drop_spaces (x ++ t)) ≡ skip_equal t
 no_greater-left x t h dark other = rw (blank-skipped x t h dark, blank-byte 62 x t refl h other, other) refl
 
 dark-byte : (b : ℕ) (rest : List ℕ) → is_solid b ≡ true → space_len (b ∷ rest) ≡ 0
@@ -298,8 +281,7 @@ one_greater-left : (x t rest : List ℕ) → IsBlank x → drop_spaces t ≡ res
 one_greater-left x t rest h e other = grind (arith, blank-cases, blank-skipped, dark-byte, space-byte)
 
 -- `~>` and one `>` more
-twice-left : (y v : List ℕ) → IsBlank y → 0 < length y
-    → skip_tilde (62 ∷ (y ++ (62 ∷ v))) (drop_spaces (62 ∷ (y ++ (62 ∷ v)))) ≡ skip_greater v
+twice-left : (y v : List ℕ) → IsBlank y → 0 < length y → skip_tilde (62 ∷ (y ++ (62 ∷ v))) (drop_spaces (62 ∷ (y ++ (62 ∷ v)))) ≡ skip_greater v
 twice-left y v h some = grind (arith, nat_tests, common_steps, blank-cases, blank-skipped, dark-byte)
 
 -- ---- `>` and `<`
@@ -308,21 +290,14 @@ one-read : (one two : Comparator) (y t : List ℕ) → IsBlank y → space_len t
     → or_late one two (y ++ t) (drop_spaces (y ++ t)) ≡ (compared one, t)
 one-read one two y t h dark other = rw (blank-byte 61 y t refl h other, blank-skipped y t h dark, other) refl
 
-late-read : (one two : Comparator) (y t : List ℕ) → IsBlank y → space_len t ≡ 0
-    → or_late one two (y ++ (61 ∷ t)) (drop_spaces (y ++ (61 ∷ t))) ≡ (compared two, t)
-late-read one two y t h dark = grind (arith, nat_tests, common_steps, blank-cases, drop_spaces-none, space-byte, blank-skipped, dark-byte)
-
 -- ---- what is written is read
 
 signed-taken : (loose : Bool) (s : Sign) (p : Partial) (y marks x u : List ℕ) → IsBlank y → are_marks loose s p marks ≡ true
     → (is_open s && begins_byte 61 marks) ≡ false → begins_component u ≡ true → Taken loose s p marks x u ((spelling s ++ y) ++ (marks ++ u))
 unfolding npm_sign
 signed-taken loose (compared c) p y marks x u h m none k =
-    grind (arith, nat_tests, common_steps, opens, marks-all, one-read, not-other, equal-front, kept, blank-skipped)
-signed-taken loose caret p y marks x u h m none k =
-    let all = marks-all loose caret p marks m in
-    rw (blank-skipped y (marks ++ u) h (opens marks u all k).0)
-    (free-taken loose caret p marks x (skip_equal (marks ++ u)) u (inl refl) all (equal-left marks u all k))
+    grind (arith, nat_tests, common_steps, opens, marks-all, one-read, not-other, eqb-true, kept, blank-skipped)
+signed-taken loose caret p y marks x u h m none k = grind (arith, marks-all, blank-skipped, opens, free-taken, equal-left)
 signed-taken loose tilde p y marks x u h m none k =
     let all = marks-all loose tilde p marks m in
     let o = opens marks u all k in
@@ -339,18 +314,18 @@ unfolding npm_sign
 sign-taken loose signs s p marks x u no_sign m none k = bare-taken loose p marks x u m none k
 sign-taken loose signs s p marks x u (sign t y h) m none k = signed-taken loose t p y marks x u h m (grind arith) k
 sign-taken loose signs s p marks x u (late_above y h) m none k =
-    grind (arith, nat_tests, common_steps, opens, marks-all, append_assoc, late-read, kept)
+    grind (arith, nat_tests, common_steps, opens, marks-all, append_assoc, blank-cases, drop_spaces-none, space-byte, blank-skipped, dark-byte, kept)
 sign-taken loose signs s p marks x u (late_below y h) m none k =
-    grind (arith, nat_tests, common_steps, opens, marks-all, append_assoc, late-read, kept)
+    grind (arith, nat_tests, common_steps, opens, marks-all, append_assoc, blank-cases, drop_spaces-none, space-byte, blank-skipped, dark-byte, kept)
 sign-taken loose signs s p marks x u (caret_equal y z h l) m none k =
     grind (arith, nat_tests, common_steps, append_assoc, blank-skipped, dark-byte, kept, opens, marks-all)
-sign-taken loose signs s p marks x u (tilde_sign c y z h l (inr (inr e))) m none k = grind (arith, nat_tests, common_steps, append_assoc, blank-skipped, dark-byte, kept, marks-all, no_greater-left, opens)
+sign-taken loose signs s p marks x u (tilde_sign c y z h l (inr (inr e))) m none k =
+    grind (arith, nat_tests, common_steps, append_assoc, blank-skipped, dark-byte, kept, marks-all, no_greater-left, opens)
 sign-taken loose signs s p marks x u (tilde_sign c y z h l (inl e)) m none k =
-    let all = marks-all loose tilde p marks m in
-    let o = opens marks u all k in
-    let skipped = one_greater-left y (z ++ (marks ++ u)) (marks ++ u) h (blank-skipped z (marks ++ u) l o.0) o.1 in
-    rw (e, append_assoc y (62 ∷ z) (marks ++ u), skipped)
-    (free-taken loose tilde p marks x (skip_greater (z ++ (marks ++ u))) u (inr refl) all (greater-left z marks u l all k))
-sign-taken loose signs s p marks x u (tilde_sign c y z h l (inr (inl e))) m none k = grind (arith, nat_tests, common_steps, append_assoc, blank-skipped, dark-byte, drop_spaces-none, kept, marks-all, one_greater-left, opens)
-sign-taken loose signs s p marks x u (tilde_twice c y z h some l (inl e)) m none k = grind (arith, nat_tests, common_steps, append_assoc, greater-left, marks-all, free-taken, twice-left)
-sign-taken loose signs s p marks x u (tilde_twice c y z h some l (inr e)) m none k = grind (arith, nat_tests, common_steps, append_assoc, blank-skipped, kept, marks-all, opens, twice-left)
+    grind (arith, marks-all, opens, one_greater-left, blank-skipped, append_assoc, free-taken, greater-left)
+sign-taken loose signs s p marks x u (tilde_sign c y z h l (inr (inl e))) m none k =
+    grind (arith, nat_tests, common_steps, append_assoc, blank-skipped, dark-byte, drop_spaces-none, kept, marks-all, one_greater-left, opens)
+sign-taken loose signs s p marks x u (tilde_twice c y z h some l (inl e)) m none k =
+    grind (arith, nat_tests, common_steps, append_assoc, greater-left, marks-all, free-taken, twice-left)
+sign-taken loose signs s p marks x u (tilde_twice c y z h some l (inr e)) m none k =
+    grind (arith, nat_tests, common_steps, append_assoc, blank-skipped, kept, marks-all, opens, twice-left)

@@ -57,9 +57,7 @@ strict-read limit digits rest n h stop = rw (padded-same digits rest h.0.each st
 pub dotted-found : {A : Type 0} (Is : List ℕ → A → Type 0) (read : List ℕ → Front A) (text : List ℕ) (a : A) (rest : List ℕ)
     → ((t : List ℕ) → read t ≡ Some (a, rest) → At Is t a rest) → (after_byte 46 text >>? read) ≡ Some (a, rest)
     → (x : List ℕ) × (text ≡ 46 ∷ (x ++ rest)) × Is x a
-dotted-found Is read text a rest found h =
-    let t = bind_some (after_byte 46 text) _ (a, rest) h in
-    let f = found t.0 t.2 in (f.piece, cc (byte-is 46 text t.0 t.1, f.split), f.is)
+dotted-found Is read text a rest found h = grind (arith, nat_tests, common_steps, bind_some, byte-is)
 
 -- ---- a number prints as it is written, and one up to the limit is short
 
@@ -100,9 +98,6 @@ build-ends b more l (plus t list h) e = refl
 
 pub ends-list : (rest : List ℕ) → Ends rest → list_len rest ≡ 0
 ends-list rest e = list_len_stop rest (grind (arith, nat_tests))
-
-pub ends-letter : (wild : Bool) (rest : List ℕ) → Ends rest → begins_undashed wild rest ≡ false
-ends-letter wild rest e = grind (arith, nat_tests, common_steps)
 
 pub build-taken : (b more : List ℕ) (l : List Id) → IsStrictBuild b l → begins is_solid more ≡ false
     → (build_front (b ++ more) ≡ (drop 1 b, more)) × (listed (drop 1 b) ≡ l)
@@ -171,8 +166,7 @@ pre-follows loose fits p behind l (bare t list h s x) e = grind (arith, nat_test
 pub pre-taken : (loose wild : Bool) (fits : List ℕ → Bool) (p behind : List ℕ) (l : List Id) → fits [] ≡ true → IsPreRelease loose wild fits p l
     → Ends behind → (ids : List ℕ) × (pre_front loose wild (p ++ behind) ≡ (ids, behind)) × (listed ids ≡ l) × (fits ids ≡ true)
 unfolding pre_front dashed_front pre_release_front listed
-pre-taken loose wild fits p behind l none no_pre_release e =
-    ([], grind (arith, nat_tests, common_steps, ends-letter), refl, none)
+pre-taken loose wild fits p behind l none no_pre_release e = ([], grind (arith, nat_tests, common_steps), refl, none)
 pre-taken loose wild fits p behind l none (dashed t list h s) e =
     (t, rw (written-begins t behind list h, and-false loose) (written-exact t behind list h (ends-list behind e)), written-spelled t list h, s)
 pre-taken loose wild fits p behind l none (bare t list h s x) e =
@@ -212,15 +206,7 @@ strict-found-version limit text v h =
     let x = strict-found limit (drop_v text) a.0.0 a.0.1 a.1 in
     let y = dotted-found (IsStrictNumber limit) (strict_number limit) a.0.1 b.0.0 b.0.1 (λ t e. strict-found limit t b.0.0 b.0.1 e) b.1 in
     let z = dotted-found (IsStrictNumber limit) (strict_number limit) b.0.1 c.0.0 c.0.1 (λ t e. strict-found limit t c.0.0 c.0.1 e) c.1 in
-    let split : text ≡ m.0 ++ (x.piece ++ 46 ∷ (y.0 ++ 46 ∷ (z.0 ++ c.0.1))) = cc (m.1, x.split, y.1, z.1) in
-    elim (cases_Bool (is_empty (build_front (dashed_front c.0.1).1).1 && is_strict_list (dashed_front c.0.1).0)) [
-      | inr other ↦ cc (rw other at c.2)
-      | inl good ↦
-          let parts = and_parts (is_empty (build_front (dashed_front c.0.1).1).1) _ good in
-          let p = dashed-found false false is_strict_list c.0.1 parts.1 in
-          subst (λ (t : List ℕ). IsStrictVersion limit t v) (sym split) (subst (IsStrictVersion limit _) (same_Some _ _ (rw good at c.2))
-          (ended-found _ _ _ _ m.0 x.piece y.0 z.0 c.0.1 _ _ _ _ m.2 x.is y.2 z.2 p parts.0))
-    ]
+    grind (arith, cases_Bool, and_parts, same_Some, ended-found, dashed-found)
 
 -- ---- what is written is read
 

@@ -28,8 +28,7 @@ marks-counted (b ∷ marks) u h k = grind (arith, nat_tests, common_steps, and_p
 -- the partial behind marks
 pub marks-dropped : (loose : Bool) (marks x : List ℕ) (p : Partial) → list_all is_mark marks ≡ true → IsPlaces loose x p
     → drop (marks_len (marks ++ x)) (marks ++ x) ≡ x
-marks-dropped loose marks x p h k =
-    drop_at marks x (marks_len (marks ++ x)) (sym (marks-counted marks x h (rw (append-nil x) at (places-begin loose x [] p k))))
+marks-dropped loose marks x p h k = grind (arith, drop_at, marks-counted, append-nil, places-begin)
 
 -- ---- one word: what is written is read
 
@@ -129,7 +128,7 @@ signed-found loose include text w rest u h =
     subst (λ (r : Signed × List ℕ). WordAt loose include text r.0 r.1) t.1 (record {
       is = subst (λ (x : List ℕ). BeginsWord loose include text x p.0.1 (table include s.0 p.0.0 whole_text)) dropped begin;
       utf8 = boundary-utf8 all p.0.1 (subst (λ (t : List ℕ). IsUtf8 t) whole u) ended;
-      shorter = omega (arith, ap length whole, length-append all p.0.1, length-append at_sign.signs front, length-append marks part.piece, places-some loose part.piece p.0.0 part.is);
+      shorter = omega (arith, simp length-append at (ap length whole), places-some loose part.piece p.0.0 part.is);
     })
 
 -- ---- the first word
@@ -138,18 +137,17 @@ pub first-read : (loose include : Bool) (text rest : List ℕ) (cs : Option (Lis
     → first_word loose include text ≡ Some (cs, rest)
 unfolding first_word
 first-read loose include text rest cs u (formed partial behind ds w short s) =
-    let utf8 = boundary-utf8 w.0 behind (subst (λ (t : List ℕ). IsUtf8 t) w.1 u) w.3 in
     let r = word-read loose include w.0 partial behind ds w.2 (boundary-of behind w.3) in
     let here : signed_word loose text ≡ Some (r.word, behind) = ap (λ (t : List ℕ). signed_word loose t) w.1 ∙ r.read in
-    rw (here, r.partial, short, r.same, skips-of behind rest utf8 s) refl
+    rw (here, r.partial, short, r.same, skips-of behind rest (boundary-utf8 w.0 behind (subst (λ (t : List ℕ). IsUtf8 t) w.1 u) w.3) s) refl
 first-read loose include text rest cs u (ignored behind l some absent i s) =
     let none : signed_word loose text ≡ None = elim (option-cases (signed_word loose text)) [
       | inl e ↦ e
-      | inr w ↦ absurd (absent (drop (marks_len w.0.0.2) w.0.0.2) w.0.1 (table include w.0.0.0 w.0.0.1 w.0.0.2) (signed-found loose include text w.0.0 w.0.1 u w.1).is)
+      | inr w ↦ absurd (absent (drop (marks_len w.0.0.2) w.0.0.2) w.0.1 (table include w.0.0.0 w.0.0.1 w.0.0.2)
+          (signed-found loose include text w.0.0 w.0.1 u w.1).is)
     ] in
     let end = ignored-read (length text) text behind u i (omega arith) in
-    let utf8 = (ignored-found (length text) text u (omega arith)).utf8 in
-    rw (none, l, end) (ap (λ (t : List ℕ). Some (None, t)) (skips-of behind rest (rw end at utf8) s))
+    rw (none, l, end) (ap (λ (t : List ℕ). Some (None, t)) (skips-of behind rest (rw end at (ignored-found (length text) text u (omega arith)).utf8) s))
 
 -- what is read at the front
 pub record FirstAt (loose include : Bool) (text : List ℕ) (cs : Option (List Comparison)) (rest : List ℕ) : Type 0 where
@@ -162,11 +160,11 @@ pub first-found : (loose include : Bool) (text : List ℕ) (cs : Option (List Co
 unfolding first_word
 first-found loose include text cs rest u some h = go (signed_word loose text) refl h
   where
-    skipped : (behind : List ℕ) → IsUtf8 behind → SkipsBlank behind (drop_spaces behind) × IsUtf8 (drop_spaces behind) × (length (drop_spaces behind) ≤ length behind)
+    skipped : (behind : List ℕ) → IsUtf8 behind
+        → SkipsBlank behind (drop_spaces behind) × IsUtf8 (drop_spaces behind) × (length (drop_spaces behind) ≤ length behind)
     skipped behind v = let s = skips-is behind v in (s, skips-utf8 behind (drop_spaces behind) s v, spaces-le behind)
 
-    go : (o : Front Signed) → signed_word loose text ≡ o
-        → signed_or loose include text o ≡ Some (cs, rest) → FirstAt loose include text cs rest
+    go : (o : Front Signed) → signed_word loose text ≡ o → signed_or loose include text o ≡ Some (cs, rest) → FirstAt loose include text cs rest
     go None e k =
         let end = behind_ignored (length text) text in
         let t = cond_some loose (None, drop_spaces end) (cs, rest) k in
@@ -182,7 +180,11 @@ first-found loose include text cs rest u some h = go (signed_word loose text) re
         let f = signed-found loose include text w.0 w.1 u e in
         let s = skipped w.1 f.utf8 in
         subst (λ (r : Option (List Comparison) × List ℕ). FirstAt loose include text r.0 r.1) t.1
-        (record { is = formed (drop (marks_len w.0.2) w.0.2) w.1 (table include w.0.0 w.0.1 w.0.2) f.is t.0 s.0; utf8 = s.1; shorter = omega (arith, s.2, f.shorter) })
+        (record {
+          is = formed (drop (marks_len w.0.2) w.0.2) w.1 (table include w.0.0 w.0.1 w.0.2) f.is t.0 s.0;
+          utf8 = s.1;
+          shorter = omega (arith, s.2, f.shorter);
+        })
 
 -- ---- words
 
@@ -192,7 +194,8 @@ unfolding words_within
 words-step loose include n [] some = absurd (omega (arith, some))
 words-step loose include n (b ∷ text) some = refl
 
-begins-longer : (loose include : Bool) (text rest : List ℕ) (cs : Option (List Comparison)) → IsUtf8 text → BeginsAs loose include text rest cs → 0 < length text
+begins-longer : (loose include : Bool) (text rest : List ℕ) (cs : Option (List Comparison)) → IsUtf8 text → BeginsAs loose include text rest cs
+    → 0 < length text
 begins-longer loose include text rest cs u (ignored behind l some absent i s) = grind (arith, nat_tests)
 begins-longer loose include text rest cs u (formed partial behind ds w short s) =
     let r = word-read loose include w.0 partial behind ds w.2 (boundary-of behind w.3) in
@@ -205,10 +208,7 @@ unfolding words_within
 words-read loose include n text all u AreWords.none le = refl
 words-read loose include zero text all u (more t rest cs ds h k) le = absurd (omega (arith, le, begins-longer loose include t rest cs u h))
 words-read loose include (suc n) text all u (more t rest cs ds h k) le =
-    let some = begins-longer loose include t rest cs u h in
-    let first = first-read loose include t rest cs u h in
-    let f = first-found loose include t cs rest u some first in
-    words-step loose include n t some ∙ rw (first, words-read loose include n rest ds f.utf8 k (omega (arith, le, f.shorter))) refl
+    grind (arith, nat_tests, common_steps, begins-longer, first-read, first-found, words-step, words-read loose include n rest ds)
 
 pub words-found : (loose include : Bool) (n : ℕ) (text : List ℕ) (all : List (Option (List Comparison))) → IsUtf8 text
     → words_within loose include n text ≡ Some all → AreWords loose include text all

@@ -3,12 +3,12 @@ use Rattle.nodejs_semver.proofs.Common.{Bool, Id, IsNumber, List, None, Option, 
 use Rattle.nodejs_semver.proofs.Common.{cases_Bool, codes, common_steps, drop, false, if◌then◌else◌, inl, inr, is_ascii_digit, is_release, length}
 use Rattle.nodejs_semver.proofs.Common.{list_all, nat_tests, not, prefix_len, refl, subst, suc, sym, take, take_at, take_rest, true, ℕ, ◌&&◌, ◌++◌}
 use Rattle.nodejs_semver.proofs.{Common.{◌+◌, ◌-◌, ◌==◌, ◌∙◌, ◌∷◌, ◌≡◌}, NpmCommon.{Comparison, IsPartial, IsPlace, IsPlaces, IsStrictBuild, Numbers}}
-use Rattle.nodejs_semver.proofs.NpmCommon.{at_least, bytes_eq, bytes_eq-Decides, caret_from, compared, digits_grow, first, from, has_leading_zero}
-use Rattle.nodejs_semver.proofs.{NpmCommon.{made, major, next_changed, partial_of, take_while, under, whole, wildcard}, Reading.Numbers.digits-taken}
-use Rattle.nodejs_semver.specs.{Internal.NpmParts.{AreZeros, is_padded, is_wildcard, no_build}, Npm.{Grammar.IsPreRelease, Table.{Partial, Sign, as_written}}}
+use Rattle.nodejs_semver.proofs.NpmCommon.{at_least, bytes_eq, bytes_eq-Decides, compared, digits_grow, first, from, has_leading_zero}
+use Rattle.nodejs_semver.proofs.{NpmCommon.{made, major, partial_of, take_while, under, whole, wildcard}, Reading.Numbers.digits-taken}
+use Rattle.nodejs_semver.specs.{Internal.NpmParts.{AreZeros, is_padded, no_build}, Npm.{Grammar.IsPreRelease, Table.{Partial, Sign}}}
 use Rattle.nodejs_semver.specs.{Npm.Table.{caret, next, table, tilde, written_zeros, zeros}, Text.WordText.equal}
 use Rattle.std.proofs.lemmas.{Bool.le-ltb, List.drop-drop}
-use Rattle.nodejs_semver.specs.Npm.RangeText as Text
+use Rattle.nodejs_semver.specs.Npm.Partials as Text
 
 -- ---- the text
 
@@ -32,8 +32,7 @@ pub zeros_taken : (text numbers : List ℕ) (at : ℕ) → at ≡ prefix_len no_
     → written_zeros text ≡ counted (zero_at numbers) (zero_at (drop 2 numbers)) (zero_at (drop 2 (drop 2 numbers)))
 zeros_taken text numbers at e f = zeros_counted text numbers (f ∙ take_rest text at ∙ ap (λ n. drop n text) e)
 
-marks-dropped : (marks x : List ℕ) → list_all no_digit marks ≡ true
-    → drop (prefix_len no_digit (marks ++ x)) (marks ++ x) ≡ drop (prefix_len no_digit x) x
+marks-dropped : (marks x : List ℕ) → list_all no_digit marks ≡ true → drop (prefix_len no_digit (marks ++ x)) (marks ++ x) ≡ drop (prefix_len no_digit x) x
 marks-dropped [] x h = refl
 marks-dropped (b ∷ marks) x h =
     let p = and_parts (no_digit b) (list_all no_digit marks) h in
@@ -56,14 +55,11 @@ is_zero_place a = elim a [ None ↦ false | Some n ↦ n == 0 ]
 
 zero-place : (x more : List ℕ) (a : Option ℕ) → IsPlace false x a → begins is_ascii_digit more ≡ false → zero_at (x ++ more) ≡ is_zero_place a
 zero-place x more a (Text.any b h) stop = grind (arith, nat_tests, common_steps)
-zero-place x more a (Text.number digits n k spelled short) stop =
-    let e : take_while is_ascii_digit (digits ++ more) ≡ digits = grind (arith, nat_tests, common_steps, digits-taken, take_at) in
-    rw e (digits-zero digits n k (grind arith))
+zero-place x more a (Text.number digits n k spelled short) stop = grind (arith, nat_tests, common_steps, digits-taken, take_at, digits-zero)
 
 -- a zero is one character
 zero-alone : (x : List ℕ) (n : ℕ) → IsPlace false x (Some n) → (n == 0) ≡ true → x ≡ codes "0"
-zero-alone x n (Text.number digits m k spelled short) h =
-    (bytes_eq-Decides digits (codes "0")).0 (digits-zero digits m k (grind arith) ∙ h)
+zero-alone x n (Text.number digits m k spelled short) h = (bytes_eq-Decides digits (codes "0")).0 (digits-zero digits m k (grind arith) ∙ h)
 
 behind-quiet : (wild : Bool) (fits : List ℕ → Bool) (pre build : List ℕ) (l m : List Id) → IsPreRelease false wild fits pre l → IsStrictBuild build m
     → begins is_ascii_digit (pre ++ build) ≡ false
@@ -117,8 +113,7 @@ zeros-strict x p (Text.two x1 y (Some n) b h k) w =
     (zeros-dotted x1 y [] n b None h k refl (λ _. refl) ∙ zeros-partial n b None [] []))
 zeros-strict x p (Text.three x1 y z pre build None b c ids builds h k l m n t) w = cc w
 zeros-strict x p (Text.three x1 y z pre build (Some a) b c ids builds h k l m n t) w =
-    sym (zeros-dotted x1 y (46 ∷ (z ++ (pre ++ build))) a b c h k refl (λ _. zero-place z (pre ++ build) c l (behind-quiet _ _ pre build ids builds m n))
-    ∙ zeros-partial a b c ids builds)
+    grind (arith, nat_tests, common_steps, zeros-dotted, zero-place, behind-quiet, zeros-partial)
 
 -- strictly the table's numbers are written as they are
 pub strict-zeros : (text : List ℕ) (p : Partial) → IsPartial false text p → AreZeros p (zeros p) text
@@ -153,15 +148,5 @@ plain_table include (compared equal) p text = from include (first p) ∷ (under 
 plain_table include (compared at_least) p text = from include (first p) ∷ []
 plain_table include (compared c) p text = table include (compared c) p text
 
-as-plain : (p : Partial) (c : Comparison) → as_written (zeros p) p c ≡ c
-as-plain p c = rw (self-padded p) refl
-
-changed-plain : (p : Partial) → is_wildcard p ≡ false → next_changed (zeros p) p ≡ plain_changed p
-changed-plain p w = grind (arith, nat_tests, common_steps)
-
-from-plain : (include : Bool) (v : VersionValue) → caret_from include (zeros (whole v)) v ≡ plain_from include v
-from-plain include v = grind (arith, nat_tests, common_steps, as-plain)
-
-pub rows-plain : (include : Bool) (text : List ℕ) (s : Sign) (p : Partial) → AreZeros p (zeros p) text
-    → table include s p text ≡ plain_table include s p text
-rows-plain include text s p h = grind (arith, nat_tests, common_steps, as-plain, changed-plain, from-plain)
+pub rows-plain : (include : Bool) (text : List ℕ) (s : Sign) (p : Partial) → AreZeros p (zeros p) text → table include s p text ≡ plain_table include s p text
+rows-plain include text s p h = grind (arith, nat_tests, common_steps, self-padded)

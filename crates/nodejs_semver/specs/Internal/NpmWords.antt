@@ -7,15 +7,14 @@ use Rattle.std.specs.Str.Parse.{digits_value}
 use Rattle.semver_core.specs.Internal.Reading.{◌>>?◌}
 use Rattle.semver_core.specs.Internal.Spaces.{drop_spaces, space_len}
 use Rattle.semver_core.specs.Lists.{is_empty}
-use Rattle.semver_core.specs.Text.Characters.{begins}
 use Rattle.semver_core.specs.Text.Identifiers.{Id, listed, pieces}
 use Rattle.semver_core.specs.Values.Versions.{VersionValue, is_release, release_value}
 use Rattle.nodejs_semver.specs.Internal.Fronts.{Front, after_byte, begins_byte, begins_identifier, begins_wildcard, build_front, marked_list}
-use Rattle.nodejs_semver.specs.Internal.NpmReadings.{dashed_front}
+use Rattle.nodejs_semver.specs.Internal.{NpmInside.are_inside, NpmReadings.dashed_front}
 use Rattle.nodejs_semver.specs.Internal.Parts.{parts}
 use Rattle.nodejs_semver.specs.Internal.Words.{after_some_space, from_boundary, is_boundary}
 use Rattle.nodejs_semver.specs.Npm.Malformed.{begins_place, is_mark, takes}
-use Rattle.nodejs_semver.specs.Npm.RangeText.{IsPlaces, are_marks, comparators_of, end_sign, is_lost, is_short, is_short_identifier, last_marks, partial_of}
+use Rattle.nodejs_semver.specs.Npm.{Partials.{IsPlaces, is_short_identifier, partial_of}, RangeText.{are_marks, comparators_of, end_sign, is_lost, is_short, last_marks}}
 use Rattle.nodejs_semver.specs.Npm.Grammar.{begins_undashed, has_leading_zero, is_strict_list}
 use Rattle.nodejs_semver.specs.Npm.Ranges.{is_valid}
 use Rattle.nodejs_semver.specs.Npm.Table.{Comparison, Partial, Sign, caret, compared, hyphen_lower, hyphen_upper, major, minor, table, tilde, whole, wildcard}
@@ -251,36 +250,14 @@ signed_word loose text = let s = npm_sign text in marked_word loose s (places_fr
 abbrev pub is_short_word : Bool → List ℕ → Bool
 is_short_word loose text = is_short loose (drop (marks_len text) text)
 
--- an identifier of a pre-release as it stands inside a malformed word: one that begins with a digit is a number
-abbrev pub is_found : List ℕ → Bool
-is_found id = list_all is_ascii_digit id || not (begins is_ascii_digit id)
-
-abbrev pub are_found : List ℕ → Bool
-are_found ids = list_all is_found (pieces ids)
-
--- what stands behind a number and a dot at the front, and nothing where they do not stand there
-unfoldable pub behind_number : List ℕ → List ℕ
-behind_number text = let rest = drop (prefix_len is_ascii_digit text) text in
-    if begins is_ascii_digit text && begins_byte 46 rest then drop 1 rest else []
-
--- the text is a pre-release and build metadata as they stand behind the numbers of a version inside a malformed word
-unfoldable pub is_tail : List ℕ → Bool
-is_tail text = let pre = pre_front true false text in
-    not (begins is_ascii_digit text) && (is_empty (build_front pre.1).1 && are_found pre.0)
-
--- not where a number or a wildcard is
-abbrev pub is_apart : ℕ → Bool
-is_apart b = not (begins_place (b ∷ []))
-
--- three numbers stand at the first place, and what may follow them, to the end
-unfoldable pub ends_in_version : List ℕ → Bool
-ends_in_version text = let last = behind_number (behind_number (drop (prefix_len is_apart text) text)) in
-    begins is_ascii_digit last && is_tail (drop (prefix_len is_ascii_digit last) last)
+-- the text ends in a comparator: in `<`, `>`, or a `=` that stands behind no mark
+abbrev pub ends_compared : List ℕ → Bool
+ends_compared text = let ends = ends_with ◌==◌ text in ends (codes "<") || ends (codes ">") || ends (codes "=") && not (ends (codes "v=") || ends (codes "=="))
 
 -- what follows the characters behind whitespace belongs to their word
 unfoldable pub takes_on : List ℕ → List ℕ → Bool
-takes_on text rest = takes text rest
-    || ends_with ◌==◌ text (codes "=") && (ends_in_version (take (length text - 1) text) && begins_place rest)
+takes_on text rest = let front = take (length text - 1) text in
+    takes text rest || ends_with ◌==◌ text (codes "=") && (are_inside (length front) front && begins_place rest)
 
 -- what stands behind a malformed word that is ignored: of at most so many pieces
 unfoldable pub behind_ignored : ℕ → List ℕ → List ℕ

@@ -8,7 +8,8 @@ use Rattle.semver_core.specs.Text.Characters.{IsBlank, IsTrim}
 use Rattle.semver_core.specs.Values.Order.{precedence, version_eq}
 use Rattle.semver_core.specs.Values.Versions.{VersionValue, is_release, release_value}
 use Rattle.semver_core.specs.declared.cuts.bound.Bound.TheVariants.{Unbounded}
-use Rattle.nodejs_semver.specs.Npm.RangeText.{IsPlaces, partial_of, spelling}
+use Rattle.nodejs_semver.specs.Npm.Partials.{IsPlaces, partial_of}
+use Rattle.nodejs_semver.specs.Npm.RangeText.{spelling}
 use Rattle.nodejs_semver.specs.Npm.Ranges.{is_valid}
 use Rattle.nodejs_semver.specs.Npm.Table as Npm
 use Rattle.nodejs_semver.specs.Npm.Table.{Comparison, Sign, compared, counts, hyphen_lower, hyphen_upper}

@@ -2,52 +2,25 @@
 -- comparators of each alternative. In parentheses stand the names of the grammar that node-semver publishes.
 -- Left out is one `*`, and a comparator before it, in a word that is else a whole version, as in `>*1.2.3`,
 -- which node-semver passes over: such a word is malformed. Of the loose reading a text is left out, and rejected, with a
--- partial that has more than 250 characters in front of its build.
-use Rattle.std.specs.Prelude.{◌≡◌, ◌⊎◌, ◌==◌, ◌<◌, ◌+◌, ◌-◌, ◌&&◌, ◌||◌, not, nat_le, nat_lt, ℕ, Bool, true}
+-- partial that has more than 250 characters in front of its build. Inside a malformed word an identifier of more than
+-- 250 characters and a number of more than 256 digits are whole, which node-semver cuts (`Malformed`).
+use Rattle.std.specs.Prelude.{◌≡◌, ◌⊎◌, ◌==◌, ◌<◌, ◌-◌, ◌&&◌, ◌||◌, not, nat_le, nat_lt, ℕ, Bool, true}
 use Rattle.std.specs.Prelude.{false, List, [], ◌∷◌, ◌++◌, length, drop, Option, Some, None, codes}
 use Rattle.std.specs.Prelude.{encode_utf8_all, flat_map, if◌then◌else◌, is_none}
 use Rattle.std.specs.Option.{unwrap_or}
-use Rattle.std.specs.Char.{is_ascii_digit}
 use Rattle.std.specs.List.{list_all, prefix_len, suffix_len}
 use Rattle.std.specs.Str.{bytes_eq}
-use Rattle.semver_core.specs.{Failures.{NoValue}, Lists.{is_empty}}
+use Rattle.semver_core.specs.Failures.{NoValue}
+use Rattle.semver_core.specs.Lists.{is_empty}
 use Rattle.semver_core.specs.Text.Characters.{BeginsBlank, begins, is_whitespace, IsBlank, IsTrim}
-use Rattle.semver_core.specs.Text.Identifiers.{Id, pieces}
-use Rattle.semver_core.specs.Text.Numbers.{IsNumber}
 use Rattle.semver_core.specs.Values.Versions.{VersionValue, is_release}
-use Rattle.nodejs_semver.specs.Npm.Grammar.{IsPreRelease, IsStrictBuild, has_leading_zero, is_strict_list}
 use Rattle.nodejs_semver.specs.Npm.Malformed.{IsIgnored, is_mark}
-use Rattle.nodejs_semver.specs.Npm.Table.{Comparison, Partial, Sign, caret, compared, hyphen_lower, major}
-use Rattle.nodejs_semver.specs.Npm.Table.{hyphen_upper, minor, table, tilde, whole, wildcard}
+use Rattle.nodejs_semver.specs.Npm.Partials.{IsPlaces}
+use Rattle.nodejs_semver.specs.Npm.Table.{Comparison, Partial, Sign, caret, compared, hyphen_lower}
+use Rattle.nodejs_semver.specs.Npm.Table.{hyphen_upper, table, tilde, whole}
 use Rattle.nodejs_semver.specs.Text.WordText.{Comparator, IsBoundary, SkipsBlank, above, at_least, at_most, below, equal}
 
 -- ---- partials
-
--- node-semver's regular expressions count: numbers, the digits at the front of an identifier, and what
--- follows these
-abbrev pub is_short_identifier : List ℕ → Bool
-is_short_identifier text = let n = prefix_len is_ascii_digit text in nat_le (length text) n && nat_le n 257 || nat_le n 256 && nat_le (length text) (n + 251)
-
--- a place (xr): `x`, `X`, `*`, or a number of any value without leading zeros (nr); loosely it may have some
-pub data IsPlace (loose : Bool) : List ℕ → Option ℕ → Type 0 where
-  any : (b : ℕ) → (b == 120 || b == 88 || b == 42) ≡ true → IsPlace loose (b ∷ []) None
-  number : (run : List ℕ) (n : ℕ) → IsNumber n run n → (not (has_leading_zero run) || loose) ≡ true → (loose || nat_le (length run) 257) ≡ true → IsPlace loose run (Some n)
-
--- the partial of its places
-abbrev pub partial_of : Option ℕ → Option ℕ → Option ℕ → List Id → List Id → Partial
-partial_of None b c i j = wildcard
-partial_of (Some M) None c i j = major M
-partial_of (Some M) (Some m) c i j = elim c [ None ↦ minor M m | Some p ↦ whole (record { major = M; minor = m; patch = p; pre_release = i; build = j }) ]
-
--- one to three places joined by dots (partial), and behind the third a pre-release and build metadata (qualifier), or
--- nothing
-pub data IsPlaces (loose : Bool) : List ℕ → Partial → Type 0 where
-  one : (x : List ℕ) (a : Option ℕ) → IsPlace loose x a → IsPlaces loose x (partial_of a None None [] [])
-  two : (x y : List ℕ) (a b : Option ℕ) → IsPlace loose x a → IsPlace loose y b → IsPlaces loose (x ++ (codes "." ++ y)) (partial_of a b None [] [])
-  three : (x y z pre build : List ℕ) (a b c : Option ℕ) (ids builds : List Id) → IsPlace loose x a → IsPlace loose y b → IsPlace loose z c
-      → IsPreRelease loose (is_none c) (λ ids. loose || is_strict_list ids && list_all is_short_identifier (pieces ids)) pre ids
-      → IsStrictBuild build builds → list_all (λ text. nat_le (length text) 250) (pieces (drop 1 build)) ≡ true
-      → IsPlaces loose (x ++ (codes "." ++ (y ++ (codes "." ++ (z ++ (pre ++ build)))))) (partial_of a b c ids builds)
 
 -- loosely a partial has at most 250 characters in front of its `+`
 abbrev pub is_short : Bool → List ℕ → Bool
@@ -161,6 +134,5 @@ pub data IsAlternative (loose include : Bool) : List ℕ → Bool → List Compa
 -- the first and the last one are ignored.
 pub data AreAlternatives (loose include : Bool) : List (List ℕ) → List (List Comparison) → Type 0 where
   none : AreAlternatives loose include [] []
-  next : (piece text : List ℕ) (others : List (List ℕ)) (lost : Bool) (cs : List Comparison) (rest : List (List Comparison)) → IsTrim piece text
-      → IsAlternative loose include text lost cs → AreAlternatives loose include others rest
-      → AreAlternatives loose include (piece ∷ others) (if lost then rest else cs ∷ rest)
+  next : (part text : List ℕ) (parts : List (List ℕ)) (lost : Bool) (cs : List Comparison) (rest : List (List Comparison)) → IsAlternative loose include text lost cs
+      → IsTrim part text → AreAlternatives loose include parts rest → AreAlternatives loose include (part ∷ parts) (if lost then rest else cs ∷ rest)

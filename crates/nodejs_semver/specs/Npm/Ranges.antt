@@ -27,9 +27,6 @@ pub record HasAlternativesIn (loose : Bool) (limit : ℕ) (include : Bool) (text
   pub some : is_empty alternatives ≡ false
   pub valid : list_all (list_all (is_valid limit)) alternatives ≡ true
 
-abbrev pub HasAlternatives : ℕ → Bool → List ℕ → List (List Comparison) → Type 0
-HasAlternatives = HasAlternativesIn false
-
 -- the version satisfies the comparator
 abbrev pub satisfies : VersionValue → Comparison → Bool
 satisfies v c = let r = precedence v c.version in elim c.sign [ below ↦ is_lt r | at_most ↦ is_le r | equal ↦ is_eq r | at_least ↦ is_ge r | above ↦ is_gt r ]
@@ -55,6 +52,3 @@ pub record IsRangeIn (loose : Bool) (limit : ℕ) (include : Bool) (text : List 
   pub alternatives : List (List Comparison)
   pub has : HasAlternativesIn loose limit include text alternatives
   pub accepted : (v : VersionValue) → Gate.accepts range v include ≡ accepts include alternatives v
-
-abbrev pub IsRangeOf : ℕ → Bool → List ℕ → List (Span VersionValue) → Type 0
-IsRangeOf = IsRangeIn false

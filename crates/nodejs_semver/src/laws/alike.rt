@@ -2,7 +2,7 @@
 
 ghost use Rattle.nodejs_semver.specs.Npm.Alike.{IsPlainText};
 ghost use Rattle.nodejs_semver.specs.Npm.Ranges as Npm;
-ghost use Rattle.nodejs_semver.specs.Npm.Ranges.{HasAlternatives};
+ghost use Rattle.nodejs_semver.specs.Npm.Ranges.{HasAlternativesIn};
 ghost use Rattle.nodejs_semver.specs.Npm.Table.{Comparison};
 ghost use Rattle.nodejs_semver.specs.Ranges.Gate.{accepts};
 ghost use Rattle.nodejs_semver.specs.Text.Meaning.{Means};
@@ -36,7 +36,7 @@ pub fn npm_reads_alike()
     ensures there { (text : List ℕ) (list : List (Span VersionValue))
         (alternatives : List (List Comparison))
         → IsPlainText MAX_SAFE_INTEGER text list alternatives
-        → HasAlternatives MAX_SAFE_INTEGER false text alternatives }
+        → HasAlternativesIn false MAX_SAFE_INTEGER false text alternatives }
     ensures same { (text : List ℕ) (list : List (Span VersionValue))
         (alternatives : List (List Comparison)) (v : VersionValue)
         → IsPlainText MAX_SAFE_INTEGER text list alternatives → is_within MAX_SAFE_INTEGER v ≡ true
@@ -58,7 +58,7 @@ pub fn satisfied_alike(
     ensures here { IfOk result (λ both. (list : List (Span VersionValue))
         → Means MAX_SAFE_INTEGER text.now list → both.0 ≡ accepts list version.now false) }
     ensures there { IfOk result (λ both. (alternatives : List (List Comparison))
-        → HasAlternatives MAX_SAFE_INTEGER false text.now alternatives
+        → HasAlternativesIn false MAX_SAFE_INTEGER false text.now alternatives
         → both.1 ≡ Npm.accepts false alternatives version.now) }
     ensures same { IfOk result (λ both. (list : List (Span VersionValue))
         (alternatives : List (List Comparison))
@@ -66,7 +66,7 @@ pub fn satisfied_alike(
         → is_within MAX_SAFE_INTEGER version.now ≡ true → both.0 ≡ both.1) }
     // The one other error is a failed allocation. Of a text that is read alike, neither holds.
     ensures refused { RefusedOnlyIf result (Means MAX_SAFE_INTEGER text.now []
-        ⊎ NoValue (HasAlternatives MAX_SAFE_INTEGER false text.now)) }
+        ⊎ NoValue (HasAlternativesIn false MAX_SAFE_INTEGER false text.now)) }
 {
     let here = Range::parse(alloc, text)?;
     let there = npm::range(alloc, text, false)?;

@@ -13,6 +13,7 @@ ghost use Rattle.nodejs_semver.specs.Internal.NpmViews.{place_view};
 ghost use Rattle.semver_core.specs.{Internal.Reading.◌>>?◌, Text.Identifiers.listed};
 ghost use Rattle.nodejs_semver.specs.Internal.NpmWords as Spec;
 ghost use Rattle.nodejs_semver.specs.Npm.Grammar.{begins_undashed};
+ghost use Rattle.nodejs_semver.specs.Npm.Partials as Places;
 ghost use Rattle.nodejs_semver.specs.Npm.RangeText as Text;
 
 use crate::npm::partial::Partial;
@@ -204,7 +205,7 @@ fn long_partial<'a>(
 
 // Whether an identifier of a pre-release may be so long.
 fn is_short_identifier(text: &[u8]) -> bool
-    ensures { result ≡ Text.is_short_identifier text.now }
+    ensures { result ≡ Places.is_short_identifier text.now }
 {
     let digits = digits_len(text);
     text.len() <= digits && digits <= 257 || digits <= 256 && text.len() <= digits + 251

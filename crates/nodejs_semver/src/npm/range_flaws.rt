@@ -2,8 +2,8 @@
 
 ghost use Rattle.std.specs.Prelude.{◌+◌, ◌↔◌, ◌≡◌, ◌≤◌};
 ghost use Rattle.nodejs_semver.specs.Words.{Comparison, IfSome, IsAfterBlank, IsTrim, List};
-ghost use Rattle.nodejs_semver.specs.Words.{MAX_SAFE_INTEGER, None, Some, length};
-ghost use Rattle.nodejs_semver.specs.Npm.{RangeFlaws.IsRangeFlaw, Ranges.HasAlternatives};
+ghost use Rattle.nodejs_semver.specs.Words.{MAX_SAFE_INTEGER, None, Some, false, length};
+ghost use Rattle.nodejs_semver.specs.Npm.{RangeFlaws.IsRangeFlaw, Ranges.HasAlternativesIn};
 
 use crate::npm::malformed_words::malformed_word;
 use crate::npm::ranges::alternative;
@@ -55,7 +55,7 @@ fn trimmed(text: &str) -> (usize, &str)
 pub fn range_flaw(text: &str, include_prerelease: bool) -> Option<RangeFlaw>
     // None exactly if the text has alternatives, as `range` reads them.
     ensures none { (result ≡ None) ↔ ((alternatives : List (List Comparison))
-        × HasAlternatives MAX_SAFE_INTEGER include_prerelease text.now alternatives) }
+        × HasAlternativesIn false MAX_SAFE_INTEGER include_prerelease text.now alternatives) }
     // What is returned is the first alternative that is none, and its first word that is none.
     ensures flaw { IfSome result (IsRangeFlaw MAX_SAFE_INTEGER include_prerelease text.now) }
     // A text has one such flaw: no other would be right.

@@ -3,7 +3,7 @@
 ghost use Rattle.std.specs.{Prelude.{◌&&◌, ◌<◌, ◌≡◌, []}, Str.IsUtf8};
 ghost use Rattle.nodejs_semver.specs.Words.{Comparison, HasAlternativesIn, IfOk, IsCutAtBars, List};
 ghost use Rattle.nodejs_semver.specs.Words.{IsRange, MAX_SAFE_INTEGER, MemoryOnlyIf, NoValue};
-ghost use Rattle.nodejs_semver.specs.Words.{None, OnOk, RefusedOnlyIf, length, parts, true, ℕ};
+ghost use Rattle.nodejs_semver.specs.Words.{None, OnOk, RefusedOnlyIf, false, length, parts, true, ℕ};
 ghost use Rattle.nodejs_semver.specs.Words.{Some};
 ghost use Rattle.nodejs_semver.specs.Internal.NpmParts.{some_normal};
 ghost use Rattle.nodejs_semver.specs.Internal.NpmViews.{end_view, npm_partial_some_view};
@@ -12,7 +12,7 @@ ghost use Rattle.nodejs_semver.specs.Internal.NpmReads.{AddsPart, AreAllFound, I
 ghost use Rattle.nodejs_semver.specs.Internal.NpmReads.{IsStep, hyphen_valid};
 ghost use Rattle.nodejs_semver.specs.Internal.NpmReads.{valid_alternative, valid_range, words_of};
 ghost use Rattle.semver_core.specs.Internal.Reading.{◌>>?◌};
-ghost use Rattle.nodejs_semver.specs.Npm.Ranges.{HasAlternatives, IsRangeIn, IsRangeOf};
+ghost use Rattle.nodejs_semver.specs.Npm.Ranges.{IsRangeIn};
 
 use crate::RangeRef;
 use crate::npm::alternatives::{Alternative, set_ranged};
@@ -247,10 +247,10 @@ pub fn range(
     include_prerelease: bool,
 ) -> Result<RangeRef<'_>, Failure<SemverError>>
     // The text has alternatives, and the range accepts the versions that they accept.
-    ensures ok { IfOk result (IsRangeOf MAX_SAFE_INTEGER include_prerelease text.now) }
+    ensures ok { IfOk result (IsRangeIn false MAX_SAFE_INTEGER include_prerelease text.now) }
     // A text is rejected only if it has none. The one other error is a failed allocation.
     ensures refused { RefusedOnlyIf result
-        (NoValue (HasAlternatives MAX_SAFE_INTEGER include_prerelease text.now)) }
+        (NoValue (HasAlternativesIn false MAX_SAFE_INTEGER include_prerelease text.now)) }
     // Allocation fails only if the text has two alternatives or more.
     ensures memory { MemoryOnlyIf result ((pieces : List (List ℕ)) →
         IsCutAtBars text.now pieces → 1 < length pieces) }

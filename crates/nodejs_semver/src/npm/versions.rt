@@ -131,7 +131,9 @@ pub(crate) fn is_short(text: &str) -> bool
 /// an identifier of the pre-release that is a number, with a leading zero (`1.02.3`, `1.2.3-01`), a
 /// number above `MAX_SAFE_INTEGER`, a pre-release without its `-` (`1.2.3beta`), `V1.2.3`, text
 /// behind the version (`1.2.3.4`), and a text of more than `MAX_LENGTH` characters, with the
-/// whitespace around the version counted. The version borrows the text: nothing is allocated.
+/// whitespace around the version counted. The version borrows the text: nothing is allocated. It
+/// has the numbers of its build by value: [`build_text`](crate::npm::build_text) returns the build
+/// as it is written.
 ///
 /// ```rust
 /// assert!(rt; npm::version(" v1.2.3-beta.1 ") == VersionRef::parse("1.2.3-beta.1"));
