@@ -7,9 +7,9 @@ use Rattle.nodejs_semver.specs.Npm.VersionText.{IsLooseVersionText}
 use Rattle.nodejs_semver.specs.Ranges.Gate.{accepts}
 use Rattle.nodejs_semver.specs.Ranges.Least.{IsLeastOf, least_build}
 use Rattle.semver_core.specs.declared.TheConstants.{MAX_SAFE_INTEGER}
-use Rattle.lock_check.specs.Readings.{IsNotWanted, IsWanted}
+use Rattle.lock_check.specs.Readings.{IsNotWanted, IsUnknown, IsWanted}
 use Rattle.lock_check.specs.declared.verdict.Judgement.{Judgement}
-use Rattle.lock_check.specs.declared.verdict.Judgement.TheVariants.{NoRange, NoVersion, Read}
+use Rattle.lock_check.specs.declared.verdict.Judgement.TheVariants.{NoRange, NoVersion, Read, Unsure}
 use Rattle.lock_check.specs.declared.verdict.Verdict.{Verdict}
 use Rattle.lock_check.specs.declared.verdict.Verdict.TheVariants.{Accepted, Rejected}
 
@@ -20,10 +20,11 @@ IsVerdict r v Accepted = accepts r v false ≡ true
 IsVerdict r v (Rejected least) = (accepts r v false ≡ false) × IsLeastOf (λ w. accepts r w false) least
     × IfSome least (λ w. w.build ≡ least_build r w)
 
--- the first text is a range and the second one a version, of which that is the verdict; or one of them is
--- none
+-- the first text is a range to npm and the second one a version, of which that is the verdict; or one of them is
+-- none, or it is unknown what the first is to npm
 abbrev pub IsJudgement : List ℕ → List ℕ → Judgement → Type 0
 IsJudgement wanted locked NoRange = IsNotWanted MAX_SAFE_INTEGER wanted
+IsJudgement wanted locked Unsure = IsUnknown MAX_SAFE_INTEGER wanted
 IsJudgement wanted locked NoVersion = (r : List (Span VersionValue)) × IsWanted MAX_SAFE_INTEGER wanted r
     × NoValue (IsLooseVersionText MAX_SAFE_INTEGER locked)
 IsJudgement wanted locked (Read told) = (r : List (Span VersionValue)) × (v : VersionValue)

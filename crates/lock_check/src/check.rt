@@ -5,7 +5,6 @@ use crate::finding::{Finding, Outcome};
 use crate::folder::{is_installed, joined};
 use crate::lock::{Dependency, Field, Lock, Package, Wanted, add_dependencies};
 use crate::overrides::Overrides;
-use crate::reading::{is_unsure, npm_range};
 use crate::scopes::Scopes;
 use crate::specifier::{Specifier, is_name, is_tag};
 use crate::verdict::{Judgement, Verdict, judge_texts};
@@ -100,7 +99,6 @@ fn finding<'a>(
         return Ok(Finding {
             dependency,
             outcome: Outcome::NoReference,
-            lenient: "",
         });
     };
     let is_changed = wanted.is_other_than(dependency.wanted);
@@ -114,24 +112,9 @@ fn finding<'a>(
         None => Outcome::Missing,
         Some(locked) => locked_outcome(alloc, lock, dependency, locked)?,
     };
-    let lenient = match dependency.wanted.specifier() {
-        Specifier::Range(text) | Specifier::Repository(Some(text)) if outcome.is_of_range() => {
-            lenient_text(alloc, text)?
-        }
-        _ => "",
-    };
     Ok(Finding {
         dependency,
         outcome,
-        lenient,
-    })
-}
-
-// The range text, if `parse` decides of it, and else nothing.
-fn lenient_text(alloc: Global, text: &str) -> Result<&str, AllocError> {
-    Ok(match npm_range(alloc, text)? {
-        Some(_) => "",
-        None => text,
     })
 }
 
@@ -206,7 +189,7 @@ impl<'a> Target<'a> {
         }
     }
 
-    // What this text says of it if that is satisfied, and else this outcome.
+    // What this text says of it, unless that is rejected too: then this outcome.
     fn accepted_outcome(
         self,
         alloc: Global,
@@ -214,7 +197,7 @@ impl<'a> Target<'a> {
         outcome: Outcome<'a>,
     ) -> Result<Outcome<'a>, AllocError> {
         match self.outcome(alloc, Specifier::of(accepted)) {
-            Ok(second) if second.is_satisfied() => Ok(second),
+            Ok(second) if !second.is_rejected() => Ok(second),
             Ok(_) => Ok(outcome),
             Err(error) => Err(error),
         }
@@ -313,12 +296,11 @@ impl<'a> Target<'a> {
     fn range_outcome(self, alloc: Global, wanted: &str) -> Result<Outcome<'a>, AllocError> {
         let locked = self.package.text("version");
         let version = locked.unwrap_or("");
-        let is_unsure = is_unsure(alloc, wanted)?;
         Ok(match judge_texts(alloc, wanted, version)? {
+            Judgement::NoRange => self.tag_outcome(wanted),
+            Judgement::Unsure => Outcome::Unsure,
             Judgement::NoVersion if locked.is_none() => Outcome::Unversioned,
             Judgement::NoVersion => Outcome::NoVersion { version },
-            _ if is_unsure => Outcome::Unsure,
-            Judgement::NoRange => self.tag_outcome(wanted),
             Judgement::Read(Verdict::Accepted) => Outcome::Satisfied,
             Judgement::Read(Verdict::Rejected(smallest)) => Outcome::Rejected { version, smallest },
         })

@@ -6,7 +6,7 @@ use crate::check::Findings;
 use crate::lock::{Dependency, Lock, Wanted};
 use crate::shown::Shown;
 use nodejs_semver::Version;
-use nodejs_semver::diagnosis::{IgnoredWords, ignored_words, version_flaw};
+use nodejs_semver::diagnosis::version_flaw;
 use std::fmt;
 use std::process::ExitCode;
 
@@ -15,8 +15,6 @@ use std::process::ExitCode;
 pub struct Finding<'a> {
     pub dependency: Dependency<'a>,
     pub outcome: Outcome<'a>,
-    /// The range text, if `parse` decides of it, so that words of it may be ignored; else empty.
-    pub lenient: &'a str,
 }
 
 /// What is found for a dependency.
@@ -56,8 +54,7 @@ pub enum Outcome<'a> {
     Missing,
     /// The same of a dependency that may be absent.
     Absent,
-    /// It is skipped, since npm's loose reading may have bounds for a word of its range text that
-    /// is ignored here.
+    /// It is skipped, since npm may read another range in its text than is read here, or none.
     Unsure,
     /// It is skipped, since its range text is an address that is not compared.
     Address,
@@ -96,16 +93,9 @@ impl Outcome<'_> {
         self.kind() == Kind::Satisfied
     }
 
-    /// Whether the range text was read.
-    pub fn is_of_range(&self) -> bool {
-        matches!(
-            self,
-            Outcome::Satisfied
-                | Outcome::Rejected { .. }
-                | Outcome::NoVersion { .. }
-                | Outcome::Unversioned
-                | Outcome::Unsure
-        )
+    /// Whether the dependency is rejected.
+    pub fn is_rejected(&self) -> bool {
+        self.kind() == Kind::Rejected
     }
 
     // What is told of the dependency: before the version, if that is told too.
@@ -124,7 +114,7 @@ impl Outcome<'_> {
             Outcome::NoReference => "rejected: its override refers to nothing",
             Outcome::Missing => "missing",
             Outcome::Absent => "absent",
-            Outcome::Unsure => "skipped: npm reads a word that is ignored here",
+            Outcome::Unsure => "skipped: a range text that npm may read otherwise",
             Outcome::Address => "skipped: an address",
             Outcome::Link => "skipped: a link that may be a workspace",
             Outcome::OwnPeer => "skipped: a peer in its own folder",
@@ -156,11 +146,6 @@ impl Finding<'_> {
     /// Whether the finding has a line of its own.
     pub fn is_printed(&self) -> bool {
         !matches!(self.outcome.kind(), Kind::Satisfied | Kind::Absent)
-    }
-
-    /// The ignored words of the range text.
-    pub fn ignored(&self) -> IgnoredWords<'_> {
-        ignored_words(self.lenient)
     }
 }
 

@@ -18,10 +18,9 @@
 //! A lock file may come from anyone. What is printed of it stands on one line, in printable ASCII:
 //! all other characters, quotes and backslashes are escaped, as `\u{1b}`.
 //!
-//! Ranges and versions are read as npm's library node-semver reads them. Of a text that its
-//! readings here reject the lenient reading of `parse` decides, since npm reads a few of these.
-//! Each word that `parse` ignores is named with its place, which does not count as a finding: the
-//! first one of `>1000000000000000000000 ^1`.
+//! Ranges and versions are read as npm's library node-semver reads them. A text that it rejects is
+//! no range but a tag or an error, as to npm. A dependency is skipped if node-semver may find another
+//! range in its text than is found here, as in `>*1.2.3`.
 #![tactic(auto)]
 
 mod check;
@@ -106,24 +105,13 @@ fn packages(alloc: Global, mut file: Value) -> Result<Map<String, Value>> {
     Ok(nested::packages(alloc, nested)?)
 }
 
-// Prints what is malformed, and each finding that has a line, with the ignored words of its range
-// text.
+// Prints what is malformed, and each finding that has a line.
 fn print(output: &mut impl Write, findings: &Findings<'_>) -> io::Result<()> {
     for fault in findings.faults.iter() {
         writeln!(output, "{fault}")?;
     }
-    for finding in findings.of_dependencies.iter() {
-        print_one(output, finding)?;
-    }
-    Ok(())
-}
-
-fn print_one(output: &mut impl Write, finding: &Finding<'_>) -> io::Result<()> {
-    if finding.is_printed() {
+    for finding in findings.of_dependencies.iter().filter(|it| it.is_printed()) {
         writeln!(output, "{finding}")?;
-    }
-    for word in finding.ignored() {
-        writeln!(output, "{}, {word}", finding.dependency)?;
     }
     Ok(())
 }

@@ -4,8 +4,8 @@ ghost use Rattle.lock_check.specs.Replacements.{IsReplacement};
 
 use crate::fault::Fault;
 use crate::lock::{Dependency, Package, Wanted};
-use crate::reading::{range, strict_range};
-use crate::specifier::Specifier;
+use crate::reading::{NpmRange, range, strict_range};
+use crate::specifier::{Specifier, is_tag};
 use nodejs_semver::RangeRef;
 use serde_json::{Map, Value};
 use std::alloc::{AllocError, Global};
@@ -102,7 +102,8 @@ impl<'a> Rule<'a> {
     }
 
     // Whether the rule is about this dependency. Its range has to be one that has a version in
-    // common with that of the rule; a tag or an address may be any version.
+    // common with that of the rule; a tag or an address may be any version. A text that npm rejects
+    // or may read otherwise stays as it is, and is judged so.
     fn is_about(&self, alloc: Global, dependency: Dependency<'a>) -> Result<bool, AllocError> {
         if self.name != dependency.name {
             return Ok(false);
@@ -112,10 +113,11 @@ impl<'a> Rule<'a> {
         };
         match dependency.wanted.specifier() {
             Specifier::Range(text) | Specifier::Repository(Some(text)) => {
-                match range(alloc, text)? {
-                    Some(wanted) => Ok(wanted.allows_any(own)),
-                    None => Ok(true),
-                }
+                Ok(match range(alloc, text)? {
+                    NpmRange::Read(wanted) => wanted.allows_any(own),
+                    NpmRange::Rejected => is_tag(text),
+                    NpmRange::Unsure => false,
+                })
             }
             Specifier::Repository(None) | Specifier::Unsupported => Ok(false),
             Specifier::Folder(_) | Specifier::Packed(_) | Specifier::Page(_) => Ok(true),

@@ -2,19 +2,29 @@
 //
 // `npm ls` asks node-semver's loose reading. Versions are read so. Of ranges the strict reading
 // decides, which reads every range that a registry takes, and of a text that it rejects the loose
-// one. Of a text that both reject `parse` decides: npm reads a few of these, and ignores a word of
-// them as `parse` does.
+// one. A text that both reject is no range to npm. The loose reading here differs from
+// node-semver's for a few texts: what npm reads in a text that may be one of them is unknown.
 
-ghost use Rattle.lock_check.specs.Readings.{IsNoNpmRange, IsNotWanted, IsNpmRange};
-ghost use Rattle.lock_check.specs.Readings.{IsUnmarked, IsWanted};
+ghost use Rattle.lock_check.specs.Readings.{IsNpmRange, IsUnmarked, MayDiffer, has_great};
 ghost use Rattle.nodejs_semver.specs.Failures.{NoValue};
 ghost use Rattle.nodejs_semver.specs.Npm.Ranges.{HasAlternativesIn, IsRangeIn};
 ghost use Rattle.nodejs_semver.specs.Npm.VersionText.{IsLooseVersionText};
-ghost use Rattle.std.specs.Prelude.{◌≡◌, IfNone, IfOk, IfSome, false};
+ghost use Rattle.std.specs.Prelude.{◌≡◌, ◌↔◌, IfNone, IfOk, IfSome, IsTrue};
+ghost use Rattle.std.specs.Prelude.{false, true};
 
-use nodejs_semver::diagnosis::{IgnoredKind, ignored_words};
 use nodejs_semver::{Failure, MAX_SAFE_INTEGER, RangeRef, VersionRef, npm};
 use std::alloc::{AllocError, Global};
+
+/// What npm reads in a text in place of a range.
+#[derive(Drop)]
+pub enum NpmRange<'a> {
+    /// This range.
+    Read(RangeRef<'a>),
+    /// No range.
+    Rejected,
+    /// Unknown: it may be another range than the one that is read here, or none.
+    Unsure,
+}
 
 /// The range that node-semver's strict reading finds in a text, or `None` if it rejects the text.
 /// Fails only if allocation fails.
@@ -26,35 +36,47 @@ pub fn strict_range(alloc: Global, text: &str) -> Result<Option<RangeRef<'_>>, A
     Failure::refused_as_none(npm::range(alloc, text, false))
 }
 
-/// The range that node-semver's strict reading finds in a text, or else its loose reading; `None`
-/// if both reject the text. Fails only if allocation fails.
-pub fn npm_range(alloc: Global, text: &str) -> Result<Option<RangeRef<'_>>, AllocError>
-    ensures some { IfOk result (λ r. IfSome r (IsNpmRange MAX_SAFE_INTEGER text.now)) }
-    ensures none { IfOk result (λ r. IfNone r (IsNoNpmRange MAX_SAFE_INTEGER text.now)) }
+// The range that node-semver's loose reading finds in a text, as it is read here.
+fn loose_range(alloc: Global, text: &str) -> Result<Option<RangeRef<'_>>, AllocError>
+    ensures some { IfOk result (λ r. IfSome r (IsRangeIn true MAX_SAFE_INTEGER false text.now)) }
+    ensures none { IfOk result (λ r. IfNone r
+        (NoValue (HasAlternativesIn true MAX_SAFE_INTEGER false text.now))) }
 {
-    match strict_range(alloc, text)? {
-        Some(range) => Ok(Some(range)),
-        None => Failure::refused_as_none(npm::range_loose(alloc, text, false)),
+    Failure::refused_as_none(npm::range_loose(alloc, text, false))
+}
+
+/// What npm reads in a text in place of a range. Fails only if allocation fails.
+pub fn range(alloc: Global, text: &str) -> Result<NpmRange<'_>, AllocError>
+    ensures { IfOk result (IsNpmRange text.now) }
+{
+    if let Some(range) = strict_range(alloc, text)? {
+        return Ok(NpmRange::Read(range));
+    }
+    if may_differ(text) {
+        return Ok(NpmRange::Unsure);
+    }
+    match loose_range(alloc, text)? {
+        Some(range) => Ok(NpmRange::Read(range)),
+        None if has_great(text.as_bytes()) => Ok(NpmRange::Unsure),
+        None => Ok(NpmRange::Rejected),
     }
 }
 
-/// The range of a text, or `None` if the text is no range. Fails only if allocation fails.
-pub fn range(alloc: Global, text: &str) -> Result<Option<RangeRef<'_>>, AllocError>
-    ensures some { IfOk result (λ r. IfSome r (IsWanted MAX_SAFE_INTEGER text.now)) }
-    ensures none { IfOk result (λ r. IfNone r (IsNotWanted MAX_SAFE_INTEGER text.now)) }
+// Whether node-semver's loose reading may find another range than the one here: it passes over a
+// `*` in a word that is else a whole version, and counts more than 250 characters otherwise.
+fn may_differ(text: &str) -> bool
+    ensures { IsTrue result ↔ MayDiffer text.now }
 {
-    match npm_range(alloc, text)? {
-        Some(range) => Ok(Some(range)),
-        None => Failure::refused_as_none(RangeRef::parse(alloc, text)),
-    }
+    text.contains("*") || text.len() > 250
 }
 
-/// Whether npm may read the text in another way than `range`: neither reading of node-semver reads
-/// it here, and some word has a form that names no versions to `parse`. To npm it may name some, as
-/// `^*` does.
-pub fn is_unsure(alloc: Global, text: &str) -> Result<bool, AllocError> {
-    let is_bounded = ignored_words(text).all(|word| word.kind == IgnoredKind::Malformed);
-    Ok(!is_bounded && npm_range(alloc, text)?.is_none())
+// Whether node-semver's loose reading may find a range where the one here rejects the text: where a
+// number is 10^21 or more once it is counted up.
+fn has_great(text: &[u8]) -> bool
+    ensures { result ≡ has_great text.now }
+{
+    text.split(|byte| !byte.is_ascii_digit())
+        .any(|run| run.len() > 20)
 }
 
 /// The version that is locked by a text, as node-semver's loose reading finds it, or `None` if the

@@ -3,7 +3,7 @@
 ghost use Rattle.std.specs.Prelude.{IfOk};
 ghost use Rattle.lock_check.specs.Verdicts.{IsJudgement, IsVerdict};
 
-use crate::reading::{range, version};
+use crate::reading::{NpmRange, range, version};
 use nodejs_semver::{RangeRef, Version, VersionRef};
 use std::alloc::{AllocError, Global};
 
@@ -19,8 +19,10 @@ pub enum Verdict {
 /// What the text of a range says of the text of a version.
 #[derive(Drop)]
 pub enum Judgement {
-    /// The first text is no range.
+    /// The first text is no range to npm.
     NoRange,
+    /// The first text may be another range to npm than it is here, or none.
+    Unsure,
     /// The first text is a range, and the second one is no version.
     NoVersion,
     /// Both are read.
@@ -47,8 +49,10 @@ pub fn judge(
 pub fn judge_texts(alloc: Global, wanted: &str, locked: &str) -> Result<Judgement, AllocError>
     ensures { IfOk result (IsJudgement wanted.now locked.now) }
 {
-    let Some(range) = range(alloc, wanted)? else {
-        return Ok(Judgement::NoRange);
+    let range = match range(alloc, wanted)? {
+        NpmRange::Read(range) => range,
+        NpmRange::Rejected => return Ok(Judgement::NoRange),
+        NpmRange::Unsure => return Ok(Judgement::Unsure),
     };
     let Some(version) = version(locked) else {
         return Ok(Judgement::NoVersion);
