@@ -65,7 +65,11 @@ fn version(text: &str) -> Result<VersionRef<'_>, Failure<Trouble<'_>>>
     ensures ok { IfOk result (λ v. IsVersionText MAX_SAFE_INTEGER text.now v) }
     ensures refused { RefusedOnlyIf result (NoValue (IsVersionText MAX_SAFE_INTEGER text.now)) }
 {
-    match npm::version(text) {
+    let strict = Reading {
+        loose: false,
+        include_prerelease: false,
+    };
+    match npm::version(text, strict) {
         Ok(version) => Ok(version),
         Err(_) => Err(Failure::Refused(Trouble::NoVersion(text))),
     }
