@@ -26,7 +26,7 @@ pub use Rattle.nodejs_semver.specs.Npm.{Table.{made, major, minor, next_changed,
 pub use Rattle.nodejs_semver.specs.{Npm.VersionText.{IsStrictVersion, IsVersionText}, Text.WordText.at_least}
 pub use Rattle.nodejs_semver.specs.declared.npm.{alternatives.Alternative.Alternative, flaws.{Flaw.TheVariants.At, State.State}}
 pub use Rattle.nodejs_semver.specs.declared.npm.flaws.State.TheVariants.{Build, Dash, Digit, Number, Padded, Plus, PreRelease, Zero}
-pub use Rattle.{nodejs_semver.specs.declared.readers.syntax.Bounds.Bounds, semver_core.proofs.Text.Pieces.{digits_grow, runs_tail}}
+pub use Rattle.semver_core.{specs.declared.scan.pieces.bounds.Bounds.Bounds, proofs.Text.Pieces.{digits_grow, runs_tail}}
 pub use Rattle.semver_core.{proofs.Text.{Pieces.tail_runs, SpaceLaw.space_len-white}, specs.{Failures.NoValue, Internal.Reading.◌>>?◌}}
 pub use Rattle.semver_core.specs.{Internal.Successors.{upto_patch, zero_least}, Printing.{RoundTrip.is_within, Text.{id_text, marked_list}}}
 pub use Rattle.semver_core.specs.{Printing.Text.version_text, Text.Identifiers.goes_on, declared.TheConstants.MAX_LENGTH}

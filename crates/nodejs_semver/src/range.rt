@@ -20,13 +20,11 @@ mod print;
 use crate::Allocated;
 pub use crate::range::outside::{OutsideDirection, RangeError};
 use semver_core::cuts::{Interval, Point};
+pub(crate) use semver_core::scan::pieces::Intervals;
 use semver_core::{Version, VersionPoint, VersionRef};
 use smallvec::SmallVec;
 use std::alloc::{AllocError, Global};
 use std::marker::Model;
-
-// A list of intervals. One stands inline.
-pub(crate) type Intervals<V> = SmallVec<Interval<V>, 1>;
 
 /// A range: the versions of one or more intervals, which may own or borrow their versions. See
 /// [`Range`](crate::Range) and [`RangeRef`](crate::RangeRef).

@@ -1,7 +1,9 @@
 pub mod Common
 pub mod CutLaws
 pub mod Increments
+pub mod Dividing
 pub mod Printing
+pub mod Reading
 pub mod Rows
 pub mod Taking
 pub mod Text

@@ -10,3 +10,7 @@ pub mod Hashes
 pub mod Readable
 pub mod CommonReading
 pub mod Borrowed
+pub mod Fronts
+pub mod Parts
+pub mod Boundaries
+pub mod Views

@@ -4,3 +4,6 @@ pub mod Identifiers
 pub mod VersionText
 pub mod Parsing
 pub mod Common
+pub mod Bars
+pub mod Boundaries
+pub mod Comparators

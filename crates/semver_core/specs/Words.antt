@@ -17,23 +17,27 @@ pub use Rattle.std.specs.declared.cmp.Ordering.TheVariants.{Equal, Less}
 pub use Rattle.semver_core.specs.Clips.{clip}
 pub use Rattle.semver_core.specs.Cuts.{bound_eq, covers, cut_cmp, greater_lower, has_bound, holds, interval}
 pub use Rattle.semver_core.specs.Cuts.{is_interval, is_past, left_above, left_below, lesser_upper, lower_cut, meet}
-pub use Rattle.semver_core.specs.Cuts.{option_holds, passes, remainders, upper_cut}
+pub use Rattle.semver_core.specs.Cuts.{option_holds, passes, remainders, Span, upper_cut}
 pub use Rattle.semver_core.specs.Difference.{kind_between, kind_up, kind_word}
 pub use Rattle.semver_core.specs.Failures.{MemoryOnlyIf, NoValue, RefusedOnlyIf}
 pub use Rattle.semver_core.specs.Increments.Least.{IsLeastOrOverflow, IsLeastVersion, IsPlain}
 pub use Rattle.semver_core.specs.Increments.Table.{answer_of_inc, asked, has_numeric, is_kept, Overflow, raise_last}
 pub use Rattle.semver_core.specs.Increments.View.{fault_of, Returns}
 pub use Rattle.semver_core.specs.Internal.Borrowed.{HasText, id_ref_view}
+pub use Rattle.semver_core.specs.Internal.Boundaries.{is_boundary}
 pub use Rattle.semver_core.specs.Internal.CommonReading.{common_of, grown, number_of_run, run_from, small_len, whole_at}
+pub use Rattle.semver_core.specs.Internal.Fronts.{front_view}
 pub use Rattle.semver_core.specs.Internal.Hashes.{id_writes, version_writes}
 pub use Rattle.semver_core.specs.Internal.IncrementSteps.{begun, can_rise, FailsWith, list_text, MayAllocate}
 pub use Rattle.semver_core.specs.Internal.IncrementSteps.{parts_ref_value, RefusedWith, ReturnsParts, stepped, Steps}
 pub use Rattle.semver_core.specs.Internal.IncrementSteps.{Tracks}
 pub use Rattle.semver_core.specs.Internal.OrderLaws.{id_alike, id_total, numbers_cmp, precedence_total, version_alike}
+pub use Rattle.semver_core.specs.Internal.Parts.{parts}
 pub use Rattle.semver_core.specs.Internal.Reading.{digits_end, digits_from, IsListAdded, list_at, list_from, list_len, lists_at}
 pub use Rattle.semver_core.specs.Internal.Reading.{number_at, part_at, placed, qualified, triple_at}
 pub use Rattle.semver_core.specs.Internal.Sources.{ids_of, IsSource}
-pub use Rattle.semver_core.specs.Internal.Spaces.{drop_end_spaces}
+pub use Rattle.semver_core.specs.Internal.Spaces.{drop_end_spaces, drop_spaces, goes_on_with, is_space_of_three, is_space_of_two, space_len}
+pub use Rattle.semver_core.specs.Internal.Views.{bounds_view, pair_view, part_view, rest_view}
 pub use Rattle.semver_core.specs.Lists.{is_empty}
 pub use Rattle.semver_core.specs.Printing.RoundTrip.{is_readable}
 pub use Rattle.semver_core.specs.Printing.Text.{id_text, marked_list, version_text}
@@ -45,9 +49,10 @@ pub use Rattle.semver_core.specs.Text.Identifiers.{IsLongestIdentifiers, listed,
 pub use Rattle.semver_core.specs.Text.Numbers.{IsWholeNumber}
 pub use Rattle.semver_core.specs.Text.Parsing.{Parses}
 pub use Rattle.semver_core.specs.Text.VersionText.{Reads}
+pub use Rattle.semver_core.specs.Values.Memory.{takes_memory}
 pub use Rattle.semver_core.specs.Values.Order.{id_cmp, pre_cmp, precedence, version_eq}
 pub use Rattle.semver_core.specs.Values.Triples.{GivesRelease}
-pub use Rattle.semver_core.specs.Values.Versions.{HasIdentifiers, is_release, IsVersion, release_value, VersionValue}
+pub use Rattle.semver_core.specs.Values.Versions.{HasIdentifiers, is_release, IsVersion, lowest, release_value, VersionValue}
 pub use Rattle.semver_core.specs.Values.Views.{id_view, ids_view, lent_id_view}
 pub use Rattle.semver_core.specs.declared.error.Failure.TheVariants.{Memory, Refused}
 pub use Rattle.semver_core.specs.declared.increment.IdentifierBase.{IdentifierBase}

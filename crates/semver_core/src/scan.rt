@@ -14,6 +14,8 @@ ghost use Rattle.semver_core.specs.Words.{IsPieceAt, IsTrim, IsUtf8, IsWholeNumb
 ghost use Rattle.semver_core.specs.Words.{NoPieceAt, number_at, OnErr};
 ghost use Rattle.semver_core.specs.Words.{placed, prefix_len, run_from, take, true, utf8_valid_len};
 
+pub mod pieces;
+
 use crate::{Allocated, Identifier, MAX_SAFE_INTEGER};
 use std::alloc::{AllocError, Global};
 

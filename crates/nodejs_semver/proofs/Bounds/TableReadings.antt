@@ -2,7 +2,7 @@
 use Rattle.nodejs_semver.proofs.Common.{IfSome, List, Option, Some, Span, VersionValue, Word, arith, interval, is_interval, precedence}
 use Rattle.nodejs_semver.proofs.Common.{refl, sym, table, true, ℕ, ◌≡◌}
 use Rattle.nodejs_semver.specs.{Internal.CommonFronts.{part_read}, Internal.Readings.{bounds_view, table_view}}
-use Rattle.nodejs_semver.specs.declared.readers.syntax.Bounds.{Bounds}
+use Rattle.semver_core.specs.declared.scan.pieces.bounds.Bounds.{Bounds}
 use Rattle.nodejs_semver.proofs.Bounds.TableRows.{table-interval}
 
 kept : (s : Span VersionValue) → is_interval precedence s ≡ true → interval precedence s ≡ Some s

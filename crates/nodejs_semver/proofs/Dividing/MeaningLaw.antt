@@ -19,6 +19,7 @@ use Rattle.nodejs_semver.proofs.{Dividing.BarsDivide.{bars_divide, bars_once}, D
 use Rattle.nodejs_semver.proofs.{Reading.PartialLaw.{spaces-gone, spaces-le, word-shorter, words-step}, Reading.Bytes.{trim-starts}}
 use Rattle.nodejs_semver.proofs.Reading.WordLaw.{skips-is, skips-of, skips-utf8, trim-utf8, word-utf8, words_are}
 use Rattle.nodejs_semver.proofs.{Algebra.Accepting.{accepts-held}, Algebra.Holds.{denotes_hold}}
+pub use Rattle.semver_core.proofs.Dividing.BarsDivide.{pieces-utf8}
 
 -- ---- the words of a part
 
@@ -67,21 +68,6 @@ runs-once limit piece runs u h =
     grind (arith, nat_tests, middle_is_trim piece h.1.0 h.1.1, trim-starts piece h.1.0 h.1.1, words-once limit h.1.0 h.0 (trim-utf8 piece h.1.0 u h.1.1) (trim-starts piece h.1.0 h.1.1) h.1.2, trim-utf8 piece h.1.0 u h.1.1, runs_are (filter_map (table limit) h.0) runs h.2)
 
 -- ---- the pieces of a text are UTF-8
-
-utf8-bar : (piece t : List ℕ) → IsUtf8 (piece ++ 124 ∷ (124 ∷ t)) → IsUtf8 piece × IsUtf8 t
-utf8-bar piece t u =
-    let text = piece ++ 124 ∷ (124 ∷ t) in
-    let long : length piece < length text = omega (arith, length-append piece (124 ∷ (124 ∷ t))) in
-    let cut = IsCharBoundary-before_ascii text (length piece) long (omega (arith, get_or-append_seam piece 124 (124 ∷ t) 0)) in
-    let front : IsUtf8 piece = subst (λ (x : List ℕ). IsUtf8 x) (take_at piece (124 ∷ (124 ∷ t)) (length piece) refl) (IsUtf8-take text (length piece) u cut) in
-    let back : IsUtf8 (124 ∷ (124 ∷ t)) = subst (λ (x : List ℕ). IsUtf8 x) (drop_at piece (124 ∷ (124 ∷ t)) (length piece) refl) (IsUtf8-drop text (length piece) u cut) in
-    (front, IsUtf8-drop (124 ∷ (124 ∷ t)) 2 back (IsCharBoundary-after_ascii (124 ∷ (124 ∷ t)) 1 back (omega arith) (omega arith)))
-
-pub pieces-utf8 : (text : List ℕ) (pieces : List (List ℕ)) → IsCutAtBars text pieces → IsUtf8 text → AllByRecursion IsUtf8 pieces
-pieces-utf8 text pieces (one_piece piece h) u = (u, tt)
-pieces-utf8 text pieces (more_pieces piece rest others h ended cut) u =
-    let both = utf8-bar piece rest u in
-    (both.0, pieces-utf8 rest others cut both.1)
 
 -- ---- a piece is blank where nothing is left of it
 

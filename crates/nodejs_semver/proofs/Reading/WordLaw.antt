@@ -19,95 +19,19 @@ use Rattle.nodejs_semver.specs.Text.LongestText.{IsLongestPartial}
 use Rattle.nodejs_semver.specs.Text.WordText.{formed, hyphen_form, no_form, plain_form, tilde_form, tilde_greater_form}
 use Rattle.nodejs_semver.proofs.{Reading.Bytes.{solid-dark}, Reading.PartialLaw.{longest_are, spaced, spaces-gone}}
 use Rattle.nodejs_semver.proofs.Reading.Steps.{option-cases}
-
-pub from_boundary-stop : (text : List ℕ) → is_boundary text ≡ true → from_boundary text ≡ text
-unfolding from_boundary
-from_boundary-stop [] h = refl
-from_boundary-stop (b ∷ rest) h = rw (h, from_boundary) refl
-
-pub from_boundary-more : (text : List ℕ) (i : ℕ) → i < length text → is_boundary (drop i text) ≡ false
-    → from_boundary (drop i text) ≡ from_boundary (drop (i + 1) text)
-unfolding from_boundary
-from_boundary-more text i lt h = grind (arith, nat_tests, drop_more text i 0 lt)
-
-pub from_boundary-nil : from_boundary [] ≡ []
-unfolding from_boundary
-from_boundary-nil = refl
+pub use Rattle.semver_core.proofs.Reading.Boundaries.{blank-len, boundary-of, boundary-utf8, byte-is, first-is, first-of, from_boundary-more}
+pub use Rattle.semver_core.proofs.Reading.Boundaries.{from_boundary-nil, from_boundary-stop, skips-is, skips-of, skips-utf8, some_space-is}
+pub use Rattle.semver_core.proofs.Reading.Boundaries.{suffix-boundary, suffix-utf8, tail-utf8, trim-utf8}
 
 -- ---- UTF-8 behind a byte, and behind characters
 
-pub tail-utf8 : (b : ℕ) (text : List ℕ) → b < 128 → IsUtf8 (b ∷ text) → IsUtf8 text
-tail-utf8 b text h u = IsUtf8-drop (b ∷ text) 1 u (IsCharBoundary-after_ascii (b ∷ text) 0 u (omega arith) (omega (arith, h)))
-
-past-all : (cs rest : List ℕ) → IsUtf8 (encode_utf8_all cs ++ rest) → IsUtf8 rest
-past-all [] rest u = u
-past-all (c ∷ cs) rest u =
-    let whole = append_assoc (encode_utf8 c) (encode_utf8_all cs) rest in
-    past-all cs rest (IsUtf8-past_char (encode_utf8_all (c ∷ cs) ++ rest) (encode_utf8_all cs ++ rest) c u whole)
-
-pub skips-utf8 : (text rest : List ℕ) → SkipsBlank text rest → IsUtf8 text → IsUtf8 rest
-skips-utf8 text rest h u =
-    past-all h.2.characters rest (subst (λ (t : List ℕ). IsUtf8 t) (h.1 ∙ ap (λ (t : List ℕ). t ++ rest) h.2.spelled) u)
-
 -- ---- boundaries
-
--- a place where whitespace is told by bytes is one between characters
-pub suffix-utf8 : (front rest : List ℕ) → IsUtf8 (front ++ rest) → 0 < space_len rest → IsUtf8 rest
-suffix-utf8 front [] u h = absurd (omega (arith, space_len-nil))
-suffix-utf8 front (b ∷ rest) u h =
-    let here = get_or-append_seam front b rest 0 in
-    let cut : IsCharBoundary (front ++ (b ∷ rest)) (length front) = grind (arith, length-append, space_len-inside) in
-    rw (drop_at front (b ∷ rest) (length front) refl) at (IsUtf8-drop (front ++ (b ∷ rest)) (length front) u cut)
-
-suffix-blank : (front rest : List ℕ) → IsUtf8 (front ++ rest) → 0 < space_len rest → BeginsBlank rest
-suffix-blank front rest u h = let v = suffix-utf8 front rest u h in first v.0 v.1.1
-  where
-    first : (cs : List ℕ) → encode_utf8_all cs ≡ rest → BeginsBlank rest
-    first [] e = absurd (omega (arith, h, ap space_len (sym e) ∙ space_len-nil))
-    first (c ∷ cs) e = grind (arith, space_len-dark)
-
-pub blank-len : (text : List ℕ) → BeginsBlank text → 0 < space_len text
-blank-len text h = omega (arith, ap space_len h.spelled ∙ space_len-white h.character h.rest h.passes, (len_utf8_bounds h.character).0)
-
-pub suffix-boundary : (front rest : List ℕ) → IsUtf8 (front ++ rest) → is_boundary rest ≡ true → IsBoundary rest
-unfolding is_boundary
-suffix-boundary front [] u h = inl refl
-suffix-boundary front (b ∷ rest) u h = inr (suffix-blank front (b ∷ rest) u (grind (arith, h, nat_tests)))
-
-pub boundary-utf8 : (front rest : List ℕ) → IsUtf8 (front ++ rest) → IsBoundary rest → IsUtf8 rest
-boundary-utf8 front rest u (inl empty) = rw empty IsUtf8-nil
-boundary-utf8 front rest u (inr blank) = suffix-utf8 front rest u (blank-len rest blank)
 
 rest-utf8 : (limit : ℕ) (text : List ℕ) (p : Partial) (rest : List ℕ) → IsUtf8 text → IsLongestPartial limit text p rest
     → IsBoundary rest → IsUtf8 rest
 rest-utf8 limit text p rest u h b = boundary-utf8 h.0 rest (subst (λ (t : List ℕ). IsUtf8 t) h.1.0 u) b
 
-pub boundary-of : (rest : List ℕ) → IsBoundary rest → is_boundary rest ≡ true
-unfolding is_boundary
-boundary-of rest h = grind (arith, blank-len)
-
 -- ---- whitespace
-
-pub skips-is : (text : List ℕ) → IsUtf8 text → SkipsBlank text (drop_spaces text)
-skips-is text u = grind (arith, nat_tests, spaces-gone 0 text, blank-len, spaced text u)
-
-pub skips-of : (text rest : List ℕ) → IsUtf8 text → SkipsBlank text rest → drop_spaces text ≡ rest
-skips-of text rest u h =
-    let v = skips-utf8 text rest h u in
-    let none : space_len rest ≡ 0 = grind (arith, h.3, suffix-blank [] rest v) in
-    ap drop_spaces h.1 ∙ (ap (λ (t : List ℕ). drop_spaces (t ++ rest)) h.2.spelled
-    ∙ (drop_spaces-blank h.2.characters rest h.2.each ∙ drop_spaces-none rest none))
-
-pub some_space-is : (front text rest : List ℕ) → IsUtf8 (front ++ text) → after_some_space text ≡ Some rest → IsUtf8 text
-    × BeginsBlank text × SkipsBlank text rest
-some_space-is front text rest u h =
-    let b = cond_some (nat_lt 0 (space_len text)) (drop_spaces text) rest h in
-    let some : 0 < space_len text = grind (arith, nat_tests, b.0) in
-    let v = suffix-utf8 front text u some in
-    (v, suffix-blank front text u some, subst (λ (t : List ℕ). SkipsBlank text t) b.1 (skips-is text v))
-
-pub byte-is : (c : ℕ) (text rest : List ℕ) → after_byte c text ≡ Some rest → text ≡ c ∷ rest
-byte-is c text rest h = grind arith
 
 -- ---- partials up to a boundary
 
@@ -311,33 +235,6 @@ form-of limit text w rest u (caret_form t p r h) =
 
 -- ---- the next boundary
 
-pub first-is : (front text : List ℕ) → IsUtf8 (front ++ text) → IsFirstBoundary text (from_boundary text)
-first-is front [] u = rw from_boundary-nil ([], refl, inl refl, λ x y e h. omega arith)
-first-is front (b ∷ text) u = elim (cases_Bool (is_boundary (b ∷ text))) [
-  | inl here ↦
-      let stop = suffix-boundary front (b ∷ text) u here in
-      rw (from_boundary-stop (b ∷ text) here)
-      ([], refl, stop, λ before after e h. omega arith)
-  | inr goes ↦
-      rw (from_boundary-more (b ∷ text) 0 (omega arith) goes)
-      (longer goes (first-is (front ++ (b ∷ [])) text (rw append_assoc u)))
-]
-  where
-    longer : is_boundary (b ∷ text) ≡ false → IsFirstBoundary text (from_boundary text) → IsFirstBoundary (b ∷ text) (from_boundary text)
-    longer goes f = (b ∷ f.0, ap (λ (t : List ℕ). b ∷ t) f.1, f.2, first)
-      where
-        first : (before after : List ℕ) → b ∷ text ≡ before ++ after → IsBoundary after → length (b ∷ f.0) ≤ length before
-        first [] after e h = cc (sym goes ∙ (ap (λ (t : List ℕ). is_boundary t) e ∙ boundary-of after h))
-        first (c ∷ before) after e h = let less = f.3 before after (ap (λ (t : List ℕ). drop 1 t) e) h in omega arith
-
-pub first-of : (text rest : List ℕ) → IsUtf8 text → IsFirstBoundary text rest → from_boundary text ≡ rest
-first-of text rest u h =
-    let f = first-is [] text u in
-    let one = f.3 h.0 rest h.1 h.2 in
-    let two = h.3 f.0 (from_boundary text) f.1 f.2 in
-    let same : length h.0 ≡ length f.0 = omega (arith, one, two) in
-    cc (drop_at f.0 (from_boundary text) (length f.0) refl, drop_at h.0 rest (length f.0) same, f.1, h.1)
-
 -- ---- the word
 
 word-is : (limit : ℕ) (text : List ℕ) → IsUtf8 text → IsWordAt limit text (word_at limit text).0 (word_at limit text).1
@@ -378,17 +275,6 @@ pub word-utf8 : (limit : ℕ) (text : List ℕ) (w : Word) (rest : List ℕ) →
 word-utf8 limit text w rest u (formed t v r h) = form-utf8 limit t v r u h
 word-utf8 limit text w rest u (no_form t r none h) =
     boundary-utf8 h.0 r (subst (λ (s : List ℕ). IsUtf8 s) h.1 u) h.2
-
--- what is trimmed is UTF-8
-pub trim-utf8 : (text middle : List ℕ) → IsUtf8 text → IsTrim text middle → IsUtf8 middle
-trim-utf8 text middle u h =
-    let front = encode_utf8_all h.characters in
-    let back = encode_utf8_all h.after in
-    let whole : text ≡ encode_utf8_all h.before ++ (front ++ back) =
-    h.divided ∙ (encodes-append h.before (h.characters ++ h.after) ∙ ap (λ (t : List ℕ). encode_utf8_all h.before ++ t) (encodes-append h.characters h.after)) in
-    let v = past-all h.before (front ++ back) (subst (λ (t : List ℕ). IsUtf8 t) whole u) in
-    let cut = IsCharBoundary-at_seam (front ++ back) front back refl (past-all h.characters back v) in
-    grind (arith, take_at, IsUtf8-take)
 
 pub words_are : (limit : ℕ) (text : List ℕ) (word : Word) (rest : List ℕ) → IsUtf8 text → (word_at limit text ≡ (word, rest)) ↔ IsWordAt limit text word rest
 words_are limit text word rest u = (λ h. rw h at (word-is limit text u), word-of limit text word rest u)

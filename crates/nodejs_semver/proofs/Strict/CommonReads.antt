@@ -18,7 +18,8 @@ use Rattle.nodejs_semver.{proofs.Strict.Zeros.strict-zeros, specs.Internal.{Comm
 use Rattle.nodejs_semver.specs.Internal.NpmFronts.{AreJoined, AreParts, IsLeft, IsPartAt, IsSignAt, IsTried, IsWordAt, is_word_byte}
 use Rattle.nodejs_semver.specs.Internal.{NpmParts.{AreZeros, is_padded}, NpmReadings.dotted_number, NpmReads.AreFound, NpmWords.{any, is_over}}
 use Rattle.nodejs_semver.specs.{Internal.NpmWords.{number, partial_front, placed}, Npm.Table.{Partial, Sign, first, major, minor, table, whole}}
-use Rattle.nodejs_semver.specs.{Npm.Table.{wildcard, written_zeros, zeros}, Text.Common.IsGap, declared.readers.syntax.Bounds.Bounds}
+use Rattle.nodejs_semver.specs.{Npm.Table.{wildcard, written_zeros, zeros}, Text.Common.IsGap}
+use Rattle.semver_core.specs.declared.scan.pieces.bounds.Bounds.{Bounds}
 use Rattle.semver_core.specs.Text.Characters.{BeginsBlank}
 use Rattle.nodejs_semver.specs.Internal.NpmFronts as Fronts
 use Rattle.nodejs_semver.specs.Npm.RangeText as Npm

@@ -12,6 +12,8 @@ use Rattle.semver_core.specs.Internal.Reading.{◌>>?◌}
 use Rattle.nodejs_semver.specs.Text.Table.{table}
 use Rattle.nodejs_semver.specs.Text.WordText.{Word, caret, compare, hyphen, plain, tilde}
 use Rattle.nodejs_semver.specs.Internal.Words.{comparator_at, tilde_sign}
+pub use Rattle.semver_core.specs.Internal.Parts.{after_gap}
+unfoldable pub use Rattle.semver_core.specs.Internal.Parts.{after_bars}
 
 -- the partial at the front; neither `v` nor whitespace is skipped
 unfoldable pub bare_front : ℕ → List ℕ → Front Partial
@@ -93,15 +95,6 @@ part_front limit (b ∷ rest) =
 abbrev pub passed : List (Span VersionValue) → Front (Span VersionValue) → Option (List ℕ) × List (Span VersionValue)
 passed list None = (None, list)
 passed list (Some p) = (Some p.1, list ++ p.0 ∷ [])
-
--- what follows one space or none
-abbrev pub after_gap : List ℕ → List ℕ
-after_gap text = if begins_byte 32 text then drop 1 text else text
-
--- what follows `||`, with one space or none on each side
-unfoldable pub after_bars : List ℕ → Option (List ℕ)
-after_bars text =
-    after_byte 124 (after_gap text) >>? λ one. after_byte 124 one >>? λ two. Some (after_gap two)
 
 abbrev pub onto : Span VersionValue → List (Span VersionValue) → List (Span VersionValue)
 onto s list = s ∷ list

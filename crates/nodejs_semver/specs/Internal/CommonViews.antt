@@ -7,7 +7,7 @@ use Rattle.semver_core.specs.Values.Versions.{VersionValue}
 use Rattle.nodejs_semver.specs.Internal.CommonFronts.{part_read}
 use Rattle.nodejs_semver.specs.Internal.Fronts.{Front}
 use Rattle.nodejs_semver.specs.Internal.Readings.{bounds_view, rest_view}
-use Rattle.nodejs_semver.specs.declared.readers.syntax.Bounds.{Bounds}
+use Rattle.semver_core.specs.declared.scan.pieces.bounds.Bounds.{Bounds}
 
 -- the interval of the bounds, where they make one, and what follows the word
 abbrev pub bounds_front_view : Option (Bounds × Bor (List ℕ)) → Front (Span VersionValue)

@@ -13,7 +13,7 @@ use Rattle.nodejs_semver.specs.Npm.Ranges.{is_valid, names, satisfies}
 use Rattle.nodejs_semver.specs.Npm.Table.{Comparison, Partial, counts, major, minor}
 use Rattle.nodejs_semver.specs.Ranges.Gate.{lets_in}
 use Rattle.nodejs_semver.specs.Ranges.View.{is_range_bound}
-use Rattle.nodejs_semver.specs.declared.readers.syntax.Bounds.{Bounds}
+use Rattle.semver_core.specs.declared.scan.pieces.bounds.Bounds.{Bounds}
 
 -- the comparators that count
 abbrev pub counted : Bool → List Comparison → List Comparison

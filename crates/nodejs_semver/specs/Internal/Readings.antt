@@ -10,12 +10,13 @@ use Rattle.nodejs_semver.specs.Text.WordText as WordSpec
 use Rattle.nodejs_semver.specs.Internal.Words as SignSpec
 use Rattle.nodejs_semver.specs.Internal.Words.{unsigned, compared, tilded, careted}
 use Rattle.nodejs_semver.specs.Text.WordText.{at_least, above, equal, at_most, below}
-use Rattle.nodejs_semver.specs.declared.readers.syntax.Bounds.{Bounds}
+use Rattle.semver_core.specs.declared.scan.pieces.bounds.Bounds.{Bounds}
 use Rattle.nodejs_semver.specs.declared.readers.syntax.Partial.{Partial}
-use Rattle.nodejs_semver.specs.declared.readers.syntax.Comparator.{Comparator}
-use Rattle.nodejs_semver.specs.declared.readers.syntax.Comparator.TheVariants.{AtLeast, Above, Equal, AtMost, Below}
+use Rattle.semver_core.specs.declared.scan.pieces.bounds.Comparator.{Comparator}
+use Rattle.semver_core.specs.declared.scan.pieces.bounds.Comparator.TheVariants.{AtLeast, Above, Equal, AtMost, Below}
 use Rattle.nodejs_semver.specs.declared.readers.syntax.Sign.{Sign}
 use Rattle.nodejs_semver.specs.declared.readers.syntax.Sign.TheVariants as Signs
+pub use Rattle.semver_core.specs.Internal.Views.{bounds_view, comparator_view, pair_view, part_view, rest_view}
 
 abbrev pub partial_view : Partial → Spec.Partial
 partial_view p =
@@ -28,22 +29,8 @@ partial_front_view (Some p) = Some (partial_view p.0, p.1.now)
 abbrev pub partial_pair_view : Partial × Bor (List ℕ) → Spec.Partial × List ℕ
 partial_pair_view p = (partial_view p.0, p.1.now)
 
-abbrev pub pair_view : Bor (List ℕ) × Bor (List ℕ) → List ℕ × List ℕ
-pair_view p = (p.0.now, p.1.now)
-
 abbrev pub greater_view : Bool × Bor (List ℕ) → Bool × List ℕ
 greater_view p = (p.0, p.1.now)
-
-abbrev pub rest_view : Option (Bor (List ℕ)) → Option (List ℕ)
-rest_view None = None
-rest_view (Some t) = Some t.now
-
-abbrev pub comparator_view : Comparator → WordSpec.Comparator
-comparator_view AtLeast = at_least
-comparator_view Above = above
-comparator_view Equal = equal
-comparator_view AtMost = at_most
-comparator_view Below = below
 
 abbrev pub comparator_front_view : Option (Comparator × Bor (List ℕ)) → Front WordSpec.Comparator
 comparator_front_view None = None
@@ -58,15 +45,9 @@ sign_view Signs.Caret = careted
 abbrev pub sign_pair_view : Sign × Bor (List ℕ) → SignSpec.Sign × List ℕ
 sign_pair_view p = (sign_view p.0, p.1.now)
 
-abbrev pub bounds_view : Bounds → Span VersionValue
-bounds_view b = record { lower = b.lower; upper = b.upper }
-
 abbrev pub table_view : Option Bounds → Option (Span VersionValue)
 table_view None = None
 table_view (Some b) = Some (bounds_view b)
-
-abbrev pub part_view : Bor (List ℕ) × Option (Bor (List ℕ)) → List ℕ × Option (List ℕ)
-part_view p = (p.0.now, rest_view p.1)
 
 -- an interval that may be absent, and the text behind it
 abbrev pub next_view : Option (Span VersionValue) → Bor (List ℕ) → Option (Span VersionValue) × List ℕ

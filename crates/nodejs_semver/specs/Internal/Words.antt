@@ -8,23 +8,17 @@ use Rattle.nodejs_semver.specs.Text.PartialText.{Partial}
 use Rattle.nodejs_semver.specs.Internal.Fronts.{Front, after_byte, partial_front}
 use Rattle.semver_core.specs.Internal.Reading.{◌>>?◌}
 use Rattle.nodejs_semver.specs.Text.WordText.{Comparator, at_least, above, equal, at_most, below, Word, hyphen, plain, compare, tilde, caret, malformed}
+pub use Rattle.semver_core.specs.Internal.Boundaries.{after_some_space}
+unfoldable pub use Rattle.semver_core.specs.Internal.Boundaries.{from_boundary, is_boundary}
 
 -- the first result of two
 abbrev pub or_else : {A : Type 0} → Option A → Option A → Option A
 or_else (Some x) o = Some x
 or_else None o = o
 
--- the end of a part, or whitespace
-unfoldable pub is_boundary : List ℕ → Bool
-is_boundary text = is_empty text || nat_lt 0 (space_len text)
-
 -- a word that was read and what follows it
 abbrev pub Reading : Type 0
 Reading = Option (Word × List ℕ)
-
--- what follows one whitespace character or more
-abbrev pub after_some_space : List ℕ → Option (List ℕ)
-after_some_space text = if nat_lt 0 (space_len text) then Some (drop_spaces text) else None
 
 -- the text, where it begins at a boundary
 abbrev pub at_boundary : Word → List ℕ → Reading
@@ -99,11 +93,6 @@ word_behind limit sign p rest =
 -- the word behind a sign
 abbrev pub behind_sign : ℕ → Sign × List ℕ → Reading
 behind_sign limit s = partial_front limit s.1 >>? λ p. word_behind limit s.0 p.0 p.1
-
--- what stands from the first boundary on
-unfoldable pub from_boundary : List ℕ → List ℕ
-from_boundary [] = []
-from_boundary (b ∷ rest) = elim (is_boundary (b ∷ rest)) [ true ↦ b ∷ rest | false ↦ from_boundary rest ]
 
 abbrev pub or_malformed : Reading → List ℕ → Word × List ℕ
 or_malformed (Some r) text = r

@@ -12,6 +12,7 @@ use Rattle.nodejs_semver.specs.Text.PartialText.{Partial}
 use Rattle.nodejs_semver.specs.Text.WordText.{at_least, above, equal, at_most, below, Word, hyphen, plain}
 use Rattle.nodejs_semver.specs.Text.WordText.{compare}
 use Rattle.nodejs_semver.specs.Text.WordText.{tilde, caret, malformed}
+pub use Rattle.semver_core.specs.Values.Versions.{lowest}
 
 -- the versions that one comparator lets in, and those that two do
 abbrev pub >= : VersionValue → Span VersionValue
@@ -29,10 +30,6 @@ abbrev pub <= : VersionValue → Span VersionValue
 infix 5 ◌&◌
 abbrev pub ◌&◌ : Span VersionValue → Span VersionValue → Span VersionValue
 s & t = record { lower = s.lower; upper = t.upper }
-
--- `M.m.p-0`, the least of the versions with these three numbers
-abbrev pub lowest : ℕ → ℕ → ℕ → VersionValue
-lowest M m p = record (release_value M m p) { pre_release = Numeric 0 ∷ [] }
 
 abbrev pub without_build : VersionValue → VersionValue
 without_build v = record v { build = [] }

@@ -3,10 +3,8 @@ use Rattle.std.specs.Prelude.{◌≡◌, ◌⊎◌, ◌≤◌, ℕ, Bool, true, 
 use Rattle.semver_core.specs.Text.Characters.{BeginsBlank, IsBlank}
 use Rattle.nodejs_semver.specs.Text.LongestText.{IsLongestPartial}
 use Rattle.nodejs_semver.specs.Text.PartialText.{Partial}
-
--- the comparators `>=`, `>`, `=`, `<=` and `<`
-pub data Comparator : Type 0 where
-  at_least above equal at_most below : Comparator
+pub use Rattle.semver_core.specs.Text.Boundaries.{IsBoundary, IsFirstBoundary, SkipsBlank}
+pub use Rattle.semver_core.specs.Text.Comparators.{Comparator, above, at_least, at_most, below, equal}
 
 -- the forms of words. Of a tilde it is said whether `>` stands behind it.
 pub data Word : Type 0 where
@@ -15,14 +13,6 @@ pub data Word : Type 0 where
   compare : Comparator → Partial → Word
   tilde : Bool → Partial → Word
   malformed : Word
-
--- a boundary is the end or whitespace
-abbrev pub IsBoundary : List ℕ → Type 0
-IsBoundary text = (text ≡ []) ⊎ BeginsBlank text
-
--- whitespace or none, and then a text that does not begin with whitespace
-abbrev pub SkipsBlank : List ℕ → List ℕ → Type 0
-SkipsBlank text rest = (blank : List ℕ) × (text ≡ blank ++ rest) × IsBlank blank × (BeginsBlank rest → ⊥)
 
 -- a comparator as it is written
 pub data IsSign : Comparator → List ℕ → Type 0 where
@@ -61,11 +51,6 @@ pub data IsForm (limit : ℕ) : List ℕ → Word → List ℕ → Type 0 where
       → IsBehind limit x p rest → IsForm limit (codes "~" ++ text) (tilde true p) rest
   caret_form : (text : List ℕ) (p : Partial) (rest : List ℕ) → IsBehind limit text p rest
       → IsForm limit (codes "^" ++ text) (caret p) rest
-
--- the rest begins at the first boundary of the text
-abbrev pub IsFirstBoundary : List ℕ → List ℕ → Type 0
-IsFirstBoundary text rest = (passed : List ℕ) × (text ≡ passed ++ rest) × IsBoundary rest
-    × ((x y : List ℕ) → text ≡ x ++ y → IsBoundary y → length passed ≤ length x)
 
 -- a word at the front of a text and what follows it: one of the forms, or, where none stands there, what goes
 -- to the next boundary

@@ -1,11 +1,12 @@
 // Borrowed ranges with versions of their own.
 
 ghost use Rattle.std.specs.Prelude.{◌<◌, ◌≡◌, ◌≢◌, ◌⊎◌, IfOk, IsSomeAnd, length, OnErr, true};
-ghost use Rattle.nodejs_semver.specs.Words.{has_bound, list_any, passes, takes_memory, TakesMemory};
+ghost use Rattle.nodejs_semver.specs.Words.{has_bound, list_any, takes_memory, TakesMemory};
 
 use crate::range::Intervals;
 use crate::{Allocated, Range, RangeOf, RangeRef};
-use semver_core::cuts::{Bound, Interval};
+use semver_core::cuts::Interval;
+use semver_core::scan::pieces::owned_interval;
 use semver_core::{Version, VersionRef};
 use smallvec::SmallVec;
 use std::alloc::{AllocError, Global};
@@ -34,34 +35,6 @@ pub(crate) fn owned_range(alloc: Global, range: Option<RangeRef<'_>>) -> Allocat
         Some(range) => range.to_range(alloc).map(Some),
         None => Ok(None),
     }
-}
-
-// The bound with a version of its own.
-#[inline(always)]
-#[tactic(auto, using(semver_core::proofs::Taking::taking))]
-fn owned_bound(alloc: Global, bound: &Bound<VersionRef<'_>>) -> Allocated<Bound<Version>>
-    ensures whole { IfOk result (λ b. b ≡ bound.now) }
-    ensures memory { OnErr result (passes takes_memory bound.now ≡ true) }
-{
-    Ok(match bound {
-        Bound::Unbounded => Bound::Unbounded,
-        Bound::Before(version) => Bound::Before(version.to_version(alloc)?),
-        Bound::After(version) => Bound::After(version.to_version(alloc)?),
-    })
-}
-
-/// The interval with versions of its own.
-#[inline(always)]
-pub(crate) fn owned_interval(
-    alloc: Global,
-    interval: &Interval<VersionRef<'_>>,
-) -> Allocated<Interval<Version>>
-    ensures whole { IfOk result (λ i. i ≡ interval.now) }
-    ensures memory { OnErr result (has_bound takes_memory interval.now ≡ true) }
-{
-    let lower = owned_bound(alloc, interval.lower())?;
-    let upper = owned_bound(alloc, interval.upper())?;
-    Ok(Interval::of_ordered(lower, upper))
 }
 
 /// The intervals with versions of their own. Mostly there is one.

@@ -6,16 +6,16 @@ ghost use Rattle.nodejs_semver.specs.Words.{AreCommonParts, bounds_front_view, b
 ghost use Rattle.nodejs_semver.specs.Words.{has_bars, hyphen, is_interval, IsCommonRange, table};
 ghost use Rattle.nodejs_semver.specs.Words.{IsFalse, IsTrue, length, List, MAX_SAFE_INTEGER, Means};
 ghost use Rattle.nodejs_semver.specs.Words.{None, NoValue, OnErr, partial_front_view, partial_view};
-ghost use Rattle.nodejs_semver.specs.Words.{passed_view, precedence, rest_view, Some, Span};
+ghost use Rattle.nodejs_semver.specs.Words.{passed_view, precedence, Some, Span};
 ghost use Rattle.nodejs_semver.specs.Words.{table_view, TakesMemory, true, VersionValue};
 
 use crate::range::owned::owned_range;
-use crate::readers::found::Found;
 use crate::readers::intervals::{between, ordered};
-use crate::readers::syntax::{Bounds, Partial};
+use crate::readers::syntax::Partial;
 use crate::readers::{partial, table, words};
 use crate::{Allocated, Range, RangeRef};
 use semver_core::cuts::{Bound, Interval};
+use semver_core::scan::pieces::{Bounds, Found, after_bars};
 use semver_core::{MAX_SAFE_INTEGER, VersionRef};
 use smallvec::SmallVec;
 use std::alloc::{AllocError, Global};
@@ -226,29 +226,6 @@ fn push_part<'a, S: Found<'a>>(text: &'a [u8], found: &mut S) -> Allocated<Optio
         [b'~', rest @ ..] => push_tilde(rest, found),
         [b'^', rest @ ..] => push_caret(rest, found),
         _ => push_partials(text, found),
-    }
-}
-
-// What follows one space or none.
-#[inline(always)]
-fn after_gap(text: &[u8]) -> &[u8]
-    ensures { result.now ≡ Spec.after_gap text.now }
-{
-    match text {
-        [b' ', rest @ ..] => rest,
-        _ => text,
-    }
-}
-
-/// What follows `||`, with one space or none on each side.
-#[inline(always)]
-#[tactic(auto, unfolding(crate::specs::Internal::CommonFronts::after_bars))]
-pub(crate) fn after_bars(text: &[u8]) -> Option<&[u8]>
-    ensures { rest_view result ≡ Spec.after_bars text.now }
-{
-    match after_gap(text) {
-        [b'|', b'|', rest @ ..] => Some(after_gap(rest)),
-        _ => None,
     }
 }
 

@@ -9,12 +9,13 @@ ghost use Rattle.nodejs_semver.specs.Words.{Span, table, true, VersionValue, wor
 
 use crate::Allocated;
 use crate::diagnosis::IgnoredKind;
-use crate::range::Intervals;
-use crate::readers::found::Found;
-use crate::readers::syntax::{Bounds, Partial, Sign};
-use crate::readers::{partial, spaces, table, words};
+use crate::readers::syntax::{Partial, Sign};
+use crate::readers::{partial, table, words};
 use semver_core::VersionRef;
 use semver_core::cuts::Interval;
+use semver_core::scan::pieces::{
+    Bounds, Found, Intervals, is_boundary, skip_spaces, skip_to_boundary,
+};
 
 /// The interval of two bounds, where the lower cut is below the upper one.
 pub(crate) fn between(bounds: Bounds<'_>) -> Option<Interval<VersionRef<'_>>>
@@ -52,14 +53,14 @@ pub(crate) fn word_front(text: &[u8]) -> (Result<Interval<VersionRef<'_>>, Ignor
 {
     let (sign, rest) = words::sign_front(text);
     let Some((partial, rest)) = partial::partial_front(rest) else {
-        return (Err(IgnoredKind::Malformed), words::skip_to_boundary(text));
+        return (Err(IgnoredKind::Malformed), skip_to_boundary(text));
     };
     if let Some((upper, rest)) = words::upper_of(sign, rest) {
         let interval = between(table::hyphen(&partial, &upper));
         return (interval.ok_or(IgnoredKind::WithoutBounds), rest);
     }
-    if !words::is_boundary(rest) {
-        return (Err(IgnoredKind::Malformed), words::skip_to_boundary(text));
+    if !is_boundary(rest) {
+        return (Err(IgnoredKind::Malformed), skip_to_boundary(text));
     }
     (
         signed(sign, &partial).ok_or(IgnoredKind::WithoutBounds),
@@ -74,7 +75,7 @@ fn next_interval(text: &[u8]) -> (Option<Interval<VersionRef<'_>>>, &[u8])
     ensures { next_view result.0 result.1 ≡ next_at MAX_SAFE_INTEGER text.now }
 {
     let (word, rest) = word_front(text);
-    (word.ok(), spaces::skip_spaces(rest))
+    (word.ok(), skip_spaces(rest))
 }
 
 // The running interval with one more: the intersection of both, or the next one alone, and then the

@@ -6,12 +6,11 @@ ghost use Rattle.nodejs_semver.specs.Words.{IsBlankText, IsTrue, later_parts, le
 ghost use Rattle.nodejs_semver.specs.Words.{list_all, Means, OnErr, OnOk, part_denotes, rest_view};
 ghost use Rattle.nodejs_semver.specs.Words.{space_len, Span, TakesMemory, VersionValue};
 
-use crate::range::Intervals;
 use crate::range::owned::owned_range;
-use crate::readers::found::Found;
-use crate::readers::{bars, intervals};
+use crate::readers::intervals;
 use crate::{Allocated, Range, RangeRef};
 use semver_core::cuts::Interval;
+use semver_core::scan::pieces::{Found, Intervals, next_part};
 use semver_core::{MAX_SAFE_INTEGER, VersionRef};
 use smallvec::SmallVec;
 use std::alloc::{AllocError, Global};
@@ -31,7 +30,7 @@ fn are_blank(text: Option<&str>) -> bool
 {
     let mut rest = text;
     'parts: while let Some(text) = rest {
-        let (part, after) = bars::next_part(text);
+        let (part, after) = next_part(text);
         if !part.is_empty() {
             return false;
         }
@@ -72,7 +71,7 @@ fn add_parts<'a>(
     add_part(first, found)?;
     let mut rest = behind;
     'parts: while let Some(text) = rest {
-        let (part, after) = bars::next_part(text);
+        let (part, after) = next_part(text);
         add_part(part, found)?;
         rest = after;
     }
@@ -88,7 +87,7 @@ pub(crate) fn read_any<'a>(text: &'a str, found: &mut Intervals<VersionRef<'a>>)
     ensures memory { OnErr result (1 < length (denotes MAX_SAFE_INTEGER text.now)) }
 {
     found.clear();
-    let (part, rest) = bars::next_part(text);
+    let (part, rest) = next_part(text);
     if part.is_empty() && are_blank(rest) {
         return found.add(Interval::default());
     }
@@ -113,7 +112,7 @@ pub fn range_loose(alloc: Global, text: &str) -> Result<Option<Range>, AllocErro
         Means MAX_SAFE_INTEGER text.now r → TakesMemory r) }
 {
     let mut found = SmallVec::new(alloc);
-    let (part, rest) = bars::next_part(text);
+    let (part, rest) = next_part(text);
     add_parts(part, rest, &mut found)?;
     owned_range(alloc, RangeRef::from_intervals(found))
 }

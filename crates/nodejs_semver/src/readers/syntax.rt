@@ -4,8 +4,7 @@ ghost use Rattle.std.specs.{Option.ForSome, Prelude.{true, ◌≡◌, ◌≤◌}
 ghost use Rattle.semver_core.specs.Text.Identifiers.{is_listed};
 ghost use Rattle.semver_core.specs.declared.TheConstants.{MAX_SAFE_INTEGER};
 
-use semver_core::VersionRef;
-use semver_core::cuts::Bound;
+use semver_core::scan::pieces::Comparator;
 
 /// A partial as it was read. A component is None where it is absent or a wildcard; the identifiers
 /// stand as their text, joined by dots.
@@ -23,15 +22,6 @@ pub(crate) struct Partial<'a> {
     ghost build_listed: { is_listed build.now ≡ true },
 }
 
-#[derive(Clone, Copy)]
-pub(crate) enum Comparator {
-    AtLeast,
-    Above,
-    Equal,
-    AtMost,
-    Below,
-}
-
 /// What stands before the partial of a word.
 #[derive(Clone, Copy)]
 pub(crate) enum Sign {
@@ -40,11 +30,4 @@ pub(crate) enum Sign {
     /// A tilde. It is `true` where `>` stands behind it.
     Tilde(bool),
     Caret,
-}
-
-/// The two bounds that the table gives a word.
-#[derive(Drop)]
-pub(crate) struct Bounds<'a> {
-    pub(crate) lower: Bound<VersionRef<'a>>,
-    pub(crate) upper: Bound<VersionRef<'a>>,
 }

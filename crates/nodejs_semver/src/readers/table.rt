@@ -7,27 +7,9 @@ ghost use Rattle.nodejs_semver.specs.Words.{bounds_view, partial_view, precedenc
 ghost use Rattle.nodejs_semver.specs.Words.{comparator_view, MAX_SAFE_INTEGER, release_value, Some};
 ghost use Rattle.nodejs_semver.specs.Words.{interval, sign_view, table, table_view};
 
-use crate::readers::syntax::{Bounds, Comparator, Partial, Sign};
-use semver_core::cuts::Bound;
+use crate::readers::syntax::{Partial, Sign};
+use semver_core::scan::pieces::{Bounds, Comparator, lowest, release};
 use semver_core::{MAX_SAFE_INTEGER, VersionRef};
-
-// `major.minor.patch`
-#[inline(always)]
-#[tactic(auto, using(crate::proofs::Reading::IdentifierLists::short_lists))]
-pub(crate) fn release(major: u64, minor: u64, patch: u64) -> VersionRef<'static>
-    ensures { result ≡ release_value major minor patch }
-{
-    VersionRef::from_texts(major, minor, patch, b"", b"")
-}
-
-// `major.minor.patch-0`
-#[inline(always)]
-#[tactic(auto, using(crate::proofs::Reading::IdentifierLists::short_lists))]
-pub(crate) fn lowest(major: u64, minor: u64, patch: u64) -> VersionRef<'static>
-    ensures { result ≡ Spec.lowest major minor patch }
-{
-    VersionRef::from_texts(major, minor, patch, b"0", b"")
-}
 
 // The version of a partial, with 0 for what is absent or a wildcard.
 #[inline(always)]
@@ -56,104 +38,6 @@ fn version_without_build<'a>(partial: &Partial<'a>) -> VersionRef<'a>
         partial.pre_release,
         b"",
     )
-}
-
-impl<'a> Bounds<'a> {
-    // `>=version`
-    #[inline(always)]
-    pub(crate) fn at_least(version: VersionRef<'a>) -> Bounds<'a>
-        ensures { bounds_view result
-            ≡ record { lower = Bound.Before version.entry; upper = Bound.Unbounded } }
-    {
-        Bounds {
-            lower: Bound::Before(version),
-            upper: Bound::Unbounded,
-        }
-    }
-
-    // `>version`
-    #[inline(always)]
-    pub(crate) fn above(version: VersionRef<'a>) -> Bounds<'a>
-        ensures { bounds_view result
-            ≡ record { lower = Bound.After version.entry; upper = Bound.Unbounded } }
-    {
-        Bounds {
-            lower: Bound::After(version),
-            upper: Bound::Unbounded,
-        }
-    }
-
-    // `<version`
-    #[inline(always)]
-    pub(crate) fn below(version: VersionRef<'a>) -> Bounds<'a>
-        ensures { bounds_view result
-            ≡ record { lower = Bound.Unbounded; upper = Bound.Before version.entry } }
-    {
-        Bounds {
-            lower: Bound::Unbounded,
-            upper: Bound::Before(version),
-        }
-    }
-
-    // `<=version`
-    #[inline(always)]
-    pub(crate) fn at_most(version: VersionRef<'a>) -> Bounds<'a>
-        ensures { bounds_view result
-            ≡ record { lower = Bound.Unbounded; upper = Bound.After version.entry } }
-    {
-        Bounds {
-            lower: Bound::Unbounded,
-            upper: Bound::After(version),
-        }
-    }
-
-    // `>=first <end`
-    #[inline(always)]
-    pub(crate) fn between(first: VersionRef<'a>, end: VersionRef<'a>) -> Bounds<'a>
-        ensures { bounds_view result
-            ≡ record { lower = Bound.Before first.entry; upper = Bound.Before end.entry } }
-    {
-        Bounds {
-            lower: Bound::Before(first),
-            upper: Bound::Before(end),
-        }
-    }
-
-    // `>=first <=last`
-    #[inline(always)]
-    pub(crate) fn through(first: VersionRef<'a>, last: VersionRef<'a>) -> Bounds<'a>
-        ensures { bounds_view result
-            ≡ record { lower = Bound.Before first.entry; upper = Bound.After last.entry } }
-    {
-        Bounds {
-            lower: Bound::Before(first),
-            upper: Bound::After(last),
-        }
-    }
-
-    // `>=major.0.0 <(major+1).0.0-0`
-    #[inline(always)]
-    fn whole_major(major: u64) -> Bounds<'a>
-        requires { major ≤ MAX_SAFE_INTEGER }
-        ensures { bounds_view result ≡ record {
-          lower = Bound.Before (release_value major 0 0);
-          upper = Bound.Before (Spec.lowest (major + 1) 0 0);
-        } }
-    {
-        Bounds::between(release(major, 0, 0), lowest(major + 1, 0, 0))
-    }
-
-    // `>=major.minor.0 <major.(minor+1).0-0`
-    #[inline(always)]
-    fn whole_minor(major: u64, minor: u64) -> Bounds<'a>
-        requires { minor ≤ MAX_SAFE_INTEGER }
-        ensures { bounds_view result ≡ record {
-          lower = Bound.Before (release_value major minor 0);
-          upper = Bound.Before (Spec.lowest major (minor + 1) 0);
-        } }
-    {
-        Bounds::between(release(major, minor, 0), lowest(major, minor + 1, 0))
-    }
 }
 
 // `>1.2.3`

@@ -2,34 +2,14 @@
 
 ghost use Rattle.nodejs_semver.specs.Internal.Words as Spec;
 ghost use Rattle.std.specs.Prelude.{◌≡◌};
-ghost use Rattle.nodejs_semver.specs.Words.{comparator_front_view, greater_view, is_boundary};
-ghost use Rattle.nodejs_semver.specs.Words.{MAX_SAFE_INTEGER, partial_front_view, rest_view};
+ghost use Rattle.nodejs_semver.specs.Words.{comparator_front_view, greater_view};
+ghost use Rattle.nodejs_semver.specs.Words.{MAX_SAFE_INTEGER, partial_front_view};
 ghost use Rattle.nodejs_semver.specs.Words.{sign_pair_view, sign_view, upper_of};
 
-use crate::readers::syntax::{Comparator, Partial, Sign};
-use crate::readers::{partial, spaces};
+use crate::readers::partial;
+use crate::readers::syntax::{Partial, Sign};
 use semver_core::MAX_SAFE_INTEGER;
-
-/// Whether a word may end here.
-#[inline(always)]
-#[tactic(auto, unfolding(crate::specs::Internal::Words::is_boundary))]
-pub(crate) fn is_boundary(text: &[u8]) -> bool
-    ensures { result ≡ is_boundary text.now }
-{
-    text.is_empty() || spaces::space_len(text) > 0
-}
-
-/// What follows one whitespace character or more.
-#[inline(always)]
-pub(crate) fn after_some_space(text: &[u8]) -> Option<&[u8]>
-    ensures { rest_view result ≡ Spec.after_some_space text.now }
-{
-    if spaces::space_len(text) > 0 {
-        Some(spaces::skip_spaces(text))
-    } else {
-        None
-    }
-}
+use semver_core::scan::pieces::{Comparator, after_some_space, is_boundary, skip_spaces};
 
 // The second partial of a hyphen word, and what follows it: behind whitespace, `-` and whitespace,
 // and up to a boundary.
@@ -95,25 +75,13 @@ pub(crate) fn sign_front(text: &[u8]) -> (Sign, &[u8])
 {
     match text {
         [b'~', rest @ ..] => {
-            let (greater, rest) = tilde_sign(spaces::skip_spaces(rest));
-            (Sign::Tilde(greater), spaces::skip_spaces(rest))
+            let (greater, rest) = tilde_sign(skip_spaces(rest));
+            (Sign::Tilde(greater), skip_spaces(rest))
         }
-        [b'^', rest @ ..] => (Sign::Caret, spaces::skip_spaces(rest)),
+        [b'^', rest @ ..] => (Sign::Caret, skip_spaces(rest)),
         _ => match comparator_front(text) {
-            Some((comparator, rest)) => (Sign::Comparator(comparator), spaces::skip_spaces(rest)),
+            Some((comparator, rest)) => (Sign::Comparator(comparator), skip_spaces(rest)),
             None => (Sign::Nothing, text),
         },
     }
-}
-
-/// What stands from the first boundary on.
-pub(crate) fn skip_to_boundary(text: &[u8]) -> &[u8]
-    ensures { result.now ≡ Spec.from_boundary text.now }
-{
-    'bytes: for at in 0..text.len() {
-        if is_boundary(&text[at..]) {
-            return &text[at..];
-        }
-    }
-    &text[text.len()..]
 }

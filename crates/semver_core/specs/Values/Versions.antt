@@ -1,5 +1,5 @@
 -- Statement: what a version is to its callers: three numbers and two lists of identifiers.
-use Rattle.std.specs.Prelude.{◌⊎◌, ◌<◌, ◌^◌, ℕ, Bool, List, [], All, IsUtf8, length}
+use Rattle.std.specs.Prelude.{◌⊎◌, ◌<◌, ◌^◌, ℕ, Bool, List, [], ◌∷◌, All, IsUtf8, length}
 use Rattle.semver_core.specs.Lists.{is_empty}
 use Rattle.semver_core.specs.Text.Identifiers.{Id, Numeric, AlphaNumeric}
 
@@ -34,3 +34,7 @@ HasIdentifiers v = (0 < length v.pre_release) ⊎ (0 < length v.build)
 -- `M.m.p` without a pre-release and without build metadata
 abbrev pub release_value : ℕ → ℕ → ℕ → VersionValue
 release_value M m p = record { major = M; minor = m; patch = p; pre_release = []; build = [] }
+
+-- `M.m.p-0`, the least of the versions with these three numbers
+abbrev pub lowest : ℕ → ℕ → ℕ → VersionValue
+lowest M m p = record (release_value M m p) { pre_release = Numeric 0 ∷ [] }

@@ -1,0 +1,89 @@
+-- Numbers: as a whole text, and at the front of one.
+use Rattle.semver_core.proofs.Reading.Steps.{option-cases}
+use Rattle.semver_core.specs.Internal.Fronts.{begins_wildcard, component_front, is_wildcard, number_front, number_of}
+use Rattle.semver_core.specs.Text.Characters.{IsPieceAt, NoPieceAt, begins}
+use Rattle.semver_core.specs.Text.Numbers.{IsNumber, IsWholeNumber}
+use Rattle.std.proofs.Common.{[], List, None, Some, arith, drop, false, inl, inr, length, not, refl, suc, true, ℕ, ◌++◌, ◌+◌, ◌∷◌, ◌≡◌, ◌≤◌}
+use Rattle.std.proofs.lemmas.Bool.Decides.{nat_tests}
+use Rattle.std.proofs.lemmas.Bool.{cases_Bool}
+use Rattle.std.proofs.lemmas.Grind.{common_steps}
+use Rattle.std.proofs.lemmas.List.{drop_at, take-append-drop, take_at}
+use Rattle.std.specs.Char.{is_ascii_digit}
+use Rattle.std.specs.List.{list_all, prefix_len}
+use Rattle.std.specs.Prelude.{◌↔◌}
+
+-- ---- a whole text
+
+pub number-is : (limit : ℕ) (text : List ℕ) (n : ℕ) → number_of limit text ≡ Some n → IsNumber limit text n
+unfolding number_of
+number-is limit text n h = grind arith
+
+pub number-of : (limit : ℕ) (text : List ℕ) (n : ℕ) → IsNumber limit text n → number_of limit text ≡ Some n
+unfolding number_of
+number-of limit text n h = grind arith
+
+pub numbers_are : (limit : ℕ) (text : List ℕ) (n : ℕ) → (number_of limit text ≡ Some n) ↔ IsNumber limit text n
+numbers_are limit text n = (number-is limit text n, number-of limit text n)
+
+-- ---- at the front
+
+pub digits-taken : (run more : List ℕ) → list_all is_ascii_digit run ≡ true → begins is_ascii_digit more ≡ false
+    → prefix_len is_ascii_digit (run ++ more) ≡ length run
+digits-taken [] more h k = grind arith
+digits-taken (b ∷ rest) more h k = grind (arith, digits-taken rest more)
+
+pub run-ends : (x : List ℕ) → begins is_ascii_digit (drop (prefix_len is_ascii_digit x) x) ≡ false
+run-ends [] = refl
+run-ends (b ∷ rest) = elim (cases_Bool (is_ascii_digit b)) [
+  | inl digit ↦ let e : 1 + prefix_len is_ascii_digit rest ≡ suc (prefix_len is_ascii_digit rest) = omega arith in rw (digit, e) (run-ends rest)
+  | inr other ↦ rw other other
+]
+
+-- a number is read that ends with its run of digits
+pub number-read : (limit : ℕ) (run more : List ℕ) (n : ℕ) → IsNumber limit run n → begins is_ascii_digit more ≡ false
+    → number_front limit (run ++ more) ≡ Some (n, more)
+number-read limit run more n h stop = grind (arith, digits-taken, take_at, drop_at, number-of)
+
+-- and what is read is such a one
+pub record NumberAt (limit : ℕ) (text : List ℕ) (n : ℕ) (rest : List ℕ) : Type 0 where
+  pub run : List ℕ
+  pub split : text ≡ run ++ rest
+  pub is : IsNumber limit run n
+  pub ended : begins is_ascii_digit rest ≡ false
+
+pub number-found : (limit : ℕ) (text : List ℕ) (n : ℕ) (rest : List ℕ) → number_front limit text ≡ Some (n, rest)
+    → NumberAt limit text n rest
+number-found limit text n rest h = grind (arith, take-append-drop, number-is, run-ends)
+
+-- ---- the number that the code finds
+
+pub front_some : (limit : ℕ) (text : List ℕ) (n end : ℕ) → IsPieceAt (λ digits rest. IsWholeNumber limit digits rest n) text 0 end
+    → number_front limit text ≡ Some (n, drop end text)
+front_some limit text n end s = grind (arith, nat_tests, common_steps, number-read)
+
+pub front_small : (limit : ℕ) (text : List ℕ) (n end : ℕ) → IsPieceAt (λ digits rest. IsWholeNumber limit digits rest n) text 0 end → n ≤ limit
+front_small limit text n end s = s.is.number.safe
+
+pub front_none : (limit : ℕ) (text : List ℕ) → ((n : ℕ) → NoPieceAt (λ digits rest. IsWholeNumber limit digits rest n) text 0) → number_front limit text ≡ None
+front_none limit text none = elim (option-cases (number_front limit text)) [
+  | inl not ↦ not
+  | inr x ↦
+      let f = number-found limit text x.0.0 x.0.1 x.1 in
+      absurd (none x.0.0 f.run x.0.1 f.split (record { number = f.is; ended = f.ended }))
+]
+
+-- ---- wildcards and numbers
+
+pub wildcard-no_digit : (b : ℕ) → is_wildcard b ≡ true → is_ascii_digit b ≡ false
+wildcard-no_digit b h = grind (arith, nat_tests)
+
+-- where a number begins, no wildcard does, so that a component may be looked for as a number first
+pub number-no_wildcard : (run more : List ℕ) → begins is_ascii_digit run ≡ true → begins_wildcard (run ++ more) ≡ false
+number-no_wildcard run more h = grind arith
+
+pub number_first : (limit : ℕ) (text rest : List ℕ) (n : ℕ) → number_front limit text ≡ Some (n, rest)
+    → component_front limit text ≡ Some (Some n, rest)
+unfolding component_front
+number_first limit text rest n h = grind (arith, nat_tests, number-no_wildcard, number-found limit text n rest h)
+
+pub ruleset number_fronts = (front_some, front_none, front_small)

@@ -1,0 +1,21 @@
+//! Pieces of the readers of range texts, for the crates of this repository that read other grammars
+//! of ranges. Each reads at the front of the bytes of a text.
+//!
+//! They are no part of what the library promises its other callers: their contracts name
+//! definitions that serve proofs, and those may change with the readers.
+
+mod bars;
+mod boundaries;
+mod bounds;
+mod found;
+mod fronts;
+mod spaces;
+
+pub use crate::scan::pieces::bars::{after_bars, cut_part, next_part};
+pub use crate::scan::pieces::boundaries::{after_some_space, is_boundary, skip_to_boundary};
+pub use crate::scan::pieces::bounds::{Bounds, Comparator, lowest, release};
+pub use crate::scan::pieces::found::{Found, Intervals, owned_interval};
+pub use crate::scan::pieces::fronts::{
+    build_front, component_front, dotted_front, marked_list, pre_release_front,
+};
+pub use crate::scan::pieces::spaces::{skip_spaces, space_len};
