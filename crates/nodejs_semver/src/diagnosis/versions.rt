@@ -110,7 +110,7 @@ fn flaw_within(text: &str) -> Option<VersionFlaw>
         Ok(end) => end,
         Err(flaw) => return Some(flaw),
     };
-    let (_, behind) = pre_release_front(&bytes[end..]);
+    let (_, behind) = pre_release_front(false, &bytes[end..]);
     let (_, ignored) = build_front(behind);
     if ignored.is_empty() {
         None

@@ -59,7 +59,7 @@ pub(crate) fn dashed_front(text: &[u8]) -> (&[u8], &[u8])
     ensures value { pair_view result ≡ Spec.dashed_front text.now }
 {
     match text {
-        [b'-', ..] => pre_release_front(text),
+        [b'-', ..] => pre_release_front(true, text),
         _ => (b"", text),
     }
 }

@@ -31,7 +31,7 @@ fn patch_front(major: Option<u64>, minor: Option<u64>, text: &[u8]) -> (Partial<
             text,
         );
     };
-    let (pre_release, rest) = pre_release_front(rest);
+    let (pre_release, rest) = pre_release_front(false, rest);
     let (build, rest) = build_front(rest);
     (
         Partial {

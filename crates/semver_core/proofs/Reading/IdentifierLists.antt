@@ -1,11 +1,10 @@
 -- Identifiers joined by dots: the longest list at the front of a text.
 use Rattle.semver_core.proofs.Text.Ends.{end_past, is_spelled, nothing_listed, nothing_spelled, runs_taken}
 use Rattle.semver_core.proofs.Text.Pieces.{list_len-append, runs_begin, runs_tail}
-use Rattle.semver_core.proofs.Text.Runs.{list_len_stop}
 use Rattle.semver_core.specs.Internal.Fronts.{begins_identifier, split_list}
 use Rattle.semver_core.specs.Internal.Reading.{list_len}
-use Rattle.semver_core.specs.Text.Identifiers.{Id, IsIdentifiers, Numeric, goes_on, is_listed, listed, pieces}
-use Rattle.std.proofs.Common.{[], List, arith, drop, false, length, length-append, length-drop, refl, take, take_all, true, ℕ, ◌++◌, ◌+◌, ◌∷◌, ◌≡◌}
+use Rattle.semver_core.specs.Text.Identifiers.{Id, IsIdentifiers, Numeric, is_listed, listed, pieces}
+use Rattle.std.proofs.Common.{[], List, arith, drop, length, length-append, length-drop, refl, take, true, ℕ, ◌++◌, ◌+◌, ◌∷◌, ◌≡◌}
 use Rattle.std.proofs.Common.{◌≤◌}
 use Rattle.std.proofs.lemmas.Bool.Decides.{nat_tests}
 use Rattle.std.proofs.lemmas.Grind.{common_steps}
@@ -41,20 +40,7 @@ pub written-spelled : (t : List ℕ) (l : List Id) → IsIdentifiers t l → lis
 unfolding listed
 written-spelled t l h = grind arith
 
--- ---- the end of the loop that counts
-
-pub list_stopped : (text : List ℕ) (i : ℕ) → list_len text ≡ i + list_len (drop i text) → goes_on (drop i text) ≡ false
-    → i ≡ list_len text
-list_stopped text i inv stop = omega (arith, inv, list_len_stop (drop i text) stop)
-
-pub list_past : (text : List ℕ) (i : ℕ) → list_len text ≡ i + list_len (drop i text) → length text ≤ i → i ≡ list_len text
-list_past text i inv le = omega (arith, inv, end_past text i le)
-
-pub whole_listed : (text : List ℕ) (i : ℕ) → begins_identifier text ≡ true → i ≡ list_len text → length text ≤ i
-    → is_listed text ≡ true
-whole_listed text i h e le = grind (arith, nat_tests, listed_taken text h, take_all)
-
-pub ruleset split_here = (list_stopped, list_past, listed_taken)
+-- ---- short lists
 
 -- `0`
 pub zero_listed : is_listed (48 ∷ []) ≡ true

@@ -1,13 +1,14 @@
 -- Numbers: as a whole text, and at the front of one.
 use Rattle.semver_core.proofs.Reading.Steps.{option-cases}
-use Rattle.semver_core.specs.Internal.Fronts.{begins_wildcard, component_front, is_wildcard, number_front, number_of}
+use Rattle.semver_core.specs.Internal.Fronts.{begins_padded, begins_wildcard, component_front, is_wildcard, number_front, number_of, number_with}
 use Rattle.semver_core.specs.Text.Characters.{IsPieceAt, NoPieceAt, begins}
 use Rattle.semver_core.specs.Text.Numbers.{IsNumber, IsWholeNumber}
-use Rattle.std.proofs.Common.{[], List, None, Some, arith, drop, false, inl, inr, length, not, refl, suc, true, ℕ, ◌++◌, ◌+◌, ◌∷◌, ◌≡◌, ◌≤◌}
+use Rattle.std.proofs.Common.{[], Bool, List, None, Some, arith, drop, false, inl, inr, length, not, refl, suc, take, true, ℕ, ◌&&◌, ◌++◌, ◌+◌, ◌-◌, ◌∷◌, ◌≡◌, ◌≤◌}
 use Rattle.std.proofs.lemmas.Bool.Decides.{nat_tests}
 use Rattle.std.proofs.lemmas.Bool.{cases_Bool}
 use Rattle.std.proofs.lemmas.Grind.{common_steps}
-use Rattle.std.proofs.lemmas.List.{drop_at, take-append-drop, take_at}
+use Rattle.std.proofs.lemmas.List.Sums.{prefix_len-drop_all, prefix_len-drop_no, prefix_len-drop_yes}
+use Rattle.std.proofs.lemmas.List.{drop_at, take-append-drop, take_at, take_rest}
 use Rattle.std.specs.Char.{is_ascii_digit}
 use Rattle.std.specs.List.{list_all, prefix_len}
 use Rattle.std.specs.Prelude.{◌↔◌}
@@ -26,6 +27,9 @@ pub numbers_are : (limit : ℕ) (text : List ℕ) (n : ℕ) → (number_of limit
 numbers_are limit text n = (number-is limit text n, number-of limit text n)
 
 -- ---- at the front
+
+-- the loop that counts digits
+pub ruleset prefix_steps = (prefix_len-drop_all, prefix_len-drop_no, prefix_len-drop_yes)
 
 pub digits-taken : (run more : List ℕ) → list_all is_ascii_digit run ≡ true → begins is_ascii_digit more ≡ false
     → prefix_len is_ascii_digit (run ++ more) ≡ length run
@@ -72,6 +76,22 @@ front_none limit text none = elim (option-cases (number_front limit text)) [
       absurd (none x.0.0 f.run x.0.1 f.split (record { number = f.is; ended = f.ended }))
 ]
 
+-- with leading zeros or without
+pub with_some : (zeros : Bool) (limit : ℕ) (text : List ℕ) (n end : ℕ) → (not zeros && begins_padded text) ≡ false
+    → IsPieceAt (λ digits rest. IsWholeNumber limit digits rest n) text 0 end
+    → Some (n, take (length text - end) (drop end text)) ≡ number_with zeros limit text
+unfolding number_with
+with_some zeros limit text n end h s = rw (h, take_rest text end, front_some limit text n end s) refl
+
+pub with_none : (zeros : Bool) (limit : ℕ) (text : List ℕ) → ((n : ℕ) → NoPieceAt (λ digits rest. IsWholeNumber limit digits rest n) text 0)
+    → None ≡ number_with zeros limit text
+unfolding number_with
+with_none zeros limit text none = grind (arith, front_none limit text none)
+
+pub with_padded : (zeros : Bool) (limit : ℕ) (text : List ℕ) → (not zeros && begins_padded text) ≡ true → None ≡ number_with zeros limit text
+unfolding number_with
+with_padded zeros limit text h = rw h refl
+
 -- ---- wildcards and numbers
 
 pub wildcard-no_digit : (b : ℕ) → is_wildcard b ≡ true → is_ascii_digit b ≡ false
@@ -85,5 +105,15 @@ pub number_first : (limit : ℕ) (text rest : List ℕ) (n : ℕ) → number_fro
     → component_front limit text ≡ Some (Some n, rest)
 unfolding component_front
 number_first limit text rest n h = grind (arith, nat_tests, number-no_wildcard, number-found limit text n rest h)
+
+pub component_some : (limit : ℕ) (text rest : List ℕ) (n : ℕ) → number_with true limit text ≡ Some (n, rest)
+    → component_front limit text ≡ Some (Some n, rest)
+unfolding number_with
+component_some limit text rest n h = number_first limit text rest n h
+
+pub component_none : (limit : ℕ) (text : List ℕ) → number_with true limit text ≡ None → begins_wildcard text ≡ false
+    → component_front limit text ≡ None
+unfolding component_front number_with
+component_none limit text h wild = rw (wild, h) refl
 
 pub ruleset number_fronts = (front_some, front_none, front_small)

@@ -6,7 +6,7 @@ use Rattle.semver_core.specs.Text.Characters.{begins, is_identifier_char}
 use Rattle.std.specs.Borrow.{Bor}
 use Rattle.std.specs.Char.{is_ascii_digit}
 use Rattle.std.specs.List.{list_all, prefix_len}
-use Rattle.std.specs.Prelude.{[], Bool, List, None, Option, Some, drop, if◌then◌else◌, nat_le, not, take, take_while, ℕ, ◌&&◌, ◌==◌, ◌||◌, ◌∷◌}
+use Rattle.std.specs.Prelude.{[], Bool, List, None, Option, Some, drop, false, if◌then◌else◌, nat_le, not, take, take_while, ℕ, ◌&&◌, ◌==◌, ◌||◌, ◌∷◌}
 use Rattle.std.specs.Str.Parse.{digits_value}
 
 -- `x`, `X` or `*`
@@ -40,12 +40,22 @@ number_front limit text =
 abbrev pub begins_wildcard : List ℕ → Bool
 begins_wildcard text = begins is_wildcard text
 
+-- the text begins with `0` and a digit
+abbrev pub begins_padded : List ℕ → Bool
+begins_padded [] = false
+begins_padded (c ∷ []) = false
+begins_padded (c ∷ d ∷ rest) = c == 48 && is_ascii_digit d
+
+-- the number at the front, which may have leading zeros or not
+unfoldable pub number_with : Bool → ℕ → List ℕ → Front ℕ
+number_with zeros limit text = if not zeros && begins_padded text then None else number_front limit text
+
 -- a wildcard or a number
 unfoldable pub component_front : ℕ → List ℕ → Front (Option ℕ)
 component_front limit text =
     if begins_wildcard text then Some (None, drop 1 text) else (number_front limit text >>? λ n. Some (Some n.0, n.1))
 
--- the same behind a dot
+-- a wildcard or a number behind a dot
 unfoldable pub dotted_front : ℕ → List ℕ → Front (Option ℕ)
 dotted_front limit text = after_byte 46 text >>? λ rest. component_front limit rest
 
@@ -66,6 +76,10 @@ begins_byte c text = begins (λ b. b == c) text
 unfoldable pub pre_release_front : List ℕ → List ℕ × List ℕ
 pre_release_front text = if begins_byte 45 text then marked_list text (drop 1 text) else marked_list text text
 
--- the same of the build
+-- the text of the pre-release at the front, which may want its `-` or not, and what stands behind it
+unfoldable pub pre_release_with : Bool → List ℕ → List ℕ × List ℕ
+pre_release_with dash text = if not dash || begins_byte 45 text then pre_release_front text else ([], text)
+
+-- the text of the build at the front, and what stands behind it
 unfoldable pub build_front : List ℕ → List ℕ × List ℕ
 build_front text = if begins_byte 43 text then marked_list text (drop 1 text) else ([], text)

@@ -6,7 +6,7 @@ use Rattle.semver_core.specs.Internal.Spaces.{trim}
 use Rattle.semver_core.specs.Text.Bars.{is_bar}
 use Rattle.semver_core.specs.Text.Characters.{begins}
 use Rattle.std.specs.List.{onto_first}
-use Rattle.std.specs.Prelude.{[], Bool, List, None, Option, Some, drop, false, if◌then◌else◌, length, map, nat_lt, suc, take, true, ℕ, ◌&&◌, ◌+◌, ◌||◌}
+use Rattle.std.specs.Prelude.{[], Bool, List, None, Option, Some, drop, false, if◌then◌else◌, length, map, nat_lt, suc, take, true, ℕ, ◌&&◌, ◌+◌}
 use Rattle.std.specs.Prelude.{◌∷◌}
 
 -- the texts between the bars, leftmost bars first, not trimmed. After the first bar of two, the second one is skipped.

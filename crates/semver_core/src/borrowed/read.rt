@@ -2,27 +2,12 @@
 
 ghost use Rattle.std.specs.Prelude.{◌≡◌, ◌≤◌, ℕ, drop, IfErr, IfNone, IfOk};
 ghost use Rattle.semver_core.specs.Words.{begins, IfSome, is_identifier_char, is_listed, IsCommon};
-ghost use Rattle.semver_core.specs.Words.{IsCommonFront, length, list_from, list_len, listed};
+ghost use Rattle.semver_core.specs.Words.{IsCommonFront, length, list_from, listed};
 ghost use Rattle.semver_core.specs.Words.{lists_at, NoValue, Parses, take, true, VersionValue};
 
 use crate::readers::{begins_lists, build_start, leading_numbers, numbers, pre_release_start};
-use crate::scan::goes_on;
+use crate::scan::pieces::list_len;
 use crate::{MAX_LENGTH, MAX_SAFE_INTEGER, SemverError, VersionRef};
-
-// How many bytes the identifiers at the front take.
-#[inline(always)]
-#[tactic(auto, using(crate::proofs::Text::Ends::list_ends))]
-fn list_len(bytes: &[u8]) -> usize
-    ensures exact { result ≡ list_len bytes.now }
-    ensures inside { result ≤ length bytes.now }
-{
-    'bytes: for len in 0..bytes.len() {
-        if !goes_on(&bytes[len..]) {
-            return len;
-        }
-    }
-    bytes.len()
-}
 
 // The text of the identifiers that begin at a place, and the place after them. Where there is none,
 // that is the place where the list was expected.

@@ -1,11 +1,61 @@
-// What is at the front of a text: a component of a partial, a list of identifiers, a qualifier.
+// What is at the front of a text: a number, a component of a partial, a list of identifiers, a
+// qualifier.
 
 ghost use Rattle.semver_core.specs.Internal.Fronts as Spec;
-ghost use Rattle.std.specs.{Option.ForSome, Prelude.{◌≡◌, ◌≤◌, IfSome}};
-ghost use Rattle.semver_core.specs.Words.{front_view, is_listed, pair_view, true};
+ghost use Rattle.std.specs.{List.prefix_len, Option.ForSome, Prelude.{◌≡◌, ◌≤◌, IfSome}};
+ghost use Rattle.semver_core.specs.Words.{front_view, is_ascii_digit, is_listed, length, list_len};
+ghost use Rattle.semver_core.specs.Words.{pair_view, rest_view, true};
 
 use crate::MAX_SAFE_INTEGER;
 use crate::scan::{begins_identifier, goes_on, number_in};
+
+/// Whether a text begins with `0` and a digit.
+#[inline(always)]
+pub fn begins_padded(text: &[u8]) -> bool
+    ensures { result ≡ Spec.begins_padded text.now }
+{
+    matches!(text, [b'0', next, ..] if next.is_ascii_digit())
+}
+
+/// How many digits stand at the front.
+#[tactic(auto, using(crate::proofs::Reading::Numbers::prefix_steps))]
+pub fn digits_len(text: &[u8]) -> usize
+    ensures value { result ≡ prefix_len is_ascii_digit text.now }
+    ensures fits { result ≤ length text.now }
+{
+    'digits: for at in 0..text.len() {
+        if !text[at].is_ascii_digit() {
+            return at;
+        }
+    }
+    text.len()
+}
+
+/// The number that the whole run of digits at the front is, if it is not above the limit, and the
+/// text behind it. With `zeros` it may have leading zeros.
+#[inline(always)]
+#[tactic(auto, using(crate::proofs::Reading::Numbers::number_fronts))]
+pub fn number_front(zeros: bool, text: &[u8]) -> Option<(u64, &[u8])>
+    ensures value { front_view result ≡ Spec.number_with zeros MAX_SAFE_INTEGER text.now }
+    ensures small { IfSome result (λ p. p.0 ≤ MAX_SAFE_INTEGER) }
+{
+    if !zeros && begins_padded(text) {
+        return None;
+    }
+    let (number, end) = number_in(text, 0)?;
+    Some((number, &text[end..]))
+}
+
+/// The text behind the dot at the front.
+#[inline(always)]
+pub fn behind_dot(text: &[u8]) -> Option<&[u8]>
+    ensures { rest_view result ≡ Spec.after_byte 46 text.now }
+{
+    match text {
+        [b'.', rest @ ..] => Some(rest),
+        _ => None,
+    }
+}
 
 /// A wildcard or a number, and the text behind it. The number is looked for first, since most
 /// components are numbers.
@@ -15,8 +65,8 @@ pub fn component_front(text: &[u8]) -> Option<(Option<u64>, &[u8])>
     ensures value { front_view result ≡ Spec.component_front MAX_SAFE_INTEGER text.now }
     ensures small { IfSome result (λ p. ForSome p.0 (λ n. n ≤ MAX_SAFE_INTEGER)) }
 {
-    match number_in(text, 0) {
-        Some((number, end)) => Some((Some(number), &text[end..])),
+    match number_front(true, text) {
+        Some((number, rest)) => Some((Some(number), rest)),
         None if matches!(text, [b'x' | b'X' | b'*', ..]) => Some((None, &text[1..])),
         None => None,
     }
@@ -29,31 +79,38 @@ pub fn dotted_front(text: &[u8]) -> Option<(Option<u64>, &[u8])>
     ensures value { front_view result ≡ Spec.dotted_front MAX_SAFE_INTEGER text.now }
     ensures small { IfSome result (λ p. ForSome p.0 (λ n. n ≤ MAX_SAFE_INTEGER)) }
 {
-    match text {
-        [b'.', rest @ ..] => component_front(rest),
-        _ => None,
-    }
+    component_front(behind_dot(text)?)
 }
 
-// The identifiers at the front, and what stands behind them.
+/// How many bytes the identifiers at the front take.
+#[inline(always)]
+#[tactic(auto, using(crate::proofs::Text::Ends::list_ends))]
+pub fn list_len(text: &[u8]) -> usize
+    ensures exact { result ≡ list_len text.now }
+    ensures inside { result ≤ length text.now }
+{
+    'bytes: for len in 0..text.len() {
+        if !goes_on(&text[len..]) {
+            return len;
+        }
+    }
+    text.len()
+}
+
+// The identifiers at the front, and what follows them.
 #[inline(never)]
-#[tactic(auto, using(crate::proofs::Reading::IdentifierLists::split_here))]
 fn split_list(text: &[u8]) -> (&[u8], &[u8])
     requires { Spec.begins_identifier text.now ≡ true }
     ensures listed { is_listed result.0.now ≡ true }
     ensures value { pair_view result ≡ Spec.split_list text.now }
 {
-    'bytes: for at in 0..text.len() {
-        if !goes_on(&text[at..]) {
-            return text.split_at(at);
-        }
-    }
-    (text, b"")
+    text.split_at(list_len(text))
 }
 
+/// The identifiers at the front, and what follows them.
 // `split_list`, inlined: room for what the call returns is made only where it is called.
 #[inline(always)]
-fn some_list(text: &[u8]) -> (&[u8], &[u8])
+pub fn list_front(text: &[u8]) -> (&[u8], &[u8])
     requires { Spec.begins_identifier text.now ≡ true }
     ensures listed { is_listed result.0.now ≡ true }
     ensures value { pair_view result ≡ Spec.split_list text.now }
@@ -71,26 +128,28 @@ pub fn marked_list<'a>(text: &'a [u8], behind: &'a [u8]) -> (&'a [u8], &'a [u8])
     ensures value { pair_view result ≡ Spec.marked_list text.now behind.now }
 {
     if begins_identifier(behind) {
-        some_list(behind)
+        list_front(behind)
     } else {
         (b"", text)
     }
 }
 
-/// The text of the pre-release at the front, and what stands behind it. Mostly there is none.
+/// The text of the pre-release at the front, and what follows it. Mostly there is none. With `dash`
+/// it begins with a `-`, and else it may.
 #[inline(always)]
 #[tactic(auto, unfolding(crate::specs::Internal::Fronts::pre_release_front))]
-pub fn pre_release_front(text: &[u8]) -> (&[u8], &[u8])
+pub fn pre_release_front(dash: bool, text: &[u8]) -> (&[u8], &[u8])
     ensures listed { is_listed result.0.now ≡ true }
-    ensures value { pair_view result ≡ Spec.pre_release_front text.now }
+    ensures value { pair_view result ≡ Spec.pre_release_with dash text.now }
 {
     match text {
         [b'-', behind @ ..] => marked_list(text, behind),
+        _ if dash => (b"", text),
         _ => marked_list(text, text),
     }
 }
 
-/// The text of the build at the front, and what stands behind it. Mostly there is none.
+/// The text of the build at the front, and what follows it. Mostly there is none.
 #[inline(always)]
 #[tactic(auto, unfolding(crate::specs::Internal::Fronts::build_front))]
 pub fn build_front(text: &[u8]) -> (&[u8], &[u8])
