@@ -4,7 +4,7 @@ ghost use Rattle.lock_check.specs.Replacements.{IsReplacement};
 
 use crate::fault::Fault;
 use crate::lock::{Dependency, Package, Wanted};
-use crate::reading::{NpmRange, range, strict_range};
+use crate::reading::{NpmRange, range, read_range};
 use crate::specifier::{Specifier, is_tag};
 use nodejs_semver::RangeRef;
 use serde_json::{Map, Value};
@@ -87,7 +87,7 @@ impl<'a> Rule<'a> {
         };
         let range = match wanted {
             "*" => None,
-            wanted => match strict_range(alloc, wanted)? {
+            wanted => match read_range(alloc, false, wanted)? {
                 Some(range) => Some(range),
                 None => return Ok(None),
             },

@@ -12,7 +12,8 @@ ghost use Rattle.nodejs_semver.specs.Npm.VersionText.{IsLooseVersionText};
 ghost use Rattle.std.specs.Prelude.{◌≡◌, ◌↔◌, IfNone, IfOk, IfSome, IsTrue};
 ghost use Rattle.std.specs.Prelude.{false, true};
 
-use nodejs_semver::{Failure, MAX_SAFE_INTEGER, RangeRef, VersionRef, npm};
+use nodejs_semver::npm::{self, Reading};
+use nodejs_semver::{Failure, MAX_SAFE_INTEGER, RangeRef, VersionRef};
 use std::alloc::{AllocError, Global};
 
 /// What npm reads in a text in place of a range.
@@ -26,36 +27,34 @@ pub enum NpmRange<'a> {
     Unsure,
 }
 
-/// The range that node-semver's strict reading finds in a text, or `None` if it rejects the text.
-/// Fails only if allocation fails.
-pub fn strict_range(alloc: Global, text: &str) -> Result<Option<RangeRef<'_>>, AllocError>
-    ensures some { IfOk result (λ r. IfSome r (IsRangeIn false MAX_SAFE_INTEGER false text.now)) }
+/// The range that node-semver's strict reading finds in a text, or its loose one, or `None` if it
+/// rejects the text. Fails only if allocation fails.
+pub fn read_range(
+    alloc: Global,
+    loose: bool,
+    text: &str,
+) -> Result<Option<RangeRef<'_>>, AllocError>
+    ensures some { IfOk result (λ r. IfSome r (IsRangeIn loose MAX_SAFE_INTEGER false text.now)) }
     ensures none { IfOk result (λ r. IfNone r
-        (NoValue (HasAlternativesIn false MAX_SAFE_INTEGER false text.now))) }
+        (NoValue (HasAlternativesIn loose MAX_SAFE_INTEGER false text.now))) }
 {
-    Failure::refused_as_none(npm::range(alloc, text, false))
+    let reading = Reading {
+        loose,
+        include_prerelease: false,
+    };
+    Failure::refused_as_none(npm::range(alloc, text, reading))
 }
-
-// The range that node-semver's loose reading finds in a text, as it is read here.
-fn loose_range(alloc: Global, text: &str) -> Result<Option<RangeRef<'_>>, AllocError>
-    ensures some { IfOk result (λ r. IfSome r (IsRangeIn true MAX_SAFE_INTEGER false text.now)) }
-    ensures none { IfOk result (λ r. IfNone r
-        (NoValue (HasAlternativesIn true MAX_SAFE_INTEGER false text.now))) }
-{
-    Failure::refused_as_none(npm::range_loose(alloc, text, false))
-}
-
 /// What npm reads in a text in place of a range. Fails only if allocation fails.
 pub fn range(alloc: Global, text: &str) -> Result<NpmRange<'_>, AllocError>
     ensures { IfOk result (IsNpmRange text.now) }
 {
-    if let Some(range) = strict_range(alloc, text)? {
+    if let Some(range) = read_range(alloc, false, text)? {
         return Ok(NpmRange::Read(range));
     }
     if may_differ(text) {
         return Ok(NpmRange::Unsure);
     }
-    match loose_range(alloc, text)? {
+    match read_range(alloc, true, text)? {
         Some(range) => Ok(NpmRange::Read(range)),
         None if has_great(text.as_bytes()) => Ok(NpmRange::Unsure),
         None => Ok(NpmRange::Rejected),
@@ -85,7 +84,11 @@ pub fn version(text: &str) -> Option<VersionRef<'_>>
     ensures some { IfSome result (IsLooseVersionText MAX_SAFE_INTEGER text.now) }
     ensures none { IfNone result (NoValue (IsLooseVersionText MAX_SAFE_INTEGER text.now)) }
 {
-    match npm::version_loose(text) {
+    let reading = Reading {
+        loose: true,
+        include_prerelease: false,
+    };
+    match npm::version(text, reading) {
         Ok(version) => Some(version),
         Err(_) => None,
     }

@@ -2,8 +2,9 @@
 //!
 //! Its reading of texts is the strict one, which npm uses, beside the lenient one of
 //! [`VersionRef::parse`](crate::VersionRef) and [`Range::parse`](crate::Range): a version text has
-//! no leading zeros, one `v` in front at most, a `-` before its pre-release, and nothing behind it.
-//! [`version_flaw`] says what is wrong with another text, and where.
+//! no leading zeros, one `v` in front at most, a `-` before its pre-release, and nothing after it.
+//! [`version_flaw`] says what is wrong with another text, and where. A [`Reading`] says whether a
+//! text is read loosely in place of strictly, and a [`Coercion`] what is looked for in any text.
 //!
 //! A version lies above or below a range by name, an order counts builds, and [`build_text`]
 //! returns a build as it is written. Ranges have from here their `union`, `is_subset`,
@@ -21,6 +22,7 @@ mod inside;
 mod loose_versions;
 mod malformed_words;
 mod messages;
+mod options;
 mod partial;
 mod places;
 mod range_flaws;
@@ -33,15 +35,12 @@ mod unions;
 mod versions;
 mod words;
 
-pub use crate::npm::builds::{build_text, build_text_loose, cmp_build};
-pub use crate::npm::coerced::{
-    coerce, coerce_loose, coerce_rtl, coerce_rtl_loose, coerce_rtl_with_prerelease,
-    coerce_rtl_with_prerelease_loose, coerce_with_prerelease, coerce_with_prerelease_loose,
-};
+pub use crate::npm::builds::{build_text, cmp_build};
+pub use crate::npm::coerced::{coerce, coerce_with};
 pub use crate::npm::flaws::{Flaw, Wrong, version_flaw};
-pub use crate::npm::loose_versions::version_loose;
+pub use crate::npm::options::{Coercion, Reading};
 pub use crate::npm::range_flaws::{RangeFlaw, range_flaw};
-pub use crate::npm::ranges::{range, range_loose};
-pub use crate::npm::readings::{ReadRange, Reading};
+pub use crate::npm::ranges::range;
+pub use crate::npm::readings::ReadRange;
 pub use crate::npm::sides::{gtr, ltr};
 pub use crate::npm::versions::{clean, version};

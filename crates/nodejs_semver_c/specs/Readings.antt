@@ -9,29 +9,29 @@ use Rattle.nodejs_semver.specs.Npm.Ranges as npm
 use Rattle.nodejs_semver.specs.Npm.VersionText.{IsVersionText}
 use Rattle.nodejs_semver.specs.Text.Bars.{IsCutAtBars}
 use Rattle.nodejs_semver.specs.Text.Meaning.{Means}
-use Rattle.nodejs_semver_c.specs.declared.read.Reading.{Reading}
-use Rattle.nodejs_semver_c.specs.declared.read.Reading.TheVariants.{Npm, Port}
+use Rattle.nodejs_semver_c.specs.declared.read.Grammar.{Grammar}
+use Rattle.nodejs_semver_c.specs.declared.read.Grammar.TheVariants.{Npm, Port}
 use Rattle.nodejs_semver_c.specs.declared.TheConstants.{READING_NPM, READING_PORT}
 
 -- the reading that a number stands for, if there is one
-abbrev pub reading_of : ℕ → Option Reading
+abbrev pub reading_of : ℕ → Option Grammar
 reading_of n = if n == READING_PORT then Some Port else if n == READING_NPM then Some Npm else None
 
 -- the text is read as this version
-abbrev pub Spells : Reading → List ℕ → VersionValue → Type 0
+abbrev pub Spells : Grammar → List ℕ → VersionValue → Type 0
 Spells Port = Parses MAX_SAFE_INTEGER
 Spells Npm = IsVersionText MAX_SAFE_INTEGER
 
 -- it is read as this range, where npm may include pre-releases; or as none
-abbrev pub SpellsRange : Reading → Bool → List ℕ → List (Span VersionValue) → Type 0
+abbrev pub SpellsRange : Grammar → Bool → List ℕ → List (Span VersionValue) → Type 0
 SpellsRange Port include text r = Means MAX_SAFE_INTEGER text r × (0 < length r)
 SpellsRange Npm include text r = npm.IsRangeIn false MAX_SAFE_INTEGER include text r
 
-abbrev pub SpellsNoRange : Reading → Bool → List ℕ → Type 0
+abbrev pub SpellsNoRange : Grammar → Bool → List ℕ → Type 0
 SpellsNoRange Port include text = Means MAX_SAFE_INTEGER text []
 SpellsNoRange Npm include text = NoValue (npm.HasAlternativesIn false MAX_SAFE_INTEGER include text)
 
 -- it means two intervals or more, or has two alternatives or more: reading it takes memory
-abbrev pub IsWide : Reading → List ℕ → Type 0
+abbrev pub IsWide : Grammar → List ℕ → Type 0
 IsWide Port text = (r : List (Span VersionValue)) → Means MAX_SAFE_INTEGER text r → 1 < length r
 IsWide Npm text = (pieces : List (List ℕ)) → IsCutAtBars text pieces → 1 < length pieces

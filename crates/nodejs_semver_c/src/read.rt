@@ -10,7 +10,8 @@ ghost use Rattle.std.specs.Prelude.{◌≡◌, IfErr, IfOk, IsUtf8};
 use crate::{
     BAD_ARGUMENT, BAD_RANGE, BAD_VERSION, NO_MEMORY, NOT_UTF8, READING_NPM, READING_PORT, TOO_LONG,
 };
-use nodejs_semver::{Failure, RangeRef, SemverError, VersionRef, npm};
+use nodejs_semver::npm::{self, Reading};
+use nodejs_semver::{Failure, RangeRef, SemverError, VersionRef};
 use std::alloc::Global;
 
 // How many bytes memory may hold, and how many texts, of 16 bytes each in an array. Rattle counts
@@ -34,35 +35,41 @@ pub fn text(bytes: &[u8]) -> Result<&str, u32>
     }
 }
 
-/// How the texts of a call are read.
+/// By whose grammar the texts of a call are read.
 #[derive(Clone, Copy)]
-pub enum Reading {
+pub enum Grammar {
     /// As the port reads them: what is no version, or no word of a range, is ignored.
     Port,
     /// As node-semver reads them, strictly.
     Npm,
 }
 
-// The reading that a number stands for.
-fn reading_of(reading: u32) -> Option<Reading>
+// The grammar that a number of C stands for.
+fn reading_of(reading: u32) -> Option<Grammar>
     ensures { result ≡ reading_of reading }
 {
     match reading {
-        READING_PORT => Some(Reading::Port),
-        READING_NPM => Some(Reading::Npm),
+        READING_PORT => Some(Grammar::Port),
+        READING_NPM => Some(Grammar::Npm),
         _ => None,
     }
 }
 
-impl Reading {
+impl Grammar {
     #[inline(always)]
     fn spelled(self, text: &str) -> Result<VersionRef<'_>, SemverError>
         ensures ok { IfOk result (Spells self text.now) }
         ensures refused { IfErr result (λ _. NoValue (Spells self text.now)) }
     {
         match self {
-            Reading::Port => VersionRef::parse(text),
-            Reading::Npm => npm::version(text),
+            Grammar::Port => VersionRef::parse(text),
+            Grammar::Npm => {
+                let strict = Reading {
+                    loose: false,
+                    include_prerelease: false,
+                };
+                npm::version(text, strict)
+            }
         }
     }
 
@@ -78,8 +85,14 @@ impl Reading {
         ensures memory { MemoryOnlyIf result (IsWide self text.now) }
     {
         match self {
-            Reading::Port => RangeRef::parse(alloc, text),
-            Reading::Npm => npm::range(alloc, text, include_prerelease),
+            Grammar::Port => RangeRef::parse(alloc, text),
+            Grammar::Npm => {
+                let reading = Reading {
+                    loose: false,
+                    include_prerelease,
+                };
+                npm::range(alloc, text, reading)
+            }
         }
     }
 }

@@ -33,7 +33,7 @@ use Rattle.npm_semver.specs.Readings.{IsVersionIn, SomeText, found, here, later,
 use Rattle.npm_semver.specs.Responses.{IsRefused, Responds, Written, bare, json, in_order, increment, line, no_version, picked, refused, shown, text_of, unknown, unread, unshown, versions}
 use Rattle.npm_semver.specs.declared.question.Pick.{Pick}
 use Rattle.npm_semver.specs.declared.question.Pick.TheVariants as Picks
-use Rattle.npm_semver.specs.declared.reading.Reading.{Reading}
+use Rattle.npm_semver.specs.declared.reading.ReadOptions.{ReadOptions}
 use Rattle.npm_semver.proofs.Ties.{same_emptiness, not_itself, text_map, unbuilt, unbuilt_same}
 
 abbrev is_plain : ℕ → Bool
@@ -122,11 +122,11 @@ plain_trim text h = record {
 
 -- ---- versions that are accepted
 
-unbuilt_says : (r : Reading) (v : VersionValue) (text : List ℕ) (b : Bool) → Says r v text b → Says r (unbuilt v) text b
+unbuilt_says : (r : ReadOptions) (v : VersionValue) (text : List ℕ) (b : Bool) → Says r v text b → Says r (unbuilt v) text b
 unbuilt_says r v text b (Listing.range _ alternatives has) = Listing.range text alternatives has
 unbuilt_says r v text b (Listing.no_range _ none) = Listing.no_range text none
 
-unbuilt_all : (r : Reading) (v : VersionValue) (ranges : List (List ℕ)) (b : Bool) → AllSay r v ranges b → AllSay r (unbuilt v) ranges b
+unbuilt_all : (r : ReadOptions) (v : VersionValue) (ranges : List (List ℕ)) (b : Bool) → AllSay r v ranges b → AllSay r (unbuilt v) ranges b
 unbuilt_all r v ranges b Listing.none = Listing.none
 unbuilt_all r v ranges b (Listing.more text texts c d is are) =
     Listing.more text texts c d (unbuilt_says r v text c is) (unbuilt_all r v texts d are)
@@ -135,7 +135,7 @@ unbuilt_all r v ranges b (Listing.more text texts c d is are) =
 abbrev again_entry : Entry → Entry
 again_entry e = record { version = unbuilt e.version; text = bare e.version }
 
-module _ (reread : Reread) (r : Reading) (ranges : List (List ℕ)) (plainly : r.is_coerced ≡ false) where
+module _ (reread : Reread) (r : ReadOptions) (ranges : List (List ℕ)) (plainly : r.is_coerced ≡ false) where
   -- the version is read and accepted as it prints
   abbrev Kept : Entry → Type 0
   Kept e = IsVersionText MAX_SAFE_INTEGER (bare e.version) (unbuilt e.version) × (list_all is_plain (bare e.version) ≡ true)

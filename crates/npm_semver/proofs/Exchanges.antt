@@ -8,7 +8,7 @@ use Rattle.npm_semver.specs.Listing.{AreListed, Entry, IsListing}
 use Rattle.npm_semver.specs.Listing as Listing
 use Rattle.npm_semver.specs.Readings.{SomeText, here, later}
 use Rattle.npm_semver.specs.Responses.{IsRefused, Responds, Written, increment, increment_written, no_version, refused, unknown, unread, unshown, versions}
-use Rattle.npm_semver.specs.declared.reading.Reading.{Reading}
+use Rattle.npm_semver.specs.declared.reading.ReadOptions.{ReadOptions}
 
 moved : (f u w k : List Entry) → IsPermutation (f ++ (u ++ (w ++ k))) (f ++ (w ++ (u ++ k)))
 moved f u w k =
@@ -19,7 +19,7 @@ moved_lists : (vs behind rest f u w k : List Entry) → vs ≡ f ++ behind → b
     → IsPermutation vs (f ++ (w ++ (u ++ k)))
 moved_lists vs behind rest f u w k e e2 e3 = rw (e, e2, e3) (moved f u w k)
 
-module _ (r : Reading) (ranges : List (List ℕ)) where
+module _ (r : ReadOptions) (ranges : List (List ℕ)) where
   split : (xs ys : List (List ℕ)) (vs : List Entry) → AreListed r ranges (xs ++ ys) vs
       → (us ws : List Entry) × AreListed r ranges xs us × AreListed r ranges ys ws × (vs ≡ us ++ ws)
   split [] ys vs are = ([], vs, Listing.none, are, refl)

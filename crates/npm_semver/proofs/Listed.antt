@@ -12,27 +12,27 @@ use Rattle.npm_semver.specs.Listing as Listing
 use Rattle.npm_semver.specs.Internal.Readings.{AreRead, IsRead, says}
 use Rattle.npm_semver.specs.Internal.Readings as Readings
 use Rattle.npm_semver.specs.Readings.{HasRange, IsVersionIn}
-use Rattle.npm_semver.specs.declared.reading.Reading.{Reading}
+use Rattle.npm_semver.specs.declared.reading.ReadOptions.{ReadOptions}
 
-one_says : (r : Reading) (v : VersionValue) (text : List ℕ) (read : Option (List (Span VersionValue))) → IsRead r text read
+one_says : (r : ReadOptions) (v : VersionValue) (text : List ℕ) (read : Option (List (Span VersionValue))) → IsRead r text read
     → Says r v text (says r.include_prerelease v read)
 one_says r v text (Some read) is = rw is.accepted (range text is.alternatives is.has)
 one_says r v text None is = no_range text is
 
 -- all range texts accept a version exactly if all ranges do
-pub all_say : (r : Reading) (v : VersionValue) (texts : List (List ℕ)) (ranges : List (Option (List (Span VersionValue))))
+pub all_say : (r : ReadOptions) (v : VersionValue) (texts : List (List ℕ)) (ranges : List (Option (List (Span VersionValue))))
     → AreRead r texts ranges → AllSay r v texts (list_all (says r.include_prerelease v) ranges)
 all_say r v texts ranges Readings.none = Listing.none
 all_say r v texts ranges (Readings.more text rest read others is are) =
     Listing.more text rest _ _ (one_says r v text read is) (all_say r v rest others are)
 
-pub read_more : (r : Reading) (texts : List (List ℕ)) (ranges : List (Option (List (Span VersionValue)))) (text : List ℕ)
+pub read_more : (r : ReadOptions) (texts : List (List ℕ)) (ranges : List (Option (List (Span VersionValue)))) (text : List ℕ)
     (read : Option (List (Span VersionValue))) → AreRead r texts ranges → IsRead r text read
     → AreRead r (texts ++ text ∷ []) (ranges ++ read ∷ [])
 read_more r texts ranges text read Readings.none is = Readings.more text [] read [] is Readings.none
 read_more r texts ranges text read (Readings.more t ts u us i are) is = Readings.more t _ u _ i (read_more r ts us text read are is)
 
-module _ (r : Reading) (ranges : List (List ℕ)) where
+module _ (r : ReadOptions) (ranges : List (List ℕ)) where
   -- one more text: no version, a version that some range does not accept, and one that all ranges accept
   pub no_more : (texts : List (List ℕ)) (es : List Entry) (text : List ℕ) → AreListed r ranges texts es → NoValue (IsVersionIn r text)
       → AreListed r ranges (texts ++ text ∷ []) es
@@ -60,7 +60,7 @@ module _ (r : Reading) (ranges : List (List ℕ)) where
       accepted t m _ w _ i s c (kept_more ts ds text middle v b e are is say trim)
 
 -- what a text is read as
-pub is_read : (r : Reading) (text : List ℕ) (read : Option (List (Span VersionValue))) → IfSome read (IsRangeIn r.is_loose MAX_SAFE_INTEGER r.include_prerelease text)
+pub is_read : (r : ReadOptions) (text : List ℕ) (read : Option (List (Span VersionValue))) → IfSome read (IsRangeIn r.is_loose MAX_SAFE_INTEGER r.include_prerelease text)
     → IfNone read (NoValue (HasRange r text)) → IsRead r text read
 is_read r text (Some read) some_is none_is = some_is
 is_read r text None some_is none_is = none_is

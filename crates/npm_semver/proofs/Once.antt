@@ -5,7 +5,7 @@ use Rattle.std.proofs.lemmas.List.Sorted.{IsPermutation-sym, IsPermutation-trans
 use Rattle.std.specs.List.Sorted.{IsPermutation}
 use Rattle.semver_core.specs.Text.Characters.{IsTrim}
 use Rattle.semver_core.specs.Values.Versions.{VersionValue}
-use Rattle.nodejs_semver.specs.Npm.Coerced.{IsCoerced, IsNumberIn}
+use Rattle.nodejs_semver.specs.Npm.Coerced.{IsChosenFrom, IsCoerced, IsNumberIn}
 use Rattle.nodejs_semver.specs.Npm.Ranges.{HasAlternativesIn, accepts}
 use Rattle.nodejs_semver.specs.Npm.Table.{Comparison}
 use Rattle.nodejs_semver.specs.Npm.VersionText.{IsVersionText}
@@ -14,9 +14,9 @@ use Rattle.npm_semver.specs.Laws.{EachText}
 use Rattle.npm_semver.specs.Laws as Each
 use Rattle.npm_semver.specs.Listing.{AllSay, AreListed, Entry, IsListing, Says}
 use Rattle.npm_semver.specs.Listing as Listing
-use Rattle.npm_semver.specs.Readings.{IsChosen, IsVersionIn, found, not_found, strict}
+use Rattle.npm_semver.specs.Readings.{IsVersionIn, found, not_found, strict}
 use Rattle.npm_semver.specs.Responses.{Responds, Written, increment, refused, versions}
-use Rattle.npm_semver.specs.declared.reading.Reading.{Reading}
+use Rattle.npm_semver.specs.declared.reading.ReadOptions.{ReadOptions}
 use Rattle.npm_semver.proofs.Ties.{same_text, same_emptiness}
 
 abbrev pub OneVersion : Type 0
@@ -32,10 +32,10 @@ OneTrim = (text middle other : List ℕ) → IsTrim text middle → IsTrim text 
 
 -- at most one version is found in a text, from the left and from the right
 abbrev pub OneFound : Bool → Type 0
-OneFound from_right = (included loose : Bool) (text : List ℕ) (v w : VersionValue) → IsCoerced included (IsChosen from_right) (IsNumberIn loose) text v
-    → IsCoerced included (IsChosen from_right) (IsNumberIn loose) text w → v ≡ w
+OneFound from_right = (included loose : Bool) (text : List ℕ) (v w : VersionValue) → IsCoerced included (IsChosenFrom from_right) (IsNumberIn loose) text v
+    → IsCoerced included (IsChosenFrom from_right) (IsNumberIn loose) text w → v ≡ w
 
-module _ (one_version : OneVersion) (one_range : OneRange) (one_trim : OneTrim) (one_found : (from_right : Bool) → OneFound from_right) (r : Reading) where
+module _ (one_version : OneVersion) (one_range : OneRange) (one_trim : OneTrim) (one_found : (from_right : Bool) → OneFound from_right) (r : ReadOptions) where
   version_once : (text : List ℕ) (v w : VersionValue) → IsVersionIn r text v → IsVersionIn r text w → v ≡ w
   version_once text v w (strict p is) (strict q of) = one_version _ text v w is of
   version_once text v w (strict p is) (found q of) = absurd (grind (arith, p, q))

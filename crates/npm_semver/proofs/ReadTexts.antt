@@ -6,9 +6,9 @@ use Rattle.semver_core.specs.Values.Versions.{VersionValue}
 use Rattle.semver_core.specs.declared.TheConstants.{MAX_SAFE_INTEGER}
 use Rattle.nodejs_semver.specs.Npm.VersionText.{IsVersionText}
 use Rattle.npm_semver.specs.Readings.{IsFoundIn, IsVersionIn, found, not_found, strict}
-use Rattle.npm_semver.specs.declared.reading.Reading.{Reading}
+use Rattle.npm_semver.specs.declared.reading.ReadOptions.{ReadOptions}
 
-module _ (r : Reading) (text : List ℕ) where
+module _ (r : ReadOptions) (text : List ℕ) where
   no_strict : r.is_coerced ≡ false → NoValue (IsVersionText MAX_SAFE_INTEGER text) → NoValue (IsVersionIn r text)
   no_strict plain none v (strict p is) = none v is
   no_strict plain none v (found p is) = absurd (grind (arith, plain, p))

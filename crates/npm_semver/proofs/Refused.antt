@@ -14,15 +14,15 @@ use Rattle.npm_semver.specs.Readings.{HasRange, IsVersionIn, SomeText, here, lat
 use Rattle.npm_semver.specs.Listing.{AreListed, Entry}
 use Rattle.npm_semver.specs.Listing as Listing
 use Rattle.npm_semver.specs.Responses.{HasUnread, HasNoVersion, HasUnshown, IsRefused, is_plain, no_version, unknown, unread, unshown}
-use Rattle.npm_semver.specs.declared.reading.Reading.{Reading}
+use Rattle.npm_semver.specs.declared.reading.ReadOptions.{ReadOptions}
 
-pub some_unread : (r : Reading) (texts : List (List ℕ)) (ranges : List (Option (List (Span VersionValue)))) → AreRead r texts ranges
+pub some_unread : (r : ReadOptions) (texts : List (List ℕ)) (ranges : List (Option (List (Span VersionValue)))) → AreRead r texts ranges
     → list_any is_none ranges ≡ true → SomeText (λ text. NoValue (HasRange r text)) texts
 some_unread r texts ranges none e = absurd (grind (arith, e))
 some_unread r texts ranges (more text rest None others is are) e = here text rest is
 some_unread r texts ranges (more text rest (Some x) others is are) e = later text rest (some_unread r rest others are e)
 
-pub all_read : (r : Reading) (texts : List (List ℕ)) (ranges : List (Option (List (Span VersionValue)))) → AreRead r texts ranges
+pub all_read : (r : ReadOptions) (texts : List (List ℕ)) (ranges : List (Option (List (Span VersionValue)))) → AreRead r texts ranges
     → list_any is_none ranges ≡ false → SomeText (λ text. NoValue (HasRange r text)) texts → ⊥
 all_read r _ _ none e some = elim some [ ]
 all_read r texts ranges (more text rest None others is are) e some = absurd (grind (arith, e))
@@ -37,20 +37,20 @@ not_refused q known all versions shown (no_version some) = versions some
 not_refused q known all versions shown (unshown some) = shown some
 
 -- no more versions are listed than there are texts, and as many only if each is a version
-at_most : (r : Reading) (texts : List (List ℕ)) (es : List Entry) → AreListed r [] texts es → length es ≤ length texts
+at_most : (r : ReadOptions) (texts : List (List ℕ)) (es : List Entry) → AreListed r [] texts es → length es ≤ length texts
 at_most r texts es Listing.none = omega arith
 at_most r texts es (Listing.no_version text rest ds lacks are) = grind (arith, at_most r rest ds are)
 at_most r texts es (Listing.rejected text rest v ds is say are) = grind (arith, at_most r rest ds are)
 at_most r texts es (Listing.accepted text middle rest v ds is say trim are) = grind (arith, at_most r rest ds are)
 
-pub some_lacks : (r : Reading) (texts : List (List ℕ)) (es : List Entry) → AreListed r [] texts es → length es < length texts
+pub some_lacks : (r : ReadOptions) (texts : List (List ℕ)) (es : List Entry) → AreListed r [] texts es → length es < length texts
     → SomeText (λ text. NoValue (IsVersionIn r text)) texts
 some_lacks r texts es Listing.none lt = absurd (omega arith)
 some_lacks r texts es (Listing.no_version text rest ds lacks are) lt = here text rest lacks
 some_lacks r texts es (Listing.rejected text rest v ds is say are) lt = elim say [ ]
 some_lacks r texts es (Listing.accepted text middle rest v ds is say trim are) lt = later text rest (some_lacks r rest ds are (grind (arith, lt)))
 
-pub all_versions : (r : Reading) (texts : List (List ℕ)) (es : List Entry) → AreListed r [] texts es → length texts ≤ length es
+pub all_versions : (r : ReadOptions) (texts : List (List ℕ)) (es : List Entry) → AreListed r [] texts es → length texts ≤ length es
     → SomeText (λ text. NoValue (IsVersionIn r text)) texts → ⊥
 all_versions r _ _ Listing.none le some = elim some [ ]
 all_versions r texts es (Listing.no_version text rest ds lacks are) le some = absurd (grind (arith, at_most r rest ds are, le))

@@ -7,10 +7,10 @@ use Rattle.npm_semver.specs.Listing.{AllSay}
 use Rattle.npm_semver.specs.Readings.{HasRange, IsVersionIn}
 use Rattle.npm_semver.specs.Reasons.{AreLeftOut, AreNoRanges, Told}
 use Rattle.npm_semver.specs.Reasons as Reasons
-use Rattle.npm_semver.specs.declared.reading.Reading.{Reading}
+use Rattle.npm_semver.specs.declared.reading.ReadOptions.{ReadOptions}
 use Rattle.npm_semver.specs.declared.why.Kind.TheVariants.{NoRange, NoVersion, NotAccepted}
 
-module _ (r : Reading) where
+module _ (r : ReadOptions) where
   pub range_more : (texts : List (List ℕ)) (told : List Told) (text : List ℕ) (alternatives : List (List Comparison)) → AreNoRanges r texts told
       → HasRange r text alternatives → AreNoRanges r (texts ++ text ∷ []) told
   range_more texts told text alternatives Reasons.none is = Reasons.range text [] alternatives [] is Reasons.none
@@ -23,7 +23,7 @@ module _ (r : Reading) where
   no_range_more texts told text (Reasons.range t ts a us has are) is = Reasons.range t _ a _ has (no_range_more ts us text are is)
   no_range_more texts told text (Reasons.no_range t ts us lacks are) is = Reasons.no_range t _ _ lacks (no_range_more ts us text are is)
 
-module _ (r : Reading) (ranges : List (List ℕ)) where
+module _ (r : ReadOptions) (ranges : List (List ℕ)) where
   pub no_version_more : (texts : List (List ℕ)) (told : List Told) (text : List ℕ) → AreLeftOut r ranges texts told → NoValue (IsVersionIn r text)
       → AreLeftOut r ranges (texts ++ text ∷ []) (told ++ record { text = text; kind = NoVersion } ∷ [])
   no_version_more texts told text Reasons.none is = Reasons.no_version text [] [] is Reasons.none

@@ -12,7 +12,7 @@ use Rattle.npm_semver.specs.Words.{FirstWord, value}
 use Rattle.npm_semver.specs.declared.question.Pick.{Pick}
 use Rattle.npm_semver.specs.declared.question.Pick.TheVariants as Picks
 use Rattle.npm_semver.specs.declared.question.Word.{Word}
-use Rattle.npm_semver.specs.declared.reading.Reading.{Reading}
+use Rattle.npm_semver.specs.declared.reading.ReadOptions.{ReadOptions}
 use Rattle.npm_semver.specs.declared.question.Word.TheVariants.{Help, IncludePrerelease, Reverse, Range}
 use Rattle.npm_semver.specs.declared.question.Word.TheVariants.{Version, Increment, Identifier, Base, Loose}
 use Rattle.npm_semver.specs.declared.question.Word.TheVariants.{Coerce, FromRight, FromLeft, Greatest, Least}
@@ -58,7 +58,7 @@ pub record Asked : Type 0 where
   pub identifier : Option (List ℕ)
   pub base : IdentifierBase
   pub is_reversed : Bool
-  pub reading : Reading
+  pub reading : ReadOptions
   pub pick : Pick
   pub as_written : Bool
   pub is_json : Bool

@@ -11,16 +11,16 @@ use Rattle.semver_core.specs.Values.Versions.{VersionValue}
 use Rattle.nodejs_semver.specs.Npm.Ranges.{accepts}
 use Rattle.nodejs_semver.specs.Npm.Table.{Comparison}
 use Rattle.npm_semver.specs.Readings.{HasRange, IsVersionIn}
-use Rattle.npm_semver.specs.declared.reading.Reading.{Reading}
+use Rattle.npm_semver.specs.declared.reading.ReadOptions.{ReadOptions}
 
 -- whether a range text accepts a version; a text that is no range accepts none
-pub data Says (r : Reading) (v : VersionValue) : List ℕ → Bool → Type 0 where
+pub data Says (r : ReadOptions) (v : VersionValue) : List ℕ → Bool → Type 0 where
   range : (text : List ℕ) (alternatives : List (List Comparison)) → HasRange r text alternatives
       → Says r v text (accepts r.include_prerelease alternatives v)
   no_range : (text : List ℕ) → NoValue (HasRange r text) → Says r v text false
 
 -- whether all range texts accept a version
-pub data AllSay (r : Reading) (v : VersionValue) : List (List ℕ) → Bool → Type 0 where
+pub data AllSay (r : ReadOptions) (v : VersionValue) : List (List ℕ) → Bool → Type 0 where
   none : AllSay r v [] true
   more : (text : List ℕ) (texts : List (List ℕ)) (a b : Bool) → Says r v text a → AllSay r v texts b
       → AllSay r v (text ∷ texts) (a && b)
@@ -31,7 +31,7 @@ pub record Entry : Type 0 where
   pub text : List ℕ
 
 -- the versions among these texts that all range texts accept, in the order of the texts
-pub data AreListed (r : Reading) (ranges : List (List ℕ)) : List (List ℕ) → List Entry → Type 0 where
+pub data AreListed (r : ReadOptions) (ranges : List (List ℕ)) : List (List ℕ) → List Entry → Type 0 where
   none : AreListed r ranges [] []
   no_version : (text : List ℕ) (texts : List (List ℕ)) (es : List Entry) → NoValue (IsVersionIn r text)
       → AreListed r ranges texts es → AreListed r ranges (text ∷ texts) es
@@ -47,7 +47,7 @@ abbrev pub order : Entry → Entry → Ordering
 order d e = ordering_then (precedence d.version e.version) (slice_cmp nat_cmp d.text e.text)
 
 -- what is printed: those, in ascending order
-pub record IsListing (r : Reading) (ranges texts : List (List ℕ)) (printed : List Entry) : Type 0 where
+pub record IsListing (r : ReadOptions) (ranges texts : List (List ℕ)) (printed : List Entry) : Type 0 where
   pub listed : List Entry
   pub are : AreListed r ranges texts listed
   pub same : IsPermutation listed printed

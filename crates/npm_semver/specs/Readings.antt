@@ -1,37 +1,33 @@
 -- Statement: how texts are read: the version that a text is, strictly or coerced, and the range.
-use Rattle.std.specs.Prelude.{◌≡◌, ◌∷◌, Bool, true, false, List, ℕ}
+use Rattle.std.specs.Prelude.{◌≡◌, ◌∷◌, true, false, List, ℕ}
 use Rattle.semver_core.specs.Failures.{NoValue}
 use Rattle.semver_core.specs.Values.Versions.{VersionValue}
 use Rattle.semver_core.specs.declared.TheConstants.{MAX_SAFE_INTEGER}
-use Rattle.nodejs_semver.specs.Npm.Coerced.{IsCoerced, IsLeftmost, IsNumberIn, IsRightmost}
+use Rattle.nodejs_semver.specs.Npm.Coerced.{IsChosenFrom, IsCoerced, IsNumberIn}
 use Rattle.nodejs_semver.specs.Npm.Ranges.{HasAlternativesIn}
 use Rattle.nodejs_semver.specs.Npm.Table.{Comparison}
 use Rattle.nodejs_semver.specs.Npm.VersionText.{IsVersionText}
-use Rattle.npm_semver.specs.declared.reading.Reading.{Reading}
+use Rattle.npm_semver.specs.declared.reading.ReadOptions.{ReadOptions}
 
 -- without an option: strictly, and without pre-releases
-abbrev pub strictly : Reading
+abbrev pub strictly : ReadOptions
 strictly = record { include_prerelease = false; is_loose = false; is_coerced = false; from_right = false }
 
--- the numbers that are coerced: the leftmost, or those that end last
-abbrev pub IsChosen : Bool → Bool → List ℕ → List ℕ → List ℕ → List ℕ → Type 0
-IsChosen false = IsLeftmost
-IsChosen true = IsRightmost
-
--- what is found is kept with its pre-release only where pre-releases are included
-abbrev pub IsFoundIn : Reading → List ℕ → VersionValue → Type 0
-IsFoundIn r = IsCoerced r.include_prerelease (IsChosen r.from_right) (IsNumberIn r.is_loose)
+-- what is found, the leftmost numbers or those that end last, is kept with its pre-release only where pre-releases
+-- are included
+abbrev pub IsFoundIn : ReadOptions → List ℕ → VersionValue → Type 0
+IsFoundIn r = IsCoerced r.include_prerelease (IsChosenFrom r.from_right) (IsNumberIn r.is_loose)
 
 -- the text is the version: strictly, also where the reading is loose; where it is coerced, what is found in
 -- it, and only if nothing is found what it is strictly
-pub data IsVersionIn (r : Reading) (text : List ℕ) (v : VersionValue) : Type 0 where
+pub data IsVersionIn (r : ReadOptions) (text : List ℕ) (v : VersionValue) : Type 0 where
   strict : r.is_coerced ≡ false → IsVersionText MAX_SAFE_INTEGER text v → IsVersionIn r text v
   found : r.is_coerced ≡ true → IsFoundIn r text v → IsVersionIn r text v
   not_found : r.is_coerced ≡ true → NoValue (IsFoundIn r text) → IsVersionText MAX_SAFE_INTEGER text v
       → IsVersionIn r text v
 
 -- the text is a range of these alternatives
-abbrev pub HasRange : Reading → List ℕ → List (List Comparison) → Type 0
+abbrev pub HasRange : ReadOptions → List ℕ → List (List Comparison) → Type 0
 HasRange r = HasAlternativesIn r.is_loose MAX_SAFE_INTEGER r.include_prerelease
 
 -- some text of these is so

@@ -5,7 +5,7 @@ use Rattle.semver_core.specs.Values.Versions.{VersionValue}
 use Rattle.nodejs_semver.specs.Npm.Table.{Comparison}
 use Rattle.npm_semver.specs.Listing.{AllSay}
 use Rattle.npm_semver.specs.Readings.{HasRange, IsVersionIn}
-use Rattle.npm_semver.specs.declared.reading.Reading.{Reading}
+use Rattle.npm_semver.specs.declared.reading.ReadOptions.{ReadOptions}
 use Rattle.npm_semver.specs.declared.why.Kind.{Kind}
 use Rattle.npm_semver.specs.declared.why.Kind.TheVariants.{NoRange, NoVersion, NotAccepted}
 
@@ -15,7 +15,7 @@ pub record Told : Type 0 where
   pub kind : Kind
 
 -- those of these range texts that are no ranges, in their order
-pub data AreNoRanges (r : Reading) : List (List ℕ) → List Told → Type 0 where
+pub data AreNoRanges (r : ReadOptions) : List (List ℕ) → List Told → Type 0 where
   none : AreNoRanges r [] []
   range : (text : List ℕ) (texts : List (List ℕ)) (alternatives : List (List Comparison))
       (told : List Told) → HasRange r text alternatives → AreNoRanges r texts told
@@ -26,7 +26,7 @@ pub data AreNoRanges (r : Reading) : List (List ℕ) → List Told → Type 0 wh
 
 -- those of these texts that are left out, in their order: no versions, and versions that not all range texts
 -- accept
-pub data AreLeftOut (r : Reading) (ranges : List (List ℕ)) : List (List ℕ) → List Told → Type 0 where
+pub data AreLeftOut (r : ReadOptions) (ranges : List (List ℕ)) : List (List ℕ) → List Told → Type 0 where
   none : AreLeftOut r ranges [] []
   accepted : (text : List ℕ) (texts : List (List ℕ)) (v : VersionValue) (told : List Told)
       → IsVersionIn r text v → AllSay r v ranges true → AreLeftOut r ranges texts told

@@ -7,7 +7,7 @@ ghost use Rattle.npm_semver.specs.Internal.Asked.{texts};
 ghost use Rattle.npm_semver.specs.Internal.Readings.{AreRead, says};
 
 use crate::entry::Entry;
-use crate::reading::Reading;
+use crate::reading::ReadOptions;
 use nodejs_semver::{RangeRef, VersionRef};
 use semver_core::scan;
 use std::alloc::{AllocError, Global};
@@ -17,7 +17,7 @@ use std::alloc::{AllocError, Global};
 /// only if allocation fails.
 pub fn listing<'a>(
     alloc: Global,
-    reading: Reading,
+    reading: ReadOptions,
     ranges: &[&str],
     versions: &[&'a str],
 ) -> Result<Vec<Entry<'a>>, AllocError>
@@ -33,7 +33,7 @@ pub fn listing<'a>(
 /// Reads the range texts; `None` stands for one that is no range.
 pub fn read_ranges<'a>(
     alloc: Global,
-    reading: Reading,
+    reading: ReadOptions,
     range_texts: &[&'a str],
 ) -> Result<Vec<Option<RangeRef<'a>>>, AllocError>
     ensures { IfOk result (λ ranges.
@@ -50,7 +50,7 @@ pub fn read_ranges<'a>(
 /// with its text.
 pub fn read_versions<'a>(
     alloc: Global,
-    reading: Reading,
+    reading: ReadOptions,
     ranges: &[Option<RangeRef<'_>>],
     version_texts: &[&'a str],
 ) -> Result<Vec<Entry<'a>>, AllocError>
@@ -67,7 +67,7 @@ pub fn read_versions<'a>(
 
 // Appends the version of a text, if it is one and all ranges accept it.
 fn push_version<'a>(
-    reading: Reading,
+    reading: ReadOptions,
     ranges: &[Option<RangeRef<'_>>],
     text: &'a str,
     listed: &mut Vec<Entry<'a>>,

@@ -14,7 +14,7 @@ ghost use Rattle.npm_semver.specs.declared.question.Word.TheVariants as Word;
 ghost use Rattle.npm_semver.specs.Internal.Asked.{asked_of, request_of, texts};
 
 use crate::arguments::Words;
-use crate::reading::Reading;
+use crate::reading::ReadOptions;
 use nodejs_semver::IdentifierBase;
 use std::alloc::{AllocError, Global};
 
@@ -116,7 +116,7 @@ pub struct Question<'a> {
     /// Whether the greatest version is printed first.
     pub is_reversed: bool,
     /// How texts are read.
-    pub reading: Reading,
+    pub reading: ReadOptions,
     /// Which of the versions are printed.
     pub pick: Pick,
     /// Whether they are printed as they were given.
@@ -144,7 +144,7 @@ impl<'a> Question<'a> {
             identifier: None,
             base: IdentifierBase::Value(0),
             is_reversed: false,
-            reading: Reading::strict(),
+            reading: ReadOptions::strict(),
             pick: Pick::All,
             as_written: false,
             is_json: false,

@@ -1,17 +1,18 @@
 // How version texts and range texts are read.
 
-ghost use Rattle.std.specs.Prelude.{◌≡◌, IfNone, IfOk, IfSome, false, true};
+ghost use Rattle.std.specs.Prelude.{◌≡◌, IfNone, IfOk, IfSome};
 ghost use Rattle.semver_core.specs.Failures.{NoValue};
 ghost use Rattle.semver_core.specs.declared.TheConstants.{MAX_SAFE_INTEGER};
-ghost use Rattle.nodejs_semver.specs.Npm.Ranges.{HasAlternativesIn, IsRangeIn};
+ghost use Rattle.nodejs_semver.specs.Npm.Ranges.{IsRangeIn};
 ghost use Rattle.npm_semver.specs.Readings.{HasRange, IsFoundIn, IsVersionIn, strictly};
 
-use nodejs_semver::{Failure, RangeRef, VersionRef, npm};
+use nodejs_semver::npm::{self, Coercion, Reading};
+use nodejs_semver::{Failure, RangeRef, VersionRef};
 use std::alloc::{AllocError, Global};
 
-/// How texts are read.
+/// How the command reads texts.
 #[derive(Clone, Copy)]
-pub struct Reading {
+pub struct ReadOptions {
     /// Whether ranges accept every pre-release within their bounds, and texts that are coerced keep
     /// theirs.
     pub include_prerelease: bool,
@@ -23,12 +24,12 @@ pub struct Reading {
     pub from_right: bool,
 }
 
-impl Reading {
+impl ReadOptions {
     /// The reading without any option.
-    pub fn strict() -> Reading
+    pub fn strict() -> ReadOptions
         ensures { result ≡ strictly }
     {
-        Reading {
+        ReadOptions {
             include_prerelease: false,
             is_loose: false,
             is_coerced: false,
@@ -41,12 +42,16 @@ impl Reading {
         ensures some { IfSome result (IsVersionIn self text.now) }
         ensures none { IfNone result (NoValue (IsVersionIn self text.now)) }
     {
+        let strict = Reading {
+            loose: false,
+            include_prerelease: false,
+        };
         if !self.is_coerced {
-            return npm::version(text).ok();
+            return npm::version(text, strict).ok();
         }
         match self.found(text) {
             Some(version) => Some(version),
-            None => npm::version(text).ok(),
+            None => npm::version(text, strict).ok(),
         }
     }
 
@@ -55,16 +60,12 @@ impl Reading {
         ensures some { IfSome result (IsFoundIn self text.now) }
         ensures none { IfNone result (NoValue (IsFoundIn self text.now)) }
     {
-        match (self.include_prerelease, self.from_right, self.is_loose) {
-            (false, false, false) => npm::coerce(text),
-            (false, false, true) => npm::coerce_loose(text),
-            (false, true, false) => npm::coerce_rtl(text),
-            (false, true, true) => npm::coerce_rtl_loose(text),
-            (true, false, false) => npm::coerce_with_prerelease(text),
-            (true, false, true) => npm::coerce_with_prerelease_loose(text),
-            (true, true, false) => npm::coerce_rtl_with_prerelease(text),
-            (true, true, true) => npm::coerce_rtl_with_prerelease_loose(text),
-        }
+        let options = Coercion {
+            loose: self.is_loose,
+            rtl: self.from_right,
+            include_prerelease: self.include_prerelease,
+        };
+        npm::coerce_with(text, options)
     }
 
     /// The range that a text is. Fails only if allocation fails.
@@ -73,36 +74,10 @@ impl Reading {
             (IsRangeIn self.is_loose MAX_SAFE_INTEGER self.include_prerelease text.now)) }
         ensures none { IfOk result (λ range. IfNone range (NoValue (HasRange self text.now))) }
     {
-        if self.is_loose {
-            loose_range(alloc, self.include_prerelease, text)
-        } else {
-            strict_range(alloc, self.include_prerelease, text)
-        }
+        let reading = Reading {
+            loose: self.is_loose,
+            include_prerelease: self.include_prerelease,
+        };
+        Failure::refused_as_none(npm::range(alloc, text, reading))
     }
-}
-
-fn strict_range(
-    alloc: Global,
-    include_prerelease: bool,
-    text: &str,
-) -> Result<Option<RangeRef<'_>>, AllocError>
-    ensures some { IfOk result (λ range. IfSome range
-        (IsRangeIn false MAX_SAFE_INTEGER include_prerelease text.now)) }
-    ensures none { IfOk result (λ range. IfNone range
-        (NoValue (HasAlternativesIn false MAX_SAFE_INTEGER include_prerelease text.now))) }
-{
-    Failure::refused_as_none(npm::range(alloc, text, include_prerelease))
-}
-
-fn loose_range(
-    alloc: Global,
-    include_prerelease: bool,
-    text: &str,
-) -> Result<Option<RangeRef<'_>>, AllocError>
-    ensures some { IfOk result (λ range. IfSome range
-        (IsRangeIn true MAX_SAFE_INTEGER include_prerelease text.now)) }
-    ensures none { IfOk result (λ range. IfNone range
-        (NoValue (HasAlternativesIn true MAX_SAFE_INTEGER include_prerelease text.now))) }
-{
-    Failure::refused_as_none(npm::range_loose(alloc, text, include_prerelease))
 }

@@ -7,7 +7,7 @@ ghost use Rattle.npm_semver.specs.Reasons.{AreLeftOut, AreNoRanges};
 
 use crate::listing::{all_accept, read_ranges};
 use crate::question::{Question, Request};
-use crate::reading::Reading;
+use crate::reading::ReadOptions;
 use nodejs_semver::RangeRef;
 use nodejs_semver::diagnosis::{VersionFlaw, version_flaw};
 use semver_core::scan;
@@ -51,7 +51,7 @@ pub struct Reasons<'a> {
 /// Fails only if allocation fails.
 pub fn left_out_texts<'a>(
     alloc: Global,
-    reading: Reading,
+    reading: ReadOptions,
     range_texts: &[&'a str],
     version_texts: &[&'a str],
 ) -> Result<Reasons<'a>, AllocError>
@@ -68,7 +68,7 @@ pub fn left_out_texts<'a>(
 
 fn no_ranges<'a>(
     alloc: Global,
-    reading: Reading,
+    reading: ReadOptions,
     range_texts: &[&'a str],
 ) -> Result<Vec<Reason<'a>>, AllocError>
     ensures { IfOk result (λ told. AreNoRanges reading (texts range_texts.now) told.items) }
@@ -83,7 +83,7 @@ fn no_ranges<'a>(
 // Appends a range text, if it is no range.
 fn push_range<'a>(
     alloc: Global,
-    reading: Reading,
+    reading: ReadOptions,
     text: &'a str,
     told: &mut Vec<Reason<'a>>,
 ) -> Result<(), AllocError>
@@ -100,7 +100,7 @@ fn push_range<'a>(
 
 fn rejects<'a>(
     alloc: Global,
-    reading: Reading,
+    reading: ReadOptions,
     ranges: &[Option<RangeRef<'_>>],
     version_texts: &[&'a str],
 ) -> Result<Vec<Reason<'a>>, AllocError>
@@ -117,7 +117,7 @@ fn rejects<'a>(
 
 // Appends a text, if it is no version or not all ranges accept it.
 fn push_reject<'a>(
-    reading: Reading,
+    reading: ReadOptions,
     ranges: &[Option<RangeRef<'_>>],
     text: &'a str,
     told: &mut Vec<Reason<'a>>,
@@ -174,7 +174,7 @@ fn write_question(
 }
 
 fn write_told(
-    reading: Reading,
+    reading: ReadOptions,
     reason: &Reason<'_>,
     output: &mut String,
 ) -> Result<(), AllocError> {

@@ -11,13 +11,17 @@ use std::io;
 /// with them, joined by a blank: a digit for each version, 1 if the range accepts it, or `-` if the
 /// range text is rejected. A text that is no version is left out.
 pub fn answer_all(rt: &impl Print, alloc: Global, questions: &str) -> io::Result<()> {
+    let loosely = Reading {
+        loose: true,
+        include_prerelease: false,
+    };
     let mut fields = questions.split('\0');
     while let Some(range) = fields.next()
         && let Some(texts) = fields.next()
     {
         let versions: Vec<VersionRef<'_>> = texts
             .split(',')
-            .filter_map(|text| npm::version_loose(text).ok())
+            .filter_map(|text| npm::version(text, loosely).ok())
             .collect(alloc)?;
         let without = answer(alloc, range, false, &versions)?;
         let with = answer(alloc, range, true, &versions)?;
@@ -64,7 +68,8 @@ pub fn show_versions(rt: &impl Print, alloc: Global, texts: &str) -> io::Result<
 }
 
 fn shown(alloc: Global, text: &str) -> Result<String, AllocError> {
-    match (npm::version(text), npm::build_text(text)) {
+    let reading = Reading::default();
+    match (npm::version(text, reading), npm::build_text(text, reading)) {
         (Ok(version), Some(build)) => with_build(alloc, &version, build),
         _ => String::from_str(alloc, "-"),
     }

@@ -8,7 +8,8 @@ ghost use Rattle.std.specs.Prelude.{slice_index_or};
 ghost use Rattle.uses.specs.Resolver.{ArePicked, IsConflict, IsFailure, IsMet, IsPicked};
 ghost use Rattle.uses.specs.Resolver.{MeetsAll, release_at};
 
-use nodejs_semver::{Failure, MAX_SAFE_INTEGER, Range, SemverError, Version, npm};
+use nodejs_semver::npm::{self, Reading};
+use nodejs_semver::{Failure, MAX_SAFE_INTEGER, Range, SemverError, Version};
 use std::alloc::Global;
 use thiserror::Error;
 
@@ -40,7 +41,11 @@ impl Requirement {
         ensures refused { RefusedOnlyIf result
             (NoValue (HasAlternativesIn false MAX_SAFE_INTEGER false text.now)) }
     {
-        let range = npm::range(alloc, text, false)?.to_range(alloc)?;
+        let strict = Reading {
+            loose: false,
+            include_prerelease: false,
+        };
+        let range = npm::range(alloc, text, strict)?.to_range(alloc)?;
         Ok(Requirement {
             package: number,
             range,

@@ -3,29 +3,30 @@
 use nodejs_semver::diagnosis::{
     Expected, IgnoredKind, IgnoredWord, VersionFlaw, ignored_words, version_flaw,
 };
-use nodejs_semver::npm::{Flaw, RangeFlaw, ReadRange, Reading, Wrong};
+use nodejs_semver::npm::{Coercion, Flaw, RangeFlaw, ReadRange, Reading, Wrong};
 use nodejs_semver::{Failure, Range, Version, VersionRef, newest_release, npm};
 use std::cmp::Ordering;
 use std::test::Fail;
 
 #[test]
 fn npm_version(rt: HostRuntime) {
-    assert!(rt; npm::version(" v1.2.3-beta.1 ") == VersionRef::parse("1.2.3-beta.1"));
-    assert!(rt; npm::version("1.2.03").is_err());
-    assert!(rt; npm::version("1.2.3, the second beta").is_err());
+    let strict = Reading::default();
+    assert!(rt; npm::version(" v1.2.3-beta.1 ", strict) == VersionRef::parse("1.2.3-beta.1"));
+    assert!(rt; npm::version("1.2.03", strict).is_err());
+    assert!(rt; npm::version("1.2.3, the second beta", strict).is_err());
+    let loose = Reading {
+        loose: true,
+        ..Reading::default()
+    };
+    assert!(rt; npm::version("= v1.02.3beta", loose) == VersionRef::parse("1.2.3-beta"));
+    assert!(rt; npm::version("1.2.3, the second beta", loose).is_err());
 }
 
 #[test]
 fn npm_clean(rt: HostRuntime) {
     assert!(rt; npm::clean(" =v1.2.3 ") == VersionRef::parse("1.2.3"));
-    assert!(rt; npm::version(" =v1.2.3 ").is_err());
+    assert!(rt; npm::version(" =v1.2.3 ", Reading::default()).is_err());
     assert!(rt; npm::clean("=1.2.03").is_err());
-}
-
-#[test]
-fn npm_version_loose(rt: HostRuntime) {
-    assert!(rt; npm::version_loose("= v1.02.3beta") == VersionRef::parse("1.2.3-beta"));
-    assert!(rt; npm::version_loose("1.2.3, the second beta").is_err());
 }
 
 #[test]
@@ -35,29 +36,37 @@ fn npm_coerce(rt: HostRuntime) {
 }
 
 #[test]
-fn npm_coerce_rtl(rt: HostRuntime) {
-    assert!(rt; npm::coerce_rtl("app-2 1.4.0") == VersionRef::parse("1.4.0").ok());
-}
-
-#[test]
-fn npm_coerce_with_prerelease(rt: HostRuntime) {
-    let found = npm::coerce_with_prerelease("v1.2-rc.3 (beta)");
+fn npm_coerce_with(rt: HostRuntime) {
+    let last = Coercion {
+        rtl: true,
+        ..Coercion::default()
+    };
+    let found = npm::coerce_with("app-2 1.4.0", last);
+    assert!(rt; found == VersionRef::parse("1.4.0").ok());
+    let whole = Coercion {
+        include_prerelease: true,
+        ..Coercion::default()
+    };
+    let found = npm::coerce_with("v1.2-rc.3 (beta)", whole);
     assert!(rt; found == VersionRef::parse("1.2.0-rc.3").ok());
-}
-
-#[test]
-fn npm_coerce_rtl_with_prerelease(rt: HostRuntime) {
-    let found = npm::coerce_rtl_with_prerelease("app-2 1.4.0-b.1");
-    assert!(rt; found == VersionRef::parse("1.4.0-b.1").ok());
 }
 
 #[test]
 fn npm_range(rt: HostRuntime) -> Result<(), Fail> {
     let alloc = rt.alloc();
+    let strict = Reading::default();
     let version = VersionRef::parse("3.1.4")?;
-    let range = npm::range(alloc, ">=1.0.0 <2 || ~3.1", false)?;
+    let range = npm::range(alloc, ">=1.0.0 <2 || ~3.1", strict)?;
     assert!(rt; range.satisfies(&version));
-    assert!(rt; npm::range(alloc, ">=1.0.0, <2.0.0", false).is_err());
+    assert!(rt; npm::range(alloc, ">=1.0.0, <2.0.0", strict).is_err());
+    let loose = Reading {
+        loose: true,
+        ..Reading::default()
+    };
+    let beta = VersionRef::parse("1.2.3-beta")?;
+    let range = npm::range(alloc, "==1.2.3beta || ^02.1", loose)?;
+    assert!(rt; range.satisfies(&beta));
+    assert!(rt; npm::range(alloc, "==1.2.3beta || ^02.1", strict).is_err());
     Ok(())
 }
 
@@ -66,22 +75,12 @@ fn npm_read_range(rt: HostRuntime) -> Result<(), Fail> {
     let alloc = rt.alloc();
     let beta = VersionRef::parse("1.3.0-beta")?;
     let reading = Reading {
-        loose: false,
         include_prerelease: true,
+        ..Reading::default()
     };
     assert!(rt; ReadRange::parse(alloc, "^1.2", reading)?.satisfies(&beta));
     let range = ReadRange::parse(alloc, "^1.2", Reading::default())?;
     assert!(rt; !range.satisfies(&beta));
-    Ok(())
-}
-
-#[test]
-fn npm_range_loose(rt: HostRuntime) -> Result<(), Fail> {
-    let alloc = rt.alloc();
-    let version = VersionRef::parse("1.2.3-beta")?;
-    let range = npm::range_loose(alloc, "==1.2.3beta || ^02.1", false)?;
-    assert!(rt; range.satisfies(&version));
-    assert!(rt; npm::range(alloc, "==1.2.3beta || ^02.1", false).is_err());
     Ok(())
 }
 
@@ -281,15 +280,16 @@ fn cmp_build(rt: HostRuntime) -> Result<(), Fail> {
 
 #[test]
 fn build_text(rt: HostRuntime) {
-    assert!(rt; npm::build_text(" v1.0.0-rc.1+001.0a ") == Some("001.0a"));
-    assert!(rt; npm::build_text("1.0.0") == Some(""));
-    assert!(rt; npm::build_text("1.0+001").is_none());
-}
-
-#[test]
-fn build_text_loose(rt: HostRuntime) {
-    assert!(rt; npm::build_text_loose("= v1.02.3beta+007") == Some("007"));
-    assert!(rt; npm::build_text("= v1.02.3beta+007").is_none());
+    let strict = Reading::default();
+    assert!(rt; npm::build_text(" v1.0.0-rc.1+001.0a ", strict) == Some("001.0a"));
+    assert!(rt; npm::build_text("1.0.0", strict) == Some(""));
+    assert!(rt; npm::build_text("1.0+001", strict).is_none());
+    let loose = Reading {
+        loose: true,
+        ..Reading::default()
+    };
+    assert!(rt; npm::build_text("= v1.02.3beta+007", loose) == Some("007"));
+    assert!(rt; npm::build_text("= v1.02.3beta+007", strict).is_none());
 }
 
 #[test]

@@ -5,7 +5,7 @@ ghost use Rattle.nodejs_semver.specs.Npm.VersionText.{IsVersionText};
 ghost use Rattle.nodejs_semver.specs.Versions.{VersionValue};
 
 use super::{long_text, prints};
-use nodejs_semver::npm::{Flaw, RangeFlaw, Wrong};
+use nodejs_semver::npm::{Flaw, RangeFlaw, Reading, Wrong};
 use nodejs_semver::{MAX_SAFE_INTEGER, npm};
 use std::alloc::Global;
 
@@ -65,7 +65,7 @@ const FLAWED: &[(&str, Wrong, usize)] = &[
 fn versions_have_no_flaw(rt: HostRuntime) {
     for text in VERSIONS {
         assert!(rt; is_version(text));
-        assert!(rt; npm::version(text).is_ok());
+        assert!(rt; npm::version(text, Reading::default()).is_ok());
     }
 }
 
@@ -77,7 +77,7 @@ fn a_flaw_has_its_kind_and_place(rt: HostRuntime) {
             at: *at,
         };
         assert!(rt; npm::version_flaw(text) == Some(flaw));
-        assert!(rt; npm::version(text).is_err());
+        assert!(rt; npm::version(text, Reading::default()).is_err());
     }
 }
 

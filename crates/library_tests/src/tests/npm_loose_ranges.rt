@@ -8,8 +8,15 @@ ghost use Rattle.nodejs_semver.specs.Npm.Table.{Comparison};
 ghost use Rattle.nodejs_semver.specs.Parsing.{Parses};
 ghost use Rattle.nodejs_semver.specs.Versions.{VersionValue};
 
+use nodejs_semver::npm::Reading;
 use nodejs_semver::{Failure, MAX_SAFE_INTEGER, SemverError, VersionRef, npm};
 use std::alloc::Global;
+
+// Without pre-releases included.
+const LOOSELY: Reading = Reading {
+    loose: true,
+    include_prerelease: false,
+};
 
 // Whether the range of a text accepts the version of another.
 fn admits(
@@ -25,7 +32,11 @@ fn admits(
         (NoValue (HasAlternativesIn true MAX_SAFE_INTEGER include range.now)
         ⊎ NoValue (Parses MAX_SAFE_INTEGER version.now)) }
 {
-    let range = npm::range_loose(alloc, range, include)?;
+    let reading = Reading {
+        loose: true,
+        include_prerelease: include,
+    };
+    let range = npm::range(alloc, range, reading)?;
     let version = VersionRef::parse(version)?;
     Ok(range.satisfies_with_prerelease(&version, include))
 }
@@ -175,7 +186,7 @@ const REJECTED: &[&str] = &[
     "foo= 1",
 ];
 
-// Texts that node-semver reads, and `range_loose` does not.
+// Texts that node-semver reads loosely, and `npm::range` does not.
 const LEFT_OUT: &[&str] = &[">1000000000000000000000 1"];
 
 fn tells(alloc: Global, include: bool, text: &str, version: &str, wanted: bool) -> bool {
@@ -188,7 +199,7 @@ fn tells(alloc: Global, include: bool, text: &str, version: &str, wanted: bool) 
 #[test]
 fn ranges_are_read_loosely(rt: HostRuntime) {
     for (text, accepted, rejected) in READ {
-        assert!(rt; npm::range(rt.alloc(), text, false).is_err());
+        assert!(rt; npm::range(rt.alloc(), text, Reading::default()).is_err());
         assert!(rt; tells(rt.alloc(), false, text, accepted, true));
         assert!(rt; tells(rt.alloc(), false, text, rejected, false));
     }
@@ -197,9 +208,9 @@ fn ranges_are_read_loosely(rt: HostRuntime) {
         assert!(rt; tells(rt.alloc(), true, text, rejected, false));
     }
     for text in REJECTED {
-        assert!(rt; npm::range_loose(rt.alloc(), text, false).is_err());
+        assert!(rt; npm::range(rt.alloc(), text, LOOSELY).is_err());
     }
     for text in LEFT_OUT {
-        assert!(rt; npm::range_loose(rt.alloc(), text, false).is_err());
+        assert!(rt; npm::range(rt.alloc(), text, LOOSELY).is_err());
     }
 }

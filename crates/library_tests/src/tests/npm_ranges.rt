@@ -9,12 +9,17 @@ ghost use Rattle.nodejs_semver.specs.Parsing.{Parses};
 ghost use Rattle.nodejs_semver.specs.Versions.{VersionValue};
 
 use super::prints;
+use nodejs_semver::npm::Reading;
 use nodejs_semver::{Failure, MAX_SAFE_INTEGER, SemverError, VersionRef, npm};
 use std::alloc::Global;
 
 // Whether a range text is read, and not rejected.
 fn is_range(alloc: Global, text: &str) -> bool {
-    npm::range(alloc, text, false).is_ok() && npm::range(alloc, text, true).is_ok()
+    let included = Reading {
+        include_prerelease: true,
+        ..Reading::default()
+    };
+    npm::range(alloc, text, Reading::default()).is_ok() && npm::range(alloc, text, included).is_ok()
 }
 
 // Whether the range of a text accepts the version of another.
@@ -31,7 +36,11 @@ fn admits(
         (NoValue (HasAlternativesIn false MAX_SAFE_INTEGER include range.now)
         ⊎ NoValue (Parses MAX_SAFE_INTEGER version.now)) }
 {
-    let range = npm::range(alloc, range, include)?;
+    let strict = Reading {
+        loose: false,
+        include_prerelease: include,
+    };
+    let range = npm::range(alloc, range, strict)?;
     let version = VersionRef::parse(version)?;
     Ok(range.satisfies_with_prerelease(&version, include))
 }
@@ -97,7 +106,7 @@ fn tells(alloc: Global, include: bool, text: &str, version: &str, wanted: bool) 
 }
 
 fn prints_as(alloc: Global, text: &str, printed: &str) -> bool {
-    match npm::range(alloc, text, false) {
+    match npm::range(alloc, text, Reading::default()) {
         Ok(range) => prints(alloc, &range, printed),
         Err(_) => false,
     }

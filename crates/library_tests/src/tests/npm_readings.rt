@@ -8,7 +8,7 @@ use std::test::Fail;
 // Whether the range of a text, so read, accepts the version of another.
 fn admits(alloc: Global, reading: Reading, range: &str, version: &str) -> Option<bool> {
     let range = ReadRange::parse(alloc, range, reading).ok()?;
-    let version = npm::version(version).ok()?;
+    let version = npm::version(version, Reading::default()).ok()?;
     Some(range.satisfies(&version))
 }
 

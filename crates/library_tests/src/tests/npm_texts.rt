@@ -7,8 +7,14 @@ ghost use Rattle.nodejs_semver.specs.Npm.VersionText.{IsLooseVersionText};
 ghost use Rattle.nodejs_semver.specs.Versions.{VersionValue};
 
 use super::{found_prints, prints};
+use nodejs_semver::npm::{Coercion, Reading};
 use nodejs_semver::{MAX_SAFE_INTEGER, SemverError, VersionRef, npm};
 use std::alloc::{AllocError, Global};
+
+const LOOSELY: Reading = Reading {
+    loose: true,
+    include_prerelease: false,
+};
 
 // The first number of the version that a text is, read loosely.
 fn major_of(text: &str) -> Result<u64, SemverError>
@@ -16,7 +22,11 @@ fn major_of(text: &str) -> Result<u64, SemverError>
         × IsLooseVersionText MAX_SAFE_INTEGER text.now v × (n ≡ v.major)) }
     ensures refused { IfErr result (λ _. NoValue (IsLooseVersionText MAX_SAFE_INTEGER text.now)) }
 {
-    match npm::version_loose(text) {
+    let loose = Reading {
+        loose: true,
+        include_prerelease: false,
+    };
+    match npm::version(text, loose) {
         Ok(version) => Ok(version.major()),
         Err(error) => Err(error),
     }
@@ -58,7 +68,7 @@ const REJECTED: &[&str] = &[
 ];
 
 fn reads_as(alloc: Global, text: &str, printed: &str) -> bool {
-    match npm::version_loose(text) {
+    match npm::version(text, LOOSELY) {
         Ok(version) => prints(alloc, &version, printed),
         Err(_) => false,
     }
@@ -70,7 +80,7 @@ fn versions_are_read_loosely(rt: HostRuntime) {
         assert!(rt; reads_as(rt.alloc(), text, printed));
     }
     for text in REJECTED {
-        assert!(rt; npm::version_loose(text).is_err());
+        assert!(rt; npm::version(text, LOOSELY).is_err());
     }
     assert!(rt; major_of("= 020.1.0") == Ok(20));
 }
@@ -146,33 +156,56 @@ fn finds(alloc: Global, found: Option<VersionRef<'_>>, printed: &str) -> bool {
     }
 }
 
+// Whether these are the versions that are found in a text by these options, from the left and from
+// the right.
+fn finds_both(alloc: Global, text: &str, options: Coercion, first: &str, last: &str) -> bool {
+    let found = npm::coerce_with(text, options);
+    let found_last = npm::coerce_with(
+        text,
+        Coercion {
+            rtl: true,
+            ..options
+        },
+    );
+    finds(alloc, found, first) && finds(alloc, found_last, last)
+}
+
 #[test]
 fn pre_releases_are_found_in_texts(rt: HostRuntime) -> Result<(), AllocError> {
     let alloc = rt.alloc();
+    let strict = Coercion {
+        include_prerelease: true,
+        ..Coercion::default()
+    };
+    let loose = Coercion {
+        loose: true,
+        ..strict
+    };
     for (text, first, last) in FOUND_WITH_PRERELEASE {
-        assert!(rt; finds(alloc, npm::coerce_with_prerelease(text), first));
-        assert!(rt; finds(alloc, npm::coerce_rtl_with_prerelease(text), last));
+        assert!(rt; finds_both(alloc, text, strict, first, last));
     }
     for (text, first, last) in FOUND_LOOSELY_WITH_PRERELEASE {
-        assert!(rt; finds(alloc, npm::coerce_with_prerelease_loose(text), first));
-        assert!(rt; finds(alloc, npm::coerce_rtl_with_prerelease_loose(text), last));
+        assert!(rt; finds_both(alloc, text, loose, first, last));
     }
     let longest = format!(in alloc; "1-{}", "a".repeat(alloc, 250)?)?;
-    assert!(rt; npm::coerce_with_prerelease(longest.as_str()).is_some());
+    assert!(rt; npm::coerce_with(longest.as_str(), strict).is_some());
     let too_long = format!(in alloc; "{longest}a")?;
-    assert!(rt; npm::coerce_with_prerelease(too_long.as_str()).is_none());
+    assert!(rt; npm::coerce_with(too_long.as_str(), strict).is_none());
     Ok(())
 }
 
 #[test]
 fn versions_are_found_in_texts(rt: HostRuntime) {
+    let loose = Coercion {
+        loose: true,
+        ..Coercion::default()
+    };
     for (text, first, last) in FOUND {
         assert!(rt; finds(rt.alloc(), npm::coerce(text), first));
-        assert!(rt; finds(rt.alloc(), npm::coerce_rtl(text), last));
+        assert!(rt; finds_both(rt.alloc(), text, Coercion::default(), first, last));
     }
     for (text, first, last) in FOUND_LOOSELY {
-        assert!(rt; finds(rt.alloc(), npm::coerce_loose(text), first));
-        assert!(rt; finds(rt.alloc(), npm::coerce_rtl_loose(text), last));
+        assert!(rt; finds_both(rt.alloc(), text, loose, first, last));
     }
     assert!(rt; is_found("about 1.5 s"));
     assert!(rt; !is_found("about 01.5 s"));

@@ -6,6 +6,7 @@ ghost use Rattle.nodejs_semver.specs.Npm.VersionText.{IsVersionText};
 ghost use Rattle.nodejs_semver.specs.Versions.{VersionValue};
 
 use super::{long_text, prints};
+use nodejs_semver::npm::Reading;
 use nodejs_semver::{MAX_SAFE_INTEGER, SemverError, npm};
 use std::alloc::Global;
 
@@ -15,7 +16,11 @@ fn major_of(text: &str) -> Result<u64, SemverError>
         × IsVersionText MAX_SAFE_INTEGER text.now v × (n ≡ v.major)) }
     ensures refused { IfErr result (λ _. NoValue (IsVersionText MAX_SAFE_INTEGER text.now)) }
 {
-    match npm::version(text) {
+    let strict = Reading {
+        loose: false,
+        include_prerelease: false,
+    };
+    match npm::version(text, strict) {
         Ok(version) => Ok(version.major()),
         Err(error) => Err(error),
     }
@@ -23,7 +28,7 @@ fn major_of(text: &str) -> Result<u64, SemverError>
 
 // Whether the text is a version.
 fn is_version(text: &str) -> bool {
-    npm::version(text).is_ok()
+    npm::version(text, Reading::default()).is_ok()
 }
 
 // Texts, and what node-semver prints of their versions, with their builds.
@@ -61,7 +66,7 @@ const REJECTED: &[&str] = &[
 ];
 
 fn reads_as(alloc: Global, text: &str, printed: &str) -> bool {
-    match npm::version(text) {
+    match npm::version(text, Reading::default()) {
         Ok(version) => prints(alloc, &version, printed),
         Err(_) => false,
     }
@@ -163,8 +168,15 @@ const BUILDS: &[(&str, Option<&str>, Option<&str>)] = &[
 
 #[test]
 fn builds_are_as_written(rt: HostRuntime) {
+    let loosely = Reading {
+        loose: true,
+        include_prerelease: false,
+    };
     for &(text, strict, loose) in BUILDS {
-        assert!(rt; npm::build_text(text) == strict, "{text}");
-        assert!(rt; npm::build_text_loose(text) == loose, "{text}");
+        assert!(rt;
+            npm::build_text(text, Reading::default()) == strict,
+            "{text}"
+        );
+        assert!(rt; npm::build_text(text, loosely) == loose, "{text}");
     }
 }

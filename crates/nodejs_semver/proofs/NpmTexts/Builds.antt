@@ -4,7 +4,7 @@ use Rattle.nodejs_semver.proofs.Common.{encode_utf8, encode_utf8_all, false, is_
 use Rattle.nodejs_semver.proofs.Common.{middle_is_trim, nat_tests, not, pieces, refl, subst, sym, true, ℕ, ◌++◌, ◌==◌, ◌||◌, ◌∙◌, ◌∷◌}
 use Rattle.nodejs_semver.proofs.{Common.{◌≡◌, ◌≤◌}, NpmCommon.{AreMarks, IsStrictBuild, IsStrictVersion, encode_ascii, is_mark}}
 use Rattle.nodejs_semver.proofs.{NpmCommon.{join_with_byte, listed, no_build, plus}, Reading.Bytes.all-join, Strict.VersionLaw.build-taken}
-use Rattle.nodejs_semver.specs.Npm.{Builds.IsBuildText, Grammar.{IsPreRelease, IsWritten, written}, VersionText.{IsLooseVersion, IsWhole}}
+use Rattle.nodejs_semver.specs.Npm.{Builds.IsBuildText, Grammar.{IsPreRelease, IsWritten, written}, VersionText.{IsLooseVersion, IsVersionTextIn, IsWhole}}
 use Rattle.semver_core.{proofs.Text.Ends.{is_spelled, nothing_listed}, specs.Text.Identifiers.is_listed}
 use Rattle.std.{proofs.lemmas.List.Splits.join_with_byte-slice_split, specs.List.after_first}
 
@@ -103,10 +103,7 @@ build-text Is law text middle build v w trimmed e =
       spelled = spells.1;
     }
 
-pub strict-build : (limit : ℕ) (text middle build : List ℕ) (v : VersionValue) → IsWhole (IsStrictVersion limit) text v → IsTrim text middle
-    → build ≡ after_first (λ b. b == 43) middle → IsBuildText (IsWhole (IsStrictVersion limit)) text build
-strict-build limit = build-text (IsStrictVersion limit) (strict-spells limit)
-
-pub loose-build : (limit : ℕ) (text middle build : List ℕ) (v : VersionValue) → IsWhole (IsLooseVersion limit) text v → IsTrim text middle
-    → build ≡ after_first (λ b. b == 43) middle → IsBuildText (IsWhole (IsLooseVersion limit)) text build
-loose-build limit = build-text (IsLooseVersion limit) (loose-spells limit)
+pub build-written : (loose : Bool) (limit : ℕ) (text middle build : List ℕ) (v : VersionValue) → IsVersionTextIn loose limit text v
+    → IsTrim text middle → build ≡ after_first (λ b. b == 43) middle → IsBuildText (IsVersionTextIn loose limit) text build
+build-written false limit = build-text (IsStrictVersion limit) (strict-spells limit)
+build-written true limit = build-text (IsLooseVersion limit) (loose-spells limit)

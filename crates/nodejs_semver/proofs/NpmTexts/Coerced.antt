@@ -8,9 +8,9 @@ use Rattle.nodejs_semver.proofs.NpmCommon.{IsRightmost, IsRun, IsTuple, MAX_LENG
 use Rattle.nodejs_semver.proofs.NpmCommon.{listed, nat_le, number_front, strict_number, tuple_len, tuple_release, ◌>>?◌}
 use Rattle.nodejs_semver.proofs.{NpmTexts.Lists.{marked-found, marked-read}, Reading.Numbers.{digits-taken, number-is, number-read, run-ends}}
 use Rattle.nodejs_semver.proofs.Strict.{Characters.last-byte, PartialLaw.digits-of, VersionLaw.{padded-same, strict-read}}
-use Rattle.nodejs_semver.specs.Internal.NpmTuples.{BeginsAfter, IsFirstPlace, IsLastPlace, absent_len, build_len, dotted_len, end_at}
+use Rattle.nodejs_semver.specs.Internal.NpmTuples.{BeginsAfter, IsChosenPlace, IsFirstPlace, IsLastPlace, absent_len, build_len, dotted_len, end_at}
 use Rattle.nodejs_semver.specs.Internal.NpmTuples.{marked_len, number_in_reading, pre_len, qualified, run_len, tuple_len_at, version_front}
-use Rattle.nodejs_semver.specs.Npm.Coerced.{IsCoerced, IsContinuedIn, IsMarkedList, IsNumberIn, IsRelease, absent, marked, one, three, two, unmarked}
+use Rattle.nodejs_semver.specs.Npm.Coerced.{IsChosenFrom, IsCoerced, IsContinuedIn, IsMarkedList, IsNumberIn, IsRelease, absent, marked, one, three, two, unmarked}
 use Rattle.{semver_core.proofs.Text.Pieces.rest_at, std.proofs.{Math.Seq.{drop-append_seam, take-append_seam}, lemmas.List.Sums.sum_by-append}}
 use Rattle.std.specs.List.{count_by}
 use Rattle.nodejs_semver.specs.Npm.Coerced as Npm
@@ -236,6 +236,10 @@ pub last_taken : (included : Bool) (text : List ℕ) (at start end there : ℕ) 
     → IsLastBefore included text at start end → IsLastBefore included text (at + 1) at there
 last_taken included text at start end there e more h = grind arith
 
+pub chosen : (included rtl : Bool) (text : List ℕ) (at : ℕ) → IsChosenPlace included rtl text at → Chooses (IsChosenFrom rtl) included text at
+chosen included false text at h = leftmost-chosen included text at h
+chosen included true text at h = rightmost-chosen included text at h
+
 -- ---- the numbers of a tuple
 
 front-found : (limit : ℕ) (a rest : List ℕ) (n : ℕ) (r : List ℕ) → IsRun a → begins is_ascii_digit rest ≡ false
@@ -387,6 +391,10 @@ rightmost-settled = record {
         omega (arith, p.here, rw p.here at p.end, d.last p.front p.whole p.back p.is, seen is, seen p.is),
       );
 }
+
+pub settled : (rtl : Bool) → IsSettled (IsChosenFrom rtl)
+settled false = leftmost-settled
+settled true = rightmost-settled
 
 pub coerced-once : (included zeros : Bool) (C : Chosen) (text : List ℕ) (v w : VersionValue) → IsSettled C
     → IsCoerced included C (IsNumberIn zeros) text v → IsCoerced included C (IsNumberIn zeros) text w → v ≡ w

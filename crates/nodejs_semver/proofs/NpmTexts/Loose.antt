@@ -1,16 +1,16 @@
 -- Version texts of the loose reading: the function that reads them finds exactly what the statement has.
-use Rattle.nodejs_semver.proofs.Common.{Id, IsNumber, IsPieceAt, IsUtf8, IsWholeNumber, List, NoPieceAt, None, Some, VersionValue, [], and-false}
+use Rattle.nodejs_semver.proofs.Common.{Bool, Id, IsNumber, IsPieceAt, IsTrim, IsUtf8, IsWholeNumber, List, NoPieceAt, None, Some, VersionValue, [], and-false}
 use Rattle.nodejs_semver.proofs.Common.{and_parts, append-nil, arith, begins, begins_identifier, bind_some, cases_Bool, common_steps, drop, drop_at}
 use Rattle.nodejs_semver.proofs.Common.{encode_utf8_all, eqb-true, false, inl, inr, is_ascii_digit, is_empty, is_identifier_char, length, list_all}
 use Rattle.nodejs_semver.proofs.Common.{list_len, nat_tests, not, or_right, prefix_len, refl, same_Some, subst, sym, take, take-append-drop, take_at}
-use Rattle.nodejs_semver.proofs.{Common.{take_rest, true, ℕ, ◌&&◌, ◌++◌, ◌-◌, ◌<◌, ◌==◌, ◌∷◌, ◌≡◌}, NpmCommon.{AreMarks, IsStrictBuild, bare}}
-use Rattle.nodejs_semver.proofs.NpmCommon.{begins_byte, begins_undashed, build_front, dashed, dashed_front, drop_ends, loose_dotted, loose_front}
-use Rattle.nodejs_semver.proofs.NpmCommon.{loose_patch, loose_qualified, loose_version, no_pre_release, number_front, number_of, patch_front}
+use Rattle.nodejs_semver.proofs.{Common.{take_rest, true, ℕ, ◌&&◌, ◌++◌, ◌-◌, ◌<◌, ◌==◌, ◌∷◌, ◌≡◌, ◌≤◌}, NpmCommon.{AreMarks, IsStrictBuild, bare}}
+use Rattle.nodejs_semver.proofs.NpmCommon.{MAX_LENGTH, NoValue, begins_byte, begins_undashed, build_front, chars, dashed, dashed_front, drop_ends, loose_dotted, loose_front}
+use Rattle.nodejs_semver.proofs.NpmCommon.{loose_patch, loose_qualified, loose_version, strict_version, no_pre_release, number_front, number_of, patch_front}
 use Rattle.nodejs_semver.proofs.{NpmCommon.{pre_front, pre_release_front, ◌>>?◌}, Reading.{Bytes.{component-solid, solid-dark}, Numbers.digits-taken}}
 use Rattle.nodejs_semver.proofs.Reading.Numbers.{front_none, front_some, number-found, number-is, number-of, number-read, run-ends}
 use Rattle.nodejs_semver.proofs.Strict.{Hyphens.{ends-found, ends-read}, PartialLaw.{digits-of, patch-exact}, VersionLaw.{At, Ends, Follows}}
-use Rattle.nodejs_semver.proofs.Strict.VersionLaw.{PreFound, build-ends, build-taken, dotted-found, ended-found, letter-on, pre-follows, pre-found}
-use Rattle.nodejs_semver.{proofs.Strict.VersionLaw.pre-taken, specs.{Internal.NpmLooseVersions.patch_len, Npm.{Grammar.IsPreRelease, VersionText.IsLooseVersion}}}
+use Rattle.nodejs_semver.proofs.Strict.VersionLaw.{PreFound, strict-found-version, strict-read-version, text_refused, build-ends, build-taken, dotted-found, ended-found, letter-on, pre-follows, pre-found}
+use Rattle.nodejs_semver.{proofs.Strict.VersionLaw.pre-taken, specs.{Internal.NpmLooseVersions.{patch_len, whole_version}, Npm.{Grammar.IsPreRelease, VersionText.{IsLooseVersion, IsStrictVersion, IsVersionTextIn}}}}
 use Rattle.{nodejs_semver.specs.Npm.Grammar.written, std.proofs.lemmas.List.drop-drop}
 
 -- ---- the patch number that the code finds
@@ -136,3 +136,15 @@ parts-read limit mark x y z pre build v m i j k p q = grind (arith, marks-read, 
 
 pub loose-read : (limit : ℕ) (text : List ℕ) (v : VersionValue) → IsLooseVersion limit text v → loose_version limit text ≡ Some v
 loose-read limit text v (written mark x y z pre build w m i j k p q) = parts-read limit mark x y z pre build w m i j k p q
+
+-- ---- whole texts, read loosely or strictly
+
+pub text_read : (loose : Bool) (limit : ℕ) (text middle : List ℕ) (v : VersionValue) → length (chars text) ≤ MAX_LENGTH → IsTrim text middle
+    → IsUtf8 middle → whole_version loose limit middle ≡ Some v → IsVersionTextIn loose limit text v
+text_read false limit text middle v short trimmed u e = (short, middle, trimmed, strict-found-version limit middle v e)
+text_read true limit text middle v short trimmed u e = (short, middle, trimmed, loose-found limit middle v u e)
+
+pub text_rejected : (loose : Bool) (limit : ℕ) (text middle : List ℕ) → IsTrim text middle → whole_version loose limit middle ≡ None
+    → NoValue (IsVersionTextIn loose limit text)
+text_rejected false limit text middle = text_refused (IsStrictVersion limit) (strict_version limit) text middle (strict-read-version limit)
+text_rejected true limit text middle = text_refused (IsLooseVersion limit) (loose_version limit) text middle (loose-read limit)

@@ -1,5 +1,5 @@
 -- For proofs and private contracts. What node-semver's loose reading finds in a version text, as functions.
-use Rattle.std.specs.Prelude.{◌&&◌, ◌-◌, ℕ, List, Option, Some, None, if◌then◌else◌, drop, take}
+use Rattle.std.specs.Prelude.{◌&&◌, ◌-◌, ℕ, Bool, List, Option, Some, None, if◌then◌else◌, drop, take}
 use Rattle.std.specs.Char.{is_ascii_digit}
 use Rattle.std.specs.List.{prefix_len}
 use Rattle.semver_core.specs.Internal.Reading.{◌>>?◌}
@@ -7,6 +7,7 @@ use Rattle.semver_core.specs.Lists.{is_empty}
 use Rattle.semver_core.specs.Text.Identifiers.{listed}
 use Rattle.semver_core.specs.Values.Versions.{VersionValue}
 use Rattle.nodejs_semver.specs.Internal.Fronts.{Front, after_byte, begins_byte, begins_identifier, build_front, marked_list, number_front, number_of}
+use Rattle.nodejs_semver.specs.Internal.NpmReadings.{strict_version}
 use Rattle.nodejs_semver.specs.Internal.NpmWords.{drop_ends}
 
 -- a number behind a dot
@@ -41,3 +42,7 @@ loose_qualified major minor patch text = loose_ended major minor patch (loose_fr
 unfoldable pub loose_version : ℕ → List ℕ → Option VersionValue
 loose_version limit text = number_front limit (drop_ends text) >>? λ a. loose_dotted limit a.1 >>? λ b.
     loose_patch limit b.1 >>? λ c. loose_qualified a.0 b.0 c.0 c.1
+
+-- the version that the whole text is, read loosely or strictly
+abbrev pub whole_version : Bool → ℕ → List ℕ → Option VersionValue
+whole_version loose limit text = if loose then loose_version limit text else strict_version limit text

@@ -84,6 +84,10 @@ pub record IsLastPlace (included : Bool) (text : List ℕ) (at : ℕ) : Type 0 w
   pub some : 0 < end
   pub is : IsLastBefore included text (length text) at end
 
+-- the tuple that is looked for begins at the place
+abbrev pub IsChosenPlace : Bool → Bool → List ℕ → ℕ → Type 0
+IsChosenPlace included rtl text at = elim rtl [ false ↦ IsFirstPlace text at | true ↦ IsLastPlace included text at ]
+
 -- a number, with leading zeros or only without
 abbrev pub number_in_reading : Bool → ℕ → List ℕ → Front ℕ
 number_in_reading zeros limit text = if zeros then number_front limit text else strict_number limit text

@@ -12,6 +12,7 @@ use Rattle.semver_core.specs.Text.Numbers.{IsNumber}
 use Rattle.semver_core.specs.Values.Versions.{VersionValue, release_value}
 use Rattle.semver_core.specs.declared.TheConstants.{MAX_LENGTH, MAX_SAFE_INTEGER}
 use Rattle.nodejs_semver.specs.Npm.Grammar.{IsStrictNumber, has_leading_zero}
+use Rattle.nodejs_semver.specs.declared.npm.options.Coercion.{Coercion}
 
 -- 1 to 16 digits
 pub record IsRun (text : List ℕ) : Type 0 where
@@ -109,3 +110,11 @@ pub record IsCoerced (included : Bool) (IsChosen : Bool → List ℕ → List �
   pub numbers : IsRelease Number found.found.runs release
   pub is : v ≡ record release { pre_release = found.pre_ids; build = found.build_ids }
   pub short : length (found.tuple ++ (absent found.found.runs ++ (found.pre ++ found.build))) ≤ MAX_LENGTH
+
+-- the tuple that is looked for, from the left or from the right
+abbrev pub IsChosenFrom : Bool → Bool → List ℕ → List ℕ → List ℕ → List ℕ → Type 0
+IsChosenFrom rtl = elim rtl [ false ↦ IsLeftmost | true ↦ IsRightmost ]
+
+-- the version that these options look for in the text
+abbrev pub IsCoercedBy : Coercion → List ℕ → VersionValue → Type 0
+IsCoercedBy options = IsCoerced options.include_prerelease (IsChosenFrom options.rtl) (IsNumberIn options.loose)

@@ -3,7 +3,7 @@ use Rattle.std.specs.Prelude.{ℕ, Bool, List}
 use Rattle.semver_core.specs.Values.Versions.{VersionValue}
 use Rattle.nodejs_semver.specs.Npm.Ranges.{HasAlternativesIn, accepts}
 use Rattle.nodejs_semver.specs.Npm.Table.{Comparison}
-use Rattle.nodejs_semver.specs.declared.npm.readings.Reading.{Reading}
+use Rattle.nodejs_semver.specs.declared.npm.options.Reading.{Reading}
 
 -- a range text, and how it is read: loosely or strictly, and with pre-releases included or not
 pub record ReadText : Type 0 where

@@ -1,5 +1,5 @@
 -- Statement: the version texts of node-semver's strict reading, its default, and of its loose one.
-use Rattle.std.specs.Prelude.{◌≡◌, ◌⊎◌, ◌≤◌, ℕ, true, false, List, []}
+use Rattle.std.specs.Prelude.{◌≡◌, ◌⊎◌, ◌≤◌, ℕ, Bool, true, false, List, []}
 use Rattle.std.specs.Prelude.{codes, drop, length}
 use Rattle.std.specs.List.{prefix_len}
 use Rattle.std.specs.Str.{chars}
@@ -29,6 +29,10 @@ IsVersionText limit = IsWhole (IsStrictVersion limit)
 
 abbrev pub IsLooseVersionText : ℕ → List ℕ → VersionValue → Type 0
 IsLooseVersionText limit = IsWhole (IsLooseVersion limit)
+
+-- the text is this version, read loosely or strictly
+abbrev pub IsVersionTextIn : Bool → ℕ → List ℕ → VersionValue → Type 0
+IsVersionTextIn loose = elim loose [ false ↦ IsVersionText | true ↦ IsLooseVersionText ]
 
 -- node-semver's `clean`: without the whitespace around it, and without the `v` and `=` then at its front, the
 -- text is this version

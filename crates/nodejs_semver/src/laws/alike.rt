@@ -14,7 +14,8 @@ ghost use Rattle.semver_core.specs.declared.TheConstants.{MAX_SAFE_INTEGER};
 ghost use Rattle.std.specs.Prelude.{◌≡◌, ◌<◌, ◌⊎◌, [], ℕ, IfOk, List, false, length, true};
 ghost use Rattle.std.specs.Str.{IsUtf8};
 
-use crate::{Failure, Range, SemverError, Version, npm};
+use crate::npm::{self, Reading};
+use crate::{Failure, Range, SemverError, Version};
 use std::alloc::Global;
 
 /// Range texts that mean the same to `Range::parse` and to node-semver's strict reading, as
@@ -69,6 +70,10 @@ pub fn satisfied_alike(
         ⊎ NoValue (HasAlternativesIn false MAX_SAFE_INTEGER false text.now)) }
 {
     let here = Range::parse(alloc, text)?;
-    let there = npm::range(alloc, text, false)?;
+    let strict = Reading {
+        loose: false,
+        include_prerelease: false,
+    };
+    let there = npm::range(alloc, text, strict)?;
     Ok((here.satisfies(version), there.satisfies(version)))
 }

@@ -2,11 +2,11 @@
 
 ghost use Rattle.std.specs.{Prelude.{◌==◌, ◌≡◌, IfNone, IfSome}, List.after_first};
 ghost use Rattle.std.specs.Cmp.Lexicographic.{slice_cmp};
-ghost use Rattle.nodejs_semver.specs.Words.{IsVersionText, MAX_SAFE_INTEGER, NoValue, build_order};
-ghost use Rattle.nodejs_semver.specs.Npm.{Builds.IsBuildText, VersionText.IsLooseVersionText};
+ghost use Rattle.nodejs_semver.specs.Words.{MAX_SAFE_INTEGER, NoValue, build_order};
+ghost use Rattle.nodejs_semver.specs.Npm.{Builds.IsBuildText, VersionText.IsVersionTextIn};
 ghost use Rattle.semver_core.specs.Values.Order.{id_cmp};
 
-use crate::npm::loose_versions::version_loose;
+use crate::npm::options::Reading;
 use crate::npm::versions::version;
 use semver_core::scan::trim;
 use semver_core::{IdentifierRefs, Versioned};
@@ -55,7 +55,7 @@ fn cmp_lists(list: IdentifierRefs<'_>, other: IdentifierRefs<'_>) -> Ordering
     }
 }
 
-// The text behind the first `+`, or nothing where there is none.
+// The text after the first `+`, or nothing where there is none.
 fn behind_plus(text: &str) -> &str
     ensures { result.now ≡ after_first (λ b. b == 43) text.now }
 {
@@ -67,7 +67,7 @@ fn behind_plus(text: &str) -> &str
 
 /// Returns the build metadata of a version text as it is written, without its `+`: the empty text
 /// if the version has none, and `None` exactly if [`version`](crate::npm::version) rejects the
-/// text.
+/// text in this reading.
 ///
 /// A version keeps the identifiers of its build by value, so that `1.0.0+001` prints `1.0.0+1`. A
 /// build that names a commit or a date, as `+0123456` does, keeps its leading zeros in this text,
@@ -75,39 +75,26 @@ fn behind_plus(text: &str) -> &str
 /// borrowed from the version text: nothing is allocated.
 ///
 /// ```rust
-/// assert!(rt; npm::build_text(" v1.0.0-rc.1+001.0a ") == Some("001.0a"));
-/// assert!(rt; npm::build_text("1.0.0") == Some(""));
-/// assert!(rt; npm::build_text("1.0+001").is_none());
+/// let strict = Reading::default();
+/// assert!(rt; npm::build_text(" v1.0.0-rc.1+001.0a ", strict) == Some("001.0a"));
+/// assert!(rt; npm::build_text("1.0.0", strict) == Some(""));
+/// assert!(rt; npm::build_text("1.0+001", strict).is_none());
+/// let loose = Reading {
+///     loose: true,
+///     ..Reading::default()
+/// };
+/// assert!(rt; npm::build_text("= v1.02.3beta+007", loose) == Some("007"));
+/// assert!(rt; npm::build_text("= v1.02.3beta+007", strict).is_none());
 /// ```
-pub fn build_text(text: &str) -> Option<&str>
+pub fn build_text(text: &str, reading: Reading) -> Option<&str>
     // What is returned is the build of the version that the text is, as the text has it.
     ensures some { IfSome result (λ build.
-        IsBuildText (IsVersionText MAX_SAFE_INTEGER) text.now build.now) }
+        IsBuildText (IsVersionTextIn reading.loose MAX_SAFE_INTEGER) text.now build.now) }
     // Nothing is returned only if the text is no version.
-    ensures none { IfNone result (NoValue (IsVersionText MAX_SAFE_INTEGER text.now)) }
+    ensures none { IfNone result
+        (NoValue (IsVersionTextIn reading.loose MAX_SAFE_INTEGER text.now)) }
 {
-    match version(text) {
-        Ok(_) => Some(behind_plus(trim(text))),
-        Err(_) => None,
-    }
-}
-
-/// Returns the build metadata of a version text as [`build_text`] does, of one that node-semver
-/// reads if it is told to be loose: `None` exactly if
-/// [`version_loose`](crate::npm::version_loose) rejects the text.
-///
-/// ```rust
-/// assert!(rt; npm::build_text_loose("= v1.02.3beta+007") == Some("007"));
-/// assert!(rt; npm::build_text("= v1.02.3beta+007").is_none());
-/// ```
-pub fn build_text_loose(text: &str) -> Option<&str>
-    // What is returned is the build of the version that the text is, as the text has it.
-    ensures some { IfSome result (λ build.
-        IsBuildText (IsLooseVersionText MAX_SAFE_INTEGER) text.now build.now) }
-    // Nothing is returned only if the text is no version.
-    ensures none { IfNone result (NoValue (IsLooseVersionText MAX_SAFE_INTEGER text.now)) }
-{
-    match version_loose(text) {
+    match version(text, reading) {
         Ok(_) => Some(behind_plus(trim(text))),
         Err(_) => None,
     }

@@ -1,18 +1,19 @@
 // The version that a text has anywhere in it, as node-semver's `coerce` finds it.
 
 ghost use Rattle.std.specs.Prelude.{◌≡◌, ◌≤◌, ◌<◌, ◌+◌, ◌&&◌, ◌==◌, drop, take, false};
-ghost use Rattle.nodejs_semver.specs.Words.{IfNone, IfSome, IsNumber, MAX_SAFE_INTEGER, NoValue};
+ghost use Rattle.nodejs_semver.specs.Words.{IfNone, IfSome, MAX_SAFE_INTEGER, NoValue};
 ghost use Rattle.nodejs_semver.specs.Words.{begins, front_view, is_ascii_digit, is_listed, length};
 ghost use Rattle.nodejs_semver.specs.Words.{pair_view, true, Bool, List, ℕ};
 ghost use Rattle.nodejs_semver.specs.Internal.NpmTuples.{BeginsAfter, IsFirstPlace, IsLastPlace};
-ghost use Rattle.nodejs_semver.specs.Internal.NpmTuples.{IsStretch};
-ghost use Rattle.nodejs_semver.specs.Npm.Coerced.{IsCoerced, IsLeftmost, IsNumberIn, IsRightmost};
+ghost use Rattle.nodejs_semver.specs.Internal.NpmTuples.{IsChosenPlace, IsStretch};
+ghost use Rattle.nodejs_semver.specs.Npm.Coerced.{IsCoerced, IsCoercedBy, IsLeftmost};
 ghost use Rattle.nodejs_semver.specs.Npm.Coerced.{begins_identifier_in, goes_on_in};
 ghost use Rattle.nodejs_semver.specs.Npm.Grammar.{IsStrictNumber};
 ghost use Rattle.semver_core.specs.Text.Characters.{ends};
 ghost use Rattle.nodejs_semver.specs.Internal.NpmTuples as Spec;
 
 use crate::npm::loose_versions::number;
+use crate::npm::options::Coercion;
 use crate::npm::places::digits_len;
 use crate::npm::versions::{begins_padded, strict_number};
 use crate::readers;
@@ -327,34 +328,25 @@ fn version_front(included: bool, zeros: bool, text: &[u8]) -> Option<VersionRef<
     ))
 }
 
-// The version that is found from the left, with its pre-release and its build or without.
-#[tactic(auto, using(crate::proofs::NpmTexts::Coerced::absents))]
-fn leftmost(included: bool, zeros: bool, text: &str) -> Option<VersionRef<'_>>
-    ensures some { IfSome result (IsCoerced included IsLeftmost (IsNumberIn zeros) text.now) }
-    ensures none { IfNone result
-        (NoValue (IsCoerced included IsLeftmost (IsNumberIn zeros) text.now)) }
+// The place where the tuple begins that is looked for.
+fn chosen_place(options: Coercion, text: &[u8]) -> Option<usize>
+    ensures some { IfSome result
+        (IsChosenPlace options.include_prerelease options.rtl text.now) }
+    ensures none { IfNone result (BeginsAfter text.now (length text.now)) }
 {
-    let bytes = text.as_bytes();
-    version_front(included, zeros, &bytes[first_place(bytes)?..])
-}
-
-// The same from the right.
-#[tactic(auto, using(crate::proofs::NpmTexts::Coerced::absents))]
-fn rightmost(included: bool, zeros: bool, text: &str) -> Option<VersionRef<'_>>
-    ensures some { IfSome result (IsCoerced included IsRightmost (IsNumberIn zeros) text.now) }
-    ensures none { IfNone result
-        (NoValue (IsCoerced included IsRightmost (IsNumberIn zeros) text.now)) }
-{
-    let bytes = text.as_bytes();
-    version_front(included, zeros, &bytes[last_place(included, bytes)?..])
+    if options.rtl {
+        last_place(options.include_prerelease, text)
+    } else {
+        first_place(text)
+    }
 }
 
 /// Returns the version that a text has anywhere in it, as node-semver's `coerce` does: the leftmost
-/// number, and up to two more behind it that dots join. Missing numbers are 0, and what else stands
-/// in the text is ignored: `coerce("v1.2-rc.3")` is 1.2.0.
+/// number, and up to two more after it that dots join. Missing numbers are 0, and what else stands
+/// in the text is ignored: `coerce("v1.2-rc.3")` is 1.2.0. [`coerce_with`] looks for another.
 ///
-/// A number here has at most 16 digits: longer runs are passed over. Returns `None` if the text has
-/// no such number, or if one of those found is above `MAX_SAFE_INTEGER` or has a leading zero. The
+/// A number here has at most 16 digits: longer runs are ignored. Returns `None` if the text has no
+/// such number, or if one of those found is above `MAX_SAFE_INTEGER` or has a leading zero. The
 /// text may have any length, and is read once; nothing is allocated.
 ///
 /// ```rust
@@ -369,106 +361,43 @@ pub fn coerce(text: &str) -> Option<VersionRef<'_>>
     ensures none { IfNone result
         (NoValue (IsCoerced false IsLeftmost (IsStrictNumber MAX_SAFE_INTEGER) text.now)) }
 {
-    leftmost(false, false, text)
+    coerce_with(text, Coercion::default())
 }
 
-/// `coerce` with numbers that may have leading zeros, as node-semver's does if it is told to be
-/// loose.
-pub fn coerce_loose(text: &str) -> Option<VersionRef<'_>>
-    ensures some { IfSome result
-        (IsCoerced false IsLeftmost (IsNumber MAX_SAFE_INTEGER) text.now) }
-    ensures none { IfNone result
-        (NoValue (IsCoerced false IsLeftmost (IsNumber MAX_SAFE_INTEGER) text.now)) }
-{
-    leftmost(false, true, text)
-}
-
-/// `coerce` from the right, as node-semver's with `rtl`: of the numbers that dots join, the up to
-/// three that end last. `coerce_rtl("1.2.3.4")` is 2.3.4.
+/// Returns the version that a text has anywhere in it, as node-semver's `coerce` does by its
+/// options. Without any it is [`coerce`].
+///
+/// - `loose`: numbers may have leading zeros. Those of a pre-release may have none.
+/// - `rtl`: from the right. Of the numbers that dots join, with what is included after them, those
+///   that end last, and the longest of these: in `1.2.3.4` that is 2.3.4.
+/// - `include_prerelease`: with the pre-release and the build metadata that follow the numbers:
+///   `v1.2-rc.3+b` is 1.2.0-rc.3+b. A pre-release is `-` and identifiers joined by dots, and ends
+///   before one that is a number with a leading zero; a build is `+` and identifiers. Each is as
+///   long as it can be. Returns `None` also if the version's text, with `.0` for each missing
+///   number, has more than `MAX_LENGTH` characters.
 ///
 /// ```rust
-/// assert!(rt; npm::coerce_rtl("app-2 1.4.0") == VersionRef::parse("1.4.0").ok());
-/// ```
-pub fn coerce_rtl(text: &str) -> Option<VersionRef<'_>>
-    // What is found is the release of the tuple of numbers that ends last.
-    ensures some { IfSome result
-        (IsCoerced false IsRightmost (IsStrictNumber MAX_SAFE_INTEGER) text.now) }
-    // Nothing is found only if the text has no such release.
-    ensures none { IfNone result
-        (NoValue (IsCoerced false IsRightmost (IsStrictNumber MAX_SAFE_INTEGER) text.now)) }
-{
-    rightmost(false, false, text)
-}
-
-/// `coerce_rtl` with numbers that may have leading zeros, as node-semver's does if it is told to be
-/// loose.
-pub fn coerce_rtl_loose(text: &str) -> Option<VersionRef<'_>>
-    ensures some { IfSome result
-        (IsCoerced false IsRightmost (IsNumber MAX_SAFE_INTEGER) text.now) }
-    ensures none { IfNone result
-        (NoValue (IsCoerced false IsRightmost (IsNumber MAX_SAFE_INTEGER) text.now)) }
-{
-    rightmost(false, true, text)
-}
-
-/// `coerce` with the pre-release and the build metadata that stand behind the numbers, as
-/// node-semver's with `includePrerelease`: `v1.2-rc.3+b` is 1.2.0-rc.3+b.
-///
-/// A pre-release is `-` and identifiers joined by dots, and ends before one that is a number with a
-/// leading zero; a build is `+` and identifiers. Each is as long as it can be. Returns `None` also
-/// if the version's text, with `.0` for each missing number, has more than `MAX_LENGTH` characters.
-///
-/// ```rust
-/// let found = npm::coerce_with_prerelease("v1.2-rc.3 (beta)");
+/// let last = Coercion {
+///     rtl: true,
+///     ..Coercion::default()
+/// };
+/// let found = npm::coerce_with("app-2 1.4.0", last);
+/// assert!(rt; found == VersionRef::parse("1.4.0").ok());
+/// let whole = Coercion {
+///     include_prerelease: true,
+///     ..Coercion::default()
+/// };
+/// let found = npm::coerce_with("v1.2-rc.3 (beta)", whole);
 /// assert!(rt; found == VersionRef::parse("1.2.0-rc.3").ok());
 /// ```
-pub fn coerce_with_prerelease(text: &str) -> Option<VersionRef<'_>>
-    // What is found is the version of the leftmost tuple of numbers and of what it goes on with.
-    ensures some { IfSome result
-        (IsCoerced true IsLeftmost (IsStrictNumber MAX_SAFE_INTEGER) text.now) }
+#[tactic(auto, using(crate::proofs::NpmTexts::Coerced::absents))]
+pub fn coerce_with(text: &str, options: Coercion) -> Option<VersionRef<'_>>
+    // What is found is the version that the options ask for.
+    ensures some { IfSome result (IsCoercedBy options text.now) }
     // Nothing is found only if the text has no such version.
-    ensures none { IfNone result
-        (NoValue (IsCoerced true IsLeftmost (IsStrictNumber MAX_SAFE_INTEGER) text.now)) }
+    ensures none { IfNone result (NoValue (IsCoercedBy options text.now)) }
 {
-    leftmost(true, false, text)
-}
-
-/// `coerce_with_prerelease` with numbers that may have leading zeros, as node-semver's does if it
-/// is told to be loose. Those of the pre-release may have none.
-pub fn coerce_with_prerelease_loose(text: &str) -> Option<VersionRef<'_>>
-    ensures some { IfSome result (IsCoerced true IsLeftmost (IsNumber MAX_SAFE_INTEGER) text.now) }
-    ensures none { IfNone result
-        (NoValue (IsCoerced true IsLeftmost (IsNumber MAX_SAFE_INTEGER) text.now)) }
-{
-    leftmost(true, true, text)
-}
-
-/// `coerce_with_prerelease` from the right: of the numbers that dots join, with the pre-release and
-/// the build behind them, those that end last, and the longest of these. `1.2.3.4-rc` is 2.3.4-rc.
-///
-/// ```rust
-/// let found = npm::coerce_rtl_with_prerelease("app-2 1.4.0-b.1");
-/// assert!(rt; found == VersionRef::parse("1.4.0-b.1").ok());
-/// ```
-pub fn coerce_rtl_with_prerelease(text: &str) -> Option<VersionRef<'_>>
-    // What is found is the version of the tuple of numbers that ends last with what it goes on
-    // with.
-    ensures some { IfSome result
-        (IsCoerced true IsRightmost (IsStrictNumber MAX_SAFE_INTEGER) text.now) }
-    // Nothing is found only if the text has no such version.
-    ensures none { IfNone result
-        (NoValue (IsCoerced true IsRightmost (IsStrictNumber MAX_SAFE_INTEGER) text.now)) }
-{
-    rightmost(true, false, text)
-}
-
-/// `coerce_rtl_with_prerelease` with numbers that may have leading zeros, as node-semver's does if
-/// it is told to be loose. Those of the pre-release may have none.
-pub fn coerce_rtl_with_prerelease_loose(text: &str) -> Option<VersionRef<'_>>
-    ensures some { IfSome result
-        (IsCoerced true IsRightmost (IsNumber MAX_SAFE_INTEGER) text.now) }
-    ensures none { IfNone result
-        (NoValue (IsCoerced true IsRightmost (IsNumber MAX_SAFE_INTEGER) text.now)) }
-{
-    rightmost(true, true, text)
+    let bytes = text.as_bytes();
+    let at = chosen_place(options, bytes)?;
+    version_front(options.include_prerelease, options.loose, &bytes[at..])
 }

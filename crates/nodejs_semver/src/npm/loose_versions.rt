@@ -1,18 +1,16 @@
 // Version texts as node-semver's loose reading has them.
 
-ghost use Rattle.std.specs.Prelude.{◌≡◌, ◌≤◌, IfErr};
-ghost use Rattle.nodejs_semver.specs.Words.{IfOk, MAX_SAFE_INTEGER, NoValue, front_view, is_listed};
-ghost use Rattle.nodejs_semver.specs.Words.{length, pair_view, true};
+ghost use Rattle.std.specs.Prelude.{◌≡◌, ◌≤◌};
+ghost use Rattle.nodejs_semver.specs.Words.{MAX_SAFE_INTEGER, front_view, is_listed, length};
+ghost use Rattle.nodejs_semver.specs.Words.{pair_view, true};
 ghost use Rattle.nodejs_semver.specs.Internal.Fronts.{number_front};
-ghost use Rattle.nodejs_semver.specs.Npm.VersionText.{IsLooseVersionText};
 ghost use Rattle.nodejs_semver.specs.Internal.NpmLooseVersions as Spec;
 
 use crate::npm::hyphens::skip_marks;
 use crate::npm::places::digits_len;
-use crate::npm::versions::is_short;
 use crate::readers::{build_front, marked_list};
-use semver_core::scan::{begins_identifier, number_in, trim};
-use semver_core::{MAX_SAFE_INTEGER, SemverError, VersionRef};
+use semver_core::scan::{begins_identifier, number_in};
+use semver_core::{MAX_SAFE_INTEGER, VersionRef};
 
 // A number, leading zeros allowed, and the text behind it.
 #[inline(always)]
@@ -101,41 +99,13 @@ fn qualified(major: u64, minor: u64, patch: u64, text: &[u8]) -> Option<VersionR
     }
 }
 
-// The version that the whole text is.
+/// The version that the whole text is.
 #[tactic(auto, unfolding(crate::specs::Internal::NpmLooseVersions::loose_version))]
-fn whole_version(text: &[u8]) -> Option<VersionRef<'_>>
+pub(crate) fn whole_version(text: &[u8]) -> Option<VersionRef<'_>>
     ensures { result ≡ Spec.loose_version MAX_SAFE_INTEGER text.now }
 {
     let (major, rest) = number(skip_marks(text))?;
     let (minor, rest) = dotted_number(rest)?;
     let (patch, rest) = dotted_patch(rest)?;
     qualified(major, minor, patch, rest)
-}
-
-/// Reads a version text as node-semver's `parse` does if it is told to be loose: beside what
-/// [`version`](crate::npm::version) reads, any of `v`, `=` and whitespace may stand in front,
-/// numbers may have leading zeros, and the pre-release may stand without its `-`.
-///
-/// Rejects every other text: a number above `MAX_SAFE_INTEGER`, the mark `V`, text behind the
-/// version (`1.2.3.4`), and a text of more than `MAX_LENGTH` characters, with the whitespace around
-/// the version counted. The patch number takes all digits that it can: `1.2.34.5` is 1.2.3-4.5. The
-/// version borrows the text: nothing is allocated.
-///
-/// ```rust
-/// assert!(rt; npm::version_loose("= v1.02.3beta") == VersionRef::parse("1.2.3-beta"));
-/// assert!(rt; npm::version_loose("1.2.3, the second beta").is_err());
-/// ```
-pub fn version_loose(text: &str) -> Result<VersionRef<'_>, SemverError>
-    // What is read is the version that the text is.
-    ensures ok { IfOk result (λ v. IsLooseVersionText MAX_SAFE_INTEGER text.now v) }
-    // A text is rejected only if it is no version.
-    ensures refused { IfErr result (λ _. NoValue (IsLooseVersionText MAX_SAFE_INTEGER text.now)) }
-{
-    if !is_short(text) {
-        return Err(SemverError);
-    }
-    match whole_version(trim(text).as_bytes()) {
-        Some(version) => Ok(version),
-        None => Err(SemverError),
-    }
 }

@@ -19,6 +19,7 @@ use crate::npm::alternatives::{Alternative, set_ranged};
 use crate::npm::common::read_common;
 use crate::npm::hyphens::{End, hyphen_ends, lower_bounds, upper_bounds};
 use crate::npm::ignored::behind_ignored;
+use crate::npm::options::Reading;
 use crate::npm::words::word_front;
 use crate::range::Intervals;
 use crate::readers::{Found, next_part, skip_spaces};
@@ -196,102 +197,76 @@ fn fill<'a>(
     Ok(())
 }
 
-/// The range of a text, read strictly or loosely.
-#[inline(always)]
-#[tactic(auto, using(crate::proofs::Values::spans_same))]
-pub(crate) fn read_range(
-    alloc: Global,
-    loose: bool,
-    include: bool,
-    text: &str,
-) -> Result<RangeRef<'_>, Failure<SemverError>>
-    ensures ok { IfOk result (IsRangeIn loose MAX_SAFE_INTEGER include text.now) }
-    ensures refused { RefusedOnlyIf result
-        (NoValue (HasAlternativesIn loose MAX_SAFE_INTEGER include text.now)) }
-    ensures memory { MemoryOnlyIf result ((pieces : List (List ℕ)) →
-        IsCutAtBars text.now pieces → 1 < length pieces) }
-{
-    let mut found = SmallVec::new(alloc);
-    fill(alloc, loose, include, text, &mut found)?;
-    Ok(RangeRef::of_some(found))
-}
-
-/// Reads a range text as node-semver's `Range` does, which is strict unless it is told otherwise:
-/// alternatives separated by `||`, each of which is nothing, words with whitespace between them,
-/// such as `^1.2`, `>=1.0.0 <2` and `~1.2.3`, or one hyphen range, `1.0.0 - 2.0.0` (node-semver's
-/// grammar `range.bnf`).
+/// Reads a range text as node-semver's `Range` does.
 ///
-/// Rejects every other text, also those of which [`RangeRef::parse`](crate::RangeRef) ignores a
-/// word: `>=1.0.0, <2.0.0`, `^01.2` and `latest`; and a text with a comparator that has a number
-/// above `MAX_SAFE_INTEGER`, or more than `MAX_LENGTH` characters of its version.
+/// Strictly a text is alternatives separated by `||`, each of which is nothing, words with
+/// whitespace between them, such as `^1.2`, `>=1.0.0 <2` and `~1.2.3`, or one hyphen range,
+/// `1.0.0 - 2.0.0` (node-semver's grammar `range.bnf`). Every other text is rejected, also those of
+/// which [`RangeRef::parse`](crate::RangeRef) ignores a word: `>=1.0.0, <2.0.0`, `^01.2` and
+/// `latest`.
+///
+/// Loosely, as `npm ls` reads the ranges of dependencies, it may also have numbers with leading
+/// zeros (`^01.2.3`), a pre-release without its `-` (`1.2.3beta`), and more marks than one `v`
+/// before a version (`==1.2.3`). Malformed words are ignored: `>=1.0.0, <2.0.0` is `<2.0.0`. One
+/// that ends in a sign goes on after the whitespace, after a comparator only if a number or a
+/// wildcard follows: `foo^ bar 1` is `1`, and `foo= 1 2` and `1.2.3-dev= 1 2` are `2`. Words
+/// without comparators are no alternative if the first and the last one are malformed:
+/// `latest || 1` is `1`, and `foo *` is `*`. Node-semver answers otherwise of a word that has one
+/// `*` and is else a whole version, such as `>*1.2.3`, where it ignores the `*`: here the word is
+/// malformed. It reads partial versions of more than 250 characters in front of their builds, for
+/// which a text is rejected here.
+///
+/// In both readings a text is rejected for a comparator that has a number above
+/// `MAX_SAFE_INTEGER`, or more than `MAX_LENGTH` characters of its version.
 ///
 /// With pre-releases included, ask the range by `satisfies_with_prerelease(version, true)`, and
-/// else by `satisfies`: so asked it accepts the versions that node-semver's range does, and so a
-/// [`ReadRange`](crate::npm::ReadRange) is asked. Where the cuts of an alternative do not meet, as
-/// in `>1 <1`, that alternative accepts nothing; a range of such alternatives alone prints
-/// `<0.0.0-0`. Without pre-releases included, an alternative in which no comparator counts, such as
-/// `*`, leaves the others out: `* || 1.0.0-a` rejects 1.0.0-a.
+/// else by `satisfies`: so asked it accepts the versions that node-semver's range does. A
+/// [`ReadRange`](crate::npm::ReadRange) keeps the reading, and is always asked so. Where the cuts of
+/// an alternative do not meet, as in `>1 <1`, that alternative accepts nothing; a range of such
+/// alternatives alone prints `<0.0.0-0`. Without pre-releases included, an alternative in which no
+/// comparator counts, such as `*`, leaves the others out: `* || 1.0.0-a` rejects 1.0.0-a.
 ///
 /// The range borrows the text. One interval stands inline, so that allocation fails only for a text
 /// of two alternatives or more.
 ///
 /// ```rust
+/// let strict = Reading::default();
 /// let version = VersionRef::parse("3.1.4")?;
-/// let range = npm::range(alloc, ">=1.0.0 <2 || ~3.1", false)?;
+/// let range = npm::range(alloc, ">=1.0.0 <2 || ~3.1", strict)?;
 /// assert!(rt; range.satisfies(&version));
-/// assert!(rt; npm::range(alloc, ">=1.0.0, <2.0.0", false).is_err());
+/// assert!(rt; npm::range(alloc, ">=1.0.0, <2.0.0", strict).is_err());
+/// let loose = Reading {
+///     loose: true,
+///     ..Reading::default()
+/// };
+/// let beta = VersionRef::parse("1.2.3-beta")?;
+/// let range = npm::range(alloc, "==1.2.3beta || ^02.1", loose)?;
+/// assert!(rt; range.satisfies(&beta));
+/// assert!(rt; npm::range(alloc, "==1.2.3beta || ^02.1", strict).is_err());
 /// ```
+#[tactic(auto, using(crate::proofs::Values::spans_same))]
 pub fn range(
     alloc: Global,
     text: &str,
-    include_prerelease: bool,
+    reading: Reading,
 ) -> Result<RangeRef<'_>, Failure<SemverError>>
     // The text has alternatives, and the range accepts the versions that they accept.
-    ensures ok { IfOk result (IsRangeIn false MAX_SAFE_INTEGER include_prerelease text.now) }
+    ensures ok { IfOk result
+        (IsRangeIn reading.loose MAX_SAFE_INTEGER reading.include_prerelease text.now) }
     // A text is rejected only if it has none. The one other error is a failed allocation.
-    ensures refused { RefusedOnlyIf result
-        (NoValue (HasAlternativesIn false MAX_SAFE_INTEGER include_prerelease text.now)) }
+    ensures refused { RefusedOnlyIf result (NoValue (HasAlternativesIn reading.loose
+        MAX_SAFE_INTEGER reading.include_prerelease text.now)) }
     // Allocation fails only if the text has two alternatives or more.
     ensures memory { MemoryOnlyIf result ((pieces : List (List ℕ)) →
         IsCutAtBars text.now pieces → 1 < length pieces) }
 {
-    read_range(alloc, false, include_prerelease, text)
-}
-
-/// Reads a range text as node-semver's `Range` does by its option `loose`, as `npm ls` reads the
-/// ranges of dependencies: all that [`range`] reads, and also numbers with leading zeros
-/// (`^01.2.3`), a pre-release without its `-` (`1.2.3beta`), and more marks than one `v` before a
-/// version (`==1.2.3`). Malformed words are ignored: `>=1.0.0, <2.0.0` is `<2.0.0`. One that ends
-/// in a sign goes on behind the whitespace, behind a comparator only if a number or a wildcard
-/// follows: `foo^ bar 1` is `1`, and `foo= 1 2` and `1.2.3-dev= 1 2` are `2`. Words without
-/// comparators are no alternative if the first and the last one are malformed: `latest || 1` is
-/// `1`, and `foo *` is `*`.
-///
-/// Node-semver answers otherwise of a word that has one `*` and is else a whole version, such as
-/// `>*1.2.3`, where it passes over the `*`: here the word is malformed. It reads partial versions
-/// of more than 250 characters in front of their builds, for which a text is rejected here.
-///
-/// All else is as for [`range`]: how to ask the range, what it borrows and when allocation fails.
-///
-/// ```rust
-/// let version = VersionRef::parse("1.2.3-beta")?;
-/// let range = npm::range_loose(alloc, "==1.2.3beta || ^02.1", false)?;
-/// assert!(rt; range.satisfies(&version));
-/// assert!(rt; npm::range(alloc, "==1.2.3beta || ^02.1", false).is_err());
-/// ```
-pub fn range_loose(
-    alloc: Global,
-    text: &str,
-    include_prerelease: bool,
-) -> Result<RangeRef<'_>, Failure<SemverError>>
-    // The text has alternatives, and the range accepts the versions that they accept.
-    ensures ok { IfOk result (IsRangeIn true MAX_SAFE_INTEGER include_prerelease text.now) }
-    // A text is rejected only if it has none. The one other error is a failed allocation.
-    ensures refused { RefusedOnlyIf result
-        (NoValue (HasAlternativesIn true MAX_SAFE_INTEGER include_prerelease text.now)) }
-    // Allocation fails only if the text has two alternatives or more.
-    ensures memory { MemoryOnlyIf result ((pieces : List (List ℕ)) →
-        IsCutAtBars text.now pieces → 1 < length pieces) }
-{
-    read_range(alloc, true, include_prerelease, text)
+    let mut found = SmallVec::new(alloc);
+    fill(
+        alloc,
+        reading.loose,
+        reading.include_prerelease,
+        text,
+        &mut found,
+    )?;
+    Ok(RangeRef::of_some(found))
 }

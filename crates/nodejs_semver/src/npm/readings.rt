@@ -8,21 +8,12 @@ ghost use Rattle.nodejs_semver.specs.Npm.Readings.{HasAlternativesAs, OfAccepted
 ghost use Rattle.nodejs_semver.specs.Ranges.Gate as Gate;
 
 use crate::RangeRef;
-use crate::npm::ranges::read_range;
+use crate::npm::options::Reading;
+use crate::npm::ranges::range;
 use crate::range::best::{greatest, least};
 use semver_core::{Failure, MAX_SAFE_INTEGER, SemverError, Versioned};
 use std::alloc::Global;
 use std::marker::Model;
-
-/// How a range text is read: the two options of node-semver's `Range`. By default neither is set.
-#[derive(Clone, Copy, PartialEq, Eq, Debug, Default)]
-pub struct Reading {
-    /// Whether the text is read as [`range_loose`](crate::npm::range_loose) does, and not as
-    /// [`range`](crate::npm::range).
-    pub loose: bool,
-    /// Whether pre-releases are accepted like releases: `^1.2` then accepts 1.3.0-beta.
-    pub include_prerelease: bool,
-}
 
 /// A range that was read as node-semver reads it, with the text and the reading. It is asked with
 /// pre-releases included exactly if it was read so, which a [`RangeRef`] does not know.
@@ -48,14 +39,14 @@ impl<'a> Model for ReadRange<'a> {
 }
 
 impl<'a> ReadRange<'a> {
-    /// Reads a range text as [`range`](crate::npm::range) does, or loosely as
-    /// [`range_loose`](crate::npm::range_loose) does. The range borrows the text.
+    /// Reads a range text as [`range`](crate::npm::range) does, and keeps the text and the reading
+    /// beside the range, which borrows the text.
     ///
     /// ```rust
     /// let beta = VersionRef::parse("1.3.0-beta")?;
     /// let reading = Reading {
-    ///     loose: false,
     ///     include_prerelease: true,
+    ///     ..Reading::default()
     /// };
     /// assert!(rt; ReadRange::parse(alloc, "^1.2", reading)?.satisfies(&beta));
     /// let range = ReadRange::parse(alloc, "^1.2", Reading::default())?;
@@ -77,7 +68,7 @@ impl<'a> ReadRange<'a> {
         ensures memory { MemoryOnlyIf result ((pieces : List (List ℕ)) →
             IsCutAtBars text.now pieces → 1 < length pieces) }
     {
-        let range = read_range(alloc, reading.loose, reading.include_prerelease, text)?;
+        let range = range(alloc, text, reading)?;
         Ok(ReadRange {
             text,
             reading,

@@ -1,15 +1,18 @@
 // Version texts as node-semver's strict reading has them.
 
 ghost use Rattle.std.specs.{Prelude.{◌↔◌, ◌≡◌, ◌≤◌, IfErr, drop}, List.prefix_len, Str.chars};
-ghost use Rattle.nodejs_semver.specs.Words.{IfOk, IsTrue, IsVersionText, MAX_SAFE_INTEGER, NoValue};
+ghost use Rattle.nodejs_semver.specs.Words.{IfOk, IsTrue, MAX_SAFE_INTEGER, NoValue};
 ghost use Rattle.nodejs_semver.specs.Words.{front_view, is_ascii_digit, is_listed, length};
 ghost use Rattle.nodejs_semver.specs.Words.{list_all, pair_view, true};
 ghost use Rattle.nodejs_semver.specs.Internal.NpmReadings.{is_strict_identifier};
+ghost use Rattle.nodejs_semver.specs.Internal.NpmLooseVersions.{whole_version};
 ghost use Rattle.nodejs_semver.specs.Npm.Grammar.{is_strict_list};
 ghost use Rattle.nodejs_semver.specs.Npm.Malformed.{is_mark};
-ghost use Rattle.nodejs_semver.specs.Npm.VersionText.{IsClean};
+ghost use Rattle.nodejs_semver.specs.Npm.VersionText.{IsClean, IsVersionTextIn};
 ghost use Rattle.nodejs_semver.specs.Internal.NpmReadings as Spec;
 
+use crate::npm::loose_versions::whole_version as loose_version;
+use crate::npm::options::Reading;
 use crate::npm::words::marks_len;
 use crate::readers::{build_front, pre_release_front};
 use semver_core::scan::{number_in, trim};
@@ -104,7 +107,7 @@ fn qualified(major: u64, minor: u64, patch: u64, text: &[u8]) -> Option<VersionR
 
 // The version that the whole text is.
 #[tactic(auto, unfolding(crate::specs::Internal::NpmReadings::strict_version))]
-fn whole_version(text: &[u8]) -> Option<VersionRef<'_>>
+fn strict_version(text: &[u8]) -> Option<VersionRef<'_>>
     ensures { result ≡ Spec.strict_version MAX_SAFE_INTEGER text.now }
 {
     let mark = usize::from(matches!(text, [b'v', ..]));
@@ -123,39 +126,64 @@ pub(crate) fn is_short(text: &str) -> bool
     text.len() <= MAX_LENGTH || text.chars().count() <= MAX_LENGTH
 }
 
-/// Reads a version text as node-semver's `parse` does unless it is told to be loose: `v` or
-/// nothing, three numbers joined by dots, a `-` and a pre-release, a `+` and build metadata.
-/// Whitespace may stand around the version, and nothing else.
+// The version that the whole text is, read loosely or strictly.
+#[inline(always)]
+fn whole_version(loose: bool, text: &[u8]) -> Option<VersionRef<'_>>
+    ensures { result ≡ whole_version loose MAX_SAFE_INTEGER text.now }
+{
+    if loose {
+        loose_version(text)
+    } else {
+        strict_version(text)
+    }
+}
+
+/// Reads a version text as node-semver's `parse` does.
 ///
-/// Rejects every other text, also those of which [`VersionRef::parse`] reads a front: a number, or
-/// an identifier of the pre-release that is a number, with a leading zero (`1.02.3`, `1.2.3-01`), a
-/// number above `MAX_SAFE_INTEGER`, a pre-release without its `-` (`1.2.3beta`), `V1.2.3`, text
-/// behind the version (`1.2.3.4`), and a text of more than `MAX_LENGTH` characters, with the
-/// whitespace around the version counted. The version borrows the text: nothing is allocated. It
-/// has the numbers of its build by value: [`build_text`](crate::npm::build_text) returns the build
-/// as it is written.
+/// Strictly a text is `v` or nothing, three numbers joined by dots, a `-` and a pre-release, a `+`
+/// and build metadata. Whitespace may stand around the version, and nothing else. Every other text
+/// is rejected, also those of which [`VersionRef::parse`] reads a front: a number, or an identifier
+/// of the pre-release that is a number, with a leading zero (`1.02.3`, `1.2.3-01`), a pre-release
+/// without its `-` (`1.2.3beta`), and the mark `=` (`=1.2.3`).
+///
+/// Loosely any of `v`, `=` and whitespace may stand in front, numbers may have leading zeros, and
+/// the pre-release may stand without its `-`. The patch number takes all digits that it can:
+/// `1.2.34.5` is 1.2.3-4.5.
+///
+/// In both readings a text is rejected for a number above `MAX_SAFE_INTEGER`, the mark `V`, text
+/// after the version (`1.2.3.4`), and more than `MAX_LENGTH` characters, with the whitespace around
+/// the version counted. The version borrows the text: nothing is allocated. It has the numbers of
+/// its build by value: [`build_text`](crate::npm::build_text) returns the build as it is written.
 ///
 /// ```rust
-/// assert!(rt; npm::version(" v1.2.3-beta.1 ") == VersionRef::parse("1.2.3-beta.1"));
-/// assert!(rt; npm::version("1.2.03").is_err());
-/// assert!(rt; npm::version("1.2.3, the second beta").is_err());
+/// let strict = Reading::default();
+/// assert!(rt; npm::version(" v1.2.3-beta.1 ", strict) == VersionRef::parse("1.2.3-beta.1"));
+/// assert!(rt; npm::version("1.2.03", strict).is_err());
+/// assert!(rt; npm::version("1.2.3, the second beta", strict).is_err());
+/// let loose = Reading {
+///     loose: true,
+///     ..Reading::default()
+/// };
+/// assert!(rt; npm::version("= v1.02.3beta", loose) == VersionRef::parse("1.2.3-beta"));
+/// assert!(rt; npm::version("1.2.3, the second beta", loose).is_err());
 /// ```
-pub fn version(text: &str) -> Result<VersionRef<'_>, SemverError>
+pub fn version(text: &str, reading: Reading) -> Result<VersionRef<'_>, SemverError>
     // What is read is the version that the text is.
-    ensures ok { IfOk result (λ v. IsVersionText MAX_SAFE_INTEGER text.now v) }
+    ensures ok { IfOk result (λ v. IsVersionTextIn reading.loose MAX_SAFE_INTEGER text.now v) }
     // A text is rejected only if it is no version.
-    ensures refused { IfErr result (λ _. NoValue (IsVersionText MAX_SAFE_INTEGER text.now)) }
+    ensures refused { IfErr result
+        (λ _. NoValue (IsVersionTextIn reading.loose MAX_SAFE_INTEGER text.now)) }
 {
     if !is_short(text) {
         return Err(SemverError);
     }
-    match whole_version(trim(text).as_bytes()) {
+    match whole_version(reading.loose, trim(text).as_bytes()) {
         Some(version) => Ok(version),
         None => Err(SemverError),
     }
 }
 
-// The text behind the marks, `v` and `=`, at its front.
+// The text after the marks, `v` and `=`, at its front.
 fn unmarked(text: &str) -> &str
     ensures { result.now ≡ drop (prefix_len is_mark text.now) text.now }
 {
@@ -171,7 +199,7 @@ fn unmarked(text: &str) -> &str
 ///
 /// ```rust
 /// assert!(rt; npm::clean(" =v1.2.3 ") == VersionRef::parse("1.2.3"));
-/// assert!(rt; npm::version(" =v1.2.3 ").is_err());
+/// assert!(rt; npm::version(" =v1.2.3 ", Reading::default()).is_err());
 /// assert!(rt; npm::clean("=1.2.03").is_err());
 /// ```
 pub fn clean(text: &str) -> Result<VersionRef<'_>, SemverError>
@@ -180,5 +208,5 @@ pub fn clean(text: &str) -> Result<VersionRef<'_>, SemverError>
     // A text is rejected only if it is no version.
     ensures refused { IfErr result (λ _. NoValue (IsClean MAX_SAFE_INTEGER text.now)) }
 {
-    version(unmarked(trim(text)))
+    version(unmarked(trim(text)), Reading::default())
 }

@@ -7,13 +7,13 @@ use Rattle.semver_core.specs.declared.TheConstants.{MAX_SAFE_INTEGER}
 use Rattle.nodejs_semver.specs.Npm.Ranges.{IsRangeIn}
 use Rattle.nodejs_semver.specs.Ranges.Gate.{accepts}
 use Rattle.npm_semver.specs.Readings.{HasRange}
-use Rattle.npm_semver.specs.declared.reading.Reading.{Reading}
+use Rattle.npm_semver.specs.declared.reading.ReadOptions.{ReadOptions}
 
-abbrev pub IsRead : Reading → List ℕ → Option (List (Span VersionValue)) → Type 0
+abbrev pub IsRead : ReadOptions → List ℕ → Option (List (Span VersionValue)) → Type 0
 IsRead r text (Some range) = IsRangeIn r.is_loose MAX_SAFE_INTEGER r.include_prerelease text range
 IsRead r text None = NoValue (HasRange r text)
 
-pub data AreRead (r : Reading) : List (List ℕ) → List (Option (List (Span VersionValue))) → Type 0 where
+pub data AreRead (r : ReadOptions) : List (List ℕ) → List (Option (List (Span VersionValue))) → Type 0 where
   none : AreRead r [] []
   more : (text : List ℕ) (texts : List (List ℕ)) (range : Option (List (Span VersionValue))) (ranges : List (Option (List (Span VersionValue))))
       → IsRead r text range → AreRead r texts ranges → AreRead r (text ∷ texts) (range ∷ ranges)

@@ -14,7 +14,8 @@ ghost use Rattle.npm_semver.specs.Subcommands.{Answers, HasIdentifier, next_said
 ghost use Rattle.npm_semver.specs.Internal.Said.{relation, said};
 
 use crate::subcommands::replies::{Reply, Status, Trouble, answer, bare, line};
-use nodejs_semver::{Failure, IncrementError, VersionDiff, VersionRef, Versioned, npm};
+use nodejs_semver::npm::{self, Reading};
+use nodejs_semver::{Failure, IncrementError, VersionDiff, VersionRef, Versioned};
 use std::alloc::{AllocError, Global};
 use std::cmp::Ordering;
 
@@ -65,7 +66,11 @@ fn version(text: &str) -> Result<VersionRef<'_>, Failure<Trouble<'_>>>
     ensures ok { IfOk result (λ v. IsVersionText MAX_SAFE_INTEGER text.now v) }
     ensures refused { RefusedOnlyIf result (NoValue (IsVersionText MAX_SAFE_INTEGER text.now)) }
 {
-    match npm::version(text) {
+    let strict = Reading {
+        loose: false,
+        include_prerelease: false,
+    };
+    match npm::version(text, strict) {
         Ok(version) => Ok(version),
         Err(_) => Err(Failure::Refused(Trouble::NoVersion(text))),
     }

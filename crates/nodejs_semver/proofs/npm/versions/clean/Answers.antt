@@ -6,4 +6,4 @@ pub returns-clause-refused : goal.returns-clause-refused
 returns-clause-refused c =
     IfErr-weaker c.version.result (λ _. NoValue (IsVersionText MAX_SAFE_INTEGER c.unmarked.result.now))
     (λ _. NoValue (IsClean MAX_SAFE_INTEGER c.args.text.now)) (λ _. clean_refused _ _ _ _ c.trim.ensures.middle c.unmarked.ensures)
-    c.version.ensures.refused
+    (rw c.default.ensures at c.version.ensures.refused)

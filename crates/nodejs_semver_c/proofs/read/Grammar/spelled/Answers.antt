@@ -1,4 +1,4 @@
-use Rattle.nodejs_semver_c.proofs.read.Reading.spelled.Goals as goal
+use Rattle.nodejs_semver_c.proofs.read.Grammar.spelled.Goals as goal
 
 pub returns-in-Port-clause-ok : goal.returns-in-Port-clause-ok
 returns-in-Port-clause-ok c = rw c.in-Port.is c.parse.ensures.ok

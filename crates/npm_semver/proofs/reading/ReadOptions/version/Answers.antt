@@ -1,6 +1,6 @@
 use Rattle.std.proofs.Common.{arith}
 use Rattle.npm_semver.proofs.ReadTexts.{none_coerced, none_strict, some_coerced}
-use Rattle.npm_semver.proofs.reading.Reading.version.Goals as goal
+use Rattle.npm_semver.proofs.reading.ReadOptions.version.Goals as goal
 
 pub returns-then-not-self-clause-none : goal.returns-then-not-self-clause-none
 returns-then-not-self-clause-none c =
