@@ -35,10 +35,8 @@ pub use Rattle.std.proofs.lemmas.{Iterator.Splits.YieldsList-from_slice_split, L
 pub use Rattle.std.{proofs.lemmas.{Slice.Eq.bytes_eq-Decides, Str.{chars_from_encodes, encode_ascii, encodes_same}}, specs.Char.digit_value}
 pub use Rattle.std.specs.{Char.len_utf8, Cmp.both_ways, List.join_with_byte, Prelude.{is_none, nat_le, take_while}, Str.bytes_eq}
 pub use Rattle.std.specs.Str.{chars, Parse.{digits_value, digits_value_after}}
-unfoldable pub use Rattle.nodejs_semver.specs.Internal.{Fronts.{build_front, number_of, pre_release_front}, NpmLooseVersions.loose_dotted}
-unfoldable pub use Rattle.nodejs_semver.specs.Internal.NpmLooseVersions.{loose_front, loose_patch, loose_qualified, loose_version}
-unfoldable pub use Rattle.nodejs_semver.specs.Internal.{NpmLooseVersions.patch_front, NpmReadings.{dashed_front, dotted_number}}
-unfoldable pub use Rattle.nodejs_semver.specs.Internal.NpmReadings.{qualified_version, strict_number, strict_version}
+unfoldable pub use Rattle.nodejs_semver.specs.Internal.{Fronts.{build_front, number_of, pre_release_front}, NpmReadings.{dashed_front, dotted_number, strict_number}}
+unfoldable pub use Rattle.nodejs_semver.specs.Internal.NpmVersions.{patch_front, qualified_version, whole_version}
 unfoldable pub use Rattle.nodejs_semver.specs.Internal.{NpmReads.valid_alternative, NpmStates.{next, run, wrong_at}, NpmTuples.tuple_len}
 unfoldable pub use Rattle.nodejs_semver.specs.Internal.{NpmTuples.tuple_release, NpmWords.{after_ends, alternative_of, alternatives_of}}
 unfoldable pub use Rattle.nodejs_semver.specs.Internal.NpmWords.{behind_ignored, counted_end, counted_word, dotted_patch, dotted_place, end_front, first_valid, first_word, hyphen_ends}

@@ -1,4 +1,4 @@
-pub mod Loose
+pub mod Versions
 pub mod Coerced
 pub mod Lists
 pub mod Builds

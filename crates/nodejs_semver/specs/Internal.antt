@@ -19,11 +19,11 @@ pub mod Ignored
 pub mod Sets
 pub mod Questions
 pub mod NpmReadings
-pub mod NpmLooseVersions
 pub mod NpmTuples
 pub mod NpmParts
 pub mod NpmInside
 pub mod NpmWords
+pub mod NpmVersions
 pub mod NpmViews
 pub mod NpmMeaning
 pub mod NpmAlternatives

@@ -19,7 +19,6 @@ mod flaws;
 mod hyphens;
 mod ignored;
 mod inside;
-mod loose_versions;
 mod malformed_words;
 mod messages;
 mod options;

@@ -1,9 +1,9 @@
 -- What is read of bounds: no number is above the limit by more than one, and identifiers are what their texts spell.
-use Rattle.nodejs_semver.proofs.Common.{AreComponents, Id, IsBuild, IsIdentifiers, IsPreRelease, List, None, Option, Partial}
+use Rattle.nodejs_semver.proofs.Common.{AreComponents, Front, Id, IsBuild, IsIdentifiers, IsPreRelease, List, None, Option, Partial}
 use Rattle.nodejs_semver.proofs.Common.{Sign, Some, Word, [], arith, bind_some, caret, compare, cond_some, hyphen, identifier_of}
 use Rattle.nodejs_semver.proofs.Common.{is_identifier, is_normal, list_all, malformed, map, partial_front, pieces, plain, refl}
 use Rattle.nodejs_semver.proofs.Common.{same_Some, sign_at, tilde, true, upper_of, word_at, ℕ, ◌∷◌, ◌≡◌, ◌≤◌}
-use Rattle.nodejs_semver.specs.Internal.Words.{Reading, at_boundary, behind_sign, or_else, or_malformed, signed_word, word_behind}
+use Rattle.nodejs_semver.specs.Internal.Words.{at_boundary, behind_sign, or_else, or_malformed, signed_word, word_behind}
 use Rattle.nodejs_semver.specs.Text.PartialText.{IsComponent}
 use Rattle.semver_core.specs.Internal.Reading.{◌>>?◌}
 use Rattle.nodejs_semver.proofs.Reading.PartialLaw.{front-read}
@@ -61,10 +61,10 @@ FineWord limit malformed = Unit {0}
 upper-fine : (limit : ℕ) (s : Sign) (text : List ℕ) (q : Partial × List ℕ) → upper_of limit s text ≡ Some q → Fine limit q.0
 upper-fine limit s text q h = grind (arith, bind_some, cond_some, longest-fine)
 
-abbrev FineReading : ℕ → Reading → Type 0
-FineReading limit o = (x : Word) (r : List ℕ) → o ≡ Some (x, r) → FineWord limit x
+abbrev FineFront : ℕ → Front Word → Type 0
+FineFront limit o = (x : Word) (r : List ℕ) → o ≡ Some (x, r) → FineWord limit x
 
-form-fine : (limit : ℕ) (text : List ℕ) → FineReading limit (behind_sign limit (sign_at text))
+form-fine : (limit : ℕ) (text : List ℕ) → FineFront limit (behind_sign limit (sign_at text))
 form-fine limit text x r h =
     let s = sign_at text in
     let p = bind_some (partial_front limit s.1) (λ p. word_behind limit s.0 p.0 p.1) (x, r) h in
@@ -75,7 +75,7 @@ form-fine limit text x r h =
         → or_else (o >>? λ q. Some (hyphen p q.0, q.1)) (at_boundary (signed_word s p) rest) ≡ Some (x, r) → FineWord limit x
     go s p rest f o e k = grind (arith, same_Some, upper-fine, cond_some)
 
-read-fine : (limit : ℕ) (o : Reading) (text : List ℕ) → FineReading limit o → FineWord limit (or_malformed o text).0
+read-fine : (limit : ℕ) (o : Front Word) (text : List ℕ) → FineFront limit o → FineWord limit (or_malformed o text).0
 read-fine limit None text f = tt
 read-fine limit (Some w) text f = f w.0 w.1 refl
 

@@ -9,7 +9,8 @@ use Rattle.nodejs_semver.proofs.NpmCommon.{listed, nat_le, number_front, strict_
 use Rattle.nodejs_semver.proofs.{NpmTexts.Lists.{marked-found, marked-read}, Reading.Numbers.{digits-taken, number-is, number-read, run-ends}}
 use Rattle.nodejs_semver.proofs.Strict.{Characters.last-byte, PartialLaw.digits-of, VersionLaw.{padded-same, strict-read}}
 use Rattle.nodejs_semver.specs.Internal.NpmTuples.{BeginsAfter, IsChosenPlace, IsFirstPlace, IsLastPlace, absent_len, build_len, dotted_len, end_at}
-use Rattle.nodejs_semver.specs.Internal.NpmTuples.{marked_len, number_in_reading, pre_len, qualified, run_len, tuple_len_at, version_front}
+use Rattle.nodejs_semver.specs.Internal.NpmTuples.{marked_len, pre_len, qualified, run_len, tuple_len_at, version_front}
+use Rattle.nodejs_semver.specs.Internal.NpmReadings.{number_in_reading}
 use Rattle.nodejs_semver.specs.Npm.Coerced.{IsChosenFrom, IsCoerced, IsContinuedIn, IsMarkedList, IsNumberIn, IsRelease, absent, marked, one, three, two, unmarked}
 use Rattle.{semver_core.proofs.Text.Pieces.rest_at, std.proofs.{Math.Seq.{drop-append_seam, take-append_seam}, lemmas.List.Sums.sum_by-append}}
 use Rattle.std.specs.List.{count_by}

@@ -16,7 +16,7 @@ use Rattle.semver_core.proofs.{Text.SpaceLaw.{space_len-white}, Text.Trims.{fron
 use Rattle.nodejs_semver.specs.Internal.Fronts.{begins_byte, build_front, pre_release_front, begins_wildcard, dotted_front, minor_front}
 use Rattle.nodejs_semver.specs.Internal.Fronts.{number_front, patch_front, after_byte, drop_v}
 use Rattle.nodejs_semver.specs.Text.PartialText.{IsComponent, number, one, three, two, wildcard, IsPartial}
-use Rattle.nodejs_semver.specs.Internal.Words.{after_some_space, behind_sign, word_behind, unsigned, Reading}
+use Rattle.nodejs_semver.specs.Internal.Words.{after_some_space, behind_sign, word_behind, unsigned}
 use Rattle.nodejs_semver.specs.Text.LongestText.{BeginsPartial, IsLongestPartial}
 use Rattle.nodejs_semver.proofs.Reading.Bytes.{Quiet, Stop, quiet-before, all-end, begins-on, begins_component, quiet-dotted, quiet-behind}
 use Rattle.nodejs_semver.proofs.Reading.Bytes.{quiet-both, quiet-front, quiet-further, begins-some, component-solid, is_component_byte}
@@ -262,7 +262,7 @@ pub word-shorter : (limit b : ℕ) (rest : List ℕ) → space_len (b ∷ rest) 
 unfolding word_at from_boundary
 word-shorter limit b rest h = go (behind_sign limit (sign_at (b ∷ rest))) refl
   where
-    go : (o : Reading) → behind_sign limit (sign_at (b ∷ rest)) ≡ o → length (word_at limit (b ∷ rest)).1 < length (b ∷ rest)
+    go : (o : Front Word) → behind_sign limit (sign_at (b ∷ rest)) ≡ o → length (word_at limit (b ∷ rest)).1 < length (b ∷ rest)
     go (Some x) e = rw e (form-shorter limit (b ∷ rest) x.0 x.1 e)
     go None e = rw (e, from_boundary, no-boundary b rest h) (omega (arith, boundary-le rest))
 

@@ -3,12 +3,12 @@ use Rattle.nodejs_semver.proofs.Common.{AlphaNumeric, Bool, Id, IsBlank, List, N
 use Rattle.nodejs_semver.proofs.Common.{append-nil, at_most, below, codes, encode_utf8, equal, false, from_boundary, inl, is_boundary, is_some, length}
 use Rattle.nodejs_semver.proofs.Common.{list_len, lit≤, map, refl, release_value, space_len, sym, true, ℕ, ◌++◌, ◌∷◌, ◌≡◌}
 use Rattle.nodejs_semver.proofs.NpmCommon.{AreWords, BeginsWord, Comparison, IsPlaces, IsWord, after_ends, alternative_of, alternatives_of, are_marks, at_least, begins_undashed}
-use Rattle.nodejs_semver.proofs.NpmCommon.{behind_ignored, build_front, caret_equal, compared, dashed_front, digits, dotted_number, dotted_patch, dotted_place, end_front}
+use Rattle.nodejs_semver.proofs.NpmCommon.{behind_ignored, build_front, caret_equal, compared, dashed_front, digits, dotted_patch, dotted_place, end_front}
 use Rattle.nodejs_semver.proofs.NpmCommon.{first_word, hyphen_ends, hyphen_lower, hyphen_upper, is_lost, is_short, is_spelled, is_valid, join_with_byte, late_above, listed}
-use Rattle.nodejs_semver.proofs.NpmCommon.{lit<, loose_dotted, loose_front, loose_patch, loose_qualified, loose_version, major, may_stand, minor}
+use Rattle.nodejs_semver.proofs.NpmCommon.{lit<, major, may_stand, minor}
 use Rattle.nodejs_semver.proofs.NpmCommon.{none, npm_sign, number_of, one, patch_front, patch_place, place_front, pre_front, pre_release_front}
-use Rattle.nodejs_semver.proofs.NpmCommon.{qualified_partial, qualified_version, sign, signed_word, spelling, strict_number, strict_version}
-use Rattle.nodejs_semver.proofs.NpmCommon.{tilde_twice, tuple_len, tuple_release, whole, wildcard, word, words_within, ◌>>?◌}
+use Rattle.nodejs_semver.proofs.NpmCommon.{qualified_partial, qualified_version, sign, signed_word, spelling, strict_number}
+use Rattle.nodejs_semver.proofs.NpmCommon.{tilde_twice, tuple_len, tuple_release, whole, whole_version, wildcard, word, words_within, ◌>>?◌}
 use Rattle.nodejs_semver.specs.Internal.NpmInside.{are_inside, behind_id, behind_ids, behind_partial, behind_place, behind_places, behind_pre_release}
 use Rattle.nodejs_semver.{proofs.Strict.Ignored.no-blank, specs.Internal.NpmWords.{places_front, takes_on}}
 use Rattle.nodejs_semver.specs.Npm.{Partials.number, RangeText.{formed, more}, Ranges.accepts, Table.{Partial, Sign, caret, table, tilde, written_zeros}}
@@ -275,7 +275,7 @@ row-lost : map is_lost ((None ∷ []) ∷ (None ∷ None ∷ []) ∷ (None ∷ S
 row-lost = refl
 
 abbrev read_loose : List ℕ → Option VersionValue
-read_loose text = loose_version 9007199254740991 text
+read_loose text = whole_version true 9007199254740991 text
 
 -- 1.2.3 with a pre-release and a build
 abbrev tagged : List Id → List Id → Option VersionValue
@@ -285,14 +285,14 @@ row-loose : map read_loose (codes "1.2.3" ∷ codes "=v 01.02.003" ∷ codes "1.
     ∷ codes "1.2.34.5" ∷ [])
     ≡ tagged [] [] ∷ tagged [] [] ∷ tagged (Numeric 1 ∷ []) [] ∷ tagged (AlphaNumeric (codes "beta") ∷ []) (Numeric 7 ∷ [])
     ∷ tagged (AlphaNumeric (codes "-") ∷ []) [] ∷ tagged (AlphaNumeric (codes "-") ∷ []) [] ∷ tagged (Numeric 4 ∷ Numeric 5 ∷ []) [] ∷ []
-unfolding loose_version loose_dotted loose_patch patch_front loose_qualified loose_front build_front number_of list_len listed after_ends space_len
+unfolding whole_version patch_front qualified_version pre_front dashed_front pre_release_front build_front number_of list_len listed after_ends space_len
 row-loose = refl
 
 -- a missing number, what stands behind, no digit left for the patch number, the mark `V`, a number past the limit
 row-rejected-loose : map (λ (text : List ℕ). is_some (read_loose text)) (codes "1.2" ∷ codes "1.2.3.4" ∷ codes "1.2.3 4" ∷ codes "1.2.34." ∷ codes "V1.2.3"
     ∷ codes "1.2.3+" ∷ codes "1.2.3a..b" ∷ codes "0.0.9007199254740992" ∷ [])
     ≡ false ∷ false ∷ false ∷ false ∷ false ∷ false ∷ false ∷ false ∷ []
-unfolding loose_version loose_dotted loose_patch patch_front loose_qualified loose_front build_front number_of list_len listed after_ends space_len
+unfolding whole_version patch_front qualified_version pre_front dashed_front pre_release_front build_front number_of list_len listed after_ends space_len
 row-rejected-loose = refl
 
 -- how a pre-release without a `-` before it may begin
@@ -321,7 +321,7 @@ unfolding tuple_release number_of
 row-zeros = refl
 
 abbrev read : List ℕ → Option VersionValue
-read text = strict_version 9007199254740991 text
+read text = whole_version false 9007199254740991 text
 
 abbrev is_read : List ℕ → Bool
 is_read text = is_some (read text)
@@ -336,7 +336,7 @@ row-versions : map read (codes "1.2.3" ∷ codes "v0.20.0" ∷ codes "1.2.3-0.a-
       build = Numeric 7 ∷ AlphaNumeric (codes "x") ∷ [];
     })
     ∷ Some (release_value 0 0 9007199254740991) ∷ []
-unfolding strict_version strict_number dotted_number qualified_version dashed_front pre_release_front build_front number_of list_len listed
+unfolding whole_version patch_front strict_number qualified_version pre_front dashed_front pre_release_front build_front number_of list_len listed
 row-versions = refl
 
 -- a missing number, leading zeros, a number past the limit, a missing hyphen, other marks, a mark with a blank, what stands behind
@@ -344,5 +344,5 @@ row-rejected : map is_read (codes "1.2" ∷ codes "01.2.3" ∷ codes "1.2.00" �
     ∷ codes "1.2.3beta" ∷ codes "V1.2.3" ∷ codes "=1.2.3" ∷ codes "v 1.2.3" ∷ codes "1.2.3.4" ∷ codes "1.2.3-" ∷ codes "1.2.3-a..b" ∷ codes "1.2.3+"
     ∷ codes "1.2.3+a+b" ∷ codes "1.2.x" ∷ [])
     ≡ false ∷ false ∷ false ∷ false ∷ false ∷ false ∷ false ∷ false ∷ false ∷ false ∷ false ∷ false ∷ false ∷ false ∷ false ∷ false ∷ []
-unfolding strict_version strict_number dotted_number qualified_version dashed_front pre_release_front build_front number_of list_len listed
+unfolding whole_version patch_front strict_number qualified_version pre_front dashed_front pre_release_front build_front number_of list_len listed
 row-rejected = refl

@@ -1,15 +1,15 @@
 -- Alternatives of node-semver's range texts: the functions that read them find exactly what the statement has.
-use Rattle.nodejs_semver.proofs.Common.{AllByRecursion, Bool, IsUtf8, List, MAX_SAFE_INTEGER, None, Option, Some, VersionValue, [], and_parts, ap}
+use Rattle.nodejs_semver.proofs.Common.{AllByRecursion, Bool, IsUtf8, List, MAX_SAFE_INTEGER, None, Option, Some, [], and_parts, ap}
 use Rattle.nodejs_semver.proofs.Common.{arith, bind_some, cases_Bool, common_steps, cond_some, drop, false, inl, inr, is_empty, length, length-drop}
 use Rattle.nodejs_semver.proofs.Common.{list_all, map, middle_is_trim, nat_tests, prefix_len, refl, same_Some, subst, suc, sym, take, take_rest, trim}
 use Rattle.nodejs_semver.proofs.{Common.{trim_is_middle, true, ℕ, ◌&&◌, ◌++◌, ◌+◌, ◌-◌, ◌↔◌, ◌∙◌, ◌∷◌, ◌≡◌, ◌≤◌}, Dividing.BarsDivide.bars_divide}
 use Rattle.nodejs_semver.proofs.{Dividing.{BarsDivide.bars_once, MeaningLaw.pieces-utf8}, NpmCommon.{AreAlternatives, Comparison, Counted, Ended}}
-use Rattle.nodejs_semver.proofs.NpmCommon.{HasAlternativesIn, IsAlternative, IsHyphen, IsPartial, IsVersionText, alternative_of, alternatives_of}
+use Rattle.nodejs_semver.proofs.NpmCommon.{HasAlternativesIn, IsAlternative, IsHyphen, IsPartial, alternative_of, alternatives_of}
 use Rattle.nodejs_semver.proofs.NpmCommon.{are_normal, counted_front, counted_word, hyphen_ends, is_free_lower, is_free_upper, is_mark, is_right}
-use Rattle.nodejs_semver.proofs.NpmCommon.{is_valid, kept, lower_of, marks_len, strict_version, upper_of, words_of_all, words_within}
+use Rattle.nodejs_semver.proofs.NpmCommon.{is_valid, kept, lower_of, marks_len, upper_of, words_of_all, words_within}
 use Rattle.nodejs_semver.proofs.{Reading.{Steps.option-cases, WordLaw.{tail-utf8, trim-utf8}}, Strict.Hyphens.{ended_of, front-normal, hyphen-found}}
 use Rattle.nodejs_semver.proofs.Strict.{Hyphens.{hyphen-read, partial-le, places-normal, right-end}, PartialLaw.prefix-all}
-use Rattle.nodejs_semver.{proofs.Strict.{VersionLaw.strict-read-version, Words.{words-found, words-read}}, specs.Internal.NpmParts.some_normal}
+use Rattle.nodejs_semver.{proofs.Strict.Words.{words-found, words-read}, specs.Internal.NpmParts.some_normal}
 use Rattle.nodejs_semver.specs.{Internal.NpmWords.{hyphen_or, npm_alternatives}, Npm.{RangeText.{hyphen, next, words}, Table.Partial}}
 
 -- ---- marks
@@ -113,11 +113,6 @@ alternatives_are loose limit include text ls u = (
       let cut = bars_divide text in
       grind (arith, nat_tests, common_steps, each-found, pieces-utf8),
 )
-
-pub version_once : (limit : ℕ) (text : List ℕ) (v w : VersionValue) → IsVersionText limit text v → IsVersionText limit text w → v ≡ w
-version_once limit text v w h k =
-    let same : h.1 ≡ k.1 = middle_is_trim text h.1 h.2 ∙ sym (middle_is_trim text k.1 k.2) in
-    same_Some v w (sym (strict-read-version limit h.1 v h.3) ∙ ap (λ (t : List ℕ). strict_version limit t) same ∙ strict-read-version limit k.1 w k.3)
 
 pub alternatives_once : (loose : Bool) (limit : ℕ) (include : Bool) (text : List ℕ) (a b : List (List Comparison)) → IsUtf8 text
     → HasAlternativesIn loose limit include text a → HasAlternativesIn loose limit include text b → a ≡ b

@@ -1,18 +1,18 @@
 -- Version texts of the strict reading: numbers without leading zeros, pre-releases, builds and whole texts. What is read is written, and what is
 -- written is read.
-use Rattle.nodejs_semver.proofs.Common.{Bool, Id, IsIdentifiers, IsPieceAt, IsTrim, IsUtf8, IsWholeNumber, List, MAX_SAFE_INTEGER, None, Option, Some}
-use Rattle.nodejs_semver.proofs.Common.{VersionValue, [], and-false, and_from, and_parts, ap, append-nil, arith, begins, begins_identifier, bind_some}
+use Rattle.nodejs_semver.proofs.Common.{Bool, Id, IsIdentifiers, IsPieceAt, IsUtf8, IsWholeNumber, List, MAX_SAFE_INTEGER, None, Some}
+use Rattle.nodejs_semver.proofs.Common.{[], and-false, and_from, and_parts, append-nil, arith, begins, begins_identifier, bind_some}
 use Rattle.nodejs_semver.proofs.Common.{cases_Bool, common_steps, decimal, drop, false, if◌then◌else◌, inl, inr, is_ascii_digit, is_empty}
-use Rattle.nodejs_semver.proofs.Common.{is_identifier_char, length, list_all, list_len, middle_is_trim, nat_tests, not, prefix_len, refl, same_Some}
-use Rattle.nodejs_semver.proofs.Common.{subst, sym, take, take-append-drop, take_rest, true, ℕ, ◌&&◌, ◌++◌, ◌-◌, ◌<◌, ◌==◌, ◌^◌, ◌||◌, ◌∙◌, ◌∷◌, ◌≡◌}
-use Rattle.nodejs_semver.proofs.{Common.{◌≤◌, ◌⊎◌}, NpmCommon.{IsClean, IsStrictBuild, IsStrictNumber, IsStrictPreRelease, IsStrictVersion}}
-use Rattle.nodejs_semver.proofs.NpmCommon.{IsVersionText, NoValue, after_byte, bare, begins_byte, begins_padded, begins_undashed, build_front, chars}
-use Rattle.nodejs_semver.proofs.NpmCommon.{chars_from_encodes, dashed, dashed_front, digits_value, dotted_number, goes_on, has_leading_zero, is_mark}
-use Rattle.nodejs_semver.proofs.NpmCommon.{is_strict_list, listed, no_build, no_pre_release, number_front, plus, pre_front, pre_release_front}
-use Rattle.nodejs_semver.proofs.{NpmCommon.{qualified_version, strict_number, strict_version, ◌>>?◌}, Reading.Bytes.is_solid}
+use Rattle.nodejs_semver.proofs.Common.{is_identifier_char, length, list_all, list_len, nat_tests, not, refl}
+use Rattle.nodejs_semver.proofs.Common.{sym, take, take-append-drop, take_rest, true, ℕ, ◌&&◌, ◌++◌, ◌-◌, ◌<◌, ◌==◌, ◌^◌, ◌||◌, ◌∷◌, ◌≡◌}
+use Rattle.nodejs_semver.proofs.{Common.{◌≤◌, ◌⊎◌}, NpmCommon.{IsStrictBuild, IsStrictNumber}}
+use Rattle.nodejs_semver.proofs.NpmCommon.{after_byte, bare, begins_byte, begins_padded, begins_undashed, build_front, chars}
+use Rattle.nodejs_semver.proofs.NpmCommon.{chars_from_encodes, dashed, dashed_front, digits_value, goes_on, has_leading_zero}
+use Rattle.nodejs_semver.proofs.NpmCommon.{listed, no_build, no_pre_release, number_front, plus, pre_front, pre_release_front}
+use Rattle.nodejs_semver.proofs.{NpmCommon.{strict_number, ◌>>?◌}, Reading.Bytes.is_solid}
 use Rattle.nodejs_semver.proofs.Reading.{IdentifierLists.{front-identifiers, written-begins, written-exact, written-spelled}, Numbers.front_none}
 use Rattle.nodejs_semver.proofs.Reading.{Numbers.{front_some, number-found, number-read}, PartialLaw.byte-begins, WordLaw.byte-is}
-use Rattle.nodejs_semver.specs.{Internal.Fronts.{Front, drop_v, marked_list}, Npm.{Grammar.{IsPreRelease, IsWritten, written}, VersionText.IsWhole}}
+use Rattle.nodejs_semver.specs.{Internal.Fronts.{Front, marked_list}, Npm.{Grammar.{IsPreRelease, IsWritten, written}}}
 use Rattle.{semver_core.proofs.Text.{Pieces.list_ended, Runs.{list_len_stop, numerals}}, std.proofs.lemmas.Fmt.decimal-digits_value}
 use Rattle.std.proofs.lemmas.{Fmt.length-decimal-le, Str.{encodes-chars, length-le-encodes}}
 
@@ -42,7 +42,7 @@ pub record At {A : Type 0} (Is : List ℕ → A → Type 0) (text : List ℕ) (a
   pub split : text ≡ piece ++ rest
   pub is : Is piece a
 
-strict-found : (limit : ℕ) (text : List ℕ) (n : ℕ) (rest : List ℕ) → strict_number limit text ≡ Some (n, rest) → At (IsStrictNumber limit) text n rest
+pub strict-found : (limit : ℕ) (text : List ℕ) (n : ℕ) (rest : List ℕ) → strict_number limit text ≡ Some (n, rest) → At (IsStrictNumber limit) text n rest
 unfolding strict_number
 strict-found limit text n rest h =
     let k : number_front limit text ≡ Some (n, rest) = grind arith in
@@ -192,54 +192,6 @@ ended-found Marks Number loose fits mark x y z text a b c pre m i j k p whole =
     let q = build-found pre.1 in
     let split : text ≡ p.0 ++ q.0 = cc (p.1, q.1, empty-is (build_front pre.1).1 whole, append-nil q.0) in
     rw split (written mark x y z p.0 q.0 _ m i j k p.2 q.2)
-
-pub strict-found-version : (limit : ℕ) (text : List ℕ) (v : VersionValue) → strict_version limit text ≡ Some v → IsStrictVersion limit text v
-unfolding strict_version dotted_number qualified_version
-strict-found-version limit text v h =
-    let a = bind_some (strict_number limit (drop_v text)) _ v h in
-    let b = bind_some (dotted_number limit a.0.1) _ v a.2 in
-    let c = bind_some (dotted_number limit b.0.1) _ v b.2 in
-    let m : (mark : List ℕ) × (text ≡ mark ++ drop_v text) × ((mark ≡ []) ⊎ (mark ≡ 118 ∷ [])) = elim (cases_Bool (begins_byte 118 text)) [
-      | inl v ↦ (118 ∷ [], grind (arith, nat_tests), inr refl)
-      | inr none ↦ ([], grind (arith, nat_tests), inl refl)
-    ] in
-    let x = strict-found limit (drop_v text) a.0.0 a.0.1 a.1 in
-    let y = dotted-found (IsStrictNumber limit) (strict_number limit) a.0.1 b.0.0 b.0.1 (λ t e. strict-found limit t b.0.0 b.0.1 e) b.1 in
-    let z = dotted-found (IsStrictNumber limit) (strict_number limit) b.0.1 c.0.0 c.0.1 (λ t e. strict-found limit t c.0.0 c.0.1 e) c.1 in
-    grind (arith, cases_Bool, and_parts, same_Some, ended-found, dashed-found)
-
--- ---- what is written is read
-
-qualified-read : (p b : List ℕ) (v : VersionValue) → IsStrictPreRelease p v.pre_release → IsStrictBuild b v.build
-    → qualified_version v.major v.minor v.patch (p ++ b) ≡ Some v
-unfolding qualified_version pre_front
-qualified-read p b v h k =
-    let e = build-ends b [] v.build k refl in
-    let t = build-taken b [] v.build k refl in grind (arith, nat_tests, common_steps, append-nil, pre-taken)
-
-pub strict-read-version : (limit : ℕ) (text : List ℕ) (v : VersionValue) → IsStrictVersion limit text v → strict_version limit text ≡ Some v
-unfolding strict_version dotted_number
-strict-read-version limit text v (written mark x y z pre build w m i j k p q) =
-    let last = pre ++ build in
-    let f = pre-follows false is_strict_list pre build w.pre_release p (rw append-nil at (build-ends build [] w.build q refl)) in
-    let front : drop_v (mark ++ (x ++ 46 ∷ (y ++ 46 ∷ (z ++ last)))) ≡ x ++ 46 ∷ (y ++ 46 ∷ (z ++ last)) = grind (arith, nat_tests, common_steps) in
-    let a = strict-read limit x (46 ∷ (y ++ 46 ∷ (z ++ last))) w.major i refl in
-    let b = strict-read limit y (46 ∷ (z ++ last)) w.minor j refl in
-    rw (front, a, b, strict-read limit z last w.patch k (grind (arith, nat_tests))) (qualified-read pre build w p q)
-
--- ---- whole texts
-
-pub text_refused : (Is : List ℕ → VersionValue → Type 0) (read : List ℕ → Option VersionValue) (text middle : List ℕ)
-    → ((t : List ℕ) (v : VersionValue) → Is t v → read t ≡ Some v) → IsTrim text middle → read middle ≡ None → NoValue (IsWhole Is text)
-text_refused Is read text middle law trimmed h = λ v w.
-    let same = middle_is_trim text middle trimmed ∙ sym (middle_is_trim text w.1 w.2) in cc (law w.1 v w.3, h, same)
-
--- the same of a text that is cleaned
-pub clean_refused : (limit : ℕ) (text middle rest : List ℕ) → IsTrim text middle → rest ≡ drop (prefix_len is_mark middle) middle
-    → NoValue (IsVersionText limit rest) → NoValue (IsClean limit text)
-clean_refused limit text middle rest trimmed e none = λ v w.
-    let same : w.0 ≡ middle = middle_is_trim text w.0 w.1 ∙ sym (middle_is_trim text middle trimmed) in
-    none v (subst (λ (t : List ℕ). IsVersionText limit t v) (ap (λ (m : List ℕ). drop (prefix_len is_mark m) m) same ∙ sym e) w.2)
 
 -- ---- a text has no more characters than bytes, and as many as its iterator counts
 

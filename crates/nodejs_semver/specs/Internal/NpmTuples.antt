@@ -8,8 +8,8 @@ use Rattle.semver_core.specs.Text.Characters.{begins, ends}
 use Rattle.semver_core.specs.Text.Identifiers.{Id, listed}
 use Rattle.semver_core.specs.Values.Versions.{VersionValue, release_value}
 use Rattle.semver_core.specs.declared.TheConstants.{MAX_LENGTH}
-use Rattle.nodejs_semver.specs.Internal.Fronts.{Front, number_front}
-use Rattle.nodejs_semver.specs.Internal.NpmReadings.{strict_number}
+use Rattle.nodejs_semver.specs.Internal.Fronts.{Front}
+use Rattle.nodejs_semver.specs.Internal.NpmReadings.{number_in_reading}
 use Rattle.nodejs_semver.specs.Npm.Coerced.{begins_identifier_in, goes_on_in}
 use Rattle.nodejs_semver.specs.declared.npm.coerced.Stretch.{Stretch}
 
@@ -87,10 +87,6 @@ pub record IsLastPlace (included : Bool) (text : List ℕ) (at : ℕ) : Type 0 w
 -- the tuple that is looked for begins at the place
 abbrev pub IsChosenPlace : Bool → Bool → List ℕ → ℕ → Type 0
 IsChosenPlace included rtl text at = elim rtl [ false ↦ IsFirstPlace text at | true ↦ IsLastPlace included text at ]
-
--- a number, with leading zeros or only without
-abbrev pub number_in_reading : Bool → ℕ → List ℕ → Front ℕ
-number_in_reading zeros limit text = if zeros then number_front limit text else strict_number limit text
 
 -- the number behind a dot, and 0 where no dot stands
 abbrev pub next_number : Bool → ℕ → List ℕ → Front ℕ

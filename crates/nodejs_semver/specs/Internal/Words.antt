@@ -16,12 +16,9 @@ abbrev pub or_else : {A : Type 0} → Option A → Option A → Option A
 or_else (Some x) o = Some x
 or_else None o = o
 
--- a word that was read and what follows it
-abbrev pub Reading : Type 0
-Reading = Option (Word × List ℕ)
 
 -- the text, where it begins at a boundary
-abbrev pub at_boundary : Word → List ℕ → Reading
+abbrev pub at_boundary : Word → List ℕ → Front Word
 at_boundary word rest = if is_boundary rest then Some (word, rest) else None
 
 -- the sign with a longer form takes it where it stands
@@ -86,15 +83,15 @@ upper_of limit (tilded greater) rest = None
 upper_of limit careted rest = None
 
 -- the word of a sign, a partial behind it and what follows the partial
-abbrev pub word_behind : ℕ → Sign → Partial → List ℕ → Reading
+abbrev pub word_behind : ℕ → Sign → Partial → List ℕ → Front Word
 word_behind limit sign p rest =
     or_else (upper_of limit sign rest >>? λ q. Some (hyphen p q.0, q.1)) (at_boundary (signed_word sign p) rest)
 
 -- the word behind a sign
-abbrev pub behind_sign : ℕ → Sign × List ℕ → Reading
+abbrev pub behind_sign : ℕ → Sign × List ℕ → Front Word
 behind_sign limit s = partial_front limit s.1 >>? λ p. word_behind limit s.0 p.0 p.1
 
-abbrev pub or_malformed : Reading → List ℕ → Word × List ℕ
+abbrev pub or_malformed : Front Word → List ℕ → Word × List ℕ
 or_malformed (Some r) text = r
 or_malformed None text = (malformed, from_boundary text)
 

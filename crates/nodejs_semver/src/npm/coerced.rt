@@ -12,10 +12,9 @@ ghost use Rattle.nodejs_semver.specs.Npm.Grammar.{IsStrictNumber};
 ghost use Rattle.semver_core.specs.Text.Characters.{ends};
 ghost use Rattle.nodejs_semver.specs.Internal.NpmTuples as Spec;
 
-use crate::npm::loose_versions::number;
 use crate::npm::options::Coercion;
 use crate::npm::places::digits_len;
-use crate::npm::versions::{begins_padded, strict_number};
+use crate::npm::versions::{begins_padded, number_front};
 use crate::readers;
 use semver_core::scan::{begins_identifier, is_identifier_char};
 use semver_core::{MAX_LENGTH, MAX_SAFE_INTEGER, VersionRef};
@@ -29,7 +28,7 @@ fn run_len(text: &[u8]) -> usize
     if digits <= 16 { digits } else { 0 }
 }
 
-// The same of a run with a dot before it.
+// How long a dot and the run of 1 to 16 digits after it are, and 0 where these do not stand there.
 fn dotted_len(text: &[u8]) -> usize
     ensures value { result ≡ Spec.dotted_len text.now }
     ensures fits { result ≤ length text.now }
@@ -96,7 +95,7 @@ fn begins_identifier_in(strict: bool, text: &[u8]) -> bool
     }
 }
 
-// Whether a list of such identifiers that ends before this text would go on with it.
+// Whether a list of identifiers, strict ones or any, that ends before this text goes on with it.
 fn goes_on_in(strict: bool, text: &[u8]) -> bool
     ensures { result ≡ goes_on_in strict text.now }
 {
@@ -107,7 +106,7 @@ fn goes_on_in(strict: bool, text: &[u8]) -> bool
     }
 }
 
-// How far the longest list of such identifiers goes.
+// How far the longest list of identifiers, strict ones or any, goes from the front.
 #[tactic(auto, using(crate::proofs::NpmTexts::Lists::list_lens))]
 fn list_len(strict: bool, text: &[u8]) -> usize
     ensures value { result ≡ Spec.list_len_in strict text.now }
@@ -154,7 +153,7 @@ impl Stretch {
     }
 }
 
-// Whether a mark stands at the front, and behind it such an identifier.
+// Whether a text begins with a mark and an identifier, which may have to be strict.
 fn begins_marked(strict: bool, mark: u8, text: &[u8]) -> bool
     ensures { result ≡ (begins (λ c. c == mark) text.now
         && begins_identifier_in strict (drop 1 text.now)) }
@@ -165,7 +164,8 @@ fn begins_marked(strict: bool, mark: u8, text: &[u8]) -> bool
     }
 }
 
-// Where the list behind a mark at a place ends: at that place, where none is included or stands.
+// Where the list that follows a mark at a place ends: at that place, where none is included or
+// there.
 fn marked_end(
     included: bool,
     strict: bool,
@@ -245,18 +245,7 @@ fn last_place(included: bool, text: &[u8]) -> Option<usize>
     Some(start)
 }
 
-// The number at the front, with leading zeros or only without, and the text behind it.
-fn number_front(zeros: bool, text: &[u8]) -> Option<(u64, &[u8])>
-    ensures { front_view result ≡ Spec.number_in_reading zeros MAX_SAFE_INTEGER text.now }
-{
-    if zeros {
-        number(text)
-    } else {
-        strict_number(text)
-    }
-}
-
-// The number behind a dot, and 0 where no dot stands.
+// The number that follows a dot, and 0 where no dot stands.
 fn next_number(zeros: bool, text: &[u8]) -> Option<(u64, &[u8])>
     ensures { front_view result ≡ Spec.next_number zeros MAX_SAFE_INTEGER text.now }
 {
@@ -288,23 +277,17 @@ fn absent_len(tuple: &[u8]) -> usize
     }
 }
 
-fn behind_first(text: &[u8]) -> &[u8]
-    ensures { result.now ≡ drop 1 text.now }
-{
-    match text {
-        [_, rest @ ..] => rest,
-        [] => text,
-    }
-}
-
-// The list behind a mark at the front, and what stands behind it.
+// The list that follows a mark at the front, and what follows it.
 fn marked_list(included: bool, strict: bool, mark: u8, text: &[u8]) -> (&[u8], &[u8])
     ensures listed { is_listed result.0.now ≡ true }
     ensures value { pair_view result ≡ Spec.marked_front included strict mark text.now }
 {
     let len = marked_end(included, strict, mark, text, 0, &mut Stretch::empty());
     let (marked, rest) = text.split_at(len);
-    (behind_first(marked), rest)
+    match marked {
+        [_, list @ ..] => (list, rest),
+        [] => (marked, rest),
+    }
 }
 
 // The version of the tuple at the front and of what it goes on with.

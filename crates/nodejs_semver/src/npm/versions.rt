@@ -1,18 +1,21 @@
-// Version texts as node-semver's strict reading has them.
+// Version texts as node-semver's strict reading and its loose one have them.
 
 ghost use Rattle.std.specs.{Prelude.{◌↔◌, ◌≡◌, ◌≤◌, IfErr, drop}, List.prefix_len, Str.chars};
 ghost use Rattle.nodejs_semver.specs.Words.{IfOk, IsTrue, MAX_SAFE_INTEGER, NoValue};
 ghost use Rattle.nodejs_semver.specs.Words.{front_view, is_ascii_digit, is_listed, length};
 ghost use Rattle.nodejs_semver.specs.Words.{list_all, pair_view, true};
 ghost use Rattle.nodejs_semver.specs.Internal.NpmReadings.{is_strict_identifier};
-ghost use Rattle.nodejs_semver.specs.Internal.NpmLooseVersions.{whole_version};
+ghost use Rattle.nodejs_semver.specs.Internal.Fronts.{after_byte};
 ghost use Rattle.nodejs_semver.specs.Npm.Grammar.{is_strict_list};
 ghost use Rattle.nodejs_semver.specs.Npm.Malformed.{is_mark};
 ghost use Rattle.nodejs_semver.specs.Npm.VersionText.{IsClean, IsVersionTextIn};
+ghost use Rattle.nodejs_semver.specs.Internal.Readings.{rest_view};
 ghost use Rattle.nodejs_semver.specs.Internal.NpmReadings as Spec;
+ghost use Rattle.nodejs_semver.specs.Internal.NpmVersions as Whole;
 
-use crate::npm::loose_versions::whole_version as loose_version;
+use crate::npm::hyphens::skip_marks;
 use crate::npm::options::Reading;
+use crate::npm::places::{digits_len, pre_front};
 use crate::npm::words::marks_len;
 use crate::readers::{build_front, pre_release_front};
 use semver_core::scan::{number_in, trim};
@@ -26,7 +29,7 @@ pub(crate) fn begins_padded(text: &[u8]) -> bool
     matches!(text, [b'0', next, ..] if next.is_ascii_digit())
 }
 
-// A number without leading zeros, and the text behind it.
+// A number without leading zeros, and the text that follows it.
 #[inline(always)]
 #[tactic(auto, using(crate::proofs::Strict::VersionLaw::numbers_found))]
 pub(crate) fn strict_number(text: &[u8]) -> Option<(u64, &[u8])>
@@ -39,7 +42,7 @@ pub(crate) fn strict_number(text: &[u8]) -> Option<(u64, &[u8])>
     Some((number, &text[end..]))
 }
 
-// The same behind a dot.
+// A number without leading zeros that follows a dot, and the text that follows it.
 #[inline(always)]
 #[tactic(auto, unfolding(crate::specs::Internal::NpmReadings::dotted_number))]
 pub(crate) fn dotted_number(text: &[u8]) -> Option<(u64, &[u8])>
@@ -51,7 +54,59 @@ pub(crate) fn dotted_number(text: &[u8]) -> Option<(u64, &[u8])>
     }
 }
 
-// The text of the pre-release behind a `-`, and what stands behind it.
+// A number, with leading zeros or only without, and the text that follows it.
+#[inline(always)]
+#[tactic(auto, using(crate::proofs::Reading::Numbers::number_fronts))]
+pub(crate) fn number_front(zeros: bool, text: &[u8]) -> Option<(u64, &[u8])>
+    ensures { front_view result ≡ Spec.number_in_reading zeros MAX_SAFE_INTEGER text.now }
+{
+    if !zeros {
+        return strict_number(text);
+    }
+    let (number, end) = number_in(text, 0)?;
+    Some((number, &text[end..]))
+}
+
+// What follows a dot at the front.
+#[inline(always)]
+fn behind_dot(text: &[u8]) -> Option<&[u8]>
+    ensures { rest_view result ≡ after_byte 46 text.now }
+{
+    match text {
+        [b'.', rest @ ..] => Some(rest),
+        _ => None,
+    }
+}
+
+// How many digits of the run at the front a patch number has that leaves the last one before a dot.
+#[inline(always)]
+fn patch_len(text: &[u8]) -> usize
+    ensures value { result ≡ Whole.patch_len text.now }
+    ensures fits { result ≤ length text.now }
+{
+    let digits = digits_len(text);
+    match &text[digits..] {
+        [b'.', ..] => digits.saturating_sub(1),
+        _ => digits,
+    }
+}
+
+// The patch number, and the text that follows it. Loosely the last digit before a dot is an
+// identifier of the pre-release.
+#[inline(always)]
+#[tactic(auto, using(crate::proofs::NpmTexts::Versions::patches))]
+fn patch_front(loose: bool, text: &[u8]) -> Option<(u64, &[u8])>
+    ensures { front_view result ≡ Whole.patch_front loose MAX_SAFE_INTEGER text.now }
+{
+    if !loose {
+        return strict_number(text);
+    }
+    let len = patch_len(text);
+    let (number, _) = number_in(&text[..len], 0)?;
+    Some((number, &text[len..]))
+}
+
+// The text of the pre-release that follows a `-`, and what follows that.
 #[inline(always)]
 #[tactic(auto, unfolding(crate::specs::Internal::NpmReadings::dashed_front))]
 pub(crate) fn dashed_front(text: &[u8]) -> (&[u8], &[u8])
@@ -90,31 +145,57 @@ pub(crate) fn is_strict_list(text: &[u8]) -> bool
     text.split(|byte| *byte == b'.').all(is_strict_identifier)
 }
 
-// The version of three numbers and of what stands behind them up to the end of the text.
+// The version of three numbers and of what follows them up to the end of the text.
 #[inline(always)]
-#[tactic(auto, unfolding(crate::specs::Internal::NpmReadings::qualified_version))]
-fn qualified(major: u64, minor: u64, patch: u64, text: &[u8]) -> Option<VersionRef<'_>>
-    ensures { result ≡ Spec.qualified_version major minor patch text.now }
+#[tactic(auto, unfolding(crate::specs::Internal::NpmVersions::qualified_version))]
+fn qualified(loose: bool, major: u64, minor: u64, patch: u64, text: &[u8]) -> Option<VersionRef<'_>>
+    ensures { result ≡ Whole.qualified_version loose major minor patch text.now }
 {
-    let (pre_release, rest) = dashed_front(text);
+    let (pre_release, rest) = pre_front(loose, false, text);
     let (build, rest) = build_front(rest);
-    if rest.is_empty() && is_strict_list(pre_release) {
+    if rest.is_empty() && (loose || is_strict_list(pre_release)) {
         Some(VersionRef::from_texts(major, minor, patch, pre_release, build))
     } else {
         None
     }
 }
 
-// The version that the whole text is.
-#[tactic(auto, unfolding(crate::specs::Internal::NpmReadings::strict_version))]
-fn strict_version(text: &[u8]) -> Option<VersionRef<'_>>
-    ensures { result ≡ Spec.strict_version MAX_SAFE_INTEGER text.now }
+// The text without the marks that may stand at its front.
+#[inline(always)]
+fn without_marks(loose: bool, text: &[u8]) -> &[u8]
+    ensures { result.now ≡ Whole.unmarked loose text.now }
 {
-    let mark = usize::from(matches!(text, [b'v', ..]));
-    let (major, rest) = strict_number(&text[mark..])?;
-    let (minor, rest) = dotted_number(rest)?;
-    let (patch, rest) = dotted_number(rest)?;
-    qualified(major, minor, patch, rest)
+    if loose {
+        return skip_marks(text);
+    }
+    match text {
+        [b'v', rest @ ..] => rest,
+        _ => text,
+    }
+}
+
+// The version that the whole text is.
+#[inline(always)]
+#[tactic(auto, unfolding(crate::specs::Internal::NpmVersions::whole_version))]
+fn whole_version(loose: bool, text: &[u8]) -> Option<VersionRef<'_>>
+    ensures { result ≡ Whole.whole_version loose MAX_SAFE_INTEGER text.now }
+{
+    let (major, rest) = number_front(loose, without_marks(loose, text))?;
+    let (minor, rest) = number_front(loose, behind_dot(rest)?)?;
+    let (patch, rest) = patch_front(loose, behind_dot(rest)?)?;
+    qualified(loose, major, minor, patch, rest)
+}
+
+// The version that the whole text is, by a machine for each reading: a flag that is known when it
+// is compiled costs nothing.
+fn version_of(loose: bool, text: &[u8]) -> Option<VersionRef<'_>>
+    ensures { result ≡ Whole.whole_version loose MAX_SAFE_INTEGER text.now }
+{
+    if loose {
+        whole_version(true, text)
+    } else {
+        whole_version(false, text)
+    }
 }
 
 // Whether a text has at most as many characters as a version text may have.
@@ -124,18 +205,6 @@ pub(crate) fn is_short(text: &str) -> bool
     ensures { IsTrue result ↔ (length (chars text.now) ≤ MAX_LENGTH) }
 {
     text.len() <= MAX_LENGTH || text.chars().count() <= MAX_LENGTH
-}
-
-// The version that the whole text is, read loosely or strictly.
-#[inline(always)]
-fn whole_version(loose: bool, text: &[u8]) -> Option<VersionRef<'_>>
-    ensures { result ≡ whole_version loose MAX_SAFE_INTEGER text.now }
-{
-    if loose {
-        loose_version(text)
-    } else {
-        strict_version(text)
-    }
 }
 
 /// Reads a version text as node-semver's `parse` does.
@@ -177,7 +246,7 @@ pub fn version(text: &str, reading: Reading) -> Result<VersionRef<'_>, SemverErr
     if !is_short(text) {
         return Err(SemverError);
     }
-    match whole_version(reading.loose, trim(text).as_bytes()) {
+    match version_of(reading.loose, trim(text).as_bytes()) {
         Some(version) => Ok(version),
         None => Err(SemverError),
     }

@@ -14,7 +14,8 @@ ghost use Rattle.npm_semver.specs.Subcommands.{Answers, HasIdentifier, next_said
 ghost use Rattle.npm_semver.specs.Internal.Said.{relation, said};
 
 use crate::subcommands::replies::{Reply, Status, Trouble, answer, bare, line};
-use nodejs_semver::{Failure, IncrementError, VersionDiff, VersionRef, Versioned, npm};
+use nodejs_semver::npm::{self, Reading};
+use nodejs_semver::{Failure, IncrementError, VersionDiff, VersionRef, Versioned};
 use std::alloc::{AllocError, Global};
 use std::cmp::Ordering;
 

@@ -1,4 +1,4 @@
-use Rattle.nodejs_semver.proofs.{Common.MAX_SAFE_INTEGER, NpmCommon.{IsClean, IsVersionText, NoValue}, Strict.VersionLaw.clean_refused}
+use Rattle.nodejs_semver.proofs.{Common.MAX_SAFE_INTEGER, NpmCommon.{IsClean, IsVersionText, NoValue}, NpmTexts.Versions.clean_refused}
 use Rattle.std.proofs.lemmas.Result.{IfErr-weaker}
 use Rattle.nodejs_semver.proofs.npm.versions.clean.Goals as goal
 

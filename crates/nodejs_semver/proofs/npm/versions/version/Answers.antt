@@ -1,4 +1,4 @@
-use Rattle.nodejs_semver.proofs.{Common.{MAX_SAFE_INTEGER, rules}, NpmTexts.Loose.{text_read, text_rejected}}
+use Rattle.nodejs_semver.proofs.{Common.{MAX_SAFE_INTEGER, rules}, NpmTexts.Versions.{text_read, text_rejected}}
 use Rattle.nodejs_semver.proofs.npm.versions.version.Goals as goal
 
 pub returns-in-Some-clause-ok : goal.returns-in-Some-clause-ok
