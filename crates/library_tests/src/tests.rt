@@ -20,6 +20,7 @@ mod npm_texts;
 mod npm_versions;
 mod outside;
 mod print;
+mod questions;
 mod range;
 mod readme;
 

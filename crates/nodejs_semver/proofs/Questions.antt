@@ -1,48 +1,16 @@
--- Questions about ranges: the order that counts builds, parts of ranges, unions, and the ranges of some versions.
-use Rattle.nodejs_semver.proofs.Common.{All, All-weaker, AreTaking, Bool, Bound, Contains, Equal, IfOk, IfOk-weaker, IsLeastOf, IsRange, IsTotalOrder}
-use Rattle.nodejs_semver.proofs.Common.{IsTrue, List, None, Option, Ordering, Result, Some, Span, VersionValue, [], accepts, and_parts, ap}
-use Rattle.nodejs_semver.proofs.Common.{append_assoc, ap₂, arith, common_steps, false, filter, get_or, gt_lt, has_bound, holds, if_any, if◌then◌else◌}
-use Rattle.nodejs_semver.proofs.Common.{is_empty, is_le, is_past-down, is_range_span, is_release, length, length-append, lets_in, list_all}
-use Rattle.nodejs_semver.proofs.Common.{list_all-append, list_any, list_any-append, list_any-map, map, map-append, names, nat_tests, not, not-true}
-use Rattle.nodejs_semver.proofs.Common.{or-false, or_cases, or_left, or_parts, or_right, ordering_reverse, ordering_then, passes, precedence}
-use Rattle.nodejs_semver.proofs.Common.{precedence_total, refl, same_triple, span_of, spans_of, suc, sym, take, tells, tied_itself, true, zero, ℕ}
-use Rattle.nodejs_semver.proofs.{Common.{◌&&◌, ◌++◌, ◌+◌, ◌<◌, ◌||◌, ◌↔◌, ◌∙◌, ◌∷◌, ◌≡◌, ◌≤◌, ◌⊎◌}, NpmCommon.is_none}
-use Rattle.nodejs_semver.specs.{Internal.Questions.{admits, is_said, is_used}, Npm.{Builds.build_order, Simple.simplified, Subsets.AcceptSame}}
-use Rattle.{nodejs_semver.specs.Npm.{Subsets.IsSubset, Unions.{says_all, union}}, semver_core.specs.{Cuts.covers, Internal.OrderLaws.id_same}}
-use Rattle.{semver_core.specs.Internal.OrderLaws.{id_total, same_key}, std.proofs.lemmas.List.Elements.All-contains_itself}
-use Rattle.std.{proofs.lemmas.List.{Filters.length-filter_both, Folds.list_any_at}, specs.Cmp.{Lexicographic.lists_total, on_total, then_total, upto}}
-use Rattle.std.specs.FinMap.{slice_cmp-IsAntisymmetric}
-
-build_total : IsTotalOrder build_order
-build_total = then_total precedence_total (on_total (λ (v : VersionValue). v.build) (lists_total id_total))
-
-both_equal : (r s : Ordering) → ordering_then r s ≡ Equal → (r ≡ Equal) × (s ≡ Equal)
-both_equal r s e = grind (arith, nat_tests, common_steps)
-
-both_ways : (r s : Ordering) → r ≡ ordering_reverse s → is_le r ≡ true → is_le s ≡ true → r ≡ Equal
-both_ways r s e h k = grind (arith, nat_tests, common_steps)
-
-same_value : (v w : VersionValue) → build_order v w ≡ Equal → v ≡ w
-same_value v w e =
-    let parts = both_equal _ _ e in
-    let key = same_key v w parts.0 in
-    let build = slice_cmp-IsAntisymmetric id_same v.build w.build parts.1 in
-    λ i. record { major = key.0 i; minor = key.1 i; patch = key.2 i; pre_release = key.3 i; build = build i }
-
-pub tied : (v w : VersionValue) → (build_order v w ≡ Equal) ↔ (v ≡ w)
-tied v w = (same_value v w, λ e. ap (λ u. build_order u w) e ∙ tied_itself build_total w)
-
-pub antisymmetric : (v w : VersionValue) → is_le (build_order v w) ≡ true → is_le (build_order w v) ≡ true → v ≡ w
-antisymmetric v w h k = same_value v w (both_ways (build_order v w) (build_order w v) (build_total.antisymm v w) h k)
-
-pub transitive : (u v w : VersionValue) → is_le (build_order u v) ≡ true → is_le (build_order v w) ≡ true → is_le (build_order u w) ≡ true
-transitive u v w h k = (tells _).0 ∙ ap not (upto build_total u v w (not-true _ (sym (tells _).0 ∙ h)) (not-true _ (sym (tells _).0 ∙ k)))
-
-one_way : (r s : Ordering) → r ≡ ordering_reverse s → (is_le r || is_le s) ≡ true
-one_way r s e = grind (arith, nat_tests, common_steps)
-
-pub total : (v w : VersionValue) → (is_le (build_order v w) || is_le (build_order w v)) ≡ true
-total v w = one_way (build_order v w) (build_order w v) (build_total.antisymm v w)
+-- Questions about ranges: parts of ranges, unions, and the ranges of some versions.
+use Rattle.nodejs_semver.proofs.Common.{All, All-weaker, AreTaking, Bool, Bound, Contains, IfOk, IfOk-weaker, IsLeastOf, IsRange}
+use Rattle.nodejs_semver.proofs.Common.{IsTrue, List, None, Option, Ordering, Result, Some, Span, VersionValue, [], accepts}
+use Rattle.nodejs_semver.proofs.Common.{and_parts, ap, append_assoc, ap₂, arith, common_steps, false, filter, get_or, gt_lt}
+use Rattle.nodejs_semver.proofs.Common.{has_bound, holds, if_any, if◌then◌else◌, is_empty, is_past-down, is_range_span}
+use Rattle.nodejs_semver.proofs.Common.{is_release, length, length-append, lets_in, list_all, list_all-append, list_any}
+use Rattle.nodejs_semver.proofs.Common.{list_any-append, list_any-map, map, map-append, names, nat_tests, not, not-true, or-false}
+use Rattle.nodejs_semver.proofs.Common.{or_cases, or_left, or_parts, or_right, passes, precedence, precedence_total, refl}
+use Rattle.nodejs_semver.proofs.Common.{same_triple, span_of, spans_of, suc, sym, take, tells, true, zero, ℕ, ◌&&◌, ◌++◌, ◌+◌}
+use Rattle.nodejs_semver.proofs.{Common.{◌<◌, ◌||◌, ◌↔◌, ◌∙◌, ◌∷◌, ◌≡◌, ◌≤◌, ◌⊎◌}, NpmCommon.is_none}
+use Rattle.nodejs_semver.specs.{Internal.Questions.{admits, is_said, is_used}, Ranges.{Simple.simplified, Subsets.AcceptSame}}
+use Rattle.{nodejs_semver.specs.Ranges.{Subsets.IsSubset, Unions.{says_all, union}}, semver_core.specs.Cuts.covers}
+use Rattle.std.proofs.lemmas.List.{Elements.All-contains_itself, Filters.length-filter_both, Folds.list_any_at}
 
 -- ---- parts of ranges
 

@@ -5,9 +5,8 @@
 //! no leading zeros, one `v` in front at most, a `-` before its pre-release, and nothing behind it.
 //! [`version_flaw`] says what is wrong with another text, and where.
 //!
-//! A version lies above or below a range by name, an order counts builds, and [`build_text`]
-//! returns a build as it is written. Ranges have from here their `union`, `is_subset`,
-//! `accepts_same` and `simplify`.
+//! A version lies above or below a range by name, and [`build_text`] returns a build as it is
+//! written.
 
 mod alternatives;
 mod builds;
@@ -27,13 +26,10 @@ mod range_flaws;
 mod ranges;
 mod readings;
 mod sides;
-mod simplified;
-mod subsets;
-mod unions;
 mod versions;
 mod words;
 
-pub use crate::npm::builds::{build_text, build_text_loose, cmp_build};
+pub use crate::npm::builds::{build_text, build_text_loose};
 pub use crate::npm::coerced::{
     coerce, coerce_loose, coerce_rtl, coerce_rtl_loose, coerce_rtl_with_prerelease,
     coerce_rtl_with_prerelease_loose, coerce_with_prerelease, coerce_with_prerelease_loose,

@@ -16,6 +16,9 @@ mod outside;
 pub(crate) mod owned;
 mod parse;
 mod print;
+mod simplified;
+mod subsets;
+mod unions;
 
 use crate::Allocated;
 pub use crate::range::outside::{OutsideDirection, RangeError};

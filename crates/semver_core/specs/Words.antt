@@ -45,7 +45,7 @@ pub use Rattle.semver_core.specs.Text.Identifiers.{IsLongestIdentifiers, listed,
 pub use Rattle.semver_core.specs.Text.Numbers.{IsWholeNumber}
 pub use Rattle.semver_core.specs.Text.Parsing.{Parses}
 pub use Rattle.semver_core.specs.Text.VersionText.{Reads}
-pub use Rattle.semver_core.specs.Values.Order.{id_cmp, pre_cmp, precedence, version_eq}
+pub use Rattle.semver_core.specs.Values.Order.{build_order, id_cmp, pre_cmp, precedence, version_eq}
 pub use Rattle.semver_core.specs.Values.Triples.{GivesRelease}
 pub use Rattle.semver_core.specs.Values.Versions.{HasIdentifiers, is_release, IsVersion, release_value, VersionValue}
 pub use Rattle.semver_core.specs.Values.Views.{id_view, ids_view, lent_id_view}

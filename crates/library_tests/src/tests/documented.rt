@@ -5,7 +5,6 @@ use nodejs_semver::diagnosis::{
 };
 use nodejs_semver::npm::{Flaw, RangeFlaw, ReadRange, Reading, Wrong};
 use nodejs_semver::{Failure, Range, Version, VersionRef, newest_release, npm};
-use std::cmp::Ordering;
 use std::test::Fail;
 
 #[test]
@@ -268,14 +267,6 @@ fn simplify(rt: HostRuntime) -> Result<(), Fail> {
     let range = Range::parse(alloc, "^1 || ^2 || ^3")?;
     let simple = range.simplify(alloc, &versions).ok();
     assert!(rt; simple == Range::parse(alloc, "^2").ok());
-    Ok(())
-}
-
-#[test]
-fn cmp_build(rt: HostRuntime) -> Result<(), Fail> {
-    let one = VersionRef::parse("1.0.0+9")?;
-    let other = VersionRef::parse("1.0.0+10")?;
-    assert!(rt; npm::cmp_build(&one, &other) == Ordering::Less);
     Ok(())
 }
 

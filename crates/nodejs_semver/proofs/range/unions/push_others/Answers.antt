@@ -1,6 +1,6 @@
 use Rattle.nodejs_semver.proofs.{Common.{ap, not, on_err, sym, take_all, ◌∙◌}, Questions.{goes_behind, stays_behind, taken_at}}
-use Rattle.nodejs_semver.proofs.npm.unions.push_others.Goals.{else-not-is_said, then-not-is_said+in_ok-push_copy}
-use Rattle.nodejs_semver.proofs.npm.unions.push_others.Goals as goal
+use Rattle.nodejs_semver.proofs.range.unions.push_others.Goals.{else-not-is_said, then-not-is_said+in_ok-push_copy}
+use Rattle.nodejs_semver.proofs.range.unions.push_others.Goals as goal
 
 pub returns-in_err-push_copy-clause-memory : goal.returns-in_err-push_copy-clause-memory
 returns-in_err-push_copy-clause-memory g c =

@@ -1,6 +1,6 @@
 use Rattle.nodejs_semver.proofs.{Common.{on_err, sym, take_all, ◌∙◌}, Questions.{goes_behind, stays_behind, taken_at}}
-use Rattle.nodejs_semver.proofs.npm.simplified.push_used.Goals.{else-is_used, then-is_used+in_ok-push_copy}
-use Rattle.nodejs_semver.proofs.npm.simplified.push_used.Goals as goal
+use Rattle.nodejs_semver.proofs.range.simplified.push_used.Goals.{else-is_used, then-is_used+in_ok-push_copy}
+use Rattle.nodejs_semver.proofs.range.simplified.push_used.Goals as goal
 
 pub returns-in_err-push_copy-clause-memory : goal.returns-in_err-push_copy-clause-memory
 returns-in_err-push_copy-clause-memory g c =

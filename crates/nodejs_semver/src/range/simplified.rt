@@ -3,12 +3,12 @@
 ghost use Rattle.std.specs.Prelude.{◌++◌, ◌≡◌, ◌≤◌, filter};
 ghost use Rattle.nodejs_semver.specs.Words.{All, AreTaking, IfOk, OnErr, OnOk, TakesMemory};
 ghost use Rattle.nodejs_semver.specs.Words.{accepts, false, length, map};
-ghost use Rattle.nodejs_semver.specs.{Internal.Questions.is_used, Npm.Simple.simplified};
+ghost use Rattle.nodejs_semver.specs.{Internal.Questions.is_used, Ranges.Simple.simplified};
 
 use crate::RangeOf;
-use crate::npm::unions::push_copy;
 use crate::range::Intervals;
 use crate::range::gate::accepts_one;
+use crate::range::unions::push_copy;
 use semver_core::cuts::Interval;
 use semver_core::{VersionPoint, Versioned};
 use smallvec::SmallVec;

@@ -1,5 +1,5 @@
 use Rattle.nodejs_semver.{proofs.Common.{filter, not, take, ◌++◌, ◌≡◌, ◌≤◌}, specs.Internal.Questions.is_said}
-use Rattle.nodejs_semver.proofs.npm.unions.push_others.Given as goal
+use Rattle.nodejs_semver.proofs.range.unions.push_others.Given as goal
 
 abbrev pub invariant-loop-other : goal.invariant-loop-other
 invariant-loop-other g l =

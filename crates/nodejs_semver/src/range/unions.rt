@@ -5,8 +5,8 @@ ghost use Rattle.nodejs_semver.specs.Words.{AreTaking, Bool, IfOk, OnErr, OnOk, 
 ghost use Rattle.nodejs_semver.specs.Words.{VersionValue, [], accepts, bound_of, covers, has_bound};
 ghost use Rattle.nodejs_semver.specs.Words.{length, lets_in, not, passes, precedence, span_of};
 ghost use Rattle.nodejs_semver.specs.{Words.true, Internal.Questions.is_said};
-ghost use Rattle.nodejs_semver.specs.{Internal.Shorthands.lets_in_bounds, Npm.Unions.says_all};
-ghost use Rattle.nodejs_semver.specs.Npm.Unions.{union};
+ghost use Rattle.nodejs_semver.specs.{Internal.Shorthands.lets_in_bounds, Ranges.Unions.says_all};
+ghost use Rattle.nodejs_semver.specs.Ranges.Unions.{union};
 
 use crate::RangeOf;
 use crate::range::gate::lets_in;

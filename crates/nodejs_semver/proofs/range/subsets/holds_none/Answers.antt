@@ -1,5 +1,5 @@
-use Rattle.nodejs_semver.proofs.{Common.{None, Some, accepts, true}, Questions.none_in, npm.subsets.holds_none.Goals.{in-None, in-Some}}
-use Rattle.nodejs_semver.proofs.npm.subsets.holds_none.Goals as goal
+use Rattle.nodejs_semver.proofs.{Common.{None, Some, accepts, true}, Questions.none_in, range.subsets.holds_none.Goals.{in-None, in-Some}}
+use Rattle.nodejs_semver.proofs.range.subsets.holds_none.Goals as goal
 
 pub returns : goal.returns
 returns g c = elim c.match-branch-2.branch [

@@ -1,5 +1,5 @@
 use Rattle.nodejs_semver.{proofs.Common.{filter, take, ◌++◌, ◌≡◌, ◌≤◌}, specs.Internal.Questions.is_used}
-use Rattle.nodejs_semver.proofs.npm.simplified.push_used.Given as goal
+use Rattle.nodejs_semver.proofs.range.simplified.push_used.Given as goal
 
 abbrev pub invariant-loop-interval : goal.invariant-loop-interval
 invariant-loop-interval g l =
