@@ -11,6 +11,7 @@ mod json;
 mod kinds;
 mod laws;
 mod lists;
+mod made;
 mod npm;
 mod npm_flaws;
 mod npm_loose_ranges;

@@ -33,7 +33,7 @@ pub mod npm;
 mod range;
 pub mod readers;
 
-pub use crate::range::choice::newest_release;
+pub use crate::range::best::newest_release;
 pub use crate::range::{OutsideDirection, Range, RangeError, RangeOf, RangeRef};
 pub use semver_core::{
     Accepts, AcceptsRef, Failure, Identifier, IdentifierBase, IdentifierRef, IdentifierRefs,

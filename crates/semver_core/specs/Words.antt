@@ -35,13 +35,13 @@ pub use Rattle.semver_core.specs.Internal.Reading.{number_at, part_at, placed, q
 pub use Rattle.semver_core.specs.Internal.Sources.{ids_of, IsSource}
 pub use Rattle.semver_core.specs.Internal.Spaces.{drop_end_spaces}
 pub use Rattle.semver_core.specs.Lists.{is_empty}
-pub use Rattle.semver_core.specs.Printing.RoundTrip.{is_readable}
+pub use Rattle.semver_core.specs.Printing.RoundTrip.{is_normal, is_readable}
 pub use Rattle.semver_core.specs.Printing.Text.{id_text, marked_list, version_text}
 pub use Rattle.semver_core.specs.Text.Characters.{begins, is_identifier_char, is_whitespace, IsAfterBlank, IsPieceAt}
 pub use Rattle.semver_core.specs.Text.Characters.{IsTrim, NoPieceAt}
 pub use Rattle.semver_core.specs.Text.Common.{IsCommon, IsCommonFront}
 pub use Rattle.semver_core.specs.Text.Identifiers.{goes_on, Id, identifier_of, is_identifier, is_listed}
-pub use Rattle.semver_core.specs.Text.Identifiers.{IsLongestIdentifiers, listed, Numeric}
+pub use Rattle.semver_core.specs.Text.Identifiers.{is_u64_text, IsLongestIdentifiers, listed, Numeric}
 pub use Rattle.semver_core.specs.Text.Numbers.{IsWholeNumber}
 pub use Rattle.semver_core.specs.Text.Parsing.{Parses}
 pub use Rattle.semver_core.specs.Text.VersionText.{Reads}

@@ -1,5 +1,6 @@
 // The examples in the comments of the library: `tools/readme --check` compares them.
 
+use nodejs_semver::cuts::{Bound, Interval};
 use nodejs_semver::diagnosis::{
     Expected, IgnoredKind, IgnoredWord, VersionFlaw, ignored_words, version_flaw,
 };
@@ -327,5 +328,19 @@ fn least_start(rt: HostRuntime) -> Result<(), Fail> {
     let alloc = rt.alloc();
     let range = Range::parse(alloc, "^2.1 || ^1.2.3")?;
     assert!(rt; range.least_start() == Some(&Version::from((1u64, 2, 3))));
+    Ok(())
+}
+
+#[test]
+fn from_intervals(rt: HostRuntime) -> Result<(), Fail> {
+    let alloc = rt.alloc();
+    let lower = Bound::Before(Version::from((1u64, 2, 0)));
+    let upper = Bound::Before(Version::with_pre(alloc, 2, 0, 0, 0)?);
+    let mut intervals = Vec::new(alloc);
+    if let Some(interval) = Interval::new(lower, upper) {
+        intervals.push(interval)?;
+    }
+    let range = Range::from_intervals(intervals).ok();
+    assert!(rt; range == Range::parse(alloc, "^1.2").ok());
     Ok(())
 }

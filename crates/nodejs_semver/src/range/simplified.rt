@@ -47,7 +47,7 @@ impl<V: VersionPoint> RangeOf<V> {
     {
         let mut used = SmallVec::new(alloc);
         push_used(alloc, &mut used, self.items(), versions)?;
-        match RangeOf::from_intervals(used) {
+        match RangeOf::of_intervals(used) {
             Some(range) => Ok(range),
             None => self.copy(alloc),
         }

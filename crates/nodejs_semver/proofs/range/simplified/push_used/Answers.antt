@@ -1,4 +1,4 @@
-use Rattle.nodejs_semver.proofs.{Common.{on_err, sym, take_all, ◌∙◌}, Questions.{goes_behind, stays_behind, taken_at}}
+use Rattle.nodejs_semver.proofs.{Common.{on_err, sym, take_all, ◌∙◌}, Questions.Unions.{goes_behind, stays_behind, taken_at}}
 use Rattle.nodejs_semver.proofs.range.simplified.push_used.Goals.{else-is_used, then-is_used+in_ok-push_copy}
 use Rattle.nodejs_semver.proofs.range.simplified.push_used.Goals as goal
 

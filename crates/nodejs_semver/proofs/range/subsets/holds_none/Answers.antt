@@ -1,4 +1,4 @@
-use Rattle.nodejs_semver.proofs.{Common.{None, Some, accepts, true}, Questions.none_in, range.subsets.holds_none.Goals.{in-None, in-Some}}
+use Rattle.nodejs_semver.proofs.{Common.{None, Some, accepts, true}, Questions.Unions.none_in, range.subsets.holds_none.Goals.{in-None, in-Some}}
 use Rattle.nodejs_semver.proofs.range.subsets.holds_none.Goals as goal
 
 pub returns : goal.returns

@@ -1,4 +1,4 @@
-use Rattle.nodejs_semver.proofs.{Common.◌∙◌, Questions.covers-values}
+use Rattle.nodejs_semver.proofs.{Common.◌∙◌, Questions.Unions.covers-values}
 use Rattle.nodejs_semver.proofs.range.unions.covers.Goals as goal
 
 pub returns : goal.returns

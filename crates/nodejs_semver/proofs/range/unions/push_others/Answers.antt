@@ -1,4 +1,4 @@
-use Rattle.nodejs_semver.proofs.{Common.{ap, not, on_err, sym, take_all, ◌∙◌}, Questions.{goes_behind, stays_behind, taken_at}}
+use Rattle.nodejs_semver.proofs.{Common.{ap, not, on_err, sym, take_all, ◌∙◌}, Questions.Unions.{goes_behind, stays_behind, taken_at}}
 use Rattle.nodejs_semver.proofs.range.unions.push_others.Goals.{else-not-is_said, then-not-is_said+in_ok-push_copy}
 use Rattle.nodejs_semver.proofs.range.unions.push_others.Goals as goal
 

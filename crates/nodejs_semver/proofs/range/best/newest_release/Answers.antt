@@ -1,9 +1,9 @@
 use Rattle.nodejs_semver.proofs.Common.{is_release, map, refl, sym, take, take_all, value_of}
-use Rattle.nodejs_semver.proofs.Choice.BestOf.{max_more, one_further, replaces_both}
-use Rattle.nodejs_semver.proofs.range.choice.newest_release.Goals as goal
-use Rattle.nodejs_semver.proofs.range.choice.newest_release.Goals.{else-is_none_above, else-is_none_above-via-else-is_none_above}
-use Rattle.nodejs_semver.proofs.range.choice.newest_release.Goals.{else-is_none_above-via-then-is_none_above+else-is_release}
-use Rattle.nodejs_semver.proofs.range.choice.newest_release.Goals.{then-is_none_above+then-is_release}
+use Rattle.nodejs_semver.proofs.Questions.Best.{max_more, one_further, replaces_both}
+use Rattle.nodejs_semver.proofs.range.best.newest_release.Goals as goal
+use Rattle.nodejs_semver.proofs.range.best.newest_release.Goals.{else-is_none_above, else-is_none_above-via-else-is_none_above}
+use Rattle.nodejs_semver.proofs.range.best.newest_release.Goals.{else-is_none_above-via-then-is_none_above+else-is_release}
+use Rattle.nodejs_semver.proofs.range.best.newest_release.Goals.{then-is_none_above+then-is_release}
 
 pub loop-version-preserved : goal.loop-version-preserved
 loop-version-preserved g c =

@@ -4,7 +4,7 @@ use Rattle.nodejs_semver.proofs.Common.{bind_some, common_steps, encode_utf8, en
 use Rattle.nodejs_semver.proofs.Common.{is_ascii_digit, is_some, length, length-append, length-encode, nat_tests, not, refl, same_Some, subst, sym}
 use Rattle.nodejs_semver.proofs.{Common.{◌*◌, ◌++◌, ◌+◌, ◌==◌, ◌↔◌, ◌∙◌, ◌∷◌, ◌≡◌, ◌≤◌}, NpmCommon.{At, Dash, GoesOn, IsFront, Number, run, wrong_at}}
 use Rattle.nodejs_semver.proofs.NpmCommon.{IsSpelled, IsVersionText, Padded, Plus, State, digit_value, encodes_same, is_whole, len_utf8, next}
-use Rattle.nodejs_semver.proofs.{NpmCommon.wrong_of, Stopping.Read.{front-goes, read-front, read-spelled, run-more, spelled-read}}
+use Rattle.nodejs_semver.proofs.{NpmCommon.wrong_of, NpmFlaws.Read.{front-goes, read-front, read-spelled, run-more, spelled-read}}
 use Rattle.nodejs_semver.specs.{Npm.Flaws.{IsFlaw, IsStop, IsWrong}, declared.npm.flaws.{Flaw.{Flaw, TheVariants.TooLong}, State.TheVariants.End}}
 use Rattle.{nodejs_semver.specs.declared.npm.flaws.{State.TheVariants.{PreRelease, Start, Zero}, Wrong.Wrong}, std.proofs.lemmas.Str.IsUtf8-past_char}
 use Rattle.std.specs.List.{slice_get}
