@@ -28,7 +28,7 @@ NEVER = [
     "Range::any: * from *",
     "IncrementError::copy: increment would overflow a version component"
     " from increment would overflow a version component",
-    "Identifier::copy_list: [] from 1.2.3",
+    "Identifier::copy_list: [] from 1.2.3", "IdentifierRefs::to_list: [] from 1.2.3",
     "Range::parse: nothing from foo", "range_loose: nothing from foo", "range_fast: nothing from foo",
     "Range::parse: * from ||", "range_fast: nothing from ||", "Range::parse: >=1.2.3 <2.0.0-0 from ^1.2.3",
     "RangeRef::parse: >=1.2.3-a.1.b <2.0.0-0 from ^1.2.3-a.1.b", "RangeRef::parse: nothing from foo", "RangeRef::parse: * from ||",

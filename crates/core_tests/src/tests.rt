@@ -1,3 +1,4 @@
+mod builds;
 mod cuts;
 mod difference;
 mod documented;

@@ -11,6 +11,7 @@ mod json;
 mod kinds;
 mod laws;
 mod lists;
+mod made;
 mod npm;
 mod npm_flaws;
 mod npm_loose_ranges;
@@ -20,6 +21,7 @@ mod npm_texts;
 mod npm_versions;
 mod outside;
 mod print;
+mod questions;
 mod range;
 mod readme;
 

@@ -1,15 +1,14 @@
 pub mod Algebra
 pub mod Alike
 pub mod Bounds
-pub mod Choice
 pub mod Common
 pub mod Diagnosing
 pub mod Dividing
 pub mod Everyday
 pub mod JsonTexts
-pub mod Stopping
 pub mod Strict
 pub mod NpmCommon
+pub mod NpmFlaws
 pub mod NpmTexts
 pub mod Printing
 pub mod Questions

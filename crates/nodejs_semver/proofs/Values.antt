@@ -7,7 +7,7 @@ use Rattle.nodejs_semver.proofs.Common.{is_le, is_past, is_some, join_by, left_a
 use Rattle.nodejs_semver.proofs.Common.{list_all, list_all-map, list_any, lower_cut, map, map-append, meet, meets_of, minus, option_map}
 use Rattle.nodejs_semver.proofs.Common.{option_to_list, ordering_reverse, ordering_then, passes, precedence, precedence_total, range_text}
 use Rattle.nodejs_semver.proofs.Common.{refl, remainder, span_of, span_text, spans_of, sym, take, take_next, true, upper_cut, ℕ, ◌++◌, ◌+◌}
-use Rattle.nodejs_semver.proofs.Common.{◌<◌, ◌∙◌, ◌∷◌, ◌≡◌}
+use Rattle.nodejs_semver.proofs.Common.{is_range_bound, is_range_span, ◌&&◌, ◌<◌, ◌==◌, ◌∙◌, ◌∷◌, ◌≡◌}
 use Rattle.semver_core.specs.Values.Memory.{takes_memory}
 
 -- versions that are their own values
@@ -31,6 +31,15 @@ printed-values value (s ∷ ss) = grind (arith, nat_tests, common_steps, flat_ma
 pub map-further : {A B : Type 0} (f : A → B) (xs : List A) (i : ℕ) (x : A) → i < length xs → x ≡ get_or xs i x
     → map f (take (i + 1) xs) ≡ map f (take i xs) ++ f x ∷ []
 map-further f xs i x within at = ap (map f) (take_next xs i x within at) ∙ map-append f (take i xs) (x ∷ [])
+
+-- what is mapped over some elements, and over none
+pub map-some : {A B : Type 0} (f : A → B) (xs : List A) → false ≡ (length xs == 0) → 0 < length (map f xs)
+map-some f [] e = cc e
+map-some f (x ∷ xs) e = omega arith
+
+pub map-none : {A B : Type 0} (f : A → B) (xs : List A) → true ≡ (length xs == 0) → map f xs ≡ []
+map-none f [] e = refl
+map-none f (x ∷ xs) e = grind (arith, nat_tests)
 
 -- what is mapped over a choice, an option, and lists that are joined
 some-map : {A B : Type 0} (f : A → B) (m : Option A) → is_some (option_map f m) ≡ is_some m
@@ -64,6 +73,11 @@ module _ {V : Type 0} (R : V → V → Ordering) (value : V → VersionValue)
 
   is_interval-values : (s : Span V) → is_interval R s ≡ is_interval precedence (span_of value s)
   is_interval-values s = grind (arith, ordered)
+
+  -- an interval is one of a range by its bounds alone
+  pub range_span : (limit : ℕ) (s : Span V) → is_interval R s ≡ true → (is_range_bound limit (bound_of value s.lower)
+      && is_range_bound limit (bound_of value s.upper)) ≡ is_range_span limit (span_of value s)
+  range_span limit s h = rw (sym (is_interval-values s), h) refl
 
   pub all_intervals-values : (ss : List (Span V))
       → list_all (is_interval precedence) (spans_of value ss) ≡ list_all (is_interval R) ss

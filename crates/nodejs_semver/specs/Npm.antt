@@ -1,7 +1,4 @@
 pub mod Builds
-pub mod Subsets
-pub mod Unions
-pub mod Simple
 pub mod Grammar
 pub mod Coerced
 pub mod VersionText

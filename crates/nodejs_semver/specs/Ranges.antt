@@ -2,6 +2,9 @@ pub mod View
 pub mod Gate
 pub mod Equality
 pub mod Algebra
+pub mod Unions
+pub mod Subsets
+pub mod Simple
 pub mod Least
 pub mod Best
 pub mod Outside

@@ -28,7 +28,6 @@ pub use Rattle.nodejs_semver.specs.Internal.Words.{is_boundary, signed_word, upp
 pub use Rattle.nodejs_semver.specs.Internal.Words.{word_at, words}
 pub use Rattle.nodejs_semver.specs.Internal.Writes.{writes}
 pub use Rattle.nodejs_semver.specs.Json.{json_string, ReadsString}
-pub use Rattle.nodejs_semver.specs.Npm.Builds.{build_order}
 pub use Rattle.nodejs_semver.specs.Npm.Ranges.{HasAlternativesIn}
 pub use Rattle.nodejs_semver.specs.Npm.Table.{Comparison}
 pub use Rattle.nodejs_semver.specs.Npm.VersionText.{IsVersionText}

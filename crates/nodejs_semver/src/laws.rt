@@ -2,7 +2,6 @@
 //! or hardly anything, else; no caller needs this module.
 
 mod alike;
-mod builds;
 mod diagnosis;
 pub mod headline;
 mod least;
@@ -13,7 +12,6 @@ mod program;
 mod texts;
 
 pub use crate::laws::alike::{npm_reads_alike, satisfied_alike};
-pub use crate::laws::builds::order_with_builds;
 pub use crate::laws::diagnosis::{ignored_words_mean_nothing, one_flaw};
 pub use crate::laws::least::build_of_the_least;
 pub use crate::laws::once::npm_reads_once;

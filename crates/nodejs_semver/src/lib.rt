@@ -33,12 +33,12 @@ pub mod npm;
 mod range;
 pub mod readers;
 
-pub use crate::range::choice::newest_release;
+pub use crate::range::best::newest_release;
 pub use crate::range::{OutsideDirection, Range, RangeError, RangeOf, RangeRef};
 pub use semver_core::{
     Accepts, AcceptsRef, Failure, Identifier, IdentifierBase, IdentifierRef, IdentifierRefs,
     IncrementError, MAX_LENGTH, MAX_SAFE_INTEGER, NegativeNumber, ReleaseType, SemverError,
-    Version, VersionDiff, VersionParts, VersionPoint, VersionRef, Versioned, cuts,
+    Version, VersionDiff, VersionParts, VersionPoint, VersionRef, Versioned, cmp_build, cuts,
 };
 use std::alloc::AllocError;
 

@@ -6,9 +6,8 @@
 //! [`version_flaw`] says what is wrong with another text, and where. A [`Reading`] says whether a
 //! text is read loosely in place of strictly, and a [`Coercion`] what is looked for in any text.
 //!
-//! A version lies above or below a range by name, an order counts builds, and [`build_text`]
-//! returns a build as it is written. Ranges have from here their `union`, `is_subset`,
-//! `accepts_same` and `simplify`.
+//! A version lies above or below a range by name, and [`build_text`] returns a build as it is
+//! written.
 
 mod alternatives;
 mod builds;
@@ -28,13 +27,10 @@ mod range_flaws;
 mod ranges;
 mod readings;
 mod sides;
-mod simplified;
-mod subsets;
-mod unions;
 mod versions;
 mod words;
 
-pub use crate::npm::builds::{build_text, cmp_build};
+pub use crate::npm::builds::build_text;
 pub use crate::npm::coerced::{coerce, coerce_with};
 pub use crate::npm::flaws::{Flaw, Wrong, version_flaw};
 pub use crate::npm::options::{Coercion, Reading};

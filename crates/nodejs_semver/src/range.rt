@@ -6,16 +6,19 @@ ghost use Rattle.nodejs_semver.specs.Words.{list_all, MAX_SAFE_INTEGER, spans_of
 
 mod algebra;
 pub(crate) mod best;
-pub(crate) mod choice;
 mod equality;
 pub(crate) mod gate;
 mod interval_lists;
 mod least;
+mod made;
 mod neighbours;
 mod outside;
 pub(crate) mod owned;
 mod parse;
 mod print;
+mod simplified;
+mod subsets;
+mod unions;
 
 use crate::Allocated;
 pub use crate::range::outside::{OutsideDirection, RangeError};
@@ -79,7 +82,7 @@ impl<V: VersionPoint> RangeOf<V> {
 
     // The range of these intervals, or none where there is no interval.
     #[inline(always)]
-    pub(crate) fn from_intervals(intervals: Intervals<V>) -> Option<RangeOf<V>>
+    pub(crate) fn of_intervals(intervals: Intervals<V>) -> Option<RangeOf<V>>
         requires { list_all (is_range_span (MAX_SAFE_INTEGER + 1))
             (spans_of V.value intervals.items) ≡ true }
         ensures { result ≡ if_any (spans_of V.value intervals.items) }

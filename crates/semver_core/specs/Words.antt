@@ -39,18 +39,18 @@ pub use Rattle.semver_core.specs.Internal.Sources.{ids_of, IsSource}
 pub use Rattle.semver_core.specs.Internal.Spaces.{drop_end_spaces, drop_spaces, goes_on_with, is_space_of_three, is_space_of_two, space_len}
 pub use Rattle.semver_core.specs.Internal.Views.{bounds_view, pair_view, part_view, rest_view}
 pub use Rattle.semver_core.specs.Lists.{is_empty}
-pub use Rattle.semver_core.specs.Printing.RoundTrip.{is_readable}
+pub use Rattle.semver_core.specs.Printing.RoundTrip.{is_normal, is_readable}
 pub use Rattle.semver_core.specs.Printing.Text.{id_text, marked_list, version_text}
 pub use Rattle.semver_core.specs.Text.Characters.{begins, is_identifier_char, is_whitespace, IsAfterBlank, IsPieceAt}
 pub use Rattle.semver_core.specs.Text.Characters.{IsTrim, NoPieceAt}
 pub use Rattle.semver_core.specs.Text.Common.{IsCommon, IsCommonFront}
 pub use Rattle.semver_core.specs.Text.Identifiers.{goes_on, Id, identifier_of, is_identifier, is_listed}
-pub use Rattle.semver_core.specs.Text.Identifiers.{IsLongestIdentifiers, listed, Numeric}
+pub use Rattle.semver_core.specs.Text.Identifiers.{is_u64_text, IsLongestIdentifiers, listed, Numeric}
 pub use Rattle.semver_core.specs.Text.Numbers.{IsWholeNumber}
 pub use Rattle.semver_core.specs.Text.Parsing.{Parses}
 pub use Rattle.semver_core.specs.Text.VersionText.{Reads}
 pub use Rattle.semver_core.specs.Values.Memory.{takes_memory}
-pub use Rattle.semver_core.specs.Values.Order.{id_cmp, pre_cmp, precedence, version_eq}
+pub use Rattle.semver_core.specs.Values.Order.{build_order, id_cmp, pre_cmp, precedence, version_eq}
 pub use Rattle.semver_core.specs.Values.Triples.{GivesRelease}
 pub use Rattle.semver_core.specs.Values.Versions.{HasIdentifiers, is_release, IsVersion, lowest, release_value, VersionValue}
 pub use Rattle.semver_core.specs.Values.Views.{id_view, ids_view, lent_id_view}

@@ -73,7 +73,7 @@ impl<'a> VersionRef<'a> {
         }
     }
 
-    /// The same version, which borrows the same text.
+    /// A copy of the version, which borrows the same text.
     #[inline(always)]
     pub fn copy(&self) -> VersionRef<'a>
         ensures { result ≡ self.now }

@@ -21,7 +21,7 @@ pub struct NegativeNumber;
 pub enum Failure<E> {
     /// The input was rejected, for this reason.
     Refused(E),
-    /// An allocation failed. The same call may succeed when there is more memory.
+    /// An allocation failed. The call may succeed when there is more memory.
     Memory(AllocError),
 }
 

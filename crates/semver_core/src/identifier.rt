@@ -3,7 +3,8 @@
 ghost use Rattle.std.specs.Prelude.{◌≡◌, ◌≢◌, ◌<◌};
 ghost use Rattle.semver_core.specs.Words.{ℕ, eq_by_cmp_equiv, id_alike, id_cmp, id_total, id_view};
 ghost use Rattle.semver_core.specs.Words.{id_writes, ids_view, IfOk, is_eq, is_identifier};
-ghost use Rattle.semver_core.specs.Words.{is_identifier_char, is_listed, length, list_all, Numeric};
+ghost use Rattle.semver_core.specs.Words.{is_ascii_digit, is_identifier_char, is_listed, length};
+ghost use Rattle.semver_core.specs.Words.{list_all, Numeric};
 ghost use Rattle.semver_core.specs.Words.{on_equiv, on_per, on_po, on_total, OnErr};
 ghost use Rattle.semver_core.specs.Words.{partial_equiv_from_equiv, po, refl, Some};
 
@@ -61,7 +62,7 @@ impl Identifier {
 }
 
 // Whether the text is one of an identifier.
-fn is_spelled(text: &[u8]) -> bool
+pub(crate) fn is_spelled(text: &[u8]) -> bool
     ensures { result ≡ is_identifier text.now }
 {
     !text.is_empty() && is_run(text)
@@ -72,6 +73,13 @@ fn is_run(text: &[u8]) -> bool
     ensures { result ≡ list_all is_identifier_char text.now }
 {
     text.iter().all(|byte| scan::is_identifier_char(*byte))
+}
+
+// Whether each byte is a digit.
+pub(crate) fn are_digits(text: &[u8]) -> bool
+    ensures { result ≡ list_all is_ascii_digit text.now }
+{
+    text.iter().all(|byte| byte.is_ascii_digit())
 }
 
 /// What stands in a place of a list that is not used yet: the number 0.

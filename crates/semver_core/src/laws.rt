@@ -8,7 +8,8 @@ mod reading;
 
 pub use crate::laws::increments::least_increments;
 pub use crate::laws::order::{
-    identifiers_in_order, intervals_equal, order_and_increments, versions_in_order,
+    identifiers_in_order, intervals_equal, order_and_increments, order_with_builds,
+    versions_in_order,
 };
 pub use crate::laws::printing::{
     identifier_in_field, printed_versions_come_back, reread, version_in_field,

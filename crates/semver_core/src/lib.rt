@@ -24,6 +24,7 @@ pub use crate::increment::{IdentifierBase, IncrementError};
 pub use crate::version::Version;
 pub use crate::version::accepts::{Accepts, AcceptsRef};
 pub use crate::version::parts::VersionParts;
+pub use crate::version::precedence::cmp_build;
 pub use crate::version::versioned::{VersionPoint, Versioned};
 use std::alloc::AllocError;
 

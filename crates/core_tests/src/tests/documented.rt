@@ -1,6 +1,7 @@
 // The examples in the comments of the library: `tools/readme --check` compares them.
 
-use semver_core::{Identifier, Version, VersionDiff, VersionRef};
+use semver_core::{Identifier, Version, VersionDiff, VersionRef, Versioned, cmp_build};
+use std::cmp::Ordering;
 use std::test::Fail;
 
 #[test]
@@ -64,5 +65,20 @@ fn version_ref_inc(rt: HostRuntime) -> Result<(), Fail> {
     let release = VersionRef::parse("1.2.3")?;
     let beta = release.inc(alloc, "prerelease", Some("beta"), None).ok();
     assert!(rt; beta == Version::parse(alloc, "1.2.4-beta.0").ok());
+    Ok(())
+}
+
+#[test]
+fn order_with_builds(rt: HostRuntime) -> Result<(), Fail> {
+    let one = VersionRef::parse("1.0.0+9")?;
+    let other = VersionRef::parse("1.0.0+10")?;
+    assert!(rt; cmp_build(&one, &other) == Ordering::Less);
+    Ok(())
+}
+
+#[test]
+fn is_readable(rt: HostRuntime) -> Result<(), Fail> {
+    assert!(rt; VersionRef::parse("1.2.3-rc.1")?.is_readable(3));
+    assert!(rt; !VersionRef::parse("1.2.4")?.is_readable(3));
     Ok(())
 }

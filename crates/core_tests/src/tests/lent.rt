@@ -1,8 +1,10 @@
 // Versions that borrow their text: each call once, and that they agree with versions of their own.
 
 use super::{hash_of, is_same, prints};
-use semver_core::{IdentifierRef, IdentifierRefs, Version, VersionDiff, VersionRef, Versioned};
-use std::alloc::Global;
+use semver_core::{
+    Identifier, IdentifierRef, IdentifierRefs, Version, VersionDiff, VersionRef, Versioned,
+};
+use std::alloc::{AllocError, Global};
 use std::cmp::Ordering;
 
 // The chain of SemVer 2.0.0, item 11, and texts that are read as something else than they print.
@@ -70,6 +72,27 @@ fn has_no_pre_release(text: &str) -> bool {
 fn the_five_values(rt: HostRuntime) {
     assert!(rt; has_five_values("1.2.34-abc.123+1"));
     assert!(rt; has_no_pre_release("1.2.3+b"));
+}
+
+fn has_len(list: Result<Vec<Identifier>, AllocError>, len: usize) -> bool {
+    match list {
+        Ok(list) => list.len() == len,
+        Err(_) => false,
+    }
+}
+
+// Whether so many identifiers of a pre-release are copied.
+fn copies(alloc: Global, text: &str, len: usize) -> bool {
+    match VersionRef::parse(text) {
+        Ok(version) => has_len(version.pre_release().to_list(alloc), len),
+        Err(_) => false,
+    }
+}
+
+#[test]
+fn identifiers_are_copied(rt: HostRuntime) {
+    assert!(rt; copies(rt.alloc(), "1.2.3-abc.123", 2));
+    assert!(rt; copies(rt.alloc(), "1.2.3+b", 0));
 }
 
 // Whether a text begins with a version that prints so, up to a place.

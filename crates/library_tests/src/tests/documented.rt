@@ -1,11 +1,11 @@
 // The examples in the comments of the library: `tools/readme --check` compares them.
 
+use nodejs_semver::cuts::{Bound, Interval};
 use nodejs_semver::diagnosis::{
     Expected, IgnoredKind, IgnoredWord, VersionFlaw, ignored_words, version_flaw,
 };
 use nodejs_semver::npm::{Coercion, Flaw, RangeFlaw, ReadRange, Reading, Wrong};
 use nodejs_semver::{Failure, Range, Version, VersionRef, newest_release, npm};
-use std::cmp::Ordering;
 use std::test::Fail;
 
 #[test]
@@ -271,14 +271,6 @@ fn simplify(rt: HostRuntime) -> Result<(), Fail> {
 }
 
 #[test]
-fn cmp_build(rt: HostRuntime) -> Result<(), Fail> {
-    let one = VersionRef::parse("1.0.0+9")?;
-    let other = VersionRef::parse("1.0.0+10")?;
-    assert!(rt; npm::cmp_build(&one, &other) == Ordering::Less);
-    Ok(())
-}
-
-#[test]
 fn build_text(rt: HostRuntime) {
     let strict = Reading::default();
     assert!(rt; npm::build_text(" v1.0.0-rc.1+001.0a ", strict) == Some("001.0a"));
@@ -336,5 +328,19 @@ fn least_start(rt: HostRuntime) -> Result<(), Fail> {
     let alloc = rt.alloc();
     let range = Range::parse(alloc, "^2.1 || ^1.2.3")?;
     assert!(rt; range.least_start() == Some(&Version::from((1u64, 2, 3))));
+    Ok(())
+}
+
+#[test]
+fn from_intervals(rt: HostRuntime) -> Result<(), Fail> {
+    let alloc = rt.alloc();
+    let lower = Bound::Before(Version::from((1u64, 2, 0)));
+    let upper = Bound::Before(Version::with_pre(alloc, 2, 0, 0, 0)?);
+    let mut intervals = Vec::new(alloc);
+    if let Some(interval) = Interval::new(lower, upper) {
+        intervals.push(interval)?;
+    }
+    let range = Range::from_intervals(intervals).ok();
+    assert!(rt; range == Range::parse(alloc, "^1.2").ok());
     Ok(())
 }

@@ -7,8 +7,8 @@ use Rattle.nodejs_semver.proofs.Common.{nat_tests, pieces, refl, subst, sym, tru
 use Rattle.nodejs_semver.proofs.NpmCommon.{IsStrictPreRelease, IsStrictVersion, IsVersionText, MAX_LENGTH, Numbers, bare, both_ways, bytes_eq}
 use Rattle.nodejs_semver.proofs.NpmCommon.{bytes_eq-Decides, chars, chars_from_encodes, dashed, first, from, hyphen_lower, hyphen_upper, id_text}
 use Rattle.nodejs_semver.proofs.NpmCommon.{is_small, is_strict_identifier, is_valid, is_zero, join_with_byte, marked_list, nat_le, no_build}
-use Rattle.nodejs_semver.proofs.{NpmCommon.{no_pre_release, release, under, version_text, whole, within}, Stopping.Read.{plain-encodes, plain-middle}}
-use Rattle.nodejs_semver.{proofs.{Stopping.Read.plain-trim, Strict.VersionLaw.{digits_printed, number_printed}}, specs.Npm.Table.{Partial, Sign}}
+use Rattle.nodejs_semver.proofs.{NpmCommon.{no_pre_release, release, under, version_text, whole, within}, NpmFlaws.Read.{plain-encodes, plain-middle}}
+use Rattle.nodejs_semver.{proofs.{NpmFlaws.Read.plain-trim, Strict.VersionLaw.{digits_printed, number_printed}}, specs.Npm.Table.{Partial, Sign}}
 use Rattle.{nodejs_semver.specs.Npm.{Table.{lowest, table}, Grammar.written}, semver_core.proofs.Printing.Returns.{decimal_digits, decimal_some}}
 use Rattle.{semver_core.specs.{Internal.CommonReading.is_plain, Text.Identifiers.is_u64_text}, std.proofs.lemmas.Fmt.decimal_digit}
 use Rattle.std.proofs.lemmas.{Fmt.{decimal_injective, length-decimal-le}, List.Splits.{join_with_byte-slice_split, length-slice_split}}

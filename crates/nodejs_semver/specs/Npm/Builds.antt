@@ -1,18 +1,9 @@
--- Statement: the order of versions that counts their builds, and the text of a build as it is written.
+-- Statement: the text of a build as it is written.
 use Rattle.std.specs.Prelude.{◌≡◌, ◌==◌, ℕ, true, List}
-use Rattle.std.specs.Cmp.Lexicographic.{slice_cmp}
 use Rattle.std.specs.List.{after_first}
-use Rattle.std.specs.Ordering.{on, then_cmp}
-use Rattle.std.specs.declared.cmp.Ordering.{Ordering}
 use Rattle.semver_core.specs.Text.Characters.{IsTrim}
 use Rattle.semver_core.specs.Text.Identifiers.{is_listed, listed}
-use Rattle.semver_core.specs.Values.Order.{id_cmp, precedence}
 use Rattle.semver_core.specs.Values.Versions.{VersionValue}
-
--- precedence, and then the builds identifier by identifier: none is below some, numbers go by value and below
--- texts
-abbrev pub build_order : VersionValue → VersionValue → Ordering
-build_order = then_cmp precedence (on (λ v. v.build) (slice_cmp id_cmp))
 
 -- the text is a version, as `Is` has it, and this is its build as it is written: what stands behind the first `+` of
 -- the text without the whitespace around it, or nothing. It spells the build of the version.

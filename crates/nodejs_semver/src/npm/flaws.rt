@@ -49,26 +49,27 @@ pub enum Wrong {
 enum State {
     /// Whitespace, or nothing.
     Start,
-    /// All before a number, behind which so many others stand.
+    /// All before a number, behind which so many others follow.
     Digit { left: u8 },
-    /// The same with digits of that number, of this value.
+    /// All up to digits of such a number, of this value.
     Number { left: u8, value: u64 },
     /// All before an identifier of the pre-release.
     Dash,
-    /// The same with the identifier `0`.
+    /// All up to an identifier of the pre-release that is `0`.
     Zero,
-    /// The same with `0` and further digits.
+    /// All up to one that is `0` and further digits.
     Padded,
-    /// The same with another identifier.
+    /// All up to another identifier of the pre-release.
     PreRelease,
     /// All before an identifier of the build metadata.
     Plus,
-    /// The same with the identifier.
+    /// All up to an identifier of the build metadata.
     Build,
     /// A version and whitespace.
     End,
 }
 
+// Whether the character is whitespace.
 #[inline(always)]
 fn is_whitespace(letter: char) -> bool
     ensures { result ≡ is_whitespace letter }
@@ -76,6 +77,7 @@ fn is_whitespace(letter: char) -> bool
     is_whitespace_code(u32::from(letter))
 }
 
+// Whether the character is one of identifiers. It is asked of characters, and not of bytes.
 fn is_identifier_char(letter: char) -> bool
     ensures { result ≡ is_identifier_char letter }
 {
@@ -127,7 +129,7 @@ fn ended(letter: char) -> Option<State>
     }
 }
 
-// The same behind a number.
+// What is read with the character behind a number.
 fn behind_number(left: u8, letter: char) -> Option<State>
     ensures { result ≡ Spec.behind_number left letter }
 {
@@ -143,7 +145,7 @@ fn behind_number(left: u8, letter: char) -> Option<State>
     }
 }
 
-// The same behind an identifier of the pre-release.
+// What is read with the character behind an identifier of the pre-release.
 fn behind_identifier(letter: char) -> Option<State>
     ensures { result ≡ Spec.behind_identifier letter }
 {

@@ -10,13 +10,6 @@ use crate::npm::places::digits_len;
 use crate::readers::build_front;
 use semver_core::scan::{begins_identifier, is_identifier_char};
 
-// What stands behind the digits at the front.
-fn behind_digits(text: &[u8]) -> &[u8]
-    ensures { result.now ≡ Spec.behind_digits text.now }
-{
-    &text[digits_len(text)..]
-}
-
 // How many characters of identifiers stand at the front.
 #[tactic(auto, using(crate::proofs::Strict::PartialLaw::prefix_steps))]
 fn run_len(text: &[u8]) -> usize
@@ -38,7 +31,7 @@ fn behind_id(strict: bool, text: &[u8]) -> &[u8]
 {
     match text {
         [b'0', rest @ ..] if strict => rest,
-        [b'0'..=b'9', ..] => behind_digits(text),
+        [b'0'..=b'9', ..] => &text[digits_len(text)..],
         _ => &text[run_len(text)..],
     }
 }
@@ -78,13 +71,6 @@ fn behind_pre_release(strict: bool, text: &[u8]) -> &[u8]
         [b'-' | b'A'..=b'Z' | b'a'..=b'z', ..] if !strict => behind_ids(strict, text),
         _ => text,
     }
-}
-
-// The same with the build metadata that follows it.
-fn behind_qualifier(strict: bool, text: &[u8]) -> &[u8]
-    ensures { result.now ≡ Spec.behind_qualifier strict text.now }
-{
-    build_front(behind_pre_release(strict, text)).1
 }
 
 // How many digits of the number at the front count.
@@ -137,7 +123,7 @@ fn behind_places(strict: bool, text: &[u8]) -> &[u8]
     };
     let two = behind_place(strict, second);
     match dotted_place(strict, two) {
-        Some(third) => behind_qualifier(strict, behind_place(strict, third)),
+        Some(third) => { build_front(behind_pre_release(strict, behind_place(strict, third))).1 }
         None if strict => two,
         None => text,
     }

@@ -25,7 +25,7 @@ pub struct RangeFlaw {
 }
 
 // Where a text begins without the whitespace around it, and that text.
-#[tactic(auto, using(crate::proofs::Stopping::Ranges::trimmed_fits))]
+#[tactic(auto, using(crate::proofs::NpmFlaws::Ranges::trimmed_fits))]
 fn trimmed(text: &str) -> (usize, &str)
     ensures start { IsAfterBlank text.now 0 result.0 }
     ensures middle { IsTrim text.now result.1.now }

@@ -122,7 +122,7 @@ impl<V: VersionPoint> RangeOf<V> {
         }
         let mut found = SmallVec::new(alloc);
         interval_lists::push_all_intersections(alloc, &mut found, these, others)?;
-        Ok(RangeOf::from_intervals(found))
+        Ok(RangeOf::of_intervals(found))
     }
 
     // What the other range leaves of this one.
@@ -132,7 +132,7 @@ impl<V: VersionPoint> RangeOf<V> {
             (IsTrue (is_some (difference self.now other.now)) ⊎ (1 < length other.now)) }
     {
         let left = interval_lists::differences(alloc, self.items(), other.items())?;
-        Ok(RangeOf::from_intervals(left))
+        Ok(RangeOf::of_intervals(left))
     }
 }
 
@@ -153,7 +153,7 @@ fn common_of_two<V: VersionPoint>(
     let Some(both) = one.intersect(alloc, another)? else {
         return Ok(None);
     };
-    Ok(RangeOf::from_intervals(SmallVec::from_buf(alloc, [both])))
+    Ok(RangeOf::of_intervals(SmallVec::from_buf(alloc, [both])))
 }
 
 impl Range {

@@ -20,7 +20,7 @@ ghost use Rattle.nodejs_semver.specs.Words.{IfSome, is_release, IsOk, length, li
 ghost use Rattle.nodejs_semver.specs.Words.{OnErr, OnOk, Some, span_of, spans_of, true, value_of};
 ghost use Rattle.nodejs_semver.specs.Words.{VersionValue};
 
-use crate::range::choice::all_accept;
+use crate::range::best::all_accept;
 use crate::range::gate::accepts;
 use crate::range::neighbours::{
     bare, bare_release, first_pre, owned, patch_after, pre_after, with_least_build,
@@ -262,7 +262,7 @@ impl<'a, V: VersionPoint, W: VersionPoint> Search for Beyond<'a, V, W> {
     ghost fits = { FitsInMemory (the_row V.row V.Versioned (record { takes = V.takes })
         (record { cmp = V.cmp }) V.PartialEq (record { partial_cmp = V.partial_cmp })) };
 
-    #[tactic(auto, using(crate::proofs::Choice::Least::wanted_bare))]
+    #[tactic(auto, using(crate::proofs::Questions::Least::wanted_bare))]
     fn wants<C: Versioned>(&self, version: &C) -> bool {
         all_accept(self.kept, version) && !accepts(self.removed, version, false)
     }
@@ -274,7 +274,7 @@ impl<V: VersionPoint> Search for RangeOf<V> {
 
     ghost fits = { ⊤ };
 
-    #[tactic(auto, using(crate::proofs::Choice::Least::held_alike))]
+    #[tactic(auto, using(crate::proofs::Questions::Least::held_alike))]
     fn wants<C: Versioned>(&self, version: &C) -> bool {
         self.satisfies_with_prerelease(version, true)
     }
@@ -313,7 +313,7 @@ fn consider<S: Search, C: Versioned>(
 
 // Considers the first versions from this one on. Mostly a better one is known.
 #[inline(always)]
-#[tactic(auto, using(crate::proofs::Choice::Least::reached_near))]
+#[tactic(auto, using(crate::proofs::Questions::Least::reached_near))]
 fn consider_from<S: Search, C: Versioned>(
     alloc: Global,
     search: &S,

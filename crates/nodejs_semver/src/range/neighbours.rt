@@ -3,8 +3,8 @@
 ghost use Rattle.nodejs_semver.specs.Internal.Candidates as spec;
 ghost use Rattle.nodejs_semver.specs.Ranges.Least as stated;
 ghost use Rattle.std.specs.Prelude.{◌&&◌, ◌-◌, ◌<◌, ◌^◌, ◌≡◌, [], All, find};
-ghost use Rattle.nodejs_semver.specs.Words.{After, bound_of, build_by, holds, id_view, ids_view};
-ghost use Rattle.nodejs_semver.specs.Words.{IfOk, IfSome, lent_id_view, lets_in, list_any};
+ghost use Rattle.nodejs_semver.specs.Words.{After, bound_of, build_by, holds, ids_view, IfOk};
+ghost use Rattle.nodejs_semver.specs.Words.{IfSome, lets_in, list_any};
 ghost use Rattle.nodejs_semver.specs.Words.{option_map, precedence, Some, span_of, spans_of};
 
 use crate::Allocated;
@@ -38,35 +38,11 @@ pub(crate) fn first_pre<V: Versioned>(version: &V) -> VersionRef<'static>
     lowest(version.major(), version.minor(), version.patch())
 }
 
-// The identifier with a text of its own.
-fn owned_id(alloc: Global, id: IdentifierRef<'_>) -> Allocated<Identifier>
-    ensures { IfOk result (λ i. id_view i ≡ lent_id_view id.entry) }
-{
-    match id {
-        IdentifierRef::Numeric(number) => Ok(Identifier::Numeric(number)),
-        IdentifierRef::AlphaNumeric(text) => {
-            Ok(Identifier::AlphaNumeric(String::from_str(alloc, text)?))
-        }
-    }
-}
-
-// The identifiers with texts of their own.
-fn owned_ids(alloc: Global, ids: IdentifierRefs<'_>) -> Allocated<Vec<Identifier>>
-    ensures { IfOk result (λ owned. ids_view owned.items ≡ ids.entry) }
-{
-    let mut ids = ids;
-    let mut owned = Vec::new(alloc);
-    'ids: while let Some(id) = ids.next() {
-        owned.push(owned_id(alloc, id)?)?;
-    }
-    Ok(owned)
-}
-
 // The version after a pre-release.
 pub(crate) fn pre_after<V: Versioned>(alloc: Global, version: &V) -> Allocated<Version>
     ensures { IfOk result (λ v. v ≡ spec.pre_after (V.value version.now)) }
 {
-    let mut pre_release = owned_ids(alloc, version.pre_release())?;
+    let mut pre_release = version.pre_release().to_list(alloc)?;
     pre_release.push(Identifier::Numeric(0))?;
     with_lists(alloc, version, pre_release, Vec::new(alloc))
 }
@@ -96,7 +72,7 @@ pub(crate) fn bare<V: Versioned>(alloc: Global, version: &V) -> Allocated<Versio
     if let (Some(IdentifierRef::Numeric(0)), None) = (ids.next(), ids.next()) {
         return first_pre(version).to_version(alloc);
     }
-    let pre_release = owned_ids(alloc, version.pre_release())?;
+    let pre_release = version.pre_release().to_list(alloc)?;
     with_lists(alloc, version, pre_release, Vec::new(alloc))
 }
 
@@ -104,8 +80,8 @@ pub(crate) fn bare<V: Versioned>(alloc: Global, version: &V) -> Allocated<Versio
 pub(crate) fn owned<V: Versioned>(alloc: Global, version: &V) -> Allocated<Version>
     ensures { IfOk result (λ v. v ≡ V.value version.now) }
 {
-    let pre_release = owned_ids(alloc, version.pre_release())?;
-    let build = owned_ids(alloc, version.build())?;
+    let pre_release = version.pre_release().to_list(alloc)?;
+    let build = version.build().to_list(alloc)?;
     with_lists(alloc, version, pre_release, build)
 }
 
@@ -118,11 +94,12 @@ fn with_build(alloc: Global, version: Version, build: IdentifierRefs<'_>) -> All
         return Ok(version);
     }
     let pre_release = Identifier::copy_list(alloc, version.pre_release())?;
-    let build = owned_ids(alloc, build)?;
+    let build = build.to_list(alloc)?;
     with_lists(alloc, &version, pre_release, build)
 }
 
-// The same three numbers with these lists, which are dropped if allocation fails.
+// The version of the three numbers of another and of these lists, which are dropped if allocation
+// fails.
 fn with_lists<V: Versioned>(
     alloc: Global,
     version: &V,

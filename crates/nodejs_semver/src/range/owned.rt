@@ -12,7 +12,7 @@ use smallvec::SmallVec;
 use std::alloc::{AllocError, Global};
 
 impl<'a> RangeRef<'a> {
-    /// The same range with versions of its own. Fails only if allocation fails, which happens only
+    /// The range with versions of its own. Fails only if allocation fails, which happens only
     /// where it has more than one interval, or a bound with build metadata or with a pre-release
     /// other than `0` alone. So it never fails for `^1.2` and `~1.2.3`, whose upper bounds end in
     /// `-0`.

@@ -97,9 +97,9 @@ fn read_some<'a, S: Filled<'a>>(text: &'a str, found: &mut S) -> Result<(), Fail
     Ok(())
 }
 
-// Reads the intervals of a text into an empty list. Most texts are common ones. Where the fast
-// reader fails to allocate, the text may have no interval, as `1.2.3-a_`, or only one, as
-// `1.2.3||1.2.4_`. So the loose reader decides there too.
+// Reads the intervals of a text into an empty list. Most texts are common ones. Where the reader of
+// these fails to allocate, the text may have no interval, as `1.2.3-a_`, or only one, as
+// `1.2.3||1.2.4_`. So the reader of all texts decides there too.
 #[inline(never)]
 fn read<'a, S: Filled<'a>>(text: &'a str, found: &mut S) -> Result<(), AllocError>
     requires { S.items found.old ≡ [] }

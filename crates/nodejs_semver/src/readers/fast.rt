@@ -292,5 +292,5 @@ pub fn range_fast(alloc: Global, text: &str) -> Result<Option<Range>, AllocError
     if !read_common(text.as_bytes(), &mut found)? {
         return Ok(None);
     }
-    owned_range(alloc, RangeRef::from_intervals(found))
+    owned_range(alloc, RangeRef::of_intervals(found))
 }

@@ -114,5 +114,5 @@ pub fn range_loose(alloc: Global, text: &str) -> Result<Option<Range>, AllocErro
     let mut found = SmallVec::new(alloc);
     let (part, rest) = next_part(text);
     add_parts(part, rest, &mut found)?;
-    owned_range(alloc, RangeRef::from_intervals(found))
+    owned_range(alloc, RangeRef::of_intervals(found))
 }

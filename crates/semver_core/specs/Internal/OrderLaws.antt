@@ -47,7 +47,7 @@ id_same (Numeric m) (AlphaNumeric t) e = cc
 id_same (AlphaNumeric s) (Numeric n) e = cc
 id_same (AlphaNumeric s) (AlphaNumeric t) e = ap AlphaNumeric (slice_cmp-IsAntisymmetric nat_cmp-IsAntisymmetric s t e)
 
-ids_total : IsTotalOrder (slice_cmp id_cmp)
+pub ids_total : IsTotalOrder (slice_cmp id_cmp)
 ids_total = lists_total id_total
 
 pre_antisymm : (x y : List Id) → pre_cmp x y ≡ ordering_reverse (pre_cmp y x)
@@ -83,7 +83,7 @@ pub precedence_total : IsTotalOrder precedence
 precedence_total = then_total (on_total (λ (v : VersionValue). v.major) nat_cmp_total) (then_total (on_total (λ (v : VersionValue). v.minor) nat_cmp_total)
     (then_total (on_total (λ (v : VersionValue). v.patch) nat_cmp_total) (on_total (λ (v : VersionValue). v.pre_release) pre_total)))
 
-then_both : (r s : Ordering) → ordering_then r s ≡ Equal → (r ≡ Equal) × (s ≡ Equal)
+pub then_both : (r s : Ordering) → ordering_then r s ≡ Equal → (r ≡ Equal) × (s ≡ Equal)
 then_both Less s e = cc
 then_both Equal s e = (refl, e)
 then_both Greater s e = cc

@@ -1,5 +1,5 @@
--- Statement: the order of versions (SemVer 2.0.0, item 11). Build metadata counts in none of order, equality
--- and hash.
+-- Statement: the order of versions (SemVer 2.0.0, item 11), in which, as in equality and hash, build metadata
+-- does not count; and an order that counts it.
 use Rattle.std.specs.Prelude.{Bool, List, [], ◌∷◌}
 use Rattle.std.specs.Cmp.Lexicographic.{slice_cmp}
 use Rattle.std.specs.Ordering.{eq_by_cmp, nat_cmp, on, then_cmp}
@@ -25,6 +25,11 @@ pre_cmp xs ys = slice_cmp id_cmp xs ys
 abbrev pub precedence : VersionValue → VersionValue → Ordering
 precedence = then_cmp (on (λ v. v.major) nat_cmp) (then_cmp (on (λ v. v.minor) nat_cmp)
     (then_cmp (on (λ v. v.patch) nat_cmp) (on (λ v. v.pre_release) pre_cmp)))
+
+-- precedence, and then the builds identifier by identifier: none is below some, numbers go by value and below
+-- texts
+abbrev pub build_order : VersionValue → VersionValue → Ordering
+build_order = then_cmp precedence (on (λ v. v.build) (slice_cmp id_cmp))
 
 -- the versions have the same place in the order, whatever their builds
 abbrev pub version_eq : VersionValue → VersionValue → Bool

@@ -1,13 +1,14 @@
 // Lists of identifiers, one by one.
 
-ghost use Rattle.std.specs.Prelude.{◌≡◌, ◌∷◌, ◌++◌};
+ghost use Rattle.std.specs.Prelude.{◌≡◌, ◌∷◌, ◌++◌, ◌<◌, IfOk, OnErr};
 ghost use Rattle.semver_core.specs.Words.{is_listed, item_count, lent_id_view, OnOk, YieldsFirstBy};
 ghost use Rattle.semver_core.specs.Words.{id_cmp, ids_of, ids_view, is_empty, IsSource, slice_cmp};
-ghost use Rattle.semver_core.specs.Words.{[], IfNone, IfSome, length, listed, true};
+ghost use Rattle.semver_core.specs.Words.{[], IfNone, IfSome, is_normal, length, list_all, listed};
+ghost use Rattle.semver_core.specs.Words.{true};
 
 use crate::borrowed::dotted::{IdRef, cmp_texts, first_id};
 use crate::{Allocated, Identifier, IdentifierRef, scan};
-use std::alloc::Global;
+use std::alloc::{AllocError, Global};
 use std::cmp::Ordering;
 use std::marker::Model;
 
@@ -57,7 +58,7 @@ impl<'a> IdentifierRefs<'a> {
         IdentifierRefs { source }
     }
 
-    /// The same identifiers once more.
+    /// A copy: it stands where this one does.
     #[inline(always)]
     pub fn copy(&self) -> IdentifierRefs<'a>
         ensures { result ≡ self.now }
@@ -88,6 +89,32 @@ impl<'a> IdentifierRefs<'a> {
             Source::Items(items) => items.is_empty(),
             Source::Text(text) => text.is_empty(),
         }
+    }
+
+    /// The identifiers that are left, with texts of their own. Fails only if allocation fails,
+    /// which never happens where none is left.
+    pub fn to_list(&self, alloc: Global) -> Result<Vec<Identifier>, AllocError>
+        ensures whole { IfOk result (λ list. ids_view list.items ≡ self.now) }
+        ensures memory { OnErr result (0 < length self.now) }
+    {
+        let mut list = Vec::new(alloc);
+        if !self.is_empty() {
+            self.copy_into(alloc, &mut list)?;
+        }
+        Ok(list)
+    }
+
+    // Whether its own text spells each identifier.
+    pub(crate) fn are_normal(self) -> bool
+        ensures { result ≡ list_all is_normal self.entry }
+    {
+        let mut others = self;
+        'ids: while let Some(id) = others.next() {
+            if !id.is_normal() {
+                return false;
+            }
+        }
+        true
     }
 
     // Adds copies of the identifiers that are left to a list.

@@ -7,6 +7,7 @@ ghost use Rattle.semver_core.specs.Words.{length, list_all, list_text, MayAlloca
 ghost use Rattle.semver_core.specs.Words.{Numeric, OnOk, stepped, Steps, string_bytes, Tracks};
 ghost use Rattle.semver_core.specs.Increments.Table as spec;
 
+use crate::identifier::are_digits;
 use crate::increment::{IdentifierBase, IncrementError, one_more, refused_argument};
 use crate::{Failure, Identifier, IdentifierRef, IdentifierRefs};
 use std::alloc::{AllocError, Global};
@@ -162,23 +163,18 @@ pub(super) fn is_kept(wanted: &str, list: &[Identifier]) -> bool
     }
 }
 
+// Whether the identifier is the one that the text spells.
 #[tactic(auto, using(crate::proofs::Increments::LastNumber::asked_matches))]
 fn matches_id(wanted: &str, id: &Identifier) -> bool
     requires { 0 < length wanted.now }
     ensures { result ≡ is_eq (id_cmp (id_view id.now) (spec.asked wanted.now)) }
 {
     match id {
-        Identifier::Numeric(n) => is_digits(wanted.as_bytes()) && has_value(wanted, *n),
+        Identifier::Numeric(n) => are_digits(wanted.as_bytes()) && has_value(wanted, *n),
         Identifier::AlphaNumeric(text) => {
-            !is_digits(wanted.as_bytes()) && text.as_str() == wanted
+            !are_digits(wanted.as_bytes()) && text.as_str() == wanted
         }
     }
-}
-
-fn is_digits(text: &[u8]) -> bool
-    ensures { result ≡ list_all is_ascii_digit text.now }
-{
-    text.iter().all(|b| b.is_ascii_digit())
 }
 
 #[tactic(auto, using(crate::proofs::Increments::LastNumber::value_run))]

@@ -1,10 +1,11 @@
-// What the comparisons of the program say, in the words of the definitions, and laws of the order.
+// What the comparisons of the program say, in the words of the definitions, and laws of the orders.
 
 ghost use Rattle.std.specs.Prelude.{◌||◌, ◌++◌, ◌&&◌, ◌≡◌, ◌↔◌, ◌<◌, ◌+◌, ◌-◌, ◌^◌, ◌∷◌};
 ghost use Rattle.semver_core.specs.Words.{has_numeric, IsLeastVersion, release_value, VersionValue};
 ghost use Rattle.semver_core.specs.Words.{ℕ, bound_eq, IsVersion, Overflow, precedence, raise_last};
 ghost use Rattle.semver_core.specs.Words.{asked, id_cmp, id_view, is_kept, IsTrue, length, Numeric};
-ghost use Rattle.semver_core.specs.Words.{Equal, false, is_le, Less, List, true, [], Id};
+ghost use Rattle.semver_core.specs.Words.{build_order, Equal, false, is_le, Less, List, true, []};
+ghost use Rattle.semver_core.specs.Words.{Id};
 
 use crate::cuts::{Interval, Point};
 use crate::{Identifier, Version};
@@ -77,4 +78,18 @@ pub fn order_and_increments()
         → raise_last (front ++ Numeric (2 ^ 64 - 1) ∷ back) ≡ Err Overflow }
     ensures kept { (id : List ℕ) (list : List Id) → IsTrue (is_kept id list)
         ↔ ((n : ℕ) × (rest : List Id) × (list ≡ asked id ∷ Numeric n ∷ rest)) }
+{}
+
+/// The order of `cmp_build` is total, and two versions tie in it exactly where they are the
+/// same value, builds included.
+///
+/// A caller that needs these facts in a proof calls this function, which does nothing at run time.
+pub fn order_with_builds()
+    ensures tied { (v w : VersionValue) → (build_order v w ≡ Equal) ↔ (v ≡ w) }
+    ensures antisymmetric { (v w : VersionValue) → is_le (build_order v w) ≡ true
+        → is_le (build_order w v) ≡ true → v ≡ w }
+    ensures transitive { (u v w : VersionValue) → is_le (build_order u v) ≡ true
+        → is_le (build_order v w) ≡ true → is_le (build_order u w) ≡ true }
+    ensures total { (v w : VersionValue) →
+        (is_le (build_order v w) || is_le (build_order w v)) ≡ true }
 {}

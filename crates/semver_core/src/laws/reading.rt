@@ -46,10 +46,10 @@ pub fn common_reads_alike(text: &str)
     one_reading(text);
 }
 
-/// Returns what the fast reader and the loose reader return on one text: where the fast one returns
-/// a version, the loose one returns the same, which is the version at the text's front. The fast
-/// one returns none only on a text that is no common one, and the loose one only on a text that has
-/// no version.
+/// Returns what `version_fast` and `version_loose` return on one text: where the first returns a
+/// version, the second returns the same, which is the version at the text's front. The first
+/// returns none only on a text that is no common one, and the second only on a text that has no
+/// version.
 ///
 /// Fails only if allocation fails.
 #[tactic(auto, using(crate::proofs::Text::Fronts::alike))]

@@ -1,9 +1,10 @@
-// The order of versions, their equality and hash. Build metadata counts in none.
+// The order of versions, their equality and hash, in which build metadata does not count; and an
+// order that counts it.
 
 ghost use Rattle.std.specs.Prelude.{◌≡◌};
 ghost use Rattle.semver_core.specs.Words.{numbers_cmp, partial_equiv_from_equiv, precedence_total};
 ghost use Rattle.semver_core.specs.Words.{eq_by_cmp_equiv, pre_cmp, version_alike, version_writes};
-ghost use Rattle.semver_core.specs.Words.{fold, po, precedence, refl, Some, version_eq};
+ghost use Rattle.semver_core.specs.Words.{build_order, fold, po, precedence, refl, Some, version_eq};
 ghost use Rattle.std.specs.Hash as fed;
 
 use crate::borrowed::identifiers::cmp_lists;
@@ -46,6 +47,28 @@ fn cmp_owned_pre(v: &Version, w: &Version) -> Ordering
     ensures { result ≡ pre_cmp v.now.pre_release w.now.pre_release }
 {
     cmp_pre(v, w)
+}
+
+/// The order of two versions of any kinds that counts their builds: their precedence, and of equal
+/// versions the builds identifier by identifier, as two pre-releases are compared. No build is
+/// below some. So 1.0.0 < 1.0.0+1 < 1.0.0+1.a < 1.0.0+a.
+///
+/// It is a total order in which two versions tie exactly where they are equal in all five values
+/// (`laws::order_with_builds`). node-semver's `compareBuild` is none: by it 1.0.0+1 is below
+/// 1.0.0+1.a, and 1.0.0+01 ties with both. Here `+01` is the number 1.
+///
+/// ```rust
+/// let one = VersionRef::parse("1.0.0+9")?;
+/// let other = VersionRef::parse("1.0.0+10")?;
+/// assert!(rt; cmp_build(&one, &other) == Ordering::Less);
+/// ```
+pub fn cmp_build<V: Versioned, W: Versioned>(version: &V, other: &W) -> Ordering
+    ensures { result ≡ build_order (V.value version.now) (W.value other.now) }
+{
+    match version.cmp_precedence(other) {
+        Ordering::Equal => cmp_lists(version.build(), other.build()),
+        order => order,
+    }
 }
 
 /// Equality of the three numbers and the pre-releases: versions are equal where they tie in the

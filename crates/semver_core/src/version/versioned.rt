@@ -2,7 +2,8 @@
 
 ghost use Rattle.std.{proofs.Common.{sym, true≢false}, specs.Fmt.DisplaysStyledOnOk};
 ghost use Rattle.std.specs.Prelude.{◌≡◌, Bool, Some, refl, true};
-ghost use Rattle.semver_core.specs.{Printing.Text.version_text, Values.Memory.takes_memory};
+ghost use Rattle.semver_core.specs.Printing.{RoundTrip.is_readable, Text.version_text};
+ghost use Rattle.semver_core.specs.Values.Memory.{takes_memory};
 ghost use Rattle.semver_core.specs.Values.{Order.precedence, Versions.{VersionValue, is_release}};
 
 use crate::cuts::Point;
@@ -56,6 +57,22 @@ pub trait Versioned {
             Ordering::Equal => cmp_pre(self, other),
             order => order,
         }
+    }
+
+    /// Whether the version has numbers up to the limit, and identifiers that their own texts spell:
+    /// then its printed text is read as the version under this limit. Each version that was read
+    /// from a text has such identifiers. An `AlphaNumeric` that is made by hand may hold `12`, or a
+    /// dot.
+    ///
+    /// ```rust
+    /// assert!(rt; VersionRef::parse("1.2.3-rc.1")?.is_readable(3));
+    /// assert!(rt; !VersionRef::parse("1.2.4")?.is_readable(3));
+    /// ```
+    final fn is_readable(&self, limit: u64) -> bool
+        ensures { result ≡ is_readable limit (value self.now) }
+    {
+        let has_numbers = self.major() <= limit && self.minor() <= limit && self.patch() <= limit;
+        has_numbers && self.pre_release().are_normal() && self.build().are_normal()
     }
 
     /// Prints the version, as its `Display` does.

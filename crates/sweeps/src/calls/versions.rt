@@ -54,7 +54,7 @@ pub fn show_all(rt: &impl Print, alloc: Global) -> io::Result<()> {
     errors(rt, alloc)
 }
 
-// The calls on a version that borrows its text: `to_version` and `inc` may allocate.
+// The calls on a version that borrows its text: `to_version`, `to_list` and `inc` may allocate.
 #[tactic(auto, unfolding(semver_core::specs::Text::Identifiers::is_listed))]
 fn borrowed(rt: &impl Print, alloc: Global, text: &str) -> io::Result<()> {
     let call = "VersionRef::parse";
@@ -80,6 +80,12 @@ fn borrowed(rt: &impl Print, alloc: Global, text: &str) -> io::Result<()> {
         rt,
         "VersionRef::to_version",
         Outcome::from(version.to_version(alloc)),
+        &version,
+    )?;
+    show_debug(
+        rt,
+        "IdentifierRefs::to_list",
+        Outcome::from(version.pre_release().to_list(alloc)),
         &version,
     )?;
     show(

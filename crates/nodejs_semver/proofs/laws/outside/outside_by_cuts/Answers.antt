@@ -1,5 +1,5 @@
 use Rattle.nodejs_semver.proofs.Common.{MAX_SAFE_INTEGER, Ok, ap, ◌∙◌}
-use Rattle.nodejs_semver.proofs.Choice.OutsideLaw.{higher_by_cuts, lower_by_cuts}
+use Rattle.nodejs_semver.proofs.Questions.Outside.{higher_by_cuts, lower_by_cuts}
 use Rattle.nodejs_semver.proofs.laws.outside.outside_by_cuts.Goals as goal
 
 pub returns : goal.returns

@@ -1,5 +1,5 @@
-use Rattle.nodejs_semver.proofs.{Common.{MAX_SAFE_INTEGER, None, rules, sym, ◌∙◌, ◌≡◌}, NpmCommon.next, Stopping.Stops.passed_end}
-use Rattle.nodejs_semver.proofs.Stopping.Stops.{passed_more, passed_none, passed_stop, passed_whole}
+use Rattle.nodejs_semver.proofs.{Common.{MAX_SAFE_INTEGER, None, rules, sym, ◌∙◌, ◌≡◌}, NpmCommon.next, NpmFlaws.Stops.passed_end}
+use Rattle.nodejs_semver.proofs.NpmFlaws.Stops.{passed_more, passed_none, passed_stop, passed_whole}
 use Rattle.nodejs_semver.proofs.npm.flaws.stop.Goals as goal
 
 pub letters-init : goal.letters-init

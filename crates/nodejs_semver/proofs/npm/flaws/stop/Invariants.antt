@@ -1,4 +1,4 @@
-use Rattle.nodejs_semver.proofs.Stopping.Stops.{Passed}
+use Rattle.nodejs_semver.proofs.NpmFlaws.Stops.{Passed}
 use Rattle.nodejs_semver.proofs.npm.flaws.stop.Given as goal
 
 abbrev pub invariant-letters : goal.invariant-letters

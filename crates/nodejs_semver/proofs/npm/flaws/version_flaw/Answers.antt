@@ -1,5 +1,5 @@
-use Rattle.nodejs_semver.proofs.{Common.{MAX_SAFE_INTEGER, length, rules, ◌≤◌}, NpmCommon.{MAX_LENGTH, chars}, Stopping.Stops.flaw_none}
-use Rattle.nodejs_semver.proofs.Stopping.Stops.{flaw_only}
+use Rattle.nodejs_semver.proofs.{Common.{MAX_SAFE_INTEGER, length, rules, ◌≤◌}, NpmCommon.{MAX_LENGTH, chars}, NpmFlaws.Stops.flaw_none}
+use Rattle.nodejs_semver.proofs.NpmFlaws.Stops.{flaw_only}
 use Rattle.nodejs_semver.proofs.npm.flaws.version_flaw.Goals as goal
 
 pub returns-in-Some-clause-none : goal.returns-in-Some-clause-none

@@ -1,4 +1,4 @@
-use Rattle.nodejs_semver.proofs.{Common.{List, None, false, Some, refl, sym, ℕ}, NpmCommon.{Counted, counted_view, npm_partial_view}, Stopping.Ranges.{no-word, right-word}}
+use Rattle.nodejs_semver.proofs.{Common.{List, None, false, Some, refl, sym, ℕ}, NpmCommon.{Counted, counted_view, npm_partial_view}, NpmFlaws.Ranges.{no-word, right-word}}
 use Rattle.nodejs_semver.proofs.{Common.ap, NpmCommon.npm_partial_some_view, Strict.AlternativeLaw.word-normal}
 use Rattle.nodejs_semver.proofs.npm.malformed_words.right_word.Goals as goal
 

@@ -1,4 +1,4 @@
-use Rattle.nodejs_semver.proofs.{NpmCommon.here, Stopping.Ranges.{left-fits, left-next}}
+use Rattle.nodejs_semver.proofs.{NpmCommon.here, NpmFlaws.Ranges.{left-fits, left-next}}
 use Rattle.nodejs_semver.proofs.npm.malformed_words.skip_right_words.Goals as goal
 
 pub words-init : goal.words-init

@@ -1,5 +1,5 @@
-use Rattle.nodejs_semver.proofs.{Common.{None, arith, false, nat_tests, refl, rules, ◌≡◌}, NpmCommon.is_none, Stopping.Ranges.flawed-none}
-use Rattle.nodejs_semver.{proofs.Stopping.Ranges.{one_range_flaw, passed_all, right_here, wrong_here}}
+use Rattle.nodejs_semver.proofs.{Common.{None, arith, false, nat_tests, refl, rules, ◌≡◌}, NpmCommon.is_none, NpmFlaws.Ranges.flawed-none}
+use Rattle.nodejs_semver.{proofs.NpmFlaws.Ranges.{one_range_flaw, passed_all, right_here, wrong_here}}
 use Rattle.nodejs_semver.proofs.npm.range_flaws.range_flaw.Goals as goal
 
 pub returns-then-is_none-clause-flaw : goal.returns-then-is_none-clause-flaw

@@ -1,4 +1,4 @@
-use Rattle.nodejs_semver.proofs.{Common.rest_view, NpmCommon.left_over, Stopping.Ranges.Passed}
+use Rattle.nodejs_semver.proofs.{Common.rest_view, NpmCommon.left_over, NpmFlaws.Ranges.Passed}
 use Rattle.nodejs_semver.proofs.npm.range_flaws.range_flaw.Given as goal
 
 abbrev pub invariant-pieces : goal.invariant-pieces

@@ -1,4 +1,4 @@
-use Rattle.{nodejs_semver.proofs.Stopping.Ranges.trimmed_fits, std.proofs.lemmas.Str.IsCharBoundary-start}
+use Rattle.{nodejs_semver.proofs.NpmFlaws.Ranges.trimmed_fits, std.proofs.lemmas.Str.IsCharBoundary-start}
 use Rattle.nodejs_semver.proofs.npm.range_flaws.trimmed.Goals as goal
 
 pub skip_whitespace-requires : goal.skip_whitespace-requires

@@ -1,4 +1,4 @@
-use Rattle.nodejs_semver.proofs.{Common.{false, inl, inr, on_err, on_err_weaker}, Questions.{not_both, of_both}}
+use Rattle.nodejs_semver.proofs.{Common.{false, inl, inr, on_err, on_err_weaker}, Questions.Unions.{not_both, of_both}}
 use Rattle.nodejs_semver.proofs.range.RangeOf.accepts_same.Goals as goal
 
 pub returns-in_err-is_subset-clause-memory : goal.returns-in_err-is_subset-clause-memory

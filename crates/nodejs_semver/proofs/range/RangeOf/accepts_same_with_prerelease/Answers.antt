@@ -1,4 +1,4 @@
-use Rattle.nodejs_semver.proofs.{Common.{inl, inr, on_err_weaker, true}, Questions.{not_both, of_both}}
+use Rattle.nodejs_semver.proofs.{Common.{inl, inr, on_err_weaker, true}, Questions.Unions.{not_both, of_both}}
 use Rattle.nodejs_semver.proofs.range.RangeOf.accepts_same_with_prerelease.Goals as goal
 
 pub returns-clause-same : goal.returns-clause-same

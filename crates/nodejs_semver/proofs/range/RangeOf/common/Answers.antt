@@ -31,8 +31,8 @@ returns-then-others-eq1 g c =
           (subst (λ l. 0 < length l) (sym lone) (listed_some _ e))) c.common_of_two.ensures.memory;
     }
 
-pub from_intervals-requires : goal.from_intervals-requires
-from_intervals-requires g c =
+pub of_intervals-requires : goal.of_intervals-requires
+of_intervals-requires g c =
     let valid = meets_of-valid _ _ g.met.V.VersionPoint.ordered _ _ _ _
     c.items-these.ensures.valid c.items-others.ensures.valid c.items-these.ensures.value c.items-others.ensures.value in
     (omega arith, (omega arith, rw (rw c.new-found.ensures.items at c.in_ok-push_all_intersections.ensures.items) valid))
@@ -40,7 +40,7 @@ from_intervals-requires g c =
 pub returns-clause-list : goal.returns-clause-list
 returns-clause-list g c =
     let items = rw c.new-found.ensures.items at c.in_ok-push_all_intersections.ensures.items in
-    rw (c.from_intervals.ensures, items) (ap if_any (meets_of-is _ _ g.met.V.VersionPoint.ordered _ _ _ _
+    rw (c.of_intervals.ensures, items) (ap if_any (meets_of-is _ _ g.met.V.VersionPoint.ordered _ _ _ _
     c.items-these.ensures.valid c.items-others.ensures.valid c.items-these.ensures.value c.items-others.ensures.value))
 
 pub returns-in_err-push_all_intersections-clause-memory : goal.returns-in_err-push_all_intersections-clause-memory

@@ -1,19 +1,33 @@
-use Rattle.nodejs_semver.proofs.Common.{List, None, Some, [], arith, false, if_any, length, map, nat_tests, refl, true, ◌<◌, ◌==◌, ◌∷◌, ◌≡◌}
+use Rattle.nodejs_semver.proofs.{Common.{IsRange, List, Span, VersionValue, arith, false, is_range_span, length, list_all, list_all-map, map, refl, sym}}
+use Rattle.nodejs_semver.proofs.{Common.{true, ℕ, ◌+◌, ◌==◌, ◌∙◌, ◌≡◌}, Values.{map-none, map-some}}
 use Rattle.nodejs_semver.proofs.range.RangeOf.from_intervals.Goals as goal
+use Rattle.nodejs_semver.proofs.range.RangeOf.from_intervals.Goals.{then-is_empty-via-then-is_empty, then-is_empty-via-else-is_empty+then-not-are_of_ranges}
 
-none_made : {A B : Type 0} (f : A → B) (xs : List A) → true ≡ (length xs == 0) → None ≡ if_any (map f xs)
-none_made f [] e = refl
-none_made f (x ∷ xs) e = grind (arith, nat_tests)
+good : {A : Type 0} (limit n : ℕ) (f : A → Span VersionValue) (xs : List A) → length xs ≡ n → false ≡ (n == 0)
+    → true ≡ list_all (λ x. is_range_span (limit + 1) (f x)) xs → IsRange limit (map f xs)
+good limit n f xs l e h = record { some = map-some f xs (rw l e); each = list_all-map _ f xs ∙ sym h }
 
-made : {A B : Type 0} (f : A → B) (xs : List A) → false ≡ (length xs == 0) → (0 < length (map f xs)) × (Some (map f xs) ≡ if_any (map f xs))
-made f [] e = cc e
-made f (x ∷ xs) e = (omega arith, refl)
+none : {A : Type 0} (limit n : ℕ) (f : A → Span VersionValue) (xs : List A) → length xs ≡ n → true ≡ (n == 0) → IsRange limit (map f xs)
+    → false ≡ true
+none limit n f xs l e r = absurd (omega (arith, rw (map-none f xs (rw l e)) at r.some))
+
+bad : {A : Type 0} (limit : ℕ) (f : A → Span VersionValue) (xs : List A) → false ≡ list_all (λ x. is_range_span (limit + 1) (f x)) xs
+    → IsRange limit (map f xs) → false ≡ true
+bad limit f xs h r = h ∙ (sym (list_all-map _ f xs) ∙ r.each)
+
+pub returns-then-is_empty-clause-exact : goal.returns-then-is_empty-clause-exact
+returns-then-is_empty-clause-exact g c = (
+  λ e. cc e,
+  λ r. elim c.then-is_empty.branch [
+    | then-is_empty-via-then-is_empty w ↦ none _ _ _ c.args.intervals.items (omega (arith, c.args.intervals.ok)) w.if-is_empty.ensures r
+    | then-is_empty-via-else-is_empty+then-not-are_of_ranges w ↦ bad _ _ c.args.intervals.items (rw w.deref.ensures.value at w.if-not-are_of_ranges.ensures) r
+  ],
+)
 
 pub invariant_of-result : goal.invariant_of-result
-invariant_of-result g c = record { some = (made _ c.args.intervals.items c.if-is_empty.ensures).0; each = c.requires }
+invariant_of-result g c = rw c.from_vec-intervals.ensures.items
+    (good _ _ _ c.args.intervals.items (omega (arith, c.args.intervals.ok)) c.if-is_empty.ensures (rw c.deref.ensures.value at c.if-not-are_of_ranges.ensures))
 
-pub returns-then-is_empty : goal.returns-then-is_empty
-returns-then-is_empty g c = none_made _ c.args.intervals.items c.if-is_empty.ensures
-
-pub returns-else-is_empty : goal.returns-else-is_empty
-returns-else-is_empty g c = (made _ c.args.intervals.items c.if-is_empty.ensures).1
+pub returns-clause-exact : goal.returns-clause-exact
+returns-clause-exact g c =
+    (λ e. good _ _ _ c.args.intervals.items (omega (arith, c.args.intervals.ok)) c.if-is_empty.ensures (rw c.deref.ensures.value at c.if-not-are_of_ranges.ensures), λ r. refl)

@@ -1,4 +1,4 @@
-use Rattle.nodejs_semver.proofs.{Common.{None, Some, beyond, false, on_err, refl}, Questions.by_least}
+use Rattle.nodejs_semver.proofs.{Common.{None, Some, beyond, false, on_err, refl}, Questions.Unions.by_least}
 use Rattle.nodejs_semver.proofs.range.RangeOf.is_subset.Goals.{in-None, in-Some}
 use Rattle.nodejs_semver.proofs.range.RangeOf.is_subset.Goals as goal
 

@@ -1,4 +1,4 @@
-use Rattle.nodejs_semver.proofs.{Common.{IfOk-weaker, [], ap, inl, is_some, on_err, refl, sym, true, ◌∙◌}, Questions.by_difference}
+use Rattle.nodejs_semver.proofs.{Common.{IfOk-weaker, [], ap, inl, is_some, on_err, refl, sym, true, ◌∙◌}, Questions.Unions.by_difference}
 use Rattle.nodejs_semver.proofs.range.RangeOf.is_subset_with_prerelease.Goals as goal
 
 pub returns-in-Some-clause-subset : goal.returns-in-Some-clause-subset

@@ -1,5 +1,5 @@
 use Rattle.nodejs_semver.proofs.Common.{All, IfOk-weaker, IsLeastOf, IsRaisable, [], arith, on_err_weaker, subst, sym, wanted, ◌∷◌}
-use Rattle.nodejs_semver.proofs.{Choice.Least.{least_of_one}, Choice.Kinds.{one_allocates, raisable}}
+use Rattle.nodejs_semver.proofs.{Questions.Least.{least_of_one}, Questions.Spans.{one_allocates, raisable}}
 use Rattle.nodejs_semver.proofs.range.RangeOf.least_beyond.Goals as goal
 
 pub returns-clause-least : goal.returns-clause-least

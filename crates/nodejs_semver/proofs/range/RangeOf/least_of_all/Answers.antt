@@ -1,6 +1,6 @@
 use Rattle.nodejs_semver.proofs.Common.{arith, eqb-true, length, on_err_weaker, sym, ◌∙◌}
 use Rattle.std.proofs.lemmas.Bool.{eqb-false}
-use Rattle.nodejs_semver.proofs.{Choice.Least.{least_of_none}, Choice.Kinds.{all_allocate}}
+use Rattle.nodejs_semver.proofs.{Questions.Least.{least_of_none}, Questions.Spans.{all_allocate}}
 use Rattle.nodejs_semver.proofs.range.RangeOf.least_of_all.Goals as goal
 
 pub returns-then-is_empty-clause-least : goal.returns-then-is_empty-clause-least

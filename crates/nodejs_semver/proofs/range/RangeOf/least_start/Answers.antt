@@ -1,6 +1,6 @@
 use Rattle.nodejs_semver.proofs.Common.{Any, BeginsOtherwise, Bor, IfNone, IfSome, IsLeastOf, IsLeastSoFar, List, None, Option, Some, Span}
 use Rattle.nodejs_semver.proofs.Common.{VersionValue, accepts, ap, arith, false, least_build, length, subst, take_all, value_of, ◌<◌, ◌≡◌}
-use Rattle.nodejs_semver.proofs.Choice.Kinds.{any_at, on_none, one_further}
+use Rattle.nodejs_semver.proofs.Questions.Spans.{any_at, on_none, one_further}
 use Rattle.nodejs_semver.proofs.range.RangeOf.least_start.Goals as goal
 
 settled : {V : Type 0} (value : V → VersionValue) (ss : List (Span VersionValue)) (least : Option (Bor V)) → IsLeastSoFar ss (value_of value least)

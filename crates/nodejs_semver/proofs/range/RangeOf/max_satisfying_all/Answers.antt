@@ -1,5 +1,5 @@
 use Rattle.nodejs_semver.proofs.Common.{accepts, false, list_all, map, refl, sym, take, take_all, value_of}
-use Rattle.nodejs_semver.proofs.Choice.BestOf.{max_more, one_further, replaces_both}
+use Rattle.nodejs_semver.proofs.Questions.Best.{max_more, one_further, replaces_both}
 use Rattle.nodejs_semver.proofs.range.RangeOf.max_satisfying_all.Goals as goal
 use Rattle.nodejs_semver.proofs.range.RangeOf.max_satisfying_all.Goals.{else-is_none_above, else-is_none_above-via-else-is_none_above}
 use Rattle.nodejs_semver.proofs.range.RangeOf.max_satisfying_all.Goals.{else-is_none_above-via-then-is_none_above+else-all_accept}

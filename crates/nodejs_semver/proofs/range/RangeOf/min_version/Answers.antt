@@ -1,6 +1,6 @@
 use Rattle.nodejs_semver.proofs.Common.{All, IfOk-weaker, IsLeastOf, IsRaisable, None, Some, [], arith, first_so, inl}
 use Rattle.nodejs_semver.proofs.Common.{least_build, on_err, subst, sym, wanted, ◌∷◌}
-use Rattle.nodejs_semver.proofs.Choice.{Kinds.{alone_allocates, raisable}, Least.{least_accepted, least_build_built, least_of_itself, least_of_one}}
+use Rattle.nodejs_semver.proofs.Questions.{Spans.{alone_allocates, raisable}, Least.{least_accepted, least_build_built, least_of_itself, least_of_one}}
 use Rattle.nodejs_semver.proofs.Algebra.Differences.{some-map}
 use Rattle.nodejs_semver.proofs.range.RangeOf.min_version.Goals as goal
 

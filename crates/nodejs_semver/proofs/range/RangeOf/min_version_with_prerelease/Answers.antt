@@ -1,5 +1,5 @@
 use Rattle.nodejs_semver.proofs.Common.{IsLeastOf, None, accepts, arith, common_steps, least_of, on_err, spans_of, subst, sym, true, ◌≡◌}
-use Rattle.nodejs_semver.proofs.{Choice.Kinds.{begins_after, held_further, lower_raisable}, Choice.Least.{firsts_past, least_held, held_bare}}
+use Rattle.nodejs_semver.proofs.{Questions.Spans.{begins_after, held_further, lower_raisable}, Questions.Least.{firsts_past, least_held, held_bare}}
 use Rattle.nodejs_semver.proofs.range.RangeOf.min_version_with_prerelease.Goals as goal
 
 pub consider_first-requires-clause-raisable : goal.consider_first-requires-clause-raisable

@@ -1,5 +1,5 @@
 use Rattle.nodejs_semver.proofs.Common.{accepts, least_of, spans_of, take, true, ◌≡◌}
-use Rattle.nodejs_semver.proofs.Choice.Least.{firsts_past}
+use Rattle.nodejs_semver.proofs.Questions.Least.{firsts_past}
 use Rattle.nodejs_semver.proofs.range.RangeOf.min_version_with_prerelease.Given as goal
 
 abbrev pub invariant-loop-interval : goal.invariant-loop-interval

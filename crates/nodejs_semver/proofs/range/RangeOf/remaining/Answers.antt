@@ -9,8 +9,8 @@ differences-requires g c = (
       c.items.ensures.valid c.items-2.ensures.valid c.items.ensures.value c.items-2.ensures.value,
 )
 
-pub from_intervals-requires : goal.from_intervals-requires
-from_intervals-requires g c =
+pub of_intervals-requires : goal.of_intervals-requires
+of_intervals-requires g c =
     let valid = minus-valid _ _ g.met.V.VersionPoint.ordered _ _ _ _
     c.items.ensures.valid c.items-2.ensures.valid c.items.ensures.value c.items-2.ensures.value in
     (omega arith, (omega arith, rw (c.in_ok-left.ensures.items) valid))
@@ -18,7 +18,7 @@ from_intervals-requires g c =
 pub returns-clause-list : goal.returns-clause-list
 returns-clause-list g c =
     let items = c.in_ok-left.ensures.items in
-    rw (c.from_intervals.ensures, items) (ap if_any (minus-is _ _ g.met.V.VersionPoint.ordered _ _ _ _
+    rw (c.of_intervals.ensures, items) (ap if_any (minus-is _ _ g.met.V.VersionPoint.ordered _ _ _ _
     c.items.ensures.valid c.items-2.ensures.valid c.items.ensures.value c.items-2.ensures.value))
 
 pub returns-in_err-left-clause-memory : goal.returns-in_err-left-clause-memory

@@ -1,5 +1,5 @@
-use Rattle.nodejs_semver.proofs.{Common.{IfOk-weaker, arith, on_err, refl, sym, ◌∙◌}, Questions.{copy-same, copy-shorter, none-list}}
-use Rattle.nodejs_semver.proofs.{Questions.{some-list, some-same, some-shorter, used-taking, used-valid}, Values.taking-values}
+use Rattle.nodejs_semver.proofs.{Common.{IfOk-weaker, arith, on_err, refl, sym, ◌∙◌}, Questions.Unions.{copy-same, copy-shorter, none-list}}
+use Rattle.nodejs_semver.proofs.{Questions.Unions.{some-list, some-same, some-shorter, used-taking, used-valid}, Values.taking-values}
 use Rattle.nodejs_semver.proofs.range.RangeOf.simplify.Goals as goal
 
 pub returns-in_err-push_used-clause-memory : goal.returns-in_err-push_used-clause-memory
@@ -9,8 +9,8 @@ returns-in_err-push_used-clause-memory g c =
     (used-taking g.V.Versioned.value g.W.Versioned.value c.args.versions.now _ _ _ c.items.ensures.value refl g.V.Point.takes memory)
     memory)
 
-pub from_intervals-requires : goal.from_intervals-requires
-from_intervals-requires g c =
+pub of_intervals-requires : goal.of_intervals-requires
+of_intervals-requires g c =
     let valid = used-valid g.V.Versioned.value g.W.Versioned.value c.args.versions.now _ _ _ c.items.ensures.value
     (rw c.new-used.ensures.items at c.in_ok-push_used.ensures.whole) _ c.items.ensures.valid in
     (omega arith, (omega arith, valid))

@@ -1,5 +1,5 @@
-use Rattle.nodejs_semver.proofs.{Common.{accepts, ap, arith, on_err, refl, ◌∙◌}, Questions.{more-taking, union-accepts, union-made}}
-use Rattle.nodejs_semver.proofs.{Questions.union-valid, Values.taking-values}
+use Rattle.nodejs_semver.proofs.{Common.{accepts, ap, arith, on_err, refl, ◌∙◌}, Questions.Unions.{more-taking, union-accepts, union-made}}
+use Rattle.nodejs_semver.proofs.{Questions.Unions.union-valid, Values.taking-values}
 use Rattle.nodejs_semver.proofs.range.RangeOf.union.Goals as goal
 
 pub of_some-requires : goal.of_some-requires

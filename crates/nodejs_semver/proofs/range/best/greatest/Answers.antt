@@ -1,5 +1,5 @@
 use Rattle.nodejs_semver.proofs.Common.{accepts, map, refl, spans_of, take, take_all, value_of}
-use Rattle.nodejs_semver.proofs.{Choice.BestOf.{max_more, one_further}, range.best.greatest.Goals.{then-is_new_max, else-is_new_max}}
+use Rattle.nodejs_semver.proofs.{Questions.Best.{max_more, one_further}, range.best.greatest.Goals.{then-is_new_max, else-is_new_max}}
 use Rattle.nodejs_semver.proofs.range.best.greatest.Goals as goal
 
 pub loop-version-preserved : goal.loop-version-preserved

@@ -1,5 +1,5 @@
 use Rattle.nodejs_semver.proofs.Common.{accepts, map, refl, spans_of, take, take_all, value_of}
-use Rattle.nodejs_semver.proofs.{Choice.BestOf.{min_more, one_further}, range.best.least.Goals.{then-is_new_min, else-is_new_min}}
+use Rattle.nodejs_semver.proofs.{Questions.Best.{min_more, one_further}, range.best.least.Goals.{then-is_new_min, else-is_new_min}}
 use Rattle.nodejs_semver.proofs.range.best.least.Goals as goal
 
 pub loop-version-preserved : goal.loop-version-preserved

@@ -1,5 +1,5 @@
 use Rattle.nodejs_semver.proofs.Common.{Some, ap, arith, false, on_err, true, ◌∙◌}
-use Rattle.nodejs_semver.{proofs.Choice.Least.{better_bare}, specs.Internal.Candidates.{Finds, bare}}
+use Rattle.nodejs_semver.{proofs.Questions.Least.{better_bare}, specs.Internal.Candidates.{Finds, bare}}
 use Rattle.nodejs_semver.proofs.range.least.consider.Goals as goal
 
 pub returns-in_ok-bare-clause-best : goal.returns-in_ok-bare-clause-best

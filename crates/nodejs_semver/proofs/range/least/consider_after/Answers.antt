@@ -1,5 +1,5 @@
 use Rattle.nodejs_semver.proofs.Common.{inl, inr, on_err, on_err_weaker, sym, ◌∙◌}
-use Rattle.nodejs_semver.proofs.Choice.Least.{reached_far}
+use Rattle.nodejs_semver.proofs.Questions.Least.{reached_far}
 use Rattle.nodejs_semver.proofs.range.least.consider_after.Goals as goal
 
 pub returns-then-is_reached-clause-best : goal.returns-then-is_reached-clause-best

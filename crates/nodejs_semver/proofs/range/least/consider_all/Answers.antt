@@ -1,6 +1,6 @@
 use Rattle.nodejs_semver.proofs.Common.{BeginsAfterPre, IsAfterPre, Raisable, arith, bound_of, inl, inr, on_err, spans_of, subst}
 use Rattle.nodejs_semver.proofs.Common.{sym, take_all}
-use Rattle.nodejs_semver.proofs.Choice.Kinds.{all_marks, any_at, any_here, raisable_at, range_further, removed_further}
+use Rattle.nodejs_semver.proofs.Questions.Spans.{all_marks, any_at, any_here, raisable_at, range_further, removed_further}
 use Rattle.nodejs_semver.proofs.range.least.consider_all.Goals as goal
 
 pub loop-range-preserved : goal.loop-range-preserved

@@ -1,5 +1,5 @@
 use Rattle.nodejs_semver.proofs.Common.{on_err, take_all}
-use Rattle.nodejs_semver.proofs.Choice.Kinds.{begins_after, kept_further, lower_raisable}
+use Rattle.nodejs_semver.proofs.Questions.Spans.{begins_after, kept_further, lower_raisable}
 use Rattle.nodejs_semver.proofs.range.least.consider_range.Goals as goal
 
 pub consider_past-requires-clause-raisable : goal.consider_past-requires-clause-raisable

@@ -1,5 +1,5 @@
 use Rattle.nodejs_semver.proofs.Common.{IsLeastOf, on_err, spans_of, subst, sym, wanted}
-use Rattle.nodejs_semver.proofs.Choice.Least.{least_bare, least_wanted}
+use Rattle.nodejs_semver.proofs.Questions.Least.{least_bare, least_wanted}
 use Rattle.nodejs_semver.proofs.range.least.least_among.Goals as goal
 
 pub returns-in_err-consider_all-clause-memory : goal.returns-in_err-consider_all-clause-memory

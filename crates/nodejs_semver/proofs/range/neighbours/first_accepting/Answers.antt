@@ -1,6 +1,6 @@
 use Rattle.nodejs_semver.proofs.Common.{YieldsList-from_slice, holds, lets_in, precedence, rules, span_of, spans_of, tests, ◌&&◌}
 use Rattle.std.proofs.lemmas.Iterator.Search.{find_from_yields_List}
-use Rattle.nodejs_semver.proofs.Choice.Kinds.{found_raisable, found_value}
+use Rattle.nodejs_semver.proofs.Questions.Spans.{found_raisable, found_value}
 use Rattle.nodejs_semver.proofs.range.neighbours.first_accepting.Goals as goal
 
 pub returns-clause-value : goal.returns-clause-value

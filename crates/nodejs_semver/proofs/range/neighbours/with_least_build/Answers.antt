@@ -1,4 +1,4 @@
-use Rattle.nodejs_semver.proofs.{Choice.Least.{unbuilt_stays}, Common.{sym, ◌∙◌}}
+use Rattle.nodejs_semver.proofs.{Questions.Least.{unbuilt_stays}, Common.{sym, ◌∙◌}}
 use Rattle.nodejs_semver.proofs.range.neighbours.with_least_build.Goals as goal
 
 pub returns-then-not-begin_with_build : goal.returns-then-not-begin_with_build

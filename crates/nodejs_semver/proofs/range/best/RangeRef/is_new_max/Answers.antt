@@ -1,4 +1,4 @@
-use Rattle.nodejs_semver.proofs.Choice.BestOf.{max_more}
+use Rattle.nodejs_semver.proofs.Questions.Best.{max_more}
 use Rattle.nodejs_semver.proofs.range.best.RangeRef.is_new_max.Goals as goal
 
 pub returns : goal.returns

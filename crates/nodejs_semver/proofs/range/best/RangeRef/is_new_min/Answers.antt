@@ -1,4 +1,4 @@
-use Rattle.nodejs_semver.proofs.Choice.BestOf.{min_more}
+use Rattle.nodejs_semver.proofs.Questions.Best.{min_more}
 use Rattle.nodejs_semver.proofs.range.best.RangeRef.is_new_min.Goals as goal
 
 pub returns : goal.returns

@@ -1,5 +1,5 @@
 use Rattle.nodejs_semver.proofs.Common.{map-id}
-use Rattle.nodejs_semver.proofs.Choice.BestOf.{max_says}
+use Rattle.nodejs_semver.proofs.Questions.Best.{max_says}
 use Rattle.nodejs_semver.proofs.range.best.RangeRef.max_satisfying.Goals as goal
 
 pub returns : goal.returns

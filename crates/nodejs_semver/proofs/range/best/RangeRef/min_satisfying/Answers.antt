@@ -1,5 +1,5 @@
 use Rattle.nodejs_semver.proofs.Common.{map-id}
-use Rattle.nodejs_semver.proofs.Choice.BestOf.{min_says}
+use Rattle.nodejs_semver.proofs.Questions.Best.{min_says}
 use Rattle.nodejs_semver.proofs.range.best.RangeRef.min_satisfying.Goals as goal
 
 pub returns : goal.returns

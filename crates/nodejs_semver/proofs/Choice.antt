@@ -1,4 +1,0 @@
-pub mod BestOf
-pub mod Kinds
-pub mod Least
-pub mod OutsideLaw
