@@ -1,14 +1,14 @@
 -- The words that most proofs on npm's readings use beside those of `Common`, brought together here.
 pub use Rattle.nodejs_semver.specs.Internal.Fronts.{after_byte, begins_byte, begins_wildcard, number_front}
 pub use Rattle.nodejs_semver.specs.Internal.{NpmAlternatives.{AcceptAsRanged, AreNarrowed, NarrowedBy, nothing}, NpmMeaning.AreRead}
-pub use Rattle.nodejs_semver.specs.Internal.{NpmMeaning.{AreReadOf, IsCommon, IsNarrowed, counted, is_unbounded, is_zero}, NpmParts.are_normal}
+pub use Rattle.nodejs_semver.specs.Internal.{NpmMeaning.{IsCommon, IsNarrowed, counted, is_unbounded, is_zero}, NpmParts.are_normal}
 pub use Rattle.nodejs_semver.specs.Internal.{NpmParts.{Numbers, npm_partial_view, npm_sign_view, release, within}, NpmReadings.{IsStrictPreRelease, is_strict_identifier}}
-pub use Rattle.nodejs_semver.specs.Internal.{NpmReadings.begins_padded, NpmReads.{IsFound, IsStep, hyphen_valid, valid_one, words_of}, NpmStates.is_whole}
-pub use Rattle.nodejs_semver.specs.Internal.{NpmTuples.IsLastBefore, NpmViews.{counted_front_view, counted_view, end_view, npm_partial_some_view}, NpmWords.{Counted, CountedEnd, Ended, Signed}}
-pub use Rattle.nodejs_semver.specs.Internal.NpmWords.{counted_front, drop_ends, ended_as, counted_as, hyphen_of, is_right, lower_of, upper_of, lower_counted, upper_counted, counted_hyphen, last_counted}
-pub use Rattle.nodejs_semver.specs.Internal.NpmWords.{IsPartial, are_whole_marks, is_free, is_free_lower, is_free_upper, is_short_build, is_short_word, is_small, is_spelled, kept, last_end, limited, words_of_all, ignored_or}
+pub use Rattle.nodejs_semver.specs.Internal.{NpmReadings.begins_padded, NpmReads.{IsFound, IsStep, first_valid, valid_all, valid_first, valid_one, words_of}, NpmStates.is_whole}
+pub use Rattle.nodejs_semver.specs.Internal.{NpmTuples.IsLastBefore, NpmViews.{end_view, signed_front_view, signed_view}, NpmWords.{Ended, Signed}}
+pub use Rattle.nodejs_semver.specs.Internal.NpmWords.{capped_in, capped_one, capped_partial, drop_ends, ended_as, first_as, hyphen_of, is_right, limited, lower_of, upper_of}
+pub use Rattle.nodejs_semver.specs.Internal.NpmWords.{are_whole_marks, is_free, is_free_lower, is_free_upper, is_short_build, is_short_word, is_spelled, kept, last_end, words_of_all, ignored_or}
 pub use Rattle.nodejs_semver.specs.Internal.NpmWords.{marked_word, marks_len, may_stand, or_late, run_place, second_front}
-pub use Rattle.nodejs_semver.specs.Internal.{NpmWords.{skip_equal, skip_greater, skip_tilde, third_front, valid_only}, PartFronts.left_over}
+pub use Rattle.nodejs_semver.specs.Internal.{NpmWords.{skip_equal, skip_greater, skip_tilde, third_front}, PartFronts.left_over}
 pub use Rattle.nodejs_semver.specs.{Internal.{Readings.{bounds_view, comparator_view}, Words.or_else}, Npm.Alike.IsPlainPartial}
 pub use Rattle.nodejs_semver.specs.Npm.Alike.{IsPlainText, IsPlainWord, is_plain, may_have, npm_partial, signed}
 pub use Rattle.nodejs_semver.specs.Npm.{Coerced.{IsLeftmost, IsRightmost, IsRun, IsTuple, IsTupleIn}, Flaws.GoesOn}
@@ -39,7 +39,7 @@ unfoldable pub use Rattle.nodejs_semver.specs.Internal.{Fronts.{build_front, num
 unfoldable pub use Rattle.nodejs_semver.specs.Internal.NpmVersions.{patch_front, qualified_version, whole_version}
 unfoldable pub use Rattle.nodejs_semver.specs.Internal.{NpmReads.valid_alternative, NpmStates.{next, run, wrong_at}, NpmTuples.tuple_len}
 unfoldable pub use Rattle.nodejs_semver.specs.Internal.{NpmTuples.tuple_release, NpmWords.{after_ends, alternative_of, alternatives_of}}
-unfoldable pub use Rattle.nodejs_semver.specs.Internal.NpmWords.{behind_ignored, counted_end, counted_word, dotted_patch, dotted_place, end_front, first_valid, first_word, hyphen_ends}
+unfoldable pub use Rattle.nodejs_semver.specs.Internal.NpmWords.{behind_ignored, dotted_patch, dotted_place, end_front, first_word, hyphen_ends}
 unfoldable pub use Rattle.nodejs_semver.specs.Internal.NpmWords.{npm_sign, patch_place, place_front, pre_front}
-unfoldable pub use Rattle.nodejs_semver.specs.Internal.NpmWords.{qualified_partial, signed_word, valid_words, words_within}
+unfoldable pub use Rattle.nodejs_semver.specs.Internal.NpmWords.{qualified_partial, signed_word, words_within}
 unfoldable pub use Rattle.{semver_core.specs.Text.Identifiers.listed, std.specs.Fmt.digits}

@@ -12,6 +12,6 @@ pub mod Hyphens
 pub mod Printed
 pub mod Rows
 pub mod Words
-pub mod Counted
+pub mod WordLoop
 pub mod CommonReads
 pub mod RangeReads

@@ -7,13 +7,13 @@ use Rattle.nodejs_semver.proofs.Common.{is_empty, is_interval, is_le, is_lt, is_
 use Rattle.nodejs_semver.proofs.Common.{list_any, list_any-append, lower_cut, names, nat_tests, not, not-false, or_left, or_right}
 use Rattle.nodejs_semver.proofs.Common.{ordering_then, plain, pre_cmp, precedence, precedence_total, refl, same_triple, subst, suc, sym, table, tilde}
 use Rattle.nodejs_semver.proofs.{Common.{true, upper_cut, version_of, zero, ℕ, ◌&&◌, ◌++◌, ◌+◌, ◌==◌, ◌||◌, ◌∙◌, ◌∷◌, ◌≡◌, ◌⊎◌}, NpmCommon.Comparison}
-use Rattle.nodejs_semver.proofs.NpmCommon.{IsPartial, IsPlainPartial, IsPlainWord, Numbers, at_least, build_front, bytes_eq, bytes_eq-Decides}
+use Rattle.nodejs_semver.proofs.NpmCommon.{IsPlaces, IsPlainPartial, IsPlainWord, Numbers, at_least, build_front, bytes_eq, bytes_eq-Decides}
 use Rattle.nodejs_semver.proofs.NpmCommon.{compared, counts, dashed_front, digits, dotted_patch, dotted_place, filter-append, from, hyphen_lower}
 use Rattle.nodejs_semver.proofs.NpmCommon.{hyphen_upper, is_plain, is_valid, is_within, is_zero, listed, made, may_have, meets, minor, npm_partial}
 use Rattle.nodejs_semver.proofs.NpmCommon.{patch_place, place_front, pre_front, qualified_partial, release, satisfies, under, upto_patch, whole}
-use Rattle.nodejs_semver.proofs.{NpmCommon.zero_least, Strict.{PartialLaw.partial-read, Printed.prints_zero, Zeros.{plain_changed, plain_table}}}
+use Rattle.nodejs_semver.proofs.{NpmCommon.zero_least, Strict.{PartialLaw.places-read, Printed.prints_zero, Zeros.{plain_changed, plain_table}}}
 use Rattle.nodejs_semver.proofs.{Strict.Zeros.{rows-plain, strict-zeros, zeros-marked}, Values.{past-after, past-before}}
-use Rattle.nodejs_semver.specs.{Internal.{NpmParts.no_build, NpmWords.{partial_front, places_front}}, Npm.Alike.{bare, is_blunt, signed, tilde_greater, version_in}}
+use Rattle.nodejs_semver.specs.{Internal.{NpmParts.no_build, NpmWords.places_front}, Npm.Alike.{bare, is_blunt, signed, tilde_greater, version_in}}
 use Rattle.{nodejs_semver.specs.Npm.{Alike.word_of, Table.{Sign, lowest, written_zeros}}, semver_core.specs.Internal.OrderLaws.pre_total}
 use Rattle.semver_core.specs.Values.Order.{version_eq}
 use Rattle.nodejs_semver.specs.Npm.Ranges as Ranges
@@ -48,8 +48,8 @@ form pre p h = form-of pre p.major p.minor p.patch p.pre_release p.build h
 zero_found : Front Npm.Partial → Bool
 zero_found o = elim o [ None ↦ false | Some p ↦ elim p.0 [ whole w ↦ is_zero w | _ ↦ false ] ]
 
-zero_read : zero_found (partial_front false (codes "0.0.0" ++ [])) ≡ true
-unfolding partial_front places_front place_front dotted_place dotted_patch patch_place qualified_partial pre_front dashed_front build_front listed zero_found
+zero_read : zero_found (places_front false (codes "0.0.0" ++ [])) ≡ true
+unfolding places_front place_front dotted_place dotted_patch patch_place qualified_partial pre_front dashed_front build_front listed zero_found
 zero_read = refl
 
 -- the text `0.0.0` is of that version
@@ -59,8 +59,8 @@ text-spelled : (limit : ℕ) (pre : Bool) (text : List ℕ) (M m p : ℕ) (x y :
 unfolding zero_found
 text-spelled limit pre text M m p x y h e = let same : text ≡ codes "0.0.0" = (bytes_eq-Decides text (codes "0.0.0")).0 e in elim h.marked [
   | inl none ↦
-      let read = subst (λ (t : List ℕ). IsPartial false t (whole (version M m p x y))) (sym none ∙ same) (h.npm, refl) in
-      sym (ap zero_found (partial-read false (codes "0.0.0") [] (whole (version M m p x y)) read refl)) ∙ zero_read
+      let read = subst (λ (t : List ℕ). IsPlaces false t (whole (version M m p x y))) (sym none ∙ same) h.npm in
+      sym (ap zero_found (places-read false (codes "0.0.0") [] (whole (version M m p x y)) read refl)) ∙ zero_read
   | inr v ↦ cc (v, same)
 ]
 
@@ -72,7 +72,7 @@ table-values pre text s p h =
       | inl e ↦ ap written_zeros e
       | inr e ↦ ap written_zeros e ∙ zeros-marked (codes "v") h.rest refl
     ] in
-    sym (rows-plain false text s (npm_partial p) (λ w. strict-zeros h.rest (npm_partial p) (h.npm, refl) w ∙ sym written))
+    sym (rows-plain false text s (npm_partial p) (λ w. strict-zeros h.rest (npm_partial p) h.npm w ∙ sym written))
 
 -- `~>` is `~`
 same-tilde : (pre : Bool) (p : Partial) → Form pre p → is_some p.major ≡ true → table MAX_SAFE_INTEGER (tilde true p) ≡ table MAX_SAFE_INTEGER (tilde false p)

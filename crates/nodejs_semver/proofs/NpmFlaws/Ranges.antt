@@ -1,18 +1,18 @@
 -- The malformed word of a range text, and its first alternative that is malformed.
-use Rattle.nodejs_semver.proofs.Common.{AllByRecursion, Bool, Front, IsAfterBlank, IsCutAtBars, IsTrim, IsUtf8, List, MAX_SAFE_INTEGER, None, Option}
+use Rattle.nodejs_semver.proofs.Common.{AllByRecursion, Bool, IsAfterBlank, IsCutAtBars, IsTrim, IsUtf8, List, MAX_SAFE_INTEGER, None, Option}
 use Rattle.nodejs_semver.proofs.Common.{Some, [], after_blank-place, and_parts, ap, append-nil, append_assoc, arith, bind_some, common_steps, ℕ, ◌<◌}
 use Rattle.nodejs_semver.proofs.Common.{cond_some, cut_bars, drop, drop_spaces, false, is_empty, length, length-append, list_all, ◌∙◌, ◌∷◌}
 use Rattle.nodejs_semver.proofs.Common.{middle_is_trim, more_pieces, nat_tests, one_piece, refl, same_Some, subst, sym, trim, true, ◌++◌, ◌+◌, ◌-◌}
 use Rattle.nodejs_semver.{proofs.{Common.{◌≡◌, ◌≤◌}, Diagnosing.IgnoredParts.{part_ends, part_fits, sizes_of}}, specs.Npm.Table.{Partial, table}}
 use Rattle.nodejs_semver.proofs.Dividing.{BarLemmas.{cut_bars-front, parts_after}, BarsDivide.{bars_divide, bars_once}, MeaningLaw.pieces-utf8}
-use Rattle.nodejs_semver.proofs.NpmCommon.{Alternative, AreAlternatives, Comparison, Counted, HasAlternativesIn, IsAlternative, IsFound, IsLeft, none}
-use Rattle.nodejs_semver.proofs.NpmCommon.{IsMalformedWord, NoValue, Signed, alternative_of, counted_word, first_valid, here, is_none, is_valid}
+use Rattle.nodejs_semver.proofs.NpmCommon.{Alternative, AreAlternatives, Comparison, HasAlternativesIn, IsAlternative, IsFound, IsLeft, none}
+use Rattle.nodejs_semver.proofs.NpmCommon.{IsMalformedWord, NoValue, Signed, alternative_of, capped_partial, here, is_none, is_valid}
 use Rattle.nodejs_semver.proofs.{NpmCommon.{marks_len, signed_word, valid_alternative, valid_one}, Reading.PartialLaw.spaces-le}
 use Rattle.nodejs_semver.proofs.Reading.{Steps.option-cases, WordLaw.{boundary-of, first-of, skips-is, skips-of, skips-utf8, trim-utf8}}
-use Rattle.nodejs_semver.proofs.Strict.{AlternativeLaw.{alternative-found, alternative-read}, Counted.first-valid, RangeReads.found-some}
-use Rattle.nodejs_semver.{proofs.Strict.Words.{WordAt, first-read, signed-found, strict-kept, word-read}, specs.Internal.NpmWords.counted_or}
+use Rattle.nodejs_semver.proofs.Strict.{AlternativeLaw.{alternative-found, alternative-read}, Printed.{capped-valid, table-invalid, valid-same}, RangeReads.found-some}
+use Rattle.nodejs_semver.{proofs.Strict.Words.{WordAt, signed-found, strict-kept, word-read}}
 use Rattle.nodejs_semver.specs.{Internal.{PartFronts.front_part}, Npm.{MalformedWords.{IsRightWord, on}, RangeFlaws.bytes_of}}
-use Rattle.nodejs_semver.specs.{Npm.{RangeFlaws.{IsAlternativeText, IsRangeFlaw}, RangeText.{formed, hyphen, next, words}}, Text.WordText.SkipsBlank}
+use Rattle.nodejs_semver.specs.{Npm.{RangeFlaws.{IsAlternativeText, IsRangeFlaw}, RangeText.{hyphen, next, words}}, Text.WordText.SkipsBlank}
 use Rattle.{nodejs_semver.specs.declared.npm.range_flaws.RangeFlaw.RangeFlaw, semver_core.proofs.Text.Trims.one_after_blank}
 use Rattle.std.proofs.lemmas.List.Elements.{All-from_recursion, All-push, recursion_from_All}
 
@@ -33,11 +33,6 @@ pub trimmed_fits : (text middle : List ℕ) (start : ℕ) → IsUtf8 text → Is
 trimmed_fits text middle start u a t =
     omega (arith, part_ends 0 start text middle (after_blank-place text 0 start u a) (middle_is_trim text middle t), part_fits text 0)
 
-counted-signed : (text : List ℕ) (w : Counted × List ℕ) (p : Partial) → counted_word false MAX_SAFE_INTEGER text ≡ Some w → w.0.1 ≡ Some p
-    → signed_word false text ≡ Some ((w.0.0, p, w.0.2), w.1)
-unfolding counted_word signed_word
-counted-signed text w p h e = grind (arith, option-cases, cond_some)
-
 module _ (include : Bool) where
   abbrev Right : List ℕ → List ℕ → Type 0
   Right = IsRightWord MAX_SAFE_INTEGER include
@@ -54,19 +49,25 @@ module _ (include : Bool) where
       let read = ap (signed_word false) r.is.1 ∙ w.read in (w.word, read, signed-found false include text w.word behind u read)
 
   -- where none is read, there is none
-  pub no-word : (text : List ℕ) (o : Front Counted) → IsUtf8 text → o ≡ counted_word false MAX_SAFE_INTEGER text
-      → counted_or false MAX_SAFE_INTEGER include text o ≡ None → NoValue (Right text)
-  unfolding first_valid
-  no-word text o u e empty = λ behind r.
-      let skips = skips-is behind (right-at text behind u r).2.utf8 in
-      let first = first-read false include text (drop_spaces behind) (Some r.comparators) u (formed r.partial behind r.comparators r.is refl skips) in
-      let some = rw (first, r.valid) at (first-valid false include text) in cc (some, ap (counted_or false MAX_SAFE_INTEGER include text) e, empty)
+  pub no-word : (text : List ℕ) → IsUtf8 text → signed_word false text ≡ None → NoValue (Right text)
+  no-word text u e = λ behind r. let w = right-at text behind u r in cc (e, w.1)
 
-  pub right-word : (text : List ℕ) (w : Counted × List ℕ) (p : Partial) → IsUtf8 text → Some w ≡ counted_word false MAX_SAFE_INTEGER text
-      → w.0.1 ≡ Some p → list_all (is_valid MAX_SAFE_INTEGER) (table include w.0.0 p w.0.2) ≡ true → Right text w.1
-  right-word text w p u e some good =
-      let f = signed-found false include text (w.0.0, p, w.0.2) w.1 u (counted-signed text w p (sym e) some) in
-      record { partial = drop (marks_len w.0.2) w.0.2; comparators = table include w.0.0 p w.0.2; is = f.is; valid = good }
+  module _ (text : List ℕ) (w : Signed × List ℕ) (u : IsUtf8 text) (e : signed_word false text ≡ Some w) where
+    abbrev Row : Partial → List Comparison
+    Row p = table include w.0.0 p w.0.2
+
+    pub wrong-word : list_all (is_valid MAX_SAFE_INTEGER) (Row (capped_partial w.0.1)) ≡ false → NoValue (Right text)
+    wrong-word bad = λ behind r.
+        let x = word-read false include r.is.0 r.partial behind r.comparators r.is.2 (boundary-of behind r.is.3) in
+        let same : w.0 ≡ x.word = ap (λ (q : Signed × List ℕ). q.0) (same_Some _ _ (sym e ∙ ap (signed_word false) r.is.1 ∙ x.read)) in
+        let row : Row w.0.1 ≡ r.comparators = ap (λ (q : Signed). table include q.0 q.1 q.2) same ∙ x.same in
+        cc (r.valid, ap (list_all (is_valid MAX_SAFE_INTEGER)) row, capped-valid Row (λ p. table-invalid include w.0.0 p w.0.2) w.0.1, bad)
+
+    pub right-word : list_all (is_valid MAX_SAFE_INTEGER) (Row (capped_partial w.0.1)) ≡ true → Right text w.1
+    right-word good =
+        let f = signed-found false include text w.0 w.1 u e in
+        let same = valid-same Row (λ p. table-invalid include w.0.0 p w.0.2) w.0.1 good in
+        record { partial = drop (marks_len w.0.2) w.0.2; comparators = Row w.0.1; is = f.is; valid = rw same at good }
 
   -- ---- the words before it
 

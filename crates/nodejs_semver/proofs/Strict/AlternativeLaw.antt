@@ -1,15 +1,20 @@
 -- Alternatives of node-semver's range texts: the functions that read them find exactly what the statement has.
-use Rattle.nodejs_semver.proofs.Common.{AllByRecursion, Bool, IsUtf8, List, MAX_SAFE_INTEGER, None, Option, Some, [], and_parts, ap}
+use Rattle.nodejs_semver.proofs.NpmCommon.{are_marks, npm_sign}
+use Rattle.nodejs_semver.proofs.{Common.is_boundary, Strict.{Hyphens.normal-capped, PartialLaw.front-as}}
+use Rattle.nodejs_semver.specs.Internal.NpmWords.{ended_word}
+use Rattle.nodejs_semver.proofs.NpmCommon.{Signed, capped_in, capped_partial, first_as, signed_word}
+use Rattle.nodejs_semver.specs.Internal.NpmWords.{places_front}
+use Rattle.nodejs_semver.proofs.Common.{AllByRecursion, Bool, IsUtf8, List, None, Option, Some, VersionValue, [], and_parts, ap}
 use Rattle.nodejs_semver.proofs.Common.{arith, bind_some, cases_Bool, common_steps, cond_some, drop, false, inl, inr, is_empty, length, length-drop}
 use Rattle.nodejs_semver.proofs.Common.{list_all, map, middle_is_trim, nat_tests, prefix_len, refl, same_Some, subst, suc, sym, take, take_rest, trim}
 use Rattle.nodejs_semver.proofs.{Common.{trim_is_middle, true, ℕ, ◌&&◌, ◌++◌, ◌+◌, ◌-◌, ◌↔◌, ◌∙◌, ◌∷◌, ◌≡◌, ◌≤◌}, Dividing.BarsDivide.bars_divide}
-use Rattle.nodejs_semver.proofs.{Dividing.{BarsDivide.bars_once, MeaningLaw.pieces-utf8}, NpmCommon.{AreAlternatives, Comparison, Counted, Ended}}
-use Rattle.nodejs_semver.proofs.NpmCommon.{HasAlternativesIn, IsAlternative, IsHyphen, IsPartial, alternative_of, alternatives_of}
-use Rattle.nodejs_semver.proofs.NpmCommon.{are_normal, counted_front, counted_word, hyphen_ends, is_free_lower, is_free_upper, is_mark, is_right}
-use Rattle.nodejs_semver.proofs.NpmCommon.{is_valid, kept, lower_of, marks_len, upper_of, words_of_all, words_within}
+use Rattle.nodejs_semver.proofs.{Dividing.{BarsDivide.bars_once, MeaningLaw.pieces-utf8}, NpmCommon.{AreAlternatives, Comparison, Ended}}
+use Rattle.nodejs_semver.proofs.NpmCommon.{HasAlternativesIn, IsAlternative, IsHyphen, IsVersionText, alternative_of, alternatives_of}
+use Rattle.nodejs_semver.proofs.NpmCommon.{are_normal, hyphen_ends, is_free_lower, is_free_upper, is_mark, is_right}
+use Rattle.nodejs_semver.proofs.NpmCommon.{is_valid, kept, lower_of, marks_len, strict_version, upper_of, words_of_all, words_within}
 use Rattle.nodejs_semver.proofs.{Reading.{Steps.option-cases, WordLaw.{tail-utf8, trim-utf8}}, Strict.Hyphens.{ended_of, front-normal, hyphen-found}}
-use Rattle.nodejs_semver.proofs.Strict.{Hyphens.{hyphen-read, partial-le, places-normal, right-end}, PartialLaw.prefix-all}
-use Rattle.nodejs_semver.{proofs.Strict.Words.{words-found, words-read}, specs.Internal.NpmParts.some_normal}
+use Rattle.nodejs_semver.proofs.Strict.{Hyphens.{hyphen-read, partial-le, right-end}, PartialLaw.prefix-all}
+use Rattle.nodejs_semver.{proofs.Strict.{VersionLaw.strict-read-version, Words.{words-found, words-read}}}
 use Rattle.nodejs_semver.specs.{Internal.NpmWords.{hyphen_or, npm_alternatives}, Npm.{RangeText.{hyphen, next, words}, Table.Partial}}
 
 -- ---- marks
@@ -27,21 +32,28 @@ marks-utf8 (c ∷ rest) u = elim (cases_Bool (is_mark c)) [
       rw (mark, more) (marks-utf8 rest (tail-utf8 c rest (grind (arith, nat_tests)) u))
 ]
 
-pub behind-le : (loose : Bool) (limit : ℕ) (text : List ℕ) (at : ℕ) (p : Option Partial) (rest : List ℕ)
-    → Some (p, rest) ≡ counted_front loose limit (take (length text - at) (drop at text)) → length rest ≤ length text
-behind-le loose limit text at p rest h = grind (arith, nat_tests, common_steps, partial-le, take_rest, length-drop)
+pub behind-le : (loose : Bool) (text : List ℕ) (at : ℕ) (p : Partial) (rest : List ℕ)
+    → Some (p, rest) ≡ first_as capped_partial (places_front loose (take (length text - at) (drop at text))) → length rest ≤ length text
+behind-le loose text at p rest h = grind (arith, nat_tests, common_steps, partial-le, take_rest, length-drop)
 
 pub ruleset marks_found = (marks_all)
 
 -- ---- the identifiers of the partials that are read are in normal form
 
-pub partial-normal : (loose : Bool) (text : List ℕ) (p : Partial) → IsPartial loose text p → are_normal p ≡ true
-partial-normal loose text p h = places-normal loose text p h.0
-
 -- the partial of a word that is read
-pub word-normal : (loose : Bool) (text : List ℕ) (w : Counted × List ℕ) → counted_word loose MAX_SAFE_INTEGER text ≡ Some w → some_normal w.0.1 ≡ true
-unfolding counted_word
-word-normal loose text w h = grind (arith, front-normal)
+signed-normal : (loose : Bool) (text : List ℕ) (w : Signed × List ℕ) → signed_word loose text ≡ Some w → are_normal w.0.1 ≡ true
+unfolding signed_word
+signed-normal loose text w h =
+    let s = npm_sign text in
+    let n = marks_len s.1 in
+    let p = bind_some (places_front loose (drop n s.1)) (λ p. ended_word loose s.0 s.1 n p) w h in
+    let t = cond_some (are_marks loose s.0 p.0.0 (take n s.1) && is_boundary p.0.1) ((s.0, p.0.0, take (length s.1 - length p.0.1) s.1), p.0.1) w p.2 in
+    rw (← t.1) (front-normal loose (drop n s.1) p.0 p.1)
+
+pub word-normal : (loose : Bool) (text : List ℕ) (w : Signed × List ℕ) → Some w ≡ first_as capped_in (signed_word loose text) → are_normal w.0.1 ≡ true
+word-normal loose text w h =
+    let v = front-as capped_in (signed_word loose text) w h in
+    ap (λ (x : Signed × List ℕ). are_normal x.0.1) v.2 ∙ normal-capped v.0.0.1 ∙ signed-normal loose text v.0 v.1
 
 -- ---- alternatives
 

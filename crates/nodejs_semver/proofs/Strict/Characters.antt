@@ -2,7 +2,7 @@
 use Rattle.nodejs_semver.proofs.Common.{Bool, Id, IsBlank, IsIdentifiers, List, Option, [], all_weaker, and_parts, append-nil, arith, common_steps}
 use Rattle.nodejs_semver.proofs.Common.{encode_utf8, encode_utf8_all, ends, get_or, is_ascii_digit, is_empty, is_identifier_char, is_whitespace}
 use Rattle.nodejs_semver.proofs.Common.{le-ltb, length, list_all, lt-ltb, nat_tests, not, pieces, refl, true, ℕ, ◌&&◌, ◌++◌, ◌-◌, ◌<◌, ◌==◌, ◌||◌}
-use Rattle.nodejs_semver.proofs.{Common.{◌∷◌, ◌≡◌, ◌≤◌}, NpmCommon.{IsPartial, IsPlace, IsSignText, IsStrictBuild, caret_equal, compared}}
+use Rattle.nodejs_semver.proofs.{Common.{◌∷◌, ◌≡◌, ◌≤◌}, NpmCommon.{IsPlaces, IsPlace, IsSignText, IsStrictBuild, caret_equal, compared}}
 use Rattle.nodejs_semver.proofs.NpmCommon.{encode_ascii, late_above, late_below, nat_le, no_sign, runs_tail, sign, spelling, tilde_twice}
 use Rattle.nodejs_semver.{proofs.Reading.Bytes.all-join, specs.Npm.{Grammar.IsPreRelease, RangeText.tilde_sign, Table.{Partial, Sign}}}
 use Rattle.{semver_core.{proofs.Text.Listed.plain_runs, specs.Internal.CommonReading.is_plain}, std.specs.Char.is_ascii_graphic}
@@ -30,7 +30,7 @@ pre-part loose wild fits p l h = grind (arith, nat_tests, common_steps, pieces-p
 build-part : (p : List ℕ) (l : List Id) → IsStrictBuild p l → list_all is_part p ≡ true
 build-part p l h = grind (arith, nat_tests, common_steps, pieces-part)
 
-pub partial-part : (loose : Bool) (x : List ℕ) (p : Partial) → IsPartial loose x p → list_all is_part x ≡ true
+pub partial-part : (loose : Bool) (x : List ℕ) (p : Partial) → IsPlaces loose x p → list_all is_part x ≡ true
 partial-part loose x p h = grind (arith, nat_tests, common_steps, all-join, build-part, place-part, pre-part)
 
 -- ---- the characters of whitespace and of signs

@@ -1,23 +1,26 @@
 -- Common texts: what the reader of these finds are alternatives of the text, and what their comparators have in common.
+use Rattle.nodejs_semver.proofs.NpmCommon.{IsPlaces, capped_partial, first_as, nat_le, place_front}
+use Rattle.nodejs_semver.proofs.Strict.{PartialLaw.front-as, Printed.{capped-same, table-invalid, valid-within}, VersionLaw.At}
+use Rattle.nodejs_semver.specs.Internal.NpmParts.{is_wildcard}
 use Rattle.nodejs_semver.proofs.{Algebra.Gate.both, Common.{AllByRecursion, Bool, Front, IfSome, IsBlank, IsRange, IsTrim, IsUtf8, List}}
 use Rattle.nodejs_semver.proofs.Common.{MAX_SAFE_INTEGER, None, Option, Some, Span, Unbounded, VersionValue, [], all_weaker, ap, append-nil}
-use Rattle.nodejs_semver.proofs.Common.{append_assoc, arith, begins, common_steps, cond_some, cut_bars, drop, encode_utf8, false, inl, inr, interval}
+use Rattle.nodejs_semver.proofs.Common.{append_assoc, arith, begins, bind_some, common_steps, cond_some, cut_bars, drop, encode_utf8, false, inl, inr, interval}
 use Rattle.nodejs_semver.proofs.Common.{is_empty, length, length-append, list_all, list_all-append, nat_tests, option_to_list, precedence, refl}
 use Rattle.nodejs_semver.proofs.Common.{release_value, subst, sym, take, trim, trim_is_middle, true, ℕ, ◌++◌, ◌-◌, ◌<◌, ◌∙◌, ◌∷◌, ◌≡◌, ◌≤◌, ◌⊎◌}
 use Rattle.nodejs_semver.proofs.{Dividing.{BarsDivide.bars_divide, MeaningLaw.pieces-utf8}, Everyday.Parts.{HasBars, bars-sound, behind-bars}}
 use Rattle.nodejs_semver.proofs.Everyday.{Texts.{compact-trim, cut-first, cut-last}, Words.{Compact, compact-spaced, is_part_byte}}
 use Rattle.nodejs_semver.proofs.NpmCommon.{AcceptAsRanged, AreAlternatives, AreRead, AreWords, BeginsWord, Comparison, IsRangeIn, IsSignText, IsWord}
-use Rattle.nodejs_semver.proofs.NpmCommon.{after_byte, are_marks, are_normal, begins_wildcard, bounds_view, comparators_of, counted_front}
-use Rattle.nodejs_semver.proofs.NpmCommon.{dotted_patch, dotted_place, is_lost, is_small, is_valid, limited, listed, no_sign, patch_place, spelling}
+use Rattle.nodejs_semver.proofs.NpmCommon.{after_byte, are_marks, are_normal, begins_wildcard, bounds_view, comparators_of}
+use Rattle.nodejs_semver.proofs.NpmCommon.{dotted_patch, dotted_place, is_lost, is_valid, limited, listed, no_sign, patch_place, spelling}
 use Rattle.nodejs_semver.proofs.{NpmCommon.{strict_number, within}, Reading.{Bytes.{all-end, all-join, solid-dark}, WordLaw.{blank-len, trim-utf8}}}
-use Rattle.nodejs_semver.proofs.Strict.{AlternativeLaw.partial-normal, Hyphens.{hyphen_none-strict, partial-le}, Ignored.no-blank, Characters.is_part}
-use Rattle.nodejs_semver.proofs.Strict.{Characters.partial-part, PartialLaw.{PartialAt, counted-some, front-text, number_placed, over_counted}}
-use Rattle.nodejs_semver.proofs.Strict.{PartialLaw.{partial-found, strict-counted, wildcard_placed}, RangeReads.{found_spans, ranged_range}}
+use Rattle.nodejs_semver.proofs.Strict.{Hyphens.{front-is, front-normal, hyphen_none-strict, normal-capped, places-normal}, Ignored.no-blank, Characters.is_part}
+use Rattle.nodejs_semver.proofs.Strict.{Characters.partial-part, PartialLaw.{front-text, number-read, over_qualified, places-found, wildcard_read}}
+use Rattle.nodejs_semver.proofs.Strict.{RangeReads.{found_spans, ranged_range}}
 use Rattle.nodejs_semver.proofs.Strict.{Rows.{both_common, narrowed}, Signs.blank-nil, Words.{places-some, strict-kept}, Zeros.strict-unpadded}
 use Rattle.nodejs_semver.{proofs.Strict.Zeros.strict-zeros, specs.Internal.{CommonFronts.after_bars, NpmAlternatives.ranged, NpmFronts.AreIn}}
 use Rattle.nodejs_semver.specs.Internal.NpmFronts.{AreJoined, AreParts, IsLeft, IsPartAt, IsSignAt, IsTried, IsWordAt, is_word_byte}
-use Rattle.nodejs_semver.specs.Internal.{NpmParts.{AreZeros, is_padded}, NpmReadings.dotted_number, NpmReads.AreFound, NpmWords.{any, is_over}}
-use Rattle.nodejs_semver.specs.{Internal.NpmWords.{number, partial_front, placed}, Npm.Table.{Partial, Sign, first, major, minor, table, whole}}
+use Rattle.nodejs_semver.specs.Internal.{NpmParts.{AreZeros, is_padded}, NpmReadings.dotted_number, NpmReads.AreFound, NpmWords.{is_over}}
+use Rattle.nodejs_semver.specs.{Internal.NpmWords.places_front, Npm.Table.{Partial, Sign, first, major, minor, table, whole}}
 use Rattle.nodejs_semver.specs.{Npm.Table.{wildcard, written_zeros, zeros}, Text.Common.IsGap}
 use Rattle.semver_core.specs.declared.scan.pieces.bounds.Bounds.{Bounds}
 use Rattle.semver_core.specs.Text.Characters.{BeginsBlank}
@@ -84,10 +87,14 @@ sign-at text rest s (inr e) = ([], e.0, rw e.1 no_sign, refl)
 no_marks : (s : Sign) (p : Partial) → are_marks false s p [] ≡ true
 no_marks s p = grind (arith, nat_tests, common_steps)
 
-module _ (text : List ℕ) (p : Partial) (rest : List ℕ) (h : Some (Some p, rest) ≡ counted_front false MAX_SAFE_INTEGER text) where
+limited-is : (o : Front Partial) (x : Partial × List ℕ) → Some x ≡ limited o → (o ≡ Some x) × (within (first x.0) ≡ true)
+limited-is None x h = cc h
+limited-is (Some p) x h = let t = cond_some (within (first p.0)) p x (sym h) in (ap (λ (q : Partial × List ℕ). Some q) t.1, rw t.1 at t.0)
+
+module _ (text : List ℕ) (p : Partial) (rest : List ℕ) (h : Some (p, rest) ≡ limited (places_front false text)) where
   -- the partial that is read at the front, and its text, as it is cut out
-  piece-at : PartialAt false text p rest
-  piece-at = grind (arith, nat_tests, common_steps, counted-some, cond_some, partial-found)
+  piece-at : At (IsPlaces false) text p rest
+  piece-at = places-found false text p rest (limited-is (places_front false text) (p, rest) h).0
 
   abbrev cut : List ℕ
   cut = take (length text - length rest) text
@@ -105,8 +112,8 @@ module _ (text : List ℕ) (p : Partial) (rest : List ℕ) (h : Some (Some p, re
         comparators = table include s p f.piece;
         split = g.1 ∙ ap (λ (t : List ℕ). g.0 ++ t) f.split ∙ sym (append_assoc g.0 f.piece rest);
         partial = f.piece;
-        is = Npm.word g.0 [] f.piece s p g.2 (no_marks s p) (grind arith) f.is.0;
-        some = omega (arith, length-append g.0 f.piece, places-some false f.piece p f.is.0);
+        is = Npm.word g.0 [] f.piece s p g.2 (no_marks s p) (grind arith) f.is;
+        some = omega (arith, length-append g.0 f.piece, places-some false f.piece p f.is);
         bytes = all-join is_word_byte g.0 f.piece g.3
             (all_weaker is_part is_word_byte (λ b k. grind (arith, nat_tests)) f.piece (partial-part false f.piece p f.is));
         are = rw piece-cut at are;
@@ -118,19 +125,13 @@ module _ (text : List ℕ) (p : Partial) (rest : List ℕ) (h : Some (Some p, re
   word-read include signed s (Some b) sign read = part-of_one include signed rest (bounds_view b) (word-found include signed s (bounds_view b) sign read)
 
   pub word-shorter : length rest ≤ length text
-  word-shorter = partial-le false MAX_SAFE_INTEGER text (Some p) rest h
+  word-shorter = omega (arith, ap length piece-at.split, length-append piece-at.piece rest)
 
   pub word-normal : are_normal p ≡ true
-  word-normal = partial-normal false piece-at.piece p piece-at.is
+  word-normal = places-normal false piece-at.piece p piece-at.is
 
   pub word-within : within (first p) ≡ true
-  word-within = small-within (limited-small MAX_SAFE_INTEGER (partial_front false text) (counted-some false MAX_SAFE_INTEGER text p rest h))
-    where
-      limited-small : (limit : ℕ) (o : Front Partial) → Some (p, rest) ≡ limited limit o → is_small limit p ≡ true
-      limited-small limit o h = grind (arith, nat_tests, common_steps, cond_some)
-
-      small-within : is_small MAX_SAFE_INTEGER p ≡ true → within (first p) ≡ true
-      small-within h = grind (arith, nat_tests, common_steps)
+  word-within = (limited-is (places_front false text) (p, rest) h).1
 
   -- so many numbers are written `0` as are 0
   pub word-zeros : (z : ℕ) → z ≡ zeros p → AreZeros p z cut
@@ -155,46 +156,81 @@ unfolding dotted_place dotted_patch
 no_place text h = grind arith
 
 wild_place : (b : ℕ) (rest : List ℕ) → begins_wildcard (b ∷ rest) ≡ true
-    → (placed MAX_SAFE_INTEGER (dotted_place false (46 ∷ (b ∷ rest))) ≡ Some (any, rest))
-    × (placed MAX_SAFE_INTEGER (dotted_patch false (46 ∷ (b ∷ rest))) ≡ Some (any, rest))
+    → (dotted_place false (46 ∷ (b ∷ rest)) ≡ Some (None, rest)) × (dotted_patch false (46 ∷ (b ∷ rest)) ≡ Some (None, rest))
 unfolding dotted_place dotted_patch patch_place
-wild_place b rest h = (wildcard_placed false (b ∷ rest) h, wildcard_placed false (b ∷ rest) h)
+wild_place b rest h = (wildcard_read false (b ∷ rest) h, wildcard_read false (b ∷ rest) h)
 
 number_place : (text : List ℕ) (n : ℕ) (rest : List ℕ) → Some (n, rest) ≡ dotted_number MAX_SAFE_INTEGER text
-    → (placed MAX_SAFE_INTEGER (dotted_place false text) ≡ Some (number n, rest))
-    × (placed MAX_SAFE_INTEGER (dotted_patch false text) ≡ Some (number n, rest))
+    → (dotted_place false text ≡ Some (Some n, rest)) × (dotted_patch false text ≡ Some (Some n, rest)) × (nat_le n MAX_SAFE_INTEGER ≡ true)
 unfolding dotted_number dotted_place dotted_patch patch_place
-number_place text n rest h = grind (arith, nat_tests, common_steps, after_byte, number_placed)
+number_place text n rest h =
+    let b = bind_some (after_byte 46 text) (λ t. strict_number MAX_SAFE_INTEGER t) (n, rest) (sym h) in
+    let v = number-read false b.0 n rest b.2 in (rw b.1 v.0, rw b.1 v.0, v.1)
 
 module _ (text : List ℕ) where
   abbrev Reads : Partial → List ℕ → Type 0
-  Reads p end = Some (Some p, end) ≡ counted_front false MAX_SAFE_INTEGER text
+  Reads p end = Some (p, end) ≡ limited (places_front false text)
 
   pub short-any : (end : List ℕ) → begins_wildcard text ≡ true → end ≡ drop 1 text → is_over end ≡ true → Reads wildcard end
-  short-any end h e over = strict-counted MAX_SAFE_INTEGER text _ (rw (wildcard_placed false text h, sym e, (no_place end over).0) refl)
+  unfolding places_front
+  short-any end h e over = rw (wildcard_read false text h, sym e, (no_place end over).0) refl
 
   module _ (a : ℕ) (one : List ℕ) (h : Some (a, one) ≡ strict_number MAX_SAFE_INTEGER text) where
+    read-one : (place_front false text ≡ Some (Some a, one)) × (nat_le a MAX_SAFE_INTEGER ≡ true)
+    read-one = number-read false text a one (sym h)
+
     pub short-one : (end : List ℕ) → IsLeft one end → Reads (major a) end
-    short-one end (over, inl e) = strict-counted MAX_SAFE_INTEGER text _ (rw (number_placed false text a one (sym h), e, (no_place end over).0) refl)
-    short-one end (over, inr (b, e, w)) =
-        strict-counted MAX_SAFE_INTEGER text _ (rw (number_placed false text a one (sym h), e, (wild_place b end w).0, (no_place end over).1) refl)
+    unfolding places_front
+    short-one end (over, inl e) = rw (read-one.0, e, (no_place end over).0, read-one.1) refl
+    short-one end (over, inr (b, e, w)) = rw (read-one.0, e, (wild_place b end w).0, (no_place end over).1, read-one.1) refl
 
     module _ (b : ℕ) (two : List ℕ) (k : Some (b, two) ≡ dotted_number MAX_SAFE_INTEGER one) where
       pub short-two : (end : List ℕ) → IsLeft two end → Reads (minor a b) end
-      short-two end (over, inl e) = strict-counted MAX_SAFE_INTEGER text _
-          (rw (number_placed false text a one (sym h), (number_place one b two k).0, e, (no_place end over).1) refl)
+      unfolding places_front
+      short-two end (over, inl e) =
+          let second = number_place one b two k in rw (read-one.0, second.0, e, (no_place end over).1, read-one.1, second.2) refl
       short-two end (over, inr (c, e, w)) =
-          let ends = over_counted false (number a) (number b) any end over in
-          let first = number_placed false text a one (sym h) in
-          strict-counted MAX_SAFE_INTEGER text _ (rw (first, (number_place one b two k).0, e, (wild_place c end w).1, ends) refl)
+          let second = number_place one b two k in
+          rw (read-one.0, second.0, e, (wild_place c end w).1, over_qualified false (Some a) (Some b) None end over, read-one.1, second.2) refl
 
       pub short-three : (c : ℕ) (end : List ℕ) → Some (c, end) ≡ dotted_number MAX_SAFE_INTEGER two → is_over end ≡ true
           → Reads (whole (release_value a b c)) end
-      unfolding listed
+      unfolding places_front listed
       short-three c end l over =
-          let ends = over_counted false (number a) (number b) (number c) end over in
-          let first = number_placed false text a one (sym h) in
-          strict-counted MAX_SAFE_INTEGER text _ (rw (first, (number_place one b two k).0, (number_place two c end l).1, ends) refl)
+          let second = number_place one b two k in
+          let third = number_place two c end l in
+          rw (read-one.0, second.0, third.1, over_qualified false (Some a) (Some b) (Some c) end over, read-one.1, second.2, third.2) refl
+
+-- ---- a word of any partial, which the code has with the limit + 1 in the place of greater numbers
+
+zeros-capped : (p : Partial) → zeros (capped_partial p) ≡ zeros p
+zeros-capped p = grind (arith, nat_tests)
+
+wild-capped : (p : Partial) → is_wildcard (capped_partial p) ≡ is_wildcard p
+wild-capped p = grind arith
+
+module _ (text : List ℕ) (include : Bool) (signed : List ℕ) (s : Sign) (sign : IsSignAt signed s text) (b : Bounds) (z : ℕ) where
+  abbrev Read : Partial × List ℕ → Type 0
+  Read x = let cut = take (length text - length x.1) text in
+      z ≡ zeros x.0 → (AreZeros x.0 z cut → AreRead include (table include s x.0 cut) (Some b)) → IsWordAt include signed (bounds_view b) x.1
+
+  past-read : (p : Partial) (rest : List ℕ) → places_front false text ≡ Some (p, rest) → Read (capped_partial p, rest)
+  past-read p rest h e read =
+      let f = places-found false text p rest h in
+      let cut = take (length text - length rest) text in
+      let cut_is : cut ≡ f.piece = front-is text f.piece rest f.split in
+      let good = read (λ w. e ∙ zeros-capped p ∙ rw cut_is (strict-zeros f.piece p f.is (sym (wild-capped p) ∙ w))) in
+      let small = valid-within (λ p. table include s p cut) (λ p. table-invalid include s p cut) p good.0 in
+      word-found text p rest (rw (h, small) refl) include signed s (bounds_view b) sign (rw (capped-same p small) at good)
+
+  pub word-capped : (p : Partial) (rest : List ℕ) → Some (p, rest) ≡ first_as capped_partial (places_front false text) → Read (p, rest)
+  word-capped p rest h =
+      let v = front-as capped_partial (places_front false text) (p, rest) h in subst Read (sym v.2) (past-read v.0.0 v.0.1 v.1)
+
+pub capped-normal : (text : List ℕ) (p : Partial) (rest : List ℕ) → Some (p, rest) ≡ first_as capped_partial (places_front false text) → are_normal p ≡ true
+capped-normal text p rest h =
+    let v = front-as capped_partial (places_front false text) (p, rest) h in
+    ap (λ (x : Partial × List ℕ). are_normal x.0) v.2 ∙ normal-capped v.0.0 ∙ front-normal false text v.0 v.1
 
 pub ruleset short_fronts = (short-one, short-two, short-three)
 

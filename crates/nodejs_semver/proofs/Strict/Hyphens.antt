@@ -1,21 +1,23 @@
 -- Hyphen ranges of node-semver's range texts: the functions that read them find exactly what the statement has, and the code those whose
 -- numbers that count are up to the limit.
+use Rattle.nodejs_semver.proofs.NpmCommon.{major, minor, wildcard}
+use Rattle.nodejs_semver.proofs.NpmCommon.{capped_in, capped_partial, first_as}
 use Rattle.nodejs_semver.proofs.{Bounds.Bounded.identifiers-normal, Common.{Bool, Id, IsUtf8, List, MAX_SAFE_INTEGER, None, Option, Some}}
 use Rattle.nodejs_semver.proofs.Common.{VersionValue, [], all_weaker, and_parts, ap, append_assoc, ap₂, arith, begins, bind_some, cases_Bool}
 use Rattle.nodejs_semver.proofs.Common.{common_steps, cond_some, drop, drop_at, drop_spaces, encode_utf8, encode_utf8_all, false, get_or}
 use Rattle.nodejs_semver.proofs.Common.{if◌then◌else◌, inl, inr, is_empty, is_whitespace, le-ltb, len_utf8_bounds, length, length-append, length-drop}
 use Rattle.nodejs_semver.proofs.Common.{length-encode, list_all, list_all-append, lt-ltb, nat_tests, not, prefix_len, refl, same_Some, space_len}
 use Rattle.nodejs_semver.proofs.Common.{space_len-nil, subst, suc, sym, take, true, zero, ℕ, ◌&&◌, ◌++◌, ◌+◌, ◌-◌, ◌<◌, ◌==◌, ◌||◌, ◌∙◌, ◌∷◌, ◌≡◌}
-use Rattle.nodejs_semver.proofs.{Common.◌≤◌, NpmCommon.{AreMarks, AreWords, Comparison, CountedEnd, Ended, IsEnd, IsHyphen, IsPlaces, IsStrictBuild}}
-use Rattle.nodejs_semver.proofs.NpmCommon.{IsWord, after_byte, after_ends, are_marks, are_normal, compared, is_free, are_whole_marks, counted_end, counted_front, counted_hyphen}
+use Rattle.nodejs_semver.proofs.{Common.◌≤◌, NpmCommon.{AreMarks, AreWords, Comparison, Ended, IsEnd, IsHyphen, IsPlaces, IsStrictBuild}}
+use Rattle.nodejs_semver.proofs.NpmCommon.{IsWord, after_byte, after_ends, are_marks, are_normal, compared, is_free, are_whole_marks}
 use Rattle.nodejs_semver.proofs.NpmCommon.{drop_ends, end_front, ended_as, hyphen_ends, hyphen_of, is_free_lower, is_free_upper, is_mark, is_right}
-use Rattle.nodejs_semver.proofs.NpmCommon.{is_right_end, is_short, is_short_word, is_small, is_valid, last_end, last_marks, len_utf8, lower_of}
+use Rattle.nodejs_semver.proofs.NpmCommon.{is_right_end, is_short, is_short_word, is_valid, last_end, last_marks, len_utf8, lower_of}
 use Rattle.nodejs_semver.proofs.{NpmCommon.{no_build, plus, upper_of, ◌>>?◌}, Reading.Bytes.{all-join, begins_component, is_component_byte, is_solid}}
 use Rattle.nodejs_semver.proofs.Reading.{PartialLaw.front-dark, WordLaw.{blank-len, boundary-of, boundary-utf8, byte-is, skips-of, skips-utf8}}
 use Rattle.nodejs_semver.proofs.{Reading.WordLaw.{some_space-is, tail-utf8}, Strict.{Characters.{is_signal, sign-signal}, PartialLaw.boundary-quiet}}
-use Rattle.nodejs_semver.proofs.Strict.{PartialLaw.{front-text, places-found, places-read}, Printed.{lower-invalid, upper-invalid}, Signs.marks-all}
-use Rattle.nodejs_semver.{proofs.Strict.{VersionLaw.empty-is, Words.{marks-dropped, places-begin}}, specs.Internal.NpmParts.some_normal}
-use Rattle.nodejs_semver.specs.Internal.{NpmReads.{hyphen_valid, valid_one}, NpmWords.{after_dash, end_len, places_front}, Words.after_some_space}
+use Rattle.nodejs_semver.proofs.Strict.{PartialLaw.{front-as, front-text, places-found, places-read}, Printed.{capped-valid, lower-invalid, upper-invalid, valid-same}, Signs.marks-all}
+use Rattle.nodejs_semver.proofs.Strict.{VersionLaw.empty-is, Words.{marks-dropped, places-begin}}
+use Rattle.nodejs_semver.specs.Internal.{NpmReads.{valid_one}, NpmWords.{after_dash, end_len, places_front}, Words.after_some_space}
 use Rattle.nodejs_semver.specs.{Npm.{Grammar.IsPreRelease, RangeText.{formed, ignored, more}, Table.{Partial, whole}}, Text.WordText.{SkipsBlank, equal}}
 use Rattle.semver_core.{proofs.Text.SpaceLaw.front_is_first_character, specs.{Printing.RoundTrip.is_normal, Text.Characters.BeginsBlank}}
 use Rattle.std.proofs.lemmas.List.{get_or-drop, get_or-reverse, Sums.{list_all-from_AllPass, prefix_len_passes, suffix_len-le-length}}
@@ -186,49 +188,45 @@ pub right-end : (loose : Bool) (changes : VersionValue → Bool) (text rest : Li
     → is_right loose (is_free changes) (ended_of loose text rest h) ≡ is_right_end loose changes h.partial h.marks h.places
 right-end loose changes text rest h = rw (short-places loose h.marks h.places h.partial h.is, free-marks changes h.partial h.marks) refl
 
--- ---- partials that are left out
+-- ---- the ends as the code has them
 
--- the partial is left out where its numbers that count are past the limit, or where it is too long
-abbrev pub counted_of : Bool → ℕ → Ended → CountedEnd
-counted_of loose limit e = (e.0, (if is_small limit e.1 && is_short_word loose e.2 then Some e.1 else None), e.2)
+-- comparators of which some are valid where others are, and then are these
+abbrev AreValidAs : List Comparison → List Comparison → Type 0
+AreValidAs k l = (list_all (is_valid MAX_SAFE_INTEGER) k ≡ list_all (is_valid MAX_SAFE_INTEGER) l) × (list_all (is_valid MAX_SAFE_INTEGER) k ≡ true → k ≡ l)
 
--- a partial behind marks is as short as without them
-pub short-piece : (loose : Bool) (marks text : List ℕ) (p : Partial × List ℕ) → list_all is_mark marks ≡ true → places_front loose text ≡ Some p
-    → let piece = take (length text - length p.1) text in is_short_word loose (marks ++ piece) ≡ is_short loose piece
-short-piece loose marks text p h k =
-    let f = places-found loose text p.0 p.1 k in
-    rw (front-is text f.piece p.1 f.split) (ap (is_short loose) (marks-dropped loose marks f.piece p.0 h f.is))
+joined-valid : (k l w u : List Comparison) → AreValidAs k l → AreValidAs w u → valid_one (false, k ++ w) ≡ valid_one (false, l ++ u)
+joined-valid k l w u e f = elim (cases_Bool (list_all (is_valid MAX_SAFE_INTEGER) k && list_all (is_valid MAX_SAFE_INTEGER) w)) [
+  | inl good ↦ (let p = and_parts _ _ good in rw (e.1 p.0, f.1 p.1) refl)
+  | inr bad ↦ rw (list_all-append (is_valid MAX_SAFE_INTEGER) k w, list_all-append (is_valid MAX_SAFE_INTEGER) l u, bad, ← e.0, ← f.0, bad) refl
+]
 
-end-counted : (loose : Bool) (limit : ℕ) (text : List ℕ) → counted_end loose limit text ≡ (end_front loose text >>? λ e. Some (counted_of loose limit e.0, e.1))
-unfolding counted_end end_front
-end-counted loose limit text = grind (arith, nat_tests, common_steps, short-piece, last-marks)
+free-capped : (include : Bool) (p : Partial)
+    → (is_free_lower (capped_partial p) ≡ is_free_lower p) × (is_free_upper include (capped_partial p) ≡ is_free_upper include p)
+free-capped include wildcard = (refl, refl)
+free-capped include (major M) = (refl, refl)
+free-capped include (minor M m) = (refl, refl)
+free-capped include (whole v) = (refl, refl)
 
-pub hyphen-counted : (loose : Bool) (limit : ℕ) (text : List ℕ)
-    → counted_hyphen loose limit text ≡ (hyphen_ends loose text >>? λ e. Some (counted_of loose limit e.0, counted_of loose limit e.1))
-unfolding hyphen_ends
-hyphen-counted loose limit text = grind (arith, nat_tests, common_steps, end-counted)
-
-end-right : (loose : Bool) (limit : ℕ) (free : Partial → Bool) (of : Ended → List Comparison) (e : Ended)
-    → ((counted_of loose limit e).1 >>? λ p. if loose || (free p || are_whole_marks e.0) then Some (of (e.0, p, e.2)) else None)
-    ≡ (if is_small limit e.1 && is_right loose free e then Some (of e) else None)
-end-right loose limit free of e = grind arith
-
--- the hyphen ranges of which an end is left out are not right, or not valid
-pub hyphen-valid : (loose include : Bool) (e : Ended × Ended)
-    → hyphen_valid loose include (counted_of loose MAX_SAFE_INTEGER e.0) (counted_of loose MAX_SAFE_INTEGER e.1) ≡ (hyphen_of loose include e >>? valid_one)
-hyphen-valid loose include e =
-    rw (end-right loose MAX_SAFE_INTEGER is_free_lower (lower_of include) e.0, end-right loose MAX_SAFE_INTEGER (is_free_upper include) (upper_of include) e.1)
-    (both (is_small MAX_SAFE_INTEGER e.0.1) (is_right loose is_free_lower e.0) (is_small MAX_SAFE_INTEGER e.1.1) (is_right loose (is_free_upper include) e.1)
-    (lower_of include e.0) (upper_of include e.1) (lower-invalid MAX_SAFE_INTEGER _ include e.0.1 e.0.2)
-    (upper-invalid MAX_SAFE_INTEGER _ include e.1.1 e.1.2))
+-- of a number past the limit only that it is past it counts: such a range is right, and valid, as with the limit + 1 in its place
+pub hyphen-capped : (loose include : Bool) (a b : Ended)
+    → (hyphen_of loose include (capped_in a, capped_in b) >>? valid_one) ≡ (hyphen_of loose include (a, b) >>? valid_one)
+hyphen-capped loose include a b =
+    let lower : Partial → List Comparison = λ p. lower_of include (a.0, p, a.2) in
+    let upper : Partial → List Comparison = λ p. upper_of include (b.0, p, b.2) in
+    let low : AreValidAs (lower (capped_partial a.1)) (lower a.1) =
+    (capped-valid lower (λ p. lower-invalid _ include p a.2) a.1, λ h. ap lower (valid-same lower (λ p. lower-invalid _ include p a.2) a.1 h)) in
+    let up : AreValidAs (upper (capped_partial b.1)) (upper b.1) =
+    (capped-valid upper (λ p. upper-invalid _ include p b.2) b.1, λ h. ap upper (valid-same upper (λ p. upper-invalid _ include p b.2) b.1 h)) in
+    rw ((free-capped include a.1).0, (free-capped include b.1).1)
+    (when (is_right loose is_free_lower a && is_right loose (is_free_upper include) b) _ _ (joined-valid _ _ _ _ low up))
   where
-    both : (a b c d : Bool) (cs ds : List Comparison) → (a ≡ false → list_all (is_valid MAX_SAFE_INTEGER) cs ≡ false)
-        → (c ≡ false → list_all (is_valid MAX_SAFE_INTEGER) ds ≡ false)
-        → ((if a && b then Some cs else None) >>? λ cs. (if c && d then Some ds else None) >>? λ ds. valid_one (false, cs ++ ds))
-        ≡ ((if b && d then Some (false, cs ++ ds) else None) >>? valid_one)
-    both a b c d cs ds f g = grind (arith, f, g, list_all-append (is_valid MAX_SAFE_INTEGER) cs ds)
+    when : (r : Bool) (x y : Bool × List Comparison) → valid_one x ≡ valid_one y
+        → ((if r then Some x else None) >>? valid_one) ≡ ((if r then Some y else None) >>? valid_one)
+    when true x y h = h
+    when false x y h = refl
 
--- the identifiers of the others are in normal form
+-- ---- the identifiers are in normal form
+
 pre-normal : (loose wild : Bool) (fits : List ℕ → Bool) (text : List ℕ) (ids : List Id) → IsPreRelease loose wild fits text ids → list_all is_normal ids ≡ true
 pre-normal loose wild fits text ids h = grind (arith, nat_tests, common_steps, identifiers-normal)
 
@@ -245,20 +243,60 @@ front-normal loose text p h = let f = places-found loose text p.0 p.1 h in place
 front-le : (loose : Bool) (text : List ℕ) (p : Partial × List ℕ) → places_front loose text ≡ Some p → length p.1 ≤ length text
 front-le loose text p h = let f = places-found loose text p.0 p.1 h in omega (arith, ap length f.split, length-append f.piece p.1)
 
-end-normal : (loose : Bool) (limit : ℕ) (text : List ℕ) (e : CountedEnd × List ℕ) → counted_end loose limit text ≡ Some e → some_normal e.0.1 ≡ true
-unfolding counted_end
-end-normal loose limit text e h = grind (arith, nat_tests, common_steps, front-normal)
+pub normal-capped : (p : Partial) → are_normal (capped_partial p) ≡ are_normal p
+normal-capped wildcard = refl
+normal-capped (major M) = refl
+normal-capped (minor M m) = refl
+normal-capped (whole v) = refl
 
-pub hyphen-normal : (loose : Bool) (limit : ℕ) (text : List ℕ) (e : CountedEnd × CountedEnd) → counted_hyphen loose limit text ≡ Some e
-    → (some_normal e.0.1 ≡ true) × (some_normal e.1.1 ≡ true)
-hyphen-normal loose limit text e h = grind (arith, end-normal)
+end-normal : (loose : Bool) (text : List ℕ) (e : Ended × List ℕ) → end_front loose text ≡ Some e → are_normal e.0.1 ≡ true
+unfolding end_front
+end-normal loose text e h = grind (arith, nat_tests, common_steps, front-normal)
+
+pub hyphen-normal : (loose : Bool) (text : List ℕ) (e : Ended × Ended) → hyphen_ends loose text ≡ Some e
+    → (are_normal (capped_partial e.0.1) ≡ true) × (are_normal (capped_partial e.1.1) ≡ true)
+unfolding hyphen_ends
+hyphen-normal loose text e h =
+    let n : (are_normal e.0.1 ≡ true) × (are_normal e.1.1 ≡ true) = grind (arith, end-normal) in
+    (normal-capped e.0.1 ∙ n.0, normal-capped e.1.1 ∙ n.1)
 
 -- ---- readers
 
+abbrev pub both_capped : Option (Ended × Ended) → Option (Ended × Ended)
+both_capped o = o >>? λ e. Some (capped_in e.0, capped_in e.1)
+
+abbrev one_capped : Option Ended → Option Ended
+one_capped o = o >>? λ e. Some (capped_in e)
+
+abbrev with : Ended → Option Ended → Option (Ended × Ended)
+with a o = o >>? λ b. Some (a, b)
+
+-- the ends of what is a hyphen range where the lower one was read
+ends-from : (loose : Bool) (text : List ℕ) (v : Ended × List ℕ) → end_front loose text ≡ Some v
+    → with (capped_in v.0) (after_dash v.1 >>? λ second. one_capped (last_end loose second)) ≡ both_capped (hyphen_ends loose text)
+unfolding hyphen_ends
+ends-from loose text v e = rw e (go v.0 (after_dash v.1))
+  where
+    last : (a : Ended) (o : Option Ended) → with (capped_in a) (one_capped o) ≡ both_capped (with a o)
+    last a None = refl
+    last a (Some b) = refl
+
+    go : (a : Ended) (o : Option (List ℕ))
+        → with (capped_in a) (o >>? λ second. one_capped (last_end loose second)) ≡ both_capped (o >>? λ second. with a (last_end loose second))
+    go a None = refl
+    go a (Some second) = last a (last_end loose second)
+
+pub ends-capped : (loose : Bool) (text : List ℕ) (x : Ended × List ℕ) (o : Option Ended) → Some x ≡ first_as capped_in (end_front loose text)
+    → o ≡ (after_dash x.1 >>? λ second. one_capped (last_end loose second)) → with x.0 o ≡ both_capped (hyphen_ends loose text)
+ends-capped loose text x o read h =
+    let v = front-as capped_in (end_front loose text) x read in
+    rw h (subst (λ (x : Ended × List ℕ). with x.0 (after_dash x.1 >>? λ second. one_capped (last_end loose second)) ≡ both_capped (hyphen_ends loose text))
+    (sym v.2) (ends-from loose text v.0 v.1))
+
 -- what stands behind a partial is no longer than the text
-pub partial-le : (loose : Bool) (limit : ℕ) (text : List ℕ) (p : Option Partial) (rest : List ℕ) → Some (p, rest) ≡ counted_front loose limit text
+pub partial-le : (loose : Bool) (text : List ℕ) (p : Partial) (rest : List ℕ) → Some (p, rest) ≡ first_as capped_partial (places_front loose text)
     → length rest ≤ length text
-partial-le loose limit text p rest h = grind (arith, nat_tests, common_steps, front-le)
+partial-le loose text p rest h = grind (arith, nat_tests, common_steps, front-le)
 
 -- ---- strictly no words are a hyphen range
 

@@ -1,19 +1,21 @@
--- Places and partial versions of node-semver's range texts: what is read is written, and what is written is read; also by the code, which passes over
--- numbers past the limit where none counts.
+-- Places and partial versions of node-semver's range texts: what is read is written, and what is written is read; also by the code, which has each number
+-- past the limit as the limit + 1.
+use Rattle.nodejs_semver.proofs.NpmCommon.{capped_partial}
+use Rattle.nodejs_semver.proofs.NpmCommon.{capped_one, first_as}
 use Rattle.nodejs_semver.proofs.Common.{◌||◌, ap, same_Some, sym, Bool, Front, Id, IsNumber, List, MAX_SAFE_INTEGER, None, Option, Some, [], and-false, and_parts, append-nil}
 use Rattle.nodejs_semver.proofs.Common.{append_assoc, arith, begins, bind_some, cases_Bool, common_steps, drop, drop_at, false, if◌then◌else◌, inl}
 use Rattle.nodejs_semver.proofs.Common.{inr, is_ascii_digit, is_boundary, is_empty, length, length-append, list_all, nat_tests, not, prefix_len, refl}
 use Rattle.nodejs_semver.proofs.Common.{subst, suc, take, take-append-drop, take_at, take_rest, true, zero, ℕ, ◌&&◌, ◌++◌, ◌+◌, ◌-◌, ◌<◌, ◌∙◌, ◌∷◌}
-use Rattle.nodejs_semver.proofs.{Common.{◌≡◌, ◌≤◌}, NpmCommon.{IsPartial, IsPlace, IsPlaces, IsStrictBuild, begins_byte, begins_padded}}
-use Rattle.nodejs_semver.proofs.NpmCommon.{begins_wildcard, build_front, counted_front, dashed_front, dotted_patch, dotted_place, drop-append-add}
-use Rattle.nodejs_semver.proofs.NpmCommon.{digits_value, has_leading_zero, is_none, is_short, is_small, is_spelled, length-prefix_len, limited, listed, may_stand, nat_le}
+use Rattle.nodejs_semver.proofs.{Common.{◌≡◌, ◌≤◌}, NpmCommon.{IsPlace, IsPlaces, IsStrictBuild, begins_byte, begins_padded}}
+use Rattle.nodejs_semver.proofs.NpmCommon.{begins_wildcard, build_front, dashed_front, dotted_patch, dotted_place, drop-append-add}
+use Rattle.nodejs_semver.proofs.NpmCommon.{digits_value, has_leading_zero, is_none, is_spelled, length-prefix_len, listed, may_stand, nat_le}
 use Rattle.nodejs_semver.proofs.NpmCommon.{number_front, number_of, one, partial_of, patch_place, place_front, pre_front, qualified_partial}
 use Rattle.nodejs_semver.proofs.{NpmCommon.{run_place, strict_number, take_while, three, two, ◌>>?◌}, Reading.Bytes.{is_solid, solid-dark}}
 use Rattle.nodejs_semver.proofs.Reading.{Numbers.{digits-taken, number-found, number-is, number-no_wildcard}, Steps.option-cases}
 use Rattle.nodejs_semver.proofs.Strict.VersionLaw.{At, Ends, Follows, build-ends, build-found, build-taken, dotted-found, number-short, padded-same}
-use Rattle.nodejs_semver.{proofs.Strict.VersionLaw.{pre-follows, pre-found, pre-taken, strict_is}, specs.Internal.NpmWords.{Place, any}}
-use Rattle.nodejs_semver.specs.Internal.NpmWords.{are_short_builds, counted, counted_places, great, is_any, is_over, number, partial_front, place_of}
-use Rattle.nodejs_semver.specs.{Internal.NpmWords.{placed, places_front, qualified_counted}, Npm.{Grammar.IsPreRelease, Table.Partial}}
+use Rattle.nodejs_semver.{proofs.Strict.VersionLaw.{pre-follows, pre-found, pre-taken, strict_is}}
+use Rattle.nodejs_semver.specs.Internal.NpmWords.{are_short_builds, is_over, third_front}
+use Rattle.nodejs_semver.specs.{Internal.NpmWords.{places_front}, Npm.{Grammar.IsPreRelease, Table.Partial}}
 use Rattle.std.proofs.lemmas.List.Sums.{prefix_len-drop_all, prefix_len-drop_no, prefix_len-drop_yes}
 use Rattle.nodejs_semver.specs.Npm.Partials as Text
 
@@ -165,11 +167,6 @@ places-read loose x more p (three x1 y z pre build a b c ids builds h k l m n t)
     let third = third-read loose (may_stand loose) z pre (build ++ more) c ids l m (build-ends build more builds n quiet) in
     grind (arith, append_assoc, place-read)
 
-pub partial-read : (loose : Bool) (x more : List ℕ) (p : Partial) → IsPartial loose x p → begins is_solid more ≡ false
-    → partial_front loose (x ++ more) ≡ Some (p, more)
-unfolding partial_front
-partial-read loose x more p h quiet = rw (places-read loose x more p h.0 quiet, front-text x more, h.1) refl
-
 -- ---- what is read is written
 
 -- what was found, and what was asked for
@@ -226,125 +223,133 @@ places-found loose text p rest h =
           ]
     ]
 
-abbrev pub PartialAt : Bool → List ℕ → Partial → List ℕ → Type 0
-PartialAt loose = At (IsPartial loose)
+-- ---- places as the code has them
 
-pub partial-found : (loose : Bool) (text : List ℕ) (p : Partial) (rest : List ℕ) → partial_front loose text ≡ Some (p, rest)
-    → PartialAt loose text p rest
-unfolding partial_front
-partial-found loose text p rest h =
-    let k : places_front loose text ≡ Some (p, rest) = grind (arith, nat_tests, common_steps) in
-    let f = places-found loose text p rest k in
-    let short : is_short loose f.piece ≡ true = grind (arith, nat_tests, common_steps, front-text) in
-    record { piece = f.piece; split = f.split; is = (f.is, short) }
-
--- ---- places
-
-pub placed_is : (loose : Bool) (text : List ℕ) → begins_wildcard text ≡ false → placed MAX_SAFE_INTEGER (place_front loose text)
-    ≡ placed MAX_SAFE_INTEGER (run_place loose (take_while is_ascii_digit text) (drop (prefix_len is_ascii_digit text) text))
+-- of a text that begins with no wildcard
+pub place_run : (loose : Bool) (text : List ℕ) → begins_wildcard text ≡ false
+    → place_front loose text ≡ run_place loose (take_while is_ascii_digit text) (drop (prefix_len is_ascii_digit text) text)
 unfolding place_front
-placed_is loose text h = rw h refl
+place_run loose text h = rw h refl
 
 pub run-leading : (text : List ℕ) → has_leading_zero (take_while is_ascii_digit text) ≡ begins_padded text
 run-leading text = grind (arith, nat_tests, common_steps)
 
 -- a number up to the limit
-pub valued_placed : (loose : Bool) (text : List ℕ) (n : ℕ) (rest : List ℕ) → number_front MAX_SAFE_INTEGER text ≡ Some (n, rest)
+number-valued : (loose : Bool) (text : List ℕ) (n : ℕ) (rest : List ℕ) → number_front MAX_SAFE_INTEGER text ≡ Some (n, rest)
     → (not loose && begins_padded text) ≡ false → (loose || nat_le (prefix_len is_ascii_digit text) 257) ≡ true
-    → placed MAX_SAFE_INTEGER (place_front loose text) ≡ Some (number n, rest)
-valued_placed loose text n rest h spelled short =
+    → (place_front loose text ≡ Some (Some n, rest)) × (nat_le n MAX_SAFE_INTEGER ≡ true)
+number-valued loose text n rest h spelled short =
     let f = number-found MAX_SAFE_INTEGER text n rest h in
     let same : IsNumber n f.run n = record { some = f.is.some; each = f.is.each; value = f.is.value; safe = omega arith } in
     let few : (loose || nat_le (length f.run) 257) ≡ true = grind (arith, digits-taken) in
     let place : IsPlace loose f.run (Some n) = Text.number f.run n same (grind (arith, nat_tests, padded-same)) few in
-    grind (arith, nat_tests, common_steps, place-read)
+    (grind (arith, nat_tests, common_steps, place-read), grind (arith, nat_tests, f.is.safe))
 
-pub number_placed : (loose : Bool) (text : List ℕ) (n : ℕ) (rest : List ℕ) → strict_number MAX_SAFE_INTEGER text ≡ Some (n, rest)
-    → placed MAX_SAFE_INTEGER (place_front loose text) ≡ Some (number n, rest)
-number_placed loose text n rest h =
+pub valued_placed : (loose : Bool) (text : List ℕ) (n : ℕ) (rest : List ℕ) → number_front MAX_SAFE_INTEGER text ≡ Some (n, rest)
+    → (not loose && begins_padded text) ≡ false → (loose || nat_le (prefix_len is_ascii_digit text) 257) ≡ true
+    → first_as capped_one (place_front loose text) ≡ Some (Some n, rest)
+valued_placed loose text n rest h spelled short = let v = number-valued loose text n rest h spelled short in rw (v.0, v.1) refl
+
+-- without leading zeros
+pub number-read : (loose : Bool) (text : List ℕ) (n : ℕ) (rest : List ℕ) → strict_number MAX_SAFE_INTEGER text ≡ Some (n, rest)
+    → (place_front loose text ≡ Some (Some n, rest)) × (nat_le n MAX_SAFE_INTEGER ≡ true)
+number-read loose text n rest h =
     let bare : begins_padded text ≡ false = grind (arith, strict_is) in
     let k : number_front MAX_SAFE_INTEGER text ≡ Some (n, rest) = grind (arith, strict_is) in
     let run = take_while is_ascii_digit text in
     let i = number-is MAX_SAFE_INTEGER run n (grind arith) in
     let short = number-short run n (i, run-leading text ∙ bare) in
-    valued_placed loose text n rest k (rw bare (and-false (not loose))) (grind (arith, nat_tests, short, length-prefix_len is_ascii_digit text))
+    number-valued loose text n rest k (rw bare (and-false (not loose))) (grind (arith, nat_tests, short, length-prefix_len is_ascii_digit text))
 
-pub wildcard_placed : (loose : Bool) (text : List ℕ) → begins_wildcard text ≡ true
-    → placed MAX_SAFE_INTEGER (place_front loose text) ≡ Some (any, drop 1 text)
+pub number_placed : (loose : Bool) (text : List ℕ) (n : ℕ) (rest : List ℕ) → strict_number MAX_SAFE_INTEGER text ≡ Some (n, rest)
+    → first_as capped_one (place_front loose text) ≡ Some (Some n, rest)
+number_placed loose text n rest h = let v = number-read loose text n rest h in rw (v.0, v.1) refl
+
+pub wildcard_read : (loose : Bool) (text : List ℕ) → begins_wildcard text ≡ true → place_front loose text ≡ Some (None, drop 1 text)
 unfolding place_front
-wildcard_placed loose text h = rw h refl
+wildcard_read loose text h = rw h refl
 
 pub great_placed : (loose : Bool) (text : List ℕ) (at : ℕ) → number_front MAX_SAFE_INTEGER text ≡ None → begins_wildcard text ≡ false
     → (not loose && begins_padded text) ≡ false → at ≡ prefix_len is_ascii_digit text → 1 ≤ at → (loose || nat_le at 257) ≡ true
-    → placed MAX_SAFE_INTEGER (place_front loose text) ≡ Some (great, take (length text - at) (drop at text))
+    → first_as capped_one (place_front loose text) ≡ Some (Some (MAX_SAFE_INTEGER + 1), take (length text - at) (drop at text))
 unfolding number_of
 great_placed loose text at front dark bare is first last =
-    grind (arith, nat_tests, common_steps, placed_is, run-leading, length-prefix_len, prefix-all, some-run, take_rest)
+    grind (arith, nat_tests, common_steps, place_run, run-leading, length-prefix_len, prefix-all, some-run, take_rest)
 
-pub ruleset places_found = (number_placed, wildcard_placed)
+pub ruleset places_found = (number_placed, wildcard_read)
 
-pub ruleset no_places = (placed_is, length-prefix_len, nat_tests)
+pub ruleset no_places = (place_run, length-prefix_len, nat_tests)
 
-pub ruleset padded_places = (valued_placed, strict_is, run-leading, placed_is, length-prefix_len, nat_tests)
+pub ruleset padded_places = (valued_placed, strict_is, run-leading, place_run, length-prefix_len, nat_tests)
 
 -- ---- the third place
 
 pub patch_whole : (loose : Bool) (text : List ℕ) (at : ℕ) → at ≡ prefix_len is_ascii_digit text
-    → (loose && begins_byte 46 (drop at text)) ≡ false
-    → placed MAX_SAFE_INTEGER (place_front loose text) ≡ placed MAX_SAFE_INTEGER (patch_place loose text)
+    → (loose && begins_byte 46 (drop at text)) ≡ false → place_front loose text ≡ patch_place loose text
 unfolding patch_place
 patch_whole loose text at e h = rw (rw e at h) refl
 
-run-alone : (limit : ℕ) (loose : Bool) (run rest : List ℕ) → list_all is_ascii_digit run ≡ true
-    → placed limit (run_place loose run rest) ≡ (placed limit (place_front loose run) >>? λ p. Some (p.0, rest))
+run-alone : (loose : Bool) (run rest : List ℕ) → list_all is_ascii_digit run ≡ true
+    → run_place loose run rest ≡ (place_front loose run >>? λ p. Some (p.0, rest))
 unfolding place_front
-run-alone limit loose run rest h =
+run-alone loose run rest h =
     let n : prefix_len is_ascii_digit run ≡ length run = rw append-nil at (digits-taken run [] h refl) in
     grind (arith, nat_tests, common_steps)
 
 -- the last digit is not its own
-pub patch_cut : (loose : Bool) (text : List ℕ) (at own : ℕ) (o : Front Place) → at ≡ prefix_len is_ascii_digit text
-    → (loose && begins_byte 46 (drop at text)) ≡ true → own ≡ at - 1
-    → o ≡ placed MAX_SAFE_INTEGER (place_front loose (take own text))
-    → (o >>? λ p. Some (p.0, take (length text - own) (drop own text))) ≡ placed MAX_SAFE_INTEGER (patch_place loose text)
+pub patch_cut : (loose : Bool) (text : List ℕ) (at own : ℕ) (o : Front (Option ℕ)) → at ≡ prefix_len is_ascii_digit text
+    → (loose && begins_byte 46 (drop at text)) ≡ true → own ≡ at - 1 → o ≡ first_as capped_one (place_front loose (take own text))
+    → (o >>? λ p. Some (p.0, take (length text - own) (drop own text))) ≡ first_as capped_one (patch_place loose text)
 unfolding patch_place
 patch_cut loose text at own o e h less is = grind (arith, nat_tests, common_steps, digits-of, run-alone, take_rest)
 
--- ---- partial versions
+-- ---- partial versions as the code has them
 
--- what was found, with the partial only where its numbers that count are up to the limit
-abbrev small_only : ℕ → Front Partial → Front (Option Partial)
-small_only limit o = o >>? λ p. Some (if is_small limit p.0 then Some p.0 else None, p.1)
+-- what the code has at the front is of what stands there
+pub front-as : {A : Type 0} (f : A → A) (o : Front A) (x : A × List ℕ) → Some x ≡ first_as f o → (v : A × List ℕ) × (o ≡ Some v) × (x ≡ (f v.0, v.1))
+front-as f None x h = cc h
+front-as f (Some v) x h = (v, refl, same_Some _ _ h)
 
-qualified-limited : (loose : Bool) (limit : ℕ) (a b c : Option ℕ) (text : List ℕ)
-    → qualified_counted loose (place_of limit a) (place_of limit b) (place_of limit c) text ≡ small_only limit (qualified_partial loose a b c text)
-unfolding qualified_counted qualified_partial
-qualified-limited loose limit a b c text =
-    let any : is_any (place_of limit c) ≡ is_none c = grind (arith, nat_tests, common_steps) in
-    rw any grind (arith, nat_tests, common_steps)
+pub front-none : {A : Type 0} (f : A → A) (o : Front A) → None ≡ first_as f o → o ≡ None
+front-none f None h = refl
+front-none f (Some v) h = cc h
 
-places-limited : (loose : Bool) (limit : ℕ) (text : List ℕ) → counted_places loose limit text ≡ small_only limit (places_front loose text)
-unfolding places_front
-places-limited loose limit text = grind (arith, nat_tests, common_steps, qualified-limited)
+pub front-some : {A : Type 0} (f : A → A) (o : Front A) → is_none (first_as f o) ≡ is_none o
+front-some f None = refl
+front-some f (Some v) = refl
 
--- the partial of the places at the front, unless it is too long
-pub front_counted : (loose : Bool) (limit : ℕ) (text : List ℕ) (o : Front (Option Partial)) → o ≡ counted_places loose limit text
-    → (o >>? λ p. Some (if is_short loose (take (length text - length p.1) text) then p.0 else None, p.1)) ≡ counted_front loose limit text
-front_counted loose limit text o h = grind (arith, nat_tests, common_steps, places-limited)
+of-capped : (a b c : Option ℕ) (l m : List Id)
+    → partial_of (capped_one a) (capped_one b) (capped_one c) l m ≡ capped_partial (partial_of a b c l m)
+of-capped a b c l m = grind (arith, nat_tests, common_steps)
 
--- strictly none is
-pub strict-counted : (limit : ℕ) (text : List ℕ) (o : Front (Option Partial)) → o ≡ counted_places false limit text
-    → o ≡ counted_front false limit text
-strict-counted limit text o h = grind (arith, nat_tests, common_steps, places-limited)
+qualified-capped : (loose : Bool) (a b c : Option ℕ) (text : List ℕ)
+    → qualified_partial loose (capped_one a) (capped_one b) (capped_one c) text ≡ first_as capped_partial (qualified_partial loose a b c text)
+unfolding qualified_partial
+qualified-capped loose a b c text =
+    let wild : is_none (capped_one c) ≡ is_none c = grind arith in
+    rw wild (grind (arith, nat_tests, common_steps, of-capped))
 
-pub counted-some : (loose : Bool) (limit : ℕ) (text : List ℕ) (p : Partial) (rest : List ℕ) → Some (Some p, rest) ≡ counted_front loose limit text
-    → Some (p, rest) ≡ limited limit (partial_front loose text)
-unfolding partial_front
-counted-some loose limit text p rest h = grind (arith, nat_tests, common_steps)
+-- the partial of no place, of one, and of more
+module _ (loose : Bool) (text : List ℕ) where
+  pub none-capped : None ≡ first_as capped_one (place_front loose text) → None ≡ first_as capped_partial (places_front loose text)
+  unfolding places_front
+  none-capped h = grind (arith, common_steps)
+
+  pub one-capped : (a : Option ℕ) (rest : List ℕ) → Some (a, rest) ≡ first_as capped_one (place_front loose text)
+      → None ≡ first_as capped_one (dotted_place loose rest)
+      → Some (partial_of a None None [] [], rest) ≡ first_as capped_partial (places_front loose text)
+  unfolding places_front
+  one-capped a rest h k = grind (arith, nat_tests, common_steps, of-capped)
+
+  pub more-capped : (a : Option ℕ) (rest : List ℕ) (b : Option ℕ) (more : List ℕ) → Some (a, rest) ≡ first_as capped_one (place_front loose text)
+      → Some (b, more) ≡ first_as capped_one (dotted_place loose rest)
+      → third_front loose a b more (first_as capped_one (dotted_patch loose more)) ≡ first_as capped_partial (places_front loose text)
+  unfolding places_front
+  more-capped a rest b more h k = grind (arith, nat_tests, common_steps, of-capped, qualified-capped)
 
 -- ---- nothing stands behind the numbers
 
-pub over_counted : (loose : Bool) (a b c : Place) (text : List ℕ) → is_over text ≡ true
-    → qualified_counted loose a b c text ≡ Some (counted a b c (listed []) (listed []), text)
-unfolding qualified_counted pre_front dashed_front build_front
-over_counted loose a b c text h = grind (arith, nat_tests, common_steps)
+pub over_qualified : (loose : Bool) (a b c : Option ℕ) (text : List ℕ) → is_over text ≡ true
+    → qualified_partial loose a b c text ≡ Some (partial_of a b c (listed []) (listed []), text)
+unfolding qualified_partial pre_front dashed_front build_front
+over_qualified loose a b c text h = grind (arith, nat_tests, common_steps)

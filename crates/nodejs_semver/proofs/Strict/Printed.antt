@@ -1,12 +1,15 @@
 -- How versions print: how long, and which one prints `0.0.0`; which words have a comparator that is not valid; and that what is
 -- printed is read again.
+use Rattle.nodejs_semver.proofs.NpmCommon.{at_least, compared, major, minor, wildcard}
+use Rattle.nodejs_semver.specs.Internal.NpmWords.{capped}
+use Rattle.nodejs_semver.proofs.NpmCommon.{Comparison}
 use Rattle.nodejs_semver.proofs.Common.{Bool, Comparator, Id, IsTrim, IsUtf8, List, MAX_SAFE_INTEGER, VersionValue, [], and_parts, ap, append-nil}
 use Rattle.nodejs_semver.proofs.Common.{arith, cases_Bool, codes, common_steps, decimal, empty_is, encode_utf8_all, eqb-true, false, identifier_of}
 use Rattle.nodejs_semver.proofs.Common.{inl, inr, is_ascii_digit, is_identifier, is_identifier_char, is_release, length, length-append, list_all, map}
 use Rattle.nodejs_semver.proofs.Common.{nat_tests, pieces, refl, subst, sym, true, ℕ, ◌&&◌, ◌++◌, ◌+◌, ◌<◌, ◌==◌, ◌^◌, ◌||◌, ◌∙◌, ◌∷◌, ◌≡◌, ◌≤◌}
 use Rattle.nodejs_semver.proofs.NpmCommon.{IsStrictPreRelease, IsStrictVersion, IsVersionText, MAX_LENGTH, Numbers, bare, both_ways, bytes_eq}
 use Rattle.nodejs_semver.proofs.NpmCommon.{bytes_eq-Decides, chars, chars_from_encodes, dashed, first, from, hyphen_lower, hyphen_upper, id_text}
-use Rattle.nodejs_semver.proofs.NpmCommon.{is_small, is_strict_identifier, is_valid, is_zero, join_with_byte, marked_list, nat_le, no_build}
+use Rattle.nodejs_semver.proofs.NpmCommon.{capped_partial, is_strict_identifier, is_valid, is_zero, join_with_byte, marked_list, nat_le, no_build}
 use Rattle.nodejs_semver.proofs.{NpmCommon.{no_pre_release, release, under, version_text, whole, within}, NpmFlaws.Read.{plain-encodes, plain-middle}}
 use Rattle.nodejs_semver.{proofs.{NpmFlaws.Read.plain-trim, Strict.VersionLaw.{digits_printed, number_printed}}, specs.Npm.Table.{Partial, Sign}}
 use Rattle.{nodejs_semver.specs.Npm.{Table.{lowest, table}, Grammar.written}, semver_core.proofs.Printing.Returns.{decimal_digits, decimal_some}}
@@ -72,28 +75,61 @@ under_valid n = valid_if (within n) _ (lowest_short n)
 
 -- ---- the table
 
-past-next : (limit n : ℕ) → nat_le n limit ≡ false → nat_le (n + 1) limit ≡ false
-past-next limit n h = grind (arith, nat_tests)
+past-next : (n : ℕ) → nat_le n MAX_SAFE_INTEGER ≡ false → nat_le (n + 1) MAX_SAFE_INTEGER ≡ false
+past-next n h = grind (arith, nat_tests)
 
-pub table-invalid : (limit : ℕ) (include : Bool) (s : Sign) (p : Partial) (text : List ℕ) → is_small limit p ≡ false
-    → list_all (is_valid limit) (table include s p text) ≡ false
-table-invalid limit include s p text h = grind (arith, past-next)
+pub table-invalid : (include : Bool) (s : Sign) (p : Partial) (text : List ℕ) → within (first p) ≡ false
+    → list_all (is_valid MAX_SAFE_INTEGER) (table include s p text) ≡ false
+table-invalid include s p text h = grind (arith, past-next)
 
 pub table-past : (include : Bool) (s : Sign) (p : Partial) (text : List ℕ) (n : Numbers) → n ≡ first p → within n ≡ false
     → list_all (is_valid MAX_SAFE_INTEGER) (table include s p text) ≡ false
-table-past include s p text n e h =
-    let past : within (first p) ≡ false → is_small MAX_SAFE_INTEGER p ≡ false = λ h. grind (arith, nat_tests, common_steps) in
-    table-invalid MAX_SAFE_INTEGER include s p text (past (rw e at h))
+table-past include s p text n e h = table-invalid include s p text (rw e at h)
 
 -- ---- the ends of a hyphen range
 
-pub lower-invalid : (limit : ℕ) (c : Comparator) (include : Bool) (p : Partial) (text : List ℕ) → is_small limit p ≡ false
-    → list_all (is_valid limit) (hyphen_lower c include p text) ≡ false
-lower-invalid limit c include p text h = grind (arith, nat_tests, common_steps, table-invalid)
+pub lower-invalid : (c : Comparator) (include : Bool) (p : Partial) (text : List ℕ) → within (first p) ≡ false
+    → list_all (is_valid MAX_SAFE_INTEGER) (hyphen_lower c include p text) ≡ false
+lower-invalid c include wildcard text h = cc h
+lower-invalid c include (major M) text h = table-invalid include (compared at_least) (major M) text h
+lower-invalid c include (minor M m) text h = table-invalid include (compared at_least) (minor M m) text h
+lower-invalid c include (whole v) text h = grind (arith, table-invalid)
 
-pub upper-invalid : (limit : ℕ) (c : Comparator) (include : Bool) (p : Partial) (text : List ℕ) → is_small limit p ≡ false
-    → list_all (is_valid limit) (hyphen_upper c include p text) ≡ false
-upper-invalid limit c include p text h = grind (arith, nat_tests, common_steps, table-invalid)
+pub upper-invalid : (c : Comparator) (include : Bool) (p : Partial) (text : List ℕ) → within (first p) ≡ false
+    → list_all (is_valid MAX_SAFE_INTEGER) (hyphen_upper c include p text) ≡ false
+upper-invalid c include p text h = grind (arith, nat_tests, common_steps, table-invalid)
+
+-- ---- numbers past the limit as the code has them
+
+capped-le : (n : ℕ) → nat_le (capped n) MAX_SAFE_INTEGER ≡ nat_le n MAX_SAFE_INTEGER
+capped-le n = elim (cases_Bool (nat_le n MAX_SAFE_INTEGER)) [ inl small ↦ rw small small | inr great ↦ rw great refl ]
+
+pub capped-within : (p : Partial) → within (first (capped_partial p)) ≡ within (first p)
+capped-within wildcard = refl
+capped-within (major M) = rw (capped-le M) refl
+capped-within (minor M m) = rw (capped-le M, capped-le m) refl
+capped-within (whole v) = rw (capped-le v.major, capped-le v.minor, capped-le v.patch) refl
+
+pub capped-same : (p : Partial) → within (first p) ≡ true → capped_partial p ≡ p
+capped-same p h = grind arith
+
+-- they count for no comparator that is valid
+module _ (of : Partial → List Comparison) (past : (p : Partial) → within (first p) ≡ false → list_all (is_valid MAX_SAFE_INTEGER) (of p) ≡ false)
+    (p : Partial) where
+  pub capped-valid : list_all (is_valid MAX_SAFE_INTEGER) (of (capped_partial p)) ≡ list_all (is_valid MAX_SAFE_INTEGER) (of p)
+  capped-valid = elim (cases_Bool (within (first p))) [
+    | inl small ↦ rw (capped-same p small) refl
+    | inr great ↦ past (capped_partial p) (capped-within p ∙ great) ∙ sym (past p great)
+  ]
+
+  pub valid-within : list_all (is_valid MAX_SAFE_INTEGER) (of (capped_partial p)) ≡ true → within (first p) ≡ true
+  valid-within h = elim (cases_Bool (within (first p))) [
+    | inl small ↦ small
+    | inr great ↦ cc (h, past (capped_partial p) (capped-within p ∙ great))
+  ]
+
+  pub valid-same : list_all (is_valid MAX_SAFE_INTEGER) (of (capped_partial p)) ≡ true → capped_partial p ≡ p
+  valid-same h = capped-same p (valid-within h)
 
 -- ---- numbers and identifiers print as they are written
 

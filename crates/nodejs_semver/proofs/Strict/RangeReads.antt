@@ -6,15 +6,20 @@ use Rattle.nodejs_semver.proofs.Common.{drop_spaces, false, flat_map, holds, if�
 use Rattle.nodejs_semver.proofs.Common.{is_some, later_parts, length, length-append, lets_in, list_all, list_all-append, list_any, list_any-append}
 use Rattle.nodejs_semver.proofs.Common.{nat_tests, not, not-true, option_to_list, parts, precedence, refl, subst, sym, true, ℕ, ◌&&◌, ◌++◌, ◌+◌, ◌<◌}
 use Rattle.nodejs_semver.proofs.{Common.{◌||◌, ◌∙◌, ◌∷◌, ◌≡◌, ◌≤◌}, Dividing.BarsDivide.bars_once, NpmCommon.{AcceptAsRanged, Alternative}}
-use Rattle.nodejs_semver.proofs.NpmCommon.{AreNarrowed, AreRead, AreReadOf, Bounds, Comparison, Counted, CountedEnd, HasAlternativesIn, IsFound}
+use Rattle.nodejs_semver.proofs.NpmCommon.{AreNarrowed, Comparison, HasAlternativesIn, IsFound}
 use Rattle.nodejs_semver.proofs.NpmCommon.{IsNarrowed, IsRangeIn, IsStep, NarrowedBy, NoValue, alternative_of, alternatives_of, behind_ignored}
-use Rattle.nodejs_semver.proofs.NpmCommon.{counted, counted_front_view, counted_hyphen, counted_word, counts, first_valid, hyphen_valid, is_lost}
-use Rattle.nodejs_semver.proofs.NpmCommon.{is_none, is_unbounded, is_valid, kept, lower_counted, meets, nothing, upper_counted, valid_alternative}
-use Rattle.nodejs_semver.proofs.{NpmCommon.{valid_one, words_of, words_of_all, ◌>>?◌}, Strict.{AlternativeLaw.alternatives_are, Counted.AreWordsTo}}
-use Rattle.nodejs_semver.proofs.Strict.{Counted.{first-none, valid-found, words-end, words-next, words-none, words-valid}, Hyphens.hyphen-counted}
-use Rattle.nodejs_semver.{proofs.Strict.Hyphens.hyphen-valid, specs.Internal.{NpmAlternatives.ranged, NpmReads.{AddsPart, AreAllFound, AreFound}}}
+use Rattle.nodejs_semver.proofs.NpmCommon.{counted, counts, first_valid, is_lost}
+use Rattle.nodejs_semver.proofs.NpmCommon.{is_none, is_unbounded, is_valid, kept, meets, nothing, valid_alternative}
+use Rattle.nodejs_semver.proofs.{NpmCommon.{valid_one, words_of, words_of_all, ◌>>?◌}, Strict.{AlternativeLaw.alternatives_are, WordLoop.AreWordsTo}}
+use Rattle.nodejs_semver.proofs.Strict.{Hyphens.{both_capped, hyphen-capped}, WordLoop.{first-none, valid-found, words-end, words-next, words-none}}
+use Rattle.nodejs_semver.proofs.NpmCommon.{Ended, capped_in, capped_partial, first_as, first_word, hyphen_ends, hyphen_of, is_short_word}
+use Rattle.nodejs_semver.proofs.NpmCommon.{signed_front_view, signed_word, valid_all, valid_first, words_within}
+use Rattle.nodejs_semver.proofs.NpmCommon.{is_free_lower, is_free_upper, is_right, lower_of, upper_of}
+use Rattle.nodejs_semver.proofs.{Common.{Front, and-false, cond_both, same_Some}, Strict.Printed.{capped-valid, table-invalid, valid-same}}
+use Rattle.nodejs_semver.{specs.Internal.{NpmAlternatives.ranged, NpmReads.{AddsPart, AreAllFound, AreFound}}}
 use Rattle.nodejs_semver.specs.{Internal.NpmReads.{valid_alternatives, valid_range}, Npm.{Ranges.names, Readings.{OfAccepted, ReadText}}}
 use Rattle.{nodejs_semver.specs.{Npm.Table.{Partial, lowest, table}, declared.npm.words.Signed.Signed}, semver_core.specs.Failures.RefusedOnlyIf}
+use Rattle.nodejs_semver.specs.Internal.NpmWords as Words
 use Rattle.nodejs_semver.specs.Npm.Ranges as Npm
 
 -- ---- the intervals of alternatives accept what the alternatives do
@@ -103,78 +108,90 @@ ranged_range found h = grind (arith, nat_tests, common_steps)
 -- ---- an alternative is found exactly where the text has one whose comparators are valid
 
 -- where the text is a hyphen range
-pub hyphen-alternative : (loose include : Bool) (text : List ℕ) (e : CountedEnd × CountedEnd) → counted_hyphen loose MAX_SAFE_INTEGER text ≡ Some e
-    → valid_alternative loose include text ≡ hyphen_valid loose include e.0 e.1
+pub hyphen-alternative : (loose include : Bool) (text : List ℕ) (e : Ended × Ended) → hyphen_ends loose text ≡ Some e
+    → valid_alternative loose include text ≡ (hyphen_of loose include (capped_in e.0, capped_in e.1) >>? valid_one)
 unfolding valid_alternative alternative_of
-hyphen-alternative loose include text e h = grind (arith, hyphen-counted loose MAX_SAFE_INTEGER text, hyphen-valid)
+hyphen-alternative loose include text e h = rw h (sym (hyphen-capped loose include e.0 e.1))
 
 -- and where it is words
-pub words-alternative : (loose include : Bool) (text : List ℕ) → counted_hyphen loose MAX_SAFE_INTEGER text ≡ None
+pub words-alternative : (loose include : Bool) (text : List ℕ) → hyphen_ends loose text ≡ None
     → valid_alternative loose include text ≡ (words_of loose include text >>? λ all. Some (words_of_all all))
 unfolding valid_alternative alternative_of
-words-alternative loose include text h = grind (arith, hyphen-counted loose MAX_SAFE_INTEGER text, words-valid)
+words-alternative loose include text h = rw h (go (words_within loose include (length text) text))
+  where
+    go : (o : Option (List (Option (List Comparison))))
+        → ((o >>? λ all. Some (words_of_all all)) >>? valid_one) ≡ ((o >>? valid_all) >>? λ all. Some (words_of_all all))
+    go None = refl
+    go (Some all) = grind arith
 
-valid-both : (cs ds : List Comparison) → list_all (is_valid MAX_SAFE_INTEGER) cs ≡ true
-    → valid_one (false, cs ++ ds) ≡ (if list_all (is_valid MAX_SAFE_INTEGER) ds then Some (false, cs ++ ds) else None)
-valid-both cs ds h = grind (arith, nat_tests, common_steps, list_all-append)
+-- the ends as the code has them
+pub ends-as : (o : Option (Ended × Ended)) (x : Ended × Ended) → Some x ≡ both_capped o
+    → (e : Ended × Ended) × (o ≡ Some e) × (x ≡ (capped_in e.0, capped_in e.1))
+ends-as None x h = cc h
+ends-as (Some e) x h = (e, refl, same_Some _ _ h)
+
+pub ends-none : (o : Option (Ended × Ended)) → None ≡ both_capped o → o ≡ None
+ends-none None h = refl
+ends-none (Some e) h = cc h
 
 -- ---- what is found between two ends
 
-module _ (loose include : Bool) (a b : CountedEnd) (all : Alternative) (r : Option Bounds) (h : AreReadOf include (lower_counted loose include a) r) where
-  pub lower-none : ((cs : List Comparison) → AreRead include cs r → NarrowedBy include all.interval cs None)
-      → IsFound include (hyphen_valid loose include a b) None
-  lower-none n = grind (arith, list_all-append (is_valid MAX_SAFE_INTEGER), n, h)
+module _ (loose include : Bool) (a b : Ended) where
+  abbrev Between : Option Alternative → Type 0
+  Between r = IsFound include (hyphen_of loose include (a, b) >>? valid_one) r
 
-  pub upper-found : (f : Alternative) (s : Option Bounds) (g : Option Alternative) → IsNarrowed include [] all.interval → (r ≡ None → Some f ≡ None)
-      → ((cs : List Comparison) → AreRead include cs r → NarrowedBy include all.interval cs (Some f)) → AreReadOf include (upper_counted loose include b) s
-      → (s ≡ None → g ≡ None) → ((cs : List Comparison) → AreRead include cs s → NarrowedBy include f.interval cs g)
-      → IfSome g (λ g. g.is_lost ≡ false) → IsFound include (hyphen_valid loose include a b) g
-  upper-found f s g first some n k none m lost = go (lower_counted loose include a) h
-    where
-      last : (cs : List Comparison) → NarrowedBy include all.interval cs (Some f) → (o : Option (List Comparison)) → AreReadOf include o s
-          → IsFound include (o >>? λ ds. valid_one (false, cs ++ ds)) g
-      last cs c None l = rw (none l) tt
-      last cs c (Some ds) l = rw (valid-both cs ds c.0) (end g (m ds l) lost)
-        where
-          end : (g : Option Alternative) → NarrowedBy include f.interval ds g → IfSome g (λ g. g.is_lost ≡ false)
-              → IsFound include (if list_all (is_valid MAX_SAFE_INTEGER) ds then Some (false, cs ++ ds) else None) g
-          end None q w = rw q tt
-          end (Some g) q w = rw q.0 (q.1 cs (c.1 [] first), w)
+  pub lower-wrong : is_right loose is_free_lower a ≡ false → Between None
+  lower-wrong h = rw h tt
 
-      go : (o : Option (List Comparison)) → AreReadOf include o r
-          → IsFound include (o >>? λ cs. upper_counted loose include b >>? λ ds. valid_one (false, cs ++ ds)) g
-      go None l = cc (some l)
-      go (Some cs) l = last cs (n cs l) (upper_counted loose include b) k
+  pub upper-wrong : is_right loose (is_free_upper include) b ≡ false → Between None
+  upper-wrong h = rw (h, and-false (is_right loose is_free_lower a)) tt
+
+  module _ (low : is_right loose is_free_lower a ≡ true) (up : is_right loose (is_free_upper include) b ≡ true) where
+    pub lower-none : list_all (is_valid MAX_SAFE_INTEGER) (lower_of include a) ≡ false → Between None
+    lower-none h = rw (low, up, list_all-append (is_valid MAX_SAFE_INTEGER) (lower_of include a) (upper_of include b), h) tt
+
+    pub upper-found : (all f : Alternative) (g : Option Alternative) → IsNarrowed include [] all.interval
+        → NarrowedBy include all.interval (lower_of include a) (Some f) → NarrowedBy include f.interval (upper_of include b) g
+        → IfSome g (λ g. g.is_lost ≡ false) → Between g
+    upper-found all f None first n m lost = rw (low, up, list_all-append (is_valid MAX_SAFE_INTEGER) (lower_of include a) (upper_of include b), n.0, m) tt
+    upper-found all f (Some g) first n m lost =
+        rw (low, up, list_all-append (is_valid MAX_SAFE_INTEGER) (lower_of include a) (upper_of include b), n.0, m.0) (m.1 (lower_of include a) (n.1 [] first), lost)
 
 -- ---- one word more
 
 module _ (loose include : Bool) (text : List ℕ) (all : Alternative) where
-  pub step-ignored : (next : Bor (List ℕ)) → loose ≡ true → None ≡ counted_word loose MAX_SAFE_INTEGER text
-      → next.now ≡ drop_spaces (behind_ignored (length text) text)
-      → IsStep include all (first_valid loose MAX_SAFE_INTEGER include text) (Some (all, true, next))
-  unfolding first_valid
+  pub step-ignored : (next : Bor (List ℕ)) → loose ≡ true → signed_word loose text ≡ None → next.now ≡ drop_spaces (behind_ignored (length text) text)
+      → IsStep include all (first_valid loose include text) (Some (all, true, next))
+  unfolding first_word
   step-ignored next l e f = grind (arith, append-nil)
 
-  pub step-strict : loose ≡ false → None ≡ counted_word loose MAX_SAFE_INTEGER text → IsStep include all (first_valid loose MAX_SAFE_INTEGER include text) None
-  unfolding first_valid
-  step-strict l e = rw (← e, l) tt
+  pub step-strict : loose ≡ false → signed_word loose text ≡ None → IsStep include all (first_valid loose include text) None
+  unfolding first_word
+  step-strict l e = rw (e, l) tt
 
-  pub step-great : (w : Counted × List ℕ) → w.0.1 ≡ None → Some w ≡ counted_word loose MAX_SAFE_INTEGER text
-      → IsStep include all (first_valid loose MAX_SAFE_INTEGER include text) None
-  unfolding first_valid
-  step-great w n e = rw (← e, n) tt
+  module _ (w : Words.Signed × List ℕ) (e : signed_word loose text ≡ Some w) where
+    abbrev Row : Partial → List Comparison
+    Row p = table include w.0.0 p w.0.2
 
-  pub step-invalid : (w : Counted × List ℕ) (p : Partial) → w.0.1 ≡ Some p → Some w ≡ counted_word loose MAX_SAFE_INTEGER text
-      → NarrowedBy include all.interval (table include w.0.0 p w.0.2) None → IsStep include all (first_valid loose MAX_SAFE_INTEGER include text) None
-  unfolding first_valid
-  step-invalid w p n e k = rw (← e, n, k) tt
+    pub step-long : is_short_word loose w.0.2 ≡ false → IsStep include all (first_valid loose include text) None
+    unfolding first_word
+    step-long n = rw (e, n) tt
 
-  pub step-read : (w : Counted × List ℕ) (p : Partial) (a : Alternative) (next : Bor (List ℕ)) → w.0.1 ≡ Some p
-      → Some w ≡ counted_word loose MAX_SAFE_INTEGER text
-      → NarrowedBy include all.interval (table include w.0.0 p w.0.2) (Some a) → a.is_bare ≡ (all.is_bare && is_empty (table include w.0.0 p w.0.2))
-      → next.now ≡ drop_spaces w.1 → IsStep include all (first_valid loose MAX_SAFE_INTEGER include text) (Some (a, false, next))
-  unfolding first_valid
-  step-read w p a next n e k b f = rw (← e, n, k.0) (k, b, refl, f)
+    pub step-invalid : NarrowedBy include all.interval (Row (capped_partial w.0.1)) None → IsStep include all (first_valid loose include text) None
+    unfolding first_word
+    step-invalid k =
+        let invalid = sym (capped-valid Row (λ p. table-invalid include w.0.0 p w.0.2) w.0.1) ∙ k in
+        rw e (cond_both (is_short_word loose w.0.2) (Some (Some (Row w.0.1), drop_spaces w.1)) None (λ o. IsStep include all (o >>? valid_first) None)
+        (λ _. rw invalid tt) (λ _. tt))
+
+    pub step-read : (a : Alternative) (next : Bor (List ℕ)) → is_short_word loose w.0.2 ≡ true
+        → NarrowedBy include all.interval (Row (capped_partial w.0.1)) (Some a) → a.is_bare ≡ (all.is_bare && is_empty (Row (capped_partial w.0.1)))
+        → next.now ≡ drop_spaces w.1 → IsStep include all (first_valid loose include text) (Some (a, false, next))
+    unfolding first_word
+    step-read a next n k b f =
+        let same = valid-same Row (λ p. table-invalid include w.0.0 p w.0.2) w.0.1 k.0 in
+        let valid = rw same at k in
+        rw (e, n, valid.0) (valid, rw same at b, refl, f)
 
 -- ---- words, one after another
 
@@ -192,16 +209,16 @@ found_of loose include text = words_of loose include text >>? λ all. Some (word
 
 module _ (loose include : Bool) (text rest : List ℕ) (all : Alternative) (is_last : Bool)
     (h : AreWordsTo loose include text all.interval all.is_bare is_last rest) where
-  pub word-none : 0 < length rest → IsStep include all (first_valid loose MAX_SAFE_INTEGER include rest) None
+  pub word-none : 0 < length rest → IsStep include all (first_valid loose include rest) None
       → IsFound include (found_of loose include text) None
   word-none some k =
       rw (words-none loose include text rest all.interval all.is_bare is_last h some
-      (step-none include all (first_valid loose MAX_SAFE_INTEGER include rest) k)) tt
+      (step-none include all (first_valid loose include rest) k)) tt
 
-  pub word-next : (s : Alternative × Bool × Bor (List ℕ)) → 0 < length rest → IsStep include all (first_valid loose MAX_SAFE_INTEGER include rest) (Some s)
+  pub word-next : (s : Alternative × Bool × Bor (List ℕ)) → 0 < length rest → IsStep include all (first_valid loose include rest) (Some s)
       → AreWordsTo loose include text s.0.interval s.0.is_bare s.1 s.2.now × (length s.2.now < length rest)
   word-next s some k =
-      let w = step-found include all (first_valid loose MAX_SAFE_INTEGER include rest) s k in
+      let w = step-found include all (first_valid loose include rest) s k in
       let f = valid-found loose include rest w.0 h.utf8 some w.1 in (
         subst (λ (b : Bool). AreWordsTo loose include text s.0.interval s.0.is_bare b s.2.now) (sym w.2.2)
             (subst (λ (t : List ℕ). AreWordsTo loose include text s.0.interval s.0.is_bare (is_none w.0.0) t) (sym w.2.3)
@@ -210,7 +227,7 @@ module _ (loose include : Bool) (text rest : List ℕ) (all : Alternative) (is_l
       )
 
   pub words-all : (a : Alternative) (lost : Bool) → IsUtf8 text → is_empty rest ≡ true → a.interval ≡ all.interval → a.is_lost ≡ (all.is_bare && lost)
-      → (is_last ≡ false → lost ≡ false) → (is_last ≡ true → lost ≡ is_none (counted_word loose MAX_SAFE_INTEGER text))
+      → (is_last ≡ false → lost ≡ false) → (is_last ≡ true → lost ≡ is_none (signed_word loose text))
       → IsFound include (found_of loose include text) (Some a)
   words-all a lost u e f g not_last if_last =
       let read = words-end loose include text rest all.interval all.is_bare is_last h e in
@@ -223,7 +240,7 @@ module _ (loose include : Bool) (text rest : List ℕ) (all : Alternative) (is_l
             grind (arith, h.bare, h.last, k, if_last k, first-none loose include text h.read u read (sym h.last ∙ k))
       ]
 
-pub view-none : (o : Option (Signed × Bor (List ℕ))) (b : Bool) → is_some o ≡ not b → b ≡ is_none (counted_front_view o)
+pub view-none : (o : Option (Signed × Bor (List ℕ))) (b : Bool) → is_some o ≡ not b → b ≡ is_none (signed_front_view o)
 view-none o b e = grind arith
 
 pub found-some : (include : Bool) (o : Option (Bool × List Comparison)) (a : Alternative) → IsFound include o (Some a)

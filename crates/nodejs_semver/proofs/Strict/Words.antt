@@ -1,4 +1,7 @@
 -- The words of node-semver's range texts: the functions that read them find exactly what the statement has, one word after another.
+use Rattle.nodejs_semver.proofs.Common.{take_rest}
+use Rattle.nodejs_semver.proofs.NpmCommon.{capped_in}
+use Rattle.nodejs_semver.proofs.NpmCommon.{capped_partial, first_as}
 use Rattle.nodejs_semver.proofs.Common.{Bool, Front, IsBlank, IsUtf8, List, None, Option, Some, [], and_parts, ap, append-nil, append_assoc, arith}
 use Rattle.nodejs_semver.proofs.Common.{bind_some, cases_Bool, common_steps, cond_some, drop, drop_at, drop_spaces, eqb-true, false, inl, inr}
 use Rattle.nodejs_semver.proofs.Common.{is_boundary, is_empty, length, length-append, list_all, nat_tests, refl, same_Some, space_len, subst, suc}
@@ -29,6 +32,18 @@ marks-counted (b ∷ marks) u h k = grind (arith, nat_tests, common_steps, and_p
 pub marks-dropped : (loose : Bool) (marks x : List ℕ) (p : Partial) → list_all is_mark marks ≡ true → IsPlaces loose x p
     → drop (marks_len (marks ++ x)) (marks ++ x) ≡ x
 marks-dropped loose marks x p h k = grind (arith, drop_at, marks-counted, append-nil, places-begin)
+
+-- ---- one word as the code has it
+
+word-capped : (loose : Bool) (s : Sign) (text : List ℕ) (n : ℕ) (p : Partial × List ℕ)
+    → ended_word loose s text n (capped_partial p.0, p.1) ≡ first_as capped_in (ended_word loose s text n p)
+word-capped loose s text n p = grind (arith, nat_tests, common_steps)
+
+pub word_here : (loose : Bool) (text : List ℕ) (s : Sign × List ℕ) (at : ℕ) (o : Front Partial) → s ≡ npm_sign text → at ≡ marks_len s.1
+    → o ≡ first_as capped_partial (places_front loose (take (length s.1 - at) (drop at s.1)))
+    → (o >>? λ p. ended_word loose s.0 s.1 (marks_len s.1) p) ≡ first_as capped_in (signed_word loose text)
+unfolding signed_word
+word_here loose text s at o e is read = grind (arith, nat_tests, common_steps, take_rest, word-capped)
 
 -- ---- one word: what is written is read
 

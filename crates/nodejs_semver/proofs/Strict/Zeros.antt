@@ -2,7 +2,7 @@
 use Rattle.nodejs_semver.proofs.Common.{Bool, Id, IsNumber, List, None, Option, Some, VersionValue, [], and_parts, ap, append-nil, arith, begins}
 use Rattle.nodejs_semver.proofs.Common.{cases_Bool, codes, common_steps, drop, false, if◌then◌else◌, inl, inr, is_ascii_digit, is_release, length}
 use Rattle.nodejs_semver.proofs.Common.{list_all, nat_tests, not, prefix_len, refl, subst, suc, sym, take, take_at, take_rest, true, ℕ, ◌&&◌, ◌++◌}
-use Rattle.nodejs_semver.proofs.{Common.{◌+◌, ◌-◌, ◌==◌, ◌∙◌, ◌∷◌, ◌≡◌}, NpmCommon.{Comparison, IsPartial, IsPlace, IsPlaces, IsStrictBuild, Numbers}}
+use Rattle.nodejs_semver.proofs.{Common.{◌+◌, ◌-◌, ◌==◌, ◌∙◌, ◌∷◌, ◌≡◌}, NpmCommon.{Comparison, IsPlace, IsPlaces, IsStrictBuild, Numbers}}
 use Rattle.nodejs_semver.proofs.NpmCommon.{at_least, bytes_eq, bytes_eq-Decides, compared, digits_grow, first, from, has_leading_zero}
 use Rattle.nodejs_semver.proofs.{NpmCommon.{made, major, partial_of, take_while, under, whole, wildcard}, Reading.Numbers.digits-taken}
 use Rattle.nodejs_semver.specs.{Internal.NpmParts.{AreZeros, is_padded, no_build}, Npm.{Grammar.IsPreRelease, Table.{Partial, Sign}}}
@@ -102,22 +102,19 @@ zeros-partial : (n : ℕ) (b c : Option ℕ) (l m : List Id) → zeros_of (Some 
 unfolding zeros_of
 zeros-partial n b c l m = grind (arith, nat_tests)
 
-zeros-strict : (x : List ℕ) (p : Partial) → IsPlaces false x p → AreZeros p (zeros p) x
-zeros-strict x p (Text.one x1 None h) w = cc w
-zeros-strict x p (Text.one x1 (Some n) h) w =
+-- strictly the table's numbers are written as they are
+pub strict-zeros : (x : List ℕ) (p : Partial) → IsPlaces false x p → AreZeros p (zeros p) x
+strict-zeros x p (Text.one x1 None h) w = cc w
+strict-zeros x p (Text.one x1 (Some n) h) w =
     let here : zeros (major n) ≡ counted (n == 0) false false = grind (arith, nat_tests) in
     here ∙ sym (rw append-nil at (zeros-behind x1 [] n h refl))
-zeros-strict x p (Text.two x1 y None b h k) w = cc w
-zeros-strict x p (Text.two x1 y (Some n) b h k) w =
+strict-zeros x p (Text.two x1 y None b h k) w = cc w
+strict-zeros x p (Text.two x1 y (Some n) b h k) w =
     sym (subst (λ (t : List ℕ). written_zeros (x1 ++ (46 ∷ t)) ≡ zeros (partial_of (Some n) b None [] [])) (append-nil y)
     (zeros-dotted x1 y [] n b None h k refl (λ _. refl) ∙ zeros-partial n b None [] []))
-zeros-strict x p (Text.three x1 y z pre build None b c ids builds h k l m n t) w = cc w
-zeros-strict x p (Text.three x1 y z pre build (Some a) b c ids builds h k l m n t) w =
+strict-zeros x p (Text.three x1 y z pre build None b c ids builds h k l m n t) w = cc w
+strict-zeros x p (Text.three x1 y z pre build (Some a) b c ids builds h k l m n t) w =
     grind (arith, nat_tests, common_steps, zeros-dotted, zero-place, behind-quiet, zeros-partial)
-
--- strictly the table's numbers are written as they are
-pub strict-zeros : (text : List ℕ) (p : Partial) → IsPartial false text p → AreZeros p (zeros p) text
-strict-zeros text p h = zeros-strict text p h.0
 
 pub padded-same : (text : List ℕ) (p : Partial) (z : ℕ) → AreZeros p z text → is_padded z p ≡ is_padded (written_zeros text) p
 padded-same text p z e = grind (arith, nat_tests)
@@ -125,7 +122,7 @@ padded-same text p z e = grind (arith, nat_tests)
 self-padded : (p : Partial) → is_padded (zeros p) p ≡ false
 self-padded p = le-ltb (zeros p) (zeros p) (omega arith)
 
-pub strict-unpadded : (text : List ℕ) (p : Partial) → IsPartial false text p → false ≡ is_padded (written_zeros text) p
+pub strict-unpadded : (text : List ℕ) (p : Partial) → IsPlaces false text p → false ≡ is_padded (written_zeros text) p
 strict-unpadded text p h = sym (self-padded p) ∙ padded-same text p (zeros p) (strict-zeros text p h)
 
 -- ---- the table by the values of the numbers

@@ -49,11 +49,6 @@ AreRead include cs None = list_all (is_valid MAX_SAFE_INTEGER) cs ≡ false
 AreRead include cs (Some b) =
     (list_all (is_valid MAX_SAFE_INTEGER) cs ≡ true) × IsCommon include cs (bounds_view b)
 
--- bounds that are read of comparators, where there are any
-abbrev pub AreReadOf : Bool → Option (List Comparison) → Option Bounds → Type 0
-AreReadOf include None r = r ≡ None
-AreReadOf include (Some cs) r = AreRead include cs r
-
 -- the version `0.0.0`, without a pre-release and without build metadata
 abbrev pub is_zero : VersionValue → Bool
 is_zero v = (v.major == 0) && ((v.minor == 0) && ((v.patch == 0) && (is_release v && is_empty v.build)))

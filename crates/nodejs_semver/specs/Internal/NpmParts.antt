@@ -41,10 +41,6 @@ abbrev pub are_normal : Spec.Partial → Bool
 are_normal (whole v) = list_all is_normal v.pre_release && list_all is_normal v.build
 are_normal p = true
 
-abbrev pub some_normal : Option Spec.Partial → Bool
-some_normal None = true
-some_normal (Some p) = are_normal p
-
 -- a word of a wildcard has no comparators, unless its sign is `<` or `>`
 abbrev pub is_wildcard : Spec.Partial → Bool
 is_wildcard wildcard = true

@@ -8,15 +8,25 @@ use Rattle.semver_core.specs.Values.Versions.{VersionValue}
 use Rattle.semver_core.specs.declared.TheConstants.{MAX_SAFE_INTEGER}
 use Rattle.nodejs_semver.specs.Internal.NpmAlternatives.{AreNarrowed, NarrowedBy}
 use Rattle.nodejs_semver.specs.Internal.NpmMeaning.{IsNarrowed}
-use Rattle.nodejs_semver.specs.Internal.NpmWords.{CountedEnd, alternative_of, kept, lower_counted, upper_counted, valid_words}
+use Rattle.nodejs_semver.specs.Internal.NpmWords.{alternative_of, first_word, kept, words_within}
 use Rattle.nodejs_semver.specs.Internal.Parts.{parts}
 use Rattle.semver_core.specs.Lists.{is_empty}
-use Rattle.nodejs_semver.specs.Npm.{Ranges.{is_valid}, Table.{Comparison}}
+use Rattle.nodejs_semver.specs.Npm.{RangeText.{comparators_of}, Ranges.{is_valid}, Table.{Comparison}}
 use Rattle.nodejs_semver.specs.declared.npm.alternatives.Alternative.{Alternative}
 
--- the words, if their comparators are valid
+-- the word at the front, if its comparators are valid
+abbrev pub valid_first : Option (List Comparison) × List ℕ → Option (Option (List Comparison) × List ℕ)
+valid_first w = if list_all (is_valid MAX_SAFE_INTEGER) (unwrap_or w.0 []) then Some w else None
+
+abbrev pub first_valid : Bool → Bool → List ℕ → Option (Option (List Comparison) × List ℕ)
+first_valid loose include text = first_word loose include text >>? valid_first
+
+-- words, if the comparators of each are valid
+abbrev pub valid_all : List (Option (List Comparison)) → Option (List (Option (List Comparison)))
+valid_all all = if list_all (is_valid MAX_SAFE_INTEGER) (comparators_of all) then Some all else None
+
 abbrev pub words_of : Bool → Bool → List ℕ → Option (List (Option (List Comparison)))
-words_of loose include text = valid_words loose MAX_SAFE_INTEGER include (length text) text
+words_of loose include text = words_within loose include (length text) text >>? valid_all
 
 -- an alternative whose comparators are valid
 abbrev pub valid_one : Bool × List Comparison → Option (Bool × List Comparison)
@@ -37,10 +47,6 @@ IsStep include all None None = Unit {0}
 IsStep include all (Some w) (Some s) = NarrowedBy include all.interval (unwrap_or w.0 []) (Some s.0)
     × (s.0.is_bare ≡ (all.is_bare && is_empty (unwrap_or w.0 []))) × (s.1 ≡ is_none w.0) × (s.2.now ≡ w.1)
 IsStep include all w s = ⊥
-
--- the comparators between two ends of a hyphen range, if they are valid
-abbrev pub hyphen_valid : Bool → Bool → CountedEnd → CountedEnd → Option (Bool × List Comparison)
-hyphen_valid loose include a b = lower_counted loose include a >>? λ cs. upper_counted loose include b >>? λ ds. valid_one (false, cs ++ ds)
 
 -- the comparators of each of some alternatives, if each is valid
 unfoldable pub valid_alternatives : Bool → Bool → List (List ℕ) → Option (List (List Comparison))

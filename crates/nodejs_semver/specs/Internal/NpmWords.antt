@@ -1,6 +1,6 @@
 -- For proofs and private contracts. What node-semver's readings, strict or loose, find in a range text, as functions.
--- Numbers have any value; `limited` leaves out what has a number past the limit that counts.
-use Rattle.std.specs.Prelude.{◌≡◌, ◌==◌, ◌&&◌, ◌||◌, not, codes, nat_le, nat_lt, ℕ, zero, suc, Bool, true, false, List, [], ◌∷◌, ◌++◌, ◌-◌, is_none, length, take, drop, Option, Some, None, if◌then◌else◌, take_while}
+-- Numbers have any value; the code has them `capped`.
+use Rattle.std.specs.Prelude.{◌≡◌, ◌==◌, ◌&&◌, ◌||◌, ◌+◌, not, codes, nat_le, nat_lt, ℕ, zero, suc, Bool, true, false, List, [], ◌∷◌, ◌++◌, ◌-◌, is_none, length, take, drop, Option, Some, None, if◌then◌else◌, take_while}
 use Rattle.std.specs.Char.{is_ascii_digit}
 use Rattle.std.specs.List.{ends_with, list_all, prefix_len}
 use Rattle.std.specs.Str.Parse.{digits_value}
@@ -9,22 +9,18 @@ use Rattle.semver_core.specs.Internal.Spaces.{drop_spaces, space_len}
 use Rattle.semver_core.specs.Lists.{is_empty}
 use Rattle.semver_core.specs.Text.Identifiers.{Id, listed, pieces}
 use Rattle.semver_core.specs.Values.Versions.{VersionValue, is_release, release_value}
+use Rattle.semver_core.specs.declared.TheConstants.{MAX_SAFE_INTEGER}
 use Rattle.nodejs_semver.specs.Internal.Fronts.{Front, after_byte, begins_byte, begins_identifier, begins_wildcard, build_front, marked_list}
-use Rattle.nodejs_semver.specs.Internal.{NpmInside.are_inside, NpmReadings.dashed_front}
+use Rattle.nodejs_semver.specs.Internal.{NpmInside.are_inside, NpmParts.within, NpmReadings.dashed_front}
 use Rattle.nodejs_semver.specs.Internal.Parts.{parts}
 use Rattle.nodejs_semver.specs.Internal.Words.{after_some_space, from_boundary, is_boundary}
 use Rattle.nodejs_semver.specs.Npm.Malformed.{begins_place, is_mark, takes}
-use Rattle.nodejs_semver.specs.Npm.{Partials.{IsPlaces, is_short_identifier, partial_of}, RangeText.{are_marks, comparators_of, end_sign, is_lost, is_short, last_marks}}
+use Rattle.nodejs_semver.specs.Npm.{Partials.{is_short_identifier, partial_of}, RangeText.{are_marks, comparators_of, end_sign, is_lost, is_short, last_marks}}
 use Rattle.nodejs_semver.specs.Npm.Grammar.{begins_undashed, has_leading_zero, is_strict_list}
-use Rattle.nodejs_semver.specs.Npm.Ranges.{is_valid}
-use Rattle.nodejs_semver.specs.Npm.Table.{Comparison, Partial, Sign, caret, compared, hyphen_lower, hyphen_upper, major, minor, table, tilde, whole, wildcard}
+use Rattle.nodejs_semver.specs.Npm.Table.{Comparison, Partial, Sign, caret, compared, first, hyphen_lower, hyphen_upper, major, minor, table, tilde, whole, wildcard}
 use Rattle.nodejs_semver.specs.Text.WordText.{Comparator, above, at_least, at_most, below, equal}
 
 -- ---- partials
-
--- a partial that is short enough
-abbrev pub IsPartial : Bool → List ℕ → Partial → Type 0
-IsPartial loose text p = IsPlaces loose text p × (is_short loose text ≡ true)
 
 -- a number has no leading zeros; loosely it may have some
 abbrev pub is_spelled : Bool → List ℕ → Bool
@@ -113,81 +109,35 @@ unfoldable pub places_front : Bool → List ℕ → Front Partial
 places_front loose text =
     place_front loose text >>? λ a. second_front loose a.0 a.1 (dotted_place loose a.1)
 
--- what was found at the front of the text, if it is short
-abbrev pub short_only : Bool → List ℕ → Front Partial → Front Partial
-short_only loose text None = None
-short_only loose text (Some p) = if is_short loose (take (length text - length p.1) text) then Some p else None
+-- ---- numbers as the code has them
 
--- the partial at the front
-unfoldable pub partial_front : Bool → List ℕ → Front Partial
-partial_front loose text = short_only loose text (places_front loose text)
+-- past the limit a number is the limit + 1, since only that it is past the limit matters
+abbrev pub capped : ℕ → ℕ
+capped n = if nat_le n MAX_SAFE_INTEGER then n else MAX_SAFE_INTEGER + 1
 
--- the numbers that count are up to the limit
-abbrev pub is_small : ℕ → Partial → Bool
-is_small limit wildcard = true
-is_small limit (major M) = nat_le M limit
-is_small limit (minor M m) = nat_le M limit && nat_le m limit
-is_small limit (whole v) = nat_le v.major limit && (nat_le v.minor limit && nat_le v.patch limit)
+abbrev pub capped_one : Option ℕ → Option ℕ
+capped_one None = None
+capped_one (Some n) = Some (capped n)
 
-abbrev pub limited : ℕ → Front Partial → Front Partial
-limited limit None = None
-limited limit (Some p) = if is_small limit p.0 then Some p else None
+abbrev pub capped_partial : Partial → Partial
+capped_partial wildcard = wildcard
+capped_partial (major M) = major (capped M)
+capped_partial (minor M m) = minor (capped M) (capped m)
+capped_partial (whole v) = whole (record v { major = capped v.major; minor = capped v.minor; patch = capped v.patch })
 
--- a place by its value: a wildcard, a number up to the limit, or a greater one
-pub data Place : Type 0 where
-  any : Place
-  number : ℕ → Place
-  great : Place
+-- a word, or an end of a hyphen range
+abbrev pub capped_in : {A : Type 0} → A × Partial × List ℕ → A × Partial × List ℕ
+capped_in w = (w.0, capped_partial w.1, w.2)
 
-abbrev pub place_of : ℕ → Option ℕ → Place
-place_of limit None = any
-place_of limit (Some n) = if nat_le n limit then number n else great
+-- a partial at the front of a text, if none of its numbers is past the limit
+abbrev pub limited : Front Partial → Front Partial
+limited None = None
+limited (Some p) = if within (first p.0) then Some p else None
 
-abbrev pub is_any : Place → Bool
-is_any any = true
-is_any p = false
-
-abbrev pub placed : ℕ → Front (Option ℕ) → Front Place
-placed limit None = None
-placed limit (Some a) = Some (place_of limit a.0, a.1)
-
--- the partial of such places, if its numbers that count are up to the limit
-abbrev pub counted : Place → Place → Place → List Id → List Id → Option Partial
-counted any b c pre build = Some wildcard
-counted great b c pre build = None
-counted (number M) any c pre build = Some (major M)
-counted (number M) great c pre build = None
-counted (number M) (number m) any pre build = Some (minor M m)
-counted (number M) (number m) great pre build = None
-counted (number M) (number m) (number p) pre build =
-    Some (whole (record { major = M; minor = m; patch = p; pre_release = pre; build = build }))
-
--- the same with what stands behind it
-abbrev pub ended_counted : Bool → Place → Place → Place → List ℕ → List ℕ × List ℕ → Front (Option Partial)
-ended_counted loose a b c pre build = if may_follow loose pre build.0
-    then Some (counted a b c (listed pre) (listed build.0), build.1) else None
-
-unfoldable pub qualified_counted : Bool → Place → Place → Place → List ℕ → Front (Option Partial)
-qualified_counted loose a b c text = ended_counted loose a b c (pre_front loose (is_any c) text).0
-    (build_front (pre_front loose (is_any c) text).1)
-
-abbrev pub third_counted : Bool → Place → Place → List ℕ → Front Place → Front (Option Partial)
-third_counted loose a b text None = Some (counted a b any [] [], text)
-third_counted loose a b text (Some c) = qualified_counted loose a b c.0 c.1
-
-abbrev pub second_counted : Bool → ℕ → Place → List ℕ → Front Place → Front (Option Partial)
-second_counted loose limit a text None = Some (counted a any any [] [], text)
-second_counted loose limit a text (Some b) = third_counted loose a b.0 b.1 (placed limit (dotted_patch loose b.1))
-
-abbrev pub counted_places : Bool → ℕ → List ℕ → Front (Option Partial)
-counted_places loose limit text =
-    placed limit (place_front loose text) >>? λ a.
-    second_counted loose limit a.0 a.1 (placed limit (dotted_place loose a.1))
-
--- the partial at the front; none where it has a number that counts past the limit, or is too long
-abbrev pub counted_front : Bool → ℕ → List ℕ → Front (Option Partial)
-counted_front loose limit text = places_front loose text >>? λ p.
-    Some (if is_small limit p.0 && is_short loose (take (length text - length p.1) text) then Some p.0 else None, p.1)
+-- a value at the front of a text
+abbrev pub first_as : {A : Type 0} → (A → A) → Front A → Front A
+first_as f None = None
+first_as f (Some a) = Some (f a.0, a.1)
 
 -- ---- signs
 
@@ -284,41 +234,6 @@ words_within loose include zero (b ∷ text) = None
 words_within loose include (suc n) (b ∷ text) =
     first_word loose include (b ∷ text) >>? λ w. words_within loose include n w.1 >>? λ read. Some (w.0 ∷ read)
 
--- a word whose partial is left out where its numbers that count are not up to the limit, or where it is too long
-abbrev pub Counted : Type 0
-Counted = Sign × Option Partial × List ℕ
-
-abbrev pub are_counted_marks : Bool → Sign → Option Partial → List ℕ → Bool
-are_counted_marks loose s None marks = true
-are_counted_marks loose s (Some p) marks = are_marks loose s p marks
-
-abbrev pub ended_counted_word : Bool → Sign → List ℕ → ℕ → Option Partial × List ℕ → Front Counted
-ended_counted_word loose s text n p = if are_counted_marks loose s p.0 (take n text) && is_boundary p.1
-    then Some ((s, p.0, take (length text - length p.1) text), p.1) else None
-
-unfoldable pub counted_word : Bool → ℕ → List ℕ → Front Counted
-counted_word loose limit text = let s = npm_sign text in
-    counted_front loose limit (drop (marks_len s.1) s.1) >>? λ p. ended_counted_word loose s.0 s.1 (marks_len s.1) p
-
--- the comparators, if each is valid
-abbrev pub valid_only : ℕ → List Comparison → Option (List Comparison)
-valid_only limit cs = if list_all (is_valid limit) cs then Some cs else None
-
--- the same where the comparators are valid
-abbrev pub counted_or : Bool → ℕ → Bool → List ℕ → Front Counted → Option (Option (List Comparison) × List ℕ)
-counted_or loose limit include text None = ignored_or loose text
-counted_or loose limit include text (Some w) =
-    w.0.1 >>? λ p. valid_only limit (table include w.0.0 p w.0.2) >>? λ cs. Some (Some cs, drop_spaces w.1)
-
-unfoldable pub first_valid : Bool → ℕ → Bool → List ℕ → Option (Option (List Comparison) × List ℕ)
-first_valid loose limit include text = counted_or loose limit include text (counted_word loose limit text)
-
-unfoldable pub valid_words : Bool → ℕ → Bool → ℕ → List ℕ → Option (List (Option (List Comparison)))
-valid_words loose limit include n [] = Some []
-valid_words loose limit include zero (b ∷ text) = None
-valid_words loose limit include (suc n) (b ∷ text) =
-    first_valid loose limit include (b ∷ text) >>? λ w. valid_words loose limit include n w.1 >>? λ read. Some (w.0 ∷ read)
-
 -- ---- alternatives
 
 -- what follows the marks and the whitespace at the front. The number counts bytes that still belong to a
@@ -344,23 +259,13 @@ abbrev pub Ended : Type 0
 Ended = List ℕ × Partial × List ℕ
 
 -- the end whose partial was read behind its marks, and what follows it
-abbrev pub ended_as : {A : Type 0} → List ℕ → List ℕ → A × List ℕ → (List ℕ × A × List ℕ) × List ℕ
+abbrev pub ended_as : List ℕ → List ℕ → Partial × List ℕ → Ended × List ℕ
 ended_as text behind p = let marks = take (length text - length behind) text in
     ((marks, p.0, last_marks marks ++ take (length behind - length p.1) behind), p.1)
 
 -- an end of a hyphen range at the front
 unfoldable pub end_front : Bool → List ℕ → Front Ended
 end_front loose text = places_front loose (drop_ends text) >>? λ p. Some (ended_as text (drop_ends text) p)
-
--- the same, whose partial is left out where its numbers that count are not up to the limit, or where it is too long
-abbrev pub CountedEnd : Type 0
-CountedEnd = List ℕ × Option Partial × List ℕ
-
-abbrev pub counted_as : List ℕ → List ℕ → Option Partial × List ℕ → CountedEnd × List ℕ
-counted_as text behind p = ended_as text behind p
-
-unfoldable pub counted_end : Bool → ℕ → List ℕ → Front CountedEnd
-counted_end loose limit text = counted_front loose limit (drop_ends text) >>? λ p. Some (counted_as text (drop_ends text) p)
 
 -- what stands behind whitespace, `-` and whitespace
 abbrev pub after_dash : List ℕ → Option (List ℕ)
@@ -373,13 +278,6 @@ last_end loose text = end_front loose text >>? λ b. if is_empty b.1 then Some b
 -- the ends of the hyphen range that the text is
 unfoldable pub hyphen_ends : Bool → List ℕ → Option (Ended × Ended)
 hyphen_ends loose text = end_front loose text >>? λ a. after_dash a.1 >>? λ second. last_end loose second >>? λ b. Some (a.0, b)
-
-abbrev pub last_counted : Bool → ℕ → List ℕ → Option CountedEnd
-last_counted loose limit text = counted_end loose limit text >>? λ b. if is_empty b.1 then Some b.0 else None
-
-abbrev pub counted_hyphen : Bool → ℕ → List ℕ → Option (CountedEnd × CountedEnd)
-counted_hyphen loose limit text = counted_end loose limit text >>? λ a. after_dash a.1 >>? λ second.
-    last_counted loose limit second >>? λ b. Some (a.0, b)
 
 -- any marks may stand before an end of a hyphen range: one of a partial version, or a whole one of which this is true
 abbrev pub is_free : (VersionValue → Bool) → Partial → Bool
@@ -405,14 +303,6 @@ lower_of include e = hyphen_lower (end_sign at_least e.0) include e.1 e.2
 
 abbrev pub upper_of : Bool → Ended → List Comparison
 upper_of include e = hyphen_upper (end_sign at_most e.0) include e.1 e.2
-
-abbrev pub lower_counted : Bool → Bool → CountedEnd → Option (List Comparison)
-lower_counted loose include e = e.1 >>? λ p.
-    if loose || (is_free_lower p || are_whole_marks e.0) then Some (lower_of include (e.0, p, e.2)) else None
-
-abbrev pub upper_counted : Bool → Bool → CountedEnd → Option (List Comparison)
-upper_counted loose include e = e.1 >>? λ p.
-    if loose || (is_free_upper include p || are_whole_marks e.0) then Some (upper_of include (e.0, p, e.2)) else None
 
 -- the comparators of an alternative, and whether it is lost
 abbrev pub hyphen_of : Bool → Bool → Ended × Ended → Option (Bool × List Comparison)

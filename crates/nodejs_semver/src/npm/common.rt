@@ -9,7 +9,7 @@ ghost use Rattle.nodejs_semver.specs.Words.{OnOk, option_to_list, precedence, re
 ghost use Rattle.nodejs_semver.specs.Internal.NpmFronts.{AreJoined, AreParts, IsLeft, IsPartAt};
 ghost use Rattle.nodejs_semver.specs.Internal.NpmFronts.{IsSignAt, IsTried, IsWordAt, is_below};
 ghost use Rattle.nodejs_semver.specs.Internal.NpmParts.{npm_partial_view, npm_sign_view};
-ghost use Rattle.nodejs_semver.specs.{Internal.NpmWords.counted_front, Npm.Table.compared};
+ghost use Rattle.nodejs_semver.specs.{Internal.NpmWords.{limited, places_front}, Npm.Table.compared};
 
 use crate::Allocated;
 use crate::npm::comparators::{caret, compared, row_of_zeros, tilde};
@@ -68,8 +68,8 @@ fn after_numbers(text: &[u8]) -> Option<&[u8]>
 // or a bar.
 #[inline(always)]
 fn wildcard_front(text: &[u8]) -> Option<(Partial<'_>, &[u8])>
-    ensures { IfSome result (λ p. Some (Some (npm_partial_view p.0), p.1.now)
-        ≡ counted_front false MAX_SAFE_INTEGER text.now) }
+    ensures { IfSome result (λ p. Some (npm_partial_view p.0, p.1.now)
+        ≡ limited (places_front false text.now)) }
 {
     if matches!(text, [b'x' | b'X' | b'*', ..]) && is_over(&text[1..]) {
         Some((Partial::Wildcard, &text[1..]))
@@ -83,8 +83,8 @@ fn wildcard_front(text: &[u8]) -> Option<(Partial<'_>, &[u8])>
 #[inline(always)]
 #[tactic(auto, using(crate::proofs::Strict::CommonReads::short_fronts))]
 fn short_front(text: &[u8]) -> Option<(Partial<'_>, &[u8])>
-    ensures { IfSome result (λ p. Some (Some (npm_partial_view p.0), p.1.now)
-        ≡ counted_front false MAX_SAFE_INTEGER text.now) }
+    ensures { IfSome result (λ p. Some (npm_partial_view p.0, p.1.now)
+        ≡ limited (places_front false text.now)) }
 {
     let Some((major, rest)) = strict_number(text) else {
         return wildcard_front(text);
@@ -108,8 +108,7 @@ fn word(include: bool, text: &[u8]) -> Option<(Bounds<'_>, &[u8])>
     ensures { IfSome result (λ w. IsWordAt include text.now (bounds_view w.0) w.1.now) }
 {
     let (sign, behind) = sign_front(text);
-    let (read, rest) = partial_front(false, behind)?;
-    let partial = read?;
+    let (partial, rest) = partial_front(false, behind)?;
     let bounds = row_of_zeros(
         include,
         partial.zeros(),

@@ -1,12 +1,11 @@
 // The hyphen ranges of node-semver's readings: two partial versions with ` - ` between them.
 
 ghost use Rattle.std.specs.Prelude.{◌-◌, ◌||◌, ◌≡◌, ◌≤◌, drop};
-ghost use Rattle.nodejs_semver.specs.Words.{MAX_SAFE_INTEGER, comparator_view, length, list_all};
-ghost use Rattle.nodejs_semver.specs.{Words.{rest_view, true}, Internal.NpmMeaning.AreReadOf};
-ghost use Rattle.nodejs_semver.specs.Internal.{NpmParts.{npm_partial_view, some_normal}};
+ghost use Rattle.nodejs_semver.specs.Words.{Some, comparator_view, length, list_all, rest_view};
+ghost use Rattle.nodejs_semver.specs.{Words.true, Internal.NpmMeaning.AreRead};
+ghost use Rattle.nodejs_semver.specs.Internal.{NpmParts.{are_normal, npm_partial_view}};
 ghost use Rattle.nodejs_semver.specs.Internal.NpmViews.{end_front_view, end_some_view, end_view};
 ghost use Rattle.nodejs_semver.specs.Internal.NpmViews.{hyphen_view, is_free_end};
-ghost use Rattle.nodejs_semver.specs.Internal.NpmViews.{npm_partial_some_view};
 ghost use Rattle.nodejs_semver.specs.Internal.NpmWords as Spec;
 ghost use Rattle.nodejs_semver.specs.Npm.Malformed as Malformed;
 ghost use Rattle.nodejs_semver.specs.Npm.RangeText as Text;
@@ -15,22 +14,21 @@ ghost use Rattle.semver_core.specs.Internal.Reading.{◌>>?◌};
 use crate::npm::comparators::{lower_end, upper_end};
 use crate::npm::partial::Partial;
 use crate::npm::places::partial_front;
+use crate::npm::words::is_short;
 use crate::readers::{Bounds, Comparator, after_some_space, space_len};
-use semver_core::MAX_SAFE_INTEGER;
 
 /// An end of a hyphen range: the marks and the whitespace in front, its partial version, and the
-/// text of that with the marks behind the last whitespace. There is no partial where a number that
-/// counts is past the limit, or where its text is too long.
+/// text of that with the marks behind the last whitespace.
 #[derive(Drop)]
 pub(crate) struct End<'a> {
     marks: &'a [u8],
-    pub(crate) partial: Option<Partial<'a>>,
+    pub(crate) partial: Partial<'a>,
     text: &'a [u8],
 }
 
-// Which end it is, and of the upper one whether pre-releases are included.
+/// Which end it is, and of the upper one whether pre-releases are included.
 #[derive(Clone, Copy)]
-enum Side {
+pub(crate) enum Side {
     Lower,
     Upper { include: bool },
 }
@@ -101,12 +99,30 @@ fn is_free(side: Side, partial: &Partial<'_>) -> bool
 }
 
 impl<'a> End<'a> {
-    // Whether its marks may stand before this partial.
-    fn are_right(&self, loose: bool, side: Side, partial: &Partial<'_>) -> bool
-        ensures { result ≡ (loose || (is_free_end side (npm_partial_view partial.now)
-            || Spec.are_whole_marks self.now.marks.now)) }
+    /// Whether it is short enough, and its marks may stand there.
+    pub(crate) fn is_right(&self, loose: bool, side: Side) -> bool
+        ensures { result ≡ Spec.is_right loose (is_free_end side) (end_view self.now) }
     {
-        loose || is_free(side, partial) || matches!(self.marks, [] | [b'v'])
+        is_short(loose, self.text)
+            && (loose || is_free(side, &self.partial) || matches!(self.marks, [] | [b'v']))
+    }
+
+    /// The bounds of it as the lower end, as `row` gives those of a word.
+    pub(crate) fn lower_bounds(&self, include: bool) -> Option<Bounds<'a>>
+        requires { are_normal (npm_partial_view self.now.partial) ≡ true }
+        ensures { AreRead include (Spec.lower_of include (end_view self.now)) result }
+    {
+        let comparator = self.comparator(Comparator::AtLeast);
+        lower_end(include, comparator, &self.partial, self.text)
+    }
+
+    /// The bounds of it as the upper end.
+    pub(crate) fn upper_bounds(&self, include: bool) -> Option<Bounds<'a>>
+        requires { are_normal (npm_partial_view self.now.partial) ≡ true }
+        ensures { AreRead include (Spec.upper_of include (end_view self.now)) result }
+    {
+        let comparator = self.comparator(Comparator::AtMost);
+        upper_end(include, comparator, &self.partial, self.text)
     }
 
     // The comparator by which a whole version is compared: `=` where whitespace is among the marks.
@@ -122,47 +138,18 @@ impl<'a> End<'a> {
     }
 }
 
-/// The bounds of the lower end, as `row` gives those of a word; none also where its marks may not
-/// stand there.
-pub(crate) fn lower_bounds<'a>(loose: bool, include: bool, end: &End<'a>) -> Option<Bounds<'a>>
-    requires { some_normal (npm_partial_some_view end.now.partial) ≡ true }
-    ensures { AreReadOf include (Spec.lower_counted loose include (end_view end.now)) result }
-{
-    match &end.partial {
-        Some(partial) if end.are_right(loose, Side::Lower, partial) => {
-            let comparator = end.comparator(Comparator::AtLeast);
-            lower_end(include, comparator, partial, end.text)
-        }
-        _ => None,
-    }
-}
-
-/// The same of the upper end.
-pub(crate) fn upper_bounds<'a>(loose: bool, include: bool, end: &End<'a>) -> Option<Bounds<'a>>
-    requires { some_normal (npm_partial_some_view end.now.partial) ≡ true }
-    ensures { AreReadOf include (Spec.upper_counted loose include (end_view end.now)) result }
-{
-    match &end.partial {
-        Some(partial) if end.are_right(loose, Side::Upper { include }, partial) => {
-            let comparator = end.comparator(Comparator::AtMost);
-            upper_end(include, comparator, partial, end.text)
-        }
-        _ => None,
-    }
-}
-
 // An end of a hyphen range, behind whose marks a text stands: its partial, and what follows it.
 fn ended<'a>(
     text: &'a [u8],
     behind: &'a [u8],
-    partial: Option<Partial<'a>>,
+    partial: Partial<'a>,
     rest: &'a [u8],
 ) -> (End<'a>, &'a [u8])
     requires fits { length behind.now ≤ length text.now }
     requires ends { drop (length text.now - length behind.now) text.now ≡ behind.now }
     requires rest { length rest.now ≤ length behind.now }
-    ensures { (end_view result.0, result.1.now) ≡ Spec.counted_as text.now behind.now
-        (npm_partial_some_view partial.entry, rest.now) }
+    ensures { (end_view result.0, result.1.now) ≡ Spec.ended_as text.now behind.now
+        (npm_partial_view partial.entry, rest.now) }
 {
     let marks = &text[..text.len() - behind.len()];
     let start = marks.len() - last_marks(marks).len();
@@ -179,7 +166,8 @@ fn ended<'a>(
 
 // An end of a hyphen range at the front, and the text behind it.
 fn end_front(loose: bool, text: &[u8]) -> Option<(End<'_>, &[u8])>
-    ensures { end_front_view result ≡ Spec.counted_end loose MAX_SAFE_INTEGER text.now }
+    ensures { end_front_view result
+        ≡ Spec.first_as Spec.capped_in (Spec.end_front loose text.now) }
 {
     let behind = skip_marks(text);
     let (partial, rest) = partial_front(loose, behind)?;
@@ -199,15 +187,17 @@ fn after_dash(text: &[u8]) -> Option<&[u8]>
 // The upper end behind whitespace, `-` and whitespace, where it ends the text.
 fn last_end(loose: bool, text: &[u8]) -> Option<End<'_>>
     ensures { end_some_view result ≡ (Spec.after_dash text.now >>? λ second.
-        Spec.last_counted loose MAX_SAFE_INTEGER second) }
+        Spec.last_end loose second >>? λ e. Some (Spec.capped_in e)) }
 {
     let (upper, rest) = end_front(loose, after_dash(text)?)?;
     if rest.is_empty() { Some(upper) } else { None }
 }
 
-/// The ends of the hyphen range that the text is.
+/// The ends of the hyphen range that the text is. Numbers past the limit are
+/// `MAX_SAFE_INTEGER + 1`.
 pub(crate) fn hyphen_ends(loose: bool, text: &[u8]) -> Option<(End<'_>, End<'_>)>
-    ensures { hyphen_view result ≡ Spec.counted_hyphen loose MAX_SAFE_INTEGER text.now }
+    ensures { hyphen_view result ≡ (Spec.hyphen_ends loose text.now >>? λ e.
+        Some (Spec.capped_in e.0, Spec.capped_in e.1)) }
 {
     let (lower, rest) = end_front(loose, text)?;
     let upper = last_end(loose, rest)?;

@@ -16,13 +16,8 @@ fn right_word(include: bool, text: &[u8]) -> Option<&[u8]>
     ensures none { IfNone result (NoValue (IsRightWord MAX_SAFE_INTEGER include text.now)) }
 {
     let (word, behind) = word_front(false, text)?;
-    match &word.partial {
-        Some(partial) => {
-            row(include, word.sign, partial, word.text)?;
-            Some(behind)
-        }
-        None => None,
-    }
+    row(include, word.sign, &word.partial, word.text)?;
+    Some(behind)
 }
 
 // What is left of a text behind the words at its front that are right.

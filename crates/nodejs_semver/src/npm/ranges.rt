@@ -5,22 +5,22 @@ ghost use Rattle.nodejs_semver.specs.Words.{Comparison, HasAlternativesIn, IfOk,
 ghost use Rattle.nodejs_semver.specs.Words.{IsRange, MAX_SAFE_INTEGER, MemoryOnlyIf, NoValue};
 ghost use Rattle.nodejs_semver.specs.Words.{None, OnOk, RefusedOnlyIf, false, length, parts, true, ℕ};
 ghost use Rattle.nodejs_semver.specs.Words.{Some};
-ghost use Rattle.nodejs_semver.specs.Internal.NpmParts.{some_normal};
-ghost use Rattle.nodejs_semver.specs.Internal.NpmViews.{end_view, npm_partial_some_view};
-ghost use Rattle.nodejs_semver.specs.Internal.NpmWords.{first_valid, words_of_all};
+ghost use Rattle.nodejs_semver.specs.Internal.NpmParts.{are_normal, npm_partial_view};
+ghost use Rattle.nodejs_semver.specs.Internal.NpmViews.{end_view};
+ghost use Rattle.nodejs_semver.specs.Internal.NpmWords.{hyphen_of, words_of_all};
 ghost use Rattle.nodejs_semver.specs.Internal.NpmReads.{AddsPart, AreAllFound, IsFound};
-ghost use Rattle.nodejs_semver.specs.Internal.NpmReads.{IsStep, hyphen_valid};
-ghost use Rattle.nodejs_semver.specs.Internal.NpmReads.{valid_alternative, valid_range, words_of};
+ghost use Rattle.nodejs_semver.specs.Internal.NpmReads.{IsStep, first_valid, valid_alternative};
+ghost use Rattle.nodejs_semver.specs.Internal.NpmReads.{valid_one, valid_range, words_of};
 ghost use Rattle.semver_core.specs.Internal.Reading.{◌>>?◌};
 ghost use Rattle.nodejs_semver.specs.Npm.Ranges.{IsRangeIn};
 
 use crate::RangeRef;
 use crate::npm::alternatives::{Alternative, set_ranged};
 use crate::npm::common::read_common;
-use crate::npm::hyphens::{End, hyphen_ends, lower_bounds, upper_bounds};
+use crate::npm::hyphens::{End, Side, hyphen_ends};
 use crate::npm::ignored::behind_ignored;
 use crate::npm::options::Reading;
-use crate::npm::words::word_front;
+use crate::npm::words::{is_short, word_front};
 use crate::range::Intervals;
 use crate::readers::{Found, next_part, skip_spaces};
 use semver_core::{Failure, MAX_SAFE_INTEGER, SemverError, VersionRef};
@@ -35,8 +35,7 @@ fn with_word<'a>(
     all: Alternative<'a>,
     text: &'a [u8],
 ) -> Option<(Alternative<'a>, bool, &'a [u8])>
-    ensures { IsStep include all.entry (first_valid loose MAX_SAFE_INTEGER include text.now)
-        result }
+    ensures { IsStep include all.entry (first_valid loose include text.now) result }
 {
     let Some((word, behind)) = word_front(loose, text) else {
         if loose {
@@ -44,13 +43,11 @@ fn with_word<'a>(
         }
         return None;
     };
-    match &word.partial {
-        Some(partial) => {
-            let all = all.meet(include, word.sign, partial, word.text)?;
-            Some((all, false, skip_spaces(behind)))
-        }
-        None => None,
+    if !is_short(loose, word.text) {
+        return None;
     }
+    let all = all.meet(include, word.sign, &word.partial, word.text)?;
+    Some((all, false, skip_spaces(behind)))
 }
 
 // The alternative of words, with whitespace between them.
@@ -78,15 +75,19 @@ fn between<'a>(
     lower: &End<'a>,
     upper: &End<'a>,
 ) -> Option<Alternative<'a>>
-    requires lower { some_normal (npm_partial_some_view lower.now.partial) ≡ true }
-    requires upper { some_normal (npm_partial_some_view upper.now.partial) ≡ true }
-    ensures { IsFound include (hyphen_valid loose include (end_view lower.now)
-        (end_view upper.now)) result }
+    requires lower { are_normal (npm_partial_view lower.now.partial) ≡ true }
+    requires upper { are_normal (npm_partial_view upper.now.partial) ≡ true }
+    ensures { IsFound include (hyphen_of loose include (end_view lower.now, end_view upper.now)
+        >>? valid_one) result }
 {
-    let first = lower_bounds(loose, include, lower);
-    let from = Alternative::all().meet_read(first, false)?;
-    let second = upper_bounds(loose, include, upper);
-    from.meet_read(second, false)
+    if !lower.is_right(loose, Side::Lower) {
+        return None;
+    }
+    if !upper.is_right(loose, Side::Upper { include }) {
+        return None;
+    }
+    let from = Alternative::all().meet_read(lower.lower_bounds(include), false)?;
+    from.meet_read(upper.upper_bounds(include), false)
 }
 
 /// The alternative that a text is, without whitespace around it.

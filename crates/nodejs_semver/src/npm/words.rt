@@ -1,11 +1,11 @@
 // The words of a range text as node-semver's readings have them: a sign, marks and a partial
 // version.
 
-ghost use Rattle.std.specs.Prelude.{◌≡◌, ◌≤◌};
-ghost use Rattle.nodejs_semver.specs.Words.{MAX_SAFE_INTEGER, comparator_view, drop_spaces, length};
+ghost use Rattle.std.specs.{List.prefix_len, Prelude.{◌==◌, ◌≡◌, ◌≤◌, not}};
+ghost use Rattle.nodejs_semver.specs.Words.{comparator_view, drop_spaces, length};
 ghost use Rattle.nodejs_semver.specs.{Words.{list_all, true}, Internal.NpmParts.npm_partial_view};
 ghost use Rattle.nodejs_semver.specs.Internal.{NpmParts.npm_sign_view, NpmViews.npm_sign_pair_view};
-ghost use Rattle.nodejs_semver.specs.Internal.NpmViews.{counted_front_view, npm_partial_some_view};
+ghost use Rattle.nodejs_semver.specs.Internal.NpmViews.{signed_front_view};
 ghost use Rattle.nodejs_semver.specs.Internal.NpmWords as Spec;
 ghost use Rattle.nodejs_semver.specs.Npm.Malformed.{is_mark};
 ghost use Rattle.nodejs_semver.specs.Npm.RangeText as Text;
@@ -13,14 +13,12 @@ ghost use Rattle.nodejs_semver.specs.Npm.RangeText as Text;
 use crate::npm::partial::{Partial, Sign};
 use crate::npm::places::partial_front;
 use crate::readers::{Comparator, after_some_space, is_boundary, skip_spaces};
-use semver_core::MAX_SAFE_INTEGER;
 
-/// A word: its sign, its partial version, and the text of the partial with its marks. There is no
-/// partial where a number that counts is past the limit, or where its text is too long.
+/// A word: its sign, its partial version, and the text of the partial with its marks.
 #[derive(Drop)]
 pub(crate) struct Signed<'a> {
     pub(crate) sign: Sign,
-    pub(crate) partial: Option<Partial<'a>>,
+    pub(crate) partial: Partial<'a>,
     pub(crate) text: &'a [u8],
 }
 
@@ -123,18 +121,6 @@ fn are_marks(loose: bool, sign: Sign, partial: &Partial<'_>, marks: &[u8]) -> bo
     }
 }
 
-// Whether these marks may stand before a partial, which may be left out.
-fn are_right_marks(loose: bool, sign: Sign, partial: &Option<Partial<'_>>, marks: &[u8]) -> bool
-    requires { list_all is_mark marks.now ≡ true }
-    ensures { result ≡ Spec.are_counted_marks loose (npm_sign_view sign)
-        (npm_partial_some_view partial.now) marks.now }
-{
-    match partial {
-        Some(partial) => are_marks(loose, sign, partial, marks),
-        None => true,
-    }
-}
-
 // The word of a sign, marks and the partial that was read behind them.
 #[tactic(auto, using(crate::proofs::Strict::AlternativeLaw::marks_found))]
 fn ended_word<'a>(
@@ -142,16 +128,16 @@ fn ended_word<'a>(
     sign: Sign,
     text: &'a [u8],
     marks: usize,
-    partial: Option<Partial<'a>>,
+    partial: Partial<'a>,
     rest: &'a [u8],
 ) -> Option<(Signed<'a>, &'a [u8])>
     requires marks { marks ≡ Spec.marks_len text.now }
     requires inside { marks ≤ length text.now }
     requires rest { length rest.now ≤ length text.now }
-    ensures { counted_front_view result ≡ Spec.ended_counted_word loose (npm_sign_view sign)
-        text.now (Spec.marks_len text.now) (npm_partial_some_view partial.entry, rest.now) }
+    ensures { signed_front_view result ≡ Spec.ended_word loose (npm_sign_view sign)
+        text.now (Spec.marks_len text.now) (npm_partial_view partial.entry, rest.now) }
 {
-    if !are_right_marks(loose, sign, &partial, &text[..marks]) || !is_boundary(rest) {
+    if !are_marks(loose, sign, &partial, &text[..marks]) || !is_boundary(rest) {
         return None;
     }
     let text = &text[..text.len() - rest.len()];
@@ -165,9 +151,31 @@ fn ended_word<'a>(
     ))
 }
 
-/// The word at the front, and the text behind it.
+// How many characters stand in front of the first `+`.
+#[tactic(auto, using(crate::proofs::Strict::PartialLaw::prefix_steps))]
+fn len_before_plus(text: &[u8]) -> usize
+    ensures { result ≡ prefix_len (λ b. not (b == 43)) text.now }
+{
+    'characters: for at in 0..text.len() {
+        if text[at] == b'+' {
+            return at;
+        }
+    }
+    text.len()
+}
+
+/// Whether a partial is short enough, which has this text with its marks.
+#[inline(always)]
+pub(crate) fn is_short(loose: bool, text: &[u8]) -> bool
+    ensures { result ≡ Spec.is_short_word loose text.now }
+{
+    !loose || len_before_plus(&text[marks_len(text)..]) <= 250
+}
+
+/// The word at the front, and the text behind it. Numbers past the limit are `MAX_SAFE_INTEGER + 1`.
 pub(crate) fn word_front(loose: bool, text: &[u8]) -> Option<(Signed<'_>, &[u8])>
-    ensures { counted_front_view result ≡ Spec.counted_word loose MAX_SAFE_INTEGER text.now }
+    ensures { signed_front_view result
+        ≡ Spec.first_as Spec.capped_in (Spec.signed_word loose text.now) }
 {
     let (sign, behind) = sign_front(text);
     let marks = marks_len(behind);

@@ -1,5 +1,5 @@
 use Rattle.nodejs_semver.proofs.Common.{List, ap, ap₂, arith, drop, length, length-append, length-drop, sym, take, ℕ, ◌++◌, ◌+◌, ◌-◌, ◌∙◌}
-use Rattle.nodejs_semver.proofs.{Common.{◌≡◌, ◌≤◌}, NpmCommon.{is_mark, last_marks, npm_partial_some_view}}
+use Rattle.nodejs_semver.proofs.{Common.{◌≡◌, ◌≤◌}, NpmCommon.{is_mark, last_marks, npm_partial_view}}
 use Rattle.nodejs_semver.proofs.npm.hyphens.ended.Goals as goal
 use Rattle.std.{proofs.{Math.Seq.take-append-add, lemmas.List.{Sums.suffix_len-le-length, drop-append-le, take-append-drop}}, specs.List.suffix_len}
 
@@ -23,5 +23,5 @@ returns c =
     let behind = c.args.behind.now in
     let marks = take (length text - length behind) text in
     let whole = sym (take-append-drop (length text - length behind) text) ∙ ap (λ (t : List ℕ). marks ++ t) c.requires.ends in
-    ap (λ (t : List ℕ). ((marks, npm_partial_some_view c.args.partial, t), c.args.rest.now))
+    ap (λ (t : List ℕ). ((marks, npm_partial_view c.args.partial, t), c.args.rest.now))
     (end-text text marks behind c.last_marks.result.now (length c.args.rest.now) whole c.last_marks.ensures.value c.requires.rest)

@@ -1,28 +1,26 @@
-use Rattle.nodejs_semver.proofs.{Common.{List, None, false, Some, refl, sym, ℕ}, NpmCommon.{Counted, counted_view, npm_partial_view}, NpmFlaws.Ranges.{no-word, right-word}}
-use Rattle.nodejs_semver.proofs.{Common.ap, NpmCommon.npm_partial_some_view, Strict.AlternativeLaw.word-normal}
+use Rattle.nodejs_semver.proofs.{Common.{List, false, list_all, subst, true, ℕ, MAX_SAFE_INTEGER, ◌≡◌}, NpmCommon.{is_valid, Signed, capped_in, signed_view, signed_word}, NpmFlaws.Ranges.{no-word, right-word, wrong-word}}
+use Rattle.nodejs_semver.proofs.Strict.{AlternativeLaw.word-normal, PartialLaw.{front-as, front-none}}
+use Rattle.nodejs_semver.proofs.Common.{ap, sym, ◌∙◌}
+use Rattle.nodejs_semver.specs.Npm.Table.{table}
+use Rattle.nodejs_semver.specs.Npm.MalformedWords.{IsRightWord}
 use Rattle.nodejs_semver.proofs.npm.malformed_words.right_word.Goals as goal
 
 pub returns-in_err-word-clause-none : goal.returns-in_err-word-clause-none
-returns-in_err-word-clause-none c = rw c.from_residual.ensures (no-word c.args.include c.args.text.now None c.requires c.in_err-word.ensures refl)
+returns-in_err-word-clause-none c =
+    rw c.from_residual.ensures (no-word c.args.include c.args.text.now c.requires (front-none capped_in (signed_word false c.args.text.now) c.in_err-word.ensures))
 
 pub row-requires : goal.row-requires
-row-requires c =
-    let w : Counted × List ℕ = (counted_view c.in_ok-word.word, c.in_ok-word.behind.now) in
-    rw c.in-Some.is at (word-normal false c.args.text.now w (sym c.in_ok-word.ensures))
+row-requires c = word-normal false c.args.text.now (signed_view c.in_ok-word.word, c.in_ok-word.behind.now) c.in_ok-word.ensures
 
-pub returns-in_err-row-in-Some-clause-none : goal.returns-in_err-row-in-Some-clause-none
-returns-in_err-row-in-Some-clause-none c =
-    let w : Counted × List ℕ = (counted_view c.in_ok-word.word, c.in_ok-word.behind.now) in
-    rw c.from_residual-in_err-row-in-Some.ensures
-    (no-word c.args.include c.args.text.now (Some w) c.requires c.in_ok-word.ensures (rw (c.in-Some.is, c.in_err-row-in-Some.ensures) refl))
+pub returns-in_err-row-clause-none : goal.returns-in_err-row-clause-none
+returns-in_err-row-clause-none c =
+    let v = front-as capped_in (signed_word false c.args.text.now) (signed_view c.in_ok-word.word, c.in_ok-word.behind.now) c.in_ok-word.ensures in
+    let bad = subst (λ (x : Signed × List ℕ). list_all (is_valid MAX_SAFE_INTEGER) (table c.args.include x.0.0 x.0.1 x.0.2) ≡ false) v.2 c.in_err-row.ensures in
+    rw c.from_residual-in_err-row.ensures (wrong-word c.args.include c.args.text.now v.0 c.requires v.1 bad)
 
-pub returns-in_ok-row-in-Some-clause-some : goal.returns-in_ok-row-in-Some-clause-some
-returns-in_ok-row-in-Some-clause-some c =
-    let w : Counted × List ℕ = (counted_view c.in_ok-word.word, c.in_ok-word.behind.now) in
-    right-word c.args.include c.args.text.now w (npm_partial_view c.in-Some.partial) c.requires c.in_ok-word.ensures
-    (ap npm_partial_some_view c.in-Some.is) c.in_ok-row-in-Some.ensures.0
-
-pub returns-in-None-clause-none : goal.returns-in-None-clause-none
-returns-in-None-clause-none c =
-    let w : Counted × List ℕ = (counted_view c.in_ok-word.word, c.in_ok-word.behind.now) in
-    no-word c.args.include c.args.text.now (Some w) c.requires c.in_ok-word.ensures (rw c.in-None.is refl)
+pub returns-clause-some : goal.returns-clause-some
+returns-clause-some c =
+    let v = front-as capped_in (signed_word false c.args.text.now) (signed_view c.in_ok-word.word, c.in_ok-word.behind.now) c.in_ok-word.ensures in
+    let good = subst (λ (x : Signed × List ℕ). list_all (is_valid MAX_SAFE_INTEGER) (table c.args.include x.0.0 x.0.1 x.0.2) ≡ true) v.2 c.in_ok-row.ensures.0 in
+    subst (λ (t : List ℕ). IsRightWord MAX_SAFE_INTEGER c.args.include c.args.text.now t) (ap (λ (x : Signed × List ℕ). x.1) (sym v.2))
+    (right-word c.args.include c.args.text.now v.0 c.requires v.1 good)

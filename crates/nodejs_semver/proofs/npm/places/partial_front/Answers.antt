@@ -1,24 +1,11 @@
-use Rattle.nodejs_semver.proofs.Common.{MAX_SAFE_INTEGER, None, Some, sym, ◌∙◌}
-use Rattle.nodejs_semver.proofs.Strict.{Hyphens.partial-le, PartialLaw.front_counted}
-use Rattle.nodejs_semver.specs.Internal.NpmViews.{npm_partial_some_view}
+use Rattle.nodejs_semver.proofs.{Common.{None, Some, sym, ◌∙◌}, Strict.PartialLaw.{one-capped, none-capped, more-capped}}
 use Rattle.nodejs_semver.proofs.npm.places.partial_front.Goals as goal
 
-pub slice_bounds-is_short-count : goal.slice_bounds-is_short-count
-slice_bounds-is_short-count c =
-    partial-le _ _ _ _ _ (front_counted c.args.loose MAX_SAFE_INTEGER c.args.text.now
-    (Some (npm_partial_some_view c.in_ok-partial.partial, c.in_ok-partial.rest.now)) c.in_ok-partial.ensures)
+pub returns-in_err-major : goal.returns-in_err-major
+returns-in_err-major c = rw c.from_residual.ensures (none-capped c.args.loose c.args.text.now c.in_err-major.ensures)
 
-pub returns-in_err-partial : goal.returns-in_err-partial
-returns-in_err-partial c = rw c.from_residual.ensures (front_counted c.args.loose MAX_SAFE_INTEGER c.args.text.now None c.in_err-partial.ensures)
+pub returns-in-Some : goal.returns-in-Some
+returns-in-Some c = c.third_front.ensures ∙ more-capped c.args.loose c.args.text.now _ _ _ _ c.in_ok-major.ensures c.in-Some.ensures
 
-pub returns-then-is_short : goal.returns-then-is_short
-returns-then-is_short c =
-    rw (sym c.is_short.ensures ∙ c.if-is_short.true) at
-    (front_counted c.args.loose MAX_SAFE_INTEGER c.args.text.now
-    (Some (npm_partial_some_view c.in_ok-partial.partial, c.in_ok-partial.rest.now)) c.in_ok-partial.ensures)
-
-pub returns-else-is_short : goal.returns-else-is_short
-returns-else-is_short c =
-    rw (sym c.is_short.ensures ∙ c.if-is_short.false) at
-    (front_counted c.args.loose MAX_SAFE_INTEGER c.args.text.now
-    (Some (npm_partial_some_view c.in_ok-partial.partial, c.in_ok-partial.rest.now)) c.in_ok-partial.ensures)
+pub returns-in-None : goal.returns-in-None
+returns-in-None c = rw c.short_partial.ensures (one-capped c.args.loose c.args.text.now _ _ c.in_ok-major.ensures c.in-None.ensures)

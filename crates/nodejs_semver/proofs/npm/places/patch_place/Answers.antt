@@ -1,14 +1,18 @@
-use Rattle.nodejs_semver.proofs.{Common.{arith, sym, ◌∙◌}, Strict.PartialLaw.{patch_cut, patch_whole}}
-use Rattle.nodejs_semver.specs.Internal.NpmViews.{place_front_view}
+use Rattle.nodejs_semver.proofs.{Common.{None, Option, Some, ap, arith, sym, ◌∙◌}, NpmCommon.{capped_one, first_as}, Strict.PartialLaw.{patch_cut, patch_whole}}
 use Rattle.nodejs_semver.proofs.npm.places.patch_place.Goals as goal
 
 pub returns-then-not-shares_digits : goal.returns-then-not-shares_digits
 returns-then-not-shares_digits c =
-    c.place_front.ensures ∙ patch_whole c.args.loose c.args.text.now c.digits_len-digits.result c.digits_len-digits.ensures.value
-    (sym c.shares_digits.ensures ∙ c.if-not-shares_digits.true)
+    c.place_front.ensures ∙ ap (first_as capped_one) (patch_whole c.args.loose c.args.text.now c.digits_len-digits.result c.digits_len-digits.ensures.value
+    (sym c.shares_digits.ensures ∙ c.if-not-shares_digits.true))
+
+pub returns-in_err-place : goal.returns-in_err-place
+returns-in_err-place c =
+    rw c.from_residual.ensures (patch_cut c.args.loose c.args.text.now c.digits_len-digits.result c.saturating_sub-own.result None
+    c.digits_len-digits.ensures.value (sym c.shares_digits.ensures ∙ c.if-not-shares_digits.false) (omega (arith, c.saturating_sub-own.ensures))
+    c.in_err-place.ensures)
 
 pub returns : goal.returns
 returns c =
-    c.with_rest.ensures ∙ patch_cut c.args.loose c.args.text.now c.digits_len-digits.result c.saturating_sub-own.result
-    (place_front_view c.place_front-2.result) c.digits_len-digits.ensures.value (sym c.shares_digits.ensures ∙ c.if-not-shares_digits.false)
-    (omega (arith, c.saturating_sub-own.ensures)) c.place_front-2.ensures
+    patch_cut c.args.loose c.args.text.now c.digits_len-digits.result c.saturating_sub-own.result _ c.digits_len-digits.ensures.value
+    (sym c.shares_digits.ensures ∙ c.if-not-shares_digits.false) (omega (arith, c.saturating_sub-own.ensures)) c.in_ok-place.ensures

@@ -1,4 +1,4 @@
-use Rattle.nodejs_semver.{proofs.{Common.{refl, sym, ◌∙◌}, Strict.PartialLaw.over_counted}, specs.Internal.NpmViews.place_view}
+use Rattle.nodejs_semver.proofs.{Common.{refl, sym, ◌∙◌}, Strict.PartialLaw.over_qualified}
 use Rattle.semver_core.proofs.Text.Ends.{nothing_listed}
 use Rattle.nodejs_semver.proofs.npm.places.qualified_partial.Goals as goal
 
@@ -11,7 +11,6 @@ long_partial-requires-clause-build c = nothing_listed
 pub returns-then-is_over : goal.returns-then-is_over
 returns-then-is_over c =
     rw (
-      over_counted c.args.loose (place_view c.args.major) (place_view c.args.minor) (place_view c.args.patch) c.args.text.now
-          (sym c.is_over.ensures ∙ c.if-is_over.true),
+      over_qualified c.args.loose c.args.major c.args.minor c.args.patch c.args.text.now (sym c.is_over.ensures ∙ c.if-is_over.true),
       sym c.long_partial.ensures,
     ) refl

@@ -1,17 +1,18 @@
-use Rattle.nodejs_semver.proofs.{Common.{MAX_SAFE_INTEGER, sym}, NpmCommon.{CountedEnd, end_view}, Strict.Hyphens.hyphen-normal}
-use Rattle.nodejs_semver.proofs.Strict.RangeReads.{hyphen-alternative, words-alternative}
+use Rattle.nodejs_semver.proofs.{Common.{ap, sym, ◌∙◌}, NpmCommon.{Ended, are_normal, end_view, hyphen_ends, hyphen_of, valid_one, ◌>>?◌}, Strict.Hyphens.hyphen-normal}
+use Rattle.nodejs_semver.proofs.Strict.RangeReads.{ends-as, ends-none, hyphen-alternative, words-alternative}
 use Rattle.nodejs_semver.proofs.npm.ranges.alternative.Goals as goal
 
 pub between-requires : goal.between-requires
 between-requires c =
-    let e : CountedEnd × CountedEnd = (end_view c.in-Some.lower, end_view c.in-Some.upper) in
-    let n = hyphen-normal c.args.loose MAX_SAFE_INTEGER c.args.text.now e (sym c.in-Some.ensures) in
-    record { lower = n.0; upper = n.1 }
+    let v = ends-as (hyphen_ends c.args.loose c.args.text.now) (end_view c.in-Some.lower, end_view c.in-Some.upper) c.in-Some.ensures in
+    let n = hyphen-normal c.args.loose c.args.text.now v.0 v.1 in
+    record { lower = ap (λ (x : Ended × Ended). are_normal x.0.1) v.2 ∙ n.0; upper = ap (λ (x : Ended × Ended). are_normal x.1.1) v.2 ∙ n.1 }
 
 pub returns-in-Some : goal.returns-in-Some
 returns-in-Some c =
-    let e : CountedEnd × CountedEnd = (end_view c.in-Some.lower, end_view c.in-Some.upper) in
-    rw (hyphen-alternative c.args.loose c.args.include c.args.text.now e (sym c.in-Some.ensures)) c.between.ensures
+    let v = ends-as (hyphen_ends c.args.loose c.args.text.now) (end_view c.in-Some.lower, end_view c.in-Some.upper) c.in-Some.ensures in
+    rw (hyphen-alternative c.args.loose c.args.include c.args.text.now v.0 v.1
+    ∙ ap (λ (x : Ended × Ended). hyphen_of c.args.loose c.args.include x >>? valid_one) (sym v.2)) c.between.ensures
 
 pub returns-in-None : goal.returns-in-None
-returns-in-None c = rw (words-alternative c.args.loose c.args.include c.args.text.now (sym c.in-None.ensures)) c.words.ensures
+returns-in-None c = rw (words-alternative c.args.loose c.args.include c.args.text.now (ends-none (hyphen_ends c.args.loose c.args.text.now) c.in-None.ensures)) c.words.ensures

@@ -1,14 +1,23 @@
-use Rattle.nodejs_semver.proofs.{NpmCommon.end_view, Strict.RangeReads.{lower-none, upper-found}}
+use Rattle.nodejs_semver.proofs.{Common.{sym, ◌∙◌}, NpmCommon.{end_view, lower_of, upper_of}, Strict.RangeReads.{lower-none, lower-wrong, upper-found, upper-wrong}}
 use Rattle.nodejs_semver.proofs.npm.ranges.between.Goals as goal
+
+pub returns-then-not-is_right : goal.returns-then-not-is_right
+returns-then-not-is_right c =
+    lower-wrong c.args.loose c.args.include (end_view c.args.lower.now) (end_view c.args.upper.now) (sym c.is_right.ensures ∙ c.if-not-is_right.true)
+
+pub returns-then-not-is_right-2 : goal.returns-then-not-is_right-2
+returns-then-not-is_right-2 c =
+    upper-wrong c.args.loose c.args.include (end_view c.args.lower.now) (end_view c.args.upper.now) (sym c.is_right-2.ensures ∙ c.if-not-is_right-2.true)
 
 pub returns-in_err-from : goal.returns-in_err-from
 returns-in_err-from c =
-    rw c.from_residual.ensures (lower-none c.args.loose c.args.include (end_view c.args.lower.now) (end_view c.args.upper.now) c.all.result
-    c.lower_bounds-first.result c.lower_bounds-first.ensures (c.in_err-from.ensures.narrowed c.args.include))
+    rw c.from_residual.ensures (lower-none c.args.loose c.args.include (end_view c.args.lower.now) (end_view c.args.upper.now)
+    (sym c.is_right.ensures ∙ c.if-not-is_right.false) (sym c.is_right-2.ensures ∙ c.if-not-is_right-2.false)
+    (c.in_err-from.ensures.narrowed c.args.include (lower_of c.args.include (end_view c.args.lower.now)) c.lower_bounds.ensures))
 
 pub returns : goal.returns
 returns c =
-    upper-found c.args.loose c.args.include (end_view c.args.lower.now) (end_view c.args.upper.now) c.all.result c.lower_bounds-first.result
-    c.lower_bounds-first.ensures c.in_ok-from.from c.upper_bounds-second.result c.meet_read-2.result (c.all.ensures.narrowed c.args.include)
-    c.in_ok-from.ensures.none (c.in_ok-from.ensures.narrowed c.args.include) c.upper_bounds-second.ensures c.meet_read-2.ensures.none
-    (c.meet_read-2.ensures.narrowed c.args.include) (rw (c.in_ok-from.ensures.lost, c.all.ensures.lost) at c.meet_read-2.ensures.lost)
+    upper-found c.args.loose c.args.include (end_view c.args.lower.now) (end_view c.args.upper.now) (sym c.is_right.ensures ∙ c.if-not-is_right.false)
+    (sym c.is_right-2.ensures ∙ c.if-not-is_right-2.false) c.all.result c.in_ok-from.from c.meet_read-2.result (c.all.ensures.narrowed c.args.include)
+    (c.in_ok-from.ensures.narrowed c.args.include (lower_of c.args.include (end_view c.args.lower.now)) c.lower_bounds.ensures) (c.meet_read-2.ensures.narrowed c.args.include (upper_of c.args.include (end_view c.args.upper.now)) c.upper_bounds.ensures)
+    (rw (c.in_ok-from.ensures.lost, c.all.ensures.lost) at c.meet_read-2.ensures.lost)

@@ -1,6 +1,6 @@
-use Rattle.nodejs_semver.proofs.{Common.{arith, length, sym, ◌<◌, ◌∙◌}, Strict.Counted.words-begin}
+use Rattle.nodejs_semver.proofs.{Common.{arith, length, sym, ◌<◌, ◌∙◌}, Strict.WordLoop.words-begin}
 use Rattle.nodejs_semver.proofs.Strict.RangeReads.{view-none, word-next, word-none, words-all}
-use Rattle.nodejs_semver.proofs.{Common.ap, NpmCommon.{Alternative, is_none}, Strict.Characters.empty-length}
+use Rattle.nodejs_semver.proofs.{Common.ap, NpmCommon.{Alternative, capped_in, is_none, signed_word}, Strict.PartialLaw.front-some, Strict.Characters.empty-length}
 use Rattle.nodejs_semver.proofs.npm.ranges.words.Goals.{else-is_last_ignored, then-is_last_ignored}
 use Rattle.nodejs_semver.proofs.npm.ranges.words.Goals as goal
 
@@ -37,6 +37,6 @@ returns c =
       | else-is_last_ignored w ↦ w.ended-is ∙ k
     ])
     (λ k. elim c.if-is_last_ignored.branch [
-      | then-is_last_ignored w ↦ w.ended-is ∙ view-none w.word_front.result w.is_none.result w.is_none.ensures ∙ ap is_none w.word_front.ensures
+      | then-is_last_ignored w ↦ w.ended-is ∙ view-none w.word_front.result w.is_none.result w.is_none.ensures ∙ ap is_none w.word_front.ensures ∙ front-some capped_in (signed_word c.args.loose c.args.text.now)
       | else-is_last_ignored w ↦ cc (k, w.if-is_last_ignored.false)
     ])

@@ -1,4 +1,4 @@
-use Rattle.nodejs_semver.proofs.{Common.length, Strict.Counted.AreWordsTo}
+use Rattle.nodejs_semver.proofs.{Common.length, Strict.WordLoop.AreWordsTo}
 use Rattle.nodejs_semver.proofs.npm.ranges.words.Given as goal
 
 abbrev pub invariant-words : goal.invariant-words

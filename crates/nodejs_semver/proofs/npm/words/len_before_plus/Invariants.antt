@@ -1,5 +1,5 @@
 use Rattle.nodejs_semver.proofs.Common.{drop, not, prefix_len, ◌+◌, ◌==◌, ◌≡◌}
-use Rattle.nodejs_semver.proofs.npm.places.len_before_plus.Given as goal
+use Rattle.nodejs_semver.proofs.npm.words.len_before_plus.Given as goal
 
 abbrev pub invariant-characters : goal.invariant-characters
 invariant-characters l =
