@@ -167,9 +167,7 @@ Parted limit text r = (x : List ℕ) × (text ≡ x ++ r.1) × IsCommonPart limi
 word-sound : (limit : ℕ) (text : List ℕ) (read : Front Word) (r : Span VersionValue × List ℕ)
     → ((x : Word × List ℕ) → read ≡ Some x → Worded limit text x) → word_read limit read ≡ Some r → Parted limit text r
 word-sound limit text read r sound h =
-    let w = read-sound limit read r h in
-    let x = sound (w.0, r.1) w.1 in
-    (x.0, x.1, one_word x.0 w.0 r.0 x.2 w.2)
+    grind (arith, nat_tests, common_steps, read-sound, one_word)
 
 second-is : (text : List ℕ) → begins_second text ≡ true → text ≡ 32 ∷ drop 1 text
 second-is text h = grind arith

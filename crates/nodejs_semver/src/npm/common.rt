@@ -281,48 +281,18 @@ fn push_comparisons<'a>(
     push_read(joined(first, second), rest, found)
 }
 
-// The same of a short partial behind a caret.
+// Adds the interval of a short partial behind a sign, and returns what follows it. The sign is known
+// where this is called, so that each sign has a row of its own.
+#[inline(always)]
 #[tactic(auto, using(crate::proofs::Strict::CommonReads::words_found))]
-fn push_caret<'a>(
+fn push_signed<'a>(
     include: bool,
+    sign: Sign,
     text: &'a [u8],
     found: &mut Intervals<VersionRef<'a>>,
 ) -> Allocated<Option<&'a [u8]>>
-    ensures added { IfOk result (λ rest. IsTried include (94 ∷ text.now) (rest_view rest)
-        found.old.items found.new.items) }
-    ensures memory { OnErr result (0 < length found.old.items) }
-{
-    let Some((partial, rest)) = short_front(text) else {
-        return Ok(None);
-    };
-    push_read(caret(include, partial.zeros(), &partial), rest, found)
-}
-
-// The same behind a tilde.
-#[tactic(auto, using(crate::proofs::Strict::CommonReads::words_found))]
-fn push_tilde<'a>(
-    include: bool,
-    text: &'a [u8],
-    found: &mut Intervals<VersionRef<'a>>,
-) -> Allocated<Option<&'a [u8]>>
-    ensures added { IfOk result (λ rest. IsTried include (126 ∷ text.now) (rest_view rest)
-        found.old.items found.new.items) }
-    ensures memory { OnErr result (0 < length found.old.items) }
-{
-    let Some((partial, rest)) = short_front(text) else {
-        return Ok(None);
-    };
-    push_read(tilde(include, false, &partial), rest, found)
-}
-
-// The same of a short partial alone.
-#[tactic(auto, using(crate::proofs::Strict::CommonReads::words_found))]
-fn push_plain<'a>(
-    include: bool,
-    text: &'a [u8],
-    found: &mut Intervals<VersionRef<'a>>,
-) -> Allocated<Option<&'a [u8]>>
-    ensures added { IfOk result (λ rest. IsTried include text.now (rest_view rest) found.old.items
+    ensures added { (signed : List ℕ) → IsSignAt signed (npm_sign_view sign) text.now →
+        IfOk result (λ rest. IsTried include signed (rest_view rest) found.old.items
         found.new.items) }
     ensures memory { OnErr result (0 < length found.old.items) }
 {
@@ -330,11 +300,12 @@ fn push_plain<'a>(
         return Ok(None);
     };
     let piece = &text[..text.len() - rest.len()];
-    push_read(
-        compared(include, false, Comparator::Equal, &partial, piece),
-        rest,
-        found,
-    )
+    let bounds = match sign {
+        Sign::Caret => caret(include, partial.zeros(), &partial),
+        Sign::Tilde => tilde(include, false, &partial),
+        Sign::Compared(comparator) => compared(include, false, comparator, &partial, piece),
+    };
+    push_read(bounds, rest, found)
 }
 
 // Adds the interval of the part at the front where its partials are short ones.
@@ -349,10 +320,10 @@ fn push_short<'a>(
     ensures memory { OnErr result (0 < length found.old.items) }
 {
     match text {
-        [b'^', rest @ ..] => push_caret(include, rest, found),
-        [b'~', rest @ ..] => push_tilde(include, rest, found),
+        [b'^', rest @ ..] => push_signed(include, Sign::Caret, rest, found),
+        [b'~', rest @ ..] => push_signed(include, Sign::Tilde, rest, found),
         [b'<' | b'=' | b'>', ..] => push_comparisons(include, text, found),
-        _ => push_plain(include, text, found),
+        _ => push_signed(include, Sign::Compared(Comparator::Equal), text, found),
     }
 }
 
