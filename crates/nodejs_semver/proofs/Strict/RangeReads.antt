@@ -12,10 +12,10 @@ use Rattle.nodejs_semver.proofs.NpmCommon.{counted, counts, first_valid, is_lost
 use Rattle.nodejs_semver.proofs.NpmCommon.{is_none, is_unbounded, is_valid, kept, meets, nothing, valid_alternative}
 use Rattle.nodejs_semver.proofs.{NpmCommon.{valid_one, words_of, words_of_all, ◌>>?◌}, Strict.{AlternativeLaw.alternatives_are, WordLoop.AreWordsTo}}
 use Rattle.nodejs_semver.proofs.Strict.{Hyphens.{both_capped, hyphen-capped}, WordLoop.{first-none, valid-found, words-end, words-next, words-none}}
-use Rattle.nodejs_semver.proofs.NpmCommon.{Ended, capped_in, capped_partial, first_as, first_word, hyphen_ends, hyphen_of, is_short_word}
+use Rattle.nodejs_semver.proofs.NpmCommon.{Ended, capped_in, capped_partial, first_word, hyphen_ends, hyphen_of, is_short_word}
 use Rattle.nodejs_semver.proofs.NpmCommon.{signed_front_view, signed_word, valid_all, valid_first, words_within}
 use Rattle.nodejs_semver.proofs.NpmCommon.{is_free_lower, is_free_upper, is_right, lower_of, upper_of}
-use Rattle.nodejs_semver.proofs.{Common.{Front, and-false, cond_both, same_Some}, Strict.Printed.{capped-valid, table-invalid, valid-same}}
+use Rattle.nodejs_semver.proofs.{Common.{and-false, cond_both, same_Some}, Strict.Printed.{capped-valid, table-invalid, valid-same}}
 use Rattle.nodejs_semver.{specs.Internal.{NpmAlternatives.ranged, NpmReads.{AddsPart, AreAllFound, AreFound}}}
 use Rattle.nodejs_semver.specs.{Internal.NpmReads.{valid_alternatives, valid_range}, Npm.{Ranges.names, Readings.{OfAccepted, ReadText}}}
 use Rattle.{nodejs_semver.specs.{Npm.Table.{Partial, lowest, table}, declared.npm.words.Signed.Signed}, semver_core.specs.Failures.RefusedOnlyIf}

@@ -1,4 +1,4 @@
-use Rattle.nodejs_semver.proofs.Common.{Bool, Front, List, None, Option, Some, ap, refl, ℕ, ◌∙◌, ◌≡◌}
+use Rattle.nodejs_semver.proofs.Common.{Bool, Front, List, None, Some, ap, refl, ℕ, ◌∙◌, ◌≡◌}
 use Rattle.nodejs_semver.proofs.NpmCommon.{Ended, capped_in, capped_partial, drop_ends, end_front, ended_as, first_as, npm_partial_view, ◌>>?◌}
 use Rattle.nodejs_semver.{proofs.Strict.Hyphens.partial-le, specs.{Internal.NpmWords.places_front, Npm.Table.Partial}}
 use Rattle.nodejs_semver.proofs.npm.hyphens.end_front.Goals as goal
