@@ -8,7 +8,7 @@ use Rattle.nodejs_semver.proofs.Dividing.{BarLemmas.{cut_bars-front, parts_after
 use Rattle.nodejs_semver.proofs.NpmCommon.{Alternative, AreAlternatives, Comparison, HasAlternativesIn, IsAlternative, IsFound, IsLeft, none}
 use Rattle.nodejs_semver.proofs.NpmCommon.{IsMalformedWord, NoValue, Signed, alternative_of, capped_partial, here, is_none, is_valid}
 use Rattle.nodejs_semver.proofs.{NpmCommon.{marks_len, signed_word, valid_alternative, valid_one}, Reading.PartialLaw.spaces-le}
-use Rattle.nodejs_semver.proofs.Reading.{Steps.option-cases, WordLaw.{boundary-of, first-of, skips-is, skips-of, skips-utf8, trim-utf8}}
+use Rattle.nodejs_semver.proofs.Reading.{WordLaw.{boundary-of, first-of, skips-is, skips-of, skips-utf8, trim-utf8}}
 use Rattle.nodejs_semver.proofs.Strict.{AlternativeLaw.{alternative-found, alternative-read}, Printed.{capped-valid, table-invalid, valid-same}, RangeReads.found-some}
 use Rattle.nodejs_semver.{proofs.Strict.Words.{WordAt, signed-found, strict-kept, word-read}}
 use Rattle.nodejs_semver.specs.{Internal.{PartFronts.front_part}, Npm.{MalformedWords.{IsRightWord, on}, RangeFlaws.bytes_of}}

@@ -1,17 +1,15 @@
 -- Alternatives of node-semver's range texts: the functions that read them find exactly what the statement has.
-use Rattle.nodejs_semver.proofs.NpmCommon.{are_marks, npm_sign}
+use Rattle.nodejs_semver.proofs.NpmCommon.{are_marks, npm_sign, Signed, capped_in, capped_partial, first_as, signed_word, HasAlternativesIn}
+use Rattle.nodejs_semver.proofs.NpmCommon.{IsAlternative, IsHyphen, IsVersionText, alternative_of, alternatives_of, are_normal, hyphen_ends}
+use Rattle.nodejs_semver.proofs.NpmCommon.{is_free_lower, is_free_upper, is_mark, is_right, is_valid, kept, lower_of, marks_len, strict_version}
+use Rattle.nodejs_semver.proofs.NpmCommon.{upper_of, words_of_all, words_within}
 use Rattle.nodejs_semver.proofs.{Common.is_boundary, Strict.{Hyphens.normal-capped, PartialLaw.front-as}}
-use Rattle.nodejs_semver.specs.Internal.NpmWords.{ended_word}
-use Rattle.nodejs_semver.proofs.NpmCommon.{Signed, capped_in, capped_partial, first_as, signed_word}
-use Rattle.nodejs_semver.specs.Internal.NpmWords.{places_front}
+use Rattle.nodejs_semver.specs.Internal.NpmWords.{ended_word, places_front}
 use Rattle.nodejs_semver.proofs.Common.{AllByRecursion, Bool, IsUtf8, List, None, Option, Some, VersionValue, [], and_parts, ap}
 use Rattle.nodejs_semver.proofs.Common.{arith, bind_some, cases_Bool, common_steps, cond_some, drop, false, inl, inr, is_empty, length, length-drop}
 use Rattle.nodejs_semver.proofs.Common.{list_all, map, middle_is_trim, nat_tests, prefix_len, refl, same_Some, subst, suc, sym, take, take_rest, trim}
 use Rattle.nodejs_semver.proofs.{Common.{trim_is_middle, true, ℕ, ◌&&◌, ◌++◌, ◌+◌, ◌-◌, ◌↔◌, ◌∙◌, ◌∷◌, ◌≡◌, ◌≤◌}, Dividing.BarsDivide.bars_divide}
 use Rattle.nodejs_semver.proofs.{Dividing.{BarsDivide.bars_once, MeaningLaw.pieces-utf8}, NpmCommon.{AreAlternatives, Comparison, Ended}}
-use Rattle.nodejs_semver.proofs.NpmCommon.{HasAlternativesIn, IsAlternative, IsHyphen, IsVersionText, alternative_of, alternatives_of}
-use Rattle.nodejs_semver.proofs.NpmCommon.{are_normal, hyphen_ends, is_free_lower, is_free_upper, is_mark, is_right}
-use Rattle.nodejs_semver.proofs.NpmCommon.{is_valid, kept, lower_of, marks_len, strict_version, upper_of, words_of_all, words_within}
 use Rattle.nodejs_semver.proofs.{Reading.{Steps.option-cases, WordLaw.{tail-utf8, trim-utf8}}, Strict.Hyphens.{ended_of, front-normal, hyphen-found}}
 use Rattle.nodejs_semver.proofs.Strict.{Hyphens.{hyphen-read, partial-le, right-end}, PartialLaw.prefix-all}
 use Rattle.nodejs_semver.{proofs.Strict.{VersionLaw.strict-read-version, Words.{words-found, words-read}}}
@@ -43,12 +41,7 @@ pub ruleset marks_found = (marks_all)
 -- the partial of a word that is read
 signed-normal : (loose : Bool) (text : List ℕ) (w : Signed × List ℕ) → signed_word loose text ≡ Some w → are_normal w.0.1 ≡ true
 unfolding signed_word
-signed-normal loose text w h =
-    let s = npm_sign text in
-    let n = marks_len s.1 in
-    let p = bind_some (places_front loose (drop n s.1)) (λ p. ended_word loose s.0 s.1 n p) w h in
-    let t = cond_some (are_marks loose s.0 p.0.0 (take n s.1) && is_boundary p.0.1) ((s.0, p.0.0, take (length s.1 - length p.0.1) s.1), p.0.1) w p.2 in
-    rw (← t.1) (front-normal loose (drop n s.1) p.0 p.1)
+signed-normal loose text w h = grind (arith, front-normal)
 
 pub word-normal : (loose : Bool) (text : List ℕ) (w : Signed × List ℕ) → Some w ≡ first_as capped_in (signed_word loose text) → are_normal w.0.1 ≡ true
 word-normal loose text w h =

@@ -1,7 +1,9 @@
 -- Hyphen ranges of node-semver's range texts: the functions that read them find exactly what the statement has, and the code those whose
 -- numbers that count are up to the limit.
-use Rattle.nodejs_semver.proofs.NpmCommon.{major, minor, wildcard}
-use Rattle.nodejs_semver.proofs.NpmCommon.{capped_in, capped_partial, first_as}
+use Rattle.nodejs_semver.proofs.NpmCommon.{major, minor, wildcard, capped_in, capped_partial, first_as, IsWord, after_byte, after_ends, are_marks}
+use Rattle.nodejs_semver.proofs.NpmCommon.{are_normal, compared, is_free, are_whole_marks, drop_ends, end_front, ended_as, hyphen_ends, hyphen_of}
+use Rattle.nodejs_semver.proofs.NpmCommon.{is_free_lower, is_free_upper, is_mark, is_right, is_right_end, is_short, is_short_word, is_valid, last_end}
+use Rattle.nodejs_semver.proofs.NpmCommon.{last_marks, len_utf8, lower_of}
 use Rattle.nodejs_semver.proofs.{Bounds.Bounded.identifiers-normal, Common.{Bool, Id, IsUtf8, List, MAX_SAFE_INTEGER, None, Option, Some}}
 use Rattle.nodejs_semver.proofs.Common.{VersionValue, [], all_weaker, and_parts, ap, append_assoc, ap₂, arith, begins, bind_some, cases_Bool}
 use Rattle.nodejs_semver.proofs.Common.{common_steps, cond_some, drop, drop_at, drop_spaces, encode_utf8, encode_utf8_all, false, get_or}
@@ -9,9 +11,6 @@ use Rattle.nodejs_semver.proofs.Common.{if◌then◌else◌, inl, inr, is_empty,
 use Rattle.nodejs_semver.proofs.Common.{length-encode, list_all, list_all-append, lt-ltb, nat_tests, not, prefix_len, refl, same_Some, space_len}
 use Rattle.nodejs_semver.proofs.Common.{space_len-nil, subst, suc, sym, take, true, zero, ℕ, ◌&&◌, ◌++◌, ◌+◌, ◌-◌, ◌<◌, ◌==◌, ◌||◌, ◌∙◌, ◌∷◌, ◌≡◌}
 use Rattle.nodejs_semver.proofs.{Common.◌≤◌, NpmCommon.{AreMarks, AreWords, Comparison, Ended, IsEnd, IsHyphen, IsPlaces, IsStrictBuild}}
-use Rattle.nodejs_semver.proofs.NpmCommon.{IsWord, after_byte, after_ends, are_marks, are_normal, compared, is_free, are_whole_marks}
-use Rattle.nodejs_semver.proofs.NpmCommon.{drop_ends, end_front, ended_as, hyphen_ends, hyphen_of, is_free_lower, is_free_upper, is_mark, is_right}
-use Rattle.nodejs_semver.proofs.NpmCommon.{is_right_end, is_short, is_short_word, is_valid, last_end, last_marks, len_utf8, lower_of}
 use Rattle.nodejs_semver.proofs.{NpmCommon.{no_build, plus, upper_of, ◌>>?◌}, Reading.Bytes.{all-join, begins_component, is_component_byte, is_solid}}
 use Rattle.nodejs_semver.proofs.Reading.{PartialLaw.front-dark, WordLaw.{blank-len, boundary-of, boundary-utf8, byte-is, skips-of, skips-utf8}}
 use Rattle.nodejs_semver.proofs.{Reading.WordLaw.{some_space-is, tail-utf8}, Strict.{Characters.{is_signal, sign-signal}, PartialLaw.boundary-quiet}}
@@ -195,17 +194,11 @@ abbrev AreValidAs : List Comparison → List Comparison → Type 0
 AreValidAs k l = (list_all (is_valid MAX_SAFE_INTEGER) k ≡ list_all (is_valid MAX_SAFE_INTEGER) l) × (list_all (is_valid MAX_SAFE_INTEGER) k ≡ true → k ≡ l)
 
 joined-valid : (k l w u : List Comparison) → AreValidAs k l → AreValidAs w u → valid_one (false, k ++ w) ≡ valid_one (false, l ++ u)
-joined-valid k l w u e f = elim (cases_Bool (list_all (is_valid MAX_SAFE_INTEGER) k && list_all (is_valid MAX_SAFE_INTEGER) w)) [
-  | inl good ↦ (let p = and_parts _ _ good in rw (e.1 p.0, f.1 p.1) refl)
-  | inr bad ↦ rw (list_all-append (is_valid MAX_SAFE_INTEGER) k w, list_all-append (is_valid MAX_SAFE_INTEGER) l u, bad, ← e.0, ← f.0, bad) refl
-]
+joined-valid k l w u e f = grind (arith, list_all-append (is_valid MAX_SAFE_INTEGER))
 
 free-capped : (include : Bool) (p : Partial)
     → (is_free_lower (capped_partial p) ≡ is_free_lower p) × (is_free_upper include (capped_partial p) ≡ is_free_upper include p)
-free-capped include wildcard = (refl, refl)
-free-capped include (major M) = (refl, refl)
-free-capped include (minor M m) = (refl, refl)
-free-capped include (whole v) = (refl, refl)
+free-capped include p = (grind arith, grind arith)
 
 -- of a number past the limit only that it is past it counts: such a range is right, and valid, as with the limit + 1 in its place
 pub hyphen-capped : (loose include : Bool) (a b : Ended)
@@ -244,10 +237,7 @@ front-le : (loose : Bool) (text : List ℕ) (p : Partial × List ℕ) → places
 front-le loose text p h = let f = places-found loose text p.0 p.1 h in omega (arith, ap length f.split, length-append f.piece p.1)
 
 pub normal-capped : (p : Partial) → are_normal (capped_partial p) ≡ are_normal p
-normal-capped wildcard = refl
-normal-capped (major M) = refl
-normal-capped (minor M m) = refl
-normal-capped (whole v) = refl
+normal-capped p = grind arith
 
 end-normal : (loose : Bool) (text : List ℕ) (e : Ended × List ℕ) → end_front loose text ≡ Some e → are_normal e.0.1 ≡ true
 unfolding end_front
@@ -272,26 +262,10 @@ abbrev with : Ended → Option Ended → Option (Ended × Ended)
 with a o = o >>? λ b. Some (a, b)
 
 -- the ends of what is a hyphen range where the lower one was read
-ends-from : (loose : Bool) (text : List ℕ) (v : Ended × List ℕ) → end_front loose text ≡ Some v
-    → with (capped_in v.0) (after_dash v.1 >>? λ second. one_capped (last_end loose second)) ≡ both_capped (hyphen_ends loose text)
-unfolding hyphen_ends
-ends-from loose text v e = rw e (go v.0 (after_dash v.1))
-  where
-    last : (a : Ended) (o : Option Ended) → with (capped_in a) (one_capped o) ≡ both_capped (with a o)
-    last a None = refl
-    last a (Some b) = refl
-
-    go : (a : Ended) (o : Option (List ℕ))
-        → with (capped_in a) (o >>? λ second. one_capped (last_end loose second)) ≡ both_capped (o >>? λ second. with a (last_end loose second))
-    go a None = refl
-    go a (Some second) = last a (last_end loose second)
-
 pub ends-capped : (loose : Bool) (text : List ℕ) (x : Ended × List ℕ) (o : Option Ended) → Some x ≡ first_as capped_in (end_front loose text)
     → o ≡ (after_dash x.1 >>? λ second. one_capped (last_end loose second)) → with x.0 o ≡ both_capped (hyphen_ends loose text)
-ends-capped loose text x o read h =
-    let v = front-as capped_in (end_front loose text) x read in
-    rw h (subst (λ (x : Ended × List ℕ). with x.0 (after_dash x.1 >>? λ second. one_capped (last_end loose second)) ≡ both_capped (hyphen_ends loose text))
-    (sym v.2) (ends-from loose text v.0 v.1))
+unfolding hyphen_ends
+ends-capped loose text x o read h = grind (arith, nat_tests, common_steps)
 
 -- what stands behind a partial is no longer than the text
 pub partial-le : (loose : Bool) (text : List ℕ) (p : Partial) (rest : List ℕ) → Some (p, rest) ≡ first_as capped_partial (places_front loose text)

@@ -1,15 +1,14 @@
 -- Places and partial versions of node-semver's range texts: what is read is written, and what is written is read; also by the code, which has each number
 -- past the limit as the limit + 1.
-use Rattle.nodejs_semver.proofs.NpmCommon.{capped_partial}
-use Rattle.nodejs_semver.proofs.NpmCommon.{capped_one, first_as}
+use Rattle.nodejs_semver.proofs.NpmCommon.{capped_partial, capped_one, first_as, begins_wildcard, build_front, dashed_front, dotted_patch}
+use Rattle.nodejs_semver.proofs.NpmCommon.{dotted_place, drop-append-add, digits_value, has_leading_zero, is_none, is_spelled, length-prefix_len}
+use Rattle.nodejs_semver.proofs.NpmCommon.{listed, may_stand, nat_le, number_front, number_of, one, partial_of, patch_place, place_front, pre_front}
+use Rattle.nodejs_semver.proofs.NpmCommon.{qualified_partial}
 use Rattle.nodejs_semver.proofs.Common.{◌||◌, ap, same_Some, sym, Bool, Front, Id, IsNumber, List, MAX_SAFE_INTEGER, None, Option, Some, [], and-false, and_parts, append-nil}
 use Rattle.nodejs_semver.proofs.Common.{append_assoc, arith, begins, bind_some, cases_Bool, common_steps, drop, drop_at, false, if◌then◌else◌, inl}
 use Rattle.nodejs_semver.proofs.Common.{inr, is_ascii_digit, is_boundary, is_empty, length, length-append, list_all, nat_tests, not, prefix_len, refl}
 use Rattle.nodejs_semver.proofs.Common.{subst, suc, take, take-append-drop, take_at, take_rest, true, zero, ℕ, ◌&&◌, ◌++◌, ◌+◌, ◌-◌, ◌<◌, ◌∙◌, ◌∷◌}
 use Rattle.nodejs_semver.proofs.{Common.{◌≡◌, ◌≤◌}, NpmCommon.{IsPlace, IsPlaces, IsStrictBuild, begins_byte, begins_padded}}
-use Rattle.nodejs_semver.proofs.NpmCommon.{begins_wildcard, build_front, dashed_front, dotted_patch, dotted_place, drop-append-add}
-use Rattle.nodejs_semver.proofs.NpmCommon.{digits_value, has_leading_zero, is_none, is_spelled, length-prefix_len, listed, may_stand, nat_le}
-use Rattle.nodejs_semver.proofs.NpmCommon.{number_front, number_of, one, partial_of, patch_place, place_front, pre_front, qualified_partial}
 use Rattle.nodejs_semver.proofs.{NpmCommon.{run_place, strict_number, take_while, three, two, ◌>>?◌}, Reading.Bytes.{is_solid, solid-dark}}
 use Rattle.nodejs_semver.proofs.Reading.{Numbers.{digits-taken, number-found, number-is, number-no_wildcard}, Steps.option-cases}
 use Rattle.nodejs_semver.proofs.Strict.VersionLaw.{At, Ends, Follows, build-ends, build-found, build-taken, dotted-found, number-short, padded-same}

@@ -1,15 +1,14 @@
 -- How versions print: how long, and which one prints `0.0.0`; which words have a comparator that is not valid; and that what is
 -- printed is read again.
-use Rattle.nodejs_semver.proofs.NpmCommon.{at_least, compared, major, minor, wildcard}
+use Rattle.nodejs_semver.proofs.NpmCommon.{at_least, compared, major, minor, wildcard, Comparison, IsStrictPreRelease, IsStrictVersion, IsVersionText}
+use Rattle.nodejs_semver.proofs.NpmCommon.{MAX_LENGTH, Numbers, bare, both_ways, bytes_eq, bytes_eq-Decides, chars, chars_from_encodes, dashed, first}
+use Rattle.nodejs_semver.proofs.NpmCommon.{from, hyphen_lower, hyphen_upper, id_text, capped_partial, is_strict_identifier, is_valid, is_zero}
+use Rattle.nodejs_semver.proofs.NpmCommon.{join_with_byte, marked_list, nat_le, no_build}
 use Rattle.nodejs_semver.specs.Internal.NpmWords.{capped}
-use Rattle.nodejs_semver.proofs.NpmCommon.{Comparison}
 use Rattle.nodejs_semver.proofs.Common.{Bool, Comparator, Id, IsTrim, IsUtf8, List, MAX_SAFE_INTEGER, VersionValue, [], and_parts, ap, append-nil}
 use Rattle.nodejs_semver.proofs.Common.{arith, cases_Bool, codes, common_steps, decimal, empty_is, encode_utf8_all, eqb-true, false, identifier_of}
 use Rattle.nodejs_semver.proofs.Common.{inl, inr, is_ascii_digit, is_identifier, is_identifier_char, is_release, length, length-append, list_all, map}
 use Rattle.nodejs_semver.proofs.Common.{nat_tests, pieces, refl, subst, sym, true, ℕ, ◌&&◌, ◌++◌, ◌+◌, ◌<◌, ◌==◌, ◌^◌, ◌||◌, ◌∙◌, ◌∷◌, ◌≡◌, ◌≤◌}
-use Rattle.nodejs_semver.proofs.NpmCommon.{IsStrictPreRelease, IsStrictVersion, IsVersionText, MAX_LENGTH, Numbers, bare, both_ways, bytes_eq}
-use Rattle.nodejs_semver.proofs.NpmCommon.{bytes_eq-Decides, chars, chars_from_encodes, dashed, first, from, hyphen_lower, hyphen_upper, id_text}
-use Rattle.nodejs_semver.proofs.NpmCommon.{capped_partial, is_strict_identifier, is_valid, is_zero, join_with_byte, marked_list, nat_le, no_build}
 use Rattle.nodejs_semver.proofs.{NpmCommon.{no_pre_release, release, under, version_text, whole, within}, NpmFlaws.Read.{plain-encodes, plain-middle}}
 use Rattle.nodejs_semver.{proofs.{NpmFlaws.Read.plain-trim, Strict.VersionLaw.{digits_printed, number_printed}}, specs.Npm.Table.{Partial, Sign}}
 use Rattle.{nodejs_semver.specs.Npm.{Table.{lowest, table}, Grammar.written}, semver_core.proofs.Printing.Returns.{decimal_digits, decimal_some}}
@@ -105,10 +104,7 @@ capped-le : (n : ℕ) → nat_le (capped n) MAX_SAFE_INTEGER ≡ nat_le n MAX_SA
 capped-le n = elim (cases_Bool (nat_le n MAX_SAFE_INTEGER)) [ inl small ↦ rw small small | inr great ↦ rw great refl ]
 
 pub capped-within : (p : Partial) → within (first (capped_partial p)) ≡ within (first p)
-capped-within wildcard = refl
-capped-within (major M) = rw (capped-le M) refl
-capped-within (minor M m) = rw (capped-le M, capped-le m) refl
-capped-within (whole v) = rw (capped-le v.major, capped-le v.minor, capped-le v.patch) refl
+capped-within p = grind (arith, capped-le)
 
 pub capped-same : (p : Partial) → within (first p) ≡ true → capped_partial p ≡ p
 capped-same p h = grind arith
@@ -117,16 +113,10 @@ capped-same p h = grind arith
 module _ (of : Partial → List Comparison) (past : (p : Partial) → within (first p) ≡ false → list_all (is_valid MAX_SAFE_INTEGER) (of p) ≡ false)
     (p : Partial) where
   pub capped-valid : list_all (is_valid MAX_SAFE_INTEGER) (of (capped_partial p)) ≡ list_all (is_valid MAX_SAFE_INTEGER) (of p)
-  capped-valid = elim (cases_Bool (within (first p))) [
-    | inl small ↦ rw (capped-same p small) refl
-    | inr great ↦ past (capped_partial p) (capped-within p ∙ great) ∙ sym (past p great)
-  ]
+  capped-valid = grind (arith, capped-same, capped-within, past)
 
   pub valid-within : list_all (is_valid MAX_SAFE_INTEGER) (of (capped_partial p)) ≡ true → within (first p) ≡ true
-  valid-within h = elim (cases_Bool (within (first p))) [
-    | inl small ↦ small
-    | inr great ↦ cc (h, past (capped_partial p) (capped-within p ∙ great))
-  ]
+  valid-within h = grind (arith, capped-within, past)
 
   pub valid-same : list_all (is_valid MAX_SAFE_INTEGER) (of (capped_partial p)) ≡ true → capped_partial p ≡ p
   valid-same h = capped-same p (valid-within h)

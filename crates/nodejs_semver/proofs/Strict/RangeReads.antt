@@ -6,16 +6,14 @@ use Rattle.nodejs_semver.proofs.Common.{drop_spaces, false, flat_map, holds, if�
 use Rattle.nodejs_semver.proofs.Common.{is_some, later_parts, length, length-append, lets_in, list_all, list_all-append, list_any, list_any-append}
 use Rattle.nodejs_semver.proofs.Common.{nat_tests, not, not-true, option_to_list, parts, precedence, refl, subst, sym, true, ℕ, ◌&&◌, ◌++◌, ◌+◌, ◌<◌}
 use Rattle.nodejs_semver.proofs.{Common.{◌||◌, ◌∙◌, ◌∷◌, ◌≡◌, ◌≤◌}, Dividing.BarsDivide.bars_once, NpmCommon.{AcceptAsRanged, Alternative}}
-use Rattle.nodejs_semver.proofs.NpmCommon.{AreNarrowed, Comparison, HasAlternativesIn, IsFound}
-use Rattle.nodejs_semver.proofs.NpmCommon.{IsNarrowed, IsRangeIn, IsStep, NarrowedBy, NoValue, alternative_of, alternatives_of, behind_ignored}
-use Rattle.nodejs_semver.proofs.NpmCommon.{counted, counts, first_valid, is_lost}
-use Rattle.nodejs_semver.proofs.NpmCommon.{is_none, is_unbounded, is_valid, kept, meets, nothing, valid_alternative}
+use Rattle.nodejs_semver.proofs.NpmCommon.{AreNarrowed, Comparison, HasAlternativesIn, IsFound, IsNarrowed, IsRangeIn, IsStep, NarrowedBy, NoValue}
+use Rattle.nodejs_semver.proofs.NpmCommon.{alternative_of, alternatives_of, behind_ignored, counted, counts, first_valid, is_lost, is_none}
+use Rattle.nodejs_semver.proofs.NpmCommon.{is_unbounded, is_valid, kept, meets, nothing, valid_alternative, Ended, capped_in, capped_partial}
+use Rattle.nodejs_semver.proofs.NpmCommon.{first_word, hyphen_ends, hyphen_of, is_short_word, signed_front_view, signed_word, valid_all, valid_first}
+use Rattle.nodejs_semver.proofs.NpmCommon.{words_within, is_free_lower, is_free_upper, is_right, lower_of, upper_of}
 use Rattle.nodejs_semver.proofs.{NpmCommon.{valid_one, words_of, words_of_all, ◌>>?◌}, Strict.{AlternativeLaw.alternatives_are, WordLoop.AreWordsTo}}
 use Rattle.nodejs_semver.proofs.Strict.{Hyphens.{both_capped, hyphen-capped}, WordLoop.{first-none, valid-found, words-end, words-next, words-none}}
-use Rattle.nodejs_semver.proofs.NpmCommon.{Ended, capped_in, capped_partial, first_as, first_word, hyphen_ends, hyphen_of, is_short_word}
-use Rattle.nodejs_semver.proofs.NpmCommon.{signed_front_view, signed_word, valid_all, valid_first, words_within}
-use Rattle.nodejs_semver.proofs.NpmCommon.{is_free_lower, is_free_upper, is_right, lower_of, upper_of}
-use Rattle.nodejs_semver.proofs.{Common.{Front, and-false, cond_both, same_Some}, Strict.Printed.{capped-valid, table-invalid, valid-same}}
+use Rattle.nodejs_semver.proofs.{Common.{and-false, cond_both, same_Some}, Strict.Printed.{capped-valid, table-invalid, valid-same}}
 use Rattle.nodejs_semver.{specs.Internal.{NpmAlternatives.ranged, NpmReads.{AddsPart, AreAllFound, AreFound}}}
 use Rattle.nodejs_semver.specs.{Internal.NpmReads.{valid_alternatives, valid_range}, Npm.{Ranges.names, Readings.{OfAccepted, ReadText}}}
 use Rattle.{nodejs_semver.specs.{Npm.Table.{Partial, lowest, table}, declared.npm.words.Signed.Signed}, semver_core.specs.Failures.RefusedOnlyIf}
@@ -179,10 +177,7 @@ module _ (loose include : Bool) (text : List ℕ) (all : Alternative) where
 
     pub step-invalid : NarrowedBy include all.interval (Row (capped_partial w.0.1)) None → IsStep include all (first_valid loose include text) None
     unfolding first_word
-    step-invalid k =
-        let invalid = sym (capped-valid Row (λ p. table-invalid include w.0.0 p w.0.2) w.0.1) ∙ k in
-        rw e (cond_both (is_short_word loose w.0.2) (Some (Some (Row w.0.1), drop_spaces w.1)) None (λ o. IsStep include all (o >>? valid_first) None)
-        (λ _. rw invalid tt) (λ _. tt))
+    step-invalid k = grind (arith, capped-valid Row (λ p. table-invalid include w.0.0 p w.0.2) w.0.1)
 
     pub step-read : (a : Alternative) (next : Bor (List ℕ)) → is_short_word loose w.0.2 ≡ true
         → NarrowedBy include all.interval (Row (capped_partial w.0.1)) (Some a) → a.is_bare ≡ (all.is_bare && is_empty (Row (capped_partial w.0.1)))

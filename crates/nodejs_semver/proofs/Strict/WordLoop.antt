@@ -1,13 +1,12 @@
 -- The words of an alternative whose comparators are valid, one after another.
-use Rattle.nodejs_semver.proofs.NpmCommon.{valid_all, valid_first}
+use Rattle.nodejs_semver.proofs.NpmCommon.{valid_all, valid_first, Alternative, Comparison, IsNarrowed, NarrowedBy, comparators_of, first_valid}
+use Rattle.nodejs_semver.proofs.NpmCommon.{first_word, is_none, is_valid}
 use Rattle.nodejs_semver.proofs.Common.{Bool, IsUtf8, List, MAX_SAFE_INTEGER, None, Option, Some, Span, VersionValue, [], ap, append-nil}
 use Rattle.nodejs_semver.proofs.Common.{append_assoc, arith, bind_some, common_steps, cond_some, false, if◌then◌else◌, is_empty, length}
 use Rattle.nodejs_semver.proofs.Common.{list_all, list_all-append, nat_lt, nat_tests, prefix_len, refl, same_Some, subst, sym}
 use Rattle.nodejs_semver.proofs.Common.{true, ℕ, ◌&&◌, ◌++◌, ◌-◌, ◌<◌, ◌||◌, ◌∙◌, ◌∷◌, ◌≡◌, ◌≤◌}
-use Rattle.nodejs_semver.proofs.NpmCommon.{Alternative, Comparison, IsNarrowed, NarrowedBy, comparators_of}
-use Rattle.nodejs_semver.proofs.NpmCommon.{first_valid, first_word, is_none, is_valid}
-use Rattle.nodejs_semver.proofs.{NpmCommon.{signed_word, words_of, words_within, ◌>>?◌}, Strict.Hyphens.front-is}
-use Rattle.nodejs_semver.proofs.Strict.{Printed.table-invalid, VersionLaw.empty-is, Words.FirstAt}
+use Rattle.nodejs_semver.proofs.{NpmCommon.{signed_word, words_of, words_within, ◌>>?◌}}
+use Rattle.nodejs_semver.proofs.Strict.{VersionLaw.empty-is, Words.FirstAt}
 use Rattle.nodejs_semver.{proofs.Strict.Words.{first-found, words-enough}}
 use Rattle.std.{proofs.lemmas.{Grind.flat_map-append, List.reverse-append}, specs.{List.suffix_len, Option.unwrap_or, Prelude.reverse}}
 

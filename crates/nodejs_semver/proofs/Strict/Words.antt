@@ -1,13 +1,12 @@
 -- The words of node-semver's range texts: the functions that read them find exactly what the statement has, one word after another.
 use Rattle.nodejs_semver.proofs.Common.{take_rest}
-use Rattle.nodejs_semver.proofs.NpmCommon.{capped_in}
-use Rattle.nodejs_semver.proofs.NpmCommon.{capped_partial, first_as}
+use Rattle.nodejs_semver.proofs.NpmCommon.{capped_in, capped_partial, first_as, AreWords, BeginsAs, BeginsWord, Comparison, IsPlace, IsPlaces, IsWord}
+use Rattle.nodejs_semver.proofs.NpmCommon.{NoValue, Signed, are_marks, begins_byte, behind_ignored, first_word, is_lost, is_mark, is_short_word}
+use Rattle.nodejs_semver.proofs.NpmCommon.{marked_word, marks_len, npm_sign}
 use Rattle.nodejs_semver.proofs.Common.{Bool, Front, IsBlank, IsUtf8, List, None, Option, Some, [], and_parts, ap, append-nil, append_assoc, arith}
 use Rattle.nodejs_semver.proofs.Common.{bind_some, cases_Bool, common_steps, cond_some, drop, drop_at, drop_spaces, eqb-true, false, inl, inr}
 use Rattle.nodejs_semver.proofs.Common.{is_boundary, is_empty, length, length-append, list_all, nat_tests, refl, same_Some, space_len, subst, suc}
 use Rattle.nodejs_semver.proofs.Common.{sym, take, take-append-drop, take_at, true, zero, ℕ, ◌&&◌, ◌++◌, ◌-◌, ◌<◌, ◌==◌, ◌||◌, ◌∙◌, ◌∷◌, ◌≡◌, ◌≤◌}
-use Rattle.nodejs_semver.proofs.NpmCommon.{AreWords, BeginsAs, BeginsWord, Comparison, IsPlace, IsPlaces, IsWord, NoValue, Signed, are_marks}
-use Rattle.nodejs_semver.proofs.NpmCommon.{begins_byte, behind_ignored, first_word, is_lost, is_mark, is_short_word, marked_word, marks_len, npm_sign}
 use Rattle.nodejs_semver.proofs.{NpmCommon.{signed_word, word, words_within, ◌>>?◌}, Reading.Bytes.{begins-on, begins-some, begins_component}}
 use Rattle.nodejs_semver.proofs.Reading.{Bytes.is_component_byte, PartialLaw.spaces-le, Steps.option-cases, WordLaw.{boundary-of, boundary-utf8}}
 use Rattle.nodejs_semver.proofs.{Reading.WordLaw.{skips-is, skips-of, skips-utf8, suffix-boundary}, Strict.Ignored.{ignored-found, ignored-read}}

@@ -76,8 +76,8 @@ impl<'a> Alternative<'a> {
         }
     }
 
-    /// The same with the comparators of one more word, whose partial has this text with its marks;
-    /// none where one of the comparators is not valid.
+    /// The alternative with the comparators of one more word, whose partial has this text with its
+    /// marks; none where one of the comparators is not valid.
     pub(crate) fn meet(
         self,
         include: bool,
@@ -96,8 +96,8 @@ impl<'a> Alternative<'a> {
         self.meet_read(read, has_no_comparators(sign, partial))
     }
 
-    /// The same with the bounds that were read of more comparators, or of none; none where one of
-    /// the comparators is not valid.
+    /// The alternative with the bounds that were read of more comparators, or of none; none where
+    /// one of the comparators is not valid.
     pub(crate) fn meet_read(
         self,
         read: Option<Bounds<'a>>,
@@ -112,7 +112,7 @@ impl<'a> Alternative<'a> {
         Some(self.narrow(read?, is_bare))
     }
 
-    // The same with bounds that more comparators have in common, or that none has.
+    // The alternative with bounds that more comparators have in common, or that none has.
     #[inline(always)]
     fn narrow(self, bounds: Bounds<'a>, is_bare: bool) -> Alternative<'a>
         ensures bounds { result.interval
@@ -127,7 +127,7 @@ impl<'a> Alternative<'a> {
         }
     }
 
-    /// The same, lost if it is bare and its ends are ignored.
+    /// The alternative at its end: lost if it is bare and its ends are ignored.
     pub(crate) fn ended(self, are_ends_ignored: bool) -> Alternative<'a>
         ensures interval { result.interval ≡ self.entry.interval }
         ensures lost { result.is_lost ≡ (self.entry.is_bare && are_ends_ignored) }

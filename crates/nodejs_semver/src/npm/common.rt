@@ -9,7 +9,8 @@ ghost use Rattle.nodejs_semver.specs.Words.{OnOk, option_to_list, precedence, re
 ghost use Rattle.nodejs_semver.specs.Internal.NpmFronts.{AreJoined, AreParts, IsLeft, IsPartAt};
 ghost use Rattle.nodejs_semver.specs.Internal.NpmFronts.{IsSignAt, IsTried, IsWordAt, is_below};
 ghost use Rattle.nodejs_semver.specs.Internal.NpmParts.{npm_partial_view, npm_sign_view};
-ghost use Rattle.nodejs_semver.specs.{Internal.NpmWords.{limited, places_front}, Npm.Table.compared};
+ghost use Rattle.nodejs_semver.specs.Internal.NpmWords.{limited, places_front};
+ghost use Rattle.nodejs_semver.specs.Npm.Table.{compared};
 
 use crate::Allocated;
 use crate::npm::comparators::{caret, compared, row_of_zeros, tilde};

@@ -69,7 +69,7 @@ fn prints_within(version: VersionRef<'_>) -> bool
     is_within(MAX_LENGTH - numbers, version.pre_release())
 }
 
-// The same. A release does.
+// Whether a version prints so few characters without its build. A release does.
 #[inline(always)]
 fn prints_short(version: &VersionRef<'_>) -> bool
     requires { within (Spec.first (Spec.whole version.now)) ≡ true }
@@ -419,7 +419,8 @@ pub(crate) fn row_of_zeros<'a>(
     }
 }
 
-/// The same by the text alone.
+/// The bounds that the comparators of a word have in common, as `row_of_zeros` has them: which
+/// numbers are written `0` is found in the text.
 #[inline(always)]
 pub(crate) fn row<'a>(
     include: bool,

@@ -324,7 +324,8 @@ fn third_front(loose: bool, major: Place, minor: Place, text: &[u8]) -> Option<(
 /// `MAX_SAFE_INTEGER + 1`.
 #[inline(always)]
 pub(crate) fn partial_front(loose: bool, text: &[u8]) -> Option<(Partial<'_>, &[u8])>
-    ensures { npm_front_view result ≡ Spec.first_as Spec.capped_partial (Spec.places_front loose text.now) }
+    ensures { npm_front_view result
+        ≡ Spec.first_as Spec.capped_partial (Spec.places_front loose text.now) }
 {
     let (major, rest) = place_front(loose, text)?;
     match dotted_place(loose, rest) {

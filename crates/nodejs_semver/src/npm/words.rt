@@ -172,7 +172,8 @@ pub(crate) fn is_short(loose: bool, text: &[u8]) -> bool
     !loose || len_before_plus(&text[marks_len(text)..]) <= 250
 }
 
-/// The word at the front, and the text behind it. Numbers past the limit are `MAX_SAFE_INTEGER + 1`.
+/// The word at the front, and the text behind it. Its numbers past the limit are
+/// `MAX_SAFE_INTEGER + 1`.
 pub(crate) fn word_front(loose: bool, text: &[u8]) -> Option<(Signed<'_>, &[u8])>
     ensures { signed_front_view result
         ≡ Spec.first_as Spec.capped_in (Spec.signed_word loose text.now) }

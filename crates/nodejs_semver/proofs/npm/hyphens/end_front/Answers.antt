@@ -1,4 +1,4 @@
-use Rattle.nodejs_semver.proofs.Common.{Bool, Front, List, None, Option, Some, ap, refl, ℕ, ◌∙◌, ◌≡◌}
+use Rattle.nodejs_semver.proofs.Common.{Bool, Front, arith, List, None, Some, ap, refl, ℕ, ◌∙◌, ◌≡◌}
 use Rattle.nodejs_semver.proofs.NpmCommon.{Ended, capped_in, capped_partial, drop_ends, end_front, ended_as, first_as, npm_partial_view, ◌>>?◌}
 use Rattle.nodejs_semver.{proofs.Strict.Hyphens.partial-le, specs.{Internal.NpmWords.places_front, Npm.Table.Partial}}
 use Rattle.nodejs_semver.proofs.npm.hyphens.end_front.Goals as goal
@@ -6,12 +6,7 @@ use Rattle.nodejs_semver.proofs.npm.hyphens.end_front.Goals as goal
 end-is : (loose : Bool) (text behind : List ℕ) (o : Front Partial) → behind ≡ drop_ends text → o ≡ first_as capped_partial (places_front loose behind)
     → (o >>? λ p. Some (ended_as text behind p)) ≡ first_as capped_in (end_front loose text)
 unfolding end_front
-end-is loose text behind o e h = rw (h, e) (go (places_front loose (drop_ends text)))
-  where
-    go : (o : Front Partial) → (first_as capped_partial o >>? λ p. Some (ended_as text (drop_ends text) p))
-        ≡ first_as capped_in (o >>? λ p. Some (ended_as text (drop_ends text) p))
-    go None = refl
-    go (Some p) = refl
+end-is loose text behind o e h = rw (h, e) (grind arith)
 
 pub ended-requires-clause-rest : goal.ended-requires-clause-rest
 ended-requires-clause-rest c = partial-le _ _ _ _ c.in_ok-partial.ensures

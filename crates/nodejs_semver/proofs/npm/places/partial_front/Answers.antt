@@ -1,4 +1,4 @@
-use Rattle.nodejs_semver.proofs.{Common.{None, Some, sym, ◌∙◌}, Strict.PartialLaw.{one-capped, none-capped, more-capped}}
+use Rattle.nodejs_semver.proofs.{Common.{◌∙◌}, Strict.PartialLaw.{one-capped, none-capped, more-capped}}
 use Rattle.nodejs_semver.proofs.npm.places.partial_front.Goals as goal
 
 pub returns-in_err-major : goal.returns-in_err-major

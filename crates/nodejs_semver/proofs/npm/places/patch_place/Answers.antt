@@ -1,4 +1,4 @@
-use Rattle.nodejs_semver.proofs.{Common.{None, Option, Some, ap, arith, sym, ◌∙◌}, NpmCommon.{capped_one, first_as}, Strict.PartialLaw.{patch_cut, patch_whole}}
+use Rattle.nodejs_semver.proofs.{Common.{None, ap, arith, sym, ◌∙◌}, NpmCommon.{capped_one, first_as}, Strict.PartialLaw.{patch_cut, patch_whole}}
 use Rattle.nodejs_semver.proofs.npm.places.patch_place.Goals as goal
 
 pub returns-then-not-shares_digits : goal.returns-then-not-shares_digits

@@ -1,7 +1,7 @@
 use Rattle.nodejs_semver.proofs.Common.{None, is_empty, subst, ◌&&◌}
 use Rattle.nodejs_semver.proofs.NpmCommon.{NarrowedBy, is_short_word}
 use Rattle.nodejs_semver.specs.Npm.Table.{table}
-use Rattle.nodejs_semver.proofs.{Common.{List, Option, Some, ap, drop_spaces, sym, ℕ, ◌∙◌, ◌≡◌}, NpmCommon.{Signed, capped_in, signed_view, signed_word}}
+use Rattle.nodejs_semver.proofs.{Common.{List, Some, ap, drop_spaces, sym, ℕ, ◌∙◌, ◌≡◌}, NpmCommon.{Signed, capped_in, signed_view, signed_word}}
 use Rattle.nodejs_semver.proofs.Strict.{AlternativeLaw.word-normal, PartialLaw.{front-as, front-none}, RangeReads.{step-ignored, step-invalid, step-long, step-read, step-strict}}
 use Rattle.nodejs_semver.proofs.npm.ranges.with_word.Goals as goal
 
