@@ -87,6 +87,20 @@ impl<'a> VersionRef<'a> {
         }
     }
 
+    /// The same version without its build metadata, which borrows the same text.
+    ///
+    /// ```rust
+    /// let version = VersionRef::parse("1.2.3-rc.1+exp")?;
+    /// assert!(rt; version.without_build().build().is_empty());
+    /// ```
+    #[inline(always)]
+    #[tactic(auto, using(crate::proofs::Text::Ends::lists_cut))]
+    pub fn without_build(&self) -> VersionRef<'a>
+        ensures { result ≡ record self.now { build = [] } }
+    {
+        VersionRef::from_texts(self.major, self.minor, self.patch, self.pre_release, b"")
+    }
+
     /// The version with identifiers of its own. Fails only if allocation fails, which happens only
     /// where it has a pre-release or build metadata; it never fails for the pre-release `0` alone.
     #[inline(always)]

@@ -60,6 +60,13 @@ fn inc(rt: HostRuntime) {
 }
 
 #[test]
+fn without_build(rt: HostRuntime) -> Result<(), Fail> {
+    let version = VersionRef::parse("1.2.3-rc.1+exp")?;
+    assert!(rt; version.without_build().build().is_empty());
+    Ok(())
+}
+
+#[test]
 fn version_ref_inc(rt: HostRuntime) -> Result<(), Fail> {
     let alloc = rt.alloc();
     let release = VersionRef::parse("1.2.3")?;

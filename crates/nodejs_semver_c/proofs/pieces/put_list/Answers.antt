@@ -1,7 +1,7 @@
 use Rattle.std.proofs.Common.{◌++◌, ◌∙◌, [], append-nil, refl, rules, sym}
+use Rattle.semver_core.proofs.Printing.Returns.{marked_step}
 use Rattle.semver_core.specs.Printing.Text.{id_text}
 use Rattle.semver_core.specs.Values.Views.{lent_id_view}
-use Rattle.nodejs_semver_c.proofs.Printing.{marked_step}
 use Rattle.nodejs_semver_c.proofs.Putting.{adds_nothing, adds_same, adds_then}
 use Rattle.nodejs_semver_c.proofs.pieces.put_list.Goals as goal
 
