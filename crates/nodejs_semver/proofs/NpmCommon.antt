@@ -3,7 +3,7 @@ pub use Rattle.nodejs_semver.specs.Internal.Fronts.{after_byte, begins_byte, beg
 pub use Rattle.nodejs_semver.specs.Internal.{NpmAlternatives.{AcceptAsRanged, AreNarrowed, NarrowedBy, nothing}, NpmMeaning.AreRead}
 pub use Rattle.nodejs_semver.specs.Internal.{NpmMeaning.{IsCommon, IsNarrowed, counted, is_unbounded, is_zero}, NpmParts.are_normal}
 pub use Rattle.nodejs_semver.specs.Internal.{NpmParts.{Numbers, npm_partial_view, npm_sign_view, release, within}, NpmReadings.{IsStrictPreRelease, is_strict_identifier}}
-pub use Rattle.nodejs_semver.specs.Internal.{NpmReadings.begins_padded, NpmReads.{IsFound, IsStep, first_valid, valid_all, valid_first, valid_one, words_of}, NpmStates.is_whole}
+pub use Rattle.nodejs_semver.specs.Internal.{Fronts.begins_padded, NpmReads.{IsFound, IsStep, first_valid, valid_all, valid_first, valid_one, words_of}, NpmStates.is_whole}
 pub use Rattle.nodejs_semver.specs.Internal.{NpmTuples.IsLastBefore, NpmViews.{end_view, signed_front_view, signed_view}, NpmWords.{Ended, Signed}}
 pub use Rattle.nodejs_semver.specs.Internal.NpmWords.{capped_in, capped_one, capped_partial, drop_ends, ended_as, first_as, hyphen_of, is_right, limited, lower_of, upper_of}
 pub use Rattle.nodejs_semver.specs.Internal.NpmWords.{are_whole_marks, is_free, is_free_lower, is_free_upper, is_short_build, is_short_word, is_spelled, kept, last_end, words_of_all, ignored_or}
@@ -35,7 +35,7 @@ pub use Rattle.std.proofs.lemmas.{Iterator.Splits.YieldsList-from_slice_split, L
 pub use Rattle.std.{proofs.lemmas.{Slice.Eq.bytes_eq-Decides, Str.{chars_from_encodes, encode_ascii, encodes_same}}, specs.Char.digit_value}
 pub use Rattle.std.specs.{Char.len_utf8, Cmp.both_ways, List.join_with_byte, Prelude.{is_none, nat_le, take_while}, Str.bytes_eq}
 pub use Rattle.std.specs.Str.{chars, Parse.{digits_value, digits_value_after}}
-unfoldable pub use Rattle.nodejs_semver.specs.Internal.{Fronts.{build_front, number_of, pre_release_front}, NpmReadings.{dashed_front, dotted_number, strict_number}}
+unfoldable pub use Rattle.nodejs_semver.specs.Internal.Fronts.{build_front, dotted_with, number_of, number_with, pre_release_front, pre_release_with}
 unfoldable pub use Rattle.nodejs_semver.specs.Internal.NpmVersions.{patch_front, qualified_version, whole_version}
 unfoldable pub use Rattle.nodejs_semver.specs.Internal.{NpmReads.valid_alternative, NpmStates.{next, run, wrong_at}, NpmTuples.tuple_len}
 unfoldable pub use Rattle.nodejs_semver.specs.Internal.{NpmTuples.tuple_release, NpmWords.{after_ends, alternative_of, alternatives_of}}

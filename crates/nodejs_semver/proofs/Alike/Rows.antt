@@ -8,7 +8,7 @@ use Rattle.nodejs_semver.proofs.Common.{list_any, list_any-append, lower_cut, na
 use Rattle.nodejs_semver.proofs.Common.{ordering_then, plain, pre_cmp, precedence, precedence_total, refl, same_triple, subst, suc, sym, table, tilde}
 use Rattle.nodejs_semver.proofs.{Common.{true, upper_cut, version_of, zero, ℕ, ◌&&◌, ◌++◌, ◌+◌, ◌==◌, ◌||◌, ◌∙◌, ◌∷◌, ◌≡◌, ◌⊎◌}, NpmCommon.Comparison}
 use Rattle.nodejs_semver.proofs.NpmCommon.{IsPlaces, IsPlainPartial, IsPlainWord, Numbers, at_least, build_front, bytes_eq, bytes_eq-Decides}
-use Rattle.nodejs_semver.proofs.NpmCommon.{compared, counts, dashed_front, digits, dotted_patch, dotted_place, filter-append, from, hyphen_lower}
+use Rattle.nodejs_semver.proofs.NpmCommon.{compared, counts, pre_release_with, digits, dotted_patch, dotted_place, filter-append, from, hyphen_lower}
 use Rattle.nodejs_semver.proofs.NpmCommon.{hyphen_upper, is_plain, is_valid, is_within, is_zero, listed, made, may_have, meets, minor, npm_partial}
 use Rattle.nodejs_semver.proofs.NpmCommon.{patch_place, place_front, pre_front, qualified_partial, release, satisfies, under, upto_patch, whole}
 use Rattle.nodejs_semver.proofs.{NpmCommon.zero_least, Strict.{PartialLaw.places-read, Printed.prints_zero, Zeros.{plain_changed, plain_table}}}
@@ -49,7 +49,7 @@ zero_found : Front Npm.Partial → Bool
 zero_found o = elim o [ None ↦ false | Some p ↦ elim p.0 [ whole w ↦ is_zero w | _ ↦ false ] ]
 
 zero_read : zero_found (places_front false (codes "0.0.0" ++ [])) ≡ true
-unfolding places_front place_front dotted_place dotted_patch patch_place qualified_partial pre_front dashed_front build_front listed zero_found
+unfolding places_front place_front dotted_place dotted_patch patch_place qualified_partial pre_front pre_release_with build_front listed zero_found
 zero_read = refl
 
 -- the text `0.0.0` is of that version

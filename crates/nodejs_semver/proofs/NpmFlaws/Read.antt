@@ -5,7 +5,7 @@ use Rattle.nodejs_semver.proofs.Common.{if◌then◌else◌, inl, inr, is_ascii_
 use Rattle.nodejs_semver.proofs.Common.{list_len, nat_tests, not, onto_first, pieces, refl, same_Some, suc, sym, take, true, zero, ℕ, ◌&&◌, ◌*◌, ◌++◌}
 use Rattle.nodejs_semver.proofs.{Common.{◌==◌, ◌||◌, ◌∙◌, ◌∷◌, ◌≡◌, ◌≤◌, ◌⊎◌}, NpmCommon.{Build, Dash, Digit, IsFront, IsSpelled, nat_le, next, run}}
 use Rattle.nodejs_semver.proofs.NpmCommon.{IsStrictBuild, IsStrictNumber, IsStrictPreRelease, IsStrictVersion, Number, Padded, Plus, PreRelease, Zero}
-use Rattle.nodejs_semver.proofs.NpmCommon.{State, build_front, dashed_front, digit_value, digits_grow, digits_value, digits_value_after, pre_front}
+use Rattle.nodejs_semver.proofs.NpmCommon.{State, build_front, pre_release_with, digit_value, digits_grow, digits_value, digits_value_after, pre_front}
 use Rattle.nodejs_semver.proofs.NpmCommon.{encode_ascii, encodes_same, has_leading_zero, is_strict_identifier, is_strict_list, is_whole, listed}
 use Rattle.{nodejs_semver.proofs.{NpmCommon.{pre_release_front, runs_tail, ◌>>?◌}, Reading.Bytes.{all-join, is_solid}}, std.specs.Prelude.reverse}
 use Rattle.nodejs_semver.proofs.Strict.VersionLaw.{build-ends, build-found, build-taken, dashed-found, pre-follows, pre-taken}
@@ -164,8 +164,8 @@ module _ (limit : ℕ) where
       either false s t f g e h k = k
 
   -- behind the numbers
-  qualified : (x : List ℕ) → is_read (Number 0 0) x ≡ (is_strict_list (dashed_front x).0 && blank (build_front (dashed_front x).1).1)
-  unfolding run next dashed_front pre_release_front build_front
+  qualified : (x : List ℕ) → is_read (Number 0 0) x ≡ (is_strict_list (pre_release_with true x).0 && blank (build_front (pre_release_with true x).1).1)
+  unfolding run next pre_release_with pre_release_front build_front
   qualified [] = refl
   qualified (d ∷ x) = grind (arith, nat_tests, ended-read d x, identifiers x)
 
@@ -254,7 +254,7 @@ module _ (limit : ℕ) where
       let y = number-found 1 d.0 nine d.2 in
       let f = dot-found 0 y.2 y.5 in
       let z = number-found 0 f.0 nine f.2 in
-      let c = dashed_front z.2 in
+      let c = pre_release_with true z.2 in
       let b = build_front c.1 in
       let e = and_parts (is_strict_list c.0) _ (sym (qualified z.2) ∙ z.5) in
       let p = dashed-found false false is_strict_list z.2 e.0 in

@@ -5,12 +5,11 @@ use Rattle.nodejs_semver.proofs.Common.{eqb-true, false, get_or, if◌then◌els
 use Rattle.nodejs_semver.proofs.Common.{list_all, nat_tests, option_map, prefix_len, refl, same_Some, subst, sym, take, take-append-drop, take_at}
 use Rattle.nodejs_semver.proofs.{Common.{take_rest, true, ℕ, ◌++◌, ◌+◌, ◌-◌, ◌<◌, ◌==◌, ◌∙◌, ◌∷◌, ◌≡◌, ◌≤◌}, NpmCommon.{IsLastBefore, IsLeftmost}}
 use Rattle.nodejs_semver.proofs.NpmCommon.{IsRightmost, IsRun, IsTuple, MAX_LENGTH, NoValue, drop-append-add, has_leading_zero, length-prefix_len}
-use Rattle.nodejs_semver.proofs.NpmCommon.{listed, nat_le, number_front, strict_number, tuple_len, tuple_release, ◌>>?◌}
+use Rattle.nodejs_semver.proofs.NpmCommon.{listed, nat_le, number_front, number_with, tuple_len, tuple_release, ◌>>?◌}
 use Rattle.nodejs_semver.proofs.{NpmTexts.Lists.{marked-found, marked-read}, Reading.Numbers.{digits-taken, number-is, number-read, run-ends}}
 use Rattle.nodejs_semver.proofs.Strict.{Characters.last-byte, PartialLaw.digits-of, VersionLaw.{padded-same, strict-read}}
 use Rattle.nodejs_semver.specs.Internal.NpmTuples.{BeginsAfter, IsChosenPlace, IsFirstPlace, IsLastPlace, absent_len, build_len, dotted_len, end_at}
 use Rattle.nodejs_semver.specs.Internal.NpmTuples.{marked_len, pre_len, qualified, run_len, tuple_len_at, version_front}
-use Rattle.nodejs_semver.specs.Internal.NpmReadings.{number_in_reading}
 use Rattle.nodejs_semver.specs.Npm.Coerced.{IsChosenFrom, IsCoerced, IsContinuedIn, IsMarkedList, IsNumberIn, IsRelease, absent, marked, one, three, two, unmarked}
 use Rattle.{semver_core.proofs.Text.Pieces.rest_at, std.proofs.{Math.Seq.{drop-append_seam, take-append_seam}, lemmas.List.Sums.sum_by-append}}
 use Rattle.std.specs.List.{count_by}
@@ -248,8 +247,8 @@ front-found : (limit : ℕ) (a rest : List ℕ) (n : ℕ) (r : List ℕ) → IsR
 front-found limit a rest n r h stop e = grind (arith, nat_tests, common_steps, digits-taken, take_at, drop_at, same_Some, number-is)
 
 number-found : (zeros : Bool) (a rest : List ℕ) (n : ℕ) (r : List ℕ) → IsRun a → begins is_ascii_digit rest ≡ false
-    → number_in_reading zeros MAX_SAFE_INTEGER (a ++ rest) ≡ Some (n, r) → IsNumberIn zeros a n × (r ≡ rest)
-unfolding strict_number
+    → number_with zeros MAX_SAFE_INTEGER (a ++ rest) ≡ Some (n, r) → IsNumberIn zeros a n × (r ≡ rest)
+unfolding number_with
 number-found true a rest n r h stop e = front-found MAX_SAFE_INTEGER a rest n r h stop e
 number-found false a rest n r h stop e = elim (cases_Bool (has_leading_zero a)) [
   | inl zero ↦ cc (rw (padded-same a rest h.each stop, zero) at e)
@@ -259,7 +258,8 @@ number-found false a rest n r h stop e = elim (cases_Bool (has_leading_zero a)) 
 ]
 
 number-reads : (zeros : Bool) (a rest : List ℕ) (n : ℕ) → IsNumberIn zeros a n → begins is_ascii_digit rest ≡ false
-    → number_in_reading zeros MAX_SAFE_INTEGER (a ++ rest) ≡ Some (n, rest)
+    → number_with zeros MAX_SAFE_INTEGER (a ++ rest) ≡ Some (n, rest)
+unfolding number_with
 number-reads true = number-read MAX_SAFE_INTEGER
 number-reads false = strict-read MAX_SAFE_INTEGER
 
@@ -267,7 +267,7 @@ number-reads false = strict-read MAX_SAFE_INTEGER
 
 -- a number at the front, and what is read behind it
 number-first : (zeros : Bool) (t a rest : List ℕ) (v : VersionValue) (f : ℕ × List ℕ → Option VersionValue) → t ≡ a ++ rest → IsRun a
-    → begins is_ascii_digit rest ≡ false → (number_in_reading zeros MAX_SAFE_INTEGER t >>? f) ≡ Some v
+    → begins is_ascii_digit rest ≡ false → (number_with zeros MAX_SAFE_INTEGER t >>? f) ≡ Some v
     → (n : ℕ) × IsNumberIn zeros a n × (f (n, rest) ≡ Some v)
 number-first zeros t a rest v f same h stop e = grind (arith, nat_tests, common_steps, bind_some, number-found)
 

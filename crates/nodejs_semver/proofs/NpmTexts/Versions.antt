@@ -5,12 +5,12 @@ use Rattle.nodejs_semver.proofs.Common.{false, inl, inr, is_ascii_digit, is_empt
 use Rattle.nodejs_semver.proofs.Common.{same_Some, subst, sym, take, take-append-drop, take_at, take_rest, true, ℕ, ◌&&◌, ◌++◌, ◌-◌, ◌<◌, ◌∙◌, ◌∷◌}
 use Rattle.nodejs_semver.proofs.{Common.{◌≡◌, ◌≤◌, ◌⊎◌}, NpmCommon.{AreMarks, IsClean, IsStrictBuild, IsStrictNumber, IsVersionText, MAX_LENGTH, NoValue}}
 use Rattle.nodejs_semver.proofs.NpmCommon.{after_byte, begins_byte, build_front, chars, is_mark, number_front, number_of}
-use Rattle.nodejs_semver.proofs.NpmCommon.{patch_front, pre_front, qualified_version, strict_number, whole_version, ◌>>?◌}
+use Rattle.nodejs_semver.proofs.NpmCommon.{patch_front, pre_front, qualified_version, number_with, whole_version, ◌>>?◌}
 use Rattle.nodejs_semver.proofs.Reading.{Bytes.{component-solid, solid-dark}, Numbers.{digits-taken, front_none, front_some, number-found, number-is}}
 use Rattle.nodejs_semver.proofs.Reading.{Numbers.{number-of, number-read}, WordLaw.byte-is}
 use Rattle.nodejs_semver.proofs.Strict.{Hyphens.{ends-found, ends-read}, PartialLaw.{digits-of, patch-exact}, VersionLaw.{At, Ends, Follows}}
 use Rattle.nodejs_semver.proofs.Strict.VersionLaw.{build-ends, build-taken, ended-found, pre-follows, pre-found, pre-taken, strict-found}
-use Rattle.nodejs_semver.{proofs.Strict.VersionLaw.{strict-read}, specs.Internal.{NpmReadings.number_in_reading}}
+use Rattle.nodejs_semver.proofs.Strict.VersionLaw.{strict-read}
 use Rattle.nodejs_semver.specs.{Internal.NpmVersions.{fits, patch_len, unmarked}, Npm.Grammar.{IsPreRelease, IsWritten, written}}
 use Rattle.nodejs_semver.specs.Npm.VersionText.{IsVersionTextIn}
 
@@ -38,7 +38,7 @@ pub patch_none : (limit : ℕ) (rest : List ℕ) (len : ℕ) → len ≡ patch_l
 unfolding patch_front
 patch_none limit rest len e stuck = let f = front_none limit (take len rest) stuck in grind (arith, common_steps, digits-front, patch-digits)
 
-pub patch_strict : (limit : ℕ) (rest : List ℕ) → patch_front false limit rest ≡ strict_number limit rest
+pub patch_strict : (limit : ℕ) (rest : List ℕ) → patch_front false limit rest ≡ number_with false limit rest
 unfolding patch_front
 patch_strict limit rest = refl
 
@@ -69,8 +69,9 @@ marks-found false text u = elim (cases_Bool (begins_byte 118 text)) [
   | inr none ↦ ([], grind (arith, nat_tests), inl refl)
 ]
 
-front-found : (loose : Bool) (limit : ℕ) (text : List ℕ) (n : ℕ) (rest : List ℕ) → number_in_reading loose limit text ≡ Some (n, rest)
+front-found : (loose : Bool) (limit : ℕ) (text : List ℕ) (n : ℕ) (rest : List ℕ) → number_with loose limit text ≡ Some (n, rest)
     → At (Number loose limit) text n rest
+unfolding number_with
 front-found false limit text n rest h = strict-found limit text n rest h
 front-found true limit text n rest h = let f = number-found limit text n rest h in record { piece = f.run; split = f.split; is = f.is }
 
@@ -90,9 +91,9 @@ whole-found : (loose : Bool) (limit : ℕ) (text : List ℕ) (v : VersionValue) 
 unfolding whole_version qualified_version
 whole-found loose limit text v u h =
     let m = marks-found loose text u in
-    let a = bind_some (number_in_reading loose limit (unmarked loose text)) _ v h in
+    let a = bind_some (number_with loose limit (unmarked loose text)) _ v h in
     let s = bind_some (after_byte 46 a.0.1) _ v a.2 in
-    let b = bind_some (number_in_reading loose limit s.0) _ v s.2 in
+    let b = bind_some (number_with loose limit s.0) _ v s.2 in
     let t = bind_some (after_byte 46 b.0.1) _ v b.2 in
     let c = bind_some (patch_front loose limit t.0) _ v t.2 in
     let x = front-found loose limit (unmarked loose text) a.0.0 a.0.1 a.1 in
@@ -113,7 +114,8 @@ whole-found loose limit text v u h =
 -- ---- what is written is read
 
 front-read : (loose : Bool) (limit : ℕ) (digits rest : List ℕ) (n : ℕ) → Number loose limit digits n → begins is_ascii_digit rest ≡ false
-    → number_in_reading loose limit (digits ++ rest) ≡ Some (n, rest)
+    → number_with loose limit (digits ++ rest) ≡ Some (n, rest)
+unfolding number_with
 front-read false limit = strict-read limit
 front-read true limit = number-read limit
 

@@ -3,11 +3,11 @@ use Rattle.nodejs_semver.proofs.Common.{AlphaNumeric, Bool, Id, IsBlank, List, N
 use Rattle.nodejs_semver.proofs.Common.{append-nil, at_most, below, codes, encode_utf8, equal, false, from_boundary, inl, is_boundary, is_some, length}
 use Rattle.nodejs_semver.proofs.Common.{list_len, lit≤, map, refl, release_value, space_len, sym, true, ℕ, ◌++◌, ◌∷◌, ◌≡◌}
 use Rattle.nodejs_semver.proofs.NpmCommon.{AreWords, BeginsWord, Comparison, IsPlaces, IsWord, after_ends, alternative_of, alternatives_of, are_marks, at_least, begins_undashed}
-use Rattle.nodejs_semver.proofs.NpmCommon.{behind_ignored, build_front, caret_equal, compared, dashed_front, digits, dotted_patch, dotted_place, end_front}
+use Rattle.nodejs_semver.proofs.NpmCommon.{behind_ignored, build_front, caret_equal, compared, pre_release_with, digits, dotted_patch, dotted_place, end_front}
 use Rattle.nodejs_semver.proofs.NpmCommon.{first_word, hyphen_ends, hyphen_lower, hyphen_upper, is_lost, is_short, is_spelled, is_valid, join_with_byte, late_above, listed}
 use Rattle.nodejs_semver.proofs.NpmCommon.{lit<, major, may_stand, minor}
 use Rattle.nodejs_semver.proofs.NpmCommon.{none, npm_sign, number_of, one, patch_front, patch_place, place_front, pre_front, pre_release_front}
-use Rattle.nodejs_semver.proofs.NpmCommon.{qualified_partial, qualified_version, sign, signed_word, spelling, strict_number}
+use Rattle.nodejs_semver.proofs.NpmCommon.{qualified_partial, qualified_version, sign, signed_word, spelling, number_with}
 use Rattle.nodejs_semver.proofs.NpmCommon.{tilde_twice, tuple_len, tuple_release, whole, whole_version, wildcard, word, words_within, ◌>>?◌}
 use Rattle.nodejs_semver.specs.Internal.NpmInside.{are_inside, behind_id, behind_ids, behind_partial, behind_place, behind_places, behind_pre_release}
 use Rattle.nodejs_semver.{proofs.Strict.Ignored.no-blank, specs.Internal.NpmWords.{places_front, takes_on}}
@@ -257,14 +257,14 @@ loose_words loose text = words_within loose false (length text) text >>? λ read
 row-ignored : map (loose_words true) (codes ">=1.0.0, <2.0.0" ∷ codes "latest 1" ∷ codes "foo= 1 <2" ∷ []) ++ map (loose_words false) (codes ">=1.0.0, <2.0.0" ∷ [])
     ≡ Some (None ∷ Some (codes "<2.0.0") ∷ []) ∷ Some (None ∷ Some (codes ">=1.0.0 <2.0.0-0") ∷ []) ∷ Some (None ∷ Some (codes "<2.0.0-0") ∷ []) ∷ None ∷ []
 unfolding words_within first_word signed_word behind_ignored from_boundary is_boundary space_len after_spaces npm_sign places_front place_front dotted_place
-    dotted_patch patch_place qualified_partial pre_front dashed_front pre_release_front build_front listed digits written_zeros takes_on are_inside behind_partial
+    dotted_patch patch_place qualified_partial pre_front pre_release_with pre_release_front build_front listed digits written_zeros takes_on are_inside behind_partial
     behind_places behind_place behind_pre_release behind_ids behind_id
 row-ignored = refl
 
 -- `latest || 1` is `1`
 row-alternatives : (alternatives_of true false (codes "latest" ∷ codes "1" ∷ []) >>? λ all. Some (map printed all)) ≡ Some (codes ">=1.0.0 <2.0.0-0" ∷ [])
 unfolding alternatives_of alternative_of hyphen_ends end_front after_ends words_within first_word signed_word behind_ignored from_boundary is_boundary space_len
-    after_spaces npm_sign places_front place_front dotted_place dotted_patch patch_place qualified_partial pre_front dashed_front pre_release_front build_front
+    after_spaces npm_sign places_front place_front dotted_place dotted_patch patch_place qualified_partial pre_front pre_release_with pre_release_front build_front
     listed digits written_zeros takes_on
 row-alternatives = refl
 
@@ -285,14 +285,14 @@ row-loose : map read_loose (codes "1.2.3" ∷ codes "=v 01.02.003" ∷ codes "1.
     ∷ codes "1.2.34.5" ∷ [])
     ≡ tagged [] [] ∷ tagged [] [] ∷ tagged (Numeric 1 ∷ []) [] ∷ tagged (AlphaNumeric (codes "beta") ∷ []) (Numeric 7 ∷ [])
     ∷ tagged (AlphaNumeric (codes "-") ∷ []) [] ∷ tagged (AlphaNumeric (codes "-") ∷ []) [] ∷ tagged (Numeric 4 ∷ Numeric 5 ∷ []) [] ∷ []
-unfolding whole_version patch_front qualified_version pre_front dashed_front pre_release_front build_front number_of list_len listed after_ends space_len
+unfolding whole_version number_with patch_front qualified_version pre_front pre_release_with pre_release_front build_front number_of list_len listed after_ends space_len
 row-loose = refl
 
 -- a missing number, what stands behind, no digit left for the patch number, the mark `V`, a number past the limit
 row-rejected-loose : map (λ (text : List ℕ). is_some (read_loose text)) (codes "1.2" ∷ codes "1.2.3.4" ∷ codes "1.2.3 4" ∷ codes "1.2.34." ∷ codes "V1.2.3"
     ∷ codes "1.2.3+" ∷ codes "1.2.3a..b" ∷ codes "0.0.9007199254740992" ∷ [])
     ≡ false ∷ false ∷ false ∷ false ∷ false ∷ false ∷ false ∷ false ∷ []
-unfolding whole_version patch_front qualified_version pre_front dashed_front pre_release_front build_front number_of list_len listed after_ends space_len
+unfolding whole_version number_with patch_front qualified_version pre_front pre_release_with pre_release_front build_front number_of list_len listed after_ends space_len
 row-rejected-loose = refl
 
 -- how a pre-release without a `-` before it may begin
@@ -312,12 +312,12 @@ released zeros tuple = tuple_release zeros 9007199254740991 tuple
 
 row-releases : map (released false) (codes "1.2.3" ∷ codes "20.11" ∷ codes "2" ∷ codes "01.2" ∷ codes "1.02" ∷ codes "9007199254740992" ∷ [])
     ≡ Some (release_value 1 2 3) ∷ Some (release_value 20 11 0) ∷ Some (release_value 2 0 0) ∷ None ∷ None ∷ None ∷ []
-unfolding tuple_release strict_number number_of
+unfolding tuple_release number_with number_of
 row-releases = refl
 
 row-zeros : map (released true) (codes "01.2" ∷ codes "1.02" ∷ codes "00.0.9007199254740992" ∷ [])
     ≡ Some (release_value 1 2 0) ∷ Some (release_value 1 2 0) ∷ None ∷ []
-unfolding tuple_release number_of
+unfolding tuple_release number_with number_of
 row-zeros = refl
 
 abbrev read : List ℕ → Option VersionValue
@@ -336,7 +336,7 @@ row-versions : map read (codes "1.2.3" ∷ codes "v0.20.0" ∷ codes "1.2.3-0.a-
       build = Numeric 7 ∷ AlphaNumeric (codes "x") ∷ [];
     })
     ∷ Some (release_value 0 0 9007199254740991) ∷ []
-unfolding whole_version patch_front strict_number qualified_version pre_front dashed_front pre_release_front build_front number_of list_len listed
+unfolding whole_version patch_front number_with qualified_version pre_front pre_release_with pre_release_front build_front number_of list_len listed
 row-versions = refl
 
 -- a missing number, leading zeros, a number past the limit, a missing hyphen, other marks, a mark with a blank, what stands behind
@@ -344,5 +344,5 @@ row-rejected : map is_read (codes "1.2" ∷ codes "01.2.3" ∷ codes "1.2.00" �
     ∷ codes "1.2.3beta" ∷ codes "V1.2.3" ∷ codes "=1.2.3" ∷ codes "v 1.2.3" ∷ codes "1.2.3.4" ∷ codes "1.2.3-" ∷ codes "1.2.3-a..b" ∷ codes "1.2.3+"
     ∷ codes "1.2.3+a+b" ∷ codes "1.2.x" ∷ [])
     ≡ false ∷ false ∷ false ∷ false ∷ false ∷ false ∷ false ∷ false ∷ false ∷ false ∷ false ∷ false ∷ false ∷ false ∷ false ∷ false ∷ []
-unfolding whole_version patch_front strict_number qualified_version pre_front dashed_front pre_release_front build_front number_of list_len listed
+unfolding whole_version patch_front number_with qualified_version pre_front pre_release_with pre_release_front build_front number_of list_len listed
 row-rejected = refl

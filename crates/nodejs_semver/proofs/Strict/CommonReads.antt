@@ -12,14 +12,14 @@ use Rattle.nodejs_semver.proofs.Everyday.{Texts.{compact-trim, cut-first, cut-la
 use Rattle.nodejs_semver.proofs.NpmCommon.{AcceptAsRanged, AreAlternatives, AreRead, AreWords, BeginsWord, Comparison, IsRangeIn, IsSignText, IsWord}
 use Rattle.nodejs_semver.proofs.NpmCommon.{after_byte, are_marks, are_normal, begins_wildcard, bounds_view, comparators_of}
 use Rattle.nodejs_semver.proofs.NpmCommon.{dotted_patch, dotted_place, is_lost, is_valid, limited, listed, no_sign, patch_place, spelling}
-use Rattle.nodejs_semver.proofs.{NpmCommon.{strict_number, within}, Reading.{Bytes.{all-end, all-join, solid-dark}, WordLaw.{blank-len, trim-utf8}}}
+use Rattle.nodejs_semver.proofs.{NpmCommon.{dotted_with, number_with, within}, Reading.{Bytes.{all-end, all-join, solid-dark}, WordLaw.{blank-len, trim-utf8}}}
 use Rattle.nodejs_semver.proofs.Strict.{Hyphens.{front-is, front-normal, hyphen_none-strict, normal-capped, places-normal}, Ignored.no-blank, Characters.is_part}
 use Rattle.nodejs_semver.proofs.Strict.{Characters.partial-part, PartialLaw.{front-text, number-read, over_qualified, places-found, wildcard_read}}
 use Rattle.nodejs_semver.proofs.Strict.{RangeReads.{found_spans, ranged_range}}
 use Rattle.nodejs_semver.proofs.Strict.{Rows.{both_common, narrowed}, Signs.blank-nil, Words.{places-some, strict-kept}, Zeros.strict-unpadded}
 use Rattle.nodejs_semver.{proofs.Strict.Zeros.strict-zeros, specs.Internal.{CommonFronts.after_bars, NpmAlternatives.ranged, NpmFronts.AreIn}}
 use Rattle.nodejs_semver.specs.Internal.NpmFronts.{AreJoined, AreParts, IsLeft, IsPartAt, IsSignAt, IsTried, IsWordAt, is_word_byte}
-use Rattle.nodejs_semver.specs.Internal.{NpmParts.{AreZeros, is_padded}, NpmReadings.dotted_number, NpmReads.AreFound, NpmWords.{is_over}}
+use Rattle.nodejs_semver.specs.Internal.{NpmParts.{AreZeros, is_padded}, NpmReads.AreFound, NpmWords.{is_over}}
 use Rattle.nodejs_semver.specs.{Internal.NpmWords.places_front, Npm.Table.{Partial, Sign, first, major, minor, table, whole}}
 use Rattle.nodejs_semver.specs.{Npm.Table.{wildcard, written_zeros, zeros}, Text.Common.IsGap}
 use Rattle.semver_core.specs.declared.scan.pieces.bounds.Bounds.{Bounds}
@@ -160,11 +160,11 @@ wild_place : (b : ℕ) (rest : List ℕ) → begins_wildcard (b ∷ rest) ≡ tr
 unfolding dotted_place dotted_patch patch_place
 wild_place b rest h = (wildcard_read false (b ∷ rest) h, wildcard_read false (b ∷ rest) h)
 
-number_place : (text : List ℕ) (n : ℕ) (rest : List ℕ) → Some (n, rest) ≡ dotted_number MAX_SAFE_INTEGER text
+number_place : (text : List ℕ) (n : ℕ) (rest : List ℕ) → Some (n, rest) ≡ dotted_with false MAX_SAFE_INTEGER text
     → (dotted_place false text ≡ Some (Some n, rest)) × (dotted_patch false text ≡ Some (Some n, rest)) × (nat_le n MAX_SAFE_INTEGER ≡ true)
-unfolding dotted_number dotted_place dotted_patch patch_place
+unfolding dotted_with dotted_place dotted_patch patch_place
 number_place text n rest h =
-    let b = bind_some (after_byte 46 text) (λ t. strict_number MAX_SAFE_INTEGER t) (n, rest) (sym h) in
+    let b = bind_some (after_byte 46 text) (λ t. number_with false MAX_SAFE_INTEGER t) (n, rest) (sym h) in
     let v = number-read false b.0 n rest b.2 in (rw b.1 v.0, rw b.1 v.0, v.1)
 
 module _ (text : List ℕ) where
@@ -175,7 +175,7 @@ module _ (text : List ℕ) where
   unfolding places_front
   short-any end h e over = rw (wildcard_read false text h, sym e, (no_place end over).0) refl
 
-  module _ (a : ℕ) (one : List ℕ) (h : Some (a, one) ≡ strict_number MAX_SAFE_INTEGER text) where
+  module _ (a : ℕ) (one : List ℕ) (h : Some (a, one) ≡ number_with false MAX_SAFE_INTEGER text) where
     read-one : (place_front false text ≡ Some (Some a, one)) × (nat_le a MAX_SAFE_INTEGER ≡ true)
     read-one = number-read false text a one (sym h)
 
@@ -184,7 +184,7 @@ module _ (text : List ℕ) where
     short-one end (over, inl e) = rw (read-one.0, e, (no_place end over).0, read-one.1) refl
     short-one end (over, inr (b, e, w)) = rw (read-one.0, e, (wild_place b end w).0, (no_place end over).1, read-one.1) refl
 
-    module _ (b : ℕ) (two : List ℕ) (k : Some (b, two) ≡ dotted_number MAX_SAFE_INTEGER one) where
+    module _ (b : ℕ) (two : List ℕ) (k : Some (b, two) ≡ dotted_with false MAX_SAFE_INTEGER one) where
       pub short-two : (end : List ℕ) → IsLeft two end → Reads (minor a b) end
       unfolding places_front
       short-two end (over, inl e) =
@@ -193,7 +193,7 @@ module _ (text : List ℕ) where
           let second = number_place one b two k in
           rw (read-one.0, second.0, e, (wild_place c end w).1, over_qualified false (Some a) (Some b) None end over, read-one.1, second.2) refl
 
-      pub short-three : (c : ℕ) (end : List ℕ) → Some (c, end) ≡ dotted_number MAX_SAFE_INTEGER two → is_over end ≡ true
+      pub short-three : (c : ℕ) (end : List ℕ) → Some (c, end) ≡ dotted_with false MAX_SAFE_INTEGER two → is_over end ≡ true
           → Reads (whole (release_value a b c)) end
       unfolding places_front listed
       short-three c end l over =

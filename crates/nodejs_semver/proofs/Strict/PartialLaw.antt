@@ -1,6 +1,6 @@
 -- Places and partial versions of node-semver's range texts: what is read is written, and what is written is read; also by the code, which has each number
 -- past the limit as the limit + 1.
-use Rattle.nodejs_semver.proofs.NpmCommon.{capped_partial, capped_one, first_as, begins_wildcard, build_front, dashed_front, dotted_patch}
+use Rattle.nodejs_semver.proofs.NpmCommon.{capped_partial, capped_one, first_as, begins_wildcard, build_front, pre_release_with, dotted_patch}
 use Rattle.nodejs_semver.proofs.NpmCommon.{dotted_place, drop-append-add, digits_value, has_leading_zero, is_none, is_spelled, length-prefix_len}
 use Rattle.nodejs_semver.proofs.NpmCommon.{listed, may_stand, nat_le, number_front, number_of, one, partial_of, patch_place, place_front, pre_front}
 use Rattle.nodejs_semver.proofs.NpmCommon.{qualified_partial}
@@ -9,7 +9,7 @@ use Rattle.nodejs_semver.proofs.Common.{append_assoc, arith, begins, bind_some, 
 use Rattle.nodejs_semver.proofs.Common.{inr, is_ascii_digit, is_boundary, is_empty, length, length-append, list_all, nat_tests, not, prefix_len, refl}
 use Rattle.nodejs_semver.proofs.Common.{subst, suc, take, take-append-drop, take_at, take_rest, true, zero, ℕ, ◌&&◌, ◌++◌, ◌+◌, ◌-◌, ◌<◌, ◌∙◌, ◌∷◌}
 use Rattle.nodejs_semver.proofs.{Common.{◌≡◌, ◌≤◌}, NpmCommon.{IsPlace, IsPlaces, IsStrictBuild, begins_byte, begins_padded}}
-use Rattle.nodejs_semver.proofs.{NpmCommon.{run_place, strict_number, take_while, three, two, ◌>>?◌}, Reading.Bytes.{is_solid, solid-dark}}
+use Rattle.nodejs_semver.proofs.{NpmCommon.{run_place, number_with, take_while, three, two, ◌>>?◌}, Reading.Bytes.{is_solid, solid-dark}}
 use Rattle.nodejs_semver.proofs.Reading.{Numbers.{digits-taken, number-found, number-is, number-no_wildcard}, Steps.option-cases}
 use Rattle.nodejs_semver.proofs.Strict.VersionLaw.{At, Ends, Follows, build-ends, build-found, build-taken, dotted-found, number-short, padded-same}
 use Rattle.nodejs_semver.{proofs.Strict.VersionLaw.{pre-follows, pre-found, pre-taken, strict_is}}
@@ -250,7 +250,7 @@ pub valued_placed : (loose : Bool) (text : List ℕ) (n : ℕ) (rest : List ℕ)
 valued_placed loose text n rest h spelled short = let v = number-valued loose text n rest h spelled short in rw (v.0, v.1) refl
 
 -- without leading zeros
-pub number-read : (loose : Bool) (text : List ℕ) (n : ℕ) (rest : List ℕ) → strict_number MAX_SAFE_INTEGER text ≡ Some (n, rest)
+pub number-read : (loose : Bool) (text : List ℕ) (n : ℕ) (rest : List ℕ) → number_with false MAX_SAFE_INTEGER text ≡ Some (n, rest)
     → (place_front loose text ≡ Some (Some n, rest)) × (nat_le n MAX_SAFE_INTEGER ≡ true)
 number-read loose text n rest h =
     let bare : begins_padded text ≡ false = grind (arith, strict_is) in
@@ -260,7 +260,7 @@ number-read loose text n rest h =
     let short = number-short run n (i, run-leading text ∙ bare) in
     number-valued loose text n rest k (rw bare (and-false (not loose))) (grind (arith, nat_tests, short, length-prefix_len is_ascii_digit text))
 
-pub number_placed : (loose : Bool) (text : List ℕ) (n : ℕ) (rest : List ℕ) → strict_number MAX_SAFE_INTEGER text ≡ Some (n, rest)
+pub number_placed : (loose : Bool) (text : List ℕ) (n : ℕ) (rest : List ℕ) → number_with false MAX_SAFE_INTEGER text ≡ Some (n, rest)
     → first_as capped_one (place_front loose text) ≡ Some (Some n, rest)
 number_placed loose text n rest h = let v = number-read loose text n rest h in rw (v.0, v.1) refl
 
@@ -350,5 +350,5 @@ module _ (loose : Bool) (text : List ℕ) where
 
 pub over_qualified : (loose : Bool) (a b c : Option ℕ) (text : List ℕ) → is_over text ≡ true
     → qualified_partial loose a b c text ≡ Some (partial_of a b c (listed []) (listed []), text)
-unfolding qualified_partial pre_front dashed_front build_front
+unfolding qualified_partial pre_front pre_release_with build_front
 over_qualified loose a b c text h = grind (arith, nat_tests, common_steps)

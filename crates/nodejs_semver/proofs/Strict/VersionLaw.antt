@@ -7,9 +7,9 @@ use Rattle.nodejs_semver.proofs.Common.{is_identifier_char, length, list_all, li
 use Rattle.nodejs_semver.proofs.Common.{sym, take, take-append-drop, take_rest, true, ℕ, ◌&&◌, ◌++◌, ◌-◌, ◌<◌, ◌==◌, ◌^◌, ◌||◌, ◌∷◌, ◌≡◌}
 use Rattle.nodejs_semver.proofs.{Common.{◌≤◌, ◌⊎◌}, NpmCommon.{IsStrictBuild, IsStrictNumber}}
 use Rattle.nodejs_semver.proofs.NpmCommon.{after_byte, bare, begins_byte, begins_padded, begins_undashed, build_front, chars}
-use Rattle.nodejs_semver.proofs.NpmCommon.{chars_from_encodes, dashed, dashed_front, digits_value, goes_on, has_leading_zero}
+use Rattle.nodejs_semver.proofs.NpmCommon.{chars_from_encodes, dashed, pre_release_with, digits_value, goes_on, has_leading_zero}
 use Rattle.nodejs_semver.proofs.NpmCommon.{listed, no_build, no_pre_release, number_front, plus, pre_front, pre_release_front}
-use Rattle.nodejs_semver.proofs.{NpmCommon.{strict_number, ◌>>?◌}, Reading.Bytes.is_solid}
+use Rattle.nodejs_semver.proofs.{NpmCommon.{number_with, ◌>>?◌}, Reading.Bytes.is_solid}
 use Rattle.nodejs_semver.proofs.Reading.{IdentifierLists.{front-identifiers, written-begins, written-exact, written-spelled}, Numbers.front_none}
 use Rattle.nodejs_semver.proofs.Reading.{Numbers.{front_some, number-found, number-read}, PartialLaw.byte-begins, WordLaw.byte-is}
 use Rattle.nodejs_semver.specs.{Internal.Fronts.{Front, marked_list}, Npm.{Grammar.{IsPreRelease, IsWritten, written}}}
@@ -18,8 +18,8 @@ use Rattle.std.proofs.lemmas.{Fmt.length-decimal-le, Str.{encodes-chars, length-
 
 -- ---- the number that the code finds
 
-pub strict_is : (limit : ℕ) (text : List ℕ) → strict_number limit text ≡ (if begins_padded text then None else number_front limit text)
-unfolding strict_number
+pub strict_is : (limit : ℕ) (text : List ℕ) → number_with false limit text ≡ (if begins_padded text then None else number_front limit text)
+unfolding number_with
 strict_is limit text = refl
 
 pub front_there : (limit : ℕ) (text : List ℕ) (n end : ℕ) → IsPieceAt (λ digits rest. IsWholeNumber limit digits rest n) text 0 end
@@ -42,15 +42,15 @@ pub record At {A : Type 0} (Is : List ℕ → A → Type 0) (text : List ℕ) (a
   pub split : text ≡ piece ++ rest
   pub is : Is piece a
 
-pub strict-found : (limit : ℕ) (text : List ℕ) (n : ℕ) (rest : List ℕ) → strict_number limit text ≡ Some (n, rest) → At (IsStrictNumber limit) text n rest
-unfolding strict_number
+pub strict-found : (limit : ℕ) (text : List ℕ) (n : ℕ) (rest : List ℕ) → number_with false limit text ≡ Some (n, rest) → At (IsStrictNumber limit) text n rest
+unfolding number_with
 strict-found limit text n rest h =
     let k : number_front limit text ≡ Some (n, rest) = grind arith in
     let f = number-found limit text n rest k in grind (arith, nat_tests, common_steps, padded-same)
 
 pub strict-read : (limit : ℕ) (digits rest : List ℕ) (n : ℕ) → IsStrictNumber limit digits n → begins is_ascii_digit rest ≡ false
-    → strict_number limit (digits ++ rest) ≡ Some (n, rest)
-unfolding strict_number
+    → number_with false limit (digits ++ rest) ≡ Some (n, rest)
+unfolding number_with
 strict-read limit digits rest n h stop = rw (padded-same digits rest h.0.each stop, h.1) (number-read limit digits rest n h.0 stop)
 
 -- what is read behind a dot
@@ -127,12 +127,12 @@ letter-off wild (b ∷ c ∷ d ∷ text) more h k = h
 abbrev pub PreFound : Bool → Bool → (List ℕ → Bool) → List ℕ → List ℕ → List ℕ → Type 0
 PreFound loose wild fits text read rest = (piece : List ℕ) × (text ≡ piece ++ rest) × IsPreRelease loose wild fits piece (listed read)
 
-pub dashed-found : (loose wild : Bool) (fits : List ℕ → Bool) (text : List ℕ) → fits (dashed_front text).0 ≡ true
-    → PreFound loose wild fits text (dashed_front text).0 (dashed_front text).1
-unfolding dashed_front pre_release_front listed
-dashed-found loose wild fits text h = elim (mark-found 45 text (dashed_front text) (grind (arith, common_steps))) [
+pub dashed-found : (loose wild : Bool) (fits : List ℕ → Bool) (text : List ℕ) → fits (pre_release_with true text).0 ≡ true
+    → PreFound loose wild fits text (pre_release_with true text).0 (pre_release_with true text).1
+unfolding pre_release_with pre_release_front listed
+dashed-found loose wild fits text h = elim (mark-found 45 text (pre_release_with true text) (grind (arith, common_steps))) [
   | inl none ↦ rw none ([], refl, no_pre_release)
-  | inr some ↦ (45 ∷ (dashed_front text).0, some.0, dashed _ _ some.1 h)
+  | inr some ↦ (45 ∷ (pre_release_with true text).0, some.0, dashed _ _ some.1 h)
 ]
 
 pub pre-found : (loose wild : Bool) (fits : List ℕ → Bool) (text : List ℕ) → fits (pre_front loose wild text).0 ≡ true
@@ -165,7 +165,7 @@ pre-follows loose fits p behind l (bare t list h s x) e = grind (arith, nat_test
 -- the text is the pre-release and this rest, and its identifiers fit
 pub pre-taken : (loose wild : Bool) (fits : List ℕ → Bool) (p behind : List ℕ) (l : List Id) → fits [] ≡ true → IsPreRelease loose wild fits p l
     → Ends behind → (ids : List ℕ) × (pre_front loose wild (p ++ behind) ≡ (ids, behind)) × (listed ids ≡ l) × (fits ids ≡ true)
-unfolding pre_front dashed_front pre_release_front listed
+unfolding pre_front pre_release_with pre_release_front listed
 pre-taken loose wild fits p behind l none no_pre_release e = ([], grind (arith, nat_tests, common_steps), refl, none)
 pre-taken loose wild fits p behind l none (dashed t list h s) e =
     (t, rw (written-begins t behind list h, and-false loose) (written-exact t behind list h (ends-list behind e)), written-spelled t list h, s)

@@ -12,9 +12,10 @@ use Rattle.nodejs_semver.specs.Text.PartialText.{Partial}
 use Rattle.semver_core.specs.Internal.Spaces.{drop_spaces}
 use Rattle.semver_core.specs.Text.Identifiers.{listed}
 use Rattle.semver_core.specs.Text.Characters.{is_identifier_char, begins}
-pub use Rattle.semver_core.specs.Internal.Fronts.{Front, after_byte, begins_byte, begins_identifier, begins_wildcard, front_view, is_wildcard}
+pub use Rattle.semver_core.specs.Internal.Fronts.{Front, after_byte, begins_byte, begins_identifier, begins_padded, begins_wildcard, front_view, is_wildcard}
 pub use Rattle.semver_core.specs.Internal.Fronts.{marked_list, number_front, split_list}
-unfoldable pub use Rattle.semver_core.specs.Internal.Fronts.{build_front, component_front, dotted_front, number_of, pre_release_front}
+unfoldable pub use Rattle.semver_core.specs.Internal.Fronts.{build_front, component_front, dotted_front, dotted_with, number_of, number_with}
+unfoldable pub use Rattle.semver_core.specs.Internal.Fronts.{pre_release_front, pre_release_with}
 
 -- the text without an optional `v`
 abbrev pub drop_v : List ℕ → List ℕ

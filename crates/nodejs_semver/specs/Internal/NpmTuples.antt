@@ -9,7 +9,7 @@ use Rattle.semver_core.specs.Text.Identifiers.{Id, listed}
 use Rattle.semver_core.specs.Values.Versions.{VersionValue, release_value}
 use Rattle.semver_core.specs.declared.TheConstants.{MAX_LENGTH}
 use Rattle.nodejs_semver.specs.Internal.Fronts.{Front}
-use Rattle.nodejs_semver.specs.Internal.NpmReadings.{number_in_reading}
+use Rattle.nodejs_semver.specs.Internal.Fronts.{number_with}
 use Rattle.nodejs_semver.specs.Npm.Coerced.{begins_identifier_in, goes_on_in}
 use Rattle.nodejs_semver.specs.declared.npm.coerced.Stretch.{Stretch}
 
@@ -91,11 +91,11 @@ IsChosenPlace included rtl text at = elim rtl [ false ↦ IsFirstPlace text at |
 -- the number behind a dot, and 0 where no dot stands
 abbrev pub next_number : Bool → ℕ → List ℕ → Front ℕ
 next_number zeros limit [] = Some (0, [])
-next_number zeros limit (b ∷ rest) = if b == 46 then number_in_reading zeros limit rest else Some (0, b ∷ rest)
+next_number zeros limit (b ∷ rest) = if b == 46 then number_with zeros limit rest else Some (0, b ∷ rest)
 
 -- the release that a tuple spells
 unfoldable pub tuple_release : Bool → ℕ → List ℕ → Option VersionValue
-tuple_release zeros limit text = number_in_reading zeros limit text >>? λ a. next_number zeros limit a.1 >>? λ b.
+tuple_release zeros limit text = number_with zeros limit text >>? λ a. next_number zeros limit a.1 >>? λ b.
     next_number zeros limit b.1 >>? λ c. Some (release_value a.0 b.0 c.0)
 
 -- how long `.0` for each number is that a tuple does not have

@@ -7,7 +7,7 @@ use Rattle.semver_core.specs.Lists.{is_empty}
 use Rattle.semver_core.specs.Text.Identifiers.{listed}
 use Rattle.semver_core.specs.Values.Versions.{VersionValue}
 use Rattle.nodejs_semver.specs.Internal.Fronts.{Front, after_byte, begins_byte, build_front, drop_v, number_of}
-use Rattle.nodejs_semver.specs.Internal.NpmReadings.{number_in_reading, strict_number}
+use Rattle.nodejs_semver.specs.Internal.Fronts.{number_with}
 use Rattle.nodejs_semver.specs.Internal.NpmWords.{drop_ends, pre_front}
 use Rattle.nodejs_semver.specs.Npm.Grammar.{is_strict_list}
 
@@ -24,7 +24,7 @@ patch_len text = let digits = prefix_len is_ascii_digit text in
 unfoldable pub patch_front : Bool → ℕ → List ℕ → Front ℕ
 patch_front loose limit text = if loose
     then (number_of limit (take (patch_len text) text) >>? λ n. Some (n, drop (patch_len text) text))
-    else strict_number limit text
+    else number_with false limit text
 
 -- loosely a pre-release has any identifiers
 abbrev pub fits : Bool → List ℕ → Bool
@@ -42,6 +42,6 @@ qualified_version loose major minor patch text = ended_version loose major minor
 
 -- the version that the whole text is
 unfoldable pub whole_version : Bool → ℕ → List ℕ → Option VersionValue
-whole_version loose limit text = number_in_reading loose limit (unmarked loose text) >>? λ a. after_byte 46 a.1 >>? λ s.
-    number_in_reading loose limit s >>? λ b. after_byte 46 b.1 >>? λ t.
+whole_version loose limit text = number_with loose limit (unmarked loose text) >>? λ a. after_byte 46 a.1 >>? λ s.
+    number_with loose limit s >>? λ b. after_byte 46 b.1 >>? λ t.
     patch_front loose limit t >>? λ c. qualified_version loose a.0 b.0 c.0 c.1

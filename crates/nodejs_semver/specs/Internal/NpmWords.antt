@@ -11,7 +11,7 @@ use Rattle.semver_core.specs.Text.Identifiers.{Id, listed, pieces}
 use Rattle.semver_core.specs.Values.Versions.{VersionValue, is_release, release_value}
 use Rattle.semver_core.specs.declared.TheConstants.{MAX_SAFE_INTEGER}
 use Rattle.nodejs_semver.specs.Internal.Fronts.{Front, after_byte, begins_byte, begins_identifier, begins_wildcard, build_front, marked_list}
-use Rattle.nodejs_semver.specs.Internal.{NpmInside.are_inside, NpmParts.within, NpmReadings.dashed_front}
+use Rattle.nodejs_semver.specs.Internal.{NpmInside.are_inside, Fronts.pre_release_with, NpmParts.within}
 use Rattle.nodejs_semver.specs.Internal.Parts.{parts}
 use Rattle.nodejs_semver.specs.Internal.Words.{after_some_space, from_boundary, is_boundary}
 use Rattle.nodejs_semver.specs.Npm.Malformed.{begins_place, is_mark, takes}
@@ -79,7 +79,7 @@ begins_lone_dash (b ∷ rest) = b == 45 && not (begins_identifier rest)
 
 -- the text of a pre-release, and what stands behind it
 unfoldable pub pre_front : Bool → Bool → List ℕ → List ℕ × List ℕ
-pre_front loose wild text = if loose && begins_undashed wild text then marked_list text text else dashed_front text
+pre_front loose wild text = if loose && begins_undashed wild text then marked_list text text else pre_release_with true text
 
 -- the partial of three places, with these texts of its pre-release and of its build, behind which this stands
 abbrev pub ended_partial : Bool → Option ℕ → Option ℕ → Option ℕ → List ℕ → List ℕ × List ℕ → Front Partial

@@ -16,7 +16,6 @@ abbrev pub or_else : {A : Type 0} → Option A → Option A → Option A
 or_else (Some x) o = Some x
 or_else None o = o
 
-
 -- the text, where it begins at a boundary
 abbrev pub at_boundary : Word → List ℕ → Front Word
 at_boundary word rest = if is_boundary rest then Some (word, rest) else None

@@ -13,9 +13,8 @@ ghost use Rattle.semver_core.specs.Text.Characters.{ends};
 ghost use Rattle.nodejs_semver.specs.Internal.NpmTuples as Spec;
 
 use crate::npm::options::Coercion;
-use crate::npm::places::digits_len;
-use crate::npm::versions::{begins_padded, number_front};
 use crate::readers;
+use semver_core::scan::pieces::{begins_padded, digits_len, number_front};
 use semver_core::scan::{begins_identifier, is_identifier_char};
 use semver_core::{MAX_LENGTH, MAX_SAFE_INTEGER, VersionRef};
 

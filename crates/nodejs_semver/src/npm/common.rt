@@ -16,11 +16,11 @@ use crate::Allocated;
 use crate::npm::comparators::{caret, compared, row_of_zeros, tilde};
 use crate::npm::partial::{Partial, Sign};
 use crate::npm::places::{is_over, partial_front};
-use crate::npm::versions::{dotted_number, strict_number};
 use crate::range::Intervals;
 use crate::readers::{Bounds, Comparator, Found, after_bars, release};
 use semver_core::VersionRef;
 use semver_core::cuts::{Bound, Interval};
+use semver_core::scan::pieces::{dotted_number, number_front};
 
 // The comparator at the front, and what follows it. Whitespace behind it is not skipped.
 #[inline(always)]
@@ -87,13 +87,13 @@ fn short_front(text: &[u8]) -> Option<(Partial<'_>, &[u8])>
     ensures { IfSome result (λ p. Some (npm_partial_view p.0, p.1.now)
         ≡ limited (places_front false text.now)) }
 {
-    let Some((major, rest)) = strict_number(text) else {
+    let Some((major, rest)) = number_front(false, text) else {
         return wildcard_front(text);
     };
-    let Some((minor, rest)) = dotted_number(rest) else {
+    let Some((minor, rest)) = dotted_number(false, rest) else {
         return Some((Partial::Major(major), after_numbers(rest)?));
     };
-    let Some((patch, rest)) = dotted_number(rest) else {
+    let Some((patch, rest)) = dotted_number(false, rest) else {
         return Some((Partial::Minor(major, minor), after_numbers(rest)?));
     };
     if is_over(rest) {

@@ -6,8 +6,7 @@ ghost use Rattle.nodejs_semver.specs.Internal.NpmInside as Spec;
 ghost use Rattle.nodejs_semver.specs.Words.{None, Some, is_identifier_char, length};
 ghost use Rattle.nodejs_semver.specs.Words.{is_ascii_digit, rest_view};
 
-use crate::npm::places::digits_len;
-use crate::readers::build_front;
+use semver_core::scan::pieces::{build_front, digits_len};
 use semver_core::scan::{begins_identifier, is_identifier_char};
 
 // How many characters of identifiers stand at the front.

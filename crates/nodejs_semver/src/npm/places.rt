@@ -1,12 +1,11 @@
 // The partial version at the front of a text, as node-semver's readings have it.
 
-ghost use Rattle.std.specs.{Prelude.{◌&&◌, ◌==◌, ◌≡◌, ◌≤◌, drop}, List.prefix_len};
+ghost use Rattle.std.specs.Prelude.{◌&&◌, ◌==◌, ◌≡◌, ◌≤◌, drop};
 ghost use Rattle.nodejs_semver.specs.Words.{MAX_SAFE_INTEGER, None, [], false, front_view};
 ghost use Rattle.nodejs_semver.specs.Words.{is_ascii_digit, is_listed, length, not, pair_view};
 ghost use Rattle.nodejs_semver.specs.{Words.true, Internal.Fronts.{begins_byte, begins_identifier}};
 ghost use Rattle.nodejs_semver.specs.Internal.Fronts.{begins_wildcard};
-ghost use Rattle.nodejs_semver.specs.Internal.{Fronts.number_front, NpmReadings.begins_padded};
-ghost use Rattle.nodejs_semver.specs.Internal.NpmReadings.{strict_number};
+ghost use Rattle.nodejs_semver.specs.Internal.Fronts.{begins_padded, number_front, number_with};
 ghost use Rattle.nodejs_semver.specs.Internal.{NpmParts.npm_partial_view, NpmViews.npm_front_view};
 ghost use Rattle.semver_core.specs.Text.Identifiers.{listed};
 ghost use Rattle.nodejs_semver.specs.Internal.NpmWords as Spec;
@@ -14,39 +13,17 @@ ghost use Rattle.nodejs_semver.specs.Npm.Grammar.{begins_undashed};
 ghost use Rattle.nodejs_semver.specs.Npm.Partials as Places;
 
 use crate::npm::partial::Partial;
-use crate::npm::versions::{begins_padded, dashed_front, is_strict_list, strict_number};
-use crate::readers::{build_front, marked_list};
-use semver_core::scan::{begins_identifier, number_in};
+use crate::npm::versions::is_strict_list;
+use semver_core::scan::begins_identifier;
+use semver_core::scan::pieces::{
+    begins_padded, build_front, digits_len, marked_list, number_front, pre_release_front,
+};
 use semver_core::{MAX_SAFE_INTEGER, VersionRef};
 
 /// A place of a partial version: a number, or none where it is a wildcard. A number past the limit
 /// is read as `MAX_SAFE_INTEGER + 1`, since only that it is past the limit matters: a comparator
 /// that has such a number is not valid.
 type Place = Option<u64>;
-
-// How many digits stand at the front.
-#[tactic(auto, using(crate::proofs::Strict::PartialLaw::prefix_steps))]
-pub(crate) fn digits_len(text: &[u8]) -> usize
-    ensures value { result ≡ prefix_len is_ascii_digit text.now }
-    ensures fits { result ≤ length text.now }
-{
-    'digits: for at in 0..text.len() {
-        if !text[at].is_ascii_digit() {
-            return at;
-        }
-    }
-    text.len()
-}
-
-// The number up to the limit that the run of digits at the front is, and the text behind it.
-#[inline(always)]
-#[tactic(auto, using(crate::proofs::Strict::VersionLaw::numbers_in))]
-fn number_front(text: &[u8]) -> Option<(u64, &[u8])>
-    ensures { front_view result ≡ number_front MAX_SAFE_INTEGER text.now }
-{
-    let (number, end) = number_in(text, 0)?;
-    Some((number, &text[end..]))
-}
 
 // The place at the front that is a number past the limit.
 #[inline(never)]
@@ -68,7 +45,7 @@ fn great_place(loose: bool, text: &[u8]) -> Option<(Place, &[u8])>
 #[inline(never)]
 #[tactic(auto, using(crate::proofs::Strict::PartialLaw::padded_places))]
 fn padded_place(loose: bool, text: &[u8]) -> Option<(Place, &[u8])>
-    requires no_number { strict_number MAX_SAFE_INTEGER text.now ≡ None }
+    requires no_number { number_with false MAX_SAFE_INTEGER text.now ≡ None }
     requires no_wildcard { begins_wildcard text.now ≡ false }
     ensures { front_view result ≡ Spec.first_as Spec.capped_one (Spec.place_front loose text.now) }
 {
@@ -78,7 +55,7 @@ fn padded_place(loose: bool, text: &[u8]) -> Option<(Place, &[u8])>
     if !loose {
         return None;
     }
-    match number_front(text) {
+    match number_front(true, text) {
         Some((number, rest)) => Some((Some(number), rest)),
         None => great_place(true, text),
     }
@@ -90,7 +67,7 @@ fn padded_place(loose: bool, text: &[u8]) -> Option<(Place, &[u8])>
 fn place_front(loose: bool, text: &[u8]) -> Option<(Place, &[u8])>
     ensures { front_view result ≡ Spec.first_as Spec.capped_one (Spec.place_front loose text.now) }
 {
-    match strict_number(text) {
+    match number_front(false, text) {
         Some((number, rest)) => Some((Some(number), rest)),
         None if matches!(text, [b'x' | b'X' | b'*', ..]) => Some((None, &text[1..])),
         None => padded_place(loose, text),
@@ -273,7 +250,7 @@ pub(crate) fn pre_front(loose: bool, wild: bool, text: &[u8]) -> (&[u8], &[u8])
     if loose && begins_undashed(wild, text) {
         marked_list(text, text)
     } else {
-        dashed_front(text)
+        pre_release_front(true, text)
     }
 }
 

@@ -2,81 +2,20 @@
 
 ghost use Rattle.std.specs.{Prelude.{◌↔◌, ◌≡◌, ◌≤◌, IfErr, drop}, List.prefix_len, Str.chars};
 ghost use Rattle.nodejs_semver.specs.Words.{IfOk, IsTrue, MAX_SAFE_INTEGER, NoValue};
-ghost use Rattle.nodejs_semver.specs.Words.{front_view, is_ascii_digit, is_listed, length};
-ghost use Rattle.nodejs_semver.specs.Words.{list_all, pair_view, true};
+ghost use Rattle.nodejs_semver.specs.Words.{front_view, is_ascii_digit, length, list_all};
 ghost use Rattle.nodejs_semver.specs.Internal.NpmReadings.{is_strict_identifier};
-ghost use Rattle.nodejs_semver.specs.Internal.Fronts.{after_byte};
 ghost use Rattle.nodejs_semver.specs.Npm.Grammar.{is_strict_list};
 ghost use Rattle.nodejs_semver.specs.Npm.Malformed.{is_mark};
 ghost use Rattle.nodejs_semver.specs.Npm.VersionText.{IsClean, IsVersionTextIn};
-ghost use Rattle.nodejs_semver.specs.Internal.Readings.{rest_view};
-ghost use Rattle.nodejs_semver.specs.Internal.NpmReadings as Spec;
 ghost use Rattle.nodejs_semver.specs.Internal.NpmVersions as Whole;
 
 use crate::npm::hyphens::skip_marks;
 use crate::npm::options::Reading;
-use crate::npm::places::{digits_len, pre_front};
+use crate::npm::places::pre_front;
 use crate::npm::words::marks_len;
-use crate::readers::{build_front, pre_release_front};
+use semver_core::scan::pieces::{behind_dot, build_front, digits_len, number_front};
 use semver_core::scan::{number_in, trim};
 use semver_core::{MAX_LENGTH, MAX_SAFE_INTEGER, SemverError, VersionRef};
-
-// Whether a text begins with a number that has a leading zero.
-#[inline(always)]
-pub(crate) fn begins_padded(text: &[u8]) -> bool
-    ensures { result ≡ Spec.begins_padded text.now }
-{
-    matches!(text, [b'0', next, ..] if next.is_ascii_digit())
-}
-
-// A number without leading zeros, and the text that follows it.
-#[inline(always)]
-#[tactic(auto, using(crate::proofs::Strict::VersionLaw::numbers_found))]
-pub(crate) fn strict_number(text: &[u8]) -> Option<(u64, &[u8])>
-    ensures { front_view result ≡ Spec.strict_number MAX_SAFE_INTEGER text.now }
-{
-    if begins_padded(text) {
-        return None;
-    }
-    let (number, end) = number_in(text, 0)?;
-    Some((number, &text[end..]))
-}
-
-// A number without leading zeros that follows a dot, and the text that follows it.
-#[inline(always)]
-#[tactic(auto, unfolding(crate::specs::Internal::NpmReadings::dotted_number))]
-pub(crate) fn dotted_number(text: &[u8]) -> Option<(u64, &[u8])>
-    ensures { front_view result ≡ Spec.dotted_number MAX_SAFE_INTEGER text.now }
-{
-    match text {
-        [b'.', rest @ ..] => strict_number(rest),
-        _ => None,
-    }
-}
-
-// A number, with leading zeros or only without, and the text that follows it.
-#[inline(always)]
-#[tactic(auto, using(crate::proofs::Reading::Numbers::number_fronts))]
-pub(crate) fn number_front(zeros: bool, text: &[u8]) -> Option<(u64, &[u8])>
-    ensures { front_view result ≡ Spec.number_in_reading zeros MAX_SAFE_INTEGER text.now }
-{
-    if !zeros {
-        return strict_number(text);
-    }
-    let (number, end) = number_in(text, 0)?;
-    Some((number, &text[end..]))
-}
-
-// What follows a dot at the front.
-#[inline(always)]
-fn behind_dot(text: &[u8]) -> Option<&[u8]>
-    ensures { rest_view result ≡ after_byte 46 text.now }
-{
-    match text {
-        [b'.', rest @ ..] => Some(rest),
-        _ => None,
-    }
-}
 
 // How many digits of the run at the front a patch number has that leaves the last one before a dot.
 #[inline(always)]
@@ -99,24 +38,11 @@ fn patch_front(loose: bool, text: &[u8]) -> Option<(u64, &[u8])>
     ensures { front_view result ≡ Whole.patch_front loose MAX_SAFE_INTEGER text.now }
 {
     if !loose {
-        return strict_number(text);
+        return number_front(false, text);
     }
     let len = patch_len(text);
     let (number, _) = number_in(&text[..len], 0)?;
     Some((number, &text[len..]))
-}
-
-// The text of the pre-release that follows a `-`, and what follows that.
-#[inline(always)]
-#[tactic(auto, unfolding(crate::specs::Internal::NpmReadings::dashed_front))]
-pub(crate) fn dashed_front(text: &[u8]) -> (&[u8], &[u8])
-    ensures listed { is_listed result.0.now ≡ true }
-    ensures value { pair_view result ≡ Spec.dashed_front text.now }
-{
-    match text {
-        [b'-', ..] => pre_release_front(true, text),
-        _ => (b"", text),
-    }
 }
 
 #[inline(always)]

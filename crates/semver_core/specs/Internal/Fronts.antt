@@ -50,6 +50,10 @@ begins_padded (c ∷ d ∷ rest) = c == 48 && is_ascii_digit d
 unfoldable pub number_with : Bool → ℕ → List ℕ → Front ℕ
 number_with zeros limit text = if not zeros && begins_padded text then None else number_front limit text
 
+-- such a number behind a dot
+unfoldable pub dotted_with : Bool → ℕ → List ℕ → Front ℕ
+dotted_with zeros limit text = after_byte 46 text >>? λ rest. number_with zeros limit rest
+
 -- a wildcard or a number
 unfoldable pub component_front : ℕ → List ℕ → Front (Option ℕ)
 component_front limit text =

@@ -17,7 +17,7 @@ pub use crate::scan::pieces::bounds::{Bounds, Comparator, lowest, release};
 pub use crate::scan::pieces::found::{Found, Intervals, owned_interval};
 pub(crate) use crate::scan::pieces::fronts::list_len;
 pub use crate::scan::pieces::fronts::{
-    begins_padded, behind_dot, build_front, component_front, digits_len, dotted_front, list_front,
-    marked_list, number_front, pre_release_front,
+    begins_padded, behind_dot, build_front, component_front, digits_len, dotted_front,
+    dotted_number, list_front, marked_list, number_front, pre_release_front,
 };
 pub use crate::scan::pieces::spaces::{skip_spaces, space_len};

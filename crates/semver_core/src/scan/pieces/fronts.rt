@@ -57,6 +57,16 @@ pub fn behind_dot(text: &[u8]) -> Option<&[u8]>
     }
 }
 
+/// Such a number behind a dot.
+#[inline(always)]
+#[tactic(auto, unfolding(crate::specs::Internal::Fronts::dotted_with))]
+pub fn dotted_number(zeros: bool, text: &[u8]) -> Option<(u64, &[u8])>
+    ensures value { front_view result ≡ Spec.dotted_with zeros MAX_SAFE_INTEGER text.now }
+    ensures small { IfSome result (λ p. p.0 ≤ MAX_SAFE_INTEGER) }
+{
+    number_front(zeros, behind_dot(text)?)
+}
+
 /// A wildcard or a number, and the text behind it. The number is looked for first, since most
 /// components are numbers.
 #[inline(always)]

@@ -1,6 +1,7 @@
 use Rattle.nodejs_semver.proofs.Common.{◌≡◌, ◌-◌, ◌<◌, ℕ, zero, suc, List, length, false, sym, ap, ◌∙◌, arith, ◌==◌, eqb-true}
 use Rattle.nodejs_semver.proofs.Common.{MAX_SAFE_INTEGER, lit≤}
 use Rattle.nodejs_semver.proofs.Diagnosing.Flaws.{ended, ignored_left, left_fits, stuck_flaw, whole_left}
+use Rattle.semver_core.specs.Internal.Fronts.{pre_release_with}
 use Rattle.nodejs_semver.proofs.diagnosis.versions.flaw_within.Goals as goal
 
 pub returns-in-Err : goal.returns-in-Err
@@ -9,6 +10,7 @@ returns-in-Err c =
     (rw c.as_bytes-bytes.ensures.value at c.in-Err.ensures.stuck)
 
 pub returns-then-is_empty : goal.returns-then-is_empty
+unfolding pre_release_with
 returns-then-is_empty c =
     let left = ended MAX_SAFE_INTEGER c.args.text.now _ _ _ c.front_of_numbers.result c.in-Ok.end c.as_bytes-bytes.ensures.value
     c.in-Ok.ensures.found c.pre_release_front.ensures.value c.build_front.ensures.value in
@@ -16,6 +18,7 @@ returns-then-is_empty c =
     (eqb-true (length c.build_front.result.1.now) 0 (sym c.is_empty.ensures ∙ c.if-is_empty.true))
 
 pub overflow_sub-at : goal.overflow_sub-at
+unfolding pre_release_with
 overflow_sub-at c =
     let left = ended MAX_SAFE_INTEGER c.args.text.now _ _ _ c.front_of_numbers.result c.in-Ok.end c.as_bytes-bytes.ensures.value
     c.in-Ok.ensures.found c.pre_release_front.ensures.value c.build_front.ensures.value in
@@ -27,6 +30,7 @@ positive zero h = cc h
 positive (suc n) h = omega arith
 
 pub returns-else-is_empty : goal.returns-else-is_empty
+unfolding pre_release_with
 returns-else-is_empty c =
     let left = ended MAX_SAFE_INTEGER c.args.text.now _ _ _ c.front_of_numbers.result c.in-Ok.end c.as_bytes-bytes.ensures.value
     c.in-Ok.ensures.found c.pre_release_front.ensures.value c.build_front.ensures.value in

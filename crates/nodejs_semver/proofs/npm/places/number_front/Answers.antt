@@ -1,5 +1,0 @@
-use Rattle.nodejs_semver.proofs.{Common.{MAX_SAFE_INTEGER, sym}, Strict.VersionLaw.front_there}
-use Rattle.nodejs_semver.proofs.npm.places.number_front.Goals as goal
-
-pub returns : goal.returns
-returns c = sym (front_there MAX_SAFE_INTEGER c.args.text.now c.in_ok-number.number c.in_ok-number.end c.in_ok-number.ensures.found)

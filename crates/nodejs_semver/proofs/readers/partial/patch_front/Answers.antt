@@ -1,0 +1,7 @@
+use Rattle.nodejs_semver.proofs.{Common.rules, Reading.IdentifierLists.short_lists}
+use Rattle.semver_core.specs.Internal.Fronts.{pre_release_with}
+use Rattle.nodejs_semver.proofs.readers.partial.patch_front.Goals as goal
+
+pub returns : goal.returns
+unfolding pre_release_with
+returns c = search (rules, short_lists)
