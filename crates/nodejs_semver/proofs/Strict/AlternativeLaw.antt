@@ -1,7 +1,7 @@
 -- Alternatives of node-semver's range texts: the functions that read them find exactly what the statement has.
 use Rattle.nodejs_semver.proofs.NpmCommon.{are_marks, npm_sign, Signed, capped_in, capped_partial, first_as, signed_word, HasAlternativesIn}
 use Rattle.nodejs_semver.proofs.NpmCommon.{IsAlternative, IsHyphen, IsVersionText, alternative_of, alternatives_of, are_normal, hyphen_ends}
-use Rattle.nodejs_semver.proofs.NpmCommon.{is_free_lower, is_free_upper, is_mark, is_right, is_valid, kept, lower_of, marks_len, strict_version}
+use Rattle.nodejs_semver.proofs.NpmCommon.{is_free_lower, is_free_upper, is_mark, is_right, is_valid, kept, lower_of, marks_len}
 use Rattle.nodejs_semver.proofs.NpmCommon.{upper_of, words_of_all, words_within}
 use Rattle.nodejs_semver.proofs.{Common.is_boundary, Strict.{Hyphens.normal-capped, PartialLaw.front-as}}
 use Rattle.nodejs_semver.specs.Internal.NpmWords.{ended_word, places_front}
@@ -12,7 +12,7 @@ use Rattle.nodejs_semver.proofs.{Common.{trim_is_middle, true, ℕ, ◌&&◌, �
 use Rattle.nodejs_semver.proofs.{Dividing.{BarsDivide.bars_once, MeaningLaw.pieces-utf8}, NpmCommon.{AreAlternatives, Comparison, Ended}}
 use Rattle.nodejs_semver.proofs.{Reading.{Steps.option-cases, WordLaw.{tail-utf8, trim-utf8}}, Strict.Hyphens.{ended_of, front-normal, hyphen-found}}
 use Rattle.nodejs_semver.proofs.Strict.{Hyphens.{hyphen-read, partial-le, right-end}, PartialLaw.prefix-all}
-use Rattle.nodejs_semver.{proofs.Strict.{VersionLaw.strict-read-version, Words.{words-found, words-read}}}
+use Rattle.nodejs_semver.{proofs.Strict.Words.{words-found, words-read}}
 use Rattle.nodejs_semver.specs.{Internal.NpmWords.{hyphen_or, npm_alternatives}, Npm.{RangeText.{hyphen, next, words}, Table.Partial}}
 
 -- ---- marks
