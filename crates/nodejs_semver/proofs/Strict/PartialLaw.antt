@@ -310,12 +310,10 @@ front-as f None x h = cc h
 front-as f (Some v) x h = (v, refl, same_Some _ _ h)
 
 pub front-none : {A : Type 0} (f : A → A) (o : Front A) → None ≡ first_as f o → o ≡ None
-front-none f None h = refl
-front-none f (Some v) h = cc h
+front-none f o h = grind arith
 
 pub front-some : {A : Type 0} (f : A → A) (o : Front A) → is_none (first_as f o) ≡ is_none o
-front-some f None = refl
-front-some f (Some v) = refl
+front-some f o = grind arith
 
 of-capped : (a b c : Option ℕ) (l m : List Id)
     → partial_of (capped_one a) (capped_one b) (capped_one c) l m ≡ capped_partial (partial_of a b c l m)
@@ -325,8 +323,7 @@ qualified-capped : (loose : Bool) (a b c : Option ℕ) (text : List ℕ)
     → qualified_partial loose (capped_one a) (capped_one b) (capped_one c) text ≡ first_as capped_partial (qualified_partial loose a b c text)
 unfolding qualified_partial
 qualified-capped loose a b c text =
-    let wild : is_none (capped_one c) ≡ is_none c = grind arith in
-    rw wild (grind (arith, nat_tests, common_steps, of-capped))
+    let wild : is_none (capped_one c) ≡ is_none c = grind arith in rw wild (grind (arith, nat_tests, common_steps, of-capped))
 
 -- the partial of no place, of one, and of more
 module _ (loose : Bool) (text : List ℕ) where

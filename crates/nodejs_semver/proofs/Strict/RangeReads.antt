@@ -115,12 +115,7 @@ hyphen-alternative loose include text e h = rw h (sym (hyphen-capped loose inclu
 pub words-alternative : (loose include : Bool) (text : List ℕ) → hyphen_ends loose text ≡ None
     → valid_alternative loose include text ≡ (words_of loose include text >>? λ all. Some (words_of_all all))
 unfolding valid_alternative alternative_of
-words-alternative loose include text h = rw h (go (words_within loose include (length text) text))
-  where
-    go : (o : Option (List (Option (List Comparison))))
-        → ((o >>? λ all. Some (words_of_all all)) >>? valid_one) ≡ ((o >>? valid_all) >>? λ all. Some (words_of_all all))
-    go None = refl
-    go (Some all) = grind arith
+words-alternative loose include text h = rw h (grind arith)
 
 -- the ends as the code has them
 pub ends-as : (o : Option (Ended × Ended)) (x : Ended × Ended) → Some x ≡ both_capped o
@@ -129,8 +124,7 @@ ends-as None x h = cc h
 ends-as (Some e) x h = (e, refl, same_Some _ _ h)
 
 pub ends-none : (o : Option (Ended × Ended)) → None ≡ both_capped o → o ≡ None
-ends-none None h = refl
-ends-none (Some e) h = cc h
+ends-none o h = grind arith
 
 -- ---- what is found between two ends
 
