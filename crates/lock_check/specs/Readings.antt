@@ -8,7 +8,8 @@ use Rattle.std.specs.List.{list_any, slice_split}
 use Rattle.std.specs.Str.Iter.{HasSubslice}
 use Rattle.nodejs_semver.specs.Cuts.{Span}
 use Rattle.nodejs_semver.specs.Failures.{NoValue}
-use Rattle.nodejs_semver.specs.Npm.Ranges.{HasAlternativesIn, IsRangeIn}
+use Rattle.npm_words.specs.Alternatives.{HasAlternativesIn}
+use Rattle.npm_reading.specs.Ranges.{IsRangeIn}
 use Rattle.nodejs_semver.specs.Versions.{VersionValue}
 use Rattle.semver_core.specs.declared.TheConstants.{MAX_SAFE_INTEGER}
 use Rattle.lock_check.specs.declared.reading.NpmRange.{NpmRange}

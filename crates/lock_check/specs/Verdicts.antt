@@ -3,7 +3,7 @@ use Rattle.std.specs.Prelude.{◌≡◌, ℕ, true, false, List, IfSome}
 use Rattle.nodejs_semver.specs.Cuts.{Span}
 use Rattle.nodejs_semver.specs.Versions.{VersionValue}
 use Rattle.nodejs_semver.specs.Failures.{NoValue}
-use Rattle.nodejs_semver.specs.Npm.VersionText.{IsLooseVersionText}
+use Rattle.npm_words.specs.VersionText.{IsLooseVersionText}
 use Rattle.nodejs_semver.specs.Ranges.Gate.{accepts}
 use Rattle.nodejs_semver.specs.Ranges.Least.{IsLeastOf, least_build}
 use Rattle.semver_core.specs.declared.TheConstants.{MAX_SAFE_INTEGER}

@@ -7,13 +7,14 @@
 
 ghost use Rattle.lock_check.specs.Readings.{IsNpmRange, IsUnmarked, MayDiffer, has_great};
 ghost use Rattle.nodejs_semver.specs.Failures.{NoValue};
-ghost use Rattle.nodejs_semver.specs.Npm.Ranges.{HasAlternativesIn, IsRangeIn};
-ghost use Rattle.nodejs_semver.specs.Npm.VersionText.{IsLooseVersionText};
+ghost use Rattle.npm_words.specs.Alternatives.{HasAlternativesIn};
+ghost use Rattle.npm_reading.specs.Ranges.{IsRangeIn};
+ghost use Rattle.npm_words.specs.VersionText.{IsLooseVersionText};
 ghost use Rattle.std.specs.Prelude.{◌≡◌, ◌↔◌, IfNone, IfOk, IfSome, IsTrue};
 ghost use Rattle.std.specs.Prelude.{false, true};
 
-use nodejs_semver::npm::{self, Reading};
 use nodejs_semver::{Failure, MAX_SAFE_INTEGER, RangeRef, VersionRef};
+use npm_reading::Reading;
 use std::alloc::{AllocError, Global};
 
 /// What npm reads in a text in place of a range.
@@ -42,7 +43,7 @@ pub fn read_range(
         loose,
         include_prerelease: false,
     };
-    Failure::refused_as_none(npm::range(alloc, text, reading))
+    Failure::refused_as_none(npm_reading::range(alloc, text, reading))
 }
 /// What npm reads in a text in place of a range. Fails only if allocation fails.
 pub fn range(alloc: Global, text: &str) -> Result<NpmRange<'_>, AllocError>
@@ -88,7 +89,7 @@ pub fn version(text: &str) -> Option<VersionRef<'_>>
         loose: true,
         include_prerelease: false,
     };
-    match npm::version(text, reading) {
+    match npm_reading::version(text, reading) {
         Ok(version) => Some(version),
         Err(_) => None,
     }

@@ -1,15 +1,10 @@
 pub mod Algebra
-pub mod Alike
 pub mod Bounds
 pub mod Common
 pub mod Diagnosing
 pub mod Dividing
 pub mod Everyday
 pub mod JsonTexts
-pub mod Strict
-pub mod NpmCommon
-pub mod NpmFlaws
-pub mod NpmTexts
 pub mod Printing
 pub mod Questions
 pub mod Reading

@@ -1,19 +1,17 @@
 -- For proofs. A printed version is the components of a partial, the text of an interval a part that means it, and a range that
 -- is printed and parsed comes back.
-use Rattle.nodejs_semver.proofs.Common.{nat_tests, common_steps, ◌<◌, ◌^◌, ℕ, [], ◌∷◌, ◌++◌, arith, append-nil, Some, decimal, IsPreRelease}
-use Rattle.nodejs_semver.proofs.Common.{VersionValue, AreComponents, Partial, ◌≡◌, ◌||◌, true, List, refl, inl, inr, cases_Bool, Span}
-use Rattle.nodejs_semver.proofs.Common.{is_interval, meet, precedence, precedence_total, Bound, Unbounded, Before, After, table, version_eq}
-use Rattle.nodejs_semver.proofs.Common.{Comparator, IsSign, compare, above, equal, at_most, below, ◌+◌, map, ap, ◌&&◌, list_all, and_from}
-use Rattle.nodejs_semver.proofs.Common.{and_parts, is_range_span, denotes, IsRange, is_range_bound, range_text, sym, subst, IsUtf8, Failure}
-use Rattle.nodejs_semver.proofs.Common.{Means, Result, IfOk, IfOk-weaker}
-use Rattle.semver_core.specs.{Internal.Readable.{IsReadable}, Printing.Text.{marked_list, version_text}, Failures.{RefusedOnlyIf}}
-use Rattle.semver_core.proofs.Printing.Returns.{build_back, number_back, pre_back}
-use Rattle.nodejs_semver.specs.{Text.PartialText.{number, three}, Printing.RoundTrip.{bounds_back, is_printable}}
-use Rattle.nodejs_semver.specs.{Ranges.Outside.{is_bounded}, Printing.Text.{bounds_text}}
-use Rattle.nodejs_semver.specs.{Text.WordText.{above_sign, at_least_sign, at_most_sign, below_sign, at_least}, Internal.Sets.{span_eq}}
-use Rattle.nodejs_semver.specs.{Internal.Shorthands.{is_small}, Internal.SameLaws.{bound_refl}, Ranges.Equality.{range_eq}}
-use Rattle.nodejs_semver.proofs.{Reading.Bytes.{quiet-before}, Everyday.Words.{Tidy, compared-tidy, plain-tidy, two-tidy}}
-use Rattle.nodejs_semver.proofs.{Everyday.Texts.{AreTidy, more_tidy, one_tidy, tidy-denotes}, Dividing.MeaningLaw.{one_meaning}}
+use Rattle.nodejs_semver.proofs.Common.{After, AreComponents, Before, Bound, Comparator, Failure, IfOk, IfOk-weaker, IsPreRelease, IsRange, IsSign}
+use Rattle.nodejs_semver.proofs.Common.{IsUtf8, List, Means, Partial, Result, Some, Span, Unbounded, VersionValue, [], above, and_from, and_parts, ap}
+use Rattle.nodejs_semver.proofs.Common.{append-nil, arith, at_most, below, cases_Bool, common_steps, compare, decimal, denotes, equal, inl, inr}
+use Rattle.nodejs_semver.proofs.Common.{is_interval, is_range_bound, is_range_span, list_all, map, meet, nat_tests, precedence, precedence_total}
+use Rattle.nodejs_semver.proofs.Common.{range_text, refl, subst, sym, table, true, version_eq, ℕ, ◌&&◌, ◌++◌, ◌+◌, ◌<◌, ◌^◌, ◌||◌, ◌∷◌, ◌≡◌}
+use Rattle.nodejs_semver.proofs.{Dividing.MeaningLaw.one_meaning, Everyday.{Texts.{AreTidy, more_tidy, one_tidy, tidy-denotes}, Words.Tidy}}
+use Rattle.nodejs_semver.{proofs.Everyday.Words.{compared-tidy, plain-tidy, two-tidy}, specs.Internal.{SameLaws.bound_refl, Sets.span_eq}}
+use Rattle.nodejs_semver.specs.{Internal.Shorthands.is_small, Printing.{RoundTrip.{bounds_back, is_printable}, Text.bounds_text}}
+use Rattle.nodejs_semver.specs.{Ranges.{Equality.range_eq, Outside.is_bounded}, Text.{PartialText.{number, three}, WordText.above_sign}}
+use Rattle.{nodejs_semver.specs.Text.WordText.{at_least_sign, at_most_sign, below_sign}, semver_core.proofs.Printing.Returns.build_back}
+use Rattle.semver_core.{proofs.{Printing.Returns.{number_back, pre_back}, Reading.Bytes.quiet-before}, specs.Failures.RefusedOnlyIf}
+use Rattle.semver_core.specs.{Internal.Readable.IsReadable, Printing.Text.{marked_list, version_text}, Text.Comparators.at_least}
 use Rattle.std.specs.Cmp.{eq_by_cmp_equiv}
 
 -- the partial that a version is

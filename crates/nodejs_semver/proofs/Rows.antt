@@ -1,4 +1,2 @@
 pub mod Ranges
 pub mod Printed
-pub mod Npm
-pub mod NpmAlike

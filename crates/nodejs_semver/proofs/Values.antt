@@ -1,11 +1,11 @@
 -- What holds of spans of versions holds of the spans of their values, where the order of the versions is that of the values.
-use Rattle.nodejs_semver.proofs.Common.{nat_tests, common_steps, After, AreTaking, Before, Beside, Bool, Bound, Equal, Greater, List, None}
+use Rattle.nodejs_semver.proofs.Common.{After, AreTaking, Before, Bool, Bound, List, None, common_steps, nat_tests}
 use Rattle.nodejs_semver.proofs.Common.{Option, Ordering, Some, Span, TakesMemory, Unbounded, VersionValue, [], ap, append-nil}
 use Rattle.nodejs_semver.proofs.Common.{append_assoc, ap₂, arith, bound_of, codes, cut_cmp, false, flat_map, flat_map-append, flat_map-map}
-use Rattle.nodejs_semver.proofs.Common.{get_or, greater_lower, has_bound, if◌then◌else◌, inl, inr, interval, is_ge, is_gt, is_interval}
-use Rattle.nodejs_semver.proofs.Common.{is_le, is_past, is_some, join_by, left_above, left_below, length, length-map, lesser_upper}
+use Rattle.nodejs_semver.proofs.Common.{get_or, greater_lower, has_bound, if◌then◌else◌, inl, inr, interval, is_interval}
+use Rattle.nodejs_semver.proofs.Common.{is_some, join_by, left_above, left_below, length, length-map, lesser_upper}
 use Rattle.nodejs_semver.proofs.Common.{list_all, list_all-map, list_any, lower_cut, map, map-append, meet, meets_of, minus, option_map}
-use Rattle.nodejs_semver.proofs.Common.{option_to_list, ordering_reverse, ordering_then, passes, precedence, precedence_total, range_text}
+use Rattle.nodejs_semver.proofs.Common.{option_to_list, passes, precedence, range_text}
 use Rattle.nodejs_semver.proofs.Common.{refl, remainder, span_of, span_text, spans_of, sym, take, take_next, true, upper_cut, ℕ, ◌++◌, ◌+◌}
 use Rattle.nodejs_semver.proofs.Common.{is_range_bound, is_range_span, ◌&&◌, ◌<◌, ◌==◌, ◌∙◌, ◌∷◌, ◌≡◌}
 use Rattle.semver_core.specs.Values.Memory.{takes_memory}
@@ -141,21 +141,6 @@ module _ {V : Type 0} (takes : V → Bool) (value : V → VersionValue)
       → TakesMemory ts
   taking-values ss ts e (inl many) = inl (omega (arith, many, length-map ss (span_of value), ap length e))
   taking-values ss ts e (inr any) = inr (rw (sym e) (any-values ss any))
-
--- a version lies past the cut of a bound by its order to the version that the bound names
-pub past-before : (v w : VersionValue) → is_past precedence (Beside v false) w ≡ is_ge (precedence w v)
-past-before v w = turned (precedence v w) (precedence w v) (precedence_total.antisymm v w)
-  where
-    turned : (r s : Ordering) → r ≡ ordering_reverse s → is_le (ordering_then r Equal) ≡ is_ge s
-    turned r s e = grind arith
-
-pub past-after : (v w : VersionValue) → is_past precedence (Beside v true) w ≡ is_gt (precedence w v)
-past-after v w = turned (precedence v w) (precedence w v) (precedence_total.antisymm v w)
-  where
-    turned : (r s : Ordering) → r ≡ ordering_reverse s → is_le (ordering_then r Greater) ≡ is_gt s
-    turned r s e = grind arith
-
-pub ruleset past_named = (past-before, past-after)
 
 -- ---- what a loop over intervals has written
 

@@ -18,15 +18,3 @@ pub mod CommonViews
 pub mod Ignored
 pub mod Sets
 pub mod Questions
-pub mod NpmReadings
-pub mod NpmTuples
-pub mod NpmParts
-pub mod NpmInside
-pub mod NpmWords
-pub mod NpmVersions
-pub mod NpmViews
-pub mod NpmMeaning
-pub mod NpmAlternatives
-pub mod NpmReads
-pub mod NpmFronts
-pub mod NpmStates

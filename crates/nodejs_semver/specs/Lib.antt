@@ -1,7 +1,6 @@
 pub mod Diagnosis
 pub mod Json
 pub mod Internal
-pub mod Npm
 pub mod Printing
 pub mod Ranges
 pub mod Text

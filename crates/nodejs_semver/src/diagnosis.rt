@@ -8,6 +8,5 @@ mod ranges;
 mod unread;
 mod versions;
 
-pub(crate) use crate::diagnosis::messages::write_at;
 pub use crate::diagnosis::ranges::{IgnoredKind, IgnoredWord, IgnoredWords, ignored_words};
 pub use crate::diagnosis::versions::{Expected, VersionFlaw, version_flaw};

@@ -29,7 +29,7 @@
 pub mod diagnosis;
 pub mod json;
 pub mod laws;
-pub mod npm;
+pub mod pieces;
 mod range;
 pub mod readers;
 

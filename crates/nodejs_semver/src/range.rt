@@ -71,9 +71,11 @@ impl<V: VersionPoint> RangeOf<V> {
         Ok(RangeOf { intervals })
     }
 
-    // The intervals, whoever owns their versions.
+    /// The intervals, whoever owns their versions.
+    ///
+    /// This is for the crates of this repository.
     #[inline(always)]
-    pub(crate) fn items(&self) -> &[Interval<V>]
+    pub fn items(&self) -> &[Interval<V>]
         ensures value { spans_of V.value result.now ≡ self.now }
         ensures valid { IsRange MAX_SAFE_INTEGER self.now }
     {
@@ -94,8 +96,10 @@ impl<V: VersionPoint> RangeOf<V> {
         }
     }
 
-    // The range of these intervals, of which there are some.
-    pub(crate) fn of_some(intervals: Intervals<V>) -> RangeOf<V>
+    /// The range of these intervals, of which there are some.
+    ///
+    /// This is for the crates of this repository.
+    pub fn of_some(intervals: Intervals<V>) -> RangeOf<V>
         requires { IsRange MAX_SAFE_INTEGER (spans_of V.value intervals.items) }
         ensures { result ≡ spans_of V.value intervals.items }
     {

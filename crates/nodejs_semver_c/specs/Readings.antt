@@ -1,13 +1,13 @@
 -- Statement. How the texts of a call are read.
+use Rattle.npm_words.specs.Alternatives as npm
 use Rattle.std.specs.Prelude.{◌<◌, ◌==◌, if◌then◌else◌, Bool, false, ℕ, List, [], Option, Some, None, length}
 use Rattle.semver_core.specs.Cuts.{Span}
 use Rattle.semver_core.specs.Failures.{NoValue}
 use Rattle.semver_core.specs.Text.Parsing.{Parses}
 use Rattle.semver_core.specs.Values.Versions.{VersionValue}
 use Rattle.semver_core.specs.declared.TheConstants.{MAX_SAFE_INTEGER}
-use Rattle.nodejs_semver.specs.Npm.Ranges as npm
-use Rattle.nodejs_semver.specs.Npm.VersionText.{IsVersionText}
-use Rattle.nodejs_semver.specs.Text.Bars.{IsCutAtBars}
+use Rattle.npm_words.specs.VersionText.{IsVersionText}
+use Rattle.semver_core.specs.Text.Bars.{IsCutAtBars}
 use Rattle.nodejs_semver.specs.Text.Meaning.{Means}
 use Rattle.nodejs_semver_c.specs.declared.read.Grammar.{Grammar}
 use Rattle.nodejs_semver_c.specs.declared.read.Grammar.TheVariants.{Npm, Port}

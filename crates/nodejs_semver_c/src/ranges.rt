@@ -15,7 +15,6 @@ ghost use Rattle.std.specs.Prelude.{◌≡◌, ◌⊎◌, IfSome, Option, false,
 
 use crate::print::{print, print_found};
 use crate::{NO_MEMORY, OK, read};
-use nodejs_semver::npm;
 use std::alloc::Global;
 
 /// Prints the range of a text in its normal form: `^1.2` as `>=1.2.0 <2.0.0-0`.
@@ -96,9 +95,9 @@ pub extern "C" fn nodejs_semver_range_outside(
         Err(status) => return status,
     };
     *answer = if above {
-        npm::gtr(&version, &range, include_prerelease)
+        npm_reading::gtr(&version, &range, include_prerelease)
     } else {
-        npm::ltr(&version, &range, include_prerelease)
+        npm_reading::ltr(&version, &range, include_prerelease)
     };
     OK
 }

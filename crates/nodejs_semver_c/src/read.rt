@@ -10,8 +10,8 @@ ghost use Rattle.std.specs.Prelude.{◌≡◌, IfErr, IfOk, IsUtf8};
 use crate::{
     BAD_ARGUMENT, BAD_RANGE, BAD_VERSION, NO_MEMORY, NOT_UTF8, READING_NPM, READING_PORT, TOO_LONG,
 };
-use nodejs_semver::npm::{self, Reading};
 use nodejs_semver::{Failure, RangeRef, SemverError, VersionRef};
+use npm_reading::Reading;
 use std::alloc::Global;
 
 // How many bytes memory may hold, and how many texts, of 16 bytes each in an array. Rattle counts
@@ -68,7 +68,7 @@ impl Grammar {
                     loose: false,
                     include_prerelease: false,
                 };
-                npm::version(text, strict)
+                npm_reading::version(text, strict)
             }
         }
     }
@@ -91,7 +91,7 @@ impl Grammar {
                     loose: false,
                     include_prerelease,
                 };
-                npm::range(alloc, text, reading)
+                npm_reading::range(alloc, text, reading)
             }
         }
     }

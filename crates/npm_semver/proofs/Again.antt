@@ -1,40 +1,22 @@
 -- What is printed as lines, read again, prints the same.
-use Rattle.std.proofs.Common.{◌≡◌, ◌∙◌, ◌||◌, ◌==◌, ◌+◌, ◌-◌, ◌<◌, ◌∷◌, ◌++◌, [], ℕ, append-nil, zero, suc, Bool, true, false, not, List, Some, None, IsUtf8, ap, arith, get_or, length, map, refl, reverse, sym, take, if◌then◌else◌}
-use Rattle.std.proofs.lemmas.Bool.{and_parts}
-use Rattle.std.proofs.lemmas.Bool.Decides.{nat_tests}
-use Rattle.std.proofs.lemmas.List.{get_or-map, length-map, reverse-append}
-use Rattle.std.proofs.lemmas.List.Folds.{list_all-append}
-use Rattle.std.proofs.lemmas.Str.Ascii.{encode_ascii}
-use Rattle.std.specs.Prelude.{encode_utf8_all}
-use Rattle.std.specs.Cmp.Lexicographic.{nat_list_cmp_total, slice_cmp}
-use Rattle.std.specs.Ordering.{is_lt, nat_cmp, ordering_then}
-use Rattle.std.specs.declared.cmp.Ordering.{Ordering}
-use Rattle.std.specs.declared.cmp.Ordering.TheVariants.{Less, Equal, Greater}
-use Rattle.std.proofs.lemmas.List.Elements.{All-cons, All-nil, All-take, recursion_from_All}
-use Rattle.std.proofs.lemmas.List.Sorted.{All-permutation, IsPermutation-map, IsPermutation-refl, IsPermutation-reverse, IsPermutation-sym}
-use Rattle.std.proofs.lemmas.List.Splits.{length-slice_split, slice_split_at}
-use Rattle.std.specs.List.{All, AllByRecursion, flat_map, list_all, slice_split}
-use Rattle.std.specs.List.Sorted.{IsPermutation, IsSorted}
-use Rattle.std.specs.Str.Lines.{lines, lines_of_parts, strip_carriage_return}
-use Rattle.semver_core.specs.Failures.{NoValue}
-use Rattle.semver_core.specs.Lists.{is_empty}
-use Rattle.semver_core.specs.Text.Characters.{IsTrim, begins, is_identifier_char, is_whitespace}
-use Rattle.semver_core.specs.Printing.Text.{version_text}
-use Rattle.semver_core.specs.Values.Order.{precedence}
-use Rattle.semver_core.specs.Values.Versions.{VersionValue}
-use Rattle.semver_core.specs.declared.TheConstants.{MAX_SAFE_INTEGER}
-use Rattle.nodejs_semver.specs.Npm.VersionText.{IsVersionText}
-use Rattle.npm_semver.specs.Arguments.{Asked}
-use Rattle.npm_semver.specs.Laws.{EachText}
+use Rattle.npm_semver.{proofs.Ties.{not_itself, same_emptiness, text_map, unbuilt, unbuilt_same}, specs.{Arguments.Asked, Laws.EachText}}
+use Rattle.npm_semver.specs.{Listing.{AllSay, AreListed, Entry, IsListing, Says, order}, Readings.{IsVersionIn, SomeText, found, here, later}}
+use Rattle.npm_semver.specs.{Readings.{not_found, strict}, Responses.{IsRefused, Responds, Written, bare, in_order, increment, json, line}}
+use Rattle.npm_semver.specs.{Responses.{no_version, picked, refused, shown, text_of, unknown, unread, unshown, versions}, declared.question.Pick.Pick}
+use Rattle.{npm_semver.specs.declared.reading.ReadOptions.ReadOptions, npm_words.specs.VersionText.IsVersionText, semver_core.specs.Failures.NoValue}
+use Rattle.semver_core.specs.{Lists.is_empty, Printing.Text.version_text, Text.Characters.{IsTrim, begins, is_identifier_char, is_whitespace}}
+use Rattle.{semver_core.specs.{Values.{Order.precedence, Versions.VersionValue}, declared.TheConstants.MAX_SAFE_INTEGER}, std.proofs.Common.Bool}
+use Rattle.std.proofs.Common.{IsUtf8, List, None, Some, [], ap, append-nil, arith, false, get_or, if◌then◌else◌, length, map, not, refl, reverse, suc}
+use Rattle.std.proofs.{Common.{sym, take, true, zero, ℕ, ◌++◌, ◌+◌, ◌-◌, ◌<◌, ◌==◌, ◌||◌, ◌∙◌, ◌∷◌, ◌≡◌}, lemmas.Bool.{Decides.nat_tests, and_parts}}
+use Rattle.std.proofs.lemmas.List.{Elements.{All-cons, All-nil, All-take, recursion_from_All}, Folds.list_all-append, Sorted.All-permutation}
+use Rattle.std.proofs.lemmas.List.Sorted.{IsPermutation-map, IsPermutation-refl, IsPermutation-reverse, IsPermutation-sym}
+use Rattle.std.proofs.lemmas.{List.{Splits.{length-slice_split, slice_split_at}, get_or-map, length-map, reverse-append}, Str.Ascii.encode_ascii}
+use Rattle.std.specs.{Cmp.Lexicographic.{nat_list_cmp_total, slice_cmp}, List.{All, AllByRecursion, Sorted.{IsPermutation, IsSorted}, flat_map}}
+use Rattle.std.specs.{List.{list_all, slice_split}, Ordering.{is_lt, nat_cmp, ordering_then}, Prelude.encode_utf8_all, Str.Lines.lines}
+use Rattle.std.specs.{Str.Lines.{lines_of_parts, strip_carriage_return}, declared.cmp.Ordering.{Ordering, TheVariants.{Equal, Greater, Less}}}
 use Rattle.npm_semver.specs.Laws as Each
-use Rattle.npm_semver.specs.Listing.{AllSay, AreListed, Entry, IsListing, Says, order}
 use Rattle.npm_semver.specs.Listing as Listing
-use Rattle.npm_semver.specs.Readings.{IsVersionIn, SomeText, found, here, later, not_found, strict}
-use Rattle.npm_semver.specs.Responses.{IsRefused, Responds, Written, bare, json, in_order, increment, line, no_version, picked, refused, shown, text_of, unknown, unread, unshown, versions}
-use Rattle.npm_semver.specs.declared.question.Pick.{Pick}
 use Rattle.npm_semver.specs.declared.question.Pick.TheVariants as Picks
-use Rattle.npm_semver.specs.declared.reading.ReadOptions.{ReadOptions}
-use Rattle.npm_semver.proofs.Ties.{same_emptiness, not_itself, text_map, unbuilt, unbuilt_same}
 
 abbrev is_plain : ℕ → Bool
 is_plain c = is_identifier_char c || (c == 46 || c == 43)

@@ -1,28 +1,14 @@
 -- Words that are no question, and what the others are answered.
-use Rattle.std.proofs.Common.{◌≡◌, ◌∷◌, ◌++◌, [], ℕ, Bool, true, false, List, Option, Some, None, codes, map, refl, sym, option_map, append_assoc, ◌≢◌, ◌∙◌, ◌<◌, arith, length, get_or, suc, zero, take, ◌+◌, ◌==◌, is_none, is_some}
-use Rattle.std.proofs.lemmas.List.{map-append, take_more}
-use Rattle.std.specs.List.{list_all}
-use Rattle.std.specs.Prelude.{IfSome}
-use Rattle.std.specs.declared.cmp.Ordering.{Ordering}
-use Rattle.semver_core.specs.Difference.{kind_between, kind_word}
-use Rattle.semver_core.specs.Failures.{NoValue}
-use Rattle.semver_core.specs.Increments.Table.{answer_of_inc}
-use Rattle.semver_core.specs.Printing.Text.{version_text}
-use Rattle.semver_core.specs.Values.Order.{precedence}
-use Rattle.semver_core.specs.Values.Versions.{VersionValue}
-use Rattle.semver_core.specs.declared.TheConstants.{MAX_SAFE_INTEGER}
-use Rattle.semver_core.specs.declared.difference.VersionDiff.{VersionDiff}
-use Rattle.nodejs_semver.specs.Npm.Ranges.{HasAlternativesIn}
-use Rattle.nodejs_semver.specs.Npm.VersionText.{IsVersionText}
-use Rattle.nodejs_semver.specs.Printing.Text.{range_text}
-use Rattle.nodejs_semver.specs.Ranges.Gate.{accepts}
-use Rattle.nodejs_semver.specs.Ranges.Least.{IsLeastOf, beyond}
-use Rattle.nodejs_semver.specs.Ranges.Algebra.{difference, intersection}
-use Rattle.npm_semver.specs.Subcommands.{Answers, AreRanges, HasIdentifier, IsRange, IsShown, Range, Said, next_said, relation_of, reply, say, sign}
+use Rattle.nodejs_semver.specs.{Printing.Text.range_text, Ranges.{Algebra.{difference, intersection}, Gate.accepts, Least.{IsLeastOf, beyond}}}
+use Rattle.npm_semver.specs.{Internal.{Appends.Extends, Said.is_operation}, Subcommands.{Answers, AreRanges, HasIdentifier, IsRange, IsShown, Range}}
+use Rattle.npm_semver.specs.{Subcommands.{Said, next_said, relation_of, reply, say, sign}, declared.subcommands.replies.Status.TheVariants.Yes}
+use Rattle.{npm_words.specs.{Alternatives.HasAlternativesIn, VersionText.IsVersionText}, semver_core.specs.Difference.{kind_between, kind_word}}
+use Rattle.semver_core.specs.{Failures.NoValue, Increments.Table.answer_of_inc, Printing.Text.version_text, Values.Order.precedence}
+use Rattle.semver_core.specs.{Values.Versions.VersionValue, declared.{TheConstants.MAX_SAFE_INTEGER, difference.VersionDiff.VersionDiff}}
+use Rattle.std.proofs.Common.{Bool, List, None, Option, Some, [], append_assoc, arith, codes, false, get_or, is_none, is_some, length, map}
+use Rattle.std.proofs.{Common.{option_map, refl, suc, sym, take, true, zero, ℕ, ◌++◌, ◌+◌, ◌<◌, ◌==◌, ◌∙◌, ◌∷◌, ◌≡◌, ◌≢◌}, lemmas.List.map-append}
+use Rattle.std.{proofs.lemmas.List.take_more, specs.{List.list_all, Prelude.IfSome, declared.cmp.Ordering.Ordering}}
 use Rattle.npm_semver.specs.Subcommands as Spec
-use Rattle.npm_semver.specs.Internal.Appends.{Extends}
-use Rattle.npm_semver.specs.Internal.Said.{is_operation}
-use Rattle.npm_semver.specs.declared.subcommands.replies.Status.TheVariants.{Yes}
 
 abbrev NoVersion : List ℕ → Type 0
 NoVersion text = NoValue (IsVersionText MAX_SAFE_INTEGER text)

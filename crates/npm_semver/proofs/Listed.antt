@@ -1,18 +1,11 @@
 -- Texts that are read one after another.
-use Rattle.std.proofs.Common.{◌≡◌, ◌∷◌, ◌++◌, [], ℕ, Bool, true, false, List, Option, Some, None, IfSome, IfNone}
-use Rattle.std.specs.List.{list_all}
-use Rattle.semver_core.specs.Cuts.{Span}
-use Rattle.semver_core.specs.Failures.{NoValue}
-use Rattle.semver_core.specs.Text.Characters.{IsTrim}
-use Rattle.semver_core.specs.Values.Versions.{VersionValue}
-use Rattle.semver_core.specs.declared.TheConstants.{MAX_SAFE_INTEGER}
-use Rattle.nodejs_semver.specs.Npm.Ranges.{IsRangeIn}
-use Rattle.npm_semver.specs.Listing.{AllSay, AreListed, Entry, Says, accepted, no_range, no_version, range, rejected}
+use Rattle.{npm_reading.specs.Ranges.IsRangeIn, npm_semver.specs.{Internal.Readings.{AreRead, IsRead, says}, Listing.{AllSay, AreListed, Entry}}}
+use Rattle.npm_semver.specs.{Listing.{Says, accepted, no_range, no_version, range, rejected}, Readings.{HasRange, IsVersionIn}}
+use Rattle.{npm_semver.specs.declared.reading.ReadOptions.ReadOptions, semver_core.specs.{Cuts.Span, Failures.NoValue, Text.Characters.IsTrim}}
+use Rattle.{semver_core.specs.{Values.Versions.VersionValue, declared.TheConstants.MAX_SAFE_INTEGER}, std.proofs.Common.{Bool, IfNone, IfSome, List}}
+use Rattle.std.{proofs.Common.{None, Option, Some, [], false, true, ℕ, ◌++◌, ◌∷◌, ◌≡◌}, specs.List.list_all}
 use Rattle.npm_semver.specs.Listing as Listing
-use Rattle.npm_semver.specs.Internal.Readings.{AreRead, IsRead, says}
 use Rattle.npm_semver.specs.Internal.Readings as Readings
-use Rattle.npm_semver.specs.Readings.{HasRange, IsVersionIn}
-use Rattle.npm_semver.specs.declared.reading.ReadOptions.{ReadOptions}
 
 one_says : (r : ReadOptions) (v : VersionValue) (text : List ℕ) (read : Option (List (Span VersionValue))) → IsRead r text read
     → Says r v text (says r.include_prerelease v read)

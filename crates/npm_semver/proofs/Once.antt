@@ -1,23 +1,13 @@
 -- What is written for a question is determined by it.
-use Rattle.std.proofs.Common.{◌≡◌, ◌∙◌, ◌∷◌, [], ℕ, Bool, true, false, List, Some, IsUtf8, ap, arith, refl, sym}
-use Rattle.std.proofs.lemmas.Option.{same_Some}
-use Rattle.std.proofs.lemmas.List.Sorted.{IsPermutation-sym, IsPermutation-trans}
-use Rattle.std.specs.List.Sorted.{IsPermutation}
-use Rattle.semver_core.specs.Text.Characters.{IsTrim}
-use Rattle.semver_core.specs.Values.Versions.{VersionValue}
-use Rattle.nodejs_semver.specs.Npm.Coerced.{IsChosenFrom, IsCoerced, IsNumberIn}
-use Rattle.nodejs_semver.specs.Npm.Ranges.{HasAlternativesIn, accepts}
-use Rattle.nodejs_semver.specs.Npm.Table.{Comparison}
-use Rattle.nodejs_semver.specs.Npm.VersionText.{IsVersionText}
-use Rattle.npm_semver.specs.Arguments.{Asked}
-use Rattle.npm_semver.specs.Laws.{EachText}
+use Rattle.npm_semver.{proofs.Ties.{same_emptiness, same_text}, specs.{Arguments.Asked, Laws.EachText, Listing.{AllSay, AreListed, Entry, IsListing}}}
+use Rattle.npm_semver.specs.{Listing.Says, Readings.{IsVersionIn, found, not_found, strict}, Responses.{Responds, Written, increment, refused}}
+use Rattle.{npm_semver.specs.{Responses.versions, declared.reading.ReadOptions.ReadOptions}, npm_words.specs.Alternatives.HasAlternativesIn}
+use Rattle.npm_words.specs.{Alternatives.accepts, Coerced.{IsChosenFrom, IsCoerced, IsNumberIn}, Table.Comparison, VersionText.IsVersionText}
+use Rattle.{semver_core.specs.{Text.Characters.IsTrim, Values.Versions.VersionValue}, std.proofs.Common.{Bool, IsUtf8, List, Some, [], ap, arith}}
+use Rattle.std.proofs.{Common.{false, refl, sym, true, ℕ, ◌∙◌, ◌∷◌, ◌≡◌}, lemmas.List.Sorted.{IsPermutation-sym, IsPermutation-trans}}
+use Rattle.std.{proofs.lemmas.Option.same_Some, specs.List.Sorted.IsPermutation}
 use Rattle.npm_semver.specs.Laws as Each
-use Rattle.npm_semver.specs.Listing.{AllSay, AreListed, Entry, IsListing, Says}
 use Rattle.npm_semver.specs.Listing as Listing
-use Rattle.npm_semver.specs.Readings.{IsVersionIn, found, not_found, strict}
-use Rattle.npm_semver.specs.Responses.{Responds, Written, increment, refused, versions}
-use Rattle.npm_semver.specs.declared.reading.ReadOptions.{ReadOptions}
-use Rattle.npm_semver.proofs.Ties.{same_text, same_emptiness}
 
 abbrev pub OneVersion : Type 0
 OneVersion = (limit : ℕ) (text : List ℕ) (v w : VersionValue) → IsVersionText limit text v → IsVersionText limit text w → v ≡ w

@@ -1,12 +1,8 @@
 -- The versions that texts are, by how they are read.
-use Rattle.std.proofs.Common.{◌≡◌, ℕ, true, false, List, Option, Result, Ok, Err, IfOk, IfErr, IfSome, IfNone, arith}
-use Rattle.std.specs.Result.{result_ok}
-use Rattle.semver_core.specs.Failures.{NoValue}
-use Rattle.semver_core.specs.Values.Versions.{VersionValue}
-use Rattle.semver_core.specs.declared.TheConstants.{MAX_SAFE_INTEGER}
-use Rattle.nodejs_semver.specs.Npm.VersionText.{IsVersionText}
-use Rattle.npm_semver.specs.Readings.{IsFoundIn, IsVersionIn, found, not_found, strict}
-use Rattle.npm_semver.specs.declared.reading.ReadOptions.{ReadOptions}
+use Rattle.npm_semver.specs.{Readings.{IsFoundIn, IsVersionIn, found, not_found, strict}, declared.reading.ReadOptions.ReadOptions}
+use Rattle.{npm_words.specs.VersionText.IsVersionText, semver_core.specs.{Failures.NoValue, Values.Versions.VersionValue}}
+use Rattle.{semver_core.specs.declared.TheConstants.MAX_SAFE_INTEGER, std.proofs.Common.{Err, IfErr, IfNone, IfOk, IfSome, List, Ok, Option, Result}}
+use Rattle.std.{proofs.Common.{arith, false, true, ℕ, ◌≡◌}, specs.Result.result_ok}
 
 module _ (r : ReadOptions) (text : List ℕ) where
   no_strict : r.is_coerced ≡ false → NoValue (IsVersionText MAX_SAFE_INTEGER text) → NoValue (IsVersionIn r text)

@@ -1,14 +1,9 @@
 -- Texts that are told of, one after another.
-use Rattle.std.proofs.Common.{◌≡◌, ◌∷◌, ◌++◌, [], ℕ, Bool, true, false, List}
-use Rattle.semver_core.specs.Failures.{NoValue}
-use Rattle.semver_core.specs.Values.Versions.{VersionValue}
-use Rattle.nodejs_semver.specs.Npm.Table.{Comparison}
-use Rattle.npm_semver.specs.Listing.{AllSay}
-use Rattle.npm_semver.specs.Readings.{HasRange, IsVersionIn}
-use Rattle.npm_semver.specs.Reasons.{AreLeftOut, AreNoRanges, Told}
+use Rattle.npm_semver.specs.{Listing.AllSay, Readings.{HasRange, IsVersionIn}, Reasons.{AreLeftOut, AreNoRanges, Told}}
+use Rattle.npm_semver.specs.declared.{reading.ReadOptions.ReadOptions, why.Kind.TheVariants.{NoRange, NoVersion, NotAccepted}}
+use Rattle.{npm_words.specs.Table.Comparison, semver_core.specs.{Failures.NoValue, Values.Versions.VersionValue}, std.proofs.Common.{Bool, List, []}}
+use Rattle.std.proofs.Common.{false, true, ℕ, ◌++◌, ◌∷◌, ◌≡◌}
 use Rattle.npm_semver.specs.Reasons as Reasons
-use Rattle.npm_semver.specs.declared.reading.ReadOptions.{ReadOptions}
-use Rattle.npm_semver.specs.declared.why.Kind.TheVariants.{NoRange, NoVersion, NotAccepted}
 
 module _ (r : ReadOptions) where
   pub range_more : (texts : List (List ℕ)) (told : List Told) (text : List ℕ) (alternatives : List (List Comparison)) → AreNoRanges r texts told

@@ -8,8 +8,8 @@ use Rattle.semver_core.specs.Failures.{NoValue}
 use Rattle.semver_core.specs.Text.Characters.{IsTrim}
 use Rattle.semver_core.specs.Values.Order.{precedence}
 use Rattle.semver_core.specs.Values.Versions.{VersionValue}
-use Rattle.nodejs_semver.specs.Npm.Ranges.{accepts}
-use Rattle.nodejs_semver.specs.Npm.Table.{Comparison}
+use Rattle.npm_words.specs.Alternatives.{accepts}
+use Rattle.npm_words.specs.Table.{Comparison}
 use Rattle.npm_semver.specs.Readings.{HasRange, IsVersionIn}
 use Rattle.npm_semver.specs.declared.reading.ReadOptions.{ReadOptions}
 

@@ -3,10 +3,10 @@ use Rattle.std.specs.Prelude.{◌≡◌, ◌∷◌, true, false, List, ℕ}
 use Rattle.semver_core.specs.Failures.{NoValue}
 use Rattle.semver_core.specs.Values.Versions.{VersionValue}
 use Rattle.semver_core.specs.declared.TheConstants.{MAX_SAFE_INTEGER}
-use Rattle.nodejs_semver.specs.Npm.Coerced.{IsChosenFrom, IsCoerced, IsNumberIn}
-use Rattle.nodejs_semver.specs.Npm.Ranges.{HasAlternativesIn}
-use Rattle.nodejs_semver.specs.Npm.Table.{Comparison}
-use Rattle.nodejs_semver.specs.Npm.VersionText.{IsVersionText}
+use Rattle.npm_words.specs.Coerced.{IsChosenFrom, IsCoerced, IsNumberIn}
+use Rattle.npm_words.specs.Alternatives.{HasAlternativesIn}
+use Rattle.npm_words.specs.Table.{Comparison}
+use Rattle.npm_words.specs.VersionText.{IsVersionText}
 use Rattle.npm_semver.specs.declared.reading.ReadOptions.{ReadOptions}
 
 -- without an option: strictly, and without pre-releases

@@ -2,7 +2,7 @@
 use Rattle.std.specs.Prelude.{◌∷◌, [], ℕ, true, false, List}
 use Rattle.semver_core.specs.Failures.{NoValue}
 use Rattle.semver_core.specs.Values.Versions.{VersionValue}
-use Rattle.nodejs_semver.specs.Npm.Table.{Comparison}
+use Rattle.npm_words.specs.Table.{Comparison}
 use Rattle.npm_semver.specs.Listing.{AllSay}
 use Rattle.npm_semver.specs.Readings.{HasRange, IsVersionIn}
 use Rattle.npm_semver.specs.declared.reading.ReadOptions.{ReadOptions}

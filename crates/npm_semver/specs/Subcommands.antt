@@ -13,8 +13,8 @@ use Rattle.semver_core.specs.Printing.Text.{version_text}
 use Rattle.semver_core.specs.Values.Order.{precedence}
 use Rattle.semver_core.specs.Values.Versions.{VersionValue}
 use Rattle.semver_core.specs.declared.TheConstants.{MAX_SAFE_INTEGER}
-use Rattle.nodejs_semver.specs.Npm.Ranges.{IsRangeIn}
-use Rattle.nodejs_semver.specs.Npm.VersionText.{IsVersionText}
+use Rattle.npm_reading.specs.Ranges.{IsRangeIn}
+use Rattle.npm_words.specs.VersionText.{IsVersionText}
 use Rattle.nodejs_semver.specs.Printing.Text.{range_text}
 use Rattle.nodejs_semver.specs.Ranges.Algebra.{difference, intersection}
 use Rattle.nodejs_semver.specs.Ranges.Gate.{accepts}

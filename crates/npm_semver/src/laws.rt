@@ -13,7 +13,7 @@ ghost use Rattle.npm_semver.specs.Listing.{AreListed, Entry};
 ghost use Rattle.npm_semver.specs.Readings.{SomeText};
 ghost use Rattle.npm_semver.specs.Responses.{IsRefused, Responds, Written, next_text};
 
-use nodejs_semver::laws::npm_reads_once;
+use npm_words::laws::npm_reads_once;
 use semver_core::laws::{least_increments, whitespace_ends};
 
 /// Asked for versions, the command succeeds exactly if some text is a version that all ranges

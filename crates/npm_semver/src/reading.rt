@@ -3,11 +3,11 @@
 ghost use Rattle.std.specs.Prelude.{◌≡◌, IfNone, IfOk, IfSome};
 ghost use Rattle.semver_core.specs.Failures.{NoValue};
 ghost use Rattle.semver_core.specs.declared.TheConstants.{MAX_SAFE_INTEGER};
-ghost use Rattle.nodejs_semver.specs.Npm.Ranges.{IsRangeIn};
+ghost use Rattle.npm_reading.specs.Ranges.{IsRangeIn};
 ghost use Rattle.npm_semver.specs.Readings.{HasRange, IsFoundIn, IsVersionIn, strictly};
 
-use nodejs_semver::npm::{self, Coercion, Reading};
 use nodejs_semver::{Failure, RangeRef, VersionRef};
+use npm_reading::{Coercion, Reading};
 use std::alloc::{AllocError, Global};
 
 /// How the command reads texts.
@@ -47,11 +47,11 @@ impl ReadOptions {
             include_prerelease: false,
         };
         if !self.is_coerced {
-            return npm::version(text, strict).ok();
+            return npm_reading::version(text, strict).ok();
         }
         match self.found(text) {
             Some(version) => Some(version),
-            None => npm::version(text, strict).ok(),
+            None => npm_reading::version(text, strict).ok(),
         }
     }
 
@@ -65,7 +65,7 @@ impl ReadOptions {
             rtl: self.from_right,
             include_prerelease: self.include_prerelease,
         };
-        npm::coerce_with(text, options)
+        npm_reading::coerce_with(text, options)
     }
 
     /// The range that a text is. Fails only if allocation fails.
@@ -78,6 +78,6 @@ impl ReadOptions {
             loose: self.is_loose,
             include_prerelease: self.include_prerelease,
         };
-        Failure::refused_as_none(npm::range(alloc, text, reading))
+        Failure::refused_as_none(npm_reading::range(alloc, text, reading))
     }
 }

@@ -8,3 +8,6 @@ pub mod Rows
 pub mod Taking
 pub mod Text
 pub mod Values
+pub mod FlatMaps
+pub mod Gate
+pub mod Normal

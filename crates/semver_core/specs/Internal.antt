@@ -14,3 +14,4 @@ pub mod Fronts
 pub mod Parts
 pub mod Boundaries
 pub mod Views
+pub mod Gate

@@ -1,8 +1,8 @@
 //! What the loose reading of node-semver's range texts answers, and the strict one of its version
 //! texts with builds as they are written, for `bench/npm_readings`.
 
-use nodejs_semver::npm::{self, ReadRange, Reading};
 use nodejs_semver::{Failure, VersionRef};
+use npm_reading::{ReadRange, Reading};
 use std::alloc::{AllocError, Global};
 use std::io;
 
@@ -21,7 +21,7 @@ pub fn answer_all(rt: &impl Print, alloc: Global, questions: &str) -> io::Result
     {
         let versions: Vec<VersionRef<'_>> = texts
             .split(',')
-            .filter_map(|text| npm::version(text, loosely).ok())
+            .filter_map(|text| npm_reading::version(text, loosely).ok())
             .collect(alloc)?;
         let without = answer(alloc, range, false, &versions)?;
         let with = answer(alloc, range, true, &versions)?;
@@ -69,7 +69,10 @@ pub fn show_versions(rt: &impl Print, alloc: Global, texts: &str) -> io::Result<
 
 fn shown(alloc: Global, text: &str) -> Result<String, AllocError> {
     let reading = Reading::default();
-    match (npm::version(text, reading), npm::build_text(text, reading)) {
+    match (
+        npm_reading::version(text, reading),
+        npm_reading::build_text(text, reading),
+    ) {
         (Ok(version), Some(build)) => with_build(alloc, &version, build),
         _ => String::from_str(alloc, "-"),
     }

@@ -1,15 +1,16 @@
 //! A resolver: a release of each package that is needed, so that every requirement is met.
 
 ghost use Rattle.nodejs_semver.specs.Failures.{NoValue, RefusedOnlyIf};
-ghost use Rattle.nodejs_semver.specs.Npm.Ranges.{HasAlternativesIn, IsRangeIn};
+ghost use Rattle.npm_words.specs.Alternatives.{HasAlternativesIn};
+ghost use Rattle.npm_reading.specs.Ranges.{IsRangeIn};
 ghost use Rattle.uses.specs.Internal.Search.{HasNoPlan, IsUnmet, NeedsAll};
 ghost use Rattle.std.specs.Prelude.{◌≡◌, All, Contains, IfErr, IfNone, IfOk, IfSome, false};
 ghost use Rattle.std.specs.Prelude.{slice_index_or};
 ghost use Rattle.uses.specs.Resolver.{ArePicked, IsConflict, IsFailure, IsMet, IsPicked};
 ghost use Rattle.uses.specs.Resolver.{MeetsAll, release_at};
 
-use nodejs_semver::npm::{self, Reading};
 use nodejs_semver::{Failure, MAX_SAFE_INTEGER, Range, SemverError, Version};
+use npm_reading::Reading;
 use std::alloc::Global;
 use thiserror::Error;
 
@@ -45,7 +46,7 @@ impl Requirement {
             loose: false,
             include_prerelease: false,
         };
-        let range = npm::range(alloc, text, strict)?.to_range(alloc)?;
+        let range = npm_reading::range(alloc, text, strict)?.to_range(alloc)?;
         Ok(Requirement {
             package: number,
             range,

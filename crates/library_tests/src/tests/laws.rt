@@ -13,13 +13,13 @@ fn laws_of_range_texts(rt: HostRuntime) {
     laws::build_of_the_least();
     laws::one_flaw();
     laws::ignored_words_mean_nothing();
-    laws::npm_reads_alike();
+    npm_reading::laws::npm_reads_alike();
     assert!(rt; true);
 }
 
 // Whether the range of the text accepts the version, to both readings.
 fn accept_both(alloc: Global, text: &str, version: &Version) -> bool {
-    match laws::satisfied_alike(alloc, text, version) {
+    match npm_reading::laws::satisfied_alike(alloc, text, version) {
         Ok(both) => both == (true, true),
         Err(_) => false,
     }

@@ -1,10 +1,11 @@
 // The sides of a range by name.
 
-use nodejs_semver::{Range, Version, npm};
+use nodejs_semver::{Range, Version};
 use std::alloc::Global;
 
 fn lies(range: &Range, version: &Version, above: bool, below: bool) -> bool {
-    npm::gtr(version, range, false) == above && npm::ltr(version, range, false) == below
+    npm_reading::gtr(version, range, false) == above
+        && npm_reading::ltr(version, range, false) == below
 }
 
 fn version_lies(alloc: Global, range: &Range, version: &str, above: bool, below: bool) -> bool {

@@ -1,19 +1,19 @@
 // What is wrong with version texts as node-semver's strict reading has them, and how it prints.
 
 ghost use Rattle.std.specs.Prelude.{◌↔◌, IsTrue};
-ghost use Rattle.nodejs_semver.specs.Npm.VersionText.{IsVersionText};
+ghost use Rattle.npm_words.specs.VersionText.{IsVersionText};
 ghost use Rattle.nodejs_semver.specs.Versions.{VersionValue};
 
 use super::{long_text, prints};
-use nodejs_semver::npm::{Flaw, RangeFlaw, Reading, Wrong};
-use nodejs_semver::{MAX_SAFE_INTEGER, npm};
+use nodejs_semver::MAX_SAFE_INTEGER;
+use npm_reading::{Flaw, RangeFlaw, Reading, Wrong};
 use std::alloc::Global;
 
 // Whether the text is a version.
 fn is_version(text: &str) -> bool
     ensures { IsTrue result ↔ ((v : VersionValue) × IsVersionText MAX_SAFE_INTEGER text.now v) }
 {
-    npm::version_flaw(text).is_none()
+    npm_reading::version_flaw(text).is_none()
 }
 
 // Texts that are versions.
@@ -65,7 +65,7 @@ const FLAWED: &[(&str, Wrong, usize)] = &[
 fn versions_have_no_flaw(rt: HostRuntime) {
     for text in VERSIONS {
         assert!(rt; is_version(text));
-        assert!(rt; npm::version(text, Reading::default()).is_ok());
+        assert!(rt; npm_reading::version(text, Reading::default()).is_ok());
     }
 }
 
@@ -76,15 +76,15 @@ fn a_flaw_has_its_kind_and_place(rt: HostRuntime) {
             wrong: *wrong,
             at: *at,
         };
-        assert!(rt; npm::version_flaw(text) == Some(flaw));
-        assert!(rt; npm::version(text, Reading::default()).is_err());
+        assert!(rt; npm_reading::version_flaw(text) == Some(flaw));
+        assert!(rt; npm_reading::version(text, Reading::default()).is_err());
     }
 }
 
 // Whether the text of six characters and so many `X` has this flaw, or none.
 fn long_has_flaw(alloc: Global, count: usize, flaw: Option<Flaw>) -> bool {
     match long_text(alloc, "1.1.1-", "X", count) {
-        Ok(text) => npm::version_flaw(&text) == flaw,
+        Ok(text) => npm_reading::version_flaw(&text) == flaw,
         Err(_) => false,
     }
 }
@@ -92,7 +92,7 @@ fn long_has_flaw(alloc: Global, count: usize, flaw: Option<Flaw>) -> bool {
 // The same of a version and so many times U+3000, which is three bytes.
 fn wide_has_flaw(alloc: Global, count: usize, flaw: Option<Flaw>) -> bool {
     match long_text(alloc, "1.2.3", "\u{3000}", count) {
-        Ok(text) => npm::version_flaw(&text) == flaw,
+        Ok(text) => npm_reading::version_flaw(&text) == flaw,
         Err(_) => false,
     }
 }
@@ -163,7 +163,7 @@ const FLAWED_RANGES: &[(&str, usize, usize, usize, usize)] = &[
 #[test]
 fn a_range_flaw_has_its_place(rt: HostRuntime) {
     for text in RANGES {
-        assert!(rt; npm::range_flaw(text, false).is_none());
+        assert!(rt; npm_reading::range_flaw(text, false).is_none());
     }
     for &(text, start, end, word_start, word_end) in FLAWED_RANGES {
         let flaw = RangeFlaw {
@@ -172,6 +172,6 @@ fn a_range_flaw_has_its_place(rt: HostRuntime) {
             word_start,
             word_end,
         };
-        assert!(rt; npm::range_flaw(text, false) == Some(flaw));
+        assert!(rt; npm_reading::range_flaw(text, false) == Some(flaw));
     }
 }

@@ -3,13 +3,13 @@
 
 ghost use Rattle.std.specs.Prelude.{◌≡◌, ◌⊎◌, IfOk, List, true};
 ghost use Rattle.nodejs_semver.specs.Failures.{NoValue, RefusedOnlyIf};
-ghost use Rattle.nodejs_semver.specs.Npm.Ranges.{HasAlternativesIn, accepts};
-ghost use Rattle.nodejs_semver.specs.Npm.Table.{Comparison};
+ghost use Rattle.npm_words.specs.Alternatives.{HasAlternativesIn, accepts};
+ghost use Rattle.npm_words.specs.Table.{Comparison};
 ghost use Rattle.nodejs_semver.specs.Parsing.{Parses};
 ghost use Rattle.nodejs_semver.specs.Versions.{VersionValue};
 
-use nodejs_semver::npm::Reading;
-use nodejs_semver::{Failure, MAX_SAFE_INTEGER, SemverError, VersionRef, npm};
+use nodejs_semver::{Failure, MAX_SAFE_INTEGER, SemverError, VersionRef};
+use npm_reading::Reading;
 use std::alloc::Global;
 
 // Without pre-releases included.
@@ -36,7 +36,7 @@ fn admits(
         loose: true,
         include_prerelease: include,
     };
-    let range = npm::range(alloc, range, reading)?;
+    let range = npm_reading::range(alloc, range, reading)?;
     let version = VersionRef::parse(version)?;
     Ok(range.satisfies_with_prerelease(&version, include))
 }
@@ -186,7 +186,7 @@ const REJECTED: &[&str] = &[
     "foo= 1",
 ];
 
-// Texts that node-semver reads loosely, and `npm::range` does not.
+// Texts that node-semver reads loosely, and `npm_reading::range` does not.
 const LEFT_OUT: &[&str] = &[">1000000000000000000000 1"];
 
 fn tells(alloc: Global, include: bool, text: &str, version: &str, wanted: bool) -> bool {
@@ -199,7 +199,7 @@ fn tells(alloc: Global, include: bool, text: &str, version: &str, wanted: bool) 
 #[test]
 fn ranges_are_read_loosely(rt: HostRuntime) {
     for (text, accepted, rejected) in READ {
-        assert!(rt; npm::range(rt.alloc(), text, Reading::default()).is_err());
+        assert!(rt; npm_reading::range(rt.alloc(), text, Reading::default()).is_err());
         assert!(rt; tells(rt.alloc(), false, text, accepted, true));
         assert!(rt; tells(rt.alloc(), false, text, rejected, false));
     }
@@ -208,9 +208,9 @@ fn ranges_are_read_loosely(rt: HostRuntime) {
         assert!(rt; tells(rt.alloc(), true, text, rejected, false));
     }
     for text in REJECTED {
-        assert!(rt; npm::range(rt.alloc(), text, LOOSELY).is_err());
+        assert!(rt; npm_reading::range(rt.alloc(), text, LOOSELY).is_err());
     }
     for text in LEFT_OUT {
-        assert!(rt; npm::range(rt.alloc(), text, LOOSELY).is_err());
+        assert!(rt; npm_reading::range(rt.alloc(), text, LOOSELY).is_err());
     }
 }

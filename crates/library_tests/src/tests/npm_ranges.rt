@@ -3,14 +3,14 @@
 
 ghost use Rattle.std.specs.Prelude.{◌≡◌, ◌⊎◌, IfOk, List, false};
 ghost use Rattle.nodejs_semver.specs.Failures.{NoValue, RefusedOnlyIf};
-ghost use Rattle.nodejs_semver.specs.Npm.Ranges.{HasAlternativesIn, accepts};
-ghost use Rattle.nodejs_semver.specs.Npm.Table.{Comparison};
+ghost use Rattle.npm_words.specs.Alternatives.{HasAlternativesIn, accepts};
+ghost use Rattle.npm_words.specs.Table.{Comparison};
 ghost use Rattle.nodejs_semver.specs.Parsing.{Parses};
 ghost use Rattle.nodejs_semver.specs.Versions.{VersionValue};
 
 use super::prints;
-use nodejs_semver::npm::Reading;
-use nodejs_semver::{Failure, MAX_SAFE_INTEGER, SemverError, VersionRef, npm};
+use nodejs_semver::{Failure, MAX_SAFE_INTEGER, SemverError, VersionRef};
+use npm_reading::Reading;
 use std::alloc::Global;
 
 // Whether a range text is read, and not rejected.
@@ -19,7 +19,8 @@ fn is_range(alloc: Global, text: &str) -> bool {
         include_prerelease: true,
         ..Reading::default()
     };
-    npm::range(alloc, text, Reading::default()).is_ok() && npm::range(alloc, text, included).is_ok()
+    npm_reading::range(alloc, text, Reading::default()).is_ok()
+        && npm_reading::range(alloc, text, included).is_ok()
 }
 
 // Whether the range of a text accepts the version of another.
@@ -40,7 +41,7 @@ fn admits(
         loose: false,
         include_prerelease: include,
     };
-    let range = npm::range(alloc, range, strict)?;
+    let range = npm_reading::range(alloc, range, strict)?;
     let version = VersionRef::parse(version)?;
     Ok(range.satisfies_with_prerelease(&version, include))
 }
@@ -106,7 +107,7 @@ fn tells(alloc: Global, include: bool, text: &str, version: &str, wanted: bool) 
 }
 
 fn prints_as(alloc: Global, text: &str, printed: &str) -> bool {
-    match npm::range(alloc, text, Reading::default()) {
+    match npm_reading::range(alloc, text, Reading::default()) {
         Ok(range) => prints(alloc, &range, printed),
         Err(_) => false,
     }

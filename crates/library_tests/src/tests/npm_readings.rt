@@ -1,14 +1,14 @@
 // Ranges that are asked as they were read. The expected answers are those of node-semver.
 
-use nodejs_semver::npm::{ReadRange, Reading};
-use nodejs_semver::{VersionRef, npm};
+use nodejs_semver::VersionRef;
+use npm_reading::{ReadRange, Reading};
 use std::alloc::Global;
 use std::test::Fail;
 
 // Whether the range of a text, so read, accepts the version of another.
 fn admits(alloc: Global, reading: Reading, range: &str, version: &str) -> Option<bool> {
     let range = ReadRange::parse(alloc, range, reading).ok()?;
-    let version = npm::version(version, Reading::default()).ok()?;
+    let version = npm_reading::version(version, Reading::default()).ok()?;
     Some(range.satisfies(&version))
 }
 

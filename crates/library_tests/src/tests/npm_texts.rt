@@ -3,12 +3,12 @@
 
 ghost use Rattle.std.specs.Prelude.{◌≡◌, IfErr, IfOk};
 ghost use Rattle.nodejs_semver.specs.Failures.{NoValue};
-ghost use Rattle.nodejs_semver.specs.Npm.VersionText.{IsLooseVersionText};
+ghost use Rattle.npm_words.specs.VersionText.{IsLooseVersionText};
 ghost use Rattle.nodejs_semver.specs.Versions.{VersionValue};
 
 use super::{found_prints, prints};
-use nodejs_semver::npm::{Coercion, Reading};
-use nodejs_semver::{MAX_SAFE_INTEGER, SemverError, VersionRef, npm};
+use nodejs_semver::{MAX_SAFE_INTEGER, SemverError, VersionRef};
+use npm_reading::{Coercion, Reading};
 use std::alloc::{AllocError, Global};
 
 const LOOSELY: Reading = Reading {
@@ -26,7 +26,7 @@ fn major_of(text: &str) -> Result<u64, SemverError>
         loose: true,
         include_prerelease: false,
     };
-    match npm::version(text, loose) {
+    match npm_reading::version(text, loose) {
         Ok(version) => Ok(version.major()),
         Err(error) => Err(error),
     }
@@ -68,7 +68,7 @@ const REJECTED: &[&str] = &[
 ];
 
 fn reads_as(alloc: Global, text: &str, printed: &str) -> bool {
-    match npm::version(text, LOOSELY) {
+    match npm_reading::version(text, LOOSELY) {
         Ok(version) => prints(alloc, &version, printed),
         Err(_) => false,
     }
@@ -80,14 +80,14 @@ fn versions_are_read_loosely(rt: HostRuntime) {
         assert!(rt; reads_as(rt.alloc(), text, printed));
     }
     for text in REJECTED {
-        assert!(rt; npm::version(text, LOOSELY).is_err());
+        assert!(rt; npm_reading::version(text, LOOSELY).is_err());
     }
     assert!(rt; major_of("= 020.1.0") == Ok(20));
 }
 
 // Whether `coerce` finds a version in a text.
 fn is_found(text: &str) -> bool {
-    npm::coerce(text).is_some()
+    npm_reading::coerce(text).is_some()
 }
 
 // Texts, and what node-semver prints of the version that it finds from the left and from the right;
@@ -159,8 +159,8 @@ fn finds(alloc: Global, found: Option<VersionRef<'_>>, printed: &str) -> bool {
 // Whether these are the versions that are found in a text by these options, from the left and from
 // the right.
 fn finds_both(alloc: Global, text: &str, options: Coercion, first: &str, last: &str) -> bool {
-    let found = npm::coerce_with(text, options);
-    let found_last = npm::coerce_with(
+    let found = npm_reading::coerce_with(text, options);
+    let found_last = npm_reading::coerce_with(
         text,
         Coercion {
             rtl: true,
@@ -188,9 +188,9 @@ fn pre_releases_are_found_in_texts(rt: HostRuntime) -> Result<(), AllocError> {
         assert!(rt; finds_both(alloc, text, loose, first, last));
     }
     let longest = format!(in alloc; "1-{}", "a".repeat(alloc, 250)?)?;
-    assert!(rt; npm::coerce_with(longest.as_str(), strict).is_some());
+    assert!(rt; npm_reading::coerce_with(longest.as_str(), strict).is_some());
     let too_long = format!(in alloc; "{longest}a")?;
-    assert!(rt; npm::coerce_with(too_long.as_str(), strict).is_none());
+    assert!(rt; npm_reading::coerce_with(too_long.as_str(), strict).is_none());
     Ok(())
 }
 
@@ -201,7 +201,7 @@ fn versions_are_found_in_texts(rt: HostRuntime) {
         ..Coercion::default()
     };
     for (text, first, last) in FOUND {
-        assert!(rt; finds(rt.alloc(), npm::coerce(text), first));
+        assert!(rt; finds(rt.alloc(), npm_reading::coerce(text), first));
         assert!(rt; finds_both(rt.alloc(), text, Coercion::default(), first, last));
     }
     for (text, first, last) in FOUND_LOOSELY {

@@ -2,12 +2,12 @@
 
 ghost use Rattle.std.specs.Prelude.{◌≡◌, IfErr, IfOk};
 ghost use Rattle.nodejs_semver.specs.Failures.{NoValue};
-ghost use Rattle.nodejs_semver.specs.Npm.VersionText.{IsVersionText};
+ghost use Rattle.npm_words.specs.VersionText.{IsVersionText};
 ghost use Rattle.nodejs_semver.specs.Versions.{VersionValue};
 
 use super::{long_text, prints};
-use nodejs_semver::npm::Reading;
-use nodejs_semver::{MAX_SAFE_INTEGER, SemverError, npm};
+use nodejs_semver::{MAX_SAFE_INTEGER, SemverError};
+use npm_reading::Reading;
 use std::alloc::Global;
 
 // The first number of the version that a text is.
@@ -20,7 +20,7 @@ fn major_of(text: &str) -> Result<u64, SemverError>
         loose: false,
         include_prerelease: false,
     };
-    match npm::version(text, strict) {
+    match npm_reading::version(text, strict) {
         Ok(version) => Ok(version.major()),
         Err(error) => Err(error),
     }
@@ -28,7 +28,7 @@ fn major_of(text: &str) -> Result<u64, SemverError>
 
 // Whether the text is a version.
 fn is_version(text: &str) -> bool {
-    npm::version(text, Reading::default()).is_ok()
+    npm_reading::version(text, Reading::default()).is_ok()
 }
 
 // Texts, and what node-semver prints of their versions, with their builds.
@@ -66,7 +66,7 @@ const REJECTED: &[&str] = &[
 ];
 
 fn reads_as(alloc: Global, text: &str, printed: &str) -> bool {
-    match npm::version(text, Reading::default()) {
+    match npm_reading::version(text, Reading::default()) {
         Ok(version) => prints(alloc, &version, printed),
         Err(_) => false,
     }
@@ -115,7 +115,7 @@ const CLEANED: &[(&str, &str)] = &[
 ];
 
 fn cleans_to(alloc: Global, text: &str, printed: &str) -> bool {
-    match npm::clean(text) {
+    match npm_reading::clean(text) {
         Ok(version) => prints(alloc, &version, printed),
         Err(_) => printed == "-",
     }
@@ -174,9 +174,9 @@ fn builds_are_as_written(rt: HostRuntime) {
     };
     for &(text, strict, loose) in BUILDS {
         assert!(rt;
-            npm::build_text(text, Reading::default()) == strict,
+            npm_reading::build_text(text, Reading::default()) == strict,
             "{text}"
         );
-        assert!(rt; npm::build_text(text, loosely) == loose, "{text}");
+        assert!(rt; npm_reading::build_text(text, loosely) == loose, "{text}");
     }
 }

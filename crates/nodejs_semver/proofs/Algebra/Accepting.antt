@@ -1,13 +1,12 @@
 -- What two lists of spans hold and accept: their intersection, and what one leaves of the other.
-use Rattle.nodejs_semver.proofs.Common.{Bool, Bound, IsTotalOrder, List, Option, Ordering, Span, VersionValue, [], accepts, and-true}
-use Rattle.nodejs_semver.proofs.Common.{and_cases, and_parts, any_either, any_flat, any_pairs, any_same, any_weaker, arith, between_parts}
-use Rattle.nodejs_semver.proofs.Common.{cut_cmp, false, flat_map, holds, if_any, if◌then◌else◌, interval, is_gt, is_interval, is_past}
-use Rattle.nodejs_semver.proofs.Common.{is_release, is_some, left_above, left_below, lets_in, list_any, list_any-append, list_holds}
-use Rattle.nodejs_semver.proofs.Common.{lower_cut, lt, meet, meets_of, minus, names, not, not-false, not-true, option_accepts, option_holds}
-use Rattle.nodejs_semver.proofs.Common.{option_holds-interval, option_holds-meet, option_list_holds, option_to_list, or_left, or_parts}
-use Rattle.nodejs_semver.proofs.Common.{or_right, past_below, precedence, precedence_total, refl, remainder, remainders-hold, remainders_by}
-use Rattle.nodejs_semver.proofs.Common.{sym, true, turned_lower, turned_upper, upper_cut, ◌&&◌, ◌++◌, ◌||◌, ◌∙◌, ◌∷◌, ◌≡◌}
-use Rattle.nodejs_semver.proofs.{Algebra.Gate.{both, lets_in-meet, names_above, names_below}, Common.{get_or, length, take, ℕ, ◌+◌, ◌<◌}}
+use Rattle.nodejs_semver.proofs.Common.{Bool, IsTotalOrder, List, Option, Ordering, Span, VersionValue, [], accepts, and-true, and_cases, and_parts}
+use Rattle.nodejs_semver.proofs.Common.{any_either, any_flat, any_pairs, any_same, any_weaker, arith, between_parts, false, flat_map, get_or, holds}
+use Rattle.nodejs_semver.proofs.Common.{if_any, interval, is_interval, is_past, is_release, is_some, left_above, left_below, length, lets_in}
+use Rattle.nodejs_semver.proofs.Common.{list_any, list_any-append, list_holds, lower_cut, lt, meet, meets_of, minus, not, not-false, not-true}
+use Rattle.nodejs_semver.proofs.Common.{option_accepts, option_holds, option_holds-interval, option_holds-meet, option_list_holds, option_to_list}
+use Rattle.nodejs_semver.proofs.Common.{or_left, or_parts, or_right, past_below, precedence, precedence_total, refl, remainder, remainders-hold}
+use Rattle.nodejs_semver.proofs.Common.{remainders_by, sym, take, true, turned_lower, turned_upper, upper_cut, ℕ, ◌&&◌, ◌++◌, ◌+◌, ◌<◌, ◌||◌, ◌∙◌}
+use Rattle.{nodejs_semver.proofs.Common.{◌∷◌, ◌≡◌}, semver_core.proofs.Gate.{both, lets_in-meet, lets_in_one, names_above, names_below}}
 use Rattle.std.proofs.lemmas.List.Folds.{list_any_at, list_any_more}
 
 -- ---- the points of lists
@@ -52,19 +51,6 @@ admits v s = holds precedence s v && lets_in s v
 -- a test of what there is of a span, if it is an interval
 any_interval : (p : Span VersionValue → Bool) (s : Span VersionValue) → list_any p (option_to_list (interval precedence s)) ≡ (is_interval precedence s && p s)
 any_interval p s = grind arith
-
--- what is let in by what two spans have in common, one of them lets in
-pub lets_in_one : (s t : Span VersionValue) (v : VersionValue) → lets_in (both s t) v ≡ true → (lets_in s v || lets_in t v) ≡ true
-lets_in_one s t v h = either (is_release v) (names s.lower v) (names s.upper v) (names t.lower v) (names t.upper v) _ _
-    (picked (is_gt (cut_cmp precedence (lower_cut s.lower) (lower_cut t.lower))) s.lower t.lower)
-    (picked (is_gt (cut_cmp precedence (upper_cut s.upper) (upper_cut t.upper))) t.upper s.upper) h
-  where
-    picked : (i : Bool) (b c : Bound VersionValue) → names (if i then b else c) v ≡ true → (names b v || names c v) ≡ true
-    picked i b c h = grind arith
-
-    either : (r a b c d l u : Bool) → (l ≡ true → (a || c) ≡ true) → (u ≡ true → (d || b) ≡ true) → (r || (l || u)) ≡ true
-        → ((r || (a || b)) || (r || (c || d))) ≡ true
-    either r a b c d l u f g h = grind arith
 
 -- what two spans have in common admits what both hold and one lets in
 admits-meet : (s t : Span VersionValue) (v : VersionValue)

@@ -1,14 +1,14 @@
 -- That the intersection and the difference of two lists are intervals of a range, and what they hold and accept.
-use Rattle.nodejs_semver.proofs.Common.{Bool, Bound, IfOk, IfOk-weaker, IsRange, IsTotalOrder, IsTrue, List}
-use Rattle.nodejs_semver.proofs.Common.{MAX_SAFE_INTEGER, None, Option, Ordering, Result, Some, Span, VersionValue, [], accepts, all_flat}
-use Rattle.nodejs_semver.proofs.Common.{all_weaker, and_from, and_parts, ap, append-nil, ap₂, arith, cond_both, cut_cmp, difference, false, first_so, flat_map}
-use Rattle.nodejs_semver.proofs.Common.{get_or, if_any, inl, inr, intersection, is_gt, is_interval, is_lt, is_range_bound, is_range_span, is_release}
-use Rattle.nodejs_semver.proofs.Common.{is_some, left_above, left_below, length, length-map, list_all, list_all-append, list_holds}
-use Rattle.nodejs_semver.proofs.Common.{lower_cut, meet, meets_of, minus, span_of, not, option_accepts, option_list_holds, option_to_list}
-use Rattle.nodejs_semver.proofs.Common.{precedence, precedence_total, refl, remainder, remainders_by, spans_of, subst, sym, true}
-use Rattle.nodejs_semver.proofs.Common.{turned_lower, turned_upper, upper_cut, ℕ, ◌&&◌, ◌++◌, ◌+◌, ◌<◌, ◌∙◌, ◌∷◌, ◌≡◌, ◌≢◌, ◌⊎◌}
 use Rattle.nodejs_semver.proofs.Algebra.Accepting.{accepts-held, accepts-release, list_holds-meets_of, list_holds-minus, option_list_holds-if_any}
-use Rattle.nodejs_semver.proofs.{Algebra.FlatMaps.{lone, part_some}, Values.{all_intervals-values, meets_of-values, minus-values}}
+use Rattle.nodejs_semver.proofs.Common.{Bool, Bound, IfOk, IfOk-weaker, IsRange, IsTotalOrder, IsTrue, List, MAX_SAFE_INTEGER, None, Option, Ordering}
+use Rattle.nodejs_semver.proofs.Common.{Result, Some, Span, VersionValue, [], accepts, all_flat, all_weaker, and_from, and_parts, ap, append-nil, ap₂}
+use Rattle.nodejs_semver.proofs.Common.{arith, cond_both, cut_cmp, difference, false, first_so, flat_map, get_or, if_any, inl, inr, intersection}
+use Rattle.nodejs_semver.proofs.Common.{is_gt, is_interval, is_lt, is_range_bound, is_range_span, is_release, is_some, left_above, left_below, length}
+use Rattle.nodejs_semver.proofs.Common.{length-map, list_all, list_all-append, list_holds, lower_cut, meet, meets_of, minus, not, option_accepts}
+use Rattle.nodejs_semver.proofs.Common.{option_list_holds, option_to_list, precedence, precedence_total, refl, remainder, remainders_by, span_of}
+use Rattle.nodejs_semver.proofs.Common.{spans_of, subst, sym, true, turned_lower, turned_upper, upper_cut, ℕ, ◌&&◌, ◌++◌, ◌+◌, ◌<◌, ◌∙◌, ◌∷◌, ◌≡◌}
+use Rattle.{nodejs_semver.proofs.{Common.{◌≢◌, ◌⊎◌}, Values.{all_intervals-values, meets_of-values, minus-values}}, semver_core.proofs.FlatMaps.lone}
+use Rattle.semver_core.proofs.FlatMaps.{part_some}
 
 module _ {V : Type 0} {R : V → V → Ordering} (o : IsTotalOrder R) (F : Bound V → Bool) where
   -- an interval with such bounds

@@ -1,9 +1,8 @@
 -- What a range text's intervals hold is what the text writes.
-use Rattle.nodejs_semver.proofs.Common.{Bool, IsTotalOrder, List, Ordering, Run, VersionValue, [], ap₂, arith, denotes, flat_map}
-use Rattle.nodejs_semver.proofs.Common.{interval_of, is_empty, list_all, list_any, list_any-append, list_holds, map, part_denotes, parts}
-use Rattle.nodejs_semver.proofs.Common.{precedence, precedence_total, refl, run_writes, sym, true, ℕ, ◌||◌, ◌∙◌, ◌∷◌, ◌≡◌}
-use Rattle.nodejs_semver.specs.Internal.Writes.{part_writes, writes}
-use Rattle.nodejs_semver.proofs.{Dividing.BarLemmas.{parts-front}, Dividing.RunLemmas.{run-holds}}
+use Rattle.nodejs_semver.proofs.Common.{Bool, IsTotalOrder, List, Ordering, Run, VersionValue, [], ap₂, arith, denotes, flat_map, interval_of}
+use Rattle.nodejs_semver.proofs.Common.{is_empty, list_all, list_any, list_any-append, list_holds, map, part_denotes, parts, precedence}
+use Rattle.nodejs_semver.proofs.{Common.{precedence_total, refl, run_writes, sym, true, ℕ, ◌||◌, ◌∙◌, ◌∷◌, ◌≡◌}, Dividing.RunLemmas.run-holds}
+use Rattle.{nodejs_semver.specs.Internal.Writes.{part_writes, writes}, semver_core.proofs.Dividing.BarLemmas.parts-front}
 
 runs-hold : {V : Type 0} {R : V → V → Ordering} → IsTotalOrder R → (v : V) (rs : List (Run V))
     → list_holds R (map (interval_of R) rs) v ≡ list_any (run_writes R v) rs

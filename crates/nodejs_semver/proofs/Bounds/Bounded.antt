@@ -1,24 +1,13 @@
 -- What is read of bounds: no number is above the limit by more than one, and identifiers are what their texts spell.
-use Rattle.nodejs_semver.proofs.Common.{AreComponents, Front, Id, IsBuild, IsIdentifiers, IsPreRelease, List, None, Option, Partial}
-use Rattle.nodejs_semver.proofs.Common.{Sign, Some, Word, [], arith, bind_some, caret, compare, cond_some, hyphen, identifier_of}
-use Rattle.nodejs_semver.proofs.Common.{is_identifier, is_normal, list_all, malformed, map, partial_front, pieces, plain, refl}
-use Rattle.nodejs_semver.proofs.Common.{same_Some, sign_at, tilde, true, upper_of, word_at, ℕ, ◌∷◌, ◌≡◌, ◌≤◌}
+use Rattle.nodejs_semver.proofs.Common.{AreComponents, Front, Id, IsBuild, IsPreRelease, List, None, Option, Partial}
+use Rattle.nodejs_semver.proofs.Common.{Sign, Some, Word, arith, bind_some, caret, compare, cond_some, hyphen}
+use Rattle.nodejs_semver.proofs.Common.{is_normal, list_all, malformed, partial_front, plain, refl}
+use Rattle.nodejs_semver.proofs.Common.{same_Some, sign_at, tilde, true, upper_of, word_at, ℕ, ◌≡◌, ◌≤◌}
 use Rattle.nodejs_semver.specs.Internal.Words.{at_boundary, behind_sign, or_else, or_malformed, signed_word, word_behind}
 use Rattle.nodejs_semver.specs.Text.PartialText.{IsComponent}
 use Rattle.semver_core.specs.Internal.Reading.{◌>>?◌}
 use Rattle.nodejs_semver.proofs.Reading.PartialLaw.{front-read}
-
--- ---- identifiers
-
-run-normal : (run : List ℕ) → is_identifier run ≡ true → is_normal (identifier_of run) ≡ true
-run-normal run h = grind arith
-
-runs-normal : (runs : List (List ℕ)) → list_all is_identifier runs ≡ true → list_all is_normal (map identifier_of runs) ≡ true
-runs-normal [] h = refl
-runs-normal (run ∷ rest) h = grind (arith, run-normal, runs-normal rest)
-
-pub identifiers-normal : (text : List ℕ) (ids : List Id) → IsIdentifiers text ids → list_all is_normal ids ≡ true
-identifiers-normal text ids h = rw h.spelled (runs-normal (pieces text) h.runs)
+use Rattle.semver_core.proofs.Normal.{identifiers-normal}
 
 pre_release-normal : (text rest : List ℕ) (ids : List Id) → IsPreRelease text rest ids → list_all is_normal ids ≡ true
 pre_release-normal text rest ids h = grind (arith, identifiers-normal)

@@ -1,24 +1,18 @@
 -- Where the reader of numbers stops, the text is wrong there and has no version.
-use Rattle.nodejs_semver.proofs.Common.{◌≡◌, ◌<◌, ◌≤◌, ◌+◌, ◌-◌, ℕ, zero, suc, List, [], ◌∷◌, ◌++◌, length, drop, take, refl, sym, ap, ◌∙◌}
-use Rattle.nodejs_semver.proofs.Common.{subst, arith, true, false, Some, append_assoc, length-append, IsUtf8, Option, None, IfSome}
-use Rattle.nodejs_semver.proofs.Common.{is_ascii_digit, list_all, and_parts, eqb-true, nat_tests, take_rest, space_len, begins}
-use Rattle.nodejs_semver.proofs.Common.{VersionValue, ◌==◌, ◌↔◌, encode_utf8, ◌*◌, eqb, drop_all, drop_more, IsAfterBlank, IsNumber}
-use Rattle.nodejs_semver.proofs.Common.{cases_Bool, Id, length-drop}
-use Rattle.std.proofs.{Common.{slice_range, MatchOption}, lemmas.List.{take-append-drop, drop-drop}, Math.Seq.{take-add, take-append_seam}}
-use Rattle.std.specs.{Char.{digit_value}, Str.Parse.{digits_value, digits_value_after}}
-use Rattle.semver_core.specs.Failures.{NoValue}
-use Rattle.semver_core.specs.Internal.Reading.{mark_len, triple_at, pre_release_at, build_at, list_at, or_nothing, qualified}
-use Rattle.semver_core.specs.{Text.VersionText.{Reads}, declared.TheConstants.{MAX_LENGTH}}
-use Rattle.semver_core.proofs.Text.Pieces.{digits_grow, some_inside}
-use Rattle.semver_core.proofs.Text.Texts.{build_complete, divided_at, mark_is, number_begins, pre_complete, triple_complete}
-use Rattle.semver_core.proofs.Text.Trims.{after_blank_drops_spaces}
-use Rattle.nodejs_semver.specs.Internal.Fronts.{build_front, marked_list, pre_release_front, begins_byte}
-use Rattle.nodejs_semver.specs.Diagnosis.VersionFlaws.{IsExact, IsExpectedAt, IsFlaw, IsFront, IsGreatAt}
-use Rattle.nodejs_semver.specs.Internal.Stuck.{BeginsGreat, Stuck, begins_dot, at_great, at_digit, at_dot, later, IsWhole}
-use Rattle.nodejs_semver.specs.declared.diagnosis.versions.VersionFlaw.{VersionFlaw}
-use Rattle.nodejs_semver.proofs.Diagnosing.OneFlaw.{digits_once, only_flaw, Numeral, HasTail, Leads, Numbers, Place, begins_alike}
-use Rattle.nodejs_semver.proofs.Reading.PartialLaw.{spaces-gone}
-use Rattle.nodejs_semver.proofs.Diagnosing.OneFlaw.{first_numeral, lead_place, next_place, numeral_begins, numeral_once}
+use Rattle.nodejs_semver.proofs.Common.{Id, IfSome, IsAfterBlank, IsNumber, IsUtf8, List, None, Option, Some, VersionValue, [], and_parts, ap}
+use Rattle.nodejs_semver.proofs.Common.{append_assoc, arith, begins, cases_Bool, drop, drop_all, drop_more, encode_utf8, eqb, eqb-true, false}
+use Rattle.nodejs_semver.proofs.Common.{is_ascii_digit, length, length-append, length-drop, list_all, nat_tests, refl, space_len, subst, suc, sym}
+use Rattle.nodejs_semver.proofs.Common.{take, take_rest, true, zero, ℕ, ◌*◌, ◌++◌, ◌+◌, ◌-◌, ◌<◌, ◌==◌, ◌↔◌, ◌∙◌, ◌∷◌, ◌≡◌, ◌≤◌}
+use Rattle.nodejs_semver.proofs.Diagnosing.OneFlaw.{HasTail, Leads, Numbers, Numeral, Place, begins_alike, digits_once, first_numeral, lead_place}
+use Rattle.nodejs_semver.{proofs.Diagnosing.OneFlaw.{next_place, numeral_begins, numeral_once, only_flaw}, specs.Diagnosis.VersionFlaws.IsExact}
+use Rattle.nodejs_semver.specs.{Diagnosis.VersionFlaws.{IsExpectedAt, IsFlaw, IsFront, IsGreatAt}, Internal.Stuck.{BeginsGreat, IsWhole, Stuck}}
+use Rattle.nodejs_semver.specs.{Internal.Stuck.{at_digit, at_dot, at_great, begins_dot, later}, declared.diagnosis.versions.VersionFlaw.VersionFlaw}
+use Rattle.semver_core.proofs.{Reading.Boundaries.spaces-gone, Text.{Pieces.{digits_grow, some_inside}, Texts.{build_complete, divided_at, mark_is}}}
+use Rattle.semver_core.{proofs.Text.{Texts.{number_begins, pre_complete, triple_complete}, Trims.after_blank_drops_spaces}, specs.Failures.NoValue}
+use Rattle.semver_core.specs.Internal.{Fronts.{begins_byte, build_front, marked_list, pre_release_front}, Reading.{build_at, list_at, mark_len}}
+use Rattle.semver_core.specs.{Internal.Reading.{or_nothing, pre_release_at, qualified, triple_at}, Text.VersionText.Reads}
+use Rattle.{semver_core.specs.declared.TheConstants.MAX_LENGTH, std.proofs.{Common.{MatchOption, slice_range}, Math.Seq.{take-add, take-append_seam}}}
+use Rattle.std.{proofs.lemmas.List.{drop-drop, take-append-drop}, specs.{Char.digit_value, Str.Parse.{digits_value, digits_value_after}}}
 use Rattle.nodejs_semver.specs.declared.diagnosis.versions.VersionFlaw.TheVariants as Flaw
 
 -- so many dots and zeros

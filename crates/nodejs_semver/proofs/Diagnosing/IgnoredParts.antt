@@ -1,23 +1,20 @@
 -- What is computed of the ignored words of a text, part by part, is what the statement says of them.
-use Rattle.nodejs_semver.proofs.Common.{nat_tests, common_steps, ◌≡◌, ap, ℕ, List, Bool, Some, refl, Option, is_some, arith, Partial}
-use Rattle.nodejs_semver.proofs.Common.{table, Word, malformed, Sign, None, Result, Span, VersionValue, if◌then◌else◌, ◌<◌, ◌≤◌, ◌+◌, ◌-◌, zero, suc, [], ◌∷◌, ◌++◌, length, sym}
-use Rattle.nodejs_semver.proofs.Common.{subst, append_assoc, drop_spaces, space_len, trim, MAX_SAFE_INTEGER, rest_view, true, false, inl}
-use Rattle.nodejs_semver.proofs.Common.{inr, length-append, ◌&&◌, ◌⊎◌, IsUtf8, AllByRecursion, list_all, is_empty, IsTrim, and_parts, ◌↔◌}
-use Rattle.nodejs_semver.proofs.Common.{words, length-take-le, encode_utf8_all, encodes-append, drop_end_spaces, drop_spaces-blank}
-use Rattle.nodejs_semver.proofs.Common.{middle_is_trim, trim_is_middle, cut_bars, length-drop, word_at, words_within, empty_is}
-use Rattle.semver_core.proofs.Text.Trims.{drop_spaces-dark}
-use Rattle.nodejs_semver.specs.Diagnosis.IgnoredWords.{ignored_as, if_ignored, AreAllIgnored, AreIgnored, AreIgnoredOf, IsWhollyBounded}
-use Rattle.nodejs_semver.specs.Internal.Ignored.{kind_at, read_at, all_ignored, ignored_behind, ignored_of, ignored_within}
-use Rattle.nodejs_semver.specs.Diagnosis.IgnoredWords.{next_piece, next_word, no_piece, no_word}
-use Rattle.nodejs_semver.specs.{Internal.Ignored.{left_list, option_list, part_end}, Internal.Words.{careted, compared, signed_word, tilded, unsigned}}
-use Rattle.nodejs_semver.specs.declared.diagnosis.ranges.IgnoredKind.{IgnoredKind}
-use Rattle.nodejs_semver.specs.{declared.diagnosis.ranges.IgnoredKind.TheVariants.{Malformed, WithoutBounds}, Internal.PartFronts.{front_part, left_over}}
-use Rattle.nodejs_semver.specs.{declared.diagnosis.unread.Unread.{Unread}, declared.diagnosis.ranges.IgnoredWord.{IgnoredWord}}
-use Rattle.nodejs_semver.specs.Text.Meaning.{HasWords}
-use Rattle.std.specs.{Option.{ok_or}, Result.{result_err, result_ok}}
-use Rattle.nodejs_semver.proofs.{Dividing.BarLemmas.{bars_room, cut_bars-front}, Reading.PartialLaw.{spaces-gone, spaces-le, word-shorter}}
-use Rattle.nodejs_semver.proofs.{Dividing.BarsDivide.{bars_divide, bars_once}, Dividing.MeaningLaw.{pieces-utf8, words-law}}
-use Rattle.nodejs_semver.proofs.{Reading.Bytes.{trim-starts}, Reading.WordLaw.{skips-is, skips-utf8, trim-utf8, word-utf8, words_are}}
+use Rattle.nodejs_semver.proofs.Common.{AllByRecursion, Bool, IsTrim, IsUtf8, List, MAX_SAFE_INTEGER, None, Option, Partial, Result, Sign, Some, Span}
+use Rattle.nodejs_semver.proofs.Common.{VersionValue, Word, [], and_parts, ap, append_assoc, arith, common_steps, cut_bars, drop_end_spaces}
+use Rattle.nodejs_semver.proofs.Common.{drop_spaces, drop_spaces-blank, empty_is, encode_utf8_all, encodes-append, false, if◌then◌else◌, inl, inr}
+use Rattle.nodejs_semver.proofs.Common.{is_empty, is_some, length, length-append, length-drop, length-take-le, list_all, malformed, middle_is_trim}
+use Rattle.nodejs_semver.proofs.Common.{nat_tests, refl, rest_view, space_len, subst, suc, sym, table, trim, trim_is_middle, true, word_at, words}
+use Rattle.nodejs_semver.proofs.{Common.{words_within, zero, ℕ, ◌&&◌, ◌++◌, ◌+◌, ◌-◌, ◌<◌, ◌↔◌, ◌∷◌, ◌≡◌, ◌≤◌, ◌⊎◌}, Dividing.MeaningLaw.words-law}
+use Rattle.nodejs_semver.{proofs.Reading.{PartialLaw.word-shorter, WordLaw.{word-utf8, words_are}}, specs.Diagnosis.IgnoredWords.AreAllIgnored}
+use Rattle.nodejs_semver.specs.Diagnosis.IgnoredWords.{AreIgnored, AreIgnoredOf, IsWhollyBounded, if_ignored, ignored_as, next_piece, next_word}
+use Rattle.nodejs_semver.specs.{Diagnosis.IgnoredWords.{no_piece, no_word}, Internal.Ignored.{all_ignored, ignored_behind, ignored_of}}
+use Rattle.nodejs_semver.specs.Internal.{Ignored.{ignored_within, kind_at, left_list, option_list, part_end, read_at}, Words.{careted, compared}}
+use Rattle.nodejs_semver.specs.{Internal.Words.{signed_word, tilded, unsigned}, Text.Meaning.HasWords}
+use Rattle.nodejs_semver.specs.declared.diagnosis.ranges.{IgnoredKind.{IgnoredKind, TheVariants.{Malformed, WithoutBounds}}, IgnoredWord.IgnoredWord}
+use Rattle.{nodejs_semver.specs.declared.diagnosis.unread.Unread.Unread, semver_core.proofs.Dividing.BarLemmas.{bars_room, cut_bars-front}}
+use Rattle.semver_core.proofs.{Dividing.BarsDivide.{bars_divide, bars_once, pieces-utf8}, Reading.Boundaries.{skips-is, skips-utf8, spaces-gone}}
+use Rattle.semver_core.proofs.{Reading.{Boundaries.{spaces-le, trim-utf8}, Bytes.trim-starts}, Text.Trims.drop_spaces-dark}
+use Rattle.{semver_core.specs.Internal.Parts.{front_part, left_over}, std.specs.{Option.ok_or, Result.{result_err, result_ok}}}
 
 abbrev Kind : Type 0
 Kind = Option IgnoredKind × List ℕ

@@ -1,26 +1,20 @@
 -- A text has one flaw: behind the place of a flaw no version text goes on.
-use Rattle.nodejs_semver.proofs.Common.{common_steps, ◌≡◌, ◌<◌, ◌≤◌, ◌+◌, ℕ, List, [], ◌∷◌, ◌++◌, length, drop, take, refl, sym, ap, ◌∙◌}
-use Rattle.nodejs_semver.proofs.Common.{arith, inl, inr, true, false, Some, suc, length-append, is_ascii_digit, list_all, take_at, drop_at}
-use Rattle.nodejs_semver.proofs.Common.{begins, zero, subst, not, Bool, append_assoc, nat_tests, list_all-append, drop_spaces, space_len}
-use Rattle.nodejs_semver.proofs.Common.{is_whitespace, VersionValue, drop_spaces-none, encode_utf8, IsBlank, ◌-◌, IfSome, None, Option}
-use Rattle.nodejs_semver.proofs.Common.{IsUtf8, IsUtf8-drop, ◌↔◌, encode_utf8_all, length-take-le, prefix_len, cases_lt, length-encode}
-use Rattle.nodejs_semver.proofs.Common.{len_utf8_bounds, IsCharBoundary-before_ascii, IsUtf8-take, NoPieceAt, IsWholeNumber, IsNumber}
-use Rattle.nodejs_semver.proofs.Common.{drop_spaces-blank, cases_Bool, and_parts, length-drop, release_value}
-use Rattle.std.specs.{Str.Parse.{digits_value}, Char.{IsScalar}}
-use Rattle.std.proofs.lemmas.List.{take-append-drop, drop-drop}
-use Rattle.std.proofs.lemmas.Str.{char_from_byte, IsCharBoundary-from_take, IsUtf8-append, IsUtf8-encode, encode_ascii, IsUtf8-nil}
-use Rattle.std.proofs.Math.Seq.{take-add, take-append_seam, drop-append_seam, get_or-append_seam}
-use Rattle.semver_core.specs.Internal.Reading.{number_at, triple_at, mark_len}
-use Rattle.semver_core.specs.Text.VersionText.{IsMark, Reads, no_mark, no_pre_release, no_build}
-use Rattle.semver_core.proofs.{Text.Pieces.{number_complete, some_inside}, Text.Texts.{no_mark_at, number_begins, read_at}}
-use Rattle.semver_core.proofs.{Text.SpaceLaw.{front_is_first_character}, Text.Spaces.{after_spaces-end}}
-use Rattle.nodejs_semver.specs.Internal.Stuck.{BeginsGreat, IsNumberAt, Stuck, begins_dot, at_digit, at_great, at_dot, later, IsWhole}
-use Rattle.nodejs_semver.specs.Diagnosis.VersionFlaws.{IsExact, IsExpectedAt, IsFlaw, IsFront, IsGreatAt}
-use Rattle.nodejs_semver.specs.declared.diagnosis.versions.Expected.{Expected}
-use Rattle.nodejs_semver.specs.declared.diagnosis.versions.Expected.TheVariants.{Digit, Dot}
-use Rattle.nodejs_semver.specs.declared.diagnosis.versions.VersionFlaw.{VersionFlaw}
-use Rattle.nodejs_semver.proofs.{Reading.Numbers.{digits-taken, run-ends}, Reading.PartialLaw.{pre-solid, build-solid, digits-solid}}
-use Rattle.nodejs_semver.proofs.Reading.Bytes.{is_solid}
+use Rattle.nodejs_semver.proofs.Common.{Bool, IfSome, IsBlank, IsCharBoundary-before_ascii, IsNumber, IsUtf8, IsUtf8-drop, IsUtf8-take, IsWholeNumber}
+use Rattle.nodejs_semver.proofs.Common.{List, NoPieceAt, None, Option, Some, VersionValue, [], and_parts, ap, append_assoc, arith, begins, cases_Bool}
+use Rattle.nodejs_semver.proofs.Common.{cases_lt, common_steps, drop, drop_at, drop_spaces, drop_spaces-blank, drop_spaces-none, encode_utf8}
+use Rattle.nodejs_semver.proofs.Common.{encode_utf8_all, false, inl, inr, is_ascii_digit, is_whitespace, len_utf8_bounds, length, length-append}
+use Rattle.nodejs_semver.proofs.Common.{length-drop, length-encode, length-take-le, list_all, list_all-append, nat_tests, not, prefix_len, refl}
+use Rattle.nodejs_semver.proofs.Common.{release_value, space_len, subst, suc, sym, take, take_at, true, zero, ℕ, ◌++◌, ◌+◌, ◌-◌, ◌<◌, ◌↔◌, ◌∙◌, ◌∷◌}
+use Rattle.nodejs_semver.{proofs.{Common.{◌≡◌, ◌≤◌}, Reading.PartialLaw.{build-solid, digits-solid, pre-solid}}, specs.Diagnosis.VersionFlaws.IsExact}
+use Rattle.nodejs_semver.specs.{Diagnosis.VersionFlaws.{IsExpectedAt, IsFlaw, IsFront, IsGreatAt}, Internal.Stuck.{BeginsGreat, IsNumberAt, IsWhole}}
+use Rattle.nodejs_semver.specs.{Internal.Stuck.{Stuck, at_digit, at_dot, at_great, begins_dot, later}, declared.diagnosis.versions.Expected.Expected}
+use Rattle.nodejs_semver.specs.declared.diagnosis.versions.{Expected.TheVariants.{Digit, Dot}, VersionFlaw.VersionFlaw}
+use Rattle.semver_core.proofs.{Reading.{Bytes.is_solid, Numbers.{digits-taken, run-ends}}, Text.Pieces.{number_complete, some_inside}}
+use Rattle.semver_core.proofs.Text.{SpaceLaw.front_is_first_character, Spaces.after_spaces-end, Texts.{no_mark_at, number_begins, read_at}}
+use Rattle.semver_core.specs.{Internal.Reading.{mark_len, number_at, triple_at}, Text.VersionText.{IsMark, Reads, no_build, no_mark, no_pre_release}}
+use Rattle.std.proofs.{Math.Seq.{drop-append_seam, get_or-append_seam, take-add, take-append_seam}, lemmas.List.{drop-drop, take-append-drop}}
+use Rattle.std.proofs.lemmas.Str.{IsCharBoundary-from_take, IsUtf8-append, IsUtf8-encode, IsUtf8-nil, char_from_byte, encode_ascii}
+use Rattle.std.specs.{Char.IsScalar, Str.Parse.digits_value}
 use lib.Utf8.{low_scalar}
 use Rattle.nodejs_semver.specs.declared.diagnosis.versions.VersionFlaw.TheVariants as Flaw
 

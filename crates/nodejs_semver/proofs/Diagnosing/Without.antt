@@ -1,15 +1,12 @@
 -- A range text means what its words mean that are not ignored.
-use Rattle.nodejs_semver.proofs.Common.{nat_tests, common_steps, ◌≡◌, ◌↔◌, ℕ, List, [], ◌∷◌, ◌++◌, ap, ◌∙◌, arith, refl, sym, true, false}
-use Rattle.nodejs_semver.proofs.Common.{IsUtf8, AllByRecursion, IsCutAtBars, Run, Span, VersionValue, Word, flat_map, interval_of, is_empty}
-use Rattle.nodejs_semver.proofs.Common.{is_some, list_all, map, precedence, run_items, table, trim, IsBlank, denotes, part_denotes, words}
-use Rattle.nodejs_semver.proofs.Common.{Means, filter, middle_is_trim, more_pieces, one_piece, filter_map}
-use Rattle.std.specs.{Prelude.{is_none}, List.{AllZip}}
-use Rattle.std.proofs.lemmas.Bool.{false_from_ne_true}
-use Rattle.nodejs_semver.specs.Text.Meaning.{AreAllIntervals, AreWords, HasRuns, HasWords, all_intervals, blank_piece, every_version}
-use Rattle.nodejs_semver.specs.Diagnosis.IgnoredWords.{AreAlike, IsWhollyIgnored, ignored_as}
-use Rattle.nodejs_semver.specs.Text.Meaning.{next_piece, next_word, no_piece, no_word}
-use Rattle.nodejs_semver.proofs.Dividing.BarsDivide.{bars_once}
-use Rattle.nodejs_semver.proofs.Dividing.MeaningLaw.{blank-empty, empty-blank, one_meaning, pieces-utf8, words-law}
+use Rattle.nodejs_semver.proofs.Common.{AllByRecursion, IsBlank, IsCutAtBars, IsUtf8, List, Means, Run, Span, VersionValue, Word, [], ap, arith}
+use Rattle.nodejs_semver.proofs.Common.{common_steps, denotes, false, filter, filter_map, flat_map, interval_of, is_empty, is_some, list_all, map}
+use Rattle.nodejs_semver.proofs.Common.{middle_is_trim, more_pieces, nat_tests, one_piece, part_denotes, precedence, refl, run_items, sym, table}
+use Rattle.nodejs_semver.proofs.{Common.{trim, true, words, ℕ, ◌++◌, ◌↔◌, ◌∙◌, ◌∷◌, ◌≡◌}, Dividing.MeaningLaw.{blank-empty, empty-blank, one_meaning}}
+use Rattle.nodejs_semver.{proofs.Dividing.MeaningLaw.words-law, specs.Diagnosis.IgnoredWords.{AreAlike, IsWhollyIgnored, ignored_as}}
+use Rattle.nodejs_semver.specs.Text.Meaning.{AreAllIntervals, AreWords, HasRuns, HasWords, all_intervals, blank_piece, every_version, next_piece}
+use Rattle.{nodejs_semver.specs.Text.Meaning.{next_word, no_piece, no_word}, semver_core.proofs.Dividing.BarsDivide.{bars_once, pieces-utf8}}
+use Rattle.std.{proofs.lemmas.Bool.false_from_ne_true, specs.{List.AllZip, Prelude.is_none}}
 
 -- two pieces have the same words but for ignored ones, and words both or neither; a piece has words, and all are ignored
 abbrev IsAlike : ℕ → List ℕ → List ℕ → Type 0

@@ -1,24 +1,20 @@
 -- What a text denotes is its one meaning, and the versions that are computed of it are those that it writes.
-use Rattle.nodejs_semver.proofs.Common.{nat_tests, common_steps, ◌≡◌, ℕ, zero, suc, ◌<◌, ◌≤◌, List, [], ◌∷◌, ◌++◌, length, get_or, refl}
-use Rattle.nodejs_semver.proofs.Common.{sym, ap, ◌∙◌, arith, true, false, inl, inr, subst, append-nil, length-append, ◌↔◌, IfSome, IsTrue}
-use Rattle.nodejs_semver.proofs.Common.{IsUtf8, Option, map, flat_map, ◌⊎◌, AllByRecursion, list_all, list_any, cases_Bool, and_from}
-use Rattle.nodejs_semver.proofs.Common.{list_all-append, IsUtf8-drop, IsCharBoundary-after_ascii, IsTrim, Span, precedence, drop_spaces}
-use Rattle.nodejs_semver.proofs.Common.{space_len, trim, is_empty, if_any, VersionValue, IsCutAtBars, Run, table, Word, Failure, IsBlank}
-use Rattle.nodejs_semver.proofs.Common.{denotes, part_bounds, part_denotes, parts, Means, runs_of, words, encode_utf8, take_at, drop_at}
-use Rattle.nodejs_semver.proofs.Common.{Bool, or_right, accepts, run_writes, Any, IsSomeAnd, encode_utf8_all, IsUtf8-take}
-use Rattle.nodejs_semver.proofs.Common.{IsCharBoundary-before_ascii, len_utf8_bounds, length-encode, middle_is_trim, trim_is_middle}
-use Rattle.nodejs_semver.proofs.Common.{cut_bars, more_pieces, one_piece, IfNone, filter_map, Result, MemoryOnlyIf, word_at, empty_is}
-use Rattle.nodejs_semver.proofs.Common.{list_any-map}
-use Rattle.std.proofs.{lemmas.Bool.{false_from_ne_true}, lemmas.List.Folds.{Any-from_list_any, list_any-from_Any}}
-use Rattle.std.proofs.Math.Seq.{get_or-append_seam}
-use Rattle.semver_core.proofs.Text.Trims.{trim_parts}
-use Rattle.nodejs_semver.specs.Text.Meaning.{AreAllIntervals, AreWords, HasRuns, IsBlankText, all_intervals, blank_piece, every_version}
-use Rattle.nodejs_semver.specs.{Text.Meaning.{next_piece, next_word, no_piece, no_word}, Internal.Writes.{part_writes, writes}}
-use Rattle.nodejs_semver.specs.Text.WrittenSet.{Writes}
-use Rattle.nodejs_semver.proofs.{Dividing.BarsDivide.{bars_divide, bars_once}, Dividing.RunsDivide.{words-none, part_divides, runs_are}}
-use Rattle.nodejs_semver.proofs.{Reading.PartialLaw.{spaces-gone, spaces-le, word-shorter, words-step}, Reading.Bytes.{trim-starts}}
-use Rattle.nodejs_semver.proofs.Reading.WordLaw.{skips-is, skips-of, skips-utf8, trim-utf8, word-utf8, words_are}
-use Rattle.nodejs_semver.proofs.{Algebra.Accepting.{accepts-held}, Algebra.Holds.{denotes_hold}}
+use Rattle.nodejs_semver.proofs.{Algebra.{Accepting.accepts-held, Holds.denotes_hold}, Common.{AllByRecursion, Any, Bool, Failure, IfNone, IfSome}}
+use Rattle.nodejs_semver.proofs.Common.{IsBlank, IsCharBoundary-after_ascii, IsCharBoundary-before_ascii, IsCutAtBars, IsSomeAnd, IsTrim, IsTrue}
+use Rattle.nodejs_semver.proofs.Common.{IsUtf8, IsUtf8-drop, IsUtf8-take, List, Means, MemoryOnlyIf, Option, Result, Run, Span, VersionValue, Word}
+use Rattle.nodejs_semver.proofs.Common.{[], accepts, and_from, ap, append-nil, arith, cases_Bool, common_steps, cut_bars, denotes, drop_at}
+use Rattle.nodejs_semver.proofs.Common.{drop_spaces, empty_is, encode_utf8, encode_utf8_all, false, filter_map, flat_map, get_or, if_any, inl, inr}
+use Rattle.nodejs_semver.proofs.Common.{is_empty, len_utf8_bounds, length, length-append, length-encode, list_all, list_all-append, list_any}
+use Rattle.nodejs_semver.proofs.Common.{list_any-map, map, middle_is_trim, more_pieces, nat_tests, one_piece, or_right, part_bounds, part_denotes}
+use Rattle.nodejs_semver.proofs.Common.{parts, precedence, refl, run_writes, runs_of, space_len, subst, suc, sym, table, take_at, trim}
+use Rattle.nodejs_semver.proofs.Common.{trim_is_middle, true, word_at, words, zero, ℕ, ◌++◌, ◌<◌, ◌↔◌, ◌∙◌, ◌∷◌, ◌≡◌, ◌≤◌, ◌⊎◌}
+use Rattle.nodejs_semver.proofs.{Dividing.RunsDivide.{part_divides, runs_are, words-none}, Reading.PartialLaw.{word-shorter, words-step}}
+use Rattle.nodejs_semver.{proofs.Reading.WordLaw.{word-utf8, words_are}, specs.{Internal.Writes.{part_writes, writes}, Text.Meaning.AreAllIntervals}}
+use Rattle.nodejs_semver.specs.Text.Meaning.{AreWords, HasRuns, IsBlankText, all_intervals, blank_piece, every_version, next_piece, next_word}
+use Rattle.{nodejs_semver.specs.Text.{Meaning.{no_piece, no_word}, WrittenSet.Writes}, semver_core.proofs.Dividing.BarsDivide.bars_divide}
+use Rattle.semver_core.proofs.{Dividing.BarsDivide.bars_once, Reading.Boundaries.{skips-is, skips-of, skips-utf8, spaces-gone, spaces-le, trim-utf8}}
+use Rattle.{semver_core.proofs.{Reading.Bytes.trim-starts, Text.Trims.trim_parts}, std.proofs.Math.Seq.get_or-append_seam}
+use Rattle.std.proofs.lemmas.{Bool.false_from_ne_true, List.Folds.{Any-from_list_any, list_any-from_Any}}
 pub use Rattle.semver_core.proofs.Dividing.BarsDivide.{pieces-utf8}
 
 -- ---- the words of a part

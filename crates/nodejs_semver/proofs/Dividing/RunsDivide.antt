@@ -1,14 +1,12 @@
 -- A part has one division into runs, and it is the one that is made from the left.
-use Rattle.nodejs_semver.proofs.Common.{nat_tests, common_steps, ◌≡◌, ℕ, List, [], ◌∷◌, ◌++◌, refl, sym, ap, ◌∙◌, inl, inr, true, false}
-use Rattle.nodejs_semver.proofs.Common.{Bool, append_assoc, subst, Some, flat_map, Option, Ordering, arith, AllByRecursion, list_all}
-use Rattle.nodejs_semver.proofs.Common.{and_parts, cases_Bool, Span, is_interval, precedence, table, Run, fits, run_items, part_bounds}
-use Rattle.nodejs_semver.proofs.Common.{words, runs_of, longer, append-nil, IsTotalOrder, precedence_total, VersionValue, ◌<◌, length, None}
-use Rattle.nodejs_semver.proofs.Common.{length-append, meet, space_len, part_intervals, runs_from, joined, joined_from}
-use Rattle.nodejs_semver.proofs.Common.{next_at, filter_map, words_within}
-use Rattle.std.specs.List.{cons_option}
-use Rattle.nodejs_semver.specs.Text.Runs.{AreLongest, AreRuns}
-use Rattle.nodejs_semver.proofs.Dividing.RunLemmas.{runs-goes, runs-stops, fits-shrinks, joined-goes, joined-stops, runs-joined}
-use Rattle.nodejs_semver.proofs.{Bounds.TableRows.{table-interval}, Reading.PartialLaw.{words-step, word-shorter, spaces-le, spaces-gone}}
+use Rattle.nodejs_semver.proofs.{Bounds.TableRows.table-interval, Common.{AllByRecursion, Bool, IsTotalOrder, List, None, Option, Ordering, Run}}
+use Rattle.nodejs_semver.proofs.Common.{Some, Span, VersionValue, [], and_parts, ap, append-nil, append_assoc, arith, cases_Bool, common_steps, false}
+use Rattle.nodejs_semver.proofs.Common.{filter_map, fits, flat_map, inl, inr, is_interval, joined, joined_from, length, length-append, list_all}
+use Rattle.nodejs_semver.proofs.Common.{longer, meet, nat_tests, next_at, part_bounds, part_intervals, precedence, precedence_total, refl, run_items}
+use Rattle.nodejs_semver.proofs.Common.{runs_from, runs_of, space_len, subst, sym, table, true, words, words_within, ℕ, ◌++◌, ◌<◌, ◌∙◌, ◌∷◌, ◌≡◌}
+use Rattle.nodejs_semver.proofs.Dividing.RunLemmas.{fits-shrinks, joined-goes, joined-stops, runs-goes, runs-joined, runs-stops}
+use Rattle.nodejs_semver.{proofs.Reading.PartialLaw.{word-shorter, words-step}, specs.Text.Runs.{AreLongest, AreRuns}}
+use Rattle.{semver_core.proofs.Reading.Boundaries.{spaces-gone, spaces-le}, std.specs.List.cons_option}
 
 abbrev pub single : {V : Type 0} → Span V → Run V
 single s = record { first = s; others = [] }

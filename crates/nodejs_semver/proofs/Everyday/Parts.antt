@@ -1,23 +1,19 @@
 -- What the fast reader finds is the parts of a common text, and it finds each of them.
-use Rattle.nodejs_semver.proofs.Common.{common_steps, arith, ◌≡◌, ℕ, List, ◌++◌, ap, ◌∙◌, Some, Option, Front, AreComponents, Partial, zero}
-use Rattle.nodejs_semver.proofs.Common.{suc, ◌<◌, ◌≤◌, [], ◌∷◌, length, drop, refl, true, false, inl, inr, append-nil, append_assoc}
-use Rattle.nodejs_semver.proofs.Common.{length-append, cases_Bool, eqb-true, nat_tests, begins, Span, meet, precedence, is_empty}
-use Rattle.nodejs_semver.proofs.Common.{VersionValue, AreCommonParts, table, IsSign, Comparator, Word, hyphen, plain, tilde, tilde_sign}
-use Rattle.nodejs_semver.proofs.Common.{same_Some, bind_some, ◌↔◌, ◌==◌, None, interval, Bound, Unbounded, if◌then◌else◌, ◌⊎◌, if_any}
-use Rattle.nodejs_semver.proofs.Common.{IsSomeAnd, begins_second, comparison_front, comparisons_front, is_sign, word_read, passed}
-use Rattle.nodejs_semver.proofs.Common.{has_bars, above, at_most, below}
-use Rattle.semver_core.specs.{Internal.Reading.{◌>>?◌}, Failures.{NoValue}}
-use Rattle.nodejs_semver.specs.Internal.CommonFronts.{bare_front, after_bars, after_gap, begins_dash, caret_front, common_parts}
-use Rattle.nodejs_semver.specs.Internal.CommonFronts.{common_range, common_within, part_front, part_read, partials_front, tilde_front}
-use Rattle.nodejs_semver.specs.Text.Common.{IsCommonPart, IsCommonRange, IsCommonWord, IsComparison, IsGap, caret_word, compare_word}
-use Rattle.nodejs_semver.specs.Text.Common.{comparison, hyphen_word, more_parts, one_part, one_word, plain_word, tilde_greater_word}
-use Rattle.nodejs_semver.specs.{Internal.CommonFronts.{both_of, onto}, Internal.Fronts.{after_byte}}
-use Rattle.nodejs_semver.specs.{Text.Common.{tilde_word, two_comparisons}, Internal.Words.{comparator_at}}
-use Rattle.nodejs_semver.specs.Text.WordText.{above_sign, below_sign, at_least}
-use Rattle.nodejs_semver.proofs.Reading.PartialLaw.{components-read, components-then, components-begin}
-use Rattle.nodejs_semver.proofs.Reading.Bytes.{Stop, quiet-before, stop-bar, stop-nil, stop-space, begins-on, begins_component, is_solid}
-use Rattle.nodejs_semver.proofs.{Everyday.Texts.{part-tidy, list-some}, Everyday.Words.{no-equal, no-greater, sign-begins}}
-use Rattle.nodejs_semver.proofs.Reading.WordLaw.{tilde-cases, Signed, sign-is}
+use Rattle.nodejs_semver.proofs.Common.{AreCommonParts, AreComponents, Bound, Comparator, Front, IsSign, IsSomeAnd, List, None, Option, Partial, Some}
+use Rattle.nodejs_semver.proofs.Common.{Span, Unbounded, VersionValue, Word, [], above, ap, append-nil, append_assoc, arith, at_most, begins}
+use Rattle.nodejs_semver.proofs.Common.{begins_second, below, bind_some, cases_Bool, common_steps, comparison_front, comparisons_front, drop}
+use Rattle.nodejs_semver.proofs.Common.{eqb-true, false, has_bars, hyphen, if_any, if◌then◌else◌, inl, inr, interval, is_empty, is_sign, length}
+use Rattle.nodejs_semver.proofs.Common.{length-append, meet, nat_tests, passed, plain, precedence, refl, same_Some, suc, table, tilde, tilde_sign}
+use Rattle.nodejs_semver.proofs.{Common.{true, word_read, zero, ℕ, ◌++◌, ◌<◌, ◌==◌, ◌↔◌, ◌∙◌, ◌∷◌, ◌≡◌, ◌≤◌, ◌⊎◌}, Everyday.Texts.list-some}
+use Rattle.nodejs_semver.proofs.{Everyday.{Texts.part-tidy, Words.{no-equal, no-greater, sign-begins}}, Reading.PartialLaw.components-begin}
+use Rattle.nodejs_semver.proofs.Reading.{PartialLaw.{components-read, components-then}, WordLaw.{Signed, sign-is, tilde-cases}}
+use Rattle.nodejs_semver.specs.Internal.CommonFronts.{bare_front, begins_dash, both_of, caret_front, common_parts, common_range, common_within, onto}
+use Rattle.nodejs_semver.specs.Internal.{CommonFronts.{part_front, part_read, partials_front, tilde_front}, Words.comparator_at}
+use Rattle.nodejs_semver.specs.Text.Common.{IsCommonPart, IsCommonRange, IsCommonWord, IsComparison, IsGap, caret_word, compare_word, comparison}
+use Rattle.nodejs_semver.specs.Text.Common.{hyphen_word, more_parts, one_part, one_word, plain_word, tilde_greater_word, tilde_word, two_comparisons}
+use Rattle.{nodejs_semver.specs.Text.WordText.{above_sign, below_sign}, semver_core.proofs.Reading.Bytes.{Stop, begins-on, begins_component}}
+use Rattle.semver_core.{proofs.Reading.Bytes.{is_solid, quiet-before, stop-bar, stop-nil, stop-space}, specs.Failures.NoValue}
+use Rattle.semver_core.specs.{Internal.{Fronts.after_byte, Parts.{after_bars, after_gap}, Reading.◌>>?◌}, Text.Comparators.at_least}
 
 -- it is read at the front
 pub bare-exact : (limit : ℕ) (x more : List ℕ) (p : Partial) → AreComponents limit x p → Stop more → bare_front limit (x ++ more) ≡ Some (p, more)

@@ -1,14 +1,13 @@
 -- Everyday parts between bars denote their intervals: the parts are cut at the bars and are trimmed to themselves.
-use Rattle.nodejs_semver.proofs.Common.{common_steps, ◌≡◌, ℕ, ◌<◌, List, [], ◌∷◌, ◌++◌, length, map, refl, sym, ap, ◌∙◌, arith, true, false}
-use Rattle.nodejs_semver.proofs.Common.{inl, append-nil, append_assoc, Some, flat_map, list_all, eqb-true, nat_tests, begins, ends, Span}
-use Rattle.nodejs_semver.proofs.Common.{drop_spaces, space_len, trim, is_empty, VersionValue, drop_spaces-none, AreCommonParts, denotes}
-use Rattle.nodejs_semver.proofs.Common.{part_denotes, parts, table, Word, after_spaces, drop_end_spaces, cut_bars, is_bar, and_parts}
-use Rattle.semver_core.proofs.Text.Trims.{keep_byte}
-use Rattle.nodejs_semver.specs.Text.Common.{IsCommonPart, IsCommonWord, IsGap, caret_word, compare_word, comparison, hyphen_word}
-use Rattle.nodejs_semver.specs.Text.Common.{more_parts, one_part, one_word, plain_word, tilde_greater_word, tilde_word, two_comparisons}
-use Rattle.nodejs_semver.proofs.Everyday.Words.{Compact, compact-partial, compact-signed, is_part_byte, Tidy, caret-tidy, compared-tidy}
-use Rattle.nodejs_semver.proofs.Everyday.Words.{hyphen-tidy, no-greater, plain-tidy, tilde-tidy, two-tidy, space-gone}
-use Rattle.nodejs_semver.proofs.{Reading.Bytes.{all-join, is_solid, solid-dark}, Reading.PartialLaw.{components-begin}}
+use Rattle.nodejs_semver.proofs.Common.{AreCommonParts, List, Some, Span, VersionValue, Word, [], after_spaces, and_parts, ap, append-nil}
+use Rattle.nodejs_semver.proofs.Common.{append_assoc, arith, begins, common_steps, cut_bars, denotes, drop_end_spaces, drop_spaces, drop_spaces-none}
+use Rattle.nodejs_semver.proofs.Common.{ends, eqb-true, false, flat_map, inl, is_bar, is_empty, length, list_all, map, nat_tests, part_denotes, parts}
+use Rattle.nodejs_semver.proofs.{Common.{refl, space_len, sym, table, trim, true, ℕ, ◌++◌, ◌<◌, ◌∙◌, ◌∷◌, ◌≡◌}, Everyday.Words.{Compact, Tidy}}
+use Rattle.nodejs_semver.proofs.Everyday.Words.{caret-tidy, compact-partial, compact-signed, compared-tidy, hyphen-tidy, is_part_byte, no-greater}
+use Rattle.nodejs_semver.proofs.{Everyday.Words.{plain-tidy, space-gone, tilde-tidy, two-tidy}, Reading.PartialLaw.components-begin}
+use Rattle.nodejs_semver.specs.Text.Common.{IsCommonPart, IsCommonWord, IsGap, caret_word, compare_word, comparison, hyphen_word, more_parts}
+use Rattle.nodejs_semver.specs.Text.Common.{one_part, one_word, plain_word, tilde_greater_word, tilde_word, two_comparisons}
+use Rattle.semver_core.proofs.{Reading.Bytes.{all-join, is_solid, solid-dark}, Text.Trims.keep_byte}
 
 -- ---- trimming
 

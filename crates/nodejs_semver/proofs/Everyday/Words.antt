@@ -1,15 +1,13 @@
 -- The words of an everyday part are what the range grammar reads in it.
-use Rattle.nodejs_semver.proofs.Common.{nat_tests, common_steps, ◌≡◌, ℕ, List, [], ◌∷◌, ◌++◌, refl, ◌∙◌, arith, Bool, true, ◌||◌, list_all}
-use Rattle.nodejs_semver.proofs.Common.{and_from, begins, ends, AreComponents, Partial, Comparator, IsSign, ◌==◌, sym, false, Some}
-use Rattle.nodejs_semver.proofs.Common.{append-nil, append_assoc, Span, meet, precedence, precedence_total, drop_spaces, space_len}
-use Rattle.nodejs_semver.proofs.Common.{VersionValue, drop_spaces-none, part_intervals, table, Word, compare, hyphen, plain, tilde}
-use Rattle.nodejs_semver.proofs.Common.{tilde_sign, words, after_spaces, joined_from, runs_from, is_sign, partial_front, caret, is_boundary}
-use Rattle.nodejs_semver.proofs.Common.{word_at, words_within, all_weaker}
-use Rattle.nodejs_semver.specs.Internal.Words.{or_equal}
-use Rattle.nodejs_semver.proofs.Reading.Bytes.{all-end, all-join, ends-append, ends-some, is_solid, begins-on, begins_component}
-use Rattle.nodejs_semver.proofs.Reading.Bytes.{component-solid, solid-dark, Stop, stop-nil, stop-space}
-use Rattle.nodejs_semver.proofs.Reading.PartialLaw.{components-begin, front-exact, words-step, components-solid}
-use Rattle.nodejs_semver.proofs.{Dividing.RunLemmas.{joined-goes, runs-joined}, Reading.WordLaw.{compared-of, unsigned-at}}
+use Rattle.nodejs_semver.proofs.Common.{AreComponents, Bool, Comparator, IsSign, List, Partial, Some, Span, VersionValue, Word, [], after_spaces}
+use Rattle.nodejs_semver.proofs.Common.{all_weaker, and_from, append-nil, append_assoc, arith, begins, caret, common_steps, compare, drop_spaces}
+use Rattle.nodejs_semver.proofs.Common.{drop_spaces-none, ends, false, hyphen, is_boundary, is_sign, joined_from, list_all, meet, nat_tests}
+use Rattle.nodejs_semver.proofs.Common.{part_intervals, partial_front, plain, precedence, precedence_total, refl, runs_from, space_len, sym, table}
+use Rattle.nodejs_semver.proofs.Common.{tilde, tilde_sign, true, word_at, words, words_within, ℕ, ◌++◌, ◌==◌, ◌||◌, ◌∙◌, ◌∷◌, ◌≡◌}
+use Rattle.nodejs_semver.proofs.{Dividing.RunLemmas.{joined-goes, runs-joined}, Reading.PartialLaw.{components-begin, components-solid, front-exact}}
+use Rattle.nodejs_semver.{proofs.Reading.{PartialLaw.words-step, WordLaw.{compared-of, unsigned-at}}, specs.Internal.Words.or_equal}
+use Rattle.semver_core.proofs.Reading.Bytes.{Stop, all-end, all-join, begins-on, begins_component, component-solid, ends-append, ends-some, is_solid}
+use Rattle.semver_core.proofs.Reading.Bytes.{solid-dark, stop-nil, stop-space}
 
 -- a visible character other than the bar, or a space
 abbrev pub is_part_byte : ℕ → Bool

@@ -1,10 +1,10 @@
 -- The version that is found in a list is the best one of those in the set.
-use Rattle.nodejs_semver.proofs.Common.{nat_tests, common_steps, All, Bool, Bor, Contains, Contains-append_right, IfNone, IfSome, IsBest}
-use Rattle.nodejs_semver.proofs.Common.{IsMax, IsMin, IsTotalOrder, List, None, Option, Ordering, Some, VersionValue, [], all_weaker}
-use Rattle.nodejs_semver.proofs.Common.{and_from, ap, append_assoc, arith, cases_Bool, false, get_or, if◌then◌else◌, is_le, is_lt, length}
-use Rattle.nodejs_semver.proofs.Common.{list_all-append, map, not, not-true, option_copied, precedence, precedence_total, refl, replaces}
-use Rattle.nodejs_semver.proofs.Common.{subst, sym, take, tied_itself, true, ℕ, ◌++◌, ◌+◌, ◌<◌, ◌||◌, ◌∙◌, ◌∷◌, ◌≡◌, ◌&&◌}
-use Rattle.nodejs_semver.proofs.{Values.{map-further}, Algebra.Gate.{le_of_lt, le_trans, lt_is, lt_le}}
+use Rattle.nodejs_semver.proofs.Common.{All, Bool, Bor, Contains, Contains-append_right, IfNone, IfSome, IsBest, IsMax, IsMin, IsTotalOrder, List}
+use Rattle.nodejs_semver.proofs.Common.{None, Option, Ordering, Some, VersionValue, [], all_weaker, and_from, ap, append_assoc, arith, cases_Bool}
+use Rattle.nodejs_semver.proofs.Common.{common_steps, false, get_or, if◌then◌else◌, is_le, is_lt, length, list_all-append, map, nat_tests, not}
+use Rattle.nodejs_semver.proofs.Common.{not-true, option_copied, precedence, precedence_total, refl, replaces, subst, sym, take, tied_itself, true, ℕ}
+use Rattle.{nodejs_semver.proofs.{Common.{◌&&◌, ◌++◌, ◌+◌, ◌<◌, ◌||◌, ◌∙◌, ◌∷◌, ◌≡◌}, Values.map-further}, semver_core.proofs.Gate.le_of_lt}
+use Rattle.semver_core.proofs.Gate.{le_trans, lt_is, lt_le}
 
 -- what holds of the two relations of the best
 record Ranks {V : Type 0} (in_front behind : V → V → Bool) : Type 0 where

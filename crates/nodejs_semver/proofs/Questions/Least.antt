@@ -1,23 +1,22 @@
 -- The least version beyond is the first of its kind past a mark: a lower cut of what is kept, an upper cut of what is removed,
 -- or the cut below the pre-releases that an upper bound of what is kept names. First what comes next after a version.
-use Rattle.nodejs_semver.proofs.Common.{nat_tests, common_steps, After, All, All-append, All-cons, All-from_recursion, All-head, All-nil}
-use Rattle.nodejs_semver.proofs.Common.{All-tail, Before, Beside, Bool, Bound, Cut, End, Equal, Far, Id, IfSome, IsLeastOf, Less, List}
-use Rattle.nodejs_semver.proofs.Common.{Near, None, Numeric, Option, Ordering, Some, Span, Start, Unbounded, VersionValue, [], above_patch}
-use Rattle.nodejs_semver.proofs.Common.{accepts, alike_right, all_accept, all_flat, all_weaker, and-true, and_from, and_parts, any_flat}
-use Rattle.nodejs_semver.proofs.Common.{any_same, any_under, ap, ap₂, arith, begins_with, below_named, beside, better, beyond, bool_cmp}
-use Rattle.nodejs_semver.proofs.Common.{build_by, candidates, cases_Bool, chain, cond_both, cut_total, empty_is, false, find, first_so}
-use Rattle.nodejs_semver.proofs.Common.{firsts, flat_map, fold, gt_lt, has_build, holds, if◌then◌else◌, inl, inr, irreflexive, is_gt, is_le}
-use Rattle.nodejs_semver.proofs.Common.{is_past, is_past-down, is_release, least_build, least_of, length, lets_in, list_all}
-use Rattle.nodejs_semver.proofs.Common.{list_all-append, list_any, list_marks, lower_cut, map, names, not, not-true, not_above}
-use Rattle.nodejs_semver.proofs.Common.{option_and_then, or-false, or_cases, or_left, or_parts, or_right, ordering_then, past_lt, pick_both}
-use Rattle.nodejs_semver.proofs.Common.{pre_cmp, precedence, precedence_total, refl, release_value, removed_marks, second_so, subst, sym}
-use Rattle.nodejs_semver.proofs.Common.{tells, tied_itself, true, upper_cut, version_eq, wanted, ◌&&◌, ◌++◌, ◌<◌, ◌||◌, ◌∙◌, ◌∷◌, ◌≡◌}
-use Rattle.nodejs_semver.specs.Internal.Candidates.{zero, bare_release, first_pre, pre_after, patch_after, bare, after_cut, release_after}
-use Rattle.nodejs_semver.specs.Internal.Candidates.{below_at, kept_marks, among, improves, is_reached, first_past}
-use Rattle.semver_core.proofs.Values.NextLaws.{least_after_pre_release, first_of_all, least_after_release}
-use Rattle.nodejs_semver.proofs.Algebra.Gate.{below, in_order, lt_is, named, named_parts, not_gt_then, past_order, triple_cmp, upto_by_both}
-use Rattle.nodejs_semver.proofs.Algebra.Gate.{pre_upto, same_triple_is, triple_between, triple_total, triple_upto, le_of_lt, le_trans}
-use Rattle.semver_core.specs.Internal.Successors.{above_pre, below_cases, below_more, upto_patch, zero_least}
+use Rattle.nodejs_semver.proofs.Common.{After, All, All-append, All-cons, All-from_recursion, All-head, All-nil, All-tail, Before, Beside, Bool}
+use Rattle.nodejs_semver.proofs.Common.{Bound, Cut, End, Equal, Far, Id, IfSome, IsLeastOf, Less, List, Near, None, Numeric, Option, Ordering, Some}
+use Rattle.nodejs_semver.proofs.Common.{Span, Start, Unbounded, VersionValue, [], above_patch, accepts, alike_right, all_accept, all_flat, all_weaker}
+use Rattle.nodejs_semver.proofs.Common.{and-true, and_from, and_parts, any_flat, any_same, any_under, ap, ap₂, arith, begins_with, below_named}
+use Rattle.nodejs_semver.proofs.Common.{beside, better, beyond, bool_cmp, build_by, candidates, cases_Bool, chain, common_steps, cond_both, cut_total}
+use Rattle.nodejs_semver.proofs.Common.{empty_is, false, find, first_so, firsts, flat_map, fold, gt_lt, has_build, holds, if◌then◌else◌, inl, inr}
+use Rattle.nodejs_semver.proofs.Common.{irreflexive, is_gt, is_le, is_past, is_past-down, is_release, least_build, least_of, length, lets_in}
+use Rattle.nodejs_semver.proofs.Common.{list_all, list_all-append, list_any, list_marks, lower_cut, map, names, nat_tests, not, not-true, not_above}
+use Rattle.nodejs_semver.proofs.Common.{option_and_then, or-false, or_cases, or_left, or_parts, or_right, ordering_then, past_lt, pick_both, pre_cmp}
+use Rattle.nodejs_semver.proofs.Common.{precedence, precedence_total, refl, release_value, removed_marks, second_so, subst, sym, tells, tied_itself}
+use Rattle.nodejs_semver.proofs.Common.{true, upper_cut, version_eq, wanted, ◌&&◌, ◌++◌, ◌<◌, ◌||◌, ◌∙◌, ◌∷◌, ◌≡◌}
+use Rattle.nodejs_semver.specs.Internal.Candidates.{after_cut, among, bare, bare_release, below_at, first_past, first_pre, improves, is_reached}
+use Rattle.{nodejs_semver.specs.Internal.Candidates.{kept_marks, patch_after, pre_after, release_after, zero}, semver_core.proofs.Gate.below}
+use Rattle.semver_core.proofs.Gate.{in_order, le_of_lt, le_trans, lt_is, named, named_parts, not_gt_then, past_order, pre_upto, same_triple_is}
+use Rattle.semver_core.proofs.{Gate.{triple_between, triple_cmp, triple_total, triple_upto, upto_by_both}, Values.NextLaws.first_of_all}
+use Rattle.semver_core.{proofs.Values.NextLaws.{least_after_pre_release, least_after_release}, specs.Internal.Successors.{above_pre, below_cases}}
+use Rattle.semver_core.specs.Internal.Successors.{below_more, upto_patch, zero_least}
 
 pub le_not_gt : (r : Ordering) → is_le r ≡ true → is_gt r ≡ false
 le_not_gt r h = not-true _ (sym (tells r).0 ∙ h)

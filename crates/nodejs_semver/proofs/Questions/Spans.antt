@@ -1,17 +1,15 @@
 -- Spans of versions of any kind, read one by one as the spans of their values.
-use Rattle.nodejs_semver.proofs.Common.{nat_tests, All, All-get_or, All-head, All-tail, All-weaker, AllPass-from_list_all, Any}
-use Rattle.nodejs_semver.proofs.Common.{BeginsAfterPre, Bool, Bound, IfNone, IfSome, IsAfterPre, IsLeastSoFar, IsRaisable, IsRange, List}
-use Rattle.nodejs_semver.proofs.Common.{MAX_SAFE_INTEGER, None, Option, Raisable, Some, Span, VersionValue, [], accepts, all_accept}
-use Rattle.nodejs_semver.proofs.Common.{and-true, and_parts, ap, arith, below_named, beside, better, beyond, bound_of, candidates}
-use Rattle.nodejs_semver.proofs.Common.{common_steps, cond_both, false, false≢true, find, find-append, first_so, firsts, flat_map}
-use Rattle.nodejs_semver.proofs.Common.{flat_map-append, fold, fold-append, get_or, get_or-map, holds, inl, inr, is_le, is_lt}
-use Rattle.nodejs_semver.proofs.Common.{is_range_span, least_build, length, length-map, lets_in, list_any, list_any-append, list_marks, map, map-append}
-use Rattle.nodejs_semver.proofs.Common.{not, not_if, option_map, or-false, or_cases, precedence, precedence_total, refl, removed_marks}
-use Rattle.nodejs_semver.proofs.Common.{span_of, spans_of, subst, sym, take, take_next, tells, tied_itself, true, ℕ, ◌&&◌, ◌++◌, ◌+◌, ◌-◌}
-use Rattle.nodejs_semver.proofs.Common.{◌<◌, ◌^◌, ◌||◌, ◌∙◌, ◌∷◌, ◌≡◌, ◌⊎◌}
-use Rattle.nodejs_semver.specs.Internal.Candidates.{zero, first_past, StartsWith, IsLeastBuilt, lesser, EndsAfterPre, MayAllocate}
-use Rattle.nodejs_semver.proofs.{Values.{map-further}, Algebra.Gate.{le_trans, lt_is, lt_le, le_of_lt, past_order}}
-use Rattle.std.specs.Option.{option_or}
+use Rattle.nodejs_semver.proofs.Common.{All, All-get_or, All-head, All-tail, All-weaker, AllPass-from_list_all, Any, BeginsAfterPre, Bool, Bound}
+use Rattle.nodejs_semver.proofs.Common.{IfNone, IfSome, IsAfterPre, IsLeastSoFar, IsRaisable, IsRange, List, MAX_SAFE_INTEGER, None, Option, Raisable}
+use Rattle.nodejs_semver.proofs.Common.{Some, Span, VersionValue, [], accepts, all_accept, and-true, and_parts, ap, arith, below_named, beside}
+use Rattle.nodejs_semver.proofs.Common.{better, beyond, bound_of, candidates, common_steps, cond_both, false, false≢true, find, find-append, first_so}
+use Rattle.nodejs_semver.proofs.Common.{firsts, flat_map, flat_map-append, fold, fold-append, get_or, get_or-map, holds, inl, inr, is_le, is_lt}
+use Rattle.nodejs_semver.proofs.Common.{is_range_span, least_build, length, length-map, lets_in, list_any, list_any-append, list_marks, map}
+use Rattle.nodejs_semver.proofs.Common.{map-append, nat_tests, not, not_if, option_map, or-false, or_cases, precedence, precedence_total, refl}
+use Rattle.nodejs_semver.proofs.Common.{removed_marks, span_of, spans_of, subst, sym, take, take_next, tells, tied_itself, true, ℕ, ◌&&◌, ◌++◌, ◌+◌}
+use Rattle.nodejs_semver.{proofs.{Common.{◌-◌, ◌<◌, ◌^◌, ◌||◌, ◌∙◌, ◌∷◌, ◌≡◌, ◌⊎◌}, Values.map-further}, specs.Internal.Candidates.EndsAfterPre}
+use Rattle.nodejs_semver.specs.Internal.Candidates.{IsLeastBuilt, MayAllocate, StartsWith, first_past, lesser, zero}
+use Rattle.{semver_core.proofs.Gate.{le_of_lt, le_trans, lt_is, lt_le, past_order}, std.specs.Option.option_or}
 
 -- the patch of a bound of a range can be raised
 module _ (limit : ℕ) (far : limit < 2 ^ 64 - 1) where

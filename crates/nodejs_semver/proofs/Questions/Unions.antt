@@ -1,16 +1,14 @@
 -- Questions about ranges: parts of ranges, unions, and the ranges of some versions.
-use Rattle.nodejs_semver.proofs.Common.{All, All-weaker, AreTaking, Bool, Bound, Contains, IfOk, IfOk-weaker, IsLeastOf, IsRange}
-use Rattle.nodejs_semver.proofs.Common.{IsTrue, List, None, Option, Ordering, Result, Some, Span, VersionValue, [], accepts}
-use Rattle.nodejs_semver.proofs.Common.{and_parts, ap, append_assoc, ap₂, arith, common_steps, false, filter, get_or, gt_lt}
-use Rattle.nodejs_semver.proofs.Common.{has_bound, holds, if_any, if◌then◌else◌, is_empty, is_past-down, is_range_span}
-use Rattle.nodejs_semver.proofs.Common.{is_release, length, length-append, lets_in, list_all, list_all-append, list_any}
-use Rattle.nodejs_semver.proofs.Common.{list_any-append, list_any-map, map, map-append, names, nat_tests, not, not-true, or-false}
-use Rattle.nodejs_semver.proofs.Common.{or_cases, or_left, or_parts, or_right, passes, precedence, precedence_total, refl}
-use Rattle.nodejs_semver.proofs.Common.{same_triple, span_of, spans_of, suc, sym, take, tells, true, zero, ℕ, ◌&&◌, ◌++◌, ◌+◌}
-use Rattle.nodejs_semver.proofs.{Common.{◌<◌, ◌||◌, ◌↔◌, ◌∙◌, ◌∷◌, ◌≡◌, ◌≤◌, ◌⊎◌}, NpmCommon.is_none}
-use Rattle.nodejs_semver.specs.{Internal.Questions.{admits, is_said, is_used}, Ranges.{Simple.simplified, Subsets.AcceptSame}}
-use Rattle.{nodejs_semver.specs.Ranges.{Subsets.IsSubset, Unions.{says_all, union}}, semver_core.specs.Cuts.covers}
-use Rattle.std.proofs.lemmas.List.{Elements.All-contains_itself, Filters.length-filter_both, Folds.list_any_at}
+use Rattle.nodejs_semver.proofs.Common.{All, All-weaker, AreTaking, Bool, Bound, Contains, IfOk, IfOk-weaker, IsLeastOf, IsRange, IsTrue, List, None}
+use Rattle.nodejs_semver.proofs.Common.{Option, Ordering, Result, Some, Span, VersionValue, [], accepts, and_parts, ap, append_assoc, ap₂, arith}
+use Rattle.nodejs_semver.proofs.Common.{common_steps, false, filter, get_or, gt_lt, has_bound, holds, if_any, if◌then◌else◌, is_empty, is_past-down}
+use Rattle.nodejs_semver.proofs.Common.{is_range_span, is_release, length, length-append, lets_in, list_all, list_all-append, list_any}
+use Rattle.nodejs_semver.proofs.Common.{list_any-append, list_any-map, map, map-append, names, nat_tests, not, not-true, or-false, or_cases, or_left}
+use Rattle.nodejs_semver.proofs.Common.{or_parts, or_right, passes, precedence, precedence_total, refl, same_triple, span_of, spans_of, suc, sym}
+use Rattle.nodejs_semver.proofs.Common.{take, tells, true, zero, ℕ, ◌&&◌, ◌++◌, ◌+◌, ◌<◌, ◌||◌, ◌↔◌, ◌∙◌, ◌∷◌, ◌≡◌, ◌≤◌, ◌⊎◌}
+use Rattle.nodejs_semver.specs.{Internal.Questions.{admits, is_said, is_used}, Ranges.{Simple.simplified, Subsets.{AcceptSame, IsSubset}}}
+use Rattle.{nodejs_semver.specs.Ranges.Unions.{says_all, union}, semver_core.specs.Cuts.covers, std.proofs.lemmas.List.Elements.All-contains_itself}
+use Rattle.std.{proofs.lemmas.List.{Filters.length-filter_both, Folds.list_any_at}, specs.Prelude.is_none}
 
 -- ---- parts of ranges
 

@@ -1,11 +1,9 @@
 -- Worked rows, computed: how ranges print, and which of them come back.
-use Rattle.nodejs_semver.proofs.Common.{After, AlphaNumeric, Before, Bound, Id, List, Numeric, Span, Unbounded, VersionValue, [], codes}
-use Rattle.nodejs_semver.proofs.Common.{denotes, from_boundary, is_boundary, list_len, lowest, partial_front, range_text, refl}
-use Rattle.nodejs_semver.proofs.Common.{release_value, space_len, table, word_at, words_within, ℕ, ◌∷◌, ◌≡◌, component_front, after_spaces}
-use Rattle.nodejs_semver.proofs.Common.{drop_end_spaces, cut_bars, runs_from}
-use Rattle.semver_core.specs.Text.Identifiers.{listed}
-use Rattle.nodejs_semver.specs.Internal.Fronts.{build_front, dotted_front, number_of, pre_release_front}
-use Rattle.std.specs.Fmt.{digits}
+use Rattle.nodejs_semver.proofs.Common.{After, AlphaNumeric, Before, Bound, Id, List, Numeric, Span, Unbounded, VersionValue, [], after_spaces, codes}
+use Rattle.nodejs_semver.proofs.Common.{component_front, cut_bars, denotes, drop_end_spaces, from_boundary, is_boundary, list_len, lowest}
+use Rattle.nodejs_semver.proofs.Common.{partial_front, range_text, refl, release_value, runs_from, space_len, table, word_at, words_within, ℕ, ◌∷◌}
+use Rattle.{nodejs_semver.proofs.Common.◌≡◌, semver_core.specs.Internal.Fronts.{build_front, dotted_front, number_of, pre_release_front}}
+use Rattle.{semver_core.specs.Text.Identifiers.listed, std.specs.Fmt.digits}
 
 -- M.m.p with these lists
 version : ℕ → ℕ → ℕ → List Id → List Id → VersionValue

@@ -1,13 +1,14 @@
 -- Statement: the words of a range text that mean nothing, with their places and kinds.
-use Rattle.std.specs.Prelude.{◌≡◌, ℕ, ◌+◌, ◌-◌, true, false, if◌then◌else◌, List, [], ◌∷◌, ◌++◌, Option}
-use Rattle.std.specs.Prelude.{Some, None, encode_utf8_all, is_none, is_some, length}
+use Rattle.std.specs.Prelude.{◌≡◌, ℕ, ◌+◌, ◌-◌, true, false, if◌then◌else◌, List, [], ◌∷◌, ◌++◌, Option, Some}
+use Rattle.std.specs.Prelude.{None, encode_utf8_all, is_none, is_some, length}
 use Rattle.std.specs.List.{AllByRecursion, AllZip, filter, list_all}
 use Rattle.semver_core.specs.Lists.{is_empty}
 use Rattle.semver_core.specs.Text.Characters.{IsTrim}
-use Rattle.nodejs_semver.specs.Text.Bars.{IsCutAtBars}
+use Rattle.semver_core.specs.Text.Bars.{IsCutAtBars}
 use Rattle.nodejs_semver.specs.Text.Meaning.{HasWords}
 use Rattle.nodejs_semver.specs.Text.Table.{table}
-use Rattle.nodejs_semver.specs.Text.WordText.{IsWordAt, SkipsBlank, Word, malformed}
+use Rattle.nodejs_semver.specs.Text.WordText.{IsWordAt, Word, malformed}
+use Rattle.semver_core.specs.Text.Boundaries.{SkipsBlank}
 use Rattle.nodejs_semver.specs.declared.diagnosis.ranges.IgnoredKind.{IgnoredKind}
 use Rattle.nodejs_semver.specs.declared.diagnosis.ranges.IgnoredKind.TheVariants.{Malformed, WithoutBounds}
 use Rattle.nodejs_semver.specs.declared.diagnosis.ranges.IgnoredWord.{IgnoredWord}

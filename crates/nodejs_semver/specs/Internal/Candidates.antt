@@ -1,6 +1,6 @@
 -- For proofs and private contracts: the versions among which the least ones are found.
-use Rattle.std.specs.Prelude.{◌≡◌, ◌+◌, Bool, true, false, ◌&&◌, not, List, [], ◌∷◌, ◌++◌}
-use Rattle.std.specs.Prelude.{if◌then◌else◌, Option, Some, None, fold, ⊤, ◌<◌, ◌^◌, ◌-◌, ◌⊎◌}
+use Rattle.std.specs.Prelude.{◌≡◌, ◌+◌, Bool, true, false, ◌&&◌, not, List, [], ◌∷◌, ◌++◌, if◌then◌else◌}
+use Rattle.std.specs.Prelude.{Option, Some, None, fold, ⊤, ◌<◌, ◌^◌, ◌-◌, ◌⊎◌}
 use Rattle.std.specs.List.{Any, flat_map, list_all}
 use Rattle.std.specs.Ordering.{is_le}
 use Rattle.semver_core.specs.Internal.Sides.{Near, Far}
@@ -11,7 +11,8 @@ use Rattle.semver_core.specs.Values.Versions.{VersionValue, is_release}
 use Rattle.semver_core.specs.declared.cuts.bound.Bound.{Bound}
 use Rattle.semver_core.specs.declared.cuts.bound.Bound.TheVariants.{Unbounded, Before, After}
 use Rattle.semver_core.specs.Lists.{is_empty}
-use Rattle.nodejs_semver.specs.Ranges.Gate.{accepts, lets_in}
+use Rattle.nodejs_semver.specs.Ranges.Gate.{accepts}
+use Rattle.semver_core.specs.Values.Gate.{lets_in}
 use Rattle.nodejs_semver.specs.Ranges.Least.{IsLeastOf, beyond, least_build}
 
 -- the versions without a build that come first somewhere

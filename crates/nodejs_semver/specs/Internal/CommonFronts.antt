@@ -1,11 +1,13 @@
 -- For proofs and private contracts. What of a common range text stands at the front of a text, read from the left.
-use Rattle.std.specs.Prelude.{ℕ, zero, suc, ◌==◌, ◌&&◌, ◌||◌, Bool, false, List, [], ◌∷◌, ◌++◌, length, drop, Option, Some, None, if◌then◌else◌}
+use Rattle.std.specs.Prelude.{ℕ, zero, suc, ◌==◌, ◌&&◌, ◌||◌, Bool, false, List, [], ◌∷◌, ◌++◌, length, drop}
+use Rattle.std.specs.Prelude.{Option, Some, None, if◌then◌else◌}
 use Rattle.semver_core.specs.Text.Characters.{begins}
 use Rattle.semver_core.specs.Cuts.{Span, interval, meet}
 use Rattle.semver_core.specs.Values.Order.{precedence}
 use Rattle.semver_core.specs.Lists.{is_empty}
 use Rattle.semver_core.specs.Values.Versions.{VersionValue}
-use Rattle.nodejs_semver.specs.Internal.Fronts.{after_byte, begins_byte, component_front, dotted_front, Front, minor_front}
+use Rattle.semver_core.specs.Internal.Fronts.{after_byte, begins_byte, component_front, dotted_front, Front}
+use Rattle.nodejs_semver.specs.Internal.Fronts.{minor_front}
 use Rattle.std.specs.List.{list_any}
 use Rattle.nodejs_semver.specs.Text.PartialText.{Partial}
 use Rattle.semver_core.specs.Internal.Reading.{◌>>?◌}

@@ -5,8 +5,8 @@ use Rattle.semver_core.specs.Cuts.{Span, interval}
 use Rattle.semver_core.specs.Values.Order.{precedence}
 use Rattle.semver_core.specs.Values.Versions.{VersionValue}
 use Rattle.nodejs_semver.specs.Internal.CommonFronts.{part_read}
-use Rattle.nodejs_semver.specs.Internal.Fronts.{Front}
-use Rattle.nodejs_semver.specs.Internal.Readings.{bounds_view, rest_view}
+use Rattle.semver_core.specs.Internal.Fronts.{Front}
+use Rattle.semver_core.specs.Internal.Views.{bounds_view, rest_view}
 use Rattle.semver_core.specs.declared.scan.pieces.bounds.Bounds.{Bounds}
 
 -- the interval of the bounds, where they make one, and what follows the word

@@ -6,7 +6,7 @@ use Rattle.semver_core.specs.Cuts.{Span}
 use Rattle.semver_core.specs.Values.Order.{precedence}
 use Rattle.semver_core.specs.Values.Versions.{VersionValue}
 use Rattle.semver_core.specs.Lists.{is_empty}
-use Rattle.nodejs_semver.specs.Internal.Parts.{parts}
+use Rattle.semver_core.specs.Internal.Parts.{parts}
 use Rattle.nodejs_semver.specs.Ranges.View.{any_version}
 use Rattle.nodejs_semver.specs.Text.Runs.{interval_of}
 use Rattle.nodejs_semver.specs.Internal.RunsFrom.{runs_of}

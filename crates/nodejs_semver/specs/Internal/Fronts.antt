@@ -1,26 +1,16 @@
 -- For proofs and private contracts. What stands at the front of a text, read from the left: a number, a component, a
 -- qualifier, a partial. `partial_front` gives the partial of `IsLongestPartial`.
-use Rattle.std.specs.Prelude.{ℕ, ◌==◌, ◌&&◌, ◌||◌, not, nat_le, Bool, List, [], ◌∷◌, take, drop}
-use Rattle.std.specs.Prelude.{Option, Some, None, if◌then◌else◌, take_while}
-use Rattle.std.specs.Char.{is_ascii_digit}
-use Rattle.std.specs.List.{list_all, prefix_len}
-use Rattle.std.specs.Str.Parse.{digits_value}
-use Rattle.semver_core.specs.Lists.{is_empty}
-use Rattle.std.specs.Borrow.{Bor}
-use Rattle.semver_core.specs.Internal.Reading.{◌>>?◌, list_len}
+use Rattle.std.specs.Prelude.{ℕ, List, []}
+use Rattle.std.specs.Prelude.{Option, Some, None}
+use Rattle.semver_core.specs.Internal.Reading.{◌>>?◌}
 use Rattle.nodejs_semver.specs.Text.PartialText.{Partial}
 use Rattle.semver_core.specs.Internal.Spaces.{drop_spaces}
 use Rattle.semver_core.specs.Text.Identifiers.{listed}
-use Rattle.semver_core.specs.Text.Characters.{is_identifier_char, begins}
 pub use Rattle.semver_core.specs.Internal.Fronts.{Front, after_byte, begins_byte, begins_identifier, begins_padded, begins_wildcard, front_view, is_wildcard}
 pub use Rattle.semver_core.specs.Internal.Fronts.{marked_list, number_front, split_list}
 unfoldable pub use Rattle.semver_core.specs.Internal.Fronts.{build_front, component_front, dotted_front, dotted_with, number_of, number_with}
 unfoldable pub use Rattle.semver_core.specs.Internal.Fronts.{pre_release_front, pre_release_with}
-
--- the text without an optional `v`
-abbrev pub drop_v : List ℕ → List ℕ
-drop_v [] = []
-drop_v (b ∷ rest) = if b == 118 then rest else b ∷ rest
+use Rattle.semver_core.specs.Internal.Fronts.{drop_v}
 
 abbrev pub patch_front : Option ℕ → Option ℕ → List ℕ → Front (Option ℕ) → Partial × List ℕ
 patch_front major minor text None =

@@ -1,12 +1,12 @@
 -- For proofs and private contracts. The ignored words of a range text, computed.
-use Rattle.std.specs.Prelude.{ℕ, zero, suc, ◌+◌, ◌-◌, false, List, [], ◌∷◌, ◌++◌, Option, Some, None, length, Result}
+use Rattle.std.specs.Prelude.{ℕ, zero, suc, ◌+◌, ◌-◌, false, List, [], ◌∷◌, ◌++◌, Option, Some, None, length}
+use Rattle.std.specs.Prelude.{Result}
 use Rattle.std.specs.Borrow.{Bor}
 use Rattle.semver_core.specs.Internal.Spaces.{drop_spaces, trim}
 use Rattle.semver_core.specs.declared.TheConstants.{MAX_SAFE_INTEGER}
 use Rattle.nodejs_semver.specs.Diagnosis.IgnoredWords.{if_ignored, ignored_as}
-use Rattle.nodejs_semver.specs.Internal.PartFronts.{left_over}
-use Rattle.nodejs_semver.specs.Internal.Parts.{cut_bars}
-use Rattle.nodejs_semver.specs.Internal.Readings.{rest_view}
+use Rattle.semver_core.specs.Internal.Parts.{left_over, cut_bars}
+use Rattle.semver_core.specs.Internal.Views.{rest_view}
 use Rattle.nodejs_semver.specs.Internal.Words.{word_at}
 use Rattle.nodejs_semver.specs.Text.Table.{table}
 use Rattle.semver_core.specs.Cuts.{Span}

@@ -5,7 +5,7 @@ use Rattle.semver_core.specs.Cuts.{Span, holds}
 use Rattle.semver_core.specs.Values.Order.{precedence}
 use Rattle.semver_core.specs.Values.Versions.{VersionValue}
 use Rattle.nodejs_semver.specs.Ranges.Unions.{says_all}
-use Rattle.nodejs_semver.specs.Ranges.Gate.{lets_in}
+use Rattle.semver_core.specs.Values.Gate.{lets_in}
 use Rattle.nodejs_semver.specs.Ranges.View.{span_of}
 
 -- one of these spans says all of t

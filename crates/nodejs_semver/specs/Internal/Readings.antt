@@ -1,22 +1,23 @@
 -- For proofs and private contracts. What the readers give, seen without places in memory.
+use Rattle.nodejs_semver.specs.Text.PartialText as Spec
+use Rattle.nodejs_semver.specs.Text.WordText as WordSpec
+use Rattle.nodejs_semver.specs.Internal.Words as SignSpec
+use Rattle.nodejs_semver.specs.declared.readers.syntax.Sign.TheVariants as Signs
 use Rattle.std.specs.Prelude.{ℕ, Bool, List, Option, Some, None}
 use Rattle.std.specs.Borrow.{Bor}
 use Rattle.semver_core.specs.Text.Identifiers.{listed}
 use Rattle.semver_core.specs.Cuts.{Span}
 use Rattle.semver_core.specs.Values.Versions.{VersionValue}
-use Rattle.nodejs_semver.specs.Internal.Fronts.{Front}
-use Rattle.nodejs_semver.specs.Text.PartialText as Spec
-use Rattle.nodejs_semver.specs.Text.WordText as WordSpec
-use Rattle.nodejs_semver.specs.Internal.Words as SignSpec
+use Rattle.semver_core.specs.Internal.Fronts.{Front}
 use Rattle.nodejs_semver.specs.Internal.Words.{unsigned, compared, tilded, careted}
-use Rattle.nodejs_semver.specs.Text.WordText.{at_least, above, equal, at_most, below}
+use Rattle.semver_core.specs.Text.Comparators.{at_least, above, equal, at_most, below}
 use Rattle.semver_core.specs.declared.scan.pieces.bounds.Bounds.{Bounds}
 use Rattle.nodejs_semver.specs.declared.readers.syntax.Partial.{Partial}
 use Rattle.semver_core.specs.declared.scan.pieces.bounds.Comparator.{Comparator}
-use Rattle.semver_core.specs.declared.scan.pieces.bounds.Comparator.TheVariants.{AtLeast, Above, Equal, AtMost, Below}
+use Rattle.semver_core.specs.declared.scan.pieces.bounds.Comparator.TheVariants.{AtLeast, Above, Equal}
+use Rattle.semver_core.specs.declared.scan.pieces.bounds.Comparator.TheVariants.{AtMost, Below}
 use Rattle.nodejs_semver.specs.declared.readers.syntax.Sign.{Sign}
-use Rattle.nodejs_semver.specs.declared.readers.syntax.Sign.TheVariants as Signs
-pub use Rattle.semver_core.specs.Internal.Views.{bounds_view, comparator_view, pair_view, part_view, rest_view}
+use Rattle.semver_core.specs.Internal.Views.{bounds_view, comparator_view}
 
 abbrev pub partial_view : Partial → Spec.Partial
 partial_view p =

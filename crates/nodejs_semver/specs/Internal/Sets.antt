@@ -1,6 +1,6 @@
 -- For proofs and private contracts: the intervals of ranges, and the lists of the set operations over any order. No list stands
 -- for the empty set.
-use Rattle.std.specs.Prelude.{◌≡◌, ◌<◌, ◌⊎◌, ℕ, ◌==◌, ◌&&◌, Bool, true, List, [], length, Option, unwrap_or}
+use Rattle.std.specs.Prelude.{◌≡◌, ◌<◌, ◌⊎◌, ℕ, ◌&&◌, Bool, true, List, [], length, Option, unwrap_or}
 use Rattle.std.specs.List.{flat_map, fold, list_any}
 use Rattle.std.specs.Option.{option_to_list}
 use Rattle.std.specs.Ordering.{eq_of_both, on}
@@ -12,7 +12,7 @@ use Rattle.nodejs_semver.specs.Printing.Text.{bounds_text}
 use Rattle.nodejs_semver.specs.Ranges.Algebra.{list_holds}
 use Rattle.nodejs_semver.specs.Internal.Shorthands.{remainder}
 use Rattle.nodejs_semver.specs.Ranges.Gate.{accepts}
-use Rattle.nodejs_semver.specs.Ranges.View.{is_range_bound}
+use Rattle.semver_core.specs.Values.Gate.{is_range_bound}
 
 abbrev pub option_list_holds : {V : Type 0} → (V → V → Ordering) → Option (List (Span V)) → V → Bool
 option_list_holds R found v = list_holds R (unwrap_or found []) v
@@ -25,10 +25,6 @@ meets_of R ss ts = flat_map (λ s. flat_map (λ t. option_to_list (meet R s t)) 
 
 abbrev pub minus : {V : Type 0} → (V → V → Ordering) → List (Span V) → List (Span V) → List (Span V)
 minus R ss ts = fold (λ left t. flat_map (λ s. remainder R s t) left) ss ts
-
--- the versions have the same three numbers
-abbrev pub same_triple : VersionValue → VersionValue → Bool
-same_triple v w = (v.major == w.major) && ((v.minor == w.minor) && (v.patch == w.patch))
 
 -- the lower cut is below the upper one, and both bounds are those of a range
 abbrev pub is_range_span : ℕ → Span VersionValue → Bool

@@ -1,22 +1,18 @@
 -- For proofs and private contracts: names for parts of definitions of the statement.
 use Rattle.std.specs.Borrow.{Bor}
 use Rattle.std.specs.Option.{option_map, option_to_list}
-use Rattle.std.specs.Prelude.{◌++◌, ℕ, ◌==◌, ◌&&◌, ◌||◌, not, if◌then◌else◌, Bool, List, [], Option, Some, None, map}
+use Rattle.std.specs.Prelude.{◌++◌, ℕ, ◌&&◌, ◌||◌, not, if◌then◌else◌, Bool, List, [], Option, Some, None}
+use Rattle.std.specs.Prelude.{map}
 use Rattle.std.specs.declared.cmp.Ordering.{Ordering}
 use Rattle.semver_core.specs.Cuts.{Span, has_bound, is_past, lower_cut, passes, remainders, upper_cut}
 use Rattle.semver_core.specs.Printing.RoundTrip.{is_within}
 use Rattle.semver_core.specs.Text.Identifiers.{Id}
 use Rattle.semver_core.specs.Values.Order.{precedence, version_eq}
-use Rattle.semver_core.specs.Values.Versions.{VersionValue, is_release}
+use Rattle.semver_core.specs.Values.Versions.{VersionValue}
 use Rattle.semver_core.specs.declared.cuts.bound.Bound.{Bound}
-use Rattle.nodejs_semver.specs.Ranges.Gate.{lets_in}
+use Rattle.semver_core.specs.Values.Gate.{lets_in}
 use Rattle.nodejs_semver.specs.Ranges.Outside.{is_bounded}
 use Rattle.nodejs_semver.specs.Ranges.View.{span_of}
-
--- the version of the bound is a pre-release of the same three numbers as v
-abbrev pub names : Bound VersionValue → VersionValue → Bool
-names b v = passes (λ w. not (is_release w)
-    && ((w.major == v.major) && ((w.minor == v.minor) && (w.patch == v.patch)))) b
 
 -- the value of a version that is borrowed, if there is one
 abbrev pub value_of : {V : Type 0} → (V → VersionValue) → Option (Bor V) → Option VersionValue

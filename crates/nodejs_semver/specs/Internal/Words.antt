@@ -1,13 +1,15 @@
 -- For proofs and private contracts. The words of a part, computed: a word is read from its sign on. `word_at` gives the word of
 -- `IsWordAt`.
-use Rattle.std.specs.Prelude.{ℕ, zero, suc, ◌==◌, ◌||◌, nat_lt, Bool, true, false, List, [], ◌∷◌}
-use Rattle.std.specs.Prelude.{length, Option, Some, None, if◌then◌else◌}
+use Rattle.std.specs.Prelude.{ℕ, zero, suc, ◌==◌, ◌||◌, nat_lt, Bool, true, false, List, [], ◌∷◌, length}
+use Rattle.std.specs.Prelude.{Option, Some, None, if◌then◌else◌}
 use Rattle.semver_core.specs.Internal.Spaces.{drop_spaces, space_len}
 use Rattle.semver_core.specs.Lists.{is_empty}
 use Rattle.nodejs_semver.specs.Text.PartialText.{Partial}
-use Rattle.nodejs_semver.specs.Internal.Fronts.{Front, after_byte, partial_front}
+use Rattle.semver_core.specs.Internal.Fronts.{Front, after_byte}
+use Rattle.nodejs_semver.specs.Internal.Fronts.{partial_front}
 use Rattle.semver_core.specs.Internal.Reading.{◌>>?◌}
-use Rattle.nodejs_semver.specs.Text.WordText.{Comparator, at_least, above, equal, at_most, below, Word, hyphen, plain, compare, tilde, caret, malformed}
+use Rattle.semver_core.specs.Text.Comparators.{Comparator, at_least, above, equal, at_most, below}
+use Rattle.nodejs_semver.specs.Text.WordText.{Word, hyphen, plain, compare, tilde, caret, malformed}
 pub use Rattle.semver_core.specs.Internal.Boundaries.{after_some_space}
 unfoldable pub use Rattle.semver_core.specs.Internal.Boundaries.{from_boundary, is_boundary}
 

@@ -5,7 +5,7 @@ use Rattle.semver_core.specs.Lists.{is_empty}
 use Rattle.semver_core.specs.Values.Order.{precedence}
 use Rattle.semver_core.specs.Values.Versions.{VersionValue}
 use Rattle.nodejs_semver.specs.Internal.Denotes.{part_bounds}
-use Rattle.nodejs_semver.specs.Internal.Parts.{parts}
+use Rattle.semver_core.specs.Internal.Parts.{parts}
 use Rattle.nodejs_semver.specs.Internal.RunsFrom.{runs_of}
 use Rattle.nodejs_semver.specs.Text.WrittenSet.{run_writes}
 

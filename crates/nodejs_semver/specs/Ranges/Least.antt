@@ -9,7 +9,8 @@ use Rattle.semver_core.specs.Values.Order.{precedence, version_eq}
 use Rattle.semver_core.specs.Values.Versions.{VersionValue, is_release}
 use Rattle.semver_core.specs.declared.cuts.bound.Bound.{Bound}
 use Rattle.semver_core.specs.declared.cuts.bound.Bound.TheVariants.{Unbounded, Before, After}
-use Rattle.nodejs_semver.specs.Ranges.Gate.{lets_in, accepts}
+use Rattle.semver_core.specs.Values.Gate.{lets_in}
+use Rattle.nodejs_semver.specs.Ranges.Gate.{accepts}
 
 -- the result is the least version of the set, or it is None and the set is empty
 abbrev pub IsLeastOf : (VersionValue → Bool) → Option VersionValue → Type 0

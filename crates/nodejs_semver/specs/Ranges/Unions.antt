@@ -4,7 +4,7 @@ use Rattle.std.specs.List.{list_any}
 use Rattle.semver_core.specs.Cuts.{Span, covers, has_bound}
 use Rattle.semver_core.specs.Values.Order.{precedence}
 use Rattle.semver_core.specs.Values.Versions.{VersionValue}
-use Rattle.nodejs_semver.specs.Ranges.Gate.{lets_in}
+use Rattle.semver_core.specs.Values.Gate.{lets_in}
 
 -- t accepts nothing that s does not accept: s lets in the versions of t's bounds, and so every pre-release
 -- that t lets in

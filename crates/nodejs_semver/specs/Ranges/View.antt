@@ -1,5 +1,5 @@
 -- Statement: what every range is.
-use Rattle.std.specs.Prelude.{◌≡◌, ◌+◌, ◌<◌, ◌⊎◌, ◌&&◌, ℕ, Bool, true, List, [], ◌∷◌, length}
+use Rattle.std.specs.Prelude.{◌≡◌, ◌+◌, ◌<◌, ◌⊎◌, ◌&&◌, ℕ, true, List, [], ◌∷◌, length}
 use Rattle.std.specs.List.{list_all, list_any}
 use Rattle.semver_core.specs.Cuts.{Span, has_bound, is_interval}
 use Rattle.semver_core.specs.Values.Memory.{takes_memory}
@@ -7,11 +7,7 @@ use Rattle.semver_core.specs.Values.Order.{precedence}
 use Rattle.semver_core.specs.Values.Versions.{VersionValue}
 use Rattle.semver_core.specs.declared.cuts.bound.Bound.{Bound}
 use Rattle.semver_core.specs.declared.cuts.bound.Bound.TheVariants.{Unbounded, Before, After}
-use Rattle.semver_core.specs.Printing.RoundTrip.{is_readable}
-
--- numbers up to the limit, and identifiers in normal form
-abbrev pub is_range_bound : ℕ → Bound VersionValue → Bool
-is_range_bound limit b = elim b [ Before v ↦ is_readable limit v | After v ↦ is_readable limit v | _ ↦ true ]
+use Rattle.semver_core.specs.Values.Gate.{is_range_bound}
 
 -- the bound and the span of the values of versions, whatever holds these
 abbrev pub bound_of : {V : Type 0} → (V → VersionValue) → Bound V → Bound VersionValue

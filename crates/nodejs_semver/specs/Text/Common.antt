@@ -7,7 +7,8 @@ use Rattle.semver_core.specs.Values.Order.{precedence}
 use Rattle.semver_core.specs.Values.Versions.{VersionValue}
 use Rattle.nodejs_semver.specs.Text.PartialText.{Partial, AreComponents}
 use Rattle.nodejs_semver.specs.Text.Table.{table}
-use Rattle.nodejs_semver.specs.Text.WordText.{Comparator, Word, caret, compare, hyphen, plain, tilde, IsSign}
+use Rattle.semver_core.specs.Text.Comparators.{Comparator}
+use Rattle.nodejs_semver.specs.Text.WordText.{Word, caret, compare, hyphen, plain, tilde, IsSign}
 
 -- a comparator and a partial, with neither `v` nor whitespace in front of the partial
 pub data IsComparison (limit : ℕ) : List ℕ → Word → Type 0 where

@@ -6,11 +6,12 @@ use Rattle.semver_core.specs.Text.Characters.{IsBlank, IsTrim}
 use Rattle.semver_core.specs.Cuts.{Span}
 use Rattle.semver_core.specs.Values.Order.{precedence}
 use Rattle.semver_core.specs.Values.Versions.{VersionValue}
-use Rattle.nodejs_semver.specs.Text.Bars.{IsCutAtBars}
+use Rattle.semver_core.specs.Text.Bars.{IsCutAtBars}
 use Rattle.nodejs_semver.specs.Ranges.View.{any_version}
 use Rattle.nodejs_semver.specs.Text.Runs.{AreRuns, Run, interval_of}
 use Rattle.nodejs_semver.specs.Text.Table.{table}
-use Rattle.nodejs_semver.specs.Text.WordText.{IsWordAt, SkipsBlank, Word}
+use Rattle.nodejs_semver.specs.Text.WordText.{IsWordAt, Word}
+use Rattle.semver_core.specs.Text.Boundaries.{SkipsBlank}
 
 -- the words of a part, from the left, without the whitespace behind each
 pub data AreWords (limit : ℕ) : List ℕ → List Word → Type 0 where

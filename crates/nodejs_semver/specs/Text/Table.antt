@@ -2,30 +2,15 @@
 -- numbers of the word's partial, where `None` is a component that is absent or a wildcard and `_` is any. V
 -- is the version of the partial, with 0 for such components, and MAX the greatest number that a text may
 -- write.
-use Rattle.std.specs.Prelude.{ℕ, zero, ◌+◌, false, [], ◌∷◌, Option, Some, None, unwrap_or}
+use Rattle.std.specs.Prelude.{ℕ, zero, ◌+◌, false, [], Option, Some, None, unwrap_or}
 use Rattle.semver_core.specs.Cuts.{Span, interval}
-use Rattle.semver_core.specs.declared.cuts.bound.Bound.TheVariants.{Unbounded, Before, After}
-use Rattle.semver_core.specs.Text.Identifiers.{Numeric}
 use Rattle.semver_core.specs.Values.Order.{precedence}
 use Rattle.semver_core.specs.Values.Versions.{VersionValue, release_value}
 use Rattle.nodejs_semver.specs.Text.PartialText.{Partial}
-use Rattle.nodejs_semver.specs.Text.WordText.{at_least, above, equal, at_most, below, Word, hyphen, plain}
-use Rattle.nodejs_semver.specs.Text.WordText.{compare}
-use Rattle.nodejs_semver.specs.Text.WordText.{tilde, caret, malformed}
+use Rattle.semver_core.specs.Text.Comparators.{at_least, above, equal, at_most, below}
+use Rattle.nodejs_semver.specs.Text.WordText.{Word, hyphen, plain, compare, tilde, caret, malformed}
 pub use Rattle.semver_core.specs.Values.Versions.{lowest}
-
--- the versions that one comparator lets in, and those that two do
-abbrev pub >= : VersionValue → Span VersionValue
->= v = record { lower = Before v; upper = Unbounded }
-
-abbrev pub > : VersionValue → Span VersionValue
-> v = record { lower = After v; upper = Unbounded }
-
-abbrev pub < : VersionValue → Span VersionValue
-< v = record { lower = Unbounded; upper = Before v }
-
-abbrev pub <= : VersionValue → Span VersionValue
-<= v = record { lower = Unbounded; upper = After v }
+use Rattle.semver_core.specs.Values.Spans.{<, >, <=, >=}
 
 infix 5 ◌&◌
 abbrev pub ◌&◌ : Span VersionValue → Span VersionValue → Span VersionValue

@@ -8,7 +8,7 @@ use Rattle.semver_core.specs.declared.cuts.bound.Bound.TheVariants.{Unbounded, B
 use Rattle.semver_core.specs.Text.Characters.{IsBlank}
 use Rattle.semver_core.specs.Values.Order.{precedence}
 use Rattle.semver_core.specs.Values.Versions.{VersionValue}
-use Rattle.nodejs_semver.specs.Text.Bars.{IsCutAtBars}
+use Rattle.semver_core.specs.Text.Bars.{IsCutAtBars}
 use Rattle.nodejs_semver.specs.Text.Meaning.{HasRuns}
 use Rattle.nodejs_semver.specs.Text.Runs.{Run}
 

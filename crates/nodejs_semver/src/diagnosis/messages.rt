@@ -1,25 +1,11 @@
 // How flaws and ignored words print.
 
-ghost use Rattle.std.specs.Prelude.{◌++◌};
-ghost use Rattle.nodejs_semver.specs.Words.{decimal, DisplaysStyledOnOk, flaw_text, Some};
+ghost use Rattle.nodejs_semver.specs.Words.{flaw_text, Some};
 ghost use Rattle.nodejs_semver.specs.Words.{word_text};
 
 use crate::diagnosis::{Expected, IgnoredKind, IgnoredWord, VersionFlaw};
-use itoa::Buffer;
+use semver_core::scan::pieces::write_at;
 use std::fmt;
-
-/// Writes a message and a place.
-pub(crate) fn write_at<W: fmt::Write>(
-    message: &str,
-    at: usize,
-    f: &mut fmt::Formatter<W>,
-) -> fmt::Result
-    ensures { DisplaysStyledOnOk W.write_str_gives f.old result
-        (Some (message.now ++ decimal at)) f.new }
-{
-    f.write_str(message)?;
-    f.write_str(Buffer::new().format(at))
-}
 
 /// A flaw prints as a message with its place, as in `expected a digit at byte 2`. Width, fill and
 /// precision change nothing.

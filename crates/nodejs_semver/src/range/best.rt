@@ -215,7 +215,9 @@ pub fn newest_release<W: Versioned>(versions: &[W]) -> Option<&W>
 }
 
 /// The last of the greatest of the versions that the intervals accept.
-pub(crate) fn greatest<'v, V: VersionPoint, W: Versioned>(
+///
+/// This is for the crates of this repository.
+pub fn greatest<'v, V: VersionPoint, W: Versioned>(
     intervals: &[Interval<V>],
     include: bool,
     versions: &'v [W],
@@ -233,7 +235,9 @@ pub(crate) fn greatest<'v, V: VersionPoint, W: Versioned>(
 }
 
 /// The smallest of the versions that the intervals accept; on a tie, the first.
-pub(crate) fn least<'v, V: VersionPoint, W: Versioned>(
+///
+/// This is for the crates of this repository.
+pub fn least<'v, V: VersionPoint, W: Versioned>(
     intervals: &[Interval<V>],
     include: bool,
     versions: &'v [W],

@@ -86,7 +86,7 @@ pub(crate) fn accepts_one<V: VersionPoint, W: Versioned>(
 
 // Whether the version lies past the cut of the lower bound.
 #[inline(always)]
-#[tactic(auto, using(crate::proofs::Values::past_named))]
+#[tactic(auto, using(semver_core::proofs::Gate::past_named))]
 pub(crate) fn is_past_lower<V: Versioned, W: Versioned>(bound: &Bound<V>, version: &W) -> bool
     ensures { result
         ≡ is_past precedence (lower_cut (bound_of V.value bound.now)) (W.value version.now) }
@@ -100,7 +100,7 @@ pub(crate) fn is_past_lower<V: Versioned, W: Versioned>(bound: &Bound<V>, versio
 
 // Whether the version lies past the cut of the upper bound.
 #[inline(always)]
-#[tactic(auto, using(crate::proofs::Values::past_named))]
+#[tactic(auto, using(semver_core::proofs::Gate::past_named))]
 pub(crate) fn is_past_upper<V: Versioned, W: Versioned>(bound: &Bound<V>, version: &W) -> bool
     ensures { result
         ≡ is_past precedence (upper_cut (bound_of V.value bound.now)) (W.value version.now) }

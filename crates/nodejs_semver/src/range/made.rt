@@ -3,7 +3,7 @@
 ghost use Rattle.std.specs.Prelude.{◌≡◌, ◌+◌, ◌↔◌, IfErr};
 ghost use Rattle.nodejs_semver.specs.Words.{bound_of, IfOk, is_range_span, IsOk, IsRange, list_all};
 ghost use Rattle.nodejs_semver.specs.Words.{map, MAX_SAFE_INTEGER, span_of};
-ghost use Rattle.nodejs_semver.specs.Ranges.View.{is_range_bound};
+ghost use Rattle.semver_core.specs.Values.Gate.{is_range_bound};
 
 use crate::{MAX_SAFE_INTEGER, RangeOf, VersionPoint};
 use semver_core::cuts::{Bound, Interval};

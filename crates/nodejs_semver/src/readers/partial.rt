@@ -12,7 +12,7 @@ use semver_core::scan::pieces::{build_front, dotted_front, pre_release_front, sk
 
 // The partial at the front whose major and minor components were read.
 #[inline(always)]
-#[tactic(auto, using(crate::proofs::Reading::IdentifierLists::short_lists))]
+#[tactic(auto, using(semver_core::proofs::Reading::IdentifierLists::short_lists))]
 fn patch_front(major: Option<u64>, minor: Option<u64>, text: &[u8]) -> (Partial<'_>, &[u8])
     requires major_small { ForSome major (λ n. n ≤ MAX_SAFE_INTEGER) }
     requires minor_small { ForSome minor (λ n. n ≤ MAX_SAFE_INTEGER) }
@@ -47,7 +47,7 @@ fn patch_front(major: Option<u64>, minor: Option<u64>, text: &[u8]) -> (Partial<
 
 /// The partial at the front whose major component was read.
 #[inline(always)]
-#[tactic(auto, using(crate::proofs::Reading::IdentifierLists::short_lists))]
+#[tactic(auto, using(semver_core::proofs::Reading::IdentifierLists::short_lists))]
 pub(crate) fn minor_front(major: Option<u64>, text: &[u8]) -> (Partial<'_>, &[u8])
     requires { ForSome major (λ n. n ≤ MAX_SAFE_INTEGER) }
     ensures { partial_pair_view result ≡ Spec.minor_front MAX_SAFE_INTEGER major text.now

@@ -27,7 +27,7 @@ fn version_of<'a>(partial: &Partial<'a>) -> VersionRef<'a>
 
 // The version of a partial, without its build.
 #[inline(always)]
-#[tactic(auto, using(crate::proofs::Reading::IdentifierLists::short_lists))]
+#[tactic(auto, using(semver_core::proofs::Reading::IdentifierLists::short_lists))]
 fn version_without_build<'a>(partial: &Partial<'a>) -> VersionRef<'a>
     ensures { result ≡ Spec.without_build (Spec.version_of (partial_view partial.now)) }
 {

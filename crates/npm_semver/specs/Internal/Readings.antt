@@ -4,7 +4,7 @@ use Rattle.semver_core.specs.Cuts.{Span}
 use Rattle.semver_core.specs.Failures.{NoValue}
 use Rattle.semver_core.specs.Values.Versions.{VersionValue}
 use Rattle.semver_core.specs.declared.TheConstants.{MAX_SAFE_INTEGER}
-use Rattle.nodejs_semver.specs.Npm.Ranges.{IsRangeIn}
+use Rattle.npm_reading.specs.Ranges.{IsRangeIn}
 use Rattle.nodejs_semver.specs.Ranges.Gate.{accepts}
 use Rattle.npm_semver.specs.Readings.{HasRange}
 use Rattle.npm_semver.specs.declared.reading.ReadOptions.{ReadOptions}

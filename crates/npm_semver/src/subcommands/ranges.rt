@@ -11,8 +11,8 @@ ghost use Rattle.npm_semver.specs.Subcommands.{Answers, AreRanges, IsRange, IsSh
 ghost use Rattle.npm_semver.specs.Internal.Said.{is_operation, operation_name, said};
 
 use crate::subcommands::replies::{Reply, Trouble, answer, bare, line};
-use nodejs_semver::npm::{self, Reading};
 use nodejs_semver::{Failure, RangeRef, Version};
+use npm_reading::Reading;
 use std::alloc::{AllocError, Global};
 
 /// Reads a range as npm does.
@@ -25,7 +25,7 @@ pub fn read_range(alloc: Global, text: &str) -> Result<RangeRef<'_>, Failure<Tro
         loose: false,
         include_prerelease: false,
     };
-    match npm::range(alloc, text, strict) {
+    match npm_reading::range(alloc, text, strict) {
         Ok(range) => Ok(range),
         Err(Failure::Refused(_)) => Err(Failure::Refused(Trouble::NoRange(text))),
         Err(Failure::Memory(error)) => Err(Failure::Memory(error)),

@@ -8,14 +8,14 @@ ghost use Rattle.semver_core.specs.Failures.{NoValue, RefusedOnlyIf};
 ghost use Rattle.semver_core.specs.Increments.Table.{answer_of_inc};
 ghost use Rattle.semver_core.specs.Increments.View.{fault_of};
 ghost use Rattle.semver_core.specs.declared.TheConstants.{MAX_SAFE_INTEGER};
-ghost use Rattle.nodejs_semver.specs.Npm.VersionText.{IsVersionText};
+ghost use Rattle.npm_words.specs.VersionText.{IsVersionText};
 ghost use Rattle.npm_semver.specs.Subcommands as Spec;
 ghost use Rattle.npm_semver.specs.Subcommands.{Answers, HasIdentifier, next_said, relation_of, say};
 ghost use Rattle.npm_semver.specs.Internal.Said.{relation, said};
 
 use crate::subcommands::replies::{Reply, Status, Trouble, answer, bare, line};
-use nodejs_semver::npm::{self, Reading};
 use nodejs_semver::{Failure, IncrementError, VersionDiff, VersionRef, Versioned};
+use npm_reading::Reading;
 use std::alloc::{AllocError, Global};
 use std::cmp::Ordering;
 
@@ -70,7 +70,7 @@ fn version(text: &str) -> Result<VersionRef<'_>, Failure<Trouble<'_>>>
         loose: false,
         include_prerelease: false,
     };
-    match npm::version(text, strict) {
+    match npm_reading::version(text, strict) {
         Ok(version) => Ok(version),
         Err(_) => Err(Failure::Refused(Trouble::NoVersion(text))),
     }

@@ -87,3 +87,8 @@ pre_release_with dash text = if not dash || begins_byte 45 text then pre_release
 -- the text of the build at the front, and what stands behind it
 unfoldable pub build_front : List ℕ → List ℕ × List ℕ
 build_front text = if begins_byte 43 text then marked_list text (drop 1 text) else ([], text)
+
+-- the text without an optional `v`
+abbrev pub drop_v : List ℕ → List ℕ
+drop_v [] = []
+drop_v (b ∷ rest) = if b == 118 then rest else b ∷ rest

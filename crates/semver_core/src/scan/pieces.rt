@@ -9,6 +9,7 @@ mod boundaries;
 mod bounds;
 mod found;
 mod fronts;
+mod messages;
 mod spaces;
 
 pub use crate::scan::pieces::bars::{after_bars, cut_part, next_part};
@@ -20,4 +21,5 @@ pub use crate::scan::pieces::fronts::{
     begins_padded, behind_dot, build_front, component_front, digits_len, dotted_front,
     dotted_number, list_front, marked_list, number_front, pre_release_front,
 };
+pub use crate::scan::pieces::messages::write_at;
 pub use crate::scan::pieces::spaces::{skip_spaces, space_len};

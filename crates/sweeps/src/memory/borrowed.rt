@@ -2,8 +2,8 @@
 
 use crate::memory::ample::Calls;
 use crate::memory::ranges::OTHERS;
-use nodejs_semver::npm::{self, Reading};
 use nodejs_semver::{RangeRef, VersionRef};
+use npm_reading::Reading;
 use std::alloc::{AllocError, Global};
 
 // A few words of `inc`.
@@ -32,12 +32,12 @@ fn about_version(
 
 /// Makes each call that may allocate on the range that borrows this text.
 pub fn ask_range(alloc: Global, calls: &mut Calls, text: &str) -> Result<(), AllocError> {
-    calls.tried(npm::range(alloc, text, Reading::default()))?;
+    calls.tried(npm_reading::range(alloc, text, Reading::default()))?;
     let loosely = Reading {
         loose: true,
         include_prerelease: false,
     };
-    calls.tried(npm::range(alloc, text, loosely))?;
+    calls.tried(npm_reading::range(alloc, text, loosely))?;
     match calls.answered(RangeRef::parse(alloc, text)) {
         Ok(Some(range)) => about(alloc, calls, &range),
         Ok(None) => Ok(()),

@@ -1,16 +1,8 @@
-use Rattle.std.proofs.Common.{refl, sym}
-use Rattle.std.specs.Prelude.{codes}
+use Rattle.nodejs_semver.specs.{Internal.{Fronts.partial_front, RunsFrom.runs_from, Words.{word_at, words_within}}, Text.Table.table}
+use Rattle.semver_core.specs.Internal.{Boundaries.{from_boundary, is_boundary}, Fronts.{build_front, component_front, dotted_front, number_of}}
+use Rattle.semver_core.specs.Internal.{Fronts.pre_release_front, Parts.cut_bars, Reading.list_len, Spaces.{after_spaces, drop_end_spaces, space_len}}
+use Rattle.{semver_core.specs.{Text.Identifiers.listed, declared.TheConstants.MAX_SAFE_INTEGER}, std.{proofs.Common.{refl, sym}, specs.Prelude.codes}}
 use lib.Utf8.{encode}
-use Rattle.semver_core.specs.declared.TheConstants.{MAX_SAFE_INTEGER}
-use Rattle.semver_core.specs.Internal.Spaces.{space_len, after_spaces, drop_end_spaces}
-use Rattle.semver_core.specs.Internal.Reading.{list_len}
-use Rattle.semver_core.specs.Text.Identifiers.{listed}
-use Rattle.nodejs_semver.specs.Internal.Fronts.{build_front, component_front, dotted_front}
-use Rattle.nodejs_semver.specs.Internal.Fronts.{number_of, partial_front, pre_release_front}
-use Rattle.nodejs_semver.specs.Internal.Parts.{cut_bars}
-use Rattle.nodejs_semver.specs.Internal.RunsFrom.{runs_from}
-use Rattle.nodejs_semver.specs.Text.Table.{table}
-use Rattle.nodejs_semver.specs.Internal.Words.{is_boundary, word_at, words_within, from_boundary}
 use Rattle.library_tests.proofs.tests.print.reread_range_gives_three_intervals.Goals as goal
 
 pub reread_range-requires : goal.reread_range-requires

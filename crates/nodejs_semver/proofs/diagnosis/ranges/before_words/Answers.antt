@@ -1,8 +1,6 @@
-use Rattle.nodejs_semver.proofs.Common.{◌-◌, List, ℕ, ◌∙◌, ap, arith, length, space_len, MAX_SAFE_INTEGER, rest_view, after_blank-place}
-use Rattle.nodejs_semver.proofs.Common.{middle_is_trim, IsUtf8, rules}
-use Rattle.std.proofs.lemmas.Str.{IsCharBoundary-start}
-use Rattle.nodejs_semver.proofs.{Reading.Bytes.{trim-starts}, Diagnosing.IgnoredParts.{all_step, part_ends, part_fits, sizes_of}}
-use Rattle.nodejs_semver.specs.Internal.Readings.{part_view}
+use Rattle.nodejs_semver.proofs.Common.{IsUtf8, List, MAX_SAFE_INTEGER, after_blank-place, ap, arith, length, middle_is_trim, rest_view, rules}
+use Rattle.nodejs_semver.proofs.{Common.{space_len, ℕ, ◌-◌, ◌∙◌}, Diagnosing.IgnoredParts.{all_step, part_ends, part_fits, sizes_of}}
+use Rattle.{semver_core.{proofs.Reading.Bytes.trim-starts, specs.Internal.Views.part_view}, std.proofs.lemmas.Str.IsCharBoundary-start}
 use Rattle.nodejs_semver.proofs.diagnosis.ranges.before_words.Goals as goal
 
 pub skip_whitespace-start-requires : goal.skip_whitespace-start-requires

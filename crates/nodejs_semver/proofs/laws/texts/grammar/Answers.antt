@@ -1,5 +1,5 @@
-use Rattle.nodejs_semver.proofs.{Dividing.BarsDivide.{bars_divide, bars_once}, Dividing.MeaningLaw.{words-law}}
-use Rattle.nodejs_semver.proofs.{Reading.Numbers.{numbers_are}, Reading.PartialLaw.{longest_are, partials_are}, Reading.WordLaw.{words_are}}
+use Rattle.nodejs_semver.proofs.{Dividing.MeaningLaw.words-law, Reading.{PartialLaw.{longest_are, partials_are}, WordLaw.words_are}}
+use Rattle.semver_core.proofs.{Dividing.BarsDivide.{bars_divide, bars_once}, Reading.Numbers.numbers_are}
 use Rattle.nodejs_semver.proofs.laws.texts.grammar.Goals as goal
 
 pub returns : goal.returns

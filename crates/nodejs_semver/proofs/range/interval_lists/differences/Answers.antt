@@ -1,5 +1,5 @@
-use Rattle.nodejs_semver.proofs.Common.{IfOk-weaker, arith, inl, inr, on_err, on_err_weaker, ◌∙◌}
-use Rattle.nodejs_semver.proofs.Algebra.{Differences.{minus-clips, along-gaps}, FlatMaps.{lone}}
+use Rattle.nodejs_semver.proofs.{Algebra.Differences.{along-gaps, minus-clips}, Common.{IfOk-weaker, arith, inl, inr, on_err, on_err_weaker, ◌∙◌}}
+use Rattle.semver_core.proofs.FlatMaps.{lone}
 use Rattle.nodejs_semver.proofs.range.interval_lists.differences.Goals as goal
 
 pub clipped-requires : goal.clipped-requires

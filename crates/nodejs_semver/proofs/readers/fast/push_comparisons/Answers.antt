@@ -1,8 +1,7 @@
-use Rattle.nodejs_semver.proofs.Common.{◌≡◌, rules, List, ℕ, sym, ap, ◌∙◌, true, refl, take_rest, Span, VersionValue}
-use Rattle.nodejs_semver.proofs.Common.{MAX_SAFE_INTEGER, Front, begins_second, comparison_front, comparisons_front, passed}
-use Rattle.nodejs_semver.proofs.Common.{word_read, IfOk, subst}
-use Rattle.nodejs_semver.specs.{Internal.CommonFronts.{part_read}, Internal.CommonViews.{bounds_front_view, passed_view}, Internal.Readings.{bounds_view}}
-use Rattle.nodejs_semver.proofs.Everyday.Parts.{first-read, none-second, second-read}
+use Rattle.nodejs_semver.proofs.Common.{Front, IfOk, List, MAX_SAFE_INTEGER, Span, VersionValue, ap, begins_second, comparison_front}
+use Rattle.nodejs_semver.proofs.Common.{comparisons_front, passed, refl, rules, subst, sym, take_rest, true, word_read, ℕ, ◌∙◌, ◌≡◌}
+use Rattle.nodejs_semver.{proofs.Everyday.Parts.{first-read, none-second, second-read}, specs.Internal.CommonFronts.part_read}
+use Rattle.{nodejs_semver.specs.Internal.CommonViews.{bounds_front_view, passed_view}, semver_core.specs.Internal.Views.bounds_view}
 use Rattle.nodejs_semver.proofs.readers.fast.push_comparisons.Goals as goal
 
 pub returns-in_default-clause-added : goal.returns-in_default-clause-added

@@ -1,5 +1,5 @@
-use Rattle.nodejs_semver.proofs.Common.{◌≡◌, ◌++◌, ◌∷◌, flat_map, MAX_SAFE_INTEGER, part_denotes, later_parts, rest_view}
-use Rattle.nodejs_semver.specs.Internal.PartFronts.{left_over}
+use Rattle.nodejs_semver.proofs.Common.{MAX_SAFE_INTEGER, flat_map, later_parts, part_denotes, rest_view, ◌++◌, ◌∷◌, ◌≡◌}
+use Rattle.semver_core.specs.Internal.Parts.{left_over}
 use Rattle.nodejs_semver.proofs.readers.loose.add_parts.Given as goal
 
 abbrev pub invariant-parts : goal.invariant-parts

@@ -1,5 +1,4 @@
-use Rattle.nodejs_semver.proofs.Common.{◌≡◌, list_all, is_empty, later_parts, rest_view}
-use Rattle.nodejs_semver.specs.Internal.PartFronts.{left_over}
+use Rattle.{nodejs_semver.proofs.Common.{is_empty, later_parts, list_all, rest_view, ◌≡◌}, semver_core.specs.Internal.Parts.left_over}
 use Rattle.nodejs_semver.proofs.readers.loose.are_blank.Given as goal
 
 abbrev pub invariant-parts : goal.invariant-parts

@@ -1,5 +1,4 @@
-use Rattle.nodejs_semver.proofs.{Common.rules, Reading.IdentifierLists.short_lists}
-use Rattle.semver_core.specs.Internal.Fronts.{pre_release_with}
+use Rattle.{nodejs_semver.proofs.Common.rules, semver_core.{proofs.Reading.IdentifierLists.short_lists, specs.Internal.Fronts.pre_release_with}}
 use Rattle.nodejs_semver.proofs.readers.partial.patch_front.Goals as goal
 
 pub returns : goal.returns

@@ -1,4 +1,0 @@
-pub mod Versions
-pub mod Coerced
-pub mod Lists
-pub mod Builds

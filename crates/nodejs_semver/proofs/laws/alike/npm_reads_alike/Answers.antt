@@ -1,5 +1,0 @@
-use Rattle.nodejs_semver.proofs.Alike.Texts as law
-use Rattle.nodejs_semver.proofs.laws.alike.npm_reads_alike.Goals as goal
-
-pub returns : goal.returns
-returns c = record { here = law.plain-read; there = law.plain-has; same = law.plain-same }

@@ -1,7 +1,0 @@
-use Rattle.nodejs_semver.proofs.{Common.Some, NpmCommon.AreRead, Strict.Rows.narrowed_read}
-use Rattle.nodejs_semver.proofs.npm.alternatives.Alternative.meet_read.Goals as goal
-
-pub returns-clause-narrowed : goal.returns-clause-narrowed
-returns-clause-narrowed c include cs h =
-    let read : AreRead include cs (Some c.in_ok-read.field-0) = rw c.in_ok-read.was at h in
-    narrowed_read include c.args.self.interval cs c.in_ok-read.field-0 c.narrow.result read c.narrow.ensures.bounds

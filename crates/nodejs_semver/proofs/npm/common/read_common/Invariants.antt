@@ -1,8 +1,0 @@
-use Rattle.nodejs_semver.proofs.{Common.length, Strict.CommonReads.Reaches}
-use Rattle.nodejs_semver.proofs.npm.common.read_common.Given as goal
-
-abbrev pub invariant-parts : goal.invariant-parts
-invariant-parts l = Reaches l.include l.text l.found.items l.rest
-
-abbrev pub decreases-parts : goal.decreases-parts
-decreases-parts l = length l.rest

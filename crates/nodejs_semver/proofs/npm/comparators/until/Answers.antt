@@ -1,9 +1,0 @@
-use Rattle.nodejs_semver.proofs.{Common.{sym, ◌∙◌}, Strict.Rows.{until_common, until_valid}}
-use Rattle.nodejs_semver.proofs.npm.comparators.until.Goals as goal
-
-pub returns-then-within : goal.returns-then-within
-returns-then-within c include d valid common = (
-  until_valid d c.args.end valid (sym c.within.ensures ∙ c.if-within.true),
-  rw c.lowest.ensures (until_common include d c.args.lower c.args.end
-      (sym c.within.ensures ∙ c.if-within.true) common),
-)

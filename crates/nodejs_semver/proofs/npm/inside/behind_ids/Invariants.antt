@@ -1,8 +1,0 @@
-use Rattle.nodejs_semver.{proofs.Common.{length, ◌≡◌}, specs.Internal.NpmInside.behind_ids}
-use Rattle.nodejs_semver.proofs.npm.inside.behind_ids.Given as goal
-
-abbrev pub invariant-ids : goal.invariant-ids
-invariant-ids l = behind_ids (length l.text) l.strict l.text ≡ behind_ids (length l.left) l.strict l.left
-
-abbrev pub decreases-ids : goal.decreases-ids
-decreases-ids l = length l.left

@@ -1,8 +1,0 @@
-use Rattle.nodejs_semver.proofs.{Common.{arith, nat_tests, sym}, Strict.PartialLaw.great_placed}
-use Rattle.nodejs_semver.proofs.npm.places.great_place.Goals as goal
-
-pub returns : goal.returns
-returns c =
-    sym (great_placed c.args.loose c.args.text.now c.digits_len-len.result c.requires.no_number c.requires.no_wildcard c.requires.spelled
-    c.digits_len-len.ensures.value (omega (arith, c.if-len-eq0.false))
-    (grind (arith, nat_tests)))

@@ -1,8 +1,0 @@
-use Rattle.nodejs_semver.proofs.{Common.rest_view, NpmCommon.left_over, NpmFlaws.Ranges.Passed}
-use Rattle.nodejs_semver.proofs.npm.range_flaws.range_flaw.Given as goal
-
-abbrev pub invariant-pieces : goal.invariant-pieces
-invariant-pieces l = Passed l.include_prerelease l.text (rest_view l.rest)
-
-abbrev pub decreases-pieces : goal.decreases-pieces
-decreases-pieces l = left_over (rest_view l.rest)

@@ -1,0 +1,4 @@
+pub mod CommonReads
+pub mod RangeReads
+pub mod Rows
+pub mod WordLoop

@@ -1,0 +1,395 @@
+-- The alternatives of a range text, read one after another, and what their intervals accept.
+use Rattle.nodejs_semver.proofs.Common.{Beside, Bool, Bor, Err, Failure, IfSome, IsCutAtBars, IsRange, IsUtf8, List, MAX_SAFE_INTEGER, Memory}
+use Rattle.nodejs_semver.proofs.Common.{MemoryOnlyIf, None, Ok, Option, Refused, Result, Some, Span, VersionValue, [], accepts, and-false, and_parts}
+use Rattle.nodejs_semver.proofs.Common.{any_version, any_weaker, ap, append-nil, append_assoc, arith, cases_Bool, common_steps, cond_both, cond_some}
+use Rattle.nodejs_semver.proofs.Common.{drop_spaces, false, flat_map, holds, if◌then◌else◌, inl, inr, is_empty, is_past, is_range_span, is_release}
+use Rattle.nodejs_semver.proofs.Common.{is_some, later_parts, length, length-append, lets_in, list_all, list_all-append, list_any, list_any-append}
+use Rattle.nodejs_semver.proofs.Common.{nat_tests, not, not-true, option_to_list, parts, precedence, refl, same_Some, subst, sym, true, ℕ, ◌&&◌, ◌++◌}
+use Rattle.{nodejs_semver.proofs.Common.{◌+◌, ◌<◌, ◌||◌, ◌∙◌, ◌∷◌, ◌≡◌, ◌≤◌}, npm_reading.proofs.Grammar.WordLoop.{AreWordsTo, first-none}}
+use Rattle.npm_reading.{proofs.Grammar.WordLoop.{valid-found, words-end, words-next, words-none}, specs.Internal.Alternatives.AcceptAsRanged}
+use Rattle.npm_reading.specs.Internal.{Alternatives.{AreNarrowed, NarrowedBy, nothing, ranged}, Reads.{AddsPart, AreAllFound, AreFound, IsFound}}
+use Rattle.npm_reading.specs.Internal.Reads.{IsStep, first_valid, valid_all, valid_alternative, valid_alternatives, valid_first, valid_range}
+use Rattle.npm_reading.specs.{Internal.Reads.words_of, Ranges.IsRangeIn, Readings.{OfAccepted, ReadText}}
+use Rattle.{npm_reading.specs.declared.alternatives.Alternative.Alternative, npm_words.proofs.Common.{Comparison, Ended, HasAlternativesIn}}
+use Rattle.npm_words.proofs.Common.{IsNarrowed, alternative_of, alternatives_of, behind_ignored, capped_in, capped_partial, counted, counts}
+use Rattle.npm_words.proofs.Common.{first_word, hyphen_ends, hyphen_of, is_free_lower, is_free_upper, is_lost, is_right, is_short_word, is_unbounded}
+use Rattle.npm_words.proofs.Common.{is_valid, kept, lower_of, meets, signed_front_view, signed_word, upper_of, valid_one, words_of_all, words_within}
+use Rattle.npm_words.proofs.Grammar.{AlternativeLaw.alternatives_are, Hyphens.{both_capped, hyphen-capped}, Printed.{capped-valid, table-invalid}}
+use Rattle.npm_words.{proofs.Grammar.Printed.valid-same, specs.{Alternatives.names, Table.{Partial, lowest, table}, declared.words.Signed.Signed}}
+use Rattle.semver_core.{proofs.Dividing.BarsDivide.bars_once, specs.{Failures.{NoValue, RefusedOnlyIf}, Internal.Reading.◌>>?◌}}
+use Rattle.std.specs.Prelude.{is_none}
+use Rattle.npm_words.specs.Internal.Words as Words
+use Rattle.npm_words.specs.Alternatives as Npm
+
+-- ---- the intervals of alternatives accept what the alternatives do
+
+-- the span holds v, and lets it in or pre-releases are included
+abbrev lets : Bool → VersionValue → Span VersionValue → Bool
+lets include v s = holds precedence s v && (include || lets_in s v)
+
+held_let : (h l r i n : Bool) → (h ≡ true → l ≡ (r || n)) → ((h && (i || l)) || false) ≡ (h && (r || (i || n)))
+held_let h l r i n f = grind arith
+
+one_accepts : (include : Bool) (v : VersionValue) (cs : List Comparison) (o : Option (Span VersionValue)) → IsNarrowed include cs o
+    → list_any (lets include v) (option_to_list o) ≡ meets include v (counted include cs)
+one_accepts include v cs None h = rw (h v) refl
+one_accepts include v cs (Some s) h =
+    rw (← h.0.held v) (held_let (holds precedence s v) (lets_in s v) (is_release v) include (list_any (names v) (counted include cs)) (h.0.let_in v))
+
+uncounted : (include : Bool) (cs : List Comparison) → list_any (counts include) cs ≡ false → counted include cs ≡ []
+uncounted include [] h = refl
+uncounted include (c ∷ cs) h = grind (arith, nat_tests, common_steps, uncounted include cs)
+
+zero : VersionValue
+zero = lowest (0, 0, 0)
+
+one_open : (include : Bool) (cs : List Comparison) (o : Option (Span VersionValue)) → IsNarrowed include cs o
+    → list_any is_unbounded (option_to_list o) ≡ not (list_any (counts include) cs)
+one_open include cs None h = grind (arith, uncounted include cs, h zero)
+one_open include cs (Some s) h = grind (arith, h.0.unbounded)
+
+-- a test of the intervals that each of them passes where its alternative passes another
+any_narrowed : (include : Bool) (p : Span VersionValue → Bool) (q : List Comparison → Bool)
+    → ((cs : List Comparison) (o : Option (Span VersionValue)) → IsNarrowed include cs o → list_any p (option_to_list o) ≡ q cs)
+    → (alternatives : List (List Comparison)) (os : List (Option (Span VersionValue))) → AreNarrowed include alternatives os
+    → list_any p (flat_map option_to_list os) ≡ list_any q alternatives
+any_narrowed include p q f [] [] h = refl
+any_narrowed include p q f (cs ∷ rest) (o ∷ os) h = grind (arith, list_any-append, f cs o h.0, any_narrowed include p q f rest os h.1)
+any_narrowed include p q f _ _ h = absurd h
+
+least : (v : VersionValue) → is_past precedence (Beside (lowest (0, 0, 0)) false) v ≡ true
+least v = (grind arith)
+
+-- what an alternative without comparators accepts
+open_meets : (v : VersionValue) (cs : List Comparison) → not (list_any (counts true) cs) ≡ true → meets true v (counted true cs) ≡ true
+open_meets v cs h = grind (arith, nat_tests, common_steps, uncounted)
+
+open_accepts : (include : Bool) (v : VersionValue) (alternatives : List (List Comparison))
+    → list_any (λ cs. not (list_any (counts include) cs)) alternatives ≡ true
+    → accepts any_version v include ≡ Npm.accepts include alternatives v
+open_accepts true v alternatives h = sym (any_weaker _ (λ cs. meets true v (counted true cs)) (open_meets v) alternatives h)
+open_accepts false v alternatives h = rw h (grind arith)
+
+none_or_some : (ss : List (Span VersionValue)) (v : VersionValue) (include : Bool)
+    → accepts (if is_empty ss then nothing ∷ [] else ss) v include ≡ accepts ss v include
+none_or_some [] v include = rw (least v) refl
+none_or_some (s ∷ ss) v include = refl
+
+pub ranged_list : (found ss : List (Span VersionValue)) → ss ≡ ranged found → AcceptAsRanged found ss
+ranged_list found ss e include alternatives os h f v =
+    let open_same = any_narrowed include is_unbounded (λ cs. not (list_any (counts include) cs)) (one_open include) alternatives os h in
+    let same = any_narrowed include (lets include v) (λ cs. meets include v (counted include cs)) (one_accepts include v) alternatives os h in
+    rw (e, f) (grind (arith, open_same, same, open_accepts, none_or_some))
+
+-- one interval is kept, since one without bounds is any version
+pub ranged_one : (found : List (Span VersionValue)) → length found ≡ 1 → found ≡ ranged found
+ranged_one (s ∷ []) h = grind (arith, cases_Bool)
+ranged_one [] h = absurd (omega (arith, h))
+ranged_one (s ∷ (t ∷ ss)) h = absurd (omega (arith, h))
+
+-- ---- such a list of intervals is that of a range
+
+one_span : (include : Bool) (cs : List Comparison) (o : Option (Span VersionValue)) → IsNarrowed include cs o
+    → list_all (is_range_span (MAX_SAFE_INTEGER + 1)) (option_to_list o) ≡ true
+one_span include cs None h = refl
+one_span include cs (Some s) h = rw (h.1, h.0.lower, h.0.upper) refl
+
+pub found_spans : (include : Bool) (alternatives : List (List Comparison)) (os : List (Option (Span VersionValue)))
+    (found : List (Span VersionValue)) → AreNarrowed include alternatives os → found ≡ flat_map option_to_list os
+    → list_all (is_range_span (MAX_SAFE_INTEGER + 1)) found ≡ true
+found_spans include [] [] found h e = rw e refl
+found_spans include (cs ∷ rest) (o ∷ os) found h e = grind (arith, list_all-append, one_span, found_spans include rest os)
+found_spans include _ _ found h e = absurd h
+
+pub ranged_range : (found : List (Span VersionValue)) → list_all (is_range_span (MAX_SAFE_INTEGER + 1)) found ≡ true → IsRange MAX_SAFE_INTEGER (ranged found)
+ranged_range found h = grind (arith, nat_tests, common_steps)
+
+-- ---- an alternative is found exactly where the text has one whose comparators are valid
+
+-- where the text is a hyphen range
+pub hyphen-alternative : (loose include : Bool) (text : List ℕ) (e : Ended × Ended) → hyphen_ends loose text ≡ Some e
+    → valid_alternative loose include text ≡ (hyphen_of loose include (capped_in e.0, capped_in e.1) >>? valid_one)
+unfolding valid_alternative alternative_of
+hyphen-alternative loose include text e h = rw h (sym (hyphen-capped loose include e.0 e.1))
+
+-- and where it is words
+pub words-alternative : (loose include : Bool) (text : List ℕ) → hyphen_ends loose text ≡ None
+    → valid_alternative loose include text ≡ (words_of loose include text >>? λ all. Some (words_of_all all))
+unfolding valid_alternative alternative_of
+words-alternative loose include text h = rw h (grind arith)
+
+-- the ends as the code has them
+pub ends-as : (o : Option (Ended × Ended)) (x : Ended × Ended) → Some x ≡ both_capped o
+    → (e : Ended × Ended) × (o ≡ Some e) × (x ≡ (capped_in e.0, capped_in e.1))
+ends-as None x h = cc h
+ends-as (Some e) x h = (e, refl, same_Some _ _ h)
+
+pub ends-none : (o : Option (Ended × Ended)) → None ≡ both_capped o → o ≡ None
+ends-none o h = grind arith
+
+-- ---- what is found between two ends
+
+module _ (loose include : Bool) (a b : Ended) where
+  abbrev Between : Option Alternative → Type 0
+  Between r = IsFound include (hyphen_of loose include (a, b) >>? valid_one) r
+
+  pub lower-wrong : is_right loose is_free_lower a ≡ false → Between None
+  lower-wrong h = rw h tt
+
+  pub upper-wrong : is_right loose (is_free_upper include) b ≡ false → Between None
+  upper-wrong h = rw (h, and-false (is_right loose is_free_lower a)) tt
+
+  module _ (low : is_right loose is_free_lower a ≡ true) (up : is_right loose (is_free_upper include) b ≡ true) where
+    pub lower-none : list_all (is_valid MAX_SAFE_INTEGER) (lower_of include a) ≡ false → Between None
+    lower-none h = rw (low, up, list_all-append (is_valid MAX_SAFE_INTEGER) (lower_of include a) (upper_of include b), h) tt
+
+    pub upper-found : (all f : Alternative) (g : Option Alternative) → IsNarrowed include [] all.interval
+        → NarrowedBy include all.interval (lower_of include a) (Some f) → NarrowedBy include f.interval (upper_of include b) g
+        → IfSome g (λ g. g.is_lost ≡ false) → Between g
+    upper-found all f None first n m lost = rw (low, up, list_all-append (is_valid MAX_SAFE_INTEGER) (lower_of include a) (upper_of include b), n.0, m) tt
+    upper-found all f (Some g) first n m lost =
+        rw (low, up, list_all-append (is_valid MAX_SAFE_INTEGER) (lower_of include a) (upper_of include b), n.0, m.0) (m.1 (lower_of include a) (n.1 [] first), lost)
+
+-- ---- one word more
+
+module _ (loose include : Bool) (text : List ℕ) (all : Alternative) where
+  pub step-ignored : (next : Bor (List ℕ)) → loose ≡ true → signed_word loose text ≡ None → next.now ≡ drop_spaces (behind_ignored (length text) text)
+      → IsStep include all (first_valid loose include text) (Some (all, true, next))
+  unfolding first_word
+  step-ignored next l e f = grind (arith, append-nil)
+
+  pub step-strict : loose ≡ false → signed_word loose text ≡ None → IsStep include all (first_valid loose include text) None
+  unfolding first_word
+  step-strict l e = rw (e, l) tt
+
+  module _ (w : Words.Signed × List ℕ) (e : signed_word loose text ≡ Some w) where
+    abbrev Row : Partial → List Comparison
+    Row p = table include w.0.0 p w.0.2
+
+    pub step-long : is_short_word loose w.0.2 ≡ false → IsStep include all (first_valid loose include text) None
+    unfolding first_word
+    step-long n = rw (e, n) tt
+
+    pub step-invalid : NarrowedBy include all.interval (Row (capped_partial w.0.1)) None → IsStep include all (first_valid loose include text) None
+    unfolding first_word
+    step-invalid k = grind (arith, capped-valid Row (λ p. table-invalid include w.0.0 p w.0.2) w.0.1)
+
+    pub step-read : (a : Alternative) (next : Bor (List ℕ)) → is_short_word loose w.0.2 ≡ true
+        → NarrowedBy include all.interval (Row (capped_partial w.0.1)) (Some a) → a.is_bare ≡ (all.is_bare && is_empty (Row (capped_partial w.0.1)))
+        → next.now ≡ drop_spaces w.1 → IsStep include all (first_valid loose include text) (Some (a, false, next))
+    unfolding first_word
+    step-read a next n k b f =
+        let same = valid-same Row (λ p. table-invalid include w.0.0 p w.0.2) w.0.1 k.0 in
+        let valid = rw same at k in
+        rw (e, n, valid.0) (valid, rw same at b, refl, f)
+
+-- ---- words, one after another
+
+step-found : (include : Bool) (all : Alternative) (o : Option (Option (List Comparison) × List ℕ)) (s : Alternative × Bool × Bor (List ℕ))
+    → IsStep include all o (Some s) → (w : Option (List Comparison) × List ℕ) × (o ≡ Some w) × IsStep include all (Some w) (Some s)
+step-found include all None s h = absurd h
+step-found include all (Some w) s h = (w, refl, h)
+
+step-none : (include : Bool) (all : Alternative) (o : Option (Option (List Comparison) × List ℕ)) → IsStep include all o None → o ≡ None
+step-none include all None h = refl
+step-none include all (Some w) h = absurd h
+
+abbrev pub found_of : Bool → Bool → List ℕ → Option (Bool × List Comparison)
+found_of loose include text = words_of loose include text >>? λ all. Some (words_of_all all)
+
+module _ (loose include : Bool) (text rest : List ℕ) (all : Alternative) (is_last : Bool)
+    (h : AreWordsTo loose include text all.interval all.is_bare is_last rest) where
+  pub word-none : 0 < length rest → IsStep include all (first_valid loose include rest) None
+      → IsFound include (found_of loose include text) None
+  word-none some k =
+      rw (words-none loose include text rest all.interval all.is_bare is_last h some
+      (step-none include all (first_valid loose include rest) k)) tt
+
+  pub word-next : (s : Alternative × Bool × Bor (List ℕ)) → 0 < length rest → IsStep include all (first_valid loose include rest) (Some s)
+      → AreWordsTo loose include text s.0.interval s.0.is_bare s.1 s.2.now × (length s.2.now < length rest)
+  word-next s some k =
+      let w = step-found include all (first_valid loose include rest) s k in
+      let f = valid-found loose include rest w.0 h.utf8 some w.1 in (
+        subst (λ (b : Bool). AreWordsTo loose include text s.0.interval s.0.is_bare b s.2.now) (sym w.2.2)
+            (subst (λ (t : List ℕ). AreWordsTo loose include text s.0.interval s.0.is_bare (is_none w.0.0) t) (sym w.2.3)
+            (words-next loose include text rest all.interval all.is_bare is_last h w.0 s.0 some w.1 w.2.0 w.2.1)),
+        rw w.2.3 f.shorter,
+      )
+
+  pub words-all : (a : Alternative) (lost : Bool) → IsUtf8 text → is_empty rest ≡ true → a.interval ≡ all.interval → a.is_lost ≡ (all.is_bare && lost)
+      → (is_last ≡ false → lost ≡ false) → (is_last ≡ true → lost ≡ is_none (signed_word loose text))
+      → IsFound include (found_of loose include text) (Some a)
+  words-all a lost u e f g not_last if_last =
+      let read = words-end loose include text rest all.interval all.is_bare is_last h e in
+      rw (read, f) (h.narrowed, g ∙ same read)
+    where
+      same : words_of loose include text ≡ Some h.read → (all.is_bare && lost) ≡ is_lost h.read
+      same read = elim (cases_Bool is_last) [
+        | inr k ↦ grind (arith, h.bare, h.last, k, not_last k)
+        | inl k ↦
+            grind (arith, h.bare, h.last, k, if_last k, first-none loose include text h.read u read (sym h.last ∙ k))
+      ]
+
+pub view-none : (o : Option (Signed × Bor (List ℕ))) (b : Bool) → is_some o ≡ not b → b ≡ is_none (signed_front_view o)
+view-none o b e = grind arith
+
+pub found-some : (include : Bool) (o : Option (Bool × List Comparison)) (a : Alternative) → IsFound include o (Some a)
+    → (c : Bool × List Comparison) × (o ≡ Some c) × IsFound include (Some c) (Some a)
+found-some include None a h = absurd h
+found-some include (Some c) a h = (c, refl, h)
+
+-- ---- one alternative more
+
+narrowed-append : (include : Bool) (ls : List (List Comparison)) (os : List (Option (Span VersionValue))) (cs : List Comparison)
+    (o : Option (Span VersionValue)) → AreNarrowed include ls os → IsNarrowed include cs o → AreNarrowed include (ls ++ cs ∷ []) (os ++ o ∷ [])
+narrowed-append include [] [] cs o h k = (k, tt)
+narrowed-append include (c ∷ ls) (p ∷ os) cs o h k = (h.0, narrowed-append include ls os cs o h.1 k)
+narrowed-append include _ _ cs o h k = absurd h
+
+flat-append : (os : List (Option (Span VersionValue))) (o : Option (Span VersionValue))
+    → flat_map option_to_list (os ++ o ∷ []) ≡ flat_map option_to_list os ++ option_to_list o
+flat-append os o = grind (arith, nat_tests, common_steps)
+
+-- one part more, which is lost or not
+pub part-lost : (include : Bool) (o : Option (Bool × List Comparison)) (a : Alternative) (was : Bool) (before : List (Span VersionValue))
+    → IsFound include o (Some a) → a.is_lost ≡ true → AddsPart include o was was before before
+part-lost include o a was before h l = grind arith
+
+pub part-added : (include : Bool) (o : Option (Bool × List Comparison)) (a : Alternative) (was : Bool) (before after : List (Span VersionValue))
+    → IsFound include o (Some a) → a.is_lost ≡ false → after ≡ before ++ option_to_list a.interval → AddsPart include o was true before after
+part-added include (Some (true, cs)) a was before after h l e = cc (h.1, l)
+part-added include (Some (false, cs)) a was before after h l e = (
+  refl,
+  λ ls k. record {
+    intervals = k.intervals ++ a.interval ∷ [];
+    narrowed = narrowed-append include ls k.intervals cs a.interval k.narrowed h.0;
+    are = e ∙ ap (λ (l : List (Span VersionValue)). l ++ option_to_list a.interval) k.are ∙ sym (flat-append k.intervals a.interval);
+  },
+)
+part-added include None a was before after h l e = h
+
+-- ---- the alternatives, up to a rest of the text
+
+-- what was read of a text, and what is left
+pub record AreReadTo (loose include : Bool) (text : List ℕ) (is_some : Bool) (found : List (Span VersionValue)) (rest : Option (List ℕ)) : Type 0 where
+  pub read : List (List Comparison)
+  pub are : AreFound include read found
+  pub same : valid_alternatives loose include (parts text) ≡ (valid_alternatives loose include (later_parts rest) >>? λ more. Some (read ++ more))
+  pub count : length read + length (later_parts rest) ≤ length (parts text)
+  pub some : is_some ≡ not (is_empty read)
+
+-- the same of the text that is left
+rest-step : (loose include : Bool) (rest part : List ℕ) (behind : Option (List ℕ)) (o : Option (Bool × List Comparison))
+    → part ∷ later_parts behind ≡ parts rest → valid_alternative loose include part ≡ o → valid_alternatives loose include (parts rest)
+    ≡ (o >>? λ a. valid_alternatives loose include (later_parts behind) >>? λ ls. Some (kept a ls))
+unfolding valid_alternatives
+rest-step loose include rest part behind o e d = grind (arith, nat_tests, common_steps)
+
+part-same : (read : List (List Comparison)) (a : Bool × List Comparison) (later : Option (List (List Comparison)))
+    → ((later >>? λ ls. Some (kept a ls)) >>? λ more. Some (read ++ more)) ≡ (later >>? λ more. Some ((read ++ kept a []) ++ more))
+part-same read a later = grind (arith, append_assoc, append-nil)
+
+-- one part more
+pub read-part : (loose include : Bool) (text : List ℕ) (was is : Bool) (found after : List (Span VersionValue)) (rest : List ℕ) (part : List ℕ)
+    (behind : Option (List ℕ)) → AreReadTo loose include text was found (Some rest) → part ∷ later_parts behind ≡ parts rest
+    → AddsPart include (valid_alternative loose include part) was is found after → AreReadTo loose include text is after behind
+read-part loose include text was is found after rest part behind h e a = go _ refl a
+  where
+    go : (o : Option (Bool × List Comparison)) → valid_alternative loose include part ≡ o → AddsPart include o was is found after
+        → AreReadTo loose include text is after behind
+    go None d k = absurd k
+    go (Some (true, cs)) d k = record {
+      read = h.read;
+      are = rw k.1 h.are;
+      same = h.same ∙ rw (rest-step _ _ _ _ _ _ e d) (part-same h.read (true, cs) _ ∙ rw (append-nil h.read) refl);
+      count = omega (arith, h.count, ap length e);
+      some = k.0 ∙ h.some;
+    }
+    go (Some (false, cs)) d k = record {
+      read = h.read ++ cs ∷ [];
+      are = k.1 h.read h.are;
+      same = h.same ∙ rw (rest-step _ _ _ _ _ _ e d) (part-same h.read (false, cs) _);
+      count = omega (arith, h.count, ap length e, length-append h.read (cs ∷ []));
+      some = k.0 ∙ grind (arith, nat_tests, common_steps);
+    }
+
+-- the same of a call that rejects the part
+refused-weaker : {A E : Type 0} {P Q : Type 0} (r : Result A (Failure E)) → (P → Q) → RefusedOnlyIf r P → RefusedOnlyIf r Q
+refused-weaker (Err (Refused x)) f k = f k
+refused-weaker (Err (Memory x)) f k = tt
+refused-weaker (Ok x) f k = tt
+
+pub read-refused : (loose : Bool) {A E : Type 0} (r : Result A (Failure E)) (include : Bool) (text : List ℕ) (was : Bool)
+    (found : List (Span VersionValue)) (rest part : List ℕ) (behind : Option (List ℕ)) → AreReadTo loose include text was found (Some rest)
+    → part ∷ later_parts behind ≡ parts rest → RefusedOnlyIf r (valid_alternative loose include part ≡ None)
+    → RefusedOnlyIf r (valid_range loose include text ≡ None)
+read-refused loose r include text was found rest part behind h e = refused-weaker r (λ k. rw (h.same, rest-step loose include rest part behind None e k) refl)
+
+all-read : (loose include is_some : Bool) (text : List ℕ) (found : List (Span VersionValue)) (h : AreReadTo loose include text is_some found None)
+    → valid_range loose include text ≡ (if is_some then Some h.read else None)
+unfolding valid_alternatives
+all-read loose include is_some text found h = rw (h.same, append-nil h.read, h.some) refl
+
+-- no part was an alternative
+pub read-nothing : (loose include : Bool) (text : List ℕ) (found : List (Span VersionValue)) → AreReadTo loose include text false found None
+    → valid_range loose include text ≡ None
+read-nothing loose include text found h = all-read loose include false text found h
+
+pub read-all : (loose include : Bool) (text : List ℕ) (found : List (Span VersionValue)) → AreReadTo loose include text true found None
+    → AreAllFound include (valid_range loose include text) found
+read-all loose include text found h = rw (all-read loose include true text found h) h.are
+
+-- ---- the range of a text
+
+-- an alternative that is lost has no comparators
+lost-valid : (loose include : Bool) (text : List ℕ) (cs : List Comparison) → alternative_of loose include text ≡ Some (true, cs)
+    → list_all (is_valid MAX_SAFE_INTEGER) cs ≡ true
+unfolding alternative_of
+lost-valid loose include text cs h = grind (arith, and_parts)
+
+-- those of which each comparator is valid
+abbrev valid_lists : List (List Comparison) → Option (List (List Comparison))
+valid_lists ls = if list_all (list_all (is_valid MAX_SAFE_INTEGER)) ls then Some ls else None
+
+one-more-valid : (a : Bool × List Comparison) (o : Option (List (List Comparison))) → (a.0 ≡ true → list_all (is_valid MAX_SAFE_INTEGER) a.1 ≡ true)
+    → (valid_one a >>? λ a. (o >>? valid_lists) >>? λ rest. Some (kept a rest)) ≡ ((o >>? λ rest. Some (kept a rest)) >>? valid_lists)
+one-more-valid a o h = grind (arith, h)
+
+all-valid : (loose include : Bool) (texts : List (List ℕ)) → valid_alternatives loose include texts ≡ (alternatives_of loose include texts >>? valid_lists)
+unfolding valid_alternatives valid_alternative alternatives_of
+all-valid loose include [] = refl
+all-valid loose include (text ∷ texts) = rw (all-valid loose include texts) (go (alternative_of loose include text) refl)
+  where
+    go : (o : Option (Bool × List Comparison)) → alternative_of loose include text ≡ o
+        → ((o >>? valid_one) >>? λ a. (alternatives_of loose include texts >>? valid_lists) >>? λ rest. Some (kept a rest))
+        ≡ ((o >>? λ a. alternatives_of loose include texts >>? λ rest. Some (kept a rest)) >>? valid_lists)
+    go None e = refl
+    go (Some a) e = one-more-valid a (alternatives_of loose include texts) (λ lost. lost-valid loose include text a.1 (e ∙ rw (← lost) refl))
+
+pub none-read : (loose include : Bool) (text : List ℕ) → IsUtf8 text → valid_range loose include text ≡ None
+    → NoValue (HasAlternativesIn loose MAX_SAFE_INTEGER include text)
+none-read loose include text u h ls has =
+    let k = (alternatives_are loose MAX_SAFE_INTEGER include text ls u).0 has in
+    grind (arith, nat_tests, common_steps, all-valid)
+
+pub range-read : (loose include : Bool) (text : List ℕ) (found range : List (Span VersionValue)) → IsUtf8 text
+    → AreAllFound include (valid_range loose include text) found → AcceptAsRanged found range
+    → IsRangeIn loose MAX_SAFE_INTEGER include text range
+range-read loose include text found range u h a = grind (arith, nat_tests, common_steps, cond_some, not, all-valid, not-true, alternatives_are)
+
+pub refused-none : (loose : Bool) {A E : Type 0} (r : Result A (Failure E)) (include : Bool) (text : List ℕ) → IsUtf8 text
+    → RefusedOnlyIf r (valid_range loose include text ≡ None) → RefusedOnlyIf r (NoValue (HasAlternativesIn loose MAX_SAFE_INTEGER include text))
+refused-none loose r include text u = refused-weaker r (none-read loose include text u)
+
+pub memory-pieces : {A E : Type 0} (r : Result A (Failure E)) (text : List ℕ) → MemoryOnlyIf r (1 < length (parts text))
+    → MemoryOnlyIf r ((pieces : List (List ℕ)) → IsCutAtBars text pieces → 1 < length pieces)
+memory-pieces r text k = grind (arith, nat_tests, common_steps, bars_once)
+
+pub all-spans : (loose include : Bool) (text : List ℕ) (found : List (Span VersionValue)) → AreAllFound include (valid_range loose include text) found
+    → list_all (is_range_span (MAX_SAFE_INTEGER + 1)) found ≡ true
+all-spans loose include text found h = grind (arith, nat_tests, common_steps, found_spans)
+
+pub of_accepted : {Holds : (VersionValue → Bool) → Type 0} (r : ReadText) (range : List (Span VersionValue))
+    → IsRangeIn r.reading.loose MAX_SAFE_INTEGER r.reading.include_prerelease r.text range
+    → Holds (λ v. accepts range v r.reading.include_prerelease) → OfAccepted MAX_SAFE_INTEGER r Holds
+of_accepted {Holds} r range h k = record { alternatives = h.alternatives; has = h.has; holds = subst Holds (λ i v. h.accepted v i) k }

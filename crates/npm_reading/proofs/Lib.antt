@@ -1,0 +1,4 @@
+pub mod Alike
+pub mod FlawPlaces
+pub mod Grammar
+pub mod Rows

@@ -1,0 +1,15 @@
+use Rattle.{npm_reading.proofs.Grammar.CommonReads.{capped-normal, word-capped}, npm_words.proofs.Common.{npm_partial_view, npm_sign_view}}
+use Rattle.npm_words.proofs.Grammar.Hyphens.{partial-le}
+use Rattle.npm_reading.proofs.common.word.Goals as goal
+
+pub slice_bounds-row_of_zeros-count : goal.slice_bounds-row_of_zeros-count
+slice_bounds-row_of_zeros-count c = partial-le _ _ _ _ c.in_ok-partial.ensures
+
+pub row_of_zeros-requires : goal.row_of_zeros-requires
+row_of_zeros-requires c = capped-normal _ _ _ c.in_ok-partial.ensures
+
+pub returns : goal.returns
+returns c =
+    word-capped c.sign_front-sign.result.1.now c.args.include c.args.text.now (npm_sign_view c.sign_front-sign.result.0) c.sign_front-sign.ensures
+    c.in_ok-bounds.bounds c.zeros.result (npm_partial_view c.in_ok-partial.partial) c.in_ok-partial.rest.now c.in_ok-partial.ensures c.zeros.ensures
+    c.in_ok-bounds.ensures

@@ -1,0 +1,3 @@
+pub mod Alternatives
+pub mod Fronts
+pub mod Reads

@@ -1,0 +1,14 @@
+pub mod AlternativeLaw
+pub mod Characters
+pub mod Hyphens
+pub mod Ignored
+pub mod Inside
+pub mod InsideIds
+pub mod InsideParts
+pub mod PartialLaw
+pub mod Printed
+pub mod Rows
+pub mod Signs
+pub mod VersionLaw
+pub mod Words
+pub mod Zeros

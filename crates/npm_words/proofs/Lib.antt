@@ -1,0 +1,5 @@
+pub mod Common
+pub mod FlawPlaces
+pub mod Grammar
+pub mod Rows
+pub mod VersionTexts

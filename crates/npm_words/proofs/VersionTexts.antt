@@ -1,0 +1,4 @@
+pub mod Builds
+pub mod Coerced
+pub mod Lists
+pub mod Versions

@@ -1,0 +1,16 @@
+use Rattle.npm_words.proofs.{Common.{ap, bounds_view, sym, ◌∙◌}, Grammar.Rows.printed_read}
+use Rattle.npm_words.proofs.comparators.whole_upper.Goals as goal
+use Rattle.semver_core.specs.Values.Spans as Spans
+
+pub returns-then-include : goal.returns-then-include
+returns-then-include c =
+    let under = c.under.ensures c.args.include in
+    rw (sym c.is_release.ensures ∙ c.if-is_release.true, c.if-include.true)
+    (rw (c.if-include.true, c.major.ensures.value, c.minor.ensures.value, c.patch.ensures.value) at under)
+
+pub returns-then-prints_short : goal.returns-then-prints_short
+returns-then-prints_short c =
+    let v = c.args.version.now in
+    rw (sym c.is_release.ensures ∙ c.if-is_release.false)
+    (printed_read c.args.include v (bounds_view c.at_most.result) c.requires.within c.requires.normal (sym c.prints_short.ensures ∙ c.if-prints_short.true)
+    (c.at_most.ensures ∙ ap (λ w. Spans.<= w) c.copy.ensures))

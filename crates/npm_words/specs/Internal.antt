@@ -1,0 +1,11 @@
+pub mod Alternatives
+pub mod Inside
+pub mod Meaning
+pub mod Parts
+pub mod Readings
+pub mod Reads
+pub mod States
+pub mod Tuples
+pub mod Versions
+pub mod Views
+pub mod Words

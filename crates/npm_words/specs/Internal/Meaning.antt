@@ -1,0 +1,59 @@
+-- For proofs and private contracts. What the comparators of an alternative have in common, as a span.
+use Rattle.std.specs.Prelude.{◌≡◌, ◌==◌, ◌&&◌, ◌||◌, ◌+◌, not, Bool, true, false, List, Option, Some, None}
+use Rattle.std.specs.List.{filter, list_all, list_any}
+use Rattle.semver_core.specs.Cuts.{Span, holds, is_interval}
+use Rattle.semver_core.specs.Lists.{is_empty}
+use Rattle.semver_core.specs.Values.Order.{precedence}
+use Rattle.semver_core.specs.Values.Versions.{VersionValue, is_release}
+use Rattle.semver_core.specs.declared.TheConstants.{MAX_SAFE_INTEGER}
+use Rattle.semver_core.specs.declared.cuts.bound.Bound.{Bound}
+use Rattle.semver_core.specs.declared.cuts.bound.Bound.TheVariants.{Unbounded}
+use Rattle.semver_core.specs.Internal.Views.{bounds_view}
+use Rattle.npm_words.specs.Alternatives.{is_valid, names, satisfies}
+use Rattle.npm_words.specs.Table.{Comparison, Partial, counts, major, minor}
+use Rattle.semver_core.specs.Values.Gate.{lets_in, is_range_bound}
+use Rattle.semver_core.specs.declared.scan.pieces.bounds.Bounds.{Bounds}
+
+-- the comparators that count
+abbrev pub counted : Bool → List Comparison → List Comparison
+counted include cs = filter (counts include) cs
+
+abbrev pub is_open : Bound VersionValue → Bool
+is_open Unbounded = true
+is_open b = false
+
+-- the span has no bounds
+abbrev pub is_unbounded : Span VersionValue → Bool
+is_unbounded s = is_open s.lower && is_open s.upper
+
+-- the span is what the comparators that count have in common: it holds the versions that satisfy them, lets
+-- in those of which they name a pre-release, and has a bound exactly if there is one. Its bounds are such as
+-- a range may have.
+pub record IsCommon (include : Bool) (cs : List Comparison) (s : Span VersionValue) : Type 0 where
+  pub held : (v : VersionValue) → holds precedence s v ≡ list_all (satisfies v) (counted include cs)
+  pub let_in : (v : VersionValue) → holds precedence s v ≡ true
+      → lets_in s v ≡ (is_release v || list_any (names v) (counted include cs))
+  pub unbounded : is_unbounded s ≡ not (list_any (counts include) cs)
+  pub lower : is_range_bound (MAX_SAFE_INTEGER + 1) s.lower ≡ true
+  pub upper : is_range_bound (MAX_SAFE_INTEGER + 1) s.upper ≡ true
+
+-- the same of an interval that there is only where its cuts meet; else no version satisfies the comparators
+abbrev pub IsNarrowed : Bool → List Comparison → Option (Span VersionValue) → Type 0
+IsNarrowed include cs None = (v : VersionValue) → list_all (satisfies v) (counted include cs) ≡ false
+IsNarrowed include cs (Some s) = IsCommon include cs s × (is_interval precedence s ≡ true)
+
+-- bounds that are read from comparators, of which each is valid; none where one is not
+abbrev pub AreRead : Bool → List Comparison → Option Bounds → Type 0
+AreRead include cs None = list_all (is_valid MAX_SAFE_INTEGER) cs ≡ false
+AreRead include cs (Some b) =
+    (list_all (is_valid MAX_SAFE_INTEGER) cs ≡ true) × IsCommon include cs (bounds_view b)
+
+-- the version `0.0.0`, without a pre-release and without build metadata
+abbrev pub is_zero : VersionValue → Bool
+is_zero v = (v.major == 0) && ((v.minor == 0) && ((v.patch == 0) && (is_release v && is_empty v.build)))
+
+-- a partial of one number or two
+abbrev pub is_part : Partial → Bool
+is_part (major M) = true
+is_part (minor M m) = true
+is_part p = false

@@ -1,0 +1,15 @@
+pub mod Alternatives
+pub mod Builds
+pub mod Coerced
+pub mod Flaws
+pub mod Grammar
+pub mod Internal
+pub mod Malformed
+pub mod MalformedWords
+pub mod Messages
+pub mod Partials
+pub mod RangeFlaws
+pub mod RangeText
+pub mod Table
+pub mod VersionText
+pub mod Words

@@ -1,0 +1,208 @@
+//! The hyphen ranges of node-semver's readings: two partial versions with ` - ` between them.
+//!
+//! This is for the crates of this repository.
+
+ghost use Rattle.std.specs.Prelude.{◌-◌, ◌||◌, ◌≡◌, ◌≤◌, drop};
+ghost use Rattle.npm_words.specs.Words.{Some, comparator_view, length, list_all, rest_view};
+ghost use Rattle.npm_words.specs.Words.{true};
+ghost use Rattle.npm_words.specs.Internal.Meaning.{AreRead};
+ghost use Rattle.npm_words.specs.Internal.Parts.{are_normal, npm_partial_view};
+ghost use Rattle.npm_words.specs.Internal.Views.{end_front_view, end_some_view, end_view};
+ghost use Rattle.npm_words.specs.Internal.Views.{hyphen_view, is_free_end};
+ghost use Rattle.npm_words.specs.Internal.Words as Spec;
+ghost use Rattle.npm_words.specs.Malformed as Malformed;
+ghost use Rattle.npm_words.specs.RangeText as Text;
+ghost use Rattle.semver_core.specs.Internal.Reading.{◌>>?◌};
+
+use crate::comparators::{lower_end, upper_end};
+use crate::partial::Partial;
+use crate::places::partial_front;
+use crate::words::is_short;
+use semver_core::scan::pieces::{Bounds, Comparator, after_some_space, space_len};
+
+/// An end of a hyphen range: the marks and the whitespace in front, its partial version, and the
+/// text of that with the marks behind the last whitespace.
+#[derive(Drop)]
+pub struct End<'a> {
+    marks: &'a [u8],
+    pub partial: Partial<'a>,
+    text: &'a [u8],
+}
+
+/// Which end it is, and of the upper one whether pre-releases are included.
+#[derive(Clone, Copy)]
+pub enum Side {
+    Lower,
+    Upper { include: bool },
+}
+
+// How many bytes the mark or the whitespace character at the front takes.
+fn mark_len(text: &[u8]) -> usize
+    ensures value { result ≡ Spec.end_len text.now }
+    ensures fits { result ≤ length text.now }
+{
+    match text {
+        [b'v' | b'=', ..] => 1,
+        _ => space_len(text),
+    }
+}
+
+// What follows the marks and the whitespace at the front.
+pub fn skip_marks(text: &[u8]) -> &[u8]
+    ensures value { result.now ≡ Spec.drop_ends text.now }
+    ensures fits { length result.now ≤ length text.now }
+    ensures ends { drop (length text.now - length result.now) text.now ≡ result.now }
+{
+    let mut left = text;
+    'marks: loop {
+        let len = mark_len(left);
+        if len == 0 {
+            return left;
+        }
+        left = &left[len..];
+    }
+}
+
+#[inline(always)]
+fn is_mark(byte: u8) -> bool
+    ensures { result ≡ Malformed.is_mark byte }
+{
+    matches!(byte, b'v' | b'=')
+}
+
+// Whether a text is marks alone.
+#[inline(always)]
+fn are_marks(text: &[u8]) -> bool
+    ensures { result ≡ list_all Malformed.is_mark text.now }
+{
+    text.iter().all(|byte| is_mark(*byte))
+}
+
+// The marks behind the last whitespace.
+fn last_marks(marks: &[u8]) -> &[u8]
+    ensures value { result.now ≡ Text.last_marks marks.now }
+    ensures fits { length result.now ≤ length marks.now }
+{
+    let mut start = marks.len();
+    'marks: while start > 0 && is_mark(marks[start - 1]) {
+        start -= 1;
+    }
+    &marks[start..]
+}
+
+// Whether any marks may stand before this end of a hyphen range.
+fn is_free(side: Side, partial: &Partial<'_>) -> bool
+    ensures { result ≡ is_free_end side (npm_partial_view partial.now) }
+{
+    match (side, partial) {
+        (Side::Lower, Partial::Whole(_)) => false,
+        (Side::Upper { include }, Partial::Whole(version)) => include || !version.is_release(),
+        _ => true,
+    }
+}
+
+impl<'a> End<'a> {
+    /// Whether it is short enough, and its marks may stand there.
+    pub fn is_right(&self, loose: bool, side: Side) -> bool
+        ensures { result ≡ Spec.is_right loose (is_free_end side) (end_view self.now) }
+    {
+        is_short(loose, self.text)
+            && (loose || is_free(side, &self.partial) || matches!(self.marks, [] | [b'v']))
+    }
+
+    /// The bounds of it as the lower end, as `row` gives those of a word.
+    pub fn lower_bounds(&self, include: bool) -> Option<Bounds<'a>>
+        requires { are_normal (npm_partial_view self.now.partial) ≡ true }
+        ensures { AreRead include (Spec.lower_of include (end_view self.now)) result }
+    {
+        let comparator = self.comparator(Comparator::AtLeast);
+        lower_end(include, comparator, &self.partial, self.text)
+    }
+
+    /// The bounds of it as the upper end.
+    pub fn upper_bounds(&self, include: bool) -> Option<Bounds<'a>>
+        requires { are_normal (npm_partial_view self.now.partial) ≡ true }
+        ensures { AreRead include (Spec.upper_of include (end_view self.now)) result }
+    {
+        let comparator = self.comparator(Comparator::AtMost);
+        upper_end(include, comparator, &self.partial, self.text)
+    }
+
+    // The comparator by which a whole version is compared: `=` where whitespace is among the marks.
+    fn comparator(&self, written: Comparator) -> Comparator
+        ensures { comparator_view result
+            ≡ Text.end_sign (comparator_view written) self.now.marks.now }
+    {
+        if are_marks(self.marks) {
+            written
+        } else {
+            Comparator::Equal
+        }
+    }
+}
+
+// An end of a hyphen range, behind whose marks a text stands: its partial, and what follows it.
+fn ended<'a>(
+    text: &'a [u8],
+    behind: &'a [u8],
+    partial: Partial<'a>,
+    rest: &'a [u8],
+) -> (End<'a>, &'a [u8])
+    requires fits { length behind.now ≤ length text.now }
+    requires ends { drop (length text.now - length behind.now) text.now ≡ behind.now }
+    requires rest { length rest.now ≤ length behind.now }
+    ensures { (end_view result.0, result.1.now) ≡ Spec.ended_as text.now behind.now
+        (npm_partial_view partial.entry, rest.now) }
+{
+    let marks = &text[..text.len() - behind.len()];
+    let start = marks.len() - last_marks(marks).len();
+    let text = &text[start..text.len() - rest.len()];
+    (
+        End {
+            marks,
+            partial,
+            text,
+        },
+        rest,
+    )
+}
+
+// An end of a hyphen range at the front, and the text behind it.
+fn end_front(loose: bool, text: &[u8]) -> Option<(End<'_>, &[u8])>
+    ensures { end_front_view result
+        ≡ Spec.first_as Spec.capped_in (Spec.end_front loose text.now) }
+{
+    let behind = skip_marks(text);
+    let (partial, rest) = partial_front(loose, behind)?;
+    Some(ended(text, behind, partial, rest))
+}
+
+// What stands behind whitespace, `-` and whitespace.
+fn after_dash(text: &[u8]) -> Option<&[u8]>
+    ensures { rest_view result ≡ Spec.after_dash text.now }
+{
+    match after_some_space(text)? {
+        [b'-', gap @ ..] => after_some_space(gap),
+        _ => None,
+    }
+}
+
+// The upper end behind whitespace, `-` and whitespace, where it ends the text.
+fn last_end(loose: bool, text: &[u8]) -> Option<End<'_>>
+    ensures { end_some_view result ≡ (Spec.after_dash text.now >>? λ second.
+        Spec.last_end loose second >>? λ e. Some (Spec.capped_in e)) }
+{
+    let (upper, rest) = end_front(loose, after_dash(text)?)?;
+    if rest.is_empty() { Some(upper) } else { None }
+}
+
+/// The ends of the hyphen range that the text is. Numbers past the limit are
+/// `MAX_SAFE_INTEGER + 1`.
+pub fn hyphen_ends(loose: bool, text: &[u8]) -> Option<(End<'_>, End<'_>)>
+    ensures { hyphen_view result ≡ (Spec.hyphen_ends loose text.now >>? λ e.
+        Some (Spec.capped_in e.0, Spec.capped_in e.1)) }
+{
+    let (lower, rest) = end_front(loose, text)?;
+    let upper = last_end(loose, rest)?;
+    Some((lower, upper))
+}

@@ -1,0 +1,173 @@
+//! The partial versions that node-semver's loose reading finds inside a malformed word.
+//!
+//! This is for the crates of this repository.
+
+ghost use Rattle.std.specs.Prelude.{◌≡◌, ◌≤◌, drop, if◌then◌else◌};
+ghost use Rattle.std.specs.List.{prefix_len};
+ghost use Rattle.npm_words.specs.Internal.Inside as Spec;
+ghost use Rattle.npm_words.specs.Words.{None, Some, is_identifier_char, length};
+ghost use Rattle.npm_words.specs.Words.{is_ascii_digit, rest_view};
+
+use semver_core::scan::pieces::{build_front, digits_len};
+use semver_core::scan::{begins_identifier, is_identifier_char};
+
+// How many characters of identifiers stand at the front.
+#[tactic(auto, using(crate::proofs::Grammar::PartialLaw::prefix_steps))]
+fn run_len(text: &[u8]) -> usize
+    ensures value { result ≡ prefix_len is_identifier_char text.now }
+    ensures fits { result ≤ length text.now }
+{
+    'characters: for at in 0..text.len() {
+        if !is_identifier_char(text[at]) {
+            return at;
+        }
+    }
+    text.len()
+}
+
+// What stands behind the identifier at the front: strictly a `0` is one.
+#[tactic(auto, unfolding(crate::specs::Internal::Inside::behind_id))]
+fn behind_id(strict: bool, text: &[u8]) -> &[u8]
+    ensures { result.now ≡ Spec.behind_id strict text.now }
+{
+    match text {
+        [b'0', rest @ ..] if strict => rest,
+        [b'0'..=b'9', ..] => &text[digits_len(text)..],
+        _ => &text[run_len(text)..],
+    }
+}
+
+// What stands behind a dot, where an identifier stands there.
+fn dotted_id(text: &[u8]) -> Option<&[u8]>
+    ensures { rest_view result
+        ≡ (if Spec.begins_dotted_id text.now then Some (drop 1 text.now) else None) }
+{
+    match text {
+        [b'.', rest @ ..] if begins_identifier(rest) => Some(rest),
+        _ => None,
+    }
+}
+
+// What stands behind the identifiers joined by dots at the front.
+fn behind_ids(strict: bool, text: &[u8]) -> &[u8]
+    ensures { result.now ≡ Spec.behind_ids (length text.now) strict text.now }
+{
+    let mut left = text;
+    'ids: loop {
+        let rest = behind_id(strict, left);
+        match dotted_id(rest) {
+            Some(more) => left = more,
+            None => return rest,
+        }
+    }
+}
+
+// What stands behind the pre-release at the front, which stands strictly behind a `-`.
+#[tactic(auto, unfolding(crate::specs::Internal::Inside::behind_pre_release))]
+fn behind_pre_release(strict: bool, text: &[u8]) -> &[u8]
+    ensures { result.now ≡ Spec.behind_pre_release strict text.now }
+{
+    match text {
+        [b'-', rest @ ..] if begins_identifier(rest) => behind_ids(strict, rest),
+        [b'-' | b'A'..=b'Z' | b'a'..=b'z', ..] if !strict => behind_ids(strict, text),
+        _ => text,
+    }
+}
+
+// How many digits of the number at the front count.
+#[tactic(auto, using(crate::proofs::Grammar::InsideParts::digits_capped))]
+fn number_len(strict: bool, text: &[u8]) -> usize
+    ensures value { result ≡ Spec.capped strict (prefix_len is_ascii_digit text.now) }
+    ensures fits { result ≤ length text.now }
+{
+    let most = if strict { 257 } else { 256 };
+    if text.len() > most {
+        digits_len(&text[..most])
+    } else {
+        digits_len(text)
+    }
+}
+
+// What stands behind the place at the front: loosely behind the digits there, and strictly behind
+// a wildcard or a number that is written strictly.
+#[tactic(auto, unfolding(crate::specs::Internal::Inside::behind_place))]
+fn behind_place(strict: bool, text: &[u8]) -> &[u8]
+    ensures { result.now ≡ Spec.behind_place strict text.now }
+{
+    match text {
+        [b'0' | b'x' | b'X' | b'*', rest @ ..] if strict => rest,
+        _ => &text[number_len(strict, text)..],
+    }
+}
+
+// What stands behind a dot, where a place stands there.
+fn dotted_place(strict: bool, text: &[u8]) -> Option<&[u8]>
+    ensures { rest_view result
+        ≡ (if Spec.begins_dotted strict text.now then Some (drop 1 text.now) else None) }
+{
+    match text {
+        [b'.', b'0'..=b'9', ..] => Some(&text[1..]),
+        [b'.', b'x' | b'X' | b'*', ..] if strict => Some(&text[1..]),
+        _ => None,
+    }
+}
+
+// What stands behind the places at the front and behind what follows the third: strictly one to
+// three places, and loosely three, or all of the text where three do not stand there.
+#[tactic(auto, unfolding(crate::specs::Internal::Inside::behind_places))]
+fn behind_places(strict: bool, text: &[u8]) -> &[u8]
+    ensures { result.now ≡ Spec.behind_places strict text.now }
+{
+    let one = behind_place(strict, text);
+    let Some(second) = dotted_place(strict, one) else {
+        return if strict { one } else { text };
+    };
+    let two = behind_place(strict, second);
+    match dotted_place(strict, two) {
+        Some(third) => { build_front(behind_pre_release(strict, behind_place(strict, third))).1 }
+        None if strict => two,
+        None => text,
+    }
+}
+
+// What stands behind the longer one of the two.
+#[tactic(auto, unfolding(crate::specs::Internal::Inside::behind_partial))]
+fn behind_partial(text: &[u8]) -> &[u8]
+    ensures { result.now ≡ Spec.behind_partial text.now }
+{
+    let version = behind_places(false, text);
+    let places = behind_places(true, text);
+    if version.len() <= places.len() {
+        version
+    } else {
+        places
+    }
+}
+
+// Where the first number or wildcard begins.
+#[tactic(auto, using(crate::proofs::Grammar::PartialLaw::prefix_steps))]
+fn place_at(text: &[u8]) -> usize
+    ensures value { result ≡ prefix_len Spec.is_apart text.now }
+    ensures fits { result ≤ length text.now }
+{
+    'others: for at in 0..text.len() {
+        if matches!(text[at], b'0'..=b'9' | b'x' | b'X' | b'*') {
+            return at;
+        }
+    }
+    text.len()
+}
+
+/// Whether a text ends in a partial, or has no characters.
+pub fn are_inside(text: &[u8]) -> bool
+    ensures { result ≡ Spec.are_inside (length text.now) text.now }
+{
+    let mut left = text;
+    'partials: loop {
+        let place = &left[place_at(left)..];
+        if place.is_empty() {
+            return left.is_empty();
+        }
+        left = behind_partial(place);
+    }
+}
