@@ -22,6 +22,9 @@
 #include <stddef.h>
 #include <stdint.h>
 
+/* The version of the library that this header belongs to. */
+#define NODEJS_SEMVER_VERSION "1.0.0"
+
 #ifdef __cplusplus
 extern "C" {
 #endif
