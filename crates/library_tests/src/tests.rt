@@ -10,6 +10,7 @@ mod fast_ranges;
 mod json;
 mod kinds;
 mod laws;
+mod library;
 mod lists;
 mod npm;
 mod npm_flaws;
@@ -21,6 +22,7 @@ mod npm_versions;
 mod outside;
 mod print;
 mod range;
+mod reading_texts;
 mod readme;
 
 use nodejs_semver::{Failure, SemverError};
