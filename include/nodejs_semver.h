@@ -7,13 +7,14 @@
  * A text is a pointer to bytes in UTF-8 and their number; no byte 0 ends it, and the pointer is not NULL unless the number is 0. It is
  * only read. Nothing is kept between two calls, so nothing has to be freed, and any thread may call at any time.
  *
- * `reading` says how all texts of a call are read: NODEJS_SEMVER_READING_PORT or NODEJS_SEMVER_READING_NPM.
+ * `reading` says how all texts of a call are read: NODEJS_SEMVER_READING_NPM, as npm reads them, or NODEJS_SEMVER_READING_PORT, which
+ * ignores what it does not understand. Take the first, unless a program is ported from the Rust crate nodejs-semver.
  *
- * A text that is answered goes to the front of `out`, a buffer of the caller of `out_size` bytes, with no byte 0 behind it, and its
- * length to `len`. If the buffer is too small, the status is NODEJS_SEMVER_TOO_SMALL, `len` is the length that is needed, and the
- * buffer is unchanged. With every other status nothing is written, unless the function says otherwise.
+ * A printed text goes to the front of `out`, a buffer of the caller of `out_size` bytes, and its length to `len`. No byte 0 is added.
+ * If the buffer is too small, the status is NODEJS_SEMVER_TOO_SMALL, `len` is the length that is needed, and the buffer is unchanged.
+ * With every other status nothing is written, unless the function says otherwise.
  *
- * What a pointer leads to that a function writes must be no part of what another argument leads to.
+ * Output buffers must not overlap inputs or one another, and no other thread may touch them during the call.
  */
 #ifndef NODEJS_SEMVER_H
 #define NODEJS_SEMVER_H
@@ -21,6 +22,9 @@
 #include <stdbool.h>
 #include <stddef.h>
 #include <stdint.h>
+
+/* The version of the library that this header belongs to. */
+#define NODEJS_SEMVER_VERSION "1.0.0"
 
 #ifdef __cplusplus
 extern "C" {

@@ -1,12 +1,13 @@
 // npm's versions and ranges by the C library, as npm reads them: node-semver's names and order of arguments. `load(path)` takes the path
 // of the addon.
 "use strict";
+const { version } = require("./package.json");
 
 function load(path) {
   const addon = require(path);
   return {
     compare: (version, other) => addon.compare(version, other),
-    satisfies: (version, range, { includePrerelease = false } = {}) => addon.satisfies(range, version, includePrerelease),
+    satisfies: (version, range, { includePrerelease } = {}) => addon.satisfies(range, version, Boolean(includePrerelease)),
     inc: (version, word, identifier = "") => addon.inc(version, word, identifier),
     intersect: (range, other) => addon.intersect(range, other),
     subtract: (range, other) => addon.subtract(range, other),
@@ -16,4 +17,4 @@ function load(path) {
   };
 }
 
-module.exports = { load };
+module.exports = { load, version };

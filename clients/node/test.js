@@ -20,6 +20,17 @@ assert.throws(() => semver.satisfies("1.9.0", "latest"), /bad range/);
 assert.throws(() => semver.compare("1.2", "1.2.3"), /bad version/);
 assert.throws(() => semver.inc("1.2.3", "sideways"), /bad argument/);
 assert.throws(() => semver.compare(1, "1.2.3"), TypeError);
+for (const wrong of [null, undefined, 5, [], {}, Buffer.from("1.2.3")]) {
+  for (const call of [
+    () => semver.compare(wrong, "1.2.3"), () => semver.compare("1.2.3", wrong), () => semver.satisfies(wrong, "^1"), () => semver.satisfies("1.2.3", wrong),
+    () => semver.inc(wrong, "patch"), () => semver.inc("1.2.3", wrong), () => semver.intersect(wrong, "^1"), () => semver.intersect("^1", wrong),
+    () => semver.subtract(wrong, "^1"), () => semver.subtract("^1", wrong), () => semver.minVersion(wrong), () => semver.maxSatisfying([wrong], "^1"),
+    () => semver.maxSatisfying(["1.2.3"], wrong),
+  ])
+    assert.throws(call, TypeError);
+}
+assert.throws(() => semver.inc("1.2.3", "prerelease", null), TypeError);
 assert.throws(() => semver.satisfies("1.9.0", ">=1.0.0, <2.0.0"), /bad range/);
 assert.strictEqual(semver.satisfies("1.0.0-a", "1.x", { includePrerelease: true }), true);
+assert.strictEqual(semver.satisfies("1.0.0-a", "1.x", { includePrerelease: 1 }), true);
 console.log("passed");

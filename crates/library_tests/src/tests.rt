@@ -10,6 +10,7 @@ mod fast_ranges;
 mod json;
 mod kinds;
 mod laws;
+mod library;
 mod lists;
 mod made;
 mod npm;
@@ -23,6 +24,7 @@ mod outside;
 mod print;
 mod questions;
 mod range;
+mod reading_texts;
 mod readme;
 
 use nodejs_semver::{Failure, SemverError};

@@ -2,13 +2,15 @@
 //! dependency whose locked version its range rejects, each locked version that is not one version
 //! as a whole, with the byte where it goes wrong, each range text of which nothing is read, and
 //! each package that is missing or comes from another place than the one that is wanted. It is
-//! meant to find what `npm ls --package-lock-only --all` finds. The page `docs/MODEL.md` of the
-//! repository says which fields it reads, what it skips and where npm finds something else.
+//! meant to find what `npm ls --package-lock-only --all` finds. The page
+//! `docs/LOCK_CHECK.md` of the repository says which fields it reads, what it skips and where npm
+//! finds something else.
 //!
-//! The one argument that it takes is the path of the `package.json` beside the lock file. That is
-//! then the root project, as it is to npm, with its `overrides`, which a lock file does not hold;
-//! a lock file of lockfileVersion 1 does not name the dependencies of the root project either.
-//! Without it the root project is what the lock file has under the empty folder.
+//! `--help` and `--version` tell about the program. Any other argument, of which it takes one, is
+//! the path of the `package.json` beside the lock file. That is then the root project, as it is to
+//! npm, with its `overrides`, which a lock file does not hold; a lock file of lockfileVersion 1 does
+//! not name the dependencies of the root project either. Without it the root project is what the
+//! lock file has under the empty folder.
 //!
 //! It exits with 0 if every dependency is satisfied, absent by leave or skipped, with 1 if one is
 //! not, and with 2 if the check could not be made or is not whole: the input is no lock file, a
@@ -27,6 +29,7 @@ mod check;
 mod fault;
 mod finding;
 mod folder;
+mod help;
 mod lock;
 mod nested;
 mod overrides;
@@ -39,6 +42,7 @@ mod workspaces;
 
 use crate::check::{Findings, check};
 use crate::finding::{Counts, Finding};
+use crate::help::{VERSION, asked};
 use crate::lock::Lock;
 use crate::reading::unmarked;
 use anyhow::{Context, Result};
@@ -64,6 +68,12 @@ fn run(rt: &HostRuntime) -> Result<ExitCode> {
     let alloc = rt.alloc();
     let mut arguments = env::args(rt)?.skip(1);
     let manifest = arguments.next();
+    if let Some(word) = &manifest
+        && let Some(text) = asked(word.as_str())
+    {
+        print!(rt; "{VERSION}{text}")?;
+        return Ok(ExitCode::SUCCESS);
+    }
     if arguments.next().is_some() {
         eprintln!(rt; "usage: lock_check [PACKAGE_JSON] < package-lock.json")?;
         return Ok(ExitCode::from(TROUBLE));
@@ -72,7 +82,8 @@ fn run(rt: &HostRuntime) -> Result<ExitCode> {
     let file = json(alloc, &text).context("the input is not JSON")?;
     let mut packages = packages(alloc, file)?;
     if let Some(path) = manifest {
-        let text = fs::read_to_string(rt, path.as_str())?;
+        let text = fs::read_to_string(rt, path.as_str());
+        let text = text.context("the package.json cannot be read")?;
         let root = json(alloc, &text).context("the package.json is not JSON")?;
         root.as_object().context("the package.json is no object")?;
         put(&mut packages, alloc, "", root)?;

@@ -1,6 +1,6 @@
 // The text of `--help`.
 
-pub const HELP: &str = "semver: sorts, filters and increments npm's versions
+pub const HELP: &str = "SemVer 1.0.0: sorts, filters and increments npm's versions
 
 usage: semver [options] <version>...
        semver compare <version> [<operator>] <version>
