@@ -86,13 +86,18 @@ class Item:
             if not line:
                 break
             first.append(line)
-        text = " ".join(first)
+        text = without_links(" ".join(first))
         end = re.search(r"(?<!\bi\.e)(?<!\be\.g)[.!?](?= [A-Z`(]|$)|:$", text)
         return text[: end.end()] if end else text
 
     def examples(self):
         """The examples in Rust in its comment."""
         return re.findall(r"^```rust\n(.*?)^```$", "\n".join(self.doc) + "\n", re.M | re.S)
+
+
+def without_links(text):
+    """Returns the text of a comment without the addresses of its links."""
+    return re.sub(r"\[(`[^`]*`)\](?:\([^)]*\))?", r"\1", text)
 
 
 def closed(text, at):
