@@ -281,6 +281,11 @@ def defined(path):
     return set(re.findall(r"^(?:abbrev |unfoldable )*pub (?:data |record )?([^\s:(]+)", text_of(path), re.M))
 
 
+def constructors(path):
+    """Returns the words of the data types that a file of specs/ defines."""
+    return {name for names in re.findall(r"^  ([\w ]+) :", text_of(path), re.M) for name in names.split()}
+
+
 def is_statement(path):
     return re.search(r"^-- Statement", text_of(path), re.M) is not None
 
@@ -288,3 +293,49 @@ def is_statement(path):
 def bare_lines(path):
     """Returns the number of lines without comments, imports and blank lines."""
     return sum(not re.match(r"\s*(--|(?:pub )?(?:use|mod) |$)", line) for line in text_of(path).splitlines())
+
+
+@functools.lru_cache(maxsize=None)
+def spec_file(module):
+    """Returns the file of a module of specs/, which may be one that the Lib.antt of its crate passes on."""
+    crate, _, *path = module.split(".")[1:]
+    file, library = f"crates/{crate}/specs/{'/'.join(path)}.antt", f"crates/{crate}/specs/Lib.antt"
+    if os.path.exists(f"{TOP}/{file}") or not os.path.exists(f"{TOP}/{library}"):
+        return file
+    for passed, name in re.findall(r"^pub use (\S+)(?: as (\w+))?$", text_of(library), re.M):
+        if path == [name or passed.split(".")[-1]]:
+            return spec_file(passed)
+    return file
+
+
+def own_file(module):
+    """Returns the file of a module of specs/ of the repository, and None for a module of the toolchain or a declaration."""
+    name = re.match(r"Rattle\.(\w+)\.specs\.(?!(?:declared|contracts)\b)", module)
+    return spec_file(module) if name and name[1] in crates() else None
+
+
+def leaves(item):
+    """Returns the whole path of each thing that an import of definitions brings. Its groups in braces may nest."""
+    while "{" in item:
+        item = re.sub(r"([^\s{},]+)\.\{([^{}]*)\}", lambda it: ", ".join(f"{it[1]}.{one.strip()}" for one in it[2].split(",")), item)
+    return [one.strip() for one in item.split(",")]
+
+
+@functools.lru_cache(maxsize=None)
+def passed_on(module):
+    """Returns the module of each word that a file passes on, where it defines nothing itself."""
+    file = own_file(module)
+    if not file or bare_lines(file):
+        return {}
+    words = (word for item in re.findall(r"^pub use (Rattle\..*\})$", text_of(file), re.M) for word in leaves(item))
+    return {word.rpartition(".")[2]: word.rpartition(".")[0] for word in words}
+
+
+@functools.lru_cache(maxsize=None)
+def imported(path):
+    """Returns the module of each word of specs/ that a source imports for its clauses: the one that defines it."""
+    text, words = text_of(path), {}
+    for item in re.findall(r"ghost use (Rattle\.[^;]*\});", text):
+        words.update((it.split(" as ")[-1].rpartition(".")[2], it.split(" as ")[0].rpartition(".")[0]) for it in leaves(item))
+    words.update((name, module) for module, name in re.findall(r"ghost use (Rattle\.[\w.]+) as (\w+);", text))
+    return {word: passed_on(module).get(word, module) for word, module in words.items()}
