@@ -62,6 +62,11 @@ def is_library(crate):
     return os.path.exists(f"{TOP}/crates/{crate}/src/lib.rt")
 
 
+def is_of_tests(crate):
+    """Whether a crate is there to test others: `sweeps` is a program that asks all calls."""
+    return crate == "sweeps" or any("#[test]" in text_of(it) for it in sources(crate))
+
+
 # ---- the items of a source
 
 class Clause:
@@ -263,6 +268,25 @@ def exports(crate):
                 for target, name in leaves_of_use(use):
                     found.append((module, name, re.sub(r"^crate::", f"{crate}::", target)))
     return found
+
+
+# What the comment of a module or an item says where it is public for other crates here, and not for callers.
+OWN = "crates of this repository alone"
+
+
+def is_for_us(text):
+    return OWN in re.sub(r"\s+", " ", text)
+
+
+def is_for_callers(crate, path):
+    """Whether no module on a public path is for the crates of this repository alone."""
+    module, heads = tuple(path.split("::")[1:-1]), module_heads(crate)
+    return not any(is_for_us(heads[module[:end]][1]) for end in range(1, len(module) + 1) if module[:end] in heads)
+
+
+def offered_paths(crate, item):
+    """Returns the public paths by which callers know an item at the top of a module."""
+    return [] if is_for_us(" ".join(item.doc)) else [it for it in public_paths(crate, item) if is_for_callers(crate, it)]
 
 
 def public_paths(crate, item):
