@@ -15,7 +15,7 @@ import re
 import shutil
 import subprocess
 
-from repository import HEADER, TOP, text_of, write
+from repository import HEADER, TOP, text_of
 
 # What the name of a twin ends with: a function beside another one, with a body of its own.
 TWIN = re.compile(r"_twin\d+\b")
