@@ -270,23 +270,19 @@ def exports(crate):
     return found
 
 
-# What the comment of a module or an item says where it is public for other crates here, and not for callers.
-OWN = "crates of this repository alone"
+# What the comment of an item, or the head of a module, says where it is public for other crates here, and promises nothing to callers.
+OWN = "for the crates of this repository"
 
 
-def is_for_us(text):
-    return OWN in re.sub(r"\s+", " ", text)
-
-
-def is_for_callers(crate, path):
-    """Whether no module on a public path is for the crates of this repository alone."""
-    module, heads = tuple(path.split("::")[1:-1]), module_heads(crate)
-    return not any(is_for_us(heads[module[:end]][1]) for end in range(1, len(module) + 1) if module[:end] in heads)
+def is_for_us(crate, item):
+    """Whether the comment of an item, or the head of a module that it is in, says that it is for the crates of this repository."""
+    heads = [module_heads(crate)[item.module[:end]][1] for end in range(1, len(item.module) + 1) if item.module[:end] in module_heads(crate)]
+    return any(OWN in re.sub(r"\s+", " ", text) for text in [" ".join(item.doc), *heads])
 
 
 def offered_paths(crate, item):
     """Returns the public paths by which callers know an item at the top of a module."""
-    return [] if is_for_us(" ".join(item.doc)) else [it for it in public_paths(crate, item) if is_for_callers(crate, it)]
+    return [] if is_for_us(crate, item) else public_paths(crate, item)
 
 
 def public_paths(crate, item):
