@@ -275,8 +275,9 @@ OWN = "for the crates of this repository"
 
 
 def is_for_us(crate, item):
-    """Whether the comment of an item, or the head of a module that it is in, says that it is for the crates of this repository."""
-    heads = [module_heads(crate)[item.module[:end]][1] for end in range(1, len(item.module) + 1) if item.module[:end] in module_heads(crate)]
+    """Whether the comment of an item, or the head of its crate or of a module that it is in, says that it is for the crates of this
+    repository."""
+    heads = [module_heads(crate)[item.module[:end]][1] for end in range(len(item.module) + 1) if item.module[:end] in module_heads(crate)]
     return any(OWN in re.sub(r"\s+", " ", text) for text in [" ".join(item.doc), *heads])
 
 
