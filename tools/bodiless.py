@@ -6,7 +6,8 @@ import glob
 import os
 import re
 
-from edits import HEADER, TOP, Place, text_of
+from edits import Place
+from repository import HEADER, TOP, text_of
 
 BODY = "let _ = crate::never(0);\n{}    unreachable!()"
 # What calls a function, or imports some.

@@ -1,6 +1,10 @@
-"""The wrong bodies of the crates: files crates/NAME/wrong_bodies/CALL__MISTAKE.edit, and their rows in docs/WRONG_BODIES.md.
+"""The wrong bodies of the crates: files crates/NAME/wrong_bodies/CALL__MISTAKE.edit.
 
-An edit is a file of lines 'file: PATH', 'old: TEXT' and 'new: TEXT'. Each old text stands in its file once, and the new one takes its
+The head of an edit has a line '# mistake: ..', what is wrong; a line '# rejected by: ..', the function at which the prover stops with the
+clauses of it that are left open, and behind 'for' the public call that it serves, with its clauses; and a line '# example: ..' where a line
+of the program shows the mistake: `LINE`: `WRONG`, not `RIGHT`. docs/WRONG_BODIES.md lists these heads.
+
+Below the head an edit has lines 'file: PATH', 'old: TEXT' and 'new: TEXT'. Each old text stands in its file once, and the new one takes its
 place; a further pair applies to what the earlier ones made. A line 'also: FUNCTION: GOAL' names a goal that the body leaves open beside
 those by which it is rejected, and that need not be tried: the folder of the function's proof files, and the goal."""
 import copy
@@ -11,22 +15,11 @@ import re
 import shutil
 import subprocess
 
-TOP = os.path.realpath(os.path.join(os.path.dirname(os.path.realpath(__file__)), ".."))
-PAGE = "docs/WRONG_BODIES.md"
-HEADER = re.compile(r"^( *)(?:#\[[^\n]*\] )?(?:pub(?:\([^)]*\))? )?(?:final )?(?:const )?(?:unsafe )?(?:extern \"C\" )?fn (\w+)", re.M)
+from repository import HEADER, TOP, text_of
+
 # What the name of a twin ends with: a function beside another one, with a body of its own.
 TWIN = re.compile(r"_twin\d+\b")
 BLOCK = re.compile(r"^(?:impl\b.*?(?=\{|where|$)|(?:pub(?:\([^)]*\))? )?trait \w+)", re.M)
-
-
-def text_of(path):
-    with open(path, encoding="utf-8") as file:
-        return file.read()
-
-
-def write(path, text):
-    with open(path, "w", encoding="utf-8") as file:
-        file.write(text)
 
 
 def bounds_of(text, head):
@@ -109,10 +102,12 @@ class Edit:
 
     def __init__(self, crate, path):
         self.crate, self.path, self.name = crate, path, os.path.basename(path)[: -len(".edit")]
-        self.pairs, self.places, self.also, file, old = [], [], [], "", ""
+        self.pairs, self.places, self.also, self.head, file, old = [], [], [], {}, "", ""
         for line in filter(None, text_of(path).splitlines()):
             key, _, value = line.partition(": ")
-            if key == "file":
+            if key.startswith("# "):
+                self.head[key[2:]] = value
+            elif key == "file":
                 file = value
             elif key == "old":
                 old = value
@@ -218,13 +213,6 @@ def edits():
     return {str(it): it for it in (Edit(os.path.relpath(path, TOP).split("/")[1], path) for path in paths)}
 
 
-def rows():
-    """Returns the rows of the page, in order: the crate with the name, the example, and the clause that rejects the body."""
-    crate, found = "", []
-    for line in text_of(f"{TOP}/{PAGE}").splitlines():
-        if heading := re.match(r"## `(\w+)`$", line):
-            crate = heading[1]
-        elif row := re.match(r"\| `(\w+)`(?: \\\*)? \|", line):
-            cells = [it.strip().replace("\\|", "|") for it in re.split(r"(?<!\\)\|", line)]
-            found.append((f"{crate}/{row[1]}", cells[3], cells[4]))
-    return found
+def rows(bodies=None):
+    """Returns for each wrong body the example, or nothing, and what rejects it, as its head says."""
+    return [(name, it.head.get("example", ""), it.head.get("rejected by", "")) for name, it in (bodies or edits()).items()]

@@ -13,7 +13,7 @@ import time
 
 import edits
 from bodiless import contracts, root_of
-from edits import TOP, text_of
+from repository import TOP, crate_lines, text_of, write
 
 # The file to which the gate writes what `rt ci` says, beside which it runs these tools.
 SAYS = "RT_CI_SAYS"
@@ -33,13 +33,12 @@ def kit():
 
 
 class Crate:
-    """A line of crates.txt."""
+    """A crate of crates.txt."""
 
-    def __init__(self, line, lower):
-        head, _, uses = line.partition(":")
-        self.line, self.name, self.is_static = line, head.split()[0], "staticlib" in head.split()
-        self.deps = [lower[it] for it in uses.split() if it in lower]
-        self.of_kit = ["std", *[it for it in uses.split() if it not in lower]]
+    def __init__(self, name, is_static, uses, lower):
+        self.line, self.name, self.is_static = f"{name}{' staticlib' if is_static else ''}: {' '.join(uses)}", name, is_static
+        self.deps = [lower[it] for it in uses if it in lower]
+        self.of_kit = ["std", *[it for it in uses if it not in lower]]
 
     def below(self):
         """Returns the crates of the repository that it stands on, the lowest first."""
@@ -65,10 +64,8 @@ class Crate:
 def crates():
     """Returns the crates by their names, low to high, as crates.txt lists them."""
     found = {}
-    for line in text_of(f"{TOP}/crates.txt").splitlines():
-        if re.match(r"\w", line):
-            crate = Crate(line, found)
-            found[crate.name] = crate
+    for name, (is_static, uses) in crate_lines().items():
+        found[name] = Crate(name, is_static, uses, found)
     return found
 
 
@@ -104,7 +101,7 @@ class Libraries:
             if not os.path.exists(f"{self.room}/contracts"):
                 edits.copied(f"{self.room}/contracts")
         for file, text in contracts(crate.name, folder).items():
-            edits.write(f"{folder}/{file}", text) if text is not None else os.remove(f"{folder}/{file}")
+            write(f"{folder}/{file}", text) if text is not None else os.remove(f"{folder}/{file}")
         made = f"{self.room}/contracts/{crate.name}.rlib"
         words = [*crate.words("build", folder, self.folder), "--jobs", "1", "-o", made]
         with tempfile.TemporaryFile("w+", errors="replace") as said:

@@ -1,12 +1,13 @@
 -- Statement. How the texts of a call are read.
-use Rattle.npm_words.specs.Alternatives as npm
 use Rattle.std.specs.Prelude.{◌<◌, ◌==◌, if◌then◌else◌, Bool, false, ℕ, List, [], Option, Some, None, length}
 use Rattle.semver_core.specs.Cuts.{Span}
 use Rattle.semver_core.specs.Failures.{NoValue}
 use Rattle.semver_core.specs.Text.Parsing.{Parses}
 use Rattle.semver_core.specs.Values.Versions.{VersionValue}
 use Rattle.semver_core.specs.declared.TheConstants.{MAX_SAFE_INTEGER}
+use Rattle.npm_words.specs.Alternatives.{HasAlternativesIn}
 use Rattle.npm_words.specs.VersionText.{IsVersionText}
+use Rattle.npm_reading.specs.Ranges.{IsRangeIn}
 use Rattle.semver_core.specs.Text.Bars.{IsCutAtBars}
 use Rattle.nodejs_semver.specs.Text.Meaning.{Means}
 use Rattle.nodejs_semver_c.specs.declared.read.Grammar.{Grammar}
@@ -25,11 +26,11 @@ Spells Npm = IsVersionText MAX_SAFE_INTEGER
 -- it is read as this range, where npm may include pre-releases; or as none
 abbrev pub SpellsRange : Grammar → Bool → List ℕ → List (Span VersionValue) → Type 0
 SpellsRange Port include text r = Means MAX_SAFE_INTEGER text r × (0 < length r)
-SpellsRange Npm include text r = npm.IsRangeIn false MAX_SAFE_INTEGER include text r
+SpellsRange Npm include text r = IsRangeIn false MAX_SAFE_INTEGER include text r
 
 abbrev pub SpellsNoRange : Grammar → Bool → List ℕ → Type 0
 SpellsNoRange Port include text = Means MAX_SAFE_INTEGER text []
-SpellsNoRange Npm include text = NoValue (npm.HasAlternativesIn false MAX_SAFE_INTEGER include text)
+SpellsNoRange Npm include text = NoValue (HasAlternativesIn false MAX_SAFE_INTEGER include text)
 
 -- it means two intervals or more, or has two alternatives or more: reading it takes memory
 abbrev pub IsWide : Grammar → List ℕ → Type 0

@@ -5,31 +5,6 @@ use nodejs_semver::laws::headline::{Findings, FindingsAt, headline, headline_at}
 use nodejs_semver::{OutsideDirection, Range, Version, laws};
 use std::alloc::Global;
 
-#[test]
-fn laws_of_range_texts(rt: HostRuntime) {
-    laws::grammar();
-    laws::meaning();
-    laws::printed_ranges_come_back(">1.2.3");
-    laws::build_of_the_least();
-    laws::one_flaw();
-    laws::ignored_words_mean_nothing();
-    npm_reading::laws::npm_reads_alike();
-    assert!(rt; true);
-}
-
-// Whether the range of the text accepts the version, to both readings.
-fn accept_both(alloc: Global, text: &str, version: &Version) -> bool {
-    match npm_reading::laws::satisfied_alike(alloc, text, version) {
-        Ok(both) => both == (true, true),
-        Err(_) => false,
-    }
-}
-
-#[test]
-fn both_readings_accept_a_version(rt: HostRuntime) {
-    assert!(rt; accept_both(rt.alloc(), "^1 || >2 <4", &Version::from((3u8, 5, 0))));
-}
-
 // Whether the version lies above the range, and not below it.
 fn is_above(range: &Range, version: &Version) -> bool {
     laws::outside_by_cuts(range, version, OutsideDirection::Higher) == Ok(true)
