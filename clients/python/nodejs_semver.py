@@ -5,6 +5,7 @@
 
 Texts are read as npm reads them. A text is a str, or bytes in UTF-8. A value of another type is a TypeError, in each place."""
 import ctypes
+import os
 from ctypes import POINTER, byref, c_bool, c_char, c_char_p, c_int32, c_size_t, c_uint8, c_uint32
 
 __version__ = "1.0.0"
@@ -110,7 +111,11 @@ class Semver:
             raise TypeError(f"a reading is NPM or LENIENT, not {type(reading).__name__}")
         if reading not in (NPM, LENIENT):
             raise ValueError(f"a reading is NPM or LENIENT, not {reading}")
-        library = ctypes.CDLL(path)
+        if not isinstance(path, (str, bytes, os.PathLike)):
+            raise TypeError(f"a path is a str, bytes or os.PathLike, not {type(path).__name__}")
+        if not os.fspath(path):
+            raise ValueError("a path is not empty")
+        library = ctypes.CDLL(os.fsdecode(path))
         self._reading, self._calls = reading, {}
         for name, parameters in PARAMETERS.items():
             call = getattr(library, f"nodejs_semver_{name}")

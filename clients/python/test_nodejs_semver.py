@@ -5,6 +5,8 @@ import unittest
 
 from nodejs_semver import BAD_VERSION, LENIENT, NOT_UTF8, NPM, PARAMETERS, Semver, SemverError
 
+if len(sys.argv) < 2:
+    sys.exit(__doc__)
 LIBRARY = os.path.abspath(os.path.join(sys.argv.pop(1), "libnodejs_semver.so"))
 lenient, npm = Semver(LIBRARY, LENIENT), Semver(LIBRARY)
 # A call of each method, with the places that take a list.
@@ -20,6 +22,12 @@ LISTS = {"max_satisfying", "min_satisfying", "sorted", "satisfies_each"}
 
 
 class Test(unittest.TestCase):
+    def test_paths(self):
+        for path in (None, 5, [], 1.5):
+            self.assertRaises(TypeError, Semver, path)
+        self.assertRaises(ValueError, Semver, "")
+        self.assertRaises(OSError, Semver, "/no/such/library.so")
+
     def test_versions(self):
         self.assertEqual(lenient.version("v1.2.3-rc.1 oops"), "1.2.3-rc.1")
         self.assertEqual([lenient.compare("1.2.3-a", "1.2.3"), lenient.compare("1.2.3+x", "1.2.3"), lenient.compare("2.0.0", "1.2.3")], [-1, 0, 1])
