@@ -2,7 +2,7 @@
 
 The head of an edit has a line '# mistake: ..', what is wrong; a line '# rejected by: ..', the function at which the prover stops with the
 clauses of it that are left open, and behind 'for' the public call that it serves, with its clauses; and a line '# example: ..' where a line
-of the program shows the mistake: `LINE`: `WRONG`, not `RIGHT`. docs/WRONG_BODIES.md lists these heads.
+of the program shows the mistake: `LINE`: `WRONG`, not `RIGHT`. `tools/wrong_bodies --list` prints these heads.
 
 Below the head an edit has lines 'file: PATH', 'old: TEXT' and 'new: TEXT'. Each old text stands in its file once, and the new one takes its
 place; a further pair applies to what the earlier ones made. A line 'also: FUNCTION: GOAL' names a goal that the body leaves open beside

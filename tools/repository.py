@@ -311,9 +311,14 @@ def is_statement(path):
     return re.search(r"^-- Statement", text_of(path), re.M) is not None
 
 
-def bare_lines(path):
-    """Returns the number of lines without comments, imports and blank lines."""
-    return sum(not re.match(r"\s*(--|(?:pub )?(?:use|mod) |$)", line) for line in text_of(path).splitlines())
+def bare_characters(path):
+    """Returns how many characters the lines have that are no comments and no imports."""
+    return sum(len(line) for line in text_of(path).splitlines() if not re.match(r"\s*(--|(?:pub )?(?:use|mod) |$)", line))
+
+
+def statement_characters(crate):
+    """Returns how many characters the definitions of a crate have that a reader of its contracts has to believe."""
+    return sum(bare_characters(path) for path in specs(crate) if is_statement(path))
 
 
 @functools.lru_cache(maxsize=None)
@@ -346,7 +351,7 @@ def leaves(item):
 def passed_on(module):
     """Returns the module of each word that a file passes on, where it defines nothing itself."""
     file = own_file(module)
-    if not file or bare_lines(file):
+    if not file or bare_characters(file):
         return {}
     words = (word for item in re.findall(r"^pub use (Rattle\..*\})$", text_of(file), re.M) for word in leaves(item))
     return {word.rpartition(".")[2]: word.rpartition(".")[0] for word in words}

@@ -3,8 +3,8 @@ use Rattle.std.specs.Prelude.{◌≡◌, ◌≢◌, ◌⊎◌, ℕ, List, [], �
 use Rattle.lock_check.specs.declared.overrides.Replacement.{Replacement}
 use Rattle.lock_check.specs.declared.overrides.Replacement.TheVariants.{Nothing, Reference, Text}
 
--- nothing, if it is empty or `*`; what the root project has for the name behind a `$`; and the text itself,
--- if no `$` begins it
+-- nothing, if it is empty or `*`; what the root project has for the name behind a `$`; and the text
+-- itself, if no `$` begins it
 abbrev pub IsReplacement : List ℕ → Replacement → Type 0
 IsReplacement text Nothing = (text ≡ []) ⊎ (text ≡ codes "*")
 IsReplacement text (Reference name) = text ≡ 36 ∷ name.now

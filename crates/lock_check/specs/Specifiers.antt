@@ -25,13 +25,14 @@ pub data IsName : List ℕ → Type 0 where
   scoped : (scope name : List ℕ) → is_part scope ≡ true → is_part name ≡ true
       → IsName (64 ∷ (scope ++ 47 ∷ name))
 
--- what stands behind `npm:` is a name, and behind an `@` the range. A name alone, or with nothing behind the
--- `@`, is any version of it. A text without an `@` may be a range itself. npm rejects other texts, each of
--- which has one of four characters.
+-- what stands behind `npm:` is a name, and behind an `@` the range. A name alone, or with nothing
+-- behind the `@`, is any version of it. A text without an `@` may be a range itself. npm rejects
+-- other texts, each of which has one of four characters.
 abbrev pub IsAlias : List ℕ → Specifier → Type 0
 IsAlias target (Range range) =
     ((name : List ℕ) × IsName name × (range.now ≢ []) × (target ≡ name ++ 64 ∷ range.now))
-    ⊎ ((name : List ℕ) × IsName name × (range.now ≡ codes "*") × ((target ≡ name) ⊎ (target ≡ name ++ 64 ∷ [])))
+    ⊎ ((name : List ℕ) × IsName name × (range.now ≡ codes "*")
+    × ((target ≡ name) ⊎ (target ≡ name ++ 64 ∷ [])))
     ⊎ ((range.now ≡ target) × ¬ (Contains target 64))
 IsAlias target Unsupported = HoldsOneOf (codes "@/:.") target
 IsAlias target _ = ⊥

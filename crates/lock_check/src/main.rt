@@ -8,9 +8,9 @@
 //!
 //! `--help` and `--version` tell about the program. Any other argument, of which it takes one, is
 //! the path of the `package.json` beside the lock file. That is then the root project, as it is to
-//! npm, with its `overrides`, which a lock file does not hold; a lock file of lockfileVersion 1 does
-//! not name the dependencies of the root project either. Without it the root project is what the
-//! lock file has under the empty folder.
+//! npm, with its `overrides`, which a lock file does not hold; a lock file of lockfileVersion 1
+//! does not name the dependencies of the root project either. Without it the root project is what
+//! the lock file has under the empty folder.
 //!
 //! It exits with 0 if every dependency is satisfied, absent by leave or skipped, with 1 if one is
 //! not, and with 2 if the check could not be made or is not whole: the input is no lock file, a
@@ -21,8 +21,8 @@
 //! all other characters, quotes and backslashes are escaped, as `\u{1b}`.
 //!
 //! Ranges and versions are read as npm's library node-semver reads them. A text that it rejects is
-//! no range but a tag or an error, as to npm. A dependency is skipped if node-semver may find another
-//! range in its text than is found here, as in `>*1.2.3`.
+//! no range but a tag or an error, as to npm. A dependency is skipped if node-semver may find
+//! another range in its text than is found here, as in `>*1.2.3`.
 #![tactic(auto)]
 
 mod check;

@@ -1,5 +1,5 @@
--- Statement. Which status the exports return, and what they write. The texts are read from the left, and the
--- first that is rejected decides the status.
+-- Statement. Which status the exports return, and what they write. The texts are read from the
+-- left, and the first that is rejected decides the status.
 use Rattle.std.specs.Prelude.{◌≡◌, ◌≢◌, ◌<◌, ◌≤◌, ◌^◌, ◌++◌, ◌⊎◌, Bool, IsSomeAnd, IsUtf8, MatchOption, ℕ}
 use Rattle.std.specs.Prelude.{List, Option, Some, None, Result, Ok, Err, drop, length}
 use Rattle.semver_core.specs.Cuts.{Span}
@@ -21,7 +21,8 @@ abbrev pub IsRangeOf : ℕ → Bool → List ℕ → List (Span VersionValue) �
 IsRangeOf reading include bytes r = IsSomeAnd (reading_of reading) (λ by.
     IsUtf8 bytes × SpellsRange by include bytes r)
 
--- the bytes are rejected with this status as a text, as a version, and as a range; or the reading is none
+-- the bytes are rejected with this status as a text, as a version, and as a range; or the reading
+-- is none
 abbrev pub RefusesText : List ℕ → ℕ → Type 0
 RefusesText bytes status =
     ((status ≡ NOT_UTF8) × (IsUtf8 bytes → ⊥)) ⊎ ((status ≡ TOO_LONG) × (2 ^ 63 ≤ length bytes))
@@ -52,7 +53,8 @@ OnRange reading include bytes status Same Answer =
 abbrev pub Kept : (old new : List ℕ) (len_old len_new : ℕ) → Type 0
 Kept old new len_old len_new = (new ≡ old) × (len_new ≡ len_old)
 
--- a text is put in front of a buffer's bytes, or is too long for it; its length is written in both cases
+-- a text is put in front of a buffer's bytes, or is too long for it; its length is written in both
+-- cases
 abbrev pub Puts : (text old new : List ℕ) (len status : ℕ) → Type 0
 Puts text old new len status = (len ≡ length text)
     × (((status ≡ OK) × (new ≡ text ++ drop (length text) old))
@@ -74,8 +76,8 @@ PrintsFound text None old new len_old len_new status = (status ≡ NOTHING) × K
 PrintsFound text (Some value) old new len_old len_new status =
     Prints (text value) old new len_old len_new status
 
--- the next version is printed, or the status says why there is none. Memory is never missing in place of an
--- overflow, and for a version only if it has identifiers.
+-- the next version is printed, or the status says why there is none. Memory is never missing in
+-- place of an overflow, and for a version only if it has identifiers.
 abbrev pub PrintsResult : Result VersionValue increment.Fault → (old new : List ℕ)
     → (len_old len_new status : ℕ) → Type 0
 PrintsResult (Ok v) old new len_old len_new status = Prints (version_text v) old new len_old len_new status

@@ -13,7 +13,8 @@ use Rattle.nodejs_semver_c.specs.Answers.{IsVersionOf, RefusesVersion}
 use Rattle.nodejs_semver_c.specs.declared.TheConstants.{ANSWER_NO, ANSWER_NO_VERSION, ANSWER_YES}
 use Rattle.nodejs_semver_c.specs.declared.TheConstants.{NOTHING, OK, TOO_LONG}
 
--- an answer about an array of texts; or it has more than memory holds, at 16 bytes each, and all is as it was
+-- an answer about an array of texts; or it has more than memory holds, at 16 bytes each, and all is
+-- as it was
 abbrev pub OnArray : List (Bor (List ℕ)) → ℕ → Type 0 → Type 0 → Type 0
 OnArray texts status Same Answer = ((status ≡ TOO_LONG) × (2 ^ 59 ≤ length texts) × Same) ⊎ Answer
 

@@ -1,4 +1,5 @@
--- Statement: which part of a range text node-semver's strict reading rejects first, and where it stands.
+-- Statement: which part of a range text node-semver's strict reading rejects first, and where it
+-- stands.
 use Rattle.std.specs.Prelude.{◌≡◌, ◌+◌, ℕ, Bool, List, ◌∷◌, ◌++◌, length}
 use Rattle.std.specs.List.{AllByRecursion}
 use Rattle.semver_core.specs.Failures.{NoValue}
@@ -9,8 +10,8 @@ use Rattle.semver_core.specs.Text.Bars.{IsCutAtBars}
 use Rattle.npm_reading.specs.declared.range_flaws.RangeFlaw.{RangeFlaw}
 use Rattle.npm_words.specs.RangeFlaws.{IsAlternativeText, bytes_of}
 
--- the first piece between the bars of a text that is no alternative, without the whitespace around it, and its
--- first malformed word stand at these bytes
+-- the first piece between the bars of a text that is no alternative, without the whitespace around
+-- it, and its first malformed word stand at these bytes
 pub record IsRangeFlaw (limit : ℕ) (include : Bool) (text : List ℕ) (flaw : RangeFlaw) : Type 0 where
   pub front : List (List ℕ)
   pub piece : List ℕ

@@ -282,8 +282,8 @@ fn push_comparisons<'a>(
     push_read(joined(first, second), rest, found)
 }
 
-// Adds the interval of a short partial behind a sign, and returns what follows it. The sign is known
-// where this is called, so that each sign has a row of its own.
+// Adds the interval of a short partial behind a sign, and returns what follows it. The sign is
+// known where this is called, so that each sign has a row of its own.
 #[inline(always)]
 #[tactic(auto, using(crate::proofs::Grammar::CommonReads::words_found))]
 fn push_signed<'a>(

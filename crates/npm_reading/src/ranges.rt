@@ -4,8 +4,8 @@ ghost use Rattle.std.specs.{Prelude.{◌&&◌, ◌<◌, ◌≡◌, []}, Str.IsUt
 ghost use Rattle.npm_words.specs.Words.{Comparison, HasAlternativesIn};
 ghost use Rattle.nodejs_semver.specs.Words.{IfOk, IsCutAtBars, List};
 ghost use Rattle.nodejs_semver.specs.Words.{IsRange, MAX_SAFE_INTEGER, MemoryOnlyIf, NoValue};
-ghost use Rattle.nodejs_semver.specs.Words.{None, OnOk, RefusedOnlyIf, false, length, parts, true, ℕ};
-ghost use Rattle.nodejs_semver.specs.Words.{Some};
+ghost use Rattle.nodejs_semver.specs.Words.{None, OnOk, RefusedOnlyIf, false, length, parts};
+ghost use Rattle.nodejs_semver.specs.Words.{Some, true, ℕ};
 ghost use Rattle.npm_words.specs.Internal.Parts.{are_normal, npm_partial_view};
 ghost use Rattle.npm_words.specs.Internal.Views.{end_view};
 ghost use Rattle.npm_words.specs.Internal.Words.{hyphen_of, words_of_all};

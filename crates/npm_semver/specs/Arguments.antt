@@ -47,10 +47,11 @@ word_of word =
     else if begins (λ b. b == 45) word then Unknown
     else Text
 
--- what is asked: the texts that may be versions, the range texts, the level, the identifier and the first
--- number of a next version, whether the greatest version is printed first, how texts are read, which versions
--- are printed, whether as they were given, and whether as JSON, whether what is not read is an error, and is
--- told, whether some word looks like an option and is none, and whether lines of the input may be versions
+-- what is asked: the texts that may be versions, the range texts, the level, the identifier and the
+-- first number of a next version, whether the greatest version is printed first, how texts are
+-- read, which versions are printed, whether as they were given, and whether as JSON, whether what
+-- is not read is an error, and is told, whether some word looks like an option and is none, and
+-- whether lines of the input may be versions
 pub record Asked : Type 0 where
   pub versions : List (List ℕ)
   pub ranges : List (List ℕ)

@@ -13,13 +13,13 @@ use Rattle.npm_semver.specs.declared.reading.ReadOptions.{ReadOptions}
 abbrev pub strictly : ReadOptions
 strictly = record { include_prerelease = false; is_loose = false; is_coerced = false; from_right = false }
 
--- what is found, the leftmost numbers or those that end last, is kept with its pre-release only where pre-releases
--- are included
+-- what is found, the leftmost numbers or those that end last, is kept with its pre-release only
+-- where pre-releases are included
 abbrev pub IsFoundIn : ReadOptions → List ℕ → VersionValue → Type 0
 IsFoundIn r = IsCoerced r.include_prerelease (IsChosenFrom r.from_right) (IsNumberIn r.is_loose)
 
--- the text is the version: strictly, also where the reading is loose; where it is coerced, what is found in
--- it, and only if nothing is found what it is strictly
+-- the text is the version: strictly, also where the reading is loose; where it is coerced, what is
+-- found in it, and only if nothing is found what it is strictly
 pub data IsVersionIn (r : ReadOptions) (text : List ℕ) (v : VersionValue) : Type 0 where
   strict : r.is_coerced ≡ false → IsVersionText MAX_SAFE_INTEGER text v → IsVersionIn r text v
   found : r.is_coerced ≡ true → IsFoundIn r text v → IsVersionIn r text v

@@ -24,8 +24,8 @@ pub data AreNoRanges (r : ReadOptions) : List (List ℕ) → List Told → Type 
       → AreNoRanges r texts told
       → AreNoRanges r (text ∷ texts) (record { text = text; kind = NoRange } ∷ told)
 
--- those of these texts that are left out, in their order: no versions, and versions that not all range texts
--- accept
+-- those of these texts that are left out, in their order: no versions, and versions that not all
+-- range texts accept
 pub data AreLeftOut (r : ReadOptions) (ranges : List (List ℕ)) : List (List ℕ) → List Told → Type 0 where
   none : AreLeftOut r ranges [] []
   accepted : (text : List ℕ) (texts : List (List ℕ)) (v : VersionValue) (told : List Told)

@@ -89,8 +89,8 @@ HasNoVersion q = (q.is_strict ≡ true) × SomeText (λ text. NoValue (IsVersion
 abbrev pub is_plain : ℕ → Bool
 is_plain c = not (is_in_range 0 31 c || c == 34 || c == 92)
 
--- some text may be printed as it was given, though more than a version stands in it, and is no line or no
--- JSON string as it is
+-- some text may be printed as it was given, though more than a version stands in it, and is no line
+-- or no JSON string as it is
 abbrev pub HasUnshown : Asked → Type 0
 HasUnshown q = ((q.reading.is_coerced && q.as_written) ≡ true)
     × SomeText (λ text. list_all is_plain text ≡ false) q.versions

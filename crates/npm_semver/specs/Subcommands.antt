@@ -26,7 +26,8 @@ use Rattle.npm_semver.specs.declared.subcommands.replies.Status.TheVariants.{Yes
 abbrev pub Range : Type 0
 Range = List (Span VersionValue)
 
--- what is written to standard output, whether a message is written to standard error, and the exit status
+-- what is written to standard output, whether a message is written to standard error, and the exit
+-- status
 pub data Said : Type 0 where
   say : (output : List ℕ) (is_error_told : Bool) (status : Status) → Said
 

@@ -5,8 +5,9 @@ use Rattle.semver_core.specs.Text.Characters.{IsTrim}
 use Rattle.semver_core.specs.Text.Identifiers.{is_listed, listed}
 use Rattle.semver_core.specs.Values.Versions.{VersionValue}
 
--- the text is a version, as `Is` has it, and this is its build as it is written: what stands behind the first `+` of
--- the text without the whitespace around it, or nothing. It spells the build of the version.
+-- the text is a version, as `Is` has it, and this is its build as it is written: what stands behind
+-- the first `+` of the text without the whitespace around it, or nothing. It spells the build of
+-- the version.
 pub record IsBuildText (Is : List ℕ → VersionValue → Type 0) (text build : List ℕ) : Type 0 where
   pub version : VersionValue
   pub is : Is text version

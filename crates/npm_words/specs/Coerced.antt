@@ -1,7 +1,8 @@
--- Statement: the version that node-semver's `coerce` finds in any text, without its pre-release or with it.
--- Left out are three faults of node-semver where it is found with its pre-release: it cuts an identifier that begins
--- with digits, as in `1.2.3-1a`, and one of a build behind 250 characters; and from the right it takes numbers inside a
--- pre-release or a build, unless the text ends with these.
+-- Statement: the version that node-semver's `coerce` finds in any text, without its pre-release or
+-- with it. Left out are three faults of node-semver where it is found with its pre-release: it cuts
+-- an identifier that begins with digits, as in `1.2.3-1a`, and one of a build behind 250
+-- characters; and from the right it takes numbers inside a pre-release or a build, unless the text
+-- ends with these.
 use Rattle.std.specs.Prelude.{◌≡◌, ◌==◌, ◌&&◌, ◌||◌, ◌<◌, ◌≤◌, not, ℕ, Bool, true, false, List, [], ◌∷◌, ◌++◌}
 use Rattle.std.specs.Prelude.{codes, drop, length, map, take_while}
 use Rattle.std.specs.Char.{is_ascii_digit}
@@ -37,7 +38,8 @@ pub record IsTupleIn (text front tuple back : List ℕ) : Type 0 where
 
 -- an identifier; strictly, one that is digits alone has no leading zero
 abbrev pub is_identifier_in : Bool → List ℕ → Bool
-is_identifier_in strict text = is_identifier text && not (strict && list_all is_ascii_digit text && has_leading_zero text)
+is_identifier_in strict text =
+    is_identifier text && not (strict && list_all is_ascii_digit text && has_leading_zero text)
 
 -- the text begins with such an identifier, as far as its letters, digits and `-` go
 abbrev pub begins_identifier_in : Bool → List ℕ → Bool
@@ -48,15 +50,19 @@ abbrev pub goes_on_in : Bool → List ℕ → Bool
 goes_on_in strict [] = false
 goes_on_in strict (c ∷ rest) = is_identifier_char c || (c == 46 && begins_identifier_in strict rest)
 
--- a mark and the longest list of such identifiers behind it; or nothing, where none is included or none stands there
+-- a mark and the longest list of such identifiers behind it; or nothing, where none is included or
+-- none stands there
 pub data IsMarkedList (included strict : Bool) (mark : ℕ) : List ℕ → List ℕ → List Id → Type 0 where
   marked : (text rest : List ℕ) → included ≡ true → list_all (is_identifier_in strict) (pieces text) ≡ true
-      → goes_on_in strict rest ≡ false → IsMarkedList included strict mark (mark ∷ text) rest (map identifier_of (pieces text))
-  unmarked : (rest : List ℕ) → (included && begins (λ c. c == mark) rest && begins_identifier_in strict (drop 1 rest)) ≡ false
+      → goes_on_in strict rest ≡ false
+      → IsMarkedList included strict mark (mark ∷ text) rest (map identifier_of (pieces text))
+  unmarked : (rest : List ℕ)
+      → (included && begins (λ c. c == mark) rest && begins_identifier_in strict (drop 1 rest))
+      ≡ false
       → IsMarkedList included strict mark [] rest []
 
--- between these a tuple stands in the text, and goes on with a strict pre-release and with build metadata, if they are
--- included: behind `-`, which is 45, and `+`, which is 43
+-- between these a tuple stands in the text, and goes on with a strict pre-release and with build
+-- metadata, if they are included: behind `-`, which is 45, and `+`, which is 43
 pub record IsContinuedIn (included : Bool) (text front whole back : List ℕ) : Type 0 where
   pub tuple : List ℕ
   pub pre : List ℕ
@@ -71,12 +77,14 @@ pub record IsContinuedIn (included : Bool) (text front whole back : List ℕ) : 
 -- none begins sooner, and none that begins there is longer
 pub record IsLeftmost (included : Bool) (text front whole back : List ℕ) : Type 0 where
   pub first : (x y z : List ℕ) → IsContinuedIn included text x y z → length front ≤ length x
-  pub longest : (x y z : List ℕ) → IsContinuedIn included text x y z → length x ≡ length front → length y ≤ length whole
+  pub longest : (x y z : List ℕ) → IsContinuedIn included text x y z → length x ≡ length front
+      → length y ≤ length whole
 
 -- none ends later, and none that ends there is longer
 pub record IsRightmost (included : Bool) (text front whole back : List ℕ) : Type 0 where
   pub last : (x y z : List ℕ) → IsContinuedIn included text x y z → length back ≤ length z
-  pub longest : (x y z : List ℕ) → IsContinuedIn included text x y z → length z ≡ length back → length y ≤ length whole
+  pub longest : (x y z : List ℕ) → IsContinuedIn included text x y z → length z ≡ length back
+      → length y ≤ length whole
 
 -- a number up to the limit; loosely it may have leading zeros
 abbrev pub IsNumberIn : Bool → List ℕ → ℕ → Type 0
@@ -97,9 +105,10 @@ absent (a ∷ []) = codes ".0.0"
 absent (a ∷ b ∷ []) = codes ".0"
 absent (a ∷ b ∷ c ∷ runs) = []
 
--- what is looked for is the version of these numbers, in a reading that has such numbers, and of these identifiers; and its
--- text has at most 256 characters
-pub record IsCoerced (included : Bool) (IsChosen : Bool → List ℕ → List ℕ → List ℕ → List ℕ → Type 0) (Number : List ℕ → ℕ → Type 0)
+-- what is looked for is the version of these numbers, in a reading that has such numbers, and of
+-- these identifiers; and its text has at most 256 characters
+pub record IsCoerced (included : Bool)
+    (IsChosen : Bool → List ℕ → List ℕ → List ℕ → List ℕ → Type 0) (Number : List ℕ → ℕ → Type 0)
     (text : List ℕ) (v : VersionValue) : Type 0 where
   pub front : List ℕ
   pub whole : List ℕ
@@ -117,4 +126,5 @@ IsChosenFrom rtl = elim rtl [ false ↦ IsLeftmost | true ↦ IsRightmost ]
 
 -- the version that these options look for in the text
 abbrev pub IsCoercedBy : Coercion → List ℕ → VersionValue → Type 0
-IsCoercedBy options = IsCoerced options.include_prerelease (IsChosenFrom options.rtl) (IsNumberIn options.loose)
+IsCoercedBy options =
+    IsCoerced options.include_prerelease (IsChosenFrom options.rtl) (IsNumberIn options.loose)

@@ -25,8 +25,8 @@ pub record IsSpelled (limit : ℕ) (text : List ℕ) : Type 0 where
 abbrev pub IsFront : ℕ → List ℕ → Type 0
 IsFront limit front = (more : List ℕ) × IsSpelled limit (encode_utf8_all (front ++ more))
 
--- the characters before this place begin such a text. With the next one they don't; and the text itself is
--- none, which at its end is all there is to say.
+-- the characters before this place begin such a text. With the next one they don't; and the text
+-- itself is none, which at its end is all there is to say.
 pub record IsStop (limit : ℕ) (text : List ℕ) (at : ℕ) : Type 0 where
   pub before : List ℕ
   pub behind : List ℕ
@@ -50,8 +50,8 @@ is_letter c = is_in_range 65 90 c || is_in_range 97 122 c
 abbrev pub is_any_mark : ℕ → Bool
 is_any_mark c = c == 118 || c == 86 || c == 61
 
--- what is wrong where a text stops, by what may stand there and by what does: `a` goes on in a list of
--- identifiers, a dot between numbers, `-` behind the last of them, and `0` where a number begins
+-- what is wrong where a text stops, by what may stand there and by what does: `a` goes on in a list
+-- of identifiers, a dot between numbers, `-` behind the last of them, and `0` where a number begins
 abbrev pub wrong_of : (ℕ → Bool) → (ℕ → Bool) → List ℕ → List ℕ → Wrong
 wrong_of may great before behind =
     if begins great behind then NumberTooGreat

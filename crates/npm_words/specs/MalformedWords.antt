@@ -1,4 +1,5 @@
--- Statement: which word of an alternative node-semver's strict reading rejects first, and where it stands.
+-- Statement: which word of an alternative node-semver's strict reading rejects first, and where it
+-- stands.
 use Rattle.std.specs.Prelude.{◌≡◌, ◌+◌, ℕ, Bool, true, false, List, length}
 use Rattle.std.specs.List.{list_all}
 use Rattle.semver_core.specs.Failures.{NoValue}
@@ -20,8 +21,8 @@ pub data IsLeft (limit : ℕ) (include : Bool) (left : List ℕ) : List ℕ → 
   on : (text behind rest : List ℕ) → IsRightWord limit include text behind → SkipsBlank behind rest
       → IsLeft limit include left rest → IsLeft limit include left text
 
--- the first word of the text that is not right stands at these bytes: those before it are right, and it goes on
--- up to whitespace or the end
+-- the first word of the text that is not right stands at these bytes: those before it are right,
+-- and it goes on up to whitespace or the end
 pub record IsMalformedWord (limit : ℕ) (include : Bool) (text : List ℕ) (start end : ℕ) : Type 0 where
   pub left : List ℕ
   pub behind : List ℕ

@@ -40,7 +40,8 @@ pub struct Coercion {
 
 /// The leftmost numbers, without leading zeros, and nothing that follows them.
 impl Default for Coercion {
-    ghost is_default = { λ c. c ≡ record { loose = false; rtl = false; include_prerelease = false } };
+    ghost is_default = { λ c.
+        c ≡ record { loose = false; rtl = false; include_prerelease = false } };
 
     fn default() -> Coercion {
         Coercion {

@@ -152,7 +152,8 @@ pub fn is_short(text: &str) -> bool
 ///
 /// ```rust
 /// let strict = Reading::default();
-/// assert!(rt; npm_reading::version(" v1.2.3-beta.1 ", strict) == VersionRef::parse("1.2.3-beta.1"));
+/// let beta = VersionRef::parse("1.2.3-beta.1");
+/// assert!(rt; npm_reading::version(" v1.2.3-beta.1 ", strict) == beta);
 /// assert!(rt; npm_reading::version("1.2.03", strict).is_err());
 /// assert!(rt; npm_reading::version("1.2.3, the second beta", strict).is_err());
 /// let loose = Reading {

@@ -6,8 +6,8 @@ use Rattle.semver_answers.specs.Lines.{ended, fields}
 use Rattle.semver_answers.specs.Names.{fault_word}
 use Rattle.semver_answers.specs.declared.fault.Fault.TheVariants.{BadLine}
 
--- the answer to a line: the reply to its question, which its fields ask where its bytes are a text, or
--- `bad line` where it asks none
+-- the answer to a line: the reply to its question, which its fields ask where its bytes are a text,
+-- or `bad line` where it asks none
 pub data IsAnswer (line answer : List ℕ) : Type 0 where
   replied : (q : Question) → IsUtf8 line × Asks (fields line) q → IsReply q answer → IsAnswer line answer
   no_question : ((q : Question) → IsUtf8 line × Asks (fields line) q → ⊥)

@@ -29,9 +29,8 @@ use Rattle.semver_answers.specs.declared.question.AboutVersion.TheVariants.{Ver,
 use Rattle.semver_answers.specs.declared.question.AboutVersions.{AboutVersions}
 use Rattle.semver_answers.specs.declared.question.AboutVersions.TheVariants.{Cmp, Diff}
 
--- a question about the texts of fields: about a version, two versions, a range, two ranges, a range and a
--- version, or a
--- range and some versions, which are the fields of the second text
+-- a question about the texts of fields: about a version, two versions, a range, two ranges, a range
+-- and a version, or a range and some versions, which are the fields of the second text
 pub data Question : Type 0 where
   Version : List ℕ → AboutVersion → Question
   Versions : List ℕ × List ℕ → AboutVersions → Question
@@ -68,8 +67,8 @@ HasBase question = ⊤
 abbrev pub Asks : List (List ℕ) → Question → Type 0
 Asks line question = (line ≡ line_of question) × HasBase question
 
--- the reply about a version, about two, about a range, about two, about a range and a version, about a
--- range and some versions
+-- the reply about a version, about two, about a range, about two, about a range and a version,
+-- about a range and some versions
 abbrev pub version_reply : AboutVersion → VersionValue → List ℕ
 version_reply Ver v = version_text v
 version_reply (Inc word) v = next_text (answer_of_inc v word.now None None)

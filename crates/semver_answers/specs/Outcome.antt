@@ -12,17 +12,18 @@ AnswersTorn all written = (front rest : List (List ℕ)) × (line output answer 
     × (all ≡ front ++ line ∷ rest) × Answers front output × IsAnswer line answer
     × (ended answer ≡ begun ++ left) × (written ≡ output ++ begun)
 
--- What is written by the end of a run that read these lines, each with its line feed, and this rest behind
--- them, and whose reader has this left. Only a run that met the end of its input answers the rest.
+-- What is written by the end of a run that read these lines, each with its line feed, and this rest
+-- behind them, and whose reader has this left. Only a run that met the end of its input answers the
+-- rest.
 abbrev pub Writes : Result ⊤ RunFault → Option (List ℕ) → List (List ℕ) → List ℕ → List ℕ → Type 0
 Writes (Ok done) left ls rest out = IsAtEnd left × Answers (ls ++ last_line rest) out
 Writes (Err Read) left ls rest out = Answers ls out
 Writes (Err Memory) left ls rest out = (front more : List (List ℕ)) × (ls ≡ front ++ more) × Answers front out
 Writes (Err Write) left ls r out = AnswersTorn ls out ⊎ (IsAtEnd left × AnswersTorn (ls ++ last_line r) out)
 
--- A run with this result, of a reader that had and has these bytes left and a writer that held and holds
--- these, where the two tell their bytes: it read lines and a rest without a line feed, and wrote what it
--- should.
+-- A run with this result, of a reader that had and has these bytes left and a writer that held and
+-- holds these, where the two tell their bytes: it read lines and a rest without a line feed, and
+-- wrote what it should.
 abbrev pub Ran : Result ⊤ RunFault → (had left held holds : Option (List ℕ)) → Type 0
 Ran result had left held holds = (read wrote rest : List ℕ) × (lines : List (List ℕ)) × Consumes had left read
     × Appends held holds wrote × HasLines read lines rest × Writes result left lines rest wrote

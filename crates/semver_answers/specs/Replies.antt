@@ -1,5 +1,5 @@
--- Statement. What the texts of a question are read as, and what is replied. The texts are read from the
--- left, and the first that is no version, or no range, decides the error.
+-- Statement. What the texts of a question are read as, and what is replied. The texts are read from
+-- the left, and the first that is no version, or no range, decides the error.
 use Rattle.std.specs.Prelude.{◌≡◌, ◌<◌, ℕ, List, [], length, Option, Result, Ok, Err}
 use Rattle.std.specs.List.{AllZip, Any}
 use Rattle.semver_core.specs.Failures.{NoValue}

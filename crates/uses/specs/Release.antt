@@ -13,8 +13,9 @@ use Rattle.semver_core.specs.Values.Versions.{HasIdentifiers}
 use Rattle.uses.specs.declared.release.Refusal.{Refusal}
 use Rattle.uses.specs.declared.release.Refusal.TheVariants.{NotAVersion, NotIncremented, NotAbove, Memory}
 
--- what a refusal says of the text of the current version, the word and the identifier. An allocation fails
--- only if this version or the next one has identifiers, or for the text of an error.
+-- what a refusal says of the text of the current version, the word and the identifier. An
+-- allocation fails only if this version or the next one has identifiers, or for the text of an
+-- error.
 abbrev pub Explains : ℕ → List ℕ → List ℕ → Option (Bor (List ℕ)) → Refusal → Type 0
 Explains limit current word id NotAVersion = NoValue (Parses limit current)
 Explains limit current word id (NotIncremented e) = (v : VersionValue) × Parses limit current v

@@ -39,14 +39,14 @@ MeetsAll root f = (q : Requirement) → IsNeeded root f q → IsMet f q
 abbrev pub IsPlan : List Package → List Requirement → (ℕ → Option Release) → Type 0
 IsPlan packages root f = IsChoice packages f × MeetsAll root f
 
--- f takes releases on the way to a plan: what it takes of a package is one of its releases, and meets a
--- needed requirement on it
+-- f takes releases on the way to a plan: what it takes of a package is one of its releases, and
+-- meets a needed requirement on it
 abbrev pub IsBegun : List Package → List Requirement → (ℕ → Option Release) → Type 0
 IsBegun packages root f = (p : ℕ) (r : Release) → f p ≡ Some r → Contains (releases_of packages p) r
     × ((q : Requirement) × (q.package ≡ p) × IsNeeded root f q × IsMet f q)
 
--- on the way to a plan a package is needed of which no release has a version in the range; or it is needed
--- twice, and what is taken of it meets the first requirement and not the second
+-- on the way to a plan a package is needed of which no release has a version in the range; or it is
+-- needed twice, and what is taken of it meets the first requirement and not the second
 abbrev pub IsConflict : List Package → List Requirement → Conflict → Type 0
 IsConflict ps root (Unmatched q) = (f : ℕ → Option Release) × IsBegun ps root f × IsNeeded root f q.now
     × All (λ r. accepts q.now.range r.version false ≡ false) (releases_of ps q.now.package)
@@ -62,7 +62,8 @@ IsFailure ps root (Memory error) = ⊤
 abbrev pub release_at : List (Option Pick) → ℕ → Option Release
 release_at picks p = option_map (λ pick. pick.release.now) (slice_index_or picks p None)
 
--- a place for each package; what is taken is one of its releases, for a needed requirement that it meets
+-- a place for each package; what is taken is one of its releases, for a needed requirement that it
+-- meets
 pub record IsPicked (ps : List Package) (root : List Requirement) (picks : List (Option Pick)) : Type 0 where
   pub as_many : length picks ≡ length ps
   pub choice : IsChoice ps (release_at picks)
@@ -74,8 +75,8 @@ abbrev pub IsHopeless : List Package → List Requirement → List (Option Pick)
 IsHopeless packages root picks p r = (f : ℕ → Option Release) → IsPlan packages root f
     → ((n : ℕ) (s : Release) → release_at picks n ≡ Some s → f n ≡ Some s) → ¬ (f p ≡ Some r)
 
--- releases were picked one after another, each for a needed requirement on its package, and the releases
--- that stand before it there are hopeless over the picks so far
+-- releases were picked one after another, each for a needed requirement on its package, and the
+-- releases that stand before it there are hopeless over the picks so far
 pub data ArePicked (packages : List Package) (root : List Requirement) : List (Option Pick) → Type 0 where
   none_yet : (count : ℕ) → ArePicked packages root (replicate count None)
   one_more : (picks : List (Option Pick)) (p i : ℕ) (pick : Pick) → ArePicked packages root picks

@@ -7,8 +7,8 @@ use Rattle.nodejs_semver.specs.Ranges.Least.{IsLeastOf, beyond}
 use Rattle.uses.specs.declared.subset.Answer.{Answer}
 use Rattle.uses.specs.declared.subset.Answer.TheVariants.{Subset, Witness}
 
--- the second accepts what the first accepts; or this is the least version that the first accepts and the
--- second does not, without build metadata
+-- the second accepts what the first accepts; or this is the least version that the first accepts
+-- and the second does not, without build metadata
 abbrev pub IsAnswer : List (Span VersionValue) → List (Span VersionValue) → Answer → Type 0
 IsAnswer r s Subset = (v : VersionValue) → accepts r v false ≡ true → accepts s v false ≡ true
 IsAnswer r s (Witness w) = (accepts r w false ≡ true) × (accepts s w false ≡ false)

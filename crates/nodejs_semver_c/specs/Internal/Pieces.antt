@@ -1,7 +1,8 @@
 -- For proofs. A text that is put to the front of a buffer piece by piece.
 use Rattle.std.specs.Prelude.{◌≡◌, ◌<◌, ◌≤◌, ◌-◌, ◌^◌, ◌++◌, ℕ, List, drop, length, min}
 
--- the text stands in front of what was there before, if the buffer has room for it; and its length is counted
+-- the text stands in front of what was there before, if the buffer has room for it; and its length
+-- is counted
 pub record Holds (old text out : List ℕ) (len : ℕ) : Type 0 where
   pub counted : len ≡ min (length text) (2 ^ 64 - 1)
   pub room : length out ≡ length old

@@ -31,13 +31,15 @@ AreNarrowed include cs os = ⊥
 abbrev pub nothing : Span VersionValue
 nothing = record { lower = Unbounded; upper = Before (lowest (0, 0, 0)) }
 
--- the spans of a range: one without bounds where some alternative's has none, and one that holds nothing where there
--- is none
+-- the spans of a range: one without bounds where some alternative's has none, and one that holds
+-- nothing where there is none
 abbrev pub ranged : List (Span VersionValue) → List (Span VersionValue)
 ranged ss = if list_any is_unbounded ss then any_version else if is_empty ss then nothing ∷ [] else ss
 
--- where the first list are the intervals of alternatives, the second accepts what the alternatives do
+-- where the first list are the intervals of alternatives, the second accepts what the alternatives
+-- do
 abbrev pub AcceptAsRanged : List (Span VersionValue) → List (Span VersionValue) → Type 0
 AcceptAsRanged found ss = (include : Bool) → (alternatives : List (List Comparison))
-    → (os : List (Option (Span VersionValue))) → AreNarrowed include alternatives os → found ≡ flat_map option_to_list os
+    → (os : List (Option (Span VersionValue))) → AreNarrowed include alternatives os
+    → found ≡ flat_map option_to_list os
     → (v : VersionValue) → accepts ss v include ≡ Npm.accepts include alternatives v

@@ -1,5 +1,5 @@
--- For proofs and private contracts. What the reader of common range texts finds at the front of a text, as node-semver's
--- strict reading has it.
+-- For proofs and private contracts. What the reader of common range texts finds at the front of a
+-- text, as node-semver's strict reading has it.
 use Rattle.std.specs.Prelude.{◌≡◌, ◌⊎◌, ◌<◌, ◌||◌, ◌&&◌, ◌==◌, not, nat_lt, ℕ, Bool, true, false, List, []}
 use Rattle.std.specs.Prelude.{◌∷◌, ◌++◌, Option, None, Some, length}
 use Rattle.std.specs.List.{list_all}
@@ -23,7 +23,8 @@ use Rattle.semver_core.specs.Text.Comparators.{equal}
 abbrev pub IsSignAt : List ℕ → Sign → List ℕ → Type 0
 IsSignAt text s rest = (text ≡ spelling s ++ rest) ⊎ ((text ≡ rest) × (s ≡ compared equal))
 
--- behind the numbers of a partial no place stands, or a wildcard, and then the text ends or goes on with a space or a bar
+-- behind the numbers of a partial no place stands, or a wildcard, and then the text ends or goes on
+-- with a space or a bar
 abbrev pub IsLeft : List ℕ → List ℕ → Type 0
 IsLeft text rest = (is_over rest ≡ true)
     × ((text ≡ rest) ⊎ ((b : ℕ) × (text ≡ 46 ∷ (b ∷ rest)) × (begins_wildcard (b ∷ rest) ≡ true)))
@@ -66,19 +67,26 @@ pub record IsPartAt (include : Bool) (text : List ℕ) (s : Span VersionValue) (
   pub end : ends is_word_byte part ≡ true
   pub are : AreIn include (comparators_of read) s
 
--- the bounds of two words together, of which the first has no upper bound and the second no lower one
+-- the bounds of two words together, of which the first has no upper bound and the second no lower
+-- one
 abbrev pub AreJoined : Span VersionValue → Span VersionValue → Span VersionValue → Type 0
-AreJoined s t b = (s.upper ≡ Unbounded) × (t.lower ≡ Unbounded) × (b ≡ record { lower = s.lower; upper = t.upper })
+AreJoined s t b = (s.upper ≡ Unbounded) × (t.lower ≡ Unbounded)
+    × (b ≡ record { lower = s.lower; upper = t.upper })
 
--- the part at the front was read, and its interval added to a list, where its cuts meet; or the list is as it was
-abbrev pub IsTried : Bool → List ℕ → Option (List ℕ) → List (Span VersionValue) → List (Span VersionValue) → Type 0
+-- the part at the front was read, and its interval added to a list, where its cuts meet; or the
+-- list is as it was
+abbrev pub IsTried : Bool → List ℕ → Option (List ℕ) → List (Span VersionValue)
+    → List (Span VersionValue) → Type 0
 IsTried include text None old new = new ≡ old
 IsTried include text (Some rest) old new =
-    (s : Span VersionValue) × IsPartAt include text s rest × (new ≡ old ++ option_to_list (interval precedence s))
+    (s : Span VersionValue) × IsPartAt include text s rest
+    × (new ≡ old ++ option_to_list (interval precedence s))
 
 -- the intervals of the parts of a text, of those whose cuts meet
 pub data AreParts (include : Bool) : List ℕ → List (Span VersionValue) → Type 0 where
-  one : (text : List ℕ) (s : Span VersionValue) → IsPartAt include text s [] → AreParts include text (option_to_list (interval precedence s))
-  more : (text behind next : List ℕ) (s : Span VersionValue) (ss : List (Span VersionValue)) → IsPartAt include text s behind
+  one : (text : List ℕ) (s : Span VersionValue) → IsPartAt include text s []
+      → AreParts include text (option_to_list (interval precedence s))
+  more : (text behind next : List ℕ) (s : Span VersionValue) (ss : List (Span VersionValue))
+      → IsPartAt include text s behind
       → after_bars behind ≡ Some next → AreParts include next ss
       → AreParts include text (option_to_list (interval precedence s) ++ ss)

@@ -1,4 +1,5 @@
--- For proofs and private contracts. What the readers of node-semver's range texts find, by the comparators.
+-- For proofs and private contracts. What the readers of node-semver's range texts find, by the
+-- comparators.
 use Rattle.std.specs.Prelude.{◌≡◌, ◌&&◌, not, if◌then◌else◌, true, false, Bool, List, [], ◌∷◌, ◌++◌, ℕ}
 use Rattle.std.specs.Prelude.{Option, Some, None, length, flat_map, is_none}
 use Rattle.std.specs.Borrow.{Bor}
@@ -43,7 +44,8 @@ IsFound include (Some c) (Some a) = IsNarrowed include c.1 a.interval × (a.is_l
 IsFound include c a = ⊥
 
 -- an alternative with one word more, whether that is ignored, and what follows it
-abbrev pub IsStep : Bool → Alternative → Option (Option (List Comparison) × List ℕ) → Option (Alternative × Bool × Bor (List ℕ)) → Type 0
+abbrev pub IsStep : Bool → Alternative → Option (Option (List Comparison) × List ℕ)
+    → Option (Alternative × Bool × Bor (List ℕ)) → Type 0
 IsStep include all None None = Unit {0}
 IsStep include all (Some w) (Some s) = NarrowedBy include all.interval (unwrap_or w.0 []) (Some s.0)
     × (s.0.is_bare ≡ (all.is_bare && is_empty (unwrap_or w.0 []))) × (s.1 ≡ is_none w.0) × (s.2.now ≡ w.1)
@@ -56,18 +58,21 @@ valid_alternatives loose include (text ∷ texts) = valid_alternative loose incl
     valid_alternatives loose include texts >>? λ rest. Some (kept a rest)
 
 -- the intervals of some alternatives, of those that have one
-pub record AreFound (include : Bool) (alternatives : List (List Comparison)) (found : List (Span VersionValue))
+pub record AreFound (include : Bool) (alternatives : List (List Comparison))
+    (found : List (Span VersionValue))
     : Type 0 where
   pub intervals : List (Option (Span VersionValue))
   pub narrowed : AreNarrowed include alternatives intervals
   pub are : found ≡ flat_map option_to_list intervals
 
--- one part more with these comparators, which may be lost. The flags say whether there was an alternative
--- before it, and with it.
-abbrev pub AddsPart : Bool → Option (Bool × List Comparison) → Bool → Bool → List (Span VersionValue) → List (Span VersionValue) → Type 0
+-- one part more with these comparators, which may be lost. The flags say whether there was an
+-- alternative before it, and with it.
+abbrev pub AddsPart : Bool → Option (Bool × List Comparison) → Bool → Bool
+    → List (Span VersionValue) → List (Span VersionValue) → Type 0
 AddsPart include None was is before after = ⊥
 AddsPart include (Some (true, cs)) was is before after = (is ≡ was) × (after ≡ before)
-AddsPart include (Some (false, cs)) was is before after = (is ≡ true) × ((alternatives : List (List Comparison))
+AddsPart include (Some (false, cs)) was is before after =
+    (is ≡ true) × ((alternatives : List (List Comparison))
     → AreFound include alternatives before → AreFound include (alternatives ++ cs ∷ []) after)
 
 -- some alternative or more

@@ -5,4 +5,5 @@ use Rattle.semver_core.specs.Internal.OrderLaws.{precedence_total}
 use Rattle.npm_semver.specs.Listing.{Entry, order}
 
 pub order_total : IsTotalOrder order
-order_total = then_total (on_total (λ (e : Entry). e.version) precedence_total) (on_total (λ (e : Entry). e.text) nat_list_cmp_total)
+order_total = then_total (on_total (λ (e : Entry). e.version) precedence_total)
+    (on_total (λ (e : Entry). e.text) nat_list_cmp_total)

@@ -15,7 +15,8 @@ IsRead r text None = NoValue (HasRange r text)
 
 pub data AreRead (r : ReadOptions) : List (List ℕ) → List (Option (List (Span VersionValue))) → Type 0 where
   none : AreRead r [] []
-  more : (text : List ℕ) (texts : List (List ℕ)) (range : Option (List (Span VersionValue))) (ranges : List (Option (List (Span VersionValue))))
+  more : (text : List ℕ) (texts : List (List ℕ)) (range : Option (List (Span VersionValue)))
+      (ranges : List (Option (List (Span VersionValue))))
       → IsRead r text range → AreRead r texts ranges → AreRead r (text ∷ texts) (range ∷ ranges)
 
 abbrev pub says : Bool → VersionValue → Option (List (Span VersionValue)) → Bool

@@ -1,16 +1,20 @@
--- For proofs. What a reply says, and the words of a subcommand, of an operation and of a comparison, as the statement has them.
+-- For proofs. What a reply says, and the words of a subcommand, of an operation and of a
+-- comparison, as the statement has them.
 use Rattle.std.specs.Prelude.{◌∷◌, [], not, ℕ, Bool, List, codes, is_some, string_bytes}
 use Rattle.std.specs.Ordering.{is_eq, is_ge, is_gt, is_le, is_lt}
 use Rattle.std.specs.declared.cmp.Ordering.{Ordering}
 use Rattle.npm_semver.specs.Arguments.{is_one_of}
 use Rattle.npm_semver.specs.Subcommands.{Said, say}
 use Rattle.npm_semver.specs.declared.subcommands.Subcommand.{Subcommand}
-use Rattle.npm_semver.specs.declared.subcommands.Subcommand.TheVariants.{Compare, Diff, Next, Range, Least, Explain}
+use Rattle.npm_semver.specs.declared.subcommands.Subcommand.TheVariants.{Compare, Diff, Next, Range}
+use Rattle.npm_semver.specs.declared.subcommands.Subcommand.TheVariants.{Least, Explain}
 use Rattle.npm_semver.specs.declared.subcommands.ranges.Operation.{Operation}
 use Rattle.npm_semver.specs.declared.subcommands.ranges.Operation.TheVariants.{And, Minus, Within}
 use Rattle.npm_semver.specs.declared.subcommands.replies.Reply.{Reply}
 use Rattle.npm_semver.specs.declared.subcommands.versions.Relation.{Relation}
-use Rattle.npm_semver.specs.declared.subcommands.versions.Relation.TheVariants.{Less, AtMost, Equal, Unequal, AtLeast, Greater}
+use Rattle.npm_semver.specs.declared.subcommands.versions.Relation.TheVariants.{Less, AtMost, Equal}
+use Rattle.npm_semver.specs.declared.subcommands.versions.Relation.TheVariants.{Unequal, AtLeast}
+use Rattle.npm_semver.specs.declared.subcommands.versions.Relation.TheVariants.{Greater}
 
 abbrev pub said : Reply → Said
 said r = say (string_bytes r.output) (is_some r.trouble) r.status

@@ -4,4 +4,8 @@ use Rattle.npm_semver.specs.Responses.{Written}
 use Rattle.npm_semver.specs.declared.run.Response.{Response}
 
 abbrev pub written : Response → Written
-written r = record { output = string_bytes r.output; is_error_told = is_some r.refusal; is_success = r.is_success }
+written r = record {
+  output = string_bytes r.output;
+  is_error_told = is_some r.refusal;
+  is_success = r.is_success;
+}

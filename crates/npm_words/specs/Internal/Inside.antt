@@ -14,7 +14,8 @@ behind_digits text = drop (prefix_len is_ascii_digit text) text
 
 -- behind the identifier at the front: strictly a `0` is one
 unfoldable pub behind_id : Bool → List ℕ → List ℕ
-behind_id strict text = if begins is_ascii_digit text then (if strict && begins_byte 48 text then drop 1 text else behind_digits text)
+behind_id strict text = if begins is_ascii_digit text
+    then (if strict && begins_byte 48 text then drop 1 text else behind_digits text)
     else drop (prefix_len is_identifier_char text) text
 
 -- a dot and an identifier are at the front
@@ -24,12 +25,15 @@ begins_dotted_id text = begins_byte 46 text && begins_identifier (drop 1 text)
 -- behind the identifiers joined by dots, of which there are at most so many
 unfoldable pub behind_ids : ℕ → Bool → List ℕ → List ℕ
 behind_ids zero strict text = text
-behind_ids (suc n) strict text = let rest = behind_id strict text in if begins_dotted_id rest then behind_ids n strict (drop 1 rest) else rest
+behind_ids (suc n) strict text = let rest = behind_id strict text in if begins_dotted_id rest
+    then behind_ids n strict (drop 1 rest) else rest
 
 -- behind the pre-release, which stands strictly behind a `-`
 unfoldable pub behind_pre_release : Bool → List ℕ → List ℕ
-behind_pre_release strict text = if begins_byte 45 text && begins_identifier (drop 1 text) then behind_ids (length (drop 1 text)) strict (drop 1 text)
-    else if not strict && (begins is_ascii_alphabetic text || begins_byte 45 text) then behind_ids (length text) strict text else text
+behind_pre_release strict text = if begins_byte 45 text && begins_identifier (drop 1 text)
+    then behind_ids (length (drop 1 text)) strict (drop 1 text)
+    else if not strict && (begins is_ascii_alphabetic text || begins_byte 45 text)
+    then behind_ids (length text) strict text else text
 
 -- and behind the build metadata that follows it
 abbrev pub behind_qualifier : Bool → List ℕ → List ℕ
@@ -48,7 +52,8 @@ is_single strict text = strict && (begins_byte 48 text || begins_wildcard text)
 
 -- behind a place: loosely the digits at the front
 unfoldable pub behind_place : Bool → List ℕ → List ℕ
-behind_place strict text = if is_single strict text then drop 1 text else drop (capped strict (prefix_len is_ascii_digit text)) text
+behind_place strict text = if is_single strict text then drop 1 text
+    else drop (capped strict (prefix_len is_ascii_digit text)) text
 
 -- a place is at the front
 abbrev pub starts : Bool → List ℕ → Bool
@@ -58,11 +63,14 @@ starts strict text = begins is_ascii_digit text || strict && begins_wildcard tex
 abbrev pub begins_dotted : Bool → List ℕ → Bool
 begins_dotted strict text = begins_byte 46 text && starts strict (drop 1 text)
 
--- behind the places and what follows the third: strictly one to three, and loosely three, or all of the text where they do not stand there
+-- behind the places and what follows the third: strictly one to three, and loosely three, or all of
+-- the text where they do not stand there
 unfoldable pub behind_places : Bool → List ℕ → List ℕ
-behind_places strict text = let one = behind_place strict text in if not (begins_dotted strict one) then (if strict then one else text) else
+behind_places strict text = let one = behind_place strict text in
+    if not (begins_dotted strict one) then (if strict then one else text) else
     let two = behind_place strict (drop 1 one) in
-    if not (begins_dotted strict two) then (if strict then two else text) else behind_qualifier strict (behind_place strict (drop 1 two))
+    if not (begins_dotted strict two) then (if strict then two else text)
+    else behind_qualifier strict (behind_place strict (drop 1 two))
 
 -- behind the longer one of the two
 unfoldable pub behind_partial : List ℕ → List ℕ
@@ -79,4 +87,5 @@ from_place text = drop (prefix_len is_apart text) text
 -- the text ends in a partial, or has no characters: there are at most so many
 unfoldable pub are_inside : ℕ → List ℕ → Bool
 are_inside zero text = is_empty text
-are_inside (suc n) text = if is_empty (from_place text) then is_empty text else are_inside n (behind_partial (from_place text))
+are_inside (suc n) text = if is_empty (from_place text) then is_empty text
+    else are_inside n (behind_partial (from_place text))

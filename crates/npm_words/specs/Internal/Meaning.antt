@@ -1,4 +1,5 @@
--- For proofs and private contracts. What the comparators of an alternative have in common, as a span.
+-- For proofs and private contracts. What the comparators of an alternative have in common, as a
+-- span.
 use Rattle.std.specs.Prelude.{◌≡◌, ◌==◌, ◌&&◌, ◌||◌, ◌+◌, not, Bool, true, false, List, Option, Some, None}
 use Rattle.std.specs.List.{filter, list_all, list_any}
 use Rattle.semver_core.specs.Cuts.{Span, holds, is_interval}
@@ -26,9 +27,9 @@ is_open b = false
 abbrev pub is_unbounded : Span VersionValue → Bool
 is_unbounded s = is_open s.lower && is_open s.upper
 
--- the span is what the comparators that count have in common: it holds the versions that satisfy them, lets
--- in those of which they name a pre-release, and has a bound exactly if there is one. Its bounds are such as
--- a range may have.
+-- the span is what the comparators that count have in common: it holds the versions that satisfy
+-- them, lets in those of which they name a pre-release, and has a bound exactly if there is one.
+-- Its bounds are such as a range may have.
 pub record IsCommon (include : Bool) (cs : List Comparison) (s : Span VersionValue) : Type 0 where
   pub held : (v : VersionValue) → holds precedence s v ≡ list_all (satisfies v) (counted include cs)
   pub let_in : (v : VersionValue) → holds precedence s v ≡ true
@@ -37,7 +38,8 @@ pub record IsCommon (include : Bool) (cs : List Comparison) (s : Span VersionVal
   pub lower : is_range_bound (MAX_SAFE_INTEGER + 1) s.lower ≡ true
   pub upper : is_range_bound (MAX_SAFE_INTEGER + 1) s.upper ≡ true
 
--- the same of an interval that there is only where its cuts meet; else no version satisfies the comparators
+-- the same of an interval that there is only where its cuts meet; else no version satisfies the
+-- comparators
 abbrev pub IsNarrowed : Bool → List Comparison → Option (Span VersionValue) → Type 0
 IsNarrowed include cs None = (v : VersionValue) → list_all (satisfies v) (counted include cs) ≡ false
 IsNarrowed include cs (Some s) = IsCommon include cs s × (is_interval precedence s ≡ true)

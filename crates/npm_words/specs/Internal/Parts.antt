@@ -1,5 +1,5 @@
--- For proofs and private contracts. The signs and the partial versions of node-semver's range texts, seen without
--- places in memory.
+-- For proofs and private contracts. The signs and the partial versions of node-semver's range
+-- texts, seen without places in memory.
 use Rattle.npm_words.specs.Table as Spec
 use Rattle.std.specs.Prelude.{◌≡◌, ◌&&◌, [], codes, if◌then◌else◌, nat_le, nat_lt, ℕ, Bool, List, true, false}
 use Rattle.std.specs.Prelude.{Option, None, Some}

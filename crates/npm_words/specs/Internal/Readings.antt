@@ -1,4 +1,5 @@
--- For proofs and private contracts. The numbers and pre-releases that node-semver finds in a text, as functions.
+-- For proofs and private contracts. The numbers and pre-releases that node-semver finds in a text,
+-- as functions.
 use Rattle.std.specs.Prelude.{◌&&◌, not, ℕ, Bool, false, List}
 use Rattle.std.specs.Char.{is_ascii_digit}
 use Rattle.std.specs.List.{list_all}

@@ -1,4 +1,5 @@
--- For proofs and private contracts. What the readers of node-semver's range texts find, by the comparators.
+-- For proofs and private contracts. What the readers of node-semver's range texts find, by the
+-- comparators.
 use Rattle.std.specs.Prelude.{if◌then◌else◌, Bool, List, Option, Some, None}
 use Rattle.std.specs.List.{list_all}
 use Rattle.semver_core.specs.declared.TheConstants.{MAX_SAFE_INTEGER}

@@ -1,4 +1,5 @@
--- For proofs and private contracts. What is read of a version text of node-semver's strict reading, character by character.
+-- For proofs and private contracts. What is read of a version text of node-semver's strict reading,
+-- character by character.
 use Rattle.std.specs.Prelude.{◌==◌, ◌+◌, ◌*◌, ◌||◌, nat_lt, ℕ, zero, suc, Bool, true, false, List, [], ◌∷◌}
 use Rattle.std.specs.Prelude.{Option, Some, None, if◌then◌else◌}
 use Rattle.std.specs.Char.{digit_value, is_ascii_digit}
@@ -40,7 +41,8 @@ pre_release s c = behind_identifier c
 abbrev pub build : State → ℕ → Option State
 build Plus c = if is_identifier_char c then Some Build else None
 build Build c =
-    if is_identifier_char c then Some Build else if c == 46 then Some Plus else if is_whitespace c then Some End else None
+    if is_identifier_char c then Some Build else if c == 46 then Some Plus else if is_whitespace c
+    then Some End else None
 build End c = if is_whitespace c then Some End else None
 build s c = None
 
@@ -82,7 +84,8 @@ wrong_number zero n o =
     if passes is_ascii_digit o then (if n == 0 then Wrong.LeadingZero else Wrong.NumberTooGreat)
     else if passes is_letter o then Wrong.MissingHyphen else Wrong.Behind
 wrong_number (suc k) n o =
-    if passes is_ascii_digit o then (if n == 0 then Wrong.LeadingZero else Wrong.NumberTooGreat) else Wrong.Dot
+    if passes is_ascii_digit o then (if n == 0 then Wrong.LeadingZero else Wrong.NumberTooGreat)
+    else Wrong.Dot
 
 abbrev pub wrong_start : Option ℕ → Wrong
 wrong_start o = if passes is_any_mark o then Wrong.Mark else Wrong.Digit

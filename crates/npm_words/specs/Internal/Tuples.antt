@@ -24,10 +24,12 @@ dotted_len (b ∷ rest) = if b == 46 then (if run_len rest == 0 then 0 else 1 + 
 
 -- how long the longest tuple at the front is, and 0 where none stands there
 abbrev pub behind_first : List ℕ → ℕ → ℕ → ℕ
-behind_first text major minor = if minor == 0 then major else major + minor + dotted_len (drop (major + minor) text)
+behind_first text major minor =
+    if minor == 0 then major else major + minor + dotted_len (drop (major + minor) text)
 
 unfoldable pub tuple_len : List ℕ → ℕ
-tuple_len text = if run_len text == 0 then 0 else behind_first text (run_len text) (dotted_len (drop (run_len text) text))
+tuple_len text = if run_len text == 0 then 0
+    else behind_first text (run_len text) (dotted_len (drop (run_len text) text))
 
 -- the same at a place, before which no digit may stand
 abbrev pub tuple_len_at : List ℕ → ℕ → ℕ
@@ -40,7 +42,8 @@ list_len_in strict (c ∷ rest) = if goes_on_in strict (c ∷ rest) then 1 + lis
 
 -- how long the list at the front is with its mark, and 0 where none stands there
 abbrev pub marked_len : Bool → Bool → ℕ → List ℕ → ℕ
-marked_len included strict mark text = if included && begins (λ c. c == mark) text && begins_identifier_in strict (drop 1 text)
+marked_len included strict mark text =
+    if included && begins (λ c. c == mark) text && begins_identifier_in strict (drop 1 text)
     then 1 + list_len_in strict (drop 1 text) else 0
 
 abbrev pub pre_len : Bool → List ℕ → ℕ
@@ -51,10 +54,12 @@ build_len included text = marked_len included false 43 (drop (pre_len included t
 
 -- where the tuple at a place ends with what it goes on with, and 0 where none begins there
 abbrev pub end_behind : Bool → List ℕ → ℕ → ℕ
-end_behind included text end = let behind = drop end text in end + pre_len included behind + build_len included behind
+end_behind included text end =
+    let behind = drop end text in end + pre_len included behind + build_len included behind
 
 abbrev pub end_at : Bool → List ℕ → ℕ → ℕ
-end_at included text at = let len = tuple_len_at text at in if len == 0 then 0 else end_behind included text (at + len)
+end_at included text at =
+    let len = tuple_len_at text at in if len == 0 then 0 else end_behind included text (at + len)
 
 -- from each place of the stretch a list goes up to its end
 pub record IsStretch (strict : Bool) (text : List ℕ) (s : Stretch) : Type 0 where
@@ -71,7 +76,8 @@ pub record IsFirstPlace (text : List ℕ) (at : ℕ) : Type 0 where
   pub here : 0 < tuple_len_at text at
   pub first : BeginsAfter text at
 
--- of the tuples that begin before a place none ends later than the one here, and none that ends there begins sooner
+-- of the tuples that begin before a place none ends later than the one here, and none that ends
+-- there begins sooner
 pub record IsLastBefore (included : Bool) (text : List ℕ) (place start end : ℕ) : Type 0 where
   pub before : start ≤ place
   pub here : 0 < end → end_at included text start ≡ end
@@ -86,7 +92,8 @@ pub record IsLastPlace (included : Bool) (text : List ℕ) (at : ℕ) : Type 0 w
 
 -- the tuple that is looked for begins at the place
 abbrev pub IsChosenPlace : Bool → Bool → List ℕ → ℕ → Type 0
-IsChosenPlace included rtl text at = elim rtl [ false ↦ IsFirstPlace text at | true ↦ IsLastPlace included text at ]
+IsChosenPlace included rtl text at =
+    elim rtl [ false ↦ IsFirstPlace text at | true ↦ IsLastPlace included text at ]
 
 -- the number behind a dot, and 0 where no dot stands
 abbrev pub next_number : Bool → ℕ → List ℕ → Front ℕ
@@ -100,7 +107,8 @@ tuple_release zeros limit text = number_with zeros limit text >>? λ a. next_num
 
 -- how long `.0` for each number is that a tuple does not have
 abbrev pub absent_len : List ℕ → ℕ
-absent_len tuple = let dots = count_by (λ c. c == 46) tuple in if dots == 0 then 4 else if dots == 1 then 2 else 0
+absent_len tuple =
+    let dots = count_by (λ c. c == 46) tuple in if dots == 0 then 4 else if dots == 1 then 2 else 0
 
 -- the list behind a mark at the front, and what stands behind it
 abbrev pub marked_front : Bool → Bool → ℕ → List ℕ → List ℕ × List ℕ

@@ -1,4 +1,5 @@
--- For proofs and private contracts. The version that node-semver finds in a text, strictly or loosely, as functions.
+-- For proofs and private contracts. The version that node-semver finds in a text, strictly or
+-- loosely, as functions.
 use Rattle.std.specs.Prelude.{◌&&◌, ◌||◌, ◌-◌, ℕ, Bool, List, Option, Some, None, if◌then◌else◌, drop, false}
 use Rattle.std.specs.Prelude.{take}
 use Rattle.std.specs.Char.{is_ascii_digit}
@@ -31,18 +32,27 @@ patch_front loose limit text = if loose
 abbrev pub fits : Bool → List ℕ → Bool
 fits loose ids = loose || is_strict_list ids
 
--- the version of three numbers, with these texts of its pre-release and of its build, if nothing follows
+-- the version of three numbers, with these texts of its pre-release and of its build, if nothing
+-- follows
 abbrev pub ended_version : Bool → ℕ → ℕ → ℕ → List ℕ → List ℕ × List ℕ → Option VersionValue
 ended_version loose major minor patch pre build = if is_empty build.1 && fits loose pre
-    then Some (record { major = major; minor = minor; patch = patch; pre_release = listed pre; build = listed build.0 })
+    then Some (record {
+      major = major;
+      minor = minor;
+      patch = patch;
+      pre_release = listed pre;
+      build = listed build.0;
+    })
     else None
 
 unfoldable pub qualified_version : Bool → ℕ → ℕ → ℕ → List ℕ → Option VersionValue
-qualified_version loose major minor patch text = ended_version loose major minor patch (pre_front loose false text).0
+qualified_version loose major minor patch text =
+    ended_version loose major minor patch (pre_front loose false text).0
     (build_front (pre_front loose false text).1)
 
 -- the version that the whole text is
 unfoldable pub whole_version : Bool → ℕ → List ℕ → Option VersionValue
-whole_version loose limit text = number_with loose limit (unmarked loose text) >>? λ a. after_byte 46 a.1 >>? λ s.
+whole_version loose limit text =
+    number_with loose limit (unmarked loose text) >>? λ a. after_byte 46 a.1 >>? λ s.
     number_with loose limit s >>? λ b. after_byte 46 b.1 >>? λ t.
     patch_front loose limit t >>? λ c. qualified_version loose a.0 b.0 c.0 c.1

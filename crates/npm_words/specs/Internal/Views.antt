@@ -1,4 +1,5 @@
--- For proofs and private contracts. What the readers of node-semver's range texts give, without places in memory.
+-- For proofs and private contracts. What the readers of node-semver's range texts give, without
+-- places in memory.
 use Rattle.npm_words.specs.Internal.Words as Spec
 use Rattle.npm_words.specs.Table as Table
 use Rattle.std.specs.Prelude.{ℕ, Bool, List, Option, Some, None}

@@ -1,5 +1,5 @@
--- For proofs and private contracts. What node-semver's readings, strict or loose, find in a range text, as functions.
--- Numbers have any value; the code has them `capped`.
+-- For proofs and private contracts. What node-semver's readings, strict or loose, find in a range
+-- text, as functions. Numbers have any value; the code has them `capped`.
 use Rattle.std.specs.Prelude.{◌≡◌, ◌==◌, ◌&&◌, ◌||◌, ◌+◌, not, codes, nat_le, nat_lt, ℕ, zero, suc, Bool}
 use Rattle.std.specs.Prelude.{true, false, List, [], ◌∷◌, ◌++◌, ◌-◌, is_none, length, take, drop, Option}
 use Rattle.std.specs.Prelude.{Some, None, if◌then◌else◌, take_while}
@@ -49,7 +49,8 @@ dotted_place loose text = after_byte 46 text >>? λ rest. place_front loose rest
 -- the third place: loosely the last digit before a dot is not its own
 unfoldable pub patch_place : Bool → List ℕ → Front (Option ℕ)
 patch_place loose text = let digits = prefix_len is_ascii_digit text in
-    if loose && begins_byte 46 (drop digits text) then run_place loose (take (digits - 1) text) (drop (digits - 1) text)
+    if loose && begins_byte 46 (drop digits text)
+    then run_place loose (take (digits - 1) text) (drop (digits - 1) text)
     else place_front loose text
 
 unfoldable pub dotted_patch : Bool → List ℕ → Front (Option ℕ)
@@ -76,7 +77,8 @@ may_follow loose pre build = may_stand loose pre && are_short_builds build
 -- the text begins with a digit, which stands behind a wildcard, or before a dot and an identifier
 abbrev pub begins_own_digit : Bool → List ℕ → Bool
 begins_own_digit wild [] = false
-begins_own_digit wild (b ∷ rest) = is_ascii_digit b && (wild || begins_byte 46 rest && begins_identifier (drop 1 rest))
+begins_own_digit wild (b ∷ rest) =
+    is_ascii_digit b && (wild || begins_byte 46 rest && begins_identifier (drop 1 rest))
 
 -- or with a `-` that no identifier follows
 abbrev pub begins_lone_dash : List ℕ → Bool
@@ -85,9 +87,11 @@ begins_lone_dash (b ∷ rest) = b == 45 && not (begins_identifier rest)
 
 -- the text of a pre-release, and what stands behind it
 unfoldable pub pre_front : Bool → Bool → List ℕ → List ℕ × List ℕ
-pre_front loose wild text = if loose && begins_undashed wild text then marked_list text text else pre_release_with true text
+pre_front loose wild text =
+    if loose && begins_undashed wild text then marked_list text text else pre_release_with true text
 
--- the partial of three places, with these texts of its pre-release and of its build, behind which this stands
+-- the partial of three places, with these texts of its pre-release and of its build, behind which
+-- this stands
 abbrev pub ended_partial : Bool → Option ℕ → Option ℕ → Option ℕ → List ℕ → List ℕ × List ℕ → Front Partial
 ended_partial loose a b c pre build = if may_follow loose pre build.0
     then Some (partial_of a b c (listed pre) (listed build.0), build.1) else None
@@ -129,7 +133,8 @@ abbrev pub capped_partial : Partial → Partial
 capped_partial wildcard = wildcard
 capped_partial (major M) = major (capped M)
 capped_partial (minor M m) = minor (capped M) (capped m)
-capped_partial (whole v) = whole (record v { major = capped v.major; minor = capped v.minor; patch = capped v.patch })
+capped_partial (whole v) =
+    whole (record v { major = capped v.major; minor = capped v.minor; patch = capped v.patch })
 
 -- a word, or an end of a hyphen range
 abbrev pub capped_in : {A : Type 0} → A × Partial × List ℕ → A × Partial × List ℕ
@@ -200,7 +205,8 @@ abbrev pub marked_word : Bool → Sign × List ℕ → Front Partial → Front S
 marked_word loose s p = p >>? λ p. ended_word loose s.0 s.1 (marks_len s.1) p
 
 unfoldable pub signed_word : Bool → List ℕ → Front Signed
-signed_word loose text = let s = npm_sign text in marked_word loose s (places_front loose (drop (marks_len s.1) s.1))
+signed_word loose text =
+    let s = npm_sign text in marked_word loose s (places_front loose (drop (marks_len s.1) s.1))
 
 -- the partial of a word is short enough
 abbrev pub is_short_word : Bool → List ℕ → Bool
@@ -208,12 +214,15 @@ is_short_word loose text = is_short loose (drop (marks_len text) text)
 
 -- the text ends in a comparator: in `<`, `>`, or a `=` that stands behind no mark
 abbrev pub ends_compared : List ℕ → Bool
-ends_compared text = let ends = ends_with ◌==◌ text in ends (codes "<") || ends (codes ">") || ends (codes "=") && not (ends (codes "v=") || ends (codes "=="))
+ends_compared text = let ends = ends_with ◌==◌ text
+    in ends (codes "<") || ends (codes ">")
+    || ends (codes "=") && not (ends (codes "v=") || ends (codes "=="))
 
 -- what follows the characters behind whitespace belongs to their word
 unfoldable pub takes_on : List ℕ → List ℕ → Bool
 takes_on text rest = let front = take (length text - 1) text in
-    takes text rest || ends_with ◌==◌ text (codes "=") && (are_inside (length front) front && begins_place rest)
+    takes text rest
+    || ends_with ◌==◌ text (codes "=") && (are_inside (length front) front && begins_place rest)
 
 -- what stands behind a malformed word that is ignored: of at most so many pieces
 unfoldable pub behind_ignored : ℕ → List ℕ → List ℕ
@@ -221,7 +230,8 @@ behind_ignored zero text = text
 behind_ignored (suc n) text = let behind = from_boundary text in let rest = drop_spaces behind in
     if takes_on (take (length text - length behind) text) rest then behind_ignored n rest else behind
 
--- the word at the front, and what stands behind it and its whitespace; loosely also a malformed one, which has no comparators
+-- the word at the front, and what stands behind it and its whitespace; loosely also a malformed
+-- one, which has no comparators
 abbrev pub ignored_or : Bool → List ℕ → Option (Option (List Comparison) × List ℕ)
 ignored_or loose text = if loose then Some (None, drop_spaces (behind_ignored (length text) text)) else None
 
@@ -238,12 +248,13 @@ unfoldable pub words_within : Bool → Bool → ℕ → List ℕ → Option (Lis
 words_within loose include n [] = Some []
 words_within loose include zero (b ∷ text) = None
 words_within loose include (suc n) (b ∷ text) =
-    first_word loose include (b ∷ text) >>? λ w. words_within loose include n w.1 >>? λ read. Some (w.0 ∷ read)
+    first_word loose include (b ∷ text) >>? λ w. words_within loose include n w.1
+    >>? λ read. Some (w.0 ∷ read)
 
 -- ---- alternatives
 
--- what follows the marks and the whitespace at the front. The number counts bytes that still belong to a
--- whitespace character.
+-- what follows the marks and the whitespace at the front. The number counts bytes that still belong
+-- to a whitespace character.
 unfoldable pub after_ends : ℕ → List ℕ → List ℕ
 after_ends n [] = []
 after_ends (suc n) (b ∷ rest) = after_ends n rest
@@ -283,9 +294,11 @@ last_end loose text = end_front loose text >>? λ b. if is_empty b.1 then Some b
 
 -- the ends of the hyphen range that the text is
 unfoldable pub hyphen_ends : Bool → List ℕ → Option (Ended × Ended)
-hyphen_ends loose text = end_front loose text >>? λ a. after_dash a.1 >>? λ second. last_end loose second >>? λ b. Some (a.0, b)
+hyphen_ends loose text = end_front loose text >>? λ a. after_dash a.1
+    >>? λ second. last_end loose second >>? λ b. Some (a.0, b)
 
--- any marks may stand before an end of a hyphen range: one of a partial version, or a whole one of which this is true
+-- any marks may stand before an end of a hyphen range: one of a partial version, or a whole one of
+-- which this is true
 abbrev pub is_free : (VersionValue → Bool) → Partial → Bool
 is_free changes p = elim p [ whole v ↦ changes v | _ ↦ true ]
 
@@ -320,7 +333,8 @@ words_of_all read = (is_lost read, comparators_of read)
 
 abbrev pub hyphen_or : Bool → Bool → List ℕ → Option (Ended × Ended) → Option (Bool × List Comparison)
 hyphen_or loose include text (Some e) = hyphen_of loose include e
-hyphen_or loose include text None = words_within loose include (length text) text >>? λ all. Some (words_of_all all)
+hyphen_or loose include text None =
+    words_within loose include (length text) text >>? λ all. Some (words_of_all all)
 
 unfoldable pub alternative_of : Bool → Bool → List ℕ → Option (Bool × List Comparison)
 alternative_of loose include text = hyphen_or loose include text (hyphen_ends loose text)

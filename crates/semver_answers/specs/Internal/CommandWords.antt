@@ -1,7 +1,9 @@
 -- For proofs. The commands by their words.
 use Rattle.std.specs.Prelude.{◌≢◌, ◌++◌, ◌∷◌, ℕ, List, codes}
 use Rattle.semver_answers.specs.declared.command.Command.{Command}
-use Rattle.semver_answers.specs.declared.command.Command.TheVariants.{Cmp, Ver, Diff, Inc, Range, And, Minus, Least, Beyond, Sat, Pre, Out, Max, Min}
+use Rattle.semver_answers.specs.declared.command.Command.TheVariants.{Cmp, Ver, Diff, Inc, Range}
+use Rattle.semver_answers.specs.declared.command.Command.TheVariants.{And, Minus, Least, Beyond}
+use Rattle.semver_answers.specs.declared.command.Command.TheVariants.{Sat, Pre, Out, Max, Min}
 
 -- the word of a command, the first field of its lines
 abbrev pub command_word : Command → List ℕ

@@ -11,8 +11,8 @@ use Rattle.semver_answers.specs.declared.question.AboutRanges.TheVariants.{And, 
 use Rattle.semver_answers.specs.declared.question.AboutVersions.{AboutVersions}
 use Rattle.semver_answers.specs.declared.question.AboutVersions.TheVariants.{Cmp, Diff}
 
--- the word of the command that asks this about two versions, a range, two ranges, a range and a version, or a range and
--- some versions
+-- the word of the command that asks this about two versions, a range, two ranges, a range and a
+-- version, or a range and some versions
 abbrev pub versions_word : AboutVersions → List ℕ
 versions_word Cmp = codes "cmp"
 versions_word Diff = codes "diff"

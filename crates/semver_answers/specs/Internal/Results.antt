@@ -1,5 +1,6 @@
 -- For proofs. What the results of reading a question's texts, and of replying to it, say.
-use Rattle.std.specs.Prelude.{◌≡◌, ◌==◌, ◌<◌, ℕ, Bool, List, [], ◌∷◌, length, Option, Some, None, Result, Ok, Err, IfErr, IfOk}
+use Rattle.std.specs.Prelude.{◌≡◌, ◌==◌, ◌<◌, ℕ, Bool, List, [], ◌∷◌, length, Option, Some, None}
+use Rattle.std.specs.Prelude.{Result, Ok, Err, IfErr, IfOk}
 use Rattle.std.specs.Prelude.{false, true, ⊤}
 use Rattle.std.specs.Borrow.{Bor}
 use Rattle.semver_core.specs.Cuts.{Span}
@@ -64,7 +65,8 @@ ends_field [] = true
 ends_field (c ∷ rest) = c == 59
 
 -- the first field of a text was read as a version, and what stands behind it is left
-pub record ReadsVersion (text : List ℕ) (version : Result VersionValue SemverError) (rest : Option (Bor (List ℕ))) : Type 0 where
+pub record ReadsVersion (text : List ℕ) (version : Result VersionValue SemverError)
+    (rest : Option (Bor (List ℕ))) : Type 0 where
   pub field : List ℕ
   pub first : fields text ≡ field ∷ behind rest
   pub parsed : ParsesVersion field version
@@ -72,7 +74,8 @@ pub record ReadsVersion (text : List ℕ) (version : Result VersionValue SemverE
 -- the answer to a line of these fields
 pub data AnswersFields (line : List (List ℕ)) (answer : List ℕ) : Type 0 where
   answered : (question : Question) → Asks line question → IsReply question answer → AnswersFields line answer
-  unasked : ((question : Question) → Asks line question → ⊥) → answer ≡ fault_word BadLine → AnswersFields line answer
+  unasked : ((question : Question) → Asks line question → ⊥) → answer ≡ fault_word BadLine
+      → AnswersFields line answer
 
 -- the text or the error is the reply, unless an allocation failed
 abbrev pub IsTold : Result (Bor (List ℕ)) (Failure Fault) → (List ℕ → Type 0) → Type 0

@@ -19,8 +19,8 @@ pub record GrowsByAnswer (line old new : List ℕ) : Type 0 where
   pub is_answer : IsAnswer line answer
   pub grown : new ≡ old ++ ended answer
 
--- what was pending and these bytes are some lines, each with its line feed, and then what is pending after them; of the
--- lines this is said
+-- what was pending and these bytes are some lines, each with its line feed, and then what is
+-- pending after them; of the lines this is said
 pub record Told (Said : List (List ℕ) → List ℕ → Type 0) (pending bytes after output : List ℕ) : Type 0 where
   pub lines : List (List ℕ)
   pub has_lines : no_feed pending ≡ true → HasLines (pending ++ bytes) lines after
@@ -54,15 +54,20 @@ pub record Turned (Said : List (List ℕ) → List ℕ → Type 0) (had left hel
   pub appended : Appends held holds written
   pub told : Told Said pending bytes after written
 
--- what an error leaves: some bytes were read, and a part of the answers to the lines that end in them is written
+-- what an error leaves: some bytes were read, and a part of the answers to the lines that end in
+-- them is written
 abbrev pub Stopped : (had left held holds : Option (List ℕ)) (pending : List ℕ) → RunFault → Type 0
 Stopped had left held holds pending Read = Keeps had left × Keeps held holds
-Stopped had left held holds pending Memory = (bytes rest : List ℕ) × Turned AnswersFront had left held holds pending rest bytes
-Stopped had left held holds pending Write = (bytes rest : List ℕ) × Turned AnswersTorn had left held holds pending rest bytes
+Stopped had left held holds pending Memory =
+    (bytes rest : List ℕ) × Turned AnswersFront had left held holds pending rest bytes
+Stopped had left held holds pending Write =
+    (bytes rest : List ℕ) × Turned AnswersTorn had left held holds pending rest bytes
 
 -- what the end of the input leaves: the pending line is answered, where it is not empty
 abbrev pub Finished : (held holds : Option (List ℕ)) (pending : List ℕ) → Result ⊤ RunFault → Type 0
-Finished held holds pending (Ok done) = (written : List ℕ) × Appends held holds written × Answers (last_line pending) written
+Finished held holds pending (Ok done) =
+    (written : List ℕ) × Appends held holds written × Answers (last_line pending) written
 Finished held holds pending (Err Read) = ⊥
 Finished held holds pending (Err Memory) = Keeps held holds
-Finished held holds pending (Err Write) = (written : List ℕ) × Appends held holds written × AnswersTorn (last_line pending) written
+Finished held holds pending (Err Write) =
+    (written : List ℕ) × Appends held holds written × AnswersTorn (last_line pending) written

@@ -15,9 +15,11 @@ Agrees f g = (p : ℕ) (r : Release) → f p ≡ Some r → g p ≡ Some r
 
 -- no plan takes these releases, and maybe more
 abbrev pub HasNoPlan : List Package → List Requirement → List (Option Pick) → Type 0
-HasNoPlan packages root picks = (f : ℕ → Option Release) → IsPlan packages root f → ¬ (Agrees (release_at picks) f)
+HasNoPlan packages root picks =
+    (f : ℕ → Option Release) → IsPlan packages root f → ¬ (Agrees (release_at picks) f)
 
 -- each requirement that a pick meets is needed, and stands at its package
 abbrev pub NeedsAll : List Requirement → List (Option Pick) → Type 0
-NeedsAll root picks = (p : ℕ) (pick : Pick) → slice_index_or picks p None ≡ Some pick → (pick.requirement.now.package ≡ p)
+NeedsAll root picks = (p : ℕ) (pick : Pick) → slice_index_or picks p None ≡ Some pick
+    → (pick.requirement.now.package ≡ p)
     × IsNeeded root (release_at picks) pick.requirement.now
