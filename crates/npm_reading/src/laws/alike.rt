@@ -20,8 +20,8 @@ use semver_core::{Failure, SemverError, Version};
 use std::alloc::Global;
 
 /// Range texts that mean the same to `Range::parse` and to node-semver's strict reading, as
-/// `npm::range` reads: alternatives with `||` and any whitespace between them, each empty, or any
-/// number of words, or a hyphen range, whose versions both grammars have (`IsPlainText`).
+/// `npm_reading::range` reads: alternatives with `||` and any whitespace between them, each empty,
+/// or any number of words, or a hyphen range, whose versions both grammars have (`IsPlainText`).
 ///
 /// - `here`, `there`: such a text means these intervals, one or more, and has these alternatives to
 ///   node-semver.
@@ -46,7 +46,7 @@ pub fn npm_reads_alike()
 {}
 
 /// Whether the range that `Range::parse` reads in the text satisfies the version, and whether the
-/// one that `npm::range` reads does.
+/// one that `npm_reading::range` reads does.
 ///
 /// - `here`: the first says whether the intervals that the text means accept the version.
 /// - `there`: the second says whether its alternatives to node-semver do.
