@@ -5,6 +5,7 @@ mod documented;
 mod error;
 mod fast_versions;
 mod increment;
+mod keys;
 mod laws;
 mod lent;
 mod lists;

@@ -11,3 +11,4 @@ pub mod Values
 pub mod FlatMaps
 pub mod Gate
 pub mod Normal
+pub mod Encoding

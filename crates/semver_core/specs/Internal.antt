@@ -15,3 +15,4 @@ pub mod Parts
 pub mod Boundaries
 pub mod Views
 pub mod Gate
+pub mod KeyReading

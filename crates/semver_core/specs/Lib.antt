@@ -4,6 +4,7 @@ pub mod Clips
 pub mod Difference
 pub mod Increments
 pub mod Internal
+pub mod Keys
 pub mod Lists
 pub mod Printing
 pub mod Text

@@ -2,11 +2,13 @@
 //! anything, else; no caller needs this module.
 
 mod increments;
+mod key_order;
 mod order;
 mod printing;
 mod reading;
 
 pub use crate::laws::increments::least_increments;
+pub use crate::laws::key_order::keys;
 pub use crate::laws::order::{
     identifiers_in_order, intervals_equal, order_and_increments, order_with_builds,
     versions_in_order,

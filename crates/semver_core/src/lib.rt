@@ -9,6 +9,7 @@ mod difference;
 mod error;
 mod identifier;
 mod increment;
+mod keys;
 pub mod laws;
 mod print;
 pub mod readers;

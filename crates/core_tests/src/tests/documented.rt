@@ -89,3 +89,37 @@ fn is_readable(rt: HostRuntime) -> Result<(), Fail> {
     assert!(rt; !VersionRef::parse("1.2.4")?.is_readable(3));
     Ok(())
 }
+
+#[test]
+fn version_key(rt: HostRuntime) -> Result<(), Fail> {
+    let alloc = rt.alloc();
+    let beta = Version::parse(alloc, "1.10.0-rc.2")?.key(alloc)?;
+    assert!(rt; beta.as_slice() == [1, 10, 0, 2, b'r', b'c', 0, 1, 2, 0].as_slice());
+    Ok(())
+}
+
+#[test]
+fn from_key(rt: HostRuntime) -> Result<(), Fail> {
+    let alloc = rt.alloc();
+    let version = Version::from_key(alloc, &[1, 2, 3, 3])?;
+    assert!(rt; version == Some(Version::parse(alloc, "1.2.3")?));
+    assert!(rt; Version::from_key(alloc, &[1, 2, 3])?.is_none());
+    Ok(())
+}
+
+#[test]
+fn version_ref_key(rt: HostRuntime) -> Result<(), Fail> {
+    let alloc = rt.alloc();
+    let (nine, ten) = (VersionRef::parse("1.9.0")?, VersionRef::parse("1.10.0")?);
+    assert!(rt; nine.key(alloc)? < ten.key(alloc)?);
+    Ok(())
+}
+
+#[test]
+fn write_key(rt: HostRuntime) -> Result<(), Fail> {
+    let alloc = rt.alloc();
+    let mut bytes = Vec::from_slice(alloc, b"left-pad\0")?;
+    VersionRef::parse("1.2.3")?.write_key(&mut bytes)?;
+    assert!(rt; bytes.as_slice() == b"left-pad\0\x01\x02\x03\x03".as_slice());
+    Ok(())
+}

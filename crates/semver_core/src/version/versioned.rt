@@ -2,6 +2,8 @@
 
 ghost use Rattle.std.{proofs.Common.{sym, true≢false}, specs.Fmt.DisplaysStyledOnOk};
 ghost use Rattle.std.specs.Prelude.{◌≡◌, Bool, Some, refl, true};
+ghost use Rattle.std.specs.Prelude.{◌<◌, ◌+◌, ◌++◌, length, OnErr, OnOk, vec_capacity, vec_len};
+ghost use Rattle.semver_core.specs.Keys.{key};
 ghost use Rattle.semver_core.specs.Printing.{RoundTrip.is_readable, Text.version_text};
 ghost use Rattle.semver_core.specs.Values.Memory.{takes_memory};
 ghost use Rattle.semver_core.specs.Values.{Order.precedence, Versions.{VersionValue, is_release}};
@@ -9,7 +11,8 @@ ghost use Rattle.semver_core.specs.Values.{Order.precedence, Versions.{VersionVa
 use crate::cuts::Point;
 use crate::print::{write_decimal, write_dotted, write_list};
 use crate::version::precedence::{cmp_numbers, cmp_pre};
-use crate::{IdentifierRefs, Version, VersionRef};
+use crate::{IdentifierRefs, Version, VersionRef, keys};
+use std::alloc::AllocError;
 use std::cmp::Ordering;
 use std::fmt;
 
@@ -85,6 +88,28 @@ pub trait Versioned {
         write_decimal(self.patch(), f)?;
         write_list("-", self.pre_release(), f)?;
         write_list("+", self.build(), f)
+    }
+
+    /// Adds the key of the version to bytes: the keys of two versions compare byte by byte as the
+    /// versions do by precedence, and so do keys with anything after them (`laws::keys`). Build
+    /// metadata does not count.
+    ///
+    /// Fails only if allocation fails, which happens only where the bytes have too little room for
+    /// the key. Then they are as they were: room is made before anything is written.
+    ///
+    /// ```rust
+    /// let mut bytes = Vec::from_slice(alloc, b"left-pad\0")?;
+    /// VersionRef::parse("1.2.3")?.write_key(&mut bytes)?;
+    /// assert!(rt; bytes.as_slice() == b"left-pad\0\x01\x02\x03\x03".as_slice());
+    /// ```
+    final fn write_key(&self, bytes: &mut Vec<u8>) -> Result<(), AllocError>
+        ensures added { OnOk result
+            (bytes.new.items ≡ bytes.old.items ++ key (value self.now)) }
+        ensures unchanged { OnErr result (bytes.new.items ≡ bytes.old.items) }
+        ensures memory { OnErr result
+            (vec_capacity bytes.old < vec_len bytes.old + length (key (value self.now))) }
+    {
+        keys::write_key(self, bytes)
     }
 }
 

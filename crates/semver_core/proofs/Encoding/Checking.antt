@@ -1,0 +1,250 @@
+-- What is found at the front of a key by a check that allocates nothing.
+use Rattle.std.proofs.Common.{ℕ, ◌≡◌, ◌<◌, ◌≤◌, ◌==◌, ◌&&◌, ◌^◌, ◌+◌, ◌++◌, ◌∷◌, ◌∙◌, List, [], All, Bool, IsUtf8, ap, append-nil, append_assoc, arith, drop, length, not, refl, subst, suc, sym, take, true, true≢false, zero}
+use Rattle.std.specs.Prelude.{Err, MatchResult, Ok, Result, is_err, false}
+use Rattle.std.proofs.Math.ListN.{get_or}
+use Rattle.std.proofs.Math.Seq.{drop-append-add}
+use Rattle.std.proofs.lemmas.List.Elements.{All-cons, All-head, All-nil, All-tail}
+use Rattle.std.proofs.lemmas.Str.{IsUtf8-append, IsUtf8-encode, IsUtf8-drop, IsUtf8-take, IsCharBoundary-after_ascii, IsCharBoundary-before_ascii}
+use Rattle.semver_core.proofs.Encoding.Reading.{behind, first_of, ids_start, text_ends, text_goes_on, text_has_zero}
+use Rattle.semver_core.specs.Internal.KeyReading.{AreIds, IsIdFront, IsLow, IsPre, IsTextFront, numbers_key}
+use Rattle.semver_core.specs.Keys.{id_key, ids_key, key, number_key, pre_key, text_key}
+use Rattle.semver_core.specs.Text.Identifiers.{AlphaNumeric, Id, Numeric}
+use Rattle.semver_core.specs.Values.Versions.{IsId, IsVersion, VersionValue}
+use Rattle.semver_core.specs.Words.{list_all}
+
+-- no byte is 0
+abbrev pub no_zero : List ℕ → Type 0
+no_zero bytes = list_all (λ c. not (c == 0)) bytes ≡ true
+
+pub is_bad : {A E : Type 0} (r : Result A E) (P : A → Type 0) (Q : Type 0) (R : E → Type 0)
+    → MatchResult r P (λ e. ¬ Q × R e) → is_err r ≡ true → Q → ⊥
+is_bad (Ok x) P Q R m h q = true≢false (sym h)
+is_bad (Err e) P Q R m h q = m.0 q
+
+pub is_good : {A E : Type 0} (r : Result A E) (P : A → Type 0) (Q : Type 0) (R : E → Type 0)
+    → MatchResult r (λ x. P x × Q) R → is_err r ≡ false → Q
+is_good (Ok x) P Q R m h = m.1
+is_good (Err e) P Q R m h = absurd (true≢false h)
+
+-- ---- texts
+
+zero_there : (bytes : List ℕ) → no_zero (0 ∷ bytes) → ⊥
+zero_there bytes h = true≢false (sym h)
+
+and_right : (a b : Bool) → (a && b) ≡ true → b ≡ true
+and_right true b h = h
+and_right false b h = absurd (true≢false (sym h))
+
+zero_later : (c : ℕ) (bytes : List ℕ) → no_zero (c ∷ bytes) → no_zero bytes
+zero_later c bytes h = and_right (not (c == 0)) (list_all (λ d. not (d == 0)) bytes) h
+
+front_key : (front u : List ℕ) → no_zero front → text_key (front ++ u) ≡ front ++ text_key u
+front_key [] u h = refl
+front_key (zero ∷ front) u h = absurd (zero_there front h)
+front_key (suc c ∷ front) u h = ap (λ k. suc c ∷ k) (front_key front u (zero_later (suc c) front h))
+
+pub text_has_end : (text rest : List ℕ) → no_zero (text_key text ++ rest) → ⊥
+text_has_end [] rest h = zero_there rest h
+text_has_end (zero ∷ text) rest h = zero_there (255 ∷ text_key text ++ rest) h
+text_has_end (suc c ∷ text) rest h = text_has_end text rest (zero_later (suc c) (text_key text ++ rest) h)
+
+pub text_split : (piece tail text rest : List ℕ) → no_zero piece → piece ++ 0 ∷ tail ≡ text_key text ++ rest
+    → (u : List ℕ) × (text ≡ piece ++ u) × (0 ∷ tail ≡ text_key u ++ rest)
+text_split [] tail text rest h e = (text, refl, e)
+text_split (zero ∷ piece) tail text rest h e = absurd (zero_there piece h)
+text_split (suc c ∷ piece) tail text rest h e =
+    let next = text_goes_on (suc c) (piece ++ 0 ∷ tail) text rest (omega arith) e in
+    let more = text_split piece tail next.0 rest (zero_later (suc c) piece h) next.2 in
+    (more.0, next.1 ∙ ap (λ k. suc c ∷ k) more.1, more.2)
+
+zero_utf8 : (u : List ℕ) → IsUtf8 u → IsUtf8 (0 ∷ u)
+unfolding lib.Utf8.encode
+zero_utf8 u h = IsUtf8-append (0 ∷ []) u (IsUtf8-encode 0 (refl)) h
+
+seam_byte : (piece w : List ℕ) → get_or (piece ++ 0 ∷ w) (length piece) 0 ≡ 0
+seam_byte [] w = refl
+seam_byte (c ∷ piece) w = seam_byte piece w
+
+seam_within : (piece w : List ℕ) → length piece < length (piece ++ 0 ∷ w)
+seam_within [] w = omega arith
+seam_within (c ∷ piece) w = omega (arith, seam_within piece w)
+
+front_taken : (piece w : List ℕ) → take (length piece) (piece ++ w) ≡ piece
+front_taken [] w = refl
+front_taken (c ∷ piece) w = ap (λ k. c ∷ k) (front_taken piece w)
+
+behind_dropped : (piece w : List ℕ) → drop (length piece + 1) (piece ++ 0 ∷ w) ≡ w
+behind_dropped piece w = drop-append-add piece (0 ∷ w) 1
+
+utf8_parts : (piece w : List ℕ) → IsUtf8 (piece ++ 0 ∷ w) → IsUtf8 piece × IsUtf8 w
+utf8_parts piece w h =
+    let bs : List ℕ = piece ++ 0 ∷ w in
+    let small : get_or bs (length piece) 0 < 128 = omega (arith, seam_byte piece w) in
+    (subst (λ k. IsUtf8 k) (front_taken piece (0 ∷ w))
+      (IsUtf8-take bs (length piece) h (IsCharBoundary-before_ascii bs (length piece) (seam_within piece w) small)),
+    subst (λ k. IsUtf8 k) (behind_dropped piece w)
+      (IsUtf8-drop bs (length piece + 1) h (IsCharBoundary-after_ascii bs (length piece) h (seam_within piece w) small)))
+
+piece_by : (piece tail u rest : List ℕ) → IsUtf8 (piece ++ u) → 0 ∷ tail ≡ text_key u ++ rest → IsUtf8 piece
+piece_by piece tail [] rest h e = subst (λ k. IsUtf8 k) (append-nil piece) h
+piece_by piece tail (zero ∷ u) rest h e = (utf8_parts piece u h).0
+piece_by piece tail (suc d ∷ u) rest h e = absurd (omega (arith, ap first_of e))
+
+-- the bytes before the first 0 are UTF-8
+pub piece_utf8 : (others piece tail rest : List ℕ) → others ≡ piece ++ 0 ∷ tail → no_zero piece → IsTextFront others rest → IsUtf8 piece
+piece_utf8 others piece tail rest e h front =
+    let parts = text_split piece tail front.0 rest h (sym e ∙ front.2) in
+    piece_by piece tail parts.0 rest (subst (λ k. IsUtf8 k) parts.1 front.1) parts.2
+
+pub none_found : (others rest : List ℕ) → no_zero others → IsTextFront others rest → ⊥
+none_found others rest h front = text_has_end front.0 rest (subst (λ k. no_zero k) front.2 h)
+
+-- the text ends at this 0
+pub end_found : (others piece tail : List ℕ) → others ≡ piece ++ 0 ∷ tail → no_zero piece → IsUtf8 piece → IsTextFront others tail
+end_found others piece tail e h utf8 = (
+  piece,
+  utf8,
+  e ∙ (sym (append_assoc piece (0 ∷ []) tail)
+      ∙ ap (λ k. k ++ tail) (sym (front_key piece [] h) ∙ ap text_key (append-nil piece))),
+)
+
+pub end_only : (others piece tail rest : List ℕ) → others ≡ piece ++ 0 ∷ tail → no_zero piece
+    → ((more : List ℕ) → tail ≡ 255 ∷ more → ⊥) → IsTextFront others rest → tail ≡ rest
+end_only others piece tail rest e h last front =
+    let parts = text_split piece tail front.0 rest h (sym e ∙ front.2) in
+    (text_ends tail parts.0 rest last parts.2).1
+
+-- the text goes on
+pub more_found : (others piece tail more rest : List ℕ) → others ≡ piece ++ 0 ∷ tail → no_zero piece → IsUtf8 piece
+    → tail ≡ 255 ∷ more → IsTextFront more rest → IsTextFront others rest
+more_found others piece tail more rest e h utf8 f front =
+    let u : List ℕ = front.0 in
+    let spelled : text_key (piece ++ 0 ∷ u) ++ rest ≡ piece ++ (0 ∷ 255 ∷ text_key u ++ rest) =
+    ap (λ k. k ++ rest) (front_key piece (0 ∷ u) h) ∙ append_assoc piece (0 ∷ 255 ∷ text_key u) rest in
+    (
+      piece ++ 0 ∷ u,
+      IsUtf8-append piece (0 ∷ u) utf8 (zero_utf8 u front.1),
+      e ∙ (ap (λ k. piece ++ 0 ∷ k) f ∙ (ap (λ k. piece ++ 0 ∷ 255 ∷ k) front.2 ∙ sym spelled)),
+    )
+
+pub more_left : (others piece tail more rest : List ℕ) → others ≡ piece ++ 0 ∷ tail → no_zero piece → tail ≡ 255 ∷ more
+    → IsLow rest → IsTextFront others rest → IsTextFront more rest
+more_left others piece tail more rest e h f is_low front =
+    let parts = text_split piece tail front.0 rest h (sym e ∙ front.2) in
+    let next = text_has_zero more parts.0 rest is_low (sym (ap (λ k. 0 ∷ k) f) ∙ parts.2) in
+    (
+      next.0,
+      (utf8_parts piece next.0 (subst (λ k. IsUtf8 k) (parts.1 ∙ ap (λ k. piece ++ k) next.1) front.1)).1,
+      next.2,
+    )
+
+longer : (piece tail : List ℕ) → length tail < length (piece ++ 0 ∷ tail)
+longer [] tail = omega arith
+longer (c ∷ piece) tail = omega (arith, longer piece tail)
+
+pub more_shorter : (bytes others piece tail more : List ℕ) → length others ≤ length bytes → others ≡ piece ++ 0 ∷ tail
+    → tail ≡ 255 ∷ more → length more ≤ length bytes
+more_shorter bytes others piece tail more h e f = omega (arith, h, ap length e, ap length f, longer piece tail)
+
+-- ---- identifiers
+
+nothing_keyed : (u : List Id) → [] ≡ ids_key u → ⊥
+nothing_keyed [] e = cc e
+nothing_keyed (Numeric n ∷ u) e = cc e
+nothing_keyed (AlphaNumeric t ∷ u) e = cc e
+
+pub no_ids_found : (others : List ℕ) → length others ≡ 0 → AreIds others → ⊥
+no_ids_found [] e ids = nothing_keyed ids.0 ids.2
+no_ids_found (c ∷ others) e ids = omega arith
+
+pub ids_ended : (others tail : List ℕ) (c : ℕ) → others ≡ c ∷ tail → c ≡ 0 → length tail ≡ 0 → AreIds others
+ids_ended others [] c e f h = ([], All-nil IsId, e ∙ ap (λ d. d ∷ []) f)
+ids_ended others (d ∷ tail) c e f h = absurd (omega arith)
+
+ended_by : (u : List Id) (tail : List ℕ) → 0 ∷ tail ≡ ids_key u → length tail ≡ 0
+ended_by [] tail e = ap (λ k. length (behind k)) e
+ended_by (Numeric n ∷ u) tail e = absurd (omega (arith, ap first_of e))
+ended_by (AlphaNumeric t ∷ u) tail e = absurd (omega (arith, ap first_of e))
+
+pub ids_end : (others tail : List ℕ) (c : ℕ) → others ≡ c ∷ tail → c ≡ 0 → AreIds others → length tail ≡ 0
+ids_end others tail c e f ids = ended_by ids.0 tail (ap (λ d. d ∷ tail) (sym f) ∙ (sym e ∙ ids.2))
+
+pub number_front : (bytes tail rest : List ℕ) (c : ℕ) → bytes ≡ c ∷ tail → c ≡ 1
+    → (n : ℕ) × (n < 2 ^ 64) × (tail ≡ number_key n ++ rest) → IsIdFront bytes rest
+number_front bytes tail rest c e f found =
+    (Numeric found.0, found.1, e ∙ ((λ i. f i ∷ tail) ∙ ap (λ k. 1 ∷ k) found.2))
+
+pub text_front : (bytes tail rest : List ℕ) (c : ℕ) → bytes ≡ c ∷ tail → c ≡ 2 → IsTextFront tail rest → IsIdFront bytes rest
+text_front bytes tail rest c e f found =
+    (AlphaNumeric found.0, found.1, e ∙ ((λ i. f i ∷ tail) ∙ ap (λ k. 2 ∷ k) found.2))
+
+pub ids_found : (others rest : List ℕ) → IsIdFront others rest → AreIds rest → AreIds others
+ids_found others rest front ids = (
+  front.0 ∷ ids.0,
+  All-cons IsId front.0 ids.0 front.1 ids.1,
+  front.2 ∙ ap (λ k. id_key front.0 ++ k) ids.2,
+)
+
+-- the identifier that comes next, and the others
+pub record NextId (others : List ℕ) : Type 0 where
+  pub rest : List ℕ
+  pub ids : AreIds rest
+  pub is_low : IsLow rest
+  pub front : IsIdFront others rest
+
+next_by : (u : List Id) (others tail : List ℕ) (c : ℕ) → All IsId u → others ≡ c ∷ tail → 0 < c → others ≡ ids_key u → NextId others
+next_by [] others tail c all e h f = absurd (omega (arith, ap first_of (sym e ∙ f)))
+next_by (x ∷ u) others tail c all e h f = record {
+  rest = ids_key u;
+  ids = (u, All-tail IsId x u all, refl);
+  is_low = ids_start u;
+  front = (x, All-head IsId x u all, f);
+}
+
+pub next_id : (others tail : List ℕ) (c : ℕ) → others ≡ c ∷ tail → 0 < c → AreIds others → NextId others
+next_id others tail c e h ids = next_by ids.0 others tail c ids.1 e h ids.2
+
+-- ---- pre-releases
+
+pub release_found : (bytes tail : List ℕ) (c : ℕ) → bytes ≡ c ∷ tail → c ≡ 3 → length tail ≡ 0 → IsPre bytes
+release_found bytes [] c e f h = ([], All-nil IsId, e ∙ ap (λ d. d ∷ []) f)
+release_found bytes (d ∷ tail) c e f h = absurd (omega arith)
+
+pre_by : (u : List Id) (bytes tail : List ℕ) (c : ℕ) → All IsId u → bytes ≡ c ∷ tail → 0 < c → bytes ≡ ids_key u → IsPre bytes
+pre_by [] bytes tail c all e h f = absurd (omega (arith, ap first_of (sym e ∙ f)))
+pre_by (x ∷ u) bytes tail c all e h f = (x ∷ u, all, f)
+
+pub pre_found : (bytes tail : List ℕ) (c : ℕ) → bytes ≡ c ∷ tail → 0 < c → AreIds bytes → IsPre bytes
+pre_found bytes tail c e h ids = pre_by ids.0 bytes tail c ids.1 e h ids.2
+
+-- what a pre-release begins with
+pub data PreFront (bytes : List ℕ) : Type 0 where
+  none : bytes ≡ 3 ∷ [] → PreFront bytes
+  some : (c : ℕ) (tail : List ℕ) → bytes ≡ c ∷ tail → 0 < c → c < 3 → AreIds bytes → PreFront bytes
+
+front_by : (u : List Id) (bytes : List ℕ) → All IsId u → bytes ≡ pre_key u → PreFront bytes
+front_by [] bytes all e = none e
+front_by (Numeric n ∷ u) bytes all e = some 1 _ e (omega arith) (omega arith) (Numeric n ∷ u, all, e)
+front_by (AlphaNumeric t ∷ u) bytes all e = some 2 _ e (omega arith) (omega arith) (AlphaNumeric t ∷ u, all, e)
+
+pub pre_front : (bytes : List ℕ) → IsPre bytes → PreFront bytes
+pre_front bytes pre = front_by pre.0 bytes pre.1 pre.2
+
+-- ---- versions
+
+keyed_by : (major minor patch : ℕ) (list : List Id) (bytes rest : List ℕ) → major < 2 ^ 64 → minor < 2 ^ 64 → patch < 2 ^ 64
+    → All IsId list → bytes ≡ numbers_key major minor patch rest → rest ≡ pre_key list → (rest ≡ pre_key [] → ⊥)
+    → (v : VersionValue) × IsVersion v × (key v ≡ bytes) × (0 < length v.pre_release)
+keyed_by major minor patch [] bytes rest h k l all e f some_id = absurd (some_id f)
+keyed_by major minor patch (x ∷ list) bytes rest h k l all e f some_id = (
+  record { major = major; minor = minor; patch = patch; pre_release = x ∷ list; build = [] },
+  record { major = h; minor = k; patch = l; pre_release = all; build = All-nil IsId },
+  sym (e ∙ ap (numbers_key major minor patch) f),
+  omega arith,
+)
+
+-- the bytes are the key of a pre-release
+pub keyed : (major minor patch : ℕ) (bytes rest : List ℕ) → major < 2 ^ 64 → minor < 2 ^ 64 → patch < 2 ^ 64
+    → bytes ≡ numbers_key major minor patch rest → IsPre rest → (rest ≡ pre_key [] → ⊥)
+    → (v : VersionValue) × IsVersion v × (key v ≡ bytes) × (0 < length v.pre_release)
+keyed major minor patch bytes rest h k l e pre some_id = keyed_by major minor patch pre.0 bytes rest h k l pre.1 e pre.2 some_id

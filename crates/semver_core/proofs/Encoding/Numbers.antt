@@ -1,0 +1,144 @@
+-- Comparing the bytes of numbers is comparing the numbers.
+use Rattle.std.proofs.Common.{ℕ, ◌≡◌, ◌<◌, ◌≤◌, ◌^◌, ◌*◌, ◌+◌, ◌/◌, ◌%◌, ◌++◌, ◌∷◌, List, [], refl, ap, arith, zero, suc, ◌∙◌, sym, true, false, Bool}
+use Rattle.std.specs.Cmp.Lexicographic.{slice_cmp}
+use Rattle.std.specs.Cmp.{nat_cmp_is, ranks}
+use Rattle.std.specs.Int.{byte_at, bytes_high_first}
+use Rattle.std.specs.Ordering.{MatchOrdering, nat_cmp, ordering_then}
+use Rattle.std.specs.declared.cmp.Ordering.{Ordering}
+use Rattle.std.specs.declared.cmp.Ordering.TheVariants.{Less, Equal, Greater}
+use Rattle.std.proofs.lemmas.Nat.{mod-mul-add}
+use Rattle.std.proofs.Math.Nat.{div-add-mod, mod-eq_of_lt, mod-lt, mul-le-mul_left, one-le-pow, pow-suc}
+use Rattle.std.specs.Prelude.{nat_lt}
+use borrow.Author.Tests.{ltb-true, ltb-false}
+use Rattle.semver_core.specs.Keys.{number_key}
+use Rattle.semver_core.specs.Internal.KeyReading.{IsLow, low}
+
+-- the order of two lists of bytes
+abbrev pub bytes_cmp : List ℕ → List ℕ → Ordering
+bytes_cmp = slice_cmp nat_cmp
+
+pub then_assoc : (a b c : Ordering) → ordering_then (ordering_then a b) c ≡ ordering_then a (ordering_then b c)
+then_assoc Less b c = refl
+then_assoc Equal b c = refl
+then_assoc Greater b c = refl
+
+pub cmp_below : (m n : ℕ) → m < n → nat_cmp m n ≡ Less
+cmp_below m n h = sym (nat_cmp_is m n Less h)
+
+pub cmp_above : (m n : ℕ) → n < m → nat_cmp m n ≡ Greater
+cmp_above m n h = sym (nat_cmp_is m n Greater h)
+
+pub cmp_same : (n : ℕ) → nat_cmp n n ≡ Equal
+cmp_same n = sym (nat_cmp_is n n Equal refl)
+
+-- one first byte and one number less than the other
+pub both_below : (x y m n : ℕ) (t u : Ordering) → x < y → m < n → ordering_then (nat_cmp x y) t ≡ ordering_then (nat_cmp m n) u
+both_below x y m n t u h k = rw (cmp_below x y h, cmp_below m n k) refl
+
+pub both_above : (x y m n : ℕ) (t u : Ordering) → y < x → n < m → ordering_then (nat_cmp x y) t ≡ ordering_then (nat_cmp m n) u
+both_above x y m n t u h k = rw (cmp_above x y h, cmp_above m n k) refl
+
+pub is_below : (m n : ℕ) (u : Ordering) → m < n → ordering_then (nat_cmp m n) u ≡ Less
+is_below m n u h = rw (cmp_below m n h) refl
+
+pub is_above : (m n : ℕ) (u : Ordering) → n < m → ordering_then (nat_cmp m n) u ≡ Greater
+is_above m n u h = rw (cmp_above m n h) refl
+
+-- a digit more, by the order of that digit
+digit_by : (d a b c e : ℕ) → b < d → e < d → (r s : Ordering) → MatchOrdering r (a < c) (a ≡ c) (c < a)
+    → MatchOrdering s (b < e) (b ≡ e) (e < b)
+    → MatchOrdering (ordering_then r s) (a * d + b < c * d + e) (a * d + b ≡ c * d + e) (c * d + e < a * d + b)
+digit_by d a b c e h k Less s p q = omega (arith, mul-le-mul_left d p)
+digit_by d a b c e h k Greater s p q = omega (arith, mul-le-mul_left d p)
+digit_by d a b c e h k Equal Less p q = omega (arith, ap (λ n. n * d) p)
+digit_by d a b c e h k Equal Greater p q = omega (arith, ap (λ n. n * d) p)
+digit_by d a b c e h k Equal Equal p q = omega (arith, ap (λ n. n * d) p)
+
+digit_cmp : (d a b c e : ℕ) → b < d → e < d → nat_cmp (a * d + b) (c * d + e) ≡ ordering_then (nat_cmp a c) (nat_cmp b e)
+digit_cmp d a b c e h k =
+    sym (nat_cmp_is _ _ _ (digit_by d a b c e h k (nat_cmp a c) (nat_cmp b e) (ranks a c) (ranks b e)))
+
+-- what is left of a number below the place after the next, by the digit at this place
+top_digit : (n d : ℕ) → 0 < d → n % (d * 256) ≡ n / d % 256 * d + n % d
+top_digit n d h =
+    let low : n % d < d = mod-lt n h in
+    let digit : n / d % 256 < 256 = omega arith in
+    let whole : n ≡ n / d / 256 * (d * 256) + (n / d % 256 * d + n % d) =
+    omega (arith, div-add-mod n d, ap (λ x. d * x) (div-add-mod (n / d) 256)) in
+    let room : n / d % 256 + 1 ≤ 256 = omega arith in
+    let fits : n / d % 256 * d + n % d < d * 256 = omega (arith, mul-le-mul_left d room) in
+    ap (λ m. m % (d * 256)) whole ∙ mod-mul-add (n / d / 256) (d * 256) (n / d % 256 * d + n % d) fits
+
+power_above : (k : ℕ) → 0 < 256 ^ k
+power_above k = one-le-pow k 256 (omega arith)
+
+top_byte : (k n : ℕ) → n % 256 ^ suc (suc k) ≡ byte_at (suc k) n * 256 ^ suc k + n % 256 ^ suc k
+top_byte k n = ap (λ d. n % d) (pow-suc 256 (suc k)) ∙ top_digit n (256 ^ suc k) (power_above (suc k))
+
+-- the lowest bytes of two numbers, the highest first, and what stands behind them
+pub low_bytes_cmp : (k m n : ℕ) (r s : List ℕ) → bytes_cmp (bytes_high_first (suc k) m ++ r) (bytes_high_first (suc k) n ++ s)
+    ≡ ordering_then (nat_cmp (m % 256 ^ suc k) (n % 256 ^ suc k)) (bytes_cmp r s)
+low_bytes_cmp zero m n r s = refl
+low_bytes_cmp (suc k) m n r s =
+    let d : ℕ = 256 ^ suc k in
+    let above : 0 < d = power_above (suc k) in
+    let both : nat_cmp (m % 256 ^ suc (suc k)) (n % 256 ^ suc (suc k))
+    ≡ ordering_then (nat_cmp (byte_at (suc k) m) (byte_at (suc k) n)) (nat_cmp (m % d) (n % d)) =
+    (λ i. nat_cmp (top_byte k m i) (top_byte k n i)) ∙ digit_cmp d _ _ _ _ (mod-lt m above) (mod-lt n above) in
+    ap (ordering_then (nat_cmp (byte_at (suc k) m) (byte_at (suc k) n))) (low_bytes_cmp k m n r s)
+    ∙ (sym (then_assoc (nat_cmp (byte_at (suc k) m) (byte_at (suc k) n)) (nat_cmp (m % d) (n % d)) (bytes_cmp r s))
+    ∙ ap (λ o. ordering_then o (bytes_cmp r s)) (sym both))
+
+-- the bytes of two numbers that fit, and what stands behind them
+pub all_bytes_cmp : (k m n : ℕ) (r s : List ℕ) → m < 256 ^ suc k → n < 256 ^ suc k
+    → bytes_cmp (bytes_high_first (suc k) m ++ r) (bytes_high_first (suc k) n ++ s) ≡ ordering_then (nat_cmp m n) (bytes_cmp r s)
+all_bytes_cmp k m n r s h l =
+    low_bytes_cmp k m n r s ∙ (λ i. ordering_then (nat_cmp (mod-eq_of_lt h i) (mod-eq_of_lt l i)) (bytes_cmp r s))
+
+-- the four forms of the key of a number
+pub data Form (n : ℕ) : List ℕ → Type 0 where
+  one : n < 251 → Form n (n ∷ [])
+  two : 251 ≤ n → n < 2 ^ 16 → Form n (251 ∷ bytes_high_first 2 n)
+  four : 2 ^ 16 ≤ n → n < 2 ^ 32 → Form n (252 ∷ bytes_high_first 4 n)
+  eight : 2 ^ 32 ≤ n → n < 2 ^ 64 → Form n (253 ∷ bytes_high_first 8 n)
+
+form_by : (n : ℕ) (a b c : Bool) → nat_lt n 251 ≡ a → nat_lt n (2 ^ 16) ≡ b → nat_lt n (2 ^ 32) ≡ c → n < 2 ^ 64 → Form n (number_key n)
+form_by n true b c p q t h = rw p (one (ltb-true n 251 p))
+form_by n false true c p q t h = rw (p, q) (two (ltb-false n 251 p) (ltb-true n (2 ^ 16) q))
+form_by n false false true p q t h = rw (p, q, t) (four (ltb-false n (2 ^ 16) q) (ltb-true n (2 ^ 32) t))
+form_by n false false false p q t h = rw (p, q, t) (eight (ltb-false n (2 ^ 32) t) h)
+
+pub form : (n : ℕ) → n < 2 ^ 64 → Form n (number_key n)
+form n = form_by n _ _ _ refl refl refl
+
+cmp_by : (m n : ℕ) (k l r s : List ℕ) → Form m k → Form n l → bytes_cmp (k ++ r) (l ++ s) ≡ ordering_then (nat_cmp m n) (bytes_cmp r s)
+cmp_by m n _ _ r s (one h) (one k) = refl
+cmp_by m n _ _ r s (one h) (two k l) = both_below m 251 m n _ _ h (omega arith)
+cmp_by m n _ _ r s (one h) (four k l) = both_below m 252 m n _ _ (omega arith) (omega arith)
+cmp_by m n _ _ r s (one h) (eight k l) = both_below m 253 m n _ _ (omega arith) (omega arith)
+cmp_by m n _ _ r s (two g h) (one k) = both_above 251 n m n _ _ k (omega arith)
+cmp_by m n _ _ r s (two g h) (two k l) = all_bytes_cmp 1 m n r s h l
+cmp_by m n _ _ r s (two g h) (four k l) = sym (is_below m n _ (omega arith))
+cmp_by m n _ _ r s (two g h) (eight k l) = sym (is_below m n _ (omega arith))
+cmp_by m n _ _ r s (four g h) (one k) = both_above 252 n m n _ _ (omega arith) (omega arith)
+cmp_by m n _ _ r s (four g h) (two k l) = sym (is_above m n _ (omega arith))
+cmp_by m n _ _ r s (four g h) (four k l) = all_bytes_cmp 3 m n r s h l
+cmp_by m n _ _ r s (four g h) (eight k l) = sym (is_below m n _ (omega arith))
+cmp_by m n _ _ r s (eight g h) (one k) = both_above 253 n m n _ _ (omega arith) (omega arith)
+cmp_by m n _ _ r s (eight g h) (two k l) = sym (is_above m n _ (omega arith))
+cmp_by m n _ _ r s (eight g h) (four k l) = sym (is_above m n _ (omega arith))
+cmp_by m n _ _ r s (eight g h) (eight k l) = all_bytes_cmp 7 m n r s h l
+
+-- the keys of two numbers, and what stands behind them
+pub number_cmp : (m n : ℕ) (r s : List ℕ) → m < 2 ^ 64 → n < 2 ^ 64
+    → bytes_cmp (number_key m ++ r) (number_key n ++ s) ≡ ordering_then (nat_cmp m n) (bytes_cmp r s)
+number_cmp m n r s h k = cmp_by m n _ _ r s (form m h) (form n k)
+
+low_by : (n : ℕ) (k r : List ℕ) → Form n k → IsLow (k ++ r)
+low_by n _ r (one h) = low n r (omega arith)
+low_by n _ r (two g h) = low 251 _ (omega arith)
+low_by n _ r (four g h) = low 252 _ (omega arith)
+low_by n _ r (eight g h) = low 253 _ (omega arith)
+
+pub number_low : (n : ℕ) (r : List ℕ) → n < 2 ^ 64 → IsLow (number_key n ++ r)
+number_low n r h = low_by n _ r (form n h)

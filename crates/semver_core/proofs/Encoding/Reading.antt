@@ -1,0 +1,228 @@
+-- What the bytes at the front of a key say.
+use Rattle.std.proofs.Common.{ℕ, ◌≡◌, ◌<◌, ◌≤◌, ◌^◌, ◌+◌, ◌++◌, ◌∷◌, List, [], refl, ap, arith, zero, suc, ◌∙◌, sym, length, drop, take, append-nil, append_assoc, subst}
+use Rattle.std.specs.Int.{bytes_high_first, from_be_bytes, to_be_bytes, w16, w32, w64}
+use Rattle.std.proofs.lemmas.List.{get_or_past, take-append-drop}
+use Rattle.std.proofs.lemmas.Nat.{be_bytes_2, be_bytes_4, be_bytes_8}
+use Rattle.std.proofs.Math.ListN.{get_or}
+use Rattle.semver_core.proofs.Encoding.Numbers.{Form, eight, form, four, one, two}
+use Rattle.std.specs.Prelude.{All}
+use Rattle.std.proofs.lemmas.List.Elements.{All-head, All-tail}
+use Rattle.semver_core.specs.Keys.{id_key, ids_key, number_key, pre_key, text_key}
+use Rattle.semver_core.specs.Text.Identifiers.{AlphaNumeric, Id, Numeric}
+use Rattle.semver_core.specs.Values.Versions.{IsId}
+use Rattle.semver_core.specs.Internal.KeyReading.{IsLow, low}
+
+pub ids_start : (xs : List Id) → IsLow (ids_key xs)
+ids_start [] = low 0 [] (omega arith)
+ids_start (Numeric n ∷ xs) = low 1 _ (omega arith)
+ids_start (AlphaNumeric t ∷ xs) = low 2 _ (omega arith)
+
+none_by : (n : ℕ) (k rest : List ℕ) → Form n k → [] ≡ k ++ rest → ⊥
+none_by n _ rest (one h) e = cc e
+none_by n _ rest (two g h) e = cc e
+none_by n _ rest (four g h) e = cc e
+none_by n _ rest (eight g h) e = cc e
+
+pub no_number : (n : ℕ) (rest : List ℕ) → n < 2 ^ 64 → [] ≡ number_key n ++ rest → ⊥
+no_number n rest h = none_by n _ rest (form n h)
+
+abbrev pub first_of : List ℕ → ℕ
+first_of [] = 0
+first_of (c ∷ rest) = c
+
+abbrev pub behind : List ℕ → List ℕ
+behind [] = []
+behind (c ∷ rest) = rest
+
+small_by : (c n : ℕ) (tail k rest : List ℕ) → Form n k → c < 251 → c ∷ tail ≡ k ++ rest → (c ≡ n) × (tail ≡ rest)
+small_by c n tail _ rest (one g) h e = (ap first_of e, ap behind e)
+small_by c n tail _ rest (two f g) h e = absurd (omega (arith, ap first_of e))
+small_by c n tail _ rest (four f g) h e = absurd (omega (arith, ap first_of e))
+small_by c n tail _ rest (eight f g) h e = absurd (omega (arith, ap first_of e))
+
+pub small_number : (c n : ℕ) (tail rest : List ℕ) → n < 2 ^ 64 → c < 251 → c ∷ tail ≡ number_key n ++ rest → (c ≡ n) × (tail ≡ rest)
+small_number c n tail rest g = small_by c n tail _ rest (form n g)
+
+two_by : (n : ℕ) (tail k rest : List ℕ) → Form n k → 251 ∷ tail ≡ k ++ rest → (n < 2 ^ 16) × (tail ≡ to_be_bytes w16 n ++ rest)
+two_by n tail _ rest (one g) e = absurd (omega (arith, ap first_of e))
+two_by n tail _ rest (two f g) e = (g, ap behind e)
+two_by n tail _ rest (four f g) e = absurd (omega (arith, ap first_of e))
+two_by n tail _ rest (eight f g) e = absurd (omega (arith, ap first_of e))
+
+pub number_of_two : (n : ℕ) (tail rest : List ℕ) → n < 2 ^ 64 → 251 ∷ tail ≡ number_key n ++ rest → (n < 2 ^ 16) × (tail ≡ to_be_bytes w16 n ++ rest)
+number_of_two n tail rest g = two_by n tail _ rest (form n g)
+
+four_by : (n : ℕ) (tail k rest : List ℕ) → Form n k → 252 ∷ tail ≡ k ++ rest → (n < 2 ^ 32) × (tail ≡ to_be_bytes w32 n ++ rest)
+four_by n tail _ rest (one g) e = absurd (omega (arith, ap first_of e))
+four_by n tail _ rest (two f g) e = absurd (omega (arith, ap first_of e))
+four_by n tail _ rest (four f g) e = (g, ap behind e)
+four_by n tail _ rest (eight f g) e = absurd (omega (arith, ap first_of e))
+
+pub number_of_four : (n : ℕ) (tail rest : List ℕ) → n < 2 ^ 64 → 252 ∷ tail ≡ number_key n ++ rest → (n < 2 ^ 32) × (tail ≡ to_be_bytes w32 n ++ rest)
+number_of_four n tail rest g = four_by n tail _ rest (form n g)
+
+eight_by : (n : ℕ) (tail k rest : List ℕ) → Form n k → 253 ∷ tail ≡ k ++ rest → tail ≡ to_be_bytes w64 n ++ rest
+eight_by n tail _ rest (one g) e = absurd (omega (arith, ap first_of e))
+eight_by n tail _ rest (two f g) e = absurd (omega (arith, ap first_of e))
+eight_by n tail _ rest (four f g) e = absurd (omega (arith, ap first_of e))
+eight_by n tail _ rest (eight f g) e = ap behind e
+
+pub number_of_eight : (n : ℕ) (tail rest : List ℕ) → n < 2 ^ 64 → 253 ∷ tail ≡ number_key n ++ rest → tail ≡ to_be_bytes w64 n ++ rest
+number_of_eight n tail rest g = eight_by n tail _ rest (form n g)
+
+high_by : (c n : ℕ) (tail k rest : List ℕ) → Form n k → 254 ≤ c → c ∷ tail ≡ k ++ rest → ⊥
+high_by c n tail _ rest (one g) h e = omega (arith, ap first_of e)
+high_by c n tail _ rest (two f g) h e = omega (arith, ap first_of e)
+high_by c n tail _ rest (four f g) h e = omega (arith, ap first_of e)
+high_by c n tail _ rest (eight f g) h e = omega (arith, ap first_of e)
+
+pub no_high : (c n : ℕ) (tail rest : List ℕ) → n < 2 ^ 64 → 254 ≤ c → c ∷ tail ≡ number_key n ++ rest → ⊥
+no_high c n tail rest g = high_by c n tail _ rest (form n g)
+
+-- ---- texts
+
+pub no_text : (text rest : List ℕ) → [] ≡ text_key text ++ rest → ⊥
+no_text [] rest e = cc e
+no_text (zero ∷ text) rest e = cc e
+no_text (suc c ∷ text) rest e = cc e
+
+-- a byte that is not 0 is one of the text
+pub text_goes_on : (c : ℕ) (tail text rest : List ℕ) → 0 < c → c ∷ tail ≡ text_key text ++ rest
+    → (u : List ℕ) × (text ≡ c ∷ u) × (tail ≡ text_key u ++ rest)
+text_goes_on c tail [] rest h e = absurd (omega (arith, ap first_of e))
+text_goes_on c tail (zero ∷ text) rest h e = absurd (omega (arith, ap first_of e))
+text_goes_on c tail (suc d ∷ text) rest h e = (text, ap (λ x. x ∷ text) (sym (ap first_of e)), ap behind e)
+
+-- 0 and 255 are the byte 0 of the text
+pub text_has_zero : (tail text rest : List ℕ) → IsLow rest → 0 ∷ 255 ∷ tail ≡ text_key text ++ rest
+    → (u : List ℕ) × (text ≡ 0 ∷ u) × (tail ≡ text_key u ++ rest)
+text_has_zero tail [] _ (low c rest h) e = absurd (omega (arith, ap (λ k. first_of (behind k)) e))
+text_has_zero tail (zero ∷ text) rest h e = (text, refl, ap (λ k. behind (behind k)) e)
+text_has_zero tail (suc d ∷ text) rest h e = absurd (omega (arith, ap first_of e))
+
+-- 0 without 255 behind it is the end
+pub text_ends : (tail text rest : List ℕ) → ((more : List ℕ) → tail ≡ 255 ∷ more → ⊥) → 0 ∷ tail ≡ text_key text ++ rest
+    → (text ≡ []) × (tail ≡ rest)
+text_ends tail [] rest h e = (refl, ap behind e)
+text_ends tail (zero ∷ text) rest h e = absurd (h (text_key text ++ rest) (ap behind e))
+text_ends tail (suc d ∷ text) rest h e = absurd (omega (arith, ap first_of e))
+
+-- ---- identifiers
+
+-- what is left of a list of identifiers whose front was read
+abbrev pub AreLeft : (whole so_far : List Id) (others : List ℕ) → Type 0
+AreLeft whole so_far others = (u : List Id) × (whole ≡ so_far ++ u) × (others ≡ ids_key u)
+
+no_ids : (u : List Id) → [] ≡ ids_key u → ⊥
+no_ids [] e = cc e
+no_ids (Numeric n ∷ u) e = cc e
+no_ids (AlphaNumeric t ∷ u) e = cc e
+
+ids_done : (u : List Id) (tail : List ℕ) → 0 ∷ tail ≡ ids_key u → u ≡ []
+ids_done [] tail e = refl
+ids_done (Numeric n ∷ u) tail e = absurd (omega (arith, ap first_of e))
+ids_done (AlphaNumeric t ∷ u) tail e = absurd (omega (arith, ap first_of e))
+
+ids_more : (u : List Id) (c : ℕ) (tail : List ℕ) → 0 < c → c ∷ tail ≡ ids_key u → (x : Id) × (v : List Id) × (u ≡ x ∷ v)
+ids_more [] c tail h e = absurd (omega (arith, ap first_of e))
+ids_more (x ∷ v) c tail h e = (x, v, refl)
+
+all_behind : (xs ys : List Id) → All IsId (xs ++ ys) → All IsId ys
+all_behind [] ys h = h
+all_behind (x ∷ xs) ys h = all_behind xs ys (All-tail IsId x (xs ++ ys) h)
+
+pub left_none : (whole so_far : List Id) (others : List ℕ) → length others ≡ 0 → AreLeft whole so_far others → ⊥
+left_none whole so_far [] e left = no_ids left.0 left.2
+left_none whole so_far (c ∷ others) e left = omega arith
+
+pub left_done : (whole so_far : List Id) (others tail : List ℕ) (c : ℕ) → others ≡ c ∷ tail → c ≡ 0 → AreLeft whole so_far others → so_far ≡ whole
+left_done whole so_far others tail c e f left =
+    let none = ids_done left.0 tail (ap (λ d. d ∷ tail) (sym f) ∙ (sym e ∙ left.2)) in
+    sym (left.1 ∙ (ap (λ k. so_far ++ k) none ∙ append-nil so_far))
+
+-- the identifier that comes next
+pub record IsNext (whole so_far : List Id) (others : List ℕ) : Type 0 where
+  pub id : Id
+  pub behind : List Id
+  pub is_id : IsId id
+  pub whole_is : whole ≡ so_far ++ id ∷ behind
+  pub others_is : others ≡ id_key id ++ ids_key behind
+  pub is_low : IsLow (ids_key behind)
+
+pub left_next : (whole so_far : List Id) (others tail : List ℕ) (c : ℕ) → All IsId whole → others ≡ c ∷ tail → 0 < c
+    → AreLeft whole so_far others → IsNext whole so_far others
+left_next whole so_far others tail c all e h left =
+    let more = ids_more left.0 c tail h (sym e ∙ left.2) in
+    let divided : whole ≡ so_far ++ more.0 ∷ more.1 = left.1 ∙ ap (λ k. so_far ++ k) more.2 in
+    record {
+      id = more.0;
+      behind = more.1;
+      is_id = All-head IsId more.0 more.1 (all_behind so_far (more.0 ∷ more.1) (subst (λ w. All IsId w) divided all));
+      whole_is = divided;
+      others_is = left.2 ∙ ap ids_key more.2;
+      is_low = ids_start more.1;
+    }
+
+pub left_after : (whole so_far more : List Id) (others rest : List ℕ) (x : Id) (next : IsNext whole so_far others)
+    → more ≡ so_far ++ x ∷ [] → x ≡ next.id → rest ≡ ids_key next.behind → AreLeft whole more rest
+left_after whole so_far more others rest x next e f g = (
+  next.behind,
+  next.whole_is ∙ (sym (append_assoc so_far (next.id ∷ []) next.behind)
+      ∙ ap (λ k. k ++ next.behind) (ap (λ y. so_far ++ y ∷ []) (sym f) ∙ sym e)),
+  g,
+)
+
+-- ---- versions
+
+pub pre_of_3 : (ids : List Id) (tail : List ℕ) (c : ℕ) → c ∷ tail ≡ pre_key ids → c ≡ 3 → [] ≡ ids
+pre_of_3 [] tail c e h = refl
+pre_of_3 (Numeric n ∷ ids) tail c e h = absurd (omega (arith, ap first_of e))
+pre_of_3 (AlphaNumeric t ∷ ids) tail c e h = absurd (omega (arith, ap first_of e))
+
+pub pre_of_others : (ids : List Id) (bytes tail : List ℕ) (c : ℕ) → bytes ≡ c ∷ tail → bytes ≡ pre_key ids → (c ≡ 3 → ⊥) → bytes ≡ ids_key ids
+pre_of_others [] bytes tail c e f h = absurd (h (ap first_of (sym e ∙ f)))
+pre_of_others (x ∷ ids) bytes tail c e f h = f
+
+pub pre_some : (ids : List Id) (bytes : List ℕ) → length bytes ≡ 0 → bytes ≡ pre_key ids → ⊥
+pre_some [] bytes e f = omega (arith, ap length f)
+pre_some (x ∷ ids) [] e f = no_ids (x ∷ ids) f
+pre_some (x ∷ ids) (c ∷ bytes) e f = omega arith
+
+-- ---- the bytes of numbers
+
+all_small : (xs ys : List ℕ) → ((i : ℕ) → get_or (xs ++ ys) i 0 < 256) → (i : ℕ) → get_or xs i 0 < 256
+all_small [] ys h i = omega (arith, get_or_past {X = ℕ} [] i 0 (omega arith))
+all_small (x ∷ xs) ys h zero = h 0
+all_small (x ∷ xs) ys h (suc i) = all_small xs ys (λ j. h (suc j)) i
+
+taken : (n : ℕ) (bytes rest : List ℕ) → length rest + n ≡ length bytes → length (take n bytes) ≡ n
+taken zero bytes rest e = refl
+taken (suc n) [] rest e = absurd (omega (arith, e))
+taken (suc n) (c ∷ bytes) rest e = ap suc (taken n bytes rest (omega (arith, e)))
+
+pub two_spelled : (bytes chunk rest : List ℕ) (n : ℕ) → chunk ≡ take 2 bytes → rest ≡ drop 2 bytes
+    → length rest + 2 ≡ length bytes → ((i : ℕ) → get_or bytes i 0 < 256) → n ≡ from_be_bytes w16 chunk
+    → bytes ≡ to_be_bytes w16 n ++ rest
+two_spelled bytes chunk rest n e f len h is =
+    let whole = be_bytes_2 (take 2 bytes) n (taken 2 bytes rest len)
+    (all_small (take 2 bytes) (drop 2 bytes) (λ i. subst (λ k. get_or k i 0 < 256) (sym (take-append-drop 2 bytes)) (h i)))
+    (is ∙ ap (from_be_bytes w16) e) in
+    sym (ap (λ k. k ++ rest) whole ∙ (ap (λ k. take 2 bytes ++ k) f ∙ take-append-drop 2 bytes))
+
+pub four_spelled : (bytes chunk rest : List ℕ) (n : ℕ) → chunk ≡ take 4 bytes → rest ≡ drop 4 bytes
+    → length rest + 4 ≡ length bytes → ((i : ℕ) → get_or bytes i 0 < 256) → n ≡ from_be_bytes w32 chunk
+    → bytes ≡ to_be_bytes w32 n ++ rest
+four_spelled bytes chunk rest n e f len h is =
+    let whole = be_bytes_4 (take 4 bytes) n (taken 4 bytes rest len)
+    (all_small (take 4 bytes) (drop 4 bytes) (λ i. subst (λ k. get_or k i 0 < 256) (sym (take-append-drop 4 bytes)) (h i)))
+    (is ∙ ap (from_be_bytes w32) e) in
+    sym (ap (λ k. k ++ rest) whole ∙ (ap (λ k. take 4 bytes ++ k) f ∙ take-append-drop 4 bytes))
+
+pub eight_spelled : (bytes chunk rest : List ℕ) (n : ℕ) → chunk ≡ take 8 bytes → rest ≡ drop 8 bytes
+    → length rest + 8 ≡ length bytes → ((i : ℕ) → get_or bytes i 0 < 256) → n ≡ from_be_bytes w64 chunk
+    → bytes ≡ to_be_bytes w64 n ++ rest
+eight_spelled bytes chunk rest n e f len h is =
+    let whole = be_bytes_8 (take 8 bytes) n (taken 8 bytes rest len)
+    (all_small (take 8 bytes) (drop 8 bytes) (λ i. subst (λ k. get_or k i 0 < 256) (sym (take-append-drop 8 bytes)) (h i)))
+    (is ∙ ap (from_be_bytes w64) e) in
+    sym (ap (λ k. k ++ rest) whole ∙ (ap (λ k. take 8 bytes ++ k) f ∙ take-append-drop 8 bytes))

@@ -1,0 +1,15 @@
+use Rattle.std.proofs.lemmas.Option.{IfSome_then}
+use Rattle.semver_core.proofs.Encoding.Checking.{number_front, text_front}
+use Rattle.semver_core.proofs.keys.check.behind_id.Goals as goal
+
+pub returns-in-1-clause-sound : goal.returns-in-1-clause-sound
+returns-in-1-clause-sound c =
+    IfSome_then c.behind_number.result c.behind_number.ensures.sound
+    (λ rest found. number_front c.args.bytes.now c.in_ok-first.tail.now rest.now c.in_ok-first.first.now
+    c.in_ok-first.ensures.cases.0 c.in-1.is found)
+
+pub returns-in-2-clause-sound : goal.returns-in-2-clause-sound
+returns-in-2-clause-sound c =
+    IfSome_then c.behind_text.result c.behind_text.ensures.sound
+    (λ rest found. text_front c.args.bytes.now c.in_ok-first.tail.now rest.now c.in_ok-first.first.now
+    c.in_ok-first.ensures.cases.0 c.in-2.is found)
