@@ -79,11 +79,12 @@ behind_dropped piece w = drop-append-add piece (0 ∷ w) 1
 utf8_parts : (piece w : List ℕ) → IsUtf8 (piece ++ 0 ∷ w) → IsUtf8 piece × IsUtf8 w
 utf8_parts piece w h =
     let bs : List ℕ = piece ++ 0 ∷ w in
-    let small : get_or bs (length piece) 0 < 128 = omega (arith, seam_byte piece w) in
-    (subst (λ k. IsUtf8 k) (front_taken piece (0 ∷ w))
-      (IsUtf8-take bs (length piece) h (IsCharBoundary-before_ascii bs (length piece) (seam_within piece w) small)),
-    subst (λ k. IsUtf8 k) (behind_dropped piece w)
-      (IsUtf8-drop bs (length piece + 1) h (IsCharBoundary-after_ascii bs (length piece) h (seam_within piece w) small)))
+    let small : get_or bs (length piece) 0 < 128 = omega (arith, seam_byte piece w) in (
+      subst (λ k. IsUtf8 k) (front_taken piece (0 ∷ w))
+          (IsUtf8-take bs (length piece) h (IsCharBoundary-before_ascii bs (length piece) (seam_within piece w) small)),
+      subst (λ k. IsUtf8 k) (behind_dropped piece w)
+          (IsUtf8-drop bs (length piece + 1) h (IsCharBoundary-after_ascii bs (length piece) h (seam_within piece w) small)),
+    )
 
 piece_by : (piece tail u rest : List ℕ) → IsUtf8 (piece ++ u) → 0 ∷ tail ≡ text_key u ++ rest → IsUtf8 piece
 piece_by piece tail [] rest h e = subst (λ k. IsUtf8 k) (append-nil piece) h
@@ -120,8 +121,7 @@ pub more_found : (others piece tail more rest : List ℕ) → others ≡ piece +
 more_found others piece tail more rest e h utf8 f front =
     let u : List ℕ = front.0 in
     let spelled : text_key (piece ++ 0 ∷ u) ++ rest ≡ piece ++ (0 ∷ 255 ∷ text_key u ++ rest) =
-    ap (λ k. k ++ rest) (front_key piece (0 ∷ u) h) ∙ append_assoc piece (0 ∷ 255 ∷ text_key u) rest in
-    (
+    ap (λ k. k ++ rest) (front_key piece (0 ∷ u) h) ∙ append_assoc piece (0 ∷ 255 ∷ text_key u) rest in (
       piece ++ 0 ∷ u,
       IsUtf8-append piece (0 ∷ u) utf8 (zero_utf8 u front.1),
       e ∙ (ap (λ k. piece ++ 0 ∷ k) f ∙ (ap (λ k. piece ++ 0 ∷ 255 ∷ k) front.2 ∙ sym spelled)),
@@ -131,8 +131,7 @@ pub more_left : (others piece tail more rest : List ℕ) → others ≡ piece ++
     → IsLow rest → IsTextFront others rest → IsTextFront more rest
 more_left others piece tail more rest e h f is_low front =
     let parts = text_split piece tail front.0 rest h (sym e ∙ front.2) in
-    let next = text_has_zero more parts.0 rest is_low (sym (ap (λ k. 0 ∷ k) f) ∙ parts.2) in
-    (
+    let next = text_has_zero more parts.0 rest is_low (sym (ap (λ k. 0 ∷ k) f) ∙ parts.2) in (
       next.0,
       (utf8_parts piece next.0 (subst (λ k. IsUtf8 k) (parts.1 ∙ ap (λ k. piece ++ k) next.1) front.1)).1,
       next.2,

@@ -1,5 +1,5 @@
 -- For private contracts: what is read at the front of a key.
-use Rattle.std.specs.Prelude.{◌<◌, ◌≡◌, ◌^◌, ◌++◌, ◌∷◌, [], All, IsUtf8, List, None, Option, Some, Vec, ℕ, ⊤}
+use Rattle.std.specs.Prelude.{◌<◌, ◌≡◌, ◌++◌, ◌∷◌, All, IsUtf8, List, None, Option, Some, Vec, ℕ}
 use Rattle.std.specs.Borrow.{Bor}
 use Rattle.std.specs.declared.alloc.Global.{Global}
 use Rattle.semver_core.specs.Keys.{id_key, ids_key, number_key, pre_key, text_key}
@@ -28,7 +28,8 @@ IsPre bytes = (list : List Id) × All IsId list × (bytes ≡ pre_key list)
 
 -- the keys of three numbers, and what follows
 abbrev pub numbers_key : ℕ → ℕ → ℕ → List ℕ → List ℕ
-numbers_key major minor patch rest = number_key major ++ (number_key minor ++ (number_key patch ++ rest))
+numbers_key major minor patch rest =
+    number_key major ++ (number_key minor ++ (number_key patch ++ rest))
 
 -- what is found is this
 abbrev pub GivesRest : Option (Bor (List ℕ)) → List ℕ → Type 0

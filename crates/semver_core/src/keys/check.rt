@@ -4,7 +4,8 @@ ghost use Rattle.std.specs.Prelude.{◌≡◌, ◌==◌, ◌<◌, ◌≤◌, ◌
 ghost use Rattle.semver_core.specs.Internal.KeyReading.{AreIds, GivesRest, IsIdFront, IsLow};
 ghost use Rattle.semver_core.specs.Internal.KeyReading.{IsPre, IsTextFront};
 ghost use Rattle.semver_core.specs.Keys.{number_key};
-ghost use Rattle.semver_core.specs.Words.{IfNone, IfSome, IsTrue, length, list_all, List, not, true};
+ghost use Rattle.semver_core.specs.Words.{IfNone, IfSome, IsTrue, length, list_all, List};
+ghost use Rattle.semver_core.specs.Words.{not, true};
 
 use crate::keys::read::{behind_255, read_number};
 use std::str;

@@ -73,7 +73,8 @@ pub(crate) fn key_len<V: Versioned>(version: &V) -> Option<usize>
     ensures none { IfNone result (2 ^ 64 ≤ length (key (V.value version.now))) }
     ensures some { IfSome result (λ len. len ≡ length (key (V.value version.now))) }
 {
-    let numbers = number_len(version.major()) + number_len(version.minor())
+    let numbers = number_len(version.major())
+        + number_len(version.minor())
         + number_len(version.patch());
     numbers.checked_add(pre_len(version.pre_release())?)
 }

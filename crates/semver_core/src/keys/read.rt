@@ -1,16 +1,15 @@
 // Reading the parts of keys.
 
-ghost use Rattle.std.specs.Prelude.{◌≡◌, ◌<◌, ◌≤◌, ◌^◌, ◌∷◌, ◌++◌, ℕ, MatchOption};
+ghost use Rattle.std.specs.Prelude.{◌≡◌, ◌<◌, ◌≤◌, ◌^◌, ◌∷◌, ◌++◌, ℕ, All, MatchOption};
 ghost use Rattle.std.specs.Int.{to_be_bytes, w16, w32, w64};
 ghost use Rattle.semver_core.specs.Keys.{id_key, ids_key, number_key, pre_key, text_key};
 ghost use Rattle.semver_core.specs.Internal.KeyReading.{GivesId, GivesIds, GivesNumber};
 ghost use Rattle.semver_core.specs.Internal.KeyReading.{GivesNumbers, GivesText, IsLow, IsPre};
 ghost use Rattle.semver_core.specs.Internal.KeyReading.{numbers_key};
 ghost use Rattle.semver_core.specs.Text.Identifiers as id;
-ghost use Rattle.semver_core.specs.Values.Versions.{IsId, VersionValue};
+ghost use Rattle.semver_core.specs.Values.Versions.{IsId};
 ghost use Rattle.semver_core.specs.Words.{[], IfNone, IfOk, IfSome, IsUtf8, length, List, OnErr};
 ghost use Rattle.semver_core.specs.Words.{Id};
-ghost use Rattle.std.specs.Prelude.{All};
 
 use crate::{Identifier, Version};
 use std::alloc::{AllocError, Global};
