@@ -1,6 +1,6 @@
 -- Statement: the key of a version, a list of bytes. Keys compare byte by byte as versions do by
 -- precedence.
-use Rattle.std.specs.Prelude.{◌<◌, ◌^◌, ◌∷◌, ◌++◌, [], if◌then◌else◌, List, nat_lt, suc, zero, ℕ}
+use Rattle.std.specs.Prelude.{◌^◌, ◌∷◌, ◌++◌, [], if◌then◌else◌, List, nat_lt, suc, zero, ℕ}
 use Rattle.std.specs.Int.{to_be_bytes, w16, w32, w64}
 use Rattle.semver_core.specs.Text.Identifiers.{AlphaNumeric, Id, Numeric}
 use Rattle.semver_core.specs.Values.Versions.{VersionValue}

@@ -1,6 +1,6 @@
 -- What the bytes at the front of a key say.
 use Rattle.std.proofs.Common.{ℕ, ◌≡◌, ◌<◌, ◌≤◌, ◌^◌, ◌+◌, ◌++◌, ◌∷◌, List, [], refl, ap, arith, zero, suc, ◌∙◌, sym, length, drop, take, append-nil, append_assoc, subst}
-use Rattle.std.specs.Int.{bytes_high_first, from_be_bytes, to_be_bytes, w16, w32, w64}
+use Rattle.std.specs.Int.{from_be_bytes, to_be_bytes, w16, w32, w64}
 use Rattle.std.proofs.lemmas.List.{get_or_past, take-append-drop}
 use Rattle.std.proofs.lemmas.Nat.{be_bytes_2, be_bytes_4, be_bytes_8}
 use Rattle.std.proofs.Math.ListN.{get_or}

@@ -1,4 +1,4 @@
-use Rattle.std.proofs.Common.{◌≡◌, ◌∙◌, ◌<◌, arith}
+use Rattle.std.proofs.Common.{◌∙◌, arith}
 use Rattle.semver_core.proofs.Encoding.Reading.{four_spelled}
 use Rattle.semver_core.proofs.keys.read.read_four.Goals as goal
 

@@ -1,4 +1,4 @@
-use Rattle.std.proofs.Common.{List, ℕ, ◌≡◌, ◌<◌, ◌++◌, ◌∷◌, [], arith, ap, sym, refl, ◌∙◌}
+use Rattle.std.proofs.Common.{◌<◌, ◌∷◌, [], arith, ap, ◌∙◌}
 use Rattle.std.proofs.lemmas.List.{map-append}
 use Rattle.semver_core.proofs.Encoding.Reading.{IsNext, left_after, left_done, left_next, left_none}
 use Rattle.semver_core.specs.Keys.{ids_key}

@@ -1,4 +1,4 @@
-use Rattle.std.proofs.Common.{ℕ, List, ◌≡◌, ◌++◌, length}
+use Rattle.std.proofs.Common.{List, ◌≡◌, ◌++◌, length}
 use Rattle.std.specs.Prelude.{All}
 use Rattle.semver_core.specs.Keys.{ids_key}
 use Rattle.semver_core.specs.Text.Identifiers.{Id}

@@ -1,4 +1,4 @@
-use Rattle.std.proofs.Common.{List, ℕ, ◌≡◌, ◌<◌, ◌++◌, ◌∷◌, [], arith, ap, sym, refl, ◌∙◌, append-nil, append_assoc, length, ◌≤◌}
+use Rattle.std.proofs.Common.{List, ℕ, ◌≡◌, ◌<◌, ◌++◌, ◌∷◌, [], arith, ap, sym, ◌∙◌, append-nil, append_assoc, length, ◌≤◌}
 use Rattle.semver_core.proofs.Encoding.Reading.{text_ends, text_goes_on, text_has_zero}
 use Rattle.semver_core.specs.Keys.{text_key}
 use Rattle.semver_core.specs.Internal.KeyReading.{IsLow}

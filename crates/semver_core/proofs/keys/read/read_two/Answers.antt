@@ -1,4 +1,4 @@
-use Rattle.std.proofs.Common.{◌≡◌, ◌∙◌, ◌<◌, arith}
+use Rattle.std.proofs.Common.{◌∙◌, arith}
 use Rattle.semver_core.proofs.Encoding.Reading.{two_spelled}
 use Rattle.semver_core.proofs.keys.read.read_two.Goals as goal
 
