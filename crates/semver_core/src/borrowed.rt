@@ -87,7 +87,7 @@ impl<'a> VersionRef<'a> {
         }
     }
 
-    /// The same version without its build metadata, which borrows the same text.
+    /// The version without its build metadata, which borrows the text that this one borrows.
     ///
     /// ```rust
     /// let version = VersionRef::parse("1.2.3-rc.1+exp")?;

@@ -4,11 +4,10 @@
 //! A call on a `&str` takes a place in it, a byte index. A call on a `&[u8]` reads at the front of
 //! the bytes, save `number_in`, which takes a place.
 
-ghost use Rattle.std.specs.Prelude.{◌≡◌, ◌≤◌, ◌++◌, ◌+◌, ◌-◌, ◌*◌, ◌<◌, ℕ, [], drop, IfNone, IfOk};
+ghost use Rattle.std.specs.Prelude.{◌≡◌, ◌≤◌, ◌+◌, ◌-◌, ◌*◌, ◌<◌, ℕ, [], drop, IfNone, IfOk};
 ghost use Rattle.semver_core.specs.Words.{false, begins, digits_end, digits_from, drop_end_spaces};
 ghost use Rattle.semver_core.specs.Words.{goes_on, grown, Id, id_view, identifier_of, ids_view};
-ghost use Rattle.semver_core.specs.Words.{IfSome, is_identifier_char, is_listed, is_whitespace};
-ghost use Rattle.semver_core.specs.Words.{IsListAdded, listed, OnOk};
+ghost use Rattle.semver_core.specs.Words.{IfSome, is_identifier_char, is_whitespace, IsListAdded};
 ghost use Rattle.semver_core.specs.Words.{IsAfterBlank, IsCharBoundary, IsLongestIdentifiers};
 ghost use Rattle.semver_core.specs.Words.{IsPieceAt, IsTrim, IsUtf8, IsWholeNumber, length, List};
 ghost use Rattle.semver_core.specs.Words.{NoPieceAt, number_at, OnErr};
@@ -428,17 +427,4 @@ pub(crate) fn read_from(
         start = run.0 + 1;
         run = scan_run(text.as_bytes(), start);
     }
-}
-
-// Adds to a list the identifiers that a text spells, joined by dots.
-#[tactic(auto, using(crate::proofs::Text::Listed::listed_read))]
-pub(crate) fn read_listed(alloc: Global, bytes: &[u8], list: &mut Vec<Identifier>) -> Allocated<()>
-    requires { is_listed bytes.now ≡ true }
-    ensures { OnOk result (ids_view list.new.items ≡ ids_view list.old.items ++ listed bytes.now) }
-{
-    if bytes.is_empty() {
-        return Ok(());
-    }
-    let _end = read_list(alloc, text_front(bytes), 0, list)?;
-    Ok(())
 }

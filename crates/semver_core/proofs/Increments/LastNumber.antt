@@ -4,11 +4,11 @@ use Rattle.semver_core.proofs.Common.{Id, Numeric, id_cmp, id_view, ids_view, Id
 use Rattle.semver_core.proofs.Common.{Some, [], ap, append_assoc, arith, drop, false, get_or, inl, inr, length, refl, sym}
 use Rattle.semver_core.proofs.Common.{take, true, ℕ, ◌++◌, ◌+◌, ◌-◌, ◌<◌, ◌∙◌, ◌∷◌, ◌≡◌, ◌≤◌, nat_tests, cases_lt}
 use Rattle.semver_core.proofs.Common.{is_ascii_digit, tied_itself, list_all, ◌==◌, Err, Ok, Result, digits_value, bytes_eq}
-use Rattle.semver_core.proofs.Common.{Overflow, is_kept, ◌>>=◌, Tracks, id_total, set, ◌^◌, take-append_seam, length-map}
+use Rattle.semver_core.proofs.Common.{Overflow, is_kept, ◌>>=◌, Tracks, id_total, set, ◌^◌, length-map}
 use Rattle.semver_core.proofs.Common.{length-take-le, take_all, and_parts, cases_Bool, first_number, is_false, can_rise, stepped, not}
 use Rattle.semver_core.specs.{Increments.Table.asked, Internal.IncrementSteps.{IsLastNumber, begun}, Internal.OrderLaws.id_same}
-use Rattle.std.proofs.lemmas.{List.{Folds.list_any-append, length-set, map-append, map-set, take_more}, Str.Parse.parse_digits}
-use Rattle.std.specs.{Cmp.Equal-is, List.refill, Ordering.is_eq, Prelude.{◌↔◌, IsTrue}, Result.MatchResult}
+use Rattle.std.proofs.lemmas.{List.{Folds.list_any-append, map-append, take_more}, Str.Parse.parse_digits}
+use Rattle.std.specs.{Cmp.Equal-is, Ordering.is_eq, Prelude.{◌↔◌, IsTrue}, Result.MatchResult}
 use Rattle.std.proofs.{Math.Seq.set-append_seam, lemmas.Map.Text.is_eq-slice_cmp}
 use Rattle.{std.specs.Str.Parse.ParsesUnsigned, semver_core.proofs.Text.Runs.numerals}
 
@@ -86,15 +86,6 @@ tracks_text xs i last text x lt at is h =
 
 pub tracks_whole : (xs : List Identifier) (i : ℕ) (last : Option (ℕ × ℕ)) → length xs ≤ i → Tracks (ids_view (take i xs)) last → Tracks (ids_view xs) last
 tracks_whole xs i last le h = rw (take_all i xs le) at h
-
--- a write at one place of a list, through a slice of it
-refill_set : (xs ws : List Identifier) (i : ℕ) (x : Identifier) → ws ≡ xs → refill (length xs) xs (set ws i x) ≡ set xs i x
-refill_set xs ws i x e =
-    rw e (ap (λ n. take n (set xs i x ++ drop (length (set xs i x)) xs)) (sym (length-set xs i x)) ∙ take-append_seam (set xs i x) (drop (length (set xs i x)) xs))
-
-pub number_set : (xs ws : List Identifier) (i : ℕ) (x : Identifier) → ws ≡ xs
-    → ids_view (refill (length xs) xs (set ws i x)) ≡ set (ids_view xs) i (id_view x)
-number_set xs ws i x e = ap ids_view (refill_set xs ws i x e) ∙ map-set id_view xs i x
 
 number_there : (list : List Id) (i n : ℕ) → IsLastNumber list i n → has_numeric list ≡ true
 number_there list i n last = ap has_numeric last.divided ∙ has_it last.front last.back n

@@ -1,11 +1,14 @@
 -- For proofs and private contracts: what the steps of `inc` say to one another.
 use Rattle.std.specs.Prelude.{◌≡◌, ◌==◌, ◌&&◌, not, if◌then◌else◌, ℕ, List, [], ◌∷◌, ◌++◌, length}
-use Rattle.std.specs.Prelude.{map, Bool, Option, Some, None, Result, Ok, Err, ⊤, ◌-◌, ◌^◌, false, true}
+use Rattle.std.specs.Prelude.{map, Bool, Option, Some, None, Result, Ok, Err, ⊤, ◌-◌, ◌^◌, false}
+use Rattle.std.specs.Prelude.{true}
 use Rattle.std.specs.List.{join_with_byte, starts_with}
 use Rattle.std.specs.Prelude.{codes, nat_eq}
 use Rattle.semver_core.specs.Text.Identifiers.{Id, Numeric, AlphaNumeric}
-use Rattle.semver_core.specs.Increments.Table.{◌>>=◌, Fault, NotAPrerelease, Overflow, advance, first_number, has_numeric}
-use Rattle.semver_core.specs.Increments.Table.{by_word, checked, identify, is_false, next_major, next_minor, next_patch, pre_step, release_of}
+use Rattle.semver_core.specs.Increments.Table.{◌>>=◌, Fault, NotAPrerelease, Overflow, advance}
+use Rattle.semver_core.specs.Increments.Table.{first_number, has_numeric}
+use Rattle.semver_core.specs.Increments.Table.{by_word, checked, identify, is_false, next_major}
+use Rattle.semver_core.specs.Increments.Table.{next_minor, next_patch, pre_step, release_of}
 use Rattle.semver_core.specs.Increments.View.{fault_of}
 use Rattle.semver_core.specs.Printing.Text.{id_text, version_text}
 use Rattle.semver_core.specs.Values.Versions.{HasIdentifiers, VersionValue, is_release}
@@ -13,6 +16,8 @@ use Rattle.semver_core.specs.declared.error.Failure.{Failure}
 use Rattle.semver_core.specs.declared.error.Failure.TheVariants.{Refused, Memory}
 use Rattle.semver_core.specs.declared.increment.IdentifierBase.{IdentifierBase}
 use Rattle.semver_core.specs.declared.increment.IncrementError.{IncrementError}
+use Rattle.semver_core.specs.declared.increment.levels.Level.{Level}
+use Rattle.semver_core.specs.declared.increment.levels.Level.TheVariants.{Major, Minor, Patch}
 use Rattle.semver_core.specs.declared.increment.parts_ref.PartsRef.{PartsRef}
 
 -- the five values of a version whose identifiers stand elsewhere
@@ -39,6 +44,12 @@ by_minor v = if v.patch == 0 && not (is_release v) then Ok (release_of v) else n
 
 abbrev pub by_patch : VersionValue → Result VersionValue Fault
 by_patch v = if is_release v then next_patch v else Ok (release_of v)
+
+-- the next release of a level, or a pre-release's own release where that is of the level
+abbrev pub release_after : Level → (own : Bool) → VersionValue → Result VersionValue Fault
+release_after Major own v = if own then by_major v else next_major v
+release_after Minor own v = if own then by_minor v else next_minor v
+release_after Patch own v = if own then by_patch v else next_patch v
 
 abbrev pub by_prerelease : List ℕ → IdentifierBase → VersionValue → Result VersionValue Fault
 by_prerelease id base v = if is_release v then (next_patch v >>= pre_step id base) else pre_step id base v

@@ -1,10 +1,9 @@
 // Identifiers that borrow their text.
 
-ghost use Rattle.std.specs.Prelude.{◌≡◌, ◌<◌, length};
+ghost use Rattle.std.specs.Prelude.{◌≡◌, ◌<◌};
 ghost use Rattle.semver_core.specs.Words.{eq_by_cmp_equiv, id_alike, id_cmp, id_ref_view, id_text};
 ghost use Rattle.semver_core.specs.Words.{id_total, id_view, id_writes, is_eq, lent_id_view};
-ghost use Rattle.semver_core.specs.Words.{is_normal, is_u64_text, on_equiv, on_per, on_po};
-ghost use Rattle.semver_core.specs.Words.{on_total};
+ghost use Rattle.semver_core.specs.Words.{is_normal, on_equiv, on_per, on_po, on_total};
 ghost use Rattle.semver_core.specs.Words.{partial_equiv_from_equiv, po, refl, Some};
 
 use crate::Identifier;
@@ -50,28 +49,21 @@ impl<'a> IdentifierRef<'a> {
             IdentifierRef::AlphaNumeric(text) => IdRef::AlphaNumeric(text.as_bytes()),
         }
     }
-}
 
-impl<'a> IdentifierRef<'a> {
     // Whether its own text spells the identifier. A text that is made by hand may hold other
     // characters, or be that of a number.
+    #[tactic(auto, using(crate::proofs::Increments::LastNumber::value_run))]
     pub(crate) fn is_normal(self) -> bool
         ensures { result ≡ is_normal (lent_id_view self.entry) }
     {
         match self {
             IdentifierRef::Numeric(_) => true,
-            IdentifierRef::AlphaNumeric(text) => is_spelled(text.as_bytes()) && !is_number(text),
+            IdentifierRef::AlphaNumeric(text) => {
+                let bytes = text.as_bytes();
+                is_spelled(bytes) && !(are_digits(bytes) && text.parse::<u64>().is_ok())
+            }
         }
     }
-}
-
-// Whether the text is digits alone of a value that fits 64 bits.
-#[tactic(auto, using(crate::proofs::Increments::LastNumber::value_run))]
-fn is_number(text: &str) -> bool
-    requires { 0 < length text.now }
-    ensures { result ≡ is_u64_text text.now }
-{
-    are_digits(text.as_bytes()) && text.parse::<u64>().is_ok()
 }
 
 /// Equality of numbers by value and of texts by their bytes.

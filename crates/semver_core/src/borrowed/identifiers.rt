@@ -119,12 +119,17 @@ impl<'a> IdentifierRefs<'a> {
 
     // Adds copies of the identifiers that are left to a list.
     #[inline(never)]
+    #[tactic(auto, using(crate::proofs::Text::Listed::listed_read))]
     pub(crate) fn copy_into(&self, alloc: Global, list: &mut Vec<Identifier>) -> Allocated<()>
         ensures { OnOk result (ids_view list.new.items ≡ ids_view list.old.items ++ self.now) }
     {
         match self.source {
             Source::Items(items) => push_copies(alloc, items, list),
-            Source::Text(text) => scan::read_listed(alloc, text, list),
+            Source::Text([]) => Ok(()),
+            Source::Text(text) => {
+                let _end = scan::read_list(alloc, scan::text_front(text), 0, list)?;
+                Ok(())
+            }
         }
     }
 }

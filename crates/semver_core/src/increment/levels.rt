@@ -28,12 +28,33 @@ pub(super) fn by_word(
         (spec.by_word word.now id.now base (parts_ref_value version.now)) result }
 {
     match word {
-        "major" => major(alloc, version),
-        "minor" => minor(alloc, version),
-        "patch" => patch(alloc, version),
-        "premajor" => pre_step(alloc, &next_major(version)?, id, base),
-        "preminor" => pre_step(alloc, &next_minor(version)?, id, base),
-        "prepatch" => pre_step(alloc, &next_patch(version)?, id, base),
+        "major" => release_of(alloc, &release_after(version, Level::Major, true)?),
+        "minor" => release_of(alloc, &release_after(version, Level::Minor, true)?),
+        "patch" => release_of(alloc, &release_after(version, Level::Patch, true)?),
+        "premajor" => {
+            pre_step(
+                alloc,
+                &release_after(version, Level::Major, false)?,
+                id,
+                base,
+            )
+        }
+        "preminor" => {
+            pre_step(
+                alloc,
+                &release_after(version, Level::Minor, false)?,
+                id,
+                base,
+            )
+        }
+        "prepatch" => {
+            pre_step(
+                alloc,
+                &release_after(version, Level::Patch, false)?,
+                id,
+                base,
+            )
+        }
         "prerelease" => prerelease(alloc, version, id, base),
         "pre" => pre_step(alloc, version, id, base),
         "release" => release(alloc, version),
@@ -41,34 +62,36 @@ pub(super) fn by_word(
     }
 }
 
-fn major(alloc: Global, version: &PartsRef<'_>) -> Result<Version, Failure<IncrementError>>
-    ensures { steps.IsAnswer (steps.by_major (parts_ref_value version.now)) result }
-{
-    if version.minor == 0 && version.patch == 0 && !version.pre_release.is_empty() {
-        release_of(alloc, version)
-    } else {
-        release_of(alloc, &next_major(version)?)
-    }
+// A number that may rise.
+#[derive(Clone, Copy)]
+enum Level {
+    Major,
+    Minor,
+    Patch,
 }
 
-fn minor(alloc: Global, version: &PartsRef<'_>) -> Result<Version, Failure<IncrementError>>
-    ensures { steps.IsAnswer (steps.by_minor (parts_ref_value version.now)) result }
+// The next release of a level. With `own` that is a pre-release's own release, if it is of the
+// level. Its build stands where it stood.
+#[inline(always)]
+fn release_after<'a>(
+    version: &PartsRef<'a>,
+    level: Level,
+    own: bool,
+) -> Result<PartsRef<'a>, Failure<IncrementError>>
+    ensures value { ReturnsParts
+        (steps.release_after level own (parts_ref_value version.now)) result }
+    ensures bare { IfOk result (λ next. next.pre_release ≡ []) }
 {
-    if version.patch == 0 && !version.pre_release.is_empty() {
-        release_of(alloc, version)
-    } else {
-        release_of(alloc, &next_minor(version)?)
-    }
-}
-
-fn patch(alloc: Global, version: &PartsRef<'_>) -> Result<Version, Failure<IncrementError>>
-    ensures { steps.IsAnswer (steps.by_patch (parts_ref_value version.now)) result }
-{
-    if version.pre_release.is_empty() {
-        release_of(alloc, &next_patch(version)?)
-    } else {
-        release_of(alloc, version)
-    }
+    let (major, minor, patch) = (version.major, version.minor, version.patch);
+    let stays = own && !version.pre_release.is_empty();
+    Ok(match level {
+        Level::Major if stays && minor == 0 && patch == 0 => version.with_numbers(major, 0, 0),
+        Level::Major => version.with_numbers(one_more(major)?, 0, 0),
+        Level::Minor if stays && patch == 0 => version.with_numbers(major, minor, 0),
+        Level::Minor => version.with_numbers(major, one_more(minor)?, 0),
+        Level::Patch if stays => version.with_numbers(major, minor, patch),
+        Level::Patch => version.with_numbers(major, minor, one_more(patch)?),
+    })
 }
 
 fn prerelease(
@@ -81,7 +104,12 @@ fn prerelease(
         (steps.by_prerelease id.now base (parts_ref_value version.now)) result }
 {
     if version.pre_release.is_empty() {
-        pre_step(alloc, &next_patch(version)?, id, base)
+        pre_step(
+            alloc,
+            &release_after(version, Level::Patch, false)?,
+            id,
+            base,
+        )
     } else {
         pre_step(alloc, version, id, base)
     }
@@ -96,25 +124,6 @@ fn release(alloc: Global, version: &PartsRef<'_>) -> Result<Version, Failure<Inc
     } else {
         release_of(alloc, version)
     }
-}
-
-// The next release of a kind. Its build stands where it stood.
-fn next_major<'a>(version: &PartsRef<'a>) -> Result<PartsRef<'a>, Failure<IncrementError>>
-    ensures { ReturnsParts (spec.next_major (parts_ref_value version.now)) result }
-{
-    Ok(version.with_numbers(one_more(version.major)?, 0, 0))
-}
-
-fn next_minor<'a>(version: &PartsRef<'a>) -> Result<PartsRef<'a>, Failure<IncrementError>>
-    ensures { ReturnsParts (spec.next_minor (parts_ref_value version.now)) result }
-{
-    Ok(version.with_numbers(version.major, one_more(version.minor)?, 0))
-}
-
-fn next_patch<'a>(version: &PartsRef<'a>) -> Result<PartsRef<'a>, Failure<IncrementError>>
-    ensures { ReturnsParts (spec.next_patch (parts_ref_value version.now)) result }
-{
-    Ok(version.with_numbers(version.major, version.minor, one_more(version.patch)?))
 }
 
 // The release of the same numbers. Its build has identifiers of its own.

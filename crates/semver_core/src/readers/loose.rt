@@ -4,7 +4,7 @@ ghost use Rattle.std.specs.{List.prefix_len, Prelude.{◌≡◌, ◌≤◌, ◌<
 ghost use Rattle.std.specs.Prelude.{drop, Some, IfOk, ◌==◌, IfSome, IfNone, IsFalse, IsTrue, OnErr};
 ghost use Rattle.std.specs.Prelude.{OnSome, false};
 ghost use Rattle.semver_core.specs.{Failures.NoValue, Internal.Inside.{IsFull, build_of}};
-ghost use Rattle.semver_core.specs.{Internal.Reading.qualified, Text.Characters.begins};
+ghost use Rattle.semver_core.specs.Text.Characters.{begins};
 ghost use Rattle.semver_core.specs.Internal.{Inside.pre_release_of, Reading.pre_release_at};
 ghost use Rattle.semver_core.specs.Internal.Reading.{build_at, list_from, lists_at, mark_len};
 ghost use Rattle.semver_core.specs.Text.{Identifiers.goes_on, VersionText.Reads};
@@ -133,24 +133,6 @@ pub(crate) fn front_of_numbers(text: &str) -> usize
     scan::skip_whitespace(text, mark)
 }
 
-// The version of three numbers and of the identifiers behind them.
-#[inline(always)]
-fn version_behind(
-    alloc: Global,
-    text: &str,
-    major: u64,
-    minor: u64,
-    patch: u64,
-    at: usize,
-) -> Result<Option<Version>, AllocError>
-    requires { at ≤ length text.now }
-    ensures value { IfOk result (λ v. v ≡ Some (qualified text.now (major, minor, patch, at))) }
-    ensures memory { OnErr result (HasIdentifiers (qualified text.now (major, minor, patch, at))) }
-{
-    let (qualifier, _) = lists_at(alloc, text, at)?;
-    Ok(Some(Version::from_parts(major, minor, patch, qualifier)))
-}
-
 /// Reads the version at the front of a text of any length, as `Version::parse` reads it; whatever
 /// follows it is ignored.
 ///
@@ -172,5 +154,6 @@ pub fn version_loose(alloc: Global, text: &str) -> Result<Option<Version>, Alloc
     if end == text.len() {
         return Ok(Some(Version::release(major, minor, patch)));
     }
-    version_behind(alloc, text, major, minor, patch, end)
+    let (qualifier, _) = lists_at(alloc, text, end)?;
+    Ok(Some(Version::from_parts(major, minor, patch, qualifier)))
 }

@@ -4,7 +4,8 @@
 ghost use Rattle.std.specs.Prelude.{◌≡◌};
 ghost use Rattle.semver_core.specs.Words.{numbers_cmp, partial_equiv_from_equiv, precedence_total};
 ghost use Rattle.semver_core.specs.Words.{eq_by_cmp_equiv, pre_cmp, version_alike, version_writes};
-ghost use Rattle.semver_core.specs.Words.{build_order, fold, po, precedence, refl, Some, version_eq};
+ghost use Rattle.semver_core.specs.Words.{build_order, fold, po, precedence, refl, Some};
+ghost use Rattle.semver_core.specs.Words.{version_eq};
 ghost use Rattle.std.specs.Hash as fed;
 
 use crate::borrowed::identifiers::cmp_lists;

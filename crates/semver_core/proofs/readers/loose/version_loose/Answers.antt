@@ -1,5 +1,5 @@
-use Rattle.semver_core.proofs.{Common.{arith, qualified}, Text.Fronts.release_read}
-use Rattle.std.proofs.lemmas.Result.{MatchResult-weaker, on_err_weaker}
+use Rattle.semver_core.proofs.{Common.{arith, qualified, ◌≡◌}, Text.Fronts.release_read}
+use Rattle.std.proofs.lemmas.{Grind.common_steps, Result.MatchResult-from_err}
 use Rattle.semver_core.proofs.readers.loose.version_loose.Goals as goal
 
 pub returns-then-end-text-clause-some : goal.returns-then-end-text-clause-some
@@ -8,12 +8,12 @@ returns-then-end-text-clause-some c =
     (omega (arith, c.if-end-text.true)) c.release.ensures
 
 pub returns-clause-some : goal.returns-clause-some
-returns-clause-some c = MatchResult-weaker c.version_behind.result c.version_behind.ensures.value (λ v is. rw is c.in-Some.ensures.some) (λ e k. tt)
+returns-clause-some c =
+    let m = c.in-Some in
+    let is : c.from_parts.result ≡ qualified c.args.text.now (m.major, m.minor, m.patch, m.end) = grind (arith, common_steps) in
+    rw is m.ensures.some
 
-pub returns-clause-none : goal.returns-clause-none
-returns-clause-none c = MatchResult-weaker c.version_behind.result c.version_behind.ensures.value (λ v is. rw is tt) (λ e k. tt)
-
-pub returns-clause-memory : goal.returns-clause-memory
-returns-clause-memory c =
-    let v = qualified c.args.text.now (c.in-Some.major, c.in-Some.minor, c.in-Some.patch, c.in-Some.end) in
-    on_err_weaker c.version_behind.result (λ h. (v, c.in-Some.ensures.some, h)) c.version_behind.ensures.memory
+pub returns-in_err-qualifier-clause-memory : goal.returns-in_err-qualifier-clause-memory
+returns-in_err-qualifier-clause-memory c =
+    let m = c.in-Some in
+    MatchResult-from_err c.from_residual.result _ _ c.from_residual.ensures.0 (λ _. (qualified c.args.text.now (m.major, m.minor, m.patch, m.end), m.ensures.some, c.in_err-qualifier.ensures.memory))
