@@ -20,7 +20,8 @@ use crate::partial::Partial;
 use crate::versions::is_strict_list;
 use semver_core::scan::begins_identifier;
 use semver_core::scan::pieces::{
-    begins_padded, build_front, digits_len, marked_list, number_front, pre_release_front,
+    begins_padded, behind_dot, build_front, digits_len, marked_list, number_front,
+    pre_release_front,
 };
 use semver_core::{MAX_SAFE_INTEGER, VersionRef};
 
@@ -28,22 +29,6 @@ use semver_core::{MAX_SAFE_INTEGER, VersionRef};
 /// is read as `MAX_SAFE_INTEGER + 1`, since only that it is past the limit matters: a comparator
 /// that has such a number is not valid.
 type Place = Option<u64>;
-
-// The place at the front that is a number past the limit.
-#[inline(never)]
-#[tactic(auto, using(crate::proofs::Grammar::PartialLaw::no_places))]
-fn great_place(loose: bool, text: &[u8]) -> Option<(Place, &[u8])>
-    requires no_number { number_front MAX_SAFE_INTEGER text.now ≡ None }
-    requires no_wildcard { begins_wildcard text.now ≡ false }
-    requires spelled { (not loose && begins_padded text.now) ≡ false }
-    ensures { front_view result ≡ Spec.first_as Spec.capped_one (Spec.place_front loose text.now) }
-{
-    let len = digits_len(text);
-    if len == 0 || !loose && len > 257 {
-        return None;
-    }
-    Some((Some(MAX_SAFE_INTEGER + 1), &text[len..]))
-}
 
 // The place at the front where no number without leading zeros stands and no wildcard.
 #[inline(never)]
@@ -53,16 +38,19 @@ fn padded_place(loose: bool, text: &[u8]) -> Option<(Place, &[u8])>
     requires no_wildcard { begins_wildcard text.now ≡ false }
     ensures { front_view result ≡ Spec.first_as Spec.capped_one (Spec.place_front loose text.now) }
 {
-    if !begins_padded(text) {
-        return great_place(loose, text);
+    if begins_padded(text) {
+        if !loose {
+            return None;
+        }
+        if let Some((number, rest)) = number_front(true, text) {
+            return Some((Some(number), rest));
+        }
     }
-    if !loose {
+    let len = digits_len(text);
+    if len == 0 || !loose && len > 257 {
         return None;
     }
-    match number_front(true, text) {
-        Some((number, rest)) => Some((Some(number), rest)),
-        None => great_place(true, text),
-    }
+    Some((Some(MAX_SAFE_INTEGER + 1), &text[len..]))
 }
 
 // The place at the front, and the text behind it.
@@ -84,44 +72,25 @@ fn place_front(loose: bool, text: &[u8]) -> Option<(Place, &[u8])>
 fn dotted_place(loose: bool, text: &[u8]) -> Option<(Place, &[u8])>
     ensures { front_view result ≡ Spec.first_as Spec.capped_one (Spec.dotted_place loose text.now) }
 {
-    match text {
-        [b'.', rest @ ..] => place_front(loose, rest),
-        _ => None,
-    }
+    place_front(loose, behind_dot(text)?)
 }
 
-// Whether the third place does not take all digits at the front: loosely the last one before a dot
-// begins a pre-release.
-fn shares_digits(loose: bool, text: &[u8], digits: usize) -> bool
-    requires { digits ≤ length text.now }
-    ensures { result ≡ (loose && begins_byte 46 (drop digits text.now)) }
-{
-    loose && matches!(&text[digits..], [b'.', ..])
-}
-
-// The third place at the front.
-#[inline(always)]
-fn patch_place(loose: bool, text: &[u8]) -> Option<(Place, &[u8])>
-    ensures { front_view result ≡ Spec.first_as Spec.capped_one (Spec.patch_place loose text.now) }
-{
-    let digits = digits_len(text);
-    if !shares_digits(loose, text, digits) {
-        return place_front(loose, text);
-    }
-    let own = digits.saturating_sub(1);
-    let (place, _) = place_front(loose, &text[..own])?;
-    Some((place, &text[own..]))
-}
-
-// The third place at the front of what stands behind a dot.
+// The third place at the front of what stands behind a dot. Loosely it does not take the last digit
+// before a dot, which begins a pre-release.
 #[inline(always)]
 #[tactic(auto, unfolding(crate::specs::Internal::Words::dotted_patch))]
 fn dotted_patch(loose: bool, text: &[u8]) -> Option<(Place, &[u8])>
     ensures { front_view result ≡ Spec.first_as Spec.capped_one (Spec.dotted_patch loose text.now) }
 {
-    match text {
-        [b'.', rest @ ..] => patch_place(loose, rest),
-        _ => None,
+    let text = behind_dot(text)?;
+    let digits = digits_len(text);
+    match &text[digits..] {
+        [b'.', ..] if loose => {
+            let own = digits.saturating_sub(1);
+            let (place, _) = place_front(loose, &text[..own])?;
+            Some((place, &text[own..]))
+        }
+        _ => place_front(loose, text),
     }
 }
 
@@ -179,27 +148,12 @@ fn are_short_identifiers(text: &[u8]) -> bool
     text.split(|byte| *byte == b'.').all(is_short_identifier)
 }
 
-// Whether an identifier of a build may be so long.
-fn is_short_build(text: &[u8]) -> bool
-    ensures { result ≡ Spec.is_short_build text.now }
-{
-    text.len() <= 250
-}
-
 // Whether the identifiers of a build are short enough.
 #[inline(always)]
 fn are_short_builds(text: &[u8]) -> bool
     ensures { result ≡ Spec.are_short_builds text.now }
 {
-    text.split(|byte| *byte == b'.').all(is_short_build)
-}
-
-// Whether these identifiers of a pre-release may be written.
-#[inline(always)]
-fn may_stand(loose: bool, pre_release: &[u8]) -> bool
-    ensures { result ≡ Spec.may_stand loose pre_release.now }
-{
-    loose || (is_strict_list(pre_release) && are_short_identifiers(pre_release))
+    text.split(|byte| *byte == b'.').all(|id| id.len() <= 250)
 }
 
 // Whether this pre-release and this build may be written.
@@ -207,41 +161,23 @@ fn may_stand(loose: bool, pre_release: &[u8]) -> bool
 fn may_follow(loose: bool, pre_release: &[u8], build: &[u8]) -> bool
     ensures { result ≡ Spec.may_follow loose pre_release.now build.now }
 {
-    may_stand(loose, pre_release) && are_short_builds(build)
+    (loose || is_strict_list(pre_release) && are_short_identifiers(pre_release))
+        && are_short_builds(build)
 }
 
-// Whether a text begins with a dot and an identifier.
-#[inline(always)]
-fn begins_dotted(text: &[u8]) -> bool
-    ensures { result ≡ (begins_byte 46 text.now && begins_identifier (drop 1 text.now)) }
-{
-    matches!(text, [b'.', rest @ ..] if begins_identifier(rest))
-}
-
-// Whether a text begins with a digit that may begin a pre-release, behind a wildcard or not.
-#[inline(always)]
-fn begins_own_digit(wild: bool, text: &[u8]) -> bool
-    ensures { result ≡ Spec.begins_own_digit wild text.now }
-{
-    matches!(text, [digit, rest @ ..] if digit.is_ascii_digit() && (wild || begins_dotted(rest)))
-}
-
-// Whether a text begins with a `-` that no identifier follows.
-#[inline(always)]
-fn begins_lone_dash(text: &[u8]) -> bool
-    ensures { result ≡ Spec.begins_lone_dash text.now }
-{
-    matches!(text, [b'-', rest @ ..] if !begins_identifier(rest))
-}
-
-// Whether a text begins as a pre-release may without `-`.
+// Whether a text begins as a pre-release may without `-`, behind a wildcard or not.
 #[inline(always)]
 fn begins_undashed(wild: bool, text: &[u8]) -> bool
     ensures { result ≡ begins_undashed wild text.now }
 {
-    matches!(text, [b'A'..=b'Z' | b'a'..=b'z', ..])
-        || begins_own_digit(wild, text)
-        || begins_lone_dash(text)
+    match text {
+        [b'A'..=b'Z' | b'a'..=b'z', ..] => true,
+        [b'0'..=b'9', rest @ ..] => {
+            wild || matches!(rest, [b'.', behind @ ..] if begins_identifier(behind))
+        }
+        [b'-', rest @ ..] => !begins_identifier(rest),
+        _ => false,
+    }
 }
 
 // The text of the pre-release at the front, behind a wildcard or not, and what stands behind it.

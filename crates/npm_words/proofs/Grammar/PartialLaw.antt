@@ -274,16 +274,9 @@ great_placed loose text at front dark bare is first last =
 
 pub ruleset places_found = (number_placed, wildcard_read)
 
-pub ruleset no_places = (place_run, length-prefix_len, nat_tests)
-
 pub ruleset padded_places = (valued_placed, strict_is, run-leading, place_run, length-prefix_len, nat_tests)
 
 -- ---- the third place
-
-pub patch_whole : (loose : Bool) (text : List ℕ) (at : ℕ) → at ≡ prefix_len is_ascii_digit text
-    → (loose && begins_byte 46 (drop at text)) ≡ false → place_front loose text ≡ patch_place loose text
-unfolding patch_place
-patch_whole loose text at e h = rw (rw e at h) refl
 
 run-alone : (loose : Bool) (run rest : List ℕ) → list_all is_ascii_digit run ≡ true
     → run_place loose run rest ≡ (place_front loose run >>? λ p. Some (p.0, rest))
