@@ -9,16 +9,6 @@ use crate::options::Reading;
 use crate::versions::version;
 use semver_core::scan::trim;
 
-// The text after the first `+`, or nothing where there is none.
-fn behind_plus(text: &str) -> &str
-    ensures { result.now ≡ after_first (λ b. b == 43) text.now }
-{
-    match text.split_once('+') {
-        Some((_, behind)) => behind,
-        None => "",
-    }
-}
-
 /// Returns the build metadata of a version text as it is written, without its `+`: the empty text
 /// if the version has none, and `None` exactly if [`version`](crate::version) rejects the
 /// text in this reading.
@@ -48,8 +38,9 @@ pub fn build_text(text: &str, reading: Reading) -> Option<&str>
     ensures none { IfNone result
         (NoValue (IsVersionTextIn reading.loose MAX_SAFE_INTEGER text.now)) }
 {
-    match version(text, reading) {
-        Ok(_) => Some(behind_plus(trim(text))),
-        Err(_) => None,
+    version(text, reading).ok()?;
+    match trim(text).split_once('+') {
+        Some((_, behind)) => Some(behind),
+        None => Some(""),
     }
 }

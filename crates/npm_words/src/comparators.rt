@@ -44,22 +44,6 @@ fn marked_len(id: IdentifierRef<'_>) -> usize
     }
 }
 
-// Whether a pre-release, with the mark before it, prints at most so many characters.
-fn is_within(room: usize, ids: IdentifierRefs<'_>) -> bool
-    ensures { result ≡ nat_le (length (marked_list (45 ∷ []) ids.entry)) room }
-{
-    let mut room = room;
-    let mut others = ids;
-    'ids: while let Some(id) = others.next() {
-        let taken = marked_len(id);
-        if taken > room {
-            return false;
-        }
-        room -= taken;
-    }
-    true
-}
-
 // Whether a version prints at most as many characters as a version text may have, without its
 // build.
 #[inline(never)]
@@ -69,7 +53,16 @@ fn prints_within(version: VersionRef<'_>) -> bool
 {
     let (major, minor, patch) = (version.major(), version.minor(), version.patch());
     let numbers = decimal_len(major) + decimal_len(minor) + decimal_len(patch) + 2;
-    is_within(MAX_LENGTH - numbers, version.pre_release())
+    let mut room = MAX_LENGTH - numbers;
+    let mut ids = version.pre_release();
+    'ids: while let Some(id) = ids.next() {
+        let taken = marked_len(id);
+        if taken > room {
+            return false;
+        }
+        room -= taken;
+    }
+    true
 }
 
 // Whether a version prints so few characters without its build. A release does.
@@ -136,16 +129,6 @@ fn from_numbers<'a>(include: bool, padded: bool, numbers: Numbers) -> Bound<Vers
     }
 }
 
-// The lower bound of `>=` of three numbers.
-#[inline(always)]
-fn from_release<'a>(include: bool, padded: bool, numbers: Numbers) -> Bound<VersionRef<'a>>
-    requires { within numbers ≡ true }
-    ensures { IsCommon include (noted padded (from false numbers) ∷ [])
-        (record { lower = result; upper = Bound.Unbounded }) }
-{
-    from_version(include, padded, &release(numbers.0, numbers.1, numbers.2))
-}
-
 // `>=` of three numbers, where none of them is past the limit.
 #[inline(always)]
 fn from<'a>(include: bool, padded: bool, numbers: Numbers) -> Option<Bounds<'a>>
@@ -199,7 +182,10 @@ pub fn caret<'a>(include: bool, zeros: usize, partial: &Partial<'a>) -> Option<B
 {
     match partial {
         Partial::Wildcard => Some(open()),
-        Partial::Major(_) | Partial::Minor(..) => caret_part(include, zeros, partial),
+        Partial::Major(_) | Partial::Minor(..) => {
+            let lower = from_numbers(include, partial.is_padded(zeros), partial.first());
+            until(lower, partial.next_changed(zeros))
+        }
         Partial::Whole(version) => {
             if prints_short(version) {
                 let lower = caret_from(include, zeros, partial.is_padded(zeros), version);
@@ -209,20 +195,6 @@ pub fn caret<'a>(include: bool, zeros: usize, partial: &Partial<'a>) -> Option<B
             }
         }
     }
-}
-
-// `^` before a partial of one number or two.
-#[inline(always)]
-fn caret_part<'a>(include: bool, zeros: usize, partial: &Partial<'a>) -> Option<Bounds<'a>>
-    requires part { is_part (npm_partial_view partial.now) ≡ true }
-    requires within { within (first (npm_partial_view partial.now)) ≡ true }
-    ensures { (text : List ℕ) → AreZeros (npm_partial_view partial.now) zeros text →
-        AreRead include (table include Spec.caret (npm_partial_view partial.now) text) result }
-{
-    until(
-        from_numbers(include, partial.is_padded(zeros), partial.first()),
-        partial.next_changed(zeros),
-    )
 }
 
 // The lower bound of a caret range of a whole version.
@@ -258,7 +230,11 @@ pub fn tilde<'a>(include: bool, padded: bool, partial: &Partial<'a>) -> Option<B
 {
     match partial {
         Partial::Wildcard => Some(open()),
-        Partial::Major(_) | Partial::Minor(..) => tilde_part(include, padded, partial),
+        Partial::Major(_) | Partial::Minor(..) => {
+            let numbers = partial.first();
+            let first = release(numbers.0, numbers.1, numbers.2);
+            until(from_version(include, padded, &first), partial.next())
+        }
         Partial::Whole(version) => {
             if prints_short(version) {
                 until(from_version(include, padded, version), partial.next())
@@ -267,21 +243,6 @@ pub fn tilde<'a>(include: bool, padded: bool, partial: &Partial<'a>) -> Option<B
             }
         }
     }
-}
-
-// `~` before a partial of one number or two.
-#[inline(always)]
-fn tilde_part<'a>(include: bool, padded: bool, partial: &Partial<'a>) -> Option<Bounds<'a>>
-    requires part { is_part (npm_partial_view partial.now) ≡ true }
-    requires within { within (first (npm_partial_view partial.now)) ≡ true }
-    ensures { (text : List ℕ) →
-        padded ≡ is_padded (written_zeros text) (npm_partial_view partial.now) →
-        AreRead include (table include Spec.tilde (npm_partial_view partial.now) text) result }
-{
-    until(
-        from_release(include, padded, partial.first()),
-        partial.next(),
-    )
 }
 
 // A comparator, or none, before a partial of one number or two.
@@ -310,26 +271,8 @@ fn part<'a>(
     }
 }
 
-// The lower bound of `>=version` as it is written: without pre-releases included, `>=0.0.0` is no
-// comparator.
-#[inline(always)]
-fn from_text<'a>(include: bool, version: &VersionRef<'a>, text: &[u8]) -> Bound<VersionRef<'a>>
-    requires within { within (first (Spec.whole version.now)) ≡ true }
-    requires normal { are_normal (Spec.whole version.now) ≡ true }
-    ensures { IsCommon include
-        (record { sign = Words.at_least; version = version.now; text = text.now } ∷ [])
-        (record { lower = result; upper = Bound.Unbounded }) }
-{
-    if include {
-        return Bound::Before(version.copy());
-    }
-    if text == b"0.0.0".as_slice() {
-        return Bound::Unbounded;
-    }
-    Bound::Before(version.copy())
-}
-
-// A comparator, or none, before a whole version, which has this text.
+// A comparator, or none, before a whole version, which has this text. Without pre-releases included,
+// `>=0.0.0` is no comparator.
 #[inline(always)]
 fn whole<'a>(
     include: bool,
@@ -346,10 +289,8 @@ fn whole<'a>(
         return None;
     }
     match comparator {
-        Comparator::AtLeast => Some(Bounds {
-            lower: from_text(include, version, text),
-            upper: Bound::Unbounded,
-        }),
+        Comparator::AtLeast if !include && text == b"0.0.0".as_slice() => Some(open()),
+        Comparator::AtLeast => Some(Bounds::at_least(version.copy())),
         Comparator::Above => Some(Bounds::above(version.copy())),
         Comparator::Equal => Some(Bounds::through(version.copy(), version.copy())),
         Comparator::AtMost => Some(Bounds::at_most(version.copy())),
@@ -434,7 +375,8 @@ pub fn row<'a>(include: bool, sign: Sign, partial: &Partial<'a>, text: &[u8]) ->
 }
 
 /// The bounds of the lower end of a hyphen range, as `row` gives those of a word. A whole version
-/// is compared by the comparator.
+/// is compared by the comparator. With pre-releases included, `-0` goes to the end of the text of a
+/// release, and into its build if it has one.
 pub fn lower_end<'a>(
     include: bool,
     comparator: Comparator,
@@ -445,31 +387,12 @@ pub fn lower_end<'a>(
     ensures { AreRead include (Spec.hyphen_lower (comparator_view comparator) include
         (npm_partial_view partial.now) text.now) result }
 {
-    match partial {
-        Partial::Whole(version) => {
-            if !within(partial.first()) {
-                return None;
-            }
-            whole_lower(include, comparator, version, text)
-        }
-        _ => row(include, Sign::Compared(Comparator::AtLeast), partial, text),
+    let Partial::Whole(version) = partial else {
+        return row(include, Sign::Compared(Comparator::AtLeast), partial, text);
+    };
+    if !within(partial.first()) {
+        return None;
     }
-}
-
-// The lower end that is a whole version. With pre-releases included, `-0` goes to the end of the
-// text of a release, and into its build if it has one.
-#[inline(always)]
-fn whole_lower<'a>(
-    include: bool,
-    comparator: Comparator,
-    version: &VersionRef<'a>,
-    text: &[u8],
-) -> Option<Bounds<'a>>
-    requires within { within (first (Spec.whole version.now)) ≡ true }
-    requires normal { are_normal (Spec.whole version.now) ≡ true }
-    ensures { AreRead include (Spec.hyphen_lower (comparator_view comparator) include
-        (Spec.whole version.now) text.now) result }
-{
     if !include || !version.is_release() {
         return whole(include, comparator, version, text);
     }
@@ -495,30 +418,12 @@ pub fn upper_end<'a>(
     ensures { AreRead include (Spec.hyphen_upper (comparator_view comparator) include
         (npm_partial_view partial.now) text.now) result }
 {
-    match partial {
-        Partial::Whole(version) => {
-            if !within(partial.first()) {
-                return None;
-            }
-            whole_upper(include, comparator, version, text)
-        }
-        _ => row(include, Sign::Compared(Comparator::AtMost), partial, text),
+    let Partial::Whole(version) = partial else {
+        return row(include, Sign::Compared(Comparator::AtMost), partial, text);
+    };
+    if !within(partial.first()) {
+        return None;
     }
-}
-
-// The upper end that is a whole version.
-#[inline(always)]
-fn whole_upper<'a>(
-    include: bool,
-    comparator: Comparator,
-    version: &VersionRef<'a>,
-    text: &[u8],
-) -> Option<Bounds<'a>>
-    requires within { within (first (Spec.whole version.now)) ≡ true }
-    requires normal { are_normal (Spec.whole version.now) ≡ true }
-    ensures { AreRead include (Spec.hyphen_upper (comparator_view comparator) include
-        (Spec.whole version.now) text.now) result }
-{
     if version.is_release() {
         if include {
             return under((version.major(), version.minor(), version.patch() + 1));

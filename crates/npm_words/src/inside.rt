@@ -37,27 +37,15 @@ fn behind_id(strict: bool, text: &[u8]) -> &[u8]
     }
 }
 
-// What stands behind a dot, where an identifier stands there.
-fn dotted_id(text: &[u8]) -> Option<&[u8]>
-    ensures { rest_view result
-        ≡ (if Spec.begins_dotted_id text.now then Some (drop 1 text.now) else None) }
-{
-    match text {
-        [b'.', rest @ ..] if begins_identifier(rest) => Some(rest),
-        _ => None,
-    }
-}
-
 // What stands behind the identifiers joined by dots at the front.
 fn behind_ids(strict: bool, text: &[u8]) -> &[u8]
     ensures { result.now ≡ Spec.behind_ids (length text.now) strict text.now }
 {
     let mut left = text;
     'ids: loop {
-        let rest = behind_id(strict, left);
-        match dotted_id(rest) {
-            Some(more) => left = more,
-            None => return rest,
+        match behind_id(strict, left) {
+            [b'.', more @ ..] if begins_identifier(more) => left = more,
+            rest => return rest,
         }
     }
 }
@@ -74,29 +62,18 @@ fn behind_pre_release(strict: bool, text: &[u8]) -> &[u8]
     }
 }
 
-// How many digits of the number at the front count.
-#[tactic(auto, using(crate::proofs::Grammar::InsideParts::digits_capped))]
-fn number_len(strict: bool, text: &[u8]) -> usize
-    ensures value { result ≡ Spec.capped strict (prefix_len is_ascii_digit text.now) }
-    ensures fits { result ≤ length text.now }
-{
-    let most = if strict { 257 } else { 256 };
-    if text.len() > most {
-        digits_len(&text[..most])
-    } else {
-        digits_len(text)
-    }
-}
-
 // What stands behind the place at the front: loosely behind the digits there, and strictly behind
-// a wildcard or a number that is written strictly.
+// a wildcard or a number that is written strictly. Only so many digits count.
 #[tactic(auto, unfolding(crate::specs::Internal::Inside::behind_place))]
 fn behind_place(strict: bool, text: &[u8]) -> &[u8]
     ensures { result.now ≡ Spec.behind_place strict text.now }
 {
     match text {
         [b'0' | b'x' | b'X' | b'*', rest @ ..] if strict => rest,
-        _ => &text[number_len(strict, text)..],
+        _ => {
+            let most = if strict { 257 } else { 256 };
+            &text[digits_len(&text[..text.len().min(most)])..]
+        }
     }
 }
 
@@ -144,30 +121,13 @@ fn behind_partial(text: &[u8]) -> &[u8]
     }
 }
 
-// Where the first number or wildcard begins.
-#[tactic(auto, using(crate::proofs::Grammar::PartialLaw::prefix_steps))]
-fn place_at(text: &[u8]) -> usize
-    ensures value { result ≡ prefix_len Spec.is_apart text.now }
-    ensures fits { result ≤ length text.now }
-{
-    'others: for at in 0..text.len() {
-        if matches!(text[at], b'0'..=b'9' | b'x' | b'X' | b'*') {
-            return at;
-        }
-    }
-    text.len()
-}
-
 /// Whether a text ends in a partial, or has no characters.
 pub fn are_inside(text: &[u8]) -> bool
     ensures { result ≡ Spec.are_inside (length text.now) text.now }
 {
     let mut left = text;
-    'partials: loop {
-        let place = &left[place_at(left)..];
-        if place.is_empty() {
-            return left.is_empty();
-        }
-        left = behind_partial(place);
+    'partials: while let Some(at) = left.iter().position(|byte| matches!(byte, b'0'..=b'9' | b'x' | b'X' | b'*')) {
+        left = behind_partial(&left[at..]);
     }
+    left.is_empty()
 }

@@ -179,13 +179,6 @@ pub fn version(text: &str, reading: Reading) -> Result<VersionRef<'_>, SemverErr
     }
 }
 
-// The text after the marks, `v` and `=`, at its front.
-fn unmarked(text: &str) -> &str
-    ensures { result.now ≡ drop (prefix_len is_mark text.now) text.now }
-{
-    &text[marks_len(text.as_bytes())..]
-}
-
 /// Reads a version text as node-semver's `clean` does unless it is told to be loose: as
 /// [`version`] does, once the whitespace around the text and then all `v` and `=` at its front are
 /// taken off. Only what is left is held to `MAX_LENGTH` characters.
@@ -204,5 +197,6 @@ pub fn clean(text: &str) -> Result<VersionRef<'_>, SemverError>
     // A text is rejected only if it is no version.
     ensures refused { IfErr result (λ _. NoValue (IsClean MAX_SAFE_INTEGER text.now)) }
 {
-    version(unmarked(trim(text)), Reading::default())
+    let text = trim(text);
+    version(&text[marks_len(text.as_bytes())..], Reading::default())
 }

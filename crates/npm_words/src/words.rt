@@ -125,55 +125,12 @@ fn are_marks(loose: bool, sign: Sign, partial: &Partial<'_>, marks: &[u8]) -> bo
     }
 }
 
-// The word of a sign, marks and the partial that was read behind them.
-#[tactic(auto, using(crate::proofs::Grammar::AlternativeLaw::marks_found))]
-fn ended_word<'a>(
-    loose: bool,
-    sign: Sign,
-    text: &'a [u8],
-    marks: usize,
-    partial: Partial<'a>,
-    rest: &'a [u8],
-) -> Option<(Signed<'a>, &'a [u8])>
-    requires marks { marks ≡ Spec.marks_len text.now }
-    requires inside { marks ≤ length text.now }
-    requires rest { length rest.now ≤ length text.now }
-    ensures { signed_front_view result ≡ Spec.ended_word loose (npm_sign_view sign)
-        text.now (Spec.marks_len text.now) (npm_partial_view partial.entry, rest.now) }
-{
-    if !are_marks(loose, sign, &partial, &text[..marks]) || !is_boundary(rest) {
-        return None;
-    }
-    let text = &text[..text.len() - rest.len()];
-    Some((
-        Signed {
-            sign,
-            partial,
-            text,
-        },
-        rest,
-    ))
-}
-
-// How many characters stand in front of the first `+`.
-#[tactic(auto, using(crate::proofs::Grammar::PartialLaw::prefix_steps))]
-fn len_before_plus(text: &[u8]) -> usize
-    ensures { result ≡ prefix_len (λ b. not (b == 43)) text.now }
-{
-    'characters: for at in 0..text.len() {
-        if text[at] == b'+' {
-            return at;
-        }
-    }
-    text.len()
-}
-
 /// Whether a partial is short enough, which has this text with its marks.
 #[inline(always)]
 pub fn is_short(loose: bool, text: &[u8]) -> bool
     ensures { result ≡ Spec.is_short_word loose text.now }
 {
-    !loose || len_before_plus(&text[marks_len(text)..]) <= 250
+    !loose || text[marks_len(text)..].iter().take_while(|byte| **byte != b'+').count() <= 250
 }
 
 /// The word at the front, and the text behind it. Its numbers past the limit are
@@ -185,5 +142,16 @@ pub fn word_front(loose: bool, text: &[u8]) -> Option<(Signed<'_>, &[u8])>
     let (sign, behind) = sign_front(text);
     let marks = marks_len(behind);
     let (partial, rest) = partial_front(loose, &behind[marks..])?;
-    ended_word(loose, sign, behind, marks, partial, rest)
+    if !are_marks(loose, sign, &partial, &behind[..marks]) || !is_boundary(rest) {
+        return None;
+    }
+    let text = &behind[..behind.len() - rest.len()];
+    Some((
+        Signed {
+            sign,
+            partial,
+            text,
+        },
+        rest,
+    ))
 }

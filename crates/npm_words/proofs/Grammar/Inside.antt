@@ -2,6 +2,8 @@
 use Rattle.npm_words.proofs.Common.{List, [], and_parts, ap, arith, cases_Bool, codes, common_steps, drop, drop_at, false, if◌then◌else◌, inl, inr}
 use Rattle.npm_words.proofs.Common.{is_empty, length, length-append, length-drop, list_all, nat_tests, prefix_len, refl, subst, suc, sym, take}
 use Rattle.npm_words.proofs.Common.{take-append-drop, take_at, take_rest, takes, true, zero, ℕ, ◌&&◌, ◌++◌, ◌+◌, ◌-◌, ◌<◌, ◌==◌, ◌∙◌, ◌∷◌, ◌≡◌, ◌≤◌}
+use Rattle.std.specs.List.{position}
+use Rattle.npm_words.proofs.Common.{None, Option, Some, is_ascii_digit, ◌||◌}
 use Rattle.npm_words.proofs.{Common.◌⊎◌, Grammar.InsideParts.{inside-starts, partial-found, partial-less, partial-max, starts_place}}
 use Rattle.npm_words.{proofs.Grammar.PartialLaw.prefix-all, specs.Internal.Inside.{are_inside, behind_partial, from_place, is_apart}}
 use Rattle.npm_words.specs.{Internal.Words.takes_on, Malformed.{AreInside, IsInside, IsTaken, begins_place, more, none}}
@@ -67,36 +69,46 @@ step : (n : ℕ) (text : List ℕ) → are_inside (suc n) text
 unfolding are_inside
 step n text = refl
 
-empty-is : (text : List ℕ) → (length text == 0) ≡ is_empty text
-empty-is [] = refl
-empty-is (c ∷ text) = grind (arith, nat_tests)
+pub place_byte : (b : ℕ) → begins_place (b ∷ []) ≡ (is_ascii_digit b || (b == 120 || (b == 88 || b == 42)))
+place_byte b = grind (arith, nat_tests, common_steps)
 
-module _ (text : List ℕ) (at : ℕ) (e : at ≡ prefix_len is_apart text) where
-  abbrev place : List ℕ
-  place = take (length text - at) (drop at text)
+-- where the first place is
+abbrev pub first_place : List ℕ → Option ℕ
+first_place text = position (λ b. begins_place (b ∷ [])) text
 
-  place-is : place ≡ from_place text
-  place-is = take_rest text at ∙ ap (λ n. drop n text) e
+first-none : (text : List ℕ) → first_place text ≡ None → is_empty (from_place text) ≡ true
+first-none text h = grind (arith, nat_tests, common_steps, length-drop)
 
+some-left : (n : ℕ) (text : List ℕ) → n < length text → is_empty (drop n text) ≡ false
+some-left n [] h = absurd (omega (arith, h))
+some-left zero (c ∷ text) h = refl
+some-left (suc n) (c ∷ text) h = some-left n text (omega (arith, h))
+
+first-some : (text : List ℕ) (at : ℕ) → first_place text ≡ Some at → (is_empty (from_place text) ≡ false) × (take (length text - at) (drop at text) ≡ from_place text)
+first-some text at h = (grind (arith, nat_tests, common_steps, some-left), grind (arith, nat_tests, common_steps, take_rest))
+
+module _ (text : List ℕ) where
   once : are_inside (length text) text
       ≡ (if is_empty (from_place text) then is_empty text else are_inside (length text) (behind_partial (from_place text)))
   once = enough (length text) (suc (length text)) text (omega arith) (omega arith) ∙ step (length text) text
 
-  pub inside-stops : true ≡ (length place == 0) → (length text == 0) ≡ are_inside (length text) text
-  inside-stops h =
-      let stop : is_empty (from_place text) ≡ true = ap is_empty (sym place-is) ∙ sym (empty-is place) ∙ sym h in
-      empty-is text ∙ sym (once ∙ rw stop refl)
+  pub inside-stops : first_place text ≡ None → (length text == 0) ≡ are_inside (length text) text
+  inside-stops h = empty-is text ∙ sym (once ∙ rw (first-none text h) refl)
+    where
+      empty-is : (text : List ℕ) → (length text == 0) ≡ is_empty text
+      empty-is [] = refl
+      empty-is (c ∷ text) = grind (arith, nat_tests)
 
-  on-of : false ≡ (length place == 0) → is_empty (from_place text) ≡ false
-  on-of h = ap is_empty (sym place-is) ∙ sym (empty-is place) ∙ sym h
+  module _ (at : ℕ) (h : first_place text ≡ Some at) (next : List ℕ) (f : next ≡ behind_partial (take (length text - at) (drop at text))) where
+    same : next ≡ behind_partial (from_place text)
+    same = f ∙ ap behind_partial (first-some text at h).1
 
-  pub inside-less : (next : List ℕ) → next ≡ behind_partial place → false ≡ (length place == 0) → length next < length text
-  inside-less next f h = omega (arith, less text (on-of h), ap length f, ap (λ t. length (behind_partial t)) place-is)
+    pub inside-less : length next < length text
+    inside-less = omega (arith, less text (first-some text at h).0, ap length same)
 
-  pub inside-goes : (next : List ℕ) → next ≡ behind_partial place → false ≡ (length place == 0) → are_inside (length text) text ≡ are_inside (length next) next
-  inside-goes next f h =
-      let same : next ≡ behind_partial (from_place text) = f ∙ ap behind_partial place-is in
-      once ∙ rw (on-of h, ← same) (enough (length text) (length next) next (omega (arith, inside-less next f h)) (omega arith))
+    pub inside-goes : are_inside (length text) text ≡ are_inside (length next) next
+    inside-goes =
+        once ∙ rw ((first-some text at h).0, ← same) (enough (length text) (length next) next (omega (arith, inside-less)) (omega arith))
 
 -- ---- what is found is there, and what is there is found
 

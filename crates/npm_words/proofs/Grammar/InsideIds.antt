@@ -155,27 +155,17 @@ module _ (strict : Bool) (text rest : List ℕ) (e : rest ≡ behind_id strict t
   more : behind_ids (length text) strict text ≡ (if begins_dotted_id rest then behind_ids (length text) strict (drop 1 rest) else rest)
   more = rw e (ids-enough (length text) (suc (length text)) strict text (omega arith) (omega arith) ∙ ids-step (length text) strict text)
 
-  pub ids-stop : None ≡ (if begins_dotted_id rest then Some (drop 1 rest) else None) → rest ≡ behind_ids (length text) strict text
-  ids-stop h = sym (more ∙ go (begins_dotted_id rest) h)
-    where
-      go : (b : Bool) → None ≡ (if b then Some (drop 1 rest) else None) → (if b then behind_ids (length text) strict (drop 1 rest) else rest) ≡ rest
-      go true h = cc h
-      go false h = refl
+  pub ids-stop : begins_dotted_id rest ≡ false → rest ≡ behind_ids (length text) strict text
+  ids-stop h = sym (more ∙ rw h refl)
 
-  goes : (b : Bool) (next : List ℕ) → Some next ≡ (if b then Some (drop 1 rest) else None) → (b ≡ true) × (next ≡ drop 1 rest)
-  goes true next h = (refl, same_Some _ _ h)
-  goes false next h = cc h
+  pub ids-less : (next : List ℕ) → next ≡ drop 1 rest → begins_dotted_id rest ≡ true → length next < length text
+  ids-less next g h =
+      omega (arith, dot-less strict text (rw e at h), ap length g, ap (λ (t : List ℕ). length (drop 1 t)) e)
 
-  pub ids-less : (next : List ℕ) → Some next ≡ (if begins_dotted_id rest then Some (drop 1 rest) else None) → length next < length text
-  ids-less next h =
-      let g = goes (begins_dotted_id rest) next h in
-      let less = dot-less strict text (rw e at g.0) in omega (arith, less, ap length g.1, ap (λ (t : List ℕ). length (drop 1 t)) e)
-
-  pub ids-go : (next : List ℕ) → Some next ≡ (if begins_dotted_id rest then Some (drop 1 rest) else None)
+  pub ids-go : (next : List ℕ) → next ≡ drop 1 rest → begins_dotted_id rest ≡ true
       → behind_ids (length text) strict text ≡ behind_ids (length next) strict next
-  ids-go next h =
-      let g = goes (begins_dotted_id rest) next h in
-      more ∙ rw (g.0, ← g.1) (ids-enough (length text) (length next) strict next (omega (arith, ids-less next h)) (omega arith))
+  ids-go next g h =
+      more ∙ rw (h, ← g) (ids-enough (length text) (length next) strict next (omega (arith, ids-less next g h)) (omega arith))
 
 -- ---- what is read is a list, and it is the longest
 

@@ -429,10 +429,6 @@ prefix-take F zero text = grind (arith, nat_tests)
 prefix-take F (suc k) [] = grind (arith, nat_tests)
 prefix-take F (suc k) (c ∷ text) = grind (arith, nat_tests, prefix-take F k text)
 
-pub digits_most : (strict : Bool) (k : ℕ) (text : List ℕ) → k ≡ most strict → prefix_len is_ascii_digit (take k text) ≡ capped strict (prefix_len is_ascii_digit text)
-digits_most strict k text e = rw e (prefix-take is_ascii_digit (most strict) text)
-
-pub digits_few : (strict : Bool) (text : List ℕ) → length text ≤ most strict → prefix_len is_ascii_digit text ≡ capped strict (prefix_len is_ascii_digit text)
-digits_few strict text h = let le = prefix_len-le-length is_ascii_digit text in grind (arith, nat_tests)
-
-pub ruleset digits_capped = (digits_most, digits_few, prefix_len-le-length)
+pub digits_most : (strict : Bool) (k : ℕ) (text : List ℕ) → k ≡ (if nat_lt (most strict) (length text) then most strict else length text)
+    → prefix_len is_ascii_digit (take k text) ≡ capped strict (prefix_len is_ascii_digit text)
+digits_most strict k text e = let le = prefix_len-le-length is_ascii_digit text in rw e (grind (arith, nat_tests, prefix-take))

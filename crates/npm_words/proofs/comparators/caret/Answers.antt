@@ -1,8 +1,17 @@
-use Rattle.npm_words.proofs.{Common.{caret_from, sym, ◌∙◌}, Grammar.Rows.{caret_valid, whole_caret}}
+use Rattle.npm_words.proofs.{Common.{ap, arith, caret_from, from, npm_partial_view, sym, true, within, ◌∙◌, ◌≡◌}, Grammar.{Printed.from_valid, Rows.{caret_valid, noted_valid, part_caret, whole_caret}}}
+use Rattle.npm_words.specs.Internal.{Meaning.is_part, Parts.noted}
 use Rattle.npm_words.proofs.comparators.caret.Goals as goal
 
 pub returns-in-Major : goal.returns-in-Major
-returns-in-Major c text e = c.caret_part.ensures text e
+returns-in-Major c text e =
+    let include = c.args.include in
+    let n = c.first.result in
+    let padded = c.is_padded-in-Major.result in
+    let part : is_part (npm_partial_view c.args.partial.now) ≡ true = grind arith in
+    part_caret include padded text (npm_partial_view c.args.partial.now) n c.next_changed-in-Major.result c.until-in-Major.result part
+    c.first.ensures c.args.zeros e c.is_padded-in-Major.ensures c.next_changed-in-Major.ensures
+    (c.until-in-Major.ensures include (noted padded (from include n))
+    (noted_valid padded (from include n) ∙ from_valid include n ∙ ap within c.first.ensures ∙ c.requires.within) c.from_numbers-lower.ensures)
 
 pub returns-then-prints_short : goal.returns-then-prints_short
 returns-then-prints_short c text e =

@@ -1,12 +1,23 @@
-use Rattle.npm_words.proofs.{Common.{sym, ◌∙◌}, Grammar.Inside.{inside-goes, inside-less, inside-stops}}
+use Rattle.npm_words.proofs.Common.{None, Option, Some, arith, common_steps, nat_tests, rules, sym, tests, ℕ, ◌≡◌, ◌∙◌, ◌∷◌, []}
+use Rattle.npm_words.proofs.Grammar.Inside.{first_place, inside-goes, inside-less, inside-stops, place_byte}
+use Rattle.npm_words.specs.Malformed.{begins_place}
+use Rattle.std.proofs.lemmas.Iterator.{Search.position_from_yields_List, YieldsList-from_slice}
 use Rattle.npm_words.proofs.inside.are_inside.Goals as goal
 
 pub partials-smaller : goal.partials-smaller
-partials-smaller c = inside-less _ _ c.place_at.ensures.value _ c.behind_partial-left.ensures (sym c.if-is_empty.false ∙ c.is_empty.ensures)
+partials-smaller c =
+    let first = position_from_yields_List (λ b. begins_place (b ∷ [])) _ _ _ c.position.ensures.ran (YieldsList-from_slice _ c.iter.ensures.rest)
+    (λ x b q k. rw (place_byte x.now) (search (rules, tests))) in
+    inside-less _ _ (sym first ∙ c.in-Some.is) _ c.behind_partial-left.ensures
 
 pub partials-preserved : goal.partials-preserved
-partials-preserved c = c.partials.invariant ∙ inside-goes _ _ c.place_at.ensures.value _ c.behind_partial-left.ensures (sym c.if-is_empty.false ∙ c.is_empty.ensures)
+partials-preserved c =
+    let first = position_from_yields_List (λ b. begins_place (b ∷ [])) _ _ _ c.position.ensures.ran (YieldsList-from_slice _ c.iter.ensures.rest)
+    (λ x b q k. rw (place_byte x.now) (search (rules, tests))) in
+    c.partials.invariant ∙ inside-goes _ _ (sym first ∙ c.in-Some.is) _ c.behind_partial-left.ensures
 
-pub returns-then-is_empty : goal.returns-then-is_empty
-returns-then-is_empty c =
-    c.is_empty-then-is_empty.ensures ∙ inside-stops _ _ c.place_at.ensures.value (sym c.if-is_empty.true ∙ c.is_empty.ensures) ∙ sym c.partials.invariant
+pub returns : goal.returns
+returns c =
+    let first = position_from_yields_List (λ b. begins_place (b ∷ [])) _ _ _ c.position.ensures.ran (YieldsList-from_slice _ c.iter.ensures.rest)
+    (λ x b q k. rw (place_byte x.now) (search (rules, tests))) in
+    c.is_empty.ensures ∙ inside-stops _ (sym first ∙ c.in_default.is) ∙ sym c.partials.invariant
