@@ -120,7 +120,7 @@ fn word(include: bool, text: &[u8]) -> Option<(Bounds<'_>, &[u8])>
     Some((bounds, rest))
 }
 
-// The same of a comparator and a short partial.
+// The bounds of the comparison at the front, a comparator and a short partial, and what follows it.
 #[inline(always)]
 #[tactic(auto, using(crate::proofs::Grammar::CommonReads::words_found))]
 fn comparison(include: bool, text: &[u8]) -> Option<(Bounds<'_>, &[u8])>
@@ -202,7 +202,8 @@ fn push_between<'a>(bounds: Bounds<'a>, found: &mut Intervals<VersionRef<'a>>) -
     Ok(())
 }
 
-// The same. Mostly the numbers say that it is.
+// Adds the interval of two bounds, where the lower cut is below the upper one. Mostly the numbers say
+// that it is.
 #[inline(always)]
 fn push<'a>(bounds: Bounds<'a>, found: &mut Intervals<VersionRef<'a>>) -> Allocated<()>
     ensures added { let o = interval precedence (bounds_view bounds.entry) in
@@ -260,7 +261,8 @@ fn push_any<'a>(
     push_read(joined(first, second), rest, found)
 }
 
-// The same of one comparison, or of two.
+// Adds the interval of the part at the front, and returns what follows it: one comparison, or two
+// with a space between them.
 fn push_comparisons<'a>(
     include: bool,
     text: &'a [u8],

@@ -126,7 +126,10 @@ pub fn are_inside(text: &[u8]) -> bool
     ensures { result ≡ Spec.are_inside (length text.now) text.now }
 {
     let mut left = text;
-    'partials: while let Some(at) = left.iter().position(|byte| matches!(byte, b'0'..=b'9' | b'x' | b'X' | b'*')) {
+    'partials: while let Some(at) = left
+        .iter()
+        .position(|byte| matches!(byte, b'0'..=b'9' | b'x' | b'X' | b'*'))
+    {
         left = behind_partial(&left[at..]);
     }
     left.is_empty()

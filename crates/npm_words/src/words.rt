@@ -130,7 +130,12 @@ fn are_marks(loose: bool, sign: Sign, partial: &Partial<'_>, marks: &[u8]) -> bo
 pub fn is_short(loose: bool, text: &[u8]) -> bool
     ensures { result ≡ Spec.is_short_word loose text.now }
 {
-    !loose || text[marks_len(text)..].iter().take_while(|byte| **byte != b'+').count() <= 250
+    !loose
+        || text[marks_len(text)..]
+            .iter()
+            .take_while(|byte| **byte != b'+')
+            .count()
+            <= 250
 }
 
 /// The word at the front, and the text behind it. Its numbers past the limit are

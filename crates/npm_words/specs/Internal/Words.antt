@@ -12,7 +12,7 @@ use Rattle.semver_core.specs.Lists.{is_empty}
 use Rattle.semver_core.specs.Text.Identifiers.{Id, listed, pieces}
 use Rattle.semver_core.specs.Values.Versions.{VersionValue, is_release, release_value}
 use Rattle.semver_core.specs.declared.TheConstants.{MAX_SAFE_INTEGER}
-use Rattle.semver_core.specs.Internal.Fronts.{Front, after_byte, begins_byte, begins_identifier}
+use Rattle.semver_core.specs.Internal.Fronts.{Front, after_byte, begins_byte}
 use Rattle.semver_core.specs.Internal.Fronts.{begins_wildcard, build_front, marked_list, pre_release_with}
 use Rattle.npm_words.specs.Internal.Inside.{are_inside}
 use Rattle.npm_words.specs.Internal.Parts.{within}
@@ -73,17 +73,6 @@ may_stand loose ids = loose || is_strict_list ids && are_short_identifiers ids
 -- this pre-release and this build may be written
 abbrev pub may_follow : Bool → List ℕ → List ℕ → Bool
 may_follow loose pre build = may_stand loose pre && are_short_builds build
-
--- the text begins with a digit, which stands behind a wildcard, or before a dot and an identifier
-abbrev pub begins_own_digit : Bool → List ℕ → Bool
-begins_own_digit wild [] = false
-begins_own_digit wild (b ∷ rest) =
-    is_ascii_digit b && (wild || begins_byte 46 rest && begins_identifier (drop 1 rest))
-
--- or with a `-` that no identifier follows
-abbrev pub begins_lone_dash : List ℕ → Bool
-begins_lone_dash [] = false
-begins_lone_dash (b ∷ rest) = b == 45 && not (begins_identifier rest)
 
 -- the text of a pre-release, and what stands behind it
 unfoldable pub pre_front : Bool → Bool → List ℕ → List ℕ × List ℕ
