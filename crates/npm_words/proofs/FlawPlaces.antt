@@ -1,3 +1,4 @@
+pub mod Ends
 pub mod Ranges
 pub mod Read
 pub mod Stops

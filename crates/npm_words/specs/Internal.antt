@@ -1,4 +1,5 @@
 pub mod Alternatives
+pub mod Ends
 pub mod Inside
 pub mod Meaning
 pub mod Parts

@@ -5,6 +5,7 @@ pub mod Flaws
 pub mod Grammar
 pub mod Internal
 pub mod Malformed
+pub mod MalformedEnds
 pub mod MalformedWords
 pub mod Messages
 pub mod Partials

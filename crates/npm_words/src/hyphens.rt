@@ -2,9 +2,10 @@
 //!
 //! This is for the crates of this repository.
 
-ghost use Rattle.std.specs.Prelude.{◌-◌, ◌||◌, ◌≡◌, ◌≤◌, drop};
-ghost use Rattle.npm_words.specs.Words.{Some, comparator_view, length, list_all, rest_view};
-ghost use Rattle.npm_words.specs.Words.{true};
+ghost use Rattle.std.specs.Prelude.{◌-◌, ◌||◌, ◌≡◌, ◌≤◌, drop, option_map};
+ghost use Rattle.npm_words.specs.Words.{Some, comparator_view, length, list_all, pair_view};
+ghost use Rattle.npm_words.specs.Words.{rest_view, true};
+ghost use Rattle.npm_words.specs.Internal.Ends as Ends;
 ghost use Rattle.npm_words.specs.Internal.Meaning.{AreRead};
 ghost use Rattle.npm_words.specs.Internal.Parts.{are_normal, npm_partial_view};
 ghost use Rattle.npm_words.specs.Internal.Views.{end_front_view, end_some_view, end_view};
@@ -18,7 +19,9 @@ use crate::comparators::{lower_end, upper_end};
 use crate::partial::Partial;
 use crate::places::partial_front;
 use crate::words::is_short;
-use semver_core::scan::pieces::{Bounds, Comparator, after_some_space, space_len};
+use semver_core::scan::pieces::{
+    Bounds, Comparator, after_some_space, skip_to_boundary, space_len,
+};
 
 /// An end of a hyphen range: the marks and the whitespace in front, its partial version, and the
 /// text of that with the marks behind the last whitespace.
@@ -187,13 +190,21 @@ fn after_dash(text: &[u8]) -> Option<&[u8]>
     }
 }
 
+// The end of a hyphen range that a text is.
+fn whole_end(loose: bool, text: &[u8]) -> Option<End<'_>>
+    ensures { end_some_view result
+        ≡ (Spec.last_end loose text.now >>? λ e. Some (Spec.capped_in e)) }
+{
+    let (end, rest) = end_front(loose, text)?;
+    if rest.is_empty() { Some(end) } else { None }
+}
+
 // The upper end behind whitespace, `-` and whitespace, where it ends the text.
 fn last_end(loose: bool, text: &[u8]) -> Option<End<'_>>
     ensures { end_some_view result ≡ (Spec.after_dash text.now >>? λ second.
         Spec.last_end loose second >>? λ e. Some (Spec.capped_in e)) }
 {
-    let (upper, rest) = end_front(loose, after_dash(text)?)?;
-    if rest.is_empty() { Some(upper) } else { None }
+    whole_end(loose, after_dash(text)?)
 }
 
 /// The ends of the hyphen range that the text is. Numbers past the limit are
@@ -205,4 +216,45 @@ pub fn hyphen_ends(loose: bool, text: &[u8]) -> Option<(End<'_>, End<'_>)>
     let (lower, rest) = end_front(loose, text)?;
     let upper = last_end(loose, rest)?;
     Some((lower, upper))
+}
+
+/// Whether a text is a lower end, strictly, and its comparators are valid.
+pub fn is_lower_end(include: bool, text: &[u8]) -> bool
+    ensures { result ≡ Ends.is_lower include text.now }
+{
+    match whole_end(false, text) {
+        Some(end) => end.is_right(false, Side::Lower) && end.lower_bounds(include).is_some(),
+        None => false,
+    }
+}
+
+/// Whether a text is an upper end, strictly, and its comparators are valid.
+pub fn is_upper_end(include: bool, text: &[u8]) -> bool
+    ensures { result ≡ Ends.is_upper include text.now }
+{
+    let side = Side::Upper { include };
+    match whole_end(false, text) {
+        Some(end) => end.is_right(false, side) && end.upper_bounds(include).is_some(),
+        None => false,
+    }
+}
+
+// What stands behind marks and whitespace and one word.
+fn behind_end(text: &[u8]) -> &[u8]
+    ensures value { result.now ≡ Ends.behind_end text.now }
+    ensures fits { length result.now ≤ length text.now }
+{
+    skip_to_boundary(skip_marks(text))
+}
+
+/// The texts where the ends would be of a text that has the form of a hyphen range.
+pub fn end_texts(text: &[u8]) -> Option<(&[u8], &[u8])>
+    ensures { option_map pair_view result ≡ Ends.end_texts text.now }
+{
+    let before = behind_end(text);
+    let second = after_dash(before)?;
+    if !behind_end(second).is_empty() {
+        return None;
+    }
+    Some((&text[..text.len() - before.len()], second))
 }

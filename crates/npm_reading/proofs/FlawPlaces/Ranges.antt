@@ -4,10 +4,10 @@ use Rattle.nodejs_semver.proofs.Common.{append_assoc, arith, bind_some, cond_som
 use Rattle.nodejs_semver.proofs.{Common.{◌+◌, ◌-◌, ◌∙◌, ◌∷◌, ◌≡◌, ◌≤◌}, Diagnosing.IgnoredParts.{part_ends, part_fits, sizes_of}}
 use Rattle.npm_reading.{proofs.Grammar.RangeReads.found-some, specs.{Internal.Reads.{IsFound, valid_alternative}, RangeFlaws.IsRangeFlaw}}
 use Rattle.{npm_reading.specs.declared.{alternatives.Alternative.Alternative, range_flaws.RangeFlaw.RangeFlaw}, npm_words.proofs.Common.Comparison}
-use Rattle.npm_words.proofs.{Common.{HasAlternativesIn, IsMalformedWord, alternative_of, is_valid, valid_one}, FlawPlaces.Ranges.{IsPiece, Passed}}
+use Rattle.npm_words.proofs.{Common.{HasAlternativesIn, alternative_of, is_valid, valid_one}, FlawPlaces.Ranges.{IsPiece, Passed}}
 use Rattle.npm_words.proofs.FlawPlaces.Ranges.{bytes-append, front-divides, kept-strict, middle, next-divides, next-utf8, one-piece}
-use Rattle.npm_words.proofs.{FlawPlaces.Ranges.{one_malformed_word, right-all}, Grammar.AlternativeLaw.{alternative-found, alternative-read}}
-use Rattle.{npm_words.specs.{RangeFlaws.{IsAlternativeText, bytes_of}, RangeText.next}, semver_core.proofs.Dividing.BarLemmas.parts_after}
+use Rattle.npm_words.proofs.{FlawPlaces.{Ends.one_malformed_part, Ranges.right-all}, Grammar.AlternativeLaw.{alternative-found, alternative-read}}
+use Rattle.{npm_words.specs.{MalformedEnds.IsMalformedPart, RangeFlaws.{IsAlternativeText, bytes_of}, RangeText.next}, semver_core.proofs.Dividing.BarLemmas.parts_after}
 use Rattle.semver_core.proofs.{Dividing.BarsDivide.{bars_once, pieces-utf8}, Reading.Boundaries.trim-utf8, Text.Trims.one_after_blank}
 use Rattle.{semver_core.specs.{Failures.NoValue, Internal.Parts.front_part}, std.proofs.lemmas.List.Elements.{All-from_recursion, All-push}}
 use Rattle.std.{proofs.lemmas.List.Elements.recursion_from_All, specs.Prelude.is_none}
@@ -50,14 +50,14 @@ module _ (include : Bool) where
       let middle : x.middle ≡ y.middle = middle_is_trim _ _ x.trimmed ∙ (ap trim same.1 ∙ sym (middle_is_trim _ _ y.trimmed)) in
       let start : f.start ≡ g.start = omega (arith, x.start, y.start, ap bytes_of same.0, blank) in
       let end : f.end ≡ g.end = omega (arith, x.end, y.end, start, ap length middle) in
-      let word = one_malformed_word include x.middle _ _ y.at y.to (trim-utf8 _ _ utf8 x.trimmed) x.word (rw middle y.word) in
+      let word = one_malformed_part include x.middle (trim-utf8 _ _ utf8 x.trimmed) _ _ y.at y.to x.word (rw middle y.word) in
       grind arith
 
 -- ---- the loop: what is read of the next piece
 
 module _ (include : Bool) (text rest : List ℕ) (c : List ℕ × Option (List ℕ)) (h : Passed include text (Some rest)) (e : c ≡ front_part rest) where
   pub wrong_here : (part bytes : List ℕ) (blank at to : ℕ) (flaw : RangeFlaw) → IsUtf8 text → IsAfterBlank c.0 0 blank → IsTrim c.0 part
-      → bytes ≡ part → IsFound include (valid_alternative false include bytes) None → IsMalformedWord MAX_SAFE_INTEGER include bytes at to
+      → bytes ≡ part → IsFound include (valid_alternative false include bytes) None → IsMalformedPart MAX_SAFE_INTEGER include bytes at to
       → flaw.start ≡ length text - length rest + blank → flaw.end ≡ flaw.start + length part
       → flaw.word_start ≡ flaw.start + at → flaw.word_end ≡ flaw.start + to → IsRangeFlaw MAX_SAFE_INTEGER include text flaw
   wrong_here part bytes blank at to flaw u a t same found word start end word_start word_end = record {

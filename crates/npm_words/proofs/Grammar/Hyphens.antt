@@ -91,16 +91,16 @@ ended_of loose text rest h = (h.marks, h.partial, last_marks h.marks ++ h.places
 pub front-is : (text front rest : List ℕ) → text ≡ front ++ rest → take (length text - length rest) text ≡ front
 front-is text front rest e = rw e (front-text front rest)
 
-end-read : (loose : Bool) (text rest : List ℕ) (h : IsEnd loose text rest) → begins is_solid rest ≡ false
+pub end-read : (loose : Bool) (text rest : List ℕ) (h : IsEnd loose text rest) → begins is_solid rest ≡ false
     → end_front loose text ≡ Some (ended_of loose text rest h, rest)
 unfolding end_front
 end-read loose text rest h quiet = grind (arith, nat_tests, common_steps, ends-read, front-dark, places-begin, places-read, front-is, front-text)
 
 -- an end that was read
-abbrev EndRead : (loose : Bool) (text : List ℕ) → Ended × List ℕ → Type 0
+abbrev pub EndRead : (loose : Bool) (text : List ℕ) → Ended × List ℕ → Type 0
 EndRead loose text e = (h : IsEnd loose text e.1) × (e.0 ≡ ended_of loose text e.1 h)
 
-end-found : (loose : Bool) (text : List ℕ) (e : Ended × List ℕ) → IsUtf8 text → end_front loose text ≡ Some e → EndRead loose text e
+pub end-found : (loose : Bool) (text : List ℕ) (e : Ended × List ℕ) → IsUtf8 text → end_front loose text ≡ Some e → EndRead loose text e
 unfolding end_front
 end-found loose text e u h =
     let m = ends-found text u in
@@ -195,7 +195,7 @@ AreValidAs k l = (list_all (is_valid MAX_SAFE_INTEGER) k ≡ list_all (is_valid 
 joined-valid : (k l w u : List Comparison) → AreValidAs k l → AreValidAs w u → valid_one (false, k ++ w) ≡ valid_one (false, l ++ u)
 joined-valid k l w u e f = grind (arith, list_all-append (is_valid MAX_SAFE_INTEGER))
 
-free-capped : (include : Bool) (p : Partial)
+pub free-capped : (include : Bool) (p : Partial)
     → (is_free_lower (capped_partial p) ≡ is_free_lower p) × (is_free_upper include (capped_partial p) ≡ is_free_upper include p)
 free-capped include p = (grind arith, grind arith)
 
@@ -238,7 +238,7 @@ front-le loose text p h = let f = places-found loose text p.0 p.1 h in omega (ar
 pub normal-capped : (p : Partial) → are_normal (capped_partial p) ≡ are_normal p
 normal-capped p = grind arith
 
-end-normal : (loose : Bool) (text : List ℕ) (e : Ended × List ℕ) → end_front loose text ≡ Some e → are_normal e.0.1 ≡ true
+pub end-normal : (loose : Bool) (text : List ℕ) (e : Ended × List ℕ) → end_front loose text ≡ Some e → are_normal e.0.1 ≡ true
 unfolding end_front
 end-normal loose text e h = grind (arith, nat_tests, common_steps, front-normal)
 

@@ -7,7 +7,7 @@ pub returns-then-is_none-clause-flaw : goal.returns-then-is_none-clause-flaw
 returns-then-is_none-clause-flaw c =
     let empty : c.alternative.result ≡ None = grind (arith, nat_tests) in
     wrong_here _ _ _ _ (rw c.in-Some.is at c.pieces.invariant) c.cut_part.ensures _ _ _ _ _ _ c.utf8.text c.trimmed-blank.ensures.start
-    c.trimmed-blank.ensures.middle c.as_bytes-bytes.ensures.value (rw empty at c.alternative.ensures) c.malformed_word-word_start.ensures.word
+    c.trimmed-blank.ensures.middle c.as_bytes-bytes.ensures.value (rw empty at c.alternative.ensures) c.malformed_part-word_start.ensures.part
     refl refl refl refl
 
 pub returns-then-is_none-clause-none : goal.returns-then-is_none-clause-none
