@@ -325,7 +325,13 @@ text-at include text ss u h = all-at include text [] ss (inl refl) h (pieces-utf
 -- the range of a common text
 pub common-range : (include : Bool) (text : List ℕ) (found range : List (Span VersionValue)) → IsUtf8 text → AreParts include text found
     → range ≡ ranged found → IsRangeIn false MAX_SAFE_INTEGER include text range
-common-range include text found range u h a = grind (arith, nat_tests, common_steps, text-at, cut_bars, bars_divide, ranged-found)
+common-range include text found range u h a =
+    let k = text-at include text found u h in
+    record {
+      alternatives = k.0.alternatives;
+      has = record { parts = cut_bars false text; divided = bars_divide text; each = k.0.each; some = k.1; valid = k.0.valid };
+      is = a ∙ ranged-found include k.0.alternatives found k.0.found;
+    }
 
 pub common-spans : (include : Bool) (text : List ℕ) (found range : List (Span VersionValue)) → IsUtf8 text → AreParts include text found
     → range ≡ ranged found → IsRange MAX_SAFE_INTEGER range

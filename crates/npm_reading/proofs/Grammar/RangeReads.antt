@@ -320,10 +320,19 @@ none-read loose include text u h ls has =
     let k = (alternatives_are loose MAX_SAFE_INTEGER include text ls u).0 has in
     grind (arith, nat_tests, common_steps, all-valid)
 
+has-read : (loose include : Bool) (text : List ℕ) (all : List (List Comparison)) → IsUtf8 text
+    → valid_range loose include text ≡ Some all → HasAlternativesIn loose MAX_SAFE_INTEGER include text all
+has-read loose include text all u h = grind (arith, nat_tests, common_steps, cond_some, not, all-valid, not-true, alternatives_are)
+
 pub range-read : (loose include : Bool) (text : List ℕ) (found range : List (Span VersionValue)) → IsUtf8 text
     → AreAllFound include (valid_range loose include text) found → range ≡ ranged found
     → IsRangeIn loose MAX_SAFE_INTEGER include text range
-range-read loose include text found range u h a = grind (arith, nat_tests, common_steps, cond_some, not, all-valid, not-true, alternatives_are, ranged-found)
+range-read loose include text found range u h a = go (valid_range loose include text) refl h
+  where
+    go : (o : Option (List (List Comparison))) → valid_range loose include text ≡ o → AreAllFound include o found
+        → IsRangeIn loose MAX_SAFE_INTEGER include text range
+    go None e k = absurd k
+    go (Some all) e k = record { alternatives = all; has = has-read loose include text all u e; is = a ∙ ranged-found include all found k }
 
 pub refused-none : (loose : Bool) {A E : Type 0} (r : Result A (Failure E)) (include : Bool) (text : List ℕ) → IsUtf8 text
     → RefusedOnlyIf r (valid_range loose include text ≡ None) → RefusedOnlyIf r (NoValue (HasAlternativesIn loose MAX_SAFE_INTEGER include text))
