@@ -1,4 +1,5 @@
 pub mod CommonReads
+pub mod Intervals
 pub mod RangeReads
 pub mod Rows
 pub mod WordLoop

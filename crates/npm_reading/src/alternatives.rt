@@ -6,7 +6,7 @@ ghost use Rattle.npm_words.specs.Words.{Comparison};
 ghost use Rattle.nodejs_semver.specs.Words.{None, [], false};
 ghost use Rattle.nodejs_semver.specs.Words.{interval, is_empty, is_range_span, list_all, list_any};
 ghost use Rattle.nodejs_semver.specs.Words.{bounds_view, precedence, true};
-ghost use Rattle.npm_reading.specs.Internal.Alternatives.{AcceptAsRanged, NarrowedBy};
+ghost use Rattle.npm_reading.specs.Internal.Alternatives.{NarrowedBy};
 ghost use Rattle.npm_words.specs.Internal.Alternatives.{met};
 ghost use Rattle.npm_reading.specs.Internal.Alternatives.{ranged};
 ghost use Rattle.npm_words.specs.Internal.Meaning.{AreRead};
@@ -189,9 +189,7 @@ fn one<'a>(alloc: Global, interval: Interval<VersionRef<'a>>) -> Intervals<Versi
 /// some alternative's has none, and `<0.0.0-0` where there is no interval.
 #[inline(always)]
 pub(crate) fn set_ranged<'a>(alloc: Global, found: &mut Intervals<VersionRef<'a>>)
-    ensures value { found.new.items ≡ ranged found.old.items }
-    // They accept what the alternatives do.
-    ensures accepts { AcceptAsRanged found.old.items found.new.items }
+    ensures { found.new.items ≡ ranged found.old.items }
 {
     if found.len() == 1 {
         return;

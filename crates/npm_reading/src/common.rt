@@ -202,8 +202,8 @@ fn push_between<'a>(bounds: Bounds<'a>, found: &mut Intervals<VersionRef<'a>>) -
     Ok(())
 }
 
-// Adds the interval of two bounds, where the lower cut is below the upper one. Mostly the numbers say
-// that it is.
+// Adds the interval of two bounds, where the lower cut is below the upper one. Mostly the numbers
+// say that it is.
 #[inline(always)]
 fn push<'a>(bounds: Bounds<'a>, found: &mut Intervals<VersionRef<'a>>) -> Allocated<()>
     ensures added { let o = interval precedence (bounds_view bounds.entry) in

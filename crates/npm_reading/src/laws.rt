@@ -2,5 +2,7 @@
 //! or hardly anything, else; no caller needs this module.
 
 mod alike;
+mod ranges;
 
 pub use crate::laws::alike::{npm_reads_alike, satisfied_alike};
+pub use crate::laws::ranges::npm_intervals;

@@ -15,6 +15,9 @@ ghost use Rattle.npm_words.specs.Internal.Reads.{valid_one};
 ghost use Rattle.npm_reading.specs.Internal.Reads.{valid_range, words_of};
 ghost use Rattle.semver_core.specs.Internal.Reading.{◌>>?◌};
 ghost use Rattle.npm_reading.specs.Ranges.{IsRangeIn};
+ghost use Rattle.npm_reading.specs.Readings.{OfAccepted};
+ghost use Rattle.nodejs_semver.specs.Ranges.Gate as Gate;
+ghost use Rattle.nodejs_semver.specs.Words.{VersionValue};
 
 use crate::alternatives::{Alternative, set_ranged};
 use crate::common::read_common;
@@ -250,9 +253,13 @@ pub fn range(
     text: &str,
     reading: Reading,
 ) -> Result<RangeRef<'_>, Failure<SemverError>>
-    // The text has alternatives, and the range accepts the versions that they accept.
+    // The text has alternatives, and the range is their intervals.
     ensures ok { IfOk result
         (IsRangeIn reading.loose MAX_SAFE_INTEGER reading.include_prerelease text.now) }
+    // It accepts the versions that they accept.
+    ensures accepted { IfOk result (λ r. OfAccepted MAX_SAFE_INTEGER
+        (record { reading = reading; text = text.now }) (λ accepted. (v : VersionValue)
+        → Gate.accepts r v reading.include_prerelease ≡ accepted v)) }
     // A text is rejected only if it has none. The one other error is a failed allocation.
     ensures refused { RefusedOnlyIf result (NoValue (HasAlternativesIn reading.loose
         MAX_SAFE_INTEGER reading.include_prerelease text.now)) }

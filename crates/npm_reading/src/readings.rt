@@ -5,6 +5,7 @@ ghost use Rattle.npm_words.specs.Words.{Comparison};
 ghost use Rattle.nodejs_semver.specs.Words.{IfOk, IsCutAtBars, IsMax, IsMin, List};
 ghost use Rattle.nodejs_semver.specs.Words.{MAX_SAFE_INTEGER, MemoryOnlyIf, NoValue, RefusedOnlyIf};
 ghost use Rattle.nodejs_semver.specs.Words.{VersionValue, length, map, option_map, ℕ};
+ghost use Rattle.npm_reading.specs.Ranges.{IsRangeIn};
 ghost use Rattle.npm_reading.specs.Readings.{HasAlternativesAs, OfAccepted};
 ghost use Rattle.nodejs_semver.specs.Ranges.Gate as Gate;
 
@@ -94,7 +95,10 @@ impl<'a> ReadRange<'a> {
     /// The range without its reading, for the calls that compute with ranges. Asked by
     /// `satisfies_with_prerelease` with the flag of the reading, it accepts the same versions.
     pub fn range(&self) -> &RangeRef<'a>
-        ensures { OfAccepted MAX_SAFE_INTEGER self.now (λ accepted. (v : VersionValue)
+        // It is the intervals of the alternatives of the text.
+        ensures range { IsRangeIn self.now.reading.loose MAX_SAFE_INTEGER
+            self.now.reading.include_prerelease self.now.text result.now }
+        ensures accepted { OfAccepted MAX_SAFE_INTEGER self.now (λ accepted. (v : VersionValue)
             → Gate.accepts result.now v self.now.reading.include_prerelease ≡ accepted v) }
     {
         &self.range

@@ -4,12 +4,13 @@ use Rattle.npm_semver.specs.{Listing.{Says, accepted, no_range, no_version, rang
 use Rattle.{npm_semver.specs.declared.reading.ReadOptions.ReadOptions, semver_core.specs.{Cuts.Span, Failures.NoValue, Text.Characters.IsTrim}}
 use Rattle.{semver_core.specs.{Values.Versions.VersionValue, declared.TheConstants.MAX_SAFE_INTEGER}, std.proofs.Common.{Bool, IfNone, IfSome, List}}
 use Rattle.std.{proofs.Common.{None, Option, Some, [], false, true, ℕ, ◌++◌, ◌∷◌, ◌≡◌}, specs.List.list_all}
+use Rattle.npm_reading.proofs.Grammar.Intervals.{range_accepts}
 use Rattle.npm_semver.specs.Listing as Listing
 use Rattle.npm_semver.specs.Internal.Readings as Readings
 
 one_says : (r : ReadOptions) (v : VersionValue) (text : List ℕ) (read : Option (List (Span VersionValue))) → IsRead r text read
     → Says r v text (says r.include_prerelease v read)
-one_says r v text (Some read) is = rw is.accepted (range text is.alternatives is.has)
+one_says r v text (Some read) is = rw (range_accepts _ _ _ _ _ is v) (range text is.alternatives is.has)
 one_says r v text None is = no_range text is
 
 -- all range texts accept a version exactly if all ranges do

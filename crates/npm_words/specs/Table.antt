@@ -34,6 +34,10 @@ pub record Comparison : Type 0 where
 abbrev pub made : Comparator → VersionValue → Comparison
 made c v = record { sign = c; version = v; text = version_text v }
 
+-- the same, the build left out of the text. The version keeps it, as a bound of a range does.
+abbrev pub unbuilt : Comparator → VersionValue → Comparison
+unbuilt c v = record { sign = c; version = v; text = version_text (record v { build = [] }) }
+
 -- a comparator that counts: `>=0.0.0`, written so, is none unless pre-releases are included
 abbrev pub counts : Bool → Comparison → Bool
 counts include c = include || not (elim c.sign [ at_least ↦ bytes_eq c.text (codes "0.0.0") | _ ↦ false ])
@@ -102,7 +106,7 @@ abbrev pub caret_from : Bool → ℕ → VersionValue → Comparison
 caret_from include z v =
     if include && (is_release v && nat_lt 0 z)
     then from true (first (whole v))
-    else as_written z (whole v) (made at_least (record v { build = [] }))
+    else as_written z (whole v) (unbuilt at_least v)
 
 -- the table: by the sign and by the partial, whose text is `text`
 abbrev pub table : Bool → Sign → Partial → List ℕ → List Comparison
@@ -114,7 +118,7 @@ table include caret (whole v) text =
     caret_from include (written_zeros text) v
     ∷ (under (next_changed (written_zeros text) (whole v)) ∷ [])
 table include tilde (whole v) text =
-    as_written (written_zeros text) (whole v) (made at_least (record v { build = [] }))
+    as_written (written_zeros text) (whole v) (unbuilt at_least v)
     ∷ (under (next (whole v)) ∷ [])
 table include caret p text =
     as_written (written_zeros text) p (from include (first p))
@@ -139,7 +143,7 @@ hyphen_lower c include (whole v) text = if include && is_release v
 hyphen_lower c include p text = table include (compared at_least) p text
 
 abbrev pub hyphen_upper : Comparator → Bool → Partial → List ℕ → List Comparison
-hyphen_upper c include (whole v) text = if not (is_release v) then made at_most (record v { build = [] }) ∷ []
+hyphen_upper c include (whole v) text = if not (is_release v) then unbuilt at_most v ∷ []
     else if include then under (v.major, v.minor, v.patch + 1) ∷ []
     else table include (compared c) (whole v) text
 hyphen_upper c include p text = table include (compared at_most) p text

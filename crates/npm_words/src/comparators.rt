@@ -11,7 +11,7 @@ ghost use Rattle.npm_words.specs.Internal.Parts.{are_normal, npm_partial_view};
 ghost use Rattle.npm_words.specs.Internal.Parts.{AreZeros, is_padded, no_build, noted};
 ghost use Rattle.npm_words.specs.Internal.Parts.{npm_sign_view, within};
 ghost use Rattle.npm_words.specs.Alternatives.{is_valid};
-ghost use Rattle.npm_words.specs.Table.{first, from, made, table};
+ghost use Rattle.npm_words.specs.Table.{first, from, table};
 ghost use Rattle.npm_words.specs.Table.{written_zeros};
 ghost use Rattle.semver_core.specs.Printing.Text.{id_text, marked_list};
 ghost use Rattle.semver_core.specs.{Values.Versions.IsVersion, declared.TheConstants.MAX_LENGTH};
@@ -103,7 +103,7 @@ fn open<'a>() -> Bounds<'a>
 fn from_version<'a>(include: bool, padded: bool, version: &VersionRef<'a>) -> Bound<VersionRef<'a>>
     requires within { within (first (Spec.whole version.now)) ≡ true }
     requires normal { are_normal (Spec.whole version.now) ≡ true }
-    ensures { IsCommon include (noted padded (made Words.at_least (no_build version.now)) ∷ [])
+    ensures { IsCommon include (noted padded (Spec.unbuilt Words.at_least version.now) ∷ [])
         (record { lower = result; upper = Bound.Unbounded }) }
 {
     if include || padded {
@@ -271,8 +271,8 @@ fn part<'a>(
     }
 }
 
-// A comparator, or none, before a whole version, which has this text. Without pre-releases included,
-// `>=0.0.0` is no comparator.
+// A comparator, or none, before a whole version, which has this text. Without pre-releases
+// included, `>=0.0.0` is no comparator.
 #[inline(always)]
 fn whole<'a>(
     include: bool,

@@ -1,4 +1,5 @@
 -- What a bound and comparators accept, the rows of both tables, sign by sign, and hyphen ranges.
+use Rattle.npm_words.proofs.Common.{Id, version_text}
 use Rattle.nodejs_semver.proofs.Common.{After, Before, Bool, Bound, Comparator, Front, Greater, Id, IfSome, List, MAX_SAFE_INTEGER, None, Numeric}
 use Rattle.nodejs_semver.proofs.Common.{Option, Ordering, Partial, Some, Span, Unbounded, VersionValue, Word, [], above, and-true, and_parts, ap, ap₂}
 use Rattle.nodejs_semver.proofs.Common.{arith, at_most, below, cases_Bool, codes, common_steps, eqb-true, equal, false, filter, first_so, holds}
@@ -239,17 +240,24 @@ module _ (v : VersionValue) where
   Low w cs = Exact (from_lower (Before w)) (names (Before w) v) cs ⊎ ((is_zero w ≡ true) × Exact true false cs)
 
   -- a comparator of a version whose text may be `0.0.0` only where it is that version
-  whole_low : (w : VersionValue) (text : List ℕ) → (bytes_eq text (codes "0.0.0") ≡ true → is_zero w ≡ true) → Low w (put at_least w text ∷ [])
-  whole_low w text s = elim (cases_Bool (counts false (put at_least w text))) [
-    | inl k ↦ inl (counted-exact _ _ (put at_least w text) k (past-before w v) refl)
-    | inr k ↦ inr (s (not-false _ k), record { tested = rw k refl; named = rw k refl })
-  ]
+  whole_low : (build : List Id) (w : VersionValue) (text : List ℕ) → (bytes_eq text (codes "0.0.0") ≡ true → is_zero w ≡ true)
+      → Low w (put at_least (record w { build = build }) text ∷ [])
+  whole_low build w text s =
+      let c = put at_least (record w { build = build }) text in
+      elim (cases_Bool (counts false c)) [
+        | inl k ↦ inl (counted-exact _ _ c k (past-before w v) refl)
+        | inr k ↦ inr (s (not-false _ k), record { tested = rw k refl; named = rw k refl })
+      ]
 
-  -- one that a table makes
-  made_low : (w : VersionValue) (cs : List Comparison) → list_all (is_valid MAX_SAFE_INTEGER) (made at_least w ∷ cs) ≡ true → Low w (made at_least w ∷ [])
-  made_low w cs h =
-      let valid = first_so (is_valid MAX_SAFE_INTEGER (made at_least w)) _ h in
-      whole_low w _ (λ e. grind (arith, nat_tests, common_steps, and_parts, prints_zero, not-false))
+  -- one that a table makes, whatever the build is
+  abbrev low_of : List Id → VersionValue → Comparison
+  low_of build w = put at_least (record w { build = build }) (version_text w)
+
+  made_low : (build : List Id) (w : VersionValue) (cs : List Comparison) → list_all (is_valid MAX_SAFE_INTEGER) (low_of build w ∷ cs) ≡ true
+      → Low w (low_of build w ∷ [])
+  made_low build w cs h =
+      let valid = first_so (is_valid MAX_SAFE_INTEGER (low_of build w)) _ h in
+      whole_low build w _ (λ e. grind (arith, nat_tests, common_steps, and_parts, prints_zero, not-false))
 
   -- ---- two ends
 
@@ -304,24 +312,24 @@ module _ (v : VersionValue) where
   far-low w h k = grind (arith, nat_tests, common_steps)
 
   -- `>=` and `<`, of a table, and `>=` alone
-  until : (w : VersionValue) (n k : Numbers) → k ≡ n → Valid (made at_least w ∷ (under k ∷ []))
+  until : (build : List Id) (w : VersionValue) (n k : Numbers) → k ≡ n → Valid (low_of build w ∷ (under k ∷ []))
       → Beside (not (is_release w) && same_triple w v) (not (version_eq w (release (0, 0, 0)) && same_triple w v))
-      (record { lower = Before w; upper = Before (lowest n) }) (made at_least w ∷ (under k ∷ []))
-  until w n k e h = rw (← e) (low-beside w (Before (lowest k)) (made at_least w ∷ []) (under k ∷ []) (made_low w (under k ∷ []) h) (under-exact k)
-      (λ k. absurd (under-free _ k)) (far-low w) (λ e. e))
+      (record { lower = Before w; upper = Before (lowest n) }) (low_of build w ∷ (under k ∷ []))
+  until build w n k e h = rw (← e) (low-beside w (Before (lowest k)) (low_of build w ∷ []) (under k ∷ []) (made_low build w (under k ∷ []) h)
+      (under-exact k) (λ k. absurd (under-free _ k)) (far-low w) (λ e. e))
 
   from-beside : {own far : Bool} (n : Numbers) → Valid (from false n ∷ [])
       → (far ≡ true → is_zero (release n) ≡ true → same_triple (release n) v ≡ false)
       → Beside own far (record { lower = Before (release n); upper = Unbounded }) (from false n ∷ [])
-  from-beside n h f = low-beside (release n) Unbounded (from false n ∷ []) [] (made_low (release n) [] h) free-exact (λ k. cc k) f (λ e. cc e)
+  from-beside n h f = low-beside (release n) Unbounded (from false n ∷ []) [] (made_low [] (release n) [] h) free-exact (λ k. cc k) f (λ e. cc e)
 
   module _ (pre : Bool) (text : List ℕ) (within : is_within MAX_SAFE_INTEGER v ≡ true) where
     values-plain : (p : Partial) → Form pre p → Valid (plain_table false (compared equal) (npm_partial p) text)
         → Row (plain p) (plain_table false (compared equal) (npm_partial p) text)
     unfolding table
     values-plain p any h = low-beside (release (0, 0, 0)) Unbounded [] [] (inr (refl, free-exact)) free-exact (λ k. cc k) (far-low (release (0, 0, 0))) (λ e. e)
-    values-plain p (one M) h = until (release (M, 0, 0)) (M + 1, 0, 0) _ refl h
-    values-plain p (two M n) h = until (release (M, n, 0)) (M, n + 1, 0) _ refl h
+    values-plain p (one M) h = until [] (release (M, 0, 0)) (M + 1, 0, 0) _ refl h
+    values-plain p (two M n) h = until [] (release (M, n, 0)) (M, n + 1, 0) _ refl h
     values-plain p (three M n o x y e) h = equal-beside (version M n o x y) y text
 
     values : (s : Sign) (p : Partial) → Form pre p → may_have s p ≡ true → IsPlainPartial MAX_SAFE_INTEGER pre text p
@@ -334,7 +342,7 @@ module _ (v : VersionValue) where
     values (compared at_least) p (two M n) m t h = from-beside (M, n, 0) h (far-low (release (M, n, 0)))
     values (compared at_least) p (three M n o x y e) m t h =
         let w = version M n o x y in
-        low-beside w Unbounded (put at_least w text ∷ []) [] (whole_low w text (text-spelled _ pre text M n o x y t)) free-exact (λ k. cc k)
+        low-beside w Unbounded (put at_least w text ∷ []) [] (whole_low w.build w text (text-spelled _ pre text M n o x y t)) free-exact (λ k. cc k)
         (far-low w) (λ e. e)
     values (compared above) p (one M) m t h = from-beside (M + 1, 0, 0) h (λ k z. grind (arith, nat_tests))
     values (compared above) p (two M n) m t h = from-beside (M, n + 1, 0) h (λ k z. grind (arith, nat_tests))
@@ -342,8 +350,8 @@ module _ (v : VersionValue) where
         let c = put above (version M n o x y) text in
         exact-beside (After c.version) Unbounded (c ∷ []) [] (counted-exact _ _ c refl (past-after c.version v) refl) free-exact
         (λ k. (and_parts _ _ k).1) (λ k. cc k)
-    values (compared equal) p (one M) m t h = until (release (M, 0, 0)) (M + 1, 0, 0) _ refl h
-    values (compared equal) p (two M n) m t h = until (release (M, n, 0)) (M, n + 1, 0) _ refl h
+    values (compared equal) p (one M) m t h = until [] (release (M, 0, 0)) (M + 1, 0, 0) _ refl h
+    values (compared equal) p (two M n) m t h = until [] (release (M, n, 0)) (M, n + 1, 0) _ refl h
     values (compared equal) p (three M n o x y e) m t h = equal-beside (version M n o x []) y text
     values (compared at_most) p (one M) m t h = upper-beside _ (M + 1, 0, 0) refl (λ k. most_major M within)
     values (compared at_most) p (two M n) m t h = upper-beside _ (M, n + 1, 0) refl (λ k. most_minor M n within)
@@ -358,19 +366,19 @@ module _ (v : VersionValue) where
         let c = put below (version M n o x y) text in
         exact-beside Unbounded (Before c.version) [] (c ∷ []) free-exact (counted-exact _ _ c refl (upper-before c.version) refl) (λ k. cc k)
         (λ k. (and_parts _ _ k).1)
-    values Npm.tilde p (one M) m t h = until (release (M, 0, 0)) (M + 1, 0, 0) _ refl h
-    values Npm.tilde p (two M n) m t h = until (release (M, n, 0)) (M, n + 1, 0) _ refl h
-    values Npm.tilde p (three M n o x y e) m t h = until (version M n o x []) (M, n + 1, 0) _ refl h
+    values Npm.tilde p (one M) m t h = until [] (release (M, 0, 0)) (M + 1, 0, 0) _ refl h
+    values Npm.tilde p (two M n) m t h = until [] (release (M, n, 0)) (M, n + 1, 0) _ refl h
+    values Npm.tilde p (three M n o x y e) m t h = until y (version M n o x []) (M, n + 1, 0) _ refl h
     values Npm.caret p (one zero) m t h = exact-beside Unbounded (Before (lowest (1, 0, 0))) (from false (0, 0, 0) ∷ []) (under (1, 0, 0) ∷ [])
         open-exact (under-exact (1, 0, 0)) (λ k. cc k) (λ k. absurd (under-free _ k))
-    values Npm.caret p (one (suc M)) m t h = until (release (suc M, 0, 0)) (suc M + 1, 0, 0) (plain_changed (Npm.major (suc M))) (rw (not_zero M) refl) h
-    values Npm.caret p (two zero n) m t h = until (release (0, n, 0)) (0, n + 1, 0) _ refl h
-    values Npm.caret p (two (suc M) n) m t h = until (release (suc M, n, 0)) (suc M + 1, 0, 0) (plain_changed (minor (suc M) n)) (rw (not_zero M) refl) h
-    values Npm.caret p (three zero zero o x y e) m t h = until (version 0 0 o x []) (0, 0, o + 1) _ refl h
+    values Npm.caret p (one (suc M)) m t h = until [] (release (suc M, 0, 0)) (suc M + 1, 0, 0) (plain_changed (Npm.major (suc M))) (rw (not_zero M) refl) h
+    values Npm.caret p (two zero n) m t h = until [] (release (0, n, 0)) (0, n + 1, 0) _ refl h
+    values Npm.caret p (two (suc M) n) m t h = until [] (release (suc M, n, 0)) (suc M + 1, 0, 0) (plain_changed (minor (suc M) n)) (rw (not_zero M) refl) h
+    values Npm.caret p (three zero zero o x y e) m t h = until y (version 0 0 o x []) (0, 0, o + 1) _ refl h
     values Npm.caret p (three zero (suc n) o x y e) m t h =
-        let w = version 0 (suc n) o x [] in until w (0, suc n + 1, 0) (plain_changed (whole w)) (rw (not_zero n) refl) h
+        let w = version 0 (suc n) o x [] in until y w (0, suc n + 1, 0) (plain_changed (whole w)) (rw (not_zero n) refl) h
     values Npm.caret p (three (suc M) n o x y e) m t h =
-        let w = version (suc M) n o x [] in until w (suc M + 1, 0, 0) (plain_changed (whole w)) (rw (not_zero M) refl) h
+        let w = version (suc M) n o x [] in until y w (suc M + 1, 0, 0) (plain_changed (whole w)) (rw (not_zero M) refl) h
 
   pub word-row : (pre : Bool) (text : List ℕ) (word : Word) (cs : List Comparison) → is_within MAX_SAFE_INTEGER v ≡ true
       → IsPlainWord MAX_SAFE_INTEGER pre text word cs → list_all (is_valid MAX_SAFE_INTEGER) cs ≡ true
@@ -389,10 +397,10 @@ module _ (v : VersionValue) where
       → Valid (hyphen_lower at_least false (npm_partial p) text) → Low (version_of p) (hyphen_lower at_least false (npm_partial p) text)
   low-form pre text p any t = λ h. inr (refl, free-exact)
   low-form pre text p (one M) t =
-      subst (λ cs. Valid cs → Low (version_of p) cs) (table-values pre text (compared at_least) p t) (made_low (release (M, 0, 0)) [])
+      subst (λ cs. Valid cs → Low (version_of p) cs) (table-values pre text (compared at_least) p t) (made_low [] (release (M, 0, 0)) [])
   low-form pre text p (two M m) t =
-      subst (λ cs. Valid cs → Low (version_of p) cs) (table-values pre text (compared at_least) p t) (made_low (release (M, m, 0)) [])
-  low-form pre text p (three M m o x y e) t = λ h. whole_low (version_of p) text (text-spelled _ pre text M m o x y t)
+      subst (λ cs. Valid cs → Low (version_of p) cs) (table-values pre text (compared at_least) p t) (made_low [] (release (M, m, 0)) [])
+  low-form pre text p (three M m o x y e) t = λ h. whole_low (version_of p).build (version_of p) text (text-spelled _ pre text M m o x y t)
 
   -- from 0.0.0 to a pre-release: what that names lies above 0.0.0
   open-named : (z w : VersionValue) → is_zero z ≡ true → is_release w ≡ false
@@ -419,7 +427,7 @@ module _ (v : VersionValue) where
         let z = version M n o [] y in up-to (After z) _ (most-exact z text) (λ i k. cc (and_parts (to_upper (After z)) false k).1) e
     hyphen-form q text (three M n o (i ∷ x) y f) m e =
         let z = version M n o (i ∷ x) y in
-        up-to (After z) _ (most-exact (no_build z) _) (λ l k. (λ h. open-named _ z h refl l (and_parts _ _ k).1, grind arith)) e
+        up-to (After z) _ (most-exact z _) (λ l k. (λ h. open-named _ z h refl l (and_parts _ _ k).1, grind arith)) e
 
   pub between-good : (pre : Bool) (x y : List ℕ) (p q : Partial) (s : Span VersionValue)
       → IsPlainPartial MAX_SAFE_INTEGER pre x p → IsPlainPartial MAX_SAFE_INTEGER pre y q → is_some q.major ≡ true

@@ -1,4 +1,5 @@
 -- Plain texts: what they mean here, their alternatives to node-semver, and that both accept the same versions.
+use Rattle.npm_reading.proofs.Grammar.Intervals.{range_accepts}
 use Rattle.nodejs_semver.proofs.{Bounds.TableRows.table-interval, Common.{Bool, Comparator, IsBlank, IsCutAtBars, IsTrim, IsUtf8, List}}
 use Rattle.nodejs_semver.proofs.Common.{MAX_SAFE_INTEGER, Means, None, Option, Partial, Run, Some, Span, VersionValue, Word, [], above, accepts}
 use Rattle.nodejs_semver.proofs.Common.{and_parts, any_weaker, ap, append-nil, append_assoc, ap₂, arith, at_most, begins, cases_Bool, codes}
@@ -325,4 +326,4 @@ here-means text here list v u m k = ap (λ l. accepts l v false) (meaning.same_m
 pub there-means : (text : List ℕ) (there : List (Span VersionValue)) (all : List (List Comparison)) (v : VersionValue)
     → IsUtf8 text → IsRangeIn false MAX_SAFE_INTEGER false text there → HasAlternativesIn false MAX_SAFE_INTEGER false text all
     → accepts there v false ≡ Ranges.accepts false all v
-there-means text there all v u r k = r.accepted v ∙ ap (λ l. Ranges.accepts false l v) (alternatives_once _ _ _ _ _ _ u r.has k)
+there-means text there all v u r k = range_accepts _ _ _ _ _ r v ∙ ap (λ l. Ranges.accepts false l v) (alternatives_once _ _ _ _ _ _ u r.has k)

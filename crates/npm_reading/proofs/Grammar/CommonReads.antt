@@ -5,8 +5,9 @@ use Rattle.nodejs_semver.proofs.Common.{common_steps, cond_some, cut_bars, drop,
 use Rattle.nodejs_semver.proofs.Common.{length-append, list_all, list_all-append, nat_tests, option_to_list, precedence, refl, release_value, subst}
 use Rattle.nodejs_semver.proofs.{Common.{sym, take, trim, trim_is_middle, true, ℕ, ◌++◌, ◌-◌, ◌<◌, ◌∙◌, ◌∷◌, ◌≡◌, ◌≤◌, ◌⊎◌}, Everyday.Parts.HasBars}
 use Rattle.nodejs_semver.proofs.Everyday.{Parts.{bars-sound, behind-bars}, Texts.{compact-trim, cut-first, cut-last}, Words.{Compact, compact-spaced}}
-use Rattle.{nodejs_semver.{proofs.Everyday.Words.is_part_byte, specs.Text.Common.IsGap}, npm_reading.proofs.Grammar.RangeReads.found_spans}
-use Rattle.npm_reading.{proofs.Grammar.RangeReads.ranged_range, specs.Internal.{Alternatives.{AcceptAsRanged, ranged}, Fronts.{AreIn, AreJoined}}}
+use Rattle.{nodejs_semver.{proofs.Everyday.Words.is_part_byte, specs.Text.Common.IsGap}, npm_reading.proofs.Grammar.RangeReads.found-cons}
+use Rattle.npm_reading.proofs.Grammar.Intervals.{ranged-found}
+use Rattle.npm_reading.{proofs.Grammar.RangeReads.ranged_range, specs.Internal.{Alternatives.ranged, Fronts.{AreIn, AreJoined}}}
 use Rattle.npm_reading.specs.Internal.{Fronts.{AreParts, IsLeft, IsPartAt, IsSignAt, IsTried, IsWordAt, is_word_byte}, Reads.AreFound}
 use Rattle.{npm_reading.specs.Ranges.IsRangeIn, npm_words.proofs.Common.{AreAlternatives, AreRead, AreWords, BeginsWord, Comparison, IsPlaces}}
 use Rattle.npm_words.proofs.Common.{IsSignText, IsWord, are_marks, are_normal, capped_partial, comparators_of, dotted_patch, dotted_place, first_as}
@@ -291,9 +292,7 @@ joined include text rest s p pieces others piece ss e t u f =
     let is_trim : IsTrim piece p.part = subst (λ (t : List ℕ). IsTrim piece t) t (trim_is_middle piece v.0) in
     let cs = comparators_of p.read in
     let k = f v.1 in
-    let o = interval precedence s in
-    let found : AreFound include (cs ∷ k.alternatives) (option_to_list o ++ ss) =
-    record { intervals = o ∷ k.found.intervals; narrowed = (narrowed include cs s p.are.1, k.found.narrowed); are = cc k.found.are } in
+    let found = found-cons include k.alternatives cs (interval precedence s) ss k.found (narrowed include cs s p.are.1) in
     let each = rw (strict-kept include p.part p.read p.is) at (Npm.next piece p.part others (is_lost p.read) cs k.alternatives
     (Npm.words p.part p.read (hyphen_none-strict include p.part p.read (trim-utf8 piece p.part v.0 is_trim) p.is) p.is) is_trim k.each) in
     rw e (record { alternatives = cs ∷ k.alternatives; each = each; valid = rw (p.are.0, k.valid) refl; found = found }, refl)
@@ -306,7 +305,7 @@ all-at include text gap ss g (Fronts.one t s p) u =
     ∙ cut-last (gap ++ p.part) (all-join is_part_byte gap p.part (gap-bytes gap g) c.each) in
     rw (append-nil (option_to_list (interval precedence s))) at (joined include t [] s p _ [] (gap ++ p.part) [] cut
     (rw append-nil at (compact-trim gap p.part [] g (inl refl) c)) u
-    (λ _. record { alternatives = []; each = Npm.none; valid = refl; found = record { intervals = []; narrowed = tt; are = refl } }))
+    (λ _. record { alternatives = []; each = Npm.none; valid = refl; found = record { are = refl; spans = refl } }))
 all-at include text gap ss g (Fronts.more t behind next s more p bars h) u =
     let c = compact-of include t behind s p in
     let b = bars-sound behind next bars in
@@ -325,11 +324,17 @@ text-at include text ss u h = all-at include text [] ss (inl refl) h (pieces-utf
 
 -- the range of a common text
 pub common-range : (include : Bool) (text : List ℕ) (found range : List (Span VersionValue)) → IsUtf8 text → AreParts include text found
-    → AcceptAsRanged found range → IsRangeIn false MAX_SAFE_INTEGER include text range
-common-range include text found range u h a = grind (arith, nat_tests, common_steps, text-at, cut_bars, bars_divide)
+    → range ≡ ranged found → IsRangeIn false MAX_SAFE_INTEGER include text range
+common-range include text found range u h a =
+    let k = text-at include text found u h in
+    record {
+      alternatives = k.0.alternatives;
+      has = record { parts = cut_bars false text; divided = bars_divide text; each = k.0.each; some = k.1; valid = k.0.valid };
+      is = a ∙ ranged-found include k.0.alternatives found k.0.found;
+    }
 
 pub common-spans : (include : Bool) (text : List ℕ) (found range : List (Span VersionValue)) → IsUtf8 text → AreParts include text found
     → range ≡ ranged found → IsRange MAX_SAFE_INTEGER range
 common-spans include text found range u h e =
     let k = (text-at include text found u h).0 in
-    rw e (ranged_range found (found_spans include k.alternatives k.found.intervals found k.found.narrowed k.found.are))
+    rw e (ranged_range found k.found.spans)

@@ -6,8 +6,8 @@ use Rattle.nodejs_semver.proofs.Common.{drop_spaces, false, flat_map, holds, if�
 use Rattle.nodejs_semver.proofs.Common.{is_some, later_parts, length, length-append, lets_in, list_all, list_all-append, list_any, list_any-append}
 use Rattle.nodejs_semver.proofs.Common.{nat_tests, not, not-true, option_to_list, parts, precedence, refl, same_Some, subst, sym, true, ℕ, ◌&&◌, ◌++◌}
 use Rattle.{nodejs_semver.proofs.Common.{◌+◌, ◌<◌, ◌||◌, ◌∙◌, ◌∷◌, ◌≡◌, ◌≤◌}, npm_reading.proofs.Grammar.WordLoop.{AreWordsTo, first-none}}
-use Rattle.npm_reading.{proofs.Grammar.WordLoop.{valid-found, words-end, words-next, words-none}, specs.Internal.Alternatives.AcceptAsRanged}
-use Rattle.npm_reading.specs.Internal.{Alternatives.{AreNarrowed, NarrowedBy, nothing, ranged}, Reads.{AddsPart, AreAllFound, AreFound, IsFound}}
+use Rattle.npm_reading.{proofs.Grammar.WordLoop.{valid-found, words-end, words-next, words-none}, specs.Internal.Alternatives.ranged}
+use Rattle.npm_reading.specs.Internal.{Alternatives.NarrowedBy, Reads.{AddsPart, AreAllFound, AreFound, IsFound}}
 use Rattle.npm_reading.specs.Internal.Reads.{IsStep, first_valid, valid_all, valid_alternative, valid_alternatives, valid_first, valid_range}
 use Rattle.npm_reading.specs.{Internal.Reads.words_of, Ranges.IsRangeIn, Readings.{OfAccepted, ReadText}}
 use Rattle.{npm_reading.specs.declared.alternatives.Alternative.Alternative, npm_words.proofs.Common.{Comparison, Ended, HasAlternativesIn}}
@@ -15,71 +15,16 @@ use Rattle.npm_words.proofs.Common.{IsNarrowed, alternative_of, alternatives_of,
 use Rattle.npm_words.proofs.Common.{first_word, hyphen_ends, hyphen_of, is_free_lower, is_free_upper, is_lost, is_right, is_short_word, is_unbounded}
 use Rattle.npm_words.proofs.Common.{is_valid, kept, lower_of, meets, signed_front_view, signed_word, upper_of, valid_one, words_of_all, words_within}
 use Rattle.npm_words.proofs.Grammar.{AlternativeLaw.alternatives_are, Hyphens.{both_capped, hyphen-capped}, Printed.{capped-valid, table-invalid}}
-use Rattle.npm_words.{proofs.Grammar.Printed.valid-same, specs.{Alternatives.names, Table.{Partial, lowest, table}, declared.words.Signed.Signed}}
+use Rattle.npm_words.{proofs.Grammar.Printed.valid-same, specs.{Table.{Partial, lowest, table}, declared.words.Signed.Signed}}
 use Rattle.semver_core.{proofs.Dividing.BarsDivide.bars_once, specs.{Failures.{NoValue, RefusedOnlyIf}, Internal.Reading.◌>>?◌}}
 use Rattle.std.specs.Prelude.{is_none}
+use Rattle.npm_reading.proofs.Grammar.Intervals.{narrowed-interval, range_accepts, ranged-found}
+use Rattle.npm_words.proofs.Common.{ap₂}
+use Rattle.npm_words.specs.Alternatives.{interval_in}
+use Rattle.nodejs_semver.proofs.Common.{interval, is_interval}
+use Rattle.std.specs.List.{cons_option, filter_map}
+use Rattle.std.proofs.lemmas.List.Elements.{filter_map-append}
 use Rattle.npm_words.specs.Internal.Words as Words
-use Rattle.npm_words.specs.Alternatives as Npm
-
--- ---- the intervals of alternatives accept what the alternatives do
-
--- the span holds v, and lets it in or pre-releases are included
-abbrev lets : Bool → VersionValue → Span VersionValue → Bool
-lets include v s = holds precedence s v && (include || lets_in s v)
-
-held_let : (h l r i n : Bool) → (h ≡ true → l ≡ (r || n)) → ((h && (i || l)) || false) ≡ (h && (r || (i || n)))
-held_let h l r i n f = grind arith
-
-one_accepts : (include : Bool) (v : VersionValue) (cs : List Comparison) (o : Option (Span VersionValue)) → IsNarrowed include cs o
-    → list_any (lets include v) (option_to_list o) ≡ meets include v (counted include cs)
-one_accepts include v cs None h = rw (h v) refl
-one_accepts include v cs (Some s) h =
-    rw (← h.0.held v) (held_let (holds precedence s v) (lets_in s v) (is_release v) include (list_any (names v) (counted include cs)) (h.0.let_in v))
-
-uncounted : (include : Bool) (cs : List Comparison) → list_any (counts include) cs ≡ false → counted include cs ≡ []
-uncounted include [] h = refl
-uncounted include (c ∷ cs) h = grind (arith, nat_tests, common_steps, uncounted include cs)
-
-zero : VersionValue
-zero = lowest (0, 0, 0)
-
-one_open : (include : Bool) (cs : List Comparison) (o : Option (Span VersionValue)) → IsNarrowed include cs o
-    → list_any is_unbounded (option_to_list o) ≡ not (list_any (counts include) cs)
-one_open include cs None h = grind (arith, uncounted include cs, h zero)
-one_open include cs (Some s) h = grind (arith, h.0.unbounded)
-
--- a test of the intervals that each of them passes where its alternative passes another
-any_narrowed : (include : Bool) (p : Span VersionValue → Bool) (q : List Comparison → Bool)
-    → ((cs : List Comparison) (o : Option (Span VersionValue)) → IsNarrowed include cs o → list_any p (option_to_list o) ≡ q cs)
-    → (alternatives : List (List Comparison)) (os : List (Option (Span VersionValue))) → AreNarrowed include alternatives os
-    → list_any p (flat_map option_to_list os) ≡ list_any q alternatives
-any_narrowed include p q f [] [] h = refl
-any_narrowed include p q f (cs ∷ rest) (o ∷ os) h = grind (arith, list_any-append, f cs o h.0, any_narrowed include p q f rest os h.1)
-any_narrowed include p q f _ _ h = absurd h
-
-least : (v : VersionValue) → is_past precedence (Beside (lowest (0, 0, 0)) false) v ≡ true
-least v = (grind arith)
-
--- what an alternative without comparators accepts
-open_meets : (v : VersionValue) (cs : List Comparison) → not (list_any (counts true) cs) ≡ true → meets true v (counted true cs) ≡ true
-open_meets v cs h = grind (arith, nat_tests, common_steps, uncounted)
-
-open_accepts : (include : Bool) (v : VersionValue) (alternatives : List (List Comparison))
-    → list_any (λ cs. not (list_any (counts include) cs)) alternatives ≡ true
-    → accepts any_version v include ≡ Npm.accepts include alternatives v
-open_accepts true v alternatives h = sym (any_weaker _ (λ cs. meets true v (counted true cs)) (open_meets v) alternatives h)
-open_accepts false v alternatives h = rw h (grind arith)
-
-none_or_some : (ss : List (Span VersionValue)) (v : VersionValue) (include : Bool)
-    → accepts (if is_empty ss then nothing ∷ [] else ss) v include ≡ accepts ss v include
-none_or_some [] v include = rw (least v) refl
-none_or_some (s ∷ ss) v include = refl
-
-pub ranged_list : (found ss : List (Span VersionValue)) → ss ≡ ranged found → AcceptAsRanged found ss
-ranged_list found ss e include alternatives os h f v =
-    let open_same = any_narrowed include is_unbounded (λ cs. not (list_any (counts include) cs)) (one_open include) alternatives os h in
-    let same = any_narrowed include (lets include v) (λ cs. meets include v (counted include cs)) (one_accepts include v) alternatives os h in
-    rw (e, f) (grind (arith, open_same, same, open_accepts, none_or_some))
 
 -- one interval is kept, since one without bounds is any version
 pub ranged_one : (found : List (Span VersionValue)) → length found ≡ 1 → found ≡ ranged found
@@ -88,18 +33,6 @@ ranged_one [] h = absurd (omega (arith, h))
 ranged_one (s ∷ (t ∷ ss)) h = absurd (omega (arith, h))
 
 -- ---- such a list of intervals is that of a range
-
-one_span : (include : Bool) (cs : List Comparison) (o : Option (Span VersionValue)) → IsNarrowed include cs o
-    → list_all (is_range_span (MAX_SAFE_INTEGER + 1)) (option_to_list o) ≡ true
-one_span include cs None h = refl
-one_span include cs (Some s) h = rw (h.1, h.0.lower, h.0.upper) refl
-
-pub found_spans : (include : Bool) (alternatives : List (List Comparison)) (os : List (Option (Span VersionValue)))
-    (found : List (Span VersionValue)) → AreNarrowed include alternatives os → found ≡ flat_map option_to_list os
-    → list_all (is_range_span (MAX_SAFE_INTEGER + 1)) found ≡ true
-found_spans include [] [] found h e = rw e refl
-found_spans include (cs ∷ rest) (o ∷ os) found h e = grind (arith, list_all-append, one_span, found_spans include rest os)
-found_spans include _ _ found h e = absurd h
 
 pub ranged_range : (found : List (Span VersionValue)) → list_all (is_range_span (MAX_SAFE_INTEGER + 1)) found ≡ true → IsRange MAX_SAFE_INTEGER (ranged found)
 ranged_range found h = grind (arith, nat_tests, common_steps)
@@ -240,15 +173,34 @@ found-some include (Some c) a h = (c, refl, h)
 
 -- ---- one alternative more
 
-narrowed-append : (include : Bool) (ls : List (List Comparison)) (os : List (Option (Span VersionValue))) (cs : List Comparison)
-    (o : Option (Span VersionValue)) → AreNarrowed include ls os → IsNarrowed include cs o → AreNarrowed include (ls ++ cs ∷ []) (os ++ o ∷ [])
-narrowed-append include [] [] cs o h k = (k, tt)
-narrowed-append include (c ∷ ls) (p ∷ os) cs o h k = (h.0, narrowed-append include ls os cs o h.1 k)
-narrowed-append include _ _ cs o h k = absurd h
+one-span : (include : Bool) (cs : List Comparison) (o : Option (Span VersionValue)) → IsNarrowed include cs o
+    → list_all (is_range_span (MAX_SAFE_INTEGER + 1)) (option_to_list o) ≡ true
+one-span include cs o h = rw h.is (cond_both (is_interval precedence h.span) (Some h.span) None
+    (λ m. list_all (is_range_span (MAX_SAFE_INTEGER + 1)) (option_to_list m) ≡ true) (λ i. rw (i, h.has.lower, h.has.upper) refl) (λ _. refl))
 
-flat-append : (os : List (Option (Span VersionValue))) (o : Option (Span VersionValue))
-    → flat_map option_to_list (os ++ o ∷ []) ≡ flat_map option_to_list os ++ option_to_list o
-flat-append os o = grind (arith, nat_tests, common_steps)
+cons-append : (o : Option (Span VersionValue)) (ss : List (Span VersionValue)) → cons_option o ss ≡ option_to_list o ++ ss
+cons-append None ss = refl
+cons-append (Some s) ss = refl
+
+-- an alternative behind others, and before them
+found-append : (include : Bool) (ls : List (List Comparison)) (cs : List Comparison) (o : Option (Span VersionValue))
+    (before after : List (Span VersionValue)) → AreFound include ls before → IsNarrowed include cs o → after ≡ before ++ option_to_list o
+    → AreFound include (ls ++ cs ∷ []) after
+found-append include ls cs o before after h k e = record {
+  are = e ∙ ap₂ (λ (x y : List (Span VersionValue)). x ++ y) h.are
+      (ap (λ m. option_to_list m) (narrowed-interval include cs o k) ∙ sym (cons-append (interval_in include cs) [] ∙ append-nil _))
+      ∙ sym (filter_map-append (interval_in include) ls (cs ∷ []));
+  spans = rw (e, list_all-append (is_range_span (MAX_SAFE_INTEGER + 1)) before (option_to_list o), h.spans, one-span include cs o k) refl;
+}
+
+pub found-cons : (include : Bool) (ls : List (List Comparison)) (cs : List Comparison) (o : Option (Span VersionValue))
+    (others : List (Span VersionValue)) → AreFound include ls others → IsNarrowed include cs o
+    → AreFound include (cs ∷ ls) (option_to_list o ++ others)
+found-cons include ls cs o others h k = record {
+  are = ap₂ (λ (m : Option (Span VersionValue)) (l : List (Span VersionValue)). option_to_list m ++ l) (narrowed-interval include cs o k) h.are
+      ∙ sym (cons-append (interval_in include cs) _);
+  spans = rw (list_all-append (is_range_span (MAX_SAFE_INTEGER + 1)) (option_to_list o) others, h.spans, one-span include cs o k) refl;
+}
 
 -- one part more, which is lost or not
 pub part-lost : (include : Bool) (o : Option (Bool × List Comparison)) (a : Alternative) (was : Bool) (before : List (Span VersionValue))
@@ -260,11 +212,7 @@ pub part-added : (include : Bool) (o : Option (Bool × List Comparison)) (a : Al
 part-added include (Some (true, cs)) a was before after h l e = cc (h.1, l)
 part-added include (Some (false, cs)) a was before after h l e = (
   refl,
-  λ ls k. record {
-    intervals = k.intervals ++ a.interval ∷ [];
-    narrowed = narrowed-append include ls k.intervals cs a.interval k.narrowed h.0;
-    are = e ∙ ap (λ (l : List (Span VersionValue)). l ++ option_to_list a.interval) k.are ∙ sym (flat-append k.intervals a.interval);
-  },
+  λ ls k. found-append include ls cs a.interval before after k h.0 e,
 )
 part-added include None a was before after h l e = h
 
@@ -372,10 +320,19 @@ none-read loose include text u h ls has =
     let k = (alternatives_are loose MAX_SAFE_INTEGER include text ls u).0 has in
     grind (arith, nat_tests, common_steps, all-valid)
 
+has-read : (loose include : Bool) (text : List ℕ) (all : List (List Comparison)) → IsUtf8 text
+    → valid_range loose include text ≡ Some all → HasAlternativesIn loose MAX_SAFE_INTEGER include text all
+has-read loose include text all u h = grind (arith, nat_tests, common_steps, cond_some, not, all-valid, not-true, alternatives_are)
+
 pub range-read : (loose include : Bool) (text : List ℕ) (found range : List (Span VersionValue)) → IsUtf8 text
-    → AreAllFound include (valid_range loose include text) found → AcceptAsRanged found range
+    → AreAllFound include (valid_range loose include text) found → range ≡ ranged found
     → IsRangeIn loose MAX_SAFE_INTEGER include text range
-range-read loose include text found range u h a = grind (arith, nat_tests, common_steps, cond_some, not, all-valid, not-true, alternatives_are)
+range-read loose include text found range u h a = go (valid_range loose include text) refl h
+  where
+    go : (o : Option (List (List Comparison))) → valid_range loose include text ≡ o → AreAllFound include o found
+        → IsRangeIn loose MAX_SAFE_INTEGER include text range
+    go None e k = absurd k
+    go (Some all) e k = record { alternatives = all; has = has-read loose include text all u e; is = a ∙ ranged-found include all found k }
 
 pub refused-none : (loose : Bool) {A E : Type 0} (r : Result A (Failure E)) (include : Bool) (text : List ℕ) → IsUtf8 text
     → RefusedOnlyIf r (valid_range loose include text ≡ None) → RefusedOnlyIf r (NoValue (HasAlternativesIn loose MAX_SAFE_INTEGER include text))
@@ -387,9 +344,9 @@ memory-pieces r text k = grind (arith, nat_tests, common_steps, bars_once)
 
 pub all-spans : (loose include : Bool) (text : List ℕ) (found : List (Span VersionValue)) → AreAllFound include (valid_range loose include text) found
     → list_all (is_range_span (MAX_SAFE_INTEGER + 1)) found ≡ true
-all-spans loose include text found h = grind (arith, nat_tests, common_steps, found_spans)
+all-spans loose include text found h = grind (arith, nat_tests, common_steps)
 
 pub of_accepted : {Holds : (VersionValue → Bool) → Type 0} (r : ReadText) (range : List (Span VersionValue))
     → IsRangeIn r.reading.loose MAX_SAFE_INTEGER r.reading.include_prerelease r.text range
     → Holds (λ v. accepts range v r.reading.include_prerelease) → OfAccepted MAX_SAFE_INTEGER r Holds
-of_accepted {Holds} r range h k = record { alternatives = h.alternatives; has = h.has; holds = subst Holds (λ i v. h.accepted v i) k }
+of_accepted {Holds} r range h k = record { alternatives = h.alternatives; has = h.has; holds = subst Holds (λ i v. range_accepts _ _ _ _ _ h v i) k }

@@ -10,7 +10,7 @@ use Rattle.nodejs_semver.specs.Text.PartialText as Here
 use Rattle.nodejs_semver.specs.Text.Table as Spans
 use Rattle.semver_core.specs.Values.Spans as Sides
 
-abbrev limit : ℕ
+abbrev pub limit : ℕ
 limit = 9007199254740991
 
 abbrev part : ℕ → Partial
@@ -46,7 +46,7 @@ none_is : IsBlank []
 none_is = record { characters = []; each = refl; spelled = refl }
 
 -- from a release to below the least pre-release of another one
-abbrev band : ℕ → ℕ → Span VersionValue
+abbrev pub band : ℕ → ℕ → Span VersionValue
 band M n = record { lower = Before (release_value M 0 0); upper = Before (Spans.lowest n 0 0) }
 
 -- such whitespace, and a text between two of them
@@ -69,7 +69,7 @@ trim_is before text after b a h k e f = record {
 }
 
 -- `^1  ||>2   < 4 ~v3 ||` is `>=1.0.0 <2.0.0-0 || >=3.0.0 <4.0.0-0 >=3.0.0 <4.0.0-0 ||` to node-semver, and here `< 4` is below 4.0.0
-row-words : IsPlainText limit (codes "^1  ||>2   < 4 ~v3 ||") (band 1 2 ∷ (band 3 4 ∷ any_version))
+pub row-words : IsPlainText limit (codes "^1  ||>2   < 4 ~v3 ||") (band 1 2 ∷ (band 3 4 ∷ any_version))
     ((from false (1, 0, 0) ∷ (under (2, 0, 0) ∷ []))
     ∷ ((from false (3, 0, 0) ∷ (under (4, 0, 0) ∷ (from false (3, 0, 0) ∷ (under (4, 0, 0) ∷ [])))) ∷ ([] ∷ [])))
 unfolding digits Spans.table encode_utf8 written_zeros
@@ -117,7 +117,7 @@ row-bars = record {
 }
 
 -- a hyphen range with more whitespace
-row-hyphen : IsPlainText limit (codes "1  - v3") (band 1 4 ∷ []) ((from false (1, 0, 0) ∷ (under (4, 0, 0) ∷ [])) ∷ [])
+pub row-hyphen : IsPlainText limit (codes "1  - v3") (band 1 4 ∷ []) ((from false (1, 0, 0) ∷ (under (4, 0, 0) ∷ [])) ∷ [])
 unfolding digits Spans.table encode_utf8 written_zeros
 row-hyphen = record {
   pre = false;

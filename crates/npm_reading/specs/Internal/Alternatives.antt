@@ -1,8 +1,6 @@
 -- For proofs and private contracts. An alternative with the comparators of one more word.
-use Rattle.npm_words.specs.Alternatives as Npm
 use Rattle.std.specs.Prelude.{◌≡◌, ◌++◌, Bool, true, false, List, [], ◌∷◌, Option, Some, None, if◌then◌else◌}
-use Rattle.std.specs.List.{flat_map, list_all, list_any}
-use Rattle.std.specs.Option.{option_to_list}
+use Rattle.std.specs.List.{list_all, list_any}
 use Rattle.semver_core.specs.Cuts.{Span}
 use Rattle.semver_core.specs.Lists.{is_empty}
 use Rattle.semver_core.specs.Values.Versions.{VersionValue}
@@ -11,7 +9,6 @@ use Rattle.semver_core.specs.declared.cuts.bound.Bound.TheVariants.{Before, Unbo
 use Rattle.npm_words.specs.Internal.Meaning.{IsNarrowed, is_unbounded}
 use Rattle.npm_words.specs.Alternatives.{is_valid}
 use Rattle.npm_words.specs.Table.{Comparison, lowest}
-use Rattle.nodejs_semver.specs.Ranges.Gate.{accepts}
 use Rattle.nodejs_semver.specs.Ranges.View.{any_version}
 use Rattle.npm_reading.specs.declared.alternatives.Alternative.{Alternative}
 
@@ -21,12 +18,6 @@ NarrowedBy include before ds None = list_all (is_valid MAX_SAFE_INTEGER) ds ≡ 
 NarrowedBy include before ds (Some a) = (list_all (is_valid MAX_SAFE_INTEGER) ds ≡ true)
     × ((cs : List Comparison) → IsNarrowed include cs before → IsNarrowed include (cs ++ ds) a.interval)
 
--- the intervals of alternatives, one after another
-abbrev pub AreNarrowed : Bool → List (List Comparison) → List (Option (Span VersionValue)) → Type 0
-AreNarrowed include [] [] = Unit {0}
-AreNarrowed include (cs ∷ rest) (o ∷ os) = IsNarrowed include cs o × AreNarrowed include rest os
-AreNarrowed include cs os = ⊥
-
 -- `<0.0.0-0`, below which no version is
 abbrev pub nothing : Span VersionValue
 nothing = record { lower = Unbounded; upper = Before (lowest (0, 0, 0)) }
@@ -35,11 +26,3 @@ nothing = record { lower = Unbounded; upper = Before (lowest (0, 0, 0)) }
 -- nothing where there is none
 abbrev pub ranged : List (Span VersionValue) → List (Span VersionValue)
 ranged ss = if list_any is_unbounded ss then any_version else if is_empty ss then nothing ∷ [] else ss
-
--- where the first list are the intervals of alternatives, the second accepts what the alternatives
--- do
-abbrev pub AcceptAsRanged : List (Span VersionValue) → List (Span VersionValue) → Type 0
-AcceptAsRanged found ss = (include : Bool) → (alternatives : List (List Comparison))
-    → (os : List (Option (Span VersionValue))) → AreNarrowed include alternatives os
-    → found ≡ flat_map option_to_list os
-    → (v : VersionValue) → accepts ss v include ≡ Npm.accepts include alternatives v

@@ -1,21 +1,22 @@
 -- For proofs and private contracts. What the readers of node-semver's range texts find, by the
 -- comparators.
-use Rattle.std.specs.Prelude.{◌≡◌, ◌&&◌, not, if◌then◌else◌, true, false, Bool, List, [], ◌∷◌, ◌++◌, ℕ}
-use Rattle.std.specs.Prelude.{Option, Some, None, length, flat_map, is_none}
+use Rattle.std.specs.Prelude.{◌≡◌, ◌&&◌, ◌+◌, not, if◌then◌else◌, true, false, Bool, List, [], ◌∷◌, ◌++◌, ℕ}
+use Rattle.std.specs.Prelude.{Option, Some, None, length, is_none}
 use Rattle.std.specs.Borrow.{Bor}
-use Rattle.std.specs.List.{list_all}
-use Rattle.std.specs.Option.{option_to_list, unwrap_or}
+use Rattle.std.specs.List.{filter_map, list_all}
+use Rattle.std.specs.Option.{unwrap_or}
+use Rattle.nodejs_semver.specs.Words.{is_range_span}
 use Rattle.semver_core.specs.Cuts.{Span}
 use Rattle.semver_core.specs.Internal.Reading.{◌>>?◌}
 use Rattle.semver_core.specs.Values.Versions.{VersionValue}
 use Rattle.semver_core.specs.declared.TheConstants.{MAX_SAFE_INTEGER}
-use Rattle.npm_reading.specs.Internal.Alternatives.{AreNarrowed, NarrowedBy}
+use Rattle.npm_reading.specs.Internal.Alternatives.{NarrowedBy}
 use Rattle.npm_words.specs.Internal.Meaning.{IsNarrowed}
 use Rattle.npm_words.specs.Internal.Words.{alternative_of, first_word, kept, words_within}
 use Rattle.semver_core.specs.Internal.Parts.{parts}
 use Rattle.semver_core.specs.Lists.{is_empty}
 use Rattle.npm_words.specs.RangeText.{comparators_of}
-use Rattle.npm_words.specs.Alternatives.{is_valid}
+use Rattle.npm_words.specs.Alternatives.{interval_in, is_valid}
 use Rattle.npm_words.specs.Table.{Comparison}
 use Rattle.npm_reading.specs.declared.alternatives.Alternative.{Alternative}
 use Rattle.npm_words.specs.Internal.Reads.{valid_one}
@@ -57,13 +58,12 @@ valid_alternatives loose include [] = Some []
 valid_alternatives loose include (text ∷ texts) = valid_alternative loose include text >>? λ a.
     valid_alternatives loose include texts >>? λ rest. Some (kept a rest)
 
--- the intervals of some alternatives, of those that have one
+-- the intervals of some alternatives, of those that have one, such as a range may have
 pub record AreFound (include : Bool) (alternatives : List (List Comparison))
     (found : List (Span VersionValue))
     : Type 0 where
-  pub intervals : List (Option (Span VersionValue))
-  pub narrowed : AreNarrowed include alternatives intervals
-  pub are : found ≡ flat_map option_to_list intervals
+  pub are : found ≡ filter_map (interval_in include) alternatives
+  pub spans : list_all (is_range_span (MAX_SAFE_INTEGER + 1)) found ≡ true
 
 -- one part more with these comparators, which may be lost. The flags say whether there was an
 -- alternative before it, and with it.

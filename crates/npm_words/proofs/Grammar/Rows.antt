@@ -9,10 +9,18 @@ use Rattle.npm_words.proofs.Common.{is_range_bound, is_readable, is_valid, is_ze
 use Rattle.npm_words.proofs.Common.{list_any, list_any-append, lower_cut, made, nat_le, nat_tests, next_changed, not, option_holds-interval}
 use Rattle.npm_words.proofs.Common.{precedence, precedence_total, refl, satisfies, sym, true, under, upper_cut, version_text, whole, within, ℕ, ◌&&◌}
 use Rattle.npm_words.proofs.{Common.{◌++◌, ◌+◌, ◌||◌, ◌∙◌, ◌∷◌, ◌≡◌, ◌≤◌, ◌⊎◌}, Grammar.Printed.{from_valid, prints_zero, under_valid}}
-use Rattle.npm_words.specs.{Alternatives.names, Internal.{Alternatives.met, Meaning.{is_open, is_part}, Parts.{AreZeros, has_no_comparators}}}
+use Rattle.npm_words.specs.{Alternatives.names, Internal.{Alternatives.met, Meaning.is_part, Parts.{AreZeros, has_no_comparators}}}
 use Rattle.npm_words.specs.{Internal.Parts.{is_padded, no_build, noted}, Table.{Partial, Sign, caret, lowest, next, table, tilde, written_zeros}}
 use Rattle.semver_core.proofs.{CutLaws.{is_past-greater_lower, is_past-lesser_upper}, Gate.{both, lets_in-meet, lets_in_one, past-after, past-before}}
 use Rattle.semver_core.specs.Values.Versions.{IsVersion}
+use Rattle.npm_words.specs.Alternatives.{common, satisfying}
+use Rattle.npm_words.specs.Internal.Meaning.{common_in}
+use Rattle.npm_words.specs.Table.{unbuilt}
+use Rattle.semver_core.specs.Cuts.{Cut, cut_cmp}
+use Rattle.semver_core.proofs.CutLaws.{between, cut_total, gt_lt, lt_trans}
+use Rattle.std.specs.Cmp.{upto}
+use Rattle.std.proofs.lemmas.List.{map-append}
+use Rattle.npm_words.proofs.Common.{cases_Bool, inr, if◌then◌else◌, map}
 use Rattle.semver_core.specs.Values.Spans as Spans
 
 -- ---- where a word has no comparators
@@ -22,52 +30,39 @@ table-bare include s p text = grind (arith, nat_tests, common_steps)
 
 -- ---- one comparator
 
--- the versions that one comparator lets in
-abbrev pub compared_span : Comparator → VersionValue → Span VersionValue
-compared_span at_least w = Spans.>= w
-compared_span above w = Spans.> w
-compared_span equal w = record { lower = Before w; upper = After w }
-compared_span at_most w = Spans.<= w
-compared_span below w = Spans.< w
-
--- a comparator as it is written, whatever its build
-abbrev pub comparison : Comparator → VersionValue → List Id → List ℕ → Comparison
-comparison c w build text = record { sign = c; version = record w { build = build }; text = text }
-
-tests : (r : Ordering) → (not (is_ge r) ≡ is_lt r) × (not (is_gt r) ≡ is_le r) × ((is_ge r && not (is_gt r)) ≡ is_eq r)
-tests r = grind arith
-
-holds-compared : (c : Comparator) (w : VersionValue) (build : List Id) (text : List ℕ) (v : VersionValue)
-    → holds precedence (compared_span c w) v ≡ satisfies v (comparison c w build text)
-holds-compared at_least w build text v = grind (arith, past-before)
-holds-compared above w build text v = grind (arith, past-after)
-holds-compared equal w build text v = grind (arith, nat_tests, common_steps, ap₂, not, past-before, past-after, tests)
-holds-compared at_most w build text v = ap not (past-after w v) ∙ (tests (precedence v w)).1
-holds-compared below w build text v = ap not (past-before w v) ∙ (tests (precedence v w)).0
-
--- the bounds are of that version, whose numbers may be greater by one
-pub one_common : (include : Bool) (c : Comparator) (w : VersionValue) (build : List Id) (text : List ℕ)
-    → is_readable MAX_SAFE_INTEGER w ≡ true → counts include (comparison c w build text) ≡ true
-    → IsCommon include (comparison c w build text ∷ []) (compared_span c w)
-one_common include c w build text r h = record {
-  held = λ v. rw h (holds-compared c w build text v ∙ sym (and-true _));
-  let_in = λ v _. rw h (grind (arith, nat_tests, common_steps));
-  unbounded = rw h (grind arith);
-  lower = grind (arith, nat_tests, common_steps);
-  upper = grind (arith, nat_tests, common_steps);
-}
+-- a comparator as it is written
+abbrev pub comparison : Comparator → VersionValue → List ℕ → Comparison
+comparison c w text = record { sign = c; version = w; text = text }
 
 abbrev pub everything : Span VersionValue
 everything = record { lower = Unbounded; upper = Unbounded }
 
+open_upper : (b : Bound VersionValue) → greater_lower precedence b Unbounded ≡ b
+open_upper b = grind arith
+
+open_lower : (b : Bound VersionValue) → lesser_upper precedence b Unbounded ≡ b
+open_lower b = grind arith
+
+common-one : (s : Span VersionValue) → both s everything ≡ s
+common-one s = rw (open_upper s.lower, open_lower s.upper) refl
+
+counted-one : (include : Bool) (c : Comparison) → counts include c ≡ true → common_in include (c ∷ []) ≡ satisfying c
+counted-one include c h = rw h (common-one (satisfying c))
+
+-- the bounds are of that version, whose numbers may be greater by one
+pub one_common : (include : Bool) (c : Comparator) (w : VersionValue) (text : List ℕ)
+    → is_readable MAX_SAFE_INTEGER w ≡ true → counts include (comparison c w text) ≡ true
+    → IsCommon include (comparison c w text ∷ []) (satisfying (comparison c w text))
+one_common include c w text r h = record {
+  is = sym (counted-one include (comparison c w text) h);
+  lower = grind (arith, nat_tests, common_steps);
+  upper = grind (arith, nat_tests, common_steps);
+}
+
 pub uncounted_common : (include : Bool) (c : Comparison) → counts include c ≡ false → IsCommon include (c ∷ []) everything
-uncounted_common include c h = grind (arith, nat_tests, common_steps)
+uncounted_common include c h = record { is = rw h refl; lower = refl; upper = refl }
 
 -- ---- two lists
-
-opened : (b c : Bound VersionValue) → (is_open (greater_lower precedence b c) ≡ (is_open b && is_open c))
-    × (is_open (lesser_upper precedence b c) ≡ (is_open b && is_open c))
-opened b c = (grind arith, grind arith)
 
 -- the bounds of two spans together are bounds of these
 kept : (F : Bound VersionValue → Bool) (b c : Bound VersionValue) → F b ≡ true → F c ≡ true
@@ -87,51 +82,93 @@ pub lets_in-both : (s t : Span VersionValue) (v : VersionValue) → holds preced
     → lets_in (both s t) v ≡ (lets_in s v || lets_in t v)
 lets_in-both s t v h k = both_ways _ _ (lets_in_one s t v) (lets_in-meet s t v h k)
 
+gt_trans : (a b c : Cut VersionValue) → is_gt (cut_cmp precedence a b) ≡ true → is_gt (cut_cmp precedence b c) ≡ true
+    → is_gt (cut_cmp precedence a c) ≡ true
+gt_trans a b c p q = gt_lt precedence_total a c ∙ lt_trans precedence_total c b a (sym (gt_lt precedence_total b c) ∙ q) (sym (gt_lt precedence_total a b) ∙ p)
+
+upto_upto : (a b c : Cut VersionValue) → is_gt (cut_cmp precedence a b) ≡ false → is_gt (cut_cmp precedence b c) ≡ false
+    → is_gt (cut_cmp precedence a c) ≡ false
+upto_upto a b c p q = upto (cut_total precedence_total) a b c p q
+
+-- of three bounds it does not matter which two are compared first
+greater_of_three : (b c d : Bound VersionValue)
+    → greater_lower precedence b (greater_lower precedence c d) ≡ greater_lower precedence (greater_lower precedence b c) d
+greater_of_three b c d = elim (cases_Bool (is_gt (cut_cmp precedence (lower_cut b) (lower_cut c)))) [
+  | inl p ↦ elim (cases_Bool (is_gt (cut_cmp precedence (lower_cut c) (lower_cut d)))) [
+    | inl q ↦ rw (q, p, gt_trans (lower_cut b) (lower_cut c) (lower_cut d) p q) refl
+    | inr q ↦ rw (q, p) refl
+  ]
+  | inr p ↦ elim (cases_Bool (is_gt (cut_cmp precedence (lower_cut c) (lower_cut d)))) [
+    | inl q ↦ rw (q, p, q) refl
+    | inr q ↦ rw (q, p, q, upto_upto (lower_cut b) (lower_cut c) (lower_cut d) p q) refl
+  ]
+]
+
+lesser_of_three : (b c d : Bound VersionValue)
+    → lesser_upper precedence b (lesser_upper precedence c d) ≡ lesser_upper precedence (lesser_upper precedence b c) d
+lesser_of_three b c d = elim (cases_Bool (is_gt (cut_cmp precedence (upper_cut b) (upper_cut c)))) [
+  | inl p ↦ elim (cases_Bool (is_gt (cut_cmp precedence (upper_cut c) (upper_cut d)))) [
+    | inl q ↦ rw (q, p, q, gt_trans (upper_cut b) (upper_cut c) (upper_cut d) p q) refl
+    | inr q ↦ rw (q, p, q) refl
+  ]
+  | inr p ↦ elim (cases_Bool (is_gt (cut_cmp precedence (upper_cut c) (upper_cut d)))) [
+    | inl q ↦ rw (q, p) refl
+    | inr q ↦ rw (q, p, upto_upto (upper_cut b) (upper_cut c) (upper_cut d) p q) refl
+  ]
+]
+
+both-both : (s t u : Span VersionValue) → both s (both t u) ≡ both (both s t) u
+both-both s t u = rw (greater_of_three s.lower t.lower u.lower, lesser_of_three s.upper t.upper u.upper) refl
+
+both-everything : (s : Span VersionValue) → both everything s ≡ s
+both-everything s = grind arith
+
+common-append : (ss ts : List (Span VersionValue)) → common (ss ++ ts) ≡ both (common ss) (common ts)
+common-append [] ts = sym (both-everything (common ts))
+common-append (s ∷ ss) ts = ap (λ u. both s u) (common-append ss ts) ∙ both-both s (common ss) (common ts)
+
+no_more : {A : Type 0} (x : A) (a b : Bool) → None ≡ (if (a && (b && false)) then Some x else None)
+no_more x a b = grind arith
+
+-- what there is of both is what there is of each
+met-interval : (s t : Span VersionValue) → met (interval precedence s) (interval precedence t) ≡ interval precedence (both s t)
+met-interval s t = elim (cases_Bool (is_interval precedence s)) [
+  | inr p ↦ rw (between precedence_total s.lower t.lower s.upper t.upper, p) refl
+  | inl p ↦ elim (cases_Bool (is_interval precedence t)) [
+    | inr q ↦ rw (between precedence_total s.lower t.lower s.upper t.upper, p, q) (no_more (both s t) _ _)
+    | inl q ↦ rw (p, q) refl
+  ]
+]
+
 -- the interval of such a span
 pub narrowed : (include : Bool) (cs : List Comparison) (s : Span VersionValue) → IsCommon include cs s → IsNarrowed include cs (interval precedence s)
-narrowed include cs s h = cond_both (is_interval precedence s) (Some s) None (λ o. IsNarrowed include cs o) (λ i. (h, i))
-    (λ i v. sym (h.held v) ∙ sym (option_holds-interval precedence_total s v) ∙ rw i refl)
+narrowed include cs s h = record { span = s; has = h; is = refl }
 
 module _ (include : Bool) (cs ds : List Comparison) where
-  abbrev ours : List Comparison
-  ours = counted include cs
-
-  abbrev theirs : List Comparison
-  theirs = counted include ds
-
-  satisfied : (v : VersionValue) → list_all (satisfies v) (counted include (cs ++ ds)) ≡ (list_all (satisfies v) ours && list_all (satisfies v) theirs)
-  satisfied v = ap (λ l. list_all (satisfies v) l) (filter-append (counts include) cs ds) ∙ list_all-append (satisfies v) ours theirs
-
-  named_in : (v : VersionValue) → list_any (names v) (counted include (cs ++ ds)) ≡ (list_any (names v) ours || list_any (names v) theirs)
-  named_in v = ap (λ l. list_any (names v) l) (filter-append (counts include) cs ds) ∙ list_any-append (names v) ours theirs
+  common-both : common_in include (cs ++ ds) ≡ both (common_in include cs) (common_in include ds)
+  common-both = ap (λ l. common (map satisfying l)) (filter-append (counts include) cs ds)
+      ∙ ap (λ l. common l) (map-append satisfying (counted include cs) (counted include ds))
+      ∙ common-append (map satisfying (counted include cs)) (map satisfying (counted include ds))
 
   pub both_common : (s t : Span VersionValue) → IsCommon include cs s → IsCommon include ds t → IsCommon include (cs ++ ds) (both s t)
   both_common s t h k = record {
-    held = λ v. holds-both s t v ∙ ap₂ (λ (a b : Bool). a && b) (h.held v) (k.held v) ∙ sym (satisfied v);
-    let_in = λ v e.
-        let (a, b) = and_parts _ _ (sym (holds-both s t v) ∙ e) in
-        let l = h.let_in v a in
-        let m = k.let_in v b in
-        grind (arith, lets_in-both, named_in);
-    unbounded = rw ((opened s.lower t.lower).0, (opened s.upper t.upper).1, list_any-append (counts include) cs ds)
-        (neither (is_open s.lower) (is_open s.upper) (is_open t.lower) (is_open t.upper) _ _ h.unbounded k.unbounded);
+    is = ap₂ both h.is k.is ∙ sym common-both;
     lower = (kept (is_range_bound (MAX_SAFE_INTEGER + 1)) s.lower t.lower h.lower k.lower).0;
     upper = (kept (is_range_bound (MAX_SAFE_INTEGER + 1)) s.upper t.upper h.upper k.upper).1;
   }
-    where
-      neither : (a b c d x y : Bool) → (a && b) ≡ not x → (c && d) ≡ not y → ((a && c) && (b && d)) ≡ not (x || y)
-      neither a b c d x y h k = grind arith
 
-  -- the bounds of more comparators, which may be no interval; where the cuts do not meet, no version satisfies all
+  -- the bounds of more comparators, which may be no interval
   pub met_common : (o m : Option (Span VersionValue)) → IsNarrowed include cs o → IsNarrowed include ds m → IsNarrowed include (cs ++ ds) (met o m)
-  met_common None m h k = λ v. satisfied v ∙ ap (λ a. a && list_all (satisfies v) theirs) (h v)
-  met_common (Some s) None h k = λ v. satisfied v ∙ rw (k v) (grind arith)
-  met_common (Some s) (Some t) h k = narrowed include (cs ++ ds) (both s t) (both_common s t h.0 k.0)
+  met_common o m h k = record {
+    span = both h.span k.span;
+    has = both_common h.span k.span h.has k.has;
+    is = ap₂ met h.is k.is ∙ met-interval h.span k.span;
+  }
 
 pub either_true : (a : Bool) → (a || true) ≡ true
 either_true a = grind arith
 
-zero_of : (v : VersionValue) → IsVersion v → bytes_eq (made at_least (no_build v)).text (codes "0.0.0") ≡ is_zero (no_build v)
+zero_of : (v : VersionValue) → IsVersion v → bytes_eq (unbuilt at_least v).text (codes "0.0.0") ≡ is_zero (no_build v)
 zero_of v h = prints_zero (no_build v) h.major h.minor h.patch
 
 -- the versions whose bounds are read
@@ -141,7 +178,7 @@ whole_readable v h k = grind arith
 -- `>=` of a version, whose numbers may be written otherwise
 module _ (include padded : Bool) (v : VersionValue) where
   abbrev low : Comparison
-  low = made at_least (no_build v)
+  low = unbuilt at_least v
 
   abbrev Reads : Span VersionValue → Comparison → Type 0
   Reads s c = IsCommon include (c ∷ []) s
@@ -155,8 +192,8 @@ module _ (include padded : Bool) (v : VersionValue) where
       cond_both (padded && bytes_eq low.text (codes "0.0.0")) (record low { text = codes "00.0.0" }) low
       (λ c. counts include c ≡ true → Reads (Spans.>= v) c) (λ _. reads (codes "00.0.0")) (λ _. reads low.text) counted_low
     where
-      reads : (text : List ℕ) → counts include (comparison at_least v [] text) ≡ true → Reads (Spans.>= v) (comparison at_least v [] text)
-      reads text h = one_common include at_least v [] text (whole_readable v w n) h
+      reads : (text : List ℕ) → counts include (comparison at_least v text) ≡ true → Reads (Spans.>= v) (comparison at_least v text)
+      reads text h = one_common include at_least v text (whole_readable v w n) h
 
       counted_low : counts include (noted padded low) ≡ true
       counted_low = grind (arith, nat_tests, common_steps, zero_of)
@@ -169,10 +206,7 @@ pub noted_valid : (padded : Bool) (c : Comparison) → is_valid MAX_SAFE_INTEGER
 noted_valid padded c = grind (arith, nat_tests, common_steps, bytes_eq-Decides)
 
 pub under_common : (include : Bool) (n : Numbers) → within n ≡ true → IsCommon include (under n ∷ []) (Spans.< (lowest n))
-under_common include n w = one_common include below (lowest n) [] _ (whole_readable (lowest n) w refl) (either_true include)
-
-open_upper : (b : Bound VersionValue) → greater_lower precedence b Unbounded ≡ b
-open_upper b = grind arith
+under_common include n w = one_common include below (lowest n) _ (whole_readable (lowest n) w refl) (either_true include)
 
 pub until_common : (include : Bool) (c : Comparison) (b : Bound VersionValue) (n : Numbers) → within n ≡ true
     → IsCommon include (c ∷ []) (record { lower = b; upper = Unbounded })
@@ -220,15 +254,15 @@ module _ (include padded : Bool) (text : List ℕ) (p : Partial) (a b : Numbers)
 
 -- a comparator that always counts
 pub whole_written : (include : Bool) (c : Comparator) (v : VersionValue) (text : List ℕ) (s : Span VersionValue) → within (first (whole v)) ≡ true
-    → are_normal (whole v) ≡ true → length text ≤ MAX_LENGTH → s ≡ compared_span c v
-    → counts include (comparison c v v.build text) ≡ (include || not false)
-    → (list_all (is_valid MAX_SAFE_INTEGER) (comparison c v v.build text ∷ []) ≡ true) × IsCommon include (comparison c v v.build text ∷ []) s
+    → are_normal (whole v) ≡ true → length text ≤ MAX_LENGTH → s ≡ satisfying (comparison c v text)
+    → counts include (comparison c v text) ≡ (include || not false)
+    → (list_all (is_valid MAX_SAFE_INTEGER) (comparison c v text ∷ []) ≡ true) × IsCommon include (comparison c v text ∷ []) s
 whole_written include c v text s w n l is k =
-    (rw w (grind (arith, nat_tests)), rw is (one_common include c v v.build text (whole_readable v w n) (k ∙ either_true include)))
+    (rw w (grind (arith, nat_tests)), rw is (one_common include c v text (whole_readable v w n) (k ∙ either_true include)))
 
 pub caret_valid : (include : Bool) (z : ℕ) (v : VersionValue) → within (first (whole v)) ≡ true
     → nat_le (length (version_text (no_build v))) MAX_LENGTH ≡ true → is_valid MAX_SAFE_INTEGER (caret_from include z v) ≡ true
-caret_valid include z v w l = grind (arith, noted_valid (is_padded z (whole v)) (made at_least (no_build v)), from_valid true (first (whole v)))
+caret_valid include z v w l = grind (arith, noted_valid (is_padded z (whole v)) (unbuilt at_least v), from_valid true (first (whole v)))
 
 pub whole_caret : (include : Bool) (z : ℕ) (text : List ℕ) (v : VersionValue) (n : Numbers) (r : Option Bounds) → n ≡ next_changed z (whole v)
     → AreZeros (whole v) z text → AreRead include (caret_from include z v ∷ (under n ∷ [])) r → AreRead include (table include caret (whole v) text) r
@@ -237,7 +271,7 @@ whole_caret include z text v n r f k h = rw (f, k refl) at h
 -- ---- the upper end of a hyphen range of a whole version
 
 pub printed_read : (include : Bool) (v : VersionValue) (s : Span VersionValue) → within (first (whole v)) ≡ true
-    → are_normal (whole v) ≡ true → nat_le (length (version_text (no_build v))) MAX_LENGTH ≡ true → s ≡ compared_span at_most v
-    → (list_all (is_valid MAX_SAFE_INTEGER) (made at_most (no_build v) ∷ []) ≡ true)
-    × IsCommon include (made at_most (no_build v) ∷ []) s
-printed_read include v s w n l e = (rw (w, l) refl, rw e (one_common include at_most v [] _ (whole_readable v w n) (either_true include)))
+    → are_normal (whole v) ≡ true → nat_le (length (version_text (no_build v))) MAX_LENGTH ≡ true → s ≡ Spans.<= v
+    → (list_all (is_valid MAX_SAFE_INTEGER) (unbuilt at_most v ∷ []) ≡ true)
+    × IsCommon include (unbuilt at_most v ∷ []) s
+printed_read include v s w n l e = (rw (w, l) refl, rw e (one_common include at_most v _ (whole_readable v w n) (either_true include)))

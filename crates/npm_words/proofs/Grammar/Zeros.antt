@@ -8,6 +8,7 @@ use Rattle.npm_words.{proofs.Common.{◌∷◌, ◌≡◌}, specs.{Grammar.IsPre
 use Rattle.{npm_words.specs.Table.{caret, next, table, tilde, written_zeros, zeros}, semver_core.proofs.Reading.Numbers.digits-taken}
 use Rattle.{semver_core.specs.Text.Comparators.equal, std.proofs.lemmas.{Bool.le-ltb, List.drop-drop}}
 use Rattle.npm_words.specs.Partials as Text
+use Rattle.npm_words.specs.Table.{unbuilt}
 
 -- ---- the text
 
@@ -131,12 +132,12 @@ plain_changed p = if not ((first p).0 == 0) then ((first p).0 + 1, 0, 0)
     else elim p [ whole v ↦ if v.minor == 0 then (0, 0, v.patch + 1) else next (whole v) | q ↦ next q ]
 
 abbrev pub plain_from : Bool → VersionValue → Comparison
-plain_from include v = if include && (is_release v && (v.major == 0)) then from true (first (whole v)) else made at_least (no_build v)
+plain_from include v = if include && (is_release v && (v.major == 0)) then from true (first (whole v)) else unbuilt at_least v
 
 abbrev pub plain_table : Bool → Sign → Partial → List ℕ → List Comparison
 plain_table include s wildcard text = table include s wildcard text
 plain_table include caret (whole v) text = plain_from include v ∷ (under (plain_changed (whole v)) ∷ [])
-plain_table include tilde (whole v) text = made at_least (no_build v) ∷ (under (next (whole v)) ∷ [])
+plain_table include tilde (whole v) text = unbuilt at_least v ∷ (under (next (whole v)) ∷ [])
 plain_table include (compared c) (whole v) text = table include (compared c) (whole v) text
 plain_table include caret p text = from include (first p) ∷ (under (plain_changed p) ∷ [])
 plain_table include tilde p text = from false (first p) ∷ (under (next p) ∷ [])

@@ -1,8 +1,8 @@
 -- For proofs and private contracts. What the comparators of an alternative have in common, as a
 -- span.
-use Rattle.std.specs.Prelude.{◌≡◌, ◌==◌, ◌&&◌, ◌||◌, ◌+◌, not, Bool, true, false, List, Option, Some, None}
-use Rattle.std.specs.List.{filter, list_all, list_any}
-use Rattle.semver_core.specs.Cuts.{Span, holds, is_interval}
+use Rattle.std.specs.Prelude.{◌≡◌, ◌==◌, ◌&&◌, ◌+◌, map, Bool, true, false, List, Option, Some, None}
+use Rattle.std.specs.List.{filter, list_all}
+use Rattle.semver_core.specs.Cuts.{Span, interval}
 use Rattle.semver_core.specs.Lists.{is_empty}
 use Rattle.semver_core.specs.Values.Order.{precedence}
 use Rattle.semver_core.specs.Values.Versions.{VersionValue, is_release}
@@ -10,9 +10,9 @@ use Rattle.semver_core.specs.declared.TheConstants.{MAX_SAFE_INTEGER}
 use Rattle.semver_core.specs.declared.cuts.bound.Bound.{Bound}
 use Rattle.semver_core.specs.declared.cuts.bound.Bound.TheVariants.{Unbounded}
 use Rattle.semver_core.specs.Internal.Views.{bounds_view}
-use Rattle.npm_words.specs.Alternatives.{is_valid, names, satisfies}
+use Rattle.npm_words.specs.Alternatives.{common, is_valid, satisfying}
 use Rattle.npm_words.specs.Table.{Comparison, Partial, counts, major, minor}
-use Rattle.semver_core.specs.Values.Gate.{lets_in, is_range_bound}
+use Rattle.semver_core.specs.Values.Gate.{is_range_bound}
 use Rattle.semver_core.specs.declared.scan.pieces.bounds.Bounds.{Bounds}
 
 -- the comparators that count
@@ -27,22 +27,21 @@ is_open b = false
 abbrev pub is_unbounded : Span VersionValue → Bool
 is_unbounded s = is_open s.lower && is_open s.upper
 
--- the span is what the comparators that count have in common: it holds the versions that satisfy
--- them, lets in those of which they name a pre-release, and has a bound exactly if there is one.
--- Its bounds are such as a range may have.
+-- what the comparators that count have in common
+abbrev pub common_in : Bool → List Comparison → Span VersionValue
+common_in include cs = common (map satisfying (counted include cs))
+
+-- the span is that. Its bounds are such as a range may have.
 pub record IsCommon (include : Bool) (cs : List Comparison) (s : Span VersionValue) : Type 0 where
-  pub held : (v : VersionValue) → holds precedence s v ≡ list_all (satisfies v) (counted include cs)
-  pub let_in : (v : VersionValue) → holds precedence s v ≡ true
-      → lets_in s v ≡ (is_release v || list_any (names v) (counted include cs))
-  pub unbounded : is_unbounded s ≡ not (list_any (counts include) cs)
+  pub is : s ≡ common_in include cs
   pub lower : is_range_bound (MAX_SAFE_INTEGER + 1) s.lower ≡ true
   pub upper : is_range_bound (MAX_SAFE_INTEGER + 1) s.upper ≡ true
 
--- the same of an interval that there is only where its cuts meet; else no version satisfies the
--- comparators
-abbrev pub IsNarrowed : Bool → List Comparison → Option (Span VersionValue) → Type 0
-IsNarrowed include cs None = (v : VersionValue) → list_all (satisfies v) (counted include cs) ≡ false
-IsNarrowed include cs (Some s) = IsCommon include cs s × (is_interval precedence s ≡ true)
+-- the same of an interval that there is only where the cuts of the span meet
+pub record IsNarrowed (include : Bool) (cs : List Comparison) (o : Option (Span VersionValue)) : Type 0 where
+  pub span : Span VersionValue
+  pub has : IsCommon include cs span
+  pub is : o ≡ interval precedence span
 
 -- bounds that are read from comparators, of which each is valid; none where one is not
 abbrev pub AreRead : Bool → List Comparison → Option Bounds → Type 0

@@ -16,8 +16,8 @@ returns-in_err-intervals-clause-memory c =
     search rules
 
 pub returns-clause-ok : goal.returns-clause-ok
-returns-clause-ok c = range-read _ _ _ _ _ c.utf8.text c.in_ok-intervals.ensures.ok c.set_ranged.ensures.accepts
+returns-clause-ok c = range-read _ _ _ _ _ c.utf8.text c.in_ok-intervals.ensures.ok c.set_ranged.ensures
 
 pub returns-clause-range : goal.returns-clause-range
 returns-clause-range c =
-    rw c.set_ranged.ensures.value (ranged_range c.intervals.new.found.items (all-spans _ _ _ _ c.in_ok-intervals.ensures.ok))
+    rw c.set_ranged.ensures (ranged_range c.intervals.new.found.items (all-spans _ _ _ _ c.in_ok-intervals.ensures.ok))

@@ -6,7 +6,7 @@ use Rattle.semver_core.specs.Values.Spans as Spans
 
 pub returns-in-AtLeast-2 : goal.returns-in-AtLeast-2
 returns-in-AtLeast-2 c =
-    let counted = elim c.if-not-include.branch as (λ _. counts c.args.include (comparison at_least c.args.version.now c.args.version.now.build c.args.text.now)
+    let counted = elim c.if-not-include.branch as (λ _. counts c.args.include (comparison at_least c.args.version.now c.args.text.now)
     ≡ (c.args.include || not false)) [
       | then-not-include+else-eq w ↦
           let other : bytes_eq c.args.text.now (codes "0.0.0") ≡ false = grind (arith, common_steps) in ap (λ z. c.args.include || not z) other

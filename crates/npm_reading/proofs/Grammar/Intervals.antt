@@ -1,0 +1,178 @@
+-- The intervals of alternatives accept what the alternatives do.
+use Rattle.nodejs_semver.proofs.Common.{Beside, Bool, List, None, Option, Some, Span, Unbounded, VersionValue, [], accepts, any_version, any_weaker}
+use Rattle.nodejs_semver.proofs.Common.{ap, arith, cases_Bool, common_steps, cond_both, false, holds, if◌then◌else◌, interval, is_empty, is_past}
+use Rattle.nodejs_semver.proofs.Common.{is_range_span, is_release, lets_in, list_all, list_any, list_any-append, map, nat_tests, not, option_to_list}
+use Rattle.nodejs_semver.proofs.Common.{precedence, refl, subst, sym, true, ℕ, ◌&&◌, ◌++◌, ◌||◌, ◌∙◌, ◌∷◌, ◌≡◌, and_parts, is_interval}
+use Rattle.npm_reading.specs.{Internal.{Alternatives.{nothing, ranged}, Reads.AreFound}, Ranges.{IsRangeIn, intervals_in}}
+use Rattle.npm_words.proofs.{Common.{Comparison, HasAlternativesIn, IsNarrowed, Ordering, ap₂, counted, counts, is_unbounded, meets, satisfies}}
+use Rattle.npm_words.proofs.{Common.{above, at_least, at_most, below, equal, is_eq, is_ge, is_gt, is_le, is_lt, option_holds-interval, precedence_total}}
+use Rattle.npm_words.proofs.Grammar.{AlternativeLaw.alternatives_once, Rows.{holds-both, lets_in-both}}
+use Rattle.npm_words.specs.{Alternatives.{common, interval_in, names, satisfying}, Table.lowest}
+use Rattle.semver_core.proofs.Gate.{both, past-after, past-before}
+use Rattle.semver_core.specs.{Text.Comparators.Comparator, declared.cuts.bound.Bound.Bound}
+use Rattle.std.specs.List.{cons_option, filter, filter_map}
+use Rattle.npm_reading.specs.Readings.{OfAccepted, ReadText}
+use Rattle.nodejs_semver.proofs.Common.{IsUtf8, MAX_SAFE_INTEGER}
+use Rattle.npm_words.specs.Internal.Meaning.{is_open}
+use Rattle.npm_words.proofs.Common.{greater_lower, lesser_upper}
+use Rattle.npm_words.specs.Alternatives as Npm
+
+-- ---- one comparator
+
+abbrev comparison : Comparator → VersionValue → List ℕ → Comparison
+comparison c w text = record { sign = c; version = w; text = text }
+
+tests : (r : Ordering) → (not (is_ge r) ≡ is_lt r) × (not (is_gt r) ≡ is_le r) × ((is_ge r && not (is_gt r)) ≡ is_eq r)
+tests r = grind arith
+
+holds-compared : (c : Comparator) (w : VersionValue) (text : List ℕ) (v : VersionValue)
+    → holds precedence (satisfying (comparison c w text)) v ≡ satisfies v (comparison c w text)
+holds-compared at_least w text v = grind (arith, past-before)
+holds-compared above w text v = grind (arith, past-after)
+holds-compared equal w text v = grind (arith, nat_tests, common_steps, ap₂, not, past-before, past-after, tests)
+holds-compared at_most w text v = ap not (past-after w v) ∙ (tests (precedence v w)).1
+holds-compared below w text v = ap not (past-before w v) ∙ (tests (precedence v w)).0
+
+lets_in-compared : (c : Comparator) (w : VersionValue) (text : List ℕ) (v : VersionValue)
+    → lets_in (satisfying (comparison c w text)) v ≡ (is_release v || names v (comparison c w text))
+lets_in-compared c w text v = grind (arith, nat_tests, common_steps)
+
+-- ---- the comparators of an alternative
+
+-- what they have in common
+abbrev shared : List Comparison → Span VersionValue
+shared cs = common (map satisfying cs)
+
+held : (cs : List Comparison) (v : VersionValue) → holds precedence (shared cs) v ≡ list_all (satisfies v) cs
+held [] v = refl
+held (c ∷ cs) v = holds-both (satisfying c) (shared cs) v
+    ∙ ap₂ (λ (a b : Bool). a && b) (holds-compared c.sign c.version c.text v) (held cs v)
+
+either : (r n m : Bool) → ((r || n) || (r || m)) ≡ (r || (n || m))
+either r n m = grind arith
+
+let_in : (cs : List Comparison) (v : VersionValue) → holds precedence (shared cs) v ≡ true
+    → lets_in (shared cs) v ≡ (is_release v || list_any (names v) cs)
+let_in [] v h = refl
+let_in (c ∷ cs) v h =
+    let (a, b) = and_parts _ _ (sym (holds-both (satisfying c) (shared cs) v) ∙ h) in
+    lets_in-both (satisfying c) (shared cs) v a b
+    ∙ ap₂ (λ (p q : Bool). p || q) (lets_in-compared c.sign c.version c.text v) (let_in cs v b)
+    ∙ either (is_release v) (names v c) (list_any (names v) cs)
+
+-- the span holds v, and lets it in or pre-releases are included
+abbrev lets : Bool → VersionValue → Span VersionValue → Bool
+lets include v s = holds precedence s v && (include || lets_in s v)
+
+held_let : (h l r i n : Bool) → (h ≡ true → l ≡ (r || n)) → ((h && (i || l)) || false) ≡ (h && (r || (i || n)))
+held_let h l r i n f = grind arith
+
+shared_accepts : (include : Bool) (v : VersionValue) (cs : List Comparison)
+    → list_any (lets include v) (option_to_list (interval precedence (shared cs))) ≡ meets include v cs
+shared_accepts include v cs = cond_both (is_interval precedence (shared cs)) (Some (shared cs)) None
+    (λ o. list_any (lets include v) (option_to_list o) ≡ meets include v cs)
+    (λ _. rw (← held cs v) (held_let (holds precedence (shared cs) v) (lets_in (shared cs) v) (is_release v) include (list_any (names v) cs) (let_in cs v)))
+    (λ i. let none : list_all (satisfies v) cs ≡ false = sym (held cs v) ∙ sym (option_holds-interval precedence_total (shared cs) v) ∙ rw i refl in
+    rw none refl)
+
+one_accepts : (include : Bool) (v : VersionValue) (cs : List Comparison)
+    → list_any (lets include v) (option_to_list (interval_in include cs)) ≡ meets include v (counted include cs)
+one_accepts include v cs = shared_accepts include v (counted include cs)
+
+-- ---- an alternative without bounds
+
+one-bound : (c : Comparator) (w : VersionValue) (text : List ℕ) → is_unbounded (satisfying (comparison c w text)) ≡ false
+one-bound c w text = grind arith
+
+opened : (b c : Bound VersionValue) → (is_open (greater_lower precedence b c) ≡ (is_open b && is_open c))
+    × (is_open (lesser_upper precedence b c) ≡ (is_open b && is_open c))
+opened b c = (grind arith, grind arith)
+
+crossed : (a b c d : Bool) → (a && c) ≡ false → ((a && b) && (c && d)) ≡ false
+crossed a b c d h = grind arith
+
+both-bound : (s t : Span VersionValue) → is_unbounded s ≡ false → is_unbounded (both s t) ≡ false
+both-bound s t h = rw ((opened s.lower t.lower).0, (opened s.upper t.upper).1) (crossed (is_open s.lower) (is_open t.lower) (is_open s.upper) (is_open t.upper) h)
+
+shared_open : (cs : List Comparison) → list_any is_unbounded (option_to_list (interval precedence (shared cs))) ≡ is_empty cs
+shared_open [] = refl
+shared_open (c ∷ cs) =
+    let s = shared (c ∷ cs) in
+    let bound = both-bound (satisfying c) (shared cs) (one-bound c.sign c.version c.text) in
+    cond_both (is_interval precedence s) (Some s) None (λ o. list_any is_unbounded (option_to_list o) ≡ false) (λ _. rw bound refl) (λ _. refl)
+
+counted-none : (include : Bool) (cs : List Comparison) → is_empty (counted include cs) ≡ not (list_any (counts include) cs)
+counted-none include [] = refl
+counted-none include (c ∷ cs) = grind (arith, nat_tests, common_steps, counted-none include cs)
+
+one_open : (include : Bool) (cs : List Comparison)
+    → list_any is_unbounded (option_to_list (interval_in include cs)) ≡ not (list_any (counts include) cs)
+one_open include cs = shared_open (counted include cs) ∙ counted-none include cs
+
+-- ---- the alternatives
+
+any-one : (p : Span VersionValue → Bool) (o : Option (Span VersionValue)) (ss : List (Span VersionValue))
+    → list_any p (cons_option o ss) ≡ (list_any p (option_to_list o) || list_any p ss)
+any-one p None ss = refl
+any-one p (Some s) ss = grind arith
+
+-- a test of the intervals that each of them passes where its alternative passes another
+any-intervals : (include : Bool) (p : Span VersionValue → Bool) (q : List Comparison → Bool)
+    → ((cs : List Comparison) → list_any p (option_to_list (interval_in include cs)) ≡ q cs) → (alternatives : List (List Comparison))
+    → list_any p (filter_map (interval_in include) alternatives) ≡ list_any q alternatives
+any-intervals include p q f [] = refl
+any-intervals include p q f (cs ∷ rest) = any-one p (interval_in include cs) (filter_map (interval_in include) rest)
+    ∙ ap₂ (λ (a b : Bool). a || b) (f cs) (any-intervals include p q f rest)
+
+least : (v : VersionValue) → is_past precedence (Beside (lowest (0, 0, 0)) false) v ≡ true
+least v = (grind arith)
+
+-- what an alternative without comparators accepts
+open_meets : (v : VersionValue) (cs : List Comparison) → not (list_any (counts true) cs) ≡ true → meets true v (counted true cs) ≡ true
+open_meets v [] h = grind arith
+open_meets v (c ∷ cs) h = let e : false ≡ true = h in cc e
+
+open_accepts : (include : Bool) (v : VersionValue) (alternatives : List (List Comparison))
+    → list_any (λ cs. not (list_any (counts include) cs)) alternatives ≡ true
+    → accepts any_version v include ≡ Npm.accepts include alternatives v
+open_accepts true v alternatives h = sym (any_weaker _ (λ cs. meets true v (counted true cs)) (open_meets v) alternatives h)
+open_accepts false v alternatives h = rw h (grind arith)
+
+none_or_some : (ss : List (Span VersionValue)) (v : VersionValue) (include : Bool)
+    → accepts (if is_empty ss then nothing ∷ [] else ss) v include ≡ accepts ss v include
+none_or_some [] v include = rw (least v) refl
+none_or_some (s ∷ ss) v include = refl
+
+pub intervals_accept : (include : Bool) (alternatives : List (List Comparison)) (v : VersionValue)
+    → accepts (intervals_in include alternatives) v include ≡ Npm.accepts include alternatives v
+intervals_accept include alternatives v =
+    let same = any-intervals include (lets include v) (λ cs. meets include v (counted include cs)) (one_accepts include v) alternatives in
+    grind (arith, same, open_accepts, none_or_some)
+
+-- ---- the range of a text
+
+pub range_accepts : (loose : Bool) (limit : ℕ) (include : Bool) (text : List ℕ) (range : List (Span VersionValue))
+    (h : IsRangeIn loose limit include text range) (v : VersionValue) → accepts range v include ≡ Npm.accepts include h.alternatives v
+range_accepts loose limit include text range h v = ap (λ l. accepts l v include) h.is ∙ intervals_accept include h.alternatives v
+
+pub range_once : (loose : Bool) (limit : ℕ) (include : Bool) (text : List ℕ) (a b : List (Span VersionValue)) → IsUtf8 text
+    → IsRangeIn loose limit include text a → IsRangeIn loose limit include text b → a ≡ b
+range_once loose limit include text a b u h k =
+    h.is ∙ ap (λ l. intervals_in include l) (alternatives_once loose limit include text h.alternatives k.alternatives u h.has k.has) ∙ sym k.is
+
+-- asked by how its text was read
+pub read_accepts : (r : ReadText) (range : List (Span VersionValue))
+    → IsRangeIn r.reading.loose MAX_SAFE_INTEGER r.reading.include_prerelease r.text range
+    → OfAccepted MAX_SAFE_INTEGER r (λ accepted. (v : VersionValue) → accepts range v r.reading.include_prerelease ≡ accepted v)
+read_accepts r range h = record { alternatives = h.alternatives; has = h.has; holds = λ v. range_accepts _ _ _ _ _ h v }
+
+-- as it is found
+pub narrowed-interval : (include : Bool) (cs : List Comparison) (o : Option (Span VersionValue)) → IsNarrowed include cs o → o ≡ interval_in include cs
+narrowed-interval include cs o h = h.is ∙ ap (λ s. interval precedence s) h.has.is
+
+pub ranged-found : (include : Bool) (alternatives : List (List Comparison)) (found : List (Span VersionValue)) → AreFound include alternatives found
+    → ranged found ≡ intervals_in include alternatives
+ranged-found include alternatives found h = rw (
+  h.are,
+  any-intervals include is_unbounded (λ cs. not (list_any (counts include) cs)) (one_open include) alternatives,
+) refl
