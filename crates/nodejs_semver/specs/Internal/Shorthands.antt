@@ -4,13 +4,12 @@ use Rattle.std.specs.Option.{option_map, option_to_list}
 use Rattle.std.specs.Prelude.{◌++◌, ℕ, ◌&&◌, ◌||◌, not, if◌then◌else◌, Bool, List, [], Option, Some, None}
 use Rattle.std.specs.Prelude.{map}
 use Rattle.std.specs.declared.cmp.Ordering.{Ordering}
-use Rattle.semver_core.specs.Cuts.{Span, has_bound, is_past, lower_cut, passes, remainders, upper_cut}
+use Rattle.semver_core.specs.Cuts.{Span, is_past, lower_cut, passes, remainders, upper_cut}
 use Rattle.semver_core.specs.Printing.RoundTrip.{is_within}
 use Rattle.semver_core.specs.Text.Identifiers.{Id}
 use Rattle.semver_core.specs.Values.Order.{precedence, version_eq}
 use Rattle.semver_core.specs.Values.Versions.{VersionValue}
 use Rattle.semver_core.specs.declared.cuts.bound.Bound.{Bound}
-use Rattle.semver_core.specs.Values.Gate.{lets_in}
 use Rattle.nodejs_semver.specs.Ranges.Outside.{is_bounded}
 use Rattle.nodejs_semver.specs.Ranges.View.{span_of}
 
@@ -42,7 +41,3 @@ lies_below s v = is_bounded s.upper && is_past precedence (lower_cut s.lower) v
 abbrev pub lies_above : Span VersionValue → VersionValue → Bool
 lies_above s v = (not (is_bounded s.lower) && not (is_bounded s.upper))
     || (is_bounded s.lower && not (is_past precedence (upper_cut s.upper) v))
-
--- s lets in the versions of t's bounds
-abbrev pub lets_in_bounds : Span VersionValue → Span VersionValue → Bool
-lets_in_bounds s t = not (has_bound (λ w. not (lets_in s w)) t)

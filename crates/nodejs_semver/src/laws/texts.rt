@@ -84,8 +84,8 @@ pub fn meaning()
         → (common_range limit text ≡ Some list) ↔ IsCommonRange limit text list }
 {}
 
-/// On a common text `range_fast` and `range_loose` return its range; on another `range_fast` returns
-/// `None`.
+/// On a common text `range_fast` and `range_loose` return its range; on another `range_fast`
+/// returns `None`.
 pub fn both_readers(alloc: Global, text: &str) -> Result<Option<(Range, Option<Range>)>, AllocError>
     ensures same { IfOk result (λ found. IfSome found (λ both. Some both.0 ≡ both.1)) }
     ensures read { IfOk result (λ found. IfSome found (λ both.

@@ -1,9 +1,9 @@
 // The best of the versions of a slice, or of versions that come one after another.
 
 ghost use Rattle.std.specs.Prelude.{◌++◌, ◌∷◌, ◌≡◌, if◌then◌else◌, [], All, Contains, false};
-ghost use Rattle.nodejs_semver.specs.Words.{accepts, IfNone, IfSome, is_le, is_lt, is_release, IsMax};
-ghost use Rattle.nodejs_semver.specs.Words.{IsMin, List, list_all, map, option_copied, option_map};
-ghost use Rattle.nodejs_semver.specs.Words.{precedence, replaces, Some, spans_of, true};
+ghost use Rattle.nodejs_semver.specs.Words.{accepts, IfNone, IfSome, is_le, is_lt, is_release};
+ghost use Rattle.nodejs_semver.specs.Words.{IsMax, IsMin, List, list_all, map, option_copied};
+ghost use Rattle.nodejs_semver.specs.Words.{option_map, precedence, replaces, Some, spans_of, true};
 ghost use Rattle.nodejs_semver.specs.Words.{VersionValue};
 
 use crate::range::gate::accepts;

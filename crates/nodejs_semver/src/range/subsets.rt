@@ -2,8 +2,8 @@
 
 ghost use Rattle.std.specs.Prelude.{◌<◌, ◌↔◌, ◌≡◌, ◌⊎◌};
 ghost use Rattle.nodejs_semver.specs.Words.{IfOk, IsTrue, OnErr, VersionValue, accepts, difference};
-ghost use Rattle.nodejs_semver.specs.{Words.{false, is_some, length, true}, Ranges.Subsets.AcceptSame};
-ghost use Rattle.nodejs_semver.specs.Ranges.Subsets.{IsSubset, MayTakeMemory};
+ghost use Rattle.nodejs_semver.specs.Words.{false, is_some, length, true};
+ghost use Rattle.nodejs_semver.specs.Ranges.Subsets.{AcceptSame, IsSubset, MayTakeMemory};
 
 use crate::RangeOf;
 use semver_core::VersionPoint;

@@ -5,8 +5,7 @@ ghost use Rattle.nodejs_semver.specs.Words.{AreTaking, Bool, IfOk, OnErr, OnOk, 
 ghost use Rattle.nodejs_semver.specs.Words.{VersionValue, [], accepts, bound_of, covers, has_bound};
 ghost use Rattle.nodejs_semver.specs.Words.{length, lets_in, not, passes, precedence, span_of};
 ghost use Rattle.nodejs_semver.specs.{Words.true, Internal.Questions.is_said};
-ghost use Rattle.nodejs_semver.specs.{Internal.Shorthands.lets_in_bounds, Ranges.Unions.says_all};
-ghost use Rattle.nodejs_semver.specs.Ranges.Unions.{union};
+ghost use Rattle.nodejs_semver.specs.Ranges.Unions.{says_all, union};
 
 use crate::RangeOf;
 use crate::range::gate::lets_in;
@@ -94,7 +93,9 @@ fn is_said<V: VersionPoint>(these: &[Interval<V>], other: &Interval<V>) -> bool
 fn says_all<V: VersionPoint>(interval: &Interval<V>, other: &Interval<V>) -> bool
     ensures { result ≡ says_all (span_of V.value interval.now) (span_of V.value other.now) }
 {
-    covers(interval, other) && lets_in_bounds(interval, other)
+    covers(interval, other)
+        && !keeps_out(interval, other.lower())
+        && !keeps_out(interval, other.upper())
 }
 
 // Whether the interval covers the other one.
@@ -103,13 +104,6 @@ fn covers<V: VersionPoint>(interval: &Interval<V>, other: &Interval<V>) -> bool
         ≡ covers precedence (span_of V.value interval.now) (span_of V.value other.now) }
 {
     interval.covers(other)
-}
-
-// Whether the interval lets in the versions of the other's bounds.
-fn lets_in_bounds<V: VersionPoint>(interval: &Interval<V>, other: &Interval<V>) -> bool
-    ensures { result ≡ lets_in_bounds (span_of V.value interval.now) (span_of V.value other.now) }
-{
-    !(keeps_out(interval, other.lower()) || keeps_out(interval, other.upper()))
 }
 
 // Whether the bound has a version that the interval does not let in.

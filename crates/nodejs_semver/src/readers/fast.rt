@@ -72,7 +72,7 @@ fn push<'a, S: Found<'a>>(
     Ok(Some(rest))
 }
 
-// The same, of a rare part.
+// Adds the interval of a rare part, as `push` does.
 #[cold]
 #[inline(never)]
 fn push_rare<'a, S: Found<'a>>(

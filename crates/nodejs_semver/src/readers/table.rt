@@ -40,48 +40,6 @@ fn version_without_build<'a>(partial: &Partial<'a>) -> VersionRef<'a>
     )
 }
 
-// `>1.2.3`
-#[inline(always)]
-#[tactic(auto, unfolding(crate::specs::Text::Table::table))]
-fn row_above<'a>(partial: &Partial<'a>) -> Bounds<'a>
-    ensures { Some (bounds_view result)
-        ≡ table MAX_SAFE_INTEGER (Words.compare Words.above (partial_view partial.now)) }
-{
-    match (partial.major, partial.minor, partial.patch) {
-        (Some(major), Some(minor), None) => Bounds::at_least(release(major, minor + 1, 0)),
-        (Some(major), None, None) => Bounds::at_least(release(major + 1, 0, 0)),
-        _ => Bounds::above(version_of(partial)),
-    }
-}
-
-// `<1.2.3`
-#[inline(always)]
-#[tactic(auto, unfolding(crate::specs::Text::Table::table))]
-fn row_below<'a>(partial: &Partial<'a>) -> Bounds<'a>
-    ensures { Some (bounds_view result)
-        ≡ table MAX_SAFE_INTEGER (Words.compare Words.below (partial_view partial.now)) }
-{
-    match (partial.major, partial.minor, partial.patch) {
-        (Some(major), Some(minor), None) => Bounds::below(lowest(major, minor, 0)),
-        _ => Bounds::below(version_of(partial)),
-    }
-}
-
-// `<=1.2.3`
-#[inline(always)]
-#[tactic(auto, unfolding(crate::specs::Text::Table::table))]
-fn row_at_most<'a>(partial: &Partial<'a>) -> Bounds<'a>
-    ensures { Some (bounds_view result)
-        ≡ table MAX_SAFE_INTEGER (Words.compare Words.at_most (partial_view partial.now)) }
-{
-    let major = partial.major.unwrap_or(0);
-    match (partial.minor, partial.patch) {
-        (None, None) => Bounds::at_most(release(major, MAX_SAFE_INTEGER, MAX_SAFE_INTEGER)),
-        (Some(minor), None) => Bounds::at_most(release(major, minor, MAX_SAFE_INTEGER)),
-        _ => Bounds::at_most(version_of(partial)),
-    }
-}
-
 // `=1.2.3`
 #[inline(always)]
 #[tactic(auto, unfolding(crate::specs::Text::Table::table))]
@@ -186,10 +144,30 @@ pub(crate) fn compare<'a>(comparator: Comparator, partial: &Partial<'a>) -> Opti
 {
     match comparator {
         Comparator::AtLeast => Some(Bounds::at_least(version_of(partial))),
-        Comparator::Above => Some(row_above(partial)),
+        Comparator::Above => match (partial.major, partial.minor, partial.patch) {
+            (Some(major), Some(minor), None) => {
+                Some(Bounds::at_least(release(major, minor + 1, 0)))
+            }
+            (Some(major), None, None) => Some(Bounds::at_least(release(major + 1, 0, 0))),
+            _ => Some(Bounds::above(version_of(partial))),
+        },
         Comparator::Equal => equal(partial),
-        Comparator::AtMost => Some(row_at_most(partial)),
-        Comparator::Below => Some(row_below(partial)),
+        Comparator::AtMost => {
+            let major = partial.major.unwrap_or(0);
+            match (partial.minor, partial.patch) {
+                (None, None) => {
+                    Some(Bounds::at_most(release(major, MAX_SAFE_INTEGER, MAX_SAFE_INTEGER)))
+                }
+                (Some(minor), None) => {
+                    Some(Bounds::at_most(release(major, minor, MAX_SAFE_INTEGER)))
+                }
+                _ => Some(Bounds::at_most(version_of(partial))),
+            }
+        }
+        Comparator::Below => match (partial.major, partial.minor, partial.patch) {
+            (Some(major), Some(minor), None) => Some(Bounds::below(lowest(major, minor, 0))),
+            _ => Some(Bounds::below(version_of(partial))),
+        },
     }
 }
 
