@@ -7,7 +7,7 @@ use Rattle.{npm_reading.specs.declared.{alternatives.Alternative.Alternative, ra
 use Rattle.npm_words.proofs.{Common.{HasAlternativesIn, alternative_of, is_valid, valid_one}, FlawPlaces.Ranges.{IsPiece, Passed}}
 use Rattle.npm_words.proofs.FlawPlaces.Ranges.{bytes-append, front-divides, kept-strict, middle, next-divides, next-utf8, one-piece}
 use Rattle.npm_words.proofs.{FlawPlaces.{Ends.one_malformed_part, Ranges.right-all}, Grammar.AlternativeLaw.{alternative-found, alternative-read}}
-use Rattle.{npm_words.specs.{MalformedEnds.IsMalformedPart, RangeFlaws.{IsAlternativeText, bytes_of}, RangeText.next}, semver_core.proofs.Dividing.BarLemmas.parts_after}
+use Rattle.{npm_words.specs.{MalformedEnds.IsMalformedPart, RangeFlaws.{IsAlternativeText, bytes_of}}, semver_core.proofs.Dividing.BarLemmas.parts_after}
 use Rattle.semver_core.proofs.{Dividing.BarsDivide.{bars_once, pieces-utf8}, Reading.Boundaries.trim-utf8, Text.Trims.one_after_blank}
 use Rattle.{semver_core.specs.{Failures.NoValue, Internal.Parts.front_part}, std.proofs.lemmas.List.Elements.{All-from_recursion, All-push}}
 use Rattle.std.{proofs.lemmas.List.Elements.recursion_from_All, specs.Prelude.is_none}
