@@ -251,8 +251,8 @@ fn found(alloc: Global, is_json: bool, next: Version) -> Result<Response, AllocE
     })
 }
 
-// A version without its build metadata.
-fn without_build(alloc: Global, version: Version) -> Result<Version, AllocError>
+/// A version without its build metadata. Fails only if allocation fails.
+pub fn without_build(alloc: Global, version: Version) -> Result<Version, AllocError>
     ensures { IfOk result (λ bare. bare ≡ record version { build = [] }) }
 {
     let Ok(parts) = version.into_parts(alloc) else {
