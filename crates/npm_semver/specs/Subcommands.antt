@@ -62,8 +62,8 @@ pub data HasIdentifier : List (List ℕ) → Option (List ℕ) → Type 0 where
 abbrev pub status_of : Fault → Status
 status_of fault = elim fault [ NotAPrerelease text ↦ No | Overflow ↦ No | _ ↦ Malformed ]
 
--- what is said for what `inc` returns: the next version without its build metadata, or no, with a message,
--- also if it is not above
+-- what is said for what `inc` returns: the next version without its build metadata, or no, with a
+-- message, also if it is not above
 abbrev pub next_said : VersionValue → Result VersionValue Fault → Said
 next_said v (Ok w) = if is_lt (precedence v w) then reply true (Some (bare w)) else say [] true No
 next_said v (Err fault) = say [] true (status_of fault)

@@ -39,11 +39,7 @@ impl<'a> Model for Reason<'a> {
 /// Returns, if it is asked for, for each range text that is no range, and for each text that is no
 /// version or is not accepted, a line that says so, the text, and carets under the place. In texts
 /// every character that is not printable ASCII is escaped.
-pub fn told(
-    alloc: Global,
-    question: &Question<'_>,
-    read: &Texts<'_>,
-) -> Result<String, AllocError>
+pub fn told(alloc: Global, question: &Question<'_>, read: &Texts<'_>) -> Result<String, AllocError>
     ensures { question.now.is_why ≡ false → IfOk result (λ told. string_bytes told ≡ []) }
 {
     let mut output = String::new(alloc);

@@ -11,8 +11,10 @@ use Rattle.npm_semver.specs.declared.listing.Texts.{Texts}
 use Rattle.npm_semver.specs.declared.reading.ReadOptions.{ReadOptions}
 use Rattle.npm_semver.specs.declared.why.Kind.TheVariants.{NoVersion}
 
--- the ranges, what is listed and what is left out, and the versions that are found, whatever the ranges say of them
-pub record AreTexts (r : ReadOptions) (ranges versions : List (List ℕ)) (read : List (Option (List (Span VersionValue)))) (no_ranges : List Told)
+-- the ranges, what is listed and what is left out, and the versions that are found, whatever the
+-- ranges say of them
+pub record AreTexts (r : ReadOptions) (ranges versions : List (List ℕ))
+    (read : List (Option (List (Span VersionValue)))) (no_ranges : List Told)
     (entries : List Entry) (left_out : List Told) (has_version : Bool) : Type 0 where
   pub ranges_are : AreRead r ranges read
   pub no_ranges_are : AreNoRanges r ranges no_ranges
@@ -24,7 +26,8 @@ pub record AreTexts (r : ReadOptions) (ranges versions : List (List ℕ)) (read 
   pub all_are : ranges ≡ [] → entries ≡ found
 
 abbrev pub Reads : ReadOptions → List (List ℕ) → List (List ℕ) → Texts → Type 0
-Reads r ranges versions t = AreTexts r ranges versions t.ranges.items t.no_ranges.items t.entries.items t.left_out.items t.has_version
+Reads r ranges versions t = AreTexts r ranges versions t.ranges.items t.no_ranges.items
+    t.entries.items t.left_out.items t.has_version
 
 abbrev pub IsReadFor : Asked → Texts → Type 0
 IsReadFor q = Reads q.reading q.ranges q.versions
