@@ -1,5 +1,5 @@
 -- What is written where a next version is asked for.
-use Rattle.std.proofs.Common.{◌≡◌, ◌==◌, ◌<◌, ◌≤◌, ◌∷◌, [], ℕ, Bool, true, false, not, List, Some, None, Result, Ok, Err, IfOk, arith, length, refl, slice_get, sym, ap, unwrap_or, ◌∙◌}
+use Rattle.std.proofs.Common.{◌≡◌, ◌≢◌, ◌==◌, ◌∷◌, [], ℕ, Bool, true, false, not, List, Some, None, Result, Ok, Err, IfOk, arith, get_or, length, refl, sym, ap, ◌∙◌}
 use Rattle.std.specs.Borrow.{Bor}
 use Rattle.std.specs.declared.alloc.AllocError.{AllocError}
 use Rattle.semver_core.specs.Increments.Table.{answer_of_inc}
@@ -21,27 +21,40 @@ pub if_responds : (r : Result Response AllocError) (q : Asked) (level : List ℕ
 if_responds (Ok x) q level es w can has listed e is = responds q level es (written x) can has listed (is ∙ e)
 if_responds (Err error) q level es w can has listed e is = tt
 
+no_texts : (xs : List (List ℕ)) → is_empty xs ≡ true → xs ≡ []
+no_texts [] e = refl
+no_texts (x ∷ xs) e = absurd (cc)
+
+one_item : (es : List Entry) (e : Entry) → e ≡ get_or es 0 e → length es ≡ 1 → es ≡ e ∷ []
+one_item [] e is one = absurd (omega (arith, one))
+one_item (d ∷ []) e is one = ap (λ (x : Entry). x ∷ []) (sym is)
+one_item (d ∷ f ∷ es) e is one = absurd (omega (arith, one))
+
+others : (found : List Entry) (has : Bool) → is_empty found ≡ not has → has ≡ true → length found ≢ 1 → (q : Asked) (level : List ℕ)
+    → nothing_written true ≡ increment_written q level found
+others [] has some e other q level = let k : true ≡ false = some ∙ ap not e in absurd (cc)
+others (d ∷ []) has some e other q level = absurd (other refl)
+others (d ∷ f ∷ es) has some e other q level = refl
+
 module _ (q : Asked) (level : List ℕ) where
-  pub of_none : (es : List Entry) → None ≡ slice_get es 0 → nothing_written false ≡ increment_written q level es
-  of_none [] e = refl
-  of_none (d ∷ es) e = absurd (grind (arith, e))
+  pub of_none : (found : List Entry) (has : Bool) → is_empty found ≡ not has → has ≡ false → nothing_written false ≡ increment_written q level found
+  of_none [] has some e = refl
+  of_none (d ∷ es) has some e = let k : false ≡ true = some ∙ ap not e in absurd (cc)
 
-  pub of_many : (es : List Entry) → 1 < length es → nothing_written true ≡ increment_written q level es
-  of_many [] lt = absurd (omega arith)
-  of_many (d ∷ []) lt = absurd (omega arith)
-  of_many (d ∷ e ∷ es) lt = refl
+  pub of_ranges : (found : List Entry) (has : Bool) → is_empty found ≡ not has → has ≡ true → is_empty q.ranges ≡ false
+      → nothing_written true ≡ increment_written q level found
+  of_ranges [] has some e are = let k : true ≡ false = some ∙ ap not e in absurd (cc)
+  of_ranges (d ∷ []) has some e are = rw are refl
+  of_ranges (d ∷ f ∷ es) has some e are = refl
 
-  pub of_ranges : (es : List Entry) (e : Entry) → Some e ≡ slice_get es 0 → is_empty q.ranges ≡ false
-      → nothing_written true ≡ increment_written q level es
-  of_ranges [] d first e = absurd (grind (arith, first))
-  of_ranges (f ∷ []) d first e = rw e refl
-  of_ranges (f ∷ g ∷ es) d first e = refl
+  pub of_others : (es found : List Entry) (has : Bool) → is_empty found ≡ not has → has ≡ true → length es ≢ 1
+      → (q.ranges ≡ [] → es ≡ found) → is_empty q.ranges ≡ true → nothing_written true ≡ increment_written q level found
+  of_others es found has some e other same none = others found has some e (rw (same (no_texts q.ranges none)) at other) q level
 
-  pub of_one : (es : List Entry) (e : Entry) → Some e ≡ slice_get es 0 → length es ≤ 1 → is_empty q.ranges ≡ true
-      → next_written q.is_json (answer_of_inc e.version level q.identifier (Some q.base)) ≡ increment_written q level es
-  of_one [] d first le e = absurd (grind (arith, first))
-  of_one (f ∷ []) d first le e = let same : d ≡ f = ap (λ o. unwrap_or o d) first in rw (e, same) refl
-  of_one (f ∷ g ∷ es) d first le e = absurd (omega arith)
+  pub of_one : (es found : List Entry) (e : Entry) → e ≡ get_or es 0 e → length es ≡ 1 → (q.ranges ≡ [] → es ≡ found) → is_empty q.ranges ≡ true
+      → next_written q.is_json (answer_of_inc e.version level q.identifier (Some q.base)) ≡ increment_written q level found
+  of_one es found e is one same none =
+      let alone : found ≡ e ∷ [] = sym (same (no_texts q.ranges none)) ∙ one_item es e is one in rw (alone, none) refl
 
 pub empty_texts : (xs : List (Bor (List ℕ))) (b : Bool) → b ≡ (length xs == 0) → is_empty (texts xs) ≡ b
 empty_texts [] b e = sym e

@@ -12,3 +12,4 @@ pub mod Again
 pub mod OneQuestion
 pub mod Answered
 pub mod ToldOf
+pub mod Texts

@@ -20,6 +20,7 @@ use Rattle.nodejs_semver.specs.Ranges.Algebra.{difference, intersection}
 use Rattle.nodejs_semver.specs.Ranges.Gate.{accepts}
 use Rattle.nodejs_semver.specs.Ranges.Least.{IsLeastOf, beyond}
 use Rattle.npm_semver.specs.Arguments.{is_one_of}
+use Rattle.npm_semver.specs.Responses.{bare}
 use Rattle.npm_semver.specs.declared.subcommands.replies.Status.{Status}
 use Rattle.npm_semver.specs.declared.subcommands.replies.Status.TheVariants.{Yes, No, Malformed}
 
@@ -61,9 +62,10 @@ pub data HasIdentifier : List (List ℕ) → Option (List ℕ) → Type 0 where
 abbrev pub status_of : Fault → Status
 status_of fault = elim fault [ NotAPrerelease text ↦ No | Overflow ↦ No | _ ↦ Malformed ]
 
--- what is said for what `inc` returns: no, with a message, also if the next version is not above
+-- what is said for what `inc` returns: the next version without its build metadata, or no, with a
+-- message, also if it is not above
 abbrev pub next_said : VersionValue → Result VersionValue Fault → Said
-next_said v (Ok w) = if is_lt (precedence v w) then reply true (Some (version_text w)) else say [] true No
+next_said v (Ok w) = if is_lt (precedence v w) then reply true (Some (bare w)) else say [] true No
 next_said v (Err fault) = say [] true (status_of fault)
 
 -- a range is printed if it accepts a version

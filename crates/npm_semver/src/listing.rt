@@ -1,95 +1,115 @@
-// The versions among some texts that ranges accept.
+// The texts of a question: the versions that are listed, and why others are left out.
 
 ghost use Rattle.std.specs.Prelude.{◌≡◌, ◌++◌, ◌∷◌, [], ℕ, List, IfOk, OnOk};
 ghost use Rattle.std.specs.List.{list_all};
-ghost use Rattle.npm_semver.specs.Listing.{AreListed, IsListing};
+ghost use Rattle.npm_semver.specs.Listing.{AreListed};
+ghost use Rattle.npm_semver.specs.Reasons.{AreLeftOut, AreNoRanges};
 ghost use Rattle.npm_semver.specs.Internal.Asked.{texts};
-ghost use Rattle.npm_semver.specs.Internal.Readings.{AreRead, says};
+ghost use Rattle.npm_semver.specs.Internal.Readings.{says};
+ghost use Rattle.npm_semver.specs.Internal.Texts.{Reads};
 
 use crate::entry::Entry;
 use crate::reading::ReadOptions;
+use crate::why::{Kind, Reason};
 use nodejs_semver::{RangeRef, VersionRef};
 use semver_core::scan;
 use std::alloc::{AllocError, Global};
 
-/// Returns the versions among the texts that all ranges accept, in ascending order, each with its
-/// text. A text that is no version is left out, and a text that is no range accepts none. Fails
-/// only if allocation fails.
-pub fn listing<'a>(
-    alloc: Global,
-    reading: ReadOptions,
-    ranges: &[&str],
-    versions: &[&'a str],
-) -> Result<Vec<Entry<'a>>, AllocError>
-    ensures { IfOk result (λ printed.
-        IsListing reading (texts ranges.now) (texts versions.now) printed.items) }
-{
-    let ranges = read_ranges(alloc, reading, ranges)?;
-    let mut listed = read_versions(alloc, reading, &ranges, versions)?;
-    listed.sort()?;
-    Ok(listed)
+/// What range texts are, and texts that may be versions, each in their order.
+#[derive(Drop)]
+pub struct Texts<'a> {
+    /// The ranges; `None` stands for a text that is none.
+    pub ranges: Vec<Option<RangeRef<'a>>>,
+    /// The range texts that are no ranges.
+    pub no_ranges: Vec<Reason<'a>>,
+    /// The versions that all ranges accept.
+    pub entries: Vec<Entry<'a>>,
+    /// The texts that are no versions, and versions that not all ranges accept.
+    pub left_out: Vec<Reason<'a>>,
+    /// Whether some text is a version.
+    pub has_version: bool,
 }
 
-/// Reads the range texts; `None` stands for one that is no range.
-pub fn read_ranges<'a>(
-    alloc: Global,
-    reading: ReadOptions,
-    range_texts: &[&'a str],
-) -> Result<Vec<Option<RangeRef<'a>>>, AllocError>
-    ensures { IfOk result (λ ranges.
-        AreRead reading (texts range_texts.now) ranges.items) }
-{
-    let mut ranges = Vec::new(alloc);
-    for &text in range_texts {
-        ranges.push(reading.range(alloc, text)?)?;
+impl<'a> Texts<'a> {
+    /// Reads each text once. A text that is no range accepts no version. Fails only if allocation
+    /// fails.
+    pub fn of(
+        alloc: Global,
+        reading: ReadOptions,
+        range_texts: &[&'a str],
+        version_texts: &[&'a str],
+    ) -> Result<Texts<'a>, AllocError>
+        ensures no_ranges { IfOk result (λ read.
+            AreNoRanges reading (texts range_texts.now) read.no_ranges.items) }
+        ensures listed { IfOk result (λ read. AreListed reading
+            (texts range_texts.now) (texts version_texts.now) read.entries.items) }
+        ensures left_out { IfOk result (λ read. AreLeftOut reading
+            (texts range_texts.now) (texts version_texts.now) read.left_out.items) }
+        ensures read { IfOk result (Reads reading
+            (texts range_texts.now) (texts version_texts.now)) }
+    {
+        let mut read = Texts {
+            ranges: Vec::new(alloc),
+            no_ranges: Vec::new(alloc),
+            entries: Vec::new(alloc),
+            left_out: Vec::new(alloc),
+            has_version: false,
+        };
+        for &range in range_texts {
+            read.push_range(alloc, reading, range)?;
+        }
+        for &text in version_texts {
+            read.push_version(reading, text)?;
+        }
+        Ok(read)
     }
-    Ok(ranges)
-}
 
-/// Returns the versions among the texts that all ranges accept, in the order of the texts, each
-/// with its text.
-pub fn read_versions<'a>(
-    alloc: Global,
-    reading: ReadOptions,
-    ranges: &[Option<RangeRef<'_>>],
-    version_texts: &[&'a str],
-) -> Result<Vec<Entry<'a>>, AllocError>
-    ensures { IfOk result (λ listed. (range_texts : List (List ℕ)) →
-        AreRead reading range_texts ranges.now →
-        AreListed reading range_texts (texts version_texts.now) listed.items) }
-{
-    let mut listed = Vec::new(alloc);
-    for &text in version_texts {
-        push_version(reading, ranges, text, &mut listed)?;
+    // Adds a range text.
+    fn push_range(
+        &mut self,
+        alloc: Global,
+        reading: ReadOptions,
+        text: &'a str,
+    ) -> Result<(), AllocError>
+        ensures { OnOk result ((before : List (List ℕ)) → Reads reading before [] self.old →
+            Reads reading (before ++ text.now ∷ []) [] self.new) }
+    {
+        let Some(range) = reading.range(alloc, text)? else {
+            let kind = Kind::NoRange;
+            self.no_ranges.push(Reason { text, kind })?;
+            self.ranges.push(None)?;
+            return Ok(());
+        };
+        self.ranges.push(Some(range))?;
+        Ok(())
     }
-    Ok(listed)
-}
 
-// Appends the version of a text, if it is one and all ranges accept it.
-fn push_version<'a>(
-    reading: ReadOptions,
-    ranges: &[Option<RangeRef<'_>>],
-    text: &'a str,
-    listed: &mut Vec<Entry<'a>>,
-) -> Result<(), AllocError>
-    ensures { OnOk result ((range_texts before : List (List ℕ)) →
-        AreRead reading range_texts ranges.now →
-        AreListed reading range_texts before listed.old.items →
-        AreListed reading range_texts (before ++ text.now ∷ []) listed.new.items) }
-{
-    let Some(version) = reading.version(text) else {
-        return Ok(());
-    };
-    if !all_accept(reading.include_prerelease, ranges, &version) {
-        return Ok(());
+    // Adds a text that may be a version.
+    fn push_version(&mut self, reading: ReadOptions, text: &'a str) -> Result<(), AllocError>
+        ensures { OnOk result ((ranges before : List (List ℕ)) →
+            Reads reading ranges before self.old →
+            Reads reading ranges (before ++ text.now ∷ []) self.new) }
+    {
+        let Some(version) = reading.version(text) else {
+            let kind = Kind::NoVersion;
+            self.left_out.push(Reason { text, kind })?;
+            return Ok(());
+        };
+        self.has_version = true;
+        let middle = scan::trim(text);
+        if !all_accept(reading.include_prerelease, &self.ranges, &version) {
+            let kind = Kind::NotAccepted;
+            self.left_out.push(Reason { text, kind })?;
+            return Ok(());
+        }
+        let text = middle;
+        self.entries.push(Entry { version, text })?;
+        Ok(())
     }
-    let text = scan::trim(text);
-    listed.push(Entry { version, text })?;
-    Ok(())
 }
 
-/// Whether each of the ranges accepts a version.
-pub fn all_accept(
+// Whether each of the ranges accepts a version.
+fn all_accept(
     include_prerelease: bool,
     ranges: &[Option<RangeRef<'_>>],
     version: &VersionRef<'_>,

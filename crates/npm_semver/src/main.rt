@@ -17,7 +17,6 @@ mod why;
 use crate::question::Request;
 use crate::run::respond;
 use crate::subcommands::{Reply, Subcommand};
-use crate::why::told;
 use anyhow::Result;
 use std::process::ExitCode;
 use std::{env, io};
@@ -37,10 +36,8 @@ fn main(rt: HostRuntime) -> Result<ExitCode> {
         String::new(alloc)
     };
     let request = asked.with_lines(alloc, &input)?;
-    if request.tells_why() {
-        eprint!(rt; "{}", told(alloc, &request)?)?;
-    }
     let response = respond(alloc, &request)?;
+    eprint!(rt; "{}", response.told)?;
     if let Some(refusal) = &response.refusal {
         eprintln!(rt; "semver: {refusal}")?;
     }

@@ -9,7 +9,7 @@ ghost use Rattle.std.specs.Char.{is_ascii_digit};
 ghost use Rattle.std.specs.List.{list_all};
 ghost use Rattle.std.specs.Str.Lines.{lines};
 ghost use Rattle.semver_core.specs.Text.Characters.{begins};
-ghost use Rattle.npm_semver.specs.Responses.{reads_input, tells_why, with_lines};
+ghost use Rattle.npm_semver.specs.Responses.{reads_input, with_lines};
 ghost use Rattle.npm_semver.specs.declared.question.Word.TheVariants as Word;
 ghost use Rattle.npm_semver.specs.Internal.Asked.{asked_of, request_of, texts};
 
@@ -290,16 +290,6 @@ impl<'a> Request<'a> {
         match self {
             Request::Help => false,
             Request::Versions(question) => question.reads_input,
-        }
-    }
-
-    /// Whether it is told why texts are left out.
-    pub fn tells_why(&self) -> bool
-        ensures { result ≡ tells_why (request_of self.now) }
-    {
-        match self {
-            Request::Help => false,
-            Request::Versions(question) => question.is_why,
         }
     }
 

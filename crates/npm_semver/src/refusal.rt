@@ -1,16 +1,16 @@
 // Why nothing is answered.
 
-ghost use Rattle.std.specs.Prelude.{◌≡◌, ◌&&◌, ◌||◌, IfNone, IfOk, IfSome, false, true};
+ghost use Rattle.std.specs.Prelude.{◌≡◌, ◌&&◌, ◌||◌, IfNone, IfSome, not};
 ghost use Rattle.std.specs.List.{list_all, list_any};
-ghost use Rattle.std.specs.Option.{is_none};
+ghost use Rattle.semver_core.specs.Lists.{is_empty};
+ghost use Rattle.npm_semver.specs.Responses.{IsRefused, is_plain};
 ghost use Rattle.npm_semver.specs.Internal.Asked.{asked_of};
-ghost use Rattle.npm_semver.specs.Responses.{HasNoVersion, HasUnread, HasUnshown, IsRefused};
-ghost use Rattle.npm_semver.specs.Responses.{is_plain};
+ghost use Rattle.npm_semver.specs.Internal.Texts.{IsReadFor, is_no_version};
 
-use crate::listing::{read_ranges, read_versions};
+use crate::listing::Texts;
 use crate::question::Question;
-use nodejs_semver::{IncrementError, RangeRef};
-use std::alloc::{AllocError, Global};
+use crate::why::{Kind, Reason};
+use nodejs_semver::IncrementError;
 use thiserror::Error;
 
 /// Why nothing is printed.
@@ -30,26 +30,26 @@ pub enum Refusal {
     NotIncremented(IncrementError),
 }
 
-/// Returns why nothing is answered to a question, if so. Fails only if allocation fails.
-pub fn refusal_of(alloc: Global, question: &Question<'_>) -> Result<Option<Refusal>, AllocError>
-    ensures some { IfOk result (λ refusal. IfSome refusal (λ _.
-        IsRefused (asked_of question.now))) }
-    ensures none { IfOk result (λ refusal. IfNone refusal
-        (IsRefused (asked_of question.now) → ⊥)) }
+/// Returns why nothing is answered to a question, whose texts are read, if so.
+pub fn refusal_of(question: &Question<'_>, read: &Texts<'_>) -> Option<Refusal>
+    ensures some { IsReadFor (asked_of question.now) read.now → IfSome result (λ _.
+        IsRefused (asked_of question.now)) }
+    ensures none { IsReadFor (asked_of question.now) read.now → IfNone result
+        (IsRefused (asked_of question.now) → ⊥) }
 {
     if has_unknown(question) {
-        return Ok(Some(Refusal::UnknownOption));
+        return Some(Refusal::UnknownOption);
     }
-    if has_unread(alloc, question)? {
-        return Ok(Some(Refusal::UnreadRange));
+    if has_unread(question, read) {
+        return Some(Refusal::UnreadRange);
     }
-    if has_no_version(alloc, question)? {
-        return Ok(Some(Refusal::NoVersion));
+    if has_no_version(question, read) {
+        return Some(Refusal::NoVersion);
     }
     if has_unshown(question) {
-        return Ok(Some(Refusal::UnshownText));
+        return Some(Refusal::UnshownText);
     }
-    Ok(None)
+    None
 }
 
 // Whether a word has to be an option, and is none.
@@ -59,53 +59,38 @@ fn has_unknown(question: &Question<'_>) -> bool
     question.is_strict && question.has_unknown
 }
 
-// Whether range texts have to be ranges.
-fn demands_ranges(question: &Question<'_>) -> bool
-    ensures { result ≡ question.now.reading.is_loose || question.now.is_strict }
-{
-    question.reading.is_loose || question.is_strict
-}
-
 // Whether a range text has to be a range, and is none.
-fn has_unread(alloc: Global, question: &Question<'_>) -> Result<bool, AllocError>
-    ensures some { IfOk result (λ is. is ≡ true → HasUnread (asked_of question.now)) }
-    ensures none { IfOk result (λ is. is ≡ false → HasUnread (asked_of question.now) → ⊥) }
+fn has_unread(question: &Question<'_>, read: &Texts<'_>) -> bool
+    ensures { result ≡ (question.now.reading.is_loose || question.now.is_strict)
+        && not (is_empty read.now.no_ranges.items) }
 {
-    if !demands_ranges(question) {
-        return Ok(false);
-    }
-    let ranges = read_ranges(alloc, question.reading, question.ranges.as_slice())?;
-    Ok(has_none(&ranges))
+    (question.reading.is_loose || question.is_strict) && !read.no_ranges.is_empty()
 }
 
 // Whether a text has to be a version, and is none.
-fn has_no_version(alloc: Global, question: &Question<'_>) -> Result<bool, AllocError>
-    ensures some { IfOk result (λ is. is ≡ true → HasNoVersion (asked_of question.now)) }
-    ensures none { IfOk result (λ is. is ≡ false → HasNoVersion (asked_of question.now) → ⊥) }
+fn has_no_version(question: &Question<'_>, read: &Texts<'_>) -> bool
+    ensures { result ≡ question.now.is_strict && list_any is_no_version read.now.left_out.items }
 {
-    if !question.is_strict {
-        return Ok(false);
-    }
-    let texts = question.versions.as_slice();
-    let read = read_versions(alloc, question.reading, &[], texts)?;
-    Ok(read.len() < texts.len())
+    question.is_strict && has_none(&read.left_out)
+}
+
+// Whether some text is told of that is no version.
+fn has_none(left_out: &[Reason<'_>]) -> bool
+    ensures { result ≡ list_any is_no_version left_out.now }
+{
+    left_out.iter().any(
+        |reason| -> bool
+            ensures { result ≡ is_no_version reason.now }
+        { matches!(reason.kind, Kind::NoVersion) },
+    )
 }
 
 // Whether some text may be printed as it was given, and is no line or no JSON string.
 fn has_unshown(question: &Question<'_>) -> bool
-    ensures some { result ≡ true → HasUnshown (asked_of question.now) }
-    ensures none { result ≡ false → HasUnshown (asked_of question.now) → ⊥ }
+    ensures { result ≡ (question.now.reading.is_coerced && question.now.as_written)
+        && not (list_all (λ t. list_all is_plain t.now) question.now.versions.items) }
 {
-    if !shows_coerced(question) {
-        return false;
-    }
-    !are_plain(question.versions.as_slice())
-}
-
-fn shows_coerced(question: &Question<'_>) -> bool
-    ensures { result ≡ question.now.reading.is_coerced && question.now.as_written }
-{
-    question.reading.is_coerced && question.as_written
+    question.reading.is_coerced && question.as_written && !are_plain(&question.versions)
 }
 
 fn are_plain(texts: &[&str]) -> bool
@@ -126,15 +111,5 @@ fn is_plain_text(text: &[u8]) -> bool
         |byte| -> bool
             ensures { result ≡ is_plain byte.now }
         { !matches!(*byte, 0..=31 | b'"' | b'\\') },
-    )
-}
-
-fn has_none(ranges: &[Option<RangeRef<'_>>]) -> bool
-    ensures { result ≡ list_any is_none ranges.now }
-{
-    ranges.iter().any(
-        |range| -> bool
-            ensures { result ≡ is_none range.now }
-        { range.is_none() },
     )
 }

@@ -2,22 +2,25 @@
 
 ghost use Rattle.std.specs.Prelude.{◌≡◌, ◌++◌, ◌∷◌, [], not, is_some, IfOk, OnOk, None, Ok};
 ghost use Rattle.std.specs.Prelude.{Some};
-ghost use Rattle.std.specs.Prelude.{map, string_bytes, if◌then◌else◌};
+ghost use Rattle.std.specs.Prelude.{false, map, string_bytes, if◌then◌else◌};
 ghost use Rattle.std.specs.List.{flat_map};
 ghost use Rattle.semver_core.specs.Increments.Table.{answer_of_inc};
 ghost use Rattle.semver_core.specs.Lists.{is_empty};
 ghost use Rattle.semver_core.specs.Printing.Text.{marked_list};
+ghost use Rattle.npm_semver.specs.Listing.{AreListed};
 ghost use Rattle.npm_semver.specs.Responses.{IsRefused, IsResponse, Responds, bare, json, line};
 ghost use Rattle.npm_semver.specs.Responses.{in_order, next_written, nothing_written, picked};
-ghost use Rattle.npm_semver.specs.Responses.{quoted, shown};
+ghost use Rattle.npm_semver.specs.Responses.{quoted, shown, tells_why};
 ghost use Rattle.npm_semver.specs.Internal.Asked.{asked_of, request_of};
+ghost use Rattle.npm_semver.specs.Internal.Texts.{IsReadFor};
 ghost use Rattle.npm_semver.specs.Internal.Written.{written};
 
 use crate::entry::Entry;
 use crate::help::HELP;
-use crate::listing::{listing, read_versions};
+use crate::listing::Texts;
 use crate::question::{Pick, Question, Request};
 use crate::refusal::{Refusal, refusal_of};
+use crate::why::told;
 use nodejs_semver::{Failure, IdentifierRefs, Version, VersionRef};
 use std::alloc::{AllocError, Global};
 
@@ -26,6 +29,8 @@ use std::alloc::{AllocError, Global};
 pub struct Response {
     /// The text for standard output.
     pub output: String,
+    /// Why texts are left out, for standard error, if that is asked for.
+    pub told: String,
     /// Why nothing is printed, for standard error. Nothing says so where no text is a version that
     /// all ranges accept.
     pub refusal: Option<Refusal>,
@@ -46,8 +51,10 @@ pub fn run(alloc: Global, arguments: &[String], input: &str) -> Result<Response,
 
 /// Returns what the command writes for a request. Fails only if allocation fails.
 pub fn respond(alloc: Global, request: &Request<'_>) -> Result<Response, AllocError>
-    ensures { IfOk result (λ response.
+    ensures response { IfOk result (λ response.
         Responds (request_of request.now) (written response)) }
+    ensures told { tells_why (request_of request.now) ≡ false
+        → IfOk result (λ response. string_bytes response.told ≡ []) }
 {
     match request {
         Request::Help => help(alloc),
@@ -57,32 +64,59 @@ pub fn respond(alloc: Global, request: &Request<'_>) -> Result<Response, AllocEr
 
 // What is written for a question.
 fn answer(alloc: Global, question: &Question<'_>) -> Result<Response, AllocError>
+    ensures response { IfOk result (λ response.
+        Responds (Some (asked_of question.now)) (written response)) }
+    ensures told { question.now.is_why ≡ false
+        → IfOk result (λ response. string_bytes response.told ≡ []) }
+{
+    let (ranges, versions) = (question.ranges.as_slice(), question.versions.as_slice());
+    let mut read = Texts::of(alloc, question.reading, ranges, versions)?;
+    let told = told(alloc, question, &read)?;
+    let mut response = respond_to(alloc, question, &mut read)?;
+    response.told = told;
+    Ok(response)
+}
+
+// What is written for a question whose texts are read.
+fn respond_to(
+    alloc: Global,
+    question: &Question<'_>,
+    read: &mut Texts<'_>,
+) -> Result<Response, AllocError>
+    requires { IsReadFor (asked_of question.now) read.old }
     ensures { IfOk result (λ response.
         Responds (Some (asked_of question.now)) (written response)) }
 {
-    match refusal_of(alloc, question)? {
+    match refusal_of(question, read) {
         Some(refusal) => Ok(nothing(alloc, Some(refusal))),
-        None => print(alloc, question),
+        None => print(alloc, question, read),
     }
 }
 
 // What is written for a question that is not refused.
-fn print(alloc: Global, question: &Question<'_>) -> Result<Response, AllocError>
-    requires { IsRefused (asked_of question.now) → ⊥ }
+fn print(
+    alloc: Global,
+    question: &Question<'_>,
+    read: &mut Texts<'_>,
+) -> Result<Response, AllocError>
+    requires read { IsReadFor (asked_of question.now) read.old }
+    requires answered { IsRefused (asked_of question.now) → ⊥ }
     ensures { IfOk result (λ response.
         Responds (Some (asked_of question.now)) (written response)) }
 {
     match question.level {
-        Some(level) => increment(alloc, question, level),
-        None => list(alloc, question),
+        Some(level) => increment(alloc, question, level, read),
+        None => list(alloc, question, &mut read.entries),
     }
 }
 
 fn help(alloc: Global) -> Result<Response, AllocError>
-    ensures { IfOk result (λ response. Responds None (written response)) }
+    ensures response { IfOk result (λ response. Responds None (written response)) }
+    ensures told { IfOk result (λ response. string_bytes response.told ≡ []) }
 {
     Ok(Response {
         output: String::from_str(alloc, HELP)?,
+        told: String::new(alloc),
         refusal: None,
         is_success: true,
     })
@@ -94,28 +128,34 @@ fn nothing(alloc: Global, refusal: Option<Refusal>) -> Response
 {
     Response {
         output: String::new(alloc),
+        told: String::new(alloc),
         refusal,
         is_success: false,
     }
 }
 
 // The versions that are asked for.
-fn list(alloc: Global, question: &Question<'_>) -> Result<Response, AllocError>
+fn list(
+    alloc: Global,
+    question: &Question<'_>,
+    listed: &mut Vec<Entry<'_>>,
+) -> Result<Response, AllocError>
     requires answered { IsRefused (asked_of question.now) → ⊥ }
     requires level { question.now.level ≡ None }
+    requires listed { let q = asked_of question.now in
+        AreListed q.reading q.ranges q.versions listed.old.items }
     ensures { IfOk result (λ response.
         Responds (Some (asked_of question.now)) (written response)) }
 {
-    let ranges = question.ranges.as_slice();
-    let versions = question.versions.as_slice();
-    let mut listed = listing(alloc, question.reading, ranges, versions)?;
-    let is_success = is_filled(&listed);
-    pick(question.pick, &mut listed);
-    put_in_order(question.is_reversed, &mut listed);
+    listed.sort()?;
+    let is_success = is_filled(listed);
+    pick(question.pick, listed);
+    put_in_order(question.is_reversed, listed);
     let mut output = String::new(alloc);
-    write_all(question.is_json, question.as_written, &listed, &mut output)?;
+    write_all(question.is_json, question.as_written, listed, &mut output)?;
     Ok(Response {
         output,
+        told: String::new(alloc),
         refusal: None,
         is_success,
     })
@@ -149,25 +189,30 @@ fn put_in_order(is_reversed: bool, entries: &mut Vec<Entry<'_>>)
 }
 
 // The next version.
-fn increment(alloc: Global, question: &Question<'_>, level: &str) -> Result<Response, AllocError>
+fn increment(
+    alloc: Global,
+    question: &Question<'_>,
+    level: &str,
+    read: &Texts<'_>,
+) -> Result<Response, AllocError>
+    requires read { IsReadFor (asked_of question.now) read.now }
     requires answered { IsRefused (asked_of question.now) → ⊥ }
     requires level { (asked_of question.now).level ≡ Some level.now }
     ensures { IfOk result (λ response.
         Responds (Some (asked_of question.now)) (written response)) }
 {
-    let (texts, ranges) = (question.versions.as_slice(), question.ranges.as_slice());
-    let read = read_versions(alloc, question.reading, &[], texts)?;
-    let entries = read.as_slice();
-    let Some(entry) = entries.first() else {
+    if !read.has_version {
         return Ok(nothing(alloc, None));
-    };
-    if entries.len() > 1 {
-        return Ok(nothing(alloc, Some(Refusal::NotOneVersion)));
     }
+    let ranges = question.ranges.as_slice();
     if !ranges.is_empty() {
         return Ok(nothing(alloc, Some(Refusal::NotOneVersion)));
     }
-    next(alloc, question, level, entry)
+    let entries = read.entries.as_slice();
+    if entries.len() != 1 {
+        return Ok(nothing(alloc, Some(Refusal::NotOneVersion)));
+    }
+    next(alloc, question, level, &entries[0])
 }
 
 fn next(
@@ -200,13 +245,14 @@ fn found(alloc: Global, is_json: bool, next: Version) -> Result<Response, AllocE
     }
     Ok(Response {
         output,
+        told: String::new(alloc),
         refusal: None,
         is_success: true,
     })
 }
 
-// A version without its build metadata.
-fn without_build(alloc: Global, version: Version) -> Result<Version, AllocError>
+/// A version without its build metadata. Fails only if allocation fails.
+pub fn without_build(alloc: Global, version: Version) -> Result<Version, AllocError>
     ensures { IfOk result (λ bare. bare ≡ record version { build = [] }) }
 {
     let Ok(parts) = version.into_parts(alloc) else {

@@ -1,14 +1,10 @@
 // Why texts are left out, for a person to read.
 
-ghost use Rattle.std.specs.Prelude.{◌≡◌, ◌++◌, ◌∷◌, [], ℕ, List, IfOk, OnOk};
-ghost use Rattle.npm_semver.specs.Internal.Asked.{texts};
-ghost use Rattle.npm_semver.specs.Internal.Readings.{AreRead};
-ghost use Rattle.npm_semver.specs.Reasons.{AreLeftOut, AreNoRanges};
+ghost use Rattle.std.specs.Prelude.{◌≡◌, [], IfOk, false, string_bytes};
 
-use crate::listing::{all_accept, read_ranges};
-use crate::question::{Question, Request};
+use crate::listing::Texts;
+use crate::question::Question;
 use crate::reading::ReadOptions;
-use nodejs_semver::RangeRef;
 use nodejs_semver::diagnosis::{VersionFlaw, version_flaw};
 use semver_core::scan;
 use std::alloc::{AllocError, Global};
@@ -40,137 +36,23 @@ impl<'a> Model for Reason<'a> {
     ghost view = { λ reason. record { text = reason.text.now; kind = reason.kind } };
 }
 
-/// The texts that are left out, in the order in which they are told of: the range texts first.
-#[derive(Drop)]
-pub struct Reasons<'a> {
-    pub ranges: Vec<Reason<'a>>,
-    pub versions: Vec<Reason<'a>>,
-}
-
-/// Returns which range texts are no ranges, and which texts are no versions or are not accepted.
-/// Fails only if allocation fails.
-pub fn left_out_texts<'a>(
-    alloc: Global,
-    reading: ReadOptions,
-    range_texts: &[&'a str],
-    version_texts: &[&'a str],
-) -> Result<Reasons<'a>, AllocError>
-    ensures ranges { IfOk result (λ told.
-        AreNoRanges reading (texts range_texts.now) told.ranges.items) }
-    ensures versions { IfOk result (λ told.
-        AreLeftOut reading (texts range_texts.now) (texts version_texts.now) told.versions.items) }
+/// Returns, if it is asked for, for each range text that is no range, and for each text that is no
+/// version or is not accepted, a line that says so, the text, and carets under the place. In texts
+/// every character that is not printable ASCII is escaped.
+pub fn told(alloc: Global, question: &Question<'_>, read: &Texts<'_>) -> Result<String, AllocError>
+    ensures { question.now.is_why ≡ false → IfOk result (λ told. string_bytes told ≡ []) }
 {
-    let read = read_ranges(alloc, reading, range_texts)?;
-    let ranges = no_ranges(alloc, reading, range_texts)?;
-    let versions = rejects(alloc, reading, &read, version_texts)?;
-    Ok(Reasons { ranges, versions })
-}
-
-fn no_ranges<'a>(
-    alloc: Global,
-    reading: ReadOptions,
-    range_texts: &[&'a str],
-) -> Result<Vec<Reason<'a>>, AllocError>
-    ensures { IfOk result (λ told. AreNoRanges reading (texts range_texts.now) told.items) }
-{
-    let mut told = Vec::new(alloc);
-    for &text in range_texts {
-        push_range(alloc, reading, text, &mut told)?;
-    }
-    Ok(told)
-}
-
-// Appends a range text, if it is no range.
-fn push_range<'a>(
-    alloc: Global,
-    reading: ReadOptions,
-    text: &'a str,
-    told: &mut Vec<Reason<'a>>,
-) -> Result<(), AllocError>
-    ensures { OnOk result ((before : List (List ℕ)) → AreNoRanges reading before told.old.items →
-        AreNoRanges reading (before ++ text.now ∷ []) told.new.items) }
-{
-    let range = reading.range(alloc, text)?;
-    let None = range else {
-        return Ok(());
-    };
-    push(text, Kind::NoRange, told)?;
-    Ok(())
-}
-
-fn rejects<'a>(
-    alloc: Global,
-    reading: ReadOptions,
-    ranges: &[Option<RangeRef<'_>>],
-    version_texts: &[&'a str],
-) -> Result<Vec<Reason<'a>>, AllocError>
-    ensures { IfOk result (λ told. (range_texts : List (List ℕ)) →
-        AreRead reading range_texts ranges.now →
-        AreLeftOut reading range_texts (texts version_texts.now) told.items) }
-{
-    let mut told = Vec::new(alloc);
-    for &text in version_texts {
-        push_reject(reading, ranges, text, &mut told)?;
-    }
-    Ok(told)
-}
-
-// Appends a text, if it is no version or not all ranges accept it.
-fn push_reject<'a>(
-    reading: ReadOptions,
-    ranges: &[Option<RangeRef<'_>>],
-    text: &'a str,
-    told: &mut Vec<Reason<'a>>,
-) -> Result<(), AllocError>
-    ensures { OnOk result ((range_texts before : List (List ℕ)) →
-        AreRead reading range_texts ranges.now →
-        AreLeftOut reading range_texts before told.old.items →
-        AreLeftOut reading range_texts (before ++ text.now ∷ []) told.new.items) }
-{
-    let Some(version) = reading.version(text) else {
-        push(text, Kind::NoVersion, told)?;
-        return Ok(());
-    };
-    if all_accept(reading.include_prerelease, ranges, &version) {
-        return Ok(());
-    }
-    push(text, Kind::NotAccepted, told)?;
-    Ok(())
-}
-
-fn push<'a>(text: &'a str, kind: Kind, told: &mut Vec<Reason<'a>>) -> Result<(), AllocError>
-    ensures { OnOk result (told.new.items
-        ≡ told.old.items ++ record { text = text.now; kind = kind } ∷ []) }
-{
-    told.push(Reason { text, kind })?;
-    Ok(())
-}
-
-/// Returns for each range text that is no range, and for each text that is no version or is not
-/// accepted, a line that says so, the text, and carets under the place. In texts every character
-/// that is not printable ASCII is escaped.
-pub fn told(alloc: Global, request: &Request<'_>) -> Result<String, AllocError> {
     let mut output = String::new(alloc);
-    if let Request::Versions(question) = request {
-        write_question(alloc, question, &mut output)?;
+    if !question.is_why {
+        return Ok(output);
+    }
+    for reason in read.no_ranges.as_slice() {
+        write_told(question.reading, reason, &mut output)?;
+    }
+    for reason in read.left_out.as_slice() {
+        write_told(question.reading, reason, &mut output)?;
     }
     Ok(output)
-}
-
-fn write_question(
-    alloc: Global,
-    question: &Question<'_>,
-    output: &mut String,
-) -> Result<(), AllocError> {
-    let (ranges, versions) = (question.ranges.as_slice(), question.versions.as_slice());
-    let told = left_out_texts(alloc, question.reading, ranges, versions)?;
-    for reason in told.ranges.as_slice() {
-        write_told(question.reading, reason, output)?;
-    }
-    for reason in told.versions.as_slice() {
-        write_told(question.reading, reason, output)?;
-    }
-    Ok(())
 }
 
 fn write_told(

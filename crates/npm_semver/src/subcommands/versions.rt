@@ -13,6 +13,7 @@ ghost use Rattle.npm_semver.specs.Subcommands as Spec;
 ghost use Rattle.npm_semver.specs.Subcommands.{Answers, HasIdentifier, next_said, relation_of, say};
 ghost use Rattle.npm_semver.specs.Internal.Said.{relation, said};
 
+use crate::run::without_build;
 use crate::subcommands::replies::{Reply, Status, Trouble, answer, bare, line};
 use nodejs_semver::{Failure, IncrementError, VersionDiff, VersionRef, Versioned};
 use npm_reading::Reading;
@@ -256,7 +257,7 @@ fn behind<'a>(option: &'a str, identifier: &'a str) -> Result<Option<&'a str>, F
     }
 }
 
-// The next version after one, if it is above it.
+// The next version after one without its build metadata, if it is above it.
 fn raised<'a>(
     alloc: Global,
     version: &VersionRef<'_>,
@@ -267,7 +268,9 @@ fn raised<'a>(
         (answer_of_inc version.now level.now (option_copied identifier.entry) None)) }
 {
     match version.inc(alloc, level, identifier, None) {
-        Ok(next) if version.cmp_precedence(&next).is_lt() => line(alloc, true, &next),
+        Ok(next) if version.cmp_precedence(&next).is_lt() => {
+            line(alloc, true, &without_build(alloc, next)?)
+        }
         Ok(_) => Ok(troubled(alloc, Status::No, Trouble::NotAbove)),
         Err(Failure::Refused(error)) => Ok(not_raised(alloc, error)),
         Err(Failure::Memory(error)) => Err(error),

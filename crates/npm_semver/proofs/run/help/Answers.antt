@@ -1,5 +1,5 @@
 use Rattle.npm_semver.specs.Responses.Responds.{help}
 use Rattle.npm_semver.proofs.run.help.Goals as goal
 
-pub returns : goal.returns
-returns c = help _
+pub returns-clause-response : goal.returns-clause-response
+returns-clause-response c = help _
