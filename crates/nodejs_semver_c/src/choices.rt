@@ -4,7 +4,7 @@ ghost use Rattle.nodejs_semver.specs.Ranges.Best.{IsMax, IsMin};
 ghost use Rattle.nodejs_semver.specs.Ranges.Gate.{accepts};
 ghost use Rattle.nodejs_semver_c.specs.Answers.{OnRange};
 ghost use Rattle.nodejs_semver_c.specs.Internal.Choices.{IsBestAt, IsBestOf};
-ghost use Rattle.nodejs_semver_c.specs.Lists.{IsAnswer, OnArray, TellsEach, TellsPlace};
+ghost use Rattle.nodejs_semver_c.specs.Lists.{IsAnswer, OnArray, OnRoom, TellsEach, TellsPlace};
 ghost use Rattle.semver_core.specs.Values.Versions.{VersionValue};
 ghost use Rattle.std.specs.Option.{option_copied};
 ghost use Rattle.std.specs.Prelude.{◌≡◌, ◌<◌, ◌≤◌, ◌⊎◌, ◌++◌, ◌∷◌, [], List, Some};
@@ -147,7 +147,7 @@ fn keep_better<'t>(
 }
 
 /// Which of some versions a range accepts: `answers` gets one of `ANSWER_NO`, `ANSWER_YES` and
-/// `ANSWER_NO_VERSION` for each. If it has room for fewer, nothing is written.
+/// `ANSWER_NO_VERSION` for each. If it has room for fewer, nothing is read or written.
 ///
 /// Returns `OK`, `TOO_SMALL`, `BAD_ARGUMENT`, `NOT_UTF8`, `BAD_RANGE`, `NO_MEMORY` or `TOO_LONG`.
 #[unsafe(no_mangle)]
@@ -160,9 +160,8 @@ pub extern "C" fn nodejs_semver_range_satisfies_each(
     answers: &mut [u8],
 ) -> u32
     ensures { let kept = answers.new ≡ answers.old in
-        OnArray versions.now result kept (
-        ((result ≡ TOO_SMALL) × (length answers.old < length versions.now) × kept)
-        ⊎ OnRange reading include_prerelease range.now result kept (λ r. (result ≡ OK)
+        OnRoom versions.now (length answers.old) result kept (
+        OnRange reading include_prerelease range.now result kept (λ r. (result ≡ OK)
         × TellsEach r include_prerelease reading versions.now answers.old answers.new)) }
 {
     if versions.len() > MOST_TEXTS {

@@ -9,6 +9,7 @@
 
 mod choices;
 mod diagnosis;
+mod laws;
 mod pieces;
 mod print;
 mod ranges;
