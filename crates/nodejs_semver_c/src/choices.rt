@@ -44,7 +44,7 @@ impl Best {
 }
 
 /// Which of some versions is the greatest that a range accepts: `index` gets its place. Where a
-/// text is no version, `index` gets the place of the first such text.
+/// text of `versions` is rejected, `index` gets the place of the first such text.
 ///
 /// Returns `OK`, `NOTHING`, `BAD_ARGUMENT`, `NOT_UTF8`, `BAD_RANGE`, `BAD_VERSION`, `NO_MEMORY` or
 /// `TOO_LONG`.
@@ -71,7 +71,7 @@ pub extern "C" fn nodejs_semver_range_max_satisfying(
 }
 
 /// Which of some versions is the smallest that a range accepts: `index` gets its place. Where a
-/// text is no version, `index` gets the place of the first such text.
+/// text of `versions` is rejected, `index` gets the place of the first such text.
 ///
 /// Returns `OK`, `NOTHING`, `BAD_ARGUMENT`, `NOT_UTF8`, `BAD_RANGE`, `BAD_VERSION`, `NO_MEMORY` or
 /// `TOO_LONG`.
