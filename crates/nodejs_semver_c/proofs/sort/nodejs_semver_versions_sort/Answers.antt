@@ -26,5 +26,5 @@ pub returns-in-Err : goal.returns-in-Err
 returns-in-Err c =
     inr (omega (arith, c.if-versions-gt-MOST_TEXTS.false), inr (c.if-order-versions.false, elim c.in-Err.ensures.refused [
       | inl rejected ↦ inr (inl (refl, rejected))
-      | inr (is, kept, some) ↦ inl (is, (refl, kept), some)
+      | inr none ↦ inl (none.0, (refl, none.1), none.2)
     ]))
