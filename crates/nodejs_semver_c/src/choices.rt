@@ -7,7 +7,7 @@ ghost use Rattle.nodejs_semver_c.specs.Internal.Choices.{IsBestAt, IsBestOf};
 ghost use Rattle.nodejs_semver_c.specs.Lists.{IsAnswer, OnArray, OnRoom, TellsEach, TellsPlace};
 ghost use Rattle.semver_core.specs.Values.Versions.{VersionValue};
 ghost use Rattle.std.specs.Option.{option_copied};
-ghost use Rattle.std.specs.Prelude.{◌≡◌, ◌<◌, ◌≤◌, ◌⊎◌, ◌++◌, ◌∷◌, [], List, Some};
+ghost use Rattle.std.specs.Prelude.{◌≡◌, ◌≤◌, ◌++◌, ◌∷◌, [], List, Some};
 ghost use Rattle.std.specs.Prelude.{false, if◌then◌else◌, length};
 
 use crate::read::{self, MOST_TEXTS};
