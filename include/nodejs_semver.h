@@ -157,8 +157,8 @@ typedef struct {
 } nodejs_semver_word;
 
 /*
- * Which of some versions is the greatest that a range accepts: `index` gets its place. Where a text is no version,
- * `index` gets the place of the first such text.
+ * Which of some versions is the greatest that a range accepts: `index` gets its place. Where a text of `versions`
+ * is rejected, `index` gets the place of the first such text.
  *
  * Returns NODEJS_SEMVER_OK, NODEJS_SEMVER_NOTHING, NODEJS_SEMVER_BAD_ARGUMENT, NODEJS_SEMVER_NOT_UTF8,
  * NODEJS_SEMVER_BAD_RANGE, NODEJS_SEMVER_BAD_VERSION, NODEJS_SEMVER_NO_MEMORY or NODEJS_SEMVER_TOO_LONG.
@@ -167,8 +167,8 @@ nodejs_semver_status nodejs_semver_range_max_satisfying(uint32_t reading, const 
     const nodejs_semver_text *versions, size_t versions_len, size_t *index);
 
 /*
- * Which of some versions is the smallest that a range accepts: `index` gets its place. Where a text is no version,
- * `index` gets the place of the first such text.
+ * Which of some versions is the smallest that a range accepts: `index` gets its place. Where a text of `versions`
+ * is rejected, `index` gets the place of the first such text.
  *
  * Returns NODEJS_SEMVER_OK, NODEJS_SEMVER_NOTHING, NODEJS_SEMVER_BAD_ARGUMENT, NODEJS_SEMVER_NOT_UTF8,
  * NODEJS_SEMVER_BAD_RANGE, NODEJS_SEMVER_BAD_VERSION, NODEJS_SEMVER_NO_MEMORY or NODEJS_SEMVER_TOO_LONG.
@@ -178,7 +178,7 @@ nodejs_semver_status nodejs_semver_range_min_satisfying(uint32_t reading, const 
 
 /*
  * Which of some versions a range accepts: `answers` gets one of NODEJS_SEMVER_ANSWER_NO, NODEJS_SEMVER_ANSWER_YES
- * and NODEJS_SEMVER_ANSWER_NO_VERSION for each. If it has room for fewer, nothing is written.
+ * and NODEJS_SEMVER_ANSWER_NO_VERSION for each. If it has room for fewer, nothing is read or written.
  *
  * Returns NODEJS_SEMVER_OK, NODEJS_SEMVER_TOO_SMALL, NODEJS_SEMVER_BAD_ARGUMENT, NODEJS_SEMVER_NOT_UTF8,
  * NODEJS_SEMVER_BAD_RANGE, NODEJS_SEMVER_NO_MEMORY or NODEJS_SEMVER_TOO_LONG.
@@ -291,8 +291,8 @@ nodejs_semver_status nodejs_semver_range_allows_any(uint32_t reading, const char
 
 /*
  * The order of some versions, ascending by precedence, equal ones as they stand: `order` gets their places. If it
- * has room for fewer, nothing is written. Where a text is no version, `index` gets the place of the first such
- * text.
+ * has room for fewer, nothing is read or written. Where a text is rejected, `index` gets the place of the first
+ * such text.
  *
  * Returns NODEJS_SEMVER_OK, NODEJS_SEMVER_TOO_SMALL, NODEJS_SEMVER_BAD_ARGUMENT, NODEJS_SEMVER_NOT_UTF8,
  * NODEJS_SEMVER_BAD_VERSION, NODEJS_SEMVER_NO_MEMORY or NODEJS_SEMVER_TOO_LONG.

@@ -1,6 +1,6 @@
 -- Statement. Which status the exports return, and what they write. The texts are read from the
 -- left, and the first that is rejected decides the status.
-use Rattle.std.specs.Prelude.{◌≡◌, ◌≢◌, ◌<◌, ◌≤◌, ◌^◌, ◌++◌, ◌⊎◌, Bool, IsSomeAnd, IsUtf8, MatchOption, ℕ}
+use Rattle.std.specs.Prelude.{◌≡◌, ◌<◌, ◌≤◌, ◌^◌, ◌++◌, ◌⊎◌, Bool, IsSomeAnd, IsUtf8, MatchOption, codes, ℕ}
 use Rattle.std.specs.Prelude.{List, Option, Some, None, Result, Ok, Err, drop, length}
 use Rattle.semver_core.specs.Cuts.{Span}
 use Rattle.semver_core.specs.Failures.{NoValue}
@@ -34,7 +34,7 @@ RefusesVersion reading bytes status = MatchOption (reading_of reading) (status �
 abbrev pub RefusesRange : ℕ → Bool → List ℕ → ℕ → Type 0
 RefusesRange reading include bytes status = MatchOption (reading_of reading) (status ≡ BAD_ARGUMENT) (λ by.
     RefusesText bytes status ⊎ ((status ≡ BAD_RANGE) × IsUtf8 bytes × SpellsNoRange by include bytes)
-    ⊎ ((status ≡ NO_MEMORY) × IsWide by bytes))
+    ⊎ ((status ≡ NO_MEMORY) × IsWide by bytes × (SpellsNoRange by include bytes → ⊥)))
 
 -- an answer about what the bytes are read as, or they are rejected and all is as it was
 abbrev pub OnText : List ℕ → ℕ → Type 0 → Type 0 → Type 0
@@ -76,14 +76,15 @@ PrintsFound text None old new len_old len_new status = (status ≡ NOTHING) × K
 PrintsFound text (Some value) old new len_old len_new status =
     Prints (text value) old new len_old len_new status
 
--- the next version is printed, or the status says why there is none. Memory is never missing in
--- place of an overflow, and for a version only if it has identifiers.
+-- the next version is printed, or the status says why there is none. Memory is missing only for
+-- a version with identifiers, or where the identifier is compared to the version's whole list.
 abbrev pub PrintsResult : Result VersionValue increment.Fault → (old new : List ℕ)
     → (len_old len_new status : ℕ) → Type 0
 PrintsResult (Ok v) old new len_old len_new status = Prints (version_text v) old new len_old len_new status
     ⊎ NoMemoryOnlyIf status (Kept old new len_old len_new) (HasIdentifiers v)
 PrintsResult (Err fault) old new len_old len_new status = Kept old new len_old len_new
-    × ((status ≡ fault_number fault) ⊎ ((status ≡ NO_MEMORY) × (fault ≢ increment.Overflow)))
+    × ((status ≡ fault_number fault) ⊎ ((status ≡ NO_MEMORY)
+    × (fault ≡ increment.InvalidIncrementArgument (codes "identifier already exists"))))
 
 -- the same by a base, if there is one
 abbrev pub PrintsNext : (IdentifierBase → Result VersionValue increment.Fault) → Option IdentifierBase

@@ -1,6 +1,6 @@
 -- Statement. What is answered about many versions at once.
-use Rattle.std.specs.Prelude.{◌≡◌, ◌≤◌, ◌^◌, ◌++◌, ◌∷◌, ◌⊎◌, Bool, if◌then◌else◌, ℕ, List, Option, Some, None}
-use Rattle.std.specs.Prelude.{drop, length, map}
+use Rattle.std.specs.Prelude.{◌≡◌, ◌<◌, ◌≤◌, ◌^◌, ◌++◌, ◌∷◌, ◌⊎◌, Bool, if◌then◌else◌, ℕ, List}
+use Rattle.std.specs.Prelude.{Option, Some, None, drop, length, map}
 use Rattle.std.specs.Borrow.{Bor}
 use Rattle.std.specs.List.{AllZip, range_with_len, zip}
 use Rattle.std.specs.List.Sorted.{IsPermutation, IsSorted}
@@ -11,12 +11,18 @@ use Rattle.semver_core.specs.Values.Versions.{VersionValue}
 use Rattle.nodejs_semver.specs.Ranges.Gate.{accepts}
 use Rattle.nodejs_semver_c.specs.Answers.{IsVersionOf, RefusesVersion}
 use Rattle.nodejs_semver_c.specs.declared.TheConstants.{ANSWER_NO, ANSWER_NO_VERSION, ANSWER_YES}
-use Rattle.nodejs_semver_c.specs.declared.TheConstants.{NOTHING, OK, TOO_LONG}
+use Rattle.nodejs_semver_c.specs.declared.TheConstants.{NOTHING, OK, TOO_LONG, TOO_SMALL}
 
 -- an answer about an array of texts; or it has more than memory holds, at 16 bytes each, and all is
 -- as it was
 abbrev pub OnArray : List (Bor (List ℕ)) → ℕ → Type 0 → Type 0 → Type 0
-OnArray texts status Same Answer = ((status ≡ TOO_LONG) × (2 ^ 59 ≤ length texts) × Same) ⊎ Answer
+OnArray texts status Same Answer = ((status ≡ TOO_LONG) × (2 ^ 59 ≤ length texts) × Same)
+    ⊎ ((length texts < 2 ^ 59) × Answer)
+
+-- the same with a place for each text in an array; or that has room for fewer, and all is as it was
+abbrev pub OnRoom : List (Bor (List ℕ)) → (room status : ℕ) → Type 0 → Type 0 → Type 0
+OnRoom texts room status Same Answer = OnArray texts status Same
+    (((status ≡ TOO_SMALL) × (room < length texts) × Same) ⊎ ((length texts ≤ room) × Answer))
 
 -- these texts are read as these versions, each as its own
 abbrev pub AreVersionsOf : ℕ → List (Bor (List ℕ)) → List VersionValue → Type 0

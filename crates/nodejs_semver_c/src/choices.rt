@@ -4,10 +4,10 @@ ghost use Rattle.nodejs_semver.specs.Ranges.Best.{IsMax, IsMin};
 ghost use Rattle.nodejs_semver.specs.Ranges.Gate.{accepts};
 ghost use Rattle.nodejs_semver_c.specs.Answers.{OnRange};
 ghost use Rattle.nodejs_semver_c.specs.Internal.Choices.{IsBestAt, IsBestOf};
-ghost use Rattle.nodejs_semver_c.specs.Lists.{IsAnswer, OnArray, TellsEach, TellsPlace};
+ghost use Rattle.nodejs_semver_c.specs.Lists.{IsAnswer, OnArray, OnRoom, TellsEach, TellsPlace};
 ghost use Rattle.semver_core.specs.Values.Versions.{VersionValue};
 ghost use Rattle.std.specs.Option.{option_copied};
-ghost use Rattle.std.specs.Prelude.{◌≡◌, ◌<◌, ◌≤◌, ◌⊎◌, ◌++◌, ◌∷◌, [], List, Some};
+ghost use Rattle.std.specs.Prelude.{◌≡◌, ◌≤◌, ◌++◌, ◌∷◌, [], List, Some};
 ghost use Rattle.std.specs.Prelude.{false, if◌then◌else◌, length};
 
 use crate::read::{self, MOST_TEXTS};
@@ -44,7 +44,7 @@ impl Best {
 }
 
 /// Which of some versions is the greatest that a range accepts: `index` gets its place. Where a
-/// text is no version, `index` gets the place of the first such text.
+/// text of `versions` is rejected, `index` gets the place of the first such text.
 ///
 /// Returns `OK`, `NOTHING`, `BAD_ARGUMENT`, `NOT_UTF8`, `BAD_RANGE`, `BAD_VERSION`, `NO_MEMORY` or
 /// `TOO_LONG`.
@@ -71,7 +71,7 @@ pub extern "C" fn nodejs_semver_range_max_satisfying(
 }
 
 /// Which of some versions is the smallest that a range accepts: `index` gets its place. Where a
-/// text is no version, `index` gets the place of the first such text.
+/// text of `versions` is rejected, `index` gets the place of the first such text.
 ///
 /// Returns `OK`, `NOTHING`, `BAD_ARGUMENT`, `NOT_UTF8`, `BAD_RANGE`, `BAD_VERSION`, `NO_MEMORY` or
 /// `TOO_LONG`.
@@ -147,7 +147,7 @@ fn keep_better<'t>(
 }
 
 /// Which of some versions a range accepts: `answers` gets one of `ANSWER_NO`, `ANSWER_YES` and
-/// `ANSWER_NO_VERSION` for each. If it has room for fewer, nothing is written.
+/// `ANSWER_NO_VERSION` for each. If it has room for fewer, nothing is read or written.
 ///
 /// Returns `OK`, `TOO_SMALL`, `BAD_ARGUMENT`, `NOT_UTF8`, `BAD_RANGE`, `NO_MEMORY` or `TOO_LONG`.
 #[unsafe(no_mangle)]
@@ -160,9 +160,8 @@ pub extern "C" fn nodejs_semver_range_satisfies_each(
     answers: &mut [u8],
 ) -> u32
     ensures { let kept = answers.new ≡ answers.old in
-        OnArray versions.now result kept (
-        ((result ≡ TOO_SMALL) × (length answers.old < length versions.now) × kept)
-        ⊎ OnRange reading include_prerelease range.now result kept (λ r. (result ≡ OK)
+        OnRoom versions.now (length answers.old) result kept (
+        OnRange reading include_prerelease range.now result kept (λ r. (result ≡ OK)
         × TellsEach r include_prerelease reading versions.now answers.old answers.new)) }
 {
     if versions.len() > MOST_TEXTS {

@@ -5,7 +5,7 @@ ghost use Rattle.nodejs_semver_c.specs.Answers.{RefusesRange, RefusesText, Refus
 ghost use Rattle.nodejs_semver_c.specs.Readings.{IsWide, Spells, SpellsNoRange, SpellsRange};
 ghost use Rattle.nodejs_semver_c.specs.Readings.{reading_of};
 ghost use Rattle.semver_core.specs.Failures.{MemoryOnlyIf, NoValue, RefusedOnlyIf};
-ghost use Rattle.std.specs.Prelude.{◌≡◌, IfErr, IfOk, IsUtf8};
+ghost use Rattle.std.specs.Prelude.{◌≡◌, ◌↔◌, IfErr, IfOk, IsTrue, IsUtf8};
 
 use crate::{
     BAD_ARGUMENT, BAD_RANGE, BAD_VERSION, NO_MEMORY, NOT_UTF8, READING_NPM, READING_PORT, TOO_LONG,
@@ -95,6 +95,19 @@ impl Grammar {
             }
         }
     }
+
+    // Whether a text for which memory is missing is no range.
+    #[cold]
+    fn rejects(self, include_prerelease: bool, text: &str) -> bool
+        ensures { IsWide self text.now
+            → IsTrue result ↔ SpellsNoRange self include_prerelease text.now }
+    {
+        match self {
+            // No text is rejected that means two intervals.
+            Grammar::Port => false,
+            Grammar::Npm => npm_reading::range_flaw(text, include_prerelease).is_some(),
+        }
+    }
 }
 
 /// The version of a text, or the status that rejects it.
@@ -131,6 +144,7 @@ pub fn range(
     match reading.spelled_range(alloc, include_prerelease, text) {
         Ok(range) => Ok(range),
         Err(Failure::Refused(_)) => Err(BAD_RANGE),
+        Err(Failure::Memory(_)) if reading.rejects(include_prerelease, text) => Err(BAD_RANGE),
         Err(Failure::Memory(_)) => Err(NO_MEMORY),
     }
 }

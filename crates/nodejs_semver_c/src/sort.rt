@@ -1,7 +1,7 @@
 // The order of many versions.
 
 ghost use Rattle.nodejs_semver_c.specs.Answers.{NoMemoryOnlyIf};
-ghost use Rattle.nodejs_semver_c.specs.Lists.{AreVersionsOf, OnArray, RefusesAt, TellsOrder};
+ghost use Rattle.nodejs_semver_c.specs.Lists.{AreVersionsOf, OnRoom, RefusesAt, TellsOrder};
 ghost use Rattle.nodejs_semver_c.specs.Lists.{placed};
 ghost use Rattle.semver_core.specs.Values.Versions.{VersionValue};
 ghost use Rattle.std.specs.Prelude.{◌≡◌, ◌<◌, ◌≤◌, ◌⊎◌, ◌++◌, [], IfErr, List, OnOk, drop};
@@ -16,8 +16,8 @@ use std::alloc::Global;
 type Placed<'t> = (VersionRef<'t>, usize);
 
 /// The order of some versions, ascending by precedence, equal ones as they stand: `order` gets
-/// their places. If it has room for fewer, nothing is written. Where a text is no version, `index`
-/// gets the place of the first such text.
+/// their places. If it has room for fewer, nothing is read or written. Where a text is rejected,
+/// `index` gets the place of the first such text.
 ///
 /// Returns `OK`, `TOO_SMALL`, `BAD_ARGUMENT`, `NOT_UTF8`, `BAD_VERSION`, `NO_MEMORY` or `TOO_LONG`.
 #[unsafe(no_mangle)]
@@ -29,9 +29,8 @@ pub extern "C" fn nodejs_semver_versions_sort(
     index: &mut usize,
 ) -> u32
     ensures { let kept = (order.new ≡ order.old) × (index.new ≡ index.old) in
-        OnArray versions.now result kept (
-        ((result ≡ TOO_SMALL) × (length order.old < length versions.now) × kept)
-        ⊎ NoMemoryOnlyIf result kept (0 < length versions.now)
+        OnRoom versions.now (length order.old) result kept (
+        NoMemoryOnlyIf result kept (0 < length versions.now)
         ⊎ ((order.new ≡ order.old) × RefusesAt reading versions.now index.new result)
         ⊎ ((result ≡ OK) × (index.new ≡ index.old)
         × TellsOrder reading versions.now order.old order.new)) }

@@ -2,14 +2,15 @@
 
 ghost use Rattle.nodejs_semver_c.specs.Answers.{Kept, OnText, OnVersion, Prints, PrintsNext};
 ghost use Rattle.nodejs_semver_c.specs.Answers.{PrintsResult};
-ghost use Rattle.nodejs_semver_c.specs.Internal.Failures.{failure_number};
+ghost use Rattle.nodejs_semver_c.specs.Internal.Failures.{IsMisuse};
 ghost use Rattle.nodejs_semver_c.specs.Numbers.{base_of, fault_number, kind_number, order_number};
 ghost use Rattle.semver_core.specs.Difference.{kind_between};
-ghost use Rattle.semver_core.specs.Increments.Table.{answer_of_inc};
+ghost use Rattle.semver_core.specs.Increments.Table.{answer_of_inc, by_word};
 ghost use Rattle.semver_core.specs.Increments.View.{fault_of};
 ghost use Rattle.semver_core.specs.Printing.Text.{version_text};
 ghost use Rattle.semver_core.specs.Values.Order.{precedence};
-ghost use Rattle.std.specs.Prelude.{◌≡◌, ⊤, Some};
+ghost use Rattle.semver_core.specs.declared.increment.IdentifierBase.{IdentifierBase};
+ghost use Rattle.std.specs.Prelude.{◌≡◌, ⊤, List, ℕ, Some};
 
 use crate::print::print;
 use crate::{
@@ -17,7 +18,7 @@ use crate::{
     KIND_NONE, KIND_PATCH, KIND_PREMAJOR, KIND_PREMINOR, KIND_PREPATCH, KIND_PRERELEASE, NO_MEMORY,
     NOT_A_PRERELEASE, OK, OVERFLOW, read,
 };
-use nodejs_semver::{Failure, IdentifierBase, IncrementError, VersionDiff, VersionRef};
+use nodejs_semver::{Failure, Identifier, IdentifierBase, IncrementError, VersionDiff, VersionRef};
 use std::alloc::Global;
 use std::cmp::Ordering;
 
@@ -190,7 +191,44 @@ fn print_next(
 {
     match version.inc(alloc, word, Some(identifier), Some(base)) {
         Ok(next) => print(&next, out, len),
-        Err(failure) => status_of_failure(&failure),
+        Err(Failure::Refused(error)) => status_of(&error),
+        Err(Failure::Memory(_)) => misuse(version, word, identifier, base).unwrap_or(NO_MEMORY),
+    }
+}
+
+// The status of an increment that its words reject, which takes no memory to see. `None` also where
+// a number cannot rise, and where the identifier is the version's list already.
+#[cold]
+fn misuse(
+    version: &VersionRef<'_>,
+    word: &str,
+    identifier: &str,
+    base: IdentifierBase,
+) -> Option<u32>
+    ensures { IsMisuse
+        (answer_of_inc version.now word.now (Some identifier.now) (Some base)) result }
+{
+    if word.starts_with("pre") {
+        if identifier.is_empty() && matches!(base, IdentifierBase::False) {
+            return Some(BAD_ARGUMENT);
+        }
+        if !Identifier::is_list(identifier.as_bytes()) {
+            return Some(BAD_IDENTIFIER);
+        }
+    }
+    misused_word(version, word)
+}
+
+fn misused_word(version: &VersionRef<'_>, word: &str) -> Option<u32>
+    ensures { (id : List ℕ) (base : IdentifierBase)
+        → IsMisuse (by_word word.now id base version.now) result }
+{
+    match word {
+        "major" | "minor" | "patch" => None,
+        "premajor" | "preminor" | "prepatch" | "prerelease" | "pre" => None,
+        "release" if version.is_release() => Some(NOT_A_PRERELEASE),
+        "release" => None,
+        _ => Some(BAD_ARGUMENT),
     }
 }
 
@@ -202,15 +240,6 @@ fn base_of(base: u32) -> Option<IdentifierBase>
         BASE_ONE => Some(IdentifierBase::Value(1)),
         BASE_NONE => Some(IdentifierBase::False),
         _ => None,
-    }
-}
-
-fn status_of_failure(failure: &Failure<IncrementError>) -> u32
-    ensures { result ≡ failure_number failure.now }
-{
-    match failure {
-        Failure::Refused(error) => status_of(error),
-        Failure::Memory(_) => NO_MEMORY,
     }
 }
 
