@@ -1,5 +1,5 @@
 -- Statement: releases of packages that meet every requirement, and why there are none.
-use Rattle.std.specs.Prelude.{◌≡◌, ℕ, ⊤, true, false, List, [], length, take, replicate, Option, None, Some}
+use Rattle.std.specs.Prelude.{◌≡◌, ◌<◌, ℕ, true, false, List, [], length, take, replicate, Option, None, Some}
 use Rattle.std.specs.Prelude.{All, Contains, slice_get}
 use Rattle.std.specs.Prelude.{slice_index_or, slice_set}
 use Rattle.std.specs.Option.{option_map}
@@ -53,10 +53,10 @@ IsConflict ps root (Unmatched q) = (f : ℕ → Option Release) × IsBegun ps ro
 IsConflict ps root (Clash q s) = (f : ℕ → Option Release) × IsBegun ps root f × IsNeeded root f q.now
     × IsNeeded root f s.now × (q.now.package ≡ s.now.package) × IsMet f q.now × ¬ (IsMet f s.now)
 
--- there is no plan, and this is a conflict
+-- there is no plan, and this is a conflict; or memory is missing for the places of the packages
 abbrev pub IsFailure : List Package → List Requirement → Failure Conflict → Type 0
 IsFailure ps root (Refused c) = ((f : ℕ → Option Release) → ¬ (IsPlan ps root f)) × IsConflict ps root c
-IsFailure ps root (Memory error) = ⊤
+IsFailure ps root (Memory error) = 0 < length ps
 
 -- the release that a list of picks takes of each package
 abbrev pub release_at : List (Option Pick) → ℕ → Option Release

@@ -4,8 +4,8 @@
 ghost use Rattle.nodejs_semver.specs.Order.{precedence};
 ghost use Rattle.nodejs_semver.specs.Ranges.Gate.{accepts};
 ghost use Rattle.std.specs.Ordering.{is_le};
-ghost use Rattle.std.specs.Prelude.{◌≡◌, All, Contains, IfNone, IfOk, IfSome, IsPermutation};
-ghost use Rattle.std.specs.Prelude.{IsSorted, false, true};
+ghost use Rattle.std.specs.Prelude.{◌≡◌, ◌<◌, All, Contains, IfNone, IfOk, IfSome, IsPermutation};
+ghost use Rattle.std.specs.Prelude.{IsSorted, OnErr, false, length, true};
 
 use nodejs_semver::{Range, Version};
 use std::alloc::AllocError;
@@ -21,12 +21,16 @@ pub struct Index {
 }
 
 impl Index {
-    /// The index of these versions, which are put in order. Fails only if allocation fails.
+    /// The index of these versions, which are put in order. Fails only if allocation fails, which
+    /// happens only where there are two or more to put in order.
     pub fn new(mut listed: Vec<Version>, withdrawn: Vec<Version>) -> Result<Index, AllocError>
         ensures listed { IfOk result (λ index. IsPermutation listed.items index.listed.items) }
         ensures withdrawn { IfOk result (λ index. index.withdrawn ≡ withdrawn) }
+        ensures memory { OnErr result (1 < length listed.items) }
     {
-        listed.sort()?;
+        if listed.len() > 1 {
+            listed.sort()?;
+        }
         Ok(Index { listed, withdrawn })
     }
 

@@ -1,17 +1,21 @@
 //! A resolver: a release of each package that is needed, so that every requirement is met.
 
-ghost use Rattle.nodejs_semver.specs.Failures.{NoValue, RefusedOnlyIf};
+ghost use Rattle.nodejs_semver.specs.Cuts.{Span};
+ghost use Rattle.nodejs_semver.specs.Failures.{MemoryOnlyIf, NoValue, RefusedOnlyIf};
+ghost use Rattle.nodejs_semver.specs.Ranges.View.{TakesMemory};
+ghost use Rattle.nodejs_semver.specs.Versions.{VersionValue};
 ghost use Rattle.npm_words.specs.Alternatives.{HasAlternativesIn};
 ghost use Rattle.npm_reading.specs.Ranges.{IsRangeIn};
 ghost use Rattle.uses.specs.Internal.Search.{HasNoPlan, IsUnmet, NeedsAll};
-ghost use Rattle.std.specs.Prelude.{◌≡◌, All, Contains, IfErr, IfNone, IfOk, IfSome, false};
-ghost use Rattle.std.specs.Prelude.{slice_index_or};
+ghost use Rattle.semver_core.specs.Text.Bars.{IsCutAtBars};
+ghost use Rattle.std.specs.Prelude.{◌≡◌, ◌<◌, ◌⊎◌, ℕ, All, Contains, IfErr, IfNone, IfOk, IfSome};
+ghost use Rattle.std.specs.Prelude.{List, None, OnErr, false, length, replicate, slice_index_or};
 ghost use Rattle.uses.specs.Resolver.{ArePicked, IsConflict, IsFailure, IsMet, IsPicked};
 ghost use Rattle.uses.specs.Resolver.{MeetsAll, release_at};
 
 use nodejs_semver::{Failure, MAX_SAFE_INTEGER, Range, SemverError, Version};
 use npm_reading::Reading;
-use std::alloc::Global;
+use std::alloc::{AllocError, Global};
 use thiserror::Error;
 
 /// A demand for a release of a package whose version the range accepts, by `satisfies`.
@@ -27,7 +31,8 @@ impl Requirement {
     /// The demand for a release of the package of this number in the range of a text, which is read
     /// as npm reads it: `^*` is any release, and a text with a malformed word, as
     /// `>=1.0.0, <2.0.0`, is rejected. Returns `Refused` only if npm's library node-semver rejects
-    /// the text.
+    /// the text, and fails to allocate only for one with bars, or where copying its range takes
+    /// memory.
     ///
     /// ```rust
     /// let requirement = Requirement::read(alloc, 0, "^1.2")?;
@@ -41,6 +46,10 @@ impl Requirement {
         ensures range { IfOk result (λ q. IsRangeIn false MAX_SAFE_INTEGER false text.now q.range) }
         ensures refused { RefusedOnlyIf result
             (NoValue (HasAlternativesIn false MAX_SAFE_INTEGER false text.now)) }
+        ensures memory { MemoryOnlyIf result
+            (((pieces : List (List ℕ)) → IsCutAtBars text.now pieces → 1 < length pieces)
+            ⊎ ((r : List (Span VersionValue))
+            × IsRangeIn false MAX_SAFE_INTEGER false text.now r × TakesMemory r)) }
     {
         let strict = Reading {
             loose: false,
@@ -91,7 +100,7 @@ pub enum Conflict<'a> {
 /// the root and of each release that is taken are met. No other package is taken. Releases are
 /// taken one after another, each the first of its package that some plan takes together with those
 /// taken before. Returns `Refused` only if there is no plan, with a conflict that the search found
-/// on the way to one.
+/// on the way to one, and fails to allocate only where there are packages.
 ///
 /// npm asks this of peer dependencies. Of other dependencies it installs several releases of one
 /// package side by side, each in the folder of the package that requires it; so it may find a way
@@ -106,11 +115,22 @@ pub fn resolve<'a>(
     ensures first { IfOk result (λ picks. ArePicked packages.now root.now picks.items) }
     ensures failure { IfErr result (IsFailure packages.now root.now) }
 {
-    let mut picks = vec![in alloc; None; packages.len()]?;
+    let mut picks = none_picked(alloc, packages.len())?;
     match search(packages, root, &mut picks) {
         Ok(()) => Ok(picks),
         Err(conflict) => Err(Failure::Refused(conflict)),
     }
+}
+
+// A place for each package, of which nothing is taken yet.
+fn none_picked<'a>(alloc: Global, count: usize) -> Result<Vec<Option<Pick<'a>>>, AllocError>
+    ensures items { IfOk result (λ picks. picks.items ≡ replicate count None) }
+    ensures memory { OnErr result (0 < count) }
+{
+    if count == 0 {
+        return Ok(Vec::new(alloc));
+    }
+    vec![in alloc; None; count]
 }
 
 // Adds picks until every requirement is met. If no picks do, it leaves them as they were.
