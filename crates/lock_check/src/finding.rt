@@ -214,8 +214,10 @@ impl Counts {
     /// How many packages and dependencies there are, and how many have each kind of outcome.
     pub fn of(lock: Lock<'_>, found: &Findings<'_>) -> Counts
         ensures dependencies { result.dependencies ≡ length found.now.of_dependencies.items }
-        ensures satisfied { result.satisfied ≡ count_of Kind.Satisfied found.now.of_dependencies.items }
-        ensures rejected { result.rejected ≡ count_of Kind.Rejected found.now.of_dependencies.items }
+        ensures satisfied { result.satisfied
+            ≡ count_of Kind.Satisfied found.now.of_dependencies.items }
+        ensures rejected { result.rejected
+            ≡ count_of Kind.Rejected found.now.of_dependencies.items }
         ensures missing { result.missing ≡ count_of Kind.Missing found.now.of_dependencies.items }
         ensures absent { result.absent ≡ count_of Kind.Absent found.now.of_dependencies.items }
         ensures skipped { result.skipped ≡ count_of Kind.Skipped found.now.of_dependencies.items }

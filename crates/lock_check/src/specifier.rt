@@ -1,8 +1,8 @@
 // What a text in place of a range is to npm.
 
 ghost use Rattle.lock_check.specs.Specifiers.{IsAlias, IsAliased, IsBareName, IsName, IsReserved};
-ghost use Rattle.lock_check.specs.Specifiers.{IsScopeAndName, IsUnsigned, is_of_registry, is_packed};
-ghost use Rattle.lock_check.specs.Specifiers.{is_part, is_plain, is_url_byte};
+ghost use Rattle.lock_check.specs.Specifiers.{IsScopeAndName, IsUnsigned, is_of_registry};
+ghost use Rattle.lock_check.specs.Specifiers.{is_packed, is_part, is_plain, is_url_byte};
 ghost use Rattle.std.specs.List.{list_all};
 ghost use Rattle.std.specs.Prelude.{◌≡◌, ◌↔◌, IsTrue};
 
