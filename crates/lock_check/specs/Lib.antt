@@ -1,3 +1,5 @@
+pub mod Fields
+pub mod Findings
 pub mod Optional
 pub mod Readings
 pub mod Replacements

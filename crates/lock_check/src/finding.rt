@@ -1,6 +1,7 @@
 // What is found for each dependency, and how it is printed.
 
-ghost use Rattle.std.specs.Prelude.{◌≡◌, ◌<◌};
+ghost use Rattle.lock_check.specs.Findings.{count_of, has_line, is_same, kind_of};
+ghost use Rattle.std.specs.Prelude.{◌≡◌, ◌<◌, IsTrue, length};
 
 use crate::check::Findings;
 use crate::lock::{Dependency, Lock, Wanted};
@@ -8,7 +9,6 @@ use crate::shown::Shown;
 use nodejs_semver::Version;
 use nodejs_semver::diagnosis::version_flaw;
 use std::fmt;
-use std::process::ExitCode;
 
 /// A dependency, and what is found for it.
 #[derive(Drop)]
@@ -87,15 +87,27 @@ pub struct Counts {
     malformed: usize,
 }
 
+impl Kind {
+    fn is(self, kind: Kind) -> bool
+        ensures { result ≡ is_same kind self }
+    {
+        self == kind
+    }
+}
+
 impl Outcome<'_> {
     /// Whether the dependency is satisfied.
-    pub fn is_satisfied(&self) -> bool {
-        self.kind() == Kind::Satisfied
+    pub fn is_satisfied(&self) -> bool
+        ensures { result ≡ is_same Kind.Satisfied (kind_of self.now) }
+    {
+        self.kind().is(Kind::Satisfied)
     }
 
     /// Whether the dependency is rejected.
-    pub fn is_rejected(&self) -> bool {
-        self.kind() == Kind::Rejected
+    pub fn is_rejected(&self) -> bool
+        ensures { result ≡ is_same Kind.Rejected (kind_of self.now) }
+    {
+        self.kind().is(Kind::Rejected)
     }
 
     // What is told of the dependency: before the version, if that is told too.
@@ -121,7 +133,9 @@ impl Outcome<'_> {
         }
     }
 
-    fn kind(&self) -> Kind {
+    fn kind(&self) -> Kind
+        ensures { result ≡ kind_of self.now }
+    {
         match self {
             Outcome::Satisfied | Outcome::Tagged => Kind::Satisfied,
             Outcome::Rejected { .. }
@@ -144,7 +158,9 @@ impl Outcome<'_> {
 
 impl Finding<'_> {
     /// Whether the finding has a line of its own.
-    pub fn is_printed(&self) -> bool {
+    pub fn is_printed(&self) -> bool
+        ensures { result ≡ has_line (kind_of self.now.outcome) }
+    {
         !matches!(self.outcome.kind(), Kind::Satisfied | Kind::Absent)
     }
 }
@@ -195,7 +211,18 @@ fn write_no_version<W: fmt::Write>(f: &mut fmt::Formatter<W>, text: &str) -> fmt
 }
 
 impl Counts {
-    pub fn of(lock: Lock<'_>, found: &Findings<'_>) -> Counts {
+    /// How many packages and dependencies there are, and how many have each kind of outcome.
+    pub fn of(lock: Lock<'_>, found: &Findings<'_>) -> Counts
+        ensures dependencies { result.dependencies ≡ length found.now.of_dependencies.items }
+        ensures satisfied { result.satisfied
+            ≡ count_of Kind.Satisfied found.now.of_dependencies.items }
+        ensures rejected { result.rejected
+            ≡ count_of Kind.Rejected found.now.of_dependencies.items }
+        ensures missing { result.missing ≡ count_of Kind.Missing found.now.of_dependencies.items }
+        ensures absent { result.absent ≡ count_of Kind.Absent found.now.of_dependencies.items }
+        ensures skipped { result.skipped ≡ count_of Kind.Skipped found.now.of_dependencies.items }
+        ensures malformed { result.malformed ≡ length found.now.faults.items }
+    {
         let findings = &found.of_dependencies;
         Counts {
             packages: lock.packages.len(),
@@ -209,9 +236,14 @@ impl Counts {
         }
     }
 
-    /// What the program exits with.
-    pub fn exit_code(self) -> ExitCode {
-        ExitCode::from(status(self.malformed, self.rejected, self.missing))
+    /// The exit status.
+    pub fn exit_status(self) -> u8
+        ensures trouble { 0 < self.malformed → result ≡ 2 }
+        ensures rejected { self.malformed ≡ 0 → 0 < self.rejected → result ≡ 1 }
+        ensures missing { self.malformed ≡ 0 → 0 < self.missing → result ≡ 1 }
+        ensures clean { self.malformed ≡ 0 → self.rejected ≡ 0 → self.missing ≡ 0 → result ≡ 0 }
+    {
+        status(self.malformed, self.rejected, self.missing)
     }
 }
 
@@ -232,11 +264,16 @@ fn status(malformed: usize, rejected: usize, missing: usize) -> u8
     }
 }
 
-fn count(findings: &[Finding<'_>], kind: Kind) -> usize {
-    findings
-        .iter()
-        .filter(|it| it.outcome.kind() == kind)
-        .count()
+fn count(findings: &[Finding<'_>], kind: Kind) -> usize
+    ensures { result ≡ count_of kind findings.now }
+{
+    let mut count = 0;
+    for finding in findings {
+        if finding.outcome.kind().is(kind) {
+            count += 1;
+        }
+    }
+    count
 }
 
 impl fmt::Display for Counts {

@@ -1,6 +1,9 @@
 // The packages of a lock file, and what they depend on.
 
 ghost use Rattle.lock_check.specs.Optional.{MayBeAbsent};
+ghost use Rattle.lock_check.specs.Fields.{is_set, member_of, text_of};
+ghost use Rattle.serde_json.specs.View.{view};
+ghost use Rattle.std.specs.Prelude.{◌≡◌, option_map};
 
 use crate::fault::Fault;
 use crate::folder::{is_installed, joined};
@@ -96,18 +99,25 @@ impl Field {
 
 impl<'a> Package<'a> {
     /// The text in this field.
-    pub fn text(self, field: &str) -> Option<&'a str> {
+    pub fn text(self, field: &str) -> Option<&'a str>
+        ensures { option_map (λ t. t.now) result ≡ text_of field.now (view self.entry.fields.now) }
+    {
         self.fields.get(field).and_then(Value::as_str)
     }
 
     /// Whether this field is `true`.
-    pub fn is(self, field: &str) -> bool {
-        self.fields.get(field).and_then(Value::as_bool) == Some(true)
+    pub fn is(self, field: &str) -> bool
+        ensures { result ≡ is_set field.now (view self.entry.fields.now) }
+    {
+        is_set(self.fields, field)
     }
 
     /// The value of this name in this field.
-    pub fn member(self, field: &str, name: &str) -> Option<&'a Value> {
-        self.fields.get(field).and_then(|it| it.get(name))
+    pub fn member(self, field: &str, name: &str) -> Option<&'a Value>
+        ensures { option_map (λ v. view v.now) result
+            ≡ member_of field.now name.now (view self.entry.fields.now) }
+    {
+        self.fields.get(field)?.get(name)
     }
 }
 
@@ -133,16 +143,16 @@ impl<'a> Wanted<'a> {
 impl<'a> Dependency<'a> {
     /// Whether it may be absent.
     pub fn is_optional(self) -> bool
-        ensures { MayBeAbsent self.entry.field result }
+        ensures { MayBeAbsent (view self.entry.package.fields.now) self.entry.name.now
+            self.entry.field result }
     {
         match self.field {
             Field::Development | Field::Production | Field::Requires | Field::Workspaces => false,
             Field::Optional => true,
-            Field::Peer => {
-                let meta = self.package.member("peerDependenciesMeta", self.name);
-                let optional = meta.and_then(|it| it.get("optional"));
-                optional.and_then(Value::as_bool) == Some(true)
-            }
+            Field::Peer => match self.package.member("peerDependenciesMeta", self.name) {
+                Some(meta) => is_set(meta, "optional"),
+                None => false,
+            },
         }
     }
 }
@@ -195,6 +205,13 @@ impl<'a> Lock<'a> {
         let folder = joined(alloc, "", package.text("resolved").unwrap_or(""))?;
         Ok(self.package(&folder))
     }
+}
+
+// Whether this field of a value is `true`.
+fn is_set(value: &Value, field: &str) -> bool
+    ensures { result ≡ is_set field.now (view value.now) }
+{
+    value.get(field).and_then(Value::as_bool).unwrap_or(false)
 }
 
 /// Adds the dependencies of a package to those found before, which come first. What is malformed

@@ -97,7 +97,7 @@ fn run(rt: &HostRuntime) -> Result<ExitCode> {
     print(&mut output, &findings)?;
     writeln!(output, "{counts}")?;
     output.flush()?;
-    Ok(counts.exit_code())
+    Ok(ExitCode::from(counts.exit_status()))
 }
 
 fn json(alloc: Global, text: &str) -> Result<Value> {

@@ -1,11 +1,10 @@
 // What a text in place of a range is to npm.
 
-ghost use Rattle.lock_check.specs.Specifiers.{HoldsOneOf, IsAlias, IsName, is_part, is_url_byte};
+ghost use Rattle.lock_check.specs.Specifiers.{IsAlias, IsAliased, IsBareName, IsName, IsReserved};
+ghost use Rattle.lock_check.specs.Specifiers.{IsScopeAndName, IsUnsigned, is_of_registry};
+ghost use Rattle.lock_check.specs.Specifiers.{is_packed, is_part, is_plain, is_url_byte};
 ghost use Rattle.std.specs.List.{list_all};
-ghost use Rattle.std.specs.Prelude.{◌≡◌, ◌∷◌, IsTrue, codes, false, if◌then◌else◌, true};
-
-// Names that no package may have.
-const RESERVED: &[&str] = &["node_modules", "favicon.ico"];
+ghost use Rattle.std.specs.Prelude.{◌≡◌, ◌↔◌, IsTrue};
 
 // The schemes of the URLs that npm reads, but for those of packages at other places; behind `git+`
 // those of the second list.
@@ -90,7 +89,7 @@ fn at_path(path: &str) -> Specifier<'_> {
 
 // Whether a text ends as the names of packed packages do.
 fn is_packed(text: &str) -> bool
-    ensures { IsTrue result → HoldsOneOf (codes "@/:.") text.now }
+    ensures { result ≡ is_packed text.now }
 {
     text.ends_with(".tgz") || text.ends_with(".tar.gz") || text.ends_with(".tar")
 }
@@ -100,10 +99,7 @@ fn is_packed(text: &str) -> bool
 fn alias(target: &str) -> Specifier<'_>
     ensures { IsAlias target.now result }
 {
-    let (text, is_scoped) = match target.strip_prefix('@') {
-        Some(text) => (text, true),
-        None => (target, false),
-    };
+    let (text, is_scoped) = unsigned(target);
     match text.split_once('@') {
         Some((name, _)) if !is_aliased(name, is_scoped) => Specifier::Unsupported,
         Some((_, range)) if range.is_empty() => Specifier::Range("*"),
@@ -114,10 +110,20 @@ fn alias(target: &str) -> Specifier<'_>
     }
 }
 
+// The text without an at sign in front, and whether one stands there.
+fn unsigned(target: &str) -> (&str, bool)
+    ensures { IsUnsigned target.now result.1 result.0.now }
+{
+    match target.strip_prefix('@') {
+        Some(text) => (text, true),
+        None => (target, false),
+    }
+}
+
 // Whether a text is a name that an alias may have, which is no path. Of a name with a scope it is
 // what stands behind the at sign.
 fn is_aliased(text: &str, is_scoped: bool) -> bool
-    ensures { IsTrue result → IsName (if is_scoped then 64 ∷ text.now else text.now) }
+    ensures { IsTrue result ↔ IsAliased is_scoped text.now }
 {
     if is_scoped {
         is_scope_and_name(text)
@@ -128,20 +134,23 @@ fn is_aliased(text: &str, is_scoped: bool) -> bool
 
 // Whether a text is asked of a registry, and is neither a path nor an address.
 fn is_of_registry(text: &str) -> bool
-    ensures { result ≡ false → HoldsOneOf (codes "@/:.") text.now }
+    ensures { result ≡ is_of_registry text.now }
 {
     is_plain(text) && !text.starts_with('.') && !is_packed(text)
 }
 
+// Whether a text is neither a path nor an address.
 fn is_plain(text: &str) -> bool
-    ensures { result ≡ false → HoldsOneOf (codes "@/:.") text.now }
+    ensures { result ≡ is_plain text.now }
 {
     !text.contains('/') && !text.contains(':')
 }
 
 /// Whether npm takes a text for the name of a package, with a scope or without one: each of its
 /// bytes may stand in a URL as it is, and it does not begin as a hidden file does.
-pub fn is_name(text: &str) -> bool {
+pub fn is_name(text: &str) -> bool
+    ensures { IsTrue result ↔ IsName text.now }
+{
     match text.strip_prefix('@') {
         Some(text) => is_scope_and_name(text),
         None => is_bare_name(text),
@@ -149,7 +158,7 @@ pub fn is_name(text: &str) -> bool {
 }
 
 fn is_scope_and_name(text: &str) -> bool
-    ensures { IsTrue result → IsName (64 ∷ text.now) }
+    ensures { IsTrue result ↔ IsScopeAndName text.now }
 {
     match text.split_once('/') {
         Some((scope, name)) => is_part(scope) && is_part(name),
@@ -158,12 +167,16 @@ fn is_scope_and_name(text: &str) -> bool
 }
 
 fn is_bare_name(text: &str) -> bool
-    ensures { IsTrue result → is_part text.now ≡ true }
+    ensures { IsTrue result ↔ IsBareName text.now }
 {
-    is_part(text)
-        && !text.starts_with('.')
-        && !text.starts_with('_')
-        && !RESERVED.iter().any(|it| it.eq_ignore_ascii_case(text))
+    is_part(text) && !text.starts_with('.') && !text.starts_with('_') && !is_reserved(text)
+}
+
+// Whether no package may have the name.
+fn is_reserved(text: &str) -> bool
+    ensures { IsTrue result ↔ IsReserved text.now }
+{
+    text.eq_ignore_ascii_case("node_modules") || text.eq_ignore_ascii_case("favicon.ico")
 }
 
 fn is_part(text: &str) -> bool
