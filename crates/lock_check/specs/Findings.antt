@@ -15,6 +15,7 @@ kind_of outcome.Absent = kind.Absent
 kind_of outcome.Unsure = kind.Skipped
 kind_of outcome.Address = kind.Skipped
 kind_of outcome.Link = kind.Skipped
+kind_of outcome.Unlocked = kind.Skipped
 kind_of outcome.OwnPeer = kind.Skipped
 kind_of _ = kind.Rejected
 

@@ -8,8 +8,8 @@ use Rattle.lock_check.specs.declared.lock.Field.TheVariants.{Optional, Peer}
 -- `peerDependenciesMeta` of a package has this name with `optional`, which is `true`
 abbrev pub is_optional_peer : Data → List ℕ → Bool
 is_optional_peer fields name =
-    let meta = member_of (codes "peerDependenciesMeta") name fields in
-    unwrap_or (option_map (is_set (codes "optional")) meta) false
+    unwrap_or (option_map (is_set (codes "optional"))
+    (member_of (codes "peerDependenciesMeta") name fields)) false
 
 -- an optional one may, and a peer if the package says so; all others have to be there, workspaces
 -- too

@@ -45,7 +45,8 @@ IsName text = IsBareName text ⊎ ((name : List ℕ) × (text ≡ 64 ∷ name) �
 -- a text ends as the names of packed packages do
 abbrev pub is_packed : List ℕ → Bool
 is_packed text = ends_with (λ a b. a == b) text (codes ".tgz")
-    || ends_with (λ a b. a == b) text (codes ".tar.gz") || ends_with (λ a b. a == b) text (codes ".tar")
+    || ends_with (λ a b. a == b) text (codes ".tar.gz")
+    || ends_with (λ a b. a == b) text (codes ".tar")
 
 -- a text is neither a path nor an address
 abbrev pub is_plain : List ℕ → Bool
@@ -79,8 +80,8 @@ pub data IsAliasOf (target range : List ℕ) : Type 0 where
   any : (is_scoped : Bool) (name : List ℕ) → IsAliased is_scoped name
       → (target ≡ with_sign is_scoped name) ⊎ (target ≡ with_sign is_scoped name ++ 64 ∷ [])
       → range ≡ codes "*" → IsAliasOf target range
-  alone : has 64 target ≡ false → ¬ (IsAliased false target) → is_of_registry target ≡ true → range ≡ target
-      → IsAliasOf target range
+  alone : has 64 target ≡ false → ¬ (IsAliased false target) → is_of_registry target ≡ true
+      → range ≡ target → IsAliasOf target range
 
 -- npm rejects every other text
 abbrev pub IsAlias : List ℕ → Specifier → Type 0

@@ -32,6 +32,9 @@ pub struct Edge<'a> {
 /// Judges each dependency of each package.
 pub fn check<'a>(alloc: Global, lock: Lock<'a>) -> Result<Findings<'a>, AllocError> {
     let mut faults = Vec::new(alloc);
+    if lock.package("").is_none() {
+        faults.push(Fault::NoRoot)?;
+    }
     let edges = edges(alloc, lock, &mut faults)?;
     let overrides = Overrides::of(alloc, lock.package(""), &mut faults)?;
     let scopes = Scopes::of(alloc, overrides, &edges)?;
@@ -132,6 +135,7 @@ fn locked_outcome<'a>(
         dependency,
         locked,
         package,
+        is_nested: lock.is_nested,
     };
     if target.is_own_peer() {
         return Ok(Outcome::OwnPeer);
@@ -152,6 +156,8 @@ struct Target<'a> {
     locked: Package<'a>,
     // The package itself, or that to which it is a link.
     package: Package<'a>,
+    // Whether the lock file holds no versions of folders.
+    is_nested: bool,
 }
 
 impl<'a> Target<'a> {
@@ -299,11 +305,20 @@ impl<'a> Target<'a> {
         Ok(match judge_texts(alloc, wanted, version)? {
             Judgement::NoRange => self.tag_outcome(wanted),
             Judgement::Unsure => Outcome::Unsure,
-            Judgement::NoVersion if locked.is_none() => Outcome::Unversioned,
+            Judgement::NoVersion if locked.is_none() => self.unversioned(),
             Judgement::NoVersion => Outcome::NoVersion { version },
             Judgement::Read(Verdict::Accepted) => Outcome::Satisfied,
             Judgement::Read(Verdict::Rejected(smallest)) => Outcome::Rejected { version, smallest },
         })
+    }
+
+    // A version is nowhere in the lock file. npm reads that of a folder there.
+    fn unversioned(self) -> Outcome<'a> {
+        if self.is_nested && self.is_link() {
+            Outcome::Unlocked
+        } else {
+            Outcome::Unversioned
+        }
     }
 
     // npm wants what a tag names to come from an address of a package.

@@ -23,6 +23,8 @@ pub enum Fault<'a> {
     },
     /// `workspaces` is no list of texts.
     Workspaces,
+    /// Nothing is known of the root project.
+    NoRoot,
 }
 
 impl fmt::Display for Fault<'_> {
@@ -41,6 +43,10 @@ impl fmt::Display for Fault<'_> {
             }
             Fault::Override { name } => { write!(f, ". overrides {}, malformed", Shown(name)) }
             Fault::Workspaces => write!(f, "., malformed: `workspaces` is no list of texts"),
+            Fault::NoRoot => write!(
+                f,
+                "., malformed: the root project is unknown without its package.json"
+            ),
         }
     }
 }

@@ -60,6 +60,8 @@ pub enum Outcome<'a> {
     Address,
     /// It is skipped, since the package is a link that may be to a workspace.
     Link,
+    /// It is skipped, since the package is a link, and its version is not in the lock file.
+    Unlocked,
     /// It is skipped, since it is a peer that stands inside the package that wants it.
     OwnPeer,
 }
@@ -129,6 +131,7 @@ impl Outcome<'_> {
             Outcome::Unsure => "skipped: a range text that npm may read otherwise",
             Outcome::Address => "skipped: an address",
             Outcome::Link => "skipped: a link that may be a workspace",
+            Outcome::Unlocked => "skipped: a link whose version is not in the lock file",
             Outcome::OwnPeer => "skipped: a peer in its own folder",
         }
     }
@@ -151,7 +154,11 @@ impl Outcome<'_> {
             | Outcome::NoReference => Kind::Rejected,
             Outcome::Missing => Kind::Missing,
             Outcome::Absent => Kind::Absent,
-            Outcome::Unsure | Outcome::Address | Outcome::Link | Outcome::OwnPeer => Kind::Skipped,
+            Outcome::Unsure
+            | Outcome::Address
+            | Outcome::Link
+            | Outcome::Unlocked
+            | Outcome::OwnPeer => Kind::Skipped,
         }
     }
 }

@@ -3,14 +3,20 @@
 /// The first line of the help.
 pub const VERSION: &str = "lock_check 1.0.0\n";
 
+/// What is told of other words.
+pub const USAGE: &str = "usage: lock_check [<folder> | <lock file> | -]";
+
 const HELP: &str = "Checks a package-lock.json of npm, without npm, node_modules or a registry.
 
-usage: lock_check [<package.json>] < package-lock.json
+usage: lock_check [<folder> | <lock file> | -]
 
-  <package.json>   the root project, with its overrides; a lock file of
-                   lockfileVersion 1 needs it
-  -h, --help       print this text
-      --version    print the first line of it
+  <folder>      npm-shrinkwrap.json or else package-lock.json of a folder, and
+                its package.json, which is the root project, with its overrides
+  <lock file>   a lock file, and the package.json beside it
+  -             a lock file on standard input; so too without an argument, and
+                with that of a package.json, which is then the root project
+  -h, --help    print this text
+      --version print the first line of it
 
 Prints each dependency whose locked version its range rejects, each that is
 missing, and what is skipped or malformed. The last line counts them. Exits

@@ -15,6 +15,9 @@ use std::alloc::{AllocError, Global};
 #[derive(Clone, Copy)]
 pub struct Lock<'a> {
     pub packages: &'a Map<String, Value>,
+    /// Whether they stood inside one another, as in lock files of version 1. These do not hold the
+    /// versions of folders.
+    pub is_nested: bool,
 }
 
 /// A package of a lock file.

@@ -1,16 +1,18 @@
-//! Checks a lock file of npm: reads a `package-lock.json` from standard input and names each
-//! dependency whose locked version its range rejects, each locked version that is not one version
-//! as a whole, with the byte where it goes wrong, each range text of which nothing is read, and
-//! each package that is missing or comes from another place than the one that is wanted. It is
-//! meant to find what `npm ls --package-lock-only --all` finds. The page
-//! `docs/LOCK_CHECK.md` of the repository says which fields it reads, what it skips and where npm
-//! finds something else.
+//! Checks a lock file of npm: names each dependency whose locked version its range rejects, each
+//! locked version that is not one version as a whole, with the byte where it goes wrong, each range
+//! text of which nothing is read, and each package that is missing or comes from another place than
+//! the one that is wanted. It is meant to find what `npm ls --package-lock-only --all` finds. The
+//! page `docs/LOCK_CHECK.md` of the repository says which fields it reads, what it skips and where
+//! npm finds something else.
 //!
 //! `--help` and `--version` tell about the program. Any other argument, of which it takes one, is
-//! the path of the `package.json` beside the lock file. That is then the root project, as it is to
-//! npm, with its `overrides`, which a lock file does not hold; a lock file of lockfileVersion 1
-//! does not name the dependencies of the root project either. Without it the root project is what
-//! the lock file has under the empty folder.
+//! a path. In a folder it reads `npm-shrinkwrap.json`, or else `package-lock.json`, and
+//! `package.json`; of another file, which is the lock file, the `package.json` beside it. Without
+//! an argument, and for `-`, the lock file is standard input; so it is too if the path is that of a
+//! `package.json`. The `package.json` is the root project, as it is to npm, with its `overrides`,
+//! which a lock file does not hold; a lock file of lockfileVersion 1 does not name the dependencies
+//! of the root project either. Without it the root project is what the lock file has under the
+//! empty folder.
 //!
 //! It exits with 0 if every dependency is satisfied, absent by leave or skipped, with 1 if one is
 //! not, and with 2 if the check could not be made or is not whole: the input is no lock file, a
@@ -30,6 +32,7 @@ mod fault;
 mod finding;
 mod folder;
 mod help;
+mod input;
 mod lock;
 mod nested;
 mod overrides;
@@ -42,15 +45,15 @@ mod workspaces;
 
 use crate::check::{Findings, check};
 use crate::finding::{Counts, Finding};
-use crate::help::{VERSION, asked};
+use crate::help::{USAGE, VERSION, asked};
+use crate::input::{Input, read};
 use crate::lock::Lock;
-use crate::reading::unmarked;
 use anyhow::{Context, Result};
 use serde_json::{Map, Value, put};
 use std::alloc::Global;
 use std::io::{BufWriter, Write};
 use std::process::ExitCode;
-use std::{env, fs, io};
+use std::{env, io};
 
 // The exit status if the check could not be made, or is not whole.
 const TROUBLE: u8 = 2;
@@ -65,31 +68,41 @@ fn main(rt: HostRuntime) -> Result<ExitCode> {
 }
 
 fn run(rt: &HostRuntime) -> Result<ExitCode> {
-    let alloc = rt.alloc();
     let mut arguments = env::args(rt)?.skip(1);
-    let manifest = arguments.next();
-    if let Some(word) = &manifest
-        && let Some(text) = asked(word.as_str())
-    {
+    let argument = arguments.next();
+    let path = match &argument {
+        Some(word) => word.as_str(),
+        None => "-",
+    };
+    if let Some(text) = asked(path) {
         print!(rt; "{VERSION}{text}")?;
         return Ok(ExitCode::SUCCESS);
     }
-    if arguments.next().is_some() {
-        eprintln!(rt; "usage: lock_check [PACKAGE_JSON] < package-lock.json")?;
+    if is_option(path) || arguments.next().is_some() {
+        eprintln!(rt; "{USAGE}")?;
         return Ok(ExitCode::from(TROUBLE));
     }
-    let text = io::read_to_string(alloc, rt.stdin())?;
-    let file = json(alloc, &text).context("the input is not JSON")?;
-    let mut packages = packages(alloc, file)?;
-    if let Some(path) = manifest {
-        let text = fs::read_to_string(rt, path.as_str());
-        let text = text.context("the package.json cannot be read")?;
-        let root = json(alloc, &text).context("the package.json is not JSON")?;
-        root.as_object().context("the package.json is no object")?;
+    let input = read(rt, path)?;
+    report(rt, input)
+}
+
+// Whether a word is an option. A `-` alone is none.
+fn is_option(word: &str) -> bool {
+    word.starts_with('-') && word.len() > 1
+}
+
+// Prints what is found, and returns the exit status.
+fn report(rt: &HostRuntime, input: Input) -> Result<ExitCode> {
+    let alloc = rt.alloc();
+    let Input { lock, manifest } = input;
+    let is_nested = lock.get("packages").is_none();
+    let mut packages = packages(alloc, lock)?;
+    if let Some(root) = manifest {
         put(&mut packages, alloc, "", root)?;
     }
     let lock = Lock {
         packages: &packages,
+        is_nested,
     };
     let findings = check(alloc, lock)?;
     let counts = Counts::of(lock, &findings);
@@ -100,10 +113,6 @@ fn run(rt: &HostRuntime) -> Result<ExitCode> {
     Ok(ExitCode::from(counts.exit_status()))
 }
 
-fn json(alloc: Global, text: &str) -> Result<Value> {
-    Ok(Value::from_str(alloc, unmarked(text))?)
-}
-
 // The packages of a lock file, by their folders.
 fn packages(alloc: Global, mut file: Value) -> Result<Map<String, Value>> {
     if let Some(packages) = file.get_mut("packages") {
@@ -111,9 +120,20 @@ fn packages(alloc: Global, mut file: Value) -> Result<Map<String, Value>> {
             return Ok(packages);
         }
     }
+    if has_none(&file) {
+        return Ok(Map::new(alloc));
+    }
     let nested = file.get("dependencies").and_then(Value::as_object);
     let nested = nested.context("neither an object `packages` nor an object `dependencies`")?;
     Ok(nested::packages(alloc, nested)?)
+}
+
+// Whether a lock file is one of lockfileVersion 1 in which nothing is locked.
+fn has_none(file: &Value) -> bool {
+    match file.get("lockfileVersion").and_then(Value::as_u64) {
+        Some(1) => file.get("dependencies").is_none(),
+        _ => false,
+    }
 }
 
 // Prints what is malformed, and each finding that has a line.

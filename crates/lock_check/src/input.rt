@@ -1,0 +1,199 @@
+// Which files are read, and what a file looks like that is no lock file of npm.
+
+use crate::reading::unmarked;
+use crate::shown::Shown;
+use anyhow::{Context, Result, bail};
+use serde_json::Value;
+use std::alloc::Global;
+use std::io::ErrorKind;
+use std::{fs, io};
+
+// The lock files of a folder. npm reads the first of them that is there.
+const LOCKS: &[&str] = &["npm-shrinkwrap.json", "package-lock.json"];
+
+// What standard input is called.
+const INPUT: &str = "standard input";
+
+// The lock files of other programs.
+const OTHERS: &[&str] = &["yarn.lock", "pnpm-lock.yaml", "bun.lock"];
+
+/// What is read.
+#[derive(Drop)]
+pub struct Input {
+    /// The lock file.
+    pub lock: Value,
+    /// The `package.json` beside it, if there is one.
+    pub manifest: Option<Value>,
+}
+
+/// Reads what a path means: the files of a folder, or a lock file and the `package.json` beside it.
+/// For `-` the lock file is standard input, and so it is for the path of a `package.json`.
+pub fn read(rt: &HostRuntime, path: &str) -> Result<Input> {
+    if path == "-" {
+        let lock = standard_input(rt)?;
+        return Ok(Input {
+            lock,
+            manifest: None,
+        });
+    }
+    if is_folder(rt, path) {
+        in_folder(rt, path)
+    } else {
+        at(rt, path)
+    }
+}
+
+fn is_folder(rt: &HostRuntime, path: &str) -> bool {
+    match fs::metadata(rt, path) {
+        Ok(metadata) => metadata.is_dir(),
+        Err(_) => false,
+    }
+}
+
+// The files of a folder.
+fn in_folder(rt: &HostRuntime, folder: &str) -> Result<Input> {
+    for name in LOCKS {
+        if let Some(lock) = lock_in(rt, folder, name)? {
+            let manifest = manifest_in(rt, folder)?;
+            return Ok(Input { lock, manifest });
+        }
+    }
+    for name in OTHERS {
+        let path = inside(rt, folder, name)?;
+        if fs::exists(rt, path.as_str())? {
+            bail!("{}: no lock file of npm, but a {name}", Shown(folder));
+        }
+    }
+    bail!(
+        "{}: no npm-shrinkwrap.json and no package-lock.json",
+        Shown(folder)
+    )
+}
+
+// A package.json, or a lock file and the package.json beside it.
+fn at(rt: &HostRuntime, path: &str) -> Result<Input> {
+    let text = fs::read_to_string(rt, path);
+    let text = text.context(format_args!("{} cannot be read", Shown(path)))?;
+    let file = json(rt.alloc(), path, &text)?;
+    if is_manifest(&file) {
+        return with_manifest(rt, file);
+    }
+    let lock = lock_of(path, file)?;
+    let folder = match path.rsplit_once('/') {
+        Some((folder, _)) => folder,
+        None => ".",
+    };
+    let manifest = manifest_in(rt, folder)?;
+    Ok(Input { lock, manifest })
+}
+
+fn with_manifest(rt: &HostRuntime, manifest: Value) -> Result<Input> {
+    let lock = standard_input(rt)?;
+    Ok(Input {
+        lock,
+        manifest: Some(manifest),
+    })
+}
+
+fn standard_input(rt: &HostRuntime) -> Result<Value> {
+    let text = io::read_to_string(rt.alloc(), rt.stdin())?;
+    let file = json(rt.alloc(), INPUT, &text)?;
+    lock_of(INPUT, file)
+}
+
+// The lock file of this name in a folder, if it is there.
+fn lock_in(rt: &HostRuntime, folder: &str, name: &str) -> Result<Option<Value>> {
+    let path = inside(rt, folder, name)?;
+    match json_if_there(rt, &path)? {
+        Some(file) => Ok(Some(lock_of(&path, file)?)),
+        None => Ok(None),
+    }
+}
+
+// The package.json of a folder, if it is there.
+fn manifest_in(rt: &HostRuntime, folder: &str) -> Result<Option<Value>> {
+    let path = inside(rt, folder, "package.json")?;
+    match json_if_there(rt, &path)? {
+        Some(file) if !file.is_object() => bail!("{} is no object", Shown(&path)),
+        found => Ok(found),
+    }
+}
+
+fn inside(rt: &HostRuntime, folder: &str, name: &str) -> Result<String> {
+    let alloc = rt.alloc();
+    Ok(format!(in alloc; "{folder}/{name}")?)
+}
+
+fn json_if_there(rt: &HostRuntime, path: &str) -> Result<Option<Value>> {
+    match fs::read_to_string(rt, path) {
+        Ok(text) => Ok(Some(json(rt.alloc(), path, &text)?)),
+        Err(error) if error.kind() == ErrorKind::NotFound => Ok(None),
+        Err(error) => Err(error).context(format_args!("{} cannot be read", Shown(path))),
+    }
+}
+
+fn json(alloc: Global, name: &str, text: &str) -> Result<Value> {
+    let text = unmarked(text);
+    match Value::from_str(alloc, text) {
+        Ok(file) => Ok(file),
+        Err(error) => match look(text) {
+            Some(look) => bail!("{} is no lock file of npm: {look}", Shown(name)),
+            None => Err(error).context(format_args!("{} is not JSON", Shown(name))),
+        },
+    }
+}
+
+// A file, if it is a lock file of npm.
+fn lock_of(name: &str, file: Value) -> Result<Value> {
+    match flaw(&file) {
+        Some(flaw) => bail!("{} is no lock file of npm: {flaw}", Shown(name)),
+        None => Ok(file),
+    }
+}
+
+// Why a file is no lock file of npm.
+fn flaw(file: &Value) -> Option<&'static str> {
+    if !file.is_object() {
+        return Some("it is no object");
+    }
+    let Some(version) = file.get("lockfileVersion") else {
+        return Some(if is_manifest(file) {
+            "it has no `lockfileVersion`, and looks like a package.json"
+        } else {
+            "it has no `lockfileVersion`"
+        });
+    };
+    match version.as_u64() {
+        Some(1..=3) => None,
+        _ => Some("its `lockfileVersion` is not 1, 2 or 3"),
+    }
+}
+
+// Whether an object looks like a package.json: nothing is locked in it.
+fn is_manifest(file: &Value) -> bool {
+    file.is_object()
+        && file.get("lockfileVersion").is_none()
+        && file.get("packages").is_none()
+        && match file.get("dependencies").and_then(Value::as_object) {
+            Some(ranges) => ranges.values().all(|range| !range.is_object()),
+            None => true,
+        }
+}
+
+// What a text looks like that is not JSON.
+fn look(text: &str) -> Option<&'static str> {
+    if begins_line(text, "<<<<<<< ") {
+        Some("a merge conflict is left in it")
+    } else if text.contains("# yarn lockfile v") || begins_line(text, "__metadata:") {
+        Some("it looks like one of yarn")
+    } else if begins_line(text, "lockfileVersion:") {
+        Some("it looks like one of pnpm")
+    } else {
+        None
+    }
+}
+
+// Whether a line of the text begins so.
+fn begins_line(text: &str, front: &str) -> bool {
+    text.split('\n').any(|line| line.starts_with(front))
+}
