@@ -22,8 +22,8 @@ returns-in-Ok c =
           c.sort_unstable.ensures.sorted (rw c.as_slice.ensures.value at c.tell_places.ensures),
     ))))
 
-pub returns-in-Err : goal.returns-in-Err
-returns-in-Err c =
+pub returns : goal.returns
+returns c =
     inr (omega (arith, c.if-versions-gt-MOST_TEXTS.false), inr (c.if-order-versions.false, elim c.in-Err.ensures.refused [
       | inl rejected ↦ inr (inl (refl, rejected))
       | inr none ↦ inl (none.0, (refl, none.1), none.2)
