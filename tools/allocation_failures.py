@@ -22,6 +22,7 @@ NEVER = [
     "VersionRef::diff: Some(Patch) from 1.2.3-a.1.b+c.2.d", "VersionRef::diff: None from 1.2.3",
     "VersionRef::to_version: 1.2.3 from 1.2.3", "VersionRef::to_version: 1.2.3-0 from 1.2.3-0",
     "Version::from_texts: 1.2.3-0 from 0",
+    "Version::from_key: 1.2.3 from 1.2.3", "Version::from_key: nothing from 1.2.3-a without its end",
     "scan::identifiers: nothing from 1.2.3-a.1.b+c.2.d", "Version::new: 7.8.9 from 1.2.3",
     "Version::into_parts: VersionParts { major: 1, minor: 2, patch: 3, pre_release: [], build: [] } from 1.2.3",
     "Version::copy: 1.2.3 from 1.2.3", "Version::with_pre: 1.2.3-4 from 4", "Identifier::copy: 2 from 2",

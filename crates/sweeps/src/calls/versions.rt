@@ -9,6 +9,13 @@ use std::io;
 
 const VERSION: &str = "1.2.3-a.1.b+c.2.d";
 
+// Keys, and the versions that they are those of; and bytes that are no key.
+const KEYS: &[(&[u8], &str)] = &[
+    (b"\x01\x02\x03\x02a\0\x01\x01\x02b\0\0", "1.2.3-a.1.b"),
+    (b"\x01\x02\x03\x03", "1.2.3"),
+    (b"\x01\x02\x03\x02a\0", "1.2.3-a without its end"),
+];
+
 /// Makes each call on versions.
 pub fn show_all(rt: &impl Print, alloc: Global) -> io::Result<()> {
     for text in [VERSION, "1.2.3", "1.2", "1.2-a.1.b"] {
@@ -37,11 +44,16 @@ pub fn show_all(rt: &impl Print, alloc: Global) -> io::Result<()> {
     for at in [6, 5, 1] {
         identifiers(rt, alloc, VERSION, at)?;
     }
+    for &(key, text) in KEYS {
+        let read = Version::from_key(alloc, key);
+        show(rt, "Version::from_key", found(read), &text)?;
+    }
     for text in [VERSION, "1.2.3"] {
         new(rt, alloc, text)?;
         into_parts(rt, alloc, text)?;
         copy(rt, alloc, text)?;
         parts_copy(rt, alloc, text)?;
+        keys(rt, alloc, text)?;
         for (call, word) in [
             ("inc major", "major"),
             ("inc prerelease", "prerelease"),
@@ -188,6 +200,28 @@ fn parts_copy(rt: &impl Print, alloc: Global, text: &str) -> io::Result<()> {
         &text,
     )?;
     println!(rt; "VersionParts::copy left {parts:?}")
+}
+
+// The keys of a version, owned and borrowed, and added to bytes.
+fn keys(rt: &impl Print, alloc: Global, text: &str) -> io::Result<()> {
+    let Ok(version) = Version::parse(alloc, text) else {
+        return no_values(rt, "Version::key");
+    };
+    show_debug(
+        rt,
+        "Version::key",
+        Outcome::from(version.key(alloc)),
+        &version,
+    )?;
+    let Ok(version) = VersionRef::parse(text) else {
+        return no_values(rt, "VersionRef::key");
+    };
+    show_debug(
+        rt,
+        "VersionRef::key",
+        Outcome::from(version.key(alloc)),
+        &version,
+    )
 }
 
 fn inc(rt: &impl Print, alloc: Global, text: &str, call: &str, word: &str) -> io::Result<()> {
