@@ -7,8 +7,13 @@ returns-then-answers-versions c =
 
 pub returns-in-Ok : goal.returns-in-Ok
 returns-in-Ok c =
-    inr (omega (arith, c.if-versions-gt-MOST_TEXTS.false), inr (c.if-answers-versions.false,
-    inl (c.in-Ok.range, c.in-Ok.ensures.ok, refl, c.answer_each.ensures)))
+    inr (
+      omega (arith, c.if-versions-gt-MOST_TEXTS.false),
+      inr (
+        c.if-answers-versions.false,
+        inl (c.in-Ok.range, c.in-Ok.ensures.ok, refl, c.answer_each.ensures),
+      ),
+    )
 
 pub returns-in-Err : goal.returns-in-Err
 returns-in-Err c =

@@ -15,16 +15,28 @@ tell_places-requires c =
 pub returns-in-Ok : goal.returns-in-Ok
 returns-in-Ok c =
     let (kept, (vs, read, all)) = c.in-Ok.ensures.ok in
-    inr (omega (arith, c.if-versions-gt-MOST_TEXTS.false), inr (c.if-order-versions.false, inr (inr (
-      refl,
-      kept,
-      tells_order c.args.reading _ vs _ _ _ _ read all c.sort_unstable.ensures.permutation
-          c.sort_unstable.ensures.sorted (rw c.as_slice.ensures.value at c.tell_places.ensures),
-    ))))
+    inr (
+      omega (arith, c.if-versions-gt-MOST_TEXTS.false),
+      inr (
+        c.if-order-versions.false,
+        inr (inr (
+          refl,
+          kept,
+          tells_order c.args.reading _ vs _ _ _ _ read all c.sort_unstable.ensures.permutation
+              c.sort_unstable.ensures.sorted (rw c.as_slice.ensures.value at c.tell_places.ensures),
+        )),
+      ),
+    )
 
 pub returns : goal.returns
 returns c =
-    inr (omega (arith, c.if-versions-gt-MOST_TEXTS.false), inr (c.if-order-versions.false, elim c.in-Err.ensures.refused [
-      | inl rejected ↦ inr (inl (refl, rejected))
-      | inr none ↦ inl (none.0, (refl, none.1), none.2)
-    ]))
+    inr (
+      omega (arith, c.if-versions-gt-MOST_TEXTS.false),
+      inr (
+        c.if-order-versions.false,
+        elim c.in-Err.ensures.refused [
+          | inl rejected ↦ inr (inl (refl, rejected))
+          | inr none ↦ inl (none.0, (refl, none.1), none.2)
+        ],
+      ),
+    )
