@@ -227,6 +227,14 @@ lines_asked q es plain bare_asked = rw (plain, bare_asked) refl
 shown_again : (as_written : Bool) → as_written ≡ false → (e : Entry) → shown as_written (again_entry e) ≡ shown as_written e
 shown_again as_written bare_asked e = rw bare_asked refl
 
+-- of texts that are versions the same is not refused
+allowed_again : (q : Asked) (texts : List (List ℕ)) → NoValue (IsRefused q) → q.reading.is_coerced ≡ false
+    → (SomeText (λ text. NoValue (IsVersionIn q.reading text)) texts → ⊥) → NoValue (IsRefused (record q { versions = texts }))
+allowed_again q texts can plainly are why (unknown e) = can UnknownOption (unknown e)
+allowed_again q texts can plainly are why (unread known some) = can UnreadRange (unread known some)
+allowed_again q texts can plainly are why (no_version known all lacks) = are lacks.1
+allowed_again q texts can plainly are why (unshown known all read some) = absurd (grind (arith, plainly, some.0))
+
 again_of : Reread → (q : Asked) (es : List Entry) → NoValue (IsRefused q) → q.level ≡ None → q.reading.is_coerced ≡ false → q.is_json ≡ false
     → q.as_written ≡ false → EachText IsUtf8 q.versions → IsListing q.reading q.ranges q.versions es
     → Responds (Some (record q { versions = lines (text_of q es) })) (record { output = text_of q es; refusal = None; is_success = not (is_empty es) })
@@ -242,12 +250,8 @@ again_of reread q es can level plainly as_lines bare_asked u listing =
     let texts : lines (text_of q es) ≡ map (shown false) printed =
     ap lines (lines_asked q es as_lines bare_asked)
     ∙ all_lines (map (shown false) printed) (kept_plain reread q.reading q.ranges plainly printed of_printed) in
-    let allowed : NoValue (IsRefused (record q { versions = map (shown false) printed })) = λ why is. elim is [
-      | unknown e ↦ can UnknownOption (unknown e)
-      | unread known some ↦ can UnreadRange (unread known some)
-      | no_version known all lacks ↦ none_lacks reread q.reading q.ranges plainly printed of_printed lacks.1
-      | unshown known all versions some ↦ absurd (grind (arith, plainly, some.0))
-    ] in
+    let allowed : NoValue (IsRefused (record q { versions = map (shown false) printed })) =
+    allowed_again q (map (shown false) printed) can plainly (none_lacks reread q.reading q.ranges plainly printed of_printed) in
     let output : text_of q (map again_entry chosen) ≡ text_of q es = text_map again_entry q (shown_again q.as_written bare_asked) chosen
     ∙ ap (λ (l : List Entry). written_in q l) (picked_twice q.pick es) in
     let filled : is_empty (map again_entry chosen) ≡ is_empty es = map_empty chosen ∙ picked_empty q.pick es in

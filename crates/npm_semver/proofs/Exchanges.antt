@@ -96,8 +96,8 @@ refused_exchanged q front a b back why (unknown e) = unknown e
 refused_exchanged q front a b back why (unread known some) = unread known some
 refused_exchanged q front a b back why (no_version known all some) =
     no_version known all (some.0, some_exchanged _ front a b back some.1)
-refused_exchanged q front a b back why (unshown known all versions some) =
-    unshown known all (λ lacks. versions (lacks.0, some_exchanged _ front b a back lacks.1)) (some.0, some_exchanged _ front a b back some.1)
+refused_exchanged q front a b back why (unshown known all read some) =
+    unshown known all (λ lacks. read (lacks.0, some_exchanged _ front b a back lacks.1)) (some.0, some_exchanged _ front a b back some.1)
 
 -- what is written for a next version does not depend on the order of the versions
 one_order : (q : Asked) (texts more : List (List ℕ)) (level : List ℕ) (vs ws : List Entry) → IsPermutation vs ws

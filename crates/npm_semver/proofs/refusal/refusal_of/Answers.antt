@@ -1,8 +1,11 @@
 use Rattle.std.proofs.Common.{refl, sym, ◌∙◌}
 use Rattle.npm_semver.specs.Internal.Asked.{asked_of}
-use Rattle.npm_semver.specs.Responses.IsRefused.{no_version, unread, unshown}
+use Rattle.npm_semver.specs.Responses.IsRefused.{no_version, unknown, unread, unshown}
 use Rattle.npm_semver.proofs.Refused.{no_version_is, no_version_not, not_refused, unknown_not, unread_is, unread_not, unshown_is, unshown_not}
 use Rattle.npm_semver.proofs.refusal.refusal_of.Goals as goal
+
+pub returns-then-has_unknown-clause-some : goal.returns-then-has_unknown-clause-some
+returns-then-has_unknown-clause-some c = λ read. unknown (sym c.has_unknown.ensures ∙ c.if-has_unknown.true)
 
 pub returns-then-has_unread-clause-some : goal.returns-then-has_unread-clause-some
 returns-then-has_unread-clause-some c = λ read.
