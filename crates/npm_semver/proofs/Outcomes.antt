@@ -55,9 +55,9 @@ module _ (r : Result Made AllocError) (input : List ℕ) (command : Command) whe
       → IfOk r (λ o. (arguments : List (List ℕ)) → IsCommand arguments command → IsOutcome arguments input (outcome o))
   subcommand_outcome name words said e is h = elim r as (λ k. IfOk k (λ o. IsSaid said (outcome o))
       → IfOk k (λ o. (arguments : List (List ℕ)) → IsCommand arguments command → IsOutcome arguments input (outcome o))) [
-    | Ok o ↦ λ h arguments asks. said_outcome arguments _ name input said _ _ _ (rw e at asks) is h
-    | Err _ ↦ λ _. tt
-  ] h
+        | Ok o ↦ λ h arguments asks. said_outcome arguments _ name input said _ _ _ (rw e at asks) is h
+        | Err _ ↦ λ _. tt
+      ] h
 
   pub request_outcome : (reasons : List ℕ) (request : Request) (lined : Option Asked) (w : Written) → command ≡ Commands.Request request
       → lined ≡ option_map (with_lines input) (request_of request) → Responds lined w → (tells_why lined ≡ false → reasons ≡ [])
@@ -65,7 +65,7 @@ module _ (r : Result Made AllocError) (input : List ℕ) (command : Command) whe
       → IfOk r (λ o. (arguments : List (List ℕ)) → IsCommand arguments command → IsOutcome arguments input (outcome o))
   request_outcome reasons request lined w e is responds silent h = elim r as (λ k. IfOk k (λ o. IsWritten w reasons (outcome o))
       → IfOk k (λ o. (arguments : List (List ℕ)) → IsCommand arguments command → IsOutcome arguments input (outcome o))) [
-    | Ok o ↦ λ h arguments asks. let asked : (has_subcommand arguments ≡ false) × IsAsked arguments (request_of request) = rw e at asks in
-      written_outcome arguments input reasons (request_of request) lined w _ _ _ asked.0 asked.1 is responds silent h
-    | Err _ ↦ λ _. tt
-  ] h
+        | Ok o ↦ λ h arguments asks. let asked : (has_subcommand arguments ≡ false) × IsAsked arguments (request_of request) = rw e at asks in
+            written_outcome arguments input reasons (request_of request) lined w _ _ _ asked.0 asked.1 is responds silent h
+        | Err _ ↦ λ _. tt
+      ] h

@@ -8,8 +8,11 @@ use Rattle.npm_semver.proofs.command.tell.Goals as goal
 told : {U E : Type 0} (pushed : Result U E) (is : Bool) (old before after words end : List ℕ) → is ≡ true → end ≡ 10 ∷ []
     → before ≡ (old ++ codes "semver: ") ++ words → after ≡ (if is_ok pushed then before ++ end else before)
     → OnOk pushed ((x : List ℕ) × IsTold is x × (after ≡ old ++ x))
-told (Ok u) is old before after words end some ten are e = (codes "semver: " ++ (words ++ 10 ∷ []), rw some (line words),
-    e ∙ rw (ten, are) (append_assoc (old ++ codes "semver: ") words (10 ∷ []) ∙ append_assoc old (codes "semver: ") (words ++ 10 ∷ [])))
+told (Ok u) is old before after words end some ten are e = (
+  codes "semver: " ++ (words ++ 10 ∷ []),
+  rw some (line words),
+  e ∙ rw (ten, are) (append_assoc (old ++ codes "semver: ") words (10 ∷ []) ∙ append_assoc old (codes "semver: ") (words ++ 10 ∷ [])),
+)
 told (Err e) is old before after words end some ten are is_before = tt
 
 pub returns-in_default : goal.returns-in_default
