@@ -1,6 +1,6 @@
 -- Statement: what the command writes for what its arguments ask.
 use Rattle.std.specs.Prelude.{◌≡◌, ◌&&◌, ◌||◌, ◌==◌, ◌∷◌, ◌++◌, [], not, ℕ, Bool, true, false, List}
-use Rattle.std.specs.Prelude.{Option, Some, None, Result, Ok, Err, map, option_map, reverse, take}
+use Rattle.std.specs.Prelude.{Option, Some, None, Result, Ok, Err, map, reverse, take}
 use Rattle.std.specs.Prelude.{if◌then◌else◌}
 use Rattle.std.specs.Int.{is_in_range}
 use Rattle.std.specs.List.{flat_map, list_all}
