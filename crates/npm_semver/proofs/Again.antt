@@ -1,7 +1,7 @@
 -- What is printed as lines, read again, prints the same.
 use Rattle.npm_semver.{proofs.Ties.{not_itself, same_emptiness, text_map, unbuilt, unbuilt_same}, specs.{Arguments.Asked, Laws.EachText}}
 use Rattle.npm_semver.specs.{Listing.{AllSay, AreListed, Entry, IsListing, Says, order}, Readings.{IsVersionIn, SomeText, found, here, later}}
-use Rattle.npm_semver.specs.{Readings.{not_found, strict}, Responses.{IsRefused, Responds, Written, bare, in_order, increment, json, line}}
+use Rattle.npm_semver.specs.{Readings.{not_found, strict}, Responses.{IsRefused, Responds, UnknownOption, UnreadRange, Written, bare, in_order, increment, json, line}}
 use Rattle.npm_semver.specs.{Responses.{no_version, picked, refused, shown, text_of, unknown, unread, unshown, versions}, declared.question.Pick.Pick}
 use Rattle.{npm_semver.specs.declared.reading.ReadOptions.ReadOptions, npm_words.specs.VersionText.IsVersionText, semver_core.specs.Failures.NoValue}
 use Rattle.semver_core.specs.{Lists.is_empty, Printing.Text.version_text, Text.Characters.{IsTrim, begins, is_identifier_char, is_whitespace}}
@@ -227,9 +227,17 @@ lines_asked q es plain bare_asked = rw (plain, bare_asked) refl
 shown_again : (as_written : Bool) → as_written ≡ false → (e : Entry) → shown as_written (again_entry e) ≡ shown as_written e
 shown_again as_written bare_asked e = rw bare_asked refl
 
-again_of : Reread → (q : Asked) (es : List Entry) → (IsRefused q → ⊥) → q.level ≡ None → q.reading.is_coerced ≡ false → q.is_json ≡ false
+-- of texts that are versions the same is not refused
+allowed_again : (q : Asked) (texts : List (List ℕ)) → NoValue (IsRefused q) → q.reading.is_coerced ≡ false
+    → (SomeText (λ text. NoValue (IsVersionIn q.reading text)) texts → ⊥) → NoValue (IsRefused (record q { versions = texts }))
+allowed_again q texts can plainly are why (unknown e) = can UnknownOption (unknown e)
+allowed_again q texts can plainly are why (unread known some) = can UnreadRange (unread known some)
+allowed_again q texts can plainly are why (no_version known all lacks) = are lacks.1
+allowed_again q texts can plainly are why (unshown known all read some) = absurd (grind (arith, plainly, some.0))
+
+again_of : Reread → (q : Asked) (es : List Entry) → NoValue (IsRefused q) → q.level ≡ None → q.reading.is_coerced ≡ false → q.is_json ≡ false
     → q.as_written ≡ false → EachText IsUtf8 q.versions → IsListing q.reading q.ranges q.versions es
-    → Responds (Some (record q { versions = lines (text_of q es) })) (record { output = text_of q es; is_error_told = false; is_success = not (is_empty es) })
+    → Responds (Some (record q { versions = lines (text_of q es) })) (record { output = text_of q es; refusal = None; is_success = not (is_empty es) })
 again_of reread q es can level plainly as_lines bare_asked u listing =
     let chosen : List Entry = picked q.pick es in
     let printed : List Entry = in_order q.is_reversed chosen in
@@ -242,17 +250,13 @@ again_of reread q es can level plainly as_lines bare_asked u listing =
     let texts : lines (text_of q es) ≡ map (shown false) printed =
     ap lines (lines_asked q es as_lines bare_asked)
     ∙ all_lines (map (shown false) printed) (kept_plain reread q.reading q.ranges plainly printed of_printed) in
-    let allowed : IsRefused (record q { versions = map (shown false) printed }) → ⊥ = λ is. elim is [
-      | unknown e ↦ can (unknown e)
-      | unread some ↦ can (unread some)
-      | no_version lacks ↦ none_lacks reread q.reading q.ranges plainly printed of_printed lacks.1
-      | unshown some ↦ absurd (grind (arith, plainly, some.0))
-    ] in
+    let allowed : NoValue (IsRefused (record q { versions = map (shown false) printed })) =
+    allowed_again q (map (shown false) printed) can plainly (none_lacks reread q.reading q.ranges plainly printed of_printed) in
     let output : text_of q (map again_entry chosen) ≡ text_of q es = text_map again_entry q (shown_again q.as_written bare_asked) chosen
     ∙ ap (λ (l : List Entry). written_in q l) (picked_twice q.pick es) in
     let filled : is_empty (map again_entry chosen) ≡ is_empty es = map_empty chosen ∙ picked_empty q.pick es in
     let found : Responds (Some (record q { versions = map (shown false) printed }))
-    (record { output = text_of q (map again_entry chosen); is_error_told = false; is_success = not (is_empty (map again_entry chosen)) }) =
+    (record { output = text_of q (map again_entry chosen); refusal = None; is_success = not (is_empty (map again_entry chosen)) }) =
     versions (record q { versions = map (shown false) printed }) (map again_entry chosen) allowed level (record {
       listed = map again_entry printed;
       are = listed_again reread q.reading q.ranges plainly printed of_printed;
@@ -262,9 +266,9 @@ again_of reread q es can level plainly as_lines bare_asked u listing =
     rw (texts, ← output, ← filled) found
 
 pub responds_again : Reread → (q : Asked) (written : Written) → EachText IsUtf8 q.versions → Responds (Some q) written → q.level ≡ None
-    → q.reading.is_coerced ≡ false → q.is_json ≡ false → q.as_written ≡ false → written.is_error_told ≡ false
+    → q.reading.is_coerced ≡ false → q.is_json ≡ false → q.as_written ≡ false → written.refusal ≡ None
     → Responds (Some (record q { versions = lines written.output })) written
-responds_again reread q written u (refused _ is) level plainly as_lines bare_asked untold = absurd (grind (arith, untold))
+responds_again reread q written u (refused _ why is) level plainly as_lines bare_asked untold = absurd (cc)
 responds_again reread q written u (versions _ es can none_is listing) level plainly as_lines bare_asked untold =
     again_of reread q es can level plainly as_lines bare_asked u listing
 responds_again reread q written u (increment _ word es can has are) level plainly as_lines bare_asked untold = absurd (grind (arith, level, has))

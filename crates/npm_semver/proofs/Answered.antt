@@ -172,7 +172,7 @@ no_drawing a none said (Spec.explain x r text is) = none r is
 pub no_least : (words : List (List ℕ)) → NoValue (AreRanges words) → NoValue (Answers (codes "least" ∷ words))
 no_least words none said (Spec.least a ws rs least are is bare) = none rs are
 
-pub drawn : (a : List ℕ) (r : Range) (text : List ℕ) (said : Said) → IsRange a r → Extends (range_text r ++ 10 ∷ []) text → said ≡ say text false Yes
+pub drawn : (a : List ℕ) (r : Range) (text : List ℕ) (said : Said) → IsRange a r → Extends (range_text r ++ 10 ∷ []) text → said ≡ say text None Yes
     → Answers (codes "explain" ∷ a ∷ []) said
 drawn a r text said is (more, e) says =
     rw (says, e ∙ append_assoc (range_text r) (10 ∷ []) more) (Spec.explain a r more is)

@@ -6,16 +6,17 @@ use Rattle.semver_core.specs.Increments.Table.{answer_of_inc}
 use Rattle.semver_core.specs.Lists.{is_empty}
 use Rattle.npm_semver.specs.Arguments.{Asked}
 use Rattle.npm_semver.specs.Listing.{AreListed, Entry, IsListing}
-use Rattle.npm_semver.specs.Responses.{IsRefused, Responds, Written, increment, increment_written, next_written, nothing_written, text_of, versions}
+use Rattle.semver_core.specs.Failures.{NoValue}
+use Rattle.npm_semver.specs.Responses.{IsRefused, NotOneVersion, Responds, Written, increment, increment_written, next_written, nothing_written, text_of, versions}
 use Rattle.npm_semver.specs.Internal.Asked.{texts}
 use Rattle.npm_semver.specs.Internal.Written.{written}
 use Rattle.npm_semver.specs.declared.run.Response.{Response}
 
-pub responds : (q : Asked) (level : List ℕ) (es : List Entry) (w : Written) → (IsRefused q → ⊥) → q.level ≡ Some level
+pub responds : (q : Asked) (level : List ℕ) (es : List Entry) (w : Written) → NoValue (IsRefused q) → q.level ≡ Some level
     → AreListed q.reading [] q.versions es → w ≡ increment_written q level es → Responds (Some q) w
 responds q level es w can has listed e = rw e (increment q level es can has listed)
 
-pub if_responds : (r : Result Response AllocError) (q : Asked) (level : List ℕ) (es : List Entry) (w : Written) → (IsRefused q → ⊥) → q.level ≡ Some level
+pub if_responds : (r : Result Response AllocError) (q : Asked) (level : List ℕ) (es : List Entry) (w : Written) → NoValue (IsRefused q) → q.level ≡ Some level
     → AreListed q.reading [] q.versions es → w ≡ increment_written q level es → IfOk r (λ x. written x ≡ w)
     → IfOk r (λ x. Responds (Some q) (written x))
 if_responds (Ok x) q level es w can has listed e is = responds q level es (written x) can has listed (is ∙ e)
@@ -31,24 +32,24 @@ one_item (d ∷ []) e is one = ap (λ (x : Entry). x ∷ []) (sym is)
 one_item (d ∷ f ∷ es) e is one = absurd (omega (arith, one))
 
 others : (found : List Entry) (has : Bool) → is_empty found ≡ not has → has ≡ true → length found ≢ 1 → (q : Asked) (level : List ℕ)
-    → nothing_written true ≡ increment_written q level found
+    → nothing_written (Some NotOneVersion) ≡ increment_written q level found
 others [] has some e other q level = let k : true ≡ false = some ∙ ap not e in absurd (cc)
 others (d ∷ []) has some e other q level = absurd (other refl)
 others (d ∷ f ∷ es) has some e other q level = refl
 
 module _ (q : Asked) (level : List ℕ) where
-  pub of_none : (found : List Entry) (has : Bool) → is_empty found ≡ not has → has ≡ false → nothing_written false ≡ increment_written q level found
+  pub of_none : (found : List Entry) (has : Bool) → is_empty found ≡ not has → has ≡ false → nothing_written None ≡ increment_written q level found
   of_none [] has some e = refl
   of_none (d ∷ es) has some e = let k : false ≡ true = some ∙ ap not e in absurd (cc)
 
   pub of_ranges : (found : List Entry) (has : Bool) → is_empty found ≡ not has → has ≡ true → is_empty q.ranges ≡ false
-      → nothing_written true ≡ increment_written q level found
+      → nothing_written (Some NotOneVersion) ≡ increment_written q level found
   of_ranges [] has some e are = let k : true ≡ false = some ∙ ap not e in absurd (cc)
   of_ranges (d ∷ []) has some e are = rw are refl
   of_ranges (d ∷ f ∷ es) has some e are = refl
 
   pub of_others : (es found : List Entry) (has : Bool) → is_empty found ≡ not has → has ≡ true → length es ≢ 1
-      → (q.ranges ≡ [] → es ≡ found) → is_empty q.ranges ≡ true → nothing_written true ≡ increment_written q level found
+      → (q.ranges ≡ [] → es ≡ found) → is_empty q.ranges ≡ true → nothing_written (Some NotOneVersion) ≡ increment_written q level found
   of_others es found has some e other same none = others found has some e (rw (same (no_texts q.ranges none)) at other) q level
 
   pub of_one : (es found : List Entry) (e : Entry) → e ≡ get_or es 0 e → length es ≡ 1 → (q.ranges ≡ [] → es ≡ found) → is_empty q.ranges ≡ true
@@ -60,7 +61,7 @@ pub empty_texts : (xs : List (Bor (List ℕ))) (b : Bool) → b ≡ (length xs =
 empty_texts [] b e = sym e
 empty_texts (x ∷ xs) b e = grind (arith, e)
 
-pub lists : (q : Asked) (es : List Entry) (output : List ℕ) (done : Bool) → (IsRefused q → ⊥) → q.level ≡ None
+pub lists : (q : Asked) (es : List Entry) (output : List ℕ) (done : Bool) → NoValue (IsRefused q) → q.level ≡ None
     → IsListing q.reading q.ranges q.versions es → output ≡ text_of q es → done ≡ not (is_empty es)
-    → Responds (Some q) (record { output = output; is_error_told = false; is_success = done })
+    → Responds (Some q) (record { output = output; refusal = None; is_success = done })
 lists q es output done can has listing out is = rw (out, is) (versions q es can has listing)

@@ -7,7 +7,7 @@ use Rattle.npm_semver.specs.Arguments.{Asked}
 use Rattle.npm_semver.specs.Listing.{AreListed, Entry, IsListing}
 use Rattle.npm_semver.specs.Listing as Listing
 use Rattle.npm_semver.specs.Readings.{SomeText, here, later}
-use Rattle.npm_semver.specs.Responses.{IsRefused, Responds, Written, increment, increment_written, no_version, refused, unknown, unread, unshown, versions}
+use Rattle.npm_semver.specs.Responses.{IsRefused, Refusal, Responds, Written, increment, increment_written, no_version, refused, unknown, unread, unshown, versions}
 use Rattle.npm_semver.specs.declared.reading.ReadOptions.{ReadOptions}
 
 moved : (f u w k : List Entry) → IsPermutation (f ++ (u ++ (w ++ k))) (f ++ (w ++ (u ++ k)))
@@ -89,12 +89,15 @@ module _ (Is : List ℕ → Type 0) where
     | inr s ↦ some_right front (b ++ (a ++ back)) (some_behind a b back s)
   ]
 
-refused_exchanged : (q : Asked) (front a b back : List (List ℕ)) → IsRefused (record q { versions = front ++ (a ++ (b ++ back)) })
-    → IsRefused (record q { versions = front ++ (b ++ (a ++ back)) })
-refused_exchanged q front a b back (unknown e) = unknown e
-refused_exchanged q front a b back (unread some) = unread some
-refused_exchanged q front a b back (no_version some) = no_version (some.0, some_exchanged _ front a b back some.1)
-refused_exchanged q front a b back (unshown some) = unshown (some.0, some_exchanged _ front a b back some.1)
+refused_exchanged : (q : Asked) (front a b back : List (List ℕ)) (why : Refusal)
+    → IsRefused (record q { versions = front ++ (a ++ (b ++ back)) }) why
+    → IsRefused (record q { versions = front ++ (b ++ (a ++ back)) }) why
+refused_exchanged q front a b back why (unknown e) = unknown e
+refused_exchanged q front a b back why (unread known some) = unread known some
+refused_exchanged q front a b back why (no_version known all some) =
+    no_version known all (some.0, some_exchanged _ front a b back some.1)
+refused_exchanged q front a b back why (unshown known all read some) =
+    unshown known all (λ lacks. read (lacks.0, some_exchanged _ front b a back lacks.1)) (some.0, some_exchanged _ front a b back some.1)
 
 -- what is written for a next version does not depend on the order of the versions
 one_order : (q : Asked) (texts more : List (List ℕ)) (level : List ℕ) (vs ws : List Entry) → IsPermutation vs ws
@@ -113,11 +116,11 @@ one_order q texts more level (v ∷ u ∷ vs) (w ∷ x ∷ ws) moved = refl
 pub responds_exchanged : (q : Asked) (front a b back : List (List ℕ)) (written : Written)
     → Responds (Some (record q { versions = front ++ (a ++ (b ++ back)) })) written
     → Responds (Some (record q { versions = front ++ (b ++ (a ++ back)) })) written
-responds_exchanged q front a b back written (refused _ is) = refused _ (refused_exchanged q front a b back is)
+responds_exchanged q front a b back written (refused _ why is) = refused _ why (refused_exchanged q front a b back why is)
 responds_exchanged q front a b back written (versions _ vs can no_level listing) =
-    versions (record q { versions = front ++ (b ++ (a ++ back)) }) vs (λ is. can (refused_exchanged q front b a back is)) no_level
+    versions (record q { versions = front ++ (b ++ (a ++ back)) }) vs (λ why is. can why (refused_exchanged q front b a back why is)) no_level
     (listing_exchanged q.reading q.ranges front a b back vs listing)
 responds_exchanged q front a b back written (increment _ word vs can has are) =
     let (ws, listed, moved) = exchanged q.reading [] front a b back vs are in
     rw (one_order q (front ++ (a ++ (b ++ back))) (front ++ (b ++ (a ++ back))) word vs ws moved)
-    (increment (record q { versions = front ++ (b ++ (a ++ back)) }) word ws (λ is. can (refused_exchanged q front b a back is)) has listed)
+    (increment (record q { versions = front ++ (b ++ (a ++ back)) }) word ws (λ why is. can why (refused_exchanged q front b a back why is)) has listed)

@@ -12,4 +12,5 @@ pub mod Again
 pub mod OneQuestion
 pub mod Answered
 pub mod ToldOf
+pub mod Outcomes
 pub mod Texts

@@ -6,6 +6,7 @@ use Rattle.npm_words.specs.{Alternatives.accepts, Coerced.{IsChosenFrom, IsCoerc
 use Rattle.{semver_core.specs.{Text.Characters.IsTrim, Values.Versions.VersionValue}, std.proofs.Common.{Bool, IsUtf8, List, Some, [], ap, arith}}
 use Rattle.std.proofs.{Common.{false, refl, sym, true, ℕ, ◌∙◌, ◌∷◌, ◌≡◌}, lemmas.List.Sorted.{IsPermutation-sym, IsPermutation-trans}}
 use Rattle.std.{proofs.lemmas.Option.same_Some, specs.List.Sorted.IsPermutation}
+use Rattle.npm_semver.specs.Responses.{IsRefused, Refusal, no_version, unknown, unread, unshown}
 use Rattle.npm_semver.specs.Laws as Each
 use Rattle.npm_semver.specs.Listing as Listing
 
@@ -82,21 +83,41 @@ module _ (one_version : OneVersion) (one_range : OneRange) (one_trim : OneTrim) 
       let same = listed_once ranges texts h.listed k.listed u h.are k.are in
       IsPermutation-trans vs h.listed ws (IsPermutation-sym h.listed vs h.same) (rw same k.same)
 
+-- a question is refused for one reason
+refused_once : (q : Asked) (one other : Refusal) → IsRefused q one → IsRefused q other → one ≡ other
+refused_once q one other (unknown a) (unknown b) = refl
+refused_once q one other (unknown a) (unread k b) = absurd (k a)
+refused_once q one other (unknown a) (no_version k r b) = absurd (k a)
+refused_once q one other (unknown a) (unshown k r v b) = absurd (k a)
+refused_once q one other (unread k a) (unknown b) = absurd (k b)
+refused_once q one other (unread k a) (unread m b) = refl
+refused_once q one other (unread k a) (no_version m r b) = absurd (r a)
+refused_once q one other (unread k a) (unshown m r v b) = absurd (r a)
+refused_once q one other (no_version k r a) (unknown b) = absurd (k b)
+refused_once q one other (no_version k r a) (unread m b) = absurd (r b)
+refused_once q one other (no_version k r a) (no_version m s b) = refl
+refused_once q one other (no_version k r a) (unshown m s v b) = absurd (v a)
+refused_once q one other (unshown k r v a) (unknown b) = absurd (k b)
+refused_once q one other (unshown k r v a) (unread m b) = absurd (r b)
+refused_once q one other (unshown k r v a) (no_version m s b) = absurd (v b)
+refused_once q one other (unshown k r v a) (unshown m s w b) = refl
+
 found_both : OneFound false → OneFound true → (from_right : Bool) → OneFound from_right
 found_both left right false = left
 found_both left right true = right
 
 responds_same : OneVersion → OneRange → OneTrim → ((from_right : Bool) → OneFound from_right) → (q : Asked) (a b : Written) → EachText IsUtf8 q.ranges
     → Responds (Some q) a → Responds (Some q) b → a ≡ b
-responds_same one_version one_range one_trim one_found q a b u (refused _ is) (refused _ of) = refl
-responds_same one_version one_range one_trim one_found q a b u (refused _ is) (versions _ ws can bare listing) = absurd (can is)
-responds_same one_version one_range one_trim one_found q a b u (refused _ is) (increment _ word ws can has are) = absurd (can is)
-responds_same one_version one_range one_trim one_found q a b u (versions _ vs can bare listing) (refused _ of) = absurd (can of)
+responds_same one_version one_range one_trim one_found q a b u (refused _ why is) (refused _ other of) =
+    rw (refused_once q why other is of) refl
+responds_same one_version one_range one_trim one_found q a b u (refused _ why is) (versions _ ws can bare listing) = absurd (can why is)
+responds_same one_version one_range one_trim one_found q a b u (refused _ why is) (increment _ word ws can has are) = absurd (can why is)
+responds_same one_version one_range one_trim one_found q a b u (versions _ vs can bare listing) (refused _ why of) = absurd (can why of)
 responds_same one_version one_range one_trim one_found q a b u (versions _ vs can bare listing) (versions _ ws allowed none list) =
     let moved = printed_once one_version one_range one_trim one_found q.reading q.ranges q.versions vs ws u listing list in
     rw (same_text q vs ws listing.sorted list.sorted moved, same_emptiness vs ws moved) refl
 responds_same one_version one_range one_trim one_found q a b u (versions _ vs can bare listing) (increment _ word ws allowed has are) = absurd (grind (arith, bare, has))
-responds_same one_version one_range one_trim one_found q a b u (increment _ word vs can has are) (refused _ of) = absurd (can of)
+responds_same one_version one_range one_trim one_found q a b u (increment _ word vs can has are) (refused _ why of) = absurd (can why of)
 responds_same one_version one_range one_trim one_found q a b u (increment _ word vs can has are) (versions _ ws allowed bare list) = absurd (grind (arith, bare, has))
 responds_same one_version one_range one_trim one_found q a b u (increment _ word vs can has are) (increment _ other ws allowed of were) =
     let level : word ≡ other = same_Some word other (sym has ∙ of) in

@@ -11,7 +11,7 @@ use Rattle.npm_semver.specs.Internal.Texts.{is_no_version}
 use Rattle.npm_semver.specs.Readings.{HasRange, IsVersionIn, SomeText, here, later}
 use Rattle.npm_semver.specs.Reasons as Reasons
 use Rattle.npm_semver.specs.Reasons.{AreLeftOut, AreNoRanges, Told}
-use Rattle.npm_semver.specs.Responses.{HasUnread, HasNoVersion, HasUnshown, IsRefused, is_plain, no_version, unknown, unread, unshown}
+use Rattle.npm_semver.specs.Responses.{HasUnknown, HasUnread, HasNoVersion, HasUnshown, IsRefused, is_plain, no_version, unknown, unread, unshown}
 use Rattle.npm_semver.specs.declared.reading.ReadOptions.{ReadOptions}
 
 module _ (r : ReadOptions) where
@@ -45,12 +45,11 @@ module _ (r : ReadOptions) (ranges : List (List ℕ)) where
   all_versions texts told (Reasons.rejected text rest v us is say are) e (later t ts some) = all_versions rest us are e some
   all_versions texts told (Reasons.no_version text rest us lacks are) e some = absurd (cc)
 
-pub not_refused : (q : Asked) → (q.is_strict && q.has_unknown) ≡ false
-    → (HasUnread q → ⊥) → (HasNoVersion q → ⊥) → (HasUnshown q → ⊥) → IsRefused q → ⊥
-not_refused q known all versions shown (unknown e) = absurd (grind (arith, known, e))
-not_refused q known all versions shown (unread some) = all some
-not_refused q known all versions shown (no_version some) = versions some
-not_refused q known all versions shown (unshown some) = shown some
+pub not_refused : (q : Asked) → (HasUnknown q → ⊥) → (HasUnread q → ⊥) → (HasNoVersion q → ⊥) → (HasUnshown q → ⊥) → NoValue (IsRefused q)
+not_refused q known all versions shown why (unknown e) = known e
+not_refused q known all versions shown why (unread k some) = all some
+not_refused q known all versions shown why (no_version k a some) = versions some
+not_refused q known all versions shown why (unshown k a v some) = shown some
 
 -- some text is not plain
 pub some_marked : (xs : List (Bor (List ℕ))) → list_all (λ t. list_all is_plain t.now) xs ≡ false → SomeText (λ text. list_all is_plain text ≡ false) (texts xs)
@@ -67,6 +66,9 @@ none_marked (x ∷ xs) e (later t ts some) = none_marked xs (and_parts (list_all
 
 -- what the tests of a question say
 module _ (q : Asked) where
+  pub unknown_not : (q.is_strict && q.has_unknown) ≡ false → HasUnknown q → ⊥
+  unknown_not e some = absurd (cc)
+
   pub unread_is : (told : List Told) → AreNoRanges q.reading q.ranges told
       → ((q.reading.is_loose || q.is_strict) && not (is_empty told)) ≡ true → HasUnread q
   unread_is told are e = (grind (arith, e), some_unread q.reading q.ranges told are (grind (arith, e)))

@@ -4,5 +4,6 @@ pub mod Readings
 pub mod Texts
 pub mod Asked
 pub mod Said
+pub mod Commands
 pub mod Appends
 pub mod EntryOrder

@@ -5,5 +5,6 @@ pub mod Listing
 pub mod Responses
 pub mod Reasons
 pub mod Subcommands
+pub mod Outcomes
 pub mod Internal
 pub mod Laws

@@ -1,6 +1,6 @@
 -- Statement: what the command writes for what its arguments ask.
 use Rattle.std.specs.Prelude.{◌≡◌, ◌&&◌, ◌||◌, ◌==◌, ◌∷◌, ◌++◌, [], not, ℕ, Bool, true, false, List}
-use Rattle.std.specs.Prelude.{Option, Some, None, Result, Ok, Err, map, option_map, reverse, take}
+use Rattle.std.specs.Prelude.{Option, Some, None, Result, Ok, Err, map, reverse, take}
 use Rattle.std.specs.Prelude.{if◌then◌else◌}
 use Rattle.std.specs.Int.{is_in_range}
 use Rattle.std.specs.List.{flat_map, list_all}
@@ -10,7 +10,7 @@ use Rattle.semver_core.specs.Increments.Table.{Fault, answer_of_inc}
 use Rattle.semver_core.specs.Lists.{is_empty}
 use Rattle.semver_core.specs.Printing.Text.{version_text}
 use Rattle.semver_core.specs.Values.Versions.{VersionValue}
-use Rattle.npm_semver.specs.Arguments.{Asked, IsAsked}
+use Rattle.npm_semver.specs.Arguments.{Asked}
 use Rattle.npm_semver.specs.Listing.{AreListed, Entry, IsListing}
 use Rattle.npm_semver.specs.Readings.{HasRange, IsVersionIn, SomeText}
 use Rattle.npm_semver.specs.declared.question.Pick.{Pick}
@@ -49,15 +49,20 @@ abbrev pub text_of : Asked → List Entry → List ℕ
 text_of q es = let printed = map (shown q.as_written) (in_order q.is_reversed (picked q.pick es)) in
     if q.is_json then json printed else flat_map line printed
 
--- what is written to standard output, whether an error is told, and whether the command succeeds
+-- why nothing is printed, where that is an error
+pub data Refusal : Type 0 where
+  NotOneVersion UnknownOption UnreadRange NoVersion UnshownText : Refusal
+  NotIncremented : Fault → Refusal
+
+-- what is written to standard output, the error that is told, and whether the command succeeds
 pub record Written : Type 0 where
   pub output : List ℕ
-  pub is_error_told : Bool
+  pub refusal : Option Refusal
   pub is_success : Bool
 
 -- nothing is printed
-abbrev pub nothing_written : Bool → Written
-nothing_written is_error_told = record { output = []; is_error_told = is_error_told; is_success = false }
+abbrev pub nothing_written : Option Refusal → Written
+nothing_written refusal = record { output = []; refusal = refusal; is_success = false }
 
 abbrev pub next_text : Bool → VersionValue → List ℕ
 next_text is_json w = if is_json then json (bare w ∷ []) else line (bare w)
@@ -65,16 +70,20 @@ next_text is_json w = if is_json then json (bare w ∷ []) else line (bare w)
 -- the next version, or why there is none
 abbrev pub next_written : Bool → Result VersionValue Fault → Written
 next_written is_json (Ok w) =
-    record { output = next_text is_json w; is_error_told = false; is_success = true }
-next_written is_json (Err fault) = nothing_written true
+    record { output = next_text is_json w; refusal = None; is_success = true }
+next_written is_json (Err fault) = nothing_written (Some (NotIncremented fault))
 
 -- a next version is asked for of one version, with no range
 abbrev pub increment_written : Asked → List ℕ → List Entry → Written
-increment_written q level [] = nothing_written false
+increment_written q level [] = nothing_written None
 increment_written q level (e ∷ []) = if is_empty q.ranges
     then next_written q.is_json (answer_of_inc e.version level q.identifier (Some q.base))
-    else nothing_written true
-increment_written q level (d ∷ e ∷ es) = nothing_written true
+    else nothing_written (Some NotOneVersion)
+increment_written q level (d ∷ e ∷ es) = nothing_written (Some NotOneVersion)
+
+-- some word has to be an option, and is none
+abbrev pub HasUnknown : Asked → Type 0
+HasUnknown q = (q.is_strict && q.has_unknown) ≡ true
 
 -- some range text has to be one, and is none: loosely npm's program reads more
 abbrev pub HasUnread : Asked → Type 0
@@ -95,33 +104,30 @@ abbrev pub HasUnshown : Asked → Type 0
 HasUnshown q = ((q.reading.is_coerced && q.as_written) ≡ true)
     × SomeText (λ text. list_all is_plain text ≡ false) q.versions
 
--- why nothing is answered
-pub data IsRefused (q : Asked) : Type 0 where
-  unknown : (q.is_strict && q.has_unknown) ≡ true → IsRefused q
-  unread : HasUnread q → IsRefused q
-  no_version : HasNoVersion q → IsRefused q
-  unshown : HasUnshown q → IsRefused q
+-- why nothing is answered: the first of these that is so
+pub data IsRefused (q : Asked) : Refusal → Type 0 where
+  unknown : HasUnknown q → IsRefused q UnknownOption
+  unread : (HasUnknown q → ⊥) → HasUnread q → IsRefused q UnreadRange
+  no_version : (HasUnknown q → ⊥) → (HasUnread q → ⊥) → HasNoVersion q → IsRefused q NoVersion
+  unshown : (HasUnknown q → ⊥) → (HasUnread q → ⊥) → (HasNoVersion q → ⊥) → HasUnshown q
+      → IsRefused q UnshownText
 
 -- what is written for what is asked
 pub data Responds : Option Asked → Written → Type 0 where
-  help : (text : List ℕ) → Responds None (record { output = text; is_error_told = false; is_success = true })
-  refused : (q : Asked) → IsRefused q → Responds (Some q) (nothing_written true)
-  versions : (q : Asked) (es : List Entry) → (IsRefused q → ⊥) → q.level ≡ None
+  help : (text : List ℕ)
+      → Responds None (record { output = text; refusal = None; is_success = true })
+  refused : (q : Asked) (refusal : Refusal) → IsRefused q refusal
+      → Responds (Some q) (nothing_written (Some refusal))
+  versions : (q : Asked) (es : List Entry) → NoValue (IsRefused q) → q.level ≡ None
       → IsListing q.reading q.ranges q.versions es → Responds (Some q)
-      (record { output = text_of q es; is_error_told = false; is_success = not (is_empty es) })
-  increment : (q : Asked) (level : List ℕ) (es : List Entry) → (IsRefused q → ⊥)
+      (record { output = text_of q es; refusal = None; is_success = not (is_empty es) })
+  increment : (q : Asked) (level : List ℕ) (es : List Entry) → NoValue (IsRefused q)
       → q.level ≡ Some level → AreListed q.reading [] q.versions es
       → Responds (Some q) (increment_written q level es)
 
 -- `-` stands for the lines of the input
 abbrev pub with_lines : List ℕ → Asked → Asked
 with_lines input q = if q.reads_input then record q { versions = q.versions ++ lines input } else q
-
--- what is written for the arguments behind the program's name, and this input
-pub record IsResponse (arguments : List (List ℕ)) (input : List ℕ) (written : Written) : Type 0 where
-  pub asked : Option Asked
-  pub is_asked : IsAsked arguments asked
-  pub responds : Responds (option_map (with_lines input) asked) written
 
 -- whether the input is read
 abbrev pub reads_input : Option Asked → Bool

@@ -27,15 +27,20 @@ use Rattle.npm_semver.specs.declared.subcommands.replies.Status.TheVariants.{Yes
 abbrev pub Range : Type 0
 Range = List (Span VersionValue)
 
--- what is written to standard output, whether a message is written to standard error, and the exit
--- status
+-- what is wrong: there is no next version, or it is not above the given one, or the words ask
+-- nothing
+pub data Trouble : Type 0 where
+  NotIncremented : Fault → Trouble
+  NotAbove NoQuestion : Trouble
+
+-- what is written to standard output, what is told on standard error, and the exit status
 pub data Said : Type 0 where
-  say : (output : List ℕ) (is_error_told : Bool) (status : Status) → Said
+  say : (output : List ℕ) (trouble : Option Trouble) (status : Status) → Said
 
 -- yes or no, with a text on a line or nothing
 abbrev pub reply : Bool → Option (List ℕ) → Said
-reply is_yes None = say [] false (if is_yes then Yes else No)
-reply is_yes (Some text) = say (text ++ 10 ∷ []) false (if is_yes then Yes else No)
+reply is_yes None = say [] None (if is_yes then Yes else No)
+reply is_yes (Some text) = say (text ++ 10 ∷ []) None (if is_yes then Yes else No)
 
 abbrev pub sign : Ordering → List ℕ
 sign order = elim order [ Less ↦ codes "<" | Equal ↦ codes "=" | Greater ↦ codes ">" ]
@@ -65,8 +70,9 @@ status_of fault = elim fault [ NotAPrerelease text ↦ No | Overflow ↦ No | _ 
 -- what is said for what `inc` returns: the next version without its build metadata, or no, with a
 -- message, also if it is not above
 abbrev pub next_said : VersionValue → Result VersionValue Fault → Said
-next_said v (Ok w) = if is_lt (precedence v w) then reply true (Some (bare w)) else say [] true No
-next_said v (Err fault) = say [] true (status_of fault)
+next_said v (Ok w) =
+    if is_lt (precedence v w) then reply true (Some (bare w)) else say [] (Some NotAbove) No
+next_said v (Err fault) = say [] (Some (NotIncremented fault)) (status_of fault)
 
 -- a range is printed if it accepts a version
 pub data IsShown : Option Range → Said → Type 0 where
@@ -111,12 +117,13 @@ pub data Answers : List (List ℕ) → Said → Type 0 where
       → IfSome least (λ v. v.build ≡ [])
       → Answers (codes "least" ∷ a ∷ words) (reply (is_some least) (option_map version_text least))
   explain : (a : List ℕ) (r : Range) (drawing : List ℕ) → IsRange a r
-      → Answers (codes "explain" ∷ a ∷ []) (say (range_text r ++ 10 ∷ drawing) false Yes)
+      → Answers (codes "explain" ∷ a ∷ []) (say (range_text r ++ 10 ∷ drawing) None Yes)
 
 -- what is said of the words: their answer, or that they ask nothing
 pub data IsReply (words : List (List ℕ)) : Said → Type 0 where
   answered : (said : Said) → Answers words said → IsReply words said
-  malformed : NoValue (Answers words) → IsReply words (say [] true Malformed)
+  malformed : (trouble : Trouble) → NoValue (Answers words)
+      → IsReply words (say [] (Some trouble) Malformed)
 
 -- the first word names a subcommand
 abbrev pub is_subcommand : List ℕ → Bool

@@ -5,6 +5,7 @@ ghost use Rattle.std.specs.Prelude.{Option, unwrap_or};
 ghost use Rattle.std.specs.Str.{IsUtf8};
 ghost use Rattle.std.specs.Str.Lines.{lines};
 ghost use Rattle.std.specs.declared.cmp.Ordering.TheVariants.{Less};
+ghost use Rattle.semver_core.specs.Failures.{NoValue};
 ghost use Rattle.semver_core.specs.Values.Order.{precedence};
 ghost use Rattle.semver_core.specs.Values.Versions.{VersionValue};
 ghost use Rattle.npm_semver.specs.Arguments.{Asked, IsAsked, is_level};
@@ -22,7 +23,7 @@ pub fn successes()
     ensures some { (q : Asked) (written : Written) → Responds (Some q) written → q.level ≡ None
         → written.is_success ≡ true → SomeText (IsAccepted q) q.versions }
     ensures none { (q : Asked) (written : Written) → Responds (Some q) written → q.level ≡ None
-        → (IsRefused q → ⊥) → written.is_success ≡ false → EachText (IsLeftOut q) q.versions }
+        → NoValue (IsRefused q) → written.is_success ≡ false → EachText (IsLeftOut q) q.versions }
 {}
 
 /// Arguments ask one question.
@@ -63,7 +64,7 @@ pub fn exchanges()
 pub fn again()
     ensures { (q : Asked) (written : Written) → EachText IsUtf8 q.versions
         → Responds (Some q) written → q.level ≡ None → q.reading.is_coerced ≡ false
-        → q.is_json ≡ false → q.as_written ≡ false → written.is_error_told ≡ false
+        → q.is_json ≡ false → q.as_written ≡ false → written.refusal ≡ None
         → Responds (Some (record q { versions = lines written.output })) written }
 {
     npm_reads_once();

@@ -2,10 +2,12 @@
 
 ghost use Rattle.std.specs.Prelude.{◌≡◌, ◌&&◌, ◌||◌, IfNone, IfSome, not};
 ghost use Rattle.std.specs.List.{list_all, list_any};
+ghost use Rattle.semver_core.specs.Failures.{NoValue};
 ghost use Rattle.semver_core.specs.Lists.{is_empty};
 ghost use Rattle.npm_semver.specs.Responses.{IsRefused, is_plain};
 ghost use Rattle.npm_semver.specs.Internal.Asked.{asked_of};
 ghost use Rattle.npm_semver.specs.Internal.Texts.{IsReadFor, is_no_version};
+ghost use Rattle.npm_semver.specs.Internal.Written.{told_as};
 
 use crate::listing::Texts;
 use crate::question::Question;
@@ -32,10 +34,10 @@ pub enum Refusal {
 
 /// Returns why nothing is answered to a question, whose texts are read, if so.
 pub fn refusal_of(question: &Question<'_>, read: &Texts<'_>) -> Option<Refusal>
-    ensures some { IsReadFor (asked_of question.now) read.now → IfSome result (λ _.
-        IsRefused (asked_of question.now)) }
+    ensures some { IsReadFor (asked_of question.now) read.now → IfSome result (λ refusal.
+        IsRefused (asked_of question.now) (told_as refusal)) }
     ensures none { IsReadFor (asked_of question.now) read.now → IfNone result
-        (IsRefused (asked_of question.now) → ⊥) }
+        (NoValue (IsRefused (asked_of question.now))) }
 {
     if has_unknown(question) {
         return Some(Refusal::UnknownOption);

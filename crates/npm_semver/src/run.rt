@@ -1,19 +1,20 @@
 // The program as a function of its arguments.
 
-ghost use Rattle.std.specs.Prelude.{◌≡◌, ◌++◌, ◌∷◌, [], not, is_some, IfOk, OnOk, None, Ok};
+ghost use Rattle.std.specs.Prelude.{◌≡◌, ◌++◌, ◌∷◌, [], not, option_map, IfOk, OnOk, None, Ok};
 ghost use Rattle.std.specs.Prelude.{Some};
 ghost use Rattle.std.specs.Prelude.{false, map, string_bytes, if◌then◌else◌};
 ghost use Rattle.std.specs.List.{flat_map};
+ghost use Rattle.semver_core.specs.Failures.{NoValue};
 ghost use Rattle.semver_core.specs.Increments.Table.{answer_of_inc};
 ghost use Rattle.semver_core.specs.Lists.{is_empty};
 ghost use Rattle.semver_core.specs.Printing.Text.{marked_list};
 ghost use Rattle.npm_semver.specs.Listing.{AreListed};
-ghost use Rattle.npm_semver.specs.Responses.{IsRefused, IsResponse, Responds, bare, json, line};
+ghost use Rattle.npm_semver.specs.Responses.{IsRefused, Responds, bare, json, line};
 ghost use Rattle.npm_semver.specs.Responses.{in_order, next_written, nothing_written, picked};
 ghost use Rattle.npm_semver.specs.Responses.{quoted, shown, tells_why};
 ghost use Rattle.npm_semver.specs.Internal.Asked.{asked_of, request_of};
 ghost use Rattle.npm_semver.specs.Internal.Texts.{IsReadFor};
-ghost use Rattle.npm_semver.specs.Internal.Written.{written};
+ghost use Rattle.npm_semver.specs.Internal.Written.{told_as, written};
 
 use crate::entry::Entry;
 use crate::help::HELP;
@@ -36,17 +37,6 @@ pub struct Response {
     pub refusal: Option<Refusal>,
     /// Whether the exit status is 0: exactly if something is printed.
     pub is_success: bool,
-}
-
-/// Returns what the command writes for the arguments behind the program's name, and for the input,
-/// which counts only if the arguments ask for it. Fails only if allocation fails.
-pub fn run(alloc: Global, arguments: &[String], input: &str) -> Result<Response, AllocError>
-    ensures { IfOk result (λ response.
-        IsResponse (map string_bytes arguments.now) input.now (written response)) }
-{
-    let asked = Request::of(alloc, arguments)?;
-    let request = asked.with_lines(alloc, input)?;
-    respond(alloc, &request)
 }
 
 /// Returns what the command writes for a request. Fails only if allocation fails.
@@ -100,7 +90,7 @@ fn print(
     read: &mut Texts<'_>,
 ) -> Result<Response, AllocError>
     requires read { IsReadFor (asked_of question.now) read.old }
-    requires answered { IsRefused (asked_of question.now) → ⊥ }
+    requires answered { NoValue (IsRefused (asked_of question.now)) }
     ensures { IfOk result (λ response.
         Responds (Some (asked_of question.now)) (written response)) }
 {
@@ -124,7 +114,7 @@ fn help(alloc: Global) -> Result<Response, AllocError>
 
 // Nothing is printed.
 fn nothing(alloc: Global, refusal: Option<Refusal>) -> Response
-    ensures { written result ≡ nothing_written (is_some refusal) }
+    ensures { written result ≡ nothing_written (option_map told_as refusal) }
 {
     Response {
         output: String::new(alloc),
@@ -140,7 +130,7 @@ fn list(
     question: &Question<'_>,
     listed: &mut Vec<Entry<'_>>,
 ) -> Result<Response, AllocError>
-    requires answered { IsRefused (asked_of question.now) → ⊥ }
+    requires answered { NoValue (IsRefused (asked_of question.now)) }
     requires level { question.now.level ≡ None }
     requires listed { let q = asked_of question.now in
         AreListed q.reading q.ranges q.versions listed.old.items }
@@ -196,7 +186,7 @@ fn increment(
     read: &Texts<'_>,
 ) -> Result<Response, AllocError>
     requires read { IsReadFor (asked_of question.now) read.now }
-    requires answered { IsRefused (asked_of question.now) → ⊥ }
+    requires answered { NoValue (IsRefused (asked_of question.now)) }
     requires level { (asked_of question.now).level ≡ Some level.now }
     ensures { IfOk result (λ response.
         Responds (Some (asked_of question.now)) (written response)) }

@@ -1,10 +1,13 @@
 -- For proofs. What a reply says, and the words of a subcommand, of an operation and of a
 -- comparison, as the statement has them.
-use Rattle.std.specs.Prelude.{◌∷◌, [], not, ℕ, Bool, List, codes, is_some, string_bytes}
+use Rattle.std.specs.Prelude.{◌∷◌, [], not, ℕ, Bool, List, codes, option_map, string_bytes}
 use Rattle.std.specs.Ordering.{is_eq, is_ge, is_gt, is_le, is_lt}
 use Rattle.std.specs.declared.cmp.Ordering.{Ordering}
 use Rattle.npm_semver.specs.Arguments.{is_one_of}
-use Rattle.npm_semver.specs.Subcommands.{Said, say}
+use Rattle.semver_core.specs.Increments.View.{fault_of}
+use Rattle.npm_semver.specs.Subcommands.{NoQuestion, NotAbove, NotIncremented, Said, Trouble, say}
+use Rattle.npm_semver.specs.declared.subcommands.replies.Trouble as Variant
+use Rattle.npm_semver.specs.declared.subcommands.replies.Trouble.TheVariants as Variants
 use Rattle.npm_semver.specs.declared.subcommands.Subcommand.{Subcommand}
 use Rattle.npm_semver.specs.declared.subcommands.Subcommand.TheVariants.{Compare, Diff, Next, Range}
 use Rattle.npm_semver.specs.declared.subcommands.Subcommand.TheVariants.{Least, Explain}
@@ -16,8 +19,13 @@ use Rattle.npm_semver.specs.declared.subcommands.versions.Relation.TheVariants.{
 use Rattle.npm_semver.specs.declared.subcommands.versions.Relation.TheVariants.{Unequal, AtLeast}
 use Rattle.npm_semver.specs.declared.subcommands.versions.Relation.TheVariants.{Greater}
 
+abbrev pub told_of : Variant.Trouble → Trouble
+told_of (Variants.NotIncremented error) = NotIncremented (fault_of error)
+told_of Variants.NotAbove = NotAbove
+told_of _ = NoQuestion
+
 abbrev pub said : Reply → Said
-said r = say (string_bytes r.output) (is_some r.trouble) r.status
+said r = say (string_bytes r.output) (option_map told_of r.trouble) r.status
 
 abbrev pub name_of : Subcommand → List ℕ
 name_of Compare = codes "compare"

@@ -1,11 +1,23 @@
 -- For proofs. What a response writes, as the statement has it.
-use Rattle.std.specs.Prelude.{is_some, string_bytes}
+use Rattle.std.specs.Prelude.{option_map, string_bytes}
+use Rattle.semver_core.specs.Increments.View.{fault_of}
+use Rattle.npm_semver.specs.Responses as Spec
 use Rattle.npm_semver.specs.Responses.{Written}
+use Rattle.npm_semver.specs.declared.refusal.Refusal.{Refusal}
+use Rattle.npm_semver.specs.declared.refusal.Refusal.TheVariants as Variant
 use Rattle.npm_semver.specs.declared.run.Response.{Response}
+
+abbrev pub told_as : Refusal → Spec.Refusal
+told_as Variant.NotOneVersion = Spec.NotOneVersion
+told_as Variant.UnknownOption = Spec.UnknownOption
+told_as Variant.UnreadRange = Spec.UnreadRange
+told_as Variant.NoVersion = Spec.NoVersion
+told_as Variant.UnshownText = Spec.UnshownText
+told_as (Variant.NotIncremented error) = Spec.NotIncremented (fault_of error)
 
 abbrev pub written : Response → Written
 written r = record {
   output = string_bytes r.output;
-  is_error_told = is_some r.refusal;
+  refusal = option_map told_as r.refusal;
   is_success = r.is_success;
 }

@@ -1,6 +1,6 @@
 // What a subcommand answers, and why it does not.
 
-ghost use Rattle.std.specs.Prelude.{◌≡◌, IfOk, None, Some, false, if◌then◌else◌, string_bytes};
+ghost use Rattle.std.specs.Prelude.{◌≡◌, IfOk, None, Some, if◌then◌else◌, string_bytes};
 ghost use Rattle.semver_core.specs.Printing.Text.{version_text};
 ghost use Rattle.npm_semver.specs.Subcommands as Spec;
 ghost use Rattle.npm_semver.specs.Subcommands.{say};
@@ -67,7 +67,7 @@ pub enum Trouble<'a> {
 
 /// Yes or no, with what is printed.
 pub fn answer<'a>(is_yes: bool, output: String) -> Reply<'a>
-    ensures { said result ≡ say (string_bytes output) false (if is_yes then Yes else No) }
+    ensures { said result ≡ say (string_bytes output) None (if is_yes then Yes else No) }
 {
     Reply {
         output,

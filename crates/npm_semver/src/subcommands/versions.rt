@@ -11,7 +11,7 @@ ghost use Rattle.semver_core.specs.declared.TheConstants.{MAX_SAFE_INTEGER};
 ghost use Rattle.npm_words.specs.VersionText.{IsVersionText};
 ghost use Rattle.npm_semver.specs.Subcommands as Spec;
 ghost use Rattle.npm_semver.specs.Subcommands.{Answers, HasIdentifier, next_said, relation_of, say};
-ghost use Rattle.npm_semver.specs.Internal.Said.{relation, said};
+ghost use Rattle.npm_semver.specs.Internal.Said.{relation, said, told_of};
 
 use crate::run::without_build;
 use crate::subcommands::replies::{Reply, Status, Trouble, answer, bare, line};
@@ -279,7 +279,8 @@ fn raised<'a>(
 
 // Why there is no next version: none by this level, or a level or an identifier that is none.
 fn not_raised<'a>(alloc: Global, error: IncrementError) -> Reply<'a>
-    ensures { said result ≡ say [] true (Spec.status_of (fault_of error)) }
+    ensures { let fault = fault_of error in
+        said result ≡ say [] (Some (Spec.NotIncremented fault)) (Spec.status_of fault) }
 {
     let status = match &error {
         IncrementError::NotAPrerelease(_) | IncrementError::Overflow => Status::No,
@@ -289,7 +290,7 @@ fn not_raised<'a>(alloc: Global, error: IncrementError) -> Reply<'a>
 }
 
 fn troubled<'a>(alloc: Global, status: Status, trouble: Trouble<'a>) -> Reply<'a>
-    ensures { said result ≡ say [] true status }
+    ensures { said result ≡ say [] (Some (told_of trouble.entry)) status }
 {
     Reply {
         output: String::new(alloc),

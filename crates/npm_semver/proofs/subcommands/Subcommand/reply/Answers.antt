@@ -6,4 +6,4 @@ returns-in-Ok c = Spec.answered _ c.in-Ok.ensures.ok
 
 pub returns-in-Err-Refused : goal.returns-in-Err-Refused
 returns-in-Err-Refused c =
-    rw c.new.ensures.bytes (Spec.malformed (rw c.in-Err-Refused.field-0-is at c.in-Err-Refused.ensures.refused))
+    rw c.new.ensures.bytes (Spec.malformed _ (rw c.in-Err-Refused.field-0-is at c.in-Err-Refused.ensures.refused))

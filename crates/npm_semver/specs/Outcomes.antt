@@ -1,0 +1,40 @@
+-- Statement: what the program writes for its arguments and its input, and its exit status.
+use Rattle.std.specs.Prelude.{◌≡◌, ◌∷◌, ◌++◌, [], ℕ, Bool, true, false, List, Option, codes, is_some}
+use Rattle.std.specs.Prelude.{option_map, unwrap_or, if◌then◌else◌}
+use Rattle.npm_semver.specs.Arguments.{Asked, IsAsked}
+use Rattle.npm_semver.specs.Responses.{Responds, Written, tells_why, with_lines}
+use Rattle.npm_semver.specs.Subcommands.{IsReply, Trouble, exit_status, is_subcommand, say}
+use Rattle.npm_semver.specs.Words.{value}
+use Rattle.npm_semver.specs.declared.subcommands.replies.Status.{Status}
+
+-- what is written to standard output and to standard error, and the exit status
+pub record Outcome : Type 0 where
+  pub output : List ℕ
+  pub errors : List ℕ
+  pub status : ℕ
+
+-- nothing is told, or a line is, in some words
+pub data IsTold : Bool → List ℕ → Type 0 where
+  nothing : IsTold false []
+  line : (words : List ℕ) → IsTold true (codes "semver: " ++ (words ++ 10 ∷ []))
+
+-- the first argument decides
+abbrev pub has_subcommand : List (List ℕ) → Bool
+has_subcommand arguments = is_subcommand (unwrap_or (value arguments) [])
+
+-- what a subcommand says of these arguments, or what is written for what they ask; before its error
+-- it is told why texts are left out, if that is asked
+pub data IsOutcome (arguments : List (List ℕ)) (input : List ℕ) : Outcome → Type 0 where
+  subcommand : (output errors : List ℕ) (trouble : Option Trouble) (status : Status)
+      → has_subcommand arguments ≡ true → IsReply arguments (say output trouble status)
+      → IsTold (is_some trouble) errors → IsOutcome arguments input
+      (record { output = output; errors = errors; status = exit_status status })
+  response : (asked : Option Asked) (written : Written) (reasons errors : List ℕ)
+      → has_subcommand arguments ≡ false → IsAsked arguments asked
+      → Responds (option_map (with_lines input) asked) written
+      → (tells_why asked ≡ false → reasons ≡ [])
+      → IsTold (is_some written.refusal) errors → IsOutcome arguments input (record {
+        output = written.output;
+        errors = reasons ++ errors;
+        status = if written.is_success then 0 else 1;
+      })
