@@ -1,6 +1,6 @@
 -- Statement: what the program writes for its arguments and its input, and its exit status.
-use Rattle.std.specs.Prelude.{◌≡◌, ◌∷◌, ◌++◌, [], ℕ, Bool, true, false, List, Option, codes, is_some}
-use Rattle.std.specs.Prelude.{option_map, unwrap_or, if◌then◌else◌}
+use Rattle.std.specs.Prelude.{◌≡◌, ◌∷◌, ◌++◌, [], ℕ, Bool, true, false, List, Option, codes}
+use Rattle.std.specs.Prelude.{is_some, option_map, unwrap_or, if◌then◌else◌}
 use Rattle.npm_semver.specs.Arguments.{Asked, IsAsked}
 use Rattle.npm_semver.specs.Responses.{Responds, Written, tells_why, with_lines}
 use Rattle.npm_semver.specs.Subcommands.{IsReply, Trouble, exit_status, is_subcommand, say}

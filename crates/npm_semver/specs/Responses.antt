@@ -92,7 +92,8 @@ HasUnread q = ((q.reading.is_loose || q.is_strict) ≡ true)
 
 -- some text has to be a version, and is none
 abbrev pub HasNoVersion : Asked → Type 0
-HasNoVersion q = (q.is_strict ≡ true) × SomeText (λ text. NoValue (IsVersionIn q.reading text)) q.versions
+HasNoVersion q = (q.is_strict ≡ true)
+    × SomeText (λ text. NoValue (IsVersionIn q.reading text)) q.versions
 
 -- the character stands in a JSON string as it is
 abbrev pub is_plain : ℕ → Bool

@@ -1,6 +1,7 @@
 -- Statement: what the subcommands answer.
-use Rattle.std.specs.Prelude.{◌≡◌, ◌∷◌, ◌++◌, [], not, ℕ, Bool, true, false, List, Option, Some, None, Result}
-use Rattle.std.specs.Prelude.{IfSome, Ok, Err, codes, option_map, is_some, is_none, unwrap_or, if◌then◌else◌}
+use Rattle.std.specs.Prelude.{◌≡◌, ◌∷◌, ◌++◌, [], not, ℕ, Bool, true, false, List, Option, Some}
+use Rattle.std.specs.Prelude.{None, Result, IfSome, Ok, Err, codes, option_map, is_some, is_none}
+use Rattle.std.specs.Prelude.{unwrap_or, if◌then◌else◌}
 use Rattle.std.specs.List.{list_all}
 use Rattle.std.specs.Ordering.{is_eq, is_ge, is_gt, is_le, is_lt}
 use Rattle.std.specs.declared.cmp.Ordering.{Ordering}
@@ -127,8 +128,8 @@ pub data IsReply (words : List (List ℕ)) : Said → Type 0 where
 
 -- the first word names a subcommand
 abbrev pub is_subcommand : List ℕ → Bool
-is_subcommand = is_one_of (codes "compare" ∷ codes "diff" ∷ codes "next" ∷ codes "range" ∷ codes "least"
-    ∷ codes "explain" ∷ [])
+is_subcommand = is_one_of (codes "compare" ∷ codes "diff" ∷ codes "next" ∷ codes "range"
+    ∷ codes "least" ∷ codes "explain" ∷ [])
 
 abbrev pub exit_status : Status → ℕ
 exit_status status = elim status [ Yes ↦ 0 | No ↦ 1 | Malformed ↦ 2 ]
