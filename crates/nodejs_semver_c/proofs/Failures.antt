@@ -2,13 +2,13 @@
 use Rattle.std.proofs.Common.{◌≡◌, ◌≢◌, ◌∷◌, ◌&&◌, ◌-◌, ◌^◌, ◌==◌, ℕ, List, [], Result, Ok, Err, Option, Some, None, ap, inl, inr, refl}
 use Rattle.std.proofs.lemmas.Bool.{cond_both}
 use Rattle.std.specs.List.{join_with_byte}
-use Rattle.std.specs.Prelude.{IfErr, IfOk, map, unwrap_or}
+use Rattle.std.specs.Prelude.{if◌then◌else◌, IfErr, IfOk, map, unwrap_or}
 use Rattle.std.specs.Str.{bytes_eq}
 use Rattle.semver_core.specs.Increments.Table.{◌>>=◌, Fault, Overflow, advance, has_numeric, identify, is_false, one_more}
-use Rattle.semver_core.specs.Increments.Table.{pre_step, raise_last}
+use Rattle.semver_core.specs.Increments.Table.{next_patch, pre_step, raise_last}
 use Rattle.semver_core.specs.Printing.Text.{id_text}
 use Rattle.semver_core.specs.Text.Identifiers.{Id, Numeric, AlphaNumeric}
-use Rattle.semver_core.specs.Values.Versions.{HasIdentifiers, VersionValue}
+use Rattle.semver_core.specs.Values.Versions.{HasIdentifiers, VersionValue, is_release}
 use Rattle.semver_core.specs.declared.increment.IdentifierBase.{IdentifierBase}
 use Rattle.nodejs_semver_c.specs.Answers.{PrintsResult}
 use Rattle.nodejs_semver_c.specs.Internal.Failures.{IsLate, IsMisuse}
@@ -60,3 +60,7 @@ module _ (id : List ℕ) (base : IdentifierBase) where
 
   pub raised_pre_late : (n : ℕ) (f : ℕ → VersionValue) → Late ((one_more n >>= λ more. Ok (f more)) >>= pre_step id base)
   raised_pre_late n f = late_then (one_more n >>= λ more. Ok (f more)) (pre_step id base) (raises_late n f) pre_late
+
+  pub prerelease_late : (v : VersionValue) → Late (if is_release v then (next_patch v >>= pre_step id base) else pre_step id base v)
+  prerelease_late v = cond_both (is_release v) _ _ Late
+      (λ e. raised_pre_late v.patch (λ n. record v { patch = n; pre_release = [] })) (λ e. pre_late v)

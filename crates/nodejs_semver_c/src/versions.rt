@@ -5,12 +5,14 @@ ghost use Rattle.nodejs_semver_c.specs.Answers.{PrintsResult};
 ghost use Rattle.nodejs_semver_c.specs.Internal.Failures.{IsMisuse};
 ghost use Rattle.nodejs_semver_c.specs.Numbers.{base_of, fault_number, kind_number, order_number};
 ghost use Rattle.semver_core.specs.Difference.{kind_between};
-ghost use Rattle.semver_core.specs.Increments.Table.{answer_of_inc, by_word};
+ghost use Rattle.semver_core.specs.Increments.Table.{answer_of_inc, by_word, checked};
 ghost use Rattle.semver_core.specs.Increments.View.{fault_of};
 ghost use Rattle.semver_core.specs.Printing.Text.{version_text};
 ghost use Rattle.semver_core.specs.Values.Order.{precedence};
 ghost use Rattle.semver_core.specs.declared.increment.IdentifierBase.{IdentifierBase};
-ghost use Rattle.std.specs.Prelude.{◌≡◌, ⊤, List, ℕ, Some};
+ghost use Rattle.std.specs.List.{starts_with};
+ghost use Rattle.std.specs.Prelude.{◌≡◌, ⊤, IfErr, IfNone, IfOk, IfSome, List, ℕ, Ok, Some, codes};
+ghost use Rattle.std.specs.Prelude.{nat_eq};
 
 use crate::print::print;
 use crate::{
@@ -208,15 +210,34 @@ fn misuse(
     ensures { IsMisuse
         (answer_of_inc version.now word.now (Some identifier.now) (Some base)) result }
 {
-    if word.starts_with("pre") {
-        if identifier.is_empty() && matches!(base, IdentifierBase::False) {
-            return Some(BAD_ARGUMENT);
-        }
-        if !Identifier::is_list(identifier.as_bytes()) {
-            return Some(BAD_IDENTIFIER);
-        }
+    if begins_pre(word)
+        && let Some(status) = misused_identifier(identifier, base)
+    {
+        return Some(status);
     }
     misused_word(version, word)
+}
+
+fn begins_pre(word: &str) -> bool
+    ensures { result ≡ starts_with nat_eq word.now (codes "pre") }
+{
+    word.starts_with("pre")
+}
+
+// The status of the checks of a word that begins with `pre`.
+#[tactic(auto, unfolding(semver_core::specs::Text::Identifiers::is_listed))]
+fn misused_identifier(identifier: &str, base: IdentifierBase) -> Option<u32>
+    ensures none { IfNone result (checked identifier.now base ≡ Ok tt) }
+    ensures some { IfSome result (λ status. IfOk (checked identifier.now base) (λ _. ⊥)
+        × IfErr (checked identifier.now base) (λ fault. status ≡ fault_number fault)) }
+{
+    if identifier.is_empty() && matches!(base, IdentifierBase::False) {
+        Some(BAD_ARGUMENT)
+    } else if Identifier::is_list(identifier.as_bytes()) {
+        None
+    } else {
+        Some(BAD_IDENTIFIER)
+    }
 }
 
 fn misused_word(version: &VersionRef<'_>, word: &str) -> Option<u32>
@@ -225,7 +246,9 @@ fn misused_word(version: &VersionRef<'_>, word: &str) -> Option<u32>
 {
     match word {
         "major" | "minor" | "patch" => None,
-        "premajor" | "preminor" | "prepatch" | "prerelease" | "pre" => None,
+        "premajor" | "preminor" | "prepatch" => None,
+        "prerelease" => None,
+        "pre" => None,
         "release" if version.is_release() => Some(NOT_A_PRERELEASE),
         "release" => None,
         _ => Some(BAD_ARGUMENT),

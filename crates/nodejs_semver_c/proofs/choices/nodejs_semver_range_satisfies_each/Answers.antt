@@ -11,7 +11,7 @@ returns-in-Ok c =
       omega (arith, c.if-versions-gt-MOST_TEXTS.false),
       inr (
         c.if-answers-versions.false,
-        inl (c.in-Ok.range, c.in-Ok.ensures.ok, refl, c.answer_each.ensures),
+        inl (c.in-Ok.range, c.in-Ok.ensures.ok, (refl, c.answer_each.ensures)),
       ),
     )
 
