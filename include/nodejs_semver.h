@@ -14,6 +14,9 @@
  * If the buffer is too small, the status is NODEJS_SEMVER_TOO_SMALL, `len` is the length that is needed, and the buffer is unchanged.
  * With every other status nothing is written, unless the function says otherwise.
  *
+ * A version that was read once is kept as a nodejs_semver_version, which leads to texts in the caller's memory: nodejs_semver_version_read
+ * tells its parts. Texts of it that spell no identifiers are rejected at each question.
+ *
  * Output buffers must not overlap inputs or one another, and no other thread may touch them during the call.
  */
 #ifndef NODEJS_SEMVER_H
@@ -33,7 +36,7 @@ extern "C" {
 /* A status: one of the constants from NODEJS_SEMVER_OK on. */
 typedef uint32_t nodejs_semver_status;
 
-/* A text in an array of texts. Its pointer is not NULL. */
+/* A text in an array of texts, or in a version that is kept. Its pointer is not NULL. */
 typedef struct {
     const char *at;
     size_t len;
@@ -54,8 +57,8 @@ enum {
     /* A text is no range. */
     NODEJS_SEMVER_BAD_RANGE = 5,
     /*
-     * The reading, or the word or the base of an increment, is unknown, or there is nothing to put into a
-     * pre-release.
+     * The reading, the status, or the word or the base of an increment is unknown, or there is nothing to put into
+     * a pre-release.
      */
     NODEJS_SEMVER_BAD_ARGUMENT = 6,
     /* The identifier of an increment is not identifiers joined by dots. */
@@ -128,6 +131,28 @@ enum {
     NODEJS_SEMVER_FLAW_TOO_LONG = 4
 };
 
+/* What npm's reading finds wrong with a version text. */
+enum {
+    /* A `=`, a `V` or a further `v` stands where a number begins. */
+    NODEJS_SEMVER_WRONG_MARK = 0,
+    /* A number, or an identifier of the pre-release that is one, has a leading zero. */
+    NODEJS_SEMVER_WRONG_LEADING_ZERO = 1,
+    /* A digit makes a number greater than 9007199254740991. */
+    NODEJS_SEMVER_WRONG_NUMBER = 2,
+    /* A letter stands behind the numbers, where the pre-release begins with a `-`. */
+    NODEJS_SEMVER_WRONG_MISSING_HYPHEN = 3,
+    /* A number begins at the place: a digit is expected there. */
+    NODEJS_SEMVER_WRONG_DIGIT = 4,
+    /* A dot is expected at the place. */
+    NODEJS_SEMVER_WRONG_DOT = 5,
+    /* An identifier begins at the place: a letter, a digit or `-` is expected there. */
+    NODEJS_SEMVER_WRONG_IDENTIFIER = 6,
+    /* What stands before the place is a version, and this is behind it. */
+    NODEJS_SEMVER_WRONG_BEHIND = 7,
+    /* The text is longer than 256 characters. */
+    NODEJS_SEMVER_WRONG_TOO_LONG = 8
+};
+
 /* Why a word of a range text is ignored. */
 enum {
     /* The word has none of the forms of words. */
@@ -155,6 +180,46 @@ typedef struct {
     /* NODEJS_SEMVER_WORD_MALFORMED or NODEJS_SEMVER_WORD_WITHOUT_BOUNDS. */
     uint32_t kind;
 } nodejs_semver_word;
+
+/* An alternative of a range text that npm's reading rejects. A place is a byte. */
+typedef struct {
+    /* The place of its first byte. */
+    size_t start;
+    /* The place behind its last byte. */
+    size_t end;
+    /* The place of the first byte of what is malformed in it. */
+    size_t word_start;
+    /* The place behind the last byte of what is malformed in it. */
+    size_t word_end;
+} nodejs_semver_alternative;
+
+/* A version in the memory of the caller. */
+typedef struct {
+    /* The first number. */
+    uint64_t major;
+    /* The second number. */
+    uint64_t minor;
+    /* The third number. */
+    uint64_t patch;
+    /* The identifiers of the pre-release, joined by dots. A release has none. */
+    nodejs_semver_text pre_release;
+    /* The identifiers of the build metadata, joined by dots. */
+    nodejs_semver_text build;
+} nodejs_semver_version;
+
+/* What is read of a version: its numbers, and how long the texts of its identifiers are. */
+typedef struct {
+    /* The first number. */
+    uint64_t major;
+    /* The second number. */
+    uint64_t minor;
+    /* The third number. */
+    uint64_t patch;
+    /* The length of the text of the pre-release. */
+    size_t pre_release_len;
+    /* The length of the text of the build metadata. */
+    size_t build_len;
+} nodejs_semver_parts;
 
 /*
  * Which of some versions is the greatest that a range accepts: `index` gets its place. Where a text of `versions`
@@ -204,6 +269,100 @@ nodejs_semver_status nodejs_semver_version_flaw(const char *version, size_t vers
  */
 nodejs_semver_status nodejs_semver_range_ignored_words(const char *range, size_t range_len,
     nodejs_semver_word *words, size_t words_size, size_t *len);
+
+/*
+ * What npm's reading finds wrong with a version text: `flaw` gets one of NODEJS_SEMVER_WRONG_MARK to
+ * NODEJS_SEMVER_WRONG_TOO_LONG, and `place` the byte. There is nothing exactly if npm reads the text.
+ *
+ * Returns NODEJS_SEMVER_OK, NODEJS_SEMVER_NOTHING, NODEJS_SEMVER_NOT_UTF8 or NODEJS_SEMVER_TOO_LONG.
+ */
+nodejs_semver_status nodejs_semver_version_npm_flaw(const char *version, size_t version_len, uint32_t *flaw,
+    size_t *place);
+
+/*
+ * What npm's reading finds wrong with a range text: `flaw` gets the first alternative that is malformed, and what
+ * is malformed in it. There is nothing exactly if npm reads the text.
+ *
+ * Returns NODEJS_SEMVER_OK, NODEJS_SEMVER_NOTHING, NODEJS_SEMVER_NOT_UTF8 or NODEJS_SEMVER_TOO_LONG.
+ */
+nodejs_semver_status nodejs_semver_range_npm_flaw(const char *range, size_t range_len, bool include_prerelease,
+    nodejs_semver_alternative *flaw);
+
+/*
+ * Prints the version of a text that may have whitespace around it and any of `v` and `=` in front, as node-semver's
+ * `clean` does: without its build metadata. The rest is read as npm reads it.
+ *
+ * Returns NODEJS_SEMVER_OK, NODEJS_SEMVER_TOO_SMALL, NODEJS_SEMVER_NOT_UTF8, NODEJS_SEMVER_BAD_VERSION or
+ * NODEJS_SEMVER_TOO_LONG.
+ */
+nodejs_semver_status nodejs_semver_version_clean(const char *version, size_t version_len, char *out,
+    size_t out_size, size_t *len);
+
+/*
+ * Prints the version that any text has in it, as node-semver's `coerce` finds it: the leftmost number, and up to
+ * two more after it that dots join. Missing numbers are 0.
+ *
+ * With `loose` numbers may have leading zeros. With `rtl` the version is looked for from the right. With
+ * `include_prerelease` it has the pre-release and the build metadata that follow its numbers.
+ *
+ * Returns NODEJS_SEMVER_OK, NODEJS_SEMVER_NOTHING, NODEJS_SEMVER_TOO_SMALL, NODEJS_SEMVER_NOT_UTF8 or
+ * NODEJS_SEMVER_TOO_LONG.
+ */
+nodejs_semver_status nodejs_semver_version_coerce(const char *text, size_t text_len, bool loose, bool rtl,
+    bool include_prerelease, char *out, size_t out_size, size_t *len);
+
+/*
+ * Reads a version, so that it can be kept: `parts` gets its numbers and how long the texts of its identifiers are,
+ * and `out` gets these texts, that of the build metadata behind that of the pre-release. If the buffer is too
+ * small, `parts` alone is written.
+ *
+ * Returns NODEJS_SEMVER_OK, NODEJS_SEMVER_TOO_SMALL, NODEJS_SEMVER_BAD_ARGUMENT, NODEJS_SEMVER_NOT_UTF8,
+ * NODEJS_SEMVER_BAD_VERSION or NODEJS_SEMVER_TOO_LONG.
+ */
+nodejs_semver_status nodejs_semver_version_read(uint32_t reading, const char *version, size_t version_len,
+    nodejs_semver_parts *parts, char *out, size_t out_size);
+
+/*
+ * How the first version compares to the second: `order` gets -1, 0 or 1. Build metadata does not count.
+ *
+ * Returns NODEJS_SEMVER_OK, NODEJS_SEMVER_BAD_VERSION or NODEJS_SEMVER_TOO_LONG.
+ */
+nodejs_semver_status nodejs_semver_order(const nodejs_semver_version *version, const nodejs_semver_version *other,
+    int32_t *order);
+
+/*
+ * How the first version compares to the second: `order` gets -1, 0 or 1. Of equal versions the build metadata
+ * decides, identifier by identifier.
+ *
+ * Returns NODEJS_SEMVER_OK, NODEJS_SEMVER_BAD_VERSION or NODEJS_SEMVER_TOO_LONG.
+ */
+nodejs_semver_status nodejs_semver_order_with_builds(const nodejs_semver_version *version,
+    const nodejs_semver_version *other, int32_t *order);
+
+/*
+ * The kind of difference between two versions: `kind` gets one of NODEJS_SEMVER_KIND_NONE to
+ * NODEJS_SEMVER_KIND_PRERELEASE.
+ *
+ * Returns NODEJS_SEMVER_OK, NODEJS_SEMVER_BAD_VERSION or NODEJS_SEMVER_TOO_LONG.
+ */
+nodejs_semver_status nodejs_semver_kind(const nodejs_semver_version *version, const nodejs_semver_version *other,
+    uint32_t *kind);
+
+/*
+ * Prints a version.
+ *
+ * Returns NODEJS_SEMVER_OK, NODEJS_SEMVER_TOO_SMALL, NODEJS_SEMVER_BAD_VERSION or NODEJS_SEMVER_TOO_LONG.
+ */
+nodejs_semver_status nodejs_semver_print(const nodejs_semver_version *version, char *out, size_t out_size,
+    size_t *len);
+
+/*
+ * Prints what a status says, as `bad version`.
+ *
+ * Returns NODEJS_SEMVER_OK, NODEJS_SEMVER_TOO_SMALL, NODEJS_SEMVER_BAD_ARGUMENT where there is no such status, or
+ * NODEJS_SEMVER_TOO_LONG.
+ */
+nodejs_semver_status nodejs_semver_message(uint32_t status, char *out, size_t out_size, size_t *len);
 
 /*
  * Prints the range of a text in its normal form: `^1.2` as `>=1.2.0 <2.0.0-0`.
@@ -301,6 +460,33 @@ nodejs_semver_status nodejs_semver_versions_sort(uint32_t reading, const nodejs_
     size_t versions_len, size_t *order, size_t order_size, size_t *index);
 
 /*
+ * Prints the union of two ranges, which accepts what either accepts.
+ *
+ * Returns NODEJS_SEMVER_OK, NODEJS_SEMVER_TOO_SMALL, NODEJS_SEMVER_BAD_ARGUMENT, NODEJS_SEMVER_NOT_UTF8,
+ * NODEJS_SEMVER_BAD_RANGE, NODEJS_SEMVER_NO_MEMORY or NODEJS_SEMVER_TOO_LONG.
+ */
+nodejs_semver_status nodejs_semver_range_union(uint32_t reading, const char *range, size_t range_len,
+    const char *other, size_t other_len, char *out, size_t out_size, size_t *len);
+
+/*
+ * Whether the second range accepts every version that the first accepts.
+ *
+ * Returns NODEJS_SEMVER_OK, NODEJS_SEMVER_BAD_ARGUMENT, NODEJS_SEMVER_NOT_UTF8, NODEJS_SEMVER_BAD_RANGE,
+ * NODEJS_SEMVER_NO_MEMORY or NODEJS_SEMVER_TOO_LONG.
+ */
+nodejs_semver_status nodejs_semver_range_is_subset(uint32_t reading, const char *range, size_t range_len,
+    const char *other, size_t other_len, bool include_prerelease, bool *answer);
+
+/*
+ * Whether two ranges accept the same versions, however they are written.
+ *
+ * Returns NODEJS_SEMVER_OK, NODEJS_SEMVER_BAD_ARGUMENT, NODEJS_SEMVER_NOT_UTF8, NODEJS_SEMVER_BAD_RANGE,
+ * NODEJS_SEMVER_NO_MEMORY or NODEJS_SEMVER_TOO_LONG.
+ */
+nodejs_semver_status nodejs_semver_range_accepts_same(uint32_t reading, const char *range, size_t range_len,
+    const char *other, size_t other_len, bool include_prerelease, bool *answer);
+
+/*
  * Whether a text is a version: the status is NODEJS_SEMVER_OK or says why not.
  *
  * Returns NODEJS_SEMVER_OK, NODEJS_SEMVER_BAD_ARGUMENT, NODEJS_SEMVER_NOT_UTF8, NODEJS_SEMVER_BAD_VERSION or
@@ -324,6 +510,16 @@ nodejs_semver_status nodejs_semver_version_print(uint32_t reading, const char *v
  * NODEJS_SEMVER_TOO_LONG.
  */
 nodejs_semver_status nodejs_semver_version_compare(uint32_t reading, const char *version, size_t version_len,
+    const char *other, size_t other_len, int32_t *order);
+
+/*
+ * How the first version compares to the second: `order` gets -1, 0 or 1. Of versions that are equal by precedence
+ * the build metadata decides, identifier by identifier; none is below some.
+ *
+ * Returns NODEJS_SEMVER_OK, NODEJS_SEMVER_BAD_ARGUMENT, NODEJS_SEMVER_NOT_UTF8, NODEJS_SEMVER_BAD_VERSION or
+ * NODEJS_SEMVER_TOO_LONG.
+ */
+nodejs_semver_status nodejs_semver_version_compare_build(uint32_t reading, const char *version, size_t version_len,
     const char *other, size_t other_len, int32_t *order);
 
 /*

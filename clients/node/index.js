@@ -1,9 +1,9 @@
 // npm's versions and ranges by the C library, as npm reads them: node-semver's names and order of arguments. `load(path)` takes the path
-// of the addon.
+// of the addon, which is the one beside this file unless it is given.
 "use strict";
 const { version } = require("./package.json");
 
-function load(path) {
+function load(path = "./nodejs_semver.node") {
   const addon = require(path);
   return {
     compare: (version, other) => addon.compare(version, other),

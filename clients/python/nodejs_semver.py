@@ -1,6 +1,6 @@
 """npm's versions and ranges, by ctypes over libnodejs_semver.so: make a Semver once, and ask it.
 
-    semver = Semver("/path/of/libnodejs_semver.so")
+    semver = Semver()
     semver.satisfies("1.9.0", "^1.2.3")
 
 Texts are read as npm reads them. A text is a str, or bytes in UTF-8. A value of another type is a TypeError, in each place."""
@@ -20,6 +20,8 @@ FLAWS = ("digit", "dot", "number", "ignored", "too long")
 WORDS = ("malformed", "without bounds")
 # How texts are read: leniently, as the Rust crate nodejs-semver does, or as npm does.
 LENIENT, NPM = 0, 1
+# The shared object that an installed package has.
+BESIDE = os.path.join(os.path.dirname(os.path.abspath(__file__)), "libnodejs_semver.so")
 
 
 class SemverError(ValueError):
@@ -103,10 +105,10 @@ def base_code(base):
 
 
 class Semver:
-    """The questions, over the shared object at a path. Texts are read as npm reads them, or, with LENIENT, as the Rust crate
-    nodejs-semver does."""
+    """The questions, over the shared object at a path, which is the one beside this file unless it is given. Texts are read as npm reads
+    them, or, with LENIENT, as the Rust crate nodejs-semver does."""
 
-    def __init__(self, path, reading=NPM):
+    def __init__(self, path=BESIDE, reading=NPM):
         if isinstance(reading, bool) or not isinstance(reading, int):
             raise TypeError(f"a reading is NPM or LENIENT, not {type(reading).__name__}")
         if reading not in (NPM, LENIENT):

@@ -51,6 +51,8 @@ typedef struct {
     char *out;
     size_t size, len, index, order[2];
     nodejs_semver_word words[2];
+    nodejs_semver_parts parts;
+    nodejs_semver_alternative alternative;
     int32_t compared;
     uint32_t number;
     uint8_t answers[2];
@@ -63,7 +65,7 @@ static const nodejs_semver_text VERSIONS[] = {{"1.2.0", 5}, {"1.3.0", 5}};
 #define RANGE T("^1.2 || 3")
 
 /* The calls of all functions, one for each text that is passed; the first ones print. */
-enum { PRINTING = 12, CALLS = 31 };
+enum { PRINTING = 16, CALLS = 44 };
 
 static nodejs_semver_status call(int which, uint32_t reading, const char *text, size_t len, written *w)
 {
@@ -80,24 +82,37 @@ static nodejs_semver_status call(int which, uint32_t reading, const char *text, 
     case 9: return nodejs_semver_range_difference(reading, RANGE, text, len, OUT);
     case 10: return nodejs_semver_range_least_beyond(reading, text, len, RANGE, OUT);
     case 11: return nodejs_semver_range_least_beyond(reading, RANGE, text, len, OUT);
-    case 12: return nodejs_semver_version_check(reading, text, len);
-    case 13: return nodejs_semver_version_compare(reading, text, len, VERSION, &w->compared);
-    case 14: return nodejs_semver_version_compare(reading, VERSION, text, len, &w->compared);
-    case 15: return nodejs_semver_version_diff(reading, text, len, VERSION, &w->number);
-    case 16: return nodejs_semver_version_diff(reading, VERSION, text, len, &w->number);
-    case 17: return nodejs_semver_version_flaw(text, len, &w->number, &w->index);
-    case 18: return nodejs_semver_range_ignored_words(text, len, w->words, 2, &w->len);
-    case 19: return nodejs_semver_range_satisfies(reading, text, len, VERSION, true, &w->answer);
-    case 20: return nodejs_semver_range_satisfies(reading, RANGE, text, len, false, &w->answer);
-    case 21: return nodejs_semver_range_satisfies_each(reading, text, len, VERSIONS, 2, true, w->answers, 2);
-    case 22: return nodejs_semver_range_max_satisfying(reading, text, len, VERSIONS, 2, &w->index);
-    case 23: return nodejs_semver_range_min_satisfying(reading, text, len, VERSIONS, 2, &w->index);
-    case 24: return nodejs_semver_range_outside(reading, text, len, VERSION, true, true, &w->answer);
-    case 25: return nodejs_semver_range_outside(reading, RANGE, text, len, false, false, &w->answer);
-    case 26: return nodejs_semver_range_allows_all(reading, text, len, RANGE, &w->answer);
-    case 27: return nodejs_semver_range_allows_all(reading, RANGE, text, len, &w->answer);
-    case 28: return nodejs_semver_range_allows_any(reading, text, len, RANGE, &w->answer);
-    case 29: return nodejs_semver_range_allows_any(reading, RANGE, text, len, &w->answer);
+    case 12: return nodejs_semver_version_clean(text, len, OUT);
+    case 13: return nodejs_semver_version_coerce(text, len, false, true, true, OUT);
+    case 14: return nodejs_semver_range_union(reading, text, len, RANGE, OUT);
+    case 15: return nodejs_semver_range_union(reading, RANGE, text, len, OUT);
+    case 16: return nodejs_semver_version_check(reading, text, len);
+    case 17: return nodejs_semver_version_compare(reading, text, len, VERSION, &w->compared);
+    case 18: return nodejs_semver_version_compare(reading, VERSION, text, len, &w->compared);
+    case 19: return nodejs_semver_version_diff(reading, text, len, VERSION, &w->number);
+    case 20: return nodejs_semver_version_diff(reading, VERSION, text, len, &w->number);
+    case 21: return nodejs_semver_version_flaw(text, len, &w->number, &w->index);
+    case 22: return nodejs_semver_range_ignored_words(text, len, w->words, 2, &w->len);
+    case 23: return nodejs_semver_range_satisfies(reading, text, len, VERSION, true, &w->answer);
+    case 24: return nodejs_semver_range_satisfies(reading, RANGE, text, len, false, &w->answer);
+    case 25: return nodejs_semver_range_satisfies_each(reading, text, len, VERSIONS, 2, true, w->answers, 2);
+    case 26: return nodejs_semver_range_max_satisfying(reading, text, len, VERSIONS, 2, &w->index);
+    case 27: return nodejs_semver_range_min_satisfying(reading, text, len, VERSIONS, 2, &w->index);
+    case 28: return nodejs_semver_range_outside(reading, text, len, VERSION, true, true, &w->answer);
+    case 29: return nodejs_semver_range_outside(reading, RANGE, text, len, false, false, &w->answer);
+    case 30: return nodejs_semver_range_allows_all(reading, text, len, RANGE, &w->answer);
+    case 31: return nodejs_semver_range_allows_all(reading, RANGE, text, len, &w->answer);
+    case 32: return nodejs_semver_range_allows_any(reading, text, len, RANGE, &w->answer);
+    case 33: return nodejs_semver_range_allows_any(reading, RANGE, text, len, &w->answer);
+    case 34: return nodejs_semver_version_compare_build(reading, text, len, VERSION, &w->compared);
+    case 35: return nodejs_semver_version_compare_build(reading, VERSION, text, len, &w->compared);
+    case 36: return nodejs_semver_version_read(reading, text, len, &w->parts, w->out, w->size);
+    case 37: return nodejs_semver_range_is_subset(reading, text, len, RANGE, true, &w->answer);
+    case 38: return nodejs_semver_range_is_subset(reading, RANGE, text, len, false, &w->answer);
+    case 39: return nodejs_semver_range_accepts_same(reading, text, len, RANGE, true, &w->answer);
+    case 40: return nodejs_semver_range_accepts_same(reading, RANGE, text, len, false, &w->answer);
+    case 41: return nodejs_semver_version_npm_flaw(text, len, &w->number, &w->index);
+    case 42: return nodejs_semver_range_npm_flaw(text, len, true, &w->alternative);
     default: return nodejs_semver_versions_sort(reading, (nodejs_semver_text[]){{text, len}}, 1, w->order, 1, &w->index);
     }
 }
@@ -130,7 +145,8 @@ static void texts(void)
 /* A buffer that is one byte short, and one that has just the room, for each text that is printed. */
 static void short_by_one(void)
 {
-    const char *given[PRINTING] = {"1.2.3-a.b+c", "1.2.3", "minor", "rc.1", "^1.2 || ^3", "^1.2.3-a", ">1.5", "1", "*", "1.3", "*", "1.3"};
+    const char *given[PRINTING] = {"1.2.3-a.b+c", "1.2.3", "minor", "rc.1", "^1.2 || ^3", "^1.2.3-a", ">1.5", "1", "*", "1.3", "*", "1.3",
+                                  " =v1.2.3+b ", "a 1.2", "1", "1"};
     for (int which = 0; which < PRINTING; which++)
         for (uint32_t reading = PORT; reading <= NPM; reading++) {
             written none = {0};
@@ -229,6 +245,106 @@ static void words(void)
     CHECK(nodejs_semver_range_ignored_words(T("^1"), NULL, 0, &len) == NODEJS_SEMVER_OK && len == 0);
 }
 
+static nodejs_semver_version version_of(uint64_t patch, const char *pre_release, const char *build)
+{
+    nodejs_semver_version it = {1, 2, patch, {pre_release, strlen(pre_release)}, {build, strlen(build)}};
+    return it;
+}
+
+/* The parts of a version, in buffers of each size, and the version that they make again. */
+static void parts(void)
+{
+    for (size_t size = 0; size <= 9; size++) {
+        char *texts = malloc(size ? size : 1), out[32];
+        memset(texts, 'x', size ? size : 1);
+        nodejs_semver_parts told = {9, 9, 9, 9, 9};
+        nodejs_semver_status status = nodejs_semver_version_read(NPM, T("v1.2.3-rc.1+007"), &told, size ? texts : NULL, size);
+        CHECK(told.major == 1 && told.minor == 2 && told.patch == 3 && told.pre_release_len == 4 && told.build_len == 1);
+        if (size < 5) {
+            CHECK(status == NODEJS_SEMVER_TOO_SMALL && (!size || texts[0] == 'x'));
+        } else {
+            nodejs_semver_version it = {told.major, told.minor, told.patch, {texts, 4}, {texts + 4, 1}};
+            size_t len = 0;
+            CHECK(status == NODEJS_SEMVER_OK && !memcmp(texts, "rc.17", 5) && (size == 5 || texts[5] == 'x'));
+            CHECK(nodejs_semver_print(&it, out, sizeof out, &len) == NODEJS_SEMVER_OK && len == 12 && !memcmp(out, "1.2.3-rc.1+7", 12));
+            CHECK(nodejs_semver_print(&it, NULL, 0, &len) == NODEJS_SEMVER_TOO_SMALL && len == 12);
+        }
+        free(texts);
+    }
+}
+
+/* Versions that are kept: of any numbers, and of texts that spell no identifiers. */
+static void kept(void)
+{
+    const char *wrong[] = {".", "a.", ".a", "a..b", "a_b", "a b", "\xff", "\xc3\xa9", "+", "a+b"};
+    nodejs_semver_version release = version_of(3, "", ""), alpha = version_of(3, "alpha.1", "b"), beta = version_of(3, "alpha.beta", "a");
+    nodejs_semver_version built = version_of(3, "", "1"), great = version_of(UINT64_MAX, "", "");
+    int32_t order = 7;
+    uint32_t kind = 9;
+    size_t len = 5;
+    char out[8];
+    CHECK(nodejs_semver_order(&alpha, &release, &order) == NODEJS_SEMVER_OK && order == -1);
+    CHECK(nodejs_semver_order(&beta, &alpha, &order) == NODEJS_SEMVER_OK && order == 1);
+    CHECK(nodejs_semver_order(&release, &built, &order) == NODEJS_SEMVER_OK && order == 0);
+    CHECK(nodejs_semver_order_with_builds(&release, &built, &order) == NODEJS_SEMVER_OK && order == -1);
+    CHECK(nodejs_semver_order_with_builds(&beta, &alpha, &order) == NODEJS_SEMVER_OK && order == 1);
+    CHECK(nodejs_semver_order(&great, &release, &order) == NODEJS_SEMVER_OK && order == 1);
+    CHECK(nodejs_semver_kind(&great, &release, &kind) == NODEJS_SEMVER_OK && kind == NODEJS_SEMVER_KIND_PATCH);
+    CHECK(nodejs_semver_kind(&alpha, &beta, &kind) == NODEJS_SEMVER_OK && kind == NODEJS_SEMVER_KIND_PRERELEASE);
+    CHECK(nodejs_semver_kind(&release, &built, &kind) == NODEJS_SEMVER_OK && kind == NODEJS_SEMVER_KIND_NONE);
+    order = 7;
+    kind = 9;
+    for (size_t at = 0; at < sizeof wrong / sizeof *wrong; at++) {
+        nodejs_semver_version pre = version_of(3, wrong[at], ""), build = version_of(3, "", wrong[at]);
+        CHECK(nodejs_semver_order(&pre, &release, &order) == NODEJS_SEMVER_BAD_VERSION && order == 7);
+        CHECK(nodejs_semver_order_with_builds(&release, &build, &order) == NODEJS_SEMVER_BAD_VERSION && order == 7);
+        CHECK(nodejs_semver_kind(&build, &release, &kind) == NODEJS_SEMVER_BAD_VERSION && kind == 9);
+        CHECK(nodejs_semver_print(&pre, out, sizeof out, &len) == NODEJS_SEMVER_BAD_VERSION && len == 5);
+    }
+    built.build.len = HUGE_LENGTH;
+    CHECK(nodejs_semver_order(&release, &built, &order) == NODEJS_SEMVER_TOO_LONG && order == 7);
+    built.build.len = SIZE_MAX;
+    CHECK(nodejs_semver_print(&built, out, sizeof out, &len) == NODEJS_SEMVER_TOO_LONG && len == 5);
+}
+
+/* What npm's reading finds wrong. */
+static void flaws(void)
+{
+    const struct { const char *text; uint32_t flaw; size_t place; } given[] = {
+        {"1.2", NODEJS_SEMVER_WRONG_DOT, 3},
+        {"1.2.03", NODEJS_SEMVER_WRONG_LEADING_ZERO, 5},
+        {"1.2.3 x", NODEJS_SEMVER_WRONG_BEHIND, 6},
+        {"1.2.3beta", NODEJS_SEMVER_WRONG_MISSING_HYPHEN, 5},
+        {"=1.2.3", NODEJS_SEMVER_WRONG_MARK, 0},
+        {"1.2.3-", NODEJS_SEMVER_WRONG_IDENTIFIER, 6},
+        {"1.x", NODEJS_SEMVER_WRONG_DIGIT, 2},
+    };
+    for (size_t at = 0; at < sizeof given / sizeof *given; at++) {
+        uint32_t flaw = 9;
+        size_t place = 99;
+        CHECK(nodejs_semver_version_npm_flaw(given[at].text, strlen(given[at].text), &flaw, &place) == NODEJS_SEMVER_OK);
+        CHECK(flaw == given[at].flaw && place == given[at].place);
+    }
+    uint32_t flaw = 9;
+    size_t place = 99;
+    nodejs_semver_alternative it = {9, 9, 9, 9};
+    CHECK(nodejs_semver_version_npm_flaw(T(" v1.2.3-rc.1 "), &flaw, &place) == NODEJS_SEMVER_NOTHING && flaw == 9 && place == 99);
+    CHECK(nodejs_semver_range_npm_flaw(T("^1.2 || >=2.0.0, <3 || 4"), false, &it) == NODEJS_SEMVER_OK);
+    CHECK(it.start == 8 && it.end == 19 && it.word_start == 8 && it.word_end == 16);
+    CHECK(nodejs_semver_range_npm_flaw(T("^1.2 || 4"), false, &it) == NODEJS_SEMVER_NOTHING && it.start == 8);
+}
+
+/* Subsets, with pre-releases and without them. */
+static void subsets(void)
+{
+    bool answer = false;
+    CHECK(nodejs_semver_range_is_subset(NPM, T(">=1 <3"), T("1 || 2"), false, &answer) == NODEJS_SEMVER_OK && answer);
+    CHECK(nodejs_semver_range_is_subset(NPM, T("1 || 2"), T("1.x"), false, &answer) == NODEJS_SEMVER_OK && !answer);
+    CHECK(nodejs_semver_range_accepts_same(NPM, T(">=1 <3"), T("1 || 2"), false, &answer) == NODEJS_SEMVER_OK && answer);
+    CHECK(nodejs_semver_range_accepts_same(NPM, T("1"), T("1 || 2"), false, &answer) == NODEJS_SEMVER_OK && !answer);
+    CHECK(nodejs_semver_range_is_subset(PORT, T(">=1.0.0 <2.0.0-0"), T(">=1.0.0 <1.5.0 || >=1.5.0 <2.0.0-0"), true, &answer) == NODEJS_SEMVER_OK && answer);
+}
+
 static void no_utf8(void)
 {
     int32_t order = 7;
@@ -265,6 +381,10 @@ int main(void)
     readings();
     sorts();
     words();
+    parts();
+    kept();
+    flaws();
+    subsets();
     no_utf8();
     huge();
     if (!failures)

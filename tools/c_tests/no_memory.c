@@ -30,6 +30,7 @@ typedef struct {
     char out[256];
     size_t len, index, order[3];
     nodejs_semver_word words[4];
+    nodejs_semver_parts parts;
     int32_t compared;
     uint32_t number;
     uint8_t answers[3];
@@ -39,11 +40,12 @@ typedef struct {
 #define TEXTS texts, sizeof texts / sizeof *texts
 
 /* Calls from this number on make no request; each of the others does. */
-enum { FIRST_WITHOUT = 14, CALLS = 26 };
+enum { FIRST_WITHOUT = 17, CALLS = 37 };
 
 static nodejs_semver_status call(int which, written *w)
 {
     nodejs_semver_text texts[] = {{"1.2.0", 5}, {"2.4.0", 5}, {"3.0.0-rc.1", 10}};
+    nodejs_semver_version kept = {1, 2, 3, {"a.b", 3}, {"c.d", 3}};
     switch (which) {
     case 0: return nodejs_semver_range_intersect(PORT, T(RANGE), T(OTHER), OUT);
     case 1: return nodejs_semver_range_difference(NPM, T(RANGE), T(OTHER), OUT);
@@ -59,17 +61,27 @@ static nodejs_semver_status call(int which, written *w)
     case 11: return nodejs_semver_range_outside(NPM, T(RANGE), T("0.1.0"), false, true, &w->answer);
     case 12: return nodejs_semver_range_allows_all(PORT, T(RANGE), T(OTHER), &w->answer);
     case 13: return nodejs_semver_range_allows_any(NPM, T(RANGE), T(OTHER), &w->answer);
-    case 14: return nodejs_semver_version_compare(PORT, T("1.2.3-a.b"), T("1.2.3+c"), &w->compared);
-    case 15: return nodejs_semver_version_check(NPM, T("1.2.3-a.b+c.d"));
-    case 16: return nodejs_semver_version_diff(NPM, T("1.2.3-a.b"), T("1.2.3"), &w->number);
-    case 17: return nodejs_semver_range_satisfies(NPM, T("^1.2.3-a.b"), T("1.2.3-a.c"), false, &w->answer);
-    case 18: return nodejs_semver_version_flaw(T("1.2.3-a.b oops"), &w->number, &w->index);
-    case 19: return nodejs_semver_range_ignored_words(T(RANGE " || foo"), w->words, 4, &w->len);
-    case 20: return nodejs_semver_version_print(PORT, T("1.2.3-a.b+c.d"), OUT);
-    case 21: return nodejs_semver_range_print(PORT, T(">1.2.3-a.b <=2.0.0-c.d+e"), OUT);
-    case 22: return nodejs_semver_version_inc(NPM, T("1.2.3"), T("minor"), T(""), 0, OUT);
-    case 23: return nodejs_semver_range_min_version(PORT, T("^1.2.3"), OUT);
-    case 24: return nodejs_semver_range_allows_any(PORT, T("^1.2.3-a.b"), T("<2.0.0-rc"), &w->answer);
+    case 14: return nodejs_semver_range_union(NPM, T(RANGE), T(OTHER), OUT);
+    case 15: return nodejs_semver_range_is_subset(PORT, T(RANGE), T(OTHER), true, &w->answer);
+    case 16: return nodejs_semver_range_accepts_same(NPM, T(RANGE), T(OTHER), false, &w->answer);
+    case 17: return nodejs_semver_version_compare(PORT, T("1.2.3-a.b"), T("1.2.3+c"), &w->compared);
+    case 18: return nodejs_semver_version_check(NPM, T("1.2.3-a.b+c.d"));
+    case 19: return nodejs_semver_version_diff(NPM, T("1.2.3-a.b"), T("1.2.3"), &w->number);
+    case 20: return nodejs_semver_range_satisfies(NPM, T("^1.2.3-a.b"), T("1.2.3-a.c"), false, &w->answer);
+    case 21: return nodejs_semver_version_flaw(T("1.2.3-a.b oops"), &w->number, &w->index);
+    case 22: return nodejs_semver_range_ignored_words(T(RANGE " || foo"), w->words, 4, &w->len);
+    case 23: return nodejs_semver_version_print(PORT, T("1.2.3-a.b+c.d"), OUT);
+    case 24: return nodejs_semver_range_print(PORT, T(">1.2.3-a.b <=2.0.0-c.d+e"), OUT);
+    case 25: return nodejs_semver_version_inc(NPM, T("1.2.3"), T("minor"), T(""), 0, OUT);
+    case 26: return nodejs_semver_range_min_version(PORT, T("^1.2.3"), OUT);
+    case 27: return nodejs_semver_range_allows_any(PORT, T("^1.2.3-a.b"), T("<2.0.0-rc"), &w->answer);
+    case 29: return nodejs_semver_version_read(NPM, T("1.2.3-a.b+c.d"), &w->parts, w->out, sizeof w->out);
+    case 30: return nodejs_semver_version_clean(T(" =v1.2.3-a.b+c.d"), OUT);
+    case 31: return nodejs_semver_version_coerce(T("a 1.2.3-a.b"), false, false, true, OUT);
+    case 32: return nodejs_semver_version_compare_build(PORT, T("1.2.3-a.b+c"), T("1.2.3-a.b+d"), &w->compared);
+    case 33: return nodejs_semver_order_with_builds(&kept, &kept, &w->compared);
+    case 34: return nodejs_semver_kind(&kept, &kept, &w->number);
+    case 35: return nodejs_semver_print(&kept, OUT);
     default: return nodejs_semver_range_max_satisfying(PORT, T(">=1.2.0 <2.0.0-rc.1"), TEXTS, &w->index);
     }
 }

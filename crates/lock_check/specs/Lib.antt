@@ -3,6 +3,8 @@ pub mod Findings
 pub mod Optional
 pub mod Readings
 pub mod Replacements
+pub mod Reports
+pub mod Rows
 pub mod Shown
 pub mod Specifiers
 pub mod Verdicts

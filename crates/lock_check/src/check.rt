@@ -1,10 +1,11 @@
 // Compares each dependency of a lock file with the version that is locked for it.
 
 use crate::fault::Fault;
-use crate::finding::{Finding, Outcome};
+use crate::finding::{Finding, Outcome, Skip};
 use crate::folder::{is_installed, joined};
-use crate::lock::{Dependency, Field, Lock, Package, Wanted, add_dependencies};
+use crate::lock::{Dependencies, Dependency, Field, Lock, Package, Wanted, add_dependencies};
 use crate::overrides::Overrides;
+use crate::requirers::Requirers;
 use crate::scopes::Scopes;
 use crate::specifier::{Specifier, is_name, is_tag};
 use crate::verdict::{Judgement, Verdict, judge_texts};
@@ -20,6 +21,8 @@ pub struct Findings<'a> {
     pub of_dependencies: Vec<Finding<'a>>,
     /// What is malformed, so that no dependency is read of it.
     pub faults: Vec<Fault<'a>>,
+    /// Which packages ask for each, if a dependency is told of.
+    pub requirers: Requirers<'a>,
 }
 
 /// A dependency, and the package that is locked for it.
@@ -27,6 +30,23 @@ pub struct Findings<'a> {
 pub struct Edge<'a> {
     pub dependency: Dependency<'a>,
     pub locked: Option<Package<'a>>,
+}
+
+impl Findings<'_> {
+    /// Whether something is told.
+    pub fn are_told(&self) -> bool {
+        !self.faults.is_empty() || is_any_told(&self.of_dependencies)
+    }
+}
+
+// Whether one of the findings is told.
+fn is_any_told(findings: &[Finding<'_>]) -> bool {
+    for finding in findings {
+        if finding.is_told(false) {
+            return true;
+        }
+    }
+    false
 }
 
 /// Judges each dependency of each package.
@@ -43,9 +63,15 @@ pub fn check<'a>(alloc: Global, lock: Lock<'a>) -> Result<Findings<'a>, AllocErr
         let wanted = scopes.wanted(lock, number, edge);
         of_dependencies.push(finding(alloc, lock, edge, wanted)?)?;
     }
+    let requirers = if is_any_told(&of_dependencies) {
+        Requirers::of(alloc, lock, &edges)?
+    } else {
+        Requirers::none(alloc)
+    };
     Ok(Findings {
         of_dependencies,
         faults,
+        requirers,
     })
 }
 
@@ -61,12 +87,12 @@ fn edges<'a>(
             folder: folder.as_str(),
             fields,
         };
-        let mut found = Vec::new(alloc);
+        let mut found = Dependencies::new(alloc);
         if folder.is_empty() {
             add_workspaces(lock, package, &mut found, faults)?;
         }
         add_dependencies(package, &mut found, faults)?;
-        for &dependency in &found {
+        for &dependency in found.as_slice() {
             let locked = lock.nearest(alloc, package.folder, dependency.name)?;
             let edge = Edge { dependency, locked };
             if !is_of_development(edge) {
@@ -138,13 +164,13 @@ fn locked_outcome<'a>(
         is_nested: lock.is_nested,
     };
     if target.is_own_peer() {
-        return Ok(Outcome::OwnPeer);
+        return Ok(Outcome::Skipped(Skip::OwnPeer));
     }
     if !is_name(dependency.name) {
         return Ok(Outcome::Unnamed);
     }
     if target.is_link_of_root() {
-        return Ok(Outcome::Link);
+        return Ok(Outcome::Skipped(Skip::Link));
     }
     target.outcome_of_either(alloc)
 }
@@ -248,7 +274,7 @@ impl<'a> Target<'a> {
             return Ok(Outcome::Elsewhere);
         }
         let Some(base) = self.base(path) else {
-            return Ok(Outcome::Address);
+            return Ok(Outcome::Skipped(Skip::Address));
         };
         if joined(alloc, base, path)?.as_str() == self.package.folder {
             Ok(Outcome::Satisfied)
@@ -262,7 +288,7 @@ impl<'a> Target<'a> {
             return Ok(Outcome::Elsewhere);
         };
         let Some(base) = self.base(path) else {
-            return Ok(Outcome::Address);
+            return Ok(Outcome::Skipped(Skip::Address));
         };
         if joined(alloc, base, path)? == joined(alloc, "", resolved)? {
             Ok(Outcome::Satisfied)
@@ -278,10 +304,10 @@ impl<'a> Target<'a> {
         range: Option<&'a str>,
     ) -> Result<Outcome<'a>, AllocError> {
         match (self.resolved().map(Specifier::of), range) {
-            (Some(Specifier::Repository(_)), None) => Ok(Outcome::Address),
+            (Some(Specifier::Repository(_)), None) => Ok(Outcome::Skipped(Skip::Address)),
             (Some(Specifier::Repository(_)), Some(range)) => {
                 match self.range_outcome(alloc, range)? {
-                    Outcome::Satisfied => Ok(Outcome::Address),
+                    Outcome::Satisfied => Ok(Outcome::Skipped(Skip::Address)),
                     outcome => Ok(outcome),
                 }
             }
@@ -304,7 +330,7 @@ impl<'a> Target<'a> {
         let version = locked.unwrap_or("");
         Ok(match judge_texts(alloc, wanted, version)? {
             Judgement::NoRange => self.tag_outcome(wanted),
-            Judgement::Unsure => Outcome::Unsure,
+            Judgement::Unsure => Outcome::Skipped(Skip::Unsure),
             Judgement::NoVersion if locked.is_none() => self.unversioned(),
             Judgement::NoVersion => Outcome::NoVersion { version },
             Judgement::Read(Verdict::Accepted) => Outcome::Satisfied,
@@ -315,7 +341,7 @@ impl<'a> Target<'a> {
     // A version is nowhere in the lock file. npm reads that of a folder there.
     fn unversioned(self) -> Outcome<'a> {
         if self.is_nested && self.is_link() {
-            Outcome::Unlocked
+            Outcome::Skipped(Skip::Unlocked)
         } else {
             Outcome::Unversioned
         }

@@ -1,5 +1,8 @@
 // What is malformed in a lock file or in a package.json.
 
+ghost use Rattle.lock_check.specs.Rows.{fault_folder, fault_name};
+ghost use Rattle.std.specs.Prelude.{◌≡◌, option_map};
+
 use crate::shown::Shown;
 use std::fmt;
 
@@ -25,6 +28,28 @@ pub enum Fault<'a> {
     Workspaces,
     /// Nothing is known of the root project.
     NoRoot,
+}
+
+impl<'a> Fault<'a> {
+    /// The folder of the package in which it is.
+    pub fn folder(self) -> &'a str
+        ensures { result.now ≡ fault_folder self.entry }
+    {
+        match self {
+            Fault::Field { folder, .. } | Fault::Range { folder, .. } => folder,
+            Fault::Override { .. } | Fault::Workspaces | Fault::NoRoot => "",
+        }
+    }
+
+    /// The name of the dependency about which it is.
+    pub fn name(self) -> Option<&'a str>
+        ensures { option_map (λ t. t.now) result ≡ fault_name self.entry }
+    {
+        match self {
+            Fault::Range { name, .. } | Fault::Override { name } => Some(name),
+            Fault::Field { .. } | Fault::Workspaces | Fault::NoRoot => None,
+        }
+    }
 }
 
 impl fmt::Display for Fault<'_> {

@@ -1,14 +1,19 @@
 // What is found for each dependency, and how it is printed.
 
-ghost use Rattle.lock_check.specs.Findings.{count_of, has_line, is_same, kind_of};
-ghost use Rattle.std.specs.Prelude.{◌≡◌, ◌<◌, IsTrue, length};
+ghost use Rattle.lock_check.specs.Findings.{count_of, is_same, is_same_reason, is_skipped_for};
+ghost use Rattle.lock_check.specs.Findings.{is_told, kind_of, skipped_for};
+ghost use Rattle.lock_check.specs.Reports.{kind_word};
+ghost use Rattle.lock_check.specs.Rows.{rejected_version};
+ghost use Rattle.std.specs.Prelude.{◌≡◌, ◌<◌, length, option_map};
 
 use crate::check::Findings;
 use crate::lock::{Dependency, Lock, Wanted};
 use crate::shown::Shown;
 use nodejs_semver::Version;
 use nodejs_semver::diagnosis::version_flaw;
+use std::alloc::AllocError;
 use std::fmt;
+use std::fmt::Write;
 
 /// A dependency, and what is found for it.
 #[derive(Drop)]
@@ -54,26 +59,35 @@ pub enum Outcome<'a> {
     Missing,
     /// The same of a dependency that may be absent.
     Absent,
-    /// It is skipped, since npm may read another range in its text than is read here, or none.
+    /// It is not checked.
+    Skipped(Skip),
+}
+
+/// Why a dependency is not checked.
+#[derive(Clone, Copy, PartialEq, Eq)]
+pub enum Skip {
+    /// npm may read another range in its text than is read here, or none.
     Unsure,
-    /// It is skipped, since its range text is an address that is not compared.
+    /// Its range text is an address that is not compared.
     Address,
-    /// It is skipped, since the package is a link that may be to a workspace.
+    /// The package is a link that may be to a workspace.
     Link,
-    /// It is skipped, since the package is a link, and its version is not in the lock file.
+    /// The package is a link, and its version is not in the lock file.
     Unlocked,
-    /// It is skipped, since it is a peer that stands inside the package that wants it.
+    /// It is a peer that stands inside the package that wants it.
     OwnPeer,
 }
 
 /// Outcomes that are counted as one.
 #[derive(Clone, Copy, PartialEq, Eq)]
-enum Kind {
+pub enum Kind {
     Satisfied,
     Rejected,
     Missing,
     Absent,
     Skipped,
+    /// It is none of a dependency, but a field of which none is read.
+    Malformed,
 }
 
 /// How many packages and dependencies there are, and how many have each kind of outcome.
@@ -86,10 +100,35 @@ pub struct Counts {
     missing: usize,
     absent: usize,
     skipped: usize,
+    skips: Skips,
     malformed: usize,
 }
 
+/// How many dependencies are skipped for each reason.
+#[derive(Clone, Copy)]
+struct Skips {
+    unsure: usize,
+    address: usize,
+    link: usize,
+    unlocked: usize,
+    own_peer: usize,
+}
+
 impl Kind {
+    /// The word for it.
+    pub fn word(self) -> &'static str
+        ensures { result.now ≡ kind_word self }
+    {
+        match self {
+            Kind::Satisfied => "satisfied",
+            Kind::Rejected => "rejected",
+            Kind::Missing => "missing",
+            Kind::Absent => "absent",
+            Kind::Skipped => "skipped",
+            Kind::Malformed => "malformed",
+        }
+    }
+
     fn is(self, kind: Kind) -> bool
         ensures { result ≡ is_same kind self }
     {
@@ -97,7 +136,26 @@ impl Kind {
     }
 }
 
-impl Outcome<'_> {
+impl Skip {
+    fn is(self, skip: Skip) -> bool
+        ensures { result ≡ is_same_reason skip self }
+    {
+        self == skip
+    }
+
+    // What is told of it.
+    fn words(self) -> &'static str {
+        match self {
+            Skip::Unsure => "a range text that npm may read otherwise",
+            Skip::Address => "an address",
+            Skip::Link => "a link that may be a workspace",
+            Skip::Unlocked => "a link whose version is not in the lock file",
+            Skip::OwnPeer => "a peer in its own folder",
+        }
+    }
+}
+
+impl<'a> Outcome<'a> {
     /// Whether the dependency is satisfied.
     pub fn is_satisfied(&self) -> bool
         ensures { result ≡ is_same Kind.Satisfied (kind_of self.now) }
@@ -128,15 +186,32 @@ impl Outcome<'_> {
             Outcome::NoReference => "rejected: its override refers to nothing",
             Outcome::Missing => "missing",
             Outcome::Absent => "absent",
-            Outcome::Unsure => "skipped: a range text that npm may read otherwise",
-            Outcome::Address => "skipped: an address",
-            Outcome::Link => "skipped: a link that may be a workspace",
-            Outcome::Unlocked => "skipped: a link whose version is not in the lock file",
-            Outcome::OwnPeer => "skipped: a peer in its own folder",
+            Outcome::Skipped(_) => "skipped: ",
         }
     }
 
-    fn kind(&self) -> Kind
+    // Whether it is skipped for this reason.
+    fn is_skipped_for(&self, skip: Skip) -> bool
+        ensures { result ≡ is_skipped_for skip self.now }
+    {
+        match self {
+            Outcome::Skipped(reason) => reason.is(skip),
+            _ => false,
+        }
+    }
+
+    /// The locked version, where that is rejected.
+    pub fn version(&self) -> Option<&'a str>
+        ensures { option_map (λ t. t.now) result ≡ rejected_version self.now }
+    {
+        match self {
+            Outcome::Rejected { version, .. } | Outcome::NoVersion { version } => Some(*version),
+            _ => None,
+        }
+    }
+
+    /// How it is counted.
+    pub fn kind(&self) -> Kind
         ensures { result ≡ kind_of self.now }
     {
         match self {
@@ -154,21 +229,21 @@ impl Outcome<'_> {
             | Outcome::NoReference => Kind::Rejected,
             Outcome::Missing => Kind::Missing,
             Outcome::Absent => Kind::Absent,
-            Outcome::Unsure
-            | Outcome::Address
-            | Outcome::Link
-            | Outcome::Unlocked
-            | Outcome::OwnPeer => Kind::Skipped,
+            Outcome::Skipped(_) => Kind::Skipped,
         }
     }
 }
 
 impl Finding<'_> {
-    /// Whether the finding has a line of its own.
-    pub fn is_printed(&self) -> bool
-        ensures { result ≡ has_line (kind_of self.now.outcome) }
+    /// Whether the finding is told of. If it is quiet, none is that is skipped.
+    pub fn is_told(&self, is_quiet: bool) -> bool
+        ensures { result ≡ is_told is_quiet (kind_of self.now.outcome) }
     {
-        !matches!(self.outcome.kind(), Kind::Satisfied | Kind::Absent)
+        match self.outcome.kind() {
+            Kind::Satisfied | Kind::Absent => false,
+            Kind::Skipped => !is_quiet,
+            Kind::Rejected | Kind::Missing | Kind::Malformed => true,
+        }
     }
 }
 
@@ -203,6 +278,7 @@ impl fmt::Display for Finding<'_> {
                 smallest: Some(smallest),
             } => write!(f, "{}; smallest accepted: {smallest}", Shown(version)),
             Outcome::NoVersion { version } => write_no_version(f, version),
+            Outcome::Skipped(reason) => f.write_str(reason.words()),
             _ => Ok(()),
         }
     }
@@ -215,6 +291,59 @@ fn write_no_version<W: fmt::Write>(f: &mut fmt::Formatter<W>, text: &str) -> fmt
         Some(flaw) => write!(f, ": {flaw}"),
         None => Ok(()),
     }
+}
+
+impl Skips {
+    fn of(findings: &[Finding<'_>]) -> Skips
+        ensures unsure { result.unsure ≡ skipped_for Skip.Unsure findings.now }
+        ensures address { result.address ≡ skipped_for Skip.Address findings.now }
+        ensures link { result.link ≡ skipped_for Skip.Link findings.now }
+        ensures unlocked { result.unlocked ≡ skipped_for Skip.Unlocked findings.now }
+        ensures own_peer { result.own_peer ≡ skipped_for Skip.OwnPeer findings.now }
+    {
+        Skips {
+            unsure: count_skipped(findings, Skip::Unsure),
+            address: count_skipped(findings, Skip::Address),
+            link: count_skipped(findings, Skip::Link),
+            unlocked: count_skipped(findings, Skip::Unlocked),
+            own_peer: count_skipped(findings, Skip::OwnPeer),
+        }
+    }
+
+    fn named(&self) -> [(Skip, usize); 5] {
+        [
+            (Skip::Unsure, self.unsure),
+            (Skip::Address, self.address),
+            (Skip::Link, self.link),
+            (Skip::Unlocked, self.unlocked),
+            (Skip::OwnPeer, self.own_peer),
+        ]
+    }
+}
+
+impl fmt::Display for Skips {
+    fn fmt<W: fmt::Write>(&self, f: &mut fmt::Formatter<W>) -> fmt::Result {
+        let mut front = " (";
+        for (skip, count) in self.named() {
+            if count > 0 {
+                write!(f, "{front}{}: {count}", skip.words())?;
+                front = ", ";
+            }
+        }
+        f.write_str(if front == ", " { ")" } else { "" })
+    }
+}
+
+fn count_skipped(findings: &[Finding<'_>], skip: Skip) -> usize
+    ensures { result ≡ skipped_for skip findings.now }
+{
+    let mut count = 0;
+    for finding in findings {
+        if finding.outcome.is_skipped_for(skip) {
+            count += 1;
+        }
+    }
+    count
 }
 
 impl Counts {
@@ -239,8 +368,46 @@ impl Counts {
             missing: count(findings, Kind::Missing),
             absent: count(findings, Kind::Absent),
             skipped: count(findings, Kind::Skipped),
+            skips: Skips::of(findings),
             malformed: found.faults.len(),
         }
+    }
+
+    /// Writes the counts as text, or as an object of JSON, on a line.
+    pub fn write(&self, is_json: bool, output: &mut String) -> Result<(), AllocError> {
+        if is_json {
+            self.write_json(output)
+        } else {
+            writeln!(output, "{self}")
+        }
+    }
+
+    fn write_json(&self, output: &mut String) -> Result<(), AllocError> {
+        let mut front = "{\"kind\":\"summary\",";
+        for (name, count) in self.named() {
+            write!(output, "{front}\"{name}\":{count}")?;
+            front = ",";
+        }
+        write!(output, ",\"skipped_for\":")?;
+        front = "{";
+        for (skip, count) in self.skips.named() {
+            write!(output, "{front}\"{}\":{count}", skip.words())?;
+            front = ",";
+        }
+        writeln!(output, "}}}}")
+    }
+
+    fn named(&self) -> [(&'static str, usize); 8] {
+        [
+            ("packages", self.packages),
+            ("dependencies", self.dependencies),
+            ("satisfied", self.satisfied),
+            ("rejected", self.rejected),
+            ("missing", self.missing),
+            ("absent", self.absent),
+            ("skipped", self.skipped),
+            ("malformed", self.malformed),
+        ]
     }
 
     /// The exit status.
@@ -293,6 +460,7 @@ impl fmt::Display for Counts {
             missing,
             absent,
             skipped,
+            skips,
             malformed,
         } = self;
         write!(
@@ -301,7 +469,7 @@ impl fmt::Display for Counts {
         )?;
         write!(
             f,
-            "{rejected} rejected, {missing} missing, {absent} absent, {skipped} skipped, "
+            "{rejected} rejected, {missing} missing, {absent} absent, {skipped} skipped{skips}, "
         )?;
         write!(f, "{malformed} malformed")
     }

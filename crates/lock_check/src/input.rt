@@ -17,11 +17,19 @@ const INPUT: &str = "standard input";
 // The lock files of other programs.
 const OTHERS: &[&str] = &["yarn.lock", "pnpm-lock.yaml", "bun.lock"];
 
+/// A lock file.
+#[derive(Drop)]
+pub struct LockFile {
+    /// Its path, as it is shown.
+    pub name: String,
+    pub text: String,
+    pub fields: Value,
+}
+
 /// What is read.
 #[derive(Drop)]
 pub struct Input {
-    /// The lock file.
-    pub lock: Value,
+    pub lock: LockFile,
     /// The `package.json` beside it, if there is one.
     pub manifest: Option<Value>,
 }
@@ -74,11 +82,12 @@ fn in_folder(rt: &HostRuntime, folder: &str) -> Result<Input> {
 fn at(rt: &HostRuntime, path: &str) -> Result<Input> {
     let text = fs::read_to_string(rt, path);
     let text = text.context(format_args!("{} cannot be read", Shown(path)))?;
-    let file = json(rt.alloc(), path, &text)?;
+    let alloc = rt.alloc();
+    let file = json(alloc, path, &text)?;
     if is_manifest(&file) {
         return with_manifest(rt, file);
     }
-    let lock = lock_of(path, file)?;
+    let lock = lock_of(alloc, path, text, file)?;
     let folder = match path.rsplit_once('/') {
         Some((folder, _)) => folder,
         None => ".",
@@ -95,38 +104,48 @@ fn with_manifest(rt: &HostRuntime, manifest: Value) -> Result<Input> {
     })
 }
 
-fn standard_input(rt: &HostRuntime) -> Result<Value> {
-    let text = io::read_to_string(rt.alloc(), rt.stdin())?;
-    let file = json(rt.alloc(), INPUT, &text)?;
-    lock_of(INPUT, file)
+fn standard_input(rt: &HostRuntime) -> Result<LockFile> {
+    let alloc = rt.alloc();
+    let text = io::read_to_string(alloc, rt.stdin())?;
+    let file = json(alloc, INPUT, &text)?;
+    lock_of(alloc, INPUT, text, file)
 }
 
 // The lock file of this name in a folder, if it is there.
-fn lock_in(rt: &HostRuntime, folder: &str, name: &str) -> Result<Option<Value>> {
+fn lock_in(rt: &HostRuntime, folder: &str, name: &str) -> Result<Option<LockFile>> {
+    let alloc = rt.alloc();
     let path = inside(rt, folder, name)?;
-    match json_if_there(rt, &path)? {
-        Some(file) => Ok(Some(lock_of(&path, file)?)),
-        None => Ok(None),
-    }
+    let Some(text) = text_if_there(rt, &path)? else {
+        return Ok(None);
+    };
+    let file = json(alloc, &path, &text)?;
+    Ok(Some(lock_of(alloc, &path, text, file)?))
 }
 
 // The package.json of a folder, if it is there.
 fn manifest_in(rt: &HostRuntime, folder: &str) -> Result<Option<Value>> {
     let path = inside(rt, folder, "package.json")?;
-    match json_if_there(rt, &path)? {
-        Some(file) if !file.is_object() => bail!("{} is no object", Shown(&path)),
-        found => Ok(found),
+    let Some(text) = text_if_there(rt, &path)? else {
+        return Ok(None);
+    };
+    let file = json(rt.alloc(), &path, &text)?;
+    if !file.is_object() {
+        bail!("{} is no object", Shown(&path));
     }
+    Ok(Some(file))
 }
 
 fn inside(rt: &HostRuntime, folder: &str, name: &str) -> Result<String> {
     let alloc = rt.alloc();
-    Ok(format!(in alloc; "{folder}/{name}")?)
+    match folder {
+        "." => Ok(format!(in alloc; "{name}")?),
+        _ => Ok(format!(in alloc; "{folder}/{name}")?),
+    }
 }
 
-fn json_if_there(rt: &HostRuntime, path: &str) -> Result<Option<Value>> {
+fn text_if_there(rt: &HostRuntime, path: &str) -> Result<Option<String>> {
     match fs::read_to_string(rt, path) {
-        Ok(text) => Ok(Some(json(rt.alloc(), path, &text)?)),
+        Ok(text) => Ok(Some(text)),
         Err(error) if error.kind() == ErrorKind::NotFound => Ok(None),
         Err(error) => Err(error).context(format_args!("{} cannot be read", Shown(path))),
     }
@@ -144,11 +163,12 @@ fn json(alloc: Global, name: &str, text: &str) -> Result<Value> {
 }
 
 // A file, if it is a lock file of npm.
-fn lock_of(name: &str, file: Value) -> Result<Value> {
-    match flaw(&file) {
-        Some(flaw) => bail!("{} is no lock file of npm: {flaw}", Shown(name)),
-        None => Ok(file),
+fn lock_of(alloc: Global, path: &str, text: String, fields: Value) -> Result<LockFile> {
+    if let Some(flaw) = flaw(&fields) {
+        bail!("{} is no lock file of npm: {flaw}", Shown(path));
     }
+    let name = format!(in alloc; "{}", Shown(path))?;
+    Ok(LockFile { name, text, fields })
 }
 
 // Why a file is no lock file of npm.

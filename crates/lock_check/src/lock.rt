@@ -2,6 +2,7 @@
 
 ghost use Rattle.lock_check.specs.Optional.{MayBeAbsent};
 ghost use Rattle.lock_check.specs.Fields.{is_set, member_of, text_of};
+ghost use Rattle.lock_check.specs.Rows.{wanted_text};
 ghost use Rattle.serde_json.specs.View.{view};
 ghost use Rattle.std.specs.Prelude.{◌≡◌, option_map};
 
@@ -10,6 +11,7 @@ use crate::folder::{is_installed, joined};
 use crate::specifier::Specifier;
 use serde_json::{Map, Value};
 use std::alloc::{AllocError, Global};
+use std::collections::BTreeSet;
 
 /// The packages of a lock file by their folders. The folder of the root project is the empty text.
 #[derive(Clone, Copy)]
@@ -59,6 +61,13 @@ pub struct Dependency<'a> {
     pub field: Field,
     pub name: &'a str,
     pub wanted: Wanted<'a>,
+}
+
+/// The dependencies of one package. Of several with one name the first counts.
+#[derive(Drop)]
+pub struct Dependencies<'a> {
+    names: BTreeSet<&'a str>,
+    first: Vec<Dependency<'a>>,
 }
 
 // A name that stands in several fields counts in the first of these, as npm has it.
@@ -134,6 +143,15 @@ impl<'a> Wanted<'a> {
         }
     }
 
+    /// Its text, or the folder of the workspace.
+    pub fn text(self) -> &'a str
+        ensures { result.now ≡ wanted_text self.entry }
+    {
+        match self {
+            Wanted::Text(text) | Wanted::Override(text) | Wanted::Workspace(text) => text,
+        }
+    }
+
     /// What it is to npm.
     pub fn specifier(self) -> Specifier<'a> {
         match self {
@@ -160,6 +178,28 @@ impl<'a> Dependency<'a> {
     }
 }
 
+impl<'a> Dependencies<'a> {
+    pub fn new(alloc: Global) -> Dependencies<'a> {
+        Dependencies {
+            names: BTreeSet::new(alloc),
+            first: Vec::new(alloc),
+        }
+    }
+
+    /// Adds a dependency, unless there is one with its name.
+    pub fn add(&mut self, dependency: Dependency<'a>) -> Result<(), AllocError> {
+        if self.names.insert(dependency.name)? {
+            self.first.push(dependency)?;
+        }
+        Ok(())
+    }
+
+    /// Those that count, in the order in which they were added.
+    pub fn as_slice(&self) -> &[Dependency<'a>] {
+        self.first.as_slice()
+    }
+}
+
 impl<'a> Lock<'a> {
     /// The package in this folder.
     pub fn package(self, folder: &str) -> Option<Package<'a>> {
@@ -177,6 +217,9 @@ impl<'a> Lock<'a> {
     ) -> Result<Option<Package<'a>>, AllocError> {
         let mut above = String::new(alloc);
         let mut found = self.child(alloc, &above, name)?;
+        if folder.is_empty() {
+            return Ok(found);
+        }
         for part in folder.split('/') {
             above.push_str(part)?;
             above.push('/')?;
@@ -221,7 +264,7 @@ fn is_set(value: &Value, field: &str) -> bool
 /// is added to `faults`.
 pub fn add_dependencies<'a>(
     package: Package<'a>,
-    found: &mut Vec<Dependency<'a>>,
+    found: &mut Dependencies<'a>,
     faults: &mut Vec<Fault<'a>>,
 ) -> Result<(), AllocError> {
     for &field in FIELDS {
@@ -240,11 +283,8 @@ pub fn add_dependencies<'a>(
                 faults.push(Fault::Range { folder, name })?;
                 continue;
             };
-            if found.iter().any(|earlier| earlier.name == name) {
-                continue;
-            }
             let wanted = Wanted::Text(range);
-            found.push(Dependency {
+            found.add(Dependency {
                 package,
                 field,
                 name,

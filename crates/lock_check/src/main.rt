@@ -27,33 +27,45 @@
 //! another range in its text than is found here, as in `>*1.2.3`.
 #![tactic(auto)]
 
+mod annotation;
 mod check;
 mod fault;
 mod finding;
 mod folder;
 mod help;
 mod input;
+mod json;
+mod lines;
 mod lock;
 mod nested;
+mod options;
 mod overrides;
 mod reading;
+mod report;
+mod requirers;
+mod row;
 mod scopes;
 mod shown;
 mod specifier;
 mod verdict;
 mod workspaces;
 
-use crate::check::{Findings, check};
-use crate::finding::{Counts, Finding};
-use crate::help::{USAGE, VERSION, asked};
-use crate::input::{Input, read};
+use crate::check::check;
+use crate::finding::Counts;
+use crate::help::{HELP, USAGE, VERSION};
+use crate::input::{Input, LockFile, read};
+use crate::lines::Lines;
 use crate::lock::Lock;
+use crate::options::{Format, Options, Request};
+use crate::reading::unmarked;
+use crate::report::write_rows;
+use crate::row::rows;
 use anyhow::{Context, Result};
 use serde_json::{Map, Value, put};
 use std::alloc::Global;
-use std::io::{BufWriter, Write};
+use std::env;
+use std::io::Write;
 use std::process::ExitCode;
-use std::{env, io};
 
 // The exit status if the check could not be made, or is not whole.
 const TROUBLE: u8 = 2;
@@ -68,35 +80,32 @@ fn main(rt: HostRuntime) -> Result<ExitCode> {
 }
 
 fn run(rt: &HostRuntime) -> Result<ExitCode> {
-    let mut arguments = env::args(rt)?.skip(1);
-    let argument = arguments.next();
-    let path = match &argument {
-        Some(word) => word.as_str(),
-        None => "-",
-    };
-    if let Some(text) = asked(path) {
-        print!(rt; "{VERSION}{text}")?;
-        return Ok(ExitCode::SUCCESS);
+    let mut words = Vec::new(rt.alloc());
+    for word in env::args(rt)?.skip(1) {
+        words.push(word)?;
     }
-    if is_option(path) || arguments.next().is_some() {
-        eprintln!(rt; "{USAGE}")?;
-        return Ok(ExitCode::from(TROUBLE));
+    match Request::of(&words) {
+        Ok(Request::Help) => print!(rt; "{VERSION}{HELP}")?,
+        Ok(Request::Version) => print!(rt; "{VERSION}")?,
+        Ok(Request::Check(options)) => {
+            let input = read(rt, options.path)?;
+            return tell(rt, input, options);
+        }
+        Err(misuse) => {
+            eprintln!(rt; "Error: {misuse}\n{USAGE}")?;
+            return Ok(ExitCode::from(TROUBLE));
+        }
     }
-    let input = read(rt, path)?;
-    report(rt, input)
-}
-
-// Whether a word is an option. A `-` alone is none.
-fn is_option(word: &str) -> bool {
-    word.starts_with('-') && word.len() > 1
+    Ok(ExitCode::SUCCESS)
 }
 
 // Prints what is found, and returns the exit status.
-fn report(rt: &HostRuntime, input: Input) -> Result<ExitCode> {
+fn tell(rt: &HostRuntime, input: Input, options: Options<'_>) -> Result<ExitCode> {
     let alloc = rt.alloc();
     let Input { lock, manifest } = input;
-    let is_nested = lock.get("packages").is_none();
-    let mut packages = packages(alloc, lock)?;
+    let LockFile { name, text, fields } = lock;
+    let is_nested = fields.get("packages").is_none();
+    let mut packages = packages(alloc, fields)?;
     if let Some(root) = manifest {
         put(&mut packages, alloc, "", root)?;
     }
@@ -106,10 +115,21 @@ fn report(rt: &HostRuntime, input: Input) -> Result<ExitCode> {
     };
     let findings = check(alloc, lock)?;
     let counts = Counts::of(lock, &findings);
-    let mut output = BufWriter::new(alloc, rt.stdout())?;
-    print(&mut output, &findings)?;
-    writeln!(output, "{counts}")?;
-    output.flush()?;
+    let places = if findings.are_told() {
+        text.as_str()
+    } else {
+        ""
+    };
+    let lines = Lines::of(alloc, unmarked(places), is_nested)?;
+    let rows = rows(alloc, &findings, &lines, options.is_quiet)?;
+    let mut output = String::new(alloc);
+    write_rows(options.format, &name, &rows, &mut output)?;
+    if !options.is_quiet {
+        counts.write(options.format == Format::Json, &mut output)?;
+    }
+    let mut stdout = rt.stdout();
+    stdout.write_all(output.as_bytes())?;
+    stdout.flush()?;
     Ok(ExitCode::from(counts.exit_status()))
 }
 
@@ -134,15 +154,4 @@ fn has_none(file: &Value) -> bool {
         Some(1) => file.get("dependencies").is_none(),
         _ => false,
     }
-}
-
-// Prints what is malformed, and each finding that has a line.
-fn print(output: &mut impl Write, findings: &Findings<'_>) -> io::Result<()> {
-    for fault in findings.faults.iter() {
-        writeln!(output, "{fault}")?;
-    }
-    for finding in findings.of_dependencies.iter().filter(|it| it.is_printed()) {
-        writeln!(output, "{finding}")?;
-    }
-    Ok(())
 }

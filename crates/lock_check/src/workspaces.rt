@@ -2,7 +2,7 @@
 
 use crate::fault::Fault;
 use crate::folder::{is_installed, name_of};
-use crate::lock::{Dependency, Field, Lock, Package, Wanted};
+use crate::lock::{Dependencies, Dependency, Field, Lock, Package, Wanted};
 use serde_json::Value;
 use std::alloc::AllocError;
 
@@ -82,7 +82,7 @@ pub fn are_read(root: Package<'_>) -> bool {
 pub fn add_workspaces<'a>(
     lock: Lock<'a>,
     root: Package<'a>,
-    found: &mut Vec<Dependency<'a>>,
+    found: &mut Dependencies<'a>,
     faults: &mut Vec<Fault<'a>>,
 ) -> Result<(), AllocError> {
     let list = match patterns(root) {
@@ -116,18 +116,14 @@ fn add_workspace<'a>(
     lock: Lock<'a>,
     root: Package<'a>,
     folder: &'a str,
-    found: &mut Vec<Dependency<'a>>,
+    found: &mut Dependencies<'a>,
 ) -> Result<(), AllocError> {
     let own = lock.package(folder).and_then(|it| it.text("name"));
     let name = own.unwrap_or(name_of(folder));
-    if found.iter().any(|earlier| earlier.name == name) {
-        return Ok(());
-    }
-    found.push(Dependency {
+    found.add(Dependency {
         package: root,
         field: Field::Workspaces,
         name,
         wanted: Wanted::Workspace(folder),
-    })?;
-    Ok(())
+    })
 }

@@ -1,9 +1,9 @@
 -- The words that most proofs of this crate use, brought together here.
-pub use Rattle.nodejs_semver.specs.Internal.Candidates.{BeginsAfterPre, IsRaisable, Raisable, better, firsts, least_of, list_marks, removed_marks}
+pub use Rattle.nodejs_semver.specs.Internal.Candidates.{BeginsAfterPre, IsRaisable, Raisable, better, better_kept, firsts, least_of, list_marks, removed_marks}
 pub use Rattle.nodejs_semver.specs.Internal.{Candidates.wanted, Denotes.{denotes, part_bounds, part_denotes, part_intervals}, RunsFrom.longer}
 pub use Rattle.nodejs_semver.specs.Internal.{RunsFrom.{run_items, runs_of}, Sets.{is_range_span, meets_of, minus}, Shorthands.{remainder, spans_of}}
 pub use Rattle.nodejs_semver.specs.{Internal.{Shorthands.value_of, Words.{Sign, sign_at, tilde_sign, upper_of, words}}, Ranges.Algebra.list_holds}
-pub use Rattle.nodejs_semver.specs.Ranges.{Best.IsMax, Gate.accepts, Least.{IsLeastOf, least_build}, View.{IsRange, bound_of, span_of}}
+pub use Rattle.nodejs_semver.specs.Ranges.{Best.{IsMax, IsMaxOf, IsMinOf}, Gate.accepts, Least.{IsLeastOf, least_build}, View.{IsRange, bound_of, span_of}}
 pub use Rattle.nodejs_semver.specs.Text.{Common.AreCommonParts, Meaning.Means, PartialText.{AreComponents, Partial}, Runs.{Run, fits, interval_of}}
 pub use Rattle.nodejs_semver.specs.Text.{WordText.{IsSign, Word, compare, hyphen, malformed, plain, tilde}, WrittenSet.run_writes}
 pub use Rattle.semver_core.proofs.CutLaws.{between_parts, cut_total, gt_lt, lt, not_if, one_way, past_lt, remainders_by, tells, turned_lower}
@@ -31,7 +31,7 @@ unfoldable pub use Rattle.semver_core.specs.{Internal.Reading.{list_len}, Intern
 unfoldable pub use Rattle.std.specs.Char.{encode_utf8}
 -- words of ranges
 pub use Rattle.nodejs_semver.specs.Internal.Candidates.{BeginsOtherwise, IsAfterPre, IsLeastSoFar, all_accept, below_named, beside, candidates}
-pub use Rattle.nodejs_semver.specs.Internal.{Candidates.has_build, Sets.{AreTaking, option_accepts, option_list_holds, span_text}}
+pub use Rattle.nodejs_semver.specs.Internal.{Sets.{AreTaking, option_accepts, option_list_holds, span_text}}
 pub use Rattle.nodejs_semver.specs.{Internal.Shorthands.{build_by, lies_above, lies_below}, Printing.Text.range_text, Ranges.Algebra.covers_one}
 pub use Rattle.nodejs_semver.specs.Ranges.{Algebra.{difference, intersection}, Best.{IsBest, IsMin, replaces}, Least.{begins_with, beyond}}
 pub use Rattle.nodejs_semver.specs.{Ranges.View.{TakesMemory, any_version}, Text.{Table.{row, version_of, without_build}, WordText.caret}}

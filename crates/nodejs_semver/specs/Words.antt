@@ -14,7 +14,8 @@ pub use Rattle.nodejs_semver.specs.Internal.Ignored.{ignored_behind, kind_at, ki
 pub use Rattle.nodejs_semver.specs.Internal.Ignored.{option_list, read_at, word_view}
 pub use Rattle.nodejs_semver.specs.Internal.Meets.{joined_from, next_at}
 pub use Rattle.semver_core.specs.Internal.Parts.{later_parts, cut_bars, parts}
-pub use Rattle.semver_core.specs.Internal.Views.{bounds_view, comparator_view, pair_view, part_view}
+pub use Rattle.semver_core.specs.Internal.Views.{pair_view, part_view}
+pub use Rattle.semver_pieces.specs.Internal.Views.{bounds_view, comparator_view}
 pub use Rattle.semver_core.specs.Internal.Views.{rest_view}
 pub use Rattle.nodejs_semver.specs.Internal.Readings.{comparator_front_view, greater_view, next_view}
 pub use Rattle.nodejs_semver.specs.Internal.Readings.{partial_front_view, partial_pair_view, partial_view}
@@ -33,7 +34,7 @@ pub use Rattle.nodejs_semver.specs.Json.{json_string, ReadsString}
 pub use Rattle.nodejs_semver.specs.Printing.RoundTrip.{bounds_back, is_printable}
 pub use Rattle.nodejs_semver.specs.Printing.Text.{lower_text, range_text, upper_text}
 pub use Rattle.nodejs_semver.specs.Ranges.Algebra.{covers_one, difference, intersection, list_holds}
-pub use Rattle.nodejs_semver.specs.Ranges.Best.{IsMax, IsMin, replaces}
+pub use Rattle.nodejs_semver.specs.Ranges.Best.{IsMax, IsMaxOf, IsMin, replaces}
 pub use Rattle.nodejs_semver.specs.Ranges.Equality.{range_eq}
 pub use Rattle.nodejs_semver.specs.Ranges.Gate.{accepts}
 pub use Rattle.semver_core.specs.Values.Gate.{lets_in}

@@ -16,7 +16,7 @@ pub(crate) use crate::readers::found::Filled;
 pub(crate) use crate::readers::kinds::ignored_front;
 pub use crate::readers::loose::{is_blank, range_loose};
 pub use semver_core::readers::{version_fast, version_loose};
-pub(crate) use semver_core::scan::pieces::{
+pub(crate) use semver_pieces::{
     Bounds, Comparator, Found, after_bars, after_some_space, build_front, cut_part, is_boundary,
     lowest, marked_list, next_part, pre_release_front, release, skip_spaces, skip_to_boundary,
     space_len,

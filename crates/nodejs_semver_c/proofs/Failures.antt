@@ -1,5 +1,5 @@
 -- What is told where an increment returns no version.
-use Rattle.std.proofs.Common.{◌≡◌, ◌≢◌, ◌∷◌, ◌&&◌, ◌-◌, ◌^◌, ◌==◌, ℕ, List, [], Result, Ok, Err, Option, Some, None, ap, inl, inr, refl}
+use Rattle.std.proofs.Common.{◌≢◌, ◌∷◌, ◌&&◌, ◌-◌, ◌^◌, ◌==◌, ℕ, List, [], Result, Ok, Err, Option, Some, None, ap, inl, inr, refl}
 use Rattle.std.proofs.lemmas.Bool.{cond_both}
 use Rattle.std.specs.List.{join_with_byte}
 use Rattle.std.specs.Prelude.{if◌then◌else◌, IfErr, IfOk, map, unwrap_or}

@@ -1,5 +1,6 @@
 mod Failures
 mod Fitting
+mod Keeping
 mod Places
 mod Printing
 mod Putting

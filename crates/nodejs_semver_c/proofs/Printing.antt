@@ -1,6 +1,6 @@
 -- What loops have put of lists that print element by element.
 use Rattle.std.proofs.Common.{◌≡◌, ◌<◌, ◌+◌, ◌∷◌, ◌++◌, ◌∙◌, ℕ, List, [], ap, append-nil, append_assoc, arith, codes, get_or}
-use Rattle.std.proofs.Common.{length, refl, sym, take}
+use Rattle.std.proofs.Common.{length, sym, take}
 use Rattle.std.proofs.lemmas.Grind.{flat_map-append}
 use Rattle.std.proofs.lemmas.List.{take_more}
 use Rattle.std.specs.List.{join_by}

@@ -1,7 +1,12 @@
 pub mod Answers
+pub mod Flaws
+pub mod Found
 pub mod Internal
+pub mod Kept
 pub mod Least
 pub mod Lists
+pub mod Messages
 pub mod Numbers
 pub mod Readings
+pub mod Subsets
 pub mod Words

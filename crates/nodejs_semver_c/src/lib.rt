@@ -12,12 +12,17 @@ ghost use Rattle.std.specs.Prelude.{◌≡◌, ◌∷◌, []};
 
 mod choices;
 mod diagnosis;
+mod flaws;
+mod found;
+mod kept;
+mod messages;
 mod pieces;
 mod print;
 mod ranges;
 mod read;
 mod sets;
 mod sort;
+mod subsets;
 mod versions;
 
 /// The question is answered.
@@ -38,8 +43,8 @@ pub const BAD_VERSION: u32 = 4;
 /// A text is no range.
 pub const BAD_RANGE: u32 = 5;
 
-/// The reading, or the word or the base of an increment, is unknown, or there is nothing to put
-/// into a pre-release.
+/// The reading, the status, or the word or the base of an increment is unknown, or there is nothing
+/// to put into a pre-release.
 pub const BAD_ARGUMENT: u32 = 6;
 
 /// The identifier of an increment is not identifiers joined by dots.
@@ -113,6 +118,33 @@ pub const FLAW_IGNORED: u32 = 3;
 /// The text is longer than 256 bytes, which is the place.
 pub const FLAW_TOO_LONG: u32 = 4;
 
+/// A `=`, a `V` or a further `v` stands where a number begins.
+pub const WRONG_MARK: u32 = 0;
+
+/// A number, or an identifier of the pre-release that is one, has a leading zero.
+pub const WRONG_LEADING_ZERO: u32 = 1;
+
+/// A digit makes a number greater than 9007199254740991.
+pub const WRONG_NUMBER: u32 = 2;
+
+/// A letter stands behind the numbers, where the pre-release begins with a `-`.
+pub const WRONG_MISSING_HYPHEN: u32 = 3;
+
+/// A number begins at the place: a digit is expected there.
+pub const WRONG_DIGIT: u32 = 4;
+
+/// A dot is expected at the place.
+pub const WRONG_DOT: u32 = 5;
+
+/// An identifier begins at the place: a letter, a digit or `-` is expected there.
+pub const WRONG_IDENTIFIER: u32 = 6;
+
+/// What stands before the place is a version, and this is behind it.
+pub const WRONG_BEHIND: u32 = 7;
+
+/// The text is longer than 256 characters.
+pub const WRONG_TOO_LONG: u32 = 8;
+
 /// The word has none of the forms of words.
 pub const WORD_MALFORMED: u32 = 0;
 
@@ -140,6 +172,9 @@ pub fn constants()
         ∷ KIND_PREMINOR ∷ KIND_PREPATCH ∷ KIND_PRERELEASE ∷ [] ≡ range_with_len 0 8 }
     ensures flaws { FLAW_DIGIT ∷ FLAW_DOT ∷ FLAW_NUMBER ∷ FLAW_IGNORED ∷ FLAW_TOO_LONG ∷ []
         ≡ range_with_len 0 5 }
+    ensures wrongs { WRONG_MARK ∷ WRONG_LEADING_ZERO ∷ WRONG_NUMBER ∷ WRONG_MISSING_HYPHEN
+        ∷ WRONG_DIGIT ∷ WRONG_DOT ∷ WRONG_IDENTIFIER ∷ WRONG_BEHIND ∷ WRONG_TOO_LONG ∷ []
+        ≡ range_with_len 0 9 }
     ensures words { WORD_MALFORMED ∷ WORD_WITHOUT_BOUNDS ∷ [] ≡ range_with_len 0 2 }
     ensures answers { ANSWER_NO ∷ ANSWER_YES ∷ ANSWER_NO_VERSION ∷ [] ≡ range_with_len 0 3 }
 {}

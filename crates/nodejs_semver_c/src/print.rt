@@ -63,7 +63,7 @@ pub fn print<T: Printed>(value: &T, out: &mut [u8], len: &mut usize) -> u32
 }
 
 // The length of a text.
-fn counted<T: Printed>(value: &T) -> usize
+pub fn counted<T: Printed>(value: &T) -> usize
     ensures { result ≡ min (length (T.text value.now)) (2 ^ 64 - 1) }
 {
     let mut len = 0;

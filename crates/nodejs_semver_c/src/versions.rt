@@ -8,7 +8,7 @@ ghost use Rattle.semver_core.specs.Difference.{kind_between};
 ghost use Rattle.semver_core.specs.Increments.Table.{answer_of_inc, by_word, checked};
 ghost use Rattle.semver_core.specs.Increments.View.{fault_of};
 ghost use Rattle.semver_core.specs.Printing.Text.{version_text};
-ghost use Rattle.semver_core.specs.Values.Order.{precedence};
+ghost use Rattle.semver_core.specs.Values.Order.{build_order, precedence};
 ghost use Rattle.semver_core.specs.declared.increment.IdentifierBase.{IdentifierBase};
 ghost use Rattle.std.specs.List.{starts_with};
 ghost use Rattle.std.specs.Prelude.{◌≡◌, ⊤, IfErr, IfNone, IfOk, IfSome, List, ℕ, Ok, Some, codes};
@@ -20,7 +20,9 @@ use crate::{
     KIND_NONE, KIND_PATCH, KIND_PREMAJOR, KIND_PREMINOR, KIND_PREPATCH, KIND_PRERELEASE, NO_MEMORY,
     NOT_A_PRERELEASE, OK, OVERFLOW, read,
 };
-use nodejs_semver::{Failure, Identifier, IdentifierBase, IncrementError, VersionDiff, VersionRef};
+use nodejs_semver::{
+    Failure, Identifier, IdentifierBase, IncrementError, VersionDiff, VersionRef, cmp_build,
+};
 use std::alloc::Global;
 use std::cmp::Ordering;
 
@@ -84,7 +86,35 @@ pub extern "C" fn nodejs_semver_version_compare(
     OK
 }
 
-fn number_of(order: Ordering) -> i32
+/// How the first version compares to the second: `order` gets -1, 0 or 1. Of versions that are
+/// equal by precedence the build metadata decides, identifier by identifier; none is below some.
+///
+/// Returns `OK`, `BAD_ARGUMENT`, `NOT_UTF8`, `BAD_VERSION` or `TOO_LONG`.
+#[unsafe(no_mangle)]
+pub extern "C" fn nodejs_semver_version_compare_build(
+    reading: u32,
+    version: &[u8],
+    other: &[u8],
+    order: &mut i32,
+) -> u32
+    ensures { let kept = order.new ≡ order.old in
+        OnVersion reading version.now result kept (λ v.
+        OnVersion reading other.now result kept (λ w.
+        (result ≡ OK) × (order.new ≡ order_number (build_order v w)))) }
+{
+    let version = match read::version(reading, version) {
+        Ok(version) => version,
+        Err(status) => return status,
+    };
+    let other = match read::version(reading, other) {
+        Ok(other) => other,
+        Err(status) => return status,
+    };
+    *order = number_of(cmp_build(&version, &other));
+    OK
+}
+
+pub fn number_of(order: Ordering) -> i32
     ensures { result ≡ order_number order }
 {
     match order {
@@ -122,7 +152,7 @@ pub extern "C" fn nodejs_semver_version_diff(
     OK
 }
 
-fn kind_of(kind: Option<VersionDiff>) -> u32
+pub fn kind_of(kind: Option<VersionDiff>) -> u32
     ensures { result ≡ kind_number kind }
 {
     match kind {

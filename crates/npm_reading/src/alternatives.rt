@@ -1,27 +1,19 @@
 // What an alternative of a range text accepts: the interval that its comparators have in common.
 
-ghost use Rattle.std.specs.Prelude.{◌&&◌, ◌+◌, ◌∷◌, ◌≡◌};
-ghost use Rattle.nodejs_semver.specs.Words.{Bool, IfSome, List, MAX_SAFE_INTEGER};
-ghost use Rattle.npm_words.specs.Words.{Comparison};
-ghost use Rattle.nodejs_semver.specs.Words.{None, [], false};
-ghost use Rattle.nodejs_semver.specs.Words.{interval, is_empty, is_range_span, list_all, list_any};
-ghost use Rattle.nodejs_semver.specs.Words.{bounds_view, precedence, true};
-ghost use Rattle.npm_reading.specs.Internal.Alternatives.{NarrowedBy};
-ghost use Rattle.npm_words.specs.Internal.Alternatives.{met};
-ghost use Rattle.npm_reading.specs.Internal.Alternatives.{ranged};
-ghost use Rattle.npm_words.specs.Internal.Meaning.{AreRead};
-ghost use Rattle.npm_words.specs.Internal.Meaning.{IsNarrowed};
-ghost use Rattle.npm_words.specs.Internal.Meaning.{is_unbounded};
-ghost use Rattle.npm_words.specs.Internal.Parts.{are_normal};
-ghost use Rattle.npm_words.specs.Internal.Parts.{has_no_comparators, is_wildcard};
-ghost use Rattle.npm_words.specs.Internal.Parts.{npm_partial_view, npm_sign_view};
-ghost use Rattle.npm_words.specs.Table.{table};
+ghost use Rattle.nodejs_semver.specs.Words.{Bool, IfSome, List, None, [], false, interval};
+ghost use Rattle.nodejs_semver.specs.Words.{is_empty, list_any, true};
+ghost use Rattle.npm_reading.specs.Internal.Alternatives.{NarrowedBy, ranged};
+ghost use Rattle.npm_words.specs.Internal.{Alternatives.met, Meaning.{AreRead, IsNarrowed}};
+ghost use Rattle.npm_words.specs.Internal.{Meaning.is_unbounded, Parts.are_normal};
+ghost use Rattle.npm_words.specs.Internal.Parts.{has_no_comparators, npm_partial_view};
+ghost use Rattle.npm_words.specs.{Internal.Parts.npm_sign_view, Table.table, Words.Comparison};
+ghost use Rattle.std.specs.Prelude.{◌&&◌, ◌∷◌, ◌≡◌};
 
 use nodejs_semver::RangeRef;
 use npm_words::pieces::{Partial, Sign, row};
 use semver_core::VersionRef;
 use semver_core::cuts::{Bound, Interval};
-use semver_core::scan::pieces::{Bounds, Comparator, Intervals, lowest};
+use semver_pieces::{Bounds, Comparator, Intervals, lowest};
 use smallvec::SmallVec;
 use std::alloc::Global;
 
@@ -30,9 +22,9 @@ use std::alloc::Global;
 /// and its last word are ignored.
 #[derive(Drop)]
 pub(crate) struct Alternative<'a> {
-    interval: Option<Interval<VersionRef<'a>>>,
+    pub(crate) interval: Option<Interval<VersionRef<'a>>>,
     is_bare: bool,
-    is_lost: bool,
+    pub(crate) is_lost: bool,
 }
 
 // What two intervals have in common.
@@ -46,14 +38,6 @@ fn common<'a>(
     first?.into_intersection(second?).ok()
 }
 
-// Whether a partial is a wildcard.
-#[inline(always)]
-fn is_wildcard(partial: &Partial<'_>) -> bool
-    ensures { result ≡ is_wildcard (npm_partial_view partial.now) }
-{
-    matches!(partial, Partial::Wildcard)
-}
-
 // Whether a word of a sign and a partial has no comparators.
 #[inline(always)]
 fn has_no_comparators(sign: Sign, partial: &Partial<'_>) -> bool
@@ -61,7 +45,7 @@ fn has_no_comparators(sign: Sign, partial: &Partial<'_>) -> bool
 {
     match sign {
         Sign::Compared(Comparator::Above | Comparator::Below) => false,
-        _ => is_wildcard(partial),
+        _ => matches!(partial, Partial::Wildcard),
     }
 }
 
@@ -112,22 +96,12 @@ impl<'a> Alternative<'a> {
         ensures bare { IfSome result (λ a. a.is_bare ≡ (self.entry.is_bare && is_bare)) }
         ensures lost { IfSome result (λ a. a.is_lost ≡ self.entry.is_lost) }
     {
-        Some(self.narrow(read?, is_bare))
-    }
-
-    // The alternative with bounds that more comparators have in common, or that none has.
-    #[inline(always)]
-    fn narrow(self, bounds: Bounds<'a>, is_bare: bool) -> Alternative<'a>
-        ensures bounds { result.interval
-            ≡ met self.entry.interval (interval precedence (bounds_view bounds.entry)) }
-        ensures bare { result.is_bare ≡ (self.entry.is_bare && is_bare) }
-        ensures lost { result.is_lost ≡ self.entry.is_lost }
-    {
-        Alternative {
+        let bounds = read?;
+        Some(Alternative {
             interval: common(self.interval, Interval::new(bounds.lower, bounds.upper)),
             is_bare: self.is_bare && is_bare,
             is_lost: self.is_lost,
-        }
+        })
     }
 
     /// The alternative at its end: lost if it is bare and its ends are ignored.
@@ -140,20 +114,6 @@ impl<'a> Alternative<'a> {
             is_bare: self.is_bare,
             is_lost: self.is_bare && are_ends_ignored,
         }
-    }
-
-    /// Whether it is no alternative.
-    pub(crate) fn is_lost(&self) -> bool
-        ensures { result ≡ self.now.is_lost }
-    {
-        self.is_lost
-    }
-
-    /// The interval, where the cuts meet.
-    pub(crate) fn interval(self) -> Option<Interval<VersionRef<'a>>>
-        ensures { result ≡ self.entry.interval }
-    {
-        self.interval
     }
 }
 

@@ -1,16 +1,15 @@
 // The reader of common range texts as node-semver's strict reading has them, in one pass from the
 // left.
 
-ghost use Rattle.std.specs.Prelude.{◌++◌, ◌<◌, ◌∷◌, ◌≡◌, IfOk, IfSome, List, Some, [], false, true};
-ghost use Rattle.std.specs.Prelude.{ℕ};
-ghost use Rattle.nodejs_semver.specs.Words.{Bool, bounds_view, comparator_view, has_bars, interval};
-ghost use Rattle.nodejs_semver.specs.Words.{is_interval, IsTrue, length, MAX_SAFE_INTEGER, OnErr};
-ghost use Rattle.nodejs_semver.specs.Words.{OnOk, option_to_list, precedence, rest_view};
+ghost use Rattle.nodejs_semver.specs.Words.{Bool, IsTrue, OnErr, OnOk, bounds_view};
+ghost use Rattle.nodejs_semver.specs.Words.{comparator_view, has_bars, interval, is_interval};
+ghost use Rattle.nodejs_semver.specs.Words.{length, option_to_list, precedence, rest_view};
 ghost use Rattle.npm_reading.specs.Internal.Fronts.{AreJoined, AreParts, IsLeft, IsPartAt};
 ghost use Rattle.npm_reading.specs.Internal.Fronts.{IsSignAt, IsTried, IsWordAt, is_below};
-ghost use Rattle.npm_words.specs.Internal.Parts.{npm_partial_view, npm_sign_view};
-ghost use Rattle.npm_words.specs.Internal.Words.{limited, places_front};
-ghost use Rattle.npm_words.specs.Table.{compared};
+ghost use Rattle.npm_words.specs.Internal.{Parts.{npm_partial_view, npm_sign_view}, Words.limited};
+ghost use Rattle.npm_words.specs.{Internal.Words.places_front, Table.compared};
+ghost use Rattle.std.specs.Prelude.{IfOk, IfSome, List, Some, [], false, true, ℕ, ◌++◌, ◌<◌, ◌∷◌};
+ghost use Rattle.std.specs.Prelude.{◌≡◌};
 
 use crate::Allocated;
 use npm_words::pieces::{
@@ -18,7 +17,7 @@ use npm_words::pieces::{
 };
 use semver_core::VersionRef;
 use semver_core::cuts::{Bound, Interval};
-use semver_core::scan::pieces::{
+use semver_pieces::{
     Bounds, Comparator, Found, Intervals, after_bars, dotted_number, number_front, release,
 };
 
@@ -65,20 +64,6 @@ fn after_numbers(text: &[u8]) -> Option<&[u8]>
     }
 }
 
-// The wildcard at the front, and what follows it, where the text ends there or goes on with a space
-// or a bar.
-#[inline(always)]
-fn wildcard_front(text: &[u8]) -> Option<(Partial<'_>, &[u8])>
-    ensures { IfSome result (λ p. Some (npm_partial_view p.0, p.1.now)
-        ≡ limited (places_front false text.now)) }
-{
-    if matches!(text, [b'x' | b'X' | b'*', ..]) && is_over(&text[1..]) {
-        Some((Partial::Wildcard, &text[1..]))
-    } else {
-        None
-    }
-}
-
 // The partial at the front, and what follows it, where it has no identifiers, stands alone or
 // begins with a number, and the text ends behind it or goes on with a space or a bar.
 #[inline(always)]
@@ -88,7 +73,10 @@ fn short_front(text: &[u8]) -> Option<(Partial<'_>, &[u8])>
         ≡ limited (places_front false text.now)) }
 {
     let Some((major, rest)) = number_front(false, text) else {
-        return wildcard_front(text);
+        if matches!(text, [b'x' | b'X' | b'*', ..]) && is_over(&text[1..]) {
+            return Some((Partial::Wildcard, &text[1..]));
+        }
+        return None;
     };
     let Some((minor, rest)) = dotted_number(false, rest) else {
         return Some((Partial::Major(major), after_numbers(rest)?));
@@ -110,13 +98,8 @@ fn word(include: bool, text: &[u8]) -> Option<(Bounds<'_>, &[u8])>
 {
     let (sign, behind) = sign_front(text);
     let (partial, rest) = partial_front(false, behind)?;
-    let bounds = row_of_zeros(
-        include,
-        partial.zeros(),
-        sign,
-        &partial,
-        &behind[..behind.len() - rest.len()],
-    )?;
+    let piece = &behind[..behind.len() - rest.len()];
+    let bounds = row_of_zeros(include, partial.zeros(), sign, &partial, piece)?;
     Some((bounds, rest))
 }
 
@@ -128,13 +111,8 @@ fn comparison(include: bool, text: &[u8]) -> Option<(Bounds<'_>, &[u8])>
 {
     let (comparator, behind) = comparator_front(text);
     let (partial, rest) = short_front(behind)?;
-    let bounds = compared(
-        include,
-        false,
-        comparator,
-        &partial,
-        &behind[..behind.len() - rest.len()],
-    )?;
+    let piece = &behind[..behind.len() - rest.len()];
+    let bounds = compared(include, false, comparator, &partial, piece)?;
     Some((bounds, rest))
 }
 

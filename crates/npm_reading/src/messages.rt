@@ -1,10 +1,9 @@
 // How the flaws of version texts and of range texts print.
 
-ghost use Rattle.std.specs.Prelude.{Some};
-ghost use Rattle.npm_reading.specs.Messages.{range_flaw_text};
+ghost use Rattle.{npm_reading.specs.Messages.range_flaw_text, std.specs.Prelude.Some};
 
 use crate::range_flaws::RangeFlaw;
-use semver_core::scan::pieces::write_at;
+use semver_pieces::write_at;
 use std::fmt;
 
 /// A flaw prints as a message with its place, as in `malformed word at bytes 8 to 16`. Width,

@@ -1,16 +1,15 @@
 // Which part of a range text node-semver's strict reading rejects.
 
-ghost use Rattle.std.specs.Prelude.{◌+◌, ◌↔◌, ◌≡◌, ◌≤◌};
-ghost use Rattle.npm_words.specs.Words.{Comparison};
-ghost use Rattle.nodejs_semver.specs.Words.{IfSome, IsAfterBlank, IsTrim, List};
-ghost use Rattle.nodejs_semver.specs.Words.{MAX_SAFE_INTEGER, None, Some, false, length};
+ghost use Rattle.nodejs_semver.specs.Words.{IfSome, IsAfterBlank, IsTrim, List, MAX_SAFE_INTEGER};
+ghost use Rattle.nodejs_semver.specs.Words.{None, Some, false, length};
 ghost use Rattle.npm_reading.specs.RangeFlaws.{IsRangeFlaw};
-ghost use Rattle.npm_words.specs.Alternatives.{HasAlternativesIn};
+ghost use Rattle.npm_words.specs.{Alternatives.HasAlternativesIn, Words.Comparison};
+ghost use Rattle.std.specs.Prelude.{◌+◌, ◌↔◌, ◌≡◌, ◌≤◌};
 
 use crate::ranges::alternative;
 use npm_words::pieces::malformed_part;
 use semver_core::scan;
-use semver_core::scan::pieces::cut_part;
+use semver_pieces::cut_part;
 
 /// An alternative of a range text that is malformed, and its first malformed word, or end of a
 /// hyphen range. A place is a byte index.

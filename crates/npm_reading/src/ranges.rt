@@ -1,31 +1,26 @@
 // The reader of range texts as node-semver has them, strictly or loosely.
 
-ghost use Rattle.std.specs.{Prelude.{◌&&◌, ◌<◌, ◌≡◌, []}, Str.IsUtf8};
-ghost use Rattle.npm_words.specs.Words.{Comparison, HasAlternativesIn};
-ghost use Rattle.nodejs_semver.specs.Words.{IfOk, IsCutAtBars, List};
-ghost use Rattle.nodejs_semver.specs.Words.{IsRange, MAX_SAFE_INTEGER, MemoryOnlyIf, NoValue};
-ghost use Rattle.nodejs_semver.specs.Words.{None, OnOk, RefusedOnlyIf, false, length, parts};
-ghost use Rattle.nodejs_semver.specs.Words.{Some, true, ℕ};
-ghost use Rattle.npm_words.specs.Internal.Parts.{are_normal, npm_partial_view};
-ghost use Rattle.npm_words.specs.Internal.Views.{end_view};
+ghost use Rattle.nodejs_semver.specs.Words.{IfOk, IsCutAtBars, IsRange, List, MAX_SAFE_INTEGER};
+ghost use Rattle.nodejs_semver.specs.Words.{MemoryOnlyIf, NoValue, None, OnOk, RefusedOnlyIf, Some};
+ghost use Rattle.nodejs_semver.specs.Words.{VersionValue, false, length, parts, true, ℕ};
+ghost use Rattle.npm_reading.specs.Internal.Reads.{AddsPart, IsFound, IsStep, first_valid};
+ghost use Rattle.npm_reading.specs.{Internal.Reads.{valid_alternative, words_of}, Ranges.IsRangeIn};
+ghost use Rattle.{npm_reading.specs.Readings.OfAccepted, npm_words.specs.Internal.Parts.are_normal};
+ghost use Rattle.npm_words.specs.Internal.{Parts.npm_partial_view, Reads.valid_one, Views.end_view};
 ghost use Rattle.npm_words.specs.Internal.Words.{hyphen_of, words_of_all};
-ghost use Rattle.npm_reading.specs.Internal.Reads.{AddsPart, AreAllFound, IsFound};
-ghost use Rattle.npm_reading.specs.Internal.Reads.{IsStep, first_valid, valid_alternative};
-ghost use Rattle.npm_words.specs.Internal.Reads.{valid_one};
-ghost use Rattle.npm_reading.specs.Internal.Reads.{valid_range, words_of};
+ghost use Rattle.npm_words.specs.Words.{HasAlternativesIn};
 ghost use Rattle.semver_core.specs.Internal.Reading.{◌>>?◌};
-ghost use Rattle.npm_reading.specs.Ranges.{IsRangeIn};
-ghost use Rattle.npm_reading.specs.Readings.{OfAccepted};
+ghost use Rattle.std.specs.Prelude.{[], ◌&&◌, ◌<◌, ◌≡◌};
+ghost use Rattle.std.specs.Str.{IsUtf8};
 ghost use Rattle.nodejs_semver.specs.Ranges.Gate as Gate;
-ghost use Rattle.nodejs_semver.specs.Words.{VersionValue};
 
 use crate::alternatives::{Alternative, set_ranged};
 use crate::common::read_common;
 use nodejs_semver::RangeRef;
 use npm_words::Reading;
 use npm_words::pieces::{End, Side, behind_ignored, hyphen_ends, is_short, word_front};
-use semver_core::scan::pieces::{Found, Intervals, next_part, skip_spaces};
 use semver_core::{Failure, MAX_SAFE_INTEGER, SemverError, VersionRef};
+use semver_pieces::{Found, Intervals, next_part, skip_spaces};
 use smallvec::SmallVec;
 use std::alloc::Global;
 
@@ -120,43 +115,16 @@ fn add_part<'a>(
     let Some(read) = alternative(loose, include, text.as_bytes()) else {
         return Err(Failure::Refused(SemverError));
     };
-    if read.is_lost() {
+    if read.is_lost {
         return Ok(is_some);
     }
-    if let Some(interval) = read.interval() {
+    if let Some(interval) = read.interval {
         found.add(interval)?;
     }
     Ok(true)
 }
 
-// Fills a list with the intervals of the alternatives of a text. One cursor goes through it.
-fn intervals<'a>(
-    loose: bool,
-    include: bool,
-    text: &'a str,
-    found: &mut Intervals<VersionRef<'a>>,
-) -> Result<(), Failure<SemverError>>
-    ensures ok { OnOk result
-        (AreAllFound include (valid_range loose include text.now) found.new.items) }
-    ensures refused { RefusedOnlyIf result (valid_range loose include text.now ≡ None) }
-    ensures memory { MemoryOnlyIf result (1 < length (parts text.now)) }
-{
-    found.clear();
-    let mut is_some = false;
-    let mut rest = Some(text);
-    'parts: while let Some(text) = rest {
-        let (part, after) = next_part(text);
-        is_some = add_part(loose, include, part, is_some, found)?;
-        rest = after;
-    }
-    if is_some {
-        Ok(())
-    } else {
-        Err(Failure::Refused(SemverError))
-    }
-}
-
-// Fills a list with the intervals of the range of any text.
+// Fills a list with the intervals of the range of any text. One cursor goes through it.
 #[inline(never)]
 fn fill_any<'a>(
     alloc: Global,
@@ -172,9 +140,20 @@ fn fill_any<'a>(
     ensures memory { MemoryOnlyIf result ((pieces : List (List ℕ)) →
         IsCutAtBars text.now pieces → 1 < length pieces) }
 {
-    intervals(loose, include, text, found)?;
-    set_ranged(alloc, found);
-    Ok(())
+    found.clear();
+    let mut is_some = false;
+    let mut rest = Some(text);
+    'parts: while let Some(text) = rest {
+        let (part, after) = next_part(text);
+        is_some = add_part(loose, include, part, is_some, found)?;
+        rest = after;
+    }
+    if is_some {
+        set_ranged(alloc, found);
+        Ok(())
+    } else {
+        Err(Failure::Refused(SemverError))
+    }
 }
 
 // Fills an empty list with the intervals of the range of a text. Most texts are common ones.

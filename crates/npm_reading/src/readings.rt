@@ -1,12 +1,11 @@
 // Ranges with how they were read, by which they are asked.
 
-ghost use Rattle.std.specs.Prelude.{◌<◌, ◌≡◌};
-ghost use Rattle.npm_words.specs.Words.{Comparison};
 ghost use Rattle.nodejs_semver.specs.Words.{IfOk, IsCutAtBars, IsMax, IsMin, List};
 ghost use Rattle.nodejs_semver.specs.Words.{MAX_SAFE_INTEGER, MemoryOnlyIf, NoValue, RefusedOnlyIf};
 ghost use Rattle.nodejs_semver.specs.Words.{VersionValue, length, map, option_map, ℕ};
-ghost use Rattle.npm_reading.specs.Ranges.{IsRangeIn};
-ghost use Rattle.npm_reading.specs.Readings.{HasAlternativesAs, OfAccepted};
+ghost use Rattle.npm_reading.specs.{Ranges.IsRangeIn, Readings.{HasAlternativesAs, OfAccepted}};
+ghost use Rattle.npm_words.specs.Words.{Comparison};
+ghost use Rattle.std.specs.Prelude.{◌<◌, ◌≡◌};
 ghost use Rattle.nodejs_semver.specs.Ranges.Gate as Gate;
 
 use crate::ranges::range;

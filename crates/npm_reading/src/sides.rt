@@ -1,8 +1,8 @@
 // Versions above and below a range, by name.
 
 ghost use Rattle.nodejs_semver.specs.Ranges.Outside.{is_outside};
-ghost use Rattle.nodejs_semver.specs.declared.range.outside.OutsideDirection.TheVariants as side;
 ghost use Rattle.std.specs.Prelude.{◌≡◌};
+ghost use Rattle.nodejs_semver.specs.declared.range.outside.OutsideDirection.TheVariants as side;
 
 use nodejs_semver::{OutsideDirection, RangeOf};
 use semver_core::{VersionPoint, Versioned};

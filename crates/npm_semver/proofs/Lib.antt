@@ -11,6 +11,8 @@ pub mod Once
 pub mod Again
 pub mod OneQuestion
 pub mod Answered
+pub mod Keyed
+pub mod Spans
 pub mod ToldOf
 pub mod Outcomes
 pub mod Texts

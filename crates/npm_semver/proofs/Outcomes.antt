@@ -12,7 +12,7 @@ use Rattle.npm_semver.specs.declared.command.Command.TheVariants as Commands
 use Rattle.npm_semver.specs.declared.command.Outcome.{Outcome as Made}
 use Rattle.npm_semver.specs.declared.question.Request.{Request}
 use Rattle.npm_semver.specs.declared.subcommands.Subcommand.{Subcommand}
-use Rattle.npm_semver.specs.declared.subcommands.Subcommand.TheVariants.{Compare, Diff, Next, Range, Least, Explain}
+use Rattle.npm_semver.specs.declared.subcommands.Subcommand.TheVariants.{Compare, Diff, Next, Range, Least, Explain, Get, Valid, Key, Unkey, Spans, Sql, Help, About}
 use Rattle.std.proofs.Common.{◌≡◌, ◌∷◌, ◌++◌, [], ℕ, true, false, List, Option, Some, None, is_some, option_map, refl, if◌then◌else◌, Result, Ok, Err, IfOk, Bor, Global, String, map, string_bytes}
 use Rattle.std.specs.Str.Lines.{lines}
 use Rattle.std.specs.declared.alloc.AllocError.{AllocError}
@@ -28,6 +28,14 @@ names Next words = refl
 names Range words = refl
 names Least words = refl
 names Explain words = refl
+names Get words = refl
+names Valid words = refl
+names Key words = refl
+names Unkey words = refl
+names Spans words = refl
+names Sql words = refl
+names Help words = refl
+names About words = refl
 
 -- lines change nothing of why
 why_once : (input : List ℕ) (asked : Option Asked) → tells_why asked ≡ false → tells_why (option_map (with_lines input) asked) ≡ false
@@ -35,7 +43,7 @@ why_once input None e = refl
 why_once input (Some q) e = elim q.reads_input as (λ b. (if b then record q { versions = q.versions ++ lines input } else q).is_why ≡ false) [ true ↦ e | false ↦ e ]
 
 pub said_outcome : (arguments words : List (List ℕ)) (name : Subcommand) (input : List ℕ) (said : Said) (output errors : List ℕ) (status : ℕ)
-    → arguments ≡ name_of name ∷ words → IsReply (name_of name ∷ words) said
+    → arguments ≡ name_of name ∷ words → IsReply input (name_of name ∷ words) said
     → IsSaid said (record { output = output; errors = errors; status = status })
     → IsOutcome arguments input (record { output = output; errors = errors; status = status })
 said_outcome arguments words name input (say out trouble code) output errors status e is (same, told, exits) =
@@ -51,7 +59,7 @@ written_outcome arguments input reasons asked lined w output errors status none 
 
 module _ (r : Result Made AllocError) (input : List ℕ) (command : Command) where
   pub subcommand_outcome : (name : Subcommand) (words : Bor (List (String Global))) (said : Said) → command ≡ Commands.Subcommand name words
-      → IsReply (name_of name ∷ map string_bytes words.now) said → IfOk r (λ o. IsSaid said (outcome o))
+      → IsReply input (name_of name ∷ map string_bytes words.now) said → IfOk r (λ o. IsSaid said (outcome o))
       → IfOk r (λ o. (arguments : List (List ℕ)) → IsCommand arguments command → IsOutcome arguments input (outcome o))
   subcommand_outcome name words said e is h = elim r as (λ k. IfOk k (λ o. IsSaid said (outcome o))
       → IfOk k (λ o. (arguments : List (List ℕ)) → IsCommand arguments command → IsOutcome arguments input (outcome o))) [

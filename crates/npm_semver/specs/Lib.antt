@@ -4,6 +4,7 @@ pub mod Readings
 pub mod Listing
 pub mod Responses
 pub mod Reasons
+pub mod Spans
 pub mod Subcommands
 pub mod Outcomes
 pub mod Internal

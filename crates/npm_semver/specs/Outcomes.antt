@@ -26,7 +26,7 @@ has_subcommand arguments = is_subcommand (unwrap_or (value arguments) [])
 -- it is told why texts are left out, if that is asked
 pub data IsOutcome (arguments : List (List ℕ)) (input : List ℕ) : Outcome → Type 0 where
   subcommand : (output errors : List ℕ) (trouble : Option Trouble) (status : Status)
-      → has_subcommand arguments ≡ true → IsReply arguments (say output trouble status)
+      → has_subcommand arguments ≡ true → IsReply input arguments (say output trouble status)
       → IsTold (is_some trouble) errors → IsOutcome arguments input
       (record { output = output; errors = errors; status = exit_status status })
   response : (asked : Option Asked) (written : Written) (reasons errors : List ℕ)

@@ -92,7 +92,7 @@ impl<'a> Command<'a> {
         ensures { result ≡ Internal.reads_input self.now }
     {
         match self {
-            Command::Subcommand(..) => false,
+            Command::Subcommand(subcommand, words) => subcommand.takes_input(words),
             Command::Request(request) => request.reads_input(),
         }
     }
@@ -104,7 +104,7 @@ impl<'a> Command<'a> {
     {
         match self {
             Command::Subcommand(subcommand, words) => {
-                Outcome::of_reply(alloc, subcommand.reply(alloc, words)?)
+                Outcome::of_reply(alloc, subcommand.reply(alloc, words, input)?)
             }
             Command::Request(request) => {
                 let request = request.with_lines(alloc, input)?;

@@ -9,6 +9,13 @@ usage: semver [options] <version>...
        semver range <range> [and|minus|within <range>]
        semver least <range>...
        semver explain <range>
+       semver get major|minor|patch|prerelease|build <version>
+       semver valid <version>
+       semver key <version>... | semver key -
+       semver unkey <key>...
+       semver spans <range>
+       semver sql <range> <column> [--dialect sqlite|postgres|duckdb|mysql]
+       semver help | semver about
 
   -r, --range <range>         print only versions that the range accepts; of several ranges, all
   -p, --include-prerelease    let ranges accept every pre-release within their bounds

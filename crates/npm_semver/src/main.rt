@@ -3,6 +3,7 @@
 #![tactic(auto)]
 
 mod arguments;
+mod caret;
 mod command;
 mod entry;
 mod help;

@@ -206,7 +206,8 @@ impl<'a> Question<'a> {
     }
 }
 
-fn lines_of(alloc: Global, input: &str) -> Result<Vec<&str>, AllocError>
+/// The lines of the input.
+pub fn lines_of(alloc: Global, input: &str) -> Result<Vec<&str>, AllocError>
     ensures { IfOk result (λ found. texts found.items ≡ lines input.now) }
 {
     input.lines().collect(alloc)

@@ -355,15 +355,19 @@ fn write_bare(version: &VersionRef<'_>, output: &mut String) -> Result<(), Alloc
 {
     let (major, minor, patch) = (version.major(), version.minor(), version.patch());
     write!(output, "{major}.{minor}.{patch}")?;
-    write_pre_release(version.pre_release(), output)
+    write_marked("-", version.pre_release(), output)
 }
 
-// Writes `-` and identifiers joined by dots, or nothing where there are none.
-fn write_pre_release(ids: IdentifierRefs<'_>, output: &mut String) -> Result<(), AllocError>
+/// Writes a mark and identifiers joined by dots, or nothing where there are none.
+pub fn write_marked(
+    first: &'static str,
+    ids: IdentifierRefs<'_>,
+    output: &mut String,
+) -> Result<(), AllocError>
     ensures { OnOk result (string_bytes output.new
-        ≡ string_bytes output.old ++ marked_list (45 ∷ []) ids.entry) }
+        ≡ string_bytes output.old ++ marked_list first.now ids.entry) }
 {
-    let mut mark = "-";
+    let mut mark = first;
     let mut others = ids;
     'ids: while let Some(id) = others.next() {
         write!(output, "{mark}{id}")?;

@@ -2,11 +2,10 @@
 
 ghost use Rattle.std.specs.Prelude.{◌≡◌, [], IfOk, false, string_bytes};
 
+use crate::caret::Marked;
 use crate::listing::Texts;
 use crate::question::Question;
 use crate::reading::ReadOptions;
-use nodejs_semver::diagnosis::{VersionFlaw, version_flaw};
-use semver_core::scan;
 use std::alloc::{AllocError, Global};
 use std::marker::Model;
 
@@ -61,92 +60,12 @@ fn write_told(
     output: &mut String,
 ) -> Result<(), AllocError> {
     let text = reason.text;
-    match reason.kind {
-        Kind::NoRange => write_reason("no range", text, 0, text.len(), output),
-        Kind::NotAccepted => {
-            write_reason("not accepted by each range", text, 0, text.len(), output)
-        }
-        Kind::NoVersion if reading.is_coerced => {
-            write_reason("no version is found", text, 0, text.len(), output)
-        }
-        Kind::NoVersion => write_no_version(scan::trim(text), output),
-    }
-}
-
-// What the lenient reading finds wrong, or if it finds nothing, what the strict one does.
-fn write_no_version(text: &str, output: &mut String) -> Result<(), AllocError> {
-    let end = text.len();
-    match version_flaw(text) {
-        None => write_reason(
-            "a leading zero, a mark `V`, whitespace behind a mark, or no - before a pre-release",
-            text,
-            0,
-            end,
-            output,
-        ),
-        Some(VersionFlaw::TooLong) => write_reason("longer than 256 bytes", text, 0, end, output),
-        Some(VersionFlaw::NumberTooGreat { at }) => {
-            write_reason("a number above 9007199254740991", text, at, at, output)
-        }
-        Some(VersionFlaw::Expected { at, .. }) => {
-            write_reason("a digit or a dot is expected", text, at, at, output)
-        }
-        Some(VersionFlaw::Ignored { at }) => {
-            write_reason("text behind a version", text, at, end, output)
-        }
-    }
-}
-
-// Writes a reason, the text, and carets under its bytes between two places, or under the first.
-fn write_reason(
-    reason: &str,
-    text: &str,
-    start: usize,
-    end: usize,
-    output: &mut String,
-) -> Result<(), AllocError> {
-    write!(output, "semver: {reason}\n  ")?;
-    for letter in text.chars() {
-        write_shown(letter, output)?;
-    }
-    output.push_str("\n  ")?;
-    for (at, letter) in text.char_indices() {
-        if at < start {
-            write_times(' ', shown_len(letter), output)?;
-        } else if at == start || at < end {
-            write_times('^', shown_len(letter), output)?;
-        }
-    }
-    if start >= text.len() {
-        output.push('^')?;
-    }
-    output.push('\n')
-}
-
-fn is_plain(letter: char) -> bool {
-    matches!(letter, ' '..='~') && letter != '\\'
-}
-
-fn write_shown(letter: char, output: &mut String) -> Result<(), AllocError> {
-    if is_plain(letter) {
-        output.push(letter)
-    } else {
-        write!(output, "{}", letter.escape_unicode())
-    }
-}
-
-// How many characters a character is written as.
-fn shown_len(letter: char) -> usize {
-    if is_plain(letter) {
-        1
-    } else {
-        letter.escape_unicode().count()
-    }
-}
-
-fn write_times(letter: char, times: usize, output: &mut String) -> Result<(), AllocError> {
-    for _ in 0..times {
-        output.push(letter)?;
-    }
-    Ok(())
+    let marked = match reason.kind {
+        Kind::NoRange if reading.is_loose => Marked::whole("no range", text),
+        Kind::NoRange => Marked::no_range(text, reading.include_prerelease),
+        Kind::NotAccepted => Marked::whole("not accepted by each range", text),
+        Kind::NoVersion if reading.is_coerced => Marked::whole("no version is found", text),
+        Kind::NoVersion => Marked::no_version(text),
+    };
+    writeln!(output, "semver: {marked}")
 }

@@ -22,14 +22,16 @@ pub use Rattle.semver_core.proofs.Text.{Spaces.space_len-nil, Texts.bind_some, T
 pub use Rattle.semver_core.specs.Cuts.{Span, greater_lower, holds, interval, is_interval, is_past, lesser_upper, lower_cut, upper_cut}
 pub use Rattle.semver_core.specs.{Failures.NoValue, Internal.Fronts.{Front, after_byte, begins_byte, begins_identifier, begins_padded}}
 pub use Rattle.semver_core.specs.Internal.{Fronts.{begins_wildcard, number_front}, OrderLaws.precedence_total, Reading.◌>>?◌, Spaces.drop_spaces}
-pub use Rattle.semver_core.specs.{Internal.{Spaces.trim, Views.bounds_view}, Lists.is_empty, Printing.{RoundTrip.is_readable, Text.id_text}}
+pub use Rattle.semver_core.specs.{Internal.Spaces.trim, Lists.is_empty, Printing.{RoundTrip.is_readable, Text.id_text}}
+pub use Rattle.semver_pieces.specs.Internal.Views.{bounds_view}
 pub use Rattle.semver_core.specs.{Printing.Text.{marked_list, version_text}, Text.{Bars.{IsCutAtBars, more_pieces, one_piece}, Characters.IsBlank}}
 pub use Rattle.semver_core.specs.Text.Characters.{IsPieceAt, IsTrim, NoPieceAt, begins, ends, is_identifier_char, is_whitespace}
 pub use Rattle.semver_core.specs.Text.{Comparators.{Comparator, above, at_least, at_most, below, equal}, Identifiers.{AlphaNumeric, Id}}
 pub use Rattle.semver_core.specs.Text.{Identifiers.{IsIdentifiers, Numeric, goes_on, identifier_of, is_identifier, pieces}, Numbers.IsNumber}
 pub use Rattle.semver_core.specs.{Text.Numbers.IsWholeNumber, Values.{Gate.{is_range_bound, lets_in}, Order.precedence, Versions.VersionValue}}
 pub use Rattle.semver_core.specs.{Values.Versions.{is_release, release_value}, declared.TheConstants.{MAX_LENGTH, MAX_SAFE_INTEGER}}
-pub use Rattle.semver_core.specs.declared.{cuts.bound.Bound.{Bound, TheVariants.{After, Before, Unbounded}}, scan.pieces.bounds.Bounds.Bounds}
+pub use Rattle.semver_core.specs.declared.cuts.bound.Bound.{Bound, TheVariants.{After, Before, Unbounded}}
+pub use Rattle.semver_pieces.specs.declared.bounds.Bounds.{Bounds}
 pub use Rattle.std.proofs.Common.{Bool, IfNone, IfSome, IsUtf8, List, None, Option, Ordering, Some, [], ap, append-nil, append_assoc, ap₂, arith}
 pub use Rattle.std.proofs.Common.{codes, decimal, drop, encode_utf8_all, eqb, false, get_or, if◌then◌else◌, inl, inr, is_eq, is_gt, is_lt, is_some}
 pub use Rattle.std.proofs.Common.{length, length-append, length-drop, length-take-le, lit<, lit≤, map, nat_lt, not, option_map, refl, rules, subst}

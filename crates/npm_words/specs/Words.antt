@@ -5,7 +5,8 @@ pub use Rattle.npm_words.specs.VersionText.{IsVersionText}
 pub use Rattle.semver_core.specs.Failures.{NoValue}
 pub use Rattle.semver_core.specs.Internal.Fronts.{front_view}
 pub use Rattle.semver_core.specs.Internal.Spaces.{drop_spaces}
-pub use Rattle.semver_core.specs.Internal.Views.{bounds_view, comparator_view, pair_view, rest_view}
+pub use Rattle.semver_core.specs.Internal.Views.{pair_view, rest_view}
+pub use Rattle.semver_pieces.specs.Internal.Views.{bounds_view, comparator_view}
 pub use Rattle.semver_core.specs.Printing.Text.{version_text}
 pub use Rattle.semver_core.specs.Text.Characters.{begins, is_identifier_char}
 pub use Rattle.semver_core.specs.Text.Identifiers.{is_listed}

@@ -1,9 +1,8 @@
 // Builds: the text of a build as it is written.
 
-ghost use Rattle.std.specs.{Prelude.{◌==◌, ◌≡◌, IfNone, IfSome}, List.after_first};
-ghost use Rattle.npm_words.specs.Words.{MAX_SAFE_INTEGER, NoValue};
-ghost use Rattle.npm_words.specs.Builds.{IsBuildText};
-ghost use Rattle.npm_words.specs.VersionText.{IsVersionTextIn};
+ghost use Rattle.npm_words.specs.{Builds.IsBuildText, VersionText.IsVersionTextIn};
+ghost use Rattle.{npm_words.specs.Words.{MAX_SAFE_INTEGER, NoValue}, std.specs.Prelude.IfNone};
+ghost use Rattle.std.specs.Prelude.{IfSome, ◌==◌};
 
 use crate::options::Reading;
 use crate::versions::version;

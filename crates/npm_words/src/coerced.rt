@@ -1,21 +1,19 @@
 // The version that a text has anywhere in it, as node-semver's `coerce` finds it.
 
-ghost use Rattle.std.specs.Prelude.{◌≡◌, ◌≤◌, ◌<◌, ◌+◌, ◌&&◌, ◌==◌, drop, take, false};
-ghost use Rattle.npm_words.specs.Words.{IfNone, IfSome, MAX_SAFE_INTEGER, NoValue};
-ghost use Rattle.npm_words.specs.Words.{begins, front_view, is_ascii_digit, is_listed, length};
-ghost use Rattle.npm_words.specs.Words.{Bool, List, pair_view, true, ℕ};
-ghost use Rattle.npm_words.specs.Internal.Tuples.{BeginsAfter, IsFirstPlace, IsLastPlace};
-ghost use Rattle.npm_words.specs.Internal.Tuples.{IsChosenPlace, IsStretch};
-ghost use Rattle.npm_words.specs.Coerced.{IsCoerced, IsCoercedBy, IsLeftmost};
-ghost use Rattle.npm_words.specs.Coerced.{begins_identifier_in, goes_on_in};
-ghost use Rattle.npm_words.specs.Grammar.{IsStrictNumber};
-ghost use Rattle.semver_core.specs.Text.Characters.{ends};
+ghost use Rattle.npm_words.specs.Coerced.{IsCoerced, IsCoercedBy, IsLeftmost, begins_identifier_in};
+ghost use Rattle.npm_words.specs.{Coerced.goes_on_in, Grammar.IsStrictNumber};
+ghost use Rattle.npm_words.specs.Internal.Tuples.{BeginsAfter, IsChosenPlace, IsFirstPlace};
+ghost use Rattle.npm_words.specs.{Internal.Tuples.{IsLastPlace, IsStretch}, Words.{Bool, IfNone}};
+ghost use Rattle.npm_words.specs.Words.{IfSome, List, MAX_SAFE_INTEGER, NoValue, begins};
+ghost use Rattle.npm_words.specs.Words.{front_view, is_ascii_digit, is_listed, length, pair_view};
+ghost use Rattle.{npm_words.specs.Words.{true, ℕ}, semver_core.specs.Text.Characters.ends};
+ghost use Rattle.std.specs.Prelude.{drop, false, take, ◌&&◌, ◌+◌, ◌<◌, ◌==◌, ◌≡◌, ◌≤◌};
 ghost use Rattle.npm_words.specs.Internal.Tuples as Spec;
 
 use crate::options::Coercion;
-use semver_core::scan::pieces::{begins_padded, digits_len, number_front};
-use semver_core::scan::{begins_identifier, is_identifier_char, pieces};
+use semver_core::scan::{begins_identifier, is_identifier_char};
 use semver_core::{MAX_LENGTH, MAX_SAFE_INTEGER, VersionRef};
+use semver_pieces::{begins_padded, digits_len, number_front};
 
 // How long the run of 1 to 16 digits at the front is, and 0 where none stands there.
 fn run_len(text: &[u8]) -> usize
@@ -151,17 +149,6 @@ impl Stretch {
     }
 }
 
-// Whether a text begins with a mark and an identifier, which may have to be strict.
-fn begins_marked(strict: bool, mark: u8, text: &[u8]) -> bool
-    ensures { result ≡ (begins (λ c. c == mark) text.now
-        && begins_identifier_in strict (drop 1 text.now)) }
-{
-    match text {
-        [first, rest @ ..] => *first == mark && begins_identifier_in(strict, rest),
-        [] => false,
-    }
-}
-
 // Where the list that follows a mark at a place ends: at that place, where none is included or
 // there.
 fn marked_end(
@@ -178,10 +165,11 @@ fn marked_end(
     ensures fits { result ≤ length text.now }
     ensures known { IsStretch strict text.now known.new }
 {
-    if included && begins_marked(strict, mark, &text[at..]) {
-        known.list_end(strict, text, at + 1)
-    } else {
-        at
+    match &text[at..] {
+        [first, rest @ ..] if included && *first == mark && begins_identifier_in(strict, rest) => {
+            known.list_end(strict, text, at + 1)
+        }
+        _ => at,
     }
 }
 
@@ -253,7 +241,7 @@ fn next_number(zeros: bool, text: &[u8]) -> Option<(u64, &[u8])>
     }
 }
 
-// The release that a tuple spells.
+// The version of a tuple, without its lists.
 #[tactic(auto, unfolding(crate::specs::Internal::Tuples::tuple_release))]
 fn release(zeros: bool, tuple: &[u8]) -> Option<VersionRef<'_>>
     ensures { result ≡ Spec.tuple_release zeros MAX_SAFE_INTEGER tuple.now }
@@ -261,7 +249,7 @@ fn release(zeros: bool, tuple: &[u8]) -> Option<VersionRef<'_>>
     let (major, rest) = number_front(zeros, tuple)?;
     let (minor, rest) = next_number(zeros, rest)?;
     let (patch, _) = next_number(zeros, rest)?;
-    Some(pieces::release(major, minor, patch))
+    Some(semver_pieces::release(major, minor, patch))
 }
 
 // How long `.0` for each number is that a tuple does not have.
@@ -295,8 +283,8 @@ fn version_front(included: bool, zeros: bool, text: &[u8]) -> Option<VersionRef<
 {
     let (tuple, behind) = text.split_at(tuple_len(text));
     let (pre_release, rest) = marked_list(included, true, b'-', behind);
-    let (build, rest) = marked_list(included, false, b'+', rest);
-    if text.len() - rest.len() + absent_len(tuple) > MAX_LENGTH {
+    let (build, behind) = marked_list(included, false, b'+', rest);
+    if text.len() - behind.len() + absent_len(tuple) > MAX_LENGTH {
         return None;
     }
     let release = release(zeros, tuple)?;

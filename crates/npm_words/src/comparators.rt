@@ -2,27 +2,25 @@
 //!
 //! This is for the crates of this repository.
 
-ghost use Rattle.std.specs.Prelude.{◌+◌, ◌∷◌, ◌≡◌, ◌≤◌, nat_le};
-ghost use Rattle.npm_words.specs.Words.{Bool, Comparison, List, MAX_SAFE_INTEGER, Some, []};
-ghost use Rattle.npm_words.specs.Words.{bounds_view, comparator_view, decimal, false, length};
-ghost use Rattle.npm_words.specs.Words.{lent_id_view, true, version_text, ℕ};
-ghost use Rattle.npm_words.specs.Internal.Meaning.{AreRead, IsCommon, is_part, is_zero};
-ghost use Rattle.npm_words.specs.Internal.Parts.{are_normal, npm_partial_view};
-ghost use Rattle.npm_words.specs.Internal.Parts.{AreZeros, is_padded, no_build, noted};
-ghost use Rattle.npm_words.specs.Internal.Parts.{npm_sign_view, within};
-ghost use Rattle.npm_words.specs.Alternatives.{is_valid};
-ghost use Rattle.npm_words.specs.Table.{first, from, table};
-ghost use Rattle.npm_words.specs.Table.{written_zeros};
-ghost use Rattle.semver_core.specs.Printing.Text.{id_text, marked_list};
-ghost use Rattle.semver_core.specs.{Values.Versions.IsVersion, declared.TheConstants.MAX_LENGTH};
+ghost use Rattle.npm_words.specs.{Alternatives.is_valid, Internal.Meaning.{AreRead, IsCommon}};
+ghost use Rattle.npm_words.specs.Internal.{Meaning.{is_part, is_zero}, Parts.AreZeros};
+ghost use Rattle.npm_words.specs.Internal.Parts.{are_normal, is_padded, no_build, noted};
+ghost use Rattle.npm_words.specs.Internal.Parts.{npm_partial_view, npm_sign_view, within};
+ghost use Rattle.npm_words.specs.{Table.{first, from, table, written_zeros}, Words.Bool};
+ghost use Rattle.npm_words.specs.Words.{Comparison, List, MAX_SAFE_INTEGER, Some, [], bounds_view};
+ghost use Rattle.npm_words.specs.Words.{comparator_view, decimal, false, length, lent_id_view};
+ghost use Rattle.npm_words.specs.Words.{true, version_text, ℕ};
+ghost use Rattle.semver_core.specs.{Printing.Text.id_text, Values.Versions.IsVersion};
+ghost use Rattle.{semver_core.specs.declared.TheConstants.MAX_LENGTH, std.specs.Prelude.nat_le};
+ghost use Rattle.std.specs.Prelude.{◌+◌, ◌∷◌, ◌≡◌, ◌≤◌};
 ghost use Rattle.npm_words.specs.Table as Spec;
 ghost use Rattle.semver_core.specs.Text.Comparators as Words;
 
 use crate::partial::{Numbers, Partial, Sign, within, written_zeros};
 use itoa::Buffer;
 use semver_core::cuts::Bound;
-use semver_core::scan::pieces::{Bounds, Comparator, lowest, release};
 use semver_core::{IdentifierRef, IdentifierRefs, MAX_LENGTH, VersionRef};
+use semver_pieces::{Bounds, Comparator, lowest, release};
 
 // How many characters a number prints.
 #[inline(always)]
@@ -67,7 +65,7 @@ fn prints_within(version: VersionRef<'_>) -> bool
 
 // Whether a version prints so few characters without its build. A release does.
 #[inline(always)]
-fn prints_short(version: &VersionRef<'_>) -> bool
+pub fn prints_short(version: &VersionRef<'_>) -> bool
     requires { within (Spec.first (Spec.whole version.now)) ≡ true }
     ensures { result ≡ nat_le (length (version_text (no_build version.now))) MAX_LENGTH }
 {
@@ -146,7 +144,7 @@ fn from<'a>(include: bool, padded: bool, numbers: Numbers) -> Option<Bounds<'a>>
 
 // `<` of three numbers with `-0`, where none of them is past the limit.
 #[inline(always)]
-fn under<'a>(end: Numbers) -> Option<Bounds<'a>>
+pub fn under<'a>(end: Numbers) -> Option<Bounds<'a>>
     ensures { (include : Bool) → AreRead include (Spec.under end ∷ []) result }
 {
     if within(end) {
@@ -183,12 +181,12 @@ pub fn caret<'a>(include: bool, zeros: usize, partial: &Partial<'a>) -> Option<B
     match partial {
         Partial::Wildcard => Some(open()),
         Partial::Major(_) | Partial::Minor(..) => {
-            let lower = from_numbers(include, partial.is_padded(zeros), partial.first());
+            let lower = from_numbers(include, zeros < partial.zeros(), partial.first());
             until(lower, partial.next_changed(zeros))
         }
         Partial::Whole(version) => {
             if prints_short(version) {
-                let lower = caret_from(include, zeros, partial.is_padded(zeros), version);
+                let lower = caret_from(include, zeros, zeros < partial.zeros(), version);
                 until(lower, partial.next_changed(zeros))
             } else {
                 None
@@ -274,7 +272,7 @@ fn part<'a>(
 // A comparator, or none, before a whole version, which has this text. Without pre-releases
 // included, `>=0.0.0` is no comparator.
 #[inline(always)]
-fn whole<'a>(
+pub fn whole<'a>(
     include: bool,
     comparator: Comparator,
     version: &VersionRef<'a>,
@@ -298,21 +296,6 @@ fn whole<'a>(
     }
 }
 
-// A comparator, or none, before a wildcard.
-#[inline(always)]
-fn wildcard<'a>(comparator: Comparator) -> Option<Bounds<'a>>
-    ensures { (include : Bool) → (text : List ℕ) →
-        let s = Spec.compared (comparator_view comparator) in
-        AreRead include (table include s Spec.wildcard text) result }
-{
-    match comparator {
-        // `<0.0.0-0`
-        Comparator::Above => under((0, 0, 0)),
-        Comparator::Below => under((0, 0, 0)),
-        Comparator::AtLeast | Comparator::Equal | Comparator::AtMost => Some(open()),
-    }
-}
-
 /// A comparator, or none, before a partial, which has this text, and in which a zero is written
 /// otherwise, or not.
 #[inline(always)]
@@ -330,7 +313,12 @@ pub fn compared<'a>(
         AreRead include (table include s (npm_partial_view partial.now) text.now) result }
 {
     match partial {
-        Partial::Wildcard => wildcard(comparator),
+        Partial::Wildcard => match comparator {
+            // `<0.0.0-0`
+            Comparator::Above => under((0, 0, 0)),
+            Comparator::Below => under((0, 0, 0)),
+            Comparator::AtLeast | Comparator::Equal | Comparator::AtMost => Some(open()),
+        },
         Partial::Major(_) | Partial::Minor(..) => part(include, padded, comparator, partial),
         Partial::Whole(version) => whole(include, comparator, version, text),
     }
@@ -355,7 +343,7 @@ pub fn row_of_zeros<'a>(
     if !within(partial.first()) {
         return None;
     }
-    let padded = partial.is_padded(zeros);
+    let padded = zeros < partial.zeros();
     match sign {
         Sign::Caret => caret(include, zeros, partial),
         Sign::Tilde => tilde(include, padded, partial),
@@ -372,67 +360,4 @@ pub fn row<'a>(include: bool, sign: Sign, partial: &Partial<'a>, text: &[u8]) ->
         AreRead include (table include s (npm_partial_view partial.now) text.now) result }
 {
     row_of_zeros(include, written_zeros(text), sign, partial, text)
-}
-
-/// The bounds of the lower end of a hyphen range, as `row` gives those of a word. A whole version
-/// is compared by the comparator. With pre-releases included, `-0` goes to the end of the text of a
-/// release, and into its build if it has one.
-pub fn lower_end<'a>(
-    include: bool,
-    comparator: Comparator,
-    partial: &Partial<'a>,
-    text: &[u8],
-) -> Option<Bounds<'a>>
-    requires { are_normal (npm_partial_view partial.now) ≡ true }
-    ensures { AreRead include (Spec.hyphen_lower (comparator_view comparator) include
-        (npm_partial_view partial.now) text.now) result }
-{
-    let Partial::Whole(version) = partial else {
-        return row(include, Sign::Compared(Comparator::AtLeast), partial, text);
-    };
-    if !within(partial.first()) {
-        return None;
-    }
-    if !include || !version.is_release() {
-        return whole(include, comparator, version, text);
-    }
-    if text.len() + 2 > MAX_LENGTH {
-        return None;
-    }
-    if version.build().is_empty() {
-        let least = lowest(version.major(), version.minor(), version.patch());
-        return whole(true, comparator, &least, text);
-    }
-    whole(true, comparator, version, text)
-}
-
-/// The bounds of the upper end of a hyphen range, as `row` gives those of a word. A whole version
-/// is compared by the comparator.
-pub fn upper_end<'a>(
-    include: bool,
-    comparator: Comparator,
-    partial: &Partial<'a>,
-    text: &[u8],
-) -> Option<Bounds<'a>>
-    requires { are_normal (npm_partial_view partial.now) ≡ true }
-    ensures { AreRead include (Spec.hyphen_upper (comparator_view comparator) include
-        (npm_partial_view partial.now) text.now) result }
-{
-    let Partial::Whole(version) = partial else {
-        return row(include, Sign::Compared(Comparator::AtMost), partial, text);
-    };
-    if !within(partial.first()) {
-        return None;
-    }
-    if version.is_release() {
-        if include {
-            return under((version.major(), version.minor(), version.patch() + 1));
-        }
-        return whole(include, comparator, version, text);
-    }
-    if prints_short(version) {
-        Some(Bounds::at_most(version.copy()))
-    } else {
-        None
-    }
 }

@@ -1,12 +1,10 @@
 // Where a text stops being a version text of node-semver's strict reading.
 
-ghost use Rattle.std.specs.{Prelude.{◌↔◌, ◌≡◌, ◌≤◌}, Char.digit_value};
-ghost use Rattle.npm_words.specs.Words.{IfSome, IsVersionText, MAX_SAFE_INTEGER, MatchOption};
-ghost use Rattle.npm_words.specs.Words.{None, Some, VersionValue, is_ascii_digit};
-ghost use Rattle.npm_words.specs.Words.{is_identifier_char, true};
-ghost use Rattle.npm_words.specs.Flaws.{IsFlaw};
-ghost use Rattle.npm_words.specs.Flaws.{IsSpelled, IsWrong};
-ghost use Rattle.semver_core.specs.Text.Characters.{is_whitespace};
+ghost use Rattle.npm_words.specs.{Flaws.{IsFlaw, IsSpelled, IsWrong}, Words.IfSome};
+ghost use Rattle.npm_words.specs.Words.{IsVersionText, MAX_SAFE_INTEGER, MatchOption, None, Some};
+ghost use Rattle.npm_words.specs.Words.{VersionValue, is_ascii_digit, is_identifier_char, true};
+ghost use Rattle.{semver_core.specs.Text.Characters.is_whitespace, std.specs.Char.digit_value};
+ghost use Rattle.std.specs.Prelude.{◌↔◌, ◌≡◌, ◌≤◌};
 ghost use Rattle.npm_words.specs.Internal.States as Spec;
 
 use crate::versions::is_short;
@@ -130,60 +128,6 @@ fn ended(letter: char) -> Option<State>
     }
 }
 
-// What is read with the character behind a number.
-fn behind_number(left: u8, letter: char) -> Option<State>
-    ensures { result ≡ Spec.behind_number left letter }
-{
-    if left > 0 {
-        match letter {
-            '.' => Some(State::Digit { left: left - 1 }),
-            _ => None,
-        }
-    } else if letter == '-' {
-        Some(State::Dash)
-    } else {
-        ended(letter)
-    }
-}
-
-// What is read with the character behind an identifier of the pre-release.
-fn behind_identifier(letter: char) -> Option<State>
-    ensures { result ≡ Spec.behind_identifier letter }
-{
-    if is_identifier_char(letter) {
-        Some(State::PreRelease)
-    } else if letter == '.' {
-        Some(State::Dash)
-    } else {
-        ended(letter)
-    }
-}
-
-// What is read with the character behind the front of a pre-release.
-fn pre_release(state: State, letter: char) -> Option<State>
-    ensures { result ≡ Spec.pre_release state letter }
-{
-    match state {
-        State::Dash if letter == '0' => Some(State::Zero),
-        State::Zero | State::Padded if letter.is_ascii_digit() => Some(State::Padded),
-        State::Dash | State::Padded if is_identifier_char(letter) => Some(State::PreRelease),
-        State::Dash | State::Padded => None,
-        _ => behind_identifier(letter),
-    }
-}
-
-// What is read with the character behind the front of build metadata, or behind a whole version.
-fn build(state: State, letter: char) -> Option<State>
-    ensures { result ≡ Spec.build state letter }
-{
-    match state {
-        State::Plus | State::Build if is_identifier_char(letter) => Some(State::Build),
-        State::Build if letter == '.' => Some(State::Plus),
-        State::Build | State::End if is_whitespace(letter) => Some(State::End),
-        _ => None,
-    }
-}
-
 // What is read with the next character, if some version text goes on with it.
 #[tactic(auto, unfolding(crate::specs::Internal::States::next))]
 fn next(state: State, letter: char) -> Option<State>
@@ -197,9 +141,20 @@ fn next(state: State, letter: char) -> Option<State>
         State::Number { left, value } if letter.is_ascii_digit() => {
             grown(left, value, digit(letter))
         }
-        State::Number { left, .. } => behind_number(left, letter),
-        State::Dash | State::Zero | State::Padded | State::PreRelease => pre_release(state, letter),
-        State::Plus | State::Build | State::End => build(state, letter),
+        State::Number { left: 0, .. } if letter == '-' => Some(State::Dash),
+        State::Number { left: 0, .. } => ended(letter),
+        State::Number { left, .. } if letter == '.' => Some(State::Digit { left: left - 1 }),
+        State::Number { .. } => None,
+        State::Dash if letter == '0' => Some(State::Zero),
+        State::Zero | State::Padded if letter.is_ascii_digit() => Some(State::Padded),
+        State::Plus | State::Build if is_identifier_char(letter) => Some(State::Build),
+        State::Build if letter == '.' => Some(State::Plus),
+        State::Build | State::End if is_whitespace(letter) => Some(State::End),
+        State::Plus | State::Build | State::End => None,
+        _ if is_identifier_char(letter) => Some(State::PreRelease),
+        State::Dash | State::Padded => None,
+        _ if letter == '.' => Some(State::Dash),
+        _ => ended(letter),
     }
 }
 
@@ -214,21 +169,6 @@ fn is_whole(state: State) -> bool
     }
 }
 
-// What is wrong behind a digit of a number.
-fn wrong_number(left: u8, value: u64, next: Option<char>) -> Wrong
-    ensures { result ≡ Spec.wrong_number left value next }
-{
-    match next {
-        Some(letter) if letter.is_ascii_digit() => match value {
-            0 => Wrong::LeadingZero,
-            _ => Wrong::NumberTooGreat,
-        },
-        _ if left > 0 => Wrong::Dot,
-        Some(letter) if letter.is_ascii_alphabetic() => Wrong::MissingHyphen,
-        _ => Wrong::Behind,
-    }
-}
-
 // What is wrong where what is read does not go on with the next character, or with the end.
 #[tactic(auto, unfolding(crate::specs::Internal::States::wrong_at))]
 fn wrong_at(state: State, next: Option<char>) -> Wrong
@@ -239,7 +179,15 @@ fn wrong_at(state: State, next: Option<char>) -> Wrong
             Some('v' | 'V' | '=') => Wrong::Mark,
             _ => Wrong::Digit,
         },
-        State::Number { left, value } => wrong_number(left, value, next),
+        State::Number { left, value } => match next {
+            Some(letter) if letter.is_ascii_digit() => match value {
+                0 => Wrong::LeadingZero,
+                _ => Wrong::NumberTooGreat,
+            },
+            _ if left > 0 => Wrong::Dot,
+            Some(letter) if letter.is_ascii_alphabetic() => Wrong::MissingHyphen,
+            _ => Wrong::Behind,
+        },
         State::Dash | State::Plus => Wrong::Identifier,
         State::Padded => Wrong::LeadingZero,
         State::Zero | State::PreRelease | State::Build | State::End => Wrong::Behind,

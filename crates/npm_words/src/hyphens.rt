@@ -2,26 +2,24 @@
 //!
 //! This is for the crates of this repository.
 
-ghost use Rattle.std.specs.Prelude.{◌-◌, ◌||◌, ◌≡◌, ◌≤◌, drop, option_map};
-ghost use Rattle.npm_words.specs.Words.{Some, comparator_view, length, list_all, pair_view};
-ghost use Rattle.npm_words.specs.Words.{rest_view, true};
-ghost use Rattle.npm_words.specs.Internal.Ends as Ends;
-ghost use Rattle.npm_words.specs.Internal.Meaning.{AreRead};
-ghost use Rattle.npm_words.specs.Internal.Parts.{are_normal, npm_partial_view};
+ghost use Rattle.npm_words.specs.Internal.{Meaning.AreRead, Parts.{are_normal, npm_partial_view}};
 ghost use Rattle.npm_words.specs.Internal.Views.{end_front_view, end_some_view, end_view};
-ghost use Rattle.npm_words.specs.Internal.Views.{hyphen_view, is_free_end};
+ghost use Rattle.npm_words.specs.{Internal.Views.{hyphen_view, is_free_end}, Words.Some};
+ghost use Rattle.npm_words.specs.Words.{comparator_view, length, list_all, pair_view, rest_view};
+ghost use Rattle.npm_words.specs.Words.{true};
+ghost use Rattle.semver_core.specs.Internal.Reading.{◌>>?◌};
+ghost use Rattle.std.specs.Prelude.{drop, option_map, ◌-◌, ◌||◌, ◌≡◌, ◌≤◌};
+ghost use Rattle.npm_words.specs.Internal.Ends as Ends;
 ghost use Rattle.npm_words.specs.Internal.Words as Spec;
 ghost use Rattle.npm_words.specs.Malformed as Malformed;
 ghost use Rattle.npm_words.specs.RangeText as Text;
-ghost use Rattle.semver_core.specs.Internal.Reading.{◌>>?◌};
 
-use crate::comparators::{lower_end, upper_end};
-use crate::partial::Partial;
+use crate::comparators::{prints_short, row, under, whole};
+use crate::partial::{Partial, Sign, within};
 use crate::places::partial_front;
 use crate::words::is_short;
-use semver_core::scan::pieces::{
-    Bounds, Comparator, after_some_space, skip_to_boundary, space_len,
-};
+use semver_core::MAX_LENGTH;
+use semver_pieces::{Bounds, Comparator, after_some_space, lowest, skip_to_boundary, space_len};
 
 /// An end of a hyphen range: the marks and the whitespace in front, its partial version, and the
 /// text of that with the marks behind the last whitespace.
@@ -113,13 +111,31 @@ impl<'a> End<'a> {
             && (loose || is_free(side, &self.partial) || matches!(self.marks, [] | [b'v']))
     }
 
-    /// The bounds of it as the lower end, as `row` gives those of a word.
+    /// The bounds of it as the lower end, as `row` gives those of a word. With pre-releases
+    /// included, `-0` goes to the end of the text of a release, and into its build if it has one.
     pub fn lower_bounds(&self, include: bool) -> Option<Bounds<'a>>
         requires { are_normal (npm_partial_view self.now.partial) ≡ true }
         ensures { AreRead include (Spec.lower_of include (end_view self.now)) result }
     {
+        let Partial::Whole(version) = &self.partial else {
+            let sign = Sign::Compared(Comparator::AtLeast);
+            return row(include, sign, &self.partial, self.text);
+        };
+        if !within(self.partial.first()) {
+            return None;
+        }
         let comparator = self.comparator(Comparator::AtLeast);
-        lower_end(include, comparator, &self.partial, self.text)
+        if !include || !version.is_release() {
+            return whole(include, comparator, version, self.text);
+        }
+        if self.text.len() + 2 > MAX_LENGTH {
+            return None;
+        }
+        if version.build().is_empty() {
+            let least = lowest(version.major(), version.minor(), version.patch());
+            return whole(true, comparator, &least, self.text);
+        }
+        whole(true, comparator, version, self.text)
     }
 
     /// The bounds of it as the upper end.
@@ -127,8 +143,29 @@ impl<'a> End<'a> {
         requires { are_normal (npm_partial_view self.now.partial) ≡ true }
         ensures { AreRead include (Spec.upper_of include (end_view self.now)) result }
     {
-        let comparator = self.comparator(Comparator::AtMost);
-        upper_end(include, comparator, &self.partial, self.text)
+        let Partial::Whole(version) = &self.partial else {
+            let sign = Sign::Compared(Comparator::AtMost);
+            return row(include, sign, &self.partial, self.text);
+        };
+        if !within(self.partial.first()) {
+            return None;
+        }
+        if version.is_release() {
+            if include {
+                return under((version.major(), version.minor(), version.patch() + 1));
+            }
+            return whole(
+                include,
+                self.comparator(Comparator::AtMost),
+                version,
+                self.text,
+            );
+        }
+        if prints_short(version) {
+            Some(Bounds::at_most(version.copy()))
+        } else {
+            None
+        }
     }
 
     // The comparator by which a whole version is compared: `=` where whitespace is among the marks.
@@ -144,32 +181,6 @@ impl<'a> End<'a> {
     }
 }
 
-// An end of a hyphen range, behind whose marks a text stands: its partial, and what follows it.
-fn ended<'a>(
-    text: &'a [u8],
-    behind: &'a [u8],
-    partial: Partial<'a>,
-    rest: &'a [u8],
-) -> (End<'a>, &'a [u8])
-    requires fits { length behind.now ≤ length text.now }
-    requires ends { drop (length text.now - length behind.now) text.now ≡ behind.now }
-    requires rest { length rest.now ≤ length behind.now }
-    ensures { (end_view result.0, result.1.now) ≡ Spec.ended_as text.now behind.now
-        (npm_partial_view partial.entry, rest.now) }
-{
-    let marks = &text[..text.len() - behind.len()];
-    let start = marks.len() - last_marks(marks).len();
-    let text = &text[start..text.len() - rest.len()];
-    (
-        End {
-            marks,
-            partial,
-            text,
-        },
-        rest,
-    )
-}
-
 // An end of a hyphen range at the front, and the text behind it.
 fn end_front(loose: bool, text: &[u8]) -> Option<(End<'_>, &[u8])>
     ensures { end_front_view result
@@ -177,7 +188,17 @@ fn end_front(loose: bool, text: &[u8]) -> Option<(End<'_>, &[u8])>
 {
     let behind = skip_marks(text);
     let (partial, rest) = partial_front(loose, behind)?;
-    Some(ended(text, behind, partial, rest))
+    let marks = &text[..text.len() - behind.len()];
+    let start = marks.len() - last_marks(marks).len();
+    let text = &text[start..text.len() - rest.len()];
+    Some((
+        End {
+            marks,
+            partial,
+            text,
+        },
+        rest,
+    ))
 }
 
 // What stands behind whitespace, `-` and whitespace.
@@ -199,14 +220,6 @@ fn whole_end(loose: bool, text: &[u8]) -> Option<End<'_>>
     if rest.is_empty() { Some(end) } else { None }
 }
 
-// The upper end behind whitespace, `-` and whitespace, where it ends the text.
-fn last_end(loose: bool, text: &[u8]) -> Option<End<'_>>
-    ensures { end_some_view result ≡ (Spec.after_dash text.now >>? λ second.
-        Spec.last_end loose second >>? λ e. Some (Spec.capped_in e)) }
-{
-    whole_end(loose, after_dash(text)?)
-}
-
 /// The ends of the hyphen range that the text is. Numbers past the limit are
 /// `MAX_SAFE_INTEGER + 1`.
 pub fn hyphen_ends(loose: bool, text: &[u8]) -> Option<(End<'_>, End<'_>)>
@@ -214,7 +227,7 @@ pub fn hyphen_ends(loose: bool, text: &[u8]) -> Option<(End<'_>, End<'_>)>
         Some (Spec.capped_in e.0, Spec.capped_in e.1)) }
 {
     let (lower, rest) = end_front(loose, text)?;
-    let upper = last_end(loose, rest)?;
+    let upper = whole_end(loose, after_dash(rest)?)?;
     Some((lower, upper))
 }
 

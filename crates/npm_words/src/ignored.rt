@@ -2,16 +2,14 @@
 //!
 //! This is for the crates of this repository.
 
-ghost use Rattle.std.specs.Prelude.{◌≡◌, ◌&&◌, ◌==◌, drop, not};
-ghost use Rattle.std.specs.Char.{is_ascii_graphic};
-ghost use Rattle.npm_words.specs.Internal.Words.{behind_ignored};
+ghost use Rattle.npm_words.specs.{Internal.Words.behind_ignored, Words.{begins, length}};
+ghost use Rattle.std.specs.{Char.is_ascii_graphic, Prelude.{drop, not, ◌&&◌, ◌==◌, ◌≡◌}};
 ghost use Rattle.npm_words.specs.Internal.Words as Spec;
 ghost use Rattle.npm_words.specs.Malformed as Text;
-ghost use Rattle.npm_words.specs.Words.{begins, length};
 
 use crate::inside::are_inside;
 use crate::words::marks_len;
-use semver_core::scan::pieces::{skip_spaces, skip_to_boundary};
+use semver_pieces::{skip_spaces, skip_to_boundary};
 
 // Whether a number or a wildcard is at the front, or stands there behind marks.
 fn begins_place(text: &[u8]) -> bool
@@ -42,24 +40,17 @@ fn begins_equal(text: &[u8]) -> bool
     }
 }
 
-// Whether what follows a piece of a malformed word behind whitespace belongs to the word, unless it
-// does so since the piece ends in a partial and a `=`.
-fn takes(piece: &[u8], rest: &[u8]) -> bool
-    ensures { result ≡ Text.takes piece.now rest.now }
-{
-    piece.ends_with(b"^")
-        || piece.ends_with(b"~")
-        || ends_compared(piece) && begins_place(rest)
-        || piece.ends_with(b"~>") && !begins_equal(rest)
-}
-
-// Whether it belongs to the word.
+// Whether what follows a piece of a malformed word behind whitespace belongs to the word.
 #[tactic(auto, unfolding(crate::specs::Internal::Words::takes_on))]
 fn takes_on(piece: &[u8], rest: &[u8]) -> bool
     ensures { result ≡ Spec.takes_on piece.now rest.now }
 {
     let front = &piece[..piece.len().saturating_sub(1)];
-    takes(piece, rest) || piece.ends_with(b"=") && are_inside(front) && begins_place(rest)
+    piece.ends_with(b"^")
+        || piece.ends_with(b"~")
+        || ends_compared(piece) && begins_place(rest)
+        || piece.ends_with(b"~>") && !begins_equal(rest)
+        || piece.ends_with(b"=") && are_inside(front) && begins_place(rest)
 }
 
 /// What stands behind the malformed word at the front.

@@ -1,15 +1,11 @@
 //! The partial versions that node-semver's loose reading finds inside a malformed word.
-//!
-//! This is for the crates of this repository.
 
-ghost use Rattle.std.specs.Prelude.{◌≡◌, ◌≤◌, drop, if◌then◌else◌};
-ghost use Rattle.std.specs.List.{prefix_len};
+ghost use Rattle.npm_words.specs.Words.{None, Some, is_identifier_char, length, rest_view};
+ghost use Rattle.std.specs.{List.prefix_len, Prelude.{drop, if◌then◌else◌, ◌≡◌, ◌≤◌}};
 ghost use Rattle.npm_words.specs.Internal.Inside as Spec;
-ghost use Rattle.npm_words.specs.Words.{None, Some, is_identifier_char, length};
-ghost use Rattle.npm_words.specs.Words.{is_ascii_digit, rest_view};
 
-use semver_core::scan::pieces::{build_front, digits_len};
 use semver_core::scan::{begins_identifier, is_identifier_char};
+use semver_pieces::{build_front, digits_len};
 
 // How many characters of identifiers stand at the front.
 #[tactic(auto, using(crate::proofs::Grammar::PartialLaw::prefix_steps))]

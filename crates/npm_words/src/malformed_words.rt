@@ -3,15 +3,15 @@
 //!
 //! This is for the crates of this repository.
 
-ghost use Rattle.std.specs.{Prelude.{◌≤◌, ℕ}, Str.IsUtf8};
-ghost use Rattle.npm_words.specs.Words.{IfNone, IfSome, MAX_SAFE_INTEGER, NoValue, length};
 ghost use Rattle.npm_words.specs.MalformedEnds.{IsMalformedPart, IsWrongEnd};
-ghost use Rattle.npm_words.specs.MalformedWords.{IsLeft, IsMalformedWord, IsRightWord};
+ghost use Rattle.npm_words.specs.{MalformedWords.{IsLeft, IsRightWord}, Words.{IfNone, IfSome}};
+ghost use Rattle.{npm_words.specs.Words.{MAX_SAFE_INTEGER, NoValue, length}, std.specs.Prelude.ℕ};
+ghost use Rattle.std.specs.{Prelude.◌≤◌, Str.IsUtf8};
 
 use crate::comparators::row;
 use crate::hyphens::{end_texts, is_lower_end, is_upper_end};
 use crate::words::word_front;
-use semver_core::scan::pieces::{skip_spaces, skip_to_boundary};
+use semver_pieces::{skip_spaces, skip_to_boundary};
 
 // What stands behind the word at the front, if that is well-formed and its comparators are valid.
 fn right_word(include: bool, text: &[u8]) -> Option<&[u8]>
@@ -38,17 +38,6 @@ fn skip_right_words(include: bool, text: &[u8]) -> &[u8]
         rest = skip_spaces(behind);
     }
     rest
-}
-
-// Where the first malformed word of an alternative begins and ends.
-fn malformed_word(include: bool, text: &[u8]) -> (usize, usize)
-    requires { IsUtf8 text.now }
-    ensures word { IsMalformedWord MAX_SAFE_INTEGER include text.now result.0 result.1 }
-    ensures fits { (result.0 ≤ length text.now) × (result.1 ≤ length text.now) }
-{
-    let rest = skip_right_words(include, text);
-    let behind = skip_to_boundary(rest);
-    (text.len() - rest.len(), text.len() - behind.len())
 }
 
 // Where the first end begins and ends that is none, of a text that has the form of a hyphen range.
@@ -80,6 +69,10 @@ pub fn malformed_part(include: bool, text: &[u8]) -> (usize, usize)
 {
     match wrong_end(include, text) {
         Some(place) => place,
-        None => malformed_word(include, text),
+        None => {
+            let rest = skip_right_words(include, text);
+            let behind = skip_to_boundary(rest);
+            (text.len() - rest.len(), text.len() - behind.len())
+        }
     }
 }

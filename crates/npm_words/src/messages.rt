@@ -1,10 +1,10 @@
 // How the flaws of version texts and of range texts print.
 
-ghost use Rattle.std.specs.Prelude.{Some, ◌≡◌};
 ghost use Rattle.npm_words.specs.Messages.{flaw_text, wrong_text};
+ghost use Rattle.std.specs.Prelude.{Some, ◌≡◌};
 
 use crate::flaws::{Flaw, Wrong};
-use semver_core::scan::pieces::write_at;
+use semver_pieces::write_at;
 use std::fmt;
 
 // What is wrong, before its place.

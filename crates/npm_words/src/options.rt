@@ -1,6 +1,6 @@
 // The options of node-semver's calls.
 
-ghost use Rattle.std.specs.Prelude.{◌≡◌, false};
+ghost use Rattle.std.specs.Prelude.{false, ◌≡◌};
 
 /// How a text is read: the two options of node-semver that say so. By default neither is set.
 #[derive(Clone, Copy, PartialEq, Eq, Debug)]

@@ -2,13 +2,13 @@
 //!
 //! This is for the crates of this repository.
 
-ghost use Rattle.std.specs.{Char.is_ascii_digit, List.prefix_len, Prelude.{◌≡◌, ◌≤◌, drop, true}};
-ghost use Rattle.std.specs.{Prelude.{codes, length, not, take_while}, Str.bytes_eq};
-ghost use Rattle.npm_words.specs.Internal.Parts.{is_padded, npm_partial_view, within};
-ghost use Rattle.npm_words.specs.Table.{first, next, next_changed, written_zeros, zeros};
+ghost use Rattle.npm_words.specs.{Internal.Parts.{npm_partial_view, within}, Table.{first, next}};
+ghost use Rattle.npm_words.specs.Table.{next_changed, written_zeros, zeros};
+ghost use Rattle.std.specs.{Char.is_ascii_digit, List.prefix_len, Prelude.{codes, drop, length}};
+ghost use Rattle.std.specs.{Prelude.{not, take_while, true, ◌≡◌, ◌≤◌}, Str.bytes_eq};
 
-use semver_core::scan::pieces::Comparator;
 use semver_core::{MAX_SAFE_INTEGER, VersionRef};
+use semver_pieces::Comparator;
 
 /// A partial version: a wildcard stands first, or one, two or three numbers are written before a
 /// wildcard or the end. The numbers may be past the limit.
@@ -136,14 +136,6 @@ impl<'a> Partial<'a> {
             },
             _ => 0,
         }
-    }
-
-    /// Whether a number at the front that is 0 is written otherwise, where so many are written `0`.
-    #[inline(always)]
-    pub fn is_padded(&self, zeros: usize) -> bool
-        ensures { result ≡ is_padded zeros (npm_partial_view self.now) }
-    {
-        zeros < self.zeros()
     }
 
     /// The numbers of the next release in which the first number changes that is not written `0`,

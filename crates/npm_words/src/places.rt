@@ -2,28 +2,24 @@
 //!
 //! This is for the crates of this repository.
 
-ghost use Rattle.std.specs.Prelude.{◌&&◌, ◌==◌, ◌≡◌, ◌≤◌, drop};
-ghost use Rattle.npm_words.specs.Words.{MAX_SAFE_INTEGER, None, [], false, front_view};
-ghost use Rattle.npm_words.specs.Words.{is_ascii_digit, is_listed, length, not, pair_view};
-ghost use Rattle.npm_words.specs.Words.{true};
-ghost use Rattle.semver_core.specs.Internal.Fronts.{begins_byte, begins_identifier};
-ghost use Rattle.semver_core.specs.Internal.Fronts.{begins_wildcard};
-ghost use Rattle.semver_core.specs.Internal.Fronts.{begins_padded, number_front, number_with};
-ghost use Rattle.npm_words.specs.Internal.Parts.{npm_partial_view};
-ghost use Rattle.npm_words.specs.Internal.Views.{npm_front_view};
+ghost use Rattle.npm_words.specs.{Grammar.begins_undashed, Internal.Parts.npm_partial_view};
+ghost use Rattle.npm_words.specs.{Internal.Views.npm_front_view, Words.{MAX_SAFE_INTEGER, None}};
+ghost use Rattle.npm_words.specs.Words.{[], false, front_view, is_listed, not, pair_view, true};
+ghost use Rattle.semver_core.specs.Internal.Fronts.{begins_identifier, begins_padded};
+ghost use Rattle.semver_core.specs.Internal.Fronts.{begins_wildcard, number_front, number_with};
 ghost use Rattle.semver_core.specs.Text.Identifiers.{listed};
+ghost use Rattle.std.specs.Prelude.{◌&&◌, ◌==◌, ◌≡◌};
 ghost use Rattle.npm_words.specs.Internal.Words as Spec;
-ghost use Rattle.npm_words.specs.Grammar.{begins_undashed};
 ghost use Rattle.npm_words.specs.Partials as Places;
 
 use crate::partial::Partial;
 use crate::versions::is_strict_list;
 use semver_core::scan::begins_identifier;
-use semver_core::scan::pieces::{
+use semver_core::{MAX_SAFE_INTEGER, VersionRef};
+use semver_pieces::{
     begins_padded, behind_dot, build_front, digits_len, marked_list, number_front,
     pre_release_front,
 };
-use semver_core::{MAX_SAFE_INTEGER, VersionRef};
 
 /// A place of a partial version: a number, or none where it is a wildcard. A number past the limit
 /// is read as `MAX_SAFE_INTEGER + 1`, since only that it is past the limit matters: a comparator
@@ -225,18 +221,6 @@ fn qualified_partial(
     Some((long_partial(major, minor, patch, pre_release, build), rest))
 }
 
-// The partial of two places, and of what stands behind them.
-#[inline(always)]
-fn third_front(loose: bool, major: Place, minor: Place, text: &[u8]) -> Option<(Partial<'_>, &[u8])>
-    ensures { npm_front_view result ≡ Spec.third_front loose major minor text.now
-        (Spec.first_as Spec.capped_one (Spec.dotted_patch loose text.now)) }
-{
-    match dotted_patch(loose, text) {
-        Some((patch, rest)) => qualified_partial(loose, major, minor, patch, rest),
-        None => Some((short_partial(major, minor), text)),
-    }
-}
-
 /// The partial version at the front, and the text behind it. Its numbers past the limit are
 /// `MAX_SAFE_INTEGER + 1`.
 #[inline(always)]
@@ -245,8 +229,11 @@ pub fn partial_front(loose: bool, text: &[u8]) -> Option<(Partial<'_>, &[u8])>
         ≡ Spec.first_as Spec.capped_partial (Spec.places_front loose text.now) }
 {
     let (major, rest) = place_front(loose, text)?;
-    match dotted_place(loose, rest) {
-        Some((minor, rest)) => third_front(loose, major, minor, rest),
-        None => Some((short_partial(major, None), rest)),
+    let Some((minor, rest)) = dotted_place(loose, rest) else {
+        return Some((short_partial(major, None), rest));
+    };
+    match dotted_patch(loose, rest) {
+        Some((patch, rest)) => qualified_partial(loose, major, minor, patch, rest),
+        None => Some((short_partial(major, minor), rest)),
     }
 }

@@ -1,21 +1,20 @@
 // Version texts as node-semver's strict reading and its loose one have them.
 
-ghost use Rattle.std.specs.{Prelude.{◌↔◌, ◌≡◌, ◌≤◌, IfErr, drop}, List.prefix_len, Str.chars};
-ghost use Rattle.npm_words.specs.Words.{IfOk, IsTrue, MAX_SAFE_INTEGER, NoValue};
-ghost use Rattle.npm_words.specs.Words.{front_view, is_ascii_digit, length, list_all};
-ghost use Rattle.npm_words.specs.Internal.Readings.{is_strict_identifier};
-ghost use Rattle.npm_words.specs.Grammar.{is_strict_list};
-ghost use Rattle.npm_words.specs.Malformed.{is_mark};
-ghost use Rattle.npm_words.specs.VersionText.{IsClean, IsVersionTextIn};
+ghost use Rattle.npm_words.specs.{Grammar.is_strict_list, Internal.Readings.is_strict_identifier};
+ghost use Rattle.npm_words.specs.{VersionText.{IsClean, IsVersionTextIn}, Words.{IfOk, IsTrue}};
+ghost use Rattle.npm_words.specs.Words.{MAX_SAFE_INTEGER, NoValue, front_view, is_ascii_digit};
+ghost use Rattle.npm_words.specs.Words.{length, list_all};
+ghost use Rattle.std.specs.Prelude.{IfErr, ◌↔◌, ◌≡◌};
+ghost use Rattle.std.specs.{Prelude.◌≤◌, Str.chars};
 ghost use Rattle.npm_words.specs.Internal.Versions as Whole;
 
 use crate::hyphens::skip_marks;
 use crate::options::Reading;
 use crate::places::pre_front;
 use crate::words::marks_len;
-use semver_core::scan::pieces::{behind_dot, build_front, digits_len, number_front};
 use semver_core::scan::{number_in, trim};
 use semver_core::{MAX_LENGTH, MAX_SAFE_INTEGER, SemverError, VersionRef};
+use semver_pieces::{behind_dot, build_front, digits_len, number_front};
 
 // How many digits of the run at the front a patch number has that leaves the last one before a dot.
 #[inline(always)]

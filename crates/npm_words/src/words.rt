@@ -3,20 +3,17 @@
 //!
 //! This is for the crates of this repository.
 
-ghost use Rattle.std.specs.{List.prefix_len, Prelude.{◌==◌, ◌≡◌, ◌≤◌, not}};
-ghost use Rattle.npm_words.specs.Words.{comparator_view, drop_spaces, length};
+ghost use Rattle.npm_words.specs.Internal.Parts.{npm_partial_view, npm_sign_view};
+ghost use Rattle.npm_words.specs.Internal.Views.{npm_sign_pair_view, signed_front_view};
+ghost use Rattle.npm_words.specs.{Malformed.is_mark, Words.{comparator_view, drop_spaces, length}};
 ghost use Rattle.npm_words.specs.Words.{list_all, true};
-ghost use Rattle.npm_words.specs.Internal.Parts.{npm_partial_view};
-ghost use Rattle.npm_words.specs.Internal.Parts.{npm_sign_view};
-ghost use Rattle.npm_words.specs.Internal.Views.{npm_sign_pair_view};
-ghost use Rattle.npm_words.specs.Internal.Views.{signed_front_view};
+ghost use Rattle.std.specs.Prelude.{◌≡◌, ◌≤◌};
 ghost use Rattle.npm_words.specs.Internal.Words as Spec;
-ghost use Rattle.npm_words.specs.Malformed.{is_mark};
 ghost use Rattle.npm_words.specs.RangeText as Text;
 
 use crate::partial::{Partial, Sign};
 use crate::places::partial_front;
-use semver_core::scan::pieces::{Comparator, after_some_space, is_boundary, skip_spaces};
+use semver_pieces::{Comparator, after_some_space, is_boundary, skip_spaces};
 
 /// A word: its sign, its partial version, and the text of the partial with its marks.
 #[derive(Drop)]
@@ -61,22 +58,15 @@ fn skip_greater(text: &[u8]) -> &[u8]
     }
 }
 
-// What follows `~>`, and the `>` that may stand behind it and whitespace.
-fn skip_twice(text: &[u8]) -> &[u8]
-    ensures { result.now ≡ Spec.skip_twice text.now (drop_spaces text.now) }
-{
-    match after_some_space(text) {
-        Some([b'>', rest @ ..]) => skip_greater(rest),
-        _ => skip_greater(text),
-    }
-}
-
-// What follows a tilde with what may stand behind it.
+// What follows a tilde with what may stand behind it: `>`, and one more behind whitespace.
 fn skip_tilde(text: &[u8]) -> &[u8]
     ensures { result.now ≡ Spec.skip_tilde text.now (drop_spaces text.now) }
 {
     if let [b'>', rest @ ..] = text {
-        return skip_twice(rest);
+        return match after_some_space(rest) {
+            Some([b'>', rest @ ..]) => skip_greater(rest),
+            _ => skip_greater(rest),
+        };
     }
     match skip_spaces(text) {
         [b'>', rest @ ..] => skip_greater(rest),

@@ -37,7 +37,7 @@ pub use Rattle.semver_core.specs.Internal.Reading.{digits_end, digits_from, IsLi
 pub use Rattle.semver_core.specs.Internal.Reading.{number_at, part_at, placed, qualified, triple_at}
 pub use Rattle.semver_core.specs.Internal.Sources.{ids_of, IsSource}
 pub use Rattle.semver_core.specs.Internal.Spaces.{drop_end_spaces, drop_spaces, goes_on_with, is_space_of_three, is_space_of_two, space_len}
-pub use Rattle.semver_core.specs.Internal.Views.{bounds_view, pair_view, part_view, rest_view}
+pub use Rattle.semver_core.specs.Internal.Views.{pair_view, part_view, rest_view}
 pub use Rattle.semver_core.specs.Lists.{is_empty}
 pub use Rattle.semver_core.specs.Printing.RoundTrip.{is_normal, is_readable}
 pub use Rattle.semver_core.specs.Printing.Text.{id_text, marked_list, version_text}

@@ -10,10 +10,8 @@ ghost use Rattle.semver_core.specs.Words.{goes_on, grown, Id, id_view, identifie
 ghost use Rattle.semver_core.specs.Words.{IfSome, is_identifier_char, is_whitespace, IsListAdded};
 ghost use Rattle.semver_core.specs.Words.{IsAfterBlank, IsCharBoundary, IsLongestIdentifiers};
 ghost use Rattle.semver_core.specs.Words.{IsPieceAt, IsTrim, IsUtf8, IsWholeNumber, length, List};
-ghost use Rattle.semver_core.specs.Words.{NoPieceAt, number_at, OnErr};
+ghost use Rattle.semver_core.specs.Words.{list_len, NoPieceAt, number_at, OnErr};
 ghost use Rattle.semver_core.specs.Words.{placed, prefix_len, run_from, take, true, utf8_valid_len};
-
-pub mod pieces;
 
 use crate::{Allocated, Identifier, MAX_SAFE_INTEGER};
 use std::alloc::{AllocError, Global};
@@ -427,4 +425,20 @@ pub(crate) fn read_from(
         start = run.0 + 1;
         run = scan_run(text.as_bytes(), start);
     }
+}
+
+/// How many bytes the identifiers at the front take: of `alpha.1+b` they are 7. This is for the
+/// crates of this repository.
+#[inline(always)]
+#[tactic(auto, using(crate::proofs::Text::Ends::list_ends))]
+pub fn list_len(text: &[u8]) -> usize
+    ensures exact { result ≡ list_len text.now }
+    ensures inside { result ≤ length text.now }
+{
+    'bytes: for len in 0..text.len() {
+        if !goes_on(&text[len..]) {
+            return len;
+        }
+    }
+    text.len()
 }

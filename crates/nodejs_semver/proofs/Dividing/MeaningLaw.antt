@@ -1,19 +1,19 @@
 -- What a text denotes is its one meaning, and the versions that are computed of it are those that it writes.
 use Rattle.nodejs_semver.proofs.{Algebra.{Accepting.accepts-held, Holds.denotes_hold}, Common.{AllByRecursion, Any, Bool, Failure, IfNone, IfSome}}
-use Rattle.nodejs_semver.proofs.Common.{IsBlank, IsCharBoundary-after_ascii, IsCharBoundary-before_ascii, IsCutAtBars, IsSomeAnd, IsTrim, IsTrue}
-use Rattle.nodejs_semver.proofs.Common.{IsUtf8, IsUtf8-drop, IsUtf8-take, List, Means, MemoryOnlyIf, Option, Result, Run, Span, VersionValue, Word}
-use Rattle.nodejs_semver.proofs.Common.{[], accepts, and_from, ap, append-nil, arith, cases_Bool, common_steps, cut_bars, denotes, drop_at}
+use Rattle.nodejs_semver.proofs.Common.{IsBlank, IsCutAtBars, IsSomeAnd, IsTrim, IsTrue}
+use Rattle.nodejs_semver.proofs.Common.{IsUtf8, List, Means, MemoryOnlyIf, Option, Result, Run, Span, VersionValue, Word}
+use Rattle.nodejs_semver.proofs.Common.{[], accepts, and_from, ap, append-nil, arith, cases_Bool, common_steps, cut_bars, denotes}
 use Rattle.nodejs_semver.proofs.Common.{drop_spaces, empty_is, encode_utf8, encode_utf8_all, false, filter_map, flat_map, get_or, if_any, inl, inr}
 use Rattle.nodejs_semver.proofs.Common.{is_empty, len_utf8_bounds, length, length-append, length-encode, list_all, list_all-append, list_any}
-use Rattle.nodejs_semver.proofs.Common.{list_any-map, map, middle_is_trim, more_pieces, nat_tests, one_piece, or_right, part_bounds, part_denotes}
-use Rattle.nodejs_semver.proofs.Common.{parts, precedence, refl, run_writes, runs_of, space_len, subst, suc, sym, table, take_at, trim}
-use Rattle.nodejs_semver.proofs.Common.{trim_is_middle, true, word_at, words, zero, ℕ, ◌++◌, ◌<◌, ◌↔◌, ◌∙◌, ◌∷◌, ◌≡◌, ◌≤◌, ◌⊎◌}
+use Rattle.nodejs_semver.proofs.Common.{list_any-map, map, middle_is_trim, nat_tests, or_right, part_bounds, part_denotes}
+use Rattle.nodejs_semver.proofs.Common.{parts, precedence, refl, run_writes, runs_of, space_len, subst, suc, sym, table, trim}
+use Rattle.nodejs_semver.proofs.Common.{trim_is_middle, true, word_at, words, zero, ℕ, ◌<◌, ◌↔◌, ◌∙◌, ◌∷◌, ◌≡◌, ◌≤◌, ◌⊎◌}
 use Rattle.nodejs_semver.proofs.{Dividing.RunsDivide.{part_divides, runs_are, words-none}, Reading.PartialLaw.{word-shorter, words-step}}
 use Rattle.nodejs_semver.{proofs.Reading.WordLaw.{word-utf8, words_are}, specs.{Internal.Writes.{part_writes, writes}, Text.Meaning.AreAllIntervals}}
 use Rattle.nodejs_semver.specs.Text.Meaning.{AreWords, HasRuns, IsBlankText, all_intervals, blank_piece, every_version, next_piece, next_word}
 use Rattle.{nodejs_semver.specs.Text.{Meaning.{no_piece, no_word}, WrittenSet.Writes}, semver_core.proofs.Dividing.BarsDivide.bars_divide}
 use Rattle.semver_core.proofs.{Dividing.BarsDivide.bars_once, Reading.Boundaries.{skips-is, skips-of, skips-utf8, spaces-gone, spaces-le, trim-utf8}}
-use Rattle.{semver_core.proofs.{Reading.Bytes.trim-starts, Text.Trims.trim_parts}, std.proofs.Math.Seq.get_or-append_seam}
+use Rattle.{semver_core.proofs.{Reading.Bytes.trim-starts, Text.Trims.trim_parts}}
 use Rattle.std.proofs.lemmas.{Bool.false_from_ne_true, List.Folds.{Any-from_list_any, list_any-from_Any}}
 pub use Rattle.semver_core.proofs.Dividing.BarsDivide.{pieces-utf8}
 

@@ -3,7 +3,7 @@ use Rattle.nodejs_semver.proofs.Common.{All, Bool, Bor, Contains, Contains-appen
 use Rattle.nodejs_semver.proofs.Common.{None, Option, Ordering, Some, VersionValue, [], all_weaker, and_from, ap, append_assoc, arith, cases_Bool}
 use Rattle.nodejs_semver.proofs.Common.{common_steps, false, get_or, if◌then◌else◌, is_le, is_lt, length, list_all-append, map, nat_tests, not}
 use Rattle.nodejs_semver.proofs.Common.{not-true, option_copied, precedence, precedence_total, refl, replaces, subst, sym, take, tied_itself, true, ℕ}
-use Rattle.{nodejs_semver.proofs.{Common.{◌&&◌, ◌++◌, ◌+◌, ◌<◌, ◌||◌, ◌∙◌, ◌∷◌, ◌≡◌}, Values.map-further}, semver_core.proofs.Gate.le_of_lt}
+use Rattle.{nodejs_semver.proofs.{Common.{◌&&◌, ◌++◌, ◌+◌, ◌<◌, ◌||◌, ◌∙◌, ◌∷◌, ◌≡◌, IsMaxOf, IsMinOf, list_all-map, map-append, take_next, value_of}}, semver_core.proofs.Gate.le_of_lt}
 use Rattle.semver_core.proofs.Gate.{le_trans, lt_is, lt_le}
 
 -- what holds of the two relations of the best
@@ -18,33 +18,63 @@ module _ {V : Type 0} (in_front behind : V → V → Bool) (ranks : Ranks in_fro
   one_more None x new is h = grind (arith, nat_tests, common_steps, cases_Bool, all_weaker, list_all-append, and_from)
   one_more (Some b) x new is h = grind (arith, nat_tests, list_all-append, append_assoc h.1 (b ∷ h.2) (x ∷ []), cases_Bool, all_weaker, and_from)
 
-pub max_more : (set : VersionValue → Bool) (list : List VersionValue) (best : Option VersionValue) (x : VersionValue) (new : Bool)
-    → new ≡ replaces (λ b x. is_le (precedence b x)) set best x
-    → IsMax set list best → IsMax set (list ++ x ∷ []) (if new then Some x else best)
-max_more = let o = precedence_total in one_more _ _ (record {
-  passes = λ w b x t h. le_trans o w b x h t;
-  weaker = λ w b x t h. le_trans o w b x (le_of_lt (precedence w b) h) t;
-  other = λ b x e. lt_is o x b ∙ ap not e;
-})
-
 not_below : {V : Type 0} {R : V → V → Ordering} (o : IsTotalOrder R) (b x : V) → is_lt (R x b) ≡ false → is_le (R b x) ≡ true
 not_below o b x e = grind (arith, lt_is o x b)
 
-pub min_more : (set : VersionValue → Bool) (list : List VersionValue) (best : Option VersionValue) (x : VersionValue) (new : Bool)
-    → new ≡ replaces (λ b x. is_lt (precedence x b)) set best x
-    → IsMin set list best → IsMin set (list ++ x ∷ []) (if new then Some x else best)
-min_more = let o = precedence_total in one_more _ _ (record {
-  passes = λ w b x t h. lt_le o x b w t (le_of_lt (precedence b w) h);
-  weaker = λ w b x t h. lt_le o x b w t h;
-  other = not_below o;
-})
+module _ {W : Type 0} (value : W → VersionValue) (set : VersionValue → Bool) where
+  pub max_more : (list : List W) (best : Option W) (x : W) (new : Bool)
+      → new ≡ replaces (λ b x. is_le (precedence (value b) (value x))) (λ w. set (value w)) best x
+      → IsMaxOf value set list best → IsMaxOf value set (list ++ x ∷ []) (if new then Some x else best)
+  max_more = let o = precedence_total in one_more _ _ (record {
+    passes = λ w b x t h. le_trans o (value w) (value b) (value x) h t;
+    weaker = λ w b x t h. le_trans o (value w) (value b) (value x) (le_of_lt (precedence (value w) (value b)) h) t;
+    other = λ b x e. lt_is o (value x) (value b) ∙ ap not e;
+  }) _
 
--- the best so far of a loop over the list, one place further
-pub one_further : {A V : Type 0} (in_front behind : V → V → Bool) (set : V → Bool) (value : A → V) (list : List A) (i : ℕ) (x : A)
-    (new : Bool) (best next : Option V) → i < length list → x ≡ get_or list i x
-    → IsBest in_front behind set (map value (take i list) ++ value x ∷ []) (if new then Some (value x) else best)
-    → next ≡ (if new then Some (value x) else best) → IsBest in_front behind set (map value (take (i + 1) list)) next
-one_further in_front behind set value list i x new best next within at h is = rw (is, map-further value list i x within at) h
+  pub min_more : (list : List W) (best : Option W) (x : W) (new : Bool)
+      → new ≡ replaces (λ b x. is_lt (precedence (value x) (value b))) (λ w. set (value w)) best x
+      → IsMinOf value set list best → IsMinOf value set (list ++ x ∷ []) (if new then Some x else best)
+  min_more = let o = precedence_total in one_more _ _ (record {
+    passes = λ w b x t h. lt_le o (value x) (value b) (value w) t (le_of_lt (precedence (value b) (value w)) h);
+    weaker = λ w b x t h. lt_le o (value x) (value b) (value w) t h;
+    other = λ b x. not_below o (value b) (value x);
+  }) _
+
+  by_value : (beaten : VersionValue → VersionValue → Bool) (best : Option (Bor W)) (x : W) → replaces beaten set (value_of value best) (value x)
+      ≡ replaces (λ b x. beaten (value b) (value x)) (λ w. set (value w)) (option_copied best) x
+  by_value beaten None x = refl
+  by_value beaten (Some b) x = refl
+
+  -- the best so far of a loop over the list, one place further
+  module _ (list : List W) (i : ℕ) (x : W) (best next : Option (Bor W)) (new : Bool) (within : i < length list) (at : x ≡ get_or list i x)
+      (is : option_copied next ≡ (if new then Some x else option_copied best)) where
+    pub max_further : new ≡ replaces (λ b x. is_le (precedence b x)) set (value_of value best) (value x)
+        → IsMaxOf value set (take i list) (option_copied best) → IsMaxOf value set (take (i + 1) list) (option_copied next)
+    max_further e h = rw (is, take_next list i x within at) (max_more (take i list) (option_copied best) x new (e ∙ by_value _ best x) h)
+
+    pub min_further : new ≡ replaces (λ b x. is_lt (precedence x b)) set (value_of value best) (value x)
+        → IsMinOf value set (take i list) (option_copied best) → IsMinOf value set (take (i + 1) list) (option_copied next)
+    min_further e h = rw (is, take_next list i x within at) (min_more (take i list) (option_copied best) x new (e ∙ by_value _ best x) h)
+
+  -- the best element has the best version
+  best_version : (in_front behind : VersionValue → VersionValue → Bool) (list : List W) (r : Option (Bor W))
+      → IsBest (λ w v. in_front (value w) (value v)) (λ w v. behind (value w) (value v)) (λ w. set (value w)) list (option_copied r)
+      → IsBest in_front behind set (map value list) (value_of value r)
+  best_version in_front behind list None h = list_all-map _ value list ∙ h
+  best_version in_front behind list (Some v) h = (
+    h.0,
+    map value h.1,
+    map value h.2,
+    ap (map value) h.3 ∙ map-append value h.1 (v.now ∷ h.2),
+    list_all-map _ value h.1 ∙ h.4,
+    list_all-map _ value h.2 ∙ h.5,
+  )
+
+  pub max_version : (list : List W) (r : Option (Bor W)) → IsMaxOf value set list (option_copied r) → IsMax set (map value list) (value_of value r)
+  max_version = best_version (λ w v. is_le (precedence w v)) (λ w v. is_lt (precedence w v))
+
+  pub min_version : (list : List W) (r : Option (Bor W)) → IsMinOf value set list (option_copied r) → IsMin set (map value list) (value_of value r)
+  min_version = best_version (λ w v. is_lt (precedence v w)) (λ w v. is_le (precedence v w))
 
 -- what takes the place of the best is in the set, and the best is not in front of it
 pub replaces_both : {V : Type 0} (beaten : V → V → Bool) (set : V → Bool) (best : Option V) (v : V) (new : Bool)

@@ -5,12 +5,15 @@ use Rattle.nodejs_semver.proofs.Common.{Bound, Cut, End, Equal, Far, Id, IfSome,
 use Rattle.nodejs_semver.proofs.Common.{Span, Start, Unbounded, VersionValue, [], above_patch, accepts, alike_right, all_accept, all_flat, all_weaker}
 use Rattle.nodejs_semver.proofs.Common.{and-true, and_from, and_parts, any_flat, any_same, any_under, ap, ap₂, arith, begins_with, below_named}
 use Rattle.nodejs_semver.proofs.Common.{beside, better, beyond, bool_cmp, build_by, candidates, cases_Bool, chain, common_steps, cond_both, cut_total}
-use Rattle.nodejs_semver.proofs.Common.{empty_is, false, find, first_so, firsts, flat_map, fold, gt_lt, has_build, holds, if◌then◌else◌, inl, inr}
+use Rattle.nodejs_semver.proofs.Common.{empty_is, false, find, first_so, firsts, flat_map, fold, gt_lt, holds, if◌then◌else◌, inl, inr}
 use Rattle.nodejs_semver.proofs.Common.{irreflexive, is_gt, is_le, is_past, is_past-down, is_release, least_build, least_of, length, lets_in}
 use Rattle.nodejs_semver.proofs.Common.{list_all, list_all-append, list_any, list_marks, lower_cut, map, names, nat_tests, not, not-true, not_above}
-use Rattle.nodejs_semver.proofs.Common.{option_and_then, or-false, or_cases, or_left, or_parts, or_right, ordering_then, past_lt, pick_both, pre_cmp}
+use Rattle.nodejs_semver.proofs.Common.{or-false, or_cases, or_left, or_right, ordering_then, past_lt, pick_both, pre_cmp}
 use Rattle.nodejs_semver.proofs.Common.{precedence, precedence_total, refl, release_value, removed_marks, second_so, subst, sym, tells, tied_itself}
 use Rattle.nodejs_semver.proofs.Common.{true, upper_cut, version_eq, wanted, ◌&&◌, ◌++◌, ◌<◌, ◌||◌, ◌∙◌, ◌∷◌, ◌≡◌}
+use Rattle.nodejs_semver.proofs.{Common.{IsTrue, ◌↔◌}, Questions.Unions.by_least}
+use Rattle.nodejs_semver.specs.{Internal.Candidates.{better_kept, kept}, Ranges.Subsets.IsSubset}
+use Rattle.std.specs.Prelude.{is_none, is_some}
 use Rattle.nodejs_semver.specs.Internal.Candidates.{after_cut, among, bare, bare_release, below_at, first_past, first_pre, improves, is_reached}
 use Rattle.{nodejs_semver.specs.Internal.Candidates.{kept_marks, patch_after, pre_after, release_after, zero}, semver_core.proofs.Gate.below}
 use Rattle.semver_core.proofs.Gate.{in_order, le_of_lt, le_trans, lt_is, named, named_parts, not_gt_then, past_order, pre_upto, same_triple_is}
@@ -334,12 +337,14 @@ module _ (set : VersionValue → Bool) where
 
   -- ---- nothing from w on improves on a best that is not above w
 
-  no_better : (best : Option VersionValue) (w x : VersionValue) → is_reached best w ≡ true → is_le (precedence w x) ≡ true → better set best x ≡ best
-  no_better None w x h k = cc
-  no_better (Some b) w x h k = ap (λ q. if q && set x then Some x else Some b) (ap not (le_trans precedence_total b w x h k))
+  no_better : (copies : Bool) (best : Option VersionValue) (w x : VersionValue) → is_reached best w ≡ true → is_le (precedence w x) ≡ true
+      → better_kept copies set best x ≡ best
+  no_better copies None w x h k = cc
+  no_better copies (Some b) w x h k = ap (λ q. if q && set x then Some (kept copies x) else Some b) (ap not (le_trans precedence_total b w x h k))
 
-  reached : (best : Option VersionValue) (w : VersionValue) (s : Bool) → is_reached best w ≡ true → fold (better set) best (firsts (Beside w s)) ≡ best
-  reached best w s h = grind (arith, no_better, by_release, by_pre, release_above)
+  reached : (copies : Bool) (best : Option VersionValue) (w : VersionValue) (s : Bool) → is_reached best w ≡ true
+      → fold (better_kept copies set) best (firsts (Beside w s)) ≡ best
+  reached copies best w s h = grind (arith, no_better, by_release, by_pre, release_above)
     where
       by_release : (s : Bool) → is_le (precedence w (release_after w s)) ≡ true
       by_release Near = ap is_le (tied_itself precedence_total w)
@@ -349,11 +354,13 @@ module _ (set : VersionValue → Bool) where
       by_pre Near k = ap is_le (tied_itself precedence_total w)
       by_pre Far k = ap is_le (next_pre_above w k)
 
-  pub reached_near : (best : Option VersionValue) (w : VersionValue) → is_reached best w ≡ true → fold (better set) best (firsts (Beside w Near)) ≡ best
-  reached_near best w h = reached best w Near h
+  pub reached_near : (copies : Bool) (best : Option VersionValue) (w : VersionValue) → is_reached best w ≡ true
+      → fold (better_kept copies set) best (firsts (Beside w Near)) ≡ best
+  reached_near copies best w h = reached copies best w Near h
 
-  pub reached_far : (best : Option VersionValue) (w : VersionValue) → is_reached best w ≡ true → fold (better set) best (firsts (Beside w Far)) ≡ best
-  reached_far best w h = reached best w Far h
+  pub reached_far : (copies : Bool) (best : Option VersionValue) (w : VersionValue) → is_reached best w ≡ true
+      → fold (better_kept copies set) best (firsts (Beside w Far)) ≡ best
+  reached_far copies best w h = reached copies best w Far h
 
   -- the least version that a list names, where each version of the set has one of the list that is not above it
   pub least_named : (xs : List VersionValue) → ((v : VersionValue) → set v ≡ true → list_any (λ x. set x && is_le (precedence x v)) xs ≡ true)
@@ -431,41 +438,46 @@ pub wanted_bare : (w : VersionValue) (kss : List (List (Span VersionValue))) (ls
     → wanted kss ls (bare w) ≡ wanted kss ls w
 wanted_bare w kss ls = grind (arith, all_built, accepts_built)
 
-pub better_bare : (set : VersionValue → Bool) (b : Bool) (best : Option VersionValue) (w : VersionValue) → b ≡ (improves best w && set (bare w))
-    → (if b then Some (bare w) else best) ≡ better set best (bare w)
-better_bare set b None w e = ap (λ t. if t then Some (bare w) else None) e
-better_bare set b (Some x) w e = ap (λ t. if t then Some (bare w) else Some x) e
+pub better_bare : (copies : Bool) (set : VersionValue → Bool) (b : Bool) (best : Option VersionValue) (w : VersionValue)
+    → b ≡ (improves best w && set (bare w)) → (if b then Some (kept copies (bare w)) else best) ≡ better_kept copies set best (bare w)
+better_bare copies set b None w e = ap (λ t. if t then Some (kept copies (bare w)) else None) e
+better_bare copies set b (Some x) w e = ap (λ t. if t then Some (kept copies (bare w)) else Some x) e
+
+-- what was found stays
+stays : (copies : Bool) (set : VersionValue → Bool) (b x : VersionValue) → is_none (better_kept copies set (Some b) x) ≡ false
+stays copies set b x = cond_both (improves (Some b) x && set x) (Some (kept copies x)) (Some b) (λ o. is_none o ≡ false) (λ _. refl) (λ _. refl)
+
+-- a search that copies nothing finds something where one that copies does
+same_found : (set : VersionValue → Bool) (copies : Bool) (xs : List VersionValue) (best other : Option VersionValue)
+    → is_none best ≡ is_none other → is_none (fold (better_kept copies set) best xs) ≡ is_none (fold (better set) other xs)
+same_found set copies [] best other e = e
+same_found set copies (x ∷ xs) None None e = same_found set copies xs _ _ (grind arith)
+same_found set copies (x ∷ xs) None (Some b) e = cc e
+same_found set copies (x ∷ xs) (Some a) None e = cc e
+same_found set copies (x ∷ xs) (Some a) (Some b) e = same_found set copies xs _ _ (stays copies set a x ∙ sym (stays true set b x))
+
+pub answered : {A : Type 0} (r : Option A) (answer : Bool) → is_some r ≡ not answer → answer ≡ is_none r
+answered r true e = sym (ap not e)
+answered r false e = sym (ap not e)
+
+-- it finds nothing where there is nothing beyond
+pub found_beyond : (copies : Bool) (ks ls : List (Span VersionValue)) (kss : List (List (Span VersionValue))) (removed : List (Span VersionValue))
+    (r : Option VersionValue) (answer : Bool) → kss ≡ ks ∷ [] → removed ≡ ls → is_some r ≡ not answer
+    → r ≡ fold (better_kept copies (wanted kss removed)) None (candidates kss removed) → IsTrue answer ↔ IsSubset false ks ls
+found_beyond copies ks ls kss removed r answer k l is e =
+    rw (answered r answer is, e, k, l, same_found (wanted (ks ∷ []) ls) copies (candidates (ks ∷ []) ls) None None refl)
+    (by_least ks ls (beyond ks ls) false (λ v. refl) _ (least_of_one ks ls _ (least_wanted (ks ∷ []) ls (omega arith))))
 
 -- the least beyond nothing is the least that is accepted, whatever its build
 pub least_accepted : (ks : List (Span VersionValue)) (v : VersionValue) (b : List Id) → IsLeastOf (beyond ks []) (Some v)
     → IsLeastOf (λ w. accepts ks w false) (Some (record v { build = b }))
 least_accepted ks v b h = (accepts_built ks v b ∙ sym (and-true _) ∙ h.0, λ w e. h.1 w (and-true _ ∙ e))
 
--- the version with which the span begins that is found, if one is
-abbrev first_of : Option (Span VersionValue) → Option VersionValue
-first_of found = option_and_then (λ s. begins_with s.lower) found
-
 find_same : {X : Type 0} (p q : X → Bool) (xs : List X) → ((x : X) → p x ≡ q x) → find p xs ≡ find q xs
 find_same p q xs f = λ i. find (λ x. f x i) xs
 
 pub least_build_built : (ks : List (Span VersionValue)) (v : VersionValue) (b : List Id) → least_build ks (record v { build = b }) ≡ least_build ks v
 least_build_built ks v b = grind (arith, find_same, admits_built)
-
--- ---- no build comes from a bound that has none
-
-no_build : (b : Bound VersionValue) (v : VersionValue) → has_build b ≡ false → build_by (begins_with b) v ≡ []
-no_build b v h = grind arith
-
-pub unbuilt_stays : (ss : List (Span VersionValue)) (v : VersionValue) → v.build ≡ []
-    → list_any (λ s. has_build s.lower) ss ≡ false → v ≡ record v { build = least_build ss v }
-unbuilt_stays ss v bare h = ap (λ b. record v { build = b }) (bare ∙ sym (unbuilt ss h))
-  where
-    unbuilt : (ss : List (Span VersionValue)) → list_any (λ s. has_build s.lower) ss ≡ false → least_build ss v ≡ []
-    unbuilt [] h = refl
-    unbuilt (s ∷ ss) h =
-        let (here, there) = or_parts (has_build s.lower) (list_any (λ s. has_build s.lower) ss) h in
-        cond_both (holds precedence s v && lets_in s v) (Some s) (find (λ s. holds precedence s v && lets_in s v) ss)
-        (λ o. build_by (first_of o) v ≡ []) (λ _. no_build s.lower v here) (λ _. unbuilt ss there)
 
 -- ---- the least version that spans hold, the first past one of their lower cuts
 

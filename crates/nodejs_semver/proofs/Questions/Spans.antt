@@ -2,12 +2,12 @@
 use Rattle.nodejs_semver.proofs.Common.{All, All-get_or, All-head, All-tail, All-weaker, AllPass-from_list_all, Any, BeginsAfterPre, Bool, Bound}
 use Rattle.nodejs_semver.proofs.Common.{IfNone, IfSome, IsAfterPre, IsLeastSoFar, IsRaisable, IsRange, List, MAX_SAFE_INTEGER, None, Option, Raisable}
 use Rattle.nodejs_semver.proofs.Common.{Some, Span, VersionValue, [], accepts, all_accept, and-true, and_parts, ap, arith, below_named, beside}
-use Rattle.nodejs_semver.proofs.Common.{better, beyond, bound_of, candidates, common_steps, cond_both, false, false≢true, find, find-append, first_so}
+use Rattle.nodejs_semver.proofs.Common.{beyond, bound_of, candidates, common_steps, cond_both, false, false≢true, find, find-append, first_so}
 use Rattle.nodejs_semver.proofs.Common.{firsts, flat_map, flat_map-append, fold, fold-append, get_or, get_or-map, holds, inl, inr, is_le, is_lt}
 use Rattle.nodejs_semver.proofs.Common.{is_range_span, least_build, length, length-map, lets_in, list_any, list_any-append, list_marks, map}
 use Rattle.nodejs_semver.proofs.Common.{map-append, nat_tests, not, not_if, option_map, or-false, or_cases, precedence, precedence_total, refl}
 use Rattle.nodejs_semver.proofs.Common.{removed_marks, span_of, spans_of, subst, sym, take, take_next, tells, tied_itself, true, ℕ, ◌&&◌, ◌++◌, ◌+◌}
-use Rattle.nodejs_semver.{proofs.{Common.{◌-◌, ◌<◌, ◌^◌, ◌||◌, ◌∙◌, ◌∷◌, ◌≡◌, ◌⊎◌}, Values.map-further}, specs.Internal.Candidates.EndsAfterPre}
+use Rattle.nodejs_semver.{proofs.{Common.{◌-◌, ◌<◌, ◌^◌, ◌||◌, ◌∙◌, ◌∷◌, ◌≡◌, ◌⊎◌}, Values.map-further}, specs.Internal.Candidates.{EndsAfterPre, Finds}}
 use Rattle.nodejs_semver.specs.Internal.Candidates.{IsLeastBuilt, MayAllocate, StartsWith, first_past, lesser, zero}
 use Rattle.{semver_core.proofs.Gate.{le_of_lt, le_trans, lt_is, lt_le, past_order}, std.specs.Option.option_or}
 
@@ -74,39 +74,39 @@ pub any_here : {X : Type 0} (P : X → Type 0) (xs : List X) (i : ℕ) (x : X) �
 any_here P xs i x within at h = (i, x, within, sym at, h)
 
 -- all marks, after the first version of all
-pub all_marks : (set : VersionValue → Bool) (kss : List (List (Span VersionValue))) (ls : List (Span VersionValue))
-    (old first mid new : Option VersionValue) → first ≡ better set old zero
-    → mid ≡ fold (better set) first (flat_map firsts (flat_map list_marks kss))
-    → new ≡ fold (better set) mid (flat_map firsts (flat_map removed_marks ls)) → new ≡ fold (better set) old (candidates kss ls)
-all_marks set kss ls old first mid new f m n = grind (arith, common_steps, f, m, n, fold-append, flat_map-append)
+pub all_marks : (step : Option VersionValue → VersionValue → Option VersionValue) (kss : List (List (Span VersionValue))) (ls : List (Span VersionValue))
+    (old first mid new : Option VersionValue) → first ≡ step old zero
+    → mid ≡ fold step first (flat_map firsts (flat_map list_marks kss))
+    → new ≡ fold step mid (flat_map firsts (flat_map removed_marks ls)) → new ≡ fold step old (candidates kss ls)
+all_marks step kss ls old first mid new f m n = grind (arith, common_steps, f, m, n, fold-append, flat_map-append)
 
-pub range_further : (set : VersionValue → Bool) (kss : List (List (Span VersionValue))) (i : ℕ) (ks : List (Span VersionValue))
+pub range_further : (step : Option VersionValue → VersionValue → Option VersionValue) (kss : List (List (Span VersionValue))) (i : ℕ) (ks : List (Span VersionValue))
     → i < length kss → ks ≡ get_or kss i ks → (start old new : Option VersionValue)
-    → old ≡ fold (better set) start (flat_map firsts (flat_map list_marks (take i kss)))
-    → new ≡ fold (better set) old (flat_map firsts (list_marks ks))
-    → new ≡ fold (better set) start (flat_map firsts (flat_map list_marks (take (i + 1) kss)))
-range_further set kss i ks within at start old new e k = grind (arith, common_steps, e, k, take_next kss i ks within at, fold-append, flat_map-append)
+    → old ≡ fold step start (flat_map firsts (flat_map list_marks (take i kss)))
+    → new ≡ fold step old (flat_map firsts (list_marks ks))
+    → new ≡ fold step start (flat_map firsts (flat_map list_marks (take (i + 1) kss)))
+range_further step kss i ks within at start old new e k = grind (arith, common_steps, e, k, take_next kss i ks within at, fold-append, flat_map-append)
 
-module _ {V : Type 0} (value : V → VersionValue) (set : VersionValue → Bool) (xs : List (Span V)) (i : ℕ) (x : Span V)
+module _ {V : Type 0} (value : V → VersionValue) (step : Option VersionValue → VersionValue → Option VersionValue) (xs : List (Span V)) (i : ℕ) (x : Span V)
     (within : i < length xs) (at : x ≡ get_or xs i x) (start old new : Option VersionValue) where
-  pub removed_further : old ≡ fold (better set) start (flat_map firsts (flat_map removed_marks (spans_of value (take i xs))))
-      → new ≡ fold (better set) old (flat_map firsts (beside (bound_of value x.upper)))
-      → new ≡ fold (better set) start (flat_map firsts (flat_map removed_marks (spans_of value (take (i + 1) xs))))
+  pub removed_further : old ≡ fold step start (flat_map firsts (flat_map removed_marks (spans_of value (take i xs))))
+      → new ≡ fold step old (flat_map firsts (beside (bound_of value x.upper)))
+      → new ≡ fold step start (flat_map firsts (flat_map removed_marks (spans_of value (take (i + 1) xs))))
   removed_further e k = grind (arith, nat_tests, common_steps, map-further, fold-append, flat_map-append)
 
-  pub kept_further : (between : Option VersionValue) → old ≡ fold (better set) start (flat_map firsts (list_marks (spans_of value (take i xs))))
-      → between ≡ fold (better set) old (flat_map firsts (beside (bound_of value x.lower)))
-      → new ≡ fold (better set) between (flat_map firsts (below_named (bound_of value x.upper)))
-      → new ≡ fold (better set) start (flat_map firsts (list_marks (spans_of value (take (i + 1) xs))))
+  pub kept_further : (between : Option VersionValue) → old ≡ fold step start (flat_map firsts (list_marks (spans_of value (take i xs))))
+      → between ≡ fold step old (flat_map firsts (beside (bound_of value x.lower)))
+      → new ≡ fold step between (flat_map firsts (below_named (bound_of value x.upper)))
+      → new ≡ fold step start (flat_map firsts (list_marks (spans_of value (take (i + 1) xs))))
   kept_further between e k m = grind (arith, nat_tests, common_steps, map-further, fold-append, flat_map-append)
 
-  pub held_further : old ≡ fold (better set) start (map (λ s. first_past s.lower) (spans_of value (take i xs)))
-      → new ≡ better set old (first_past (bound_of value x.lower))
-      → new ≡ fold (better set) start (map (λ s. first_past s.lower) (spans_of value (take (i + 1) xs)))
-  held_further e k = k ∙ ap (λ o. better set o (first_past (bound_of value x.lower))) e
-      ∙ sym (ap (λ l. fold (better set) start (map (λ s. first_past s.lower) l)) (map-further (span_of value) xs i x within at)
-      ∙ ap (fold (better set) start) (map-append (λ s. first_past s.lower) (spans_of value (take i xs)) (span_of value x ∷ []))
-      ∙ fold-append (better set) start (map (λ s. first_past s.lower) (spans_of value (take i xs))) (first_past (bound_of value x.lower) ∷ []))
+  pub held_further : old ≡ fold step start (map (λ s. first_past s.lower) (spans_of value (take i xs)))
+      → new ≡ step old (first_past (bound_of value x.lower))
+      → new ≡ fold step start (map (λ s. first_past s.lower) (spans_of value (take (i + 1) xs)))
+  held_further e k = k ∙ ap (λ o. step o (first_past (bound_of value x.lower))) e
+      ∙ sym (ap (λ l. fold step start (map (λ s. first_past s.lower) l)) (map-further (span_of value) xs i x within at)
+      ∙ ap (fold step start) (map-append (λ s. first_past s.lower) (spans_of value (take i xs)) (span_of value x ∷ []))
+      ∙ fold-append step start (map (λ s. first_past s.lower) (spans_of value (take i xs))) (first_past (bound_of value x.lower) ∷ []))
 
 -- ---- the least version of spans each of which begins with a version that it accepts
 
@@ -179,14 +179,24 @@ Any-none P h = omega (arith, h.2)
 Any-one : {X : Type 0} (P : X → Type 0) (x : X) → Any P (x ∷ []) → P x
 Any-one P x h = grind (arith, common_steps, h.2, h.3, h.4)
 
-pub one_allocates : (ks ls : List (Span VersionValue)) → MayAllocate (ks ∷ []) ls
+pub one_allocates : (ks ls : List (Span VersionValue)) → MayAllocate true (ks ∷ []) ls
     → ((v : VersionValue) × (beyond ks ls v ≡ true)) ⊎ BeginsAfterPre ks ⊎ EndsAfterPre ls
 one_allocates ks ls h = grind (arith, nat_tests, common_steps, and-true, Any-one)
 
 -- beyond nothing
-pub alone_allocates : (ks : List (Span VersionValue)) → MayAllocate (ks ∷ []) [] → ((v : VersionValue) × (accepts ks v false ≡ true)) ⊎ BeginsAfterPre ks
+pub alone_allocates : (ks : List (Span VersionValue)) → MayAllocate true (ks ∷ []) []
+    → ((v : VersionValue) × (accepts ks v false ≡ true)) ⊎ BeginsAfterPre ks
 alone_allocates ks h = grind (arith, nat_tests, common_steps, one_allocates, and-true, Any-none)
 
-pub all_allocate : (lists : List (List (Span VersionValue))) → MayAllocate lists []
+pub all_allocate : (lists : List (List (Span VersionValue))) → MayAllocate true lists []
     → ((v : VersionValue) × (all_accept lists v ≡ true)) ⊎ Any BeginsAfterPre lists
 all_allocate lists h = grind (arith, nat_tests, common_steps, and-true, Any-none)
+
+-- where nothing is copied
+pub trying_allocates : (ks ls : List (Span VersionValue)) → MayAllocate false (ks ∷ []) ls → BeginsAfterPre ks ⊎ EndsAfterPre ls
+trying_allocates ks ls h = grind (arith, nat_tests, common_steps, Any-one)
+
+-- with pre-releases included
+pub held_allocates : (ks : List (Span VersionValue)) → Finds true (λ v. accepts ks v true) ⊎ BeginsAfterPre ks
+    → ((v : VersionValue) × (accepts ks v true ≡ true)) ⊎ BeginsAfterPre ks
+held_allocates ks h = elim h [ inl found ↦ inl (found.1, found.2) | inr begins ↦ inr begins ]

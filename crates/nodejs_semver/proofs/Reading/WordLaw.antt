@@ -1,20 +1,19 @@
 -- The word that is computed is the one that is written, and the one that its sign tells.
-use Rattle.nodejs_semver.proofs.Common.{Bool, Comparator, IfSome, IsCharBoundary, IsCharBoundary-after_ascii, IsSign, IsTrim, IsUtf8, IsUtf8-drop}
-use Rattle.nodejs_semver.proofs.Common.{IsUtf8-take, List, None, Option, Partial, Sign, Some, Word, [], ap, append_assoc, arith, bind_some}
-use Rattle.nodejs_semver.proofs.Common.{cases_Bool, component_front, cond_some, drop, drop_at, drop_more, drop_spaces, drop_spaces-blank}
-use Rattle.nodejs_semver.proofs.Common.{drop_spaces-none, encode_utf8, encode_utf8_all, encodes-append, eqb-true, false, from_boundary, hyphen, inl}
-use Rattle.nodejs_semver.proofs.Common.{inr, is_boundary, len_utf8_bounds, length, length-append, lt-ltb, nat_lt, nat_tests, partial_front, plain}
-use Rattle.nodejs_semver.proofs.Common.{refl, same_Some, sign_at, space_len, space_len-nil, subst, sym, take_at, tilde_sign, true, upper_of, word_at}
-use Rattle.nodejs_semver.proofs.{Common.{ℕ, ◌++◌, ◌+◌, ◌<◌, ◌==◌, ◌||◌, ◌↔◌, ◌∙◌, ◌∷◌, ◌≡◌, ◌≤◌, ◌⊎◌}, Reading.PartialLaw.longest_are}
+use Rattle.nodejs_semver.proofs.Common.{Bool, Comparator, IfSome, IsSign, IsUtf8}
+use Rattle.nodejs_semver.proofs.Common.{List, None, Option, Partial, Sign, Some, Word, [], ap, arith, bind_some}
+use Rattle.nodejs_semver.proofs.Common.{cases_Bool, component_front, cond_some, drop_spaces}
+use Rattle.nodejs_semver.proofs.Common.{drop_spaces-none, eqb-true, false, from_boundary, hyphen, inl}
+use Rattle.nodejs_semver.proofs.Common.{inr, is_boundary, length, lt-ltb, nat_tests, partial_front, plain}
+use Rattle.nodejs_semver.proofs.Common.{refl, same_Some, sign_at, space_len, subst, sym, tilde_sign, true, upper_of, word_at}
+use Rattle.nodejs_semver.proofs.{Common.{ℕ, ◌++◌, ◌==◌, ◌||◌, ◌↔◌, ◌∙◌, ◌∷◌, ◌≡◌, ◌⊎◌}, Reading.PartialLaw.longest_are}
 use Rattle.nodejs_semver.specs.Internal.Words.{at_boundary, behind_sign, careted, comparator_at, compared, comparing, or_equal, or_malformed}
 use Rattle.nodejs_semver.specs.{Internal.Words.{signed_word, tilded, unsigned, upper_behind, word_behind}, Text.LongestText.IsLongestPartial}
 use Rattle.nodejs_semver.specs.Text.WordText.{IsBehind, IsForm, IsHyphen, IsWhole, IsWordAt, above_sign, at_least_sign, at_most_sign, below_sign}
 use Rattle.nodejs_semver.specs.Text.WordText.{caret_form, compare_form, equal_sign, formed, hyphen_form, no_form, plain_form, tilde_form}
-use Rattle.{nodejs_semver.specs.Text.WordText.tilde_greater_form, semver_core.proofs.Reading.{Boundaries.{spaced, spaces-gone}, Bytes.solid-dark}}
-use Rattle.semver_core.proofs.{Reading.Steps.option-cases, Text.SpaceLaw.{space_len-dark, space_len-inside, space_len-white}}
+use Rattle.{nodejs_semver.specs.Text.WordText.tilde_greater_form, semver_core.proofs.Reading.{Boundaries.{spaces-gone}, Bytes.solid-dark}}
+use Rattle.semver_core.proofs.{Reading.Steps.option-cases}
 use Rattle.semver_core.specs.{Internal.{Boundaries.after_some_space, Fronts.{after_byte, number_of}, Reading.◌>>?◌}, Text.Boundaries.IsBoundary}
-use Rattle.{semver_core.specs.Text.{Boundaries.{IsFirstBoundary, SkipsBlank}, Characters.BeginsBlank}, std.proofs.Math.Seq.get_or-append_seam}
-use Rattle.std.proofs.lemmas.Str.{IsCharBoundary-at_seam, IsUtf8-nil, IsUtf8-past_char}
+use Rattle.{semver_core.specs.Text.{Boundaries.{SkipsBlank}}}
 use Rattle.semver_core.proofs.Reading.Boundaries.{blank-len, boundary-of, boundary-utf8, byte-is, first-is, first-of}
 use Rattle.semver_core.proofs.Reading.Boundaries.{skips-is, skips-of, skips-utf8, some_space-is}
 use Rattle.semver_core.proofs.Reading.Boundaries.{suffix-boundary, tail-utf8}

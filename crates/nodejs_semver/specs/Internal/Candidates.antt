@@ -10,7 +10,6 @@ use Rattle.semver_core.specs.Values.Order.{precedence}
 use Rattle.semver_core.specs.Values.Versions.{VersionValue, is_release}
 use Rattle.semver_core.specs.declared.cuts.bound.Bound.{Bound}
 use Rattle.semver_core.specs.declared.cuts.bound.Bound.TheVariants.{Unbounded, Before, After}
-use Rattle.semver_core.specs.Lists.{is_empty}
 use Rattle.nodejs_semver.specs.Ranges.Gate.{accepts}
 use Rattle.semver_core.specs.Values.Gate.{lets_in}
 use Rattle.nodejs_semver.specs.Ranges.Least.{IsLeastOf, beyond, least_build}
@@ -102,6 +101,13 @@ improves best x = not (is_reached best x)
 abbrev pub better : (VersionValue → Bool) → Option VersionValue → VersionValue → Option VersionValue
 better set best x = if improves best x && set x then Some x else best
 
+-- the same of a search that copies what it finds, or has 0.0.0 stand for it
+abbrev pub kept : Bool → VersionValue → VersionValue
+kept copies x = if copies then x else zero
+
+abbrev pub better_kept : Bool → (VersionValue → Bool) → Option VersionValue → VersionValue → Option VersionValue
+better_kept copies set best x = if improves best x && set x then Some (kept copies x) else best
+
 abbrev pub least_of : (VersionValue → Bool) → List VersionValue → Option VersionValue
 least_of set xs = fold (better set) None xs
 
@@ -119,12 +125,6 @@ abbrev pub first_past : Bound VersionValue → VersionValue
 first_past Unbounded = first_pre zero
 first_past (Before w) = bare w
 first_past (After w) = if is_release w then first_pre (patch_after w) else pre_after w
-
--- whether the bound's version has a build
-abbrev pub has_build : Bound VersionValue → Bool
-has_build Unbounded = false
-has_build (Before w) = not (is_empty w.build)
-has_build (After w) = not (is_empty w.build)
 
 -- the span begins with this version, and accepts it
 abbrev pub StartsWith : Span VersionValue → VersionValue → Type 0
@@ -148,9 +148,9 @@ abbrev pub lesser : Option VersionValue → VersionValue → VersionValue
 lesser None next = next
 lesser (Some best) next = if is_le (precedence best next) then best else next
 
--- there is a version in the set
-abbrev pub Finds : (VersionValue → Bool) → Type 0
-Finds set = (v : VersionValue) × (set v ≡ true)
+-- there is a version in the set, and it is copied
+abbrev pub Finds : Bool → (VersionValue → Bool) → Type 0
+Finds copies set = (copies ≡ true) × (v : VersionValue) × (set v ≡ true)
 
 -- the bound is `>v` of a pre-release v: the version after v is made before it is known to be in the set
 abbrev pub IsAfterPre : Bound VersionValue → Type 0
@@ -163,5 +163,5 @@ abbrev pub EndsAfterPre : List (Span VersionValue) → Type 0
 EndsAfterPre ss = Any (λ s. IsAfterPre s.upper) ss
 
 -- when the search may allocate: it finds a version, or has to make one to try it
-abbrev pub MayAllocate : List (List (Span VersionValue)) → List (Span VersionValue) → Type 0
-MayAllocate kss ls = Finds (wanted kss ls) ⊎ Any BeginsAfterPre kss ⊎ EndsAfterPre ls
+abbrev pub MayAllocate : Bool → List (List (Span VersionValue)) → List (Span VersionValue) → Type 0
+MayAllocate copies kss ls = Finds copies (wanted kss ls) ⊎ Any BeginsAfterPre kss ⊎ EndsAfterPre ls

@@ -6,7 +6,7 @@ use Rattle.semver_core.specs.Cuts.{Span, interval, meet}
 use Rattle.semver_core.specs.Values.Order.{precedence}
 use Rattle.semver_core.specs.Lists.{is_empty}
 use Rattle.semver_core.specs.Values.Versions.{VersionValue}
-use Rattle.semver_core.specs.Internal.Fronts.{after_byte, begins_byte, component_front, dotted_front, Front}
+use Rattle.semver_core.specs.Internal.Fronts.{component_front, dotted_front, Front}
 use Rattle.nodejs_semver.specs.Internal.Fronts.{minor_front}
 use Rattle.std.specs.List.{list_any}
 use Rattle.nodejs_semver.specs.Text.PartialText.{Partial}

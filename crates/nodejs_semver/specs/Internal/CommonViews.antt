@@ -6,8 +6,9 @@ use Rattle.semver_core.specs.Values.Order.{precedence}
 use Rattle.semver_core.specs.Values.Versions.{VersionValue}
 use Rattle.nodejs_semver.specs.Internal.CommonFronts.{part_read}
 use Rattle.semver_core.specs.Internal.Fronts.{Front}
-use Rattle.semver_core.specs.Internal.Views.{bounds_view, rest_view}
-use Rattle.semver_core.specs.declared.scan.pieces.bounds.Bounds.{Bounds}
+use Rattle.semver_core.specs.Internal.Views.{rest_view}
+use Rattle.semver_pieces.specs.Internal.Views.{bounds_view}
+use Rattle.semver_pieces.specs.declared.bounds.Bounds.{Bounds}
 
 -- the interval of the bounds, where they make one, and what follows the word
 abbrev pub bounds_front_view : Option (Bounds × Bor (List ℕ)) → Front (Span VersionValue)

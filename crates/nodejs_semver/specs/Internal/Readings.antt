@@ -10,14 +10,11 @@ use Rattle.semver_core.specs.Cuts.{Span}
 use Rattle.semver_core.specs.Values.Versions.{VersionValue}
 use Rattle.semver_core.specs.Internal.Fronts.{Front}
 use Rattle.nodejs_semver.specs.Internal.Words.{unsigned, compared, tilded, careted}
-use Rattle.semver_core.specs.Text.Comparators.{at_least, above, equal, at_most, below}
-use Rattle.semver_core.specs.declared.scan.pieces.bounds.Bounds.{Bounds}
+use Rattle.semver_pieces.specs.declared.bounds.Bounds.{Bounds}
 use Rattle.nodejs_semver.specs.declared.readers.syntax.Partial.{Partial}
-use Rattle.semver_core.specs.declared.scan.pieces.bounds.Comparator.{Comparator}
-use Rattle.semver_core.specs.declared.scan.pieces.bounds.Comparator.TheVariants.{AtLeast, Above, Equal}
-use Rattle.semver_core.specs.declared.scan.pieces.bounds.Comparator.TheVariants.{AtMost, Below}
+use Rattle.semver_pieces.specs.declared.bounds.Comparator.{Comparator}
 use Rattle.nodejs_semver.specs.declared.readers.syntax.Sign.{Sign}
-use Rattle.semver_core.specs.Internal.Views.{bounds_view, comparator_view}
+use Rattle.semver_pieces.specs.Internal.Views.{bounds_view, comparator_view}
 
 abbrev pub partial_view : Partial → Spec.Partial
 partial_view p =

@@ -1,9 +1,8 @@
 -- For proofs and private contracts. The words of a part, computed: a word is read from its sign on. `word_at` gives the word of
 -- `IsWordAt`.
-use Rattle.std.specs.Prelude.{ℕ, zero, suc, ◌==◌, ◌||◌, nat_lt, Bool, true, false, List, [], ◌∷◌, length}
+use Rattle.std.specs.Prelude.{ℕ, zero, suc, ◌==◌, Bool, true, false, List, [], ◌∷◌, length}
 use Rattle.std.specs.Prelude.{Option, Some, None, if◌then◌else◌}
-use Rattle.semver_core.specs.Internal.Spaces.{drop_spaces, space_len}
-use Rattle.semver_core.specs.Lists.{is_empty}
+use Rattle.semver_core.specs.Internal.Spaces.{drop_spaces}
 use Rattle.nodejs_semver.specs.Text.PartialText.{Partial}
 use Rattle.semver_core.specs.Internal.Fronts.{Front, after_byte}
 use Rattle.nodejs_semver.specs.Internal.Fronts.{partial_front}

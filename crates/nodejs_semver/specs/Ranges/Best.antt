@@ -19,10 +19,20 @@ abbrev pub replaces : {V : Type 0} → (V → V → Bool) → (V → Bool) → O
 replaces beaten set None v = set v
 replaces beaten set (Some best) v = beaten best v && set v
 
--- the last of the greatest: none in front of it is above it, and all behind it are below
-abbrev pub IsMax : (VersionValue → Bool) → List VersionValue → Option VersionValue → Type 0
-IsMax = IsBest (λ w v. is_le (precedence w v)) (λ w v. is_lt (precedence w v))
+-- the last of the greatest elements by the versions that they have: none in front of it is above it, and all
+-- behind it are below
+abbrev pub IsMaxOf : {W : Type 0} → (W → VersionValue) → (VersionValue → Bool) → List W → Option W → Type 0
+IsMaxOf value set = IsBest (λ w v. is_le (precedence (value w) (value v)))
+    (λ w v. is_lt (precedence (value w) (value v))) (λ w. set (value w))
 
--- the first of the least: all in front of it are above it, and none behind it is below
+-- the first of the least elements: all in front of it are above it, and none behind it is below
+abbrev pub IsMinOf : {W : Type 0} → (W → VersionValue) → (VersionValue → Bool) → List W → Option W → Type 0
+IsMinOf value set = IsBest (λ w v. is_lt (precedence (value v) (value w)))
+    (λ w v. is_le (precedence (value v) (value w))) (λ w. set (value w))
+
+-- the same of versions
+abbrev pub IsMax : (VersionValue → Bool) → List VersionValue → Option VersionValue → Type 0
+IsMax = IsMaxOf (λ v. v)
+
 abbrev pub IsMin : (VersionValue → Bool) → List VersionValue → Option VersionValue → Type 0
-IsMin = IsBest (λ w v. is_lt (precedence v w)) (λ w v. is_le (precedence v w))
+IsMin = IsMinOf (λ v. v)

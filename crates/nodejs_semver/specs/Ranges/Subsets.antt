@@ -15,9 +15,11 @@ IsSubset include ss ts = (v : VersionValue) → accepts ss v include ≡ true �
 abbrev pub AcceptSame : Bool → List (Span VersionValue) → List (Span VersionValue) → Type 0
 AcceptSame include ss ts = (v : VersionValue) → accepts ss v include ≡ accepts ts v include
 
--- there is a version that the first accepts and the second does not; or a bound `>v` of the first or `<=v` of
--- the second, of a pre-release v, after which a version is made to try it
-abbrev pub MayTakeMemory : List (Span VersionValue) → List (Span VersionValue) → Type 0
-MayTakeMemory ss ts = ((v : VersionValue) × (beyond ss ts v ≡ true))
-    ⊎ Any (λ s. (v : VersionValue) × (s.lower ≡ After v) × (is_release v ≡ false)) ss
+-- a bound `>v` of the first or `<=v` of the second, of a pre-release v: the version after v is made to try it
+abbrev pub MayTryOne : List (Span VersionValue) → List (Span VersionValue) → Type 0
+MayTryOne ss ts = Any (λ s. (v : VersionValue) × (s.lower ≡ After v) × (is_release v ≡ false)) ss
     ⊎ Any (λ s. (v : VersionValue) × (s.upper ≡ After v) × (is_release v ≡ false)) ts
+
+-- there is a version that the first accepts and the second does not, or there is such a bound
+abbrev pub MayTakeMemory : List (Span VersionValue) → List (Span VersionValue) → Type 0
+MayTakeMemory ss ts = ((v : VersionValue) × (beyond ss ts v ≡ true)) ⊎ MayTryOne ss ts

@@ -1,6 +1,6 @@
 -- Statement. The words of a part, and what each is as a text.
-use Rattle.std.specs.Prelude.{◌≡◌, ◌⊎◌, ◌≤◌, ℕ, Bool, true, false, List, [], ◌++◌, codes, length}
-use Rattle.semver_core.specs.Text.Characters.{BeginsBlank, IsBlank}
+use Rattle.std.specs.Prelude.{ℕ, Bool, true, false, List, ◌++◌, codes}
+use Rattle.semver_core.specs.Text.Characters.{BeginsBlank}
 use Rattle.nodejs_semver.specs.Text.LongestText.{IsLongestPartial}
 use Rattle.nodejs_semver.specs.Text.PartialText.{Partial}
 pub use Rattle.semver_core.specs.Text.Boundaries.{IsBoundary, IsFirstBoundary, SkipsBlank}

@@ -4,7 +4,7 @@ ghost use Rattle.nodejs_semver.specs.Words.{flaw_text, Some};
 ghost use Rattle.nodejs_semver.specs.Words.{word_text};
 
 use crate::diagnosis::{Expected, IgnoredKind, IgnoredWord, VersionFlaw};
-use semver_core::scan::pieces::write_at;
+use semver_pieces::write_at;
 use std::fmt;
 
 /// A flaw prints as a message with its place, as in `expected a digit at byte 2`. Width, fill and

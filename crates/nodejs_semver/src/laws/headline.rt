@@ -1,8 +1,9 @@
 // The headline of this crate. It rests on the contracts of the public calls alone.
 
-ghost use Rattle.std.specs.Prelude.{◌&&◌, ◌↔◌, ◌≡◌, ◌⊎◌, [], false, IfOk, IsTrue, List};
-ghost use Rattle.nodejs_semver.specs.Words.{accepts, IsLeastOf, Means, not, OnOk, RefusedOnlyIf};
-ghost use Rattle.nodejs_semver.specs.Words.{Span, true, unwrap_or, VersionValue, Writes};
+ghost use Rattle.std.specs.Prelude.{◌&&◌, ◌↔◌, ◌≡◌, ◌⊎◌, [], false, IfOk, IfSome, IsTrue, List};
+ghost use Rattle.nodejs_semver.specs.Words.{accepts, IsLeastOf, least_build, Means, not, OnOk};
+ghost use Rattle.nodejs_semver.specs.Words.{RefusedOnlyIf, Span, true, unwrap_or, VersionValue};
+ghost use Rattle.nodejs_semver.specs.Words.{Writes};
 
 use crate::{Allocated, Failure, MAX_SAFE_INTEGER, Range, RangeOf, SemverError, Version};
 use semver_core::{VersionPoint, Versioned};
@@ -25,7 +26,8 @@ pub struct Findings {
 /// range texts, those with a meaning. With pre-releases included a's range accepts exactly
 /// what a writes, `intersect` exactly what both texts write, and `difference` exactly what a writes
 /// and b does not; no range stands for the empty set. `min_version` is the smallest version that
-/// `satisfies` accepts, and `None` exactly if there is none.
+/// `satisfies` accepts, with the build of the bound from which it comes, and `None` exactly if
+/// there is none.
 ///
 /// `Range::satisfies_with_prerelease` returns what `accepts` says here, and `satisfies` the same
 /// with false for the flag.
@@ -45,6 +47,9 @@ pub fn headline(alloc: Global, a: &str, b: &str) -> Result<Findings, Failure<Sem
         ↔ (Writes MAX_SAFE_INTEGER a.now v × (Writes MAX_SAFE_INTEGER b.now v → ⊥))) }
     ensures least { IfOk result (λ found. (list : List (Span VersionValue))
         → Means MAX_SAFE_INTEGER a.now list → IsLeastOf (λ v. accepts list v false) found.least) }
+    ensures build { IfOk result (λ found. (list : List (Span VersionValue))
+        → Means MAX_SAFE_INTEGER a.now list
+        → IfSome found.least (λ v. v.build ≡ least_build list v)) }
 {
     let first = Range::parse(alloc, a)?;
     let second = Range::parse(alloc, b)?;
@@ -61,6 +66,8 @@ fn findings_of(alloc: Global, first: Range, other: &Range) -> Allocated<Findings
         accepts (unwrap_or found.first_alone []) v true
         ≡ (accepts first v true && not (accepts other.now v true))) }
     ensures least { IfOk result (λ found. IsLeastOf (λ v. accepts first v false) found.least) }
+    ensures build { IfOk result (λ found.
+        IfSome found.least (λ v. v.build ≡ least_build first v)) }
 {
     let both = first.intersect(alloc, other)?;
     let first_alone = first.difference(alloc, other)?;
@@ -109,6 +116,9 @@ pub fn headline_at(
         × (Writes MAX_SAFE_INTEGER b.now version.now → ⊥))) }
     ensures least { IfOk result (λ found. (list : List (Span VersionValue))
         → Means MAX_SAFE_INTEGER a.now list → IsLeastOf (λ v. accepts list v false) found.least) }
+    ensures build { IfOk result (λ found. (list : List (Span VersionValue))
+        → Means MAX_SAFE_INTEGER a.now list
+        → IfSome found.least (λ v. v.build ≡ least_build list v)) }
 {
     let found = headline(alloc, a, b)?;
     Ok(FindingsAt {

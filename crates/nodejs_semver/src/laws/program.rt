@@ -1,9 +1,10 @@
 // The headline over the calls that the program makes, which borrow the texts.
 
 ghost use Rattle.std.specs.Prelude.{◌&&◌, ◌↔◌, ◌∷◌, ◌≡◌, ◌⊎◌, []};
-ghost use Rattle.nodejs_semver.specs.Words.{accepts, false, IfOk, IsLeastOf, IsOk, IsTrue, List};
-ghost use Rattle.nodejs_semver.specs.Words.{MAX_SAFE_INTEGER, Means, not, NoValue, OnOk, Parses};
-ghost use Rattle.nodejs_semver.specs.Words.{RefusedOnlyIf, Span, true, VersionValue, Writes};
+ghost use Rattle.nodejs_semver.specs.Words.{accepts, false, IfOk, IfSome, IsLeastOf, IsOk, IsTrue};
+ghost use Rattle.nodejs_semver.specs.Words.{least_build, List, MAX_SAFE_INTEGER, Means, not};
+ghost use Rattle.nodejs_semver.specs.Words.{NoValue, OnOk, Parses, RefusedOnlyIf, Span, true};
+ghost use Rattle.nodejs_semver.specs.Words.{VersionValue, Writes};
 
 use crate::laws::headline::{FindingsAt, is_in};
 use crate::{Failure, MAX_SAFE_INTEGER, RangeRef, SemverError, VersionRef};
@@ -14,7 +15,8 @@ use std::alloc::Global;
 /// and a version text v. It answers exactly if each of them is valid, unless an allocation fails.
 /// With pre-releases included a's range accepts v's version exactly if a writes it, the
 /// intersection exactly if both texts write it, and the difference exactly if a writes it and b
-/// does not. The least version is the smallest one that `satisfies` accepts.
+/// does not. The least version is the smallest one that `satisfies` accepts, with the
+/// build that `min_version` says.
 pub fn headline_of_texts<'t>(
     alloc: Global,
     a: &'t str,
@@ -38,6 +40,9 @@ pub fn headline_of_texts<'t>(
         ↔ (Writes MAX_SAFE_INTEGER a.now w × (Writes MAX_SAFE_INTEGER b.now w → ⊥))) }
     ensures least { IfOk result (λ found. (list : List (Span VersionValue))
         → Means MAX_SAFE_INTEGER a.now list → IsLeastOf (λ w. accepts list w false) found.least) }
+    ensures build { IfOk result (λ found. (list : List (Span VersionValue))
+        → Means MAX_SAFE_INTEGER a.now list
+        → IfSome found.least (λ w. w.build ≡ least_build list w)) }
 {
     one_reading(v);
     let version = VersionRef::parse(v)?;
@@ -60,6 +65,8 @@ fn findings_at<'t>(
     ensures first_alone { IfOk result (λ found. found.in_first_alone
         ≡ (accepts first.now version.now true && not (accepts second.now version.now true))) }
     ensures least { IfOk result (λ found. IsLeastOf (λ w. accepts first.now w false) found.least) }
+    ensures build { IfOk result (λ found.
+        IfSome found.least (λ w. w.build ≡ least_build first.now w)) }
 {
     let in_both = is_in(first.intersect(alloc, second)?, version);
     let in_first_alone = is_in(first.difference(alloc, second)?, version);

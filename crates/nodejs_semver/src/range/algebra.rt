@@ -104,7 +104,8 @@ impl<V: VersionPoint> RangeOf<V> {
         ensures memory { OnErr result
             (IsTrue (is_some (difference self.now other.now)) ⊎ (1 < length other.now)) }
     {
-        self.remaining(alloc, other)
+        let left = interval_lists::differences(alloc, self.items(), other.items())?;
+        Ok(RangeOf::of_intervals(left))
     }
 
     // What the pairs of intervals have in common.
@@ -123,16 +124,6 @@ impl<V: VersionPoint> RangeOf<V> {
         let mut found = SmallVec::new(alloc);
         interval_lists::push_all_intersections(alloc, &mut found, these, others)?;
         Ok(RangeOf::of_intervals(found))
-    }
-
-    // What the other range leaves of this one.
-    fn remaining(&self, alloc: Global, other: &RangeOf<V>) -> Allocated<Option<RangeOf<V>>>
-        ensures list { IfOk result (λ r. r ≡ difference self.now other.now) }
-        ensures memory { OnErr result
-            (IsTrue (is_some (difference self.now other.now)) ⊎ (1 < length other.now)) }
-    {
-        let left = interval_lists::differences(alloc, self.items(), other.items())?;
-        Ok(RangeOf::of_intervals(left))
     }
 }
 

@@ -2,9 +2,9 @@
 
 ghost use Rattle.std.specs.Prelude.{◌++◌, ◌∷◌, ◌≡◌, if◌then◌else◌, [], All, Contains, false};
 ghost use Rattle.nodejs_semver.specs.Words.{accepts, IfNone, IfSome, is_le, is_lt, is_release};
-ghost use Rattle.nodejs_semver.specs.Words.{IsMax, IsMin, List, list_all, map, option_copied};
-ghost use Rattle.nodejs_semver.specs.Words.{option_map, precedence, replaces, Some, spans_of, true};
-ghost use Rattle.nodejs_semver.specs.Words.{VersionValue};
+ghost use Rattle.nodejs_semver.specs.Words.{IsMax, IsMaxOf, IsMin, List, list_all, map};
+ghost use Rattle.nodejs_semver.specs.Words.{option_copied, option_map, precedence, replaces, Some};
+ghost use Rattle.nodejs_semver.specs.Words.{spans_of, true, VersionValue};
 
 use crate::range::gate::accepts;
 use crate::{Range, RangeOf, RangeRef};
@@ -179,8 +179,11 @@ impl<V: VersionPoint> RangeOf<V> {
         ranges: &[RangeOf<V>],
         versions: &'v [W],
     ) -> Option<&'v W>
-        ensures { IsMax (λ v. list_all (λ range. accepts range v false) ranges.now)
+        ensures best { IsMax (λ v. list_all (λ range. accepts range v false) ranges.now)
             (map W.value versions.now) (option_map (λ v. W.value v.now) result) }
+        ensures element { IsMaxOf W.value
+            (λ v. list_all (λ range. accepts range v false) ranges.now)
+            versions.now (option_copied result) }
     {
         let mut best = None;
         for version in versions {
@@ -203,7 +206,9 @@ impl<V: VersionPoint> RangeOf<V> {
 /// assert!(rt; newest_release(&versions) == Some(&versions[0]));
 /// ```
 pub fn newest_release<W: Versioned>(versions: &[W]) -> Option<&W>
-    ensures { IsMax is_release (map W.value versions.now) (option_map (λ v. W.value v.now) result) }
+    ensures best { IsMax is_release (map W.value versions.now)
+        (option_map (λ v. W.value v.now) result) }
+    ensures element { IsMaxOf W.value is_release versions.now (option_copied result) }
 {
     let mut best = None;
     for version in versions {

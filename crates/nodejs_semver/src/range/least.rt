@@ -235,9 +235,12 @@ fn lesser<'v, V: Versioned>(best: Option<&'v V>, next: &'v V) -> &'v V
 // that is in it.
 
 // A set of versions, of which the least is searched for.
-trait Search {
+pub(crate) trait Search {
     // The versions in the set.
     ghost wanted: { Self → VersionValue → Bool };
+
+    // Whether the least version is copied. Where it is only asked whether there is one, none is.
+    ghost copies: { Self → Bool };
 
     // What types the set wants to be no larger than memory. That is so wherever there is a value of
     // the type, and references to values in a struct do not show it.
@@ -247,17 +250,23 @@ trait Search {
     fn wants<C: Versioned>(&self, version: &C) -> bool
         requires { fits }
         ensures { result ≡ wanted self.now (spec.bare (C.value version.now)) };
+
+    fn copies(&self) -> bool
+        ensures { result ≡ copies self.now };
 }
 
 // The versions that each range of `kept` accepts and no interval of `removed`.
 #[derive(Drop)]
-struct Beyond<'a, V: VersionPoint, W: VersionPoint> {
-    kept: &'a [RangeOf<V>],
-    removed: &'a [Interval<W>],
+pub(crate) struct Beyond<'a, V: VersionPoint, W: VersionPoint> {
+    pub kept: &'a [RangeOf<V>],
+    pub removed: &'a [Interval<W>],
+    pub copies: bool,
 }
 
 impl<'a, V: VersionPoint, W: VersionPoint> Search for Beyond<'a, V, W> {
     ghost wanted = { λ s. spec.wanted s.kept.now (spans_of W.value s.removed.now) };
+
+    ghost copies = { λ s. s.copies };
 
     ghost fits = { FitsInMemory (the_row V.row V.Versioned (record { takes = V.takes })
         (record { cmp = V.cmp }) V.PartialEq (record { partial_cmp = V.partial_cmp })) };
@@ -266,17 +275,27 @@ impl<'a, V: VersionPoint, W: VersionPoint> Search for Beyond<'a, V, W> {
     fn wants<C: Versioned>(&self, version: &C) -> bool {
         all_accept(self.kept, version) && !accepts(self.removed, version, false)
     }
+
+    fn copies(&self) -> bool {
+        self.copies
+    }
 }
 
 // The versions that the range accepts with pre-releases included.
 impl<V: VersionPoint> Search for RangeOf<V> {
     ghost wanted = { λ range v. accepts range v true };
 
+    ghost copies = { λ range. true };
+
     ghost fits = { ⊤ };
 
     #[tactic(auto, using(crate::proofs::Questions::Least::held_alike))]
     fn wants<C: Versioned>(&self, version: &C) -> bool {
         self.satisfies_with_prerelease(version, true)
+    }
+
+    fn copies(&self) -> bool {
+        true
     }
 }
 
@@ -290,8 +309,8 @@ fn is_reached<C: Versioned>(best: &Option<Version>, version: &C) -> bool
     }
 }
 
-// Keeps a copy of the version, without its build, where it improves on the best so far. Otherwise
-// nothing is copied.
+// Keeps the version, without its build, where it improves on the best so far. Otherwise nothing is
+// copied.
 #[inline(never)]
 fn consider<S: Search, C: Versioned>(
     alloc: Global,
@@ -301,12 +320,16 @@ fn consider<S: Search, C: Versioned>(
 ) -> Allocated<()>
     requires { S.fits }
     ensures best { OnOk result (best.new
-        ≡ spec.better (S.wanted search.now) best.old
+        ≡ spec.better_kept (S.copies search.now) (S.wanted search.now) best.old
         (spec.bare (C.value version.now))) }
-    ensures memory { OnErr result (spec.Finds (S.wanted search.now)) }
+    ensures memory { OnErr result (spec.Finds (S.copies search.now) (S.wanted search.now)) }
 {
     if !is_reached(best, version) && search.wants(version) {
-        *best = Some(bare(alloc, version)?);
+        *best = Some(if search.copies() {
+            bare(alloc, version)?
+        } else {
+            Version::from((0u64, 0, 0))
+        });
     }
     Ok(())
 }
@@ -322,9 +345,9 @@ fn consider_from<S: Search, C: Versioned>(
 ) -> Allocated<()>
     requires { S.fits }
     ensures best { OnOk result (best.new
-        ≡ fold (spec.better (S.wanted search.now)) best.old
+        ≡ fold (spec.better_kept (S.copies search.now) (S.wanted search.now)) best.old
         (spec.firsts (Beside (C.value version.now) Near))) }
-    ensures memory { OnErr result (spec.Finds (S.wanted search.now)) }
+    ensures memory { OnErr result (spec.Finds (S.copies search.now) (S.wanted search.now)) }
 {
     if is_reached(best, version) {
         return Ok(());
@@ -347,9 +370,9 @@ fn consider_after<S: Search, C: Versioned>(
     requires fits { S.fits }
     requires raisable { (C.value version.now).patch < 2 ^ 64 - 1 }
     ensures best { OnOk result (best.new
-        ≡ fold (spec.better (S.wanted search.now)) best.old
+        ≡ fold (spec.better_kept (S.copies search.now) (S.wanted search.now)) best.old
         (spec.firsts (Beside (C.value version.now) Far))) }
-    ensures memory { OnErr result (spec.Finds (S.wanted search.now)
+    ensures memory { OnErr result (spec.Finds (S.copies search.now) (S.wanted search.now)
         ⊎ (is_release (C.value version.now) ≡ false)) }
 {
     if is_reached(best, version) {
@@ -373,9 +396,9 @@ fn consider_past<S: Search, C: Versioned>(
     requires fits { S.fits }
     requires raisable { spec.Raisable (bound_of C.value bound.now) }
     ensures best { OnOk result (best.new
-        ≡ fold (spec.better (S.wanted search.now)) best.old
+        ≡ fold (spec.better_kept (S.copies search.now) (S.wanted search.now)) best.old
         (flat_map spec.firsts (spec.beside (bound_of C.value bound.now)))) }
-    ensures memory { OnErr result (spec.Finds (S.wanted search.now)
+    ensures memory { OnErr result (spec.Finds (S.copies search.now) (S.wanted search.now)
         ⊎ spec.IsAfterPre (bound_of C.value bound.now)) }
 {
     match bound {
@@ -394,9 +417,9 @@ fn consider_named<S: Search, C: Versioned>(
 ) -> Allocated<()>
     requires { S.fits }
     ensures best { OnOk result (best.new
-        ≡ fold (spec.better (S.wanted search.now)) best.old
+        ≡ fold (spec.better_kept (S.copies search.now) (S.wanted search.now)) best.old
         (flat_map spec.firsts (spec.below_named (bound_of C.value bound.now)))) }
-    ensures memory { OnErr result (spec.Finds (S.wanted search.now)) }
+    ensures memory { OnErr result (spec.Finds (S.copies search.now) (S.wanted search.now)) }
 {
     match bound {
         Bound::Before(version) | Bound::After(version) if !version.is_release() => {
@@ -416,9 +439,9 @@ fn consider_range<S: Search, V: VersionPoint>(
 ) -> Allocated<()>
     requires { S.fits }
     ensures best { OnOk result (best.new
-        ≡ fold (spec.better (S.wanted search.now)) best.old
+        ≡ fold (spec.better_kept (S.copies search.now) (S.wanted search.now)) best.old
         (flat_map spec.firsts (spec.list_marks range.now))) }
-    ensures memory { OnErr result (spec.Finds (S.wanted search.now)
+    ensures memory { OnErr result (spec.Finds (S.copies search.now) (S.wanted search.now)
         ⊎ spec.BeginsAfterPre range.now) }
 {
     let intervals = range.items();
@@ -430,7 +453,7 @@ fn consider_range<S: Search, V: VersionPoint>(
 }
 
 // Considers all candidates.
-fn consider_all<S: Search, V: VersionPoint, W: VersionPoint>(
+pub(crate) fn consider_all<S: Search, V: VersionPoint, W: VersionPoint>(
     alloc: Global,
     search: &S,
     best: &mut Option<Version>,
@@ -440,9 +463,9 @@ fn consider_all<S: Search, V: VersionPoint, W: VersionPoint>(
     requires fits { S.fits }
     requires removed { All spec.IsRaisable (spans_of W.value removed.now) }
     ensures best { OnOk result (best.new
-        ≡ fold (spec.better (S.wanted search.now)) best.old
+        ≡ fold (spec.better_kept (S.copies search.now) (S.wanted search.now)) best.old
         (spec.candidates kept.now (spans_of W.value removed.now))) }
-    ensures memory { OnErr result (spec.Finds (S.wanted search.now)
+    ensures memory { OnErr result (spec.Finds (S.copies search.now) (S.wanted search.now)
         ⊎ Any spec.BeginsAfterPre kept.now ⊎ spec.EndsAfterPre (spans_of W.value removed.now)) }
 {
     consider(alloc, search, best, &release(0, 0, 0))?;
@@ -467,10 +490,15 @@ fn least_among<V: VersionPoint, W: VersionPoint>(
     ensures least { IfOk result (λ r.
         stated.IsLeastOf (spec.wanted kept.now (spans_of W.value removed.now)) r) }
     ensures build { IfOk result (λ r. IfSome r (λ v. v.build ≡ [])) }
-    ensures memory { OnErr result (spec.MayAllocate kept.now (spans_of W.value removed.now)) }
+    ensures memory { OnErr result (spec.MayAllocate true kept.now (spans_of W.value removed.now)) }
 {
     let mut best = None;
-    consider_all(alloc, &Beyond { kept, removed }, &mut best, kept, removed)?;
+    let search = Beyond {
+        kept,
+        removed,
+        copies: true,
+    };
+    consider_all(alloc, &search, &mut best, kept, removed)?;
     Ok(best)
 }
 
@@ -483,9 +511,10 @@ fn consider_first<S: Search, C: Versioned>(
 ) -> Allocated<()>
     requires fits { S.fits }
     requires raisable { spec.Raisable (bound_of C.value bound.now) }
-    ensures best { OnOk result (best.new ≡ spec.better (S.wanted search.now) best.old
+    ensures best { OnOk result (best.new
+        ≡ spec.better_kept (S.copies search.now) (S.wanted search.now) best.old
         (spec.first_past (bound_of C.value bound.now))) }
-    ensures memory { OnErr result (spec.Finds (S.wanted search.now)
+    ensures memory { OnErr result (spec.Finds (S.copies search.now) (S.wanted search.now)
         ⊎ spec.IsAfterPre (bound_of C.value bound.now)) }
 {
     match bound {

@@ -4,7 +4,7 @@ ghost use Rattle.nodejs_semver.specs.Internal.Candidates as spec;
 ghost use Rattle.nodejs_semver.specs.Ranges.Least as stated;
 ghost use Rattle.std.specs.Prelude.{◌&&◌, ◌-◌, ◌<◌, ◌^◌, ◌≡◌, [], All, find};
 ghost use Rattle.nodejs_semver.specs.Words.{After, bound_of, build_by, holds, ids_view, IfOk};
-ghost use Rattle.nodejs_semver.specs.Words.{IfSome, lets_in, list_any};
+ghost use Rattle.nodejs_semver.specs.Words.{IfSome, lets_in};
 ghost use Rattle.nodejs_semver.specs.Words.{option_map, precedence, Some, span_of, spans_of};
 
 use crate::Allocated;
@@ -134,6 +134,7 @@ fn with_build_by<V: Versioned>(
         Bound::Before(first) if first.cmp_precedence(&version).is_eq() => {
             with_build(alloc, version, first.build())
         }
+        Bound::After(end) if end.build().is_empty() => Ok(version),
         Bound::After(end) if following(alloc, end)?.cmp(&version).is_eq() => {
             with_build(alloc, version, end.build())
         }
@@ -157,16 +158,6 @@ fn first_accepting<'a, V: VersionPoint>(
         .find(|interval| accepts_one(interval, version, false))
 }
 
-// Whether one of the lower bounds has a build.
-fn begin_with_build<V: VersionPoint>(intervals: &[Interval<V>]) -> bool
-    ensures { result ≡ list_any (λ s. spec.has_build s.lower) (spans_of V.value intervals.now) }
-{
-    intervals.iter().any(|interval| match interval.lower() {
-        Bound::Unbounded => false,
-        Bound::Before(version) | Bound::After(version) => !version.build().is_empty(),
-    })
-}
-
 // The version with the build of the bound with which the first interval that accepts it begins.
 pub(crate) fn with_least_build<V: VersionPoint>(
     alloc: Global,
@@ -179,9 +170,6 @@ pub(crate) fn with_least_build<V: VersionPoint>(
       build = stated.least_build (spans_of V.value intervals.now) version;
     }) }
 {
-    if !begin_with_build(intervals) {
-        return Ok(version);
-    }
     match first_accepting(intervals, &version) {
         Some(interval) => with_build_by(alloc, version, interval.lower()),
         None => Ok(version),

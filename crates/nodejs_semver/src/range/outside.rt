@@ -3,7 +3,7 @@
 ghost use Rattle.nodejs_semver.specs.Ranges.Outside as spec;
 ghost use Rattle.nodejs_semver.specs.declared.range.outside.OutsideDirection.TheVariants as side;
 ghost use Rattle.std.specs.Prelude.{◌≡◌};
-ghost use Rattle.nodejs_semver.specs.Words.{bound_of, lies_above, lies_below, Ok, span_of};
+ghost use Rattle.nodejs_semver.specs.Words.{lies_above, lies_below, Ok, span_of};
 
 use crate::RangeOf;
 use crate::range::gate::{accepts, is_past_lower, is_past_upper};
@@ -107,16 +107,10 @@ fn lies_opposite<V: VersionPoint, W: Versioned>(
           | side.Lower ↦ lies_above (span_of V.value interval.now) (W.value version.now)
         ] }
 {
-    let (lower, upper) = (interval.lower(), interval.upper());
-    match direction {
-        OutsideDirection::Higher => is_bounded(upper) && is_past_lower(lower, version),
-        OutsideDirection::Lower if is_bounded(lower) => !is_past_upper(upper, version),
-        OutsideDirection::Lower => !is_bounded(upper),
+    match (direction, interval.lower(), interval.upper()) {
+        (OutsideDirection::Higher, _, Bound::Unbounded) => false,
+        (OutsideDirection::Higher, lower, _) => is_past_lower(lower, version),
+        (OutsideDirection::Lower, Bound::Unbounded, upper) => matches!(upper, Bound::Unbounded),
+        (OutsideDirection::Lower, _, upper) => !is_past_upper(upper, version),
     }
-}
-
-fn is_bounded<V: Versioned>(bound: &Bound<V>) -> bool
-    ensures { result ≡ spec.is_bounded (bound_of V.value bound.now) }
-{
-    !matches!(bound, Bound::Unbounded)
 }

@@ -6,8 +6,8 @@ ghost use Rattle.nodejs_semver.specs.Words.{has_bound, list_any, takes_memory, T
 use crate::range::Intervals;
 use crate::{Allocated, Range, RangeOf, RangeRef};
 use semver_core::cuts::Interval;
-use semver_core::scan::pieces::owned_interval;
 use semver_core::{Version, VersionRef};
+use semver_pieces::owned_interval;
 use smallvec::SmallVec;
 use std::alloc::{AllocError, Global};
 

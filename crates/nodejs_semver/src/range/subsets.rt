@@ -3,16 +3,21 @@
 ghost use Rattle.std.specs.Prelude.{◌<◌, ◌↔◌, ◌≡◌, ◌⊎◌};
 ghost use Rattle.nodejs_semver.specs.Words.{IfOk, IsTrue, OnErr, VersionValue, accepts, difference};
 ghost use Rattle.nodejs_semver.specs.Words.{false, is_some, length, true};
-ghost use Rattle.nodejs_semver.specs.Ranges.Subsets.{AcceptSame, IsSubset, MayTakeMemory};
+ghost use Rattle.nodejs_semver.specs.Ranges.Subsets.{AcceptSame, IsSubset, MayTryOne};
 
 use crate::RangeOf;
+use crate::range::least::{Beyond, consider_all};
 use semver_core::VersionPoint;
 use std::alloc::{AllocError, Global};
+use std::slice::from_ref;
 
 impl<V: VersionPoint> RangeOf<V> {
     /// Whether the other range accepts by `satisfies` every version that this one accepts. Where it
-    /// does not, `least_beyond` returns the smallest version that shows it. It fails only where
-    /// that does.
+    /// does not, `least_beyond` returns the smallest version that shows it.
+    ///
+    /// Fails only if allocation fails, which happens only where this range has a lower bound `>v`
+    /// of a pre-release v, or the other an upper bound `<=v` of one: then v with one more
+    /// identifier is made to try it. Nothing else is allocated, whatever the answer is.
     ///
     /// node-semver's `subset` answers false where no version shows it, as of `>=1 <3` in `1 || 2`.
     ///
@@ -27,12 +32,17 @@ impl<V: VersionPoint> RangeOf<V> {
         other: &RangeOf<W>,
     ) -> Result<bool, AllocError>
         ensures subset { IfOk result (λ r. IsTrue r ↔ IsSubset false self.now other.now) }
-        ensures memory { OnErr result (MayTakeMemory self.now other.now) }
+        ensures memory { OnErr result (MayTryOne self.now other.now) }
     {
-        match self.least_beyond(alloc, other)? {
-            None => Ok(true),
-            Some(_) => Ok(false),
-        }
+        let (kept, removed) = (from_ref(self), other.items());
+        let search = Beyond {
+            kept,
+            removed,
+            copies: false,
+        };
+        let mut found = None;
+        consider_all(alloc, &search, &mut found, kept, removed)?;
+        Ok(found.is_none())
     }
 
     /// Whether the other range accepts every version that this one accepts, with pre-releases
@@ -48,7 +58,7 @@ impl<V: VersionPoint> RangeOf<V> {
     {
         match self.difference(alloc, other)? {
             None => Ok(true),
-            Some(left) => holds_none(alloc, &left),
+            Some(left) => Ok(left.min_version_with_prerelease(alloc)?.is_none()),
         }
     }
 
@@ -61,7 +71,7 @@ impl<V: VersionPoint> RangeOf<V> {
     ) -> Result<bool, AllocError>
         ensures same { IfOk result (λ r. IsTrue r ↔ AcceptSame false self.now other.now) }
         ensures memory { OnErr result
-            (MayTakeMemory self.now other.now ⊎ MayTakeMemory other.now self.now) }
+            (MayTryOne self.now other.now ⊎ MayTryOne other.now self.now) }
     {
         if !self.is_subset(alloc, other)? {
             return Ok(false);
@@ -85,16 +95,5 @@ impl<V: VersionPoint> RangeOf<V> {
             return Ok(false);
         }
         other.is_subset_with_prerelease(alloc, self)
-    }
-}
-
-// Whether the range holds no version.
-fn holds_none<V: VersionPoint>(alloc: Global, range: &RangeOf<V>) -> Result<bool, AllocError>
-    ensures { IfOk result (λ r. IsTrue r
-        ↔ ((v : VersionValue) → accepts range.now v true ≡ false)) }
-{
-    match range.min_version_with_prerelease(alloc)? {
-        None => Ok(true),
-        Some(_) => Ok(false),
     }
 }

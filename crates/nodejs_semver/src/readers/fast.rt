@@ -15,8 +15,8 @@ use crate::readers::syntax::Partial;
 use crate::readers::{partial, table, words};
 use crate::{Allocated, Range, RangeRef};
 use semver_core::cuts::{Bound, Interval};
-use semver_core::scan::pieces::{Bounds, Found, after_bars};
 use semver_core::{MAX_SAFE_INTEGER, VersionRef};
+use semver_pieces::{Bounds, Found, after_bars};
 use smallvec::SmallVec;
 use std::alloc::{AllocError, Global};
 

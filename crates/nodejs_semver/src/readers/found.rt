@@ -7,8 +7,8 @@ ghost use Rattle.nodejs_semver.specs.Words.{takes_memory, true, VersionValue};
 
 use crate::range::owned::owned_intervals;
 use crate::readers::loose;
-use semver_core::scan::pieces::{Found, Intervals};
 use semver_core::{Version, VersionRef};
+use semver_pieces::{Found, Intervals};
 use smallvec::SmallVec;
 use std::alloc::{AllocError, Global};
 

@@ -13,9 +13,7 @@ use crate::readers::syntax::{Partial, Sign};
 use crate::readers::{partial, table, words};
 use semver_core::VersionRef;
 use semver_core::cuts::Interval;
-use semver_core::scan::pieces::{
-    Bounds, Found, Intervals, is_boundary, skip_spaces, skip_to_boundary,
-};
+use semver_pieces::{Bounds, Found, Intervals, is_boundary, skip_spaces, skip_to_boundary};
 
 /// The interval of two bounds, where the lower cut is below the upper one.
 pub(crate) fn between(bounds: Bounds<'_>) -> Option<Interval<VersionRef<'_>>>

@@ -10,8 +10,8 @@ use crate::range::owned::owned_range;
 use crate::readers::intervals;
 use crate::{Allocated, Range, RangeRef};
 use semver_core::cuts::Interval;
-use semver_core::scan::pieces::{Found, Intervals, next_part};
 use semver_core::{MAX_SAFE_INTEGER, VersionRef};
+use semver_pieces::{Found, Intervals, next_part};
 use smallvec::SmallVec;
 use std::alloc::{AllocError, Global};
 

@@ -7,8 +7,8 @@ ghost use Rattle.nodejs_semver.specs.Words.{partial_front_view, partial_pair_vie
 
 use crate::readers::syntax::Partial;
 use semver_core::MAX_SAFE_INTEGER;
-pub(crate) use semver_core::scan::pieces::component_front;
-use semver_core::scan::pieces::{build_front, dotted_front, pre_release_front, skip_spaces};
+pub(crate) use semver_pieces::component_front;
+use semver_pieces::{build_front, dotted_front, pre_release_front, skip_spaces};
 
 // The partial at the front whose major and minor components were read.
 #[inline(always)]

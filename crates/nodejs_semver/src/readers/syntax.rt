@@ -4,7 +4,7 @@ ghost use Rattle.std.specs.{Option.ForSome, Prelude.{true, ◌≡◌, ◌≤◌}
 ghost use Rattle.semver_core.specs.Text.Identifiers.{is_listed};
 ghost use Rattle.semver_core.specs.declared.TheConstants.{MAX_SAFE_INTEGER};
 
-use semver_core::scan::pieces::Comparator;
+use semver_pieces::Comparator;
 
 /// A partial as it was read. A component is None where it is absent or a wildcard; the identifiers
 /// stand as their text, joined by dots.

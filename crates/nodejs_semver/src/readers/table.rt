@@ -8,8 +8,8 @@ ghost use Rattle.nodejs_semver.specs.Words.{comparator_view, MAX_SAFE_INTEGER, r
 ghost use Rattle.nodejs_semver.specs.Words.{interval, sign_view, table, table_view};
 
 use crate::readers::syntax::{Partial, Sign};
-use semver_core::scan::pieces::{Bounds, Comparator, lowest, release};
 use semver_core::{MAX_SAFE_INTEGER, VersionRef};
+use semver_pieces::{Bounds, Comparator, lowest, release};
 
 // The version of a partial, with 0 for what is absent or a wildcard.
 #[inline(always)]

@@ -9,7 +9,7 @@ ghost use Rattle.nodejs_semver.specs.Words.{sign_pair_view, sign_view, upper_of}
 use crate::readers::partial;
 use crate::readers::syntax::{Partial, Sign};
 use semver_core::MAX_SAFE_INTEGER;
-use semver_core::scan::pieces::{Comparator, after_some_space, is_boundary, skip_spaces};
+use semver_pieces::{Comparator, after_some_space, is_boundary, skip_spaces};
 
 // The second partial of a hyphen word, and what follows it: behind whitespace, `-` and whitespace,
 // and up to a boundary.

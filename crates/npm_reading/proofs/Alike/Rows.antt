@@ -1,5 +1,4 @@
 -- What a bound and comparators accept, the rows of both tables, sign by sign, and hyphen ranges.
-use Rattle.npm_words.proofs.Common.{Id, version_text}
 use Rattle.nodejs_semver.proofs.Common.{After, Before, Bool, Bound, Comparator, Front, Greater, Id, IfSome, List, MAX_SAFE_INTEGER, None, Numeric}
 use Rattle.nodejs_semver.proofs.Common.{Option, Ordering, Partial, Some, Span, Unbounded, VersionValue, Word, [], above, and-true, and_parts, ap, ap₂}
 use Rattle.nodejs_semver.proofs.Common.{arith, at_most, below, cases_Bool, codes, common_steps, eqb-true, equal, false, filter, first_so, holds}
@@ -8,10 +7,10 @@ use Rattle.nodejs_semver.proofs.Common.{list_all, list_all-append, list_any, lis
 use Rattle.nodejs_semver.proofs.Common.{or_right, ordering_then, plain, pre_cmp, precedence, precedence_total, refl, same_triple, subst, suc, sym}
 use Rattle.nodejs_semver.proofs.Common.{table, tilde, true, upper_cut, version_of, zero, ℕ, ◌&&◌, ◌++◌, ◌+◌, ◌==◌, ◌||◌, ◌∙◌, ◌∷◌, ◌≡◌, ◌⊎◌}
 use Rattle.npm_reading.specs.Alike.{IsPlainPartial, IsPlainWord, bare, is_blunt, is_plain, may_have, npm_partial, signed, tilde_greater, version_in}
-use Rattle.{npm_reading.specs.Alike.word_of, npm_words.proofs.Common.{Comparison, IsPlaces, Numbers, compared, counts, dotted_patch, dotted_place}}
-use Rattle.npm_words.proofs.Common.{from, hyphen_lower, hyphen_upper, is_valid, is_zero, made, meets, minor, patch_place, place_front, pre_front}
-use Rattle.npm_words.proofs.{Common.{qualified_partial, release, satisfies, under, whole}, Grammar.{PartialLaw.places-read, Printed.prints_zero}}
-use Rattle.npm_words.{proofs.Grammar.Zeros.{plain_changed, plain_table, rows-plain, strict-zeros, zeros-marked}, specs.Internal.Parts.no_build}
+use Rattle.{npm_reading.specs.Alike.word_of, npm_words.proofs.Common.{Comparison, Id, IsPlaces, Numbers, compared, counts, dotted_patch}}
+use Rattle.npm_words.proofs.Common.{dotted_place, from, hyphen_lower, hyphen_upper, is_valid, is_zero, meets, minor, patch_place, place_front}
+use Rattle.npm_words.proofs.{Common.{pre_front, qualified_partial, release, satisfies, under, version_text, whole}, Grammar.PartialLaw.places-read}
+use Rattle.npm_words.proofs.Grammar.{Printed.prints_zero, Zeros.{plain_changed, plain_table, rows-plain, strict-zeros, zeros-marked}}
 use Rattle.{npm_words.specs.{Internal.Words.places_front, Table.{Sign, lowest, written_zeros}}, semver_core.proofs.Gate.{in_two_steps, lt_is}}
 use Rattle.semver_core.{proofs.Gate.{past-after, past-before, same_triple_is, triple_cmp, triple_total}, specs.Internal.Fronts.build_front}
 use Rattle.semver_core.specs.Internal.{Fronts.pre_release_with, OrderLaws.pre_total, Successors.{upto_patch, zero_least}}

@@ -1,5 +1,4 @@
 -- Plain texts: what they mean here, their alternatives to node-semver, and that both accept the same versions.
-use Rattle.npm_reading.proofs.Grammar.Intervals.{range_accepts}
 use Rattle.nodejs_semver.proofs.{Bounds.TableRows.table-interval, Common.{Bool, Comparator, IsBlank, IsCutAtBars, IsTrim, IsUtf8, List}}
 use Rattle.nodejs_semver.proofs.Common.{MAX_SAFE_INTEGER, Means, None, Option, Partial, Run, Some, Span, VersionValue, Word, [], above, accepts}
 use Rattle.nodejs_semver.proofs.Common.{and_parts, any_weaker, ap, append-nil, append_assoc, ap₂, arith, at_most, begins, cases_Bool, codes}
@@ -10,17 +9,17 @@ use Rattle.nodejs_semver.proofs.Common.{precedence, refl, space_len-nil, subst, 
 use Rattle.nodejs_semver.{proofs.{Common.{◌∷◌, ◌≡◌, ◌⊎◌}, Dividing.RunsDivide.runs_are}, specs.{Ranges.View.any_version, Text.Runs.fits}}
 use Rattle.{nodejs_semver.specs.Text.Runs.interval_of, npm_reading.proofs.Alike.{Beside.words-good, Rows.{Beside, between-good, named_by, passed}}}
 use Rattle.npm_reading.proofs.Alike.Words.{begins-word, filled, hyphen-read, is_word_byte, no-dash, partial-begins, word-dark, word-solid}
-use Rattle.npm_reading.{proofs.Alike.Words.{words-begin, words-read}, specs.Alike.{ArePlain, ArePlainWords, IsPlainAlternative, IsPlainPartial}}
-use Rattle.npm_reading.specs.Alike.{IsPlainText, IsPlainWord, bare, between, more_words, next, none, nothing, npm_partial, one_word, signed}
-use Rattle.{npm_reading.specs.{Alike.{tilde_greater, words}, Ranges.IsRangeIn}, npm_words.proofs.Common.{AreAlternatives, AreMarks, AreWords}}
-use Rattle.npm_words.proofs.Common.{BeginsWord, Comparison, HasAlternativesIn, IsAlternative, IsHyphen, IsSignText, IsWord, are_marks, comparators_of}
-use Rattle.npm_words.proofs.Common.{compared, counts, end_sign, hyphen_lower, hyphen_upper, is_lost, is_valid, last_marks, meets, spelling}
-use Rattle.npm_words.proofs.Grammar.{AlternativeLaw.alternatives_once, Hyphens.{free-marks, same-behind, word-front}, PartialLaw.boundary-quiet}
-use Rattle.npm_words.{proofs.Grammar.{Signs.blank-skipped, Words.{blank-boundary, places-begin, strict-kept}}, specs.Table.Sign}
-use Rattle.semver_core.proofs.{Dividing.BarsDivide.bars_once, Reading.{Boundaries.{blank-len, boundary-of}, Bytes.{begins-some, is_component_byte}}}
-use Rattle.semver_core.{proofs.Reading.Bytes.{is_solid, solid-dark}, specs.{Internal.Fronts.after_byte, Printing.RoundTrip.is_within}}
-use Rattle.{semver_core.specs.Text.{Boundaries.SkipsBlank, Characters.BeginsBlank, Comparators.at_least}, std.proofs.lemmas.Bool.false_from_ne_true}
-use Rattle.std.{proofs.lemmas.Slice.Zip.AllZip-long, specs.List.AllZip}
+use Rattle.npm_reading.{proofs.{Alike.Words.{words-begin, words-read}, Grammar.Intervals.range_accepts}, specs.Alike.{ArePlain, ArePlainWords}}
+use Rattle.npm_reading.specs.Alike.{IsPlainAlternative, IsPlainPartial, IsPlainText, IsPlainWord, bare, between, more_words, next, none, nothing}
+use Rattle.npm_reading.specs.{Alike.{npm_partial, one_word, signed, tilde_greater, words}, Ranges.IsRangeIn}
+use Rattle.npm_words.proofs.Common.{AreAlternatives, AreMarks, AreWords, BeginsWord, Comparison, HasAlternativesIn, IsAlternative, IsHyphen}
+use Rattle.npm_words.proofs.Common.{IsSignText, IsWord, are_marks, comparators_of, compared, counts, end_sign, hyphen_lower, hyphen_upper, is_lost}
+use Rattle.npm_words.proofs.{Common.{is_valid, last_marks, meets, spelling}, Grammar.{AlternativeLaw.alternatives_once, Hyphens.free-marks}}
+use Rattle.npm_words.proofs.Grammar.{Hyphens.{same-behind, word-front}, PartialLaw.boundary-quiet, Signs.blank-skipped, Words.blank-boundary}
+use Rattle.{npm_words.{proofs.Grammar.Words.{places-begin, strict-kept}, specs.Table.Sign}, semver_core.proofs.Dividing.BarsDivide.bars_once}
+use Rattle.semver_core.proofs.Reading.{Boundaries.{blank-len, boundary-of}, Bytes.{begins-some, is_component_byte, is_solid, solid-dark}}
+use Rattle.semver_core.specs.{Internal.Fronts.after_byte, Printing.RoundTrip.is_within, Text.{Boundaries.SkipsBlank, Characters.BeginsBlank}}
+use Rattle.{semver_core.specs.Text.Comparators.at_least, std.{proofs.lemmas.{Bool.false_from_ne_true, Slice.Zip.AllZip-long}, specs.List.AllZip}}
 use Rattle.nodejs_semver.proofs.Dividing.MeaningLaw as meaning
 use Rattle.npm_words.specs.RangeText as Npm
 use Rattle.npm_words.specs.Alternatives as Ranges

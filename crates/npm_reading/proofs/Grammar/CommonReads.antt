@@ -5,9 +5,8 @@ use Rattle.nodejs_semver.proofs.Common.{common_steps, cond_some, cut_bars, drop,
 use Rattle.nodejs_semver.proofs.Common.{length-append, list_all, list_all-append, nat_tests, option_to_list, precedence, refl, release_value, subst}
 use Rattle.nodejs_semver.proofs.{Common.{sym, take, trim, trim_is_middle, true, ℕ, ◌++◌, ◌-◌, ◌<◌, ◌∙◌, ◌∷◌, ◌≡◌, ◌≤◌, ◌⊎◌}, Everyday.Parts.HasBars}
 use Rattle.nodejs_semver.proofs.Everyday.{Parts.{bars-sound, behind-bars}, Texts.{compact-trim, cut-first, cut-last}, Words.{Compact, compact-spaced}}
-use Rattle.{nodejs_semver.{proofs.Everyday.Words.is_part_byte, specs.Text.Common.IsGap}, npm_reading.proofs.Grammar.RangeReads.found-cons}
-use Rattle.npm_reading.proofs.Grammar.Intervals.{ranged-found}
-use Rattle.npm_reading.{proofs.Grammar.RangeReads.ranged_range, specs.Internal.{Alternatives.ranged, Fronts.{AreIn, AreJoined}}}
+use Rattle.{nodejs_semver.{proofs.Everyday.Words.is_part_byte, specs.Text.Common.IsGap}, npm_reading.proofs.Grammar.Intervals.ranged-found}
+use Rattle.npm_reading.{proofs.Grammar.RangeReads.{found-cons, ranged_range}, specs.Internal.{Alternatives.ranged, Fronts.{AreIn, AreJoined}}}
 use Rattle.npm_reading.specs.Internal.{Fronts.{AreParts, IsLeft, IsPartAt, IsSignAt, IsTried, IsWordAt, is_word_byte}, Reads.AreFound}
 use Rattle.{npm_reading.specs.Ranges.IsRangeIn, npm_words.proofs.Common.{AreAlternatives, AreRead, AreWords, BeginsWord, Comparison, IsPlaces}}
 use Rattle.npm_words.proofs.Common.{IsSignText, IsWord, are_marks, are_normal, capped_partial, comparators_of, dotted_patch, dotted_place, first_as}
@@ -19,9 +18,9 @@ use Rattle.npm_words.{proofs.Grammar.{Words.{places-some, strict-kept}, Zeros.{s
 use Rattle.npm_words.specs.{Internal.{Parts.{is_padded, is_wildcard}, Words.{is_over, places_front}}, Table.{Partial, Sign, first, major, minor}}
 use Rattle.{npm_words.specs.Table.{table, whole, wildcard, written_zeros, zeros}, semver_core.proofs.Dividing.BarsDivide.{bars_divide, pieces-utf8}}
 use Rattle.semver_core.proofs.{Gate.both, Reading.{Boundaries.{blank-len, trim-utf8}, Bytes.{all-end, all-join, solid-dark}}}
-use Rattle.semver_core.specs.Internal.{Fronts.{after_byte, begins_wildcard, dotted_with, number_with}, Parts.after_bars, Views.bounds_view}
-use Rattle.semver_core.specs.{Text.{Characters.BeginsBlank, Identifiers.listed}, declared.scan.pieces.bounds.Bounds.Bounds}
-use Rattle.std.specs.Prelude.{nat_le}
+use Rattle.semver_core.specs.Internal.{Fronts.{after_byte, begins_wildcard, dotted_with, number_with}, Parts.after_bars}
+use Rattle.{semver_core.specs.Text.{Characters.BeginsBlank, Identifiers.listed}, semver_pieces.specs.Internal.Views.bounds_view}
+use Rattle.{semver_pieces.specs.declared.bounds.Bounds.Bounds, std.specs.Prelude.nat_le}
 use Rattle.npm_reading.specs.Internal.Fronts as Fronts
 use Rattle.npm_words.specs.RangeText as Npm
 

@@ -1,20 +1,15 @@
 -- The intervals of alternatives accept what the alternatives do.
-use Rattle.nodejs_semver.proofs.Common.{Beside, Bool, List, None, Option, Some, Span, Unbounded, VersionValue, [], accepts, any_version, any_weaker}
-use Rattle.nodejs_semver.proofs.Common.{ap, arith, cases_Bool, common_steps, cond_both, false, holds, if◌then◌else◌, interval, is_empty, is_past}
-use Rattle.nodejs_semver.proofs.Common.{is_range_span, is_release, lets_in, list_all, list_any, list_any-append, map, nat_tests, not, option_to_list}
-use Rattle.nodejs_semver.proofs.Common.{precedence, refl, subst, sym, true, ℕ, ◌&&◌, ◌++◌, ◌||◌, ◌∙◌, ◌∷◌, ◌≡◌, and_parts, is_interval}
-use Rattle.npm_reading.specs.{Internal.{Alternatives.{nothing, ranged}, Reads.AreFound}, Ranges.{IsRangeIn, intervals_in}}
-use Rattle.npm_words.proofs.{Common.{Comparison, HasAlternativesIn, IsNarrowed, Ordering, ap₂, counted, counts, is_unbounded, meets, satisfies}}
-use Rattle.npm_words.proofs.{Common.{above, at_least, at_most, below, equal, is_eq, is_ge, is_gt, is_le, is_lt, option_holds-interval, precedence_total}}
-use Rattle.npm_words.proofs.Grammar.{AlternativeLaw.alternatives_once, Rows.{holds-both, lets_in-both}}
-use Rattle.npm_words.specs.{Alternatives.{common, interval_in, names, satisfying}, Table.lowest}
-use Rattle.semver_core.proofs.Gate.{both, past-after, past-before}
-use Rattle.semver_core.specs.{Text.Comparators.Comparator, declared.cuts.bound.Bound.Bound}
-use Rattle.std.specs.List.{cons_option, filter, filter_map}
-use Rattle.npm_reading.specs.Readings.{OfAccepted, ReadText}
-use Rattle.nodejs_semver.proofs.Common.{IsUtf8, MAX_SAFE_INTEGER}
-use Rattle.npm_words.specs.Internal.Meaning.{is_open}
-use Rattle.npm_words.proofs.Common.{greater_lower, lesser_upper}
+use Rattle.nodejs_semver.proofs.Common.{Beside, Bool, IsUtf8, List, MAX_SAFE_INTEGER, None, Option, Some, Span, VersionValue, [], accepts, and_parts}
+use Rattle.nodejs_semver.proofs.Common.{any_version, any_weaker, ap, arith, common_steps, cond_both, false, holds, if◌then◌else◌, interval, is_empty}
+use Rattle.nodejs_semver.proofs.Common.{is_interval, is_past, is_release, lets_in, list_all, list_any, map, nat_tests, not, option_to_list}
+use Rattle.{nodejs_semver.proofs.Common.{precedence, refl, sym, true, ℕ, ◌&&◌, ◌||◌, ◌∙◌, ◌∷◌, ◌≡◌}, npm_reading.specs.Internal.Alternatives.nothing}
+use Rattle.npm_reading.specs.{Internal.{Alternatives.ranged, Reads.AreFound}, Ranges.{IsRangeIn, intervals_in}, Readings.{OfAccepted, ReadText}}
+use Rattle.npm_words.proofs.Common.{Comparison, IsNarrowed, Ordering, above, ap₂, at_least, at_most, below, counted, counts, equal, greater_lower}
+use Rattle.npm_words.proofs.Common.{is_eq, is_ge, is_gt, is_le, is_lt, is_unbounded, lesser_upper, meets, option_holds-interval, precedence_total}
+use Rattle.npm_words.proofs.{Common.satisfies, Grammar.{AlternativeLaw.alternatives_once, Rows.{holds-both, lets_in-both}}}
+use Rattle.npm_words.specs.{Alternatives.{common, interval_in, names, satisfying}, Internal.Meaning.is_open, Table.lowest}
+use Rattle.semver_core.{proofs.Gate.{both, past-after, past-before}, specs.{Text.Comparators.Comparator, declared.cuts.bound.Bound.Bound}}
+use Rattle.std.specs.List.{cons_option, filter_map}
 use Rattle.npm_words.specs.Alternatives as Npm
 
 -- ---- one comparator

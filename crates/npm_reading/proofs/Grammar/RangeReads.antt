@@ -1,29 +1,22 @@
 -- The alternatives of a range text, read one after another, and what their intervals accept.
-use Rattle.nodejs_semver.proofs.Common.{Beside, Bool, Bor, Err, Failure, IfSome, IsCutAtBars, IsRange, IsUtf8, List, MAX_SAFE_INTEGER, Memory}
-use Rattle.nodejs_semver.proofs.Common.{MemoryOnlyIf, None, Ok, Option, Refused, Result, Some, Span, VersionValue, [], accepts, and-false, and_parts}
-use Rattle.nodejs_semver.proofs.Common.{any_version, any_weaker, ap, append-nil, append_assoc, arith, cases_Bool, common_steps, cond_both, cond_some}
-use Rattle.nodejs_semver.proofs.Common.{drop_spaces, false, flat_map, holds, if◌then◌else◌, inl, inr, is_empty, is_past, is_range_span, is_release}
-use Rattle.nodejs_semver.proofs.Common.{is_some, later_parts, length, length-append, lets_in, list_all, list_all-append, list_any, list_any-append}
-use Rattle.nodejs_semver.proofs.Common.{nat_tests, not, not-true, option_to_list, parts, precedence, refl, same_Some, subst, sym, true, ℕ, ◌&&◌, ◌++◌}
-use Rattle.{nodejs_semver.proofs.Common.{◌+◌, ◌<◌, ◌||◌, ◌∙◌, ◌∷◌, ◌≡◌, ◌≤◌}, npm_reading.proofs.Grammar.WordLoop.{AreWordsTo, first-none}}
-use Rattle.npm_reading.{proofs.Grammar.WordLoop.{valid-found, words-end, words-next, words-none}, specs.Internal.Alternatives.ranged}
-use Rattle.npm_reading.specs.Internal.{Alternatives.NarrowedBy, Reads.{AddsPart, AreAllFound, AreFound, IsFound}}
-use Rattle.npm_reading.specs.Internal.Reads.{IsStep, first_valid, valid_all, valid_alternative, valid_alternatives, valid_first, valid_range}
-use Rattle.npm_reading.specs.{Internal.Reads.words_of, Ranges.IsRangeIn, Readings.{OfAccepted, ReadText}}
+use Rattle.nodejs_semver.proofs.Common.{Bool, Bor, Err, Failure, IfSome, IsCutAtBars, IsRange, IsUtf8, List, MAX_SAFE_INTEGER, Memory, MemoryOnlyIf}
+use Rattle.nodejs_semver.proofs.Common.{None, Ok, Option, Refused, Result, Some, Span, VersionValue, [], accepts, and-false, and_parts, ap}
+use Rattle.nodejs_semver.proofs.Common.{append-nil, append_assoc, arith, cases_Bool, common_steps, cond_both, cond_some, drop_spaces, false, holds}
+use Rattle.nodejs_semver.proofs.Common.{if◌then◌else◌, inl, inr, interval, is_empty, is_interval, is_range_span, is_some, later_parts, length}
+use Rattle.nodejs_semver.proofs.Common.{length-append, list_all, list_all-append, nat_tests, not, not-true, option_to_list, parts, precedence, refl}
+use Rattle.nodejs_semver.proofs.Common.{same_Some, subst, sym, true, ℕ, ◌&&◌, ◌++◌, ◌+◌, ◌<◌, ◌∙◌, ◌∷◌, ◌≡◌, ◌≤◌}
+use Rattle.npm_reading.proofs.Grammar.{Intervals.{narrowed-interval, range_accepts, ranged-found}, WordLoop.{AreWordsTo, first-none, valid-found}}
+use Rattle.npm_reading.{proofs.Grammar.WordLoop.{words-end, words-next, words-none}, specs.Internal.Alternatives.{NarrowedBy, ranged}}
+use Rattle.npm_reading.specs.Internal.Reads.{AddsPart, AreAllFound, AreFound, IsFound, IsStep, first_valid, valid_alternative, valid_alternatives}
+use Rattle.npm_reading.specs.{Internal.Reads.{valid_range, words_of}, Ranges.IsRangeIn, Readings.{OfAccepted, ReadText}}
 use Rattle.{npm_reading.specs.declared.alternatives.Alternative.Alternative, npm_words.proofs.Common.{Comparison, Ended, HasAlternativesIn}}
-use Rattle.npm_words.proofs.Common.{IsNarrowed, alternative_of, alternatives_of, behind_ignored, capped_in, capped_partial, counted, counts}
-use Rattle.npm_words.proofs.Common.{first_word, hyphen_ends, hyphen_of, is_free_lower, is_free_upper, is_lost, is_right, is_short_word, is_unbounded}
-use Rattle.npm_words.proofs.Common.{is_valid, kept, lower_of, meets, signed_front_view, signed_word, upper_of, valid_one, words_of_all, words_within}
-use Rattle.npm_words.proofs.Grammar.{AlternativeLaw.alternatives_are, Hyphens.{both_capped, hyphen-capped}, Printed.{capped-valid, table-invalid}}
-use Rattle.npm_words.{proofs.Grammar.Printed.valid-same, specs.{Table.{Partial, lowest, table}, declared.words.Signed.Signed}}
+use Rattle.npm_words.proofs.Common.{IsNarrowed, alternative_of, alternatives_of, ap₂, behind_ignored, capped_in, capped_partial, first_word}
+use Rattle.npm_words.proofs.Common.{hyphen_ends, hyphen_of, is_free_lower, is_free_upper, is_lost, is_right, is_short_word, is_valid, kept, lower_of}
+use Rattle.npm_words.proofs.{Common.{signed_front_view, signed_word, upper_of, valid_one, words_of_all}, Grammar.AlternativeLaw.alternatives_are}
+use Rattle.npm_words.proofs.Grammar.{Hyphens.{both_capped, hyphen-capped}, Printed.{capped-valid, table-invalid, valid-same}}
+use Rattle.npm_words.specs.{Alternatives.interval_in, Table.{Partial, table}, declared.words.Signed.Signed}
 use Rattle.semver_core.{proofs.Dividing.BarsDivide.bars_once, specs.{Failures.{NoValue, RefusedOnlyIf}, Internal.Reading.◌>>?◌}}
-use Rattle.std.specs.Prelude.{is_none}
-use Rattle.npm_reading.proofs.Grammar.Intervals.{narrowed-interval, range_accepts, ranged-found}
-use Rattle.npm_words.proofs.Common.{ap₂}
-use Rattle.npm_words.specs.Alternatives.{interval_in}
-use Rattle.nodejs_semver.proofs.Common.{interval, is_interval}
-use Rattle.std.specs.List.{cons_option, filter_map}
-use Rattle.std.proofs.lemmas.List.Elements.{filter_map-append}
+use Rattle.std.{proofs.lemmas.List.Elements.filter_map-append, specs.{List.cons_option, Prelude.is_none}}
 use Rattle.npm_words.specs.Internal.Words as Words
 
 -- one interval is kept, since one without bounds is any version

@@ -3,7 +3,7 @@
 use Rattle.nodejs_semver.proofs.Common.{Bool, List, Option, Some, Span, VersionValue, interval, precedence, ◌≡◌}
 use Rattle.{npm_reading.specs.{Internal.Alternatives.NarrowedBy, declared.alternatives.Alternative.Alternative}, npm_words.proofs.Common.AreRead}
 use Rattle.npm_words.{proofs.{Common.Comparison, Grammar.Rows.{met_common, narrowed}}, specs.Internal.Alternatives.met}
-use Rattle.semver_core.specs.{Internal.Views.bounds_view, declared.scan.pieces.bounds.Bounds.Bounds}
+use Rattle.semver_pieces.specs.{Internal.Views.bounds_view, declared.bounds.Bounds.Bounds}
 
 pub narrowed_read : (include : Bool) (before : Option (Span VersionValue)) (ds : List Comparison) (b : Bounds) (a : Alternative)
     → AreRead include ds (Some b) → a.interval ≡ met before (interval precedence (bounds_view b)) → NarrowedBy include before ds (Some a)

@@ -1,12 +1,12 @@
 -- The words of an alternative whose comparators are valid, one after another.
 use Rattle.nodejs_semver.proofs.Common.{Bool, IsUtf8, List, MAX_SAFE_INTEGER, None, Option, Some, Span, VersionValue, [], ap, append-nil}
-use Rattle.nodejs_semver.proofs.Common.{append_assoc, arith, bind_some, common_steps, cond_some, false, if◌then◌else◌, is_empty, length, list_all}
-use Rattle.nodejs_semver.proofs.Common.{list_all-append, nat_lt, nat_tests, prefix_len, refl, same_Some, subst, sym, true, ℕ, ◌&&◌, ◌++◌, ◌-◌, ◌<◌}
-use Rattle.{nodejs_semver.proofs.Common.{◌||◌, ◌∙◌, ◌∷◌, ◌≡◌, ◌≤◌}, npm_reading.specs.Internal.{Alternatives.NarrowedBy, Reads.first_valid}}
-use Rattle.npm_reading.specs.{Internal.Reads.{valid_all, valid_first, words_of}, declared.alternatives.Alternative.Alternative}
-use Rattle.npm_words.proofs.Common.{Comparison, IsNarrowed, comparators_of, first_word, is_valid, signed_word, words_within}
-use Rattle.{npm_words.proofs.Grammar.{VersionLaw.empty-is, Words.{FirstAt, first-found, words-enough}}, semver_core.specs.Internal.Reading.◌>>?◌}
-use Rattle.std.{proofs.lemmas.{Grind.flat_map-append, List.reverse-append}, specs.{List.suffix_len, Option.unwrap_or, Prelude.{is_none, reverse}}}
+use Rattle.nodejs_semver.proofs.Common.{append_assoc, arith, bind_some, common_steps, cond_some, false, is_empty, length, list_all, list_all-append}
+use Rattle.nodejs_semver.proofs.Common.{nat_lt, nat_tests, prefix_len, refl, same_Some, subst, sym, true, ℕ, ◌&&◌, ◌++◌, ◌-◌, ◌<◌, ◌∙◌, ◌∷◌, ◌≡◌}
+use Rattle.npm_reading.specs.Internal.{Alternatives.NarrowedBy, Reads.{first_valid, valid_all, valid_first, words_of}}
+use Rattle.{npm_reading.specs.declared.alternatives.Alternative.Alternative, npm_words.proofs.Common.{Comparison, IsNarrowed, comparators_of}}
+use Rattle.npm_words.proofs.{Common.{first_word, is_valid, signed_word, words_within}, Grammar.{VersionLaw.empty-is, Words.{FirstAt, first-found}}}
+use Rattle.{npm_words.proofs.Grammar.Words.words-enough, semver_core.specs.Internal.Reading.◌>>?◌, std.proofs.lemmas.Grind.flat_map-append}
+use Rattle.std.{proofs.lemmas.List.reverse-append, specs.{List.suffix_len, Option.unwrap_or, Prelude.{is_none, reverse}}}
 
 first-then : (w : Option (List Comparison) × List ℕ) (f : List ℕ → Option (List (Option (List Comparison))))
     → (valid_first w >>? λ w. (f w.1 >>? valid_all) >>? λ ds. Some (w.0 ∷ ds)) ≡ ((f w.1 >>? λ ds. Some (w.0 ∷ ds)) >>? valid_all)

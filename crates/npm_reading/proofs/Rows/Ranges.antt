@@ -1,13 +1,8 @@
 -- Worked rows: the intervals of alternatives, and the range of a text.
-use Rattle.nodejs_semver.proofs.Common.{After, Before, Bool, List, Span, Unbounded, VersionValue, [], codes}
-use Rattle.nodejs_semver.proofs.Common.{false, refl, release_value, true, ℕ, ◌∷◌, ◌≡◌}
-use Rattle.nodejs_semver.specs.Ranges.View.{any_version}
-use Rattle.npm_reading.proofs.Alike.Texts.{plain-has}
-use Rattle.npm_reading.proofs.Rows.Alike.{band, limit, row-hyphen, row-words}
-use Rattle.npm_reading.specs.Ranges.{IsRangeIn, intervals_in}
-use Rattle.npm_words.proofs.Common.{Comparison, above, at_least, at_most, below, equal, from, under}
-use Rattle.npm_words.specs.Table.{lowest, unbuilt}
-use Rattle.semver_core.specs.Text.{Comparators.Comparator, Identifiers.AlphaNumeric}
+use Rattle.nodejs_semver.proofs.Common.{After, Before, List, VersionValue, [], codes, false, refl, release_value, true, ℕ, ◌∷◌, ◌≡◌}
+use Rattle.{nodejs_semver.specs.Ranges.View.any_version, npm_reading.proofs.{Alike.Texts.plain-has, Rows.Alike.{band, limit, row-hyphen, row-words}}}
+use Rattle.{npm_reading.specs.Ranges.{IsRangeIn, intervals_in}, npm_words.proofs.Common.{Comparison, above, at_least, at_most, below, equal, from}}
+use Rattle.{npm_words.{proofs.Common.under, specs.Table.{lowest, unbuilt}}, semver_core.specs.Text.{Comparators.Comparator, Identifiers.AlphaNumeric}}
 use Rattle.std.specs.Fmt.{digits}
 use Rattle.semver_core.specs.Values.Spans as Spans
 

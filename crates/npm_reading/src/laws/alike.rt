@@ -1,18 +1,13 @@
 // Range texts that mean the same here and to npm.
 
+ghost use Rattle.nodejs_semver.specs.{Ranges.Gate.accepts, Text.Meaning.Means};
 ghost use Rattle.npm_reading.specs.Alike.{IsPlainText};
+ghost use Rattle.npm_words.specs.{Alternatives.HasAlternativesIn, Table.Comparison};
+ghost use Rattle.semver_core.specs.{Cuts.Span, Failures.{NoValue, RefusedOnlyIf}};
+ghost use Rattle.semver_core.specs.{Printing.RoundTrip.is_within, Values.Versions.VersionValue};
+ghost use Rattle.{semver_core.specs.declared.TheConstants.MAX_SAFE_INTEGER, std.specs.Prelude.IfOk};
+ghost use Rattle.std.specs.{Prelude.{List, [], false, length, true, ℕ, ◌<◌, ◌≡◌, ◌⊎◌}, Str.IsUtf8};
 ghost use Rattle.npm_words.specs.Alternatives as Npm;
-ghost use Rattle.npm_words.specs.Alternatives.{HasAlternativesIn};
-ghost use Rattle.npm_words.specs.Table.{Comparison};
-ghost use Rattle.nodejs_semver.specs.Ranges.Gate.{accepts};
-ghost use Rattle.nodejs_semver.specs.Text.Meaning.{Means};
-ghost use Rattle.semver_core.specs.Cuts.{Span};
-ghost use Rattle.semver_core.specs.Failures.{NoValue, RefusedOnlyIf};
-ghost use Rattle.semver_core.specs.Printing.RoundTrip.{is_within};
-ghost use Rattle.semver_core.specs.Values.Versions.{VersionValue};
-ghost use Rattle.semver_core.specs.declared.TheConstants.{MAX_SAFE_INTEGER};
-ghost use Rattle.std.specs.Prelude.{◌≡◌, ◌<◌, ◌⊎◌, [], ℕ, IfOk, List, false, length, true};
-ghost use Rattle.std.specs.Str.{IsUtf8};
 
 use nodejs_semver::Range;
 use npm_words::Reading;

@@ -1,13 +1,11 @@
 // The range of a text as npm reads it.
 
+ghost use Rattle.npm_reading.specs.Ranges.{IsRangeIn, intervals_in};
+ghost use Rattle.{npm_words.specs.Table.Comparison, semver_core.specs.Cuts.Span};
+ghost use Rattle.{semver_core.specs.Values.Versions.VersionValue, std.specs.Prelude.{Bool, List}};
+ghost use Rattle.std.specs.{Prelude.{ℕ, ◌≡◌}, Str.IsUtf8};
 ghost use Rattle.nodejs_semver.specs.Ranges.Gate as Gate;
-ghost use Rattle.npm_reading.specs.Ranges.{intervals_in, IsRangeIn};
 ghost use Rattle.npm_words.specs.Alternatives as Npm;
-ghost use Rattle.npm_words.specs.Table.{Comparison};
-ghost use Rattle.semver_core.specs.Cuts.{Span};
-ghost use Rattle.semver_core.specs.Values.Versions.{VersionValue};
-ghost use Rattle.std.specs.Prelude.{◌≡◌, ℕ, Bool, List};
-ghost use Rattle.std.specs.Str.{IsUtf8};
 
 /// The range of a text as npm reads it, which is the intervals of the text's alternatives
 /// (`IsRangeIn`).

@@ -7,7 +7,7 @@ use Rattle.npm_semver.specs.Internal.Said.{name_of}
 use Rattle.npm_semver.specs.Outcomes as Spec
 use Rattle.npm_semver.specs.Outcomes.{IsTold, has_subcommand}
 use Rattle.npm_semver.specs.Responses.{Written}
-use Rattle.npm_semver.specs.Subcommands.{Said, exit_status, say}
+use Rattle.npm_semver.specs.Subcommands.{Said, exit_status, say, takes_input}
 use Rattle.npm_semver.specs.Responses as Responses
 use Rattle.npm_semver.specs.declared.command.Command.{Command}
 use Rattle.npm_semver.specs.declared.command.Command.TheVariants.{Request, Subcommand}
@@ -19,7 +19,7 @@ IsCommand arguments (Request request) =
     (has_subcommand arguments ≡ false) × IsAsked arguments (request_of request)
 
 abbrev pub reads_input : Command → Bool
-reads_input (Subcommand name words) = false
+reads_input (Subcommand name words) = takes_input (name_of name ∷ map string_bytes words.now)
 reads_input (Request request) = Responses.reads_input (request_of request)
 
 abbrev pub outcome : Outcome → Spec.Outcome

@@ -70,12 +70,13 @@ fn write_drawing(
     let mut versions = bounds(alloc, intervals)?;
     versions.sort()?;
     versions.dedup();
-    write_rows(intervals, &versions, output)?;
-    write_ends(intervals, output)?;
+    write_rows(alloc, intervals, &versions, output)?;
+    write_ends(alloc, intervals, output)?;
     output.push_str(legend(intervals, &versions))
 }
 
 fn write_rows(
+    alloc: Global,
     intervals: &[Interval<VersionRef<'_>>],
     versions: &[VersionRef<'_>],
     output: &mut String,
@@ -83,7 +84,7 @@ fn write_rows(
     ensures { OnOk result (Extends (string_bytes output.old) (string_bytes output.new)) }
 {
     for version in versions {
-        write_lines(intervals, version, output)?;
+        write_lines(alloc, intervals, version, output)?;
         write_marks(intervals, version, output)?;
         write_version(intervals, version, output)?;
     }
@@ -91,13 +92,23 @@ fn write_rows(
 }
 
 // Which intervals go on below the last version that bounds one.
-fn write_ends(intervals: &[Interval<VersionRef<'_>>], output: &mut String) -> Result<(), AllocError>
+fn write_ends(
+    alloc: Global,
+    intervals: &[Interval<VersionRef<'_>>],
+    output: &mut String,
+) -> Result<(), AllocError>
     ensures { OnOk result (Extends (string_bytes output.old) (string_bytes output.new)) }
 {
+    let row = ends(alloc, intervals)?;
+    write!(output, "{}", row.trim_end())
+}
+
+fn ends(alloc: Global, intervals: &[Interval<VersionRef<'_>>]) -> Result<String, AllocError> {
+    let mut row = String::new(alloc);
     for interval in intervals {
-        output.push_str(end(interval))?;
+        row.push_str(end(interval))?;
     }
-    Ok(())
+    Ok(row)
 }
 
 fn end(interval: &Interval<VersionRef<'_>>) -> &'static str {
@@ -141,16 +152,27 @@ fn push_bound<'a>(
 
 // The line of each interval below a version.
 fn write_lines(
+    alloc: Global,
     intervals: &[Interval<VersionRef<'_>>],
     version: &VersionRef<'_>,
     output: &mut String,
 ) -> Result<(), AllocError>
     ensures { OnOk result (Extends (string_bytes output.old) (string_bytes output.new)) }
 {
+    let row = lines(alloc, intervals, version)?;
+    writeln!(output, "{}", row.trim_end())
+}
+
+fn lines(
+    alloc: Global,
+    intervals: &[Interval<VersionRef<'_>>],
+    version: &VersionRef<'_>,
+) -> Result<String, AllocError> {
+    let mut row = String::new(alloc);
     for interval in intervals {
-        output.push_str(line(interval, version))?;
+        row.push_str(line(interval, version))?;
     }
-    output.push('\n')
+    Ok(row)
 }
 
 fn line(interval: &Interval<VersionRef<'_>>, version: &VersionRef<'_>) -> &'static str {

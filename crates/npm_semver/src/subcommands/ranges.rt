@@ -10,6 +10,7 @@ ghost use Rattle.npm_semver.specs.Subcommands as Spec;
 ghost use Rattle.npm_semver.specs.Subcommands.{Answers, AreRanges, IsRange, IsShown};
 ghost use Rattle.npm_semver.specs.Internal.Said.{is_operation, operation_name, said};
 
+use crate::caret::Marked;
 use crate::subcommands::replies::{Reply, Trouble, answer, bare, line};
 use nodejs_semver::{Failure, RangeRef, Version};
 use npm_reading::Reading;
@@ -27,7 +28,9 @@ pub fn read_range(alloc: Global, text: &str) -> Result<RangeRef<'_>, Failure<Tro
     };
     match npm_reading::range(alloc, text, strict) {
         Ok(range) => Ok(range),
-        Err(Failure::Refused(_)) => Err(Failure::Refused(Trouble::NoRange(text))),
+        Err(Failure::Refused(_)) => Err(Failure::Refused(Trouble::NoRange(Marked::no_range(
+            text, false,
+        )))),
         Err(Failure::Memory(error)) => Err(Failure::Memory(error)),
     }
 }

@@ -1,12 +1,13 @@
 // What a subcommand answers, and why it does not.
 
-ghost use Rattle.std.specs.Prelude.{◌≡◌, IfOk, None, Some, if◌then◌else◌, string_bytes};
+ghost use Rattle.std.specs.Prelude.{◌≡◌, [], IfOk, None, Some, if◌then◌else◌, string_bytes};
 ghost use Rattle.semver_core.specs.Printing.Text.{version_text};
 ghost use Rattle.npm_semver.specs.Subcommands as Spec;
 ghost use Rattle.npm_semver.specs.Subcommands.{say};
 ghost use Rattle.npm_semver.specs.declared.subcommands.replies.Status.TheVariants.{Yes, No};
-ghost use Rattle.npm_semver.specs.Internal.Said.{said};
+ghost use Rattle.npm_semver.specs.Internal.Said.{said, told_of};
 
+use crate::caret::Marked;
 use nodejs_semver::{IncrementError, Version};
 use std::alloc::{AllocError, Global};
 use thiserror::Error;
@@ -51,12 +52,20 @@ pub struct Reply<'a> {
 pub enum Trouble<'a> {
     #[error("usage: semver {0}")]
     Usage(&'static str),
-    #[error("no version: {0:?}")]
-    NoVersion(&'a str),
-    #[error("no range: {0:?}")]
-    NoRange(&'a str),
+    #[error("{0}")]
+    NoVersion(Marked<'a>),
+    #[error("{0}")]
+    NoRange(Marked<'a>),
+    #[error("no key of a version that npm reads: {0:?}")]
+    NoKey(&'a str),
+    #[error("no part: {0:?} (one of major, minor, patch, prerelease and build)")]
+    NoPart(&'a str),
     #[error("no comparison: {0:?} (one of < <= = != >= > and lt le eq ne ge gt)")]
     NoRelation(&'a str),
+    #[error("no column: {0:?} (names of letters, digits and _, with dots between)")]
+    NoColumn(&'a str),
+    #[error("no dialect: {0:?} (one of sqlite, postgres, duckdb and mysql)")]
+    NoDialect(&'a str),
     #[error("no operation: {0:?} (one of and, minus and within)")]
     NoOperation(&'a str),
     #[error("no next version: {0}")]
@@ -90,4 +99,15 @@ pub fn line<'a>(alloc: Global, is_yes: bool, version: &Version) -> Result<Reply<
     let mut output = String::new(alloc);
     writeln!(output, "{version}")?;
     Ok(answer(is_yes, output))
+}
+
+/// Nothing is printed, and this is told.
+pub fn troubled<'a>(alloc: Global, status: Status, trouble: Trouble<'a>) -> Reply<'a>
+    ensures { said result ≡ say [] (Some (told_of trouble.entry)) status }
+{
+    Reply {
+        output: String::new(alloc),
+        trouble: Some(trouble),
+        status,
+    }
 }

@@ -11,10 +11,11 @@ ghost use Rattle.semver_core.specs.declared.TheConstants.{MAX_SAFE_INTEGER};
 ghost use Rattle.npm_words.specs.VersionText.{IsVersionText};
 ghost use Rattle.npm_semver.specs.Subcommands as Spec;
 ghost use Rattle.npm_semver.specs.Subcommands.{Answers, HasIdentifier, next_said, relation_of, say};
-ghost use Rattle.npm_semver.specs.Internal.Said.{relation, said, told_of};
+ghost use Rattle.npm_semver.specs.Internal.Said.{relation, said};
 
+use crate::caret::Marked;
 use crate::run::without_build;
-use crate::subcommands::replies::{Reply, Status, Trouble, answer, bare, line};
+use crate::subcommands::replies::{Reply, Status, Trouble, answer, bare, line, troubled};
 use nodejs_semver::{Failure, IncrementError, VersionDiff, VersionRef, Versioned};
 use npm_reading::Reading;
 use std::alloc::{AllocError, Global};
@@ -62,8 +63,8 @@ impl Relation {
     }
 }
 
-// Reads a version as npm does.
-fn version(text: &str) -> Result<VersionRef<'_>, Failure<Trouble<'_>>>
+/// Reads a version as npm does.
+pub fn version(text: &str) -> Result<VersionRef<'_>, Failure<Trouble<'_>>>
     ensures ok { IfOk result (λ v. IsVersionText MAX_SAFE_INTEGER text.now v) }
     ensures refused { RefusedOnlyIf result (NoValue (IsVersionText MAX_SAFE_INTEGER text.now)) }
 {
@@ -73,7 +74,7 @@ fn version(text: &str) -> Result<VersionRef<'_>, Failure<Trouble<'_>>>
     };
     match npm_reading::version(text, strict) {
         Ok(version) => Ok(version),
-        Err(_) => Err(Failure::Refused(Trouble::NoVersion(text))),
+        Err(_) => Err(Failure::Refused(Trouble::NoVersion(Marked::no_version(text)))),
     }
 }
 
@@ -287,14 +288,4 @@ fn not_raised<'a>(alloc: Global, error: IncrementError) -> Reply<'a>
         _ => Status::Malformed,
     };
     troubled(alloc, status, Trouble::NotIncremented(error))
-}
-
-fn troubled<'a>(alloc: Global, status: Status, trouble: Trouble<'a>) -> Reply<'a>
-    ensures { said result ≡ say [] (Some (told_of trouble.entry)) status }
-{
-    Reply {
-        output: String::new(alloc),
-        trouble: Some(trouble),
-        status,
-    }
 }

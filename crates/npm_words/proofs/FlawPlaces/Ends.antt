@@ -1,29 +1,20 @@
 -- The malformed end of a hyphen range.
-use Rattle.npm_words.proofs.Common.{Bool, Comparison, Ended, IsUtf8, List, MAX_SAFE_INTEGER, None, Option, Some, [], after_byte}
-use Rattle.npm_words.proofs.Common.{after_ends, and_parts, ap, append_assoc, arith, begins, bind_some, capped_in, cases_Bool}
-use Rattle.npm_words.proofs.Common.{cond_some, drop_at, drop_ends, drop_spaces, encode_utf8_all, end_front, false, from_boundary, if◌then◌else◌, inl, inr}
-use Rattle.npm_words.proofs.Common.{is_empty, is_free, is_mark, is_right, is_valid, last_end, length, length-append, list_all}
-use Rattle.npm_words.proofs.Common.{lt-ltb, nat_lt, nat_tests, refl, same_Some, space_len, space_len-nil, subst, suc, sym, take, true, zero, ℕ}
-use Rattle.npm_words.proofs.Common.{◌++◌, ◌+◌, ◌-◌, ◌>>?◌, ◌∙◌, ◌∷◌, ◌≡◌, ◌≤◌}
-use Rattle.npm_words.proofs.Common.{AreRead, are_normal, ◌==◌, is_free_lower, is_free_upper, is_some, lower_of, take_at, upper_of}
-use Rattle.npm_words.proofs.Grammar.Hyphens.{end-found, end-normal, end-read, ends-found, ends-read, free-capped, front-is}
-use Rattle.npm_words.proofs.Grammar.Hyphens.{normal-capped, right-end}
-use Rattle.npm_words.proofs.Grammar.Printed.{capped-valid, lower-invalid, upper-invalid}
-use Rattle.semver_core.specs.declared.scan.pieces.bounds.Bounds.{Bounds}
-use Rattle.std.proofs.lemmas.Str.{IsCharBoundary-at_seam, IsUtf8-take}
-use Rattle.npm_words.proofs.Grammar.VersionLaw.{empty-is}
-use Rattle.npm_words.specs.Internal.Words.{after_dash, end_len}
-use Rattle.npm_words.specs.Internal.Ends.{behind_end, is_lower, is_right_one, is_upper}
-unfoldable use Rattle.npm_words.specs.Internal.Ends.{end_texts}
-use Rattle.npm_words.specs.MalformedEnds.{HasEnds, IsEndPlace, IsLower, IsMalformedPart, IsRightEnd, IsUpper, IsWrongEnd, SkipsDash, SkipsMarks}
-use Rattle.npm_words.specs.MalformedEnds.{a_word, an_end, lower, upper}
-use Rattle.npm_words.specs.Table.{Partial}
+use Rattle.npm_words.proofs.Common.{AreRead, Bool, Comparison, Ended, IsUtf8, List, MAX_SAFE_INTEGER, None, Option, Some, [], after_byte, after_ends}
+use Rattle.npm_words.proofs.Common.{and_parts, ap, append_assoc, are_normal, arith, begins, bind_some, capped_in, cases_Bool, cond_some, drop_at}
+use Rattle.npm_words.proofs.Common.{drop_ends, drop_spaces, encode_utf8_all, end_front, false, from_boundary, if◌then◌else◌, inl, inr, is_empty}
+use Rattle.npm_words.proofs.Common.{is_free, is_free_lower, is_free_upper, is_mark, is_right, is_some, is_valid, last_end, length, length-append}
+use Rattle.npm_words.proofs.Common.{list_all, lower_of, lt-ltb, nat_lt, nat_tests, refl, same_Some, space_len, space_len-nil, subst, suc, sym, take}
+use Rattle.npm_words.proofs.Common.{take_at, true, upper_of, zero, ℕ, ◌++◌, ◌+◌, ◌-◌, ◌==◌, ◌>>?◌, ◌∙◌, ◌∷◌, ◌≡◌, ◌≤◌}
+use Rattle.npm_words.proofs.{FlawPlaces.Ranges.one_malformed_word, Grammar.Hyphens.{end-found, end-normal, end-read, ends-found, ends-read}}
+use Rattle.npm_words.proofs.Grammar.{Hyphens.{free-capped, front-is, normal-capped, right-end}, Printed.{capped-valid, lower-invalid, upper-invalid}}
+use Rattle.npm_words.{proofs.Grammar.VersionLaw.empty-is, specs.Internal.{Ends.{behind_end, is_lower, is_right_one, is_upper}, Words.after_dash}}
+use Rattle.npm_words.specs.{Internal.Words.end_len, MalformedEnds.{HasEnds, IsEndPlace, IsLower, IsMalformedPart, IsRightEnd, IsUpper, IsWrongEnd}}
+use Rattle.npm_words.specs.{MalformedEnds.{SkipsDash, SkipsMarks, a_word, an_end, lower, upper}, Table.Partial}
 use Rattle.semver_core.proofs.Reading.Boundaries.{blank-len, boundary-utf8, byte-is, first-is, skips-of, skips-utf8, some_space-is, tail-utf8}
-use Rattle.semver_core.specs.Internal.Boundaries.{after_some_space}
-use Rattle.semver_core.specs.Text.Boundaries.{IsFirstBoundary}
-use Rattle.semver_core.specs.Text.Characters.{BeginsBlank}
-use Rattle.semver_core.specs.Values.Versions.{VersionValue}
-use Rattle.npm_words.proofs.FlawPlaces.Ranges.{one_malformed_word}
+use Rattle.semver_core.specs.{Internal.Boundaries.after_some_space, Text.{Boundaries.IsFirstBoundary, Characters.BeginsBlank}}
+use Rattle.{semver_core.specs.Values.Versions.VersionValue, semver_pieces.specs.declared.bounds.Bounds.Bounds}
+use Rattle.std.proofs.lemmas.Str.{IsCharBoundary-at_seam, IsUtf8-take}
+unfoldable use Rattle.npm_words.specs.Internal.Ends.{end_texts}
 
 -- ---- the place of an end
 

@@ -3,7 +3,7 @@ use Rattle.npm_words.proofs.Common.{AllByRecursion, AreAlternatives, Bool, Compa
 use Rattle.npm_words.proofs.Common.{IsMalformedWord, IsUtf8, List, MAX_SAFE_INTEGER, NoValue, None, Option, Signed, Some, [], and_parts, ap}
 use Rattle.npm_words.proofs.Common.{append-nil, arith, capped_partial, common_steps, cut_bars, drop, drop_spaces, false, here, is_empty, is_valid}
 use Rattle.npm_words.proofs.Common.{length, length-append, list_all, marks_len, more_pieces, nat_tests, none, one_piece, refl, same_Some, signed_word}
-use Rattle.npm_words.proofs.{Common.{subst, sym, true, ℕ, ◌++◌, ◌+◌, ◌-◌, ◌<◌, ◌∙◌, ◌∷◌, ◌≡◌, ◌≤◌}, Grammar.Printed.{capped-valid, table-invalid}}
+use Rattle.npm_words.proofs.{Common.{subst, sym, true, ℕ, ◌++◌, ◌+◌, ◌<◌, ◌∙◌, ◌∷◌, ◌≡◌, ◌≤◌}, Grammar.Printed.{capped-valid, table-invalid}}
 use Rattle.npm_words.{proofs.Grammar.{Printed.valid-same, Words.{WordAt, signed-found, strict-kept, word-read}}, specs.MalformedWords.IsRightWord}
 use Rattle.npm_words.specs.{MalformedWords.on, RangeFlaws.{IsAlternativeText, bytes_of}, RangeText.{hyphen, next, words}, Table.{Partial, table}}
 use Rattle.semver_core.proofs.Dividing.{BarLemmas.{cut_bars-front, parts_after}, BarsDivide.{bars_divide, pieces-utf8}}

@@ -1,16 +1,15 @@
 -- Alternatives of node-semver's range texts: the functions that read them find exactly what the statement has.
 use Rattle.npm_words.proofs.Common.{AllByRecursion, AreAlternatives, Bool, Comparison, Ended, HasAlternativesIn, IsAlternative, IsHyphen, IsUtf8}
-use Rattle.npm_words.proofs.Common.{IsVersionText, List, None, Option, Signed, Some, VersionValue, [], alternative_of, alternatives_of, and_parts, ap}
-use Rattle.npm_words.proofs.Common.{are_marks, are_normal, arith, bind_some, capped_in, capped_partial, cases_Bool, common_steps, cond_some, drop}
-use Rattle.npm_words.proofs.Common.{false, first_as, hyphen_ends, inl, inr, is_boundary, is_empty, is_free_lower, is_free_upper, is_mark, is_right}
-use Rattle.npm_words.proofs.Common.{is_valid, kept, length, length-drop, list_all, lower_of, map, marks_len, middle_is_trim, nat_tests, npm_sign}
-use Rattle.npm_words.proofs.Common.{prefix_len, refl, same_Some, signed_word, subst, suc, sym, take, take_rest, trim, trim_is_middle, true, upper_of}
-use Rattle.npm_words.proofs.{Common.{words_of_all, words_within, ℕ, ◌&&◌, ◌++◌, ◌+◌, ◌-◌, ◌↔◌, ◌∙◌, ◌∷◌, ◌≡◌, ◌≤◌}, Grammar.Hyphens.ended_of}
-use Rattle.npm_words.proofs.Grammar.{Hyphens.{front-normal, hyphen-found, hyphen-read, normal-capped, partial-le, right-end}, PartialLaw.front-as}
-use Rattle.npm_words.{proofs.Grammar.{PartialLaw.prefix-all, Words.{words-found, words-read}}, specs.Internal.Words.{ended_word, hyphen_or}}
-use Rattle.npm_words.specs.{Internal.Words.{npm_alternatives, places_front}, RangeText.{hyphen, next, words}, Table.Partial}
-use Rattle.semver_core.proofs.{Dividing.BarsDivide.{bars_divide, bars_once, pieces-utf8}, Reading.Boundaries.{tail-utf8, trim-utf8}}
-use Rattle.semver_core.proofs.Reading.Steps.{option-cases}
+use Rattle.npm_words.proofs.Common.{List, None, Option, Signed, Some, [], alternative_of, alternatives_of, and_parts, ap, are_normal, arith}
+use Rattle.npm_words.proofs.Common.{bind_some, capped_in, capped_partial, cases_Bool, common_steps, cond_some, drop, false, first_as, hyphen_ends}
+use Rattle.npm_words.proofs.Common.{inl, inr, is_empty, is_free_lower, is_free_upper, is_mark, is_right, is_valid, kept, length, length-drop}
+use Rattle.npm_words.proofs.Common.{list_all, lower_of, map, marks_len, middle_is_trim, nat_tests, prefix_len, refl, same_Some, signed_word, subst}
+use Rattle.npm_words.proofs.Common.{suc, sym, take, take_rest, trim, trim_is_middle, true, upper_of, words_of_all, words_within, ℕ, ◌&&◌, ◌++◌, ◌+◌}
+use Rattle.npm_words.proofs.{Common.{◌-◌, ◌↔◌, ◌∙◌, ◌∷◌, ◌≡◌, ◌≤◌}, Grammar.Hyphens.{ended_of, front-normal, hyphen-found, hyphen-read}}
+use Rattle.npm_words.proofs.Grammar.{Hyphens.{normal-capped, partial-le, right-end}, PartialLaw.{front-as, prefix-all}, Words.words-found}
+use Rattle.npm_words.{proofs.Grammar.Words.words-read, specs.{Internal.Words.{hyphen_or, npm_alternatives, places_front}, RangeText.{hyphen, next}}}
+use Rattle.{npm_words.specs.{RangeText.words, Table.Partial}, semver_core.proofs.Dividing.BarsDivide.{bars_divide, bars_once, pieces-utf8}}
+use Rattle.semver_core.proofs.Reading.{Boundaries.{tail-utf8, trim-utf8}, Steps.option-cases}
 
 -- ---- marks
 

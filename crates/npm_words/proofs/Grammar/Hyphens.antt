@@ -7,19 +7,18 @@ use Rattle.npm_words.proofs.Common.{cases_Bool, common_steps, compared, cond_som
 use Rattle.npm_words.proofs.Common.{encode_utf8_all, end_front, ended_as, false, first_as, get_or, hyphen_ends, hyphen_of, if◌then◌else◌, inl, inr}
 use Rattle.npm_words.proofs.Common.{is_empty, is_free, is_free_lower, is_free_upper, is_mark, is_right, is_right_end, is_short, is_short_word}
 use Rattle.npm_words.proofs.Common.{is_valid, is_whitespace, last_end, last_marks, le-ltb, len_utf8, len_utf8_bounds, length, length-append}
-use Rattle.npm_words.proofs.Common.{length-drop, length-encode, list_all, list_all-append, lower_of, lt-ltb, major, minor, nat_tests, no_build, not}
-use Rattle.npm_words.proofs.Common.{plus, prefix_len, refl, same_Some, space_len, space_len-nil, subst, suc, sym, take, true, upper_of, wildcard}
-use Rattle.npm_words.proofs.{Common.{zero, ℕ, ◌&&◌, ◌++◌, ◌+◌, ◌-◌, ◌<◌, ◌==◌, ◌>>?◌, ◌||◌, ◌∙◌, ◌∷◌, ◌≡◌, ◌≤◌}, Grammar.Characters.is_signal}
-use Rattle.npm_words.proofs.Grammar.{Characters.sign-signal, PartialLaw.{boundary-quiet, front-as, front-text, places-found, places-read}}
-use Rattle.npm_words.proofs.Grammar.{Printed.{capped-valid, lower-invalid, upper-invalid, valid-same}, Signs.marks-all, VersionLaw.empty-is}
-use Rattle.npm_words.{proofs.Grammar.Words.{marks-dropped, places-begin}, specs.{Grammar.IsPreRelease, Internal.{Reads.valid_one, Words.after_dash}}}
-use Rattle.npm_words.specs.{Internal.Words.{end_len, places_front}, RangeText.{formed, ignored, more}, Table.{Partial, whole}}
-use Rattle.semver_core.proofs.{Normal.identifiers-normal, Reading.Boundaries.{blank-len, boundary-of, boundary-utf8, byte-is, front-dark, skips-of}}
-use Rattle.semver_core.proofs.Reading.{Boundaries.{skips-utf8, some_space-is, tail-utf8}, Bytes.{all-join, begins_component, is_component_byte}}
-use Rattle.semver_core.{proofs.{Reading.Bytes.is_solid, Text.SpaceLaw.front_is_first_character}, specs.Internal.Boundaries.after_some_space}
-use Rattle.semver_core.specs.{Printing.RoundTrip.is_normal, Text.{Boundaries.SkipsBlank, Characters.BeginsBlank, Comparators.equal}}
-use Rattle.std.proofs.lemmas.List.{Sums.{list_all-from_AllPass, prefix_len_passes, suffix_len-le-length}, get_or-drop, get_or-reverse}
-use Rattle.std.specs.{List.suffix_len, Prelude.reverse}
+use Rattle.npm_words.proofs.Common.{length-drop, length-encode, list_all, list_all-append, lower_of, lt-ltb, nat_tests, no_build, not, plus}
+use Rattle.npm_words.proofs.Common.{prefix_len, refl, same_Some, space_len, space_len-nil, subst, suc, sym, take, true, upper_of, zero, ℕ, ◌&&◌, ◌++◌}
+use Rattle.npm_words.proofs.{Common.{◌+◌, ◌-◌, ◌<◌, ◌==◌, ◌>>?◌, ◌||◌, ◌∙◌, ◌∷◌, ◌≡◌, ◌≤◌}, Grammar.Characters.{is_signal, sign-signal}}
+use Rattle.npm_words.proofs.Grammar.{PartialLaw.{boundary-quiet, front-text, places-found, places-read}, Printed.{capped-valid, lower-invalid}}
+use Rattle.npm_words.proofs.Grammar.{Printed.{upper-invalid, valid-same}, Signs.marks-all, VersionLaw.empty-is, Words.{marks-dropped, places-begin}}
+use Rattle.npm_words.specs.{Grammar.IsPreRelease, Internal.{Reads.valid_one, Words.{after_dash, end_len, places_front}}, RangeText.{formed, ignored}}
+use Rattle.{npm_words.specs.{RangeText.more, Table.{Partial, whole}}, semver_core.proofs.{Normal.identifiers-normal, Reading.Boundaries.blank-len}}
+use Rattle.semver_core.proofs.Reading.Boundaries.{boundary-of, boundary-utf8, byte-is, front-dark, skips-of, skips-utf8, some_space-is, tail-utf8}
+use Rattle.semver_core.proofs.{Reading.Bytes.{all-join, begins_component, is_component_byte, is_solid}, Text.SpaceLaw.front_is_first_character}
+use Rattle.semver_core.specs.{Internal.Boundaries.after_some_space, Printing.RoundTrip.is_normal, Text.Boundaries.SkipsBlank}
+use Rattle.{semver_core.specs.Text.{Characters.BeginsBlank, Comparators.equal}, std.proofs.lemmas.List.{get_or-drop, get_or-reverse}}
+use Rattle.std.{proofs.lemmas.List.Sums.{list_all-from_AllPass, prefix_len_passes, suffix_len-le-length}, specs.{List.suffix_len, Prelude.reverse}}
 
 -- ---- marks and whitespace at the front
 

@@ -1,13 +1,12 @@
 -- The partials inside a malformed word, in front of a `=`: the functions find them exactly where the statement has them.
-use Rattle.npm_words.proofs.Common.{List, [], and_parts, ap, arith, cases_Bool, codes, common_steps, drop, drop_at, false, if◌then◌else◌, inl, inr}
-use Rattle.npm_words.proofs.Common.{is_empty, length, length-append, length-drop, list_all, nat_tests, prefix_len, refl, subst, suc, sym, take}
-use Rattle.npm_words.proofs.Common.{take-append-drop, take_at, take_rest, takes, true, zero, ℕ, ◌&&◌, ◌++◌, ◌+◌, ◌-◌, ◌<◌, ◌==◌, ◌∙◌, ◌∷◌, ◌≡◌, ◌≤◌}
+use Rattle.npm_words.proofs.Common.{List, None, Option, Some, [], and_parts, ap, arith, cases_Bool, codes, common_steps, drop, drop_at, false}
+use Rattle.npm_words.proofs.Common.{if◌then◌else◌, inl, inr, is_ascii_digit, is_empty, length, length-append, length-drop, list_all, nat_tests}
+use Rattle.npm_words.proofs.Common.{prefix_len, refl, subst, suc, sym, take, take-append-drop, take_at, take_rest, takes, true, zero, ℕ, ◌&&◌, ◌++◌}
+use Rattle.npm_words.proofs.{Common.{◌+◌, ◌-◌, ◌<◌, ◌==◌, ◌||◌, ◌∙◌, ◌∷◌, ◌≡◌, ◌≤◌, ◌⊎◌}, Grammar.InsideParts.{inside-starts, partial-found}}
+use Rattle.npm_words.{proofs.Grammar.{InsideParts.{partial-less, partial-max, starts_place}, PartialLaw.prefix-all}, specs.Internal.Inside.are_inside}
+use Rattle.npm_words.specs.{Internal.{Inside.{behind_partial, from_place, is_apart}, Words.takes_on}, Malformed.{AreInside, IsInside, IsTaken}}
+use Rattle.{npm_words.specs.Malformed.{begins_place, more, none}, std.{proofs.Math.Bool.or-true, specs.{Cmp.Lexicographic.pointwise, List.ends_with}}}
 use Rattle.std.specs.List.{position}
-use Rattle.npm_words.proofs.Common.{None, Option, Some, is_ascii_digit, ◌||◌}
-use Rattle.npm_words.proofs.{Common.◌⊎◌, Grammar.InsideParts.{inside-starts, partial-found, partial-less, partial-max, starts_place}}
-use Rattle.npm_words.{proofs.Grammar.PartialLaw.prefix-all, specs.Internal.Inside.{are_inside, behind_partial, from_place, is_apart}}
-use Rattle.npm_words.specs.{Internal.Words.takes_on, Malformed.{AreInside, IsInside, IsTaken, begins_place, more, none}}
-use Rattle.std.{proofs.Math.Bool.or-true, specs.{Cmp.Lexicographic.pointwise, List.ends_with}}
 
 -- ---- the first place
 

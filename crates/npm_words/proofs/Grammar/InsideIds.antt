@@ -1,11 +1,10 @@
 -- The identifiers of a pre-release inside a malformed word: the longest list at the front of a text.
-use Rattle.npm_words.proofs.Common.{Bool, List, None, Some, [], all_weaker, and-false, and_parts, ap, append_assoc, ap₂, arith, begins, begins_byte}
+use Rattle.npm_words.proofs.Common.{Bool, List, [], all_weaker, and-false, and_parts, ap, append_assoc, ap₂, arith, begins, begins_byte}
 use Rattle.npm_words.proofs.Common.{begins_identifier, cases_Bool, common_steps, drop, eqb-true, false, has_leading_zero, if◌then◌else◌, inl, inr}
 use Rattle.npm_words.proofs.Common.{is_ascii_digit, length, length-append, length-drop, list_all, nat_lt, nat_tests, not, pieces, prefix_len, refl}
-use Rattle.npm_words.proofs.Common.{same_Some, subst, suc, sym, take, take-append-drop, true, zero, ℕ, ◌&&◌, ◌++◌, ◌+◌, ◌<◌, ◌==◌, ◌||◌, ◌∙◌, ◌∷◌}
-use Rattle.npm_words.{proofs.{Common.{◌≡◌, ◌≤◌, ◌⊎◌}, Grammar.PartialLaw.prefix-all}, specs.Internal.Inside.{begins_dotted_id, behind_digits}}
-use Rattle.{npm_words.specs.Internal.Inside.{behind_id, behind_ids}, semver_core.proofs.Reading.Qualifiers.byte-begins}
-use Rattle.semver_core.specs.Text.{Characters.is_identifier_char, Identifiers.{goes_on, is_identifier}}
+use Rattle.npm_words.proofs.Common.{subst, suc, sym, take, take-append-drop, true, zero, ℕ, ◌&&◌, ◌++◌, ◌+◌, ◌<◌, ◌==◌, ◌||◌, ◌∙◌, ◌∷◌, ◌≡◌, ◌≤◌, ◌⊎◌}
+use Rattle.npm_words.{proofs.Grammar.PartialLaw.prefix-all, specs.Internal.Inside.{begins_dotted_id, behind_digits, behind_id, behind_ids}}
+use Rattle.semver_core.{proofs.Reading.Qualifiers.byte-begins, specs.Text.{Characters.is_identifier_char, Identifiers.{goes_on, is_identifier}}}
 
 -- ---- runs
 

@@ -79,10 +79,6 @@ pub table-invalid : (include : Bool) (s : Sign) (p : Partial) (text : List ℕ) 
     → list_all (is_valid MAX_SAFE_INTEGER) (table include s p text) ≡ false
 table-invalid include s p text h = grind (arith, past-next)
 
-pub table-past : (include : Bool) (s : Sign) (p : Partial) (text : List ℕ) (n : Numbers) → n ≡ first p → within n ≡ false
-    → list_all (is_valid MAX_SAFE_INTEGER) (table include s p text) ≡ false
-table-past include s p text n e h = table-invalid include s p text (rw e at h)
-
 -- ---- the ends of a hyphen range
 
 pub lower-invalid : (c : Comparator) (include : Bool) (p : Partial) (text : List ℕ) → within (first p) ≡ false

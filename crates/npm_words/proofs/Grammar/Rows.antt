@@ -1,26 +1,18 @@
 -- What comparators have in common, as spans: that of one, that of two lists, and that of the comparators of a word, by the rows of
 -- node-semver's table.
-use Rattle.npm_words.proofs.Common.{After, AreRead, Before, Bool, Bound, Bounds, Comparator, Comparison, Id, IsCommon, IsNarrowed, List, MAX_LENGTH}
-use Rattle.npm_words.proofs.Common.{MAX_SAFE_INTEGER, None, Numbers, Option, Ordering, Some, Span, Unbounded, VersionValue, [], above, and-true}
-use Rattle.npm_words.proofs.Common.{and_parts, ap, ap₂, are_normal, arith, at_least, at_most, below, both_ways, bytes_eq, bytes_eq-Decides}
-use Rattle.npm_words.proofs.Common.{caret_from, codes, common_steps, compared, cond_both, counted, counts, equal, false, filter-append, first, from}
-use Rattle.npm_words.proofs.Common.{greater_lower, holds, inl, interval, is_empty, is_eq, is_ge, is_gt, is_interval, is_le, is_lt, is_past}
-use Rattle.npm_words.proofs.Common.{is_range_bound, is_readable, is_valid, is_zero, length, lesser_upper, lets_in, list_all, list_all-append}
-use Rattle.npm_words.proofs.Common.{list_any, list_any-append, lower_cut, made, nat_le, nat_tests, next_changed, not, option_holds-interval}
-use Rattle.npm_words.proofs.Common.{precedence, precedence_total, refl, satisfies, sym, true, under, upper_cut, version_text, whole, within, ℕ, ◌&&◌}
-use Rattle.npm_words.proofs.{Common.{◌++◌, ◌+◌, ◌||◌, ◌∙◌, ◌∷◌, ◌≡◌, ◌≤◌, ◌⊎◌}, Grammar.Printed.{from_valid, prints_zero, under_valid}}
-use Rattle.npm_words.specs.{Alternatives.names, Internal.{Alternatives.met, Meaning.is_part, Parts.{AreZeros, has_no_comparators}}}
-use Rattle.npm_words.specs.{Internal.Parts.{is_padded, no_build, noted}, Table.{Partial, Sign, caret, lowest, next, table, tilde, written_zeros}}
-use Rattle.semver_core.proofs.{CutLaws.{is_past-greater_lower, is_past-lesser_upper}, Gate.{both, lets_in-meet, lets_in_one, past-after, past-before}}
-use Rattle.semver_core.specs.Values.Versions.{IsVersion}
-use Rattle.npm_words.specs.Alternatives.{common, satisfying}
-use Rattle.npm_words.specs.Internal.Meaning.{common_in}
-use Rattle.npm_words.specs.Table.{unbuilt}
-use Rattle.semver_core.specs.Cuts.{Cut, cut_cmp}
-use Rattle.semver_core.proofs.CutLaws.{between, cut_total, gt_lt, lt_trans}
-use Rattle.std.specs.Cmp.{upto}
-use Rattle.std.proofs.lemmas.List.{map-append}
-use Rattle.npm_words.proofs.Common.{cases_Bool, inr, if◌then◌else◌, map}
+use Rattle.npm_words.proofs.Common.{AreRead, Before, Bool, Bound, Bounds, Comparator, Comparison, IsCommon, IsNarrowed, List, MAX_LENGTH}
+use Rattle.npm_words.proofs.Common.{MAX_SAFE_INTEGER, None, Numbers, Option, Some, Span, Unbounded, VersionValue, [], ap, ap₂, are_normal, arith}
+use Rattle.npm_words.proofs.Common.{at_least, at_most, below, both_ways, bytes_eq, bytes_eq-Decides, caret_from, cases_Bool, codes, common_steps}
+use Rattle.npm_words.proofs.Common.{compared, cond_both, counted, counts, equal, false, filter-append, first, from, greater_lower, holds}
+use Rattle.npm_words.proofs.Common.{if◌then◌else◌, inl, inr, interval, is_empty, is_gt, is_interval, is_past, is_range_bound, is_readable, is_valid}
+use Rattle.npm_words.proofs.Common.{is_zero, length, lesser_upper, lets_in, list_all, lower_cut, map, nat_le, nat_tests, next_changed, not}
+use Rattle.npm_words.proofs.Common.{precedence, precedence_total, refl, sym, true, under, upper_cut, version_text, whole, within, ℕ, ◌&&◌, ◌++◌, ◌+◌}
+use Rattle.npm_words.{proofs.{Common.{◌||◌, ◌∙◌, ◌∷◌, ◌≡◌, ◌⊎◌}, Grammar.Printed.{from_valid, prints_zero, under_valid}}, specs.Alternatives.common}
+use Rattle.npm_words.specs.{Alternatives.satisfying, Internal.{Alternatives.met, Meaning.{common_in, is_part}, Parts.{AreZeros, has_no_comparators}}}
+use Rattle.npm_words.specs.{Internal.Parts.{is_padded, no_build, noted}, Table.{Partial, Sign, caret, lowest, next, table, tilde, unbuilt}}
+use Rattle.{npm_words.specs.Table.written_zeros, semver_core.proofs.CutLaws.{between, cut_total, gt_lt, is_past-greater_lower, is_past-lesser_upper}}
+use Rattle.semver_core.{proofs.{CutLaws.lt_trans, Gate.{both, lets_in-meet, lets_in_one}}, specs.{Cuts.{Cut, cut_cmp}, Values.Versions.IsVersion}}
+use Rattle.std.{proofs.lemmas.List.map-append, specs.Cmp.upto}
 use Rattle.semver_core.specs.Values.Spans as Spans
 
 -- ---- where a word has no comparators
@@ -198,10 +190,6 @@ module _ (include padded : Bool) (v : VersionValue) where
       counted_low : counts include (noted padded low) ≡ true
       counted_low = grind (arith, nat_tests, common_steps, zero_of)
 
-pub from_lowest : (include padded : Bool) (n : Numbers) → include ≡ true → within n ≡ true
-    → IsCommon include (noted padded (from include n) ∷ []) (Spans.>= (lowest n))
-from_lowest include padded n i w = rw i (from_some true padded (lowest n) w refl (inl refl))
-
 pub noted_valid : (padded : Bool) (c : Comparison) → is_valid MAX_SAFE_INTEGER (noted padded c) ≡ is_valid MAX_SAFE_INTEGER c
 noted_valid padded c = grind (arith, nat_tests, common_steps, bytes_eq-Decides)
 
@@ -235,9 +223,6 @@ module _ (include padded : Bool) (text : List ℕ) (p : Partial) (a b : Numbers)
   pub part_equal : padded ≡ is_padded (written_zeros text) p → b ≡ next p → Until include (under b ∷ []) → Row (compared equal)
   part_equal k f h = grind arith
 
-  pub part_at_least : padded ≡ is_padded (written_zeros text) p → Until include [] → Row (compared at_least)
-  part_at_least k h = grind arith
-
   pub part_caret : (z : ℕ) → AreZeros p z text → padded ≡ is_padded z p → b ≡ next_changed z p → Until include (under b ∷ []) → Row caret
   part_caret z l k f h = grind arith
 
@@ -252,14 +237,6 @@ module _ (include padded : Bool) (text : List ℕ) (p : Partial) (a b : Numbers)
 
 -- ---- the rows of a whole version
 
--- a comparator that always counts
-pub whole_written : (include : Bool) (c : Comparator) (v : VersionValue) (text : List ℕ) (s : Span VersionValue) → within (first (whole v)) ≡ true
-    → are_normal (whole v) ≡ true → length text ≤ MAX_LENGTH → s ≡ satisfying (comparison c v text)
-    → counts include (comparison c v text) ≡ (include || not false)
-    → (list_all (is_valid MAX_SAFE_INTEGER) (comparison c v text ∷ []) ≡ true) × IsCommon include (comparison c v text ∷ []) s
-whole_written include c v text s w n l is k =
-    (rw w (grind (arith, nat_tests)), rw is (one_common include c v text (whole_readable v w n) (k ∙ either_true include)))
-
 pub caret_valid : (include : Bool) (z : ℕ) (v : VersionValue) → within (first (whole v)) ≡ true
     → nat_le (length (version_text (no_build v))) MAX_LENGTH ≡ true → is_valid MAX_SAFE_INTEGER (caret_from include z v) ≡ true
 caret_valid include z v w l = grind (arith, noted_valid (is_padded z (whole v)) (unbuilt at_least v), from_valid true (first (whole v)))
@@ -267,11 +244,3 @@ caret_valid include z v w l = grind (arith, noted_valid (is_padded z (whole v)) 
 pub whole_caret : (include : Bool) (z : ℕ) (text : List ℕ) (v : VersionValue) (n : Numbers) (r : Option Bounds) → n ≡ next_changed z (whole v)
     → AreZeros (whole v) z text → AreRead include (caret_from include z v ∷ (under n ∷ [])) r → AreRead include (table include caret (whole v) text) r
 whole_caret include z text v n r f k h = rw (f, k refl) at h
-
--- ---- the upper end of a hyphen range of a whole version
-
-pub printed_read : (include : Bool) (v : VersionValue) (s : Span VersionValue) → within (first (whole v)) ≡ true
-    → are_normal (whole v) ≡ true → nat_le (length (version_text (no_build v))) MAX_LENGTH ≡ true → s ≡ Spans.<= v
-    → (list_all (is_valid MAX_SAFE_INTEGER) (unbuilt at_most v ∷ []) ≡ true)
-    × IsCommon include (unbuilt at_most v ∷ []) s
-printed_read include v s w n l e = (rw (w, l) refl, rw e (one_common include at_most v _ (whole_readable v w n) (either_true include)))

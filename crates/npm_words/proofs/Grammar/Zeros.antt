@@ -2,13 +2,12 @@
 use Rattle.npm_words.proofs.Common.{Bool, Comparison, Id, IsNumber, IsPlace, IsPlaces, IsStrictBuild, List, None, Numbers, Option, Some, VersionValue}
 use Rattle.npm_words.proofs.Common.{[], and_parts, ap, append-nil, arith, at_least, begins, bytes_eq, bytes_eq-Decides, cases_Bool, codes}
 use Rattle.npm_words.proofs.Common.{common_steps, compared, digits_grow, drop, false, first, from, has_leading_zero, if◌then◌else◌, inl, inr}
-use Rattle.npm_words.proofs.Common.{is_ascii_digit, is_release, length, list_all, made, major, nat_tests, not, partial_of, prefix_len, refl, subst}
-use Rattle.npm_words.proofs.Common.{suc, sym, take, take_at, take_rest, take_while, true, under, whole, wildcard, ℕ, ◌&&◌, ◌++◌, ◌+◌, ◌-◌, ◌==◌, ◌∙◌}
-use Rattle.npm_words.{proofs.Common.{◌∷◌, ◌≡◌}, specs.{Grammar.IsPreRelease, Internal.Parts.{AreZeros, is_padded, no_build}, Table.{Partial, Sign}}}
-use Rattle.{npm_words.specs.Table.{caret, next, table, tilde, written_zeros, zeros}, semver_core.proofs.Reading.Numbers.digits-taken}
+use Rattle.npm_words.proofs.Common.{is_ascii_digit, is_release, length, list_all, major, nat_tests, not, partial_of, prefix_len, refl, subst, suc}
+use Rattle.npm_words.proofs.Common.{sym, take, take_at, take_rest, take_while, true, under, whole, wildcard, ℕ, ◌&&◌, ◌++◌, ◌+◌, ◌-◌, ◌==◌, ◌∙◌, ◌∷◌}
+use Rattle.npm_words.{proofs.Common.◌≡◌, specs.{Grammar.IsPreRelease, Internal.Parts.{AreZeros, is_padded}, Table.{Partial, Sign, caret, next}}}
+use Rattle.{npm_words.specs.Table.{table, tilde, unbuilt, written_zeros, zeros}, semver_core.proofs.Reading.Numbers.digits-taken}
 use Rattle.{semver_core.specs.Text.Comparators.equal, std.proofs.lemmas.{Bool.le-ltb, List.drop-drop}}
 use Rattle.npm_words.specs.Partials as Text
-use Rattle.npm_words.specs.Table.{unbuilt}
 
 -- ---- the text
 

@@ -208,11 +208,6 @@ marked-read included strict mark p more l (marked t rest inc all stop) =
       written-spelled t (map identifier_of (pieces t)) (record { runs = plain-ids strict (pieces t) all; spelled = refl }),
     )
 
-pub marked_on : (included strict : Bool) (mark : ℕ) (text : List ℕ) (at end : ℕ) → included ≡ true
-    → (begins (λ c. c == mark) (drop at text) && begins_identifier_in strict (drop 1 (drop at text))) ≡ true
-    → end ≡ at + 1 + list_len_in strict (drop (at + 1) text) → end ≡ at + marked_len included strict mark (drop at text)
-marked_on included strict mark text at end inc h e = rw (inc, h, drop-drop 1 at text) (omega (arith, e))
-
 pub marked_listed : (included strict : Bool) (mark : ℕ) (text : List ℕ) (len : ℕ) → len ≡ marked_len included strict mark text
     → is_listed (drop 1 (take len text)) ≡ true
 marked_listed included strict mark text len e = rw e (marked-found included strict mark text).1

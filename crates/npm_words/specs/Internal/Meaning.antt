@@ -9,11 +9,11 @@ use Rattle.semver_core.specs.Values.Versions.{VersionValue, is_release}
 use Rattle.semver_core.specs.declared.TheConstants.{MAX_SAFE_INTEGER}
 use Rattle.semver_core.specs.declared.cuts.bound.Bound.{Bound}
 use Rattle.semver_core.specs.declared.cuts.bound.Bound.TheVariants.{Unbounded}
-use Rattle.semver_core.specs.Internal.Views.{bounds_view}
+use Rattle.semver_pieces.specs.Internal.Views.{bounds_view}
 use Rattle.npm_words.specs.Alternatives.{common, is_valid, satisfying}
 use Rattle.npm_words.specs.Table.{Comparison, Partial, counts, major, minor}
 use Rattle.semver_core.specs.Values.Gate.{is_range_bound}
-use Rattle.semver_core.specs.declared.scan.pieces.bounds.Bounds.{Bounds}
+use Rattle.semver_pieces.specs.declared.bounds.Bounds.{Bounds}
 
 -- the comparators that count
 abbrev pub counted : Bool → List Comparison → List Comparison

@@ -2,13 +2,12 @@
 -- texts, seen without places in memory.
 use Rattle.npm_words.specs.Table as Spec
 use Rattle.std.specs.Prelude.{◌≡◌, ◌&&◌, [], codes, if◌then◌else◌, nat_le, nat_lt, ℕ, Bool, List, true, false}
-use Rattle.std.specs.Prelude.{Option, None, Some}
 use Rattle.std.specs.List.{list_all}
 use Rattle.std.specs.Str.{bytes_eq}
 use Rattle.semver_core.specs.Printing.RoundTrip.{is_normal}
 use Rattle.semver_core.specs.Values.Versions.{VersionValue, release_value}
 use Rattle.semver_core.specs.declared.TheConstants.{MAX_SAFE_INTEGER}
-use Rattle.semver_core.specs.Internal.Views.{comparator_view}
+use Rattle.semver_pieces.specs.Internal.Views.{comparator_view}
 use Rattle.npm_words.specs.Table.{Comparison, caret, compared, major, minor, tilde, whole, wildcard}
 use Rattle.npm_words.specs.Table.{written_zeros, zeros}
 use Rattle.semver_core.specs.Text.Comparators.{above, below}

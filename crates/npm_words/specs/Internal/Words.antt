@@ -1,6 +1,6 @@
 -- For proofs and private contracts. What node-semver's readings, strict or loose, find in a range
 -- text, as functions. Numbers have any value; the code has them `capped`.
-use Rattle.std.specs.Prelude.{◌≡◌, ◌==◌, ◌&&◌, ◌||◌, ◌+◌, not, codes, nat_le, nat_lt, ℕ, zero, suc, Bool}
+use Rattle.std.specs.Prelude.{◌==◌, ◌&&◌, ◌||◌, ◌+◌, not, codes, nat_le, nat_lt, ℕ, zero, suc, Bool}
 use Rattle.std.specs.Prelude.{true, false, List, [], ◌∷◌, ◌++◌, ◌-◌, is_none, length, take, drop, Option}
 use Rattle.std.specs.Prelude.{Some, None, if◌then◌else◌, take_while}
 use Rattle.std.specs.Char.{is_ascii_digit}
@@ -9,7 +9,7 @@ use Rattle.std.specs.Str.Parse.{digits_value}
 use Rattle.semver_core.specs.Internal.Reading.{◌>>?◌}
 use Rattle.semver_core.specs.Internal.Spaces.{drop_spaces, space_len}
 use Rattle.semver_core.specs.Lists.{is_empty}
-use Rattle.semver_core.specs.Text.Identifiers.{Id, listed, pieces}
+use Rattle.semver_core.specs.Text.Identifiers.{listed, pieces}
 use Rattle.semver_core.specs.Values.Versions.{VersionValue, is_release, release_value}
 use Rattle.semver_core.specs.declared.TheConstants.{MAX_SAFE_INTEGER}
 use Rattle.semver_core.specs.Internal.Fronts.{Front, after_byte, begins_byte}

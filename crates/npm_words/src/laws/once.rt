@@ -1,10 +1,10 @@
 // A text has one reading.
 
-ghost use Rattle.std.specs.Prelude.{◌==◌, ◌||◌, ◌≡◌, Bool, IsUtf8};
-ghost use Rattle.npm_words.specs.Words.{Comparison, HasAlternativesIn, is_identifier_char};
-ghost use Rattle.npm_words.specs.Words.{IsVersionText, List, MAX_SAFE_INTEGER, list_all};
 ghost use Rattle.npm_words.specs.Coerced.{IsCoerced, IsLeftmost, IsNumberIn, IsRightmost};
-ghost use Rattle.npm_words.specs.Words.{VersionValue, [], true, version_text, ℕ};
+ghost use Rattle.npm_words.specs.Words.{Comparison, HasAlternativesIn, IsVersionText, List};
+ghost use Rattle.npm_words.specs.Words.{MAX_SAFE_INTEGER, VersionValue, [], is_identifier_char};
+ghost use Rattle.{npm_words.specs.Words.{list_all, true, version_text, ℕ}, std.specs.Prelude.Bool};
+ghost use Rattle.std.specs.Prelude.{IsUtf8, ◌==◌, ◌||◌, ◌≡◌};
 
 /// In node-semver's strict reading a text is one version at most, and what this version prints
 /// without its build is a text that is the same version without its build, of letters, digits,

@@ -1,7 +1,7 @@
 -- The last number of a list.
 use Rattle.semver_core.proofs.Common.{not-true, Fault, advance, has_numeric, one_more, raise_last, is_empty, AlphaNumeric}
 use Rattle.semver_core.proofs.Common.{Id, Numeric, id_cmp, id_view, ids_view, Identifier, IdentifierBase, List, None, Option}
-use Rattle.semver_core.proofs.Common.{Some, [], ap, append_assoc, arith, drop, false, get_or, inl, inr, length, refl, sym}
+use Rattle.semver_core.proofs.Common.{Some, [], ap, append_assoc, arith, false, get_or, inl, inr, length, refl, sym}
 use Rattle.semver_core.proofs.Common.{take, true, ℕ, ◌++◌, ◌+◌, ◌-◌, ◌<◌, ◌∙◌, ◌∷◌, ◌≡◌, ◌≤◌, nat_tests, cases_lt}
 use Rattle.semver_core.proofs.Common.{is_ascii_digit, tied_itself, list_all, ◌==◌, Err, Ok, Result, digits_value, bytes_eq}
 use Rattle.semver_core.proofs.Common.{Overflow, is_kept, ◌>>=◌, Tracks, id_total, set, ◌^◌, length-map}

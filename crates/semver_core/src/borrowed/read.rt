@@ -6,7 +6,7 @@ ghost use Rattle.semver_core.specs.Words.{IsCommonFront, length, list_from, list
 ghost use Rattle.semver_core.specs.Words.{lists_at, NoValue, Parses, take, true, VersionValue};
 
 use crate::readers::{begins_lists, build_start, leading_numbers, numbers, pre_release_start};
-use crate::scan::pieces::list_len;
+use crate::scan::list_len;
 use crate::{MAX_LENGTH, MAX_SAFE_INTEGER, SemverError, VersionRef};
 
 // The text of the identifiers that begin at a place, and the place after them. Where there is none,

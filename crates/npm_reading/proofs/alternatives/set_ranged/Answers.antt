@@ -1,5 +1,4 @@
-use Rattle.nodejs_semver.proofs.Common.{arith, common_steps, length, rules, ◌≡◌}
-use Rattle.npm_reading.proofs.Grammar.RangeReads.{ranged_one}
+use Rattle.{nodejs_semver.proofs.Common.{arith, common_steps, length, rules, ◌≡◌}, npm_reading.proofs.Grammar.RangeReads.ranged_one}
 use Rattle.npm_reading.proofs.alternatives.set_ranged.Goals as goal
 
 pub returns-then-len-eq1 : goal.returns-then-len-eq1

@@ -1,5 +1,5 @@
 use Rattle.{npm_reading.proofs.Grammar.CommonReads.{word-found, word-unpadded}, npm_words.proofs.Common.{compared, npm_partial_view}}
-use Rattle.semver_core.specs.Internal.Views.{bounds_view, comparator_view}
+use Rattle.semver_pieces.specs.Internal.Views.{bounds_view, comparator_view}
 use Rattle.npm_reading.proofs.common.comparison.Goals as goal
 
 pub returns : goal.returns

@@ -1,4 +1,4 @@
-use Rattle.{npm_reading.proofs.Grammar.CommonReads.{joined-read, part-of_one}, semver_core.specs.Internal.Views.bounds_view}
+use Rattle.{npm_reading.proofs.Grammar.CommonReads.{joined-read, part-of_one}, semver_pieces.specs.Internal.Views.bounds_view}
 use Rattle.npm_reading.proofs.common.push_comparisons.Goals as goal
 
 pub returns-in_default-second_word-clause-added : goal.returns-in_default-second_word-clause-added

@@ -1,6 +1,5 @@
-use Rattle.{nodejs_semver.proofs.Common.sym, npm_reading.proofs.Grammar.CommonReads.{word-read, word-unpadded, word-zeros}}
-use Rattle.{npm_reading.proofs.common.push_signed.Goals.{in-Caret, in-Compared, in-Tilde}, npm_words.proofs.Common.{AreRead, npm_partial_view}}
-use Rattle.npm_words.{proofs.Common.npm_sign_view, specs.Table.table}
+use Rattle.npm_reading.proofs.{Grammar.CommonReads.{word-read, word-unpadded, word-zeros}, common.push_signed.Goals.{in-Caret, in-Compared, in-Tilde}}
+use Rattle.npm_words.{proofs.Common.{AreRead, npm_partial_view, npm_sign_view}, specs.Table.table}
 use Rattle.npm_reading.proofs.common.push_signed.Goals as goal
 
 pub returns-clause-added : goal.returns-clause-added

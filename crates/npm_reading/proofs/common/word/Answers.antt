@@ -2,8 +2,8 @@ use Rattle.{npm_reading.proofs.Grammar.CommonReads.{capped-normal, word-capped},
 use Rattle.npm_words.proofs.Grammar.Hyphens.{partial-le}
 use Rattle.npm_reading.proofs.common.word.Goals as goal
 
-pub slice_bounds-row_of_zeros-count : goal.slice_bounds-row_of_zeros-count
-slice_bounds-row_of_zeros-count c = partial-le _ _ _ _ c.in_ok-partial.ensures
+pub slice_bounds-piece-count : goal.slice_bounds-piece-count
+slice_bounds-piece-count c = partial-le _ _ _ _ c.in_ok-partial.ensures
 
 pub row_of_zeros-requires : goal.row_of_zeros-requires
 row_of_zeros-requires c = capped-normal _ _ _ c.in_ok-partial.ensures

@@ -1,6 +1,5 @@
-use Rattle.npm_words.proofs.{Common.{List, MAX_SAFE_INTEGER, [], arith, common_steps, rules, ◌==◌, ◌≡◌}, VersionTexts.Builds.build-written}
-use Rattle.npm_words.specs.VersionText.{IsVersionTextIn}
-use Rattle.std.specs.List.{after_first}
+use Rattle.npm_words.proofs.{Common.{MAX_SAFE_INTEGER, [], arith, common_steps, rules, ◌==◌, ◌≡◌}, VersionTexts.Builds.build-written}
+use Rattle.{npm_words.specs.VersionText.IsVersionTextIn, std.specs.List.after_first}
 use Rattle.npm_words.proofs.builds.build_text.Goals as goal
 
 pub returns-in-Some-clause-some : goal.returns-in-Some-clause-some

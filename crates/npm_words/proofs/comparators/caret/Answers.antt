@@ -1,4 +1,4 @@
-use Rattle.npm_words.proofs.{Common.{ap, arith, caret_from, from, npm_partial_view, sym, true, within, ◌∙◌, ◌≡◌}, Grammar.{Printed.from_valid, Rows.{caret_valid, noted_valid, part_caret, whole_caret}}}
+use Rattle.npm_words.proofs.{Common.{ap, arith, caret_from, from, nat_lt, npm_partial_view, sym, true, within, ℕ, ◌∙◌, ◌≡◌}, Grammar.{Printed.from_valid, Rows.{caret_valid, noted_valid, part_caret, whole_caret}}}
 use Rattle.npm_words.specs.Internal.{Meaning.is_part, Parts.noted}
 use Rattle.npm_words.proofs.comparators.caret.Goals as goal
 
@@ -6,10 +6,10 @@ pub returns-in-Major : goal.returns-in-Major
 returns-in-Major c text e =
     let include = c.args.include in
     let n = c.first.result in
-    let padded = c.is_padded-in-Major.result in
+    let padded = nat_lt c.args.zeros c.zeros-in-Major.result in
     let part : is_part (npm_partial_view c.args.partial.now) ≡ true = grind arith in
     part_caret include padded text (npm_partial_view c.args.partial.now) n c.next_changed-in-Major.result c.until-in-Major.result part
-    c.first.ensures c.args.zeros e c.is_padded-in-Major.ensures c.next_changed-in-Major.ensures
+    c.first.ensures c.args.zeros e (ap (λ (n : ℕ). nat_lt c.args.zeros n) c.zeros-in-Major.ensures) c.next_changed-in-Major.ensures
     (c.until-in-Major.ensures include (noted padded (from include n))
     (noted_valid padded (from include n) ∙ from_valid include n ∙ ap within c.first.ensures ∙ c.requires.within) c.from_numbers-lower.ensures)
 
@@ -21,4 +21,4 @@ returns-then-prints_short c text e =
     rw c.in-Whole.is (whole_caret include zeros text v c.next_changed.result c.until.result (rw c.in-Whole.is at c.next_changed.ensures)
     (rw c.in-Whole.is at e) (c.until.ensures include (caret_from include zeros v)
     (caret_valid include zeros v (rw c.in-Whole.is at c.requires.within) (sym c.prints_short.ensures ∙ c.if-prints_short.true))
-    (c.caret_from-lower.ensures (rw c.in-Whole.is at c.is_padded.ensures))))
+    (c.caret_from-lower.ensures (ap (λ (n : ℕ). nat_lt zeros n) (rw c.in-Whole.is at c.zeros.ensures)))))

@@ -5,7 +5,3 @@ pub returns-then-within : goal.returns-then-within
 returns-then-within c =
     let fits : within c.args.numbers ≡ true = sym c.within.ensures ∙ c.if-within.true in
     (rw (noted_valid c.args.padded (from c.args.include c.args.numbers), from_valid c.args.include c.args.numbers, fits) refl, c.from_numbers.ensures)
-
-pub returns-else-within : goal.returns-else-within
-returns-else-within c =
-    rw (noted_valid c.args.padded (from c.args.include c.args.numbers), from_valid c.args.include c.args.numbers, sym c.within.ensures ∙ c.if-within.false) refl

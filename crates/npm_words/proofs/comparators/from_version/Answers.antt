@@ -1,13 +1,5 @@
-use Rattle.npm_words.proofs.{Common.{inl, inr, sym, ◌∙◌}, Grammar.Rows.{from_none, from_some}}
-use Rattle.npm_words.proofs.comparators.from_version.Goals.{then-include-via-else-include+then-padded, then-include-via-then-include}
+use Rattle.npm_words.proofs.{Common.{inr, sym, ◌∙◌}, Grammar.Rows.{from_none, from_some}}
 use Rattle.npm_words.proofs.comparators.from_version.Goals as goal
-
-pub returns-then-include : goal.returns-then-include
-returns-then-include c =
-    rw c.copy.ensures (from_some c.args.include c.args.padded c.args.version.now c.requires.within c.requires.normal elim c.then-include.branch [
-      | then-include-via-then-include w ↦ inl w.if-include.true
-      | then-include-via-else-include+then-padded w ↦ inr (inl w.if-padded.true)
-    ])
 
 pub returns-then-is_zero : goal.returns-then-is_zero
 returns-then-is_zero c =

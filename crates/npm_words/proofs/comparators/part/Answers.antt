@@ -1,5 +1,5 @@
 use Rattle.npm_words.proofs.{Common.{ap, first, from, npm_partial_view, refl, within, ◌∙◌}, Grammar.{Printed.from_valid, Rows.noted_valid}}
-use Rattle.npm_words.{proofs.Grammar.Rows.{part_at_least, part_at_most, part_below, part_equal}, specs.Internal.Parts.noted}
+use Rattle.npm_words.{proofs.Grammar.Rows.{part_at_most, part_below, part_equal}, specs.Internal.Parts.noted}
 use Rattle.npm_words.proofs.comparators.part.Goals as goal
 
 pub returns-in-Equal : goal.returns-in-Equal
@@ -10,12 +10,6 @@ returns-in-Equal c text k =
     rw c.in-Equal.is (part_equal include padded text (npm_partial_view c.args.partial.now) n c.next.result c.until.result c.requires.part
     c.first.ensures k c.next.ensures (c.until.ensures include (noted padded (from include n))
     (noted_valid padded (from include n) ∙ from_valid include n ∙ ap within c.first.ensures ∙ c.requires.within) c.from_numbers.ensures))
-
-pub returns-in-AtLeast : goal.returns-in-AtLeast
-returns-in-AtLeast c text k =
-    let n = c.first-in-AtLeast.result in
-    rw c.in-AtLeast.is (part_at_least c.args.include c.args.padded text (npm_partial_view c.args.partial.now) n n c.from.result
-    c.requires.part c.first-in-AtLeast.ensures k c.from.ensures)
 
 pub returns-in-Below : goal.returns-in-Below
 returns-in-Below c text k =

@@ -1,5 +1,4 @@
-use Rattle.npm_words.proofs.Common.{MAX_LENGTH, [], length, marked_list, nat_le, version_text, ◌∷◌, ◌≡◌}
-use Rattle.npm_words.specs.Internal.Parts.{no_build}
+use Rattle.npm_words.{proofs.Common.{MAX_LENGTH, [], length, marked_list, nat_le, version_text, ◌∷◌, ◌≡◌}, specs.Internal.Parts.no_build}
 use Rattle.npm_words.proofs.comparators.prints_within.Given as goal
 
 abbrev pub invariant-ids : goal.invariant-ids

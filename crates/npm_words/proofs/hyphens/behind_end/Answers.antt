@@ -1,5 +1,4 @@
-use Rattle.npm_words.proofs.Common.{ap, arith, length}
-use Rattle.semver_core.proofs.Reading.Boundaries.{boundary-le}
+use Rattle.{npm_words.proofs.Common.{ap, arith, length}, semver_core.proofs.Reading.Boundaries.boundary-le}
 use Rattle.npm_words.proofs.hyphens.behind_end.Goals as goal
 
 pub returns-clause-fits : goal.returns-clause-fits

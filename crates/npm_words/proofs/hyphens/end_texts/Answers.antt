@@ -1,5 +1,4 @@
-use Rattle.npm_words.proofs.FlawPlaces.Ends.{texts-more, texts-none, texts-some}
-use Rattle.npm_words.proofs.Common.{sym, ◌∙◌}
+use Rattle.npm_words.proofs.{Common.{sym, ◌∙◌}, FlawPlaces.Ends.{texts-more, texts-none, texts-some}}
 use Rattle.npm_words.proofs.hyphens.end_texts.Goals as goal
 
 pub returns-in_err-second : goal.returns-in_err-second

@@ -1,5 +1,4 @@
-use Rattle.npm_words.proofs.FlawPlaces.Ends.{bounds-valid, last-normal, lower-is}
-use Rattle.npm_words.proofs.Common.{end_view, lower_of, sym, ◌∙◌}
+use Rattle.npm_words.proofs.{Common.{end_view, lower_of, sym, ◌∙◌}, FlawPlaces.Ends.{bounds-valid, last-normal, lower-is}}
 use Rattle.npm_words.proofs.hyphens.is_lower_end.Goals as goal
 
 pub lower_bounds-requires : goal.lower_bounds-requires

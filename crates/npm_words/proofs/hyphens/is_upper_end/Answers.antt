@@ -1,5 +1,4 @@
-use Rattle.npm_words.proofs.FlawPlaces.Ends.{bounds-valid, last-normal, upper-is}
-use Rattle.npm_words.proofs.Common.{end_view, upper_of, sym, ◌∙◌}
+use Rattle.npm_words.proofs.{Common.{end_view, sym, upper_of, ◌∙◌}, FlawPlaces.Ends.{bounds-valid, last-normal, upper-is}}
 use Rattle.npm_words.proofs.hyphens.is_upper_end.Goals as goal
 
 pub upper_bounds-requires : goal.upper_bounds-requires

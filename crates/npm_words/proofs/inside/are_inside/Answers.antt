@@ -1,7 +1,5 @@
-use Rattle.npm_words.proofs.Common.{None, Option, Some, arith, common_steps, nat_tests, rules, sym, tests, ℕ, ◌≡◌, ◌∙◌, ◌∷◌, []}
-use Rattle.npm_words.proofs.Grammar.Inside.{first_place, inside-goes, inside-less, inside-stops, place_byte}
-use Rattle.npm_words.specs.Malformed.{begins_place}
-use Rattle.std.proofs.lemmas.Iterator.{Search.position_from_yields_List, YieldsList-from_slice}
+use Rattle.npm_words.proofs.{Common.{[], rules, sym, tests, ◌∙◌, ◌∷◌}, Grammar.Inside.{inside-goes, inside-less, inside-stops, place_byte}}
+use Rattle.{npm_words.specs.Malformed.begins_place, std.proofs.lemmas.Iterator.{YieldsList-from_slice, Search.position_from_yields_List}}
 use Rattle.npm_words.proofs.inside.are_inside.Goals as goal
 
 pub partials-smaller : goal.partials-smaller

@@ -1,5 +1,4 @@
-use Rattle.npm_words.proofs.{Common.{arith, common_steps, nat_tests, sym, take_rest, true, ◌≡◌, ◌∙◌}, Grammar.InsideIds.{ids-go, ids-less, ids-stop}}
-use Rattle.npm_words.specs.Internal.Inside.{begins_dotted_id}
+use Rattle.npm_words.proofs.{Common.{arith, common_steps, nat_tests, sym, take_rest, ◌∙◌}, Grammar.InsideIds.{ids-go, ids-less, ids-stop}}
 use Rattle.npm_words.proofs.inside.behind_ids.Goals as goal
 
 pub ids-smaller : goal.ids-smaller

@@ -1,5 +1,5 @@
 use Rattle.npm_words.proofs.Common.{List, MAX_SAFE_INTEGER, Signed, ap, capped_in, false, is_valid, list_all, signed_view, signed_word, subst, sym}
-use Rattle.npm_words.proofs.{Common.{true, ℕ, ◌∙◌, ◌≡◌}, FlawPlaces.Ranges.{no-word, right-word, wrong-word}, Grammar.AlternativeLaw.word-normal}
+use Rattle.npm_words.proofs.{Common.{true, ℕ, ◌≡◌}, FlawPlaces.Ranges.{no-word, right-word, wrong-word}, Grammar.AlternativeLaw.word-normal}
 use Rattle.npm_words.{proofs.Grammar.PartialLaw.{front-as, front-none}, specs.{MalformedWords.IsRightWord, Table.table}}
 use Rattle.npm_words.proofs.malformed_words.right_word.Goals as goal
 

@@ -1,5 +1,4 @@
-use Rattle.npm_words.proofs.FlawPlaces.Ends.{both-right, form-fits, lower-wrong, no-form, upper-wrong}
-use Rattle.npm_words.proofs.Common.{arith, sym, ◌∙◌}
+use Rattle.npm_words.proofs.{Common.{arith, sym, ◌∙◌}, FlawPlaces.Ends.{both-right, form-fits, lower-wrong, no-form, upper-wrong}}
 use Rattle.npm_words.proofs.malformed_words.wrong_end.Goals as goal
 
 pub returns-in_err-first-clause-none : goal.returns-in_err-first-clause-none

@@ -1,5 +1,4 @@
-use Rattle.npm_words.proofs.{Common.{None, Some, arith, begins_byte, capped_one, common_steps, dotted_patch, drop, false, first_as, nat_tests, prefix_len, sym, take_rest, ◌&&◌, ◌∙◌, ◌≡◌}, Grammar.PartialLaw.patch_cut}
-use Rattle.npm_words.proofs.Common.{patch_place, ap}
+use Rattle.npm_words.proofs.{Common.{None, arith, common_steps, dotted_patch, nat_tests, patch_place, sym, take_rest}, Grammar.PartialLaw.patch_cut}
 use Rattle.npm_words.proofs.places.dotted_patch.Goals as goal
 
 pub returns-in_err-place-in-46 : goal.returns-in_err-place-in-46

@@ -1,6 +1,5 @@
-use Rattle.npm_words.proofs.{Common.{IsClean, IsVersionText, MAX_SAFE_INTEGER, NoValue, ap, arith, length, ◌∙◌}, VersionTexts.Versions.clean_refused}
-use Rattle.{npm_words.proofs.Grammar.AlternativeLaw.marks-utf8, std.proofs.lemmas.Str.IsCharBoundary-from_drop}
-use Rattle.std.proofs.lemmas.Result.{IfErr-weaker}
+use Rattle.npm_words.proofs.{Common.{IsClean, IsVersionText, MAX_SAFE_INTEGER, NoValue, ap, arith, length}, Grammar.AlternativeLaw.marks-utf8}
+use Rattle.{npm_words.proofs.VersionTexts.Versions.clean_refused, std.proofs.lemmas.{Result.IfErr-weaker, Str.IsCharBoundary-from_drop}}
 use Rattle.npm_words.proofs.versions.clean.Goals as goal
 
 pub range_from-requires : goal.range_from-requires

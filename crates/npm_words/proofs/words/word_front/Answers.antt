@@ -1,4 +1,4 @@
-use Rattle.npm_words.proofs.{Common.{None, Some, arith, common_steps, nat_tests, npm_partial_view, take_rest, ◌∙◌}, Grammar.{AlternativeLaw.{behind-le, marks_all}, Words.word_here}}
+use Rattle.npm_words.proofs.{Common.{None, Some, arith, common_steps, nat_tests, npm_partial_view}, Grammar.{AlternativeLaw.{behind-le, marks_all}, Words.word_here}}
 use Rattle.npm_words.proofs.words.word_front.Goals as goal
 
 pub are_marks-requires : goal.are_marks-requires

@@ -1,4 +1,4 @@
-use Rattle.nodejs_semver.proofs.Common.{IsLeastOf, List, MAX_SAFE_INTEGER, Span, VersionValue, accepts, false, rules, subst}
+use Rattle.nodejs_semver.proofs.Common.{IfSome, IsLeastOf, List, MAX_SAFE_INTEGER, Span, VersionValue, accepts, false, least_build, rules, subst, ◌≡◌}
 use Rattle.nodejs_semver.proofs.Dividing.MeaningLaw.{means_some, same_meaning}
 use Rattle.nodejs_semver.proofs.Sets.{both_written, first_written}
 use Rattle.nodejs_semver.proofs.laws.headline.headline.Goals as goal
@@ -18,4 +18,6 @@ returns c =
       first_alone = λ v. first_written _ _ _ (found.first_alone v) (one.set v) (two.set v);
       least = λ list means. subst (λ (l : List (Span VersionValue)). IsLeastOf (λ v. accepts l v false) c.in_ok-findings_of.field-0.least)
           (same_meaning MAX_SAFE_INTEGER c.args.a.now c.in_ok-first.first list c.utf8.a one.ok means) found.least;
+      build = λ list means. subst (λ (l : List (Span VersionValue)). IfSome c.in_ok-findings_of.field-0.least (λ v. v.build ≡ least_build l v))
+          (same_meaning MAX_SAFE_INTEGER c.args.a.now c.in_ok-first.first list c.utf8.a one.ok means) found.build;
     }

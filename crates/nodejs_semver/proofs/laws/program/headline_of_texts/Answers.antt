@@ -1,5 +1,5 @@
-use Rattle.nodejs_semver.proofs.Common.{IsLeastOf, IsTrue, List, MAX_SAFE_INTEGER, Span, VersionValue, Writes, accepts, false}
-use Rattle.nodejs_semver.proofs.{Common.{subst, ◌↔◌}, Dividing.MeaningLaw.{means_some, same_meaning}}
+use Rattle.nodejs_semver.proofs.Common.{IfSome, IsLeastOf, IsTrue, List, MAX_SAFE_INTEGER, Span, VersionValue, Writes, accepts, false, least_build}
+use Rattle.nodejs_semver.proofs.{Common.{subst, ◌↔◌, ◌≡◌}, Dividing.MeaningLaw.{means_some, same_meaning}}
 use Rattle.nodejs_semver.proofs.Sets.{both_written, first_written}
 use Rattle.nodejs_semver.proofs.Common.{Err, Failure, IfOk, Memory, Ok, OnOk, Refused, Result}
 use Rattle.semver_core.specs.{Failures.{RefusedOnlyIf}, Text.Parsing.{Parses}}
@@ -43,4 +43,6 @@ returns c =
           (same w p) (first_written _ _ _ said (one.set _) (two.set _))) found.first_alone;
       least = if_ok r (λ x said list means. subst (λ (l : List (Span VersionValue)). IsLeastOf (λ w. accepts l w false) x.least)
           (same_meaning MAX_SAFE_INTEGER a c.in_ok-first.first list c.utf8.a one.ok means) said) found.least;
+      build = if_ok r (λ x said list means. subst (λ (l : List (Span VersionValue)). IfSome x.least (λ w. w.build ≡ least_build l w))
+          (same_meaning MAX_SAFE_INTEGER a c.in_ok-first.first list c.utf8.a one.ok means) said) found.build;
     }

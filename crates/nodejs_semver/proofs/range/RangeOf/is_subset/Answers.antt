@@ -1,18 +1,21 @@
-use Rattle.nodejs_semver.proofs.{Common.{None, Some, beyond, false, on_err, refl}, Questions.Unions.by_least}
-use Rattle.nodejs_semver.proofs.range.RangeOf.is_subset.Goals.{in-None, in-Some}
+use Rattle.nodejs_semver.proofs.Common.{All, IsRaisable, arith, false, on_err, subst, sym}
+use Rattle.nodejs_semver.proofs.{Questions.Least.{found_beyond}, Questions.Spans.{raisable, trying_allocates}}
 use Rattle.nodejs_semver.proofs.range.RangeOf.is_subset.Goals as goal
 
-pub returns-in_err-least_beyond-clause-memory : goal.returns-in_err-least_beyond-clause-memory
-returns-in_err-least_beyond-clause-memory g c = on_err _ c.in_err-least_beyond.ensures.memory
+pub consider_all-requires : goal.consider_all-requires
+consider_all-requires g c = (
+  omega arith,
+  (
+    omega arith,
+    subst (All IsRaisable) (sym c.items-removed.ensures.value)
+        (raisable _ c.items-removed.ensures.valid),
+  ),
+)
 
 pub returns-clause-subset : goal.returns-clause-subset
-returns-clause-subset g c =
-    let a = c.args.self.now in
-    let b = c.args.other.now in
-    elim c.match-branch-2.branch [
-      | in-None w ↦ rw w.result-is (by_least a b (beyond a b) false (λ v. refl) None (rw w.in-None.is at c.in_ok-least_beyond.ensures.least))
-      | in-Some w ↦ rw w.result-is (by_least a b (beyond a b) false (λ v. refl) (Some _) (rw w.in-Some.is at c.in_ok-least_beyond.ensures.least))
-    ]
+returns-clause-subset g c = found_beyond false c.args.self.now c.args.other.now _ _ _ c.is_none.result c.from_ref-kept.ensures.value
+    c.items-removed.ensures.value c.is_none.ensures c.in_ok-consider_all.ensures.best
 
-pub returns-clause-memory : goal.returns-clause-memory
-returns-clause-memory g c = elim c.match-branch-2.branch [ in-None w ↦ rw w.result-is tt | in-Some w ↦ rw w.result-is tt ]
+pub returns-in_err-consider_all-clause-memory : goal.returns-in_err-consider_all-clause-memory
+returns-in_err-consider_all-clause-memory g c = on_err _ (trying_allocates c.args.self.now c.args.other.now
+    (rw (c.from_ref-kept.ensures.value, c.items-removed.ensures.value) at c.in_err-consider_all.ensures.memory))

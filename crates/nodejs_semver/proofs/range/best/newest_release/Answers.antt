@@ -1,5 +1,5 @@
-use Rattle.nodejs_semver.proofs.Common.{is_release, map, refl, sym, take, take_all, value_of}
-use Rattle.nodejs_semver.proofs.Questions.Best.{max_more, one_further, replaces_both}
+use Rattle.nodejs_semver.proofs.Common.{is_release, refl, sym, take_all, value_of}
+use Rattle.nodejs_semver.proofs.Questions.Best.{max_further, max_version, replaces_both}
 use Rattle.nodejs_semver.proofs.range.best.newest_release.Goals as goal
 use Rattle.nodejs_semver.proofs.range.best.newest_release.Goals.{else-is_none_above, else-is_none_above-via-else-is_none_above}
 use Rattle.nodejs_semver.proofs.range.best.newest_release.Goals.{else-is_none_above-via-then-is_none_above+else-is_release}
@@ -10,10 +10,7 @@ loop-version-preserved g c =
     let value = g.W.Versioned.value in
     let best = value_of value c.loop-version.best in
     let both = replaces_both _ is_release best (value c.version-item.result) _ c.is_none_above.ensures in
-    let more = max_more is_release (map value (take c.loop-version.version-index c.args.versions.now)) best
-    (value c.version-item.result) _ refl c.loop-version.invariant in
-    one_further _ _ _ value c.args.versions.now c.loop-version.version-index c.version-item.result _ best
-    (value_of value c.if-is_none_above.best) c.loop-version-test.true c.version-item.is more
+    max_further value is_release c.args.versions.now _ c.version-item.result _ _ _ c.loop-version-test.true c.version-item.is
     (elim c.if-is_none_above.branch [
       | then-is_none_above+then-is_release w ↦
           rw (w.best-is, both, w.if-is_none_above.true, sym w.is_release.ensures, w.if-is_release.true) refl
@@ -22,7 +19,9 @@ loop-version-preserved g c =
             rw (w.best-is, both, u.if-is_none_above.true, sym u.is_release.ensures, u.if-is_release.false) refl
         | else-is_none_above-via-else-is_none_above u ↦ rw (w.best-is, both, u.if-is_none_above.false) refl
       ]
-    ])
+    ]) refl c.loop-version.invariant
 
 pub returns : goal.returns
-returns g c = rw (take_all _ c.args.versions.now c.loop-version-test.false) at c.loop-version.invariant
+returns g c =
+    let element = rw (take_all _ c.args.versions.now c.loop-version-test.false) at c.loop-version.invariant in
+    record { best = max_version g.W.Versioned.value is_release c.args.versions.now _ element; element = element }

@@ -3,7 +3,7 @@ use Rattle.nodejs_semver.proofs.Questions.Least.{reached_far}
 use Rattle.nodejs_semver.proofs.range.least.consider_after.Goals as goal
 
 pub returns-then-is_reached-clause-best : goal.returns-then-is_reached-clause-best
-returns-then-is_reached-clause-best g c = sym (reached_far _ _ _ (sym c.is_reached.ensures ∙ c.if-is_reached.true))
+returns-then-is_reached-clause-best g c = sym (reached_far _ _ _ _ (sym c.is_reached.ensures ∙ c.if-is_reached.true))
 
 pub returns-then-is_release-clause-best : goal.returns-then-is_release-clause-best
 returns-then-is_release-clause-best g c = rw (sym c.is_release.ensures ∙ c.if-is_release.true) (rw c.patch_after.ensures at c.consider.ensures.best)

@@ -1,4 +1,4 @@
-use Rattle.nodejs_semver.proofs.Common.{BeginsAfterPre, IsAfterPre, Raisable, arith, bound_of, inl, inr, on_err, spans_of, subst}
+use Rattle.nodejs_semver.proofs.Common.{BeginsAfterPre, IsAfterPre, Raisable, arith, better_kept, bound_of, inl, inr, on_err, spans_of, subst}
 use Rattle.nodejs_semver.proofs.Common.{sym, take_all}
 use Rattle.nodejs_semver.proofs.Questions.Spans.{all_marks, any_at, any_here, raisable_at, range_further, removed_further}
 use Rattle.nodejs_semver.proofs.range.least.consider_all.Goals as goal
@@ -41,14 +41,14 @@ returns-in_err-consider_past-clause-memory g c =
     ])
 
 pub loop-interval-preserved : goal.loop-interval-preserved
-loop-interval-preserved g c = removed_further g.W.Versioned.value (g.S.Search.wanted c.args.search.now)
+loop-interval-preserved g c = removed_further g.W.Versioned.value (better_kept (g.S.Search.copies c.args.search.now) (g.S.Search.wanted c.args.search.now))
     c.args.removed.now c.loop-interval.interval-index c.interval-item.result c.loop-interval-test.true c.interval-item.is
     _ _ _ c.loop-interval.invariant (rw c.upper.ensures at c.in_ok-consider_past.ensures.best)
 
 pub returns-clause-best : goal.returns-clause-best
 returns-clause-best g c =
     let removed = spans_of g.W.Versioned.value c.args.removed.now in
-    all_marks (g.S.Search.wanted c.args.search.now) c.args.kept.now removed c.args.best.now c.consider.new.best
+    all_marks (better_kept (g.S.Search.copies c.args.search.now) (g.S.Search.wanted c.args.search.now)) c.args.kept.now removed c.args.best.now c.consider.new.best
     c.loop-range.best c.loop-interval.best (rw c.release.ensures at c.in_ok-consider.ensures.best)
     (rw (take_all _ c.args.kept.now c.loop-range-test.false) at c.loop-range.invariant)
     (rw (take_all _ c.args.removed.now c.loop-interval-test.false) at c.loop-interval.invariant)

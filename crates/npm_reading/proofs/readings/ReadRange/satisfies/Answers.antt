@@ -1,5 +1,4 @@
-use Rattle.npm_reading.proofs.Grammar.RangeReads.{of_accepted}
-use Rattle.std.proofs.Common.{◌≡◌}
+use Rattle.{npm_reading.proofs.Grammar.RangeReads.of_accepted, std.proofs.Common.◌≡◌}
 use Rattle.npm_reading.proofs.readings.ReadRange.satisfies.Goals as goal
 
 pub returns : goal.returns

@@ -3,4 +3,4 @@ use Rattle.nodejs_semver.proofs.range.best.Range.is_new_max.Goals as goal
 
 pub returns : goal.returns
 returns c =
-    let exact = rw c.items.ensures.value at c.is_new_max.ensures in record { exact = exact; best = λ list. max_more _ list _ _ _ exact }
+    let exact = rw c.items.ensures.value at c.is_new_max.ensures in record { exact = exact; best = λ list. max_more (λ v. v) _ list _ _ _ exact }

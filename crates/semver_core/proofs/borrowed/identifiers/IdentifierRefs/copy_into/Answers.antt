@@ -1,4 +1,4 @@
-use Rattle.semver_core.proofs.Common.{append-nil, arith, ids_view, is_listed, length, listed, nat_tests, true, ◌++◌, ◌<◌, ◌≡◌}
+use Rattle.semver_core.proofs.Common.{append-nil, arith, is_listed, length, listed, nat_tests, true, ◌<◌, ◌≡◌}
 use Rattle.semver_core.proofs.Text.Listed.{listed_all, listed_none, listed_utf8}
 use Rattle.semver_core.proofs.borrowed.identifiers.IdentifierRefs.copy_into.Goals as goal
 

@@ -1,0 +1,161 @@
+// The keys at which the parts of an interval begin and end.
+
+ghost use Rattle.std.specs.Prelude.{◌≡◌, false, IfOk};
+ghost use Rattle.key_spans.specs.Internal.Places.{lowest_key, next_numbers, next_place, one_more};
+ghost use Rattle.key_spans.specs.Internal.Places.{pre_place, release_key, release_place};
+ghost use Rattle.key_spans.specs.Internal.Places.{version_place};
+ghost use Rattle.nodejs_semver.specs.Ranges.View.{bound_of};
+ghost use Rattle.semver_core.specs.Keys.{key};
+ghost use Rattle.semver_core.specs.Values.Versions.{is_release};
+
+use nodejs_semver::{Version, VersionPoint, Versioned};
+use semver_core::cuts::Bound;
+use std::alloc::{AllocError, Global};
+
+// Above all keys.
+pub(crate) const END: [u8; 1] = [255];
+
+// The key of a version.
+fn key_of<V: Versioned>(alloc: Global, version: &V) -> Result<Vec<u8>, AllocError>
+    ensures { IfOk result (λ bytes. bytes.items ≡ key (V.value version.now)) }
+{
+    let mut bytes = Vec::new(alloc);
+    version.write_key(&mut bytes)?;
+    Ok(bytes)
+}
+
+// The key of a pre-release with one more identifier, the number 0.
+fn key_behind<V: Versioned>(alloc: Global, version: &V) -> Result<Vec<u8>, AllocError>
+    ensures { IfOk result (λ bytes. is_release (V.value version.now) ≡ false
+        → bytes.items ≡ key (one_more (V.value version.now))) }
+{
+    let mut bytes = key_of(alloc, version)?;
+    bytes.pop();
+    bytes.extend_from_slice(&[1, 0, 0])?;
+    Ok(bytes)
+}
+
+// The key of the release of the three numbers.
+pub(crate) fn release_key<V: Versioned>(alloc: Global, version: &V) -> Result<Vec<u8>, AllocError>
+    ensures { IfOk result (λ bytes. bytes.items ≡ release_key (V.value version.now).major
+        (V.value version.now).minor (V.value version.now).patch) }
+{
+    Version::from((version.major(), version.minor(), version.patch())).key(alloc)
+}
+
+// The key of the least pre-release of the three numbers.
+pub(crate) fn lowest_key<V: Versioned>(alloc: Global, version: &V) -> Result<Vec<u8>, AllocError>
+    ensures { IfOk result (λ bytes. bytes.items ≡ lowest_key (V.value version.now).major
+        (V.value version.now).minor (V.value version.now).patch) }
+{
+    let (major, minor, patch) = (version.major(), version.minor(), version.patch());
+    let lowest = Version::with_pre(alloc, major, minor, patch, 0)?;
+    lowest.key(alloc)
+}
+
+// The three numbers after those of a version; none after the greatest.
+fn next_numbers<V: Versioned>(version: &V) -> Option<(u64, u64, u64)>
+    ensures { result ≡ next_numbers (V.value version.now) }
+{
+    let (major, minor, patch) = (version.major(), version.minor(), version.patch());
+    if patch < u64::MAX {
+        Some((major, minor, patch + 1))
+    } else if minor < u64::MAX {
+        Some((major, minor + 1, 0))
+    } else if major < u64::MAX {
+        Some((major + 1, 0, 0))
+    } else {
+        None
+    }
+}
+
+// The key of the release after the numbers of a version.
+fn next_release<V: Versioned>(alloc: Global, version: &V) -> Result<Vec<u8>, AllocError>
+    ensures { IfOk result (λ bytes.
+        bytes.items ≡ next_place release_key (V.value version.now)) }
+{
+    match next_numbers(version) {
+        None => END.to_vec(alloc),
+        Some(numbers) => Version::from(numbers).key(alloc),
+    }
+}
+
+// The key of the least pre-release after the numbers of a version.
+fn next_lowest<V: Versioned>(alloc: Global, version: &V) -> Result<Vec<u8>, AllocError>
+    ensures { IfOk result (λ bytes.
+        bytes.items ≡ next_place lowest_key (V.value version.now)) }
+{
+    match next_numbers(version) {
+        None => END.to_vec(alloc),
+        Some((major, minor, patch)) => {
+            let lowest = Version::with_pre(alloc, major, minor, patch, 0)?;
+            lowest.key(alloc)
+        }
+    }
+}
+
+// The key of the first release past a bound.
+pub(crate) fn release_place<V: VersionPoint>(
+    alloc: Global,
+    bound: &Bound<V>,
+    none: &[u8],
+) -> Result<Vec<u8>, AllocError>
+    ensures { IfOk result (λ bytes.
+        bytes.items ≡ release_place (bound_of V.value bound.now) none.now) }
+{
+    match bound {
+        Bound::Unbounded => none.to_vec(alloc),
+        Bound::Before(version) => release_key(alloc, version),
+        Bound::After(version) => {
+            if version.is_release() {
+                next_release(alloc, version)
+            } else {
+                release_key(alloc, version)
+            }
+        }
+    }
+}
+
+// The key of the first pre-release past a bound, or of a release with none between.
+pub(crate) fn pre_place<V: VersionPoint>(
+    alloc: Global,
+    bound: &Bound<V>,
+    none: &[u8],
+) -> Result<Vec<u8>, AllocError>
+    ensures { IfOk result (λ bytes.
+        bytes.items ≡ pre_place (bound_of V.value bound.now) none.now) }
+{
+    match bound {
+        Bound::Unbounded => none.to_vec(alloc),
+        Bound::Before(version) => key_of(alloc, version),
+        Bound::After(version) => {
+            if version.is_release() {
+                key_of(alloc, version)
+            } else {
+                key_behind(alloc, version)
+            }
+        }
+    }
+}
+
+// The key of the first version past a bound.
+pub(crate) fn version_place<V: VersionPoint>(
+    alloc: Global,
+    bound: &Bound<V>,
+    none: &[u8],
+) -> Result<Vec<u8>, AllocError>
+    ensures { IfOk result (λ bytes.
+        bytes.items ≡ version_place (bound_of V.value bound.now) none.now) }
+{
+    match bound {
+        Bound::Unbounded => none.to_vec(alloc),
+        Bound::Before(version) => key_of(alloc, version),
+        Bound::After(version) => {
+            if version.is_release() {
+                next_lowest(alloc, version)
+            } else {
+                key_behind(alloc, version)
+            }
+        }
+    }
+}

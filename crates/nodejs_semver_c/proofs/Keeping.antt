@@ -1,0 +1,96 @@
+-- What is kept of a version that was read: the identifiers of a text are spelled by their own texts.
+use Rattle.std.proofs.Common.{◌≡◌, ◌<◌, ◌≤◌, ◌+◌, ◌-◌, ◌^◌, ◌++◌, ◌∷◌, ◌∙◌, List, [], Bool, Option, Some, None, arith, inl, length}
+use Rattle.std.proofs.Common.{length-append, map, min, refl, sym, true, ℕ}
+use Rattle.std.specs.List.{list_all}
+use Rattle.std.specs.Prelude.{IsSomeAnd, IsUtf8}
+use Rattle.semver_core.proofs.Normal.{identifiers-normal}
+use Rattle.semver_core.proofs.Printing.Returns.{joined_is}
+use Rattle.semver_core.proofs.Text.Ends.{is_spelled, nothing_listed, nothing_spelled}
+use Rattle.semver_core.specs.Printing.RoundTrip.{is_normal}
+use Rattle.semver_core.specs.Printing.Text.{marked_list}
+use Rattle.semver_core.specs.Text.Identifiers.{Id, identifier_of, is_identifier, is_listed, listed, pieces}
+use Rattle.semver_core.specs.Text.VersionText as port
+use Rattle.semver_core.specs.Values.Versions.{VersionValue}
+use Rattle.npm_words.specs.Grammar as npm
+use Rattle.nodejs_semver_c.proofs.Putting.{put_first}
+use Rattle.nodejs_semver_c.specs.Answers.{Puts}
+use Rattle.nodejs_semver_c.specs.Internal.Pieces.{Adds}
+use Rattle.nodejs_semver_c.specs.Kept.{ComesBack, TellsVersion, list_text}
+use Rattle.nodejs_semver_c.specs.Readings.{Spells}
+use Rattle.nodejs_semver_c.specs.declared.kept.Parts.{Parts}
+use Rattle.nodejs_semver_c.specs.declared.read.Grammar.{Grammar}
+use Rattle.nodejs_semver_c.specs.declared.read.Grammar.TheVariants.{Npm, Port}
+
+-- what a text spells
+spelled : (s : List ℕ) → list_all is_identifier (pieces s) ≡ true → listed s ≡ map identifier_of (pieces s)
+unfolding listed
+spelled [] h = cc
+spelled (c ∷ rest) h = refl
+
+pub list_kept : (ids : List Id) → list_all is_normal ids ≡ true
+    → (is_listed (marked_list [] ids) ≡ true) × (listed (marked_list [] ids) ≡ ids)
+list_kept [] h = (nothing_listed, nothing_spelled)
+list_kept (x ∷ xs) h =
+    let joined = joined_is x xs h in
+    (is_spelled (marked_list [] (x ∷ xs)) joined.runs, spelled (marked_list [] (x ∷ xs)) joined.runs ∙ sym joined.spelled)
+
+-- the identifiers of versions that are read
+pre_normal : (text rest : List ℕ) (ids : List Id) → port.IsPreRelease text rest ids → list_all is_normal ids ≡ true
+pre_normal text rest ids (port.dashed x y list is) = identifiers-normal x ids is.identifiers
+pre_normal text rest ids (port.bare x y list is undashed) = identifiers-normal text ids is.identifiers
+pre_normal text rest ids (port.no_pre_release y none) = refl
+
+build_normal : (text rest : List ℕ) (ids : List Id) → port.IsBuild text rest ids → list_all is_normal ids ≡ true
+build_normal text rest ids (port.plus x y list is) = identifiers-normal x ids is.identifiers
+build_normal text rest ids (port.no_build y none) = refl
+
+npm_pre_normal : (loose wild : Bool) (fits : List ℕ → Bool) (text : List ℕ) (ids : List Id)
+    → npm.IsPreRelease loose wild fits text ids → list_all is_normal ids ≡ true
+npm_pre_normal loose wild fits text ids npm.no_pre_release = refl
+npm_pre_normal loose wild fits text ids (npm.dashed x list is fit) = identifiers-normal x ids is
+npm_pre_normal loose wild fits text ids (npm.bare x list is fit undashed) = identifiers-normal text ids is
+
+npm_build_normal : (text : List ℕ) (ids : List Id) → npm.IsStrictBuild text ids → list_all is_normal ids ≡ true
+npm_build_normal text ids npm.no_build = refl
+npm_build_normal text ids (npm.plus x list is) = identifiers-normal x ids is
+
+spelled_normal : (by : Grammar) (text : List ℕ) (v : VersionValue) → Spells by text v
+    → (list_all is_normal v.pre_release ≡ true) × (list_all is_normal v.build ≡ true)
+spelled_normal Port text v parsed =
+    (pre_normal _ _ _ parsed.reads.pre_release_is, build_normal _ _ _ parsed.reads.build_is)
+spelled_normal Npm text v (short, middle, trimmed, npm.written mark x y z pre build w m a b c p q) =
+    (npm_pre_normal _ _ _ pre _ p, npm_build_normal build _ q)
+
+pub read_back : (by : Option Grammar) (bytes : List ℕ) (v : VersionValue) → IsSomeAnd by (λ g. IsUtf8 bytes × Spells g bytes v)
+    → ComesBack v
+read_back None bytes v h = absurd h
+read_back (Some by) bytes v h =
+    let normal = spelled_normal by bytes v h.1 in
+    let pre = list_kept v.pre_release normal.0 in
+    let build = list_kept v.build normal.1 in
+    (pre.0, pre.1, build.0, build.1)
+
+-- what is told where the texts fit into memory: their lengths, and whether the buffer has room
+module _ (v : VersionValue) (was : Parts) (old new : List ℕ) (needed M m p a b : ℕ) (pre build : List Id) where
+  tells : (status : ℕ) → ComesBack v → M ≡ v.major → m ≡ v.minor → p ≡ v.patch → pre ≡ v.pre_release → build ≡ v.build
+      → a ≡ min (length (list_text pre)) (2 ^ 64 - 1) → b ≡ min (length (list_text build)) (2 ^ 64 - 1)
+      → needed ≡ min (length (list_text pre ++ list_text build)) (2 ^ 64 - 1) → needed < 2 ^ 63
+      → Puts (list_text pre ++ list_text build) old new (length (list_text pre ++ list_text build)) status
+      → TellsVersion v was (record { major = M; minor = m; patch = p; pre_release_len = a; build_len = b }) old new status
+  tells status back eM em ep epre ebuild ea eb en small put =
+      let both : length (list_text pre) + length (list_text build) < 2 ^ 63 =
+      grind (arith, en, small, length-append (list_text pre) (list_text build)) in
+      let first : a ≡ length (list_text pre) = grind (arith, ea, both) in
+      let second : b ≡ length (list_text build) = grind (arith, eb, both) in
+      inl (rw (eM, em, ep, first, second, epre, ebuild) refl, back, rw (epre, ebuild) at put)
+
+  pub tells_printed : (end : ℕ) → ComesBack v → M ≡ v.major → m ≡ v.minor → p ≡ v.patch → pre ≡ v.pre_release → build ≡ v.build
+      → a ≡ min (length (list_text pre)) (2 ^ 64 - 1) → b ≡ min (length (list_text build)) (2 ^ 64 - 1)
+      → needed ≡ min (length (list_text pre ++ list_text build)) (2 ^ 64 - 1) → needed < 2 ^ 63 → needed ≤ length old
+      → Adds (list_text pre ++ list_text build) old new 0 end
+      → TellsVersion v was (record { major = M; minor = m; patch = p; pre_release_len = a; build_len = b }) old new 0
+  tells_printed end back eM em ep epre ebuild ea eb en small le adds =
+      let counted : length (list_text pre ++ list_text build) ≡ needed = grind (arith, en, small) in
+      let front = (put_first (list_text pre ++ list_text build) old new end adds).front in
+      tells 0 back eM em ep epre ebuild ea eb en small
+      (refl, inl (refl, front (omega (arith, counted, le)) (omega (arith, counted, small))))

@@ -1,0 +1,80 @@
+-- What the subcommands on spans of keys say, and words that ask them nothing.
+use Rattle.key_spans.specs.Spans.{HasEnds, in_spans, is_sorted}
+use Rattle.key_spans.specs.declared.KeySpan.{KeySpan}
+use Rattle.nodejs_semver.specs.Ranges.Gate.{accepts}
+use Rattle.npm_semver.specs.Responses.{line}
+use Rattle.npm_semver.specs.Spans.{AreSpansOf, HasDialect, condition, dialect_of, is_column, span_text}
+use Rattle.npm_semver.specs.Spans as Spans
+use Rattle.npm_semver.specs.Subcommands.{Answers, IsRange, Range, Said, reply, say}
+use Rattle.npm_semver.specs.Subcommands as Spec
+use Rattle.npm_semver.specs.declared.subcommands.replies.Status.TheVariants.{No, Yes}
+use Rattle.npm_semver.specs.declared.subcommands.spans.Dialect.{Dialect}
+use Rattle.npm_semver.specs.declared.subcommands.spans.Dialect.TheVariants.{Sqlite}
+use Rattle.semver_core.specs.Failures.{NoValue}
+use Rattle.semver_core.specs.Keys.{key}
+use Rattle.semver_core.specs.Lists.{is_empty}
+use Rattle.semver_core.specs.Values.Versions.{IsVersion, VersionValue}
+use Rattle.std.proofs.Common.{◌≡◌, ◌≢◌, ◌∙◌, ◌∷◌, [], ℕ, Bool, true, false, List, None, Option, Some, Result, Ok, Err, ◌<◌, arith, codes, length, map, refl, sym, if◌then◌else◌}
+use Rattle.std.specs.List.{flat_map}
+use Rattle.std.specs.Prelude.{All, IfOk}
+
+pub are_spans : (text : List ℕ) (range : Range) (spans : List KeySpan) → IsRange text range
+    → ((v : VersionValue) → IsVersion v → in_spans spans (key v) ≡ accepts range v false) → is_sorted spans ≡ true
+    → All (HasEnds false) spans → AreSpansOf text spans
+are_spans text range spans is exact sorted ends =
+    record { range = range; is = is; exact = exact; sorted = sorted; ends = ends }
+
+pub spans_said : (a : List ℕ) (spans : List KeySpan) (said : Said) → AreSpansOf a spans
+    → said ≡ say (flat_map (λ s. line (span_text s)) spans) None (if is_empty spans then No else Yes)
+    → Answers (codes "spans" ∷ a ∷ []) said
+spans_said a spans said are says = rw says (Spec.spans a spans are)
+
+pub no_spans : (a : List ℕ) → NoValue (IsRange a) → NoValue (Answers (codes "spans" ∷ a ∷ []))
+no_spans a none said (Spec.spans x spans are) = none are.range are.is
+
+pub ruleset listings = (spans_said, no_spans)
+
+-- ---- conditions
+
+pub sql_said : (a column : List ℕ) (words : List (List ℕ)) (dialect : Dialect) (spans : List KeySpan) (is : Bool) (said : Said)
+    → AreSpansOf a spans → is ≡ is_column column → is ≡ true → HasDialect words dialect
+    → said ≡ reply true (Some (condition dialect column spans)) → Answers (codes "sql" ∷ a ∷ column ∷ words) said
+sql_said a column words dialect spans is said are tells so has says =
+    rw says (Spec.sql a column words dialect spans are (sym tells ∙ so) has)
+
+pub no_sql_range : (a column : List ℕ) (words : List (List ℕ)) → NoValue (IsRange a)
+    → NoValue (Answers (codes "sql" ∷ a ∷ column ∷ words))
+no_sql_range a column words none said (Spec.sql x c ws dialect spans are is has) = none are.range are.is
+
+pub no_sql_column : (a column : List ℕ) (words : List (List ℕ)) (is : Bool) → is ≡ is_column column → is ≡ false
+    → NoValue (Answers (codes "sql" ∷ a ∷ column ∷ words))
+no_sql_column a column words is tells off said (Spec.sql x c ws dialect spans are so has) =
+    let bad : true ≡ false = sym so ∙ sym tells ∙ off in absurd (cc)
+
+pub no_sql_dialect : (a column : List ℕ) (words : List (List ℕ)) → NoValue (HasDialect words)
+    → NoValue (Answers (codes "sql" ∷ a ∷ column ∷ words))
+no_sql_dialect a column words none said (Spec.sql x c ws dialect spans are is has) = none dialect has
+
+pub ruleset no_sql = (sql_said, no_sql_range, no_sql_column, no_sql_dialect)
+
+pub no_option : (option word : List ℕ) → option ≢ codes "--dialect" → NoValue (HasDialect (option ∷ word ∷ []))
+no_option option word other dialect (Spans.behind w d is) = other refl
+
+pub no_dialect_of : (word : List ℕ) → NoValue (λ dialect. dialect_of word ≡ Some dialect)
+    → NoValue (HasDialect (codes "--dialect" ∷ word ∷ []))
+no_dialect_of word none dialect (Spans.behind w d is) = none d is
+
+pub ruleset no_behind = (no_option, no_dialect_of)
+
+pub no_name : (word : List ℕ) (found : Option Dialect) → found ≡ dialect_of word → None ≡ found
+    → NoValue (λ dialect. dialect_of word ≡ Some dialect)
+no_name word found is none dialect names = let e : None ≡ Some dialect = none ∙ is ∙ names in absurd (cc)
+
+pub named_behind : {E : Type 0} (option word : List ℕ) (found : Result Dialect E) → option ≡ codes "--dialect"
+    → IfOk found (λ dialect. dialect_of word ≡ Some dialect) → IfOk found (λ dialect. HasDialect (option ∷ word ∷ []) dialect)
+named_behind option word (Ok dialect) is names = rw is (Spans.behind word dialect names)
+named_behind option word (Err error) is names = tt
+
+pub no_options : {X : Type 0} (xs : List X) (f : X → List ℕ) → length xs < 1 → HasDialect (map f xs) Sqlite
+no_options [] f lt = Spans.none
+no_options (x ∷ xs) f lt = absurd (omega arith)

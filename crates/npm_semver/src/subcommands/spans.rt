@@ -1,0 +1,367 @@
+// The subcommands on spans of keys: lines of them, and a condition of SQL.
+
+ghost use Rattle.std.specs.Prelude.{◌≡◌, ◌++◌, ◌∷◌, [], IfOk, None, OnOk, Some, codes, map};
+ghost use Rattle.std.specs.Prelude.{false, if◌then◌else◌, string_bytes, true};
+ghost use Rattle.std.specs.List.{flat_map};
+ghost use Rattle.hex.specs.Hex.{encode_lower};
+ghost use Rattle.semver_core.specs.Failures.{NoValue, RefusedOnlyIf};
+ghost use Rattle.semver_core.specs.Lists.{is_empty};
+ghost use Rattle.npm_semver.specs.Responses.{line};
+ghost use Rattle.npm_semver.specs.Spans as Spec;
+ghost use Rattle.npm_semver.specs.Spans.{AreSpansOf, HasDialect, condition, dialect_of};
+ghost use Rattle.npm_semver.specs.Spans.{is_released, lies_in, literal, may_follow, span_text};
+ghost use Rattle.npm_semver.specs.Subcommands.{Answers, IsRange, say};
+ghost use Rattle.npm_semver.specs.Subcommands as Says;
+ghost use Rattle.npm_semver.specs.Internal.Said.{said};
+ghost use Rattle.npm_semver.specs.declared.subcommands.replies.Status.TheVariants.{Yes, No};
+
+use crate::subcommands::ranges::read_range;
+use crate::subcommands::replies::{Reply, Trouble, answer};
+use key_spans::{KeySpan, key_spans};
+use nodejs_semver::Failure;
+use std::alloc::{AllocError, Global};
+
+/// Whose SQL a condition is.
+#[derive(Clone, Copy)]
+pub enum Dialect {
+    /// SQLite.
+    Sqlite,
+    /// PostgreSQL.
+    Postgres,
+    /// DuckDB.
+    Duckdb,
+    /// MySQL.
+    Mysql,
+}
+
+/// `spans R` prints the spans of the keys of what a range accepts, each on a line: its start, its
+/// stop, and whether only releases count. If the range accepts no version, nothing is printed, and
+/// the answer is no. Returns `Refused` exactly if there is not one word, or it is no range.
+pub fn spans<'a>(alloc: Global, words: &'a [String]) -> Result<Reply<'a>, Failure<Trouble<'a>>>
+    ensures ok { IfOk result (λ reply.
+        Answers (codes "spans" ∷ map string_bytes words.now) (said reply)) }
+    ensures refused { RefusedOnlyIf result
+        (NoValue (Answers (codes "spans" ∷ map string_bytes words.now))) }
+{
+    match words {
+        [text] => spans_of(alloc, text),
+        _ => Err(Failure::Refused(Trouble::Usage("spans RANGE"))),
+    }
+}
+
+#[tactic(auto, using(crate::proofs::Spans::listings))]
+fn spans_of<'a>(alloc: Global, text: &'a str) -> Result<Reply<'a>, Failure<Trouble<'a>>>
+    ensures ok { IfOk result (λ reply. Answers (codes "spans" ∷ text.now ∷ []) (said reply)) }
+    ensures refused { RefusedOnlyIf result
+        (NoValue (Answers (codes "spans" ∷ text.now ∷ []))) }
+{
+    let spans = read_spans(alloc, text)?;
+    Ok(listed(alloc, &spans)?)
+}
+
+// The spans of the range that a text is.
+#[tactic(auto, using(crate::proofs::Spans::are_spans))]
+fn read_spans<'a>(alloc: Global, text: &'a str) -> Result<Vec<KeySpan>, Failure<Trouble<'a>>>
+    ensures ok { IfOk result (λ spans. AreSpansOf text.now spans.items) }
+    ensures refused { RefusedOnlyIf result (NoValue (IsRange text.now)) }
+{
+    let range = read_range(alloc, text)?;
+    Ok(key_spans(alloc, &range, false)?)
+}
+
+// A line for each span; no if there is none.
+fn listed<'a>(alloc: Global, spans: &[KeySpan]) -> Result<Reply<'a>, AllocError>
+    ensures { IfOk result (λ r. said r ≡ say (flat_map (λ s. line (span_text s)) spans.now) None
+        (if is_empty spans.now then No else Yes)) }
+{
+    let mut output = String::new(alloc);
+    write_spans(alloc, spans, &mut output)?;
+    Ok(answer(!spans.is_empty(), output))
+}
+
+fn write_spans(alloc: Global, spans: &[KeySpan], output: &mut String) -> Result<(), AllocError>
+    ensures { OnOk result (string_bytes output.new ≡ string_bytes output.old
+        ++ flat_map (λ s. line (span_text s)) spans.now) }
+{
+    for span in spans {
+        write_line(alloc, span, output)?;
+    }
+    Ok(())
+}
+
+// The line of a span.
+fn write_line(alloc: Global, span: &KeySpan, output: &mut String) -> Result<(), AllocError>
+    ensures { OnOk result (string_bytes output.new
+        ≡ string_bytes output.old ++ line (span_text span.now)) }
+{
+    write_hex(alloc, &span.start, output)?;
+    output.push('\t')?;
+    write_hex(alloc, &span.stop, output)?;
+    output.push('\t')?;
+    output.push_str(counted(span.releases_only))?;
+    output.push('\n')
+}
+
+// Which versions count.
+fn counted(releases_only: bool) -> &'static str
+    ensures { result.now ≡ (if releases_only then codes "releases" else codes "all") }
+{
+    if releases_only { "releases" } else { "all" }
+}
+
+// Bytes in hexadecimal.
+fn write_hex(alloc: Global, bytes: &[u8], output: &mut String) -> Result<(), AllocError>
+    ensures { OnOk result (string_bytes output.new
+        ≡ string_bytes output.old ++ encode_lower bytes.now) }
+{
+    let digits = hex::encode(alloc, bytes)?;
+    output.push_str(&digits)
+}
+
+const SQL: &str = "sql RANGE COLUMN [--dialect sqlite|postgres|duckdb|mysql]";
+
+/// `sql R COLUMN [--dialect D]` prints a condition for a WHERE: the key in the column is that of a
+/// version that the range accepts. Returns `Refused` exactly if the words are none of these, the
+/// range is malformed, the column is no name, or there is no such dialect.
+pub fn sql<'a>(alloc: Global, words: &'a [String]) -> Result<Reply<'a>, Failure<Trouble<'a>>>
+    ensures ok { IfOk result (λ reply.
+        Answers (codes "sql" ∷ map string_bytes words.now) (said reply)) }
+    ensures refused { RefusedOnlyIf result
+        (NoValue (Answers (codes "sql" ∷ map string_bytes words.now))) }
+{
+    match words {
+        [text, column, options @ ..] => sql_of(alloc, text, column, options),
+        _ => Err(Failure::Refused(Trouble::Usage(SQL))),
+    }
+}
+
+#[tactic(auto, using(crate::proofs::Spans::no_sql))]
+fn sql_of<'a>(
+    alloc: Global,
+    text: &'a str,
+    column: &'a str,
+    options: &'a [String],
+) -> Result<Reply<'a>, Failure<Trouble<'a>>>
+    ensures ok { IfOk result (λ reply. Answers
+        (codes "sql" ∷ text.now ∷ column.now ∷ map string_bytes options.now) (said reply)) }
+    ensures refused { RefusedOnlyIf result (NoValue (Answers
+        (codes "sql" ∷ text.now ∷ column.now ∷ map string_bytes options.now))) }
+{
+    let dialect = dialect_in(options)?;
+    if !is_column(column.as_bytes()) {
+        return Err(Failure::Refused(Trouble::NoColumn(column)));
+    }
+    let spans = read_spans(alloc, text)?;
+    Ok(printed(alloc, dialect, column, &spans)?)
+}
+
+// The dialect that is given.
+#[tactic(auto, using(crate::proofs::Spans::no_behind))]
+fn dialect_in<'a>(options: &'a [String]) -> Result<Dialect, Failure<Trouble<'a>>>
+    ensures ok { IfOk result (λ dialect. HasDialect (map string_bytes options.now) dialect) }
+    ensures refused { RefusedOnlyIf result (NoValue (HasDialect (map string_bytes options.now))) }
+{
+    match options {
+        [] => Ok(Dialect::Sqlite),
+        [option, word] => behind(option, word),
+        _ => Err(Failure::Refused(Trouble::Usage(SQL))),
+    }
+}
+
+// The dialect behind `--dialect`.
+#[tactic(auto, using(crate::proofs::Spans::no_behind))]
+fn behind<'a>(option: &'a str, word: &'a str) -> Result<Dialect, Failure<Trouble<'a>>>
+    ensures ok { IfOk result (λ dialect. HasDialect (option.now ∷ word.now ∷ []) dialect) }
+    ensures refused { RefusedOnlyIf result (NoValue (HasDialect (option.now ∷ word.now ∷ []))) }
+{
+    match option {
+        "--dialect" => named(word),
+        _ => Err(Failure::Refused(Trouble::Usage(SQL))),
+    }
+}
+
+// The dialect of a name.
+#[tactic(auto, using(crate::proofs::Spans::no_name))]
+fn named<'a>(word: &'a str) -> Result<Dialect, Failure<Trouble<'a>>>
+    ensures ok { IfOk result (λ dialect. dialect_of word.now ≡ Some dialect) }
+    ensures refused { RefusedOnlyIf result
+        (NoValue (λ dialect. dialect_of word.now ≡ Some dialect)) }
+{
+    match Dialect::of(word) {
+        Some(dialect) => Ok(dialect),
+        None => Err(Failure::Refused(Trouble::NoDialect(word))),
+    }
+}
+
+// Whether a text is names with dots between.
+fn is_column(text: &[u8]) -> bool
+    ensures { result ≡ Spec.is_column text.now }
+{
+    let mut before = b'.';
+    for &byte in text {
+        if !may_follow(before, byte) {
+            return false;
+        }
+        before = byte;
+    }
+    before != b'.'
+}
+
+// Whether a byte may follow another one in a column; the first byte follows a dot.
+fn may_follow(before: u8, byte: u8) -> bool
+    ensures { result ≡ may_follow before byte }
+{
+    match byte {
+        b'_' => true,
+        b'.' => before != b'.',
+        _ => byte.is_ascii_alphabetic() || before != b'.' && byte.is_ascii_digit(),
+    }
+}
+
+// A condition on a line.
+fn printed<'a>(
+    alloc: Global,
+    dialect: Dialect,
+    column: &str,
+    spans: &[KeySpan],
+) -> Result<Reply<'a>, AllocError>
+    ensures { IfOk result (λ r.
+        said r ≡ Says.reply true (Some (condition dialect column.now spans.now))) }
+{
+    let mut output = String::new(alloc);
+    dialect.write_condition(alloc, column, spans, &mut output)?;
+    output.push('\n')?;
+    Ok(answer(true, output))
+}
+
+impl Dialect {
+    // The dialect that a word names.
+    fn of(word: &str) -> Option<Dialect>
+        ensures { result ≡ dialect_of word.now }
+    {
+        match word {
+            "sqlite" => Some(Dialect::Sqlite),
+            "postgres" => Some(Dialect::Postgres),
+            "duckdb" => Some(Dialect::Duckdb),
+            "mysql" => Some(Dialect::Mysql),
+            _ => None,
+        }
+    }
+
+    // That a column lies in one of the spans.
+    fn write_condition(
+        self,
+        alloc: Global,
+        column: &str,
+        spans: &[KeySpan],
+        output: &mut String,
+    ) -> Result<(), AllocError>
+        ensures { OnOk result (string_bytes output.new
+            ≡ string_bytes output.old ++ condition self column.now spans.now) }
+    {
+        let Some((first, others)) = spans.split_first() else {
+            return output.push_str("1 = 0");
+        };
+        output.push('(')?;
+        self.write_span(alloc, column, first, output)?;
+        self.write_others(alloc, column, others, output)?;
+        output.push(')')
+    }
+
+    // The same of further spans, each behind an OR.
+    fn write_others(
+        self,
+        alloc: Global,
+        column: &str,
+        spans: &[KeySpan],
+        output: &mut String,
+    ) -> Result<(), AllocError>
+        ensures { OnOk result (string_bytes output.new ≡ string_bytes output.old
+            ++ flat_map (λ s. codes " OR " ++ lies_in self column.now s) spans.now) }
+    {
+        for span in spans {
+            output.push_str(" OR ")?;
+            self.write_span(alloc, column, span, output)?;
+        }
+        Ok(())
+    }
+
+    // That a column lies in a span.
+    fn write_span(
+        self,
+        alloc: Global,
+        column: &str,
+        span: &KeySpan,
+        output: &mut String,
+    ) -> Result<(), AllocError>
+        ensures { OnOk result (string_bytes output.new
+            ≡ string_bytes output.old ++ lies_in self column.now span.now) }
+    {
+        write!(output, "{column} >= ")?;
+        self.write_literal(alloc, &span.start, output)?;
+        write!(output, " AND {column} < ")?;
+        self.write_literal(alloc, &span.stop, output)?;
+        self.write_counted(column, span.releases_only, output)
+    }
+
+    // That only releases count.
+    fn write_counted(
+        self,
+        column: &str,
+        releases_only: bool,
+        output: &mut String,
+    ) -> Result<(), AllocError>
+        ensures { OnOk result (string_bytes output.new ≡ string_bytes output.old
+            ++ (if releases_only then codes " AND " ++ is_released self column.now else [])) }
+    {
+        if !releases_only {
+            return Ok(());
+        }
+        output.push_str(" AND ")?;
+        self.write_released(column, output)
+    }
+
+    // Bytes as a literal.
+    fn write_literal(
+        self,
+        alloc: Global,
+        bytes: &[u8],
+        output: &mut String,
+    ) -> Result<(), AllocError>
+        ensures { OnOk result (string_bytes output.new
+            ≡ string_bytes output.old ++ literal self bytes.now) }
+    {
+        match self {
+            Dialect::Duckdb => return write_escaped(alloc, bytes, output),
+            Dialect::Postgres => output.push_str("'\\x")?,
+            Dialect::Sqlite | Dialect::Mysql => output.push_str("x'")?,
+        }
+        write_hex(alloc, bytes, output)?;
+        output.push('\'')
+    }
+
+    // That the last byte of a column is 3, as in the key of a release.
+    fn write_released(self, column: &str, output: &mut String) -> Result<(), AllocError>
+        ensures { OnOk result (string_bytes output.new
+            ≡ string_bytes output.old ++ is_released self column.now) }
+    {
+        match self {
+            Dialect::Postgres => write!(output, "substr({column}, length({column})) = '\\x03'"),
+            Dialect::Duckdb => write!(output, "hex({column}) LIKE '%03'"),
+            Dialect::Sqlite | Dialect::Mysql => write!(output, "substr({column}, -1) = x'03'"),
+        }
+    }
+}
+
+// Bytes as a literal in which each is escaped.
+fn write_escaped(alloc: Global, bytes: &[u8], output: &mut String) -> Result<(), AllocError>
+    ensures { OnOk result (string_bytes output.new ≡ string_bytes output.old ++ codes "'"
+        ++ flat_map (λ b. codes "\\x" ++ encode_lower (b ∷ [])) bytes.now ++ codes "'::BLOB") }
+{
+    output.push('\'')?;
+    for &byte in bytes {
+        output.push_str("\\x")?;
+        write_hex(alloc, &[byte], output)?;
+    }
+    output.push_str("'::BLOB")
+}

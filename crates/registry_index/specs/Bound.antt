@@ -1,0 +1,32 @@
+-- Statement: what is bound to the parameters of a statement.
+use Rattle.std.specs.Prelude.{◌≡◌, ◌∷◌, [], Bool, false, if◌then◌else◌, List, pos, ℕ, ℤ}
+use Rattle.key_spans.specs.Spans.{in_spans}
+use Rattle.key_spans.specs.declared.KeySpan.{KeySpan}
+use Rattle.nodejs_semver.specs.Ranges.Gate.{accepts}
+use Rattle.npm_reading.specs.Ranges.{IsRangeIn}
+use Rattle.semver_core.specs.Cuts.{Span}
+use Rattle.semver_core.specs.Keys.{key}
+use Rattle.semver_core.specs.Values.Versions.{IsVersion, VersionValue}
+use Rattle.semver_core.specs.declared.TheConstants.{MAX_SAFE_INTEGER}
+use Rattle.sqlite_value.specs.Order.{Row}
+use Rattle.sqlite_value.specs.declared.value.Value.TheVariants.{Blob, Int, Text}
+use Rattle.registry_index.specs.Lines.{IsKeyOf}
+use Rattle.registry_index.specs.declared.line.Line.{Line}
+
+-- the spans hold the keys of exactly the versions that the range accepts which npm reads in the text
+abbrev pub AreSpansOf : List ℕ → List KeySpan → Type 0
+AreSpansOf text spans = (range : List (Span VersionValue)) × IsRangeIn false MAX_SAFE_INTEGER false text range
+    × ((v : VersionValue) → IsVersion v → in_spans spans (key v) ≡ accepts range v false)
+
+-- a query binds the package, where the span starts and stops, and whether only releases count
+abbrev pub asked : List ℕ → KeySpan → Row
+asked name s = Text name ∷ Blob s.start.items ∷ Blob s.stop.items
+    ∷ Int (if s.releases_only then pos 1 else pos 0) ∷ []
+
+-- what is stored of a line: its package, the key of its version, its version and the rest
+abbrev pub stored : Line → (key_bytes : List ℕ) → Row
+stored line key_bytes = Text line.package.now ∷ Blob key_bytes ∷ Text line.version.now
+    ∷ Text line.rest.now ∷ []
+
+abbrev pub IsRowOf : Line → Row → Type 0
+IsRowOf line row = (bytes : List ℕ) × IsKeyOf line.version.now bytes × (row ≡ stored line bytes)

@@ -1,0 +1,91 @@
+// What is asked of the index.
+
+ghost use Rattle.std.specs.Prelude.{◌≡◌, ◌∷◌, [], false, IfNone, IfOk, IfSome};
+ghost use Rattle.npm_words.specs.Alternatives.{HasAlternativesIn};
+ghost use Rattle.npm_reading.specs.Ranges.{IsRangeIn};
+ghost use Rattle.registry_index.specs.Bound.{AreSpansOf, asked};
+ghost use Rattle.semver_core.specs.Failures.{NoValue};
+ghost use Rattle.semver_core.specs.declared.TheConstants.{MAX_SAFE_INTEGER};
+ghost use Rattle.sqlite.specs.Held.{state};
+ghost use Rattle.sqlite.specs.State.{HasCleanDisk, Shown};
+ghost use Rattle.sqlite_value.specs.declared.value.Value.TheVariants.{Blob, Text};
+
+use key_spans::{KeySpan, key_spans};
+use nodejs_semver::{Failure, RangeRef};
+use npm_reading::Reading;
+use semver_core::MAX_SAFE_INTEGER;
+use sqlite::{Alter, Connection, Error, Row, params};
+use std::alloc::{AllocError, Global};
+
+/// The greatest version in a span.
+pub const BEST: &str = "SELECT key, version, rest FROM release \
+    WHERE package = ?1 AND key >= ?2 AND key < ?3 AND (?4 = 0 OR substr(key, -1) = x'03') \
+    ORDER BY key DESC, version DESC LIMIT 1";
+
+/// All versions in a span.
+pub const ALL: &str = "SELECT key, version, rest FROM release \
+    WHERE package = ?1 AND key >= ?2 AND key < ?3 AND (?4 = 0 OR substr(key, -1) = x'03')";
+
+/// How many versions are newer.
+pub const NEWER: &str = "SELECT count(*) FROM release WHERE package = ?1 AND key > ?2";
+
+/// The newest version.
+pub const NEWEST: &str = "SELECT key, version, rest FROM release WHERE package = ?1 \
+    ORDER BY key DESC, version DESC LIMIT 1";
+
+/// The spans of the range that npm reads in a text, or `None` if it rejects the text. Fails only if
+/// allocation fails.
+pub fn spans_of(alloc: Global, text: &str) -> Result<Option<Vec<KeySpan>>, AllocError>
+    ensures some { IfOk result (λ r. IfSome r (λ spans. AreSpansOf text.now spans.items)) }
+    ensures none { IfOk result (λ r. IfNone r
+        (NoValue (HasAlternativesIn false MAX_SAFE_INTEGER false text.now))) }
+{
+    match read_range(alloc, text)? {
+        Some(range) => Ok(Some(key_spans(alloc, &range, false)?)),
+        None => Ok(None),
+    }
+}
+
+// The range that npm reads in a text, or `None` if it rejects the text.
+fn read_range(alloc: Global, text: &str) -> Result<Option<RangeRef<'_>>, AllocError>
+    ensures some { IfOk result (λ r. IfSome r
+        (IsRangeIn false MAX_SAFE_INTEGER false text.now)) }
+    ensures none { IfOk result (λ r. IfNone r
+        (NoValue (HasAlternativesIn false MAX_SAFE_INTEGER false text.now))) }
+{
+    let reading = Reading {
+        loose: false,
+        include_prerelease: false,
+    };
+    Failure::refused_as_none(npm_reading::range(alloc, text, reading))
+}
+
+/// The rows of an answer about a package and a span.
+pub fn rows_in<S: Alter>(
+    conn: &mut Connection<S>,
+    query: &str,
+    name: &str,
+    span: &KeySpan,
+) -> Result<Vec<Row>, Error>
+    ensures asked { HasCleanDisk (state S.Store conn.new) → IfOk result (λ rows. Shown query.now
+        (asked name.now span.now) (state S.Store conn.old) (state S.Store conn.new) rows.items) }
+{
+    conn.query_all(
+        query,
+        params![name, &span.start, &span.stop, span.releases_only],
+    )
+}
+
+/// The rows of an answer about a package and a key.
+pub fn rows_above<S: Alter>(
+    conn: &mut Connection<S>,
+    query: &str,
+    name: &str,
+    key: &[u8],
+) -> Result<Vec<Row>, Error>
+    ensures asked { HasCleanDisk (state S.Store conn.new) → IfOk result (λ rows. Shown query.now
+        (Text name.now ∷ Blob key.now ∷ []) (state S.Store conn.old) (state S.Store conn.new)
+        rows.items) }
+{
+    conn.query_all(query, params![name, key])
+}

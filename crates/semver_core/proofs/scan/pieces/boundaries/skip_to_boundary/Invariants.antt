@@ -1,6 +1,0 @@
-use Rattle.semver_core.specs.Internal.Boundaries.{from_boundary}
-use Rattle.std.proofs.Common.{drop, ◌≡◌}
-use Rattle.semver_core.proofs.scan.pieces.boundaries.skip_to_boundary.Given as goal
-
-abbrev pub invariant-bytes : goal.invariant-bytes
-invariant-bytes l = from_boundary l.text ≡ from_boundary (drop l.at l.text)

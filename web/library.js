@@ -1,0 +1,90 @@
+// npm's versions and ranges, by the library as WebAssembly.
+"use strict";
+
+const NPM = 1, LENIENT = 0;
+const STATUS = ["ok", "nothing", "too small", "not UTF-8", "no version", "no range", "no argument", "no identifier", "no pre-release", "a number is too great", "out of memory", "too long"];
+const OK = 0, NOTHING = 1, TOO_SMALL = 2;
+
+class Library {
+  constructor(exports) {
+    this.library = exports;
+    this.answer = exports.malloc(64n);
+    this.room = 4096n;
+    this.written = exports.malloc(this.room);
+  }
+
+  // The memory moves when it grows.
+  bytes() {
+    return new Uint8Array(this.library.memory.buffer);
+  }
+
+  numbers(at, count) {
+    return new BigUint64Array(this.library.memory.buffer, Number(at), count);
+  }
+
+  // Puts texts into the memory for a call, each as its place and its length, and frees them after it.
+  with(texts, call) {
+    const blocks = [];
+    try {
+      for (const it of texts) {
+        const encoded = new TextEncoder().encode(it), at = this.library.malloc(BigInt(encoded.length || 1));
+        if (at === 0n) throw new Error("out of memory");
+        blocks.push([at, BigInt(encoded.length)]);
+        this.bytes().set(encoded, Number(at));
+      }
+      return call(blocks);
+    } finally {
+      blocks.forEach(([at]) => this.library.free(at));
+    }
+  }
+
+  ask(name, reading, texts, ...others) {
+    return this.with(texts, (blocks) => this.library[`nodejs_semver_${name}`](reading, ...blocks.flat(), ...others));
+  }
+
+  // The text that a call writes, or null where there is nothing. What is wrong with the texts is an error.
+  text(name, reading, texts) {
+    const call = () => this.ask(name, reading, texts, this.written, this.room, this.answer);
+    let status = call();
+    if (status === TOO_SMALL) {
+      this.library.free(this.written);
+      this.room = this.numbers(this.answer, 1)[0];
+      this.written = this.library.malloc(this.room);
+      status = call();
+    }
+    if (status === NOTHING) return null;
+    if (status !== OK) throw new Error(STATUS[status]);
+    const from = Number(this.written);
+    return new TextDecoder().decode(this.bytes().slice(from, from + Number(this.numbers(this.answer, 1)[0])));
+  }
+
+  flag(name, reading, texts, ...flags) {
+    const status = this.ask(name, reading, texts, ...flags.map(Number), this.answer);
+    if (status !== OK) throw new Error(STATUS[status]);
+    return this.bytes()[Number(this.answer)] === 1;
+  }
+
+  isVersion(text) {
+    return this.ask("version_check", NPM, [text]) === OK;
+  }
+
+  satisfies(range, version, pre) {
+    return this.flag("range_satisfies", NPM, [range, version], pre);
+  }
+
+  isOutside(range, version, above, pre) {
+    return this.flag("range_outside", NPM, [range, version], above, pre);
+  }
+
+  compare(one, other) {
+    const status = this.ask("version_compare", NPM, [one, other], this.answer);
+    if (status !== OK) throw new Error(STATUS[status]);
+    return new Int32Array(this.library.memory.buffer, Number(this.answer), 1)[0];
+  }
+}
+
+async function openLibrary(base64) {
+  const bytes = Uint8Array.from(atob(base64), (it) => it.charCodeAt(0));
+  const { instance } = await WebAssembly.instantiate(bytes, {});
+  return new Library(instance.exports);
+}
