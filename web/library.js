@@ -1,9 +1,17 @@
-// npm's versions and ranges, by the library as WebAssembly.
+// The library as WebAssembly, called with texts: npm's versions and ranges on the page, and all of them in node.
 "use strict";
 
 const NPM = 1, LENIENT = 0;
 const STATUS = ["ok", "nothing", "too small", "not UTF-8", "no version", "no range", "no argument", "no identifier", "no pre-release", "a number is too great", "out of memory", "too long"];
 const OK = 0, NOTHING = 1, TOO_SMALL = 2;
+
+// Why a call has no answer.
+class Refused extends Error {
+  constructor(status) {
+    super(STATUS[status]);
+    this.status = status;
+  }
+}
 
 class Library {
   constructor(exports) {
@@ -42,9 +50,16 @@ class Library {
     return this.with(texts, (blocks) => this.library[`nodejs_semver_${name}`](reading, ...blocks.flat(), ...others));
   }
 
-  // The text that a call writes, or null where there is nothing. What is wrong with the texts is an error.
-  text(name, reading, texts) {
-    const call = () => this.ask(name, reading, texts, this.written, this.room, this.answer);
+  // Whether a call has an answer. What is wrong with the texts is an error.
+  isAnswered(name, reading, texts, ...others) {
+    const status = this.ask(name, reading, texts, ...others);
+    if (status !== OK && status !== NOTHING) throw new Refused(status);
+    return status === OK;
+  }
+
+  // The text that a call writes, or null where there is nothing.
+  text(name, reading, texts, ...others) {
+    const call = () => this.ask(name, reading, texts, ...others, this.written, this.room, this.answer);
     let status = call();
     if (status === TOO_SMALL) {
       this.library.free(this.written);
@@ -53,15 +68,18 @@ class Library {
       status = call();
     }
     if (status === NOTHING) return null;
-    if (status !== OK) throw new Error(STATUS[status]);
+    if (status !== OK) throw new Refused(status);
     const from = Number(this.written);
     return new TextDecoder().decode(this.bytes().slice(from, from + Number(this.numbers(this.answer, 1)[0])));
   }
 
+  // A number of 32 bits, or null.
+  number(name, reading, texts) {
+    return this.isAnswered(name, reading, texts, this.answer) ? new Int32Array(this.library.memory.buffer, Number(this.answer), 1)[0] : null;
+  }
+
   flag(name, reading, texts, ...flags) {
-    const status = this.ask(name, reading, texts, ...flags.map(Number), this.answer);
-    if (status !== OK) throw new Error(STATUS[status]);
-    return this.bytes()[Number(this.answer)] === 1;
+    return this.isAnswered(name, reading, texts, ...flags.map(Number), this.answer) ? this.bytes()[Number(this.answer)] === 1 : null;
   }
 
   isVersion(text) {
@@ -77,9 +95,7 @@ class Library {
   }
 
   compare(one, other) {
-    const status = this.ask("version_compare", NPM, [one, other], this.answer);
-    if (status !== OK) throw new Error(STATUS[status]);
-    return new Int32Array(this.library.memory.buffer, Number(this.answer), 1)[0];
+    return this.number("version_compare", NPM, [one, other]);
   }
 }
 
@@ -88,3 +104,5 @@ async function openLibrary(base64) {
   const { instance } = await WebAssembly.instantiate(bytes, {});
   return new Library(instance.exports);
 }
+
+if (typeof module !== "undefined") module.exports = { Library, LENIENT, Refused };
