@@ -1,11 +1,12 @@
-/* The functions of index.js: each takes strings, and returns what the C library answers, null where there is nothing, or throws. */
+/* The functions that index.js and semver.js call: each takes strings and flags, and returns what the C library answers. Where a text is
+   rejected, those of `load` throw, and the others, whose names begin with `try`, return undefined. Where there is nothing, it is null. */
 #include <node_api.h>
 #include <stdlib.h>
 #include <string.h>
 #include "nodejs_semver.h"
 
-enum { MOST_TEXTS = 3 };
-typedef struct { nodejs_semver_text texts[MOST_TEXTS]; napi_value others[MOST_TEXTS]; bool failed; } arguments;
+enum { MOST_TEXTS = 3, MOST_ARGUMENTS = 4 };
+typedef struct { nodejs_semver_text texts[MOST_TEXTS]; napi_value others[MOST_ARGUMENTS]; bool failed; } arguments;
 
 static const char *const MESSAGES[] = {
     [NODEJS_SEMVER_NOT_UTF8] = "not UTF-8", [NODEJS_SEMVER_BAD_VERSION] = "bad version", [NODEJS_SEMVER_BAD_RANGE] = "bad range",
@@ -27,11 +28,11 @@ static bool read_text(napi_env env, napi_value value, nodejs_semver_text *text)
     return true;
 }
 
-/* The first arguments as texts, and the last one as it is. */
+/* The first arguments as texts, and all of them as they are. */
 static arguments read_arguments(napi_env env, napi_callback_info info, size_t count)
 {
     arguments found = {.failed = false};
-    size_t given = MOST_TEXTS;
+    size_t given = MOST_ARGUMENTS;
     napi_get_cb_info(env, info, &given, found.others, NULL, NULL);
     for (size_t at = 0; at < count; at++)
         found.failed |= at >= given || !read_text(env, found.others[at], &found.texts[at]);
@@ -56,11 +57,28 @@ static napi_value null_or_thrown(napi_env env, nodejs_semver_status status)
     return none;
 }
 
+/* What is no answer and no wrong text is thrown even so. */
+static napi_value null_or_undefined(napi_env env, nodejs_semver_status status)
+{
+    napi_value none = NULL;
+    if (status == NODEJS_SEMVER_NOTHING || status == NODEJS_SEMVER_NO_MEMORY || status == NODEJS_SEMVER_TOO_LONG)
+        return null_or_thrown(env, status);
+    napi_get_undefined(env, &none);
+    return none;
+}
+
+static bool flag(napi_env env, napi_value value)
+{
+    bool is_true = false;
+    napi_get_value_bool(env, value, &is_true);
+    return is_true;
+}
+
 #define NPM NODEJS_SEMVER_READING_NPM
 #define TEXT(nth) given.texts[nth].at, given.texts[nth].len
 
-/* A function that prints: CALL has OUT, SIZE and LEN in it. */
-#define PRINTS(name, count, CALL)                                                                                      \
+/* A function that prints: CALL has OUT, SIZE and LEN in it. OTHERWISE says what it returns where it has no text. */
+#define PRINTS(name, count, OTHERWISE, CALL)                                                                                     \
     static napi_value name(napi_env env, napi_callback_info info)                                                      \
     {                                                                                                                  \
         arguments given = read_arguments(env, info, count);                                                            \
@@ -77,7 +95,7 @@ static napi_value null_or_thrown(napi_env env, nodejs_semver_status status)
             if (status == NODEJS_SEMVER_OK)                                                                            \
                 napi_create_string_utf8(env, out, len, &answer);                                                       \
             else                                                                                                       \
-                answer = null_or_thrown(env, status);                                                                  \
+                answer = OTHERWISE(env, status);                                                                       \
         }                                                                                                              \
         if (out != first)                                                                                              \
             free(out);                                                                                                 \
@@ -85,10 +103,102 @@ static napi_value null_or_thrown(napi_env env, nodejs_semver_status status)
         return answer;                                                                                                 \
     }
 
-PRINTS(inc, 3, nodejs_semver_version_inc(NPM, TEXT(0), TEXT(1), TEXT(2), NODEJS_SEMVER_BASE_ZERO, out, size, &len))
-PRINTS(intersect, 2, nodejs_semver_range_intersect(NPM, TEXT(0), TEXT(1), out, size, &len))
-PRINTS(subtract, 2, nodejs_semver_range_difference(NPM, TEXT(0), TEXT(1), out, size, &len))
-PRINTS(min_version, 1, nodejs_semver_range_min_version(NPM, TEXT(0), out, size, &len))
+PRINTS(inc, 3, null_or_thrown, nodejs_semver_version_inc(NPM, TEXT(0), TEXT(1), TEXT(2), NODEJS_SEMVER_BASE_ZERO, out, size, &len))
+PRINTS(intersect, 2, null_or_thrown, nodejs_semver_range_intersect(NPM, TEXT(0), TEXT(1), out, size, &len))
+PRINTS(subtract, 2, null_or_thrown, nodejs_semver_range_difference(NPM, TEXT(0), TEXT(1), out, size, &len))
+PRINTS(min_version, 1, null_or_thrown, nodejs_semver_range_min_version(NPM, TEXT(0), out, size, &len))
+PRINTS(try_min_version, 1, null_or_undefined, nodejs_semver_range_min_version(NPM, TEXT(0), out, size, &len))
+PRINTS(try_range, 1, null_or_undefined, nodejs_semver_range_print(NPM, TEXT(0), out, size, &len))
+PRINTS(try_clean, 1, null_or_undefined, nodejs_semver_version_clean(TEXT(0), out, size, &len))
+PRINTS(try_coerce, 1, null_or_undefined, nodejs_semver_version_coerce(TEXT(0), flag(env, given.others[1]), flag(env, given.others[2]),
+    flag(env, given.others[3]), out, size, &len))
+
+/* The base of an increment is the fourth argument: 0, 1, or another number for none. */
+static uint32_t base_of(napi_env env, napi_value value)
+{
+    uint32_t base = NODEJS_SEMVER_BASE_NONE;
+    napi_get_value_uint32(env, value, &base);
+    return base;
+}
+
+PRINTS(try_inc, 3, null_or_undefined,
+    nodejs_semver_version_inc(NPM, TEXT(0), TEXT(1), TEXT(2), base_of(env, given.others[3]), out, size, &len))
+
+/* A function that returns a number. */
+#define COUNTS(name, CALL)                                                                                             \
+    static napi_value name(napi_env env, napi_callback_info info)                                                      \
+    {                                                                                                                  \
+        arguments given = read_arguments(env, info, 2);                                                                \
+        napi_value answer = NULL;                                                                                      \
+        int32_t number = 0;                                                                                            \
+        if (!given.failed) {                                                                                           \
+            nodejs_semver_status status = CALL;                                                                        \
+            if (status == NODEJS_SEMVER_OK)                                                                            \
+                napi_create_int32(env, number, &answer);                                                               \
+            else                                                                                                       \
+                answer = null_or_undefined(env, status);                                                               \
+        }                                                                                                              \
+        release(&given);                                                                                               \
+        return answer;                                                                                                 \
+    }
+
+COUNTS(try_compare, nodejs_semver_version_compare(NPM, TEXT(0), TEXT(1), &number))
+COUNTS(try_compare_build, nodejs_semver_version_compare_build(NPM, TEXT(0), TEXT(1), &number))
+COUNTS(try_diff, nodejs_semver_version_diff(NPM, TEXT(0), TEXT(1), (uint32_t *)&number))
+
+/* A function that returns whether something is so. */
+#define TELLS(name, CALL)                                                                                              \
+    static napi_value name(napi_env env, napi_callback_info info)                                                      \
+    {                                                                                                                  \
+        arguments given = read_arguments(env, info, 2);                                                                \
+        napi_value answer = NULL;                                                                                      \
+        bool is_so = false;                                                                                            \
+        if (!given.failed) {                                                                                           \
+            nodejs_semver_status status = CALL;                                                                        \
+            if (status == NODEJS_SEMVER_OK)                                                                            \
+                napi_get_boolean(env, is_so, &answer);                                                                 \
+            else                                                                                                       \
+                answer = null_or_undefined(env, status);                                                               \
+        }                                                                                                              \
+        release(&given);                                                                                               \
+        return answer;                                                                                                 \
+    }
+
+TELLS(try_satisfies, nodejs_semver_range_satisfies(NPM, TEXT(0), TEXT(1), flag(env, given.others[2]), &is_so))
+TELLS(try_outside, nodejs_semver_range_outside(NPM, TEXT(0), TEXT(1), flag(env, given.others[2]), flag(env, given.others[3]), &is_so))
+TELLS(try_subset, nodejs_semver_range_is_subset(NPM, TEXT(0), TEXT(1), flag(env, given.others[2]), &is_so))
+TELLS(try_meets, nodejs_semver_range_allows_any(NPM, TEXT(0), TEXT(1), &is_so))
+
+/* The parts of a version: its three numbers, and the text of its pre-release. */
+static napi_value try_read(napi_env env, napi_callback_info info)
+{
+    arguments given = read_arguments(env, info, 1);
+    napi_value answer = NULL, part;
+    nodejs_semver_parts parts;
+    char few[256], *out = few;
+    if (given.failed)
+        return NULL;
+    nodejs_semver_status status = nodejs_semver_version_read(NPM, TEXT(0), &parts, out, sizeof few);
+    if (status == NODEJS_SEMVER_TOO_SMALL) {
+        size_t size = parts.pre_release_len + parts.build_len;
+        out = malloc(size);
+        status = out ? nodejs_semver_version_read(NPM, TEXT(0), &parts, out, size) : NODEJS_SEMVER_NO_MEMORY;
+    }
+    if (status == NODEJS_SEMVER_OK && napi_create_array_with_length(env, 4, &answer) == napi_ok) {
+        const uint64_t numbers[] = {parts.major, parts.minor, parts.patch};
+        for (uint32_t at = 0; at < 3; at++) {
+            napi_create_double(env, (double)numbers[at], &part);
+            napi_set_element(env, answer, at, part);
+        }
+        napi_create_string_latin1(env, out, parts.pre_release_len, &part);
+        napi_set_element(env, answer, 3, part);
+    } else if (status != NODEJS_SEMVER_OK)
+        answer = null_or_undefined(env, status);
+    if (out != few)
+        free(out);
+    release(&given);
+    return answer;
+}
 
 static napi_value compare(napi_env env, napi_callback_info info)
 {
@@ -126,7 +236,10 @@ static napi_value satisfies(napi_env env, napi_callback_info info)
 NAPI_MODULE_INIT()
 {
     const struct { const char *name; napi_callback call; } functions[] = {
-        {"compare", compare}, {"satisfies", satisfies}, {"inc", inc}, {"intersect", intersect}, {"subtract", subtract}, {"minVersion", min_version}};
+        {"compare", compare}, {"satisfies", satisfies}, {"inc", inc}, {"intersect", intersect}, {"subtract", subtract}, {"minVersion", min_version},
+        {"tryRead", try_read}, {"tryCompare", try_compare}, {"tryCompareBuild", try_compare_build}, {"tryDiff", try_diff}, {"tryInc", try_inc},
+        {"tryClean", try_clean}, {"tryCoerce", try_coerce}, {"tryRange", try_range}, {"trySatisfies", try_satisfies},
+        {"tryOutside", try_outside}, {"tryMinVersion", try_min_version}, {"trySubset", try_subset}, {"tryMeets", try_meets}};
     for (size_t at = 0; at < sizeof functions / sizeof *functions; at++) {
         napi_value function;
         napi_create_function(env, functions[at].name, NAPI_AUTO_LENGTH, functions[at].call, NULL, &function);

@@ -1,10 +1,16 @@
-// npm's versions and ranges by the C library, as npm reads them: node-semver's names and order of arguments. `load(path)` takes the path
-// of the addon, which is the one beside this file unless it is given.
+// npm's versions and ranges by the C library, as npm reads them. The functions and classes are those of node-semver. `load(path)` returns
+// others, which are strict: each throws where a text is rejected. They take the addon beside this file, unless a path is given, by
+// NODEJS_SEMVER_ADDON to those of node-semver.
 "use strict";
+const path = require("path");
 const { version } = require("./package.json");
+const { make } = require("./semver.js");
 
-function load(path = "./nodejs_semver.node") {
-  const addon = require(path);
+const BESIDE = "./nodejs_semver.node";
+const own = () => require(process.env.NODEJS_SEMVER_ADDON ? path.resolve(process.env.NODEJS_SEMVER_ADDON) : BESIDE);
+
+function load(from = BESIDE) {
+  const addon = require(from);
   return {
     compare: (version, other) => addon.compare(version, other),
     satisfies: (version, range, { includePrerelease } = {}) => addon.satisfies(range, version, Boolean(includePrerelease)),
@@ -17,4 +23,4 @@ function load(path = "./nodejs_semver.node") {
   };
 }
 
-module.exports = { load, version };
+module.exports = { ...make(own), load, version };

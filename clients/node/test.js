@@ -1,7 +1,11 @@
-// The test of the Node client: node test.js ADDON
+// The test of the Node client: node test.js ADDON. `beside.js` compares it with node-semver.
 "use strict";
 const assert = require("assert");
-const semver = require("./index.js").load(require("path").resolve(process.argv[2]));
+const fs = require("fs");
+const path = require("path");
+process.env.NODEJS_SEMVER_ADDON = path.resolve(process.argv[2]);
+const client = require("./index.js");
+const semver = client.load(path.resolve(process.argv[2]));
 
 assert.deepStrictEqual([semver.compare("1.2.3-a", "1.2.3"), semver.compare("1.2.3+x", "v1.2.3"), semver.compare("2.0.0", "1.2.3")], [-1, 0, 1]);
 assert.strictEqual(semver.satisfies("1.9.0", "^1.2.3"), true);
@@ -33,4 +37,29 @@ assert.throws(() => semver.inc("1.2.3", "prerelease", null), TypeError);
 assert.throws(() => semver.satisfies("1.9.0", ">=1.0.0, <2.0.0"), /bad range/);
 assert.strictEqual(semver.satisfies("1.0.0-a", "1.x", { includePrerelease: true }), true);
 assert.strictEqual(semver.satisfies("1.0.0-a", "1.x", { includePrerelease: 1 }), true);
+
+// ---- As node-semver
+
+assert.strictEqual(client.satisfies("1.9.0", "^1.2.3"), true);
+assert.strictEqual(client.satisfies("1.9.0", "latest"), false);
+assert.strictEqual(client.maxSatisfying(["1.2.0", "oops", "1.4.0+a", "1.4.0+b"], "^1"), "1.4.0+a");
+assert.deepStrictEqual(client.sort(["1.0.0+b", "1.0.0-a", "1.0.0+a"]), ["1.0.0-a", "1.0.0+a", "1.0.0+b"]);
+const version = new client.SemVer("v1.2.3-rc.4+001");
+assert.deepStrictEqual([version.major, version.minor, version.patch, version.prerelease, version.build], [1, 2, 3, ["rc", 4], ["001"]]);
+assert.deepStrictEqual([version.version, `${version}`, version.raw], ["1.2.3-rc.4", "1.2.3-rc.4", "v1.2.3-rc.4+001"]);
+assert.strictEqual(version.inc("prerelease", "rc").version, "1.2.3-rc.5");
+assert.strictEqual(new client.SemVer("9007199254740991.0.0").inc("major").version, "9007199254740992.0.0");
+assert.deepStrictEqual([version.compare("1.2.3"), version.compareMain("1.2.3"), version.comparePre("1.2.3-rc.5")], [-1, 0, 0]);
+assert.strictEqual(new client.SemVer("1.0.0+a").compareBuild("2.0.0+b"), -1);
+const range = new client.Range("^1.2 || >=3");
+assert.deepStrictEqual([range.test(version), range.test("3.5.0"), `${range}`], [false, true, ">=1.2.0 <2.0.0-0||>=3.0.0"]);
+assert.strictEqual(range.intersects(new client.Range("<1.3")), true);
+assert.strictEqual(new client.Range("^1", { includePrerelease: true }).test("1.5.0-a"), true);
+assert.throws(() => new client.SemVer("1.2"), /Invalid Version: 1.2/);
+assert.throws(() => new client.Range("latest"), /Invalid SemVer Range: latest/);
+const without = require("./semver.js").make(() => require("./no such addon"));
+for (const call of [() => without.valid("1.2.3"), () => without.satisfies("1.2.3", "^1"), () => without.clean("1.2.3")])
+  assert.throws(call, { code: "MODULE_NOT_FOUND" });
+const declared = fs.readFileSync(path.join(__dirname, "index.d.ts"), "utf8").matchAll(/export (?:function|const|class) (\w+)/g);
+assert.deepStrictEqual([...new Set([...declared].map((it) => it[1]))].sort(), Object.keys(client).sort());
 console.log("passed");
