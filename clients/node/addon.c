@@ -169,30 +169,35 @@ TELLS(try_outside, nodejs_semver_range_outside(NPM, TEXT(0), TEXT(1), flag(env, 
 TELLS(try_subset, nodejs_semver_range_is_subset(NPM, TEXT(0), TEXT(1), flag(env, given.others[2]), &is_so))
 TELLS(try_meets, nodejs_semver_range_allows_any(NPM, TEXT(0), TEXT(1), &is_so))
 
-/* The parts of a version: its three numbers, and the text of its pre-release. */
+/* The text of the pre-release of a version. Its numbers go into the second argument, a Float64Array of three. */
 static napi_value try_read(napi_env env, napi_callback_info info)
 {
     arguments given = read_arguments(env, info, 1);
-    napi_value answer = NULL, part;
+    napi_value answer = NULL;
     nodejs_semver_parts parts;
+    double *numbers;
+    size_t count;
+    napi_typedarray_type type;
     char few[256], *out = few;
     if (given.failed)
         return NULL;
+    if (napi_get_typedarray_info(env, given.others[1], &type, &count, (void **)&numbers, NULL, NULL) != napi_ok || type != napi_float64_array || count < 3) {
+        release(&given);
+        napi_throw_type_error(env, NULL, "an array of three numbers expected");
+        return NULL;
+    }
     nodejs_semver_status status = nodejs_semver_version_read(NPM, TEXT(0), &parts, out, sizeof few);
     if (status == NODEJS_SEMVER_TOO_SMALL) {
         size_t size = parts.pre_release_len + parts.build_len;
         out = malloc(size);
         status = out ? nodejs_semver_version_read(NPM, TEXT(0), &parts, out, size) : NODEJS_SEMVER_NO_MEMORY;
     }
-    if (status == NODEJS_SEMVER_OK && napi_create_array_with_length(env, 4, &answer) == napi_ok) {
-        const uint64_t numbers[] = {parts.major, parts.minor, parts.patch};
-        for (uint32_t at = 0; at < 3; at++) {
-            napi_create_double(env, (double)numbers[at], &part);
-            napi_set_element(env, answer, at, part);
-        }
-        napi_create_string_latin1(env, out, parts.pre_release_len, &part);
-        napi_set_element(env, answer, 3, part);
-    } else if (status != NODEJS_SEMVER_OK)
+    if (status == NODEJS_SEMVER_OK) {
+        numbers[0] = (double)parts.major;
+        numbers[1] = (double)parts.minor;
+        numbers[2] = (double)parts.patch;
+        napi_create_string_latin1(env, out, parts.pre_release_len, &answer);
+    } else
         answer = null_or_undefined(env, status);
     if (out != few)
         free(out);

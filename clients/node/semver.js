@@ -22,18 +22,15 @@ function identifierOf(text) {
 }
 
 const listOf = (text) => (text === "" ? [] : text.split("."));
-
-// The parts of a version that was printed. Its numbers may be one more than what is read.
-function partsOf(printed) {
-  const [, major, minor, patch, pre] = /^(\d+)\.(\d+)\.(\d+)(?:-([^+]*))?/.exec(printed);
-  return [Number(major), Number(minor), Number(patch), pre ?? ""];
-}
+const orderOf = (one, two) => (one < two ? -1 : one > two ? 1 : 0);
 
 // There is no next version.
 class NoNext extends Error {}
 
 function make(open) {
   let opened = null;
+  // Where the addon writes the numbers of a version.
+  const numbers = new Float64Array(3);
   const addon = () => (opened ??= open());
 
   // The answer of a question, or null where a value is rejected. Without the addon, or without memory, it throws.
@@ -60,17 +57,17 @@ function make(open) {
         version = version.version;
       }
       if (typeof version !== "string") throw wrongVersion(version);
-      const parts = addon().tryRead(version);
-      if (parts === undefined) throw wrongVersion(version);
-      Object.assign(this, { options: { loose, includePrerelease }, loose, includePrerelease, raw: version });
-      this.put(parts);
+      const pre = addon().tryRead(version, numbers);
+      if (pre === undefined) throw wrongVersion(version);
+      this.options = { loose, includePrerelease };
+      this.loose = loose;
+      this.includePrerelease = includePrerelease;
+      this.raw = version;
+      [this.major, this.minor, this.patch] = numbers;
+      this.prerelease = listOf(pre).map(identifierOf);
       // As it is written: `+001` keeps its zeros.
       this.build = version.includes("+") ? listOf(version.trim().replace(/.*\+/, "")) : [];
-    }
-
-    put([major, minor, patch, pre]) {
-      Object.assign(this, { major, minor, patch, prerelease: listOf(pre).map(identifierOf), build: [] });
-      this.version = `${major}.${minor}.${patch}${pre === "" ? "" : `-${pre}`}`;
+      this.version = `${this.major}.${this.minor}.${this.patch}${pre === "" ? "" : `-${pre}`}`;
     }
 
     format() {
@@ -82,15 +79,14 @@ function make(open) {
     }
 
     compare(other) {
-      const { version } = other instanceof SemVer ? other : new SemVer(other, this.options);
-      return version === this.version ? 0 : addon().tryCompare(this.version, version);
+      const found = other instanceof SemVer ? other : new SemVer(other, this.options);
+      return this.compareMain(found) || (found.version === this.version ? 0 : addon().tryCompare(this.version, found.version));
     }
 
     // By the three numbers alone.
     compareMain(other) {
       const found = other instanceof SemVer ? other : new SemVer(other, this.options);
-      for (const part of ["major", "minor", "patch"]) if (this[part] !== found[part]) return this[part] < found[part] ? -1 : 1;
-      return 0;
+      return orderOf(this.major, found.major) || orderOf(this.minor, found.minor) || orderOf(this.patch, found.patch);
     }
 
     // By the pre-releases alone.
@@ -112,8 +108,12 @@ function make(open) {
       const number = base === false ? NO_NUMBER : Number(Boolean(Number(base)));
       const next = typeof release === "string" ? addon().tryInc(this.version, release, identifier || "", number) : undefined;
       if (next === undefined) throw new NoNext(`invalid increment argument: ${release}`);
-      this.put(partsOf(next));
-      this.raw = this.version;
+      // Its numbers may be one more than what is read.
+      const [, triple, pre] = /^([\d.]+)-?([^+]*)/.exec(next);
+      [this.major, this.minor, this.patch] = triple.split(".").map(Number);
+      this.prerelease = listOf(pre).map(identifierOf);
+      this.build = [];
+      this.raw = this.version = next;
       return this;
     }
   }
@@ -128,9 +128,13 @@ function make(open) {
       if (typeof range !== "string") throw new TypeError(`Invalid SemVer Range: ${range}`);
       const raw = range.trim().split(/\s+/).join(" ");
       const printed = addon().tryRange(raw);
-      if (printed === undefined || addon().trySatisfies(raw, "0.0.0", includePrerelease) === undefined)
+      if (printed === undefined || (includePrerelease && addon().trySatisfies(raw, "0.0.0", true) === undefined))
         throw new TypeError(`Invalid SemVer Range: ${raw}`);
-      Object.assign(this, { options: { loose, includePrerelease }, loose, includePrerelease, raw, range: printed });
+      this.options = { loose, includePrerelease };
+      this.loose = loose;
+      this.includePrerelease = includePrerelease;
+      this.raw = raw;
+      this.range = printed;
     }
 
     format() {
@@ -171,7 +175,7 @@ function make(open) {
   function asked(question, one, two) {
     const [version, other] = [checked(one), checked(two)];
     const answer = addon()[question](version, other);
-    if (answer === undefined) throw wrongVersion(addon().tryRead(version) === undefined ? version : other);
+    if (answer === undefined) throw wrongVersion(addon().tryRead(version, numbers) === undefined ? version : other);
     return answer;
   }
 
@@ -223,7 +227,13 @@ function make(open) {
 
   // ---- Ranges
 
-  const satisfies = (version, range, options) => orNull(() => rangeOf(range, options).test(version)) ?? false;
+  function satisfies(version, range, options) {
+    const text = textOf(version);
+    if (typeof range === "string" && typeof text === "string")
+      return addon().trySatisfies(range, text, optionsOf(options).includePrerelease) === true;
+    return orNull(() => rangeOf(range, options).test(version)) ?? false;
+  }
+
   const validRange = (range, options) => orNull(() => rangeOf(range, options).range || "*");
 
   // The best of the versions that a range accepts, the first of equal ones, as it was given.

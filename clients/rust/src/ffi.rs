@@ -1,9 +1,11 @@
 //! The functions of the C library, each with a call that is safe for every argument. This is the
 //! one module with unsafe code: it passes slices as a pointer and a length, and keeps no pointer.
 
+use crate::{Range, Version};
 use std::alloc::{handle_alloc_error, Layout};
 use std::cmp::Ordering;
 use std::marker::PhantomData;
+use std::str;
 
 /// A status of the header.
 pub(crate) type Status = u32;
@@ -36,7 +38,7 @@ pub(crate) struct Text<'a> {
 }
 
 impl<'a> Text<'a> {
-    pub(crate) fn of(text: &'a str) -> Text<'a> {
+    pub(crate) fn of(text: &'a [u8]) -> Text<'a> {
         Text {
             at: text.as_ptr(),
             len: text.len(),
@@ -253,57 +255,66 @@ pub(crate) fn read(reading: Reading, version: &str) -> Option<Read> {
     })
 }
 
-/// The text that a call writes, of which most fit into the first buffer, or the status.
-fn written(mut call: impl FnMut(*mut u8, usize, &mut usize) -> Status) -> Result<String, Status> {
-    let (mut few, mut len) = ([0u8; 256], 0);
-    let status = checked(call(few.as_mut_ptr(), few.len(), &mut len));
-    let bytes = match status {
-        OK => few.get(..len).map(<[u8]>::to_vec),
-        TOO_SMALL => {
-            let mut more = vec![0; len];
-            match checked(call(more.as_mut_ptr(), more.len(), &mut len)) {
-                OK => more.get(..len).map(<[u8]>::to_vec),
-                status => return Err(status),
-            }
-        }
-        status => return Err(status),
-    };
+/// What is made of the text that a call writes, or the status. Most fit into the first buffer.
+fn written<T>(
+    mut call: impl FnMut(*mut u8, usize, &mut usize) -> Status,
+    make: impl FnOnce(&str) -> Option<T>,
+) -> Result<T, Status> {
+    let (mut few, mut more, mut len) = ([0u8; 256], Vec::new(), 0);
+    let mut out: &mut [u8] = &mut few;
+    let mut status = checked(call(out.as_mut_ptr(), out.len(), &mut len));
+    if status == TOO_SMALL {
+        more.resize(len, 0);
+        out = &mut more;
+        status = checked(call(out.as_mut_ptr(), out.len(), &mut len));
+    }
+    if status != OK {
+        return Err(status);
+    }
     // The library writes UTF-8 within the buffer, so that this does not fail.
-    bytes
-        .and_then(|it| String::from_utf8(it).ok())
-        .ok_or(BAD_ARGUMENT)
+    let text = out.get(..len).and_then(|it| str::from_utf8(it).ok());
+    text.and_then(make).ok_or(BAD_ARGUMENT)
 }
 
 const PORT: u32 = Reading::Port as u32;
 
-/// The next version, printed.
-pub(crate) fn inc(version: &str, word: &str, id: &str, base: u32) -> Result<String, Status> {
+/// The next version.
+pub(crate) fn inc(version: &[u8], word: &str, id: &str, base: u32) -> Result<Version, Status> {
     let (at, len) = (version.as_ptr(), version.len());
     // SAFETY: each pointer is of a slice with the length after it.
-    written(|out, size, out_len| unsafe {
-        let (word, word_len, id, id_len) = (word.as_ptr(), word.len(), id.as_ptr(), id.len());
-        nodejs_semver_version_inc(
-            PORT, at, len, word, word_len, id, id_len, base, out, size, out_len,
-        )
-    })
+    written(
+        |out, size, out_len| unsafe {
+            let (word, word_len, id, id_len) = (word.as_ptr(), word.len(), id.as_ptr(), id.len());
+            nodejs_semver_version_inc(
+                PORT, at, len, word, word_len, id, id_len, base, out, size, out_len,
+            )
+        },
+        Version::of_printed,
+    )
 }
 
-/// A range in its normal form.
-pub(crate) fn print_range(reading: Reading, range: &str) -> Result<String, Status> {
+/// A range of a text.
+pub(crate) fn read_range(reading: Reading, range: &str) -> Result<Range, Status> {
     let (at, len) = (range.as_ptr(), range.len());
     // SAFETY: each pointer is of a slice with the length after it.
-    written(|out, size, out_len| unsafe {
-        nodejs_semver_range_print(reading as u32, at, len, out, size, out_len)
-    })
+    written(
+        |out, size, out_len| unsafe {
+            nodejs_semver_range_print(reading as u32, at, len, out, size, out_len)
+        },
+        Range::of_printed,
+    )
 }
 
-/// The smallest version of a range, printed.
-pub(crate) fn min_version(range: &str) -> Result<String, Status> {
+/// The smallest version of a range.
+pub(crate) fn min_version(range: &str) -> Result<Version, Status> {
     let (at, len) = (range.as_ptr(), range.len());
     // SAFETY: each pointer is of a slice with the length after it.
-    written(|out, size, out_len| unsafe {
-        nodejs_semver_range_min_version(PORT, at, len, out, size, out_len)
-    })
+    written(
+        |out, size, out_len| unsafe {
+            nodejs_semver_range_min_version(PORT, at, len, out, size, out_len)
+        },
+        Version::of_printed,
+    )
 }
 
 /// A question about two ranges whose answer is a range.
@@ -312,26 +323,29 @@ pub(crate) enum Operation {
     Difference,
 }
 
-/// What two ranges have in common, or the first without the second, printed.
-pub(crate) fn combine(how: Operation, range: &str, other: &str) -> Result<String, Status> {
+/// What two ranges have in common, or the first without the second.
+pub(crate) fn combine(how: Operation, range: &str, other: &str) -> Result<Range, Status> {
     let call = match how {
         Operation::Intersect => nodejs_semver_range_intersect,
         Operation::Difference => nodejs_semver_range_difference,
     };
     let (at, len) = (range.as_ptr(), range.len());
     // SAFETY: each pointer is of a slice with the length after it.
-    written(|out, size, out_len| unsafe {
-        call(
-            PORT,
-            at,
-            len,
-            other.as_ptr(),
-            other.len(),
-            out,
-            size,
-            out_len,
-        )
-    })
+    written(
+        |out, size, out_len| unsafe {
+            call(
+                PORT,
+                at,
+                len,
+                other.as_ptr(),
+                other.len(),
+                out,
+                size,
+                out_len,
+            )
+        },
+        Range::of_printed,
+    )
 }
 
 /// The answer of a call, or the status.
@@ -344,7 +358,7 @@ fn answered<T: Default>(call: impl FnOnce(&mut T) -> Status) -> Result<T, Status
 }
 
 /// Whether a range accepts a version.
-pub(crate) fn satisfies(range: &str, version: &str, include: bool) -> Result<bool, Status> {
+pub(crate) fn satisfies(range: &str, version: &[u8], include: bool) -> Result<bool, Status> {
     let (at, len) = (range.as_ptr(), range.len());
     // SAFETY: each pointer is of a slice with the length after it.
     answered(|answer| unsafe {
@@ -356,7 +370,7 @@ pub(crate) fn satisfies(range: &str, version: &str, include: bool) -> Result<boo
 /// Whether a version lies above a range, or below it.
 pub(crate) fn outside(
     range: &str,
-    version: &str,
+    version: &[u8],
     above: bool,
     include: bool,
 ) -> Result<bool, Status> {
@@ -394,7 +408,7 @@ pub(crate) fn best(range: &str, versions: &[Text], is_greatest: bool) -> Result<
     };
     let (at, len) = (range.as_ptr(), range.len());
     // SAFETY: each pointer is of a slice with the length after it. Those of the texts live as long
-    // as `versions`, and none is NULL, since a `str` has none.
+    // as `versions`, and none is NULL, since a slice has none.
     answered(|index| unsafe { call(PORT, at, len, versions.as_ptr(), versions.len(), index) })
 }
 

@@ -113,9 +113,8 @@ impl Increment<'_> {
             IdentifierBase::Value(value) => u32::from(value != 0),
         };
         let identifier = self.identifier.unwrap_or("");
-        match ffi::inc(&version.asked()?, self.word, identifier, base) {
-            Ok(text) => {
-                let next = Version::of_printed(&text)?;
+        match ffi::inc(version.asked()?.text(), self.word, identifier, base) {
+            Ok(next) => {
                 let pre = self.pre_release_of(version, &next);
                 let [major, minor, patch] = next.numbers();
                 Some(Ok(Version::new(

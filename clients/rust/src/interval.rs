@@ -60,6 +60,11 @@ impl Interval {
         upper: Bound::None,
     };
 
+    /// Whether it has no bound.
+    pub(crate) fn is_any(&self) -> bool {
+        matches!((&self.lower, &self.upper), (Bound::None, Bound::None))
+    }
+
     fn low(&self) -> Cut<'_> {
         match &self.lower {
             Bound::None => Cut::Start,
@@ -94,7 +99,7 @@ impl Interval {
 
     /// Whether it begins above a version, but for what it accepts.
     pub(crate) fn begins_above(&self, version: &Version) -> bool {
-        *self == Interval::ANY || self.lower != Bound::None && self.high() > Cut::At(version, false)
+        self.is_any() || self.lower != Bound::None && self.high() > Cut::At(version, false)
     }
 
     pub(crate) fn covers(&self, other: &Interval) -> bool {

@@ -3,6 +3,7 @@
 use crate::error::{RangeError, SemverError};
 use crate::ffi::{self, Operation, Reading, Status, Text};
 use crate::interval::{of_printed, write_all, Interval};
+use crate::version::Asked;
 use crate::{Version, MAX_SAFE_INTEGER};
 use std::fmt;
 use std::hash::{Hash, Hasher};
@@ -49,36 +50,48 @@ impl TryFrom<char> for OutsideDirection {
     }
 }
 
-/// A text that is read as these intervals, if there is one: no number of theirs is above the
-/// greatest that is read, and of several intervals one has a bound.
-fn text_of(intervals: &[Interval]) -> Option<Box<str>> {
+/// Whether a text is read as these intervals: no number of theirs is above the greatest that is
+/// read, and of several intervals one has a bound.
+fn has_text(intervals: &[Interval]) -> bool {
     let bounds = intervals
         .iter()
         .flat_map(|it| [it.lower.version(), it.upper.version()]);
     let mut numbers = bounds.flatten().flat_map(Version::numbers);
-    let is_any = |it: &Interval| *it == Interval::ANY;
-    if numbers.any(|it| it > MAX_SAFE_INTEGER)
-        || intervals.len() > 1 && intervals.iter().all(is_any)
-    {
-        return None;
-    }
+    let is_one_or_bounded = intervals.len() == 1 || !intervals.iter().all(Interval::is_any);
+    numbers.all(|it| it <= MAX_SAFE_INTEGER) && is_one_or_bounded
+}
+
+/// The text that is read as these intervals.
+fn text_of(intervals: &[Interval]) -> Box<str> {
     let mut text = String::new();
     // Writing into a String does not fail.
     let _ = write_all(intervals, "", &mut text);
-    Some(text.into_boxed_str())
+    text.into_boxed_str()
 }
 
 impl Range {
     pub(crate) fn of(intervals: Vec<Interval>) -> Range {
+        let text = has_text(&intervals).then(|| text_of(&intervals));
         Range {
-            text: text_of(&intervals),
             intervals: intervals.into_boxed_slice(),
+            text,
         }
     }
 
+    /// The range that the library printed. It is read back from that text, if there is no `*`.
+    pub(crate) fn of_printed(text: &str) -> Option<Range> {
+        let intervals = of_printed(text)?;
+        if !has_text(&intervals) || intervals.iter().any(Interval::is_any) {
+            return Some(Range::of(intervals));
+        }
+        Some(Range {
+            intervals: intervals.into_boxed_slice(),
+            text: Some(text.into()),
+        })
+    }
+
     fn read(reading: Reading, text: &str) -> Result<Range, SemverError> {
-        let printed = ffi::print_range(reading, text).map_err(|_| SemverError)?;
-        let mut range = Range::of(of_printed(&printed).ok_or(SemverError)?);
+        let mut range = ffi::read_range(reading, text).map_err(|_| SemverError)?;
         if range.text.is_none() && matches!(reading, Reading::Port) {
             range.text = Some(text.into());
         }
@@ -118,8 +131,8 @@ impl Range {
     /// Whether the range accepts a version, pre-releases included or not.
     pub fn satisfies_with_prerelease(&self, version: &Version, include_prerelease: bool) -> bool {
         let asked = self.text.as_ref().zip(version.asked());
-        let answer = asked
-            .and_then(|(range, version)| ffi::satisfies(range, &version, include_prerelease).ok());
+        let answer =
+            asked.and_then(|(range, it)| ffi::satisfies(range, it.text(), include_prerelease).ok());
         answer.unwrap_or_else(|| self.accepts(version, include_prerelease))
     }
 
@@ -176,7 +189,7 @@ impl Range {
     pub fn min_version(&self) -> Option<Version> {
         let asked = self.text.as_ref().map(|it| ffi::min_version(it));
         match asked {
-            Some(Ok(text)) => Version::of_printed(&text),
+            Some(Ok(version)) => Some(version),
             Some(Err(ffi::NOTHING)) => None,
             _ => rules::min_version(&self.intervals),
         }
@@ -197,8 +210,8 @@ impl Range {
     /// The library's answer, unless a version or the range has no text.
     fn best<'v>(&self, versions: &'v [Version], is_greatest: bool) -> Option<Option<&'v Version>> {
         let range = self.text.as_ref()?;
-        let asked: Vec<String> = versions.iter().map(Version::asked).collect::<Option<_>>()?;
-        let texts: Vec<Text> = asked.iter().map(|it| Text::of(it)).collect();
+        let asked: Vec<Asked> = versions.iter().map(Version::asked).collect::<Option<_>>()?;
+        let texts: Vec<Text> = asked.iter().map(|it| Text::of(it.text())).collect();
         match ffi::best(range, &texts, is_greatest) {
             Ok(at) => Some(versions.get(at)),
             Err(ffi::NOTHING) => Some(None),
@@ -217,7 +230,7 @@ impl Range {
         let is_higher = direction == OutsideDirection::Higher;
         let asked = self.text.as_ref().zip(version.asked());
         let answer = asked.and_then(|(range, version)| {
-            ffi::outside(range, &version, is_higher, include_prerelease).ok()
+            ffi::outside(range, version.text(), is_higher, include_prerelease).ok()
         });
         Ok(answer.unwrap_or_else(|| self.is_outside(version, is_higher, include_prerelease)))
     }
@@ -245,10 +258,7 @@ impl Range {
 /// The range that an operation prints.
 fn combined(how: Operation, one: &str, two: &str) -> Result<Option<Range>, Status> {
     match ffi::combine(how, one, two) {
-        Ok(text) => of_printed(&text)
-            .map(Range::of)
-            .map(Some)
-            .ok_or(ffi::BAD_ARGUMENT),
+        Ok(range) => Ok(Some(range)),
         Err(ffi::NOTHING) => Ok(None),
         Err(status) => Err(status),
     }

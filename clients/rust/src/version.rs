@@ -47,6 +47,45 @@ impl Lists {
     }
 }
 
+/// A version text, as long as one that is read.
+pub(crate) struct Asked {
+    bytes: [u8; MAX_LENGTH],
+    len: usize,
+}
+
+impl Default for Asked {
+    fn default() -> Asked {
+        Asked {
+            bytes: [0; MAX_LENGTH],
+            len: 0,
+        }
+    }
+}
+
+impl Asked {
+    pub(crate) fn text(&self) -> &[u8] {
+        self.bytes.get(..self.len).unwrap_or_default()
+    }
+
+    fn add(&mut self, text: &[u8]) -> Option<()> {
+        let end = self.len.checked_add(text.len())?;
+        self.bytes.get_mut(self.len..end)?.copy_from_slice(text);
+        self.len = end;
+        Some(())
+    }
+
+    fn add_number(&mut self, mut number: u64) -> Option<()> {
+        let (mut digits, mut at) = ([b'0'; 20], 19);
+        while number > 9 {
+            digits[at] = b'0' + (number % 10) as u8;
+            number /= 10;
+            at -= 1;
+        }
+        digits[at] = b'0' + number as u8;
+        self.add(&digits[at..])
+    }
+}
+
 /// The components of a version. Its equality counts all five.
 #[derive(Debug, Clone, PartialEq, Eq)]
 pub struct VersionParts {
@@ -190,7 +229,7 @@ impl Version {
         let mut words = triple.split('.').map(str::parse);
         let mut next = || words.next()?.ok();
         let numbers = [next()?, next()?, next()?];
-        let text = format!("{pre_release}{build}");
+        let text = String::with_capacity(pre_release.len() + build.len()) + pre_release + build;
         Some(Version::of(Read {
             numbers,
             text,
@@ -213,25 +252,28 @@ impl Version {
     }
 
     /// The version without its build, printed, if the library reads this version from that.
-    pub(crate) fn asked(&self) -> Option<String> {
-        let has_text = self.is_spelled() && self.numbers.iter().all(|it| *it <= MAX_SAFE_INTEGER);
-        let text = has_text.then(|| self.without_build())?;
-        (text.len() <= MAX_LENGTH).then_some(text)
-    }
-
-    fn without_build(&self) -> String {
-        let ([major, minor, patch], pre) = (self.numbers, self.pre_text());
-        let hyphen = if self.is_prerelease() { "-" } else { "" };
-        format!("{major}.{minor}.{patch}{hyphen}{pre}")
+    pub(crate) fn asked(&self) -> Option<Asked> {
+        let is_read = self.is_spelled() && self.numbers.iter().all(|it| *it <= MAX_SAFE_INTEGER);
+        let mut text = is_read.then(Asked::default)?;
+        for (at, number) in self.numbers.iter().enumerate() {
+            text.add(if at == 0 { b"" } else { b"." })?;
+            text.add_number(*number)?;
+        }
+        let pre = self.pre_text();
+        if !pre.is_empty() {
+            text.add(b"-")?;
+            text.add(pre.as_bytes())?;
+        }
+        Some(text)
     }
 
     /// The version as the library keeps one, without its build.
     fn kept(&self) -> Kept<'_> {
-        let (numbers, pre_release) = (self.numbers, Text::of(self.pre_text()));
+        let (numbers, pre_release) = (self.numbers, Text::of(self.pre_text().as_bytes()));
         Kept {
             numbers,
             pre_release,
-            build: Text::of(""),
+            build: Text::of(b""),
         }
     }
 
