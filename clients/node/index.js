@@ -1,16 +1,27 @@
 // npm's versions and ranges by the C library, as npm reads them. The functions and classes are those of node-semver. `load(path)` returns
-// others, which are strict: each throws where a text is rejected. They take the addon beside this file, unless a path is given, by
-// NODEJS_SEMVER_ADDON to those of node-semver.
+// others, which are strict: each throws where a text is rejected. They take the addon beside this file, or the module of WebAssembly where
+// the addon is of another system, unless a path of either is given: by NODEJS_SEMVER_ADDON to those of node-semver.
 "use strict";
+const fs = require("fs");
 const path = require("path");
 const { version } = require("./package.json");
 const { make } = require("./semver.js");
 
-const BESIDE = "./nodejs_semver.node";
-const own = () => require(process.env.NODEJS_SEMVER_ADDON ? path.resolve(process.env.NODEJS_SEMVER_ADDON) : BESIDE);
+const BESIDE = path.join(__dirname, "nodejs_semver.node");
+const MODULE = path.join(__dirname, "nodejs_semver.wasm");
+const opened = (from) => (from.endsWith(".wasm") ? require("./module.js").open(path.resolve(__dirname, from)) : require(from));
 
-function load(from = BESIDE) {
-  const addon = require(from);
+function beside() {
+  try {
+    return opened(BESIDE);
+  } catch (error) {
+    if (!fs.existsSync(MODULE)) throw error;
+    return opened(MODULE);
+  }
+}
+
+function load(from) {
+  const addon = from === undefined ? beside() : opened(from);
   return {
     compare: (version, other) => addon.compare(version, other),
     satisfies: (version, range, { includePrerelease } = {}) => addon.satisfies(range, version, Boolean(includePrerelease)),
@@ -23,4 +34,5 @@ function load(from = BESIDE) {
   };
 }
 
-module.exports = { ...make(own), load, version };
+const given = process.env.NODEJS_SEMVER_ADDON;
+module.exports = { ...make(() => (given ? opened(path.resolve(given)) : beside())), load, version };
