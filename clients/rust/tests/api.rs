@@ -466,3 +466,112 @@ fn flaws() {
         "a number is expected at byte 2"
     );
 }
+
+/// No text and no value makes a call panic.
+#[test]
+fn hostile() {
+    let pieces = [
+        "1",
+        "0",
+        "007",
+        "9007199254740991",
+        "9007199254740992",
+        "18446744073709551616",
+        ".",
+        "-",
+        "+",
+        "a",
+        "x",
+        "*",
+        "v",
+        "V",
+        "=",
+        ">",
+        "<",
+        ">=",
+        "<=",
+        "~",
+        "~>",
+        "^",
+        "||",
+        "|",
+        " ",
+        " - ",
+        "\u{feff}",
+        "\u{3000}",
+        "\u{85}",
+        "Ł",
+        "\u{10ffff}",
+        "\0",
+        "\n",
+        "1.2.3",
+        "1.2.3-rc.1+b",
+        "^1.2",
+        ",",
+        "latest",
+    ];
+    let mut seed = 1u64;
+    let mut below = |end: usize| {
+        seed = seed
+            .wrapping_mul(6364136223846793005)
+            .wrapping_add(1442695040888963407);
+        (seed >> 33) as usize % end
+    };
+    let mut texts: Vec<String> = Vec::new();
+    for _ in 0..5_000 {
+        texts.push((0..below(9)).map(|_| pieces[below(pieces.len())]).collect());
+    }
+    texts.push("1.2.3-".to_owned() + &"a.".repeat(100_000));
+    texts.push(">=1.0.0 ".repeat(10_000) + "||".repeat(10_000).as_str());
+    let ids: Vec<_> = texts.iter().take(300).map(|it| named(it)).collect();
+    let odd = Version::new(MOST, 0, MOST, ids.clone(), ids);
+    let (mut versions, mut ranges) = (vec![odd], vec![Range::any()]);
+    for text in &texts {
+        assert!(
+            Version::flaw(text).is_some() || Version::parse(text).is_ok(),
+            "{text}"
+        );
+        let words = Range::ignored_words(text);
+        assert!(
+            words
+                .iter()
+                .all(|it| text.get(it.start()..it.end()).is_some()),
+            "{text}"
+        );
+        versions.extend(Version::parse(text));
+        versions.extend(Version::parse_npm(text));
+        ranges.extend(Range::parse(text));
+        ranges.extend(Range::parse_npm(text));
+    }
+    assert!(versions.len() > 100 && ranges.len() > 100);
+    for at in 0..2_000 {
+        let (one, two) = (&ranges[at % ranges.len()], &ranges[below(ranges.len())]);
+        let version = &versions[below(versions.len())];
+        let text = &texts[below(texts.len())];
+        for made in [one.intersect(two), one.difference(two)]
+            .into_iter()
+            .flatten()
+        {
+            let _ = (
+                made.to_string(),
+                made.min_version(),
+                made.allows_all(one),
+                made.satisfies(version),
+            );
+        }
+        let _ = (
+            one.outside(version, OutsideDirection::Lower, true),
+            one.max_satisfying(&versions[..20]),
+        );
+        let _ = (
+            version.inc("pre", Some(text), None),
+            version.inc(text, None, Some(IdentifierBase::False)),
+        );
+        let _ = (
+            version.diff(&versions[0]),
+            version.cmp(&versions[0]),
+            format!("{version} {version:?}"),
+        );
+        assert_eq!(version.clone().into_parts(), version.clone().into_parts());
+    }
+}
