@@ -5,8 +5,9 @@
 #include <string.h>
 #include "nodejs_semver.h"
 
-enum { MOST_TEXTS = 3, MOST_ARGUMENTS = 4 };
-typedef struct { nodejs_semver_text texts[MOST_TEXTS]; napi_value others[MOST_ARGUMENTS]; bool failed; } arguments;
+/* A text of fewer bytes than FEW needs no block of the heap. */
+enum { MOST_TEXTS = 3, MOST_ARGUMENTS = 4, FEW = 128, LONGEST_CHARACTER = 4 };
+typedef struct { nodejs_semver_text texts[MOST_TEXTS]; char few[MOST_TEXTS][FEW]; napi_value others[MOST_ARGUMENTS]; bool failed; } arguments;
 
 static const char *const MESSAGES[] = {
     [NODEJS_SEMVER_NOT_UTF8] = "not UTF-8", [NODEJS_SEMVER_BAD_VERSION] = "bad version", [NODEJS_SEMVER_BAD_RANGE] = "bad range",
@@ -14,9 +15,16 @@ static const char *const MESSAGES[] = {
     [NODEJS_SEMVER_NOT_A_PRERELEASE] = "not a prerelease", [NODEJS_SEMVER_OVERFLOW] = "overflow",
     [NODEJS_SEMVER_NO_MEMORY] = "out of memory", [NODEJS_SEMVER_TOO_LONG] = "too long"};
 
-static bool read_text(napi_env env, napi_value value, nodejs_semver_text *text)
+static bool read_text(napi_env env, napi_value value, char *few, nodejs_semver_text *text)
 {
     size_t len;
+    if (napi_get_value_string_utf8(env, value, few, FEW, &len) != napi_ok)
+        return false;
+    /* What did not fit is cut before a character. */
+    if (len < FEW - LONGEST_CHARACTER) {
+        *text = (nodejs_semver_text){few, len};
+        return true;
+    }
     if (napi_get_value_string_utf8(env, value, NULL, 0, &len) != napi_ok)
         return false;
     char *bytes = malloc(len + 1);
@@ -29,22 +37,23 @@ static bool read_text(napi_env env, napi_value value, nodejs_semver_text *text)
 }
 
 /* The first arguments as texts, and all of them as they are. */
-static arguments read_arguments(napi_env env, napi_callback_info info, size_t count)
+static void read_arguments(napi_env env, napi_callback_info info, size_t count, arguments *found)
 {
-    arguments found = {.failed = false};
     size_t given = MOST_ARGUMENTS;
-    napi_get_cb_info(env, info, &given, found.others, NULL, NULL);
+    memset(found->texts, 0, sizeof found->texts);
+    found->failed = false;
+    napi_get_cb_info(env, info, &given, found->others, NULL, NULL);
     for (size_t at = 0; at < count; at++)
-        found.failed |= at >= given || !read_text(env, found.others[at], &found.texts[at]);
-    if (found.failed)
+        found->failed |= at >= given || !read_text(env, found->others[at], found->few[at], &found->texts[at]);
+    if (found->failed)
         napi_throw_type_error(env, NULL, "strings expected");
-    return found;
 }
 
 static void release(arguments *given)
 {
     for (size_t at = 0; at < MOST_TEXTS; at++)
-        free((char *)given->texts[at].at);
+        if (given->texts[at].at != given->few[at])
+            free((char *)given->texts[at].at);
 }
 
 static napi_value null_or_thrown(napi_env env, nodejs_semver_status status)
@@ -81,7 +90,8 @@ static bool flag(napi_env env, napi_value value)
 #define PRINTS(name, count, OTHERWISE, CALL)                                                                                     \
     static napi_value name(napi_env env, napi_callback_info info)                                                      \
     {                                                                                                                  \
-        arguments given = read_arguments(env, info, count);                                                            \
+        arguments given;                                                                                               \
+        read_arguments(env, info, count, &given);                                                                      \
         napi_value answer = NULL;                                                                                      \
         char first[256], *out = first;                                                                                 \
         size_t size = sizeof first, len = 0;                                                                           \
@@ -128,7 +138,8 @@ PRINTS(try_inc, 3, null_or_undefined,
 #define COUNTS(name, CALL)                                                                                             \
     static napi_value name(napi_env env, napi_callback_info info)                                                      \
     {                                                                                                                  \
-        arguments given = read_arguments(env, info, 2);                                                                \
+        arguments given;                                                                                               \
+        read_arguments(env, info, 2, &given);                                                                          \
         napi_value answer = NULL;                                                                                      \
         int32_t number = 0;                                                                                            \
         if (!given.failed) {                                                                                           \
@@ -150,7 +161,8 @@ COUNTS(try_diff, nodejs_semver_version_diff(NPM, TEXT(0), TEXT(1), (uint32_t *)&
 #define TELLS(name, CALL)                                                                                              \
     static napi_value name(napi_env env, napi_callback_info info)                                                      \
     {                                                                                                                  \
-        arguments given = read_arguments(env, info, 2);                                                                \
+        arguments given;                                                                                               \
+        read_arguments(env, info, 2, &given);                                                                          \
         napi_value answer = NULL;                                                                                      \
         bool is_so = false;                                                                                            \
         if (!given.failed) {                                                                                           \
@@ -172,7 +184,8 @@ TELLS(try_meets, nodejs_semver_range_allows_any(NPM, TEXT(0), TEXT(1), &is_so))
 /* The text of the pre-release of a version. Its numbers go into the second argument, a Float64Array of three. */
 static napi_value try_read(napi_env env, napi_callback_info info)
 {
-    arguments given = read_arguments(env, info, 1);
+    arguments given;
+    read_arguments(env, info, 1, &given);
     napi_value answer = NULL;
     nodejs_semver_parts parts;
     double *numbers;
@@ -207,7 +220,8 @@ static napi_value try_read(napi_env env, napi_callback_info info)
 
 static napi_value compare(napi_env env, napi_callback_info info)
 {
-    arguments given = read_arguments(env, info, 2);
+    arguments given;
+    read_arguments(env, info, 2, &given);
     napi_value answer = NULL;
     int32_t order = 0;
     if (!given.failed) {
@@ -223,7 +237,8 @@ static napi_value compare(napi_env env, napi_callback_info info)
 
 static napi_value satisfies(napi_env env, napi_callback_info info)
 {
-    arguments given = read_arguments(env, info, 2);
+    arguments given;
+    read_arguments(env, info, 2, &given);
     napi_value answer = NULL;
     bool include_prerelease = false, accepted = false;
     if (!given.failed) {
