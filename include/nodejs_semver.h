@@ -15,7 +15,8 @@
  * With every other status nothing is written, unless the function says otherwise.
  *
  * A version that was read once is kept as a nodejs_semver_version, which leads to texts in the caller's memory: nodejs_semver_version_read
- * tells its parts. Texts of it that spell no identifiers are rejected at each question.
+ * tells its parts. Texts of it that spell no identifiers are rejected at each question. A range is kept as an array of
+ * nodejs_semver_interval, one or more: nodejs_semver_range_read tells their parts. Intervals that no range has are rejected at each question.
  *
  * Output buffers must not overlap inputs or one another, and no other thread may touch them during the call.
  */
@@ -161,6 +162,16 @@ enum {
     NODEJS_SEMVER_WORD_WITHOUT_BOUNDS = 1
 };
 
+/* Where the version of a bound lies. */
+enum {
+    /* There is no bound on this side. Its version is not looked at. */
+    NODEJS_SEMVER_BOUND_NONE = 0,
+    /* The version of the bound lies within the interval: `>=` below, `<=` above. */
+    NODEJS_SEMVER_BOUND_CLOSED = 1,
+    /* The version of the bound lies outside the interval: `>` below, `<` above. */
+    NODEJS_SEMVER_BOUND_OPEN = 2
+};
+
 /* What a range says of one of many versions. */
 enum {
     /* The range does not accept the version. */
@@ -207,6 +218,22 @@ typedef struct {
     nodejs_semver_text build;
 } nodejs_semver_version;
 
+/* A bound of an interval in the memory of the caller. */
+typedef struct {
+    /* NODEJS_SEMVER_BOUND_NONE, NODEJS_SEMVER_BOUND_CLOSED or NODEJS_SEMVER_BOUND_OPEN. */
+    uint32_t kind;
+    /* Its version. */
+    nodejs_semver_version version;
+} nodejs_semver_bound;
+
+/* An interval in the memory of the caller. A range that is kept is an array of one or more. */
+typedef struct {
+    /* The bound below. */
+    nodejs_semver_bound lower;
+    /* The bound above. */
+    nodejs_semver_bound upper;
+} nodejs_semver_interval;
+
 /* What is read of a version: its numbers, and how long the texts of its identifiers are. */
 typedef struct {
     /* The first number. */
@@ -220,6 +247,22 @@ typedef struct {
     /* The length of the text of the build metadata. */
     size_t build_len;
 } nodejs_semver_parts;
+
+/* What is read of a bound. */
+typedef struct {
+    /* NODEJS_SEMVER_BOUND_NONE, NODEJS_SEMVER_BOUND_CLOSED or NODEJS_SEMVER_BOUND_OPEN. */
+    uint32_t kind;
+    /* The parts of its version, which are zeros where there is no bound. */
+    nodejs_semver_parts version;
+} nodejs_semver_bound_parts;
+
+/* What is read of an interval. */
+typedef struct {
+    /* The bound below. */
+    nodejs_semver_bound_parts lower;
+    /* The bound above. */
+    nodejs_semver_bound_parts upper;
+} nodejs_semver_interval_parts;
 
 /*
  * Which of some versions is the greatest that a range accepts: `index` gets its place. Where a text of `versions`
@@ -312,6 +355,19 @@ nodejs_semver_status nodejs_semver_version_coerce(const char *text, size_t text_
     bool include_prerelease, char *out, size_t out_size, size_t *len);
 
 /*
+ * Reads a range, so that it can be kept: `intervals` gets the parts of its intervals, and `out` the texts of their
+ * versions, in the order of the bounds, of each version that of the build metadata behind that of the pre-release.
+ * `count` gets the number of the intervals, and `len` the length of the texts. If the array or the buffer is too
+ * small, these two alone are written.
+ *
+ * Returns NODEJS_SEMVER_OK, NODEJS_SEMVER_TOO_SMALL, NODEJS_SEMVER_BAD_ARGUMENT, NODEJS_SEMVER_NOT_UTF8,
+ * NODEJS_SEMVER_BAD_RANGE, NODEJS_SEMVER_NO_MEMORY or NODEJS_SEMVER_TOO_LONG.
+ */
+nodejs_semver_status nodejs_semver_range_read(uint32_t reading, const char *range, size_t range_len,
+    bool include_prerelease, nodejs_semver_interval_parts *intervals, size_t intervals_size, size_t *count,
+    char *out, size_t out_size, size_t *len);
+
+/*
  * Reads a version, so that it can be kept: `parts` gets its numbers and how long the texts of its identifiers are,
  * and `out` gets these texts, that of the build metadata behind that of the pre-release. If the buffer is too
  * small, `parts` alone is written.
@@ -355,6 +411,145 @@ nodejs_semver_status nodejs_semver_kind(const nodejs_semver_version *version, co
  */
 nodejs_semver_status nodejs_semver_print(const nodejs_semver_version *version, char *out, size_t out_size,
     size_t *len);
+
+/*
+ * Whether a range accepts a version. A pre-release is accepted only where a bound names one of the same three
+ * numbers, unless pre-releases are included.
+ *
+ * Returns NODEJS_SEMVER_OK, NODEJS_SEMVER_BAD_VERSION, NODEJS_SEMVER_BAD_RANGE, NODEJS_SEMVER_NO_MEMORY or
+ * NODEJS_SEMVER_TOO_LONG.
+ */
+nodejs_semver_status nodejs_semver_accepts(const nodejs_semver_interval *range, size_t range_len,
+    const nodejs_semver_version *version, bool include_prerelease, bool *answer);
+
+/*
+ * Which of some versions a range accepts: `answers` gets one of NODEJS_SEMVER_ANSWER_NO, NODEJS_SEMVER_ANSWER_YES
+ * and NODEJS_SEMVER_ANSWER_NO_VERSION for each. If it has room for fewer, nothing is looked at or written.
+ *
+ * Returns NODEJS_SEMVER_OK, NODEJS_SEMVER_TOO_SMALL, NODEJS_SEMVER_BAD_VERSION, NODEJS_SEMVER_BAD_RANGE,
+ * NODEJS_SEMVER_NO_MEMORY or NODEJS_SEMVER_TOO_LONG.
+ */
+nodejs_semver_status nodejs_semver_accepts_each(const nodejs_semver_interval *range, size_t range_len,
+    const nodejs_semver_version *versions, size_t versions_len, bool include_prerelease, uint8_t *answers,
+    size_t answers_size);
+
+/*
+ * Which of some versions is the greatest that a range accepts, the last of equal ones: `index` gets its place.
+ * Where a version is rejected, `index` gets the place of the first such version.
+ *
+ * Returns NODEJS_SEMVER_OK, NODEJS_SEMVER_NOTHING, NODEJS_SEMVER_BAD_VERSION, NODEJS_SEMVER_BAD_RANGE,
+ * NODEJS_SEMVER_NO_MEMORY or NODEJS_SEMVER_TOO_LONG.
+ */
+nodejs_semver_status nodejs_semver_greatest(const nodejs_semver_interval *range, size_t range_len,
+    const nodejs_semver_version *versions, size_t versions_len, bool include_prerelease, size_t *index);
+
+/*
+ * Which of some versions is the smallest that a range accepts, the first of equal ones: `index` gets its place.
+ * Where a version is rejected, `index` gets the place of the first such version.
+ *
+ * Returns NODEJS_SEMVER_OK, NODEJS_SEMVER_NOTHING, NODEJS_SEMVER_BAD_VERSION, NODEJS_SEMVER_BAD_RANGE,
+ * NODEJS_SEMVER_NO_MEMORY or NODEJS_SEMVER_TOO_LONG.
+ */
+nodejs_semver_status nodejs_semver_least(const nodejs_semver_interval *range, size_t range_len,
+    const nodejs_semver_version *versions, size_t versions_len, bool include_prerelease, size_t *index);
+
+/*
+ * Whether two ranges have something in common.
+ *
+ * Returns NODEJS_SEMVER_OK, NODEJS_SEMVER_BAD_VERSION, NODEJS_SEMVER_BAD_RANGE, NODEJS_SEMVER_NO_MEMORY or
+ * NODEJS_SEMVER_TOO_LONG.
+ */
+nodejs_semver_status nodejs_semver_meets(const nodejs_semver_interval *range, size_t range_len,
+    const nodejs_semver_interval *other, size_t other_len, bool *answer);
+
+/*
+ * Whether some one interval of the first range covers some one interval of the second. This is not a subset test.
+ *
+ * Returns NODEJS_SEMVER_OK, NODEJS_SEMVER_BAD_VERSION, NODEJS_SEMVER_BAD_RANGE, NODEJS_SEMVER_NO_MEMORY or
+ * NODEJS_SEMVER_TOO_LONG.
+ */
+nodejs_semver_status nodejs_semver_covers(const nodejs_semver_interval *range, size_t range_len,
+    const nodejs_semver_interval *other, size_t other_len, bool *answer);
+
+/*
+ * Whether a version lies above a range, or below it where `above` is false: the range does not accept it, and every
+ * interval of the range lies on the other side.
+ *
+ * Returns NODEJS_SEMVER_OK, NODEJS_SEMVER_BAD_VERSION, NODEJS_SEMVER_BAD_RANGE, NODEJS_SEMVER_NO_MEMORY or
+ * NODEJS_SEMVER_TOO_LONG.
+ */
+nodejs_semver_status nodejs_semver_lies_outside(const nodejs_semver_interval *range, size_t range_len,
+    const nodejs_semver_version *version, bool above, bool include_prerelease, bool *answer);
+
+/*
+ * The smallest version that a range accepts: `parts` gets its numbers and how long its texts are, and `out` these
+ * texts, that of the build metadata behind that of the pre-release. If the buffer is too small, `parts` alone is
+ * written.
+ *
+ * Returns NODEJS_SEMVER_OK, NODEJS_SEMVER_NOTHING, NODEJS_SEMVER_TOO_SMALL, NODEJS_SEMVER_BAD_VERSION,
+ * NODEJS_SEMVER_BAD_RANGE, NODEJS_SEMVER_NO_MEMORY or NODEJS_SEMVER_TOO_LONG.
+ */
+nodejs_semver_status nodejs_semver_least_version(const nodejs_semver_interval *range, size_t range_len,
+    nodejs_semver_parts *parts, char *out, size_t out_size);
+
+/*
+ * Prints a range in its normal form: `>=1.2.0 <2.0.0-0`.
+ *
+ * Returns NODEJS_SEMVER_OK, NODEJS_SEMVER_TOO_SMALL, NODEJS_SEMVER_BAD_VERSION, NODEJS_SEMVER_BAD_RANGE,
+ * NODEJS_SEMVER_NO_MEMORY or NODEJS_SEMVER_TOO_LONG.
+ */
+nodejs_semver_status nodejs_semver_print_range(const nodejs_semver_interval *range, size_t range_len, char *out,
+    size_t out_size, size_t *len);
+
+/*
+ * What two ranges have in common. It is told as `nodejs_semver_range_read` tells a range.
+ *
+ * Returns NODEJS_SEMVER_OK, NODEJS_SEMVER_NOTHING, NODEJS_SEMVER_TOO_SMALL, NODEJS_SEMVER_BAD_VERSION,
+ * NODEJS_SEMVER_BAD_RANGE, NODEJS_SEMVER_NO_MEMORY or NODEJS_SEMVER_TOO_LONG.
+ */
+nodejs_semver_status nodejs_semver_intersect(const nodejs_semver_interval *range, size_t range_len,
+    const nodejs_semver_interval *other, size_t other_len, nodejs_semver_interval_parts *intervals,
+    size_t intervals_size, size_t *count, char *out, size_t out_size, size_t *len);
+
+/*
+ * What the first range holds and the second does not. It is told as `nodejs_semver_range_read` tells a range.
+ *
+ * Returns NODEJS_SEMVER_OK, NODEJS_SEMVER_NOTHING, NODEJS_SEMVER_TOO_SMALL, NODEJS_SEMVER_BAD_VERSION,
+ * NODEJS_SEMVER_BAD_RANGE, NODEJS_SEMVER_NO_MEMORY or NODEJS_SEMVER_TOO_LONG.
+ */
+nodejs_semver_status nodejs_semver_difference(const nodejs_semver_interval *range, size_t range_len,
+    const nodejs_semver_interval *other, size_t other_len, nodejs_semver_interval_parts *intervals,
+    size_t intervals_size, size_t *count, char *out, size_t out_size, size_t *len);
+
+/*
+ * The union of two ranges, which accepts what either accepts. It is told as `nodejs_semver_range_read` tells a
+ * range.
+ *
+ * Returns NODEJS_SEMVER_OK, NODEJS_SEMVER_TOO_SMALL, NODEJS_SEMVER_BAD_VERSION, NODEJS_SEMVER_BAD_RANGE,
+ * NODEJS_SEMVER_NO_MEMORY or NODEJS_SEMVER_TOO_LONG.
+ */
+nodejs_semver_status nodejs_semver_union(const nodejs_semver_interval *range, size_t range_len,
+    const nodejs_semver_interval *other, size_t other_len, nodejs_semver_interval_parts *intervals,
+    size_t intervals_size, size_t *count, char *out, size_t out_size, size_t *len);
+
+/*
+ * The smallest version that the first range accepts and the second does not, told as `nodejs_semver_least_version`
+ * tells one. There is none exactly if the first range is a subset of the second.
+ *
+ * Returns NODEJS_SEMVER_OK, NODEJS_SEMVER_NOTHING, NODEJS_SEMVER_TOO_SMALL, NODEJS_SEMVER_BAD_VERSION,
+ * NODEJS_SEMVER_BAD_RANGE, NODEJS_SEMVER_NO_MEMORY or NODEJS_SEMVER_TOO_LONG.
+ */
+nodejs_semver_status nodejs_semver_least_beyond(const nodejs_semver_interval *range, size_t range_len,
+    const nodejs_semver_interval *other, size_t other_len, nodejs_semver_parts *parts, char *out, size_t out_size);
+
+/*
+ * Whether the second range accepts every version that the first accepts.
+ *
+ * Returns NODEJS_SEMVER_OK, NODEJS_SEMVER_BAD_VERSION, NODEJS_SEMVER_BAD_RANGE, NODEJS_SEMVER_NO_MEMORY or
+ * NODEJS_SEMVER_TOO_LONG.
+ */
+nodejs_semver_status nodejs_semver_is_subset(const nodejs_semver_interval *range, size_t range_len,
+    const nodejs_semver_interval *other, size_t other_len, bool include_prerelease, bool *answer);
 
 /*
  * Prints what a status says, as `bad version`.

@@ -52,6 +52,7 @@ typedef struct {
     size_t size, len, index, order[2];
     nodejs_semver_word words[2];
     nodejs_semver_parts parts;
+    nodejs_semver_interval_parts intervals[2];
     nodejs_semver_alternative alternative;
     int32_t compared;
     uint32_t number;
@@ -65,7 +66,7 @@ static const nodejs_semver_text VERSIONS[] = {{"1.2.0", 5}, {"1.3.0", 5}};
 #define RANGE T("^1.2 || 3")
 
 /* The calls of all functions, one for each text that is passed; the first ones print. */
-enum { PRINTING = 16, CALLS = 44 };
+enum { PRINTING = 16, CALLS = 45 };
 
 static nodejs_semver_status call(int which, uint32_t reading, const char *text, size_t len, written *w)
 {
@@ -113,6 +114,7 @@ static nodejs_semver_status call(int which, uint32_t reading, const char *text, 
     case 40: return nodejs_semver_range_accepts_same(reading, RANGE, text, len, false, &w->answer);
     case 41: return nodejs_semver_version_npm_flaw(text, len, &w->number, &w->index);
     case 42: return nodejs_semver_range_npm_flaw(text, len, true, &w->alternative);
+    case 43: return nodejs_semver_range_read(reading, text, len, true, w->intervals, 2, &w->index, OUT);
     default: return nodejs_semver_versions_sort(reading, (nodejs_semver_text[]){{text, len}}, 1, w->order, 1, &w->index);
     }
 }
@@ -307,6 +309,182 @@ static void kept(void)
     CHECK(nodejs_semver_print(&built, out, sizeof out, &len) == NODEJS_SEMVER_TOO_LONG && len == 5);
 }
 
+/* The intervals of what is told of a range that npm reads, and their number. */
+static size_t kept_range(const char *text, nodejs_semver_interval *range, char *texts, size_t room)
+{
+    nodejs_semver_interval_parts told[4];
+    size_t count = 0, len = 0, at = 0;
+    CHECK(nodejs_semver_range_read(NPM, text, strlen(text), false, told, 4, &count, texts, room, &len) == NODEJS_SEMVER_OK);
+    for (size_t place = 0; place < 2 * count; place++) {
+        nodejs_semver_bound_parts it = place % 2 ? told[place / 2].upper : told[place / 2].lower;
+        nodejs_semver_parts v = it.version;
+        nodejs_semver_bound bound = {it.kind, {v.major, v.minor, v.patch, {texts + at, v.pre_release_len}, {NULL, 0}}};
+        at += v.pre_release_len;
+        bound.version.build = (nodejs_semver_text){texts + at, v.build_len};
+        at += v.build_len;
+        *(place % 2 ? &range[place / 2].upper : &range[place / 2].lower) = bound;
+    }
+    CHECK(at == len);
+    return count;
+}
+
+/* What is told of a range, in arrays and buffers of each size. */
+static void ranges_read(void)
+{
+    for (size_t room = 0; room <= 3; room++)
+        for (size_t size = 0; size <= 6; size++) {
+            nodejs_semver_interval_parts *told = malloc(room ? room * sizeof *told : 1);
+            char *texts = malloc(size ? size : 1);
+            memset(told, 'x', room ? room * sizeof *told : 1);
+            memset(texts, 'x', size ? size : 1);
+            size_t count = 9, len = 9;
+            nodejs_semver_status status = nodejs_semver_range_read(
+                NPM, T("^1.2.3-rc.1 || >2.0.0 <=3.0.0"), false, room ? told : NULL, room, &count, size ? texts : NULL, size, &len);
+            CHECK(count == 2 && len == 5);
+            if (room < 2 || size < 5) {
+                CHECK(status == NODEJS_SEMVER_TOO_SMALL && (!size || texts[0] == 'x') && (!room || told[0].lower.kind == 0x78787878));
+            } else {
+                CHECK(status == NODEJS_SEMVER_OK && !memcmp(texts, "rc.10", 5) && (size == 5 || texts[5] == 'x'));
+                CHECK(told[0].lower.kind == NODEJS_SEMVER_BOUND_CLOSED && told[0].upper.kind == NODEJS_SEMVER_BOUND_OPEN);
+                CHECK(told[1].lower.kind == NODEJS_SEMVER_BOUND_OPEN && told[1].upper.kind == NODEJS_SEMVER_BOUND_CLOSED);
+                CHECK(told[0].lower.version.patch == 3 && told[0].lower.version.pre_release_len == 4 && told[0].lower.version.build_len == 0);
+                CHECK(told[0].upper.version.major == 2 && told[0].upper.version.pre_release_len == 1 && told[1].upper.version.major == 3);
+                CHECK(room == 2 || told[2].lower.kind == 0x78787878);
+            }
+            free(told);
+            free(texts);
+        }
+    nodejs_semver_interval_parts told[1];
+    size_t count = 9, len = 9;
+    CHECK(nodejs_semver_range_read(NPM, T("*"), false, told, 1, &count, NULL, 0, &len) == NODEJS_SEMVER_OK && count == 1 && len == 0);
+    CHECK(told[0].lower.version.major == 0 && told[0].upper.kind == NODEJS_SEMVER_BOUND_NONE && told[0].upper.version.major == 0);
+}
+
+/* Ranges that are kept, and what is asked of them. */
+static void kept_ranges(void)
+{
+    char texts[16], out[64];
+    nodejs_semver_interval range[4], other[4];
+    size_t count = kept_range("^1.2.3-rc.1 || >2.0.0 <=3.0.0", range, texts, sizeof texts), index = 7, len = 5;
+    CHECK(count == 2 && kept_range(">=1.4.0", other, out, sizeof out) == 1);
+    bool answer = false;
+    nodejs_semver_version beta = version_of(3, "rc.2", "b"), later = version_of(4, "rc.2", ""), release = version_of(4, "", "");
+    nodejs_semver_version great = version_of(UINT64_MAX, "", ""), wrong = version_of(3, "a..b", "");
+    CHECK(nodejs_semver_accepts(range, count, &beta, false, &answer) == NODEJS_SEMVER_OK && answer);
+    CHECK(nodejs_semver_accepts(range, count, &later, false, &answer) == NODEJS_SEMVER_OK && !answer);
+    CHECK(nodejs_semver_accepts(range, count, &later, true, &answer) == NODEJS_SEMVER_OK && answer);
+    CHECK(nodejs_semver_accepts(range, count, &great, false, &answer) == NODEJS_SEMVER_OK && answer);
+    CHECK(nodejs_semver_accepts(range, count, &wrong, false, &answer) == NODEJS_SEMVER_BAD_VERSION && answer);
+
+    nodejs_semver_version versions[] = {later, release, beta, release, wrong};
+    uint8_t answers[5] = {9, 9, 9, 9, 9};
+    CHECK(nodejs_semver_accepts_each(range, count, versions, 5, false, answers, 4) == NODEJS_SEMVER_TOO_SMALL && answers[0] == 9);
+    CHECK(nodejs_semver_accepts_each(range, count, versions, 5, false, answers, 5) == NODEJS_SEMVER_OK && !memcmp(answers, "\0\1\1\1\2", 5));
+    CHECK(nodejs_semver_accepts_each(range, count, NULL, 0, false, NULL, 0) == NODEJS_SEMVER_OK);
+    CHECK(nodejs_semver_greatest(range, count, versions, 4, false, &index) == NODEJS_SEMVER_OK && index == 3);
+    CHECK(nodejs_semver_least(range, count, versions, 4, false, &index) == NODEJS_SEMVER_OK && index == 2);
+    CHECK(nodejs_semver_least(range, count, versions, 2, false, &index) == NODEJS_SEMVER_OK && index == 1);
+    CHECK(nodejs_semver_least(range, count, versions, 2, true, &index) == NODEJS_SEMVER_OK && index == 0);
+    CHECK(nodejs_semver_greatest(range, count, versions, 1, false, &index) == NODEJS_SEMVER_NOTHING && index == 0);
+    CHECK(nodejs_semver_greatest(range, count, NULL, 0, false, &index) == NODEJS_SEMVER_NOTHING && index == 0);
+    CHECK(nodejs_semver_greatest(range, count, versions, 5, false, &index) == NODEJS_SEMVER_BAD_VERSION && index == 4);
+
+    CHECK(nodejs_semver_meets(range, count, other, 1, &answer) == NODEJS_SEMVER_OK && answer);
+    CHECK(nodejs_semver_meets(range, count, &range[1], 1, &answer) == NODEJS_SEMVER_OK && answer);
+    CHECK(nodejs_semver_meets(range, 1, &range[1], 1, &answer) == NODEJS_SEMVER_OK && !answer);
+    CHECK(nodejs_semver_covers(other, 1, range, count, &answer) == NODEJS_SEMVER_OK && answer);
+    CHECK(nodejs_semver_covers(range, count, other, 1, &answer) == NODEJS_SEMVER_OK && !answer);
+    CHECK(nodejs_semver_lies_outside(other, 1, &beta, false, false, &answer) == NODEJS_SEMVER_OK && answer);
+    CHECK(nodejs_semver_lies_outside(other, 1, &beta, true, false, &answer) == NODEJS_SEMVER_OK && !answer);
+    CHECK(nodejs_semver_print_range(range, count, NULL, 0, &len) == NODEJS_SEMVER_TOO_SMALL && len == 37);
+    CHECK(nodejs_semver_print_range(range, count, out, sizeof out, &len) == NODEJS_SEMVER_OK && !memcmp(out, ">=1.2.3-rc.1 <2.0.0-0||>2.0.0 <=3.0.0", 37));
+
+    nodejs_semver_parts told = {9, 9, 9, 9, 9};
+    CHECK(nodejs_semver_least_version(range, count, &told, out, 3) == NODEJS_SEMVER_TOO_SMALL && told.pre_release_len == 4 && out[0] == '>');
+    CHECK(nodejs_semver_least_version(range, count, &told, out, 4) == NODEJS_SEMVER_OK && told.patch == 3 && !memcmp(out, "rc.1", 4));
+    CHECK(nodejs_semver_least_version(&range[1], 1, &told, NULL, 0) == NODEJS_SEMVER_OK && told.major == 2 && told.patch == 1);
+}
+
+/* What two ranges that are kept make. */
+static void kept_sets(void)
+{
+    char texts[16], more[16], out[16];
+    nodejs_semver_interval range[4], other[4];
+    size_t count = kept_range("^1.2.3-rc.1 || >2.0.0 <=3.0.0", range, texts, sizeof texts), told = 9, len = 9;
+    CHECK(count == 2 && kept_range("<1.4.0", other, more, sizeof more) == 1);
+    nodejs_semver_interval_parts parts[3];
+    memset(parts, 'x', sizeof parts);
+    memset(out, 'x', sizeof out);
+    CHECK(nodejs_semver_intersect(range, count, other, 1, parts, 0, &told, out, 4, &len) == NODEJS_SEMVER_TOO_SMALL && told == 1 && len == 4);
+    CHECK(nodejs_semver_intersect(range, count, other, 1, parts, 1, &told, out, 3, &len) == NODEJS_SEMVER_TOO_SMALL && out[0] == 'x');
+    CHECK(nodejs_semver_intersect(range, count, other, 1, parts, 1, &told, out, 4, &len) == NODEJS_SEMVER_OK && !memcmp(out, "rc.1x", 5));
+    CHECK(parts[0].lower.kind == NODEJS_SEMVER_BOUND_CLOSED && parts[0].lower.version.patch == 3 && parts[1].lower.kind == 0x78787878);
+    CHECK(parts[0].upper.kind == NODEJS_SEMVER_BOUND_OPEN && parts[0].upper.version.minor == 4);
+    CHECK(nodejs_semver_intersect(range, 1, &range[1], 1, parts, 1, &told, out, 4, &len) == NODEJS_SEMVER_NOTHING && told == 1);
+    CHECK(nodejs_semver_difference(range, count, other, 1, parts, 3, &told, out, sizeof out, &len) == NODEJS_SEMVER_OK && told == 2 && len == 1);
+    CHECK(parts[0].lower.version.minor == 4 && parts[0].upper.version.pre_release_len == 1 && parts[1].upper.version.major == 3 && out[0] == '0');
+    CHECK(nodejs_semver_union(other, 1, range, count, parts, 3, &told, out, sizeof out, &len) == NODEJS_SEMVER_OK && told == 3 && len == 5);
+    CHECK(parts[0].lower.kind == NODEJS_SEMVER_BOUND_NONE && parts[0].upper.version.minor == 4 && parts[2].lower.kind == NODEJS_SEMVER_BOUND_OPEN);
+    nodejs_semver_parts found = {9, 9, 9, 9, 9};
+    bool answer = true;
+    CHECK(nodejs_semver_least_beyond(range, count, other, 1, &found, out, sizeof out) == NODEJS_SEMVER_OK && found.patch == 3 && found.pre_release_len == 4);
+    CHECK(nodejs_semver_least_beyond(range, 1, range, count, &found, NULL, 0) == NODEJS_SEMVER_NOTHING && found.patch == 3);
+    CHECK(nodejs_semver_is_subset(range, count, other, 1, false, &answer) == NODEJS_SEMVER_OK && !answer);
+    CHECK(nodejs_semver_is_subset(range, 1, range, count, true, &answer) == NODEJS_SEMVER_OK && answer);
+    range[1].lower.kind = 3;
+    CHECK(nodejs_semver_intersect(other, 1, range, count, parts, 3, &told, out, sizeof out, &len) == NODEJS_SEMVER_BAD_RANGE && told == 3);
+    CHECK(nodejs_semver_difference(range, count, other, 1, parts, 3, &told, out, sizeof out, &len) == NODEJS_SEMVER_BAD_RANGE && told == 3);
+    CHECK(nodejs_semver_union(other, 1, range, count, parts, 3, &told, out, sizeof out, &len) == NODEJS_SEMVER_BAD_RANGE && told == 3);
+    CHECK(nodejs_semver_least_beyond(other, 1, range, count, &found, out, sizeof out) == NODEJS_SEMVER_BAD_RANGE && found.patch == 3);
+    CHECK(nodejs_semver_is_subset(range, count, other, 1, false, &answer) == NODEJS_SEMVER_BAD_RANGE && answer);
+}
+
+/* Intervals that no range has: of kinds, numbers and texts that there are none of, of no versions, and none. */
+static void no_ranges(void)
+{
+    const struct { nodejs_semver_interval it; nodejs_semver_status status; } given[] = {
+        {{{3, {1, 0, 0, {"", 0}, {"", 0}}}, {0, {0, 0, 0, {"", 0}, {"", 0}}}}, NODEJS_SEMVER_BAD_RANGE},
+        {{{0, {0, 0, 0, {"", 0}, {"", 0}}}, {UINT32_MAX, {1, 0, 0, {"", 0}, {"", 0}}}}, NODEJS_SEMVER_BAD_RANGE},
+        {{{1, {2, 0, 0, {"", 0}, {"", 0}}}, {2, {2, 0, 0, {"", 0}, {"", 0}}}}, NODEJS_SEMVER_BAD_RANGE},
+        {{{1, {2, 0, 0, {"", 0}, {"", 0}}}, {1, {1, 0, 0, {"", 0}, {"", 0}}}}, NODEJS_SEMVER_BAD_RANGE},
+        {{{1, {9007199254740993, 0, 0, {"", 0}, {"", 0}}}, {0, {0, 0, 0, {"", 0}, {"", 0}}}}, NODEJS_SEMVER_BAD_RANGE},
+        {{{0, {0, 0, 0, {"", 0}, {"", 0}}}, {2, {1, UINT64_MAX, 0, {"", 0}, {"", 0}}}}, NODEJS_SEMVER_BAD_RANGE},
+        {{{1, {1, 0, 0, {"a_b", 3}, {"", 0}}}, {0, {0, 0, 0, {"", 0}, {"", 0}}}}, NODEJS_SEMVER_BAD_VERSION},
+        {{{1, {1, 0, 0, {"", 0}, {"\xff", 1}}}, {0, {0, 0, 0, {"", 0}, {"", 0}}}}, NODEJS_SEMVER_BAD_VERSION},
+        {{{0, {0, 0, 0, {"", 0}, {"", 0}}}, {2, {1, 0, 0, {"a", HUGE_LENGTH}, {"", 0}}}}, NODEJS_SEMVER_TOO_LONG},
+        {{{0, {UINT64_MAX, 0, 0, {"a_b", HUGE_LENGTH}, {"", 0}}}, {2, {9007199254740992, 0, 0, {"", 0}, {"", 0}}}}, NODEJS_SEMVER_OK},
+    };
+    nodejs_semver_version release = version_of(3, "", "");
+    for (size_t at = 0; at < sizeof given / sizeof *given; at++) {
+        nodejs_semver_interval list[] = {given[9].it, given[at].it};
+        nodejs_semver_status wanted = given[at].status;
+        bool answer = false, is_wrong = wanted != NODEJS_SEMVER_OK;
+        uint8_t answers[1] = {9};
+        size_t index = 7, len = 5;
+        char out[8] = "x";
+        nodejs_semver_parts told = {9, 9, 9, 9, 9};
+        CHECK(nodejs_semver_accepts(list, 2, &release, false, &answer) == wanted && answer == !is_wrong);
+        CHECK(nodejs_semver_accepts_each(list, 2, &release, 1, false, answers, 1) == wanted && answers[0] == (is_wrong ? 9 : 1));
+        CHECK(nodejs_semver_greatest(list, 2, &release, 1, false, &index) == wanted && index == (is_wrong ? 7 : 0));
+        index = 7;
+        CHECK(nodejs_semver_least(&list[1], 1, &release, 1, false, &index) == wanted && index == (is_wrong ? 7 : 0));
+        answer = false;
+        CHECK(nodejs_semver_meets(list, 2, list, 1, &answer) == wanted && answer == !is_wrong);
+        answer = false;
+        CHECK(nodejs_semver_covers(list, 1, list, 2, &answer) == wanted && answer == !is_wrong);
+        answer = true;
+        CHECK(nodejs_semver_lies_outside(list, 2, &release, true, false, &answer) == wanted && answer == is_wrong);
+        CHECK(nodejs_semver_least_version(list, 2, &told, NULL, 0) == wanted && told.major == (is_wrong ? 9 : 0));
+        CHECK(nodejs_semver_print_range(list, 2, out, sizeof out, &len) == (is_wrong ? wanted : NODEJS_SEMVER_TOO_SMALL) && out[0] == 'x');
+    }
+    bool answer = true;
+    size_t index = 7;
+    CHECK(nodejs_semver_accepts(NULL, 0, &release, false, &answer) == NODEJS_SEMVER_BAD_RANGE && answer);
+    CHECK(nodejs_semver_accepts(&given[9].it, HUGE_LENGTH, &release, false, &answer) == NODEJS_SEMVER_TOO_LONG && answer);
+    CHECK(nodejs_semver_meets(&given[9].it, 1, &given[9].it, SIZE_MAX, &answer) == NODEJS_SEMVER_TOO_LONG && answer);
+    CHECK(nodejs_semver_greatest(&given[9].it, 1, &release, SIZE_MAX, false, &index) == NODEJS_SEMVER_TOO_LONG && index == 7);
+}
+
 /* What npm's reading finds wrong. */
 static void flaws(void)
 {
@@ -383,6 +561,10 @@ int main(void)
     words();
     parts();
     kept();
+    ranges_read();
+    kept_ranges();
+    kept_sets();
+    no_ranges();
     flaws();
     subsets();
     no_utf8();

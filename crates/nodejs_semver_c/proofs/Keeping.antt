@@ -1,5 +1,5 @@
 -- What is kept of a version that was read: the identifiers of a text are spelled by their own texts.
-use Rattle.std.proofs.Common.{◌≡◌, ◌<◌, ◌≤◌, ◌+◌, ◌-◌, ◌^◌, ◌++◌, ◌∷◌, ◌∙◌, List, [], Bool, Option, Some, None, arith, inl, length}
+use Rattle.std.proofs.Common.{◌≡◌, ◌<◌, ◌≤◌, ◌+◌, ◌-◌, ◌^◌, ◌++◌, ◌∷◌, ◌∙◌, List, [], Bool, Option, Some, None, arith, inl, inr, length}
 use Rattle.std.proofs.Common.{length-append, map, min, refl, sym, true, ℕ}
 use Rattle.std.specs.List.{list_all}
 use Rattle.std.specs.Prelude.{IsSomeAnd, IsUtf8}
@@ -15,7 +15,7 @@ use Rattle.npm_words.specs.Grammar as npm
 use Rattle.nodejs_semver_c.proofs.Putting.{put_first}
 use Rattle.nodejs_semver_c.specs.Answers.{Puts}
 use Rattle.nodejs_semver_c.specs.Internal.Pieces.{Adds}
-use Rattle.nodejs_semver_c.specs.Kept.{ComesBack, TellsVersion, list_text}
+use Rattle.nodejs_semver_c.specs.Kept.{ComesBack, PutsVersion, kept_texts, list_text, parts_of}
 use Rattle.nodejs_semver_c.specs.Readings.{Spells}
 use Rattle.nodejs_semver_c.specs.declared.kept.Parts.{Parts}
 use Rattle.nodejs_semver_c.specs.declared.read.Grammar.{Grammar}
@@ -71,26 +71,41 @@ read_back (Some by) bytes v h =
     (pre.0, pre.1, build.0, build.1)
 
 -- what is told where the texts fit into memory: their lengths, and whether the buffer has room
-module _ (v : VersionValue) (was : Parts) (old new : List ℕ) (needed M m p a b : ℕ) (pre build : List Id) where
-  tells : (status : ℕ) → ComesBack v → M ≡ v.major → m ≡ v.minor → p ≡ v.patch → pre ≡ v.pre_release → build ≡ v.build
-      → a ≡ min (length (list_text pre)) (2 ^ 64 - 1) → b ≡ min (length (list_text build)) (2 ^ 64 - 1)
-      → needed ≡ min (length (list_text pre ++ list_text build)) (2 ^ 64 - 1) → needed < 2 ^ 63
-      → Puts (list_text pre ++ list_text build) old new (length (list_text pre ++ list_text build)) status
-      → TellsVersion v was (record { major = M; minor = m; patch = p; pre_release_len = a; build_len = b }) old new status
-  tells status back eM em ep epre ebuild ea eb en small put =
-      let both : length (list_text pre) + length (list_text build) < 2 ^ 63 =
-      grind (arith, en, small, length-append (list_text pre) (list_text build)) in
-      let first : a ≡ length (list_text pre) = grind (arith, ea, both) in
-      let second : b ≡ length (list_text build) = grind (arith, eb, both) in
-      inl (rw (eM, em, ep, first, second, epre, ebuild) refl, back, rw (epre, ebuild) at put)
+pub fits_memory : (text : List ℕ) (needed : ℕ) → needed ≡ min (length text) (2 ^ 64 - 1) → needed < 2 ^ 63 → length text < 2 ^ 63
+fits_memory text needed e small = grind (arith, e, small)
 
-  pub tells_printed : (end : ℕ) → ComesBack v → M ≡ v.major → m ≡ v.minor → p ≡ v.patch → pre ≡ v.pre_release → build ≡ v.build
+counted_part : (text whole : List ℕ) (n : ℕ) → n ≡ min (length text) (2 ^ 64 - 1) → length text ≤ length whole → length whole < 2 ^ 63
+    → n ≡ length text
+counted_part text whole n e le small = grind (arith, e, le, small)
+
+counted_whole : (text : List ℕ) (needed : ℕ) → needed ≡ min (length text) (2 ^ 64 - 1) → needed < 2 ^ 63 → length text ≡ needed
+counted_whole text needed e small = grind (arith, e, small)
+
+module _ (v : VersionValue) (pre build : List Id) where
+  pub parts_counted : (M m p a b : ℕ) → M ≡ v.major → m ≡ v.minor → p ≡ v.patch → pre ≡ v.pre_release → build ≡ v.build
       → a ≡ min (length (list_text pre)) (2 ^ 64 - 1) → b ≡ min (length (list_text build)) (2 ^ 64 - 1)
+      → length (kept_texts v) < 2 ^ 63
+      → (record { major = M; minor = m; patch = p; pre_release_len = a; build_len = b }) ≡ parts_of v
+  parts_counted M m p a b eM em ep epre ebuild ea eb small =
+      let joined = length-append (list_text v.pre_release) (list_text v.build) in
+      let ea' : a ≡ min (length (list_text v.pre_release)) (2 ^ 64 - 1) = rw epre at ea in
+      let eb' : b ≡ min (length (list_text v.build)) (2 ^ 64 - 1) = rw ebuild at eb in
+      let first = counted_part (list_text v.pre_release) (kept_texts v) a ea' (omega (arith, joined)) small in
+      let second = counted_part (list_text v.build) (kept_texts v) b eb' (omega (arith, joined)) small in
+      rw (eM, em, ep, first, second) refl
+
+  pub version_told : (was now : Parts) (old new : List ℕ) (needed end : ℕ) → now ≡ parts_of v → pre ≡ v.pre_release → build ≡ v.build
       → needed ≡ min (length (list_text pre ++ list_text build)) (2 ^ 64 - 1) → needed < 2 ^ 63 → needed ≤ length old
-      → Adds (list_text pre ++ list_text build) old new 0 end
-      → TellsVersion v was (record { major = M; minor = m; patch = p; pre_release_len = a; build_len = b }) old new 0
-  tells_printed end back eM em ep epre ebuild ea eb en small le adds =
-      let counted : length (list_text pre ++ list_text build) ≡ needed = grind (arith, en, small) in
-      let front = (put_first (list_text pre ++ list_text build) old new end adds).front in
-      tells 0 back eM em ep epre ebuild ea eb en small
-      (refl, inl (refl, front (omega (arith, counted, le)) (omega (arith, counted, small))))
+      → Adds (list_text pre ++ list_text build) old new 0 end → PutsVersion v was now old new 0
+  version_told was now old new needed end told epre ebuild en small le adds =
+      let counted : length (kept_texts v) ≡ needed = counted_whole (kept_texts v) needed (rw (epre, ebuild) at en) small in
+      let added : Adds (kept_texts v) old new 0 end = rw (epre, ebuild) at adds in
+      let front = (put_first (kept_texts v) old new end added).front (omega (arith, counted, le)) (omega (arith, counted, small)) in
+      inl (told, (refl, inl (refl, front)))
+
+  pub version_short : (was now : Parts) (old new : List ℕ) (needed : ℕ) → now ≡ parts_of v → pre ≡ v.pre_release → build ≡ v.build
+      → needed ≡ min (length (list_text pre ++ list_text build)) (2 ^ 64 - 1) → needed < 2 ^ 63 → length old < needed
+      → new ≡ old → PutsVersion v was now old new 2
+  version_short was now old new needed told epre ebuild en small lt kept =
+      let counted : length (kept_texts v) ≡ needed = counted_whole (kept_texts v) needed (rw (epre, ebuild) at en) small in
+      inl (told, (refl, inr (refl, omega (arith, counted, lt), kept)))

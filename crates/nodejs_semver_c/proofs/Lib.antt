@@ -4,4 +4,5 @@ mod Keeping
 mod Places
 mod Printing
 mod Putting
+mod Ranging
 mod Sorting

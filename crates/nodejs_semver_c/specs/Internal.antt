@@ -1,3 +1,4 @@
 pub mod Choices
 pub mod Failures
+pub mod Keeps
 pub mod Pieces

@@ -59,7 +59,12 @@ ComesBack v = (is_listed (list_text v.pre_release) ≡ true)
 
 -- the parts are told, and the texts put in front of a buffer if it has room for them; or they are
 -- longer than memory, and all is as it was
+abbrev pub PutsVersion : VersionValue → (told_old told_new : Parts) → (old new : List ℕ) → ℕ → Type 0
+PutsVersion v told_old told_new old new status =
+    ((told_new ≡ parts_of v) × Puts (kept_texts v) old new (length (kept_texts v)) status)
+    ⊎ ((status ≡ TOO_LONG) × (2 ^ 63 ≤ length (kept_texts v)) × (told_new ≡ told_old) × (new ≡ old))
+
+-- and they lead back to the version
 abbrev pub TellsVersion : VersionValue → (told_old told_new : Parts) → (old new : List ℕ) → ℕ → Type 0
 TellsVersion v told_old told_new old new status =
-    ((told_new ≡ parts_of v) × ComesBack v × Puts (kept_texts v) old new (length (kept_texts v)) status)
-    ⊎ ((status ≡ TOO_LONG) × (2 ^ 63 ≤ length (kept_texts v)) × (told_new ≡ told_old) × (new ≡ old))
+    ComesBack v × PutsVersion v told_old told_new old new status

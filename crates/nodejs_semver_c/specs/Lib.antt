@@ -3,6 +3,9 @@ pub mod Flaws
 pub mod Found
 pub mod Internal
 pub mod Kept
+pub mod KeptLists
+pub mod KeptRanges
+pub mod KeptSets
 pub mod Least
 pub mod Lists
 pub mod Messages

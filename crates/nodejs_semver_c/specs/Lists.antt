@@ -37,18 +37,30 @@ abbrev pub TellsFound : List VersionValue → Option VersionValue → (old new s
 TellsFound vs None old new status = (status ≡ NOTHING) × (new ≡ old)
 TellsFound vs (Some v) old new status = (status ≡ OK) × StandsAt vs v new
 
--- the first text that is rejected as a version stands at this place
-abbrev pub RefusesAt : ℕ → List (Bor (List ℕ)) → (place status : ℕ) → Type 0
-RefusesAt reading texts place status = (front back : List (Bor (List ℕ))) × (text : Bor (List ℕ))
-    × (texts ≡ front ++ text ∷ back) × (length front ≡ place)
-    × ((vs : List VersionValue) × AreVersionsOf reading front vs) × RefusesVersion reading text.now status
+-- the first element that is rejected stands at this place; those in front of it are these versions
+abbrev pub FirstRefused : {A : Type 0} → (A → VersionValue → Type 0) → (A → ℕ → Type 0) → List A
+    → (place status : ℕ) → Type 0
+FirstRefused {A} Is Refuses list place status = (front back : List A) × (x : A)
+    × (list ≡ front ++ x ∷ back) × (length front ≡ place)
+    × ((vs : List VersionValue) × AllZip Is front vs) × Refuses x status
 
--- the place of the version that is so found, or that of the first text that is none
+-- the place of the version that is so found, or that of the first element that is rejected
+abbrev pub TellsPlaceOf : {A : Type 0} → (A → VersionValue → Type 0) → (A → ℕ → Type 0)
+    → (List VersionValue → Option VersionValue → Type 0) → List A → (old new status : ℕ) → Type 0
+TellsPlaceOf Is Refuses IsFound list old new status =
+    ((vs : List VersionValue) × (found : Option VersionValue) × AllZip Is list vs
+    × IsFound vs found × TellsFound vs found old new status)
+    ⊎ FirstRefused Is Refuses list new status
+
+-- the same of texts
+abbrev pub RefusesAt : ℕ → List (Bor (List ℕ)) → (place status : ℕ) → Type 0
+RefusesAt reading = FirstRefused (λ text v. IsVersionOf reading text.now v)
+    (λ text. RefusesVersion reading text.now)
+
 abbrev pub TellsPlace : (List VersionValue → Option VersionValue → Type 0) → ℕ → List (Bor (List ℕ))
     → (old new status : ℕ) → Type 0
-TellsPlace IsFound reading texts old new status = ((vs : List VersionValue) × (found : Option VersionValue)
-    × AreVersionsOf reading texts vs × IsFound vs found × TellsFound vs found old new status)
-    ⊎ RefusesAt reading texts new status
+TellsPlace IsFound reading = TellsPlaceOf (λ text v. IsVersionOf reading text.now v)
+    (λ text. RefusesVersion reading text.now) IsFound
 
 -- what a range says of the version of a text
 abbrev pub IsAnswer : List (Span VersionValue) → Bool → ℕ → List ℕ → ℕ → Type 0

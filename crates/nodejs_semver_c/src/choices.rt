@@ -1,21 +1,21 @@
 // One range and many versions.
 
-ghost use Rattle.nodejs_semver.specs.Ranges.Best.{IsMax, IsMin};
+ghost use Rattle.nodejs_semver.specs.Ranges.Best.{IsMax, IsMin, replaces};
 ghost use Rattle.nodejs_semver.specs.Ranges.Gate.{accepts};
 ghost use Rattle.nodejs_semver_c.specs.Answers.{OnRange};
-ghost use Rattle.nodejs_semver_c.specs.Internal.Choices.{IsBestAt, IsBestOf};
+ghost use Rattle.nodejs_semver_c.specs.Internal.Choices.{IsBestAt, IsBestOf, is_beaten};
 ghost use Rattle.nodejs_semver_c.specs.Lists.{IsAnswer, OnArray, OnRoom, TellsEach, TellsPlace};
 ghost use Rattle.semver_core.specs.Values.Versions.{VersionValue};
 ghost use Rattle.std.specs.Option.{option_copied};
 ghost use Rattle.std.specs.Prelude.{◌≡◌, ◌≤◌, ◌++◌, ◌∷◌, [], List, Some};
-ghost use Rattle.std.specs.Prelude.{false, if◌then◌else◌, length};
+ghost use Rattle.std.specs.Prelude.{false, if◌then◌else◌, length, true};
 
 use crate::read::{self, MOST_TEXTS};
 use crate::{ANSWER_NO, ANSWER_NO_VERSION, ANSWER_YES, NOTHING, OK, TOO_LONG, TOO_SMALL};
-use nodejs_semver::{RangeRef, VersionRef};
+use nodejs_semver::{RangeRef, VersionRef, Versioned};
 use std::alloc::Global;
 
-// Which of the versions that a range accepts.
+/// Which of the versions that a range accepts.
 #[derive(Clone, Copy)]
 pub enum Best {
     Max,
@@ -28,17 +28,31 @@ impl Best {
     fn is_new_best(
         self,
         range: &RangeRef<'_>,
+        include_prerelease: bool,
         version: &VersionRef<'_>,
         best: Option<&VersionRef<'_>>,
     ) -> bool
         ensures { (list : List VersionValue)
-            → IsBestOf self range.now list (option_copied best.entry)
-            → IsBestOf self range.now (list ++ version.now ∷ [])
+            → IsBestOf self range.now include_prerelease list (option_copied best.entry)
+            → IsBestOf self range.now include_prerelease (list ++ version.now ∷ [])
             (if result then Some version.now else option_copied best.entry) }
     {
+        self.is_better(version, best)
+            && range.satisfies_with_prerelease(version, include_prerelease)
+    }
+
+    // Whether a version is better than the best so far, if there is one.
+    #[inline(always)]
+    fn is_better(self, version: &VersionRef<'_>, best: Option<&VersionRef<'_>>) -> bool
+        ensures { result
+            ≡ replaces (is_beaten self) (λ _. true) (option_copied best.entry) version.now }
+    {
+        let Some(best) = best else {
+            return true;
+        };
         match self {
-            Best::Max => range.is_new_max(version, best),
-            Best::Min => range.is_new_min(version, best),
+            Best::Max => best.cmp_precedence(version).is_le(),
+            Best::Min => version.cmp_precedence(best).is_lt(),
         }
     }
 }
@@ -104,14 +118,14 @@ fn best_of(
     versions: &[&[u8]],
     index: &mut usize,
 ) -> u32
-    ensures { TellsPlace (IsBestOf which range.now) reading versions.now
+    ensures { TellsPlace (IsBestOf which range.now false) reading versions.now
         index.old index.new result }
 {
     let mut best = None;
     let mut place = 0;
     'versions: for at in 0..versions.len() {
         match read::version(reading, versions[at]) {
-            Ok(version) => keep_better(which, range, version, at, &mut best, &mut place),
+            Ok(version) => keep_better(which, range, false, version, at, &mut best, &mut place),
             Err(status) => {
                 *index = at;
                 return status;
@@ -127,20 +141,22 @@ fn best_of(
     }
 }
 
-// Puts a version at a place in the place of the best so far, where it is better.
-fn keep_better<'t>(
+/// Puts a version at a place in the place of the best so far, where it is better.
+pub fn keep_better<'t>(
     which: Best,
     range: &RangeRef<'_>,
+    include_prerelease: bool,
     version: VersionRef<'t>,
     at: usize,
     best: &mut Option<VersionRef<'t>>,
     place: &mut usize,
 )
     ensures { (vs : List VersionValue) → length vs ≡ at
-        → IsBestAt (IsBestOf which range.now) vs best.old place.old
-        → IsBestAt (IsBestOf which range.now) (vs ++ version.entry ∷ []) best.new place.new }
+        → IsBestAt (IsBestOf which range.now include_prerelease) vs best.old place.old
+        → IsBestAt (IsBestOf which range.now include_prerelease) (vs ++ version.entry ∷ [])
+        best.new place.new }
 {
-    if which.is_new_best(range, &version, best.as_ref()) {
+    if which.is_new_best(range, include_prerelease, &version, best.as_ref()) {
         *best = Some(version);
         *place = at;
     }

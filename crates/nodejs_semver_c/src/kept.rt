@@ -1,21 +1,21 @@
 // Questions about versions that the caller keeps.
 
 ghost use Rattle.nodejs_semver_c.specs.Answers.{Kept, OnVersion, Prints};
-ghost use Rattle.nodejs_semver_c.specs.Kept.{ComesBack, IsKept, OnKept, RefusesKept};
-ghost use Rattle.nodejs_semver_c.specs.Kept.{RefusesList, TellsVersion, list_text};
+ghost use Rattle.nodejs_semver_c.specs.Kept.{IsKept, OnKept, PutsVersion, RefusesKept, RefusesList};
+ghost use Rattle.nodejs_semver_c.specs.Kept.{TellsVersion, kept_texts, list_text, parts_of};
 ghost use Rattle.nodejs_semver_c.specs.Numbers.{kind_number, order_number};
 ghost use Rattle.semver_core.specs.Difference.{kind_between};
 ghost use Rattle.semver_core.specs.Printing.Text.{version_text};
 ghost use Rattle.semver_core.specs.Text.Identifiers.{is_listed};
 ghost use Rattle.semver_core.specs.Values.Order.{build_order, precedence};
-ghost use Rattle.std.specs.Prelude.{◌≡◌, ◌++◌, IfErr, IfOk, OnOk, true};
+ghost use Rattle.std.specs.Prelude.{◌≡◌, ◌<◌, ◌^◌, ◌++◌, IfErr, IfOk, OnOk, length, true};
 
 use crate::pieces::put_list;
 use crate::print::{Printed, counted, print};
 use crate::read::{self, MOST_BYTES};
 use crate::versions::{kind_of, number_of};
 use crate::{BAD_VERSION, OK, TOO_LONG, TOO_SMALL};
-use nodejs_semver::{Identifier, IdentifierRefs, VersionRef, cmp_build};
+use nodejs_semver::{Identifier, IdentifierRefs, VersionRef, Versioned, cmp_build};
 
 /// A version in the memory of the caller.
 #[repr(C)]
@@ -65,7 +65,7 @@ fn check_list(text: &[u8]) -> Result<(), u32>
 
 /// The version that the caller keeps, or the status that rejects a text of it.
 #[inline(always)]
-fn kept<'a>(version: &Version<'a>) -> Result<VersionRef<'a>, u32>
+pub fn kept<'a>(version: &Version<'a>) -> Result<VersionRef<'a>, u32>
     ensures ok { IfOk result (IsKept version.now) }
     ensures refused { IfErr result (RefusesKept version.now) }
 {
@@ -126,9 +126,9 @@ pub extern "C" fn nodejs_semver_version_read(
     }
 }
 
-fn tell(version: &VersionRef<'_>, parts: &mut Parts, out: &mut [u8]) -> u32
-    requires { ComesBack version.now }
-    ensures { TellsVersion version.now parts.old parts.new out.old out.new result }
+/// Tells the parts of a version, and puts its texts to the front of a buffer.
+pub fn tell<V: Versioned>(version: &V, parts: &mut Parts, out: &mut [u8]) -> u32
+    ensures { PutsVersion (V.value version.now) parts.old parts.new out.old out.new result }
 {
     let texts = Texts {
         pre_release: version.pre_release(),
@@ -138,19 +138,27 @@ fn tell(version: &VersionRef<'_>, parts: &mut Parts, out: &mut [u8]) -> u32
     if needed > MOST_BYTES {
         return TOO_LONG;
     }
-    *parts = Parts {
-        major: version.major(),
-        minor: version.minor(),
-        patch: version.patch(),
-        pre_release_len: counted(&texts.pre_release),
-        build_len: counted(&texts.build),
-    };
+    *parts = parts_of(version);
     if out.len() < needed {
         return TOO_SMALL;
     }
     let mut end = 0;
     texts.put(out, &mut end);
     OK
+}
+
+/// The numbers of a version, and how long its texts are.
+pub fn parts_of<V: Versioned>(version: &V) -> Parts
+    requires { length (kept_texts (V.value version.now)) < 2 ^ 63 }
+    ensures { result ≡ parts_of (V.value version.now) }
+{
+    Parts {
+        major: version.major(),
+        minor: version.minor(),
+        patch: version.patch(),
+        pre_release_len: counted(&version.pre_release()),
+        build_len: counted(&version.build()),
+    }
 }
 
 /// How the first version compares to the second: `order` gets -1, 0 or 1. Build metadata does not

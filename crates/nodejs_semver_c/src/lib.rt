@@ -14,7 +14,10 @@ mod choices;
 mod diagnosis;
 mod flaws;
 mod found;
+mod intervals;
 mod kept;
+mod kept_ranges;
+mod kept_sets;
 mod messages;
 mod pieces;
 mod print;
@@ -151,6 +154,15 @@ pub const WORD_MALFORMED: u32 = 0;
 /// The word has a form, but names no versions.
 pub const WORD_WITHOUT_BOUNDS: u32 = 1;
 
+/// There is no bound on this side. Its version is not looked at.
+pub const BOUND_NONE: u32 = 0;
+
+/// The version of the bound lies within the interval: `>=` below, `<=` above.
+pub const BOUND_CLOSED: u32 = 1;
+
+/// The version of the bound lies outside the interval: `>` below, `<` above.
+pub const BOUND_OPEN: u32 = 2;
+
 /// The range does not accept the version.
 pub const ANSWER_NO: u8 = 0;
 
@@ -176,5 +188,6 @@ pub fn constants()
         ∷ WRONG_DIGIT ∷ WRONG_DOT ∷ WRONG_IDENTIFIER ∷ WRONG_BEHIND ∷ WRONG_TOO_LONG ∷ []
         ≡ range_with_len 0 9 }
     ensures words { WORD_MALFORMED ∷ WORD_WITHOUT_BOUNDS ∷ [] ≡ range_with_len 0 2 }
+    ensures bounds { BOUND_NONE ∷ BOUND_CLOSED ∷ BOUND_OPEN ∷ [] ≡ range_with_len 0 3 }
     ensures answers { ANSWER_NO ∷ ANSWER_YES ∷ ANSWER_NO_VERSION ∷ [] ≡ range_with_len 0 3 }
 {}

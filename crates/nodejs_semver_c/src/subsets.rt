@@ -80,7 +80,8 @@ pub extern "C" fn nodejs_semver_range_is_subset(
     }
 }
 
-fn is_subset<'t>(
+/// Whether the second range accepts what the first accepts, pre-releases included or not.
+pub fn is_subset<'t>(
     alloc: Global,
     include_prerelease: bool,
     range: &RangeRef<'t>,

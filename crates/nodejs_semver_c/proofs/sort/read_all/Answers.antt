@@ -2,6 +2,7 @@ use Rattle.std.proofs.Common.{◌∷◌, ◌++◌, [], arith, inl, length-append
 use Rattle.std.proofs.lemmas.List.{take_more}
 use Rattle.nodejs_semver_c.proofs.Places.{AllZip-append, refused_at}
 use Rattle.nodejs_semver_c.proofs.Sorting.{placed_more}
+use Rattle.nodejs_semver_c.specs.Answers.{IsVersionOf, RefusesVersion}
 use Rattle.nodejs_semver_c.proofs.sort.read_all.Goals as goal
 
 pub versions-init : goal.versions-init
@@ -10,7 +11,7 @@ versions-init c = ([], (refl, (tt, (c.requires, refl))))
 pub returns-in-Err-clause-refused : goal.returns-in-Err-clause-refused
 returns-in-Err-clause-refused c =
     let (vs, (counted, (read, (all, kept)))) = c.versions.invariant in
-    inl (refused_at c.args.reading _ _ _ _ vs c.versions-test.true read c.in-Err.ensures.refused)
+    inl (refused_at (λ text v. IsVersionOf c.args.reading text.now v) (λ text. RefusesVersion c.args.reading text.now) _ _ _ _ vs c.versions-test.true read c.in-Err.ensures.refused)
 
 pub versions-preserved : goal.versions-preserved
 versions-preserved c =

@@ -1,7 +1,11 @@
+use Rattle.std.proofs.Common.{refl, sym}
+use Rattle.nodejs_semver_c.proofs.Places.{best_more}
 use Rattle.nodejs_semver_c.proofs.choices.Best.is_new_best.Goals as goal
 
-pub returns-in-Max : goal.returns-in-Max
-returns-in-Max c = rw c.in-Max.is c.is_new_max.ensures.best
+pub returns-then-is_better : goal.returns-then-is_better
+returns-then-is_better c = λ list. best_more c.args.self c.args.range.now c.args.include_prerelease list _ _ _ _ (c.is_better.ensures)
+    (rw (c.if-is_better.true, sym c.satisfies_with_prerelease.ensures.gate) refl)
 
-pub returns-in-Min : goal.returns-in-Min
-returns-in-Min c = rw c.in-Min.is c.is_new_min.ensures.best
+pub returns-else-is_better : goal.returns-else-is_better
+returns-else-is_better c = λ list. best_more c.args.self c.args.range.now c.args.include_prerelease list _ _ _ _ (c.is_better.ensures)
+    (rw c.if-is_better.false refl)
