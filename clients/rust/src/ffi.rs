@@ -1,6 +1,7 @@
 //! The functions of the C library, each with a call that is safe for every argument. This is the
 //! one module with unsafe code: it passes slices as a pointer and a length, and keeps no pointer.
 
+use crate::interval::{Bound, Interval};
 use crate::{Range, Version};
 use std::alloc::{handle_alloc_error, Layout};
 use std::cmp::Ordering;
@@ -57,11 +58,46 @@ pub(crate) struct Kept<'a> {
 
 /// The parts of a version: its numbers, and how long its texts are.
 #[repr(C)]
-#[derive(Default)]
+#[derive(Clone, Copy, Default)]
 struct Parts {
     numbers: [u64; 3],
     pre_release_len: usize,
     build_len: usize,
+}
+
+/// Kinds of bounds.
+pub(crate) const BOUND_NONE: u32 = 0;
+pub(crate) const BOUND_CLOSED: u32 = 1;
+pub(crate) const BOUND_OPEN: u32 = 2;
+
+/// A bound that is kept. Without a bound the version is not looked at.
+#[repr(C)]
+pub(crate) struct KeptBound<'a> {
+    pub(crate) kind: u32,
+    pub(crate) version: Kept<'a>,
+}
+
+/// An interval that is kept. A range is some of them.
+#[repr(C)]
+pub(crate) struct KeptInterval<'a> {
+    pub(crate) lower: KeptBound<'a>,
+    pub(crate) upper: KeptBound<'a>,
+}
+
+/// What is told of a bound.
+#[repr(C)]
+#[derive(Clone, Copy, Default)]
+struct BoundParts {
+    kind: u32,
+    version: Parts,
+}
+
+/// What is told of an interval.
+#[repr(C)]
+#[derive(Clone, Copy, Default)]
+struct IntervalParts {
+    lower: BoundParts,
+    upper: BoundParts,
 }
 
 /// A word of a range text.
@@ -112,92 +148,93 @@ extern "C" {
         size: usize,
         out_len: *mut usize,
     ) -> Status;
-    fn nodejs_semver_range_print(
+    fn nodejs_semver_range_read(
         reading: u32,
         range: Bytes,
         len: usize,
-        out: *mut u8,
+        include: bool,
+        intervals: *mut IntervalParts,
         size: usize,
+        count: *mut usize,
+        out: *mut u8,
+        out_size: usize,
         out_len: *mut usize,
     ) -> Status;
-    fn nodejs_semver_range_min_version(
-        reading: u32,
-        range: Bytes,
+    fn nodejs_semver_accepts(
+        range: *const KeptInterval,
         len: usize,
-        out: *mut u8,
-        size: usize,
-        out_len: *mut usize,
-    ) -> Status;
-    fn nodejs_semver_range_intersect(
-        reading: u32,
-        range: Bytes,
-        len: usize,
-        other: Bytes,
-        other_len: usize,
-        out: *mut u8,
-        size: usize,
-        out_len: *mut usize,
-    ) -> Status;
-    fn nodejs_semver_range_difference(
-        reading: u32,
-        range: Bytes,
-        len: usize,
-        other: Bytes,
-        other_len: usize,
-        out: *mut u8,
-        size: usize,
-        out_len: *mut usize,
-    ) -> Status;
-    fn nodejs_semver_range_satisfies(
-        reading: u32,
-        range: Bytes,
-        len: usize,
-        version: Bytes,
-        version_len: usize,
+        version: *const Kept,
         include: bool,
         answer: *mut bool,
     ) -> Status;
-    fn nodejs_semver_range_outside(
-        reading: u32,
-        range: Bytes,
+    fn nodejs_semver_greatest(
+        range: *const KeptInterval,
         len: usize,
-        version: Bytes,
-        version_len: usize,
+        versions: *const Kept,
+        count: usize,
+        include: bool,
+        index: *mut usize,
+    ) -> Status;
+    fn nodejs_semver_least(
+        range: *const KeptInterval,
+        len: usize,
+        versions: *const Kept,
+        count: usize,
+        include: bool,
+        index: *mut usize,
+    ) -> Status;
+    fn nodejs_semver_meets(
+        range: *const KeptInterval,
+        len: usize,
+        other: *const KeptInterval,
+        other_len: usize,
+        answer: *mut bool,
+    ) -> Status;
+    fn nodejs_semver_covers(
+        range: *const KeptInterval,
+        len: usize,
+        other: *const KeptInterval,
+        other_len: usize,
+        answer: *mut bool,
+    ) -> Status;
+    fn nodejs_semver_lies_outside(
+        range: *const KeptInterval,
+        len: usize,
+        version: *const Kept,
         above: bool,
         include: bool,
         answer: *mut bool,
     ) -> Status;
-    fn nodejs_semver_range_allows_all(
-        reading: u32,
-        range: Bytes,
+    fn nodejs_semver_least_version(
+        range: *const KeptInterval,
         len: usize,
-        other: Bytes,
+        parts: *mut Parts,
+        out: *mut u8,
+        size: usize,
+    ) -> Status;
+    fn nodejs_semver_intersect(
+        range: *const KeptInterval,
+        len: usize,
+        other: *const KeptInterval,
         other_len: usize,
-        answer: *mut bool,
+        intervals: *mut IntervalParts,
+        size: usize,
+        count: *mut usize,
+        out: *mut u8,
+        out_size: usize,
+        out_len: *mut usize,
     ) -> Status;
-    fn nodejs_semver_range_allows_any(
-        reading: u32,
-        range: Bytes,
+    fn nodejs_semver_difference(
+        range: *const KeptInterval,
         len: usize,
-        other: Bytes,
+        other: *const KeptInterval,
         other_len: usize,
-        answer: *mut bool,
-    ) -> Status;
-    fn nodejs_semver_range_max_satisfying(
-        reading: u32,
-        range: Bytes,
-        len: usize,
-        versions: *const Text,
-        count: usize,
-        index: *mut usize,
-    ) -> Status;
-    fn nodejs_semver_range_min_satisfying(
-        reading: u32,
-        range: Bytes,
-        len: usize,
-        versions: *const Text,
-        count: usize,
-        index: *mut usize,
+        intervals: *mut IntervalParts,
+        size: usize,
+        count: *mut usize,
+        out: *mut u8,
+        out_size: usize,
+        out_len: *mut usize,
     ) -> Status;
 }
 
@@ -216,43 +253,104 @@ fn checked(status: Status) -> Status {
 }
 
 /// A version that was read: its numbers, the text of its pre-release and then that of its build.
-pub(crate) struct Read {
+pub(crate) struct Read<'a> {
     pub(crate) numbers: [u64; 3],
-    pub(crate) text: String,
+    pub(crate) text: &'a str,
     pub(crate) pre_release_len: usize,
 }
 
-/// Reads a version.
-pub(crate) fn read(reading: Reading, version: &str) -> Option<Read> {
-    let (mut parts, mut few) = (Parts::default(), [0u8; crate::MAX_LENGTH]);
-    let mut ask = |out: &mut [u8]| {
-        let (at, len) = (version.as_ptr(), version.len());
-        // SAFETY: each pointer is of a slice with that length, and `parts` is a whole value.
-        unsafe {
-            let size = out.len();
-            let out = out.as_mut_ptr();
-            nodejs_semver_version_read(reading as u32, at, len, &mut parts, out, size)
-        }
-    };
-    let mut status = ask(&mut few);
-    let mut more = Vec::new();
-    let mut out: &[u8] = &few;
+/// The version that a call tells in parts, or the status.
+fn version_told(
+    mut call: impl FnMut(&mut Parts, *mut u8, usize) -> Status,
+) -> Result<Version, Status> {
+    let (mut parts, mut few, mut more) = (Parts::default(), [0u8; crate::MAX_LENGTH], Vec::new());
+    let mut out: &mut [u8] = &mut few;
+    let mut status = call(&mut parts, out.as_mut_ptr(), out.len());
     if status == TOO_SMALL {
-        more.resize(version.len(), 0);
-        status = ask(&mut more);
-        out = &more;
+        more.resize(parts.pre_release_len.saturating_add(parts.build_len), 0);
+        out = &mut more;
+        status = call(&mut parts, out.as_mut_ptr(), out.len());
+    }
+    match checked(status) {
+        // The library writes ASCII within the buffer, so that this does not fail.
+        OK => parts.version(&mut &*out).ok_or(BAD_ARGUMENT),
+        status => Err(status),
+    }
+}
+
+impl Parts {
+    /// The version, whose texts are the next ones of these.
+    fn version(&self, texts: &mut &[u8]) -> Option<Version> {
+        let len = self.pre_release_len.checked_add(self.build_len)?;
+        let text = texts.get(..len)?;
+        *texts = texts.get(len..)?;
+        let text = str::from_utf8(text).ok()?;
+        text.is_char_boundary(self.pre_release_len).then_some(())?;
+        let (numbers, pre_release_len) = (self.numbers, self.pre_release_len);
+        Some(Version::of(Read {
+            numbers,
+            text,
+            pre_release_len,
+        }))
+    }
+}
+
+impl BoundParts {
+    fn bound(&self, texts: &mut &[u8]) -> Option<Bound> {
+        let version = self.version.version(texts)?;
+        Some(match self.kind {
+            BOUND_CLOSED => Bound::Closed(version),
+            BOUND_OPEN => Bound::Open(version),
+            _ => Bound::None,
+        })
+    }
+}
+
+/// Reads a version.
+pub(crate) fn read(reading: Reading, version: &str) -> Result<Version, Status> {
+    let (at, len) = (version.as_ptr(), version.len());
+    // SAFETY: each pointer is of a slice with the length after it, and `parts` is a whole value.
+    version_told(|parts, out, size| unsafe {
+        nodejs_semver_version_read(reading as u32, at, len, parts, out, size)
+    })
+}
+
+/// Where a call tells the intervals of a range: the parts, their number, the texts, their length.
+struct Room<'a>(
+    &'a mut [IntervalParts],
+    &'a mut usize,
+    &'a mut [u8],
+    &'a mut usize,
+);
+
+/// The intervals that a call tells, or the status. Most fit into the first room.
+fn range_told(mut call: impl FnMut(&mut Room) -> Status) -> Result<Range, Status> {
+    let (mut count, mut len) = (0, 0);
+    let (mut few, mut short) = ([IntervalParts::default(); 4], [0u8; 256]);
+    let (mut many, mut long) = (Vec::new(), Vec::new());
+    let mut status = call(&mut Room(&mut few, &mut count, &mut short, &mut len));
+    let (mut parts, mut texts): (&[IntervalParts], &[u8]) = (&few, &short);
+    if status == TOO_SMALL {
+        many.resize(count, IntervalParts::default());
+        long.resize(len, 0);
+        status = call(&mut Room(&mut many, &mut count, &mut long, &mut len));
+        (parts, texts) = (&many, &long);
     }
     if checked(status) != OK {
-        return None;
+        return Err(status);
     }
-    let text = out.get(..parts.pre_release_len.checked_add(parts.build_len)?)?;
-    let text = String::from_utf8(text.to_vec()).ok()?;
-    text.is_char_boundary(parts.pre_release_len).then_some(())?;
-    Some(Read {
-        numbers: parts.numbers,
-        text,
-        pre_release_len: parts.pre_release_len,
-    })
+    let told = parts.get(..count).unwrap_or_default().iter();
+    // The library writes as many texts as the parts say, so that this does not fail.
+    let intervals = told.map(|it| {
+        Some(Interval {
+            lower: it.lower.bound(&mut texts)?,
+            upper: it.upper.bound(&mut texts)?,
+        })
+    });
+    intervals
+        .collect::<Option<Box<[Interval]>>>()
+        .map(Range::of)
+        .ok_or(BAD_ARGUMENT)
 }
 
 /// What is made of the text that a call writes, or the status. Most fit into the first buffer.
@@ -293,28 +391,24 @@ pub(crate) fn inc(version: &[u8], word: &str, id: &str, base: u32) -> Result<Ver
     )
 }
 
-/// A range of a text.
+/// Reads a range.
 pub(crate) fn read_range(reading: Reading, range: &str) -> Result<Range, Status> {
     let (at, len) = (range.as_ptr(), range.len());
     // SAFETY: each pointer is of a slice with the length after it.
-    written(
-        |out, size, out_len| unsafe {
-            nodejs_semver_range_print(reading as u32, at, len, out, size, out_len)
-        },
-        Range::of_printed,
-    )
-}
-
-/// The smallest version of a range.
-pub(crate) fn min_version(range: &str) -> Result<Version, Status> {
-    let (at, len) = (range.as_ptr(), range.len());
-    // SAFETY: each pointer is of a slice with the length after it.
-    written(
-        |out, size, out_len| unsafe {
-            nodejs_semver_range_min_version(PORT, at, len, out, size, out_len)
-        },
-        Version::of_printed,
-    )
+    range_told(|Room(parts, count, out, out_len)| unsafe {
+        nodejs_semver_range_read(
+            reading as u32,
+            at,
+            len,
+            false,
+            parts.as_mut_ptr(),
+            parts.len(),
+            *count,
+            out.as_mut_ptr(),
+            out.len(),
+            *out_len,
+        )
+    })
 }
 
 /// A question about two ranges whose answer is a range.
@@ -324,28 +418,38 @@ pub(crate) enum Operation {
 }
 
 /// What two ranges have in common, or the first without the second.
-pub(crate) fn combine(how: Operation, range: &str, other: &str) -> Result<Range, Status> {
+pub(crate) fn combine(
+    how: Operation,
+    range: &[KeptInterval],
+    other: &[KeptInterval],
+) -> Result<Range, Status> {
     let call = match how {
-        Operation::Intersect => nodejs_semver_range_intersect,
-        Operation::Difference => nodejs_semver_range_difference,
+        Operation::Intersect => nodejs_semver_intersect,
+        Operation::Difference => nodejs_semver_difference,
     };
-    let (at, len) = (range.as_ptr(), range.len());
-    // SAFETY: each pointer is of a slice with the length after it.
-    written(
-        |out, size, out_len| unsafe {
-            call(
-                PORT,
-                at,
-                len,
-                other.as_ptr(),
-                other.len(),
-                out,
-                size,
-                out_len,
-            )
-        },
-        Range::of_printed,
-    )
+    // SAFETY: each pointer is of a slice with the length after it. The texts live as long.
+    range_told(|Room(parts, count, out, out_len)| unsafe {
+        call(
+            range.as_ptr(),
+            range.len(),
+            other.as_ptr(),
+            other.len(),
+            parts.as_mut_ptr(),
+            parts.len(),
+            *count,
+            out.as_mut_ptr(),
+            out.len(),
+            *out_len,
+        )
+    })
+}
+
+/// The smallest version of a range.
+pub(crate) fn min_version(range: &[KeptInterval]) -> Result<Version, Status> {
+    // SAFETY: each pointer is of a slice with the length after it. The texts live as long.
+    version_told(|parts, out, size| unsafe {
+        nodejs_semver_least_version(range.as_ptr(), range.len(), parts, out, size)
+    })
 }
 
 /// The answer of a call, or the status.
@@ -358,58 +462,79 @@ fn answered<T: Default>(call: impl FnOnce(&mut T) -> Status) -> Result<T, Status
 }
 
 /// Whether a range accepts a version.
-pub(crate) fn satisfies(range: &str, version: &[u8], include: bool) -> Result<bool, Status> {
-    let (at, len) = (range.as_ptr(), range.len());
-    // SAFETY: each pointer is of a slice with the length after it.
+pub(crate) fn accepts(
+    range: &[KeptInterval],
+    version: &Kept,
+    include: bool,
+) -> Result<bool, Status> {
+    // SAFETY: the pointer is of a slice with that length. The texts live as long.
     answered(|answer| unsafe {
-        let (version, version_len) = (version.as_ptr(), version.len());
-        nodejs_semver_range_satisfies(PORT, at, len, version, version_len, include, answer)
+        nodejs_semver_accepts(range.as_ptr(), range.len(), version, include, answer)
     })
 }
 
 /// Whether a version lies above a range, or below it.
 pub(crate) fn outside(
-    range: &str,
-    version: &[u8],
+    range: &[KeptInterval],
+    version: &Kept,
     above: bool,
     include: bool,
 ) -> Result<bool, Status> {
-    let (at, len) = (range.as_ptr(), range.len());
-    // SAFETY: each pointer is of a slice with the length after it.
+    // SAFETY: the pointer is of a slice with that length. The texts live as long.
     answered(|answer| unsafe {
-        let (version, version_len) = (version.as_ptr(), version.len());
-        nodejs_semver_range_outside(PORT, at, len, version, version_len, above, include, answer)
+        nodejs_semver_lies_outside(range.as_ptr(), range.len(), version, above, include, answer)
     })
 }
 
 /// Whether an interval of the first range covers one of the second.
-pub(crate) fn allows_all(range: &str, other: &str) -> Result<bool, Status> {
-    let (at, len) = (range.as_ptr(), range.len());
-    // SAFETY: each pointer is of a slice with the length after it.
+pub(crate) fn covers(range: &[KeptInterval], other: &[KeptInterval]) -> Result<bool, Status> {
+    // SAFETY: each pointer is of a slice with the length after it. The texts live as long.
     answered(|answer| unsafe {
-        nodejs_semver_range_allows_all(PORT, at, len, other.as_ptr(), other.len(), answer)
+        nodejs_semver_covers(
+            range.as_ptr(),
+            range.len(),
+            other.as_ptr(),
+            other.len(),
+            answer,
+        )
     })
 }
 
 /// Whether two ranges have something in common.
-pub(crate) fn allows_any(range: &str, other: &str) -> Result<bool, Status> {
-    let (at, len) = (range.as_ptr(), range.len());
-    // SAFETY: each pointer is of a slice with the length after it.
+pub(crate) fn meets(range: &[KeptInterval], other: &[KeptInterval]) -> Result<bool, Status> {
+    // SAFETY: each pointer is of a slice with the length after it. The texts live as long.
     answered(|answer| unsafe {
-        nodejs_semver_range_allows_any(PORT, at, len, other.as_ptr(), other.len(), answer)
+        nodejs_semver_meets(
+            range.as_ptr(),
+            range.len(),
+            other.as_ptr(),
+            other.len(),
+            answer,
+        )
     })
 }
 
 /// The place of the greatest version that a range accepts, or of the smallest.
-pub(crate) fn best(range: &str, versions: &[Text], is_greatest: bool) -> Result<usize, Status> {
+pub(crate) fn best(
+    range: &[KeptInterval],
+    versions: &[Kept],
+    is_greatest: bool,
+) -> Result<usize, Status> {
     let call = match is_greatest {
-        true => nodejs_semver_range_max_satisfying,
-        false => nodejs_semver_range_min_satisfying,
+        true => nodejs_semver_greatest,
+        false => nodejs_semver_least,
     };
-    let (at, len) = (range.as_ptr(), range.len());
-    // SAFETY: each pointer is of a slice with the length after it. Those of the texts live as long
-    // as `versions`, and none is NULL, since a slice has none.
-    answered(|index| unsafe { call(PORT, at, len, versions.as_ptr(), versions.len(), index) })
+    // SAFETY: each pointer is of a slice with the length after it. The texts live as long.
+    answered(|index| unsafe {
+        call(
+            range.as_ptr(),
+            range.len(),
+            versions.as_ptr(),
+            versions.len(),
+            false,
+            index,
+        )
+    })
 }
 
 /// The order of two versions that are kept.

@@ -1,7 +1,8 @@
 //! The intervals of a range, and the rules by which they are asked where the library is not: about
 //! versions and ranges that no text spells.
 
-use crate::{Identifier, Version};
+use crate::ffi::{self, Kept, KeptBound, KeptInterval, Text};
+use crate::Version;
 use std::fmt;
 
 /// One end of an interval.
@@ -24,26 +25,39 @@ pub(crate) struct Interval {
 
 /// A place in the order of versions: just before a version, or just after it.
 #[derive(PartialEq, Eq, PartialOrd, Ord)]
-enum Cut<'a> {
+pub(crate) enum Cut<'a> {
     Start,
     At(&'a Version, bool),
     End,
 }
 
 impl Bound {
+    fn kept(&self) -> KeptBound<'_> {
+        let none = || Kept {
+            numbers: [0; 3],
+            pre_release: Text::of(b""),
+            build: Text::of(b""),
+        };
+        match self {
+            Bound::None => KeptBound {
+                kind: ffi::BOUND_NONE,
+                version: none(),
+            },
+            Bound::Closed(it) => KeptBound {
+                kind: ffi::BOUND_CLOSED,
+                version: it.kept_whole(),
+            },
+            Bound::Open(it) => KeptBound {
+                kind: ffi::BOUND_OPEN,
+                version: it.kept_whole(),
+            },
+        }
+    }
+
     pub(crate) fn version(&self) -> Option<&Version> {
         match self {
             Bound::None => None,
             Bound::Closed(version) | Bound::Open(version) => Some(version),
-        }
-    }
-
-    /// The bound of what lies on its other side.
-    fn turned(&self) -> Bound {
-        match self {
-            Bound::None => Bound::None,
-            Bound::Closed(version) => Bound::Open(version.clone()),
-            Bound::Open(version) => Bound::Closed(version.clone()),
         }
     }
 
@@ -55,6 +69,14 @@ impl Bound {
 }
 
 impl Interval {
+    /// The interval as the library keeps one.
+    pub(crate) fn kept(&self) -> KeptInterval<'_> {
+        KeptInterval {
+            lower: self.lower.kept(),
+            upper: self.upper.kept(),
+        }
+    }
+
     pub(crate) const ANY: Interval = Interval {
         lower: Bound::None,
         upper: Bound::None,
@@ -65,7 +87,7 @@ impl Interval {
         matches!((&self.lower, &self.upper), (Bound::None, Bound::None))
     }
 
-    fn low(&self) -> Cut<'_> {
+    pub(crate) fn low(&self) -> Cut<'_> {
         match &self.lower {
             Bound::None => Cut::Start,
             Bound::Closed(version) => Cut::At(version, false),
@@ -73,7 +95,7 @@ impl Interval {
         }
     }
 
-    fn high(&self) -> Cut<'_> {
+    pub(crate) fn high(&self) -> Cut<'_> {
         match &self.upper {
             Bound::None => Cut::End,
             Bound::Closed(version) => Cut::At(version, true),
@@ -101,86 +123,6 @@ impl Interval {
     pub(crate) fn begins_above(&self, version: &Version) -> bool {
         self.is_any() || self.lower != Bound::None && self.high() > Cut::At(version, false)
     }
-
-    pub(crate) fn covers(&self, other: &Interval) -> bool {
-        self.low() <= other.low() && other.high() <= self.high()
-    }
-
-    /// What two intervals have in common. Of equal lower bounds it has the other's one, and of
-    /// equal upper bounds its own one.
-    pub(crate) fn meet(&self, other: &Interval) -> Option<Interval> {
-        let lower = if self.low() > other.low() {
-            &self.lower
-        } else {
-            &other.lower
-        };
-        let upper = if other.high() < self.high() {
-            &other.upper
-        } else {
-            &self.upper
-        };
-        Interval::between(lower.clone(), upper.clone())
-    }
-
-    fn between(lower: Bound, upper: Bound) -> Option<Interval> {
-        let found = Interval { lower, upper };
-        (found.low() < found.high()).then_some(found)
-    }
-
-    /// What is left of it below another one, and above that.
-    pub(crate) fn minus(&self, other: &Interval) -> Vec<Interval> {
-        if self.meet(other).is_none() {
-            return vec![self.clone()];
-        }
-        let below = (other.lower != Bound::None)
-            .then(|| Interval::between(self.lower.clone(), other.lower.turned()));
-        let above = (other.upper != Bound::None)
-            .then(|| Interval::between(other.upper.turned(), self.upper.clone()));
-        [below, above].into_iter().flatten().flatten().collect()
-    }
-
-    /// The smallest version that it accepts.
-    pub(crate) fn least(&self) -> Option<Version> {
-        let first = match &self.lower {
-            Bound::None => with_pre([0; 3], vec![Identifier::Numeric(0)], Vec::new()),
-            Bound::Closed(version) => version.clone(),
-            Bound::Open(version) => after(version)?,
-        };
-        let build = match self.lower {
-            Bound::None => Vec::new(),
-            _ => first.build().to_vec(),
-        };
-        let release = with_pre(first.numbers(), Vec::new(), build);
-        // What the upper bound alone lets in begins with this.
-        let named = self.upper.version().filter(|it| it.is_prerelease());
-        let named = named.map(|it| with_pre(it.numbers(), vec![Identifier::Numeric(0)], vec![]));
-        let accepted = [Some(first), Some(release), named].into_iter().flatten();
-        accepted.filter(|it| self.accepts(it, false)).min()
-    }
-}
-
-fn with_pre(
-    [major, minor, patch]: [u64; 3],
-    pre: Vec<Identifier>,
-    build: Vec<Identifier>,
-) -> Version {
-    Version::new(major, minor, patch, pre, build)
-}
-
-/// The smallest version above one, with its build.
-fn after(version: &Version) -> Option<Version> {
-    let ([major, minor, patch], build) = (version.numbers(), version.build().to_vec());
-    let mut pre = version.pre_release().to_vec();
-    pre.push(Identifier::Numeric(0));
-    if version.is_prerelease() {
-        return Some(with_pre(version.numbers(), pre, build));
-    }
-    let numbers = match (patch.checked_add(1), minor.checked_add(1)) {
-        (Some(patch), _) => [major, minor, patch],
-        (None, Some(minor)) => [major, minor, 0],
-        (None, None) => [major.checked_add(1)?, 0, 0],
-    };
-    Some(with_pre(numbers, pre, build))
 }
 
 /// Writes an interval, with `any` where it has no bounds.
@@ -214,34 +156,4 @@ pub(crate) fn write_all(list: &[Interval], any: &str, out: &mut impl fmt::Write)
         write(it, any, out)?;
     }
     Ok(())
-}
-
-/// The intervals of a range that the library printed.
-pub(crate) fn of_printed(text: &str) -> Option<Vec<Interval>> {
-    text.split("||").map(one_of_printed).collect()
-}
-
-fn one_of_printed(text: &str) -> Option<Interval> {
-    let mut found = Interval::ANY;
-    if text == "*" {
-        return Some(found);
-    }
-    for word in text.split(' ') {
-        if let Some(version) = word.strip_prefix(">=") {
-            found.lower = Bound::Closed(Version::of_printed(version)?);
-        } else if let Some(version) = word.strip_prefix('>') {
-            found.lower = Bound::Open(Version::of_printed(version)?);
-        } else if let Some(version) = word.strip_prefix("<=") {
-            found.upper = Bound::Closed(Version::of_printed(version)?);
-        } else if let Some(version) = word.strip_prefix('<') {
-            found.upper = Bound::Open(Version::of_printed(version)?);
-        } else {
-            let version = Version::of_printed(word)?;
-            found = Interval {
-                lower: Bound::Closed(version.clone()),
-                upper: Bound::Closed(version),
-            };
-        }
-    }
-    Some(found)
 }

@@ -18,12 +18,12 @@
 //!
 //! # What the library is not asked
 //!
-//! The library takes texts. A version with a number above [`MAX_SAFE_INTEGER`], with an identifier
-//! that no text spells, as `AlphaNumeric("1")`, or of more than [`MAX_LENGTH`] bytes has no text
-//! that can be read. It is made by [`Version::new`], by conversions and by [`Version::inc`], and
-//! never by [`Version::parse`]. A range with a bound of [`MAX_SAFE_INTEGER`] + 1 has no such text
-//! either: `^9007199254740991` has one. About these this package answers by the same rules in Rust.
-//! Its tests compare those answers with the library's wherever both can answer.
+//! A version with an identifier that no text spells, as `AlphaNumeric("1")`, is made by
+//! [`Version::new`] and [`Version::inc`], and never by [`Version::parse`]. Whether a range accepts
+//! one, and its order, this package answers by the same rules in Rust, and so it does for
+//! [`Version::inc`] of a version that prints more than [`MAX_LENGTH`] bytes or has a number above
+//! [`MAX_SAFE_INTEGER`]. Its tests compare these answers with the library's wherever both can
+//! answer.
 //!
 //! # Reading
 //!

@@ -1,10 +1,9 @@
 //! Ranges.
 
 use crate::error::{RangeError, SemverError};
-use crate::ffi::{self, Operation, Reading, Status, Text};
-use crate::interval::{of_printed, write_all, Interval};
-use crate::version::Asked;
-use crate::{Version, MAX_SAFE_INTEGER};
+use crate::ffi::{self, Kept, KeptInterval, Operation, Reading, Status};
+use crate::interval::{write_all, Interval};
+use crate::Version;
 use std::fmt;
 use std::hash::{Hash, Hasher};
 use std::str::FromStr;
@@ -16,8 +15,6 @@ use std::str::FromStr;
 #[derive(Clone)]
 pub struct Range {
     intervals: Box<[Interval]>,
-    // A text that the library reads as these intervals, if there is one.
-    text: Option<Box<str>>,
 }
 
 /// A side of a range.
@@ -50,52 +47,22 @@ impl TryFrom<char> for OutsideDirection {
     }
 }
 
-/// Whether a text is read as these intervals: no number of theirs is above the greatest that is
-/// read, and of several intervals one has a bound.
-fn has_text(intervals: &[Interval]) -> bool {
-    let bounds = intervals
-        .iter()
-        .flat_map(|it| [it.lower.version(), it.upper.version()]);
-    let mut numbers = bounds.flatten().flat_map(Version::numbers);
-    let is_one_or_bounded = intervals.len() == 1 || !intervals.iter().all(Interval::is_any);
-    numbers.all(|it| it <= MAX_SAFE_INTEGER) && is_one_or_bounded
-}
-
-/// The text that is read as these intervals.
-fn text_of(intervals: &[Interval]) -> Box<str> {
-    let mut text = String::new();
-    // Writing into a String does not fail.
-    let _ = write_all(intervals, "", &mut text);
-    text.into_boxed_str()
+/// Asks about the intervals as the library keeps them. Most ranges have one.
+fn with_kept<T>(intervals: &[Interval], ask: impl FnOnce(&[KeptInterval]) -> T) -> T {
+    match intervals {
+        [one] => ask(&[one.kept()]),
+        [one, two] => ask(&[one.kept(), two.kept()]),
+        all => ask(&all.iter().map(Interval::kept).collect::<Vec<_>>()),
+    }
 }
 
 impl Range {
-    pub(crate) fn of(intervals: Vec<Interval>) -> Range {
-        let text = has_text(&intervals).then(|| text_of(&intervals));
-        Range {
-            intervals: intervals.into_boxed_slice(),
-            text,
-        }
-    }
-
-    /// The range that the library printed. It is read back from that text, if there is no `*`.
-    pub(crate) fn of_printed(text: &str) -> Option<Range> {
-        let intervals = of_printed(text)?;
-        if !has_text(&intervals) || intervals.iter().any(Interval::is_any) {
-            return Some(Range::of(intervals));
-        }
-        Some(Range {
-            intervals: intervals.into_boxed_slice(),
-            text: Some(text.into()),
-        })
+    pub(crate) fn of(intervals: Box<[Interval]>) -> Range {
+        Range { intervals }
     }
 
     fn read(reading: Reading, text: &str) -> Result<Range, SemverError> {
-        let mut range = ffi::read_range(reading, text).map_err(|_| SemverError)?;
-        if range.text.is_none() && matches!(reading, Reading::Port) {
-            range.text = Some(text.into());
-        }
-        Ok(range)
+        ffi::read_range(reading, text).map_err(|_| SemverError)
     }
 
     /// Reads a range leniently, as the crate nodejs-semver does: words that it does not understand
@@ -119,7 +86,7 @@ impl Range {
 
     /// The range of all versions.
     pub fn any() -> Range {
-        Range::of(vec![Interval::ANY])
+        Range::of(Box::new([Interval::ANY]))
     }
 
     /// Whether the range accepts a version. A pre-release is accepted only where a bound names a
@@ -130,10 +97,13 @@ impl Range {
 
     /// Whether the range accepts a version, pre-releases included or not.
     pub fn satisfies_with_prerelease(&self, version: &Version, include_prerelease: bool) -> bool {
-        let asked = self.text.as_ref().zip(version.asked());
-        let answer =
-            asked.and_then(|(range, it)| ffi::satisfies(range, it.text(), include_prerelease).ok());
-        answer.unwrap_or_else(|| self.accepts(version, include_prerelease))
+        let asked = version.kept_if_spelled().and_then(|it| {
+            with_kept(&self.intervals, |range| {
+                ffi::accepts(range, &it, include_prerelease)
+            })
+            .ok()
+        });
+        asked.unwrap_or_else(|| self.accepts(version, include_prerelease))
     }
 
     /// The answer by the rules of this package.
@@ -143,29 +113,28 @@ impl Range {
             .any(|it| it.accepts(version, include_prerelease))
     }
 
-    /// Asks about two texts, or answers by the rules of this package.
+    /// Asks about two ranges.
     fn ask<T>(
         &self,
         other: &Range,
-        call: impl FnOnce(&str, &str) -> Result<T, Status>,
-        own: impl FnOnce(&[Interval], &[Interval]) -> T,
-    ) -> T {
-        let texts = self.text.as_ref().zip(other.text.as_ref());
-        let answer = texts.and_then(|(one, two)| call(one, two).ok());
-        answer.unwrap_or_else(|| own(&self.intervals, &other.intervals))
+        call: impl FnOnce(&[KeptInterval], &[KeptInterval]) -> Result<T, Status>,
+    ) -> Result<T, Status> {
+        with_kept(&self.intervals, |one| {
+            with_kept(&other.intervals, |two| call(one, two))
+        })
     }
 
     /// Whether some one interval of this range covers some one interval of the other.
     ///
     /// This is no test for subsets: `1 || 2` does not allow all of `>=1.0.0 <3.0.0`.
     pub fn allows_all(&self, other: &Range) -> bool {
-        self.ask(other, ffi::allows_all, rules::allows_all)
+        self.ask(other, ffi::covers).unwrap_or(false)
     }
 
     /// Whether both ranges have something in common, which is where [`Range::intersect`] is not
     /// `None`.
     pub fn allows_any(&self, other: &Range) -> bool {
-        self.ask(other, ffi::allows_any, rules::allows_any)
+        self.ask(other, ffi::meets).unwrap_or(false)
     }
 
     /// The same as [`Range::allows_any`]. The crate nodejs-semver has no such name.
@@ -175,24 +144,23 @@ impl Range {
 
     /// What both ranges have in common, if there is anything.
     pub fn intersect(&self, other: &Range) -> Option<Range> {
-        let call = |one: &str, two: &str| combined(Operation::Intersect, one, two);
-        self.ask(other, call, |one, two| some(rules::intersect(one, two)))
+        self.ask(other, |one, two| {
+            ffi::combine(Operation::Intersect, one, two)
+        })
+        .ok()
     }
 
     /// What this range holds and the other does not, if there is anything.
     pub fn difference(&self, other: &Range) -> Option<Range> {
-        let call = |one: &str, two: &str| combined(Operation::Difference, one, two);
-        self.ask(other, call, |one, two| some(rules::difference(one, two)))
+        self.ask(other, |one, two| {
+            ffi::combine(Operation::Difference, one, two)
+        })
+        .ok()
     }
 
     /// The smallest version that the range accepts, if it accepts any.
     pub fn min_version(&self) -> Option<Version> {
-        let asked = self.text.as_ref().map(|it| ffi::min_version(it));
-        match asked {
-            Some(Ok(version)) => Some(version),
-            Some(Err(ffi::NOTHING)) => None,
-            _ => rules::min_version(&self.intervals),
-        }
+        with_kept(&self.intervals, ffi::min_version).ok()
     }
 
     /// The greatest of some versions that the range accepts, the last of equal ones.
@@ -207,12 +175,15 @@ impl Range {
             .unwrap_or_else(|| versions.iter().filter(|it| self.satisfies(it)).min())
     }
 
-    /// The library's answer, unless a version or the range has no text.
+    /// The library's answer, unless a version has no text.
     fn best<'v>(&self, versions: &'v [Version], is_greatest: bool) -> Option<Option<&'v Version>> {
-        let range = self.text.as_ref()?;
-        let asked: Vec<Asked> = versions.iter().map(Version::asked).collect::<Option<_>>()?;
-        let texts: Vec<Text> = asked.iter().map(|it| Text::of(it.text())).collect();
-        match ffi::best(range, &texts, is_greatest) {
+        let asked = versions
+            .iter()
+            .map(Version::kept_if_spelled)
+            .collect::<Option<Vec<Kept>>>()?;
+        match with_kept(&self.intervals, |range| {
+            ffi::best(range, &asked, is_greatest)
+        }) {
             Ok(at) => Some(versions.get(at)),
             Err(ffi::NOTHING) => Some(None),
             Err(_) => None,
@@ -228,11 +199,12 @@ impl Range {
         include_prerelease: bool,
     ) -> Result<bool, RangeError> {
         let is_higher = direction == OutsideDirection::Higher;
-        let asked = self.text.as_ref().zip(version.asked());
-        let answer = asked.and_then(|(range, version)| {
-            ffi::outside(range, version.text(), is_higher, include_prerelease).ok()
+        let asked = version.kept_if_spelled().and_then(|it| {
+            let ask =
+                |range: &[KeptInterval]| ffi::outside(range, &it, is_higher, include_prerelease);
+            with_kept(&self.intervals, ask).ok()
         });
-        Ok(answer.unwrap_or_else(|| self.is_outside(version, is_higher, include_prerelease)))
+        Ok(asked.unwrap_or_else(|| self.is_outside(version, is_higher, include_prerelease)))
     }
 
     /// The answer by the rules of this package.
@@ -247,54 +219,6 @@ impl Range {
     #[cfg(test)]
     pub(crate) fn intervals(&self) -> &[Interval] {
         &self.intervals
-    }
-
-    #[cfg(test)]
-    pub(crate) fn text(&self) -> Option<&str> {
-        self.text.as_deref()
-    }
-}
-
-/// The range that an operation prints.
-fn combined(how: Operation, one: &str, two: &str) -> Result<Option<Range>, Status> {
-    match ffi::combine(how, one, two) {
-        Ok(range) => Ok(Some(range)),
-        Err(ffi::NOTHING) => Ok(None),
-        Err(status) => Err(status),
-    }
-}
-
-fn some(intervals: Vec<Interval>) -> Option<Range> {
-    (!intervals.is_empty()).then(|| Range::of(intervals))
-}
-
-/// What the library answers, by the same rules, about ranges that no text spells.
-pub(crate) mod rules {
-    use super::{Interval, Version};
-
-    pub(crate) fn allows_all(one: &[Interval], other: &[Interval]) -> bool {
-        one.iter()
-            .any(|it| other.iter().any(|covered| it.covers(covered)))
-    }
-
-    pub(crate) fn allows_any(one: &[Interval], other: &[Interval]) -> bool {
-        !intersect(one, other).is_empty()
-    }
-
-    pub(crate) fn intersect(one: &[Interval], other: &[Interval]) -> Vec<Interval> {
-        one.iter()
-            .flat_map(|it| other.iter().filter_map(|met| it.meet(met)))
-            .collect()
-    }
-
-    pub(crate) fn difference(one: &[Interval], other: &[Interval]) -> Vec<Interval> {
-        other.iter().fold(one.to_vec(), |left, taken| {
-            left.iter().flat_map(|it| it.minus(taken)).collect()
-        })
-    }
-
-    pub(crate) fn min_version(range: &[Interval]) -> Option<Version> {
-        range.iter().filter_map(Interval::least).min()
     }
 }
 

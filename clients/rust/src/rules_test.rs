@@ -1,9 +1,8 @@
 //! What this package answers about values that no text spells is what the library answers, wherever
 //! both can answer.
 
-use crate::interval::of_printed;
-use crate::range::rules;
-use crate::{IdentifierBase, IncrementError, OutsideDirection, Range, Version};
+use crate::interval::{Bound, Interval};
+use crate::{Identifier, IdentifierBase, IncrementError, OutsideDirection, Range, Version};
 
 /// The numbers of a linear congruence, which are the same in each run.
 struct Numbers(u64);
@@ -71,6 +70,129 @@ impl Numbers {
 
 const ROUNDS: usize = 20_000;
 
+impl Bound {
+    /// The bound of what lies on its other side.
+    fn turned(&self) -> Bound {
+        match self {
+            Bound::None => Bound::None,
+            Bound::Closed(version) => Bound::Open(version.clone()),
+            Bound::Open(version) => Bound::Closed(version.clone()),
+        }
+    }
+}
+
+impl Interval {
+    pub(crate) fn covers(&self, other: &Interval) -> bool {
+        self.low() <= other.low() && other.high() <= self.high()
+    }
+
+    /// What two intervals have in common. Of equal lower bounds it has the other's one, and of
+    /// equal upper bounds its own one.
+    pub(crate) fn meet(&self, other: &Interval) -> Option<Interval> {
+        let lower = if self.low() > other.low() {
+            &self.lower
+        } else {
+            &other.lower
+        };
+        let upper = if other.high() < self.high() {
+            &other.upper
+        } else {
+            &self.upper
+        };
+        Interval::between(lower.clone(), upper.clone())
+    }
+
+    fn between(lower: Bound, upper: Bound) -> Option<Interval> {
+        let found = Interval { lower, upper };
+        (found.low() < found.high()).then_some(found)
+    }
+
+    /// What is left of it below another one, and above that.
+    pub(crate) fn minus(&self, other: &Interval) -> Vec<Interval> {
+        if self.meet(other).is_none() {
+            return vec![self.clone()];
+        }
+        let below = (other.lower != Bound::None)
+            .then(|| Interval::between(self.lower.clone(), other.lower.turned()));
+        let above = (other.upper != Bound::None)
+            .then(|| Interval::between(other.upper.turned(), self.upper.clone()));
+        [below, above].into_iter().flatten().flatten().collect()
+    }
+
+    /// The smallest version that it accepts.
+    pub(crate) fn least(&self) -> Option<Version> {
+        let first = match &self.lower {
+            Bound::None => with_pre([0; 3], vec![Identifier::Numeric(0)], Vec::new()),
+            Bound::Closed(version) => version.clone(),
+            Bound::Open(version) => after(version)?,
+        };
+        let build = match self.lower {
+            Bound::None => Vec::new(),
+            _ => first.build().to_vec(),
+        };
+        let release = with_pre(first.numbers(), Vec::new(), build);
+        // What the upper bound alone lets in begins with this.
+        let named = self.upper.version().filter(|it| it.is_prerelease());
+        let named = named.map(|it| with_pre(it.numbers(), vec![Identifier::Numeric(0)], vec![]));
+        let accepted = [Some(first), Some(release), named].into_iter().flatten();
+        accepted.filter(|it| self.accepts(it, false)).min()
+    }
+}
+
+fn with_pre(
+    [major, minor, patch]: [u64; 3],
+    pre: Vec<Identifier>,
+    build: Vec<Identifier>,
+) -> Version {
+    Version::new(major, minor, patch, pre, build)
+}
+
+/// The smallest version above one, with its build.
+fn after(version: &Version) -> Option<Version> {
+    let ([major, minor, patch], build) = (version.numbers(), version.build().to_vec());
+    let mut pre = version.pre_release().to_vec();
+    pre.push(Identifier::Numeric(0));
+    if version.is_prerelease() {
+        return Some(with_pre(version.numbers(), pre, build));
+    }
+    let numbers = match (patch.checked_add(1), minor.checked_add(1)) {
+        (Some(patch), _) => [major, minor, patch],
+        (None, Some(minor)) => [major, minor, 0],
+        (None, None) => [major.checked_add(1)?, 0, 0],
+    };
+    Some(with_pre(numbers, pre, build))
+}
+
+/// The set operations, as their definitions have them.
+mod rules {
+    use super::{Interval, Version};
+
+    pub(crate) fn allows_all(one: &[Interval], other: &[Interval]) -> bool {
+        one.iter()
+            .any(|it| other.iter().any(|covered| it.covers(covered)))
+    }
+
+    pub(crate) fn allows_any(one: &[Interval], other: &[Interval]) -> bool {
+        !intersect(one, other).is_empty()
+    }
+
+    pub(crate) fn intersect(one: &[Interval], other: &[Interval]) -> Vec<Interval> {
+        one.iter()
+            .flat_map(|it| other.iter().filter_map(|met| it.meet(met)))
+            .collect()
+    }
+
+    pub(crate) fn difference(one: &[Interval], other: &[Interval]) -> Vec<Interval> {
+        other.iter().fold(one.to_vec(), |left, taken| {
+            left.iter().flat_map(|it| it.minus(taken)).collect()
+        })
+    }
+
+    pub(crate) fn min_version(range: &[Interval]) -> Option<Version> {
+        range.iter().filter_map(Interval::least).min()
+    }
+}
+
 #[test]
 fn questions_about_versions() {
     let mut numbers = Numbers(1);
@@ -123,7 +245,7 @@ fn questions_about_ranges() {
             "{one} {two}"
         );
         let shown = |it: Option<Range>| it.map(|it| it.to_string());
-        let by_rules = |it: Vec<_>| (!it.is_empty()).then(|| Range::of(it).to_string());
+        let by_rules = |it: Vec<_>| (!it.is_empty()).then(|| Range::of(it.into()).to_string());
         let both = shown(range.intersect(&other));
         met += usize::from(both.is_some());
         assert_eq!(
@@ -179,28 +301,5 @@ fn increments() {
                 }
             }
         }
-    }
-}
-
-/// A range that was read is kept as a text that is read as the same intervals.
-#[test]
-fn texts_of_ranges() {
-    let mut numbers = Numbers(4);
-    for _ in 0..ROUNDS {
-        let text = numbers.range();
-        let Ok(range) = Range::parse(&text) else {
-            continue;
-        };
-        assert_eq!(
-            of_printed(&range.to_string()).as_deref(),
-            Some(range.intervals()),
-            "{text}"
-        );
-        let asked = range.text().map(|it| Range::parse(it).unwrap());
-        assert_eq!(
-            asked.map(|it| it.to_string()),
-            Some(range.to_string()),
-            "{text}"
-        );
     }
 }

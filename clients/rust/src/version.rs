@@ -181,20 +181,16 @@ impl Version {
     /// # Ok::<(), nodejs_semver::SemverError>(())
     /// ```
     pub fn parse<S: AsRef<str>>(input: S) -> Result<Version, SemverError> {
-        ffi::read(Reading::Port, input.as_ref())
-            .map(Version::of)
-            .ok_or(SemverError)
+        ffi::read(Reading::Port, input.as_ref()).map_err(|_| SemverError)
     }
 
     /// Reads a version as npm does: the whole text, or an error. The crate nodejs-semver has no
     /// such call.
     pub fn parse_npm<S: AsRef<str>>(input: S) -> Result<Version, SemverError> {
-        ffi::read(Reading::Npm, input.as_ref())
-            .map(Version::of)
-            .ok_or(SemverError)
+        ffi::read(Reading::Npm, input.as_ref()).map_err(|_| SemverError)
     }
 
-    fn of(read: Read) -> Version {
+    pub(crate) fn of(read: Read) -> Version {
         let Read {
             numbers,
             text,
@@ -207,9 +203,8 @@ impl Version {
             };
         }
         let (pre_release, build) = (OnceLock::new(), OnceLock::new());
-        let text = text.into_boxed_str();
         let lists = Lists {
-            text,
+            text: text.into(),
             pre_release_len,
             is_spelled: true,
             pre_release,
@@ -232,7 +227,7 @@ impl Version {
         let text = String::with_capacity(pre_release.len() + build.len()) + pre_release + build;
         Some(Version::of(Read {
             numbers,
-            text,
+            text: &text,
             pre_release_len: pre_release.len(),
         }))
     }
@@ -265,6 +260,20 @@ impl Version {
             text.add(pre.as_bytes())?;
         }
         Some(text)
+    }
+
+    /// The version as the library keeps one.
+    pub(crate) fn kept_whole(&self) -> Kept<'_> {
+        let build = self.lists.as_ref().map_or("", |it| it.texts().1);
+        Kept {
+            build: Text::of(build.as_bytes()),
+            ..self.kept()
+        }
+    }
+
+    /// The version as the library keeps one, without its build, if its text spells it.
+    pub(crate) fn kept_if_spelled(&self) -> Option<Kept<'_>> {
+        self.is_spelled().then(|| self.kept())
     }
 
     /// The version as the library keeps one, without its build.
