@@ -1,6 +1,9 @@
 -- Statement: what the program writes for its arguments and its input, and its exit status.
-use Rattle.std.specs.Prelude.{◌≡◌, ◌∷◌, ◌++◌, [], ℕ, Bool, true, false, List, Option, codes}
-use Rattle.std.specs.Prelude.{is_some, option_map, unwrap_or, if◌then◌else◌}
+use Rattle.std.specs.Prelude.{◌≡◌, ◌≢◌, ◌∷◌, ◌++◌, [], ℕ, Bool, true, false, List, Option, codes}
+use Rattle.std.specs.Prelude.{is_some, option_map, unwrap_or, if◌then◌else◌, Result, Ok, Err}
+use Rattle.std.specs.IoError.{error_kind}
+use Rattle.std.specs.declared.io.Error.{Error}
+use Rattle.std.specs.declared.io.ErrorKind.TheVariants.{BrokenPipe}
 use Rattle.npm_semver.specs.Arguments.{Asked, IsAsked}
 use Rattle.npm_semver.specs.Responses.{Responds, Written, tells_why, with_lines}
 use Rattle.npm_semver.specs.Subcommands.{IsReply, Trouble, exit_status, is_subcommand, say}
@@ -38,3 +41,9 @@ pub data IsOutcome (arguments : List (List ℕ)) (input : List ℕ) : Outcome �
         errors = reasons ++ errors;
         status = if written.is_success then 0 else 1;
       })
+
+-- how the program ends a write to standard output: that a reader has closed the pipe is no error
+pub data IsUnlessClosed : Result (Unit {0}) Error → Result (Unit {0}) Error → Type 0 where
+  written : (u v : Unit {0}) → IsUnlessClosed (Ok u) (Ok v)
+  closed : (error : Error) → error_kind error ≡ BrokenPipe → IsUnlessClosed (Err error) (Ok tt)
+  failed : (error : Error) → error_kind error ≢ BrokenPipe → IsUnlessClosed (Err error) (Err error)

@@ -9,6 +9,7 @@ mod entry;
 mod help;
 mod laws;
 mod listing;
+mod pipe;
 mod question;
 mod reading;
 mod refusal;
@@ -17,6 +18,7 @@ mod subcommands;
 mod why;
 
 use crate::command::Command;
+use crate::pipe::unless_closed;
 use anyhow::Result;
 use std::process::ExitCode;
 use std::{env, io};
@@ -32,6 +34,7 @@ fn main(rt: HostRuntime) -> Result<ExitCode> {
     };
     let outcome = command.answer(alloc, &input)?;
     eprint!(rt; "{}", outcome.errors)?;
-    print!(rt; "{}", outcome.output)?;
+    let written = print!(rt; "{}", outcome.output);
+    unless_closed(written)?;
     Ok(ExitCode::from(outcome.status))
 }
