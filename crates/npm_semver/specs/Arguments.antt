@@ -50,7 +50,7 @@ word_of word =
 -- what is asked: the texts that may be versions, the range texts, the level, the identifier and the
 -- first number of a next version, whether the greatest version is printed first, how texts are
 -- read, which versions are printed, whether as they were given, and whether as JSON, whether what
--- is not read is an error, and is told, whether some word looks like an option and is none, and
+-- is not read is an error, and is told, the first word that looks like an option and is none, and
 -- whether lines of the input may be versions
 pub record Asked : Type 0 where
   pub versions : List (List ℕ)
@@ -65,7 +65,7 @@ pub record Asked : Type 0 where
   pub is_json : Bool
   pub is_strict : Bool
   pub is_why : Bool
-  pub has_unknown : Bool
+  pub unknown : Option (List ℕ)
   pub reads_input : Bool
 
 abbrev pub nothing_asked : Asked
@@ -82,7 +82,7 @@ nothing_asked = record {
   is_json = false;
   is_strict = false;
   is_why = false;
-  has_unknown = false;
+  unknown = None;
   reads_input = false;
 }
 
@@ -119,7 +119,8 @@ asked_by Json text behind q = record q { is_json = true }
 asked_by Strict text behind q = record q { is_strict = true }
 asked_by Why text behind q = record q { is_why = true }
 asked_by Input text behind q = record q { reads_input = true }
-asked_by Unknown text behind q = record q { versions = q.versions ++ text ∷ []; has_unknown = true }
+asked_by Unknown text behind q =
+    record q { versions = q.versions ++ text ∷ []; unknown = Some (unwrap_or q.unknown text) }
 asked_by Reverse text behind q = record q { is_reversed = true }
 asked_by Range text behind q =
     record q { ranges = q.ranges ++ unwrap_or (value behind) (codes "undefined") ∷ [] }

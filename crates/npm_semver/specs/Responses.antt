@@ -1,7 +1,7 @@
 -- Statement: what the command writes for what its arguments ask.
 use Rattle.std.specs.Prelude.{◌≡◌, ◌&&◌, ◌||◌, ◌==◌, ◌∷◌, ◌++◌, [], not, ℕ, Bool, true, false, List}
 use Rattle.std.specs.Prelude.{Option, Some, None, Result, Ok, Err, map, reverse, take}
-use Rattle.std.specs.Prelude.{if◌then◌else◌}
+use Rattle.std.specs.Prelude.{if◌then◌else◌, is_some}
 use Rattle.std.specs.Int.{is_in_range}
 use Rattle.std.specs.List.{flat_map, list_all}
 use Rattle.std.specs.Str.Lines.{lines}
@@ -12,7 +12,7 @@ use Rattle.semver_core.specs.Printing.Text.{version_text}
 use Rattle.semver_core.specs.Values.Versions.{VersionValue}
 use Rattle.npm_semver.specs.Arguments.{Asked}
 use Rattle.npm_semver.specs.Listing.{AreListed, Entry, IsListing}
-use Rattle.npm_semver.specs.Readings.{HasRange, IsVersionIn, SomeText}
+use Rattle.npm_semver.specs.Readings.{HasRange, IsFirst, IsVersionIn, SomeText}
 use Rattle.npm_semver.specs.declared.question.Pick.{Pick}
 use Rattle.npm_semver.specs.declared.question.Pick.TheVariants.{All, Greatest, Least}
 
@@ -83,7 +83,7 @@ increment_written q level (d ∷ e ∷ es) = nothing_written (Some NotOneVersion
 
 -- some word has to be an option, and is none
 abbrev pub HasUnknown : Asked → Type 0
-HasUnknown q = (q.is_strict && q.has_unknown) ≡ true
+HasUnknown q = (q.is_strict && is_some q.unknown) ≡ true
 
 -- some range text has to be one, and is none: loosely npm's program reads more
 abbrev pub HasUnread : Asked → Type 0
@@ -112,6 +112,16 @@ pub data IsRefused (q : Asked) : Refusal → Type 0 where
   no_version : (HasUnknown q → ⊥) → (HasUnread q → ⊥) → HasNoVersion q → IsRefused q NoVersion
   unshown : (HasUnknown q → ⊥) → (HasUnread q → ⊥) → (HasNoVersion q → ⊥) → HasUnshown q
       → IsRefused q UnshownText
+
+-- the text that an error names: the first that is so; `-l` alone names none
+pub data Names (q : Asked) : Refusal → Option (List ℕ) → Type 0 where
+  option : (word : List ℕ) → q.unknown ≡ Some word → Names q UnknownOption (Some word)
+  range : (text : List ℕ) → IsFirst (λ t. NoValue (HasRange q.reading t)) q.ranges text
+      → q.is_strict ≡ true → Names q UnreadRange (Some text)
+  loosely : q.is_strict ≡ false → Names q UnreadRange None
+  version : (text : List ℕ) → IsFirst (λ t. NoValue (IsVersionIn q.reading t)) q.versions text
+      → Names q NoVersion (Some text)
+  none : Names q UnshownText None
 
 -- what is written for what is asked
 pub data Responds : Option Asked → Written → Type 0 where

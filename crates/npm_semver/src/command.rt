@@ -46,9 +46,9 @@ impl Outcome {
     }
 
     // What is written for a response.
-    fn of_response(alloc: Global, response: Response) -> Result<Outcome, AllocError>
+    fn of_response(alloc: Global, response: Response<'_>) -> Result<Outcome, AllocError>
         ensures { IfOk result (λ o.
-            IsWritten (written response) (string_bytes response.told) (outcome o)) }
+            IsWritten (written response.entry) (string_bytes response.entry.told) (outcome o)) }
     {
         let Response {
             output,

@@ -36,8 +36,8 @@ beyond npm's program:
       --max, --min            print the greatest or the least version alone
       --json                  print a JSON array of strings
       --as-written            print each text as it was given, without the whitespace around it
-      --strict                make a text that is no version or no range, or an unknown option, an
-                              error
+      --strict                make the first text that is no version or no range, or the first
+                              unknown option, an error
       --why                   tell on standard error why each text is left out
 
 Prints each version without its build metadata, in ascending order. Texts that are no versions are

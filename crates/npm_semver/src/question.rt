@@ -127,8 +127,8 @@ pub struct Question<'a> {
     pub is_strict: bool,
     /// Whether it is told why texts are left out.
     pub is_why: bool,
-    /// Whether some word looks like an option and is none.
-    pub has_unknown: bool,
+    /// The first word that looks like an option and is none.
+    pub unknown: Option<&'a str>,
     /// Whether the lines of the input may be versions too.
     pub reads_input: bool,
 }
@@ -150,7 +150,7 @@ impl<'a> Question<'a> {
             is_json: false,
             is_strict: false,
             is_why: false,
-            has_unknown: false,
+            unknown: None,
             reads_input: false,
         }
     }
@@ -186,7 +186,7 @@ impl<'a> Question<'a> {
             Word::Why => self.is_why = true,
             Word::Input => self.reads_input = true,
             Word::Unknown => {
-                self.has_unknown = true;
+                self.unknown = Some(self.unknown.unwrap_or(text));
                 self.versions.push(text)?;
             }
             Word::Text => self.versions.push(text)?,

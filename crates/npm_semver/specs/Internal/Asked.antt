@@ -23,7 +23,7 @@ asked_of q = record {
   is_json = q.is_json;
   is_strict = q.is_strict;
   is_why = q.is_why;
-  has_unknown = q.has_unknown;
+  unknown = option_map (λ t. t.now) q.unknown;
   reads_input = q.reads_input;
 }
 
