@@ -45,9 +45,16 @@ picked All es = es
 picked Greatest es = take 1 (reverse es)
 picked Least es = take 1 es
 
-abbrev pub text_of : Asked → List Entry → List ℕ
-text_of q es = let printed = map (shown q.as_written) (in_order q.is_reversed (picked q.pick es)) in
+abbrev pub printed_text : Asked → List Entry → List ℕ
+printed_text q es = let printed = map (shown q.as_written) es in
     if q.is_json then json printed else flat_map line printed
+
+abbrev pub text_of : Asked → List Entry → List ℕ
+text_of q es = printed_text q (in_order q.is_reversed (picked q.pick es))
+
+-- the order in which the texts were given is kept, unless one version alone is asked for
+abbrev pub prints_as_given : Asked → Bool
+prints_as_given q = q.keeps_order && (elim q.pick [ All ↦ true | _ ↦ false ])
 
 -- why nothing is printed, where that is an error
 pub data Refusal : Type 0 where
@@ -130,8 +137,11 @@ pub data Responds : Option Asked → Written → Type 0 where
   refused : (q : Asked) (refusal : Refusal) → IsRefused q refusal
       → Responds (Some q) (nothing_written (Some refusal))
   versions : (q : Asked) (es : List Entry) → NoValue (IsRefused q) → q.level ≡ None
-      → IsListing q.reading q.ranges q.versions es → Responds (Some q)
+      → prints_as_given q ≡ false → IsListing q.reading q.ranges q.versions es → Responds (Some q)
       (record { output = text_of q es; refusal = None; is_success = not (is_empty es) })
+  given : (q : Asked) (es : List Entry) → NoValue (IsRefused q) → q.level ≡ None
+      → prints_as_given q ≡ true → AreListed q.reading q.ranges q.versions es → Responds (Some q)
+      (record { output = printed_text q es; refusal = None; is_success = not (is_empty es) })
   increment : (q : Asked) (level : List ℕ) (es : List Entry) → NoValue (IsRefused q)
       → q.level ≡ Some level → AreListed q.reading [] q.versions es
       → Responds (Some q) (increment_written q level es)

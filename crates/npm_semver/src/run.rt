@@ -2,7 +2,7 @@
 
 ghost use Rattle.std.specs.Prelude.{◌≡◌, ◌++◌, ◌∷◌, [], not, option_map, IfOk, OnOk, None, Ok};
 ghost use Rattle.std.specs.Prelude.{Some};
-ghost use Rattle.std.specs.Prelude.{false, map, string_bytes, if◌then◌else◌};
+ghost use Rattle.std.specs.Prelude.{false, map, string_bytes, true, if◌then◌else◌};
 ghost use Rattle.std.specs.List.{flat_map};
 ghost use Rattle.semver_core.specs.Failures.{NoValue};
 ghost use Rattle.semver_core.specs.Increments.Table.{answer_of_inc};
@@ -11,7 +11,7 @@ ghost use Rattle.semver_core.specs.Printing.Text.{marked_list};
 ghost use Rattle.npm_semver.specs.Listing.{AreListed};
 ghost use Rattle.npm_semver.specs.Responses.{IsRefused, Responds, bare, json, line};
 ghost use Rattle.npm_semver.specs.Responses.{in_order, next_written, nothing_written, picked};
-ghost use Rattle.npm_semver.specs.Responses.{quoted, shown, tells_why};
+ghost use Rattle.npm_semver.specs.Responses.{prints_as_given, quoted, shown, tells_why};
 ghost use Rattle.npm_semver.specs.Internal.Asked.{asked_of, request_of};
 ghost use Rattle.npm_semver.specs.Internal.Texts.{IsReadFor};
 ghost use Rattle.npm_semver.specs.Internal.Written.{told_as, written};
@@ -96,7 +96,7 @@ fn print<'a>(
 {
     match question.level {
         Some(level) => increment(alloc, question, level, read),
-        None => list(alloc, question, &mut read.entries),
+        None => versions(alloc, question, &mut read.entries),
     }
 }
 
@@ -125,6 +125,50 @@ fn nothing<'a>(alloc: Global, refusal: Option<Refusal<'a>>) -> Response<'a>
 }
 
 // The versions that are asked for.
+fn versions<'a>(
+    alloc: Global,
+    question: &Question<'a>,
+    listed: &mut Vec<Entry<'a>>,
+) -> Result<Response<'a>, AllocError>
+    requires answered { NoValue (IsRefused (asked_of question.now)) }
+    requires level { question.now.level ≡ None }
+    requires listed { let q = asked_of question.now in
+        AreListed q.reading q.ranges q.versions listed.old.items }
+    ensures { IfOk result (λ response.
+        Responds (Some (asked_of question.now)) (written response)) }
+{
+    if question.prints_as_given() {
+        given(alloc, question, listed)
+    } else {
+        list(alloc, question, listed)
+    }
+}
+
+// The versions, in the order in which they were given.
+fn given<'a>(
+    alloc: Global,
+    question: &Question<'a>,
+    listed: &[Entry<'a>],
+) -> Result<Response<'a>, AllocError>
+    requires answered { NoValue (IsRefused (asked_of question.now)) }
+    requires level { question.now.level ≡ None }
+    requires order { prints_as_given (asked_of question.now) ≡ true }
+    requires listed { let q = asked_of question.now in
+        AreListed q.reading q.ranges q.versions listed.now }
+    ensures { IfOk result (λ response.
+        Responds (Some (asked_of question.now)) (written response)) }
+{
+    let mut output = String::new(alloc);
+    write_all(question.is_json, question.as_written, listed, &mut output)?;
+    Ok(Response {
+        output,
+        told: String::new(alloc),
+        refusal: None,
+        is_success: is_filled(listed),
+    })
+}
+
+// The versions in order.
 fn list<'a>(
     alloc: Global,
     question: &Question<'a>,
@@ -132,6 +176,7 @@ fn list<'a>(
 ) -> Result<Response<'a>, AllocError>
     requires answered { NoValue (IsRefused (asked_of question.now)) }
     requires level { question.now.level ≡ None }
+    requires order { prints_as_given (asked_of question.now) ≡ false }
     requires listed { let q = asked_of question.now in
         AreListed q.reading q.ranges q.versions listed.old.items }
     ensures { IfOk result (λ response.

@@ -19,6 +19,7 @@ asked_of q = record {
   is_reversed = q.is_reversed;
   reading = q.reading;
   pick = q.pick;
+  keeps_order = q.keeps_order;
   as_written = q.as_written;
   is_json = q.is_json;
   is_strict = q.is_strict;
