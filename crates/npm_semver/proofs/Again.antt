@@ -1,8 +1,8 @@
 -- What is printed as lines, read again, prints the same.
-use Rattle.npm_semver.{proofs.Ties.{not_itself, same_emptiness, text_map, unbuilt, unbuilt_same}, specs.{Arguments.Asked, Laws.EachText}}
+use Rattle.npm_semver.{proofs.Ties.{not_itself, same_emptiness, shown_map, text_map, unbuilt, unbuilt_same}, specs.{Arguments.Asked, Laws.EachText}}
 use Rattle.npm_semver.specs.{Listing.{AllSay, AreListed, Entry, IsListing, Says, order}, Readings.{IsVersionIn, SomeText, found, here, later}}
-use Rattle.npm_semver.specs.{Readings.{not_found, strict}, Responses.{IsRefused, Responds, UnknownOption, UnreadRange, Written, bare, in_order, increment, json, line}}
-use Rattle.npm_semver.specs.{Responses.{no_version, picked, refused, shown, text_of, unknown, unread, unshown, versions}, declared.question.Pick.Pick}
+use Rattle.npm_semver.specs.{Readings.{not_found, strict}, Responses.{IsRefused, Responds, UnknownOption, UnreadRange, Written, bare, given, in_order, increment, json, line}}
+use Rattle.npm_semver.specs.{Responses.{no_version, picked, printed_text, prints_as_given, refused, shown, text_of, unknown, unread, unshown, versions}, declared.question.Pick.Pick}
 use Rattle.{npm_semver.specs.declared.reading.ReadOptions.ReadOptions, npm_words.specs.VersionText.IsVersionText, semver_core.specs.Failures.NoValue}
 use Rattle.semver_core.specs.{Lists.is_empty, Printing.Text.version_text, Text.Characters.{IsTrim, begins, is_identifier_char, is_whitespace}}
 use Rattle.{semver_core.specs.{Values.{Order.precedence, Versions.VersionValue}, declared.TheConstants.MAX_SAFE_INTEGER}, std.proofs.Common.Bool}
@@ -235,10 +235,10 @@ allowed_again q texts can plainly are why (unread known some) = can UnreadRange 
 allowed_again q texts can plainly are why (no_version known all lacks) = are lacks.1
 allowed_again q texts can plainly are why (unshown known all read some) = absurd (grind (arith, plainly, some.0))
 
-again_of : Reread → (q : Asked) (es : List Entry) → NoValue (IsRefused q) → q.level ≡ None → q.reading.is_coerced ≡ false → q.is_json ≡ false
+again_of : Reread → (q : Asked) (es : List Entry) → NoValue (IsRefused q) → q.level ≡ None → prints_as_given q ≡ false → q.reading.is_coerced ≡ false → q.is_json ≡ false
     → q.as_written ≡ false → EachText IsUtf8 q.versions → IsListing q.reading q.ranges q.versions es
     → Responds (Some (record q { versions = lines (text_of q es) })) (record { output = text_of q es; refusal = None; is_success = not (is_empty es) })
-again_of reread q es can level plainly as_lines bare_asked u listing =
+again_of reread q es can level sorts plainly as_lines bare_asked u listing =
     let chosen : List Entry = picked q.pick es in
     let printed : List Entry = in_order q.is_reversed chosen in
     let moved : IsPermutation printed chosen = ordered q.is_reversed chosen in
@@ -257,7 +257,7 @@ again_of reread q es can level plainly as_lines bare_asked u listing =
     let filled : is_empty (map again_entry chosen) ≡ is_empty es = map_empty chosen ∙ picked_empty q.pick es in
     let found : Responds (Some (record q { versions = map (shown false) printed }))
     (record { output = text_of q (map again_entry chosen); refusal = None; is_success = not (is_empty (map again_entry chosen)) }) =
-    versions (record q { versions = map (shown false) printed }) (map again_entry chosen) allowed level (record {
+    versions (record q { versions = map (shown false) printed }) (map again_entry chosen) allowed level sorts (record {
       listed = map again_entry printed;
       are = listed_again reread q.reading q.ranges plainly printed of_printed;
       same = IsPermutation-map again_entry printed chosen moved;
@@ -265,10 +265,35 @@ again_of reread q es can level plainly as_lines bare_asked u listing =
     }) in
     rw (texts, ← output, ← filled) found
 
+plain_lines : (q : Asked) (es : List Entry) → q.is_json ≡ false → q.as_written ≡ false → printed_text q es ≡ flat_map line (map (shown false) es)
+plain_lines q es plain bare_asked = rw (plain, bare_asked) refl
+
+-- the same where the order is kept
+given_again : Reread → (q : Asked) (es : List Entry) → NoValue (IsRefused q) → q.level ≡ None → prints_as_given q ≡ true → q.reading.is_coerced ≡ false
+    → q.is_json ≡ false → q.as_written ≡ false → EachText IsUtf8 q.versions → AreListed q.reading q.ranges q.versions es
+    → Responds (Some (record q { versions = lines (printed_text q es) }))
+    (record { output = printed_text q es; refusal = None; is_success = not (is_empty es) })
+given_again reread q es can level keeps plainly as_lines bare_asked u are =
+    let of_es = recursion_from_All (Kept reread q.reading q.ranges plainly) es (all_kept reread q.reading q.ranges plainly q.versions es u are) in
+    let texts : lines (printed_text q es) ≡ map (shown false) es = ap lines (plain_lines q es as_lines bare_asked)
+    ∙ all_lines (map (shown false) es) (kept_plain reread q.reading q.ranges plainly es of_es) in
+    let allowed : NoValue (IsRefused (record q { versions = map (shown false) es })) =
+    allowed_again q (map (shown false) es) can plainly (none_lacks reread q.reading q.ranges plainly es of_es) in
+    let output : printed_text q (map again_entry es) ≡ printed_text q es = ap (λ (l : List (List ℕ)). if q.is_json then json l else flat_map line l)
+    (shown_map again_entry q.as_written (shown_again q.as_written bare_asked) es) in
+    let filled : is_empty (map again_entry es) ≡ is_empty es = map_empty es in
+    let found : Responds (Some (record q { versions = map (shown false) es }))
+    (record { output = printed_text q (map again_entry es); refusal = None; is_success = not (is_empty (map again_entry es)) }) =
+    given (record q { versions = map (shown false) es }) (map again_entry es) allowed level keeps
+    (listed_again reread q.reading q.ranges plainly es of_es) in
+    rw (texts, ← output, ← filled) found
+
 pub responds_again : Reread → (q : Asked) (written : Written) → EachText IsUtf8 q.versions → Responds (Some q) written → q.level ≡ None
     → q.reading.is_coerced ≡ false → q.is_json ≡ false → q.as_written ≡ false → written.refusal ≡ None
     → Responds (Some (record q { versions = lines written.output })) written
 responds_again reread q written u (refused _ why is) level plainly as_lines bare_asked untold = absurd (cc)
-responds_again reread q written u (versions _ es can none_is listing) level plainly as_lines bare_asked untold =
-    again_of reread q es can level plainly as_lines bare_asked u listing
+responds_again reread q written u (versions _ es can none_is sorts listing) level plainly as_lines bare_asked untold =
+    again_of reread q es can level sorts plainly as_lines bare_asked u listing
+responds_again reread q written u (given _ es can none_is keeps are) level plainly as_lines bare_asked untold =
+    given_again reread q es can level keeps plainly as_lines bare_asked u are
 responds_again reread q written u (increment _ word es can has are) level plainly as_lines bare_asked untold = absurd (grind (arith, level, has))

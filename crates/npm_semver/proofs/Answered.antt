@@ -1,6 +1,6 @@
 -- Words that are no question, and what the others are answered.
 use Rattle.nodejs_semver.specs.{Printing.Text.range_text, Ranges.{Algebra.{difference, intersection}, Gate.accepts, Least.{IsLeastOf, beyond}}}
-use Rattle.npm_semver.specs.{Internal.{Appends.Extends, Said.is_operation}, Subcommands.{Answers, AreRanges, HasIdentifier, IsRange, IsShown, Range}}
+use Rattle.npm_semver.specs.{Internal.Said.is_operation, Subcommands.{Answers, AreRanges, HasIdentifier, IsRange, IsShown, Range}}
 use Rattle.npm_semver.specs.{Subcommands.{Said, next_said, relation_of, reply, say, sign}, declared.subcommands.replies.Status.TheVariants.Yes}
 use Rattle.{npm_words.specs.{Alternatives.HasAlternativesIn, VersionText.IsVersionText}, semver_core.specs.Difference.{kind_between, kind_word}}
 use Rattle.semver_core.specs.{Failures.NoValue, Increments.Table.answer_of_inc, Printing.Text.version_text, Values.Order.precedence}
@@ -171,8 +171,3 @@ no_drawing a none said (Spec.explain x r text is) = none r is
 
 pub no_least : (words : List (List ℕ)) → NoValue (AreRanges words) → NoValue (Answers (codes "least" ∷ words))
 no_least words none said (Spec.least a ws rs least are is bare) = none rs are
-
-pub drawn : (a : List ℕ) (r : Range) (text : List ℕ) (said : Said) → IsRange a r → Extends (range_text r ++ 10 ∷ []) text → said ≡ say text None Yes
-    → Answers (codes "explain" ∷ a ∷ []) said
-drawn a r text said is (more, e) says =
-    rw (says, e ∙ append_assoc (range_text r) (10 ∷ []) more) (Spec.explain a r more is)

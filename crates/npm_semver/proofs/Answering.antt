@@ -7,7 +7,7 @@ use Rattle.semver_core.specs.Lists.{is_empty}
 use Rattle.npm_semver.specs.Arguments.{Asked}
 use Rattle.npm_semver.specs.Listing.{AreListed, Entry, IsListing}
 use Rattle.semver_core.specs.Failures.{NoValue}
-use Rattle.npm_semver.specs.Responses.{IsRefused, NotOneVersion, Responds, Written, increment, increment_written, next_written, nothing_written, text_of, versions}
+use Rattle.npm_semver.specs.Responses.{IsRefused, NotOneVersion, Responds, Written, increment, given, increment_written, next_written, nothing_written, printed_text, prints_as_given, text_of, versions}
 use Rattle.npm_semver.specs.Internal.Asked.{texts}
 use Rattle.npm_semver.specs.Internal.Written.{written}
 use Rattle.npm_semver.specs.declared.run.Response.{Response}
@@ -62,6 +62,11 @@ empty_texts [] b e = sym e
 empty_texts (x ∷ xs) b e = grind (arith, e)
 
 pub lists : (q : Asked) (es : List Entry) (output : List ℕ) (done : Bool) → NoValue (IsRefused q) → q.level ≡ None
-    → IsListing q.reading q.ranges q.versions es → output ≡ text_of q es → done ≡ not (is_empty es)
+    → prints_as_given q ≡ false → IsListing q.reading q.ranges q.versions es → output ≡ text_of q es → done ≡ not (is_empty es)
     → Responds (Some q) (record { output = output; refusal = None; is_success = done })
-lists q es output done can has listing out is = rw (out, is) (versions q es can has listing)
+lists q es output done can has sorts listing out is = rw (out, is) (versions q es can has sorts listing)
+
+pub gives : (q : Asked) (es : List Entry) (output : List ℕ) (done : Bool) → NoValue (IsRefused q) → q.level ≡ None
+    → prints_as_given q ≡ true → AreListed q.reading q.ranges q.versions es → output ≡ printed_text q es → done ≡ not (is_empty es)
+    → Responds (Some q) (record { output = output; refusal = None; is_success = done })
+gives q es output done can has keeps are out is = rw (out, is) (given q es can has keeps are)

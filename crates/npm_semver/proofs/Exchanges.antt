@@ -1,5 +1,5 @@
 -- Two neighbouring parts of the version texts are exchanged.
-use Rattle.std.proofs.Common.{◌≡◌, ◌⊎◌, ◌∷◌, ◌++◌, [], ℕ, List, Some, ap, append_assoc, arith, inl, inr, refl}
+use Rattle.std.proofs.Common.{◌≡◌, ◌⊎◌, ◌∷◌, ◌++◌, [], ℕ, false, List, Some, ap, append_assoc, arith, inl, inr, refl}
 use Rattle.std.proofs.lemmas.List.Elements.{All-cons, All-head, All-nil}
 use Rattle.std.proofs.lemmas.List.Sorted.{All-permutation, length_permutation, IsPermutation-append_comm, IsPermutation-append_left, IsPermutation-append_right, IsPermutation-sym, IsPermutation-trans}
 use Rattle.std.specs.List.Sorted.{IsPermutation}
@@ -7,7 +7,7 @@ use Rattle.npm_semver.specs.Arguments.{Asked}
 use Rattle.npm_semver.specs.Listing.{AreListed, Entry, IsListing}
 use Rattle.npm_semver.specs.Listing as Listing
 use Rattle.npm_semver.specs.Readings.{SomeText, here, later}
-use Rattle.npm_semver.specs.Responses.{IsRefused, Refusal, Responds, Written, increment, increment_written, no_version, refused, unknown, unread, unshown, versions}
+use Rattle.npm_semver.specs.Responses.{IsRefused, Refusal, Responds, Written, increment, given, increment_written, no_version, prints_as_given, refused, unknown, unread, unshown, versions}
 use Rattle.npm_semver.specs.declared.reading.ReadOptions.{ReadOptions}
 
 moved : (f u w k : List Entry) → IsPermutation (f ++ (u ++ (w ++ k))) (f ++ (w ++ (u ++ k)))
@@ -113,14 +113,15 @@ one_order q texts more level (v ∷ u ∷ vs) [] moved = absurd (omega (arith, l
 one_order q texts more level (v ∷ u ∷ vs) (w ∷ []) moved = absurd (omega (arith, length_permutation (v ∷ u ∷ vs) (w ∷ []) moved))
 one_order q texts more level (v ∷ u ∷ vs) (w ∷ x ∷ ws) moved = refl
 
-pub responds_exchanged : (q : Asked) (front a b back : List (List ℕ)) (written : Written)
+pub responds_exchanged : (q : Asked) (front a b back : List (List ℕ)) (written : Written) → prints_as_given q ≡ false
     → Responds (Some (record q { versions = front ++ (a ++ (b ++ back)) })) written
     → Responds (Some (record q { versions = front ++ (b ++ (a ++ back)) })) written
-responds_exchanged q front a b back written (refused _ why is) = refused _ why (refused_exchanged q front a b back why is)
-responds_exchanged q front a b back written (versions _ vs can no_level listing) =
-    versions (record q { versions = front ++ (b ++ (a ++ back)) }) vs (λ why is. can why (refused_exchanged q front b a back why is)) no_level
+responds_exchanged q front a b back written sorted (refused _ why is) = refused _ why (refused_exchanged q front a b back why is)
+responds_exchanged q front a b back written sorted (versions _ vs can no_level sorts listing) =
+    versions (record q { versions = front ++ (b ++ (a ++ back)) }) vs (λ why is. can why (refused_exchanged q front b a back why is)) no_level sorted
     (listing_exchanged q.reading q.ranges front a b back vs listing)
-responds_exchanged q front a b back written (increment _ word vs can has are) =
+responds_exchanged q front a b back written sorted (given _ vs can no_level keeps are) = absurd (cc)
+responds_exchanged q front a b back written sorted (increment _ word vs can has are) =
     let (ws, listed, moved) = exchanged q.reading [] front a b back vs are in
     rw (one_order q (front ++ (a ++ (b ++ back))) (front ++ (b ++ (a ++ back))) word vs ws moved)
     (increment (record q { versions = front ++ (b ++ (a ++ back)) }) word ws (λ why is. can why (refused_exchanged q front b a back why is)) has listed)

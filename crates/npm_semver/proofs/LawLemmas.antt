@@ -15,7 +15,7 @@ use Rattle.npm_semver.specs.Listing.{AreListed, Entry}
 use Rattle.npm_semver.specs.Listing as Listing
 use Rattle.npm_semver.specs.Readings.{SomeText, here, later}
 use Rattle.semver_core.specs.Failures.{NoValue}
-use Rattle.npm_semver.specs.Responses.{IsRefused, NotOneVersion, Responds, Written, increment, increment_written, next_written, next_text, nothing_written, refused, versions}
+use Rattle.npm_semver.specs.Responses.{IsRefused, NotOneVersion, Responds, Written, increment, increment_written, next_written, next_text, nothing_written, refused, given, versions}
 
 -- a list and another order of it are both filled or both empty
 same_filled : (xs ys : List Entry) → IsPermutation xs ys → is_empty xs ≡ is_empty ys
@@ -42,15 +42,17 @@ module _ (q : Asked) where
 pub success_some : (q : Asked) (written : Written) → Responds (Some q) written → q.level ≡ None → written.is_success ≡ true
     → SomeText (IsAccepted q) q.versions
 success_some q written (refused _ why is) level e = absurd (grind (arith, e))
-success_some q written (versions _ vs can no_level listing) level e =
+success_some q written (versions _ vs can no_level sorts listing) level e =
     some_listed q q.versions listing.listed listing.are (same_filled listing.listed vs listing.same ∙ grind (arith, e))
+success_some q written (given _ vs can no_level keeps are) level e = some_listed q q.versions vs are (grind (arith, e))
 success_some q written (increment _ word vs can has are) level e = absurd (grind (arith, level, has))
 
 pub success_none : (q : Asked) (written : Written) → Responds (Some q) written → q.level ≡ None → NoValue (IsRefused q) → written.is_success ≡ false
     → EachText (IsLeftOut q) q.versions
 success_none q written (refused _ why is) level allowed e = absurd (allowed why is)
-success_none q written (versions _ vs can no_level listing) level allowed e =
+success_none q written (versions _ vs can no_level sorts listing) level allowed e =
     none_listed q q.versions listing.listed listing.are (same_filled listing.listed vs listing.same ∙ grind (arith, e))
+success_none q written (given _ vs can no_level keeps are) level allowed e = none_listed q q.versions vs are (grind (arith, e))
 success_none q written (increment _ word vs can has are) level allowed e = absurd (grind (arith, level, has))
 
 -- what is written of an answer that is above a version
@@ -81,7 +83,8 @@ pub next_above : Rises → (q : Asked) (level : List ℕ) (written : Written) �
     → (e : Entry) × (w : VersionValue) × AreListed q.reading [] q.versions (e ∷ []) × (written.output ≡ next_text q.is_json w)
     × (precedence e.version w ≡ Less)
 next_above rises q level written (refused _ why is) asked known plain e = absurd (grind (arith, e))
-next_above rises q level written (versions _ vs can no_level listing) asked known plain e = absurd (grind (arith, asked, no_level))
+next_above rises q level written (versions _ vs can no_level sorts listing) asked known plain e = absurd (grind (arith, asked, no_level))
+next_above rises q level written (given _ vs can no_level keeps are) asked known plain e = absurd (grind (arith, asked, no_level))
 next_above rises q level written (increment _ word vs can has are) asked known plain e =
     let same : word ≡ level = ap (λ o. unwrap_or o word) (sym has ∙ asked) in
     written_above rises q word vs (λ is_pre. absurd (grind (arith, rw (sym same ∙ is_pre) at known))) plain are e

@@ -11,6 +11,7 @@ pub mod Once
 pub mod Again
 pub mod OneQuestion
 pub mod Answered
+pub mod Drawn
 pub mod Keyed
 pub mod Spans
 pub mod ToldOf

@@ -1,6 +1,6 @@
 -- What is written for a question is determined by it.
 use Rattle.npm_semver.{proofs.Ties.{same_emptiness, same_text}, specs.{Arguments.Asked, Laws.EachText, Listing.{AllSay, AreListed, Entry, IsListing}}}
-use Rattle.npm_semver.specs.{Listing.Says, Readings.{IsVersionIn, found, not_found, strict}, Responses.{Responds, Written, increment, refused}}
+use Rattle.npm_semver.specs.{Listing.Says, Readings.{IsVersionIn, found, not_found, strict}, Responses.{Responds, Written, given, increment, refused}}
 use Rattle.{npm_semver.specs.{Responses.versions, declared.reading.ReadOptions.ReadOptions}, npm_words.specs.Alternatives.HasAlternativesIn}
 use Rattle.npm_words.specs.{Alternatives.accepts, Coerced.{IsChosenFrom, IsCoerced, IsNumberIn}, Table.Comparison, VersionText.IsVersionText}
 use Rattle.{semver_core.specs.{Text.Characters.IsTrim, Values.Versions.VersionValue}, std.proofs.Common.{Bool, IsUtf8, List, Some, [], ap, arith}}
@@ -110,15 +110,23 @@ responds_same : OneVersion → OneRange → OneTrim → ((from_right : Bool) →
     → Responds (Some q) a → Responds (Some q) b → a ≡ b
 responds_same one_version one_range one_trim one_found q a b u (refused _ why is) (refused _ other of) =
     rw (refused_once q why other is of) refl
-responds_same one_version one_range one_trim one_found q a b u (refused _ why is) (versions _ ws can bare listing) = absurd (can why is)
+responds_same one_version one_range one_trim one_found q a b u (refused _ why is) (versions _ ws can bare sorts listing) = absurd (can why is)
+responds_same one_version one_range one_trim one_found q a b u (refused _ why is) (given _ ws can bare keeps are) = absurd (can why is)
 responds_same one_version one_range one_trim one_found q a b u (refused _ why is) (increment _ word ws can has are) = absurd (can why is)
-responds_same one_version one_range one_trim one_found q a b u (versions _ vs can bare listing) (refused _ why of) = absurd (can why of)
-responds_same one_version one_range one_trim one_found q a b u (versions _ vs can bare listing) (versions _ ws allowed none list) =
+responds_same one_version one_range one_trim one_found q a b u (versions _ vs can bare sorts listing) (refused _ why of) = absurd (can why of)
+responds_same one_version one_range one_trim one_found q a b u (versions _ vs can bare sorts listing) (given _ ws allowed none keeps are) = absurd (cc)
+responds_same one_version one_range one_trim one_found q a b u (versions _ vs can bare sorts listing) (versions _ ws allowed none sort list) =
     let moved = printed_once one_version one_range one_trim one_found q.reading q.ranges q.versions vs ws u listing list in
     rw (same_text q vs ws listing.sorted list.sorted moved, same_emptiness vs ws moved) refl
-responds_same one_version one_range one_trim one_found q a b u (versions _ vs can bare listing) (increment _ word ws allowed has are) = absurd (grind (arith, bare, has))
+responds_same one_version one_range one_trim one_found q a b u (versions _ vs can bare sorts listing) (increment _ word ws allowed has are) = absurd (grind (arith, bare, has))
+responds_same one_version one_range one_trim one_found q a b u (given _ vs can bare keeps are) (refused _ why of) = absurd (can why of)
+responds_same one_version one_range one_trim one_found q a b u (given _ vs can bare keeps are) (versions _ ws allowed none sorts list) = absurd (cc)
+responds_same one_version one_range one_trim one_found q a b u (given _ vs can bare keeps are) (given _ ws allowed none keep were) =
+    rw (listed_once one_version one_range one_trim one_found q.reading q.ranges q.versions vs ws u are were) refl
+responds_same one_version one_range one_trim one_found q a b u (given _ vs can bare keeps are) (increment _ word ws allowed has were) = absurd (grind (arith, bare, has))
 responds_same one_version one_range one_trim one_found q a b u (increment _ word vs can has are) (refused _ why of) = absurd (can why of)
-responds_same one_version one_range one_trim one_found q a b u (increment _ word vs can has are) (versions _ ws allowed bare list) = absurd (grind (arith, bare, has))
+responds_same one_version one_range one_trim one_found q a b u (increment _ word vs can has are) (versions _ ws allowed bare sorts list) = absurd (grind (arith, bare, has))
+responds_same one_version one_range one_trim one_found q a b u (increment _ word vs can has are) (given _ ws allowed bare keeps were) = absurd (grind (arith, bare, has))
 responds_same one_version one_range one_trim one_found q a b u (increment _ word vs can has are) (increment _ other ws allowed of were) =
     let level : word ≡ other = same_Some word other (sym has ∙ of) in
     rw (level, listed_once one_version one_range one_trim one_found q.reading [] q.versions vs ws Each.none are were) refl

@@ -13,7 +13,7 @@ use Rattle.npm_semver.specs.declared.command.Outcome.{Outcome as Made}
 use Rattle.npm_semver.specs.declared.question.Request.{Request}
 use Rattle.npm_semver.specs.declared.subcommands.Subcommand.{Subcommand}
 use Rattle.npm_semver.specs.declared.subcommands.Subcommand.TheVariants.{Compare, Diff, Next, Range, Least, Explain, Get, Valid, Key, Unkey, Spans, Sql, Help, About}
-use Rattle.std.proofs.Common.{◌≡◌, ◌∷◌, ◌++◌, [], ℕ, true, false, List, Option, Some, None, is_some, option_map, refl, if◌then◌else◌, Result, Ok, Err, IfOk, Bor, Global, String, map, string_bytes}
+use Rattle.std.proofs.Common.{◌≡◌, ◌∷◌, ◌++◌, [], ℕ, Bool, true, false, List, Option, Some, None, is_some, option_map, refl, if◌then◌else◌, Result, Ok, Err, IfOk, Bor, Global, String, map, string_bytes}
 use Rattle.std.specs.Str.Lines.{lines}
 use Rattle.std.specs.declared.alloc.AllocError.{AllocError}
 
@@ -42,38 +42,38 @@ why_once : (input : List ℕ) (asked : Option Asked) → tells_why asked ≡ fal
 why_once input None e = refl
 why_once input (Some q) e = elim q.reads_input as (λ b. (if b then record q { versions = q.versions ++ lines input } else q).is_why ≡ false) [ true ↦ e | false ↦ e ]
 
-pub said_outcome : (arguments words : List (List ℕ)) (name : Subcommand) (input : List ℕ) (said : Said) (output errors : List ℕ) (status : ℕ)
-    → arguments ≡ name_of name ∷ words → IsReply input (name_of name ∷ words) said
+pub said_outcome : (arguments words : List (List ℕ)) (name : Subcommand) (input : List ℕ) (is_utf8 : Bool) (said : Said) (output errors : List ℕ) (status : ℕ)
+    → arguments ≡ name_of name ∷ words → IsReply input is_utf8 (name_of name ∷ words) said
     → IsSaid said (record { output = output; errors = errors; status = status })
-    → IsOutcome arguments input (record { output = output; errors = errors; status = status })
-said_outcome arguments words name input (say out trouble code) output errors status e is (same, told, exits) =
+    → IsOutcome arguments input is_utf8 (record { output = output; errors = errors; status = status })
+said_outcome arguments words name input is_utf8 (say out trouble code) output errors status e is (same, told, exits) =
     rw (e, same, exits) (Spec.subcommand out errors trouble code (names name words) is told)
 
-pub written_outcome : (arguments : List (List ℕ)) (input reasons : List ℕ) (asked lined : Option Asked) (w : Written) (output errors : List ℕ) (status : ℕ)
+pub written_outcome : (arguments : List (List ℕ)) (input : List ℕ) (is_utf8 : Bool) (reasons : List ℕ) (asked lined : Option Asked) (w : Written) (output errors : List ℕ) (status : ℕ)
     → has_subcommand arguments ≡ false → IsAsked arguments asked → lined ≡ option_map (with_lines input) asked → Responds lined w
     → (tells_why lined ≡ false → reasons ≡ []) → IsWritten w reasons (record { output = output; errors = errors; status = status })
-    → IsOutcome arguments input (record { output = output; errors = errors; status = status })
-written_outcome arguments input reasons asked lined w output errors status none is e responds silent (same, (line, told, wrote), exits) =
+    → IsOutcome arguments input is_utf8 (record { output = output; errors = errors; status = status })
+written_outcome arguments input is_utf8 reasons asked lined w output errors status none is e responds silent (same, (line, told, wrote), exits) =
     rw (same, wrote, exits) (Spec.response asked w reasons line none is (rw e at responds)
     (λ unasked. silent (rw e (why_once input asked unasked))) told)
 
-module _ (r : Result Made AllocError) (input : List ℕ) (command : Command) where
+module _ (r : Result Made AllocError) (input : List ℕ) (is_utf8 : Bool) (command : Command) where
   pub subcommand_outcome : (name : Subcommand) (words : Bor (List (String Global))) (said : Said) → command ≡ Commands.Subcommand name words
-      → IsReply input (name_of name ∷ map string_bytes words.now) said → IfOk r (λ o. IsSaid said (outcome o))
-      → IfOk r (λ o. (arguments : List (List ℕ)) → IsCommand arguments command → IsOutcome arguments input (outcome o))
+      → IsReply input is_utf8 (name_of name ∷ map string_bytes words.now) said → IfOk r (λ o. IsSaid said (outcome o))
+      → IfOk r (λ o. (arguments : List (List ℕ)) → IsCommand arguments command → IsOutcome arguments input is_utf8 (outcome o))
   subcommand_outcome name words said e is h = elim r as (λ k. IfOk k (λ o. IsSaid said (outcome o))
-      → IfOk k (λ o. (arguments : List (List ℕ)) → IsCommand arguments command → IsOutcome arguments input (outcome o))) [
-        | Ok o ↦ λ h arguments asks. said_outcome arguments _ name input said _ _ _ (rw e at asks) is h
+      → IfOk k (λ o. (arguments : List (List ℕ)) → IsCommand arguments command → IsOutcome arguments input is_utf8 (outcome o))) [
+        | Ok o ↦ λ h arguments asks. said_outcome arguments _ name input is_utf8 said _ _ _ (rw e at asks) is h
         | Err _ ↦ λ _. tt
       ] h
 
   pub request_outcome : (reasons : List ℕ) (request : Request) (lined : Option Asked) (w : Written) → command ≡ Commands.Request request
       → lined ≡ option_map (with_lines input) (request_of request) → Responds lined w → (tells_why lined ≡ false → reasons ≡ [])
       → IfOk r (λ o. IsWritten w reasons (outcome o))
-      → IfOk r (λ o. (arguments : List (List ℕ)) → IsCommand arguments command → IsOutcome arguments input (outcome o))
+      → IfOk r (λ o. (arguments : List (List ℕ)) → IsCommand arguments command → IsOutcome arguments input is_utf8 (outcome o))
   request_outcome reasons request lined w e is responds silent h = elim r as (λ k. IfOk k (λ o. IsWritten w reasons (outcome o))
-      → IfOk k (λ o. (arguments : List (List ℕ)) → IsCommand arguments command → IsOutcome arguments input (outcome o))) [
+      → IfOk k (λ o. (arguments : List (List ℕ)) → IsCommand arguments command → IsOutcome arguments input is_utf8 (outcome o))) [
         | Ok o ↦ λ h arguments asks. let asked : (has_subcommand arguments ≡ false) × IsAsked arguments (request_of request) = rw e at asks in
-            written_outcome arguments input reasons (request_of request) lined w _ _ _ asked.0 asked.1 is responds silent h
+            written_outcome arguments input is_utf8 reasons (request_of request) lined w _ _ _ asked.0 asked.1 is responds silent h
         | Err _ ↦ λ _. tt
       ] h

@@ -1,5 +1,6 @@
 -- Texts of which some has to be read, and is not.
-use Rattle.std.proofs.Common.{◌≡◌, ◌&&◌, ◌||◌, ◌∷◌, [], ℕ, true, false, not, List, arith, inl, inr}
+use Rattle.std.proofs.Common.{◌≡◌, ◌+◌, ◌<◌, ◌&&◌, ◌||◌, ◌∷◌, ◌++◌, [], ℕ, Bool, zero, suc, true, false, not, List, Option, Some, None, ap, arith, get_or, if◌then◌else◌, inl, inr, is_some, length, refl, sym, take, ◌∙◌}
+use Rattle.std.proofs.lemmas.List.{take_more}
 use Rattle.std.proofs.lemmas.Bool.{and_parts, cases_Bool}
 use Rattle.std.specs.Borrow.{Bor}
 use Rattle.std.specs.List.{list_all, list_any}
@@ -7,11 +8,13 @@ use Rattle.semver_core.specs.Failures.{NoValue}
 use Rattle.semver_core.specs.Lists.{is_empty}
 use Rattle.npm_semver.specs.Arguments.{Asked}
 use Rattle.npm_semver.specs.Internal.Asked.{texts}
-use Rattle.npm_semver.specs.Internal.Texts.{is_no_version}
-use Rattle.npm_semver.specs.Readings.{HasRange, IsVersionIn, SomeText, here, later}
+use Rattle.npm_semver.specs.Internal.Texts as Lacking
+use Rattle.npm_semver.specs.Internal.Texts.{IsFirstLacking, is_no_version}
+use Rattle.npm_semver.specs.Readings.{HasRange, IsFirst, IsVersionIn, SomeText, further, here, later, this}
 use Rattle.npm_semver.specs.Reasons as Reasons
 use Rattle.npm_semver.specs.Reasons.{AreLeftOut, AreNoRanges, Told}
-use Rattle.npm_semver.specs.Responses.{HasUnknown, HasUnread, HasNoVersion, HasUnshown, IsRefused, is_plain, no_version, unknown, unread, unshown}
+use Rattle.npm_semver.specs.Responses.{HasUnknown, HasUnread, HasNoVersion, HasUnshown, IsRefused, Names, UnreadRange, is_plain, no_version, unknown, unread, unshown}
+use Rattle.npm_semver.specs.Responses.Names.{loosely, range}
 use Rattle.npm_semver.specs.declared.reading.ReadOptions.{ReadOptions}
 
 module _ (r : ReadOptions) where
@@ -66,9 +69,6 @@ none_marked (x ∷ xs) e (later t ts some) = none_marked xs (and_parts (list_all
 
 -- what the tests of a question say
 module _ (q : Asked) where
-  pub unknown_not : (q.is_strict && q.has_unknown) ≡ false → HasUnknown q → ⊥
-  unknown_not e some = absurd (cc)
-
   pub unread_is : (told : List Told) → AreNoRanges q.reading q.ranges told
       → ((q.reading.is_loose || q.is_strict) && not (is_empty told)) ≡ true → HasUnread q
   unread_is told are e = (grind (arith, e), some_unread q.reading q.ranges told are (grind (arith, e)))
@@ -92,3 +92,68 @@ module _ (q : Asked) where
   pub unshown_not : (xs : List (Bor (List ℕ))) → q.versions ≡ texts xs
       → ((q.reading.is_coerced && q.as_written) && not (list_all (λ t. list_all is_plain t.now) xs)) ≡ false → HasUnshown q → ⊥
   unshown_not xs same e some = none_marked xs (grind (arith, e, some.0)) (rw same at some.1)
+
+-- ---- the first of them
+
+named_by : (q : Asked) (text : List ℕ) → IsFirst (λ t. NoValue (HasRange q.reading t)) q.ranges text → (strict : Bool) → q.is_strict ≡ strict
+    → Names q UnreadRange (if strict then Some text else None)
+named_by q text first true e = range text first e
+named_by q text first false e = loosely e
+
+pub range_named : (q : Asked) (text : List ℕ) → IsFirst (λ t. NoValue (HasRange q.reading t)) q.ranges text
+    → Names q UnreadRange (if q.is_strict then Some text else None)
+range_named q text first = named_by q text first q.is_strict refl
+
+-- the word that is no option
+pub strict_some : (strict : Bool) (o : Option (List ℕ)) (word : List ℕ) → Some word ≡ (if strict then o else None)
+    → ((strict && is_some o) ≡ true) × (o ≡ Some word)
+strict_some true o word e = (ap is_some (sym e), sym e)
+strict_some false o word e = absurd (cc)
+
+pub strict_none : (strict : Bool) (o : Option (List ℕ)) → None ≡ (if strict then o else None) → (strict && is_some o) ≡ true → ⊥
+strict_none true o e some = let bad : false ≡ true = ap is_some e ∙ some in absurd (cc)
+strict_none false o e some = absurd (cc)
+
+pub first_unread : (r : ReadOptions) (texts : List (List ℕ)) (told : List Told) (t : Told) → AreNoRanges r texts told → take 1 told ≡ t ∷ []
+    → IsFirst (λ text. NoValue (HasRange r text)) texts t.text
+first_unread r texts told t Reasons.none e = absurd (cc)
+first_unread r texts told t (Reasons.range text rest a us has are) e =
+    further text t.text rest (λ lacks. lacks a has) (first_unread r rest us t are e)
+first_unread r texts told t (Reasons.no_range text rest us lacks are) e =
+    let same : t.text ≡ text = sym (ap (λ (l : List Told). (get_or l 0 t).text) e) in rw same (this text rest lacks)
+
+pub first_lacks : (r : ReadOptions) (ranges texts : List (List ℕ)) (told : List Told) (t : Told) → AreLeftOut r ranges texts told
+    → IsFirstLacking told t → IsFirst (λ text. NoValue (IsVersionIn r text)) texts t.text
+first_lacks r ranges texts told t Reasons.none first = elim first [ ]
+first_lacks r ranges texts told t (Reasons.accepted text rest v us is say are) first =
+    further text t.text rest (λ lacks. lacks v is) (first_lacks r ranges rest us t are first)
+first_lacks r ranges texts told t (Reasons.rejected text rest v us is say are) (Lacking.this _ _ e) = absurd (cc)
+first_lacks r ranges texts told t (Reasons.rejected text rest v us is say are) (Lacking.further _ _ _ e more) =
+    further text t.text rest (λ lacks. lacks v is) (first_lacks r ranges rest us t are more)
+first_lacks r ranges texts told t (Reasons.no_version text rest us lacks are) (Lacking.this _ _ e) = this text rest lacks
+first_lacks r ranges texts told t (Reasons.no_version text rest us lacks are) (Lacking.further _ _ _ e more) = absurd (cc)
+
+or_false : (a b : Bool) → (a || b) ≡ false → (a ≡ false) × (b ≡ false)
+or_false true b e = absurd (cc)
+or_false false b e = (refl, e)
+
+any_both : (xs ys : List Told) → list_any is_no_version xs ≡ false → list_any is_no_version ys ≡ false → list_any is_no_version (xs ++ ys) ≡ false
+any_both [] ys e f = f
+any_both (x ∷ xs) ys e f =
+    let (one, others) = or_false (is_no_version x) (list_any is_no_version xs) e in rw (one, any_both xs ys others f) refl
+
+pub none_more : (xs : List Told) (i : ℕ) (x : Told) → i < length xs → x ≡ get_or xs i x → list_any is_no_version (take i xs) ≡ false
+    → is_no_version x ≡ false → list_any is_no_version (take (i + 1) xs) ≡ false
+none_more xs i x lt item none lacks = rw (take_more xs i x lt, ← item) (any_both (take i xs) (x ∷ []) none (rw lacks refl))
+
+pub first_at : (xs : List Told) (i : ℕ) (x : Told) → i < length xs → x ≡ get_or xs i x → list_any is_no_version (take i xs) ≡ false
+    → is_no_version x ≡ true → IsFirstLacking xs x
+first_at [] i x lt item none is = absurd (omega (arith, lt))
+first_at (y ∷ ys) zero x lt item none is = let same : x ≡ y = item in rw same (Lacking.this y ys (rw same at is))
+first_at (y ∷ ys) (suc i) x lt item none is =
+    let (one, others) = or_false (is_no_version y) (list_any is_no_version (take i ys)) none in
+    Lacking.further y x ys one (first_at ys i x (omega (arith, lt)) item others is)
+
+pub any_first : (xs : List Told) (x : Told) → IsFirstLacking xs x → list_any is_no_version xs ≡ true
+any_first xs x (Lacking.this _ ts is) = rw is refl
+any_first xs x (Lacking.further t _ ts lacks more) = rw (lacks, any_first ts x more) refl

@@ -156,7 +156,7 @@ module _ (f : Entry → Entry) where
   ordered_map true vs = map-reverse vs
   ordered_map false vs = refl
 
-  shown_map : (as_written : Bool) → ((e : Entry) → shown as_written (f e) ≡ shown as_written e) → (vs : List Entry)
+  pub shown_map : (as_written : Bool) → ((e : Entry) → shown as_written (f e) ≡ shown as_written e) → (vs : List Entry)
       → map (shown as_written) (map f vs) ≡ map (shown as_written) vs
   shown_map as_written same_shown [] = refl
   shown_map as_written same_shown (v ∷ vs) = rw (same_shown v, shown_map as_written same_shown vs) refl

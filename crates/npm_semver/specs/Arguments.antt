@@ -16,7 +16,7 @@ use Rattle.npm_semver.specs.declared.reading.ReadOptions.{ReadOptions}
 use Rattle.npm_semver.specs.declared.question.Word.TheVariants.{Help, IncludePrerelease, Reverse, Range}
 use Rattle.npm_semver.specs.declared.question.Word.TheVariants.{Version, Increment, Identifier, Base, Loose}
 use Rattle.npm_semver.specs.declared.question.Word.TheVariants.{Coerce, FromRight, FromLeft, Greatest, Least}
-use Rattle.npm_semver.specs.declared.question.Word.TheVariants.{AsWritten, Json, Strict, Why}
+use Rattle.npm_semver.specs.declared.question.Word.TheVariants.{AsWritten, Json, Strict, Why, KeepOrder}
 use Rattle.npm_semver.specs.declared.question.Word.TheVariants.{Input, Unknown, Text}
 
 abbrev pub is_one_of : List (List ℕ) → List ℕ → Bool
@@ -43,15 +43,16 @@ word_of word =
     else if is_one_of (codes "--json" ∷ []) word then Json
     else if is_one_of (codes "--strict" ∷ []) word then Strict
     else if is_one_of (codes "--why" ∷ []) word then Why
+    else if is_one_of (codes "--keep-order" ∷ []) word then KeepOrder
     else if is_one_of (codes "-" ∷ []) word then Input
     else if begins (λ b. b == 45) word then Unknown
     else Text
 
 -- what is asked: the texts that may be versions, the range texts, the level, the identifier and the
 -- first number of a next version, whether the greatest version is printed first, how texts are
--- read, which versions are printed, whether as they were given, and whether as JSON, whether what
--- is not read is an error, and is told, whether some word looks like an option and is none, and
--- whether lines of the input may be versions
+-- read, which versions are printed, whether in the order of the texts, whether as they were given,
+-- and whether as JSON, whether what is not read is an error, and is told, the first word that looks
+-- like an option and is none, and whether lines of the input may be versions
 pub record Asked : Type 0 where
   pub versions : List (List ℕ)
   pub ranges : List (List ℕ)
@@ -61,11 +62,12 @@ pub record Asked : Type 0 where
   pub is_reversed : Bool
   pub reading : ReadOptions
   pub pick : Pick
+  pub keeps_order : Bool
   pub as_written : Bool
   pub is_json : Bool
   pub is_strict : Bool
   pub is_why : Bool
-  pub has_unknown : Bool
+  pub unknown : Option (List ℕ)
   pub reads_input : Bool
 
 abbrev pub nothing_asked : Asked
@@ -78,11 +80,12 @@ nothing_asked = record {
   is_reversed = false;
   reading = strictly;
   pick = Picks.All;
+  keeps_order = false;
   as_written = false;
   is_json = false;
   is_strict = false;
   is_why = false;
-  has_unknown = false;
+  unknown = None;
   reads_input = false;
 }
 
@@ -114,12 +117,14 @@ asked_by FromRight text behind q = record q { reading = record q.reading { from_
 asked_by FromLeft text behind q = record q { reading = record q.reading { from_right = false } }
 asked_by Greatest text behind q = record q { pick = Picks.Greatest }
 asked_by Least text behind q = record q { pick = Picks.Least }
+asked_by KeepOrder text behind q = record q { keeps_order = true }
 asked_by AsWritten text behind q = record q { as_written = true }
 asked_by Json text behind q = record q { is_json = true }
 asked_by Strict text behind q = record q { is_strict = true }
 asked_by Why text behind q = record q { is_why = true }
 asked_by Input text behind q = record q { reads_input = true }
-asked_by Unknown text behind q = record q { versions = q.versions ++ text ∷ []; has_unknown = true }
+asked_by Unknown text behind q =
+    record q { versions = q.versions ++ text ∷ []; unknown = Some (unwrap_or q.unknown text) }
 asked_by Reverse text behind q = record q { is_reversed = true }
 asked_by Range text behind q =
     record q { ranges = q.ranges ++ unwrap_or (value behind) (codes "undefined") ∷ [] }

@@ -5,5 +5,5 @@ pub mod Texts
 pub mod Asked
 pub mod Said
 pub mod Commands
-pub mod Appends
+pub mod Drawings
 pub mod EntryOrder

@@ -6,6 +6,7 @@ pub mod Responses
 pub mod Reasons
 pub mod Spans
 pub mod Subcommands
+pub mod Locales
 pub mod Outcomes
 pub mod Internal
 pub mod Laws

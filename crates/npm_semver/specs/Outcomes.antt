@@ -1,6 +1,9 @@
--- Statement: what the program writes for its arguments and its input, and its exit status.
-use Rattle.std.specs.Prelude.{◌≡◌, ◌∷◌, ◌++◌, [], ℕ, Bool, true, false, List, Option, codes}
-use Rattle.std.specs.Prelude.{is_some, option_map, unwrap_or, if◌then◌else◌}
+-- Statement: what the program writes for its arguments, its input and the locale, and its exit status.
+use Rattle.std.specs.Prelude.{◌≡◌, ◌≢◌, ◌∷◌, ◌++◌, [], ℕ, Bool, true, false, List, Option, codes}
+use Rattle.std.specs.Prelude.{is_some, option_map, unwrap_or, if◌then◌else◌, Result, Ok, Err}
+use Rattle.std.specs.IoError.{error_kind}
+use Rattle.std.specs.declared.io.Error.{Error}
+use Rattle.std.specs.declared.io.ErrorKind.TheVariants.{BrokenPipe}
 use Rattle.npm_semver.specs.Arguments.{Asked, IsAsked}
 use Rattle.npm_semver.specs.Responses.{Responds, Written, tells_why, with_lines}
 use Rattle.npm_semver.specs.Subcommands.{IsReply, Trouble, exit_status, is_subcommand, say}
@@ -24,17 +27,23 @@ has_subcommand arguments = is_subcommand (unwrap_or (value arguments) [])
 
 -- what a subcommand says of these arguments, or what is written for what they ask; before its error
 -- it is told why texts are left out, if that is asked
-pub data IsOutcome (arguments : List (List ℕ)) (input : List ℕ) : Outcome → Type 0 where
+pub data IsOutcome (arguments : List (List ℕ)) (input : List ℕ) (is_utf8 : Bool) : Outcome → Type 0 where
   subcommand : (output errors : List ℕ) (trouble : Option Trouble) (status : Status)
-      → has_subcommand arguments ≡ true → IsReply input arguments (say output trouble status)
-      → IsTold (is_some trouble) errors → IsOutcome arguments input
+      → has_subcommand arguments ≡ true → IsReply input is_utf8 arguments (say output trouble status)
+      → IsTold (is_some trouble) errors → IsOutcome arguments input is_utf8
       (record { output = output; errors = errors; status = exit_status status })
   response : (asked : Option Asked) (written : Written) (reasons errors : List ℕ)
       → has_subcommand arguments ≡ false → IsAsked arguments asked
       → Responds (option_map (with_lines input) asked) written
       → (tells_why asked ≡ false → reasons ≡ [])
-      → IsTold (is_some written.refusal) errors → IsOutcome arguments input (record {
+      → IsTold (is_some written.refusal) errors → IsOutcome arguments input is_utf8 (record {
         output = written.output;
         errors = reasons ++ errors;
         status = if written.is_success then 0 else 1;
       })
+
+-- how the program ends a write to standard output: that a reader has closed the pipe is no error
+pub data IsUnlessClosed : Result (Unit {0}) Error → Result (Unit {0}) Error → Type 0 where
+  written : (u v : Unit {0}) → IsUnlessClosed (Ok u) (Ok v)
+  closed : (error : Error) → error_kind error ≡ BrokenPipe → IsUnlessClosed (Err error) (Ok tt)
+  failed : (error : Error) → error_kind error ≢ BrokenPipe → IsUnlessClosed (Err error) (Err error)

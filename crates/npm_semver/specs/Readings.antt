@@ -34,3 +34,9 @@ HasRange r = HasAlternativesIn r.is_loose MAX_SAFE_INTEGER r.include_prerelease
 pub data SomeText (Is : List ℕ → Type 0) : List (List ℕ) → Type 0 where
   here : (text : List ℕ) (texts : List (List ℕ)) → Is text → SomeText Is (text ∷ texts)
   later : (text : List ℕ) (texts : List (List ℕ)) → SomeText Is texts → SomeText Is (text ∷ texts)
+
+-- the first text of these that is so
+pub data IsFirst (Is : List ℕ → Type 0) : List (List ℕ) → List ℕ → Type 0 where
+  this : (text : List ℕ) (texts : List (List ℕ)) → Is text → IsFirst Is (text ∷ texts) text
+  further : (text found : List ℕ) (texts : List (List ℕ)) → (Is text → ⊥) → IsFirst Is texts found
+      → IsFirst Is (text ∷ texts) found

@@ -1,7 +1,7 @@
 -- Statement: what the command writes for what its arguments ask.
 use Rattle.std.specs.Prelude.{◌≡◌, ◌&&◌, ◌||◌, ◌==◌, ◌∷◌, ◌++◌, [], not, ℕ, Bool, true, false, List}
 use Rattle.std.specs.Prelude.{Option, Some, None, Result, Ok, Err, map, reverse, take}
-use Rattle.std.specs.Prelude.{if◌then◌else◌}
+use Rattle.std.specs.Prelude.{if◌then◌else◌, is_some}
 use Rattle.std.specs.Int.{is_in_range}
 use Rattle.std.specs.List.{flat_map, list_all}
 use Rattle.std.specs.Str.Lines.{lines}
@@ -12,7 +12,7 @@ use Rattle.semver_core.specs.Printing.Text.{version_text}
 use Rattle.semver_core.specs.Values.Versions.{VersionValue}
 use Rattle.npm_semver.specs.Arguments.{Asked}
 use Rattle.npm_semver.specs.Listing.{AreListed, Entry, IsListing}
-use Rattle.npm_semver.specs.Readings.{HasRange, IsVersionIn, SomeText}
+use Rattle.npm_semver.specs.Readings.{HasRange, IsFirst, IsVersionIn, SomeText}
 use Rattle.npm_semver.specs.declared.question.Pick.{Pick}
 use Rattle.npm_semver.specs.declared.question.Pick.TheVariants.{All, Greatest, Least}
 
@@ -45,9 +45,16 @@ picked All es = es
 picked Greatest es = take 1 (reverse es)
 picked Least es = take 1 es
 
-abbrev pub text_of : Asked → List Entry → List ℕ
-text_of q es = let printed = map (shown q.as_written) (in_order q.is_reversed (picked q.pick es)) in
+abbrev pub printed_text : Asked → List Entry → List ℕ
+printed_text q es = let printed = map (shown q.as_written) es in
     if q.is_json then json printed else flat_map line printed
+
+abbrev pub text_of : Asked → List Entry → List ℕ
+text_of q es = printed_text q (in_order q.is_reversed (picked q.pick es))
+
+-- the order in which the texts were given is kept, unless one version alone is asked for
+abbrev pub prints_as_given : Asked → Bool
+prints_as_given q = q.keeps_order && (elim q.pick [ All ↦ true | _ ↦ false ])
 
 -- why nothing is printed, where that is an error
 pub data Refusal : Type 0 where
@@ -83,7 +90,7 @@ increment_written q level (d ∷ e ∷ es) = nothing_written (Some NotOneVersion
 
 -- some word has to be an option, and is none
 abbrev pub HasUnknown : Asked → Type 0
-HasUnknown q = (q.is_strict && q.has_unknown) ≡ true
+HasUnknown q = (q.is_strict && is_some q.unknown) ≡ true
 
 -- some range text has to be one, and is none: loosely npm's program reads more
 abbrev pub HasUnread : Asked → Type 0
@@ -113,6 +120,16 @@ pub data IsRefused (q : Asked) : Refusal → Type 0 where
   unshown : (HasUnknown q → ⊥) → (HasUnread q → ⊥) → (HasNoVersion q → ⊥) → HasUnshown q
       → IsRefused q UnshownText
 
+-- the text that an error names: the first that is so; `-l` alone names none
+pub data Names (q : Asked) : Refusal → Option (List ℕ) → Type 0 where
+  option : (word : List ℕ) → q.unknown ≡ Some word → Names q UnknownOption (Some word)
+  range : (text : List ℕ) → IsFirst (λ t. NoValue (HasRange q.reading t)) q.ranges text
+      → q.is_strict ≡ true → Names q UnreadRange (Some text)
+  loosely : q.is_strict ≡ false → Names q UnreadRange None
+  version : (text : List ℕ) → IsFirst (λ t. NoValue (IsVersionIn q.reading t)) q.versions text
+      → Names q NoVersion (Some text)
+  none : Names q UnshownText None
+
 -- what is written for what is asked
 pub data Responds : Option Asked → Written → Type 0 where
   help : (text : List ℕ)
@@ -120,8 +137,11 @@ pub data Responds : Option Asked → Written → Type 0 where
   refused : (q : Asked) (refusal : Refusal) → IsRefused q refusal
       → Responds (Some q) (nothing_written (Some refusal))
   versions : (q : Asked) (es : List Entry) → NoValue (IsRefused q) → q.level ≡ None
-      → IsListing q.reading q.ranges q.versions es → Responds (Some q)
+      → prints_as_given q ≡ false → IsListing q.reading q.ranges q.versions es → Responds (Some q)
       (record { output = text_of q es; refusal = None; is_success = not (is_empty es) })
+  given : (q : Asked) (es : List Entry) → NoValue (IsRefused q) → q.level ≡ None
+      → prints_as_given q ≡ true → AreListed q.reading q.ranges q.versions es → Responds (Some q)
+      (record { output = printed_text q es; refusal = None; is_success = not (is_empty es) })
   increment : (q : Asked) (level : List ℕ) (es : List Entry) → NoValue (IsRefused q)
       → q.level ≡ Some level → AreListed q.reading [] q.versions es
       → Responds (Some q) (increment_written q level es)

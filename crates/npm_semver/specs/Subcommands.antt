@@ -1,11 +1,11 @@
 -- Statement: what the subcommands answer.
 use Rattle.std.specs.Prelude.{◌≡◌, ◌∷◌, ◌++◌, [], not, ℕ, Bool, true, false, List, Option, Some}
 use Rattle.std.specs.Prelude.{None, Result, IfSome, Ok, Err, codes, option_map, is_some, is_none}
-use Rattle.std.specs.Prelude.{◌&&◌, unwrap_or, if◌then◌else◌}
+use Rattle.std.specs.Prelude.{◌&&◌, ◌≢◌, unwrap_or, if◌then◌else◌}
 use Rattle.std.specs.Fmt.{decimal}
 use Rattle.std.specs.List.{flat_map, list_all}
 use Rattle.std.specs.Ordering.{is_eq, is_ge, is_gt, is_le, is_lt}
-use Rattle.std.specs.Str.{bytes_eq}
+use Rattle.std.specs.Str.{IsAscii, bytes_eq}
 use Rattle.std.specs.Str.Lines.{lines}
 use Rattle.std.specs.declared.cmp.Ordering.{Ordering}
 use Rattle.std.specs.declared.cmp.Ordering.TheVariants.{Less, Equal, Greater}
@@ -201,11 +201,20 @@ pub data IsAnswer (input : List ℕ) (words : List (List ℕ)) : Said → Type 0
   of_lines : (output : List ℕ) → takes_input words ≡ true → AreLines HasKeyAndText (lines input) output
       → IsAnswer input words (say output None Yes)
 
--- what is said of the words: their answer, or that they ask nothing
-pub data IsReply (input : List ℕ) (words : List (List ℕ)) : Said → Type 0 where
-  answered : (said : Said) → IsAnswer input words said → IsReply input words said
+-- what is drawn is ASCII
+pub data IsInAscii : List (List ℕ) → Said → Type 0 where
+  drawn : (a : List ℕ) (r : Range) (drawing : List ℕ) → IsRange a r → IsAscii drawing
+      → IsInAscii (codes "explain" ∷ a ∷ []) (say (range_text r ++ 10 ∷ drawing) None Yes)
+  other : (name : List ℕ) (words : List (List ℕ)) (said : Said) → name ≢ codes "explain"
+      → IsInAscii (name ∷ words) said
+
+-- what is said of the words: their answer, in ASCII where the locale has no UTF-8, or that they ask
+-- nothing
+pub data IsReply (input : List ℕ) (is_utf8 : Bool) (words : List (List ℕ)) : Said → Type 0 where
+  answered : (said : Said) → IsAnswer input words said → (is_utf8 ≡ false → IsInAscii words said)
+      → IsReply input is_utf8 words said
   malformed : (trouble : Trouble) → NoValue (IsAnswer input words)
-      → IsReply input words (say [] (Some trouble) Malformed)
+      → IsReply input is_utf8 words (say [] (Some trouble) Malformed)
 
 -- the first word names a subcommand
 abbrev pub is_subcommand : List ℕ → Bool

@@ -1,5 +1,7 @@
 // A text, and carets under the place where something is wrong.
 
+ghost use Rattle.std.specs.Prelude.{◌≡◌};
+
 use npm_reading::{Flaw, Wrong, range_flaw, version_flaw};
 use std::fmt;
 
@@ -15,7 +17,9 @@ pub struct Marked<'a> {
 
 impl<'a> Marked<'a> {
     /// The whole text is marked.
-    pub fn whole(reason: &'static str, text: &'a str) -> Marked<'a> {
+    pub fn whole(reason: &'static str, text: &'a str) -> Marked<'a>
+        ensures { result.text.now ≡ text.now }
+    {
         Marked {
             reason,
             text,
@@ -25,7 +29,9 @@ impl<'a> Marked<'a> {
     }
 
     /// Why npm does not read a text as a version.
-    pub fn no_version(text: &'a str) -> Marked<'a> {
+    pub fn no_version(text: &'a str) -> Marked<'a>
+        ensures { result.text.now ≡ text.now }
+    {
         let end = text.len();
         match version_flaw(text) {
             None => Marked::whole("no version", text),
@@ -40,7 +46,9 @@ impl<'a> Marked<'a> {
     }
 
     /// Why npm does not read a text as a range: its first malformed word.
-    pub fn no_range(text: &'a str, include_prerelease: bool) -> Marked<'a> {
+    pub fn no_range(text: &'a str, include_prerelease: bool) -> Marked<'a>
+        ensures { result.text.now ≡ text.now }
+    {
         match range_flaw(text, include_prerelease) {
             None => Marked::whole("no range", text),
             Some(flaw) => Marked {

@@ -1,4 +1,4 @@
-// The program as a function of its arguments and its input.
+// The program as a function of its arguments, its input and the locale.
 
 ghost use Rattle.std.specs.Prelude.{◌≡◌, ◌∷◌, ◌++◌, ℕ, List, IfNone, IfOk, IfSome, OnOk};
 ghost use Rattle.std.specs.Prelude.{false, is_some, map, string_bytes};
@@ -46,9 +46,9 @@ impl Outcome {
     }
 
     // What is written for a response.
-    fn of_response(alloc: Global, response: Response) -> Result<Outcome, AllocError>
+    fn of_response(alloc: Global, response: Response<'_>) -> Result<Outcome, AllocError>
         ensures { IfOk result (λ o.
-            IsWritten (written response) (string_bytes response.told) (outcome o)) }
+            IsWritten (written response.entry) (string_bytes response.entry.told) (outcome o)) }
     {
         let Response {
             output,
@@ -97,14 +97,15 @@ impl<'a> Command<'a> {
         }
     }
 
-    /// What the program writes if this is the input. Fails only if allocation fails.
-    pub fn answer(self, alloc: Global, input: &'a str) -> Result<Outcome, AllocError>
+    /// What the program writes if this is the input. Where the locale has no UTF-8, drawings are
+    /// ASCII. Fails only if allocation fails.
+    pub fn answer(self, alloc: Global, input: &'a str, is_utf8: bool) -> Result<Outcome, AllocError>
         ensures { IfOk result (λ o. (arguments : List (List ℕ)) → IsCommand arguments self.entry
-            → IsOutcome arguments input.now (outcome o)) }
+            → IsOutcome arguments input.now is_utf8 (outcome o)) }
     {
         match self {
             Command::Subcommand(subcommand, words) => {
-                Outcome::of_reply(alloc, subcommand.reply(alloc, words, input)?)
+                Outcome::of_reply(alloc, subcommand.reply(alloc, words, input, is_utf8)?)
             }
             Command::Request(request) => {
                 let request = request.with_lines(alloc, input)?;
@@ -114,14 +115,20 @@ impl<'a> Command<'a> {
     }
 }
 
-/// What the program writes for the arguments behind its name, and for the input, which counts only
-/// if the arguments ask for it. Fails only if allocation fails.
-pub fn run(alloc: Global, arguments: &[String], input: &str) -> Result<Outcome, AllocError>
+/// What the program writes for the arguments behind its name, for the input, which counts only if
+/// the arguments ask for it, and for a locale that has UTF-8 or has not. Fails only if allocation
+/// fails.
+pub fn run(
+    alloc: Global,
+    arguments: &[String],
+    input: &str,
+    is_utf8: bool,
+) -> Result<Outcome, AllocError>
     ensures { IfOk result (λ o.
-        IsOutcome (map string_bytes arguments.now) input.now (outcome o)) }
+        IsOutcome (map string_bytes arguments.now) input.now is_utf8 (outcome o)) }
 {
     let command = Command::of(alloc, arguments)?;
-    command.answer(alloc, input)
+    command.answer(alloc, input, is_utf8)
 }
 
 // The subcommand that the first argument names, and the words behind it.

@@ -34,10 +34,11 @@ beyond npm's program:
 
   -                           versions from standard input, one a line
       --max, --min            print the greatest or the least version alone
+      --keep-order            print versions in the order in which they were given
       --json                  print a JSON array of strings
       --as-written            print each text as it was given, without the whitespace around it
-      --strict                make a text that is no version or no range, or an unknown option, an
-                              error
+      --strict                make the first text that is no version or no range, or the first
+                              unknown option, an error
       --why                   tell on standard error why each text is left out
 
 Prints each version without its build metadata, in ascending order. Texts that are no versions are

@@ -13,6 +13,7 @@ ghost use Rattle.npm_semver.specs.Laws.{EachText, IsAccepted, IsLeftOut};
 ghost use Rattle.npm_semver.specs.Listing.{AreListed, Entry};
 ghost use Rattle.npm_semver.specs.Readings.{SomeText};
 ghost use Rattle.npm_semver.specs.Responses.{IsRefused, Responds, Written, next_text};
+ghost use Rattle.npm_semver.specs.Responses.{prints_as_given};
 
 use npm_words::laws::npm_reads_once;
 use semver_core::laws::{least_increments, whitespace_ends};
@@ -43,13 +44,15 @@ pub fn one_answer()
 }
 
 /// The answer does not depend on the order of the texts that may be versions: it stays right where
-/// two neighbouring parts of them are exchanged, and it is the only one that is.
+/// two neighbouring parts of them are exchanged, and it is the only one that is. With
+/// `--keep-order` it does.
 pub fn exchanges()
     ensures right { (q : Asked) (front a b back : List (List ℕ)) (written : Written)
+        → prints_as_given q ≡ false
         → Responds (Some (record q { versions = front ++ (a ++ (b ++ back)) })) written
         → Responds (Some (record q { versions = front ++ (b ++ (a ++ back)) })) written }
     ensures same { (q : Asked) (front a b back : List (List ℕ)) (one other : Written)
-        → EachText IsUtf8 q.ranges
+        → prints_as_given q ≡ false → EachText IsUtf8 q.ranges
         → Responds (Some (record q { versions = front ++ (a ++ (b ++ back)) })) one
         → Responds (Some (record q { versions = front ++ (b ++ (a ++ back)) })) other
         → one ≡ other }

@@ -9,6 +9,8 @@ mod entry;
 mod help;
 mod laws;
 mod listing;
+mod locale;
+mod pipe;
 mod question;
 mod reading;
 mod refusal;
@@ -17,12 +19,15 @@ mod subcommands;
 mod why;
 
 use crate::command::Command;
+use crate::locale::shows_utf8;
+use crate::pipe::unless_closed;
 use anyhow::Result;
 use std::process::ExitCode;
 use std::{env, io};
 
 fn main(rt: HostRuntime) -> Result<ExitCode> {
     let alloc = rt.alloc();
+    let is_utf8 = shows_utf8(&rt)?;
     let arguments: Vec<String> = env::args(&rt)?.skip(1).collect(alloc)?;
     let command = Command::of(alloc, &arguments)?;
     let input = if command.reads_input() {
@@ -30,8 +35,9 @@ fn main(rt: HostRuntime) -> Result<ExitCode> {
     } else {
         String::new(alloc)
     };
-    let outcome = command.answer(alloc, &input)?;
+    let outcome = command.answer(alloc, &input, is_utf8)?;
     eprint!(rt; "{}", outcome.errors)?;
-    print!(rt; "{}", outcome.output)?;
+    let written = print!(rt; "{}", outcome.output);
+    unless_closed(written)?;
     Ok(ExitCode::from(outcome.status))
 }

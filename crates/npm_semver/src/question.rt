@@ -9,7 +9,7 @@ ghost use Rattle.std.specs.Char.{is_ascii_digit};
 ghost use Rattle.std.specs.List.{list_all};
 ghost use Rattle.std.specs.Str.Lines.{lines};
 ghost use Rattle.semver_core.specs.Text.Characters.{begins};
-ghost use Rattle.npm_semver.specs.Responses.{reads_input, with_lines};
+ghost use Rattle.npm_semver.specs.Responses.{prints_as_given, reads_input, with_lines};
 ghost use Rattle.npm_semver.specs.declared.question.Word.TheVariants as Word;
 ghost use Rattle.npm_semver.specs.Internal.Asked.{asked_of, request_of, texts};
 
@@ -35,6 +35,7 @@ pub enum Word {
     FromLeft,
     Greatest,
     Least,
+    KeepOrder,
     AsWritten,
     Json,
     Strict,
@@ -65,6 +66,7 @@ impl Word {
             "--ltr" => Word::FromLeft,
             "--max" => Word::Greatest,
             "--min" => Word::Least,
+            "--keep-order" => Word::KeepOrder,
             "--as-written" => Word::AsWritten,
             "--json" => Word::Json,
             "--strict" => Word::Strict,
@@ -119,6 +121,8 @@ pub struct Question<'a> {
     pub reading: ReadOptions,
     /// Which of the versions are printed.
     pub pick: Pick,
+    /// Whether they are printed in the order in which they were given.
+    pub keeps_order: bool,
     /// Whether they are printed as they were given.
     pub as_written: bool,
     /// Whether they are printed as JSON.
@@ -127,8 +131,8 @@ pub struct Question<'a> {
     pub is_strict: bool,
     /// Whether it is told why texts are left out.
     pub is_why: bool,
-    /// Whether some word looks like an option and is none.
-    pub has_unknown: bool,
+    /// The first word that looks like an option and is none.
+    pub unknown: Option<&'a str>,
     /// Whether the lines of the input may be versions too.
     pub reads_input: bool,
 }
@@ -146,11 +150,12 @@ impl<'a> Question<'a> {
             is_reversed: false,
             reading: ReadOptions::strict(),
             pick: Pick::All,
+            keeps_order: false,
             as_written: false,
             is_json: false,
             is_strict: false,
             is_why: false,
-            has_unknown: false,
+            unknown: None,
             reads_input: false,
         }
     }
@@ -180,18 +185,27 @@ impl<'a> Question<'a> {
             Word::FromLeft => self.reading.from_right = false,
             Word::Greatest => self.pick = Pick::Greatest,
             Word::Least => self.pick = Pick::Least,
+            Word::KeepOrder => self.keeps_order = true,
             Word::AsWritten => self.as_written = true,
             Word::Json => self.is_json = true,
             Word::Strict => self.is_strict = true,
             Word::Why => self.is_why = true,
             Word::Input => self.reads_input = true,
             Word::Unknown => {
-                self.has_unknown = true;
+                self.unknown = Some(self.unknown.unwrap_or(text));
                 self.versions.push(text)?;
             }
             Word::Text => self.versions.push(text)?,
         }
         Ok(())
+    }
+
+    /// Whether versions are printed in the order in which they were given, which a single one has
+    /// not.
+    pub fn prints_as_given(&self) -> bool
+        ensures { result ≡ prints_as_given (asked_of self.now) }
+    {
+        self.keeps_order && matches!(self.pick, Pick::All)
     }
 
     // Adds the lines of the input to the texts that may be versions, if `-` asks for them.

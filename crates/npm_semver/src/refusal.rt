@@ -1,52 +1,75 @@
 // Why nothing is answered.
 
-ghost use Rattle.std.specs.Prelude.{◌≡◌, ◌&&◌, ◌||◌, IfNone, IfSome, not};
+ghost use Rattle.std.specs.Prelude.{◌≡◌, ◌&&◌, ◌||◌, ◌∷◌, [], IfNone, IfSome, None, is_some, not};
+ghost use Rattle.std.specs.Prelude.{Some, option_map, take, if◌then◌else◌};
 ghost use Rattle.std.specs.List.{list_all, list_any};
 ghost use Rattle.semver_core.specs.Failures.{NoValue};
 ghost use Rattle.semver_core.specs.Lists.{is_empty};
-ghost use Rattle.npm_semver.specs.Responses.{IsRefused, is_plain};
+ghost use Rattle.npm_semver.specs.Responses as Spec;
+ghost use Rattle.npm_semver.specs.Responses.{IsRefused, Names, is_plain};
 ghost use Rattle.npm_semver.specs.Internal.Asked.{asked_of};
-ghost use Rattle.npm_semver.specs.Internal.Texts.{IsReadFor, is_no_version};
-ghost use Rattle.npm_semver.specs.Internal.Written.{told_as};
+ghost use Rattle.npm_semver.specs.Internal.Texts.{IsFirstLacking, IsReadFor, is_no_version};
+ghost use Rattle.npm_semver.specs.Internal.Written.{name_in, told_as};
 
+use crate::caret::Marked;
 use crate::listing::Texts;
 use crate::question::Question;
-use crate::why::{Kind, Reason};
+use crate::why::Reason;
 use nodejs_semver::IncrementError;
 use thiserror::Error;
 
 /// Why nothing is printed.
 #[derive(Debug, Drop, Error)]
-pub enum Refusal {
+pub enum Refusal<'a> {
     #[error("-i takes one version and no range")]
     NotOneVersion,
-    #[error("a word that begins with - is no option")]
-    UnknownOption,
+    #[error("a word that begins with - is no option: {0:?}")]
+    UnknownOption(&'a str),
+    #[error("{0}")]
+    UnreadRange(Marked<'a>),
     #[error("a range is malformed, or has a word that is not read with -l")]
-    UnreadRange,
-    #[error("a text is no version")]
-    NoVersion,
+    UnreadLoosely,
+    #[error("{0}")]
+    NoVersion(Marked<'a>),
     #[error("with -c and --as-written a text has a control character, a quote or a backslash")]
     UnshownText,
     #[error("{0}")]
     NotIncremented(IncrementError),
 }
 
-/// Returns why nothing is answered to a question, whose texts are read, if so.
-pub fn refusal_of(question: &Question<'_>, read: &Texts<'_>) -> Option<Refusal>
+impl<'a> Refusal<'a> {
+    // A text is no range. `-l` alone does not name it.
+    fn no_range(question: &Question<'a>, reason: &Reason<'a>) -> Refusal<'a>
+        ensures kind { told_as result ≡ Spec.UnreadRange }
+        ensures name { name_in result
+            ≡ (if question.now.is_strict then Some reason.now.text else None) }
+    {
+        if question.is_strict {
+            Refusal::UnreadRange(reason.marked(question.reading))
+        } else {
+            Refusal::UnreadLoosely
+        }
+    }
+}
+
+/// Returns why nothing is answered to a question, whose texts are read, if so: with the first word
+/// that is no option, the first text that has to be a range, or the first that has to be a version.
+pub fn refusal_of<'a>(question: &Question<'a>, read: &Texts<'a>) -> Option<Refusal<'a>>
     ensures some { IsReadFor (asked_of question.now) read.now → IfSome result (λ refusal.
         IsRefused (asked_of question.now) (told_as refusal)) }
+    ensures named { IsReadFor (asked_of question.now) read.now → IfSome result (λ refusal.
+        Names (asked_of question.now) (told_as refusal) (name_in refusal)) }
     ensures none { IsReadFor (asked_of question.now) read.now → IfNone result
         (NoValue (IsRefused (asked_of question.now))) }
 {
-    if has_unknown(question) {
-        return Some(Refusal::UnknownOption);
+    if let Some(word) = unknown(question) {
+        return Some(Refusal::UnknownOption(word));
     }
-    if has_unread(question, read) {
-        return Some(Refusal::UnreadRange);
+    if let Some(reason) = unread(question, read) {
+        return Some(Refusal::no_range(question, reason));
     }
-    if has_no_version(question, read) {
-        return Some(Refusal::NoVersion);
+    if let Some(reason) = no_version(question, read) {
+        return Some(Refusal::NoVersion(reason.marked(question.reading)));
     }
     if has_unshown(question) {
         return Some(Refusal::UnshownText);
@@ -54,37 +77,57 @@ pub fn refusal_of(question: &Question<'_>, read: &Texts<'_>) -> Option<Refusal>
     None
 }
 
-// Whether a word has to be an option, and is none.
-fn has_unknown(question: &Question<'_>) -> bool
-    ensures { result ≡ question.now.is_strict && question.now.has_unknown }
+// The first word that has to be an option, and is none.
+fn unknown<'a>(question: &Question<'a>) -> Option<&'a str>
+    ensures { option_map (λ word. word.now) result
+        ≡ (if question.now.is_strict then (asked_of question.now).unknown else None) }
 {
-    question.is_strict && question.has_unknown
+    if question.is_strict {
+        question.unknown
+    } else {
+        None
+    }
 }
 
-// Whether a range text has to be a range, and is none.
-fn has_unread(question: &Question<'_>, read: &Texts<'_>) -> bool
-    ensures { result ≡ (question.now.reading.is_loose || question.now.is_strict)
-        && not (is_empty read.now.no_ranges.items) }
+// The first range text that has to be a range, and is none.
+fn unread<'r, 'a>(question: &Question<'a>, read: &'r Texts<'a>) -> Option<&'r Reason<'a>>
+    ensures is { is_some result ≡ ((question.now.reading.is_loose || question.now.is_strict)
+        && not (is_empty read.now.no_ranges.items)) }
+    ensures first { IfSome result (λ reason.
+        take 1 read.now.no_ranges.items ≡ reason.now ∷ []) }
 {
-    (question.reading.is_loose || question.is_strict) && !read.no_ranges.is_empty()
+    if !question.reading.is_loose && !question.is_strict {
+        return None;
+    }
+    let (first, _) = read.no_ranges.split_first()?;
+    Some(first)
 }
 
-// Whether a text has to be a version, and is none.
-fn has_no_version(question: &Question<'_>, read: &Texts<'_>) -> bool
-    ensures { result ≡ question.now.is_strict && list_any is_no_version read.now.left_out.items }
+// The first text that has to be a version, and is none.
+fn no_version<'r, 'a>(question: &Question<'a>, read: &'r Texts<'a>) -> Option<&'r Reason<'a>>
+    ensures is { is_some result ≡ (question.now.is_strict
+        && list_any is_no_version read.now.left_out.items) }
+    ensures first { IfSome result (λ reason.
+        IsFirstLacking read.now.left_out.items reason.now) }
 {
-    question.is_strict && has_none(&read.left_out)
+    if question.is_strict {
+        first_lacking(&read.left_out)
+    } else {
+        None
+    }
 }
 
-// Whether some text is told of that is no version.
-fn has_none(left_out: &[Reason<'_>]) -> bool
-    ensures { result ≡ list_any is_no_version left_out.now }
+// The first text of those that are told of that is no version.
+fn first_lacking<'r, 'a>(left_out: &'r [Reason<'a>]) -> Option<&'r Reason<'a>>
+    ensures is { is_some result ≡ list_any is_no_version left_out.now }
+    ensures first { IfSome result (λ reason. IsFirstLacking left_out.now reason.now) }
 {
-    left_out.iter().any(
-        |reason| -> bool
-            ensures { result ≡ is_no_version reason.now }
-        { matches!(reason.kind, Kind::NoVersion) },
-    )
+    for reason in left_out {
+        if reason.is_no_version() {
+            return Some(reason);
+        }
+    }
+    None
 }
 
 // Whether some text may be printed as it was given, and is no line or no JSON string.

@@ -2,7 +2,7 @@
 
 ghost use Rattle.std.specs.Prelude.{◌≡◌, ◌++◌, ◌∷◌, [], not, option_map, IfOk, OnOk, None, Ok};
 ghost use Rattle.std.specs.Prelude.{Some};
-ghost use Rattle.std.specs.Prelude.{false, map, string_bytes, if◌then◌else◌};
+ghost use Rattle.std.specs.Prelude.{false, map, string_bytes, true, if◌then◌else◌};
 ghost use Rattle.std.specs.List.{flat_map};
 ghost use Rattle.semver_core.specs.Failures.{NoValue};
 ghost use Rattle.semver_core.specs.Increments.Table.{answer_of_inc};
@@ -11,7 +11,7 @@ ghost use Rattle.semver_core.specs.Printing.Text.{marked_list};
 ghost use Rattle.npm_semver.specs.Listing.{AreListed};
 ghost use Rattle.npm_semver.specs.Responses.{IsRefused, Responds, bare, json, line};
 ghost use Rattle.npm_semver.specs.Responses.{in_order, next_written, nothing_written, picked};
-ghost use Rattle.npm_semver.specs.Responses.{quoted, shown, tells_why};
+ghost use Rattle.npm_semver.specs.Responses.{prints_as_given, quoted, shown, tells_why};
 ghost use Rattle.npm_semver.specs.Internal.Asked.{asked_of, request_of};
 ghost use Rattle.npm_semver.specs.Internal.Texts.{IsReadFor};
 ghost use Rattle.npm_semver.specs.Internal.Written.{told_as, written};
@@ -27,20 +27,20 @@ use std::alloc::{AllocError, Global};
 
 /// What the command writes, and whether it succeeds.
 #[derive(Drop)]
-pub struct Response {
+pub struct Response<'a> {
     /// The text for standard output.
     pub output: String,
     /// Why texts are left out, for standard error, if that is asked for.
     pub told: String,
     /// Why nothing is printed, for standard error. Nothing says so where no text is a version that
     /// all ranges accept.
-    pub refusal: Option<Refusal>,
+    pub refusal: Option<Refusal<'a>>,
     /// Whether the exit status is 0: exactly if something is printed.
     pub is_success: bool,
 }
 
 /// Returns what the command writes for a request. Fails only if allocation fails.
-pub fn respond(alloc: Global, request: &Request<'_>) -> Result<Response, AllocError>
+pub fn respond<'a>(alloc: Global, request: &Request<'a>) -> Result<Response<'a>, AllocError>
     ensures response { IfOk result (λ response.
         Responds (request_of request.now) (written response)) }
     ensures told { tells_why (request_of request.now) ≡ false
@@ -53,7 +53,7 @@ pub fn respond(alloc: Global, request: &Request<'_>) -> Result<Response, AllocEr
 }
 
 // What is written for a question.
-fn answer(alloc: Global, question: &Question<'_>) -> Result<Response, AllocError>
+fn answer<'a>(alloc: Global, question: &Question<'a>) -> Result<Response<'a>, AllocError>
     ensures response { IfOk result (λ response.
         Responds (Some (asked_of question.now)) (written response)) }
     ensures told { question.now.is_why ≡ false
@@ -68,11 +68,11 @@ fn answer(alloc: Global, question: &Question<'_>) -> Result<Response, AllocError
 }
 
 // What is written for a question whose texts are read.
-fn respond_to(
+fn respond_to<'a>(
     alloc: Global,
-    question: &Question<'_>,
-    read: &mut Texts<'_>,
-) -> Result<Response, AllocError>
+    question: &Question<'a>,
+    read: &mut Texts<'a>,
+) -> Result<Response<'a>, AllocError>
     requires { IsReadFor (asked_of question.now) read.old }
     ensures { IfOk result (λ response.
         Responds (Some (asked_of question.now)) (written response)) }
@@ -84,11 +84,11 @@ fn respond_to(
 }
 
 // What is written for a question that is not refused.
-fn print(
+fn print<'a>(
     alloc: Global,
-    question: &Question<'_>,
-    read: &mut Texts<'_>,
-) -> Result<Response, AllocError>
+    question: &Question<'a>,
+    read: &mut Texts<'a>,
+) -> Result<Response<'a>, AllocError>
     requires read { IsReadFor (asked_of question.now) read.old }
     requires answered { NoValue (IsRefused (asked_of question.now)) }
     ensures { IfOk result (λ response.
@@ -96,11 +96,11 @@ fn print(
 {
     match question.level {
         Some(level) => increment(alloc, question, level, read),
-        None => list(alloc, question, &mut read.entries),
+        None => versions(alloc, question, &mut read.entries),
     }
 }
 
-fn help(alloc: Global) -> Result<Response, AllocError>
+fn help<'a>(alloc: Global) -> Result<Response<'a>, AllocError>
     ensures response { IfOk result (λ response. Responds None (written response)) }
     ensures told { IfOk result (λ response. string_bytes response.told ≡ []) }
 {
@@ -113,8 +113,8 @@ fn help(alloc: Global) -> Result<Response, AllocError>
 }
 
 // Nothing is printed.
-fn nothing(alloc: Global, refusal: Option<Refusal>) -> Response
-    ensures { written result ≡ nothing_written (option_map told_as refusal) }
+fn nothing<'a>(alloc: Global, refusal: Option<Refusal<'a>>) -> Response<'a>
+    ensures { written result ≡ nothing_written (option_map told_as refusal.entry) }
 {
     Response {
         output: String::new(alloc),
@@ -125,13 +125,58 @@ fn nothing(alloc: Global, refusal: Option<Refusal>) -> Response
 }
 
 // The versions that are asked for.
-fn list(
+fn versions<'a>(
     alloc: Global,
-    question: &Question<'_>,
-    listed: &mut Vec<Entry<'_>>,
-) -> Result<Response, AllocError>
+    question: &Question<'a>,
+    listed: &mut Vec<Entry<'a>>,
+) -> Result<Response<'a>, AllocError>
     requires answered { NoValue (IsRefused (asked_of question.now)) }
     requires level { question.now.level ≡ None }
+    requires listed { let q = asked_of question.now in
+        AreListed q.reading q.ranges q.versions listed.old.items }
+    ensures { IfOk result (λ response.
+        Responds (Some (asked_of question.now)) (written response)) }
+{
+    if question.prints_as_given() {
+        given(alloc, question, listed)
+    } else {
+        list(alloc, question, listed)
+    }
+}
+
+// The versions, in the order in which they were given.
+fn given<'a>(
+    alloc: Global,
+    question: &Question<'a>,
+    listed: &[Entry<'a>],
+) -> Result<Response<'a>, AllocError>
+    requires answered { NoValue (IsRefused (asked_of question.now)) }
+    requires level { question.now.level ≡ None }
+    requires order { prints_as_given (asked_of question.now) ≡ true }
+    requires listed { let q = asked_of question.now in
+        AreListed q.reading q.ranges q.versions listed.now }
+    ensures { IfOk result (λ response.
+        Responds (Some (asked_of question.now)) (written response)) }
+{
+    let mut output = String::new(alloc);
+    write_all(question.is_json, question.as_written, listed, &mut output)?;
+    Ok(Response {
+        output,
+        told: String::new(alloc),
+        refusal: None,
+        is_success: is_filled(listed),
+    })
+}
+
+// The versions in order.
+fn list<'a>(
+    alloc: Global,
+    question: &Question<'a>,
+    listed: &mut Vec<Entry<'a>>,
+) -> Result<Response<'a>, AllocError>
+    requires answered { NoValue (IsRefused (asked_of question.now)) }
+    requires level { question.now.level ≡ None }
+    requires order { prints_as_given (asked_of question.now) ≡ false }
     requires listed { let q = asked_of question.now in
         AreListed q.reading q.ranges q.versions listed.old.items }
     ensures { IfOk result (λ response.
@@ -179,12 +224,12 @@ fn put_in_order(is_reversed: bool, entries: &mut Vec<Entry<'_>>)
 }
 
 // The next version.
-fn increment(
+fn increment<'a>(
     alloc: Global,
-    question: &Question<'_>,
+    question: &Question<'a>,
     level: &str,
-    read: &Texts<'_>,
-) -> Result<Response, AllocError>
+    read: &Texts<'a>,
+) -> Result<Response<'a>, AllocError>
     requires read { IsReadFor (asked_of question.now) read.now }
     requires answered { NoValue (IsRefused (asked_of question.now)) }
     requires level { (asked_of question.now).level ≡ Some level.now }
@@ -205,12 +250,12 @@ fn increment(
     next(alloc, question, level, &entries[0])
 }
 
-fn next(
+fn next<'a>(
     alloc: Global,
-    question: &Question<'_>,
+    question: &Question<'a>,
     level: &str,
-    entry: &Entry<'_>,
-) -> Result<Response, AllocError>
+    entry: &Entry<'a>,
+) -> Result<Response<'a>, AllocError>
     ensures { IfOk result (λ response. written response ≡ next_written question.now.is_json
         (answer_of_inc entry.now.version level.now
         (asked_of question.now).identifier (Some question.now.base))) }
@@ -223,7 +268,7 @@ fn next(
     }
 }
 
-fn found(alloc: Global, is_json: bool, next: Version) -> Result<Response, AllocError>
+fn found<'a>(alloc: Global, is_json: bool, next: Version) -> Result<Response<'a>, AllocError>
     ensures { IfOk result (λ response. written response ≡ next_written is_json (Ok next)) }
 {
     let next = without_build(alloc, next)?;

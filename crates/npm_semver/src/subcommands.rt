@@ -3,7 +3,7 @@
 ghost use Rattle.std.specs.Prelude.{◌≡◌, ◌∷◌, IfNone, IfOk, IfSome, false, map};
 ghost use Rattle.std.specs.Prelude.{string_bytes};
 ghost use Rattle.semver_core.specs.Failures.{NoValue, RefusedOnlyIf};
-ghost use Rattle.npm_semver.specs.Subcommands.{Answers, IsAnswer, IsReply, is_dash};
+ghost use Rattle.npm_semver.specs.Subcommands.{Answers, IsAnswer, IsInAscii, IsReply, is_dash};
 ghost use Rattle.npm_semver.specs.Subcommands.{is_subcommand, takes_input};
 ghost use Rattle.npm_semver.specs.Internal.Said.{name_of, said};
 
@@ -96,17 +96,18 @@ impl Subcommand {
     }
 
     /// What the subcommand prints for the words behind its name and for the input, and the exit
-    /// status. Fails only if allocation fails.
+    /// status. Where the locale has no UTF-8, drawings are ASCII. Fails only if allocation fails.
     pub fn reply<'a>(
         self,
         alloc: Global,
         words: &'a [String],
         input: &'a str,
+        is_utf8: bool,
     ) -> Result<Reply<'a>, AllocError>
         ensures { IfOk result (λ reply.
-            IsReply input.now (name_of self ∷ map string_bytes words.now) (said reply)) }
+            IsReply input.now is_utf8 (name_of self ∷ map string_bytes words.now) (said reply)) }
     {
-        match self.answer(alloc, words, input) {
+        match self.answer(alloc, words, input, is_utf8) {
             Ok(reply) => Ok(reply),
             Err(Failure::Refused(trouble)) => Ok(Reply {
                 output: String::new(alloc),
@@ -124,16 +125,19 @@ impl Subcommand {
         alloc: Global,
         words: &'a [String],
         input: &'a str,
+        is_utf8: bool,
     ) -> Result<Reply<'a>, Failure<Trouble<'a>>>
         ensures ok { IfOk result (λ reply.
             IsAnswer input.now (name_of self ∷ map string_bytes words.now) (said reply)) }
+        ensures ascii { is_utf8 ≡ false → IfOk result (λ reply.
+            IsInAscii (name_of self ∷ map string_bytes words.now) (said reply)) }
         ensures refused { RefusedOnlyIf result
             (NoValue (IsAnswer input.now (name_of self ∷ map string_bytes words.now))) }
     {
         if self.takes_input(words) {
             return key_lines(alloc, input);
         }
-        self.answer_words(alloc, words)
+        self.answer_words(alloc, words, is_utf8)
     }
 
     // Answers a question that its words alone ask.
@@ -141,9 +145,12 @@ impl Subcommand {
         self,
         alloc: Global,
         words: &'a [String],
+        is_utf8: bool,
     ) -> Result<Reply<'a>, Failure<Trouble<'a>>>
         ensures ok { IfOk result (λ reply.
             Answers (name_of self ∷ map string_bytes words.now) (said reply)) }
+        ensures ascii { is_utf8 ≡ false → IfOk result (λ reply.
+            IsInAscii (name_of self ∷ map string_bytes words.now) (said reply)) }
         ensures refused { RefusedOnlyIf result
             (NoValue (Answers (name_of self ∷ map string_bytes words.now))) }
     {
@@ -153,7 +160,7 @@ impl Subcommand {
             Subcommand::Next => next(alloc, words),
             Subcommand::Range => range(alloc, words),
             Subcommand::Least => least(alloc, words),
-            Subcommand::Explain => explain(alloc, words),
+            Subcommand::Explain => explain(alloc, words, is_utf8),
             Subcommand::Get => get(alloc, words),
             Subcommand::Valid => valid(alloc, words),
             Subcommand::Key => key(alloc, words),

@@ -1,6 +1,7 @@
 // Why texts are left out, for a person to read.
 
 ghost use Rattle.std.specs.Prelude.{◌≡◌, [], IfOk, false, string_bytes};
+ghost use Rattle.npm_semver.specs.Internal.Texts.{is_no_version};
 
 use crate::caret::Marked;
 use crate::listing::Texts;
@@ -35,6 +36,29 @@ impl<'a> Model for Reason<'a> {
     ghost view = { λ reason. record { text = reason.text.now; kind = reason.kind } };
 }
 
+impl<'a> Reason<'a> {
+    /// Whether the text is no version.
+    pub fn is_no_version(&self) -> bool
+        ensures { result ≡ is_no_version self.now }
+    {
+        matches!(self.kind, Kind::NoVersion)
+    }
+
+    /// The text, with carets under the place where something is wrong.
+    pub fn marked(&self, reading: ReadOptions) -> Marked<'a>
+        ensures { result.text.now ≡ self.now.text }
+    {
+        let text = self.text;
+        match self.kind {
+            Kind::NoRange if reading.is_loose => Marked::whole("no range", text),
+            Kind::NoRange => Marked::no_range(text, reading.include_prerelease),
+            Kind::NotAccepted => Marked::whole("not accepted by each range", text),
+            Kind::NoVersion if reading.is_coerced => Marked::whole("no version is found", text),
+            Kind::NoVersion => Marked::no_version(text),
+        }
+    }
+}
+
 /// Returns, if it is asked for, for each range text that is no range, and for each text that is no
 /// version or is not accepted, a line that says so, the text, and carets under the place. In texts
 /// every character that is not printable ASCII is escaped.
@@ -59,13 +83,5 @@ fn write_told(
     reason: &Reason<'_>,
     output: &mut String,
 ) -> Result<(), AllocError> {
-    let text = reason.text;
-    let marked = match reason.kind {
-        Kind::NoRange if reading.is_loose => Marked::whole("no range", text),
-        Kind::NoRange => Marked::no_range(text, reading.include_prerelease),
-        Kind::NotAccepted => Marked::whole("not accepted by each range", text),
-        Kind::NoVersion if reading.is_coerced => Marked::whole("no version is found", text),
-        Kind::NoVersion => Marked::no_version(text),
-    };
-    writeln!(output, "semver: {marked}")
+    writeln!(output, "semver: {}", reason.marked(reading))
 }

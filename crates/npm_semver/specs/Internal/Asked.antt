@@ -19,11 +19,12 @@ asked_of q = record {
   is_reversed = q.is_reversed;
   reading = q.reading;
   pick = q.pick;
+  keeps_order = q.keeps_order;
   as_written = q.as_written;
   is_json = q.is_json;
   is_strict = q.is_strict;
   is_why = q.is_why;
-  has_unknown = q.has_unknown;
+  unknown = option_map (λ t. t.now) q.unknown;
   reads_input = q.reads_input;
 }
 

@@ -1,5 +1,5 @@
 -- For proofs. What texts are read as.
-use Rattle.std.specs.Prelude.{◌≡◌, [], not, ℕ, Bool, true, false, List, Option}
+use Rattle.std.specs.Prelude.{◌≡◌, ◌∷◌, [], not, ℕ, Bool, true, false, List, Option}
 use Rattle.semver_core.specs.Cuts.{Span}
 use Rattle.semver_core.specs.Lists.{is_empty}
 use Rattle.semver_core.specs.Values.Versions.{VersionValue}
@@ -34,3 +34,9 @@ IsReadFor q = Reads q.reading q.ranges q.versions
 
 abbrev pub is_no_version : Told → Bool
 is_no_version told = elim told.kind [ NoVersion ↦ true | _ ↦ false ]
+
+-- the first of these that is no version
+pub data IsFirstLacking : List Told → Told → Type 0 where
+  this : (t : Told) (ts : List Told) → is_no_version t ≡ true → IsFirstLacking (t ∷ ts) t
+  further : (t found : Told) (ts : List Told) → is_no_version t ≡ false → IsFirstLacking ts found
+      → IsFirstLacking (t ∷ ts) found

@@ -1,10 +1,10 @@
 // The subcommand that draws a range for a person.
 
-ghost use Rattle.std.specs.Prelude.{◌++◌, ◌∷◌, [], IfOk, OnOk, codes, map, string_bytes};
-ghost use Rattle.nodejs_semver.specs.Printing.Text.{range_text};
+ghost use Rattle.std.specs.Prelude.{◌≡◌, ◌<◌, ◌∷◌, [], IfOk, codes, false, map, string_bytes};
+ghost use Rattle.std.specs.Str.{IsAscii};
 ghost use Rattle.semver_core.specs.Failures.{NoValue, RefusedOnlyIf};
-ghost use Rattle.npm_semver.specs.Subcommands.{Answers};
-ghost use Rattle.npm_semver.specs.Internal.Appends.{Extends};
+ghost use Rattle.npm_semver.specs.Subcommands.{Answers, IsInAscii};
+ghost use Rattle.npm_semver.specs.Internal.Drawings.{IsDrawing};
 ghost use Rattle.npm_semver.specs.Internal.Said.{said};
 
 use crate::subcommands::ranges::read_range;
@@ -26,47 +26,95 @@ and for the pre-releases noted at one of them. No other pre-release is accepted.
 ";
 
 /// `explain R` draws a range: a line for each interval, and each version that bounds one, in
-/// ascending order, with what the intervals are there. Returns `Refused` exactly if the words are
-/// not one range.
-pub fn explain<'a>(alloc: Global, words: &'a [String]) -> Result<Reply<'a>, Failure<Trouble<'a>>>
+/// ascending order, with what the intervals are there. Where the locale has no UTF-8, the drawing
+/// is ASCII. Returns `Refused` exactly if the words are not one range.
+pub fn explain<'a>(
+    alloc: Global,
+    words: &'a [String],
+    is_utf8: bool,
+) -> Result<Reply<'a>, Failure<Trouble<'a>>>
     ensures ok { IfOk result (λ reply.
         Answers (codes "explain" ∷ map string_bytes words.now) (said reply)) }
+    ensures ascii { is_utf8 ≡ false → IfOk result (λ reply.
+        IsInAscii (codes "explain" ∷ map string_bytes words.now) (said reply)) }
     ensures refused { RefusedOnlyIf result
         (NoValue (Answers (codes "explain" ∷ map string_bytes words.now))) }
 {
     match words {
-        [text] => drawn(alloc, text),
+        [text] => drawn(alloc, text, is_utf8),
         _ => Err(Failure::Refused(Trouble::Usage("explain RANGE"))),
     }
 }
 
 #[tactic(auto, using(crate::proofs::Answered::no_drawing))]
-fn drawn<'a>(alloc: Global, text: &'a str) -> Result<Reply<'a>, Failure<Trouble<'a>>>
+fn drawn<'a>(alloc: Global, text: &'a str, is_utf8: bool) -> Result<Reply<'a>, Failure<Trouble<'a>>>
     ensures ok { IfOk result (λ reply. Answers (codes "explain" ∷ text.now ∷ []) (said reply)) }
+    ensures ascii { is_utf8 ≡ false
+        → IfOk result (λ reply. IsInAscii (codes "explain" ∷ text.now ∷ []) (said reply)) }
     ensures refused { RefusedOnlyIf result
         (NoValue (Answers (codes "explain" ∷ text.now ∷ []))) }
 {
     let range = read_range(alloc, text)?;
-    Ok(answer(true, drawing(alloc, &range)?))
+    Ok(answer(true, drawing(alloc, &range, is_utf8)?))
 }
 
 // The normal form of a range on a line, and below it the drawing.
-fn drawing(alloc: Global, range: &RangeRef<'_>) -> Result<String, AllocError>
-    ensures { IfOk result (λ text. Extends (range_text range.now ++ 10 ∷ []) (string_bytes text)) }
+fn drawing(alloc: Global, range: &RangeRef<'_>, is_utf8: bool) -> Result<String, AllocError>
+    ensures { IfOk result (λ text. IsDrawing is_utf8 range.now (string_bytes text)) }
 {
+    let drawing = marked(alloc, range.intervals(), is_utf8)?;
     let mut output = String::new(alloc);
     writeln!(output, "{range}")?;
-    write_drawing(alloc, range.intervals(), &mut output)?;
+    output.push_str(&drawing)?;
     Ok(output)
+}
+
+// The drawing, by marks that the locale has.
+fn marked(
+    alloc: Global,
+    intervals: &[Interval<VersionRef<'_>>],
+    is_utf8: bool,
+) -> Result<String, AllocError>
+    ensures { is_utf8 ≡ false → IfOk result (λ text. IsAscii (string_bytes text)) }
+{
+    let mut drawing = String::new(alloc);
+    write_drawing(alloc, intervals, &mut drawing)?;
+    if is_utf8 {
+        Ok(drawing)
+    } else {
+        in_ascii(alloc, &drawing)
+    }
+}
+
+// A drawing by marks of ASCII.
+fn in_ascii(alloc: Global, drawing: &str) -> Result<String, AllocError>
+    ensures { IfOk result (λ text. IsAscii (string_bytes text)) }
+{
+    let mut text = String::new(alloc);
+    for letter in drawing.chars() {
+        text.push(ascii(letter))?;
+    }
+    Ok(text)
+}
+
+fn ascii(letter: char) -> char
+    ensures { result < 128 }
+{
+    match letter {
+        '●' => '*',
+        '○' => 'o',
+        '┃' => '|',
+        '▼' => 'v',
+        _ if letter.is_ascii() => letter,
+        _ => '?',
+    }
 }
 
 fn write_drawing(
     alloc: Global,
     intervals: &[Interval<VersionRef<'_>>],
     output: &mut String,
-) -> Result<(), AllocError>
-    ensures { OnOk result (Extends (string_bytes output.old) (string_bytes output.new)) }
-{
+) -> Result<(), AllocError> {
     let mut versions = bounds(alloc, intervals)?;
     versions.sort()?;
     versions.dedup();
@@ -80,9 +128,7 @@ fn write_rows(
     intervals: &[Interval<VersionRef<'_>>],
     versions: &[VersionRef<'_>],
     output: &mut String,
-) -> Result<(), AllocError>
-    ensures { OnOk result (Extends (string_bytes output.old) (string_bytes output.new)) }
-{
+) -> Result<(), AllocError> {
     for version in versions {
         write_lines(alloc, intervals, version, output)?;
         write_marks(intervals, version, output)?;
@@ -96,9 +142,7 @@ fn write_ends(
     alloc: Global,
     intervals: &[Interval<VersionRef<'_>>],
     output: &mut String,
-) -> Result<(), AllocError>
-    ensures { OnOk result (Extends (string_bytes output.old) (string_bytes output.new)) }
-{
+) -> Result<(), AllocError> {
     let row = ends(alloc, intervals)?;
     write!(output, "{}", row.trim_end())
 }
@@ -156,9 +200,7 @@ fn write_lines(
     intervals: &[Interval<VersionRef<'_>>],
     version: &VersionRef<'_>,
     output: &mut String,
-) -> Result<(), AllocError>
-    ensures { OnOk result (Extends (string_bytes output.old) (string_bytes output.new)) }
-{
+) -> Result<(), AllocError> {
     let row = lines(alloc, intervals, version)?;
     writeln!(output, "{}", row.trim_end())
 }
@@ -188,9 +230,7 @@ fn write_marks(
     intervals: &[Interval<VersionRef<'_>>],
     version: &VersionRef<'_>,
     output: &mut String,
-) -> Result<(), AllocError>
-    ensures { OnOk result (Extends (string_bytes output.old) (string_bytes output.new)) }
-{
+) -> Result<(), AllocError> {
     for interval in intervals {
         output.push_str(mark(interval, version))?;
     }
@@ -202,9 +242,7 @@ fn write_version(
     intervals: &[Interval<VersionRef<'_>>],
     version: &VersionRef<'_>,
     output: &mut String,
-) -> Result<(), AllocError>
-    ensures { OnOk result (Extends (string_bytes output.old) (string_bytes output.new)) }
-{
+) -> Result<(), AllocError> {
     if !is_noted(intervals, version) {
         return writeln!(output, "  {version}");
     }
