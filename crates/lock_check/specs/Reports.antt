@@ -1,10 +1,12 @@
 -- Statement: how rows are written: as text, as JSON, and as commands of a GitHub workflow.
-use Rattle.std.specs.Prelude.{◌==◌, ◌&&◌, ◌+◌, ◌-◌, ◌/◌, ◌%◌, not, nat_le, nat_lt, ℕ, Bool, true, false}
+use Rattle.std.specs.Prelude.{◌==◌, ◌&&◌, ◌+◌, ◌-◌, ◌/◌, ◌%◌, nat_lt, ℕ, Bool, true, false}
 use Rattle.std.specs.Prelude.{cond, encode_utf8, string_bytes, List, [], ◌∷◌, ◌++◌, codes}
 use Rattle.std.specs.Prelude.{Option, Some, None, option_map}
 use Rattle.std.specs.Fmt.{decimal}
 use Rattle.std.specs.List.{flat_map}
 use Rattle.std.specs.Str.{chars}
+use Rattle.serde_json.specs.Data.{Data, member, no_members, null, number, object, string, unsigned}
+use Rattle.serde_json.specs.Written.{compact_text}
 use Rattle.lock_check.specs.declared.finding.Kind.{Kind}
 use Rattle.lock_check.specs.declared.finding.Kind.TheVariants.{Absent, Malformed, Missing, Rejected}
 use Rattle.lock_check.specs.declared.finding.Kind.TheVariants.{Satisfied, Skipped}
@@ -24,10 +26,6 @@ kind_word Malformed = codes "malformed"
 abbrev pub text_line : List ℕ → Row → List ℕ
 text_line file r = file ++ (58 ∷ (decimal r.line ++ (58 ∷ 32 ∷ (string_bytes r.message ++ 10 ∷ []))))
 
--- printable ASCII but the quote and the backslash
-abbrev pub is_unescaped : ℕ → Bool
-is_unescaped c = nat_le 32 c && nat_le c 126 && not (c == 34) && not (c == 92)
-
 abbrev pub hex_digit : ℕ → ℕ
 hex_digit n = cond (nat_lt (n % 16) 10) (48 + n % 16) (87 + n % 16)
 
@@ -40,44 +38,34 @@ unit_text u =
 abbrev pub pair_text : ℕ → List ℕ
 pair_text above = unit_text (55296 + above / 1024) ++ unit_text (56320 + above % 1024)
 
--- a character in a text of JSON: as it is, or its units of UTF-16, which are two above 65535
-abbrev pub escaped : ℕ → List ℕ
-escaped c = cond (is_unescaped c) (c ∷ []) (cond (nat_lt c 65536) (unit_text c) (pair_text (c - 65536)))
+-- a character below DEL as it is, and any other by its units of UTF-16, which are two above 65535
+abbrev pub in_ascii : ℕ → List ℕ
+in_ascii c = cond (nat_lt c 127) (c ∷ []) (cond (nat_lt c 65536) (unit_text c) (pair_text (c - 65536)))
 
-abbrev pub json_text : List ℕ → List ℕ
-json_text text = 34 ∷ (flat_map escaped (chars text) ++ 34 ∷ [])
+abbrev pub ascii_text : List ℕ → List ℕ
+ascii_text text = flat_map in_ascii (chars text)
 
-abbrev pub json_value : Option (List ℕ) → List ℕ
-json_value (Some text) = json_text text
-json_value None = codes "null"
+abbrev pub json_line : List ℕ → List ℕ
+json_line text = ascii_text text ++ 10 ∷ []
 
--- a text as it is, and behind it a value
-unfoldable pub member : List ℕ → Option (List ℕ) → List ℕ
-member front value = front ++ json_value value
+abbrev pub text_or_null : Option (List ℕ) → Data
+text_or_null (Some text) = string text
+text_or_null None = null
 
--- the members that say of what is told, with what is wanted last
-unfoldable pub json_front : Row → List ℕ
-json_front r = member (codes "{\"kind\":") (Some (kind_word r.kind))
-    ++ (member (codes ",\"folder\":") (Some r.folder.now)
-    ++ member (codes ",\"dependency\":") (option_map (λ t. t.now) r.name))
-
-unfoldable pub json_subject : Row → List ℕ
-json_subject r = json_front r ++ member (codes ",\"need\":") (option_map (λ t. t.now) r.need)
-
--- those that say what is told, with the line last
-unfoldable pub json_middle : Row → List ℕ
-json_middle r = member (codes ",\"found\":") (option_map (λ t. t.now) r.found)
-    ++ (member (codes ",\"path\":") (option_map string_bytes r.path)
-    ++ member (codes ",\"message\":") (Some (string_bytes r.message)))
-
-unfoldable pub line_member : ℕ → List ℕ
-line_member line = codes ",\"line\":" ++ (decimal line ++ codes "}\n")
-
-unfoldable pub json_rest : Row → List ℕ
-json_rest r = json_middle r ++ line_member r.line
+-- the object of a row, with its members in the order of their names
+unfoldable pub row_data : Row → Data
+row_data r = object
+    (member (codes "dependency") (text_or_null (option_map (λ t. t.now) r.name))
+    (member (codes "folder") (string r.folder.now)
+    (member (codes "found") (text_or_null (option_map (λ t. t.now) r.found))
+    (member (codes "kind") (string (kind_word r.kind))
+    (member (codes "line") (number (unsigned r.line))
+    (member (codes "message") (string (string_bytes r.message))
+    (member (codes "need") (text_or_null (option_map (λ t. t.now) r.need))
+    (member (codes "path") (text_or_null (option_map string_bytes r.path)) no_members))))))))
 
 abbrev pub json_row : Row → List ℕ
-json_row r = json_subject r ++ json_rest r
+json_row r = json_line (compact_text (row_data r))
 
 -- what is skipped is a notice
 abbrev pub level_word : Kind → List ℕ

@@ -7,11 +7,13 @@ ghost use Rattle.lock_check.specs.Rows.{rejected_version};
 ghost use Rattle.std.specs.Prelude.{◌≡◌, ◌<◌, length, option_map};
 
 use crate::check::Findings;
+use crate::json::write_line;
 use crate::lock::{Dependency, Lock, Wanted};
 use crate::shown::Shown;
 use nodejs_semver::Version;
 use nodejs_semver::diagnosis::version_flaw;
-use std::alloc::AllocError;
+use serde_json::{Map, Value, put};
+use std::alloc::{AllocError, Global};
 use std::fmt;
 use std::fmt::Write;
 
@@ -310,6 +312,14 @@ impl Skips {
         }
     }
 
+    fn object(&self, alloc: Global) -> Result<Value, AllocError> {
+        let mut object: Map<String, Value> = Map::new(alloc);
+        for (skip, count) in self.named() {
+            put(&mut object, alloc, skip.words(), Value::from(count))?;
+        }
+        Ok(Value::Object(object))
+    }
+
     fn named(&self) -> [(Skip, usize); 5] {
         [
             (Skip::Unsure, self.unsure),
@@ -374,27 +384,33 @@ impl Counts {
     }
 
     /// Writes the counts as text, or as an object of JSON, on a line.
-    pub fn write(&self, is_json: bool, output: &mut String) -> Result<(), AllocError> {
+    pub fn write(
+        &self,
+        alloc: Global,
+        is_json: bool,
+        output: &mut String,
+    ) -> Result<(), AllocError> {
         if is_json {
-            self.write_json(output)
+            let text = self.object(alloc)?.to_string(alloc)?;
+            write_line(&text, output)
         } else {
             writeln!(output, "{self}")
         }
     }
 
-    fn write_json(&self, output: &mut String) -> Result<(), AllocError> {
-        let mut front = "{\"kind\":\"summary\",";
+    fn object(&self, alloc: Global) -> Result<Value, AllocError> {
+        let mut object: Map<String, Value> = Map::new(alloc);
+        put(
+            &mut object,
+            alloc,
+            "kind",
+            Value::try_from_str(alloc, "summary")?,
+        )?;
         for (name, count) in self.named() {
-            write!(output, "{front}\"{name}\":{count}")?;
-            front = ",";
+            put(&mut object, alloc, name, Value::from(count))?;
         }
-        write!(output, ",\"skipped_for\":")?;
-        front = "{";
-        for (skip, count) in self.skips.named() {
-            write!(output, "{front}\"{}\":{count}", skip.words())?;
-            front = ",";
-        }
-        writeln!(output, "}}}}")
+        put(&mut object, alloc, "skipped_for", self.skips.object(alloc)?)?;
+        Ok(Value::Object(object))
     }
 
     fn named(&self) -> [(&'static str, usize); 8] {

@@ -1,104 +1,78 @@
 // Findings as JSON: an object for each, on a line, in printable ASCII.
 
-ghost use Rattle.lock_check.specs.Reports.{escaped, hex_digit, is_unescaped, json_front};
-ghost use Rattle.lock_check.specs.Reports.{json_middle, json_rest, json_row, json_subject};
-ghost use Rattle.lock_check.specs.Reports.{json_text, line_member, member};
-ghost use Rattle.lock_check.specs.Reports.{pair_text, unit_text};
-ghost use Rattle.std.specs.Prelude.{◌≡◌, ◌++◌, OnOk, option_map, string_bytes};
-ghost use Rattle.std.specs.List.{flat_map};
-ghost use Rattle.std.specs.Str.{chars};
+ghost use Rattle.lock_check.specs.Reports.{ascii_text, hex_digit, in_ascii, json_line, json_row};
+ghost use Rattle.lock_check.specs.Reports.{pair_text, row_data, text_or_null, unit_text};
+ghost use Rattle.serde_json.specs.View.{view};
+ghost use Rattle.serde_json.specs.Written.{compact_text};
+ghost use Rattle.std.specs.Prelude.{◌≡◌, ◌++◌, IfOk, OnOk, option_map, string_bytes};
 
 use crate::row::Row;
-use std::alloc::AllocError;
-use std::fmt::Write;
+use serde_json::{Value, json};
+use std::alloc::{AllocError, Global};
 
 /// Writes the object of a row, and a line feed. Fails only if allocation fails.
-pub fn write_row(row: &Row<'_>, output: &mut String) -> Result<(), AllocError>
+pub fn write_row(alloc: Global, row: &Row<'_>, output: &mut String) -> Result<(), AllocError>
     ensures { OnOk result (string_bytes output.new ≡ string_bytes output.old ++ json_row row.now) }
 {
-    write_subject(row, output)?;
-    write_rest(row, output)
+    let text = object_text(alloc, row)?;
+    write_line(&text, output)
 }
 
-// Writes of what is told, and what is wanted.
-#[tactic(auto, unfolding(crate::specs::Reports::json_subject))]
-fn write_subject(row: &Row<'_>, output: &mut String) -> Result<(), AllocError>
+/// Writes a text of JSON in ASCII, and a line feed. Fails only if allocation fails.
+pub fn write_line(text: &str, output: &mut String) -> Result<(), AllocError>
     ensures { OnOk result (string_bytes output.new
-        ≡ string_bytes output.old ++ json_subject row.now) }
+        ≡ string_bytes output.old ++ json_line text.now) }
 {
-    write_front(row, output)?;
-    write_member(",\"need\":", row.need, output)
+    write_ascii(text, output)?;
+    output.push('\n')
 }
 
-#[tactic(auto, unfolding(crate::specs::Reports::json_front))]
-fn write_front(row: &Row<'_>, output: &mut String) -> Result<(), AllocError>
-    ensures { OnOk result (string_bytes output.new
-        ≡ string_bytes output.old ++ json_front row.now) }
+// The text of the object of a row.
+fn object_text(alloc: Global, row: &Row<'_>) -> Result<String, AllocError>
+    ensures { IfOk result (λ s. string_bytes s ≡ compact_text (row_data row.now)) }
 {
-    write_member("{\"kind\":", Some(row.kind.word()), output)?;
-    write_member(",\"folder\":", Some(row.folder), output)?;
-    write_member(",\"dependency\":", row.name, output)
+    let object = object(alloc, row)?;
+    object.to_string(alloc)
 }
 
-// Writes what is told, and the line.
-#[tactic(auto, unfolding(crate::specs::Reports::json_rest))]
-fn write_rest(row: &Row<'_>, output: &mut String) -> Result<(), AllocError>
-    ensures { OnOk result (string_bytes output.new
-        ≡ string_bytes output.old ++ json_rest row.now) }
-{
-    write_middle(row, output)?;
-    write_line(row.line, output)
-}
-
-#[tactic(auto, unfolding(crate::specs::Reports::json_middle))]
-fn write_middle(row: &Row<'_>, output: &mut String) -> Result<(), AllocError>
-    ensures { OnOk result (string_bytes output.new
-        ≡ string_bytes output.old ++ json_middle row.now) }
+// The object of a row.
+#[tactic(auto, unfolding(crate::specs::Reports::row_data))]
+fn object(alloc: Global, row: &Row<'_>) -> Result<Value, AllocError>
+    ensures { IfOk result (λ v. view v ≡ row_data row.now) }
 {
     let path = match &row.path {
         Some(path) => Some(path.as_str()),
         None => None,
     };
-    write_member(",\"found\":", row.found, output)?;
-    write_member(",\"path\":", path, output)?;
-    write_member(",\"message\":", Some(row.message.as_str()), output)
+    let name = text_or_null(alloc, row.name)?;
+    let need = text_or_null(alloc, row.need)?;
+    let found = text_or_null(alloc, row.found)?;
+    let path = text_or_null(alloc, path)?;
+    json!(in alloc; {
+        "kind": row.kind.word(),
+        "folder": row.folder,
+        "dependency": name,
+        "need": need,
+        "found": found,
+        "path": path,
+        "message": row.message.as_str(),
+        "line": row.line
+    })
 }
 
-#[tactic(auto, unfolding(crate::specs::Reports::line_member))]
-fn write_line(line: usize, output: &mut String) -> Result<(), AllocError>
-    ensures { OnOk result (string_bytes output.new ≡ string_bytes output.old ++ line_member line) }
+fn text_or_null(alloc: Global, text: Option<&str>) -> Result<Value, AllocError>
+    ensures { IfOk result (λ v. view v ≡ text_or_null (option_map (λ t. t.now) text.entry)) }
 {
-    output.push_str(",\"line\":")?;
-    write!(output, "{line}")?;
-    output.push_str("}\n")
-}
-
-// Writes a text as it is, and behind it a value.
-#[tactic(auto, unfolding(crate::specs::Reports::member))]
-fn write_member(front: &str, value: Option<&str>, output: &mut String) -> Result<(), AllocError>
-    ensures { OnOk result (string_bytes output.new ≡ string_bytes output.old
-        ++ member front.now (option_map (λ t. t.now) value.entry)) }
-{
-    output.push_str(front)?;
-    match value {
-        Some(text) => write_text(text, output),
-        None => output.push_str("null"),
+    match text {
+        Some(text) => Value::try_from_str(alloc, text),
+        None => Ok(Value::Null),
     }
 }
 
-// Writes a text in quotes.
-fn write_text(text: &str, output: &mut String) -> Result<(), AllocError>
+// Writes a text, in which all characters but printable ASCII are escaped.
+fn write_ascii(text: &str, output: &mut String) -> Result<(), AllocError>
     ensures { OnOk result (string_bytes output.new
-        ≡ string_bytes output.old ++ json_text text.now) }
-{
-    output.push('"')?;
-    write_escaped(text, output)?;
-    output.push('"')
-}
-
-fn write_escaped(text: &str, output: &mut String) -> Result<(), AllocError>
-    ensures { OnOk result (string_bytes output.new
-        ≡ string_bytes output.old ++ flat_map escaped (chars text.now)) }
+        ≡ string_bytes output.old ++ ascii_text text.now) }
 {
     for letter in text.chars() {
         write_letter(letter, output)?;
@@ -107,12 +81,12 @@ fn write_escaped(text: &str, output: &mut String) -> Result<(), AllocError>
 }
 
 fn write_letter(letter: char, output: &mut String) -> Result<(), AllocError>
-    ensures { OnOk result (string_bytes output.new ≡ string_bytes output.old ++ escaped letter) }
+    ensures { OnOk result (string_bytes output.new ≡ string_bytes output.old ++ in_ascii letter) }
 {
-    if is_unescaped(letter) {
+    let code = letter as u32;
+    if code < 0x7F {
         return output.push(letter);
     }
-    let code = letter as u32;
     if code < 0x1_0000 {
         return write_unit(code, output);
     }
@@ -125,13 +99,6 @@ fn write_pair(above: u32, output: &mut String) -> Result<(), AllocError>
 {
     write_unit(0xD800 + above / 0x400, output)?;
     write_unit(0xDC00 + above % 0x400, output)
-}
-
-// Whether a character stands in JSON as it is: printable ASCII but the quote and the backslash.
-fn is_unescaped(letter: char) -> bool
-    ensures { result ≡ is_unescaped letter }
-{
-    matches!(letter, ' '..='~') && letter != '"' && letter != '\\'
 }
 
 // Writes a unit of UTF-16 by its number.

@@ -123,9 +123,9 @@ fn tell(rt: &HostRuntime, input: Input, options: Options<'_>) -> Result<ExitCode
     let lines = Lines::of(alloc, unmarked(places), is_nested)?;
     let rows = rows(alloc, &findings, &lines, options.is_quiet)?;
     let mut output = String::new(alloc);
-    write_rows(options.format, &name, &rows, &mut output)?;
+    write_rows(alloc, options.format, &name, &rows, &mut output)?;
     if !options.is_quiet {
-        counts.write(options.format == Format::Json, &mut output)?;
+        counts.write(alloc, options.format == Format::Json, &mut output)?;
     }
     let mut stdout = rt.stdout();
     stdout.write_all(output.as_bytes())?;

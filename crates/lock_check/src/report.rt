@@ -8,12 +8,13 @@ use crate::annotation::write_annotation;
 use crate::json::write_row;
 use crate::options::Format;
 use crate::row::Row;
-use std::alloc::AllocError;
+use std::alloc::{AllocError, Global};
 use std::fmt::Write;
 
 /// Writes each row in this format, on a line of its own. The file is the name of the lock file.
 /// Fails only if allocation fails.
 pub fn write_rows(
+    alloc: Global,
     format: Format,
     file: &str,
     rows: &[Row<'_>],
@@ -23,12 +24,13 @@ pub fn write_rows(
         ≡ string_bytes output.old ++ flat_map (row_text format file.now) rows.now) }
 {
     for row in rows {
-        write_in(format, file, row, output)?;
+        write_in(alloc, format, file, row, output)?;
     }
     Ok(())
 }
 
 fn write_in(
+    alloc: Global,
     format: Format,
     file: &str,
     row: &Row<'_>,
@@ -39,7 +41,7 @@ fn write_in(
 {
     match format {
         Format::Text => write_line(file, row, output),
-        Format::Json => write_row(row, output),
+        Format::Json => write_row(alloc, row, output),
         Format::Annotations => write_annotation(file, row, output),
     }
 }
