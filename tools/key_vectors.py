@@ -30,6 +30,8 @@ TEXTS = ("a A z Z - -- 0a 00a -1 alpha beta rc rc.1 rc.2 rc.10 alpha.beta alpha.
 VERSIONS = [f"{n}.0.0" for n in EDGES] + [f"1.{n}.0-{n}" for n in EDGES] + [f"1.2.{n}-a.{n}" for n in EDGES]
 VERSIONS += [f"1.2.3-{text}" for text in TEXTS] + ["1.2.3", "1.2.3+build", "1.2.3-rc.1+build.5", "1.10.0-rc.2", "0.0.0-0", "1.2.4"]
 ROWS = "".join(f"{version}\t{key(version).hex()}\n" for version in VERSIONS)
-if sys.argv[1:] != ["--check"]:
-    open(FILE, "w").write(ROWS)
-sys.exit(open(FILE).read() != ROWS and "crates/core_tests/data/keys.txt differs: run tools/key_vectors.py")
+
+if __name__ == "__main__":
+    if sys.argv[1:] != ["--check"]:
+        open(FILE, "w").write(ROWS)
+    sys.exit(open(FILE).read() != ROWS and "crates/core_tests/data/keys.txt differs: run tools/key_vectors.py")
