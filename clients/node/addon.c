@@ -134,52 +134,37 @@ static uint32_t base_of(napi_env env, napi_value value)
 PRINTS(try_inc, 3, null_or_undefined,
     nodejs_semver_version_inc(NPM, TEXT(0), TEXT(1), TEXT(2), base_of(env, given.others[3]), out, size, &len))
 
-/* A function that returns a number. */
-#define COUNTS(name, CALL)                                                                                             \
+/* A function that returns what CALL puts into `found`, a value of a type from which MAKE makes one of JavaScript. */
+#define ANSWERS(name, type, MAKE, OTHERWISE, CALL)                                                                     \
     static napi_value name(napi_env env, napi_callback_info info)                                                      \
     {                                                                                                                  \
         arguments given;                                                                                               \
         read_arguments(env, info, 2, &given);                                                                          \
         napi_value answer = NULL;                                                                                      \
-        int32_t number = 0;                                                                                            \
+        type found = 0;                                                                                                \
         if (!given.failed) {                                                                                           \
             nodejs_semver_status status = CALL;                                                                        \
             if (status == NODEJS_SEMVER_OK)                                                                            \
-                napi_create_int32(env, number, &answer);                                                               \
+                MAKE(env, found, &answer);                                                                             \
             else                                                                                                       \
-                answer = null_or_undefined(env, status);                                                               \
+                answer = OTHERWISE(env, status);                                                                       \
         }                                                                                                              \
         release(&given);                                                                                               \
         return answer;                                                                                                 \
     }
+#define COUNTS(name, type, OTHERWISE, CALL) ANSWERS(name, type, napi_create_int32, OTHERWISE, CALL)
+#define TELLS(name, OTHERWISE, CALL) ANSWERS(name, bool, napi_get_boolean, OTHERWISE, CALL)
 
-COUNTS(try_compare, nodejs_semver_version_compare(NPM, TEXT(0), TEXT(1), &number))
-COUNTS(try_compare_build, nodejs_semver_version_compare_build(NPM, TEXT(0), TEXT(1), &number))
-COUNTS(try_diff, nodejs_semver_version_diff(NPM, TEXT(0), TEXT(1), (uint32_t *)&number))
-
-/* A function that returns whether something is so. */
-#define TELLS(name, CALL)                                                                                              \
-    static napi_value name(napi_env env, napi_callback_info info)                                                      \
-    {                                                                                                                  \
-        arguments given;                                                                                               \
-        read_arguments(env, info, 2, &given);                                                                          \
-        napi_value answer = NULL;                                                                                      \
-        bool is_so = false;                                                                                            \
-        if (!given.failed) {                                                                                           \
-            nodejs_semver_status status = CALL;                                                                        \
-            if (status == NODEJS_SEMVER_OK)                                                                            \
-                napi_get_boolean(env, is_so, &answer);                                                                 \
-            else                                                                                                       \
-                answer = null_or_undefined(env, status);                                                               \
-        }                                                                                                              \
-        release(&given);                                                                                               \
-        return answer;                                                                                                 \
-    }
-
-TELLS(try_satisfies, nodejs_semver_range_satisfies(NPM, TEXT(0), TEXT(1), flag(env, given.others[2]), &is_so))
-TELLS(try_outside, nodejs_semver_range_outside(NPM, TEXT(0), TEXT(1), flag(env, given.others[2]), flag(env, given.others[3]), &is_so))
-TELLS(try_subset, nodejs_semver_range_is_subset(NPM, TEXT(0), TEXT(1), flag(env, given.others[2]), &is_so))
-TELLS(try_meets, nodejs_semver_range_allows_any(NPM, TEXT(0), TEXT(1), &is_so))
+COUNTS(compare, int32_t, null_or_thrown, nodejs_semver_version_compare(NPM, TEXT(0), TEXT(1), &found))
+COUNTS(try_compare, int32_t, null_or_undefined, nodejs_semver_version_compare(NPM, TEXT(0), TEXT(1), &found))
+COUNTS(try_compare_build, int32_t, null_or_undefined, nodejs_semver_version_compare_build(NPM, TEXT(0), TEXT(1), &found))
+COUNTS(try_diff, uint32_t, null_or_undefined, nodejs_semver_version_diff(NPM, TEXT(0), TEXT(1), &found))
+TELLS(satisfies, null_or_thrown, nodejs_semver_range_satisfies(NPM, TEXT(0), TEXT(1), flag(env, given.others[2]), &found))
+TELLS(try_satisfies, null_or_undefined, nodejs_semver_range_satisfies(NPM, TEXT(0), TEXT(1), flag(env, given.others[2]), &found))
+TELLS(try_outside, null_or_undefined,
+    nodejs_semver_range_outside(NPM, TEXT(0), TEXT(1), flag(env, given.others[2]), flag(env, given.others[3]), &found))
+TELLS(try_subset, null_or_undefined, nodejs_semver_range_is_subset(NPM, TEXT(0), TEXT(1), flag(env, given.others[2]), &found))
+TELLS(try_meets, null_or_undefined, nodejs_semver_range_allows_any(NPM, TEXT(0), TEXT(1), &found))
 
 /* The text of the pre-release of a version. Its numbers go into the second argument, a Float64Array of three. */
 static napi_value try_read(napi_env env, napi_callback_info info)
@@ -214,41 +199,6 @@ static napi_value try_read(napi_env env, napi_callback_info info)
         answer = null_or_undefined(env, status);
     if (out != few)
         free(out);
-    release(&given);
-    return answer;
-}
-
-static napi_value compare(napi_env env, napi_callback_info info)
-{
-    arguments given;
-    read_arguments(env, info, 2, &given);
-    napi_value answer = NULL;
-    int32_t order = 0;
-    if (!given.failed) {
-        nodejs_semver_status status = nodejs_semver_version_compare(NPM, TEXT(0), TEXT(1), &order);
-        if (status == NODEJS_SEMVER_OK)
-            napi_create_int32(env, order, &answer);
-        else
-            answer = null_or_thrown(env, status);
-    }
-    release(&given);
-    return answer;
-}
-
-static napi_value satisfies(napi_env env, napi_callback_info info)
-{
-    arguments given;
-    read_arguments(env, info, 2, &given);
-    napi_value answer = NULL;
-    bool include_prerelease = false, accepted = false;
-    if (!given.failed) {
-        napi_get_value_bool(env, given.others[2], &include_prerelease);
-        nodejs_semver_status status = nodejs_semver_range_satisfies(NPM, TEXT(0), TEXT(1), include_prerelease, &accepted);
-        if (status == NODEJS_SEMVER_OK)
-            napi_get_boolean(env, accepted, &answer);
-        else
-            answer = null_or_thrown(env, status);
-    }
     release(&given);
     return answer;
 }

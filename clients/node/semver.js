@@ -12,6 +12,20 @@ function optionsOf(given) {
   return { loose: Boolean(loose), includePrerelease: Boolean(includePrerelease), rtl: Boolean(rtl) };
 }
 
+// A value with the options that it was made with.
+class WithOptions {
+  constructor(options) {
+    const { loose, includePrerelease } = optionsOf(options);
+    this.options = { loose, includePrerelease };
+    this.loose = loose;
+    this.includePrerelease = includePrerelease;
+  }
+
+  hasOptionsOf(other) {
+    return this.loose === other.loose && this.includePrerelease === other.includePrerelease;
+  }
+}
+
 // What is asked about a version or a range: its text. Other values are a TypeError of the addon.
 const textOf = (it) => (it !== null && typeof it === "object" ? (typeof it.version === "string" ? it.version : it.raw) : it);
 
@@ -49,19 +63,16 @@ function make(open) {
     return new TypeError(shown);
   }
 
-  class SemVer {
+  class SemVer extends WithOptions {
     constructor(version, options) {
-      const { loose, includePrerelease } = optionsOf(options);
+      super(options);
       if (version instanceof SemVer) {
-        if (version.loose === loose && version.includePrerelease === includePrerelease) return version;
+        if (this.hasOptionsOf(version)) return version;
         version = version.version;
       }
       if (typeof version !== "string") throw wrongVersion(version);
       const pre = addon().tryRead(version, numbers);
       if (pre === undefined) throw wrongVersion(version);
-      this.options = { loose, includePrerelease };
-      this.loose = loose;
-      this.includePrerelease = includePrerelease;
       this.raw = version;
       [this.major, this.minor, this.patch] = numbers;
       this.prerelease = listOf(pre).map(identifierOf);
@@ -118,21 +129,18 @@ function make(open) {
     }
   }
 
-  class Range {
+  class Range extends WithOptions {
     constructor(range, options) {
-      const { loose, includePrerelease } = optionsOf(options);
+      super(options);
       if (range instanceof Range) {
-        if (range.loose === loose && range.includePrerelease === includePrerelease) return range;
+        if (this.hasOptionsOf(range)) return range;
         range = range.raw;
       }
       if (typeof range !== "string") throw new TypeError(`Invalid SemVer Range: ${range}`);
       const raw = range.trim().split(/\s+/).join(" ");
       const printed = addon().tryRange(raw);
-      if (printed === undefined || (includePrerelease && addon().trySatisfies(raw, "0.0.0", true) === undefined))
+      if (printed === undefined || (this.includePrerelease && addon().trySatisfies(raw, "0.0.0", true) === undefined))
         throw new TypeError(`Invalid SemVer Range: ${raw}`);
-      this.options = { loose, includePrerelease };
-      this.loose = loose;
-      this.includePrerelease = includePrerelease;
       this.raw = raw;
       this.range = printed;
     }

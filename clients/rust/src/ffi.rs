@@ -111,6 +111,43 @@ pub(crate) struct Word {
 
 type Bytes = *const u8;
 
+/// Declares functions of the header that take the same arguments.
+macro_rules! functions {
+    ($($name:ident),+: $arguments:tt) => {
+        extern "C" {
+            $(fn $name $arguments -> Status;)+
+        }
+    };
+}
+
+functions!(nodejs_semver_greatest, nodejs_semver_least: (
+    range: *const KeptInterval,
+    len: usize,
+    versions: *const Kept,
+    count: usize,
+    include: bool,
+    index: *mut usize,
+));
+functions!(nodejs_semver_meets, nodejs_semver_covers: (
+    range: *const KeptInterval,
+    len: usize,
+    other: *const KeptInterval,
+    other_len: usize,
+    answer: *mut bool,
+));
+functions!(nodejs_semver_intersect, nodejs_semver_difference: (
+    range: *const KeptInterval,
+    len: usize,
+    other: *const KeptInterval,
+    other_len: usize,
+    intervals: *mut IntervalParts,
+    size: usize,
+    count: *mut usize,
+    out: *mut u8,
+    out_size: usize,
+    out_len: *mut usize,
+));
+
 extern "C" {
     fn nodejs_semver_version_read(
         reading: u32,
@@ -167,36 +204,6 @@ extern "C" {
         include: bool,
         answer: *mut bool,
     ) -> Status;
-    fn nodejs_semver_greatest(
-        range: *const KeptInterval,
-        len: usize,
-        versions: *const Kept,
-        count: usize,
-        include: bool,
-        index: *mut usize,
-    ) -> Status;
-    fn nodejs_semver_least(
-        range: *const KeptInterval,
-        len: usize,
-        versions: *const Kept,
-        count: usize,
-        include: bool,
-        index: *mut usize,
-    ) -> Status;
-    fn nodejs_semver_meets(
-        range: *const KeptInterval,
-        len: usize,
-        other: *const KeptInterval,
-        other_len: usize,
-        answer: *mut bool,
-    ) -> Status;
-    fn nodejs_semver_covers(
-        range: *const KeptInterval,
-        len: usize,
-        other: *const KeptInterval,
-        other_len: usize,
-        answer: *mut bool,
-    ) -> Status;
     fn nodejs_semver_lies_outside(
         range: *const KeptInterval,
         len: usize,
@@ -211,30 +218,6 @@ extern "C" {
         parts: *mut Parts,
         out: *mut u8,
         size: usize,
-    ) -> Status;
-    fn nodejs_semver_intersect(
-        range: *const KeptInterval,
-        len: usize,
-        other: *const KeptInterval,
-        other_len: usize,
-        intervals: *mut IntervalParts,
-        size: usize,
-        count: *mut usize,
-        out: *mut u8,
-        out_size: usize,
-        out_len: *mut usize,
-    ) -> Status;
-    fn nodejs_semver_difference(
-        range: *const KeptInterval,
-        len: usize,
-        other: *const KeptInterval,
-        other_len: usize,
-        intervals: *mut IntervalParts,
-        size: usize,
-        count: *mut usize,
-        out: *mut u8,
-        out_size: usize,
-        out_len: *mut usize,
     ) -> Status;
 }
 
