@@ -13,7 +13,7 @@ use Rattle.key_spans.specs.Internal.Sets.{Stretch, is_canonical, is_past}
 use Rattle.key_spans.proofs.IsPlaced.{IsPlaced}
 use Rattle.key_spans.proofs.Keys.{le, lt, same}
 use Rattle.key_spans.proofs.Line as line
-use Rattle.key_spans.proofs.Line.{and_both, and_first, and_not_second, and_second, by_bool, false_true}
+use Rattle.key_spans.proofs.Line.{and_first, and_second, by_bool}
 use Rattle.key_spans.proofs.OneList.{IsAny, IsKeyOf, IsKeyPlace, IsRelease, LastEnd, at_most_end}
 use Rattle.key_spans.proofs.OnePreList.{Ends, IsPreKey, Three, before_end, first_key, inside, is_inside, last_key, same_end, same_from, three_from}
 use Rattle.key_spans.proofs.Releases.{release_is}

@@ -9,7 +9,7 @@ use Rattle.std.specs.List.Sorted.{IsPermutation, IsSortedBy}
 use Rattle.std.specs.Ordering.{is_le, is_lt}
 use Rattle.std.specs.declared.cmp.Ordering.{Ordering}
 use Rattle.key_spans.proofs.Line as line
-use Rattle.key_spans.proofs.Line.{and_both, and_first, and_not_first, and_not_second, and_second, by_bool, false_true}
+use Rattle.key_spans.proofs.Line.{and_both, and_first, and_not_first, and_not_second, and_second, by_bool}
 use Rattle.key_spans.proofs.Unique.{tail_past}
 use Rattle.key_spans.specs.Internal.Sets.{has, holds, is_canonical, is_past}
 use Rattle.key_spans.specs.Internal.Sets.{alone, joined, later, pair}

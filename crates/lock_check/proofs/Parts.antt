@@ -1,7 +1,7 @@
 -- The parts of a text that std's clauses name.
-use Rattle.std.proofs.Common.{◌≡◌, ◌≢◌, ◌==◌, ◌⊎◌, ◌&&◌, ◌||◌, ◌∷◌, ◌++◌, ◌∙◌, [], ap, ap₂, refl, subst, sym}
-use Rattle.std.proofs.Common.{Bool, List, None, ℕ, arith, codes, drop, encode_utf8, false, inl, inr, length, not, rules, suc, take}
-use Rattle.std.proofs.Common.{tests, true}
+use Rattle.std.proofs.Common.{◌≡◌, ◌≢◌, ◌==◌, ◌⊎◌, ◌∷◌, ◌++◌, ◌∙◌, [], ap, ap₂, refl, subst, sym}
+use Rattle.std.proofs.Common.{Bool, List, None, ℕ, arith, codes, drop, encode_utf8, false, inl, inr, length, not, suc, take}
+use Rattle.std.proofs.Common.{true}
 use Rattle.std.proofs.lemmas.Bool.{and_parts, eq-eqb, eqb-true, ne_eqb, or_from, or_parts, or_right}
 use Rattle.std.proofs.lemmas.List.{append-nil, nil_from_length, take-append-drop}
 use Rattle.std.proofs.lemmas.List.Folds.{list_any-append, list_any_at}
@@ -9,10 +9,10 @@ use Rattle.std.proofs.lemmas.Str.{encode_ascii}
 use Rattle.std.proofs.lemmas.Str.Pattern.{NoCharPasses-char, contains_char}
 use Rattle.std.specs.Bool.{MatchBool}
 use Rattle.std.specs.List.{list_all, list_any}
-use Rattle.std.specs.Prelude.{◌<◌, IfSome, get_or, slice_index}
+use Rattle.std.specs.Prelude.{◌<◌, slice_index}
 use Rattle.std.specs.Str.{NoCharPasses}
 use Rattle.std.specs.Str.Pattern.{FindsChar, HasCharAt, HasMatch, SplitsAroundMatch}
-use Rattle.lock_check.specs.Specifiers.{IsAliasOf, IsAliased, IsBareName, IsName, IsScopeAndName, IsUnsigned, has}
+use Rattle.lock_check.specs.Specifiers.{IsAliasOf, IsAliased, IsBareName, IsUnsigned, has}
 use Rattle.lock_check.specs.Specifiers.{is_of_registry, is_part, is_url_byte, with_sign}
 use Rattle.lock_check.specs.Specifiers.IsAliasOf.{alone, any, ranged}
 

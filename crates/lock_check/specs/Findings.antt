@@ -1,5 +1,5 @@
 -- Statement: how what is found is counted, which findings are printed, and the exit status.
-use Rattle.std.specs.Prelude.{◌≡◌, ◌<◌, not, ℕ, Bool, true, false, List, count_by}
+use Rattle.std.specs.Prelude.{not, ℕ, Bool, true, false, List, count_by}
 use Rattle.lock_check.specs.declared.finding.Finding.{Finding}
 use Rattle.lock_check.specs.declared.finding.Kind.{Kind}
 use Rattle.lock_check.specs.declared.finding.Kind.TheVariants as kind

@@ -13,7 +13,6 @@ use Rattle.semver_core.specs.Text.VersionText as port
 use Rattle.semver_core.specs.Values.Versions.{VersionValue}
 use Rattle.npm_words.specs.Grammar as npm
 use Rattle.nodejs_semver_c.proofs.Putting.{put_first}
-use Rattle.nodejs_semver_c.specs.Answers.{Puts}
 use Rattle.nodejs_semver_c.specs.Internal.Pieces.{Adds}
 use Rattle.nodejs_semver_c.specs.Kept.{ComesBack, PutsVersion, kept_texts, list_text, parts_of}
 use Rattle.nodejs_semver_c.specs.Readings.{Spells}

@@ -1,6 +1,6 @@
 -- Ranges that the caller keeps: what each interval is decides what all are, and what is told of them leads back.
-use Rattle.std.proofs.Common.{◌≡◌, ◌≢◌, ◌<◌, ◌≤◌, ◌+◌, ◌-◌, ◌==◌, ◌^◌, ◌++◌, ◌∷◌, ◌∙◌, ◌&&◌, ◌⊎◌, All, List, [], Bool, Some, None}
-use Rattle.std.proofs.Common.{ap, ap₂, append-nil, append_assoc, arith, drop, false, get_or, inl, inr, length, length-append, map, min}
+use Rattle.std.proofs.Common.{◌≡◌, ◌≢◌, ◌<◌, ◌≤◌, ◌+◌, ◌-◌, ◌==◌, ◌^◌, ◌++◌, ◌∷◌, ◌∙◌, ◌&&◌, ◌⊎◌, All, List, [], Some}
+use Rattle.std.proofs.Common.{ap, ap₂, append-nil, arith, drop, false, get_or, inl, inr, length, length-append, map, min}
 use Rattle.std.proofs.Common.{refl, set, subst, suc, sym, take, true, true≢false, zero, ℕ}
 use Rattle.std.proofs.lemmas.Grind.{flat_map-append}
 use Rattle.std.proofs.lemmas.List.{length-map, length-take-le, take_more}
@@ -28,7 +28,7 @@ use Rattle.nodejs_semver_c.proofs.Keeping.{list_kept}
 use Rattle.nodejs_semver_c.proofs.Places.{filled}
 use Rattle.nodejs_semver_c.proofs.Putting.{put_first}
 use Rattle.nodejs_semver_c.specs.Internal.Keeps.{RefusesInterval, keeps}
-use Rattle.nodejs_semver_c.specs.Kept.{ComesBack, IsKept, kept_texts, kept_value}
+use Rattle.nodejs_semver_c.specs.Kept.{ComesBack, IsKept}
 use Rattle.nodejs_semver_c.specs.Internal.Pieces.{Adds}
 use Rattle.nodejs_semver_c.specs.KeptRanges.{BoundComesBack, IsKeptRange, RefusesKeptRange, TellsRange, bound_texts, is_spelled}
 use Rattle.nodejs_semver_c.specs.KeptRanges.{kept_span, lower_of, range_texts, span_parts, upper_of}

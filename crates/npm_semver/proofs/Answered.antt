@@ -5,7 +5,7 @@ use Rattle.npm_semver.specs.{Subcommands.{Said, next_said, relation_of, reply, s
 use Rattle.{npm_words.specs.{Alternatives.HasAlternativesIn, VersionText.IsVersionText}, semver_core.specs.Difference.{kind_between, kind_word}}
 use Rattle.semver_core.specs.{Failures.NoValue, Increments.Table.answer_of_inc, Printing.Text.version_text, Values.Order.precedence}
 use Rattle.semver_core.specs.{Values.Versions.VersionValue, declared.{TheConstants.MAX_SAFE_INTEGER, difference.VersionDiff.VersionDiff}}
-use Rattle.std.proofs.Common.{Bool, List, None, Option, Some, [], append_assoc, arith, codes, false, get_or, is_none, is_some, length, map}
+use Rattle.std.proofs.Common.{Bool, List, None, Option, Some, [], arith, codes, false, get_or, is_none, is_some, length, map}
 use Rattle.std.proofs.{Common.{option_map, refl, suc, sym, take, true, zero, ℕ, ◌++◌, ◌+◌, ◌<◌, ◌==◌, ◌∙◌, ◌∷◌, ◌≡◌, ◌≢◌}, lemmas.List.map-append}
 use Rattle.std.{proofs.lemmas.List.take_more, specs.{List.list_all, Prelude.IfSome, declared.cmp.Ordering.Ordering}}
 use Rattle.npm_semver.specs.Subcommands as Spec

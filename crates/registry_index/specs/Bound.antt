@@ -1,5 +1,5 @@
 -- Statement: what is bound to the parameters of a statement.
-use Rattle.std.specs.Prelude.{◌≡◌, ◌∷◌, [], Bool, false, if◌then◌else◌, List, pos, ℕ, ℤ}
+use Rattle.std.specs.Prelude.{◌≡◌, ◌∷◌, [], false, if◌then◌else◌, List, pos, ℕ}
 use Rattle.key_spans.specs.Spans.{in_spans}
 use Rattle.key_spans.specs.declared.KeySpan.{KeySpan}
 use Rattle.nodejs_semver.specs.Ranges.Gate.{accepts}

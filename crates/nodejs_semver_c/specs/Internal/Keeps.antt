@@ -1,6 +1,5 @@
 -- For proofs and private contracts. Intervals of the caller, one by one.
 use Rattle.std.specs.Prelude.{◌≡◌, ◌+◌, ◌&&◌, ◌⊎◌, Bool, ℕ, false}
-use Rattle.semver_core.specs.Values.Gate.{is_range_bound}
 use Rattle.semver_core.specs.declared.TheConstants.{MAX_SAFE_INTEGER}
 use Rattle.nodejs_semver.specs.Internal.Sets.{is_range_span}
 use Rattle.nodejs_semver_c.specs.KeptRanges.{RefusesBound, is_spelled, kept_span}

@@ -1,4 +1,4 @@
-use Rattle.std.proofs.Common.{◌∷◌, ◌++◌, ◌∙◌, [], ap, arith, drop, encode_utf8, inl, inr, refl, subst, sym}
+use Rattle.std.proofs.Common.{◌++◌, ◌∙◌, [], ap, arith, drop, inl, inr, subst, sym}
 use Rattle.std.proofs.lemmas.List.{append-nil}
 use Rattle.std.proofs.lemmas.Str.{encode_ascii}
 use Rattle.lock_check.specs.Specifiers.{IsScopeAndName}

@@ -1,4 +1,4 @@
-use Rattle.std.proofs.Common.{◌≡◌, ◌++◌, drop, length, map, take}
+use Rattle.std.proofs.Common.{◌≡◌, ◌++◌, drop, map, take}
 use Rattle.nodejs_semver_c.specs.KeptRanges.{span_parts}
 use Rattle.nodejs_semver_c.proofs.intervals.tell_intervals.Given as goal
 

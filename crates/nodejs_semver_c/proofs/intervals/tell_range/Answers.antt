@@ -1,4 +1,4 @@
-use Rattle.std.proofs.Common.{arith, inl, inr, rules, take_all, ◌∙◌, sym}
+use Rattle.std.proofs.Common.{arith, inl, inr}
 use Rattle.nodejs_semver_c.proofs.Ranging.{range_put, range_short}
 use Rattle.nodejs_semver_c.proofs.intervals.tell_range.Goals.{then-told-intervals-via-else-told-intervals+then-out-needed}
 use Rattle.nodejs_semver_c.proofs.intervals.tell_range.Goals.{then-told-intervals-via-then-told-intervals}
