@@ -175,7 +175,9 @@ class Test(unittest.TestCase):
             error = self.rejected(InvalidIncrement, version.inc, *given)
             self.assertEqual((error.text, error.place), ("1.2.3", None))
             self.assertIn(reason, error.reason)
-        self.assertIn("overflow", self.rejected(InvalidIncrement, Version("9007199254740991.0.0").inc, "major").reason)
+        last = Version("9007199254740991.0.0").inc("major")
+        self.assertEqual((last.major, last in Range(">1"), pickle.loads(pickle.dumps(last))), (9007199254740992, True, last))
+        self.assertIn("bad version", self.rejected(InvalidIncrement, last.inc, "major").reason)
 
     def test_errors(self):
         """An error carries the text, the reason and the place."""

@@ -37,7 +37,6 @@ Bound = Optional[Tuple[Literal[">", ">=", "<", "<="], "Version"]]
 _KINDS: Tuple[Optional[Kind], ...] = (
     None, "major", "minor", "patch", "premajor", "preminor", "prepatch", "prerelease")
 _BASES = {"0": 0, "1": 1, "none": 2}
-_OVERFLOW = 9
 
 
 def _text(value: str) -> str:
@@ -155,10 +154,10 @@ class Version(_native.Version):
         status, found = _native.inc(text, level, identifier, _BASES[base])
         if found is None:
             raise increment(text, level, identifier, status)
-        try:
-            return type(self)(found)
-        except InvalidVersion:
-            raise increment(text, level, identifier, _OVERFLOW) from None
+        front, _, build = found.partition("+")
+        front, _, pre = front.partition("-")
+        major, minor, patch = map(int, front.split("."))
+        return type(self)._from(major, minor, patch, pre, build)
 
     def __repr__(self) -> str:
         return f"{type(self).__name__}({str(self)!r})"

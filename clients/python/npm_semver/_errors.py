@@ -5,7 +5,7 @@ from typing import Optional
 
 from . import _native
 
-NOT_UTF8, OVERFLOW = 3, 9
+NOT_UTF8 = 3
 # What npm's reading finds wrong with a version text, and what the lenient one does, by the numbers of
 # the C header.
 NPM_FLAWS = (
