@@ -20,8 +20,8 @@ from ._errors import InvalidIncrement, InvalidRange, InvalidVersion, SemverError
 
 __version__ = "1.0.0"
 __all__ = [
-    "InvalidIncrement", "InvalidRange", "InvalidVersion", "MAX_SAFE_INTEGER", "Range", "SemverError",
-    "Version", "clean", "coerce", "ignored_words", "key", "valid",
+    "InvalidIncrement", "InvalidRange", "InvalidVersion", "MAX_SAFE_INTEGER", "Range",
+    "SemverError", "Version", "clean", "coerce", "ignored_words", "key", "valid",
 ]
 
 # The greatest number that a text may have.
@@ -58,7 +58,8 @@ def _identifiers(joined: str) -> Tuple[Identifier, ...]:
 
 
 class Version(_native.Version):
-    """A version: `Version(text, *, lenient=False)`. A Version in place of the text is taken as it is.
+    """A version: `Version(text, *, lenient=False)`. A Version in place of the text is taken as it
+    is.
 
     Versions cannot be changed. They are ordered by precedence, and equal ones have the same hash;
     build metadata does not count. A text that is no version is an InvalidVersion.
@@ -78,9 +79,11 @@ class Version(_native.Version):
     __slots__ = ()
 
     @classmethod
-    def of(cls, major: int, minor: int, patch: int, prerelease: str = "", build: str = "") -> Version:
-        """Returns the version of its parts. Numbers have up to 64 bits, and identifiers are joined by
-        dots. Others are an InvalidVersion or a ValueError.
+    def of(
+        cls, major: int, minor: int, patch: int, prerelease: str = "", build: str = ""
+    ) -> Version:
+        """Returns the version of its parts. Numbers have up to 64 bits, and identifiers are joined
+        by dots. Others are an InvalidVersion or a ValueError.
 
         >>> Version.of(1, 2, 3, "rc.1")
         Version('1.2.3-rc.1')
@@ -134,9 +137,11 @@ class Version(_native.Version):
         """
         return _KINDS[self._kind(other)]
 
-    def inc(self, level: Level, identifier: str = "", base: Literal["0", "1", "none"] = "0") -> Version:
-        """Returns the next version by a level. A new pre-release has the identifier, if there is one,
-        and counts from the base.
+    def inc(
+        self, level: Level, identifier: str = "", base: Literal["0", "1", "none"] = "0"
+    ) -> Version:
+        """Returns the next version by a level. A new pre-release has the identifier, if there is
+        one, and counts from the base.
 
         >>> Version("1.2.3").inc("minor")
         Version('1.3.0')
@@ -222,7 +227,8 @@ class Range(_native.Range):
             kind, version = told
             return (signs[kind - 1], version) if kind else None
 
-        return tuple((bound(low, (">=", ">")), bound(up, ("<=", "<"))) for low, up in self._bounds())
+        both = self._bounds()
+        return tuple((bound(low, (">=", ">")), bound(up, ("<=", "<"))) for low, up in both)
 
     def filter(self, versions: Iterable[Given]) -> List[Given]:
         """Returns those of some versions that it accepts, in their order.
@@ -241,7 +247,9 @@ class Range(_native.Range):
         return self._max(versions)
 
     def min(self, versions: Iterable[Given]) -> Optional[Given]:
-        """Returns the smallest of some versions that it accepts, the first of equal ones, or None."""
+        """Returns the smallest of some versions that it accepts, the first of equal ones, or
+        None.
+        """
         return self._min(versions)
 
     def min_version(self) -> Optional[Version]:
@@ -314,7 +322,9 @@ class Range(_native.Range):
         named = [low[1]] if low else []
         named += [up[1]] if up and not (up[0] == "<" and up[1].prerelease == (0,)) else []
         names = dict.fromkeys(f"{it.major}.{it.minor}.{it.patch}" for it in named if it.prerelease)
-        return bounds + (f", and of pre-releases those of {' and '.join(names)}" if names else ", and no pre-release")
+        if not names:
+            return f"{bounds}, and no pre-release"
+        return f"{bounds}, and of pre-releases those of {' and '.join(names)}"
 
     def __repr__(self) -> str:
         flag = ", include_prerelease=True" if self.include_prerelease else ""
@@ -334,8 +344,9 @@ Range.NOTHING = Range("<0.0.0-0")
 
 
 def coerce(text: str, *, rtl: bool = False, include_prerelease: bool = False) -> Optional[Version]:
-    """Returns the version that any text has in it, or None. With `rtl` it is looked for from the right.
-    With `include_prerelease` it has the pre-release and the build metadata that follow its numbers.
+    """Returns the version that any text has in it, or None. With `rtl` it is looked for from the
+    right. With `include_prerelease` it has the pre-release and the build metadata that follow its
+    numbers.
 
     >>> coerce("release 1.2 of 3"), coerce("release 1.2 of 3", rtl=True), coerce("latest")
     (Version('1.2.0'), Version('3.0.0'), None)
@@ -345,8 +356,8 @@ def coerce(text: str, *, rtl: bool = False, include_prerelease: bool = False) ->
 
 
 def clean(text: str) -> Optional[Version]:
-    """Returns the version of a text with whitespace or any of `v` and `=` in front, without its build
-    metadata, or None.
+    """Returns the version of a text with whitespace or any of `v` and `=` in front, without its
+    build metadata, or None.
 
     >>> clean("  =v1.2.3+linux "), clean("1.2")
     (Version('1.2.3'), None)
@@ -369,7 +380,8 @@ def valid(text: str) -> bool:
 
 
 def key(version: AnyVersion) -> bytes:
-    """Returns bytes that compare as versions do by precedence, to sort by, or to keep in a database.
+    """Returns bytes that compare as versions do by precedence, to sort by, or to keep in a
+    database.
 
     >>> sorted(["1.10.0", "1.9.0", "1.9.0-rc.1"], key=key)
     ['1.9.0-rc.1', '1.9.0', '1.10.0']
@@ -380,8 +392,8 @@ def key(version: AnyVersion) -> bytes:
 
 
 def ignored_words(text: str) -> List[Tuple[int, int, Literal["malformed", "without bounds"]]]:
-    """Returns the words of a range text that the lenient reading ignores: where each begins and ends,
-    and why.
+    """Returns the words of a range text that the lenient reading ignores: where each begins and
+    ends, and why.
 
     >>> ignored_words(">=1.0.0, <2.0.0")
     [(0, 8, 'malformed')]

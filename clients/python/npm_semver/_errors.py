@@ -6,11 +6,12 @@ from typing import Optional
 from . import _native
 
 NOT_UTF8 = 3
-# What npm's reading finds wrong with a version text, and what the lenient one does, by the numbers of
-# the C header.
+# What npm's reading finds wrong with a version text, and what the lenient one does, by the numbers
+# of the C header.
 NPM_FLAWS = (
-    "a sign is not expected here", "a number with a leading zero", "a number above 9007199254740991",
-    "a pre-release begins with a hyphen", "a digit is expected here", "a dot is expected here",
+    "a sign is not expected here", "a number with a leading zero",
+    "a number above 9007199254740991", "a pre-release begins with a hyphen",
+    "a digit is expected here", "a dot is expected here",
     "a letter, a digit or a hyphen is expected here", "the version ends before this",
     "a version has at most 256 characters",
 )
@@ -21,8 +22,8 @@ LENIENT_FLAWS = (
 
 
 class SemverError(ValueError):
-    """A text is rejected: `text` is the whole text, `reason` says why, and `place` is the index in it
-    where what is wrong begins, or None where the whole text is."""
+    """A text is rejected: `text` is the whole text, `reason` says why, and `place` is the index in
+    it where what is wrong begins, or None where the whole text is."""
 
     __module__ = "npm_semver"
 
@@ -42,8 +43,8 @@ class InvalidVersion(SemverError):
 
 
 class InvalidRange(SemverError):
-    """A text is no range. `place` is where the first word begins that is malformed, and `end` where it
-    ends."""
+    """A text is no range. `place` is where the first word begins that is malformed, and `end` where
+    it ends."""
 
     __module__ = "npm_semver"
 
@@ -82,7 +83,8 @@ def version(text: str, is_lenient: bool, status: int) -> SemverError:
     if flaw is None:
         return InvalidVersion(text, _native.message(status))
     kind, place = flaw
-    return InvalidVersion(text, (LENIENT_FLAWS if is_lenient else NPM_FLAWS)[kind], index(text, place))
+    reason = (LENIENT_FLAWS if is_lenient else NPM_FLAWS)[kind]
+    return InvalidVersion(text, reason, index(text, place))
 
 
 def range_(text: str, includes: bool, is_lenient: bool, status: int) -> SemverError:
@@ -99,7 +101,8 @@ def range_(text: str, includes: bool, is_lenient: bool, status: int) -> SemverEr
         return InvalidRange(text, _native.message(status))
     begins, ends = (index(text, it) for it in places)
     word = text[begins:ends]
-    return InvalidRange(text, f"{word!r} is malformed" if word else "a word is missing", begins, ends)
+    reason = f"{word!r} is malformed" if word else "a word is missing"
+    return InvalidRange(text, reason, begins, ends)
 
 
 def parts(major: int, minor: int, patch: int, pre: str, build: str) -> SemverError:

@@ -744,7 +744,7 @@ static bool is_tried(const Range *range, PyObject *value, int sign, PyObject *be
     return answer >= 0;
 }
 
-/* The greatest of some versions that the range accepts, or the smallest: the first of equal ones. */
+/* The greatest of some versions that it accepts, or the smallest: the first of equal ones. */
 static PyObject *best_of(PyObject *self, PyObject *values, int sign)
 {
     PyObject *iterator = iterated(values), *value, *best[2] = {NULL, NULL};

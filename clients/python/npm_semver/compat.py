@@ -57,7 +57,9 @@ class NpmSpec:
         return iter(self._accepted(versions))
 
     def select(self, versions: Iterable[Given]) -> Optional[Given]:
-        """Returns the greatest of some versions that it accepts, the first of equal ones, or None."""
+        """Returns the greatest of some versions that it accepts, the first of equal ones, or
+        None.
+        """
         return max(self._accepted(versions), key=lambda it: Version(_version(it)), default=None)
 
     def _accepted(self, versions: Iterable[Given]) -> List[Given]:
