@@ -5,6 +5,7 @@
 
 FOLDER/npm_semver is then the package, for Python 3.10 and each later one: put FOLDER on the path. It needs cc and the header Python.h, which
 Debian has in python3-dev. The module has the library in it."""
+import glob
 import os
 import shutil
 import subprocess
@@ -12,7 +13,7 @@ import sys
 import sysconfig
 
 TOP = os.path.realpath(os.path.join(os.path.dirname(os.path.realpath(__file__)), ".."))
-SOURCE = f"{TOP}/clients/python/npm_semver"
+SOURCE, NATIVE = f"{TOP}/clients/python/npm_semver", f"{TOP}/clients/python/native"
 # What the compiled module is called, by CPython's stable interface.
 MODULE = "_native.abi3.so"
 FILES = ("__init__.py", "_errors.py", "_native.pyi", "compat.py", "py.typed")
@@ -38,8 +39,8 @@ def build(folder, library):
     for name in FILES:
         shutil.copyfile(f"{SOURCE}/{name}", f"{made}/{name}")
     done = subprocess.run(
-        ["cc", "-std=c11", "-shared", "-fPIC", "-O2", "-Wall", "-Wextra", "-Werror", f"-I{headers()}", f"-I{library}", "-o", f"{made}/{MODULE}",
-         f"{SOURCE}/_native.c", f"{library}/libnodejs_semver.a", "-Wl,--exclude-libs,ALL"],
+        ["cc", "-std=c11", "-shared", "-fPIC", "-O2", "-fvisibility=hidden", "-Wall", "-Wextra", "-Werror", f"-I{headers()}", f"-I{library}",
+         "-o", f"{made}/{MODULE}", *sorted(glob.glob(f"{NATIVE}/*.c")), f"{library}/libnodejs_semver.a", "-Wl,--exclude-libs,ALL"],
         stdin=subprocess.DEVNULL, stdout=subprocess.PIPE, stderr=subprocess.STDOUT, text=True, check=False)
     return f"{done.stdout}cc: exit status {done.returncode}" if done.returncode else ""
 
