@@ -1,4 +1,5 @@
 """The test of the Python package: python3 test_npm_semver.py FOLDER, where tools/python_package.py built it."""
+import concurrent.futures
 import copy
 import doctest
 import inspect
@@ -66,8 +67,10 @@ def calls():
     for name, call, _ in found:
         if name.split(".")[-1].startswith("_") and name != "NpmSpec.__contains__":
             continue
-        parameters = inspect.signature(call).parameters.values()
-        yield name, call, tuple(it.name for it in parameters if it.kind != it.KEYWORD_ONLY), tuple(it.name for it in parameters if it.kind == it.KEYWORD_ONLY)
+        places, named = [], []
+        for it in inspect.signature(call).parameters.values():
+            (named if it.kind == it.KEYWORD_ONLY else places).append(it.name)
+        yield name, call, places, named
     yield "NpmSpec", compat.NpmSpec, ("expression",), ()
     yield "Range.__contains__", caret.__contains__, ("version",), ()
 
@@ -194,8 +197,8 @@ class Test(unittest.TestCase):
             self.assertEqual((error.text, error.place, error.end), (text, place, end))
             self.assertEqual(pickle.loads(pickle.dumps(error)).end, end)
         self.assertEqual(self.rejected(InvalidRange, Range, "\ud800").place, 0)
-        self.assertEqual([(it.place, it.text) for it in (self.rejected(SemverError, Version, "1.x", lenient=True), self.rejected(SemverError, Range, "foo", lenient=True))],
-                         [(2, "1.x"), (0, "foo")])
+        for call, text, place in ((Version, "1.x", 2), (Range, "foo", 0)):
+            self.assertEqual(self.rejected(SemverError, call, text, lenient=True).place, place)
         self.assertEqual([issubclass(it, SemverError) for it in (InvalidVersion, InvalidRange, InvalidIncrement)], [True] * 3)
         self.rejected(InvalidVersion, lambda: "oops" in caret)
 
@@ -210,7 +213,8 @@ class Test(unittest.TestCase):
         self.assertEqual([str(own.max(versions)), str(own.min(versions)), str(wide.max(versions))], ["1.4.0+a", "1.2.0", "1.5.0-rc"])
         self.assertEqual([Range("^7").max(versions), own.max([]), own.max(iter(["1.2.9", versions[0], "v1.10.0"]))], [None, None, "v1.10.0"])
         self.assertEqual([own.outside(it) for it in (versions[2], "1.0.0", "1.3.0", "1.5.0-rc")], [">", "<", None, None])
-        self.assertEqual([str(own), repr(Range("1.2.3")), repr(wide)], [">=1.2.0 <2.0.0-0", "Range('1.2.3')", "Range('>=1.2.0-0 <2.0.0-0', include_prerelease=True)"])
+        self.assertEqual([str(own), repr(Range("1.2.3")), repr(wide)],
+                         [">=1.2.0 <2.0.0-0", "Range('1.2.3')", "Range('>=1.2.0-0 <2.0.0-0', include_prerelease=True)"])
         self.assertEqual([own, hash(own), len({own, Range(">=1.2.0 <2.0.0-0")})], [Range("1.2 - 1"), hash(Range("1.2 - 1")), 1])
         self.assertNotEqual(own, Range("^1"))
         self.assertEqual(str(Range(">=1.0.0, <2.0.0", lenient=True)), "<2.0.0")
@@ -260,10 +264,12 @@ class Test(unittest.TestCase):
             self.assertRaises(ValueError, call)
 
     def test_explain(self):
-        for text, wanted in [("1.2.3", "1.2.3 alone"), ("*", "all versions, and no pre-release"), (">1.2.3 <=2.0.0", "after 1.2.3 on, up to 2.0.0, and no pre-release"),
+        for text, wanted in [("1.2.3", "1.2.3 alone"), ("*", "all versions, and no pre-release"),
+                             (">1.2.3 <=2.0.0", "after 1.2.3, up to 2.0.0, and no pre-release"),
                              (">=1.0.0-a <2.0.0-b", "from 1.0.0-a on, below 2.0.0-b, and of pre-releases those of 1.0.0 and 2.0.0")]:
             self.assertEqual(Range(text).explain().split("\n")[1], wanted)
-        self.assertEqual(Range("1 - 2", include_prerelease=True).explain(), ">=1.0.0-0 <3.0.0-0\nfrom 1.0.0-0 on, below 3.0.0-0, and all pre-releases there")
+        self.assertEqual(Range("1 - 2", include_prerelease=True).explain(),
+                         ">=1.0.0-0 <3.0.0-0\nfrom 1.0.0-0 on, below 3.0.0-0, and all pre-releases there")
 
     def test_texts(self):
         self.assertEqual([str(clean(" =v1.2.3+b ")), clean("1.2"), clean("\ud800")], ["1.2.3", None, None])
@@ -272,6 +278,15 @@ class Test(unittest.TestCase):
         self.rejected(SemverError, coerce, "1.2.3\ud800")
         self.assertEqual(ignored_words("\xe9 1.2.3 || ^*"), [(0, 1, "malformed"), (11, 13, "without bounds")])
         self.assertEqual(ignored_words("foo " * 100), [(4 * n, 4 * n + 3, "malformed") for n in range(100)])
+
+    def test_threads(self):
+        """Several threads ask the same versions and ranges."""
+        versions, own = [Version(f"1.{n % 40}.{n % 7}-rc.{n}") for n in range(2000)], Range("^1.3.0-rc.7 || 1.9.x", include_prerelease=True)
+        def ask(_):
+            return len(own.filter(versions)), str(own.max(versions)), [hash(it) for it in sorted(versions)[:50]]
+        with concurrent.futures.ThreadPoolExecutor(4) as pool:
+            first, *others = pool.map(ask, range(8))
+        self.assertEqual(others, [first] * 7)
 
     def test_references(self):
         """No call loses or takes a reference too many."""
@@ -295,7 +310,8 @@ class Test(unittest.TestCase):
     def test_beside_semantic_version(self):
         other = debian_semantic_version()
         versions = [f"{a}.{b}.{c}{pre}" for a, b, c in itertools.product((0, 1, 2), (0, 1, 3), (0, 2)) for pre in ("", "-alpha.1", "-rc")]
-        specs = ("^1.1", "~1.1.0", ">=0.1.1 <0.3.0", "1.x", "*", "1 - 2", ">1.1.0", "<=1.3", "^0.1.0", "^0.0.2", "1.1.0 || 2.3.2", "^1.1.0-alpha.1", "~0.3", "=1.1.2", "1.1.0 - 2.1.2", ">=1.1.0-rc")
+        specs = ("^1.1", "~1.1.0", ">=0.1.1 <0.3.0", "1.x", "*", "1 - 2", ">1.1.0", "<=1.3", "^0.1.0", "^0.0.2", "1.1.0 || 2.3.2", "^1.1.0-alpha.1",
+                 "~0.3", "=1.1.2", "1.1.0 - 2.1.2", ">=1.1.0-rc")
         for text in specs:
             own, its = compat.NpmSpec(text), other.NpmSpec(text)
             kept = [other.Version(it) for it in versions]

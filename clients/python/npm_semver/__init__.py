@@ -313,7 +313,7 @@ class Range(_native.Range):
         low, up = interval
         if low and up and low[0] == ">=" and up[0] == "<=" and str(low[1]) == str(up[1]):
             return f"{low[1]} alone"
-        below = f"{'from' if low[0] == '>=' else 'after'} {low[1]} on" if low else ""
+        below = (f"from {low[1]} on" if low[0] == ">=" else f"after {low[1]}") if low else ""
         above = f"{'up to' if up[0] == '<=' else 'below'} {up[1]}" if up else ""
         bounds = ", ".join(it for it in (below, above) if it) or "all versions"
         if self.include_prerelease:
