@@ -1,7 +1,7 @@
 //! Says where the C library is. It is looked for in this order:
 //!
 //! 1. in the folder that the environment variable `NODEJS_SEMVER_LIB` names,
-//! 2. in `lib/TARGET` of this package,
+//! 2. in `lib/TARGET` of this package, or of the folder above it,
 //! 3. where `pkg-config nodejs_semver` says.
 
 use std::path::{Path, PathBuf};
@@ -68,8 +68,9 @@ fn main() {
         return;
     }
     let target = env::var("TARGET").unwrap_or_default();
-    let own = Path::new(&env::var_os("CARGO_MANIFEST_DIR").unwrap_or_default()).join("lib");
-    if links(&own.join(&target)) || told_by_pkg_config().iter().any(|it| links(it)) {
+    let package = PathBuf::from(env::var_os("CARGO_MANIFEST_DIR").unwrap_or_default());
+    let own = ["lib", "../lib"].map(|it| package.join(it).join(&target));
+    if own.iter().chain(&told_by_pkg_config()).any(|it| links(it)) {
         return;
     }
     eprintln!("no {ARCHIVE} for {target}: set NODEJS_SEMVER_LIB to its folder, or install it with");

@@ -44,6 +44,8 @@ mod identifier;
 mod increment;
 mod interval;
 mod range;
+#[cfg(feature = "serde")]
+mod serde;
 mod version;
 
 #[cfg(test)]
