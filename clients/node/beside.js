@@ -1,11 +1,11 @@
-// Asks this client and node-semver the same questions: node beside.js ADDON [FOLDER [ROUNDS [SEED]]]. FOLDER has node-semver, and is the
-// one that npm has unless it is given. An answer that differs has to have a kind of docs/NODE_CLIENT.md; each kind is counted.
+// Asks this client and node-semver the same questions: node beside.js ADDON FOLDER [ROUNDS [SEED]].
+// FOLDER has node-semver. An answer that differs has to have a kind of docs/NODE_CLIENT.md; each kind
+// is counted.
 "use strict";
-const { execSync } = require("child_process");
 const path = require("path");
 process.env.NODEJS_SEMVER_ADDON = path.resolve(process.argv[2]);
 const here = require("./index.js");
-const there = require(path.resolve(process.argv[3] || path.join(execSync("npm root -g", { encoding: "utf8" }).trim(), "npm/node_modules/semver")));
+const there = require(path.resolve(process.argv[3]));
 const ROUNDS = Number(process.argv[4] || 4000);
 let seed = Number(process.argv[5] || 1);
 
