@@ -95,8 +95,19 @@ class Range extends WithOptions {
   intersects(range, options) {
     if (!(range instanceof Range)) throw new TypeError("a Range is required");
     const read = (it) => (options === undefined ? it : new Range(it, options));
-    return satisfyingAll([this, range].map(read)).length > 0;
+    const both = [this, range].map(read);
+    return commonSoon(both) ?? satisfyingAll(both).length > 0;
   }
+}
+
+// Whether a version satisfies two ranges, where that is soon told: without pre-releases included, by
+// the smallest version of what their texts have in common. Else undefined.
+function commonSoon([one, two]) {
+  if (one.includePrerelease || two.includePrerelease) return undefined;
+  const common = addon().tryIntersect(one.raw, two.raw);
+  if (common === null) return false;
+  const least = addon().tryMinVersion(common);
+  return (typeof least === "string" && one.test(least) && two.test(least)) || undefined;
 }
 
 // Versions at a bound and next to it. The smallest version above a bound is one of these, and so

@@ -99,7 +99,8 @@ class SemVer extends WithOptions {
 const versionOf = (it, options) => (it instanceof SemVer ? it : new SemVer(it, options));
 
 // The text of a version has no build.
-const whole = ({ version, build }) => [version, build.join(".")].filter(Boolean).join("+");
+const whole = ({ version, build }) =>
+  build.length === 0 ? version : `${version}+${build.join(".")}`;
 
 function parse(version, options, throws = false) {
   if (version instanceof SemVer) return version;
