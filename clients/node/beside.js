@@ -303,8 +303,7 @@ const HELD = {
     const isMade = made(sets.difference(a, b), a);
     return all((inA, inB, it) => !isExact(a, it) || isMade(it) === (inA && !inB));
   },
-  why: (a, b, all) =>
-    all((inA, inB, it) => (sets.why(new there.SemVer(it), a) === null) === inA),
+  why: (a, b, all) => all((inA, inB, it) => (sets.why(it, a) === null) === inA),
 };
 // Whether a version is in a range that is made of another one. There may be none.
 function made(text, { options }) {
@@ -315,8 +314,9 @@ function made(text, { options }) {
 const isExact = (a, it) => a.includePrerelease || !there.prerelease(it);
 
 function ofSets(a, b) {
-  const versions = versionsAbout([a, b]);
-  const all = (isRight) => versions.every((it) => isRight(a.test(it), b.test(it), it));
+  const versions = versionsAbout([a, b]).map((it) => new there.SemVer(it));
+  const tested = versions.map((it) => [a.test(it), b.test(it), it]);
+  const all = (isRight) => tested.every((it) => isRight(...it));
   for (const [name, isRight] of Object.entries(HELD)) {
     asked += 1;
     const told = `sets.${name} of ${a.raw} and ${b.raw}, ${JSON.stringify(a.options)}`;
