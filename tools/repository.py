@@ -3,6 +3,9 @@ import functools
 import glob
 import os
 import re
+import shutil
+import subprocess
+import sys
 
 TOP = os.path.realpath(os.path.join(os.path.dirname(os.path.realpath(__file__)), ".."))
 # The head of a function, in rt fmt's layout: its indent and its name.
@@ -23,6 +26,29 @@ def write(path, text):
 def files(pattern):
     """Returns the paths from the top of the repository that a pattern names, in order."""
     return sorted(os.path.relpath(path, TOP) for path in glob.glob(f"{TOP}/{pattern}", recursive=True))
+
+
+# ---- what stands beside the repository
+
+@functools.lru_cache(maxsize=None)
+def npm_folder():
+    """Returns the folder of the npm that is installed, as npm says, or None where npm is missing."""
+    if not shutil.which("npm"):
+        return None
+    done = subprocess.run(["npm", "root", "-g"], stdin=subprocess.DEVNULL, stdout=subprocess.PIPE,
+                          text=True, check=True)
+    return f"{done.stdout.strip()}/npm"
+
+
+def node_semver():
+    """Returns the folder of the node-semver that npm has, or None where npm is missing."""
+    npm = npm_folder()
+    return npm and f"{npm}/node_modules/semver"
+
+
+def node_semver_or_exit(given):
+    """Returns a folder that is given, else that of npm's node-semver. Without either it ends the program."""
+    return given or node_semver() or sys.exit("npm is missing: name the folder of a node-semver by --semver")
 
 
 # The line of a page below which a tool makes all.

@@ -1,7 +1,8 @@
 // The library as WebAssembly, called with texts: npm's versions and ranges on the page, and all of them in node.
 "use strict";
 
-const NPM = 1, LENIENT = 0;
+// The readings. Some functions have one, and take none.
+const NPM = 1, LENIENT = 0, WITHOUT = null;
 const STATUS = ["ok", "nothing", "too small", "not UTF-8", "no version", "no range", "no argument", "no identifier", "no pre-release", "a number is too great", "out of memory", "too long"];
 const OK = 0, NOTHING = 1, TOO_SMALL = 2;
 
@@ -47,7 +48,9 @@ class Library {
   }
 
   ask(name, reading, texts, ...others) {
-    return this.with(texts, (blocks) => this.library[`nodejs_semver_${name}`](reading, ...blocks.flat(), ...others));
+    const first = reading === WITHOUT ? [] : [reading];
+    const call = (blocks) => this.library[`nodejs_semver_${name}`](...first, ...blocks.flat(), ...others);
+    return this.with(texts, call);
   }
 
   // Whether a call has an answer. What is wrong with the texts is an error.
@@ -82,10 +85,6 @@ class Library {
     return this.isAnswered(name, reading, texts, ...flags.map(Number), this.answer) ? this.bytes()[Number(this.answer)] === 1 : null;
   }
 
-  isVersion(text) {
-    return this.ask("version_check", NPM, [text]) === OK;
-  }
-
   satisfies(range, version, pre) {
     return this.flag("range_satisfies", NPM, [range, version], pre);
   }
@@ -97,6 +96,21 @@ class Library {
   compare(one, other) {
     return this.number("version_compare", NPM, [one, other]);
   }
+
+  // What npm's reading finds wrong with a version text: the kind and the byte, or null.
+  versionFlaw(text) {
+    const places = [this.answer, this.answer + 8n];
+    if (!this.isAnswered("version_npm_flaw", WITHOUT, [text], ...places)) return null;
+    const [kind, place] = this.numbers(this.answer, 2);
+    return [Number(kind & 0xffffffffn), Number(place)];
+  }
+
+  // The bytes of the first word that npm's reading finds wrong in a range text, or null.
+  rangeFlaw(text, pre) {
+    const asked = [WITHOUT, [text], Number(pre), this.answer];
+    if (!this.isAnswered("range_npm_flaw", ...asked)) return null;
+    return Array.from(this.numbers(this.answer, 4), Number).slice(2);
+  }
 }
 
 async function openLibrary(base64) {
@@ -105,4 +119,4 @@ async function openLibrary(base64) {
   return new Library(instance.exports);
 }
 
-if (typeof module !== "undefined") module.exports = { Library, LENIENT, Refused };
+if (typeof module !== "undefined") module.exports = { Library, LENIENT, NPM, Refused, WITHOUT };

@@ -58,51 +58,60 @@ function drawn(library, rows) {
   return picture;
 }
 
-// Why a range does not accept a version, or that it does.
-function verdict(library, range, version, pre) {
-  if (library.satisfies(range, version, pre)) return ["yes", "accepted"];
-  if (!pre && library.satisfies(range, version, true)) {
-    return ["no", "a pre-release, and no bound is one of the same three numbers"];
-  }
-  if (library.isOutside(range, version, true, pre)) return ["no", "above the range"];
-  if (library.isOutside(range, version, false, pre)) return ["no", "below the range"];
-  return ["no", "between its intervals"];
+// The number of the character where a part of a text begins.
+const placeIn = ({ text, start }) => [...text.slice(0, start)].length + 1;
+
+// A text with the part marked that is wrong. Where something is missing the mark is empty.
+function marked({ text, start, end }) {
+  const [before, part, behind] = [text.slice(0, start), text.slice(start, end), text.slice(end)];
+  return element("code", {}, before, element("mark", {}, part), behind);
 }
 
-// Reads a range, and says beside its field how it is read. Returns its normal form, or null.
-function read(library, id) {
+// Reads a range, and says beside its field how it is read, or what is wrong and where. Returns its
+// normal form, or null.
+function read(library, id, pre) {
   const said = field(`${id}-said`), text = field(id).value;
-  try {
-    const normal = library.text("range_print", NPM, [text]);
-    said.className = "faint";
-    said.textContent = normal === text ? "" : `read as ${normal}`;
-    field(id).removeAttribute("aria-invalid");
-    return normal;
-  } catch (error) {
-    said.className = "wrong";
-    said.textContent = `${error.message === "no range" ? "npm rejects this text" : error.message}`;
-    field(id).setAttribute("aria-invalid", "true");
+  const wrong = wrongRange(library, text, false) ?? wrongRange(library, text, pre);
+  said.className = wrong === null ? "faint" : "wrong";
+  field(id).setAttribute("aria-invalid", String(wrong !== null));
+  if (wrong !== null) {
+    const words = `npm rejects this text: ${wrong.reason}, from character ${placeIn(wrong)} on: `;
+    said.replaceChildren(words, marked(wrong));
     return null;
   }
+  const normal = library.text("range_print", NPM, [text]);
+  said.textContent = normal === text ? "" : `read as ${normal}`;
+  return normal;
+}
+
+// The row of a version: what each range says of it, or what is wrong with it and where.
+function rowOf(library, version, ranges, pre) {
+  const wrong = wrongVersion(library, version);
+  if (wrong !== null) {
+    const words = `no version: ${wrong.reason}, at character ${placeIn(wrong)}`;
+    const said = element("td", { class: "no", colspan: 2 }, words);
+    return element("tr", {}, element("td", {}, marked(wrong)), said);
+  }
+  const cell = ([text, normal]) => {
+    if (normal === null) return element("td", {}, "");
+    const reason = notAccepted(library, text, version, pre);
+    return element("td", { class: reason === null ? "yes" : "no" }, reason ?? "accepted");
+  };
+  return element("tr", {}, element("td", {}, version), ...ranges.map(cell));
 }
 
 function show(library) {
-  const pre = field("pre").checked, [range, other] = [read(library, "range"), read(library, "other")];
+  const pre = field("pre").checked;
+  const [range, other] = ["range", "other"].map((it) => read(library, it, pre));
   const texts = [field("range").value, field("other").value];
   const together = (name) => (range === null || other === null ? null : library.text(name, NPM, texts));
   const both = together("range_intersect"), alone = together("range_difference");
   const rows = [["range", range, "#2563eb"], ["second range", other, "#b45309"], ["both", both, "#1a7f37"], ["first alone", alone, "#7c3aed"]];
   const shown = rows.filter(([, normal]) => normal !== null).map(([name, normal, colour]) => ({ name, colour, intervals: intervalsOf(normal) }));
   field("drawn").replaceChildren(drawn(library, shown));
-  const cell = (index, normal, version) => {
-    if (normal === null) return element("td", {}, "");
-    const [kind, words] = verdict(library, texts[index], version, pre);
-    return element("td", { class: kind }, words);
-  };
-  field("rows").replaceChildren(...field("versions").value.split("\n").map((it) => it.trim()).filter(Boolean).map((version) => {
-    if (!library.isVersion(version)) return element("tr", {}, element("td", {}, version), element("td", { class: "no", colspan: 2 }, "no version"));
-    return element("tr", {}, element("td", {}, version), cell(0, range, version), cell(1, other, version));
-  }));
+  const versions = field("versions").value.split("\n").map((it) => it.trim()).filter(Boolean);
+  const ranges = [[texts[0], range], [texts[1], other]];
+  field("rows").replaceChildren(...versions.map((it) => rowOf(library, it, ranges, pre)));
   const answer = (normal) => (range === null || other === null ? "" : normal ?? "nothing");
   field("both").textContent = answer(both);
   field("alone").textContent = answer(alone);

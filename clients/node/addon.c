@@ -1,5 +1,6 @@
-/* The functions that index.js and semver.js call: each takes strings and flags, and returns what the C library answers. Where a text is
-   rejected, those of `load` throw, and the others, whose names begin with `try`, return undefined. Where there is nothing, it is null. */
+/* The functions that the JavaScript beside this file calls: each takes strings and flags, and returns
+   what the C library answers. Where a text is rejected, those of `load` throw, and the others, whose
+   names begin with `try`, return undefined. Where there is nothing, it is null. */
 #include <node_api.h>
 #include <stdlib.h>
 #include <string.h>
@@ -83,7 +84,64 @@ static bool flag(napi_env env, napi_value value)
     return is_true;
 }
 
+/* Some numbers, as an array. */
+static napi_value list_of(napi_env env, const double *numbers, uint32_t count)
+{
+    napi_value list, number;
+    napi_create_array_with_length(env, count, &list);
+    for (uint32_t at = 0; at < count; at++) {
+        napi_create_double(env, numbers[at], &number);
+        napi_set_element(env, list, at, number);
+    }
+    return list;
+}
+
 #define NPM NODEJS_SEMVER_READING_NPM
+
+/* The bound of what was read of it. Its texts begin at a place, which moves behind them. */
+static nodejs_semver_bound kept_bound(const nodejs_semver_bound_parts *told, const char **at)
+{
+    const nodejs_semver_parts *it = &told->version;
+    const char *build = *at + it->pre_release_len;
+    nodejs_semver_version version = {it->major, it->minor, it->patch,
+        {*at, it->pre_release_len}, {build, it->build_len}};
+    *at = build + it->build_len;
+    return (nodejs_semver_bound){told->kind, version};
+}
+
+/* Prints a range, read with pre-releases included or without. With them it is read and kept, since a
+   text is printed as it is read without them. */
+static nodejs_semver_status print_range(
+    nodejs_semver_text it, bool pre, char *out, size_t size, size_t *len)
+{
+    if (!pre)
+        return nodejs_semver_range_print(NPM, it.at, it.len, out, size, len);
+    size_t count, bytes;
+    nodejs_semver_status status =
+        nodejs_semver_range_read(NPM, it.at, it.len, true, NULL, 0, &count, NULL, 0, &bytes);
+    if (status != NODEJS_SEMVER_TOO_SMALL)
+        return status;
+    nodejs_semver_interval_parts *told = malloc(count * sizeof *told);
+    nodejs_semver_interval *kept = malloc(count * sizeof *kept);
+    char *texts = malloc(bytes + 1);
+    const char *at = texts;
+    status = NODEJS_SEMVER_NO_MEMORY;
+    if (told && kept && texts)
+        status = nodejs_semver_range_read(
+            NPM, it.at, it.len, true, told, count, &count, texts, bytes, &bytes);
+    if (status == NODEJS_SEMVER_OK) {
+        for (size_t nth = 0; nth < count; nth++) {
+            kept[nth].lower = kept_bound(&told[nth].lower, &at);
+            kept[nth].upper = kept_bound(&told[nth].upper, &at);
+        }
+        status = nodejs_semver_print_range(kept, count, out, size, len);
+    }
+    free(texts);
+    free(kept);
+    free(told);
+    return status;
+}
+
 #define TEXT(nth) given.texts[nth].at, given.texts[nth].len
 
 /* A function that prints: CALL has OUT, SIZE and LEN in it. OTHERWISE says what it returns where it has no text. */
@@ -118,7 +176,14 @@ PRINTS(intersect, 2, null_or_thrown, nodejs_semver_range_intersect(NPM, TEXT(0),
 PRINTS(subtract, 2, null_or_thrown, nodejs_semver_range_difference(NPM, TEXT(0), TEXT(1), out, size, &len))
 PRINTS(min_version, 1, null_or_thrown, nodejs_semver_range_min_version(NPM, TEXT(0), out, size, &len))
 PRINTS(try_min_version, 1, null_or_undefined, nodejs_semver_range_min_version(NPM, TEXT(0), out, size, &len))
-PRINTS(try_range, 1, null_or_undefined, nodejs_semver_range_print(NPM, TEXT(0), out, size, &len))
+PRINTS(try_range, 1, null_or_undefined,
+    print_range(given.texts[0], flag(env, given.others[1]), out, size, &len))
+PRINTS(try_union, 2, null_or_undefined,
+    nodejs_semver_range_union(NPM, TEXT(0), TEXT(1), out, size, &len))
+PRINTS(try_intersect, 2, null_or_undefined,
+    nodejs_semver_range_intersect(NPM, TEXT(0), TEXT(1), out, size, &len))
+PRINTS(try_difference, 2, null_or_undefined,
+    nodejs_semver_range_difference(NPM, TEXT(0), TEXT(1), out, size, &len))
 PRINTS(try_clean, 1, null_or_undefined, nodejs_semver_version_clean(TEXT(0), out, size, &len))
 PRINTS(try_coerce, 1, null_or_undefined, nodejs_semver_version_coerce(TEXT(0), flag(env, given.others[1]), flag(env, given.others[2]),
     flag(env, given.others[3]), out, size, &len))
@@ -134,14 +199,15 @@ static uint32_t base_of(napi_env env, napi_value value)
 PRINTS(try_inc, 3, null_or_undefined,
     nodejs_semver_version_inc(NPM, TEXT(0), TEXT(1), TEXT(2), base_of(env, given.others[3]), out, size, &len))
 
-/* A function that returns what CALL puts into `found`, a value of a type from which MAKE makes one of JavaScript. */
-#define ANSWERS(name, type, MAKE, OTHERWISE, CALL)                                                                     \
+/* A function of some texts that returns what CALL puts into `found`, a value of a type from which MAKE
+   makes one of JavaScript. */
+#define ANSWERS(name, count, type, MAKE, OTHERWISE, CALL)                                                              \
     static napi_value name(napi_env env, napi_callback_info info)                                                      \
     {                                                                                                                  \
         arguments given;                                                                                               \
-        read_arguments(env, info, 2, &given);                                                                          \
+        read_arguments(env, info, count, &given);                                                                      \
         napi_value answer = NULL;                                                                                      \
-        type found = 0;                                                                                                \
+        type found = {0};                                                                                              \
         if (!given.failed) {                                                                                           \
             nodejs_semver_status status = CALL;                                                                        \
             if (status == NODEJS_SEMVER_OK)                                                                            \
@@ -152,8 +218,8 @@ PRINTS(try_inc, 3, null_or_undefined,
         release(&given);                                                                                               \
         return answer;                                                                                                 \
     }
-#define COUNTS(name, type, OTHERWISE, CALL) ANSWERS(name, type, napi_create_int32, OTHERWISE, CALL)
-#define TELLS(name, OTHERWISE, CALL) ANSWERS(name, bool, napi_get_boolean, OTHERWISE, CALL)
+#define COUNTS(name, type, OTHERWISE, CALL) ANSWERS(name, 2, type, napi_create_int32, OTHERWISE, CALL)
+#define TELLS(name, OTHERWISE, CALL) ANSWERS(name, 2, bool, napi_get_boolean, OTHERWISE, CALL)
 
 COUNTS(compare, int32_t, null_or_thrown, nodejs_semver_version_compare(NPM, TEXT(0), TEXT(1), &found))
 COUNTS(try_compare, int32_t, null_or_undefined, nodejs_semver_version_compare(NPM, TEXT(0), TEXT(1), &found))
@@ -164,7 +230,25 @@ TELLS(try_satisfies, null_or_undefined, nodejs_semver_range_satisfies(NPM, TEXT(
 TELLS(try_outside, null_or_undefined,
     nodejs_semver_range_outside(NPM, TEXT(0), TEXT(1), flag(env, given.others[2]), flag(env, given.others[3]), &found))
 TELLS(try_subset, null_or_undefined, nodejs_semver_range_is_subset(NPM, TEXT(0), TEXT(1), flag(env, given.others[2]), &found))
-TELLS(try_meets, null_or_undefined, nodejs_semver_range_allows_any(NPM, TEXT(0), TEXT(1), &found))
+
+/* What is wrong with a version text, and its place: the kind and the byte. */
+typedef struct { uint32_t kind; size_t place; } version_flaw;
+
+static void make_version_flaw(napi_env env, version_flaw found, napi_value *answer)
+{
+    *answer = list_of(env, (double[]){found.kind, (double)found.place}, 2);
+}
+
+/* Of a range text the bytes of the first malformed word. */
+static void make_range_flaw(napi_env env, nodejs_semver_alternative found, napi_value *answer)
+{
+    *answer = list_of(env, (double[]){(double)found.word_start, (double)found.word_end}, 2);
+}
+
+ANSWERS(try_version_flaw, 1, version_flaw, make_version_flaw, null_or_undefined,
+    nodejs_semver_version_npm_flaw(TEXT(0), &found.kind, &found.place))
+ANSWERS(try_range_flaw, 1, nodejs_semver_alternative, make_range_flaw, null_or_undefined,
+    nodejs_semver_range_npm_flaw(TEXT(0), flag(env, given.others[1]), &found))
 
 /* The text of the pre-release of a version. Its numbers go into the second argument, a Float64Array of three. */
 static napi_value try_read(napi_env env, napi_callback_info info)
@@ -209,7 +293,9 @@ NAPI_MODULE_INIT()
         {"compare", compare}, {"satisfies", satisfies}, {"inc", inc}, {"intersect", intersect}, {"subtract", subtract}, {"minVersion", min_version},
         {"tryRead", try_read}, {"tryCompare", try_compare}, {"tryCompareBuild", try_compare_build}, {"tryDiff", try_diff}, {"tryInc", try_inc},
         {"tryClean", try_clean}, {"tryCoerce", try_coerce}, {"tryRange", try_range}, {"trySatisfies", try_satisfies},
-        {"tryOutside", try_outside}, {"tryMinVersion", try_min_version}, {"trySubset", try_subset}, {"tryMeets", try_meets}};
+        {"tryOutside", try_outside}, {"tryMinVersion", try_min_version}, {"trySubset", try_subset}, {"tryUnion", try_union},
+        {"tryIntersect", try_intersect}, {"tryDifference", try_difference},
+        {"tryVersionFlaw", try_version_flaw}, {"tryRangeFlaw", try_range_flaw}};
     for (size_t at = 0; at < sizeof functions / sizeof *functions; at++) {
         napi_value function;
         napi_create_function(env, functions[at].name, NAPI_AUTO_LENGTH, functions[at].call, NULL, &function);

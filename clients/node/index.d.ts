@@ -20,17 +20,18 @@ type Order = -1 | 0 | 1;
 export class SemVer {
   /** Throws a TypeError where the text is no version. */
   constructor(version: string | SemVer, options?: Given);
-  readonly raw: string;
+  raw: string;
   readonly loose: boolean;
   readonly includePrerelease: boolean;
   readonly options: Options;
-  readonly major: number;
-  readonly minor: number;
-  readonly patch: number;
+  major: number;
+  minor: number;
+  patch: number;
   /** The version without its build metadata. */
-  readonly version: string;
-  readonly prerelease: ReadonlyArray<string | number>;
-  readonly build: ReadonlyArray<string>;
+  version: string;
+  prerelease: ReadonlyArray<string | number>;
+  build: ReadonlyArray<string>;
+  /** Makes `version` anew from the numbers and the pre-release, and returns it. */
   format(): string;
   toString(): string;
   compare(other: string | SemVer): Order;
@@ -41,20 +42,42 @@ export class SemVer {
   inc(release: ReleaseType, identifier?: string, base?: IdentifierBase): this;
 }
 
+/** A sign and a version, or the empty text, which stands for any version. */
+export class Comparator {
+  /** The `semver` of a comparator of the empty text. */
+  static readonly ANY: symbol;
+  /** Throws a TypeError where the text is no comparator. */
+  constructor(comparator: string | Comparator, options?: Given);
+  readonly loose: boolean;
+  readonly options: Options;
+  readonly operator: "" | "<" | "<=" | ">" | ">=";
+  readonly semver: SemVer | symbol;
+  /** The comparator as a text. */
+  readonly value: string;
+  toString(): string;
+  /** Whether the version stands to that of the comparator as the sign says. Pre-releases are no others. */
+  test(version: string | SemVer): boolean;
+  /** Whether some version satisfies both, as ranges. */
+  intersects(comparator: Comparator, options?: Given): boolean;
+}
+
 /** A range. */
 export class Range {
   /** Throws a TypeError where the text is no range. */
-  constructor(range: string | Range, options?: Given);
+  constructor(range: string | Range | Comparator, options?: Given);
   readonly raw: string;
   readonly loose: boolean;
   readonly includePrerelease: boolean;
   readonly options: Options;
   /** The range in its normal form. */
   readonly range: string;
+  /** The comparators of each alternative of the normal form. */
+  readonly set: ReadonlyArray<ReadonlyArray<Comparator>>;
   format(): string;
   toString(): string;
   test(version: string | SemVer): boolean;
-  intersects(range: Range): boolean;
+  /** Whether some version satisfies both. */
+  intersects(range: Range, options?: Given): boolean;
 }
 
 export const RELEASE_TYPES: ReleaseType[];

@@ -1,24 +1,62 @@
-// The functions of the addon, over the library as WebAssembly with 64-bit memory: Node 24 or later, or Node 20 with
-// --experimental-wasm-memory64. `open(path)` takes the path of the module.
+// The functions of the addon, over the library as WebAssembly with 64-bit memory: Node 24 or later,
+// or Node 20 with --experimental-wasm-memory64. `open(path)` takes the path of the module.
 "use strict";
 const fs = require("fs");
-const path = require("path");
+const { shared } = require("./shared.js");
+const { Library, NPM, Refused, WITHOUT } = shared("library.js");
 
-// A package has the file beside this one.
-const shared = [path.join(__dirname, "library.js"), path.join(__dirname, "../../web/library.js")].find((it) => fs.existsSync(it));
-const { Library, Refused } = require(shared);
-
-const NPM = 1, WITHOUT = null;
-const OK = 0, NO_MEMORY = 10, TOO_LONG = 11;
+const OK = 0, TOO_SMALL = 2, NO_MEMORY = 10, TOO_LONG = 11;
 const MESSAGES = ["", "", "", "not UTF-8", "bad version", "bad range", "bad argument", "bad identifier", "not a prerelease", "overflow", "out of memory", "too long"];
 const BASE_ZERO = 0;
 
+// How many words of 64 bits a bound has as it is told, and as it is kept.
+const TOLD = 6, KEPT = 8;
+
+// The words of a kept bound, whose texts begin at a place, and the place behind them.
+function keptBound([kind, major, minor, patch, preLength, buildLength], at) {
+  const build = at + preLength;
+  const kept = [kind & 0xffffffffn, major, minor, patch, at, preLength, build, buildLength];
+  return [kept, build + buildLength];
+}
+
 class Module extends Library {
-  // Some functions take no reading.
   ask(name, reading, texts, ...others) {
     if (!texts.every((it) => typeof it === "string")) throw new TypeError("strings expected");
-    const first = reading === WITHOUT ? [] : [reading];
-    return this.with(texts, (blocks) => this.library[`nodejs_semver_${name}`](...first, ...blocks.flat(), ...others));
+    return super.ask(name, reading, texts, ...others);
+  }
+
+  // The text of a range, read with pre-releases included or without. With them it is read and kept,
+  // since a text is printed as it is read without them.
+  range(text, pre) {
+    if (!pre) return this.text("range_print", NPM, [text]);
+    const read = (told, size, at, room) => {
+      const count = this.answer, length = this.answer + 8n;
+      return this.ask("range_read", NPM, [text], 1, told, size, count, at, room, length);
+    };
+    const status = read(0n, 0n, 0n, 0n);
+    if (status !== TOO_SMALL) throw new Refused(status);
+    const [count, length] = this.numbers(this.answer, 2);
+    const bounds = 2n * count, told = this.library.malloc(8n * BigInt(TOLD + KEPT) * bounds + length);
+    if (told === 0n) throw new Refused(NO_MEMORY);
+    try {
+      const kept = told + 8n * BigInt(TOLD) * bounds, texts = kept + 8n * BigInt(KEPT) * bounds;
+      const again = read(told, count, texts, length);
+      if (again !== OK) throw new Refused(again);
+      this.keep(Number(bounds), told, kept, texts);
+      return this.text("print_range", WITHOUT, [], kept, count);
+    } finally {
+      this.library.free(told);
+    }
+  }
+
+  // Makes the kept form of some bounds that are told.
+  keep(count, told, kept, texts) {
+    const [words, made] = [this.numbers(told, TOLD * count), this.numbers(kept, KEPT * count)];
+    for (let nth = 0, at = texts; nth < count; nth++) {
+      const [bound, behind] = keptBound(words.slice(TOLD * nth, TOLD * (nth + 1)), at);
+      made.set(bound, KEPT * nth);
+      at = behind;
+    }
   }
 
   // The text of the pre-release of a version, whose numbers go into an array.
@@ -69,12 +107,16 @@ function open(file) {
     tryInc: (version, word, identifier, base) => attempt(() => inc(version, word, identifier, base)),
     tryClean: (version) => attempt(() => it.text("version_clean", WITHOUT, [version])),
     tryCoerce: (text, ...flags) => attempt(() => it.text("version_coerce", WITHOUT, [text], ...flags.map(Number))),
-    tryRange: (range) => attempt(() => it.text("range_print", NPM, [range])),
+    tryRange: (range, pre) => attempt(() => it.range(range, pre)),
     trySatisfies: (range, version, pre) => attempt(() => it.flag("range_satisfies", NPM, [range, version], pre)),
     tryOutside: (range, version, above, pre) => attempt(() => it.flag("range_outside", NPM, [range, version], above, pre)),
     tryMinVersion: (range) => attempt(() => it.text("range_min_version", NPM, [range])),
     trySubset: (one, two, pre) => attempt(() => it.flag("range_is_subset", NPM, [one, two], pre)),
-    tryMeets: (one, two) => attempt(() => it.flag("range_allows_any", NPM, [one, two])),
+    tryUnion: (one, two) => attempt(() => it.text("range_union", NPM, [one, two])),
+    tryIntersect: (one, two) => attempt(() => it.text("range_intersect", NPM, [one, two])),
+    tryDifference: (one, two) => attempt(() => it.text("range_difference", NPM, [one, two])),
+    tryVersionFlaw: (version) => attempt(() => it.versionFlaw(version)),
+    tryRangeFlaw: (range, pre) => attempt(() => it.rangeFlaw(range, pre)),
   };
 }
 

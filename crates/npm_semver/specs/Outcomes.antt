@@ -1,9 +1,10 @@
 -- Statement: what the program writes for its arguments, its input and the locale, and its exit status.
 use Rattle.std.specs.Prelude.{◌≡◌, ◌≢◌, ◌∷◌, ◌++◌, [], ℕ, Bool, true, false, List, Option, codes}
-use Rattle.std.specs.Prelude.{is_some, option_map, unwrap_or, if◌then◌else◌, Result, Ok, Err}
+use Rattle.std.specs.Prelude.{◌&&◌, is_some, option_map, unwrap_or, if◌then◌else◌, Result, Ok, Err}
 use Rattle.std.specs.IoError.{error_kind}
 use Rattle.std.specs.declared.io.Error.{Error}
 use Rattle.std.specs.declared.io.ErrorKind.TheVariants.{BrokenPipe}
+use Rattle.semver_core.specs.Lists.{is_empty}
 use Rattle.npm_semver.specs.Arguments.{Asked, IsAsked}
 use Rattle.npm_semver.specs.Responses.{Responds, Written, tells_why, with_lines}
 use Rattle.npm_semver.specs.Subcommands.{IsReply, Trouble, exit_status, is_subcommand, say}
@@ -41,6 +42,17 @@ pub data IsOutcome (arguments : List (List ℕ)) (input : List ℕ) (is_utf8 : B
         errors = reasons ++ errors;
         status = if written.is_success then 0 else 1;
       })
+
+-- what is told on a terminal where nothing else is
+abbrev pub hint : List ℕ
+hint = codes "semver: no version is printed; --why tells why\n"
+
+abbrev pub is_silent : Outcome → Bool
+is_silent o = is_empty o.output && is_empty o.errors
+
+abbrev pub with_hint : Bool → Outcome → Outcome
+with_hint is_wanted o = if is_wanted && is_silent o
+    then record { output = o.output; errors = hint; status = o.status } else o
 
 -- how the program ends a write to standard output: that a reader has closed the pipe is no error
 pub data IsUnlessClosed : Result (Unit {0}) Error → Result (Unit {0}) Error → Type 0 where

@@ -1,7 +1,7 @@
 // The program as a function of its arguments, its input and the locale.
 
 ghost use Rattle.std.specs.Prelude.{◌≡◌, ◌∷◌, ◌++◌, ℕ, List, IfNone, IfOk, IfSome, OnOk};
-ghost use Rattle.std.specs.Prelude.{false, is_some, map, string_bytes};
+ghost use Rattle.std.specs.Prelude.{false, is_some, map, not, string_bytes};
 ghost use Rattle.npm_semver.specs.Internal.Commands.{IsCommand, IsSaid, IsWritten, outcome};
 ghost use Rattle.npm_semver.specs.Internal.Commands as Internal;
 ghost use Rattle.npm_semver.specs.Internal.Said.{name_of, said};
@@ -85,6 +85,14 @@ impl<'a> Command<'a> {
             Some((subcommand, words)) => Ok(Command::Subcommand(subcommand, words)),
             None => Ok(Command::Request(Request::of(alloc, arguments)?)),
         }
+    }
+
+    /// Whether versions are asked for, and no subcommand.
+    pub fn asks_versions(&self) -> bool
+        ensures { (arguments : List (List ℕ)) → IsCommand arguments self.now
+            → result ≡ not (has_subcommand arguments) }
+    {
+        matches!(self, Command::Request(_))
     }
 
     /// Whether the input counts.

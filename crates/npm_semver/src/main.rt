@@ -7,6 +7,7 @@ mod caret;
 mod command;
 mod entry;
 mod help;
+mod hint;
 mod laws;
 mod listing;
 mod locale;
@@ -22,6 +23,7 @@ use crate::command::Command;
 use crate::locale::shows_utf8;
 use crate::pipe::unless_closed;
 use anyhow::Result;
+use std::io::IsTerminal;
 use std::process::ExitCode;
 use std::{env, io};
 
@@ -35,7 +37,9 @@ fn main(rt: HostRuntime) -> Result<ExitCode> {
     } else {
         String::new(alloc)
     };
+    let is_watched = command.asks_versions() && rt.stderr().is_terminal();
     let outcome = command.answer(alloc, &input, is_utf8)?;
+    let outcome = outcome.with_hint(alloc, is_watched)?;
     eprint!(rt; "{}", outcome.errors)?;
     let written = print!(rt; "{}", outcome.output);
     unless_closed(written)?;
