@@ -324,6 +324,12 @@ function ofSets(a, b) {
   }
 }
 
+// Alternatives that node-semver keeps beside `>=0.0.0`, since that has a build.
+const BESIDE_ALL = [
+  [">1 || >=0.0.0+b || <3.1.0-a =1.2.2-0", "^0.1.0 1.2.2-a"],
+  ["<10.2 || >=3.0.1-1", "<1.10.1-0 || 0.0.0+b - 0.0.0-0"],
+];
+
 function ofSetsOfTexts(...texts) {
   const options = one([undefined, PRE, { loose: true }, { loose: true, ...PRE }]);
   if (texts.every((it) => there.validRange(it, options))) ofSets(...rangesOf(options, ...texts));
@@ -335,6 +341,8 @@ for (const v of [...VERSIONS, ...OTHERS]) {
   ofVersion(v);
   for (const w of [...VERSIONS, ...OTHERS]) ofPair(v, w);
 }
+for (const texts of BESIDE_ALL)
+  for (const options of OF_OBJECTS) ofSets(...rangesOf(options, ...texts));
 for (const text of [...RANGES, ...OTHERS]) {
   for (let at = 0; at < 10; at++) {
     ofRanges(text, one(VERSIONS), version(), one(RANGES));

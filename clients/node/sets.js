@@ -8,11 +8,17 @@ const { notAccepted, wrongRange, wrongVersion } = require("./shared.js").shared(
 
 const isObject = (it) => it !== null && typeof it === "object";
 
+// npm reads `>=0.0.0` as any version, which drops the other alternatives and their pre-releases.
+// With a build it is the comparator that it seems to be.
+const ALL_RELEASES = ">=0.0.0+0";
+const exact = (text) => text.replace(/>=0\.0\.0(?![-+.\w])/g, ALL_RELEASES);
+
 // A Range or a Comparator by the comparators that it has, and a text with the options of a call.
 function rangeOf(it, options) {
   if (!isObject(it)) return new ours.Range(it, options);
   const { includePrerelease } = it.options ?? {};
-  return new ours.Range(Array.isArray(it.set) ? it.range : it.value, { includePrerelease });
+  const text = Array.isArray(it.set) ? it.range : it.value;
+  return new ours.Range(exact(text), { includePrerelease });
 }
 
 // Two ranges, of which both or neither include pre-releases.
@@ -23,15 +29,8 @@ function pairOf(one, two, options) {
   return found;
 }
 
-// npm reads `>=0.0.0` as any version, and any version drops the other alternatives and their
-// pre-releases. Of these two alternatives it does neither.
-const ALL_RELEASES = "0.0.0||>0.0.0";
-
-// The normal form of a range, as a text that means the same where pre-releases are not included.
-const formOf = ({ range }) => range.replace(/>=0\.0\.0(?![-.\w])/g, ALL_RELEASES) || "*";
-
-// What the addon answers of two ranges.
-const ofForms = (question, pair) => addon()[question](...pair.map(formOf));
+// What the addon answers of the normal forms of two ranges.
+const ofForms = (question, pair) => addon()[question](...pair.map((it) => exact(it.range) || "*"));
 
 function union(one, two, options) {
   const pair = pairOf(one, two, options), found = ofForms("tryUnion", pair);
@@ -67,7 +66,7 @@ const library = {
 function why(version, range, options) {
   const { includePrerelease } = (isObject(range) ? range.options : options) ?? {};
   const [text, pre] = [isObject(version) ? version.version : version, Boolean(includePrerelease)];
-  const asked = isObject(range) ? rangeOf(range).range || "*" : range;
+  const asked = isObject(range) ? exact(rangeOf(range).range) || "*" : range;
   const wrong = wrongRange(library, asked, pre) ?? wrongVersion(library, text);
   if (wrong !== null) return wrong;
   const reason = notAccepted(library, asked, text, pre);

@@ -27,6 +27,11 @@ function wrongVersion(version) {
   return new TypeError(`Invalid version. Must be a string. Got type "${typeof version}".`);
 }
 
+function printed({ major, minor, patch }, pre) {
+  const triple = `${major}.${minor}.${patch}`;
+  return pre === "" ? triple : `${triple}-${pre}`;
+}
+
 class SemVer extends WithOptions {
   constructor(version, options) {
     super(options);
@@ -42,13 +47,12 @@ class SemVer extends WithOptions {
     this.prerelease = listOf(pre).map(identifierOf);
     // As it is written: `+001` keeps its zeros.
     this.build = version.includes("+") ? listOf(version.trim().replace(/.*\+/, "")) : [];
-    this.format();
+    this.version = printed(this, pre);
   }
 
   // The version as its numbers and its pre-release say.
   format() {
-    const { prerelease } = this, joined = prerelease.length === 0 ? "" : `-${prerelease.join(".")}`;
-    this.version = `${this.major}.${this.minor}.${this.patch}${joined}`;
+    this.version = printed(this, this.prerelease.join("."));
     return this.version;
   }
 
@@ -83,14 +87,14 @@ class SemVer extends WithOptions {
   // Changes this version to the next one. The build stays.
   inc(release, identifier, base) {
     const number = base === false ? NO_NUMBER : Number(Boolean(Number(base)));
-    const words = [this.version, release, identifier || ""];
-    const next = typeof release === "string" ? addon().tryInc(...words, number) : undefined;
+    const word = typeof release === "string" ? release : "";
+    const next = addon().tryInc(this.version, word, identifier || "", number);
     if (next === undefined) throw new NoNext(`invalid increment argument: ${release}`);
     // Its numbers may be one more than what is read.
     const [, triple, pre] = /^([\d.]+)-?([^+]*)/.exec(next);
     [this.major, this.minor, this.patch] = triple.split(".").map(Number);
     this.prerelease = listOf(pre).map(identifierOf);
-    this.format();
+    this.version = printed(this, pre);
     this.raw = whole(this);
     return this;
   }
@@ -122,8 +126,8 @@ function coerce(version, options) {
 
 function inc(version, release, options, identifier, base) {
   if (typeof options === "string") [options, identifier, base] = [undefined, options, identifier];
-  const next = () => new SemVer(textOf(version), options).inc(release, identifier, base);
-  return orNull(next)?.version ?? null;
+  const next = () => new SemVer(textOf(version), options).inc(release, identifier, base).version;
+  return orNull(next);
 }
 
 const major = (version, options) => new SemVer(version, options).major;
