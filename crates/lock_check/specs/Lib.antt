@@ -1,6 +1,9 @@
 pub mod Fields
 pub mod Findings
+pub mod Index
 pub mod Optional
+pub mod Outlooks
+pub mod Raises
 pub mod Readings
 pub mod Replacements
 pub mod Reports

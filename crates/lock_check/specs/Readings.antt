@@ -11,6 +11,7 @@ use Rattle.nodejs_semver.specs.Failures.{NoValue}
 use Rattle.npm_words.specs.Alternatives.{HasAlternativesIn}
 use Rattle.npm_reading.specs.Ranges.{IsRangeIn}
 use Rattle.nodejs_semver.specs.Versions.{VersionValue}
+use Rattle.semver_core.specs.Text.Bars.{IsCutAtBars}
 use Rattle.semver_core.specs.declared.TheConstants.{MAX_SAFE_INTEGER}
 use Rattle.lock_check.specs.declared.reading.NpmRange.{NpmRange}
 use Rattle.lock_check.specs.declared.reading.NpmRange.TheVariants.{Read, Rejected, Unsure}
@@ -24,6 +25,10 @@ MayDiffer text = HasSubslice text (codes "*") ⊎ (250 < length text)
 -- a number that is 10^21 or more once it is counted up
 abbrev pub has_great : List ℕ → Bool
 has_great text = list_any (λ run. nat_lt 20 (length run)) (slice_split (λ b. not (is_ascii_digit b)) text)
+
+-- the text has two alternatives or more, with `||` between them
+abbrev pub HasAlternatives : List ℕ → Type 0
+HasAlternatives text = (pieces : List (List ℕ)) → IsCutAtBars text pieces → 1 < length pieces
 
 -- npm reads the text as this range
 pub data IsWanted (limit : ℕ) (text : List ℕ) (range : List (Span VersionValue)) : Type 0 where

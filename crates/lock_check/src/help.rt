@@ -19,6 +19,8 @@ usage: lock_check [<option>..] [<folder> | <lock file> | -]
 
       --json    a line of JSON for each finding
       --annotate  a command for each finding, which GitHub shows at its line
+      --outdated <index>  what the locked versions may be raised to, by an index:
+                lines of a package, a tab and a version
   -q, --quiet   only what is wrong: nothing skipped, and no counts
   -h, --help    print this text
       --version print the first line of it
@@ -29,4 +31,8 @@ where the package begins that has the dependency, and the path of packages from
 the root project that leads to it. The last line counts them. Exits with 0 if
 nothing is wrong, with 1 if something is, and with 2 if the check could not be
 made or is not whole.
+
+With an index it prints, of each dependency by a range of a registry, the
+greatest version that the range accepts above the locked one, and the newest if
+the range does not accept it, and why. Exits with 1 if there is such a version.
 ";

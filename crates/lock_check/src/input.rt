@@ -51,6 +51,12 @@ pub fn read(rt: &HostRuntime, path: &str) -> Result<Input> {
     }
 }
 
+/// The text of an index at a path.
+pub fn index_text(rt: &HostRuntime, path: &str) -> Result<String> {
+    let text = fs::read_to_string(rt, path);
+    text.context(format_args!("{} cannot be read", Shown(path)))
+}
+
 fn is_folder(rt: &HostRuntime, path: &str) -> bool {
     match fs::metadata(rt, path) {
         Ok(metadata) => metadata.is_dir(),

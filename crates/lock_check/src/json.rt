@@ -60,7 +60,8 @@ fn object(alloc: Global, row: &Row<'_>) -> Result<Value, AllocError>
     })
 }
 
-fn text_or_null(alloc: Global, text: Option<&str>) -> Result<Value, AllocError>
+/// A text, or `null`.
+pub fn text_or_null(alloc: Global, text: Option<&str>) -> Result<Value, AllocError>
     ensures { IfOk result (λ v. view v ≡ text_or_null (option_map (λ t. t.now) text.entry)) }
 {
     match text {

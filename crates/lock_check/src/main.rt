@@ -27,19 +27,24 @@
 //! another range in its text than is found here, as in `>*1.2.3`.
 #![tactic(auto)]
 
+mod alias;
 mod annotation;
 mod check;
 mod fault;
 mod finding;
 mod folder;
 mod help;
+mod index;
 mod input;
 mod json;
 mod lines;
 mod lock;
 mod nested;
 mod options;
+mod outlook;
+mod outlook_row;
 mod overrides;
+mod raises;
 mod reading;
 mod report;
 mod requirers;
@@ -50,17 +55,22 @@ mod specifier;
 mod verdict;
 mod workspaces;
 
-use crate::check::check;
+use crate::check::{Findings, check};
 use crate::finding::Counts;
 use crate::help::{HELP, USAGE, VERSION};
-use crate::input::{Input, LockFile, read};
+use crate::index::Index;
+use crate::input::{Input, LockFile, index_text, read};
 use crate::lines::Lines;
 use crate::lock::Lock;
 use crate::options::{Format, Options, Request};
+use crate::outlook::{Totals, outlooks};
+use crate::outlook_row::{outlook_rows, write_outlooks, write_totals};
 use crate::reading::unmarked;
 use crate::report::write_rows;
-use crate::row::rows;
-use anyhow::{Context, Result};
+use crate::row::{fault_rows, rows};
+use crate::shown::Shown;
+use anyhow::{Context, Result, bail};
+use nodejs_semver::Failure;
 use serde_json::{Map, Value, put};
 use std::alloc::Global;
 use std::env;
@@ -114,6 +124,9 @@ fn tell(rt: &HostRuntime, input: Input, options: Options<'_>) -> Result<ExitCode
         is_nested,
     };
     let findings = check(alloc, lock)?;
+    if let Some(index) = options.index {
+        return tell_outdated(rt, lock, findings, &name, &text, index, options);
+    }
     let counts = Counts::of(lock, &findings);
     let places = if findings.are_told() {
         text.as_str()
@@ -127,10 +140,49 @@ fn tell(rt: &HostRuntime, input: Input, options: Options<'_>) -> Result<ExitCode
     if !options.is_quiet {
         counts.write(alloc, options.format == Format::Json, &mut output)?;
     }
+    print_all(rt, &output)?;
+    Ok(ExitCode::from(counts.exit_status()))
+}
+
+// Prints what the locked versions may be raised to by an index, and what is malformed, and returns
+// the exit status.
+fn tell_outdated<'a>(
+    rt: &HostRuntime,
+    lock: Lock<'a>,
+    findings: Findings<'a>,
+    name: &str,
+    text: &str,
+    path: &str,
+    options: Options<'_>,
+) -> Result<ExitCode> {
+    let alloc = rt.alloc();
+    let index_text = index_text(rt, path)?;
+    let index = match Index::of(alloc, unmarked(&index_text)) {
+        Ok(index) => index,
+        Err(Failure::Refused(line)) => bail!("{}, {line}", Shown(path)),
+        Err(Failure::Memory(error)) => return Err(error.into()),
+    };
+    let outlooks = outlooks(alloc, lock, &index, &findings.of_dependencies)?;
+    let totals = Totals::of(lock, &outlooks, findings.faults.len());
+    let lines = Lines::of(alloc, unmarked(text), lock.is_nested)?;
+    let is_json = options.format == Format::Json;
+    let mut output = String::new(alloc);
+    let faults = fault_rows(alloc, &findings.faults, &lines)?;
+    write_rows(alloc, options.format, name, &faults, &mut output)?;
+    let rows = outlook_rows(alloc, &outlooks, &lines, options.is_quiet)?;
+    write_outlooks(alloc, is_json, name, &rows, &mut output)?;
+    if !options.is_quiet {
+        write_totals(alloc, totals, is_json, &mut output)?;
+    }
+    print_all(rt, &output)?;
+    Ok(ExitCode::from(totals.exit_status()))
+}
+
+fn print_all(rt: &HostRuntime, output: &str) -> Result<()> {
     let mut stdout = rt.stdout();
     stdout.write_all(output.as_bytes())?;
     stdout.flush()?;
-    Ok(ExitCode::from(counts.exit_status()))
+    Ok(())
 }
 
 // The packages of a lock file, by their folders.

@@ -20,6 +20,8 @@ pub struct Options<'a> {
     pub format: Format,
     /// Whether skipped dependencies and the counts are left out.
     pub is_quiet: bool,
+    /// The index to which the dependencies are compared, if they are.
+    pub index: Option<&'a str>,
     pub path: &'a str,
 }
 
@@ -38,6 +40,12 @@ pub enum Misuse<'a> {
     UnknownOption(&'a str),
     /// Two formats are asked for.
     TwoFormats,
+    /// No index follows `--outdated`.
+    NoIndex,
+    /// The word is a second index.
+    TwoIndexes(&'a str),
+    /// What may be raised is asked for as commands.
+    Unannotated,
     /// The word is a second path.
     TwoPaths(&'a str),
 }
@@ -47,6 +55,9 @@ pub enum Misuse<'a> {
 struct Asked<'a> {
     format: Option<Format>,
     is_quiet: bool,
+    // Whether the next word is the index.
+    wants_index: bool,
+    index: Option<&'a str>,
     path: Option<&'a str>,
 }
 
@@ -60,6 +71,18 @@ impl<'a> Asked<'a> {
                 Ok(())
             }
         }
+    }
+
+    fn set_index(&mut self, word: &'a str) -> Result<(), Misuse<'a>> {
+        if word.starts_with('-') {
+            return Err(Misuse::NoIndex);
+        }
+        if self.index.is_some() {
+            return Err(Misuse::TwoIndexes(word));
+        }
+        self.wants_index = false;
+        self.index = Some(word);
+        Ok(())
     }
 
     fn set_path(&mut self, word: &'a str) -> Result<(), Misuse<'a>> {
@@ -77,22 +100,33 @@ impl<'a> Request<'a> {
         let mut asked = Asked {
             format: None,
             is_quiet: false,
+            wants_index: false,
+            index: None,
             path: None,
         };
         for word in words {
             match word.as_str() {
+                word if asked.wants_index => asked.set_index(word)?,
                 "-h" | "--help" => return Ok(Request::Help),
                 "--version" => return Ok(Request::Version),
                 "--json" => asked.set_format(Format::Json)?,
                 "--annotate" => asked.set_format(Format::Annotations)?,
                 "-q" | "--quiet" => asked.is_quiet = true,
+                "--outdated" => asked.wants_index = true,
                 word if is_option(word) => return Err(Misuse::UnknownOption(word)),
                 word => asked.set_path(word)?,
             }
         }
+        if asked.wants_index {
+            return Err(Misuse::NoIndex);
+        }
+        if asked.index.is_some() && asked.format == Some(Format::Annotations) {
+            return Err(Misuse::Unannotated);
+        }
         Ok(Request::Check(Options {
             format: asked.format.unwrap_or(Format::Text),
             is_quiet: asked.is_quiet,
+            index: asked.index,
             path: asked.path.unwrap_or("-"),
         }))
     }
@@ -108,6 +142,9 @@ impl fmt::Display for Misuse<'_> {
         match self {
             Misuse::UnknownOption(word) => write!(f, "{} is no option", Shown(word)),
             Misuse::TwoFormats => write!(f, "--json and --annotate are two formats"),
+            Misuse::NoIndex => write!(f, "--outdated wants the path of an index"),
+            Misuse::TwoIndexes(word) => write!(f, "{} is a second index", Shown(word)),
+            Misuse::Unannotated => write!(f, "--outdated has no --annotate"),
             Misuse::TwoPaths(word) => write!(f, "{} is a second path", Shown(word)),
         }
     }

@@ -5,12 +5,13 @@
 // one. A text that both reject is no range to npm. The loose reading here differs from
 // node-semver's for a few texts: what npm reads in a text that may be one of them is unknown.
 
-ghost use Rattle.lock_check.specs.Readings.{IsNpmRange, IsUnmarked, MayDiffer, has_great};
+ghost use Rattle.lock_check.specs.Readings.{HasAlternatives, IsNpmRange, IsUnmarked, MayDiffer};
+ghost use Rattle.lock_check.specs.Readings.{has_great};
 ghost use Rattle.nodejs_semver.specs.Failures.{NoValue};
 ghost use Rattle.npm_words.specs.Alternatives.{HasAlternativesIn};
 ghost use Rattle.npm_reading.specs.Ranges.{IsRangeIn};
 ghost use Rattle.npm_words.specs.VersionText.{IsLooseVersionText};
-ghost use Rattle.std.specs.Prelude.{◌≡◌, ◌↔◌, IfNone, IfOk, IfSome, IsTrue};
+ghost use Rattle.std.specs.Prelude.{◌≡◌, ◌↔◌, IfNone, IfOk, IfSome, IsTrue, OnErr};
 ghost use Rattle.std.specs.Prelude.{false, true};
 
 use nodejs_semver::{Failure, MAX_SAFE_INTEGER, RangeRef, VersionRef};
@@ -29,7 +30,7 @@ pub enum NpmRange<'a> {
 }
 
 /// The range that node-semver's strict reading finds in a text, or its loose one, or `None` if it
-/// rejects the text. Fails only if allocation fails.
+/// rejects the text. Fails only if an allocation fails, for a text with `||`.
 pub fn read_range(
     alloc: Global,
     loose: bool,
@@ -38,6 +39,7 @@ pub fn read_range(
     ensures some { IfOk result (λ r. IfSome r (IsRangeIn loose MAX_SAFE_INTEGER false text.now)) }
     ensures none { IfOk result (λ r. IfNone r
         (NoValue (HasAlternativesIn loose MAX_SAFE_INTEGER false text.now))) }
+    ensures memory { OnErr result (HasAlternatives text.now) }
 {
     let reading = Reading {
         loose,
@@ -45,9 +47,12 @@ pub fn read_range(
     };
     Failure::refused_as_none(npm_reading::range(alloc, text, reading))
 }
-/// What npm reads in a text in place of a range. Fails only if allocation fails.
+
+/// What npm reads in a text in place of a range. Fails only if an allocation fails, for a text with
+/// `||`.
 pub fn range(alloc: Global, text: &str) -> Result<NpmRange<'_>, AllocError>
-    ensures { IfOk result (IsNpmRange text.now) }
+    ensures read { IfOk result (IsNpmRange text.now) }
+    ensures memory { OnErr result (HasAlternatives text.now) }
 {
     if let Some(range) = read_range(alloc, false, text)? {
         return Ok(NpmRange::Read(range));

@@ -57,6 +57,19 @@ pub fn rows<'a>(
     Ok(rows)
 }
 
+/// A row for each malformed field, in order. Fails only if allocation fails.
+pub fn fault_rows<'a>(
+    alloc: Global,
+    faults: &[Fault<'a>],
+    lines: &Lines,
+) -> Result<Vec<Row<'a>>, AllocError>
+    ensures { IfOk result (λ rows. map told_row rows.items ≡ map told_fault faults.now) }
+{
+    let mut rows = Vec::new(alloc);
+    add_faults(alloc, faults, lines, &mut rows)?;
+    Ok(rows)
+}
+
 fn add_faults<'a>(
     alloc: Global,
     faults: &[Fault<'a>],

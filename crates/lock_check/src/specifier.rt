@@ -110,8 +110,8 @@ fn alias(target: &str) -> Specifier<'_>
     }
 }
 
-// The text without an at sign in front, and whether one stands there.
-fn unsigned(target: &str) -> (&str, bool)
+/// The text without an at sign in front, and whether one stands there.
+pub fn unsigned(target: &str) -> (&str, bool)
     ensures { IsUnsigned target.now result.1 result.0.now }
 {
     match target.strip_prefix('@') {
@@ -120,9 +120,9 @@ fn unsigned(target: &str) -> (&str, bool)
     }
 }
 
-// Whether a text is a name that an alias may have, which is no path. Of a name with a scope it is
-// what stands behind the at sign.
-fn is_aliased(text: &str, is_scoped: bool) -> bool
+/// Whether a text is a name that an alias may have, which is no path. Of a name with a scope it is
+/// what stands behind the at sign.
+pub fn is_aliased(text: &str, is_scoped: bool) -> bool
     ensures { IsTrue result ↔ IsAliased is_scoped text.now }
 {
     if is_scoped {

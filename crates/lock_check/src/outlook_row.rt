@@ -1,0 +1,228 @@
+// What is told of how dependencies stand to an index, in whichever format.
+
+ghost use Rattle.lock_check.specs.Outlooks.{class_of, is_shown, outlook_data};
+ghost use Rattle.lock_check.specs.Outlooks.{outlook_text, reason_words, told_outlook};
+ghost use Rattle.lock_check.specs.Outlooks.{told_outlook_row};
+ghost use Rattle.lock_check.specs.Reports.{text_or_null};
+ghost use Rattle.semver_core.specs.Printing.Text.{version_text};
+ghost use Rattle.serde_json.specs.View.{view};
+ghost use Rattle.serde_json.specs.Written.{compact_text};
+ghost use Rattle.std.specs.List.{flat_map};
+ghost use Rattle.std.specs.Option.{option_copied};
+ghost use Rattle.std.specs.Prelude.{◌≡◌, ◌++◌, IfOk, OnOk, filter, map, option_map, string_bytes};
+
+use crate::json::{text_or_null, write_line};
+use crate::lines::Lines;
+use crate::outlook::{Class, Outlook, Totals};
+use crate::raises::Latest;
+use nodejs_semver::VersionRef;
+use serde_json::{Map, Value, json, put};
+use std::alloc::{AllocError, Global};
+use std::fmt::Write;
+
+/// What is told of a dependency.
+#[derive(Drop)]
+pub struct OutlookRow<'a> {
+    pub class: Class,
+    /// The package that has the dependency, and the line of the lock file where its entry begins.
+    pub folder: &'a str,
+    pub line: usize,
+    /// The dependency, what is wanted of it, and the package that a registry is asked for.
+    pub name: &'a str,
+    pub need: &'a str,
+    pub package: &'a str,
+    /// The locked version, and what it may be raised to.
+    pub locked: Option<&'a str>,
+    pub wanted: Option<String>,
+    /// The newest version, if the range does not accept it, and why it does not.
+    pub latest: Option<String>,
+    pub reason: Option<&'static str>,
+    pub message: String,
+}
+
+/// A row for each dependency that is outdated, in order, and unless it is quiet for each that is
+/// not in the index or not looked up. Fails only if allocation fails.
+pub fn outlook_rows<'a>(
+    alloc: Global,
+    outlooks: &[Outlook<'a, '_, '_>],
+    lines: &Lines,
+    is_quiet: bool,
+) -> Result<Vec<OutlookRow<'a>>, AllocError>
+    ensures { IfOk result (λ rows. map told_outlook_row rows.items ≡ map told_outlook
+        (filter (λ o. is_shown is_quiet (class_of o.standing)) outlooks.now)) }
+{
+    let mut rows = Vec::new(alloc);
+    for outlook in outlooks {
+        if outlook.standing.class().is_shown(is_quiet) {
+            rows.push(row_of_outlook(alloc, *outlook, lines)?)?;
+        }
+    }
+    Ok(rows)
+}
+
+fn row_of_outlook<'a>(
+    alloc: Global,
+    outlook: Outlook<'a, '_, '_>,
+    lines: &Lines,
+) -> Result<OutlookRow<'a>, AllocError>
+    ensures { IfOk result (λ row. told_outlook_row row ≡ told_outlook outlook.entry) }
+{
+    let dependency = outlook.dependency;
+    let folder = dependency.package.folder;
+    let latest = outlook.standing.latest();
+    let wanted = version_text(alloc, outlook.standing.wanted())?;
+    let newest = newest_text(alloc, latest)?;
+    let message = format!(in alloc; "{outlook}")?;
+    Ok(OutlookRow {
+        class: outlook.standing.class(),
+        folder,
+        line: lines.line(folder),
+        name: dependency.name,
+        need: dependency.wanted.text(),
+        package: outlook.package,
+        locked: outlook.locked,
+        wanted,
+        latest: newest,
+        reason: reason_words(latest),
+        message,
+    })
+}
+
+fn version_text(
+    alloc: Global,
+    version: Option<&VersionRef<'_>>,
+) -> Result<Option<String>, AllocError>
+    ensures { IfOk result (λ text. option_map string_bytes text
+        ≡ option_map version_text (option_copied version.entry)) }
+{
+    match version {
+        Some(version) => {
+            let text = format!(in alloc; "{version}")?;
+            Ok(Some(text))
+        }
+        None => Ok(None),
+    }
+}
+
+fn newest_text(alloc: Global, latest: Option<Latest<'_, '_>>) -> Result<Option<String>, AllocError>
+    ensures { IfOk result (λ text. option_map string_bytes text
+        ≡ option_map (λ l. version_text l.version.now) latest.entry) }
+{
+    match latest {
+        Some(latest) => version_text(alloc, Some(latest.version)),
+        None => Ok(None),
+    }
+}
+
+fn reason_words(latest: Option<Latest<'_, '_>>) -> Option<&'static str>
+    ensures { option_map (λ t. t.now) result
+        ≡ option_map (λ l. reason_words l.reason) latest.entry }
+{
+    match latest {
+        Some(latest) => Some(latest.reason.words()),
+        None => None,
+    }
+}
+
+/// Writes each row on a line, as text or as an object of JSON. The file is the name of the lock
+/// file. Fails only if allocation fails.
+pub fn write_outlooks(
+    alloc: Global,
+    is_json: bool,
+    file: &str,
+    rows: &[OutlookRow<'_>],
+    output: &mut String,
+) -> Result<(), AllocError>
+    ensures { OnOk result (string_bytes output.new
+        ≡ string_bytes output.old ++ flat_map (outlook_text is_json file.now) rows.now) }
+{
+    for row in rows {
+        write_outlook(alloc, is_json, file, row, output)?;
+    }
+    Ok(())
+}
+
+fn write_outlook(
+    alloc: Global,
+    is_json: bool,
+    file: &str,
+    row: &OutlookRow<'_>,
+    output: &mut String,
+) -> Result<(), AllocError>
+    ensures { OnOk result (string_bytes output.new
+        ≡ string_bytes output.old ++ outlook_text is_json file.now row.now) }
+{
+    if is_json {
+        let text = outlook_object_text(alloc, row)?;
+        write_line(&text, output)
+    } else {
+        let (line, message) = (row.line, row.message.as_str());
+        writeln!(output, "{file}:{line}: {message}")
+    }
+}
+
+// The text of the object of a row.
+fn outlook_object_text(alloc: Global, row: &OutlookRow<'_>) -> Result<String, AllocError>
+    ensures { IfOk result (λ s. string_bytes s ≡ compact_text (outlook_data row.now)) }
+{
+    let object = outlook_object(alloc, row)?;
+    object.to_string(alloc)
+}
+
+// The object of a row.
+#[tactic(auto, unfolding(crate::specs::Outlooks::outlook_data))]
+fn outlook_object(alloc: Global, row: &OutlookRow<'_>) -> Result<Value, AllocError>
+    ensures { IfOk result (λ v. view v ≡ outlook_data row.now) }
+{
+    let locked = text_or_null(alloc, row.locked)?;
+    let wanted = string_or_null(alloc, &row.wanted)?;
+    let latest = string_or_null(alloc, &row.latest)?;
+    let reason = text_or_null(alloc, row.reason)?;
+    json!(in alloc; {
+        "kind": row.class.word(),
+        "folder": row.folder,
+        "dependency": row.name,
+        "need": row.need,
+        "package": row.package,
+        "locked": locked,
+        "wanted": wanted,
+        "latest": latest,
+        "reason": reason,
+        "message": row.message.as_str(),
+        "line": row.line
+    })
+}
+
+fn string_or_null(alloc: Global, text: &Option<String>) -> Result<Value, AllocError>
+    ensures { IfOk result (λ v. view v ≡ text_or_null (option_map string_bytes text.now)) }
+{
+    match text {
+        Some(text) => Value::try_from_str(alloc, text.as_str()),
+        None => Ok(Value::Null),
+    }
+}
+
+/// Writes the totals as text, or as an object of JSON, on a line. Fails only if allocation fails.
+pub fn write_totals(
+    alloc: Global,
+    totals: Totals,
+    is_json: bool,
+    output: &mut String,
+) -> Result<(), AllocError> {
+    if is_json {
+        let text = totals_object(alloc, totals)?.to_string(alloc)?;
+        write_line(&text, output)
+    } else {
+        writeln!(output, "{totals}")
+    }
+}
+
+fn totals_object(alloc: Global, totals: Totals) -> Result<Value, AllocError> {
+    let mut object: Map<String, Value> = Map::new(alloc);
+    let kind = Value::try_from_str(alloc, "summary")?;
+    put(&mut object, alloc, "kind", kind)?;
+    for (name, count) in totals.named() {
+        put(&mut object, alloc, name, Value::from(count))?;
+    }
+    Ok(Value::Object(object))
+}
