@@ -1,6 +1,7 @@
 mod Failures
 mod Fitting
 mod Keeping
+mod Listing
 mod Places
 mod Printing
 mod Putting

@@ -1,10 +1,16 @@
 -- For proofs and private contracts. Intervals of the caller, one by one.
-use Rattle.std.specs.Prelude.{◌≡◌, ◌+◌, ◌&&◌, ◌⊎◌, Bool, ℕ, false}
+use Rattle.std.specs.Prelude.{◌≡◌, ◌+◌, ◌&&◌, ◌⊎◌, ◌∷◌, [], Bool, List, ℕ, false}
+use Rattle.semver_core.specs.Text.Characters.{is_identifier_char}
 use Rattle.semver_core.specs.declared.TheConstants.{MAX_SAFE_INTEGER}
 use Rattle.nodejs_semver.specs.Internal.Sets.{is_range_span}
 use Rattle.nodejs_semver_c.specs.KeptRanges.{RefusesBound, is_spelled, kept_span}
 use Rattle.nodejs_semver_c.specs.declared.intervals.Interval.{Interval}
 use Rattle.nodejs_semver_c.specs.declared.TheConstants.{BAD_RANGE}
+
+-- the text is one character of identifiers
+abbrev pub is_character : List ℕ → Bool
+is_character (c ∷ []) = is_identifier_char c
+is_character _ = false
 
 -- the interval may be one of a range
 abbrev pub keeps : Interval → Bool
