@@ -1,3 +1,4 @@
+mod Asking
 mod Failures
 mod Fitting
 mod Keeping
