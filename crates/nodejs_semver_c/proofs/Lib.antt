@@ -1,6 +1,8 @@
+mod Asking
 mod Failures
 mod Fitting
 mod Keeping
+mod Listing
 mod Places
 mod Printing
 mod Putting

@@ -1,17 +1,16 @@
 -- Ranges that the caller keeps: what each interval is decides what all are, and what is told of them leads back.
-use Rattle.std.proofs.Common.{◌≡◌, ◌≢◌, ◌<◌, ◌≤◌, ◌+◌, ◌-◌, ◌==◌, ◌^◌, ◌++◌, ◌∷◌, ◌∙◌, ◌&&◌, ◌⊎◌, All, List, [], Some}
-use Rattle.std.proofs.Common.{ap, ap₂, append-nil, arith, drop, false, get_or, inl, inr, length, length-append, map, min}
-use Rattle.std.proofs.Common.{refl, set, subst, suc, sym, take, true, true≢false, zero, ℕ}
+use Rattle.std.proofs.Common.{◌≡◌, ◌≢◌, ◌<◌, ◌≤◌, ◌+◌, ◌-◌, ◌==◌, ◌^◌, ◌++◌, ◌∷◌, ◌∙◌, ◌&&◌, ◌⊎◌, All, List, []}
+use Rattle.std.proofs.Common.{ap, append-nil, arith, drop, false, get_or, inl, inr, length, length-append, map, min}
+use Rattle.std.proofs.Common.{refl, set, suc, sym, take, true, true≢false, zero, ℕ}
 use Rattle.std.proofs.lemmas.Grind.{flat_map-append}
 use Rattle.std.proofs.lemmas.List.{length-map, length-take-le, take_more}
 use Rattle.std.proofs.lemmas.List.Folds.{list_all_at, list_all_more}
 use Rattle.std.specs.List.{list_all}
 use Rattle.std.specs.List.{Any, flat_map}
-use Rattle.nodejs_semver.proofs.Common.{and_parts, cases_Bool, nat_tests}
+use Rattle.nodejs_semver.proofs.Common.{and_parts, nat_tests}
 use Rattle.std.proofs.lemmas.List.Elements.{All-cons, All-nil}
 use Rattle.semver_core.proofs.Normal.{identifiers-normal}
-use Rattle.semver_core.proofs.Text.Pieces.{some_inside}
-use Rattle.semver_core.specs.Cuts.{Span, interval, is_interval}
+use Rattle.semver_core.specs.Cuts.{Span, is_interval}
 use Rattle.semver_core.specs.Printing.RoundTrip.{is_normal, is_readable}
 use Rattle.semver_core.specs.Text.Identifiers.{is_listed, listed}
 use Rattle.semver_core.specs.Values.Gate.{is_range_bound}
@@ -31,7 +30,7 @@ use Rattle.nodejs_semver_c.specs.Internal.Keeps.{RefusesInterval, keeps}
 use Rattle.nodejs_semver_c.specs.Kept.{ComesBack, IsKept}
 use Rattle.nodejs_semver_c.specs.Internal.Pieces.{Adds}
 use Rattle.nodejs_semver_c.specs.KeptRanges.{BoundComesBack, IsKeptRange, RefusesKeptRange, TellsRange, bound_texts, is_spelled}
-use Rattle.nodejs_semver_c.specs.KeptRanges.{kept_span, lower_of, range_texts, span_parts, upper_of}
+use Rattle.nodejs_semver_c.specs.KeptRanges.{kept_span, range_texts, span_parts}
 use Rattle.nodejs_semver_c.specs.declared.intervals.IntervalParts.{IntervalParts}
 use Rattle.nodejs_semver_c.specs.declared.intervals.Interval.{Interval}
 use Rattle.nodejs_semver_c.specs.declared.kept.Version.{Version}
@@ -114,21 +113,6 @@ refused_room is status many (inl one) = refused_one is status one
 refused_room is status many (inr (e, all)) = rw e (refused_memory is (omega (arith, many)) all)
 
 -- ---- what is kept
-
--- an interval of two bounds that are kept
-pub interval_made : (i : Interval) (lower upper : cuts.Bound VersionValue) (s : Span VersionValue) → lower ≡ lower_of i.lower
-    → is_spelled i.lower ≡ true → is_range_bound (MAX_SAFE_INTEGER + 1) lower ≡ true → upper ≡ upper_of i.upper
-    → is_spelled i.upper ≡ true → is_range_bound (MAX_SAFE_INTEGER + 1) upper ≡ true
-    → Some s ≡ interval precedence (record { lower = lower; upper = upper }) → (s ≡ kept_span i) × (keeps i ≡ true)
-interval_made i lower upper s el sl rl eu su ru e =
-    elim (cases_Bool (is_interval precedence (record { lower = lower; upper = upper }))) [
-      | inl ordered ↦
-          let same : s ≡ record { lower = lower; upper = upper } = some_inside s (record { lower = lower; upper = upper }) (rw ordered at e) in
-          let both : record { lower = lower; upper = upper } ≡ kept_span i = ap₂ (λ a b. record { lower = a; upper = b }) el eu in
-          let kept : is_interval precedence (kept_span i) ≡ true = subst (λ t. is_interval precedence t ≡ true) both ordered in
-          (same ∙ both, rw (sl, su, kept, rw el at rl, rw eu at ru) refl)
-      | inr unordered ↦ absurd (cc (rw unordered at e))
-    ]
 
 -- a range of all of them
 made : (is : List Interval) (items : List (Span VersionValue)) → items ≡ map kept_span is → list_all keeps is ≡ true

@@ -1,13 +1,15 @@
 // Questions about versions that the caller keeps.
 
 ghost use Rattle.nodejs_semver_c.specs.Answers.{Kept, OnVersion, Prints};
+ghost use Rattle.nodejs_semver_c.specs.Internal.Keeps.{is_character};
 ghost use Rattle.nodejs_semver_c.specs.Kept.{IsKept, OnKept, PutsVersion, RefusesKept, RefusesList};
-ghost use Rattle.nodejs_semver_c.specs.Kept.{TellsVersion, kept_texts, list_text, parts_of};
+ghost use Rattle.nodejs_semver_c.specs.Kept.{TellsVersion, kept_texts, kept_value, list_text};
+ghost use Rattle.nodejs_semver_c.specs.Kept.{parts_of};
 ghost use Rattle.nodejs_semver_c.specs.Numbers.{kind_number, order_number};
 ghost use Rattle.semver_core.specs.Difference.{kind_between};
 ghost use Rattle.semver_core.specs.Printing.Text.{version_text};
-ghost use Rattle.semver_core.specs.Text.Identifiers.{is_listed};
-ghost use Rattle.semver_core.specs.Values.Order.{build_order, precedence};
+ghost use Rattle.semver_core.specs.Text.Identifiers.{is_listed, listed};
+ghost use Rattle.semver_core.specs.Values.Order.{build_order, pre_cmp, precedence};
 ghost use Rattle.std.specs.Prelude.{◌≡◌, ◌<◌, ◌^◌, ◌++◌, IfErr, IfOk, OnOk, length, true};
 
 use crate::pieces::put_list;
@@ -15,7 +17,9 @@ use crate::print::{Printed, counted, print};
 use crate::read::{self, MOST_BYTES};
 use crate::versions::{kind_of, number_of};
 use crate::{BAD_VERSION, OK, TOO_LONG, TOO_SMALL};
-use nodejs_semver::{Identifier, IdentifierRefs, VersionRef, Versioned, cmp_build};
+use nodejs_semver::{IdentifierRefs, VersionRef, Versioned, cmp_build};
+use semver_core::scan;
+use std::cmp::Ordering;
 
 /// A version in the memory of the caller.
 #[repr(C)]
@@ -49,17 +53,53 @@ pub struct Parts {
     pub build_len: usize,
 }
 
-// Looks whether a text spells identifiers, or returns the status that rejects it.
+// Looks whether a text spells identifiers, or returns the status that rejects it. Most texts are
+// empty, or the `0` below which a caret ends.
+#[inline(always)]
+#[tactic(auto, using(crate::proofs::Listing::short_lists))]
 fn check_list(text: &[u8]) -> Result<(), u32>
+    ensures ok { OnOk result (is_listed text.now ≡ true) }
+    ensures refused { IfErr result (RefusesList text.now) }
+{
+    if text.is_empty() || is_character(text) {
+        return Ok(());
+    }
+    check_some(text)
+}
+
+// Whether a text is one character of identifiers.
+#[inline(always)]
+fn is_character(text: &[u8]) -> bool
+    ensures { result ≡ is_character text.now }
+{
+    matches!(text, [byte] if scan::is_identifier_char(*byte))
+}
+
+// `check_list` of a text that is not empty, as a call.
+#[inline(never)]
+#[tactic(auto, using(crate::proofs::Listing::whole_lists))]
+fn check_some(text: &[u8]) -> Result<(), u32>
+    requires { 0 < length text.now }
     ensures ok { OnOk result (is_listed text.now ≡ true) }
     ensures refused { IfErr result (RefusesList text.now) }
 {
     if text.len() > MOST_BYTES {
         return Err(TOO_LONG);
     }
-    if !Identifier::is_list(text) {
+    if !scan::begins_identifier(text) || scan::list_len(text) < text.len() {
         return Err(BAD_VERSION);
     }
+    Ok(())
+}
+
+/// Looks whether the texts of a version spell identifiers, or returns the status that rejects one.
+#[inline(always)]
+pub fn check(version: &Version<'_>) -> Result<(), u32>
+    ensures ok { OnOk result (IsKept version.now (kept_value version.now)) }
+    ensures refused { IfErr result (RefusesKept version.now) }
+{
+    check_list(version.pre_release)?;
+    check_list(version.build)?;
     Ok(())
 }
 
@@ -69,15 +109,56 @@ pub fn kept<'a>(version: &Version<'a>) -> Result<VersionRef<'a>, u32>
     ensures ok { IfOk result (IsKept version.now) }
     ensures refused { IfErr result (RefusesKept version.now) }
 {
-    check_list(version.pre_release)?;
-    check_list(version.build)?;
-    Ok(VersionRef::from_texts(
+    check(version)?;
+    Ok(lent(version))
+}
+
+/// The version that the caller keeps, whose texts spell identifiers.
+#[inline(always)]
+pub fn lent<'a>(version: &Version<'a>) -> VersionRef<'a>
+    requires pre_release { is_listed version.now.pre_release.now ≡ true }
+    requires build { is_listed version.now.build.now ≡ true }
+    ensures { result ≡ kept_value version.now }
+{
+    VersionRef::from_texts(
         version.major,
         version.minor,
         version.patch,
         version.pre_release,
         version.build,
-    ))
+    )
+}
+
+/// The precedence of two versions whose texts spell identifiers, which are looked at only where the
+/// numbers are equal.
+#[inline(always)]
+pub fn cmp_kept(version: &Version<'_>, other: &Version<'_>) -> Ordering
+    requires version { is_listed version.now.pre_release.now ≡ true }
+    requires other { is_listed other.now.pre_release.now ≡ true }
+    ensures { result ≡ precedence (kept_value version.now) (kept_value other.now) }
+{
+    match version.major.cmp(&other.major) {
+        Ordering::Equal => match version.minor.cmp(&other.minor) {
+            Ordering::Equal => match version.patch.cmp(&other.patch) {
+                Ordering::Equal => cmp_lists(version.pre_release, other.pre_release),
+                order => order,
+            },
+            order => order,
+        },
+        order => order,
+    }
+}
+
+// The order of the pre-releases that two texts spell. It is that of two versions of the same
+// numbers, whose builds do not count.
+#[inline(never)]
+fn cmp_lists(text: &[u8], other: &[u8]) -> Ordering
+    requires text { is_listed text.now ≡ true }
+    requires other { is_listed other.now ≡ true }
+    ensures { result ≡ pre_cmp (listed text.now) (listed other.now) }
+{
+    let version = VersionRef::from_texts(0, 0, 0, text, text);
+    version.cmp(&VersionRef::from_texts(0, 0, 0, other, other))
 }
 
 // The texts of a version, one after the other.
@@ -175,15 +256,13 @@ pub extern "C" fn nodejs_semver_order(
         OnKept version.now result same (λ v. OnKept other.now result same (λ w.
         (result ≡ OK) × (order.new ≡ order_number (precedence v w)))) }
 {
-    let version = match kept(version) {
-        Ok(version) => version,
-        Err(status) => return status,
-    };
-    let other = match kept(other) {
-        Ok(other) => other,
-        Err(status) => return status,
-    };
-    *order = number_of(version.cmp(&other));
+    if let Err(status) = check(version) {
+        return status;
+    }
+    if let Err(status) = check(other) {
+        return status;
+    }
+    *order = number_of(cmp_kept(version, other));
     OK
 }
 

@@ -15,8 +15,10 @@ ghost use Rattle.nodejs_semver_c.specs.Numbers.{side_of};
 ghost use Rattle.std.specs.Prelude.{◌≡◌, ◌≤◌, is_some, length};
 
 use crate::choices::{Best, keep_better};
-use crate::intervals::{Interval, kept_range};
-use crate::kept::{Parts, Version, kept, tell};
+use crate::intervals::{
+    Interval, ask_range, check_range, first_status, have_common, is_outside, kept_range,
+};
+use crate::kept::{Parts, Version, check, kept, tell};
 use crate::print::print;
 use crate::{
     ANSWER_NO, ANSWER_NO_VERSION, ANSWER_YES, NO_MEMORY, NOTHING, OK, TOO_LONG, TOO_SMALL,
@@ -33,7 +35,6 @@ const MOST_VERSIONS: usize = 164_703_072_086_692_425;
 /// Returns `OK`, `BAD_VERSION`, `BAD_RANGE`, `NO_MEMORY` or `TOO_LONG`.
 #[unsafe(no_mangle)]
 pub extern "C" fn nodejs_semver_accepts(
-    alloc: Global,
     range: &[Interval<'_>],
     version: &Version<'_>,
     include_prerelease: bool,
@@ -43,16 +44,16 @@ pub extern "C" fn nodejs_semver_accepts(
         OnKeptRange range.now result same (λ r. OnKept version.now result same (λ v.
         (result ≡ OK) × (answer.new ≡ accepts r v include_prerelease))) }
 {
-    let range = match kept_range(alloc, range) {
-        Ok(range) => range,
-        Err(status) => return status,
-    };
-    let version = match kept(version) {
-        Ok(version) => version,
-        Err(status) => return status,
-    };
-    *answer = range.satisfies_with_prerelease(&version, include_prerelease);
-    OK
+    if let Err(status) = check(version) {
+        return first_status(range, status);
+    }
+    match ask_range(range, version, include_prerelease) {
+        Ok(accepted) => {
+            *answer = accepted;
+            OK
+        }
+        Err(status) => status,
+    }
 }
 
 /// Which of some versions a range accepts: `answers` gets one of `ANSWER_NO`, `ANSWER_YES` and
@@ -199,7 +200,6 @@ fn best_of(
 /// Returns `OK`, `BAD_VERSION`, `BAD_RANGE`, `NO_MEMORY` or `TOO_LONG`.
 #[unsafe(no_mangle)]
 pub extern "C" fn nodejs_semver_meets(
-    alloc: Global,
     range: &[Interval<'_>],
     other: &[Interval<'_>],
     answer: &mut bool,
@@ -208,15 +208,13 @@ pub extern "C" fn nodejs_semver_meets(
         OnKeptRange range.now result same (λ r. OnKeptRange other.now result same (λ s.
         (result ≡ OK) × (answer.new ≡ is_some (intersection r s)))) }
 {
-    let range = match kept_range(alloc, range) {
-        Ok(range) => range,
-        Err(status) => return status,
-    };
-    let other = match kept_range(alloc, other) {
-        Ok(other) => other,
-        Err(status) => return status,
-    };
-    *answer = range.allows_any(&other);
+    if let Err(status) = check_range(range) {
+        return status;
+    }
+    if let Err(status) = check_range(other) {
+        return status;
+    }
+    *answer = have_common(range, other);
     OK
 }
 
@@ -253,7 +251,6 @@ pub extern "C" fn nodejs_semver_covers(
 /// Returns `OK`, `BAD_VERSION`, `BAD_RANGE`, `NO_MEMORY` or `TOO_LONG`.
 #[unsafe(no_mangle)]
 pub extern "C" fn nodejs_semver_lies_outside(
-    alloc: Global,
     range: &[Interval<'_>],
     version: &Version<'_>,
     above: bool,
@@ -264,19 +261,13 @@ pub extern "C" fn nodejs_semver_lies_outside(
         OnKeptRange range.now result same (λ r. OnKept version.now result same (λ v.
         (result ≡ OK) × (answer.new ≡ is_outside (side_of above) include_prerelease r v))) }
 {
-    let range = match kept_range(alloc, range) {
-        Ok(range) => range,
-        Err(status) => return status,
-    };
-    let version = match kept(version) {
-        Ok(version) => version,
-        Err(status) => return status,
-    };
-    *answer = if above {
-        npm_reading::gtr(&version, &range, include_prerelease)
-    } else {
-        npm_reading::ltr(&version, &range, include_prerelease)
-    };
+    if let Err(status) = check_range(range) {
+        return status;
+    }
+    if let Err(status) = check(version) {
+        return status;
+    }
+    *answer = is_outside(range, version, above, include_prerelease);
     OK
 }
 

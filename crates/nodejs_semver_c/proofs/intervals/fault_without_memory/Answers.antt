@@ -16,7 +16,7 @@ loop-interval-preserved c =
     let at = c.loop-interval.interval-index in
     let lt = c.loop-interval-test.true in
     let i = get_or list at no_interval in
-    keeps_more list at i lt (at_default list at no_interval i lt) c.in_default.ensures.ok.1 c.loop-interval.invariant
+    keeps_more list at i lt (at_default list at no_interval i lt) c.in_default.ensures.ok c.loop-interval.invariant
 
 pub returns : goal.returns
 returns c = inr (refl, rw (take_all _ c.args.intervals.now c.loop-interval-test.false) at c.loop-interval.invariant)
