@@ -1,8 +1,11 @@
+mod Beyond
 mod Failures
 mod Fitting
 mod Keeping
+mod Nexts
 mod Places
 mod Printing
 mod Putting
 mod Ranging
 mod Sorting
+mod Spanning
