@@ -264,6 +264,16 @@ typedef struct {
     nodejs_semver_bound_parts upper;
 } nodejs_semver_interval_parts;
 
+/* What is told of a span of keys. */
+typedef struct {
+    /* The length of the first bytes that the span holds. */
+    size_t start_len;
+    /* The length of the first bytes above the span. */
+    size_t stop_len;
+    /* Whether only the keys of releases count, whose last byte is 3. */
+    bool releases_only;
+} nodejs_semver_span_parts;
+
 /*
  * Which of some versions is the greatest that a range accepts: `index` gets its place. Where a text of `versions`
  * is rejected, `index` gets the place of the first such text.
@@ -413,6 +423,31 @@ nodejs_semver_status nodejs_semver_print(const nodejs_semver_version *version, c
     size_t *len);
 
 /*
+ * The key of a version: bytes that compare as versions do, byte by byte, the shorter first. Build metadata does not
+ * count, and no key begins another. `out` gets the key, and `len` its length.
+ *
+ * Returns NODEJS_SEMVER_OK, NODEJS_SEMVER_TOO_SMALL, NODEJS_SEMVER_BAD_VERSION, NODEJS_SEMVER_NO_MEMORY or
+ * NODEJS_SEMVER_TOO_LONG.
+ */
+nodejs_semver_status nodejs_semver_key(const nodejs_semver_version *version, char *out, size_t out_size,
+    size_t *len);
+
+/*
+ * The next version by a word, as `minor` or `prerelease`. An empty identifier is none. The base, one of
+ * NODEJS_SEMVER_BASE_ZERO, NODEJS_SEMVER_BASE_ONE and NODEJS_SEMVER_BASE_NONE, says what a new pre-release list
+ * begins to count with. The version is told as `nodejs_semver_version_read` tells one.
+ *
+ * An identifier that is digits, or has dots, goes into the list as one; what is told spells a number, or several.
+ *
+ * Returns NODEJS_SEMVER_OK, NODEJS_SEMVER_TOO_SMALL, NODEJS_SEMVER_NOT_UTF8, NODEJS_SEMVER_BAD_VERSION,
+ * NODEJS_SEMVER_BAD_ARGUMENT, NODEJS_SEMVER_BAD_IDENTIFIER, NODEJS_SEMVER_NOT_A_PRERELEASE, NODEJS_SEMVER_OVERFLOW,
+ * NODEJS_SEMVER_NO_MEMORY or NODEJS_SEMVER_TOO_LONG.
+ */
+nodejs_semver_status nodejs_semver_next(const nodejs_semver_version *version, const char *word, size_t word_len,
+    const char *identifier, size_t identifier_len, uint32_t base, nodejs_semver_parts *parts, char *out,
+    size_t out_size);
+
+/*
  * Whether a range accepts a version. A pre-release is accepted only where a bound names one of the same three
  * numbers, unless pre-releases are included.
  *
@@ -534,13 +569,15 @@ nodejs_semver_status nodejs_semver_union(const nodejs_semver_interval *range, si
 
 /*
  * The smallest version that the first range accepts and the second does not, told as `nodejs_semver_least_version`
- * tells one. There is none exactly if the first range is a subset of the second.
+ * tells one. With the flag both accept pre-releases within their bounds. There is no such version exactly if
+ * `nodejs_semver_is_subset` answers yes.
  *
  * Returns NODEJS_SEMVER_OK, NODEJS_SEMVER_NOTHING, NODEJS_SEMVER_TOO_SMALL, NODEJS_SEMVER_BAD_VERSION,
  * NODEJS_SEMVER_BAD_RANGE, NODEJS_SEMVER_NO_MEMORY or NODEJS_SEMVER_TOO_LONG.
  */
 nodejs_semver_status nodejs_semver_least_beyond(const nodejs_semver_interval *range, size_t range_len,
-    const nodejs_semver_interval *other, size_t other_len, nodejs_semver_parts *parts, char *out, size_t out_size);
+    const nodejs_semver_interval *other, size_t other_len, bool include_prerelease, nodejs_semver_parts *parts,
+    char *out, size_t out_size);
 
 /*
  * Whether the second range accepts every version that the first accepts.
@@ -550,6 +587,33 @@ nodejs_semver_status nodejs_semver_least_beyond(const nodejs_semver_interval *ra
  */
 nodejs_semver_status nodejs_semver_is_subset(const nodejs_semver_interval *range, size_t range_len,
     const nodejs_semver_interval *other, size_t other_len, bool include_prerelease, bool *answer);
+
+/*
+ * A range that answers about each of some versions as a range does without pre-releases included, with as many
+ * intervals or fewer: those that accept one of the versions, or all where none does. It is told as
+ * `nodejs_semver_range_read` tells a range. Where a version is rejected, `index` gets the place of the first such
+ * version.
+ *
+ * Returns NODEJS_SEMVER_OK, NODEJS_SEMVER_TOO_SMALL, NODEJS_SEMVER_BAD_VERSION, NODEJS_SEMVER_BAD_RANGE,
+ * NODEJS_SEMVER_NO_MEMORY or NODEJS_SEMVER_TOO_LONG.
+ */
+nodejs_semver_status nodejs_semver_simplify(const nodejs_semver_interval *range, size_t range_len,
+    const nodejs_semver_version *versions, size_t versions_len, nodejs_semver_interval_parts *intervals,
+    size_t intervals_size, size_t *count, char *out, size_t out_size, size_t *len, size_t *index);
+
+/*
+ * The spans of the keys of what a range accepts: `spans` gets their parts, and `out` the bytes of their ends, of
+ * each span the start and then the stop. A range accepts a version exactly where the key of the version is in a
+ * span: not below its start and below its stop, byte by byte. `count` gets the number of the spans, at most three
+ * for each interval, and `len` the length of the bytes. If the array or the buffer is too small, these two alone
+ * are written.
+ *
+ * Returns NODEJS_SEMVER_OK, NODEJS_SEMVER_TOO_SMALL, NODEJS_SEMVER_BAD_VERSION, NODEJS_SEMVER_BAD_RANGE,
+ * NODEJS_SEMVER_NO_MEMORY or NODEJS_SEMVER_TOO_LONG.
+ */
+nodejs_semver_status nodejs_semver_key_spans(const nodejs_semver_interval *range, size_t range_len,
+    bool include_prerelease, nodejs_semver_span_parts *spans, size_t spans_size, size_t *count, char *out,
+    size_t out_size, size_t *len);
 
 /*
  * Prints what a status says, as `bad version`.

@@ -427,16 +427,154 @@ static void kept_sets(void)
     CHECK(parts[0].lower.kind == NODEJS_SEMVER_BOUND_NONE && parts[0].upper.version.minor == 4 && parts[2].lower.kind == NODEJS_SEMVER_BOUND_OPEN);
     nodejs_semver_parts found = {9, 9, 9, 9, 9};
     bool answer = true;
-    CHECK(nodejs_semver_least_beyond(range, count, other, 1, &found, out, sizeof out) == NODEJS_SEMVER_OK && found.patch == 3 && found.pre_release_len == 4);
-    CHECK(nodejs_semver_least_beyond(range, 1, range, count, &found, NULL, 0) == NODEJS_SEMVER_NOTHING && found.patch == 3);
+    CHECK(nodejs_semver_least_beyond(range, count, other, 1, false, &found, out, sizeof out) == NODEJS_SEMVER_OK && found.patch == 3 && found.pre_release_len == 4);
+    CHECK(nodejs_semver_least_beyond(range, 1, range, count, false, &found, NULL, 0) == NODEJS_SEMVER_NOTHING && found.patch == 3);
+    CHECK(nodejs_semver_least_beyond(range, count, other, 1, true, &found, NULL, 0) == NODEJS_SEMVER_OK && found.minor == 4 && found.patch == 0);
+    CHECK(nodejs_semver_least_beyond(range, 1, range, count, true, &found, NULL, 0) == NODEJS_SEMVER_NOTHING && found.minor == 4);
     CHECK(nodejs_semver_is_subset(range, count, other, 1, false, &answer) == NODEJS_SEMVER_OK && !answer);
     CHECK(nodejs_semver_is_subset(range, 1, range, count, true, &answer) == NODEJS_SEMVER_OK && answer);
     range[1].lower.kind = 3;
     CHECK(nodejs_semver_intersect(other, 1, range, count, parts, 3, &told, out, sizeof out, &len) == NODEJS_SEMVER_BAD_RANGE && told == 3);
     CHECK(nodejs_semver_difference(range, count, other, 1, parts, 3, &told, out, sizeof out, &len) == NODEJS_SEMVER_BAD_RANGE && told == 3);
     CHECK(nodejs_semver_union(other, 1, range, count, parts, 3, &told, out, sizeof out, &len) == NODEJS_SEMVER_BAD_RANGE && told == 3);
-    CHECK(nodejs_semver_least_beyond(other, 1, range, count, &found, out, sizeof out) == NODEJS_SEMVER_BAD_RANGE && found.patch == 3);
+    CHECK(nodejs_semver_least_beyond(other, 1, range, count, false, &found, out, sizeof out) == NODEJS_SEMVER_BAD_RANGE && found.minor == 4);
     CHECK(nodejs_semver_is_subset(range, count, other, 1, false, &answer) == NODEJS_SEMVER_BAD_RANGE && answer);
+}
+
+/* The smallest version that shows that a range is no subset, where only a pre-release does. */
+static void witness(void)
+{
+    char texts[8], more[8], out[2] = "x";
+    nodejs_semver_interval range[4], other[4];
+    nodejs_semver_parts told = {9, 9, 9, 9, 9};
+    bool answer = true;
+    CHECK(kept_range(">1.0.0", range, texts, sizeof texts) == 1 && kept_range("<1.0.1-0 || >=1.0.1", other, more, sizeof more) == 2);
+    CHECK(nodejs_semver_is_subset(range, 1, other, 2, false, &answer) == NODEJS_SEMVER_OK && answer);
+    CHECK(nodejs_semver_least_beyond(range, 1, other, 2, false, &told, out, 1) == NODEJS_SEMVER_NOTHING && told.major == 9);
+    CHECK(nodejs_semver_is_subset(range, 1, other, 2, true, &answer) == NODEJS_SEMVER_OK && !answer);
+    CHECK(nodejs_semver_least_beyond(range, 1, other, 2, true, &told, out, 0) == NODEJS_SEMVER_TOO_SMALL && told.pre_release_len == 1 && out[0] == 'x');
+    CHECK(nodejs_semver_least_beyond(range, 1, other, 2, true, &told, out, 1) == NODEJS_SEMVER_OK && told.patch == 1 && out[0] == '0');
+}
+
+/* The next versions of one that is kept, and why there is none. */
+static void next(void)
+{
+    const struct {
+        nodejs_semver_version it;
+        const char *word, *identifier;
+        uint32_t base, status;
+        nodejs_semver_parts told;
+        const char *texts;
+    } given[] = {
+        {version_of(3, "", "b.7"), "minor", "", 0, NODEJS_SEMVER_OK, {1, 3, 0, 0, 3}, "b.7"},
+        {version_of(3, "rc.1", ""), "prerelease", "", 0, NODEJS_SEMVER_OK, {1, 2, 3, 4, 0}, "rc.2"},
+        {version_of(3, "rc.1", ""), "release", "", 0, NODEJS_SEMVER_OK, {1, 2, 3, 0, 0}, ""},
+        {version_of(3, "", ""), "prerelease", "beta", NODEJS_SEMVER_BASE_ZERO, NODEJS_SEMVER_OK, {1, 2, 4, 6, 0}, "beta.0"},
+        {version_of(3, "", ""), "prerelease", "beta", NODEJS_SEMVER_BASE_ONE, NODEJS_SEMVER_OK, {1, 2, 4, 6, 0}, "beta.1"},
+        {version_of(3, "", ""), "prerelease", "beta", NODEJS_SEMVER_BASE_NONE, NODEJS_SEMVER_OK, {1, 2, 4, 4, 0}, "beta"},
+        {version_of(UINT64_MAX - 1, "", ""), "patch", "", 0, NODEJS_SEMVER_OK, {1, 2, UINT64_MAX, 0, 0}, ""},
+        {version_of(UINT64_MAX, "", ""), "patch", "", 0, NODEJS_SEMVER_OVERFLOW, {9, 9, 9, 9, 9}, "x"},
+        {version_of(3, "", ""), "release", "", 0, NODEJS_SEMVER_NOT_A_PRERELEASE, {9, 9, 9, 9, 9}, "x"},
+        {version_of(3, "", ""), "sideways", "", 0, NODEJS_SEMVER_BAD_ARGUMENT, {9, 9, 9, 9, 9}, "x"},
+        {version_of(3, "", ""), "patch", "", 3, NODEJS_SEMVER_BAD_ARGUMENT, {9, 9, 9, 9, 9}, "x"},
+        {version_of(3, "", ""), "prepatch", "", NODEJS_SEMVER_BASE_NONE, NODEJS_SEMVER_BAD_ARGUMENT, {9, 9, 9, 9, 9}, "x"},
+        {version_of(3, "beta", ""), "prerelease", "beta", NODEJS_SEMVER_BASE_NONE, NODEJS_SEMVER_BAD_ARGUMENT, {9, 9, 9, 9, 9}, "x"},
+        {version_of(3, "", ""), "prepatch", "a_b", 0, NODEJS_SEMVER_BAD_IDENTIFIER, {9, 9, 9, 9, 9}, "x"},
+        {version_of(3, "", ""), "patch", "\xff", 0, NODEJS_SEMVER_NOT_UTF8, {9, 9, 9, 9, 9}, "x"},
+        {version_of(3, "a..b", ""), "patch", "", 0, NODEJS_SEMVER_BAD_VERSION, {9, 9, 9, 9, 9}, "x"},
+    };
+    for (size_t at = 0; at < sizeof given / sizeof *given; at++) {
+        nodejs_semver_parts told = {9, 9, 9, 9, 9};
+        char out[8] = "xxxxxxx";
+        nodejs_semver_status status = nodejs_semver_next(
+            &given[at].it, given[at].word, strlen(given[at].word), given[at].identifier, strlen(given[at].identifier), given[at].base, &told, out, sizeof out);
+        CHECK(status == given[at].status && !memcmp(&told, &given[at].told, sizeof told));
+        CHECK(!memcmp(out, given[at].texts, strlen(given[at].texts)) && out[strlen(given[at].texts)] == 'x');
+    }
+    nodejs_semver_version release = version_of(3, "", "");
+    nodejs_semver_parts told = {9, 9, 9, 9, 9};
+    char out[5] = "xxxxx";
+    CHECK(nodejs_semver_next(&release, T("prepatch"), T("beta"), 0, &told, out, 5) == NODEJS_SEMVER_TOO_SMALL && told.pre_release_len == 6 && out[0] == 'x');
+    CHECK(nodejs_semver_next(&release, T("patch"), "a", HUGE_LENGTH, 0, &told, out, 5) == NODEJS_SEMVER_TOO_LONG && told.pre_release_len == 6);
+}
+
+/* Ranges that are made simple for some versions. */
+static void simple(void)
+{
+    char texts[8], out[8] = "xxxxxxx";
+    nodejs_semver_interval range[4];
+    nodejs_semver_interval_parts told[3];
+    nodejs_semver_version versions[] = {version_of(3, "", ""), version_of(9, "rc.1", ""), version_of(3, "a..b", "")};
+    size_t count = 9, len = 9, index = 9;
+    memset(told, 'x', sizeof told);
+    CHECK(kept_range("^0.1 || ^1 || ^2", range, texts, sizeof texts) == 3);
+    CHECK(nodejs_semver_simplify(range, 3, versions, 2, told, 0, &count, out, 8, &len, &index) == NODEJS_SEMVER_TOO_SMALL && count == 1 && len == 1);
+    CHECK(nodejs_semver_simplify(range, 3, versions, 2, told, 3, &count, out, 8, &len, &index) == NODEJS_SEMVER_OK && count == 1 && len == 1);
+    CHECK(told[0].lower.version.major == 1 && told[0].upper.version.major == 2 && told[1].lower.kind == 0x78787878 && !memcmp(out, "0x", 2));
+    CHECK(nodejs_semver_simplify(range, 3, versions + 1, 1, told, 3, &count, out, 8, &len, &index) == NODEJS_SEMVER_OK && count == 3 && len == 3);
+    CHECK(nodejs_semver_simplify(range, 3, NULL, 0, told, 3, &count, out, 8, &len, &index) == NODEJS_SEMVER_OK && count == 3 && index == 9);
+    CHECK(nodejs_semver_simplify(range, 3, versions, 3, told, 3, &count, out, 8, &len, &index) == NODEJS_SEMVER_BAD_VERSION && index == 2 && count == 3);
+    CHECK(nodejs_semver_simplify(range, 0, versions, 3, told, 3, &count, out, 8, &len, &index) == NODEJS_SEMVER_BAD_RANGE && index == 2);
+    CHECK(nodejs_semver_simplify(range, 3, versions, SIZE_MAX, told, 3, &count, out, 8, &len, &index) == NODEJS_SEMVER_TOO_LONG && index == 2);
+}
+
+/* Keys, in buffers of each size. */
+static void keys(void)
+{
+    nodejs_semver_version it = {1, 10, 0, {"rc.2", 4}, {"b", 1}}, wrong = version_of(3, "a..b", "");
+    for (size_t size = 0; size <= 11; size++) {
+        char *out = malloc(size ? size : 1);
+        memset(out, 'x', size ? size : 1);
+        size_t len = 99;
+        nodejs_semver_status status = nodejs_semver_key(&it, size ? out : NULL, size, &len);
+        CHECK(len == 10);
+        if (size < 10)
+            CHECK(status == NODEJS_SEMVER_TOO_SMALL && (!size || out[0] == 'x'));
+        else
+            CHECK(status == NODEJS_SEMVER_OK && !memcmp(out, "\x01\x0a\x00\x02rc\x00\x01\x02\x00", 10) && (size == 10 || out[10] == 'x'));
+        free(out);
+    }
+    char out[32] = "x";
+    size_t len = 5;
+    CHECK(nodejs_semver_key(&wrong, out, sizeof out, &len) == NODEJS_SEMVER_BAD_VERSION && len == 5 && out[0] == 'x');
+    it = version_of(UINT64_MAX, "", "");
+    CHECK(nodejs_semver_key(&it, out, sizeof out, &len) == NODEJS_SEMVER_OK && len == 12 && !memcmp(out, "\x01\x02\xfd\xff\xff\xff\xff\xff\xff\xff\xff\x03", 12));
+}
+
+/* Spans of keys, in arrays and buffers of each size. */
+static void spans(void)
+{
+    char texts[8];
+    nodejs_semver_interval range[4];
+    CHECK(kept_range(">=1.2.3-beta.2 <2.0.0", range, texts, sizeof texts) == 1);
+    for (size_t room = 0; room <= 3; room++)
+        for (size_t size = 23; size <= 25; size++) {
+            nodejs_semver_span_parts *told = malloc(room ? room * sizeof *told : 1);
+            char *out = malloc(size);
+            size_t count = 9, len = 9;
+            memset(told, 'x', room ? room * sizeof *told : 1);
+            memset(out, 'x', size);
+            nodejs_semver_status status = nodejs_semver_key_spans(range, 1, false, room ? told : NULL, room, &count, out, size, &len);
+            CHECK(count == 2 && len == 24);
+            if (room < 2 || size < 24) {
+                CHECK(status == NODEJS_SEMVER_TOO_SMALL && out[0] == 'x');
+            } else {
+                CHECK(status == NODEJS_SEMVER_OK && (size == 24 || out[24] == 'x'));
+                CHECK(!memcmp(out, "\1\2\3\3\2\0\0\3\1\2\3\2" "beta\0\1\2\0" "\1\2\3\3", 24));
+                CHECK(told[0].start_len == 4 && told[0].stop_len == 4 && told[0].releases_only);
+                CHECK(told[1].start_len == 12 && told[1].stop_len == 4 && !told[1].releases_only);
+            }
+            free(told);
+            free(out);
+        }
+    nodejs_semver_span_parts told[1];
+    char out[16];
+    size_t count = 9, len = 9;
+    CHECK(kept_range("^1.2.3", range, texts, sizeof texts) == 1);
+    CHECK(nodejs_semver_key_spans(range, 1, true, told, 1, &count, out, sizeof out, &len) == NODEJS_SEMVER_OK && count == 1 && len == 10);
+    CHECK(!memcmp(out, "\1\2\3\3\2\0\0\1\0\0", 10) && told[0].stop_len == 6 && !told[0].releases_only);
+    range[0].lower.kind = 3;
+    CHECK(nodejs_semver_key_spans(range, 1, true, told, 1, &count, out, sizeof out, &len) == NODEJS_SEMVER_BAD_RANGE && count == 1);
 }
 
 /* Intervals that no range has: of kinds, numbers and texts that there are none of, of no versions, and none. */
@@ -564,6 +702,11 @@ int main(void)
     ranges_read();
     kept_ranges();
     kept_sets();
+    witness();
+    next();
+    simple();
+    keys();
+    spans();
     no_ranges();
     flaws();
     subsets();

@@ -32,6 +32,7 @@ typedef struct {
     nodejs_semver_word words[4];
     nodejs_semver_parts parts;
     nodejs_semver_interval_parts intervals[3];
+    nodejs_semver_span_parts spans[6];
     int32_t compared;
     uint32_t number;
     uint8_t answers[3];
@@ -41,12 +42,12 @@ typedef struct {
 #define TEXTS texts, sizeof texts / sizeof *texts
 
 /* Calls from this number on make no request; each of the others does. */
-enum { FIRST_WITHOUT = 29, CALLS = 55 };
+enum { FIRST_WITHOUT = 34, CALLS = 61 };
 
 static nodejs_semver_status call(int which, written *w)
 {
     nodejs_semver_text texts[] = {{"1.2.0", 5}, {"2.4.0", 5}, {"3.0.0-rc.1", 10}};
-    nodejs_semver_version kept = {1, 2, 3, {"a.b", 3}, {"c.d", 3}};
+    nodejs_semver_version kept = {1, 2, 3, {"a.b", 3}, {"c.d", 3}}, release = {1, 2, 3, {"", 0}, {"", 0}};
     nodejs_semver_bound none = {NODEJS_SEMVER_BOUND_NONE, kept}, from = {NODEJS_SEMVER_BOUND_CLOSED, kept};
     nodejs_semver_interval several[] = {{from, none}, {none, from}}, later[] = {{{NODEJS_SEMVER_BOUND_OPEN, kept}, none}};
     switch (which) {
@@ -72,38 +73,44 @@ static nodejs_semver_status call(int which, written *w)
     case 19: return nodejs_semver_accepts_each(several, 2, &kept, 1, true, w->answers, 3);
     case 20: return nodejs_semver_greatest(several, 2, &kept, 1, true, &w->index);
     case 21: return nodejs_semver_least(several, 2, &kept, 1, false, &w->index);
-    case 22: return nodejs_semver_least_beyond(several, 2, later, 1, &w->parts, w->out, sizeof w->out);
+    case 22: return nodejs_semver_least_beyond(several, 2, later, 1, false, &w->parts, w->out, sizeof w->out);
     case 23: return nodejs_semver_covers(several, 1, several, 2, &w->answer);
     case 24: return nodejs_semver_is_subset(several, 2, several, 2, false, &w->answer);
     case 25: return nodejs_semver_least_version(several, 1, &w->parts, w->out, sizeof w->out);
     case 26: return nodejs_semver_print_range(several, 2, OUT);
     case 27: return nodejs_semver_intersect(several, 2, several, 1, w->intervals, 3, &w->index, OUT);
     case 28: return nodejs_semver_difference(several, 2, later, 1, w->intervals, 3, &w->index, OUT);
-    case 29: return nodejs_semver_accepts(several, 2, &kept, false, &w->answer);
-    case 30: return nodejs_semver_meets(several, 2, several, 2, &w->answer);
-    case 31: return nodejs_semver_lies_outside(several, 2, &kept, true, false, &w->answer);
-    case 32: return nodejs_semver_version_compare(PORT, T("1.2.3-a.b"), T("1.2.3+c"), &w->compared);
-    case 33: return nodejs_semver_version_check(NPM, T("1.2.3-a.b+c.d"));
-    case 34: return nodejs_semver_version_diff(NPM, T("1.2.3-a.b"), T("1.2.3"), &w->number);
-    case 35: return nodejs_semver_range_satisfies(NPM, T("^1.2.3-a.b"), T("1.2.3-a.c"), false, &w->answer);
-    case 36: return nodejs_semver_version_flaw(T("1.2.3-a.b oops"), &w->number, &w->index);
-    case 37: return nodejs_semver_range_ignored_words(T(RANGE " || foo"), w->words, 4, &w->len);
-    case 38: return nodejs_semver_version_print(PORT, T("1.2.3-a.b+c.d"), OUT);
-    case 39: return nodejs_semver_range_print(PORT, T(">1.2.3-a.b <=2.0.0-c.d+e"), OUT);
-    case 40: return nodejs_semver_version_inc(NPM, T("1.2.3"), T("minor"), T(""), 0, OUT);
-    case 41: return nodejs_semver_range_min_version(PORT, T("^1.2.3"), OUT);
-    case 42: return nodejs_semver_range_allows_any(PORT, T("^1.2.3-a.b"), T("<2.0.0-rc"), &w->answer);
-    case 44: return nodejs_semver_version_read(NPM, T("1.2.3-a.b+c.d"), &w->parts, w->out, sizeof w->out);
-    case 45: return nodejs_semver_version_clean(T(" =v1.2.3-a.b+c.d"), OUT);
-    case 46: return nodejs_semver_version_coerce(T("a 1.2.3-a.b"), false, false, true, OUT);
-    case 47: return nodejs_semver_version_compare_build(PORT, T("1.2.3-a.b+c"), T("1.2.3-a.b+d"), &w->compared);
-    case 48: return nodejs_semver_order_with_builds(&kept, &kept, &w->compared);
-    case 49: return nodejs_semver_kind(&kept, &kept, &w->number);
-    case 50: return nodejs_semver_print(&kept, OUT);
-    case 51: return nodejs_semver_range_read(NPM, T("^1.2.3-a.b"), false, w->intervals, 3, &w->index, OUT);
-    case 52: return nodejs_semver_accepts(several, 1, &kept, true, &w->answer);
-    case 53: return nodejs_semver_meets(several, 1, several + 1, 1, &w->answer);
-    case 54: return nodejs_semver_print_range(several, 1, OUT);
+    case 29: return nodejs_semver_next(&kept, T("prerelease"), T("beta"), 0, &w->parts, w->out, sizeof w->out);
+    case 30: return nodejs_semver_least_beyond(several, 2, later, 1, true, &w->parts, w->out, sizeof w->out);
+    case 31: return nodejs_semver_simplify(several, 2, &kept, 1, w->intervals, 3, &w->index, OUT, &w->order[0]);
+    case 32: return nodejs_semver_key(&kept, OUT);
+    case 33: return nodejs_semver_key_spans(several, 2, false, w->spans, 6, &w->index, OUT);
+    case 34: return nodejs_semver_accepts(several, 2, &kept, false, &w->answer);
+    case 35: return nodejs_semver_meets(several, 2, several, 2, &w->answer);
+    case 36: return nodejs_semver_lies_outside(several, 2, &kept, true, false, &w->answer);
+    case 37: return nodejs_semver_version_compare(PORT, T("1.2.3-a.b"), T("1.2.3+c"), &w->compared);
+    case 38: return nodejs_semver_version_check(NPM, T("1.2.3-a.b+c.d"));
+    case 39: return nodejs_semver_version_diff(NPM, T("1.2.3-a.b"), T("1.2.3"), &w->number);
+    case 40: return nodejs_semver_range_satisfies(NPM, T("^1.2.3-a.b"), T("1.2.3-a.c"), false, &w->answer);
+    case 41: return nodejs_semver_version_flaw(T("1.2.3-a.b oops"), &w->number, &w->index);
+    case 42: return nodejs_semver_range_ignored_words(T(RANGE " || foo"), w->words, 4, &w->len);
+    case 43: return nodejs_semver_version_print(PORT, T("1.2.3-a.b+c.d"), OUT);
+    case 44: return nodejs_semver_range_print(PORT, T(">1.2.3-a.b <=2.0.0-c.d+e"), OUT);
+    case 45: return nodejs_semver_version_inc(NPM, T("1.2.3"), T("minor"), T(""), 0, OUT);
+    case 46: return nodejs_semver_range_min_version(PORT, T("^1.2.3"), OUT);
+    case 47: return nodejs_semver_range_allows_any(PORT, T("^1.2.3-a.b"), T("<2.0.0-rc"), &w->answer);
+    case 49: return nodejs_semver_version_read(NPM, T("1.2.3-a.b+c.d"), &w->parts, w->out, sizeof w->out);
+    case 50: return nodejs_semver_version_clean(T(" =v1.2.3-a.b+c.d"), OUT);
+    case 51: return nodejs_semver_version_coerce(T("a 1.2.3-a.b"), false, false, true, OUT);
+    case 52: return nodejs_semver_version_compare_build(PORT, T("1.2.3-a.b+c"), T("1.2.3-a.b+d"), &w->compared);
+    case 53: return nodejs_semver_order_with_builds(&kept, &kept, &w->compared);
+    case 54: return nodejs_semver_kind(&kept, &kept, &w->number);
+    case 55: return nodejs_semver_print(&kept, OUT);
+    case 56: return nodejs_semver_range_read(NPM, T("^1.2.3-a.b"), false, w->intervals, 3, &w->index, OUT);
+    case 57: return nodejs_semver_accepts(several, 1, &kept, true, &w->answer);
+    case 58: return nodejs_semver_meets(several, 1, several + 1, 1, &w->answer);
+    case 59: return nodejs_semver_print_range(several, 1, OUT);
+    case 60: return nodejs_semver_next(&release, T("minor"), T(""), 0, &w->parts, w->out, sizeof w->out);
     default: return nodejs_semver_range_max_satisfying(PORT, T(">=1.2.0 <2.0.0-rc.1"), TEXTS, &w->index);
     }
 }

@@ -434,7 +434,8 @@ static PyObject *range_least_beyond(PyObject *self, PyObject *value)
     begin_text(&text);
     do {
         status = nodejs_semver_least_beyond(one->intervals, one->count, other->intervals,
-                                            other->count, &parts, text.at, text.size);
+                                            other->count, one->includes, &parts, text.at,
+                                            text.size);
         text.len = parts.pre_release_len + parts.build_len;
     } while (grows(&text, &status));
     return told_version(made_type, status, &parts, &text);

@@ -10,20 +10,16 @@ use Rattle.semver_core.specs.Printing.Text.{id_text}
 use Rattle.semver_core.specs.Text.Identifiers.{Id, Numeric, AlphaNumeric}
 use Rattle.semver_core.specs.Values.Versions.{HasIdentifiers, VersionValue, is_release}
 use Rattle.semver_core.specs.declared.increment.IdentifierBase.{IdentifierBase}
-use Rattle.nodejs_semver_c.specs.Answers.{PrintsResult}
+use Rattle.nodejs_semver_c.specs.Answers.{FailsBy}
 use Rattle.nodejs_semver_c.specs.Internal.Failures.{IsLate, IsMisuse}
 use Rattle.nodejs_semver_c.specs.declared.TheConstants.{NO_MEMORY}
 
-pub tells_memory : (answer : Result VersionValue Fault) (old : List ℕ) (len : ℕ) (told : Option ℕ)
-    → (answer ≢ Err Overflow) × IfOk answer HasIdentifiers
-    → IsMisuse answer told → PrintsResult answer old old len len (unwrap_or told NO_MEMORY)
-tells_memory (Ok v) old len None memory late = inr (refl, (refl, refl), memory.1)
-tells_memory (Ok v) old len (Some status) memory misuse = absurd misuse.0
-tells_memory (Err fault) old len None memory late = elim late [
-  | inl e ↦ absurd (memory.0 (ap Err e))
-  | inr e ↦ ((refl, refl), inr (refl, e))
-]
-tells_memory (Err fault) old len (Some status) memory misuse = ((refl, refl), inl misuse.1)
+pub fails_memory : (answer : Result VersionValue Fault) (told : Option ℕ) → (answer ≢ Err Overflow) × IfOk answer HasIdentifiers
+    → IsMisuse answer told → FailsBy answer (unwrap_or told NO_MEMORY)
+fails_memory (Ok v) None memory late = (refl, memory.1)
+fails_memory (Ok v) (Some status) memory misuse = absurd misuse.0
+fails_memory (Err fault) None memory late = elim late [ inl e ↦ absurd (memory.0 (ap Err e)) | inr e ↦ inr (refl, e) ]
+fails_memory (Err fault) (Some status) memory misuse = inl misuse.1
 
 -- the words of the table fail only late
 abbrev pub Late : {A : Type 0} → Result A Fault → Type 0

@@ -1,10 +1,13 @@
 mod Asking
+mod Beyond
 mod Failures
 mod Fitting
 mod Keeping
 mod Listing
+mod Nexts
 mod Places
 mod Printing
 mod Putting
 mod Ranging
 mod Sorting
+mod Spanning

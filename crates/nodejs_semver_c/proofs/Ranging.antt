@@ -37,7 +37,7 @@ use Rattle.nodejs_semver_c.specs.declared.kept.Version.{Version}
 
 -- ---- versions of bounds
 
-listed_normal : (s : List ℕ) → is_listed s ≡ true → list_all is_normal (listed s) ≡ true
+pub listed_normal : (s : List ℕ) → is_listed s ≡ true → list_all is_normal (listed s) ≡ true
 unfolding is_listed listed
 listed_normal [] h = refl
 listed_normal (c ∷ rest) h = identifiers-normal (c ∷ rest) _ (record { runs = h; spelled = refl })

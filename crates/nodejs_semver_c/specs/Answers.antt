@@ -76,15 +76,19 @@ PrintsFound text None old new len_old len_new status = (status ≡ NOTHING) × K
 PrintsFound text (Some value) old new len_old len_new status =
     Prints (text value) old new len_old len_new status
 
--- the next version is printed, or the status says why there is none. Memory is missing only for
--- a version with identifiers, or where the identifier is compared to the version's whole list.
+-- the status says why there is no version. Memory is missing only for a version with identifiers, or
+-- where the identifier is compared to the version's whole list.
+abbrev pub FailsBy : Result VersionValue increment.Fault → ℕ → Type 0
+FailsBy (Ok v) status = (status ≡ NO_MEMORY) × HasIdentifiers v
+FailsBy (Err fault) status = (status ≡ fault_number fault) ⊎ ((status ≡ NO_MEMORY)
+    × (fault ≡ increment.InvalidIncrementArgument (codes "identifier already exists")))
+
+-- the next version is printed, or the status says why there is none
 abbrev pub PrintsResult : Result VersionValue increment.Fault → (old new : List ℕ)
     → (len_old len_new status : ℕ) → Type 0
-PrintsResult (Ok v) old new len_old len_new status = Prints (version_text v) old new len_old len_new status
-    ⊎ NoMemoryOnlyIf status (Kept old new len_old len_new) (HasIdentifiers v)
-PrintsResult (Err fault) old new len_old len_new status = Kept old new len_old len_new
-    × ((status ≡ fault_number fault) ⊎ ((status ≡ NO_MEMORY)
-    × (fault ≡ increment.InvalidIncrementArgument (codes "identifier already exists"))))
+PrintsResult answer old new len_old len_new status =
+    ((v : VersionValue) × (answer ≡ Ok v) × Prints (version_text v) old new len_old len_new status)
+    ⊎ (FailsBy answer status × Kept old new len_old len_new)
 
 -- the same by a base, if there is one
 abbrev pub PrintsNext : (IdentifierBase → Result VersionValue increment.Fault) → Option IdentifierBase

@@ -94,7 +94,7 @@ BoundComesBack (Before v) = ComesBack v
 BoundComesBack (After v) = ComesBack v
 
 -- an array, its number, a buffer and its length, before and after a call
-abbrev pub RangeKept : (told_old told_new : List IntervalParts) → (count_old count_new : ℕ)
+abbrev pub RangeKept : {A : Type 0} → (told_old told_new : List A) → (count_old count_new : ℕ)
     → (old new : List ℕ) → (len_old len_new : ℕ) → Type 0
 RangeKept told_old told_new count_old count_new old new len_old len_new = (told_new ≡ told_old)
     × (count_new ≡ count_old) × (new ≡ old) × (len_new ≡ len_old)

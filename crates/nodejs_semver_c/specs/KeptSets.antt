@@ -1,12 +1,11 @@
 -- Statement. What is told of ranges, and of versions, that are made of ranges in the memory of the caller.
-use Rattle.std.specs.Prelude.{◌≡◌, ◌⊎◌, ℕ, List, [], IfSome, Option, Some, None, false, true}
-use Rattle.std.specs.List.{Any}
+use Rattle.std.specs.Prelude.{◌≡◌, ◌⊎◌, Bool, ℕ, List, [], IfSome, Option, Some, None}
 use Rattle.semver_core.specs.Cuts.{Span}
-use Rattle.semver_core.specs.Values.Versions.{VersionValue, is_release}
-use Rattle.semver_core.specs.declared.cuts.bound.Bound.TheVariants.{After}
-use Rattle.nodejs_semver.specs.Ranges.Least.{IsLeastOf, beyond}
+use Rattle.semver_core.specs.Values.Versions.{VersionValue}
+use Rattle.nodejs_semver.specs.Ranges.Least.{IsLeastOf}
 use Rattle.nodejs_semver_c.specs.Answers.{NoMemoryOnlyIf}
 use Rattle.nodejs_semver_c.specs.KeptRanges.{PutsFound, RangeKept, TellsRange}
+use Rattle.nodejs_semver_c.specs.Subsets.{MayTake, shows_no_subset}
 use Rattle.nodejs_semver_c.specs.declared.intervals.IntervalParts.{IntervalParts}
 use Rattle.nodejs_semver_c.specs.declared.kept.Parts.{Parts}
 use Rattle.nodejs_semver_c.specs.declared.TheConstants.{NOTHING}
@@ -22,12 +21,9 @@ TellsFoundRange (Some r) told_old told_new count_old count_new old new len_old l
 
 -- the least version that one range accepts and another does not is told, if there is any; or memory is
 -- missing where the call may take some
-abbrev pub TellsBeyond : (r s : List (Span VersionValue)) → (told_old told_new : Parts) → (old new : List ℕ)
-    → ℕ → Type 0
-TellsBeyond r s told_old told_new old new status =
-    ((found : Option VersionValue) × IsLeastOf (beyond r s) found × IfSome found (λ v. v.build ≡ [])
-    × PutsFound found told_old told_new old new status)
-    ⊎ NoMemoryOnlyIf status ((told_new ≡ told_old) × (new ≡ old))
-    (((v : VersionValue) × (beyond r s v ≡ true))
-    ⊎ Any (λ i. (v : VersionValue) × (i.lower ≡ After v) × (is_release v ≡ false)) r
-    ⊎ Any (λ i. (v : VersionValue) × (i.upper ≡ After v) × (is_release v ≡ false)) s)
+abbrev pub TellsBeyond : Bool → (r s : List (Span VersionValue)) → (told_old told_new : Parts)
+    → (old new : List ℕ) → ℕ → Type 0
+TellsBeyond include r s told_old told_new old new status =
+    ((found : Option VersionValue) × IsLeastOf (shows_no_subset include r s) found
+    × IfSome found (λ v. v.build ≡ []) × PutsFound found told_old told_new old new status)
+    ⊎ NoMemoryOnlyIf status ((told_new ≡ told_old) × (new ≡ old)) (MayTake include r s)

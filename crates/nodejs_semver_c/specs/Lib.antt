@@ -3,9 +3,13 @@ pub mod Flaws
 pub mod Found
 pub mod Internal
 pub mod Kept
+pub mod KeptKeys
 pub mod KeptLists
+pub mod KeptNext
 pub mod KeptRanges
 pub mod KeptSets
+pub mod KeptSimple
+pub mod KeptSpans
 pub mod Least
 pub mod Lists
 pub mod Messages

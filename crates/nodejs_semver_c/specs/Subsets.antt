@@ -1,9 +1,14 @@
--- Statement. When a comparison of the versions that two ranges accept may take memory.
-use Rattle.std.specs.Prelude.{◌<◌, ◌⊎◌, Bool, true, false, IsTrue, List, is_some, length}
+-- Statement. What shows that a range is no subset of another, and when looking for it may take memory.
+use Rattle.std.specs.Prelude.{◌<◌, ◌⊎◌, ◌&&◌, Bool, true, false, IsTrue, List, is_some, length, not}
 use Rattle.semver_core.specs.Cuts.{Span}
 use Rattle.semver_core.specs.Values.Versions.{VersionValue}
 use Rattle.nodejs_semver.specs.Ranges.Algebra.{difference}
+use Rattle.nodejs_semver.specs.Ranges.Gate.{accepts}
 use Rattle.nodejs_semver.specs.Ranges.Subsets.{MayTakeMemory}
+
+-- the first range accepts the version and the second does not: it is no subset
+abbrev pub shows_no_subset : Bool → List (Span VersionValue) → List (Span VersionValue) → VersionValue → Bool
+shows_no_subset include r s v = accepts r v include && not (accepts s v include)
 
 -- with pre-releases included, the difference is made
 abbrev pub MayTake : Bool → List (Span VersionValue) → List (Span VersionValue) → Type 0

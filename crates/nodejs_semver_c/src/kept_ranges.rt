@@ -26,8 +26,8 @@ use crate::{
 use nodejs_semver::{RangeRef, VersionRef};
 use std::alloc::Global;
 
-// How many versions memory may hold, of 56 bytes each.
-const MOST_VERSIONS: usize = 164_703_072_086_692_425;
+/// How many versions memory may hold, of 56 bytes each.
+pub const MOST_VERSIONS: usize = 164_703_072_086_692_425;
 
 /// Whether a range accepts a version. A pre-release is accepted only where a bound names one of the
 /// same three numbers, unless pre-releases are included.

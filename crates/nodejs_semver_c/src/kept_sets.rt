@@ -1,21 +1,23 @@
 // Ranges that are made of ranges that the caller keeps.
 
 ghost use Rattle.nodejs_semver.specs.Ranges.Algebra.{difference, intersection};
+ghost use Rattle.nodejs_semver.specs.Ranges.Least.{IsLeastOf};
 ghost use Rattle.nodejs_semver.specs.Ranges.Subsets.{IsSubset};
 ghost use Rattle.nodejs_semver.specs.Ranges.Unions.{union};
 ghost use Rattle.nodejs_semver.specs.Ranges.View.{TakesMemory};
 ghost use Rattle.nodejs_semver_c.specs.Answers.{NoMemoryOnlyIf};
 ghost use Rattle.nodejs_semver_c.specs.KeptRanges.{OnKeptRange, RangeKept, TellsRange};
 ghost use Rattle.nodejs_semver_c.specs.KeptSets.{TellsBeyond, TellsFoundRange};
-ghost use Rattle.nodejs_semver_c.specs.Subsets.{MayTake};
-ghost use Rattle.std.specs.Prelude.{◌≡◌, ◌⊎◌, ◌<◌, ◌↔◌, IsTrue, is_some, length};
+ghost use Rattle.nodejs_semver_c.specs.Subsets.{MayTake, shows_no_subset};
+ghost use Rattle.std.specs.Prelude.{◌≡◌, ◌⊎◌, ◌<◌, ◌↔◌, [], IfOk, IfSome, IsTrue, OnErr, is_some};
+ghost use Rattle.std.specs.Prelude.{length, true};
 
 use crate::intervals::{Interval, IntervalParts, kept_range, tell_range};
 use crate::kept::{Parts, tell};
 use crate::subsets::is_subset;
 use crate::{NO_MEMORY, NOTHING, OK};
-use nodejs_semver::RangeRef;
-use std::alloc::Global;
+use nodejs_semver::{RangeRef, Version};
+use std::alloc::{AllocError, Global};
 
 /// What two ranges have in common. It is told as `nodejs_semver_range_read` tells a range.
 ///
@@ -140,21 +142,22 @@ fn tell_found(
 }
 
 /// The smallest version that the first range accepts and the second does not, told as
-/// `nodejs_semver_least_version` tells one. There is none exactly if the first range is a subset of
-/// the second.
+/// `nodejs_semver_least_version` tells one. With the flag both accept pre-releases within their
+/// bounds. There is no such version exactly if `nodejs_semver_is_subset` answers yes.
 ///
 /// Returns `OK`, `NOTHING`, `TOO_SMALL`, `BAD_VERSION`, `BAD_RANGE`, `NO_MEMORY` or `TOO_LONG`.
 #[unsafe(no_mangle)]
-pub extern "C" fn nodejs_semver_least_beyond(
+pub extern "C" fn nodejs_semver_least_beyond<'t>(
     alloc: Global,
-    range: &[Interval<'_>],
-    other: &[Interval<'_>],
+    range: &[Interval<'t>],
+    other: &[Interval<'t>],
+    include_prerelease: bool,
     parts: &mut Parts,
     out: &mut [u8],
 ) -> u32
     ensures { let same = (parts.new ≡ parts.old) × (out.new ≡ out.old) in
         OnKeptRange range.now result same (λ r. OnKeptRange other.now result same (λ s.
-        TellsBeyond r s parts.old parts.new out.old out.new result)) }
+        TellsBeyond include_prerelease r s parts.old parts.new out.old out.new result)) }
 {
     let range = match kept_range(alloc, range) {
         Ok(range) => range,
@@ -164,22 +167,60 @@ pub extern "C" fn nodejs_semver_least_beyond(
         Ok(other) => other,
         Err(status) => return status,
     };
-    tell_beyond(alloc, &range, &other, parts, out)
+    tell_beyond(alloc, &range, &other, include_prerelease, parts, out)
 }
 
-fn tell_beyond(
+fn tell_beyond<'t>(
     alloc: Global,
-    range: &RangeRef<'_>,
-    other: &RangeRef<'_>,
+    range: &RangeRef<'t>,
+    other: &RangeRef<'t>,
+    include_prerelease: bool,
     parts: &mut Parts,
     out: &mut [u8],
 ) -> u32
-    ensures { TellsBeyond range.now other.now parts.old parts.new out.old out.new result }
+    ensures { TellsBeyond include_prerelease range.now other.now
+        parts.old parts.new out.old out.new result }
 {
-    match range.least_beyond(alloc, other) {
+    match least_beyond(alloc, range, other, include_prerelease) {
         Ok(Some(version)) => tell(&version, parts, out),
         Ok(None) => NOTHING,
         Err(_) => NO_MEMORY,
+    }
+}
+
+// The smallest version that the first range accepts and the second does not, pre-releases being
+// included or not.
+fn least_beyond<'t>(
+    alloc: Global,
+    range: &RangeRef<'t>,
+    other: &RangeRef<'t>,
+    include_prerelease: bool,
+) -> Result<Option<Version>, AllocError>
+    ensures least { IfOk result
+        (IsLeastOf (shows_no_subset include_prerelease range.now other.now)) }
+    ensures build { IfOk result (λ found. IfSome found (λ v. v.build ≡ [])) }
+    ensures memory { OnErr result (MayTake include_prerelease range.now other.now) }
+{
+    if include_prerelease {
+        least_left(alloc, range, other)
+    } else {
+        range.least_beyond(alloc, other)
+    }
+}
+
+// The smallest version of what is left of the first range without the second.
+fn least_left<'t>(
+    alloc: Global,
+    range: &RangeRef<'t>,
+    other: &RangeRef<'t>,
+) -> Result<Option<Version>, AllocError>
+    ensures least { IfOk result (IsLeastOf (shows_no_subset true range.now other.now)) }
+    ensures build { IfOk result (λ found. IfSome found (λ v. v.build ≡ [])) }
+    ensures memory { OnErr result (MayTake true range.now other.now) }
+{
+    match range.difference(alloc, other)? {
+        Some(left) => left.min_version_with_prerelease(alloc),
+        None => Ok(None),
     }
 }
 

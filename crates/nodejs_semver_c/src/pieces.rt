@@ -18,10 +18,17 @@ use nodejs_semver::{IdentifierRef, IdentifierRefs, VersionRef, Versioned};
 pub fn put(text: &str, out: &mut [u8], len: &mut usize)
     ensures { Adds text.now out.old out.new len.old len.new }
 {
+    put_bytes(text.as_bytes(), out, len);
+}
+
+/// Puts some bytes so.
+pub fn put_bytes(bytes: &[u8], out: &mut [u8], len: &mut usize)
+    ensures { Adds bytes.now out.old out.new len.old len.new }
+{
     let start = *len;
-    let end = start.saturating_add(text.len());
+    let end = start.saturating_add(bytes.len());
     if end <= out.len() {
-        out[start..end].copy_from_slice(text.as_bytes());
+        out[start..end].copy_from_slice(bytes);
     }
     *len = end;
 }

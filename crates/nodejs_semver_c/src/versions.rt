@@ -1,7 +1,7 @@
 // Questions about versions.
 
-ghost use Rattle.nodejs_semver_c.specs.Answers.{Kept, OnText, OnVersion, Prints, PrintsNext};
-ghost use Rattle.nodejs_semver_c.specs.Answers.{PrintsResult};
+ghost use Rattle.nodejs_semver_c.specs.Answers.{FailsBy, Kept, OnText, OnVersion, Prints};
+ghost use Rattle.nodejs_semver_c.specs.Answers.{PrintsNext, PrintsResult};
 ghost use Rattle.nodejs_semver_c.specs.Internal.Failures.{IsMisuse};
 ghost use Rattle.nodejs_semver_c.specs.Numbers.{base_of, fault_number, kind_number, order_number};
 ghost use Rattle.semver_core.specs.Difference.{kind_between};
@@ -21,7 +21,8 @@ use crate::{
     NOT_A_PRERELEASE, OK, OVERFLOW, read,
 };
 use nodejs_semver::{
-    Failure, Identifier, IdentifierBase, IncrementError, VersionDiff, VersionRef, cmp_build,
+    Failure, Identifier, IdentifierBase, IncrementError, Version, VersionDiff, VersionRef,
+    cmp_build,
 };
 use std::alloc::Global;
 use std::cmp::Ordering;
@@ -221,10 +222,31 @@ fn print_next(
         (answer_of_inc version.now word.now (Some identifier.now) (Some base))
         out.old out.new len.old len.new result }
 {
-    match version.inc(alloc, word, Some(identifier), Some(base)) {
+    match next_version(alloc, version, word, identifier, base) {
         Ok(next) => print(&next, out, len),
-        Err(Failure::Refused(error)) => status_of(&error),
-        Err(Failure::Memory(_)) => misuse(version, word, identifier, base).unwrap_or(NO_MEMORY),
+        Err(status) => status,
+    }
+}
+
+/// The next version by a word, or the status that says why there is none.
+pub fn next_version(
+    alloc: Global,
+    version: &VersionRef<'_>,
+    word: &str,
+    identifier: &str,
+    base: IdentifierBase,
+) -> Result<Version, u32>
+    ensures ok { IfOk result (λ next.
+        answer_of_inc version.now word.now (Some identifier.now) (Some base) ≡ Ok next) }
+    ensures refused { IfErr result
+        (FailsBy (answer_of_inc version.now word.now (Some identifier.now) (Some base))) }
+{
+    match version.inc(alloc, word, Some(identifier), Some(base)) {
+        Ok(next) => Ok(next),
+        Err(Failure::Refused(error)) => Err(status_of(&error)),
+        Err(Failure::Memory(_)) => {
+            Err(misuse(version, word, identifier, base).unwrap_or(NO_MEMORY))
+        }
     }
 }
 
@@ -285,7 +307,8 @@ fn misused_word(version: &VersionRef<'_>, word: &str) -> Option<u32>
     }
 }
 
-fn base_of(base: u32) -> Option<IdentifierBase>
+/// The base that a number of C stands for.
+pub fn base_of(base: u32) -> Option<IdentifierBase>
     ensures { result ≡ base_of base }
 {
     match base {

@@ -1,0 +1,92 @@
+// The next version of one that the caller keeps.
+
+ghost use Rattle.nodejs_semver_c.specs.Answers.{OnText};
+ghost use Rattle.nodejs_semver_c.specs.Kept.{OnKept};
+ghost use Rattle.nodejs_semver_c.specs.KeptNext.{TellsByBase, TellsNext, TellsResult};
+ghost use Rattle.nodejs_semver_c.specs.Numbers.{base_of};
+ghost use Rattle.semver_core.specs.Increments.Table.{answer_of_inc};
+ghost use Rattle.std.specs.Prelude.{◌≡◌, Some};
+
+use crate::kept::{Parts, Version, kept, tell};
+use crate::versions::{base_of, next_version};
+use crate::{BAD_ARGUMENT, read};
+use nodejs_semver::{IdentifierBase, VersionRef};
+use std::alloc::Global;
+
+/// The next version by a word, as `minor` or `prerelease`. An empty identifier is none. The base,
+/// one of `BASE_ZERO`, `BASE_ONE` and `BASE_NONE`, says what a new pre-release list begins to count
+/// with. The version is told as `nodejs_semver_version_read` tells one.
+///
+/// An identifier that is digits, or has dots, goes into the list as one; what is told spells a
+/// number, or several.
+///
+/// Returns `OK`, `TOO_SMALL`, `NOT_UTF8`, `BAD_VERSION`, `BAD_ARGUMENT`, `BAD_IDENTIFIER`,
+/// `NOT_A_PRERELEASE`, `OVERFLOW`, `NO_MEMORY` or `TOO_LONG`.
+#[unsafe(no_mangle)]
+pub extern "C" fn nodejs_semver_next(
+    alloc: Global,
+    version: &Version<'_>,
+    word: &[u8],
+    identifier: &[u8],
+    base: u32,
+    parts: &mut Parts,
+    out: &mut [u8],
+) -> u32
+    ensures { let same = (parts.new ≡ parts.old) × (out.new ≡ out.old) in
+        OnKept version.now result same (λ v. OnText word.now result same (
+        OnText identifier.now result same (TellsNext identifier.now
+        (λ base. answer_of_inc v word.now (Some identifier.now) (Some base)) (base_of base)
+        parts.old parts.new out.old out.new result))) }
+{
+    let version = match kept(version) {
+        Ok(version) => version,
+        Err(status) => return status,
+    };
+    let word = match read::text(word) {
+        Ok(word) => word,
+        Err(status) => return status,
+    };
+    let identifier = match read::text(identifier) {
+        Ok(identifier) => identifier,
+        Err(status) => return status,
+    };
+    tell_by_base(alloc, &version, word, identifier, base, parts, out)
+}
+
+fn tell_by_base(
+    alloc: Global,
+    version: &VersionRef<'_>,
+    word: &str,
+    identifier: &str,
+    base: u32,
+    parts: &mut Parts,
+    out: &mut [u8],
+) -> u32
+    ensures { TellsByBase
+        (λ base. answer_of_inc version.now word.now (Some identifier.now) (Some base))
+        (base_of base) parts.old parts.new out.old out.new result }
+{
+    match base_of(base) {
+        Some(base) => tell_next(alloc, version, word, identifier, base, parts, out),
+        None => BAD_ARGUMENT,
+    }
+}
+
+fn tell_next(
+    alloc: Global,
+    version: &VersionRef<'_>,
+    word: &str,
+    identifier: &str,
+    base: IdentifierBase,
+    parts: &mut Parts,
+    out: &mut [u8],
+) -> u32
+    ensures { TellsResult
+        (answer_of_inc version.now word.now (Some identifier.now) (Some base))
+        parts.old parts.new out.old out.new result }
+{
+    match next_version(alloc, version, word, identifier, base) {
+        Ok(next) => tell(&next, parts, out),
+        Err(status) => status,
+    }
+}
