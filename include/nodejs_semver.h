@@ -85,7 +85,13 @@ enum {
      * npm's strict reading: whole texts, and no others. Pre-releases are not included in a range, unless the
      * function has a flag that says so.
      */
-    NODEJS_SEMVER_READING_NPM = 1
+    NODEJS_SEMVER_READING_NPM = 1,
+    /*
+     * npm's reading by node-semver's option `loose`: leading zeros, marks in front and a pre-release without its
+     * `-` are read, and the words of a range that are no comparators are left out. Where memory is missing, a text
+     * of several alternatives is not told from one that is no range.
+     */
+    NODEJS_SEMVER_READING_NPM_LOOSE = 2
 };
 
 /* What a new pre-release list begins to count with. */

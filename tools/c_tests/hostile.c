@@ -8,6 +8,7 @@
 #define T(s) (s), sizeof(s) - 1
 #define PORT NODEJS_SEMVER_READING_PORT
 #define NPM NODEJS_SEMVER_READING_NPM
+#define LOOSE NODEJS_SEMVER_READING_NPM_LOOSE
 #define HUGE_LENGTH ((size_t)1 << 63)
 
 static int failures;
@@ -124,7 +125,7 @@ static nodejs_semver_status call(int which, uint32_t reading, const char *text, 
 static void texts(void)
 {
     for (int which = 0; which < CALLS; which++)
-        for (uint32_t reading = PORT; reading <= NPM; reading++) {
+        for (uint32_t reading = PORT; reading <= LOOSE; reading++) {
             char *invalid = exact("1.2.3\xff", 6), *out = exact("xxxxxxxx", 8);
             written was, now;
             memset(&was, 'x', sizeof was);
@@ -150,7 +151,7 @@ static void short_by_one(void)
     const char *given[PRINTING] = {"1.2.3-a.b+c", "1.2.3", "minor", "rc.1", "^1.2 || ^3", "^1.2.3-a", ">1.5", "1", "*", "1.3", "*", "1.3",
                                   " =v1.2.3+b ", "a 1.2", "1", "1"};
     for (int which = 0; which < PRINTING; which++)
-        for (uint32_t reading = PORT; reading <= NPM; reading++) {
+        for (uint32_t reading = PORT; reading <= LOOSE; reading++) {
             written none = {0};
             CHECK(call(which, reading, given[which], strlen(given[which]), &none) == NODEJS_SEMVER_TOO_SMALL && none.len > 4);
             for (size_t size = none.len - 1; size <= none.len; size++) {
@@ -177,7 +178,7 @@ static void cuts(void)
             nodejs_semver_word words[2];
             nodejs_semver_version_flaw(text, len, &flaw, &place);
             nodejs_semver_range_ignored_words(text, len, words, at % 3, &written);
-            for (uint32_t reading = PORT; reading <= NPM + 1; reading++) {
+            for (uint32_t reading = PORT; reading <= LOOSE + 1; reading++) {
                 nodejs_semver_version_print(reading, text, len, out, sizeof out, &written);
                 nodejs_semver_version_inc(reading, T("1.2.3"), text, len, text, len, 0, out, sizeof out, &written);
                 nodejs_semver_range_print(reading, text, len, out, sizeof out, &written);
@@ -214,11 +215,15 @@ static void readings(void)
     char out[8];
     size_t len = 5;
     bool answer = true;
-    CHECK(nodejs_semver_version_check(NPM + 1, NULL, 0) == NODEJS_SEMVER_BAD_ARGUMENT);
+    CHECK(nodejs_semver_version_check(LOOSE + 1, NULL, 0) == NODEJS_SEMVER_BAD_ARGUMENT);
     CHECK(nodejs_semver_version_print(UINT32_MAX, T("\xff"), out, sizeof out, &len) == NODEJS_SEMVER_BAD_ARGUMENT && len == 5);
-    CHECK(nodejs_semver_range_satisfies(NPM + 1, "^1", HUGE_LENGTH, T("1.0.0"), false, &answer) == NODEJS_SEMVER_BAD_ARGUMENT && answer);
+    CHECK(nodejs_semver_range_satisfies(LOOSE + 1, "^1", HUGE_LENGTH, T("1.0.0"), false, &answer) == NODEJS_SEMVER_BAD_ARGUMENT && answer);
     CHECK(nodejs_semver_range_satisfies(PORT, T(">=1.0.0, <2"), T("1.2.3 oops"), false, &answer) == NODEJS_SEMVER_OK);
     CHECK(nodejs_semver_range_satisfies(NPM, T(">=1.0.0, <2"), T("1.2.3"), false, &answer) == NODEJS_SEMVER_BAD_RANGE);
+    CHECK(nodejs_semver_version_check(NPM, T("=v01.2.3beta")) == NODEJS_SEMVER_BAD_VERSION);
+    CHECK(nodejs_semver_version_check(LOOSE, T("=v01.2.3beta")) == NODEJS_SEMVER_OK);
+    CHECK(nodejs_semver_range_satisfies(LOOSE, T(">=01.2.3, <2"), T("1.3.0"), false, &answer) == NODEJS_SEMVER_OK && answer);
+    CHECK(nodejs_semver_range_satisfies(LOOSE, T("latest"), T("1.3.0"), false, &answer) == NODEJS_SEMVER_BAD_RANGE);
     CHECK(nodejs_semver_range_satisfies(NPM, T(">=1.0.0 <2"), T("1.2.3 oops"), false, &answer) == NODEJS_SEMVER_BAD_VERSION);
 }
 

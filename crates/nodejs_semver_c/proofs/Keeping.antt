@@ -57,7 +57,9 @@ spelled_normal : (by : Grammar) (text : List ℕ) (v : VersionValue) → Spells 
     → (list_all is_normal v.pre_release ≡ true) × (list_all is_normal v.build ≡ true)
 spelled_normal Port text v parsed =
     (pre_normal _ _ _ parsed.reads.pre_release_is, build_normal _ _ _ parsed.reads.build_is)
-spelled_normal Npm text v (short, middle, trimmed, npm.written mark x y z pre build w m a b c p q) =
+spelled_normal (Npm false) text v (short, middle, trimmed, npm.written mark x y z pre build w m a b c p q) =
+    (npm_pre_normal _ _ _ pre _ p, npm_build_normal build _ q)
+spelled_normal (Npm true) text v (short, middle, trimmed, npm.written mark x y z pre build w m a b c p q) =
     (npm_pre_normal _ _ _ pre _ p, npm_build_normal build _ q)
 
 pub read_back : (by : Option Grammar) (bytes : List ℕ) (v : VersionValue) → IsSomeAnd by (λ g. IsUtf8 bytes × Spells g bytes v)

@@ -9,7 +9,7 @@ use Rattle.semver_core.specs.Printing.Text.{version_text}
 use Rattle.semver_core.specs.Values.Versions.{HasIdentifiers, VersionValue}
 use Rattle.semver_core.specs.declared.increment.IdentifierBase.{IdentifierBase}
 use Rattle.nodejs_semver_c.specs.Numbers.{fault_number}
-use Rattle.nodejs_semver_c.specs.Readings.{IsWide, Spells, SpellsNoRange, SpellsRange, reading_of}
+use Rattle.nodejs_semver_c.specs.Readings.{Spells, SpellsNoRange, SpellsRange, WantsMemory, reading_of}
 use Rattle.nodejs_semver_c.specs.declared.TheConstants.{BAD_ARGUMENT, BAD_RANGE, BAD_VERSION, NO_MEMORY}
 use Rattle.nodejs_semver_c.specs.declared.TheConstants.{NOT_UTF8, NOTHING, OK, TOO_LONG, TOO_SMALL}
 
@@ -34,7 +34,7 @@ RefusesVersion reading bytes status = MatchOption (reading_of reading) (status �
 abbrev pub RefusesRange : ℕ → Bool → List ℕ → ℕ → Type 0
 RefusesRange reading include bytes status = MatchOption (reading_of reading) (status ≡ BAD_ARGUMENT) (λ by.
     RefusesText bytes status ⊎ ((status ≡ BAD_RANGE) × IsUtf8 bytes × SpellsNoRange by include bytes)
-    ⊎ ((status ≡ NO_MEMORY) × IsWide by bytes × (SpellsNoRange by include bytes → ⊥)))
+    ⊎ ((status ≡ NO_MEMORY) × WantsMemory by include bytes))
 
 -- an answer about what the bytes are read as, or they are rejected and all is as it was
 abbrev pub OnText : List ℕ → ℕ → Type 0 → Type 0 → Type 0

@@ -77,6 +77,11 @@ pub const READING_PORT: u32 = 0;
 /// unless the function has a flag that says so.
 pub const READING_NPM: u32 = 1;
 
+/// npm's reading by node-semver's option `loose`: leading zeros, marks in front and a pre-release
+/// without its `-` are read, and the words of a range that are no comparators are left out. Where
+/// memory is missing, a text of several alternatives is not told from one that is no range.
+pub const READING_NPM_LOOSE: u32 = 2;
+
 /// A new pre-release list begins to count with 0.
 pub const BASE_ZERO: u32 = 0;
 
@@ -182,7 +187,8 @@ pub fn constants()
     ensures statuses { OK ∷ NOTHING ∷ TOO_SMALL ∷ NOT_UTF8 ∷ BAD_VERSION ∷ BAD_RANGE
         ∷ BAD_ARGUMENT ∷ BAD_IDENTIFIER ∷ NOT_A_PRERELEASE ∷ OVERFLOW ∷ NO_MEMORY ∷ TOO_LONG
         ∷ [] ≡ range_with_len 0 12 }
-    ensures readings { READING_PORT ∷ READING_NPM ∷ [] ≡ range_with_len 0 2 }
+    ensures readings { READING_PORT ∷ READING_NPM ∷ READING_NPM_LOOSE ∷ []
+        ≡ range_with_len 0 3 }
     ensures bases { BASE_ZERO ∷ BASE_ONE ∷ BASE_NONE ∷ [] ≡ range_with_len 0 3 }
     ensures kinds { KIND_NONE ∷ KIND_MAJOR ∷ KIND_MINOR ∷ KIND_PATCH ∷ KIND_PREMAJOR
         ∷ KIND_PREMINOR ∷ KIND_PREPATCH ∷ KIND_PRERELEASE ∷ [] ≡ range_with_len 0 8 }

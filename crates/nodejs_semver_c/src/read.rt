@@ -3,12 +3,13 @@
 ghost use Rattle.nodejs_semver_c.specs.Answers.{IsRangeOf, IsVersionOf};
 ghost use Rattle.nodejs_semver_c.specs.Answers.{RefusesRange, RefusesText, RefusesVersion};
 ghost use Rattle.nodejs_semver_c.specs.Readings.{IsWide, Spells, SpellsNoRange, SpellsRange};
-ghost use Rattle.nodejs_semver_c.specs.Readings.{reading_of};
+ghost use Rattle.nodejs_semver_c.specs.Readings.{WantsMemory, reading_of};
 ghost use Rattle.semver_core.specs.Failures.{MemoryOnlyIf, NoValue, RefusedOnlyIf};
-ghost use Rattle.std.specs.Prelude.{◌≡◌, ◌↔◌, IfErr, IfOk, IsTrue, IsUtf8};
+ghost use Rattle.std.specs.Prelude.{◌≡◌, IfErr, IfOk, IsTrue, IsUtf8, false};
 
 use crate::{
-    BAD_ARGUMENT, BAD_RANGE, BAD_VERSION, NO_MEMORY, NOT_UTF8, READING_NPM, READING_PORT, TOO_LONG,
+    BAD_ARGUMENT, BAD_RANGE, BAD_VERSION, NO_MEMORY, NOT_UTF8, READING_NPM, READING_NPM_LOOSE,
+    READING_PORT, TOO_LONG,
 };
 use nodejs_semver::{Failure, RangeRef, SemverError, VersionRef};
 use npm_reading::Reading;
@@ -40,8 +41,11 @@ pub fn text(bytes: &[u8]) -> Result<&str, u32>
 pub enum Grammar {
     /// As the port reads them: what is no version, or no word of a range, is ignored.
     Port,
-    /// As node-semver reads them, strictly.
-    Npm,
+    /// As node-semver reads them: strictly, or by its option `loose`.
+    Npm {
+        /// Whether the option is given.
+        loose: bool,
+    },
 }
 
 // The grammar that a number of C stands for.
@@ -50,7 +54,8 @@ fn reading_of(reading: u32) -> Option<Grammar>
 {
     match reading {
         READING_PORT => Some(Grammar::Port),
-        READING_NPM => Some(Grammar::Npm),
+        READING_NPM => Some(Grammar::Npm { loose: false }),
+        READING_NPM_LOOSE => Some(Grammar::Npm { loose: true }),
         _ => None,
     }
 }
@@ -63,12 +68,12 @@ impl Grammar {
     {
         match self {
             Grammar::Port => VersionRef::parse(text),
-            Grammar::Npm => {
-                let strict = Reading {
-                    loose: false,
+            Grammar::Npm { loose } => {
+                let reading = Reading {
+                    loose,
                     include_prerelease: false,
                 };
-                npm_reading::version(text, strict)
+                npm_reading::version(text, reading)
             }
         }
     }
@@ -86,9 +91,9 @@ impl Grammar {
     {
         match self {
             Grammar::Port => RangeRef::parse(alloc, text),
-            Grammar::Npm => {
+            Grammar::Npm { loose } => {
                 let reading = Reading {
-                    loose: false,
+                    loose,
                     include_prerelease,
                 };
                 npm_reading::range(alloc, text, reading)
@@ -96,16 +101,21 @@ impl Grammar {
         }
     }
 
-    // Whether a text for which memory is missing is no range.
+    // Whether a text for which memory is missing is known to be no range.
     #[cold]
     fn rejects(self, include_prerelease: bool, text: &str) -> bool
-        ensures { IsWide self text.now
-            → IsTrue result ↔ SpellsNoRange self include_prerelease text.now }
+        ensures some { IsWide self text.now
+            → IsTrue result → SpellsNoRange self include_prerelease text.now }
+        ensures none { IsWide self text.now
+            → result ≡ false → WantsMemory self include_prerelease text.now }
     {
         match self {
             // No text is rejected that means two intervals.
             Grammar::Port => false,
-            Grammar::Npm => npm_reading::range_flaw(text, include_prerelease).is_some(),
+            Grammar::Npm { loose: false } => {
+                npm_reading::range_flaw(text, include_prerelease).is_some()
+            }
+            Grammar::Npm { loose: true } => false,
         }
     }
 }
