@@ -1,6 +1,6 @@
 -- What is kept of a version that was read: the identifiers of a text are spelled by their own texts.
 use Rattle.std.proofs.Common.{◌≡◌, ◌<◌, ◌≤◌, ◌+◌, ◌-◌, ◌^◌, ◌++◌, ◌∷◌, ◌∙◌, List, [], Bool, Option, Some, None, arith, inl, inr, length}
-use Rattle.std.proofs.Common.{length-append, map, min, refl, sym, true, ℕ}
+use Rattle.std.proofs.Common.{false, length-append, map, min, refl, sym, true, ℕ}
 use Rattle.std.specs.List.{list_all}
 use Rattle.std.specs.Prelude.{IsSomeAnd, IsUtf8}
 use Rattle.semver_core.proofs.Normal.{identifiers-normal}
@@ -11,7 +11,9 @@ use Rattle.semver_core.specs.Printing.Text.{marked_list}
 use Rattle.semver_core.specs.Text.Identifiers.{Id, identifier_of, is_identifier, is_listed, listed, pieces}
 use Rattle.semver_core.specs.Text.VersionText as port
 use Rattle.semver_core.specs.Values.Versions.{VersionValue}
+use Rattle.semver_core.specs.declared.TheConstants.{MAX_SAFE_INTEGER}
 use Rattle.npm_words.specs.Grammar as npm
+use Rattle.npm_words.specs.VersionText.{IsVersionTextIn}
 use Rattle.nodejs_semver_c.proofs.Putting.{put_first}
 use Rattle.nodejs_semver_c.specs.Internal.Pieces.{Adds}
 use Rattle.nodejs_semver_c.specs.Kept.{ComesBack, PutsVersion, kept_texts, list_text, parts_of}
@@ -53,14 +55,18 @@ npm_build_normal : (text : List ℕ) (ids : List Id) → npm.IsStrictBuild text 
 npm_build_normal text ids npm.no_build = refl
 npm_build_normal text ids (npm.plus x list is) = identifiers-normal x ids is
 
+npm_normal : (loose : Bool) (text : List ℕ) (v : VersionValue) → IsVersionTextIn loose MAX_SAFE_INTEGER text v
+    → (list_all is_normal v.pre_release ≡ true) × (list_all is_normal v.build ≡ true)
+npm_normal false text v (short, middle, trimmed, npm.written mark x y z pre build w m a b c p q) =
+    (npm_pre_normal _ _ _ pre _ p, npm_build_normal build _ q)
+npm_normal true text v (short, middle, trimmed, npm.written mark x y z pre build w m a b c p q) =
+    (npm_pre_normal _ _ _ pre _ p, npm_build_normal build _ q)
+
 spelled_normal : (by : Grammar) (text : List ℕ) (v : VersionValue) → Spells by text v
     → (list_all is_normal v.pre_release ≡ true) × (list_all is_normal v.build ≡ true)
 spelled_normal Port text v parsed =
     (pre_normal _ _ _ parsed.reads.pre_release_is, build_normal _ _ _ parsed.reads.build_is)
-spelled_normal (Npm false) text v (short, middle, trimmed, npm.written mark x y z pre build w m a b c p q) =
-    (npm_pre_normal _ _ _ pre _ p, npm_build_normal build _ q)
-spelled_normal (Npm true) text v (short, middle, trimmed, npm.written mark x y z pre build w m a b c p q) =
-    (npm_pre_normal _ _ _ pre _ p, npm_build_normal build _ q)
+spelled_normal (Npm loose) text v is = npm_normal loose text v is
 
 pub read_back : (by : Option Grammar) (bytes : List ℕ) (v : VersionValue) → IsSomeAnd by (λ g. IsUtf8 bytes × Spells g bytes v)
     → ComesBack v

@@ -1,6 +1,6 @@
 -- Statement. How the texts of a call are read.
 use Rattle.std.specs.Prelude.{◌<◌, ◌==◌, if◌then◌else◌, Bool, false, true, ℕ, List, [], Option, Some, None}
-use Rattle.std.specs.Prelude.{length, ⊥}
+use Rattle.std.specs.Prelude.{length}
 use Rattle.semver_core.specs.Cuts.{Span}
 use Rattle.semver_core.specs.Failures.{NoValue}
 use Rattle.semver_core.specs.Text.Parsing.{Parses}

@@ -102,10 +102,7 @@ pub extern "C" fn nodejs_semver_range_ignored_words(
         (ws : List IgnoredWord) × AreIgnored MAX_SAFE_INTEGER range.now ws
         × TellsWords ws words.old words.new len.new result) }
 {
-    let text = match read::text(range) {
-        Ok(text) => text,
-        Err(status) => return status,
-    };
+    let text = ok_or_return!(read::text(range));
     *len = tell_words(text, words);
     if *len <= words.len() { OK } else { TOO_SMALL }
 }

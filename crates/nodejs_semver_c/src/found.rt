@@ -25,10 +25,7 @@ pub extern "C" fn nodejs_semver_version_clean(
         OnForm BAD_VERSION (IsClean MAX_SAFE_INTEGER) version.now result kept
         (λ v. Prints (released_text v) out.old out.new len.old len.new result) }
 {
-    let text = match read::text(version) {
-        Ok(text) => text,
-        Err(status) => return status,
-    };
+    let text = ok_or_return!(read::text(version));
     match npm_reading::clean(text) {
         Ok(version) => print(&version.without_build(), out, len),
         Err(_) => BAD_VERSION,
@@ -60,10 +57,7 @@ pub extern "C" fn nodejs_semver_version_coerce(
         })) text.now result kept
         (λ v. Prints (version_text v) out.old out.new len.old len.new result) }
 {
-    let text = match read::text(text) {
-        Ok(text) => text,
-        Err(status) => return status,
-    };
+    let text = ok_or_return!(read::text(text));
     let options = Coercion {
         loose,
         rtl,

@@ -280,14 +280,8 @@ pub extern "C" fn nodejs_semver_order_with_builds(
         OnKept version.now result same (λ v. OnKept other.now result same (λ w.
         (result ≡ OK) × (order.new ≡ order_number (build_order v w)))) }
 {
-    let version = match kept(version) {
-        Ok(version) => version,
-        Err(status) => return status,
-    };
-    let other = match kept(other) {
-        Ok(other) => other,
-        Err(status) => return status,
-    };
+    let version = ok_or_return!(kept(version));
+    let other = ok_or_return!(kept(other));
     *order = number_of(cmp_build(&version, &other));
     OK
 }
@@ -306,14 +300,8 @@ pub extern "C" fn nodejs_semver_kind(
         OnKept version.now result same (λ v. OnKept other.now result same (λ w.
         (result ≡ OK) × (kind.new ≡ kind_number (kind_between v w)))) }
 {
-    let version = match kept(version) {
-        Ok(version) => version,
-        Err(status) => return status,
-    };
-    let other = match kept(other) {
-        Ok(other) => other,
-        Err(status) => return status,
-    };
+    let version = ok_or_return!(kept(version));
+    let other = ok_or_return!(kept(other));
     *kind = kind_of(version.diff(&other));
     OK
 }

@@ -38,18 +38,9 @@ pub extern "C" fn nodejs_semver_next(
         (λ base. answer_of_inc v word.now (Some identifier.now) (Some base)) (base_of base)
         parts.old parts.new out.old out.new result))) }
 {
-    let version = match kept(version) {
-        Ok(version) => version,
-        Err(status) => return status,
-    };
-    let word = match read::text(word) {
-        Ok(word) => word,
-        Err(status) => return status,
-    };
-    let identifier = match read::text(identifier) {
-        Ok(identifier) => identifier,
-        Err(status) => return status,
-    };
+    let version = ok_or_return!(kept(version));
+    let word = ok_or_return!(read::text(word));
+    let identifier = ok_or_return!(read::text(identifier));
     tell_by_base(alloc, &version, word, identifier, base, parts, out)
 }
 

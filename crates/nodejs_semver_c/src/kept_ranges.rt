@@ -233,14 +233,8 @@ pub extern "C" fn nodejs_semver_covers(
         OnKeptRange range.now result same (λ r. OnKeptRange other.now result same (λ s.
         (result ≡ OK) × (answer.new ≡ covers_one r s))) }
 {
-    let range = match kept_range(alloc, range) {
-        Ok(range) => range,
-        Err(status) => return status,
-    };
-    let other = match kept_range(alloc, other) {
-        Ok(other) => other,
-        Err(status) => return status,
-    };
+    let range = ok_or_return!(kept_range(alloc, range));
+    let other = ok_or_return!(kept_range(alloc, other));
     *answer = range.allows_all(&other);
     OK
 }

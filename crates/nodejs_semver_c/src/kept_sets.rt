@@ -39,14 +39,8 @@ pub extern "C" fn nodejs_semver_intersect<'t>(
         out.old out.new len.old len.new result
         ⊎ NoMemoryOnlyIf result same (IsTrue (is_some (intersection r s))))) }
 {
-    let range = match kept_range(alloc, range) {
-        Ok(range) => range,
-        Err(status) => return status,
-    };
-    let other = match kept_range(alloc, other) {
-        Ok(other) => other,
-        Err(status) => return status,
-    };
+    let range = ok_or_return!(kept_range(alloc, range));
+    let other = ok_or_return!(kept_range(alloc, other));
     match range.intersect(alloc, &other) {
         Ok(found) => tell_found(found, intervals, count, out, len),
         Err(_) => NO_MEMORY,
@@ -75,14 +69,8 @@ pub extern "C" fn nodejs_semver_difference<'t>(
         ⊎ NoMemoryOnlyIf result same
         (IsTrue (is_some (difference r s)) ⊎ (1 < length s)))) }
 {
-    let range = match kept_range(alloc, range) {
-        Ok(range) => range,
-        Err(status) => return status,
-    };
-    let other = match kept_range(alloc, other) {
-        Ok(other) => other,
-        Err(status) => return status,
-    };
+    let range = ok_or_return!(kept_range(alloc, range));
+    let other = ok_or_return!(kept_range(alloc, other));
     match range.difference(alloc, &other) {
         Ok(found) => tell_found(found, intervals, count, out, len),
         Err(_) => NO_MEMORY,
@@ -110,14 +98,8 @@ pub extern "C" fn nodejs_semver_union<'t>(
         out.old out.new len.old len.new result
         ⊎ NoMemoryOnlyIf result same (TakesMemory (union r s)))) }
 {
-    let range = match kept_range(alloc, range) {
-        Ok(range) => range,
-        Err(status) => return status,
-    };
-    let other = match kept_range(alloc, other) {
-        Ok(other) => other,
-        Err(status) => return status,
-    };
+    let range = ok_or_return!(kept_range(alloc, range));
+    let other = ok_or_return!(kept_range(alloc, other));
     match range.union(alloc, &other) {
         Ok(found) => tell_range(&found, intervals, count, out, len),
         Err(_) => NO_MEMORY,
@@ -159,14 +141,8 @@ pub extern "C" fn nodejs_semver_least_beyond<'t>(
         OnKeptRange range.now result same (λ r. OnKeptRange other.now result same (λ s.
         TellsBeyond include_prerelease r s parts.old parts.new out.old out.new result)) }
 {
-    let range = match kept_range(alloc, range) {
-        Ok(range) => range,
-        Err(status) => return status,
-    };
-    let other = match kept_range(alloc, other) {
-        Ok(other) => other,
-        Err(status) => return status,
-    };
+    let range = ok_or_return!(kept_range(alloc, range));
+    let other = ok_or_return!(kept_range(alloc, other));
     tell_beyond(alloc, &range, &other, include_prerelease, parts, out)
 }
 
@@ -240,14 +216,8 @@ pub extern "C" fn nodejs_semver_is_subset<'t>(
         ((result ≡ OK) × (IsTrue answer.new ↔ IsSubset include_prerelease r s))
         ⊎ NoMemoryOnlyIf result same (MayTake include_prerelease r s))) }
 {
-    let range = match kept_range(alloc, range) {
-        Ok(range) => range,
-        Err(status) => return status,
-    };
-    let other = match kept_range(alloc, other) {
-        Ok(other) => other,
-        Err(status) => return status,
-    };
+    let range = ok_or_return!(kept_range(alloc, range));
+    let other = ok_or_return!(kept_range(alloc, other));
     match is_subset(alloc, include_prerelease, &range, &other) {
         Ok(found) => {
             *answer = found;

@@ -46,10 +46,7 @@ pub extern "C" fn nodejs_semver_simplify(
     if versions.len() > MOST_VERSIONS {
         return TOO_LONG;
     }
-    let range = match kept_range(alloc, range) {
-        Ok(range) => range,
-        Err(status) => return status,
-    };
+    let range = ok_or_return!(kept_range(alloc, range));
     match kept_versions(alloc, versions, index) {
         Ok(list) => tell_simple(alloc, &range, list.as_slice(), intervals, count, out, len),
         Err(status) => status,

@@ -10,6 +10,16 @@
 ghost use Rattle.std.specs.List.{range_with_len};
 ghost use Rattle.std.specs.Prelude.{◌≡◌, ◌∷◌, []};
 
+// What is found, or the end of the export with the status that says why there is no answer.
+macro_rules! ok_or_return {
+    ($asked:expr) => {
+        match $asked {
+            Ok(found) => found,
+            Err(status) => return status,
+        }
+    };
+}
+
 mod choices;
 mod diagnosis;
 mod flaws;

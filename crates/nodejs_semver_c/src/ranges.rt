@@ -55,14 +55,8 @@ pub extern "C" fn nodejs_semver_range_satisfies(
         OnVersion reading version.now result kept (λ v.
         (result ≡ OK) × (answer.new ≡ accepts r v include_prerelease))) }
 {
-    let range = match read::range(alloc, reading, include_prerelease, range) {
-        Ok(range) => range,
-        Err(status) => return status,
-    };
-    let version = match read::version(reading, version) {
-        Ok(version) => version,
-        Err(status) => return status,
-    };
+    let range = ok_or_return!(read::range(alloc, reading, include_prerelease, range));
+    let version = ok_or_return!(read::version(reading, version));
     *answer = range.satisfies_with_prerelease(&version, include_prerelease);
     OK
 }
@@ -86,14 +80,8 @@ pub extern "C" fn nodejs_semver_range_outside(
         OnVersion reading version.now result kept (λ v.
         (result ≡ OK) × (answer.new ≡ is_outside (side_of above) include_prerelease r v))) }
 {
-    let range = match read::range(alloc, reading, include_prerelease, range) {
-        Ok(range) => range,
-        Err(status) => return status,
-    };
-    let version = match read::version(reading, version) {
-        Ok(version) => version,
-        Err(status) => return status,
-    };
+    let range = ok_or_return!(read::range(alloc, reading, include_prerelease, range));
+    let version = ok_or_return!(read::version(reading, version));
     *answer = if above {
         npm_reading::gtr(&version, &range, include_prerelease)
     } else {

@@ -30,14 +30,8 @@ pub extern "C" fn nodejs_semver_range_intersect(
         PrintsFound range_text (intersection r s) out.old out.new len.old len.new result
         ⊎ NoMemoryOnlyIf result kept (IsTrue (is_some (intersection r s))))) }
 {
-    let range = match read::range(alloc, reading, false, range) {
-        Ok(range) => range,
-        Err(status) => return status,
-    };
-    let other = match read::range(alloc, reading, false, other) {
-        Ok(other) => other,
-        Err(status) => return status,
-    };
+    let range = ok_or_return!(read::range(alloc, reading, false, range));
+    let other = ok_or_return!(read::range(alloc, reading, false, other));
     match range.intersect(alloc, &other) {
         Ok(found) => print_found(found, out, len),
         Err(_) => NO_MEMORY,
@@ -64,14 +58,8 @@ pub extern "C" fn nodejs_semver_range_difference(
         ⊎ NoMemoryOnlyIf result kept
         (IsTrue (is_some (difference r s)) ⊎ (1 < length s)))) }
 {
-    let range = match read::range(alloc, reading, false, range) {
-        Ok(range) => range,
-        Err(status) => return status,
-    };
-    let other = match read::range(alloc, reading, false, other) {
-        Ok(other) => other,
-        Err(status) => return status,
-    };
+    let range = ok_or_return!(read::range(alloc, reading, false, range));
+    let other = ok_or_return!(read::range(alloc, reading, false, other));
     match range.difference(alloc, &other) {
         Ok(found) => print_found(found, out, len),
         Err(_) => NO_MEMORY,
@@ -97,14 +85,8 @@ pub extern "C" fn nodejs_semver_range_least_beyond(
         OnRange reading false other.now result kept (λ s.
         PrintsBeyond r s out.old out.new len.old len.new result)) }
 {
-    let range = match read::range(alloc, reading, false, range) {
-        Ok(range) => range,
-        Err(status) => return status,
-    };
-    let other = match read::range(alloc, reading, false, other) {
-        Ok(other) => other,
-        Err(status) => return status,
-    };
+    let range = ok_or_return!(read::range(alloc, reading, false, range));
+    let other = ok_or_return!(read::range(alloc, reading, false, other));
     print_beyond(alloc, &range, &other, out, len)
 }
 
@@ -140,14 +122,8 @@ pub extern "C" fn nodejs_semver_range_allows_all(
         OnRange reading false other.now result kept (λ s.
         (result ≡ OK) × (answer.new ≡ covers_one r s))) }
 {
-    let range = match read::range(alloc, reading, false, range) {
-        Ok(range) => range,
-        Err(status) => return status,
-    };
-    let other = match read::range(alloc, reading, false, other) {
-        Ok(other) => other,
-        Err(status) => return status,
-    };
+    let range = ok_or_return!(read::range(alloc, reading, false, range));
+    let other = ok_or_return!(read::range(alloc, reading, false, other));
     *answer = range.allows_all(&other);
     OK
 }
@@ -168,14 +144,8 @@ pub extern "C" fn nodejs_semver_range_allows_any(
         OnRange reading false other.now result kept (λ s.
         (result ≡ OK) × (answer.new ≡ is_some (intersection r s)))) }
 {
-    let range = match read::range(alloc, reading, false, range) {
-        Ok(range) => range,
-        Err(status) => return status,
-    };
-    let other = match read::range(alloc, reading, false, other) {
-        Ok(other) => other,
-        Err(status) => return status,
-    };
+    let range = ok_or_return!(read::range(alloc, reading, false, range));
+    let other = ok_or_return!(read::range(alloc, reading, false, other));
     *answer = range.allows_any(&other);
     OK
 }

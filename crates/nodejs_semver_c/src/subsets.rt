@@ -31,14 +31,8 @@ pub extern "C" fn nodejs_semver_range_union(
         Prints (range_text (union r s)) out.old out.new len.old len.new result
         ⊎ NoMemoryOnlyIf result kept (TakesMemory (union r s)))) }
 {
-    let range = match read::range(alloc, reading, false, range) {
-        Ok(range) => range,
-        Err(status) => return status,
-    };
-    let other = match read::range(alloc, reading, false, other) {
-        Ok(other) => other,
-        Err(status) => return status,
-    };
+    let range = ok_or_return!(read::range(alloc, reading, false, range));
+    let other = ok_or_return!(read::range(alloc, reading, false, other));
     match range.union(alloc, &other) {
         Ok(found) => print(&found, out, len),
         Err(_) => NO_MEMORY,
@@ -63,14 +57,8 @@ pub extern "C" fn nodejs_semver_range_is_subset(
         ((result ≡ OK) × (IsTrue answer.new ↔ IsSubset include_prerelease r s))
         ⊎ NoMemoryOnlyIf result kept (MayTake include_prerelease r s))) }
 {
-    let range = match read::range(alloc, reading, include_prerelease, range) {
-        Ok(range) => range,
-        Err(status) => return status,
-    };
-    let other = match read::range(alloc, reading, include_prerelease, other) {
-        Ok(other) => other,
-        Err(status) => return status,
-    };
+    let range = ok_or_return!(read::range(alloc, reading, include_prerelease, range));
+    let other = ok_or_return!(read::range(alloc, reading, include_prerelease, other));
     match is_subset(alloc, include_prerelease, &range, &other) {
         Ok(found) => {
             *answer = found;
@@ -117,14 +105,8 @@ pub extern "C" fn nodejs_semver_range_accepts_same(
         ⊎ NoMemoryOnlyIf result kept
         (MayTake include_prerelease r s ⊎ MayTake include_prerelease s r))) }
 {
-    let range = match read::range(alloc, reading, include_prerelease, range) {
-        Ok(range) => range,
-        Err(status) => return status,
-    };
-    let other = match read::range(alloc, reading, include_prerelease, other) {
-        Ok(other) => other,
-        Err(status) => return status,
-    };
+    let range = ok_or_return!(read::range(alloc, reading, include_prerelease, range));
+    let other = ok_or_return!(read::range(alloc, reading, include_prerelease, other));
     match accepts_same(alloc, include_prerelease, &range, &other) {
         Ok(found) => {
             *answer = found;

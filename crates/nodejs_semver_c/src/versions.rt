@@ -75,14 +75,8 @@ pub extern "C" fn nodejs_semver_version_compare(
         OnVersion reading other.now result kept (λ w.
         (result ≡ OK) × (order.new ≡ order_number (precedence v w)))) }
 {
-    let version = match read::version(reading, version) {
-        Ok(version) => version,
-        Err(status) => return status,
-    };
-    let other = match read::version(reading, other) {
-        Ok(other) => other,
-        Err(status) => return status,
-    };
+    let version = ok_or_return!(read::version(reading, version));
+    let other = ok_or_return!(read::version(reading, other));
     *order = number_of(version.cmp(&other));
     OK
 }
@@ -103,14 +97,8 @@ pub extern "C" fn nodejs_semver_version_compare_build(
         OnVersion reading other.now result kept (λ w.
         (result ≡ OK) × (order.new ≡ order_number (build_order v w)))) }
 {
-    let version = match read::version(reading, version) {
-        Ok(version) => version,
-        Err(status) => return status,
-    };
-    let other = match read::version(reading, other) {
-        Ok(other) => other,
-        Err(status) => return status,
-    };
+    let version = ok_or_return!(read::version(reading, version));
+    let other = ok_or_return!(read::version(reading, other));
     *order = number_of(cmp_build(&version, &other));
     OK
 }
@@ -141,14 +129,8 @@ pub extern "C" fn nodejs_semver_version_diff(
         OnVersion reading other.now result kept (λ w.
         (result ≡ OK) × (kind.new ≡ kind_number (kind_between v w)))) }
 {
-    let version = match read::version(reading, version) {
-        Ok(version) => version,
-        Err(status) => return status,
-    };
-    let other = match read::version(reading, other) {
-        Ok(other) => other,
-        Err(status) => return status,
-    };
+    let version = ok_or_return!(read::version(reading, version));
+    let other = ok_or_return!(read::version(reading, other));
     *kind = kind_of(version.diff(&other));
     OK
 }
@@ -191,18 +173,9 @@ pub extern "C" fn nodejs_semver_version_inc(
         PrintsNext (λ base. answer_of_inc v word.now (Some identifier.now) (Some base))
         (base_of base) out.old out.new len.old len.new result))) }
 {
-    let version = match read::version(reading, version) {
-        Ok(version) => version,
-        Err(status) => return status,
-    };
-    let word = match read::text(word) {
-        Ok(word) => word,
-        Err(status) => return status,
-    };
-    let identifier = match read::text(identifier) {
-        Ok(identifier) => identifier,
-        Err(status) => return status,
-    };
+    let version = ok_or_return!(read::version(reading, version));
+    let word = ok_or_return!(read::text(word));
+    let identifier = ok_or_return!(read::text(identifier));
     let Some(base) = base_of(base) else {
         return BAD_ARGUMENT;
     };

@@ -13,7 +13,7 @@ impl Outcome {
     /// The outcome, with a line that names `--why` if that is wanted and nothing is written. Fails
     /// only if allocation fails.
     pub fn with_hint(self, alloc: Global, is_wanted: bool) -> Result<Outcome, AllocError>
-        ensures { IfOk result (λ o. outcome o ≡ with_hint is_wanted (outcome self.entry)) }
+        ensures { IfOk result (λ o. outcome o ≡ with_hint is_wanted (outcome self)) }
     {
         if !is_wanted || !self.output.is_empty() || !self.errors.is_empty() {
             return Ok(self);

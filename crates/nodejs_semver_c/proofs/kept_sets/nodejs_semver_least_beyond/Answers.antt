@@ -3,8 +3,8 @@ use Rattle.nodejs_semver_c.proofs.kept_sets.nodejs_semver_least_beyond.Goals as 
 
 pub returns-in-Err-kept_range : goal.returns-in-Err-kept_range
 returns-in-Err-kept_range c =
-    inl (c.in-Ok.range, c.in-Ok.ensures.ok, inr (c.in-Err-kept_range.ensures.refused, (refl, refl)))
+    inl (c.in-Ok.found, c.in-Ok.ensures.ok, inr (c.in-Err-kept_range.ensures.refused, (refl, refl)))
 
 pub returns : goal.returns
 returns c =
-    inl (c.in-Ok.range, c.in-Ok.ensures.ok, inl (c.in-Ok-kept_range.other, c.in-Ok-kept_range.ensures.ok, c.tell_beyond.ensures))
+    inl (c.in-Ok.found, c.in-Ok.ensures.ok, inl (c.in-Ok-kept_range.found, c.in-Ok-kept_range.ensures.ok, c.tell_beyond.ensures))

@@ -9,7 +9,7 @@ pub returns : goal.returns
 returns c =
     inr (
       omega (arith, c.if-versions-gt-MOST_VERSIONS.false),
-      inl (c.in-Ok.range, c.in-Ok.ensures.ok, inl ((refl, refl, refl, refl), c.in-Err-kept_versions.ensures.refused)),
+      inl (c.in-Ok.found, c.in-Ok.ensures.ok, inl ((refl, refl, refl, refl), c.in-Err-kept_versions.ensures.refused)),
     )
 
 pub returns-in-Ok-kept_versions : goal.returns-in-Ok-kept_versions
@@ -17,7 +17,7 @@ returns-in-Ok-kept_versions c =
     inr (
       omega (arith, c.if-versions-gt-MOST_VERSIONS.false),
       inl (
-        c.in-Ok.range,
+        c.in-Ok.found,
         c.in-Ok.ensures.ok,
         inr (
           c.in-Ok-kept_versions.list.items,

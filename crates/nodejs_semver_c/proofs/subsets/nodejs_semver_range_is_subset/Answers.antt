@@ -2,11 +2,11 @@ use Rattle.std.proofs.Common.{inl, inr, refl}
 use Rattle.nodejs_semver_c.proofs.subsets.nodejs_semver_range_is_subset.Goals as goal
 
 pub returns-in-Err-range : goal.returns-in-Err-range
-returns-in-Err-range c = inl (c.in-Ok.range, c.in-Ok.ensures.ok, inr (c.in-Err-range.ensures.refused, refl))
+returns-in-Err-range c = inl (c.in-Ok.found, c.in-Ok.ensures.ok, inr (c.in-Err-range.ensures.refused, refl))
 
 pub returns-in-Ok-is_subset : goal.returns-in-Ok-is_subset
 returns-in-Ok-is_subset c = inl (
-  c.in-Ok.range,
+  c.in-Ok.found,
   c.in-Ok.ensures.ok,
-  inl (c.in-Ok-range.other, c.in-Ok-range.ensures.ok, inl (refl, c.in-Ok-is_subset.ensures.subset)),
+  inl (c.in-Ok-range.found, c.in-Ok-range.ensures.ok, inl (refl, c.in-Ok-is_subset.ensures.subset)),
 )
