@@ -120,6 +120,21 @@ macro_rules! functions {
     };
 }
 
+/// Declares functions that tell a range: its intervals, and the texts of their bounds.
+macro_rules! telling_a_range {
+    ($($name:ident),+: ($($argument:ident: $type:ty,)*)) => {
+        functions!($($name),+: (
+            $($argument: $type,)*
+            intervals: *mut IntervalParts,
+            size: usize,
+            count: *mut usize,
+            out: *mut u8,
+            out_size: usize,
+            out_len: *mut usize,
+        ));
+    };
+}
+
 functions!(nodejs_semver_greatest, nodejs_semver_least: (
     range: *const KeptInterval,
     len: usize,
@@ -135,17 +150,17 @@ functions!(nodejs_semver_meets, nodejs_semver_covers: (
     other_len: usize,
     answer: *mut bool,
 ));
-functions!(nodejs_semver_intersect, nodejs_semver_difference: (
+telling_a_range!(nodejs_semver_range_read: (
+    reading: u32,
+    range: Bytes,
+    len: usize,
+    include: bool,
+));
+telling_a_range!(nodejs_semver_intersect, nodejs_semver_difference: (
     range: *const KeptInterval,
     len: usize,
     other: *const KeptInterval,
     other_len: usize,
-    intervals: *mut IntervalParts,
-    size: usize,
-    count: *mut usize,
-    out: *mut u8,
-    out_size: usize,
-    out_len: *mut usize,
 ));
 
 extern "C" {
@@ -183,18 +198,6 @@ extern "C" {
         base: u32,
         out: *mut u8,
         size: usize,
-        out_len: *mut usize,
-    ) -> Status;
-    fn nodejs_semver_range_read(
-        reading: u32,
-        range: Bytes,
-        len: usize,
-        include: bool,
-        intervals: *mut IntervalParts,
-        size: usize,
-        count: *mut usize,
-        out: *mut u8,
-        out_size: usize,
         out_len: *mut usize,
     ) -> Status;
     fn nodejs_semver_accepts(
