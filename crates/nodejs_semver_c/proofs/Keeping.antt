@@ -1,5 +1,5 @@
 -- What is kept of a version that was read: the identifiers of a text are spelled by their own texts.
-use Rattle.std.proofs.Common.{◌≡◌, ◌<◌, ◌≤◌, ◌+◌, ◌-◌, ◌^◌, ◌++◌, ◌∷◌, ◌∙◌, List, [], Bool, Option, Some, None, arith, inl, inr, length}
+use Rattle.std.proofs.Common.{◌≡◌, ◌<◌, ◌≤◌, ◌-◌, ◌^◌, ◌++◌, ◌∷◌, ◌∙◌, List, [], Bool, Option, Some, None, arith, inl, inr, length}
 use Rattle.std.proofs.Common.{false, length-append, map, min, refl, sym, true, ℕ}
 use Rattle.std.specs.List.{list_all}
 use Rattle.std.specs.Prelude.{IsSomeAnd, IsUtf8}

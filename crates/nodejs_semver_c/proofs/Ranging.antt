@@ -1,12 +1,12 @@
 -- Ranges that the caller keeps: what each interval is decides what all are, and what is told of them leads back.
-use Rattle.std.proofs.Common.{◌≡◌, ◌≢◌, ◌<◌, ◌≤◌, ◌+◌, ◌-◌, ◌==◌, ◌^◌, ◌++◌, ◌∷◌, ◌∙◌, ◌&&◌, ◌⊎◌, All, List, []}
+use Rattle.std.proofs.Common.{◌≡◌, ◌<◌, ◌≤◌, ◌+◌, ◌-◌, ◌==◌, ◌^◌, ◌++◌, ◌∷◌, ◌∙◌, ◌&&◌, ◌⊎◌, All, List, []}
 use Rattle.std.proofs.Common.{ap, append-nil, arith, drop, false, get_or, inl, inr, length, length-append, map, min}
 use Rattle.std.proofs.Common.{refl, set, suc, sym, take, true, true≢false, zero, ℕ}
 use Rattle.std.proofs.lemmas.Grind.{flat_map-append}
 use Rattle.std.proofs.lemmas.List.{length-map, length-take-le, take_more}
 use Rattle.std.proofs.lemmas.List.Folds.{list_all_at, list_all_more}
 use Rattle.std.specs.List.{list_all}
-use Rattle.std.specs.List.{Any, flat_map}
+use Rattle.std.specs.List.{Any}
 use Rattle.nodejs_semver.proofs.Common.{and_parts, nat_tests}
 use Rattle.std.proofs.lemmas.List.Elements.{All-cons, All-nil}
 use Rattle.semver_core.proofs.Normal.{identifiers-normal}

@@ -1,5 +1,4 @@
 use Rattle.std.proofs.Common.{◌∙◌, arith, refl, sym}
-use Rattle.lock_check.specs.Specifiers.{is_part}
 use Rattle.lock_check.proofs.Parts.{cut_at, has-middle, one_cut, part-bytes, part-lacks, uncut}
 use Rattle.lock_check.proofs.specifier.is_scope_and_name.Goals as goal
 
