@@ -1,10 +1,15 @@
 // Asks a library with the API of the Rust crate nodejs-semver one kind of question about values that are kept, 500 times a round:
-// clients.rs KIND ROUNDS. It prints a sum of the answers. bench/clients counts the instructions of a question.
+// clients.rs KIND ROUNDS. It prints a sum of the answers. bench/clients counts the instructions of a question. The kind resolver:all is a
+// resolver's work: versions and ranges of some packages are read, for each range the best version is chosen, and the versions are sorted.
 use std::hint::black_box;
 
 use nodejs_semver::{OutsideDirection, Range, Version};
 
 const COUNT: usize = 500;
+const PACKAGES: usize = 300;
+// Of a package.
+const VERSIONS: usize = 110;
+const RANGES: usize = 20;
 const PRE: [&str; 9] = ["", "", "", "", "-alpha.1", "-beta.2", "-rc.10", "-0", "-x.7.z.92"];
 const BUILD: [&str; 7] = ["", "", "", "", "", "+build.7", "+sha.5114f85"];
 const WORDS: [&str; 6] = ["1.x", "*", "2", ">1.2", "<=3.4.5", "1.2.3"];
@@ -60,6 +65,28 @@ impl Numbers {
     }
 }
 
+/// The texts of a package: three of four versions are releases.
+fn package(numbers: &mut Numbers) -> (Vec<String>, Vec<String>) {
+    let listed = |at| if at % 4 == 0 { numbers.version() } else { numbers.release() };
+    let versions = (0..VERSIONS).map(listed).collect();
+    (versions, (0..RANGES).map(|_| numbers.range()).collect())
+}
+
+/// The sum of the first numbers of the best versions.
+fn resolve(packages: &[(Vec<String>, Vec<String>)]) -> u64 {
+    let mut sum = 0;
+    for (versions, ranges) in packages {
+        let mut read: Vec<Version> = versions.iter().map(|it| Version::parse(it).unwrap()).collect();
+        for it in ranges {
+            let range = Range::parse(it).unwrap();
+            sum += range.max_satisfying(&read).map_or(0, Version::major);
+        }
+        read.sort();
+        sum += read[0].patch();
+    }
+    sum
+}
+
 fn main() {
     let words: Vec<String> = std::env::args().collect();
     let (question, kind) = words[1].split_once(':').unwrap();
@@ -69,6 +96,11 @@ fn main() {
     let versions: Vec<Version> = texts.iter().map(|it| Version::parse(&it.0).unwrap()).collect();
     let ranges: Vec<Range> = texts.iter().map(|it| Range::parse(&it.1).unwrap()).collect();
     let mut sum = 0u64;
+    if question == "resolver" {
+        let packages: Vec<_> = (0..PACKAGES).map(|_| package(&mut numbers)).collect();
+        (0..rounds).for_each(|_| sum += resolve(black_box(&packages)));
+        return println!("{sum}");
+    }
     for _ in 0..rounds {
         for at in 0..COUNT {
             let other = (at * 7 + 3) % COUNT;

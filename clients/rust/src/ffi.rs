@@ -1,12 +1,15 @@
 //! The functions of the C library, each with a call that is safe for every argument. This is the
-//! one module with unsafe code: it passes slices as a pointer and a length, and keeps no pointer.
+//! one module with unsafe code: it passes slices as a pointer and a length, reads what the library
+//! wrote, and keeps ranges as the library takes them.
 
-use crate::interval::{Bound, Interval};
-use crate::{Range, Version};
+use crate::Version;
+use crate::MAX_LENGTH;
 use std::alloc::{handle_alloc_error, Layout};
 use std::cmp::Ordering;
 use std::marker::PhantomData;
-use std::str;
+use std::mem::MaybeUninit;
+use std::sync::Arc;
+use std::{slice, str};
 
 /// A status of the header.
 pub(crate) type Status = u32;
@@ -38,18 +41,36 @@ pub(crate) struct Text<'a> {
     from: PhantomData<&'a [u8]>,
 }
 
+// SAFETY: a text is read alone, as the `&str` of which it is made.
+unsafe impl Send for Text<'_> {}
+// SAFETY: the same.
+unsafe impl Sync for Text<'_> {}
+
 impl<'a> Text<'a> {
-    pub(crate) fn of(text: &'a [u8]) -> Text<'a> {
+    pub(crate) const EMPTY: Text<'static> = Text {
+        at: "".as_ptr(),
+        len: 0,
+        from: PhantomData,
+    };
+
+    #[inline]
+    pub(crate) fn of(text: &'a str) -> Text<'a> {
         Text {
             at: text.as_ptr(),
             len: text.len(),
             from: PhantomData,
         }
     }
+
+    pub(crate) fn as_str(&self) -> &'a str {
+        // SAFETY: it is made of a `&str` of that length, which lives as long.
+        unsafe { str::from_utf8_unchecked(slice::from_raw_parts(self.at, self.len)) }
+    }
 }
 
 /// A version that is kept.
 #[repr(C)]
+#[derive(Clone, Copy)]
 pub(crate) struct Kept<'a> {
     pub(crate) numbers: [u64; 3],
     pub(crate) pre_release: Text<'a>,
@@ -59,10 +80,10 @@ pub(crate) struct Kept<'a> {
 /// The parts of a version: its numbers, and how long its texts are.
 #[repr(C)]
 #[derive(Clone, Copy, Default)]
-struct Parts {
-    numbers: [u64; 3],
-    pre_release_len: usize,
-    build_len: usize,
+pub(crate) struct Parts {
+    pub(crate) numbers: [u64; 3],
+    pub(crate) pre_release_len: usize,
+    pub(crate) build_len: usize,
 }
 
 /// Kinds of bounds.
@@ -72,6 +93,7 @@ pub(crate) const BOUND_OPEN: u32 = 2;
 
 /// A bound that is kept. Without a bound the version is not looked at.
 #[repr(C)]
+#[derive(Clone, Copy, PartialEq, Hash)]
 pub(crate) struct KeptBound<'a> {
     pub(crate) kind: u32,
     pub(crate) version: Kept<'a>,
@@ -79,6 +101,7 @@ pub(crate) struct KeptBound<'a> {
 
 /// An interval that is kept. A range is some of them.
 #[repr(C)]
+#[derive(Clone, Copy, PartialEq, Hash)]
 pub(crate) struct KeptInterval<'a> {
     pub(crate) lower: KeptBound<'a>,
     pub(crate) upper: KeptBound<'a>,
@@ -87,17 +110,17 @@ pub(crate) struct KeptInterval<'a> {
 /// What is told of a bound.
 #[repr(C)]
 #[derive(Clone, Copy, Default)]
-struct BoundParts {
-    kind: u32,
-    version: Parts,
+pub(crate) struct BoundParts {
+    pub(crate) kind: u32,
+    pub(crate) version: Parts,
 }
 
 /// What is told of an interval.
 #[repr(C)]
 #[derive(Clone, Copy, Default)]
-struct IntervalParts {
-    lower: BoundParts,
-    upper: BoundParts,
+pub(crate) struct IntervalParts {
+    pub(crate) lower: BoundParts,
+    pub(crate) upper: BoundParts,
 }
 
 /// A word of a range text.
@@ -187,18 +210,16 @@ extern "C" {
         size: usize,
         count: *mut usize,
     ) -> Status;
-    fn nodejs_semver_version_inc(
-        reading: u32,
-        version: Bytes,
-        len: usize,
+    fn nodejs_semver_next(
+        version: *const Kept,
         word: Bytes,
         word_len: usize,
         id: Bytes,
         id_len: usize,
         base: u32,
+        parts: *mut Parts,
         out: *mut u8,
         size: usize,
-        out_len: *mut usize,
     ) -> Status;
     fn nodejs_semver_accepts(
         range: *const KeptInterval,
@@ -231,6 +252,7 @@ fn no_memory() -> ! {
 }
 
 /// The status, unless it says that an allocation failed.
+#[inline]
 fn checked(status: Status) -> Status {
     if status == NO_MEMORY {
         no_memory();
@@ -238,57 +260,60 @@ fn checked(status: Status) -> Status {
     status
 }
 
-/// A version that was read: its numbers, the text of its pre-release and then that of its build.
-pub(crate) struct Read<'a> {
-    pub(crate) numbers: [u64; 3],
-    pub(crate) text: &'a str,
-    pub(crate) pre_release_len: usize,
+/// The first items of an array.
+///
+/// # Safety
+///
+/// As many are written.
+unsafe fn front<T, const N: usize>(array: &MaybeUninit<[T; N]>, len: usize) -> &[T] {
+    // SAFETY: they are written, and no more than there are.
+    unsafe { slice::from_raw_parts(array.as_ptr().cast(), len.min(N)) }
 }
 
-/// The version that a call tells in parts, or the status.
-fn version_told(
-    mut call: impl FnMut(&mut Parts, *mut u8, usize) -> Status,
-) -> Result<Version, Status> {
-    let (mut parts, mut few, mut more) = (Parts::default(), [0u8; crate::MAX_LENGTH], Vec::new());
-    let mut out: &mut [u8] = &mut few;
-    let mut status = call(&mut parts, out.as_mut_ptr(), out.len());
-    if status == TOO_SMALL {
-        more.resize(parts.pre_release_len.saturating_add(parts.build_len), 0);
-        out = &mut more;
-        status = call(&mut parts, out.as_mut_ptr(), out.len());
-    }
-    match checked(status) {
-        // The library writes ASCII within the buffer, so that this does not fail.
-        OK => parts.version(&mut &*out).ok_or(BAD_ARGUMENT),
-        status => Err(status),
-    }
+/// The text of identifiers, which are ASCII.
+fn ascii(bytes: &[u8]) -> Option<&str> {
+    // SAFETY: ASCII is UTF-8.
+    bytes
+        .is_ascii()
+        .then(|| unsafe { str::from_utf8_unchecked(bytes) })
 }
 
 impl Parts {
-    /// The version, whose texts are the next ones of these.
-    fn version(&self, texts: &mut &[u8]) -> Option<Version> {
-        let len = self.pre_release_len.checked_add(self.build_len)?;
-        let text = texts.get(..len)?;
-        *texts = texts.get(len..)?;
-        let text = str::from_utf8(text).ok()?;
-        text.is_char_boundary(self.pre_release_len).then_some(())?;
-        let (numbers, pre_release_len) = (self.numbers, self.pre_release_len);
-        Some(Version::of(Read {
-            numbers,
-            text,
-            pre_release_len,
-        }))
+    /// How long the texts are.
+    fn len(&self) -> usize {
+        self.pre_release_len.saturating_add(self.build_len)
+    }
+
+    /// The version with these texts. The library writes as many as the parts say, so that this does
+    /// not fail.
+    #[inline]
+    fn version(&self, texts: &[u8]) -> Result<Version, Status> {
+        if texts.is_empty() {
+            return Ok(Version::release(self.numbers));
+        }
+        let text = ascii(texts).ok_or(BAD_ARGUMENT)?;
+        let (pre_release, build) = text.split_at(self.pre_release_len.min(text.len()));
+        Ok(Version::of_texts(self.numbers, pre_release, build))
     }
 }
 
-impl BoundParts {
-    fn bound(&self, texts: &mut &[u8]) -> Option<Bound> {
-        let version = self.version.version(texts)?;
-        Some(match self.kind {
-            BOUND_CLOSED => Bound::Closed(version),
-            BOUND_OPEN => Bound::Open(version),
-            _ => Bound::None,
-        })
+/// The version that a call tells in parts, or the status.
+#[inline]
+fn version_told(
+    mut call: impl FnMut(&mut Parts, *mut u8, usize) -> Status,
+) -> Result<Version, Status> {
+    let (mut parts, mut few) = (Parts::default(), MaybeUninit::<[u8; MAX_LENGTH]>::uninit());
+    match call(&mut parts, few.as_mut_ptr().cast(), MAX_LENGTH) {
+        // SAFETY: by this status the texts are written to the front.
+        OK => parts.version(unsafe { front(&few, parts.len()) }),
+        TOO_SMALL => {
+            let mut more = vec![0; parts.len()];
+            match checked(call(&mut parts, more.as_mut_ptr(), more.len())) {
+                OK => parts.version(&more),
+                status => Err(status),
+            }
+        }
+        status => Err(checked(status)),
     }
 }
 
@@ -301,98 +326,135 @@ pub(crate) fn read(reading: Reading, version: &str) -> Result<Version, Status> {
     })
 }
 
-/// Where a call tells the intervals of a range: the parts, their number, the texts, their length.
-struct Room<'a>(
-    &'a mut [IntervalParts],
-    &'a mut usize,
-    &'a mut [u8],
-    &'a mut usize,
-);
+/// The next version, and what the library says of the question.
+pub(crate) fn next(version: &Kept, word: &str, id: &str, base: u32) -> Result<Version, Status> {
+    let (word_len, id_len) = (word.len(), id.len());
+    let (word, id) = (word.as_ptr(), id.as_ptr());
+    // SAFETY: each pointer is of a slice with the length after it, or of a whole value.
+    version_told(|parts, out, size| unsafe {
+        nodejs_semver_next(version, word, word_len, id, id_len, base, parts, out, size)
+    })
+}
 
-/// The intervals that a call tells, or the status. Most fit into the first room.
-fn range_told(mut call: impl FnMut(&mut Room) -> Status) -> Result<Range, Status> {
+/// The intervals of a range as the library takes them.
+#[derive(Clone)]
+pub(crate) struct KeptRange {
+    // Their texts are parts of `texts`, whose bytes stay where they are and as they are.
+    intervals: Arc<[KeptInterval<'static>]>,
+    // None where they are parts of ZEROS. It is here to be kept as long.
+    _texts: Option<Arc<str>>,
+}
+
+/// The texts of most ranges: the pre-release of each bound that has one is 0.
+const ZEROS: &str = "00000000";
+
+/// The next characters of an ASCII text, or as many as there are.
+fn next_text(left: &mut &[u8], len: usize) -> Text<'static> {
+    let (text, rest) = left.split_at(len.min(left.len()));
+    *left = rest;
+    Text {
+        at: text.as_ptr(),
+        len: text.len(),
+        from: PhantomData,
+    }
+}
+
+impl BoundParts {
+    /// The bound, whose texts are the next ones of these.
+    #[inline]
+    fn kept(&self, texts: &mut &[u8]) -> KeptBound<'static> {
+        let Parts {
+            numbers,
+            pre_release_len,
+            build_len,
+        } = self.version;
+        let (pre_release, build) = match pre_release_len | build_len {
+            0 => (Text::EMPTY, Text::EMPTY),
+            _ => (
+                next_text(texts, pre_release_len),
+                next_text(texts, build_len),
+            ),
+        };
+        KeptBound {
+            kind: self.kind,
+            version: Kept {
+                numbers,
+                pre_release,
+                build,
+            },
+        }
+    }
+}
+
+impl KeptRange {
+    /// The range of some parts, whose texts are these, in ASCII.
+    pub(crate) fn of(told: &[IntervalParts], texts: &str) -> KeptRange {
+        let texts = (!ZEROS.starts_with(texts)).then(|| Arc::<str>::from(texts));
+        let mut left = texts.as_deref().unwrap_or(ZEROS).as_bytes();
+        let intervals = told.iter().map(|it| KeptInterval {
+            lower: it.lower.kept(&mut left),
+            upper: it.upper.kept(&mut left),
+        });
+        KeptRange {
+            intervals: intervals.collect(),
+            _texts: texts,
+        }
+    }
+
+    #[inline]
+    pub(crate) fn intervals(&self) -> &[KeptInterval<'_>] {
+        &self.intervals
+    }
+}
+
+/// Where a call tells the intervals of a range: the parts and their room, the texts and theirs.
+struct Room(*mut IntervalParts, usize, *mut u8, usize);
+
+/// The range that a call tells, or the status: it says how many intervals there are, and how long
+/// the texts. Most fit into the first room.
+fn range_told(
+    mut call: impl FnMut(Room, &mut usize, &mut usize) -> Status,
+) -> Result<KeptRange, Status> {
+    const FEW: usize = 4;
+    let mut few = MaybeUninit::<[IntervalParts; FEW]>::uninit();
+    let mut short = MaybeUninit::<[u8; MAX_LENGTH]>::uninit();
+    let room = Room(
+        few.as_mut_ptr().cast(),
+        FEW,
+        short.as_mut_ptr().cast(),
+        MAX_LENGTH,
+    );
     let (mut count, mut len) = (0, 0);
-    let (mut few, mut short) = ([IntervalParts::default(); 4], [0u8; 256]);
-    let (mut many, mut long) = (Vec::new(), Vec::new());
-    let mut status = call(&mut Room(&mut few, &mut count, &mut short, &mut len));
-    let (mut parts, mut texts): (&[IntervalParts], &[u8]) = (&few, &short);
-    if status == TOO_SMALL {
-        many.resize(count, IntervalParts::default());
-        long.resize(len, 0);
-        status = call(&mut Room(&mut many, &mut count, &mut long, &mut len));
-        (parts, texts) = (&many, &long);
+    match call(room, &mut count, &mut len) {
+        OK => {
+            // SAFETY: by this status as many are written to the front of each.
+            let (told, texts) = unsafe { (front(&few, count), front(&short, len)) };
+            let texts = ascii(texts).ok_or(BAD_ARGUMENT)?;
+            Ok(KeptRange::of(told, texts))
+        }
+        TOO_SMALL => {
+            let (mut many, mut long) = (vec![IntervalParts::default(); count], vec![0; len]);
+            let (told, texts) = (many.as_mut_ptr(), long.as_mut_ptr());
+            let room = Room(told, many.len(), texts, long.len());
+            match checked(call(room, &mut count, &mut len)) {
+                OK => ascii(&long)
+                    .map(|it| KeptRange::of(&many, it))
+                    .ok_or(BAD_ARGUMENT),
+                status => Err(status),
+            }
+        }
+        status => Err(checked(status)),
     }
-    if checked(status) != OK {
-        return Err(status);
-    }
-    let told = parts.get(..count).unwrap_or_default().iter();
-    // The library writes as many texts as the parts say, so that this does not fail.
-    let intervals = told.map(|it| {
-        Some(Interval {
-            lower: it.lower.bound(&mut texts)?,
-            upper: it.upper.bound(&mut texts)?,
-        })
-    });
-    intervals
-        .collect::<Option<Box<[Interval]>>>()
-        .map(Range::of)
-        .ok_or(BAD_ARGUMENT)
-}
-
-/// What is made of the text that a call writes, or the status. Most fit into the first buffer.
-fn written<T>(
-    mut call: impl FnMut(*mut u8, usize, &mut usize) -> Status,
-    make: impl FnOnce(&str) -> Option<T>,
-) -> Result<T, Status> {
-    let (mut few, mut more, mut len) = ([0u8; 256], Vec::new(), 0);
-    let mut out: &mut [u8] = &mut few;
-    let mut status = checked(call(out.as_mut_ptr(), out.len(), &mut len));
-    if status == TOO_SMALL {
-        more.resize(len, 0);
-        out = &mut more;
-        status = checked(call(out.as_mut_ptr(), out.len(), &mut len));
-    }
-    if status != OK {
-        return Err(status);
-    }
-    // The library writes UTF-8 within the buffer, so that this does not fail.
-    let text = out.get(..len).and_then(|it| str::from_utf8(it).ok());
-    text.and_then(make).ok_or(BAD_ARGUMENT)
-}
-
-const PORT: u32 = Reading::Port as u32;
-
-/// The next version.
-pub(crate) fn inc(version: &[u8], word: &str, id: &str, base: u32) -> Result<Version, Status> {
-    let (at, len) = (version.as_ptr(), version.len());
-    // SAFETY: each pointer is of a slice with the length after it.
-    written(
-        |out, size, out_len| unsafe {
-            let (word, word_len, id, id_len) = (word.as_ptr(), word.len(), id.as_ptr(), id.len());
-            nodejs_semver_version_inc(
-                PORT, at, len, word, word_len, id, id_len, base, out, size, out_len,
-            )
-        },
-        Version::of_printed,
-    )
 }
 
 /// Reads a range.
-pub(crate) fn read_range(reading: Reading, range: &str) -> Result<Range, Status> {
+pub(crate) fn read_range(reading: Reading, range: &str) -> Result<KeptRange, Status> {
     let (at, len) = (range.as_ptr(), range.len());
     // SAFETY: each pointer is of a slice with the length after it.
-    range_told(|Room(parts, count, out, out_len)| unsafe {
+    range_told(|Room(parts, count, out, size), told, out_len| unsafe {
+        let reading = reading as u32;
         nodejs_semver_range_read(
-            reading as u32,
-            at,
-            len,
-            false,
-            parts.as_mut_ptr(),
-            parts.len(),
-            *count,
-            out.as_mut_ptr(),
-            out.len(),
-            *out_len,
+            reading, at, len, false, parts, count, told, out, size, out_len,
         )
     })
 }
@@ -408,24 +470,17 @@ pub(crate) fn combine(
     how: Operation,
     range: &[KeptInterval],
     other: &[KeptInterval],
-) -> Result<Range, Status> {
+) -> Result<KeptRange, Status> {
     let call = match how {
         Operation::Intersect => nodejs_semver_intersect,
         Operation::Difference => nodejs_semver_difference,
     };
+    let (one, len) = (range.as_ptr(), range.len());
+    let (two, other_len) = (other.as_ptr(), other.len());
     // SAFETY: each pointer is of a slice with the length after it. The texts live as long.
-    range_told(|Room(parts, count, out, out_len)| unsafe {
+    range_told(|Room(parts, count, out, size), told, out_len| unsafe {
         call(
-            range.as_ptr(),
-            range.len(),
-            other.as_ptr(),
-            other.len(),
-            parts.as_mut_ptr(),
-            parts.len(),
-            *count,
-            out.as_mut_ptr(),
-            out.len(),
-            *out_len,
+            one, len, two, other_len, parts, count, told, out, size, out_len,
         )
     })
 }
@@ -439,6 +494,7 @@ pub(crate) fn min_version(range: &[KeptInterval]) -> Result<Version, Status> {
 }
 
 /// The answer of a call, or the status.
+#[inline]
 fn answered<T: Default>(call: impl FnOnce(&mut T) -> Status) -> Result<T, Status> {
     let mut answer = T::default();
     match checked(call(&mut answer)) {
@@ -448,6 +504,7 @@ fn answered<T: Default>(call: impl FnOnce(&mut T) -> Status) -> Result<T, Status
 }
 
 /// Whether a range accepts a version.
+#[inline]
 pub(crate) fn accepts(
     range: &[KeptInterval],
     version: &Kept,
@@ -460,6 +517,7 @@ pub(crate) fn accepts(
 }
 
 /// Whether a version lies above a range, or below it.
+#[inline]
 pub(crate) fn outside(
     range: &[KeptInterval],
     version: &Kept,
@@ -473,6 +531,7 @@ pub(crate) fn outside(
 }
 
 /// Whether an interval of the first range covers one of the second.
+#[inline]
 pub(crate) fn covers(range: &[KeptInterval], other: &[KeptInterval]) -> Result<bool, Status> {
     // SAFETY: each pointer is of a slice with the length after it. The texts live as long.
     answered(|answer| unsafe {
@@ -487,6 +546,7 @@ pub(crate) fn covers(range: &[KeptInterval], other: &[KeptInterval]) -> Result<b
 }
 
 /// Whether two ranges have something in common.
+#[inline]
 pub(crate) fn meets(range: &[KeptInterval], other: &[KeptInterval]) -> Result<bool, Status> {
     // SAFETY: each pointer is of a slice with the length after it. The texts live as long.
     answered(|answer| unsafe {
@@ -524,6 +584,7 @@ pub(crate) fn best(
 }
 
 /// The order of two versions that are kept.
+#[inline]
 pub(crate) fn order(one: &Kept, other: &Kept) -> Result<Ordering, Status> {
     // SAFETY: both are whole values, whose texts live as long as they do.
     let order = answered(|order| unsafe { nodejs_semver_order(one, other, order) })?;
@@ -531,6 +592,7 @@ pub(crate) fn order(one: &Kept, other: &Kept) -> Result<Ordering, Status> {
 }
 
 /// The number of the kind of difference between two versions that are kept.
+#[inline]
 pub(crate) fn kind(one: &Kept, other: &Kept) -> Result<u32, Status> {
     // SAFETY: both are whole values, whose texts live as long as they do.
     answered(|kind| unsafe { nodejs_semver_kind(one, other, kind) })

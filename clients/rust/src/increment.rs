@@ -106,24 +106,19 @@ fn raised(number: u64) -> Result<u64, IncrementError> {
 }
 
 impl Increment<'_> {
-    /// The library's answer, unless the version has no text.
+    /// The library's answer, unless the version has an identifier that no text spells.
     fn by_library(&self, version: &Version) -> Option<Answer> {
         let base = match self.base {
             IdentifierBase::False => 2,
             IdentifierBase::Value(value) => u32::from(value != 0),
         };
         let identifier = self.identifier.unwrap_or("");
-        match ffi::inc(version.asked()?.text(), self.word, identifier, base) {
+        match ffi::next(&version.kept_whole()?, self.word, identifier, base) {
+            Ok(next) if self.is_single() => Some(Ok(next)),
             Ok(next) => {
-                let pre = self.pre_release_of(version, &next);
                 let [major, minor, patch] = next.numbers();
-                Some(Ok(Version::new(
-                    major,
-                    minor,
-                    patch,
-                    pre,
-                    version.build().to_vec(),
-                )))
+                let (pre, build) = (self.pre_release_of(version, &next), next.build().to_vec());
+                Some(Ok(Version::new(major, minor, patch, pre, build)))
             }
             Err(ffi::OVERFLOW) => Some(Err(IncrementError::Overflow)),
             Err(ffi::NOT_A_PRERELEASE) => {
@@ -135,6 +130,12 @@ impl Increment<'_> {
             // The status has three causes, so that the rules say which.
             Err(_) => None,
         }
+    }
+
+    /// Whether the identifier is none, or one that its own text spells.
+    fn is_single(&self) -> bool {
+        self.identifier
+            .map_or(true, |it| is_identifier(it) && !is_digits(it))
     }
 
     /// The pre-release of the next version, of which the library tells the text. An identifier that

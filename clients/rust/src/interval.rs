@@ -1,12 +1,14 @@
 //! The intervals of a range, and the rules by which they are asked where the library is not: about
-//! versions and ranges that no text spells.
+//! versions that no text spells.
 
-use crate::ffi::{self, Kept, KeptBound, KeptInterval, Text};
+use crate::ffi::{self, Kept, KeptBound, KeptInterval};
+use crate::line::{Line, Shown};
 use crate::Version;
 use std::fmt;
+use std::hash::{Hash, Hasher};
 
 /// One end of an interval.
-#[derive(Debug, Clone, PartialEq, Eq, Hash)]
+#[derive(Debug, Clone, PartialEq, Eq)]
 pub(crate) enum Bound {
     /// There is no bound on this side.
     None,
@@ -17,7 +19,7 @@ pub(crate) enum Bound {
 }
 
 /// The versions between two bounds, of which the lower one lies below the upper one.
-#[derive(Debug, Clone, PartialEq, Eq, Hash)]
+#[derive(Debug, Clone, PartialEq, Eq)]
 pub(crate) struct Interval {
     pub(crate) lower: Bound,
     pub(crate) upper: Bound,
@@ -32,25 +34,11 @@ pub(crate) enum Cut<'a> {
 }
 
 impl Bound {
-    fn kept(&self) -> KeptBound<'_> {
-        let none = || Kept {
-            numbers: [0; 3],
-            pre_release: Text::of(b""),
-            build: Text::of(b""),
-        };
-        match self {
-            Bound::None => KeptBound {
-                kind: ffi::BOUND_NONE,
-                version: none(),
-            },
-            Bound::Closed(it) => KeptBound {
-                kind: ffi::BOUND_CLOSED,
-                version: it.kept_whole(),
-            },
-            Bound::Open(it) => KeptBound {
-                kind: ffi::BOUND_OPEN,
-                version: it.kept_whole(),
-            },
+    fn of(it: &KeptBound) -> Bound {
+        match it.kind {
+            ffi::BOUND_CLOSED => Bound::Closed(it.version.version()),
+            ffi::BOUND_OPEN => Bound::Open(it.version.version()),
+            _ => Bound::None,
         }
     }
 
@@ -69,18 +57,12 @@ impl Bound {
 }
 
 impl Interval {
-    /// The interval as the library keeps one.
-    pub(crate) fn kept(&self) -> KeptInterval<'_> {
-        KeptInterval {
-            lower: self.lower.kept(),
-            upper: self.upper.kept(),
+    pub(crate) fn of(it: &KeptInterval) -> Interval {
+        Interval {
+            lower: Bound::of(&it.lower),
+            upper: Bound::of(&it.upper),
         }
     }
-
-    pub(crate) const ANY: Interval = Interval {
-        lower: Bound::None,
-        upper: Bound::None,
-    };
 
     /// Whether it has no bound.
     pub(crate) fn is_any(&self) -> bool {
@@ -125,35 +107,68 @@ impl Interval {
     }
 }
 
-/// Writes an interval, with `any` where it has no bounds.
-fn write(it: &Interval, any: &str, out: &mut impl fmt::Write) -> fmt::Result {
-    if let (Bound::Closed(lower), Bound::Closed(upper)) = (&it.lower, &it.upper) {
-        if lower == upper {
-            return write!(out, "{lower}");
+// ---- As they are kept
+
+impl Kept<'_> {
+    fn version(&self) -> Version {
+        let (pre, build) = (self.pre_release.as_str(), self.build.as_str());
+        if pre.is_empty() && build.is_empty() {
+            return Version::release(self.numbers);
         }
+        Version::of_texts(self.numbers, pre, build)
     }
-    match &it.lower {
-        Bound::None => {}
-        Bound::Closed(version) => write!(out, ">={version}")?,
-        Bound::Open(version) => write!(out, ">{version}")?,
-    }
-    let space = if it.lower == Bound::None { "" } else { " " };
-    match &it.upper {
-        Bound::None if it.lower == Bound::None => out.write_str(any),
-        Bound::None => Ok(()),
-        Bound::Closed(version) => write!(out, "{space}<={version}"),
-        Bound::Open(version) => write!(out, "{space}<{version}"),
+
+    fn shown(&self) -> Shown<'_> {
+        let [pre_release, build] = [self.pre_release.as_str(), self.build.as_str()]
+            .map(|it| Some(it).filter(|it| !it.is_empty()));
+        Shown {
+            numbers: self.numbers,
+            pre_release,
+            build,
+        }
     }
 }
 
-/// Writes intervals as a range prints, or, where `any` is empty, so that they can be read back: the
-/// text `*` is another range than one without bounds.
-pub(crate) fn write_all(list: &[Interval], any: &str, out: &mut impl fmt::Write) -> fmt::Result {
-    for (at, it) in list.iter().enumerate() {
-        if at > 0 {
-            out.write_str("||")?;
-        }
-        write(it, any, out)?;
+impl PartialEq for Kept<'_> {
+    fn eq(&self, other: &Self) -> bool {
+        self.numbers == other.numbers && self.pre_release.as_str() == other.pre_release.as_str()
     }
-    Ok(())
+}
+
+impl Hash for Kept<'_> {
+    fn hash<H: Hasher>(&self, state: &mut H) {
+        (self.numbers, self.pre_release.as_str()).hash(state);
+    }
+}
+
+impl KeptInterval<'_> {
+    /// Adds the interval as it is printed.
+    pub(crate) fn add_to<W: fmt::Write>(&self, line: &mut Line<W>) -> fmt::Result {
+        let (lower, upper) = (&self.lower, &self.upper);
+        if lower.kind == ffi::BOUND_CLOSED && lower == upper {
+            return line.add_version(&lower.version.shown());
+        }
+        match lower.kind {
+            ffi::BOUND_NONE if upper.kind == ffi::BOUND_NONE => return line.add("*"),
+            ffi::BOUND_NONE => {}
+            kind => {
+                line.add(if kind == ffi::BOUND_OPEN { ">" } else { ">=" })?;
+                line.add_version(&lower.version.shown())?;
+            }
+        }
+        if upper.kind == ffi::BOUND_NONE {
+            return Ok(());
+        }
+        line.add(if lower.kind == ffi::BOUND_NONE {
+            ""
+        } else {
+            " "
+        })?;
+        line.add(if upper.kind == ffi::BOUND_OPEN {
+            "<"
+        } else {
+            "<="
+        })?;
+        line.add_version(&upper.version.shown())
+    }
 }

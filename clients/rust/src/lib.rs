@@ -20,10 +20,11 @@
 //!
 //! A version with an identifier that no text spells, as `AlphaNumeric("1")`, is made by
 //! [`Version::new`] and [`Version::inc`], and never by [`Version::parse`]. Whether a range accepts
-//! one, and its order, this package answers by the same rules in Rust, and so it does for
-//! [`Version::inc`] of a version that prints more than [`MAX_LENGTH`] bytes or has a number above
-//! [`MAX_SAFE_INTEGER`]. Its tests compare these answers with the library's wherever both can
-//! answer.
+//! one, its order and its next version, this package answers by the same rules in Rust. Its tests
+//! compare these answers with the library's wherever both can answer.
+//!
+//! The order of the three numbers is compared in Rust too. By it [`Range::max_satisfying`] and
+//! [`Range::min_satisfying`] leave out versions that cannot be the answer.
 //!
 //! # Reading
 //!
@@ -43,6 +44,7 @@ mod flaw;
 mod identifier;
 mod increment;
 mod interval;
+mod line;
 mod range;
 #[cfg(feature = "serde")]
 mod serde;

@@ -1,8 +1,10 @@
 //! Ranges.
 
 use crate::error::{RangeError, SemverError};
-use crate::ffi::{self, Kept, KeptInterval, Operation, Reading, Status};
-use crate::interval::{write_all, Interval};
+use crate::ffi::{self, IntervalParts, Kept, KeptRange, Operation, Reading};
+use crate::interval::Interval;
+use crate::line::Line;
+use crate::version::cmp_numbers;
 use crate::Version;
 use std::fmt;
 use std::hash::{Hash, Hasher};
@@ -14,7 +16,7 @@ use std::str::FromStr;
 /// metadata does not count in them.
 #[derive(Clone)]
 pub struct Range {
-    intervals: Box<[Interval]>,
+    kept: KeptRange,
 }
 
 /// A side of a range.
@@ -47,22 +49,30 @@ impl TryFrom<char> for OutsideDirection {
     }
 }
 
-/// Asks about the intervals as the library keeps them. Most ranges have one.
-fn with_kept<T>(intervals: &[Interval], ask: impl FnOnce(&[KeptInterval]) -> T) -> T {
-    match intervals {
-        [one] => ask(&[one.kept()]),
-        [one, two] => ask(&[one.kept(), two.kept()]),
-        all => ask(&all.iter().map(Interval::kept).collect::<Vec<_>>()),
+/// The numbers between which the best of some versions lies, if there is one.
+struct Window {
+    low: [u64; 3],
+    high: [u64; 3],
+}
+
+impl Window {
+    /// How many versions are asked, to make it narrow.
+    const SAMPLES: usize = 16;
+    // From one of them to the next one. It is odd, so that each is met.
+    const STEP: usize = 7;
+
+    fn has(&self, version: &Version) -> bool {
+        let numbers = &version.numbers();
+        cmp_numbers(&self.low, numbers).is_le() && cmp_numbers(numbers, &self.high).is_le()
     }
 }
 
 impl Range {
-    pub(crate) fn of(intervals: Box<[Interval]>) -> Range {
-        Range { intervals }
-    }
-
     fn read(reading: Reading, text: &str) -> Result<Range, SemverError> {
-        ffi::read_range(reading, text).map_err(|_| SemverError)
+        match ffi::read_range(reading, text) {
+            Ok(kept) => Ok(Range { kept }),
+            Err(_) => Err(SemverError),
+        }
     }
 
     /// Reads a range leniently, as the crate nodejs-semver does: words that it does not understand
@@ -86,7 +96,9 @@ impl Range {
 
     /// The range of all versions.
     pub fn any() -> Range {
-        Range::of(Box::new([Interval::ANY]))
+        Range {
+            kept: KeptRange::of(&[IntervalParts::default()], ""),
+        }
     }
 
     /// Whether the range accepts a version. A pre-release is accepted only where a bound names a
@@ -97,44 +109,38 @@ impl Range {
 
     /// Whether the range accepts a version, pre-releases included or not.
     pub fn satisfies_with_prerelease(&self, version: &Version, include_prerelease: bool) -> bool {
-        let asked = version.kept_if_spelled().and_then(|it| {
-            with_kept(&self.intervals, |range| {
-                ffi::accepts(range, &it, include_prerelease)
-            })
-            .ok()
-        });
-        asked.unwrap_or_else(|| self.accepts(version, include_prerelease))
+        if version.is_spelled() {
+            let asked = &version.kept();
+            if let Ok(answer) = ffi::accepts(self.kept.intervals(), asked, include_prerelease) {
+                return answer;
+            }
+        }
+        self.accepts(version, include_prerelease)
     }
 
     /// The answer by the rules of this package.
+    #[cold]
     pub(crate) fn accepts(&self, version: &Version, include_prerelease: bool) -> bool {
-        self.intervals
+        self.intervals()
             .iter()
             .any(|it| it.accepts(version, include_prerelease))
     }
 
-    /// Asks about two ranges.
-    fn ask<T>(
-        &self,
-        other: &Range,
-        call: impl FnOnce(&[KeptInterval], &[KeptInterval]) -> Result<T, Status>,
-    ) -> Result<T, Status> {
-        with_kept(&self.intervals, |one| {
-            with_kept(&other.intervals, |two| call(one, two))
-        })
+    pub(crate) fn intervals(&self) -> Vec<Interval> {
+        self.kept.intervals().iter().map(Interval::of).collect()
     }
 
     /// Whether some one interval of this range covers some one interval of the other.
     ///
     /// This is no test for subsets: `1 || 2` does not allow all of `>=1.0.0 <3.0.0`.
     pub fn allows_all(&self, other: &Range) -> bool {
-        self.ask(other, ffi::covers).unwrap_or(false)
+        ffi::covers(self.kept.intervals(), other.kept.intervals()).unwrap_or(false)
     }
 
     /// Whether both ranges have something in common, which is where [`Range::intersect`] is not
     /// `None`.
     pub fn allows_any(&self, other: &Range) -> bool {
-        self.ask(other, ffi::meets).unwrap_or(false)
+        ffi::meets(self.kept.intervals(), other.kept.intervals()).unwrap_or(false)
     }
 
     /// The same as [`Range::allows_any`]. The crate nodejs-semver has no such name.
@@ -144,23 +150,22 @@ impl Range {
 
     /// What both ranges have in common, if there is anything.
     pub fn intersect(&self, other: &Range) -> Option<Range> {
-        self.ask(other, |one, two| {
-            ffi::combine(Operation::Intersect, one, two)
-        })
-        .ok()
+        self.combine(Operation::Intersect, other)
     }
 
     /// What this range holds and the other does not, if there is anything.
     pub fn difference(&self, other: &Range) -> Option<Range> {
-        self.ask(other, |one, two| {
-            ffi::combine(Operation::Difference, one, two)
-        })
-        .ok()
+        self.combine(Operation::Difference, other)
+    }
+
+    fn combine(&self, how: Operation, other: &Range) -> Option<Range> {
+        let found = ffi::combine(how, self.kept.intervals(), other.kept.intervals());
+        found.ok().map(|kept| Range { kept })
     }
 
     /// The smallest version that the range accepts, if it accepts any.
     pub fn min_version(&self) -> Option<Version> {
-        with_kept(&self.intervals, ffi::min_version).ok()
+        ffi::min_version(self.kept.intervals()).ok()
     }
 
     /// The greatest of some versions that the range accepts, the last of equal ones.
@@ -175,18 +180,52 @@ impl Range {
             .unwrap_or_else(|| versions.iter().filter(|it| self.satisfies(it)).min())
     }
 
-    /// The library's answer, unless a version has no text.
+    /// The library's answer about the versions in the window, unless one of them has an identifier
+    /// that no text spells.
     fn best<'v>(&self, versions: &'v [Version], is_greatest: bool) -> Option<Option<&'v Version>> {
-        let asked = versions
-            .iter()
-            .map(Version::kept_if_spelled)
-            .collect::<Option<Vec<Kept>>>()?;
-        match with_kept(&self.intervals, |range| {
-            ffi::best(range, &asked, is_greatest)
-        }) {
-            Ok(at) => Some(versions.get(at)),
+        let window = self.window(versions, is_greatest);
+        let asked: Vec<&Version> = versions.iter().filter(|it| window.has(it)).collect();
+        let kept = asked.iter().map(|it| it.is_spelled().then(|| it.kept()));
+        let kept = kept.collect::<Option<Vec<Kept>>>()?;
+        match ffi::best(self.kept.intervals(), &kept, is_greatest) {
+            Ok(at) => Some(asked.get(at).copied()),
             Err(ffi::NOTHING) => Some(None),
             Err(_) => None,
+        }
+    }
+
+    /// The numbers between which the best version lies, by what the library says of some of the
+    /// versions: one is accepted, so that none on its worse side is better, or it lies above or
+    /// below the range, and so do all beyond it.
+    fn window(&self, versions: &[Version], is_greatest: bool) -> Window {
+        let mut window = Window {
+            low: [0; 3],
+            high: [u64::MAX; 3],
+        };
+        if versions.len() < 2 * Window::SAMPLES {
+            return window;
+        }
+        let (part, mut at) = (versions.len() / Window::SAMPLES, 0);
+        for _ in 0..Window::SAMPLES {
+            at = (at + Window::STEP) % Window::SAMPLES;
+            if let Some(it) = versions.get(at * part).filter(|it| window.has(it)) {
+                self.narrow(&mut window, it, is_greatest);
+            }
+        }
+        window
+    }
+
+    fn narrow(&self, window: &mut Window, version: &Version, is_greatest: bool) {
+        let numbers = version.numbers();
+        if self.satisfies(version) {
+            match is_greatest {
+                true => window.low = numbers,
+                false => window.high = numbers,
+            }
+        } else if self.lies(version, true, true) {
+            window.high = numbers;
+        } else if self.lies(version, false, true) {
+            window.low = numbers;
         }
     }
 
@@ -199,32 +238,33 @@ impl Range {
         include_prerelease: bool,
     ) -> Result<bool, RangeError> {
         let is_higher = direction == OutsideDirection::Higher;
-        let asked = version.kept_if_spelled().and_then(|it| {
-            let ask =
-                |range: &[KeptInterval]| ffi::outside(range, &it, is_higher, include_prerelease);
-            with_kept(&self.intervals, ask).ok()
-        });
-        Ok(asked.unwrap_or_else(|| self.is_outside(version, is_higher, include_prerelease)))
+        Ok(self.lies(version, is_higher, include_prerelease))
+    }
+
+    fn lies(&self, version: &Version, is_higher: bool, include: bool) -> bool {
+        if version.is_spelled() {
+            let asked = &version.kept();
+            if let Ok(answer) = ffi::outside(self.kept.intervals(), asked, is_higher, include) {
+                return answer;
+            }
+        }
+        self.is_outside(version, is_higher, include)
     }
 
     /// The answer by the rules of this package.
+    #[cold]
     pub(crate) fn is_outside(&self, version: &Version, is_higher: bool, include: bool) -> bool {
         let is_away = |it: &Interval| match is_higher {
             true => it.ends_below(version),
             false => it.begins_above(version),
         };
-        !self.accepts(version, include) && self.intervals.iter().all(is_away)
-    }
-
-    #[cfg(test)]
-    pub(crate) fn intervals(&self) -> &[Interval] {
-        &self.intervals
+        !self.accepts(version, include) && self.intervals().iter().all(is_away)
     }
 }
 
 impl PartialEq for Range {
     fn eq(&self, other: &Range) -> bool {
-        self.intervals == other.intervals
+        self.kept.intervals() == other.kept.intervals()
     }
 }
 
@@ -232,13 +272,18 @@ impl Eq for Range {}
 
 impl Hash for Range {
     fn hash<H: Hasher>(&self, state: &mut H) {
-        self.intervals.hash(state);
+        self.kept.intervals().hash(state);
     }
 }
 
 impl fmt::Display for Range {
     fn fmt(&self, f: &mut fmt::Formatter<'_>) -> fmt::Result {
-        write_all(&self.intervals, "*", f)
+        let mut line = Line::new(f);
+        for (at, it) in self.kept.intervals().iter().enumerate() {
+            line.add(if at > 0 { "||" } else { "" })?;
+            it.add_to(&mut line)?;
+        }
+        line.end()
     }
 }
 

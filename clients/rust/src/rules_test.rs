@@ -58,6 +58,30 @@ impl Numbers {
         }
     }
 
+    /// A version as lists have them: of few numbers, so that many are equal.
+    fn listed(&mut self) -> String {
+        let pre = self.of(&["", "", "", "-a", "-a.1", "-rc.2"]);
+        let build = self.of(&["", "", "+b"]);
+        format!(
+            "{}.{}.{}{pre}{build}",
+            self.below(4),
+            self.below(6),
+            self.below(9)
+        )
+    }
+
+    /// A range over such versions.
+    fn choice(&mut self) -> String {
+        let parts: Vec<_> = (0..=self.below(3))
+            .map(|_| match self.below(4) {
+                0 => format!("{} - {}", self.listed(), self.listed()),
+                1 => format!("{}.x", self.below(4)),
+                _ => format!("{}{}", self.of(&["^", "~", ">=", "<", ""]), self.listed()),
+            })
+            .collect();
+        parts.join(" || ")
+    }
+
     fn range(&mut self) -> String {
         let mut parts = Vec::new();
         for _ in 0..=self.below(3) {
@@ -163,6 +187,27 @@ fn after(version: &Version) -> Option<Version> {
     Some(with_pre(numbers, pre, build))
 }
 
+/// The text of a range.
+fn printed(list: &[Interval]) -> String {
+    let one = |it: &Interval| match (&it.lower, &it.upper) {
+        (Bound::Closed(lower), Bound::Closed(upper)) if lower == upper => lower.to_string(),
+        (Bound::None, Bound::None) => "*".to_owned(),
+        (lower, upper) => {
+            let words = [with_sign(">", lower), with_sign("<", upper)];
+            words.into_iter().flatten().collect::<Vec<_>>().join(" ")
+        }
+    };
+    list.iter().map(one).collect::<Vec<_>>().join("||")
+}
+
+fn with_sign(sign: &str, bound: &Bound) -> Option<String> {
+    match bound {
+        Bound::None => None,
+        Bound::Closed(version) => Some(format!("{sign}={version}")),
+        Bound::Open(version) => Some(format!("{sign}{version}")),
+    }
+}
+
 /// The set operations, as their definitions have them.
 mod rules {
     use super::{Interval, Version};
@@ -233,7 +278,7 @@ fn questions_about_ranges() {
         let (Ok(range), Ok(other)) = (Range::parse(&one), Range::parse(&two)) else {
             continue;
         };
-        let (these, others) = (range.intervals(), other.intervals());
+        let (these, others) = (&range.intervals(), &other.intervals());
         assert_eq!(
             range.allows_all(&other),
             rules::allows_all(these, others),
@@ -245,7 +290,7 @@ fn questions_about_ranges() {
             "{one} {two}"
         );
         let shown = |it: Option<Range>| it.map(|it| it.to_string());
-        let by_rules = |it: Vec<_>| (!it.is_empty()).then(|| Range::of(it.into()).to_string());
+        let by_rules = |it: Vec<_>| (!it.is_empty()).then(|| printed(&it));
         let both = shown(range.intersect(&other));
         met += usize::from(both.is_some());
         assert_eq!(
@@ -267,6 +312,38 @@ fn questions_about_ranges() {
         );
     }
     assert!(met > ROUNDS / 10);
+}
+
+#[test]
+fn best_of_many() {
+    let mut numbers = Numbers(4);
+    let mut chosen = 0;
+    for round in 0..600 {
+        let count = [3, 31, 32, 100, 500][round % 5];
+        let mut versions: Vec<_> = (0..count)
+            .map(|_| Version::parse(numbers.listed()).unwrap())
+            .collect();
+        match round % 3 {
+            0 => versions.sort(),
+            1 => versions.sort_by(|one, other| other.cmp(one)),
+            _ => {}
+        }
+        let text = numbers.choice();
+        let Ok(range) = Range::parse(&text) else {
+            continue;
+        };
+        let accepted = || versions.iter().filter(|it| range.accepts(it, false));
+        // The last of the greatest ones, and the first of the smallest ones.
+        for (asked, wanted) in [
+            (range.max_satisfying(&versions), accepted().max()),
+            (range.min_satisfying(&versions), accepted().min()),
+        ] {
+            let at = |it: Option<&Version>| it.map(|it| it as *const Version);
+            assert_eq!(at(asked), at(wanted), "{text}");
+            chosen += usize::from(asked.is_some());
+        }
+    }
+    assert!(chosen > 600);
 }
 
 #[test]

@@ -1,9 +1,10 @@
 //! Versions.
 
 use crate::error::SemverError;
-use crate::ffi::{self, Kept, Read, Reading, Text};
+use crate::ffi::{self, Kept, Reading, Text};
 use crate::identifier::{list_of, text_of, Identifier};
-use crate::{Range, MAX_LENGTH, MAX_SAFE_INTEGER};
+use crate::line::{Line, Shown};
+use crate::Range;
 use std::cmp::Ordering;
 use std::fmt;
 use std::hash::{Hash, Hasher};
@@ -23,66 +24,23 @@ pub struct Version {
 /// The identifiers of a version.
 #[derive(Clone)]
 struct Lists {
-    // The text of the pre-release, and then that of the build.
-    text: Box<str>,
-    pre_release_len: usize,
-    // Whether the text spells the pre-release.
+    pre_text: Box<str>,
+    build_text: Box<str>,
+    // Whether the text spells the pre-release, and whether it spells the build.
     is_spelled: bool,
+    is_build_spelled: bool,
     // The lists, each once it is asked for.
     pre_release: OnceLock<Vec<Identifier>>,
     build: OnceLock<Vec<Identifier>>,
 }
 
 impl Lists {
-    fn texts(&self) -> (&str, &str) {
-        self.text.split_at(self.pre_release_len)
-    }
-
     fn pre_release(&self) -> &Vec<Identifier> {
-        self.pre_release.get_or_init(|| list_of(self.texts().0))
+        self.pre_release.get_or_init(|| list_of(&self.pre_text))
     }
 
     fn build(&self) -> &Vec<Identifier> {
-        self.build.get_or_init(|| list_of(self.texts().1))
-    }
-}
-
-/// A version text, as long as one that is read.
-pub(crate) struct Asked {
-    bytes: [u8; MAX_LENGTH],
-    len: usize,
-}
-
-impl Default for Asked {
-    fn default() -> Asked {
-        Asked {
-            bytes: [0; MAX_LENGTH],
-            len: 0,
-        }
-    }
-}
-
-impl Asked {
-    pub(crate) fn text(&self) -> &[u8] {
-        self.bytes.get(..self.len).unwrap_or_default()
-    }
-
-    fn add(&mut self, text: &[u8]) -> Option<()> {
-        let end = self.len.checked_add(text.len())?;
-        self.bytes.get_mut(self.len..end)?.copy_from_slice(text);
-        self.len = end;
-        Some(())
-    }
-
-    fn add_number(&mut self, mut number: u64) -> Option<()> {
-        let (mut digits, mut at) = ([b'0'; 20], 19);
-        while number > 9 {
-            digits[at] = b'0' + (number % 10) as u8;
-            number /= 10;
-            at -= 1;
-        }
-        digits[at] = b'0' + number as u8;
-        self.add(&digits[at..])
+        self.build.get_or_init(|| list_of(&self.build_text))
     }
 }
 
@@ -148,22 +106,17 @@ impl Version {
     ) -> Version {
         let numbers = [major, minor, patch];
         if pre_release.is_empty() && build.is_empty() {
-            return Version {
-                numbers,
-                lists: None,
-            };
+            return Version::release(numbers);
         }
-        let (mut text, is_spelled) = text_of(&pre_release);
-        let pre_release_len = text.len();
-        text.push_str(&text_of(&build).0);
-        let (pre_release, build) = (OnceLock::from(pre_release), OnceLock::from(build));
-        let text = text.into_boxed_str();
+        let (pre_text, is_spelled) = text_of(&pre_release);
+        let (build_text, is_build_spelled) = text_of(&build);
         let lists = Lists {
-            text,
-            pre_release_len,
+            pre_text: pre_text.into_boxed_str(),
+            build_text: build_text.into_boxed_str(),
             is_spelled,
-            pre_release,
-            build,
+            is_build_spelled,
+            pre_release: OnceLock::from(pre_release),
+            build: OnceLock::from(build),
         };
         Version {
             numbers,
@@ -190,25 +143,23 @@ impl Version {
         ffi::read(Reading::Npm, input.as_ref()).map_err(|_| SemverError)
     }
 
-    pub(crate) fn of(read: Read) -> Version {
-        let Read {
+    #[inline]
+    pub(crate) fn release(numbers: [u64; 3]) -> Version {
+        Version {
             numbers,
-            text,
-            pre_release_len,
-        } = read;
-        if text.is_empty() {
-            return Version {
-                numbers,
-                lists: None,
-            };
+            lists: None,
         }
-        let (pre_release, build) = (OnceLock::new(), OnceLock::new());
+    }
+
+    /// The version of some texts that spell their lists, of which one may be empty.
+    pub(crate) fn of_texts(numbers: [u64; 3], pre_release: &str, build: &str) -> Version {
         let lists = Lists {
-            text: text.into(),
-            pre_release_len,
+            pre_text: pre_release.into(),
+            build_text: build.into(),
             is_spelled: true,
-            pre_release,
-            build,
+            is_build_spelled: true,
+            pre_release: OnceLock::new(),
+            build: OnceLock::new(),
         };
         Version {
             numbers,
@@ -216,73 +167,58 @@ impl Version {
         }
     }
 
-    /// The version of a text that this package or the library printed. Its numbers may be any of 64
-    /// bits, and it may have any length.
-    pub(crate) fn of_printed(text: &str) -> Option<Version> {
-        let (rest, build) = text.split_once('+').unwrap_or((text, ""));
-        let (triple, pre_release) = rest.split_once('-').unwrap_or((rest, ""));
-        let mut words = triple.split('.').map(str::parse);
-        let mut next = || words.next()?.ok();
-        let numbers = [next()?, next()?, next()?];
-        let text = String::with_capacity(pre_release.len() + build.len()) + pre_release + build;
-        Some(Version::of(Read {
-            numbers,
-            text: &text,
-            pre_release_len: pre_release.len(),
-        }))
-    }
-
+    #[inline]
     pub(crate) fn numbers(&self) -> [u64; 3] {
         self.numbers
     }
 
     /// The text of the pre-release.
+    #[inline]
     pub(crate) fn pre_text(&self) -> &str {
-        self.lists.as_ref().map_or("", |it| it.texts().0)
+        self.lists.as_ref().map_or("", |it| &it.pre_text)
     }
 
     /// Whether its text spells the pre-release.
-    fn is_spelled(&self) -> bool {
+    #[inline]
+    pub(crate) fn is_spelled(&self) -> bool {
         self.lists.as_ref().map_or(true, |it| it.is_spelled)
     }
 
-    /// The version without its build, printed, if the library reads this version from that.
-    pub(crate) fn asked(&self) -> Option<Asked> {
-        let is_read = self.is_spelled() && self.numbers.iter().all(|it| *it <= MAX_SAFE_INTEGER);
-        let mut text = is_read.then(Asked::default)?;
-        for (at, number) in self.numbers.iter().enumerate() {
-            text.add(if at == 0 { b"" } else { b"." })?;
-            text.add_number(*number)?;
-        }
-        let pre = self.pre_text();
-        if !pre.is_empty() {
-            text.add(b"-")?;
-            text.add(pre.as_bytes())?;
-        }
-        Some(text)
-    }
-
-    /// The version as the library keeps one.
-    pub(crate) fn kept_whole(&self) -> Kept<'_> {
-        let build = self.lists.as_ref().map_or("", |it| it.texts().1);
-        Kept {
-            build: Text::of(build.as_bytes()),
+    /// The version as the library takes one, with its build, if its texts spell it.
+    pub(crate) fn kept_whole(&self) -> Option<Kept<'_>> {
+        let build = match &self.lists {
+            Some(lists) if lists.is_build_spelled => Text::of(&lists.build_text),
+            Some(_) => return None,
+            None => Text::EMPTY,
+        };
+        self.is_spelled().then(|| Kept {
+            build,
             ..self.kept()
+        })
+    }
+
+    /// The version as the library takes one, without its build. Its text spells it.
+    #[inline]
+    pub(crate) fn kept(&self) -> Kept<'_> {
+        let [major, minor, patch] = self.numbers;
+        Kept {
+            numbers: [major, minor, patch],
+            pre_release: Text::of(self.pre_text()),
+            build: Text::EMPTY,
         }
     }
 
-    /// The version as the library keeps one, without its build, if its text spells it.
-    pub(crate) fn kept_if_spelled(&self) -> Option<Kept<'_>> {
-        self.is_spelled().then(|| self.kept())
-    }
-
-    /// The version as the library keeps one, without its build.
-    fn kept(&self) -> Kept<'_> {
-        let (numbers, pre_release) = (self.numbers, Text::of(self.pre_text().as_bytes()));
-        Kept {
-            numbers,
-            pre_release,
-            build: Text::of(b""),
+    /// The version as it is printed. An identifier may have no characters.
+    fn shown(&self) -> Shown<'_> {
+        let lists = self.lists.as_deref();
+        let has_build = |it: &&Lists| match it.build.get() {
+            Some(list) => !list.is_empty(),
+            None => !it.build_text.is_empty(),
+        };
+        Shown {
+            numbers: self.numbers,
+            pre_release: self.is_prerelease().then(|| self.pre_text()),
+            build: lists.filter(has_build).map(|it| &*it.build_text),
         }
     }
 
@@ -316,7 +252,7 @@ impl Version {
         // A list of one empty identifier has an empty text.
         self.lists
             .as_ref()
-            .is_some_and(|it| it.pre_release_len > 0 || !it.is_spelled)
+            .is_some_and(|it| !it.pre_text.is_empty() || !it.is_spelled)
     }
 
     /// The components, by value.
@@ -397,6 +333,23 @@ impl Version {
         Version::new(major, minor, patch, pre_release, Vec::new())
     }
 
+    /// Whether two versions of the same three numbers have the same pre-release.
+    fn is_tie(&self, other: &Version) -> bool {
+        match self.is_spelled() && other.is_spelled() {
+            true => self.pre_text() == other.pre_text(),
+            false => self.pre_release() == other.pre_release(),
+        }
+    }
+
+    /// The order of two versions of the same three numbers.
+    fn cmp_tie(&self, other: &Version) -> Ordering {
+        match (self.is_prerelease(), other.is_prerelease()) {
+            (true, true) => self.cmp_pre_release(other),
+            // A pre-release is below its release.
+            (one, two) => two.cmp(&one),
+        }
+    }
+
     /// The order of two pre-releases of the same three numbers.
     fn cmp_pre_release(&self, other: &Version) -> Ordering {
         let own = || self.pre_release().cmp(other.pre_release());
@@ -408,29 +361,40 @@ impl Version {
     }
 }
 
+/// The order of the three numbers.
+#[inline]
+pub(crate) fn cmp_numbers(one: &[u64; 3], other: &[u64; 3]) -> Ordering {
+    let ([a, b, c], [d, e, f]) = (one, other);
+    match a.cmp(d) {
+        Ordering::Equal => b.cmp(e).then_with(|| c.cmp(f)),
+        order => order,
+    }
+}
+
 impl Ord for Version {
+    #[inline]
     fn cmp(&self, other: &Version) -> Ordering {
-        let numbers = self.numbers.cmp(&other.numbers);
-        numbers.then_with(|| match (self.is_prerelease(), other.is_prerelease()) {
-            (true, true) => self.cmp_pre_release(other),
-            // A pre-release is below its release.
-            (one, two) => two.cmp(&one),
-        })
+        match cmp_numbers(&self.numbers, &other.numbers) {
+            Ordering::Equal => self.cmp_tie(other),
+            order => order,
+        }
     }
 }
 
 impl PartialOrd for Version {
+    #[inline]
     fn partial_cmp(&self, other: &Version) -> Option<Ordering> {
         Some(self.cmp(other))
     }
 }
 
 impl PartialEq for Version {
+    #[inline]
     fn eq(&self, other: &Version) -> bool {
         self.numbers == other.numbers
-            && match self.is_spelled() && other.is_spelled() {
-                true => self.pre_text() == other.pre_text(),
-                false => self.pre_release() == other.pre_release(),
+            && match (&self.lists, &other.lists) {
+                (None, None) => true,
+                _ => self.is_tie(other),
             }
     }
 }
@@ -446,23 +410,9 @@ impl Hash for Version {
 
 impl fmt::Display for Version {
     fn fmt(&self, f: &mut fmt::Formatter<'_>) -> fmt::Result {
-        let [major, minor, patch] = self.numbers;
-        write!(f, "{major}.{minor}.{patch}")?;
-        let Some(lists) = &self.lists else {
-            return Ok(());
-        };
-        let (pre_release, build) = lists.texts();
-        if self.is_prerelease() {
-            write!(f, "-{pre_release}")?;
-        }
-        let has_build = match lists.build.get() {
-            Some(list) => !list.is_empty(),
-            None => !build.is_empty(),
-        };
-        if has_build {
-            write!(f, "+{build}")?;
-        }
-        Ok(())
+        let mut line = Line::new(f);
+        line.add_version(&self.shown())?;
+        line.end()
     }
 }
 
