@@ -1,7 +1,7 @@
 //! Ranges.
 
 use crate::error::{RangeError, SemverError};
-use crate::ffi::{self, IntervalParts, Kept, KeptRange, Operation, Reading};
+use crate::ffi::{self, IntervalParts, Kept, KeptInterval, KeptRange, Operation, Reading};
 use crate::interval::Interval;
 use crate::line::Line;
 use crate::version::cmp_numbers;
@@ -55,13 +55,38 @@ struct Window {
     high: [u64; 3],
 }
 
-impl Window {
-    /// How many versions are asked, to make it narrow.
-    const SAMPLES: usize = 16;
-    // From one of them to the next one. It is odd, so that each is met.
-    const STEP: usize = 7;
+/// Of so many versions some are asked, to leave out others.
+const MANY: usize = 16;
+const SAMPLES: usize = 16;
+// From one of them to the next one. It is odd, so that each is met.
+const STEP: usize = 7;
 
+impl Window {
+    /// That of what a range accepts: no lower bound has lower numbers, and no upper bound higher
+    /// ones.
+    fn of(range: &[KeptInterval]) -> Window {
+        let mut window = Window {
+            low: [u64::MAX; 3],
+            high: [0; 3],
+        };
+        for KeptInterval { lower, upper } in range {
+            // Without a bound these are zeros.
+            window.low = window.low.min(lower.version.numbers);
+            window.high = match upper.kind {
+                ffi::BOUND_NONE => [u64::MAX; 3],
+                _ => window.high.max(upper.version.numbers),
+            };
+        }
+        window
+    }
+
+    /// Whether the numbers of a version are in it. Mostly the first ones say so.
+    #[inline]
     fn has(&self, version: &Version) -> bool {
+        let major = version.major();
+        if major < self.low[0] || major > self.high[0] {
+            return false;
+        }
         let numbers = &version.numbers();
         cmp_numbers(&self.low, numbers).is_le() && cmp_numbers(numbers, &self.high).is_le()
     }
@@ -183,10 +208,17 @@ impl Range {
     /// The library's answer about the versions in the window, unless one of them has an identifier
     /// that no text spells.
     fn best<'v>(&self, versions: &'v [Version], is_greatest: bool) -> Option<Option<&'v Version>> {
-        let window = self.window(versions, is_greatest);
-        let asked: Vec<&Version> = versions.iter().filter(|it| window.has(it)).collect();
-        let kept = asked.iter().map(|it| it.is_spelled().then(|| it.kept()));
-        let kept = kept.collect::<Option<Vec<Kept>>>()?;
+        let mut window = Window::of(self.kept.intervals());
+        let mut asked = Vec::with_capacity(versions.len());
+        asked.extend(versions.iter().filter(|it| window.has(it)));
+        if asked.len() > MANY {
+            self.narrow(&mut window, &asked, is_greatest);
+            asked.retain(|it| window.has(it));
+        }
+        if !asked.iter().all(|it| it.is_spelled()) {
+            return None;
+        }
+        let kept: Vec<Kept> = asked.iter().map(|it| it.kept()).collect();
         match ffi::best(self.kept.intervals(), &kept, is_greatest) {
             Ok(at) => Some(asked.get(at).copied()),
             Err(ffi::NOTHING) => Some(None),
@@ -194,38 +226,19 @@ impl Range {
         }
     }
 
-    /// The numbers between which the best version lies, by what the library says of some of the
-    /// versions: one is accepted, so that none on its worse side is better, or it lies above or
-    /// below the range, and so do all beyond it.
-    fn window(&self, versions: &[Version], is_greatest: bool) -> Window {
-        let mut window = Window {
-            low: [0; 3],
-            high: [u64::MAX; 3],
-        };
-        if versions.len() < 2 * Window::SAMPLES {
-            return window;
-        }
-        let (part, mut at) = (versions.len() / Window::SAMPLES, 0);
-        for _ in 0..Window::SAMPLES {
-            at = (at + Window::STEP) % Window::SAMPLES;
-            if let Some(it) = versions.get(at * part).filter(|it| window.has(it)) {
-                self.narrow(&mut window, it, is_greatest);
+    /// Narrows a window by what the library says of some of the versions: where it accepts one,
+    /// none on its worse side is better.
+    fn narrow(&self, window: &mut Window, versions: &[&Version], is_greatest: bool) {
+        let (part, mut at) = (versions.len() / SAMPLES, 0);
+        for _ in 0..SAMPLES {
+            at = (at + STEP) % SAMPLES;
+            match versions.get(at * part) {
+                Some(it) if window.has(it) && self.satisfies(it) => match is_greatest {
+                    true => window.low = it.numbers(),
+                    false => window.high = it.numbers(),
+                },
+                _ => {}
             }
-        }
-        window
-    }
-
-    fn narrow(&self, window: &mut Window, version: &Version, is_greatest: bool) {
-        let numbers = version.numbers();
-        if self.satisfies(version) {
-            match is_greatest {
-                true => window.low = numbers,
-                false => window.high = numbers,
-            }
-        } else if self.lies(version, true, true) {
-            window.high = numbers;
-        } else if self.lies(version, false, true) {
-            window.low = numbers;
         }
     }
 

@@ -223,16 +223,19 @@ impl Version {
     }
 
     /// The first number.
+    #[inline]
     pub fn major(&self) -> u64 {
         self.numbers[0]
     }
 
     /// The second number.
+    #[inline]
     pub fn minor(&self) -> u64 {
         self.numbers[1]
     }
 
     /// The third number.
+    #[inline]
     pub fn patch(&self) -> u64 {
         self.numbers[2]
     }
