@@ -7,7 +7,7 @@
 #include "nodejs_semver.h"
 
 /* A text of fewer bytes than FEW needs no block of the heap. */
-enum { MOST_TEXTS = 3, MOST_ARGUMENTS = 4, FEW = 128, LONGEST_CHARACTER = 4 };
+enum { MOST_TEXTS = 3, MOST_ARGUMENTS = 5, FEW = 128, LONGEST_CHARACTER = 4 };
 typedef struct { nodejs_semver_text texts[MOST_TEXTS]; char few[MOST_TEXTS][FEW]; napi_value others[MOST_ARGUMENTS]; bool failed; } arguments;
 
 static const char *const MESSAGES[] = {
@@ -84,6 +84,12 @@ static bool flag(napi_env env, napi_value value)
     return is_true;
 }
 
+/* npm's reading, strict or loose by the argument at a place, which may be missing. */
+static uint32_t reading(napi_env env, const arguments *given, size_t at)
+{
+    return flag(env, given->others[at]) ? NODEJS_SEMVER_READING_NPM_LOOSE : NODEJS_SEMVER_READING_NPM;
+}
+
 /* Some numbers, as an array. */
 static napi_value list_of(napi_env env, const double *numbers, uint32_t count)
 {
@@ -112,13 +118,13 @@ static nodejs_semver_bound kept_bound(const nodejs_semver_bound_parts *told, con
 /* Prints a range, read with pre-releases included or without. With them it is read and kept, since a
    text is printed as it is read without them. */
 static nodejs_semver_status print_range(
-    nodejs_semver_text it, bool pre, char *out, size_t size, size_t *len)
+    uint32_t read, nodejs_semver_text it, bool pre, char *out, size_t size, size_t *len)
 {
     if (!pre)
-        return nodejs_semver_range_print(NPM, it.at, it.len, out, size, len);
+        return nodejs_semver_range_print(read, it.at, it.len, out, size, len);
     size_t count, bytes;
     nodejs_semver_status status =
-        nodejs_semver_range_read(NPM, it.at, it.len, true, NULL, 0, &count, NULL, 0, &bytes);
+        nodejs_semver_range_read(read, it.at, it.len, true, NULL, 0, &count, NULL, 0, &bytes);
     if (status != NODEJS_SEMVER_TOO_SMALL)
         return status;
     nodejs_semver_interval_parts *told = malloc(count * sizeof *told);
@@ -128,7 +134,7 @@ static nodejs_semver_status print_range(
     status = NODEJS_SEMVER_NO_MEMORY;
     if (told && kept && texts)
         status = nodejs_semver_range_read(
-            NPM, it.at, it.len, true, told, count, &count, texts, bytes, &bytes);
+            read, it.at, it.len, true, told, count, &count, texts, bytes, &bytes);
     if (status == NODEJS_SEMVER_OK) {
         for (size_t nth = 0; nth < count; nth++) {
             kept[nth].lower = kept_bound(&told[nth].lower, &at);
@@ -143,6 +149,9 @@ static nodejs_semver_status print_range(
 }
 
 #define TEXT(nth) given.texts[nth].at, given.texts[nth].len
+#define FLAG(nth) flag(env, given.others[nth])
+/* The reading by the flag at a place. */
+#define READ(nth) reading(env, &given, nth)
 
 /* A function that prints: CALL has OUT, SIZE and LEN in it. OTHERWISE says what it returns where it has no text. */
 #define PRINTS(name, count, OTHERWISE, CALL)                                                                                     \
@@ -175,18 +184,17 @@ PRINTS(inc, 3, null_or_thrown, nodejs_semver_version_inc(NPM, TEXT(0), TEXT(1), 
 PRINTS(intersect, 2, null_or_thrown, nodejs_semver_range_intersect(NPM, TEXT(0), TEXT(1), out, size, &len))
 PRINTS(subtract, 2, null_or_thrown, nodejs_semver_range_difference(NPM, TEXT(0), TEXT(1), out, size, &len))
 PRINTS(min_version, 1, null_or_thrown, nodejs_semver_range_min_version(NPM, TEXT(0), out, size, &len))
-PRINTS(try_min_version, 1, null_or_undefined, nodejs_semver_range_min_version(NPM, TEXT(0), out, size, &len))
+PRINTS(try_min_version, 1, null_or_undefined, nodejs_semver_range_min_version(READ(1), TEXT(0), out, size, &len))
 PRINTS(try_range, 1, null_or_undefined,
-    print_range(given.texts[0], flag(env, given.others[1]), out, size, &len))
+    print_range(READ(2), given.texts[0], FLAG(1), out, size, &len))
 PRINTS(try_union, 2, null_or_undefined,
     nodejs_semver_range_union(NPM, TEXT(0), TEXT(1), out, size, &len))
 PRINTS(try_intersect, 2, null_or_undefined,
-    nodejs_semver_range_intersect(NPM, TEXT(0), TEXT(1), out, size, &len))
+    nodejs_semver_range_intersect(READ(2), TEXT(0), TEXT(1), out, size, &len))
 PRINTS(try_difference, 2, null_or_undefined,
     nodejs_semver_range_difference(NPM, TEXT(0), TEXT(1), out, size, &len))
 PRINTS(try_clean, 1, null_or_undefined, nodejs_semver_version_clean(TEXT(0), out, size, &len))
-PRINTS(try_coerce, 1, null_or_undefined, nodejs_semver_version_coerce(TEXT(0), flag(env, given.others[1]), flag(env, given.others[2]),
-    flag(env, given.others[3]), out, size, &len))
+PRINTS(try_coerce, 1, null_or_undefined, nodejs_semver_version_coerce(TEXT(0), FLAG(1), FLAG(2), FLAG(3), out, size, &len))
 
 /* The base of an increment is the fourth argument: 0, 1, or another number for none. */
 static uint32_t base_of(napi_env env, napi_value value)
@@ -222,14 +230,13 @@ PRINTS(try_inc, 3, null_or_undefined,
 #define TELLS(name, OTHERWISE, CALL) ANSWERS(name, 2, bool, napi_get_boolean, OTHERWISE, CALL)
 
 COUNTS(compare, int32_t, null_or_thrown, nodejs_semver_version_compare(NPM, TEXT(0), TEXT(1), &found))
-COUNTS(try_compare, int32_t, null_or_undefined, nodejs_semver_version_compare(NPM, TEXT(0), TEXT(1), &found))
-COUNTS(try_compare_build, int32_t, null_or_undefined, nodejs_semver_version_compare_build(NPM, TEXT(0), TEXT(1), &found))
+COUNTS(try_compare, int32_t, null_or_undefined, nodejs_semver_version_compare(READ(2), TEXT(0), TEXT(1), &found))
+COUNTS(try_compare_build, int32_t, null_or_undefined, nodejs_semver_version_compare_build(READ(2), TEXT(0), TEXT(1), &found))
 COUNTS(try_diff, uint32_t, null_or_undefined, nodejs_semver_version_diff(NPM, TEXT(0), TEXT(1), &found))
-TELLS(satisfies, null_or_thrown, nodejs_semver_range_satisfies(NPM, TEXT(0), TEXT(1), flag(env, given.others[2]), &found))
-TELLS(try_satisfies, null_or_undefined, nodejs_semver_range_satisfies(NPM, TEXT(0), TEXT(1), flag(env, given.others[2]), &found))
-TELLS(try_outside, null_or_undefined,
-    nodejs_semver_range_outside(NPM, TEXT(0), TEXT(1), flag(env, given.others[2]), flag(env, given.others[3]), &found))
-TELLS(try_subset, null_or_undefined, nodejs_semver_range_is_subset(NPM, TEXT(0), TEXT(1), flag(env, given.others[2]), &found))
+TELLS(satisfies, null_or_thrown, nodejs_semver_range_satisfies(NPM, TEXT(0), TEXT(1), FLAG(2), &found))
+TELLS(try_satisfies, null_or_undefined, nodejs_semver_range_satisfies(READ(3), TEXT(0), TEXT(1), FLAG(2), &found))
+TELLS(try_outside, null_or_undefined, nodejs_semver_range_outside(READ(4), TEXT(0), TEXT(1), FLAG(2), FLAG(3), &found))
+TELLS(try_subset, null_or_undefined, nodejs_semver_range_is_subset(READ(3), TEXT(0), TEXT(1), FLAG(2), &found))
 
 /* What is wrong with a version text, and its place: the kind and the byte. */
 typedef struct { uint32_t kind; size_t place; } version_flaw;
@@ -248,9 +255,9 @@ static void make_range_flaw(napi_env env, nodejs_semver_alternative found, napi_
 ANSWERS(try_version_flaw, 1, version_flaw, make_version_flaw, null_or_undefined,
     nodejs_semver_version_npm_flaw(TEXT(0), &found.kind, &found.place))
 ANSWERS(try_range_flaw, 1, nodejs_semver_alternative, make_range_flaw, null_or_undefined,
-    nodejs_semver_range_npm_flaw(TEXT(0), flag(env, given.others[1]), &found))
+    nodejs_semver_range_npm_flaw(TEXT(0), FLAG(1), &found))
 
-/* The text of the pre-release of a version. Its numbers go into the second argument, a Float64Array of three. */
+/* The text of the pre-release of a version, read loosely by the third argument. Its numbers go into the second one, a Float64Array of three. */
 static napi_value try_read(napi_env env, napi_callback_info info)
 {
     arguments given;
@@ -268,11 +275,11 @@ static napi_value try_read(napi_env env, napi_callback_info info)
         napi_throw_type_error(env, NULL, "an array of three numbers expected");
         return NULL;
     }
-    nodejs_semver_status status = nodejs_semver_version_read(NPM, TEXT(0), &parts, out, sizeof few);
+    nodejs_semver_status status = nodejs_semver_version_read(READ(2), TEXT(0), &parts, out, sizeof few);
     if (status == NODEJS_SEMVER_TOO_SMALL) {
         size_t size = parts.pre_release_len + parts.build_len;
         out = malloc(size);
-        status = out ? nodejs_semver_version_read(NPM, TEXT(0), &parts, out, size) : NODEJS_SEMVER_NO_MEMORY;
+        status = out ? nodejs_semver_version_read(READ(2), TEXT(0), &parts, out, size) : NODEJS_SEMVER_NO_MEMORY;
     }
     if (status == NODEJS_SEMVER_OK) {
         numbers[0] = (double)parts.major;

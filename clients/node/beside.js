@@ -24,7 +24,7 @@ const VERSIONS = (
   "1.0.0-alpha.beta 1.0.0-beta 1.0.0-beta.2 1.0.0-beta.11 1.0.0-rc.1 1.0.0 2.0.0 2.0.0-pre " +
   "1.2.3+build 0.0.0 0.0.0-0 9007199254740991.0.0 9007199254740992.0.0 1.2.3-9007199254740990 " +
   "1.2 1 x 01.2.3 1.2.3beta 1.2.3-01 1.2.3.4 1.2.3- 1.2.3+ V1.2.3 1.2.3+001 0.7.2-beta 3.4.5 " +
-  "1.9.9 5.0.0-a"
+  "1.9.9 5.0.0-a =v1.2.3 1.2.3-rc.01.a 1.2.3-009007199254740993 01.2.3-a+b"
 ).split(" ");
 const RANGES = [
   "1.0.0 - 2.0.0", "1 - 2", "1.2 - 3.4.5", "1.2.3 - 3.4", "1.2 - 1.4 >=1.3.0", "* - 2", "<=2.0",
@@ -33,25 +33,31 @@ const RANGES = [
   ">=0.2.3 || <0.0.1", "^1.x.3", "=x", "~x", "==1", "> 1foo", ">1|2", "x - x", "", "*", "||",
   "1.2.3||", ">2 <1", "foo", "foo 1.2.3", "<=x", "^1.2.3-rc.4", ">=3.3.0-beta.1 <3.4.0-beta.3",
   "^1 || ^2", "<0.0.0-0", ">1.0.0 <1.0.1-5", ">=0.0.0", "<1.0.0-0", ">=1.0.0, <2.0.0", "latest",
+  ">=01.2.3", "1.2.3 foo || bar", "^1.2.3beta || >02", "= v1.2.3 - 2.0.0rc", "foo || *",
 ];
 const OTHERS = [null, undefined, 5, true, {}, [], ""];
 const IDENTIFIERS = ["0", "1", "01", "10", "a", "b", "a-b", "-", "A", "-1", "a b", "", 0, 5];
 const INCREMENTS = "major minor patch premajor preminor prepatch prerelease pre other".split(" ");
 const SIGNS = ["", "=", "==", "===", "!=", "!==", ">", ">=", "<", "<=", "~"];
 const PRE = { includePrerelease: true };
-const OPTIONS = [undefined, undefined, {}, PRE, PRE, { loose: true }, true];
-// An object shows that it was made loosely.
-const OF_OBJECTS = [undefined, {}, PRE];
+const LOOSE = { loose: true };
+const BOTH = { ...LOOSE, ...PRE };
+const OPTIONS = [undefined, undefined, {}, PRE, PRE, LOOSE, true, BOTH];
 
 const number = () => one(["0", "0", "1", "1", "2", "3", "10"]);
 const tail = () => one(["", "", "", "-0", "-1", "-a", "-a.0", "-a.b", "-rc.1"]);
 const triple = () => `${number()}.${number()}.${number()}`;
-const version = () => triple() + tail() + one(["", "", "", "+b", "+b.1"]);
+const build = () => one(["", "", "", "+b", "+b.1"]);
+// What the loose reading alone takes.
+const looseTriple = () => one(["", "v ", "=", "v="]) + one(["", "0"]) + triple();
+const loose = () => looseTriple() + one(["", "-01", "beta", "rc.1", "-a.00"]) + build();
+const version = () => (below(6) === 0 ? loose() : triple() + tail() + build());
 const wildcard = () => one(["x", "*", "1.x", "1.2.x"]);
 const short = () => one([number, () => `${number()}.${number()}`, wildcard])();
 const partial = () => one([version, short])();
 const sign = () => one(["", "^", "~", ">=", ">", "<", "<=", "="]);
-const word = () => (below(8) === 0 ? `${partial()} - ${partial()}` : sign() + partial());
+const plain = () => (below(8) === 0 ? `${partial()} - ${partial()}` : sign() + partial());
+const word = () => (below(20) === 0 ? one(["foo", "1foo", "~v 01.2", ">1|2"]) : plain());
 const some = (most, make, between) => Array.from({ length: 1 + below(most) }, make).join(between);
 const range = () => some(3, () => some(2, word, " "), one(["||", " || "]));
 const comparator = () => one([">=", ">", "<", "<=", "=", ""]) + one([version, version, short])();
@@ -91,7 +97,7 @@ const CALLS = {
   SEMVER_SPEC_VERSION: (it) => it.SEMVER_SPEC_VERSION,
   SemVer: (it, ...given) => fieldsOf(new it.SemVer(...given)),
   "SemVer orders": (it, v, w, options) => ORDERS.map((name) => new it.SemVer(v, options)[name](w)),
-  "SemVer inc": (it, v, ...given) => fieldsOf(new it.SemVer(v).inc(...given)),
+  "SemVer inc": (it, v, options, ...given) => fieldsOf(new it.SemVer(v, options).inc(...given)),
   Comparator: (it, ...given) => fieldsOf(new it.Comparator(...given)),
   "Comparator test": (it, text, v, options) => new it.Comparator(text, options).test(v),
   "Comparator intersects": (it, text, other, options) =>
@@ -105,6 +111,12 @@ const CALLS = {
   "Range of Comparator": (it, text) => String(new it.Range(new it.Comparator(text))),
   "Range intersects": (it, text, other, options) =>
     new it.Range(text, options).intersects(new it.Range(other, options), options),
+  // One of them is read loosely, and the other is not.
+  "Range intersects, mixed": (it, text, other) =>
+    new it.Range(text, LOOSE).intersects(new it.Range(other)),
+  // Of a version with other options the build does not count.
+  "compareBuild of objects": (it, v, w, options) =>
+    it.compareBuild(new it.SemVer(v, LOOSE), new it.SemVer(w), options),
 };
 
 // What a call returns, or the kind of its error.
@@ -124,8 +136,10 @@ function answer(library, name, given) {
 const accepted = (text, options) => POOL.map((it) => there.satisfies(it, text, options));
 
 // Whether two ranges have a version in common is held to versions at their bounds.
-function inCommon(mine, other, [one, two, options]) {
-  const ranges = rangesOf(options, one, two);
+const inCommon = (mine, other, [text, to, options]) =>
+  inCommonOf(mine, [text, options], [to, options]);
+function inCommonOf(mine, ...given) {
+  const ranges = given.map((it) => new there.Range(...it));
   const isThere = versionsAbout(ranges).some((it) => ranges.every((range) => range.test(it)));
   return mine === isThere && "what two ranges have in common";
 }
@@ -143,6 +157,7 @@ const KINDS = {
   },
   intersects: inCommon,
   "Range intersects": inCommon,
+  "Range intersects, mixed": (mine, other, [text, to]) => inCommonOf(mine, [text, LOOSE], [to]),
   "Comparator intersects": inCommon,
   "Range of Comparator": (mine, other, [text]) => KINDS.validRange(mine, other, [text]),
   subset(mine, other, [sub, text, options]) {
@@ -188,16 +203,19 @@ const PAGE = fs.readFileSync(path.join(__dirname, "../../docs/NODE_CLIENT.md"), 
 const isTold = (kind) => PAGE.includes(`\n| ${kind} | `);
 
 const isLoose = (it) => it === true || it?.loose === true;
-const strictly = (it) => (isLoose(it) ? undefined : it);
+const ZEROS = /(["\-.])0+(\d{16})/g;
+const withoutZeros = (it) => JSON.stringify(it)?.replace(ZEROS, "$1$2");
 
-// The kind of a difference. A text that the loose reading takes is answered here as by the strict
-// one.
+// What is asked loosely without an option.
+const LOOSELY = ["compareLoose", "compareBuild of objects", "Range intersects, mixed"];
+
+// The kind of a difference. What node-semver reads with a long number it may not read again.
 function kindOf(name, given, mine, other) {
-  const isStrict = () => same(mine, answer(there, "compare", given));
-  if (name === "compareLoose" && isStrict()) return "option `loose`";
-  if (!given.some(isLoose)) return KINDS[name]?.(mine, other, given);
-  const strict = given.map(strictly), said = answer(there, name, strict);
-  return same(mine, said) ? "option `loose`" : KINDS[name]?.(mine, said, strict);
+  const isRead = LOOSELY.includes(name) || given.some(isLoose);
+  const isSame = other === "TypeError" || withoutZeros(mine) === withoutZeros(other);
+  if (isRead && isSame && withoutZeros(given) !== JSON.stringify(given))
+    return "a leading zero of a long number, read loosely";
+  return KINDS[name]?.(mine, other, given);
 }
 
 const counts = new Map(), calls = new Map();
@@ -226,26 +244,27 @@ function ofPair(v, w) {
   for (const name of OF_TWO) ask(name, v, w, one(OPTIONS));
   for (const name of ["diff", "compareLoose"]) ask(name, v, w);
   ask("cmp", v, one(SIGNS), w, one(OPTIONS));
-  ask("SemVer orders", v, w, one(OF_OBJECTS));
+  ask("SemVer orders", v, w, one(OPTIONS));
+  ask("compareBuild of objects", v, w, one(OPTIONS));
 }
 
 function ofVersion(v) {
   for (const name of OF_ONE) ask(name, v, one(OPTIONS));
-  ask("SemVer", v, one(OF_OBJECTS));
+  ask("SemVer", v, one(OPTIONS));
   const text = typeof v === "string" ? `a ${v} b ${number()}` : v;
-  for (const options of [PRE, { rtl: true }, { rtl: true, ...PRE }, { loose: true }])
+  for (const options of [PRE, { rtl: true }, { rtl: true, ...PRE }, LOOSE])
     ask("coerce", text, options);
   for (const release of INCREMENTS) {
     const [identifier, base] = [one(["a", "rc", "beta"]), one([undefined, false, "0", "1", 0, 1])];
     ask("inc", v, release);
     ask("inc", v, release, identifier, base);
     ask("inc", v, release, PRE, one(["a", "rc"]));
-    ask("SemVer inc", v, release, identifier, base);
+    ask("SemVer inc", v, one(OPTIONS), release, identifier, base);
   }
 }
 
 function ofComparators(text, v, other) {
-  const options = one(OF_OBJECTS);
+  const options = one(OPTIONS);
   ask("Comparator", text, options);
   ask("Comparator test", text, v, options);
   ask("Comparator intersects", text, other, options);
@@ -262,11 +281,12 @@ function ofRanges(text, v, w, other) {
     for (const name of ["validRange", "toComparators", "minVersion"]) ask(name, text, options);
     for (const name of ["intersects", "subset"]) ask(name, text, other, options);
   }
-  const options = one(OF_OBJECTS);
+  const options = one(OPTIONS);
   ask("Range", text, options);
   ask("Range test", text, v, options);
   ask("Range satisfies", text, v, options);
   ask("Range intersects", text, other, options);
+  ask("Range intersects, mixed", text, other);
   ask("satisfies", one(OTHERS), text);
   if (typeof text === "string") ask("simplifyRange", POOL.slice(below(40)), text, options);
 }
@@ -331,7 +351,7 @@ const BESIDE_ALL = [
 ];
 
 function ofSetsOfTexts(...texts) {
-  const options = one([undefined, PRE, { loose: true }, { loose: true, ...PRE }]);
+  const options = one([undefined, PRE, LOOSE, BOTH]);
   if (texts.every((it) => there.validRange(it, options))) ofSets(...rangesOf(options, ...texts));
 }
 
@@ -342,7 +362,7 @@ for (const v of [...VERSIONS, ...OTHERS]) {
   for (const w of [...VERSIONS, ...OTHERS]) ofPair(v, w);
 }
 for (const texts of BESIDE_ALL)
-  for (const options of OF_OBJECTS) ofSets(...rangesOf(options, ...texts));
+  for (const options of [undefined, {}, PRE]) ofSets(...rangesOf(options, ...texts));
 for (const text of [...RANGES, ...OTHERS]) {
   for (let at = 0; at < 10; at++) {
     ofRanges(text, one(VERSIONS), version(), one(RANGES));

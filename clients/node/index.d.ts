@@ -1,4 +1,4 @@
-/** Options of a question. `loose` is taken and changes no answer: texts are read strictly. */
+/** Options of a question. With `loose` texts are read as node-semver reads them loosely. */
 export interface Options {
   loose?: boolean | undefined;
   includePrerelease?: boolean | undefined;
@@ -13,6 +13,7 @@ export type ReleaseType = "major" | "premajor" | "minor" | "preminor" | "patch" 
 /** What a new pre-release begins to count with; `false` for no number. */
 export type IdentifierBase = "0" | "1" | 0 | 1 | false;
 export type Operator = "===" | "!==" | "" | "=" | "==" | "!=" | ">" | ">=" | "<" | "<=";
+/** `true` stands for the option `loose`. */
 type Given = boolean | Options | undefined;
 type Order = -1 | 0 | 1;
 
@@ -99,7 +100,7 @@ export function prerelease(version: string | SemVer, options?: Given): ReadonlyA
 export function compare(one: string | SemVer, two: string | SemVer, options?: Given): Order;
 export function rcompare(one: string | SemVer, two: string | SemVer, options?: Given): Order;
 export function compareBuild(one: string | SemVer, two: string | SemVer, options?: Given): Order;
-/** The same as `compare`: texts are read strictly. */
+/** The same as `compare` with the option `loose`. */
 export function compareLoose(one: string | SemVer, two: string | SemVer): Order;
 export function compareIdentifiers(one: string | number, two: string | number): Order;
 export function rcompareIdentifiers(one: string | number, two: string | number): Order;

@@ -5,9 +5,13 @@ const fs = require("fs");
 const { shared } = require("./shared.js");
 const { Library, NPM, Refused, WITHOUT } = shared("library.js");
 
+const NPM_LOOSE = 2;
 const OK = 0, TOO_SMALL = 2, NO_MEMORY = 10, TOO_LONG = 11;
 const MESSAGES = ["", "", "", "not UTF-8", "bad version", "bad range", "bad argument", "bad identifier", "not a prerelease", "overflow", "out of memory", "too long"];
 const BASE_ZERO = 0;
+
+// npm's reading, strict or loose.
+const by = (loose) => (loose ? NPM_LOOSE : NPM);
 
 // How many words of 64 bits a bound has as it is told, and as it is kept.
 const TOLD = 6, KEPT = 8;
@@ -27,11 +31,11 @@ class Module extends Library {
 
   // The text of a range, read with pre-releases included or without. With them it is read and kept,
   // since a text is printed as it is read without them.
-  range(text, pre) {
-    if (!pre) return this.text("range_print", NPM, [text]);
+  range(text, pre, reading) {
+    if (!pre) return this.text("range_print", reading, [text]);
     const read = (told, size, at, room) => {
       const count = this.answer, length = this.answer + 8n;
-      return this.ask("range_read", NPM, [text], 1, told, size, count, at, room, length);
+      return this.ask("range_read", reading, [text], 1, told, size, count, at, room, length);
     };
     const status = read(0n, 0n, 0n, 0n);
     if (status !== TOO_SMALL) throw new Refused(status);
@@ -60,8 +64,8 @@ class Module extends Library {
   }
 
   // The text of the pre-release of a version, whose numbers go into an array.
-  read(version, numbers) {
-    const status = this.ask("version_read", NPM, [version], this.answer, this.written, this.room);
+  read(version, numbers, reading) {
+    const status = this.ask("version_read", reading, [version], this.answer, this.written, this.room);
     if (status !== OK) throw new Refused(status);
     const parts = Array.from(this.numbers(this.answer, 4), Number);
     numbers.set(parts.slice(0, 3));
@@ -100,20 +104,20 @@ function open(file) {
     intersect: (one, two) => strict(() => it.text("range_intersect", NPM, [one, two])),
     subtract: (one, two) => strict(() => it.text("range_difference", NPM, [one, two])),
     minVersion: (range) => strict(() => it.text("range_min_version", NPM, [range])),
-    tryRead: (version, numbers) => attempt(() => it.read(version, numbers)),
-    tryCompare: (one, two) => attempt(() => it.number("version_compare", NPM, [one, two])),
-    tryCompareBuild: (one, two) => attempt(() => it.number("version_compare_build", NPM, [one, two])),
+    tryRead: (version, numbers, loose) => attempt(() => it.read(version, numbers, by(loose))),
+    tryCompare: (one, two, loose) => attempt(() => it.number("version_compare", by(loose), [one, two])),
+    tryCompareBuild: (one, two, loose) => attempt(() => it.number("version_compare_build", by(loose), [one, two])),
     tryDiff: (one, two) => attempt(() => it.number("version_diff", NPM, [one, two])),
     tryInc: (version, word, identifier, base) => attempt(() => inc(version, word, identifier, base)),
     tryClean: (version) => attempt(() => it.text("version_clean", WITHOUT, [version])),
     tryCoerce: (text, ...flags) => attempt(() => it.text("version_coerce", WITHOUT, [text], ...flags.map(Number))),
-    tryRange: (range, pre) => attempt(() => it.range(range, pre)),
-    trySatisfies: (range, version, pre) => attempt(() => it.flag("range_satisfies", NPM, [range, version], pre)),
-    tryOutside: (range, version, above, pre) => attempt(() => it.flag("range_outside", NPM, [range, version], above, pre)),
-    tryMinVersion: (range) => attempt(() => it.text("range_min_version", NPM, [range])),
-    trySubset: (one, two, pre) => attempt(() => it.flag("range_is_subset", NPM, [one, two], pre)),
+    tryRange: (range, pre, loose) => attempt(() => it.range(range, pre, by(loose))),
+    trySatisfies: (range, version, pre, loose) => attempt(() => it.flag("range_satisfies", by(loose), [range, version], pre)),
+    tryOutside: (range, version, above, pre, loose) => attempt(() => it.flag("range_outside", by(loose), [range, version], above, pre)),
+    tryMinVersion: (range, loose) => attempt(() => it.text("range_min_version", by(loose), [range])),
+    trySubset: (one, two, pre, loose) => attempt(() => it.flag("range_is_subset", by(loose), [one, two], pre)),
     tryUnion: (one, two) => attempt(() => it.text("range_union", NPM, [one, two])),
-    tryIntersect: (one, two) => attempt(() => it.text("range_intersect", NPM, [one, two])),
+    tryIntersect: (one, two, loose) => attempt(() => it.text("range_intersect", by(loose), [one, two])),
     tryDifference: (one, two) => attempt(() => it.text("range_difference", NPM, [one, two])),
     tryVersionFlaw: (version) => attempt(() => it.versionFlaw(version)),
     tryRangeFlaw: (range, pre) => attempt(() => it.rangeFlaw(range, pre)),

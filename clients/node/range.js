@@ -32,7 +32,7 @@ class Comparator extends WithOptions {
   parse(text) {
     const [sign] = /^[<>]?=?/.exec(text);
     this.operator = sign === "=" ? "" : sign;
-    this.semver = text === "" ? ANY : parse(text.slice(sign.length).trim());
+    this.semver = text === "" ? ANY : parse(text.slice(sign.length).trim(), this.options.loose);
     if (this.semver === null) throw new TypeError(`Invalid comparator: ${text}`);
   }
 
@@ -44,7 +44,7 @@ class Comparator extends WithOptions {
   test(version) {
     if (this.semver === ANY || version === ANY) return true;
     const found = typeof version === "string" ? parse(version, this.options) : version;
-    return found !== null && cmp(found, this.operator, this.semver);
+    return found !== null && cmp(found, this.operator, this.semver, this.options);
   }
 
   // Whether a version satisfies both, as ranges.
@@ -64,7 +64,7 @@ class Range extends WithOptions {
       range = range.raw;
     }
     this.raw = spaced(range instanceof Comparator ? range.value : range, "SemVer Range");
-    const printed = addon().tryRange(this.raw, this.includePrerelease);
+    const printed = addon().tryRange(this.raw, this.includePrerelease, this.loose);
     if (printed === undefined) throw new TypeError(`Invalid SemVer Range: ${this.raw}`);
     this.range = printed === "*" ? "" : printed;
   }
@@ -87,7 +87,7 @@ class Range extends WithOptions {
     const text = textOf(version);
     return (
       typeof text === "string" &&
-      addon().trySatisfies(this.raw, text, this.includePrerelease) === true
+      addon().trySatisfies(this.raw, text, this.includePrerelease, this.loose) === true
     );
   }
 
@@ -100,11 +100,11 @@ class Range extends WithOptions {
   }
 }
 
-// Whether a version satisfies two ranges, where that is soon told: without pre-releases included, by
-// the smallest version of what their texts have in common. Else undefined.
+// Whether a version satisfies two ranges, where that is soon told: both read alike and without
+// pre-releases included, by the smallest version of what they have in common. Else undefined.
 function commonSoon([one, two]) {
-  if (one.includePrerelease || two.includePrerelease) return undefined;
-  const common = addon().tryIntersect(one.raw, two.raw);
+  if (one.includePrerelease || two.includePrerelease || one.loose !== two.loose) return undefined;
+  const common = addon().tryIntersect(one.raw, two.raw, one.loose);
   if (common === null) return false;
   const least = addon().tryMinVersion(common);
   return (typeof least === "string" && one.test(least) && two.test(least)) || undefined;
@@ -129,8 +129,9 @@ function satisfyingAll(ranges) {
 function satisfies(version, range, options) {
   const text = textOf(version);
   if (typeof range === "string" && typeof text === "string") {
-    const { includePrerelease } = optionsOf(options);
-    return addon().trySatisfies(range, text, Boolean(includePrerelease)) === true;
+    const { includePrerelease, loose } = optionsOf(options);
+    const flags = [includePrerelease, loose].map(Boolean);
+    return addon().trySatisfies(range, text, ...flags) === true;
   }
   return orNull(() => new Range(range, options).test(version)) ?? false;
 }
@@ -141,7 +142,8 @@ const validRange = (range, options) => orNull(() => new Range(range, options).ra
 function best(versions, range, options, isBetter) {
   const found = orNull(() => new Range(range, options));
   if (found === null) return null;
-  const better = (chosen, it) => (chosen === null || isBetter(compare(it, chosen)) ? it : chosen);
+  const isFirst = (it, chosen) => chosen === null || isBetter(compare(it, chosen, options));
+  const better = (chosen, it) => (isFirst(it, chosen) ? it : chosen);
   return versions.filter((it) => found.test(it)).reduce(better, null);
 }
 
@@ -153,14 +155,15 @@ function minVersion(range, options) {
   const found = new Range(range, options);
   const least = found.includePrerelease
     ? satisfyingAll([found]).sort(compare)[0]
-    : addon().tryMinVersion(found.raw);
+    : addon().tryMinVersion(found.raw, found.loose);
   return typeof least === "string" ? new SemVer(least.replace(/\+.*/, "")) : null;
 }
 
 function outside(version, range, side, options) {
   const [{ version: text }, asked] = [new SemVer(version, options), new Range(range, options)];
   if (side !== "<" && side !== ">") throw new TypeError('Must provide a hilo val of "<" or ">"');
-  return addon().tryOutside(asked.raw, text, side === ">", asked.includePrerelease);
+  const { raw, includePrerelease, loose } = asked;
+  return addon().tryOutside(raw, text, side === ">", includePrerelease, loose);
 }
 
 const gtr = (version, range, options) => outside(version, range, ">", options);
@@ -172,7 +175,7 @@ const intersects = (one, two, options) =>
 function subset(sub, range, options) {
   if (sub === range) return true;
   const [one, two] = [new Range(sub, options), new Range(range, options)];
-  return addon().trySubset(one.raw, two.raw, one.includePrerelease);
+  return addon().trySubset(one.raw, two.raw, one.includePrerelease, one.loose);
 }
 
 const toComparators = (range, options) =>
@@ -197,7 +200,7 @@ function simplifyRange(versions, range, options) {
   const asked = () => new Range(range, options);
   const found = typeof range === "string" ? orNull(asked) : asked();
   if (found === null) return range;
-  const sorted = [...versions].sort(compare);
+  const sorted = [...versions].sort((one, two) => compare(one, two, options));
   const [first, last] = [sorted[0], sorted[sorted.length - 1]];
   const words = runsOf(sorted, found).map(([from, to]) => {
     if (from === first && to === last) return "*";

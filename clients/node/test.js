@@ -66,6 +66,34 @@ bumped.patch += 1;
 assert.deepStrictEqual([bumped.format(), bumped.inc("minor").raw], ["1.2.4-a", "1.3.0+b"]);
 assert.strictEqual(new client.SemVer("1.0.0", { loose: true }).options.loose, true);
 
+// ---- Read loosely
+
+const loose = { loose: true };
+const longest = `1.2.3${"b".repeat(251)}`;
+assert.deepStrictEqual(["=v1.2.3", "01.2.3", "1.2.3beta", "1.2.3-01", "1.2"].map((it) => client.valid(it, loose)), ["1.2.3", "1.2.3", "1.2.3-beta", "1.2.3-1", null]);
+assert.deepStrictEqual([client.valid("01.2.3", true), client.valid("01.2.3"), client.valid("01.2.3", {})], ["1.2.3", null, null]);
+assert.deepStrictEqual([client.clean(" =v1.2.3beta ", loose), client.clean(" =v1.2.3beta ")], ["1.2.3-beta", null]);
+assert.throws(() => client.clean(5, loose), TypeError);
+assert.deepStrictEqual([client.compareLoose("=1.2.3", "01.2.3"), client.compare("1.2.3beta", "1.2.3", loose), client.lt("1.2.3beta", "1.2.3", true)], [0, -1, true]);
+assert.throws(() => client.compare("1.2.3beta", "1.2.3"), TypeError);
+assert.throws(() => client.diff("1.2.3beta", "1.2.3"), TypeError);
+assert.deepStrictEqual([client.major("01.2.3", true), client.inc("1.2.3beta", "patch", loose), client.inc("1.2.3beta", "patch")], [1, "1.2.3", null]);
+assert.deepStrictEqual(client.prerelease("1.2.3-01.b", loose), [1, "b"]);
+assert.deepStrictEqual(client.sort(["1.2.3", "1.2.3beta", "01.0.0"], true), ["01.0.0", "1.2.3beta", "1.2.3"]);
+assert.strictEqual(client.cmp("=1.2.3", "==", "1.2.3", loose), true);
+assert.deepStrictEqual([client.satisfies("1.2.3", ">=01.2 foo", loose), client.satisfies("1.2.3", ">=01.2 foo")], [true, false]);
+assert.deepStrictEqual([client.validRange("1 foo || bar", loose), client.validRange("foo", loose), client.validRange("1 foo")], [">=1.0.0 <2.0.0-0", null, null]);
+assert.deepStrictEqual([client.maxSatisfying(["1.2.3beta", "1.2.2"], ">=1.2.3-a", loose), client.maxSatisfying(["1.2.3beta", "1.2.2"], ">=1.2.3-a")], ["1.2.3beta", null]);
+assert.deepStrictEqual([client.minVersion("^1.2.3beta", loose).version, client.subset("=1.2.3", "^01.2", loose)], ["1.2.3-beta", true]);
+assert.deepStrictEqual([client.gtr("2.0.0beta", "^01", true), client.intersects("^01.2", "1.5 foo", loose)], [true, true]);
+const { raw, options, set } = new client.Range(">=01.2 foo", loose);
+assert.deepStrictEqual([raw, options, set.map((it) => it.map(String))], [">=01.2 foo", loose, [[">=1.2.0"]]]);
+assert.strictEqual(new client.Comparator(">=v1.2.3beta", true).value, ">=1.2.3-beta");
+assert.strictEqual(new client.Range("^01", loose).intersects(new client.Range("1.5")), true);
+assert.deepStrictEqual([new client.SemVer("1.2.3beta", true).compare("1.2.3"), new client.SemVer(longest, true).version.length], [-1, 257]);
+assert.throws(() => new client.SemVer(longest, true).compare("1.2.3-a"), TypeError);
+assert.throws(() => new client.SemVer("1.2.3", true).compareBuild("x"), TypeError);
+
 // ---- Comparators
 
 const { Comparator } = client;

@@ -5,7 +5,7 @@ const { addon } = require("./opened.js");
 const EMPTY = Object.freeze({});
 const LOOSE = Object.freeze({ loose: true });
 
-// Options may be a boolean, which is `loose`. It is kept, and changes no answer but of coerce.
+// Options may be a boolean, which is `loose`.
 function optionsOf(given) {
   if (!given) return EMPTY;
   return typeof given === "object" ? given : LOOSE;
@@ -23,6 +23,8 @@ class WithOptions {
     return this.loose === other.loose && this.includePrerelease === other.includePrerelease;
   }
 }
+
+const isLoose = (options) => Boolean(optionsOf(options).loose);
 
 // What is asked about a version or a range: its text.
 function textOf(it) {
@@ -45,4 +47,4 @@ function orNull(question) {
   }
 }
 
-module.exports = { NoNext, WithOptions, optionsOf, orNull, textOf };
+module.exports = { NoNext, WithOptions, isLoose, optionsOf, orNull, textOf };

@@ -1,7 +1,7 @@
 // node-semver's class SemVer and its functions of versions, over the addon, as npm reads texts.
 // docs/NODE_CLIENT.md names what is different.
 "use strict";
-const { WithOptions, optionsOf, orNull, textOf, NoNext } = require("./values.js");
+const { WithOptions, isLoose, optionsOf, orNull, textOf, NoNext } = require("./values.js");
 const { addon } = require("./opened.js");
 
 const KINDS = [null, "major", "minor", "patch", "premajor", "preminor", "prepatch", "prerelease"];
@@ -40,7 +40,7 @@ class SemVer extends WithOptions {
       version = version.version;
     }
     if (typeof version !== "string") throw wrongVersion(version);
-    const pre = addon().tryRead(version, numbers);
+    const pre = addon().tryRead(version, numbers, this.loose);
     if (pre === undefined) throw wrongVersion(version);
     this.raw = version;
     [this.major, this.minor, this.patch] = numbers;
@@ -63,7 +63,7 @@ class SemVer extends WithOptions {
   compare(other) {
     const found = versionOf(other, this.options);
     if (found.version === this.version) return 0;
-    return this.compareMain(found) || addon().tryCompare(this.version, found.version);
+    return this.compareMain(found) || asked("tryCompare", this.version, found.version);
   }
 
   // By the three numbers alone.
@@ -75,7 +75,7 @@ class SemVer extends WithOptions {
   // By the pre-releases alone.
   comparePre(other) {
     const of = (it) => `0.0.0${it.version.replace(/^[^-]*/, "")}`;
-    return addon().tryCompare(of(this), of(versionOf(other, this.options)));
+    return asked("tryCompare", of(this), of(versionOf(other, this.options)));
   }
 
   // By build metadata alone.
@@ -112,8 +112,12 @@ function parse(version, options, throws = false) {
 }
 
 const valid = (version, options) => parse(version, options)?.version ?? null;
-// Another value than a string is a TypeError of the addon.
-const clean = (version) => addon().tryClean(version) ?? null;
+// Another value than a string is a TypeError.
+function clean(version, options) {
+  if (!isLoose(options)) return addon().tryClean(version) ?? null;
+  if (typeof version !== "string") throw wrongVersion(version);
+  return valid(version.trim().replace(/^[=v]+/, ""), options);
+}
 
 function coerce(version, options) {
   if (version instanceof SemVer) return version;
@@ -149,35 +153,36 @@ function checked(version) {
 }
 
 // The answer of a question about two versions. A text that is none is a TypeError.
-function asked(question, one, two) {
-  const [version, other] = [checked(one), checked(two)];
-  const answer = addon()[question](version, other);
+function asked(question, one, two, options) {
+  const [version, other, loose] = [checked(one), checked(two), isLoose(options)];
+  const answer = addon()[question](version, other, loose);
   if (answer !== undefined) return answer;
-  throw wrongVersion(addon().tryRead(version, numbers) === undefined ? version : other);
+  throw wrongVersion(addon().tryRead(version, numbers, loose) === undefined ? version : other);
 }
 
-const compare = (one, two) => asked("tryCompare", one, two);
-const compareLoose = (one, two) => compare(one, two);
-const rcompare = (one, two) => compare(two, one);
-const withBuild = (it) => (it instanceof SemVer ? whole(it) : it);
-const compareBuild = (one, two) => asked("tryCompareBuild", withBuild(one), withBuild(two));
+const compare = (one, two, options) => asked("tryCompare", one, two, options);
+const compareLoose = (one, two) => compare(one, two, true);
+const rcompare = (one, two, options) => compare(two, one, options);
+const withBuild = (it, options) => (it instanceof SemVer ? whole(new SemVer(it, options)) : it);
+const compareBuild = (one, two, options) =>
+  asked("tryCompareBuild", withBuild(one, options), withBuild(two, options), options);
 const diff = (one, two) => KINDS[asked("tryDiff", one, two)];
 
-const gt = (one, two) => compare(one, two) > 0;
-const lt = (one, two) => compare(one, two) < 0;
-const eq = (one, two) => compare(one, two) === 0;
-const neq = (one, two) => compare(one, two) !== 0;
-const gte = (one, two) => compare(one, two) >= 0;
-const lte = (one, two) => compare(one, two) <= 0;
+const gt = (one, two, options) => compare(one, two, options) > 0;
+const lt = (one, two, options) => compare(one, two, options) < 0;
+const eq = (one, two, options) => compare(one, two, options) === 0;
+const neq = (one, two, options) => compare(one, two, options) !== 0;
+const gte = (one, two, options) => compare(one, two, options) >= 0;
+const lte = (one, two, options) => compare(one, two, options) <= 0;
 const SIGNS = { "": eq, "=": eq, "==": eq, "!=": neq, ">": gt, ">=": gte, "<": lt, "<=": lte };
 
-function cmp(one, sign, two) {
+function cmp(one, sign, two, options) {
   // Of null this is a TypeError.
   const shown = (it) => (typeof it === "object" ? it.version : it);
   if (sign === "===") return shown(one) === shown(two);
   if (sign === "!==") return shown(one) !== shown(two);
   if (!Object.hasOwn(SIGNS, sign)) throw new TypeError(`Invalid operator: ${sign}`);
-  return SIGNS[sign](one, two);
+  return SIGNS[sign](one, two, options);
 }
 
 // Identifiers as those of pre-releases. Other values are compared too: numbers below texts.
@@ -191,8 +196,10 @@ function compareIdentifiers(one, two) {
 
 const rcompareIdentifiers = (one, two) => compareIdentifiers(two, one);
 
-const sort = (versions) => versions.sort(compareBuild);
-const rsort = (versions) => versions.sort((one, two) => compareBuild(two, one));
+const sort = (versions, options) =>
+  versions.sort((one, two) => compareBuild(one, two, options));
+const rsort = (versions, options) =>
+  versions.sort((one, two) => compareBuild(two, one, options));
 
 // Names alone, so that `import` finds them.
 module.exports = {
