@@ -80,10 +80,10 @@ pub(crate) struct Kept<'a> {
 /// The parts of a version: its numbers, and how long its texts are.
 #[repr(C)]
 #[derive(Clone, Copy, Default)]
-pub(crate) struct Parts {
-    pub(crate) numbers: [u64; 3],
-    pub(crate) pre_release_len: usize,
-    pub(crate) build_len: usize,
+struct Parts {
+    numbers: [u64; 3],
+    pre_release_len: usize,
+    build_len: usize,
 }
 
 /// Kinds of bounds.
@@ -110,17 +110,17 @@ pub(crate) struct KeptInterval<'a> {
 /// What is told of a bound.
 #[repr(C)]
 #[derive(Clone, Copy, Default)]
-pub(crate) struct BoundParts {
-    pub(crate) kind: u32,
-    pub(crate) version: Parts,
+struct BoundParts {
+    kind: u32,
+    version: Parts,
 }
 
 /// What is told of an interval.
 #[repr(C)]
 #[derive(Clone, Copy, Default)]
-pub(crate) struct IntervalParts {
-    pub(crate) lower: BoundParts,
-    pub(crate) upper: BoundParts,
+struct IntervalParts {
+    lower: BoundParts,
+    upper: BoundParts,
 }
 
 /// A word of a range text.
@@ -349,7 +349,11 @@ pub(crate) struct KeptRange {
 const ZEROS: &str = "00000000";
 
 /// The next characters of an ASCII text, or as many as there are.
-fn next_text(left: &mut &[u8], len: usize) -> Text<'static> {
+///
+/// # Safety
+///
+/// It is ASCII, and its bytes are there as long as what is returned.
+unsafe fn next_text(left: &mut &[u8], len: usize) -> Text<'static> {
     let (text, rest) = left.split_at(len.min(left.len()));
     *left = rest;
     Text {
@@ -361,8 +365,12 @@ fn next_text(left: &mut &[u8], len: usize) -> Text<'static> {
 
 impl BoundParts {
     /// The bound, whose texts are the next ones of these.
+    ///
+    /// # Safety
+    ///
+    /// They are ASCII, and their bytes are there as long as what is returned.
     #[inline]
-    fn kept(&self, texts: &mut &[u8]) -> KeptBound<'static> {
+    unsafe fn kept(&self, texts: &mut &[u8]) -> KeptBound<'static> {
         let Parts {
             numbers,
             pre_release_len,
@@ -370,10 +378,13 @@ impl BoundParts {
         } = self.version;
         let (pre_release, build) = match pre_release_len | build_len {
             0 => (Text::EMPTY, Text::EMPTY),
-            _ => (
-                next_text(texts, pre_release_len),
-                next_text(texts, build_len),
-            ),
+            // SAFETY: the same is asked for here.
+            _ => unsafe {
+                (
+                    next_text(texts, pre_release_len),
+                    next_text(texts, build_len),
+                )
+            },
         };
         KeptBound {
             kind: self.kind,
@@ -387,18 +398,41 @@ impl BoundParts {
 }
 
 impl KeptRange {
-    /// The range of some parts, whose texts are these, in ASCII.
-    pub(crate) fn of(told: &[IntervalParts], texts: &str) -> KeptRange {
+    /// The range of one interval without bounds.
+    pub(crate) fn any() -> KeptRange {
+        let none = KeptBound {
+            kind: BOUND_NONE,
+            version: Kept {
+                numbers: [0; 3],
+                pre_release: Text::EMPTY,
+                build: Text::EMPTY,
+            },
+        };
+        KeptRange {
+            intervals: Arc::new([KeptInterval {
+                lower: none,
+                upper: none,
+            }]),
+            _texts: None,
+        }
+    }
+
+    /// The range of some parts, whose texts are these.
+    fn of(told: &[IntervalParts], texts: &[u8]) -> Result<KeptRange, Status> {
+        let texts = ascii(texts).ok_or(BAD_ARGUMENT)?;
         let texts = (!ZEROS.starts_with(texts)).then(|| Arc::<str>::from(texts));
         let mut left = texts.as_deref().unwrap_or(ZEROS).as_bytes();
-        let intervals = told.iter().map(|it| KeptInterval {
-            lower: it.lower.kept(&mut left),
-            upper: it.upper.kept(&mut left),
+        // SAFETY: the texts are ASCII. Who has an interval has them too, or they are ZEROS.
+        let intervals = told.iter().map(|it| unsafe {
+            KeptInterval {
+                lower: it.lower.kept(&mut left),
+                upper: it.upper.kept(&mut left),
+            }
         });
-        KeptRange {
+        Ok(KeptRange {
             intervals: intervals.collect(),
             _texts: texts,
-        }
+        })
     }
 
     #[inline]
@@ -429,17 +463,14 @@ fn range_told(
         OK => {
             // SAFETY: by this status as many are written to the front of each.
             let (told, texts) = unsafe { (front(&few, count), front(&short, len)) };
-            let texts = ascii(texts).ok_or(BAD_ARGUMENT)?;
-            Ok(KeptRange::of(told, texts))
+            KeptRange::of(told, texts)
         }
         TOO_SMALL => {
             let (mut many, mut long) = (vec![IntervalParts::default(); count], vec![0; len]);
             let (told, texts) = (many.as_mut_ptr(), long.as_mut_ptr());
             let room = Room(told, many.len(), texts, long.len());
             match checked(call(room, &mut count, &mut len)) {
-                OK => ascii(&long)
-                    .map(|it| KeptRange::of(&many, it))
-                    .ok_or(BAD_ARGUMENT),
+                OK => KeptRange::of(&many, &long),
                 status => Err(status),
             }
         }

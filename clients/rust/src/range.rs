@@ -1,7 +1,7 @@
 //! Ranges.
 
 use crate::error::{RangeError, SemverError};
-use crate::ffi::{self, IntervalParts, Kept, KeptInterval, KeptRange, Operation, Reading};
+use crate::ffi::{self, Kept, KeptInterval, KeptRange, Operation, Reading};
 use crate::interval::Interval;
 use crate::line::Line;
 use crate::version::cmp_numbers;
@@ -122,7 +122,7 @@ impl Range {
     /// The range of all versions.
     pub fn any() -> Range {
         Range {
-            kept: KeptRange::of(&[IntervalParts::default()], ""),
+            kept: KeptRange::any(),
         }
     }
 
