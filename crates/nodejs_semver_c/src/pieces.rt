@@ -49,7 +49,16 @@ fn put_identifier(id: &IdentifierRef<'_>, out: &mut [u8], len: &mut usize)
 }
 
 // A mark and the identifiers joined by dots, or nothing where there are none.
+#[inline(always)]
 pub fn put_list(mark: &str, ids: IdentifierRefs<'_>, out: &mut [u8], len: &mut usize)
+    ensures { Adds (marked_list mark.now ids.entry) out.old out.new len.old len.new }
+{
+    if !ids.is_empty() {
+        put_some(mark, ids, out, len);
+    }
+}
+
+fn put_some(mark: &str, ids: IdentifierRefs<'_>, out: &mut [u8], len: &mut usize)
     ensures { Adds (marked_list mark.now ids.entry) out.old out.new len.old len.new }
 {
     let mut sign = mark;

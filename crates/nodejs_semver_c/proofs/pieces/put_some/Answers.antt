@@ -3,7 +3,7 @@ use Rattle.semver_core.proofs.Printing.Returns.{marked_step}
 use Rattle.semver_core.specs.Printing.Text.{id_text}
 use Rattle.semver_core.specs.Values.Views.{lent_id_view}
 use Rattle.nodejs_semver_c.proofs.Putting.{adds_nothing, adds_same, adds_then}
-use Rattle.nodejs_semver_c.proofs.pieces.put_list.Goals as goal
+use Rattle.nodejs_semver_c.proofs.pieces.put_some.Goals as goal
 
 pub ids-init : goal.ids-init
 ids-init c = (search rules, [], adds_nothing _ _, refl)

@@ -3,7 +3,7 @@ use denote.Text.{Utf8}
 use denote.Shadow.{shadow}
 use Rattle.semver_core.specs.Printing.Text.{marked_list}
 use Rattle.nodejs_semver_c.specs.Internal.Pieces.{Adds}
-use Rattle.nodejs_semver_c.proofs.pieces.put_list.Given as goal
+use Rattle.nodejs_semver_c.proofs.pieces.put_some.Given as goal
 
 -- what was put, and what is left behind its mark, are the whole
 abbrev pub invariant-ids : goal.invariant-ids
