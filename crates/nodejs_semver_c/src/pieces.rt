@@ -58,6 +58,7 @@ pub fn put_list(mark: &str, ids: IdentifierRefs<'_>, out: &mut [u8], len: &mut u
     }
 }
 
+// The same out of line: mostly there are none.
 fn put_some(mark: &str, ids: IdentifierRefs<'_>, out: &mut [u8], len: &mut usize)
     ensures { Adds (marked_list mark.now ids.entry) out.old out.new len.old len.new }
 {
