@@ -8,6 +8,7 @@ mod algebra;
 pub(crate) mod best;
 mod equality;
 pub(crate) mod gate;
+mod index;
 mod interval_lists;
 mod least;
 mod made;

@@ -35,11 +35,7 @@ impl<V: VersionPoint> RangeOf<V> {
         ensures memory { OnErr result (MayTryOne self.now other.now) }
     {
         let (kept, removed) = (from_ref(self), other.items());
-        let search = Beyond {
-            kept,
-            removed,
-            copies: false,
-        };
+        let search = Beyond::new(alloc, kept, removed, false);
         let mut found = None;
         consider_all(alloc, &search, &mut found, kept, removed)?;
         Ok(found.is_none())
