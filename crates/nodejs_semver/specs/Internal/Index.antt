@@ -1,10 +1,12 @@
 -- For proofs and private contracts: intervals put in order, so that whether one of them accepts a version is found by search.
-use Rattle.std.specs.Prelude.{◌≡◌, ◌+◌, ◌<◌, ◌&&◌, ℕ, Bool, true, false, not, List, [], ◌∷◌, ◌++◌, map, length, get_or, take, if◌then◌else◌}
+use Rattle.std.specs.Prelude.{◌≡◌, ◌+◌, ◌<◌, ◌&&◌, ℕ, Bool, true, false, not, List, ◌++◌, map, length, get_or, take, if◌then◌else◌}
+use Rattle.std.specs.Prelude.{Option, Some, None}
+use Rattle.std.specs.Option.{option_map, option_to_list}
 use Rattle.std.specs.Borrow.{Bor}
-use Rattle.std.specs.List.{flat_map, list_all, list_any, Sorted.IsSorted}
-use Rattle.std.specs.Ordering.{is_eq, is_gt, is_lt, on, then_cmp}
+use Rattle.std.specs.List.{flat_map, list_all, list_any, Sorted.{IsPermutation, IsSorted}}
+use Rattle.std.specs.Ordering.{is_eq, is_gt, is_le, is_lt, on, then_cmp}
 use Rattle.std.specs.declared.cmp.Ordering.{Ordering}
-use Rattle.semver_core.specs.Cuts.{Span, Cut, cut_cmp, lower_cut, upper_cut, holds, is_past}
+use Rattle.semver_core.specs.Cuts.{Span, Cut, covers, cut_cmp, lower_cut, upper_cut, holds, is_past}
 use Rattle.semver_core.specs.Values.Order.{precedence}
 use Rattle.std.specs.declared.cmp.Ordering.TheVariants.{Less, Equal, Greater}
 use Rattle.semver_core.specs.Values.Versions.{VersionValue, is_release}
@@ -34,22 +36,33 @@ is_of numbers e = is_eq (precedence e.0 numbers)
 abbrev pub entries_hold : List Entry → VersionValue → VersionValue → Bool
 entries_hold es numbers v = list_any (λ e. is_of numbers e && holds precedence e.1 v) es
 
+-- one of the entries of these numbers covers the span
+abbrev pub entries_cover : List Entry → VersionValue → Span VersionValue → Bool
+entries_cover es numbers t = list_any (λ e. is_of numbers e && covers precedence e.1 t) es
+
 -- by their numbers, and of the same numbers by where they begin
 abbrev pub AreInOrder : List Entry → Type 0
 AreInOrder = IsSorted place_cmp
 
+-- a test of cuts that is passed by all above one that passes it
+abbrev pub IsUpward : (Cut VersionValue → Bool) → Type 0
+IsUpward q = (c d : Cut VersionValue) → is_lt (cut_cmp precedence d c) ≡ false → q c ≡ true → q d ≡ true
+
 -- the bound is furthest up of those of the entry at this place, and of those before it of the same numbers
 abbrev pub IsEnd : List Entry → ℕ → Bound VersionValue → Type 0
-IsEnd es k b = (v : VersionValue) (d : Entry) → not (is_past precedence (upper_cut b) v)
-    ≡ list_any (λ e. is_of (get_or es k d).0 e && not (is_past precedence (upper_cut e.1.upper) v)) (take (k + 1) es)
+IsEnd es k b = (q : Cut VersionValue → Bool) → IsUpward q → (d : Entry) → q (upper_cut b)
+    ≡ list_any (λ e. is_of (get_or es k d).0 e && q (upper_cut e.1.upper)) (take (k + 1) es)
 
--- the entry is not above one of these numbers that begins with the version
-abbrev pub is_upto : VersionValue → VersionValue → Entry → Bool
-is_upto numbers v e = elim (precedence e.0 numbers) [
-  | Less ↦ true
-  | Equal ↦ is_past precedence (lower_cut e.1.lower) v
-  | Greater ↦ false
-]
+-- the entry is not above these numbers, and of these it begins early enough
+abbrev pub is_upto : VersionValue → (Entry → Bool) → Entry → Bool
+is_upto numbers early e = elim (precedence e.0 numbers) [ Less ↦ true | Equal ↦ early e | Greater ↦ false ]
+
+-- the entry begins not after the version, or not after another one
+abbrev pub begins_past : VersionValue → Entry → Bool
+begins_past v e = is_past precedence (lower_cut e.1.lower) v
+
+abbrev pub begins_upto : Bound VersionValue → Entry → Bool
+begins_upto b e = is_le (lower_order e.1.lower b)
 
 -- the entry is of these numbers, and the bound is further up than its own
 abbrev pub ends_below : Entry → VersionValue → Bound VersionValue → Bool
@@ -62,14 +75,18 @@ AreEnds {V} value es bs = (k : ℕ) (d : Bor (Bound V)) → k < length bs → Is
 abbrev pub HaveEnds : {V : Type 0} → (V → VersionValue) → List Entry → List (Bor (Bound V)) → Type 0
 HaveEnds value es bs = (length bs ≡ length es) × AreEnds value es bs
 
--- the entry of a span for the numbers of a pre-release that the bound has
-abbrev pub named_at : Span VersionValue → VersionValue → List Entry
-named_at s w = if is_release w then [] else (bare_release w, s) ∷ []
+-- the release of the numbers of the pre-release that the bound has
+abbrev pub numbers_at : VersionValue → Option VersionValue
+numbers_at w = if is_release w then None else Some (bare_release w)
 
+abbrev pub named : Bound VersionValue → Option VersionValue
+named Unbounded = None
+named (Before w) = numbers_at w
+named (After w) = numbers_at w
+
+-- the entry of a span for these numbers
 abbrev pub named_entries : Span VersionValue → Bound VersionValue → List Entry
-named_entries s Unbounded = []
-named_entries s (Before w) = named_at s w
-named_entries s (After w) = named_at s w
+named_entries s b = option_to_list (option_map (λ n. (n, s)) (named b))
 
 -- an index: the entries for releases, and those for the numbers of pre-releases
 abbrev pub Indexed : Type 0
@@ -91,3 +108,7 @@ all_entries ss = map (λ s. (zero, s)) ss
 
 abbrev pub pre_entries : List (Span VersionValue) → List Entry
 pre_entries ss = flat_map (λ s. named_entries s s.lower ++ named_entries s s.upper) ss
+
+-- the index of these spans
+abbrev pub IsIndexOf : List (Span VersionValue) → Indexed → Type 0
+IsIndexOf ss i = IsPermutation (all_entries ss) i.0 × IsPermutation (pre_entries ss) i.1

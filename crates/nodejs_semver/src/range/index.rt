@@ -1,11 +1,13 @@
-// Intervals put in order, so that whether one of them accepts a version is found by search. A search
-// that asks about many versions makes an index first.
+// Intervals put in order, so that whether one of them accepts a version, or says all of another one,
+// is found by search. What asks so about many makes an index first, and asks the list itself where
+// there is no memory for one: so the index changes no answer.
 
-ghost use Rattle.std.specs.Prelude.{◌++◌, ◌≡◌};
+ghost use Rattle.std.specs.{List.Sorted.IsPermutation, Prelude.{◌++◌, ◌≡◌}};
 ghost use Rattle.nodejs_semver.specs.Internal.Index as spec;
-ghost use Rattle.nodejs_semver.specs.Words.{accepts, bound_of, IfOk, OnOk, precedence, spans_of};
-ghost use Rattle.nodejs_semver.specs.Words.{false, IfSome, span_of, VersionValue};
+ghost use Rattle.nodejs_semver.specs.Words.{bound_of, IfOk, OnOk, spans_of};
+ghost use Rattle.nodejs_semver.specs.Words.{IfSome, List, list_any, Span, span_of, VersionValue};
 ghost use Rattle.nodejs_semver.specs.Internal.Candidates.{wanted};
+ghost use Rattle.nodejs_semver.specs.Ranges.Unions.{says_all};
 
 use crate::range::gate::{is_past_lower, is_past_upper};
 use crate::range::neighbours::bare_release;
@@ -89,11 +91,24 @@ impl<'a, V: VersionPoint> Entry<'a, V> {
 
     // Whether its place is not above that of an interval of these numbers that begins with the version.
     fn is_upto<N: Versioned, W: Versioned>(&self, numbers: &N, version: &W) -> bool
-        ensures { result ≡ spec.is_upto (N.value numbers.now) (W.value version.now) self.now }
+        ensures { result ≡ spec.is_upto (N.value numbers.now)
+            (spec.begins_past (W.value version.now)) self.now }
     {
         match self.numbers.cmp_precedence(numbers) {
             Ordering::Less => true,
             Ordering::Equal => is_past_lower(self.interval.lower(), version),
+            Ordering::Greater => false,
+        }
+    }
+
+    // Whether its place is not above that of an interval of these numbers that begins at the bound.
+    fn is_upto_bound(&self, numbers: &VersionRef<'_>, bound: &Bound<V>) -> bool
+        ensures { result ≡ spec.is_upto numbers.now
+            (spec.begins_upto (bound_of V.value bound.now)) self.now }
+    {
+        match self.numbers.cmp_precedence(numbers) {
+            Ordering::Less => true,
+            Ordering::Equal => cmp_lower(self.interval.lower(), bound).is_le(),
             Ordering::Greater => false,
         }
     }
@@ -162,12 +177,27 @@ fn ends_of<'a, V: VersionPoint>(
 
 impl<'a, V: VersionPoint> Ordered<'a, V> {
     fn of(alloc: Global, mut entries: Vec<Entry<'a, V>>) -> Allocated<Ordered<'a, V>>
-        ensures { IfOk result (λ found. (numbers v : VersionValue) →
-            spec.entries_hold found numbers v ≡ spec.entries_hold entries.entry.items numbers v) }
+        ensures { IfOk result (λ found. IsPermutation entries.entry.items found) }
     {
         entries.sort_unstable_by(|one, other| one.place_cmp(other));
         let ends = ends_of(alloc, &entries)?;
         Ok(Ordered { entries, ends })
+    }
+
+    // Whether one of the entries of these numbers covers the interval.
+    fn cover(&self, numbers: &VersionRef<'_>, interval: &Interval<V>) -> bool
+        ensures { result
+            ≡ spec.entries_cover self.now numbers.now (span_of V.value interval.now) }
+    {
+        let lower = interval.lower();
+        let past = self
+            .entries
+            .partition_point(|entry| entry.is_upto_bound(numbers, lower));
+        let Some(last) = past.checked_sub(1) else {
+            return false;
+        };
+        self.entries[last].numbers.cmp_precedence(numbers).is_eq()
+            && !is_further_up(interval.upper(), self.ends[last])
     }
 
     // Whether one of the entries of these numbers holds the version.
@@ -186,7 +216,19 @@ impl<'a, V: VersionPoint> Ordered<'a, V> {
     }
 }
 
-// Puts the interval at the end for the numbers of a pre-release that the bound has.
+// The release of the numbers of the pre-release that the bound has.
+fn named<V: Versioned>(bound: &Bound<V>) -> Option<VersionRef<'static>>
+    ensures { result ≡ spec.named (bound_of V.value bound.now) }
+{
+    match bound {
+        Bound::Before(version) | Bound::After(version) if !version.is_release() => {
+            Some(bare_release(version))
+        }
+        _ => None,
+    }
+}
+
+// Puts the interval at the end for these numbers.
 fn push_named<'a, V: VersionPoint>(
     entries: &mut Vec<Entry<'a, V>>,
     interval: &'a Interval<V>,
@@ -195,20 +237,15 @@ fn push_named<'a, V: VersionPoint>(
     ensures { OnOk result (entries.new.items ≡ entries.old.items
         ++ spec.named_entries (span_of V.value interval.now) (bound_of V.value bound.now)) }
 {
-    match bound {
-        Bound::Before(version) | Bound::After(version) if !version.is_release() => {
-            let numbers = bare_release(version);
-            Ok(entries.push(Entry { numbers, interval })?)
-        }
-        _ => Ok(()),
+    if let Some(numbers) = named(bound) {
+        entries.push(Entry { numbers, interval })?;
     }
+    Ok(())
 }
 
 impl<'a, V: VersionPoint> Index<'a, V> {
     pub(crate) fn of(alloc: Global, intervals: &'a [Interval<V>]) -> Allocated<Index<'a, V>>
-        ensures { IfOk result (λ index. (v : VersionValue) →
-            spec.lets_pass index v
-            ≡ accepts (spans_of V.value intervals.now) v false) }
+        ensures { IfOk result (spec.IsIndexOf (spans_of V.value intervals.now)) }
     {
         let (mut releases, mut pre_releases) = (Vec::new(alloc), Vec::new(alloc));
         for interval in intervals {
@@ -223,6 +260,35 @@ impl<'a, V: VersionPoint> Index<'a, V> {
             releases,
             pre_releases,
         })
+    }
+
+    // The index, where there are many intervals, and memory for it.
+    pub(crate) fn of_many(alloc: Global, intervals: &'a [Interval<V>]) -> Option<Index<'a, V>>
+        ensures { IfSome result (spec.IsIndexOf (spans_of V.value intervals.now)) }
+    {
+        if intervals.len() < MANY {
+            return None;
+        }
+        Index::of(alloc, intervals).ok()
+    }
+
+    // Whether one of the intervals says all of the other one. Returns `None` where the bounds of
+    // that have pre-releases of different numbers, which the order does not help to find.
+    pub(crate) fn say_all(&self, other: &Interval<V>) -> Option<bool>
+        ensures { IfSome result (λ answer. (ss : List (Span VersionValue)) → spec.IsIndexOf ss self.now
+            → answer ≡ list_any (λ s. says_all s (span_of V.value other.now)) ss) }
+    {
+        match (named(other.lower()), named(other.upper())) {
+            (None, None) => Some(self.releases.cover(&release(0, 0, 0), other)),
+            (Some(numbers), None) => Some(self.pre_releases.cover(&numbers, other)),
+            (None, Some(numbers)) => Some(self.pre_releases.cover(&numbers, other)),
+            (Some(numbers), Some(others)) => {
+                if numbers.cmp_precedence(&others).is_eq() {
+                    return Some(self.pre_releases.cover(&numbers, other));
+                }
+                None
+            }
+        }
     }
 
     pub(crate) fn accepts<W: Versioned>(&self, version: &W) -> bool

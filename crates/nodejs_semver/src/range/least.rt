@@ -73,7 +73,8 @@ impl<V: VersionPoint> RangeOf<V> {
     /// 1.0.1-0 for `>1.0.0 <1.0.1-5`, or one of an interval without a lower bound, has no build. Of
     /// equal results it is the one of the first interval.
     ///
-    /// As measured, time grows at most with the square of the number of intervals.
+    /// As measured, time grows with n log n for n intervals, or with n squared where there is no
+    /// memory for an index of them.
     ///
     /// ```rust
     /// let range = Range::parse(alloc, ">1.0.0 <1.0.1-5")?;
@@ -106,7 +107,8 @@ impl<V: VersionPoint> RangeOf<V> {
     /// It is not the smallest version of the difference of the two: `>=1.2.3-a` beyond `>=1.0.0` is
     /// 1.2.3-a, which the second range holds and does not accept.
     ///
-    /// As measured, time grows at most with the square of the number of intervals of both ranges.
+    /// As measured, time grows with n log n for n intervals of both ranges, or with n squared where
+    /// there is no memory for an index of them.
     ///
     /// ```rust
     /// let wide = Range::parse(alloc, "^1")?;
@@ -142,7 +144,8 @@ impl<V: VersionPoint> RangeOf<V> {
     /// It is not the smallest version of the intersection: of `>=1.2.3-a` and `>=1.0.0` it is
     /// 1.2.3, while their intersection accepts 1.2.3-a, which the second range does not accept.
     ///
-    /// Time grows at most with the square of the number of intervals of all ranges.
+    /// As measured, time grows with the number of ranges times n log n for n intervals of all, or
+    /// with n squared where there is no memory for an index of them.
     ///
     /// ```rust
     /// let ranges = [

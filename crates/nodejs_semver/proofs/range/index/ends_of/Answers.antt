@@ -1,4 +1,4 @@
-use Rattle.nodejs_semver.proofs.Common.{ap, arith, bound_of, length, rules, subst, sym, true, false, ◌∙◌, ◌≡◌}
+use Rattle.nodejs_semver.proofs.Common.{arith, bound_of, rules, sym, true, false, ◌∙◌}
 use Rattle.nodejs_semver.proofs.Questions.Index.{ends_more, first_end, next_end}
 use Rattle.nodejs_semver.specs.Internal.Index.{IsEnd}
 use Rattle.nodejs_semver.proofs.range.index.ends_of.Goals.{in-Some+then-ends_below, in-Some+else-ends_below, in_default}

@@ -1,7 +1,7 @@
-use Rattle.nodejs_semver.proofs.Common.{holds, is_lt, precedence, rules, subst, sym, ◌&&◌, ◌≡◌}
-use Rattle.std.proofs.lemmas.List.Sorted.{answers_always, list_any-IsPermutation, ranks_by}
+use Rattle.nodejs_semver.proofs.Common.{is_lt, rules, subst, sym, ◌≡◌}
+use Rattle.std.proofs.lemmas.List.Sorted.{answers_always, ranks_by}
 use Rattle.nodejs_semver.proofs.Questions.Index.{place_total}
-use Rattle.nodejs_semver.specs.Internal.Index.{AreInOrder, Entry, HaveEnds, is_of, place_cmp}
+use Rattle.nodejs_semver.specs.Internal.Index.{AreInOrder, Entry, HaveEnds, place_cmp}
 use Rattle.nodejs_semver.proofs.range.index.Ordered.of.Goals as goal
 
 pub ends_of-requires : goal.ends_of-requires
@@ -16,5 +16,4 @@ invariant_of-result g c = (
 )
 
 pub returns : goal.returns
-returns g c = λ numbers v. sym (list_any-IsPermutation (λ (e : Entry). is_of numbers e && holds precedence e.1 v) c.args.entries.items c.sort_unstable_by.new.self.items
-    c.sort_unstable_by.ensures.permutation)
+returns g c = c.sort_unstable_by.ensures.permutation
