@@ -1,6 +1,6 @@
-// Intervals put in order, so that whether one of them accepts a version, or says all of another one,
+// Intervals put in order, so that whether one of them accepts a version, or says all of another,
 // is found by search. What asks so about many makes an index first, and asks the list itself where
-// there is no memory for one: so the index changes no answer.
+// there is no memory for one. So the index changes no answer.
 
 ghost use Rattle.std.specs.{List.Sorted.IsPermutation, Prelude.{◌++◌, ◌≡◌}};
 ghost use Rattle.nodejs_semver.specs.Internal.Index as spec;
@@ -89,7 +89,8 @@ impl<'a, V: VersionPoint> Entry<'a, V> {
             .then(cmp_lower(self.interval.lower(), other.interval.lower()))
     }
 
-    // Whether its place is not above that of an interval of these numbers that begins with the version.
+    // Whether its place is not above that of an interval of these numbers that begins with the
+    // version.
     fn is_upto<N: Versioned, W: Versioned>(&self, numbers: &N, version: &W) -> bool
         ensures { result ≡ spec.is_upto (N.value numbers.now)
             (spec.begins_past (W.value version.now)) self.now }
@@ -275,7 +276,8 @@ impl<'a, V: VersionPoint> Index<'a, V> {
     // Whether one of the intervals says all of the other one. Returns `None` where the bounds of
     // that have pre-releases of different numbers, which the order does not help to find.
     pub(crate) fn say_all(&self, other: &Interval<V>) -> Option<bool>
-        ensures { IfSome result (λ answer. (ss : List (Span VersionValue)) → spec.IsIndexOf ss self.now
+        ensures { IfSome result (λ answer. (ss : List (Span VersionValue)) →
+            spec.IsIndexOf ss self.now
             → answer ≡ list_any (λ s. says_all s (span_of V.value other.now)) ss) }
     {
         match (named(other.lower()), named(other.upper())) {
