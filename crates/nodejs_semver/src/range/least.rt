@@ -282,7 +282,8 @@ impl<'a, V: VersionPoint, W: VersionPoint> Beyond<'a, V, W> {
         ensures removed { result.removed.now ≡ removed.now }
         ensures copies { result.copies ≡ copies }
         ensures indexed { IfSome result.indexes (λ i. (v : VersionValue) →
-            wants i.kept.items i.removed v ≡ spec.wanted kept.now (spans_of W.value removed.now) v) }
+            wants i.kept.items i.removed v
+            ≡ spec.wanted kept.now (spans_of W.value removed.now) v) }
     {
         let indexes = Indexes::of_many(alloc, kept, removed);
         Beyond {
