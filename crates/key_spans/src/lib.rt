@@ -43,7 +43,7 @@ use std::alloc::{AllocError, Global};
 /// assert!(rt; spans[0].start.as_slice() == [0, 0, 0, 3].as_slice());
 /// assert!(rt; spans[0].stop.as_slice() == [255].as_slice());
 /// ```
-#[derive(PartialEq, Eq, Debug, Drop)]
+#[derive(PartialEq, Eq, Hash, Debug, Drop)]
 pub struct KeySpan {
     /// The first bytes that the span holds.
     pub start: Vec<u8>,
@@ -59,8 +59,9 @@ pub struct KeySpan {
 /// With the flag there is one list of spans of all versions. Without it spans of releases come
 /// first, and then those of the pre-releases that the range accepts. Of one kind they are sorted
 /// and lie apart, and each begins and stops at the key of a version, or stops above all keys. So
-/// ranges that accept the same versions have equal spans (`laws::one_list_for_one_set`), and a
-/// range that accepts nothing has none. There are at most three for each interval of the range.
+/// ranges that accept the same versions have equal spans (`laws::one_list_for_one_set`), which hash
+/// alike: their hash names a set of versions, as the key of a cache. A range that accepts nothing
+/// has none. There are at most three for each interval of the range.
 ///
 /// Fails only if allocation fails.
 ///

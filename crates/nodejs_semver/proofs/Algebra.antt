@@ -2,3 +2,4 @@ pub mod Clauses
 pub mod Accepting
 pub mod Differences
 pub mod Holds
+pub mod Near

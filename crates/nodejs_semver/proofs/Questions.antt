@@ -1,4 +1,5 @@
 pub mod Best
+pub mod Index
 pub mod Least
 pub mod Outside
 pub mod Spans

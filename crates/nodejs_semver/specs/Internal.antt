@@ -18,3 +18,4 @@ pub mod CommonViews
 pub mod Ignored
 pub mod Sets
 pub mod Questions
+pub mod Index

@@ -3,7 +3,7 @@ pub use Rattle.nodejs_semver.specs.Diagnosis.IgnoredWords.{AreAlike, AreIgnored,
 pub use Rattle.nodejs_semver.specs.Diagnosis.IgnoredWords.{IsWhollyIgnored}
 pub use Rattle.nodejs_semver.specs.Diagnosis.Messages.{flaw_text, word_text}
 pub use Rattle.nodejs_semver.specs.Diagnosis.VersionFlaws.{IsExact, IsFlaw}
-pub use Rattle.nodejs_semver.specs.Internal.Along.{IsAlong}
+pub use Rattle.nodejs_semver.specs.Internal.Along.{IsAlong, IsNear}
 pub use Rattle.nodejs_semver.specs.Internal.CommonFronts.{common_range}
 pub use Rattle.nodejs_semver.specs.Internal.CommonViews.{bounds_front_view, passed_view}
 pub use Rattle.nodejs_semver.specs.Internal.Denotes.{denotes, part_bounds, part_denotes, part_intervals}

@@ -8,6 +8,7 @@ mod algebra;
 pub(crate) mod best;
 mod equality;
 pub(crate) mod gate;
+mod index;
 mod interval_lists;
 mod least;
 mod made;
@@ -58,6 +59,9 @@ pub type Range = RangeOf<Version>;
 /// A range that borrows its text: its bounds are read where they stand. One interval stands inline,
 /// so that most ranges allocate nothing.
 pub type RangeRef<'a> = RangeOf<VersionRef<'a>>;
+
+// How many intervals make a search among them cost less than going through them.
+const MANY: usize = 16;
 
 impl<V: VersionPoint> RangeOf<V> {
     /// A copy of the whole range, builds included. Fails only if allocation fails, which happens

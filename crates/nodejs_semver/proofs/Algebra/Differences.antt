@@ -310,7 +310,7 @@ module _ {V : Type 0} {R : V → V → Ordering} (o : IsTotalOrder R) where
             none_past s (upper_cut c.upper) es h.1.1 (not_below o (lower_cut c.lower) (upper_cut c.upper) (upper_cut s.upper) h.1.0 f)
       ])
 
-  along_drop : (a : Cut V) (cs : List (Span V)) (r : ℕ) → IsAlong R a cs → IsAlong R a (drop r cs)
+  pub along_drop : (a : Cut V) (cs : List (Span V)) (r : ℕ) → IsAlong R a cs → IsAlong R a (drop r cs)
   along_drop a cs zero h = h
   along_drop a [] (suc r) h = tt
   along_drop a (c ∷ cs) (suc r) h = along_lower a (upper_cut c.upper) (drop r cs)

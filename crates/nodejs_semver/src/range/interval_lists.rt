@@ -3,11 +3,11 @@
 ghost use Rattle.std.specs.Prelude.{◌++◌, ◌<◌, ◌∷◌, ◌≡◌, ◌≢◌, ◌⊎◌, IsOkAnd};
 ghost use Rattle.nodejs_semver.specs.Words.{[], clip, covers, flat_map, if_any, IfOk, is_interval};
 ghost use Rattle.nodejs_semver.specs.Words.{is_some, IsAlong, IsTrue, length, list_all, list_any};
-ghost use Rattle.nodejs_semver.specs.Words.{meet, meets_of, minus, OnErr, OnOk, option_to_list};
-ghost use Rattle.nodejs_semver.specs.Words.{remainder, Start, true, Unbounded};
+ghost use Rattle.nodejs_semver.specs.Words.{IsNear, meet, meets_of, minus, OnErr, OnOk};
+ghost use Rattle.nodejs_semver.specs.Words.{option_to_list, remainder, Start, true, Unbounded};
 
 use crate::Allocated;
-use crate::range::Intervals;
+use crate::range::{Intervals, MANY};
 use semver_core::cuts::{Interval, Point};
 use smallvec::SmallVec;
 use std::alloc::Global;
@@ -21,12 +21,14 @@ pub(crate) fn push_all_intersections<V: Point>(
     these: &[Interval<V>],
     others: &[Interval<V>],
 ) -> Allocated<()>
+    requires { list_all (is_interval V.cmp) others.now ≡ true }
     ensures items { OnOk result (found.new.items
         ≡ found.old.items ++ meets_of V.cmp these.now others.now) }
     ensures memory { OnErr result (0 < length (meets_of V.cmp these.now others.now)) }
 {
+    let are_along = are_along(others);
     for interval in these {
-        push_intersections(alloc, found, interval, others)?;
+        push_intersections(alloc, found, interval, near(interval, others, are_along))?;
     }
     Ok(())
 }
@@ -59,10 +61,12 @@ pub(crate) fn differences<V: Point>(
 /// Whether some interval of the first list meets some interval of the second: whether they have an
 /// intersection.
 pub(crate) fn meet_somewhere<V: Point>(these: &[Interval<V>], others: &[Interval<V>]) -> bool
+    requires { list_all (is_interval V.cmp) others.now ≡ true }
     ensures { result ≡ is_some (if_any (meets_of V.cmp these.now others.now)) }
 {
+    let are_along = are_along(others);
     for interval in these {
-        for other in others {
+        for other in near(interval, others, are_along) {
             if interval.meets(other) {
                 return true;
             }
@@ -73,16 +77,46 @@ pub(crate) fn meet_somewhere<V: Point>(these: &[Interval<V>], others: &[Interval
 
 /// Whether some interval of the first list covers some interval of the second.
 pub(crate) fn cover_somewhere<V: Point>(these: &[Interval<V>], others: &[Interval<V>]) -> bool
+    requires { list_all (is_interval V.cmp) others.now ≡ true }
     ensures { result ≡ list_any (λ s. list_any (λ t. covers V.cmp s t) others.now) these.now }
 {
+    let are_along = are_along(others);
     for interval in these {
-        for other in others {
+        for other in near(interval, others, are_along) {
             if interval.covers(other) {
                 return true;
             }
         }
     }
     false
+}
+
+// Whether there are many intervals, which stand in order along the line and do not overlap.
+fn are_along<V: Point>(intervals: &[Interval<V>]) -> bool
+    requires { list_all (is_interval V.cmp) intervals.now ≡ true }
+    ensures { IsTrue result → IsAlong V.cmp Start intervals.now }
+{
+    intervals.len() >= MANY && intervals.is_sorted_by(|one, next| !one.reaches(next))
+}
+
+// Some of the others that stand together, and outside of which none meets the interval: of those
+// that stand along the line, the ones that meet it.
+fn near<'a, V: Point>(
+    interval: &Interval<V>,
+    others: &'a [Interval<V>],
+    are_along: bool,
+) -> &'a [Interval<V>]
+    requires { IsTrue are_along → IsAlong V.cmp Start others.now }
+    ensures { IsNear V.cmp interval.now others.now result.now }
+{
+    if !are_along {
+        return others;
+    }
+    let first = others.partition_point(|other| !other.reaches(interval));
+    let (_, behind) = others.split_at(first);
+    let end = behind.partition_point(|other| interval.reaches(other));
+    let (near, _) = behind.split_at(end);
+    near
 }
 
 // Puts what one interval has in common with each of the others at the end. Most pairs do not meet.

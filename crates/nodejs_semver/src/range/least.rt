@@ -10,6 +10,7 @@
 // candidates are the first versions past the lower cuts, one for an interval.
 
 ghost use Rattle.nodejs_semver.specs.Internal.Candidates as spec;
+ghost use Rattle.nodejs_semver.specs.Internal.Index.{wants};
 ghost use Rattle.nodejs_semver.specs.Ranges.Least as stated;
 ghost use Rattle.nodejs_semver.specs.contracts.range.RangeOf.{the_row};
 ghost use Rattle.std.specs.Mem.{FitsInMemory};
@@ -22,6 +23,7 @@ ghost use Rattle.nodejs_semver.specs.Words.{VersionValue};
 
 use crate::range::best::all_accept;
 use crate::range::gate::accepts;
+use crate::range::index::Indexes;
 use crate::range::neighbours::{
     bare, bare_release, first_pre, owned, patch_after, pre_after, with_least_build,
 };
@@ -71,7 +73,8 @@ impl<V: VersionPoint> RangeOf<V> {
     /// 1.0.1-0 for `>1.0.0 <1.0.1-5`, or one of an interval without a lower bound, has no build. Of
     /// equal results it is the one of the first interval.
     ///
-    /// As measured, time grows at most with the square of the number of intervals.
+    /// As measured, time grows with n log n for n intervals, or with n squared where there is no
+    /// memory for an index of them.
     ///
     /// ```rust
     /// let range = Range::parse(alloc, ">1.0.0 <1.0.1-5")?;
@@ -104,7 +107,8 @@ impl<V: VersionPoint> RangeOf<V> {
     /// It is not the smallest version of the difference of the two: `>=1.2.3-a` beyond `>=1.0.0` is
     /// 1.2.3-a, which the second range holds and does not accept.
     ///
-    /// As measured, time grows at most with the square of the number of intervals of both ranges.
+    /// As measured, time grows with n log n for n intervals of both ranges, or with n squared where
+    /// there is no memory for an index of them.
     ///
     /// ```rust
     /// let wide = Range::parse(alloc, "^1")?;
@@ -140,7 +144,8 @@ impl<V: VersionPoint> RangeOf<V> {
     /// It is not the smallest version of the intersection: of `>=1.2.3-a` and `>=1.0.0` it is
     /// 1.2.3, while their intersection accepts 1.2.3-a, which the second range does not accept.
     ///
-    /// Time grows at most with the square of the number of intervals of all ranges.
+    /// As measured, time grows with the number of ranges times n log n for n intervals of all, or
+    /// with n squared where there is no memory for an index of them.
     ///
     /// ```rust
     /// let ranges = [
@@ -242,13 +247,14 @@ pub(crate) trait Search {
     // Whether the least version is copied. Where it is only asked whether there is one, none is.
     ghost copies: { Self → Bool };
 
-    // What types the set wants to be no larger than memory. That is so wherever there is a value of
-    // the type, and references to values in a struct do not show it.
-    ghost fits: { Type 0 };
+    // What the set wants of its parts: types no larger than memory, which is so wherever there is a
+    // value of the type, and which references to values in a struct do not show; and indexes that
+    // are those of its lists.
+    ghost fits: { Self → Type 0 };
 
     // Whether the version, without its build, is in the set.
     fn wants<C: Versioned>(&self, version: &C) -> bool
-        requires { fits }
+        requires { fits self.now }
         ensures { result ≡ wanted self.now (spec.bare (C.value version.now)) };
 
     fn copies(&self) -> bool
@@ -260,7 +266,33 @@ pub(crate) trait Search {
 pub(crate) struct Beyond<'a, V: VersionPoint, W: VersionPoint> {
     pub kept: &'a [RangeOf<V>],
     pub removed: &'a [Interval<W>],
+    indexes: Option<Indexes<'a, V, W>>,
     pub copies: bool,
+}
+
+impl<'a, V: VersionPoint, W: VersionPoint> Beyond<'a, V, W> {
+    // The versions, with indexes where there are many intervals.
+    pub(crate) fn new(
+        alloc: Global,
+        kept: &'a [RangeOf<V>],
+        removed: &'a [Interval<W>],
+        copies: bool,
+    ) -> Beyond<'a, V, W>
+        ensures kept { result.kept.now ≡ kept.now }
+        ensures removed { result.removed.now ≡ removed.now }
+        ensures copies { result.copies ≡ copies }
+        ensures indexed { IfSome result.indexes (λ i. (v : VersionValue) →
+            wants i.kept.items i.removed v
+            ≡ spec.wanted kept.now (spans_of W.value removed.now) v) }
+    {
+        let indexes = Indexes::of_many(alloc, kept, removed);
+        Beyond {
+            kept,
+            removed,
+            indexes,
+            copies,
+        }
+    }
 }
 
 impl<'a, V: VersionPoint, W: VersionPoint> Search for Beyond<'a, V, W> {
@@ -268,12 +300,17 @@ impl<'a, V: VersionPoint, W: VersionPoint> Search for Beyond<'a, V, W> {
 
     ghost copies = { λ s. s.copies };
 
-    ghost fits = { FitsInMemory (the_row V.row V.Versioned (record { takes = V.takes })
-        (record { cmp = V.cmp }) V.PartialEq (record { partial_cmp = V.partial_cmp })) };
+    ghost fits = { λ s. FitsInMemory (the_row V.row V.Versioned (record { takes = V.takes })
+        (record { cmp = V.cmp }) V.PartialEq (record { partial_cmp = V.partial_cmp }))
+        × IfSome s.indexes (λ i. (v : VersionValue) → wants i.kept.items i.removed v
+        ≡ spec.wanted s.kept.now (spans_of W.value s.removed.now) v) };
 
     #[tactic(auto, using(crate::proofs::Questions::Least::wanted_bare))]
     fn wants<C: Versioned>(&self, version: &C) -> bool {
-        all_accept(self.kept, version) && !accepts(self.removed, version, false)
+        match &self.indexes {
+            Some(indexes) => indexes.want(version),
+            None => all_accept(self.kept, version) && !accepts(self.removed, version, false),
+        }
     }
 
     fn copies(&self) -> bool {
@@ -287,7 +324,7 @@ impl<V: VersionPoint> Search for RangeOf<V> {
 
     ghost copies = { λ range. true };
 
-    ghost fits = { ⊤ };
+    ghost fits = { λ range. ⊤ };
 
     #[tactic(auto, using(crate::proofs::Questions::Least::held_alike))]
     fn wants<C: Versioned>(&self, version: &C) -> bool {
@@ -318,7 +355,7 @@ fn consider<S: Search, C: Versioned>(
     best: &mut Option<Version>,
     version: &C,
 ) -> Allocated<()>
-    requires { S.fits }
+    requires { S.fits search.now }
     ensures best { OnOk result (best.new
         ≡ spec.better_kept (S.copies search.now) (S.wanted search.now) best.old
         (spec.bare (C.value version.now))) }
@@ -343,7 +380,7 @@ fn consider_from<S: Search, C: Versioned>(
     best: &mut Option<Version>,
     version: &C,
 ) -> Allocated<()>
-    requires { S.fits }
+    requires { S.fits search.now }
     ensures best { OnOk result (best.new
         ≡ fold (spec.better_kept (S.copies search.now) (S.wanted search.now)) best.old
         (spec.firsts (Beside (C.value version.now) Near))) }
@@ -367,7 +404,7 @@ fn consider_after<S: Search, C: Versioned>(
     best: &mut Option<Version>,
     version: &C,
 ) -> Allocated<()>
-    requires fits { S.fits }
+    requires fits { S.fits search.now }
     requires raisable { (C.value version.now).patch < 2 ^ 64 - 1 }
     ensures best { OnOk result (best.new
         ≡ fold (spec.better_kept (S.copies search.now) (S.wanted search.now)) best.old
@@ -393,7 +430,7 @@ fn consider_past<S: Search, C: Versioned>(
     best: &mut Option<Version>,
     bound: &Bound<C>,
 ) -> Allocated<()>
-    requires fits { S.fits }
+    requires fits { S.fits search.now }
     requires raisable { spec.Raisable (bound_of C.value bound.now) }
     ensures best { OnOk result (best.new
         ≡ fold (spec.better_kept (S.copies search.now) (S.wanted search.now)) best.old
@@ -415,7 +452,7 @@ fn consider_named<S: Search, C: Versioned>(
     best: &mut Option<Version>,
     bound: &Bound<C>,
 ) -> Allocated<()>
-    requires { S.fits }
+    requires { S.fits search.now }
     ensures best { OnOk result (best.new
         ≡ fold (spec.better_kept (S.copies search.now) (S.wanted search.now)) best.old
         (flat_map spec.firsts (spec.below_named (bound_of C.value bound.now)))) }
@@ -437,7 +474,7 @@ fn consider_range<S: Search, V: VersionPoint>(
     best: &mut Option<Version>,
     range: &RangeOf<V>,
 ) -> Allocated<()>
-    requires { S.fits }
+    requires { S.fits search.now }
     ensures best { OnOk result (best.new
         ≡ fold (spec.better_kept (S.copies search.now) (S.wanted search.now)) best.old
         (flat_map spec.firsts (spec.list_marks range.now))) }
@@ -460,7 +497,7 @@ pub(crate) fn consider_all<S: Search, V: VersionPoint, W: VersionPoint>(
     kept: &[RangeOf<V>],
     removed: &[Interval<W>],
 ) -> Allocated<()>
-    requires fits { S.fits }
+    requires fits { S.fits search.now }
     requires removed { All spec.IsRaisable (spans_of W.value removed.now) }
     ensures best { OnOk result (best.new
         ≡ fold (spec.better_kept (S.copies search.now) (S.wanted search.now)) best.old
@@ -493,11 +530,7 @@ fn least_among<V: VersionPoint, W: VersionPoint>(
     ensures memory { OnErr result (spec.MayAllocate true kept.now (spans_of W.value removed.now)) }
 {
     let mut best = None;
-    let search = Beyond {
-        kept,
-        removed,
-        copies: true,
-    };
+    let search = Beyond::new(alloc, kept, removed, true);
     consider_all(alloc, &search, &mut best, kept, removed)?;
     Ok(best)
 }
@@ -509,7 +542,7 @@ fn consider_first<S: Search, C: Versioned>(
     best: &mut Option<Version>,
     bound: &Bound<C>,
 ) -> Allocated<()>
-    requires fits { S.fits }
+    requires fits { S.fits search.now }
     requires raisable { spec.Raisable (bound_of C.value bound.now) }
     ensures best { OnOk result (best.new
         ≡ spec.better_kept (S.copies search.now) (S.wanted search.now) best.old

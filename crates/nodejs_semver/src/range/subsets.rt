@@ -17,7 +17,9 @@ impl<V: VersionPoint> RangeOf<V> {
     ///
     /// Fails only if allocation fails, which happens only where this range has a lower bound `>v`
     /// of a pre-release v, or the other an upper bound `<=v` of one: then v with one more
-    /// identifier is made to try it. Nothing else is allocated, whatever the answer is.
+    /// identifier is made to try it. Of many intervals an index is made too. As measured, time then
+    /// grows with n log n for n intervals of both, or with n squared where there is no memory for
+    /// the index.
     ///
     /// node-semver's `subset` answers false where no version shows it, as of `>=1 <3` in `1 || 2`.
     ///
@@ -35,11 +37,7 @@ impl<V: VersionPoint> RangeOf<V> {
         ensures memory { OnErr result (MayTryOne self.now other.now) }
     {
         let (kept, removed) = (from_ref(self), other.items());
-        let search = Beyond {
-            kept,
-            removed,
-            copies: false,
-        };
+        let search = Beyond::new(alloc, kept, removed, false);
         let mut found = None;
         consider_all(alloc, &search, &mut found, kept, removed)?;
         Ok(found.is_none())

@@ -4,11 +4,13 @@ ghost use Rattle.std.specs.Prelude.{◌++◌, ◌<◌, ◌||◌, ◌∷◌, ◌�
 ghost use Rattle.nodejs_semver.specs.Words.{AreTaking, Bool, IfOk, OnErr, OnOk, TakesMemory};
 ghost use Rattle.nodejs_semver.specs.Words.{VersionValue, [], accepts, bound_of, covers, has_bound};
 ghost use Rattle.nodejs_semver.specs.Words.{length, lets_in, not, passes, precedence, span_of};
-ghost use Rattle.nodejs_semver.specs.{Words.true, Internal.Questions.is_said};
+ghost use Rattle.nodejs_semver.specs.{Words.{IfSome, spans_of, true}, Internal.Questions.is_said};
+ghost use Rattle.nodejs_semver.specs.Internal.Index.{IsIndexOf};
 ghost use Rattle.nodejs_semver.specs.Ranges.Unions.{says_all, union};
 
 use crate::RangeOf;
 use crate::range::gate::lets_in;
+use crate::range::index::Index;
 use crate::range::{Intervals, copy_intervals};
 use semver_core::VersionPoint;
 use semver_core::cuts::{Bound, Interval};
@@ -31,7 +33,9 @@ impl<V: VersionPoint> RangeOf<V> {
     /// assert!(rt; one.union(alloc, &other).ok() == either);
     /// ```
     ///
-    /// As measured, time grows with the number of intervals of one times that of the other.
+    /// As measured, time grows with n log n for n intervals of both. It grows with n squared where
+    /// the other's intervals have pre-releases of different numbers at both ends, or where there is
+    /// no memory for an index.
     pub fn union(&self, alloc: Global, other: &RangeOf<V>) -> Result<RangeOf<V>, AllocError>
         ensures list { IfOk result (λ r. r ≡ union self.now other.now) }
         // It accepts exactly what either accepts.
@@ -41,7 +45,8 @@ impl<V: VersionPoint> RangeOf<V> {
     {
         let (these, others) = (self.items(), other.items());
         let mut intervals = copy_intervals(alloc, these)?;
-        push_others(alloc, &mut intervals, these, others)?;
+        let index = Index::of_many(alloc, these);
+        push_others(alloc, &mut intervals, these, &index, others)?;
         Ok(RangeOf::of_some(intervals))
     }
 }
@@ -66,16 +71,18 @@ fn push_others<V: VersionPoint>(
     alloc: Global,
     found: &mut Intervals<V>,
     these: &[Interval<V>],
+    index: &Option<Index<'_, V>>,
     others: &[Interval<V>],
 ) -> Result<(), AllocError>
-    requires { 1 ≤ found.old.capacity }
+    requires room { 1 ≤ found.old.capacity }
+    requires index { IfSome index.now (IsIndexOf (spans_of V.value these.now)) }
     ensures whole { OnOk result (found.new.items
         ≡ found.old.items ++ filter (λ t. not (is_said V.value these.now t)) others.now) }
     ensures memory { OnErr result (AreTaking V.takes
         (found.old.items ++ filter (λ t. not (is_said V.value these.now t)) others.now)) }
 {
     for other in others {
-        if !is_said(these, other) {
+        if !is_said(these, index, other) {
             push_copy(alloc, found, other)?;
         }
     }
@@ -83,9 +90,19 @@ fn push_others<V: VersionPoint>(
 }
 
 // Whether one of these intervals says all of the other.
-fn is_said<V: VersionPoint>(these: &[Interval<V>], other: &Interval<V>) -> bool
+fn is_said<V: VersionPoint>(
+    these: &[Interval<V>],
+    index: &Option<Index<'_, V>>,
+    other: &Interval<V>,
+) -> bool
+    requires { IfSome index.now (IsIndexOf (spans_of V.value these.now)) }
     ensures { result ≡ is_said V.value these.now other.now }
 {
+    if let Some(index) = index {
+        if let Some(answer) = index.say_all(other) {
+            return answer;
+        }
+    }
     these.iter().any(|interval| says_all(interval, other))
 }
 

@@ -2,6 +2,7 @@
 
 use key_spans::{KeySpan, key_spans};
 use nodejs_semver::Range;
+use std::hash::{DefaultHasher, Hash, Hasher};
 use std::test::Fail;
 
 // Whether there is a span, and it is this one.
@@ -46,5 +47,22 @@ fn one_span_for_touching_alternatives(rt: HostRuntime) -> Result<(), Fail> {
     let range = Range::parse(rt.alloc(), "^1.2.3 || 1.4.x")?;
     let spans = key_spans(rt.alloc(), &range, false)?;
     assert!(rt; spans.len() == 1);
+    Ok(())
+}
+
+fn hash_of(spans: &[KeySpan]) -> u64 {
+    let mut state = DefaultHasher::new();
+    spans.hash(&mut state);
+    state.finish()
+}
+
+#[test]
+fn one_hash_for_one_set_of_versions(rt: HostRuntime) -> Result<(), Fail> {
+    let one = key_spans(rt.alloc(), &Range::parse(rt.alloc(), ">=1 <3")?, false)?;
+    let same = key_spans(rt.alloc(), &Range::parse(rt.alloc(), "2 || 1")?, false)?;
+    let other = key_spans(rt.alloc(), &Range::parse(rt.alloc(), "1")?, false)?;
+    assert!(rt; one.as_slice() == same.as_slice());
+    assert!(rt; hash_of(&one) == hash_of(&same));
+    assert!(rt; hash_of(&one) != hash_of(&other));
     Ok(())
 }

@@ -1,5 +1,5 @@
 use Rattle.nodejs_semver.proofs.Common.{IfOk-weaker, ap, arith, if_any, length, on_err, on_err_weaker, spans_of, subst, sym, ◌<◌, ◌∙◌}
-use Rattle.nodejs_semver.proofs.Algebra.Clauses.{listed_none, listed_some, meets_of-is, meets_of-lone, meets_of-some, meets_of-valid}
+use Rattle.nodejs_semver.proofs.Algebra.Clauses.{intervals-ordered, listed_none, listed_some, meets_of-is, meets_of-lone, meets_of-some, meets_of-valid}
 use Rattle.nodejs_semver.proofs.range.RangeOf.common.Goals as goal
 
 pub returns-then-not-meets-clause-list : goal.returns-then-not-meets-clause-list
@@ -30,6 +30,13 @@ returns-then-others-eq1 g c =
           c.items-these.ensures.valid c.items-others.ensures.valid c.items-these.ensures.value c.items-others.ensures.value
           (subst (λ l. 0 < length l) (sym lone) (listed_some _ e))) c.common_of_two.ensures.memory;
     }
+
+pub push_all_intersections-requires : goal.push_all_intersections-requires
+push_all_intersections-requires g c = (
+  omega arith,
+  intervals-ordered _ _ g.met.V.VersionPoint.ordered _ _ _ _
+      c.items-others.ensures.valid c.items-these.ensures.valid c.items-others.ensures.value c.items-these.ensures.value,
+)
 
 pub of_intervals-requires : goal.of_intervals-requires
 of_intervals-requires g c =

@@ -1,4 +1,4 @@
-use Rattle.nodejs_semver.proofs.Common.{ap, arith, difference, if_any, on_err, ◌≡◌}
+use Rattle.nodejs_semver.proofs.Common.{ap, arith, if_any, on_err}
 use Rattle.nodejs_semver.proofs.Algebra.Accepting.{difference_accepts}
 use Rattle.nodejs_semver.proofs.Algebra.Clauses.{difference-all, difference-releases, difference-set, intervals-ordered, minus-is, minus-some}
 use Rattle.nodejs_semver.proofs.Algebra.Clauses.{minus-valid}

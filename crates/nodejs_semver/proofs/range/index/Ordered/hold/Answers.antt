@@ -1,0 +1,42 @@
+use Rattle.nodejs_semver.proofs.Common.{Before, VersionValue, is_past, precedence, ap, arith, is_eq, not, rules, subst, sym, ◌∙◌}
+use Rattle.std.proofs.lemmas.List.Sorted.{IsPartitionPoint-from_clause}
+use Rattle.nodejs_semver.proofs.Questions.Index.{found, found_none, found_other, parted, up_past}
+use Rattle.nodejs_semver.specs.Internal.Index.{AreInOrder, begins_past, entries_hold, is_upto}
+use Rattle.nodejs_semver.proofs.range.index.Ordered.hold.Goals as goal
+
+pub returns-in_default : goal.returns-in_default
+returns-in_default g c =
+    let n : VersionValue = g.N.Versioned.value c.args.numbers.now in
+    let v : VersionValue = g.W.Versioned.value c.args.version.now in
+    let o : AreInOrder c.deref.result.now = subst AreInOrder (sym c.deref.ensures.value) c.self.invariant.0 in
+    let point = IsPartitionPoint-from_clause (is_upto n (begins_past v)) c.deref.result.now _ c.partition_point-past.ensures.partitioned
+    (parted n (Before v) c.deref.result.now o) (λ a r q k. search rules) in
+    found_none n (begins_past v) (λ x. not (is_past precedence x v)) c.deref.result.now c.partition_point-past.result (omega (arith, c.in_default.ensures)) point
+    ∙ ap (λ es. entries_hold es n v) (c.deref.ensures.value ∙ c.self.view_is)
+
+pub returns-then-is_eq : goal.returns-then-is_eq
+returns-then-is_eq g c =
+    let n : VersionValue = g.N.Versioned.value c.args.numbers.now in
+    let v : VersionValue = g.W.Versioned.value c.args.version.now in
+    let o : AreInOrder c.deref.result.now = subst AreInOrder (sym c.deref.ensures.value) c.self.invariant.0 in
+    let point = IsPartitionPoint-from_clause (is_upto n (begins_past v)) c.deref.result.now _ c.partition_point-past.ensures.partitioned
+    (parted n (Before v) c.deref.result.now o) (λ a r q k. search rules) in
+    ap not c.is_past_upper.ensures
+    ∙ found n (begins_past v) (λ x. not (is_past precedence x v)) c.deref.result.now c.partition_point-past.result c.in-Some.last o c.partition_point-past.ensures.bound (omega (arith, c.in-Some.ensures)) point
+    c.index.result.now _ (rw c.deref.ensures.value c.index.ensures)
+    (rw (sym c.behind-self.view_is) (sym (c.is_eq.ensures ∙ ap is_eq c.cmp_precedence.ensures) ∙ c.if-is_eq.true)) (up_past v)
+    (rw c.deref.ensures.value (rw (sym c.index-then-is_eq.ensures) at (c.self.invariant.1.1 c.in-Some.last c.index-then-is_eq.result.now (omega (arith, c.in-Some.ensures, c.self.invariant.1.0, c.partition_point-past.ensures.bound, c.deref.ensures.len)))))
+    ∙ ap (λ es. entries_hold es n v) (c.deref.ensures.value ∙ c.self.view_is)
+
+pub returns-else-is_eq : goal.returns-else-is_eq
+returns-else-is_eq g c =
+    let n : VersionValue = g.N.Versioned.value c.args.numbers.now in
+    let v : VersionValue = g.W.Versioned.value c.args.version.now in
+    let o : AreInOrder c.deref.result.now = subst AreInOrder (sym c.deref.ensures.value) c.self.invariant.0 in
+    let point = IsPartitionPoint-from_clause (is_upto n (begins_past v)) c.deref.result.now _ c.partition_point-past.ensures.partitioned
+    (parted n (Before v) c.deref.result.now o) (λ a r q k. search rules) in
+    c.if-is_eq.false
+    ∙ found_other n (begins_past v) (λ x. not (is_past precedence x v)) c.deref.result.now c.partition_point-past.result c.in-Some.last o c.partition_point-past.ensures.bound (omega (arith, c.in-Some.ensures)) point
+    c.index.result.now (rw c.deref.ensures.value c.index.ensures)
+    (rw (sym c.behind-self.view_is) (sym (c.is_eq.ensures ∙ ap is_eq c.cmp_precedence.ensures) ∙ c.if-is_eq.false))
+    ∙ ap (λ es. entries_hold es n v) (c.deref.ensures.value ∙ c.self.view_is)
