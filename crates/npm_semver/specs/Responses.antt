@@ -119,11 +119,11 @@ HasNoVersion q = (q.is_strict ≡ true)
 abbrev pub is_plain : ℕ → Bool
 is_plain c = not (is_in_range 0 31 c || c == 34 || c == 92)
 
--- the character stands in what is printed as it is; in a record all do but its end, where a field is
--- read
+-- the character stands in what is printed as it is; with a field or NUL bytes a record holds all but
+-- its end
 abbrev pub stands : Asked → ℕ → Bool
-stands q c = if is_some q.reading.field && not q.is_json then not (c == end_of q.ends_in_nul)
-    else is_plain c
+stands q c = if (is_some q.reading.field || q.ends_in_nul) && not q.is_json
+    then not (c == end_of q.ends_in_nul) else is_plain c
 
 -- some text may be printed as it was given, though more than a version stands in it, and is no record
 -- or no JSON string as it is

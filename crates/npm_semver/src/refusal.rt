@@ -172,7 +172,7 @@ fn all_stand(question: &Question<'_>) -> bool
     ensures { result ≡ list_all (λ t. list_all (stands (asked_of question.now)) t.now)
         question.now.versions.items }
 {
-    if question.reading.field.is_some() && !question.is_json {
+    if (question.reading.field.is_some() || question.ends_in_nul) && !question.is_json {
         lack(question.end(), &question.versions)
     } else {
         are_plain(&question.versions)
