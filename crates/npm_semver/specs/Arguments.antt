@@ -1,6 +1,6 @@
 -- Statement: what the arguments of the command ask for.
-use Rattle.std.specs.Prelude.{◌≡◌, ◌≢◌, ◌==◌, ◌&&◌, ◌^◌, ◌∷◌, ◌++◌, [], not, ℕ, Bool, true, false, List, Option}
-use Rattle.std.specs.Prelude.{Some, None, codes, drop, nat_lt, take, unwrap_or, if◌then◌else◌}
+use Rattle.std.specs.Prelude.{◌≡◌, ◌≢◌, ◌==◌, ◌&&◌, ◌∷◌, ◌++◌, [], not, ℕ, Bool, true, false, List, Option}
+use Rattle.std.specs.Prelude.{◌^◌, Some, None, codes, drop, nat_lt, take, unwrap_or, if◌then◌else◌}
 use Rattle.std.specs.Char.{is_ascii_digit}
 use Rattle.std.specs.List.{list_all, list_any}
 use Rattle.std.specs.Str.{bytes_eq}

@@ -26,7 +26,7 @@ pub struct ReadOptions {
     pub is_coerced: bool,
     /// Whether it is the one that ends last there.
     pub from_right: bool,
-    /// The field of a text that is read, counted from 1, if not all of it is; none has the number 0.
+    /// The number of the field of a text that is read, if not all of it is; none has number 0.
     pub field: Option<usize>,
 }
 
