@@ -1,6 +1,6 @@
 // How version texts and range texts are read.
 
-ghost use Rattle.std.specs.Prelude.{◌≡◌, ◌-◌, IfNone, IfOk, IfSome, option_map, slice_get};
+ghost use Rattle.std.specs.Prelude.{◌≡◌, IfNone, IfOk, IfSome, option_map, slice_get};
 ghost use Rattle.semver_core.specs.Failures.{NoValue};
 ghost use Rattle.semver_core.specs.declared.TheConstants.{MAX_SAFE_INTEGER};
 ghost use Rattle.npm_reading.specs.Ranges.{IsRangeIn};
