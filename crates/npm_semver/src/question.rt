@@ -4,7 +4,8 @@ ghost use Rattle.std.specs.Prelude.{◌≡◌, [], IfOk, OnOk, map, option_map, 
 ghost use Rattle.npm_semver.specs.Arguments as Spec;
 ghost use Rattle.npm_semver.specs.Arguments.{IsAsked, asked_by, base_of, field_of, has_level};
 ghost use Rattle.npm_semver.specs.Arguments.{left_by, level_of, nothing_asked, word_of};
-ghost use Rattle.std.specs.Prelude.{◌==◌, ◌^◌, nat_lt, true, if◌then◌else◌};
+ghost use Rattle.std.specs.Prelude.{◌==◌, ◌^◌, ◌∷◌, ◌++◌, Some, nat_lt, true, unwrap_or};
+ghost use Rattle.std.specs.Prelude.{if◌then◌else◌};
 ghost use Rattle.std.specs.Char.{is_ascii_digit};
 ghost use Rattle.std.specs.List.{list_all, slice_split};
 ghost use Rattle.std.specs.Str.Lines.{lines};
@@ -197,21 +198,40 @@ impl<'a> Question<'a> {
             Word::Least => self.pick = Pick::Least,
             Word::KeepOrder => self.keeps_order = true,
             Word::AsWritten => self.as_written = true,
-            Word::Field => {
-                self.reading.field = Some(field(words.take_value()));
-                self.as_written = true;
-            }
+            Word::Field => self.read_field(words.take_value()),
             Word::Json => self.is_json = true,
             Word::Strict => self.is_strict = true,
             Word::Why => self.is_why = true,
             Word::Input => self.reads_input = true,
             Word::Nul => self.ends_in_nul = true,
-            Word::Unknown => {
-                self.unknown = Some(self.unknown.unwrap_or(text));
-                self.versions.push(text)?;
-            }
+            Word::Unknown => self.add_unknown(text)?,
             Word::Text => self.versions.push(text)?,
         }
+        Ok(())
+    }
+
+    // Reads the field of this number, of texts that are printed as they were given.
+    fn read_field(&mut self, number: Option<&'a str>)
+        ensures { let q = asked_of self.old in asked_of self.new ≡ record q {
+          reading = record q.reading {
+            field = Some (field_of (option_map (λ t. t.now) number.entry));
+          };
+          as_written = true;
+        } }
+    {
+        self.reading.field = Some(field(number));
+        self.as_written = true;
+    }
+
+    // Adds a word that looks like an option and is none.
+    fn add_unknown(&mut self, word: &'a str) -> Result<(), AllocError>
+        ensures { OnOk result (let q = asked_of self.old in asked_of self.new ≡ record q {
+          versions = q.versions ++ word.now ∷ [];
+          unknown = Some (unwrap_or q.unknown word.now);
+        }) }
+    {
+        self.unknown = Some(self.unknown.unwrap_or(word));
+        self.versions.push(word)?;
         Ok(())
     }
 
