@@ -1,8 +1,8 @@
 -- What is printed as lines, read again, prints the same.
 use Rattle.npm_semver.{proofs.Ties.{not_itself, same_emptiness, shown_map, text_map, unbuilt, unbuilt_same}, specs.{Arguments.Asked, Laws.EachText}}
-use Rattle.npm_semver.specs.{Listing.{AllSay, AreListed, Entry, IsListing, Says, order}, Readings.{IsVersionIn, SomeText, found, here, later}}
-use Rattle.npm_semver.specs.{Readings.{not_found, strict}, Responses.{IsRefused, Responds, UnknownOption, UnreadRange, Written, bare, given, in_order, increment, json, line}}
-use Rattle.npm_semver.specs.{Responses.{no_version, picked, printed_text, prints_as_given, refused, shown, text_of, unknown, unread, unshown, versions}, declared.question.Pick.Pick}
+use Rattle.npm_semver.specs.{Listing.{AllSay, AreListed, Entry, IsGiven, IsListing, Says, order}, Readings.{IsVersionIn, SomeText, found, here, later}}
+use Rattle.npm_semver.specs.{Readings.{IsVersionAs, not_found, strict}, Responses.{IsRefused, NoFieldNumber, Responds, UnknownOption, UnreadRange, Written, bare, ended, given, in_order, increment, json}}
+use Rattle.npm_semver.specs.{Responses.{no_number, no_version, picked, printed_text, prints_as_given, records, refused, shown, text_of, unknown, unread, unshown, versions, without_empty_end}, declared.question.Pick.Pick}
 use Rattle.{npm_semver.specs.declared.reading.ReadOptions.ReadOptions, npm_words.specs.VersionText.IsVersionText, semver_core.specs.Failures.NoValue}
 use Rattle.semver_core.specs.{Lists.is_empty, Printing.Text.version_text, Text.Characters.{IsTrim, begins, is_identifier_char, is_whitespace}}
 use Rattle.{semver_core.specs.{Values.{Order.precedence, Versions.VersionValue}, declared.TheConstants.MAX_SAFE_INTEGER}, std.proofs.Common.Bool}
@@ -10,7 +10,7 @@ use Rattle.std.proofs.Common.{IsUtf8, List, None, Some, [], ap, append-nil, arit
 use Rattle.std.proofs.{Common.{sym, take, true, zero, ℕ, ◌++◌, ◌+◌, ◌-◌, ◌<◌, ◌==◌, ◌||◌, ◌∙◌, ◌∷◌, ◌≡◌}, lemmas.Bool.{Decides.nat_tests, and_parts}}
 use Rattle.std.proofs.lemmas.List.{Elements.{All-cons, All-nil, All-take, recursion_from_All}, Folds.list_all-append, Sorted.All-permutation}
 use Rattle.std.proofs.lemmas.List.Sorted.{IsPermutation-map, IsPermutation-refl, IsPermutation-reverse, IsPermutation-sym}
-use Rattle.std.proofs.lemmas.{List.{Splits.{length-slice_split, slice_split_at}, get_or-map, length-map, reverse-append}, Str.Ascii.encode_ascii}
+use Rattle.std.proofs.lemmas.{Option.same_Some, List.{Splits.{length-slice_split, slice_split_at}, get_or-map, length-map, reverse-append}, Str.Ascii.encode_ascii}
 use Rattle.std.specs.{Cmp.Lexicographic.{nat_list_cmp_total, slice_cmp}, List.{All, AllByRecursion, Sorted.{IsPermutation, IsSorted}, flat_map}}
 use Rattle.std.specs.{List.{list_all, slice_split}, Ordering.{is_lt, nat_cmp, ordering_then}, Prelude.encode_utf8_all, Str.Lines.lines}
 use Rattle.std.specs.{Str.Lines.{lines_of_parts, strip_carriage_return}, declared.cmp.Ordering.{Ordering, TheVariants.{Equal, Greater, Less}}}
@@ -52,15 +52,43 @@ one_line text rest h =
     ∙ part_more text (slice_split (λ b. b == 10) rest) (omega (arith, length-slice_split (λ b. b == 10) rest))
     ∙ ap (λ (t : List ℕ). t ∷ lines rest) (unstripped text h)
 
-line_joined : (text rest : List ℕ) → (text ++ 10 ∷ []) ++ rest ≡ text ++ 10 ∷ rest
-line_joined [] rest = refl
-line_joined (c ∷ text) rest = ap (λ (t : List ℕ). c ∷ t) (line_joined text rest)
+record_joined : (end : ℕ) (text rest : List ℕ) → (text ++ end ∷ []) ++ rest ≡ text ++ end ∷ rest
+record_joined end [] rest = refl
+record_joined end (c ∷ text) rest = ap (λ (t : List ℕ). c ∷ t) (record_joined end text rest)
 
-all_lines : (texts : List (List ℕ)) → AllByRecursion (λ t. list_all is_plain t ≡ true) texts → lines (flat_map line texts) ≡ texts
+all_lines : (texts : List (List ℕ)) → AllByRecursion (λ t. list_all is_plain t ≡ true) texts → lines (flat_map (ended false) texts) ≡ texts
 all_lines [] h = refl
 all_lines (t ∷ ts) h =
-    ap lines (line_joined t (flat_map line ts)) ∙ one_line t (flat_map line ts) h.0
+    ap lines (record_joined 10 t (flat_map (ended false) ts)) ∙ one_line t (flat_map (ended false) ts) h.0
     ∙ ap (λ (l : List (List ℕ)). t ∷ l) (all_lines ts h.1)
+
+-- ---- records that a NUL byte ends
+
+no_nul : (text : List ℕ) → list_all is_plain text ≡ true → All (λ c. (c == 0) ≡ false) text
+no_nul [] h = All-nil (λ c. (c == 0) ≡ false)
+no_nul (c ∷ rest) h =
+    let (one, others) = and_parts (is_plain c) (list_all is_plain rest) h in
+    All-cons (λ c. (c == 0) ≡ false) c rest (grind (arith, nat_tests, one)) (no_nul rest others)
+
+record_more : (text : List ℕ) (parts : List (List ℕ)) → 0 < length parts → without_empty_end (text ∷ parts) ≡ text ∷ without_empty_end parts
+record_more text [] some = absurd (omega (arith, some))
+record_more text (part ∷ parts) some = refl
+
+one_record : (text rest : List ℕ) → list_all is_plain text ≡ true → records true (text ++ 0 ∷ rest) ≡ text ∷ records true rest
+one_record text rest h =
+    ap without_empty_end (slice_split_at (λ b. b == 0) text 0 rest (no_nul text h) refl)
+    ∙ record_more text (slice_split (λ b. b == 0) rest) (omega (arith, length-slice_split (λ b. b == 0) rest))
+
+all_ended : (texts : List (List ℕ)) → AllByRecursion (λ t. list_all is_plain t ≡ true) texts → records true (flat_map (ended true) texts) ≡ texts
+all_ended [] h = refl
+all_ended (t ∷ ts) h =
+    ap (records true) (record_joined 0 t (flat_map (ended true) ts)) ∙ one_record t (flat_map (ended true) ts) h.0
+    ∙ ap (λ (l : List (List ℕ)). t ∷ l) (all_ended ts h.1)
+
+all_records : (ends_in_nul : Bool) (texts : List (List ℕ)) → AllByRecursion (λ t. list_all is_plain t ≡ true) texts
+    → records ends_in_nul (flat_map (ended ends_in_nul) texts) ≡ texts
+all_records true texts h = all_ended texts h
+all_records false texts h = all_lines texts h
 
 -- ---- a text without whitespace is trimmed
 
@@ -117,17 +145,30 @@ unbuilt_all r v ranges b (Listing.more text texts c d is are) =
 abbrev again_entry : Entry → Entry
 again_entry e = record { version = unbuilt e.version; text = bare e.version }
 
-module _ (reread : Reread) (r : ReadOptions) (ranges : List (List ℕ)) (plainly : r.is_coerced ≡ false) where
+module _ (reread : Reread) (r : ReadOptions) (ranges : List (List ℕ)) (plainly : r.is_coerced ≡ false) (wholly : r.field ≡ None) where
   -- the version is read and accepted as it prints
   abbrev Kept : Entry → Type 0
   Kept e = IsVersionText MAX_SAFE_INTEGER (bare e.version) (unbuilt e.version) × (list_all is_plain (bare e.version) ≡ true)
       × AllSay r (unbuilt e.version) ranges true
 
+  part_kept : (text middle : List ℕ) (v : VersionValue) → IsUtf8 text → IsVersionAs r text v → AllSay r v ranges true
+      → Kept (record { version = v; text = middle })
+  part_kept text middle v u (strict p is) say = let (again, plain) = reread text v u is in (again, plain, unbuilt_all r v ranges true say)
+  part_kept text middle v u (found p is) say = absurd (grind (arith, p, plainly))
+  part_kept text middle v u (not_found p lacks is) say = absurd (grind (arith, p, plainly))
+
   kept : (text middle : List ℕ) (v : VersionValue) → IsUtf8 text → IsVersionIn r text v → AllSay r v ranges true
       → Kept (record { version = v; text = middle })
-  kept text middle v u (strict p is) say = let (again, plain) = reread text v u is in (again, plain, unbuilt_all r v ranges true say)
-  kept text middle v u (found p is) say = absurd (grind (arith, p, plainly))
-  kept text middle v u (not_found p lacks is) say = absurd (grind (arith, p, plainly))
+  kept text middle v u is say =
+      let same : text ≡ is.part = same_Some text is.part (rw wholly at is.has) in
+      part_kept text middle v u (rw (sym same) at is.is) say
+
+  -- the text is the version as a whole
+  whole : (text : List ℕ) (v : VersionValue) → IsVersionText MAX_SAFE_INTEGER text v → IsVersionIn r text v
+  whole text v is = record { part = text; has = rw wholly refl; is = strict plainly is }
+
+  whole_given : (text : List ℕ) → IsTrim text text → IsGiven r text text
+  whole_given text trim = Listing.trimmed text (rw wholly refl) trim
 
   all_kept : (texts : List (List ℕ)) (es : List Entry) → EachText IsUtf8 texts → AreListed r ranges texts es → All Kept es
   all_kept [] es u Listing.none = All-nil Kept
@@ -143,11 +184,11 @@ module _ (reread : Reread) (r : ReadOptions) (ranges : List (List ℕ)) (plainly
   listed_again : (es : List Entry) → AllByRecursion Kept es → AreListed r ranges (map (shown false) es) (map again_entry es)
   listed_again [] h = Listing.none
   listed_again (e ∷ es) h = Listing.accepted (bare e.version) (bare e.version) (map (shown false) es) (unbuilt e.version) (map again_entry es)
-      (strict plainly h.0.0) h.0.2 (plain_trim (bare e.version) h.0.1) (listed_again es h.1)
+      (whole (bare e.version) (unbuilt e.version) h.0.0) h.0.2 (whole_given (bare e.version) (plain_trim (bare e.version) h.0.1)) (listed_again es h.1)
 
   none_lacks : (es : List Entry) → AllByRecursion Kept es → SomeText (λ text. NoValue (IsVersionIn r text)) (map (shown false) es) → ⊥
   none_lacks [] h some = elim some [ ]
-  none_lacks (e ∷ es) h (here _ _ none) = none (unbuilt e.version) (strict plainly h.0.0)
+  none_lacks (e ∷ es) h (here _ _ none) = none (unbuilt e.version) (whole (bare e.version) (unbuilt e.version) h.0.0)
   none_lacks (e ∷ es) h (later _ _ some) = none_lacks es h.1 some
 
 -- ---- those that are picked, in order
@@ -218,40 +259,41 @@ ordered false vs = IsPermutation-refl vs
 
 abbrev written_in : Asked → List Entry → List ℕ
 written_in q printed = if q.is_json then json (map (shown q.as_written) (in_order q.is_reversed printed))
-    else flat_map line (map (shown q.as_written) (in_order q.is_reversed printed))
+    else flat_map (ended q.ends_in_nul) (map (shown q.as_written) (in_order q.is_reversed printed))
 
 lines_asked : (q : Asked) (es : List Entry) → q.is_json ≡ false → q.as_written ≡ false
-    → text_of q es ≡ flat_map line (map (shown false) (in_order q.is_reversed (picked q.pick es)))
+    → text_of q es ≡ flat_map (ended q.ends_in_nul) (map (shown false) (in_order q.is_reversed (picked q.pick es)))
 lines_asked q es plain bare_asked = rw (plain, bare_asked) refl
 
 shown_again : (as_written : Bool) → as_written ≡ false → (e : Entry) → shown as_written (again_entry e) ≡ shown as_written e
 shown_again as_written bare_asked e = rw bare_asked refl
 
 -- of texts that are versions the same is not refused
-allowed_again : (q : Asked) (texts : List (List ℕ)) → NoValue (IsRefused q) → q.reading.is_coerced ≡ false
+allowed_again : (q : Asked) (texts : List (List ℕ)) → NoValue (IsRefused q) → q.as_written ≡ false
     → (SomeText (λ text. NoValue (IsVersionIn q.reading text)) texts → ⊥) → NoValue (IsRefused (record q { versions = texts }))
-allowed_again q texts can plainly are why (unknown e) = can UnknownOption (unknown e)
-allowed_again q texts can plainly are why (unread known some) = can UnreadRange (unread known some)
-allowed_again q texts can plainly are why (no_version known all lacks) = are lacks.1
-allowed_again q texts can plainly are why (unshown known all read some) = absurd (grind (arith, plainly, some.0))
+allowed_again q texts can bare_asked are why (no_number e) = can NoFieldNumber (no_number e)
+allowed_again q texts can bare_asked are why (unknown number e) = can UnknownOption (unknown number e)
+allowed_again q texts can bare_asked are why (unread number known some) = can UnreadRange (unread number known some)
+allowed_again q texts can bare_asked are why (no_version number known all lacks) = are lacks.1
+allowed_again q texts can bare_asked are why (unshown number known all read some) = absurd (grind (arith, bare_asked, some.0))
 
-again_of : Reread → (q : Asked) (es : List Entry) → NoValue (IsRefused q) → q.level ≡ None → prints_as_given q ≡ false → q.reading.is_coerced ≡ false → q.is_json ≡ false
+again_of : Reread → (q : Asked) (es : List Entry) → NoValue (IsRefused q) → q.level ≡ None → prints_as_given q ≡ false → q.reading.is_coerced ≡ false → q.reading.field ≡ None → q.is_json ≡ false
     → q.as_written ≡ false → EachText IsUtf8 q.versions → IsListing q.reading q.ranges q.versions es
-    → Responds (Some (record q { versions = lines (text_of q es) })) (record { output = text_of q es; refusal = None; is_success = not (is_empty es) })
-again_of reread q es can level sorts plainly as_lines bare_asked u listing =
+    → Responds (Some (record q { versions = records q.ends_in_nul (text_of q es) })) (record { output = text_of q es; refusal = None; is_success = not (is_empty es) })
+again_of reread q es can level sorts plainly wholly as_lines bare_asked u listing =
     let chosen : List Entry = picked q.pick es in
     let printed : List Entry = in_order q.is_reversed chosen in
     let moved : IsPermutation printed chosen = ordered q.is_reversed chosen in
-    let of_es = All-permutation (Kept reread q.reading q.ranges plainly) listing.listed es listing.same
-    (all_kept reread q.reading q.ranges plainly q.versions listing.listed u listing.are) in
-    let of_printed = recursion_from_All (Kept reread q.reading q.ranges plainly) printed
-    (All-permutation (Kept reread q.reading q.ranges plainly) chosen printed (IsPermutation-sym printed chosen moved)
-    (picked_all (Kept reread q.reading q.ranges plainly) q.pick es of_es)) in
-    let texts : lines (text_of q es) ≡ map (shown false) printed =
-    ap lines (lines_asked q es as_lines bare_asked)
-    ∙ all_lines (map (shown false) printed) (kept_plain reread q.reading q.ranges plainly printed of_printed) in
+    let of_es = All-permutation (Kept reread q.reading q.ranges plainly wholly) listing.listed es listing.same
+    (all_kept reread q.reading q.ranges plainly wholly q.versions listing.listed u listing.are) in
+    let of_printed = recursion_from_All (Kept reread q.reading q.ranges plainly wholly) printed
+    (All-permutation (Kept reread q.reading q.ranges plainly wholly) chosen printed (IsPermutation-sym printed chosen moved)
+    (picked_all (Kept reread q.reading q.ranges plainly wholly) q.pick es of_es)) in
+    let texts : records q.ends_in_nul (text_of q es) ≡ map (shown false) printed =
+    ap (records q.ends_in_nul) (lines_asked q es as_lines bare_asked)
+    ∙ all_records q.ends_in_nul (map (shown false) printed) (kept_plain reread q.reading q.ranges plainly wholly printed of_printed) in
     let allowed : NoValue (IsRefused (record q { versions = map (shown false) printed })) =
-    allowed_again q (map (shown false) printed) can plainly (none_lacks reread q.reading q.ranges plainly printed of_printed) in
+    allowed_again q (map (shown false) printed) can bare_asked (none_lacks reread q.reading q.ranges plainly wholly printed of_printed) in
     let output : text_of q (map again_entry chosen) ≡ text_of q es = text_map again_entry q (shown_again q.as_written bare_asked) chosen
     ∙ ap (λ (l : List Entry). written_in q l) (picked_twice q.pick es) in
     let filled : is_empty (map again_entry chosen) ≡ is_empty es = map_empty chosen ∙ picked_empty q.pick es in
@@ -259,41 +301,41 @@ again_of reread q es can level sorts plainly as_lines bare_asked u listing =
     (record { output = text_of q (map again_entry chosen); refusal = None; is_success = not (is_empty (map again_entry chosen)) }) =
     versions (record q { versions = map (shown false) printed }) (map again_entry chosen) allowed level sorts (record {
       listed = map again_entry printed;
-      are = listed_again reread q.reading q.ranges plainly printed of_printed;
+      are = listed_again reread q.reading q.ranges plainly wholly printed of_printed;
       same = IsPermutation-map again_entry printed chosen moved;
       sorted = sorted_again chosen (picked_sorted q.pick es listing.sorted);
     }) in
     rw (texts, ← output, ← filled) found
 
-plain_lines : (q : Asked) (es : List Entry) → q.is_json ≡ false → q.as_written ≡ false → printed_text q es ≡ flat_map line (map (shown false) es)
+plain_lines : (q : Asked) (es : List Entry) → q.is_json ≡ false → q.as_written ≡ false → printed_text q es ≡ flat_map (ended q.ends_in_nul) (map (shown false) es)
 plain_lines q es plain bare_asked = rw (plain, bare_asked) refl
 
 -- the same where the order is kept
 given_again : Reread → (q : Asked) (es : List Entry) → NoValue (IsRefused q) → q.level ≡ None → prints_as_given q ≡ true → q.reading.is_coerced ≡ false
-    → q.is_json ≡ false → q.as_written ≡ false → EachText IsUtf8 q.versions → AreListed q.reading q.ranges q.versions es
-    → Responds (Some (record q { versions = lines (printed_text q es) }))
+    → q.reading.field ≡ None → q.is_json ≡ false → q.as_written ≡ false → EachText IsUtf8 q.versions → AreListed q.reading q.ranges q.versions es
+    → Responds (Some (record q { versions = records q.ends_in_nul (printed_text q es) }))
     (record { output = printed_text q es; refusal = None; is_success = not (is_empty es) })
-given_again reread q es can level keeps plainly as_lines bare_asked u are =
-    let of_es = recursion_from_All (Kept reread q.reading q.ranges plainly) es (all_kept reread q.reading q.ranges plainly q.versions es u are) in
-    let texts : lines (printed_text q es) ≡ map (shown false) es = ap lines (plain_lines q es as_lines bare_asked)
-    ∙ all_lines (map (shown false) es) (kept_plain reread q.reading q.ranges plainly es of_es) in
+given_again reread q es can level keeps plainly wholly as_lines bare_asked u are =
+    let of_es = recursion_from_All (Kept reread q.reading q.ranges plainly wholly) es (all_kept reread q.reading q.ranges plainly wholly q.versions es u are) in
+    let texts : records q.ends_in_nul (printed_text q es) ≡ map (shown false) es = ap (records q.ends_in_nul) (plain_lines q es as_lines bare_asked)
+    ∙ all_records q.ends_in_nul (map (shown false) es) (kept_plain reread q.reading q.ranges plainly wholly es of_es) in
     let allowed : NoValue (IsRefused (record q { versions = map (shown false) es })) =
-    allowed_again q (map (shown false) es) can plainly (none_lacks reread q.reading q.ranges plainly es of_es) in
-    let output : printed_text q (map again_entry es) ≡ printed_text q es = ap (λ (l : List (List ℕ)). if q.is_json then json l else flat_map line l)
+    allowed_again q (map (shown false) es) can bare_asked (none_lacks reread q.reading q.ranges plainly wholly es of_es) in
+    let output : printed_text q (map again_entry es) ≡ printed_text q es = ap (λ (l : List (List ℕ)). if q.is_json then json l else flat_map (ended q.ends_in_nul) l)
     (shown_map again_entry q.as_written (shown_again q.as_written bare_asked) es) in
     let filled : is_empty (map again_entry es) ≡ is_empty es = map_empty es in
     let found : Responds (Some (record q { versions = map (shown false) es }))
     (record { output = printed_text q (map again_entry es); refusal = None; is_success = not (is_empty (map again_entry es)) }) =
     given (record q { versions = map (shown false) es }) (map again_entry es) allowed level keeps
-    (listed_again reread q.reading q.ranges plainly es of_es) in
+    (listed_again reread q.reading q.ranges plainly wholly es of_es) in
     rw (texts, ← output, ← filled) found
 
 pub responds_again : Reread → (q : Asked) (written : Written) → EachText IsUtf8 q.versions → Responds (Some q) written → q.level ≡ None
-    → q.reading.is_coerced ≡ false → q.is_json ≡ false → q.as_written ≡ false → written.refusal ≡ None
-    → Responds (Some (record q { versions = lines written.output })) written
-responds_again reread q written u (refused _ why is) level plainly as_lines bare_asked untold = absurd (cc)
-responds_again reread q written u (versions _ es can none_is sorts listing) level plainly as_lines bare_asked untold =
-    again_of reread q es can level sorts plainly as_lines bare_asked u listing
-responds_again reread q written u (given _ es can none_is keeps are) level plainly as_lines bare_asked untold =
-    given_again reread q es can level keeps plainly as_lines bare_asked u are
-responds_again reread q written u (increment _ word es can has are) level plainly as_lines bare_asked untold = absurd (grind (arith, level, has))
+    → q.reading.is_coerced ≡ false → q.reading.field ≡ None → q.is_json ≡ false → q.as_written ≡ false → written.refusal ≡ None
+    → Responds (Some (record q { versions = records q.ends_in_nul written.output })) written
+responds_again reread q written u (refused _ why is) level plainly wholly as_lines bare_asked untold = absurd (cc)
+responds_again reread q written u (versions _ es can none_is sorts listing) level plainly wholly as_lines bare_asked untold =
+    again_of reread q es can level sorts plainly wholly as_lines bare_asked u listing
+responds_again reread q written u (given _ es can none_is keeps are) level plainly wholly as_lines bare_asked untold =
+    given_again reread q es can level keeps plainly wholly as_lines bare_asked u are
+responds_again reread q written u (increment _ word es can has are) level plainly wholly as_lines bare_asked untold = absurd (grind (arith, level, has))

@@ -1,7 +1,7 @@
 -- Words that are no question, and what the others are answered.
 use Rattle.nodejs_semver.specs.{Printing.Text.range_text, Ranges.{Algebra.{difference, intersection}, Gate.accepts, Least.{IsLeastOf, beyond}}}
 use Rattle.npm_semver.specs.{Internal.Said.is_operation, Subcommands.{Answers, AreRanges, HasIdentifier, IsRange, IsShown, Range}}
-use Rattle.npm_semver.specs.{Subcommands.{Said, next_said, relation_of, reply, say, sign}, declared.subcommands.replies.Status.TheVariants.Yes}
+use Rattle.npm_semver.specs.{Subcommands.{Said, next_said, relation_of, reply, say, sign}}
 use Rattle.{npm_words.specs.{Alternatives.HasAlternativesIn, VersionText.IsVersionText}, semver_core.specs.Difference.{kind_between, kind_word}}
 use Rattle.semver_core.specs.{Failures.NoValue, Increments.Table.answer_of_inc, Printing.Text.version_text, Values.Order.precedence}
 use Rattle.semver_core.specs.{Values.Versions.VersionValue, declared.{TheConstants.MAX_SAFE_INTEGER, difference.VersionDiff.VersionDiff}}

@@ -53,7 +53,7 @@ module _ (q : Asked) (level : List ℕ) where
   of_others es found has some e other same none = others found has some e (rw (same (no_texts q.ranges none)) at other) q level
 
   pub of_one : (es found : List Entry) (e : Entry) → e ≡ get_or es 0 e → length es ≡ 1 → (q.ranges ≡ [] → es ≡ found) → is_empty q.ranges ≡ true
-      → next_written q.is_json (answer_of_inc e.version level q.identifier (Some q.base)) ≡ increment_written q level found
+      → next_written q.is_json q.ends_in_nul (answer_of_inc e.version level q.identifier (Some q.base)) ≡ increment_written q level found
   of_one es found e is one same none =
       let alone : found ≡ e ∷ [] = sym (same (no_texts q.ranges none)) ∙ one_item es e is one in rw (alone, none) refl
 

@@ -3,7 +3,7 @@ use Rattle.std.proofs.Common.{◌≡◌, ◌≢◌, ◌+◌, ◌<◌, ◌≤◌,
 use Rattle.npm_semver.specs.Arguments.{Asked, Asks, IsAsked, asked_by, left_by, next, none, nothing_asked, some, word_of}
 use Rattle.npm_semver.specs.Words.{FirstWord, IsUncut, front, whole}
 use Rattle.npm_semver.specs.declared.question.Word.{Word}
-use Rattle.npm_semver.specs.declared.question.Word.TheVariants.{Help, IncludePrerelease, Reverse, Range, Version, Increment, Identifier, Base, Loose, Coerce, FromRight, FromLeft, Greatest, Least, KeepOrder, AsWritten, Json, Strict, Why, Input, Unknown, Text}
+use Rattle.npm_semver.specs.declared.question.Word.TheVariants.{Help, IncludePrerelease, Reverse, Range, Version, Increment, Identifier, Base, Loose, Coerce, FromRight, FromLeft, Greatest, Least, KeepOrder, AsWritten, Field, Json, Strict, Why, Input, Nul, Unknown, Text}
 
 pub cut_front : (words rest : List (List ℕ)) (argument word behind : List ℕ) → words ≡ argument ∷ rest → argument ≡ word ++ (61 ∷ behind)
     → IsUncut word → FirstWord words word (behind ∷ rest)
@@ -42,10 +42,12 @@ size_left Greatest behind = omega arith
 size_left Least behind = omega arith
 size_left KeepOrder behind = omega arith
 size_left AsWritten behind = omega arith
+size_left Field behind = size_drop behind
 size_left Json behind = omega arith
 size_left Strict behind = omega arith
 size_left Why behind = omega arith
 size_left Input behind = omega arith
+size_left Nul behind = omega arith
 size_left Unknown behind = omega arith
 size_left Text behind = omega arith
 

@@ -7,7 +7,7 @@ use Rattle.npm_semver.specs.Arguments.{Asked}
 use Rattle.npm_semver.specs.Listing.{AreListed, Entry, IsListing}
 use Rattle.npm_semver.specs.Listing as Listing
 use Rattle.npm_semver.specs.Readings.{SomeText, here, later}
-use Rattle.npm_semver.specs.Responses.{IsRefused, Refusal, Responds, Written, increment, given, increment_written, no_version, prints_as_given, refused, unknown, unread, unshown, versions}
+use Rattle.npm_semver.specs.Responses.{IsRefused, Refusal, Responds, Written, increment, given, increment_written, no_number, no_version, prints_as_given, refused, unknown, unread, unshown, versions}
 use Rattle.npm_semver.specs.declared.reading.ReadOptions.{ReadOptions}
 
 moved : (f u w k : List Entry) → IsPermutation (f ++ (u ++ (w ++ k))) (f ++ (w ++ (u ++ k)))
@@ -92,12 +92,13 @@ module _ (Is : List ℕ → Type 0) where
 refused_exchanged : (q : Asked) (front a b back : List (List ℕ)) (why : Refusal)
     → IsRefused (record q { versions = front ++ (a ++ (b ++ back)) }) why
     → IsRefused (record q { versions = front ++ (b ++ (a ++ back)) }) why
-refused_exchanged q front a b back why (unknown e) = unknown e
-refused_exchanged q front a b back why (unread known some) = unread known some
-refused_exchanged q front a b back why (no_version known all some) =
-    no_version known all (some.0, some_exchanged _ front a b back some.1)
-refused_exchanged q front a b back why (unshown known all read some) =
-    unshown known all (λ lacks. read (lacks.0, some_exchanged _ front b a back lacks.1)) (some.0, some_exchanged _ front a b back some.1)
+refused_exchanged q front a b back why (no_number e) = no_number e
+refused_exchanged q front a b back why (unknown number e) = unknown number e
+refused_exchanged q front a b back why (unread number known some) = unread number known some
+refused_exchanged q front a b back why (no_version number known all some) =
+    no_version number known all (some.0, some_exchanged _ front a b back some.1)
+refused_exchanged q front a b back why (unshown number known all read some) =
+    unshown number known all (λ lacks. read (lacks.0, some_exchanged _ front b a back lacks.1)) (some.0, some_exchanged _ front a b back some.1)
 
 -- what is written for a next version does not depend on the order of the versions
 one_order : (q : Asked) (texts more : List (List ℕ)) (level : List ℕ) (vs ws : List Entry) → IsPermutation vs ws

@@ -56,12 +56,12 @@ success_none q written (given _ vs can no_level keeps are) level allowed e = non
 success_none q written (increment _ word vs can has are) level allowed e = absurd (grind (arith, level, has))
 
 -- what is written of an answer that is above a version
-one_above : (is_json is_asked : Bool) (v : VersionValue) (answer : Result VersionValue Fault) → ((w : VersionValue) → answer ≡ Ok w → (precedence v w ≡ Less))
-    → (if is_asked then next_written is_json answer else nothing_written (Some NotOneVersion)).is_success ≡ true
-    → (w : VersionValue) × ((if is_asked then next_written is_json answer else nothing_written (Some NotOneVersion)).output ≡ next_text is_json w) × (precedence v w ≡ Less)
-one_above is_json false v answer above e = absurd (grind (arith, e))
-one_above is_json true v (Err fault) above e = absurd (grind (arith, e))
-one_above is_json true v (Ok w) above e = (w, refl, above w refl)
+one_above : (is_json is_nul is_asked : Bool) (v : VersionValue) (answer : Result VersionValue Fault) → ((w : VersionValue) → answer ≡ Ok w → (precedence v w ≡ Less))
+    → (if is_asked then next_written is_json is_nul answer else nothing_written (Some NotOneVersion)).is_success ≡ true
+    → (w : VersionValue) × ((if is_asked then next_written is_json is_nul answer else nothing_written (Some NotOneVersion)).output ≡ next_text is_json is_nul w) × (precedence v w ≡ Less)
+one_above is_json is_nul false v answer above e = absurd (grind (arith, e))
+one_above is_json is_nul true v (Err fault) above e = absurd (grind (arith, e))
+one_above is_json is_nul true v (Ok w) above e = (w, refl, above w refl)
 
 abbrev Rises : Type 0
 Rises = (v w : VersionValue) (word : List ℕ) (id : Option (List ℕ)) (base : Option IdentifierBase) → unwrap_or id [] ≡ [] → word ≢ codes "pre"
@@ -69,18 +69,18 @@ Rises = (v w : VersionValue) (word : List ℕ) (id : Option (List ℕ)) (base : 
 
 written_above : Rises → (q : Asked) (word : List ℕ) (es : List Entry) → word ≢ codes "pre" → unwrap_or q.identifier [] ≡ []
     → AreListed q.reading [] q.versions es → (increment_written q word es).is_success ≡ true
-    → (e : Entry) × (w : VersionValue) × AreListed q.reading [] q.versions (e ∷ []) × ((increment_written q word es).output ≡ next_text q.is_json w)
+    → (e : Entry) × (w : VersionValue) × AreListed q.reading [] q.versions (e ∷ []) × ((increment_written q word es).output ≡ next_text q.is_json q.ends_in_nul w)
     × (precedence e.version w ≡ Less)
 written_above rises q word [] other plain are e = absurd (grind (arith, e))
 written_above rises q word (d ∷ []) other plain are e =
-    let (w, out, above) = one_above q.is_json (is_empty q.ranges) d.version (answer_of_inc d.version word q.identifier (Some q.base))
+    let (w, out, above) = one_above q.is_json q.ends_in_nul (is_empty q.ranges) d.version (answer_of_inc d.version word q.identifier (Some q.base))
     (λ w is. rises d.version w word q.identifier (Some q.base) plain other is) e in
     (d, w, are, out, above)
 written_above rises q word (d ∷ f ∷ es) other plain are e = absurd (grind (arith, e))
 
 pub next_above : Rises → (q : Asked) (level : List ℕ) (written : Written) → Responds (Some q) written → q.level ≡ Some level → is_level level ≡ true
     → unwrap_or q.identifier [] ≡ [] → written.is_success ≡ true
-    → (e : Entry) × (w : VersionValue) × AreListed q.reading [] q.versions (e ∷ []) × (written.output ≡ next_text q.is_json w)
+    → (e : Entry) × (w : VersionValue) × AreListed q.reading [] q.versions (e ∷ []) × (written.output ≡ next_text q.is_json q.ends_in_nul w)
     × (precedence e.version w ≡ Less)
 next_above rises q level written (refused _ why is) asked known plain e = absurd (grind (arith, e))
 next_above rises q level written (versions _ vs can no_level sorts listing) asked known plain e = absurd (grind (arith, asked, no_level))

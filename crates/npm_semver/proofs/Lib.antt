@@ -17,3 +17,5 @@ pub mod Spans
 pub mod ToldOf
 pub mod Outcomes
 pub mod Texts
+pub mod Fields
+pub mod Records

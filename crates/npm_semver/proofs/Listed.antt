@@ -1,7 +1,7 @@
 -- Texts that are read one after another.
-use Rattle.{npm_reading.specs.Ranges.IsRangeIn, npm_semver.specs.{Internal.Readings.{AreRead, IsRead, says}, Listing.{AllSay, AreListed, Entry}}}
+use Rattle.{npm_reading.specs.Ranges.IsRangeIn, npm_semver.specs.{Internal.Readings.{AreRead, IsRead, says}, Listing.{AllSay, AreListed, Entry, IsGiven}}}
 use Rattle.npm_semver.specs.{Listing.{Says, accepted, no_range, no_version, range, rejected}, Readings.{HasRange, IsVersionIn}}
-use Rattle.{npm_semver.specs.declared.reading.ReadOptions.ReadOptions, semver_core.specs.{Cuts.Span, Failures.NoValue, Text.Characters.IsTrim}}
+use Rattle.{npm_semver.specs.declared.reading.ReadOptions.ReadOptions, semver_core.specs.{Cuts.Span, Failures.NoValue}}
 use Rattle.{semver_core.specs.{Values.Versions.VersionValue, declared.TheConstants.MAX_SAFE_INTEGER}, std.proofs.Common.{Bool, IfNone, IfSome, List}}
 use Rattle.std.{proofs.Common.{None, Option, Some, [], false, true, ℕ, ◌++◌, ◌∷◌, ◌≡◌}, specs.List.list_all}
 use Rattle.npm_reading.proofs.Grammar.Intervals.{range_accepts}
@@ -43,7 +43,7 @@ module _ (r : ReadOptions) (ranges : List (List ℕ)) where
   dropped_more texts es text v b e (accepted t m ts w ds i s c are) is say = accepted t m _ w _ i s c (dropped_more ts ds text v b e are is say)
 
   pub kept_more : (texts : List (List ℕ)) (es : List Entry) (text middle : List ℕ) (v : VersionValue) (b : Bool) → b ≡ true
-      → AreListed r ranges texts es → IsVersionIn r text v → AllSay r v ranges b → IsTrim text middle
+      → AreListed r ranges texts es → IsVersionIn r text v → AllSay r v ranges b → IsGiven r text middle
       → AreListed r ranges (texts ++ text ∷ []) (es ++ record { version = v; text = middle } ∷ [])
   kept_more texts es text middle v b e Listing.none is say trim = accepted text middle [] v [] is (rw e at say) trim Listing.none
   kept_more texts es text middle v b e (no_version t ts ds n are) is say trim =

@@ -1,12 +1,12 @@
 -- What is written for a question is determined by it.
-use Rattle.npm_semver.{proofs.Ties.{same_emptiness, same_text}, specs.{Arguments.Asked, Laws.EachText, Listing.{AllSay, AreListed, Entry, IsListing}}}
-use Rattle.npm_semver.specs.{Listing.Says, Readings.{IsVersionIn, found, not_found, strict}, Responses.{Responds, Written, given, increment, refused}}
+use Rattle.npm_semver.{proofs.Ties.{same_emptiness, same_text}, specs.{Arguments.Asked, Laws.EachText, Listing.{AllSay, AreListed, Entry, IsGiven, IsListing}}}
+use Rattle.npm_semver.specs.{Listing.Says, Readings.{IsVersionAs, IsVersionIn, found, not_found, strict}, Responses.{Responds, Written, given, increment, refused}}
 use Rattle.{npm_semver.specs.{Responses.versions, declared.reading.ReadOptions.ReadOptions}, npm_words.specs.Alternatives.HasAlternativesIn}
 use Rattle.npm_words.specs.{Alternatives.accepts, Coerced.{IsChosenFrom, IsCoerced, IsNumberIn}, Table.Comparison, VersionText.IsVersionText}
 use Rattle.{semver_core.specs.{Text.Characters.IsTrim, Values.Versions.VersionValue}, std.proofs.Common.{Bool, IsUtf8, List, Some, [], ap, arith}}
 use Rattle.std.proofs.{Common.{false, refl, sym, true, ℕ, ◌∙◌, ◌∷◌, ◌≡◌}, lemmas.List.Sorted.{IsPermutation-sym, IsPermutation-trans}}
 use Rattle.std.{proofs.lemmas.Option.same_Some, specs.List.Sorted.IsPermutation}
-use Rattle.npm_semver.specs.Responses.{IsRefused, Refusal, no_version, unknown, unread, unshown}
+use Rattle.npm_semver.specs.Responses.{IsRefused, Refusal, no_number, no_version, unknown, unread, unshown}
 use Rattle.npm_semver.specs.Laws as Each
 use Rattle.npm_semver.specs.Listing as Listing
 
@@ -27,16 +27,28 @@ OneFound from_right = (included loose : Bool) (text : List ℕ) (v w : VersionVa
     → IsCoerced included (IsChosenFrom from_right) (IsNumberIn loose) text w → v ≡ w
 
 module _ (one_version : OneVersion) (one_range : OneRange) (one_trim : OneTrim) (one_found : (from_right : Bool) → OneFound from_right) (r : ReadOptions) where
+  part_once : (text : List ℕ) (v w : VersionValue) → IsVersionAs r text v → IsVersionAs r text w → v ≡ w
+  part_once text v w (strict p is) (strict q of) = one_version _ text v w is of
+  part_once text v w (strict p is) (found q of) = absurd (grind (arith, p, q))
+  part_once text v w (strict p is) (not_found q lacks of) = one_version _ text v w is of
+  part_once text v w (found p is) (strict q of) = absurd (grind (arith, p, q))
+  part_once text v w (found p is) (found q of) = one_found r.from_right r.include_prerelease r.is_loose text v w is of
+  part_once text v w (found p is) (not_found q lacks of) = absurd (lacks v is)
+  part_once text v w (not_found p lacks is) (strict q of) = one_version _ text v w is of
+  part_once text v w (not_found p lacks is) (found q of) = absurd (lacks w of)
+  part_once text v w (not_found p lacks is) (not_found q none of) = one_version _ text v w is of
+
   version_once : (text : List ℕ) (v w : VersionValue) → IsVersionIn r text v → IsVersionIn r text w → v ≡ w
-  version_once text v w (strict p is) (strict q of) = one_version _ text v w is of
-  version_once text v w (strict p is) (found q of) = absurd (grind (arith, p, q))
-  version_once text v w (strict p is) (not_found q lacks of) = one_version _ text v w is of
-  version_once text v w (found p is) (strict q of) = absurd (grind (arith, p, q))
-  version_once text v w (found p is) (found q of) = one_found r.from_right r.include_prerelease r.is_loose text v w is of
-  version_once text v w (found p is) (not_found q lacks of) = absurd (lacks v is)
-  version_once text v w (not_found p lacks is) (strict q of) = one_version _ text v w is of
-  version_once text v w (not_found p lacks is) (found q of) = absurd (lacks w of)
-  version_once text v w (not_found p lacks is) (not_found q none of) = one_version _ text v w is of
+  version_once text v w one other =
+      let same : one.part ≡ other.part = same_Some one.part other.part (sym one.has ∙ other.has) in
+      part_once other.part v w (rw same at one.is) other.is
+
+  -- a text was given as one
+  given_once : (text m n : List ℕ) → IsGiven r text m → IsGiven r text n → m ≡ n
+  given_once text m n (Listing.trimmed _ e trim) (Listing.trimmed _ f cut) = one_trim text m n trim cut
+  given_once text m n (Listing.trimmed _ e trim) (Listing.whole f) = let bad : false ≡ true = sym e ∙ f in absurd (cc)
+  given_once text m n (Listing.whole e) (Listing.trimmed _ f cut) = let bad : true ≡ false = sym e ∙ f in absurd (cc)
+  given_once text m n (Listing.whole e) (Listing.whole f) = refl
 
   says_once : (v : VersionValue) (text : List ℕ) (a b : Bool) → IsUtf8 text → Says r v text a → Says r v text b → a ≡ b
   says_once v text a b u (Listing.range _ x has) (Listing.range _ y of) =
@@ -75,7 +87,7 @@ module _ (one_version : OneVersion) (one_range : OneRange) (one_trim : OneTrim) 
   listed_once ranges (text ∷ rest) ds es u (Listing.accepted _ m _ v fs is say trim are) (Listing.rejected _ _ w _ of says were) =
       absurd (not_both w v ranges u (version_once text w v of is) says say)
   listed_once ranges (text ∷ rest) ds es u (Listing.accepted _ m _ v fs is say trim are) (Listing.accepted _ n _ w gs of says cut were) =
-      first_once v w m n fs gs (version_once text v w is of) (one_trim text m n trim cut) (listed_once ranges rest fs gs u are were)
+      first_once v w m n fs gs (version_once text v w is of) (given_once text m n trim cut) (listed_once ranges rest fs gs u are were)
 
   printed_once : (ranges texts : List (List ℕ)) (vs ws : List Entry) → EachText IsUtf8 ranges → IsListing r ranges texts vs
       → IsListing r ranges texts ws → IsPermutation vs ws
@@ -85,22 +97,31 @@ module _ (one_version : OneVersion) (one_range : OneRange) (one_trim : OneTrim) 
 
 -- a question is refused for one reason
 refused_once : (q : Asked) (one other : Refusal) → IsRefused q one → IsRefused q other → one ≡ other
-refused_once q one other (unknown a) (unknown b) = refl
-refused_once q one other (unknown a) (unread k b) = absurd (k a)
-refused_once q one other (unknown a) (no_version k r b) = absurd (k a)
-refused_once q one other (unknown a) (unshown k r v b) = absurd (k a)
-refused_once q one other (unread k a) (unknown b) = absurd (k b)
-refused_once q one other (unread k a) (unread m b) = refl
-refused_once q one other (unread k a) (no_version m r b) = absurd (r a)
-refused_once q one other (unread k a) (unshown m r v b) = absurd (r a)
-refused_once q one other (no_version k r a) (unknown b) = absurd (k b)
-refused_once q one other (no_version k r a) (unread m b) = absurd (r b)
-refused_once q one other (no_version k r a) (no_version m s b) = refl
-refused_once q one other (no_version k r a) (unshown m s v b) = absurd (v a)
-refused_once q one other (unshown k r v a) (unknown b) = absurd (k b)
-refused_once q one other (unshown k r v a) (unread m b) = absurd (r b)
-refused_once q one other (unshown k r v a) (no_version m s b) = absurd (v b)
-refused_once q one other (unshown k r v a) (unshown m s w b) = refl
+refused_once q one other (no_number a) (no_number b) = refl
+refused_once q one other (no_number a) (unknown nn b) = absurd (nn a)
+refused_once q one other (no_number a) (unread nn kk b) = absurd (nn a)
+refused_once q one other (no_number a) (no_version nn kk rr b) = absurd (nn a)
+refused_once q one other (no_number a) (unshown nn kk rr vv b) = absurd (nn a)
+refused_once q one other (unknown n a) (no_number b) = absurd (n b)
+refused_once q one other (unknown n a) (unknown nn b) = refl
+refused_once q one other (unknown n a) (unread nn kk b) = absurd (kk a)
+refused_once q one other (unknown n a) (no_version nn kk rr b) = absurd (kk a)
+refused_once q one other (unknown n a) (unshown nn kk rr vv b) = absurd (kk a)
+refused_once q one other (unread n k a) (no_number b) = absurd (n b)
+refused_once q one other (unread n k a) (unknown nn b) = absurd (k b)
+refused_once q one other (unread n k a) (unread nn kk b) = refl
+refused_once q one other (unread n k a) (no_version nn kk rr b) = absurd (rr a)
+refused_once q one other (unread n k a) (unshown nn kk rr vv b) = absurd (rr a)
+refused_once q one other (no_version n k r a) (no_number b) = absurd (n b)
+refused_once q one other (no_version n k r a) (unknown nn b) = absurd (k b)
+refused_once q one other (no_version n k r a) (unread nn kk b) = absurd (r b)
+refused_once q one other (no_version n k r a) (no_version nn kk rr b) = refl
+refused_once q one other (no_version n k r a) (unshown nn kk rr vv b) = absurd (vv a)
+refused_once q one other (unshown n k r v a) (no_number b) = absurd (n b)
+refused_once q one other (unshown n k r v a) (unknown nn b) = absurd (k b)
+refused_once q one other (unshown n k r v a) (unread nn kk b) = absurd (r b)
+refused_once q one other (unshown n k r v a) (no_version nn kk rr b) = absurd (v b)
+refused_once q one other (unshown n k r v a) (unshown nn kk rr vv b) = refl
 
 found_both : OneFound false → OneFound true → (from_right : Bool) → OneFound from_right
 found_both left right false = left

@@ -5,7 +5,7 @@ use Rattle.npm_semver.specs.Internal.Commands.{IsCommand, IsSaid, IsWritten, out
 use Rattle.npm_semver.specs.Internal.Said.{name_of}
 use Rattle.npm_semver.specs.Outcomes as Spec
 use Rattle.npm_semver.specs.Outcomes.{IsOutcome, has_subcommand}
-use Rattle.npm_semver.specs.Responses.{Responds, Written, tells_why, with_lines}
+use Rattle.npm_semver.specs.Responses.{Responds, Written, records, tells_why, with_records}
 use Rattle.npm_semver.specs.Subcommands.{IsReply, Said, say}
 use Rattle.npm_semver.specs.declared.command.Command.{Command}
 use Rattle.npm_semver.specs.declared.command.Command.TheVariants as Commands
@@ -14,7 +14,6 @@ use Rattle.npm_semver.specs.declared.question.Request.{Request}
 use Rattle.npm_semver.specs.declared.subcommands.Subcommand.{Subcommand}
 use Rattle.npm_semver.specs.declared.subcommands.Subcommand.TheVariants.{Compare, Diff, Next, Range, Least, Explain, Get, Valid, Key, Unkey, Spans, Sql, Help, About}
 use Rattle.std.proofs.Common.{◌≡◌, ◌∷◌, ◌++◌, [], ℕ, Bool, true, false, List, Option, Some, None, is_some, option_map, refl, if◌then◌else◌, Result, Ok, Err, IfOk, Bor, Global, String, map, string_bytes}
-use Rattle.std.specs.Str.Lines.{lines}
 use Rattle.std.specs.declared.alloc.AllocError.{AllocError}
 
 pub same_some : {A B : Type 0} (f : A → B) (o : Option A) → is_some (option_map f o) ≡ is_some o
@@ -37,10 +36,10 @@ names Sql words = refl
 names Help words = refl
 names About words = refl
 
--- lines change nothing of why
-why_once : (input : List ℕ) (asked : Option Asked) → tells_why asked ≡ false → tells_why (option_map (with_lines input) asked) ≡ false
+-- records change nothing of why
+why_once : (input : List ℕ) (asked : Option Asked) → tells_why asked ≡ false → tells_why (option_map (with_records input) asked) ≡ false
 why_once input None e = refl
-why_once input (Some q) e = elim q.reads_input as (λ b. (if b then record q { versions = q.versions ++ lines input } else q).is_why ≡ false) [ true ↦ e | false ↦ e ]
+why_once input (Some q) e = elim q.reads_input as (λ b. (if b then record q { versions = q.versions ++ records q.ends_in_nul input } else q).is_why ≡ false) [ true ↦ e | false ↦ e ]
 
 pub said_outcome : (arguments words : List (List ℕ)) (name : Subcommand) (input : List ℕ) (is_utf8 : Bool) (said : Said) (output errors : List ℕ) (status : ℕ)
     → arguments ≡ name_of name ∷ words → IsReply input is_utf8 (name_of name ∷ words) said
@@ -50,7 +49,7 @@ said_outcome arguments words name input is_utf8 (say out trouble code) output er
     rw (e, same, exits) (Spec.subcommand out errors trouble code (names name words) is told)
 
 pub written_outcome : (arguments : List (List ℕ)) (input : List ℕ) (is_utf8 : Bool) (reasons : List ℕ) (asked lined : Option Asked) (w : Written) (output errors : List ℕ) (status : ℕ)
-    → has_subcommand arguments ≡ false → IsAsked arguments asked → lined ≡ option_map (with_lines input) asked → Responds lined w
+    → has_subcommand arguments ≡ false → IsAsked arguments asked → lined ≡ option_map (with_records input) asked → Responds lined w
     → (tells_why lined ≡ false → reasons ≡ []) → IsWritten w reasons (record { output = output; errors = errors; status = status })
     → IsOutcome arguments input is_utf8 (record { output = output; errors = errors; status = status })
 written_outcome arguments input is_utf8 reasons asked lined w output errors status none is e responds silent (same, (line, told, wrote), exits) =
@@ -68,7 +67,7 @@ module _ (r : Result Made AllocError) (input : List ℕ) (is_utf8 : Bool) (comma
       ] h
 
   pub request_outcome : (reasons : List ℕ) (request : Request) (lined : Option Asked) (w : Written) → command ≡ Commands.Request request
-      → lined ≡ option_map (with_lines input) (request_of request) → Responds lined w → (tells_why lined ≡ false → reasons ≡ [])
+      → lined ≡ option_map (with_records input) (request_of request) → Responds lined w → (tells_why lined ≡ false → reasons ≡ [])
       → IfOk r (λ o. IsWritten w reasons (outcome o))
       → IfOk r (λ o. (arguments : List (List ℕ)) → IsCommand arguments command → IsOutcome arguments input is_utf8 (outcome o))
   request_outcome reasons request lined w e is responds silent h = elim r as (λ k. IfOk k (λ o. IsWritten w reasons (outcome o))

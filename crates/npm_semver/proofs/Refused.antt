@@ -10,12 +10,24 @@ use Rattle.npm_semver.specs.Arguments.{Asked}
 use Rattle.npm_semver.specs.Internal.Asked.{texts}
 use Rattle.npm_semver.specs.Internal.Texts as Lacking
 use Rattle.npm_semver.specs.Internal.Texts.{IsFirstLacking, is_no_version}
-use Rattle.npm_semver.specs.Readings.{HasRange, IsFirst, IsVersionIn, SomeText, further, here, later, this}
+use Rattle.npm_semver.specs.Readings.{HasRange, IsFirst, IsVersionIn, SomeText, further, here, later, part_by, this}
 use Rattle.npm_semver.specs.Reasons as Reasons
-use Rattle.npm_semver.specs.Reasons.{AreLeftOut, AreNoRanges, Told}
-use Rattle.npm_semver.specs.Responses.{HasUnknown, HasUnread, HasNoVersion, HasUnshown, IsRefused, Names, UnreadRange, is_plain, no_version, unknown, unread, unshown}
-use Rattle.npm_semver.specs.Responses.Names.{loosely, range}
+use Rattle.npm_semver.specs.Reasons.{AreLeftOut, AreNoRanges, Told, lacking, lacking_in}
+use Rattle.npm_semver.specs.Responses.{HasNoNumber, HasNoVersion, HasUnknown, HasUnread, HasUnshown, IsRefused, Names, NoVersion, UnreadRange, no_number, no_version, stands, unknown, unread, unshown}
+use Rattle.npm_semver.specs.Responses.Names.{loosely, range, version}
 use Rattle.npm_semver.specs.declared.reading.ReadOptions.{ReadOptions}
+
+or_false : (a b : Bool) → (a || b) ≡ false → (a ≡ false) × (b ≡ false)
+or_false true b e = absurd (cc)
+or_false false b e = (refl, e)
+
+-- what is told of a text that is no version says that it is none
+lacks_version : (part : Option (List ℕ)) (text : List ℕ) → is_no_version (lacking part text) ≡ true
+lacks_version None text = refl
+lacks_version (Some part) text = refl
+
+not_passed : (part : Option (List ℕ)) (text : List ℕ) → is_no_version (lacking part text) ≡ false → ⊥
+not_passed part text e = let bad : true ≡ false = sym (lacks_version part text) ∙ e in absurd (cc)
 
 module _ (r : ReadOptions) where
   pub some_unread : (texts : List (List ℕ)) (told : List Told) → AreNoRanges r texts told → is_empty told ≡ false
@@ -46,26 +58,38 @@ module _ (r : ReadOptions) (ranges : List (List ℕ)) where
   all_versions texts told (Reasons.accepted text rest v us is say are) e (later t ts some) = all_versions rest us are e some
   all_versions texts told (Reasons.rejected text rest v us is say are) e (here t ts lacks) = lacks v is
   all_versions texts told (Reasons.rejected text rest v us is say are) e (later t ts some) = all_versions rest us are e some
-  all_versions texts told (Reasons.no_version text rest us lacks are) e some = absurd (cc)
+  all_versions texts told (Reasons.no_version text rest us lacks are) e some =
+      not_passed (part_by r.field text) text (or_false (is_no_version (lacking_in r text)) (list_any is_no_version us) e).0
 
-pub not_refused : (q : Asked) → (HasUnknown q → ⊥) → (HasUnread q → ⊥) → (HasNoVersion q → ⊥) → (HasUnshown q → ⊥) → NoValue (IsRefused q)
-not_refused q known all versions shown why (unknown e) = known e
-not_refused q known all versions shown why (unread k some) = all some
-not_refused q known all versions shown why (no_version k a some) = versions some
-not_refused q known all versions shown why (unshown k a v some) = shown some
+pub not_refused : (q : Asked) → (HasNoNumber q → ⊥) → (HasUnknown q → ⊥) → (HasUnread q → ⊥) → (HasNoVersion q → ⊥) → (HasUnshown q → ⊥) → NoValue (IsRefused q)
+not_refused q number known all versions shown why (no_number e) = number e
+not_refused q number known all versions shown why (unknown n e) = known e
+not_refused q number known all versions shown why (unread n k some) = all some
+not_refused q number known all versions shown why (no_version n k a some) = versions some
+not_refused q number known all versions shown why (unshown n k a v some) = shown some
 
--- some text is not plain
-pub some_marked : (xs : List (Bor (List ℕ))) → list_all (λ t. list_all is_plain t.now) xs ≡ false → SomeText (λ text. list_all is_plain text ≡ false) (texts xs)
-some_marked [] e = absurd (grind (arith, e))
-some_marked (x ∷ xs) e = elim (cases_Bool (list_all is_plain x.now)) [
-  | inl plain ↦ later x.now (texts xs) (some_marked xs (rw plain at e))
-  | inr marked ↦ here x.now (texts xs) marked
-]
+-- in some text a character does not pass
+module _ (test : ℕ → Bool) where
+  pub some_marked : (xs : List (Bor (List ℕ))) → list_all (λ t. list_all test t.now) xs ≡ false → SomeText (λ text. list_all test text ≡ false) (texts xs)
+  some_marked [] e = absurd (grind (arith, e))
+  some_marked (x ∷ xs) e = elim (cases_Bool (list_all test x.now)) [
+    | inl passes ↦ later x.now (texts xs) (some_marked xs (rw passes at e))
+    | inr marked ↦ here x.now (texts xs) marked
+  ]
 
-pub none_marked : (xs : List (Bor (List ℕ))) → list_all (λ t. list_all is_plain t.now) xs ≡ true → SomeText (λ text. list_all is_plain text ≡ false) (texts xs) → ⊥
-none_marked [] e some = elim some [ ]
-none_marked (x ∷ xs) e (here t ts marked) = absurd (grind (arith, (and_parts (list_all is_plain x.now) (list_all (λ t. list_all is_plain t.now) xs) e).0, marked))
-none_marked (x ∷ xs) e (later t ts some) = none_marked xs (and_parts (list_all is_plain x.now) (list_all (λ t. list_all is_plain t.now) xs) e).1 some
+  pub none_marked : (xs : List (Bor (List ℕ))) → list_all (λ t. list_all test t.now) xs ≡ true → SomeText (λ text. list_all test text ≡ false) (texts xs) → ⊥
+  none_marked [] e some = elim some [ ]
+  none_marked (x ∷ xs) e (here t ts marked) = absurd (grind (arith, (and_parts (list_all test x.now) (list_all (λ t. list_all test t.now) xs) e).0, marked))
+  none_marked (x ∷ xs) e (later t ts some) = none_marked xs (and_parts (list_all test x.now) (list_all (λ t. list_all test t.now) xs) e).1 some
+
+not_true : (b : Bool) → not b ≡ true → b ≡ false
+not_true true e = absurd (cc)
+not_true false e = refl
+
+not_both : (a b : Bool) → a ≡ true → (a && not b) ≡ false → b ≡ true
+not_both true true e f = refl
+not_both true false e f = absurd (cc)
+not_both false b e f = absurd (cc)
 
 -- what the tests of a question say
 module _ (q : Asked) where
@@ -86,12 +110,18 @@ module _ (q : Asked) where
   no_version_not told are e some = all_versions q.reading q.ranges q.versions told are (grind (arith, e, some.0)) some.1
 
   pub unshown_is : (xs : List (Bor (List ℕ))) → q.versions ≡ texts xs
-      → ((q.reading.is_coerced && q.as_written) && not (list_all (λ t. list_all is_plain t.now) xs)) ≡ true → HasUnshown q
-  unshown_is xs same e = (grind (arith, e), rw same (some_marked xs (grind (arith, e))))
+      → (((q.reading.is_coerced || is_some q.reading.field) && q.as_written) && not (list_all (λ t. list_all (stands q) t.now) xs)) ≡ true
+      → HasUnshown q
+  unshown_is xs same e =
+      let (may, off) = and_parts ((q.reading.is_coerced || is_some q.reading.field) && q.as_written) (not (list_all (λ t. list_all (stands q) t.now) xs)) e in
+      (may, rw same (some_marked (stands q) xs (not_true (list_all (λ t. list_all (stands q) t.now) xs) off)))
 
   pub unshown_not : (xs : List (Bor (List ℕ))) → q.versions ≡ texts xs
-      → ((q.reading.is_coerced && q.as_written) && not (list_all (λ t. list_all is_plain t.now) xs)) ≡ false → HasUnshown q → ⊥
-  unshown_not xs same e some = none_marked xs (grind (arith, e, some.0)) (rw same at some.1)
+      → (((q.reading.is_coerced || is_some q.reading.field) && q.as_written) && not (list_all (λ t. list_all (stands q) t.now) xs)) ≡ false
+      → HasUnshown q → ⊥
+  unshown_not xs same e some =
+      none_marked (stands q) xs (not_both ((q.reading.is_coerced || is_some q.reading.field) && q.as_written) (list_all (λ t. list_all (stands q) t.now) xs) some.0 e)
+      (rw same at some.1)
 
 -- ---- the first of them
 
@@ -122,20 +152,29 @@ first_unread r texts told t (Reasons.range text rest a us has are) e =
 first_unread r texts told t (Reasons.no_range text rest us lacks are) e =
     let same : t.text ≡ text = sym (ap (λ (l : List Told). (get_or l 0 t).text) e) in rw same (this text rest lacks)
 
+-- the text is the first that is no version, and this is told of it
+abbrev IsFirstTold : ReadOptions → List (List ℕ) → Told → Type 0
+IsFirstTold r texts t = (text : List ℕ) × IsFirst (λ text. NoValue (IsVersionIn r text)) texts text × (t.text ≡ (lacking_in r text).text)
+
+one_further : (r : ReadOptions) (text : List ℕ) (texts : List (List ℕ)) (t : Told) → (NoValue (IsVersionIn r text) → ⊥) → IsFirstTold r texts t
+    → IsFirstTold r (text ∷ texts) t
+one_further r text texts t is (found, first, same) = (found, further text found texts is first, same)
+
 pub first_lacks : (r : ReadOptions) (ranges texts : List (List ℕ)) (told : List Told) (t : Told) → AreLeftOut r ranges texts told
-    → IsFirstLacking told t → IsFirst (λ text. NoValue (IsVersionIn r text)) texts t.text
+    → IsFirstLacking told t → IsFirstTold r texts t
 first_lacks r ranges texts told t Reasons.none first = elim first [ ]
 first_lacks r ranges texts told t (Reasons.accepted text rest v us is say are) first =
-    further text t.text rest (λ lacks. lacks v is) (first_lacks r ranges rest us t are first)
+    one_further r text rest t (λ lacks. lacks v is) (first_lacks r ranges rest us t are first)
 first_lacks r ranges texts told t (Reasons.rejected text rest v us is say are) (Lacking.this _ _ e) = absurd (cc)
 first_lacks r ranges texts told t (Reasons.rejected text rest v us is say are) (Lacking.further _ _ _ e more) =
-    further text t.text rest (λ lacks. lacks v is) (first_lacks r ranges rest us t are more)
-first_lacks r ranges texts told t (Reasons.no_version text rest us lacks are) (Lacking.this _ _ e) = this text rest lacks
-first_lacks r ranges texts told t (Reasons.no_version text rest us lacks are) (Lacking.further _ _ _ e more) = absurd (cc)
+    one_further r text rest t (λ lacks. lacks v is) (first_lacks r ranges rest us t are more)
+first_lacks r ranges texts told t (Reasons.no_version text rest us lacks are) (Lacking.this _ _ e) = (text, this text rest lacks, refl)
+first_lacks r ranges texts told t (Reasons.no_version text rest us lacks are) (Lacking.further _ _ _ e more) =
+    absurd (not_passed (part_by r.field text) text e)
 
-or_false : (a b : Bool) → (a || b) ≡ false → (a ≡ false) × (b ≡ false)
-or_false true b e = absurd (cc)
-or_false false b e = (refl, e)
+pub version_named : (q : Asked) (told : List Told) (t : Told) → AreLeftOut q.reading q.ranges q.versions told → IsFirstLacking told t
+    → Names q NoVersion (Some t.text)
+version_named q told t are is = let (text, first, same) = first_lacks q.reading q.ranges q.versions told t are is in rw same (version text first)
 
 any_both : (xs ys : List Told) → list_any is_no_version xs ≡ false → list_any is_no_version ys ≡ false → list_any is_no_version (xs ++ ys) ≡ false
 any_both [] ys e f = f

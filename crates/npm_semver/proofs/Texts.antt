@@ -3,18 +3,17 @@ use Rattle.npm_reading.specs.Ranges.{IsRangeIn}
 use Rattle.npm_semver.proofs.Listed.{dropped_more, kept_more, no_more, read_more}
 use Rattle.npm_semver.proofs.ToldOf.{accepted_more, no_range_more, no_version_more, range_more, rejected_more}
 use Rattle.npm_semver.specs.Internal.Texts.{AreTexts}
-use Rattle.npm_semver.specs.Listing.{AllSay, AreListed, Entry}
-use Rattle.npm_semver.specs.Readings.{HasRange, IsVersionIn}
-use Rattle.npm_semver.specs.Reasons.{AreLeftOut, Told}
+use Rattle.npm_semver.specs.Listing.{AllSay, AreListed, Entry, IsGiven}
+use Rattle.npm_semver.specs.Readings.{HasRange, IsVersionIn, part_by}
+use Rattle.npm_semver.specs.Reasons.{AreLeftOut, Told, lacking_in}
 use Rattle.npm_semver.specs.declared.reading.ReadOptions.{ReadOptions}
-use Rattle.npm_semver.specs.declared.why.Kind.TheVariants.{NoRange, NoVersion, NotAccepted}
+use Rattle.npm_semver.specs.declared.why.Kind.TheVariants.{NoRange, NotAccepted}
 use Rattle.semver_core.specs.Cuts.{Span}
 use Rattle.semver_core.specs.Failures.{NoValue}
 use Rattle.semver_core.specs.Lists.{is_empty}
-use Rattle.semver_core.specs.Text.Characters.{IsTrim}
 use Rattle.semver_core.specs.Values.Versions.{VersionValue}
 use Rattle.semver_core.specs.declared.TheConstants.{MAX_SAFE_INTEGER}
-use Rattle.std.proofs.Common.{◌≡◌, ◌++◌, ◌∷◌, [], ℕ, Bool, List, None, Option, Some, ap, false, refl, true}
+use Rattle.std.proofs.Common.{◌≡◌, ◌++◌, ◌∷◌, [], ℕ, Bool, List, None, Option, Some, ap, false, refl, true, unwrap_or}
 use Rattle.npm_semver.specs.Internal.Readings as Readings
 use Rattle.npm_semver.specs.Listing as Listing
 use Rattle.npm_semver.specs.Reasons as Reasons
@@ -80,7 +79,7 @@ module _ (r : ReadOptions) (ranges : List (List ℕ)) (read : List (Option (List
 
 module _ (r : ReadOptions) (ranges texts : List (List ℕ)) (read : List (Option (List (Span VersionValue)))) (no : List Told) (es : List Entry) (told : List Told) (has : Bool) where
   pub no_version_added : (text : List ℕ) → AreTexts r ranges texts read no es told has → NoValue (IsVersionIn r text)
-      → AreTexts r ranges (texts ++ text ∷ []) read no es (told ++ record { text = text; kind = NoVersion } ∷ []) has
+      → AreTexts r ranges (texts ++ text ∷ []) read no es (told ++ lacking_in r text ∷ []) has
   no_version_added text h lacks = record {
     ranges_are = h.ranges_are;
     no_ranges_are = h.no_ranges_are;
@@ -93,8 +92,8 @@ module _ (r : ReadOptions) (ranges texts : List (List ℕ)) (read : List (Option
   }
 
   pub rejected_added : (text middle : List ℕ) (v : VersionValue) (b : Bool) → b ≡ false → AreTexts r ranges texts read no es told has
-      → IsVersionIn r text v → AllSay r v ranges b → IsTrim text middle
-      → AreTexts r ranges (texts ++ text ∷ []) read no es (told ++ record { text = text; kind = NotAccepted } ∷ []) true
+      → IsVersionIn r text v → AllSay r v ranges b → IsGiven r text middle
+      → AreTexts r ranges (texts ++ text ∷ []) read no es (told ++ record { text = unwrap_or (part_by r.field text) text; kind = NotAccepted } ∷ []) true
   rejected_added text middle v b e h is say trim = record {
     ranges_are = h.ranges_are;
     no_ranges_are = h.no_ranges_are;
@@ -107,7 +106,7 @@ module _ (r : ReadOptions) (ranges texts : List (List ℕ)) (read : List (Option
   }
 
   pub accepted_added : (text middle : List ℕ) (v : VersionValue) (b : Bool) → b ≡ true → AreTexts r ranges texts read no es told has
-      → IsVersionIn r text v → AllSay r v ranges b → IsTrim text middle
+      → IsVersionIn r text v → AllSay r v ranges b → IsGiven r text middle
       → AreTexts r ranges (texts ++ text ∷ []) read no (es ++ record { version = v; text = middle } ∷ []) told true
   accepted_added text middle v b e h is say trim = record {
     ranges_are = h.ranges_are;

@@ -17,7 +17,7 @@ use Rattle.semver_core.specs.Values.Versions.{VersionValue}
 use Rattle.npm_semver.specs.Arguments.{Asked}
 use Rattle.npm_semver.specs.Internal.EntryOrder.{order_total}
 use Rattle.npm_semver.specs.Listing.{Entry, order}
-use Rattle.npm_semver.specs.Responses.{in_order, json, line, picked, shown, text_of}
+use Rattle.npm_semver.specs.Responses.{ended, in_order, json, picked, shown, text_of}
 use Rattle.npm_semver.specs.declared.question.Pick.{Pick}
 use Rattle.npm_semver.specs.declared.question.Pick.TheVariants.{All, Greatest, Least}
 
@@ -170,7 +170,7 @@ module _ (f : Entry → Entry) where
       ≡ map (shown q.as_written) (in_order q.is_reversed (picked q.pick vs)) =
       ap (λ (l : List Entry). map (shown q.as_written) l) printed
       ∙ shown_map q.as_written same_shown (in_order q.is_reversed (picked q.pick vs)) in
-      ap (λ (l : List (List ℕ)). if q.is_json then json l else flat_map line l) texts
+      ap (λ (l : List (List ℕ)). if q.is_json then json l else flat_map (ended q.ends_in_nul) l) texts
 
 plain_shown : (as_written : Bool) (e : Entry) → shown as_written (plain_entry e) ≡ shown as_written e
 plain_shown true e = refl

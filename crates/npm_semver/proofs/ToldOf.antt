@@ -1,8 +1,8 @@
 -- Texts that are told of, one after another.
-use Rattle.npm_semver.specs.{Listing.AllSay, Readings.{HasRange, IsVersionIn}, Reasons.{AreLeftOut, AreNoRanges, Told}}
-use Rattle.npm_semver.specs.declared.{reading.ReadOptions.ReadOptions, why.Kind.TheVariants.{NoRange, NoVersion, NotAccepted}}
+use Rattle.npm_semver.specs.{Listing.AllSay, Readings.{HasRange, IsVersionIn, part_by}, Reasons.{AreLeftOut, AreNoRanges, Told, lacking_in}}
+use Rattle.npm_semver.specs.declared.{reading.ReadOptions.ReadOptions, why.Kind.TheVariants.{NoRange, NotAccepted}}
 use Rattle.{npm_words.specs.Table.Comparison, semver_core.specs.{Failures.NoValue, Values.Versions.VersionValue}, std.proofs.Common.{Bool, List, []}}
-use Rattle.std.proofs.Common.{false, true, ℕ, ◌++◌, ◌∷◌, ◌≡◌}
+use Rattle.std.proofs.Common.{false, true, unwrap_or, ℕ, ◌++◌, ◌∷◌, ◌≡◌}
 use Rattle.npm_semver.specs.Reasons as Reasons
 
 module _ (r : ReadOptions) where
@@ -20,7 +20,7 @@ module _ (r : ReadOptions) where
 
 module _ (r : ReadOptions) (ranges : List (List ℕ)) where
   pub no_version_more : (texts : List (List ℕ)) (told : List Told) (text : List ℕ) → AreLeftOut r ranges texts told → NoValue (IsVersionIn r text)
-      → AreLeftOut r ranges (texts ++ text ∷ []) (told ++ record { text = text; kind = NoVersion } ∷ [])
+      → AreLeftOut r ranges (texts ++ text ∷ []) (told ++ lacking_in r text ∷ [])
   no_version_more texts told text Reasons.none is = Reasons.no_version text [] [] is Reasons.none
   no_version_more texts told text (Reasons.accepted t ts v us i s are) is = Reasons.accepted t _ v _ i s (no_version_more ts us text are is)
   no_version_more texts told text (Reasons.rejected t ts v us i s are) is = Reasons.rejected t _ v _ i s (no_version_more ts us text are is)
@@ -35,7 +35,7 @@ module _ (r : ReadOptions) (ranges : List (List ℕ)) where
 
   pub rejected_more : (texts : List (List ℕ)) (told : List Told) (text : List ℕ) (v : VersionValue) (b : Bool) → b ≡ false
       → AreLeftOut r ranges texts told → IsVersionIn r text v → AllSay r v ranges b
-      → AreLeftOut r ranges (texts ++ text ∷ []) (told ++ record { text = text; kind = NotAccepted } ∷ [])
+      → AreLeftOut r ranges (texts ++ text ∷ []) (told ++ record { text = unwrap_or (part_by r.field text) text; kind = NotAccepted } ∷ [])
   rejected_more texts told text v b e Reasons.none is say = Reasons.rejected text [] v [] is (rw e at say) Reasons.none
   rejected_more texts told text v b e (Reasons.accepted t ts w us i s are) is say = Reasons.accepted t _ w _ i s (rejected_more ts us text v b e are is say)
   rejected_more texts told text v b e (Reasons.rejected t ts w us i s are) is say = Reasons.rejected t _ w _ i s (rejected_more ts us text v b e are is say)

@@ -1,9 +1,10 @@
 -- Statement: what the arguments of the command ask for.
 use Rattle.std.specs.Prelude.{◌≡◌, ◌≢◌, ◌==◌, ◌&&◌, ◌∷◌, ◌++◌, [], not, ℕ, Bool, true, false, List, Option}
-use Rattle.std.specs.Prelude.{Some, None, codes, drop, take, unwrap_or, if◌then◌else◌}
+use Rattle.std.specs.Prelude.{◌^◌, Some, None, codes, drop, nat_lt, take, unwrap_or, if◌then◌else◌}
 use Rattle.std.specs.Char.{is_ascii_digit}
 use Rattle.std.specs.List.{list_all, list_any}
 use Rattle.std.specs.Str.{bytes_eq}
+use Rattle.std.specs.Str.Parse.{digits_value}
 use Rattle.semver_core.specs.Text.Characters.{begins}
 use Rattle.semver_core.specs.declared.increment.IdentifierBase.{IdentifierBase}
 use Rattle.semver_core.specs.declared.increment.IdentifierBase.TheVariants.{False, Value}
@@ -17,7 +18,7 @@ use Rattle.npm_semver.specs.declared.question.Word.TheVariants.{Help, IncludePre
 use Rattle.npm_semver.specs.declared.question.Word.TheVariants.{Version, Increment, Identifier, Base, Loose}
 use Rattle.npm_semver.specs.declared.question.Word.TheVariants.{Coerce, FromRight, FromLeft, Greatest, Least}
 use Rattle.npm_semver.specs.declared.question.Word.TheVariants.{AsWritten, Json, Strict, Why, KeepOrder}
-use Rattle.npm_semver.specs.declared.question.Word.TheVariants.{Input, Unknown, Text}
+use Rattle.npm_semver.specs.declared.question.Word.TheVariants.{Field, Input, Nul, Unknown, Text}
 
 abbrev pub is_one_of : List (List ℕ) → List ℕ → Bool
 is_one_of words text = list_any (bytes_eq text) words
@@ -40,11 +41,13 @@ word_of word =
     else if is_one_of (codes "--max" ∷ []) word then Greatest
     else if is_one_of (codes "--min" ∷ []) word then Least
     else if is_one_of (codes "--as-written" ∷ []) word then AsWritten
+    else if is_one_of (codes "--field" ∷ []) word then Field
     else if is_one_of (codes "--json" ∷ []) word then Json
     else if is_one_of (codes "--strict" ∷ []) word then Strict
     else if is_one_of (codes "--why" ∷ []) word then Why
     else if is_one_of (codes "--keep-order" ∷ []) word then KeepOrder
     else if is_one_of (codes "-" ∷ []) word then Input
+    else if is_one_of (codes "-z" ∷ []) word then Nul
     else if begins (λ b. b == 45) word then Unknown
     else Text
 
@@ -52,7 +55,8 @@ word_of word =
 -- first number of a next version, whether the greatest version is printed first, how texts are
 -- read, which versions are printed, whether in the order of the texts, whether as they were given,
 -- and whether as JSON, whether what is not read is an error, and is told, the first word that looks
--- like an option and is none, and whether lines of the input may be versions
+-- like an option and is none, whether records of the input may be versions, and whether a NUL byte
+-- ends each record in place of a line feed
 pub record Asked : Type 0 where
   pub versions : List (List ℕ)
   pub ranges : List (List ℕ)
@@ -69,6 +73,7 @@ pub record Asked : Type 0 where
   pub is_why : Bool
   pub unknown : Option (List ℕ)
   pub reads_input : Bool
+  pub ends_in_nul : Bool
 
 abbrev pub nothing_asked : Asked
 nothing_asked = record {
@@ -87,6 +92,7 @@ nothing_asked = record {
   is_why = false;
   unknown = None;
   reads_input = false;
+  ends_in_nul = false;
 }
 
 abbrev pub is_level : List ℕ → Bool
@@ -106,6 +112,12 @@ base_of None = Value 0
 base_of (Some text) = if bytes_eq text (codes "false") then False
     else if list_all is_ascii_digit text && not (list_all (λ b. b == 48) text) then Value 1 else Value 0
 
+-- the number of a field is digits alone; 0 stands for all that is no number of a field
+abbrev pub field_of : Option (List ℕ) → ℕ
+field_of None = 0
+field_of (Some text) =
+    if list_all is_ascii_digit text && nat_lt (digits_value 10 text) (2 ^ 64) then digits_value 10 text else 0
+
 -- what is asked in all once this word is read, behind which these words stand
 abbrev pub asked_by : Word → List ℕ → List (List ℕ) → Asked → Asked
 asked_by Help text behind q = q
@@ -119,10 +131,15 @@ asked_by Greatest text behind q = record q { pick = Picks.Greatest }
 asked_by Least text behind q = record q { pick = Picks.Least }
 asked_by KeepOrder text behind q = record q { keeps_order = true }
 asked_by AsWritten text behind q = record q { as_written = true }
+asked_by Field text behind q = record q {
+  reading = record q.reading { field = Some (field_of (value behind)) };
+  as_written = true;
+}
 asked_by Json text behind q = record q { is_json = true }
 asked_by Strict text behind q = record q { is_strict = true }
 asked_by Why text behind q = record q { is_why = true }
 asked_by Input text behind q = record q { reads_input = true }
+asked_by Nul text behind q = record q { ends_in_nul = true }
 asked_by Unknown text behind q =
     record q { versions = q.versions ++ text ∷ []; unknown = Some (unwrap_or q.unknown text) }
 asked_by Reverse text behind q = record q { is_reversed = true }
@@ -140,6 +157,7 @@ left_by Range behind = drop 1 behind
 left_by Version behind = drop 1 behind
 left_by Identifier behind = drop 1 behind
 left_by Base behind = drop 1 behind
+left_by Field behind = drop 1 behind
 left_by Increment behind = if has_level behind then drop 1 behind else behind
 left_by word behind = behind
 

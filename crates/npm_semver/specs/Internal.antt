@@ -7,3 +7,4 @@ pub mod Said
 pub mod Commands
 pub mod Drawings
 pub mod EntryOrder
+pub mod Records

@@ -1,5 +1,5 @@
 -- Statement: the versions that are printed.
-use Rattle.std.specs.Prelude.{◌&&◌, ◌∷◌, [], ℕ, Bool, true, false, List}
+use Rattle.std.specs.Prelude.{◌≡◌, ◌&&◌, ◌∷◌, [], ℕ, Bool, true, false, is_some, List}
 use Rattle.std.specs.Cmp.Lexicographic.{slice_cmp}
 use Rattle.std.specs.List.Sorted.{IsPermutation, IsSorted}
 use Rattle.std.specs.Ordering.{nat_cmp, ordering_then}
@@ -25,7 +25,12 @@ pub data AllSay (r : ReadOptions) (v : VersionValue) : List (List ℕ) → Bool 
   more : (text : List ℕ) (texts : List (List ℕ)) (a b : Bool) → Says r v text a → AllSay r v texts b
       → AllSay r v (text ∷ texts) (a && b)
 
--- a version, and the text that it was given as, without the whitespace around it
+-- a text as it was given: without the whitespace around it, and whole where a field is read
+pub data IsGiven (r : ReadOptions) (text : List ℕ) : List ℕ → Type 0 where
+  trimmed : (middle : List ℕ) → is_some r.field ≡ false → IsTrim text middle → IsGiven r text middle
+  whole : is_some r.field ≡ true → IsGiven r text text
+
+-- a version, and the text that it was given as
 pub record Entry : Type 0 where
   pub version : VersionValue
   pub text : List ℕ
@@ -38,9 +43,9 @@ pub data AreListed (r : ReadOptions) (ranges : List (List ℕ)) : List (List ℕ
   rejected : (text : List ℕ) (texts : List (List ℕ)) (v : VersionValue) (es : List Entry)
       → IsVersionIn r text v → AllSay r v ranges false → AreListed r ranges texts es
       → AreListed r ranges (text ∷ texts) es
-  accepted : (text middle : List ℕ) (texts : List (List ℕ)) (v : VersionValue) (es : List Entry)
-      → IsVersionIn r text v → AllSay r v ranges true → IsTrim text middle → AreListed r ranges texts es
-      → AreListed r ranges (text ∷ texts) (record { version = v; text = middle } ∷ es)
+  accepted : (text given : List ℕ) (texts : List (List ℕ)) (v : VersionValue) (es : List Entry)
+      → IsVersionIn r text v → AllSay r v ranges true → IsGiven r text given → AreListed r ranges texts es
+      → AreListed r ranges (text ∷ texts) (record { version = v; text = given } ∷ es)
 
 -- by precedence, and of versions that tie by the bytes of their texts
 abbrev pub order : Entry → Entry → Ordering

@@ -6,7 +6,7 @@ use Rattle.std.specs.declared.io.Error.{Error}
 use Rattle.std.specs.declared.io.ErrorKind.TheVariants.{BrokenPipe}
 use Rattle.semver_core.specs.Lists.{is_empty}
 use Rattle.npm_semver.specs.Arguments.{Asked, IsAsked}
-use Rattle.npm_semver.specs.Responses.{Responds, Written, tells_why, with_lines}
+use Rattle.npm_semver.specs.Responses.{Responds, Written, tells_why, with_records}
 use Rattle.npm_semver.specs.Subcommands.{IsReply, Trouble, exit_status, is_subcommand, say}
 use Rattle.npm_semver.specs.Words.{value}
 use Rattle.npm_semver.specs.declared.subcommands.replies.Status.{Status}
@@ -35,7 +35,7 @@ pub data IsOutcome (arguments : List (List ℕ)) (input : List ℕ) (is_utf8 : B
       (record { output = output; errors = errors; status = exit_status status })
   response : (asked : Option Asked) (written : Written) (reasons errors : List ℕ)
       → has_subcommand arguments ≡ false → IsAsked arguments asked
-      → Responds (option_map (with_lines input) asked) written
+      → Responds (option_map (with_records input) asked) written
       → (tells_why asked ≡ false → reasons ≡ [])
       → IsTold (is_some written.refusal) errors → IsOutcome arguments input is_utf8 (record {
         output = written.output;

@@ -1,5 +1,7 @@
--- Statement: how texts are read: the version that a text is, strictly or coerced, and the range.
-use Rattle.std.specs.Prelude.{◌≡◌, ◌∷◌, true, false, List, ℕ}
+-- Statement: how texts are read: the part of a text that is a version, strictly or coerced, and the range.
+use Rattle.std.specs.Prelude.{◌≡◌, ◌==◌, ◌||◌, ◌∷◌, not, true, false, Bool, List, ℕ, zero, suc}
+use Rattle.std.specs.Prelude.{Option, Some, None, length, slice_get}
+use Rattle.std.specs.List.{filter, slice_split}
 use Rattle.semver_core.specs.Failures.{NoValue}
 use Rattle.semver_core.specs.Values.Versions.{VersionValue}
 use Rattle.semver_core.specs.declared.TheConstants.{MAX_SAFE_INTEGER}
@@ -9,22 +11,52 @@ use Rattle.npm_words.specs.Table.{Comparison}
 use Rattle.npm_words.specs.VersionText.{IsVersionText}
 use Rattle.npm_semver.specs.declared.reading.ReadOptions.{ReadOptions}
 
--- without an option: strictly, and without pre-releases
+-- without an option: strictly, without pre-releases, and the whole text
 abbrev pub strictly : ReadOptions
-strictly = record { include_prerelease = false; is_loose = false; is_coerced = false; from_right = false }
+strictly = record {
+  include_prerelease = false;
+  is_loose = false;
+  is_coerced = false;
+  from_right = false;
+  field = None;
+}
+
+-- a space or a tab
+abbrev pub is_blank : ℕ → Bool
+is_blank b = b == 32 || b == 9
+
+-- the fields of a text: what stands between blanks
+abbrev pub fields : List ℕ → List (List ℕ)
+fields text = filter (λ part. not (length part == 0)) (slice_split is_blank text)
+
+-- the field of this number, if there are so many: the first has number 1
+abbrev pub nth_field : ℕ → List ℕ → Option (List ℕ)
+nth_field zero text = None
+nth_field (suc n) text = slice_get (fields text) n
+
+-- the part of a text that is read: all of it, or a field
+abbrev pub part_by : Option ℕ → List ℕ → Option (List ℕ)
+part_by None text = Some text
+part_by (Some n) text = nth_field n text
 
 -- what is found, the leftmost numbers or those that end last, is kept with its pre-release only
 -- where pre-releases are included
 abbrev pub IsFoundIn : ReadOptions → List ℕ → VersionValue → Type 0
 IsFoundIn r = IsCoerced r.include_prerelease (IsChosenFrom r.from_right) (IsNumberIn r.is_loose)
 
--- the text is the version: strictly, also where the reading is loose; where it is coerced, what is
+-- the part is the version: strictly, also where the reading is loose; where it is coerced, what is
 -- found in it, and only if nothing is found what it is strictly
-pub data IsVersionIn (r : ReadOptions) (text : List ℕ) (v : VersionValue) : Type 0 where
-  strict : r.is_coerced ≡ false → IsVersionText MAX_SAFE_INTEGER text v → IsVersionIn r text v
-  found : r.is_coerced ≡ true → IsFoundIn r text v → IsVersionIn r text v
-  not_found : r.is_coerced ≡ true → NoValue (IsFoundIn r text) → IsVersionText MAX_SAFE_INTEGER text v
-      → IsVersionIn r text v
+pub data IsVersionAs (r : ReadOptions) (part : List ℕ) (v : VersionValue) : Type 0 where
+  strict : r.is_coerced ≡ false → IsVersionText MAX_SAFE_INTEGER part v → IsVersionAs r part v
+  found : r.is_coerced ≡ true → IsFoundIn r part v → IsVersionAs r part v
+  not_found : r.is_coerced ≡ true → NoValue (IsFoundIn r part) → IsVersionText MAX_SAFE_INTEGER part v
+      → IsVersionAs r part v
+
+-- the text has the part that is read, and that is the version
+pub record IsVersionIn (r : ReadOptions) (text : List ℕ) (v : VersionValue) : Type 0 where
+  pub part : List ℕ
+  pub has : part_by r.field text ≡ Some part
+  pub is : IsVersionAs r part v
 
 -- the text is a range of these alternatives
 abbrev pub HasRange : ReadOptions → List ℕ → List (List Comparison) → Type 0

@@ -116,7 +116,7 @@ impl<'a> Command<'a> {
                 Outcome::of_reply(alloc, subcommand.reply(alloc, words, input, is_utf8)?)
             }
             Command::Request(request) => {
-                let request = request.with_lines(alloc, input)?;
+                let request = request.with_records(alloc, input)?;
                 Outcome::of_response(alloc, respond(alloc, &request)?)
             }
         }

@@ -10,7 +10,8 @@ use nodejs_semver::VersionRef;
 use std::cmp::Ordering;
 use std::marker::Model;
 
-/// A version, and the text that it was given as, without the whitespace around it.
+/// A version, and the text that it was given as: without the whitespace around it, and whole where
+/// a field is read.
 #[derive(Drop)]
 pub struct Entry<'a> {
     pub version: VersionRef<'a>,

@@ -37,13 +37,16 @@ beyond npm's program:
       --keep-order            print versions in the order in which they were given
       --json                  print a JSON array of strings
       --as-written            print each text as it was given, without the whitespace around it
+      --field <n>             read the version in the nth field of each text, between spaces and
+                              tabs, and print the text whole
+  -z                          end each record that is read or printed with a NUL byte
       --strict                make the first text that is no version or no range, or the first
                               unknown option, an error
       --why                   tell on standard error why each text is left out
 
 Prints each version without its build metadata, in ascending order. Texts that are no versions are
 left out. Exits with 1 if no version is printed, and says why if the question cannot be answered:
-with -l, where a range has a word that is not read, and with -c and --as-written, where a text has a
-control character, a quote or a backslash. The subcommands exit with 0 for yes, 1 for no and 2 for a
-malformed question.
+with -l, where a range has a word that is not read; with -c and --as-written, or with --field and
+--json, where a text has a control character, a quote or a backslash; and where --field has no
+number. The subcommands exit with 0 for yes, 1 for no and 2 for a malformed question.
 ";

@@ -3,7 +3,6 @@
 ghost use Rattle.std.specs.Prelude.{◌≡◌, ◌∷◌, ◌++◌, [], ℕ, List, None, Some, false, true};
 ghost use Rattle.std.specs.Prelude.{Option, unwrap_or};
 ghost use Rattle.std.specs.Str.{IsUtf8};
-ghost use Rattle.std.specs.Str.Lines.{lines};
 ghost use Rattle.std.specs.declared.cmp.Ordering.TheVariants.{Less};
 ghost use Rattle.semver_core.specs.Failures.{NoValue};
 ghost use Rattle.semver_core.specs.Values.Order.{precedence};
@@ -13,7 +12,7 @@ ghost use Rattle.npm_semver.specs.Laws.{EachText, IsAccepted, IsLeftOut};
 ghost use Rattle.npm_semver.specs.Listing.{AreListed, Entry};
 ghost use Rattle.npm_semver.specs.Readings.{SomeText};
 ghost use Rattle.npm_semver.specs.Responses.{IsRefused, Responds, Written, next_text};
-ghost use Rattle.npm_semver.specs.Responses.{prints_as_given};
+ghost use Rattle.npm_semver.specs.Responses.{prints_as_given, records};
 
 use npm_words::laws::npm_reads_once;
 use semver_core::laws::{least_increments, whitespace_ends};
@@ -61,14 +60,15 @@ pub fn exchanges()
     whitespace_ends();
 }
 
-/// Asked for versions that are not coerced, on lines and not as they were given, the command
-/// changes nothing that it has printed itself: asked the same of its own lines, it prints them
+/// Asked for versions that are not coerced, as records and not as they were given, the command
+/// changes nothing that it has printed itself: asked the same of its own records, it prints them
 /// again.
 pub fn again()
     ensures { (q : Asked) (written : Written) → EachText IsUtf8 q.versions
         → Responds (Some q) written → q.level ≡ None → q.reading.is_coerced ≡ false
-        → q.is_json ≡ false → q.as_written ≡ false → written.refusal ≡ None
-        → Responds (Some (record q { versions = lines written.output })) written }
+        → q.reading.field ≡ None → q.is_json ≡ false → q.as_written ≡ false
+        → written.refusal ≡ None
+        → Responds (Some (record q { versions = records q.ends_in_nul written.output })) written }
 {
     npm_reads_once();
 }
@@ -80,7 +80,7 @@ pub fn next_versions()
         → q.level ≡ Some level → is_level level ≡ true → unwrap_or q.identifier [] ≡ []
         → written.is_success ≡ true
         → (e : Entry) × (w : VersionValue) × AreListed q.reading [] q.versions (e ∷ [])
-        × (written.output ≡ next_text q.is_json w) × (precedence e.version w ≡ Less) }
+        × (written.output ≡ next_text q.is_json q.ends_in_nul w) × (precedence e.version w ≡ Less) }
 {
     least_increments();
 }

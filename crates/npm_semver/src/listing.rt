@@ -12,7 +12,6 @@ use crate::entry::Entry;
 use crate::reading::ReadOptions;
 use crate::why::{Kind, Reason};
 use nodejs_semver::{RangeRef, VersionRef};
-use semver_core::scan;
 use std::alloc::{AllocError, Global};
 
 /// What range texts are, and texts that may be versions, each in their order.
@@ -91,18 +90,16 @@ impl<'a> Texts<'a> {
             Reads reading ranges (before ++ text.now ∷ []) self.new) }
     {
         let Some(version) = reading.version(text) else {
-            let kind = Kind::NoVersion;
-            self.left_out.push(Reason { text, kind })?;
+            self.left_out.push(Reason::no_version(reading, text))?;
             return Ok(());
         };
         self.has_version = true;
-        let middle = scan::trim(text);
+        let given = reading.given(text);
         if !all_accept(reading.include_prerelease, &self.ranges, &version) {
-            let kind = Kind::NotAccepted;
-            self.left_out.push(Reason { text, kind })?;
+            self.left_out.push(Reason::not_accepted(reading, text))?;
             return Ok(());
         }
-        let text = middle;
+        let text = given;
         self.entries.push(Entry { version, text })?;
         Ok(())
     }

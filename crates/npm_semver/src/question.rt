@@ -2,16 +2,20 @@
 
 ghost use Rattle.std.specs.Prelude.{◌≡◌, [], IfOk, OnOk, map, option_map, string_bytes};
 ghost use Rattle.npm_semver.specs.Arguments as Spec;
-ghost use Rattle.npm_semver.specs.Arguments.{IsAsked, asked_by, base_of, has_level, level_of};
-ghost use Rattle.npm_semver.specs.Arguments.{left_by, nothing_asked, word_of};
-ghost use Rattle.std.specs.Prelude.{◌==◌};
+ghost use Rattle.npm_semver.specs.Arguments.{IsAsked, asked_by, base_of, field_of, has_level};
+ghost use Rattle.npm_semver.specs.Arguments.{left_by, level_of, nothing_asked, word_of};
+ghost use Rattle.std.specs.Prelude.{◌==◌, ◌^◌, ◌∷◌, ◌++◌, Some, nat_lt, true, unwrap_or};
+ghost use Rattle.std.specs.Prelude.{if◌then◌else◌};
 ghost use Rattle.std.specs.Char.{is_ascii_digit};
-ghost use Rattle.std.specs.List.{list_all};
+ghost use Rattle.std.specs.List.{list_all, slice_split};
 ghost use Rattle.std.specs.Str.Lines.{lines};
+ghost use Rattle.std.specs.Str.Parse.{digits_value};
 ghost use Rattle.semver_core.specs.Text.Characters.{begins};
-ghost use Rattle.npm_semver.specs.Responses.{prints_as_given, reads_input, with_lines};
+ghost use Rattle.npm_semver.specs.Responses.{end_of, prints_as_given, reads_input, records};
+ghost use Rattle.npm_semver.specs.Responses.{with_records, without_empty_end};
 ghost use Rattle.npm_semver.specs.declared.question.Word.TheVariants as Word;
 ghost use Rattle.npm_semver.specs.Internal.Asked.{asked_of, request_of, texts};
+ghost use Rattle.npm_semver.specs.Internal.Records.{has_empty_end};
 
 use crate::arguments::Words;
 use crate::reading::ReadOptions;
@@ -37,10 +41,12 @@ pub enum Word {
     Least,
     KeepOrder,
     AsWritten,
+    Field,
     Json,
     Strict,
     Why,
     Input,
+    Nul,
     /// A word that begins with `-` and is no option.
     Unknown,
     Text,
@@ -68,10 +74,12 @@ impl Word {
             "--min" => Word::Least,
             "--keep-order" => Word::KeepOrder,
             "--as-written" => Word::AsWritten,
+            "--field" => Word::Field,
             "--json" => Word::Json,
             "--strict" => Word::Strict,
             "--why" => Word::Why,
             "-" => Word::Input,
+            "-z" => Word::Nul,
             _ if begins_with_dash(word) => Word::Unknown,
             _ => Word::Text,
         }
@@ -133,8 +141,10 @@ pub struct Question<'a> {
     pub is_why: bool,
     /// The first word that looks like an option and is none.
     pub unknown: Option<&'a str>,
-    /// Whether the lines of the input may be versions too.
+    /// Whether the records of the input may be versions too.
     pub reads_input: bool,
+    /// Whether a NUL byte ends each record, in place of a line feed.
+    pub ends_in_nul: bool,
 }
 
 impl<'a> Question<'a> {
@@ -157,6 +167,7 @@ impl<'a> Question<'a> {
             is_why: false,
             unknown: None,
             reads_input: false,
+            ends_in_nul: false,
         }
     }
 
@@ -187,16 +198,40 @@ impl<'a> Question<'a> {
             Word::Least => self.pick = Pick::Least,
             Word::KeepOrder => self.keeps_order = true,
             Word::AsWritten => self.as_written = true,
+            Word::Field => self.read_field(words.take_value()),
             Word::Json => self.is_json = true,
             Word::Strict => self.is_strict = true,
             Word::Why => self.is_why = true,
             Word::Input => self.reads_input = true,
-            Word::Unknown => {
-                self.unknown = Some(self.unknown.unwrap_or(text));
-                self.versions.push(text)?;
-            }
+            Word::Nul => self.ends_in_nul = true,
+            Word::Unknown => self.add_unknown(text)?,
             Word::Text => self.versions.push(text)?,
         }
+        Ok(())
+    }
+
+    // Reads the field of this number, of texts that are printed as they were given.
+    fn read_field(&mut self, number: Option<&'a str>)
+        ensures { let q = asked_of self.old in asked_of self.new ≡ record q {
+          reading = record q.reading {
+            field = Some (field_of (option_map (λ t. t.now) number.entry));
+          };
+          as_written = true;
+        } }
+    {
+        self.reading.field = Some(field(number));
+        self.as_written = true;
+    }
+
+    // Adds a word that looks like an option and is none.
+    fn add_unknown(&mut self, word: &'a str) -> Result<(), AllocError>
+        ensures { OnOk result (let q = asked_of self.old in asked_of self.new ≡ record q {
+          versions = q.versions ++ word.now ∷ [];
+          unknown = Some (unwrap_or q.unknown word.now);
+        }) }
+    {
+        self.unknown = Some(self.unknown.unwrap_or(word));
+        self.versions.push(word)?;
         Ok(())
     }
 
@@ -208,16 +243,64 @@ impl<'a> Question<'a> {
         self.keeps_order && matches!(self.pick, Pick::All)
     }
 
-    // Adds the lines of the input to the texts that may be versions, if `-` asks for them.
-    fn add_lines(&mut self, alloc: Global, input: &'a str) -> Result<(), AllocError>
-        ensures { OnOk result (asked_of self.new ≡ with_lines input.now (asked_of self.old)) }
+    /// The byte that ends each record that is printed.
+    pub fn end(&self) -> u8
+        ensures { result ≡ end_of self.now.ends_in_nul }
+    {
+        if self.ends_in_nul { b'\0' } else { b'\n' }
+    }
+
+    // Adds the records of the input to the texts that may be versions, if `-` asks for them.
+    fn add_records(&mut self, alloc: Global, input: &'a str) -> Result<(), AllocError>
+        ensures { OnOk result (asked_of self.new ≡ with_records input.now (asked_of self.old)) }
     {
         if self.reads_input {
-            let lines = lines_of(alloc, input)?;
-            self.versions.extend_from_slice(&lines)?;
+            let records = records_of(alloc, self.ends_in_nul, input)?;
+            self.versions.extend_from_slice(&records)?;
         }
         Ok(())
     }
+}
+
+// The records of the input: its lines, or what a NUL byte ends.
+fn records_of(alloc: Global, ends_in_nul: bool, input: &str) -> Result<Vec<&str>, AllocError>
+    ensures { IfOk result (λ found. texts found.items ≡ records ends_in_nul input.now) }
+{
+    if ends_in_nul {
+        nul_records_of(alloc, input)
+    } else {
+        lines_of(alloc, input)
+    }
+}
+
+// What a NUL byte ends. An empty text behind the last one is no record.
+fn nul_records_of(alloc: Global, input: &str) -> Result<Vec<&str>, AllocError>
+    ensures { IfOk result (λ found.
+        texts found.items ≡ without_empty_end (slice_split (λ b. b == 0) input.now)) }
+{
+    let mut records = nul_parts_of(alloc, input)?;
+    if !has_empty_end(&records) {
+        return Ok(records);
+    }
+    let _ = records.pop();
+    Ok(records)
+}
+
+// Whether the last part is empty.
+fn has_empty_end(parts: &[&str]) -> bool
+    ensures { result ≡ has_empty_end (texts parts.now) }
+{
+    match parts.last() {
+        Some(last) => last.is_empty(),
+        None => false,
+    }
+}
+
+// What stands between NUL bytes.
+fn nul_parts_of(alloc: Global, input: &str) -> Result<Vec<&str>, AllocError>
+    ensures { IfOk result (λ found. texts found.items ≡ slice_split (λ b. b == 0) input.now) }
+{
+    input.split('\0').collect(alloc)
 }
 
 /// The lines of the input.
@@ -264,6 +347,25 @@ fn base(text: Option<&str>) -> IdentifierBase
     }
 }
 
+// The number of a field by the value of `--field`, or 0 where that is none.
+fn field(text: Option<&str>) -> usize
+    ensures { result ≡ field_of (option_map (λ t. t.now) text.entry) }
+{
+    match text {
+        Some(text) if is_digits(text.as_bytes()) => field_number(text),
+        _ => 0,
+    }
+}
+
+// The number that digits write, or 0 where it is too great.
+fn field_number(digits: &str) -> usize
+    requires { list_all is_ascii_digit digits.now ≡ true }
+    ensures { result ≡ (if nat_lt (digits_value 10 digits.now) (2 ^ 64)
+        then digits_value 10 digits.now else 0) }
+{
+    digits.parse::<usize>().unwrap_or(0)
+}
+
 fn is_digits(text: &[u8]) -> bool
     ensures { result ≡ list_all is_ascii_digit text.now }
 {
@@ -298,7 +400,7 @@ impl<'a> Request<'a> {
         Ok(Request::Versions(question))
     }
 
-    /// Whether the lines of the input may be versions.
+    /// Whether the records of the input may be versions.
     pub fn reads_input(&self) -> bool
         ensures { result ≡ reads_input (request_of self.now) }
     {
@@ -308,17 +410,17 @@ impl<'a> Request<'a> {
         }
     }
 
-    /// What is asked if this is the input: its lines may be versions if the arguments ask for it.
+    /// What is asked if this is the input: its records may be versions if the arguments ask for it.
     /// Fails only if allocation fails.
-    pub fn with_lines(self, alloc: Global, input: &'a str) -> Result<Request<'a>, AllocError>
+    pub fn with_records(self, alloc: Global, input: &'a str) -> Result<Request<'a>, AllocError>
         ensures { IfOk result (λ request.
-            request_of request ≡ option_map (with_lines input.now) (request_of self.entry)) }
+            request_of request ≡ option_map (with_records input.now) (request_of self.entry)) }
     {
         match self {
             Request::Help => Ok(Request::Help),
             Request::Versions(question) => {
                 let mut question = question;
-                question.add_lines(alloc, input)?;
+                question.add_records(alloc, input)?;
                 Ok(Request::Versions(question))
             }
         }

@@ -1,13 +1,17 @@
 // How version texts and range texts are read.
 
-ghost use Rattle.std.specs.Prelude.{◌≡◌, IfNone, IfOk, IfSome};
+ghost use Rattle.std.specs.Prelude.{◌≡◌, IfNone, IfOk, IfSome, option_map, slice_get};
 ghost use Rattle.semver_core.specs.Failures.{NoValue};
 ghost use Rattle.semver_core.specs.declared.TheConstants.{MAX_SAFE_INTEGER};
 ghost use Rattle.npm_reading.specs.Ranges.{IsRangeIn};
-ghost use Rattle.npm_semver.specs.Readings.{HasRange, IsFoundIn, IsVersionIn, strictly};
+ghost use Rattle.npm_semver.specs.Listing.{IsGiven};
+ghost use Rattle.npm_semver.specs.Readings as Spec;
+ghost use Rattle.npm_semver.specs.Readings.{HasRange, IsFoundIn, IsVersionAs, IsVersionIn};
+ghost use Rattle.npm_semver.specs.Readings.{fields, part_by, strictly};
 
 use nodejs_semver::{Failure, RangeRef, VersionRef};
 use npm_reading::{Coercion, Reading};
+use semver_core::scan;
 use std::alloc::{AllocError, Global};
 
 /// How the command reads texts.
@@ -22,6 +26,8 @@ pub struct ReadOptions {
     pub is_coerced: bool,
     /// Whether it is the one that ends last there.
     pub from_right: bool,
+    /// The number of the field of a text that is read, if not all of it is; none has number 0.
+    pub field: Option<usize>,
 }
 
 impl ReadOptions {
@@ -34,13 +40,43 @@ impl ReadOptions {
             is_loose: false,
             is_coerced: false,
             from_right: false,
+            field: None,
         }
     }
 
-    /// The version that a text is.
+    /// The part of a text that is read: all of it, or a field.
+    pub fn part(self, text: &str) -> Option<&str>
+        ensures { option_map (λ part. part.now) result ≡ part_by self.field text.now }
+    {
+        match self.field {
+            None => Some(text),
+            Some(n) => nth_field(n, text),
+        }
+    }
+
+    /// The version that stands in a text.
     pub fn version(self, text: &str) -> Option<VersionRef<'_>>
         ensures some { IfSome result (IsVersionIn self text.now) }
         ensures none { IfNone result (NoValue (IsVersionIn self text.now)) }
+    {
+        let part = self.part(text)?;
+        self.version_as(part)
+    }
+
+    /// A text as it was given: without the whitespace around it, and whole where a field is read.
+    pub fn given(self, text: &str) -> &str
+        ensures { IsGiven self text.now result.now }
+    {
+        match self.field {
+            None => scan::trim(text),
+            Some(_) => text,
+        }
+    }
+
+    // The version that a part is.
+    fn version_as(self, text: &str) -> Option<VersionRef<'_>>
+        ensures some { IfSome result (IsVersionAs self text.now) }
+        ensures none { IfNone result (NoValue (IsVersionAs self text.now)) }
     {
         let strict = Reading {
             loose: false,
@@ -80,4 +116,29 @@ impl ReadOptions {
         };
         Failure::refused_as_none(npm_reading::range(alloc, text, reading))
     }
+}
+
+// The field of a number, counted from 1, if a text has so many. Blanks, which are spaces and tabs,
+// stand between fields.
+fn nth_field(n: usize, text: &str) -> Option<&str>
+    ensures { option_map (λ part. part.now) result ≡ Spec.nth_field n text.now }
+{
+    let before = n.checked_sub(1)?;
+    let field = field_behind(before, text.as_bytes())?;
+    Some(scan::text_front(field))
+}
+
+// The field behind so many others.
+fn field_behind(before: usize, text: &[u8]) -> Option<&[u8]>
+    ensures { option_map (λ field. field.now) result ≡ slice_get (fields text.now) before }
+{
+    text.split(|byte| is_blank(*byte))
+        .filter(|part| !part.is_empty())
+        .nth(before)
+}
+
+fn is_blank(byte: u8) -> bool
+    ensures { result ≡ Spec.is_blank byte }
+{
+    byte == b' ' || byte == b'\t'
 }

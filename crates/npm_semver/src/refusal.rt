@@ -1,12 +1,12 @@
 // Why nothing is answered.
 
 ghost use Rattle.std.specs.Prelude.{◌≡◌, ◌&&◌, ◌||◌, ◌∷◌, [], IfNone, IfSome, None, is_some, not};
-ghost use Rattle.std.specs.Prelude.{Some, option_map, take, if◌then◌else◌};
+ghost use Rattle.std.specs.Prelude.{◌==◌, Some, option_map, take, true, false, if◌then◌else◌};
 ghost use Rattle.std.specs.List.{list_all, list_any};
 ghost use Rattle.semver_core.specs.Failures.{NoValue};
 ghost use Rattle.semver_core.specs.Lists.{is_empty};
 ghost use Rattle.npm_semver.specs.Responses as Spec;
-ghost use Rattle.npm_semver.specs.Responses.{IsRefused, Names, is_plain};
+ghost use Rattle.npm_semver.specs.Responses.{HasNoNumber, IsRefused, Names, is_plain, stands};
 ghost use Rattle.npm_semver.specs.Internal.Asked.{asked_of};
 ghost use Rattle.npm_semver.specs.Internal.Texts.{IsFirstLacking, IsReadFor, is_no_version};
 ghost use Rattle.npm_semver.specs.Internal.Written.{name_in, told_as};
@@ -23,6 +23,8 @@ use thiserror::Error;
 pub enum Refusal<'a> {
     #[error("-i takes one version and no range")]
     NotOneVersion,
+    #[error("--field takes the number of a field, from 1")]
+    NoFieldNumber,
     #[error("a word that begins with - is no option: {0:?}")]
     UnknownOption(&'a str),
     #[error("{0}")]
@@ -33,11 +35,24 @@ pub enum Refusal<'a> {
     NoVersion(Marked<'a>),
     #[error("with -c and --as-written a text has a control character, a quote or a backslash")]
     UnshownText,
+    #[error("with --field a text has a line feed, or with --json a character that JSON escapes")]
+    UnshownLine,
     #[error("{0}")]
     NotIncremented(IncrementError),
 }
 
 impl<'a> Refusal<'a> {
+    // Some text may not be printed as it was given.
+    fn unshown(question: &Question<'_>) -> Refusal<'a>
+        ensures kind { told_as result ≡ Spec.UnshownText }
+        ensures name { name_in result ≡ None }
+    {
+        match question.reading.field {
+            None => Refusal::UnshownText,
+            Some(_) => Refusal::UnshownLine,
+        }
+    }
+
     // A text is no range. `-l` alone does not name it.
     fn no_range(question: &Question<'a>, reason: &Reason<'a>) -> Refusal<'a>
         ensures kind { told_as result ≡ Spec.UnreadRange }
@@ -52,8 +67,9 @@ impl<'a> Refusal<'a> {
     }
 }
 
-/// Returns why nothing is answered to a question, whose texts are read, if so: with the first word
-/// that is no option, the first text that has to be a range, or the first that has to be a version.
+/// Returns why nothing is answered to a question, whose texts are read, if so: for want of a number
+/// of a field, with the first word that is no option, the first text that has to be a range, or the
+/// first that has to be a version.
 pub fn refusal_of<'a>(question: &Question<'a>, read: &Texts<'a>) -> Option<Refusal<'a>>
     ensures some { IsReadFor (asked_of question.now) read.now → IfSome result (λ refusal.
         IsRefused (asked_of question.now) (told_as refusal)) }
@@ -62,6 +78,9 @@ pub fn refusal_of<'a>(question: &Question<'a>, read: &Texts<'a>) -> Option<Refus
     ensures none { IsReadFor (asked_of question.now) read.now → IfNone result
         (NoValue (IsRefused (asked_of question.now))) }
 {
+    if has_no_number(question) {
+        return Some(Refusal::NoFieldNumber);
+    }
     if let Some(word) = unknown(question) {
         return Some(Refusal::UnknownOption(word));
     }
@@ -72,9 +91,17 @@ pub fn refusal_of<'a>(question: &Question<'a>, read: &Texts<'a>) -> Option<Refus
         return Some(Refusal::NoVersion(reason.marked(question.reading)));
     }
     if has_unshown(question) {
-        return Some(Refusal::UnshownText);
+        return Some(Refusal::unshown(question));
     }
     None
+}
+
+// Whether a field is asked for, and by no number of one.
+fn has_no_number(question: &Question<'_>) -> bool
+    ensures yes { result ≡ true → HasNoNumber (asked_of question.now) }
+    ensures no { result ≡ false → HasNoNumber (asked_of question.now) → ⊥ }
+{
+    matches!(question.reading.field, Some(0))
 }
 
 // The first word that has to be an option, and is none.
@@ -130,12 +157,43 @@ fn first_lacking<'r, 'a>(left_out: &'r [Reason<'a>]) -> Option<&'r Reason<'a>>
     None
 }
 
-// Whether some text may be printed as it was given, and is no line or no JSON string.
+// Whether some text may be printed as it was given, and is no record or no JSON string.
 fn has_unshown(question: &Question<'_>) -> bool
-    ensures { result ≡ (question.now.reading.is_coerced && question.now.as_written)
-        && not (list_all (λ t. list_all is_plain t.now) question.now.versions.items) }
+    ensures { result ≡ ((question.now.reading.is_coerced || is_some question.now.reading.field)
+        && question.now.as_written) && not (list_all (λ t. list_all (stands
+        (asked_of question.now)) t.now) question.now.versions.items) }
 {
-    question.reading.is_coerced && question.as_written && !are_plain(&question.versions)
+    (question.reading.is_coerced || question.reading.field.is_some())
+        && question.as_written
+        && !all_stand(question)
+}
+
+fn all_stand(question: &Question<'_>) -> bool
+    ensures { result ≡ list_all (λ t. list_all (stands (asked_of question.now)) t.now)
+        question.now.versions.items }
+{
+    if (question.reading.field.is_some() || question.ends_in_nul) && !question.is_json {
+        lack(question.end(), &question.versions)
+    } else {
+        are_plain(&question.versions)
+    }
+}
+
+// Whether a byte stands in none of these texts.
+fn lack(end: u8, texts: &[&str]) -> bool
+    ensures { result ≡ list_all (λ t. list_all (λ c. not (c == end)) t.now) texts.now }
+{
+    texts.iter().all(
+        |text| -> bool
+            ensures { result ≡ list_all (λ c. not (c == end)) text.now.now }
+        { lacks(end, text.as_bytes()) },
+    )
+}
+
+fn lacks(end: u8, text: &[u8]) -> bool
+    ensures { result ≡ list_all (λ c. not (c == end)) text.now }
+{
+    text.iter().all(|byte| *byte != end)
 }
 
 fn are_plain(texts: &[&str]) -> bool

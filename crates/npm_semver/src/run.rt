@@ -2,16 +2,17 @@
 
 ghost use Rattle.std.specs.Prelude.{◌≡◌, ◌++◌, ◌∷◌, [], not, option_map, IfOk, OnOk, None, Ok};
 ghost use Rattle.std.specs.Prelude.{Some};
-ghost use Rattle.std.specs.Prelude.{false, map, string_bytes, true, if◌then◌else◌};
+ghost use Rattle.std.specs.Prelude.{false, map, string_bytes, true};
 ghost use Rattle.std.specs.List.{flat_map};
 ghost use Rattle.semver_core.specs.Failures.{NoValue};
 ghost use Rattle.semver_core.specs.Increments.Table.{answer_of_inc};
 ghost use Rattle.semver_core.specs.Lists.{is_empty};
 ghost use Rattle.semver_core.specs.Printing.Text.{marked_list};
 ghost use Rattle.npm_semver.specs.Listing.{AreListed};
-ghost use Rattle.npm_semver.specs.Responses.{IsRefused, Responds, bare, json, line};
+ghost use Rattle.npm_semver.specs.Responses.{IsRefused, Responds, bare, ended, json};
 ghost use Rattle.npm_semver.specs.Responses.{in_order, next_written, nothing_written, picked};
-ghost use Rattle.npm_semver.specs.Responses.{prints_as_given, quoted, shown, tells_why};
+ghost use Rattle.npm_semver.specs.Responses.{printed_text, prints_as_given, quoted, shown};
+ghost use Rattle.npm_semver.specs.Responses.{tells_why};
 ghost use Rattle.npm_semver.specs.Internal.Asked.{asked_of, request_of};
 ghost use Rattle.npm_semver.specs.Internal.Texts.{IsReadFor};
 ghost use Rattle.npm_semver.specs.Internal.Written.{told_as, written};
@@ -159,7 +160,7 @@ fn given<'a>(
         Responds (Some (asked_of question.now)) (written response)) }
 {
     let mut output = String::new(alloc);
-    write_all(question.is_json, question.as_written, listed, &mut output)?;
+    write_all(question, listed, &mut output)?;
     Ok(Response {
         output,
         told: String::new(alloc),
@@ -187,7 +188,7 @@ fn list<'a>(
     pick(question.pick, listed);
     put_in_order(question.is_reversed, listed);
     let mut output = String::new(alloc);
-    write_all(question.is_json, question.as_written, listed, &mut output)?;
+    write_all(question, listed, &mut output)?;
     Ok(Response {
         output,
         told: String::new(alloc),
@@ -257,26 +258,32 @@ fn next<'a>(
     entry: &Entry<'a>,
 ) -> Result<Response<'a>, AllocError>
     ensures { IfOk result (λ response. written response ≡ next_written question.now.is_json
-        (answer_of_inc entry.now.version level.now
+        question.now.ends_in_nul (answer_of_inc entry.now.version level.now
         (asked_of question.now).identifier (Some question.now.base))) }
 {
     let version = &entry.version;
     match version.inc(alloc, level, question.identifier, Some(question.base)) {
-        Ok(next) => found(alloc, question.is_json, next),
+        Ok(next) => found(alloc, question, next),
         Err(Failure::Refused(error)) => { Ok(nothing(alloc, Some(Refusal::NotIncremented(error)))) }
         Err(Failure::Memory(error)) => Err(error),
     }
 }
 
-fn found<'a>(alloc: Global, is_json: bool, next: Version) -> Result<Response<'a>, AllocError>
-    ensures { IfOk result (λ response. written response ≡ next_written is_json (Ok next)) }
+fn found<'a>(
+    alloc: Global,
+    question: &Question<'a>,
+    next: Version,
+) -> Result<Response<'a>, AllocError>
+    ensures { IfOk result (λ response. written response
+        ≡ next_written question.now.is_json question.now.ends_in_nul (Ok next)) }
 {
     let next = without_build(alloc, next)?;
     let mut output = String::new(alloc);
-    if is_json {
+    if question.is_json {
         writeln!(output, "[\"{next}\"]")?;
     } else {
-        writeln!(output, "{next}")?;
+        write!(output, "{next}")?;
+        output.push(char::from(question.end()))?;
     }
     Ok(Response {
         output,
@@ -307,21 +314,19 @@ pub fn without_build(alloc: Global, version: Version) -> Result<Version, AllocEr
     }
 }
 
-// Writes versions, or their texts, as JSON, or each on a line.
+// Writes versions, or their texts, as JSON, or each as a record.
 fn write_all(
-    is_json: bool,
-    as_written: bool,
+    question: &Question<'_>,
     entries: &[Entry<'_>],
     output: &mut String,
 ) -> Result<(), AllocError>
     ensures { OnOk result (string_bytes output.new ≡ string_bytes output.old
-        ++ (if is_json then json (map (shown as_written) entries.now)
-        else flat_map line (map (shown as_written) entries.now))) }
+        ++ printed_text (asked_of question.now) entries.now) }
 {
-    if is_json {
-        write_json(as_written, entries, output)
+    if question.is_json {
+        write_json(question.as_written, entries, output)
     } else {
-        write_lines(as_written, entries, output)
+        write_records(question, entries, output)
     }
 }
 
@@ -367,17 +372,19 @@ fn write_quoted(as_written: bool, entry: &Entry<'_>, output: &mut String) -> Res
     output.push('"')
 }
 
-fn write_lines(
-    as_written: bool,
+fn write_records(
+    question: &Question<'_>,
     entries: &[Entry<'_>],
     output: &mut String,
 ) -> Result<(), AllocError>
     ensures { OnOk result (string_bytes output.new ≡ string_bytes output.old
-        ++ flat_map line (map (shown as_written) entries.now)) }
+        ++ flat_map (ended question.now.ends_in_nul)
+        (map (shown question.now.as_written) entries.now)) }
 {
+    let end = char::from(question.end());
     for entry in entries {
-        write_shown(as_written, entry, output)?;
-        output.push('\n')?;
+        write_shown(question.as_written, entry, output)?;
+        output.push(end)?;
     }
     Ok(())
 }

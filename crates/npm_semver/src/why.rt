@@ -1,7 +1,10 @@
 // Why texts are left out, for a person to read.
 
-ghost use Rattle.std.specs.Prelude.{◌≡◌, [], IfOk, false, string_bytes};
+ghost use Rattle.std.specs.Prelude.{◌≡◌, [], IfOk, false, string_bytes, unwrap_or};
+ghost use Rattle.npm_semver.specs.Readings.{part_by};
+ghost use Rattle.npm_semver.specs.Reasons.{lacking_in};
 ghost use Rattle.npm_semver.specs.Internal.Texts.{is_no_version};
+ghost use Rattle.npm_semver.specs.declared.why.Kind.TheVariants.{NotAccepted};
 
 use crate::caret::Marked;
 use crate::listing::Texts;
@@ -19,6 +22,8 @@ pub enum Kind {
     NotAccepted,
     /// A text that is no version.
     NoVersion,
+    /// A text that has no such field, and so is no version.
+    NoField,
 }
 
 /// A text that is left out, and why.
@@ -37,11 +42,40 @@ impl<'a> Model for Reason<'a> {
 }
 
 impl<'a> Reason<'a> {
+    /// A text is no version.
+    pub fn no_version(reading: ReadOptions, text: &'a str) -> Reason<'a>
+        ensures { result ≡ lacking_in reading text.now }
+    {
+        match reading.part(text) {
+            Some(text) => Reason {
+                text,
+                kind: Kind::NoVersion,
+            },
+            None => Reason {
+                text,
+                kind: Kind::NoField,
+            },
+        }
+    }
+
+    /// The version that stands in a text is not accepted.
+    pub fn not_accepted(reading: ReadOptions, text: &'a str) -> Reason<'a>
+        ensures { result ≡ record {
+          text = unwrap_or (part_by reading.field text.now) text.now;
+          kind = NotAccepted;
+        } }
+    {
+        Reason {
+            text: reading.part(text).unwrap_or(text),
+            kind: Kind::NotAccepted,
+        }
+    }
+
     /// Whether the text is no version.
     pub fn is_no_version(&self) -> bool
         ensures { result ≡ is_no_version self.now }
     {
-        matches!(self.kind, Kind::NoVersion)
+        matches!(self.kind, Kind::NoVersion | Kind::NoField)
     }
 
     /// The text, with carets under the place where something is wrong.
@@ -55,6 +89,7 @@ impl<'a> Reason<'a> {
             Kind::NotAccepted => Marked::whole("not accepted by each range", text),
             Kind::NoVersion if reading.is_coerced => Marked::whole("no version is found", text),
             Kind::NoVersion => Marked::no_version(text),
+            Kind::NoField => Marked::whole("no such field", text),
         }
     }
 }

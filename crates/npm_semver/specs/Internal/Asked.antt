@@ -26,6 +26,7 @@ asked_of q = record {
   is_why = q.is_why;
   unknown = option_map (λ t. t.now) q.unknown;
   reads_input = q.reads_input;
+  ends_in_nul = q.ends_in_nul;
 }
 
 abbrev pub request_of : Request → Option Asked

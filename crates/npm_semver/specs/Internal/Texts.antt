@@ -9,7 +9,7 @@ use Rattle.npm_semver.specs.Listing.{AreListed, Entry}
 use Rattle.npm_semver.specs.Reasons.{AreLeftOut, AreNoRanges, Told}
 use Rattle.npm_semver.specs.declared.listing.Texts.{Texts}
 use Rattle.npm_semver.specs.declared.reading.ReadOptions.{ReadOptions}
-use Rattle.npm_semver.specs.declared.why.Kind.TheVariants.{NoVersion}
+use Rattle.npm_semver.specs.declared.why.Kind.TheVariants.{NoField, NoVersion}
 
 -- the ranges, what is listed and what is left out, and the versions that are found, whatever the
 -- ranges say of them
@@ -33,7 +33,7 @@ abbrev pub IsReadFor : Asked → Texts → Type 0
 IsReadFor q = Reads q.reading q.ranges q.versions
 
 abbrev pub is_no_version : Told → Bool
-is_no_version told = elim told.kind [ NoVersion ↦ true | _ ↦ false ]
+is_no_version told = elim told.kind [ NoVersion ↦ true | NoField ↦ true | _ ↦ false ]
 
 -- the first of these that is no version
 pub data IsFirstLacking : List Told → Told → Type 0 where

@@ -9,11 +9,13 @@ use Rattle.npm_semver.specs.declared.run.Response.{Response}
 
 abbrev pub told_as : Refusal → Spec.Refusal
 told_as Variant.NotOneVersion = Spec.NotOneVersion
+told_as Variant.NoFieldNumber = Spec.NoFieldNumber
 told_as (Variant.UnknownOption word) = Spec.UnknownOption
 told_as (Variant.UnreadRange marked) = Spec.UnreadRange
 told_as Variant.UnreadLoosely = Spec.UnreadRange
 told_as (Variant.NoVersion marked) = Spec.NoVersion
 told_as Variant.UnshownText = Spec.UnshownText
+told_as Variant.UnshownLine = Spec.UnshownText
 told_as (Variant.NotIncremented error) = Spec.NotIncremented (fault_of error)
 
 -- the text that an error names
