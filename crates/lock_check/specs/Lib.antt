@@ -10,4 +10,5 @@ pub mod Reports
 pub mod Rows
 pub mod Shown
 pub mod Specifiers
+pub mod Summary
 pub mod Verdicts
