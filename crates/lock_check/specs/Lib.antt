@@ -2,6 +2,7 @@ pub mod Fields
 pub mod Findings
 pub mod Index
 pub mod Optional
+pub mod Outcomes
 pub mod Outlooks
 pub mod Raises
 pub mod Readings

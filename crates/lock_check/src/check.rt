@@ -1,5 +1,12 @@
 // Compares each dependency of a lock file with the version that is locked for it.
 
+ghost use Rattle.lock_check.specs.Outcomes.{IsInstead, IsJudged, IsPlaceOutcome, IsRangeOutcome};
+ghost use Rattle.lock_check.specs.Outcomes.{IsRegistryOutcome, IsRepositoryOutcome};
+ghost use Rattle.lock_check.specs.Outcomes.{IsSpecifierOutcome, IsTagOutcome, IsTextOutcome};
+ghost use Rattle.lock_check.specs.Outcomes.{IsToldOf, IsUnversioned, IsWantedOutcome, address_of, is_link};
+ghost use Rattle.lock_check.specs.Outcomes.{locked_in, version_text};
+ghost use Rattle.std.specs.Prelude.{◌≡◌, ◌↔◌, All, IfOk, IsTrue, Some, option_map};
+
 use crate::fault::Fault;
 use crate::finding::{Finding, Outcome, Skip};
 use crate::folder::{is_installed, joined};
@@ -187,7 +194,9 @@ struct Target<'a> {
 }
 
 impl<'a> Target<'a> {
-    fn is_link(self) -> bool {
+    fn is_link(self) -> bool
+        ensures { result ≡ is_link (locked_in self.entry) }
+    {
         self.locked.is("link")
     }
 
@@ -196,7 +205,7 @@ impl<'a> Target<'a> {
         let folder = self.dependency.package.folder;
         self.dependency.field == Field::Peer
             && is_installed(folder)
-            && self.locked.folder.strip_prefix(folder).is_some()
+            && self.locked.folder.starts_with(folder)
     }
 
     // Whether the root project may have it as a workspace by a pattern that is not read.
@@ -209,11 +218,11 @@ impl<'a> Target<'a> {
     }
 
     // What the dependency says of it, or what the package accepts instead if that is satisfied.
-    fn outcome_of_either(self, alloc: Global) -> Result<Outcome<'a>, AllocError> {
-        let Dependency { package, name, .. } = self.dependency;
-        let outcome = self.outcome(alloc, self.dependency.wanted.specifier())?;
-        let accepted = package.member("acceptDependencies", name);
-        match accepted.and_then(Value::as_str) {
+    fn outcome_of_either(self, alloc: Global) -> Result<Outcome<'a>, AllocError>
+        ensures { IfOk result (IsJudged self.entry.dependency (locked_in self.entry)) }
+    {
+        let outcome = self.wanted_outcome(alloc)?;
+        match self.dependency.accepted() {
             Some(accepted) if !outcome.is_satisfied() => {
                 self.accepted_outcome(alloc, accepted, outcome)
             }
@@ -227,31 +236,61 @@ impl<'a> Target<'a> {
         alloc: Global,
         accepted: &'a str,
         outcome: Outcome<'a>,
-    ) -> Result<Outcome<'a>, AllocError> {
-        match self.outcome(alloc, Specifier::of(accepted)) {
+    ) -> Result<Outcome<'a>, AllocError>
+        ensures { IfOk result (IsInstead accepted.now (locked_in self.entry) outcome.entry) }
+    {
+        match self.text_outcome(alloc, accepted) {
             Ok(second) if !second.is_rejected() => Ok(second),
             Ok(_) => Ok(outcome),
             Err(error) => Err(error),
         }
     }
 
-    fn outcome(self, alloc: Global, wanted: Specifier<'a>) -> Result<Outcome<'a>, AllocError> {
+    fn wanted_outcome(self, alloc: Global) -> Result<Outcome<'a>, AllocError>
+        ensures { IfOk result
+            (IsWantedOutcome self.entry.dependency.wanted (locked_in self.entry)) }
+    {
+        self.outcome(alloc, self.dependency.wanted.specifier())
+    }
+
+    fn text_outcome(self, alloc: Global, text: &'a str) -> Result<Outcome<'a>, AllocError>
+        ensures { IfOk result (IsTextOutcome text.now (locked_in self.entry)) }
+    {
+        self.outcome(alloc, Specifier::of(text))
+    }
+
+    fn outcome(self, alloc: Global, wanted: Specifier<'a>) -> Result<Outcome<'a>, AllocError>
+        ensures { IfOk result (IsSpecifierOutcome wanted.entry (locked_in self.entry)) }
+    {
         match wanted {
             Specifier::Unsupported => Ok(Outcome::Unsupported),
             Specifier::Range(text) => self.registry_outcome(alloc, text),
             Specifier::Folder(path) => self.folder_outcome(alloc, path),
             Specifier::Packed(path) => self.packed_outcome(alloc, path),
-            Specifier::Page(url) if !self.is_link() && self.resolved() == Some(url) => {
-                Ok(Outcome::Satisfied)
-            }
+            Specifier::Page(url) if self.is_from(url) => Ok(Outcome::Satisfied),
             Specifier::Page(_) => Ok(Outcome::Elsewhere),
             Specifier::Repository(range) => self.repository_outcome(alloc, range),
         }
     }
 
     // Where the package comes from. A link comes from no address.
-    fn resolved(self) -> Option<&'a str> {
-        self.locked.text("resolved").filter(|_| !self.is_link())
+    fn resolved(self) -> Option<&'a str>
+        ensures { option_map (λ t. t.now) result ≡ address_of (locked_in self.entry) }
+    {
+        if self.is_link() {
+            None
+        } else {
+            self.locked.text("resolved")
+        }
+    }
+
+    fn is_from(self, url: &str) -> bool
+        ensures { IsTrue result ↔ (address_of (locked_in self.entry) ≡ Some url.now) }
+    {
+        match self.resolved() {
+            Some(resolved) => resolved == url,
+            None => false,
+        }
     }
 
     // The folder from which the paths of the dependency lead, if they are read.
@@ -269,7 +308,9 @@ impl<'a> Target<'a> {
         }
     }
 
-    fn folder_outcome(self, alloc: Global, path: &str) -> Result<Outcome<'a>, AllocError> {
+    fn folder_outcome(self, alloc: Global, path: &str) -> Result<Outcome<'a>, AllocError>
+        ensures { IfOk result IsPlaceOutcome }
+    {
         if !self.is_link() {
             return Ok(Outcome::Elsewhere);
         }
@@ -283,7 +324,9 @@ impl<'a> Target<'a> {
         }
     }
 
-    fn packed_outcome(self, alloc: Global, path: &str) -> Result<Outcome<'a>, AllocError> {
+    fn packed_outcome(self, alloc: Global, path: &str) -> Result<Outcome<'a>, AllocError>
+        ensures { IfOk result IsPlaceOutcome }
+    {
         let Some(resolved) = self.resolved().and_then(|it| it.strip_prefix("file:")) else {
             return Ok(Outcome::Elsewhere);
         };
@@ -302,7 +345,10 @@ impl<'a> Target<'a> {
         self,
         alloc: Global,
         range: Option<&'a str>,
-    ) -> Result<Outcome<'a>, AllocError> {
+    ) -> Result<Outcome<'a>, AllocError>
+        ensures { IfOk result (IsRepositoryOutcome (option_map (λ t. t.now) range.entry)
+            (locked_in self.entry)) }
+    {
         match (self.resolved().map(Specifier::of), range) {
             (Some(Specifier::Repository(_)), None) => Ok(Outcome::Skipped(Skip::Address)),
             (Some(Specifier::Repository(_)), Some(range)) => {
@@ -317,7 +363,9 @@ impl<'a> Target<'a> {
 
     // What the text of a range says of it that is asked of a registry. To npm `*` accepts every
     // locked version, pre-releases too.
-    fn registry_outcome(self, alloc: Global, wanted: &str) -> Result<Outcome<'a>, AllocError> {
+    fn registry_outcome(self, alloc: Global, wanted: &str) -> Result<Outcome<'a>, AllocError>
+        ensures { IfOk result (IsRegistryOutcome wanted.now (locked_in self.entry)) }
+    {
         if trim(wanted) == "*" {
             return Ok(Outcome::Satisfied);
         }
@@ -325,30 +373,55 @@ impl<'a> Target<'a> {
     }
 
     // What a range text says of it.
-    fn range_outcome(self, alloc: Global, wanted: &str) -> Result<Outcome<'a>, AllocError> {
-        let locked = self.package.text("version");
-        let version = locked.unwrap_or("");
-        Ok(match judge_texts(alloc, wanted, version)? {
-            Judgement::NoRange => self.tag_outcome(wanted),
-            Judgement::Unsure => Outcome::Skipped(Skip::Unsure),
-            Judgement::NoVersion if locked.is_none() => self.unversioned(),
-            Judgement::NoVersion => Outcome::NoVersion { version },
-            Judgement::Read(Verdict::Accepted) => Outcome::Satisfied,
-            Judgement::Read(Verdict::Rejected(smallest)) => Outcome::Rejected { version, smallest },
-        })
+    fn range_outcome(self, alloc: Global, wanted: &str) -> Result<Outcome<'a>, AllocError>
+        ensures { IfOk result (IsRangeOutcome wanted.now (locked_in self.entry)) }
+    {
+        let judgement = judge_texts(alloc, wanted, self.version())?;
+        Ok(self.told(wanted, judgement))
     }
 
-    // A version is nowhere in the lock file. npm reads that of a folder there.
-    fn unversioned(self) -> Outcome<'a> {
-        if self.is_nested && self.is_link() {
-            Outcome::Skipped(Skip::Unlocked)
-        } else {
-            Outcome::Unversioned
+    // What is told of this judgement of a range text.
+    fn told(self, wanted: &str, judgement: Judgement) -> Outcome<'a>
+        ensures { IsToldOf judgement (locked_in self.entry) result }
+    {
+        match judgement {
+            Judgement::NoRange => self.tag_outcome(wanted),
+            Judgement::Unsure => Outcome::Skipped(Skip::Unsure),
+            Judgement::NoVersion => self.unversioned(),
+            Judgement::Read(Verdict::Accepted) => Outcome::Satisfied,
+            Judgement::Read(Verdict::Rejected(smallest)) => Outcome::Rejected {
+                version: self.version(),
+                smallest,
+            },
+        }
+    }
+
+    // Its version, or the empty text, which is none.
+    fn version(self) -> &'a str
+        ensures { result.now ≡ version_text (locked_in self.entry) }
+    {
+        match self.package.text("version") {
+            Some(version) => version,
+            None => "",
+        }
+    }
+
+    // What is found if its text is no version, or if there is none: npm reads the version of a
+    // folder there.
+    fn unversioned(self) -> Outcome<'a>
+        ensures { IsUnversioned (locked_in self.entry) result }
+    {
+        match self.package.text("version") {
+            Some(version) => Outcome::NoVersion { version },
+            None if self.is_nested && self.is_link() => Outcome::Skipped(Skip::Unlocked),
+            None => Outcome::Unversioned,
         }
     }
 
     // npm wants what a tag names to come from an address of a package.
-    fn tag_outcome(self, wanted: &str) -> Outcome<'a> {
+    fn tag_outcome(self, wanted: &str) -> Outcome<'a>
+        ensures { IsTagOutcome (locked_in self.entry) result }
+    {
         match self.resolved().map(Specifier::of) {
             _ if !is_tag(wanted) => Outcome::Unread,
             Some(Specifier::Page(_)) => Outcome::Tagged,

@@ -2,7 +2,9 @@
 
 ghost use Rattle.lock_check.specs.Optional.{MayBeAbsent};
 ghost use Rattle.lock_check.specs.Fields.{is_set, member_of, text_of};
+ghost use Rattle.lock_check.specs.Outcomes.{accepted_by};
 ghost use Rattle.lock_check.specs.Rows.{wanted_text};
+ghost use Rattle.lock_check.specs.Specifiers.{IsWantedAs};
 ghost use Rattle.serde_json.specs.View.{view};
 ghost use Rattle.std.specs.Prelude.{◌≡◌, option_map};
 
@@ -153,7 +155,9 @@ impl<'a> Wanted<'a> {
     }
 
     /// What it is to npm.
-    pub fn specifier(self) -> Specifier<'a> {
+    pub fn specifier(self) -> Specifier<'a>
+        ensures { IsWantedAs self.entry result }
+    {
         match self {
             Wanted::Text(text) | Wanted::Override(text) => Specifier::of(text),
             Wanted::Workspace(folder) => Specifier::Folder(folder),
@@ -162,6 +166,16 @@ impl<'a> Wanted<'a> {
 }
 
 impl<'a> Dependency<'a> {
+    /// The text that its package accepts in place of what it wants.
+    pub fn accepted(self) -> Option<&'a str>
+        ensures { option_map (λ t. t.now) result ≡ accepted_by self.entry }
+    {
+        match self.package.member("acceptDependencies", self.name) {
+            Some(accepted) => accepted.as_str(),
+            None => None,
+        }
+    }
+
     /// Whether it may be absent.
     pub fn is_optional(self) -> bool
         ensures { MayBeAbsent (view self.entry.package.fields.now) self.entry.name.now
