@@ -1,6 +1,8 @@
 pub mod Fields
 pub mod Findings
 pub mod Index
+pub mod Judged
+pub mod Lookups
 pub mod Optional
 pub mod Outcomes
 pub mod Outlooks

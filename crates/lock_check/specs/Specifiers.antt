@@ -1,4 +1,4 @@
--- Statement: what an alias stands for.
+-- Statement: what a text in place of a range is, and what an alias stands for.
 use Rattle.std.specs.Prelude.{⊤, ◌≡◌, ◌≢◌, ◌⊎◌, ◌==◌, ◌&&◌, ◌||◌, not, ℕ, Bool, true, false}
 use Rattle.std.specs.Prelude.{Option, Some, None, List, [], ◌∷◌, ◌++◌, codes, length, map, slice_index}
 use Rattle.std.specs.Char.{is_ascii_alphanumeric, to_ascii_lowercase}

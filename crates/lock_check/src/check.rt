@@ -1,11 +1,14 @@
 // Compares each dependency of a lock file with the version that is locked for it.
 
+ghost use Rattle.lock_check.specs.Judged.{IsEdge, IsFinding, IsLinkOfRoot, IsLockedOutcome};
+ghost use Rattle.lock_check.specs.Judged.{IsOutcome, IsOverridden, IsOwnPeer, as_wanted};
 ghost use Rattle.lock_check.specs.Outcomes.{IsInstead, IsJudged, IsPlaceOutcome, IsRangeOutcome};
 ghost use Rattle.lock_check.specs.Outcomes.{IsRegistryOutcome, IsRepositoryOutcome};
 ghost use Rattle.lock_check.specs.Outcomes.{IsSpecifierOutcome, IsTagOutcome, IsTextOutcome};
 ghost use Rattle.lock_check.specs.Outcomes.{IsToldOf, IsUnversioned, IsWantedOutcome, address_of, is_link};
 ghost use Rattle.lock_check.specs.Outcomes.{locked_in, version_text};
-ghost use Rattle.std.specs.Prelude.{◌≡◌, ◌↔◌, All, IfOk, IsTrue, Some, option_map};
+ghost use Rattle.lock_check.specs.Lookups.{IsDependency, IsPackage};
+ghost use Rattle.std.specs.Prelude.{◌≡◌, ◌↔◌, All, IfOk, IsTrue, OnOk, Some, option_map};
 
 use crate::fault::Fault;
 use crate::finding::{Finding, Outcome, Skip};
@@ -57,7 +60,9 @@ fn is_any_told(findings: &[Finding<'_>]) -> bool {
 }
 
 /// Judges each dependency of each package.
-pub fn check<'a>(alloc: Global, lock: Lock<'a>) -> Result<Findings<'a>, AllocError> {
+pub fn check<'a>(alloc: Global, lock: Lock<'a>) -> Result<Findings<'a>, AllocError>
+    ensures { IfOk result (λ found. All (IsFinding lock.entry) found.of_dependencies.items) }
+{
     let mut faults = Vec::new(alloc);
     if lock.package("").is_none() {
         faults.push(Fault::NoRoot)?;
@@ -65,11 +70,7 @@ pub fn check<'a>(alloc: Global, lock: Lock<'a>) -> Result<Findings<'a>, AllocErr
     let edges = edges(alloc, lock, &mut faults)?;
     let overrides = Overrides::of(alloc, lock.package(""), &mut faults)?;
     let scopes = Scopes::of(alloc, overrides, &edges)?;
-    let mut of_dependencies = Vec::new(alloc);
-    for (number, &edge) in edges.iter().enumerate() {
-        let wanted = scopes.wanted(lock, number, edge);
-        of_dependencies.push(finding(alloc, lock, edge, wanted)?)?;
-    }
+    let of_dependencies = findings_of(alloc, lock, &scopes, &edges)?;
     let requirers = if is_any_told(&of_dependencies) {
         Requirers::of(alloc, lock, &edges)?
     } else {
@@ -82,32 +83,75 @@ pub fn check<'a>(alloc: Global, lock: Lock<'a>) -> Result<Findings<'a>, AllocErr
     })
 }
 
+// What is found for each dependency.
+fn findings_of<'a>(
+    alloc: Global,
+    lock: Lock<'a>,
+    scopes: &Scopes<'a>,
+    edges: &[Edge<'a>],
+) -> Result<Vec<Finding<'a>>, AllocError>
+    ensures { All (IsEdge lock.entry) edges.now
+        → IfOk result (λ found. All (IsFinding lock.entry) found.items) }
+{
+    let mut findings = Vec::new(alloc);
+    for (number, edge) in edges.iter().enumerate() {
+        let wanted = scopes.wanted(lock, number, *edge);
+        findings.push(finding(alloc, lock, *edge, wanted)?)?;
+    }
+    Ok(findings)
+}
+
 // All dependencies, with what is locked for them.
 fn edges<'a>(
     alloc: Global,
     lock: Lock<'a>,
     faults: &mut Vec<Fault<'a>>,
-) -> Result<Vec<Edge<'a>>, AllocError> {
+) -> Result<Vec<Edge<'a>>, AllocError>
+    ensures { IfOk result (λ edges. All (IsEdge lock.entry) edges.items) }
+{
     let mut edges = Vec::new(alloc);
-    for (folder, fields) in lock.packages.iter() {
-        let package = Package {
-            folder: folder.as_str(),
-            fields,
-        };
-        let mut found = Dependencies::new(alloc);
-        if folder.is_empty() {
-            add_workspaces(lock, package, &mut found, faults)?;
-        }
-        add_dependencies(package, &mut found, faults)?;
-        for &dependency in found.as_slice() {
-            let locked = lock.nearest(alloc, package.folder, dependency.name)?;
-            let edge = Edge { dependency, locked };
-            if !is_of_development(edge) {
-                edges.push(edge)?;
-            }
+    for folder in lock.packages.keys() {
+        if let Some(package) = lock.package(folder) {
+            let found = dependencies(alloc, lock, package, faults)?;
+            add_edges(alloc, lock, found.as_slice(), &mut edges)?;
         }
     }
     Ok(edges)
+}
+
+// The dependencies of a package of the lock file.
+fn dependencies<'a>(
+    alloc: Global,
+    lock: Lock<'a>,
+    package: Package<'a>,
+    faults: &mut Vec<Fault<'a>>,
+) -> Result<Dependencies<'a>, AllocError>
+    ensures { IsPackage lock.entry «package».entry
+        → IfOk result (λ found. All (IsDependency lock.entry) found.first.items) }
+{
+    let mut found = Dependencies::new(alloc);
+    add_workspaces(lock, package, &mut found, faults)?;
+    add_dependencies(package, &mut found, faults)?;
+    Ok(found)
+}
+
+fn add_edges<'a>(
+    alloc: Global,
+    lock: Lock<'a>,
+    dependencies: &[Dependency<'a>],
+    edges: &mut Vec<Edge<'a>>,
+) -> Result<(), AllocError>
+    ensures { OnOk result (All (IsDependency lock.entry) dependencies.now
+        → All (IsEdge lock.entry) edges.old.items → All (IsEdge lock.entry) edges.new.items) }
+{
+    for &dependency in dependencies {
+        let locked = lock.nearest(alloc, dependency.package.folder, dependency.name)?;
+        let edge = Edge { dependency, locked };
+        if !is_of_development(edge) {
+            edges.push(edge)?;
+        }
+    }
+    Ok(())
 }
 
 // Whether npm takes a dependency in `requires` for one of development: it is locked as such, and
@@ -129,7 +173,12 @@ fn finding<'a>(
     lock: Lock<'a>,
     edge: Edge<'a>,
     wanted: Option<Wanted<'a>>,
-) -> Result<Finding<'a>, AllocError> {
+) -> Result<Finding<'a>, AllocError>
+    ensures dependency { IfOk result (λ f. f.dependency
+        ≡ as_wanted edge.entry.dependency wanted.entry) }
+    ensures outcome { IfOk result (λ f. IsOutcome lock.entry f.dependency edge.entry.locked
+        f.outcome) }
+{
     let Edge { dependency, locked } = edge;
     let Some(wanted) = wanted else {
         return Ok(Finding {
@@ -137,21 +186,36 @@ fn finding<'a>(
             outcome: Outcome::NoReference,
         });
     };
-    let is_changed = wanted.is_other_than(dependency.wanted);
+    let before = dependency.wanted;
     let dependency = Dependency {
         wanted,
         ..dependency
     };
-    let outcome = match locked {
-        _ if is_changed && dependency.package.folder.is_empty() => Outcome::Conflict,
-        None if dependency.is_optional() => Outcome::Absent,
-        None => Outcome::Missing,
-        Some(locked) => locked_outcome(alloc, lock, dependency, locked)?,
-    };
+    let outcome = outcome(alloc, lock, before, dependency, locked)?;
     Ok(Finding {
         dependency,
         outcome,
     })
+}
+
+// What is found for a dependency that wanted something else before the overrides.
+fn outcome<'a>(
+    alloc: Global,
+    lock: Lock<'a>,
+    before: Wanted<'a>,
+    dependency: Dependency<'a>,
+    locked: Option<Package<'a>>,
+) -> Result<Outcome<'a>, AllocError>
+    ensures { IfOk result (IsOutcome lock.entry dependency.entry locked.entry) }
+{
+    if dependency.package.folder.is_empty() && dependency.wanted.is_other_than(before) {
+        return Ok(Outcome::Conflict);
+    }
+    match locked {
+        None if dependency.is_optional() => Ok(Outcome::Absent),
+        None => Ok(Outcome::Missing),
+        Some(locked) => locked_outcome(alloc, lock, dependency, locked),
+    }
 }
 
 // What is found of a package that is locked for a dependency.
@@ -160,7 +224,9 @@ fn locked_outcome<'a>(
     lock: Lock<'a>,
     dependency: Dependency<'a>,
     locked: Package<'a>,
-) -> Result<Outcome<'a>, AllocError> {
+) -> Result<Outcome<'a>, AllocError>
+    ensures { IfOk result (IsLockedOutcome lock.entry dependency.entry locked.entry) }
+{
     let Some(package) = lock.behind(alloc, locked)? else {
         return Ok(Outcome::NoFolder);
     };
@@ -201,7 +267,9 @@ impl<'a> Target<'a> {
     }
 
     // Whether it is a peer that stands inside the package that wants it, so that npm judges it not.
-    fn is_own_peer(self) -> bool {
+    fn is_own_peer(self) -> bool
+        ensures { IsTrue result ↔ IsOwnPeer self.entry.dependency self.entry.locked }
+    {
         let folder = self.dependency.package.folder;
         self.dependency.field == Field::Peer
             && is_installed(folder)
@@ -209,7 +277,9 @@ impl<'a> Target<'a> {
     }
 
     // Whether the root project may have it as a workspace by a pattern that is not read.
-    fn is_link_of_root(self) -> bool {
+    fn is_link_of_root(self) -> bool
+        ensures { IsTrue result → IsLinkOfRoot self.entry.dependency self.entry.locked }
+    {
         let root = self.dependency.package;
         self.is_link()
             && root.folder.is_empty()

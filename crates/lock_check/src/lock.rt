@@ -2,11 +2,15 @@
 
 ghost use Rattle.lock_check.specs.Optional.{MayBeAbsent};
 ghost use Rattle.lock_check.specs.Fields.{is_set, member_of, text_of};
+ghost use Rattle.lock_check.specs.Judged.{IsOverride};
+ghost use Rattle.lock_check.specs.Lookups.{IsAt, IsBehind, IsDependency, IsInstalledAs, IsPackage};
+ghost use Rattle.lock_check.specs.Lookups.{field_name, written_in};
 ghost use Rattle.lock_check.specs.Outcomes.{accepted_by};
 ghost use Rattle.lock_check.specs.Rows.{wanted_text};
 ghost use Rattle.lock_check.specs.Specifiers.{IsWantedAs};
+ghost use Rattle.lock_check.specs.declared.lock.Lock.{Lock};
 ghost use Rattle.serde_json.specs.View.{view};
-ghost use Rattle.std.specs.Prelude.{◌≡◌, option_map};
+ghost use Rattle.std.specs.Prelude.{◌≡◌, ◌++◌, [], All, IfOk, IfSome, IsTrue, OnOk, codes, option_map};
 
 use crate::fault::Fault;
 use crate::folder::{is_installed, joined};
@@ -82,7 +86,9 @@ const FIELDS: &[Field] = &[
 ];
 
 impl Field {
-    fn name(self) -> &'static str {
+    fn name(self) -> &'static str
+        ensures { result.now ≡ field_name self }
+    {
         match self {
             Field::Development => "devDependencies",
             Field::Optional => "optionalDependencies",
@@ -126,6 +132,17 @@ impl<'a> Package<'a> {
         is_set(self.fields, field)
     }
 
+    /// The text that it writes for a dependency of this name in this field.
+    pub fn written(self, field: Field, name: &str) -> Option<&'a str>
+        ensures { option_map (λ t. t.now) result
+            ≡ written_in field name.now (view self.entry.fields.now) }
+    {
+        match self.member(field.name(), name) {
+            Some(text) => text.as_str(),
+            None => None,
+        }
+    }
+
     /// The value of this name in this field.
     pub fn member(self, field: &str, name: &str) -> Option<&'a Value>
         ensures { option_map (λ v. view v.now) result
@@ -137,7 +154,9 @@ impl<'a> Package<'a> {
 
 impl<'a> Wanted<'a> {
     /// Whether an override changes what was wanted before.
-    pub fn is_other_than(self, before: Wanted<'_>) -> bool {
+    pub fn is_other_than(self, before: Wanted<'_>) -> bool
+        ensures { IsTrue result → IsOverride self.entry }
+    {
         match (self, before) {
             (Wanted::Override(text), Wanted::Text(before)) => text != before,
             (Wanted::Override(_), _) => true,
@@ -193,7 +212,9 @@ impl<'a> Dependency<'a> {
 }
 
 impl<'a> Dependencies<'a> {
-    pub fn new(alloc: Global) -> Dependencies<'a> {
+    pub fn new(alloc: Global) -> Dependencies<'a>
+        ensures { result.first.items ≡ [] }
+    {
         Dependencies {
             names: BTreeSet::new(alloc),
             first: Vec::new(alloc),
@@ -201,7 +222,11 @@ impl<'a> Dependencies<'a> {
     }
 
     /// Adds a dependency, unless there is one with its name.
-    pub fn add(&mut self, dependency: Dependency<'a>) -> Result<(), AllocError> {
+    pub fn add(&mut self, dependency: Dependency<'a>) -> Result<(), AllocError>
+        ensures { OnOk result ((lock : Lock) → IsDependency lock dependency.entry
+            → All (IsDependency lock) self.old.first.items
+            → All (IsDependency lock) self.new.first.items) }
+    {
         if self.names.insert(dependency.name)? {
             self.first.push(dependency)?;
         }
@@ -209,16 +234,22 @@ impl<'a> Dependencies<'a> {
     }
 
     /// Those that count, in the order in which they were added.
-    pub fn as_slice(&self) -> &[Dependency<'a>] {
+    pub fn as_slice(&self) -> &[Dependency<'a>]
+        ensures { result.now ≡ self.now.first.items }
+    {
         self.first.as_slice()
     }
 }
 
 impl<'a> Lock<'a> {
     /// The package in this folder.
-    pub fn package(self, folder: &str) -> Option<Package<'a>> {
-        let (folder, fields) = self.packages.get_key_value(folder)?;
-        Some(Package { folder, fields })
+    pub fn package(self, folder: &str) -> Option<Package<'a>>
+        ensures { IsAt self.entry folder.now result }
+    {
+        match self.packages.get_key_value(folder) {
+            Some((folder, fields)) => Some(Package { folder, fields }),
+            None => None,
+        }
     }
 
     /// The package that a dependency of this name means in this folder: that of the nearest
@@ -228,7 +259,9 @@ impl<'a> Lock<'a> {
         alloc: Global,
         folder: &str,
         name: &str,
-    ) -> Result<Option<Package<'a>>, AllocError> {
+    ) -> Result<Option<Package<'a>>, AllocError>
+        ensures { IfOk result (λ found. IfSome found (IsInstalledAs self.entry name.now)) }
+    {
         let mut above = String::new(alloc);
         let mut found = self.child(alloc, &above, name)?;
         if folder.is_empty() {
@@ -248,7 +281,9 @@ impl<'a> Lock<'a> {
         alloc: Global,
         folder: &str,
         name: &str,
-    ) -> Result<Option<Package<'a>>, AllocError> {
+    ) -> Result<Option<Package<'a>>, AllocError>
+        ensures { IfOk result (IsAt self.entry (folder.now ++ codes "node_modules/" ++ name.now)) }
+    {
         let key = format!(in alloc; "{folder}node_modules/{name}")?;
         Ok(self.package(&key))
     }
@@ -258,7 +293,9 @@ impl<'a> Lock<'a> {
         self,
         alloc: Global,
         package: Package<'a>,
-    ) -> Result<Option<Package<'a>>, AllocError> {
+    ) -> Result<Option<Package<'a>>, AllocError>
+        ensures { IfOk result (IsBehind self.entry «package».entry) }
+    {
         if !package.is("link") {
             return Ok(Some(package));
         }
@@ -280,7 +317,11 @@ pub fn add_dependencies<'a>(
     package: Package<'a>,
     found: &mut Dependencies<'a>,
     faults: &mut Vec<Fault<'a>>,
-) -> Result<(), AllocError> {
+) -> Result<(), AllocError>
+    ensures { OnOk result ((lock : Lock) → IsPackage lock «package».entry
+        → All (IsDependency lock) found.old.first.items
+        → All (IsDependency lock) found.new.first.items) }
+{
     for &field in FIELDS {
         let ranges = match field.of(package) {
             Ok(Some(ranges)) => ranges,
@@ -290,9 +331,9 @@ pub fn add_dependencies<'a>(
                 continue;
             }
         };
-        for (name, range) in ranges.iter() {
+        for name in ranges.keys() {
             let name = name.as_str();
-            let Some(range) = range.as_str() else {
+            let Some(range) = package.written(field, name) else {
                 let folder = package.folder;
                 faults.push(Fault::Range { folder, name })?;
                 continue;
