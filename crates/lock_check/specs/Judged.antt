@@ -1,5 +1,6 @@
 -- Statement: what is found for a dependency of a lock file.
-use Rattle.std.specs.Prelude.{⊤, ◌≡◌, ◌≢◌, ◌⊎◌, ◌==◌, ℕ, true, false, List, [], ◌++◌, Option, Some, None, IfSome, codes}
+use Rattle.std.specs.Prelude.{⊤, ◌≡◌, ◌≢◌, ◌⊎◌, ◌==◌, ℕ, true, false, List, [], ◌++◌, Option, Some, None}
+use Rattle.std.specs.Prelude.{IfSome, codes}
 use Rattle.std.specs.List.{starts_with}
 use Rattle.std.specs.Str.Iter.{HasSubslice}
 use Rattle.serde_json.specs.View.{view}
@@ -44,8 +45,8 @@ locked_as lock entry behind = record {
   is_nested = lock.is_nested;
 }
 
--- what is found of a package that is locked for a dependency. Which links may be workspaces is not said, but that
--- they are the root project's
+-- what is found of a package that is locked for a dependency. Which links may be workspaces is not said, but
+-- that they are the root project's
 pub data IsLockedOutcome (lock : Lock) (d : Dependency) (locked : Package) : Outcome → Type 0 where
   no_folder : IsBehind lock locked None → IsLockedOutcome lock d locked outcome.NoFolder
   own_peer : IsOwnPeer d locked → IsLockedOutcome lock d locked (outcome.Skipped skip.OwnPeer)
@@ -64,7 +65,8 @@ pub data IsOutcome (lock : Lock) (d : Dependency) : Option Package → Outcome �
   no_reference : (locked : Option Package) → IsOutcome lock d locked outcome.NoReference
   conflict : (locked : Option Package) → d.package.folder.now ≡ [] → IsOverride d.wanted
       → IsOutcome lock d locked outcome.Conflict
-  absent : MayBeAbsent (view d.package.fields.now) d.name.now d.field true → IsOutcome lock d None outcome.Absent
+  absent : MayBeAbsent (view d.package.fields.now) d.name.now d.field true
+      → IsOutcome lock d None outcome.Absent
   missing : MayBeAbsent (view d.package.fields.now) d.name.now d.field false
       → IsOutcome lock d None outcome.Missing
   locked : (p : Package) (found : Outcome) → IsLockedOutcome lock d p found → IsOutcome lock d (Some p) found
@@ -73,8 +75,8 @@ pub data IsOutcome (lock : Lock) (d : Dependency) : Option Package → Outcome �
 abbrev pub IsEdge : Lock → Edge → Type 0
 IsEdge lock e = IsDependency lock e.dependency × IfSome e.locked (IsInstalledAs lock e.dependency.name.now)
 
--- a finding is that of its texts: a package of the lock file wants that of a package, and it is what that says of
--- one which is installed by that name, or of none. That no nearer one is installed is not said
+-- a finding is that of its texts: a package of the lock file wants that of a name, and it is what that says
+-- of a package installed by the name, or of none. That no nearer one is installed is not said
 pub record IsFinding (lock : Lock) (f : Finding) : Type 0 where
   pub dependency : IsDependency lock f.dependency
   pub outcome : (locked : Option Package) × IfSome locked (IsInstalledAs lock f.dependency.name.now)

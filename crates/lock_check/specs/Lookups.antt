@@ -20,7 +20,8 @@ packages_of lock = object (members_view lock.packages.now.entries)
 -- what the lock file has in this folder
 abbrev pub IsAt : Lock → List ℕ → Option Package → Type 0
 IsAt lock folder None = get folder (packages_of lock) ≡ None
-IsAt lock folder (Some p) = (p.folder.now ≡ folder) × (get folder (packages_of lock) ≡ Some (view p.fields.now))
+IsAt lock folder (Some p) =
+    (p.folder.now ≡ folder) × (get folder (packages_of lock) ≡ Some (view p.fields.now))
 
 abbrev pub IsPackage : Lock → Package → Type 0
 IsPackage lock p = get p.folder.now (packages_of lock) ≡ Some (view p.fields.now)
@@ -29,8 +30,8 @@ IsPackage lock p = get p.folder.now (packages_of lock) ≡ Some (view p.fields.n
 abbrev pub IsInstalledAs : Lock → List ℕ → Package → Type 0
 IsInstalledAs lock name p = (place : List ℕ) × IsAt lock (place ++ codes "node_modules/" ++ name) (Some p)
 
--- what stands behind a package: itself, or if it is a link, a package of the lock file, or nothing. Which folder the
--- link leads to is not said
+-- what stands behind a package: itself, or if it is a link, a package of the lock file, or nothing. Which
+-- folder the link leads to is not said
 abbrev pub IsBehind : Lock → Package → Option Package → Type 0
 IsBehind lock p found = ((is_set (codes "link") (view p.fields.now) ≡ false) × (found ≡ Some p))
     ⊎ ((is_set (codes "link") (view p.fields.now) ≡ true) × IfSome found (IsPackage lock))

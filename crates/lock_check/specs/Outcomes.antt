@@ -1,6 +1,6 @@
 -- Statement: what is found of a package that is locked for a dependency, by its texts and by what is wanted.
-use Rattle.std.specs.Prelude.{⊤, ◌≡◌, ◌≢◌, ◌⊎◌, ◌&&◌, ℕ, Bool, true, false, List, [], Option, Some, None, codes}
-use Rattle.std.specs.Prelude.{if◌then◌else◌, IsSome, IsSomeAnd, unwrap_or, option_and_then, option_map}
+use Rattle.std.specs.Prelude.{⊤, ◌≡◌, ◌≢◌, ◌⊎◌, ◌&&◌, ℕ, Bool, true, false, List, [], Option, Some, None}
+use Rattle.std.specs.Prelude.{codes, if◌then◌else◌, IsSome, IsSomeAnd, unwrap_or, option_and_then, option_map}
 use Rattle.serde_json.specs.Data.{Data}
 use Rattle.serde_json.specs.Find.{as_str}
 use Rattle.serde_json.specs.View.{view}
@@ -23,8 +23,8 @@ use Rattle.lock_check.specs.declared.verdict.Judgement.{Judgement}
 use Rattle.lock_check.specs.declared.verdict.Judgement.TheVariants as judgement
 use Rattle.lock_check.specs.declared.verdict.Verdict.TheVariants as verdict
 
--- what is locked: the fields of its entry; those of the package behind it, which a link has elsewhere; and whether
--- the lock file holds no versions of folders
+-- what is locked: the fields of its entry; those of the package behind it, which a link has elsewhere; and
+-- whether the lock file holds no versions of folders
 pub record Locked : Type 0 where
   pub entry : Data
   pub behind : Data

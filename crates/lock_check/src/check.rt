@@ -1,13 +1,13 @@
 // Compares each dependency of a lock file with the version that is locked for it.
 
 ghost use Rattle.lock_check.specs.Judged.{IsEdge, IsFinding, IsLinkOfRoot, IsLockedOutcome};
-ghost use Rattle.lock_check.specs.Judged.{IsOutcome, IsOverridden, IsOwnPeer, as_wanted};
+ghost use Rattle.lock_check.specs.Judged.{IsOutcome, IsOwnPeer, as_wanted};
+ghost use Rattle.lock_check.specs.Lookups.{IsDependency, IsPackage};
 ghost use Rattle.lock_check.specs.Outcomes.{IsInstead, IsJudged, IsPlaceOutcome, IsRangeOutcome};
 ghost use Rattle.lock_check.specs.Outcomes.{IsRegistryOutcome, IsRepositoryOutcome};
 ghost use Rattle.lock_check.specs.Outcomes.{IsSpecifierOutcome, IsTagOutcome, IsTextOutcome};
-ghost use Rattle.lock_check.specs.Outcomes.{IsToldOf, IsUnversioned, IsWantedOutcome, address_of, is_link};
-ghost use Rattle.lock_check.specs.Outcomes.{locked_in, version_text};
-ghost use Rattle.lock_check.specs.Lookups.{IsDependency, IsPackage};
+ghost use Rattle.lock_check.specs.Outcomes.{IsToldOf, IsUnversioned, IsWantedOutcome, address_of};
+ghost use Rattle.lock_check.specs.Outcomes.{is_link, locked_in, version_text};
 ghost use Rattle.std.specs.Prelude.{◌≡◌, ◌↔◌, All, IfOk, IsTrue, OnOk, Some, option_map};
 
 use crate::fault::Fault;

@@ -10,7 +10,8 @@ ghost use Rattle.lock_check.specs.Rows.{wanted_text};
 ghost use Rattle.lock_check.specs.Specifiers.{IsWantedAs};
 ghost use Rattle.lock_check.specs.declared.lock.Lock.{Lock};
 ghost use Rattle.serde_json.specs.View.{view};
-ghost use Rattle.std.specs.Prelude.{◌≡◌, ◌++◌, [], All, IfOk, IfSome, IsTrue, OnOk, codes, option_map};
+ghost use Rattle.std.specs.Prelude.{◌≡◌, ◌++◌, [], All, IfOk, IfSome, IsTrue, OnOk, codes};
+ghost use Rattle.std.specs.Prelude.{option_map};
 
 use crate::fault::Fault;
 use crate::folder::{is_installed, joined};

@@ -80,8 +80,8 @@ pub fn are_read(root: Package<'_>) -> bool {
     }
 }
 
-/// Adds the workspaces to the dependencies of a package, if it is the root project. npm finds them on the disk; here a
-/// folder that `workspaces` names counts as one that is there.
+/// Adds the workspaces to the dependencies of a package, if it is the root project. npm finds them
+/// on the disk; here a folder that `workspaces` names counts as one that is there.
 pub fn add_workspaces<'a>(
     lock: Lock<'a>,
     root: Package<'a>,
