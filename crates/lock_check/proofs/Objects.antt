@@ -3,6 +3,8 @@ use Rattle.std.proofs.Common.{◌≡◌, List, None, Option, Some, ℕ, false, r
 use Rattle.serde_json.specs.Written.{has_float}
 use Rattle.lock_check.specs.Outlooks.{outlook_data}
 use Rattle.lock_check.specs.Reports.{row_data, text_or_null}
+use Rattle.lock_check.specs.Summary.{counts_data, skips_data}
+use Rattle.lock_check.specs.declared.finding.Counts.{Counts}
 use Rattle.lock_check.specs.declared.outlook_row.OutlookRow.{OutlookRow}
 use Rattle.lock_check.specs.declared.row.Row.{Row}
 
@@ -17,3 +19,7 @@ no_float-row r = simp no_float-text
 pub no_float-outlook : (r : OutlookRow) → has_float (outlook_data r) ≡ false
 unfolding outlook_data
 no_float-outlook r = simp no_float-text
+
+pub no_float-counts : (c : Counts) → has_float (counts_data c) ≡ false
+unfolding counts_data skips_data
+no_float-counts c = refl

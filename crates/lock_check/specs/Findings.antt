@@ -1,5 +1,5 @@
 -- Statement: how what is found is counted, which findings are printed, and the exit status.
-use Rattle.std.specs.Prelude.{not, ℕ, Bool, true, false, List, count_by}
+use Rattle.std.specs.Prelude.{◌≡◌, not, ℕ, Bool, true, false, List, count_by}
 use Rattle.lock_check.specs.declared.finding.Finding.{Finding}
 use Rattle.lock_check.specs.declared.finding.Kind.{Kind}
 use Rattle.lock_check.specs.declared.finding.Kind.TheVariants as kind
@@ -7,6 +7,7 @@ use Rattle.lock_check.specs.declared.finding.Outcome.{Outcome}
 use Rattle.lock_check.specs.declared.finding.Outcome.TheVariants as outcome
 use Rattle.lock_check.specs.declared.finding.Skip.{Skip}
 use Rattle.lock_check.specs.declared.finding.Skip.TheVariants as skip
+use Rattle.lock_check.specs.declared.finding.Skips.{Skips}
 
 -- what is found is counted as this; all that is not named here is rejected
 abbrev pub kind_of : Outcome → Kind
@@ -53,3 +54,11 @@ is_skipped_for s _ = false
 -- how many of the findings are skipped for this reason
 abbrev pub skipped_for : Skip → List Finding → ℕ
 skipped_for s findings = count_by (λ f. is_skipped_for s f.outcome) findings
+
+-- how many of the findings are skipped for each reason
+pub record AreSkips (findings : List Finding) (skips : Skips) : Type 0 where
+  pub unsure : skips.unsure ≡ skipped_for skip.Unsure findings
+  pub address : skips.address ≡ skipped_for skip.Address findings
+  pub link : skips.link ≡ skipped_for skip.Link findings
+  pub unlocked : skips.unlocked ≡ skipped_for skip.Unlocked findings
+  pub own_peer : skips.own_peer ≡ skipped_for skip.OwnPeer findings

@@ -1,7 +1,10 @@
 pub mod Fields
 pub mod Findings
 pub mod Index
+pub mod Judged
+pub mod Lookups
 pub mod Optional
+pub mod Outcomes
 pub mod Outlooks
 pub mod Raises
 pub mod Readings
@@ -10,4 +13,5 @@ pub mod Reports
 pub mod Rows
 pub mod Shown
 pub mod Specifiers
+pub mod Summary
 pub mod Verdicts

@@ -1,10 +1,12 @@
--- Statement: what an alias stands for.
-use Rattle.std.specs.Prelude.{◌≡◌, ◌≢◌, ◌⊎◌, ◌==◌, ◌&&◌, ◌||◌, not, ℕ, Bool, true, false}
-use Rattle.std.specs.Prelude.{List, [], ◌∷◌, ◌++◌, codes, length, map, slice_index}
+-- Statement: what a text in place of a range is, and what an alias stands for.
+use Rattle.std.specs.Prelude.{⊤, ◌≡◌, ◌≢◌, ◌⊎◌, ◌==◌, ◌&&◌, ◌||◌, not, ℕ, Bool, true, false}
+use Rattle.std.specs.Prelude.{Option, Some, None, List, [], ◌∷◌, ◌++◌, codes, length, map, slice_index}
 use Rattle.std.specs.Char.{is_ascii_alphanumeric, to_ascii_lowercase}
 use Rattle.std.specs.List.{ends_with, list_all, list_any}
+use Rattle.lock_check.specs.declared.lock.Wanted.{Wanted}
+use Rattle.lock_check.specs.declared.lock.Wanted.TheVariants as wanted
 use Rattle.lock_check.specs.declared.specifier.Specifier.{Specifier}
-use Rattle.lock_check.specs.declared.specifier.Specifier.TheVariants.{Range, Unsupported}
+use Rattle.lock_check.specs.declared.specifier.Specifier.TheVariants.{Folder, Range, Unsupported}
 
 -- a character stands in the text
 abbrev pub has : ℕ → List ℕ → Bool
@@ -88,3 +90,45 @@ abbrev pub IsAlias : List ℕ → Specifier → Type 0
 IsAlias target (Range range) = IsAliasOf target range.now
 IsAlias target Unsupported = (range : List ℕ) → ¬ (IsAliasOf target range)
 IsAlias target _ = ⊥
+
+-- the target stands behind `npm:` in the text, in letters of any case
+abbrev pub IsNpm : List ℕ → List ℕ → Type 0
+IsNpm text target = (scheme : List ℕ) × (text ≡ scheme ++ 58 ∷ target) × IsSameWord scheme (codes "npm")
+
+abbrev pub IsBehindNpm : List ℕ → Option (List ℕ) → Type 0
+IsBehindNpm text (Some target) = IsNpm text target
+IsBehindNpm text None = (target : List ℕ) → ¬ (IsNpm text target)
+
+-- a text in place of a range is asked of a registry by this range: as it is, or empty, or as an alias
+pub data IsAsked (text range : List ℕ) : Type 0 where
+  plain : is_of_registry text ≡ true → text ≢ [] → range ≡ text → IsAsked text range
+  empty : text ≡ [] → range ≡ codes "*" → IsAsked text range
+  alias : (target : List ℕ) → IsNpm text target → IsAliasOf target range → IsAsked text range
+
+abbrev pub IsElsewhere : List ℕ → Type 0
+IsElsewhere text = (range : List ℕ) → ¬ (IsAsked text range)
+
+abbrev pub IsPath : Specifier → Type 0
+IsPath (Range range) = ⊥
+IsPath _ = ⊤
+
+-- no range, or the text itself
+abbrev pub IsNoOtherRange : List ℕ → Specifier → Type 0
+IsNoOtherRange text (Range range) = range.now ≡ text
+IsNoOtherRange text _ = ⊤
+
+-- what a text is. All that is not asked of a registry is a path, an address or a text that npm rejects; which
+-- of them is not said, and one of the last kind may be taken for a range, that no version fits
+abbrev pub IsSpecifier : List ℕ → Specifier → Type 0
+IsSpecifier text (Range range) = IsAsked text range.now ⊎ (IsElsewhere text × (range.now ≡ text))
+IsSpecifier text _ = IsElsewhere text
+
+abbrev pub IsFolder : List ℕ → Specifier → Type 0
+IsFolder folder (Folder path) = path.now ≡ folder
+IsFolder folder _ = ⊥
+
+-- what is wanted by a text or by the name of a workspace's folder
+abbrev pub IsWantedAs : Wanted → Specifier → Type 0
+IsWantedAs (wanted.Text text) s = IsSpecifier text.now s
+IsWantedAs (wanted.Override text) s = IsSpecifier text.now s
+IsWantedAs (wanted.Workspace folder) s = IsFolder folder.now s

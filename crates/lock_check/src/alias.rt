@@ -1,21 +1,13 @@
 // Which package a registry is asked for.
 
-use crate::specifier::{is_aliased, unsigned};
+use crate::specifier::{behind_npm, is_aliased, unsigned};
 
 /// The package that a registry is asked for where a dependency of this name wants this text: that
 /// which an alias `npm:NAME@RANGE` names, and else that of the name itself.
 pub fn package_of<'a>(name: &'a str, wanted: &'a str) -> &'a str {
-    match target_of(wanted) {
+    match behind_npm(wanted) {
         Some(target) => named(target).unwrap_or(name),
         None => name,
-    }
-}
-
-// What stands behind `npm:`.
-fn target_of(wanted: &str) -> Option<&str> {
-    match wanted.split_once(':') {
-        Some((scheme, target)) if scheme.eq_ignore_ascii_case("npm") => Some(target),
-        _ => None,
     }
 }
 

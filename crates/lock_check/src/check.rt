@@ -1,5 +1,15 @@
 // Compares each dependency of a lock file with the version that is locked for it.
 
+ghost use Rattle.lock_check.specs.Judged.{IsEdge, IsFinding, IsLinkOfRoot, IsLockedOutcome};
+ghost use Rattle.lock_check.specs.Judged.{IsOutcome, IsOwnPeer, as_wanted};
+ghost use Rattle.lock_check.specs.Lookups.{IsDependency, IsPackage};
+ghost use Rattle.lock_check.specs.Outcomes.{IsInstead, IsJudged, IsPlaceOutcome, IsRangeOutcome};
+ghost use Rattle.lock_check.specs.Outcomes.{IsRegistryOutcome, IsRepositoryOutcome};
+ghost use Rattle.lock_check.specs.Outcomes.{IsSpecifierOutcome, IsTagOutcome, IsTextOutcome};
+ghost use Rattle.lock_check.specs.Outcomes.{IsToldOf, IsUnversioned, IsWantedOutcome, address_of};
+ghost use Rattle.lock_check.specs.Outcomes.{is_link, locked_in, version_text};
+ghost use Rattle.std.specs.Prelude.{◌≡◌, ◌↔◌, All, IfOk, IsTrue, OnOk, Some, option_map};
+
 use crate::fault::Fault;
 use crate::finding::{Finding, Outcome, Skip};
 use crate::folder::{is_installed, joined};
@@ -50,7 +60,9 @@ fn is_any_told(findings: &[Finding<'_>]) -> bool {
 }
 
 /// Judges each dependency of each package.
-pub fn check<'a>(alloc: Global, lock: Lock<'a>) -> Result<Findings<'a>, AllocError> {
+pub fn check<'a>(alloc: Global, lock: Lock<'a>) -> Result<Findings<'a>, AllocError>
+    ensures { IfOk result (λ found. All (IsFinding lock.entry) found.of_dependencies.items) }
+{
     let mut faults = Vec::new(alloc);
     if lock.package("").is_none() {
         faults.push(Fault::NoRoot)?;
@@ -58,11 +70,7 @@ pub fn check<'a>(alloc: Global, lock: Lock<'a>) -> Result<Findings<'a>, AllocErr
     let edges = edges(alloc, lock, &mut faults)?;
     let overrides = Overrides::of(alloc, lock.package(""), &mut faults)?;
     let scopes = Scopes::of(alloc, overrides, &edges)?;
-    let mut of_dependencies = Vec::new(alloc);
-    for (number, &edge) in edges.iter().enumerate() {
-        let wanted = scopes.wanted(lock, number, edge);
-        of_dependencies.push(finding(alloc, lock, edge, wanted)?)?;
-    }
+    let of_dependencies = findings_of(alloc, lock, &scopes, &edges)?;
     let requirers = if is_any_told(&of_dependencies) {
         Requirers::of(alloc, lock, &edges)?
     } else {
@@ -75,32 +83,75 @@ pub fn check<'a>(alloc: Global, lock: Lock<'a>) -> Result<Findings<'a>, AllocErr
     })
 }
 
+// What is found for each dependency.
+fn findings_of<'a>(
+    alloc: Global,
+    lock: Lock<'a>,
+    scopes: &Scopes<'a>,
+    edges: &[Edge<'a>],
+) -> Result<Vec<Finding<'a>>, AllocError>
+    ensures { All (IsEdge lock.entry) edges.now
+        → IfOk result (λ found. All (IsFinding lock.entry) found.items) }
+{
+    let mut findings = Vec::new(alloc);
+    for (number, edge) in edges.iter().enumerate() {
+        let wanted = scopes.wanted(lock, number, *edge);
+        findings.push(finding(alloc, lock, *edge, wanted)?)?;
+    }
+    Ok(findings)
+}
+
 // All dependencies, with what is locked for them.
 fn edges<'a>(
     alloc: Global,
     lock: Lock<'a>,
     faults: &mut Vec<Fault<'a>>,
-) -> Result<Vec<Edge<'a>>, AllocError> {
+) -> Result<Vec<Edge<'a>>, AllocError>
+    ensures { IfOk result (λ edges. All (IsEdge lock.entry) edges.items) }
+{
     let mut edges = Vec::new(alloc);
-    for (folder, fields) in lock.packages.iter() {
-        let package = Package {
-            folder: folder.as_str(),
-            fields,
-        };
-        let mut found = Dependencies::new(alloc);
-        if folder.is_empty() {
-            add_workspaces(lock, package, &mut found, faults)?;
-        }
-        add_dependencies(package, &mut found, faults)?;
-        for &dependency in found.as_slice() {
-            let locked = lock.nearest(alloc, package.folder, dependency.name)?;
-            let edge = Edge { dependency, locked };
-            if !is_of_development(edge) {
-                edges.push(edge)?;
-            }
+    for folder in lock.packages.keys() {
+        if let Some(package) = lock.package(folder) {
+            let found = dependencies(alloc, lock, package, faults)?;
+            add_edges(alloc, lock, found.as_slice(), &mut edges)?;
         }
     }
     Ok(edges)
+}
+
+// The dependencies of a package of the lock file.
+fn dependencies<'a>(
+    alloc: Global,
+    lock: Lock<'a>,
+    package: Package<'a>,
+    faults: &mut Vec<Fault<'a>>,
+) -> Result<Dependencies<'a>, AllocError>
+    ensures { IsPackage lock.entry «package».entry
+        → IfOk result (λ found. All (IsDependency lock.entry) found.first.items) }
+{
+    let mut found = Dependencies::new(alloc);
+    add_workspaces(lock, package, &mut found, faults)?;
+    add_dependencies(package, &mut found, faults)?;
+    Ok(found)
+}
+
+fn add_edges<'a>(
+    alloc: Global,
+    lock: Lock<'a>,
+    dependencies: &[Dependency<'a>],
+    edges: &mut Vec<Edge<'a>>,
+) -> Result<(), AllocError>
+    ensures { OnOk result (All (IsDependency lock.entry) dependencies.now
+        → All (IsEdge lock.entry) edges.old.items → All (IsEdge lock.entry) edges.new.items) }
+{
+    for &dependency in dependencies {
+        let locked = lock.nearest(alloc, dependency.package.folder, dependency.name)?;
+        let edge = Edge { dependency, locked };
+        if !is_of_development(edge) {
+            edges.push(edge)?;
+        }
+    }
+    Ok(())
 }
 
 // Whether npm takes a dependency in `requires` for one of development: it is locked as such, and
@@ -122,7 +173,12 @@ fn finding<'a>(
     lock: Lock<'a>,
     edge: Edge<'a>,
     wanted: Option<Wanted<'a>>,
-) -> Result<Finding<'a>, AllocError> {
+) -> Result<Finding<'a>, AllocError>
+    ensures dependency { IfOk result (λ f. f.dependency
+        ≡ as_wanted edge.entry.dependency wanted.entry) }
+    ensures outcome { IfOk result (λ f. IsOutcome lock.entry f.dependency edge.entry.locked
+        f.outcome) }
+{
     let Edge { dependency, locked } = edge;
     let Some(wanted) = wanted else {
         return Ok(Finding {
@@ -130,21 +186,36 @@ fn finding<'a>(
             outcome: Outcome::NoReference,
         });
     };
-    let is_changed = wanted.is_other_than(dependency.wanted);
+    let before = dependency.wanted;
     let dependency = Dependency {
         wanted,
         ..dependency
     };
-    let outcome = match locked {
-        _ if is_changed && dependency.package.folder.is_empty() => Outcome::Conflict,
-        None if dependency.is_optional() => Outcome::Absent,
-        None => Outcome::Missing,
-        Some(locked) => locked_outcome(alloc, lock, dependency, locked)?,
-    };
+    let outcome = outcome(alloc, lock, before, dependency, locked)?;
     Ok(Finding {
         dependency,
         outcome,
     })
+}
+
+// What is found for a dependency that wanted something else before the overrides.
+fn outcome<'a>(
+    alloc: Global,
+    lock: Lock<'a>,
+    before: Wanted<'a>,
+    dependency: Dependency<'a>,
+    locked: Option<Package<'a>>,
+) -> Result<Outcome<'a>, AllocError>
+    ensures { IfOk result (IsOutcome lock.entry dependency.entry locked.entry) }
+{
+    if dependency.package.folder.is_empty() && dependency.wanted.is_other_than(before) {
+        return Ok(Outcome::Conflict);
+    }
+    match locked {
+        None if dependency.is_optional() => Ok(Outcome::Absent),
+        None => Ok(Outcome::Missing),
+        Some(locked) => locked_outcome(alloc, lock, dependency, locked),
+    }
 }
 
 // What is found of a package that is locked for a dependency.
@@ -153,7 +224,9 @@ fn locked_outcome<'a>(
     lock: Lock<'a>,
     dependency: Dependency<'a>,
     locked: Package<'a>,
-) -> Result<Outcome<'a>, AllocError> {
+) -> Result<Outcome<'a>, AllocError>
+    ensures { IfOk result (IsLockedOutcome lock.entry dependency.entry locked.entry) }
+{
     let Some(package) = lock.behind(alloc, locked)? else {
         return Ok(Outcome::NoFolder);
     };
@@ -187,20 +260,26 @@ struct Target<'a> {
 }
 
 impl<'a> Target<'a> {
-    fn is_link(self) -> bool {
+    fn is_link(self) -> bool
+        ensures { result ≡ is_link (locked_in self.entry) }
+    {
         self.locked.is("link")
     }
 
     // Whether it is a peer that stands inside the package that wants it, so that npm judges it not.
-    fn is_own_peer(self) -> bool {
+    fn is_own_peer(self) -> bool
+        ensures { IsTrue result ↔ IsOwnPeer self.entry.dependency self.entry.locked }
+    {
         let folder = self.dependency.package.folder;
         self.dependency.field == Field::Peer
             && is_installed(folder)
-            && self.locked.folder.strip_prefix(folder).is_some()
+            && self.locked.folder.starts_with(folder)
     }
 
     // Whether the root project may have it as a workspace by a pattern that is not read.
-    fn is_link_of_root(self) -> bool {
+    fn is_link_of_root(self) -> bool
+        ensures { IsTrue result → IsLinkOfRoot self.entry.dependency self.entry.locked }
+    {
         let root = self.dependency.package;
         self.is_link()
             && root.folder.is_empty()
@@ -209,11 +288,11 @@ impl<'a> Target<'a> {
     }
 
     // What the dependency says of it, or what the package accepts instead if that is satisfied.
-    fn outcome_of_either(self, alloc: Global) -> Result<Outcome<'a>, AllocError> {
-        let Dependency { package, name, .. } = self.dependency;
-        let outcome = self.outcome(alloc, self.dependency.wanted.specifier())?;
-        let accepted = package.member("acceptDependencies", name);
-        match accepted.and_then(Value::as_str) {
+    fn outcome_of_either(self, alloc: Global) -> Result<Outcome<'a>, AllocError>
+        ensures { IfOk result (IsJudged self.entry.dependency (locked_in self.entry)) }
+    {
+        let outcome = self.wanted_outcome(alloc)?;
+        match self.dependency.accepted() {
             Some(accepted) if !outcome.is_satisfied() => {
                 self.accepted_outcome(alloc, accepted, outcome)
             }
@@ -227,31 +306,61 @@ impl<'a> Target<'a> {
         alloc: Global,
         accepted: &'a str,
         outcome: Outcome<'a>,
-    ) -> Result<Outcome<'a>, AllocError> {
-        match self.outcome(alloc, Specifier::of(accepted)) {
+    ) -> Result<Outcome<'a>, AllocError>
+        ensures { IfOk result (IsInstead accepted.now (locked_in self.entry) outcome.entry) }
+    {
+        match self.text_outcome(alloc, accepted) {
             Ok(second) if !second.is_rejected() => Ok(second),
             Ok(_) => Ok(outcome),
             Err(error) => Err(error),
         }
     }
 
-    fn outcome(self, alloc: Global, wanted: Specifier<'a>) -> Result<Outcome<'a>, AllocError> {
+    fn wanted_outcome(self, alloc: Global) -> Result<Outcome<'a>, AllocError>
+        ensures { IfOk result
+            (IsWantedOutcome self.entry.dependency.wanted (locked_in self.entry)) }
+    {
+        self.outcome(alloc, self.dependency.wanted.specifier())
+    }
+
+    fn text_outcome(self, alloc: Global, text: &'a str) -> Result<Outcome<'a>, AllocError>
+        ensures { IfOk result (IsTextOutcome text.now (locked_in self.entry)) }
+    {
+        self.outcome(alloc, Specifier::of(text))
+    }
+
+    fn outcome(self, alloc: Global, wanted: Specifier<'a>) -> Result<Outcome<'a>, AllocError>
+        ensures { IfOk result (IsSpecifierOutcome wanted.entry (locked_in self.entry)) }
+    {
         match wanted {
             Specifier::Unsupported => Ok(Outcome::Unsupported),
             Specifier::Range(text) => self.registry_outcome(alloc, text),
             Specifier::Folder(path) => self.folder_outcome(alloc, path),
             Specifier::Packed(path) => self.packed_outcome(alloc, path),
-            Specifier::Page(url) if !self.is_link() && self.resolved() == Some(url) => {
-                Ok(Outcome::Satisfied)
-            }
+            Specifier::Page(url) if self.is_from(url) => Ok(Outcome::Satisfied),
             Specifier::Page(_) => Ok(Outcome::Elsewhere),
             Specifier::Repository(range) => self.repository_outcome(alloc, range),
         }
     }
 
     // Where the package comes from. A link comes from no address.
-    fn resolved(self) -> Option<&'a str> {
-        self.locked.text("resolved").filter(|_| !self.is_link())
+    fn resolved(self) -> Option<&'a str>
+        ensures { option_map (λ t. t.now) result ≡ address_of (locked_in self.entry) }
+    {
+        if self.is_link() {
+            None
+        } else {
+            self.locked.text("resolved")
+        }
+    }
+
+    fn is_from(self, url: &str) -> bool
+        ensures { IsTrue result ↔ (address_of (locked_in self.entry) ≡ Some url.now) }
+    {
+        match self.resolved() {
+            Some(resolved) => resolved == url,
+            None => false,
+        }
     }
 
     // The folder from which the paths of the dependency lead, if they are read.
@@ -269,7 +378,9 @@ impl<'a> Target<'a> {
         }
     }
 
-    fn folder_outcome(self, alloc: Global, path: &str) -> Result<Outcome<'a>, AllocError> {
+    fn folder_outcome(self, alloc: Global, path: &str) -> Result<Outcome<'a>, AllocError>
+        ensures { IfOk result IsPlaceOutcome }
+    {
         if !self.is_link() {
             return Ok(Outcome::Elsewhere);
         }
@@ -283,7 +394,9 @@ impl<'a> Target<'a> {
         }
     }
 
-    fn packed_outcome(self, alloc: Global, path: &str) -> Result<Outcome<'a>, AllocError> {
+    fn packed_outcome(self, alloc: Global, path: &str) -> Result<Outcome<'a>, AllocError>
+        ensures { IfOk result IsPlaceOutcome }
+    {
         let Some(resolved) = self.resolved().and_then(|it| it.strip_prefix("file:")) else {
             return Ok(Outcome::Elsewhere);
         };
@@ -302,7 +415,10 @@ impl<'a> Target<'a> {
         self,
         alloc: Global,
         range: Option<&'a str>,
-    ) -> Result<Outcome<'a>, AllocError> {
+    ) -> Result<Outcome<'a>, AllocError>
+        ensures { IfOk result (IsRepositoryOutcome (option_map (λ t. t.now) range.entry)
+            (locked_in self.entry)) }
+    {
         match (self.resolved().map(Specifier::of), range) {
             (Some(Specifier::Repository(_)), None) => Ok(Outcome::Skipped(Skip::Address)),
             (Some(Specifier::Repository(_)), Some(range)) => {
@@ -317,7 +433,9 @@ impl<'a> Target<'a> {
 
     // What the text of a range says of it that is asked of a registry. To npm `*` accepts every
     // locked version, pre-releases too.
-    fn registry_outcome(self, alloc: Global, wanted: &str) -> Result<Outcome<'a>, AllocError> {
+    fn registry_outcome(self, alloc: Global, wanted: &str) -> Result<Outcome<'a>, AllocError>
+        ensures { IfOk result (IsRegistryOutcome wanted.now (locked_in self.entry)) }
+    {
         if trim(wanted) == "*" {
             return Ok(Outcome::Satisfied);
         }
@@ -325,30 +443,55 @@ impl<'a> Target<'a> {
     }
 
     // What a range text says of it.
-    fn range_outcome(self, alloc: Global, wanted: &str) -> Result<Outcome<'a>, AllocError> {
-        let locked = self.package.text("version");
-        let version = locked.unwrap_or("");
-        Ok(match judge_texts(alloc, wanted, version)? {
-            Judgement::NoRange => self.tag_outcome(wanted),
-            Judgement::Unsure => Outcome::Skipped(Skip::Unsure),
-            Judgement::NoVersion if locked.is_none() => self.unversioned(),
-            Judgement::NoVersion => Outcome::NoVersion { version },
-            Judgement::Read(Verdict::Accepted) => Outcome::Satisfied,
-            Judgement::Read(Verdict::Rejected(smallest)) => Outcome::Rejected { version, smallest },
-        })
+    fn range_outcome(self, alloc: Global, wanted: &str) -> Result<Outcome<'a>, AllocError>
+        ensures { IfOk result (IsRangeOutcome wanted.now (locked_in self.entry)) }
+    {
+        let judgement = judge_texts(alloc, wanted, self.version())?;
+        Ok(self.told(wanted, judgement))
     }
 
-    // A version is nowhere in the lock file. npm reads that of a folder there.
-    fn unversioned(self) -> Outcome<'a> {
-        if self.is_nested && self.is_link() {
-            Outcome::Skipped(Skip::Unlocked)
-        } else {
-            Outcome::Unversioned
+    // What is told of this judgement of a range text.
+    fn told(self, wanted: &str, judgement: Judgement) -> Outcome<'a>
+        ensures { IsToldOf judgement (locked_in self.entry) result }
+    {
+        match judgement {
+            Judgement::NoRange => self.tag_outcome(wanted),
+            Judgement::Unsure => Outcome::Skipped(Skip::Unsure),
+            Judgement::NoVersion => self.unversioned(),
+            Judgement::Read(Verdict::Accepted) => Outcome::Satisfied,
+            Judgement::Read(Verdict::Rejected(smallest)) => Outcome::Rejected {
+                version: self.version(),
+                smallest,
+            },
+        }
+    }
+
+    // Its version, or the empty text, which is none.
+    fn version(self) -> &'a str
+        ensures { result.now ≡ version_text (locked_in self.entry) }
+    {
+        match self.package.text("version") {
+            Some(version) => version,
+            None => "",
+        }
+    }
+
+    // What is found if its text is no version, or if there is none: npm reads the version of a
+    // folder there.
+    fn unversioned(self) -> Outcome<'a>
+        ensures { IsUnversioned (locked_in self.entry) result }
+    {
+        match self.package.text("version") {
+            Some(version) => Outcome::NoVersion { version },
+            None if self.is_nested && self.is_link() => Outcome::Skipped(Skip::Unlocked),
+            None => Outcome::Unversioned,
         }
     }
 
     // npm wants what a tag names to come from an address of a package.
-    fn tag_outcome(self, wanted: &str) -> Outcome<'a> {
+    fn tag_outcome(self, wanted: &str) -> Outcome<'a>
+        ensures { IsTagOutcome (locked_in self.entry) result }
+    {
         match self.resolved().map(Specifier::of) {
             _ if !is_tag(wanted) => Outcome::Unread,
             Some(Specifier::Page(_)) => Outcome::Tagged,

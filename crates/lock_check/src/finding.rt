@@ -1,10 +1,18 @@
 // What is found for each dependency, and how it is printed.
 
-ghost use Rattle.lock_check.specs.Findings.{count_of, is_same, is_same_reason, is_skipped_for};
-ghost use Rattle.lock_check.specs.Findings.{is_told, kind_of, skipped_for};
+ghost use Rattle.lock_check.specs.Findings.{AreSkips, count_of, is_same, is_same_reason};
+ghost use Rattle.lock_check.specs.Findings.{is_skipped_for, is_told, kind_of, skipped_for};
 ghost use Rattle.lock_check.specs.Reports.{kind_word};
 ghost use Rattle.lock_check.specs.Rows.{rejected_version};
-ghost use Rattle.std.specs.Prelude.{◌≡◌, ◌<◌, length, option_map};
+ghost use Rattle.lock_check.specs.Summary.{checked_text, counts_data, counts_text, found_text};
+ghost use Rattle.lock_check.specs.Summary.{named_skips};
+ghost use Rattle.lock_check.specs.Summary.{reason_text, reasons_text, separator, sizes_text};
+ghost use Rattle.lock_check.specs.Summary.{skip_words, skipped_text, skips_data, summary};
+ghost use Rattle.lock_check.specs.Summary.{unchecked_text, unlocked_text};
+ghost use Rattle.serde_json.specs.View.{view};
+ghost use Rattle.serde_json.specs.Written.{compact_text};
+ghost use Rattle.std.specs.BTreeMap.{btree_map_len};
+ghost use Rattle.std.specs.Prelude.{◌≡◌, ◌<◌, ◌++◌, IfOk, OnOk, length, option_map, string_bytes};
 
 use crate::check::Findings;
 use crate::json::write_line;
@@ -12,7 +20,7 @@ use crate::lock::{Dependency, Lock, Wanted};
 use crate::shown::Shown;
 use nodejs_semver::Version;
 use nodejs_semver::diagnosis::version_flaw;
-use serde_json::{Map, Value, put};
+use serde_json::{Map, Value, json, put};
 use std::alloc::{AllocError, Global};
 use std::fmt;
 use std::fmt::Write;
@@ -146,7 +154,9 @@ impl Skip {
     }
 
     // What is told of it.
-    fn words(self) -> &'static str {
+    fn words(self) -> &'static str
+        ensures { result.now ≡ skip_words self }
+    {
         match self {
             Skip::Unsure => "a range text that npm may read otherwise",
             Skip::Address => "an address",
@@ -297,11 +307,7 @@ fn write_no_version<W: fmt::Write>(f: &mut fmt::Formatter<W>, text: &str) -> fmt
 
 impl Skips {
     fn of(findings: &[Finding<'_>]) -> Skips
-        ensures unsure { result.unsure ≡ skipped_for Skip.Unsure findings.now }
-        ensures address { result.address ≡ skipped_for Skip.Address findings.now }
-        ensures link { result.link ≡ skipped_for Skip.Link findings.now }
-        ensures unlocked { result.unlocked ≡ skipped_for Skip.Unlocked findings.now }
-        ensures own_peer { result.own_peer ≡ skipped_for Skip.OwnPeer findings.now }
+        ensures { AreSkips findings.now result }
     {
         Skips {
             unsure: count_skipped(findings, Skip::Unsure),
@@ -312,15 +318,47 @@ impl Skips {
         }
     }
 
-    fn object(&self, alloc: Global) -> Result<Value, AllocError> {
+    #[tactic(auto, unfolding(crate::specs::Summary::skips_data))]
+    fn object(&self, alloc: Global) -> Result<Value, AllocError>
+        ensures { IfOk result (λ v. view v ≡ skips_data self.now) }
+    {
         let mut object: Map<String, Value> = Map::new(alloc);
-        for (skip, count) in self.named() {
-            put(&mut object, alloc, skip.words(), Value::from(count))?;
-        }
+        put(
+            &mut object,
+            alloc,
+            Skip::Unsure.words(),
+            Value::from(self.unsure),
+        )?;
+        put(
+            &mut object,
+            alloc,
+            Skip::Address.words(),
+            Value::from(self.address),
+        )?;
+        put(
+            &mut object,
+            alloc,
+            Skip::Link.words(),
+            Value::from(self.link),
+        )?;
+        put(
+            &mut object,
+            alloc,
+            Skip::Unlocked.words(),
+            Value::from(self.unlocked),
+        )?;
+        put(
+            &mut object,
+            alloc,
+            Skip::OwnPeer.words(),
+            Value::from(self.own_peer),
+        )?;
         Ok(Value::Object(object))
     }
 
-    fn named(&self) -> [(Skip, usize); 5] {
+    fn named(&self) -> [(Skip, usize); 5]
+        ensures { result ≡ named_skips self.now }
+    {
         [
             (Skip::Unsure, self.unsure),
             (Skip::Address, self.address),
@@ -329,19 +367,39 @@ impl Skips {
             (Skip::OwnPeer, self.own_peer),
         ]
     }
-}
 
-impl fmt::Display for Skips {
-    fn fmt<W: fmt::Write>(&self, f: &mut fmt::Formatter<W>) -> fmt::Result {
-        let mut front = " (";
+    // Adds the reasons that there are, with their counts.
+    fn write(&self, output: &mut String) -> Result<(), AllocError>
+        ensures { OnOk result (string_bytes output.new
+            ≡ string_bytes output.old ++ reasons_text self.now) }
+    {
+        let mut is_first = true;
         for (skip, count) in self.named() {
             if count > 0 {
-                write!(f, "{front}{}: {count}", skip.words())?;
-                front = ", ";
+                write_reason(is_first, skip, count, output)?;
+                is_first = false;
             }
         }
-        f.write_str(if front == ", " { ")" } else { "" })
+        if !is_first {
+            output.push_str(")")?;
+        }
+        Ok(())
     }
+}
+
+// Adds a reason with its count, behind a bracket if it is the first.
+fn write_reason(
+    is_first: bool,
+    skip: Skip,
+    count: usize,
+    output: &mut String,
+) -> Result<(), AllocError>
+    ensures { OnOk result (string_bytes output.new
+        ≡ string_bytes output.old ++ separator is_first ++ reason_text (skip, count)) }
+{
+    output.push_str(if is_first { " (" } else { ", " })?;
+    let words = skip.words();
+    write!(output, "{words}: {count}")
 }
 
 fn count_skipped(findings: &[Finding<'_>], skip: Skip) -> usize
@@ -359,6 +417,7 @@ fn count_skipped(findings: &[Finding<'_>], skip: Skip) -> usize
 impl Counts {
     /// How many packages and dependencies there are, and how many have each kind of outcome.
     pub fn of(lock: Lock<'_>, found: &Findings<'_>) -> Counts
+        ensures packages { result.packages ≡ btree_map_len lock.entry.packages.now }
         ensures dependencies { result.dependencies ≡ length found.now.of_dependencies.items }
         ensures satisfied { result.satisfied
             ≡ count_of Kind.Satisfied found.now.of_dependencies.items }
@@ -367,6 +426,7 @@ impl Counts {
         ensures missing { result.missing ≡ count_of Kind.Missing found.now.of_dependencies.items }
         ensures absent { result.absent ≡ count_of Kind.Absent found.now.of_dependencies.items }
         ensures skipped { result.skipped ≡ count_of Kind.Skipped found.now.of_dependencies.items }
+        ensures skips { AreSkips found.now.of_dependencies.items result.skips }
         ensures malformed { result.malformed ≡ length found.now.faults.items }
     {
         let findings = &found.of_dependencies;
@@ -383,47 +443,107 @@ impl Counts {
         }
     }
 
-    /// Writes the counts as text, or as an object of JSON, on a line.
-    pub fn write(
-        &self,
-        alloc: Global,
-        is_json: bool,
-        output: &mut String,
-    ) -> Result<(), AllocError> {
+    /// Writes the counts as text, or as an object of JSON, on a line. Fails only if allocation
+    /// fails.
+    pub fn write(&self, alloc: Global, is_json: bool, output: &mut String) -> Result<(), AllocError>
+        ensures { OnOk result (string_bytes output.new
+            ≡ string_bytes output.old ++ summary is_json self.now) }
+    {
         if is_json {
-            let text = self.object(alloc)?.to_string(alloc)?;
+            let text = self.object_text(alloc)?;
             write_line(&text, output)
         } else {
-            writeln!(output, "{self}")
+            self.write_text(output)
         }
     }
 
-    fn object(&self, alloc: Global) -> Result<Value, AllocError> {
-        let mut object: Map<String, Value> = Map::new(alloc);
-        put(
-            &mut object,
-            alloc,
-            "kind",
-            Value::try_from_str(alloc, "summary")?,
-        )?;
-        for (name, count) in self.named() {
-            put(&mut object, alloc, name, Value::from(count))?;
-        }
-        put(&mut object, alloc, "skipped_for", self.skips.object(alloc)?)?;
-        Ok(Value::Object(object))
+    fn write_text(&self, output: &mut String) -> Result<(), AllocError>
+        ensures { OnOk result (string_bytes output.new
+            ≡ string_bytes output.old ++ counts_text self.now) }
+    {
+        self.write_checked(output)?;
+        self.write_unchecked(output)
     }
 
-    fn named(&self) -> [(&'static str, usize); 8] {
-        [
-            ("packages", self.packages),
-            ("dependencies", self.dependencies),
-            ("satisfied", self.satisfied),
-            ("rejected", self.rejected),
-            ("missing", self.missing),
-            ("absent", self.absent),
-            ("skipped", self.skipped),
-            ("malformed", self.malformed),
-        ]
+    fn write_checked(&self, output: &mut String) -> Result<(), AllocError>
+        ensures { OnOk result (string_bytes output.new
+            ≡ string_bytes output.old ++ checked_text self.now) }
+    {
+        self.write_sizes(output)?;
+        self.write_found(output)
+    }
+
+    #[tactic(auto, unfolding(crate::specs::Summary::sizes_text))]
+    fn write_sizes(&self, output: &mut String) -> Result<(), AllocError>
+        ensures { OnOk result (string_bytes output.new
+            ≡ string_bytes output.old ++ sizes_text self.now) }
+    {
+        let (packages, dependencies) = (self.packages, self.dependencies);
+        write!(output, "{packages} packages, {dependencies} dependencies: ")
+    }
+
+    #[tactic(auto, unfolding(crate::specs::Summary::found_text))]
+    fn write_found(&self, output: &mut String) -> Result<(), AllocError>
+        ensures { OnOk result (string_bytes output.new
+            ≡ string_bytes output.old ++ found_text self.now) }
+    {
+        let (satisfied, rejected) = (self.satisfied, self.rejected);
+        write!(output, "{satisfied} satisfied, {rejected} rejected, ")
+    }
+
+    fn write_unchecked(&self, output: &mut String) -> Result<(), AllocError>
+        ensures { OnOk result (string_bytes output.new
+            ≡ string_bytes output.old ++ unchecked_text self.now) }
+    {
+        self.write_unlocked(output)?;
+        self.write_skipped(output)
+    }
+
+    #[tactic(auto, unfolding(crate::specs::Summary::unlocked_text))]
+    fn write_unlocked(&self, output: &mut String) -> Result<(), AllocError>
+        ensures { OnOk result (string_bytes output.new
+            ≡ string_bytes output.old ++ unlocked_text self.now) }
+    {
+        let (missing, absent, skipped) = (self.missing, self.absent, self.skipped);
+        write!(
+            output,
+            "{missing} missing, {absent} absent, {skipped} skipped"
+        )
+    }
+
+    fn write_skipped(&self, output: &mut String) -> Result<(), AllocError>
+        ensures { OnOk result (string_bytes output.new
+            ≡ string_bytes output.old ++ skipped_text self.now) }
+    {
+        self.skips.write(output)?;
+        writeln!(output, ", {} malformed", self.malformed)
+    }
+
+    // The text of the object of the counts.
+    fn object_text(&self, alloc: Global) -> Result<String, AllocError>
+        ensures { IfOk result (λ s. string_bytes s ≡ compact_text (counts_data self.now)) }
+    {
+        let object = self.object(alloc)?;
+        object.to_string(alloc)
+    }
+
+    #[tactic(auto, unfolding(crate::specs::Summary::counts_data))]
+    fn object(&self, alloc: Global) -> Result<Value, AllocError>
+        ensures { IfOk result (λ v. view v ≡ counts_data self.now) }
+    {
+        let skips = self.skips.object(alloc)?;
+        json!(in alloc; {
+            "kind": "summary",
+            "packages": self.packages,
+            "dependencies": self.dependencies,
+            "satisfied": self.satisfied,
+            "rejected": self.rejected,
+            "missing": self.missing,
+            "absent": self.absent,
+            "skipped": self.skipped,
+            "malformed": self.malformed,
+            "skipped_for": skips
+        })
     }
 
     /// The exit status.
@@ -464,29 +584,4 @@ fn count(findings: &[Finding<'_>], kind: Kind) -> usize
         }
     }
     count
-}
-
-impl fmt::Display for Counts {
-    fn fmt<W: fmt::Write>(&self, f: &mut fmt::Formatter<W>) -> fmt::Result {
-        let Counts {
-            packages,
-            dependencies,
-            satisfied,
-            rejected,
-            missing,
-            absent,
-            skipped,
-            skips,
-            malformed,
-        } = self;
-        write!(
-            f,
-            "{packages} packages, {dependencies} dependencies: {satisfied} satisfied, "
-        )?;
-        write!(
-            f,
-            "{rejected} rejected, {missing} missing, {absent} absent, {skipped} skipped{skips}, "
-        )?;
-        write!(f, "{malformed} malformed")
-    }
 }

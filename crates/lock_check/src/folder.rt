@@ -1,5 +1,8 @@
 // Folders as texts: no disk is asked.
 
+ghost use Rattle.lock_check.specs.Judged.{IsInstalled};
+ghost use Rattle.std.specs.Prelude.{◌↔◌, IsTrue};
+
 use std::alloc::{AllocError, Global};
 
 /// The folder to which a path leads from another folder, with no `.` and no `..` but at its front.
@@ -33,6 +36,8 @@ pub fn name_of(folder: &str) -> &str {
 }
 
 /// Whether a package in this folder is installed as a dependency, and no project of its own.
-pub fn is_installed(folder: &str) -> bool {
+pub fn is_installed(folder: &str) -> bool
+    ensures { IsTrue result ↔ IsInstalled folder.now }
+{
     folder.starts_with("node_modules/") || folder.contains("/node_modules/")
 }

@@ -2,9 +2,16 @@
 
 ghost use Rattle.lock_check.specs.Optional.{MayBeAbsent};
 ghost use Rattle.lock_check.specs.Fields.{is_set, member_of, text_of};
+ghost use Rattle.lock_check.specs.Judged.{IsOverride};
+ghost use Rattle.lock_check.specs.Lookups.{IsAt, IsBehind, IsDependency, IsInstalledAs, IsPackage};
+ghost use Rattle.lock_check.specs.Lookups.{field_name, written_in};
+ghost use Rattle.lock_check.specs.Outcomes.{accepted_by};
 ghost use Rattle.lock_check.specs.Rows.{wanted_text};
+ghost use Rattle.lock_check.specs.Specifiers.{IsWantedAs};
+ghost use Rattle.lock_check.specs.declared.lock.Lock.{Lock};
 ghost use Rattle.serde_json.specs.View.{view};
-ghost use Rattle.std.specs.Prelude.{◌≡◌, option_map};
+ghost use Rattle.std.specs.Prelude.{◌≡◌, ◌++◌, [], All, IfOk, IfSome, IsTrue, OnOk, codes};
+ghost use Rattle.std.specs.Prelude.{option_map};
 
 use crate::fault::Fault;
 use crate::folder::{is_installed, joined};
@@ -80,7 +87,9 @@ const FIELDS: &[Field] = &[
 ];
 
 impl Field {
-    fn name(self) -> &'static str {
+    fn name(self) -> &'static str
+        ensures { result.now ≡ field_name self }
+    {
         match self {
             Field::Development => "devDependencies",
             Field::Optional => "optionalDependencies",
@@ -124,6 +133,17 @@ impl<'a> Package<'a> {
         is_set(self.fields, field)
     }
 
+    /// The text that it writes for a dependency of this name in this field.
+    pub fn written(self, field: Field, name: &str) -> Option<&'a str>
+        ensures { option_map (λ t. t.now) result
+            ≡ written_in field name.now (view self.entry.fields.now) }
+    {
+        match self.member(field.name(), name) {
+            Some(text) => text.as_str(),
+            None => None,
+        }
+    }
+
     /// The value of this name in this field.
     pub fn member(self, field: &str, name: &str) -> Option<&'a Value>
         ensures { option_map (λ v. view v.now) result
@@ -135,7 +155,9 @@ impl<'a> Package<'a> {
 
 impl<'a> Wanted<'a> {
     /// Whether an override changes what was wanted before.
-    pub fn is_other_than(self, before: Wanted<'_>) -> bool {
+    pub fn is_other_than(self, before: Wanted<'_>) -> bool
+        ensures { IsTrue result → IsOverride self.entry }
+    {
         match (self, before) {
             (Wanted::Override(text), Wanted::Text(before)) => text != before,
             (Wanted::Override(_), _) => true,
@@ -153,7 +175,9 @@ impl<'a> Wanted<'a> {
     }
 
     /// What it is to npm.
-    pub fn specifier(self) -> Specifier<'a> {
+    pub fn specifier(self) -> Specifier<'a>
+        ensures { IsWantedAs self.entry result }
+    {
         match self {
             Wanted::Text(text) | Wanted::Override(text) => Specifier::of(text),
             Wanted::Workspace(folder) => Specifier::Folder(folder),
@@ -162,6 +186,16 @@ impl<'a> Wanted<'a> {
 }
 
 impl<'a> Dependency<'a> {
+    /// The text that its package accepts in place of what it wants.
+    pub fn accepted(self) -> Option<&'a str>
+        ensures { option_map (λ t. t.now) result ≡ accepted_by self.entry }
+    {
+        match self.package.member("acceptDependencies", self.name) {
+            Some(accepted) => accepted.as_str(),
+            None => None,
+        }
+    }
+
     /// Whether it may be absent.
     pub fn is_optional(self) -> bool
         ensures { MayBeAbsent (view self.entry.package.fields.now) self.entry.name.now
@@ -179,7 +213,9 @@ impl<'a> Dependency<'a> {
 }
 
 impl<'a> Dependencies<'a> {
-    pub fn new(alloc: Global) -> Dependencies<'a> {
+    pub fn new(alloc: Global) -> Dependencies<'a>
+        ensures { result.first.items ≡ [] }
+    {
         Dependencies {
             names: BTreeSet::new(alloc),
             first: Vec::new(alloc),
@@ -187,7 +223,11 @@ impl<'a> Dependencies<'a> {
     }
 
     /// Adds a dependency, unless there is one with its name.
-    pub fn add(&mut self, dependency: Dependency<'a>) -> Result<(), AllocError> {
+    pub fn add(&mut self, dependency: Dependency<'a>) -> Result<(), AllocError>
+        ensures { OnOk result ((lock : Lock) → IsDependency lock dependency.entry
+            → All (IsDependency lock) self.old.first.items
+            → All (IsDependency lock) self.new.first.items) }
+    {
         if self.names.insert(dependency.name)? {
             self.first.push(dependency)?;
         }
@@ -195,16 +235,22 @@ impl<'a> Dependencies<'a> {
     }
 
     /// Those that count, in the order in which they were added.
-    pub fn as_slice(&self) -> &[Dependency<'a>] {
+    pub fn as_slice(&self) -> &[Dependency<'a>]
+        ensures { result.now ≡ self.now.first.items }
+    {
         self.first.as_slice()
     }
 }
 
 impl<'a> Lock<'a> {
     /// The package in this folder.
-    pub fn package(self, folder: &str) -> Option<Package<'a>> {
-        let (folder, fields) = self.packages.get_key_value(folder)?;
-        Some(Package { folder, fields })
+    pub fn package(self, folder: &str) -> Option<Package<'a>>
+        ensures { IsAt self.entry folder.now result }
+    {
+        match self.packages.get_key_value(folder) {
+            Some((folder, fields)) => Some(Package { folder, fields }),
+            None => None,
+        }
     }
 
     /// The package that a dependency of this name means in this folder: that of the nearest
@@ -214,7 +260,9 @@ impl<'a> Lock<'a> {
         alloc: Global,
         folder: &str,
         name: &str,
-    ) -> Result<Option<Package<'a>>, AllocError> {
+    ) -> Result<Option<Package<'a>>, AllocError>
+        ensures { IfOk result (λ found. IfSome found (IsInstalledAs self.entry name.now)) }
+    {
         let mut above = String::new(alloc);
         let mut found = self.child(alloc, &above, name)?;
         if folder.is_empty() {
@@ -234,7 +282,9 @@ impl<'a> Lock<'a> {
         alloc: Global,
         folder: &str,
         name: &str,
-    ) -> Result<Option<Package<'a>>, AllocError> {
+    ) -> Result<Option<Package<'a>>, AllocError>
+        ensures { IfOk result (IsAt self.entry (folder.now ++ codes "node_modules/" ++ name.now)) }
+    {
         let key = format!(in alloc; "{folder}node_modules/{name}")?;
         Ok(self.package(&key))
     }
@@ -244,7 +294,9 @@ impl<'a> Lock<'a> {
         self,
         alloc: Global,
         package: Package<'a>,
-    ) -> Result<Option<Package<'a>>, AllocError> {
+    ) -> Result<Option<Package<'a>>, AllocError>
+        ensures { IfOk result (IsBehind self.entry «package».entry) }
+    {
         if !package.is("link") {
             return Ok(Some(package));
         }
@@ -266,7 +318,11 @@ pub fn add_dependencies<'a>(
     package: Package<'a>,
     found: &mut Dependencies<'a>,
     faults: &mut Vec<Fault<'a>>,
-) -> Result<(), AllocError> {
+) -> Result<(), AllocError>
+    ensures { OnOk result ((lock : Lock) → IsPackage lock «package».entry
+        → All (IsDependency lock) found.old.first.items
+        → All (IsDependency lock) found.new.first.items) }
+{
     for &field in FIELDS {
         let ranges = match field.of(package) {
             Ok(Some(ranges)) => ranges,
@@ -276,9 +332,9 @@ pub fn add_dependencies<'a>(
                 continue;
             }
         };
-        for (name, range) in ranges.iter() {
+        for name in ranges.keys() {
             let name = name.as_str();
-            let Some(range) = range.as_str() else {
+            let Some(range) = package.written(field, name) else {
                 let folder = package.folder;
                 faults.push(Fault::Range { folder, name })?;
                 continue;

@@ -1,6 +1,8 @@
 // `overrides` of the root project, which changes what packages depend on.
 
+ghost use Rattle.lock_check.specs.Judged.{IsOverridden};
 ghost use Rattle.lock_check.specs.Replacements.{IsReplacement};
+ghost use Rattle.std.specs.Prelude.{IfSome};
 
 use crate::fault::Fault;
 use crate::lock::{Dependency, Package, Wanted};
@@ -207,12 +209,17 @@ impl<'a> Overrides<'a> {
 
     /// What a dependency wants if the package that it means stands in this scope, or `None` if
     /// that is a reference to no dependency of the root project.
-    pub fn wanted(&self, scope: Scope, dependency: Dependency<'a>) -> Option<Wanted<'a>> {
+    pub fn wanted(&self, scope: Scope, dependency: Dependency<'a>) -> Option<Wanted<'a>>
+        ensures { IfSome result (IsOverridden dependency.entry.wanted) }
+    {
         match self.rule(scope) {
             Some(rule) if rule.name == dependency.name => match rule.replacement {
                 Replacement::Nothing => Some(dependency.wanted),
                 Replacement::Text(text) => Some(Wanted::Override(text)),
-                Replacement::Reference(name) => self.referenced(name).map(Wanted::Override),
+                Replacement::Reference(name) => match self.referenced(name) {
+                    Some(text) => Some(Wanted::Override(text)),
+                    None => None,
+                },
             },
             _ => Some(dependency.wanted),
         }

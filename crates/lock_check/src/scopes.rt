@@ -1,5 +1,8 @@
 // Which rules of `overrides` hold for each dependency.
 
+ghost use Rattle.lock_check.specs.Judged.{IsOverridden};
+ghost use Rattle.std.specs.Prelude.{IfSome};
+
 use crate::check::Edge;
 use crate::lock::{Lock, Package, Wanted};
 use crate::overrides::{Overrides, Scope};
@@ -52,7 +55,9 @@ impl<'a> Scopes<'a> {
 
     /// What the dependency of this number wants, or `None` if that is a reference to no dependency
     /// of the root project. What is packed into another package is not overridden.
-    pub fn wanted(&self, lock: Lock<'a>, number: usize, edge: Edge<'a>) -> Option<Wanted<'a>> {
+    pub fn wanted(&self, lock: Lock<'a>, number: usize, edge: Edge<'a>) -> Option<Wanted<'a>>
+        ensures { IfSome result (IsOverridden edge.entry.dependency.wanted) }
+    {
         match self.of_edges.get(&number).copied() {
             Some(inner) if !edge.locked.is_some_and(|it| is_packed(lock, it)) => {
                 self.overrides.wanted(inner, edge.dependency)

@@ -1,10 +1,11 @@
 // What a text in place of a range is to npm.
 
-ghost use Rattle.lock_check.specs.Specifiers.{IsAlias, IsAliased, IsBareName, IsName, IsReserved};
-ghost use Rattle.lock_check.specs.Specifiers.{IsScopeAndName, IsUnsigned, is_of_registry};
-ghost use Rattle.lock_check.specs.Specifiers.{is_packed, is_part, is_plain, is_url_byte};
+ghost use Rattle.lock_check.specs.Specifiers.{IsAlias, IsAliased, IsBareName, IsBehindNpm, IsName};
+ghost use Rattle.lock_check.specs.Specifiers.{IsNoOtherRange, IsPath, IsReserved, IsScopeAndName};
+ghost use Rattle.lock_check.specs.Specifiers.{IsSpecifier, IsUnsigned, is_of_registry, is_packed};
+ghost use Rattle.lock_check.specs.Specifiers.{is_part, is_plain, is_url_byte};
 ghost use Rattle.std.specs.List.{list_all};
-ghost use Rattle.std.specs.Prelude.{◌≡◌, ◌↔◌, IsTrue};
+ghost use Rattle.std.specs.Prelude.{◌≡◌, ◌↔◌, IsTrue, option_map};
 
 // The schemes of the URLs that npm reads, but for those of packages at other places; behind `git+`
 // those of the second list.
@@ -52,20 +53,46 @@ pub enum Specifier<'a> {
 
 impl<'a> Specifier<'a> {
     /// What the text is.
-    pub fn of(text: &'a str) -> Specifier<'a> {
-        if let Some(path) = path(text) {
-            return at_path(path);
+    pub fn of(text: &'a str) -> Specifier<'a>
+        ensures { IsSpecifier text.now result }
+    {
+        if text.is_empty() {
+            return Specifier::Range("*");
         }
-        match scheme(text) {
-            Some(("", scheme, target)) if scheme.eq_ignore_ascii_case("npm") => alias(target),
-            Some((git, scheme, _)) if !is_read(git, scheme) => Specifier::Unsupported,
-            Some(("", scheme, target)) if is_page(scheme, target) => Specifier::Page(text),
-            Some(_) => Specifier::Repository(tagged(text)),
-            None if is_repository(text) => Specifier::Repository(tagged(text)),
-            None if text.contains('/') || is_packed(text) => at_path(text),
-            None if text.is_empty() => Specifier::Range("*"),
-            None => Specifier::Range(text),
+        if is_of_registry(text) {
+            return Specifier::Range(text);
         }
+        match behind_npm(text) {
+            Some(target) => alias(target),
+            None => elsewhere(text),
+        }
+    }
+}
+
+/// What stands behind `npm:`, if the text begins so.
+pub fn behind_npm(text: &str) -> Option<&str>
+    ensures { IsBehindNpm text.now (option_map (λ t. t.now) result) }
+{
+    match text.split_once(':') {
+        Some((scheme, target)) if scheme.eq_ignore_ascii_case("npm") => Some(target),
+        _ => None,
+    }
+}
+
+// What a text is that is neither asked of a registry nor an alias.
+fn elsewhere(text: &str) -> Specifier<'_>
+    ensures { IsNoOtherRange text.now result }
+{
+    if let Some(path) = path(text) {
+        return at_path(path);
+    }
+    match scheme(text) {
+        Some((git, scheme, _)) if !is_read(git, scheme) => Specifier::Unsupported,
+        Some(("", scheme, target)) if is_page(scheme, target) => Specifier::Page(text),
+        Some(_) => Specifier::Repository(tagged(text)),
+        None if is_repository(text) => Specifier::Repository(tagged(text)),
+        None if text.contains('/') || is_packed(text) => at_path(text),
+        None => Specifier::Range(text),
     }
 }
 
@@ -79,7 +106,9 @@ fn path(text: &str) -> Option<&str> {
     }
 }
 
-fn at_path(path: &str) -> Specifier<'_> {
+fn at_path(path: &str) -> Specifier<'_>
+    ensures { IsPath result }
+{
     if is_packed(path) {
         Specifier::Packed(path)
     } else {

@@ -1,5 +1,8 @@
 // The workspaces of the root project.
 
+ghost use Rattle.lock_check.specs.Lookups.{IsDependency, IsPackage};
+ghost use Rattle.std.specs.Prelude.{All, OnOk};
+
 use crate::fault::Fault;
 use crate::folder::{is_installed, name_of};
 use crate::lock::{Dependencies, Dependency, Field, Lock, Package, Wanted};
@@ -77,15 +80,20 @@ pub fn are_read(root: Package<'_>) -> bool {
     }
 }
 
-/// Adds the workspaces to the dependencies of the root project. npm finds them on the disk; here a
-/// folder that `workspaces` names counts as one that is there.
+/// Adds the workspaces to the dependencies of a package, if it is the root project. npm finds them
+/// on the disk; here a folder that `workspaces` names counts as one that is there.
 pub fn add_workspaces<'a>(
     lock: Lock<'a>,
     root: Package<'a>,
     found: &mut Dependencies<'a>,
     faults: &mut Vec<Fault<'a>>,
-) -> Result<(), AllocError> {
+) -> Result<(), AllocError>
+    ensures { OnOk result (IsPackage lock.entry root.entry
+        → All (IsDependency lock.entry) found.old.first.items
+        → All (IsDependency lock.entry) found.new.first.items) }
+{
     let list = match patterns(root) {
+        _ if !root.folder.is_empty() => return Ok(()),
         Ok(Some(list)) => list,
         Ok(None) => return Ok(()),
         Err(fault) => {
@@ -117,7 +125,11 @@ fn add_workspace<'a>(
     root: Package<'a>,
     folder: &'a str,
     found: &mut Dependencies<'a>,
-) -> Result<(), AllocError> {
+) -> Result<(), AllocError>
+    ensures { OnOk result (IsPackage lock.entry root.entry
+        → All (IsDependency lock.entry) found.old.first.items
+        → All (IsDependency lock.entry) found.new.first.items) }
+{
     let own = lock.package(folder).and_then(|it| it.text("name"));
     let name = own.unwrap_or(name_of(folder));
     found.add(Dependency {
@@ -125,5 +137,6 @@ fn add_workspace<'a>(
         field: Field::Workspaces,
         name,
         wanted: Wanted::Workspace(folder),
-    })
+    })?;
+    Ok(())
 }

@@ -31,9 +31,9 @@ impl<V: VersionPoint> RangeOf<V> {
     /// ```
     ///
     /// The list is not normalised: n intervals and m others make at most n times m intervals, and
-    /// that many if all pairs meet. As measured, memory grows with the number of intervals made, and
-    /// time with n times m, or with n log m and that number where the other's intervals stand in
-    /// order along the line.
+    /// that many if all pairs meet. As measured, memory grows with the number of intervals made.
+    /// Time grows with n times m, or with n log m and that number where the other's intervals stand
+    /// in order along the line.
     pub fn intersect(
         &self,
         alloc: Global,

@@ -1,0 +1,42 @@
+-- The findings of the dependencies of a lock file.
+use Rattle.std.proofs.Common.{◌≡◌, IfSome, List, None, Option, Some, ap, ◌∙◌, inl, inr, refl, subst, sym, ℕ}
+use Rattle.lock_check.specs.Judged.{IsEdge, IsFinding, IsOutcome, IsOverridden, as_wanted}
+use Rattle.lock_check.specs.Lookups.{IsDependency, IsInstalledAs, IsWritten}
+use Rattle.lock_check.specs.declared.check.Edge.{Edge}
+use Rattle.lock_check.specs.declared.finding.Finding.{Finding}
+use Rattle.lock_check.specs.declared.lock.Dependency.{Dependency}
+use Rattle.lock_check.specs.declared.lock.Lock.{Lock}
+use Rattle.lock_check.specs.declared.lock.Wanted.{Wanted}
+use Rattle.lock_check.specs.declared.lock.Wanted.TheVariants as wanted
+
+-- what is wanted after the overrides is written by the package too, unless it is one of them
+overridden : (d : Dependency) (w : Wanted) → IsWritten d d.wanted → IsOverridden d.wanted w
+    → IsWritten (as_wanted d (Some w)) w
+overridden d (wanted.Text text) is (inl same) = subst (λ w. IsWritten d w) (sym same) is
+overridden d (wanted.Text text) is (inr never) = absurd never
+overridden d (wanted.Override text) is how = tt
+overridden d (wanted.Workspace folder) is (inl same) = subst (λ w. IsWritten d w) (sym same) is
+overridden d (wanted.Workspace folder) is (inr never) = absurd never
+
+as_wanted-dependency : (lock : Lock) (d : Dependency) (w : Option Wanted) → IsDependency lock d
+    → IfSome w (IsOverridden d.wanted) → IsDependency lock (as_wanted d w)
+as_wanted-dependency lock d None is how = is
+as_wanted-dependency lock d (Some w) is how = (is.0, overridden d w is.1 how)
+
+as_wanted-name : (d : Dependency) (w : Option Wanted) → (as_wanted d w).name.now ≡ d.name.now
+as_wanted-name d None = refl
+as_wanted-name d (Some w) = refl
+
+pub finding-made : (lock : Lock) (e : Edge) (w : Option Wanted) (f : Finding) → IsEdge lock e
+    → IfSome w (IsOverridden e.dependency.wanted) → f.dependency ≡ as_wanted e.dependency w
+    → IsOutcome lock f.dependency e.locked f.outcome → IsFinding lock f
+finding-made lock e w f is how same out = record {
+  dependency =
+      subst (λ d. IsDependency lock d) (sym same) (as_wanted-dependency lock e.dependency w is.0 how);
+  outcome = (
+    e.locked,
+    subst (λ name. IfSome e.locked (IsInstalledAs lock name))
+        (sym (as_wanted-name e.dependency w) ∙ ap (λ d. d.name.now) (sym same)) is.1,
+    out,
+  );
+}

@@ -1,0 +1,68 @@
+-- What a text is by what stands in front of its first colon.
+use Rattle.std.proofs.Common.{◌≡◌, ◌≢◌, ◌==◌, ◌∷◌, ◌++◌, ◌∙◌, [], ap, refl, subst, sym, inl, inr, List, ℕ, codes, true, false, map, arith}
+use Rattle.std.proofs.lemmas.Bool.{eqb-true, ne_eqb, or_from, or_parts}
+use Rattle.std.specs.Char.{to_ascii_lowercase}
+use Rattle.lock_check.specs.Specifiers.{IsAlias, IsAliasOf, IsElsewhere, IsNoOtherRange, IsNpm, IsSameWord, IsSpecifier, has, is_of_registry}
+use Rattle.lock_check.specs.Specifiers.IsAsked.{alias, empty, plain}
+use Rattle.lock_check.specs.declared.specifier.Specifier.{Specifier}
+use Rattle.lock_check.specs.declared.specifier.Specifier.TheVariants.{Folder, Packed, Page, Range, Repository, Unsupported}
+use Rattle.lock_check.proofs.Parts.{has-middle, one_cut}
+
+-- a word without a colon has none in letters of another case
+word-lacks : (s w : List ℕ) → map to_ascii_lowercase s ≡ w → has 58 w ≡ false → has 58 s ≡ false
+word-lacks [] w e none = refl
+word-lacks (b ∷ bs) [] e none = absurd (cc)
+word-lacks (b ∷ bs) (c ∷ cs) e none =
+    let parts = or_parts (c == 58) (has 58 cs) none in
+    or_from (b == 58) (has 58 bs)
+    (ne_eqb b 58 (λ is. let first : to_ascii_lowercase b ≡ c = cc in
+    let same : c ≡ 58 = sym first ∙ ap to_ascii_lowercase is in
+    let off : (58 == 58) ≡ false = subst (λ x. (x == 58) ≡ false) same parts.0 in absurd (cc)))
+    (word-lacks bs cs (cc) parts.1)
+
+npm-lacks : (s : List ℕ) → IsSameWord s (codes "npm") → has 58 s ≡ false
+npm-lacks s is = word-lacks s (codes "npm") is refl
+
+-- what does not have `npm` in front of its first colon
+pub no_npm-cut : (text scheme behind : List ℕ) → text ≡ scheme ++ 58 ∷ behind → has 58 scheme ≡ false
+    → ¬ (IsSameWord scheme (codes "npm")) → (target : List ℕ) → ¬ (IsNpm text target)
+no_npm-cut text scheme behind cut none other target (word, whole, is) =
+    other (subst (λ s. IsSameWord s (codes "npm"))
+    (sym (one_cut 58 scheme behind word target none (npm-lacks word is) (sym cut ∙ whole)).0) is)
+
+pub no_npm-uncut : (text : List ℕ) → has 58 text ≡ false → (target : List ℕ) → ¬ (IsNpm text target)
+no_npm-uncut text none target (word, whole, is) = let some = has-middle 58 text word target whole in absurd (cc)
+
+one_npm : (text a b : List ℕ) → IsNpm text a → IsNpm text b → a ≡ b
+one_npm text a b (s, e, is) (t, f, also) = (one_cut 58 s a t b (npm-lacks s is) (npm-lacks t also) (sym e ∙ f)).1
+
+filled-npm : (text target : List ℕ) → IsNpm text target → text ≢ []
+filled-npm text target (s, e, is) none = let some = has-middle 58 text s target e in let off : has 58 text ≡ false = rw none refl in absurd (cc)
+
+pub specifier-alias : (text target : List ℕ) (s : Specifier) → IsNpm text target → is_of_registry text ≡ false
+    → IsAlias target s → IsSpecifier text s
+specifier-alias text target (Range range) npm off is = inl (alias target npm is)
+specifier-alias text target Unsupported npm off is = λ range asked. elim asked [
+  | plain on filled same ↦ absurd (cc)
+  | empty none same ↦ filled-npm text target npm none
+  | alias other npm' of ↦ is range (subst (λ t. IsAliasOf t range) (one_npm text other target npm' npm) of)
+]
+specifier-alias text target (Folder path) npm off is = absurd is
+specifier-alias text target (Packed path) npm off is = absurd is
+specifier-alias text target (Page url) npm off is = absurd is
+specifier-alias text target (Repository range) npm off is = absurd is
+
+elsewhere : (text : List ℕ) → text ≢ [] → is_of_registry text ≡ false → ((target : List ℕ) → ¬ (IsNpm text target))
+    → IsElsewhere text
+elsewhere text filled off none range (plain on full same) = absurd (cc)
+elsewhere text filled off none range (empty is same) = filled is
+elsewhere text filled off none range (alias target npm of) = none target npm
+
+pub specifier-other : (text : List ℕ) (s : Specifier) → text ≢ [] → is_of_registry text ≡ false
+    → ((target : List ℕ) → ¬ (IsNpm text target)) → IsNoOtherRange text s → IsSpecifier text s
+specifier-other text (Range range) filled off none is = inr (elsewhere text filled off none, is)
+specifier-other text Unsupported filled off none is = elsewhere text filled off none
+specifier-other text (Folder path) filled off none is = elsewhere text filled off none
+specifier-other text (Packed path) filled off none is = elsewhere text filled off none
+specifier-other text (Page url) filled off none is = elsewhere text filled off none
+specifier-other text (Repository range) filled off none is = elsewhere text filled off none

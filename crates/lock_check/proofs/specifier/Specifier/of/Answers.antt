@@ -1,0 +1,15 @@
+use Rattle.std.proofs.Common.{◌∙◌, sym}
+use Rattle.lock_check.proofs.Npm.{specifier-alias, specifier-other}
+use Rattle.lock_check.proofs.Parts.{filled}
+use Rattle.lock_check.proofs.specifier.Specifier.of.Goals as goal
+
+pub returns-in-Some : goal.returns-in-Some
+returns-in-Some c =
+    specifier-alias c.args.text.now c.in-Some.target.now c.alias.result c.in-Some.ensures
+    (sym c.is_of_registry.ensures ∙ c.if-is_of_registry.false) c.alias.ensures
+
+pub returns-in-None : goal.returns-in-None
+returns-in-None c =
+    specifier-other c.args.text.now c.elsewhere.result
+    (filled c.args.text.now (sym c.is_empty.ensures ∙ c.if-is_empty.false))
+    (sym c.is_of_registry.ensures ∙ c.if-is_of_registry.false) c.in-None.ensures c.elsewhere.ensures

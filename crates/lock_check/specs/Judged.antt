@@ -1,0 +1,91 @@
+-- Statement: what is found for a dependency of a lock file.
+use Rattle.std.specs.Prelude.{⊤, ◌≡◌, ◌≢◌, ◌⊎◌, ◌==◌, ℕ, true, false, List, [], ◌++◌, Option, Some, None}
+use Rattle.std.specs.Prelude.{IfSome, codes}
+use Rattle.std.specs.List.{starts_with}
+use Rattle.std.specs.Str.Iter.{HasSubslice}
+use Rattle.serde_json.specs.View.{view}
+use Rattle.lock_check.specs.Fields.{is_set}
+use Rattle.lock_check.specs.Lookups.{IsBehind, IsDependency, IsInstalledAs}
+use Rattle.lock_check.specs.Optional.{MayBeAbsent}
+use Rattle.lock_check.specs.Outcomes.{IsJudged, Locked}
+use Rattle.lock_check.specs.Specifiers.{IsName}
+use Rattle.lock_check.specs.declared.check.Edge.{Edge}
+use Rattle.lock_check.specs.declared.finding.Finding.{Finding}
+use Rattle.lock_check.specs.declared.finding.Outcome.{Outcome}
+use Rattle.lock_check.specs.declared.finding.Outcome.TheVariants as outcome
+use Rattle.lock_check.specs.declared.finding.Skip.TheVariants as skip
+use Rattle.lock_check.specs.declared.lock.Dependency.{Dependency}
+use Rattle.lock_check.specs.declared.lock.Field.TheVariants as field
+use Rattle.lock_check.specs.declared.lock.Lock.{Lock}
+use Rattle.lock_check.specs.declared.lock.Package.{Package}
+use Rattle.lock_check.specs.declared.lock.Wanted.{Wanted}
+use Rattle.lock_check.specs.declared.lock.Wanted.TheVariants as wanted
+
+-- a folder is that of an installed package, and of no project
+abbrev pub IsInstalled : List ℕ → Type 0
+IsInstalled folder = (starts_with (λ a b. a == b) folder (codes "node_modules/") ≡ true)
+    ⊎ HasSubslice folder (codes "/node_modules/")
+
+-- a peer that stands inside the installed package that wants it
+pub record IsOwnPeer (d : Dependency) (locked : Package) : Type 0 where
+  pub peer : d.field ≡ field.Peer
+  pub installed : IsInstalled d.package.folder.now
+  pub inside : (behind : List ℕ) × (locked.folder.now ≡ d.package.folder.now ++ behind)
+
+-- a link that the root project wants otherwise than as a workspace
+pub record IsLinkOfRoot (d : Dependency) (locked : Package) : Type 0 where
+  pub link : is_set (codes "link") (view locked.fields.now) ≡ true
+  pub root : d.package.folder.now ≡ []
+  pub other : d.field ≢ field.Workspaces
+
+abbrev pub locked_as : Lock → Package → Package → Locked
+locked_as lock entry behind = record {
+  entry = view entry.fields.now;
+  behind = view behind.fields.now;
+  is_nested = lock.is_nested;
+}
+
+-- what is found of a package that is locked for a dependency. Which links may be workspaces is not said, but
+-- that they are the root project's
+pub data IsLockedOutcome (lock : Lock) (d : Dependency) (locked : Package) : Outcome → Type 0 where
+  no_folder : IsBehind lock locked None → IsLockedOutcome lock d locked outcome.NoFolder
+  own_peer : IsOwnPeer d locked → IsLockedOutcome lock d locked (outcome.Skipped skip.OwnPeer)
+  unnamed : ¬ (IsName d.name.now) → IsLockedOutcome lock d locked outcome.Unnamed
+  link : IsLinkOfRoot d locked → IsLockedOutcome lock d locked (outcome.Skipped skip.Link)
+  judged : (behind : Package) (found : Outcome) → IsBehind lock locked (Some behind) → ¬ (IsOwnPeer d locked)
+      → IsName d.name.now → IsJudged d (locked_as lock locked behind) found
+      → IsLockedOutcome lock d locked found
+
+abbrev pub IsOverride : Wanted → Type 0
+IsOverride (wanted.Override text) = ⊤
+IsOverride _ = ⊥
+
+-- what is found for a dependency for which that is locked
+pub data IsOutcome (lock : Lock) (d : Dependency) : Option Package → Outcome → Type 0 where
+  no_reference : (locked : Option Package) → IsOutcome lock d locked outcome.NoReference
+  conflict : (locked : Option Package) → d.package.folder.now ≡ [] → IsOverride d.wanted
+      → IsOutcome lock d locked outcome.Conflict
+  absent : MayBeAbsent (view d.package.fields.now) d.name.now d.field true
+      → IsOutcome lock d None outcome.Absent
+  missing : MayBeAbsent (view d.package.fields.now) d.name.now d.field false
+      → IsOutcome lock d None outcome.Missing
+  locked : (p : Package) (found : Outcome) → IsLockedOutcome lock d p found → IsOutcome lock d (Some p) found
+
+-- a dependency, with what is locked for it
+abbrev pub IsEdge : Lock → Edge → Type 0
+IsEdge lock e = IsDependency lock e.dependency × IfSome e.locked (IsInstalledAs lock e.dependency.name.now)
+
+-- a finding is that of its texts: a package of the lock file wants that of a name, and it is what that says
+-- of a package installed by the name, or of none. That no nearer one is installed is not said
+pub record IsFinding (lock : Lock) (f : Finding) : Type 0 where
+  pub dependency : IsDependency lock f.dependency
+  pub outcome : (locked : Option Package) × IfSome locked (IsInstalledAs lock f.dependency.name.now)
+      × IsOutcome lock f.dependency locked f.outcome
+
+abbrev pub as_wanted : Dependency → Option Wanted → Dependency
+as_wanted d (Some w) = record d { wanted = w }
+as_wanted d None = d
+
+-- what is wanted after the overrides: what was wanted before, or another text
+abbrev pub IsOverridden : Wanted → Wanted → Type 0
+IsOverridden before w = (w ≡ before) ⊎ IsOverride w
