@@ -1,11 +1,12 @@
 -- The findings of the dependencies of a lock file.
 use Rattle.std.proofs.Common.{◌≡◌, IfSome, List, None, Option, Some, ap, ◌∙◌, inl, inr, refl, subst, sym, ℕ}
 use Rattle.lock_check.specs.Judged.{IsEdge, IsFinding, IsOutcome, IsOverridden, as_wanted}
-use Rattle.lock_check.specs.Lookups.{IsDependency, IsInstalledAs, IsWritten}
+use Rattle.lock_check.specs.Lookups.{IsDependency, IsNearest, IsWritten}
 use Rattle.lock_check.specs.declared.check.Edge.{Edge}
 use Rattle.lock_check.specs.declared.finding.Finding.{Finding}
 use Rattle.lock_check.specs.declared.lock.Dependency.{Dependency}
 use Rattle.lock_check.specs.declared.lock.Lock.{Lock}
+use Rattle.lock_check.specs.declared.lock.Package.{Package}
 use Rattle.lock_check.specs.declared.lock.Wanted.{Wanted}
 use Rattle.lock_check.specs.declared.lock.Wanted.TheVariants as wanted
 
@@ -23,9 +24,11 @@ as_wanted-dependency : (lock : Lock) (d : Dependency) (w : Option Wanted) → Is
 as_wanted-dependency lock d None is how = is
 as_wanted-dependency lock d (Some w) is how = (is.0, overridden d w is.1 how)
 
-as_wanted-name : (d : Dependency) (w : Option Wanted) → (as_wanted d w).name.now ≡ d.name.now
-as_wanted-name d None = refl
-as_wanted-name d (Some w) = refl
+as_wanted-nearest : (lock : Lock) (d : Dependency) (w : Option Wanted) (locked : Option Package)
+    → IsNearest lock d.package.folder.now d.name.now locked
+    → IsNearest lock (as_wanted d w).package.folder.now (as_wanted d w).name.now locked
+as_wanted-nearest lock d None locked is = is
+as_wanted-nearest lock d (Some w) locked is = is
 
 pub finding-made : (lock : Lock) (e : Edge) (w : Option Wanted) (f : Finding) → IsEdge lock e
     → IfSome w (IsOverridden e.dependency.wanted) → f.dependency ≡ as_wanted e.dependency w
@@ -35,8 +38,8 @@ finding-made lock e w f is how same out = record {
       subst (λ d. IsDependency lock d) (sym same) (as_wanted-dependency lock e.dependency w is.0 how);
   outcome = (
     e.locked,
-    subst (λ name. IfSome e.locked (IsInstalledAs lock name))
-        (sym (as_wanted-name e.dependency w) ∙ ap (λ d. d.name.now) (sym same)) is.1,
+    subst (λ d. IsNearest lock d.package.folder.now d.name.now e.locked) (sym same)
+        (as_wanted-nearest lock e.dependency w e.locked is.1),
     out,
   );
 }

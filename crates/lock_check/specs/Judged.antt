@@ -1,11 +1,11 @@
 -- Statement: what is found for a dependency of a lock file.
 use Rattle.std.specs.Prelude.{⊤, ◌≡◌, ◌≢◌, ◌⊎◌, ◌==◌, ℕ, true, false, List, [], ◌++◌, Option, Some, None}
-use Rattle.std.specs.Prelude.{IfSome, codes}
+use Rattle.std.specs.Prelude.{codes}
 use Rattle.std.specs.List.{starts_with}
 use Rattle.std.specs.Str.Iter.{HasSubslice}
 use Rattle.serde_json.specs.View.{view}
 use Rattle.lock_check.specs.Fields.{is_set}
-use Rattle.lock_check.specs.Lookups.{IsBehind, IsDependency, IsInstalledAs}
+use Rattle.lock_check.specs.Lookups.{IsBehind, IsDependency, IsNearest}
 use Rattle.lock_check.specs.Optional.{MayBeAbsent}
 use Rattle.lock_check.specs.Outcomes.{IsJudged, Locked}
 use Rattle.lock_check.specs.Specifiers.{IsName}
@@ -73,13 +73,15 @@ pub data IsOutcome (lock : Lock) (d : Dependency) : Option Package → Outcome �
 
 -- a dependency, with what is locked for it
 abbrev pub IsEdge : Lock → Edge → Type 0
-IsEdge lock e = IsDependency lock e.dependency × IfSome e.locked (IsInstalledAs lock e.dependency.name.now)
+IsEdge lock e = IsDependency lock e.dependency
+    × IsNearest lock e.dependency.package.folder.now e.dependency.name.now e.locked
 
--- a finding is that of its texts: a package of the lock file wants that of a name, and it is what that says
--- of a package installed by the name, or of none. That no nearer one is installed is not said
+-- a finding is that of its texts: a package of the lock file wants that, and it is what that says of
+-- the package that is locked for it, or of none
 pub record IsFinding (lock : Lock) (f : Finding) : Type 0 where
   pub dependency : IsDependency lock f.dependency
-  pub outcome : (locked : Option Package) × IfSome locked (IsInstalledAs lock f.dependency.name.now)
+  pub outcome : (locked : Option Package)
+      × IsNearest lock f.dependency.package.folder.now f.dependency.name.now locked
       × IsOutcome lock f.dependency locked f.outcome
 
 abbrev pub as_wanted : Dependency → Option Wanted → Dependency

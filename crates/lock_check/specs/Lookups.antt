@@ -1,6 +1,6 @@
 -- Statement: which package of a lock file is locked for a dependency, and what a package writes of it.
-use Rattle.std.specs.Prelude.{⊤, ◌≡◌, ◌⊎◌, ℕ, true, false, List, ◌++◌, Option, Some, None, codes}
-use Rattle.std.specs.Prelude.{IfSome, option_and_then}
+use Rattle.std.specs.Prelude.{⊤, ◌≡◌, ◌≢◌, ◌⊎◌, ◌<◌, ℕ, true, false, List, [], ◌∷◌, ◌++◌, Option, Some, None}
+use Rattle.std.specs.Prelude.{IfSome, codes, length, option_and_then}
 use Rattle.serde_json.specs.Data.{Data, object}
 use Rattle.serde_json.specs.Find.{as_str, get}
 use Rattle.serde_json.specs.View.{members_view, view}
@@ -26,9 +26,33 @@ IsAt lock folder (Some p) =
 abbrev pub IsPackage : Lock → Package → Type 0
 IsPackage lock p = get p.folder.now (packages_of lock) ≡ Some (view p.fields.now)
 
--- a package of this name is installed in some place of the lock file
-abbrev pub IsInstalledAs : Lock → List ℕ → Package → Type 0
-IsInstalledAs lock name p = (place : List ℕ) × IsAt lock (place ++ codes "node_modules/" ++ name) (Some p)
+-- the folder itself, or one around it
+abbrev pub IsAround : List ℕ → List ℕ → Type 0
+IsAround folder place = (place ≡ folder) ⊎ ((behind : List ℕ) × (folder ≡ place ++ 47 ∷ behind))
+
+-- the folder of a package of this name that is installed in a place
+abbrev pub installed : List ℕ → List ℕ → List ℕ
+installed place name = place ++ (codes "/node_modules/" ++ name)
+
+-- no place around the folder has a package of this name, but for those whose texts are at most so long
+abbrev pub NoneCloser : Lock → List ℕ → List ℕ → ℕ → Type 0
+NoneCloser lock folder name longest = (place : List ℕ) → IsAround folder place → longest < length place
+    → IsAt lock (installed place name) None
+
+-- the package of this name in the closest place around a folder that has one, None exactly if none has
+abbrev pub IsClosest : Lock → List ℕ → List ℕ → Option Package → Type 0
+IsClosest lock folder name (Some p) = (place : List ℕ) × IsAround folder place
+    × IsAt lock (installed place name) (Some p) × NoneCloser lock folder name (length place)
+IsClosest lock folder name None = (place : List ℕ) → IsAround folder place
+    → IsAt lock (installed place name) None
+
+-- what a folder means by a name: the package in the closest place around it, and else what is
+-- installed beside the root project, whose folder is the empty text
+pub data IsNearest (lock : Lock) (folder name : List ℕ) : Option Package → Type 0 where
+  closest : (p : Package) → folder ≢ [] → IsClosest lock folder name (Some p)
+      → IsNearest lock folder name (Some p)
+  outermost : (found : Option Package) → (folder ≢ [] → IsClosest lock folder name None)
+      → IsAt lock (codes "node_modules/" ++ name) found → IsNearest lock folder name found
 
 -- what stands behind a package: itself, or if it is a link, a package of the lock file, or nothing. Which
 -- folder the link leads to is not said

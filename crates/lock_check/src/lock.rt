@@ -3,8 +3,8 @@
 ghost use Rattle.lock_check.specs.Optional.{MayBeAbsent};
 ghost use Rattle.lock_check.specs.Fields.{is_set, member_of, text_of};
 ghost use Rattle.lock_check.specs.Judged.{IsOverride};
-ghost use Rattle.lock_check.specs.Lookups.{IsAt, IsBehind, IsDependency, IsInstalledAs, IsPackage};
-ghost use Rattle.lock_check.specs.Lookups.{field_name, written_in};
+ghost use Rattle.lock_check.specs.Lookups.{IsAt, IsBehind, IsClosest, IsDependency, IsNearest};
+ghost use Rattle.lock_check.specs.Lookups.{IsPackage, field_name, installed, written_in};
 ghost use Rattle.lock_check.specs.Outcomes.{accepted_by};
 ghost use Rattle.lock_check.specs.Rows.{wanted_text};
 ghost use Rattle.lock_check.specs.Specifiers.{IsWantedAs};
@@ -261,31 +261,56 @@ impl<'a> Lock<'a> {
         folder: &str,
         name: &str,
     ) -> Result<Option<Package<'a>>, AllocError>
-        ensures { IfOk result (λ found. IfSome found (IsInstalledAs self.entry name.now)) }
+        ensures { IfOk result (IsNearest self.entry folder.now name.now) }
     {
-        let mut above = String::new(alloc);
-        let mut found = self.child(alloc, &above, name)?;
         if folder.is_empty() {
-            return Ok(found);
+            return self.outermost(alloc, name);
         }
-        for part in folder.split('/') {
-            above.push_str(part)?;
-            above.push('/')?;
-            found = self.child(alloc, &above, name)?.or(found);
+        match self.closest(alloc, folder, name)? {
+            Some(found) => Ok(Some(found)),
+            None => self.outermost(alloc, name),
         }
-        Ok(found)
     }
 
-    // The package of this name in the `node_modules` of a folder.
-    fn child(
+    // The package of this name in the closest place around a folder that has one.
+    fn closest(
         self,
         alloc: Global,
         folder: &str,
         name: &str,
     ) -> Result<Option<Package<'a>>, AllocError>
-        ensures { IfOk result (IsAt self.entry (folder.now ++ codes "node_modules/" ++ name.now)) }
+        ensures { IfOk result (IsClosest self.entry folder.now name.now) }
     {
-        let key = format!(in alloc; "{folder}node_modules/{name}")?;
+        let mut place = folder;
+        loop {
+            if let Some(found) = self.installed(alloc, place, name)? {
+                return Ok(Some(found));
+            }
+            match place.rsplit_once('/') {
+                Some((above, _)) => place = above,
+                None => return Ok(None),
+            }
+        }
+    }
+
+    // The package of this name that is installed in a place.
+    fn installed(
+        self,
+        alloc: Global,
+        place: &str,
+        name: &str,
+    ) -> Result<Option<Package<'a>>, AllocError>
+        ensures { IfOk result (IsAt self.entry (installed place.now name.now)) }
+    {
+        let key = format!(in alloc; "{place}/node_modules/{name}")?;
+        Ok(self.package(&key))
+    }
+
+    // The package of this name that is installed beside the root project.
+    fn outermost(self, alloc: Global, name: &str) -> Result<Option<Package<'a>>, AllocError>
+        ensures { IfOk result (IsAt self.entry (codes "node_modules/" ++ name.now)) }
+    {
+        let key = format!(in alloc; "node_modules/{name}")?;
         Ok(self.package(&key))
     }
 
