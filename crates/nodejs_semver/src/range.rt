@@ -60,9 +60,6 @@ pub type Range = RangeOf<Version>;
 /// so that most ranges allocate nothing.
 pub type RangeRef<'a> = RangeOf<VersionRef<'a>>;
 
-// How many intervals make a search among them cost less than going through them.
-const MANY: usize = 16;
-
 impl<V: VersionPoint> RangeOf<V> {
     /// A copy of the whole range, builds included. Fails only if allocation fails, which happens
     /// only where it has more than one interval, or a bound with build metadata or with a

@@ -9,7 +9,6 @@ ghost use Rattle.nodejs_semver.specs.Words.{IfSome, List, list_any, Span, span_o
 ghost use Rattle.nodejs_semver.specs.Internal.Candidates.{wanted};
 ghost use Rattle.nodejs_semver.specs.Ranges.Unions.{says_all};
 
-use crate::range::MANY;
 use crate::range::gate::{is_past_lower, is_past_upper};
 use crate::range::neighbours::bare_release;
 use crate::readers::release;
@@ -19,6 +18,9 @@ use semver_core::{VersionPoint, VersionRef, Versioned};
 use std::alloc::Global;
 use std::cmp::Ordering;
 use std::marker::Model;
+
+// How many intervals make an index cost less than going through them for each question.
+const MANY: usize = 128;
 
 // An interval with the numbers of the versions that it is asked about.
 #[derive(Drop)]

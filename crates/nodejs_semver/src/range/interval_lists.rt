@@ -7,7 +7,7 @@ ghost use Rattle.nodejs_semver.specs.Words.{IsNear, meet, meets_of, minus, OnErr
 ghost use Rattle.nodejs_semver.specs.Words.{option_to_list, remainder, Start, true, Unbounded};
 
 use crate::Allocated;
-use crate::range::{Intervals, MANY};
+use crate::range::Intervals;
 use semver_core::cuts::{Interval, Point};
 use smallvec::SmallVec;
 use std::alloc::Global;
@@ -90,6 +90,9 @@ pub(crate) fn cover_somewhere<V: Point>(these: &[Interval<V>], others: &[Interva
     }
     false
 }
+
+// How many intervals make a search among them cost less than going through them.
+const MANY: usize = 16;
 
 // Whether there are many intervals, which stand in order along the line and do not overlap.
 fn are_along<V: Point>(intervals: &[Interval<V>]) -> bool
