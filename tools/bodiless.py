@@ -12,6 +12,7 @@ from repository import HEADER, TOP, text_of
 BODY = "let _ = crate::never(0);\n{}    unreachable!()"
 # What calls a function, or imports some.
 NAMED = re.compile(r"(?<!fn )\b\w+\(|^(?:pub(?:\([^)]*\))? )?use [^;]*;", re.M)
+GROUP = re.compile(r"((?:\w+(?:\.|::))+)\{([^{}]*)\}")
 TACTIC = re.compile(r"^ *#\[tactic\((?:[^\n]*|\n.*?\n *)\)\]\n", re.M | re.S)
 NEVER = 'unsafe extern "C" {\n    pub(crate) safe fn never(x: u8) -> u8\n        ensures { ⊥ };\n}\n'
 
@@ -86,9 +87,9 @@ def bodiless(crate, folder, texts, kept):
 
 
 def lemmas(folder, module=()):
-    """Returns the files of lemmas by their modules, as proofs/Lib.antt and the files that it names declare them."""
-    found = {}
-    for name in re.findall(r"^(?:pub )?mod (\w+)", text_of(f"{folder}/proofs/{'/'.join(module) or 'Lib'}.antt"), re.M):
+    """Returns the files of lemmas by their modules, as proofs/Lib.antt, where there is one, and the files that it names declare them."""
+    found, file = {}, f"{folder}/proofs/{'/'.join(module) or 'Lib'}.antt"
+    for name in re.findall(r"^(?:pub )?mod (\w+)", text_of(file), re.M) if os.path.exists(file) else []:
         found[*module, name] = f"proofs/{'/'.join((*module, name))}.antt"
         found.update(lemmas(folder, (*module, name)))
     return found
@@ -98,6 +99,13 @@ def all_texts(folder):
     """Returns the texts of all files of a crate that its proof reads, by their paths in it."""
     paths = [path for part in ("src", "specs", "proofs") for path in glob.glob(f"{folder}/{part}/**/*.*t", recursive=True)]
     return {os.path.relpath(path, folder): text_of(path) for path in paths}
+
+
+def ungrouped(text):
+    """Returns a text with each name of a group in an import written out: `a.b, a.c` for `a.{b, c}`."""
+    while (spelled := GROUP.sub(lambda it: ", ".join(it[1] + name.strip() for name in it[2].split(",")), text)) != text:
+        text = spelled
+    return text
 
 
 def without_lemmas(crate, folder, texts):
@@ -110,7 +118,7 @@ def without_lemmas(crate, folder, texts):
     left += [text for it in others for text in all_texts(it).values() if crate in text]
     cited = set()
     while left:
-        for words in cites.findall(left.pop()):
+        for words in cites.findall(ungrouped(left.pop())):
             names = tuple(re.findall(r"\w+", words))
             modules = {names[:it] for it in range(1, len(names) + 1)} & {*files} - cited
             cited |= modules
@@ -118,7 +126,8 @@ def without_lemmas(crate, folder, texts):
     texts = {**texts, **{files[it]: None for it in files if it not in cited}}
     for module in [(), *cited]:
         file = files[module] if module else "proofs/Lib.antt"
-        texts[file] = re.sub(r"^(?:pub )?mod (\w+)\n", lambda line: line[0] if (*module, line[1]) in cited else "", own[file], flags=re.M)
+        if file in own:
+            texts[file] = re.sub(r"^(?:pub )?mod (\w+)\n", lambda line: line[0] if (*module, line[1]) in cited else "", own[file], flags=re.M)
     return texts
 
 
