@@ -29,7 +29,9 @@ fn other_values_are_errors() {
         assert!(serde_json::from_str::<Range>(text).is_err(), "{text}");
     }
     let error = serde_json::from_str::<Version>("\"oops\"").unwrap_err();
-    assert!(error.to_string().starts_with(&Version::parse("oops").unwrap_err().to_string()));
+    assert!(error
+        .to_string()
+        .starts_with(&Version::parse("oops").unwrap_err().to_string()));
 }
 
 #[test]
