@@ -4,57 +4,8 @@
  *
  * Each range has N alternatives in an order of its own: releases (`1.2.3`), carets (`^1.2`), points (`1.0.0-a.7`), or bounds that lie within each
  * other (`>=7.0.0 <993.0.0`). It prints the nanoseconds of processor time that the call took, and the answer. */
-#include "nodejs_semver.h"
-#include <stdio.h>
-#include <stdlib.h>
-#include <string.h>
+#include "kept.h"
 #include <time.h>
-
-typedef struct {
-    nodejs_semver_interval *at;
-    size_t len;
-} range;
-
-static uint64_t state = 88172645463325252;
-
-static uint64_t below(uint64_t end)
-{
-    state ^= state << 13;
-    state ^= state >> 7;
-    state ^= state << 17;
-    return state % end;
-}
-
-static void *room(size_t size)
-{
-    void *at = calloc(size, 1);
-    if (!at)
-        exit(1);
-    return at;
-}
-
-static nodejs_semver_version kept(const nodejs_semver_parts *parts, const char **at)
-{
-    nodejs_semver_text pre = {*at, parts->pre_release_len}, build = {*at + pre.len, parts->build_len};
-    *at = build.at + build.len;
-    return (nodejs_semver_version){parts->major, parts->minor, parts->patch, pre, build};
-}
-
-static range range_of(const char *text, size_t most)
-{
-    nodejs_semver_interval_parts *told = room(most * sizeof *told);
-    size_t count, len;
-    char *texts = room(most * 32);
-    if (nodejs_semver_range_read(NODEJS_SEMVER_READING_PORT, text, strlen(text), false, told, most, &count, texts, most * 32, &len))
-        exit(1);
-    const char *at = texts;
-    range made = {room(count * sizeof *made.at), count};
-    for (size_t n = 0; n < count; n++) {
-        nodejs_semver_version lower = kept(&told[n].lower.version, &at), upper = kept(&told[n].upper.version, &at);
-        made.at[n] = (nodejs_semver_interval){{told[n].lower.kind, lower}, {told[n].upper.kind, upper}};
-    }
-    return made;
-}
 
 static range shuffled(const char *over, size_t n)
 {
@@ -73,7 +24,7 @@ static range shuffled(const char *over, size_t n)
             : !strcmp(over, "points")   ? sprintf(at, "1.0.0-a.%d", it)
                                         : sprintf(at, ">=%d.0.0 <%d.0.0", it, 2 * (int)n - it);
     }
-    return range_of(text, n);
+    return range_of(text, n, n * 32);
 }
 
 int main(int argc, char **argv)

@@ -4,28 +4,13 @@
  *
  * Each round asks it 500 times, of an array 10 times. OVER says what the values are: releases, mixed or ties of versions; caret, two,
  * mixed or 20 of ranges. Texts are made from a fixed seed, read once before the first round. It prints a sum of the answers. */
-#include "nodejs_semver.h"
-#include <stdio.h>
-#include <stdlib.h>
-#include <string.h>
+#include "kept.h"
 
 enum { COUNT = 500, MANY = 10, MOST = 512, ROOM = 1 << 14 };
-typedef struct {
-    nodejs_semver_interval *at;
-    size_t len;
-} range;
 
-static uint64_t state = 88172645463325252;
 static nodejs_semver_version versions[COUNT];
 static range ranges[COUNT];
 
-static uint64_t below(uint64_t end)
-{
-    state ^= state << 13;
-    state ^= state >> 7;
-    state ^= state << 17;
-    return state % end;
-}
 #define PICK(...) ((const char *const[]){__VA_ARGS__})[below(sizeof(const char *const[]){__VA_ARGS__} / sizeof(char *))]
 
 static char *release(char *at)
@@ -84,22 +69,6 @@ static void alternatives(char *at)
         at += sprintf(at, "%s^%d.%d.0", n ? " || " : "", 3 * n + 1, (int)below(9));
 }
 
-static void *room(size_t size)
-{
-    void *at = malloc(size ? size : 1);
-    if (!at)
-        exit(1);
-    return at;
-}
-
-/* The version of some parts, whose texts begin at a place, which moves behind them. */
-static nodejs_semver_version kept(const nodejs_semver_parts *parts, const char **at)
-{
-    nodejs_semver_text pre = {*at, parts->pre_release_len}, build = {*at + pre.len, parts->build_len};
-    *at = build.at + build.len;
-    return (nodejs_semver_version){parts->major, parts->minor, parts->patch, pre, build};
-}
-
 static nodejs_semver_version version_of(const char *text)
 {
     nodejs_semver_parts parts;
@@ -108,22 +77,6 @@ static nodejs_semver_version version_of(const char *text)
         exit(1);
     const char *at = texts;
     return kept(&parts, &at);
-}
-
-static range range_of(const char *text)
-{
-    static nodejs_semver_interval_parts told[MOST];
-    size_t count, len;
-    char *texts = room(ROOM);
-    if (nodejs_semver_range_read(NODEJS_SEMVER_READING_PORT, text, strlen(text), false, told, MOST, &count, texts, ROOM, &len))
-        exit(1);
-    const char *at = texts;
-    range made = {room(count * sizeof *made.at), count};
-    for (size_t n = 0; n < count; n++) {
-        nodejs_semver_version lower = kept(&told[n].lower.version, &at), upper = kept(&told[n].upper.version, &at);
-        made.at[n] = (nodejs_semver_interval){{told[n].lower.kind, lower}, {told[n].upper.kind, upper}};
-    }
-    return made;
 }
 
 static bool answer;
@@ -201,7 +154,7 @@ static void make(const char *over)
             alternatives(at);
         else
             range_text(at);
-        ranges[n] = range_of(text);
+        ranges[n] = range_of(text, MOST, ROOM);
     }
 }
 
