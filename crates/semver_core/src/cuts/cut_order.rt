@@ -1,40 +1,9 @@
-// The order of the cuts that two bounds make.
+// Bounds compared by the cuts that they make.
 ghost use Rattle.std.specs.Prelude.{◌≡◌};
 ghost use Rattle.semver_core.specs.Words.{cut_cmp, greater_lower, is_lt, lesser_upper, lower_cut};
 ghost use Rattle.semver_core.specs.Words.{upper_cut};
 
 use crate::cuts::bound::Bound;
-use std::cmp::Ordering;
-
-/// The order of two lower cuts.
-#[inline(always)]
-pub(crate) fn lower_order<V: Ord>(a: &Bound<V>, b: &Bound<V>) -> Ordering
-    ensures { result ≡ cut_cmp V.cmp (lower_cut a.now) (lower_cut b.now) }
-{
-    match (a, b) {
-        (Bound::Unbounded, Bound::Unbounded) => Ordering::Equal,
-        (Bound::Unbounded, _) => Ordering::Less,
-        (_, Bound::Unbounded) => Ordering::Greater,
-        (Bound::Before(v), Bound::Before(w)) | (Bound::After(v), Bound::After(w)) => v.cmp(w),
-        (Bound::Before(v), Bound::After(w)) => v.cmp(w).then(Ordering::Less),
-        (Bound::After(v), Bound::Before(w)) => v.cmp(w).then(Ordering::Greater),
-    }
-}
-
-/// The order of two upper cuts.
-#[inline(always)]
-pub(crate) fn upper_order<V: Ord>(a: &Bound<V>, b: &Bound<V>) -> Ordering
-    ensures { result ≡ cut_cmp V.cmp (upper_cut a.now) (upper_cut b.now) }
-{
-    match (a, b) {
-        (Bound::Unbounded, Bound::Unbounded) => Ordering::Equal,
-        (Bound::Unbounded, _) => Ordering::Greater,
-        (_, Bound::Unbounded) => Ordering::Less,
-        (Bound::Before(v), Bound::Before(w)) | (Bound::After(v), Bound::After(w)) => v.cmp(w),
-        (Bound::Before(v), Bound::After(w)) => v.cmp(w).then(Ordering::Less),
-        (Bound::After(v), Bound::Before(w)) => v.cmp(w).then(Ordering::Greater),
-    }
-}
 
 /// Whether the cut of a lower bound is below that of an upper one.
 #[inline(always)]
@@ -63,7 +32,7 @@ pub(crate) fn lies_below<V: Ord>(lower: &Bound<V>, upper: &Bound<V>) -> bool
 pub(crate) fn greater_lower<'b, V: Ord>(a: &'b Bound<V>, b: &'b Bound<V>) -> &'b Bound<V>
     ensures { result.now ≡ greater_lower V.cmp a.now b.now }
 {
-    if lower_order(a, b).is_gt() { a } else { b }
+    if a.cmp_lower(b).is_gt() { a } else { b }
 }
 
 /// The upper bound that is further down; on a tie, the first.
@@ -71,19 +40,19 @@ pub(crate) fn greater_lower<'b, V: Ord>(a: &'b Bound<V>, b: &'b Bound<V>) -> &'b
 pub(crate) fn lesser_upper<'b, V: Ord>(a: &'b Bound<V>, b: &'b Bound<V>) -> &'b Bound<V>
     ensures { result.now ≡ lesser_upper V.cmp a.now b.now }
 {
-    if upper_order(a, b).is_gt() { b } else { a }
+    if a.cmp_upper(b).is_gt() { b } else { a }
 }
 
 /// The lower bound that is further up; on a tie, the second. The other one is dropped.
 pub(crate) fn into_greater_lower<V: Ord + Drop>(a: Bound<V>, b: Bound<V>) -> Bound<V>
     ensures { result ≡ greater_lower V.cmp a b }
 {
-    if lower_order(&a, &b).is_gt() { a } else { b }
+    if a.cmp_lower(&b).is_gt() { a } else { b }
 }
 
 /// The upper bound that is further down; on a tie, the first. The other one is dropped.
 pub(crate) fn into_lesser_upper<V: Ord + Drop>(a: Bound<V>, b: Bound<V>) -> Bound<V>
     ensures { result ≡ lesser_upper V.cmp a b }
 {
-    if upper_order(&a, &b).is_gt() { b } else { a }
+    if a.cmp_upper(&b).is_gt() { b } else { a }
 }

@@ -8,7 +8,6 @@ ghost use Rattle.semver_core.specs.Words.{option_holds, remainders, true, upper_
 use crate::cuts::bound::{Bound, Point};
 use crate::cuts::cut_order::{
     greater_lower, into_greater_lower, into_lesser_upper, is_below, lesser_upper, lies_below,
-    lower_order, upper_order,
 };
 use std::alloc::{AllocError, Global};
 use std::marker::Model;
@@ -135,8 +134,7 @@ impl<V: Point> Interval<V> {
     pub fn covers(&self, other: &Self) -> bool
         ensures { result ≡ covers V.cmp self.now other.now }
     {
-        lower_order(&self.lower, &other.lower).is_le()
-            && upper_order(&other.upper, &self.upper).is_le()
+        self.lower.cmp_lower(&other.lower).is_le() && other.upper.cmp_upper(&self.upper).is_le()
     }
 
     /// Whether the interval ends above the cut at which the other one begins. Two intervals meet
@@ -245,7 +243,7 @@ impl<V: Point> Interval<V> {
         ensures bounds { IfOk result (λ r. r ≡ left_below V.cmp self.now other.now) }
         ensures memory { OnErr result (IsTrue (is_some (left_below V.cmp self.now other.now))) }
     {
-        if lower_order(&self.lower, &other.lower).is_lt() {
+        if self.lower.cmp_lower(&other.lower).is_lt() {
             Ok(Some(Interval::of_copies(alloc, &self.lower, &other.lower)?))
         } else {
             Ok(None)
@@ -263,7 +261,7 @@ impl<V: Point> Interval<V> {
         ensures bounds { IfOk result (λ r. r ≡ left_above V.cmp self.now other.now) }
         ensures memory { OnErr result (IsTrue (is_some (left_above V.cmp self.now other.now))) }
     {
-        if upper_order(&other.upper, &self.upper).is_lt() {
+        if other.upper.cmp_upper(&self.upper).is_lt() {
             Ok(Some(Interval::of_copies(alloc, &other.upper, &self.upper)?))
         } else {
             Ok(None)
