@@ -123,35 +123,19 @@ impl<'a, V: VersionPoint> Entry<'a, V> {
     }
 }
 
-// The order of the cuts of two lower bounds.
-fn cmp_lower<V: Versioned>(bound: &Bound<V>, other: &Bound<V>) -> Ordering
+// The order of two lower bounds, by the versions that they are.
+fn cmp_lower<V: VersionPoint>(bound: &Bound<V>, other: &Bound<V>) -> Ordering
     ensures { result ≡ spec.lower_order (bound_of V.value bound.now) (bound_of V.value other.now) }
 {
-    match (bound, other) {
-        (Bound::Unbounded, Bound::Unbounded) => Ordering::Equal,
-        (Bound::Unbounded, _) => Ordering::Less,
-        (_, Bound::Unbounded) => Ordering::Greater,
-        (Bound::Before(v), Bound::Before(w)) | (Bound::After(v), Bound::After(w)) => {
-            v.cmp_precedence(w)
-        }
-        (Bound::Before(v), Bound::After(w)) => v.cmp_precedence(w).then(Ordering::Less),
-        (Bound::After(v), Bound::Before(w)) => v.cmp_precedence(w).then(Ordering::Greater),
-    }
+    bound.cmp_lower(other)
 }
 
 // Whether the first upper bound is further up than the second.
-fn is_further_up<V: Versioned>(bound: &Bound<V>, other: &Bound<V>) -> bool
+fn is_further_up<V: VersionPoint>(bound: &Bound<V>, other: &Bound<V>) -> bool
     ensures { result
         ≡ spec.is_further_up (bound_of V.value bound.now) (bound_of V.value other.now) }
 {
-    match (bound, other) {
-        (_, Bound::Unbounded) => false,
-        (Bound::Unbounded, _) => true,
-        (Bound::After(v), Bound::Before(w)) => v.cmp_precedence(w).is_ge(),
-        (Bound::Before(v) | Bound::After(v), Bound::Before(w) | Bound::After(w)) => {
-            v.cmp_precedence(w).is_gt()
-        }
-    }
+    bound.cmp_upper(other).is_gt()
 }
 
 // The upper bounds furthest up.
