@@ -1,3 +1,4 @@
+pub mod Ends
 pub mod Pieces
 pub mod Places
 pub mod Sets

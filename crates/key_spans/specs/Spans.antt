@@ -1,6 +1,6 @@
 -- Statement: spans of keys, and which keys lie in them.
 use Rattle.std.specs.Prelude.{◌≡◌, ◌⊎◌, ◌==◌, ◌&&◌, ◌||◌, Bool, List, [], ◌∷◌, false, true, ℕ}
-use Rattle.std.specs.Prelude.{if◌then◌else◌, not}
+use Rattle.std.specs.Prelude.{All, if◌then◌else◌, not}
 use Rattle.std.specs.Cmp.Lexicographic.{slice_cmp}
 use Rattle.std.specs.List.{list_any}
 use Rattle.std.specs.Ordering.{is_le, is_lt, nat_cmp}
@@ -62,6 +62,16 @@ pub record AreEnds (include releases_only : Bool) (start stop : List ℕ) : Type
 
 abbrev pub HasEnds : Bool → KeySpan → Type 0
 HasEnds include s = AreEnds include s.releases_only s.start.items s.stop.items
+
+-- a list such as `key_spans` returns, with pre-releases included or without
+abbrev pub IsCanonical : (include : Bool) → List KeySpan → Type 0
+IsCanonical include spans = (is_sorted spans ≡ true) × All (HasEnds include) spans
+
+-- two such lists make the third, which holds a version where the answers of both say so
+abbrev pub IsCombined : (holds : Bool → Bool → Bool) → (xs ys zs : List KeySpan) → Type 0
+IsCombined holds xs ys zs = (include : Bool) → IsCanonical include xs → IsCanonical include ys
+    → IsCanonical include zs
+    × ((v : VersionValue) → IsVersion v → in_spans zs (key v) ≡ holds (in_spans xs (key v)) (in_spans ys (key v)))
 
 -- what a span is, for equality
 abbrev pub bytes : KeySpan → List ℕ × List ℕ × Bool

@@ -18,6 +18,13 @@ piece s = record { start = s.start.items; stop = s.stop.items; releases_only = s
 abbrev pub pieces : List KeySpan → List Piece
 pieces spans = map piece spans
 
+-- where the span begins and stops
+abbrev pub stretch_of : KeySpan → Stretch (List ℕ)
+stretch_of s = record { start = s.start.items; stop = s.stop.items }
+
+abbrev pub stretches : List KeySpan → List (Stretch (List ℕ))
+stretches spans = map stretch_of spans
+
 abbrev pub in_piece : Piece → List ℕ → Bool
 in_piece s k = (is_le (slice_cmp nat_cmp s.start k) && is_lt (slice_cmp nat_cmp k s.stop))
     && (not s.releases_only || ends_in_3 k)
