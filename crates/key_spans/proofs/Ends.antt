@@ -1,5 +1,5 @@
 -- Two sets, swept from end to end.
-use Rattle.std.proofs.Common.{ℕ, ◌≡◌, ◌<◌, ◌≤◌, ◌+◌, ◌*◌, ◌++◌, ◌∷◌, ◌&&◌, ◌||◌, ◌⊎◌, List, [], Bool, true, false, not, refl, ap, arith, ◌∙◌, sym, subst, inl, inr}
+use Rattle.std.proofs.Common.{◌≡◌, ◌<◌, ◌≤◌, ◌+◌, ◌*◌, ◌++◌, ◌∷◌, ◌&&◌, ◌||◌, ◌⊎◌, List, [], Bool, true, false, not, refl, ap, arith, ◌∙◌, sym, subst, inl, inr}
 use Rattle.std.proofs.Common.{append-nil, append_assoc, true≢false}
 use Rattle.std.specs.Prelude.{All, Contains, None, Option, Some, if◌then◌else◌, length, option_map}
 use Rattle.std.specs.Cmp.{IsTotalOrder, tied_itself}
@@ -17,7 +17,7 @@ use Rattle.key_spans.specs.Internal.Ends.{IsSwept, after, ends, first_end, is_od
 use Rattle.key_spans.specs.Internal.Ends as spec
 use Rattle.key_spans.specs.declared.sets.Operation.{Operation}
 use Rattle.key_spans.specs.declared.sets.Operation.TheVariants as operation
-use Rattle.key_spans.specs.Internal.Sets.{Stretch, has, holds, is_canonical, is_past}
+use Rattle.key_spans.specs.Internal.Sets.{Stretch, has, is_canonical, is_past}
 
 -- each is below the next one
 abbrev pub is_rising : {A : Type 0} → (A → A → Ordering) → List A → Bool

@@ -2,6 +2,7 @@ pub mod AllVersions
 pub mod Behind
 pub mod Bytes
 pub mod Canonical
+pub mod Combined
 pub mod Ends
 pub mod Few
 pub mod IsPlaced

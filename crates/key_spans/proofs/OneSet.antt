@@ -36,7 +36,7 @@ first_some p (q ∷ ps) h = and_first _ _ h
 first_behind : (p q : Piece) (ps : List Piece) → are_sorted (p ∷ q ∷ ps) ≡ true → is_piece_behind p q ≡ true
 first_behind p q ps h = and_first _ _ (and_second (is_some_piece p) _ h)
 
-sorted_tail : (p : Piece) (ps : List Piece) → are_sorted (p ∷ ps) ≡ true → are_sorted ps ≡ true
+pub sorted_tail : (p : Piece) (ps : List Piece) → are_sorted (p ∷ ps) ≡ true → are_sorted ps ≡ true
 sorted_tail p [] h = refl
 sorted_tail p (q ∷ ps) h = and_second (is_piece_behind p q) _ (and_second (is_some_piece p) _ h)
 
@@ -169,12 +169,12 @@ module _ (ps : List Piece) (s : Split ps) (v : VersionValue) (k : IsVersion v) w
       ∙ ((λ i. in_flagged true s.front (key v) i || in_flagged false s.back (key v) i)
       ∙ (λ i. (has (slice_cmp nat_cmp) s.front (key v) && (false || key_end v i)) || (has (slice_cmp nat_cmp) s.back (key v) && (true || key_end v i)))))
 
-  in_front : is_release v ≡ true → in_pieces ps (key v) ≡ has (slice_cmp nat_cmp) s.front (key v)
+  pub in_front : is_release v ≡ true → in_pieces ps (key v) ≡ has (slice_cmp nat_cmp) s.front (key v)
   in_front r = in_both
       ∙ ((λ i. (has (slice_cmp nat_cmp) s.front (key v) && (false || r i)) || (none_in s.back v s.others k r i && (true || r i)))
       ∙ of_release (has (slice_cmp nat_cmp) s.front (key v)))
 
-  in_back : is_release v ≡ false → in_pieces ps (key v) ≡ has (slice_cmp nat_cmp) s.back (key v)
+  pub in_back : is_release v ≡ false → in_pieces ps (key v) ≡ has (slice_cmp nat_cmp) s.back (key v)
   in_back r = in_both
       ∙ ((λ i. (has (slice_cmp nat_cmp) s.front (key v) && (false || r i)) || (has (slice_cmp nat_cmp) s.back (key v) && (true || r i)))
       ∙ of_pre_release (has (slice_cmp nat_cmp) s.front (key v)) (has (slice_cmp nat_cmp) s.back (key v)))

@@ -20,7 +20,7 @@ ghost use Rattle.std.specs.Prelude.{option_map};
 ghost use Rattle.std.specs.Cmp.Lexicographic.{slice_cmp};
 ghost use Rattle.std.specs.Ordering.{nat_cmp};
 ghost use Rattle.key_spans.specs.Internal.Pieces.{stretches};
-ghost use Rattle.key_spans.specs.Internal.Ends.{after, ends, first_end, IsSwept, is_odd, keeps, least};
+ghost use Rattle.key_spans.specs.Internal.Ends.{after, ends, first_end, IsByKind, IsSwept, is_odd, keeps, least};
 ghost use Rattle.key_spans.specs.Internal.Ends.{turned};
 ghost use Rattle.key_spans.specs.Spans.{IsCombined};
 
@@ -32,8 +32,7 @@ use std::marker::Model;
 /// The spans of the versions of one of two lists. Both lists are such as `key_spans` returns, with
 /// the same flag, and so is the result. There are at most as many spans as in both together.
 ///
-/// Without pre-releases included this is exact, which `Range::union` is not: `>=1.2.3-a <1.2.3` and
-/// `>=1.2.3` accept other versions alone than in one range. Fails only if allocation fails.
+/// Fails only if allocation fails.
 ///
 /// ```rust
 /// let ones = key_spans(alloc, &Range::parse(alloc, "1.x")?, false)?;
@@ -56,7 +55,11 @@ pub fn union(
 
 /// The spans of the versions of both lists. Both lists are such as `key_spans` returns, with the
 /// same flag, and so is the result: it has no span exactly where the lists have no version in
-/// common. There are at most as many spans as in both together. Fails only if allocation fails.
+/// common. There are at most as many spans as in both together.
+///
+/// Without pre-releases included this is exact, which `Range::intersect` is not: the intersection of
+/// `>=1.2.3-a` and `<2.0.0` accepts 1.2.3-b, and the second range does not. Fails only if
+/// allocation fails.
 pub fn intersection(
     alloc: Global,
     first: &[KeySpan],
@@ -73,7 +76,10 @@ pub fn intersection(
 /// The spans of the versions of the first list that are not of the second. Both lists are such as
 /// `key_spans` returns, with the same flag, and so is the result: it has no span exactly where each
 /// version of the first list is one of the second. There are at most as many spans as in both
-/// together. Fails only if allocation fails.
+/// together.
+///
+/// Without pre-releases included this is exact, which `Range::difference` is not. Fails only if
+/// allocation fails.
 pub fn difference(
     alloc: Global,
     first: &[KeySpan],
@@ -120,16 +126,21 @@ fn combined(
     ensures few { IfOk result (λ spans.
         length spans.items ≤ length first.now + length second.now) }
 {
-    let (releases, others) = first.split_at(first.partition_point(|span| span.releases_only));
-    let (second_releases, second_others) = second.split_at(second.partition_point(
-        |span| span.releases_only,
-    ));
+    let (releases, others) = by_kind(first);
+    let (second_releases, second_others) = by_kind(second);
     let releases = swept(alloc, operation, releases, second_releases)?;
     let others = swept(alloc, operation, others, second_others)?;
     let mut spans = Vec::new(alloc);
     add_parts(releases, true, &mut spans)?;
     add_parts(others, false, &mut spans)?;
     Ok(spans)
+}
+
+// The spans of releases, and the others after them.
+fn by_kind(spans: &[KeySpan]) -> (&[KeySpan], &[KeySpan])
+    ensures { IsByKind spans.now result.0.now result.1.now }
+{
+    spans.split_at(spans.partition_point(|span| span.releases_only))
 }
 
 // The parts of the keys that are kept, found by going up both sets from end to end.

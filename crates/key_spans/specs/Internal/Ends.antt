@@ -3,7 +3,10 @@ use Rattle.std.specs.Prelude.{◌≡◌, ◌≤◌, ◌+◌, ◌&&◌, ◌||◌,
 use Rattle.std.specs.Prelude.{All, Contains, None, Option, Some}
 use Rattle.std.specs.declared.cmp.Ordering.{Ordering}
 use Rattle.std.specs.Ordering.{is_eq, is_lt}
+use Rattle.std.specs.List.{list_all}
 use Rattle.key_spans.specs.Internal.Sets.{Stretch, has, is_canonical}
+use Rattle.key_spans.specs.Spans.{is_sorted}
+use Rattle.key_spans.specs.declared.KeySpan.{KeySpan}
 use Rattle.key_spans.specs.declared.sets.Operation.{Operation}
 use Rattle.key_spans.specs.declared.sets.Operation.TheVariants as operation
 
@@ -47,6 +50,12 @@ after R p (q ∷ qs) = if is_eq (R q p) then qs else q ∷ qs
 abbrev pub turned : {A : Type 0} → Bool → A → List A → List A
 turned true p es = if is_odd es then es else es ++ p ∷ []
 turned false p es = if is_odd es then es ++ p ∷ [] else es
+
+-- spans cut in two: if they are sorted, those of releases come first
+pub record IsByKind (spans releases others : List KeySpan) : Type 0 where
+  pub whole : spans ≡ releases ++ others
+  pub releases_first : is_sorted spans ≡ true → list_all (λ s. s.releases_only) releases ≡ true
+  pub others_behind : is_sorted spans ≡ true → list_all (λ s. not s.releases_only) others ≡ true
 
 -- the points that are kept of two sets
 pub record IsSwept {A : Type 0} (R : A → A → Ordering) (keeps : Bool → Bool → Bool) (xs ys zs : List (Stretch A)) : Type 0 where

@@ -1,4 +1,4 @@
-use Rattle.std.proofs.Common.{Bor, Bool, List, Some, None, ap, length, option_map, refl, subst, sym, ◌++◌, ◌+◌, ◌<◌, ◌≡◌, ◌∙◌, []}
+use Rattle.std.proofs.Common.{Bor, Bool, List, Some, None, ap, length, option_map, subst, sym, ◌+◌, ◌<◌, ◌≡◌, ◌∙◌}
 use Rattle.std.specs.Cmp.Lexicographic.{nat_list_cmp_total, slice_cmp}
 use Rattle.std.specs.Option.{option_to_list}
 use Rattle.std.specs.Ordering.{nat_cmp}
