@@ -9,6 +9,7 @@ mod npm_texts;
 mod npm_versions;
 mod reading_texts;
 mod readme;
+mod sets;
 mod spans;
 
 use std::alloc::{AllocError, Global};
