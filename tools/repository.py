@@ -347,6 +347,22 @@ def statement_characters(crate):
     return sum(bare_characters(path) for path in specs(crate) if is_statement(path))
 
 
+# The words of a statement file's import from elsewhere; the Prelude's, types and constants that code declares are not counted.
+FOREIGN_IMPORT = re.compile(r"^use ((?:Rattle\.)?(?!Rattle\b)[\w.]+)\.\{([^}]*)\}", re.M)
+
+
+@functools.lru_cache(maxsize=None)
+def toolchain_words():
+    """Returns the words of the toolchain beside its Prelude that the statement uses, by the modules that define them."""
+    found = {}
+    for path in (path for crate in crates() for path in specs(crate) if is_statement(path)):
+        for module, names in FOREIGN_IMPORT.findall(text_of(path)):
+            crate = module.removeprefix("Rattle.").split(".")[0]
+            if crate not in crates() and ".declared." not in module and module != "Rattle.std.specs.Prelude":
+                found.setdefault(module, set()).update(name.split(" as ")[0].strip() for name in names.split(","))
+    return found
+
+
 @functools.lru_cache(maxsize=None)
 def spec_file(module):
     """Returns the file of a module of specs/, which may be one that the Lib.antt of its crate passes on."""

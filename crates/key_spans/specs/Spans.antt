@@ -70,8 +70,8 @@ IsCanonical include spans = (is_sorted spans ≡ true) × All (HasEnds include) 
 -- two such lists make the third, which holds a version where the answers of both say so
 abbrev pub IsCombined : (holds : Bool → Bool → Bool) → (xs ys zs : List KeySpan) → Type 0
 IsCombined holds xs ys zs = (include : Bool) → IsCanonical include xs → IsCanonical include ys
-    → IsCanonical include zs
-    × ((v : VersionValue) → IsVersion v → in_spans zs (key v) ≡ holds (in_spans xs (key v)) (in_spans ys (key v)))
+    → IsCanonical include zs × ((v : VersionValue) → IsVersion v
+    → in_spans zs (key v) ≡ holds (in_spans xs (key v)) (in_spans ys (key v)))
 
 -- what a span is, for equality
 abbrev pub bytes : KeySpan → List ℕ × List ℕ × Bool

@@ -20,8 +20,8 @@ ghost use Rattle.std.specs.Prelude.{option_map};
 ghost use Rattle.std.specs.Cmp.Lexicographic.{slice_cmp};
 ghost use Rattle.std.specs.Ordering.{nat_cmp};
 ghost use Rattle.key_spans.specs.Internal.Pieces.{stretches};
-ghost use Rattle.key_spans.specs.Internal.Ends.{after, ends, first_end, IsByKind, IsSwept, is_odd, keeps, least};
-ghost use Rattle.key_spans.specs.Internal.Ends.{turned};
+ghost use Rattle.key_spans.specs.Internal.Ends.{after, ends, first_end, IsByKind, IsSwept};
+ghost use Rattle.key_spans.specs.Internal.Ends.{is_odd, keeps, least, turned};
 ghost use Rattle.key_spans.specs.Spans.{IsCombined};
 
 use crate::canon::Part;
@@ -57,9 +57,8 @@ pub fn union(
 /// same flag, and so is the result: it has no span exactly where the lists have no version in
 /// common. There are at most as many spans as in both together.
 ///
-/// Without pre-releases included this is exact, which `Range::intersect` is not: the intersection of
-/// `>=1.2.3-a` and `<2.0.0` accepts 1.2.3-b, and the second range does not. Fails only if
-/// allocation fails.
+/// Without pre-releases included this is exact, which `Range::intersect` is not: of `>=1.2.3-a` and
+/// `<2.0.0` it accepts 1.2.3-b, and the second range does not. Fails only if allocation fails.
 pub fn intersection(
     alloc: Global,
     first: &[KeySpan],
