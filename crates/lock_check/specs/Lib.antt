@@ -1,3 +1,5 @@
+pub mod Collected
+pub mod Complete
 pub mod Fields
 pub mod Findings
 pub mod Index

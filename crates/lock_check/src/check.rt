@@ -1,5 +1,8 @@
 // Compares each dependency of a lock file with the version that is locked for it.
 
+ghost use Rattle.lock_check.specs.Collected.{AreAllFound, AreAllLinked, Extends, IsAmong};
+ghost use Rattle.lock_check.specs.Collected.{IsForDevelopment, IsTaken};
+ghost use Rattle.lock_check.specs.Complete.{AreAllJudged, is_locked_for_development};
 ghost use Rattle.lock_check.specs.Judged.{IsEdge, IsFinding, IsLinkOfRoot, IsLockedOutcome};
 ghost use Rattle.lock_check.specs.Judged.{IsOutcome, IsOwnPeer, as_wanted};
 ghost use Rattle.lock_check.specs.Lookups.{IsDependency, IsPackage};
@@ -8,6 +11,7 @@ ghost use Rattle.lock_check.specs.Outcomes.{IsRegistryOutcome, IsRepositoryOutco
 ghost use Rattle.lock_check.specs.Outcomes.{IsSpecifierOutcome, IsTagOutcome, IsTextOutcome};
 ghost use Rattle.lock_check.specs.Outcomes.{IsToldOf, IsUnversioned, IsWantedOutcome, address_of};
 ghost use Rattle.lock_check.specs.Outcomes.{is_link, locked_in, version_text};
+ghost use Rattle.serde_json.specs.View.{view};
 ghost use Rattle.std.specs.Prelude.{◌≡◌, ◌↔◌, All, IfOk, IsTrue, OnOk, Some, option_map};
 
 use crate::fault::Fault;
@@ -61,7 +65,8 @@ fn is_any_told(findings: &[Finding<'_>]) -> bool {
 
 /// Judges each dependency of each package.
 pub fn check<'a>(alloc: Global, lock: Lock<'a>) -> Result<Findings<'a>, AllocError>
-    ensures { IfOk result (λ found. All (IsFinding lock.entry) found.of_dependencies.items) }
+    ensures each { IfOk result (λ found. All (IsFinding lock.entry) found.of_dependencies.items) }
+    ensures all { IfOk result (λ found. AreAllJudged lock.entry found.of_dependencies.items) }
 {
     let mut faults = Vec::new(alloc);
     if lock.package("").is_none() {
@@ -90,8 +95,9 @@ fn findings_of<'a>(
     scopes: &Scopes<'a>,
     edges: &[Edge<'a>],
 ) -> Result<Vec<Finding<'a>>, AllocError>
-    ensures { All (IsEdge lock.entry) edges.now
+    ensures each { All (IsEdge lock.entry) edges.now
         → IfOk result (λ found. All (IsFinding lock.entry) found.items) }
+    ensures all { IfOk result (λ found. All (IsAmong found.items) edges.now) }
 {
     let mut findings = Vec::new(alloc);
     for (number, edge) in edges.iter().enumerate() {
@@ -107,7 +113,8 @@ fn edges<'a>(
     lock: Lock<'a>,
     faults: &mut Vec<Fault<'a>>,
 ) -> Result<Vec<Edge<'a>>, AllocError>
-    ensures { IfOk result (λ edges. All (IsEdge lock.entry) edges.items) }
+    ensures each { IfOk result (λ edges. All (IsEdge lock.entry) edges.items) }
+    ensures all { IfOk result (λ edges. AreAllLinked lock.entry edges.items) }
 {
     let mut edges = Vec::new(alloc);
     for folder in lock.packages.keys() {
@@ -126,8 +133,9 @@ fn dependencies<'a>(
     package: Package<'a>,
     faults: &mut Vec<Fault<'a>>,
 ) -> Result<Dependencies<'a>, AllocError>
-    ensures { IsPackage lock.entry «package».entry
+    ensures each { IsPackage lock.entry «package».entry
         → IfOk result (λ found. All (IsDependency lock.entry) found.first.items) }
+    ensures all { IfOk result (λ found. AreAllFound «package».entry found.first.items) }
 {
     let mut found = Dependencies::new(alloc);
     add_workspaces(lock, package, &mut found, faults)?;
@@ -141,8 +149,10 @@ fn add_edges<'a>(
     dependencies: &[Dependency<'a>],
     edges: &mut Vec<Edge<'a>>,
 ) -> Result<(), AllocError>
-    ensures { OnOk result (All (IsDependency lock.entry) dependencies.now
+    ensures each { OnOk result (All (IsDependency lock.entry) dependencies.now
         → All (IsEdge lock.entry) edges.old.items → All (IsEdge lock.entry) edges.new.items) }
+    ensures kept { OnOk result (Extends edges.old.items edges.new.items) }
+    ensures all { OnOk result (All (IsTaken lock.entry edges.new.items) dependencies.now) }
 {
     for &dependency in dependencies {
         let locked = lock.nearest(alloc, dependency.package.folder, dependency.name)?;
@@ -156,15 +166,24 @@ fn add_edges<'a>(
 
 // Whether npm takes a dependency in `requires` for one of development: it is locked as such, and
 // the package is not. npm reads no such dependencies of what is installed.
-fn is_of_development(edge: Edge<'_>) -> bool {
-    let package = edge.dependency.package;
-    edge.dependency.field == Field::Requires
-        && is_installed(package.folder)
-        && edge.locked.is_some_and(|locked| {
-            locked.is("dev")
-                && !package.is("dev")
-                && (!locked.is("optional") || package.is("optional"))
-        })
+fn is_of_development(edge: Edge<'_>) -> bool
+    ensures { IsTrue result ↔ IsForDevelopment edge.entry }
+{
+    let Dependency { package, field, .. } = edge.dependency;
+    match edge.locked {
+        Some(locked) if field == Field::Requires && is_installed(package.folder) => {
+            is_locked_for_development(package, locked)
+        }
+        _ => false,
+    }
+}
+
+// Whether a package is locked for development where the one that wants it is not.
+fn is_locked_for_development(package: Package<'_>, locked: Package<'_>) -> bool
+    ensures { result ≡ is_locked_for_development (view «package».entry.fields.now)
+        (view locked.entry.fields.now) }
+{
+    locked.is("dev") && !package.is("dev") && (!locked.is("optional") || package.is("optional"))
 }
 
 // What is found for a dependency that wants this.

@@ -1,5 +1,8 @@
 // The packages of a lock file, and what they depend on.
 
+ghost use Rattle.lock_check.specs.Collected.{AreAllFound, AreNamed, AreWorkspaces, members_in};
+ghost use Rattle.lock_check.specs.Collected.{with_first};
+ghost use Rattle.lock_check.specs.Complete.{IsRead};
 ghost use Rattle.lock_check.specs.Optional.{MayBeAbsent};
 ghost use Rattle.lock_check.specs.Fields.{is_set, member_of, text_of};
 ghost use Rattle.lock_check.specs.Judged.{IsOverride};
@@ -9,9 +12,9 @@ ghost use Rattle.lock_check.specs.Outcomes.{accepted_by};
 ghost use Rattle.lock_check.specs.Rows.{wanted_text};
 ghost use Rattle.lock_check.specs.Specifiers.{IsWantedAs};
 ghost use Rattle.lock_check.specs.declared.lock.Lock.{Lock};
-ghost use Rattle.serde_json.specs.View.{view};
-ghost use Rattle.std.specs.Prelude.{◌≡◌, ◌++◌, [], All, IfOk, IfSome, IsTrue, OnOk, codes};
-ghost use Rattle.std.specs.Prelude.{option_map};
+ghost use Rattle.serde_json.specs.View.{members_view, view};
+ghost use Rattle.std.specs.Prelude.{◌≡◌, ◌++◌, [], All, IfErr, IfNone, IfOk, IfSome, IsTrue, OnOk};
+ghost use Rattle.std.specs.Prelude.{codes, option_map};
 
 use crate::fault::Fault;
 use crate::folder::{is_installed, joined};
@@ -102,7 +105,14 @@ impl Field {
 
     // The dependencies of this field, by their names. npm reads `devDependencies` only of projects,
     // which stand outside `node_modules`.
-    fn of<'a>(self, package: Package<'a>) -> Result<Option<&'a Map<String, Value>>, Fault<'a>> {
+    fn of<'a>(self, package: Package<'a>) -> Result<Option<&'a Map<String, Value>>, Fault<'a>>
+        ensures found { IfOk result (λ found. IfSome found (λ m. members_in self
+            (view «package».entry.fields.now) ≡ Some (members_view m.now.entries))) }
+        ensures none { IfOk result (λ found. IfNone found (IsRead self «package».entry.folder.now
+            → members_in self (view «package».entry.fields.now) ≡ None)) }
+        ensures fault { IfErr result (λ fault. members_in self (view «package».entry.fields.now)
+            ≡ None) }
+    {
         if self == Field::Development && is_installed(package.folder) {
             return Ok(None);
         }
@@ -214,7 +224,8 @@ impl<'a> Dependency<'a> {
 
 impl<'a> Dependencies<'a> {
     pub fn new(alloc: Global) -> Dependencies<'a>
-        ensures { result.first.items ≡ [] }
+        ensures empty { result.first.items ≡ [] }
+        ensures named { AreNamed result }
     {
         Dependencies {
             names: BTreeSet::new(alloc),
@@ -224,7 +235,10 @@ impl<'a> Dependencies<'a> {
 
     /// Adds a dependency, unless there is one with its name.
     pub fn add(&mut self, dependency: Dependency<'a>) -> Result<(), AllocError>
-        ensures { OnOk result ((lock : Lock) → IsDependency lock dependency.entry
+        ensures named { OnOk result (AreNamed self.old → AreNamed self.new) }
+        ensures added { OnOk result (AreNamed self.old → self.new.first.items
+            ≡ with_first self.old.first.items dependency.entry) }
+        ensures each { OnOk result ((lock : Lock) → IsDependency lock dependency.entry
             → All (IsDependency lock) self.old.first.items
             → All (IsDependency lock) self.new.first.items) }
     {
@@ -344,9 +358,11 @@ pub fn add_dependencies<'a>(
     found: &mut Dependencies<'a>,
     faults: &mut Vec<Fault<'a>>,
 ) -> Result<(), AllocError>
-    ensures { OnOk result ((lock : Lock) → IsPackage lock «package».entry
+    ensures each { OnOk result ((lock : Lock) → IsPackage lock «package».entry
         → All (IsDependency lock) found.old.first.items
         → All (IsDependency lock) found.new.first.items) }
+    ensures all { OnOk result (AreWorkspaces «package».entry found.old
+        → AreAllFound «package».entry found.new.first.items) }
 {
     for &field in FIELDS {
         let ranges = match field.of(package) {

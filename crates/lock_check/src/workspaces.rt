@@ -1,5 +1,6 @@
 // The workspaces of the root project.
 
+ghost use Rattle.lock_check.specs.Collected.{AreWorkspaces};
 ghost use Rattle.lock_check.specs.Lookups.{IsDependency, IsPackage};
 ghost use Rattle.std.specs.Prelude.{All, OnOk};
 
@@ -88,9 +89,11 @@ pub fn add_workspaces<'a>(
     found: &mut Dependencies<'a>,
     faults: &mut Vec<Fault<'a>>,
 ) -> Result<(), AllocError>
-    ensures { OnOk result (IsPackage lock.entry root.entry
+    ensures each { OnOk result (IsPackage lock.entry root.entry
         → All (IsDependency lock.entry) found.old.first.items
         → All (IsDependency lock.entry) found.new.first.items) }
+    ensures alone { OnOk result (AreWorkspaces root.entry found.old
+        → AreWorkspaces root.entry found.new) }
 {
     let list = match patterns(root) {
         _ if !root.folder.is_empty() => return Ok(()),
@@ -126,9 +129,11 @@ fn add_workspace<'a>(
     folder: &'a str,
     found: &mut Dependencies<'a>,
 ) -> Result<(), AllocError>
-    ensures { OnOk result (IsPackage lock.entry root.entry
+    ensures each { OnOk result (IsPackage lock.entry root.entry
         → All (IsDependency lock.entry) found.old.first.items
         → All (IsDependency lock.entry) found.new.first.items) }
+    ensures alone { OnOk result (AreWorkspaces root.entry found.old
+        → AreWorkspaces root.entry found.new) }
 {
     let own = lock.package(folder).and_then(|it| it.text("name"));
     let name = own.unwrap_or(name_of(folder));

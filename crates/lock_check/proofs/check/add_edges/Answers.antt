@@ -1,25 +1,60 @@
-use Rattle.std.proofs.Common.{All, ◌∷◌, ◌++◌, ◌∙◌, [], ap, arith, subst, sym}
-use Rattle.std.proofs.lemmas.List.Elements.{All-get_or, All-push, All-same}
+use Rattle.std.proofs.Common.{◌≡◌, ◌∷◌, ◌++◌, ◌∙◌, [], ap, arith, subst, sym}
+use Rattle.std.proofs.lemmas.List.{append-nil}
+use Rattle.std.proofs.lemmas.List.Elements.{All-from_all_within, All-get_or, All-push, All-same, AllWithin-more, AllWithin-upto, at_read}
+use Rattle.lock_check.proofs.Completing.{extends-more, extends-same, taken-kept, taken-out, taken-push}
+use Rattle.lock_check.specs.Collected.{Extends, IsTaken}
 use Rattle.lock_check.specs.Judged.{IsEdge}
 use Rattle.lock_check.specs.Lookups.{IsDependency}
 use Rattle.lock_check.specs.declared.check.Edge.{Edge}
 use Rattle.lock_check.proofs.check.add_edges.Goals.{then-not-is_of_development+in_ok-push, else-not-is_of_development}
 use Rattle.lock_check.proofs.check.add_edges.Goals as goal
 
+pub loop-dependency-init : goal.loop-dependency-init
+loop-dependency-init c = record {
+  each = λ deps all. all;
+  kept = ([], sym (append-nil c.args.edges.now.items));
+  all = λ k d low high. absurd (omega arith);
+}
+
 pub loop-dependency-preserved : goal.loop-dependency-preserved
-loop-dependency-preserved c = λ deps all.
+loop-dependency-preserved c =
     let lock = c.args.lock in
-    let each = c.loop-dependency.invariant deps all in
+    let r = c.dependency-item.result in
+    let i = c.loop-dependency.dependency-index in
+    let before = c.loop-dependency.edges.items in
+    let edge : Edge = record { dependency = r; locked = c.in_ok-locked.locked } in
     elim c.if-not-is_of_development.branch [
       | then-not-is_of_development+in_ok-push w ↦
-          let r = c.dependency-item.result in
-          let edge : Edge = record { dependency = r; locked = c.in_ok-locked.locked } in
-          let is = subst (λ d. IsDependency lock d) (sym c.dependency-item.is)
-          (All-get_or (IsDependency lock) c.args.dependencies.now c.loop-dependency.dependency-index r (omega arith) deps) in
-          All-same (IsEdge lock) c.if-not-is_of_development.edges.items (c.loop-dependency.edges.items ++ edge ∷ [])
-          (ap (λ v. v.items) w.edges-is ∙ w.in_ok-push.ensures.items)
-          (All-push (IsEdge lock) c.loop-dependency.edges.items edge each (is, c.in_ok-locked.ensures))
+          let after = c.if-not-is_of_development.edges.items in
+          let same : after ≡ before ++ edge ∷ [] = ap (λ v. v.items) w.edges-is ∙ w.in_ok-push.ensures.items in
+          let longer : Extends before after = (edge ∷ [], same) in record {
+            each = λ deps all.
+                let is = subst (λ d. IsDependency lock d) (sym c.dependency-item.is)
+                (All-get_or (IsDependency lock) c.args.dependencies.now i r (omega arith) deps) in
+                All-same (IsEdge lock) after (before ++ edge ∷ []) same
+                (All-push (IsEdge lock) before edge (c.loop-dependency.invariant.each deps all) (is, c.in_ok-locked.ensures));
+            kept = extends-more c.args.edges.now.items before after edge c.loop-dependency.invariant.kept same;
+            all = AllWithin-more (IsTaken lock after) c.args.dependencies.now 0 i
+                (λ k d low high. taken-kept lock before after _ longer (c.loop-dependency.invariant.all k d low high))
+                (at_read c.args.dependencies.now (IsTaken lock after) i r (omega arith) c.dependency-item.is
+                (taken-push lock before after edge same));
+          }
       | else-not-is_of_development w ↦
-          All-same (IsEdge lock) c.if-not-is_of_development.edges.items c.loop-dependency.edges.items
-          (ap (λ v. v.items) w.edges-is) each
+          let after = c.if-not-is_of_development.edges.items in
+          let same : after ≡ before = ap (λ v. v.items) w.edges-is in
+          let longer : Extends before after = ([], same ∙ sym (append-nil before)) in record {
+            each = λ deps all. All-same (IsEdge lock) after before same (c.loop-dependency.invariant.each deps all);
+            kept = extends-same c.args.edges.now.items before after c.loop-dependency.invariant.kept same;
+            all = AllWithin-more (IsTaken lock after) c.args.dependencies.now 0 i
+                (λ k d low high. taken-kept lock before after _ longer (c.loop-dependency.invariant.all k d low high))
+                (at_read c.args.dependencies.now (IsTaken lock after) i r (omega arith) c.dependency-item.is
+                (taken-out lock after edge c.in_ok-locked.ensures
+                (c.is_of_development.ensures.0 w.if-not-is_of_development.false)));
+          }
     ]
+
+pub returns-clause-all : goal.returns-clause-all
+returns-clause-all c =
+    All-from_all_within (IsTaken c.args.lock c.loop-dependency.edges.items) c.args.dependencies.now
+    (AllWithin-upto (IsTaken c.args.lock c.loop-dependency.edges.items) c.args.dependencies.now 0
+    c.loop-dependency.dependency-index _ (omega arith) c.loop-dependency.invariant.all)

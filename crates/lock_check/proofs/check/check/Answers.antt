@@ -1,9 +1,18 @@
 use Rattle.std.proofs.lemmas.List.Elements.{All-same}
+use Rattle.lock_check.proofs.Completing.{judged-all}
+use Rattle.lock_check.specs.Collected.{AreAllLinked}
 use Rattle.lock_check.specs.Judged.{IsEdge}
+use Rattle.std.proofs.Common.{subst, sym}
 use Rattle.lock_check.proofs.check.check.Goals as goal
 
-pub returns : goal.returns
-returns c =
-    c.in_ok-of_dependencies.ensures
+pub returns-clause-each : goal.returns-clause-each
+returns-clause-each c =
+    c.in_ok-of_dependencies.ensures.each
     (All-same (IsEdge c.args.lock) c.deref-2.result.now c.in_ok-edges.edges.items c.deref-2.ensures.value
-    c.in_ok-edges.ensures)
+    c.in_ok-edges.ensures.each)
+
+pub returns-clause-all : goal.returns-clause-all
+returns-clause-all c =
+    judged-all c.args.lock c.deref-2.result.now c.in_ok-of_dependencies.of_dependencies.items
+    (subst (AreAllLinked c.args.lock) (sym c.deref-2.ensures.value) c.in_ok-edges.ensures.all)
+    c.in_ok-of_dependencies.ensures.all

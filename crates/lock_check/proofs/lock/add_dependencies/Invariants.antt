@@ -1,12 +1,22 @@
-use Rattle.std.proofs.Common.{All}
+use Rattle.std.proofs.Common.{All, map}
+use Rattle.std.specs.Map.Iter.{deref}
+use Rattle.lock_check.proofs.Collecting.{AreUpto, AreUptoName}
+use Rattle.lock_check.specs.Collected.{AreWorkspaces}
 use Rattle.lock_check.specs.Lookups.{IsDependency, IsPackage}
 use Rattle.lock_check.specs.declared.lock.Lock.{Lock}
 use Rattle.lock_check.proofs.lock.add_dependencies.Given as goal
 
 abbrev pub invariant-loop-field : goal.invariant-loop-field
-invariant-loop-field l = (lock : Lock) → IsPackage lock l.package → All (IsDependency lock) l.fn.found.first.items
-    → All (IsDependency lock) l.found.first.items
+invariant-loop-field l = record {
+  each : (lock : Lock) → IsPackage lock l.package → All (IsDependency lock) l.fn.found.first.items
+      → All (IsDependency lock) l.found.first.items;
+  all : AreWorkspaces l.package l.fn.found → AreUpto l.package l.field-index l.found;
+}
 
 abbrev pub invariant-loop-name : goal.invariant-loop-name
-invariant-loop-name l = (lock : Lock) → IsPackage lock l.package → All (IsDependency lock) l.fn.found.first.items
-    → All (IsDependency lock) l.found.first.items
+invariant-loop-name l = record {
+  each : (lock : Lock) → IsPackage lock l.package → All (IsDependency lock) l.fn.found.first.items
+      → All (IsDependency lock) l.found.first.items;
+  all : AreWorkspaces l.package l.fn.found
+      → AreUptoName l.package l.field (map deref l.yielded) l.found;
+}

@@ -1,11 +1,18 @@
 use Rattle.std.proofs.Common.{All}
+use Rattle.lock_check.specs.Collected.{AreWorkspaces}
 use Rattle.lock_check.specs.Lookups.{IsDependency, IsPackage}
 use Rattle.lock_check.proofs.workspaces.add_workspaces.Given as goal
 
 abbrev pub invariant-loop-item : goal.invariant-loop-item
-invariant-loop-item l = IsPackage l.lock l.root → All (IsDependency l.lock) l.fn.found.first.items
-    → All (IsDependency l.lock) l.found.first.items
+invariant-loop-item l = record {
+  each : IsPackage l.lock l.root → All (IsDependency l.lock) l.fn.found.first.items
+      → All (IsDependency l.lock) l.found.first.items;
+  alone : AreWorkspaces l.root l.fn.found → AreWorkspaces l.root l.found;
+}
 
 abbrev pub invariant-loop-folder : goal.invariant-loop-folder
-invariant-loop-folder l = IsPackage l.lock l.root → All (IsDependency l.lock) l.fn.found.first.items
-    → All (IsDependency l.lock) l.found.first.items
+invariant-loop-folder l = record {
+  each : IsPackage l.lock l.root → All (IsDependency l.lock) l.fn.found.first.items
+      → All (IsDependency l.lock) l.found.first.items;
+  alone : AreWorkspaces l.root l.fn.found → AreWorkspaces l.root l.found;
+}

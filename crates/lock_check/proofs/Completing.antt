@@ -1,0 +1,188 @@
+-- No dependency is lost on the way to the findings.
+use Rattle.std.proofs.Common.{◌≡◌, ◌≤◌, ◌∷◌, ◌++◌, ◌∙◌, [], All, Contains, List, None, Option, Some, ℕ}
+use Rattle.std.proofs.Common.{Global, String, ap, append_assoc, arith, inl, inr, refl, string_bytes, subst, sym}
+use Rattle.std.proofs.lemmas.List.Elements.{All-contains, Contains-append_left, Contains-push, Contains-push_cases}
+use Rattle.std.specs.Map.{keys_of}
+use Rattle.std.specs.Prelude.{IsSome, IsSomeAnd}
+use Rattle.serde_json.specs.Data.{Data}
+use Rattle.serde_json.specs.Find.{get}
+use Rattle.serde_json.specs.View.{view}
+use Rattle.lock_check.proofs.Collecting.{HasKey, key-of}
+use Rattle.lock_check.specs.Collected.{AreAllFound, AreAllLinked, AreAllLocked, Extends, IsAmong, IsForDevelopment}
+use Rattle.lock_check.specs.Collected.{IsTaken}
+use Rattle.lock_check.specs.Complete.{AreAllJudged, IsLeftOut, IsOf, IsOfDevelopment, rank}
+use Rattle.lock_check.specs.Judged.{as_wanted}
+use Rattle.lock_check.specs.Lookups.{IsAt, IsDependency, IsNearest, IsPackage, packages_of}
+use Rattle.lock_check.specs.declared.check.Edge.{Edge}
+use Rattle.lock_check.specs.declared.finding.Finding.{Finding}
+use Rattle.lock_check.specs.declared.lock.Dependency.{Dependency}
+use Rattle.lock_check.specs.declared.lock.Field.{Field}
+use Rattle.lock_check.specs.declared.lock.Field.TheVariants as field
+use Rattle.lock_check.specs.declared.lock.Lock.{Lock}
+use Rattle.lock_check.specs.declared.lock.Package.{Package}
+use Rattle.lock_check.specs.declared.lock.Wanted.{Wanted}
+
+-- ---- with what is locked for them
+
+pub extends-more : (before edges after : List Edge) (e : Edge) → Extends before edges → after ≡ edges ++ e ∷ []
+    → Extends before after
+extends-more before edges after e h same =
+    (h.0 ++ e ∷ [], same ∙ ap (λ es. es ++ e ∷ []) h.1 ∙ append_assoc before h.0 (e ∷ []))
+
+pub extends-same : (before edges after : List Edge) → Extends before edges → after ≡ edges → Extends before after
+extends-same before edges after h same = (h.0, same ∙ h.1)
+
+pub edge-kept : (before after : List Edge) (e : Edge) → Extends before after → Contains before e → Contains after e
+edge-kept before after e h at =
+    subst (λ es. Contains es e) (sym h.1) (Contains-append_left before h.0 e at)
+
+pub taken-kept : (lock : Lock) (before after : List Edge) (d : Dependency) → Extends before after
+    → IsTaken lock before d → IsTaken lock after d
+taken-kept lock before after d h taken = elim taken [
+  | inl has ↦ inl (has.0, edge-kept before after has.0 h has.1, has.2)
+  | inr out ↦ inr out
+]
+
+left_out : (lock : Lock) (folder name : List ℕ) (fields : Data) (f : Field) (locked : Option Package)
+    → IsNearest lock folder name locked
+    → IsSomeAnd locked (λ p. IsOfDevelopment folder fields f (view p.fields.now))
+    → IsLeftOut lock folder fields f name
+left_out lock folder name fields f None near is = absurd is
+left_out lock folder name fields f (Some p) near is = (p, near, is)
+
+pub taken-out : (lock : Lock) (edges : List Edge) (e : Edge)
+    → IsNearest lock e.dependency.package.folder.now e.dependency.name.now e.locked → IsForDevelopment e
+    → IsTaken lock edges e.dependency
+taken-out lock edges e near is =
+    let d = e.dependency in
+    inr (left_out lock d.package.folder.now d.name.now (view d.package.fields.now) d.field e.locked near is)
+
+pub taken-push : (lock : Lock) (edges after : List Edge) (e : Edge) → after ≡ edges ++ e ∷ []
+    → IsTaken lock after e.dependency
+taken-push lock edges after e same =
+    inl (e, subst (λ es. Contains es e) (sym same) (Contains-push edges e), refl)
+
+-- ---- those of a package
+
+requires_last : (f : Field) → 5 ≤ rank f → f ≡ field.Requires
+requires_last field.Workspaces h = absurd (omega arith)
+requires_last field.Development h = absurd (omega arith)
+requires_last field.Optional h = absurd (omega arith)
+requires_last field.Production h = absurd (omega arith)
+requires_last field.Peer h = absurd (omega arith)
+requires_last field.Requires h = refl
+
+same_fields : (o : Option Data) (a b : Data) → o ≡ Some a → o ≡ Some b → a ≡ b
+same_fields o a b is so = cc
+
+pub locked-all : (lock : Lock) (p : Package) (found : List Dependency) (edges : List Edge) → IsPackage lock p
+    → All (IsDependency lock) found → AreAllFound p found → All (IsTaken lock edges) found
+    → AreAllLocked lock p.folder.now (view p.fields.now) edges
+locked-all lock p found edges is each all taken = λ f name w.
+    let h = all f name w in
+    let d = h.0 in
+    elim (All-contains (IsTaken lock edges) found d taken h.1) [
+      | inl has ↦ inl (has.0, has.1, subst (IsOf p.folder.now f name) (sym has.2) h.2)
+      | inr out ↦
+          let folder = h.2.of_folder in
+          let dev = out.2 in
+          let own = (All-contains (IsDependency lock) found d each h.1).0 in
+          let fields : view d.package.fields.now ≡ view p.fields.now =
+          same_fields (get p.folder.now (packages_of lock)) (view d.package.fields.now) (view p.fields.now)
+          (subst (λ at. get at (packages_of lock) ≡ Some (view d.package.fields.now)) folder own) is in
+          let last : f ≡ field.Requires =
+          requires_last f (subst (λ g. rank g ≤ rank f) dev.by_requires h.2.of_field) in
+          inr (
+            out.0,
+            subst (λ n. IsNearest lock p.folder.now n (Some out.0)) h.2.of_name
+                (subst (λ at. IsNearest lock at d.name.now (Some out.0)) folder out.1),
+            subst (λ v. IsOfDevelopment p.folder.now v f (view out.0.fields.now)) fields
+                (subst (λ at. IsOfDevelopment at (view d.package.fields.now) f (view out.0.fields.now)) folder
+                (subst (λ g. IsOfDevelopment d.package.folder.now (view d.package.fields.now) g (view out.0.fields.now))
+                (dev.by_requires ∙ sym last) dev)),
+          )
+    ]
+
+-- ---- those of all packages
+
+-- of the packages in these folders
+abbrev pub AreLinked : Lock → List (String Global) → List Edge → Type 0
+AreLinked lock keys edges = (folder : List ℕ) (fields : Data) → get folder (packages_of lock) ≡ Some fields
+    → HasKey keys folder → AreAllLocked lock folder fields edges
+
+locked-kept : (lock : Lock) (folder : List ℕ) (fields : Data) (before after : List Edge) → Extends before after
+    → AreAllLocked lock folder fields before → AreAllLocked lock folder fields after
+locked-kept lock folder fields before after h all = λ f name w. elim (all f name w) [
+  | inl has ↦ inl (has.0, edge-kept before after has.0 h has.1, has.2)
+  | inr out ↦ inr out
+]
+
+pub linked-more : (lock : Lock) (keys : List (String Global)) (k : String Global) (before after : List Edge)
+    → Extends before after
+    → ((fields : Data) → get (string_bytes k) (packages_of lock) ≡ Some fields
+    → AreAllLocked lock (string_bytes k) fields after)
+    → AreLinked lock keys before → AreLinked lock (keys ++ k ∷ []) after
+linked-more lock keys k before after h here all = λ folder fields at key.
+    elim (Contains-push_cases keys k key.0 key.1) [
+      | inl earlier ↦ locked-kept lock folder fields before after h (all folder fields at (key.0, earlier, key.2))
+      | inr same ↦
+          let is : string_bytes k ≡ folder = ap string_bytes same ∙ key.2 in
+          subst (λ at. AreAllLocked lock at fields after) is
+          (here fields (subst (λ at. get at (packages_of lock) ≡ Some fields) (sym is) at))
+    ]
+
+-- what the lock file has in a folder
+pub linked-at : (lock : Lock) (folder : List ℕ) (p : Package) (edges : List Edge) → IsAt lock folder (Some p)
+    → AreAllLocked lock p.folder.now (view p.fields.now) edges → (fields : Data)
+    → get folder (packages_of lock) ≡ Some fields → AreAllLocked lock folder fields edges
+linked-at lock folder p edges is all fields at =
+    subst (λ v. AreAllLocked lock folder v edges)
+    (same_fields (get folder (packages_of lock)) (view p.fields.now) fields is.1 at)
+    (subst (λ place. AreAllLocked lock place (view p.fields.now) edges) is.0 all)
+
+pub package-at : (lock : Lock) (folder : List ℕ) (p : Package) → IsAt lock folder (Some p) → IsPackage lock p
+package-at lock folder p is =
+    subst (λ place. get place (packages_of lock) ≡ Some (view p.fields.now)) (sym is.0) is.1
+
+pub linked-none : (lock : Lock) (folder : List ℕ) (edges : List Edge) → IsAt lock folder None → (fields : Data)
+    → get folder (packages_of lock) ≡ Some fields → AreAllLocked lock folder fields edges
+linked-none lock folder edges none fields at = absurd (cc)
+
+-- all of them
+pub linked-all : (lock : Lock) (keys : List (String Global)) (edges : List Edge)
+    → keys ≡ keys_of lock.packages.now.entries → AreLinked lock keys edges → AreAllLinked lock edges
+linked-all lock keys edges same linked = λ folder fields at. linked folder fields at
+    (subst (λ ks. HasKey ks folder) (sym same)
+    (key-of folder lock.packages.now.entries (subst (IsSome {T = Data}) (sym at) refl)))
+
+-- ---- with what is found for them
+
+as_wanted-of : (folder : List ℕ) (f : Field) (name : List ℕ) (d : Dependency) (w : Option Wanted)
+    → IsOf folder f name d → IsOf folder f name (as_wanted d w)
+as_wanted-of folder f name d None is = is
+as_wanted-of folder f name d (Some w) is = record {
+  of_folder = is.of_folder;
+  of_name = is.of_name;
+  of_field = is.of_field;
+}
+
+pub among-more : (found : List Finding) (g : Finding) (e : Edge) → IsAmong found e → IsAmong (found ++ g ∷ []) e
+among-more found g e h = (h.0, Contains-append_left found (g ∷ []) h.0 h.1, h.2)
+
+pub among-push : (found : List Finding) (g : Finding) (e : Edge) (w : Option Wanted)
+    → g.dependency ≡ as_wanted e.dependency w → IsAmong (found ++ g ∷ []) e
+among-push found g e w is = (g, Contains-push found g, (w, is))
+
+pub judged-all : (lock : Lock) (edges : List Edge) (found : List Finding) → AreAllLinked lock edges
+    → All (IsAmong found) edges → AreAllJudged lock found
+judged-all lock edges found linked among = λ folder fields f name at w.
+    elim (linked folder fields at f name w) [
+      | inl has ↦
+          let h = All-contains (IsAmong found) edges has.0 among has.1 in
+          inl (
+            h.0,
+            h.1,
+            subst (IsOf folder f name) (sym h.2.1) (as_wanted-of folder f name has.0.dependency h.2.0 has.2),
+          )
+      | inr out ↦ inr out
+    ]
