@@ -55,8 +55,7 @@ mod specifier;
 mod verdict;
 mod workspaces;
 
-use crate::check::{Findings, check};
-use crate::finding::Counts;
+use crate::check::check;
 use crate::help::{HELP, USAGE, VERSION};
 use crate::index::Index;
 use crate::input::{Input, LockFile, index_text, read};
@@ -66,8 +65,8 @@ use crate::options::{Format, Options, Request};
 use crate::outlook::{Totals, outlooks};
 use crate::outlook_row::{outlook_rows, write_outlooks, write_totals};
 use crate::reading::unmarked;
-use crate::report::write_rows;
-use crate::row::{fault_rows, rows};
+use crate::report::{Report, report_on, write_rows};
+use crate::row::fault_rows;
 use crate::shown::Shown;
 use anyhow::{Context, Result, bail};
 use nodejs_semver::Failure;
@@ -123,39 +122,28 @@ fn tell(rt: &HostRuntime, input: Input, options: Options<'_>) -> Result<ExitCode
         packages: &packages,
         is_nested,
     };
-    let findings = check(alloc, lock)?;
-    if let Some(index) = options.index {
-        return tell_outdated(rt, lock, findings, &name, &text, index, options);
-    }
-    let counts = Counts::of(lock, &findings);
-    let places = if findings.are_told() {
-        text.as_str()
-    } else {
-        ""
+    let text = unmarked(&text);
+    let Report { output, status } = match options.index {
+        Some(index) => outdated(rt, lock, &name, text, index, options)?,
+        None => report_on(alloc, lock, &name, text, options)?,
     };
-    let lines = Lines::of(alloc, unmarked(places), is_nested)?;
-    let rows = rows(alloc, &findings, &lines, options.is_quiet)?;
-    let mut output = String::new(alloc);
-    write_rows(alloc, options.format, &name, &rows, &mut output)?;
-    if !options.is_quiet {
-        counts.write(alloc, options.format == Format::Json, &mut output)?;
-    }
-    print_all(rt, &output)?;
-    Ok(ExitCode::from(counts.exit_status()))
+    let mut stdout = rt.stdout();
+    stdout.write_all(output.as_bytes())?;
+    stdout.flush()?;
+    Ok(ExitCode::from(status))
 }
 
-// Prints what the locked versions may be raised to by an index, and what is malformed, and returns
-// the exit status.
-fn tell_outdated<'a>(
+// What the locked versions may be raised to by the index at a path, and what is malformed.
+fn outdated(
     rt: &HostRuntime,
-    lock: Lock<'a>,
-    findings: Findings<'a>,
-    name: &str,
+    lock: Lock<'_>,
+    file: &str,
     text: &str,
     path: &str,
     options: Options<'_>,
-) -> Result<ExitCode> {
+) -> Result<Report> {
     let alloc = rt.alloc();
+    let findings = check(alloc, lock)?;
     let index_text = index_text(rt, path)?;
     let index = match Index::of(alloc, unmarked(&index_text)) {
         Ok(index) => index,
@@ -164,25 +152,20 @@ fn tell_outdated<'a>(
     };
     let outlooks = outlooks(alloc, lock, &index, &findings.of_dependencies)?;
     let totals = Totals::of(lock, &outlooks, findings.faults.len());
-    let lines = Lines::of(alloc, unmarked(text), lock.is_nested)?;
+    let lines = Lines::of(alloc, text, lock.is_nested)?;
     let is_json = options.format == Format::Json;
     let mut output = String::new(alloc);
     let faults = fault_rows(alloc, &findings.faults, &lines)?;
-    write_rows(alloc, options.format, name, &faults, &mut output)?;
+    write_rows(alloc, options.format, file, &faults, &mut output)?;
     let rows = outlook_rows(alloc, &outlooks, &lines, options.is_quiet)?;
-    write_outlooks(alloc, is_json, name, &rows, &mut output)?;
+    write_outlooks(alloc, is_json, file, &rows, &mut output)?;
     if !options.is_quiet {
         write_totals(alloc, totals, is_json, &mut output)?;
     }
-    print_all(rt, &output)?;
-    Ok(ExitCode::from(totals.exit_status()))
-}
-
-fn print_all(rt: &HostRuntime, output: &str) -> Result<()> {
-    let mut stdout = rt.stdout();
-    stdout.write_all(output.as_bytes())?;
-    stdout.flush()?;
-    Ok(())
+    Ok(Report {
+        output,
+        status: totals.exit_status(),
+    })
 }
 
 // The packages of a lock file, by their folders.
