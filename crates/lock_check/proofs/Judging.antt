@@ -1,13 +1,15 @@
 -- The findings of the dependencies of a lock file.
-use Rattle.std.proofs.Common.{◌≡◌, IfSome, List, None, Option, Some, ap, ◌∙◌, inl, inr, refl, subst, sym, ℕ}
+use Rattle.std.proofs.Common.{◌≡◌, ◌⊎◌, [], IfSome, List, None, Option, Some, ap, ◌∙◌, inl, inr, refl, subst, sym, ℕ}
 use Rattle.lock_check.specs.Judged.{IsEdge, IsFinding, IsOutcome, IsOverridden, as_wanted}
-use Rattle.lock_check.specs.Lookups.{IsDependency, IsNearest, IsWritten}
+use Rattle.std.specs.Prelude.{IsNone}
+use Rattle.lock_check.specs.Lookups.{HasOverrides, HasRules, IsAt, IsDependency, IsNearest, IsWritten}
 use Rattle.lock_check.specs.declared.check.Edge.{Edge}
 use Rattle.lock_check.specs.declared.finding.Finding.{Finding}
 use Rattle.lock_check.specs.declared.lock.Dependency.{Dependency}
 use Rattle.lock_check.specs.declared.lock.Lock.{Lock}
 use Rattle.lock_check.specs.declared.lock.Package.{Package}
 use Rattle.lock_check.specs.declared.lock.Wanted.{Wanted}
+use Rattle.lock_check.specs.declared.overrides.Overrides.{Overrides}
 use Rattle.lock_check.specs.declared.lock.Wanted.TheVariants as wanted
 
 -- what is wanted after the overrides is written by the package too, unless it is one of them
@@ -43,3 +45,17 @@ finding-made lock e w f is how same out = record {
     out,
   );
 }
+
+-- a reference to nothing is one of `overrides`
+pub referred : (lock : Lock) (d : Dependency) (w : Option Wanted) (o : Overrides)
+    → (o.rules.items ≡ [] → w ≡ Some d.wanted) → (o.rules.items ≡ []) ⊎ HasRules lock → IsNone w → HasRules lock
+referred lock d w o kept (inl none) is =
+    let some : IsNone (Some d.wanted) = subst (IsNone {T = Wanted}) (kept none) is in absurd (cc)
+referred lock d w o kept (inr has) is = has
+
+-- the rules are those of the root project
+pub ruled : (lock : Lock) (root : Option Package) (o s : Overrides) → IsAt lock [] root
+    → (o.rules.items ≡ []) ⊎ HasOverrides root → s.rules.items ≡ o.rules.items
+    → (s.rules.items ≡ []) ⊎ HasRules lock
+ruled lock root o s at (inl none) same = inl (same ∙ none)
+ruled lock root o s at (inr has) same = inr (root, at, has)

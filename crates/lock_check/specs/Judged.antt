@@ -5,7 +5,7 @@ use Rattle.std.specs.List.{starts_with}
 use Rattle.std.specs.Str.Iter.{HasSubslice}
 use Rattle.serde_json.specs.View.{view}
 use Rattle.lock_check.specs.Fields.{is_set}
-use Rattle.lock_check.specs.Lookups.{IsBehind, IsDependency, IsNearest}
+use Rattle.lock_check.specs.Lookups.{HasRules, IsBehind, IsDependency, IsNearest}
 use Rattle.lock_check.specs.Optional.{MayBeAbsent}
 use Rattle.lock_check.specs.Outcomes.{IsJudged, Locked}
 use Rattle.lock_check.specs.Specifiers.{IsName}
@@ -62,7 +62,7 @@ IsOverride _ = ⊥
 
 -- what is found for a dependency for which that is locked
 pub data IsOutcome (lock : Lock) (d : Dependency) : Option Package → Outcome → Type 0 where
-  no_reference : (locked : Option Package) → IsOutcome lock d locked outcome.NoReference
+  no_reference : (locked : Option Package) → HasRules lock → IsOutcome lock d locked outcome.NoReference
   conflict : (locked : Option Package) → d.package.folder.now ≡ [] → IsOverride d.wanted
       → IsOutcome lock d locked outcome.Conflict
   absent : MayBeAbsent (view d.package.fields.now) d.name.now d.field true

@@ -1,6 +1,6 @@
 -- Statement: which package of a lock file is locked for a dependency, and what a package writes of it.
 use Rattle.std.specs.Prelude.{⊤, ◌≡◌, ◌≢◌, ◌⊎◌, ◌<◌, ℕ, true, false, List, [], ◌∷◌, ◌++◌, Option, Some, None}
-use Rattle.std.specs.Prelude.{IfSome, codes, length, option_and_then}
+use Rattle.std.specs.Prelude.{IfSome, IsSome, IsSomeAnd, codes, length, option_and_then}
 use Rattle.serde_json.specs.Data.{Data, object}
 use Rattle.serde_json.specs.Find.{as_str, get}
 use Rattle.serde_json.specs.View.{members_view, view}
@@ -25,6 +25,14 @@ IsAt lock folder (Some p) =
 
 abbrev pub IsPackage : Lock → Package → Type 0
 IsPackage lock p = get p.folder.now (packages_of lock) ≡ Some (view p.fields.now)
+
+-- the package has a field `overrides`
+abbrev pub HasOverrides : Option Package → Type 0
+HasOverrides root = IsSomeAnd root (λ p. IsSome (get (codes "overrides") (view p.fields.now)))
+
+-- the root project has one
+abbrev pub HasRules : Lock → Type 0
+HasRules lock = (root : Option Package) × IsAt lock [] root × HasOverrides root
 
 -- the folder itself, or one around it
 abbrev pub IsAround : List ℕ → List ℕ → Type 0

@@ -1,8 +1,9 @@
 // `overrides` of the root project, which changes what packages depend on.
 
 ghost use Rattle.lock_check.specs.Judged.{IsOverridden};
+ghost use Rattle.lock_check.specs.Lookups.{HasOverrides};
 ghost use Rattle.lock_check.specs.Replacements.{IsReplacement};
-ghost use Rattle.std.specs.Prelude.{IfSome};
+ghost use Rattle.std.specs.Prelude.{◌≡◌, ◌⊎◌, [], IfOk, IfSome, IsNone};
 
 use crate::fault::Fault;
 use crate::lock::{Dependency, Package, Wanted};
@@ -141,24 +142,43 @@ fn split_key(key: &str) -> (&str, &str) {
     )
 }
 
+// The object `overrides` of the root project, if it has one.
+fn outermost<'a>(
+    alloc: Global,
+    root: Option<Package<'a>>,
+    faults: &mut Vec<Fault<'a>>,
+) -> Result<Vec<(Scope, &'a Map<String, Value>)>, AllocError>
+    ensures { IfOk result (λ unread. (unread.items ≡ []) ⊎ HasOverrides root.entry) }
+{
+    let mut unread = Vec::new(alloc);
+    let Some(package) = root else {
+        return Ok(unread);
+    };
+    let Some(value) = package.fields.get("overrides") else {
+        return Ok(unread);
+    };
+    match value.as_object() {
+        Some(object) => unread.push((Scope::Top, object))?,
+        None => faults.push(Fault::Field {
+            folder: "",
+            field: "overrides",
+        })?,
+    }
+    Ok(unread)
+}
+
 impl<'a> Overrides<'a> {
     /// The rules of the root project. Each that is malformed is added to `faults`.
     pub fn of(
         alloc: Global,
         root: Option<Package<'a>>,
         faults: &mut Vec<Fault<'a>>,
-    ) -> Result<Overrides<'a>, AllocError> {
+    ) -> Result<Overrides<'a>, AllocError>
+        ensures { IfOk result (λ overrides. (overrides.rules.items ≡ [])
+            ⊎ HasOverrides root.entry) }
+    {
         let mut rules = Vec::new(alloc);
-        let mut unread: Vec<(Scope, &'a Map<String, Value>)> = Vec::new(alloc);
-        if let Some(value) = root.and_then(|it| it.fields.get("overrides")) {
-            match value.as_object() {
-                Some(object) => unread.push((Scope::Top, object))?,
-                None => faults.push(Fault::Field {
-                    folder: "",
-                    field: "overrides",
-                })?,
-            }
-        }
+        let mut unread = outermost(alloc, root, faults)?;
         for _ in 0..u64::MAX {
             let Some((outer, object)) = unread.pop() else {
                 break;
@@ -210,7 +230,8 @@ impl<'a> Overrides<'a> {
     /// What a dependency wants if the package that it means stands in this scope, or `None` if
     /// that is a reference to no dependency of the root project.
     pub fn wanted(&self, scope: Scope, dependency: Dependency<'a>) -> Option<Wanted<'a>>
-        ensures { IfSome result (IsOverridden dependency.entry.wanted) }
+        ensures some { IfSome result (IsOverridden dependency.entry.wanted) }
+        ensures kept { self.now.rules.items ≡ [] → result ≡ Some dependency.entry.wanted }
     {
         match self.rule(scope) {
             Some(rule) if rule.name == dependency.name => match rule.replacement {
@@ -234,7 +255,9 @@ impl<'a> Overrides<'a> {
         texts.into_iter().find(|text| !text.is_empty())
     }
 
-    fn rule(&self, scope: Scope) -> Option<&Rule<'a>> {
+    fn rule(&self, scope: Scope) -> Option<&Rule<'a>>
+        ensures { self.now.rules.items ≡ [] → IsNone result }
+    {
         match scope {
             Scope::Top => None,
             Scope::Rule(number) => self.rules.get(number),

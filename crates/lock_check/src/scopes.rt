@@ -1,7 +1,7 @@
 // Which rules of `overrides` hold for each dependency.
 
 ghost use Rattle.lock_check.specs.Judged.{IsOverridden};
-ghost use Rattle.std.specs.Prelude.{IfSome};
+ghost use Rattle.std.specs.Prelude.{◌≡◌, [], IfOk, IfSome};
 
 use crate::check::Edge;
 use crate::lock::{Lock, Package, Wanted};
@@ -26,7 +26,10 @@ impl<'a> Scopes<'a> {
         alloc: Global,
         overrides: Overrides<'a>,
         edges: &[Edge<'a>],
-    ) -> Result<Scopes<'a>, AllocError> {
+    ) -> Result<Scopes<'a>, AllocError>
+        ensures { IfOk result (λ scopes. scopes.overrides.rules.items
+            ≡ overrides.entry.rules.items) }
+    {
         let mut of_edges = BTreeMap::new(alloc);
         if overrides.is_empty() {
             return Ok(Scopes {
@@ -56,7 +59,9 @@ impl<'a> Scopes<'a> {
     /// What the dependency of this number wants, or `None` if that is a reference to no dependency
     /// of the root project. What is packed into another package is not overridden.
     pub fn wanted(&self, lock: Lock<'a>, number: usize, edge: Edge<'a>) -> Option<Wanted<'a>>
-        ensures { IfSome result (IsOverridden edge.entry.dependency.wanted) }
+        ensures some { IfSome result (IsOverridden edge.entry.dependency.wanted) }
+        ensures kept { self.now.overrides.rules.items ≡ []
+            → result ≡ Some edge.entry.dependency.wanted }
     {
         match self.of_edges.get(&number).copied() {
             Some(inner) if !edge.locked.is_some_and(|it| is_packed(lock, it)) => {

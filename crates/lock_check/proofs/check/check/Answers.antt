@@ -1,5 +1,6 @@
 use Rattle.std.proofs.lemmas.List.Elements.{All-same}
 use Rattle.lock_check.proofs.Completing.{judged-all}
+use Rattle.lock_check.proofs.Judging.{ruled}
 use Rattle.lock_check.specs.Collected.{AreAllLinked}
 use Rattle.lock_check.specs.Judged.{IsEdge}
 use Rattle.std.proofs.Common.{subst, sym}
@@ -10,6 +11,8 @@ returns-clause-each c =
     c.in_ok-of_dependencies.ensures.each
     (All-same (IsEdge c.args.lock) c.deref-2.result.now c.in_ok-edges.edges.items c.deref-2.ensures.value
     c.in_ok-edges.ensures.each)
+    (ruled c.args.lock c.package-2.result c.in_ok-overrides.overrides c.in_ok-scopes.scopes.overrides c.package-2.ensures
+    c.in_ok-overrides.ensures c.in_ok-scopes.ensures)
 
 pub returns-clause-all : goal.returns-clause-all
 returns-clause-all c =

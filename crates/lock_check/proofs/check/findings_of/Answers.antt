@@ -5,7 +5,7 @@ use Rattle.std.specs.List.{AllWithin}
 use Rattle.lock_check.specs.Collected.{IsAmong}
 use Rattle.lock_check.specs.Judged.{IsEdge, IsFinding}
 use Rattle.lock_check.proofs.Completing.{among-more, among-push}
-use Rattle.lock_check.proofs.Judging.{finding-made}
+use Rattle.lock_check.proofs.Judging.{finding-made, referred}
 use Rattle.lock_check.proofs.check.findings_of.Goals as goal
 
 pub loop-number-preserved : goal.loop-number-preserved
@@ -15,13 +15,13 @@ loop-number-preserved c =
     let f = c.in_ok-finding.field-0 in
     let before = c.loop-number.findings.items in
     let same = c.in_ok-push.ensures.items in record {
-      each = λ all.
+      each = λ all rules.
           let is = subst (λ d. IsEdge lock d) (sym c.index-edges-number.is)
           (All-get_or (IsEdge lock) c.args.edges.now c.loop-number.number e (omega arith) all) in
           All-same (IsFinding lock) c.push.new.self.items (before ++ f ∷ []) same
-          (All-push (IsFinding lock) before f (c.loop-number.invariant.each all)
-          (finding-made lock e c.wanted-wanted.result f is c.wanted-wanted.ensures c.in_ok-finding.ensures.dependency
-          c.in_ok-finding.ensures.outcome));
+          (All-push (IsFinding lock) before f (c.loop-number.invariant.each all rules)
+          (finding-made lock e c.wanted-wanted.result f is c.wanted-wanted.ensures.some c.in_ok-finding.ensures.dependency
+          (c.in_ok-finding.ensures.outcome (referred lock e.dependency c.wanted-wanted.result c.args.scopes.now.overrides c.wanted-wanted.ensures.kept rules))));
       all = subst (λ found. AllWithin (IsAmong found) c.args.edges.now 0 (c.loop-number.number + 1)) (sym same)
           (AllWithin-more (IsAmong (before ++ f ∷ [])) c.args.edges.now 0 c.loop-number.number
           (λ k d low high. among-more before f (get_or c.args.edges.now k d) (c.loop-number.invariant.all k d low high))
