@@ -1,6 +1,7 @@
 -- Statement: the whole report on a lock file.
 use Rattle.std.specs.Prelude.{◌≡◌, ◌<◌, ◌++◌, ℕ, Bool, true, false, List, [], All, filter, length, map}
-use Rattle.std.specs.Prelude.{btree_map_len, if◌then◌else◌, string_bytes}
+use Rattle.std.specs.BTreeMap.{btree_map_len}
+use Rattle.std.specs.Prelude.{if◌then◌else◌, string_bytes}
 use Rattle.std.specs.List.{flat_map}
 use Rattle.lock_check.specs.Complete.{AreAllJudged}
 use Rattle.lock_check.specs.Findings.{AreSkips, count_of, is_told, kind_of}
