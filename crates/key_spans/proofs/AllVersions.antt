@@ -1,5 +1,6 @@
 -- The stretches of all versions are exact.
 use Rattle.std.proofs.Common.{ℕ, ◌≡◌, ◌<◌, ◌^◌, ◌∷◌, ◌&&◌, ◌||◌, List, [], Bool, true, false, not, refl, ap, arith, ◌∙◌, sym, true≢false}
+use Rattle.std.proofs.Math.Bool.{and-true}
 use Rattle.std.specs.Prelude.{All, if◌then◌else◌}
 use Rattle.std.proofs.lemmas.List.Elements.{All-cons, All-head, All-nil, All-tail}
 use Rattle.std.specs.Ordering.{is_le, is_lt, nat_cmp, ordering_then}
@@ -9,7 +10,7 @@ use Rattle.std.specs.declared.cmp.Ordering.TheVariants.{Less, Equal, Greater}
 use Rattle.key_spans.specs.Internal.Places.{IsEnd, IsSpan, end_key, lowest_key, next_place, one_more, version_place, version_stretch, versions}
 use Rattle.key_spans.specs.Internal.Sets.{has, holds}
 use Rattle.key_spans.proofs.PreReleases.{past_more, then_three}
-use Rattle.key_spans.proofs.Releases.{IsInOrder, below_end, le_cmp, next_past, release_is, then_true}
+use Rattle.key_spans.proofs.Releases.{IsInOrder, below_end, next_past, release_is, zero_le}
 use Rattle.key_spans.proofs.Keys as of_keys
 use Rattle.key_spans.proofs.Keys.{le, lt, numbers_cmp}
 use Rattle.semver_core.specs.Cuts as cuts
@@ -57,9 +58,6 @@ after_past true w v e g h =
     (sym (then_three (nat_cmp w.major v.major) (nat_cmp w.minor v.minor) (nat_cmp w.patch v.patch) _ (pre_cmp w.pre_release v.pre_release) refl)))
 after_past false w v e g h = past_more w v e g h
 
-zero_le : (v : VersionValue) → is_le (numbers_cmp (release_value 0 0 0) v) ≡ true
-zero_le v = then_true _ _ (le_cmp 0 v.major (omega arith)) (then_true _ _ (le_cmp 0 v.minor (omega arith)) (le_cmp 0 v.patch (omega arith)))
-
 lower_past : (b : Bound VersionValue) (v : VersionValue) → IsEnd b → IsVersion v
     → le (version_place b (lowest_key 0 0 0)) (key v) ≡ is_past precedence (lower_cut b) v
 lower_past Unbounded v g h = in_order v h 0 0 0 (omega arith) (omega arith) (omega arith) ∙ zero_le v
@@ -72,15 +70,11 @@ upper_past Unbounded v g h = below_end v h
 upper_past (Before w) v g h = of_keys.before_key w v g h
 upper_past (After w) v g h = of_keys.lt_le (key v) _ ∙ ap not (after_past (is_release w) w v refl g h)
 
-and_true : (b : Bool) → b ≡ (b && true)
-and_true true = refl
-and_true false = refl
-
 pub versions_exact : (ss : List (Span VersionValue)) (v : VersionValue) → All IsSpan ss → IsVersion v
     → has (slice_cmp nat_cmp) (versions ss) (key v) ≡ accepts ss v true
 versions_exact [] v h k = refl
 versions_exact (s ∷ ss) v h k =
     let g : IsSpan s = All-head IsSpan s ss h in
     let one : holds (slice_cmp nat_cmp) (version_stretch s) (key v) ≡ (cuts.holds precedence s v && true) =
-    (λ i. lower_past s.lower v g.lower k i && upper_past s.upper v g.upper k i) ∙ and_true _ in
+    (λ i. lower_past s.lower v g.lower k i && upper_past s.upper v g.upper k i) ∙ sym (and-true _) in
     λ i. one i || versions_exact ss v (All-tail IsSpan s ss h) k i

@@ -1,5 +1,6 @@
 -- Lists of spans whose ends are those of the statement, as placed stretches of each kind.
-use Rattle.std.proofs.Common.{ℕ, ◌≡◌, ◌++◌, ◌∷◌, ◌&&◌, ◌⊎◌, List, [], Bool, true, false, not, refl, ap, ◌∙◌, sym, subst, true≢false, inl, inr}
+use Rattle.std.proofs.Common.{ℕ, ◌≡◌, ◌++◌, ◌∷◌, ◌&&◌, ◌⊎◌, List, [], true, false, not, refl, ap, ◌∙◌, sym, subst, true≢false, inl, inr}
+use Rattle.std.proofs.lemmas.Bool.{not-true}
 use Rattle.std.specs.Prelude.{All}
 use Rattle.std.proofs.lemmas.List.Elements.{All-cons, All-head, All-nil, All-tail}
 use Rattle.std.specs.Cmp.Lexicographic.{nat_list_cmp_total, slice_cmp}
@@ -26,10 +27,6 @@ ReleasePlaced = IsPlaced (slice_cmp nat_cmp) (IsKeyOf IsRelease) (LastEnd IsRele
 
 abbrev pub PrePlaced : Stretch (List ℕ) → Type 0
 PrePlaced = IsPlaced (slice_cmp nat_cmp) IsPreKey Ends
-
-pub not_true : (b : Bool) → not b ≡ true → b ≡ false
-not_true true h = sym h
-not_true false h = refl
 
 pub false_not_true : {C : Type 0} → false ≡ true → C
 false_not_true h = absurd (true≢false (sym h))
@@ -92,7 +89,7 @@ pre_placed_by s u w h r k t a b = record {
 
 pub pre_placed : (s : Stretch (List ℕ)) → PieceEnds false (flagged false s) → PrePlaced s
 pre_placed s h = elim h.at_last [
-  | inl u ↦ pre_placed_by s h.first u.0 h.is_version (not_true _ h.fits_first) u.1 (three_from h.first u.0 u.3) h.at_first u.2
+  | inl u ↦ pre_placed_by s h.first u.0 h.is_version (not-true _ h.fits_first) u.1 (three_from h.first u.0 u.3) h.at_first u.2
   | inr u ↦ false_not_true u.1
 ]
 

@@ -1,5 +1,7 @@
 -- What two lists of spans make together.
 use Rattle.std.proofs.Common.{ℕ, ◌≡◌, ◌≤◌, ◌<◌, ◌+◌, ◌++◌, ◌∷◌, ◌&&◌, ◌||◌, ◌⊎◌, List, [], Bool, true, false, not, refl, ap, arith, ◌∙◌, sym, subst, inl, inr, true≢false, zero, suc, take, drop}
+use Rattle.std.proofs.lemmas.Bool.{and_from, not-true, or_parts}
+use Rattle.std.proofs.Math.Bool.{and-true}
 use Rattle.std.specs.Prelude.{All, Contains, if◌then◌else◌, length, slice_index_or}
 use Rattle.std.specs.List.{list_all}
 use Rattle.std.specs.List.Sorted.{IsPartitionedBy}
@@ -18,7 +20,7 @@ use Rattle.key_spans.proofs.Bytes.{same_bytes}
 use Rattle.key_spans.proofs.Canonical.{AnyPlaced, PrePlaced, ReleasePlaced, all_any_ends, all_pre_ends, all_release_ends, any_placed, own_ends, own_three, pre_placed, release_placed}
 use Rattle.key_spans.proofs.Keys.{le, lt}
 use Rattle.key_spans.proofs.Line as line
-use Rattle.key_spans.proofs.Line.{and_both, and_first, and_second, by_bool, false_true}
+use Rattle.key_spans.proofs.Line.{and_first, and_second, by_bool, false_true}
 use Rattle.key_spans.proofs.OneList.{IsAny, IsKeyOf, IsKeyPlace, IsRelease, key_fits}
 use Rattle.key_spans.proofs.OnePreList.{Ends, IsPreKey, first_key, inside, is_inside, last_key}
 use Rattle.key_spans.proofs.OneSet.{Split, canonical_from, in_back, in_front, none_in, sorted_back, sorted_front, unmapped}
@@ -99,7 +101,7 @@ pre_start s full none u = (
   u.1,
   by_bool (is_release u.0)
       (λ r. false_true (holds (slice_cmp nat_cmp) s (key u.0)) (none u.0 u.1 r)
-      (subst (λ k. holds (slice_cmp nat_cmp) s k ≡ true) u.3 (and_both _ _ (line.le_itself nat_list_cmp_total s.start) full)))
+      (subst (λ k. holds (slice_cmp nat_cmp) s k ≡ true) u.3 (and_from _ _ (line.le_itself nat_list_cmp_total s.start) full)))
       (λ r. r),
   u.3,
 )
@@ -109,7 +111,7 @@ pre_within s none e h = by_bool (le s.stop e) (λ l. l)
     (λ l.
     let r : VersionValue = release_value h.of.major h.of.minor h.of.patch in
     let up : le s.start e ≡ true = line.le_from_lt nat_list_cmp_total s.start e (subst (λ k. lt s.start k ≡ true) (sym h.is) h.upto) in
-    let held : holds (slice_cmp nat_cmp) s e ≡ true = and_both _ _ up (line.lt_from_not nat_list_cmp_total e s.stop l) in
+    let held : holds (slice_cmp nat_cmp) s e ≡ true = and_from _ _ up (line.lt_from_not nat_list_cmp_total e s.stop l) in
     false_true (holds (slice_cmp nat_cmp) s (key r))
     (none r (release_is h.of.major h.of.minor h.of.patch h.is_version.major h.is_version.minor h.is_version.patch) refl)
     (subst (λ k. holds (slice_cmp nat_cmp) s k ≡ true) h.is held))
@@ -137,21 +139,13 @@ pre_from s full none u w =
     let start : IsPreKey s.start = pre_start s full none u in
     record { start = start; stop = pre_stop s full (pre_within s none) start w; within = pre_within s none }
 
-or_first : (a b : Bool) → (a || b) ≡ false → a ≡ false
-or_first true b h = absurd (true≢false h)
-or_first false b h = refl
-
-or_second : (a b : Bool) → (a || b) ≡ false → b ≡ false
-or_second true b h = absurd (true≢false h)
-or_second false b h = h
-
 abbrev HaveNone : List (Stretch (List ℕ)) → Type 0
 HaveNone ss = (v : VersionValue) → IsVersion v → is_release v ≡ true → has (slice_cmp nat_cmp) ss (key v) ≡ false
 
 none_each : (ss : List (Stretch (List ℕ))) → HaveNone ss → All HoldsNone ss
 none_each [] h = All-nil HoldsNone
-none_each (s ∷ ss) h = All-cons HoldsNone s ss (λ v k r. or_first _ _ (h v k r))
-    (none_each ss (λ v k r. or_second (holds (slice_cmp nat_cmp) s (key v)) _ (h v k r)))
+none_each (s ∷ ss) h = All-cons HoldsNone s ss (λ v k r. (or_parts _ _ (h v k r)).0)
+    (none_each ss (λ v k r. (or_parts (holds (slice_cmp nat_cmp) s (key v)) _ (h v k r)).1))
 
 all_pre : (ss : List (Stretch (List ℕ))) → All IsFull ss → All HoldsNone ss → All (IsKeyOf IsAny) (ends ss) → All PrePlaced ss
 all_pre [] h none g = All-nil PrePlaced
@@ -270,12 +264,8 @@ module _ (keeps : Bool → Bool → Bool) (none : keeps false false ≡ false) (
         (ends_all (IsKeyPlace IsAny) AnyPlaced (λ s p. (inl p.start, p.stop)) oa (placed_of ra oa ends_a))
         (ends_all (IsKeyPlace IsAny) AnyPlaced (λ s p. (inl p.start, p.stop)) ob (placed_of rb ob ends_b)))
 
-    and_true : (b : Bool) → (b && true) ≡ b
-    and_true true = refl
-    and_true false = refl
-
     in_others : (rs os : List (Stretch (List ℕ))) → rs ≡ [] → (k : List ℕ) → in_pieces (both_kinds rs os) k ≡ has (slice_cmp nat_cmp) os k
-    in_others rs os e k = ap (λ l. in_pieces (both_kinds l os) k) e ∙ (in_flagged false os k ∙ and_true _)
+    in_others rs os e k = ap (λ l. in_pieces (both_kinds l os) k) e ∙ (in_flagged false os k ∙ and-true _)
 
     made_of_all : IsMade keeps true ra oa rb ob rc oc
     made_of_all = record {
@@ -298,14 +288,10 @@ pieces_flagged (s ∷ spans) h =
     let flag : s.releases_only ≡ true = and_first _ _ h in
     λ i. record { start = s.start.items; stop = s.stop.items; releases_only = flag i } ∷ pieces_flagged spans (and_second s.releases_only _ h) i
 
-not_true : (b : Bool) → not b ≡ true → b ≡ false
-not_true true h = sym h
-not_true false h = refl
-
 pieces_unflagged : (spans : List KeySpan) → list_all (λ s. not s.releases_only) spans ≡ true → pieces spans ≡ all_flagged false (stretches spans)
 pieces_unflagged [] h = refl
 pieces_unflagged (s ∷ spans) h =
-    let flag : s.releases_only ≡ false = not_true _ (and_first _ _ h) in
+    let flag : s.releases_only ≡ false = not-true _ (and_first _ _ h) in
     λ i. record { start = s.start.items; stop = s.stop.items; releases_only = flag i } ∷ pieces_unflagged spans (and_second (not s.releases_only) _ h) i
 
 pieces_cut : (spans rs os : List KeySpan) → IsByKind spans rs os → is_sorted spans ≡ true → pieces spans ≡ both_kinds (stretches rs) (stretches os)
@@ -383,13 +369,13 @@ pub all_taken : {X : Type 0} (p : X → Bool) (xs : List X) (i : ℕ) → ((k : 
 all_taken p [] zero h l = refl
 all_taken p [] (suc i) h l = refl
 all_taken p (x ∷ xs) zero h l = refl
-all_taken p (x ∷ xs) (suc i) h l = and_both _ _ (h 0 x (omega arith) (omega arith))
+all_taken p (x ∷ xs) (suc i) h l = and_from _ _ (h 0 x (omega arith) (omega arith))
     (all_taken p xs i (λ k d m n. h (suc k) d (omega arith) (omega (arith, n))) (omega (arith, l)))
 
 pub all_dropped : {X : Type 0} (p : X → Bool) (xs : List X) (i : ℕ) → ((k : ℕ) (d : X) → i ≤ k → k < length xs → p (slice_index_or xs k d) ≡ true)
     → list_all p (drop i xs) ≡ true
 all_dropped p [] zero h = refl
 all_dropped p [] (suc i) h = refl
-all_dropped p (x ∷ xs) zero h = and_both _ _ (h 0 x (omega arith) (omega arith))
+all_dropped p (x ∷ xs) zero h = and_from _ _ (h 0 x (omega arith) (omega arith))
     (all_dropped p xs zero (λ k d m n. h (suc k) d (omega arith) (omega (arith, n))))
 all_dropped p (x ∷ xs) (suc i) h = all_dropped p xs i (λ k d m n. h (suc k) d (omega (arith, m)) (omega (arith, n)))

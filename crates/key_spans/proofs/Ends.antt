@@ -1,5 +1,6 @@
 -- Two sets, swept from end to end.
 use Rattle.std.proofs.Common.{◌≡◌, ◌<◌, ◌≤◌, ◌+◌, ◌*◌, ◌++◌, ◌∷◌, ◌&&◌, ◌||◌, ◌⊎◌, List, [], Bool, true, false, not, refl, ap, arith, ◌∙◌, sym, subst, inl, inr}
+use Rattle.std.proofs.lemmas.Bool.{and_from}
 use Rattle.std.proofs.Common.{append-nil, append_assoc, true≢false}
 use Rattle.std.specs.Prelude.{All, Contains, None, Option, Some, if◌then◌else◌, length, option_map}
 use Rattle.std.specs.Cmp.{IsTotalOrder, tied_itself}
@@ -11,7 +12,7 @@ use Rattle.std.specs.declared.cmp.Ordering.TheVariants.{Less, Equal, Greater}
 use Rattle.std.proofs.lemmas.List.{length-append}
 use Rattle.std.proofs.lemmas.List.Elements.{All-append, All-cons, All-contains_itself, All-head, All-nil, Contains-append_left, Contains-append_right}
 use Rattle.key_spans.proofs.Line as line
-use Rattle.key_spans.proofs.Line.{and_both, and_first, and_second, by_bool, false_true}
+use Rattle.key_spans.proofs.Line.{and_first, and_second, by_bool, false_true}
 use Rattle.key_spans.proofs.Unique.{none_upto}
 use Rattle.key_spans.specs.Internal.Ends.{IsSwept, after, ends, first_end, is_odd, least, turned}
 use Rattle.key_spans.specs.Internal.Ends as spec
@@ -193,12 +194,12 @@ module _ {A : Type 0} {R : A → A → Ordering} (o : IsTotalOrder R) where
 
   under_up : (p q : A) (es : List A) → all_under R p es ≡ true → is_lt (R p q) ≡ true → all_under R q es ≡ true
   under_up p q [] h l = refl
-  under_up p q (e ∷ es) h l = and_both _ _ (line.lt_before_le o e p q (and_first _ _ h) (line.le_from_lt o p q l))
+  under_up p q (e ∷ es) h l = and_from _ _ (line.lt_before_le o e p q (and_first _ _ h) (line.le_from_lt o p q l))
       (under_up p q es (and_second (is_lt (R e p)) _ h) l)
 
   under_more : (p q : A) (es : List A) → all_under R p es ≡ true → is_lt (R p q) ≡ true → all_under R q (es ++ p ∷ []) ≡ true
-  under_more p q [] h l = and_both _ _ l refl
-  under_more p q (e ∷ es) h l = and_both _ _ (line.lt_before_le o e p q (and_first _ _ h) (line.le_from_lt o p q l))
+  under_more p q [] h l = and_from _ _ l refl
+  under_more p q (e ∷ es) h l = and_from _ _ (line.lt_before_le o e p q (and_first _ _ h) (line.le_from_lt o p q l))
       (under_more p q es (and_second (is_lt (R e p)) _ h) l)
 
   grown_under : (d : Bool) (p q : A) (es : List A) → all_under R p es ≡ true → is_lt (R p q) ≡ true → all_under R q (grown d p es) ≡ true
@@ -222,12 +223,12 @@ module _ {A : Type 0} {R : A → A → Ordering} (o : IsTotalOrder R) where
 
   rising_under : (es rest : List A) (q : A) → is_rising R (es ++ q ∷ rest) ≡ true → all_under R q es ≡ true
   rising_under [] rest q h = refl
-  rising_under (e ∷ es) rest q h = and_both _ _ (first_under e q es rest h) (rising_under es rest q (rising_tail e (es ++ q ∷ rest) h))
+  rising_under (e ∷ es) rest q h = and_from _ _ (first_under e q es rest h) (rising_under es rest q (rising_tail e (es ++ q ∷ rest) h))
 
   rising_more : (es : List A) (p : A) → is_rising R es ≡ true → all_under R p es ≡ true → is_rising R (es ++ p ∷ []) ≡ true
   rising_more [] p h l = refl
-  rising_more (e ∷ []) p h l = and_both _ _ (and_first _ _ l) refl
-  rising_more (e ∷ f ∷ es) p h l = and_both _ _ (and_first _ _ h) (rising_more (f ∷ es) p (rising_tail e (f ∷ es) h) (and_second (is_lt (R e p)) _ l))
+  rising_more (e ∷ []) p h l = and_from _ _ (and_first _ _ l) refl
+  rising_more (e ∷ f ∷ es) p h l = and_from _ _ (and_first _ _ h) (rising_more (f ∷ es) p (rising_tail e (f ∷ es) h) (and_second (is_lt (R e p)) _ l))
 
   grown_rising : (d : Bool) (p : A) (es : List A) → is_rising R es ≡ true → all_under R p es ≡ true → is_rising R (grown d p es) ≡ true
   grown_rising true p es h l = rising_more es p h l

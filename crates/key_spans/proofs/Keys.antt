@@ -1,10 +1,11 @@
 -- Keys in the order of bytes: bounds, releases, and the pre-releases of three numbers.
 use Rattle.std.proofs.Common.{ℕ, ◌≡◌, ◌++◌, ◌∷◌, ◌&&◌, List, [], Bool, true, false, not, refl, ap, arith, zero, suc, ◌∙◌, sym, append_assoc, true≢false}
+use Rattle.std.proofs.lemmas.Bool.{not-false}
 use Rattle.std.specs.Prelude.{All, ◌==◌, if◌then◌else◌}
 use Rattle.std.proofs.lemmas.List.Elements.{All-head}
 use Rattle.std.specs.Cmp.{nat_cmp_total, unsigned_tied, upto}
 use Rattle.std.specs.Cmp.Lexicographic.{nat_list_cmp_total}
-use Rattle.std.specs.Ordering.{is_eq, is_gt, is_le, is_lt, nat_cmp, ordering_reverse, ordering_then}
+use Rattle.std.specs.Ordering.{is_eq, is_le, is_lt, nat_cmp, ordering_reverse, ordering_then}
 use Rattle.std.specs.declared.cmp.Ordering.{Ordering}
 use Rattle.std.specs.declared.cmp.Ordering.TheVariants.{Less, Equal, Greater}
 use Rattle.semver_core.proofs.Encoding.Numbers.{bytes_cmp, cmp_below, number_cmp, number_low, then_assoc}
@@ -19,6 +20,7 @@ use Rattle.semver_core.specs.Values.Versions.{IsId, IsVersion, VersionValue, is_
 use Rattle.semver_core.specs.declared.cuts.bound.Bound.TheVariants.{Before}
 use Rattle.key_spans.specs.Internal.Places.{greater, lesser, lowest_key, release_key}
 use Rattle.key_spans.specs.Spans.{ends_in_3}
+use Rattle.key_spans.proofs.Line.{gt_le, turned_lt}
 
 -- ---- the order of bytes as a test
 
@@ -28,17 +30,8 @@ le a b = is_le (bytes_cmp a b)
 abbrev pub lt : List ℕ → List ℕ → Bool
 lt a b = is_lt (bytes_cmp a b)
 
-pub gt_le : (o : Ordering) → is_gt o ≡ not (is_le o)
-gt_le Less = refl
-gt_le Equal = refl
-gt_le Greater = refl
-
-pub not_false : (b : Bool) → not b ≡ false → b ≡ true
-not_false true h = refl
-not_false false h = cc
-
 pub le_trans : (a b c : List ℕ) → le a b ≡ true → le b c ≡ true → le a c ≡ true
-le_trans a b c h k = not_false _ (sym (gt_le _) ∙ upto nat_list_cmp_total a b c (gt_le _ ∙ ap not h) (gt_le _ ∙ ap not k))
+le_trans a b c h k = not-false _ (sym (gt_le _) ∙ upto nat_list_cmp_total a b c (gt_le _ ∙ ap not h) (gt_le _ ∙ ap not k))
 
 pub turned_le : (o p : Ordering) → o ≡ ordering_reverse p → is_le o ≡ false → is_le p ≡ true
 turned_le o Less e h = refl
@@ -47,11 +40,6 @@ turned_le o Greater e h = absurd (true≢false (sym (ap is_le e) ∙ h))
 
 pub le_total : (a b : List ℕ) → le a b ≡ false → le b a ≡ true
 le_total a b = turned_le _ _ (nat_list_cmp_total.antisymm a b)
-
-pub turned_lt : (o p : Ordering) → o ≡ ordering_reverse p → is_lt o ≡ not (is_le p)
-turned_lt o Less e = ap is_lt e
-turned_lt o Equal e = ap is_lt e
-turned_lt o Greater e = ap is_lt e
 
 pub lt_le : (a b : List ℕ) → lt a b ≡ not (le b a)
 lt_le a b = turned_lt _ _ (nat_list_cmp_total.antisymm a b)

@@ -1,5 +1,6 @@
 -- A total order as two tests.
 use Rattle.std.proofs.Common.{◌≡◌, ◌&&◌, Bool, true, false, not, refl, ap, ◌∙◌, sym, true≢false}
+use Rattle.std.proofs.lemmas.Bool.{not-false, not-true}
 use Rattle.std.specs.Cmp.{IsTotalOrder, tied_itself, upto}
 use Rattle.std.specs.Ordering.{is_gt, is_le, is_lt, ordering_reverse}
 use Rattle.std.specs.declared.cmp.Ordering.{Ordering}
@@ -12,9 +13,6 @@ pub by_bool : {C : Type 0} (b : Bool) → (b ≡ true → C) → (b ≡ false �
 by_bool true f g = f refl
 by_bool false f g = g refl
 
-pub and_both : (x y : Bool) → x ≡ true → y ≡ true → (x && y) ≡ true
-and_both x y h k = λ i. h i && k i
-
 pub and_first : (x y : Bool) → (x && y) ≡ true → x ≡ true
 and_first true y h = refl
 and_first false y h = h
@@ -23,27 +21,12 @@ pub and_second : (x y : Bool) → (x && y) ≡ true → y ≡ true
 and_second true y h = h
 and_second false y h = absurd (true≢false (sym h))
 
-pub and_not_first : (x y : Bool) → x ≡ false → (x && y) ≡ false
-and_not_first x y h = ap (λ b. b && y) h
-
-pub and_not_second : (x y : Bool) → y ≡ false → (x && y) ≡ false
-and_not_second true y h = h
-and_not_second false y h = refl
-
-not_true : (b : Bool) → not b ≡ true → b ≡ false
-not_true true h = sym h
-not_true false h = refl
-
-not_false : (b : Bool) → not b ≡ false → b ≡ true
-not_false true h = refl
-not_false false h = sym h
-
-gt_le : (o : Ordering) → is_gt o ≡ not (is_le o)
+pub gt_le : (o : Ordering) → is_gt o ≡ not (is_le o)
 gt_le Less = refl
 gt_le Equal = refl
 gt_le Greater = refl
 
-turned_lt : (o p : Ordering) → o ≡ ordering_reverse p → is_lt o ≡ not (is_le p)
+pub turned_lt : (o p : Ordering) → o ≡ ordering_reverse p → is_lt o ≡ not (is_le p)
 turned_lt o Less e = ap is_lt e
 turned_lt o Equal e = ap is_lt e
 turned_lt o Greater e = ap is_lt e
@@ -72,14 +55,14 @@ module _ {A : Type 0} {R : A → A → Ordering} (o : IsTotalOrder R) where
   lt_le a b = turned_lt _ _ (o.antisymm a b)
 
   pub le_le : (a b c : A) → is_le (R a b) ≡ true → is_le (R b c) ≡ true → is_le (R a c) ≡ true
-  le_le a b c h k = not_false _ (sym (gt_le _) ∙ upto o a b c (gt_le _ ∙ ap not h) (gt_le _ ∙ ap not k))
+  le_le a b c h k = not-false _ (sym (gt_le _) ∙ upto o a b c (gt_le _ ∙ ap not h) (gt_le _ ∙ ap not k))
 
   pub le_from_lt : (a b : A) → is_lt (R a b) ≡ true → is_le (R a b) ≡ true
   le_from_lt a b = lt_is_le (R a b)
 
   -- a < b exactly if not b <= a
   pub not_back : (a b : A) → is_lt (R a b) ≡ true → is_le (R b a) ≡ false
-  not_back a b h = not_true _ (sym (lt_le a b) ∙ h)
+  not_back a b h = not-true _ (sym (lt_le a b) ∙ h)
 
   pub lt_from_not : (a b : A) → is_le (R b a) ≡ false → is_lt (R a b) ≡ true
   lt_from_not a b h = lt_le a b ∙ ap not h
@@ -88,7 +71,7 @@ module _ {A : Type 0} {R : A → A → Ordering} (o : IsTotalOrder R) where
   not_lt a b h = lt_le a b ∙ ap not h
 
   pub le_from_not : (a b : A) → is_lt (R a b) ≡ false → is_le (R b a) ≡ true
-  le_from_not a b h = not_false _ (sym (lt_le a b) ∙ h)
+  le_from_not a b h = not-false _ (sym (lt_le a b) ∙ h)
 
   pub lt_after_le : (a b c : A) → is_le (R a b) ≡ true → is_lt (R b c) ≡ true → is_lt (R a c) ≡ true
   lt_after_le a b c h k = by_bool (is_le (R c a))

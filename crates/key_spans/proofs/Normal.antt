@@ -1,12 +1,13 @@
 -- The canonical list of any spans: they are put in order, and swept.
 use Rattle.std.proofs.Common.{◌≡◌, ◌||◌, List, [], ◌∷◌, Bool, true, false, refl, ap, ◌∙◌}
+use Rattle.std.proofs.lemmas.Bool.{and_from}
 use Rattle.std.specs.Prelude.{if◌then◌else◌}
 use Rattle.std.specs.Cmp.{IsTotalOrder}
 use Rattle.std.specs.List.{fold}
 use Rattle.std.specs.Ordering.{is_le}
 use Rattle.std.specs.declared.cmp.Ordering.{Ordering}
 use Rattle.key_spans.proofs.Line as line
-use Rattle.key_spans.proofs.Line.{and_both, and_first, and_second}
+use Rattle.key_spans.proofs.Line.{and_first, and_second}
 use Rattle.key_spans.proofs.Sweeping.{IsSweep, rising, swept}
 use Rattle.key_spans.specs.Internal.Sets.{has, holds, is_canonical}
 use Rattle.key_spans.specs.Internal.Sets.{joined}
@@ -50,13 +51,13 @@ module _ {A : Type 0} {R : A → A → Ordering} (o : IsTotalOrder R) where
       → is_le (R b s.start) ≡ true → rising R b (t ∷ ts) ≡ true
       → (is_le (R t.start s.start) ≡ true → rising R t.start (insert R s ts) ≡ true)
       → rising R b (if x then s ∷ t ∷ ts else t ∷ insert R s ts) ≡ true
-  insert_rising_by true b s t ts e h g f = and_both _ _ h (and_both _ _ e (and_second (is_le (R b t.start)) _ g))
-  insert_rising_by false b s t ts e h g f = and_both _ _ (and_first _ _ g)
+  insert_rising_by true b s t ts e h g f = and_from _ _ h (and_from _ _ e (and_second (is_le (R b t.start)) _ g))
+  insert_rising_by false b s t ts e h g f = and_from _ _ (and_first _ _ g)
       (f (line.le_from_lt o t.start s.start (line.lt_from_not o t.start s.start e)))
 
   insert_rising : (b : A) (s : Stretch A) (ss : List (Stretch A)) → is_le (R b s.start) ≡ true → rising R b ss ≡ true
       → rising R b (insert R s ss) ≡ true
-  insert_rising b s [] h g = and_both _ _ h refl
+  insert_rising b s [] h g = and_from _ _ h refl
   insert_rising b s (t ∷ ts) h g = insert_rising_by (is_le (R s.start t.start)) b s t ts refl h g
       (λ u. insert_rising t.start s ts u (and_second (is_le (R b t.start)) _ g))
 
@@ -65,7 +66,7 @@ module _ {A : Type 0} {R : A → A → Ordering} (o : IsTotalOrder R) where
   insert_rises s (t ∷ ts) h = by_test (is_le (R s.start t.start)) refl
     where
       by_test : (x : Bool) → is_le (R s.start t.start) ≡ x → is_rising R (if x then s ∷ t ∷ ts else t ∷ insert R s ts) ≡ true
-      by_test true e = and_both _ _ e h
+      by_test true e = and_from _ _ e h
       by_test false e = insert_rising t.start s ts (line.le_from_lt o t.start s.start (line.lt_from_not o t.start s.start e)) h
 
   pub ordered_rises : (ss : List (Stretch A)) → is_rising R (ordered R ss) ≡ true
@@ -74,7 +75,7 @@ module _ {A : Type 0} {R : A → A → Ordering} (o : IsTotalOrder R) where
 
   from_rising : (xs : List (Stretch A)) → is_rising R xs ≡ true → IsSweep R (fold (joined R) [] xs) [] xs
   from_rising [] h = record { canonical = refl; same = λ k. refl }
-  from_rising (x ∷ xs) h = swept o x.start [] (x ∷ xs) refl refl (and_both _ _ (line.le_itself o x.start) h)
+  from_rising (x ∷ xs) h = swept o x.start [] (x ∷ xs) refl refl (and_from _ _ (line.le_itself o x.start) h)
 
   pub normal_canonical : (ss : List (Stretch A)) → is_canonical R (normal R ss) ≡ true
   normal_canonical ss = (from_rising (ordered R ss) (ordered_rises ss)).canonical

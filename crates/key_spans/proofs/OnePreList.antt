@@ -2,7 +2,7 @@
 use Rattle.std.proofs.Common.{ℕ, ◌≡◌, ◌∷◌, ◌&&◌, ◌⊎◌, List, [], Bool, true, false, not, refl, ap, ◌∙◌, sym, subst, inl, inr}
 use Rattle.std.specs.Prelude.{◌==◌, All, if◌then◌else◌}
 use Rattle.std.proofs.Common.{eq-eqb}
-use Rattle.std.proofs.lemmas.Bool.{eqb-true}
+use Rattle.std.proofs.lemmas.Bool.{and_from, eqb-true, not-true}
 use Rattle.std.proofs.lemmas.List.Elements.{All-append, All-cons, All-head, All-nil, All-tail}
 use Rattle.std.specs.Cmp.Lexicographic.{nat_list_cmp_total, slice_cmp}
 use Rattle.std.specs.Ordering.{nat_cmp}
@@ -40,8 +40,8 @@ three_from w v h = record {
 }
 
 pub same_from : (w v : VersionValue) → Three w v → same w v ≡ true
-same_from w v h = line.and_both _ _ (eq-eqb w.major v.major h.major)
-    (line.and_both _ _ (eq-eqb w.minor v.minor h.minor) (eq-eqb w.patch v.patch h.patch))
+same_from w v h = and_from _ _ (eq-eqb w.major v.major h.major)
+    (and_from _ _ (eq-eqb w.minor v.minor h.minor) (eq-eqb w.patch v.patch h.patch))
 
 pub three_through : (u v w : VersionValue) → Three u v → Three v w → Three u w
 three_through u v w h g = record { major = h.major ∙ g.major; minor = h.minor ∙ g.minor; patch = h.patch ∙ g.patch }
@@ -59,20 +59,16 @@ first_key w = lowest_key w.major w.minor w.patch
 pub same_end : (w v : VersionValue) → Three w v → last_key w ≡ last_key v
 same_end w v h = λ i. release_key (h.major i) (h.minor i) (h.patch i)
 
-not_true : (b : Bool) → not b ≡ true → b ≡ false
-not_true true h = sym h
-not_true false h = refl
-
 -- what lies from the first key of some numbers up to their end
 pub inside : (w v : VersionValue) → IsVersion w → IsVersion v → le (first_key w) (key v) ≡ true → lt (key v) (last_key w) ≡ true
     → (is_release v ≡ false) × Three w v
 inside w v h k f l =
-    let both : (not (is_release v) && same w v) ≡ true = sym (of_keys.own_holds w v h k) ∙ line.and_both _ _ f l in
-    (not_true (is_release v) (and_first _ _ both), three_from w v (and_second (not (is_release v)) _ both))
+    let both : (not (is_release v) && same w v) ≡ true = sym (of_keys.own_holds w v h k) ∙ and_from _ _ f l in
+    (not-true (is_release v) (and_first _ _ both), three_from w v (and_second (not (is_release v)) _ both))
 
 pub is_inside : (w v : VersionValue) → IsVersion w → IsVersion v → is_release v ≡ false → Three w v
     → (le (first_key w) (key v) && lt (key v) (last_key w)) ≡ true
-is_inside w v h k r t = of_keys.own_holds w v h k ∙ line.and_both _ _ (ap not r) (same_from w v t)
+is_inside w v h k r t = of_keys.own_holds w v h k ∙ and_from _ _ (ap not r) (same_from w v t)
 
 abbrev pub IsPreKey : List ℕ → Type 0
 IsPreKey k = (v : VersionValue) × IsVersion v × (is_release v ≡ false) × (k ≡ key v)

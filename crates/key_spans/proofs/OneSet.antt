@@ -1,5 +1,7 @@
 -- Sorted lists of spans with their ends: one list for one set of versions.
 use Rattle.std.proofs.Common.{ℕ, ◌≡◌, ◌++◌, ◌∷◌, ◌&&◌, ◌||◌, List, [], Bool, true, false, refl, ap, ◌∙◌, sym, subst, map}
+use Rattle.std.proofs.lemmas.Bool.{and_from, not-true}
+use Rattle.std.proofs.Math.Bool.{and-true}
 use Rattle.std.specs.Prelude.{All}
 use Rattle.std.proofs.lemmas.List.Elements.{All-cons, All-head, All-map, All-nil, All-tail}
 use Rattle.std.proofs.lemmas.List.Folds.{list_any-append}
@@ -12,10 +14,10 @@ use Rattle.key_spans.specs.Internal.Sets.{Stretch, has, holds, is_canonical, is_
 use Rattle.key_spans.specs.Spans.{HasEnds, bytes, in_spans, is_sorted}
 use Rattle.key_spans.specs.declared.KeySpan.{KeySpan}
 use Rattle.key_spans.proofs.Bytes.{same_bytes}
-use Rattle.key_spans.proofs.Canonical.{AnyPlaced, PrePlaced, ReleasePlaced, any_placed, false_not_true, not_true, own_ends, own_three, pre_placed, release_placed}
+use Rattle.key_spans.proofs.Canonical.{AnyPlaced, PrePlaced, ReleasePlaced, any_placed, false_not_true, own_ends, own_three, pre_placed, release_placed}
 use Rattle.key_spans.proofs.Keys.{key_end, le, lt}
 use Rattle.key_spans.proofs.Line as line
-use Rattle.key_spans.proofs.Line.{and_both, and_first, and_second, by_bool, false_true}
+use Rattle.key_spans.proofs.Line.{and_first, and_second, by_bool, false_true}
 use Rattle.key_spans.proofs.OneList.{IsAny, IsKeyOf, IsRelease, LastEnd}
 use Rattle.key_spans.proofs.OnePreList.{Ends, IsPreKey, first_key, inside, is_inside, last_key}
 use Rattle.key_spans.proofs.Pieces.{in_flagged, in_spans-pieces, is_sorted-pieces, of_pre_release, of_release}
@@ -43,8 +45,8 @@ sorted_tail p (q ∷ ps) h = and_second (is_piece_behind p q) _ (and_second (is_
 pub sorted_front : (ps qs : List Piece) → are_sorted (ps ++ qs) ≡ true → are_sorted ps ≡ true
 sorted_front [] qs h = refl
 sorted_front (p ∷ []) qs h = first_some p qs h
-sorted_front (p ∷ q ∷ ps) qs h = and_both _ _ (and_first _ _ h)
-    (and_both _ _ (first_behind p q (ps ++ qs) h) (sorted_front (q ∷ ps) qs (sorted_tail p (q ∷ ps ++ qs) h)))
+sorted_front (p ∷ q ∷ ps) qs h = and_from _ _ (and_first _ _ h)
+    (and_from _ _ (first_behind p q (ps ++ qs) h) (sorted_front (q ∷ ps) qs (sorted_tail p (q ∷ ps ++ qs) h)))
 
 pub sorted_back : (ps qs : List Piece) → are_sorted (ps ++ qs) ≡ true → are_sorted qs ≡ true
 sorted_back [] qs h = h
@@ -60,18 +62,18 @@ past_from : (flag : Bool) (s : Stretch (List ℕ)) (ss : List (Stretch (List ℕ
 past_from flag s [] h = refl
 past_from flag s (t ∷ ts) h =
     let rest : are_sorted (all_flagged flag (t ∷ ts)) ≡ true = sorted_tail (flagged flag s) (all_flagged flag (t ∷ ts)) h in
-    and_both _ _ (above flag s t (first_behind (flagged flag s) (flagged flag t) (all_flagged flag ts) h))
-    (and_both _ _ (first_some (flagged flag t) (all_flagged flag ts) rest) (past_from flag t ts rest))
+    and_from _ _ (above flag s t (first_behind (flagged flag s) (flagged flag t) (all_flagged flag ts) h))
+    (and_from _ _ (first_some (flagged flag t) (all_flagged flag ts) rest) (past_from flag t ts rest))
 
 pub canonical_from : (flag : Bool) (ss : List (Stretch (List ℕ))) → are_sorted (all_flagged flag ss) ≡ true
     → is_canonical (slice_cmp nat_cmp) ss ≡ true
 canonical_from flag [] h = refl
-canonical_from flag (s ∷ ss) h = and_both _ _ (first_some (flagged flag s) (all_flagged flag ss) h) (past_from flag s ss h)
+canonical_from flag (s ∷ ss) h = and_from _ _ (first_some (flagged flag s) (all_flagged flag ss) h) (past_from flag s ss h)
 
 -- ---- with pre-releases included
 
 unflagged : (p : Piece) → PieceEnds true p → p ≡ flagged false (bare p)
-unflagged p h = of_kind p false (not_true _ h.fits_first)
+unflagged p h = of_kind p false (not-true _ h.fits_first)
 
 pub all_unflagged : (ps : List Piece) → All (PieceEnds true) ps → ps ≡ all_flagged false (map bare ps)
 all_unflagged [] h = refl
@@ -84,12 +86,8 @@ all_placed (p ∷ ps) h =
     All-cons AnyPlaced (bare p) (map bare ps) (any_placed (bare p) (subst (PieceEnds true) (unflagged p g) g))
     (all_placed ps (All-tail (PieceEnds true) p ps h))
 
-and_true : (b : Bool) → b ≡ (b && true)
-and_true true = refl
-and_true false = refl
-
 in_all : (ps : List Piece) → All (PieceEnds true) ps → (k : List ℕ) → has (slice_cmp nat_cmp) (map bare ps) k ≡ in_pieces ps k
-in_all ps h k = and_true _ ∙ (sym (in_flagged false (map bare ps) k) ∙ sym (ap (λ l. in_pieces l k) (all_unflagged ps h)))
+in_all ps h k = sym (and-true _) ∙ (sym (in_flagged false (map bare ps) k) ∙ sym (ap (λ l. in_pieces l k) (all_unflagged ps h)))
 
 one_of_all : (ps qs : List Piece) → are_sorted ps ≡ true → All (PieceEnds true) ps → are_sorted qs ≡ true → All (PieceEnds true) qs
     → ((v : VersionValue) → IsVersion v → in_pieces ps (key v) ≡ in_pieces qs (key v)) → ps ≡ qs

@@ -1,5 +1,6 @@
 -- A version lies in one span at most.
 use Rattle.std.proofs.Common.{ℕ, ◌≡◌, ◌≤◌, ◌++◌, ◌∷◌, ◌&&◌, ◌||◌, List, [], Bool, true, false, not, refl, ap, arith, ◌∙◌, sym, subst, true≢false, append-nil, map}
+use Rattle.std.proofs.lemmas.Bool.{and_right, or_parts}
 use Rattle.std.specs.Prelude.{All, cond, filter, length}
 use Rattle.std.proofs.lemmas.List.Elements.{All-map, filter-append}
 use Rattle.std.specs.Cmp.Lexicographic.{nat_list_cmp_total, slice_cmp}
@@ -28,17 +29,9 @@ none_kept : {X : Type 0} (b : Bool) (x : X) (l : List X) → b ≡ false → l �
 none_kept true x l h g = absurd (true≢false h)
 none_kept false x l h g = g
 
-or_first_false : (a b : Bool) → (a || b) ≡ false → a ≡ false
-or_first_false true b h = absurd (true≢false h)
-or_first_false false b h = refl
-
-or_second_false : (a b : Bool) → (a || b) ≡ false → b ≡ false
-or_second_false true b h = absurd (true≢false h)
-or_second_false false b h = h
-
 filter_none : {X : Type 0} (p : X → Bool) (xs : List X) → list_any p xs ≡ false → filter p xs ≡ []
 filter_none p [] h = refl
-filter_none p (x ∷ xs) h = none_kept (p x) x (filter p xs) (or_first_false (p x) _ h) (filter_none p xs (or_second_false (p x) _ h))
+filter_none p (x ∷ xs) h = none_kept (p x) x (filter p xs) (or_parts (p x) _ h).0 (filter_none p xs (or_parts (p x) _ h).1)
 
 same_length : {X Y : Type 0} (b : Bool) (x : X) (y : Y) (l : List X) (m : List Y) → length l ≡ length m
     → length (cond b (x ∷ l) l) ≡ length (cond b (y ∷ m) m)
@@ -78,10 +71,6 @@ one_found flag (s ∷ ss) k h =
 
 -- ---- of both kinds
 
-and_false : (x y : Bool) → y ≡ false → (x && y) ≡ false
-and_false true y h = h
-and_false false y h = refl
-
 one_by_gate : (ps : List Piece) → are_sorted ps ≡ true → All (PieceEnds false) ps → (v : VersionValue) → IsVersion v
     → length (found (key v) ps) ≤ 1
 one_by_gate ps h g v k =
@@ -99,7 +88,7 @@ one_by_gate ps h g v k =
     (one_found true s.front (key v) (canonical_from true s.front (sorted_front front back sorted))))
     (λ r.
     let none : found (key v) front ≡ [] = filter_none (λ t. in_piece t (key v)) front
-    (in_flagged true s.front (key v) ∙ and_false (has (slice_cmp nat_cmp) s.front (key v)) (ends_in_3 (key v)) (key_end v ∙ r)) in
+    (in_flagged true s.front (key v) ∙ and_right (has (slice_cmp nat_cmp) s.front (key v)) (ends_in_3 (key v)) (key_end v ∙ r)) in
     subst (λ l. length l ≤ 1) (sym (both ∙ ap (λ l. l ++ found (key v) back) none))
     (one_found false s.back (key v) (canonical_from false s.back (sorted_back front back sorted))))
 

@@ -1,5 +1,7 @@
 -- Lists of spans as lists of pieces, and pieces of one kind as stretches.
 use Rattle.std.proofs.Common.{ℕ, ◌≡◌, ◌++◌, ◌∷◌, ◌&&◌, ◌||◌, List, [], Bool, true, false, not, refl, ap, ◌∙◌, sym}
+use Rattle.std.proofs.lemmas.Bool.{and_from}
+use Rattle.std.proofs.Math.Bool.{and-true}
 use Rattle.std.proofs.lemmas.List.Folds.{list_any-append}
 use Rattle.std.specs.Cmp.Lexicographic.{slice_cmp}
 use Rattle.std.specs.Ordering.{is_lt, nat_cmp}
@@ -15,7 +17,7 @@ use Rattle.key_spans.specs.Internal.Sets.{Stretch, has, holds, is_canonical, is_
 use Rattle.key_spans.specs.Spans.{ends_in_3, in_spans, is_behind, is_some_span, is_sorted}
 use Rattle.key_spans.specs.declared.KeySpan.{KeySpan}
 use Rattle.key_spans.proofs.Keys.{key_end}
-use Rattle.key_spans.proofs.Line.{and_both, and_first, and_second, by_bool}
+use Rattle.key_spans.proofs.Line.{and_first, and_second, by_bool}
 use Rattle.key_spans.proofs.{AllVersions.versions_exact, PreReleases.{no_release, pre_releases_exact}, Releases.releases_exact}
 
 pub in_spans-pieces : (spans : List KeySpan) (k : List ℕ) → in_spans spans k ≡ in_pieces (pieces spans) k
@@ -68,13 +70,9 @@ module _ (ss : List (Span VersionValue)) (v : VersionValue) (h : All IsSpan ss) 
       (λ e. (λ i. (x && (false || e i)) || (pre_releases_exact ss v h k e i && (true || e i)))
       ∙ of_pre_release x (accepts ss v false))))
 
-  and_true : (b : Bool) → (b && true) ≡ b
-  and_true true = refl
-  and_true false = refl
-
   pub all_exact : (vs : List (Stretch (List ℕ))) → IsCanonicalOf (versions ss) vs
       → in_pieces (all_flagged false vs) (key v) ≡ accepts ss v true
-  all_exact vs r = in_flagged false vs (key v) ∙ (and_true _ ∙ (r.same (key v) ∙ versions_exact ss v h k))
+  all_exact vs r = in_flagged false vs (key v) ∙ (and-true _ ∙ (r.same (key v) ∙ versions_exact ss v h k))
 
 -- ---- order
 
@@ -82,7 +80,7 @@ sorted_past : (flag : Bool) (p : List ℕ) (ss : List (Stretch (List ℕ))) → 
     → (s : Stretch (List ℕ)) → s.stop ≡ p → is_lt (slice_cmp nat_cmp s.start s.stop) ≡ true → are_sorted (all_flagged flag (s ∷ ss)) ≡ true
 sorted_past flag p [] h s e l = l
 sorted_past flag p (t ∷ ts) h s e l =
-    and_both _ _ l (and_both _ _ (behind flag)
+    and_from _ _ l (and_from _ _ (behind flag)
     (sorted_past flag t.stop ts (and_second (is_lt (slice_cmp nat_cmp t.start t.stop)) _ more) t refl (and_first _ _ more)))
   where
     more : (is_lt (slice_cmp nat_cmp t.start t.stop) && is_past (slice_cmp nat_cmp) t.stop ts) ≡ true
@@ -101,11 +99,11 @@ sorted_before : (xs : List (Stretch (List ℕ))) (ys : List (Stretch (List ℕ))
     → are_sorted (all_flagged false ys) ≡ true → are_sorted (all_flagged true xs ++ all_flagged false ys) ≡ true
 sorted_before [] ys h g = g
 sorted_before (x ∷ []) [] h g = h
-sorted_before (x ∷ []) (y ∷ ys) h g = and_both _ _ h g
+sorted_before (x ∷ []) (y ∷ ys) h g = and_from _ _ h g
 sorted_before (x ∷ z ∷ xs) ys h g =
     let more : (is_piece_behind (flagged true x) (flagged true z) && are_sorted (all_flagged true (z ∷ xs))) ≡ true =
     and_second (is_some_piece (flagged true x)) _ h in
-    and_both _ _ (and_first _ _ h) (and_both _ _ (and_first _ _ more)
+    and_from _ _ (and_first _ _ h) (and_from _ _ (and_first _ _ more)
     (sorted_before (z ∷ xs) ys (and_second (is_piece_behind (flagged true x) (flagged true z)) _ more) g))
 
 pub sorted-both : (rs ps : List (Stretch (List ℕ))) → is_canonical (slice_cmp nat_cmp) rs ≡ true → is_canonical (slice_cmp nat_cmp) ps ≡ true

@@ -1,5 +1,6 @@
 -- The sweep keeps the places of spans.
 use Rattle.std.proofs.Common.{◌≡◌, List, [], ◌∷◌, Bool, true, false, refl, inl, inr}
+use Rattle.std.proofs.lemmas.Bool.{and_from}
 use Rattle.std.specs.Prelude.{◌↔◌, All, if◌then◌else◌}
 use Rattle.std.proofs.lemmas.List.Elements.{All-cons, All-head, All-nil, All-tail}
 use Rattle.std.specs.Cmp.{IsTotalOrder}
@@ -7,7 +8,7 @@ use Rattle.std.specs.List.{fold}
 use Rattle.std.specs.Ordering.{is_le, is_lt}
 use Rattle.std.specs.declared.cmp.Ordering.{Ordering}
 use Rattle.key_spans.proofs.Line as line
-use Rattle.key_spans.proofs.Line.{and_both, and_first, and_second}
+use Rattle.key_spans.proofs.Line.{and_first, and_second}
 use Rattle.key_spans.proofs.Normal.{insert, is_rising, normal, ordered, ordered_rises}
 use Rattle.key_spans.proofs.Sweeping.{joined_upto, rising, starts_upto, upto_more}
 use Rattle.key_spans.proofs.IsPlaced.{IsParted, IsPlaced}
@@ -75,7 +76,7 @@ module _ {A : Type 0} {R : A → A → Ordering} (o : IsTotalOrder R) (P : A →
 
   sweep_placed : (xs : List (Stretch A)) → is_rising R xs ≡ true → All Fit xs → All Placed (fold (joined R) [] xs)
   sweep_placed [] h p = All-nil Placed
-  sweep_placed (x ∷ xs) h p = swept_placed x.start [] (x ∷ xs) refl (and_both _ _ (line.le_itself o x.start) h) (All-nil Placed) p
+  sweep_placed (x ∷ xs) h p = swept_placed x.start [] (x ∷ xs) refl (and_from _ _ (line.le_itself o x.start) h) (All-nil Placed) p
 
   pub normal_placed : (ss : List (Stretch A)) → All Fit ss → All Placed (normal R ss)
   normal_placed ss p = sweep_placed (ordered R ss) (ordered_rises o ss) (ordered_fit ss p)

@@ -1,5 +1,6 @@
 -- The stretches of the pre-releases are exact, and hold no release.
 use Rattle.std.proofs.Common.{ℕ, ◌≡◌, ◌++◌, ◌∷◌, ◌&&◌, ◌||◌, List, [], Bool, true, false, not, refl, ap, arith, ◌∙◌, sym, true≢false}
+use Rattle.std.proofs.Math.Bool.{and-false, or-false}
 use Rattle.std.specs.Prelude.{All, if◌then◌else◌}
 use Rattle.std.proofs.lemmas.List.Elements.{All-append, All-cons, All-head, All-nil, All-tail}
 use Rattle.std.proofs.lemmas.List.Folds.{list_any-append}
@@ -119,14 +120,6 @@ four true false true d = refl
 four true false false d = refl
 four false b c d = refl
 
-or_false : (b : Bool) → (b || false) ≡ b
-or_false true = refl
-or_false false = refl
-
-and_false : (b : Bool) → false ≡ (b && false)
-and_false true = refl
-and_false false = refl
-
 abbrev names : VersionValue → VersionValue → Bool
 names v w = not (is_release w) && (not (is_release v) && same w v)
 
@@ -135,18 +128,18 @@ own_by : (b : Bool) (start stop : List ℕ) (w v : VersionValue) → IsVersion w
       start = greater start (lowest_key w.major w.minor w.patch);
       stop = lesser stop (release_key w.major w.minor w.patch);
     } ∷ []) (key v) ≡ ((le start (key v) && lt (key v) stop) && (not b && (not (is_release v) && same w v)))
-own_by true start stop w v h k = and_false _
+own_by true start stop w v h k = sym (and-false _)
 own_by false start stop w v h k =
     let first : List ℕ = lowest_key w.major w.minor w.patch in
     let last : List ℕ = release_key w.major w.minor w.patch in
-    or_false _
+    or-false _
     ∙ ((λ i. of_keys.greater_le start first (key v) i && of_keys.lesser_lt stop last (key v) i)
     ∙ (four (le start (key v)) (le first (key v)) (lt (key v) stop) (lt (key v) last)
     ∙ ap (λ b. (le start (key v) && lt (key v) stop) && b) (of_keys.own_holds w v h k)))
 
 bound_law : (start stop : List ℕ) (b : Bound VersionValue) (v : VersionValue) → IsEnd b → IsVersion v
     → has (slice_cmp nat_cmp) (bound_stretch start stop b) (key v) ≡ ((le start (key v) && lt (key v) stop) && passes (names v) b)
-bound_law start stop Unbounded v h k = and_false _
+bound_law start stop Unbounded v h k = sym (and-false _)
 bound_law start stop (Before w) v h k = own_by (is_release w) start stop w v h k
 bound_law start stop (After w) v h k = own_by (is_release w) start stop w v h k
 
@@ -190,7 +183,7 @@ pre_releases_exact (s ∷ ss) v h k r =
 -- ---- no release
 
 and_not : (x y : Bool) → y ≡ false → (x && y) ≡ false
-and_not x y h = ap (λ b. x && b) h ∙ sym (and_false x)
+and_not x y h = ap (λ b. x && b) h ∙ and-false x
 
 no_name : (a r s : Bool) → r ≡ true → (not a && (not r && s)) ≡ false
 no_name a r s h = and_not (not a) (not r && s) (ap (λ b. not b && s) h)

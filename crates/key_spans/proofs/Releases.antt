@@ -2,7 +2,7 @@
 use Rattle.std.proofs.Common.{ℕ, ◌≡◌, ◌<◌, ◌≤◌, ◌^◌, ◌+◌, ◌∷◌, ◌&&◌, ◌||◌, List, [], Bool, true, false, not, refl, ap, arith, ◌∙◌, sym, true≢false, subst, inl, inr}
 use borrow.Author.Tests.{ltb-false, ltb-true}
 use Rattle.key_spans.proofs.Line as line
-use Rattle.std.proofs.lemmas.Bool.{cases_lt}
+use Rattle.std.proofs.lemmas.Bool.{cases_lt, not-true, or_left}
 use Rattle.std.specs.Cmp.{nat_cmp_total, tied_itself}
 use Rattle.std.specs.Prelude.{All, None, Some, nat_lt, if◌then◌else◌}
 use Rattle.std.proofs.lemmas.List.Elements.{All-head, All-tail, All-nil}
@@ -15,7 +15,7 @@ use Rattle.key_spans.specs.Internal.Sets.{has, holds}
 use Rattle.semver_core.proofs.Encoding.Numbers.{bytes_cmp, cmp_above, cmp_below}
 use Rattle.semver_core.proofs.Encoding.Order.{key_cmp, low_below, then_equal}
 use Rattle.key_spans.proofs.Keys as of_keys
-use Rattle.key_spans.proofs.Keys.{le, lt, numbers_cmp}
+use Rattle.key_spans.proofs.Keys.{le, lt, numbers_cmp, then_le}
 use Rattle.semver_core.specs.Cuts as cuts
 use Rattle.semver_core.specs.Cuts.{Span, is_past, lower_cut, upper_cut}
 use Rattle.nodejs_semver.specs.Ranges.Gate.{accepts}
@@ -92,22 +92,13 @@ then_true Less b h k = refl
 then_true Equal b h k = k
 then_true Greater b h k = h
 
-then_le : (a b : Ordering) → is_le b ≡ true → is_le (ordering_then a b) ≡ is_le a
-then_le Less b h = refl
-then_le Equal b h = h
-then_le Greater b h = refl
-
 then_not : (a b : Ordering) → is_lt b ≡ false → is_lt (ordering_then a b) ≡ is_lt a
 then_not Less b h = refl
 then_not Equal b h = h
 then_not Greater b h = refl
 
-not_true : (b : Bool) → not b ≡ true → b ≡ false
-not_true true h = sym h
-not_true false h = refl
-
 pub end_past : (v : VersionValue) → IsVersion v → le end_key (key v) ≡ false
-end_past v h = not_true _ (sym (of_keys.lt_le (key v) end_key) ∙ ap is_lt (low_below (key v) [] (of_keys.key_low v h)))
+end_past v h = not-true _ (sym (of_keys.lt_le (key v) end_key) ∙ ap is_lt (low_below (key v) [] (of_keys.key_low v h)))
 
 greatest : (n k : ℕ) → k < 2 ^ 64 → nat_lt (n + 1) (2 ^ 64) ≡ false → is_lt (nat_cmp n k) ≡ false
 greatest n k h e = not_lt_cmp n k (let u : 2 ^ 64 ≤ n + 1 = ltb-false (n + 1) (2 ^ 64) e in omega arith)
@@ -167,7 +158,7 @@ before_past : (w v : VersionValue) → IsVersion w → IsVersion v → is_releas
 before_past w v g h r = ap is_le (key_release w.major w.minor w.patch v g.major g.minor g.patch h r)
     ∙ (before_cases (numbers_cmp w v) (is_release w) ∙ ap (λ o. is_le (ordering_then o Equal)) (sym (against_release w v g h r)))
 
-zero_le : (v : VersionValue) → is_le (numbers_cmp (release_value 0 0 0) v) ≡ true
+pub zero_le : (v : VersionValue) → is_le (numbers_cmp (release_value 0 0 0) v) ≡ true
 zero_le v = then_true _ _ (le_cmp 0 v.major (omega arith)) (then_true _ _ (le_cmp 0 v.minor (omega arith)) (le_cmp 0 v.patch (omega arith)))
 
 lower_past : (b : Bound VersionValue) (v : VersionValue) → IsEnd b → IsVersion v → is_release v ≡ true
@@ -189,9 +180,6 @@ holds_releases : (s : Span VersionValue) (v : VersionValue) → IsSpan s → IsV
     → holds (slice_cmp nat_cmp) (release_stretch s) (key v) ≡ cuts.holds precedence s v
 holds_releases s v h k r = λ i. lower_past s.lower v h.lower k r i && upper_past s.upper v h.upper k r i
 
-or_first : (x y : Bool) → x ≡ true → (x || y) ≡ true
-or_first x y h = ap (λ b. b || y) h
-
 and_whole : (x y : Bool) → y ≡ true → x ≡ (x && y)
 and_whole true y h = sym h
 and_whole false y h = refl
@@ -203,5 +191,5 @@ releases_exact (s ∷ ss) v h k r =
     let one : holds (slice_cmp nat_cmp) (release_stretch s) (key v) ≡ (cuts.holds precedence s v && lets_in s v) =
     holds_releases s v (All-head IsSpan s ss h) k r
     ∙ and_whole (cuts.holds precedence s v) (lets_in s v)
-    (or_first (is_release v) (cuts.has_bound (λ w. not (is_release w) && of_keys.same w v) s) r) in
+    (or_left (is_release v) (cuts.has_bound (λ w. not (is_release w) && of_keys.same w v) s) r) in
     λ i. one i || releases_exact ss v (All-tail IsSpan s ss h) k r i

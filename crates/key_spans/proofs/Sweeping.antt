@@ -1,5 +1,7 @@
 -- A sweep over spans in the order of their starts gives the canonical list.
 use Rattle.std.proofs.Common.{suc, ◌≡◌, ◌&&◌, ◌||◌, ◌++◌, List, [], ◌∷◌, Bool, true, false, refl, ap, ◌∙◌, sym, true≢false, arith}
+use Rattle.std.proofs.lemmas.Bool.{and_from, and_left, and_right}
+use Rattle.std.proofs.Math.Bool.{or-false}
 use native.Mathlib.Numerals.{unary_clauses}
 use Rattle.std.specs.Prelude.{if◌then◌else◌}
 use Rattle.std.specs.Cmp.{IsTotalOrder}
@@ -9,7 +11,7 @@ use Rattle.std.specs.List.Sorted.{IsPermutation, IsSortedBy}
 use Rattle.std.specs.Ordering.{is_le, is_lt}
 use Rattle.std.specs.declared.cmp.Ordering.{Ordering}
 use Rattle.key_spans.proofs.Line as line
-use Rattle.key_spans.proofs.Line.{and_both, and_first, and_not_first, and_not_second, and_second, by_bool}
+use Rattle.key_spans.proofs.Line.{and_first, and_second, by_bool}
 use Rattle.key_spans.proofs.Unique.{tail_past}
 use Rattle.key_spans.specs.Internal.Sets.{has, holds, is_canonical, is_past}
 use Rattle.key_spans.specs.Internal.Sets.{alone, joined, later, pair}
@@ -21,14 +23,10 @@ joined_last R [] c s = refl
 joined_last R (x ∷ []) c s = refl
 joined_last R (x ∷ y ∷ xs) c s = ap (λ l. x ∷ l) (joined_last R (y ∷ xs) c s)
 
-or_false : (b : Bool) → (b || false) ≡ b
-or_false true = refl
-or_false false = refl
-
 near_cases : (p q a b : Bool) → (q ≡ true → p ≡ true) → (q ≡ false → a ≡ true)
     → ((p && (a || b)) || false) ≡ (((p && a) || false) || (q && b))
 near_cases true true true b h g = refl
-near_cases true true false b h g = or_false b
+near_cases true true false b h g = or-false b
 near_cases true false true b h g = refl
 near_cases true false false b h g = absurd (true≢false (sym (g refl)))
 near_cases false true a b h g = absurd (true≢false (sym (h refl)))
@@ -51,11 +49,11 @@ pub record IsSweep {A : Type 0} (R : A → A → Ordering) (out done todo : List
 module _ {A : Type 0} {R : A → A → Ordering} (o : IsTotalOrder R) where
   empty_none : (s : Stretch A) → is_lt (R s.start s.stop) ≡ false → (k : A) → holds R s k ≡ false
   empty_none s h k = by_bool (is_le (R s.start k))
-      (λ e. and_not_second _ _ (line.not_lt o k s.stop (line.le_le o s.stop s.start k (line.le_from_not o s.start s.stop h) e)))
-      (λ e. and_not_first _ _ e)
+      (λ e. and_right _ _ (line.not_lt o k s.stop (line.le_le o s.stop s.start k (line.le_from_not o s.start s.stop h) e)))
+      (λ e. and_left _ _ e)
 
   alone_by : (t : Bool) (s : Stretch A) → is_lt (R s.start s.stop) ≡ t → (k : A) → has R (if t then s ∷ [] else []) k ≡ holds R s k
-  alone_by true s h k = or_false _
+  alone_by true s h k = or-false _
   alone_by false s h k = sym (empty_none s h k)
 
   alone_has : (s : Stretch A) (k : A) → has R (alone R s) k ≡ holds R s k
@@ -68,7 +66,7 @@ module _ {A : Type 0} {R : A → A → Ordering} (o : IsTotalOrder R) where
   later_by false a b k h = by_bool (is_lt (R k b))
       (λ e. let u : is_lt (R k a) ≡ true = line.lt_before_le o k b a e (line.le_from_not o a b h) in
       u ∙ sym (ap (λ x. x || is_lt (R k b)) u))
-      (λ e. sym (ap (λ x. is_lt (R k a) || x) e ∙ or_false _))
+      (λ e. sym (ap (λ x. is_lt (R k a) || x) e ∙ or-false _))
 
   later_lt : (a b k : A) → is_lt (R k (later R a b)) ≡ (is_lt (R k a) || is_lt (R k b))
   later_lt a b k = later_by (is_lt (R a b)) a b k refl
@@ -76,7 +74,7 @@ module _ {A : Type 0} {R : A → A → Ordering} (o : IsTotalOrder R) where
   pair_by : (t : Bool) (c s : Stretch A) → is_lt (R c.stop s.start) ≡ t → is_le (R c.start s.start) ≡ true → (k : A)
       → has R (if t then c ∷ alone R s else record { start = c.start; stop = later R c.stop s.stop } ∷ []) k
       ≡ ((holds R c k || false) || holds R s k)
-  pair_by true c s h g k = λ i. sym (or_false (holds R c k)) i || alone_has s k i
+  pair_by true c s h g k = λ i. sym (or-false (holds R c k)) i || alone_has s k i
   pair_by false c s h g k =
       (λ i. (is_le (R c.start k) && later_lt c.stop s.stop k i) || false)
       ∙ near_cases (is_le (R c.start k)) (is_le (R s.start k)) (is_lt (R k c.stop)) (is_lt (R k s.stop))
@@ -103,14 +101,14 @@ module _ {A : Type 0} {R : A → A → Ordering} (o : IsTotalOrder R) where
 
   alone_past_by : (t : Bool) (p : A) (s : Stretch A) → is_lt (R s.start s.stop) ≡ t → is_lt (R p s.start) ≡ true
       → is_past R p (if t then s ∷ [] else []) ≡ true
-  alone_past_by true p s h g = and_both _ _ g (and_both _ _ h refl)
+  alone_past_by true p s h g = and_from _ _ g (and_from _ _ h refl)
   alone_past_by false p s h g = refl
 
   alone_past : (p : A) (s : Stretch A) → is_lt (R p s.start) ≡ true → is_past R p (alone R s) ≡ true
   alone_past p s = alone_past_by (is_lt (R s.start s.stop)) p s refl
 
   alone_canonical_by : (t : Bool) (s : Stretch A) → is_lt (R s.start s.stop) ≡ t → is_canonical R (if t then s ∷ [] else []) ≡ true
-  alone_canonical_by true s h = and_both _ _ h refl
+  alone_canonical_by true s h = and_from _ _ h refl
   alone_canonical_by false s h = refl
 
   before_later : (a b c : A) → is_lt (R c a) ≡ true → is_lt (R c (later R a b)) ≡ true
@@ -119,13 +117,13 @@ module _ {A : Type 0} {R : A → A → Ordering} (o : IsTotalOrder R) where
   pair_past_by : (t : Bool) (p : A) (c s : Stretch A) → is_lt (R c.stop s.start) ≡ t → is_lt (R p c.start) ≡ true
       → is_lt (R c.start c.stop) ≡ true
       → is_past R p (if t then c ∷ alone R s else record { start = c.start; stop = later R c.stop s.stop } ∷ []) ≡ true
-  pair_past_by true p c s h g f = and_both _ _ g (and_both _ _ f (alone_past c.stop s h))
-  pair_past_by false p c s h g f = and_both _ _ g (and_both _ _ (before_later c.stop s.stop c.start f) refl)
+  pair_past_by true p c s h g f = and_from _ _ g (and_from _ _ f (alone_past c.stop s h))
+  pair_past_by false p c s h g f = and_from _ _ g (and_from _ _ (before_later c.stop s.stop c.start f) refl)
 
   pair_canonical_by : (t : Bool) (c s : Stretch A) → is_lt (R c.stop s.start) ≡ t → is_lt (R c.start c.stop) ≡ true
       → is_canonical R (if t then c ∷ alone R s else record { start = c.start; stop = later R c.stop s.stop } ∷ []) ≡ true
-  pair_canonical_by true c s h f = and_both _ _ f (alone_past c.stop s h)
-  pair_canonical_by false c s h f = and_both _ _ (before_later c.stop s.stop c.start f) refl
+  pair_canonical_by true c s h f = and_from _ _ f (alone_past c.stop s h)
+  pair_canonical_by false c s h f = and_from _ _ (before_later c.stop s.stop c.start f) refl
 
   joined_past : (p : A) (c : Stretch A) (cs : List (Stretch A)) (s : Stretch A) → is_past R p (c ∷ cs) ≡ true
       → is_past R p (joined R (c ∷ cs) s) ≡ true
@@ -133,42 +131,42 @@ module _ {A : Type 0} {R : A → A → Ordering} (o : IsTotalOrder R) where
       (and_first _ _ (and_second (is_lt (R p c.start)) _ h))
   joined_past p c (d ∷ cs) s h =
       let more : (is_lt (R c.start c.stop) && is_past R c.stop (d ∷ cs)) ≡ true = and_second (is_lt (R p c.start)) _ h in
-      and_both _ _ (and_first _ _ h) (and_both _ _ (and_first _ _ more)
+      and_from _ _ (and_first _ _ h) (and_from _ _ (and_first _ _ more)
       (joined_past c.stop d cs s (and_second (is_lt (R c.start c.stop)) _ more)))
 
   joined_canonical : (out : List (Stretch A)) (s : Stretch A) → is_canonical R out ≡ true → is_canonical R (joined R out s) ≡ true
   joined_canonical [] s h = alone_canonical_by (is_lt (R s.start s.stop)) s refl
   joined_canonical (c ∷ []) s h = pair_canonical_by (is_lt (R c.stop s.start)) c s refl (and_first _ _ h)
-  joined_canonical (c ∷ d ∷ cs) s h = and_both _ _ (and_first _ _ h) (joined_past c.stop d cs s (tail_past o c (d ∷ cs) h))
+  joined_canonical (c ∷ d ∷ cs) s h = and_from _ _ (and_first _ _ h) (joined_past c.stop d cs s (tail_past o c (d ∷ cs) h))
 
   -- ---- the starts stay in order
 
   pub upto_more : (a b : A) (ss : List (Stretch A)) → is_le (R a b) ≡ true → starts_upto R a ss ≡ true → starts_upto R b ss ≡ true
   upto_more a b [] h g = refl
-  upto_more a b (s ∷ ss) h g = and_both _ _ (line.le_le o s.start a b (and_first _ _ g) h)
+  upto_more a b (s ∷ ss) h g = and_from _ _ (line.le_le o s.start a b (and_first _ _ g) h)
       (upto_more a b ss h (and_second (is_le (R s.start a)) _ g))
 
   alone_upto_by : (t : Bool) (b : A) (s : Stretch A) → is_le (R s.start b) ≡ true → starts_upto R b (if t then s ∷ [] else []) ≡ true
-  alone_upto_by true b s h = and_both _ _ h refl
+  alone_upto_by true b s h = and_from _ _ h refl
   alone_upto_by false b s h = refl
 
   pair_upto_by : (t : Bool) (b : A) (c s : Stretch A) → is_le (R c.start b) ≡ true → is_le (R s.start b) ≡ true
       → starts_upto R b (if t then c ∷ alone R s else record { start = c.start; stop = later R c.stop s.stop } ∷ []) ≡ true
-  pair_upto_by true b c s h g = and_both _ _ h (alone_upto_by (is_lt (R s.start s.stop)) b s g)
-  pair_upto_by false b c s h g = and_both _ _ h refl
+  pair_upto_by true b c s h g = and_from _ _ h (alone_upto_by (is_lt (R s.start s.stop)) b s g)
+  pair_upto_by false b c s h g = and_from _ _ h refl
 
   pub joined_upto : (b : A) (out : List (Stretch A)) (s : Stretch A) → starts_upto R b out ≡ true → is_le (R s.start b) ≡ true
       → starts_upto R b (joined R out s) ≡ true
   joined_upto b [] s h g = alone_upto_by (is_lt (R s.start s.stop)) b s g
   joined_upto b (c ∷ []) s h g = pair_upto_by (is_lt (R c.stop s.start)) b c s (and_first _ _ h) g
-  joined_upto b (c ∷ d ∷ cs) s h g = and_both _ _ (and_first _ _ h)
+  joined_upto b (c ∷ d ∷ cs) s h g = and_from _ _ (and_first _ _ h)
       (joined_upto b (d ∷ cs) s (and_second (is_le (R c.start b)) _ h) g)
 
   -- ---- the sweep
 
   pub swept : (b : A) (out ss : List (Stretch A)) → is_canonical R out ≡ true → starts_upto R b out ≡ true → rising R b ss ≡ true
       → IsSweep R (fold (joined R) out ss) out ss
-  swept b out [] h g f = record { canonical = h; same = λ k. sym (or_false _) }
+  swept b out [] h g f = record { canonical = h; same = λ k. sym (or-false _) }
   swept b out (s ∷ ss) h g f =
       let upto : starts_upto R s.start out ≡ true = upto_more b s.start out (and_first _ _ f) g in
       let rest : IsSweep R (fold (joined R) (joined R out s) ss) (joined R out s) ss =
@@ -181,12 +179,12 @@ module _ {A : Type 0} {R : A → A → Ordering} (o : IsTotalOrder R) where
 
   rises : (x : Stretch A) (xs : List (Stretch A)) → IsSortedBy (λ a b. is_lt (R a.start b.start)) (x ∷ xs) → rising R x.start xs ≡ true
   rises x [] h = refl
-  rises x (y ∷ xs) h = and_both _ _ (line.le_from_not o y.start x.start (h 0 x (omega arith) (omega arith)))
+  rises x (y ∷ xs) h = and_from _ _ (line.le_from_not o y.start x.start (h 0 x (omega arith) (omega arith)))
       (rises y xs (λ k d l m. simp unary_clauses (simp unary_clauses at (h (suc k) d (omega arith) (omega arith)))))
 
   pub sweep : (xs : List (Stretch A)) → IsSortedBy (λ a b. is_lt (R a.start b.start)) xs → IsSweep R (fold (joined R) [] xs) [] xs
   sweep [] h = record { canonical = refl; same = λ k. refl }
-  sweep (x ∷ xs) h = swept x.start [] (x ∷ xs) refl refl (and_both _ _ (line.le_itself o x.start) (rises x xs h))
+  sweep (x ∷ xs) h = swept x.start [] (x ∷ xs) refl refl (and_from _ _ (line.le_itself o x.start) (rises x xs h))
 
   -- the same, as a loop leaves it that has taken all that a sort made of a list
   pub swept_all : (all xs ys out : List (Stretch A)) → IsSortedBy (λ a b. is_lt (R a.start b.start)) xs

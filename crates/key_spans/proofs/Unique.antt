@@ -1,5 +1,6 @@
 -- Canonical lists with the same points are equal.
-use Rattle.std.proofs.Common.{◌≡◌, ◌||◌, List, [], ◌∷◌, Bool, true, false, refl, ap, ◌∙◌, sym, subst, inl, inr}
+use Rattle.std.proofs.Common.{◌≡◌, ◌||◌, List, [], ◌∷◌, true, false, refl, ap, ◌∙◌, sym, subst, inl, inr}
+use Rattle.std.proofs.lemmas.Bool.{and_from, and_left, and_right, or_left}
 use Rattle.std.specs.Prelude.{⊤, All}
 use Rattle.std.proofs.lemmas.List.Elements.{All-cons, All-nil, All-head, All-tail}
 use Rattle.std.specs.Cmp.{IsTotalOrder}
@@ -7,13 +8,10 @@ use Rattle.std.specs.Ordering.{is_le, is_lt}
 use Rattle.std.specs.declared.cmp.Ordering.{Ordering}
 use Rattle.std.specs.declared.cmp.Ordering.TheVariants.{Equal}
 use Rattle.key_spans.proofs.Line as line
-use Rattle.key_spans.proofs.Line.{and_both, and_first, and_not_first, and_not_second, and_second, by_bool, false_true}
+use Rattle.key_spans.proofs.Line.{and_first, and_second, by_bool, false_true}
 use Rattle.key_spans.proofs.IsPlaced.{IsPlaced}
 use Rattle.key_spans.specs.Internal.Sets.{has, holds, is_canonical, is_past}
 use Rattle.key_spans.specs.Internal.Sets.{Stretch}
-
-or_first : (x y : Bool) → x ≡ true → (x || y) ≡ true
-or_first x y h = ap (λ b. b || y) h
 
 module _ {A : Type 0} {R : A → A → Ordering} (o : IsTotalOrder R) where
   -- spans past p hold nothing up to p
@@ -24,7 +22,7 @@ module _ {A : Type 0} {R : A → A → Ordering} (o : IsTotalOrder R) where
       let full : is_lt (R s.start s.stop) ≡ true = and_first _ _ (and_second (is_lt (R p s.start)) _ h) in
       let rest : is_past R s.stop ss ≡ true = and_second (is_lt (R s.start s.stop)) _ (and_second (is_lt (R p s.start)) _ h) in
       let below : is_lt (R k s.start) ≡ true = line.lt_after_le o k p s.start e above in
-      let here : holds R s k ≡ false = and_not_first _ _ (line.not_back o k s.start below) in
+      let here : holds R s k ≡ false = and_left _ _ (line.not_back o k s.start below) in
       let there : has R ss k ≡ false = none_upto s.stop ss rest k
       (line.le_le o k s.start s.stop (line.le_from_lt o k s.start below) (line.le_from_lt o s.start s.stop full)) in
       λ i. here i || there i
@@ -39,7 +37,7 @@ module _ {A : Type 0} {R : A → A → Ordering} (o : IsTotalOrder R) where
 
   -- its first start is its first point
   has_start : (s : Stretch A) (ss : List (Stretch A)) → is_canonical R (s ∷ ss) ≡ true → has R (s ∷ ss) s.start ≡ true
-  has_start s ss h = or_first _ _ (and_both _ _ (line.le_itself o s.start) (and_first _ _ h))
+  has_start s ss h = or_left _ _ (and_from _ _ (line.le_itself o s.start) (and_first _ _ h))
 
   start_first : (s : Stretch A) (ss : List (Stretch A)) → is_canonical R (s ∷ ss) ≡ true → (k : A) → has R (s ∷ ss) k ≡ true
       → is_le (R s.start k) ≡ true
@@ -47,11 +45,11 @@ module _ {A : Type 0} {R : A → A → Ordering} (o : IsTotalOrder R) where
       let below : is_lt (R k s.start) ≡ true = line.lt_from_not o k s.start e in
       let there : has R ss k ≡ false = none_upto s.stop ss (tail_past s ss h) k
       (line.le_le o k s.start s.stop (line.le_from_lt o k s.start below) (line.le_from_lt o s.start s.stop (and_first _ _ h))) in
-      false_true (has R (s ∷ ss) k) (λ i. and_not_first _ (is_lt (R k s.stop)) e i || there i) m)
+      false_true (has R (s ∷ ss) k) (λ i. and_left _ (is_lt (R k s.stop)) e i || there i) m)
 
   -- past the first stop only the rest counts
   rest_has : (s : Stretch A) (ss : List (Stretch A)) (k : A) → is_lt (R s.stop k) ≡ true → has R (s ∷ ss) k ≡ has R ss k
-  rest_has s ss k h = ap (λ b. b || has R ss k) (and_not_second (is_le (R s.start k)) _ (line.not_lt o k s.stop (line.le_from_lt o s.stop k h)))
+  rest_has s ss k h = ap (λ b. b || has R ss k) (and_right (is_le (R s.start k)) _ (line.not_lt o k s.stop (line.le_from_lt o s.stop k h)))
 
   same_at : ((a b : A) → R a b ≡ Equal → a ≡ b) → (a b : A) → is_le (R a b) ≡ true → is_le (R b a) ≡ true → a ≡ b
   same_at exact a b h k = exact a b (line.tied o a b h k)
@@ -79,11 +77,11 @@ module _ {A : Type 0} {R : A → A → Ordering} (o : IsTotalOrder R) where
       | inl at ↦ by_bool (is_le (R y.stop x.stop)) (λ u. u) (λ u.
           let later : is_lt (R x.stop y.stop) ≡ true = line.lt_from_not o x.stop y.stop u in
           let none : has R (x ∷ xs) x.stop ≡ false = λ i.
-          and_not_second (is_le (R x.start x.stop)) _ (line.not_lt o x.stop x.stop (line.le_itself o x.stop)) i
+          and_right (is_le (R x.start x.stop)) _ (line.not_lt o x.stop x.stop (line.le_itself o x.stop)) i
           || none_upto x.stop xs (tail_past x xs h) x.stop (line.le_itself o x.stop) i in
           let begun : is_le (R y.start x.stop) ≡ true =
           subst (λ a. is_le (R a x.stop) ≡ true) e (line.le_from_lt o x.start x.stop (and_first _ _ h)) in
-          let one : has R (y ∷ ys) x.stop ≡ true = or_first _ _ (and_both _ _ begun later) in
+          let one : has R (y ∷ ys) x.stop ≡ true = or_left _ _ (and_from _ _ begun later) in
           false_true (has R (y ∷ ys) x.stop) (sym (same x.stop at) ∙ none) one)
       | inr at ↦ q.within x.stop (subst (λ a. ends a x.stop) e at)
     ]
