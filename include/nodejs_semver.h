@@ -358,6 +358,17 @@ nodejs_semver_status nodejs_semver_version_clean(const char *version, size_t ver
     size_t out_size, size_t *len);
 
 /*
+ * Prints the build metadata of a version text as it is written, without its `+`: of `1.0.0+007` it is `007`, where
+ * the version itself prints as `1.0.0+7`. It is empty where the version has none. The text is read as npm reads it,
+ * with node-semver's option `loose` if that is set.
+ *
+ * Returns NODEJS_SEMVER_OK, NODEJS_SEMVER_TOO_SMALL, NODEJS_SEMVER_NOT_UTF8, NODEJS_SEMVER_BAD_VERSION or
+ * NODEJS_SEMVER_TOO_LONG.
+ */
+nodejs_semver_status nodejs_semver_version_build_text(const char *version, size_t version_len, bool loose,
+    char *out, size_t out_size, size_t *len);
+
+/*
  * Prints the version that any text has in it, as node-semver's `coerce` finds it: the leftmost number, and up to
  * two more after it that dots join. Missing numbers are 0.
  *

@@ -195,6 +195,7 @@ PRINTS(try_difference, 2, null_or_undefined,
     nodejs_semver_range_difference(NPM, TEXT(0), TEXT(1), out, size, &len))
 PRINTS(try_clean, 1, null_or_undefined, nodejs_semver_version_clean(TEXT(0), out, size, &len))
 PRINTS(try_coerce, 1, null_or_undefined, nodejs_semver_version_coerce(TEXT(0), FLAG(1), FLAG(2), FLAG(3), out, size, &len))
+PRINTS(try_build_text, 1, null_or_undefined, nodejs_semver_version_build_text(TEXT(0), FLAG(1), out, size, &len))
 
 /* The base of an increment is the fourth argument: 0, 1, or another number for none. */
 static uint32_t base_of(napi_env env, napi_value value)
@@ -299,7 +300,8 @@ NAPI_MODULE_INIT()
     const struct { const char *name; napi_callback call; } functions[] = {
         {"compare", compare}, {"satisfies", satisfies}, {"inc", inc}, {"intersect", intersect}, {"subtract", subtract}, {"minVersion", min_version},
         {"tryRead", try_read}, {"tryCompare", try_compare}, {"tryCompareBuild", try_compare_build}, {"tryDiff", try_diff}, {"tryInc", try_inc},
-        {"tryClean", try_clean}, {"tryCoerce", try_coerce}, {"tryRange", try_range}, {"trySatisfies", try_satisfies},
+        {"tryClean", try_clean}, {"tryCoerce", try_coerce}, {"tryBuildText", try_build_text}, {"tryRange", try_range},
+        {"trySatisfies", try_satisfies},
         {"tryOutside", try_outside}, {"tryMinVersion", try_min_version}, {"trySubset", try_subset}, {"tryUnion", try_union},
         {"tryIntersect", try_intersect}, {"tryDifference", try_difference},
         {"tryVersionFlaw", try_version_flaw}, {"tryRangeFlaw", try_range_flaw}};

@@ -111,6 +111,7 @@ function open(file) {
     tryInc: (version, word, identifier, base) => attempt(() => inc(version, word, identifier, base)),
     tryClean: (version) => attempt(() => it.text("version_clean", WITHOUT, [version])),
     tryCoerce: (text, ...flags) => attempt(() => it.text("version_coerce", WITHOUT, [text], ...flags.map(Number))),
+    tryBuildText: (version, loose) => attempt(() => it.text("version_build_text", WITHOUT, [version], Number(loose))),
     tryRange: (range, pre, loose) => attempt(() => it.range(range, pre, by(loose))),
     trySatisfies: (range, version, pre, loose) => attempt(() => it.flag("range_satisfies", by(loose), [range, version], pre)),
     tryOutside: (range, version, above, pre, loose) => attempt(() => it.flag("range_outside", by(loose), [range, version], above, pre)),

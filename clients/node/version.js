@@ -46,7 +46,7 @@ class SemVer extends WithOptions {
     [this.major, this.minor, this.patch] = numbers;
     this.prerelease = listOf(pre).map(identifierOf);
     // As it is written: `+001` keeps its zeros.
-    this.build = version.includes("+") ? listOf(version.trim().replace(/.*\+/, "")) : [];
+    this.build = version.includes("+") ? listOf(addon().tryBuildText(version, this.loose)) : [];
     this.version = printed(this, pre);
   }
 

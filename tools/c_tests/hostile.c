@@ -67,7 +67,7 @@ static const nodejs_semver_text VERSIONS[] = {{"1.2.0", 5}, {"1.3.0", 5}};
 #define RANGE T("^1.2 || 3")
 
 /* The calls of all functions, one for each text that is passed; the first ones print. */
-enum { PRINTING = 16, CALLS = 45 };
+enum { PRINTING = 17, CALLS = 46 };
 
 static nodejs_semver_status call(int which, uint32_t reading, const char *text, size_t len, written *w)
 {
@@ -86,36 +86,37 @@ static nodejs_semver_status call(int which, uint32_t reading, const char *text, 
     case 11: return nodejs_semver_range_least_beyond(reading, RANGE, text, len, OUT);
     case 12: return nodejs_semver_version_clean(text, len, OUT);
     case 13: return nodejs_semver_version_coerce(text, len, false, true, true, OUT);
-    case 14: return nodejs_semver_range_union(reading, text, len, RANGE, OUT);
-    case 15: return nodejs_semver_range_union(reading, RANGE, text, len, OUT);
-    case 16: return nodejs_semver_version_check(reading, text, len);
-    case 17: return nodejs_semver_version_compare(reading, text, len, VERSION, &w->compared);
-    case 18: return nodejs_semver_version_compare(reading, VERSION, text, len, &w->compared);
-    case 19: return nodejs_semver_version_diff(reading, text, len, VERSION, &w->number);
-    case 20: return nodejs_semver_version_diff(reading, VERSION, text, len, &w->number);
-    case 21: return nodejs_semver_version_flaw(text, len, &w->number, &w->index);
-    case 22: return nodejs_semver_range_ignored_words(text, len, w->words, 2, &w->len);
-    case 23: return nodejs_semver_range_satisfies(reading, text, len, VERSION, true, &w->answer);
-    case 24: return nodejs_semver_range_satisfies(reading, RANGE, text, len, false, &w->answer);
-    case 25: return nodejs_semver_range_satisfies_each(reading, text, len, VERSIONS, 2, true, w->answers, 2);
-    case 26: return nodejs_semver_range_max_satisfying(reading, text, len, VERSIONS, 2, &w->index);
-    case 27: return nodejs_semver_range_min_satisfying(reading, text, len, VERSIONS, 2, &w->index);
-    case 28: return nodejs_semver_range_outside(reading, text, len, VERSION, true, true, &w->answer);
-    case 29: return nodejs_semver_range_outside(reading, RANGE, text, len, false, false, &w->answer);
-    case 30: return nodejs_semver_range_allows_all(reading, text, len, RANGE, &w->answer);
-    case 31: return nodejs_semver_range_allows_all(reading, RANGE, text, len, &w->answer);
-    case 32: return nodejs_semver_range_allows_any(reading, text, len, RANGE, &w->answer);
-    case 33: return nodejs_semver_range_allows_any(reading, RANGE, text, len, &w->answer);
-    case 34: return nodejs_semver_version_compare_build(reading, text, len, VERSION, &w->compared);
-    case 35: return nodejs_semver_version_compare_build(reading, VERSION, text, len, &w->compared);
-    case 36: return nodejs_semver_version_read(reading, text, len, &w->parts, w->out, w->size);
-    case 37: return nodejs_semver_range_is_subset(reading, text, len, RANGE, true, &w->answer);
-    case 38: return nodejs_semver_range_is_subset(reading, RANGE, text, len, false, &w->answer);
-    case 39: return nodejs_semver_range_accepts_same(reading, text, len, RANGE, true, &w->answer);
-    case 40: return nodejs_semver_range_accepts_same(reading, RANGE, text, len, false, &w->answer);
-    case 41: return nodejs_semver_version_npm_flaw(text, len, &w->number, &w->index);
-    case 42: return nodejs_semver_range_npm_flaw(text, len, true, &w->alternative);
-    case 43: return nodejs_semver_range_read(reading, text, len, true, w->intervals, 2, &w->index, OUT);
+    case 14: return nodejs_semver_version_build_text(text, len, true, OUT);
+    case 15: return nodejs_semver_range_union(reading, text, len, RANGE, OUT);
+    case 16: return nodejs_semver_range_union(reading, RANGE, text, len, OUT);
+    case 17: return nodejs_semver_version_check(reading, text, len);
+    case 18: return nodejs_semver_version_compare(reading, text, len, VERSION, &w->compared);
+    case 19: return nodejs_semver_version_compare(reading, VERSION, text, len, &w->compared);
+    case 20: return nodejs_semver_version_diff(reading, text, len, VERSION, &w->number);
+    case 21: return nodejs_semver_version_diff(reading, VERSION, text, len, &w->number);
+    case 22: return nodejs_semver_version_flaw(text, len, &w->number, &w->index);
+    case 23: return nodejs_semver_range_ignored_words(text, len, w->words, 2, &w->len);
+    case 24: return nodejs_semver_range_satisfies(reading, text, len, VERSION, true, &w->answer);
+    case 25: return nodejs_semver_range_satisfies(reading, RANGE, text, len, false, &w->answer);
+    case 26: return nodejs_semver_range_satisfies_each(reading, text, len, VERSIONS, 2, true, w->answers, 2);
+    case 27: return nodejs_semver_range_max_satisfying(reading, text, len, VERSIONS, 2, &w->index);
+    case 28: return nodejs_semver_range_min_satisfying(reading, text, len, VERSIONS, 2, &w->index);
+    case 29: return nodejs_semver_range_outside(reading, text, len, VERSION, true, true, &w->answer);
+    case 30: return nodejs_semver_range_outside(reading, RANGE, text, len, false, false, &w->answer);
+    case 31: return nodejs_semver_range_allows_all(reading, text, len, RANGE, &w->answer);
+    case 32: return nodejs_semver_range_allows_all(reading, RANGE, text, len, &w->answer);
+    case 33: return nodejs_semver_range_allows_any(reading, text, len, RANGE, &w->answer);
+    case 34: return nodejs_semver_range_allows_any(reading, RANGE, text, len, &w->answer);
+    case 35: return nodejs_semver_version_compare_build(reading, text, len, VERSION, &w->compared);
+    case 36: return nodejs_semver_version_compare_build(reading, VERSION, text, len, &w->compared);
+    case 37: return nodejs_semver_version_read(reading, text, len, &w->parts, w->out, w->size);
+    case 38: return nodejs_semver_range_is_subset(reading, text, len, RANGE, true, &w->answer);
+    case 39: return nodejs_semver_range_is_subset(reading, RANGE, text, len, false, &w->answer);
+    case 40: return nodejs_semver_range_accepts_same(reading, text, len, RANGE, true, &w->answer);
+    case 41: return nodejs_semver_range_accepts_same(reading, RANGE, text, len, false, &w->answer);
+    case 42: return nodejs_semver_version_npm_flaw(text, len, &w->number, &w->index);
+    case 43: return nodejs_semver_range_npm_flaw(text, len, true, &w->alternative);
+    case 44: return nodejs_semver_range_read(reading, text, len, true, w->intervals, 2, &w->index, OUT);
     default: return nodejs_semver_versions_sort(reading, (nodejs_semver_text[]){{text, len}}, 1, w->order, 1, &w->index);
     }
 }
@@ -149,7 +150,7 @@ static void texts(void)
 static void short_by_one(void)
 {
     const char *given[PRINTING] = {"1.2.3-a.b+c", "1.2.3", "minor", "rc.1", "^1.2 || ^3", "^1.2.3-a", ">1.5", "1", "*", "1.3", "*", "1.3",
-                                  " =v1.2.3+b ", "a 1.2", "1", "1"};
+                                  " =v1.2.3+b ", "a 1.2", "v1.2.3beta+007.a", "1", "1"};
     for (int which = 0; which < PRINTING; which++)
         for (uint32_t reading = PORT; reading <= LOOSE; reading++) {
             written none = {0};

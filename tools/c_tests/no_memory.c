@@ -42,7 +42,7 @@ typedef struct {
 #define TEXTS texts, sizeof texts / sizeof *texts
 
 /* Calls from this number on make no request; each of the others does. */
-enum { FIRST_WITHOUT = 34, CALLS = 61 };
+enum { FIRST_WITHOUT = 34, CALLS = 62 };
 
 static nodejs_semver_status call(int which, written *w)
 {
@@ -111,6 +111,7 @@ static nodejs_semver_status call(int which, written *w)
     case 58: return nodejs_semver_meets(several, 1, several + 1, 1, &w->answer);
     case 59: return nodejs_semver_print_range(several, 1, OUT);
     case 60: return nodejs_semver_next(&release, T("minor"), T(""), 0, &w->parts, w->out, sizeof w->out);
+    case 61: return nodejs_semver_version_build_text(T(" v1.2.3-a.b+00c.07 "), false, OUT);
     default: return nodejs_semver_range_max_satisfying(PORT, T(">=1.2.0 <2.0.0-rc.1"), TEXTS, &w->index);
     }
 }

@@ -4,26 +4,11 @@ ghost use Rattle.nodejs_semver_c.specs.Answers.{Kept, Prints};
 ghost use Rattle.nodejs_semver_c.specs.Messages.{message_of};
 ghost use Rattle.std.specs.Prelude.{◌≡◌, IfNone, IfSome, MatchOption, None, Some};
 
-use crate::pieces::put;
-use crate::print::{Printed, print};
+use crate::print::{Text, print};
 use crate::{
     BAD_ARGUMENT, BAD_IDENTIFIER, BAD_RANGE, BAD_VERSION, NO_MEMORY, NOT_A_PRERELEASE, NOT_UTF8,
     NOTHING, OK, OVERFLOW, TOO_LONG, TOO_SMALL,
 };
-
-// A message.
-#[derive(Drop)]
-struct Message<'a> {
-    text: &'a str,
-}
-
-impl<'a> Printed for Message<'a> {
-    ghost text = { λ m. m.text.now };
-
-    fn put(&self, out: &mut [u8], len: &mut usize) {
-        put(self.text, out, len);
-    }
-}
 
 /// Prints what a status says, as `bad version`.
 ///
@@ -35,7 +20,7 @@ pub extern "C" fn nodejs_semver_message(status: u32, out: &mut [u8], len: &mut u
         (λ text. Prints text out.old out.new len.old len.new result) }
 {
     match message_of(status) {
-        Some(text) => print(&Message { text }, out, len),
+        Some(text) => print(&Text(text), out, len),
         None => BAD_ARGUMENT,
     }
 }

@@ -6,7 +6,7 @@ ghost use Rattle.nodejs_semver_c.specs.Internal.Pieces.{Adds};
 ghost use Rattle.semver_core.specs.Printing.Text.{version_text};
 ghost use Rattle.std.specs.Prelude.{◌≡◌, ◌-◌, ◌^◌, ℕ, List, length, min};
 
-use crate::pieces::{put_range, put_version};
+use crate::pieces::{put, put_range, put_version};
 use crate::read::MOST_BYTES;
 use crate::{NOTHING, OK, TOO_LONG, TOO_SMALL};
 use nodejs_semver::{RangeRef, Version, VersionRef};
@@ -41,6 +41,18 @@ impl<'a> Printed for RangeRef<'a> {
 
     fn put(&self, out: &mut [u8], len: &mut usize) {
         put_range(self.intervals(), out, len);
+    }
+}
+
+/// A text that is printed as it is.
+#[derive(Drop)]
+pub struct Text<'a>(pub &'a str);
+
+impl<'a> Printed for Text<'a> {
+    ghost text = { λ t. t.0.now };
+
+    fn put(&self, out: &mut [u8], len: &mut usize) {
+        put(self.0, out, len);
     }
 }
 
