@@ -17,8 +17,8 @@ use Rattle.serde_json.specs.Data.{Data, array, boolean, null, number, object, st
 use Rattle.serde_json.specs.Find.{as_object, as_str, get, get_member}
 use Rattle.serde_json.specs.View.{members_view, view}
 use Rattle.serde_json.specs.declared.value.Value.{Value}
-use Rattle.lock_check.specs.Collected.{AreAllFound, AreNamed, AreWorkspaces, HasDependency, has_name, members_in}
-use Rattle.lock_check.specs.Collected.{with_first}
+use Rattle.lock_check.specs.Internal.Collected.{AreAllFound, AreNamed, AreWorkspaces, HasDependency, has_name, members_in}
+use Rattle.lock_check.specs.Internal.Collected.{with_first}
 use Rattle.lock_check.specs.Complete.{IsRead, Writes, rank}
 use Rattle.lock_check.specs.Lookups.{field_name, written_in}
 use Rattle.lock_check.specs.declared.lock.Dependencies.{Dependencies}

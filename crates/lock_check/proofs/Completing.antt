@@ -8,8 +8,8 @@ use Rattle.serde_json.specs.Data.{Data}
 use Rattle.serde_json.specs.Find.{get}
 use Rattle.serde_json.specs.View.{view}
 use Rattle.lock_check.proofs.Collecting.{HasKey, key-of}
-use Rattle.lock_check.specs.Collected.{AreAllFound, AreAllLinked, AreAllLocked, Extends, IsAmong, IsForDevelopment}
-use Rattle.lock_check.specs.Collected.{IsTaken}
+use Rattle.lock_check.specs.Internal.Collected.{AreAllFound, AreAllLinked, AreAllLocked, Extends, IsAmong, IsForDevelopment}
+use Rattle.lock_check.specs.Internal.Collected.{IsTaken}
 use Rattle.lock_check.specs.Complete.{AreAllJudged, IsLeftOut, IsOf, IsOfDevelopment, rank}
 use Rattle.lock_check.specs.Judged.{as_wanted}
 use Rattle.lock_check.specs.Lookups.{IsAt, IsDependency, IsNearest, IsPackage, packages_of}

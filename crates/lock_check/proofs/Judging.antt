@@ -1,5 +1,5 @@
 -- The findings of the dependencies of a lock file.
-use Rattle.std.proofs.Common.{◌≡◌, ◌⊎◌, [], IfSome, List, None, Option, Some, ap, ◌∙◌, inl, inr, refl, subst, sym, ℕ}
+use Rattle.std.proofs.Common.{◌≡◌, ◌⊎◌, [], IfSome, None, Option, Some, ◌∙◌, inl, inr, subst, sym}
 use Rattle.lock_check.specs.Judged.{IsEdge, IsFinding, IsOutcome, IsOverridden, as_wanted}
 use Rattle.std.specs.Prelude.{IsNone}
 use Rattle.lock_check.specs.Lookups.{HasOverrides, HasRules, IsAt, IsDependency, IsNearest, IsWritten}

@@ -1,6 +1,6 @@
 -- What a text is by what stands in front of its first colon.
-use Rattle.std.proofs.Common.{◌≡◌, ◌≢◌, ◌==◌, ◌∷◌, ◌++◌, ◌∙◌, [], ap, refl, subst, sym, inl, inr, List, ℕ, codes, true, false, map, arith}
-use Rattle.std.proofs.lemmas.Bool.{eqb-true, ne_eqb, or_from, or_parts}
+use Rattle.std.proofs.Common.{◌≡◌, ◌≢◌, ◌==◌, ◌∷◌, ◌++◌, ◌∙◌, [], ap, refl, subst, sym, inl, inr, List, ℕ, codes, false, map}
+use Rattle.std.proofs.lemmas.Bool.{ne_eqb, or_from, or_parts}
 use Rattle.std.specs.Char.{to_ascii_lowercase}
 use Rattle.lock_check.specs.Specifiers.{IsAlias, IsAliasOf, IsElsewhere, IsNoOtherRange, IsNpm, IsSameWord, IsSpecifier, has, is_of_registry}
 use Rattle.lock_check.specs.Specifiers.IsAsked.{alias, empty, plain}

@@ -1,9 +1,9 @@
 pub mod Answers
-pub mod Collected
 pub mod Complete
 pub mod Fields
 pub mod Findings
 pub mod Index
+pub mod Internal
 pub mod Judged
 pub mod Lookups
 pub mod Optional

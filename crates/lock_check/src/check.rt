@@ -1,7 +1,7 @@
 // Compares each dependency of a lock file with the version that is locked for it.
 
-ghost use Rattle.lock_check.specs.Collected.{AreAllFound, AreAllLinked, Extends, IsAmong};
-ghost use Rattle.lock_check.specs.Collected.{IsForDevelopment, IsTaken};
+ghost use Rattle.lock_check.specs.Internal.Collected.{AreAllFound, AreAllLinked, Extends, IsAmong};
+ghost use Rattle.lock_check.specs.Internal.Collected.{IsForDevelopment, IsTaken};
 ghost use Rattle.lock_check.specs.Complete.{AreAllJudged, is_locked_for_development};
 ghost use Rattle.lock_check.specs.Judged.{IsEdge, IsFinding, IsLinkOfRoot, IsLockedOutcome};
 ghost use Rattle.lock_check.specs.Judged.{IsOutcome, IsOwnPeer, as_wanted};

@@ -1,7 +1,7 @@
 // The packages of a lock file, and what they depend on.
 
-ghost use Rattle.lock_check.specs.Collected.{AreAllFound, AreNamed, AreWorkspaces, members_in};
-ghost use Rattle.lock_check.specs.Collected.{with_first};
+ghost use Rattle.lock_check.specs.Internal.Collected.{AreAllFound, AreNamed, AreWorkspaces};
+ghost use Rattle.lock_check.specs.Internal.Collected.{members_in, with_first};
 ghost use Rattle.lock_check.specs.Complete.{IsRead};
 ghost use Rattle.lock_check.specs.Optional.{MayBeAbsent};
 ghost use Rattle.lock_check.specs.Fields.{is_set, member_of, text_of};
@@ -75,7 +75,7 @@ pub struct Dependency<'a> {
 
 /// The dependencies of one package. Of several with one name the first counts.
 #[derive(Drop)]
-pub struct Dependencies<'a> {
+pub(crate) struct Dependencies<'a> {
     names: BTreeSet<&'a str>,
     first: Vec<Dependency<'a>>,
 }
@@ -223,7 +223,7 @@ impl<'a> Dependency<'a> {
 }
 
 impl<'a> Dependencies<'a> {
-    pub fn new(alloc: Global) -> Dependencies<'a>
+    pub(crate) fn new(alloc: Global) -> Dependencies<'a>
         ensures empty { result.first.items ≡ [] }
         ensures named { AreNamed result }
     {
@@ -234,7 +234,7 @@ impl<'a> Dependencies<'a> {
     }
 
     /// Adds a dependency, unless there is one with its name.
-    pub fn add(&mut self, dependency: Dependency<'a>) -> Result<(), AllocError>
+    pub(crate) fn add(&mut self, dependency: Dependency<'a>) -> Result<(), AllocError>
         ensures named { OnOk result (AreNamed self.old → AreNamed self.new) }
         ensures added { OnOk result (AreNamed self.old → self.new.first.items
             ≡ with_first self.old.first.items dependency.entry) }
@@ -249,7 +249,7 @@ impl<'a> Dependencies<'a> {
     }
 
     /// Those that count, in the order in which they were added.
-    pub fn as_slice(&self) -> &[Dependency<'a>]
+    pub(crate) fn as_slice(&self) -> &[Dependency<'a>]
         ensures { result.now ≡ self.now.first.items }
     {
         self.first.as_slice()
@@ -353,7 +353,7 @@ fn is_set(value: &Value, field: &str) -> bool
 
 /// Adds the dependencies of a package to those found before, which come first. What is malformed
 /// is added to `faults`.
-pub fn add_dependencies<'a>(
+pub(crate) fn add_dependencies<'a>(
     package: Package<'a>,
     found: &mut Dependencies<'a>,
     faults: &mut Vec<Fault<'a>>,

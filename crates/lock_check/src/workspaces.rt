@@ -1,6 +1,6 @@
 // The workspaces of the root project.
 
-ghost use Rattle.lock_check.specs.Collected.{AreWorkspaces};
+ghost use Rattle.lock_check.specs.Internal.Collected.{AreWorkspaces};
 ghost use Rattle.lock_check.specs.Lookups.{IsDependency, IsPackage};
 ghost use Rattle.std.specs.Prelude.{All, OnOk};
 
@@ -83,7 +83,7 @@ pub fn are_read(root: Package<'_>) -> bool {
 
 /// Adds the workspaces to the dependencies of a package, if it is the root project. npm finds them
 /// on the disk; here a folder that `workspaces` names counts as one that is there.
-pub fn add_workspaces<'a>(
+pub(crate) fn add_workspaces<'a>(
     lock: Lock<'a>,
     root: Package<'a>,
     found: &mut Dependencies<'a>,

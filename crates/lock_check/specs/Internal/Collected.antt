@@ -1,4 +1,4 @@
--- Statement: which dependencies of a package are collected before they are judged.
+-- For proofs and private contracts: which dependencies of a package are collected before they are judged.
 use Rattle.std.specs.Prelude.{◌≡◌, ◌⊎◌, ℕ, Bool, List, [], ◌∷◌, ◌++◌, Option, All, Contains, if◌then◌else◌}
 use Rattle.std.specs.Prelude.{IsSomeAnd, Some, bytes_eq, option_and_then}
 use Rattle.std.specs.Borrow.{Bor}

@@ -2,7 +2,7 @@ use Rattle.std.proofs.Common.{◌≡◌, ◌∷◌, ◌++◌, ◌∙◌, [], ap,
 use Rattle.std.proofs.lemmas.List.{append-nil}
 use Rattle.std.proofs.lemmas.List.Elements.{All-from_all_within, All-get_or, All-push, All-same, AllWithin-more, AllWithin-upto, at_read}
 use Rattle.lock_check.proofs.Completing.{extends-more, extends-same, taken-kept, taken-out, taken-push}
-use Rattle.lock_check.specs.Collected.{Extends, IsTaken}
+use Rattle.lock_check.specs.Internal.Collected.{Extends, IsTaken}
 use Rattle.lock_check.specs.Judged.{IsEdge}
 use Rattle.lock_check.specs.Lookups.{IsDependency}
 use Rattle.lock_check.specs.declared.check.Edge.{Edge}

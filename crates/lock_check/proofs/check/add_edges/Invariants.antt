@@ -1,6 +1,6 @@
 use Rattle.std.proofs.Common.{All}
 use Rattle.std.specs.List.{AllWithin}
-use Rattle.lock_check.specs.Collected.{Extends, IsTaken}
+use Rattle.lock_check.specs.Internal.Collected.{Extends, IsTaken}
 use Rattle.lock_check.specs.Judged.{IsEdge}
 use Rattle.lock_check.specs.Lookups.{IsDependency}
 use Rattle.lock_check.proofs.check.add_edges.Given as goal

@@ -1,7 +1,7 @@
 use Rattle.std.proofs.lemmas.List.Elements.{All-same}
 use Rattle.lock_check.proofs.Completing.{judged-all}
 use Rattle.lock_check.proofs.Judging.{ruled}
-use Rattle.lock_check.specs.Collected.{AreAllLinked}
+use Rattle.lock_check.specs.Internal.Collected.{AreAllLinked}
 use Rattle.lock_check.specs.Judged.{IsEdge}
 use Rattle.std.proofs.Common.{subst, sym}
 use Rattle.lock_check.proofs.check.check.Goals as goal

@@ -2,7 +2,7 @@ use Rattle.std.proofs.Common.{◌+◌, ◌∷◌, ◌++◌, [], arith, get_or, s
 use Rattle.std.proofs.lemmas.List.Elements.{All-from_all_within, All-get_or, All-push, All-same, AllWithin-more}
 use Rattle.std.proofs.lemmas.List.Elements.{AllWithin-upto, at_read}
 use Rattle.std.specs.List.{AllWithin}
-use Rattle.lock_check.specs.Collected.{IsAmong}
+use Rattle.lock_check.specs.Internal.Collected.{IsAmong}
 use Rattle.lock_check.specs.Judged.{IsEdge, IsFinding}
 use Rattle.lock_check.proofs.Completing.{among-more, among-push}
 use Rattle.lock_check.proofs.Judging.{finding-made, referred}

@@ -1,6 +1,6 @@
 use Rattle.std.proofs.Common.{◌≡◌, ◌⊎◌, [], All}
 use Rattle.std.specs.List.{AllWithin}
-use Rattle.lock_check.specs.Collected.{IsAmong}
+use Rattle.lock_check.specs.Internal.Collected.{IsAmong}
 use Rattle.lock_check.specs.Judged.{IsEdge, IsFinding}
 use Rattle.lock_check.specs.Lookups.{HasRules}
 use Rattle.lock_check.proofs.check.findings_of.Given as goal

@@ -1,4 +1,4 @@
-use Rattle.std.proofs.Common.{Some, subst}
+use Rattle.std.proofs.Common.{subst}
 use Rattle.std.proofs.lemmas.Bool.{iff_false}
 use Rattle.std.proofs.lemmas.Result.{IfOk-weaker}
 use Rattle.lock_check.specs.Judged.IsLockedOutcome.{judged, link, no_folder, own_peer, unnamed}

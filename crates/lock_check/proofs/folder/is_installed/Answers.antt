@@ -1,6 +1,5 @@
-use Rattle.std.proofs.Common.{◌≡◌, ◌==◌, ◌∙◌, codes, inl, inr, sym, true}
+use Rattle.std.proofs.Common.{◌∙◌, codes, inl, inr, sym}
 use Rattle.std.proofs.lemmas.Str.Pattern.{contains_text, starts_text}
-use Rattle.std.specs.List.{starts_with}
 use Rattle.lock_check.proofs.folder.is_installed.Goals as goal
 
 pub returns-then-starts_with : goal.returns-then-starts_with

@@ -1,5 +1,5 @@
 use Rattle.std.proofs.Common.{All}
-use Rattle.lock_check.specs.Collected.{AreWorkspaces}
+use Rattle.lock_check.specs.Internal.Collected.{AreWorkspaces}
 use Rattle.lock_check.specs.Lookups.{IsDependency, IsPackage}
 use Rattle.lock_check.proofs.workspaces.add_workspaces.Given as goal
 

@@ -1,6 +1,6 @@
-use Rattle.std.proofs.Common.{◌≡◌, ◌<◌, ◌≤◌, ◌++◌, ◌∙◌, ap, arith, get_or, length, refl, string_bytes, subst, sym}
+use Rattle.std.proofs.Common.{◌≡◌, ◌<◌, ◌≤◌, ◌++◌, ◌∙◌, ap, arith, get_or, string_bytes, subst, sym}
 use Rattle.lock_check.specs.declared.finding.Skip.TheVariants.{Unsure}
-use Rattle.lock_check.specs.Summary.{is_counted, named_skips, reason_text, separator}
+use Rattle.lock_check.specs.Summary.{named_skips, reason_text, separator}
 use Rattle.lock_check.proofs.Counted.{back, is_none, opened, told_all, told_more, told_same}
 use Rattle.lock_check.proofs.finding.Skips.write.Goals.{then-count-gt0+in_ok-write_reason, else-count-gt0}
 use Rattle.lock_check.proofs.finding.Skips.write.Goals as goal
