@@ -12,7 +12,8 @@ use Rattle.lock_check.specs.Internal.Collected.{AreAllFound, AreAllLinked, AreAl
 use Rattle.lock_check.specs.Internal.Collected.{IsTaken}
 use Rattle.lock_check.specs.Complete.{AreAllJudged, IsLeftOut, IsOf, IsOfDevelopment, rank}
 use Rattle.lock_check.specs.Judged.{as_wanted}
-use Rattle.lock_check.specs.Lookups.{IsAt, IsDependency, IsNearest, IsPackage, packages_of}
+use Rattle.lock_check.specs.Lookups.{IsAt, IsNearest, IsPackage, packages_of}
+use Rattle.lock_check.specs.Overrides.{IsDependency}
 use Rattle.lock_check.specs.declared.check.Edge.{Edge}
 use Rattle.lock_check.specs.declared.finding.Finding.{Finding}
 use Rattle.lock_check.specs.declared.lock.Dependency.{Dependency}

@@ -1,8 +1,10 @@
 -- The findings of the dependencies of a lock file.
-use Rattle.std.proofs.Common.{◌≡◌, ◌⊎◌, [], IfSome, None, Option, Some, ◌∙◌, inl, inr, subst, sym}
-use Rattle.lock_check.specs.Judged.{IsEdge, IsFinding, IsOutcome, IsOverridden, as_wanted}
-use Rattle.std.specs.Prelude.{IsNone}
-use Rattle.lock_check.specs.Lookups.{HasOverrides, HasRules, IsAt, IsDependency, IsNearest, IsWritten}
+use Rattle.std.proofs.Common.{◌≡◌, [], None, Option, Some, inl, inr, subst, sym}
+use Rattle.lock_check.specs.Judged.{IsEdge, IsFinding, IsOutcome, as_wanted}
+use Rattle.std.specs.Prelude.{IsNone, MatchOption}
+use Rattle.lock_check.specs.Internal.Overriding.{AreItsRules, IsLost, IsPut}
+use Rattle.lock_check.specs.Lookups.{IsAt, IsNearest}
+use Rattle.lock_check.specs.Overrides.{IsDependency, IsWritten, RefersToNothing}
 use Rattle.lock_check.specs.declared.check.Edge.{Edge}
 use Rattle.lock_check.specs.declared.finding.Finding.{Finding}
 use Rattle.lock_check.specs.declared.lock.Dependency.{Dependency}
@@ -12,19 +14,22 @@ use Rattle.lock_check.specs.declared.lock.Wanted.{Wanted}
 use Rattle.lock_check.specs.declared.overrides.Overrides.{Overrides}
 use Rattle.lock_check.specs.declared.lock.Wanted.TheVariants as wanted
 
--- what is wanted after the overrides is written by the package too, unless it is one of them
-overridden : (d : Dependency) (w : Wanted) → IsWritten d d.wanted → IsOverridden d.wanted w
-    → IsWritten (as_wanted d (Some w)) w
-overridden d (wanted.Text text) is (inl same) = subst (λ w. IsWritten d w) (sym same) is
-overridden d (wanted.Text text) is (inr never) = absurd never
-overridden d (wanted.Override text) is how = tt
-overridden d (wanted.Workspace folder) is (inl same) = subst (λ w. IsWritten d w) (sym same) is
-overridden d (wanted.Workspace folder) is (inr never) = absurd never
+-- what the rules put in the place of what is wanted is written in that way
+put-written : (lock : Lock) (root : Option Package) (d : Dependency) (w : Wanted) → IsAt lock [] root
+    → IsWritten lock d d.wanted → IsPut root d w → IsWritten lock (as_wanted d (Some w)) w
+put-written lock root d (wanted.Text text) at is same = subst (IsWritten lock d) (sym same) is
+put-written lock root d (wanted.Workspace folder) at is same = subst (IsWritten lock d) (sym same) is
+put-written lock root d (wanted.Override text) at is (inl same) = subst (IsWritten lock d) (sym same) is
+put-written lock root d (wanted.Override text) at is (inr of) = (of.0, subst (IsAt lock []) of.1 at, of.2)
 
-as_wanted-dependency : (lock : Lock) (d : Dependency) (w : Option Wanted) → IsDependency lock d
-    → IfSome w (IsOverridden d.wanted) → IsDependency lock (as_wanted d w)
-as_wanted-dependency lock d None is how = is
-as_wanted-dependency lock d (Some w) is how = (is.0, overridden d w is.1 how)
+-- what the rules make of a dependency: it refers to nothing, or is one of the lock file still
+abbrev pub IsRuled : Option Package → Dependency → Option Wanted → Type 0
+IsRuled root d w = MatchOption w (IsLost root d.name.now) (IsPut root d)
+
+as_wanted-dependency : (lock : Lock) (root : Option Package) (d : Dependency) (w : Option Wanted) → IsAt lock [] root
+    → IsDependency lock d → IsRuled root d w → IsDependency lock (as_wanted d w)
+as_wanted-dependency lock root d None at is how = is
+as_wanted-dependency lock root d (Some w) at is how = (is.0, put-written lock root d w at is.1 how)
 
 as_wanted-nearest : (lock : Lock) (d : Dependency) (w : Option Wanted) (locked : Option Package)
     → IsNearest lock d.package.folder.now d.name.now locked
@@ -32,12 +37,12 @@ as_wanted-nearest : (lock : Lock) (d : Dependency) (w : Option Wanted) (locked :
 as_wanted-nearest lock d None locked is = is
 as_wanted-nearest lock d (Some w) locked is = is
 
-pub finding-made : (lock : Lock) (e : Edge) (w : Option Wanted) (f : Finding) → IsEdge lock e
-    → IfSome w (IsOverridden e.dependency.wanted) → f.dependency ≡ as_wanted e.dependency w
+pub finding-made : (lock : Lock) (root : Option Package) (e : Edge) (w : Option Wanted) (f : Finding) → IsAt lock [] root
+    → IsEdge lock e → IsRuled root e.dependency w → f.dependency ≡ as_wanted e.dependency w
     → IsOutcome lock f.dependency e.locked f.outcome → IsFinding lock f
-finding-made lock e w f is how same out = record {
+finding-made lock root e w f at is how same out = record {
   dependency =
-      subst (λ d. IsDependency lock d) (sym same) (as_wanted-dependency lock e.dependency w is.0 how);
+      subst (λ d. IsDependency lock d) (sym same) (as_wanted-dependency lock root e.dependency w at is.0 how);
   outcome = (
     e.locked,
     subst (λ d. IsNearest lock d.package.folder.now d.name.now e.locked) (sym same)
@@ -46,16 +51,14 @@ finding-made lock e w f is how same out = record {
   );
 }
 
--- a reference to nothing is one of `overrides`
-pub referred : (lock : Lock) (d : Dependency) (w : Option Wanted) (o : Overrides)
-    → (o.rules.items ≡ [] → w ≡ Some d.wanted) → (o.rules.items ≡ []) ⊎ HasRules lock → IsNone w → HasRules lock
-referred lock d w o kept (inl none) is =
-    let some : IsNone (Some d.wanted) = subst (IsNone {T = Wanted}) (kept none) is in absurd (cc)
-referred lock d w o kept (inr has) is = has
+-- a reference to nothing is one of the root project
+pub lost-refers : (lock : Lock) (root : Option Package) (d : Dependency) (w : Option Wanted) → IsAt lock [] root
+    → IsRuled root d w → IsNone w → RefersToNothing lock d.name.now
+lost-refers lock root d None at of is = (of.0, subst (IsAt lock []) of.1 at, of.2)
+lost-refers lock root d (Some w) at of is = absurd (cc)
 
 -- the rules are those of the root project
-pub ruled : (lock : Lock) (root : Option Package) (o s : Overrides) → IsAt lock [] root
-    → (o.rules.items ≡ []) ⊎ HasOverrides root → s.rules.items ≡ o.rules.items
-    → (s.rules.items ≡ []) ⊎ HasRules lock
-ruled lock root o s at (inl none) same = inl (same ∙ none)
-ruled lock root o s at (inr has) same = inr (root, at, has)
+pub ruled : (lock : Lock) (root : Option Package) (o s : Overrides) → IsAt lock [] root → o.root ≡ root
+    → AreItsRules root o.rules.items → s ≡ o → IsAt lock [] s.root × AreItsRules s.root s.rules.items
+ruled lock root o s at same all is = subst (λ s. IsAt lock [] s.root × AreItsRules s.root s.rules.items) (sym is)
+    (subst (λ r. IsAt lock [] r × AreItsRules r o.rules.items) (sym same) (at, all))

@@ -5,9 +5,10 @@ use Rattle.std.specs.List.{starts_with}
 use Rattle.std.specs.Str.Iter.{HasSubslice}
 use Rattle.serde_json.specs.View.{view}
 use Rattle.lock_check.specs.Fields.{is_set}
-use Rattle.lock_check.specs.Lookups.{HasRules, IsBehind, IsDependency, IsNearest}
+use Rattle.lock_check.specs.Lookups.{IsBehind, IsNearest}
 use Rattle.lock_check.specs.Optional.{MayBeAbsent}
 use Rattle.lock_check.specs.Outcomes.{IsJudged, Locked}
+use Rattle.lock_check.specs.Overrides.{IsDependency, RefersToNothing}
 use Rattle.lock_check.specs.Specifiers.{IsName}
 use Rattle.lock_check.specs.declared.check.Edge.{Edge}
 use Rattle.lock_check.specs.declared.finding.Finding.{Finding}
@@ -62,7 +63,8 @@ IsOverride _ = ⊥
 
 -- what is found for a dependency for which that is locked
 pub data IsOutcome (lock : Lock) (d : Dependency) : Option Package → Outcome → Type 0 where
-  no_reference : (locked : Option Package) → HasRules lock → IsOutcome lock d locked outcome.NoReference
+  no_reference : (locked : Option Package) → RefersToNothing lock d.name.now
+      → IsOutcome lock d locked outcome.NoReference
   conflict : (locked : Option Package) → d.package.folder.now ≡ [] → IsOverride d.wanted
       → IsOutcome lock d locked outcome.Conflict
   absent : MayBeAbsent (view d.package.fields.now) d.name.now d.field true
@@ -87,7 +89,3 @@ pub record IsFinding (lock : Lock) (f : Finding) : Type 0 where
 abbrev pub as_wanted : Dependency → Option Wanted → Dependency
 as_wanted d (Some w) = record d { wanted = w }
 as_wanted d None = d
-
--- what is wanted after the overrides: what was wanted before, or another text
-abbrev pub IsOverridden : Wanted → Wanted → Type 0
-IsOverridden before w = (w ≡ before) ⊎ IsOverride w

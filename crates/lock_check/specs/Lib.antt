@@ -9,6 +9,7 @@ pub mod Lookups
 pub mod Optional
 pub mod Outcomes
 pub mod Outlooks
+pub mod Overrides
 pub mod Raises
 pub mod Readings
 pub mod Replacements

@@ -1,17 +1,14 @@
 -- Statement: which package of a lock file is locked for a dependency, and what a package writes of it.
-use Rattle.std.specs.Prelude.{⊤, ◌≡◌, ◌≢◌, ◌⊎◌, ◌<◌, ℕ, true, false, List, [], ◌∷◌, ◌++◌, Option, Some, None}
-use Rattle.std.specs.Prelude.{IfSome, IsSome, IsSomeAnd, codes, length, option_and_then}
+use Rattle.std.specs.Prelude.{◌≡◌, ◌≢◌, ◌⊎◌, ◌<◌, ℕ, true, false, List, [], ◌∷◌, ◌++◌, Option, Some, None}
+use Rattle.std.specs.Prelude.{IfSome, codes, length, option_and_then}
 use Rattle.serde_json.specs.Data.{Data, object}
 use Rattle.serde_json.specs.Find.{as_str, get}
 use Rattle.serde_json.specs.View.{members_view, view}
 use Rattle.lock_check.specs.Fields.{is_set, member_of}
-use Rattle.lock_check.specs.declared.lock.Dependency.{Dependency}
 use Rattle.lock_check.specs.declared.lock.Field.{Field}
 use Rattle.lock_check.specs.declared.lock.Field.TheVariants as field
 use Rattle.lock_check.specs.declared.lock.Lock.{Lock}
 use Rattle.lock_check.specs.declared.lock.Package.{Package}
-use Rattle.lock_check.specs.declared.lock.Wanted.{Wanted}
-use Rattle.lock_check.specs.declared.lock.Wanted.TheVariants as wanted
 
 -- the packages of a lock file by their folders, as an object
 abbrev pub packages_of : Lock → Data
@@ -25,14 +22,6 @@ IsAt lock folder (Some p) =
 
 abbrev pub IsPackage : Lock → Package → Type 0
 IsPackage lock p = get p.folder.now (packages_of lock) ≡ Some (view p.fields.now)
-
--- the package has a field `overrides`
-abbrev pub HasOverrides : Option Package → Type 0
-HasOverrides root = IsSomeAnd root (λ p. IsSome (get (codes "overrides") (view p.fields.now)))
-
--- the root project has one
-abbrev pub HasRules : Lock → Type 0
-HasRules lock = (root : Option Package) × IsAt lock [] root × HasOverrides root
 
 -- the folder itself, or one around it
 abbrev pub IsAround : List ℕ → List ℕ → Type 0
@@ -78,14 +67,3 @@ field_name field.Workspaces = codes "workspaces"
 
 abbrev pub written_in : Field → List ℕ → Data → Option (List ℕ)
 written_in f name fields = option_and_then as_str (member_of (field_name f) name fields)
-
--- the package writes the text for the name in that field; but for those of `overrides` and `workspaces`
-abbrev pub IsWritten : Dependency → Wanted → Type 0
-IsWritten d (wanted.Text text) =
-    written_in d.field d.name.now (view d.package.fields.now) ≡ Some text.now
-IsWritten d (wanted.Override text) = ⊤
-IsWritten d (wanted.Workspace folder) = d.field ≡ field.Workspaces
-
--- a dependency of a package of the lock file, with what that wants
-abbrev pub IsDependency : Lock → Dependency → Type 0
-IsDependency lock d = IsPackage lock d.package × IsWritten d d.wanted

@@ -2,17 +2,19 @@
 
 ghost use Rattle.lock_check.specs.Internal.Collected.{AreAllFound, AreAllLinked, Extends, IsAmong};
 ghost use Rattle.lock_check.specs.Internal.Collected.{IsForDevelopment, IsTaken};
+ghost use Rattle.lock_check.specs.Internal.Overriding.{AreItsRules};
 ghost use Rattle.lock_check.specs.Complete.{AreAllJudged, is_locked_for_development};
 ghost use Rattle.lock_check.specs.Judged.{IsEdge, IsFinding, IsLinkOfRoot, IsLockedOutcome};
 ghost use Rattle.lock_check.specs.Judged.{IsOutcome, IsOwnPeer, as_wanted};
-ghost use Rattle.lock_check.specs.Lookups.{HasRules, IsDependency, IsPackage};
+ghost use Rattle.lock_check.specs.Lookups.{IsAt, IsPackage};
+ghost use Rattle.lock_check.specs.Overrides.{IsDependency, RefersToNothing};
 ghost use Rattle.lock_check.specs.Outcomes.{IsInstead, IsJudged, IsPlaceOutcome, IsRangeOutcome};
 ghost use Rattle.lock_check.specs.Outcomes.{IsRegistryOutcome, IsRepositoryOutcome};
 ghost use Rattle.lock_check.specs.Outcomes.{IsSpecifierOutcome, IsTagOutcome, IsTextOutcome};
 ghost use Rattle.lock_check.specs.Outcomes.{IsToldOf, IsUnversioned, IsWantedOutcome, address_of};
 ghost use Rattle.lock_check.specs.Outcomes.{is_link, locked_in, version_text};
 ghost use Rattle.serde_json.specs.View.{view};
-ghost use Rattle.std.specs.Prelude.{◌≡◌, ◌↔◌, ◌⊎◌, [], All, IfOk, IsNone, IsTrue, OnOk, Some};
+ghost use Rattle.std.specs.Prelude.{◌≡◌, ◌↔◌, [], All, IfOk, IsNone, IsTrue, OnOk, Some};
 ghost use Rattle.std.specs.Prelude.{option_map};
 
 use crate::fault::Fault;
@@ -97,7 +99,8 @@ fn findings_of<'a>(
     edges: &[Edge<'a>],
 ) -> Result<Vec<Finding<'a>>, AllocError>
     ensures each { All (IsEdge lock.entry) edges.now
-        → (scopes.now.overrides.rules.items ≡ []) ⊎ HasRules lock.entry
+        → IsAt lock.entry [] scopes.now.overrides.root
+        → AreItsRules scopes.now.overrides.root scopes.now.overrides.rules.items
         → IfOk result (λ found. All (IsFinding lock.entry) found.items) }
     ensures all { IfOk result (λ found. All (IsAmong found.items) edges.now) }
 {
@@ -197,7 +200,8 @@ fn finding<'a>(
 ) -> Result<Finding<'a>, AllocError>
     ensures dependency { IfOk result (λ f. f.dependency
         ≡ as_wanted edge.entry.dependency wanted.entry) }
-    ensures outcome { (IsNone wanted.entry → HasRules lock.entry)
+    ensures outcome { (IsNone wanted.entry
+        → RefersToNothing lock.entry edge.entry.dependency.name.now)
         → IfOk result (λ f. IsOutcome lock.entry f.dependency edge.entry.locked f.outcome) }
 {
     let Edge { dependency, locked } = edge;

@@ -1,15 +1,21 @@
 // `overrides` of the root project, which changes what packages depend on.
 
-ghost use Rattle.lock_check.specs.Judged.{IsOverridden};
-ghost use Rattle.lock_check.specs.Lookups.{HasOverrides};
+ghost use Rattle.lock_check.specs.Internal.Overriding.{AreItsRules, IsLost, IsPut, IsRuleOf};
+ghost use Rattle.lock_check.specs.Internal.Overriding.{IsUnread};
+ghost use Rattle.lock_check.specs.Overrides.{IsKey, referenced, rule_text, some_text};
+ghost use Rattle.lock_check.specs.Lookups.{written_in};
 ghost use Rattle.lock_check.specs.Replacements.{IsReplacement};
-ghost use Rattle.std.specs.Prelude.{◌≡◌, ◌⊎◌, [], IfOk, IfSome, IsNone};
+ghost use Rattle.serde_json.specs.View.{view};
+ghost use Rattle.std.specs.Prelude.{◌≡◌, ◌≢◌, ◌++◌, ◌∷◌, ⊤, ℕ, All, Contains, IfNone, IfOk, IfSome};
+ghost use Rattle.semver_core.specs.Lists.{is_empty};
+ghost use Rattle.std.specs.Prelude.{List, MatchOption, codes, if◌then◌else◌, option_map};
 
 use crate::fault::Fault;
-use crate::lock::{Dependency, Package, Wanted};
+use crate::lock::{Dependency, Field, Package, Wanted};
 use crate::reading::{NpmRange, range, read_range};
-use crate::specifier::{Specifier, is_tag};
+use crate::specifier::{Specifier, is_tag, unsigned};
 use nodejs_semver::RangeRef;
+use semver_core::scan::trim;
 use serde_json::{Map, Value};
 use std::alloc::{AllocError, Global};
 
@@ -51,14 +57,6 @@ pub struct Overrides<'a> {
     rules: Vec<Rule<'a>>,
 }
 
-// The fields in which a reference is looked up, in this order.
-const REFERENCED: &[&str] = &[
-    "devDependencies",
-    "optionalDependencies",
-    "dependencies",
-    "peerDependencies",
-];
-
 impl<'a> Replacement<'a> {
     fn of(text: &'a str) -> Replacement<'a>
         ensures { IsReplacement text.now result }
@@ -78,16 +76,16 @@ impl<'a> Rule<'a> {
         outer: Scope,
         key: &'a str,
         value: &'a Value,
-    ) -> Result<Option<Rule<'a>>, AllocError> {
+    ) -> Result<Option<Rule<'a>>, AllocError>
+        ensures { IfOk result (λ rule. IfSome rule (IsRuleOf key.now (view value.now))) }
+    {
         let (name, wanted) = split_key(key);
-        let text = match value.get(".") {
-            Some(text) => text.as_str(),
-            None if value.is_object() => Some(wanted),
-            None => value.as_str(),
-        };
-        let Some(text) = text.filter(|_| !name.is_empty()) else {
+        let Some(text) = text_of(wanted, value) else {
             return Ok(None);
         };
+        if name.is_empty() {
+            return Ok(None);
+        }
         let range = match wanted {
             "*" => None,
             wanted => match read_range(alloc, false, wanted)? {
@@ -129,17 +127,46 @@ impl<'a> Rule<'a> {
 }
 
 // The name in a key, and the range behind it. A name may begin with an at sign of its own.
-fn split_key(key: &str) -> (&str, &str) {
-    let behind = match key.strip_prefix('@').unwrap_or(key).split_once('@') {
-        Some((_, behind)) => behind,
-        None => return (key, "*"),
+fn split_key(key: &str) -> (&str, &str)
+    ensures { IsKey key.now result.0.now result.1.now }
+{
+    let (rest, _) = unsigned(key);
+    let Some((_, behind)) = rest.split_once('@') else {
+        return (key, "*");
     };
-    let name = key.strip_suffix(behind).and_then(|it| it.strip_suffix('@'));
-    let range = behind.trim();
-    (
-        name.unwrap_or(key),
-        if range.is_empty() { "*" } else { range },
-    )
+    let Some(name) = name_before(key, behind) else {
+        return (key, "*");
+    };
+    (name, or_any(trim(behind)))
+}
+
+// A range, or the one that accepts any version where nothing is written.
+fn or_any(range: &str) -> &str
+    ensures { result.now ≡ (if is_empty range.now then codes "*" else range.now) }
+{
+    if range.is_empty() { "*" } else { range }
+}
+
+// What stands in front of an at sign that has this text behind it.
+fn name_before<'a>(key: &'a str, behind: &str) -> Option<&'a str>
+    ensures some { IfSome result (λ name. key.now ≡ name.now ++ 64 ∷ behind.now) }
+    ensures none { IfNone result ((front : List ℕ) → key.now ≢ front ++ 64 ∷ behind.now) }
+{
+    match key.strip_suffix(behind) {
+        Some(front) => front.strip_suffix('@'),
+        None => None,
+    }
+}
+
+// The text of a rule with this range in its key.
+fn text_of<'a>(range: &'a str, value: &'a Value) -> Option<&'a str>
+    ensures { option_map (λ t. t.now) result ≡ rule_text range.now (view value.now) }
+{
+    match value.get(".") {
+        Some(text) => text.as_str(),
+        None if value.is_object() => Some(range),
+        None => value.as_str(),
+    }
 }
 
 // The object `overrides` of the root project, if it has one.
@@ -148,7 +175,7 @@ fn outermost<'a>(
     root: Option<Package<'a>>,
     faults: &mut Vec<Fault<'a>>,
 ) -> Result<Vec<(Scope, &'a Map<String, Value>)>, AllocError>
-    ensures { IfOk result (λ unread. (unread.items ≡ []) ⊎ HasOverrides root.entry) }
+    ensures { IfOk result (λ unread. All (IsUnread root.entry) unread.items) }
 {
     let mut unread = Vec::new(alloc);
     let Some(package) = root else {
@@ -169,13 +196,14 @@ fn outermost<'a>(
 
 impl<'a> Overrides<'a> {
     /// The rules of the root project. Each that is malformed is added to `faults`.
-    pub fn of(
+    pub(crate) fn of(
         alloc: Global,
         root: Option<Package<'a>>,
         faults: &mut Vec<Fault<'a>>,
     ) -> Result<Overrides<'a>, AllocError>
-        ensures { IfOk result (λ overrides. (overrides.rules.items ≡ [])
-            ⊎ HasOverrides root.entry) }
+        ensures root { IfOk result (λ overrides. overrides.root ≡ root.entry) }
+        ensures rules { IfOk result (λ overrides.
+            AreItsRules root.entry overrides.rules.items) }
     {
         let mut rules = Vec::new(alloc);
         let mut unread = outermost(alloc, root, faults)?;
@@ -183,9 +211,13 @@ impl<'a> Overrides<'a> {
             let Some((outer, object)) = unread.pop() else {
                 break;
             };
-            for (key, value) in object.iter().filter(|(key, _)| key.as_str() != ".") {
-                let Some(rule) = Rule::of(alloc, outer, key.as_str(), value)? else {
-                    faults.push(Fault::Override { name: key.as_str() })?;
+            for (key, value) in object.iter() {
+                let name = key.as_str();
+                if name == "." {
+                    continue;
+                }
+                let Some(rule) = Rule::of(alloc, outer, name, value)? else {
+                    faults.push(Fault::Override { name })?;
                     continue;
                 };
                 if let Some(inner) = value.as_object() {
@@ -229,9 +261,10 @@ impl<'a> Overrides<'a> {
 
     /// What a dependency wants if the package that it means stands in this scope, or `None` if
     /// that is a reference to no dependency of the root project.
-    pub fn wanted(&self, scope: Scope, dependency: Dependency<'a>) -> Option<Wanted<'a>>
-        ensures some { IfSome result (IsOverridden dependency.entry.wanted) }
-        ensures kept { self.now.rules.items ≡ [] → result ≡ Some dependency.entry.wanted }
+    pub(crate) fn wanted(&self, scope: Scope, dependency: Dependency<'a>) -> Option<Wanted<'a>>
+        ensures put { AreItsRules self.now.root self.now.rules.items → MatchOption result
+            (IsLost self.now.root dependency.entry.name.now)
+            (IsPut self.now.root dependency.entry) }
     {
         match self.rule(scope) {
             Some(rule) if rule.name == dependency.name => match rule.replacement {
@@ -247,20 +280,34 @@ impl<'a> Overrides<'a> {
     }
 
     // What the root project has for its own dependency of this name.
-    fn referenced(&self, name: &str) -> Option<&'a str> {
+    fn referenced(&self, name: &str) -> Option<&'a str>
+        ensures { MatchOption self.now.root ⊤ (λ root. option_map (λ t. t.now) result
+            ≡ referenced (view root.fields.now) name.now) }
+    {
         let root = self.root?;
-        let texts = REFERENCED
-            .iter()
-            .filter_map(|field| root.member(field, name)?.as_str());
-        texts.into_iter().find(|text| !text.is_empty())
+        let text = some_text(root, Field::Development, name);
+        text.or(some_text(root, Field::Optional, name))
+            .or(some_text(root, Field::Production, name))
+            .or(some_text(root, Field::Peer, name))
     }
 
     fn rule(&self, scope: Scope) -> Option<&Rule<'a>>
-        ensures { self.now.rules.items ≡ [] → IsNone result }
+        ensures { IfSome result (λ rule. Contains self.now.rules.items rule.now) }
     {
         match scope {
             Scope::Top => None,
             Scope::Rule(number) => self.rules.get(number),
         }
+    }
+}
+
+// The text that a package writes for a name in this field, unless it is empty.
+fn some_text<'a>(package: Package<'a>, field: Field, name: &str) -> Option<&'a str>
+    ensures { option_map (λ t. t.now) result
+        ≡ some_text (written_in field name.now (view «package».entry.fields.now)) }
+{
+    match package.written(field, name) {
+        Some("") => None,
+        text => text,
     }
 }

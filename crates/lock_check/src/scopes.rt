@@ -1,7 +1,7 @@
 // Which rules of `overrides` hold for each dependency.
 
-ghost use Rattle.lock_check.specs.Judged.{IsOverridden};
-ghost use Rattle.std.specs.Prelude.{◌≡◌, [], IfOk, IfSome};
+ghost use Rattle.lock_check.specs.Internal.Overriding.{AreItsRules, IsLost, IsPut};
+ghost use Rattle.std.specs.Prelude.{◌≡◌, IfOk, MatchOption};
 
 use crate::check::Edge;
 use crate::lock::{Lock, Package, Wanted};
@@ -22,13 +22,12 @@ pub struct Scopes<'a> {
 
 impl<'a> Scopes<'a> {
     /// The scopes of these dependencies.
-    pub fn of(
+    pub(crate) fn of(
         alloc: Global,
         overrides: Overrides<'a>,
         edges: &[Edge<'a>],
     ) -> Result<Scopes<'a>, AllocError>
-        ensures { IfOk result (λ scopes. scopes.overrides.rules.items
-            ≡ overrides.entry.rules.items) }
+        ensures { IfOk result (λ scopes. scopes.overrides ≡ overrides.entry) }
     {
         let mut of_edges = BTreeMap::new(alloc);
         if overrides.is_empty() {
@@ -58,10 +57,11 @@ impl<'a> Scopes<'a> {
 
     /// What the dependency of this number wants, or `None` if that is a reference to no dependency
     /// of the root project. What is packed into another package is not overridden.
-    pub fn wanted(&self, lock: Lock<'a>, number: usize, edge: Edge<'a>) -> Option<Wanted<'a>>
-        ensures some { IfSome result (IsOverridden edge.entry.dependency.wanted) }
-        ensures kept { self.now.overrides.rules.items ≡ []
-            → result ≡ Some edge.entry.dependency.wanted }
+    pub(crate) fn wanted(&self, lock: Lock<'a>, number: usize, edge: Edge<'a>) -> Option<Wanted<'a>>
+        ensures put { AreItsRules self.now.overrides.root self.now.overrides.rules.items
+            → MatchOption result
+            (IsLost self.now.overrides.root edge.entry.dependency.name.now)
+            (IsPut self.now.overrides.root edge.entry.dependency) }
     {
         match self.of_edges.get(&number).copied() {
             Some(inner) if !edge.locked.is_some_and(|it| is_packed(lock, it)) => {

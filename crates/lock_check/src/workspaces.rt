@@ -1,7 +1,8 @@
 // The workspaces of the root project.
 
 ghost use Rattle.lock_check.specs.Internal.Collected.{AreWorkspaces};
-ghost use Rattle.lock_check.specs.Lookups.{IsDependency, IsPackage};
+ghost use Rattle.lock_check.specs.Lookups.{IsPackage};
+ghost use Rattle.lock_check.specs.Overrides.{IsDependency};
 ghost use Rattle.std.specs.Prelude.{All, OnOk};
 
 use crate::fault::Fault;

@@ -4,7 +4,7 @@ use Rattle.std.proofs.lemmas.List.Elements.{All-from_all_within, All-get_or, All
 use Rattle.lock_check.proofs.Completing.{extends-more, extends-same, taken-kept, taken-out, taken-push}
 use Rattle.lock_check.specs.Internal.Collected.{Extends, IsTaken}
 use Rattle.lock_check.specs.Judged.{IsEdge}
-use Rattle.lock_check.specs.Lookups.{IsDependency}
+use Rattle.lock_check.specs.Overrides.{IsDependency}
 use Rattle.lock_check.specs.declared.check.Edge.{Edge}
 use Rattle.lock_check.proofs.check.add_edges.Goals.{then-not-is_of_development+in_ok-push, else-not-is_of_development}
 use Rattle.lock_check.proofs.check.add_edges.Goals as goal

@@ -2,7 +2,7 @@ use Rattle.std.proofs.Common.{All}
 use Rattle.std.specs.List.{AllWithin}
 use Rattle.lock_check.specs.Internal.Collected.{Extends, IsTaken}
 use Rattle.lock_check.specs.Judged.{IsEdge}
-use Rattle.lock_check.specs.Lookups.{IsDependency}
+use Rattle.lock_check.specs.Overrides.{IsDependency}
 use Rattle.lock_check.proofs.check.add_edges.Given as goal
 
 abbrev pub invariant-loop-dependency : goal.invariant-loop-dependency

@@ -8,11 +8,11 @@ use Rattle.lock_check.proofs.check.check.Goals as goal
 
 pub returns-clause-each : goal.returns-clause-each
 returns-clause-each c =
+    let rules = ruled c.args.lock c.package-2.result c.in_ok-overrides.overrides c.in_ok-scopes.scopes.overrides
+    c.package-2.ensures c.in_ok-overrides.ensures.root c.in_ok-overrides.ensures.rules c.in_ok-scopes.ensures in
     c.in_ok-of_dependencies.ensures.each
     (All-same (IsEdge c.args.lock) c.deref-2.result.now c.in_ok-edges.edges.items c.deref-2.ensures.value
-    c.in_ok-edges.ensures.each)
-    (ruled c.args.lock c.package-2.result c.in_ok-overrides.overrides c.in_ok-scopes.scopes.overrides c.package-2.ensures
-    c.in_ok-overrides.ensures c.in_ok-scopes.ensures)
+    c.in_ok-edges.ensures.each) rules.0 rules.1
 
 pub returns-clause-all : goal.returns-clause-all
 returns-clause-all c =

@@ -7,7 +7,8 @@ use Rattle.std.specs.Map.Iter.{deref}
 use Rattle.lock_check.proofs.Completing.{AreLinked, linked-all, linked-at, linked-more, linked-none, locked-all}
 use Rattle.lock_check.proofs.Completing.{package-at}
 use Rattle.lock_check.specs.Internal.Collected.{IsTaken}
-use Rattle.lock_check.specs.Lookups.{IsAt, IsDependency}
+use Rattle.lock_check.specs.Lookups.{IsAt}
+use Rattle.lock_check.specs.Overrides.{IsDependency}
 use Rattle.lock_check.proofs.check.edges.Goals as goal
 
 pub loop-folder-preserved-in-Some-package : goal.loop-folder-preserved-in-Some-package

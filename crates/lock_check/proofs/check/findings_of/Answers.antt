@@ -5,7 +5,7 @@ use Rattle.std.specs.List.{AllWithin}
 use Rattle.lock_check.specs.Internal.Collected.{IsAmong}
 use Rattle.lock_check.specs.Judged.{IsEdge, IsFinding}
 use Rattle.lock_check.proofs.Completing.{among-more, among-push}
-use Rattle.lock_check.proofs.Judging.{finding-made, referred}
+use Rattle.lock_check.proofs.Judging.{finding-made, lost-refers}
 use Rattle.lock_check.proofs.check.findings_of.Goals as goal
 
 pub loop-number-preserved : goal.loop-number-preserved
@@ -15,13 +15,14 @@ loop-number-preserved c =
     let f = c.in_ok-finding.field-0 in
     let before = c.loop-number.findings.items in
     let same = c.in_ok-push.ensures.items in record {
-      each = λ all rules.
+      each = λ all at rules.
           let is = subst (λ d. IsEdge lock d) (sym c.index-edges-number.is)
           (All-get_or (IsEdge lock) c.args.edges.now c.loop-number.number e (omega arith) all) in
+          let ruled = c.wanted-wanted.ensures.put rules in
           All-same (IsFinding lock) c.push.new.self.items (before ++ f ∷ []) same
-          (All-push (IsFinding lock) before f (c.loop-number.invariant.each all rules)
-          (finding-made lock e c.wanted-wanted.result f is c.wanted-wanted.ensures.some c.in_ok-finding.ensures.dependency
-          (c.in_ok-finding.ensures.outcome (referred lock e.dependency c.wanted-wanted.result c.args.scopes.now.overrides c.wanted-wanted.ensures.kept rules))));
+          (All-push (IsFinding lock) before f (c.loop-number.invariant.each all at rules)
+          (finding-made lock c.args.scopes.now.overrides.root e c.wanted-wanted.result f at is ruled c.in_ok-finding.ensures.dependency
+          (c.in_ok-finding.ensures.outcome (lost-refers lock c.args.scopes.now.overrides.root e.dependency c.wanted-wanted.result at ruled))));
       all = subst (λ found. AllWithin (IsAmong found) c.args.edges.now 0 (c.loop-number.number + 1)) (sym same)
           (AllWithin-more (IsAmong (before ++ f ∷ [])) c.args.edges.now 0 c.loop-number.number
           (λ k d low high. among-more before f (get_or c.args.edges.now k d) (c.loop-number.invariant.all k d low high))

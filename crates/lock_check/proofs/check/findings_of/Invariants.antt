@@ -1,13 +1,14 @@
-use Rattle.std.proofs.Common.{◌≡◌, ◌⊎◌, [], All}
+use Rattle.std.proofs.Common.{[], All}
 use Rattle.std.specs.List.{AllWithin}
 use Rattle.lock_check.specs.Internal.Collected.{IsAmong}
+use Rattle.lock_check.specs.Internal.Overriding.{AreItsRules}
 use Rattle.lock_check.specs.Judged.{IsEdge, IsFinding}
-use Rattle.lock_check.specs.Lookups.{HasRules}
+use Rattle.lock_check.specs.Lookups.{IsAt}
 use Rattle.lock_check.proofs.check.findings_of.Given as goal
 
 abbrev pub invariant-loop-number : goal.invariant-loop-number
 invariant-loop-number l = record {
-  each : All (IsEdge l.lock) l.edges → (l.scopes.overrides.rules.items ≡ []) ⊎ HasRules l.lock
-      → All (IsFinding l.lock) l.findings.items;
+  each : All (IsEdge l.lock) l.edges → IsAt l.lock [] l.scopes.overrides.root
+      → AreItsRules l.scopes.overrides.root l.scopes.overrides.rules.items → All (IsFinding l.lock) l.findings.items;
   all : AllWithin (IsAmong l.findings.items) l.edges 0 l.number;
 }

@@ -2,7 +2,8 @@ use Rattle.std.proofs.Common.{All, map}
 use Rattle.std.specs.Map.Iter.{deref}
 use Rattle.lock_check.proofs.Collecting.{AreUpto, AreUptoName}
 use Rattle.lock_check.specs.Internal.Collected.{AreWorkspaces}
-use Rattle.lock_check.specs.Lookups.{IsDependency, IsPackage}
+use Rattle.lock_check.specs.Lookups.{IsPackage}
+use Rattle.lock_check.specs.Overrides.{IsDependency}
 use Rattle.lock_check.specs.declared.lock.Lock.{Lock}
 use Rattle.lock_check.proofs.lock.add_dependencies.Given as goal
 

@@ -1,6 +1,7 @@
 use Rattle.std.proofs.Common.{All}
 use Rattle.lock_check.specs.Internal.Collected.{AreWorkspaces}
-use Rattle.lock_check.specs.Lookups.{IsDependency, IsPackage}
+use Rattle.lock_check.specs.Lookups.{IsPackage}
+use Rattle.lock_check.specs.Overrides.{IsDependency}
 use Rattle.lock_check.proofs.workspaces.add_workspaces.Given as goal
 
 abbrev pub invariant-loop-item : goal.invariant-loop-item

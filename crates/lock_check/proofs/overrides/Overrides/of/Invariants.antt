@@ -1,6 +1,15 @@
-use Rattle.std.proofs.Common.{◌≡◌, ◌⊎◌, []}
-use Rattle.lock_check.specs.Lookups.{HasOverrides}
+use Rattle.std.proofs.Common.{All}
+use Rattle.lock_check.specs.Internal.Overriding.{AreItsRules, IsUnread}
 use Rattle.lock_check.proofs.overrides.Overrides.of.Given as goal
 
 abbrev pub invariant-loop : goal.invariant-loop
-invariant-loop l = ((l.rules.items ≡ []) × (l.unread.items ≡ [])) ⊎ HasOverrides l.root
+invariant-loop l = record {
+  unread : All (IsUnread l.root) l.unread.items;
+  rules : AreItsRules l.root l.rules.items;
+}
+
+abbrev pub invariant-loop-key : goal.invariant-loop-key
+invariant-loop-key l = record {
+  unread : All (IsUnread l.root) l.unread.items;
+  rules : AreItsRules l.root l.rules.items;
+}
