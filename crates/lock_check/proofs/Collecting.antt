@@ -204,7 +204,7 @@ ranked-rank field.Requires = refl
 pub same-rank : (f g : Field) → rank f ≡ rank g → f ≡ g
 same-rank f g e = sym (ranked-rank f) ∙ ap ranked e ∙ ranked-rank g
 
-last_or_before : (m n : ℕ) → m ≤ n + 1 → (m ≤ n) ⊎ (m ≡ n + 1)
+pub last_or_before : (m n : ℕ) → m ≤ n + 1 → (m ≤ n) ⊎ (m ≡ n + 1)
 last_or_before zero n h = inl (omega arith)
 last_or_before (suc m) zero h = inr (omega arith)
 last_or_before (suc m) (suc n) h = elim (last_or_before m n (omega arith)) [

@@ -25,22 +25,26 @@ use Rattle.lock_check.specs.declared.lock.Wanted.{Wanted}
 
 -- ---- with what is locked for them
 
-pub extends-more : (before edges after : List Edge) (e : Edge) → Extends before edges → after ≡ edges ++ e ∷ []
+pub extends-more : {A : Type 0} (before edges after : List A) (e : A) → Extends before edges → after ≡ edges ++ e ∷ []
     → Extends before after
 extends-more before edges after e h same =
     (h.0 ++ e ∷ [], same ∙ ap (λ es. es ++ e ∷ []) h.1 ∙ append_assoc before h.0 (e ∷ []))
 
-pub extends-same : (before edges after : List Edge) → Extends before edges → after ≡ edges → Extends before after
+pub extends-same : {A : Type 0} (before edges after : List A) → Extends before edges → after ≡ edges → Extends before after
 extends-same before edges after h same = (h.0, same ∙ h.1)
 
-pub edge-kept : (before after : List Edge) (e : Edge) → Extends before after → Contains before e → Contains after e
-edge-kept before after e h at =
+pub extends-on : {A : Type 0} (before middle after : List A) → Extends before middle → Extends middle after
+    → Extends before after
+extends-on before middle after h k = (h.0 ++ k.0, k.1 ∙ ap (λ es. es ++ k.0) h.1 ∙ append_assoc before h.0 k.0)
+
+pub extends-kept : {A : Type 0} (before after : List A) (e : A) → Extends before after → Contains before e → Contains after e
+extends-kept before after e h at =
     subst (λ es. Contains es e) (sym h.1) (Contains-append_left before h.0 e at)
 
 pub taken-kept : (lock : Lock) (before after : List Edge) (d : Dependency) → Extends before after
     → IsTaken lock before d → IsTaken lock after d
 taken-kept lock before after d h taken = elim taken [
-  | inl has ↦ inl (has.0, edge-kept before after has.0 h has.1, has.2)
+  | inl has ↦ inl (has.0, extends-kept before after has.0 h has.1, has.2)
   | inr out ↦ inr out
 ]
 
@@ -106,53 +110,50 @@ locked-all lock p found edges is each all taken = λ f name w.
 
 -- ---- those of all packages
 
--- of the packages in these folders
-abbrev pub AreLinked : Lock → List (String Global) → List Edge → Type 0
-AreLinked lock keys edges = (folder : List ℕ) (fields : Data) → get folder (packages_of lock) ≡ Some fields
-    → HasKey keys folder → AreAllLocked lock folder fields edges
+-- this holds of the packages in these folders
+abbrev pub AreEach : Lock → List (String Global) → (List ℕ → Data → Type 0) → Type 0
+AreEach lock keys Q = (folder : List ℕ) (fields : Data) → get folder (packages_of lock) ≡ Some fields
+    → HasKey keys folder → Q folder fields
 
-locked-kept : (lock : Lock) (folder : List ℕ) (fields : Data) (before after : List Edge) → Extends before after
+pub locked-kept : (lock : Lock) (before after : List Edge) → Extends before after → (folder : List ℕ) (fields : Data)
     → AreAllLocked lock folder fields before → AreAllLocked lock folder fields after
-locked-kept lock folder fields before after h all = λ f name w. elim (all f name w) [
-  | inl has ↦ inl (has.0, edge-kept before after has.0 h has.1, has.2)
+locked-kept lock before after h folder fields all = λ f name w. elim (all f name w) [
+  | inl has ↦ inl (has.0, extends-kept before after has.0 h has.1, has.2)
   | inr out ↦ inr out
 ]
 
-pub linked-more : (lock : Lock) (keys : List (String Global)) (k : String Global) (before after : List Edge)
-    → Extends before after
-    → ((fields : Data) → get (string_bytes k) (packages_of lock) ≡ Some fields
-    → AreAllLocked lock (string_bytes k) fields after)
-    → AreLinked lock keys before → AreLinked lock (keys ++ k ∷ []) after
-linked-more lock keys k before after h here all = λ folder fields at key.
+pub each-more : (lock : Lock) (keys : List (String Global)) (k : String Global) (P Q : List ℕ → Data → Type 0)
+    → ((folder : List ℕ) (fields : Data) → P folder fields → Q folder fields)
+    → ((fields : Data) → get (string_bytes k) (packages_of lock) ≡ Some fields → Q (string_bytes k) fields)
+    → AreEach lock keys P → AreEach lock (keys ++ k ∷ []) Q
+each-more lock keys k P Q kept here all = λ folder fields at key.
     elim (Contains-push_cases keys k key.0 key.1) [
-      | inl earlier ↦ locked-kept lock folder fields before after h (all folder fields at (key.0, earlier, key.2))
+      | inl earlier ↦ kept folder fields (all folder fields at (key.0, earlier, key.2))
       | inr same ↦
           let is : string_bytes k ≡ folder = ap string_bytes same ∙ key.2 in
-          subst (λ at. AreAllLocked lock at fields after) is
-          (here fields (subst (λ at. get at (packages_of lock) ≡ Some fields) (sym is) at))
+          subst (λ at. Q at fields) is (here fields (subst (λ at. get at (packages_of lock) ≡ Some fields) (sym is) at))
     ]
 
 -- what the lock file has in a folder
-pub linked-at : (lock : Lock) (folder : List ℕ) (p : Package) (edges : List Edge) → IsAt lock folder (Some p)
-    → AreAllLocked lock p.folder.now (view p.fields.now) edges → (fields : Data)
-    → get folder (packages_of lock) ≡ Some fields → AreAllLocked lock folder fields edges
-linked-at lock folder p edges is all fields at =
-    subst (λ v. AreAllLocked lock folder v edges)
-    (same_fields (get folder (packages_of lock)) (view p.fields.now) fields is.1 at)
-    (subst (λ place. AreAllLocked lock place (view p.fields.now) edges) is.0 all)
+pub each-at : (lock : Lock) (folder : List ℕ) (p : Package) (Q : List ℕ → Data → Type 0) → IsAt lock folder (Some p)
+    → Q p.folder.now (view p.fields.now) → (fields : Data) → get folder (packages_of lock) ≡ Some fields → Q folder fields
+each-at lock folder p Q is here fields at =
+    subst (λ v. Q folder v) (same_fields (get folder (packages_of lock)) (view p.fields.now) fields is.1 at)
+    (subst (λ place. Q place (view p.fields.now)) is.0 here)
 
 pub package-at : (lock : Lock) (folder : List ℕ) (p : Package) → IsAt lock folder (Some p) → IsPackage lock p
 package-at lock folder p is =
     subst (λ place. get place (packages_of lock) ≡ Some (view p.fields.now)) (sym is.0) is.1
 
-pub linked-none : (lock : Lock) (folder : List ℕ) (edges : List Edge) → IsAt lock folder None → (fields : Data)
-    → get folder (packages_of lock) ≡ Some fields → AreAllLocked lock folder fields edges
-linked-none lock folder edges none fields at = absurd (cc)
+pub each-none : (lock : Lock) (folder : List ℕ) (Q : List ℕ → Data → Type 0) → IsAt lock folder None → (fields : Data)
+    → get folder (packages_of lock) ≡ Some fields → Q folder fields
+each-none lock folder Q none fields at = absurd (cc)
 
 -- all of them
-pub linked-all : (lock : Lock) (keys : List (String Global)) (edges : List Edge)
-    → keys ≡ keys_of lock.packages.now.entries → AreLinked lock keys edges → AreAllLinked lock edges
-linked-all lock keys edges same linked = λ folder fields at. linked folder fields at
+pub each-all : (lock : Lock) (keys : List (String Global)) (Q : List ℕ → Data → Type 0)
+    → keys ≡ keys_of lock.packages.now.entries → AreEach lock keys Q
+    → (folder : List ℕ) (fields : Data) → get folder (packages_of lock) ≡ Some fields → Q folder fields
+each-all lock keys Q same all = λ folder fields at. all folder fields at
     (subst (λ ks. HasKey ks folder) (sym same)
     (key-of folder lock.packages.now.entries (subst (IsSome {T = Data}) (sym at) refl)))
 

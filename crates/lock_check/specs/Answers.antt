@@ -6,6 +6,7 @@ use Rattle.std.specs.List.{flat_map}
 use Rattle.lock_check.specs.Complete.{AreAllJudged}
 use Rattle.lock_check.specs.Findings.{AreSkips, count_of, is_told, kind_of}
 use Rattle.lock_check.specs.Judged.{IsFinding}
+use Rattle.lock_check.specs.Malformed.{AreAllTold}
 use Rattle.lock_check.specs.Reports.{row_text}
 use Rattle.lock_check.specs.Rows.{told_fault, told_finding, told_row}
 use Rattle.lock_check.specs.Summary.{summary}
@@ -42,8 +43,8 @@ abbrev pub is_json : Format → Bool
 is_json format.Json = true
 is_json _ = false
 
--- each dependency is judged, each finding that is told of has a row, in order, behind those of malformed
--- fields; the rows are printed, and the counts unless it is quiet
+-- each dependency is judged, and what is malformed is told; each finding that is told of has a row, in
+-- order, behind those of malformed fields; the rows are printed, and the counts unless it is quiet
 pub record IsReport (lock : Lock) (file : List ℕ) (f : Format) (is_quiet : Bool) (r : Report) : Type 0 where
   pub findings : List Finding
   pub faults : List Fault
@@ -51,6 +52,7 @@ pub record IsReport (lock : Lock) (file : List ℕ) (f : Format) (is_quiet : Boo
   pub counts : Counts
   pub each : All (IsFinding lock) findings
   pub all : AreAllJudged lock findings
+  pub malformed : AreAllTold lock faults
   pub told : map told_row rows ≡ map told_fault faults
       ++ map told_finding (filter (λ g. is_told is_quiet (kind_of g.outcome)) findings)
   pub counted : AreCounts lock findings faults counts

@@ -6,6 +6,7 @@ pub mod Index
 pub mod Internal
 pub mod Judged
 pub mod Lookups
+pub mod Malformed
 pub mod Optional
 pub mod Outcomes
 pub mod Outlooks

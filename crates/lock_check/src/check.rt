@@ -6,16 +6,19 @@ ghost use Rattle.lock_check.specs.Internal.Overriding.{AreItsRules};
 ghost use Rattle.lock_check.specs.Complete.{AreAllJudged, is_locked_for_development};
 ghost use Rattle.lock_check.specs.Judged.{IsEdge, IsFinding, IsLinkOfRoot, IsLockedOutcome};
 ghost use Rattle.lock_check.specs.Judged.{IsOutcome, IsOwnPeer, as_wanted};
-ghost use Rattle.lock_check.specs.Lookups.{IsAt, IsPackage};
+ghost use Rattle.lock_check.specs.Lookups.{IsAt, IsPackage, packages_of};
+ghost use Rattle.lock_check.specs.Malformed.{AreAllTold, HasAllFaults};
 ghost use Rattle.lock_check.specs.Overrides.{IsDependency, RefersToNothing};
 ghost use Rattle.lock_check.specs.Outcomes.{IsInstead, IsJudged, IsPlaceOutcome, IsRangeOutcome};
 ghost use Rattle.lock_check.specs.Outcomes.{IsRegistryOutcome, IsRepositoryOutcome};
 ghost use Rattle.lock_check.specs.Outcomes.{IsSpecifierOutcome, IsTagOutcome, IsTextOutcome};
 ghost use Rattle.lock_check.specs.Outcomes.{IsToldOf, IsUnversioned, IsWantedOutcome, address_of};
 ghost use Rattle.lock_check.specs.Outcomes.{is_link, locked_in, version_text};
+ghost use Rattle.serde_json.specs.Data.{Data};
+ghost use Rattle.serde_json.specs.Find.{get};
 ghost use Rattle.serde_json.specs.View.{view};
 ghost use Rattle.std.specs.Prelude.{◌≡◌, ◌↔◌, [], All, IfOk, IsNone, IsTrue, OnOk, Some};
-ghost use Rattle.std.specs.Prelude.{option_map};
+ghost use Rattle.std.specs.Prelude.{List, option_map, ℕ};
 
 use crate::fault::Fault;
 use crate::finding::{Finding, Outcome, Skip};
@@ -70,6 +73,7 @@ fn is_any_told(findings: &[Finding<'_>]) -> bool {
 pub fn check<'a>(alloc: Global, lock: Lock<'a>) -> Result<Findings<'a>, AllocError>
     ensures each { IfOk result (λ found. All (IsFinding lock.entry) found.of_dependencies.items) }
     ensures all { IfOk result (λ found. AreAllJudged lock.entry found.of_dependencies.items) }
+    ensures malformed { IfOk result (λ found. AreAllTold lock.entry found.faults.items) }
 {
     let mut faults = Vec::new(alloc);
     if lock.package("").is_none() {
@@ -120,6 +124,10 @@ fn edges<'a>(
 ) -> Result<Vec<Edge<'a>>, AllocError>
     ensures each { IfOk result (λ edges. All (IsEdge lock.entry) edges.items) }
     ensures all { IfOk result (λ edges. AreAllLinked lock.entry edges.items) }
+    ensures kept { OnOk result (Extends faults.old.items faults.new.items) }
+    ensures told { OnOk result ((folder : List ℕ) (fields : Data)
+        → get folder (packages_of lock.entry) ≡ Some fields
+        → HasAllFaults faults.new.items folder fields) }
 {
     let mut edges = Vec::new(alloc);
     for folder in lock.packages.keys() {
@@ -141,6 +149,9 @@ fn dependencies<'a>(
     ensures each { IsPackage lock.entry «package».entry
         → IfOk result (λ found. All (IsDependency lock.entry) found.first.items) }
     ensures all { IfOk result (λ found. AreAllFound «package».entry found.first.items) }
+    ensures kept { OnOk result (Extends faults.old.items faults.new.items) }
+    ensures told { OnOk result (HasAllFaults faults.new.items «package».entry.folder.now
+        (view «package».entry.fields.now)) }
 {
     let mut found = Dependencies::new(alloc);
     add_workspaces(lock, package, &mut found, faults)?;

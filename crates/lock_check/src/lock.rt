@@ -1,8 +1,9 @@
 // The packages of a lock file, and what they depend on.
 
 ghost use Rattle.lock_check.specs.Internal.Collected.{AreAllFound, AreNamed, AreWorkspaces};
-ghost use Rattle.lock_check.specs.Internal.Collected.{members_in, with_first};
+ghost use Rattle.lock_check.specs.Internal.Collected.{Extends, members_in, with_first};
 ghost use Rattle.lock_check.specs.Complete.{IsRead};
+ghost use Rattle.lock_check.specs.Malformed.{HasAllFaults, IsFieldFault, IsNoObject};
 ghost use Rattle.lock_check.specs.Optional.{MayBeAbsent};
 ghost use Rattle.lock_check.specs.Fields.{is_set, member_of, text_of};
 ghost use Rattle.lock_check.specs.Judged.{IsOverride};
@@ -111,8 +112,12 @@ impl Field {
             (view «package».entry.fields.now) ≡ Some (members_view m.now.entries))) }
         ensures none { IfOk result (λ found. IfNone found (IsRead self «package».entry.folder.now
             → members_in self (view «package».entry.fields.now) ≡ None)) }
+        ensures absent { IfOk result (λ found. IfNone found (IsRead self «package».entry.folder.now
+            → ¬ (IsNoObject (view «package».entry.fields.now) self))) }
         ensures fault { IfErr result (λ fault. members_in self (view «package».entry.fields.now)
             ≡ None) }
+        ensures told { IfErr result
+            (IsFieldFault «package».entry.folder.now (field_name self)) }
     {
         if self == Field::Development && is_installed(package.folder) {
             return Ok(None);
@@ -364,6 +369,9 @@ pub(crate) fn add_dependencies<'a>(
         → All (IsDependency lock) found.new.first.items) }
     ensures all { OnOk result (AreWorkspaces «package».entry found.old
         → AreAllFound «package».entry found.new.first.items) }
+    ensures kept { OnOk result (Extends faults.old.items faults.new.items) }
+    ensures told { OnOk result (HasAllFaults faults.new.items «package».entry.folder.now
+        (view «package».entry.fields.now)) }
 {
     for &field in FIELDS {
         let ranges = match field.of(package) {

@@ -1,5 +1,6 @@
 // `overrides` of the root project, which changes what packages depend on.
 
+ghost use Rattle.lock_check.specs.Internal.Collected.{Extends};
 ghost use Rattle.lock_check.specs.Internal.Overriding.{AreItsRules, IsLost, IsPut, IsRuleOf};
 ghost use Rattle.lock_check.specs.Internal.Overriding.{IsUnread};
 ghost use Rattle.lock_check.specs.Overrides.{IsKey, referenced, rule_text, some_text};
@@ -8,7 +9,7 @@ ghost use Rattle.lock_check.specs.Replacements.{IsReplacement};
 ghost use Rattle.serde_json.specs.View.{view};
 ghost use Rattle.std.specs.Prelude.{◌≡◌, ◌≢◌, ◌++◌, ◌∷◌, ⊤, ℕ, All, Contains, IfNone, IfOk, IfSome};
 ghost use Rattle.semver_core.specs.Lists.{is_empty};
-ghost use Rattle.std.specs.Prelude.{List, MatchOption, codes, if◌then◌else◌, option_map};
+ghost use Rattle.std.specs.Prelude.{List, MatchOption, OnOk, codes, if◌then◌else◌, option_map};
 
 use crate::fault::Fault;
 use crate::lock::{Dependency, Field, Package, Wanted};
@@ -175,7 +176,8 @@ fn outermost<'a>(
     root: Option<Package<'a>>,
     faults: &mut Vec<Fault<'a>>,
 ) -> Result<Vec<(Scope, &'a Map<String, Value>)>, AllocError>
-    ensures { IfOk result (λ unread. All (IsUnread root.entry) unread.items) }
+    ensures read { IfOk result (λ unread. All (IsUnread root.entry) unread.items) }
+    ensures kept { OnOk result (Extends faults.old.items faults.new.items) }
 {
     let mut unread = Vec::new(alloc);
     let Some(package) = root else {
@@ -204,6 +206,7 @@ impl<'a> Overrides<'a> {
         ensures root { IfOk result (λ overrides. overrides.root ≡ root.entry) }
         ensures rules { IfOk result (λ overrides.
             AreItsRules root.entry overrides.rules.items) }
+        ensures kept { OnOk result (Extends faults.old.items faults.new.items) }
     {
         let mut rules = Vec::new(alloc);
         let mut unread = outermost(alloc, root, faults)?;

@@ -1,6 +1,6 @@
 // The workspaces of the root project.
 
-ghost use Rattle.lock_check.specs.Internal.Collected.{AreWorkspaces};
+ghost use Rattle.lock_check.specs.Internal.Collected.{AreWorkspaces, Extends};
 ghost use Rattle.lock_check.specs.Lookups.{IsPackage};
 ghost use Rattle.lock_check.specs.Overrides.{IsDependency};
 ghost use Rattle.std.specs.Prelude.{All, OnOk};
@@ -95,6 +95,7 @@ pub(crate) fn add_workspaces<'a>(
         → All (IsDependency lock.entry) found.new.first.items) }
     ensures alone { OnOk result (AreWorkspaces root.entry found.old
         → AreWorkspaces root.entry found.new) }
+    ensures kept { OnOk result (Extends faults.old.items faults.new.items) }
 {
     let list = match patterns(root) {
         _ if !root.folder.is_empty() => return Ok(()),

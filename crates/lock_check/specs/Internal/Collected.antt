@@ -81,5 +81,5 @@ IsAmong found e =
     (g : Finding) × Contains found g × ((w : Option Wanted) × (g.dependency ≡ as_wanted e.dependency w))
 
 -- some were added at the end
-abbrev pub Extends : List Edge → List Edge → Type 0
-Extends before after = (more : List Edge) × (after ≡ before ++ more)
+abbrev pub Extends : {A : Type 0} → List A → List A → Type 0
+Extends {A} before after = (more : List A) × (after ≡ before ++ more)

@@ -3,7 +3,13 @@ use Rattle.lock_check.proofs.Completing.{judged-all}
 use Rattle.lock_check.proofs.Judging.{ruled}
 use Rattle.lock_check.specs.Internal.Collected.{AreAllLinked}
 use Rattle.lock_check.specs.Judged.{IsEdge}
-use Rattle.std.proofs.Common.{subst, sym}
+use Rattle.std.proofs.Common.{◌≡◌, ◌∙◌, [], None, ap, not, refl, subst, sym}
+use Rattle.lock_check.proofs.Telling.{all-kept, fault-added, fault-kept, has-root}
+use Rattle.lock_check.specs.Lookups.{IsAt}
+use Rattle.lock_check.specs.Malformed.{HasFault}
+use Rattle.lock_check.specs.declared.fault.Fault.{Fault}
+use Rattle.lock_check.specs.declared.fault.Fault.TheVariants.{NoRoot}
+use Rattle.lock_check.proofs.check.check.Goals.{then-is_none+in_ok-push, else-is_none}
 use Rattle.lock_check.proofs.check.check.Goals as goal
 
 pub returns-clause-each : goal.returns-clause-each
@@ -19,3 +25,21 @@ returns-clause-all c =
     judged-all c.args.lock c.deref-2.result.now c.in_ok-of_dependencies.of_dependencies.items
     (subst (AreAllLinked c.args.lock) (sym c.deref-2.ensures.value) c.in_ok-edges.ensures.all)
     c.in_ok-of_dependencies.ensures.all
+
+pub returns-clause-malformed : goal.returns-clause-malformed
+returns-clause-malformed c =
+    let lock = c.args.lock in
+    let P : Fault → Type 0 = λ f. f ≡ NoRoot in
+    let first = c.if-is_none.faults.items in
+    let middle = c.edges.new.faults.items in
+    let last = c.of.new.faults.items in
+    let root : IsAt lock [] None → HasFault first P = λ none. elim c.if-is_none.branch [
+      | then-is_none+in_ok-push w ↦ subst (λ fs. HasFault fs.items P) (sym w.faults-is)
+          (fault-added c.new-faults.result.items w.push.new.self.items P NoRoot w.in_ok-push.ensures.items refl)
+      | else-is_none w ↦ absurd (has-root lock c.package.result c.package.ensures (c.is_none.ensures ∙ ap not w.if-is_none.false) none)
+    ] in
+    record {
+      root = λ none. fault-kept middle last P c.in_ok-overrides.ensures.kept (fault-kept first middle P c.in_ok-edges.ensures.kept (root none));
+      each = λ folder fields at. all-kept middle last c.in_ok-overrides.ensures.kept folder fields
+          (c.in_ok-edges.ensures.told folder fields at);
+    }

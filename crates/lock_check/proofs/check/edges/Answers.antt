@@ -1,12 +1,14 @@
-use Rattle.std.proofs.Common.{◌∷◌, ◌∙◌, [], None, Some, map, string_bytes, subst, sym}
-use Rattle.std.proofs.lemmas.List.{append-nil, map-append}
+use Rattle.std.proofs.Common.{◌∷◌, ◌∙◌, [], List, None, Some, ℕ, map, string_bytes, subst, sym}
+use Rattle.std.proofs.lemmas.List.{map-append}
 use Rattle.std.proofs.lemmas.List.Elements.{All-same}
 use Rattle.std.proofs.lemmas.Map.Iter.{iter_end}
 use Rattle.std.specs.Map.{keys_of}
+use Rattle.serde_json.specs.Data.{Data}
 use Rattle.std.specs.Map.Iter.{deref}
-use Rattle.lock_check.proofs.Completing.{AreLinked, linked-all, linked-at, linked-more, linked-none, locked-all}
-use Rattle.lock_check.proofs.Completing.{package-at}
-use Rattle.lock_check.specs.Internal.Collected.{IsTaken}
+use Rattle.lock_check.proofs.Completing.{AreEach, each-all, each-at, each-more, each-none, extends-on, locked-all, locked-kept, package-at}
+use Rattle.lock_check.proofs.Telling.{all-kept}
+use Rattle.lock_check.specs.Malformed.{HasAllFaults}
+use Rattle.lock_check.specs.Internal.Collected.{AreAllLocked, IsTaken}
 use Rattle.lock_check.specs.Lookups.{IsAt}
 use Rattle.lock_check.specs.Overrides.{IsDependency}
 use Rattle.lock_check.proofs.check.edges.Goals as goal
@@ -21,28 +23,43 @@ loop-folder-preserved-in-Some-package c =
     let after = c.add_edges.new.edges.items in
     let at = subst (λ place. IsAt lock place (Some p)) c.deref.ensures c.in-Some-package.ensures in
     let is = package-at lock (string_bytes key.now) p at in
+    let now : List ℕ → Data → Type 0 = λ folder fields. AreAllLocked lock folder fields after in
     let each = c.in_ok-found.ensures.each is in
+    let first = c.loop-folder.faults.items in
+    let last = c.dependencies.new.faults.items in
     let taken = All-same (IsTaken lock after) found c.as_slice.result.now (sym c.as_slice.ensures)
     c.in_ok-add_edges.ensures.all in record {
       each = c.in_ok-add_edges.ensures.each
           (All-same (IsDependency lock) c.as_slice.result.now found c.as_slice.ensures each)
           c.loop-folder.invariant.each;
-      all = subst (λ keys. AreLinked lock keys after) (sym (map-append deref c.loop-folder.yielded (key ∷ [])))
-          (linked-more lock (map deref c.loop-folder.yielded) key.now before after c.in_ok-add_edges.ensures.kept
-          (linked-at lock (string_bytes key.now) p after at
+      all = subst (λ keys. AreEach lock keys now) (sym (map-append deref c.loop-folder.yielded (key ∷ [])))
+          (each-more lock (map deref c.loop-folder.yielded) key.now (λ folder fields. AreAllLocked lock folder fields before) now
+          (locked-kept lock before after c.in_ok-add_edges.ensures.kept)
+          (each-at lock (string_bytes key.now) p now at
           (locked-all lock p found after is each c.in_ok-found.ensures.all taken)) c.loop-folder.invariant.all);
+      kept = extends-on c.args.faults.now.items first last c.loop-folder.invariant.kept c.in_ok-found.ensures.kept;
+      told = subst (λ keys. AreEach lock keys (HasAllFaults last)) (sym (map-append deref c.loop-folder.yielded (key ∷ [])))
+          (each-more lock (map deref c.loop-folder.yielded) key.now (HasAllFaults first) (HasAllFaults last)
+          (all-kept first last c.in_ok-found.ensures.kept)
+          (each-at lock (string_bytes key.now) p (HasAllFaults last) at c.in_ok-found.ensures.told)
+          c.loop-folder.invariant.told);
     }
 
 pub loop-folder-preserved : goal.loop-folder-preserved
 loop-folder-preserved c =
     let lock = c.args.lock in
     let key = c.in-Some.folder in
-    let edges = c.loop-folder.edges.items in
+    let now : List ℕ → Data → Type 0 = λ folder fields. AreAllLocked lock folder fields c.loop-folder.edges.items in
+    let told : List ℕ → Data → Type 0 = HasAllFaults c.loop-folder.faults.items in
     let at = subst (λ place. IsAt lock place None) c.deref.ensures c.in_default.ensures in record {
       each = c.loop-folder.invariant.each;
-      all = subst (λ keys. AreLinked lock keys edges) (sym (map-append deref c.loop-folder.yielded (key ∷ [])))
-          (linked-more lock (map deref c.loop-folder.yielded) key.now edges edges ([], sym (append-nil edges))
-          (linked-none lock (string_bytes key.now) edges at) c.loop-folder.invariant.all);
+      all = subst (λ keys. AreEach lock keys now) (sym (map-append deref c.loop-folder.yielded (key ∷ [])))
+          (each-more lock (map deref c.loop-folder.yielded) key.now now now (λ folder fields is. is)
+          (each-none lock (string_bytes key.now) now at) c.loop-folder.invariant.all);
+      kept = c.loop-folder.invariant.kept;
+      told = subst (λ keys. AreEach lock keys told) (sym (map-append deref c.loop-folder.yielded (key ∷ [])))
+          (each-more lock (map deref c.loop-folder.yielded) key.now told told (λ folder fields is. is)
+          (each-none lock (string_bytes key.now) told at) c.loop-folder.invariant.told);
     }
 
 pub returns-clause-all : goal.returns-clause-all
@@ -52,4 +69,14 @@ returns-clause-all c =
     c.into_iter-folder-iterator.result c.loop-folder.folder-iterator c.next.new.self c.next.result
     (c.into_iter-folder-iterator.ensures.into_iter_gives ∙ c.keys-folder-items.ensures.rest) c.loop-folder.yielded_by
     c.in-None.is c.next.ensures.steps in
-    linked-all lock (map deref c.loop-folder.yielded) c.loop-folder.edges.items ends.0 c.loop-folder.invariant.all
+    each-all lock (map deref c.loop-folder.yielded) (λ folder fields. AreAllLocked lock folder fields c.loop-folder.edges.items)
+    ends.0 c.loop-folder.invariant.all
+
+pub returns-clause-told : goal.returns-clause-told
+returns-clause-told c =
+    let lock = c.args.lock in
+    let ends = iter_end deref (keys_of lock.packages.now.entries) c.loop-folder.yielded
+    c.into_iter-folder-iterator.result c.loop-folder.folder-iterator c.next.new.self c.next.result
+    (c.into_iter-folder-iterator.ensures.into_iter_gives ∙ c.keys-folder-items.ensures.rest) c.loop-folder.yielded_by
+    c.in-None.is c.next.ensures.steps in
+    each-all lock (map deref c.loop-folder.yielded) (HasAllFaults c.loop-folder.faults.items) ends.0 c.loop-folder.invariant.told

@@ -1,11 +1,15 @@
 use Rattle.std.proofs.Common.{All, map}
 use Rattle.std.specs.Map.Iter.{deref}
-use Rattle.lock_check.proofs.Completing.{AreLinked}
+use Rattle.lock_check.proofs.Completing.{AreEach}
+use Rattle.lock_check.specs.Internal.Collected.{AreAllLocked, Extends}
 use Rattle.lock_check.specs.Judged.{IsEdge}
+use Rattle.lock_check.specs.Malformed.{HasAllFaults}
 use Rattle.lock_check.proofs.check.edges.Given as goal
 
 abbrev pub invariant-loop-folder : goal.invariant-loop-folder
 invariant-loop-folder l = record {
   each : All (IsEdge l.lock) l.edges.items;
-  all : AreLinked l.lock (map deref l.yielded) l.edges.items;
+  all : AreEach l.lock (map deref l.yielded) (λ folder fields. AreAllLocked l.lock folder fields l.edges.items);
+  kept : Extends l.fn.faults.items l.faults.items;
+  told : AreEach l.lock (map deref l.yielded) (HasAllFaults l.faults.items);
 }

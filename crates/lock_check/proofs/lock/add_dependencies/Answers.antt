@@ -1,4 +1,4 @@
-use Rattle.std.proofs.Common.{map, ◌≡◌, ◌∷◌, ◌∙◌, [], None, refl, subst, sym}
+use Rattle.std.proofs.Common.{map, ◌≡◌, ◌∷◌, ◌∙◌, [], None, Some, refl, string_bytes, subst, sym}
 use Rattle.std.proofs.lemmas.List.{map-append}
 use Rattle.std.proofs.lemmas.Map.Iter.{iter_end}
 use Rattle.std.specs.Map.{keys_of}
@@ -6,7 +6,12 @@ use Rattle.std.specs.Map.Iter.{deref}
 use Rattle.serde_json.specs.View.{view}
 use Rattle.lock_check.proofs.Collecting.{AreUptoName, HasKey, field_at, not_written, upto-added, upto-all, upto-done, upto-more, upto-none}
 use Rattle.lock_check.proofs.Collecting.{upto-start, upto-workspaces, written-key}
-use Rattle.lock_check.specs.Lookups.{written_in}
+use Rattle.lock_check.proofs.Completing.{extends-more}
+use Rattle.lock_check.proofs.Telling.{AreToldName, as-before, fault-added, has-text, none-in, one-more, told-all, told-done, told-key, told-more}
+use Rattle.lock_check.proofs.Telling.{told-none, told-start}
+use Rattle.lock_check.specs.Lookups.{field_name, written_in}
+use Rattle.lock_check.specs.Malformed.{IsFieldFault, IsRangeFault}
+use Rattle.lock_check.specs.declared.fault.Fault.TheVariants.{Range}
 use Rattle.lock_check.specs.declared.lock.Dependency.{Dependency}
 use Rattle.lock_check.specs.declared.lock.Wanted.TheVariants.{Text}
 use Rattle.lock_check.proofs.lock.add_dependencies.Goals as goal
@@ -18,6 +23,13 @@ loop-field-preserved-in-Ok-None c = record {
       (λ name. not_written c.args.package.folder.now (view c.args.package.fields.now)
       (field_at c.loop-field.field-index) name (rw c.in-Ok-None.field-0-is at c.in-Ok-None.ensures.none))
       (c.loop-field.invariant.all are);
+  kept = c.loop-field.invariant.kept;
+  told = told-more c.args.package c.loop-field.field-index c.loop-field.faults.items c.loop-field.faults.items c.loop-field-test.true
+      (as-before c.loop-field.faults.items)
+      (λ read. none-in c.args.package.folder.now (view c.args.package.fields.now) (field_at c.loop-field.field-index) c.loop-field.faults.items
+      ((rw c.in-Ok-None.field-0-is at c.in-Ok-None.ensures.none) read)
+      (λ wrong. absurd ((rw c.in-Ok-None.field-0-is at c.in-Ok-None.ensures.absent) read wrong)))
+      c.loop-field.invariant.told;
 }
 
 pub loop-field-preserved-in-Err : goal.loop-field-preserved-in-Err
@@ -27,6 +39,18 @@ loop-field-preserved-in-Err c = record {
       (λ name. not_written c.args.package.folder.now (view c.args.package.fields.now)
       (field_at c.loop-field.field-index) name (λ _. c.in-Err.ensures.fault))
       (c.loop-field.invariant.all are);
+  kept = extends-more c.args.faults.now.items c.loop-field.faults.items c.push.new.self.items c.in-Err.fault c.loop-field.invariant.kept
+      c.in_ok-push-in-Err.ensures.items;
+  told =
+      let p = c.args.package in
+      let f = field_at c.loop-field.field-index in
+      let before = c.loop-field.faults.items in
+      let after = c.push.new.self.items in
+      let same = c.in_ok-push-in-Err.ensures.items in
+      told-more p c.loop-field.field-index before after c.loop-field-test.true (one-more before after c.in-Err.fault same)
+      (λ read. none-in p.folder.now (view p.fields.now) f after c.in-Err.ensures.fault
+      (λ wrong. fault-added before after (IsFieldFault p.folder.now (field_name f)) c.in-Err.fault same c.in-Err.ensures.told))
+      c.loop-field.invariant.told;
 }
 
 pub loop-name-init : goal.loop-name-init
@@ -34,6 +58,8 @@ loop-name-init c = record {
   each = c.loop-field.invariant.each;
   all = λ are. upto-start c.args.package c.loop-field.found c.loop-field.field-index c.loop-field-test.true
       (c.loop-field.invariant.all are);
+  kept = c.loop-field.invariant.kept;
+  told = told-start c.args.package c.loop-field.field-index c.loop-field.faults.items c.loop-field-test.true c.loop-field.invariant.told;
 }
 
 pub loop-name-preserved-in_default : goal.loop-name-preserved-in_default
@@ -46,6 +72,20 @@ loop-name-preserved-in_default c = record {
       let none = subst (λ n. None ≡ written_in f n (view p.fields.now)) c.as_str-name.ensures.value c.in_default.ensures in
       subst (λ keys. AreUptoName p f keys c.loop-name.found) (sym (map-append deref c.loop-name.yielded (key ∷ [])))
       (upto-more p c.loop-name.found f (map deref c.loop-name.yielded) key.now none (c.loop-name.invariant.all are));
+  kept = extends-more c.args.faults.now.items c.loop-name.faults.items c.push-in_default.new.self.items
+      (Range c.args.package.folder c.as_str-name.result) c.loop-name.invariant.kept c.in_ok-push.ensures.items;
+  told =
+      let p = c.args.package in
+      let f = field_at c.loop-field.field-index in
+      let key = c.in-Some.name in
+      let before = c.loop-name.faults.items in
+      let after = c.push-in_default.new.self.items in
+      let fault = Range p.folder c.as_str-name.result in
+      let same = c.in_ok-push.ensures.items in
+      subst (λ keys. AreToldName p f keys after) (sym (map-append deref c.loop-name.yielded (key ∷ [])))
+      (told-key p f (map deref c.loop-name.yielded) key.now before after (one-more before after fault same)
+      (λ wrong. fault-added before after (IsRangeFault p.folder.now (string_bytes key.now)) fault same
+      (refl, c.as_str-name.ensures.value)) c.loop-name.invariant.told);
 }
 
 pub loop-name-preserved : goal.loop-name-preserved
@@ -61,6 +101,17 @@ loop-name-preserved c = record {
       subst (λ keys. AreUptoName p f keys c.add.new.self) (sym (map-append deref c.loop-name.yielded (key ∷ [])))
       (upto-added p c.loop-name.found f (map deref c.loop-name.yielded) key.now d c.add.new.self refl refl
       c.as_str-name.ensures.value (c.in_ok-add.ensures.named upto.named) (c.in_ok-add.ensures.added upto.named) upto);
+  kept = c.loop-name.invariant.kept;
+  told =
+      let p = c.args.package in
+      let f = field_at c.loop-field.field-index in
+      let key = c.in-Some.name in
+      let faults = c.loop-name.faults.items in
+      subst (λ keys. AreToldName p f keys faults) (sym (map-append deref c.loop-name.yielded (key ∷ [])))
+      (told-key p f (map deref c.loop-name.yielded) key.now faults faults (as-before faults)
+      (λ wrong. absurd (has-text (view p.fields.now) f (string_bytes key.now) c.in-Some-written.range.now
+      (subst (λ n. Some c.in-Some-written.range.now ≡ written_in f n (view p.fields.now)) c.as_str-name.ensures.value c.in-Some-written.ensures) wrong))
+      c.loop-name.invariant.told);
 }
 
 pub loop-field-preserved : goal.loop-field-preserved
@@ -77,15 +128,30 @@ loop-field-preserved c = record {
       upto-done p c.loop-name.found c.loop-field.field-index (map deref c.loop-name.yielded) c.loop-field-test.true
       (λ name w. subst (λ ks. HasKey ks name) (sym ends.0)
       (written-key p.folder.now (view p.fields.now) f name es is w)) (c.loop-name.invariant.all are);
+  kept = c.loop-name.invariant.kept;
+  told =
+      let p = c.args.package in
+      let es = c.in-Ok-Some.ranges.now.entries in
+      let is = rw c.in-Ok-Some.field-0-is at c.in-Ok-Some.ensures.found in
+      let ends = iter_end deref (keys_of es) c.loop-name.yielded c.into_iter-name-iterator.result c.loop-name.name-iterator
+      c.next.new.self c.next.result (c.into_iter-name-iterator.ensures.into_iter_gives ∙ c.keys-name-items.ensures.rest)
+      c.loop-name.yielded_by c.in-None.is c.next.ensures.steps in
+      told-done p c.loop-field.field-index es (map deref c.loop-name.yielded) c.loop-name.faults.items c.loop-field-test.true
+      is ends.0 c.loop-name.invariant.told;
 }
 
 pub loop-field-init : goal.loop-field-init
 loop-field-init c = record {
   each = λ lock is all. all;
   all = upto-workspaces c.args.package c.args.found.now;
+  kept = as-before c.args.faults.now.items;
+  told = told-none c.args.package c.args.faults.now.items;
 }
 
 pub returns-clause-all : goal.returns-clause-all
 returns-clause-all c = λ are.
     upto-all c.args.package c.loop-field.found c.loop-field.field-index c.loop-field-test.false
     (c.loop-field.invariant.all are)
+
+pub returns-clause-told : goal.returns-clause-told
+returns-clause-told c = told-all c.args.package c.loop-field.field-index c.loop-field.faults.items c.loop-field-test.false c.loop-field.invariant.told

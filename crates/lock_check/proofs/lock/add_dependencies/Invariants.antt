@@ -1,7 +1,8 @@
 use Rattle.std.proofs.Common.{All, map}
 use Rattle.std.specs.Map.Iter.{deref}
 use Rattle.lock_check.proofs.Collecting.{AreUpto, AreUptoName}
-use Rattle.lock_check.specs.Internal.Collected.{AreWorkspaces}
+use Rattle.lock_check.proofs.Telling.{AreToldName, AreToldUpto}
+use Rattle.lock_check.specs.Internal.Collected.{AreWorkspaces, Extends}
 use Rattle.lock_check.specs.Lookups.{IsPackage}
 use Rattle.lock_check.specs.Overrides.{IsDependency}
 use Rattle.lock_check.specs.declared.lock.Lock.{Lock}
@@ -12,6 +13,8 @@ invariant-loop-field l = record {
   each : (lock : Lock) → IsPackage lock l.package → All (IsDependency lock) l.fn.found.first.items
       → All (IsDependency lock) l.found.first.items;
   all : AreWorkspaces l.package l.fn.found → AreUpto l.package l.field-index l.found;
+  kept : Extends l.fn.faults.items l.faults.items;
+  told : AreToldUpto l.package l.field-index l.faults.items;
 }
 
 abbrev pub invariant-loop-name : goal.invariant-loop-name
@@ -20,4 +23,6 @@ invariant-loop-name l = record {
       → All (IsDependency lock) l.found.first.items;
   all : AreWorkspaces l.package l.fn.found
       → AreUptoName l.package l.field (map deref l.yielded) l.found;
+  kept : Extends l.fn.faults.items l.faults.items;
+  told : AreToldName l.package l.field (map deref l.yielded) l.faults.items;
 }

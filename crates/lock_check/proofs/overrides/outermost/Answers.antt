@@ -6,8 +6,8 @@ use Rattle.lock_check.proofs.Overriding.{all-added, all-none}
 use Rattle.lock_check.proofs.overrides.outermost.Goals.{in-Some-as_object+in_ok-push-in-Some-as_object, in-None+in_ok-push-in-None}
 use Rattle.lock_check.proofs.overrides.outermost.Goals as goal
 
-pub returns : goal.returns
-returns c =
+pub returns-clause-read : goal.returns-clause-read
+returns-clause-read c =
     let none = all-none (IsUnread c.args.root) c.new-unread.result.items c.new-unread.ensures.items in
     elim c.match-as_object.branch [
       | in-Some-as_object+in_ok-push-in-Some-as_object w ↦

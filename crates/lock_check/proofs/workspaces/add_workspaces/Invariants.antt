@@ -1,5 +1,5 @@
 use Rattle.std.proofs.Common.{All}
-use Rattle.lock_check.specs.Internal.Collected.{AreWorkspaces}
+use Rattle.lock_check.specs.Internal.Collected.{AreWorkspaces, Extends}
 use Rattle.lock_check.specs.Lookups.{IsPackage}
 use Rattle.lock_check.specs.Overrides.{IsDependency}
 use Rattle.lock_check.proofs.workspaces.add_workspaces.Given as goal
@@ -9,6 +9,7 @@ invariant-loop-item l = record {
   each : IsPackage l.lock l.root → All (IsDependency l.lock) l.fn.found.first.items
       → All (IsDependency l.lock) l.found.first.items;
   alone : AreWorkspaces l.root l.fn.found → AreWorkspaces l.root l.found;
+  kept : Extends l.fn.faults.items l.faults.items;
 }
 
 abbrev pub invariant-loop-folder : goal.invariant-loop-folder
@@ -16,4 +17,5 @@ invariant-loop-folder l = record {
   each : IsPackage l.lock l.root → All (IsDependency l.lock) l.fn.found.first.items
       → All (IsDependency l.lock) l.found.first.items;
   alone : AreWorkspaces l.root l.fn.found → AreWorkspaces l.root l.found;
+  kept : Extends l.fn.faults.items l.faults.items;
 }

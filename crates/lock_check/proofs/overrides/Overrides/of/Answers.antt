@@ -35,4 +35,5 @@ loop-key-preserved c =
           c.push-in-loop-key.new.self.items c.in-Some-3.rule c.loop-key.invariant.rules c.in_ok-push-3.ensures.items
           (rule-made root (members_view es) name value c.in-Some-3.rule object has
           (subst (λ r. IfSome r (IsRuleOf name (view value))) c.in-Some-3.is c.in_ok-rule.ensures));
+      kept = c.loop-key.invariant.kept;
     }

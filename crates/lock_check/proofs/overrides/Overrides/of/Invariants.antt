@@ -1,4 +1,5 @@
 use Rattle.std.proofs.Common.{All}
+use Rattle.lock_check.specs.Internal.Collected.{Extends}
 use Rattle.lock_check.specs.Internal.Overriding.{AreItsRules, IsUnread}
 use Rattle.lock_check.proofs.overrides.Overrides.of.Given as goal
 
@@ -6,10 +7,12 @@ abbrev pub invariant-loop : goal.invariant-loop
 invariant-loop l = record {
   unread : All (IsUnread l.root) l.unread.items;
   rules : AreItsRules l.root l.rules.items;
+  kept : Extends l.fn.faults.items l.faults.items;
 }
 
 abbrev pub invariant-loop-key : goal.invariant-loop-key
 invariant-loop-key l = record {
   unread : All (IsUnread l.root) l.unread.items;
   rules : AreItsRules l.root l.rules.items;
+  kept : Extends l.fn.faults.items l.faults.items;
 }

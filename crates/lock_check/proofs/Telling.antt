@@ -1,0 +1,178 @@
+-- What is malformed is told.
+use Rattle.std.proofs.Common.{◌≡◌, ◌<◌, ◌≤◌, ◌+◌, ◌∷◌, ◌++◌, ◌∙◌, [], Contains, List, None, Option, Some, ℕ}
+use Rattle.std.proofs.Common.{Global, String, ap, arith, inl, inr, option_and_then, refl, string_bytes, subst, sym, true, true≢false}
+use Rattle.std.proofs.lemmas.List.{append-nil}
+use Rattle.std.proofs.lemmas.List.Elements.{Contains-push, Contains-push_cases}
+use Rattle.std.specs.Map.{keys_of}
+use Rattle.std.specs.Prelude.{IsSome, is_some}
+use Rattle.serde_json.specs.Data.{Data, array, boolean, null, number, object, string}
+use Rattle.serde_json.specs.Find.{as_object, as_str, get}
+use Rattle.serde_json.specs.View.{members_view, view}
+use Rattle.serde_json.specs.declared.value.Value.{Value}
+use Rattle.lock_check.proofs.Collecting.{HasKey, field_at, key-of, last_or_before, rank-at, same-rank, written-some}
+use Rattle.lock_check.proofs.Completing.{extends-kept}
+use Rattle.lock_check.specs.Complete.{IsRead, rank}
+use Rattle.lock_check.specs.Internal.Collected.{Extends, members_in}
+use Rattle.lock_check.specs.Lookups.{IsAt, field_name, written_in}
+use Rattle.lock_check.specs.Malformed.{HasAllFaults, HasFault, HasFaults, IsFieldFault, IsNoObject, IsNoText, IsRangeFault}
+use Rattle.lock_check.specs.declared.fault.Fault.{Fault}
+use Rattle.lock_check.specs.declared.lock.Field.{Field}
+use Rattle.lock_check.specs.declared.lock.Field.TheVariants as field
+use Rattle.lock_check.specs.declared.lock.Lock.{Lock}
+use Rattle.lock_check.specs.declared.lock.Package.{Package}
+
+-- ---- more faults
+
+pub fault-kept : (before after : List Fault) (P : Fault → Type 0) → Extends before after → HasFault before P
+    → HasFault after P
+fault-kept before after P more has = (has.0, extends-kept before after has.0 more has.1, has.2)
+
+pub fault-added : (before after : List Fault) (P : Fault → Type 0) (f : Fault) → after ≡ before ++ f ∷ [] → P f
+    → HasFault after P
+fault-added before after P f same is = (f, subst (λ fs. Contains fs f) (sym same) (Contains-push before f), is)
+
+pub faults-kept : (folder : List ℕ) (fields : Data) (f : Field) (before after : List Fault) → Extends before after
+    → HasFaults folder fields f before → HasFaults folder fields f after
+faults-kept folder fields f before after more has = record {
+  object = λ is. fault-kept before after (IsFieldFault folder (field_name f)) more (has.object is);
+  texts = λ name is. fault-kept before after (IsRangeFault folder name) more (has.texts name is);
+}
+
+pub all-kept : (before after : List Fault) → Extends before after → (folder : List ℕ) (fields : Data)
+    → HasAllFaults before folder fields → HasAllFaults after folder fields
+all-kept before after more folder fields all = λ f read. faults-kept folder fields f before after more (all f read)
+
+-- ---- what a field has
+
+-- a name is in no field that is no object
+no-member : (name : List ℕ) (o : Option Data) → option_and_then as_object o ≡ None → option_and_then (get name) o ≡ None
+no-member name None e = refl
+no-member name (Some null) e = refl
+no-member name (Some (boolean b)) e = refl
+no-member name (Some (number n)) e = refl
+no-member name (Some (string s)) e = refl
+no-member name (Some (array ds)) e = refl
+no-member name (Some (object ms)) e = absurd (cc)
+
+both : (o : Option Data) (d : Data) → o ≡ None → o ≡ Some d → ⊥
+both o d none some = cc
+
+-- a field that has no names
+pub none-in : (folder : List ℕ) (fields : Data) (f : Field) (faults : List Fault) → members_in f fields ≡ None
+    → (IsNoObject fields f → HasFault faults (IsFieldFault folder (field_name f))) → HasFaults folder fields f faults
+none-in folder fields f faults none told = record {
+  object = told;
+  texts = λ name is. absurd (both _ is.value (no-member name (get (field_name f) fields) none) is.is);
+}
+
+-- a field that is an object is no other thing
+pub some-in : (fields : Data) (f : Field) (es : List (String Global × Value)) → members_in f fields ≡ Some (members_view es)
+    → IsNoObject fields f → ⊥
+some-in fields f es is wrong =
+    let some = sym is ∙ (ap (option_and_then as_object) wrong.is ∙ wrong.none) in absurd (cc)
+
+-- a name without a text is one of the keys
+pub no-text-key : (fields : Data) (f : Field) (name : List ℕ) (es : List (String Global × Value))
+    → members_in f fields ≡ Some (members_view es) → IsNoText fields f name → HasKey (keys_of es) name
+no-text-key fields f name es is wrong =
+    key-of name es (subst (IsSome {T = Data}) (sym (sym (written-some name (get (field_name f) fields) es is) ∙ wrong.is)) refl)
+
+-- a name with a text has one
+pub has-text : (fields : Data) (f : Field) (name text : List ℕ) → Some text ≡ written_in f name fields
+    → IsNoText fields f name → ⊥
+has-text fields f name text is wrong =
+    let none = is ∙ (ap (option_and_then as_str) wrong.is ∙ wrong.none) in absurd (cc)
+
+-- ---- field by field
+
+-- the fields up to this rank are read
+abbrev pub AreToldUpto : Package → ℕ → List Fault → Type 0
+AreToldUpto p most faults = (f : Field) → rank f ≤ most → IsRead f p.folder.now
+    → HasFaults p.folder.now (view p.fields.now) f faults
+
+-- those before this one are read, and of this one these names
+pub record AreToldName (p : Package) (f : Field) (keys : List (String Global)) (faults : List Fault) : Type 0 where
+  pub before : (g : Field) → rank g < rank f → IsRead g p.folder.now
+      → HasFaults p.folder.now (view p.fields.now) g faults
+  pub so_far : (name : List ℕ) → HasKey keys name → IsNoText (view p.fields.now) f name
+      → HasFault faults (IsRangeFault p.folder.now name)
+
+pub told-none : (p : Package) (faults : List Fault) → AreToldUpto p 0 faults
+told-none p faults field.Workspaces h read = absurd read
+told-none p faults field.Development h read = absurd (omega arith)
+told-none p faults field.Optional h read = absurd (omega arith)
+told-none p faults field.Production h read = absurd (omega arith)
+told-none p faults field.Peer h read = absurd (omega arith)
+told-none p faults field.Requires h read = absurd (omega arith)
+
+pub told-more : (p : Package) (i : ℕ) (before after : List Fault) → i < 5 → Extends before after
+    → (IsRead (field_at i) p.folder.now → HasFaults p.folder.now (view p.fields.now) (field_at i) after)
+    → AreToldUpto p i before → AreToldUpto p (i + 1) after
+told-more p i before after h more here all = λ f upto read. elim (last_or_before (rank f) i upto) [
+  | inl lower ↦ faults-kept p.folder.now (view p.fields.now) f before after more (all f lower read)
+  | inr last ↦
+      let same : f ≡ field_at i = same-rank f (field_at i) (last ∙ sym (rank-at i h)) in
+      subst (λ g. HasFaults p.folder.now (view p.fields.now) g after) (sym same)
+      (here (subst (λ g. IsRead g p.folder.now) same read))
+]
+
+pub told-start : (p : Package) (i : ℕ) (faults : List Fault) → i < 5 → AreToldUpto p i faults
+    → AreToldName p (field_at i) [] faults
+told-start p i faults h all = let r = rank-at i h in record {
+  before = λ g lower read. all g (omega arith) read;
+  so_far = λ name key wrong. absurd (omega (arith, key.1.1));
+}
+
+pub told-key : (p : Package) (f : Field) (keys : List (String Global)) (k : String Global) (before after : List Fault)
+    → Extends before after
+    → (IsNoText (view p.fields.now) f (string_bytes k) → HasFault after (IsRangeFault p.folder.now (string_bytes k)))
+    → AreToldName p f keys before → AreToldName p f (keys ++ k ∷ []) after
+told-key p f keys k before after more here all = record {
+  before = λ g lower read. faults-kept p.folder.now (view p.fields.now) g before after more (all.before g lower read);
+  so_far = λ name key wrong. elim (Contains-push_cases keys k key.0 key.1) [
+    | inl earlier ↦ fault-kept before after (IsRangeFault p.folder.now name) more (all.so_far name (key.0, earlier, key.2) wrong)
+    | inr same ↦
+        let is : string_bytes k ≡ name = ap string_bytes same ∙ key.2 in
+        subst (λ n. HasFault after (IsRangeFault p.folder.now n)) is
+        (here (subst (λ n. IsNoText (view p.fields.now) f n) (sym is) wrong))
+  ];
+}
+
+pub told-done : (p : Package) (i : ℕ) (es : List (String Global × Value)) (keys : List (String Global)) (faults : List Fault)
+    → i < 5 → members_in (field_at i) (view p.fields.now) ≡ Some (members_view es) → keys ≡ keys_of es
+    → AreToldName p (field_at i) keys faults → AreToldUpto p (i + 1) faults
+told-done p i es keys faults h is same all = λ f upto read. elim (last_or_before (rank f) i upto) [
+  | inl lower ↦ let r = rank-at i h in all.before f (omega arith) read
+  | inr last ↦
+      let own : f ≡ field_at i = same-rank f (field_at i) (last ∙ sym (rank-at i h)) in
+      subst (λ g. HasFaults p.folder.now (view p.fields.now) g faults) (sym own) (record {
+        object = λ wrong. absurd (some-in (view p.fields.now) (field_at i) es is wrong);
+        texts = λ name wrong. all.so_far name (subst (λ ks. HasKey ks name) (sym same)
+            (no-text-key (view p.fields.now) (field_at i) name es is wrong)) wrong;
+      })
+]
+
+pub told-all : (p : Package) (i : ℕ) (faults : List Fault) → 5 ≤ i → AreToldUpto p i faults
+    → HasAllFaults faults p.folder.now (view p.fields.now)
+told-all p i faults h all = λ f read. all f (most f) read
+  where
+    most : (f : Field) → rank f ≤ i
+    most field.Workspaces = omega arith
+    most field.Development = omega arith
+    most field.Optional = omega arith
+    most field.Production = omega arith
+    most field.Peer = omega arith
+    most field.Requires = omega arith
+
+-- none more
+pub as-before : (faults : List Fault) → Extends faults faults
+as-before faults = ([], sym (append-nil faults))
+
+-- one more
+pub one-more : (before after : List Fault) (f : Fault) → after ≡ before ++ f ∷ [] → Extends before after
+one-more before after f same = (f ∷ [], same)
+
+-- a lock file that has a root project is not one without
+pub has-root : (lock : Lock) (root : Option Package) → IsAt lock [] root → is_some root ≡ true → IsAt lock [] None → ⊥
+has-root lock None at some none = absurd (true≢false (sym some))
+has-root lock (Some p) at some none = both _ _ none at.1

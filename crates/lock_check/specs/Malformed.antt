@@ -1,0 +1,52 @@
+-- Statement: which faults are told of what is malformed.
+use Rattle.std.specs.Prelude.{◌≡◌, ◌≢◌, ℕ, List, [], None, Some, Contains}
+use Rattle.serde_json.specs.Data.{Data}
+use Rattle.serde_json.specs.Find.{as_object, as_str, get}
+use Rattle.lock_check.specs.Complete.{IsRead}
+use Rattle.lock_check.specs.Fields.{member_of}
+use Rattle.lock_check.specs.Lookups.{IsAt, field_name, packages_of}
+use Rattle.lock_check.specs.declared.fault.Fault.{Fault}
+use Rattle.lock_check.specs.declared.fault.Fault.TheVariants as fault
+use Rattle.lock_check.specs.declared.lock.Field.{Field}
+use Rattle.lock_check.specs.declared.lock.Field.TheVariants as field
+use Rattle.lock_check.specs.declared.lock.Lock.{Lock}
+
+abbrev pub HasFault : List Fault → (Fault → Type 0) → Type 0
+HasFault faults P = (f : Fault) × Contains faults f × P f
+
+-- that of a field of the package in this folder, and of a name in such a field
+abbrev pub IsFieldFault : (folder name : List ℕ) → Fault → Type 0
+IsFieldFault folder name (fault.Field place own) = (place.now ≡ folder) × (own.now ≡ name)
+IsFieldFault folder name _ = ⊥
+
+abbrev pub IsRangeFault : (folder name : List ℕ) → Fault → Type 0
+IsRangeFault folder name (fault.Range place own) = (place.now ≡ folder) × (own.now ≡ name)
+IsRangeFault folder name _ = ⊥
+
+-- the field is there and no object; `requires` of lockfileVersion 1 may be `true`
+pub record IsNoObject (fields : Data) (f : Field) : Type 0 where
+  pub other : f ≢ field.Requires
+  pub value : Data
+  pub is : get (field_name f) fields ≡ Some value
+  pub none : as_object value ≡ None
+
+-- the field has the name, and no text for it
+pub record IsNoText (fields : Data) (f : Field) (name : List ℕ) : Type 0 where
+  pub value : Data
+  pub is : member_of (field_name f) name fields ≡ Some value
+  pub none : as_str value ≡ None
+
+-- what is malformed in a field has a fault
+pub record HasFaults (folder : List ℕ) (fields : Data) (f : Field) (faults : List Fault) : Type 0 where
+  pub object : IsNoObject fields f → HasFault faults (IsFieldFault folder (field_name f))
+  pub texts : (name : List ℕ) → IsNoText fields f name → HasFault faults (IsRangeFault folder name)
+
+-- the same of each field that is read of a package
+abbrev pub HasAllFaults : List Fault → (folder : List ℕ) → Data → Type 0
+HasAllFaults faults folder fields = (f : Field) → IsRead f folder → HasFaults folder fields f faults
+
+-- of each package of the lock file; and it is told if there is no root project
+pub record AreAllTold (lock : Lock) (faults : List Fault) : Type 0 where
+  pub root : IsAt lock [] None → HasFault faults (λ f. f ≡ fault.NoRoot)
+  pub each : (folder : List ℕ) (fields : Data) → get folder (packages_of lock) ≡ Some fields
+      → HasAllFaults faults folder fields
