@@ -1,21 +1,26 @@
 -- What is malformed is told.
 use Rattle.std.proofs.Common.{◌≡◌, ◌<◌, ◌≤◌, ◌+◌, ◌∷◌, ◌++◌, ◌∙◌, [], Contains, List, None, Option, Some, ℕ}
-use Rattle.std.proofs.Common.{Global, String, ap, arith, inl, inr, option_and_then, refl, string_bytes, subst, sym, true, true≢false}
+use Rattle.std.proofs.Common.{Bool, Global, false, not, String, ap, arith, inl, inr, option_and_then, refl, string_bytes, subst, sym, suc, true, true≢false, unwrap_or, zero}
 use Rattle.std.proofs.lemmas.List.{append-nil}
 use Rattle.std.proofs.lemmas.List.Elements.{Contains-push, Contains-push_cases}
 use Rattle.std.specs.Map.{keys_of}
-use Rattle.std.specs.Prelude.{IsSome, is_some}
+use Rattle.std.specs.Prelude.{IsSome, IsTrue, bytes_eq, is_some, slice_get}
+use Rattle.std.specs.Borrow.{Bor}
+use Rattle.std.proofs.lemmas.Slice.Eq.{bytes_eq-Decides}
+use Rattle.serde_json.proofs.Views.{member_here, member_later}
+use Rattle.lock_check.specs.Fields.{member_of}
 use Rattle.serde_json.specs.Data.{Data, array, boolean, null, number, object, string}
-use Rattle.serde_json.specs.Find.{as_object, as_str, get}
+use Rattle.serde_json.specs.Find.{as_object, as_str, get, get_member}
 use Rattle.serde_json.specs.View.{members_view, view}
 use Rattle.serde_json.specs.declared.value.Value.{Value}
 use Rattle.lock_check.proofs.Collecting.{HasKey, field_at, key-of, last_or_before, rank-at, same-rank, written-some}
 use Rattle.lock_check.proofs.Completing.{extends-kept}
 use Rattle.lock_check.specs.Complete.{IsRead, rank}
 use Rattle.lock_check.specs.Internal.Collected.{Extends, members_in}
-use Rattle.lock_check.specs.Lookups.{IsAt, field_name, written_in}
-use Rattle.lock_check.specs.Malformed.{HasAllFaults, HasFault, HasFaults, IsFieldFault, IsNoObject, IsNoText, IsRangeFault}
+use Rattle.lock_check.specs.Lookups.{IsAt, IsPackage, field_name, packages_of, written_in}
+use Rattle.lock_check.specs.Malformed.{HasAllFaults, HasFault, HasFaults, IsFault, IsFieldFault, IsNoObject, IsNoText, IsRangeFault}
 use Rattle.lock_check.specs.declared.fault.Fault.{Fault}
+use Rattle.lock_check.specs.declared.fault.Fault.TheVariants as fault
 use Rattle.lock_check.specs.declared.lock.Field.{Field}
 use Rattle.lock_check.specs.declared.lock.Field.TheVariants as field
 use Rattle.lock_check.specs.declared.lock.Lock.{Lock}
@@ -176,3 +181,72 @@ one-more before after f same = (f ∷ [], same)
 pub has-root : (lock : Lock) (root : Option Package) → IsAt lock [] root → is_some root ≡ true → IsAt lock [] None → ⊥
 has-root lock None at some none = absurd (true≢false (sym some))
 has-root lock (Some p) at some none = both _ _ none at.1
+
+pub not-iff : (b : Bool) (P : Type 0) → (IsTrue b → P) × (P → IsTrue b) → (IsTrue (not b) → ¬ P) × (¬ P → IsTrue (not b))
+not-iff true P iff = (λ h. absurd (cc), λ none. absurd (none (iff.0 refl)))
+not-iff false P iff = (λ h p. let is : IsTrue false = iff.1 p in absurd (cc), λ none. refl)
+
+pub no-root : (lock : Lock) (root : Option Package) → IsAt lock [] root → is_some root ≡ false → IsAt lock [] None
+no-root lock None at none = at
+no-root lock (Some p) at none = absurd (true≢false none)
+
+-- the fault of a field
+pub field-fault : (lock : Lock) (p : Package) (f : Field) (told : Fault) → IsPackage lock p
+    → IsFieldFault p.folder.now (field_name f) told → IsRead f p.folder.now × IsNoObject (view p.fields.now) f
+    → IsFault lock told
+field-fault lock p f (fault.Field place own) is told wrong = inr (
+  f,
+  subst (λ at. IsRead f at) (sym told.0) wrong.0,
+  told.1,
+  (view p.fields.now, subst (λ at. get at (packages_of lock) ≡ Some (view p.fields.now)) (sym told.0) is, wrong.1),
+)
+field-fault lock p f (fault.Range place own) is told wrong = absurd told
+field-fault lock p f (fault.Override own) is told wrong = absurd told
+field-fault lock p f fault.Workspaces is told wrong = absurd told
+field-fault lock p f fault.NoRoot is told wrong = absurd told
+
+-- a key is the name of a member
+pub key-some : (name : List ℕ) (es : List (String Global × Value)) (n : ℕ) (k : String Global)
+    → slice_get (keys_of es) n ≡ Some k → string_bytes k ≡ name → IsSome (get_member name (members_view es))
+key-some name [] n k is same = absurd (cc)
+key-some name (e ∷ es) n k is same = by_test (λ m at. key-some name es m k at same) (bytes_eq name (string_bytes e.0)) refl n is
+  where
+    by_test : ((m : ℕ) → slice_get (keys_of es) m ≡ Some k → IsSome (get_member name (members_view es)))
+        → (b : Bool) → bytes_eq name (string_bytes e.0) ≡ b → (n : ℕ) → slice_get (keys_of (e ∷ es)) n ≡ Some k
+        → IsSome (get_member name (members_view (e ∷ es)))
+    by_test rest true at n is =
+        subst IsSome (sym (member_here name e es ((bytes_eq-Decides name (string_bytes e.0)).0 at))) refl
+    by_test rest false at zero is =
+        let first : e.0 ≡ k = ap (λ o. unwrap_or o e.0) is in
+        let here = (bytes_eq-Decides name (string_bytes e.0)).1 (sym (ap string_bytes first ∙ same)) in
+        absurd (true≢false (sym here ∙ at))
+    by_test rest false at (suc n) is =
+        subst IsSome (sym (member_later name e es (λ here.
+        true≢false (sym ((bytes_eq-Decides name (string_bytes e.0)).1 here) ∙ at)))) (rest n is)
+
+no-text-by : (fields : Data) (f : Field) (name : List ℕ) (o : Option Data) → member_of (field_name f) name fields ≡ o → IsSome o
+    → None ≡ written_in f name fields → IsNoText fields f name
+no-text-by fields f name None is some none = absurd (cc)
+no-text-by fields f name (Some value) is some none = record {
+  value = value;
+  is = is;
+  none = sym (none ∙ ap (option_and_then as_str) is);
+}
+
+-- the fault of a name without a text
+pub range-fault : (lock : Lock) (p : Package) (f : Field) (name : Bor (List ℕ)) (es : List (String Global × Value)) (n : ℕ)
+    (k : String Global) → IsPackage lock p → IsRead f p.folder.now → members_in f (view p.fields.now) ≡ Some (members_view es)
+    → slice_get (keys_of es) n ≡ Some k → name.now ≡ string_bytes k → None ≡ written_in f (string_bytes k) (view p.fields.now)
+    → IsFault lock (fault.Range p.folder name)
+range-fault lock p f name es n k is read has at same none =
+    let member = written-some name.now (get (field_name f) (view p.fields.now)) es has in (
+      f,
+      read,
+      (
+        view p.fields.now,
+        is,
+        no-text-by (view p.fields.now) f name.now (get_member name.now (members_view es)) member
+            (key-some name.now es n k at (sym same))
+            (none ∙ ap (λ n. written_in f n (view p.fields.now)) (sym same)),
+      ),
+    )

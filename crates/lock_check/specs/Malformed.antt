@@ -1,5 +1,5 @@
 -- Statement: which faults are told of what is malformed.
-use Rattle.std.specs.Prelude.{◌≡◌, ◌≢◌, ℕ, List, [], None, Some, Contains}
+use Rattle.std.specs.Prelude.{⊤, ◌≡◌, ◌≢◌, ◌⊎◌, ℕ, List, [], None, Some, Contains, codes}
 use Rattle.serde_json.specs.Data.{Data}
 use Rattle.serde_json.specs.Find.{as_object, as_str, get}
 use Rattle.lock_check.specs.Complete.{IsRead}
@@ -50,3 +50,21 @@ pub record AreAllTold (lock : Lock) (faults : List Fault) : Type 0 where
   pub root : IsAt lock [] None → HasFault faults (λ f. f ≡ fault.NoRoot)
   pub each : (folder : List ℕ) (fields : Data) → get folder (packages_of lock) ≡ Some fields
       → HasAllFaults faults folder fields
+
+-- the lock file has a package in this folder, and this holds of its fields
+abbrev pub OfFields : Lock → List ℕ → (Data → Type 0) → Type 0
+OfFields lock folder P = (fields : Data) × (get folder (packages_of lock) ≡ Some fields) × P fields
+
+-- `overrides` of the root project is there and no object
+abbrev pub HasOtherRules : Data → Type 0
+HasOtherRules root = (value : Data) × (get (codes "overrides") root ≡ Some value) × (as_object value ≡ None)
+
+-- what a fault tells of is malformed; what is malformed in `overrides` and `workspaces` is not said
+abbrev pub IsFault : Lock → Fault → Type 0
+IsFault lock (fault.Field place own) = ((place.now ≡ []) × OfFields lock [] HasOtherRules)
+    ⊎ ((f : Field) × IsRead f place.now × (own.now ≡ field_name f)
+    × OfFields lock place.now (λ fields. IsNoObject fields f))
+IsFault lock (fault.Range place own) = (f : Field) × IsRead f place.now
+    × OfFields lock place.now (λ fields. IsNoText fields f own.now)
+IsFault lock fault.NoRoot = IsAt lock [] None
+IsFault lock _ = ⊤

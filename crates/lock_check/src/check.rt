@@ -7,7 +7,7 @@ ghost use Rattle.lock_check.specs.Complete.{AreAllJudged, is_locked_for_developm
 ghost use Rattle.lock_check.specs.Judged.{IsEdge, IsFinding, IsLinkOfRoot, IsLockedOutcome};
 ghost use Rattle.lock_check.specs.Judged.{IsOutcome, IsOwnPeer, as_wanted};
 ghost use Rattle.lock_check.specs.Lookups.{IsAt, IsPackage, packages_of};
-ghost use Rattle.lock_check.specs.Malformed.{AreAllTold, HasAllFaults};
+ghost use Rattle.lock_check.specs.Malformed.{AreAllTold, HasAllFaults, IsFault};
 ghost use Rattle.lock_check.specs.Overrides.{IsDependency, RefersToNothing};
 ghost use Rattle.lock_check.specs.Outcomes.{IsInstead, IsJudged, IsPlaceOutcome, IsRangeOutcome};
 ghost use Rattle.lock_check.specs.Outcomes.{IsRegistryOutcome, IsRepositoryOutcome};
@@ -74,6 +74,7 @@ pub fn check<'a>(alloc: Global, lock: Lock<'a>) -> Result<Findings<'a>, AllocErr
     ensures each { IfOk result (λ found. All (IsFinding lock.entry) found.of_dependencies.items) }
     ensures all { IfOk result (λ found. AreAllJudged lock.entry found.of_dependencies.items) }
     ensures malformed { IfOk result (λ found. AreAllTold lock.entry found.faults.items) }
+    ensures wrong { IfOk result (λ found. All (IsFault lock.entry) found.faults.items) }
 {
     let mut faults = Vec::new(alloc);
     if lock.package("").is_none() {
@@ -128,6 +129,8 @@ fn edges<'a>(
     ensures told { OnOk result ((folder : List ℕ) (fields : Data)
         → get folder (packages_of lock.entry) ≡ Some fields
         → HasAllFaults faults.new.items folder fields) }
+    ensures wrong { OnOk result (All (IsFault lock.entry) faults.old.items
+        → All (IsFault lock.entry) faults.new.items) }
 {
     let mut edges = Vec::new(alloc);
     for folder in lock.packages.keys() {
@@ -152,6 +155,8 @@ fn dependencies<'a>(
     ensures kept { OnOk result (Extends faults.old.items faults.new.items) }
     ensures told { OnOk result (HasAllFaults faults.new.items «package».entry.folder.now
         (view «package».entry.fields.now)) }
+    ensures wrong { OnOk result (IsPackage lock.entry «package».entry
+        → All (IsFault lock.entry) faults.old.items → All (IsFault lock.entry) faults.new.items) }
 {
     let mut found = Dependencies::new(alloc);
     add_workspaces(lock, package, &mut found, faults)?;

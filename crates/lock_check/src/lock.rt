@@ -3,7 +3,7 @@
 ghost use Rattle.lock_check.specs.Internal.Collected.{AreAllFound, AreNamed, AreWorkspaces};
 ghost use Rattle.lock_check.specs.Internal.Collected.{Extends, members_in, with_first};
 ghost use Rattle.lock_check.specs.Complete.{IsRead};
-ghost use Rattle.lock_check.specs.Malformed.{HasAllFaults, IsFieldFault, IsNoObject};
+ghost use Rattle.lock_check.specs.Malformed.{HasAllFaults, IsFault, IsFieldFault, IsNoObject};
 ghost use Rattle.lock_check.specs.Optional.{MayBeAbsent};
 ghost use Rattle.lock_check.specs.Fields.{is_set, member_of, text_of};
 ghost use Rattle.lock_check.specs.Judged.{IsOverride};
@@ -15,8 +15,8 @@ ghost use Rattle.lock_check.specs.Rows.{wanted_text};
 ghost use Rattle.lock_check.specs.Specifiers.{IsWantedAs};
 ghost use Rattle.lock_check.specs.declared.lock.Lock.{Lock};
 ghost use Rattle.serde_json.specs.View.{members_view, view};
-ghost use Rattle.std.specs.Prelude.{◌≡◌, ◌++◌, [], All, IfErr, IfNone, IfOk, IfSome, IsTrue, OnOk};
-ghost use Rattle.std.specs.Prelude.{codes, option_map};
+ghost use Rattle.std.specs.Prelude.{◌≡◌, ◌↔◌, ◌++◌, [], All, IfErr, IfNone, IfOk, IfSome};
+ghost use Rattle.std.specs.Prelude.{IsTrue, OnOk, codes, option_map};
 
 use crate::fault::Fault;
 use crate::folder::{is_installed, joined};
@@ -105,21 +105,36 @@ impl Field {
         }
     }
 
-    // The dependencies of this field, by their names. npm reads `devDependencies` only of projects,
-    // which stand outside `node_modules`.
+    // Whether it is read of the package in this folder. npm reads `devDependencies` only of
+    // projects, which stand outside `node_modules`.
+    fn is_read(self, folder: &str) -> bool
+        ensures { IsTrue result ↔ IsRead self folder.now }
+    {
+        match self {
+            Field::Development => !is_installed(folder),
+            Field::Workspaces => false,
+            Field::Optional | Field::Production | Field::Peer | Field::Requires => true,
+        }
+    }
+
+    // The dependencies of this field, by their names.
     fn of<'a>(self, package: Package<'a>) -> Result<Option<&'a Map<String, Value>>, Fault<'a>>
         ensures found { IfOk result (λ found. IfSome found (λ m. members_in self
             (view «package».entry.fields.now) ≡ Some (members_view m.now.entries))) }
         ensures none { IfOk result (λ found. IfNone found (IsRead self «package».entry.folder.now
             → members_in self (view «package».entry.fields.now) ≡ None)) }
+        ensures read { IfOk result (λ found. IfSome found (λ m. IsRead self
+            «package».entry.folder.now)) }
         ensures absent { IfOk result (λ found. IfNone found (IsRead self «package».entry.folder.now
             → ¬ (IsNoObject (view «package».entry.fields.now) self))) }
         ensures fault { IfErr result (λ fault. members_in self (view «package».entry.fields.now)
             ≡ None) }
         ensures told { IfErr result
             (IsFieldFault «package».entry.folder.now (field_name self)) }
+        ensures wrong { IfErr result (λ fault. IsRead self «package».entry.folder.now
+            × IsNoObject (view «package».entry.fields.now) self) }
     {
-        if self == Field::Development && is_installed(package.folder) {
+        if !self.is_read(package.folder) {
             return Ok(None);
         }
         let Some(value) = package.fields.get(self.name()) else {
@@ -372,6 +387,8 @@ pub(crate) fn add_dependencies<'a>(
     ensures kept { OnOk result (Extends faults.old.items faults.new.items) }
     ensures told { OnOk result (HasAllFaults faults.new.items «package».entry.folder.now
         (view «package».entry.fields.now)) }
+    ensures wrong { OnOk result ((lock : Lock) → IsPackage lock «package».entry
+        → All (IsFault lock) faults.old.items → All (IsFault lock) faults.new.items) }
 {
     for &field in FIELDS {
         let ranges = match field.of(package) {

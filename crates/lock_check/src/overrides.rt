@@ -4,10 +4,13 @@ ghost use Rattle.lock_check.specs.Internal.Collected.{Extends};
 ghost use Rattle.lock_check.specs.Internal.Overriding.{AreItsRules, IsLost, IsPut, IsRuleOf};
 ghost use Rattle.lock_check.specs.Internal.Overriding.{IsUnread};
 ghost use Rattle.lock_check.specs.Overrides.{IsKey, referenced, rule_text, some_text};
-ghost use Rattle.lock_check.specs.Lookups.{written_in};
+ghost use Rattle.lock_check.specs.Lookups.{IsAt, written_in};
+ghost use Rattle.lock_check.specs.Malformed.{IsFault};
+ghost use Rattle.lock_check.specs.declared.lock.Lock.{Lock};
 ghost use Rattle.lock_check.specs.Replacements.{IsReplacement};
 ghost use Rattle.serde_json.specs.View.{view};
-ghost use Rattle.std.specs.Prelude.{◌≡◌, ◌≢◌, ◌++◌, ◌∷◌, ⊤, ℕ, All, Contains, IfNone, IfOk, IfSome};
+ghost use Rattle.std.specs.Prelude.{◌≡◌, ◌≢◌, ◌++◌, ◌∷◌, [], ⊤, ℕ, All, Contains};
+ghost use Rattle.std.specs.Prelude.{IfNone, IfOk, IfSome};
 ghost use Rattle.semver_core.specs.Lists.{is_empty};
 ghost use Rattle.std.specs.Prelude.{List, MatchOption, OnOk, codes, if◌then◌else◌, option_map};
 
@@ -178,6 +181,8 @@ fn outermost<'a>(
 ) -> Result<Vec<(Scope, &'a Map<String, Value>)>, AllocError>
     ensures read { IfOk result (λ unread. All (IsUnread root.entry) unread.items) }
     ensures kept { OnOk result (Extends faults.old.items faults.new.items) }
+    ensures wrong { OnOk result ((lock : Lock) → IsAt lock [] root.entry
+        → All (IsFault lock) faults.old.items → All (IsFault lock) faults.new.items) }
 {
     let mut unread = Vec::new(alloc);
     let Some(package) = root else {
@@ -207,6 +212,8 @@ impl<'a> Overrides<'a> {
         ensures rules { IfOk result (λ overrides.
             AreItsRules root.entry overrides.rules.items) }
         ensures kept { OnOk result (Extends faults.old.items faults.new.items) }
+        ensures wrong { OnOk result ((lock : Lock) → IsAt lock [] root.entry
+            → All (IsFault lock) faults.old.items → All (IsFault lock) faults.new.items) }
     {
         let mut rules = Vec::new(alloc);
         let mut unread = outermost(alloc, root, faults)?;

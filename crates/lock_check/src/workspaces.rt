@@ -2,8 +2,9 @@
 
 ghost use Rattle.lock_check.specs.Internal.Collected.{AreWorkspaces, Extends};
 ghost use Rattle.lock_check.specs.Lookups.{IsPackage};
+ghost use Rattle.lock_check.specs.Malformed.{IsFault};
 ghost use Rattle.lock_check.specs.Overrides.{IsDependency};
-ghost use Rattle.std.specs.Prelude.{All, OnOk};
+ghost use Rattle.std.specs.Prelude.{All, IfErr, OnOk};
 
 use crate::fault::Fault;
 use crate::folder::{is_installed, name_of};
@@ -59,7 +60,9 @@ fn has_wildcard(part: &str) -> bool {
 }
 
 // The patterns of the root project, if it has any.
-fn patterns<'a>(root: Package<'a>) -> Result<Option<&'a Vec<Value>>, Fault<'a>> {
+fn patterns<'a>(root: Package<'a>) -> Result<Option<&'a Vec<Value>>, Fault<'a>>
+    ensures { IfErr result (λ fault. (lock : Lock) → IsFault lock fault) }
+{
     let Some(workspaces) = root.fields.get("workspaces") else {
         return Ok(None);
     };
@@ -96,6 +99,8 @@ pub(crate) fn add_workspaces<'a>(
     ensures alone { OnOk result (AreWorkspaces root.entry found.old
         → AreWorkspaces root.entry found.new) }
     ensures kept { OnOk result (Extends faults.old.items faults.new.items) }
+    ensures wrong { OnOk result (All (IsFault lock.entry) faults.old.items
+        → All (IsFault lock.entry) faults.new.items) }
 {
     let list = match patterns(root) {
         _ if !root.folder.is_empty() => return Ok(()),

@@ -3,10 +3,11 @@ use Rattle.lock_check.proofs.Completing.{judged-all}
 use Rattle.lock_check.proofs.Judging.{ruled}
 use Rattle.lock_check.specs.Internal.Collected.{AreAllLinked}
 use Rattle.lock_check.specs.Judged.{IsEdge}
-use Rattle.std.proofs.Common.{◌≡◌, ◌∙◌, [], None, ap, not, refl, subst, sym}
-use Rattle.lock_check.proofs.Telling.{all-kept, fault-added, fault-kept, has-root}
+use Rattle.std.proofs.Common.{◌≡◌, ◌∙◌, All, [], None, ap, not, refl, subst, sym}
+use Rattle.lock_check.proofs.Telling.{all-kept, fault-added, fault-kept, has-root, no-root}
+use Rattle.lock_check.proofs.Overriding.{all-added, all-none}
 use Rattle.lock_check.specs.Lookups.{IsAt}
-use Rattle.lock_check.specs.Malformed.{HasFault}
+use Rattle.lock_check.specs.Malformed.{HasFault, IsFault}
 use Rattle.lock_check.specs.declared.fault.Fault.{Fault}
 use Rattle.lock_check.specs.declared.fault.Fault.TheVariants.{NoRoot}
 use Rattle.lock_check.proofs.check.check.Goals.{then-is_none+in_ok-push, else-is_none}
@@ -43,3 +44,15 @@ returns-clause-malformed c =
       each = λ folder fields at. all-kept middle last c.in_ok-overrides.ensures.kept folder fields
           (c.in_ok-edges.ensures.told folder fields at);
     }
+
+pub returns-clause-wrong : goal.returns-clause-wrong
+returns-clause-wrong c =
+    let lock = c.args.lock in
+    let none = all-none (IsFault lock) c.new-faults.result.items c.new-faults.ensures.items in
+    let first : All (IsFault lock) c.if-is_none.faults.items = elim c.if-is_none.branch [
+      | then-is_none+in_ok-push w ↦ subst (λ fs. All (IsFault lock) fs.items) (sym w.faults-is)
+          (all-added (IsFault lock) c.new-faults.result.items w.push.new.self.items NoRoot none w.in_ok-push.ensures.items
+          (no-root lock c.package.result c.package.ensures (c.is_none.ensures ∙ ap not w.if-is_none.true)))
+      | else-is_none w ↦ subst (λ fs. All (IsFault lock) fs.items) (sym w.faults-is) none
+    ] in
+    c.in_ok-overrides.ensures.wrong lock c.package-2.ensures (c.in_ok-edges.ensures.wrong first)

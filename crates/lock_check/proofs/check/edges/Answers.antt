@@ -43,6 +43,7 @@ loop-folder-preserved-in-Some-package c =
           (all-kept first last c.in_ok-found.ensures.kept)
           (each-at lock (string_bytes key.now) p (HasAllFaults last) at c.in_ok-found.ensures.told)
           c.loop-folder.invariant.told);
+      wrong = λ all. c.in_ok-found.ensures.wrong is (c.loop-folder.invariant.wrong all);
     }
 
 pub loop-folder-preserved : goal.loop-folder-preserved
@@ -60,6 +61,7 @@ loop-folder-preserved c =
       told = subst (λ keys. AreEach lock keys told) (sym (map-append deref c.loop-folder.yielded (key ∷ [])))
           (each-more lock (map deref c.loop-folder.yielded) key.now told told (λ folder fields is. is)
           (each-none lock (string_bytes key.now) told at) c.loop-folder.invariant.told);
+      wrong = c.loop-folder.invariant.wrong;
     }
 
 pub returns-clause-all : goal.returns-clause-all

@@ -3,7 +3,7 @@ use Rattle.std.specs.Map.Iter.{deref}
 use Rattle.lock_check.proofs.Completing.{AreEach}
 use Rattle.lock_check.specs.Internal.Collected.{AreAllLocked, Extends}
 use Rattle.lock_check.specs.Judged.{IsEdge}
-use Rattle.lock_check.specs.Malformed.{HasAllFaults}
+use Rattle.lock_check.specs.Malformed.{HasAllFaults, IsFault}
 use Rattle.lock_check.proofs.check.edges.Given as goal
 
 abbrev pub invariant-loop-folder : goal.invariant-loop-folder
@@ -12,4 +12,5 @@ invariant-loop-folder l = record {
   all : AreEach l.lock (map deref l.yielded) (λ folder fields. AreAllLocked l.lock folder fields l.edges.items);
   kept : Extends l.fn.faults.items l.faults.items;
   told : AreEach l.lock (map deref l.yielded) (HasAllFaults l.faults.items);
+  wrong : All (IsFault l.lock) l.fn.faults.items → All (IsFault l.lock) l.faults.items;
 }

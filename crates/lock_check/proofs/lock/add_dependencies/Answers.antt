@@ -1,6 +1,6 @@
-use Rattle.std.proofs.Common.{map, ◌≡◌, ◌∷◌, ◌∙◌, [], None, Some, refl, string_bytes, subst, sym}
+use Rattle.std.proofs.Common.{map, ◌≡◌, ◌∷◌, ◌∙◌, [], None, Some, length, refl, string_bytes, subst, sym}
 use Rattle.std.proofs.lemmas.List.{map-append}
-use Rattle.std.proofs.lemmas.Map.Iter.{iter_end}
+use Rattle.std.proofs.lemmas.Map.Iter.{iter_end, iter_turn}
 use Rattle.std.specs.Map.{keys_of}
 use Rattle.std.specs.Map.Iter.{deref}
 use Rattle.serde_json.specs.View.{view}
@@ -8,9 +8,10 @@ use Rattle.lock_check.proofs.Collecting.{AreUptoName, HasKey, field_at, not_writ
 use Rattle.lock_check.proofs.Collecting.{upto-start, upto-workspaces, written-key}
 use Rattle.lock_check.proofs.Completing.{extends-more}
 use Rattle.lock_check.proofs.Telling.{AreToldName, as-before, fault-added, has-text, none-in, one-more, told-all, told-done, told-key, told-more}
-use Rattle.lock_check.proofs.Telling.{told-none, told-start}
+use Rattle.lock_check.proofs.Overriding.{all-added}
+use Rattle.lock_check.proofs.Telling.{field-fault, range-fault, told-none, told-start}
 use Rattle.lock_check.specs.Lookups.{field_name, written_in}
-use Rattle.lock_check.specs.Malformed.{IsFieldFault, IsRangeFault}
+use Rattle.lock_check.specs.Malformed.{IsFault, IsFieldFault, IsRangeFault}
 use Rattle.lock_check.specs.declared.fault.Fault.TheVariants.{Range}
 use Rattle.lock_check.specs.declared.lock.Dependency.{Dependency}
 use Rattle.lock_check.specs.declared.lock.Wanted.TheVariants.{Text}
@@ -30,6 +31,7 @@ loop-field-preserved-in-Ok-None c = record {
       ((rw c.in-Ok-None.field-0-is at c.in-Ok-None.ensures.none) read)
       (λ wrong. absurd ((rw c.in-Ok-None.field-0-is at c.in-Ok-None.ensures.absent) read wrong)))
       c.loop-field.invariant.told;
+  wrong = c.loop-field.invariant.wrong;
 }
 
 pub loop-field-preserved-in-Err : goal.loop-field-preserved-in-Err
@@ -51,6 +53,9 @@ loop-field-preserved-in-Err c = record {
       (λ read. none-in p.folder.now (view p.fields.now) f after c.in-Err.ensures.fault
       (λ wrong. fault-added before after (IsFieldFault p.folder.now (field_name f)) c.in-Err.fault same c.in-Err.ensures.told))
       c.loop-field.invariant.told;
+  wrong = λ lock is all. all-added (IsFault lock) c.loop-field.faults.items c.push.new.self.items c.in-Err.fault (c.loop-field.invariant.wrong lock is all)
+      c.in_ok-push-in-Err.ensures.items
+      (field-fault lock c.args.package (field_at c.loop-field.field-index) c.in-Err.fault is c.in-Err.ensures.told c.in-Err.ensures.wrong);
 }
 
 pub loop-name-init : goal.loop-name-init
@@ -60,6 +65,7 @@ loop-name-init c = record {
       (c.loop-field.invariant.all are);
   kept = c.loop-field.invariant.kept;
   told = told-start c.args.package c.loop-field.field-index c.loop-field.faults.items c.loop-field-test.true c.loop-field.invariant.told;
+  wrong = c.loop-field.invariant.wrong;
 }
 
 pub loop-name-preserved-in_default : goal.loop-name-preserved-in_default
@@ -86,6 +92,20 @@ loop-name-preserved-in_default c = record {
       (told-key p f (map deref c.loop-name.yielded) key.now before after (one-more before after fault same)
       (λ wrong. fault-added before after (IsRangeFault p.folder.now (string_bytes key.now)) fault same
       (refl, c.as_str-name.ensures.value)) c.loop-name.invariant.told);
+  wrong = λ lock is all.
+      let p = c.args.package in
+      let f = field_at c.loop-field.field-index in
+      let es = c.in-Ok-Some.ranges.now.entries in
+      let key = c.in-Some.name in
+      let turn = iter_turn deref (keys_of es) c.loop-name.yielded c.into_iter-name-iterator.result c.loop-name.name-iterator
+      c.next.new.self c.next.result (c.into_iter-name-iterator.ensures.into_iter_gives ∙ c.keys-name-items.ensures.rest)
+      c.loop-name.yielded_by key c.in-Some.is c.next.ensures.steps in
+      all-added (IsFault lock) c.loop-name.faults.items c.push-in_default.new.self.items (Range p.folder c.as_str-name.result)
+      (c.loop-name.invariant.wrong lock is all) c.in_ok-push.ensures.items
+      (range-fault lock p f c.as_str-name.result es (length c.loop-name.yielded) key.now is
+      (rw c.in-Ok-Some.field-0-is at c.in-Ok-Some.ensures.read) (rw c.in-Ok-Some.field-0-is at c.in-Ok-Some.ensures.found)
+      turn.1 c.as_str-name.ensures.value
+      (subst (λ n. None ≡ written_in f n (view p.fields.now)) c.as_str-name.ensures.value c.in_default.ensures));
 }
 
 pub loop-name-preserved : goal.loop-name-preserved
@@ -112,6 +132,7 @@ loop-name-preserved c = record {
       (λ wrong. absurd (has-text (view p.fields.now) f (string_bytes key.now) c.in-Some-written.range.now
       (subst (λ n. Some c.in-Some-written.range.now ≡ written_in f n (view p.fields.now)) c.as_str-name.ensures.value c.in-Some-written.ensures) wrong))
       c.loop-name.invariant.told);
+  wrong = c.loop-name.invariant.wrong;
 }
 
 pub loop-field-preserved : goal.loop-field-preserved
@@ -138,6 +159,7 @@ loop-field-preserved c = record {
       c.loop-name.yielded_by c.in-None.is c.next.ensures.steps in
       told-done p c.loop-field.field-index es (map deref c.loop-name.yielded) c.loop-name.faults.items c.loop-field-test.true
       is ends.0 c.loop-name.invariant.told;
+  wrong = c.loop-name.invariant.wrong;
 }
 
 pub loop-field-init : goal.loop-field-init
@@ -146,6 +168,7 @@ loop-field-init c = record {
   all = upto-workspaces c.args.package c.args.found.now;
   kept = as-before c.args.faults.now.items;
   told = told-none c.args.package c.args.faults.now.items;
+  wrong = λ lock is all. all;
 }
 
 pub returns-clause-all : goal.returns-clause-all

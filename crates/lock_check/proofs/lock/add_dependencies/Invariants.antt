@@ -4,6 +4,7 @@ use Rattle.lock_check.proofs.Collecting.{AreUpto, AreUptoName}
 use Rattle.lock_check.proofs.Telling.{AreToldName, AreToldUpto}
 use Rattle.lock_check.specs.Internal.Collected.{AreWorkspaces, Extends}
 use Rattle.lock_check.specs.Lookups.{IsPackage}
+use Rattle.lock_check.specs.Malformed.{IsFault}
 use Rattle.lock_check.specs.Overrides.{IsDependency}
 use Rattle.lock_check.specs.declared.lock.Lock.{Lock}
 use Rattle.lock_check.proofs.lock.add_dependencies.Given as goal
@@ -15,6 +16,7 @@ invariant-loop-field l = record {
   all : AreWorkspaces l.package l.fn.found → AreUpto l.package l.field-index l.found;
   kept : Extends l.fn.faults.items l.faults.items;
   told : AreToldUpto l.package l.field-index l.faults.items;
+  wrong : (lock : Lock) → IsPackage lock l.package → All (IsFault lock) l.fn.faults.items → All (IsFault lock) l.faults.items;
 }
 
 abbrev pub invariant-loop-name : goal.invariant-loop-name
@@ -25,4 +27,5 @@ invariant-loop-name l = record {
       → AreUptoName l.package l.field (map deref l.yielded) l.found;
   kept : Extends l.fn.faults.items l.faults.items;
   told : AreToldName l.package l.field (map deref l.yielded) l.faults.items;
+  wrong : (lock : Lock) → IsPackage lock l.package → All (IsFault lock) l.fn.faults.items → All (IsFault lock) l.faults.items;
 }

@@ -7,6 +7,9 @@ use Rattle.lock_check.specs.Internal.Overriding.{IsAmongRules, IsRuleOf, IsUnrea
 use Rattle.lock_check.specs.Overrides.{HasMember}
 use Rattle.lock_check.proofs.Overriding.{all-added, has_member, object-made, rule-made}
 use Rattle.lock_check.proofs.overrides.Overrides.of.Goals.{in-Some-as_object+in_ok-push-2, in_default-as_object}
+use Rattle.lock_check.proofs.Completing.{extends-more}
+use Rattle.lock_check.specs.Malformed.{IsFault}
+use Rattle.lock_check.specs.declared.fault.Fault.TheVariants.{Override}
 use Rattle.lock_check.proofs.overrides.Overrides.of.Goals as goal
 
 pub loop-key-preserved : goal.loop-key-preserved
@@ -36,4 +39,15 @@ loop-key-preserved c =
           (rule-made root (members_view es) name value c.in-Some-3.rule object has
           (subst (λ r. IfSome r (IsRuleOf name (view value))) c.in-Some-3.is c.in_ok-rule.ensures));
       kept = c.loop-key.invariant.kept;
+      wrong = c.loop-key.invariant.wrong;
     }
+
+pub loop-key-preserved-in_default-2 : goal.loop-key-preserved-in_default-2
+loop-key-preserved-in_default-2 c = record {
+  unread = c.loop-key.invariant.unread;
+  rules = c.loop-key.invariant.rules;
+  kept = extends-more c.args.faults.now.items c.loop-key.faults.items c.push.new.self.items (Override c.as_str-name.result)
+      c.loop-key.invariant.kept c.in_ok-push.ensures.items;
+  wrong = λ lock at all. all-added (IsFault lock) c.loop-key.faults.items c.push.new.self.items (Override c.as_str-name.result)
+      (c.loop-key.invariant.wrong lock at all) c.in_ok-push.ensures.items tt;
+}

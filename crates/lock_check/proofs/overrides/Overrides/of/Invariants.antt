@@ -1,6 +1,9 @@
-use Rattle.std.proofs.Common.{All}
+use Rattle.std.proofs.Common.{All, []}
 use Rattle.lock_check.specs.Internal.Collected.{Extends}
 use Rattle.lock_check.specs.Internal.Overriding.{AreItsRules, IsUnread}
+use Rattle.lock_check.specs.Lookups.{IsAt}
+use Rattle.lock_check.specs.Malformed.{IsFault}
+use Rattle.lock_check.specs.declared.lock.Lock.{Lock}
 use Rattle.lock_check.proofs.overrides.Overrides.of.Given as goal
 
 abbrev pub invariant-loop : goal.invariant-loop
@@ -8,6 +11,7 @@ invariant-loop l = record {
   unread : All (IsUnread l.root) l.unread.items;
   rules : AreItsRules l.root l.rules.items;
   kept : Extends l.fn.faults.items l.faults.items;
+  wrong : (lock : Lock) → IsAt lock [] l.root → All (IsFault lock) l.fn.faults.items → All (IsFault lock) l.faults.items;
 }
 
 abbrev pub invariant-loop-key : goal.invariant-loop-key
@@ -15,4 +19,5 @@ invariant-loop-key l = record {
   unread : All (IsUnread l.root) l.unread.items;
   rules : AreItsRules l.root l.rules.items;
   kept : Extends l.fn.faults.items l.faults.items;
+  wrong : (lock : Lock) → IsAt lock [] l.root → All (IsFault lock) l.fn.faults.items → All (IsFault lock) l.faults.items;
 }
