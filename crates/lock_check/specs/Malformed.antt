@@ -61,7 +61,8 @@ HasOtherRules root = (value : Data) × (get (codes "overrides") root ≡ Some va
 
 -- what a fault tells of is malformed; what is malformed in `overrides` and `workspaces` is not said
 abbrev pub IsFault : Lock → Fault → Type 0
-IsFault lock (fault.Field place own) = ((place.now ≡ []) × OfFields lock [] HasOtherRules)
+IsFault lock (fault.Field place own) =
+    ((place.now ≡ []) × (own.now ≡ codes "overrides") × OfFields lock [] HasOtherRules)
     ⊎ ((f : Field) × IsRead f place.now × (own.now ≡ field_name f)
     × OfFields lock place.now (λ fields. IsNoObject fields f))
 IsFault lock (fault.Range place own) = (f : Field) × IsRead f place.now

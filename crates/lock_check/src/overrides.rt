@@ -3,16 +3,16 @@
 ghost use Rattle.lock_check.specs.Internal.Collected.{Extends};
 ghost use Rattle.lock_check.specs.Internal.Overriding.{AreItsRules, IsLost, IsPut, IsRuleOf};
 ghost use Rattle.lock_check.specs.Internal.Overriding.{IsUnread};
-ghost use Rattle.lock_check.specs.Overrides.{IsKey, referenced, rule_text, some_text};
 ghost use Rattle.lock_check.specs.Lookups.{IsAt, written_in};
 ghost use Rattle.lock_check.specs.Malformed.{IsFault};
-ghost use Rattle.lock_check.specs.declared.lock.Lock.{Lock};
+ghost use Rattle.lock_check.specs.Overrides.{IsKey, referenced, rule_text, some_text};
 ghost use Rattle.lock_check.specs.Replacements.{IsReplacement};
-ghost use Rattle.serde_json.specs.View.{view};
-ghost use Rattle.std.specs.Prelude.{◌≡◌, ◌≢◌, ◌++◌, ◌∷◌, [], ⊤, ℕ, All, Contains};
-ghost use Rattle.std.specs.Prelude.{IfNone, IfOk, IfSome};
+ghost use Rattle.lock_check.specs.declared.lock.Lock.{Lock};
 ghost use Rattle.semver_core.specs.Lists.{is_empty};
-ghost use Rattle.std.specs.Prelude.{List, MatchOption, OnOk, codes, if◌then◌else◌, option_map};
+ghost use Rattle.serde_json.specs.View.{view};
+ghost use Rattle.std.specs.Prelude.{◌≡◌, ◌≢◌, ◌++◌, ◌∷◌, [], if◌then◌else◌, ⊤, ℕ};
+ghost use Rattle.std.specs.Prelude.{All, Contains, IfNone, IfOk, IfSome, List, MatchOption};
+ghost use Rattle.std.specs.Prelude.{OnOk, codes, option_map};
 
 use crate::fault::Fault;
 use crate::lock::{Dependency, Field, Package, Wanted};
