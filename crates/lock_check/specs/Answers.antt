@@ -6,7 +6,7 @@ use Rattle.std.specs.List.{flat_map}
 use Rattle.lock_check.specs.Complete.{AreAllJudged}
 use Rattle.lock_check.specs.Findings.{AreSkips, count_of, is_told, kind_of}
 use Rattle.lock_check.specs.Judged.{IsFinding}
-use Rattle.lock_check.specs.Malformed.{AreAllTold, IsFault}
+use Rattle.lock_check.specs.Malformed.{AreAllTold}
 use Rattle.lock_check.specs.Reports.{row_text}
 use Rattle.lock_check.specs.Rows.{told_fault, told_finding, told_row}
 use Rattle.lock_check.specs.Summary.{summary}
@@ -53,7 +53,6 @@ pub record IsReport (lock : Lock) (file : List ℕ) (f : Format) (is_quiet : Boo
   pub each : All (IsFinding lock) findings
   pub all : AreAllJudged lock findings
   pub malformed : AreAllTold lock faults
-  pub wrong : All (IsFault lock) faults
   pub told : map told_row rows ≡ map told_fault faults
       ++ map told_finding (filter (λ g. is_told is_quiet (kind_of g.outcome)) findings)
   pub counted : AreCounts lock findings faults counts

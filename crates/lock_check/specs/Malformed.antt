@@ -1,5 +1,5 @@
 -- Statement: which faults are told of what is malformed.
-use Rattle.std.specs.Prelude.{⊤, ◌≡◌, ◌≢◌, ◌⊎◌, ℕ, List, [], None, Some, Contains, codes}
+use Rattle.std.specs.Prelude.{⊤, ◌≡◌, ◌≢◌, ◌⊎◌, ℕ, List, [], None, Some, All, Contains, codes}
 use Rattle.serde_json.specs.Data.{Data}
 use Rattle.serde_json.specs.Find.{as_object, as_str, get}
 use Rattle.lock_check.specs.Complete.{IsRead}
@@ -45,12 +45,6 @@ pub record HasFaults (folder : List ℕ) (fields : Data) (f : Field) (faults : L
 abbrev pub HasAllFaults : List Fault → (folder : List ℕ) → Data → Type 0
 HasAllFaults faults folder fields = (f : Field) → IsRead f folder → HasFaults folder fields f faults
 
--- of each package of the lock file; and it is told if there is no root project
-pub record AreAllTold (lock : Lock) (faults : List Fault) : Type 0 where
-  pub root : IsAt lock [] None → HasFault faults (λ f. f ≡ fault.NoRoot)
-  pub each : (folder : List ℕ) (fields : Data) → get folder (packages_of lock) ≡ Some fields
-      → HasAllFaults faults folder fields
-
 -- the lock file has a package in this folder, and this holds of its fields
 abbrev pub OfFields : Lock → List ℕ → (Data → Type 0) → Type 0
 OfFields lock folder P = (fields : Data) × (get folder (packages_of lock) ≡ Some fields) × P fields
@@ -69,3 +63,12 @@ IsFault lock (fault.Range place own) = (f : Field) × IsRead f place.now
     × OfFields lock place.now (λ fields. IsNoText fields f own.now)
 IsFault lock fault.NoRoot = IsAt lock [] None
 IsFault lock _ = ⊤
+
+-- what is malformed is told, of each package of the lock file: also that there is no root project, or that
+-- its `overrides` are no object. Nothing else is told
+pub record AreAllTold (lock : Lock) (faults : List Fault) : Type 0 where
+  pub root : IsAt lock [] None → HasFault faults (λ f. f ≡ fault.NoRoot)
+  pub rules : OfFields lock [] HasOtherRules → HasFault faults (IsFieldFault [] (codes "overrides"))
+  pub each : (folder : List ℕ) (fields : Data) → get folder (packages_of lock) ≡ Some fields
+      → HasAllFaults faults folder fields
+  pub real : All (IsFault lock) faults

@@ -74,7 +74,6 @@ pub fn check<'a>(alloc: Global, lock: Lock<'a>) -> Result<Findings<'a>, AllocErr
     ensures each { IfOk result (λ found. All (IsFinding lock.entry) found.of_dependencies.items) }
     ensures all { IfOk result (λ found. AreAllJudged lock.entry found.of_dependencies.items) }
     ensures malformed { IfOk result (λ found. AreAllTold lock.entry found.faults.items) }
-    ensures wrong { IfOk result (λ found. All (IsFault lock.entry) found.faults.items) }
 {
     let mut faults = Vec::new(alloc);
     if lock.package("").is_none() {

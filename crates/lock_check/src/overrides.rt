@@ -4,7 +4,8 @@ ghost use Rattle.lock_check.specs.Internal.Collected.{Extends};
 ghost use Rattle.lock_check.specs.Internal.Overriding.{AreItsRules, IsLost, IsPut, IsRuleOf};
 ghost use Rattle.lock_check.specs.Internal.Overriding.{IsUnread};
 ghost use Rattle.lock_check.specs.Lookups.{IsAt, written_in};
-ghost use Rattle.lock_check.specs.Malformed.{IsFault};
+ghost use Rattle.lock_check.specs.Malformed.{HasFault, HasOtherRules, IsFault, IsFieldFault};
+ghost use Rattle.lock_check.specs.Malformed.{OfFields};
 ghost use Rattle.lock_check.specs.Overrides.{IsKey, referenced, rule_text, some_text};
 ghost use Rattle.lock_check.specs.Replacements.{IsReplacement};
 ghost use Rattle.lock_check.specs.declared.lock.Lock.{Lock};
@@ -181,6 +182,9 @@ fn outermost<'a>(
 ) -> Result<Vec<(Scope, &'a Map<String, Value>)>, AllocError>
     ensures read { IfOk result (λ unread. All (IsUnread root.entry) unread.items) }
     ensures kept { OnOk result (Extends faults.old.items faults.new.items) }
+    ensures told { OnOk result ((lock : Lock) → IsAt lock [] root.entry
+        → OfFields lock [] HasOtherRules
+        → HasFault faults.new.items (IsFieldFault [] (codes "overrides"))) }
     ensures wrong { OnOk result ((lock : Lock) → IsAt lock [] root.entry
         → All (IsFault lock) faults.old.items → All (IsFault lock) faults.new.items) }
 {
@@ -212,6 +216,9 @@ impl<'a> Overrides<'a> {
         ensures rules { IfOk result (λ overrides.
             AreItsRules root.entry overrides.rules.items) }
         ensures kept { OnOk result (Extends faults.old.items faults.new.items) }
+        ensures told { OnOk result ((lock : Lock) → IsAt lock [] root.entry
+            → OfFields lock [] HasOtherRules
+            → HasFault faults.new.items (IsFieldFault [] (codes "overrides"))) }
         ensures wrong { OnOk result ((lock : Lock) → IsAt lock [] root.entry
             → All (IsFault lock) faults.old.items → All (IsFault lock) faults.new.items) }
     {

@@ -39,20 +39,17 @@ returns-clause-malformed c =
           (fault-added c.new-faults.result.items w.push.new.self.items P NoRoot w.in_ok-push.ensures.items refl)
       | else-is_none w ↦ absurd (has-root lock c.package.result c.package.ensures (c.is_none.ensures ∙ ap not w.if-is_none.false) none)
     ] in
-    record {
-      root = λ none. fault-kept middle last P c.in_ok-overrides.ensures.kept (fault-kept first middle P c.in_ok-edges.ensures.kept (root none));
-      each = λ folder fields at. all-kept middle last c.in_ok-overrides.ensures.kept folder fields
-          (c.in_ok-edges.ensures.told folder fields at);
-    }
-
-pub returns-clause-wrong : goal.returns-clause-wrong
-returns-clause-wrong c =
-    let lock = c.args.lock in
     let none = all-none (IsFault lock) c.new-faults.result.items c.new-faults.ensures.items in
-    let first : All (IsFault lock) c.if-is_none.faults.items = elim c.if-is_none.branch [
+    let real : All (IsFault lock) first = elim c.if-is_none.branch [
       | then-is_none+in_ok-push w ↦ subst (λ fs. All (IsFault lock) fs.items) (sym w.faults-is)
           (all-added (IsFault lock) c.new-faults.result.items w.push.new.self.items NoRoot none w.in_ok-push.ensures.items
           (no-root lock c.package.result c.package.ensures (c.is_none.ensures ∙ ap not w.if-is_none.true)))
       | else-is_none w ↦ subst (λ fs. All (IsFault lock) fs.items) (sym w.faults-is) none
     ] in
-    c.in_ok-overrides.ensures.wrong lock c.package-2.ensures (c.in_ok-edges.ensures.wrong first)
+    record {
+      real = c.in_ok-overrides.ensures.wrong lock c.package-2.ensures (c.in_ok-edges.ensures.wrong real);
+      rules = c.in_ok-overrides.ensures.told lock c.package-2.ensures;
+      root = λ none. fault-kept middle last P c.in_ok-overrides.ensures.kept (fault-kept first middle P c.in_ok-edges.ensures.kept (root none));
+      each = λ folder fields at. all-kept middle last c.in_ok-overrides.ensures.kept folder fields
+          (c.in_ok-edges.ensures.told folder fields at);
+    }

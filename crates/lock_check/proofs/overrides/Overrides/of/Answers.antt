@@ -1,4 +1,4 @@
-use Rattle.std.proofs.Common.{◌∙◌, All, IfSome, length, subst, sym}
+use Rattle.std.proofs.Common.{◌∙◌, [], All, IfSome, codes, length, subst, sym}
 use Rattle.std.proofs.lemmas.List.Elements.{All-pop}
 use Rattle.std.proofs.lemmas.Map.Iter.{iter_turn}
 use Rattle.std.specs.Map.Iter.{deref_pair}
@@ -8,7 +8,8 @@ use Rattle.lock_check.specs.Overrides.{HasMember}
 use Rattle.lock_check.proofs.Overriding.{all-added, has_member, object-made, rule-made}
 use Rattle.lock_check.proofs.overrides.Overrides.of.Goals.{in-Some-as_object+in_ok-push-2, in_default-as_object}
 use Rattle.lock_check.proofs.Completing.{extends-more}
-use Rattle.lock_check.specs.Malformed.{IsFault}
+use Rattle.lock_check.specs.Malformed.{IsFault, IsFieldFault}
+use Rattle.lock_check.proofs.Telling.{fault-kept, one-more}
 use Rattle.lock_check.specs.declared.fault.Fault.TheVariants.{Override}
 use Rattle.lock_check.proofs.overrides.Overrides.of.Goals as goal
 
@@ -40,6 +41,7 @@ loop-key-preserved c =
           (subst (λ r. IfSome r (IsRuleOf name (view value))) c.in-Some-3.is c.in_ok-rule.ensures));
       kept = c.loop-key.invariant.kept;
       wrong = c.loop-key.invariant.wrong;
+      told = c.loop-key.invariant.told;
     }
 
 pub loop-key-preserved-in_default-2 : goal.loop-key-preserved-in_default-2
@@ -50,4 +52,7 @@ loop-key-preserved-in_default-2 c = record {
       c.loop-key.invariant.kept c.in_ok-push.ensures.items;
   wrong = λ lock at all. all-added (IsFault lock) c.loop-key.faults.items c.push.new.self.items (Override c.as_str-name.result)
       (c.loop-key.invariant.wrong lock at all) c.in_ok-push.ensures.items tt;
+  told = λ lock at has. fault-kept c.loop-key.faults.items c.push.new.self.items (IsFieldFault [] (codes "overrides"))
+      (one-more c.loop-key.faults.items c.push.new.self.items (Override c.as_str-name.result) c.in_ok-push.ensures.items)
+      (c.loop-key.invariant.told lock at has);
 }
