@@ -159,7 +159,7 @@ each-all lock keys Q same all = λ folder fields at. all folder fields at
 
 -- ---- with what is found for them
 
-as_wanted-of : (folder : List ℕ) (f : Field) (name : List ℕ) (d : Dependency) (w : Option Wanted)
+pub as_wanted-of : (folder : List ℕ) (f : Field) (name : List ℕ) (d : Dependency) (w : Option Wanted)
     → IsOf folder f name d → IsOf folder f name (as_wanted d w)
 as_wanted-of folder f name d None is = is
 as_wanted-of folder f name d (Some w) is = record {

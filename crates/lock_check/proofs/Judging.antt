@@ -4,7 +4,7 @@ use Rattle.lock_check.specs.Judged.{IsEdge, IsFinding, IsOutcome, as_wanted}
 use Rattle.std.specs.Prelude.{IsNone, MatchOption}
 use Rattle.lock_check.specs.Internal.Overriding.{AreItsRules, IsLost, IsPut}
 use Rattle.lock_check.specs.Lookups.{IsAt, IsNearest}
-use Rattle.lock_check.specs.Overrides.{IsDependency, IsWritten, RefersToNothing}
+use Rattle.lock_check.specs.Overrides.{IsDependency, IsWorkspaceOf, IsWritten, RefersToNothing}
 use Rattle.lock_check.specs.declared.check.Edge.{Edge}
 use Rattle.lock_check.specs.declared.finding.Finding.{Finding}
 use Rattle.lock_check.specs.declared.lock.Dependency.{Dependency}
@@ -18,7 +18,13 @@ use Rattle.lock_check.specs.declared.lock.Wanted.TheVariants as wanted
 put-written : (lock : Lock) (root : Option Package) (d : Dependency) (w : Wanted) → IsAt lock [] root
     → IsWritten lock d d.wanted → IsPut root d w → IsWritten lock (as_wanted d (Some w)) w
 put-written lock root d (wanted.Text text) at is same = subst (IsWritten lock d) (sym same) is
-put-written lock root d (wanted.Workspace folder) at is same = subst (IsWritten lock d) (sym same) is
+put-written lock root d (wanted.Workspace folder) at is same =
+    let of : IsWorkspaceOf lock d folder.now = subst (IsWritten lock d) (sym same) is in record {
+      by_field = of.by_field;
+      of_root = of.of_root;
+      meant = of.meant;
+      named = of.named;
+    }
 put-written lock root d (wanted.Override text) at is (inl same) = subst (IsWritten lock d) (sym same) is
 put-written lock root d (wanted.Override text) at is (inr of) = (of.0, subst (IsAt lock []) of.1 at, of.2)
 

@@ -18,7 +18,8 @@ use Rattle.lock_check.proofs.Completing.{extends-kept}
 use Rattle.lock_check.specs.Complete.{IsRead, rank}
 use Rattle.lock_check.specs.Internal.Collected.{Extends, members_in}
 use Rattle.lock_check.specs.Lookups.{IsAt, IsPackage, field_name, packages_of, written_in}
-use Rattle.lock_check.specs.Malformed.{HasAllFaults, HasFault, HasFaults, IsFault, IsFieldFault, IsNoObject, IsNoText, IsRangeFault}
+use Rattle.lock_check.specs.Malformed.{AreTextsTold, HasAllFaults, HasFault, HasFaults, IsFault, IsFieldFault, IsNoObject}
+use Rattle.lock_check.specs.Malformed.{IsNoText, IsRangeFault}
 use Rattle.lock_check.specs.declared.fault.Fault.{Fault}
 use Rattle.lock_check.specs.declared.fault.Fault.TheVariants as fault
 use Rattle.lock_check.specs.declared.lock.Field.{Field}
@@ -46,6 +47,11 @@ faults-kept folder fields f before after more has = record {
 pub all-kept : (before after : List Fault) → Extends before after → (folder : List ℕ) (fields : Data)
     → HasAllFaults before folder fields → HasAllFaults after folder fields
 all-kept before after more folder fields all = λ f read. faults-kept folder fields f before after more (all f read)
+
+pub texts-kept : (before after : List Fault) → Extends before after → (folder : List ℕ) (fields : Data)
+    → AreTextsTold before folder fields → AreTextsTold after folder fields
+texts-kept before after more folder fields told = λ root wrong.
+    fault-kept before after (λ f. f ≡ fault.Workspaces) more (told root wrong)
 
 -- ---- what a field has
 

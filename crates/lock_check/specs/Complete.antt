@@ -1,12 +1,12 @@
--- Statement: each dependency that a package of a lock file writes has a finding.
-use Rattle.std.specs.Prelude.{⊤, ◌≡◌, ◌⊎◌, ◌≤◌, ◌&&◌, ◌||◌, ℕ, Bool, true, not, List, Some, Contains}
+-- Statement: each dependency that a package of a lock file writes has a finding, and so has each workspace.
+use Rattle.std.specs.Prelude.{⊤, ◌≡◌, ◌⊎◌, ◌≤◌, ◌&&◌, ◌||◌, ℕ, Bool, true, not, List, [], Some, Contains}
 use Rattle.std.specs.Prelude.{IsSome, codes}
 use Rattle.serde_json.specs.Data.{Data}
 use Rattle.serde_json.specs.Find.{get}
 use Rattle.serde_json.specs.View.{view}
 use Rattle.lock_check.specs.Fields.{is_set}
-use Rattle.lock_check.specs.Judged.{IsInstalled}
-use Rattle.lock_check.specs.Lookups.{IsNearest, packages_of, written_in}
+use Rattle.lock_check.specs.Lookups.{IsInstalled, IsNearest, packages_of, written_in}
+use Rattle.lock_check.specs.Workspaces.{IsWorkspace, IsWorkspaceName}
 use Rattle.lock_check.specs.declared.finding.Finding.{Finding}
 use Rattle.lock_check.specs.declared.lock.Dependency.{Dependency}
 use Rattle.lock_check.specs.declared.lock.Field.{Field}
@@ -65,3 +65,9 @@ abbrev pub AreAllJudged : Lock → List Finding → Type 0
 AreAllJudged lock found = (folder : List ℕ) (fields : Data) (f : Field) (name : List ℕ)
     → get folder (packages_of lock) ≡ Some fields → Writes folder fields f name
     → HasFinding found folder f name ⊎ IsLeftOut lock folder fields f name
+
+-- each workspace of the root project has one about its name
+abbrev pub AreWorkspacesJudged : Lock → List Finding → Type 0
+AreWorkspacesJudged lock found = (root : Data) (folder : List ℕ) → get [] (packages_of lock) ≡ Some root
+    → IsWorkspace root lock folder
+    → (name : List ℕ) × IsWorkspaceName lock folder name × HasFinding found [] field.Workspaces name

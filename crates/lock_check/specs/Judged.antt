@@ -1,15 +1,14 @@
 -- Statement: what is found for a dependency of a lock file.
-use Rattle.std.specs.Prelude.{⊤, ◌≡◌, ◌≢◌, ◌⊎◌, ◌==◌, ℕ, true, false, List, [], ◌++◌, Option, Some, None}
+use Rattle.std.specs.Prelude.{⊤, ◌≡◌, ◌≢◌, ℕ, true, false, List, [], ◌++◌, Option, Some, None}
 use Rattle.std.specs.Prelude.{codes}
-use Rattle.std.specs.List.{starts_with}
-use Rattle.std.specs.Str.Iter.{HasSubslice}
 use Rattle.serde_json.specs.View.{view}
 use Rattle.lock_check.specs.Fields.{is_set}
-use Rattle.lock_check.specs.Lookups.{IsBehind, IsNearest}
+use Rattle.lock_check.specs.Lookups.{IsBehind, IsInstalled, IsNearest}
 use Rattle.lock_check.specs.Optional.{MayBeAbsent}
 use Rattle.lock_check.specs.Outcomes.{IsJudged, Locked}
 use Rattle.lock_check.specs.Overrides.{IsDependency, RefersToNothing}
 use Rattle.lock_check.specs.Specifiers.{IsName}
+use Rattle.lock_check.specs.Workspaces.{AreRead}
 use Rattle.lock_check.specs.declared.check.Edge.{Edge}
 use Rattle.lock_check.specs.declared.finding.Finding.{Finding}
 use Rattle.lock_check.specs.declared.finding.Outcome.{Outcome}
@@ -22,22 +21,18 @@ use Rattle.lock_check.specs.declared.lock.Package.{Package}
 use Rattle.lock_check.specs.declared.lock.Wanted.{Wanted}
 use Rattle.lock_check.specs.declared.lock.Wanted.TheVariants as wanted
 
--- a folder is that of an installed package, and of no project
-abbrev pub IsInstalled : List ℕ → Type 0
-IsInstalled folder = (starts_with (λ a b. a == b) folder (codes "node_modules/") ≡ true)
-    ⊎ HasSubslice folder (codes "/node_modules/")
-
 -- a peer that stands inside the installed package that wants it
 pub record IsOwnPeer (d : Dependency) (locked : Package) : Type 0 where
   pub peer : d.field ≡ field.Peer
   pub installed : IsInstalled d.package.folder.now
   pub inside : (behind : List ℕ) × (locked.folder.now ≡ d.package.folder.now ++ behind)
 
--- a link that the root project wants otherwise than as a workspace
+-- a link that the root project does not want as a workspace, where a pattern that is not read may mean it
 pub record IsLinkOfRoot (d : Dependency) (locked : Package) : Type 0 where
   pub link : is_set (codes "link") (view locked.fields.now) ≡ true
   pub root : d.package.folder.now ≡ []
   pub other : d.field ≢ field.Workspaces
+  pub unread : ¬ (AreRead (view d.package.fields.now))
 
 abbrev pub locked_as : Lock → Package → Package → Locked
 locked_as lock entry behind = record {
@@ -46,15 +41,14 @@ locked_as lock entry behind = record {
   is_nested = lock.is_nested;
 }
 
--- what is found of a package that is locked for a dependency. Which links may be workspaces is not said, but
--- that they are the root project's
+-- what is found of a package that is locked for a dependency
 pub data IsLockedOutcome (lock : Lock) (d : Dependency) (locked : Package) : Outcome → Type 0 where
   no_folder : IsBehind lock locked None → IsLockedOutcome lock d locked outcome.NoFolder
   own_peer : IsOwnPeer d locked → IsLockedOutcome lock d locked (outcome.Skipped skip.OwnPeer)
   unnamed : ¬ (IsName d.name.now) → IsLockedOutcome lock d locked outcome.Unnamed
   link : IsLinkOfRoot d locked → IsLockedOutcome lock d locked (outcome.Skipped skip.Link)
   judged : (behind : Package) (found : Outcome) → IsBehind lock locked (Some behind) → ¬ (IsOwnPeer d locked)
-      → IsName d.name.now → IsJudged d (locked_as lock locked behind) found
+      → IsName d.name.now → ¬ (IsLinkOfRoot d locked) → IsJudged d (locked_as lock locked behind) found
       → IsLockedOutcome lock d locked found
 
 abbrev pub IsOverride : Wanted → Type 0

@@ -20,3 +20,4 @@ pub mod Shown
 pub mod Specifiers
 pub mod Summary
 pub mod Verdicts
+pub mod Workspaces

@@ -1,6 +1,8 @@
 -- Statement: which package of a lock file is locked for a dependency, and what a package writes of it.
 use Rattle.std.specs.Prelude.{◌≡◌, ◌≢◌, ◌⊎◌, ◌<◌, ℕ, true, false, List, [], ◌∷◌, ◌++◌, Option, Some, None}
-use Rattle.std.specs.Prelude.{IfSome, codes, length, option_and_then}
+use Rattle.std.specs.Prelude.{◌==◌, IfSome, codes, length, option_and_then}
+use Rattle.std.specs.List.{starts_with}
+use Rattle.std.specs.Str.Iter.{HasSubslice}
 use Rattle.serde_json.specs.Data.{Data, object}
 use Rattle.serde_json.specs.Find.{as_str, get}
 use Rattle.serde_json.specs.View.{members_view, view}
@@ -9,6 +11,11 @@ use Rattle.lock_check.specs.declared.lock.Field.{Field}
 use Rattle.lock_check.specs.declared.lock.Field.TheVariants as field
 use Rattle.lock_check.specs.declared.lock.Lock.{Lock}
 use Rattle.lock_check.specs.declared.lock.Package.{Package}
+
+-- a folder is that of an installed package, and of no project
+abbrev pub IsInstalled : List ℕ → Type 0
+IsInstalled folder = (starts_with (λ a b. a == b) folder (codes "node_modules/") ≡ true)
+    ⊎ HasSubslice folder (codes "/node_modules/")
 
 -- the packages of a lock file by their folders, as an object
 abbrev pub packages_of : Lock → Data

@@ -5,6 +5,7 @@ use Rattle.serde_json.specs.Find.{as_object, as_str, get}
 use Rattle.lock_check.specs.Complete.{IsRead}
 use Rattle.lock_check.specs.Fields.{member_of}
 use Rattle.lock_check.specs.Lookups.{IsAt, field_name, packages_of}
+use Rattle.lock_check.specs.Workspaces.{HasOtherTexts}
 use Rattle.lock_check.specs.declared.fault.Fault.{Fault}
 use Rattle.lock_check.specs.declared.fault.Fault.TheVariants as fault
 use Rattle.lock_check.specs.declared.lock.Field.{Field}
@@ -53,7 +54,12 @@ OfFields lock folder P = (fields : Data) × (get folder (packages_of lock) ≡ S
 abbrev pub HasOtherRules : Data → Type 0
 HasOtherRules root = (value : Data) × (get (codes "overrides") root ≡ Some value) × (as_object value ≡ None)
 
--- what a fault tells of is malformed; what is malformed in `overrides` and `workspaces` is not said
+-- if the package is the root project, that its `workspaces` are no list of texts is told
+abbrev pub AreTextsTold : List Fault → (folder : List ℕ) → Data → Type 0
+AreTextsTold faults folder fields = folder ≡ [] → HasOtherTexts fields
+    → HasFault faults (λ f. f ≡ fault.Workspaces)
+
+-- what a fault tells of is malformed; what is malformed in `overrides` is not said
 abbrev pub IsFault : Lock → Fault → Type 0
 IsFault lock (fault.Field place own) =
     ((place.now ≡ []) × (own.now ≡ codes "overrides") × OfFields lock [] HasOtherRules)
@@ -61,14 +67,16 @@ IsFault lock (fault.Field place own) =
     × OfFields lock place.now (λ fields. IsNoObject fields f))
 IsFault lock (fault.Range place own) = (f : Field) × IsRead f place.now
     × OfFields lock place.now (λ fields. IsNoText fields f own.now)
+IsFault lock fault.Workspaces = OfFields lock [] HasOtherTexts
 IsFault lock fault.NoRoot = IsAt lock [] None
 IsFault lock _ = ⊤
 
--- what is malformed is told, of each package of the lock file: also that there is no root project, or that
--- its `overrides` are no object. Nothing else is told
+-- what is malformed is told, of each package of the lock file: also that there is no root project, that its
+-- `overrides` are no object, or that its `workspaces` are no list of texts. Nothing else is told
 pub record AreAllTold (lock : Lock) (faults : List Fault) : Type 0 where
   pub root : IsAt lock [] None → HasFault faults (λ f. f ≡ fault.NoRoot)
   pub rules : OfFields lock [] HasOtherRules → HasFault faults (IsFieldFault [] (codes "overrides"))
+  pub workspaces : OfFields lock [] HasOtherTexts → HasFault faults (λ f. f ≡ fault.Workspaces)
   pub each : (folder : List ℕ) (fields : Data) → get folder (packages_of lock) ≡ Some fields
       → HasAllFaults faults folder fields
   pub real : All (IsFault lock) faults

@@ -3,11 +3,13 @@
 ghost use Rattle.lock_check.specs.Internal.Collected.{AreAllFound, AreAllLinked, Extends, IsAmong};
 ghost use Rattle.lock_check.specs.Internal.Collected.{IsForDevelopment, IsTaken};
 ghost use Rattle.lock_check.specs.Internal.Overriding.{AreItsRules};
-ghost use Rattle.lock_check.specs.Complete.{AreAllJudged, is_locked_for_development};
+ghost use Rattle.lock_check.specs.Internal.Patterns.{AreMeantFound, AreMeantLinked};
+ghost use Rattle.lock_check.specs.Complete.{AreAllJudged, AreWorkspacesJudged};
+ghost use Rattle.lock_check.specs.Complete.{is_locked_for_development};
 ghost use Rattle.lock_check.specs.Judged.{IsEdge, IsFinding, IsLinkOfRoot, IsLockedOutcome};
 ghost use Rattle.lock_check.specs.Judged.{IsOutcome, IsOwnPeer, as_wanted};
 ghost use Rattle.lock_check.specs.Lookups.{IsAt, IsPackage, packages_of};
-ghost use Rattle.lock_check.specs.Malformed.{AreAllTold, HasAllFaults, IsFault};
+ghost use Rattle.lock_check.specs.Malformed.{AreAllTold, AreTextsTold, HasAllFaults, IsFault};
 ghost use Rattle.lock_check.specs.Overrides.{IsDependency, RefersToNothing};
 ghost use Rattle.lock_check.specs.Outcomes.{IsInstead, IsJudged, IsPlaceOutcome, IsRangeOutcome};
 ghost use Rattle.lock_check.specs.Outcomes.{IsRegistryOutcome, IsRepositoryOutcome};
@@ -73,6 +75,8 @@ fn is_any_told(findings: &[Finding<'_>]) -> bool {
 pub fn check<'a>(alloc: Global, lock: Lock<'a>) -> Result<Findings<'a>, AllocError>
     ensures each { IfOk result (λ found. All (IsFinding lock.entry) found.of_dependencies.items) }
     ensures all { IfOk result (λ found. AreAllJudged lock.entry found.of_dependencies.items) }
+    ensures workspaces { IfOk result (λ found. AreWorkspacesJudged lock.entry
+        found.of_dependencies.items) }
     ensures malformed { IfOk result (λ found. AreAllTold lock.entry found.faults.items) }
 {
     let mut faults = Vec::new(alloc);
@@ -124,10 +128,16 @@ fn edges<'a>(
 ) -> Result<Vec<Edge<'a>>, AllocError>
     ensures each { IfOk result (λ edges. All (IsEdge lock.entry) edges.items) }
     ensures all { IfOk result (λ edges. AreAllLinked lock.entry edges.items) }
+    ensures workspaces { IfOk result (λ edges. (folder : List ℕ) (fields : Data)
+        → get folder (packages_of lock.entry) ≡ Some fields
+        → AreMeantLinked lock.entry edges.items folder fields) }
     ensures kept { OnOk result (Extends faults.old.items faults.new.items) }
     ensures told { OnOk result ((folder : List ℕ) (fields : Data)
         → get folder (packages_of lock.entry) ≡ Some fields
         → HasAllFaults faults.new.items folder fields) }
+    ensures texts { OnOk result ((folder : List ℕ) (fields : Data)
+        → get folder (packages_of lock.entry) ≡ Some fields
+        → AreTextsTold faults.new.items folder fields) }
     ensures wrong { OnOk result (All (IsFault lock.entry) faults.old.items
         → All (IsFault lock.entry) faults.new.items) }
 {
@@ -151,8 +161,12 @@ fn dependencies<'a>(
     ensures each { IsPackage lock.entry «package».entry
         → IfOk result (λ found. All (IsDependency lock.entry) found.first.items) }
     ensures all { IfOk result (λ found. AreAllFound «package».entry found.first.items) }
+    ensures workspaces { IfOk result (λ found. AreMeantFound lock.entry «package».entry
+        found.first.items) }
     ensures kept { OnOk result (Extends faults.old.items faults.new.items) }
     ensures told { OnOk result (HasAllFaults faults.new.items «package».entry.folder.now
+        (view «package».entry.fields.now)) }
+    ensures texts { OnOk result (AreTextsTold faults.new.items «package».entry.folder.now
         (view «package».entry.fields.now)) }
     ensures wrong { OnOk result (IsPackage lock.entry «package».entry
         → All (IsFault lock.entry) faults.old.items → All (IsFault lock.entry) faults.new.items) }
@@ -318,7 +332,7 @@ impl<'a> Target<'a> {
 
     // Whether the root project may have it as a workspace by a pattern that is not read.
     fn is_link_of_root(self) -> bool
-        ensures { IsTrue result → IsLinkOfRoot self.entry.dependency self.entry.locked }
+        ensures { IsTrue result ↔ IsLinkOfRoot self.entry.dependency self.entry.locked }
     {
         let root = self.dependency.package;
         self.is_link()

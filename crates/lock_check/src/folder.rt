@@ -1,7 +1,9 @@
 // Folders as texts: no disk is asked.
 
-ghost use Rattle.lock_check.specs.Judged.{IsInstalled};
-ghost use Rattle.std.specs.Prelude.{◌↔◌, IsTrue};
+ghost use Rattle.lock_check.specs.Lookups.{IsInstalled};
+ghost use Rattle.lock_check.specs.Workspaces.{IsNameOf};
+ghost use Rattle.std.specs.Option.{MatchOption};
+ghost use Rattle.std.specs.Prelude.{◌↔◌, ◌≡◌, ◌≢◌, ◌∷◌, ◌++◌, IsTrue, List, ℕ};
 
 use std::alloc::{AllocError, Global};
 
@@ -21,17 +23,33 @@ pub fn joined(alloc: Global, from: &str, path: &str) -> Result<String, AllocErro
 
 /// The name that npm takes for a package from its folder: its last part, behind its scope if it
 /// has one.
-pub fn name_of(folder: &str) -> &str {
+pub fn name_of(folder: &str) -> &str
+    ensures { IsNameOf folder.now result.now }
+{
     let Some((above, base)) = folder.rsplit_once('/') else {
         return folder;
     };
     match above.rsplit_once('/') {
         None if above.starts_with('@') => folder,
-        Some((front, scope)) if scope.starts_with('@') => {
-            let behind = folder.strip_prefix(front);
-            behind.and_then(|it| it.strip_prefix('/')).unwrap_or(base)
+        None => base,
+        Some((front, scope)) => {
+            if scope.starts_with('@') {
+                behind(folder, front).unwrap_or(base)
+            } else {
+                base
+            }
         }
-        _ => base,
+    }
+}
+
+// What stands behind a front of the folder and a slash.
+fn behind<'a>(folder: &'a str, front: &str) -> Option<&'a str>
+    ensures { MatchOption result ((rest : List ℕ) → folder.now ≢ front.now ++ 47 ∷ rest)
+        (λ rest. folder.now ≡ front.now ++ 47 ∷ rest.now) }
+{
+    match folder.strip_prefix(front) {
+        Some(rest) => rest.strip_prefix('/'),
+        None => None,
     }
 }
 

@@ -2,6 +2,7 @@
 
 ghost use Rattle.lock_check.specs.Internal.Collected.{AreAllFound, AreNamed, AreWorkspaces};
 ghost use Rattle.lock_check.specs.Internal.Collected.{Extends, members_in, with_first};
+ghost use Rattle.lock_check.specs.Internal.Patterns.{Keeps};
 ghost use Rattle.lock_check.specs.Complete.{IsRead};
 ghost use Rattle.lock_check.specs.Malformed.{HasAllFaults, IsFault, IsFieldFault, IsNoObject};
 ghost use Rattle.lock_check.specs.Optional.{MayBeAbsent};
@@ -384,6 +385,8 @@ pub(crate) fn add_dependencies<'a>(
         → All (IsDependency lock) found.new.first.items) }
     ensures all { OnOk result (AreWorkspaces «package».entry found.old
         → AreAllFound «package».entry found.new.first.items) }
+    ensures more { OnOk result (AreWorkspaces «package».entry found.old
+        → Keeps found.old.first.items found.new.first.items) }
     ensures kept { OnOk result (Extends faults.old.items faults.new.items) }
     ensures told { OnOk result (HasAllFaults faults.new.items «package».entry.folder.now
         (view «package».entry.fields.now)) }

@@ -1,15 +1,19 @@
 use Rattle.std.proofs.lemmas.List.Elements.{All-same}
 use Rattle.lock_check.proofs.Completing.{judged-all}
+use Rattle.lock_check.proofs.Items.{workspaces-judged}
 use Rattle.lock_check.proofs.Judging.{ruled}
+use Rattle.serde_json.specs.Data.{Data}
+use Rattle.serde_json.specs.Find.{get}
+use Rattle.lock_check.specs.Internal.Patterns.{AreMeantLinked}
 use Rattle.lock_check.specs.Internal.Collected.{AreAllLinked}
 use Rattle.lock_check.specs.Judged.{IsEdge}
-use Rattle.std.proofs.Common.{◌≡◌, ◌∙◌, All, [], None, ap, not, refl, subst, sym}
+use Rattle.std.proofs.Common.{◌≡◌, ◌∙◌, All, List, [], None, Some, ℕ, ap, not, refl, subst, sym}
 use Rattle.lock_check.proofs.Telling.{all-kept, fault-added, fault-kept, has-root, no-root}
 use Rattle.lock_check.proofs.Overriding.{all-added, all-none}
-use Rattle.lock_check.specs.Lookups.{IsAt}
+use Rattle.lock_check.specs.Lookups.{IsAt, packages_of}
 use Rattle.lock_check.specs.Malformed.{HasFault, IsFault}
 use Rattle.lock_check.specs.declared.fault.Fault.{Fault}
-use Rattle.lock_check.specs.declared.fault.Fault.TheVariants.{NoRoot}
+use Rattle.lock_check.specs.declared.fault.Fault.TheVariants.{NoRoot, Workspaces}
 use Rattle.lock_check.proofs.check.check.Goals.{then-is_none+in_ok-push, else-is_none}
 use Rattle.lock_check.proofs.check.check.Goals as goal
 
@@ -25,6 +29,14 @@ pub returns-clause-all : goal.returns-clause-all
 returns-clause-all c =
     judged-all c.args.lock c.deref-2.result.now c.in_ok-of_dependencies.of_dependencies.items
     (subst (AreAllLinked c.args.lock) (sym c.deref-2.ensures.value) c.in_ok-edges.ensures.all)
+    c.in_ok-of_dependencies.ensures.all
+
+pub returns-clause-workspaces : goal.returns-clause-workspaces
+returns-clause-workspaces c =
+    let lock = c.args.lock in
+    workspaces-judged lock c.deref-2.result.now c.in_ok-of_dependencies.of_dependencies.items
+    (subst (λ edges. (folder : List ℕ) (fields : Data) → get folder (packages_of lock) ≡ Some fields
+    → AreMeantLinked lock edges folder fields) (sym c.deref-2.ensures.value) c.in_ok-edges.ensures.workspaces)
     c.in_ok-of_dependencies.ensures.all
 
 pub returns-clause-malformed : goal.returns-clause-malformed
@@ -50,6 +62,8 @@ returns-clause-malformed c =
       real = c.in_ok-overrides.ensures.wrong lock c.package-2.ensures (c.in_ok-edges.ensures.wrong real);
       rules = c.in_ok-overrides.ensures.told lock c.package-2.ensures;
       root = λ none. fault-kept middle last P c.in_ok-overrides.ensures.kept (fault-kept first middle P c.in_ok-edges.ensures.kept (root none));
+      workspaces = λ of. fault-kept middle last (λ f. f ≡ Workspaces) c.in_ok-overrides.ensures.kept
+          (c.in_ok-edges.ensures.texts [] of.0 of.1 refl of.2);
       each = λ folder fields at. all-kept middle last c.in_ok-overrides.ensures.kept folder fields
           (c.in_ok-edges.ensures.told folder fields at);
     }

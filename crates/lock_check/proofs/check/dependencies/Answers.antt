@@ -1,4 +1,8 @@
 use Rattle.std.proofs.Common.{ap, arith, length}
+use Rattle.serde_json.specs.View.{view}
+use Rattle.lock_check.proofs.Items.{workspace-kept}
+use Rattle.lock_check.proofs.Telling.{texts-kept}
+use Rattle.lock_check.specs.Internal.Collected.{AreWorkspaces}
 use Rattle.lock_check.proofs.check.dependencies.Goals as goal
 
 pub returns-clause-each : goal.returns-clause-each
@@ -11,3 +15,22 @@ returns-clause-all c = c.in_ok-add_dependencies.ensures.all (c.in_ok-add_workspa
   named = c.new-found.ensures.named;
   each = λ k d at. absurd (omega (arith, ap length c.new-found.ensures.empty));
 }))
+
+pub returns-clause-texts : goal.returns-clause-texts
+returns-clause-texts c =
+    texts-kept c.add_workspaces.new.faults.items c.add_dependencies.new.faults.items c.in_ok-add_dependencies.ensures.kept
+    c.args.package.folder.now (view c.args.package.fields.now) c.in_ok-add_workspaces.ensures.told
+
+pub returns-clause-wrong : goal.returns-clause-wrong
+returns-clause-wrong c = λ is all.
+    c.in_ok-add_dependencies.ensures.wrong c.args.lock is (c.in_ok-add_workspaces.ensures.wrong is all)
+
+pub returns-clause-workspaces : goal.returns-clause-workspaces
+returns-clause-workspaces c = λ root folder is.
+    let none : AreWorkspaces c.args.package c.new-found.result = record {
+      named = c.new-found.ensures.named;
+      each = λ k d at. absurd (omega (arith, ap length c.new-found.ensures.empty));
+    } in
+    workspace-kept c.args.lock c.add_workspaces.new.found.first.items c.add_dependencies.new.found.first.items
+    c.args.package.folder.now folder (c.in_ok-add_dependencies.ensures.more (c.in_ok-add_workspaces.ensures.alone none))
+    (c.in_ok-add_workspaces.ensures.all none root folder is)

@@ -6,8 +6,10 @@ use Rattle.std.specs.Map.{keys_of}
 use Rattle.serde_json.specs.Data.{Data}
 use Rattle.std.specs.Map.Iter.{deref}
 use Rattle.lock_check.proofs.Completing.{AreEach, each-all, each-at, each-more, each-none, extends-on, locked-all, locked-kept, package-at}
-use Rattle.lock_check.proofs.Telling.{all-kept}
-use Rattle.lock_check.specs.Malformed.{HasAllFaults}
+use Rattle.lock_check.proofs.Items.{meant-kept, meant-linked}
+use Rattle.lock_check.proofs.Telling.{all-kept, texts-kept}
+use Rattle.lock_check.specs.Internal.Patterns.{AreMeantLinked}
+use Rattle.lock_check.specs.Malformed.{AreTextsTold, HasAllFaults}
 use Rattle.lock_check.specs.Internal.Collected.{AreAllLocked, IsTaken}
 use Rattle.lock_check.specs.Lookups.{IsAt}
 use Rattle.lock_check.specs.Overrides.{IsDependency}
@@ -37,12 +39,23 @@ loop-folder-preserved-in-Some-package c =
           (locked-kept lock before after c.in_ok-add_edges.ensures.kept)
           (each-at lock (string_bytes key.now) p now at
           (locked-all lock p found after is each c.in_ok-found.ensures.all taken)) c.loop-folder.invariant.all);
+      workspaces = subst (λ keys. AreEach lock keys (AreMeantLinked lock after))
+          (sym (map-append deref c.loop-folder.yielded (key ∷ [])))
+          (each-more lock (map deref c.loop-folder.yielded) key.now (AreMeantLinked lock before) (AreMeantLinked lock after)
+          (meant-kept lock before after c.in_ok-add_edges.ensures.kept)
+          (each-at lock (string_bytes key.now) p (AreMeantLinked lock after) at
+          (meant-linked lock p found after c.in_ok-found.ensures.workspaces taken)) c.loop-folder.invariant.workspaces);
       kept = extends-on c.args.faults.now.items first last c.loop-folder.invariant.kept c.in_ok-found.ensures.kept;
       told = subst (λ keys. AreEach lock keys (HasAllFaults last)) (sym (map-append deref c.loop-folder.yielded (key ∷ [])))
           (each-more lock (map deref c.loop-folder.yielded) key.now (HasAllFaults first) (HasAllFaults last)
           (all-kept first last c.in_ok-found.ensures.kept)
           (each-at lock (string_bytes key.now) p (HasAllFaults last) at c.in_ok-found.ensures.told)
           c.loop-folder.invariant.told);
+      texts = subst (λ keys. AreEach lock keys (AreTextsTold last)) (sym (map-append deref c.loop-folder.yielded (key ∷ [])))
+          (each-more lock (map deref c.loop-folder.yielded) key.now (AreTextsTold first) (AreTextsTold last)
+          (texts-kept first last c.in_ok-found.ensures.kept)
+          (each-at lock (string_bytes key.now) p (AreTextsTold last) at c.in_ok-found.ensures.texts)
+          c.loop-folder.invariant.texts);
       wrong = λ all. c.in_ok-found.ensures.wrong is (c.loop-folder.invariant.wrong all);
     }
 
@@ -52,15 +65,23 @@ loop-folder-preserved c =
     let key = c.in-Some.folder in
     let now : List ℕ → Data → Type 0 = λ folder fields. AreAllLocked lock folder fields c.loop-folder.edges.items in
     let told : List ℕ → Data → Type 0 = HasAllFaults c.loop-folder.faults.items in
+    let linked : List ℕ → Data → Type 0 = AreMeantLinked lock c.loop-folder.edges.items in
+    let texts : List ℕ → Data → Type 0 = AreTextsTold c.loop-folder.faults.items in
     let at = subst (λ place. IsAt lock place None) c.deref.ensures c.in_default.ensures in record {
       each = c.loop-folder.invariant.each;
       all = subst (λ keys. AreEach lock keys now) (sym (map-append deref c.loop-folder.yielded (key ∷ [])))
           (each-more lock (map deref c.loop-folder.yielded) key.now now now (λ folder fields is. is)
           (each-none lock (string_bytes key.now) now at) c.loop-folder.invariant.all);
+      workspaces = subst (λ keys. AreEach lock keys linked) (sym (map-append deref c.loop-folder.yielded (key ∷ [])))
+          (each-more lock (map deref c.loop-folder.yielded) key.now linked linked (λ folder fields is. is)
+          (each-none lock (string_bytes key.now) linked at) c.loop-folder.invariant.workspaces);
       kept = c.loop-folder.invariant.kept;
       told = subst (λ keys. AreEach lock keys told) (sym (map-append deref c.loop-folder.yielded (key ∷ [])))
           (each-more lock (map deref c.loop-folder.yielded) key.now told told (λ folder fields is. is)
           (each-none lock (string_bytes key.now) told at) c.loop-folder.invariant.told);
+      texts = subst (λ keys. AreEach lock keys texts) (sym (map-append deref c.loop-folder.yielded (key ∷ [])))
+          (each-more lock (map deref c.loop-folder.yielded) key.now texts texts (λ folder fields is. is)
+          (each-none lock (string_bytes key.now) texts at) c.loop-folder.invariant.texts);
       wrong = c.loop-folder.invariant.wrong;
     }
 
@@ -82,3 +103,22 @@ returns-clause-told c =
     (c.into_iter-folder-iterator.ensures.into_iter_gives ∙ c.keys-folder-items.ensures.rest) c.loop-folder.yielded_by
     c.in-None.is c.next.ensures.steps in
     each-all lock (map deref c.loop-folder.yielded) (HasAllFaults c.loop-folder.faults.items) ends.0 c.loop-folder.invariant.told
+
+pub returns-clause-texts : goal.returns-clause-texts
+returns-clause-texts c =
+    let lock = c.args.lock in
+    let ends = iter_end deref (keys_of lock.packages.now.entries) c.loop-folder.yielded
+    c.into_iter-folder-iterator.result c.loop-folder.folder-iterator c.next.new.self c.next.result
+    (c.into_iter-folder-iterator.ensures.into_iter_gives ∙ c.keys-folder-items.ensures.rest) c.loop-folder.yielded_by
+    c.in-None.is c.next.ensures.steps in
+    each-all lock (map deref c.loop-folder.yielded) (AreTextsTold c.loop-folder.faults.items) ends.0 c.loop-folder.invariant.texts
+
+pub returns-clause-workspaces : goal.returns-clause-workspaces
+returns-clause-workspaces c =
+    let lock = c.args.lock in
+    let ends = iter_end deref (keys_of lock.packages.now.entries) c.loop-folder.yielded
+    c.into_iter-folder-iterator.result c.loop-folder.folder-iterator c.next.new.self c.next.result
+    (c.into_iter-folder-iterator.ensures.into_iter_gives ∙ c.keys-folder-items.ensures.rest) c.loop-folder.yielded_by
+    c.in-None.is c.next.ensures.steps in
+    each-all lock (map deref c.loop-folder.yielded) (AreMeantLinked lock c.loop-folder.edges.items) ends.0
+    c.loop-folder.invariant.workspaces

@@ -2,15 +2,18 @@ use Rattle.std.proofs.Common.{All, map}
 use Rattle.std.specs.Map.Iter.{deref}
 use Rattle.lock_check.proofs.Completing.{AreEach}
 use Rattle.lock_check.specs.Internal.Collected.{AreAllLocked, Extends}
+use Rattle.lock_check.specs.Internal.Patterns.{AreMeantLinked}
 use Rattle.lock_check.specs.Judged.{IsEdge}
-use Rattle.lock_check.specs.Malformed.{HasAllFaults, IsFault}
+use Rattle.lock_check.specs.Malformed.{AreTextsTold, HasAllFaults, IsFault}
 use Rattle.lock_check.proofs.check.edges.Given as goal
 
 abbrev pub invariant-loop-folder : goal.invariant-loop-folder
 invariant-loop-folder l = record {
   each : All (IsEdge l.lock) l.edges.items;
   all : AreEach l.lock (map deref l.yielded) (λ folder fields. AreAllLocked l.lock folder fields l.edges.items);
+  workspaces : AreEach l.lock (map deref l.yielded) (AreMeantLinked l.lock l.edges.items);
   kept : Extends l.fn.faults.items l.faults.items;
   told : AreEach l.lock (map deref l.yielded) (HasAllFaults l.faults.items);
+  texts : AreEach l.lock (map deref l.yielded) (AreTextsTold l.faults.items);
   wrong : All (IsFault l.lock) l.fn.faults.items → All (IsFault l.lock) l.faults.items;
 }

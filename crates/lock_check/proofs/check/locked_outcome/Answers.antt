@@ -16,11 +16,12 @@ pub returns-then-not-is_name : goal.returns-then-not-is_name
 returns-then-not-is_name c = unnamed (iff_false c.is_name.ensures c.if-not-is_name.true)
 
 pub returns-then-is_link_of_root : goal.returns-then-is_link_of_root
-returns-then-is_link_of_root c = link (c.is_link_of_root.ensures c.if-is_link_of_root.true)
+returns-then-is_link_of_root c = link (c.is_link_of_root.ensures.0 c.if-is_link_of_root.true)
 
 pub returns : goal.returns
 returns c = IfOk-weaker c.outcome_of_either.result _ _ (λ found h.
     judged c.in-Some.package found
     (subst (λ found. IsBehind c.args.lock c.args.locked found) c.in-Some.is c.in_ok-package.ensures)
-    (iff_false c.is_own_peer.ensures c.if-is_own_peer.false) (c.is_name.ensures.0 c.if-not-is_name.false) h)
+    (iff_false c.is_own_peer.ensures c.if-is_own_peer.false) (c.is_name.ensures.0 c.if-not-is_name.false)
+    (iff_false c.is_link_of_root.ensures c.if-is_link_of_root.false) h)
     c.outcome_of_either.ensures

@@ -1,10 +1,10 @@
-use Rattle.std.proofs.Common.{map, ◌≡◌, ◌∷◌, ◌∙◌, [], None, Some, length, refl, string_bytes, subst, sym}
+use Rattle.std.proofs.Common.{map, ◌≡◌, ◌∷◌, ◌∙◌, [], Contains, None, Some, length, refl, string_bytes, subst, sym}
 use Rattle.std.proofs.lemmas.List.{map-append}
 use Rattle.std.proofs.lemmas.Map.Iter.{iter_end, iter_turn}
 use Rattle.std.specs.Map.{keys_of}
 use Rattle.std.specs.Map.Iter.{deref}
 use Rattle.serde_json.specs.View.{view}
-use Rattle.lock_check.proofs.Collecting.{AreUptoName, HasKey, field_at, not_written, upto-added, upto-all, upto-done, upto-more, upto-none}
+use Rattle.lock_check.proofs.Collecting.{added-kept, AreUptoName, HasKey, field_at, not_written, upto-added, upto-all, upto-done, upto-more, upto-none}
 use Rattle.lock_check.proofs.Collecting.{upto-start, upto-workspaces, written-key}
 use Rattle.lock_check.proofs.Completing.{extends-more}
 use Rattle.lock_check.proofs.Telling.{AreToldName, as-before, fault-added, has-text, none-in, one-more, told-all, told-done, told-key, told-more}
@@ -24,6 +24,7 @@ loop-field-preserved-in-Ok-None c = record {
       (λ name. not_written c.args.package.folder.now (view c.args.package.fields.now)
       (field_at c.loop-field.field-index) name (rw c.in-Ok-None.field-0-is at c.in-Ok-None.ensures.none))
       (c.loop-field.invariant.all are);
+  more = c.loop-field.invariant.more;
   kept = c.loop-field.invariant.kept;
   told = told-more c.args.package c.loop-field.field-index c.loop-field.faults.items c.loop-field.faults.items c.loop-field-test.true
       (as-before c.loop-field.faults.items)
@@ -41,6 +42,7 @@ loop-field-preserved-in-Err c = record {
       (λ name. not_written c.args.package.folder.now (view c.args.package.fields.now)
       (field_at c.loop-field.field-index) name (λ _. c.in-Err.ensures.fault))
       (c.loop-field.invariant.all are);
+  more = c.loop-field.invariant.more;
   kept = extends-more c.args.faults.now.items c.loop-field.faults.items c.push.new.self.items c.in-Err.fault c.loop-field.invariant.kept
       c.in_ok-push-in-Err.ensures.items;
   told =
@@ -63,6 +65,7 @@ loop-name-init c = record {
   each = c.loop-field.invariant.each;
   all = λ are. upto-start c.args.package c.loop-field.found c.loop-field.field-index c.loop-field-test.true
       (c.loop-field.invariant.all are);
+  more = c.loop-field.invariant.more;
   kept = c.loop-field.invariant.kept;
   told = told-start c.args.package c.loop-field.field-index c.loop-field.faults.items c.loop-field-test.true c.loop-field.invariant.told;
   wrong = c.loop-field.invariant.wrong;
@@ -78,6 +81,7 @@ loop-name-preserved-in_default c = record {
       let none = subst (λ n. None ≡ written_in f n (view p.fields.now)) c.as_str-name.ensures.value c.in_default.ensures in
       subst (λ keys. AreUptoName p f keys c.loop-name.found) (sym (map-append deref c.loop-name.yielded (key ∷ [])))
       (upto-more p c.loop-name.found f (map deref c.loop-name.yielded) key.now none (c.loop-name.invariant.all are));
+  more = c.loop-name.invariant.more;
   kept = extends-more c.args.faults.now.items c.loop-name.faults.items c.push-in_default.new.self.items
       (Range c.args.package.folder c.as_str-name.result) c.loop-name.invariant.kept c.in_ok-push.ensures.items;
   told =
@@ -121,6 +125,11 @@ loop-name-preserved c = record {
       subst (λ keys. AreUptoName p f keys c.add.new.self) (sym (map-append deref c.loop-name.yielded (key ∷ [])))
       (upto-added p c.loop-name.found f (map deref c.loop-name.yielded) key.now d c.add.new.self refl refl
       c.as_str-name.ensures.value (c.in_ok-add.ensures.named upto.named) (c.in_ok-add.ensures.added upto.named) upto);
+  more = λ are x at.
+      let upto = c.loop-name.invariant.all are in
+      let d : Dependency = record { «package» = c.args.package; field = field_at c.loop-field.field-index; name = c.as_str-name.result; wanted = Text c.in-Some-written.range } in
+      subst (λ ds. Contains ds x) (sym (c.in_ok-add.ensures.added upto.named))
+      (added-kept c.loop-name.found.first.items d x (c.loop-name.invariant.more are x at));
   kept = c.loop-name.invariant.kept;
   told =
       let p = c.args.package in
@@ -149,6 +158,7 @@ loop-field-preserved c = record {
       upto-done p c.loop-name.found c.loop-field.field-index (map deref c.loop-name.yielded) c.loop-field-test.true
       (λ name w. subst (λ ks. HasKey ks name) (sym ends.0)
       (written-key p.folder.now (view p.fields.now) f name es is w)) (c.loop-name.invariant.all are);
+  more = c.loop-name.invariant.more;
   kept = c.loop-name.invariant.kept;
   told =
       let p = c.args.package in
@@ -166,6 +176,7 @@ pub loop-field-init : goal.loop-field-init
 loop-field-init c = record {
   each = λ lock is all. all;
   all = upto-workspaces c.args.package c.args.found.now;
+  more = λ are d at. at;
   kept = as-before c.args.faults.now.items;
   told = told-none c.args.package c.args.faults.now.items;
   wrong = λ lock is all. all;

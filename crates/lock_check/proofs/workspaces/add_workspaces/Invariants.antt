@@ -1,8 +1,10 @@
-use Rattle.std.proofs.Common.{All}
+use Rattle.std.proofs.Common.{All, map}
+use Rattle.std.specs.Map.Iter.{deref}
 use Rattle.lock_check.specs.Internal.Collected.{AreWorkspaces, Extends}
 use Rattle.lock_check.specs.Lookups.{IsPackage}
 use Rattle.lock_check.specs.Malformed.{IsFault}
 use Rattle.lock_check.specs.Overrides.{IsDependency}
+use Rattle.lock_check.proofs.Items.{AreItemsFound, AreItemsTold, AreKeysFound}
 use Rattle.lock_check.proofs.workspaces.add_workspaces.Given as goal
 
 abbrev pub invariant-loop-item : goal.invariant-loop-item
@@ -10,8 +12,11 @@ invariant-loop-item l = record {
   each : IsPackage l.lock l.root → All (IsDependency l.lock) l.fn.found.first.items
       → All (IsDependency l.lock) l.found.first.items;
   alone : AreWorkspaces l.root l.fn.found → AreWorkspaces l.root l.found;
+  all : AreWorkspaces l.root l.fn.found
+      → AreItemsFound l.lock l.root l.item-items l.item-index l.found.first.items;
   kept : Extends l.fn.faults.items l.faults.items;
-  wrong : All (IsFault l.lock) l.fn.faults.items → All (IsFault l.lock) l.faults.items;
+  told : AreItemsTold l.item-items l.item-index l.faults.items;
+  wrong : IsPackage l.lock l.root → All (IsFault l.lock) l.fn.faults.items → All (IsFault l.lock) l.faults.items;
 }
 
 abbrev pub invariant-loop-folder : goal.invariant-loop-folder
@@ -19,6 +24,10 @@ invariant-loop-folder l = record {
   each : IsPackage l.lock l.root → All (IsDependency l.lock) l.fn.found.first.items
       → All (IsDependency l.lock) l.found.first.items;
   alone : AreWorkspaces l.root l.fn.found → AreWorkspaces l.root l.found;
+  all : AreWorkspaces l.root l.fn.found
+      → AreItemsFound l.lock l.root l.item-items l.item-index l.found.first.items;
+  here : AreWorkspaces l.root l.fn.found
+      → AreKeysFound l.lock l.root l.pattern (map deref l.yielded) l.found.first.items;
   kept : Extends l.fn.faults.items l.faults.items;
-  wrong : All (IsFault l.lock) l.fn.faults.items → All (IsFault l.lock) l.faults.items;
+  wrong : IsPackage l.lock l.root → All (IsFault l.lock) l.fn.faults.items → All (IsFault l.lock) l.faults.items;
 }

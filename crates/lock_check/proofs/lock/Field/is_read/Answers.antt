@@ -2,7 +2,7 @@ use Rattle.std.proofs.Common.{subst, sym}
 use Rattle.std.specs.Prelude.{IsTrue, not}
 use Rattle.lock_check.proofs.Telling.{not-iff}
 use Rattle.lock_check.specs.Complete.{IsRead}
-use Rattle.lock_check.specs.Judged.{IsInstalled}
+use Rattle.lock_check.specs.Lookups.{IsInstalled}
 use Rattle.lock_check.proofs.lock.Field.is_read.Goals as goal
 
 pub returns-in-Development : goal.returns-in-Development
