@@ -4,7 +4,8 @@ use Rattle.std.proofs.Common.{Equal, Greater, Less, Ordering, ap, arith, cond, f
 use Rattle.std.proofs.Common.{Global, String, is_eq, nat_cmp, refl, string_bytes, subst, suc, sym, true, zero}
 use Rattle.std.proofs.lemmas.List.Elements.{All-push, All-weaker, Contains-append_left, Contains-append_right}
 use Rattle.std.proofs.lemmas.List.Elements.{Contains-push, Contains-push_cases}
-use Rattle.std.proofs.lemmas.List.Folds.{Any-from_list_any, list_any-append}
+use Rattle.std.proofs.lemmas.List.Folds.{Any-from_list_any, list_any-append, list_any_at}
+use Rattle.std.proofs.lemmas.List.Quantifiers.{all_pairs_push}
 use Rattle.std.proofs.lemmas.Map.Text.{is_eq-slice_cmp}
 use Rattle.std.proofs.lemmas.Slice.Eq.{bytes_eq-Decides}
 use Rattle.std.specs.BTreeSet.{Updates, contains}
@@ -17,9 +18,9 @@ use Rattle.serde_json.specs.Data.{Data, array, boolean, null, number, object, st
 use Rattle.serde_json.specs.Find.{as_object, as_str, get, get_member}
 use Rattle.serde_json.specs.View.{members_view, view}
 use Rattle.serde_json.specs.declared.value.Value.{Value}
-use Rattle.lock_check.specs.Internal.Collected.{AreAllFound, AreNamed, AreWorkspaces, HasDependency, has_name, members_in}
+use Rattle.lock_check.specs.Internal.Collected.{AreAllFound, AreApart, AreNamed, AreOwn, AreWorkspaces, HasDependency, has_name, members_in}
 use Rattle.lock_check.specs.Internal.Collected.{with_first}
-use Rattle.lock_check.specs.Complete.{IsRead, Writes, rank}
+use Rattle.lock_check.specs.Complete.{AreOfOne, IsRead, Writes, rank}
 use Rattle.lock_check.specs.Lookups.{field_name, written_in}
 use Rattle.lock_check.specs.declared.lock.Dependencies.{Dependencies}
 use Rattle.lock_check.specs.declared.lock.Dependency.{Dependency}
@@ -70,6 +71,18 @@ added-all P found d all here = by_test (has_name found d.name.now)
     by_test : (b : Bool) → All P (if b then found else found ++ d ∷ [])
     by_test true = all
     by_test false = All-push P found d all here
+
+-- one of another name than all that were there
+pub added-apart : (found : List Dependency) (d : Dependency) → AreApart found → AreApart (with_first found d)
+added-apart found d apart = by_test (has_name found d.name.now) refl
+  where
+    by_test : (b : Bool) → has_name found d.name.now ≡ b → AreApart (if b then found else found ++ d ∷ [])
+    by_test true e = apart
+    by_test false e = all_pairs_push (λ x y. ¬ AreOfOne x y) found d apart (λ k x within same.
+        let there : bytes_eq (get_or found k x).name.now d.name.now ≡ true =
+        (bytes_eq-Decides (get_or found k x).name.now d.name.now).1 same.1 in
+        let has : has_name found d.name.now ≡ true =
+        list_any_at (λ y. bytes_eq y.name.now d.name.now) found k x within there in absurd (cc))
 
 -- of the package in this folder, by a field with a rank up to this one
 abbrev pub IsUpto : List ℕ → ℕ → Dependency → Type 0
@@ -161,6 +174,7 @@ key-of name (e ∷ es) some = by_order (key-of name es) (slice_cmp nat_cmp name 
 pub record AreUpto (p : Package) (most : ℕ) (found : Dependencies) : Type 0 where
   pub named : AreNamed found
   pub each : All (IsUpto p.folder.now most) found.first.items
+  pub apart : AreApart found.first.items
   pub all : (f : Field) (name : List ℕ) → rank f ≤ most → Writes p.folder.now (view p.fields.now) f name
       → HasDependency found.first.items p.folder.now f name
 
@@ -168,6 +182,7 @@ pub record AreUpto (p : Package) (most : ℕ) (found : Dependencies) : Type 0 wh
 pub record AreUptoName (p : Package) (f : Field) (keys : List (String Global)) (found : Dependencies) : Type 0 where
   pub named : AreNamed found
   pub each : All (IsUpto p.folder.now (rank f)) found.first.items
+  pub apart : AreApart found.first.items
   pub before : (g : Field) (name : List ℕ) → rank g < rank f → Writes p.folder.now (view p.fields.now) g name
       → HasDependency found.first.items p.folder.now g name
   pub so_far : (name : List ℕ) → HasKey keys name → Writes p.folder.now (view p.fields.now) f name
@@ -237,6 +252,7 @@ module _ (p : Package) (found : Dependencies) where
     named = u.named;
     each = All-weaker (IsUpto p.folder.now i) (IsUpto p.folder.now (rank (field_at i)))
         (λ d is. (is.0, omega arith)) found.first.items u.each;
+    apart = u.apart;
     before = λ g name lower w. u.all g name (omega arith) w;
     so_far = λ name key w. absurd (omega (arith, key.1.1));
   }
@@ -248,6 +264,7 @@ module _ (p : Package) (found : Dependencies) where
     named = u.named;
     each = All-weaker (IsUpto p.folder.now i) (IsUpto p.folder.now (i + 1)) (λ d is. (is.0, omega arith))
         found.first.items u.each;
+    apart = u.apart;
     all = λ g name upto w. elim (last_or_before (rank g) i upto) [
       | inl lower ↦ u.all g name lower w
       | inr last ↦
@@ -263,6 +280,7 @@ module _ (p : Package) (found : Dependencies) where
     named = u.named;
     each = All-weaker (IsUpto p.folder.now (rank (field_at i))) (IsUpto p.folder.now (i + 1))
         (λ d is. (is.0, omega arith)) found.first.items u.each;
+    apart = u.apart;
     all = λ g name upto w. elim (last_or_before (rank g) i upto) [
       | inl lower ↦ u.before g name (omega arith) w
       | inr last ↦
@@ -284,6 +302,7 @@ module _ (p : Package) (found : Dependencies) where
     upto-more none u = record {
       named = u.named;
       each = u.each;
+      apart = u.apart;
       before = u.before;
       so_far = λ name key w. elim (last_key name key) [
         | inl earlier ↦ u.so_far name earlier w
@@ -304,6 +323,7 @@ module _ (p : Package) (found : Dependencies) where
           each = subst (All (IsUpto p.folder.now (rank f))) (sym added)
               (added-all (IsUpto p.folder.now (rank f)) found.first.items d u.each
               (in_folder, subst (λ g. rank g ≤ rank f) (sym in_field) (omega arith)));
+          apart = subst AreApart (sym added) (added-apart found.first.items d u.apart);
           before = λ g name lower w. kept g name (u.before g name lower w);
           so_far = λ name key w. elim (last_key name key) [
             | inl earlier ↦ kept f name (u.so_far name earlier w)
@@ -321,6 +341,7 @@ module _ (p : Package) (found : Dependencies) where
     each = All-weaker (λ d. (d.package.folder.now ≡ p.folder.now) × (d.field ≡ field.Workspaces))
         (IsUpto p.folder.now 0) (λ d is. (is.0, subst (λ g. rank g ≤ 0) (sym is.1) (omega arith)))
         found.first.items are.each;
+    apart = are.apart;
     all = λ g name upto w. absurd (no_lower g upto w.is_read);
   }
     where
@@ -343,6 +364,12 @@ module _ (p : Package) (found : Dependencies) where
       most field.Peer = omega arith
       most field.Requires = omega arith
 
+  pub upto-own : (i : ℕ) → AreUpto p i found → AreOwn p.folder.now found.first.items
+  upto-own i u = record {
+    each = All-weaker (IsUpto p.folder.now i) (λ d. d.package.folder.now ≡ p.folder.now) (λ d is. is.0) found.first.items u.each;
+    apart = u.apart;
+  }
+
 -- one more workspace
 pub workspaces-more : (p : Package) (found new : Dependencies) (d : Dependency)
     → d.package.folder.now ≡ p.folder.now → d.field ≡ field.Workspaces → AreNamed new
@@ -351,4 +378,5 @@ workspaces-more p found new d in_folder in_field named added are =
     let P = λ (d : Dependency). (d.package.folder.now ≡ p.folder.now) × (d.field ≡ field.Workspaces) in record {
       named = named;
       each = subst (All P) (sym added) (added-all P found.first.items d are.each (in_folder, in_field));
+      apart = subst AreApart (sym added) (added-apart found.first.items d are.apart);
     }

@@ -3,7 +3,7 @@ use Rattle.std.specs.Prelude.{◌≡◌, ◌<◌, ◌++◌, ℕ, Bool, true, fal
 use Rattle.std.specs.BTreeMap.{btree_map_len}
 use Rattle.std.specs.Prelude.{if◌then◌else◌, string_bytes}
 use Rattle.std.specs.List.{flat_map}
-use Rattle.lock_check.specs.Complete.{AreAllJudged, AreWorkspacesJudged}
+use Rattle.lock_check.specs.Complete.{AreAllJudged, AreSingle, AreWorkspacesJudged}
 use Rattle.lock_check.specs.Findings.{AreSkips, count_of, is_told, kind_of}
 use Rattle.lock_check.specs.Judged.{IsFinding}
 use Rattle.lock_check.specs.Malformed.{AreAllTold}
@@ -43,7 +43,7 @@ abbrev pub is_json : Format → Bool
 is_json format.Json = true
 is_json _ = false
 
--- each dependency is judged, and what is malformed is told; each finding that is told of has a row, in
+-- each dependency is judged once, and what is malformed is told; each finding that is told of has a row, in
 -- order, behind those of malformed fields; the rows are printed, and the counts unless it is quiet
 pub record IsReport (lock : Lock) (file : List ℕ) (f : Format) (is_quiet : Bool) (r : Report) : Type 0 where
   pub findings : List Finding
@@ -52,6 +52,7 @@ pub record IsReport (lock : Lock) (file : List ℕ) (f : Format) (is_quiet : Boo
   pub counts : Counts
   pub each : All (IsFinding lock) findings
   pub all : AreAllJudged lock findings
+  pub single : AreSingle findings
   pub workspaces : AreWorkspacesJudged lock findings
   pub malformed : AreAllTold lock faults
   pub told : map told_row rows ≡ map told_fault faults

@@ -1,5 +1,6 @@
--- Statement: each dependency that a package of a lock file writes has a finding, and so has each workspace.
-use Rattle.std.specs.Prelude.{⊤, ◌≡◌, ◌⊎◌, ◌≤◌, ◌&&◌, ◌||◌, ℕ, Bool, true, not, List, [], Some, Contains}
+-- Statement: each dependency that a package of a lock file writes has one finding, and each workspace too.
+use Rattle.std.specs.Prelude.{⊤, ◌≡◌, ◌⊎◌, ◌≤◌, ◌&&◌, ◌||◌, ℕ, Bool, true, not, List, [], Some}
+use Rattle.std.specs.Prelude.{AllPairs, Contains}
 use Rattle.std.specs.Prelude.{IsSome, codes}
 use Rattle.serde_json.specs.Data.{Data}
 use Rattle.serde_json.specs.Find.{get}
@@ -65,6 +66,14 @@ abbrev pub AreAllJudged : Lock → List Finding → Type 0
 AreAllJudged lock found = (folder : List ℕ) (fields : Data) (f : Field) (name : List ℕ)
     → get folder (packages_of lock) ≡ Some fields → Writes folder fields f name
     → HasFinding found folder f name ⊎ IsLeftOut lock folder fields f name
+
+-- both are about one name of one package
+abbrev pub AreOfOne : Dependency → Dependency → Type 0
+AreOfOne d e = (d.package.folder.now ≡ e.package.folder.now) × (d.name.now ≡ e.name.now)
+
+-- no name of a package has two findings
+abbrev pub AreSingle : List Finding → Type 0
+AreSingle found = AllPairs (λ f g. ¬ AreOfOne f.dependency g.dependency) found
 
 -- each workspace of the root project has one about its name
 abbrev pub AreWorkspacesJudged : Lock → List Finding → Type 0

@@ -1,5 +1,6 @@
 pub mod Answers
 pub mod Complete
+pub mod Documents
 pub mod Fields
 pub mod Findings
 pub mod Index

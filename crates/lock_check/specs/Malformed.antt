@@ -69,10 +69,11 @@ IsFault lock (fault.Range place own) = (f : Field) × IsRead f place.now
     × OfFields lock place.now (λ fields. IsNoText fields f own.now)
 IsFault lock fault.Workspaces = OfFields lock [] HasOtherTexts
 IsFault lock fault.NoRoot = IsAt lock [] None
-IsFault lock _ = ⊤
+IsFault lock (fault.Override name) = ⊤
 
 -- what is malformed is told, of each package of the lock file: also that there is no root project, that its
--- `overrides` are no object, or that its `workspaces` are no list of texts. Nothing else is told
+-- `overrides` are no object, or that its `workspaces` are no list of texts. But for what stands inside
+-- `overrides`, nothing else is told
 pub record AreAllTold (lock : Lock) (faults : List Fault) : Type 0 where
   pub root : IsAt lock [] None → HasFault faults (λ f. f ≡ fault.NoRoot)
   pub rules : OfFields lock [] HasOtherRules → HasFault faults (IsFieldFault [] (codes "overrides"))

@@ -1,10 +1,11 @@
 // Compares each dependency of a lock file with the version that is locked for it.
 
-ghost use Rattle.lock_check.specs.Internal.Collected.{AreAllFound, AreAllLinked, Extends, IsAmong};
-ghost use Rattle.lock_check.specs.Internal.Collected.{IsForDevelopment, IsTaken};
+ghost use Rattle.lock_check.specs.Internal.Collected.{AreAllFound, AreAllLinked, AreApartEdges};
+ghost use Rattle.lock_check.specs.Internal.Collected.{AreOwn, Extends, IsAmong, IsForDevelopment};
+ghost use Rattle.lock_check.specs.Internal.Collected.{IsOneOf, IsTaken};
 ghost use Rattle.lock_check.specs.Internal.Overriding.{AreItsRules};
 ghost use Rattle.lock_check.specs.Internal.Patterns.{AreMeantFound, AreMeantLinked};
-ghost use Rattle.lock_check.specs.Complete.{AreAllJudged, AreWorkspacesJudged};
+ghost use Rattle.lock_check.specs.Complete.{AreAllJudged, AreSingle, AreWorkspacesJudged};
 ghost use Rattle.lock_check.specs.Complete.{is_locked_for_development};
 ghost use Rattle.lock_check.specs.Judged.{IsEdge, IsFinding, IsLinkOfRoot, IsLockedOutcome};
 ghost use Rattle.lock_check.specs.Judged.{IsOutcome, IsOwnPeer, as_wanted};
@@ -19,7 +20,7 @@ ghost use Rattle.lock_check.specs.Outcomes.{is_link, locked_in, version_text};
 ghost use Rattle.serde_json.specs.Data.{Data};
 ghost use Rattle.serde_json.specs.Find.{get};
 ghost use Rattle.serde_json.specs.View.{view};
-ghost use Rattle.std.specs.Prelude.{◌≡◌, ◌↔◌, [], All, IfOk, IsNone, IsTrue, OnOk, Some};
+ghost use Rattle.std.specs.Prelude.{◌≡◌, ◌≢◌, ◌↔◌, [], All, IfOk, IsNone, IsTrue, OnOk, Some};
 ghost use Rattle.std.specs.Prelude.{List, option_map, ℕ};
 
 use crate::fault::Fault;
@@ -75,6 +76,7 @@ fn is_any_told(findings: &[Finding<'_>]) -> bool {
 pub fn check<'a>(alloc: Global, lock: Lock<'a>) -> Result<Findings<'a>, AllocError>
     ensures each { IfOk result (λ found. All (IsFinding lock.entry) found.of_dependencies.items) }
     ensures all { IfOk result (λ found. AreAllJudged lock.entry found.of_dependencies.items) }
+    ensures single { IfOk result (λ found. AreSingle found.of_dependencies.items) }
     ensures workspaces { IfOk result (λ found. AreWorkspacesJudged lock.entry
         found.of_dependencies.items) }
     ensures malformed { IfOk result (λ found. AreAllTold lock.entry found.faults.items) }
@@ -111,6 +113,7 @@ fn findings_of<'a>(
         → AreItsRules scopes.now.overrides.root scopes.now.overrides.rules.items
         → IfOk result (λ found. All (IsFinding lock.entry) found.items) }
     ensures all { IfOk result (λ found. All (IsAmong found.items) edges.now) }
+    ensures single { AreApartEdges edges.now → IfOk result (λ found. AreSingle found.items) }
 {
     let mut findings = Vec::new(alloc);
     for (number, edge) in edges.iter().enumerate() {
@@ -128,6 +131,7 @@ fn edges<'a>(
 ) -> Result<Vec<Edge<'a>>, AllocError>
     ensures each { IfOk result (λ edges. All (IsEdge lock.entry) edges.items) }
     ensures all { IfOk result (λ edges. AreAllLinked lock.entry edges.items) }
+    ensures apart { IfOk result (λ edges. AreApartEdges edges.items) }
     ensures workspaces { IfOk result (λ edges. (folder : List ℕ) (fields : Data)
         → get folder (packages_of lock.entry) ≡ Some fields
         → AreMeantLinked lock.entry edges.items folder fields) }
@@ -161,6 +165,7 @@ fn dependencies<'a>(
     ensures each { IsPackage lock.entry «package».entry
         → IfOk result (λ found. All (IsDependency lock.entry) found.first.items) }
     ensures all { IfOk result (λ found. AreAllFound «package».entry found.first.items) }
+    ensures own { IfOk result (λ found. AreOwn «package».entry.folder.now found.first.items) }
     ensures workspaces { IfOk result (λ found. AreMeantFound lock.entry «package».entry
         found.first.items) }
     ensures kept { OnOk result (Extends faults.old.items faults.new.items) }
@@ -187,6 +192,10 @@ fn add_edges<'a>(
         → All (IsEdge lock.entry) edges.old.items → All (IsEdge lock.entry) edges.new.items) }
     ensures kept { OnOk result (Extends edges.old.items edges.new.items) }
     ensures all { OnOk result (All (IsTaken lock.entry edges.new.items) dependencies.now) }
+    ensures from { OnOk result (All (IsOneOf edges.old.items dependencies.now) edges.new.items) }
+    ensures apart { OnOk result ((folder : List ℕ) → AreOwn folder dependencies.now
+        → All (λ e. e.dependency.package.folder.now ≢ folder) edges.old.items
+        → AreApartEdges edges.old.items → AreApartEdges edges.new.items) }
 {
     for &dependency in dependencies {
         let locked = lock.nearest(alloc, dependency.package.folder, dependency.name)?;

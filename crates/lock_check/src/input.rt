@@ -1,5 +1,10 @@
 // Which files are read, and what a file looks like that is no lock file of npm.
 
+ghost use Rattle.lock_check.specs.Documents.{IsInput, IsJson, IsLockFile, IsRead};
+ghost use Rattle.serde_json.specs.Find.{as_object};
+ghost use Rattle.serde_json.specs.View.{view};
+ghost use Rattle.std.specs.Prelude.{◌≡◌, ◌↔◌, IfOk, IfSome, IsNone, IsSome, IsTrue, string_bytes};
+
 use crate::reading::unmarked;
 use crate::shown::Shown;
 use anyhow::{Context, Result, bail};
@@ -36,7 +41,9 @@ pub struct Input {
 
 /// Reads what a path means: the files of a folder, or a lock file and the `package.json` beside it.
 /// For `-` the lock file is standard input, and so it is for the path of a `package.json`.
-pub fn read(rt: &HostRuntime, path: &str) -> Result<Input> {
+pub fn read(rt: &HostRuntime, path: &str) -> Result<Input>
+    ensures { IfOk result IsInput }
+{
     if path == "-" {
         let lock = standard_input(rt)?;
         return Ok(Input {
@@ -65,7 +72,9 @@ fn is_folder(rt: &HostRuntime, path: &str) -> bool {
 }
 
 // The files of a folder.
-fn in_folder(rt: &HostRuntime, folder: &str) -> Result<Input> {
+fn in_folder(rt: &HostRuntime, folder: &str) -> Result<Input>
+    ensures { IfOk result IsInput }
+{
     for name in LOCKS {
         if let Some(lock) = lock_in(rt, folder, name)? {
             let manifest = manifest_in(rt, folder)?;
@@ -85,7 +94,9 @@ fn in_folder(rt: &HostRuntime, folder: &str) -> Result<Input> {
 }
 
 // A package.json, or a lock file and the package.json beside it.
-fn at(rt: &HostRuntime, path: &str) -> Result<Input> {
+fn at(rt: &HostRuntime, path: &str) -> Result<Input>
+    ensures { IfOk result IsInput }
+{
     let text = fs::read_to_string(rt, path);
     let text = text.context(format_args!("{} cannot be read", Shown(path)))?;
     let alloc = rt.alloc();
@@ -102,7 +113,9 @@ fn at(rt: &HostRuntime, path: &str) -> Result<Input> {
     Ok(Input { lock, manifest })
 }
 
-fn with_manifest(rt: &HostRuntime, manifest: Value) -> Result<Input> {
+fn with_manifest(rt: &HostRuntime, manifest: Value) -> Result<Input>
+    ensures { IsSome (as_object (view manifest)) → IfOk result IsInput }
+{
     let lock = standard_input(rt)?;
     Ok(Input {
         lock,
@@ -110,7 +123,9 @@ fn with_manifest(rt: &HostRuntime, manifest: Value) -> Result<Input> {
     })
 }
 
-fn standard_input(rt: &HostRuntime) -> Result<LockFile> {
+fn standard_input(rt: &HostRuntime) -> Result<LockFile>
+    ensures { IfOk result IsRead }
+{
     let alloc = rt.alloc();
     let text = io::read_to_string(alloc, rt.stdin())?;
     let file = json(alloc, INPUT, &text)?;
@@ -118,7 +133,9 @@ fn standard_input(rt: &HostRuntime) -> Result<LockFile> {
 }
 
 // The lock file of this name in a folder, if it is there.
-fn lock_in(rt: &HostRuntime, folder: &str, name: &str) -> Result<Option<LockFile>> {
+fn lock_in(rt: &HostRuntime, folder: &str, name: &str) -> Result<Option<LockFile>>
+    ensures { IfOk result (λ file. IfSome file IsRead) }
+{
     let alloc = rt.alloc();
     let path = inside(rt, folder, name)?;
     let Some(text) = text_if_there(rt, &path)? else {
@@ -129,7 +146,9 @@ fn lock_in(rt: &HostRuntime, folder: &str, name: &str) -> Result<Option<LockFile
 }
 
 // The package.json of a folder, if it is there.
-fn manifest_in(rt: &HostRuntime, folder: &str) -> Result<Option<Value>> {
+fn manifest_in(rt: &HostRuntime, folder: &str) -> Result<Option<Value>>
+    ensures { IfOk result (λ m. IfSome m (λ v. IsSome (as_object (view v)))) }
+{
     let path = inside(rt, folder, "package.json")?;
     let Some(text) = text_if_there(rt, &path)? else {
         return Ok(None);
@@ -157,7 +176,9 @@ fn text_if_there(rt: &HostRuntime, path: &str) -> Result<Option<String>> {
     }
 }
 
-fn json(alloc: Global, name: &str, text: &str) -> Result<Value> {
+fn json(alloc: Global, name: &str, text: &str) -> Result<Value>
+    ensures { IfOk result (λ file. IsJson text.now (view file)) }
+{
     let text = unmarked(text);
     match Value::from_str(alloc, text) {
         Ok(file) => Ok(file),
@@ -169,7 +190,9 @@ fn json(alloc: Global, name: &str, text: &str) -> Result<Value> {
 }
 
 // A file, if it is a lock file of npm.
-fn lock_of(alloc: Global, path: &str, text: String, fields: Value) -> Result<LockFile> {
+fn lock_of(alloc: Global, path: &str, text: String, fields: Value) -> Result<LockFile>
+    ensures { IsJson (string_bytes text) (view fields) → IfOk result IsRead }
+{
     if let Some(flaw) = flaw(&fields) {
         bail!("{} is no lock file of npm: {flaw}", Shown(path));
     }
@@ -178,7 +201,9 @@ fn lock_of(alloc: Global, path: &str, text: String, fields: Value) -> Result<Loc
 }
 
 // Why a file is no lock file of npm.
-fn flaw(file: &Value) -> Option<&'static str> {
+fn flaw(file: &Value) -> Option<&'static str>
+    ensures { IsNone result ↔ IsLockFile (view file.now) }
+{
     if !file.is_object() {
         return Some("it is no object");
     }
@@ -196,7 +221,9 @@ fn flaw(file: &Value) -> Option<&'static str> {
 }
 
 // Whether an object looks like a package.json: nothing is locked in it.
-fn is_manifest(file: &Value) -> bool {
+fn is_manifest(file: &Value) -> bool
+    ensures { IsTrue result → IsSome (as_object (view file.now)) }
+{
     file.is_object()
         && file.get("lockfileVersion").is_none()
         && file.get("packages").is_none()

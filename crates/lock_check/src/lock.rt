@@ -1,6 +1,6 @@
 // The packages of a lock file, and what they depend on.
 
-ghost use Rattle.lock_check.specs.Internal.Collected.{AreAllFound, AreNamed, AreWorkspaces};
+ghost use Rattle.lock_check.specs.Internal.Collected.{AreAllFound, AreNamed, AreOwn, AreWorkspaces};
 ghost use Rattle.lock_check.specs.Internal.Collected.{Extends, members_in, with_first};
 ghost use Rattle.lock_check.specs.Internal.Patterns.{Keeps};
 ghost use Rattle.lock_check.specs.Complete.{IsRead};
@@ -385,6 +385,8 @@ pub(crate) fn add_dependencies<'a>(
         → All (IsDependency lock) found.new.first.items) }
     ensures all { OnOk result (AreWorkspaces «package».entry found.old
         → AreAllFound «package».entry found.new.first.items) }
+    ensures own { OnOk result (AreWorkspaces «package».entry found.old
+        → AreOwn «package».entry.folder.now found.new.first.items) }
     ensures more { OnOk result (AreWorkspaces «package».entry found.old
         → Keeps found.old.first.items found.new.first.items) }
     ensures kept { OnOk result (Extends faults.old.items faults.new.items) }

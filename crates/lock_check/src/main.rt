@@ -27,6 +27,10 @@
 //! another range in its text than is found here, as in `>*1.2.3`.
 #![tactic(auto)]
 
+ghost use Rattle.lock_check.specs.Documents.{IsReportOf};
+ghost use Rattle.serde_json.specs.View.{view};
+ghost use Rattle.std.specs.Prelude.{IfOk, option_map, string_bytes};
+
 mod alias;
 mod annotation;
 mod check;
@@ -44,6 +48,7 @@ mod options;
 mod outlook;
 mod outlook_row;
 mod overrides;
+mod packages;
 mod raises;
 mod reading;
 mod report;
@@ -60,17 +65,16 @@ use crate::help::{HELP, USAGE, VERSION};
 use crate::index::Index;
 use crate::input::{Input, LockFile, index_text, read};
 use crate::lines::Lines;
-use crate::lock::Lock;
 use crate::options::{Format, Options, Request};
 use crate::outlook::{Totals, outlooks};
 use crate::outlook_row::{outlook_rows, write_outlooks, write_totals};
+use crate::packages::Packages;
 use crate::reading::unmarked;
 use crate::report::{Report, report_on, write_rows};
 use crate::row::fault_rows;
 use crate::shown::Shown;
-use anyhow::{Context, Result, bail};
+use anyhow::{Result, bail};
 use nodejs_semver::Failure;
-use serde_json::{Map, Value, put};
 use std::alloc::Global;
 use std::env;
 use std::io::Write;
@@ -110,22 +114,9 @@ fn run(rt: &HostRuntime) -> Result<ExitCode> {
 
 // Prints what is found, and returns the exit status.
 fn tell(rt: &HostRuntime, input: Input, options: Options<'_>) -> Result<ExitCode> {
-    let alloc = rt.alloc();
-    let Input { lock, manifest } = input;
-    let LockFile { name, text, fields } = lock;
-    let is_nested = fields.get("packages").is_none();
-    let mut packages = packages(alloc, fields)?;
-    if let Some(root) = manifest {
-        put(&mut packages, alloc, "", root)?;
-    }
-    let lock = Lock {
-        packages: &packages,
-        is_nested,
-    };
-    let text = unmarked(&text);
     let Report { output, status } = match options.index {
-        Some(index) => outdated(rt, lock, &name, text, index, options)?,
-        None => report_on(alloc, lock, &name, text, options)?,
+        Some(index) => outdated(rt, input, index, options)?,
+        None => report_of(rt.alloc(), input, options)?,
     };
     let mut stdout = rt.stdout();
     stdout.write_all(output.as_bytes())?;
@@ -133,16 +124,26 @@ fn tell(rt: &HostRuntime, input: Input, options: Options<'_>) -> Result<ExitCode
     Ok(ExitCode::from(status))
 }
 
+// The report on the lock file and the `package.json` beside it.
+fn report_of(alloc: Global, input: Input, options: Options<'_>) -> Result<Report>
+    ensures { IfOk result (IsReportOf (view input.lock.fields)
+        (option_map view input.manifest) (string_bytes input.lock.name)
+        options.entry.format options.entry.is_quiet) }
+{
+    let Input { lock, manifest } = input;
+    let LockFile { name, text, fields } = lock;
+    let packages = Packages::of(alloc, fields, manifest)?;
+    let lock = packages.lock();
+    Ok(report_on(alloc, lock, &name, unmarked(&text), options)?)
+}
+
 // What the locked versions may be raised to by the index at a path, and what is malformed.
-fn outdated(
-    rt: &HostRuntime,
-    lock: Lock<'_>,
-    file: &str,
-    text: &str,
-    path: &str,
-    options: Options<'_>,
-) -> Result<Report> {
+fn outdated(rt: &HostRuntime, input: Input, path: &str, options: Options<'_>) -> Result<Report> {
     let alloc = rt.alloc();
+    let Input { lock, manifest } = input;
+    let LockFile { name, text, fields } = lock;
+    let packages = Packages::of(alloc, fields, manifest)?;
+    let lock = packages.lock();
     let findings = check(alloc, lock)?;
     let index_text = index_text(rt, path)?;
     let index = match Index::of(alloc, unmarked(&index_text)) {
@@ -152,13 +153,13 @@ fn outdated(
     };
     let outlooks = outlooks(alloc, lock, &index, &findings.of_dependencies)?;
     let totals = Totals::of(lock, &outlooks, findings.faults.len());
-    let lines = Lines::of(alloc, text, lock.is_nested)?;
+    let lines = Lines::of(alloc, unmarked(&text), lock.is_nested)?;
     let is_json = options.format == Format::Json;
     let mut output = String::new(alloc);
     let faults = fault_rows(alloc, &findings.faults, &lines)?;
-    write_rows(alloc, options.format, file, &faults, &mut output)?;
+    write_rows(alloc, options.format, &name, &faults, &mut output)?;
     let rows = outlook_rows(alloc, &outlooks, &lines, options.is_quiet)?;
-    write_outlooks(alloc, is_json, file, &rows, &mut output)?;
+    write_outlooks(alloc, is_json, &name, &rows, &mut output)?;
     if !options.is_quiet {
         write_totals(alloc, totals, is_json, &mut output)?;
     }
@@ -166,27 +167,4 @@ fn outdated(
         output,
         status: totals.exit_status(),
     })
-}
-
-// The packages of a lock file, by their folders.
-fn packages(alloc: Global, mut file: Value) -> Result<Map<String, Value>> {
-    if let Some(packages) = file.get_mut("packages") {
-        if let Value::Object(packages) = packages.take() {
-            return Ok(packages);
-        }
-    }
-    if has_none(&file) {
-        return Ok(Map::new(alloc));
-    }
-    let nested = file.get("dependencies").and_then(Value::as_object);
-    let nested = nested.context("neither an object `packages` nor an object `dependencies`")?;
-    Ok(nested::packages(alloc, nested)?)
-}
-
-// Whether a lock file is one of lockfileVersion 1 in which nothing is locked.
-fn has_none(file: &Value) -> bool {
-    match file.get("lockfileVersion").and_then(Value::as_u64) {
-        Some(1) => file.get("dependencies").is_none(),
-        _ => false,
-    }
 }

@@ -1,5 +1,5 @@
 -- For proofs and private contracts: which dependencies of a package are collected before they are judged.
-use Rattle.std.specs.Prelude.{◌≡◌, ◌⊎◌, ℕ, Bool, List, [], ◌∷◌, ◌++◌, Option, All, Contains, if◌then◌else◌}
+use Rattle.std.specs.Prelude.{◌≡◌, ◌⊎◌, ℕ, Bool, List, [], ◌∷◌, ◌++◌, Option, All, AllPairs, Contains, if◌then◌else◌}
 use Rattle.std.specs.Prelude.{IsSomeAnd, Some, bytes_eq, option_and_then}
 use Rattle.std.specs.Borrow.{Bor}
 use Rattle.std.specs.BTreeSet.{contains}
@@ -9,7 +9,7 @@ use Rattle.std.specs.Ordering.{nat_cmp}
 use Rattle.serde_json.specs.Data.{Data, Members}
 use Rattle.serde_json.specs.Find.{as_object, get}
 use Rattle.serde_json.specs.View.{view}
-use Rattle.lock_check.specs.Complete.{IsLeftOut, IsOf, IsOfDevelopment, Writes}
+use Rattle.lock_check.specs.Complete.{AreOfOne, IsLeftOut, IsOf, IsOfDevelopment, Writes}
 use Rattle.lock_check.specs.Judged.{as_wanted}
 use Rattle.lock_check.specs.Lookups.{field_name, packages_of}
 use Rattle.lock_check.specs.declared.check.Edge.{Edge}
@@ -39,10 +39,27 @@ abbrev pub AreNamed : Dependencies → Type 0
 AreNamed found = (name : Bor (List ℕ))
     → contains (λ x y. slice_cmp nat_cmp x.now y.now) found.names name ≡ has_name found.first.items name.now
 
+-- no two are about one name of one package
+abbrev pub AreApart : List Dependency → Type 0
+AreApart found = AllPairs (λ d e. ¬ AreOfOne d e) found
+
+abbrev pub AreApartEdges : List Edge → Type 0
+AreApartEdges edges = AllPairs (λ d e. ¬ AreOfOne d.dependency e.dependency) edges
+
+-- all are of the package in this folder, each of another name
+pub record AreOwn (folder : List ℕ) (found : List Dependency) : Type 0 where
+  pub each : All (λ d. d.package.folder.now ≡ folder) found
+  pub apart : AreApart found
+
+-- an edge that was there before, or one for one of these dependencies
+abbrev pub IsOneOf : List Edge → List Dependency → Edge → Type 0
+IsOneOf before found e = Contains before e ⊎ Contains found e.dependency
+
 -- all are workspaces of this package
 pub record AreWorkspaces (p : Package) (found : Dependencies) : Type 0 where
   pub named : AreNamed found
   pub each : All (λ d. (d.package.folder.now ≡ p.folder.now) × (d.field ≡ field.Workspaces)) found.first.items
+  pub apart : AreApart found.first.items
 
 abbrev pub HasDependency : List Dependency → List ℕ → Field → List ℕ → Type 0
 HasDependency found folder f name = (d : Dependency) × Contains found d × IsOf folder f name d

@@ -1,8 +1,9 @@
-use Rattle.std.proofs.Common.{◌≡◌, ◌∷◌, ◌++◌, ◌∙◌, [], ap, arith, subst, sym}
-use Rattle.std.proofs.lemmas.List.{append-nil}
+use Rattle.std.proofs.Common.{◌≡◌, ◌+◌, ◌∷◌, ◌++◌, ◌∙◌, [], ap, arith, get_or, inl, subst, sym}
+use Rattle.std.proofs.lemmas.List.{append-nil, get_or_default}
 use Rattle.std.proofs.lemmas.List.Elements.{All-from_all_within, All-get_or, All-push, All-same, AllWithin-more, AllWithin-upto, at_read}
 use Rattle.lock_check.proofs.Completing.{extends-more, extends-same, taken-kept, taken-out, taken-push}
-use Rattle.lock_check.specs.Internal.Collected.{Extends, IsTaken}
+use Rattle.lock_check.proofs.Single.{IsOneBefore, apart-push, before-all, before-more, before-push}
+use Rattle.lock_check.specs.Internal.Collected.{AreApartEdges, Extends, IsTaken}
 use Rattle.lock_check.specs.Judged.{IsEdge}
 use Rattle.lock_check.specs.Overrides.{IsDependency}
 use Rattle.lock_check.specs.declared.check.Edge.{Edge}
@@ -14,6 +15,8 @@ loop-dependency-init c = record {
   each = λ deps all. all;
   kept = ([], sym (append-nil c.args.edges.now.items));
   all = λ k d low high. absurd (omega arith);
+  from = λ k e within. inl (k, within, get_or_default c.args.edges.now.items k (get_or c.args.edges.now.items k e) e within);
+  apart = λ folder own others apart. apart;
 }
 
 pub loop-dependency-preserved : goal.loop-dependency-preserved
@@ -38,6 +41,11 @@ loop-dependency-preserved c =
                 (λ k d low high. taken-kept lock before after _ longer (c.loop-dependency.invariant.all k d low high))
                 (at_read c.args.dependencies.now (IsTaken lock after) i r (omega arith) c.dependency-item.is
                 (taken-push lock before after edge same));
+            from = before-push c.args.edges.now.items before after c.args.dependencies.now i edge (omega arith) c.dependency-item.is same
+                c.loop-dependency.invariant.from;
+            apart = λ folder own others apart. apart-push c.args.edges.now.items before after c.args.dependencies.now i edge folder
+                (omega arith) c.dependency-item.is same own others c.loop-dependency.invariant.from
+                (c.loop-dependency.invariant.apart folder own others apart);
           }
       | else-not-is_of_development w ↦
           let after = c.if-not-is_of_development.edges.items in
@@ -50,6 +58,10 @@ loop-dependency-preserved c =
                 (at_read c.args.dependencies.now (IsTaken lock after) i r (omega arith) c.dependency-item.is
                 (taken-out lock after edge c.in_ok-locked.ensures
                 (c.is_of_development.ensures.0 w.if-not-is_of_development.false)));
+            from = All-same (IsOneBefore c.args.edges.now.items c.args.dependencies.now (i + 1)) after before same
+                (before-more c.args.edges.now.items before c.args.dependencies.now i c.loop-dependency.invariant.from);
+            apart = λ folder own others apart. subst AreApartEdges (sym same)
+                (c.loop-dependency.invariant.apart folder own others apart);
           }
     ]
 
@@ -58,3 +70,8 @@ returns-clause-all c =
     All-from_all_within (IsTaken c.args.lock c.loop-dependency.edges.items) c.args.dependencies.now
     (AllWithin-upto (IsTaken c.args.lock c.loop-dependency.edges.items) c.args.dependencies.now 0
     c.loop-dependency.dependency-index _ (omega arith) c.loop-dependency.invariant.all)
+
+pub returns-clause-from : goal.returns-clause-from
+returns-clause-from c =
+    before-all c.args.edges.now.items c.loop-dependency.edges.items c.args.dependencies.now c.loop-dependency.dependency-index
+    (omega arith) c.loop-dependency.invariant.from

@@ -1,6 +1,7 @@
-use Rattle.std.proofs.Common.{All}
+use Rattle.std.proofs.Common.{◌≢◌, All, List, ℕ}
 use Rattle.std.specs.List.{AllWithin}
-use Rattle.lock_check.specs.Internal.Collected.{Extends, IsTaken}
+use Rattle.lock_check.proofs.Single.{IsOneBefore}
+use Rattle.lock_check.specs.Internal.Collected.{AreApartEdges, AreOwn, Extends, IsTaken}
 use Rattle.lock_check.specs.Judged.{IsEdge}
 use Rattle.lock_check.specs.Overrides.{IsDependency}
 use Rattle.lock_check.proofs.check.add_edges.Given as goal
@@ -11,4 +12,8 @@ invariant-loop-dependency l = record {
       → All (IsEdge l.lock) l.edges.items;
   kept : Extends l.fn.edges.items l.edges.items;
   all : AllWithin (IsTaken l.lock l.edges.items) l.dependencies 0 l.dependency-index;
+  from : All (IsOneBefore l.fn.edges.items l.dependencies l.dependency-index) l.edges.items;
+  apart : (folder : List ℕ) → AreOwn folder l.dependencies
+      → All (λ e. e.dependency.package.folder.now ≢ folder) l.fn.edges.items
+      → AreApartEdges l.fn.edges.items → AreApartEdges l.edges.items;
 }

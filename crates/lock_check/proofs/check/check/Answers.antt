@@ -2,10 +2,10 @@ use Rattle.std.proofs.lemmas.List.Elements.{All-same}
 use Rattle.lock_check.proofs.Completing.{judged-all}
 use Rattle.lock_check.proofs.Items.{workspaces-judged}
 use Rattle.lock_check.proofs.Judging.{ruled}
+use Rattle.lock_check.specs.Internal.Collected.{AreAllLinked, AreApartEdges}
 use Rattle.serde_json.specs.Data.{Data}
 use Rattle.serde_json.specs.Find.{get}
 use Rattle.lock_check.specs.Internal.Patterns.{AreMeantLinked}
-use Rattle.lock_check.specs.Internal.Collected.{AreAllLinked}
 use Rattle.lock_check.specs.Judged.{IsEdge}
 use Rattle.std.proofs.Common.{◌≡◌, ◌∙◌, All, List, [], None, Some, ℕ, ap, not, refl, subst, sym}
 use Rattle.lock_check.proofs.Telling.{all-kept, fault-added, fault-kept, has-root, no-root}
@@ -30,6 +30,11 @@ returns-clause-all c =
     judged-all c.args.lock c.deref-2.result.now c.in_ok-of_dependencies.of_dependencies.items
     (subst (AreAllLinked c.args.lock) (sym c.deref-2.ensures.value) c.in_ok-edges.ensures.all)
     c.in_ok-of_dependencies.ensures.all
+
+pub returns-clause-single : goal.returns-clause-single
+returns-clause-single c =
+    c.in_ok-of_dependencies.ensures.single
+    (subst AreApartEdges (sym c.deref-2.ensures.value) c.in_ok-edges.ensures.apart)
 
 pub returns-clause-workspaces : goal.returns-clause-workspaces
 returns-clause-workspaces c =

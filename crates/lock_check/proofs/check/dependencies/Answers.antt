@@ -1,9 +1,19 @@
-use Rattle.std.proofs.Common.{ap, arith, length}
+use Rattle.std.proofs.Common.{◌≡◌, [], ap, arith, length}
 use Rattle.serde_json.specs.View.{view}
 use Rattle.lock_check.proofs.Items.{workspace-kept}
 use Rattle.lock_check.proofs.Telling.{texts-kept}
-use Rattle.lock_check.specs.Internal.Collected.{AreWorkspaces}
+use Rattle.lock_check.specs.Internal.Collected.{AreNamed, AreWorkspaces}
+use Rattle.lock_check.specs.declared.lock.Dependencies.{Dependencies}
+use Rattle.lock_check.specs.declared.lock.Package.{Package}
 use Rattle.lock_check.proofs.check.dependencies.Goals as goal
+
+-- before the first
+none : (p : Package) (found : Dependencies) → AreNamed found → found.first.items ≡ [] → AreWorkspaces p found
+none p found named empty = record {
+  named = named;
+  each = λ k d at. absurd (omega (arith, ap length empty));
+  apart = λ i j d less at. absurd (omega (arith, ap length empty));
+}
 
 pub returns-clause-each : goal.returns-clause-each
 returns-clause-each c = λ is. c.in_ok-add_dependencies.ensures.each c.args.lock is
@@ -11,10 +21,12 @@ returns-clause-each c = λ is. c.in_ok-add_dependencies.ensures.each c.args.lock
     (λ k d at. absurd (omega (arith, ap length c.new-found.ensures.empty))))
 
 pub returns-clause-all : goal.returns-clause-all
-returns-clause-all c = c.in_ok-add_dependencies.ensures.all (c.in_ok-add_workspaces.ensures.alone (record {
-  named = c.new-found.ensures.named;
-  each = λ k d at. absurd (omega (arith, ap length c.new-found.ensures.empty));
-}))
+returns-clause-all c = c.in_ok-add_dependencies.ensures.all (c.in_ok-add_workspaces.ensures.alone
+    (none c.args.package c.new-found.result c.new-found.ensures.named c.new-found.ensures.empty))
+
+pub returns-clause-own : goal.returns-clause-own
+returns-clause-own c = c.in_ok-add_dependencies.ensures.own (c.in_ok-add_workspaces.ensures.alone
+    (none c.args.package c.new-found.result c.new-found.ensures.named c.new-found.ensures.empty))
 
 pub returns-clause-texts : goal.returns-clause-texts
 returns-clause-texts c =
@@ -27,10 +39,7 @@ returns-clause-wrong c = λ is all.
 
 pub returns-clause-workspaces : goal.returns-clause-workspaces
 returns-clause-workspaces c = λ root folder is.
-    let none : AreWorkspaces c.args.package c.new-found.result = record {
-      named = c.new-found.ensures.named;
-      each = λ k d at. absurd (omega (arith, ap length c.new-found.ensures.empty));
-    } in
+    let start = none c.args.package c.new-found.result c.new-found.ensures.named c.new-found.ensures.empty in
     workspace-kept c.args.lock c.add_workspaces.new.found.first.items c.add_dependencies.new.found.first.items
-    c.args.package.folder.now folder (c.in_ok-add_dependencies.ensures.more (c.in_ok-add_workspaces.ensures.alone none))
-    (c.in_ok-add_workspaces.ensures.all none root folder is)
+    c.args.package.folder.now folder (c.in_ok-add_dependencies.ensures.more (c.in_ok-add_workspaces.ensures.alone start))
+    (c.in_ok-add_workspaces.ensures.all start root folder is)

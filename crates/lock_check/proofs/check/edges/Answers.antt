@@ -1,16 +1,17 @@
-use Rattle.std.proofs.Common.{◌∷◌, ◌∙◌, [], List, None, Some, ℕ, map, string_bytes, subst, sym}
+use Rattle.std.proofs.Common.{◌∷◌, ◌++◌, ◌∙◌, [], All, List, None, Some, ℕ, ap, map, string_bytes, subst, sym}
 use Rattle.std.proofs.lemmas.List.{map-append}
 use Rattle.std.proofs.lemmas.List.Elements.{All-same}
-use Rattle.std.proofs.lemmas.Map.Iter.{iter_end}
+use Rattle.std.proofs.lemmas.Map.Iter.{iter_end, rest_more, rest_so_far}
 use Rattle.std.specs.Map.{keys_of}
 use Rattle.serde_json.specs.Data.{Data}
 use Rattle.std.specs.Map.Iter.{deref}
 use Rattle.lock_check.proofs.Completing.{AreEach, each-all, each-at, each-more, each-none, extends-on, locked-all, locked-kept, package-at}
+use Rattle.lock_check.proofs.Single.{IsKeyed, keyed-apart, keyed-kept, keyed-more}
+use Rattle.lock_check.specs.Internal.Collected.{AreAllLocked, AreOwn, IsTaken}
 use Rattle.lock_check.proofs.Items.{meant-kept, meant-linked}
 use Rattle.lock_check.proofs.Telling.{all-kept, texts-kept}
 use Rattle.lock_check.specs.Internal.Patterns.{AreMeantLinked}
 use Rattle.lock_check.specs.Malformed.{AreTextsTold, HasAllFaults}
-use Rattle.lock_check.specs.Internal.Collected.{AreAllLocked, IsTaken}
 use Rattle.lock_check.specs.Lookups.{IsAt}
 use Rattle.lock_check.specs.Overrides.{IsDependency}
 use Rattle.lock_check.proofs.check.edges.Goals as goal
@@ -27,6 +28,12 @@ loop-folder-preserved-in-Some-package c =
     let is = package-at lock (string_bytes key.now) p at in
     let now : List ℕ → Data → Type 0 = λ folder fields. AreAllLocked lock folder fields after in
     let each = c.in_ok-found.ensures.each is in
+    let so_far = sym (c.into_iter-folder-iterator.ensures.into_iter_gives ∙ c.keys-folder-items.ensures.rest)
+    ∙ rest_so_far deref c.loop-folder.yielded c.into_iter-folder-iterator.result c.loop-folder.folder-iterator c.loop-folder.yielded_by
+    ∙ ap (λ keys. map deref c.loop-folder.yielded ++ keys)
+    (rest_more deref c.loop-folder.folder-iterator c.next.new.self c.next.result key c.in-Some.is c.next.ensures.steps) in
+    let own = subst (λ place. AreOwn place found) at.0 c.in_ok-found.ensures.own in
+    let own_slice = subst (AreOwn (string_bytes key.now)) (sym c.as_slice.ensures) own in
     let first = c.loop-folder.faults.items in
     let last = c.dependencies.new.faults.items in
     let taken = All-same (IsTaken lock after) found c.as_slice.result.now (sym c.as_slice.ensures)
@@ -39,6 +46,13 @@ loop-folder-preserved-in-Some-package c =
           (locked-kept lock before after c.in_ok-add_edges.ensures.kept)
           (each-at lock (string_bytes key.now) p now at
           (locked-all lock p found after is each c.in_ok-found.ensures.all taken)) c.loop-folder.invariant.all);
+      apart = c.in_ok-add_edges.ensures.apart (string_bytes key.now) own_slice
+          (keyed-apart (map deref c.loop-folder.yielded) c.next.new.self (keys_of lock.packages.now.entries) key.now before
+          so_far c.keys-folder-items.ensures.ordered c.loop-folder.invariant.keyed)
+          c.loop-folder.invariant.apart;
+      keyed = subst (λ keys. All (IsKeyed keys) after) (sym (map-append deref c.loop-folder.yielded (key ∷ [])))
+          (keyed-more (map deref c.loop-folder.yielded) key.now before after c.as_slice.result.now own_slice
+          c.in_ok-add_edges.ensures.from c.loop-folder.invariant.keyed);
       workspaces = subst (λ keys. AreEach lock keys (AreMeantLinked lock after))
           (sym (map-append deref c.loop-folder.yielded (key ∷ [])))
           (each-more lock (map deref c.loop-folder.yielded) key.now (AreMeantLinked lock before) (AreMeantLinked lock after)
@@ -72,6 +86,9 @@ loop-folder-preserved c =
       all = subst (λ keys. AreEach lock keys now) (sym (map-append deref c.loop-folder.yielded (key ∷ [])))
           (each-more lock (map deref c.loop-folder.yielded) key.now now now (λ folder fields is. is)
           (each-none lock (string_bytes key.now) now at) c.loop-folder.invariant.all);
+      apart = c.loop-folder.invariant.apart;
+      keyed = subst (λ keys. All (IsKeyed keys) c.loop-folder.edges.items) (sym (map-append deref c.loop-folder.yielded (key ∷ [])))
+          (keyed-kept (map deref c.loop-folder.yielded) key.now c.loop-folder.edges.items c.loop-folder.invariant.keyed);
       workspaces = subst (λ keys. AreEach lock keys linked) (sym (map-append deref c.loop-folder.yielded (key ∷ [])))
           (each-more lock (map deref c.loop-folder.yielded) key.now linked linked (λ folder fields is. is)
           (each-none lock (string_bytes key.now) linked at) c.loop-folder.invariant.workspaces);

@@ -1,7 +1,8 @@
 use Rattle.std.proofs.Common.{All, map}
 use Rattle.std.specs.Map.Iter.{deref}
 use Rattle.lock_check.proofs.Completing.{AreEach}
-use Rattle.lock_check.specs.Internal.Collected.{AreAllLocked, Extends}
+use Rattle.lock_check.proofs.Single.{IsKeyed}
+use Rattle.lock_check.specs.Internal.Collected.{AreAllLocked, AreApartEdges, Extends}
 use Rattle.lock_check.specs.Internal.Patterns.{AreMeantLinked}
 use Rattle.lock_check.specs.Judged.{IsEdge}
 use Rattle.lock_check.specs.Malformed.{AreTextsTold, HasAllFaults, IsFault}
@@ -11,6 +12,8 @@ abbrev pub invariant-loop-folder : goal.invariant-loop-folder
 invariant-loop-folder l = record {
   each : All (IsEdge l.lock) l.edges.items;
   all : AreEach l.lock (map deref l.yielded) (λ folder fields. AreAllLocked l.lock folder fields l.edges.items);
+  apart : AreApartEdges l.edges.items;
+  keyed : All (IsKeyed (map deref l.yielded)) l.edges.items;
   workspaces : AreEach l.lock (map deref l.yielded) (AreMeantLinked l.lock l.edges.items);
   kept : Extends l.fn.faults.items l.faults.items;
   told : AreEach l.lock (map deref l.yielded) (HasAllFaults l.faults.items);

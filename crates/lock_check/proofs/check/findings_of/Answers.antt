@@ -6,6 +6,7 @@ use Rattle.lock_check.specs.Internal.Collected.{IsAmong}
 use Rattle.lock_check.specs.Judged.{IsEdge, IsFinding}
 use Rattle.lock_check.proofs.Completing.{among-more, among-push}
 use Rattle.lock_check.proofs.Judging.{finding-made, lost-refers}
+use Rattle.lock_check.proofs.Single.{about-push, single-push}
 use Rattle.lock_check.proofs.check.findings_of.Goals as goal
 
 pub loop-number-preserved : goal.loop-number-preserved
@@ -29,6 +30,11 @@ loop-number-preserved c =
           (at_read c.args.edges.now (IsAmong (before ++ f ∷ [])) c.loop-number.number e (omega arith)
           c.index-edges-number.is
           (among-push before f e c.wanted-wanted.result c.in_ok-finding.ensures.dependency)));
+      about = about-push c.args.edges.now c.loop-number.number before c.push.new.self.items f e c.wanted-wanted.result (omega arith)
+          c.index-edges-number.is c.in_ok-finding.ensures.dependency same c.loop-number.invariant.about;
+      single = λ apart. single-push c.args.edges.now c.loop-number.number before c.push.new.self.items f e c.wanted-wanted.result
+          (omega arith) c.index-edges-number.is c.in_ok-finding.ensures.dependency same apart c.loop-number.invariant.about
+          (c.loop-number.invariant.single apart);
     }
 
 pub returns-clause-all : goal.returns-clause-all

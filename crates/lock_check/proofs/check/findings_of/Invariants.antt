@@ -1,6 +1,8 @@
 use Rattle.std.proofs.Common.{[], All}
 use Rattle.std.specs.List.{AllWithin}
-use Rattle.lock_check.specs.Internal.Collected.{IsAmong}
+use Rattle.lock_check.proofs.Single.{IsAbout}
+use Rattle.lock_check.specs.Complete.{AreSingle}
+use Rattle.lock_check.specs.Internal.Collected.{AreApartEdges, IsAmong}
 use Rattle.lock_check.specs.Internal.Overriding.{AreItsRules}
 use Rattle.lock_check.specs.Judged.{IsEdge, IsFinding}
 use Rattle.lock_check.specs.Lookups.{IsAt}
@@ -11,4 +13,6 @@ invariant-loop-number l = record {
   each : All (IsEdge l.lock) l.edges → IsAt l.lock [] l.scopes.overrides.root
       → AreItsRules l.scopes.overrides.root l.scopes.overrides.rules.items → All (IsFinding l.lock) l.findings.items;
   all : AllWithin (IsAmong l.findings.items) l.edges 0 l.number;
+  about : All (IsAbout l.edges l.number) l.findings.items;
+  single : AreApartEdges l.edges → AreSingle l.findings.items;
 }

@@ -5,6 +5,7 @@ use Rattle.std.specs.Map.{keys_of}
 use Rattle.std.specs.Map.Iter.{deref}
 use Rattle.serde_json.specs.View.{view}
 use Rattle.lock_check.proofs.Collecting.{added-kept, AreUptoName, HasKey, field_at, not_written, upto-added, upto-all, upto-done, upto-more, upto-none}
+use Rattle.lock_check.proofs.Collecting.{upto-own}
 use Rattle.lock_check.proofs.Collecting.{upto-start, upto-workspaces, written-key}
 use Rattle.lock_check.proofs.Completing.{extends-more}
 use Rattle.lock_check.proofs.Telling.{AreToldName, as-before, fault-added, has-text, none-in, one-more, told-all, told-done, told-key, told-more}
@@ -189,3 +190,7 @@ returns-clause-all c = λ are.
 
 pub returns-clause-told : goal.returns-clause-told
 returns-clause-told c = told-all c.args.package c.loop-field.field-index c.loop-field.faults.items c.loop-field-test.false c.loop-field.invariant.told
+
+pub returns-clause-own : goal.returns-clause-own
+returns-clause-own c = λ are.
+    upto-own c.args.package c.loop-field.found c.loop-field.field-index (c.loop-field.invariant.all are)

@@ -9,6 +9,7 @@ returns c = record {
   counts = c.of-counts.result;
   each = c.in_ok-findings.ensures.each;
   all = c.in_ok-findings.ensures.all;
+  single = c.in_ok-findings.ensures.single;
   workspaces = c.in_ok-findings.ensures.workspaces;
   malformed = c.in_ok-findings.ensures.malformed;
   told = search (rules, c.in_ok-rows.ensures);
