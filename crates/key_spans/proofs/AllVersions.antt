@@ -58,13 +58,13 @@ after_past true w v e g h =
     (sym (then_three (nat_cmp w.major v.major) (nat_cmp w.minor v.minor) (nat_cmp w.patch v.patch) _ (pre_cmp w.pre_release v.pre_release) refl)))
 after_past false w v e g h = past_more w v e g h
 
-lower_past : (b : Bound VersionValue) (v : VersionValue) → IsEnd b → IsVersion v
+pub lower_past : (b : Bound VersionValue) (v : VersionValue) → IsEnd b → IsVersion v
     → le (version_place b (lowest_key 0 0 0)) (key v) ≡ is_past precedence (lower_cut b) v
 lower_past Unbounded v g h = in_order v h 0 0 0 (omega arith) (omega arith) (omega arith) ∙ zero_le v
 lower_past (Before w) v g h = of_keys.past_key w v g h
 lower_past (After w) v g h = after_past (is_release w) w v refl g h
 
-upper_past : (b : Bound VersionValue) (v : VersionValue) → IsEnd b → IsVersion v
+pub upper_past : (b : Bound VersionValue) (v : VersionValue) → IsEnd b → IsVersion v
     → lt (key v) (version_place b end_key) ≡ not (is_past precedence (upper_cut b) v)
 upper_past Unbounded v g h = below_end v h
 upper_past (Before w) v g h = of_keys.before_key w v g h

@@ -47,11 +47,11 @@ release_placed s h =
     let last : IsKeyPlace IsRelease s.stop = elim h.at_last [ inl u ↦ inl (u.0, u.1, u.3, u.2) | inr u ↦ inr u.0 ] in
     record { start = (h.first, h.is_version, h.fits_first, h.at_first); stop = last; within = within_end IsRelease s last }
 
-empty_nil : (xs : List Id) → is_empty xs ≡ true → xs ≡ []
+pub empty_nil : (xs : List Id) → is_empty xs ≡ true → xs ≡ []
 empty_nil [] h = refl
 empty_nil (x ∷ xs) h = false_not_true h
 
-release_last : (w : VersionValue) → is_release w ≡ true → key w ≡ last_key w
+pub release_last : (w : VersionValue) → is_release w ≡ true → key w ≡ last_key w
 release_last w h = ap (λ l. number_key w.major ++ (number_key w.minor ++ (number_key w.patch ++ pre_key l))) (empty_nil w.pre_release h)
 
 pub own_three : (u : VersionValue) → Three u u
@@ -64,10 +64,10 @@ own_ends u k r =
     record { of = u; is_version = k; from = and_first _ _ own; upto = and_second (le (first_key u) (key u)) _ own; is = refl }
 
 -- and the only one
-end_of : (u : VersionValue) → IsVersion u → (e : List ℕ) → Ends (key u) e → e ≡ last_key u
+pub end_of : (u : VersionValue) → IsVersion u → (e : List ℕ) → Ends (key u) e → e ≡ last_key u
 end_of u k e g = g.is ∙ same_end g.of u (inside g.of u g.is_version k g.from g.upto).1
 
-upto_last : (u w : VersionValue) → IsVersion u → IsVersion w → Three u w → le (key w) (last_key u) ≡ true
+pub upto_last : (u w : VersionValue) → IsVersion u → IsVersion w → Three u w → le (key w) (last_key u) ≡ true
 upto_last u w h k t = by_bool (is_release w)
     (λ r. subst (λ l. le l (last_key u) ≡ true) (sym (release_last w r ∙ sym (same_end u w t))) (line.le_itself nat_list_cmp_total (last_key u)))
     (λ r. line.le_from_lt nat_list_cmp_total (key w) (last_key u) (and_second (le (first_key u) (key w)) _ (is_inside u w h k r t)))

@@ -1,11 +1,11 @@
 -- How many spans there are: no more than the stretches from which they are made, and these are at most two for an interval.
-use Rattle.std.proofs.Common.{ℕ, ◌≡◌, ◌≤◌, ◌+◌, ◌*◌, ◌++◌, ◌∷◌, List, [], Bool, true, false, ap, arith, ◌∙◌, sym}
+use Rattle.std.proofs.Common.{ℕ, ◌≡◌, ◌≤◌, ◌+◌, ◌*◌, ◌++◌, ◌∷◌, List, [], Bool, true, false, refl, ap, arith, ◌∙◌, sym}
 use Rattle.std.specs.Prelude.{if◌then◌else◌, length}
 use Rattle.std.proofs.lemmas.List.{length-append, length-map}
 use Rattle.std.proofs.lemmas.List.Sorted.{length_permutation}
 use Rattle.std.specs.List.{fold}
 use Rattle.std.specs.List.Sorted.{IsPermutation}
-use Rattle.std.specs.Ordering.{is_lt}
+use Rattle.std.specs.Ordering.{is_le, is_lt}
 use Rattle.std.specs.declared.cmp.Ordering.{Ordering}
 use Rattle.semver_core.specs.Cuts.{Span}
 use Rattle.semver_core.specs.Values.Versions.{VersionValue, is_release}
@@ -15,6 +15,7 @@ use Rattle.key_spans.specs.Internal.Pieces.{all_flagged, flagged, piece, pieces}
 use Rattle.key_spans.specs.Internal.Places.{bound_stretch, end_key, greater, lesser, lowest_key, pre_place, pre_releases, pre_stretches, release_key}
 use Rattle.key_spans.specs.Internal.Sets.{Stretch, alone, joined, later}
 use Rattle.key_spans.specs.declared.KeySpan.{KeySpan}
+use Rattle.key_spans.proofs.Normal.{insert, normal, ordered}
 
 one_or_none : {X : Type 0} (b : Bool) (x : X) → length (if b then x ∷ [] else []) ≤ 1
 one_or_none true x = omega arith
@@ -42,6 +43,22 @@ module _ {A : Type 0} (R : A → A → Ordering) where
   swept_few all xs ys out e d p =
       let whole : length out ≡ length (fold (joined R) [] xs) = ap length (d ∙ ap (fold (joined R) []) e) in
       omega (arith, whole, fold_few [] xs, length_permutation all xs p)
+
+  insert_length : (b : Bool) (s t : Stretch A) (ts : List (Stretch A)) → length (insert R s ts) ≡ length ts + 1
+      → length (if b then s ∷ t ∷ ts else t ∷ insert R s ts) ≡ length ts + 2
+  insert_length true s t ts h = omega arith
+  insert_length false s t ts h = omega arith
+
+  insert_one : (s : Stretch A) (ss : List (Stretch A)) → length (insert R s ss) ≡ length ss + 1
+  insert_one s [] = omega arith
+  insert_one s (t ∷ ts) = let e = insert_length (is_le (R s.start t.start)) s t ts (insert_one s ts) in omega arith
+
+  ordered_length : (ss : List (Stretch A)) → length (ordered R ss) ≡ length ss
+  ordered_length [] = refl
+  ordered_length (s ∷ ss) = omega (arith, insert_one s (ordered R ss), ordered_length ss)
+
+  pub normal_few : (ss : List (Stretch A)) → length (normal R ss) ≤ length ss
+  normal_few ss = omega (arith, fold_few [] (ordered R ss), ordered_length ss)
 
 bound_few : (start stop : List ℕ) (b : Bound VersionValue) → length (bound_stretch start stop b) ≤ 1
 bound_few start stop Unbounded = omega arith

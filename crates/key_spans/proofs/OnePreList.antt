@@ -176,7 +176,7 @@ lesser_upto : (t : Bool) (k e : List ℕ) → le k e ≡ t → le (if t then k e
 lesser_upto true k e h = h
 lesser_upto false k e h = line.le_itself nat_list_cmp_total e
 
-own_fits : (start stop : List ℕ) (w : VersionValue) → IsVersion w → AnyStart start → AnyStop stop
+pub own_fits : (start stop : List ℕ) (w : VersionValue) → IsVersion w → AnyStart start → AnyStop stop
     → Fits IsPreKey Ends (record { start = greater start (first_key w); stop = lesser stop (last_key w) })
 own_fits start stop w h s t full =
     let a : List ℕ = greater start (first_key w) in
@@ -212,12 +212,12 @@ after_any : (b : Bool) (w : VersionValue) → IsVersion w → (u : VersionValue)
 after_any true w h = (w, h, refl)
 after_any false w h = (one_more w, more_is w h, refl)
 
-start_any : (b : Bound VersionValue) → IsEnd b → AnyStart (pre_place b [])
+pub start_any : (b : Bound VersionValue) → IsEnd b → AnyStart (pre_place b [])
 start_any Unbounded h = inr refl
 start_any (Before w) h = inl (w, h, refl)
 start_any (After w) h = inl (after_any (is_release w) w h)
 
-stop_any : (b : Bound VersionValue) → IsEnd b → AnyStop (pre_place b (end_key))
+pub stop_any : (b : Bound VersionValue) → IsEnd b → AnyStop (pre_place b (end_key))
 stop_any Unbounded h = inr refl
 stop_any (Before w) h = inl (w, h, refl)
 stop_any (After w) h = inl (after_any (is_release w) w h)

@@ -207,7 +207,7 @@ unmapped include [] h = All-nil (HasEnds include)
 unmapped include (x ∷ xs) h = All-cons (HasEnds include) x xs (All-head (PieceEnds include) (piece x) (pieces xs) h)
     (unmapped include xs (All-tail (PieceEnds include) (piece x) (pieces xs) h))
 
-one_by : (include : Bool) (ps qs : List Piece) → are_sorted ps ≡ true → All (PieceEnds include) ps → are_sorted qs ≡ true
+pub one_by : (include : Bool) (ps qs : List Piece) → are_sorted ps ≡ true → All (PieceEnds include) ps → are_sorted qs ≡ true
     → All (PieceEnds include) qs → ((v : VersionValue) → IsVersion v → in_pieces ps (key v) ≡ in_pieces qs (key v)) → ps ≡ qs
 one_by true = one_of_all
 one_by false = one_by_gate

@@ -161,7 +161,7 @@ before_past w v g h r = ap is_le (key_release w.major w.minor w.patch v g.major 
 pub zero_le : (v : VersionValue) → is_le (numbers_cmp (release_value 0 0 0) v) ≡ true
 zero_le v = then_true _ _ (le_cmp 0 v.major (omega arith)) (then_true _ _ (le_cmp 0 v.minor (omega arith)) (le_cmp 0 v.patch (omega arith)))
 
-lower_past : (b : Bound VersionValue) (v : VersionValue) → IsEnd b → IsVersion v → is_release v ≡ true
+pub lower_past : (b : Bound VersionValue) (v : VersionValue) → IsEnd b → IsVersion v → is_release v ≡ true
     → le (release_place b (release_key 0 0 0)) (key v) ≡ is_past precedence (lower_cut b) v
 lower_past Unbounded v g h r = in_order v h r 0 0 0 (omega arith) (omega arith) (omega arith) ∙ zero_le v
 lower_past (Before w) v g h r = before_past w v g h r
@@ -170,7 +170,7 @@ lower_past (After w) v g h r = after_past (is_release w) w v refl g h r
 pub below_end : (v : VersionValue) → IsVersion v → lt (key v) end_key ≡ true
 below_end v h = ap is_lt (low_below (key v) [] (of_keys.key_low v h))
 
-upper_past : (b : Bound VersionValue) (v : VersionValue) → IsEnd b → IsVersion v → is_release v ≡ true
+pub upper_past : (b : Bound VersionValue) (v : VersionValue) → IsEnd b → IsVersion v → is_release v ≡ true
     → lt (key v) (release_place b end_key) ≡ not (is_past precedence (upper_cut b) v)
 upper_past Unbounded v g h r = below_end v h
 upper_past (Before w) v g h r = of_keys.lt_le (key v) (release_key w.major w.minor w.patch) ∙ ap not (before_past w v g h r)

@@ -22,6 +22,7 @@ mod build;
 mod canon;
 pub mod laws;
 mod marks;
+pub mod ranges;
 pub mod sets;
 
 ghost use Rattle.std.specs.Prelude.{◌≡◌, ◌≤◌, ◌*◌, ◌++◌, All, IfOk, length, OnOk, true};

@@ -6,7 +6,8 @@ ghost use Rattle.npm_words.specs.VersionText.{IsVersionText};
 ghost use Rattle.registry_index.specs.Lines.{HasNoTab, IsKeyOf, package_in, rest_in, version_in};
 ghost use Rattle.semver_core.specs.declared.TheConstants.{MAX_SAFE_INTEGER};
 
-use npm_reading::Reading;
+use anyhow::anyhow;
+use npm_reading::{Reading, version_flaw};
 use semver_core::MAX_SAFE_INTEGER;
 use std::alloc::{AllocError, Global};
 
@@ -54,5 +55,13 @@ pub fn key_of(alloc: Global, text: &str) -> Result<Option<Vec<u8>>, AllocError>
     match npm_reading::version(text, reading) {
         Ok(version) => Ok(Some(version.key(alloc)?)),
         Err(_) => Ok(None),
+    }
+}
+
+/// Why npm rejects a text as a version.
+pub fn refusal(text: &str) -> anyhow::Error {
+    match version_flaw(text) {
+        Some(why) => anyhow!("{text:?} is no version: {why}"),
+        None => anyhow!("{text:?} is no version"),
     }
 }

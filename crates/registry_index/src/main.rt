@@ -8,11 +8,15 @@
 //! version, and with 2 if something is refused or fails. Then the index is as it was.
 #![tactic(auto)]
 
+mod command;
 mod index;
+mod input;
 mod line;
 mod load;
 mod query;
+mod request;
 mod search;
+mod trouble;
 
 use anyhow::Result;
 use std::env;
@@ -39,10 +43,10 @@ fn run(rt: &HostRuntime) -> Result<ExitCode> {
     let arguments: Vec<String> = env::args(rt)?.skip(1).collect(rt.alloc())?;
     let words: Vec<&str> = arguments.iter().map(String::as_str).collect(rt.alloc())?;
     let is_found = match words.as_slice() {
-        [file, "load", lines] => load::load(rt, file, lines)?,
-        [file, "best", package, range] => search::best(rt, file, package, range)?,
-        [file, "all", package, range] => search::all(rt, file, package, range)?,
-        [file, "behind", package, version] => search::behind(rt, file, package, version)?,
+        [file, "load", lines] => command::load(rt, file, lines)?,
+        [file, "best", package, range] => command::best(rt, file, package, range)?,
+        [file, "all", package, range] => command::all(rt, file, package, range)?,
+        [file, "behind", package, version] => command::behind(rt, file, package, version)?,
         _ => {
             eprintln!(rt; "{USAGE}")?;
             return Ok(ExitCode::from(TROUBLE));

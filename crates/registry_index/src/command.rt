@@ -1,0 +1,96 @@
+// What the commands ask.
+
+use crate::input::Input;
+use crate::line::{key_of, refusal};
+use crate::query::spans_of;
+use crate::request::{Answer, Request, ask};
+use crate::trouble::Trouble;
+use anyhow::{Context, Result, anyhow, bail};
+use key_spans::KeySpan;
+use npm_reading::range_flaw;
+use sqlite::Connection;
+use std::alloc::Global;
+use std::fs::{self, File};
+use std::io::{BufRead, BufReader, BufWriter, Write};
+
+/// Puts the lines of a file into the index, or those of standard input for `-`, in one transaction.
+pub fn load(rt: &HostRuntime, file: &str, lines: &str) -> Result<bool> {
+    let name = if lines == "-" {
+        "standard input"
+    } else {
+        lines
+    };
+    let input = BufReader::new(rt.alloc(), open(rt, lines)?)?;
+    let mut lines = input.lines(rt.alloc());
+    answer(rt, file, name, Request::Load(&mut lines))
+}
+
+fn open(rt: &HostRuntime, lines: &str) -> Result<Input> {
+    if lines == "-" {
+        return Ok(Input::Standard(rt.stdin()));
+    }
+    let input = File::open(rt, lines).context(format_args!("{lines:?} cannot be read"))?;
+    Ok(Input::File(input))
+}
+
+/// Prints the greatest version of a package that a range accepts, and returns whether there is one.
+pub fn best(rt: &HostRuntime, file: &str, package: &str, range: &str) -> Result<bool> {
+    let spans = read_spans(rt.alloc(), range)?;
+    answer_of_file(rt, file, Request::Best(package, &spans))
+}
+
+/// Prints all versions of a package that a range accepts, in ascending order, and returns whether
+/// there is one.
+pub fn all(rt: &HostRuntime, file: &str, package: &str, range: &str) -> Result<bool> {
+    let spans = read_spans(rt.alloc(), range)?;
+    answer_of_file(rt, file, Request::All(package, &spans))
+}
+
+/// Prints how many versions of a package are newer than one, and the newest, and returns whether
+/// the package has any version.
+pub fn behind(rt: &HostRuntime, file: &str, package: &str, version: &str) -> Result<bool> {
+    match key_of(rt.alloc(), version)? {
+        Some(key) => answer_of_file(rt, file, Request::Behind(package, &key)),
+        None => Err(refusal(version)),
+    }
+}
+
+fn read_spans(alloc: Global, range: &str) -> Result<Vec<KeySpan>> {
+    match spans_of(alloc, range)? {
+        Some(spans) => Ok(spans),
+        None => match range_flaw(range, false) {
+            Some(why) => Err(anyhow!("{range:?} is no range: {why}")),
+            None => Err(anyhow!("{range:?} is no range")),
+        },
+    }
+}
+
+// The answer of an index in a file that is there.
+fn answer_of_file(rt: &HostRuntime, file: &str, request: Request<'_>) -> Result<bool> {
+    if !fs::exists(rt, file)? {
+        bail!("{file:?}: no such file");
+    }
+    answer(rt, file, "", request)
+}
+
+// Prints what an index answers, and returns whether that is anything.
+fn answer(rt: &HostRuntime, file: &str, input: &str, request: Request<'_>) -> Result<bool> {
+    match open_and_ask(rt, file, request) {
+        Ok(answer) => print(rt, &answer),
+        Err(trouble) => Err(trouble.told(file, input)),
+    }
+}
+
+fn open_and_ask(rt: &HostRuntime, file: &str, request: Request<'_>) -> Result<Answer, Trouble> {
+    match Connection::open(rt, file) {
+        Ok(conn) => ask(rt.alloc(), conn, request),
+        Err(error) => Err(Trouble::Index(error)),
+    }
+}
+
+fn print(rt: &HostRuntime, answer: &Answer) -> Result<bool> {
+    let mut output = BufWriter::new(rt.alloc(), rt.stdout())?;
+    answer.write(&mut output)?;
+    output.flush()?;
+    Ok(answer.is_some())
+}

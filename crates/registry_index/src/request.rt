@@ -1,0 +1,106 @@
+// What is asked of an index, and what it answers.
+
+ghost use Rattle.std.specs.Prelude.{◌≡◌, false};
+
+use crate::input::Input;
+use crate::load::load;
+use crate::query::{ALL, BEST};
+use crate::search::{Found, count_above, newest, search};
+use crate::trouble::Trouble;
+use key_spans::KeySpan;
+use sqlite::{Alter, Connection, FileStore};
+use sqlite_disk::Disk;
+use std::alloc::Global;
+use std::io::{self, BufReader, Lines, Write};
+
+/// What is asked of an index.
+#[derive(Drop)]
+pub enum Request<'a> {
+    /// To put lines into it.
+    Load(&'a mut Lines<BufReader<Input>>),
+    /// The greatest version of a package in some spans.
+    Best(&'a str, &'a [KeySpan]),
+    /// All versions of a package in some spans.
+    All(&'a str, &'a [KeySpan]),
+    /// How many versions of a package are newer than one with a key, and the newest.
+    Behind(&'a str, &'a [u8]),
+}
+
+/// What an index answers.
+#[derive(Drop)]
+pub enum Answer {
+    Loaded,
+    Best(Option<Found>),
+    All(Vec<Found>),
+    Behind(i64, Option<Found>),
+}
+
+/// Puts a request to an index, and closes it. This is the one call that names where an index is
+/// stored: all below it is proved for any store, and not once more for that of a file.
+pub fn ask<D: Disk + Drop>(
+    alloc: Global,
+    mut conn: Connection<FileStore<D>>,
+    request: Request<'_>,
+) -> Result<Answer, Trouble>
+    requires { conn.in_transaction ≡ false }
+{
+    let answer = request.put(alloc, &mut conn);
+    let closed = conn.close();
+    if let Ok(Answer::Loaded) = answer {
+        // Only a load changes the file.
+        closed?;
+    }
+    answer
+}
+
+impl Request<'_> {
+    fn put<S: Alter>(self, alloc: Global, conn: &mut Connection<S>) -> Result<Answer, Trouble>
+        requires { conn.old.in_transaction ≡ false }
+    {
+        match self {
+            Request::Load(lines) => {
+                load(alloc, conn, lines)?;
+                Ok(Answer::Loaded)
+            }
+            Request::Best(package, spans) => {
+                let mut found = search(alloc, conn, BEST, package, spans)?;
+                Ok(Answer::Best(found.pop()))
+            }
+            Request::All(package, spans) => {
+                Ok(Answer::All(search(alloc, conn, ALL, package, spans)?))
+            }
+            Request::Behind(package, key) => {
+                let count = count_above(conn, package, key)?;
+                Ok(Answer::Behind(count, newest(conn, package)?))
+            }
+        }
+    }
+}
+
+impl Answer {
+    /// Whether there is what was asked for.
+    pub fn is_some(&self) -> bool {
+        match self {
+            Answer::Best(None) | Answer::Behind(_, None) => false,
+            Answer::All(found) => !found.is_empty(),
+            _ => true,
+        }
+    }
+
+    /// Writes what was asked for.
+    pub fn write(&self, output: &mut impl Write) -> io::Result<()> {
+        match self {
+            Answer::Best(Some(best)) => writeln!(output, "{best}"),
+            Answer::All(found) => write_all(found, output),
+            Answer::Behind(count, Some(newest)) => writeln!(output, "{count}\t{newest}"),
+            _ => Ok(()),
+        }
+    }
+}
+
+fn write_all(found: &[Found], output: &mut impl Write) -> io::Result<()> {
+    for it in found {
+        writeln!(output, "{it}")?;
+    }
+    Ok(())
+}
