@@ -13,6 +13,7 @@ pub mod OneQuestion
 pub mod Answered
 pub mod Drawn
 pub mod Keyed
+pub mod Simplified
 pub mod Spans
 pub mod ToldOf
 pub mod Outcomes

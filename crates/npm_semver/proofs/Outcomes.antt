@@ -12,7 +12,7 @@ use Rattle.npm_semver.specs.declared.command.Command.TheVariants as Commands
 use Rattle.npm_semver.specs.declared.command.Outcome.{Outcome as Made}
 use Rattle.npm_semver.specs.declared.question.Request.{Request}
 use Rattle.npm_semver.specs.declared.subcommands.Subcommand.{Subcommand}
-use Rattle.npm_semver.specs.declared.subcommands.Subcommand.TheVariants.{Compare, Diff, Next, Range, Least, Explain, Get, Valid, Key, Unkey, Spans, Sql, Help, About}
+use Rattle.npm_semver.specs.declared.subcommands.Subcommand.TheVariants.{Compare, Diff, Next, Range, Least, Explain, Get, Valid, Key, Unkey, Spans, Sql, Simplify, Help, About}
 use Rattle.std.proofs.Common.{◌≡◌, ◌∷◌, ◌++◌, [], ℕ, Bool, true, false, List, Option, Some, None, is_some, option_map, refl, if◌then◌else◌, Result, Ok, Err, IfOk, Bor, Global, String, map, string_bytes}
 use Rattle.std.specs.declared.alloc.AllocError.{AllocError}
 
@@ -33,6 +33,7 @@ names Key words = refl
 names Unkey words = refl
 names Spans words = refl
 names Sql words = refl
+names Simplify words = refl
 names Help words = refl
 names About words = refl
 

@@ -32,6 +32,7 @@ use Rattle.npm_semver.specs.Responses.{bare, line}
 use Rattle.npm_semver.specs.Spans.{AreSpansOf, HasDialect, condition, is_column, span_text}
 use Rattle.npm_semver.specs.declared.help.TheConstants.{HELP}
 use Rattle.npm_semver.specs.declared.subcommands.pages.TheConstants.{ABOUT}
+use Rattle.key_spans.specs.Ranges.{IsSimple}
 use Rattle.key_spans.specs.declared.KeySpan.{KeySpan}
 use Rattle.npm_semver.specs.declared.subcommands.spans.Dialect.{Dialect}
 use Rattle.npm_semver.specs.declared.subcommands.replies.Status.{Status}
@@ -104,6 +105,11 @@ pub data IsShown : Option Range → Said → Type 0 where
       → IsShown (Some r) (reply true (Some (range_text r)))
   none : (found : Option Range) → NoValue (λ v. accepts (unwrap_or found []) v false ≡ true)
       → IsShown found (reply false None)
+
+-- the one range of the versions that the other accepts, if there are some
+pub record IsSimplified (r : Range) (found : Option Range) : Type 0 where
+  pub same : (v : VersionValue) → IsVersion v → accepts (unwrap_or found []) v false ≡ accepts r v false
+  pub simple : IfSome found (IsSimple false)
 
 -- the text is a range, as npm reads it without pre-releases included
 abbrev pub IsRange : List ℕ → Range → Type 0
@@ -182,6 +188,8 @@ pub data Answers : List (List ℕ) → Said → Type 0 where
   sql : (a column : List ℕ) (words : List (List ℕ)) (dialect : Dialect) (spans : List KeySpan)
       → AreSpansOf a spans → is_column column ≡ true → HasDialect words dialect
       → Answers (codes "sql" ∷ a ∷ column ∷ words) (reply true (Some (condition dialect column spans)))
+  simplify : (a : List ℕ) (r : Range) (found : Option Range) (said : Said) → IsRange a r
+      → IsSimplified r found → IsShown found said → Answers (codes "simplify" ∷ a ∷ []) said
   help : Answers (codes "help" ∷ []) (say HELP.now None Yes)
   about : Answers (codes "about" ∷ []) (say ABOUT.now None Yes)
 
@@ -220,7 +228,7 @@ pub data IsReply (input : List ℕ) (is_utf8 : Bool) (words : List (List ℕ)) :
 abbrev pub is_subcommand : List ℕ → Bool
 is_subcommand = is_one_of (codes "compare" ∷ codes "diff" ∷ codes "next" ∷ codes "range"
     ∷ codes "least" ∷ codes "explain" ∷ codes "get" ∷ codes "valid" ∷ codes "key" ∷ codes "unkey"
-    ∷ codes "spans" ∷ codes "sql" ∷ codes "help" ∷ codes "about" ∷ [])
+    ∷ codes "spans" ∷ codes "sql" ∷ codes "simplify" ∷ codes "help" ∷ codes "about" ∷ [])
 
 abbrev pub exit_status : Status → ℕ
 exit_status status = elim status [ Yes ↦ 0 | No ↦ 1 | Malformed ↦ 2 ]

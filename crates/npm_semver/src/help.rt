@@ -15,6 +15,7 @@ usage: semver [options] <version>...
        semver unkey <key>...
        semver spans <range>
        semver sql <range> <column> [--dialect sqlite|postgres|duckdb|mysql]
+       semver simplify <range>
        semver help | semver about
 
   -r, --range <range>         print only versions that the range accepts; of several ranges, all

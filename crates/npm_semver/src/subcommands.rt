@@ -13,6 +13,7 @@ mod pages;
 mod parts;
 mod ranges;
 mod replies;
+mod simplify;
 mod spans;
 mod versions;
 
@@ -22,6 +23,7 @@ use crate::subcommands::pages::{about, help};
 use crate::subcommands::parts::{get, valid};
 use crate::subcommands::ranges::{least, range};
 pub use crate::subcommands::replies::{Reply, Status, Trouble};
+use crate::subcommands::simplify::simplify;
 use crate::subcommands::spans::{spans, sql};
 use crate::subcommands::versions::{compare, diff, next};
 use nodejs_semver::Failure;
@@ -54,6 +56,8 @@ pub enum Subcommand {
     Spans,
     /// A condition of SQL for a range.
     Sql,
+    /// The one range of a set of versions.
+    Simplify,
     /// The text of `--help`.
     Help,
     /// The name of the program and its version.
@@ -79,6 +83,7 @@ impl Subcommand {
             "unkey" => Some(Subcommand::Unkey),
             "spans" => Some(Subcommand::Spans),
             "sql" => Some(Subcommand::Sql),
+            "simplify" => Some(Subcommand::Simplify),
             "help" => Some(Subcommand::Help),
             "about" => Some(Subcommand::About),
             _ => None,
@@ -167,6 +172,7 @@ impl Subcommand {
             Subcommand::Unkey => unkey(alloc, words),
             Subcommand::Spans => spans(alloc, words),
             Subcommand::Sql => sql(alloc, words),
+            Subcommand::Simplify => simplify(alloc, words),
             Subcommand::Help => help(alloc, words),
             Subcommand::About => about(alloc, words),
         }

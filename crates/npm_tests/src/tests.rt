@@ -10,6 +10,7 @@ mod npm_versions;
 mod reading_texts;
 mod readme;
 mod sets;
+mod simplified;
 mod spans;
 
 use std::alloc::{AllocError, Global};

@@ -17,7 +17,7 @@ use Rattle.npm_semver.specs.declared.subcommands.replies.Trouble.TheVariants as 
 use Rattle.npm_semver.specs.declared.subcommands.Subcommand.{Subcommand}
 use Rattle.npm_semver.specs.declared.subcommands.Subcommand.TheVariants.{Compare, Diff, Next, Range}
 use Rattle.npm_semver.specs.declared.subcommands.Subcommand.TheVariants.{Least, Explain, Get, Valid}
-use Rattle.npm_semver.specs.declared.subcommands.Subcommand.TheVariants.{Key, Unkey, Spans, Sql, Help, About}
+use Rattle.npm_semver.specs.declared.subcommands.Subcommand.TheVariants.{Key, Unkey, Spans, Sql, Simplify, Help, About}
 use Rattle.npm_semver.specs.declared.subcommands.parts.Part.{Part}
 use Rattle.npm_semver.specs.declared.subcommands.parts.Part.TheVariants as Parts
 use Rattle.npm_semver.specs.declared.subcommands.ranges.Operation.{Operation}
@@ -50,6 +50,7 @@ name_of Key = codes "key"
 name_of Unkey = codes "unkey"
 name_of Spans = codes "spans"
 name_of Sql = codes "sql"
+name_of Simplify = codes "simplify"
 name_of Help = codes "help"
 name_of About = codes "about"
 

@@ -35,6 +35,9 @@ returns-in-Spans-clause-ascii c = λ plain. draws_nothing _ _ _ (is_other _ _ c.
 pub returns-in-Sql-clause-ascii : goal.returns-in-Sql-clause-ascii
 returns-in-Sql-clause-ascii c = λ plain. draws_nothing _ _ _ (is_other _ _ c.in-Sql.is refl)
 
+pub returns-in-Simplify-clause-ascii : goal.returns-in-Simplify-clause-ascii
+returns-in-Simplify-clause-ascii c = λ plain. draws_nothing _ _ _ (is_other _ _ c.in-Simplify.is refl)
+
 pub returns-in-Help-clause-ascii : goal.returns-in-Help-clause-ascii
 returns-in-Help-clause-ascii c = λ plain. draws_nothing _ _ _ (is_other _ _ c.in-Help.is refl)
 
