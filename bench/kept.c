@@ -121,6 +121,8 @@ ASK(is_subset, COUNT, nodejs_semver_is_subset(R, S, false, &answer) ? 0 : answer
 ASK(intersect, COUNT, !nodejs_semver_intersect(R, S, TOLD))
 ASK(difference, COUNT, !nodejs_semver_difference(R, S, TOLD))
 ASK(union_of, COUNT, !nodejs_semver_union(R, S, TOLD))
+ASK(next, COUNT, nodejs_semver_next(v, "minor", 5, "", 0, NODEJS_SEMVER_BASE_ZERO, &parts, out, ROOM) ? 0 : parts.minor)
+ASK(next_beta, COUNT, nodejs_semver_next(v, "prerelease", 10, "beta", 4, NODEJS_SEMVER_BASE_ZERO, &parts, out, ROOM) ? 0 : parts.minor)
 ASK(least_version, COUNT, !nodejs_semver_least_version(R, &parts, out, ROOM))
 ASK(least_beyond, COUNT, !nodejs_semver_least_beyond(R, S, false, &parts, out, ROOM))
 ASK(greatest, MANY, !nodejs_semver_greatest(R, VERSIONS, &place))
@@ -130,7 +132,7 @@ ASK(accepts_each, MANY, nodejs_semver_accepts_each(R, VERSIONS, answers, COUNT) 
 static const struct {
     const char *name;
     uint64_t (*ask)(void);
-} CALLS[] = {{"order", order}, {"order_with_builds", order_with_builds}, {"kind", kind_of}, {"print", print}, {"print_range", print_range},
+} CALLS[] = {{"order", order}, {"order_with_builds", order_with_builds}, {"kind", kind_of}, {"next", next}, {"next_beta", next_beta}, {"print", print}, {"print_range", print_range},
     {"accepts", accepts}, {"meets", meets}, {"covers", covers}, {"lies_outside", lies_outside}, {"is_subset", is_subset},
     {"intersect", intersect}, {"difference", difference}, {"union", union_of}, {"least_version", least_version},
     {"least_beyond", least_beyond}, {"greatest", greatest}, {"least", least}, {"accepts_each", accepts_each}};

@@ -15,8 +15,9 @@
  * With every other status nothing is written, unless the function says otherwise.
  *
  * A version that was read once is kept as a nodejs_semver_version, which leads to texts in the caller's memory: nodejs_semver_version_read
- * tells its parts. Texts of it that spell no identifiers are rejected at each question. A range is kept as an array of
- * nodejs_semver_interval, one or more: nodejs_semver_range_read tells their parts. Intervals that no range has are rejected at each question.
+ * tells its parts. A range is kept as an array of nodejs_semver_interval, one or more: nodejs_semver_range_read tells their parts. A
+ * function that prints a kept version or range, or makes another one, rejects texts that spell no identifiers, and intervals that no range
+ * has. One that only compares or asks checks nothing first: nodejs_semver_check and nodejs_semver_check_range say what is kept.
  *
  * Output buffers must not overlap inputs or one another, and no other thread may touch them during the call.
  */
@@ -406,27 +407,35 @@ nodejs_semver_status nodejs_semver_version_read(uint32_t reading, const char *ve
     nodejs_semver_parts *parts, char *out, size_t out_size);
 
 /*
- * How the first version compares to the second: `order` gets -1, 0 or 1. Build metadata does not count.
+ * Whether the texts of a version spell identifiers: the status is NODEJS_SEMVER_OK or says why not.
  *
  * Returns NODEJS_SEMVER_OK, NODEJS_SEMVER_BAD_VERSION or NODEJS_SEMVER_TOO_LONG.
+ */
+nodejs_semver_status nodejs_semver_check(const nodejs_semver_version *version);
+
+/*
+ * How the first version compares to the second: `order` gets -1, 0 or 1. Build metadata does not count. Texts that
+ * spell no identifiers are compared too, cut at their dots.
+ *
+ * Returns NODEJS_SEMVER_OK.
  */
 nodejs_semver_status nodejs_semver_order(const nodejs_semver_version *version, const nodejs_semver_version *other,
     int32_t *order);
 
 /*
  * How the first version compares to the second: `order` gets -1, 0 or 1. Of equal versions the build metadata
- * decides, identifier by identifier.
+ * decides, identifier by identifier. Texts that spell no identifiers are compared too, cut at their dots.
  *
- * Returns NODEJS_SEMVER_OK, NODEJS_SEMVER_BAD_VERSION or NODEJS_SEMVER_TOO_LONG.
+ * Returns NODEJS_SEMVER_OK.
  */
 nodejs_semver_status nodejs_semver_order_with_builds(const nodejs_semver_version *version,
     const nodejs_semver_version *other, int32_t *order);
 
 /*
  * The kind of difference between two versions: `kind` gets one of NODEJS_SEMVER_KIND_NONE to
- * NODEJS_SEMVER_KIND_PRERELEASE.
+ * NODEJS_SEMVER_KIND_PRERELEASE. Texts that spell no identifiers are compared too, cut at their dots.
  *
- * Returns NODEJS_SEMVER_OK, NODEJS_SEMVER_BAD_VERSION or NODEJS_SEMVER_TOO_LONG.
+ * Returns NODEJS_SEMVER_OK.
  */
 nodejs_semver_status nodejs_semver_kind(const nodejs_semver_version *version, const nodejs_semver_version *other,
     uint32_t *kind);
@@ -465,21 +474,28 @@ nodejs_semver_status nodejs_semver_next(const nodejs_semver_version *version, co
     size_t out_size);
 
 /*
- * Whether a range accepts a version. A pre-release is accepted only where a bound names one of the same three
- * numbers, unless pre-releases are included.
+ * Whether a range has these intervals: one or more, with bounds in order, of a kind that is known, whose texts
+ * spell identifiers and whose numbers are at most 9007199254740992. The status is NODEJS_SEMVER_OK or says why not.
  *
- * Returns NODEJS_SEMVER_OK, NODEJS_SEMVER_BAD_VERSION, NODEJS_SEMVER_BAD_RANGE, NODEJS_SEMVER_NO_MEMORY or
- * NODEJS_SEMVER_TOO_LONG.
+ * Returns NODEJS_SEMVER_OK, NODEJS_SEMVER_BAD_VERSION, NODEJS_SEMVER_BAD_RANGE or NODEJS_SEMVER_TOO_LONG.
+ */
+nodejs_semver_status nodejs_semver_check_range(const nodejs_semver_interval *range, size_t range_len);
+
+/*
+ * Whether a range accepts a version. A pre-release is accepted only where a bound names one of the same three
+ * numbers, unless pre-releases are included. Neither the range nor the version is checked first:
+ * `nodejs_semver_check_range` and `nodejs_semver_check` do so.
+ *
+ * Returns NODEJS_SEMVER_OK or NODEJS_SEMVER_TOO_LONG.
  */
 nodejs_semver_status nodejs_semver_accepts(const nodejs_semver_interval *range, size_t range_len,
     const nodejs_semver_version *version, bool include_prerelease, bool *answer);
 
 /*
- * Which of some versions a range accepts: `answers` gets one of NODEJS_SEMVER_ANSWER_NO, NODEJS_SEMVER_ANSWER_YES
- * and NODEJS_SEMVER_ANSWER_NO_VERSION for each. If it has room for fewer, nothing is looked at or written.
+ * Which of some versions a range accepts: `answers` gets NODEJS_SEMVER_ANSWER_NO or NODEJS_SEMVER_ANSWER_YES for
+ * each, as `nodejs_semver_accepts` answers. If it has room for fewer, nothing is looked at or written.
  *
- * Returns NODEJS_SEMVER_OK, NODEJS_SEMVER_TOO_SMALL, NODEJS_SEMVER_BAD_VERSION, NODEJS_SEMVER_BAD_RANGE,
- * NODEJS_SEMVER_NO_MEMORY or NODEJS_SEMVER_TOO_LONG.
+ * Returns NODEJS_SEMVER_OK, NODEJS_SEMVER_TOO_SMALL or NODEJS_SEMVER_TOO_LONG.
  */
 nodejs_semver_status nodejs_semver_accepts_each(const nodejs_semver_interval *range, size_t range_len,
     const nodejs_semver_version *versions, size_t versions_len, bool include_prerelease, uint8_t *answers,
@@ -487,29 +503,26 @@ nodejs_semver_status nodejs_semver_accepts_each(const nodejs_semver_interval *ra
 
 /*
  * Which of some versions is the greatest that a range accepts, the last of equal ones: `index` gets its place.
- * Where a version is rejected, `index` gets the place of the first such version.
+ * Neither the range nor the versions are checked first.
  *
- * Returns NODEJS_SEMVER_OK, NODEJS_SEMVER_NOTHING, NODEJS_SEMVER_BAD_VERSION, NODEJS_SEMVER_BAD_RANGE,
- * NODEJS_SEMVER_NO_MEMORY or NODEJS_SEMVER_TOO_LONG.
+ * Returns NODEJS_SEMVER_OK, NODEJS_SEMVER_NOTHING or NODEJS_SEMVER_TOO_LONG.
  */
 nodejs_semver_status nodejs_semver_greatest(const nodejs_semver_interval *range, size_t range_len,
     const nodejs_semver_version *versions, size_t versions_len, bool include_prerelease, size_t *index);
 
 /*
  * Which of some versions is the smallest that a range accepts, the first of equal ones: `index` gets its place.
- * Where a version is rejected, `index` gets the place of the first such version.
+ * Neither the range nor the versions are checked first.
  *
- * Returns NODEJS_SEMVER_OK, NODEJS_SEMVER_NOTHING, NODEJS_SEMVER_BAD_VERSION, NODEJS_SEMVER_BAD_RANGE,
- * NODEJS_SEMVER_NO_MEMORY or NODEJS_SEMVER_TOO_LONG.
+ * Returns NODEJS_SEMVER_OK, NODEJS_SEMVER_NOTHING or NODEJS_SEMVER_TOO_LONG.
  */
 nodejs_semver_status nodejs_semver_least(const nodejs_semver_interval *range, size_t range_len,
     const nodejs_semver_version *versions, size_t versions_len, bool include_prerelease, size_t *index);
 
 /*
- * Whether two ranges have something in common.
+ * Whether two ranges have something in common. Neither is checked first.
  *
- * Returns NODEJS_SEMVER_OK, NODEJS_SEMVER_BAD_VERSION, NODEJS_SEMVER_BAD_RANGE, NODEJS_SEMVER_NO_MEMORY or
- * NODEJS_SEMVER_TOO_LONG.
+ * Returns NODEJS_SEMVER_OK or NODEJS_SEMVER_TOO_LONG.
  */
 nodejs_semver_status nodejs_semver_meets(const nodejs_semver_interval *range, size_t range_len,
     const nodejs_semver_interval *other, size_t other_len, bool *answer);
@@ -525,10 +538,9 @@ nodejs_semver_status nodejs_semver_covers(const nodejs_semver_interval *range, s
 
 /*
  * Whether a version lies above a range, or below it where `above` is false: the range does not accept it, and every
- * interval of the range lies on the other side.
+ * interval of the range lies on the other side. Neither is checked first.
  *
- * Returns NODEJS_SEMVER_OK, NODEJS_SEMVER_BAD_VERSION, NODEJS_SEMVER_BAD_RANGE, NODEJS_SEMVER_NO_MEMORY or
- * NODEJS_SEMVER_TOO_LONG.
+ * Returns NODEJS_SEMVER_OK or NODEJS_SEMVER_TOO_LONG.
  */
 nodejs_semver_status nodejs_semver_lies_outside(const nodejs_semver_interval *range, size_t range_len,
     const nodejs_semver_version *version, bool above, bool include_prerelease, bool *answer);

@@ -300,18 +300,38 @@ static void kept(void)
     CHECK(nodejs_semver_kind(&great, &release, &kind) == NODEJS_SEMVER_OK && kind == NODEJS_SEMVER_KIND_PATCH);
     CHECK(nodejs_semver_kind(&alpha, &beta, &kind) == NODEJS_SEMVER_OK && kind == NODEJS_SEMVER_KIND_PRERELEASE);
     CHECK(nodejs_semver_kind(&release, &built, &kind) == NODEJS_SEMVER_OK && kind == NODEJS_SEMVER_KIND_NONE);
-    order = 7;
-    kind = 9;
     for (size_t at = 0; at < sizeof wrong / sizeof *wrong; at++) {
         nodejs_semver_version pre = version_of(3, wrong[at], ""), build = version_of(3, "", wrong[at]);
-        CHECK(nodejs_semver_order(&pre, &release, &order) == NODEJS_SEMVER_BAD_VERSION && order == 7);
-        CHECK(nodejs_semver_order_with_builds(&release, &build, &order) == NODEJS_SEMVER_BAD_VERSION && order == 7);
-        CHECK(nodejs_semver_kind(&build, &release, &kind) == NODEJS_SEMVER_BAD_VERSION && kind == 9);
+        CHECK(nodejs_semver_check(&pre) == NODEJS_SEMVER_BAD_VERSION && nodejs_semver_check(&build) == NODEJS_SEMVER_BAD_VERSION);
+        CHECK(nodejs_semver_order(&pre, &release, &order) == NODEJS_SEMVER_OK && order == -1);
+        CHECK(nodejs_semver_order(&pre, &pre, &order) == NODEJS_SEMVER_OK && order == 0);
+        CHECK(nodejs_semver_order_with_builds(&release, &build, &order) == NODEJS_SEMVER_OK && order == -1);
+        CHECK(nodejs_semver_kind(&build, &release, &kind) == NODEJS_SEMVER_OK && kind == NODEJS_SEMVER_KIND_NONE);
+        CHECK(nodejs_semver_kind(&pre, &great, &kind) == NODEJS_SEMVER_OK && kind == NODEJS_SEMVER_KIND_PATCH);
         CHECK(nodejs_semver_print(&pre, out, sizeof out, &len) == NODEJS_SEMVER_BAD_VERSION && len == 5);
     }
-    built.build.len = HUGE_LENGTH;
-    CHECK(nodejs_semver_order(&release, &built, &order) == NODEJS_SEMVER_TOO_LONG && order == 7);
+    CHECK(nodejs_semver_check(&alpha) == NODEJS_SEMVER_OK && nodejs_semver_check(&great) == NODEJS_SEMVER_OK);
+    /* Pre-releases of the same numbers, by the pieces between their dots: no piece is 0, and digits past 64 bits are a text. */
+    const struct { const char *low, *high; int32_t order; } ties[] = {
+        {"a.9", "a.10", -1}, {"a..1", "a.0.1", 0}, {"a.", "a.0", 0}, {".", "0.0", 0}, {"a", "a.", -1}, {"007", "7", 0}, {"7", "7a", -1},
+        {"18446744073709551615", "18446744073709551616", -1}, {"18446744073709551616", "9a", -1}, {"A", "a", -1}, {"-", "0", 1}, {"a\xff", "a_", 1},
+    };
+    for (size_t at = 0; at < sizeof ties / sizeof *ties; at++) {
+        nodejs_semver_version low = version_of(3, ties[at].low, ties[at].low), high = version_of(3, ties[at].high, ties[at].high);
+        CHECK(nodejs_semver_order(&low, &high, &order) == NODEJS_SEMVER_OK && order == ties[at].order);
+        CHECK(nodejs_semver_order(&high, &low, &order) == NODEJS_SEMVER_OK && order == -ties[at].order);
+        low.pre_release = high.pre_release = release.pre_release;
+        CHECK(nodejs_semver_order_with_builds(&low, &high, &order) == NODEJS_SEMVER_OK && order == ties[at].order);
+    }
+    /* Of a length that no memory has, no byte is looked at: the text counts as the byte 0. */
+    nodejs_semver_version vast = version_of(3, "", "");
+    vast.pre_release = vast.build = (nodejs_semver_text){"", HUGE_LENGTH};
+    CHECK(nodejs_semver_order(&vast, &release, &order) == NODEJS_SEMVER_OK && order == -1);
+    CHECK(nodejs_semver_order(&vast, &alpha, &order) == NODEJS_SEMVER_OK && order == -1);
+    CHECK(nodejs_semver_order_with_builds(&vast, &vast, &order) == NODEJS_SEMVER_OK && order == 0);
+    CHECK(nodejs_semver_check(&vast) == NODEJS_SEMVER_TOO_LONG);
     built.build.len = SIZE_MAX;
+    CHECK(nodejs_semver_order_with_builds(&release, &built, &order) == NODEJS_SEMVER_OK && order == -1);
     CHECK(nodejs_semver_print(&built, out, sizeof out, &len) == NODEJS_SEMVER_TOO_LONG && len == 5);
 }
 
@@ -380,12 +400,12 @@ static void kept_ranges(void)
     CHECK(nodejs_semver_accepts(range, count, &later, false, &answer) == NODEJS_SEMVER_OK && !answer);
     CHECK(nodejs_semver_accepts(range, count, &later, true, &answer) == NODEJS_SEMVER_OK && answer);
     CHECK(nodejs_semver_accepts(range, count, &great, false, &answer) == NODEJS_SEMVER_OK && answer);
-    CHECK(nodejs_semver_accepts(range, count, &wrong, false, &answer) == NODEJS_SEMVER_BAD_VERSION && answer);
+    CHECK(nodejs_semver_accepts(range, count, &wrong, true, &answer) == NODEJS_SEMVER_OK && !answer);
 
     nodejs_semver_version versions[] = {later, release, beta, release, wrong};
     uint8_t answers[5] = {9, 9, 9, 9, 9};
     CHECK(nodejs_semver_accepts_each(range, count, versions, 5, false, answers, 4) == NODEJS_SEMVER_TOO_SMALL && answers[0] == 9);
-    CHECK(nodejs_semver_accepts_each(range, count, versions, 5, false, answers, 5) == NODEJS_SEMVER_OK && !memcmp(answers, "\0\1\1\1\2", 5));
+    CHECK(nodejs_semver_accepts_each(range, count, versions, 5, false, answers, 5) == NODEJS_SEMVER_OK && !memcmp(answers, "\0\1\1\1\0", 5));
     CHECK(nodejs_semver_accepts_each(range, count, NULL, 0, false, NULL, 0) == NODEJS_SEMVER_OK);
     CHECK(nodejs_semver_greatest(range, count, versions, 4, false, &index) == NODEJS_SEMVER_OK && index == 3);
     CHECK(nodejs_semver_least(range, count, versions, 4, false, &index) == NODEJS_SEMVER_OK && index == 2);
@@ -393,7 +413,8 @@ static void kept_ranges(void)
     CHECK(nodejs_semver_least(range, count, versions, 2, true, &index) == NODEJS_SEMVER_OK && index == 0);
     CHECK(nodejs_semver_greatest(range, count, versions, 1, false, &index) == NODEJS_SEMVER_NOTHING && index == 0);
     CHECK(nodejs_semver_greatest(range, count, NULL, 0, false, &index) == NODEJS_SEMVER_NOTHING && index == 0);
-    CHECK(nodejs_semver_greatest(range, count, versions, 5, false, &index) == NODEJS_SEMVER_BAD_VERSION && index == 4);
+    CHECK(nodejs_semver_greatest(range, count, versions, 5, false, &index) == NODEJS_SEMVER_OK && index == 3);
+    CHECK(nodejs_semver_check_range(range, count) == NODEJS_SEMVER_OK);
 
     CHECK(nodejs_semver_meets(range, count, other, 1, &answer) == NODEJS_SEMVER_OK && answer);
     CHECK(nodejs_semver_meets(range, count, &range[1], 1, &answer) == NODEJS_SEMVER_OK && answer);
@@ -603,30 +624,50 @@ static void no_ranges(void)
         nodejs_semver_interval list[] = {given[9].it, given[at].it};
         nodejs_semver_status wanted = given[at].status;
         bool answer = false, is_wrong = wanted != NODEJS_SEMVER_OK;
-        uint8_t answers[1] = {9};
         size_t index = 7, len = 5;
         char out[8] = "x";
         nodejs_semver_parts told = {9, 9, 9, 9, 9};
-        CHECK(nodejs_semver_accepts(list, 2, &release, false, &answer) == wanted && answer == !is_wrong);
-        CHECK(nodejs_semver_accepts_each(list, 2, &release, 1, false, answers, 1) == wanted && answers[0] == (is_wrong ? 9 : 1));
-        CHECK(nodejs_semver_greatest(list, 2, &release, 1, false, &index) == wanted && index == (is_wrong ? 7 : 0));
-        index = 7;
-        CHECK(nodejs_semver_least(&list[1], 1, &release, 1, false, &index) == wanted && index == (is_wrong ? 7 : 0));
-        answer = false;
-        CHECK(nodejs_semver_meets(list, 2, list, 1, &answer) == wanted && answer == !is_wrong);
-        answer = false;
+        CHECK(nodejs_semver_check_range(list, 2) == wanted && nodejs_semver_check_range(&list[1], 1) == wanted);
         CHECK(nodejs_semver_covers(list, 1, list, 2, &answer) == wanted && answer == !is_wrong);
-        answer = true;
-        CHECK(nodejs_semver_lies_outside(list, 2, &release, true, false, &answer) == wanted && answer == is_wrong);
         CHECK(nodejs_semver_least_version(list, 2, &told, NULL, 0) == wanted && told.major == (is_wrong ? 9 : 0));
         CHECK(nodejs_semver_print_range(list, 2, out, sizeof out, &len) == (is_wrong ? wanted : NODEJS_SEMVER_TOO_SMALL) && out[0] == 'x');
+        /* What only asks answers: the first interval accepts the version, and meets itself. */
+        uint8_t answers[1] = {9};
+        answer = false;
+        CHECK(nodejs_semver_accepts(list, 2, &release, false, &answer) == NODEJS_SEMVER_OK && answer);
+        CHECK(nodejs_semver_accepts_each(list, 2, &release, 1, false, answers, 1) == NODEJS_SEMVER_OK && answers[0] == 1);
+        CHECK(nodejs_semver_greatest(list, 2, &release, 1, false, &index) == NODEJS_SEMVER_OK && index == 0);
+        index = 7;
+        CHECK(nodejs_semver_least(list, 2, &release, 1, false, &index) == NODEJS_SEMVER_OK && index == 0);
+        answer = false;
+        CHECK(nodejs_semver_meets(list, 2, list, 1, &answer) == NODEJS_SEMVER_OK && answer);
+        CHECK(nodejs_semver_lies_outside(list, 2, &release, true, false, &answer) == NODEJS_SEMVER_OK && !answer);
+    }
+    /* Bounds in the wrong order, or with nothing between them, meet nothing and accept nothing. */
+    for (size_t at = 2; at < 4; at++) {
+        bool answer = true;
+        nodejs_semver_version two = {2, 0, 0, {"", 0}, {"", 0}};
+        CHECK(nodejs_semver_meets(&given[at].it, 1, &given[9].it, 1, &answer) == NODEJS_SEMVER_OK && !answer);
+        answer = true;
+        CHECK(nodejs_semver_meets(&given[9].it, 1, &given[at].it, 1, &answer) == NODEJS_SEMVER_OK && !answer);
+        answer = true;
+        CHECK(nodejs_semver_accepts(&given[at].it, 1, &two, false, &answer) == NODEJS_SEMVER_OK && !answer);
     }
     bool answer = true;
     size_t index = 7;
-    CHECK(nodejs_semver_accepts(NULL, 0, &release, false, &answer) == NODEJS_SEMVER_BAD_RANGE && answer);
+    uint8_t answers[1] = {9};
+    CHECK(nodejs_semver_accepts(NULL, 0, &release, false, &answer) == NODEJS_SEMVER_OK && !answer);
+    CHECK(nodejs_semver_meets(NULL, 0, &given[9].it, 1, &answer) == NODEJS_SEMVER_OK && !answer);
+    CHECK(nodejs_semver_lies_outside(NULL, 0, &release, true, false, &answer) == NODEJS_SEMVER_OK && answer);
+    CHECK(nodejs_semver_greatest(NULL, 0, &release, 1, false, &index) == NODEJS_SEMVER_NOTHING && index == 7);
+    CHECK(nodejs_semver_check_range(NULL, 0) == NODEJS_SEMVER_BAD_RANGE);
+    CHECK(nodejs_semver_check_range(&given[9].it, HUGE_LENGTH) == NODEJS_SEMVER_TOO_LONG);
     CHECK(nodejs_semver_accepts(&given[9].it, HUGE_LENGTH, &release, false, &answer) == NODEJS_SEMVER_TOO_LONG && answer);
     CHECK(nodejs_semver_meets(&given[9].it, 1, &given[9].it, SIZE_MAX, &answer) == NODEJS_SEMVER_TOO_LONG && answer);
+    CHECK(nodejs_semver_lies_outside(&given[9].it, SIZE_MAX, &release, false, false, &answer) == NODEJS_SEMVER_TOO_LONG && answer);
     CHECK(nodejs_semver_greatest(&given[9].it, 1, &release, SIZE_MAX, false, &index) == NODEJS_SEMVER_TOO_LONG && index == 7);
+    CHECK(nodejs_semver_least(&given[9].it, HUGE_LENGTH, &release, 1, false, &index) == NODEJS_SEMVER_TOO_LONG && index == 7);
+    CHECK(nodejs_semver_accepts_each(&given[9].it, 1, &release, HUGE_LENGTH, false, answers, 1) == NODEJS_SEMVER_TOO_LONG && answers[0] == 9);
 }
 
 /* What npm's reading finds wrong. */

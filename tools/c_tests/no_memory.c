@@ -42,7 +42,7 @@ typedef struct {
 #define TEXTS texts, sizeof texts / sizeof *texts
 
 /* Calls from this number on make no request; each of the others does. */
-enum { FIRST_WITHOUT = 34, CALLS = 62 };
+enum { FIRST_WITHOUT = 31, CALLS = 64 };
 
 static nodejs_semver_status call(int which, written *w)
 {
@@ -70,9 +70,9 @@ static nodejs_semver_status call(int which, written *w)
     case 16: return nodejs_semver_range_accepts_same(NPM, T(RANGE), T(OTHER), false, &w->answer);
     case 17: return nodejs_semver_range_read(NPM, T(RANGE), true, w->intervals, 3, &w->index, OUT);
     case 18: return nodejs_semver_union(several, 1, several, 2, w->intervals, 3, &w->index, OUT);
-    case 19: return nodejs_semver_accepts_each(several, 2, &kept, 1, true, w->answers, 3);
-    case 20: return nodejs_semver_greatest(several, 2, &kept, 1, true, &w->index);
-    case 21: return nodejs_semver_least(several, 2, &kept, 1, false, &w->index);
+    case 19: return nodejs_semver_simplify(several, 2, &kept, 1, w->intervals, 3, &w->index, OUT, &w->order[0]);
+    case 20: return nodejs_semver_key(&kept, OUT);
+    case 21: return nodejs_semver_key_spans(several, 2, false, w->spans, 6, &w->index, OUT);
     case 22: return nodejs_semver_least_beyond(several, 2, later, 1, false, &w->parts, w->out, sizeof w->out);
     case 23: return nodejs_semver_covers(several, 1, several, 2, &w->answer);
     case 24: return nodejs_semver_is_subset(several, 2, several, 2, false, &w->answer);
@@ -82,9 +82,9 @@ static nodejs_semver_status call(int which, written *w)
     case 28: return nodejs_semver_difference(several, 2, later, 1, w->intervals, 3, &w->index, OUT);
     case 29: return nodejs_semver_next(&kept, T("prerelease"), T("beta"), 0, &w->parts, w->out, sizeof w->out);
     case 30: return nodejs_semver_least_beyond(several, 2, later, 1, true, &w->parts, w->out, sizeof w->out);
-    case 31: return nodejs_semver_simplify(several, 2, &kept, 1, w->intervals, 3, &w->index, OUT, &w->order[0]);
-    case 32: return nodejs_semver_key(&kept, OUT);
-    case 33: return nodejs_semver_key_spans(several, 2, false, w->spans, 6, &w->index, OUT);
+    case 31: return nodejs_semver_accepts_each(several, 2, &kept, 1, true, w->answers, 3);
+    case 32: return nodejs_semver_greatest(several, 2, &kept, 1, true, &w->index);
+    case 33: return nodejs_semver_least(several, 2, &kept, 1, false, &w->index);
     case 34: return nodejs_semver_accepts(several, 2, &kept, false, &w->answer);
     case 35: return nodejs_semver_meets(several, 2, several, 2, &w->answer);
     case 36: return nodejs_semver_lies_outside(several, 2, &kept, true, false, &w->answer);
@@ -112,6 +112,8 @@ static nodejs_semver_status call(int which, written *w)
     case 59: return nodejs_semver_print_range(several, 1, OUT);
     case 60: return nodejs_semver_next(&release, T("minor"), T(""), 0, &w->parts, w->out, sizeof w->out);
     case 61: return nodejs_semver_version_build_text(T(" v1.2.3-a.b+00c.07 "), false, OUT);
+    case 62: return nodejs_semver_check(&kept);
+    case 63: return nodejs_semver_check_range(several, 2);
     default: return nodejs_semver_range_max_satisfying(PORT, T(">=1.2.0 <2.0.0-rc.1"), TEXTS, &w->index);
     }
 }

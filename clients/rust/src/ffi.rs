@@ -23,6 +23,11 @@ pub(crate) const NOT_A_PRERELEASE: Status = 8;
 pub(crate) const OVERFLOW: Status = 9;
 const NO_MEMORY: Status = 10;
 
+/// What a new pre-release begins to count with.
+pub(crate) const BASE_ZERO: u32 = 0;
+pub(crate) const BASE_ONE: u32 = 1;
+pub(crate) const BASE_NONE: u32 = 2;
+
 /// How a text is read.
 #[derive(Clone, Copy)]
 pub(crate) enum Reading {
@@ -284,13 +289,16 @@ impl Parts {
         self.pre_release_len.saturating_add(self.build_len)
     }
 
+    /// Whether there are no texts.
+    #[inline]
+    fn is_release(&self) -> bool {
+        self.pre_release_len | self.build_len == 0
+    }
+
     /// The version with these texts. The library writes as many as the parts say, so that this does
     /// not fail.
     #[inline]
     fn version(&self, texts: &[u8]) -> Result<Version, Status> {
-        if texts.is_empty() {
-            return Ok(Version::release(self.numbers));
-        }
         let text = ascii(texts).ok_or(BAD_ARGUMENT)?;
         let (pre_release, build) = text.split_at(self.pre_release_len.min(text.len()));
         Ok(Version::of_texts(self.numbers, pre_release, build))
@@ -300,38 +308,48 @@ impl Parts {
 /// The version that a call tells in parts, or the status.
 #[inline]
 fn version_told(
-    mut call: impl FnMut(&mut Parts, *mut u8, usize) -> Status,
+    call: impl Fn(&mut Parts, *mut u8, usize) -> Status + Copy,
 ) -> Result<Version, Status> {
     let (mut parts, mut few) = (Parts::default(), MaybeUninit::<[u8; MAX_LENGTH]>::uninit());
     match call(&mut parts, few.as_mut_ptr().cast(), MAX_LENGTH) {
+        OK if parts.is_release() => Ok(Version::release(parts.numbers)),
         // SAFETY: by this status the texts are written to the front.
         OK => parts.version(unsafe { front(&few, parts.len()) }),
-        TOO_SMALL => {
-            let mut more = vec![0; parts.len()];
-            match checked(call(&mut parts, more.as_mut_ptr(), more.len())) {
-                OK => parts.version(&more),
-                status => Err(status),
-            }
-        }
+        TOO_SMALL => long_version_told(parts.len(), call),
         status => Err(checked(status)),
     }
 }
 
+/// The same where the texts have this length.
+#[cold]
+fn long_version_told(
+    len: usize,
+    call: impl Fn(&mut Parts, *mut u8, usize) -> Status,
+) -> Result<Version, Status> {
+    let (mut parts, mut texts) = (Parts::default(), vec![0; len]);
+    match checked(call(&mut parts, texts.as_mut_ptr(), len)) {
+        OK => parts.version(&texts),
+        status => Err(status),
+    }
+}
+
 /// Reads a version.
+#[inline]
 pub(crate) fn read(reading: Reading, version: &str) -> Result<Version, Status> {
     let (at, len) = (version.as_ptr(), version.len());
     // SAFETY: each pointer is of a slice with the length after it, and `parts` is a whole value.
-    version_told(|parts, out, size| unsafe {
+    version_told(move |parts, out, size| unsafe {
         nodejs_semver_version_read(reading as u32, at, len, parts, out, size)
     })
 }
 
 /// The next version, and what the library says of the question.
+#[inline]
 pub(crate) fn next(version: &Kept, word: &str, id: &str, base: u32) -> Result<Version, Status> {
     let (word_len, id_len) = (word.len(), id.len());
     let (word, id) = (word.as_ptr(), id.as_ptr());
     // SAFETY: each pointer is of a slice with the length after it, or of a whole value.
-    version_told(|parts, out, size| unsafe {
+    version_told(move |parts, out, size| unsafe {
         nodejs_semver_next(version, word, word_len, id, id_len, base, parts, out, size)
     })
 }
@@ -364,6 +382,29 @@ unsafe fn next_text(left: &mut &[u8], len: usize) -> Text<'static> {
 }
 
 impl BoundParts {
+    /// The bound, whose texts are zeros.
+    #[inline]
+    fn kept_zeros(&self) -> KeptBound<'static> {
+        let zeros = |len: usize| Text {
+            at: ZEROS.as_ptr(),
+            len: len.min(ZEROS.len()),
+            from: PhantomData,
+        };
+        let Parts {
+            numbers,
+            pre_release_len,
+            build_len,
+        } = self.version;
+        KeptBound {
+            kind: self.kind,
+            version: Kept {
+                numbers,
+                pre_release: zeros(pre_release_len),
+                build: zeros(build_len),
+            },
+        }
+    }
+
     /// The bound, whose texts are the next ones of these.
     ///
     /// # Safety
@@ -397,6 +438,24 @@ impl BoundParts {
     }
 }
 
+impl IntervalParts {
+    /// The interval, whose texts are the next ones of these.
+    ///
+    /// # Safety
+    ///
+    /// They are ASCII, and their bytes are there as long as what is returned.
+    #[inline]
+    unsafe fn kept(&self, texts: &mut &[u8]) -> KeptInterval<'static> {
+        // SAFETY: the same is asked for here.
+        unsafe {
+            KeptInterval {
+                lower: self.lower.kept(texts),
+                upper: self.upper.kept(texts),
+            }
+        }
+    }
+}
+
 impl KeptRange {
     /// The range of one interval without bounds.
     pub(crate) fn any() -> KeptRange {
@@ -418,17 +477,29 @@ impl KeptRange {
     }
 
     /// The range of some parts, whose texts are these.
+    #[inline]
     fn of(told: &[IntervalParts], texts: &[u8]) -> Result<KeptRange, Status> {
+        match (told, texts) {
+            // Each text is empty, or it is the one that has a character.
+            ([one], [] | [b'0']) => Ok(KeptRange {
+                intervals: Arc::new([KeptInterval {
+                    lower: one.lower.kept_zeros(),
+                    upper: one.upper.kept_zeros(),
+                }]),
+                _texts: None,
+            }),
+            _ => KeptRange::of_many(told, texts),
+        }
+    }
+
+    /// The same of several intervals, or with other texts.
+    #[cold]
+    fn of_many(told: &[IntervalParts], texts: &[u8]) -> Result<KeptRange, Status> {
         let texts = ascii(texts).ok_or(BAD_ARGUMENT)?;
         let texts = (!ZEROS.starts_with(texts)).then(|| Arc::<str>::from(texts));
         let mut left = texts.as_deref().unwrap_or(ZEROS).as_bytes();
         // SAFETY: the texts are ASCII. Who has an interval has them too, or they are ZEROS.
-        let intervals = told.iter().map(|it| unsafe {
-            KeptInterval {
-                lower: it.lower.kept(&mut left),
-                upper: it.upper.kept(&mut left),
-            }
-        });
+        let intervals = told.iter().map(|it| unsafe { it.kept(&mut left) });
         Ok(KeptRange {
             intervals: intervals.collect(),
             _texts: texts,
@@ -446,8 +517,9 @@ struct Room(*mut IntervalParts, usize, *mut u8, usize);
 
 /// The range that a call tells, or the status: it says how many intervals there are, and how long
 /// the texts. Most fit into the first room.
+#[inline]
 fn range_told(
-    mut call: impl FnMut(Room, &mut usize, &mut usize) -> Status,
+    call: impl Fn(Room, &mut usize, &mut usize) -> Status + Copy,
 ) -> Result<KeptRange, Status> {
     const FEW: usize = 4;
     let mut few = MaybeUninit::<[IntervalParts; FEW]>::uninit();
@@ -465,24 +537,32 @@ fn range_told(
             let (told, texts) = unsafe { (front(&few, count), front(&short, len)) };
             KeptRange::of(told, texts)
         }
-        TOO_SMALL => {
-            let (mut many, mut long) = (vec![IntervalParts::default(); count], vec![0; len]);
-            let (told, texts) = (many.as_mut_ptr(), long.as_mut_ptr());
-            let room = Room(told, many.len(), texts, long.len());
-            match checked(call(room, &mut count, &mut len)) {
-                OK => KeptRange::of(&many, &long),
-                status => Err(status),
-            }
-        }
+        TOO_SMALL => long_range_told(count, len, call),
         status => Err(checked(status)),
     }
 }
 
+/// The same where there are so many intervals, and their texts have this length.
+#[cold]
+fn long_range_told(
+    mut count: usize,
+    mut len: usize,
+    call: impl Fn(Room, &mut usize, &mut usize) -> Status,
+) -> Result<KeptRange, Status> {
+    let (mut told, mut texts) = (vec![IntervalParts::default(); count], vec![0; len]);
+    let room = Room(told.as_mut_ptr(), count, texts.as_mut_ptr(), len);
+    match checked(call(room, &mut count, &mut len)) {
+        OK => KeptRange::of(&told, &texts),
+        status => Err(status),
+    }
+}
+
 /// Reads a range.
+#[inline]
 pub(crate) fn read_range(reading: Reading, range: &str) -> Result<KeptRange, Status> {
     let (at, len) = (range.as_ptr(), range.len());
     // SAFETY: each pointer is of a slice with the length after it.
-    range_told(|Room(parts, count, out, size), told, out_len| unsafe {
+    range_told(move |Room(parts, count, out, size), told, out_len| unsafe {
         let reading = reading as u32;
         nodejs_semver_range_read(
             reading, at, len, false, parts, count, told, out, size, out_len,
@@ -509,7 +589,7 @@ pub(crate) fn combine(
     let (one, len) = (range.as_ptr(), range.len());
     let (two, other_len) = (other.as_ptr(), other.len());
     // SAFETY: each pointer is of a slice with the length after it. The texts live as long.
-    range_told(|Room(parts, count, out, size), told, out_len| unsafe {
+    range_told(move |Room(parts, count, out, size), told, out_len| unsafe {
         call(
             one, len, two, other_len, parts, count, told, out, size, out_len,
         )
@@ -519,7 +599,7 @@ pub(crate) fn combine(
 /// The smallest version of a range.
 pub(crate) fn min_version(range: &[KeptInterval]) -> Result<Version, Status> {
     // SAFETY: each pointer is of a slice with the length after it. The texts live as long.
-    version_told(|parts, out, size| unsafe {
+    version_told(move |parts, out, size| unsafe {
         nodejs_semver_least_version(range.as_ptr(), range.len(), parts, out, size)
     })
 }

@@ -41,12 +41,25 @@ impl From<usize> for IdentifierBase {
     }
 }
 
+impl IdentifierBase {
+    /// The number that the library takes for it.
+    #[inline]
+    fn number(self) -> u32 {
+        match self {
+            IdentifierBase::Value(0) => ffi::BASE_ZERO,
+            IdentifierBase::Value(_) => ffi::BASE_ONE,
+            IdentifierBase::False => ffi::BASE_NONE,
+        }
+    }
+}
+
 /// A question for the next version.
 struct Increment<'a> {
     word: &'a str,
     // None where it is empty.
     identifier: Option<&'a str>,
-    base: IdentifierBase,
+    // By its number.
+    base: u32,
 }
 
 type Answer = Result<Version, IncrementError>;
@@ -61,22 +74,27 @@ impl Version {
     /// assert_eq!(next.to_string(), "1.2.4-beta.0");
     /// # Ok::<(), nodejs_semver::IncrementError>(())
     /// ```
+    #[inline]
     pub fn inc(
         &self,
         release: &str,
         identifier: Option<&str>,
         identifier_base: Option<IdentifierBase>,
     ) -> Result<Version, IncrementError> {
-        let identifier = identifier.filter(|it| !it.is_empty());
-        let base = identifier_base.unwrap_or_default();
-        let asked = Increment {
-            word: release,
-            identifier,
-            base,
+        let base = identifier_base.unwrap_or_default().number();
+        self.next(release, identifier.unwrap_or(""), base)
+    }
+
+    /// The library is not asked about an identifier that no text spells.
+    fn next(&self, word: &str, id: &str, base: u32) -> Answer {
+        let answer = match self.kept_whole() {
+            Some(kept) => ffi::next(&kept, word, id, base),
+            None => Err(ffi::BAD_ARGUMENT),
         };
-        asked
-            .by_library(self)
-            .unwrap_or_else(|| asked.by_rules(self))
+        match answer {
+            Ok(next) if id.is_empty() || is_single(id) => Ok(next),
+            answer => Increment::of(word, id, base).completed(self, answer),
+        }
     }
 
     /// The answer by the rules of this package.
@@ -87,13 +105,7 @@ impl Version {
         id: Option<&str>,
         base: IdentifierBase,
     ) -> Answer {
-        let identifier = id.filter(|it| !it.is_empty());
-        Increment {
-            word,
-            identifier,
-            base,
-        }
-        .by_rules(self)
+        Increment::of(word, id.unwrap_or(""), base.number()).by_rules(self)
     }
 }
 
@@ -105,37 +117,34 @@ fn raised(number: u64) -> Result<u64, IncrementError> {
     number.checked_add(1).ok_or(IncrementError::Overflow)
 }
 
-impl Increment<'_> {
-    /// The library's answer, unless the version has an identifier that no text spells.
-    fn by_library(&self, version: &Version) -> Option<Answer> {
-        let base = match self.base {
-            IdentifierBase::False => 2,
-            IdentifierBase::Value(value) => u32::from(value != 0),
-        };
-        let identifier = self.identifier.unwrap_or("");
-        match ffi::next(&version.kept_whole()?, self.word, identifier, base) {
-            Ok(next) if self.is_single() => Some(Ok(next)),
-            Ok(next) => {
-                let [major, minor, patch] = next.numbers();
-                let (pre, build) = (self.pre_release_of(version, &next), next.build().to_vec());
-                Some(Ok(Version::new(major, minor, patch, pre, build)))
-            }
-            Err(ffi::OVERFLOW) => Some(Err(IncrementError::Overflow)),
-            Err(ffi::NOT_A_PRERELEASE) => {
-                Some(Err(IncrementError::NotAPrerelease(version.to_string())))
-            }
-            Err(ffi::BAD_IDENTIFIER) => Some(Err(IncrementError::InvalidIdentifier(
-                identifier.to_owned(),
-            ))),
-            // The status has three causes, so that the rules say which.
-            Err(_) => None,
+impl<'a> Increment<'a> {
+    fn of(word: &'a str, id: &'a str, base: u32) -> Increment<'a> {
+        let identifier = Some(id).filter(|it| !it.is_empty());
+        Increment {
+            word,
+            identifier,
+            base,
         }
     }
 
-    /// Whether the identifier is none, or one that its own text spells.
-    fn is_single(&self) -> bool {
-        self.identifier
-            .map_or(true, |it| is_identifier(it) && !is_digits(it))
+    /// The answer by what the library says of the version.
+    #[cold]
+    fn completed(&self, version: &Version, answer: Result<Version, ffi::Status>) -> Answer {
+        match answer {
+            Ok(next) => {
+                let [major, minor, patch] = next.numbers();
+                let (pre, build) = (self.pre_release_of(version, &next), next.build().to_vec());
+                Ok(Version::new(major, minor, patch, pre, build))
+            }
+            Err(ffi::OVERFLOW) => Err(IncrementError::Overflow),
+            Err(ffi::NOT_A_PRERELEASE) => Err(IncrementError::NotAPrerelease(version.to_string())),
+            Err(ffi::BAD_IDENTIFIER) => {
+                let identifier = self.identifier.unwrap_or("").to_owned();
+                Err(IncrementError::InvalidIdentifier(identifier))
+            }
+            // The status has three causes, so that the rules say which.
+            Err(_) => self.by_rules(version),
+        }
     }
 
     /// The pre-release of the next version, of which the library tells the text. An identifier that
@@ -208,7 +217,7 @@ impl Increment<'_> {
     /// What is checked for each word that begins with `pre`.
     fn check(&self) -> Result<(), IncrementError> {
         match self.identifier {
-            None if self.base == IdentifierBase::False => Err(argument("identifier is empty")),
+            None if self.base == ffi::BASE_NONE => Err(argument("identifier is empty")),
             Some(id) if !id.split('.').all(is_identifier) => {
                 Err(IncrementError::InvalidIdentifier(id.to_owned()))
             }
@@ -218,12 +227,9 @@ impl Increment<'_> {
 
     /// The pre-release after this one.
     fn pre_step(&self, mut list: Vec<Identifier>) -> Result<Vec<Identifier>, IncrementError> {
-        let first = match self.base {
-            IdentifierBase::False | IdentifierBase::Value(0) => Identifier::Numeric(0),
-            IdentifierBase::Value(_) => Identifier::Numeric(1),
-        };
+        let first = Identifier::Numeric(u64::from(self.base == ffi::BASE_ONE));
         let printed = text_of(&list).0;
-        let is_there = self.base == IdentifierBase::False && self.identifier == Some(&printed);
+        let is_there = self.base == ffi::BASE_NONE && self.identifier == Some(&printed);
         let number = list.iter_mut().rev().find_map(|it| match it {
             Identifier::Numeric(number) => Some(number),
             Identifier::AlphaNumeric(_) => None,
@@ -236,12 +242,17 @@ impl Increment<'_> {
         }
         match self.identifier.filter(|id| !is_kept(&list, id)) {
             None => Ok(list),
-            Some(id) if self.base == IdentifierBase::False => {
+            Some(id) if self.base == ffi::BASE_NONE => {
                 Ok(vec![Identifier::AlphaNumeric(id.to_owned())])
             }
             Some(id) => Ok(vec![Identifier::AlphaNumeric(id.to_owned()), first]),
         }
     }
+}
+
+/// Whether an identifier is one that its own text spells.
+fn is_single(id: &str) -> bool {
+    is_identifier(id) && !is_digits(id)
 }
 
 /// Whether a pre-release goes on with an identifier: it begins with that and a number.

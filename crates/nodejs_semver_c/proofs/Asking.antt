@@ -1,12 +1,12 @@
 -- Questions about intervals where they stand: what each interval answers decides what the range does.
 use Rattle.std.proofs.Common.{◌≡◌, ◌<◌, ◌∷◌, ◌∙◌, ◌==◌, ◌&&◌, ◌||◌, ◌+◌, ap, arith, false, get_or, inl, inr, length, map, refl, sym, take, true, true≢false, Bool, List, [], ℕ}
-use Rattle.std.proofs.lemmas.List.Folds.{list_all_at, list_all_more}
+use Rattle.std.proofs.lemmas.List.Folds.{list_all_more}
 use Rattle.std.specs.List.{list_all, list_any}
 use Rattle.nodejs_semver.proofs.Algebra.Accepting.{meets_one_some}
 use Rattle.nodejs_semver.proofs.Common.{and_parts, cases_Bool}
 use Rattle.nodejs_semver.specs.Ranges.Algebra.{intersection}
-use Rattle.semver_core.proofs.CutLaws.{meets_both}
-use Rattle.semver_core.specs.Cuts.{Span, cut_cmp, is_interval, lower_cut, meet, upper_cut}
+use Rattle.semver_core.proofs.CutLaws.{between, is_some-interval}
+use Rattle.semver_core.specs.Cuts.{Span, cut_cmp, greater_lower, is_interval, lesser_upper, lower_cut, meet, upper_cut}
 use Rattle.semver_core.specs.Printing.RoundTrip.{is_readable}
 use Rattle.semver_core.specs.Text.Identifiers.{is_listed}
 use Rattle.semver_core.specs.Values.Gate.{is_range_bound}
@@ -32,14 +32,7 @@ pub all_kept : (p : Span VersionValue → Bool) (is : List Interval) → list_al
 all_kept p [] = refl
 all_kept p (i ∷ is) = ap (λ b. p (kept_span i) && b) (all_kept p is)
 
--- what holds of all intervals holds of each
-pub each_at : {A : Type 0} (p : A → Bool) (xs : List A) (i : ℕ) (d : A) → i < length xs → list_all p xs ≡ true → p (get_or xs i d) ≡ true
-each_at p xs i d lt all = elim (cases_Bool (p (get_or xs i d))) [
-  | inl passes ↦ passes
-  | inr fails ↦ absurd (true≢false (sym all ∙ list_all_at p xs i d lt fails))
-]
-
--- and of one element more
+-- what holds of all intervals so far holds of one more
 pub all_more : {A : Type 0} (p : A → Bool) (xs : List A) (at : ℕ) (x : A) → at < length xs → x ≡ get_or xs at x → p x ≡ true
     → list_all p (take at xs) ≡ true → list_all p (take (at + 1) xs) ≡ true
 all_more p xs at x lt same one all = list_all_more p xs at x lt ∙ rw (sym same, all, one) refl
@@ -114,11 +107,23 @@ pub ruleset spelled_texts = (spelled_pre, spelled_build)
 
 pub ruleset spelled_bounds = (keeps_spells, lower_spelled, upper_spelled, spelled_pre, spelled_build)
 
--- two intervals that are kept meet where each begins below the end of the other
-pub kept_meet : (i j : Interval) → keeps i ≡ true → keeps j ≡ true → is_some (meet precedence (kept_span i) (kept_span j))
-    ≡ (is_lt (cut_cmp precedence (lower_cut (kept_span j).lower) (upper_cut (kept_span i).upper))
-    && is_lt (cut_cmp precedence (lower_cut (kept_span i).lower) (upper_cut (kept_span j).upper)))
-kept_meet i j h k = meets_both precedence_total (kept_span i) (kept_span j) (keeps_interval i h) (keeps_interval j k)
+-- two intervals meet where each begins below the end of the other and below its own
+pub kept_meet : (i j : Interval) → is_some (meet precedence (kept_span i) (kept_span j))
+    ≡ (is_lt (cut_cmp precedence (lower_cut (lower_of j.lower)) (upper_cut (upper_of i.upper)))
+    && (is_lt (cut_cmp precedence (lower_cut (lower_of i.lower)) (upper_cut (upper_of j.upper)))
+    && (is_lt (cut_cmp precedence (lower_cut (lower_of i.lower)) (upper_cut (upper_of i.upper)))
+    && is_lt (cut_cmp precedence (lower_cut (lower_of j.lower)) (upper_cut (upper_of j.upper))))))
+kept_meet i j =
+    let common : Span VersionValue = record {
+      lower = greater_lower precedence (lower_of i.lower) (lower_of j.lower);
+      upper = lesser_upper precedence (upper_of i.upper) (upper_of j.upper);
+    } in
+    is_some-interval precedence_total common
+    ∙ between precedence_total (lower_of i.lower) (lower_of j.lower) (upper_of i.upper) (upper_of j.upper)
+    ∙ turned (is_lt (cut_cmp precedence (lower_cut (lower_of i.lower)) (upper_cut (upper_of i.upper)))) _ _ _
+  where
+    turned : (a b c d : Bool) → ((a && b) && (c && d)) ≡ (c && (b && (a && d)))
+    turned a b c d = grind arith
 
 -- ranges have something in common where some pair meets
 pub pairs_meet : (is js : List Interval) → list_any (λ i. list_any (λ t. is_some (meet precedence (kept_span i) t)) (map kept_span js)) is

@@ -1,5 +1,5 @@
 -- What is kept of a version that was read: the identifiers of a text are spelled by their own texts.
-use Rattle.std.proofs.Common.{◌≡◌, ◌<◌, ◌≤◌, ◌-◌, ◌^◌, ◌++◌, ◌∷◌, ◌∙◌, List, [], Bool, Option, Some, None, arith, inl, inr, length}
+use Rattle.std.proofs.Common.{◌≡◌, ◌<◌, ◌≤◌, ◌+◌, ◌-◌, ◌^◌, ◌++◌, ◌∷◌, ◌∙◌, List, [], Bool, Option, Some, None, arith, inl, inr, length}
 use Rattle.std.proofs.Common.{false, length-append, map, min, refl, sym, true, ℕ}
 use Rattle.std.specs.List.{list_all}
 use Rattle.std.specs.Prelude.{IsSomeAnd, IsUtf8}
@@ -16,9 +16,10 @@ use Rattle.npm_words.specs.Grammar as npm
 use Rattle.npm_words.specs.VersionText.{IsVersionTextIn}
 use Rattle.nodejs_semver_c.proofs.Putting.{put_first}
 use Rattle.nodejs_semver_c.specs.Internal.Pieces.{Adds}
-use Rattle.nodejs_semver_c.specs.Kept.{ComesBack, PutsVersion, kept_texts, list_text, parts_of}
+use Rattle.nodejs_semver_c.specs.Kept.{ComesBack, PutsVersion, kept_texts, kept_value, list_text, parts_of}
 use Rattle.nodejs_semver_c.specs.Readings.{Spells}
 use Rattle.nodejs_semver_c.specs.declared.kept.Parts.{Parts}
+use Rattle.nodejs_semver_c.specs.declared.kept.Version.{Version}
 use Rattle.nodejs_semver_c.specs.declared.read.Grammar.{Grammar}
 use Rattle.nodejs_semver_c.specs.declared.read.Grammar.TheVariants.{Npm, Port}
 
@@ -116,3 +117,27 @@ module _ (v : VersionValue) (pre build : List Id) where
   version_short was now old new needed told epre ebuild en small lt kept =
       let counted : length (kept_texts v) ≡ needed = counted_whole (kept_texts v) needed (rw (epre, ebuild) at en) small in
       inl (told, (refl, inr (refl, omega (arith, counted, lt), kept)))
+
+-- what is counted of both texts, one by one
+pub both_counted : (x y : List ℕ) (a b n : ℕ) → a ≡ min (length x) (2 ^ 64 - 1) → b ≡ min (length y) (2 ^ 64 - 1)
+    → n ≡ min (a + b) (2 ^ 64 - 1) → n ≡ min (length (x ++ y)) (2 ^ 64 - 1)
+both_counted x y a b n ea eb e = grind (arith, length-append, ea, eb, e)
+
+-- a version whose lists print as their texts
+module _ (p : Version) (pre : list_text (listed p.pre_release.now) ≡ p.pre_release.now)
+    (build : list_text (listed p.build.now) ≡ p.build.now) where
+  pub printed_told : (was : Parts) (old new : List ℕ) (needed end : ℕ)
+      → needed ≡ min (length p.pre_release.now + length p.build.now) (2 ^ 64 - 1) → needed < 2 ^ 63 → needed ≤ length old
+      → Adds (p.pre_release.now ++ p.build.now) old new 0 end
+      → PutsVersion (kept_value p) was (record {
+        major = p.major;
+        minor = p.minor;
+        patch = p.patch;
+        pre_release_len = length p.pre_release.now;
+        build_len = length p.build.now;
+      }) old new 0
+  printed_told was old new needed end en small le adds =
+      let whole = length-append p.pre_release.now p.build.now in
+      let count : needed ≡ length (p.pre_release.now ++ p.build.now) = grind (arith, en, small, whole) in
+      let front = (put_first (p.pre_release.now ++ p.build.now) old new end adds).front (omega (arith, count, le)) (omega (arith, count, small)) in
+      rw (pre, build) (inl (refl, (refl, inl (refl, front))))

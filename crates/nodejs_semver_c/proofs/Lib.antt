@@ -1,5 +1,7 @@
 mod Asking
 mod Beyond
+mod Choosing
+mod Cutting
 mod Failures
 mod Fitting
 mod Keeping
@@ -9,5 +11,6 @@ mod Places
 mod Printing
 mod Putting
 mod Ranging
+mod Reading
 mod Sorting
 mod Spanning

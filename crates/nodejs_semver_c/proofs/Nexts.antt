@@ -1,9 +1,12 @@
 -- The next version of one that is kept, by an identifier that its own text spells: what is told of it leads back to it.
-use Rattle.std.proofs.Common.{◌≡◌, ◌∷◌, ◌++◌, ◌&&◌, ◌||◌, ◌-◌, ◌^◌, ◌==◌, ◌∙◌, ℕ, Bool, List, [], Result, Ok, Err, Some, arith, false, refl, true, true≢false}
+use Rattle.std.proofs.Common.{◌≡◌, ◌∷◌, ◌++◌, ◌&&◌, ◌||◌, ◌-◌, ◌^◌, ◌==◌, ◌∙◌, ◌+◌, ◌<◌, ℕ, Bool, List, [], Option, Result, None, Ok, Err, Some, ap, arith, false, inl, length, refl, sym, true, true≢false}
 use Rattle.std.proofs.lemmas.Bool.{cond_both}
+use Rattle.std.proofs.lemmas.Slice.Eq.{bytes_eq-Decides}
+use Rattle.std.proofs.lemmas.Str.{IsUtf8-append, IsUtf8-from_ascii, IsUtf8-nil}
+use Rattle.std.proofs.lemmas.Str.Ascii.{IsAscii-cons, IsAscii-nil}
 use Rattle.std.proofs.lemmas.List.Folds.{list_all-append}
 use Rattle.std.specs.List.{join_with_byte, list_all, starts_with}
-use Rattle.std.specs.Prelude.{if◌then◌else◌, ⊤, IfOk, codes, map, nat_eq, not}
+use Rattle.std.specs.Prelude.{if◌then◌else◌, ⊤, IfOk, IsUtf8, codes, is_some, map, nat_eq, not}
 use Rattle.std.specs.Str.{bytes_eq}
 use Rattle.nodejs_semver.proofs.Common.{and_parts, nat_tests}
 use Rattle.semver_core.specs.Increments.Table.{◌>>=◌, Fault, advance, answer_of_inc, by_word, checked, first_number, has_numeric}
@@ -12,14 +15,19 @@ use Rattle.semver_core.specs.Increments.Table.{raise_last, release_of}
 use Rattle.semver_core.specs.Lists.{is_empty}
 use Rattle.semver_core.specs.Printing.RoundTrip.{is_normal}
 use Rattle.semver_core.specs.Printing.Text.{id_text}
-use Rattle.semver_core.specs.Text.Identifiers.{Id, Numeric, AlphaNumeric}
+use Rattle.semver_core.proofs.Text.Ends.{nothing_spelled}
+use Rattle.semver_core.specs.Text.Characters.{is_identifier_char}
+use Rattle.semver_core.specs.Text.Identifiers.{Id, Numeric, AlphaNumeric, listed}
 use Rattle.semver_core.specs.Values.Versions.{VersionValue, is_release}
 use Rattle.semver_core.specs.declared.increment.IdentifierBase.{IdentifierBase}
 use Rattle.semver_core.specs.declared.increment.IdentifierBase.TheVariants.{False, Value}
 use Rattle.nodejs_semver_c.proofs.Keeping.{list_kept}
 use Rattle.nodejs_semver_c.proofs.Ranging.{listed_normal}
-use Rattle.nodejs_semver_c.specs.Kept.{ComesBack, IsKept}
-use Rattle.nodejs_semver_c.specs.KeptNext.{is_single}
+use Rattle.nodejs_semver_c.proofs.Reading.{no_text}
+use Rattle.nodejs_semver_c.specs.Internal.Common.{IsNextRelease}
+use Rattle.nodejs_semver_c.specs.Kept.{ComesBack, IsKept, PutsVersion, kept_value}
+use Rattle.nodejs_semver_c.specs.KeptNext.{TellsByBase, is_single}
+use Rattle.nodejs_semver_c.specs.declared.kept.Parts.{Parts}
 use Rattle.nodejs_semver_c.specs.declared.kept.Version.{Version}
 
 -- a step, and then another
@@ -143,3 +151,54 @@ module _ (id : List ℕ) (base : IdentifierBase) (single : is_single id ≡ true
           let first = list_kept w.pre_release normal.0 in
           let second = list_kept w.build normal.1 in
           (first.0, first.1, second.0, second.1)
+
+-- ---- the next release of a release
+
+pub word_is : (word text : List ℕ) (same : Bool) → same ≡ bytes_eq word text → same ≡ true → word ≡ text
+word_is word text same e h = (bytes_eq-Decides word text).0 (sym e ∙ h)
+
+rises : (n : ℕ) → n + 1 < 2 ^ 64 → one_more n ≡ Ok (n + 1)
+rises n small = cond_both (n == 2 ^ 64 - 1) _ _ (λ r. r ≡ Ok (n + 1)) (λ e. absurd (grind (arith, nat_tests, e, small))) (λ e. refl)
+
+word_utf8 : (word : List ℕ) → list_all is_identifier_char word ≡ true → IsUtf8 word
+word_utf8 [] h = IsUtf8-nil
+word_utf8 (c ∷ rest) h =
+    let both = and_parts (is_identifier_char c) (list_all is_identifier_char rest) h in
+    IsUtf8-append (c ∷ []) rest (IsUtf8-from_ascii (c ∷ []) (IsAscii-cons c [] (grind (arith, nat_tests, both.0)) IsAscii-nil)) (word_utf8 rest both.1)
+
+module _ (p next : Version) (n : ℕ) (bare : (length p.pre_release.now == 0) ≡ true) (pre : next.pre_release ≡ p.pre_release)
+    (build : next.build ≡ p.build) where
+  none : p.pre_release.now ≡ []
+  none = no_text p.pre_release.now bare
+
+  nothing : listed p.pre_release.now ≡ []
+  nothing = rw none nothing_spelled
+
+  made : (word : List ℕ) → list_all is_identifier_char word ≡ true
+      → ((id : List ℕ) (base : IdentifierBase) → answer_of_inc (kept_value p) word (Some id) (Some base) ≡ Ok (kept_value next))
+      → IsNextRelease p word next
+  made word h answers = (word_utf8 word h, ap (λ b. b.now) pre ∙ none, ap (λ b. b.now) build, answers)
+
+  pub major_next : (p.major + 1 < 2 ^ 64) × (n ≡ p.major + 1) → (next.major ≡ n) × (next.minor ≡ 0) × (next.patch ≡ 0)
+      → IsNextRelease p (codes "major") next
+  major_next (small, e) (M, m, q) =
+      let own : (p.minor == 0 && (p.patch == 0 && false)) ≡ false = grind arith in
+      made (codes "major") refl (λ id base. rw (M, m, q, e, pre, build, nothing, own, rises p.major small) refl)
+
+  pub minor_next : (p.minor + 1 < 2 ^ 64) × (n ≡ p.minor + 1) → (next.major ≡ p.major) × (next.minor ≡ n) × (next.patch ≡ 0)
+      → IsNextRelease p (codes "minor") next
+  minor_next (small, e) (M, m, q) =
+      let own : (p.patch == 0 && false) ≡ false = grind arith in
+      made (codes "minor") refl (λ id base. rw (M, m, q, e, pre, build, nothing, own, rises p.minor small) refl)
+
+  pub patch_next : (p.patch + 1 < 2 ^ 64) × (n ≡ p.patch + 1) → (next.major ≡ p.major) × (next.minor ≡ p.minor) × (next.patch ≡ n)
+      → IsNextRelease p (codes "patch") next
+  patch_next (small, e) (M, m, q) =
+      made (codes "patch") refl (λ id base. rw (M, m, q, e, pre, build, nothing, rises p.patch small) refl)
+
+-- what is told of it
+pub by_base : (next : IdentifierBase → Result VersionValue Fault) (base : Option IdentifierBase) (v : VersionValue) (was now : Parts)
+    (old new : List ℕ) (status : ℕ) → is_some base ≡ true → ((b : IdentifierBase) → next b ≡ Ok v) → PutsVersion v was now old new status
+    → TellsByBase next base was now old new status
+by_base next None v was now old new status h all puts = absurd (true≢false (sym h))
+by_base next (Some b) v was now old new status h all puts = inl (v, all b, puts)

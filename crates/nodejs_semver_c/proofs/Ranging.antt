@@ -29,7 +29,7 @@ use Rattle.nodejs_semver_c.proofs.Putting.{put_first}
 use Rattle.nodejs_semver_c.specs.Internal.Keeps.{RefusesInterval, keeps}
 use Rattle.nodejs_semver_c.specs.Kept.{ComesBack, IsKept}
 use Rattle.nodejs_semver_c.specs.Internal.Pieces.{Adds}
-use Rattle.nodejs_semver_c.specs.KeptRanges.{BoundComesBack, IsKeptRange, RefusesKeptRange, TellsRange, bound_texts, is_spelled}
+use Rattle.nodejs_semver_c.specs.KeptRanges.{BoundComesBack, IsKeptRange, RefusesIntervals, RefusesKeptRange, TellsRange, bound_texts, is_spelled}
 use Rattle.nodejs_semver_c.specs.KeptRanges.{kept_span, range_texts, span_parts}
 use Rattle.nodejs_semver_c.specs.declared.intervals.IntervalParts.{IntervalParts}
 use Rattle.nodejs_semver_c.specs.declared.intervals.Interval.{Interval}
@@ -95,21 +95,21 @@ keeps_more is at i lt same one all = list_all_more keeps is at i lt ∙ rw (sym 
 
 -- ---- what is rejected
 
-pub refused_one : (is : List Interval) (status : ℕ) → Any (λ i. RefusesInterval i status) is → RefusesKeptRange is status
+pub refused_one : (is : List Interval) (status : ℕ) → Any (λ i. RefusesInterval i status) is → RefusesIntervals is status
 refused_one is status (k, i, lt, same, inl texts) = inl (k, i, lt, same, texts)
 refused_one is status (k, i, lt, same, inr (e, fails)) =
     inr (inl (e, λ r kept. true≢false (sym (kept_each is r kept) ∙ list_all_at keeps is k i lt (rw same fails))))
 
-pub refused_none : (is : List Interval) → length is ≡ 0 → RefusesKeptRange is 5
+pub refused_none : (is : List Interval) → length is ≡ 0 → RefusesIntervals is 5
 refused_none [] e = inr (inl (refl, λ r kept. absurd (omega (arith, rw kept.1 at kept.2.some))))
 refused_none (i ∷ is) e = absurd (omega arith)
 
 pub refused_memory : (is : List Interval) → 1 < length is → list_all keeps is ≡ true → RefusesKeptRange is 10
-refused_memory is many h = inr (inr (inr (refl, many, (map kept_span is, kept_all is h (omega (arith, many))))))
+refused_memory is many h = inr (refl, many, (map kept_span is, kept_all is h (omega (arith, many))))
 
 pub refused_room : (is : List Interval) (status : ℕ) → (length is ≤ 1 → ⊥)
     → Any (λ i. RefusesInterval i status) is ⊎ ((status ≡ 10) × (list_all keeps is ≡ true)) → RefusesKeptRange is status
-refused_room is status many (inl one) = refused_one is status one
+refused_room is status many (inl one) = inl (refused_one is status one)
 refused_room is status many (inr (e, all)) = rw e (refused_memory is (omega (arith, many)) all)
 
 -- ---- what is kept
@@ -194,13 +194,17 @@ module _ (r list : List (Span VersionValue)) (same : list ≡ r) (is : IsRange M
       let front = (put_first (range_texts r) old new end added).front (omega (arith, whole, fits)) (omega (arith, whole, small)) in
       rw (same, whole) (inl (range_back r is, refl, refl, inl (refl, told_all, front)))
 
--- the texts of one interval are no longer than all
-pub texts_within : (r : List (Span VersionValue)) (i : ℕ) (d : Span VersionValue) → i < length r
-    → length (bound_texts (get_or r i d).lower ++ bound_texts (get_or r i d).upper) ≤ length (range_texts r)
-texts_within [] i d lt = absurd (omega arith)
-texts_within (s ∷ r) zero d lt = omega (arith, length-append (bound_texts s.lower ++ bound_texts s.upper) (range_texts r))
-texts_within (s ∷ r) (suc i) d lt =
-    omega (arith, texts_within r i d (omega (arith, lt)), length-append (bound_texts s.lower ++ bound_texts s.upper) (range_texts r))
+-- the texts of the first intervals are no longer than all
+pub texts_front : (r : List (Span VersionValue)) (n : ℕ) → length (range_texts (take n r)) ≤ length (range_texts r)
+texts_front [] zero = omega arith
+texts_front [] (suc n) = omega arith
+texts_front (s ∷ r) zero = omega arith
+texts_front (s ∷ r) (suc n) = omega (
+  arith,
+  texts_front r n,
+  length-append (bound_texts s.lower ++ bound_texts s.upper) (range_texts r),
+  length-append (bound_texts s.lower ++ bound_texts s.upper) (range_texts (take n r)),
+)
 
 pub texts_more : (r : List (Span VersionValue)) (i : ℕ) (s : Span VersionValue) → i < length r → s ≡ get_or r i s
     → range_texts (take i r) ++ (bound_texts s.lower ++ bound_texts s.upper) ≡ range_texts (take (i + 1) r)

@@ -8,7 +8,8 @@ use Rattle.nodejs_semver_c.specs.declared.kept.Parts.{Parts}
 use Rattle.nodejs_semver_c.specs.declared.kept.Version.{Version}
 use Rattle.nodejs_semver_c.specs.declared.TheConstants.{BAD_VERSION, TOO_LONG}
 
--- the version of these numbers, and of the identifiers that the two texts spell
+-- the version of these numbers, and of the identifiers of the two texts. Any text is cut at its dots: a piece
+-- of digits is a number, one of nothing is 0, and any other is its bytes.
 abbrev pub kept_value : Version → VersionValue
 kept_value p = record {
   major = p.major;

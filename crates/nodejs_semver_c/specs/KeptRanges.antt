@@ -49,11 +49,21 @@ abbrev pub RefusesBound : Bound → ℕ → Type 0
 RefusesBound b status = (b.kind ≢ BOUND_NONE) × RefusesKept b.version status
 
 -- the intervals are rejected with this status: for a text, or because no range has them; or they are
--- more than memory holds, at 128 bytes each. Memory is missing only for several, and for a range.
-abbrev pub RefusesKeptRange : List Interval → ℕ → Type 0
-RefusesKeptRange kept status = Any (λ i. RefusesBound i.lower status ⊎ RefusesBound i.upper status) kept
+-- more than memory holds, at 128 bytes each
+abbrev pub RefusesIntervals : List Interval → ℕ → Type 0
+RefusesIntervals kept status = Any (λ i. RefusesBound i.lower status ⊎ RefusesBound i.upper status) kept
     ⊎ ((status ≡ BAD_RANGE) × NoValue (IsKeptRange kept))
     ⊎ ((status ≡ TOO_LONG) × (2 ^ 56 ≤ length kept))
+
+-- an answer about intervals that memory holds; or they are more, and all is as it was
+abbrev pub OnIntervals : List Interval → ℕ → Type 0 → Type 0 → Type 0
+OnIntervals kept status Same Answer =
+    ((status ≡ TOO_LONG) × (2 ^ 56 ≤ length kept) × Same) ⊎ ((length kept < 2 ^ 56) × Answer)
+
+-- intervals are rejected where a list of them is made: for that, or memory is missing, which happens only
+-- for several, and for a range
+abbrev pub RefusesKeptRange : List Interval → ℕ → Type 0
+RefusesKeptRange kept status = RefusesIntervals kept status
     ⊎ ((status ≡ NO_MEMORY) × (1 < length kept) × ((r : List (Span VersionValue)) × IsKeptRange kept r))
 
 -- an answer about the range that is kept, or it is rejected and all is as it was

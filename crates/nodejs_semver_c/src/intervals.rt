@@ -1,45 +1,36 @@
 // Ranges that the caller keeps, as arrays of intervals.
 
-ghost use Rattle.nodejs_semver.specs.Internal.Sets.{is_range_span};
-ghost use Rattle.nodejs_semver.specs.Ranges.Algebra.{intersection};
-ghost use Rattle.nodejs_semver.specs.Ranges.Gate.{accepts};
-ghost use Rattle.nodejs_semver.specs.Ranges.Outside.{is_outside};
 ghost use Rattle.nodejs_semver_c.specs.Answers.{OnRange};
 ghost use Rattle.nodejs_semver_c.specs.Internal.Keeps.{RefusesInterval, is_sound, keeps};
-ghost use Rattle.nodejs_semver_c.specs.Internal.Keeps.{lies_opposite, spells};
 ghost use Rattle.nodejs_semver_c.specs.Internal.Pieces.{Adds};
 ghost use Rattle.nodejs_semver_c.specs.Kept.{IsKept, RefusesKept, kept_texts, kept_value};
-ghost use Rattle.nodejs_semver_c.specs.Kept.{parts_of};
+ghost use Rattle.nodejs_semver_c.specs.Kept.{list_text, parts_of};
 ghost use Rattle.nodejs_semver_c.specs.KeptRanges.{IsKeptRange, RangeKept, RefusesBound};
-ghost use Rattle.nodejs_semver_c.specs.KeptRanges.{RefusesKeptRange, TellsRange, bound_texts};
-ghost use Rattle.nodejs_semver_c.specs.KeptRanges.{is_spelled, kept_span, lower_of, lower_parts};
-ghost use Rattle.nodejs_semver_c.specs.KeptRanges.{no_parts, range_texts, span_parts, upper_of};
-ghost use Rattle.nodejs_semver_c.specs.KeptRanges.{upper_parts};
-ghost use Rattle.nodejs_semver_c.specs.Numbers.{side_of};
-ghost use Rattle.semver_core.specs.Cuts.{cut_cmp, holds, is_past, lower_cut, meet, upper_cut};
-ghost use Rattle.semver_core.specs.Internal.Gate.{names};
+ghost use Rattle.nodejs_semver_c.specs.KeptRanges.{RefusesIntervals, RefusesKeptRange, TellsRange};
+ghost use Rattle.nodejs_semver_c.specs.KeptRanges.{bound_texts, is_spelled, kept_span, lower_of};
+ghost use Rattle.nodejs_semver_c.specs.KeptRanges.{lower_parts, no_parts, range_texts, span_parts};
+ghost use Rattle.nodejs_semver_c.specs.KeptRanges.{upper_of, upper_parts};
 ghost use Rattle.semver_core.specs.Printing.RoundTrip.{is_readable};
-ghost use Rattle.semver_core.specs.Text.Identifiers.{is_listed};
-ghost use Rattle.semver_core.specs.Values.Gate.{is_range_bound, lets_in};
-ghost use Rattle.semver_core.specs.Values.Order.{precedence};
 ghost use Rattle.semver_core.specs.declared.TheConstants.{MAX_SAFE_INTEGER};
-ghost use Rattle.std.specs.List.{Any, list_all, list_any};
-ghost use Rattle.std.specs.Ordering.{is_lt};
-ghost use Rattle.std.specs.Prelude.{◌≡◌, ◌≢◌, ◌⊎◌, ◌&&◌, ◌||◌, ◌+◌, ◌-◌, ◌<◌, ◌≤◌, ◌^◌, ◌++◌};
-ghost use Rattle.std.specs.Prelude.{[], IfErr, IfOk, OnOk, drop, false, is_some, length, map, min};
-ghost use Rattle.std.specs.Prelude.{true};
+ghost use Rattle.std.specs.List.{Any, list_all};
+ghost use Rattle.std.specs.Prelude.{◌&&◌, ◌++◌, ◌+◌, ◌-◌, ◌<◌, ◌^◌, ◌||◌, ◌≡◌, ◌≤◌, ◌⊎◌, [], IfErr};
+ghost use Rattle.std.specs.Prelude.{IfOk, OnOk, drop, false, length, map, min, true, ℕ};
 
-use crate::kept::{Parts, Version, check, cmp_kept, lent, parts_of};
-use crate::pieces::put_list;
-use crate::read::{self, MOST_BYTES};
-use crate::{BAD_RANGE, BOUND_CLOSED, BOUND_NONE, BOUND_OPEN, NO_MEMORY, OK, TOO_LONG, TOO_SMALL};
-use nodejs_semver::{MAX_SAFE_INTEGER, RangeRef, VersionRef, cuts};
+use crate::asked::is_below;
+use crate::kept::{Parts, Version, check, cmp_kept, lent};
+use crate::pieces::put_ids;
+use crate::read::{self, MOST_BYTES, reading_of};
+use crate::{
+    BAD_ARGUMENT, BAD_RANGE, BOUND_CLOSED, BOUND_NONE, BOUND_OPEN, NO_MEMORY, OK, TOO_LONG,
+    TOO_SMALL,
+};
+use nodejs_semver::{IdentifierRefs, MAX_SAFE_INTEGER, RangeRef, VersionRef, cuts};
 use semver_pieces::Intervals;
 use smallvec::SmallVec;
 use std::alloc::Global;
 
-// How many intervals memory may hold, of 128 bytes each.
-const MOST_INTERVALS: usize = 72_057_594_037_927_935;
+/// How many intervals memory may hold, of 128 bytes each.
+pub const MOST_INTERVALS: usize = 72_057_594_037_927_935;
 
 /// A bound of an interval in the memory of the caller.
 #[repr(C)]
@@ -179,8 +170,7 @@ fn lent_upper<'a>(bound: &Bound<'a>) -> cuts::Bound<VersionRef<'a>>
 #[inline(always)]
 pub fn check_range(range: &[Interval<'_>]) -> Result<(), u32>
     ensures ok { OnOk result (IsKeptRange range.now (map kept_span range.now)) }
-    ensures each { OnOk result (list_all keeps range.now ≡ true) }
-    ensures refused { IfErr result (RefusesKeptRange range.now) }
+    ensures refused { IfErr result (RefusesIntervals range.now) }
 {
     if range.len() > MOST_INTERVALS {
         return Err(TOO_LONG);
@@ -271,281 +261,6 @@ fn check_version(version: &Version<'_>) -> Result<(), u32>
     Ok(())
 }
 
-// Whether the cut of a lower bound is below that of an upper one.
-#[inline(always)]
-#[tactic(auto, using(crate::proofs::Asking::spelled_texts))]
-fn is_below(lower: &Bound<'_>, upper: &Bound<'_>) -> bool
-    requires lower { is_spelled lower.now ≡ true }
-    requires upper { is_spelled upper.now ≡ true }
-    ensures { result ≡ is_lt (cut_cmp precedence (lower_cut (lower_of lower.now))
-        (upper_cut (upper_of upper.now))) }
-{
-    if lower.kind == BOUND_NONE || upper.kind == BOUND_NONE {
-        return true;
-    }
-    let order = cmp_kept(&lower.version, &upper.version);
-    if lower.kind == BOUND_CLOSED && upper.kind == BOUND_CLOSED {
-        order.is_le()
-    } else {
-        order.is_lt()
-    }
-}
-
-// Whether a version lies past the cut of a lower bound.
-#[inline(always)]
-#[tactic(auto, using(crate::proofs::Asking::spelled_texts))]
-fn is_past_lower(bound: &Bound<'_>, version: &Version<'_>) -> bool
-    requires bound { is_spelled bound.now ≡ true }
-    requires version { is_listed version.now.pre_release.now ≡ true }
-    ensures { result
-        ≡ is_past precedence (lower_cut (lower_of bound.now)) (kept_value version.now) }
-{
-    match bound.kind {
-        BOUND_NONE => true,
-        BOUND_CLOSED => cmp_kept(&bound.version, version).is_le(),
-        _ => cmp_kept(&bound.version, version).is_lt(),
-    }
-}
-
-// Whether a version lies past the cut of an upper bound.
-#[inline(always)]
-#[tactic(auto, using(crate::proofs::Asking::spelled_texts))]
-fn is_past_upper(bound: &Bound<'_>, version: &Version<'_>) -> bool
-    requires bound { is_spelled bound.now ≡ true }
-    requires version { is_listed version.now.pre_release.now ≡ true }
-    ensures { result
-        ≡ is_past precedence (upper_cut (upper_of bound.now)) (kept_value version.now) }
-{
-    match bound.kind {
-        BOUND_NONE => false,
-        BOUND_CLOSED => cmp_kept(&bound.version, version).is_lt(),
-        _ => cmp_kept(&bound.version, version).is_le(),
-    }
-}
-
-// Whether the version of a bound is a pre-release of the same three numbers.
-#[tactic(auto, using(semver_core::proofs::Text::Firsts::spelled_release))]
-fn names(bound: &Bound<'_>, version: &Version<'_>) -> bool
-    ensures lower { result ≡ names (lower_of bound.now) (kept_value version.now) }
-    ensures upper { result ≡ names (upper_of bound.now) (kept_value version.now) }
-{
-    bound.kind != BOUND_NONE
-        && !bound.version.pre_release.is_empty()
-        && bound.version.major == version.major
-        && bound.version.minor == version.minor
-        && bound.version.patch == version.patch
-}
-
-// Whether an interval lets in a version, pre-releases not being included.
-#[inline(always)]
-#[tactic(auto, using(semver_core::proofs::Text::Firsts::spelled_release))]
-fn lets_in(interval: &Interval<'_>, version: &Version<'_>) -> bool
-    ensures { result ≡ lets_in (kept_span interval.now) (kept_value version.now) }
-{
-    version.pre_release.is_empty()
-        || names(&interval.lower, version)
-        || names(&interval.upper, version)
-}
-
-// Whether an interval holds a version and lets it in.
-#[inline(always)]
-#[tactic(auto, using(crate::proofs::Asking::spelled_bounds))]
-fn accepts_one(interval: &Interval<'_>, version: &Version<'_>, include_prerelease: bool) -> bool
-    requires interval { spells interval.now ≡ true }
-    requires version { is_listed version.now.pre_release.now ≡ true }
-    ensures { result ≡ (holds precedence (kept_span interval.now) (kept_value version.now)
-        && (include_prerelease || lets_in (kept_span interval.now) (kept_value version.now))) }
-{
-    is_past_lower(&interval.lower, version)
-        && !is_past_upper(&interval.upper, version)
-        && (include_prerelease || lets_in(interval, version))
-}
-
-// Whether an interval from a closed bound to an open one holds a version and lets it in.
-#[inline(always)]
-#[tactic(auto, using(crate::proofs::Asking::spelled_bounds))]
-fn accepts_usual(interval: &Interval<'_>, version: &Version<'_>, include_prerelease: bool) -> bool
-    requires lower { interval.now.lower.kind ≡ BOUND_CLOSED }
-    requires upper { interval.now.upper.kind ≡ BOUND_OPEN }
-    requires interval { spells interval.now ≡ true }
-    requires version { is_listed version.now.pre_release.now ≡ true }
-    ensures { result ≡ (holds precedence (kept_span interval.now) (kept_value version.now)
-        && (include_prerelease || lets_in (kept_span interval.now) (kept_value version.now))) }
-{
-    cmp_kept(&interval.lower.version, version).is_le()
-        && !cmp_kept(&interval.upper.version, version).is_le()
-        && (include_prerelease || lets_in(interval, version))
-}
-
-// Looks at an interval, and whether it holds a version and lets it in.
-#[inline(always)]
-fn ask(interval: &Interval<'_>, version: &Version<'_>, include: bool) -> Result<bool, u32>
-    requires { is_listed version.now.pre_release.now ≡ true }
-    ensures ok { IfOk result (λ answer. (keeps interval.now ≡ true)
-        × (answer ≡ (holds precedence (kept_span interval.now) (kept_value version.now)
-        && (include || lets_in (kept_span interval.now) (kept_value version.now))))) }
-    ensures refused { IfErr result (RefusesInterval interval.now) }
-{
-    if interval.lower.kind == BOUND_CLOSED && interval.upper.kind == BOUND_OPEN {
-        check_usual(interval)?;
-        Ok(accepts_usual(interval, version, include))
-    } else {
-        ask_unusual(interval, version, include)
-    }
-}
-
-#[inline(never)]
-fn ask_unusual(interval: &Interval<'_>, version: &Version<'_>, include: bool) -> Result<bool, u32>
-    requires { is_listed version.now.pre_release.now ≡ true }
-    ensures ok { IfOk result (λ answer. (keeps interval.now ≡ true)
-        × (answer ≡ (holds precedence (kept_span interval.now) (kept_value version.now)
-        && (include || lets_in (kept_span interval.now) (kept_value version.now))))) }
-    ensures refused { IfErr result (RefusesInterval interval.now) }
-{
-    check_unusual(interval)?;
-    Ok(accepts_one(interval, version, include))
-}
-
-/// Whether a range accepts a version, or the status that rejects its intervals. Each of them is
-/// looked at, also behind one that accepts the version.
-#[inline(always)]
-pub fn ask_range(
-    range: &[Interval<'_>],
-    version: &Version<'_>,
-    include_prerelease: bool,
-) -> Result<bool, u32>
-    requires { is_listed version.now.pre_release.now ≡ true }
-    ensures kept { OnOk result (IsKeptRange range.now (map kept_span range.now)) }
-    ensures ok { IfOk result (λ answer. answer
-        ≡ accepts (map kept_span range.now) (kept_value version.now) include_prerelease) }
-    ensures refused { IfErr result (RefusesKeptRange range.now) }
-{
-    if range.len() > MOST_INTERVALS {
-        return Err(TOO_LONG);
-    }
-    let mut is_accepted = false;
-    for interval in range {
-        is_accepted |= ask(interval, version, include_prerelease)?;
-    }
-    if range.is_empty() {
-        return Err(BAD_RANGE);
-    }
-    Ok(is_accepted)
-}
-
-/// The status of a question about a range and a version that is rejected with this status: the
-/// range comes first.
-#[cold]
-pub fn first_status(range: &[Interval<'_>], status: u32) -> u32
-    ensures { RefusesKeptRange range.now result
-        ⊎ ((result ≡ status) × IsKeptRange range.now (map kept_span range.now)) }
-{
-    match check_range(range) {
-        Ok(()) => status,
-        Err(first) => first,
-    }
-}
-
-/// Whether a range that was looked at accepts a version.
-#[inline(always)]
-pub fn is_accepted(range: &[Interval<'_>], version: &Version<'_>, include_prerelease: bool) -> bool
-    requires range { list_all spells range.now ≡ true }
-    requires version { is_listed version.now.pre_release.now ≡ true }
-    ensures { result
-        ≡ accepts (map kept_span range.now) (kept_value version.now) include_prerelease }
-{
-    for interval in range {
-        if accepts_one(interval, version, include_prerelease) {
-            return true;
-        }
-    }
-    false
-}
-
-/// Whether a version lies above a range that was looked at, or below it where `above` is false.
-#[inline(always)]
-pub fn is_outside(
-    range: &[Interval<'_>],
-    version: &Version<'_>,
-    above: bool,
-    include_prerelease: bool,
-) -> bool
-    requires range { list_all spells range.now ≡ true }
-    requires version { is_listed version.now.pre_release.now ≡ true }
-    ensures { result ≡ is_outside (side_of above) include_prerelease (map kept_span range.now)
-        (kept_value version.now) }
-{
-    if is_accepted(range, version, include_prerelease) {
-        return false;
-    }
-    for interval in range {
-        if !lies_opposite(interval, version, above) {
-            return false;
-        }
-    }
-    true
-}
-
-// Whether an interval lies below a version, or above it where `above` is false.
-#[inline(always)]
-#[tactic(auto, using(crate::proofs::Asking::spelled_bounds))]
-fn lies_opposite(interval: &Interval<'_>, version: &Version<'_>, above: bool) -> bool
-    requires interval { spells interval.now ≡ true }
-    requires version { is_listed version.now.pre_release.now ≡ true }
-    ensures { result
-        ≡ lies_opposite (side_of above) (kept_value version.now) (kept_span interval.now) }
-{
-    if above {
-        interval.upper.kind != BOUND_NONE && is_past_lower(&interval.lower, version)
-    } else if interval.lower.kind == BOUND_NONE {
-        interval.upper.kind == BOUND_NONE
-    } else {
-        !is_past_upper(&interval.upper, version)
-    }
-}
-
-// Whether two intervals have something in common.
-#[inline(always)]
-#[tactic(auto, using(crate::proofs::Asking::spelled_bounds))]
-fn meets_one(interval: &Interval<'_>, other: &Interval<'_>) -> bool
-    requires interval { keeps interval.now ≡ true }
-    requires other { keeps other.now ≡ true }
-    ensures { result ≡ is_some (meet precedence (kept_span interval.now) (kept_span other.now)) }
-{
-    is_below(&other.lower, &interval.upper) && is_below(&interval.lower, &other.upper)
-}
-
-// Whether an interval has something in common with one of others.
-#[inline(always)]
-fn meets_some(interval: &Interval<'_>, others: &[Interval<'_>]) -> bool
-    requires interval { keeps interval.now ≡ true }
-    requires others { list_all keeps others.now ≡ true }
-    ensures { result ≡ list_any (λ t. is_some (meet precedence (kept_span interval.now) t))
-        (map kept_span others.now) }
-{
-    for other in others {
-        if meets_one(interval, other) {
-            return true;
-        }
-    }
-    false
-}
-
-/// Whether two ranges that were looked at have something in common.
-#[inline(always)]
-pub fn have_common(range: &[Interval<'_>], other: &[Interval<'_>]) -> bool
-    requires range { list_all keeps range.now ≡ true }
-    requires other { list_all keeps other.now ≡ true }
-    ensures { result ≡ is_some (intersection (map kept_span range.now) (map kept_span other.now)) }
-{
-    for interval in range {
-        if meets_some(interval, other) {
-            return true;
-        }
-    }
-    false
-}
-
 /// Reads a range, so that it can be kept: `intervals` gets the parts of its intervals, and `out`
 /// the texts of their versions, in the order of the bounds, of each version that of the build
 /// metadata behind that of the pre-release. `count` gets the number of the intervals, and `len` the
@@ -569,9 +284,14 @@ pub extern "C" fn nodejs_semver_range_read(
         TellsRange r intervals.old intervals.new count.old count.new
         out.old out.new len.old len.new result) }
 {
-    match read::range(alloc, reading, include_prerelease, range) {
-        Ok(range) => tell_range(&range, intervals, count, out, len),
-        Err(status) => status,
+    let Some(reading) = reading_of(reading) else {
+        return BAD_ARGUMENT;
+    };
+    let text = ok_or_return!(read::text(range));
+    // A look at what is read moves no range.
+    match &reading.spelled_range(alloc, include_prerelease, text) {
+        Ok(range) => tell_range(range, intervals, count, out, len),
+        Err(failure) => reading.status_of(include_prerelease, text, failure),
     }
 }
 
@@ -596,9 +316,7 @@ pub fn tell_range(
     if told.len() < intervals.len() || out.len() < needed {
         return TOO_SMALL;
     }
-    tell_intervals(intervals, told);
-    let mut end = 0;
-    put_range_texts(intervals, out, &mut end);
+    tell_intervals(intervals, told, out);
     OK
 }
 
@@ -610,6 +328,7 @@ fn counted_texts(intervals: &[cuts::Interval<VersionRef<'_>>]) -> usize
     len
 }
 
+#[inline(always)]
 fn put_range_texts(intervals: &[cuts::Interval<VersionRef<'_>>], out: &mut [u8], len: &mut usize)
     ensures { Adds (range_texts intervals.now) out.old out.new len.old len.new }
 {
@@ -619,6 +338,7 @@ fn put_range_texts(intervals: &[cuts::Interval<VersionRef<'_>>], out: &mut [u8],
     }
 }
 
+#[inline(always)]
 fn put_bound_texts(bound: &cuts::Bound<VersionRef<'_>>, out: &mut [u8], len: &mut usize)
     ensures { Adds (bound_texts bound.now) out.old out.new len.old len.new }
 {
@@ -630,65 +350,115 @@ fn put_bound_texts(bound: &cuts::Bound<VersionRef<'_>>, out: &mut [u8], len: &mu
     }
 }
 
+#[inline(always)]
 fn put_texts(version: &VersionRef<'_>, out: &mut [u8], len: &mut usize)
     ensures { Adds (kept_texts version.now) out.old out.new len.old len.new }
 {
-    put_list("", version.pre_release(), out, len);
-    put_list("", version.build(), out, len);
+    put_ids(version.pre_release(), out, len);
+    put_ids(version.build(), out, len);
 }
 
-fn tell_intervals(intervals: &[cuts::Interval<VersionRef<'_>>], told: &mut [IntervalParts])
+// Tells the intervals, and puts their texts to the front of a buffer that has room for them.
+#[inline(always)]
+fn tell_intervals(
+    intervals: &[cuts::Interval<VersionRef<'_>>],
+    told: &mut [IntervalParts],
+    out: &mut [u8],
+)
     requires room { length intervals.now ≤ length told.old }
     requires small { length (range_texts intervals.now) < 2 ^ 63 }
-    ensures { told.new ≡ map span_parts intervals.now ++ drop (length intervals.now) told.old }
+    ensures told { told.new ≡ map span_parts intervals.now ++ drop (length intervals.now) told.old }
+    ensures texts { (len : ℕ) × Adds (range_texts intervals.now) out.old out.new 0 len }
 {
+    let mut len = 0;
     'intervals: for at in 0..intervals.len() {
-        told[at] = told_interval(&intervals[at]);
+        told[at] = tell_interval(&intervals[at], out, &mut len);
     }
 }
 
-fn told_interval(interval: &cuts::Interval<VersionRef<'_>>) -> IntervalParts
-    requires { length (bound_texts interval.now.lower ++ bound_texts interval.now.upper) < 2 ^ 63 }
-    ensures { result ≡ span_parts interval.now }
+// The parts of an interval, whose texts are put.
+#[inline(always)]
+fn tell_interval(
+    interval: &cuts::Interval<VersionRef<'_>>,
+    out: &mut [u8],
+    len: &mut usize,
+) -> IntervalParts
+    requires { len.old < 2 ^ 64 }
+    ensures texts { Adds (bound_texts interval.now.lower ++ bound_texts interval.now.upper)
+        out.old out.new len.old len.new }
+    ensures parts { len.new < 2 ^ 64 - 1 → result ≡ span_parts interval.now }
+    ensures len { (len.old ≤ len.new) × (len.new < 2 ^ 64) }
 {
     IntervalParts {
-        lower: told_lower(interval.lower()),
-        upper: told_upper(interval.upper()),
+        lower: tell_lower(interval.lower(), out, len),
+        upper: tell_upper(interval.upper(), out, len),
     }
 }
 
-fn told_lower(bound: &cuts::Bound<VersionRef<'_>>) -> BoundParts
-    requires { length (bound_texts bound.now) < 2 ^ 63 }
-    ensures { result ≡ lower_parts bound.now }
+#[inline(always)]
+fn tell_lower(bound: &cuts::Bound<VersionRef<'_>>, out: &mut [u8], len: &mut usize) -> BoundParts
+    requires { len.old < 2 ^ 64 }
+    ensures texts { Adds (bound_texts bound.now) out.old out.new len.old len.new }
+    ensures parts { len.new < 2 ^ 64 - 1 → result ≡ lower_parts bound.now }
+    ensures len { (len.old ≤ len.new) × (len.new < 2 ^ 64) }
 {
     match bound {
         cuts::Bound::Unbounded => no_bound(),
-        cuts::Bound::Before(version) => told_bound(BOUND_CLOSED, version),
-        cuts::Bound::After(version) => told_bound(BOUND_OPEN, version),
+        cuts::Bound::Before(version) => tell_bound(BOUND_CLOSED, version, out, len),
+        cuts::Bound::After(version) => tell_bound(BOUND_OPEN, version, out, len),
     }
 }
 
-fn told_upper(bound: &cuts::Bound<VersionRef<'_>>) -> BoundParts
-    requires { length (bound_texts bound.now) < 2 ^ 63 }
-    ensures { result ≡ upper_parts bound.now }
+#[inline(always)]
+fn tell_upper(bound: &cuts::Bound<VersionRef<'_>>, out: &mut [u8], len: &mut usize) -> BoundParts
+    requires { len.old < 2 ^ 64 }
+    ensures texts { Adds (bound_texts bound.now) out.old out.new len.old len.new }
+    ensures parts { len.new < 2 ^ 64 - 1 → result ≡ upper_parts bound.now }
+    ensures len { (len.old ≤ len.new) × (len.new < 2 ^ 64) }
 {
     match bound {
         cuts::Bound::Unbounded => no_bound(),
-        cuts::Bound::Before(version) => told_bound(BOUND_OPEN, version),
-        cuts::Bound::After(version) => told_bound(BOUND_CLOSED, version),
+        cuts::Bound::Before(version) => tell_bound(BOUND_OPEN, version, out, len),
+        cuts::Bound::After(version) => tell_bound(BOUND_CLOSED, version, out, len),
     }
 }
 
-fn told_bound(kind: u32, version: &VersionRef<'_>) -> BoundParts
-    requires { length (kept_texts version.now) < 2 ^ 63 }
-    ensures { result ≡ record { kind = kind; version = parts_of version.now } }
+#[inline(always)]
+fn tell_bound(kind: u32, version: &VersionRef<'_>, out: &mut [u8], len: &mut usize) -> BoundParts
+    requires { len.old < 2 ^ 64 }
+    ensures texts { Adds (kept_texts version.now) out.old out.new len.old len.new }
+    ensures parts { len.new < 2 ^ 64 - 1
+        → result ≡ record { kind = kind; version = parts_of version.now } }
+    ensures len { (len.old ≤ len.new) × (len.new < 2 ^ 64) }
 {
+    let pre_release_len = tell_list(version.pre_release(), out, len);
+    let build_len = tell_list(version.build(), out, len);
     BoundParts {
         kind,
-        version: parts_of(version),
+        version: Parts {
+            major: version.major(),
+            minor: version.minor(),
+            patch: version.patch(),
+            pre_release_len,
+            build_len,
+        },
     }
 }
 
+// Puts the text of a list, and returns its length.
+#[inline(always)]
+fn tell_list(ids: IdentifierRefs<'_>, out: &mut [u8], len: &mut usize) -> usize
+    requires { len.old < 2 ^ 64 }
+    ensures text { Adds (list_text ids.entry) out.old out.new len.old len.new }
+    ensures size { len.new < 2 ^ 64 - 1 → result ≡ length (list_text ids.entry) }
+    ensures len { (len.old ≤ len.new) × (len.new < 2 ^ 64) }
+{
+    let start = *len;
+    put_ids(ids, out, len);
+    *len - start
+}
+
+#[inline(always)]
 fn no_bound() -> BoundParts
     ensures { result ≡ record { kind = BOUND_NONE; version = no_parts } }
 {

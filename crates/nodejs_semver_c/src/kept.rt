@@ -3,21 +3,27 @@
 ghost use Rattle.nodejs_semver_c.specs.Answers.{Kept, OnVersion, Prints};
 ghost use Rattle.nodejs_semver_c.specs.Internal.Keeps.{is_character};
 ghost use Rattle.nodejs_semver_c.specs.Kept.{IsKept, OnKept, PutsVersion, RefusesKept, RefusesList};
-ghost use Rattle.nodejs_semver_c.specs.Kept.{TellsVersion, kept_texts, kept_value, list_text};
-ghost use Rattle.nodejs_semver_c.specs.Kept.{parts_of};
+ghost use Rattle.nodejs_semver_c.specs.Kept.{TellsVersion, kept_value, list_text};
 ghost use Rattle.nodejs_semver_c.specs.Numbers.{kind_number, order_number};
-ghost use Rattle.semver_core.specs.Difference.{kind_between};
+ghost use Rattle.semver_core.specs.Difference.{kind_between, kind_up};
 ghost use Rattle.semver_core.specs.Printing.Text.{version_text};
 ghost use Rattle.semver_core.specs.Text.Identifiers.{is_listed, listed};
-ghost use Rattle.semver_core.specs.Values.Order.{build_order, pre_cmp, precedence};
-ghost use Rattle.std.specs.Prelude.{◌≡◌, ◌<◌, ◌^◌, ◌++◌, IfErr, IfOk, OnOk, length, true};
+ghost use Rattle.semver_core.specs.Values.Order.{build_order, precedence};
+ghost use Rattle.semver_core.specs.declared.difference.VersionDiff.TheVariants.{Major, Minor};
+ghost use Rattle.semver_core.specs.declared.difference.VersionDiff.TheVariants.{Patch, PreMajor};
+ghost use Rattle.semver_core.specs.declared.difference.VersionDiff.TheVariants.{PreMinor, PrePatch};
+ghost use Rattle.semver_core.specs.declared.difference.VersionDiff.TheVariants.{PreRelease};
+ghost use Rattle.std.specs.Prelude.{◌&&◌, ◌++◌, ◌<◌, ◌==◌, ◌^◌, ◌≡◌, ◌⊎◌, IfErr, IfOk, OnOk};
+ghost use Rattle.std.specs.Prelude.{if◌then◌else◌, length, not, true};
 
-use crate::pieces::put_list;
+use crate::common::{common, is_printed};
+use crate::dotted::{cmp_lists, cmp_pre};
+use crate::pieces::{put_bytes, put_ids};
 use crate::print::{Printed, counted, print};
 use crate::read::{self, MOST_BYTES};
 use crate::versions::{kind_of, number_of};
-use crate::{BAD_VERSION, OK, TOO_LONG, TOO_SMALL};
-use nodejs_semver::{IdentifierRefs, VersionRef, Versioned, cmp_build};
+use crate::{BAD_VERSION, OK, READING_PORT, TOO_LONG, TOO_SMALL};
+use nodejs_semver::{IdentifierRefs, VersionDiff, VersionRef, Versioned};
 use semver_core::scan;
 use std::cmp::Ordering;
 
@@ -129,18 +135,15 @@ pub fn lent<'a>(version: &Version<'a>) -> VersionRef<'a>
     )
 }
 
-/// The precedence of two versions whose texts spell identifiers, which are looked at only where the
-/// numbers are equal.
+/// The precedence of two versions. Their texts are looked at only where the numbers are equal.
 #[inline(always)]
 pub fn cmp_kept(version: &Version<'_>, other: &Version<'_>) -> Ordering
-    requires version { is_listed version.now.pre_release.now ≡ true }
-    requires other { is_listed other.now.pre_release.now ≡ true }
     ensures { result ≡ precedence (kept_value version.now) (kept_value other.now) }
 {
     match version.major.cmp(&other.major) {
         Ordering::Equal => match version.minor.cmp(&other.minor) {
             Ordering::Equal => match version.patch.cmp(&other.patch) {
-                Ordering::Equal => cmp_lists(version.pre_release, other.pre_release),
+                Ordering::Equal => cmp_pre(version.pre_release, other.pre_release),
                 order => order,
             },
             order => order,
@@ -149,39 +152,11 @@ pub fn cmp_kept(version: &Version<'_>, other: &Version<'_>) -> Ordering
     }
 }
 
-// The order of the pre-releases that two texts spell. It is that of two versions of the same
-// numbers, whose builds do not count.
-#[inline(never)]
-fn cmp_lists(text: &[u8], other: &[u8]) -> Ordering
-    requires text { is_listed text.now ≡ true }
-    requires other { is_listed other.now ≡ true }
-    ensures { result ≡ pre_cmp (listed text.now) (listed other.now) }
-{
-    let version = VersionRef::from_texts(0, 0, 0, text, text);
-    version.cmp(&VersionRef::from_texts(0, 0, 0, other, other))
-}
-
-// The texts of a version, one after the other.
-#[derive(Drop)]
-struct Texts<'a> {
-    pre_release: IdentifierRefs<'a>,
-    build: IdentifierRefs<'a>,
-}
-
-impl<'a> Printed for Texts<'a> {
-    ghost text = { λ t. list_text t.pre_release ++ list_text t.build };
-
-    fn put(&self, out: &mut [u8], len: &mut usize) {
-        put_list("", self.pre_release.copy(), out, len);
-        put_list("", self.build.copy(), out, len);
-    }
-}
-
 impl<'a> Printed for IdentifierRefs<'a> {
     ghost text = { λ ids. list_text ids };
 
     fn put(&self, out: &mut [u8], len: &mut usize) {
-        put_list("", self.copy(), out, len);
+        put_ids(self.copy(), out, len);
     }
 }
 
@@ -201,109 +176,212 @@ pub extern "C" fn nodejs_semver_version_read(
         OnVersion reading version.now result same (λ v.
         TellsVersion v parts.old parts.new out.old out.new result) }
 {
+    if reading == READING_PORT
+        && let Some(version) = common(version)
+        && is_printed(version.pre_release)
+        && is_printed(version.build)
+    {
+        return tell_printed(&version, parts, out);
+    }
     match read::version(reading, version) {
         Ok(version) => tell(&version, parts, out),
         Err(status) => status,
     }
 }
 
+/// Tells the parts of a version whose lists print as their texts. Mostly there are none.
+#[inline(always)]
+pub fn tell_printed(version: &Version<'_>, parts: &mut Parts, out: &mut [u8]) -> u32
+    requires pre_release { list_text (listed version.now.pre_release.now)
+        ≡ version.now.pre_release.now }
+    requires build { list_text (listed version.now.build.now) ≡ version.now.build.now }
+    ensures { PutsVersion (kept_value version.now) parts.old parts.new out.old out.new result }
+{
+    let (pre_release, build) = (version.pre_release, version.build);
+    let size = pre_release.len().saturating_add(build.len());
+    if size > MOST_BYTES {
+        return TOO_LONG;
+    }
+    *parts = Parts {
+        major: version.major,
+        minor: version.minor,
+        patch: version.patch,
+        pre_release_len: pre_release.len(),
+        build_len: build.len(),
+    };
+    if size == 0 {
+        return OK;
+    }
+    if out.len() < size {
+        return TOO_SMALL;
+    }
+    let mut end = 0;
+    put_bytes(pre_release, out, &mut end);
+    put_bytes(build, out, &mut end);
+    OK
+}
+
 /// Tells the parts of a version, and puts its texts to the front of a buffer.
 pub fn tell<V: Versioned>(version: &V, parts: &mut Parts, out: &mut [u8]) -> u32
     ensures { PutsVersion (V.value version.now) parts.old parts.new out.old out.new result }
 {
-    let texts = Texts {
-        pre_release: version.pre_release(),
-        build: version.build(),
-    };
-    let needed = counted(&texts);
+    let (pre_release, build) = (version.pre_release(), version.build());
+    let pre_release_len = counted(&pre_release);
+    let build_len = counted(&build);
+    let needed = pre_release_len.saturating_add(build_len);
     if needed > MOST_BYTES {
         return TOO_LONG;
     }
-    *parts = parts_of(version);
+    *parts = Parts {
+        major: version.major(),
+        minor: version.minor(),
+        patch: version.patch(),
+        pre_release_len,
+        build_len,
+    };
     if out.len() < needed {
         return TOO_SMALL;
     }
     let mut end = 0;
-    texts.put(out, &mut end);
+    put_ids(pre_release, out, &mut end);
+    put_ids(build, out, &mut end);
     OK
 }
 
-/// The numbers of a version, and how long its texts are.
-pub fn parts_of<V: Versioned>(version: &V) -> Parts
-    requires { length (kept_texts (V.value version.now)) < 2 ^ 63 }
-    ensures { result ≡ parts_of (V.value version.now) }
+/// Whether the texts of a version spell identifiers: the status is `OK` or says why not.
+///
+/// Returns `OK`, `BAD_VERSION` or `TOO_LONG`.
+#[unsafe(no_mangle)]
+pub extern "C" fn nodejs_semver_check(version: &Version<'_>) -> u32
+    ensures { ((result ≡ OK) × IsKept version.now (kept_value version.now))
+        ⊎ RefusesKept version.now result }
 {
-    Parts {
-        major: version.major(),
-        minor: version.minor(),
-        patch: version.patch(),
-        pre_release_len: counted(&version.pre_release()),
-        build_len: counted(&version.build()),
+    match check(version) {
+        Ok(()) => OK,
+        Err(status) => status,
     }
 }
 
 /// How the first version compares to the second: `order` gets -1, 0 or 1. Build metadata does not
-/// count.
+/// count. Texts that spell no identifiers are compared too, cut at their dots.
 ///
-/// Returns `OK`, `BAD_VERSION` or `TOO_LONG`.
+/// Returns `OK`.
 #[unsafe(no_mangle)]
 pub extern "C" fn nodejs_semver_order(
     version: &Version<'_>,
     other: &Version<'_>,
     order: &mut i32,
 ) -> u32
-    ensures { let same = order.new ≡ order.old in
-        OnKept version.now result same (λ v. OnKept other.now result same (λ w.
-        (result ≡ OK) × (order.new ≡ order_number (precedence v w)))) }
+    ensures { (result ≡ OK) × (order.new
+        ≡ order_number (precedence (kept_value version.now) (kept_value other.now))) }
 {
-    if let Err(status) = check(version) {
-        return status;
-    }
-    if let Err(status) = check(other) {
-        return status;
-    }
     *order = number_of(cmp_kept(version, other));
     OK
 }
 
 /// How the first version compares to the second: `order` gets -1, 0 or 1. Of equal versions the
-/// build metadata decides, identifier by identifier.
+/// build metadata decides, identifier by identifier. Texts that spell no identifiers are compared
+/// too, cut at their dots.
 ///
-/// Returns `OK`, `BAD_VERSION` or `TOO_LONG`.
+/// Returns `OK`.
 #[unsafe(no_mangle)]
 pub extern "C" fn nodejs_semver_order_with_builds(
     version: &Version<'_>,
     other: &Version<'_>,
     order: &mut i32,
 ) -> u32
-    ensures { let same = order.new ≡ order.old in
-        OnKept version.now result same (λ v. OnKept other.now result same (λ w.
-        (result ≡ OK) × (order.new ≡ order_number (build_order v w)))) }
+    ensures { (result ≡ OK) × (order.new
+        ≡ order_number (build_order (kept_value version.now) (kept_value other.now))) }
 {
-    let version = ok_or_return!(kept(version));
-    let other = ok_or_return!(kept(other));
-    *order = number_of(cmp_build(&version, &other));
+    *order = number_of(match cmp_kept(version, other) {
+        Ordering::Equal => cmp_lists(version.build, other.build),
+        decided => decided,
+    });
     OK
 }
 
 /// The kind of difference between two versions: `kind` gets one of `KIND_NONE` to
-/// `KIND_PRERELEASE`.
+/// `KIND_PRERELEASE`. Texts that spell no identifiers are compared too, cut at their dots.
 ///
-/// Returns `OK`, `BAD_VERSION` or `TOO_LONG`.
+/// Returns `OK`.
 #[unsafe(no_mangle)]
 pub extern "C" fn nodejs_semver_kind(
     version: &Version<'_>,
     other: &Version<'_>,
     kind: &mut u32,
 ) -> u32
-    ensures { let same = kind.new ≡ kind.old in
-        OnKept version.now result same (λ v. OnKept other.now result same (λ w.
-        (result ≡ OK) × (kind.new ≡ kind_number (kind_between v w)))) }
+    ensures { (result ≡ OK) × (kind.new
+        ≡ kind_number (kind_between (kept_value version.now) (kept_value other.now))) }
 {
-    let version = ok_or_return!(kept(version));
-    let other = ok_or_return!(kept(other));
-    *kind = kind_of(version.diff(&other));
+    *kind = kind_of(match cmp_kept(version, other) {
+        Ordering::Less => Some(kind_up(version, other)),
+        Ordering::Equal => None,
+        Ordering::Greater => Some(kind_up(other, version)),
+    });
     OK
+}
+
+// The kind that a version and a higher one differ by.
+#[tactic(auto, using(semver_core::proofs::Text::Firsts::spelled_release))]
+fn kind_up(low: &Version<'_>, high: &Version<'_>) -> VersionDiff
+    ensures { result ≡ kind_up (kept_value low.now) (kept_value high.now) }
+{
+    match (low.pre_release.is_empty(), high.pre_release.is_empty()) {
+        (false, true) => kind_released(low, high),
+        (true, true) => kind_of_numbers(low, high, true),
+        (_, false) => kind_of_numbers(low, high, false),
+    }
+}
+
+// The kind by the first of the numbers that differs.
+#[inline(always)]
+fn kind_of_numbers(low: &Version<'_>, high: &Version<'_>, to_release: bool) -> VersionDiff
+    ensures { result
+        ≡ (if not (low.now.major == high.now.major) then (if to_release then Major else PreMajor)
+        else if not (low.now.minor == high.now.minor) then (if to_release then Minor else PreMinor)
+        else if not (low.now.patch == high.now.patch) then (if to_release then Patch else PrePatch)
+        else PreRelease) }
+{
+    if low.major != high.major {
+        return if to_release {
+            VersionDiff::Major
+        } else {
+            VersionDiff::PreMajor
+        };
+    }
+    if low.minor != high.minor {
+        return if to_release {
+            VersionDiff::Minor
+        } else {
+            VersionDiff::PreMinor
+        };
+    }
+    if low.patch != high.patch {
+        return if to_release {
+            VersionDiff::Patch
+        } else {
+            VersionDiff::PrePatch
+        };
+    }
+    VersionDiff::PreRelease
+}
+
+// The kind that a pre-release and a higher release differ by.
+fn kind_released(low: &Version<'_>, high: &Version<'_>) -> VersionDiff
+    ensures { result ≡ (if low.now.minor == 0 && low.now.patch == 0 then Major
+        else if not (high.now.patch == 0) then Patch
+        else if not (high.now.minor == 0) then Minor else Major) }
+{
+    if low.minor == 0 && low.patch == 0 {
+        return VersionDiff::Major;
+    }
+    if high.patch != 0 {
+        return VersionDiff::Patch;
+    }
+    if high.minor != 0 {
+        return VersionDiff::Minor;
+    }
+    VersionDiff::Major
 }
 
 /// Prints a version.

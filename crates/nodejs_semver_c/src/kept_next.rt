@@ -1,13 +1,15 @@
 // The next version of one that the caller keeps.
 
 ghost use Rattle.nodejs_semver_c.specs.Answers.{OnText};
+ghost use Rattle.nodejs_semver_c.specs.Internal.Common.{IsNextRelease};
 ghost use Rattle.nodejs_semver_c.specs.Kept.{OnKept};
 ghost use Rattle.nodejs_semver_c.specs.KeptNext.{TellsByBase, TellsNext, TellsResult};
 ghost use Rattle.nodejs_semver_c.specs.Numbers.{base_of};
 ghost use Rattle.semver_core.specs.Increments.Table.{answer_of_inc};
-ghost use Rattle.std.specs.Prelude.{◌≡◌, Some};
+ghost use Rattle.std.specs.Prelude.{◌≡◌, IfSome, Some};
 
-use crate::kept::{Parts, Version, kept, tell};
+use crate::common::is_printed;
+use crate::kept::{Parts, Version, check, lent, tell, tell_printed};
 use crate::versions::{base_of, next_version};
 use crate::{BAD_ARGUMENT, read};
 use nodejs_semver::{IdentifierBase, VersionRef};
@@ -38,12 +40,60 @@ pub extern "C" fn nodejs_semver_next(
         (λ base. answer_of_inc v word.now (Some identifier.now) (Some base)) (base_of base)
         parts.old parts.new out.old out.new result))) }
 {
-    let version = ok_or_return!(kept(version));
+    if let Err(status) = check(version) {
+        return status;
+    }
+    if identifier.is_empty()
+        && base_of(base).is_some()
+        && is_printed(version.build)
+        && let Some(next) = next_release(version, word)
+    {
+        return tell_printed(&next, parts, out);
+    }
+    let version = lent(version);
     let word = ok_or_return!(read::text(word));
     let identifier = ok_or_return!(read::text(identifier));
     tell_by_base(alloc, &version, word, identifier, base, parts, out)
 }
 
+// The next release by a word, of a release. `None` for the words that make a pre-release and for
+// those that are none, and where a number cannot rise.
+#[inline(always)]
+fn next_release<'a>(version: &Version<'a>, word: &[u8]) -> Option<Version<'a>>
+    ensures { IfSome result (λ next. IsNextRelease version.now word.now next) }
+{
+    let (major, minor, patch) = (version.major, version.minor, version.patch);
+    if !version.pre_release.is_empty() {
+        return None;
+    }
+    if word == b"major".as_slice() {
+        Some(with_numbers(version, major.checked_add(1)?, 0, 0))
+    } else if word == b"minor".as_slice() {
+        Some(with_numbers(version, major, minor.checked_add(1)?, 0))
+    } else if word == b"patch".as_slice() {
+        Some(with_numbers(version, major, minor, patch.checked_add(1)?))
+    } else {
+        None
+    }
+}
+
+// The version with these numbers.
+#[inline(always)]
+fn with_numbers<'a>(version: &Version<'a>, major: u64, minor: u64, patch: u64) -> Version<'a>
+    ensures numbers { (result.major ≡ major) × (result.minor ≡ minor) × (result.patch ≡ patch) }
+    ensures pre_release { result.pre_release ≡ version.now.pre_release }
+    ensures build { result.build ≡ version.now.build }
+{
+    Version {
+        major,
+        minor,
+        patch,
+        pre_release: version.pre_release,
+        build: version.build,
+    }
+}
+
+#[inline(never)]
 fn tell_by_base(
     alloc: Global,
     version: &VersionRef<'_>,

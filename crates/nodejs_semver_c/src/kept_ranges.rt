@@ -2,37 +2,55 @@
 
 ghost use Rattle.nodejs_semver.specs.Printing.Text.{range_text};
 ghost use Rattle.nodejs_semver.specs.Ranges.Algebra.{covers_one, intersection};
-ghost use Rattle.nodejs_semver.specs.Ranges.Best.{IsMax, IsMin};
+ghost use Rattle.nodejs_semver.specs.Ranges.Best.{IsMax, IsMin, replaces};
 ghost use Rattle.nodejs_semver.specs.Ranges.Gate.{accepts};
 ghost use Rattle.nodejs_semver.specs.Ranges.Outside.{is_outside};
 ghost use Rattle.nodejs_semver_c.specs.Answers.{Kept, Prints};
-ghost use Rattle.nodejs_semver_c.specs.Internal.Choices.{IsBestOf};
-ghost use Rattle.nodejs_semver_c.specs.Kept.{OnKept};
-ghost use Rattle.nodejs_semver_c.specs.KeptLists.{IsKeptAnswer, OnPlaces, OnVersions};
-ghost use Rattle.nodejs_semver_c.specs.KeptLists.{TellsEachKept, TellsKeptPlace};
-ghost use Rattle.nodejs_semver_c.specs.KeptRanges.{OnKeptRange, TellsLeast};
+ghost use Rattle.nodejs_semver_c.specs.Internal.Choices.{IsBestOf, is_beaten};
+ghost use Rattle.nodejs_semver_c.specs.Kept.{kept_value};
+ghost use Rattle.nodejs_semver_c.specs.KeptLists.{OnPlaces, OnVersions, TellsEachKept};
+ghost use Rattle.nodejs_semver_c.specs.KeptLists.{TellsKeptPlace};
+ghost use Rattle.nodejs_semver_c.specs.KeptRanges.{IsKeptRange, OnIntervals, OnKeptRange};
+ghost use Rattle.nodejs_semver_c.specs.KeptRanges.{RefusesIntervals, TellsLeast, kept_span};
 ghost use Rattle.nodejs_semver_c.specs.Numbers.{side_of};
-ghost use Rattle.std.specs.Prelude.{◌≡◌, ◌≤◌, is_some, length};
+ghost use Rattle.semver_core.specs.Values.Versions.{VersionValue};
+ghost use Rattle.std.specs.Option.{option_copied, option_map};
+ghost use Rattle.std.specs.Prelude.{◌++◌, ◌<◌, ◌∷◌, ◌≡◌, ◌≤◌, ◌⊎◌, [], List, Some, if◌then◌else◌};
+ghost use Rattle.std.specs.Prelude.{is_some, length, map, true};
 
-use crate::choices::{Best, keep_better};
-use crate::intervals::{
-    Interval, ask_range, check_range, first_status, have_common, is_outside, kept_range,
-};
-use crate::kept::{Parts, Version, check, kept, tell};
+use crate::asked::{have_common, is_accepted, is_outside};
+use crate::choices::Best;
+use crate::intervals::{Interval, MOST_INTERVALS, check_range, kept_range};
+use crate::kept::{Parts, Version, cmp_kept, tell};
 use crate::print::print;
-use crate::{
-    ANSWER_NO, ANSWER_NO_VERSION, ANSWER_YES, NO_MEMORY, NOTHING, OK, TOO_LONG, TOO_SMALL,
-};
-use nodejs_semver::{RangeRef, VersionRef};
+use crate::{ANSWER_NO, ANSWER_YES, NO_MEMORY, NOTHING, OK, TOO_LONG, TOO_SMALL};
+use nodejs_semver::RangeRef;
 use std::alloc::Global;
 
 /// How many versions memory may hold, of 56 bytes each.
 pub const MOST_VERSIONS: usize = 164_703_072_086_692_425;
 
-/// Whether a range accepts a version. A pre-release is accepted only where a bound names one of the
-/// same three numbers, unless pre-releases are included.
+/// Whether a range has these intervals: one or more, with bounds in order, of a kind that is known,
+/// whose texts spell identifiers and whose numbers are at most 9007199254740992. The status is `OK`
+/// or says why not.
 ///
-/// Returns `OK`, `BAD_VERSION`, `BAD_RANGE`, `NO_MEMORY` or `TOO_LONG`.
+/// Returns `OK`, `BAD_VERSION`, `BAD_RANGE` or `TOO_LONG`.
+#[unsafe(no_mangle)]
+pub extern "C" fn nodejs_semver_check_range(range: &[Interval<'_>]) -> u32
+    ensures { ((result ≡ OK) × IsKeptRange range.now (map kept_span range.now))
+        ⊎ RefusesIntervals range.now result }
+{
+    match check_range(range) {
+        Ok(()) => OK,
+        Err(status) => status,
+    }
+}
+
+/// Whether a range accepts a version. A pre-release is accepted only where a bound names one of the
+/// same three numbers, unless pre-releases are included. Neither the range nor the version is
+/// checked first: `nodejs_semver_check_range` and `nodejs_semver_check` do so.
+///
+/// Returns `OK` or `TOO_LONG`.
 #[unsafe(no_mangle)]
 pub extern "C" fn nodejs_semver_accepts(
     range: &[Interval<'_>],
@@ -40,150 +58,133 @@ pub extern "C" fn nodejs_semver_accepts(
     include_prerelease: bool,
     answer: &mut bool,
 ) -> u32
-    ensures { let same = answer.new ≡ answer.old in
-        OnKeptRange range.now result same (λ r. OnKept version.now result same (λ v.
-        (result ≡ OK) × (answer.new ≡ accepts r v include_prerelease))) }
+    ensures { OnIntervals range.now result (answer.new ≡ answer.old)
+        ((result ≡ OK) × (answer.new ≡ accepts (map kept_span range.now)
+        (kept_value version.now) include_prerelease)) }
 {
-    if let Err(status) = check(version) {
-        return first_status(range, status);
+    if range.len() > MOST_INTERVALS {
+        return TOO_LONG;
     }
-    match ask_range(range, version, include_prerelease) {
-        Ok(accepted) => {
-            *answer = accepted;
-            OK
-        }
-        Err(status) => status,
-    }
+    *answer = is_accepted(range, version, include_prerelease);
+    OK
 }
 
-/// Which of some versions a range accepts: `answers` gets one of `ANSWER_NO`, `ANSWER_YES` and
-/// `ANSWER_NO_VERSION` for each. If it has room for fewer, nothing is looked at or written.
+/// Which of some versions a range accepts: `answers` gets `ANSWER_NO` or `ANSWER_YES` for each, as
+/// `nodejs_semver_accepts` answers. If it has room for fewer, nothing is looked at or written.
 ///
-/// Returns `OK`, `TOO_SMALL`, `BAD_VERSION`, `BAD_RANGE`, `NO_MEMORY` or `TOO_LONG`.
+/// Returns `OK`, `TOO_SMALL` or `TOO_LONG`.
 #[unsafe(no_mangle)]
 pub extern "C" fn nodejs_semver_accepts_each(
-    alloc: Global,
     range: &[Interval<'_>],
     versions: &[Version<'_>],
     include_prerelease: bool,
     answers: &mut [u8],
 ) -> u32
     ensures { let same = answers.new ≡ answers.old in
-        OnPlaces versions.now (length answers.old) result same (
-        OnKeptRange range.now result same (λ r. (result ≡ OK)
-        × TellsEachKept r include_prerelease versions.now answers.old answers.new)) }
+        OnIntervals range.now result same (OnPlaces versions.now (length answers.old) result same
+        ((result ≡ OK) × TellsEachKept (map kept_span range.now) include_prerelease
+        versions.now answers.old answers.new)) }
 {
-    if versions.len() > MOST_VERSIONS {
+    if range.len() > MOST_INTERVALS || versions.len() > MOST_VERSIONS {
         return TOO_LONG;
     }
     if answers.len() < versions.len() {
         return TOO_SMALL;
     }
-    match kept_range(alloc, range) {
-        Ok(range) => {
-            answer_each(&range, include_prerelease, versions, answers);
-            OK
-        }
-        Err(status) => status,
-    }
+    answer_each(range, include_prerelease, versions, answers);
+    OK
 }
 
+#[inline(always)]
 fn answer_each(
-    range: &RangeRef<'_>,
+    range: &[Interval<'_>],
     include_prerelease: bool,
     versions: &[Version<'_>],
     answers: &mut [u8],
 )
     requires { length versions.now ≤ length answers.old }
-    ensures { TellsEachKept range.now include_prerelease versions.now answers.old answers.new }
+    ensures { TellsEachKept (map kept_span range.now) include_prerelease versions.now
+        answers.old answers.new }
 {
     'versions: for at in 0..versions.len() {
         answers[at] = answer_of(range, include_prerelease, &versions[at]);
     }
 }
 
-fn answer_of(range: &RangeRef<'_>, include_prerelease: bool, version: &Version<'_>) -> u8
-    ensures { IsKeptAnswer range.now include_prerelease version.now result }
+#[inline(always)]
+fn answer_of(range: &[Interval<'_>], include_prerelease: bool, version: &Version<'_>) -> u8
+    ensures { result ≡ (if accepts (map kept_span range.now) (kept_value version.now)
+        include_prerelease then ANSWER_YES else ANSWER_NO) }
 {
-    match kept(version) {
-        Ok(version) if range.satisfies_with_prerelease(&version, include_prerelease) => ANSWER_YES,
-        Ok(_) => ANSWER_NO,
-        Err(_) => ANSWER_NO_VERSION,
+    if is_accepted(range, version, include_prerelease) {
+        ANSWER_YES
+    } else {
+        ANSWER_NO
     }
 }
 
 /// Which of some versions is the greatest that a range accepts, the last of equal ones: `index`
-/// gets its place. Where a version is rejected, `index` gets the place of the first such version.
+/// gets its place. Neither the range nor the versions are checked first.
 ///
-/// Returns `OK`, `NOTHING`, `BAD_VERSION`, `BAD_RANGE`, `NO_MEMORY` or `TOO_LONG`.
+/// Returns `OK`, `NOTHING` or `TOO_LONG`.
 #[unsafe(no_mangle)]
 pub extern "C" fn nodejs_semver_greatest(
-    alloc: Global,
     range: &[Interval<'_>],
     versions: &[Version<'_>],
     include_prerelease: bool,
     index: &mut usize,
 ) -> u32
     ensures { let same = index.new ≡ index.old in
-        OnVersions versions.now result same (OnKeptRange range.now result same (λ r.
-        TellsKeptPlace (IsMax (λ v. accepts r v include_prerelease)) versions.now
-        index.old index.new result)) }
+        OnIntervals range.now result same (OnVersions versions.now result same (TellsKeptPlace
+        (IsMax (λ v. accepts (map kept_span range.now) v include_prerelease))
+        versions.now index.old index.new result)) }
 {
-    if versions.len() > MOST_VERSIONS {
+    if range.len() > MOST_INTERVALS || versions.len() > MOST_VERSIONS {
         return TOO_LONG;
     }
-    match kept_range(alloc, range) {
-        Ok(range) => best_of(Best::Max, &range, include_prerelease, versions, index),
-        Err(status) => status,
-    }
+    best_of(Best::Max, range, include_prerelease, versions, index)
 }
 
 /// Which of some versions is the smallest that a range accepts, the first of equal ones: `index`
-/// gets its place. Where a version is rejected, `index` gets the place of the first such version.
+/// gets its place. Neither the range nor the versions are checked first.
 ///
-/// Returns `OK`, `NOTHING`, `BAD_VERSION`, `BAD_RANGE`, `NO_MEMORY` or `TOO_LONG`.
+/// Returns `OK`, `NOTHING` or `TOO_LONG`.
 #[unsafe(no_mangle)]
 pub extern "C" fn nodejs_semver_least(
-    alloc: Global,
     range: &[Interval<'_>],
     versions: &[Version<'_>],
     include_prerelease: bool,
     index: &mut usize,
 ) -> u32
     ensures { let same = index.new ≡ index.old in
-        OnVersions versions.now result same (OnKeptRange range.now result same (λ r.
-        TellsKeptPlace (IsMin (λ v. accepts r v include_prerelease)) versions.now
-        index.old index.new result)) }
+        OnIntervals range.now result same (OnVersions versions.now result same (TellsKeptPlace
+        (IsMin (λ v. accepts (map kept_span range.now) v include_prerelease))
+        versions.now index.old index.new result)) }
 {
-    if versions.len() > MOST_VERSIONS {
+    if range.len() > MOST_INTERVALS || versions.len() > MOST_VERSIONS {
         return TOO_LONG;
     }
-    match kept_range(alloc, range) {
-        Ok(range) => best_of(Best::Min, &range, include_prerelease, versions, index),
-        Err(status) => status,
-    }
+    best_of(Best::Min, range, include_prerelease, versions, index)
 }
 
+#[inline(always)]
 fn best_of(
     which: Best,
-    range: &RangeRef<'_>,
+    range: &[Interval<'_>],
     include_prerelease: bool,
     versions: &[Version<'_>],
     index: &mut usize,
 ) -> u32
-    ensures { TellsKeptPlace (IsBestOf which range.now include_prerelease) versions.now
-        index.old index.new result }
+    ensures { TellsKeptPlace (IsBestOf which (map kept_span range.now) include_prerelease)
+        versions.now index.old index.new result }
 {
-    let include = include_prerelease;
     let mut best = None;
     let mut place = 0;
     'versions: for at in 0..versions.len() {
-        match kept(&versions[at]) {
-            Ok(version) => keep_better(which, range, include, version, at, &mut best, &mut place),
-            Err(status) => {
-                *index = at;
-                return status;
-            }
+        let version = &versions[at];
+        if is_new_best(which, range, include_prerelease, version, best) {
+            best = Some(version);
+            place = at;
         }
     }
     match best {
@@ -195,9 +196,43 @@ fn best_of(
     }
 }
 
-/// Whether two ranges have something in common.
+// Whether a version takes the place of the best so far.
+#[inline(always)]
+fn is_new_best(
+    which: Best,
+    range: &[Interval<'_>],
+    include_prerelease: bool,
+    version: &Version<'_>,
+    best: Option<&Version<'_>>,
+) -> bool
+    ensures { (list : List VersionValue)
+        → IsBestOf which (map kept_span range.now) include_prerelease list
+        (option_map kept_value (option_copied best.entry))
+        → IsBestOf which (map kept_span range.now) include_prerelease
+        (list ++ kept_value version.now ∷ []) (if result then Some (kept_value version.now)
+        else option_map kept_value (option_copied best.entry)) }
+{
+    is_better(which, version, best) && is_accepted(range, version, include_prerelease)
+}
+
+// Whether a version is better than the best so far, if there is one.
+#[inline(always)]
+fn is_better(which: Best, version: &Version<'_>, best: Option<&Version<'_>>) -> bool
+    ensures { result ≡ replaces (is_beaten which) (λ _. true)
+        (option_map kept_value (option_copied best.entry)) (kept_value version.now) }
+{
+    let Some(best) = best else {
+        return true;
+    };
+    match which {
+        Best::Max => cmp_kept(best, version).is_le(),
+        Best::Min => cmp_kept(version, best).is_lt(),
+    }
+}
+
+/// Whether two ranges have something in common. Neither is checked first.
 ///
-/// Returns `OK`, `BAD_VERSION`, `BAD_RANGE`, `NO_MEMORY` or `TOO_LONG`.
+/// Returns `OK` or `TOO_LONG`.
 #[unsafe(no_mangle)]
 pub extern "C" fn nodejs_semver_meets(
     range: &[Interval<'_>],
@@ -205,14 +240,12 @@ pub extern "C" fn nodejs_semver_meets(
     answer: &mut bool,
 ) -> u32
     ensures { let same = answer.new ≡ answer.old in
-        OnKeptRange range.now result same (λ r. OnKeptRange other.now result same (λ s.
-        (result ≡ OK) × (answer.new ≡ is_some (intersection r s)))) }
+        OnIntervals range.now result same (OnIntervals other.now result same ((result ≡ OK)
+        × (answer.new
+        ≡ is_some (intersection (map kept_span range.now) (map kept_span other.now))))) }
 {
-    if let Err(status) = check_range(range) {
-        return status;
-    }
-    if let Err(status) = check_range(other) {
-        return status;
+    if range.len() > MOST_INTERVALS || other.len() > MOST_INTERVALS {
+        return TOO_LONG;
     }
     *answer = have_common(range, other);
     OK
@@ -240,9 +273,9 @@ pub extern "C" fn nodejs_semver_covers(
 }
 
 /// Whether a version lies above a range, or below it where `above` is false: the range does not
-/// accept it, and every interval of the range lies on the other side.
+/// accept it, and every interval of the range lies on the other side. Neither is checked first.
 ///
-/// Returns `OK`, `BAD_VERSION`, `BAD_RANGE`, `NO_MEMORY` or `TOO_LONG`.
+/// Returns `OK` or `TOO_LONG`.
 #[unsafe(no_mangle)]
 pub extern "C" fn nodejs_semver_lies_outside(
     range: &[Interval<'_>],
@@ -251,15 +284,12 @@ pub extern "C" fn nodejs_semver_lies_outside(
     include_prerelease: bool,
     answer: &mut bool,
 ) -> u32
-    ensures { let same = answer.new ≡ answer.old in
-        OnKeptRange range.now result same (λ r. OnKept version.now result same (λ v.
-        (result ≡ OK) × (answer.new ≡ is_outside (side_of above) include_prerelease r v))) }
+    ensures { OnIntervals range.now result (answer.new ≡ answer.old) ((result ≡ OK)
+        × (answer.new ≡ is_outside (side_of above) include_prerelease
+        (map kept_span range.now) (kept_value version.now))) }
 {
-    if let Err(status) = check_range(range) {
-        return status;
-    }
-    if let Err(status) = check(version) {
-        return status;
+    if range.len() > MOST_INTERVALS {
+        return TOO_LONG;
     }
     *answer = is_outside(range, version, above, include_prerelease);
     OK

@@ -20,8 +20,11 @@ macro_rules! ok_or_return {
     };
 }
 
+mod asked;
 mod choices;
+mod common;
 mod diagnosis;
+mod dotted;
 mod flaws;
 mod found;
 mod intervals;

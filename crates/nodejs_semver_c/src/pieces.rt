@@ -3,6 +3,7 @@
 ghost use Rattle.nodejs_semver.specs.Printing.Text.{bounds_text, lower_text};
 ghost use Rattle.nodejs_semver.specs.Printing.Text.{range_text, upper_text};
 ghost use Rattle.nodejs_semver_c.specs.Internal.Pieces.{Adds};
+ghost use Rattle.nodejs_semver_c.specs.Kept.{list_text};
 ghost use Rattle.semver_core.specs.Printing.Text.{id_text, marked_list, version_text};
 ghost use Rattle.semver_core.specs.Values.Order.{version_eq};
 ghost use Rattle.semver_core.specs.Values.Views.{lent_id_view};
@@ -15,6 +16,7 @@ use nodejs_semver::{IdentifierRef, IdentifierRefs, VersionRef, Versioned};
 
 /// Puts a text behind the `len` bytes that were put before, if the buffer has room for all of them.
 /// If it has not, the length alone grows.
+#[inline(always)]
 pub fn put(text: &str, out: &mut [u8], len: &mut usize)
     ensures { Adds text.now out.old out.new len.old len.new }
 {
@@ -22,6 +24,7 @@ pub fn put(text: &str, out: &mut [u8], len: &mut usize)
 }
 
 /// Puts some bytes so.
+#[inline(always)]
 pub fn put_bytes(bytes: &[u8], out: &mut [u8], len: &mut usize)
     ensures { Adds bytes.now out.old out.new len.old len.new }
 {
@@ -33,12 +36,18 @@ pub fn put_bytes(bytes: &[u8], out: &mut [u8], len: &mut usize)
     *len = end;
 }
 
+#[inline(always)]
 fn put_number(number: u64, out: &mut [u8], len: &mut usize)
     ensures { Adds (decimal number) out.old out.new len.old len.new }
 {
-    put(Buffer::new().format(number), out, len);
+    if number < 10 {
+        put_bytes(&[b'0' + number as u8], out, len);
+    } else {
+        put(Buffer::new().format(number), out, len);
+    }
 }
 
+#[inline(always)]
 fn put_identifier(id: &IdentifierRef<'_>, out: &mut [u8], len: &mut usize)
     ensures { Adds (id_text (lent_id_view id.now)) out.old out.new len.old len.new }
 {
@@ -50,16 +59,17 @@ fn put_identifier(id: &IdentifierRef<'_>, out: &mut [u8], len: &mut usize)
 
 // A mark and the identifiers joined by dots, or nothing where there are none.
 #[inline(always)]
-pub fn put_list(mark: &str, ids: IdentifierRefs<'_>, out: &mut [u8], len: &mut usize)
+fn put_list(mark: &str, ids: IdentifierRefs<'_>, out: &mut [u8], len: &mut usize)
     ensures { Adds (marked_list mark.now ids.entry) out.old out.new len.old len.new }
 {
     if !ids.is_empty() {
-        put_some(mark, ids, out, len);
+        put_marked(mark, ids, out, len);
     }
 }
 
 // The same out of line: mostly there are none.
-fn put_some(mark: &str, ids: IdentifierRefs<'_>, out: &mut [u8], len: &mut usize)
+#[inline(never)]
+fn put_marked(mark: &str, ids: IdentifierRefs<'_>, out: &mut [u8], len: &mut usize)
     ensures { Adds (marked_list mark.now ids.entry) out.old out.new len.old len.new }
 {
     let mut sign = mark;
@@ -68,6 +78,28 @@ fn put_some(mark: &str, ids: IdentifierRefs<'_>, out: &mut [u8], len: &mut usize
         put(sign, out, len);
         put_identifier(&id, out, len);
         sign = ".";
+    }
+}
+
+/// Puts the identifiers of a list, joined by dots.
+#[inline(always)]
+pub fn put_ids(ids: IdentifierRefs<'_>, out: &mut [u8], len: &mut usize)
+    ensures { Adds (list_text ids.entry) out.old out.new len.old len.new }
+{
+    if !ids.is_empty() {
+        put_some(ids, out, len);
+    }
+}
+
+// The same out of line. Mostly there is one.
+#[inline(never)]
+fn put_some(ids: IdentifierRefs<'_>, out: &mut [u8], len: &mut usize)
+    ensures { Adds (list_text ids.entry) out.old out.new len.old len.new }
+{
+    let mut others = ids;
+    if let Some(first) = others.next() {
+        put_identifier(&first, out, len);
+        put_list(".", others, out, len);
     }
 }
 

@@ -2,11 +2,14 @@
 
 ghost use Rattle.nodejs_semver_c.specs.Answers.{IsRangeOf, IsVersionOf};
 ghost use Rattle.nodejs_semver_c.specs.Answers.{RefusesRange, RefusesText, RefusesVersion};
+ghost use Rattle.nodejs_semver_c.specs.Internal.Failures.{IsFailure};
 ghost use Rattle.nodejs_semver_c.specs.Readings.{IsWide, Spells, SpellsNoRange, SpellsRange};
 ghost use Rattle.nodejs_semver_c.specs.Readings.{WantsMemory, reading_of};
-ghost use Rattle.semver_core.specs.Failures.{MemoryOnlyIf, NoValue, RefusedOnlyIf};
-ghost use Rattle.std.specs.Prelude.{◌≡◌, IfErr, IfOk, IsTrue, IsUtf8, false};
+ghost use Rattle.semver_core.specs.Failures.{NoValue};
+ghost use Rattle.std.specs.Prelude.{◌≡◌, ◌⊎◌, IfErr, IfOk, IsTrue, IsUtf8, false};
 
+use crate::common::common;
+use crate::kept::lent;
 use crate::{
     BAD_ARGUMENT, BAD_RANGE, BAD_VERSION, NO_MEMORY, NOT_UTF8, READING_NPM, READING_NPM_LOOSE,
     READING_PORT, TOO_LONG,
@@ -48,8 +51,8 @@ pub enum Grammar {
     },
 }
 
-// The grammar that a number of C stands for.
-fn reading_of(reading: u32) -> Option<Grammar>
+/// The grammar that a number of C stands for.
+pub fn reading_of(reading: u32) -> Option<Grammar>
     ensures { result ≡ reading_of reading }
 {
     match reading {
@@ -78,16 +81,16 @@ impl Grammar {
         }
     }
 
+    /// The range of a text, or why it is read as none.
     #[inline(always)]
-    fn spelled_range(
+    pub(crate) fn spelled_range(
         self,
         alloc: Global,
         include_prerelease: bool,
         text: &str,
     ) -> Result<RangeRef<'_>, Failure<SemverError>>
         ensures ok { IfOk result (SpellsRange self include_prerelease text.now) }
-        ensures refused { RefusedOnlyIf result (SpellsNoRange self include_prerelease text.now) }
-        ensures memory { MemoryOnlyIf result (IsWide self text.now) }
+        ensures failed { IfErr result (IsFailure self include_prerelease text.now) }
     {
         match self {
             Grammar::Port => RangeRef::parse(alloc, text),
@@ -98,6 +101,25 @@ impl Grammar {
                 };
                 npm_reading::range(alloc, text, reading)
             }
+        }
+    }
+
+    /// The status of a text that is read as no range.
+    #[cold]
+    pub(crate) fn status_of(
+        self,
+        include_prerelease: bool,
+        text: &str,
+        failure: &Failure<SemverError>,
+    ) -> u32
+        requires { IsFailure self include_prerelease text.now failure.now }
+        ensures { ((result ≡ BAD_RANGE) × SpellsNoRange self include_prerelease text.now)
+            ⊎ ((result ≡ NO_MEMORY) × WantsMemory self include_prerelease text.now) }
+    {
+        match failure {
+            Failure::Refused(_) => BAD_RANGE,
+            Failure::Memory(_) if self.rejects(include_prerelease, text) => BAD_RANGE,
+            Failure::Memory(_) => NO_MEMORY,
         }
     }
 
@@ -123,6 +145,21 @@ impl Grammar {
 /// The version of a text, or the status that rejects it.
 #[inline(always)]
 pub fn version(reading: u32, bytes: &[u8]) -> Result<VersionRef<'_>, u32>
+    ensures ok { IfOk result (IsVersionOf reading bytes.now) }
+    ensures refused { IfErr result (RefusesVersion reading bytes.now) }
+{
+    if reading == READING_PORT
+        && let Some(version) = common(bytes)
+    {
+        return Ok(lent(&version));
+    }
+    let version = any_version(reading, bytes)?;
+    Ok(version)
+}
+
+// `version` of every text, as a call.
+#[inline(never)]
+fn any_version(reading: u32, bytes: &[u8]) -> Result<VersionRef<'_>, u32>
     ensures ok { IfOk result (IsVersionOf reading bytes.now) }
     ensures refused { IfErr result (RefusesVersion reading bytes.now) }
 {
@@ -153,8 +190,6 @@ pub fn range(
     let text = text(bytes)?;
     match reading.spelled_range(alloc, include_prerelease, text) {
         Ok(range) => Ok(range),
-        Err(Failure::Refused(_)) => Err(BAD_RANGE),
-        Err(Failure::Memory(_)) if reading.rejects(include_prerelease, text) => Err(BAD_RANGE),
-        Err(Failure::Memory(_)) => Err(NO_MEMORY),
+        Err(failure) => Err(reading.status_of(include_prerelease, text, &failure)),
     }
 }

@@ -26,6 +26,3 @@ returns-clause-ok c =
     let list = c.args.range.now in
     kept_all list (rw (take_all _ list c.loop-interval-test.false) at c.loop-interval.invariant)
     (grind (arith, nat_tests, c.if-is_empty.false, c.is_empty.ensures))
-
-pub returns-clause-each : goal.returns-clause-each
-returns-clause-each c = rw (take_all _ c.args.range.now c.loop-interval-test.false) at c.loop-interval.invariant

@@ -1,4 +1,4 @@
-use Rattle.std.proofs.Common.{rules, sym, true≢false}
+use Rattle.std.proofs.Common.{inl, rules, sym, true≢false}
 use Rattle.std.proofs.lemmas.Result.{err_from_is_err_and}
 use Rattle.nodejs_semver_c.proofs.Ranging.{range_kept, range_made, refused_one, refused_room}
 use Rattle.nodejs_semver_c.proofs.intervals.kept_range.Goals as goal
@@ -10,7 +10,7 @@ returns-in_default-clause-refused c =
 pub returns-in_err-fill-clause-refused : goal.returns-in_err-fill-clause-refused
 returns-in_err-fill-clause-refused c =
     let p = err_from_is_err_and c.from_residual.result c.from_residual.ensures.1 in
-    rw (p.1, p.2) (refused_one c.args.intervals.now _ c.in_err-fill.ensures.refused)
+    rw (p.1, p.2) (inl (refused_one c.args.intervals.now _ c.in_err-fill.ensures.refused))
 
 pub of_some-requires : goal.of_some-requires
 of_some-requires c =

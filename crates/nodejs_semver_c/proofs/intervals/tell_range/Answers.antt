@@ -16,4 +16,4 @@ returns-then-told-intervals c =
 pub returns : goal.returns
 returns c = range_put _ _ c.intervals-intervals.ensures.value c.intervals-intervals.ensures.valid _ _ _ _ _
     c.counted_texts-needed.ensures (omega (arith, c.if-needed-gt-MOST_BYTES.false)) _ _ _
-    (omega (arith, c.if-out-needed.false)) c.tell_intervals.ensures c.put_range_texts.ensures
+    (omega (arith, c.if-out-needed.false)) c.tell_intervals.ensures.told c.tell_intervals.ensures.texts.1

@@ -1,10 +1,12 @@
-use Rattle.std.proofs.Common.{◌≡◌, ◌++◌, ℕ, List, drop, length, take}
-use Rattle.std.specs.List.{AllZip}
-use Rattle.nodejs_semver_c.specs.KeptLists.{IsKeptAnswer}
+use Rattle.std.proofs.Common.{◌≡◌, ◌++◌, drop, if◌then◌else◌, map, take}
+use Rattle.nodejs_semver.specs.Ranges.Gate.{accepts}
+use Rattle.nodejs_semver_c.specs.Kept.{kept_value}
+use Rattle.nodejs_semver_c.specs.KeptRanges.{kept_span}
+use Rattle.nodejs_semver_c.specs.declared.TheConstants.{ANSWER_NO, ANSWER_YES}
 use Rattle.nodejs_semver_c.proofs.kept_ranges.answer_each.Given as goal
 
 -- the versions so far are answered, and what stands behind their answers is as it was
 abbrev pub invariant-versions : goal.invariant-versions
-invariant-versions l = (told : List ℕ) × ((length told ≡ l.at)
-    × (AllZip (λ p answer. IsKeptAnswer l.range l.include_prerelease p answer) (take l.at l.versions) told
-    × (l.answers ≡ told ++ drop l.at l.initial.answers)))
+invariant-versions l = l.answers ≡ map
+    (λ p. if accepts (map kept_span l.range) (kept_value p) l.include_prerelease then ANSWER_YES else ANSWER_NO)
+    (take l.at l.versions) ++ drop l.at l.initial.answers

@@ -1,37 +1,38 @@
-use Rattle.std.proofs.Common.{◌∷◌, ◌++◌, [], arith, length-append, refl, take_all}
-use Rattle.std.proofs.lemmas.List.{take_more}
-use Rattle.nodejs_semver_c.proofs.Places.{AllZip-append, best_of_none, tells_none, tells_refused, tells_some}
-use Rattle.nodejs_semver_c.proofs.Ranging.{no_version}
-use Rattle.nodejs_semver_c.specs.Kept.{IsKept, RefusesKept}
+use Rattle.std.proofs.Common.{map, refl, take, take_all}
+use Rattle.nodejs_semver_c.proofs.Choosing.{best_new, best_same}
+use Rattle.nodejs_semver_c.proofs.Places.{best_of_none}
+use Rattle.nodejs_semver_c.specs.Kept.{kept_value}
+use Rattle.nodejs_semver_c.specs.KeptRanges.{kept_span}
+use Rattle.nodejs_semver_c.proofs.kept_ranges.best_of.Goals.{else-is_new_best, then-is_new_best}
 use Rattle.nodejs_semver_c.proofs.kept_ranges.best_of.Goals as goal
 
 pub versions-init : goal.versions-init
-versions-init c = ([], (refl, (tt, ((best_of_none c.args.which c.args.range.now c.args.include_prerelease, tt), refl))))
-
-pub returns-in-Err : goal.returns-in-Err
-returns-in-Err c =
-    let (vs, (counted, (read, (best, kept)))) = c.versions.invariant in
-    tells_refused IsKept RefusesKept _ _ _ _ _ no_version vs c.versions-test.true read c.in-Err.ensures.refused
+versions-init c = ((best_of_none c.args.which (map kept_span c.args.range.now) c.args.include_prerelease, tt), refl)
 
 pub versions-preserved : goal.versions-preserved
 versions-preserved c =
-    let (vs, (counted, (read, (best, kept)))) = c.versions.invariant in (
-      vs ++ c.in-Ok.version ∷ [],
-      (
-        omega (arith, length-append vs (c.in-Ok.version ∷ []), counted),
-        (
-          rw (take_more c.args.versions.now c.versions.at no_version c.versions-test.true) (AllZip-append _ _ _ vs _ read (c.in-Ok.ensures.ok, tt)),
-          (c.keep_better.ensures vs counted best, kept),
-        ),
-      ),
-    )
+    let list = c.args.versions.now in
+    let at = c.versions.at in
+    let is = c.is_new_best.ensures (map kept_value (take at list)) c.versions.invariant.0.0 in
+    elim c.if-is_new_best.branch [
+      | then-is_new_best w ↦ (
+        rw (w.best-is, w.place-is) (best_new list at c.versions-test.true c.args.which (map kept_span c.args.range.now) c.args.include_prerelease
+            _ _ c.versions.invariant.0 (rw w.if-is_new_best.true at is)),
+        c.versions.invariant.1,
+      )
+      | else-is_new_best w ↦ (
+        rw (w.best-is, w.place-is) (best_same list at c.versions-test.true c.args.which (map kept_span c.args.range.now) c.args.include_prerelease
+            _ _ c.versions.invariant.0 (rw w.if-is_new_best.false at is)),
+        c.versions.invariant.1,
+      )
+    ]
 
 pub returns-in-None : goal.returns-in-None
 returns-in-None c =
-    let (vs, (counted, (read, (best, kept)))) = c.versions.invariant in
-    tells_none IsKept RefusesKept _ _ vs _ _ _ _ c.in-None.is (rw (take_all c.versions.at c.args.versions.now c.versions-test.false) at read) best kept
+    let h = rw (take_all c.versions.at c.args.versions.now c.versions-test.false, c.in-None.is) at c.versions.invariant in
+    (_, h.0.0, (refl, refl))
 
 pub returns-in-Some : goal.returns-in-Some
 returns-in-Some c =
-    let (vs, (counted, (read, (best, kept)))) = c.versions.invariant in
-    tells_some IsKept RefusesKept _ _ vs _ _ _ _ c.in-Some.is (rw (take_all c.versions.at c.args.versions.now c.versions-test.false) at read) best
+    let h = rw (take_all c.versions.at c.args.versions.now c.versions-test.false, c.in-Some.is) at c.versions.invariant in
+    (_, h.0.0, (refl, h.0.1))

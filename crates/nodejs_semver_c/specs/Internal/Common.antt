@@ -1,0 +1,26 @@
+-- For proofs and private contracts. Common texts of versions.
+use Rattle.std.specs.Prelude.{◌≡◌, ◌++◌, IsUtf8, List, [], Ok, Some, ℕ, true}
+use Rattle.semver_core.specs.Increments.Table.{answer_of_inc}
+use Rattle.semver_core.specs.Text.Identifiers.{is_listed, listed}
+use Rattle.semver_core.specs.Text.Parsing.{Parses}
+use Rattle.semver_core.specs.Text.VersionText.{IsBuild, IsPreRelease}
+use Rattle.semver_core.specs.declared.increment.IdentifierBase.{IdentifierBase}
+use Rattle.semver_core.specs.declared.TheConstants.{MAX_SAFE_INTEGER}
+use Rattle.nodejs_semver_c.specs.Kept.{kept_value}
+use Rattle.nodejs_semver_c.specs.declared.kept.Version.{Version}
+
+-- what follows the numbers is a pre-release and a build of these texts
+abbrev pub AreLists : (text pre build : List ℕ) → Type 0
+AreLists text pre build = (p b : List ℕ) × (text ≡ p ++ b) × IsPreRelease p b (listed pre)
+    × IsBuild b [] (listed build) × (is_listed pre ≡ true) × (is_listed build ≡ true)
+
+-- the text is UTF-8 and read as this version, with nothing left over
+abbrev pub IsCommonText : List ℕ → Version → Type 0
+IsCommonText text p = IsUtf8 text × Parses MAX_SAFE_INTEGER text (kept_value p)
+    × (is_listed p.pre_release.now ≡ true) × (is_listed p.build.now ≡ true)
+
+-- the word, and the next release by it, whatever the identifier and the base are
+abbrev pub IsNextRelease : Version → List ℕ → Version → Type 0
+IsNextRelease p word next = IsUtf8 word × (next.pre_release.now ≡ []) × (next.build.now ≡ p.build.now)
+    × ((id : List ℕ) (base : IdentifierBase)
+    → answer_of_inc (kept_value p) word (Some id) (Some base) ≡ Ok (kept_value next))
