@@ -1,9 +1,16 @@
 -- What a text is by what stands in front of its first colon.
-use Rattle.std.proofs.Common.{◌≡◌, ◌≢◌, ◌==◌, ◌∷◌, ◌++◌, ◌∙◌, [], ap, refl, subst, sym, inl, inr, List, ℕ, codes, false, map}
-use Rattle.std.proofs.lemmas.Bool.{ne_eqb, or_from, or_parts}
+use Rattle.std.proofs.Common.{◌⊎◌, length, true, ◌≡◌, ◌≢◌, ◌==◌, ◌∷◌, ◌++◌, ◌∙◌, [], ap, refl, subst, sym, inl, inr, List, ℕ, codes, false, map}
+use Rattle.std.proofs.lemmas.Bool.{eqb-true, ne_eqb, or_from, or_parts}
+use Rattle.std.proofs.lemmas.List.{nil_from_length}
+use Rattle.std.specs.Borrow.{Bor}
 use Rattle.std.specs.Char.{to_ascii_lowercase}
-use Rattle.lock_check.specs.Specifiers.{IsAlias, IsAliasOf, IsElsewhere, IsNoOtherRange, IsNpm, IsSameWord, IsSpecifier, has, is_of_registry}
+use Rattle.lock_check.specs.Specifiers.{IsAlias, IsAliasOf, IsElsewhere, IsNoPath, IsNpm, IsPlace, IsSameWord, IsSpecifier, IsWantedAs, begins_path, behind_git, has}
+use Rattle.lock_check.specs.Specifiers.{is_address, is_git, is_of_registry, scheme_of}
+use Rattle.lock_check.specs.Specifiers.IsPathOf.{drive, file, front}
+use Rattle.lock_check.specs.Specifiers.IsSpecifier.{asked, no_alias, place}
 use Rattle.lock_check.specs.Specifiers.IsAsked.{alias, empty, plain}
+use Rattle.lock_check.specs.declared.lock.Wanted.{Wanted}
+use Rattle.lock_check.specs.declared.lock.Wanted.TheVariants as wanted
 use Rattle.lock_check.specs.declared.specifier.Specifier.{Specifier}
 use Rattle.lock_check.specs.declared.specifier.Specifier.TheVariants.{Folder, Packed, Page, Range, Repository, Unsupported}
 use Rattle.lock_check.proofs.Parts.{has-middle, one_cut}
@@ -41,12 +48,12 @@ filled-npm text target (s, e, is) none = let some = has-middle 58 text s target 
 
 pub specifier-alias : (text target : List ℕ) (s : Specifier) → IsNpm text target → is_of_registry text ≡ false
     → IsAlias target s → IsSpecifier text s
-specifier-alias text target (Range range) npm off is = inl (alias target npm is)
-specifier-alias text target Unsupported npm off is = λ range asked. elim asked [
+specifier-alias text target (Range range) npm off is = asked range (alias target npm is) refl
+specifier-alias text target Unsupported npm off is = no_alias target npm (λ range asked. elim asked [
   | plain on filled same ↦ absurd (cc)
   | empty none same ↦ filled-npm text target npm none
   | alias other npm' of ↦ is range (subst (λ t. IsAliasOf t range) (one_npm text other target npm' npm) of)
-]
+]) refl
 specifier-alias text target (Folder path) npm off is = absurd is
 specifier-alias text target (Packed path) npm off is = absurd is
 specifier-alias text target (Page url) npm off is = absurd is
@@ -59,10 +66,33 @@ elsewhere text filled off none range (empty is same) = filled is
 elsewhere text filled off none range (alias target npm of) = none target npm
 
 pub specifier-other : (text : List ℕ) (s : Specifier) → text ≢ [] → is_of_registry text ≡ false
-    → ((target : List ℕ) → ¬ (IsNpm text target)) → IsNoOtherRange text s → IsSpecifier text s
-specifier-other text (Range range) filled off none is = inr (elsewhere text filled off none, is)
-specifier-other text Unsupported filled off none is = elsewhere text filled off none
-specifier-other text (Folder path) filled off none is = elsewhere text filled off none
-specifier-other text (Packed path) filled off none is = elsewhere text filled off none
-specifier-other text (Page url) filled off none is = elsewhere text filled off none
-specifier-other text (Repository range) filled off none is = elsewhere text filled off none
+    → ((target : List ℕ) → ¬ (IsNpm text target)) → IsPlace text s → IsSpecifier text s
+specifier-other text s filled off none is = place none (elsewhere text filled off none) is
+
+pub nil : (text : List ℕ) → (length text == 0) ≡ true → text ≡ []
+nil text none = nil_from_length text (eqb-true (length text) 0 none)
+
+-- a text without a colon has no scheme
+pub no_address : (text behind : List ℕ) → behind ≡ behind_git text → has 58 behind ≡ false → is_address text ≡ false
+no_address text behind same none =
+    let off : has 58 (behind_git text) ≡ false = subst (λ t. has 58 t ≡ false) same none in rw off refl
+
+-- a text is no path by its front
+pub no_path : (text : List ℕ) → begins_path text ≡ false
+    → (is_address text ≡ false) ⊎ ((is_git text ≡ true)
+    ⊎ ((length (scheme_of text) ≢ 1) × (¬ (IsSameWord (scheme_of text) (codes "file"))))) → IsNoPath text
+no_path text off why path' (front on same) = absurd (cc)
+no_path text off why path' (drive is ungit one same) = elim why [
+  | inl none ↦ absurd (cc)
+  | inr more ↦ elim more [ inl git ↦ absurd (cc) | inr none ↦ none.0 one ]
+]
+no_path text off why path' (file is ungit one same) = elim why [
+  | inl none ↦ absurd (cc)
+  | inr more ↦ elim more [ inl git ↦ absurd (cc) | inr none ↦ none.1 one ]
+]
+
+-- a text that is wanted as it is written, or by an override
+pub wanted-as : (w : Wanted) (text : Bor (List ℕ)) (s : Specifier) → (w ≡ wanted.Text text) ⊎ (w ≡ wanted.Override text)
+    → IsSpecifier text.now s → IsWantedAs w s
+wanted-as w text s (inl same) is = subst (λ v. IsWantedAs v s) (sym same) is
+wanted-as w text s (inr same) is = subst (λ v. IsWantedAs v s) (sym same) is

@@ -1,5 +1,5 @@
 -- The rules of `overrides`.
-use Rattle.std.proofs.Common.{◌<◌, ◌+◌, ◌∙◌, Bool, arith, append_assoc, codes, false, get_or, if◌then◌else◌, length, refl}
+use Rattle.std.proofs.Common.{true≢false, length-append, ◌<◌, ◌+◌, ◌⊎◌, ◌∙◌, Bool, ap₂, arith, below_more, drop, append_assoc, codes, false, get_or, if◌then◌else◌, length, refl}
 use Rattle.std.proofs.Common.{◌≡◌, ◌∷◌, ◌++◌, [], All, Contains, Global, List, None, Option, Some, String, ap, inl, inr, string_bytes, subst, suc, sym, true, unwrap_or, zero, ℕ}
 use Rattle.std.proofs.lemmas.List.Elements.{All-contains, All-nil, All-push, All-same}
 use Rattle.std.proofs.lemmas.Bool.{eqb-true}
@@ -13,12 +13,26 @@ use Rattle.semver_core.specs.Text.Characters.{IsTrim}
 use Rattle.lock_check.specs.Specifiers.{IsUnsigned, with_sign}
 use Rattle.std.specs.Prelude.{⊤, ◌≢◌, IfNone, MatchOption, bytes_eq, slice_get}
 use Rattle.std.specs.Borrow.{Bor}
-use Rattle.serde_json.specs.Data.{Members}
+use Rattle.serde_json.specs.Data.{Data, Members, array, boolean, depth, member, members_depth, no_members, null, number, object}
+use Rattle.serde_json.specs.Data.{string}
 use Rattle.serde_json.specs.Find.{as_object}
 use Rattle.serde_json.specs.View.{members_view, view}
 use Rattle.serde_json.specs.declared.value.Value.{Value}
-use Rattle.lock_check.specs.Internal.Overriding.{AreItsRules, IsAmongRules, IsLost, IsRuleOf, OfPackage}
-use Rattle.lock_check.specs.Overrides.{AreRules, HasMember, IsInPlace, IsKey, IsRule, inner, is_at, referenced, referred, said}
+use Rattle.lock_check.specs.Internal.Collected.{Extends}
+use Rattle.lock_check.specs.Internal.Overriding.{AreInsideTold, AreItsRules, IsAmongRules, IsFound, IsInside, IsLost, IsObject, IsRuleOf}
+use Rattle.lock_check.specs.Internal.Overriding.{OfPackage, below, whole}
+use Rattle.lock_check.specs.Lookups.{IsAt}
+use Rattle.lock_check.specs.Malformed.{AreRulesTold, HasFault, IsFault, IsRuleFault}
+use Rattle.lock_check.specs.Overrides.{AreRules, HasKey, HasMember, IsInPlace, IsKey, IsNoRule, IsRule, IsRuleFor, inner, is_at}
+use Rattle.lock_check.specs.Overrides.{outermost, referenced, referred, rule_text, rules_in, said}
+use Rattle.lock_check.specs.declared.fault.Fault.{Fault}
+use Rattle.lock_check.specs.declared.fault.Fault.TheVariants as fault
+use Rattle.lock_check.specs.declared.lock.Lock.{Lock}
+use Rattle.lock_check.proofs.Telling.{fault-added, fault-kept}
+use Rattle.npm_words.specs.Alternatives.{HasAlternativesIn}
+use Rattle.semver_core.proofs.Text.Trims.{middle_is_trim}
+use Rattle.semver_core.specs.Failures.{NoValue}
+use Rattle.semver_core.specs.declared.TheConstants.{MAX_SAFE_INTEGER}
 use Rattle.lock_check.specs.Replacements.{IsReplacement}
 use Rattle.lock_check.specs.declared.lock.Package.{Package}
 use Rattle.lock_check.specs.declared.overrides.Replacement.{Replacement}
@@ -111,6 +125,47 @@ pub key-named : (key rest behind : List ℕ) (is_scoped : Bool) → IsUnsigned k
 key-named key rest behind is_scoped is within after none = none (with_sign is_scoped (before_first is_at rest))
     (key-cut key rest is_scoped is within ∙ ap (λ b. with_sign is_scoped (before_first is_at rest) ++ 64 ∷ b) (sym after))
 
+-- ---- a key has one name and one range
+
+one_unsigned : (key a b : List ℕ) (x y : Bool) → IsUnsigned key x a → IsUnsigned key y b → (x ≡ y) × (a ≡ b)
+one_unsigned key a b true true u v = (refl, ap (drop 1) (sym u.whole ∙ v.whole))
+one_unsigned key a b false false u v = (refl, sym u.whole ∙ v.whole)
+one_unsigned key a b true false u v = absurd (v.front refl a u.whole)
+one_unsigned key a b false true u v = absurd (u.front refl b v.whole)
+
+pub one_trim : (text middle other : List ℕ) → IsTrim text middle → IsTrim text other → middle ≡ other
+one_trim text middle other t u = middle_is_trim text middle t ∙ sym (middle_is_trim text other u)
+
+one_key : (key name range other also : List ℕ) → IsKey key name range → IsKey key other also
+    → (name ≡ other) × (range ≡ also)
+one_key key name range other also (x, a, m, u, n, t, r) (y, b, k, v, o, s, q) =
+    let one = one_unsigned key a b x y u v in
+    let middles = one_trim (after_first is_at a) m k t (subst (λ l. IsTrim (after_first is_at l) k) (sym one.1) s) in (
+      n ∙ (ap₂ (λ c l. with_sign c (before_first is_at l)) one.0 one.1 ∙ sym o),
+      r ∙ (ap (λ l. if is_empty l then codes "*" else l) middles ∙ sym q),
+    )
+
+-- so it is no rule if the name is empty, or that range is not read, or gives no text with its value
+pub no_rule-textless : (key name range : List ℕ) (value : Data) → IsKey key name range → rule_text range value ≡ None
+    → IsNoRule key value
+no_rule-textless key name range value named none n t is =
+    let one = one_key key name range n is.range named is.named in
+    let some = subst (λ r. rule_text r value ≡ Some t) (sym one.1) is.is in cc
+
+pub no_rule-unnamed : (key name range : List ℕ) (value : Data) → IsKey key name range → name ≡ [] → IsNoRule key value
+no_rule-unnamed key name range value named none n t is =
+    is.filled (sym (one_key key name range n is.range named is.named).0 ∙ none)
+
+pub no_rule-unread : (key name range : List ℕ) (value : Data) → IsKey key name range → range ≢ codes "*"
+    → NoValue (HasAlternativesIn false MAX_SAFE_INTEGER false range) → IsNoRule key value
+no_rule-unread key name range value named other none n t is =
+    let same = (one_key key name range n is.range named is.named).1 in
+    elim is.read [
+      | inl star ↦ other (same ∙ star)
+      | inr read ↦ none read.1.alternatives
+          (subst (λ r. HasAlternativesIn false MAX_SAFE_INTEGER false r read.1.alternatives) (sym same) read.1.has)
+    ]
+
 -- ---- the members of an object
 
 pub has_member : (es : List (String Global × Value)) (n : ℕ) (e : String Global × Value) → slice_get es n ≡ Some e
@@ -120,35 +175,188 @@ has_member (m ∷ es) zero e is =
     let same : m ≡ e = ap (λ o. unwrap_or o m) is in inl (ap (λ p. string_bytes p.0) same, ap (λ p. view p.1) same)
 has_member (m ∷ es) (suc n) e is = inr (has_member es n e is)
 
--- the object is one of rules
-abbrev pub IsObject : Option Package → Members → Type 0
-IsObject root rules = OfPackage root (λ fields. AreRules fields rules)
+-- what holds of each entry holds of each member
+each-member : (P : List ℕ → Data → Type 0) (es : List (String Global × Value))
+    → ((n : ℕ) (e : String Global × Value) → n < length es → slice_get es n ≡ Some e → P (string_bytes e.0) (view e.1))
+    → (key : List ℕ) (value : Data) → HasMember (members_view es) key value → P key value
+each-member P [] all key value has = absurd has
+each-member P (m ∷ es) all key value (inl same) =
+    subst (λ k. P k value) same.0 (subst (λ v. P (string_bytes m.0) v) same.1 (all 0 m (omega arith) refl))
+each-member P (m ∷ es) all key value (inr more) =
+    each-member P es (λ n e lt at. all (suc n) e (omega (arith, lt)) at) key value more
 
-pub rule-made : (root : Option Package) (rules : Members) (name : List ℕ) (value : Value) (r : Rule) → IsObject root rules
-    → HasMember rules name (view value) → IsRuleOf name (view value) r
-    → OfPackage root (λ fields. IsAmongRules fields r)
+pub rule-made : (root : Option Package) (rules : Members) (name : List ℕ) (value : Data) (r : Rule) → IsObject root rules
+    → HasKey rules name value → IsRuleOf name value r → OfPackage root (λ fields. IsAmongRules fields r)
 rule-made root rules name value r of has is = (
   of.0,
   of.1,
-  (
-    is.1,
-    record {
-      rules = rules;
-      key = name;
-      value = view value;
-      range = is.0;
-      among = of.2;
-      has = has;
-      named = is.2;
-      is = is.3;
-    },
-    is.4,
-  ),
+  (is.0, record { rules = rules; key = name; value = value; among = of.2; has = has; is = is.1 }, is.2),
 )
 
-pub object-made : (root : Option Package) (rules inside : Members) (name : List ℕ) (value : Value) → IsObject root rules
-    → HasMember rules name (view value) → as_object (view value) ≡ Some inside → IsObject root inside
-object-made root rules inside name value of has is = (of.0, of.1, inner rules inside name (view value) of.2 has is)
+pub object-made : (root : Option Package) (rules inside : Members) (name : List ℕ) (value : Data) (r : Rule) → IsObject root rules
+    → HasKey rules name value → IsRuleOf name value r → as_object value ≡ Some inside → IsObject root inside
+object-made root rules inside name value r of has is it =
+    (of.0, of.1, inner rules inside name value r.name.now is.0 of.2 has is.1 it)
+
+pub fault-made : (lock : Lock) (root : Option Package) (rules : Members) (key : Bor (List ℕ)) (value : Data) → IsAt lock [] root
+    → IsObject root rules → HasKey rules key.now value → IsNoRule key.now value → IsFault lock (fault.Override key)
+fault-made lock root rules key value at of has none =
+    let found = subst (λ r. IsAt lock [] r) of.1 at in
+    (view of.0.fields.now, found.1, record { rules = rules; value = value; among = of.2; has = has; none = none })
+
+-- an entry of an object is a member of it
+pub has-key : (es : List (String Global × Value)) (n : ℕ) (key : String Global) (value : Value) (name : List ℕ)
+    → slice_get es n ≡ Some (key, value) → name ≡ string_bytes key → name ≢ codes "." → HasKey (members_view es) name (view value)
+has-key es n key value name at same other =
+    (subst (λ k. HasMember (members_view es) k (view value)) (sym same) (has_member es n (key, value) at), other)
+
+-- ---- what is malformed inside is told
+
+-- it stands inside the value of one of the rules
+record IsBelow (rules found : Members) : Type 0 where
+  key : List ℕ
+  value : Data
+  name : List ℕ
+  text : List ℕ
+  object : Members
+  has : HasKey rules key value
+  is : IsRuleFor key value name text
+  is_object : as_object value ≡ Some object
+  inside : IsInside object found
+
+inside-cases : {rules found : Members} → IsInside rules found → (rules ≡ found) ⊎ IsBelow rules found
+inside-cases (whole same) = inl same
+inside-cases (below around key value name text within has is it) = elim (inside-cases within) [
+  | inl same ↦ inr (record {
+    key = key;
+    value = value;
+    name = name;
+    text = text;
+    object = _;
+    has = subst (λ r. HasKey r key value) (sym same) has;
+    is = is;
+    is_object = it;
+    inside = whole refl;
+  })
+  | inr by ↦ inr (record {
+    key = by.key;
+    value = by.value;
+    name = by.name;
+    text = by.text;
+    object = by.object;
+    has = by.has;
+    is = by.is;
+    is_object = by.is_object;
+    inside = below around key value name text by.inside has is it;
+  })
+]
+
+pub found-object : (root : Option Package) (rules : Members) → IsFound root (Some rules) → IsObject root rules
+found-object None rules is = absurd (cc)
+found-object (Some p) rules is = (p, refl, outermost rules (sym is))
+
+rules-some : {root : Data} {rules : Members} → AreRules root rules → (outer : Members) × (rules_in root ≡ Some outer)
+rules-some (outermost rules at) = (rules, at)
+rules-some (inner rules found key value name text among has it is_it) = rules-some among
+
+-- all objects of rules are inside the outermost
+pub all-inside : {root : Data} {rules : Members} (outer : Members) → rules_in root ≡ Some outer → AreRules root rules
+    → IsInside outer rules
+all-inside outer is (outermost rules at) = whole (ap (λ o. unwrap_or o outer) (sym is ∙ at))
+all-inside outer is (inner rules found key value name text among has it is_it) =
+    below rules key value name text (all-inside outer is among) has it is_it
+
+pub is-other : (key : List ℕ) (is_dot : Bool) → is_dot ≡ bytes_eq key (codes ".") → is_dot ≡ false → key ≢ codes "."
+is-other key is_dot test none same = true≢false (sym ((bytes_eq-Decides key (codes ".")).1 same) ∙ (sym test ∙ none))
+
+pub is-dot : (key : List ℕ) (is_dot : Bool) → is_dot ≡ bytes_eq key (codes ".") → is_dot ≡ true → key ≡ codes "."
+is-dot key is_dot test is = (bytes_eq-Decides key (codes ".")).0 (sym test ∙ is)
+
+object-depth : (d : Data) (inside : Members) → as_object d ≡ Some inside → depth d ≡ suc (members_depth inside)
+object-depth null inside is = absurd (cc)
+object-depth (boolean b) inside is = absurd (cc)
+object-depth (number n) inside is = absurd (cc)
+object-depth (string s) inside is = absurd (cc)
+object-depth (array ds) inside is = absurd (cc)
+object-depth (object ms) inside is = ap (λ o. suc (members_depth (unwrap_or o ms))) is
+
+pub less-deep : (rules inside : Members) (key : List ℕ) (value : Data) → HasMember rules key value → as_object value ≡ Some inside
+    → members_depth inside < members_depth rules
+less-deep no_members inside key value has is = absurd has
+less-deep (member k d more) inside key value (inl same) is =
+    let deeper = object-depth d inside (ap as_object same.1 ∙ is) in omega arith
+less-deep (member k d more) inside key value (inr has) is =
+    let deeper = less-deep more inside key value has is in omega arith
+
+-- of a key and its value it is told that they are no rule, and what is malformed inside
+pub record IsKeyTold (faults : List Fault) (key : List ℕ) (value : Data) : Type 0 where
+  pub own : IsNoRule key value → HasFault faults (IsRuleFault key)
+  pub inside : (name text : List ℕ) (object : Members) → IsRuleFor key value name text → as_object value ≡ Some object
+      → AreInsideTold faults object
+
+-- a rule is no other thing, and its value may be an object
+pub key-told : (faults : List Fault) (key : List ℕ) (value : Data) (r : Rule) → IsRuleOf key value r
+    → ((object : Members) → as_object value ≡ Some object → AreInsideTold faults object) → IsKeyTold faults key value
+key-told faults key value r is inside = record {
+  own = λ none. absurd (none r.name.now is.0 is.1);
+  inside = λ name text object it is_object. inside object is_object;
+}
+
+-- that it is no rule is added
+pub no-rule : (before after : List Fault) (name : Bor (List ℕ)) (key : String Global) (value : Data) → name.now ≡ string_bytes key
+    → after ≡ before ++ fault.Override name ∷ [] → IsNoRule name.now value → IsKeyTold after (string_bytes key) value
+no-rule before after name key value same more none = record {
+  own = λ _. fault-added before after (IsRuleFault (string_bytes key)) (fault.Override name) more same;
+  inside = λ n t object is _. absurd (none n t (subst (λ k. IsRuleFor k value n t) (sym same) is));
+}
+
+pub inside-kept : (before after : List Fault) (rules : Members) → Extends before after → AreInsideTold before rules
+    → AreInsideTold after rules
+inside-kept before after rules more told = λ found key value in_it has none.
+    fault-kept before after (IsRuleFault key) more (told found key value in_it has none)
+
+-- the same of an entry, but for `.`
+abbrev pub IsEntryTold : List (String Global × Value) → List Fault → ℕ → Type 0
+IsEntryTold es faults n = (e : String Global × Value) → slice_get es n ≡ Some e → string_bytes e.0 ≢ codes "."
+    → IsKeyTold faults (string_bytes e.0) (view e.1)
+
+abbrev pub AreToldUpto : List (String Global × Value) → List Fault → ℕ → Type 0
+AreToldUpto es faults n = (i : ℕ) → i < n → IsEntryTold es faults i
+
+pub upto-more : {X : Type 0} (es : List (String Global × Value)) (before after : List Fault) (xs : List X) (x : X)
+    (key : String Global) (value : Value) → Extends before after → slice_get es (length xs) ≡ Some (key, value)
+    → (string_bytes key ≢ codes "." → IsKeyTold after (string_bytes key) (view value))
+    → AreToldUpto es before (length xs) → AreToldUpto es after (length (xs ++ x ∷ []))
+upto-more es before after xs x key value more at here all = subst (λ n. AreToldUpto es after n) (sym (length-append xs (x ∷ [])))
+    (below_more (IsEntryTold es after) (length xs)
+    (λ i lt e is other. let told = all i lt e is other in record {
+      own = λ none. fault-kept before after (IsRuleFault (string_bytes e.0)) more (told.own none);
+      inside = λ name text object it is_object.
+          inside-kept before after object more (told.inside name text object it is_object);
+    })
+    (λ e is. subst (λ y. string_bytes y.0 ≢ codes "." → IsKeyTold after (string_bytes y.0) (view y.1))
+    (ap (λ o. unwrap_or o (key, value)) (sym at ∙ is)) here))
+
+-- what is malformed inside of the outermost object is all that is
+pub found-told : (lock : Lock) (root : Option Package) (found : Option Members) (faults : List Fault) → IsAt lock [] root
+    → IsFound root found → ((rules : Members) → found ≡ Some rules → AreInsideTold faults rules) → AreRulesTold lock faults
+found-told lock None found faults at is told = λ key has. let some = has.1 in absurd (cc)
+found-told lock (Some p) found faults at is told = λ key has.
+    let own : view p.fields.now ≡ has.0 = ap (λ o. unwrap_or o has.0) (sym at.1 ∙ has.1) in
+    let outer = rules-some has.2.among in
+    told outer.0 (is ∙ (ap rules_in own ∙ outer.1)) has.2.rules key has.2.value (all-inside outer.0 outer.1 has.2.among)
+    has.2.has has.2.none
+
+pub upto-all : (es : List (String Global × Value)) (faults : List Fault) (n : ℕ) → n ≡ length es → AreToldUpto es faults n
+    → AreInsideTold faults (members_view es)
+upto-all es faults n all_of all = λ found key value in_it has none. elim (inside-cases in_it) [
+  | inl same ↦ (told key value (subst (λ r. HasKey r key value) (sym same) has)).own none
+  | inr it ↦ (told it.key it.value it.has).inside it.name it.text it.object it.is it.is_object found key value it.inside has none
+]
+  where
+    told : (key : List ℕ) (value : Data) → HasKey (members_view es) key value → IsKeyTold faults key value
+    told key value has = each-member (λ k v. k ≢ codes "." → IsKeyTold faults k v) es
+        (λ i e lt at. all i (subst (λ m. i < m) (sym all_of) lt) e at) key value has.0 has.1
 
 -- ---- what a rule puts in the place of a text
 

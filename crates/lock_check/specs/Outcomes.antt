@@ -1,6 +1,7 @@
 -- Statement: what is found of a package that is locked for a dependency, by its texts and by what is wanted.
 use Rattle.std.specs.Prelude.{⊤, ◌≡◌, ◌≢◌, ◌⊎◌, ◌&&◌, ℕ, Bool, true, false, List, [], Option, Some, None}
-use Rattle.std.specs.Prelude.{codes, if◌then◌else◌, IsSome, IsSomeAnd, unwrap_or, option_and_then, option_map}
+use Rattle.std.specs.Prelude.{codes, if◌then◌else◌, IsSomeAnd, unwrap_or, option_and_then, option_map}
+use Rattle.std.specs.Borrow.{Bor}
 use Rattle.serde_json.specs.Data.{Data}
 use Rattle.serde_json.specs.Find.{as_str}
 use Rattle.serde_json.specs.View.{view}
@@ -8,7 +9,7 @@ use Rattle.nodejs_semver.specs.Versions.{VersionValue}
 use Rattle.semver_core.specs.Text.Characters.{IsTrim}
 use Rattle.lock_check.specs.Fields.{is_set, member_of, text_of}
 use Rattle.lock_check.specs.Findings.{is_same, kind_of}
-use Rattle.lock_check.specs.Specifiers.{IsSpecifier, IsWantedAs}
+use Rattle.lock_check.specs.Specifiers.{IsSpecifier, IsTag, IsWantedAs}
 use Rattle.lock_check.specs.Verdicts.{IsJudgement}
 use Rattle.lock_check.specs.declared.check.Target.{Target}
 use Rattle.lock_check.specs.declared.finding.Kind.TheVariants as kind
@@ -58,28 +59,34 @@ IsUnversioned l outcome.Unversioned = (version_of l ≡ None) × ((l.is_nested &
 IsUnversioned l (outcome.Skipped skip.Unlocked) = (version_of l ≡ None) × ((l.is_nested && is_link l) ≡ true)
 IsUnversioned l _ = ⊥
 
--- a text that is no range may be a tag, which has to come from an address; which texts are tags is not said
-abbrev pub IsTagOutcome : Locked → Outcome → Type 0
-IsTagOutcome l outcome.Tagged = IsSome (address_of l)
-IsTagOutcome l outcome.Untraced = ⊤
-IsTagOutcome l outcome.Unread = ⊤
-IsTagOutcome l _ = ⊥
+-- it comes from the address of a packed package
+abbrev pub IsFromPage : Locked → Type 0
+IsFromPage l = IsSomeAnd (address_of l) (λ text. (url : Bor (List ℕ)) × IsSpecifier text (specifier.Page url))
+
+-- a text that is no range may be a tag, and what that names comes from such an address
+abbrev pub IsTagOutcome : List ℕ → Locked → Outcome → Type 0
+IsTagOutcome text l outcome.Tagged = IsTag text × IsFromPage l
+IsTagOutcome text l outcome.Untraced = IsTag text
+IsTagOutcome text l outcome.Unread = ¬ (IsTag text)
+IsTagOutcome text l _ = ⊥
 
 abbrev pub IsRejected : List ℕ → Option VersionValue → Outcome → Type 0
 IsRejected text least (outcome.Rejected version smallest) = (version.now ≡ text) × (smallest ≡ least)
 IsRejected text least _ = ⊥
 
 -- what is told of a judgement
-abbrev pub IsToldOf : Judgement → Locked → Outcome → Type 0
-IsToldOf judgement.NoRange l found = IsTagOutcome l found
-IsToldOf judgement.Unsure l found = found ≡ outcome.Skipped skip.Unsure
-IsToldOf judgement.NoVersion l found = IsUnversioned l found
-IsToldOf (judgement.Read verdict.Accepted) l found = found ≡ outcome.Satisfied
-IsToldOf (judgement.Read (verdict.Rejected smallest)) l found = IsRejected (version_text l) smallest found
+abbrev pub IsToldOf : List ℕ → Judgement → Locked → Outcome → Type 0
+IsToldOf text judgement.NoRange l found = IsTagOutcome text l found
+IsToldOf text judgement.Unsure l found = found ≡ outcome.Skipped skip.Unsure
+IsToldOf text judgement.NoVersion l found = IsUnversioned l found
+IsToldOf text (judgement.Read verdict.Accepted) l found = found ≡ outcome.Satisfied
+IsToldOf text (judgement.Read (verdict.Rejected smallest)) l found =
+    IsRejected (version_text l) smallest found
 
 -- what the text of a range says of it, by the text of its version
 abbrev pub IsRangeOutcome : List ℕ → Locked → Outcome → Type 0
-IsRangeOutcome text l found = (j : Judgement) × IsJudgement text (version_text l) j × IsToldOf j l found
+IsRangeOutcome text l found =
+    (j : Judgement) × IsJudgement text (version_text l) j × IsToldOf text j l found
 
 -- the same of a range that is asked of a registry: there `*` accepts every version
 abbrev pub IsRegistryOutcome : List ℕ → Locked → Outcome → Type 0

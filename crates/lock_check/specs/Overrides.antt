@@ -1,10 +1,14 @@
 -- Statement: what `overrides` of the root project puts in the place of what its packages want.
-use Rattle.std.specs.Prelude.{◌≡◌, ◌≢◌, ◌⊎◌, ◌==◌, ℕ, Bool, if◌then◌else◌, List, [], ◌∷◌, Option, Some, None}
-use Rattle.std.specs.Prelude.{codes, is_some, option_and_then}
+use Rattle.std.specs.Prelude.{◌≡◌, ◌≢◌, ◌⊎◌, ◌==◌, ℕ, Bool, false, if◌then◌else◌, List, [], ◌∷◌, Option}
+use Rattle.std.specs.Prelude.{Some, None, codes, is_some, option_and_then}
 use Rattle.std.specs.List.{after_first, before_first}
 use Rattle.std.specs.Option.{option_or}
+use Rattle.npm_reading.specs.Ranges.{IsRangeIn}
+use Rattle.nodejs_semver.specs.Cuts.{Span}
+use Rattle.nodejs_semver.specs.Versions.{VersionValue}
 use Rattle.semver_core.specs.Lists.{is_empty}
 use Rattle.semver_core.specs.Text.Characters.{IsTrim}
+use Rattle.semver_core.specs.declared.TheConstants.{MAX_SAFE_INTEGER}
 use Rattle.serde_json.specs.Data.{Data, Members, member, no_members}
 use Rattle.serde_json.specs.Find.{as_object, as_str, get}
 use Rattle.serde_json.specs.View.{view}
@@ -22,13 +26,6 @@ use Rattle.lock_check.specs.declared.lock.Wanted.TheVariants as wanted
 abbrev pub HasMember : Members → List ℕ → Data → Type 0
 HasMember no_members key value = ⊥
 HasMember (member k d more) key value = ((k ≡ key) × (d ≡ value)) ⊎ HasMember more key value
-
--- an object of rules: `overrides` of the root project, or the value of a rule
-pub data AreRules (root : Data) : Members → Type 0 where
-  outermost : (rules : Members) → option_and_then as_object (get (codes "overrides") root) ≡ Some rules
-      → AreRules root rules
-  inner : (rules inside : Members) (key : List ℕ) (value : Data) → AreRules root rules
-      → HasMember rules key value → as_object value ≡ Some inside → AreRules root inside
 
 abbrev pub is_at : ℕ → Bool
 is_at b = b == 64
@@ -48,16 +45,46 @@ text_beside range value None = if is_some (as_object value) then Some range else
 abbrev pub rule_text : List ℕ → Data → Option (List ℕ)
 rule_text range value = text_beside range value (get (codes ".") value)
 
+-- the strict reading reads the range of a key
+abbrev pub IsReadRange : List ℕ → Type 0
+IsReadRange range = (range ≡ codes "*")
+    ⊎ ((read : List (Span VersionValue)) × IsRangeIn false MAX_SAFE_INTEGER false range read)
+
+-- a key and its value are a rule for this name with this text
+pub record IsRuleFor (key : List ℕ) (value : Data) (name text : List ℕ) : Type 0 where
+  pub range : List ℕ
+  pub named : IsKey key name range
+  pub filled : name ≢ []
+  pub read : IsReadRange range
+  pub is : rule_text range value ≡ Some text
+
+-- or they are none
+abbrev pub IsNoRule : List ℕ → Data → Type 0
+IsNoRule key value = (name text : List ℕ) → ¬ (IsRuleFor key value name text)
+
+-- an object has the key of a rule, but for `.`, which is no key of one
+abbrev pub HasKey : Members → List ℕ → Data → Type 0
+HasKey rules key value = HasMember rules key value × (key ≢ codes ".")
+
+-- the object `overrides` of the root project
+abbrev pub rules_in : Data → Option Members
+rules_in root = option_and_then as_object (get (codes "overrides") root)
+
+-- an object of rules: that one, or the value of a rule
+pub data AreRules (root : Data) : Members → Type 0 where
+  outermost : (rules : Members) → rules_in root ≡ Some rules → AreRules root rules
+  inner : (rules inside : Members) (key : List ℕ) (value : Data) (name text : List ℕ) → AreRules root rules
+      → HasKey rules key value → IsRuleFor key value name text → as_object value ≡ Some inside
+      → AreRules root inside
+
 -- a rule for this name has this text
 pub record IsRule (root : Data) (name text : List ℕ) : Type 0 where
   pub rules : Members
   pub key : List ℕ
   pub value : Data
-  pub range : List ℕ
   pub among : AreRules root rules
-  pub has : HasMember rules key value
-  pub named : IsKey key name range
-  pub is : rule_text range value ≡ Some text
+  pub has : HasKey rules key value
+  pub is : IsRuleFor key value name text
 
 -- what the root project writes for this name: in the first of these fields with a text that is not empty
 abbrev pub some_text : Option (List ℕ) → Option (List ℕ)

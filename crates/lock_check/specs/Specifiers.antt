@@ -1,12 +1,16 @@
 -- Statement: what a text in place of a range is, and what an alias stands for.
 use Rattle.std.specs.Prelude.{⊤, ◌≡◌, ◌≢◌, ◌⊎◌, ◌==◌, ◌&&◌, ◌||◌, not, ℕ, Bool, true, false}
-use Rattle.std.specs.Prelude.{Option, Some, None, List, [], ◌∷◌, ◌++◌, codes, length, map, slice_index}
-use Rattle.std.specs.Char.{is_ascii_alphanumeric, to_ascii_lowercase}
-use Rattle.std.specs.List.{ends_with, list_all, list_any}
+use Rattle.std.specs.Prelude.{Option, Some, None, List, [], ◌∷◌, ◌++◌, codes, drop, length, map, slice_index}
+use Rattle.std.specs.Prelude.{if◌then◌else◌}
+use Rattle.std.specs.Borrow.{Bor}
+use Rattle.std.specs.Char.{is_ascii_alphabetic, is_ascii_alphanumeric, to_ascii_lowercase}
+use Rattle.std.specs.List.{after_first, before_first, ends_with, list_all, list_any, starts_with}
+use Rattle.semver_core.specs.Text.Characters.{IsTrim}
 use Rattle.lock_check.specs.declared.lock.Wanted.{Wanted}
 use Rattle.lock_check.specs.declared.lock.Wanted.TheVariants as wanted
 use Rattle.lock_check.specs.declared.specifier.Specifier.{Specifier}
-use Rattle.lock_check.specs.declared.specifier.Specifier.TheVariants.{Folder, Range, Unsupported}
+use Rattle.lock_check.specs.declared.specifier.Specifier.TheVariants.{Folder, Packed, Page, Range, Repository}
+use Rattle.lock_check.specs.declared.specifier.Specifier.TheVariants.{Unsupported}
 
 -- a character stands in the text
 abbrev pub has : ℕ → List ℕ → Bool
@@ -108,20 +112,88 @@ pub data IsAsked (text range : List ℕ) : Type 0 where
 abbrev pub IsElsewhere : List ℕ → Type 0
 IsElsewhere text = (range : List ℕ) → ¬ (IsAsked text range)
 
-abbrev pub IsPath : Specifier → Type 0
-IsPath (Range range) = ⊥
-IsPath _ = ⊤
+-- letters, one or more
+abbrev pub is_word : List ℕ → Bool
+is_word text = not (length text == 0) && list_all is_ascii_alphabetic text
 
--- no range, or the text itself
-abbrev pub IsNoOtherRange : List ℕ → Specifier → Type 0
-IsNoOtherRange text (Range range) = range.now ≡ text
-IsNoOtherRange text _ = ⊤
+abbrev pub is_git : List ℕ → Bool
+is_git text = starts_with (λ a b. a == b) text (codes "git+")
 
--- what a text is. All that is not asked of a registry is a path, an address or a text that npm rejects; which
--- of them is not said, and one of the last kind may be taken for a range, that no version fits
-abbrev pub IsSpecifier : List ℕ → Specifier → Type 0
-IsSpecifier text (Range range) = IsAsked text range.now ⊎ (IsElsewhere text × (range.now ≡ text))
-IsSpecifier text _ = IsElsewhere text
+abbrev pub behind_git : List ℕ → List ℕ
+behind_git text = if is_git text then drop 4 text else text
+
+abbrev pub is_colon : ℕ → Bool
+is_colon b = b == 58
+
+-- an address begins with a scheme, which is letters, and a colon; `git+` may stand before it
+abbrev pub scheme_of : List ℕ → List ℕ
+scheme_of text = before_first is_colon (behind_git text)
+
+abbrev pub target_of : List ℕ → List ℕ
+target_of text = after_first is_colon (behind_git text)
+
+abbrev pub is_address : List ℕ → Bool
+is_address text = has 58 (behind_git text) && is_word (scheme_of text)
+
+-- a text begins as paths do
+abbrev pub begins_path : List ℕ → Bool
+begins_path text = slice_index text 0 == 46
+    || (slice_index text 0 == 47 || starts_with (λ a b. a == b) text (codes "~/"))
+
+-- a text is this path by its front: the text itself, which may begin with a drive, or what is behind `file:`
+pub data IsPathOf (text path : List ℕ) : Type 0 where
+  front : begins_path text ≡ true → path ≡ text → IsPathOf text path
+  drive : is_address text ≡ true → is_git text ≡ false → length (scheme_of text) ≡ 1 → path ≡ text
+      → IsPathOf text path
+  file : is_address text ≡ true → is_git text ≡ false → IsSameWord (scheme_of text) (codes "file")
+      → path ≡ target_of text → IsPathOf text path
+
+abbrev pub IsNoPath : List ℕ → Type 0
+IsNoPath text = (path : List ℕ) → ¬ (IsPathOf text path)
+
+-- what is at a path
+abbrev pub IsAtPath : List ℕ → Specifier → Type 0
+IsAtPath path (Folder own) = (own.now ≡ path) × (is_packed path ≡ false)
+IsAtPath path (Packed own) = (own.now ≡ path) × (is_packed path ≡ true)
+IsAtPath path _ = ⊥
+
+abbrev pub IsWeb : List ℕ → Type 0
+IsWeb scheme = IsSameWord scheme (codes "http") ⊎ IsSameWord scheme (codes "https")
+
+-- what is at an address: a packed package is on the web. Which schemes npm reads, and which hosts have
+-- repositories, is not said
+abbrev pub IsAtAddress : List ℕ → Bool → List ℕ → Specifier → Type 0
+IsAtAddress text is_git scheme (Page url) = (url.now ≡ text) × (is_git ≡ false) × IsWeb scheme
+IsAtAddress text is_git scheme (Repository range) = ⊤
+IsAtAddress text is_git scheme Unsupported = ⊤
+IsAtAddress text is_git scheme _ = ⊥
+
+-- else a text is a path if it has a slash or ends as packed packages do, or it is a repository: when, is not
+-- said
+abbrev pub is_place : List ℕ → Bool
+is_place text = has 47 text || is_packed text
+
+abbrev pub IsWithoutScheme : List ℕ → Specifier → Type 0
+IsWithoutScheme text (Repository range) = ⊤
+IsWithoutScheme text (Range range) = (range.now ≡ text) × (is_place text ≡ false)
+IsWithoutScheme text s = (is_place text ≡ true) × IsAtPath text s
+
+-- where a text leads that no registry is asked for
+pub data IsPlace (text : List ℕ) (s : Specifier) : Type 0 where
+  by_path : (path : List ℕ) → IsPathOf text path → IsAtPath path s → IsPlace text s
+  by_scheme : IsNoPath text → is_address text ≡ true → IsAtAddress text (is_git text) (scheme_of text) s
+      → IsPlace text s
+  without : IsNoPath text → is_address text ≡ false → IsWithoutScheme text s → IsPlace text s
+
+-- what a text is: asked of a registry by that range, no alias though it begins so, or a place
+pub data IsSpecifier (text : List ℕ) (s : Specifier) : Type 0 where
+  asked : (range : Bor (List ℕ)) → IsAsked text range.now → s ≡ Range range → IsSpecifier text s
+  no_alias : (target : List ℕ) → IsNpm text target → IsElsewhere text → s ≡ Unsupported → IsSpecifier text s
+  place : ((target : List ℕ) → ¬ (IsNpm text target)) → IsElsewhere text → IsPlace text s → IsSpecifier text s
+
+-- a text that is no range is a tag if its bytes, but for whitespace around it, stand in a URL as they are
+abbrev pub IsTag : List ℕ → Type 0
+IsTag text = (middle : List ℕ) × IsTrim text middle × (list_all is_url_byte middle ≡ true)
 
 abbrev pub IsFolder : List ℕ → Specifier → Type 0
 IsFolder folder (Folder path) = path.now ≡ folder

@@ -515,7 +515,7 @@ impl<'a> Target<'a> {
 
     // What is told of this judgement of a range text.
     fn told(self, wanted: &str, judgement: Judgement) -> Outcome<'a>
-        ensures { IsToldOf judgement (locked_in self.entry) result }
+        ensures { IsToldOf wanted.now judgement (locked_in self.entry) result }
     {
         match judgement {
             Judgement::NoRange => self.tag_outcome(wanted),
@@ -553,7 +553,7 @@ impl<'a> Target<'a> {
 
     // npm wants what a tag names to come from an address of a package.
     fn tag_outcome(self, wanted: &str) -> Outcome<'a>
-        ensures { IsTagOutcome (locked_in self.entry) result }
+        ensures { IsTagOutcome wanted.now (locked_in self.entry) result }
     {
         match self.resolved().map(Specifier::of) {
             _ if !is_tag(wanted) => Outcome::Unread,

@@ -1,19 +1,21 @@
 // `overrides` of the root project, which changes what packages depend on.
 
 ghost use Rattle.lock_check.specs.Internal.Collected.{Extends};
-ghost use Rattle.lock_check.specs.Internal.Overriding.{AreItsRules, IsLost, IsPut, IsRuleOf};
-ghost use Rattle.lock_check.specs.Internal.Overriding.{IsUnread};
+ghost use Rattle.lock_check.specs.Internal.Overriding.{AreInsideTold, AreItsRules, IsFound};
+ghost use Rattle.lock_check.specs.Internal.Overriding.{IsLost, IsObject, IsPut, IsRuleOf};
 ghost use Rattle.lock_check.specs.Lookups.{IsAt, written_in};
-ghost use Rattle.lock_check.specs.Malformed.{HasFault, HasOtherRules, IsFault, IsFieldFault};
-ghost use Rattle.lock_check.specs.Malformed.{OfFields};
-ghost use Rattle.lock_check.specs.Overrides.{IsKey, referenced, rule_text, some_text};
+ghost use Rattle.lock_check.specs.Malformed.{AreRulesTold, HasFault, HasOtherRules, IsFault};
+ghost use Rattle.lock_check.specs.Malformed.{IsFieldFault, OfFields};
+ghost use Rattle.lock_check.specs.Overrides.{IsKey, IsNoRule, referenced, rule_text};
+ghost use Rattle.lock_check.specs.Overrides.{some_text};
 ghost use Rattle.lock_check.specs.Replacements.{IsReplacement};
 ghost use Rattle.lock_check.specs.declared.lock.Lock.{Lock};
 ghost use Rattle.semver_core.specs.Lists.{is_empty};
-ghost use Rattle.serde_json.specs.View.{view};
+ghost use Rattle.lock_check.specs.declared.lock.Package.{Package};
+ghost use Rattle.serde_json.specs.View.{members_view, view};
 ghost use Rattle.std.specs.Prelude.{◌≡◌, ◌≢◌, ◌++◌, ◌∷◌, [], if◌then◌else◌, ⊤, ℕ};
-ghost use Rattle.std.specs.Prelude.{All, Contains, IfNone, IfOk, IfSome, List, MatchOption};
-ghost use Rattle.std.specs.Prelude.{OnOk, codes, option_map};
+ghost use Rattle.std.specs.Prelude.{All, Contains, IfNone, IfOk, IfSome, List};
+ghost use Rattle.std.specs.Prelude.{MatchOption, OnOk, Option, codes, option_map};
 
 use crate::fault::Fault;
 use crate::lock::{Dependency, Field, Package, Wanted};
@@ -82,7 +84,8 @@ impl<'a> Rule<'a> {
         key: &'a str,
         value: &'a Value,
     ) -> Result<Option<Rule<'a>>, AllocError>
-        ensures { IfOk result (λ rule. IfSome rule (IsRuleOf key.now (view value.now))) }
+        ensures some { IfOk result (λ rule. IfSome rule (IsRuleOf key.now (view value.now))) }
+        ensures none { IfOk result (λ rule. IfNone rule (IsNoRule key.now (view value.now))) }
     {
         let (name, wanted) = split_key(key);
         let Some(text) = text_of(wanted, value) else {
@@ -176,11 +179,11 @@ fn text_of<'a>(range: &'a str, value: &'a Value) -> Option<&'a str>
 
 // The object `overrides` of the root project, if it has one.
 fn outermost<'a>(
-    alloc: Global,
     root: Option<Package<'a>>,
     faults: &mut Vec<Fault<'a>>,
-) -> Result<Vec<(Scope, &'a Map<String, Value>)>, AllocError>
-    ensures read { IfOk result (λ unread. All (IsUnread root.entry) unread.items) }
+) -> Result<Option<&'a Map<String, Value>>, AllocError>
+    ensures found { IfOk result (λ found. IsFound root.entry
+        (option_map (λ object. members_view object.now.entries) found)) }
     ensures kept { OnOk result (Extends faults.old.items faults.new.items) }
     ensures told { OnOk result ((lock : Lock) → IsAt lock [] root.entry
         → OfFields lock [] HasOtherRules
@@ -188,21 +191,57 @@ fn outermost<'a>(
     ensures wrong { OnOk result ((lock : Lock) → IsAt lock [] root.entry
         → All (IsFault lock) faults.old.items → All (IsFault lock) faults.new.items) }
 {
-    let mut unread = Vec::new(alloc);
     let Some(package) = root else {
-        return Ok(unread);
+        return Ok(None);
     };
     let Some(value) = package.fields.get("overrides") else {
-        return Ok(unread);
+        return Ok(None);
     };
-    match value.as_object() {
-        Some(object) => unread.push((Scope::Top, object))?,
-        None => faults.push(Fault::Field {
+    let found = value.as_object();
+    if found.is_none() {
+        faults.push(Fault::Field {
             folder: "",
             field: "overrides",
-        })?,
+        })?;
     }
-    Ok(unread)
+    Ok(found)
+}
+
+// Adds the rules of an object that stands in this scope, and those nested in them. JSON is read to
+// a depth of 127, so the calls nest no deeper.
+fn add_rules<'a>(
+    alloc: Global,
+    outer: Scope,
+    object: &'a Map<String, Value>,
+    rules: &mut Vec<Rule<'a>>,
+    faults: &mut Vec<Fault<'a>>,
+) -> Result<(), AllocError>
+    ensures rules { OnOk result ((root : Option Package)
+        → IsObject root (members_view object.now.entries)
+        → AreItsRules root rules.old.items → AreItsRules root rules.new.items) }
+    ensures kept { OnOk result (Extends faults.old.items faults.new.items) }
+    ensures told { OnOk result (AreInsideTold faults.new.items
+        (members_view object.now.entries)) }
+    ensures wrong { OnOk result ((lock : Lock) (root : Option Package) → IsAt lock [] root
+        → IsObject root (members_view object.now.entries)
+        → All (IsFault lock) faults.old.items → All (IsFault lock) faults.new.items) }
+{
+    for (key, value) in object.iter() {
+        let name = key.as_str();
+        if name == "." {
+            continue;
+        }
+        let Some(rule) = Rule::of(alloc, outer, name, value)? else {
+            faults.push(Fault::Override { name })?;
+            continue;
+        };
+        let scope = Scope::Rule(rules.len());
+        rules.push(rule)?;
+        if let Some(inner) = value.as_object() {
+            add_rules(alloc, scope, inner, rules, faults)?;
+        }
+    }
+    Ok(())
 }
 
 impl<'a> Overrides<'a> {
@@ -219,30 +258,16 @@ impl<'a> Overrides<'a> {
         ensures told { OnOk result ((lock : Lock) → IsAt lock [] root.entry
             → OfFields lock [] HasOtherRules
             → HasFault faults.new.items (IsFieldFault [] (codes "overrides"))) }
+        ensures inside { OnOk result ((lock : Lock) → IsAt lock [] root.entry
+            → AreRulesTold lock faults.new.items) }
         ensures wrong { OnOk result ((lock : Lock) → IsAt lock [] root.entry
             → All (IsFault lock) faults.old.items → All (IsFault lock) faults.new.items) }
     {
         let mut rules = Vec::new(alloc);
-        let mut unread = outermost(alloc, root, faults)?;
-        for _ in 0..u64::MAX {
-            let Some((outer, object)) = unread.pop() else {
-                break;
-            };
-            for (key, value) in object.iter() {
-                let name = key.as_str();
-                if name == "." {
-                    continue;
-                }
-                let Some(rule) = Rule::of(alloc, outer, name, value)? else {
-                    faults.push(Fault::Override { name })?;
-                    continue;
-                };
-                if let Some(inner) = value.as_object() {
-                    unread.push((Scope::Rule(rules.len()), inner))?;
-                }
-                rules.push(rule)?;
-            }
-        }
+        let Some(object) = outermost(root, faults)? else {
+            return Ok(Overrides { root, rules });
+        };
+        add_rules(alloc, Scope::Top, object, &mut rules, faults)?;
         Ok(Overrides { root, rules })
     }
 

@@ -1,11 +1,18 @@
 // What a text in place of a range is to npm.
 
+ghost use Rattle.lock_check.specs.Specifiers.{IsAtAddress, IsAtPath, IsNoPath, IsPathOf, IsPlace};
+ghost use Rattle.lock_check.specs.Specifiers.{IsWeb, IsWithoutScheme, begins_path, behind_git};
+ghost use Rattle.lock_check.specs.Specifiers.{is_address, is_git, is_word, scheme_of, target_of};
 ghost use Rattle.lock_check.specs.Specifiers.{IsAlias, IsAliased, IsBareName, IsBehindNpm, IsName};
-ghost use Rattle.lock_check.specs.Specifiers.{IsNoOtherRange, IsPath, IsReserved, IsScopeAndName};
-ghost use Rattle.lock_check.specs.Specifiers.{IsSpecifier, IsUnsigned, is_of_registry, is_packed};
-ghost use Rattle.lock_check.specs.Specifiers.{is_part, is_plain, is_url_byte};
+ghost use Rattle.lock_check.specs.Specifiers.{IsReserved, IsScopeAndName, IsSpecifier, IsTag};
+ghost use Rattle.lock_check.specs.Specifiers.{IsUnsigned, is_of_registry, is_packed, is_part};
+ghost use Rattle.lock_check.specs.Specifiers.{is_place, is_plain, is_url_byte};
+ghost use Rattle.std.specs.Char.{is_ascii_alphabetic};
 ghost use Rattle.std.specs.List.{list_all};
-ghost use Rattle.std.specs.Prelude.{◌≡◌, ◌↔◌, IsTrue, option_map};
+ghost use Rattle.std.specs.Prelude.{◌≡◌, ◌↔◌, IfNone, IfSome, IsTrue, MatchOption};
+ghost use Rattle.std.specs.Prelude.{false, option_map, true};
+
+use semver_core::scan::trim;
 
 // The schemes of the URLs that npm reads, but for those of packages at other places; behind `git+`
 // those of the second list.
@@ -81,39 +88,88 @@ pub fn behind_npm(text: &str) -> Option<&str>
 
 // What a text is that is neither asked of a registry nor an alias.
 fn elsewhere(text: &str) -> Specifier<'_>
-    ensures { IsNoOtherRange text.now result }
+    ensures { IsPlace text.now result }
 {
     if let Some(path) = path(text) {
         return at_path(path);
     }
     match scheme(text) {
-        Some((git, scheme, _)) if !is_read(git, scheme) => Specifier::Unsupported,
-        Some(("", scheme, target)) if is_page(scheme, target) => Specifier::Page(text),
-        Some(_) => Specifier::Repository(tagged(text)),
-        None if is_repository(text) => Specifier::Repository(tagged(text)),
-        None if text.contains('/') || is_packed(text) => at_path(text),
-        None => Specifier::Range(text),
+        Some((is_git, scheme, target)) => at_address(text, is_git, scheme, target),
+        None => without_scheme(text),
     }
 }
 
 // The path that the text is, if it is one by its front. One letter before a colon is a drive.
-fn path(text: &str) -> Option<&str> {
-    match scheme(text) {
-        Some(("", scheme, path)) if scheme.eq_ignore_ascii_case("file") => Some(path),
-        Some(("", scheme, _)) if scheme.len() == 1 => Some(text),
-        _ if text.starts_with('.') || text.starts_with('/') || text.starts_with("~/") => Some(text),
-        _ => None,
+fn path(text: &str) -> Option<&str>
+    ensures { MatchOption result (IsNoPath text.now) (λ path. IsPathOf text.now path.now) }
+{
+    if begins_path(text) {
+        return Some(text);
+    }
+    let (is_git, scheme, path) = scheme(text)?;
+    if is_git {
+        None
+    } else if scheme.eq_ignore_ascii_case("file") {
+        Some(path)
+    } else if scheme.len() == 1 {
+        Some(text)
+    } else {
+        None
     }
 }
 
+fn begins_path(text: &str) -> bool
+    ensures { result ≡ begins_path text.now }
+{
+    text.starts_with('.') || text.starts_with('/') || text.starts_with("~/")
+}
+
 fn at_path(path: &str) -> Specifier<'_>
-    ensures { IsPath result }
+    ensures { IsAtPath path.now result }
 {
     if is_packed(path) {
         Specifier::Packed(path)
     } else {
         Specifier::Folder(path)
     }
+}
+
+// What an address is, by its scheme and what stands behind that.
+fn at_address<'a>(text: &'a str, is_git: bool, scheme: &str, target: &str) -> Specifier<'a>
+    ensures { IsAtAddress text.now is_git scheme.now result }
+{
+    if !is_read(is_git, scheme) {
+        Specifier::Unsupported
+    } else if !is_git && is_web(scheme) && is_page(target) {
+        Specifier::Page(text)
+    } else {
+        Specifier::Repository(tagged(text))
+    }
+}
+
+fn is_web(scheme: &str) -> bool
+    ensures { IsTrue result ↔ IsWeb scheme.now }
+{
+    scheme.eq_ignore_ascii_case("http") || scheme.eq_ignore_ascii_case("https")
+}
+
+// What a text is that has no scheme and is no path by its front.
+fn without_scheme(text: &str) -> Specifier<'_>
+    ensures { IsWithoutScheme text.now result }
+{
+    if is_repository(text) {
+        Specifier::Repository(tagged(text))
+    } else if is_place(text) {
+        at_path(text)
+    } else {
+        Specifier::Range(text)
+    }
+}
+
+fn is_place(text: &str) -> bool
+    ensures { result ≡ is_place text.now }
+{
+    text.contains('/') || is_packed(text)
 }
 
 // Whether a text ends as the names of packed packages do.
@@ -214,9 +270,8 @@ fn is_part(text: &str) -> bool
     !text.is_empty() && are_tag_bytes(text.as_bytes())
 }
 
-// Whether a URL is that of a file, and of no repository at a host that npm knows.
-fn is_page(scheme: &str, target: &str) -> bool {
-    let is_web = scheme.eq_ignore_ascii_case("http") || scheme.eq_ignore_ascii_case("https");
+// Whether a page is that of a file, and of no repository at a host that npm knows.
+fn is_page(target: &str) -> bool {
     let place = target.trim_start_matches('/');
     let (host, path) = place.split_once('/').unwrap_or((place, ""));
     let host = match host.rsplit_once('@') {
@@ -225,7 +280,7 @@ fn is_page(scheme: &str, target: &str) -> bool {
     };
     let host = host.strip_prefix("www.").unwrap_or(host);
     let is_known = HOSTS.iter().any(|it| it.eq_ignore_ascii_case(host));
-    is_web && (!is_known || (host.eq_ignore_ascii_case("github.com") && is_below_project(path)))
+    !is_known || (host.eq_ignore_ascii_case("github.com") && is_below_project(path))
 }
 
 // Whether the path of a page of GitHub leads to something of a project that is no branch.
@@ -266,29 +321,58 @@ fn tagged(text: &str) -> Option<&str> {
 }
 
 // Whether npm reads URLs of this scheme.
-fn is_read(git: &str, scheme: &str) -> bool {
-    let known = if git.is_empty() { SCHEMES } else { GIT_SCHEMES };
+fn is_read(is_git: bool, scheme: &str) -> bool {
+    let known = if is_git { GIT_SCHEMES } else { SCHEMES };
     known.iter().any(|it| it.eq_ignore_ascii_case(scheme))
 }
 
 /// Whether npm takes a text that is neither an address nor a range for a tag, as `latest`: each of
 /// its bytes may stand in a URL as it is. Any other text is an error to npm.
-pub fn is_tag(text: &str) -> bool {
-    text.trim().bytes().all(is_tag_byte)
+pub fn is_tag(text: &str) -> bool
+    ensures { IsTrue result ↔ IsTag text.now }
+{
+    are_tag_bytes(trim(text).as_bytes())
 }
 
-// The scheme at the front, if a colon follows some letters: `git+` before it or nothing, the
+// The scheme at the front, if a colon follows some letters: whether `git+` stands before it, the
 // letters, and what follows the colon.
-fn scheme(text: &str) -> Option<(&str, &str, &str)> {
-    let (git, behind) = match text.strip_prefix("git+") {
-        Some(behind) => ("git+", behind),
-        None => ("", text),
-    };
-    let (scheme, rest) = behind.split_once(':')?;
-    if scheme.is_empty() || !scheme.bytes().all(|byte| byte.is_ascii_alphabetic()) {
+fn scheme(text: &str) -> Option<(bool, &str, &str)>
+    ensures some { IfSome result (λ x. (is_address text.now ≡ true) × (x.0 ≡ is_git text.now)
+        × (x.1.now ≡ scheme_of text.now) × (x.2.now ≡ target_of text.now)) }
+    ensures none { IfNone result (is_address text.now ≡ false) }
+{
+    let (is_git, behind) = behind_git(text);
+    let Some((scheme, rest)) = behind.split_once(':') else {
         return None;
+    };
+    if is_word(scheme) {
+        Some((is_git, scheme, rest))
+    } else {
+        None
     }
-    Some((git, scheme, rest))
+}
+
+fn behind_git(text: &str) -> (bool, &str)
+    ensures is { result.0 ≡ is_git text.now }
+    ensures behind { result.1.now ≡ behind_git text.now }
+{
+    match text.strip_prefix("git+") {
+        Some(behind) => (true, behind),
+        None => (false, text),
+    }
+}
+
+// Whether a text is letters, one or more.
+fn is_word(text: &str) -> bool
+    ensures { result ≡ is_word text.now }
+{
+    !text.is_empty() && are_letters(text.as_bytes())
+}
+
+fn are_letters(text: &[u8]) -> bool
+    ensures { result ≡ list_all is_ascii_alphabetic text.now }
+{
+    text.iter().all(|byte| byte.is_ascii_alphabetic())
 }
 
 fn are_tag_bytes(text: &[u8]) -> bool

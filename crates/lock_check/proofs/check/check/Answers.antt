@@ -66,6 +66,7 @@ returns-clause-malformed c =
     record {
       real = c.in_ok-overrides.ensures.wrong lock c.package-2.ensures (c.in_ok-edges.ensures.wrong real);
       rules = c.in_ok-overrides.ensures.told lock c.package-2.ensures;
+      inside = c.in_ok-overrides.ensures.inside lock c.package-2.ensures;
       root = λ none. fault-kept middle last P c.in_ok-overrides.ensures.kept (fault-kept first middle P c.in_ok-edges.ensures.kept (root none));
       workspaces = λ of. fault-kept middle last (λ f. f ≡ Workspaces) c.in_ok-overrides.ensures.kept
           (c.in_ok-edges.ensures.texts [] of.0 of.1 refl of.2);

@@ -1,58 +1,31 @@
-use Rattle.std.proofs.Common.{◌∙◌, [], All, IfSome, codes, length, subst, sym}
-use Rattle.std.proofs.lemmas.List.Elements.{All-pop}
-use Rattle.std.proofs.lemmas.Map.Iter.{iter_turn}
-use Rattle.std.specs.Map.Iter.{deref_pair}
-use Rattle.serde_json.specs.View.{members_view, view}
-use Rattle.lock_check.specs.Internal.Overriding.{IsAmongRules, IsRuleOf, IsUnread, OfPackage}
-use Rattle.lock_check.specs.Overrides.{HasMember}
-use Rattle.lock_check.proofs.Overriding.{all-added, has_member, object-made, rule-made}
-use Rattle.lock_check.proofs.overrides.Overrides.of.Goals.{in-Some-as_object+in_ok-push-2, in_default-as_object}
-use Rattle.lock_check.proofs.Completing.{extends-more}
-use Rattle.lock_check.specs.Malformed.{IsFault, IsFieldFault}
-use Rattle.lock_check.proofs.Telling.{fault-kept, one-more}
-use Rattle.lock_check.specs.declared.fault.Fault.TheVariants.{Override}
+use Rattle.std.proofs.Common.{None, Some, ap, option_map, refl, subst, unwrap_or}
+use Rattle.serde_json.specs.View.{members_view}
+use Rattle.lock_check.specs.Internal.Overriding.{AreInsideTold, IsAmongRules, IsFound, OfPackage}
+use Rattle.lock_check.proofs.Completing.{extends-on}
+use Rattle.lock_check.proofs.Overriding.{all-none, found-object, found-told}
+use Rattle.lock_check.proofs.Telling.{fault-kept}
 use Rattle.lock_check.proofs.overrides.Overrides.of.Goals as goal
 
-pub loop-key-preserved : goal.loop-key-preserved
-loop-key-preserved c =
-    let root = c.args.root in
-    let es = c.in-Some.object.now.entries in
-    let value = c.in-Some-2.value.now in
-    let name = c.as_str-name.result.now in
-    let popped = All-pop (IsUnread root) c.loop.unread.items c.pop.new.self.items c.pop.result c.pop.ensures.items c.loop.invariant.unread in
-    let object = subst (λ r. IfSome r (IsUnread root)) c.in-Some.is popped.1 in
-    let turn = iter_turn deref_pair es c.loop-key.yielded c.into_iter-key-iterator.result c.loop-key.key-iterator c.next.new.self c.next.result
-    (c.into_iter-key-iterator.ensures.into_iter_gives ∙ c.iter-key-items.ensures.rest)
-    c.loop-key.yielded_by (c.in-Some-2.key, c.in-Some-2.value) c.in-Some-2.is c.next.ensures.steps in
-    let has : HasMember (members_view es) name (view value) =
-    subst (λ n. HasMember (members_view es) n (view value)) (sym c.as_str-name.ensures.value)
-    (has_member es (length c.loop-key.yielded) (c.in-Some-2.key.now, value) turn.1) in
-    record {
-      unread = elim c.match-as_object.branch [
-        | in-Some-as_object+in_ok-push-2 w ↦ subst (λ u. All (IsUnread root) u.items) (sym w.unread-is)
-            (all-added (IsUnread root) c.loop-key.unread.items _ _ c.loop-key.invariant.unread
-            w.in_ok-push-2.ensures.items
-            (object-made root (members_view es) _ name value object has (sym w.in-Some-as_object.ensures)))
-        | in_default-as_object w ↦ subst (λ u. All (IsUnread root) u.items) (sym w.unread-is) c.loop-key.invariant.unread
-      ];
-      rules = all-added (λ r. OfPackage root (λ fields. IsAmongRules fields r)) c.loop-key.rules.items
-          c.push-in-loop-key.new.self.items c.in-Some-3.rule c.loop-key.invariant.rules c.in_ok-push-3.ensures.items
-          (rule-made root (members_view es) name value c.in-Some-3.rule object has
-          (subst (λ r. IfSome r (IsRuleOf name (view value))) c.in-Some-3.is c.in_ok-rule.ensures));
-      kept = c.loop-key.invariant.kept;
-      wrong = c.loop-key.invariant.wrong;
-      told = c.loop-key.invariant.told;
-    }
+pub returns-in_default-clause-inside : goal.returns-in_default-clause-inside
+returns-in_default-clause-inside c = λ lock at.
+    found-told lock c.args.root None c.outermost.new.faults.items at
+    (subst (λ f. IsFound c.args.root (option_map (λ o. members_view o.now.entries) f)) c.in_default.is c.in_ok-object.ensures.found)
+    (λ rules some. absurd (cc))
 
-pub loop-key-preserved-in_default-2 : goal.loop-key-preserved-in_default-2
-loop-key-preserved-in_default-2 c = record {
-  unread = c.loop-key.invariant.unread;
-  rules = c.loop-key.invariant.rules;
-  kept = extends-more c.args.faults.now.items c.loop-key.faults.items c.push.new.self.items (Override c.as_str-name.result)
-      c.loop-key.invariant.kept c.in_ok-push.ensures.items;
-  wrong = λ lock at all. all-added (IsFault lock) c.loop-key.faults.items c.push.new.self.items (Override c.as_str-name.result)
-      (c.loop-key.invariant.wrong lock at all) c.in_ok-push.ensures.items tt;
-  told = λ lock at has. fault-kept c.loop-key.faults.items c.push.new.self.items (IsFieldFault [] (codes "overrides"))
-      (one-more c.loop-key.faults.items c.push.new.self.items (Override c.as_str-name.result) c.in_ok-push.ensures.items)
-      (c.loop-key.invariant.told lock at has);
-}
+pub returns : goal.returns
+returns c =
+    let root = c.args.root in
+    let object = members_view c.in-Some.object.now.entries in
+    let before = c.outermost.new.faults.items in
+    let after = c.add_rules.new.faults.items in
+    let found = subst (λ f. IsFound root (option_map (λ o. members_view o.now.entries) f)) c.in-Some.is c.in_ok-object.ensures.found in
+    let is = found-object root object found in record {
+      root = refl;
+      rules = c.in_ok-add_rules.ensures.rules root is
+          (all-none (λ r. OfPackage root (λ fields. IsAmongRules fields r)) c.new-rules.result.items c.new-rules.ensures.items);
+      kept = extends-on c.args.faults.now.items before after c.in_ok-object.ensures.kept c.in_ok-add_rules.ensures.kept;
+      told = λ lock at has. fault-kept before after _ c.in_ok-add_rules.ensures.kept (c.in_ok-object.ensures.told lock at has);
+      inside = λ lock at. found-told lock root (Some object) after at found
+          (λ rules some. subst (AreInsideTold after) (ap (λ o. unwrap_or o object) some) c.in_ok-add_rules.ensures.told);
+      wrong = λ lock at all. c.in_ok-add_rules.ensures.wrong lock root at is (c.in_ok-object.ensures.wrong lock at all);
+    }

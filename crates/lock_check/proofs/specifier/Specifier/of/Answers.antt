@@ -1,7 +1,16 @@
-use Rattle.std.proofs.Common.{◌∙◌, sym}
-use Rattle.lock_check.proofs.Npm.{specifier-alias, specifier-other}
+use Rattle.std.proofs.Common.{◌∙◌, refl, sym}
+use Rattle.lock_check.specs.Specifiers.IsAsked.{empty, plain}
+use Rattle.lock_check.specs.Specifiers.IsSpecifier.{asked}
+use Rattle.lock_check.proofs.Npm.{nil, specifier-alias, specifier-other}
 use Rattle.lock_check.proofs.Parts.{filled}
 use Rattle.lock_check.proofs.specifier.Specifier.of.Goals as goal
+
+pub returns-then-is_empty : goal.returns-then-is_empty
+returns-then-is_empty c = asked _ (empty (nil c.args.text.now (sym c.is_empty.ensures ∙ c.if-is_empty.true)) refl) refl
+
+pub returns-then-is_of_registry : goal.returns-then-is_of_registry
+returns-then-is_of_registry c = asked c.args.text (plain (sym c.is_of_registry.ensures ∙ c.if-is_of_registry.true)
+    (filled c.args.text.now (sym c.is_empty.ensures ∙ c.if-is_empty.false)) refl) refl
 
 pub returns-in-Some : goal.returns-in-Some
 returns-in-Some c =
