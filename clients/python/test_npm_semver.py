@@ -180,7 +180,9 @@ class Test(unittest.TestCase):
             self.assertIn(reason, error.reason)
         last = Version("9007199254740991.0.0").inc("major")
         self.assertEqual((last.major, last in Range(">1"), pickle.loads(pickle.dumps(last))), (9007199254740992, True, last))
-        self.assertIn("bad version", self.rejected(InvalidIncrement, last.inc, "major").reason)
+        self.assertEqual(last.inc("major").major, 9007199254740993)
+        self.assertIn("overflow", self.rejected(InvalidIncrement, Version.of(2**64 - 1, 0, 0).inc, "major").reason)
+        self.assertEqual(str(Version("2.2.1-099999999999999999999", lenient=True).inc("patch")), "2.2.1")
 
     def test_errors(self):
         """An error carries the text, the reason and the place."""

@@ -43,31 +43,6 @@ static PyObject *module_coerce(PyObject *Py_UNUSED(module), PyObject *args)
     return printed(&text, status);
 }
 
-/* The status of an increment, and the next version, printed, or None. */
-static PyObject *module_inc(PyObject *Py_UNUSED(module), PyObject *args)
-{
-    PyObject *given[3];
-    const char *at[3];
-    size_t len[3];
-    unsigned base;
-    if (!PyArg_ParseTuple(args, "OOOI", &given[0], &given[1], &given[2], &base))
-        return NULL;
-    for (int place = 0; place < 3; place++)
-        if (!(at[place] = text_of(given[place], "a str", &len[place])))
-            return is_not_utf8() ? raised("not_utf8", Py_BuildValue("(O)", given[place])) : NULL;
-    Text text;
-    Status status;
-    begin_text(&text);
-    do
-        status = nodejs_semver_version_inc(NPM, at[0], len[0], at[1], len[1], at[2], len[2], base,
-                                           text.at, text.size, &text.len);
-    while (grows(&text, &status));
-    if (status == NODEJS_SEMVER_NO_MEMORY)
-        return printed(&text, status);
-    PyObject *next = printed(&text, status == OK ? OK : NOTHING);
-    return next ? Py_BuildValue("(IN)", status, next) : NULL;
-}
-
 /* What is wrong with a version text, and at which byte; None if nothing is. */
 static PyObject *module_version_flaw(PyObject *Py_UNUSED(module), PyObject *args)
 {
@@ -164,7 +139,6 @@ static PyObject *module_make(PyObject *Py_UNUSED(module), PyObject *value)
 static PyMethodDef module_methods[] = {
     {"clean", module_clean, METH_O, NULL},
     {"coerce", module_coerce, METH_VARARGS, NULL},
-    {"inc", module_inc, METH_VARARGS, NULL},
     {"version_flaw", module_version_flaw, METH_VARARGS, NULL},
     {"range_flaw", module_range_flaw, METH_VARARGS, NULL},
     {"ignored_words", module_ignored_words, METH_O, NULL},

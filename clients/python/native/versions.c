@@ -236,6 +236,32 @@ static PyObject *version_kind(PyObject *self, PyObject *other)
     return status == OK ? PyLong_FromUnsignedLong(kind) : failed(status);
 }
 
+/* The status of an increment by a level, and the next version, or None. */
+static PyObject *version_next(PyObject *self, PyObject *args)
+{
+    PyObject *given[2];
+    const char *at[2];
+    size_t len[2];
+    unsigned base;
+    if (!PyArg_ParseTuple(args, "OOI", &given[0], &given[1], &base))
+        return NULL;
+    for (int place = 0; place < 2; place++)
+        if (!(at[place] = text_of(given[place], "a str", &len[place])))
+            return is_not_utf8() ? raised("not_utf8", Py_BuildValue("(O)", given[place])) : NULL;
+    nodejs_semver_parts parts = {0};
+    Text text;
+    Status status;
+    begin_text(&text);
+    do {
+        status = nodejs_semver_next(&((Version *)self)->is, at[0], len[0], at[1], len[1], base,
+                                    &parts, text.at, text.size);
+        text.len = parts.pre_release_len + parts.build_len;
+    } while (grows(&text, &status));
+    Status told = status == OK || status == NODEJS_SEMVER_NO_MEMORY ? status : NOTHING;
+    PyObject *next = told_version(Py_TYPE(self), told, &parts, &text);
+    return next ? Py_BuildValue("(IN)", status, next) : NULL;
+}
+
 /* ---- keys, as docs/KEYS.md has them */
 
 /* Writes a number, and returns the place behind it. */
@@ -347,6 +373,7 @@ static PyMethodDef version_methods[] = {
     {"_order", version_order, METH_O, NULL},
     {"_order_with_builds", version_order_with_builds, METH_O, NULL},
     {"_kind", version_kind, METH_O, NULL},
+    {"_next", version_next, METH_VARARGS, NULL},
     {0},
 };
 

@@ -155,14 +155,10 @@ class Version(_native.Version):
         """
         if _text(base) not in _BASES:
             raise ValueError(f"a base is 0, 1 or none, not {base!r}")
-        text = str(self)
-        status, found = _native.inc(text, level, identifier, _BASES[base])
+        status, found = self._next(level, identifier, _BASES[base])
         if found is None:
-            raise increment(text, level, identifier, status)
-        front, _, build = found.partition("+")
-        front, _, pre = front.partition("-")
-        major, minor, patch = map(int, front.split("."))
-        return type(self)._from(major, minor, patch, pre, build)
+            raise increment(str(self), level, identifier, status)
+        return found
 
     def __repr__(self) -> str:
         return f"{type(self).__name__}({str(self)!r})"
