@@ -55,11 +55,14 @@ struct Window {
     high: [u64; 3],
 }
 
-/// Of so many versions some are asked, to leave out others.
-const MANY: usize = 16;
-const SAMPLES: usize = 16;
+/// Of more versions than these some are asked first, to leave out others.
+const FEW: usize = 16;
+/// How many are asked of so many versions, and how many of fewer.
+const MANY: usize = 256;
+const SAMPLES_OF_MANY: usize = 16;
+const SAMPLES: usize = 8;
 // From one of them to the next one. It is odd, so that each is met.
-const STEP: usize = 7;
+const STEP: usize = 5;
 
 impl Window {
     /// That of what a range accepts: no lower bound has lower numbers, and no upper bound higher
@@ -209,12 +212,11 @@ impl Range {
     /// that no text spells.
     fn best<'v>(&self, versions: &'v [Version], is_greatest: bool) -> Option<Option<&'v Version>> {
         let mut window = Window::of(self.kept.intervals());
+        if versions.len() > FEW {
+            self.narrow(&mut window, versions, is_greatest);
+        }
         let mut asked = Vec::with_capacity(versions.len());
         asked.extend(versions.iter().filter(|it| window.has(it)));
-        if asked.len() > MANY {
-            self.narrow(&mut window, &asked, is_greatest);
-            asked.retain(|it| window.has(it));
-        }
         if !asked.iter().all(|it| it.is_spelled()) {
             return None;
         }
@@ -228,10 +230,14 @@ impl Range {
 
     /// Narrows a window by what the library says of some of the versions: where it accepts one,
     /// none on its worse side is better.
-    fn narrow(&self, window: &mut Window, versions: &[&Version], is_greatest: bool) {
-        let (part, mut at) = (versions.len() / SAMPLES, 0);
-        for _ in 0..SAMPLES {
-            at = (at + STEP) % SAMPLES;
+    fn narrow(&self, window: &mut Window, versions: &[Version], is_greatest: bool) {
+        let samples = match versions.len() < MANY {
+            true => SAMPLES,
+            false => SAMPLES_OF_MANY,
+        };
+        let (part, mut at) = (versions.len() / samples, 0);
+        for _ in 0..samples {
+            at = (at + STEP) % samples;
             match versions.get(at * part) {
                 Some(it) if window.has(it) && self.satisfies(it) => match is_greatest {
                     true => window.low = it.numbers(),
