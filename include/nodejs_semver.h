@@ -653,6 +653,14 @@ nodejs_semver_status nodejs_semver_key_spans(const nodejs_semver_interval *range
 nodejs_semver_status nodejs_semver_message(uint32_t status, char *out, size_t out_size, size_t *len);
 
 /*
+ * Prints the version of the library, as `1.0.0`: that of the object which is loaded, where NODEJS_SEMVER_VERSION is
+ * that of the header.
+ *
+ * Returns NODEJS_SEMVER_OK, NODEJS_SEMVER_TOO_SMALL or NODEJS_SEMVER_TOO_LONG.
+ */
+nodejs_semver_status nodejs_semver_version_text(char *out, size_t out_size, size_t *len);
+
+/*
  * Prints the range of a text in its normal form: `^1.2` as `>=1.2.0 <2.0.0-0`.
  *
  * Returns NODEJS_SEMVER_OK, NODEJS_SEMVER_TOO_SMALL, NODEJS_SEMVER_BAD_ARGUMENT, NODEJS_SEMVER_NOT_UTF8,

@@ -734,9 +734,32 @@ static void huge(void)
     CHECK(nodejs_semver_range_satisfies_each(PORT, T("^1"), texts, 1, false, answers, 1) == NODEJS_SEMVER_OK && answers[0] == 2);
 }
 
+/* The version of the library is that of the header, and each status says something. */
+static void told(void)
+{
+    const size_t needed = sizeof NODEJS_SEMVER_VERSION - 1;
+    for (size_t size = 0; size <= needed + 1; size++) {
+        char *out = malloc(size ? size : 1);
+        memset(out, 'x', size ? size : 1);
+        size_t len = 99;
+        nodejs_semver_status status = nodejs_semver_version_text(size ? out : NULL, size, &len);
+        CHECK(len == needed);
+        if (size < needed)
+            CHECK(status == NODEJS_SEMVER_TOO_SMALL && (!size || out[0] == 'x'));
+        else
+            CHECK(status == NODEJS_SEMVER_OK && !memcmp(out, NODEJS_SEMVER_VERSION, needed) && (size == needed || out[needed] == 'x'));
+        free(out);
+    }
+    char out[32];
+    size_t len;
+    CHECK(nodejs_semver_message(NODEJS_SEMVER_BAD_VERSION, out, sizeof out, &len) == NODEJS_SEMVER_OK && len == 11 && !memcmp(out, "bad version", 11));
+    CHECK(nodejs_semver_message(99, out, sizeof out, &len) == NODEJS_SEMVER_BAD_ARGUMENT && len == 11);
+}
+
 int main(void)
 {
     buffers();
+    told();
     texts();
     short_by_one();
     cuts();

@@ -1,4 +1,4 @@
--- Statement. What a status says.
+-- Statement. What a status says, and the version of the library.
 use Rattle.std.specs.Prelude.{◌==◌, if◌then◌else◌, ℕ, List, Option, Some, None, codes}
 use Rattle.nodejs_semver_c.specs.declared.TheConstants.{BAD_ARGUMENT, BAD_IDENTIFIER, BAD_RANGE, BAD_VERSION}
 use Rattle.nodejs_semver_c.specs.declared.TheConstants.{NO_MEMORY, NOT_A_PRERELEASE, NOT_UTF8}
@@ -18,3 +18,6 @@ message_of n =
     else if n == OVERFLOW then Some (codes "overflow")
     else if n == NO_MEMORY then Some (codes "no memory")
     else if n == TOO_LONG then Some (codes "too long") else None
+
+abbrev pub library_version : List ℕ
+library_version = codes "1.0.0"

@@ -1,7 +1,7 @@
-// What a status says.
+// What a status says, and the version of the library.
 
 ghost use Rattle.nodejs_semver_c.specs.Answers.{Kept, Prints};
-ghost use Rattle.nodejs_semver_c.specs.Messages.{message_of};
+ghost use Rattle.nodejs_semver_c.specs.Messages.{library_version, message_of};
 ghost use Rattle.std.specs.Prelude.{◌≡◌, IfNone, IfSome, MatchOption, None, Some};
 
 use crate::print::{Text, print};
@@ -23,6 +23,20 @@ pub extern "C" fn nodejs_semver_message(status: u32, out: &mut [u8], len: &mut u
         Some(text) => print(&Text(text), out, len),
         None => BAD_ARGUMENT,
     }
+}
+
+// The version of the library.
+const VERSION: &str = "1.0.0";
+
+/// Prints the version of the library, as `1.0.0`: that of the object which is loaded, where
+/// NODEJS_SEMVER_VERSION is that of the header.
+///
+/// Returns `OK`, `TOO_SMALL` or `TOO_LONG`.
+#[unsafe(no_mangle)]
+pub extern "C" fn nodejs_semver_version_text(out: &mut [u8], len: &mut usize) -> u32
+    ensures { Prints library_version out.old out.new len.old len.new result }
+{
+    print(&Text(VERSION), out, len)
 }
 
 fn message_of(status: u32) -> Option<&'static str>

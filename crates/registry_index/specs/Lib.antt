@@ -1,2 +1,4 @@
 pub mod Bound
 pub mod Lines
+pub mod Queries
+pub mod Searches

@@ -17,14 +17,14 @@ use semver_core::MAX_SAFE_INTEGER;
 use sqlite::{Alter, Connection, Error, Row, params};
 use std::alloc::{AllocError, Global};
 
+/// All versions in a span.
+pub const ALL: &str = "SELECT key, version, rest FROM release \
+    WHERE package = ?1 AND key >= ?2 AND key < ?3 AND (?4 = 0 OR substr(key, -1) = x'03')";
+
 /// The greatest version in a span.
 pub const BEST: &str = "SELECT key, version, rest FROM release \
     WHERE package = ?1 AND key >= ?2 AND key < ?3 AND (?4 = 0 OR substr(key, -1) = x'03') \
     ORDER BY key DESC, version DESC LIMIT 1";
-
-/// All versions in a span.
-pub const ALL: &str = "SELECT key, version, rest FROM release \
-    WHERE package = ?1 AND key >= ?2 AND key < ?3 AND (?4 = 0 OR substr(key, -1) = x'03')";
 
 /// How many versions are newer.
 pub const NEWER: &str = "SELECT count(*) FROM release WHERE package = ?1 AND key > ?2";
@@ -69,6 +69,7 @@ pub fn rows_in<S: Alter>(
 ) -> Result<Vec<Row>, Error>
     ensures asked { HasCleanDisk (state S.Store conn.new) → IfOk result (λ rows. Shown query.now
         (asked name.now span.now) (state S.Store conn.old) (state S.Store conn.new) rows.items) }
+    ensures clean { HasCleanDisk (state S.Store conn.new) → HasCleanDisk (state S.Store conn.old) }
 {
     conn.query_all(
         query,
@@ -86,6 +87,20 @@ pub fn rows_above<S: Alter>(
     ensures asked { HasCleanDisk (state S.Store conn.new) → IfOk result (λ rows. Shown query.now
         (Text name.now ∷ Blob key.now ∷ []) (state S.Store conn.old) (state S.Store conn.new)
         rows.items) }
+    ensures clean { HasCleanDisk (state S.Store conn.new) → HasCleanDisk (state S.Store conn.old) }
 {
     conn.query_all(query, params![name, key])
+}
+
+/// The rows of an answer about a package.
+pub fn rows_of<S: Alter>(
+    conn: &mut Connection<S>,
+    query: &str,
+    name: &str,
+) -> Result<Vec<Row>, Error>
+    ensures asked { HasCleanDisk (state S.Store conn.new) → IfOk result (λ rows. Shown query.now
+        (Text name.now ∷ []) (state S.Store conn.old) (state S.Store conn.new) rows.items) }
+    ensures clean { HasCleanDisk (state S.Store conn.new) → HasCleanDisk (state S.Store conn.old) }
+{
+    conn.query_all(query, params![name])
 }

@@ -1,11 +1,14 @@
 // What is asked of an index, and what it answers.
 
-ghost use Rattle.std.specs.Prelude.{◌≡◌, false};
+ghost use Rattle.std.specs.Prelude.{◌≡◌, IfOk, false};
+ghost use Rattle.registry_index.specs.Searches.{IsAnswer};
+ghost use Rattle.sqlite.specs.Held.{state};
+ghost use Rattle.sqlite.specs.State.{HasCleanDisk};
 
 use crate::input::Input;
 use crate::load::load;
-use crate::query::{ALL, BEST};
-use crate::search::{Found, count_above, newest, search};
+use crate::query::{ALL, BEST, NEWER, NEWEST};
+use crate::search::{Found, count, first, search};
 use crate::trouble::Trouble;
 use key_spans::KeySpan;
 use sqlite::{Alter, Connection, FileStore};
@@ -56,22 +59,22 @@ pub fn ask<D: Disk + Drop>(
 impl Request<'_> {
     fn put<S: Alter>(self, alloc: Global, conn: &mut Connection<S>) -> Result<Answer, Trouble>
         requires { conn.old.in_transaction ≡ false }
+        ensures { HasCleanDisk (state S.Store conn.new) → IfOk result
+            (IsAnswer (state S.Store) self.entry conn.old conn.new) }
     {
         match self {
             Request::Load(lines) => {
                 load(alloc, conn, lines)?;
                 Ok(Answer::Loaded)
             }
-            Request::Best(package, spans) => {
-                let mut found = search(alloc, conn, BEST, package, spans)?;
+            Request::Best(name, spans) => {
+                let mut found = search(alloc, conn, BEST, name, spans)?;
                 Ok(Answer::Best(found.pop()))
             }
-            Request::All(package, spans) => {
-                Ok(Answer::All(search(alloc, conn, ALL, package, spans)?))
-            }
-            Request::Behind(package, key) => {
-                let count = count_above(conn, package, key)?;
-                Ok(Answer::Behind(count, newest(conn, package)?))
+            Request::All(name, spans) => Ok(Answer::All(search(alloc, conn, ALL, name, spans)?)),
+            Request::Behind(name, key) => {
+                let newer = count(conn, NEWER, name, key)?;
+                Ok(Answer::Behind(newer, first(conn, NEWEST, name)?))
             }
         }
     }

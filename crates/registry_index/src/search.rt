@@ -1,8 +1,15 @@
 // Answers from the index.
 
-use crate::query::{NEWER, NEWEST, rows_above, rows_in};
+ghost use Rattle.std.specs.Prelude.{◌≡◌, ◌∷◌, ◌++◌, [], IfOk, OnOk, map, take};
+ghost use Rattle.registry_index.specs.Searches.{AreFound, AreTold, IsCount, IsFirst, first_told};
+ghost use Rattle.registry_index.specs.Searches.{row_of};
+ghost use Rattle.sqlite.specs.Held.{state};
+ghost use Rattle.sqlite.specs.State.{HasCleanDisk};
+ghost use Rattle.sqlite_value.specs.declared.value.Value.TheVariants.{Blob, Text};
+
+use crate::query::{rows_above, rows_in, rows_of};
 use key_spans::KeySpan;
-use sqlite::{Alter, Connection, Error, Row, params};
+use sqlite::{Alter, Connection, Error, Row};
 use std::alloc::Global;
 use std::fmt;
 
@@ -15,14 +22,18 @@ pub struct Found {
 }
 
 impl Found {
-    fn of(row: &Row) -> Result<Found, Error> {
+    fn of(row: &Row) -> Result<Found, Error>
+        ensures { IfOk result (λ found. take 3 row.now ≡ row_of found) }
+    {
         let key = row.get(0)?;
         let version = row.get(1)?;
         let rest = row.get(2)?;
         Ok(Found { key, version, rest })
     }
 
-    fn first_of(rows: &[Row]) -> Result<Option<Found>, Error> {
+    fn first_of(rows: &[Row]) -> Result<Option<Found>, Error>
+        ensures { IfOk result (first_told rows.now) }
+    {
         match rows.first() {
             Some(row) => Ok(Some(Found::of(row)?)),
             None => Ok(None),
@@ -37,46 +48,79 @@ impl fmt::Display for Found {
     }
 }
 
-/// What a query finds of a package in the spans of a range, in order and each version once.
+/// What a query finds of a package in the spans of a range, in order.
 pub fn search<S: Alter>(
     alloc: Global,
     conn: &mut Connection<S>,
     query: &str,
-    package: &str,
+    name: &str,
     spans: &[KeySpan],
-) -> Result<Vec<Found>, Error> {
-    let mut found = Vec::new(alloc);
-    for span in spans {
-        let rows = rows_in(conn, query, package, span)?;
-        push_all(&rows, &mut found)?;
-    }
+) -> Result<Vec<Found>, Error>
+    ensures { HasCleanDisk (state S.Store conn.new) → IfOk result (λ found. AreFound
+        (state S.Store) query.now name.now spans.now conn.old conn.new found.items) }
+{
+    let mut found = answers(alloc, conn, query, name, spans)?;
     found.sort()?;
-    found.dedup();
     Ok(found)
 }
 
-fn push_all(rows: &[Row], found: &mut Vec<Found>) -> Result<(), Error> {
+// What the answers about the spans tell, one answer after the other.
+fn answers<S: Alter>(
+    alloc: Global,
+    conn: &mut Connection<S>,
+    query: &str,
+    name: &str,
+    spans: &[KeySpan],
+) -> Result<Vec<Found>, Error>
+    ensures { HasCleanDisk (state S.Store conn.new) → IfOk result (λ found. AreTold
+        (state S.Store) query.now name.now conn.old spans.now conn.new found.items) }
+{
+    let mut found = Vec::new(alloc);
+    for span in spans {
+        let rows = rows_in(conn, query, name, span)?;
+        push_all(&rows, &mut found)?;
+    }
+    Ok(found)
+}
+
+fn push_all(rows: &[Row], found: &mut Vec<Found>) -> Result<(), Error>
+    ensures { OnOk result (map row_of found.new.items
+        ≡ map row_of found.old.items ++ map (take 3) rows.now) }
+{
     for row in rows {
         found.push(Found::of(row)?)?;
     }
     Ok(())
 }
 
-/// How many versions lie above a key.
-pub fn count_above<S: Alter>(
+/// How many versions of a package a query counts above a key.
+pub fn count<S: Alter>(
     conn: &mut Connection<S>,
-    package: &str,
+    query: &str,
+    name: &str,
     key: &[u8],
-) -> Result<i64, Error> {
-    let rows = rows_above(conn, NEWER, package, key)?;
+) -> Result<i64, Error>
+    ensures counted { HasCleanDisk (state S.Store conn.new) → IfOk result (IsCount query.now
+        (Text name.now ∷ Blob key.now ∷ []) (state S.Store conn.old) (state S.Store conn.new)) }
+    ensures clean { HasCleanDisk (state S.Store conn.new) → HasCleanDisk (state S.Store conn.old) }
+{
+    let rows = rows_above(conn, query, name, key)?;
     match rows.first() {
         Some(row) => row.get(0),
         None => Ok(0),
     }
 }
 
-/// The newest version.
-pub fn newest<S: Alter>(conn: &mut Connection<S>, package: &str) -> Result<Option<Found>, Error> {
-    let rows = conn.query_all(NEWEST, params![package])?;
+/// The first version of a package that a query finds.
+pub fn first<S: Alter>(
+    conn: &mut Connection<S>,
+    query: &str,
+    name: &str,
+) -> Result<Option<Found>, Error>
+    ensures found { HasCleanDisk (state S.Store conn.new) → IfOk result (IsFirst query.now
+        (Text name.now ∷ []) (state S.Store conn.old) (state S.Store conn.new)) }
+    ensures clean { HasCleanDisk (state S.Store conn.new) → HasCleanDisk (state S.Store conn.old) }
+{
+    let rows = rows_of(conn, query, name)?;
     Found::first_of(&rows)
 }

@@ -1,0 +1,14 @@
+use Rattle.std.proofs.Common.{◌∷◌, ◌++◌, ◌∙◌, [], ap, rules, sym, take}
+use Rattle.std.proofs.lemmas.List.{take_more}
+use Rattle.registry_index.specs.Searches.AreTold.{next, none}
+use Rattle.registry_index.proofs.search.answers.Goals as goal
+
+pub loop-span-init : goal.loop-span-init
+loop-span-init g c h = rw (c.new-found.ensures.items) none
+
+pub loop-span-preserved : goal.loop-span-preserved
+loop-span-preserved g c h =
+    let i = c.loop-span.span-index in let spans = c.args.spans.now in let span = c.span-item.result in
+    rw (take_more spans i span c.loop-span-test.true ∙ ap (λ s. take i spans ++ s ∷ []) (sym c.span-item.is))
+    (next _ _ _ _ c.loop-span.found.items c.push_all.new.found.items c.in_ok-rows.rows.items (c.loop-span.invariant (c.in_ok-rows.ensures.clean h)) (c.in_ok-rows.ensures.asked h)
+    (search rules))
