@@ -1,18 +1,20 @@
 -- The findings of the dependencies of a lock file.
 use Rattle.std.proofs.Common.{◌≡◌, [], None, Option, Some, inl, inr, subst, sym}
-use Rattle.lock_check.specs.Judged.{IsEdge, IsFinding, IsOutcome, as_wanted}
+use Rattle.lock_files.specs.Edges.{IsEdge}
+use Rattle.lock_check.specs.Judged.{IsFinding, IsOutcome, as_wanted}
 use Rattle.std.specs.Prelude.{IsNone, MatchOption}
 use Rattle.lock_check.specs.Internal.Overriding.{AreItsRules, IsLost, IsPut}
-use Rattle.lock_check.specs.Lookups.{IsAt, IsNearest}
-use Rattle.lock_check.specs.Overrides.{IsDependency, IsWorkspaceOf, IsWritten, RefersToNothing}
-use Rattle.lock_check.specs.declared.check.Edge.{Edge}
+use Rattle.lock_files.specs.Lookups.{IsAt, IsNearest}
+use Rattle.lock_check.specs.Overrides.{IsDependency, RefersToNothing}
+use Rattle.lock_files.specs.Dependencies.{IsWorkspaceOf, IsWritten}
+use Rattle.lock_files.specs.declared.edge.Edge.{Edge}
 use Rattle.lock_check.specs.declared.finding.Finding.{Finding}
-use Rattle.lock_check.specs.declared.lock.Dependency.{Dependency}
-use Rattle.lock_check.specs.declared.lock.Lock.{Lock}
-use Rattle.lock_check.specs.declared.lock.Package.{Package}
-use Rattle.lock_check.specs.declared.lock.Wanted.{Wanted}
+use Rattle.lock_files.specs.declared.lock.Dependency.{Dependency}
+use Rattle.lock_files.specs.declared.lock.Lock.{Lock}
+use Rattle.lock_files.specs.declared.lock.Package.{Package}
+use Rattle.lock_files.specs.declared.lock.Wanted.{Wanted}
 use Rattle.lock_check.specs.declared.overrides.Overrides.{Overrides}
-use Rattle.lock_check.specs.declared.lock.Wanted.TheVariants as wanted
+use Rattle.lock_files.specs.declared.lock.Wanted.TheVariants as wanted
 
 -- what the rules put in the place of what is wanted is written in that way
 put-written : (lock : Lock) (root : Option Package) (d : Dependency) (w : Wanted) → IsAt lock [] root
@@ -68,3 +70,12 @@ pub ruled : (lock : Lock) (root : Option Package) (o s : Overrides) → IsAt loc
     → AreItsRules root o.rules.items → s ≡ o → IsAt lock [] s.root × AreItsRules s.root s.rules.items
 ruled lock root o s at same all is = subst (λ s. IsAt lock [] s.root × AreItsRules s.root s.rules.items) (sym is)
     (subst (λ r. IsAt lock [] r × AreItsRules r o.rules.items) (sym same) (at, all))
+
+-- a lock file that has a root project is not one without
+pub has-root : (lock : Lock) (root : Option Package) → IsAt lock [] root → is_some root ≡ true → IsAt lock [] None → ⊥
+has-root lock None at some none = absurd (true≢false (sym some))
+has-root lock (Some p) at some none = both _ _ none at.1
+
+pub no-root : (lock : Lock) (root : Option Package) → IsAt lock [] root → is_some root ≡ false → IsAt lock [] None
+no-root lock None at none = at
+no-root lock (Some p) at none = absurd (true≢false none)

@@ -54,8 +54,3 @@ abbrev pub IsNpmRange : List ℕ → NpmRange → Type 0
 IsNpmRange text (Read range) = IsWanted MAX_SAFE_INTEGER text range
 IsNpmRange text Rejected = IsNotWanted MAX_SAFE_INTEGER text
 IsNpmRange text Unsure = IsUnknown MAX_SAFE_INTEGER text
-
--- what follows a byte order mark, if one stands in front, and else the text
-pub data IsUnmarked (text : List ℕ) : List ℕ → Type 0 where
-  marked : (rest : List ℕ) → text ≡ encode_utf8 0xFEFF ++ rest → IsUnmarked text rest
-  plain : ((rest : List ℕ) → text ≡ encode_utf8 0xFEFF ++ rest → ⊥) → IsUnmarked text text

@@ -1,19 +1,18 @@
 use Rattle.std.proofs.lemmas.List.Elements.{All-same}
-use Rattle.lock_check.proofs.Completing.{judged-all}
-use Rattle.lock_check.proofs.Items.{workspaces-judged}
-use Rattle.lock_check.proofs.Judging.{ruled}
-use Rattle.lock_check.specs.Internal.Collected.{AreAllLinked, AreApartEdges}
+use Rattle.lock_check.proofs.Completing.{judged-all, workspaces-judged}
+use Rattle.lock_check.proofs.Judging.{ruled, has-root, no-root}
+use Rattle.lock_files.specs.Edges.{AreApartEdges, IsEdge, AreAllCollected}
 use Rattle.serde_json.specs.Data.{Data}
 use Rattle.serde_json.specs.Find.{get}
-use Rattle.lock_check.specs.Internal.Patterns.{AreMeantLinked}
-use Rattle.lock_check.specs.Judged.{IsEdge}
+use Rattle.lock_files.specs.Internal.Patterns.{AreMeantLinked}
 use Rattle.std.proofs.Common.{◌≡◌, ◌∙◌, All, List, [], None, Some, ℕ, ap, not, refl, subst, sym}
-use Rattle.lock_check.proofs.Telling.{all-kept, fault-added, fault-kept, has-root, no-root}
-use Rattle.lock_check.proofs.Overriding.{all-added, all-none}
-use Rattle.lock_check.specs.Lookups.{IsAt, packages_of}
-use Rattle.lock_check.specs.Malformed.{HasFault, IsFault}
-use Rattle.lock_check.specs.declared.fault.Fault.{Fault}
-use Rattle.lock_check.specs.declared.fault.Fault.TheVariants.{NoRoot, Workspaces}
+use Rattle.lock_files.proofs.Telling.{all-kept}
+use Rattle.lock_files.proofs.Added.{fault-added, fault-kept, all-added, all-none}
+use Rattle.lock_files.specs.Lookups.{IsAt, packages_of}
+use Rattle.lock_files.specs.Faults.{HasFault}
+use Rattle.lock_check.specs.Malformed.{IsFault}
+use Rattle.lock_files.specs.declared.fault.Fault.{Fault}
+use Rattle.lock_files.specs.declared.fault.Fault.TheVariants.{NoRoot, Workspaces}
 use Rattle.lock_check.proofs.check.check.Goals.{then-is_none+in_ok-push, else-is_none}
 use Rattle.lock_check.proofs.check.check.Goals as goal
 
@@ -28,7 +27,7 @@ returns-clause-each c =
 pub returns-clause-all : goal.returns-clause-all
 returns-clause-all c =
     judged-all c.args.lock c.deref-2.result.now c.in_ok-of_dependencies.of_dependencies.items
-    (subst (AreAllLinked c.args.lock) (sym c.deref-2.ensures.value) c.in_ok-edges.ensures.all)
+    (subst (AreAllCollected c.args.lock) (sym c.deref-2.ensures.value) c.in_ok-edges.ensures.all)
     c.in_ok-of_dependencies.ensures.all
 
 pub returns-clause-single : goal.returns-clause-single
