@@ -43,10 +43,10 @@ no_npm-cut text scheme behind cut none other target (word, whole, is) =
 pub no_npm-uncut : (text : List ℕ) → has 58 text ≡ false → (target : List ℕ) → ¬ (IsNpm text target)
 no_npm-uncut text none target (word, whole, is) = let some = has-middle 58 text word target whole in absurd (cc)
 
-one_npm : (text a b : List ℕ) → IsNpm text a → IsNpm text b → a ≡ b
+pub one_npm : (text a b : List ℕ) → IsNpm text a → IsNpm text b → a ≡ b
 one_npm text a b (s, e, is) (t, f, also) = (one_cut 58 s a t b (npm-lacks s is) (npm-lacks t also) (sym e ∙ f)).1
 
-filled-npm : (text target : List ℕ) → IsNpm text target → text ≢ []
+pub filled-npm : (text target : List ℕ) → IsNpm text target → text ≢ []
 filled-npm text target (s, e, is) none = let some = has-middle 58 text s target e in let off : has 58 text ≡ false = rw none refl in absurd (cc)
 
 pub specifier-alias : (text target : List ℕ) (s : Specifier) → IsNpm text target → is_of_registry text ≡ false

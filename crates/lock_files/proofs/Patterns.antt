@@ -149,7 +149,7 @@ pub parts-whole : (text : List ℕ) → has 47 text ≡ false → parts text ≡
 parts-whole text none = slice_split_none is_slash text (none-is text none)
 
 -- a text with a slash has a first one
-first-slash : (text : List ℕ) → has 47 text ≡ true
+pub first-slash : (text : List ℕ) → has 47 text ≡ true
     → (front : List ℕ) × (back : List ℕ) × (text ≡ front ++ 47 ∷ back) × (has 47 front ≡ false)
 first-slash [] some = absurd (cc)
 first-slash (b ∷ bs) some = by_test (first-slash bs) (b == 47) refl some

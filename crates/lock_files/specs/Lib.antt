@@ -6,6 +6,7 @@ pub mod Fields
 pub mod Internal
 pub mod Lookups
 pub mod Optional
+pub mod Paths
 pub mod Shown
 pub mod Specifiers
 pub mod Wanted

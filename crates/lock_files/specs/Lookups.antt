@@ -1,12 +1,13 @@
 -- Statement: which package of a lock file is locked for a dependency, and what a package writes of it.
 use Rattle.std.specs.Prelude.{◌≡◌, ◌≢◌, ◌⊎◌, ◌<◌, ℕ, true, false, List, [], ◌∷◌, ◌++◌, Option, Some, None}
-use Rattle.std.specs.Prelude.{◌==◌, IfSome, codes, length, option_and_then}
+use Rattle.std.specs.Prelude.{◌==◌, codes, length, option_and_then, unwrap_or}
 use Rattle.std.specs.List.{starts_with}
 use Rattle.std.specs.Str.Iter.{HasSubslice}
 use Rattle.serde_json.specs.Data.{Data, object}
 use Rattle.serde_json.specs.Find.{as_str, get}
 use Rattle.serde_json.specs.View.{members_view, view}
-use Rattle.lock_files.specs.Fields.{is_set, member_of}
+use Rattle.lock_files.specs.Fields.{is_set, member_of, text_of}
+use Rattle.lock_files.specs.Paths.{joined}
 use Rattle.lock_files.specs.declared.lock.Field.{Field}
 use Rattle.lock_files.specs.declared.lock.Field.TheVariants as field
 use Rattle.lock_files.specs.declared.lock.Lock.{Lock}
@@ -58,11 +59,15 @@ pub data IsNearest (lock : Lock) (folder name : List ℕ) : Option Package → T
   outermost : (found : Option Package) → (folder ≢ [] → IsClosest lock folder name None)
       → IsAt lock (codes "node_modules/" ++ name) found → IsNearest lock folder name found
 
--- what stands behind a package: itself, or if it is a link, a package of the lock file, or nothing. Which
--- folder the link leads to is not said
+-- the folder to which a link leads
+abbrev pub link_target : Package → List ℕ
+link_target p = joined [] (unwrap_or (text_of (codes "resolved") (view p.fields.now)) [])
+
+-- what stands behind a package: itself, or if it is a link, what the lock file has in the folder to which it
+-- leads
 abbrev pub IsBehind : Lock → Package → Option Package → Type 0
 IsBehind lock p found = ((is_set (codes "link") (view p.fields.now) ≡ false) × (found ≡ Some p))
-    ⊎ ((is_set (codes "link") (view p.fields.now) ≡ true) × IfSome found (IsPackage lock))
+    ⊎ ((is_set (codes "link") (view p.fields.now) ≡ true) × IsAt lock (link_target p) found)
 
 abbrev pub field_name : Field → List ℕ
 field_name field.Development = codes "devDependencies"

@@ -1,11 +1,15 @@
 -- Statement: what a text in place of a range is, and what an alias stands for.
-use Rattle.std.specs.Prelude.{⊤, ◌≡◌, ◌≢◌, ◌⊎◌, ◌==◌, ◌&&◌, ◌||◌, not, ℕ, Bool, true, false}
+use Rattle.std.specs.Prelude.{◌≡◌, ◌≢◌, ◌⊎◌, ◌==◌, ◌&&◌, ◌||◌, ◌≤◌, not, ℕ, Bool, true, false}
 use Rattle.std.specs.Prelude.{Option, Some, None, List, [], ◌∷◌, ◌++◌, codes, drop, length, map, slice_index}
-use Rattle.std.specs.Prelude.{if◌then◌else◌}
+use Rattle.std.specs.Prelude.{⊤, if◌then◌else◌, option_map, slice_index_or}
 use Rattle.std.specs.Borrow.{Bor}
 use Rattle.std.specs.Char.{is_ascii_alphabetic, is_ascii_alphanumeric, to_ascii_lowercase}
-use Rattle.std.specs.List.{after_first, before_first, ends_with, list_all, list_any, starts_with}
-use Rattle.semver_core.specs.Text.Characters.{IsTrim}
+use Rattle.std.specs.List.{Any, after_first, after_last, before_first, ends_with, list_all, list_any}
+use Rattle.std.specs.List.{starts_with}
+use Rattle.std.specs.Str.{chars}
+use Rattle.std.specs.Str.Iter.{HasSubslice}
+use Rattle.semver_core.specs.Text.Characters.{IsTrim, is_whitespace}
+use Rattle.lock_files.specs.Paths.{is_slash, parts, without_front}
 use Rattle.lock_files.specs.declared.specifier.Specifier.{Specifier}
 use Rattle.lock_files.specs.declared.specifier.Specifier.TheVariants.{Folder, Packed, Page, Range, Repository}
 use Rattle.lock_files.specs.declared.specifier.Specifier.TheVariants.{Unsupported}
@@ -155,32 +159,116 @@ IsAtPath path (Folder own) = (own.now ≡ path) × (is_packed path ≡ false)
 IsAtPath path (Packed own) = (own.now ≡ path) × (is_packed path ≡ true)
 IsAtPath path _ = ⊥
 
+-- one of these words, in letters of any case
+abbrev pub IsOneOf : List (List ℕ) → List ℕ → Type 0
+IsOneOf words text = Any (IsSameWord text) words
+
+-- the schemes that npm reads behind `git+`, and without that
+abbrev pub schemes : Bool → List (List ℕ)
+schemes true = codes "file" ∷ codes "ftp" ∷ codes "http" ∷ codes "https" ∷ codes "rsync" ∷ codes "ssh" ∷ []
+schemes false = codes "bitbucket" ∷ codes "gist" ∷ codes "git" ∷ codes "github" ∷ codes "gitlab"
+    ∷ codes "http" ∷ codes "https" ∷ codes "sourcehut" ∷ codes "ssh" ∷ []
+
+abbrev pub IsReadScheme : Bool → List ℕ → Type 0
+IsReadScheme is_git scheme = IsOneOf (schemes is_git) scheme
+
 abbrev pub IsWeb : List ℕ → Type 0
 IsWeb scheme = IsSameWord scheme (codes "http") ⊎ IsSameWord scheme (codes "https")
 
--- what is at an address: a packed package is on the web. Which schemes npm reads, and which hosts have
--- repositories, is not said
-abbrev pub IsAtAddress : List ℕ → Bool → List ℕ → Specifier → Type 0
-IsAtAddress text is_git scheme (Page url) = (url.now ≡ text) × (is_git ≡ false) × IsWeb scheme
-IsAtAddress text is_git scheme (Repository range) = ⊤
-IsAtAddress text is_git scheme Unsupported = ⊤
-IsAtAddress text is_git scheme _ = ⊥
+-- behind its scheme and slashes a web address has a host, and behind the next slash a path. An `@` ends a
+-- user in front of the host, and `www.` in front of a host means nothing
+abbrev pub without_www : List ℕ → List ℕ
+without_www host = if starts_with (λ a b. a == b) host (codes "www.") then drop 4 host else host
 
--- else a text is a path if it has a slash or ends as packed packages do, or it is a repository: when, is not
--- said
+abbrev pub host_in : List ℕ → List ℕ
+host_in authority = without_www (after_last (λ b. b == 64) authority)
+
+abbrev pub host_of : List ℕ → List ℕ
+host_of target = host_in (before_first is_slash (without_front target))
+
+abbrev pub path_of : List ℕ → List ℕ
+path_of target = after_first is_slash (without_front target)
+
+-- the hosts whose repositories npm knows
+abbrev pub hosts : List (List ℕ)
+hosts = codes "bitbucket.org" ∷ codes "gist.github.com" ∷ codes "git.sr.ht" ∷ codes "github.com"
+    ∷ codes "gitlab.com" ∷ []
+
+-- the third part of a path, or nothing if it has none
+abbrev pub third_part : List ℕ → List ℕ
+third_part path = slice_index_or (parts path) 2 []
+
+-- there is one, and it does not begin the name of a branch
+abbrev pub IsBelowProject : List ℕ → Type 0
+IsBelowProject path = (third_part path ≢ []) × (third_part path ≢ codes "tree")
+
+-- a page is that of a file, and of no repository: it is at another host, or on GitHub below a project
+abbrev pub IsPage : List ℕ → Type 0
+IsPage target = (¬ (IsOneOf hosts (host_of target)))
+    ⊎ (IsSameWord (host_of target) (codes "github.com") × IsBelowProject (path_of target))
+
+abbrev pub IsWebPage : Bool → (scheme target : List ℕ) → Type 0
+IsWebPage is_git scheme target = (is_git ≡ false) × IsWeb scheme × IsPage target
+
+-- a text is cut where it first has a piece
+abbrev pub IsCutAt : (piece text before behind : List ℕ) → Type 0
+IsCutAt piece text before behind = (text ≡ before ++ (piece ++ behind))
+    × ((other rest : List ℕ) → text ≡ other ++ (piece ++ rest) → length before ≤ length other)
+
+-- the first `#semver:` names the range behind it, unless that has a `%`, which escapes, or a `::`, which ends
+-- the range
+abbrev pub NamesRange : (text range : List ℕ) → Type 0
+NamesRange text range = (before : List ℕ) × IsCutAt (codes "#semver:") text before range
+    × (has 37 range ≡ false) × (¬ (HasSubslice range (codes "::")))
+
+abbrev pub IsRangeNamed : List ℕ → Option (List ℕ) → Type 0
+IsRangeNamed text (Some range) = NamesRange text range
+IsRangeNamed text None = (range : List ℕ) → ¬ (NamesRange text range)
+
+-- what is at an address whose scheme npm reads: a packed package at a page on the web, or a repository
+abbrev pub IsAtAddress : List ℕ → Bool → (scheme target : List ℕ) → Specifier → Type 0
+IsAtAddress text is_git scheme target (Page url) = (url.now ≡ text) × IsWebPage is_git scheme target
+IsAtAddress text is_git scheme target (Repository range) = IsReadScheme is_git scheme
+    × (¬ (IsWebPage is_git scheme target)) × IsRangeNamed text (option_map (λ t. t.now) range)
+IsAtAddress text is_git scheme target Unsupported = ¬ (IsReadScheme is_git scheme)
+IsAtAddress text is_git scheme target _ = ⊥
+
+-- a text without a scheme may be the address of a repository by what stands before its first `#`
+abbrev pub before_hash : List ℕ → List ℕ
+before_hash text = before_first (λ b. b == 35) text
+
+-- `USER@HOST:PATH`
+abbrev pub is_remote : List ℕ → Bool
+is_remote text = has 64 text && has 58 text
+
+-- `USER/PROJECT`: two parts, neither of them empty, and no colon, `@` or whitespace
+abbrev pub HasTwoParts : List ℕ → Type 0
+HasTwoParts text = (user : List ℕ) × (project : List ℕ) × (parts text ≡ user ∷ project ∷ [])
+    × (user ≢ []) × (project ≢ [])
+
+abbrev pub is_unmarked : List ℕ → Bool
+is_unmarked text = not (has 58 text) && not (has 64 text) && not (list_any is_whitespace (chars text))
+
+abbrev pub IsRepository : List ℕ → Type 0
+IsRepository text = (is_remote (before_hash text) ≡ true)
+    ⊎ (HasTwoParts (before_hash text) × (is_unmarked (before_hash text) ≡ true))
+
+-- else a text is a path if it has a slash or ends as packed packages do
 abbrev pub is_place : List ℕ → Bool
 is_place text = has 47 text || is_packed text
 
 abbrev pub IsWithoutScheme : List ℕ → Specifier → Type 0
-IsWithoutScheme text (Repository range) = ⊤
-IsWithoutScheme text (Range range) = (range.now ≡ text) × (is_place text ≡ false)
-IsWithoutScheme text s = (is_place text ≡ true) × IsAtPath text s
+IsWithoutScheme text (Repository range) =
+    IsRepository text × IsRangeNamed text (option_map (λ t. t.now) range)
+IsWithoutScheme text (Range range) =
+    (¬ (IsRepository text)) × (is_place text ≡ false) × (range.now ≡ text)
+IsWithoutScheme text s = (¬ (IsRepository text)) × (is_place text ≡ true) × IsAtPath text s
 
 -- where a text leads that no registry is asked for
 pub data IsPlace (text : List ℕ) (s : Specifier) : Type 0 where
   by_path : (path : List ℕ) → IsPathOf text path → IsAtPath path s → IsPlace text s
-  by_scheme : IsNoPath text → is_address text ≡ true → IsAtAddress text (is_git text) (scheme_of text) s
-      → IsPlace text s
+  by_scheme : IsNoPath text → is_address text ≡ true
+      → IsAtAddress text (is_git text) (scheme_of text) (target_of text) s → IsPlace text s
   without : IsNoPath text → is_address text ≡ false → IsWithoutScheme text s → IsPlace text s
 
 -- what a text is: asked of a registry by that range, no alias though it begins so, or a place
@@ -192,3 +280,13 @@ pub data IsSpecifier (text : List ℕ) (s : Specifier) : Type 0 where
 -- a text that is no range is a tag if its bytes, but for whitespace around it, stand in a URL as they are
 abbrev pub IsTag : List ℕ → Type 0
 IsTag text = (middle : List ℕ) × IsTrim text middle × (list_all is_url_byte middle ≡ true)
+
+-- two things are the same, with the same texts
+abbrev pub IsSameAs : Specifier → Specifier → Type 0
+IsSameAs (Range a) (Range b) = a.now ≡ b.now
+IsSameAs (Folder a) (Folder b) = a.now ≡ b.now
+IsSameAs (Packed a) (Packed b) = a.now ≡ b.now
+IsSameAs (Page a) (Page b) = a.now ≡ b.now
+IsSameAs (Repository a) (Repository b) = option_map (λ t. t.now) a ≡ option_map (λ t. t.now) b
+IsSameAs Unsupported Unsupported = ⊤
+IsSameAs _ _ = ⊥

@@ -1,13 +1,14 @@
 -- Statement: which folders are workspaces of the root project.
 use Rattle.std.specs.Prelude.{⊤, ◌≡◌, ◌≢◌, ◌⊎◌, ◌==◌, ◌&&◌, ◌-◌, not, ℕ, Bool, true, false, if◌then◌else◌}
-use Rattle.std.specs.Prelude.{List, [], ◌∷◌, ◌++◌, Option, Some, None, IsSome, bytes_eq, codes, drop, length}
+use Rattle.std.specs.Prelude.{List, [], ◌∷◌, ◌++◌, Option, Some, None, IsSome, bytes_eq, codes, length}
 use Rattle.std.specs.Prelude.{option_and_then, take}
-use Rattle.std.specs.List.{list_any, prefix_len, slice_split, suffix_len}
+use Rattle.std.specs.List.{list_any, suffix_len}
 use Rattle.std.specs.Option.{option_or}
 use Rattle.serde_json.specs.Data.{Data, Items, array, string}
 use Rattle.serde_json.specs.Find.{as_array, as_str, at, get, get_item}
 use Rattle.lock_files.specs.Fields.{text_of}
 use Rattle.lock_files.specs.Lookups.{IsInstalled, packages_of}
+pub use Rattle.lock_files.specs.Paths.{is_slash, parts, without_front}
 use Rattle.lock_files.specs.Specifiers.{has}
 use Rattle.lock_files.specs.declared.lock.Lock.{Lock}
 
@@ -20,26 +21,16 @@ texts_in root =
 abbrev pub HasText : Data → List ℕ → Type 0
 HasText root text = (i : ℕ) × (option_and_then (at i) (texts_in root) ≡ Some (string text))
 
-abbrev pub is_slash : ℕ → Bool
-is_slash b = b == 47
-
 -- the pattern of a text: without a dot in front of it, and then without slashes at both ends
 abbrev pub without_dot : List ℕ → List ℕ
 without_dot [] = []
 without_dot (b ∷ rest) = if b == 46 then rest else b ∷ rest
-
-abbrev pub without_front : List ℕ → List ℕ
-without_front text = drop (prefix_len is_slash text) text
 
 abbrev pub without_end : List ℕ → List ℕ
 without_end text = take (length text - suffix_len is_slash text) text
 
 abbrev pub pattern_of : List ℕ → List ℕ
 pattern_of text = without_end (without_front (without_dot text))
-
--- what stands between its slashes
-abbrev pub parts : List ℕ → List (List ℕ)
-parts text = slice_split is_slash text
 
 abbrev pub is_wildcard : ℕ → Bool
 is_wildcard b = list_any (λ c. c == b) (codes "*?[{(!|\\")

@@ -1,24 +1,71 @@
-// Folders as texts: no disk is asked.
+// Folders and paths as texts: no disk is asked.
 
+ghost use Rattle.lock_files.specs.Internal.Places.{place_of};
 ghost use Rattle.lock_files.specs.Lookups.{IsInstalled};
+ghost use Rattle.lock_files.specs.Paths.{is_relative, is_url_sign, joined, next_place, place_above};
 ghost use Rattle.lock_files.specs.Workspaces.{IsNameOf};
+ghost use Rattle.std.specs.List.{list_any};
 ghost use Rattle.std.specs.Option.{MatchOption};
-ghost use Rattle.std.specs.Prelude.{◌↔◌, ◌≡◌, ◌≢◌, ◌∷◌, ◌++◌, IsTrue, List, ℕ};
+ghost use Rattle.std.specs.Prelude.{◌↔◌, ◌≡◌, ◌≢◌, ◌∷◌, ◌++◌, IfOk, IsTrue, List, OnOk, ℕ};
+ghost use Rattle.std.specs.Prelude.{string_bytes};
 
 use std::alloc::{AllocError, Global};
 
 /// The folder to which a path leads from another folder, with no `.` and no `..` but at its front.
 /// Both are relative to the root project, whose folder is the empty text.
-pub fn joined(alloc: Global, from: &str, path: &str) -> Result<String, AllocError> {
+pub fn joined(alloc: Global, from: &str, path: &str) -> Result<String, AllocError>
+    ensures { IfOk result (λ folder. string_bytes folder ≡ joined from.now path.now) }
+{
     let mut parts: Vec<&str> = Vec::new(alloc);
     for part in from.split('/').chain(path.split('/')) {
-        match part {
-            "" | "." => {}
-            ".." if parts.last().is_some_and(|last| *last != "..") => drop(parts.pop()),
-            _ => parts.push(part)?,
-        }
+        go_on(&mut parts, part)?;
     }
     parts.as_slice().join(alloc, "/")
+}
+
+// Goes on by one part.
+fn go_on<'a>(parts: &mut Vec<&'a str>, part: &'a str) -> Result<(), AllocError>
+    ensures { OnOk result (place_of parts.new.items
+        ≡ next_place (place_of parts.old.items) part.now) }
+{
+    match part {
+        "" | "." => {}
+        ".." => go_up(parts)?,
+        _ => parts.push(part)?,
+    }
+    Ok(())
+}
+
+// Goes up from the last part, or further out if there is none to go up from.
+fn go_up(parts: &mut Vec<&str>) -> Result<(), AllocError>
+    ensures { OnOk result (place_of parts.new.items ≡ place_above (place_of parts.old.items)) }
+{
+    match parts.last() {
+        Some(last) if *last != ".." => drop(parts.pop()),
+        _ => parts.push("..")?,
+    }
+    Ok(())
+}
+
+/// Whether a path leads from a folder and has no character that means something in a URL. Other
+/// paths are not read.
+pub fn is_relative(path: &str) -> bool
+    ensures { result ≡ is_relative path.now }
+{
+    !path.starts_with('/') && !path.starts_with('~') && !has_url_sign(path.as_bytes())
+}
+
+fn has_url_sign(path: &[u8]) -> bool
+    ensures { result ≡ list_any is_url_sign path.now }
+{
+    path.iter().any(|byte| is_url_sign(*byte))
+}
+
+// Whether a byte means something in a URL.
+fn is_url_sign(byte: u8) -> bool
+    ensures { result ≡ is_url_sign byte }
+{
+    matches!(byte, b':' | b'%' | b'?' | b'#' | b'\\')
 }
 
 /// The name that npm takes for a package from its folder: its last part, behind its scope if it

@@ -1,18 +1,26 @@
 // What a text in place of a range is to npm.
 
-ghost use Rattle.lock_files.specs.Specifiers.{IsAtAddress, IsAtPath, IsNoPath, IsPathOf, IsPlace};
-ghost use Rattle.lock_files.specs.Specifiers.{IsWeb, IsWithoutScheme, begins_path, behind_git};
-ghost use Rattle.lock_files.specs.Specifiers.{is_address, is_git, is_word, scheme_of, target_of};
-ghost use Rattle.lock_files.specs.Specifiers.{IsAlias, IsAliased, IsBareName, IsBehindNpm, IsName};
-ghost use Rattle.lock_files.specs.Specifiers.{IsReserved, IsScopeAndName, IsSpecifier, IsTag};
-ghost use Rattle.lock_files.specs.Specifiers.{IsUnsigned, is_of_registry, is_packed, is_part};
-ghost use Rattle.lock_files.specs.Specifiers.{is_place, is_plain, is_url_byte};
+ghost use Rattle.lock_files.specs.Paths.{is_slash};
+ghost use Rattle.lock_files.specs.Specifiers.{HasTwoParts, IsAlias, IsAliased, IsAtAddress};
+ghost use Rattle.lock_files.specs.Specifiers.{IsAtPath, IsBareName, IsBehindNpm, IsBelowProject};
+ghost use Rattle.lock_files.specs.Specifiers.{IsName, IsNoPath, IsOneOf, IsPage, IsPathOf, IsPlace};
+ghost use Rattle.lock_files.specs.Specifiers.{IsRangeNamed, IsReadScheme, IsRepository, IsReserved};
+ghost use Rattle.lock_files.specs.Specifiers.{IsSameAs};
+ghost use Rattle.lock_files.specs.declared.specifier.Specifier.{Specifier};
+ghost use Rattle.lock_files.specs.Specifiers.{IsScopeAndName, IsSpecifier, IsTag, IsUnsigned};
+ghost use Rattle.lock_files.specs.Specifiers.{IsWeb, IsWithoutScheme, before_hash, begins_path};
+ghost use Rattle.lock_files.specs.Specifiers.{behind_git, host_in, is_address, is_git};
+ghost use Rattle.lock_files.specs.Specifiers.{is_of_registry, is_packed, is_part, is_place};
+ghost use Rattle.lock_files.specs.Specifiers.{is_plain, is_remote, is_unmarked, is_url_byte};
+ghost use Rattle.lock_files.specs.Specifiers.{is_word, scheme_of, target_of, without_www};
+ghost use Rattle.semver_core.specs.Text.Characters.{is_whitespace};
 ghost use Rattle.std.specs.Char.{is_ascii_alphabetic};
-ghost use Rattle.std.specs.List.{list_all};
-ghost use Rattle.std.specs.Prelude.{◌≡◌, ◌↔◌, IfNone, IfSome, IsTrue, MatchOption};
-ghost use Rattle.std.specs.Prelude.{false, option_map, true};
+ghost use Rattle.std.specs.List.{after_first, before_first, list_all, list_any};
+ghost use Rattle.std.specs.Prelude.{◌≡◌, ◌↔◌, ℕ, IfNone, IfSome, IsTrue, List, MatchOption};
+ghost use Rattle.std.specs.Prelude.{false, map, option_map, true};
+ghost use Rattle.std.specs.Str.{chars};
 
-use semver_core::scan::trim;
+use semver_core::scan::{is_whitespace_code, trim};
 
 // The schemes of the URLs that npm reads, but for those of packages at other places; behind `git+`
 // those of the second list.
@@ -76,6 +84,12 @@ impl<'a> Specifier<'a> {
     }
 }
 
+/// A text is one thing: what `Specifier::of` returns of it is all that its contract allows.
+pub fn one_specifier()
+    ensures { (text : List ℕ) (s t : Specifier) → IsSpecifier text s → IsSpecifier text t
+        → IsSameAs s t }
+{}
+
 /// What stands behind `npm:`, if the text begins so.
 pub fn behind_npm(text: &str) -> Option<&str>
     ensures { IsBehindNpm text.now (option_map (λ t. t.now) result) }
@@ -136,7 +150,7 @@ fn at_path(path: &str) -> Specifier<'_>
 
 // What an address is, by its scheme and what stands behind that.
 fn at_address<'a>(text: &'a str, is_git: bool, scheme: &str, target: &str) -> Specifier<'a>
-    ensures { IsAtAddress text.now is_git scheme.now result }
+    ensures { IsAtAddress text.now is_git scheme.now target.now result }
 {
     if !is_read(is_git, scheme) {
         Specifier::Unsupported
@@ -271,48 +285,106 @@ fn is_part(text: &str) -> bool
 }
 
 // Whether a page is that of a file, and of no repository at a host that npm knows.
-fn is_page(target: &str) -> bool {
-    let place = target.trim_start_matches('/');
-    let (host, path) = place.split_once('/').unwrap_or((place, ""));
-    let host = match host.rsplit_once('@') {
-        Some((_, host)) => host,
-        None => host,
-    };
-    let host = host.strip_prefix("www.").unwrap_or(host);
-    let is_known = HOSTS.iter().any(|it| it.eq_ignore_ascii_case(host));
-    !is_known || (host.eq_ignore_ascii_case("github.com") && is_below_project(path))
+fn is_page(target: &str) -> bool
+    ensures { IsTrue result ↔ IsPage target.now }
+{
+    let (authority, path) = divided(target.trim_start_matches('/'));
+    let host = host_in(authority);
+    !is_one_of(HOSTS, host) || (host.eq_ignore_ascii_case("github.com") && is_below_project(path))
 }
 
-// Whether the path of a page of GitHub leads to something of a project that is no branch.
-fn is_below_project(path: &str) -> bool {
-    path.split('/')
-        .nth(2)
-        .is_some_and(|part| !part.is_empty() && part != "tree")
-}
-
-// Whether a text without a scheme names a repository: `USER/PROJECT`, or `USER@HOST:PATH`.
-fn is_repository(text: &str) -> bool {
-    let front = match text.split_once('#') {
-        Some((front, _)) => front,
-        None => text,
-    };
-    let is_remote = front.contains('@') && front.contains(':');
-    match front.split_once('/') {
-        _ if is_remote => true,
-        None => false,
-        Some((user, project)) => {
-            !user.is_empty()
-                && !project.is_empty()
-                && is_plain(project)
-                && !front.contains(':')
-                && !front.contains('@')
-                && !front.contains(char::is_whitespace)
-        }
+// What stands before and behind the first slash.
+fn divided(place: &str) -> (&str, &str)
+    ensures before { result.0.now ≡ before_first is_slash place.now }
+    ensures behind { result.1.now ≡ after_first is_slash place.now }
+{
+    match place.split_once('/') {
+        Some((authority, path)) => (authority, path),
+        None => (place, ""),
     }
 }
 
+// The host behind a user.
+fn host_in(authority: &str) -> &str
+    ensures { result.now ≡ host_in authority.now }
+{
+    match authority.rsplit_once('@') {
+        Some((_, host)) => without_www(host),
+        None => without_www(authority),
+    }
+}
+
+fn without_www(host: &str) -> &str
+    ensures { result.now ≡ without_www host.now }
+{
+    match host.strip_prefix("www.") {
+        Some(rest) => rest,
+        None => host,
+    }
+}
+
+// Whether the path of a page of GitHub leads to something of a project that is no branch.
+fn is_below_project(path: &str) -> bool
+    ensures { IsTrue result ↔ IsBelowProject path.now }
+{
+    match path.split('/').nth(2) {
+        Some(part) => !part.is_empty() && part != "tree",
+        None => false,
+    }
+}
+
+// Whether a text without a scheme names a repository: `USER/PROJECT`, or `USER@HOST:PATH`.
+fn is_repository(text: &str) -> bool
+    ensures { IsTrue result ↔ IsRepository text.now }
+{
+    let front = before_hash(text);
+    is_remote(front) || (has_two_parts(front) && is_unmarked(front))
+}
+
+fn before_hash(text: &str) -> &str
+    ensures { result.now ≡ before_hash text.now }
+{
+    match text.split_once('#') {
+        Some((front, _)) => front,
+        None => text,
+    }
+}
+
+fn is_remote(text: &str) -> bool
+    ensures { result ≡ is_remote text.now }
+{
+    text.contains('@') && text.contains(':')
+}
+
+// Whether a text has one slash, and text on both sides of it.
+fn has_two_parts(text: &str) -> bool
+    ensures { IsTrue result ↔ HasTwoParts text.now }
+{
+    match text.split_once('/') {
+        Some((user, project)) => {
+            !user.is_empty() && !project.is_empty() && !project.contains('/')
+        }
+        None => false,
+    }
+}
+
+fn is_unmarked(text: &str) -> bool
+    ensures { result ≡ is_unmarked text.now }
+{
+    !text.contains(':') && !text.contains('@') && !has_whitespace(text)
+}
+
+fn has_whitespace(text: &str) -> bool
+    ensures { result ≡ list_any is_whitespace (chars text.now) }
+{
+    text.chars()
+        .any(|letter| is_whitespace_code(u32::from(letter)))
+}
+
 // The range that `#semver:` names behind an address, if it stands there as it is.
-fn tagged(text: &str) -> Option<&str> {
+fn tagged(text: &str) -> Option<&str>
+    ensures { IsRangeNamed text.now (option_map (λ t. t.now) result) }
+{
     let (_, behind) = text.split_once("#semver:")?;
     if behind.contains('%') || behind.contains("::") {
         return None;
@@ -321,9 +393,18 @@ fn tagged(text: &str) -> Option<&str> {
 }
 
 // Whether npm reads URLs of this scheme.
-fn is_read(is_git: bool, scheme: &str) -> bool {
+fn is_read(is_git: bool, scheme: &str) -> bool
+    ensures { IsTrue result ↔ IsReadScheme is_git scheme.now }
+{
     let known = if is_git { GIT_SCHEMES } else { SCHEMES };
-    known.iter().any(|it| it.eq_ignore_ascii_case(scheme))
+    is_one_of(known, scheme)
+}
+
+// Whether a text is one of these words, in letters of any case.
+fn is_one_of(words: &[&str], text: &str) -> bool
+    ensures { IsTrue result ↔ IsOneOf (map (λ word. word.now) words.now) text.now }
+{
+    words.iter().any(|word| word.eq_ignore_ascii_case(text))
 }
 
 /// Whether npm takes a text that is neither an address nor a range for a tag, as `latest`: each of

@@ -1,7 +1,7 @@
 use Rattle.std.proofs.Common.{◌++◌, ◌∷◌, ◌∙◌, ap, arith, sym}
 use Rattle.lock_files.proofs.Parts.{uncut}
-use Rattle.lock_files.proofs.Patterns.{cut-behind, cut_last, name-behind, name-last, name-scoped, name-second}
-use Rattle.lock_files.proofs.Patterns.{name-whole, signed, unsigned, whole}
+use Rattle.lock_files.proofs.Patterns.{cut-behind, cut_last, name-behind, name-last, name-scoped, name-second, name-whole}
+use Rattle.lock_files.proofs.Patterns.{signed, unsigned, whole}
 use Rattle.lock_files.proofs.folder.name_of.Goals as goal
 
 pub returns-in_default : goal.returns-in_default

@@ -3,9 +3,9 @@ use Rattle.std.proofs.lemmas.Bool.{iff_false}
 use Rattle.lock_files.specs.Specifiers.IsAliasOf.{any, ranged}
 use Rattle.lock_files.proofs.Parts.{alias-alone, alias-any, alias-whole, cut_at, filled, no_alias-cut}
 use Rattle.lock_files.proofs.Parts.{no_alias-whole, uncut}
-use Rattle.lock_files.proofs.specifier.alias.Goals.{in_default-via-in-None-2+else-not-is_scoped}
-use Rattle.lock_files.proofs.specifier.alias.Goals.{in_default-via-in-None-2+then-not-is_scoped+else-is_of_registry-2}
 use Rattle.lock_files.proofs.specifier.alias.Goals.{in_default-via-in-Some-3+else-is_of_registry}
+use Rattle.lock_files.proofs.specifier.alias.Goals.{in_default-via-in-None-2+then-not-is_scoped+else-is_of_registry-2}
+use Rattle.lock_files.proofs.specifier.alias.Goals.{in_default-via-in-None-2+else-not-is_scoped}
 use Rattle.lock_files.proofs.specifier.alias.Goals as goal
 
 pub returns-in-Some : goal.returns-in-Some
