@@ -1,15 +1,15 @@
 -- Statement: what is found for a dependency of a lock file.
-use Rattle.std.specs.Prelude.{⊤, ◌≡◌, ◌≢◌, ℕ, true, false, List, [], ◌++◌, Option, Some, None}
+use Rattle.std.specs.Prelude.{◌≡◌, ◌≢◌, ℕ, true, false, List, [], ◌++◌, Option, Some, None}
 use Rattle.std.specs.Prelude.{codes}
 use Rattle.serde_json.specs.View.{view}
 use Rattle.lock_files.specs.Fields.{is_set}
 use Rattle.lock_files.specs.Lookups.{IsBehind, IsInstalled, IsNearest}
 use Rattle.lock_files.specs.Optional.{MayBeAbsent}
-use Rattle.lock_check.specs.Outcomes.{IsJudged, Locked}
+use Rattle.lock_check.specs.Outcomes.{IsJudged, Locked, base_of}
 use Rattle.lock_check.specs.Overrides.{IsDependency, RefersToNothing}
 use Rattle.lock_files.specs.Specifiers.{IsName}
+use Rattle.lock_files.specs.Wanted.{IsOverride}
 use Rattle.lock_files.specs.Workspaces.{AreRead}
-use Rattle.lock_files.specs.declared.edge.Edge.{Edge}
 use Rattle.lock_check.specs.declared.finding.Finding.{Finding}
 use Rattle.lock_check.specs.declared.finding.Outcome.{Outcome}
 use Rattle.lock_check.specs.declared.finding.Outcome.TheVariants as outcome
@@ -19,7 +19,6 @@ use Rattle.lock_files.specs.declared.lock.Field.TheVariants as field
 use Rattle.lock_files.specs.declared.lock.Lock.{Lock}
 use Rattle.lock_files.specs.declared.lock.Package.{Package}
 use Rattle.lock_files.specs.declared.lock.Wanted.{Wanted}
-use Rattle.lock_files.specs.declared.lock.Wanted.TheVariants as wanted
 
 -- a peer that stands inside the installed package that wants it
 pub record IsOwnPeer (d : Dependency) (locked : Package) : Type 0 where
@@ -34,11 +33,13 @@ pub record IsLinkOfRoot (d : Dependency) (locked : Package) : Type 0 where
   pub other : d.field ≢ field.Workspaces
   pub unread : ¬ (AreRead (view d.package.fields.now))
 
-abbrev pub locked_as : Lock → Package → Package → Locked
-locked_as lock entry behind = record {
+abbrev pub locked_as : Lock → Dependency → Package → Package → Locked
+locked_as lock d entry behind = record {
   entry = view entry.fields.now;
+  folder = behind.folder.now;
   behind = view behind.fields.now;
   is_nested = lock.is_nested;
+  base = base_of d;
 }
 
 -- what is found of a package that is locked for a dependency
@@ -48,7 +49,7 @@ pub data IsLockedOutcome (lock : Lock) (d : Dependency) (locked : Package) : Out
   unnamed : ¬ (IsName d.name.now) → IsLockedOutcome lock d locked outcome.Unnamed
   link : IsLinkOfRoot d locked → IsLockedOutcome lock d locked (outcome.Skipped skip.Link)
   judged : (behind : Package) (found : Outcome) → IsBehind lock locked (Some behind) → ¬ (IsOwnPeer d locked)
-      → IsName d.name.now → ¬ (IsLinkOfRoot d locked) → IsJudged d (locked_as lock locked behind) found
+      → IsName d.name.now → ¬ (IsLinkOfRoot d locked) → IsJudged d (locked_as lock d locked behind) found
       → IsLockedOutcome lock d locked found
 
 -- what is found for a dependency for which that is locked
