@@ -2,10 +2,11 @@
 use Rattle.std.specs.Prelude.{◌≡◌, ◌↔◌, ◌≤◌, List, [], Option, Some, None, IsSome, IfSome, IsTrue, ◌++◌}
 use Rattle.std.specs.Prelude.{ℕ, codes, option_and_then, string_bytes}
 use Rattle.std.specs.Char.{encode_utf8}
-use Rattle.serde_json.specs.Data.{Data, Members, put}
+use Rattle.serde_json.specs.Data.{Data, Members, no_members, put}
 use Rattle.serde_json.specs.Find.{as_number, as_object, as_u64, get}
 use Rattle.serde_json.specs.Read.{read as read_json}
 use Rattle.serde_json.specs.View.{members_view, view}
+use Rattle.lock_files.specs.Nested.{AreConverted}
 use Rattle.lock_files.specs.declared.input.Input.{Input}
 use Rattle.lock_files.specs.declared.input.LockFile.{LockFile}
 use Rattle.lock_files.specs.declared.lock.Lock.{Lock}
@@ -50,10 +51,23 @@ abbrev pub with_root : Option Data → Members → Members
 with_root (Some root) packages = put [] root packages
 with_root None packages = packages
 
--- how a lock file without an object `packages` is converted is not said
+-- a lock file of version 1 without `dependencies`
+abbrev pub LocksNothing : Data → Type 0
+LocksNothing file =
+    (number_in (codes "lockfileVersion") file ≡ Some 1) × (get (codes "dependencies") file ≡ None)
+
+-- the packages that a lock file holds itself: those in its object `packages`, or else those to which its
+-- object `dependencies` is converted
+pub data AreLocked (file : Data) : Members → Type 0 where
+  as_they_are : (packages : Members) → locked_in file ≡ Some packages → AreLocked file packages
+  converted : (dependencies packages : Members) → locked_in file ≡ None
+      → option_and_then as_object (get (codes "dependencies") file) ≡ Some dependencies
+      → AreConverted dependencies packages → AreLocked file packages
+  nothing : locked_in file ≡ None → LocksNothing file → AreLocked file no_members
+
 abbrev pub ArePackages : (file : Data) (manifest : Option Data) → Members → Type 0
 ArePackages file manifest found =
-    (packages : Members) → locked_in file ≡ Some packages → found ≡ with_root manifest packages
+    (packages : Members) × AreLocked file packages × (found ≡ with_root manifest packages)
 
 -- the packages that are checked; without `packages`, links may lack their versions
 pub record AreOf (file : Data) (manifest : Option Data) (lock : Lock) : Type 0 where

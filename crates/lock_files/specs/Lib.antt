@@ -5,6 +5,7 @@ pub mod Faults
 pub mod Fields
 pub mod Internal
 pub mod Lookups
+pub mod Nested
 pub mod Optional
 pub mod Paths
 pub mod Shown

@@ -1,14 +1,14 @@
 // The packages of a lock file and of the `package.json` beside it, by their folders.
 
-ghost use Rattle.lock_files.specs.Documents.{ArePackages};
+ghost use Rattle.lock_files.specs.Documents.{AreLocked, ArePackages, LocksNothing, locked_in};
 ghost use Rattle.serde_json.specs.Find.{as_object, get};
 ghost use Rattle.serde_json.specs.View.{members_view, view};
-ghost use Rattle.std.specs.Prelude.{◌≡◌, ◌↔◌, IfOk, IsTrue, None, codes, option_and_then};
-ghost use Rattle.std.specs.Prelude.{option_map};
+ghost use Rattle.std.specs.Prelude.{◌≡◌, ◌↔◌, IfOk, IsTrue, None, Some, codes, is_some};
+ghost use Rattle.std.specs.Prelude.{option_and_then, option_map};
 
 use crate::lock::Lock;
 use crate::nested;
-use anyhow::{Context, Result};
+use anyhow::{Context, Result, bail};
 use serde_json::{Map, Value, put};
 use std::alloc::Global;
 
@@ -52,19 +52,40 @@ impl Packages {
 }
 
 // What the lock file holds itself.
-fn locked(alloc: Global, mut file: Value) -> Result<Map<String, Value>>
-    ensures { IfOk result (λ packages. ArePackages (view file) None
-        (members_view packages.entries)) }
+fn locked(alloc: Global, file: Value) -> Result<Map<String, Value>>
+    ensures { IfOk result (λ packages. AreLocked (view file) (members_view packages.entries)) }
 {
-    if let Some(packages) = take_object(&mut file, "packages") {
-        return Ok(packages);
+    if has_packages(&file) {
+        taken(file)
+    } else {
+        converted(alloc, &file)
     }
-    if has_none(&file) {
-        return Ok(Map::new(alloc));
+}
+
+fn has_packages(file: &Value) -> bool
+    ensures { result ≡ is_some (locked_in (view file.now)) }
+{
+    file.get("packages").and_then(Value::as_object).is_some()
+}
+
+// Its object `packages`.
+fn taken(mut file: Value) -> Result<Map<String, Value>>
+    ensures { IfOk result (λ packages. locked_in (view file)
+        ≡ Some (members_view packages.entries)) }
+{
+    take_object(&mut file, "packages").context("no object `packages`")
+}
+
+// What its object `dependencies` is converted to.
+fn converted(alloc: Global, file: &Value) -> Result<Map<String, Value>>
+    ensures { IfOk result (λ packages. locked_in (view file.now) ≡ None
+        → AreLocked (view file.now) (members_view packages.entries)) }
+{
+    match nested::entries_within(file) {
+        Some(entries) => Ok(nested::packages(alloc, entries)?),
+        None if has_none(file) => Ok(Map::new(alloc)),
+        None => bail!("neither an object `packages` nor an object `dependencies`"),
     }
-    let nested = file.get("dependencies").and_then(Value::as_object);
-    let nested = nested.context("neither an object `packages` nor an object `dependencies`")?;
-    Ok(nested::packages(alloc, nested)?)
 }
 
 // Takes the object of this name out of a file.
@@ -79,7 +100,9 @@ fn take_object(file: &mut Value, name: &str) -> Option<Map<String, Value>>
 }
 
 // Whether a lock file is one of lockfileVersion 1 in which nothing is locked.
-fn has_none(file: &Value) -> bool {
+fn has_none(file: &Value) -> bool
+    ensures { IsTrue result ↔ LocksNothing (view file.now) }
+{
     match file.get("lockfileVersion").and_then(Value::as_u64) {
         Some(1) => file.get("dependencies").is_none(),
         _ => false,
