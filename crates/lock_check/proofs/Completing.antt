@@ -1,5 +1,5 @@
 -- No dependency is lost or judged twice on the way to the findings.
-use Rattle.std.proofs.Common.{◌≡◌, ◌∷◌, ◌++◌, ◌∙◌, [], All, Contains, List, None, Option, Some, ◌<◌, ◌+◌}
+use Rattle.std.proofs.Common.{◌≡◌, ◌∷◌, ◌++◌, ◌∙◌, [], All, List, None, Option, Some, ◌<◌, ◌+◌}
 use Rattle.std.proofs.Common.{ℕ, arith, inl, inr, refl, subst, sym, get_or, length}
 use Rattle.std.proofs.lemmas.List.Elements.{All-contains, Contains-append_left, All-push, All-weaker}
 use Rattle.std.proofs.lemmas.List.Elements.{Contains-push, at_read}
@@ -51,10 +51,9 @@ judged-all lock edges found linked among = λ folder fields f name at w.
     ]
 
 pub workspaces-judged : (lock : Lock) (edges : List Edge) (found : List Finding)
-    → ((folder : List ℕ) (fields : Data) → get folder (packages_of lock) ≡ Some fields
-    → AreMeantLinked lock edges folder fields) → All (IsAmong found) edges → AreWorkspacesJudged lock found
+    → AreWorkspacesCollected lock edges → All (IsAmong found) edges → AreWorkspacesJudged lock found
 workspaces-judged lock edges found linked among root folder at is =
-    let has = linked [] root at refl folder is in
+    let has = linked root folder at is in
     let e = has.2.0 in
     let h = All-contains (IsAmong found) edges e among has.2.1 in (
       has.0,

@@ -1,11 +1,12 @@
 -- The rules of `overrides`.
-use Rattle.std.proofs.Common.{true≢false, length-append, ◌<◌, ◌+◌, ◌⊎◌, ◌∙◌, Bool, ap₂, arith, below_more, drop, append_assoc, codes, false, get_or, if◌then◌else◌, length, refl}
-use Rattle.std.proofs.Common.{◌≡◌, ◌∷◌, ◌++◌, [], All, Contains, Global, List, None, Option, Some, String, ap, inl, inr, string_bytes, subst, suc, sym, true, unwrap_or, zero, ℕ}
-use Rattle.std.proofs.lemmas.List.Elements.{All-contains, All-nil, All-push, All-same}
+use Rattle.std.proofs.Common.{true≢false, length-append, ◌<◌, ◌+◌, ◌⊎◌, ◌∙◌, Bool, ap₂, arith, below_more, drop, append_assoc, codes, encode_utf8, false, get_or, if◌then◌else◌, length, refl}
+use Rattle.std.proofs.Common.{◌≡◌, ◌∷◌, ◌++◌, [], Contains, Global, List, None, Option, Some, String, ap, inl, inr, string_bytes, subst, suc, sym, true, unwrap_or, zero, ℕ}
+use Rattle.std.proofs.lemmas.List.Elements.{All-contains}
 use Rattle.std.proofs.lemmas.Bool.{eqb-true}
 use Rattle.std.proofs.lemmas.List.{append_cancel_right, drop_all, take_all}
 use Rattle.std.proofs.lemmas.List.Sums.{passes_at_first, split_at_first}
 use Rattle.std.proofs.lemmas.Slice.Eq.{bytes_eq-Decides}
+use Rattle.std.proofs.lemmas.Str.{encode_ascii}
 use Rattle.std.specs.List.{after_first, before_first, position_or_len}
 use Rattle.std.specs.Str.Pattern.{FindsCharSuffix, StripsSuffix}
 use Rattle.semver_core.specs.Lists.{is_empty}
@@ -30,8 +31,8 @@ use Rattle.lock_files.specs.declared.fault.Fault.{Fault}
 use Rattle.lock_files.specs.declared.fault.Fault.TheVariants as fault
 use Rattle.lock_files.specs.declared.lock.Lock.{Lock}
 use Rattle.lock_files.proofs.Added.{fault-added, fault-kept}
+use Rattle.lock_files.proofs.Parts.{one_trim}
 use Rattle.npm_words.specs.Alternatives.{HasAlternativesIn}
-use Rattle.semver_core.proofs.Text.Trims.{middle_is_trim}
 use Rattle.semver_core.specs.Failures.{NoValue}
 use Rattle.semver_core.specs.declared.TheConstants.{MAX_SAFE_INTEGER}
 use Rattle.lock_check.specs.Replacements.{IsReplacement}
@@ -193,7 +194,7 @@ pub fault-made : (lock : Lock) (root : Option Package) (rules : Members) (key : 
     → IsObject root rules → HasKey rules key.now value → IsNoRule key.now value → IsFault lock (fault.Override key)
 fault-made lock root rules key value at of has none =
     let found = subst (λ r. IsAt lock [] r) of.1 at in
-    (view of.0.fields.now, found.1, record { rules = rules; value = value; among = of.2; has = has; none = none })
+    inr (view of.0.fields.now, found.1, record { rules = rules; value = value; among = of.2; has = has; none = none })
 
 -- an entry of an object is a member of it
 pub has-key : (es : List (String Global × Value)) (n : ℕ) (key : String Global) (value : Value) (name : List ℕ)

@@ -1,8 +1,10 @@
--- Statement: the whole report on a lock file.
-use Rattle.std.specs.Prelude.{◌≡◌, ◌<◌, ◌++◌, ℕ, Bool, true, false, List, [], All, filter, length, map}
-use Rattle.std.specs.Prelude.{if◌then◌else◌, string_bytes}
+-- Statement: the whole report on a lock file and the `package.json` beside it.
+use Rattle.std.specs.Prelude.{◌≡◌, ◌<◌, ◌++◌, ℕ, Bool, true, false, List, [], Option, All, filter, length}
+use Rattle.std.specs.Prelude.{if◌then◌else◌, map, string_bytes}
 use Rattle.std.specs.BTreeMap.{btree_map_len}
 use Rattle.std.specs.List.{flat_map}
+use Rattle.serde_json.specs.Data.{Data}
+use Rattle.lock_files.specs.Documents.{AreOf}
 use Rattle.lock_check.specs.Complete.{AreAllJudged, AreSingle, AreWorkspacesJudged}
 use Rattle.lock_check.specs.Findings.{AreSkips, count_of, is_told, kind_of}
 use Rattle.lock_check.specs.Judged.{IsFinding}

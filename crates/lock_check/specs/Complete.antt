@@ -1,19 +1,15 @@
 -- Statement: each dependency that a package of a lock file writes has one finding, and each workspace too.
-use Rattle.std.specs.Prelude.{⊤, ◌≡◌, ◌⊎◌, ◌≤◌, ◌&&◌, ◌||◌, ℕ, Bool, true, not, List, [], Some}
-use Rattle.std.specs.Prelude.{AllPairs, Contains}
-use Rattle.std.specs.Prelude.{IsSome, codes}
+use Rattle.std.specs.Prelude.{◌≡◌, ◌⊎◌, ℕ, List, [], Some, AllPairs, Contains}
 use Rattle.serde_json.specs.Data.{Data}
 use Rattle.serde_json.specs.Find.{get}
-use Rattle.serde_json.specs.View.{view}
-use Rattle.lock_files.specs.Fields.{is_set}
-use Rattle.lock_files.specs.Lookups.{IsInstalled, IsNearest, packages_of, written_in}
-use Rattle.lock_files.specs.Workspaces.{IsWorkspace, IsWorkspaceName}
 use Rattle.lock_check.specs.declared.finding.Finding.{Finding}
-use Rattle.lock_files.specs.declared.lock.Dependency.{Dependency}
+use Rattle.lock_files.specs.Dependencies.{IsOf, Writes}
+use Rattle.lock_files.specs.Edges.{AreOfOne, IsLeftOut}
+use Rattle.lock_files.specs.Lookups.{packages_of}
+use Rattle.lock_files.specs.Workspaces.{IsWorkspace, IsWorkspaceName}
 use Rattle.lock_files.specs.declared.lock.Field.{Field}
 use Rattle.lock_files.specs.declared.lock.Field.TheVariants as field
 use Rattle.lock_files.specs.declared.lock.Lock.{Lock}
-use Rattle.lock_files.specs.declared.lock.Package.{Package}
 
 -- there is a finding about the name
 abbrev pub HasFinding : List Finding → List ℕ → Field → List ℕ → Type 0

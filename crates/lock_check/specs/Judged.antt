@@ -1,5 +1,5 @@
 -- Statement: what is found for a dependency of a lock file.
-use Rattle.std.specs.Prelude.{⊤, ◌≡◌, ◌≢◌, ℕ, true, false, List, [], ◌++◌, Option, Some, None}
+use Rattle.std.specs.Prelude.{◌≡◌, ◌≢◌, ℕ, true, false, List, [], ◌++◌, Option, Some, None}
 use Rattle.std.specs.Prelude.{codes}
 use Rattle.serde_json.specs.View.{view}
 use Rattle.lock_files.specs.Fields.{is_set}
@@ -8,8 +8,8 @@ use Rattle.lock_files.specs.Optional.{MayBeAbsent}
 use Rattle.lock_check.specs.Outcomes.{IsJudged, Locked}
 use Rattle.lock_check.specs.Overrides.{IsDependency, RefersToNothing}
 use Rattle.lock_files.specs.Specifiers.{IsName}
+use Rattle.lock_files.specs.Wanted.{IsOverride}
 use Rattle.lock_files.specs.Workspaces.{AreRead}
-use Rattle.lock_files.specs.declared.edge.Edge.{Edge}
 use Rattle.lock_check.specs.declared.finding.Finding.{Finding}
 use Rattle.lock_check.specs.declared.finding.Outcome.{Outcome}
 use Rattle.lock_check.specs.declared.finding.Outcome.TheVariants as outcome
@@ -19,7 +19,6 @@ use Rattle.lock_files.specs.declared.lock.Field.TheVariants as field
 use Rattle.lock_files.specs.declared.lock.Lock.{Lock}
 use Rattle.lock_files.specs.declared.lock.Package.{Package}
 use Rattle.lock_files.specs.declared.lock.Wanted.{Wanted}
-use Rattle.lock_files.specs.declared.lock.Wanted.TheVariants as wanted
 
 -- a peer that stands inside the installed package that wants it
 pub record IsOwnPeer (d : Dependency) (locked : Package) : Type 0 where

@@ -1,16 +1,12 @@
 -- Statement: which faults are told of what is malformed.
-use Rattle.std.specs.Prelude.{◌≡◌, ◌≢◌, ◌⊎◌, ℕ, List, [], None, Some, All, Contains, codes}
+use Rattle.std.specs.Prelude.{◌≡◌, ◌⊎◌, ℕ, List, [], None, Some, All, codes}
 use Rattle.serde_json.specs.Data.{Data, Members}
-use Rattle.serde_json.specs.Find.{as_object, as_str, get}
-use Rattle.lock_files.specs.Dependencies.{IsRead}
-use Rattle.lock_files.specs.Fields.{member_of}
-use Rattle.lock_files.specs.Lookups.{IsAt, field_name, packages_of}
+use Rattle.serde_json.specs.Find.{as_object, get}
 use Rattle.lock_check.specs.Overrides.{AreRules, HasKey, IsNoRule}
-use Rattle.lock_files.specs.Workspaces.{HasOtherTexts}
+use Rattle.lock_files.specs.Faults.{ArePackagesTold, HasFault, IsFieldFault, IsPackageFault, OfFields}
+use Rattle.lock_files.specs.Lookups.{IsAt}
 use Rattle.lock_files.specs.declared.fault.Fault.{Fault}
 use Rattle.lock_files.specs.declared.fault.Fault.TheVariants as fault
-use Rattle.lock_files.specs.declared.lock.Field.{Field}
-use Rattle.lock_files.specs.declared.lock.Field.TheVariants as field
 use Rattle.lock_files.specs.declared.lock.Lock.{Lock}
 
 -- `overrides` of the root project is there and no object

@@ -1,13 +1,13 @@
 -- Statement: what is found of a package that is locked for a dependency, by its texts and by what is wanted.
 use Rattle.std.specs.Prelude.{⊤, ◌≡◌, ◌≢◌, ◌⊎◌, ◌&&◌, ℕ, Bool, true, false, List, [], Option, Some, None}
-use Rattle.std.specs.Prelude.{codes, if◌then◌else◌, IsSomeAnd, unwrap_or, option_and_then, option_map}
+use Rattle.std.specs.Prelude.{codes, if◌then◌else◌, IsSomeAnd, unwrap_or, option_map}
 use Rattle.std.specs.Borrow.{Bor}
 use Rattle.serde_json.specs.Data.{Data}
-use Rattle.serde_json.specs.Find.{as_str}
 use Rattle.serde_json.specs.View.{view}
 use Rattle.nodejs_semver.specs.Versions.{VersionValue}
 use Rattle.semver_core.specs.Text.Characters.{IsTrim}
-use Rattle.lock_files.specs.Fields.{is_set, member_of, text_of}
+use Rattle.lock_files.specs.Dependencies.{accepted_by}
+use Rattle.lock_files.specs.Fields.{is_set, text_of}
 use Rattle.lock_check.specs.Findings.{is_same, kind_of}
 use Rattle.lock_files.specs.Specifiers.{IsSpecifier, IsTag}
 use Rattle.lock_files.specs.Wanted.{IsWantedAs}

@@ -12,9 +12,9 @@ use Rattle.semver_core.specs.declared.TheConstants.{MAX_SAFE_INTEGER}
 use Rattle.serde_json.specs.Data.{Data, Members, member, no_members}
 use Rattle.serde_json.specs.Find.{as_object, as_str, get}
 use Rattle.serde_json.specs.View.{view}
+use Rattle.lock_files.specs.Dependencies.{IsWritten}
 use Rattle.lock_files.specs.Lookups.{IsAt, IsPackage, written_in}
 use Rattle.lock_files.specs.Specifiers.{IsUnsigned, with_sign}
-use Rattle.lock_files.specs.Workspaces.{IsWorkspace, IsWorkspaceName}
 use Rattle.lock_files.specs.declared.lock.Dependency.{Dependency}
 use Rattle.lock_files.specs.declared.lock.Field.TheVariants as field
 use Rattle.lock_files.specs.declared.lock.Lock.{Lock}

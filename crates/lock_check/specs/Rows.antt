@@ -1,15 +1,14 @@
 -- Statement: what is told of a finding, in whichever format.
-use Rattle.std.specs.Prelude.{ℕ, List, [], Option, Some, None, option_map}
+use Rattle.std.specs.Prelude.{ℕ, List, Option, Some, None, option_map}
 use Rattle.lock_check.specs.Findings.{kind_of}
+use Rattle.lock_files.specs.Faults.{fault_folder, fault_name}
+use Rattle.lock_files.specs.Wanted.{wanted_text}
 use Rattle.lock_files.specs.declared.fault.Fault.{Fault}
-use Rattle.lock_files.specs.declared.fault.Fault.TheVariants as fault
 use Rattle.lock_check.specs.declared.finding.Finding.{Finding}
 use Rattle.lock_check.specs.declared.finding.Kind.{Kind}
 use Rattle.lock_check.specs.declared.finding.Kind.TheVariants.{Malformed}
 use Rattle.lock_check.specs.declared.finding.Outcome.{Outcome}
 use Rattle.lock_check.specs.declared.finding.Outcome.TheVariants as outcome
-use Rattle.lock_files.specs.declared.lock.Wanted.{Wanted}
-use Rattle.lock_files.specs.declared.lock.Wanted.TheVariants as wanted
 use Rattle.lock_check.specs.declared.row.Row.{Row}
 
 -- how a finding is counted, the folder of the package that has the dependency, the name of that,

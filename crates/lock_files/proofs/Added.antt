@@ -1,9 +1,16 @@
 -- What is added to a list.
-use Rattle.std.proofs.Common.{◌≡◌, ◌∷◌, ◌++◌, ◌∙◌, [], All, Contains, List, ap, append_assoc, subst, sym}
+use Rattle.std.proofs.Common.{◌≡◌, ◌∷◌, ◌++◌, ◌∙◌, [], All, Contains, List, ap, append_assoc, subst, sym, ℕ}
 use Rattle.std.proofs.lemmas.List.{append-nil}
 use Rattle.std.proofs.lemmas.List.Elements.{All-nil, All-push, All-same, Contains-append_left, Contains-push}
-use Rattle.lock_files.specs.Faults.{Extends, HasFault}
+use Rattle.serde_json.specs.Data.{Data}
+use Rattle.lock_files.specs.Faults.{ArePackagesTold, Extends, HasAllFaults, HasFault, HasFaults, IsFieldFault}
+use Rattle.lock_files.specs.Faults.{IsRangeFault}
+use Rattle.lock_files.specs.Internal.Collected.{AreTextsTold}
+use Rattle.lock_files.specs.Lookups.{field_name}
 use Rattle.lock_files.specs.declared.fault.Fault.{Fault}
+use Rattle.lock_files.specs.declared.fault.Fault.TheVariants as fault
+use Rattle.lock_files.specs.declared.lock.Field.{Field}
+use Rattle.lock_files.specs.declared.lock.Lock.{Lock}
 
 -- none more
 pub as-before : {A : Type 0} (before : List A) → Extends before before
@@ -47,3 +54,26 @@ fault-kept before after P more has = (has.0, extends-kept before after has.0 mor
 pub fault-added : (before after : List Fault) (P : Fault → Type 0) (f : Fault) → after ≡ before ++ f ∷ [] → P f
     → HasFault after P
 fault-added before after P f same is = (f, subst (λ fs. Contains fs f) (sym same) (Contains-push before f), is)
+
+pub faults-kept : (folder : List ℕ) (fields : Data) (f : Field) (before after : List Fault) → Extends before after
+    → HasFaults folder fields f before → HasFaults folder fields f after
+faults-kept folder fields f before after more has = record {
+  object = λ is. fault-kept before after (IsFieldFault folder (field_name f)) more (has.object is);
+  texts = λ name is. fault-kept before after (IsRangeFault folder name) more (has.texts name is);
+}
+
+pub all-kept : (before after : List Fault) → Extends before after → (folder : List ℕ) (fields : Data)
+    → HasAllFaults before folder fields → HasAllFaults after folder fields
+all-kept before after more folder fields all = λ f read. faults-kept folder fields f before after more (all f read)
+
+pub texts-kept : (before after : List Fault) → Extends before after → (folder : List ℕ) (fields : Data)
+    → AreTextsTold before folder fields → AreTextsTold after folder fields
+texts-kept before after more folder fields told = λ root wrong.
+    fault-kept before after (λ f. f ≡ fault.Workspaces) more (told root wrong)
+
+pub packages-kept : (lock : Lock) (before after : List Fault) → Extends before after → ArePackagesTold lock before
+    → ArePackagesTold lock after
+packages-kept lock before after more told = record {
+  each = λ folder fields at. all-kept before after more folder fields (told.each folder fields at);
+  workspaces = λ of. fault-kept before after (λ f. f ≡ fault.Workspaces) more (told.workspaces of);
+}

@@ -1,7 +1,7 @@
 -- What is malformed is told.
 use Rattle.std.proofs.Common.{◌≡◌, ◌<◌, ◌≤◌, ◌+◌, ◌∷◌, ◌++◌, ◌∙◌, [], List, None, Option, Some, Bool, Global}
-use Rattle.std.proofs.Common.{false, not, String, ap, arith, inl, inr, option_and_then, refl, string_bytes}
-use Rattle.std.proofs.Common.{ℕ, subst, sym, suc, true, true≢false, unwrap_or, zero}
+use Rattle.std.proofs.Common.{false, not, String, ap, arith, inl, inr, option_and_then, refl, string_bytes, ℕ}
+use Rattle.std.proofs.Common.{subst, sym, suc, true, true≢false, unwrap_or, zero}
 use Rattle.std.proofs.lemmas.List.Elements.{Contains-push_cases}
 use Rattle.std.specs.Map.{keys_of}
 use Rattle.std.specs.Prelude.{IsSome, IsTrue, bytes_eq, slice_get}
@@ -15,11 +15,11 @@ use Rattle.serde_json.specs.View.{members_view, view}
 use Rattle.serde_json.specs.declared.value.Value.{Value}
 use Rattle.lock_files.proofs.Collecting.{HasKey, field_at, key-of, last_or_before, rank-at, same-rank}
 use Rattle.lock_files.proofs.Collecting.{written-some}
-use Rattle.lock_files.proofs.Added.{fault-kept}
+use Rattle.lock_files.proofs.Added.{fault-kept, faults-kept}
 use Rattle.lock_files.specs.Dependencies.{IsRead, rank}
 use Rattle.lock_files.specs.Faults.{Extends, HasAllFaults, HasFault, HasFaults, IsFieldFault, IsNoObject}
 use Rattle.lock_files.specs.Faults.{IsNoText, IsRangeFault, IsPackageFault}
-use Rattle.lock_files.specs.Internal.Collected.{members_in, AreTextsTold}
+use Rattle.lock_files.specs.Internal.Collected.{members_in}
 use Rattle.lock_files.specs.Lookups.{IsPackage, field_name, packages_of, written_in}
 use Rattle.lock_files.specs.declared.fault.Fault.{Fault}
 use Rattle.lock_files.specs.declared.fault.Fault.TheVariants as fault
@@ -27,24 +27,6 @@ use Rattle.lock_files.specs.declared.lock.Field.{Field}
 use Rattle.lock_files.specs.declared.lock.Field.TheVariants as field
 use Rattle.lock_files.specs.declared.lock.Lock.{Lock}
 use Rattle.lock_files.specs.declared.lock.Package.{Package}
-
--- ---- more faults
-
-pub faults-kept : (folder : List ℕ) (fields : Data) (f : Field) (before after : List Fault) → Extends before after
-    → HasFaults folder fields f before → HasFaults folder fields f after
-faults-kept folder fields f before after more has = record {
-  object = λ is. fault-kept before after (IsFieldFault folder (field_name f)) more (has.object is);
-  texts = λ name is. fault-kept before after (IsRangeFault folder name) more (has.texts name is);
-}
-
-pub all-kept : (before after : List Fault) → Extends before after → (folder : List ℕ) (fields : Data)
-    → HasAllFaults before folder fields → HasAllFaults after folder fields
-all-kept before after more folder fields all = λ f read. faults-kept folder fields f before after more (all f read)
-
-pub texts-kept : (before after : List Fault) → Extends before after → (folder : List ℕ) (fields : Data)
-    → AreTextsTold before folder fields → AreTextsTold after folder fields
-texts-kept before after more folder fields told = λ root wrong.
-    fault-kept before after (λ f. f ≡ fault.Workspaces) more (told root wrong)
 
 -- ---- what a field has
 

@@ -1,7 +1,7 @@
 use Rattle.std.proofs.Common.{◌≡◌, [], ap, arith, length}
 use Rattle.serde_json.specs.View.{view}
 use Rattle.lock_files.proofs.Items.{workspace-kept}
-use Rattle.lock_files.proofs.Telling.{texts-kept}
+use Rattle.lock_files.proofs.Added.{texts-kept}
 use Rattle.lock_files.specs.Internal.Collected.{AreNamed, AreWorkspaces}
 use Rattle.lock_files.specs.declared.lock.Dependencies.{Dependencies}
 use Rattle.lock_files.specs.declared.lock.Package.{Package}

@@ -13,7 +13,7 @@ use Rattle.lock_files.proofs.Single.{IsKeyed, keyed-apart, keyed-kept, keyed-mor
 use Rattle.lock_files.specs.Edges.{AreAllLocked}
 use Rattle.lock_files.specs.Internal.Collected.{AreOwn, IsTaken, AreTextsTold}
 use Rattle.lock_files.proofs.Items.{meant-kept, meant-linked}
-use Rattle.lock_files.proofs.Telling.{all-kept, texts-kept}
+use Rattle.lock_files.proofs.Added.{all-kept, texts-kept}
 use Rattle.lock_files.specs.Internal.Patterns.{AreMeantLinked}
 use Rattle.lock_files.specs.Faults.{HasAllFaults}
 use Rattle.lock_files.specs.Lookups.{IsAt}
