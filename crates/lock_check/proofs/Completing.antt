@@ -1,5 +1,5 @@
 -- No dependency is lost or judged twice on the way to the findings.
-use Rattle.std.proofs.Common.{◌≡◌, ◌∷◌, ◌++◌, ◌∙◌, [], All, Contains, List, None, Option, Some, ◌<◌, ◌+◌}
+use Rattle.std.proofs.Common.{◌≡◌, ◌∷◌, ◌++◌, ◌∙◌, [], All, List, None, Option, Some, ◌<◌, ◌+◌}
 use Rattle.std.proofs.Common.{ℕ, arith, inl, inr, refl, subst, sym, get_or, length}
 use Rattle.std.proofs.lemmas.List.Elements.{All-contains, Contains-append_left, All-push, All-weaker}
 use Rattle.std.proofs.lemmas.List.Elements.{Contains-push, at_read}

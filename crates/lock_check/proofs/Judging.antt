@@ -1,5 +1,5 @@
 -- The findings of the dependencies of a lock file.
-use Rattle.std.proofs.Common.{◌≡◌, [], All, List, None, Option, Some, ◌∙◌, false, inl, inr, subst, sym, true, true≢false}
+use Rattle.std.proofs.Common.{◌≡◌, [], None, Option, Some, ◌∙◌, false, inl, inr, subst, sym, true, true≢false}
 use Rattle.lock_files.specs.Edges.{IsEdge}
 use Rattle.lock_check.specs.Judged.{IsFinding, IsOutcome, as_wanted}
 use Rattle.std.specs.Prelude.{IsNone, MatchOption, is_some}

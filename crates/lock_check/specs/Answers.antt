@@ -1,6 +1,6 @@
 -- Statement: the whole report on a lock file and the `package.json` beside it.
-use Rattle.std.specs.Prelude.{◌≡◌, ◌<◌, ◌++◌, ℕ, Bool, true, false, List, [], Option, All, filter, length, map}
-use Rattle.std.specs.Prelude.{if◌then◌else◌, string_bytes}
+use Rattle.std.specs.Prelude.{◌≡◌, ◌<◌, ◌++◌, ℕ, Bool, true, false, List, [], Option, All, filter, length}
+use Rattle.std.specs.Prelude.{if◌then◌else◌, map, string_bytes}
 use Rattle.std.specs.BTreeMap.{btree_map_len}
 use Rattle.std.specs.List.{flat_map}
 use Rattle.serde_json.specs.Data.{Data}

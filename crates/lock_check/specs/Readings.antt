@@ -2,8 +2,8 @@
 -- asks node-semver's loose reading of a range text, which has the same answer as the strict one
 -- wherever that has one. The loose reading here differs from node-semver's for a few texts. What
 -- npm reads in a text that may be one of them is unknown.
-use Rattle.std.specs.Prelude.{◌≡◌, ◌<◌, ◌⊎◌, not, nat_lt, ℕ, Bool, true, false, List, ◌++◌, codes, length}
-use Rattle.std.specs.Char.{encode_utf8, is_ascii_digit}
+use Rattle.std.specs.Prelude.{◌≡◌, ◌<◌, ◌⊎◌, not, nat_lt, ℕ, Bool, true, false, List, codes, length}
+use Rattle.std.specs.Char.{is_ascii_digit}
 use Rattle.std.specs.List.{list_any, slice_split}
 use Rattle.std.specs.Str.Iter.{HasSubslice}
 use Rattle.nodejs_semver.specs.Cuts.{Span}

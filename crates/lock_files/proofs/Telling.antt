@@ -1,7 +1,7 @@
 -- What is malformed is told.
 use Rattle.std.proofs.Common.{◌≡◌, ◌<◌, ◌≤◌, ◌+◌, ◌∷◌, ◌++◌, ◌∙◌, [], List, None, Option, Some, Bool, Global}
-use Rattle.std.proofs.Common.{false, not, String, ap, arith, inl, inr, option_and_then, refl, string_bytes}
-use Rattle.std.proofs.Common.{ℕ, subst, sym, suc, true, true≢false, unwrap_or, zero}
+use Rattle.std.proofs.Common.{false, not, String, ap, arith, inl, inr, option_and_then, refl, string_bytes, ℕ}
+use Rattle.std.proofs.Common.{subst, sym, suc, true, true≢false, unwrap_or, zero}
 use Rattle.std.proofs.lemmas.List.Elements.{Contains-push_cases}
 use Rattle.std.specs.Map.{keys_of}
 use Rattle.std.specs.Prelude.{IsSome, IsTrue, bytes_eq, slice_get}
@@ -19,7 +19,7 @@ use Rattle.lock_files.proofs.Added.{fault-kept, faults-kept}
 use Rattle.lock_files.specs.Dependencies.{IsRead, rank}
 use Rattle.lock_files.specs.Faults.{Extends, HasAllFaults, HasFault, HasFaults, IsFieldFault, IsNoObject}
 use Rattle.lock_files.specs.Faults.{IsNoText, IsRangeFault, IsPackageFault}
-use Rattle.lock_files.specs.Internal.Collected.{members_in, AreTextsTold}
+use Rattle.lock_files.specs.Internal.Collected.{members_in}
 use Rattle.lock_files.specs.Lookups.{IsPackage, field_name, packages_of, written_in}
 use Rattle.lock_files.specs.declared.fault.Fault.{Fault}
 use Rattle.lock_files.specs.declared.fault.Fault.TheVariants as fault

@@ -65,8 +65,8 @@ HasAllFaults faults folder fields = (f : Field) → IsRead f folder → HasFault
 abbrev pub OfFields : Lock → List ℕ → (Data → Type 0) → Type 0
 OfFields lock folder P = (fields : Data) × (get folder (packages_of lock) ≡ Some fields) × P fields
 
--- what is malformed is told, of each package of the lock file, and that `workspaces` of the root project is no
--- list of texts
+-- what is malformed is told, of each package of the lock file, and that `workspaces` of the root project is
+-- no list of texts
 pub record ArePackagesTold (lock : Lock) (faults : List Fault) : Type 0 where
   pub each : (folder : List ℕ) (fields : Data) → get folder (packages_of lock) ≡ Some fields
       → HasAllFaults faults folder fields

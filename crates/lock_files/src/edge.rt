@@ -69,7 +69,8 @@ fn dependencies<'a>(
     ensures texts { OnOk result (AreTextsTold faults.new.items «package».entry.folder.now
         (view «package».entry.fields.now)) }
     ensures wrong { OnOk result (IsPackage lock.entry «package».entry
-        → All (IsPackageFault lock.entry) faults.old.items → All (IsPackageFault lock.entry) faults.new.items) }
+        → All (IsPackageFault lock.entry) faults.old.items
+        → All (IsPackageFault lock.entry) faults.new.items) }
 {
     let mut found = Dependencies::new(alloc);
     add_workspaces(lock, package, &mut found, faults)?;

@@ -183,7 +183,8 @@ pub(crate) fn add_workspaces<'a>(
     ensures told { OnOk result (AreTextsTold faults.new.items root.entry.folder.now
         (view root.entry.fields.now)) }
     ensures wrong { OnOk result (IsPackage lock.entry root.entry
-        → All (IsPackageFault lock.entry) faults.old.items → All (IsPackageFault lock.entry) faults.new.items) }
+        → All (IsPackageFault lock.entry) faults.old.items
+        → All (IsPackageFault lock.entry) faults.new.items) }
 {
     if !root.folder.is_empty() {
         return Ok(());
