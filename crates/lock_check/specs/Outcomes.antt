@@ -1,6 +1,6 @@
 -- Statement: what is found of a package that is locked for a dependency, by its texts and by what is wanted.
-use Rattle.std.specs.Prelude.{◌≡◌, ◌≢◌, ◌⊎◌, ◌&&◌, ◌==◌, ◌++◌, ℕ, Bool, true, false, List, [], Option, Some, None}
-use Rattle.std.specs.Prelude.{codes, if◌then◌else◌, IsSomeAnd, unwrap_or, option_map}
+use Rattle.std.specs.Prelude.{◌≡◌, ◌≢◌, ◌⊎◌, ◌&&◌, ◌==◌, ◌++◌, ℕ, Bool, true, false, List, [], Option}
+use Rattle.std.specs.Prelude.{IsSomeAnd, None, Some, codes, if◌then◌else◌, option_map, unwrap_or}
 use Rattle.std.specs.Borrow.{Bor}
 use Rattle.std.specs.List.{starts_with}
 use Rattle.serde_json.specs.Data.{Data}
@@ -29,8 +29,8 @@ use Rattle.lock_check.specs.declared.verdict.Judgement.TheVariants as judgement
 use Rattle.lock_check.specs.declared.verdict.Verdict.TheVariants as verdict
 
 -- what is locked: the fields of its entry; the folder and the fields of the package behind it, which a link
--- has elsewhere; whether the lock file holds no versions of folders; and the folder from which the paths of the
--- dependency lead, if they are read
+-- has elsewhere; whether the lock file holds no versions of folders; and the folder from which the paths of
+-- the dependency lead, if they are read
 pub record Locked : Type 0 where
   pub entry : Data
   pub folder : List ℕ

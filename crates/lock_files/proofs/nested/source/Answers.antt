@@ -1,4 +1,4 @@
-use Rattle.std.proofs.Common.{◌≡◌, ◌∙◌, None, Option, Some, subst, sym, true≢false}
+use Rattle.std.proofs.Common.{◌∙◌, Option, subst, sym, true≢false}
 use Rattle.std.specs.Prelude.{IfSome}
 use Rattle.serde_json.specs.View.{view}
 use Rattle.lock_files.specs.Nested.{IsSource, SaysSource}
