@@ -18,7 +18,7 @@ use Rattle.serde_json.specs.View.{members_view, view}
 use Rattle.lock_files.specs.Internal.Nesting.{AddsAll, AddsEntry, AddsOwn, AreAdded, IsAfter, placed_at, with_link, with_target}
 use Rattle.lock_files.specs.Internal.Nesting.IsAfter.{as_before, by_entry, by_link}
 use Rattle.lock_files.specs.Nested.{AreConverted, ArePlaced, HasFields, HasPackage, IsPackageOf, IsPut, IsSource, IsTaken, Placed}
-use Rattle.lock_files.specs.Nested.{below, entries_within, folder_within, kept, link_to, target_of}
+use Rattle.lock_files.specs.Nested.{below, entries_within, folder_within, kept, link_to, link_target}
 use Rattle.lock_files.specs.Nested.ArePlaced.{entry_and, no_entries}
 use Rattle.lock_files.specs.Nested.IsPackageOf.{linked, plain}
 use Rattle.lock_files.specs.declared.specifier.Specifier.{Specifier}
@@ -118,10 +118,10 @@ module _ (first later both : List Placed) (old mid new : Members) (join : IsJoin
       | inl f ↦ more.stay p.folder (All-contains (λ q. HasPackage mid q.folder) first p added.entries f)
       | inr l ↦ All-contains (λ q. HasPackage new q.folder) later p more.entries l
     ]);
-    targets = all-from (λ p. IfSome (target_of p.source) (HasPackage new)) both (λ p is. elim (join.parts p is) [
-      | inl f ↦ IfSome_then (target_of p.source)
-          (All-contains (λ q. IfSome (target_of q.source) (HasPackage mid)) first p added.targets f) more.stay
-      | inr l ↦ All-contains (λ q. IfSome (target_of q.source) (HasPackage new)) later p more.targets l
+    targets = all-from (λ p. IfSome (link_target p.source) (HasPackage new)) both (λ p is. elim (join.parts p is) [
+      | inl f ↦ IfSome_then (link_target p.source)
+          (All-contains (λ q. IfSome (link_target q.source) (HasPackage mid)) first p added.targets f) more.stay
+      | inr l ↦ All-contains (λ q. IfSome (link_target q.source) (HasPackage new)) later p more.targets l
     ]);
     each = λ folder fields at. after-both folder (more.each folder fields at);
   }
@@ -132,7 +132,7 @@ pub added-none : (old : Members) → AreAdded [] old old
 added-none old = record {
   stay = λ folder has. has;
   entries = All-nil (λ p. HasPackage old p.folder);
-  targets = All-nil (λ p. IfSome (target_of p.source) (HasPackage old));
+  targets = All-nil (λ p. IfSome (link_target p.source) (HasPackage old));
   each = λ folder fields at. as_before fields at (λ (k, p, low, _, _). absurd (omega arith));
 }
 
@@ -146,7 +146,7 @@ here p = (0, omega arith, refl)
 
 -- an entry that is no link
 module _ (p : Placed) (fields : Data) (old new : Members) (same : new ≡ put p.folder fields old)
-    (none : target_of p.source ≡ None) (own : HasFields p.name p.entry p.source fields) where
+    (none : link_target p.source ≡ None) (own : HasFields p.name p.entry p.source fields) where
   own-each : (folder : List ℕ) (found : Data) → get_member folder (put p.folder fields old) ≡ Some found
       → IsAfter (p ∷ []) old folder found
   own-each folder found at = elim (put-cases p.folder folder fields found old at) [
@@ -159,9 +159,9 @@ module _ (p : Placed) (fields : Data) (old new : Members) (same : new ≡ put p.
     stay = λ folder has. still-has p.folder folder fields old has;
     entries = All-cons (λ q. HasPackage (put p.folder fields old) q.folder) p [] (has-put p.folder fields old)
         (All-nil (λ q. HasPackage (put p.folder fields old) q.folder));
-    targets = All-cons (λ q. IfSome (target_of q.source) (HasPackage (put p.folder fields old))) p []
+    targets = All-cons (λ q. IfSome (link_target q.source) (HasPackage (put p.folder fields old))) p []
         (subst (λ t. IfSome t (HasPackage (put p.folder fields old))) (sym none) tt)
-        (All-nil (λ q. IfSome (target_of q.source) (HasPackage (put p.folder fields old))));
+        (All-nil (λ q. IfSome (link_target q.source) (HasPackage (put p.folder fields old))));
     each = own-each;
   })
 
@@ -196,7 +196,7 @@ target-cases target folder fields found old at = elim (cases_Bool (is_some (get_
 
 -- a link
 module _ (p : Placed) (target : List ℕ) (old new : Members) (same : new ≡ with_link p.folder target p.entry old)
-    (leads : target_of p.source ≡ Some target) where
+    (leads : link_target p.source ≡ Some target) where
   mid : Members
   mid = with_target target (object (kept p.entry)) old
 
@@ -219,10 +219,10 @@ module _ (p : Placed) (target : List ℕ) (old new : Members) (same : new ≡ wi
         (target-stays target folder (object (kept p.entry)) old has);
     entries = All-cons (λ q. HasPackage (put p.folder (link_to target) mid) q.folder) p []
         (has-put p.folder (link_to target) mid) (All-nil (λ q. HasPackage (put p.folder (link_to target) mid) q.folder));
-    targets = All-cons (λ q. IfSome (target_of q.source) (HasPackage (put p.folder (link_to target) mid))) p []
+    targets = All-cons (λ q. IfSome (link_target q.source) (HasPackage (put p.folder (link_to target) mid))) p []
         (subst (λ t. IfSome t (HasPackage (put p.folder (link_to target) mid))) (sym leads)
         (still-has p.folder target (link_to target) mid (target-has target (object (kept p.entry)) old)))
-        (All-nil (λ q. IfSome (target_of q.source) (HasPackage (put p.folder (link_to target) mid))));
+        (All-nil (λ q. IfSome (link_target q.source) (HasPackage (put p.folder (link_to target) mid))));
     each = link-each;
   })
 
@@ -238,7 +238,7 @@ with-target-none target fields old none = rw none
 
 module _ {A E : Type 0} (result : Result A E) (text : A → List ℕ) (folder name : List ℕ) (entry : Data)
     (s : Option Specifier) (old new : Members) (is : IsSource entry s) where
-  pub own-link : (target : List ℕ) → target_of s ≡ Some target → IfOk result (λ t. text t ≡ target)
+  pub own-link : (target : List ℕ) → link_target s ≡ Some target → IfOk result (λ t. text t ≡ target)
       → OnOk result (new ≡ with_link folder target entry old)
       → IfOk result (λ within. AddsOwn folder name entry (text within) old new)
   own-link target leads to same = link-of result to same
@@ -253,7 +253,7 @@ module _ {A E : Type 0} (result : Result A E) (text : A → List ℕ) (folder na
         added = added-link (placed_at folder name entry s) target old new same leads;
       }
 
-  pub own-plain : (fields : Data) → target_of s ≡ None → HasFields name entry s fields
+  pub own-plain : (fields : Data) → link_target s ≡ None → HasFields name entry s fields
       → IfOk result (λ t. text t ≡ folder) → new ≡ put folder fields old
       → IfOk result (λ within. AddsOwn folder name entry (text within) old new)
   own-plain fields none own to same = plain-of result to

@@ -45,9 +45,9 @@ pub data IsSource (entry : Data) : Option Specifier → Type 0 where
       → IsSaid (codes "from") entry from → IsSource entry (option_or resolved from)
 
 -- the folder to which a link leads: an entry is one if it comes from a folder
-abbrev pub target_of : Option Specifier → Option (List ℕ)
-target_of (Some (Folder path)) = Some (joined [] path.now)
-target_of s = None
+abbrev pub link_target : Option Specifier → Option (List ℕ)
+link_target (Some (Folder path)) = Some (joined [] path.now)
+link_target s = None
 
 -- an object with this value in a field, if there is one
 abbrev pub with_field : (field : List ℕ) → Option Data → Members → Members
@@ -122,8 +122,8 @@ pub record Placed : Type 0 where
 
 -- its package
 pub data IsPackageOf (p : Placed) : Data → Type 0 where
-  linked : (target : List ℕ) → target_of p.source ≡ Some target → IsPackageOf p (link_to target)
-  plain : (fields : Data) → target_of p.source ≡ None → HasFields p.name p.entry p.source fields
+  linked : (target : List ℕ) → link_target p.source ≡ Some target → IsPackageOf p (link_to target)
+  plain : (fields : Data) → link_target p.source ≡ None → HasFields p.name p.entry p.source fields
       → IsPackageOf p fields
 
 -- the folder of a package of this name below a folder; that of the root project is the empty text
@@ -133,7 +133,7 @@ below folder name = folder ++ (codes "/node_modules/" ++ name)
 
 -- the entries inside an entry stand below its folder, or below that to which it leads
 abbrev pub folder_within : Placed → List ℕ
-folder_within p = unwrap_or (target_of p.source) p.folder
+folder_within p = unwrap_or (link_target p.source) p.folder
 
 abbrev pub entries_within : Data → Members
 entries_within entry = unwrap_or (option_and_then as_object (get (codes "dependencies") entry)) no_members
@@ -155,7 +155,7 @@ IsTaken placed folder = Any (λ p. p.folder ≡ folder) placed
 pub data IsPut (placed : List Placed) (folder : List ℕ) : Data → Type 0 where
   of_entry : (p : Placed) (fields : Data) → Contains placed p → p.folder ≡ folder → IsPackageOf p fields
       → IsPut placed folder fields
-  of_link : (p : Placed) → Contains placed p → target_of p.source ≡ Some folder
+  of_link : (p : Placed) → Contains placed p → link_target p.source ≡ Some folder
       → ¬ (IsTaken placed folder) → IsPut placed folder (object (kept p.entry))
 
 abbrev pub HasPackage : (packages : Members) (folder : List ℕ) → Type 0
@@ -164,7 +164,7 @@ HasPackage packages folder = IsSome (get_member folder packages)
 -- the packages of these entries: each entry has one, and each folder to which a link leads, and no other has
 pub record ArePackagesOf (placed : List Placed) (packages : Members) : Type 0 where
   pub entries : All (λ p. HasPackage packages p.folder) placed
-  pub targets : All (λ p. IfSome (target_of p.source) (HasPackage packages)) placed
+  pub targets : All (λ p. IfSome (link_target p.source) (HasPackage packages)) placed
   pub each : (folder : List ℕ) (fields : Data) → get_member folder packages ≡ Some fields
       → IsPut placed folder fields
 

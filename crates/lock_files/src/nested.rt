@@ -6,7 +6,7 @@ ghost use Rattle.lock_files.specs.Internal.Nesting.{with_link, with_target};
 ghost use Rattle.lock_files.specs.Nested.{AreConverted, HasFields, IsLastPart, IsNamedIn, IsSaid};
 ghost use Rattle.lock_files.specs.Nested.{IsPackedVersion, IsSource, IsVersion, SaysSource, below};
 ghost use Rattle.lock_files.specs.Nested.{address_of, is_range, is_repository, kept, link_to};
-ghost use Rattle.lock_files.specs.Nested.{target_of, with_field};
+ghost use Rattle.lock_files.specs.Nested.{link_target, with_field};
 ghost use Rattle.lock_files.specs.Paths.{joined};
 ghost use Rattle.serde_json.specs.Data.{no_members, object, string};
 ghost use Rattle.serde_json.specs.Find.{as_object, get};
@@ -105,7 +105,7 @@ fn add_own(
 
 // The path of the folder to which a link leads.
 fn path_of(source: Option<Specifier<'_>>) -> Option<&str>
-    ensures { option_map (λ path. joined [] path.now) result ≡ target_of source.entry }
+    ensures { option_map (λ path. joined [] path.now) result ≡ link_target source.entry }
 {
     match source? {
         Specifier::Folder(path) => Some(path),

@@ -5,7 +5,7 @@ use Rattle.std.specs.Str.Iter.{HasSubslice}
 use Rattle.serde_json.specs.Data.{Data, Members, object, put}
 use Rattle.serde_json.specs.Find.{get_member}
 use Rattle.lock_files.specs.Nested.{ArePlaced, HasPackage, IsPackageOf, IsSource, IsTaken, Placed}
-use Rattle.lock_files.specs.Nested.{below, entries_within, folder_within, kept, link_to, target_of}
+use Rattle.lock_files.specs.Nested.{below, entries_within, folder_within, kept, link_to, link_target}
 use Rattle.lock_files.specs.declared.specifier.Specifier.{Specifier}
 
 -- what stands in a folder after entries were added: what stood there before, or as in `IsPut`
@@ -14,7 +14,7 @@ pub data IsAfter (placed : List Placed) (old : Members) (folder : List ℕ) : Da
       → IsAfter placed old folder fields
   by_entry : (p : Placed) (fields : Data) → Contains placed p → p.folder ≡ folder → IsPackageOf p fields
       → IsAfter placed old folder fields
-  by_link : (p : Placed) → Contains placed p → target_of p.source ≡ Some folder
+  by_link : (p : Placed) → Contains placed p → link_target p.source ≡ Some folder
       → ¬ (IsTaken placed folder) → get_member folder old ≡ None
       → IsAfter placed old folder (object (kept p.entry))
 
@@ -22,7 +22,7 @@ pub data IsAfter (placed : List Placed) (old : Members) (folder : List ℕ) : Da
 pub record AreAdded (placed : List Placed) (old new : Members) : Type 0 where
   pub stay : (folder : List ℕ) → HasPackage old folder → HasPackage new folder
   pub entries : All (λ p. HasPackage new p.folder) placed
-  pub targets : All (λ p. IfSome (target_of p.source) (HasPackage new)) placed
+  pub targets : All (λ p. IfSome (link_target p.source) (HasPackage new)) placed
   pub each : (folder : List ℕ) (fields : Data) → get_member folder new ≡ Some fields
       → IsAfter placed old folder fields
 
