@@ -1,3 +1,3 @@
-pub mod Collected
+pub mod Found
 pub mod Overriding
-pub mod Patterns
+pub mod Sources

@@ -1,41 +1,67 @@
 -- Statement: what is found of a package that is locked for a dependency, by its texts and by what is wanted.
-use Rattle.std.specs.Prelude.{⊤, ◌≡◌, ◌≢◌, ◌⊎◌, ◌&&◌, ℕ, Bool, true, false, List, [], Option, Some, None}
-use Rattle.std.specs.Prelude.{codes, if◌then◌else◌, IsSomeAnd, unwrap_or, option_and_then, option_map}
+use Rattle.std.specs.Prelude.{◌≡◌, ◌≢◌, ◌⊎◌, ◌&&◌, ◌==◌, ◌++◌, ℕ, Bool, true, false, List, [], Option}
+use Rattle.std.specs.Prelude.{IsSomeAnd, None, Some, codes, if◌then◌else◌, option_map, unwrap_or}
 use Rattle.std.specs.Borrow.{Bor}
+use Rattle.std.specs.List.{starts_with}
 use Rattle.serde_json.specs.Data.{Data}
-use Rattle.serde_json.specs.Find.{as_str}
 use Rattle.serde_json.specs.View.{view}
 use Rattle.nodejs_semver.specs.Versions.{VersionValue}
 use Rattle.semver_core.specs.Text.Characters.{IsTrim}
-use Rattle.lock_check.specs.Fields.{is_set, member_of, text_of}
+use Rattle.lock_files.specs.Dependencies.{accepted_by}
+use Rattle.lock_files.specs.Fields.{is_set, text_of}
 use Rattle.lock_check.specs.Findings.{is_same, kind_of}
-use Rattle.lock_check.specs.Specifiers.{IsSpecifier, IsTag, IsWantedAs}
+use Rattle.lock_files.specs.Paths.{is_relative, joined}
+use Rattle.lock_files.specs.Specifiers.{IsSpecifier, IsTag}
+use Rattle.lock_files.specs.Wanted.{IsWantedAs}
 use Rattle.lock_check.specs.Verdicts.{IsJudgement}
 use Rattle.lock_check.specs.declared.check.Target.{Target}
 use Rattle.lock_check.specs.declared.finding.Kind.TheVariants as kind
 use Rattle.lock_check.specs.declared.finding.Outcome.{Outcome}
 use Rattle.lock_check.specs.declared.finding.Outcome.TheVariants as outcome
 use Rattle.lock_check.specs.declared.finding.Skip.TheVariants as skip
-use Rattle.lock_check.specs.declared.lock.Dependency.{Dependency}
-use Rattle.lock_check.specs.declared.lock.Wanted.{Wanted}
-use Rattle.lock_check.specs.declared.specifier.Specifier.{Specifier}
-use Rattle.lock_check.specs.declared.specifier.Specifier.TheVariants as specifier
+use Rattle.lock_files.specs.declared.lock.Dependency.{Dependency}
+use Rattle.lock_files.specs.declared.lock.Wanted.{Wanted}
+use Rattle.lock_files.specs.declared.lock.Wanted.TheVariants as wanted
+use Rattle.lock_files.specs.declared.specifier.Specifier.{Specifier}
+use Rattle.lock_files.specs.declared.specifier.Specifier.TheVariants as specifier
 use Rattle.lock_check.specs.declared.verdict.Judgement.{Judgement}
 use Rattle.lock_check.specs.declared.verdict.Judgement.TheVariants as judgement
 use Rattle.lock_check.specs.declared.verdict.Verdict.TheVariants as verdict
 
--- what is locked: the fields of its entry; those of the package behind it, which a link has elsewhere; and
--- whether the lock file holds no versions of folders
+-- what is locked: the fields of its entry; the folder and the fields of the package behind it, which a link
+-- has elsewhere; whether the lock file holds no versions of folders; and the folder from which the paths of
+-- the dependency lead, if they are read
 pub record Locked : Type 0 where
   pub entry : Data
+  pub folder : List ℕ
   pub behind : Data
   pub is_nested : Bool
+  pub base : Option (List ℕ)
+
+abbrev pub is_file : List ℕ → Bool
+is_file text = starts_with (λ a b. a == b) text (codes "file:")
+
+-- the paths of an override lead from the root project, and others from the package that writes them
+abbrev pub base_by : Wanted → List ℕ → List ℕ
+base_by (wanted.Override text) folder = []
+base_by _ folder = folder
+
+-- a package that comes from a file is packed, and has no folder from which paths lead
+abbrev pub base_beside : Option (List ℕ) → List ℕ → Option (List ℕ)
+base_beside (Some resolved) folder = if is_file resolved then None else Some folder
+base_beside None folder = Some folder
+
+abbrev pub base_of : Dependency → Option (List ℕ)
+base_of d = base_beside (text_of (codes "resolved") (view d.package.fields.now))
+    (base_by d.wanted d.package.folder.now)
 
 abbrev pub locked_in : Target → Locked
 locked_in t = record {
   entry = view t.locked.fields.now;
+  folder = t.package.folder.now;
   behind = view t.package.fields.now;
   is_nested = t.is_nested;
+  base = base_of t.dependency;
 }
 
 abbrev pub is_link : Locked → Bool
@@ -66,7 +92,7 @@ IsFromPage l = IsSomeAnd (address_of l) (λ text. (url : Bor (List ℕ)) × IsSp
 -- a text that is no range may be a tag, and what that names comes from such an address
 abbrev pub IsTagOutcome : List ℕ → Locked → Outcome → Type 0
 IsTagOutcome text l outcome.Tagged = IsTag text × IsFromPage l
-IsTagOutcome text l outcome.Untraced = IsTag text
+IsTagOutcome text l outcome.Untraced = IsTag text × (¬ (IsFromPage l))
 IsTagOutcome text l outcome.Unread = ¬ (IsTag text)
 IsTagOutcome text l _ = ⊥
 
@@ -93,27 +119,57 @@ abbrev pub IsRegistryOutcome : List ℕ → Locked → Outcome → Type 0
 IsRegistryOutcome text l found = (IsTrim text (codes "*") × (found ≡ outcome.Satisfied))
     ⊎ ((¬ (IsTrim text (codes "*"))) × IsRangeOutcome text l found)
 
--- it is in the place that is wanted, or in another one, or the two are not compared
-abbrev pub IsPlaceOutcome : Outcome → Type 0
-IsPlaceOutcome outcome.Satisfied = ⊤
-IsPlaceOutcome outcome.Elsewhere = ⊤
-IsPlaceOutcome (outcome.Skipped skip.Address) = ⊤
-IsPlaceOutcome _ = ⊥
+-- where a path leads, if it is read
+abbrev pub place_for : List ℕ → Locked → Option (List ℕ)
+place_for path l = if is_relative path then option_map (λ base. joined base path) l.base else None
 
--- a repository is not compared with another one, but its range may reject the version
+-- it is in the place that is wanted, or in another one, or the two are not compared
+abbrev pub IsPlaceOutcome : (wanted : Option (List ℕ)) → (own : List ℕ) → Outcome → Type 0
+IsPlaceOutcome None own found = found ≡ outcome.Skipped skip.Address
+IsPlaceOutcome (Some place) own found = ((place ≡ own) × (found ≡ outcome.Satisfied))
+    ⊎ ((place ≢ own) × (found ≡ outcome.Elsewhere))
+
+-- where a folder is wanted, it is a link to that
+abbrev pub IsFolderOutcome : List ℕ → Locked → Outcome → Type 0
+IsFolderOutcome path l found = ((is_link l ≡ false) × (found ≡ outcome.Elsewhere))
+    ⊎ ((is_link l ≡ true) × IsPlaceOutcome (place_for path l) l.folder found)
+
+-- it comes from the file at this path
+abbrev pub IsFromFile : Locked → List ℕ → Type 0
+IsFromFile l path = address_of l ≡ Some (codes "file:" ++ path)
+
+-- where a packed package is wanted, it comes from that file
+abbrev pub IsPackedOutcome : List ℕ → Locked → Outcome → Type 0
+IsPackedOutcome path l found = (((own : List ℕ) → ¬ (IsFromFile l own)) × (found ≡ outcome.Elsewhere))
+    ⊎ ((own : List ℕ) × IsFromFile l own × IsPlaceOutcome (place_for path l) (joined [] own) found)
+
+-- it comes from a repository
+abbrev pub IsFromRepository : Locked → Type 0
+IsFromRepository l = IsSomeAnd (address_of l)
+    (λ text. (range : Option (Bor (List ℕ))) × IsSpecifier text (specifier.Repository range))
+
+abbrev pub is_satisfied : Outcome → Bool
+is_satisfied found = is_same kind.Satisfied (kind_of found)
+
+-- two repositories are not compared, but the range of one may reject the version
+abbrev pub IsRangedOutcome : Option (List ℕ) → Locked → Outcome → Type 0
+IsRangedOutcome None l found = found ≡ outcome.Skipped skip.Address
+IsRangedOutcome (Some text) l found = (first : Outcome) × IsRangeOutcome text l first
+    × (found ≡ (if is_satisfied first then outcome.Skipped skip.Address else first))
+
 abbrev pub IsRepositoryOutcome : Option (List ℕ) → Locked → Outcome → Type 0
-IsRepositoryOutcome range l found = (found ≡ outcome.Elsewhere) ⊎ (found ≡ outcome.Skipped skip.Address)
-    ⊎ IsSomeAnd range (λ text. IsRangeOutcome text l found)
+IsRepositoryOutcome range l found = ((¬ (IsFromRepository l)) × (found ≡ outcome.Elsewhere))
+    ⊎ (IsFromRepository l × IsRangedOutcome range l found)
 
 abbrev pub IsPageOutcome : List ℕ → Locked → Outcome → Type 0
 IsPageOutcome url l found = ((address_of l ≡ Some url) × (found ≡ outcome.Satisfied))
     ⊎ ((address_of l ≢ Some url) × (found ≡ outcome.Elsewhere))
 
--- what is found of it where that is wanted. Which folder or file a path leads to is not said
+-- what is found of it where that is wanted
 abbrev pub IsSpecifierOutcome : Specifier → Locked → Outcome → Type 0
 IsSpecifierOutcome (specifier.Range text) l found = IsRegistryOutcome text.now l found
-IsSpecifierOutcome (specifier.Folder path) l found = IsPlaceOutcome found
-IsSpecifierOutcome (specifier.Packed path) l found = IsPlaceOutcome found
+IsSpecifierOutcome (specifier.Folder path) l found = IsFolderOutcome path.now l found
+IsSpecifierOutcome (specifier.Packed path) l found = IsPackedOutcome path.now l found
 IsSpecifierOutcome (specifier.Page url) l found = IsPageOutcome url.now l found
 IsSpecifierOutcome (specifier.Repository range) l found =
     IsRepositoryOutcome (option_map (λ t. t.now) range) l found
@@ -124,14 +180,6 @@ IsTextOutcome text l found = (s : Specifier) × IsSpecifier text s × IsSpecifie
 
 abbrev pub IsWantedOutcome : Wanted → Locked → Outcome → Type 0
 IsWantedOutcome w l found = (s : Specifier) × IsWantedAs w s × IsSpecifierOutcome s l found
-
--- the text that a package accepts in place of what it wants for a name
-abbrev pub accepted_by : Dependency → Option (List ℕ)
-accepted_by d = option_and_then as_str
-    (member_of (codes "acceptDependencies") d.name.now (view d.package.fields.now))
-
-abbrev pub is_satisfied : Outcome → Bool
-is_satisfied found = is_same kind.Satisfied (kind_of found)
 
 abbrev pub is_rejected : Outcome → Bool
 is_rejected found = is_same kind.Rejected (kind_of found)

@@ -12,15 +12,15 @@ use Rattle.semver_core.specs.declared.TheConstants.{MAX_SAFE_INTEGER}
 use Rattle.serde_json.specs.Data.{Data, Members, member, no_members}
 use Rattle.serde_json.specs.Find.{as_object, as_str, get}
 use Rattle.serde_json.specs.View.{view}
-use Rattle.lock_check.specs.Lookups.{IsAt, IsPackage, written_in}
-use Rattle.lock_check.specs.Specifiers.{IsUnsigned, with_sign}
-use Rattle.lock_check.specs.Workspaces.{IsWorkspace, IsWorkspaceName}
-use Rattle.lock_check.specs.declared.lock.Dependency.{Dependency}
-use Rattle.lock_check.specs.declared.lock.Field.TheVariants as field
-use Rattle.lock_check.specs.declared.lock.Lock.{Lock}
-use Rattle.lock_check.specs.declared.lock.Package.{Package}
-use Rattle.lock_check.specs.declared.lock.Wanted.{Wanted}
-use Rattle.lock_check.specs.declared.lock.Wanted.TheVariants as wanted
+use Rattle.lock_files.specs.Dependencies.{IsWritten}
+use Rattle.lock_files.specs.Lookups.{IsAt, IsPackage, written_in}
+use Rattle.lock_files.specs.Specifiers.{IsUnsigned, with_sign}
+use Rattle.lock_files.specs.declared.lock.Dependency.{Dependency}
+use Rattle.lock_files.specs.declared.lock.Field.TheVariants as field
+use Rattle.lock_files.specs.declared.lock.Lock.{Lock}
+use Rattle.lock_files.specs.declared.lock.Package.{Package}
+use Rattle.lock_files.specs.declared.lock.Wanted.{Wanted}
+use Rattle.lock_files.specs.declared.lock.Wanted.TheVariants as wanted
 
 -- the object has this member
 abbrev pub HasMember : Members → List ℕ → Data → Type 0
@@ -114,20 +114,11 @@ abbrev pub RefersToNothing : Lock → List ℕ → Type 0
 RefersToNothing lock name = OfRoot lock (λ root.
     (other : List ℕ) × IsRule root name (36 ∷ other) × (referenced root other ≡ None))
 
--- a workspace of the root project, by its name
-pub record IsWorkspaceOf (lock : Lock) (d : Dependency) (folder : List ℕ) : Type 0 where
-  pub by_field : d.field ≡ field.Workspaces
-  pub of_root : d.package.folder.now ≡ []
-  pub meant : IsWorkspace (view d.package.fields.now) lock folder
-  pub named : IsWorkspaceName lock folder d.name.now
-
--- what a package writes for the name in that field, or a rule in its place, or a workspace
-abbrev pub IsWritten : Lock → Dependency → Wanted → Type 0
-IsWritten lock d (wanted.Text text) =
-    written_in d.field d.name.now (view d.package.fields.now) ≡ Some text.now
-IsWritten lock d (wanted.Override text) = OfRoot lock (λ root. IsInPlace root d.name.now text.now)
-IsWritten lock d (wanted.Workspace folder) = IsWorkspaceOf lock d folder.now
+-- what is wanted of a dependency: what is written, or a rule in its place
+abbrev pub IsRuled : Lock → Dependency → Wanted → Type 0
+IsRuled lock d (wanted.Override text) = OfRoot lock (λ root. IsInPlace root d.name.now text.now)
+IsRuled lock d w = IsWritten lock d w
 
 -- a dependency of a package of the lock file, with what that wants
 abbrev pub IsDependency : Lock → Dependency → Type 0
-IsDependency lock d = IsPackage lock d.package × IsWritten lock d d.wanted
+IsDependency lock d = IsPackage lock d.package × IsRuled lock d d.wanted

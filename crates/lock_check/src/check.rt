@@ -1,40 +1,35 @@
 // Compares each dependency of a lock file with the version that is locked for it.
 
-ghost use Rattle.lock_check.specs.Internal.Collected.{AreAllFound, AreAllLinked, AreApartEdges};
-ghost use Rattle.lock_check.specs.Internal.Collected.{AreOwn, Extends, IsAmong, IsForDevelopment};
-ghost use Rattle.lock_check.specs.Internal.Collected.{IsOneOf, IsTaken};
+ghost use Rattle.lock_check.specs.Internal.Found.{IsAmong};
 ghost use Rattle.lock_check.specs.Internal.Overriding.{AreItsRules};
-ghost use Rattle.lock_check.specs.Internal.Patterns.{AreMeantFound, AreMeantLinked};
+ghost use Rattle.lock_check.specs.Internal.Sources.{is_page, is_repository};
 ghost use Rattle.lock_check.specs.Complete.{AreAllJudged, AreSingle, AreWorkspacesJudged};
-ghost use Rattle.lock_check.specs.Complete.{is_locked_for_development};
-ghost use Rattle.lock_check.specs.Judged.{IsEdge, IsFinding, IsLinkOfRoot, IsLockedOutcome};
-ghost use Rattle.lock_check.specs.Judged.{IsOutcome, IsOwnPeer, as_wanted};
-ghost use Rattle.lock_check.specs.Lookups.{IsAt, IsPackage, packages_of};
-ghost use Rattle.lock_check.specs.Malformed.{AreAllTold, AreTextsTold, HasAllFaults, IsFault};
-ghost use Rattle.lock_check.specs.Overrides.{IsDependency, RefersToNothing};
-ghost use Rattle.lock_check.specs.Outcomes.{IsInstead, IsJudged, IsPlaceOutcome, IsRangeOutcome};
-ghost use Rattle.lock_check.specs.Outcomes.{IsRegistryOutcome, IsRepositoryOutcome};
-ghost use Rattle.lock_check.specs.Outcomes.{IsSpecifierOutcome, IsTagOutcome, IsTextOutcome};
-ghost use Rattle.lock_check.specs.Outcomes.{IsToldOf, IsUnversioned, IsWantedOutcome, address_of};
-ghost use Rattle.lock_check.specs.Outcomes.{is_link, locked_in, version_text};
-ghost use Rattle.serde_json.specs.Data.{Data};
-ghost use Rattle.serde_json.specs.Find.{get};
-ghost use Rattle.serde_json.specs.View.{view};
-ghost use Rattle.std.specs.Prelude.{◌≡◌, ◌≢◌, ◌↔◌, [], All, IfOk, IsNone, IsTrue, OnOk, Some};
-ghost use Rattle.std.specs.Prelude.{List, option_map, ℕ};
+ghost use Rattle.lock_check.specs.Judged.{IsFinding, IsLinkOfRoot, IsLockedOutcome, IsOutcome};
+ghost use Rattle.lock_check.specs.Judged.{IsOwnPeer, as_wanted};
+ghost use Rattle.lock_check.specs.Malformed.{AreAllTold};
+ghost use Rattle.lock_check.specs.Overrides.{RefersToNothing};
+ghost use Rattle.lock_check.specs.Outcomes.{IsFolderOutcome, IsFromFile, IsFromPage};
+ghost use Rattle.lock_check.specs.Outcomes.{IsFromRepository, IsInstead, IsJudged};
+ghost use Rattle.lock_check.specs.Outcomes.{IsPackedOutcome, IsPlaceOutcome, IsRangeOutcome};
+ghost use Rattle.lock_check.specs.Outcomes.{IsRangedOutcome, IsRegistryOutcome};
+ghost use Rattle.lock_check.specs.Outcomes.{IsRepositoryOutcome, IsSpecifierOutcome, IsTagOutcome};
+ghost use Rattle.lock_check.specs.Outcomes.{IsTextOutcome, IsToldOf, IsUnversioned};
+ghost use Rattle.lock_check.specs.Outcomes.{IsWantedOutcome, address_of, base_by, base_of};
+ghost use Rattle.lock_check.specs.Outcomes.{is_file, is_link, locked_in, place_for, version_text};
+ghost use Rattle.lock_files.specs.Edges.{AreApartEdges, IsEdge};
+ghost use Rattle.lock_files.specs.Lookups.{IsAt};
+ghost use Rattle.std.specs.Prelude.{◌≡◌, ◌↔◌, [], All, IfOk, IsNone, IsTrue, List, MatchOption};
+ghost use Rattle.std.specs.Prelude.{Some, option_map, string_bytes, ℕ};
 
-use crate::fault::Fault;
 use crate::finding::{Finding, Outcome, Skip};
-use crate::folder::{is_installed, joined};
-use crate::lock::{Dependencies, Dependency, Field, Lock, Package, Wanted, add_dependencies};
 use crate::overrides::Overrides;
-use crate::requirers::Requirers;
 use crate::scopes::Scopes;
-use crate::specifier::{Specifier, is_name, is_tag};
 use crate::verdict::{Judgement, Verdict, judge_texts};
-use crate::workspaces::{add_workspaces, are_read};
+use lock_files::{
+    Dependency, Edge, Fault, Field, Lock, Package, Requirers, Specifier, Wanted, are_read, edges,
+    is_installed, is_name, is_relative, is_tag, joined, one_specifier,
+};
 use semver_core::scan::trim;
-use serde_json::Value;
 use std::alloc::{AllocError, Global};
 
 /// What is found in a lock file, in the order of the packages' folders.
@@ -46,13 +41,6 @@ pub struct Findings<'a> {
     pub faults: Vec<Fault<'a>>,
     /// Which packages ask for each, if a dependency is told of.
     pub requirers: Requirers<'a>,
-}
-
-/// A dependency, and the package that is locked for it.
-#[derive(Clone, Copy)]
-pub struct Edge<'a> {
-    pub dependency: Dependency<'a>,
-    pub locked: Option<Package<'a>>,
 }
 
 impl Findings<'_> {
@@ -121,112 +109,6 @@ fn findings_of<'a>(
         findings.push(finding(alloc, lock, *edge, wanted)?)?;
     }
     Ok(findings)
-}
-
-// All dependencies, with what is locked for them.
-fn edges<'a>(
-    alloc: Global,
-    lock: Lock<'a>,
-    faults: &mut Vec<Fault<'a>>,
-) -> Result<Vec<Edge<'a>>, AllocError>
-    ensures each { IfOk result (λ edges. All (IsEdge lock.entry) edges.items) }
-    ensures all { IfOk result (λ edges. AreAllLinked lock.entry edges.items) }
-    ensures apart { IfOk result (λ edges. AreApartEdges edges.items) }
-    ensures workspaces { IfOk result (λ edges. (folder : List ℕ) (fields : Data)
-        → get folder (packages_of lock.entry) ≡ Some fields
-        → AreMeantLinked lock.entry edges.items folder fields) }
-    ensures kept { OnOk result (Extends faults.old.items faults.new.items) }
-    ensures told { OnOk result ((folder : List ℕ) (fields : Data)
-        → get folder (packages_of lock.entry) ≡ Some fields
-        → HasAllFaults faults.new.items folder fields) }
-    ensures texts { OnOk result ((folder : List ℕ) (fields : Data)
-        → get folder (packages_of lock.entry) ≡ Some fields
-        → AreTextsTold faults.new.items folder fields) }
-    ensures wrong { OnOk result (All (IsFault lock.entry) faults.old.items
-        → All (IsFault lock.entry) faults.new.items) }
-{
-    let mut edges = Vec::new(alloc);
-    for folder in lock.packages.keys() {
-        if let Some(package) = lock.package(folder) {
-            let found = dependencies(alloc, lock, package, faults)?;
-            add_edges(alloc, lock, found.as_slice(), &mut edges)?;
-        }
-    }
-    Ok(edges)
-}
-
-// The dependencies of a package of the lock file.
-fn dependencies<'a>(
-    alloc: Global,
-    lock: Lock<'a>,
-    package: Package<'a>,
-    faults: &mut Vec<Fault<'a>>,
-) -> Result<Dependencies<'a>, AllocError>
-    ensures each { IsPackage lock.entry «package».entry
-        → IfOk result (λ found. All (IsDependency lock.entry) found.first.items) }
-    ensures all { IfOk result (λ found. AreAllFound «package».entry found.first.items) }
-    ensures own { IfOk result (λ found. AreOwn «package».entry.folder.now found.first.items) }
-    ensures workspaces { IfOk result (λ found. AreMeantFound lock.entry «package».entry
-        found.first.items) }
-    ensures kept { OnOk result (Extends faults.old.items faults.new.items) }
-    ensures told { OnOk result (HasAllFaults faults.new.items «package».entry.folder.now
-        (view «package».entry.fields.now)) }
-    ensures texts { OnOk result (AreTextsTold faults.new.items «package».entry.folder.now
-        (view «package».entry.fields.now)) }
-    ensures wrong { OnOk result (IsPackage lock.entry «package».entry
-        → All (IsFault lock.entry) faults.old.items → All (IsFault lock.entry) faults.new.items) }
-{
-    let mut found = Dependencies::new(alloc);
-    add_workspaces(lock, package, &mut found, faults)?;
-    add_dependencies(package, &mut found, faults)?;
-    Ok(found)
-}
-
-fn add_edges<'a>(
-    alloc: Global,
-    lock: Lock<'a>,
-    dependencies: &[Dependency<'a>],
-    edges: &mut Vec<Edge<'a>>,
-) -> Result<(), AllocError>
-    ensures each { OnOk result (All (IsDependency lock.entry) dependencies.now
-        → All (IsEdge lock.entry) edges.old.items → All (IsEdge lock.entry) edges.new.items) }
-    ensures kept { OnOk result (Extends edges.old.items edges.new.items) }
-    ensures all { OnOk result (All (IsTaken lock.entry edges.new.items) dependencies.now) }
-    ensures from { OnOk result (All (IsOneOf edges.old.items dependencies.now) edges.new.items) }
-    ensures apart { OnOk result ((folder : List ℕ) → AreOwn folder dependencies.now
-        → All (λ e. e.dependency.package.folder.now ≢ folder) edges.old.items
-        → AreApartEdges edges.old.items → AreApartEdges edges.new.items) }
-{
-    for &dependency in dependencies {
-        let locked = lock.nearest(alloc, dependency.package.folder, dependency.name)?;
-        let edge = Edge { dependency, locked };
-        if !is_of_development(edge) {
-            edges.push(edge)?;
-        }
-    }
-    Ok(())
-}
-
-// Whether npm takes a dependency in `requires` for one of development: it is locked as such, and
-// the package is not. npm reads no such dependencies of what is installed.
-fn is_of_development(edge: Edge<'_>) -> bool
-    ensures { IsTrue result ↔ IsForDevelopment edge.entry }
-{
-    let Dependency { package, field, .. } = edge.dependency;
-    match edge.locked {
-        Some(locked) if field == Field::Requires && is_installed(package.folder) => {
-            is_locked_for_development(package, locked)
-        }
-        _ => false,
-    }
-}
-
-// Whether a package is locked for development where the one that wants it is not.
-fn is_locked_for_development(package: Package<'_>, locked: Package<'_>) -> bool
-    ensures { result ≡ is_locked_for_development (view «package».entry.fields.now)
-        (view locked.entry.fields.now) }
-{
-    locked.is("dev") && !package.is("dev") && (!locked.is("optional") || package.is("optional"))
 }
 
 // What is found for a dependency that wants this.
@@ -426,50 +308,57 @@ impl<'a> Target<'a> {
         }
     }
 
-    // The folder from which the paths of the dependency lead, if they are read.
-    fn base(self, path: &str) -> Option<&'a str> {
-        let package = self.dependency.package;
-        let is_packed = package
-            .text("resolved")
-            .is_some_and(|it| it.starts_with("file:"));
-        if is_packed || !is_relative(path) {
-            return None;
+    // Where a path of the dependency leads, if it is read.
+    fn place(self, alloc: Global, path: &str) -> Result<Option<String>, AllocError>
+        ensures { IfOk result (λ place. option_map string_bytes place
+            ≡ place_for path.now (locked_in self.entry)) }
+    {
+        match self.base() {
+            Some(base) if is_relative(path) => Ok(Some(joined(alloc, base, path)?)),
+            _ => Ok(None),
         }
-        match self.dependency.wanted {
-            Wanted::Override(_) => Some(""),
-            Wanted::Text(_) | Wanted::Workspace(_) => Some(package.folder),
+    }
+
+    // The folder from which the paths of the dependency lead.
+    fn base(self) -> Option<&'a str>
+        ensures { option_map (λ t. t.now) result ≡ base_of self.entry.dependency }
+    {
+        let package = self.dependency.package;
+        match package.text("resolved") {
+            Some(resolved) if is_file(resolved) => None,
+            _ => Some(base_by(self.dependency.wanted, package.folder)),
         }
     }
 
     fn folder_outcome(self, alloc: Global, path: &str) -> Result<Outcome<'a>, AllocError>
-        ensures { IfOk result IsPlaceOutcome }
+        ensures { IfOk result (IsFolderOutcome path.now (locked_in self.entry)) }
     {
         if !self.is_link() {
             return Ok(Outcome::Elsewhere);
         }
-        let Some(base) = self.base(path) else {
-            return Ok(Outcome::Skipped(Skip::Address));
-        };
-        if joined(alloc, base, path)?.as_str() == self.package.folder {
-            Ok(Outcome::Satisfied)
-        } else {
-            Ok(Outcome::Elsewhere)
-        }
+        let place = self.place(alloc, path)?;
+        Ok(place_outcome(place.as_deref(), self.package.folder))
     }
 
     fn packed_outcome(self, alloc: Global, path: &str) -> Result<Outcome<'a>, AllocError>
-        ensures { IfOk result IsPlaceOutcome }
+        ensures { IfOk result (IsPackedOutcome path.now (locked_in self.entry)) }
     {
-        let Some(resolved) = self.resolved().and_then(|it| it.strip_prefix("file:")) else {
+        let Some(own) = self.file() else {
             return Ok(Outcome::Elsewhere);
         };
-        let Some(base) = self.base(path) else {
-            return Ok(Outcome::Skipped(Skip::Address));
-        };
-        if joined(alloc, base, path)? == joined(alloc, "", resolved)? {
-            Ok(Outcome::Satisfied)
-        } else {
-            Ok(Outcome::Elsewhere)
+        let own = joined(alloc, "", own)?;
+        let place = self.place(alloc, path)?;
+        Ok(place_outcome(place.as_deref(), &own))
+    }
+
+    // The path of the file from which it comes.
+    fn file(self) -> Option<&'a str>
+        ensures { MatchOption result ((own : List ℕ) → ¬ (IsFromFile (locked_in self.entry) own))
+            (λ own. IsFromFile (locked_in self.entry) own.now) }
+    {
+        match self.resolved() {
+            Some(resolved) => resolved.strip_prefix("file:"),
+            None => None,
         }
     }
 
@@ -482,15 +371,45 @@ impl<'a> Target<'a> {
         ensures { IfOk result (IsRepositoryOutcome (option_map (λ t. t.now) range.entry)
             (locked_in self.entry)) }
     {
-        match (self.resolved().map(Specifier::of), range) {
-            (Some(Specifier::Repository(_)), None) => Ok(Outcome::Skipped(Skip::Address)),
-            (Some(Specifier::Repository(_)), Some(range)) => {
-                match self.range_outcome(alloc, range)? {
-                    Outcome::Satisfied => Ok(Outcome::Skipped(Skip::Address)),
-                    outcome => Ok(outcome),
-                }
-            }
-            _ => Ok(Outcome::Elsewhere),
+        if !self.is_from_repository() {
+            return Ok(Outcome::Elsewhere);
+        }
+        match range {
+            None => Ok(Outcome::Skipped(Skip::Address)),
+            Some(range) => self.ranged_outcome(alloc, range),
+        }
+    }
+
+    // What the range of a repository says of it.
+    fn ranged_outcome(self, alloc: Global, range: &str) -> Result<Outcome<'a>, AllocError>
+        ensures { IfOk result (IsRangedOutcome (Some range.now) (locked_in self.entry)) }
+    {
+        let outcome = self.range_outcome(alloc, range)?;
+        if outcome.is_satisfied() {
+            Ok(Outcome::Skipped(Skip::Address))
+        } else {
+            Ok(outcome)
+        }
+    }
+
+    fn is_from_repository(self) -> bool
+        ensures { IsTrue result ↔ IsFromRepository (locked_in self.entry) }
+    {
+        one_specifier();
+        match self.resolved() {
+            Some(text) => is_repository(Specifier::of(text)),
+            None => false,
+        }
+    }
+
+    // Whether it comes from the address of a packed package.
+    fn is_from_page(self) -> bool
+        ensures { IsTrue result ↔ IsFromPage (locked_in self.entry) }
+    {
+        one_specifier();
+        match self.resolved() {
+            Some(text) => is_page(Specifier::of(text)),
+            None => false,
         }
     }
 
@@ -555,17 +474,51 @@ impl<'a> Target<'a> {
     fn tag_outcome(self, wanted: &str) -> Outcome<'a>
         ensures { IsTagOutcome wanted.now (locked_in self.entry) result }
     {
-        match self.resolved().map(Specifier::of) {
-            _ if !is_tag(wanted) => Outcome::Unread,
-            Some(Specifier::Page(_)) => Outcome::Tagged,
-            _ => Outcome::Untraced,
+        if !is_tag(wanted) {
+            Outcome::Unread
+        } else if self.is_from_page() {
+            Outcome::Tagged
+        } else {
+            Outcome::Untraced
         }
     }
 }
 
-// Whether a path is one that leads from a folder and has no letters that a URL gives a meaning.
-fn is_relative(path: &str) -> bool {
-    !path.starts_with('/')
-        && !path.starts_with('~')
-        && !path.contains(|letter: char| matches!(letter, ':' | '%' | '?' | '#' | '\\'))
+fn is_file(text: &str) -> bool
+    ensures { result ≡ is_file text.now }
+{
+    text.starts_with("file:")
+}
+
+fn is_page(specifier: Specifier<'_>) -> bool
+    ensures { result ≡ is_page specifier.entry }
+{
+    matches!(specifier, Specifier::Page(_))
+}
+
+fn is_repository(specifier: Specifier<'_>) -> bool
+    ensures { result ≡ is_repository specifier.entry }
+{
+    matches!(specifier, Specifier::Repository(_))
+}
+
+// The paths of an override lead from the root project, and others from the package that has them.
+fn base_by<'a>(wanted: Wanted<'_>, folder: &'a str) -> &'a str
+    ensures { result.now ≡ base_by wanted.entry folder.now }
+{
+    match wanted {
+        Wanted::Override(_) => "",
+        Wanted::Text(_) | Wanted::Workspace(_) => folder,
+    }
+}
+
+// What is found in this place where another one is wanted, if that is known.
+fn place_outcome<'a>(wanted: Option<&str>, own: &str) -> Outcome<'a>
+    ensures { IsPlaceOutcome (option_map (λ t. t.now) wanted.entry) own.now result }
+{
+    match wanted {
+        None => Outcome::Skipped(Skip::Address),
+        Some(place) if place == own => Outcome::Satisfied,
+        Some(_) => Outcome::Elsewhere,
+    }
 }

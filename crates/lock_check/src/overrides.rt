@@ -1,26 +1,22 @@
 // `overrides` of the root project, which changes what packages depend on.
 
-ghost use Rattle.lock_check.specs.Internal.Collected.{Extends};
-ghost use Rattle.lock_check.specs.Internal.Overriding.{AreInsideTold, AreItsRules, IsFound};
-ghost use Rattle.lock_check.specs.Internal.Overriding.{IsLost, IsObject, IsPut, IsRuleOf};
-ghost use Rattle.lock_check.specs.Lookups.{IsAt, written_in};
-ghost use Rattle.lock_check.specs.Malformed.{AreRulesTold, HasFault, HasOtherRules, IsFault};
-ghost use Rattle.lock_check.specs.Malformed.{IsFieldFault, OfFields};
-ghost use Rattle.lock_check.specs.Overrides.{IsKey, IsNoRule, referenced, rule_text};
-ghost use Rattle.lock_check.specs.Overrides.{some_text};
+ghost use Rattle.lock_files.specs.Faults.{Extends, HasFault, IsFieldFault, OfFields};
+ghost use Rattle.lock_check.specs.Internal.Overriding.{AreInsideTold, AreItsRules, IsFound, IsLost};
+ghost use Rattle.lock_check.specs.Internal.Overriding.{IsObject, IsPut, IsRuleOf};
+ghost use Rattle.lock_files.specs.Lookups.{IsAt, written_in};
+ghost use Rattle.lock_check.specs.Malformed.{AreRulesTold, HasOtherRules, IsFault};
+ghost use Rattle.lock_check.specs.Overrides.{IsKey, IsNoRule, referenced, rule_text, some_text};
 ghost use Rattle.lock_check.specs.Replacements.{IsReplacement};
-ghost use Rattle.lock_check.specs.declared.lock.Lock.{Lock};
+ghost use Rattle.lock_files.specs.declared.lock.Lock.{Lock};
 ghost use Rattle.semver_core.specs.Lists.{is_empty};
-ghost use Rattle.lock_check.specs.declared.lock.Package.{Package};
+ghost use Rattle.lock_files.specs.declared.lock.Package.{Package};
 ghost use Rattle.serde_json.specs.View.{members_view, view};
 ghost use Rattle.std.specs.Prelude.{◌≡◌, ◌≢◌, ◌++◌, ◌∷◌, [], if◌then◌else◌, ⊤, ℕ};
 ghost use Rattle.std.specs.Prelude.{All, Contains, IfNone, IfOk, IfSome, List};
 ghost use Rattle.std.specs.Prelude.{MatchOption, OnOk, Option, codes, option_map};
 
-use crate::fault::Fault;
-use crate::lock::{Dependency, Field, Package, Wanted};
 use crate::reading::{NpmRange, range, read_range};
-use crate::specifier::{Specifier, is_tag, unsigned};
+use lock_files::{Dependency, Fault, Field, Package, Specifier, Wanted, is_tag, unsigned};
 use nodejs_semver::RangeRef;
 use semver_core::scan::trim;
 use serde_json::{Map, Value};

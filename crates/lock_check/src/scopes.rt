@@ -3,9 +3,8 @@
 ghost use Rattle.lock_check.specs.Internal.Overriding.{AreItsRules, IsLost, IsPut};
 ghost use Rattle.std.specs.Prelude.{◌≡◌, IfOk, MatchOption};
 
-use crate::check::Edge;
-use crate::lock::{Lock, Package, Wanted};
 use crate::overrides::{Overrides, Scope};
+use lock_files::{Edge, Lock, Package, Wanted};
 use std::alloc::{AllocError, Global};
 use std::collections::BTreeMap;
 

@@ -3,15 +3,16 @@ use Rattle.std.specs.Prelude.{◌≡◌, ◌⊎◌, ◌∷◌, ℕ, All, List, M
 use Rattle.serde_json.specs.Data.{Data, Members}
 use Rattle.serde_json.specs.Find.{as_object}
 use Rattle.serde_json.specs.View.{view}
-use Rattle.lock_check.specs.Malformed.{HasFault, IsRuleFault}
+use Rattle.lock_files.specs.Faults.{HasFault}
+use Rattle.lock_check.specs.Malformed.{IsRuleFault}
 use Rattle.lock_check.specs.Overrides.{AreRules, HasKey, IsInPlace, IsNoRule, IsRule, IsRuleFor, referenced}
 use Rattle.lock_check.specs.Overrides.{rules_in}
 use Rattle.lock_check.specs.Replacements.{IsReplacement}
-use Rattle.lock_check.specs.declared.fault.Fault.{Fault}
-use Rattle.lock_check.specs.declared.lock.Dependency.{Dependency}
-use Rattle.lock_check.specs.declared.lock.Package.{Package}
-use Rattle.lock_check.specs.declared.lock.Wanted.{Wanted}
-use Rattle.lock_check.specs.declared.lock.Wanted.TheVariants as wanted
+use Rattle.lock_files.specs.declared.fault.Fault.{Fault}
+use Rattle.lock_files.specs.declared.lock.Dependency.{Dependency}
+use Rattle.lock_files.specs.declared.lock.Package.{Package}
+use Rattle.lock_files.specs.declared.lock.Wanted.{Wanted}
+use Rattle.lock_files.specs.declared.lock.Wanted.TheVariants as wanted
 use Rattle.lock_check.specs.declared.overrides.Rule.{Rule}
 
 -- the package is there, and this holds of its fields

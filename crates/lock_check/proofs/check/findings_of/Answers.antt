@@ -2,11 +2,11 @@ use Rattle.std.proofs.Common.{◌+◌, ◌∷◌, ◌++◌, [], arith, get_or, s
 use Rattle.std.proofs.lemmas.List.Elements.{All-from_all_within, All-get_or, All-push, All-same, AllWithin-more}
 use Rattle.std.proofs.lemmas.List.Elements.{AllWithin-upto, at_read}
 use Rattle.std.specs.List.{AllWithin}
-use Rattle.lock_check.specs.Internal.Collected.{IsAmong}
-use Rattle.lock_check.specs.Judged.{IsEdge, IsFinding}
-use Rattle.lock_check.proofs.Completing.{among-more, among-push}
+use Rattle.lock_check.specs.Internal.Found.{IsAmong}
+use Rattle.lock_files.specs.Edges.{IsEdge}
+use Rattle.lock_check.specs.Judged.{IsFinding}
+use Rattle.lock_check.proofs.Completing.{among-more, among-push, about-push, single-push}
 use Rattle.lock_check.proofs.Judging.{finding-made, lost-refers}
-use Rattle.lock_check.proofs.Single.{about-push, single-push}
 use Rattle.lock_check.proofs.check.findings_of.Goals as goal
 
 pub loop-number-preserved : goal.loop-number-preserved

@@ -1,0 +1,4 @@
+pub mod Collected
+pub mod Nesting
+pub mod Patterns
+pub mod Places
