@@ -13,7 +13,7 @@ use Rattle.lock_check.specs.Internal.Collected.{IsTaken}
 use Rattle.lock_check.specs.Complete.{AreAllJudged, IsLeftOut, IsOf, IsOfDevelopment, rank}
 use Rattle.lock_check.specs.Judged.{as_wanted}
 use Rattle.lock_check.specs.Lookups.{IsAt, IsNearest, IsPackage, packages_of}
-use Rattle.lock_check.specs.Overrides.{IsDependency}
+use Rattle.lock_check.specs.Overrides.{IsDeclared}
 use Rattle.lock_check.specs.declared.check.Edge.{Edge}
 use Rattle.lock_check.specs.declared.finding.Finding.{Finding}
 use Rattle.lock_check.specs.declared.lock.Dependency.{Dependency}
@@ -81,7 +81,7 @@ same_fields : (o : Option Data) (a b : Data) → o ≡ Some a → o ≡ Some b �
 same_fields o a b is so = cc
 
 pub locked-all : (lock : Lock) (p : Package) (found : List Dependency) (edges : List Edge) → IsPackage lock p
-    → All (IsDependency lock) found → AreAllFound p found → All (IsTaken lock edges) found
+    → All (IsDeclared lock) found → AreAllFound p found → All (IsTaken lock edges) found
     → AreAllLocked lock p.folder.now (view p.fields.now) edges
 locked-all lock p found edges is each all taken = λ f name w.
     let h = all f name w in
@@ -91,7 +91,7 @@ locked-all lock p found edges is each all taken = λ f name w.
       | inr out ↦
           let folder = h.2.of_folder in
           let dev = out.2 in
-          let own = (All-contains (IsDependency lock) found d each h.1).0 in
+          let own = (All-contains (IsDeclared lock) found d each h.1).0 in
           let fields : view d.package.fields.now ≡ view p.fields.now =
           same_fields (get p.folder.now (packages_of lock)) (view d.package.fields.now) (view p.fields.now)
           (subst (λ at. get at (packages_of lock) ≡ Some (view d.package.fields.now)) folder own) is in

@@ -19,7 +19,7 @@ use Rattle.serde_json.specs.Find.{as_object}
 use Rattle.serde_json.specs.View.{members_view, view}
 use Rattle.serde_json.specs.declared.value.Value.{Value}
 use Rattle.lock_check.specs.Internal.Collected.{Extends}
-use Rattle.lock_check.specs.Internal.Overriding.{AreInsideTold, AreItsRules, IsAmongRules, IsFound, IsInside, IsLost, IsObject, IsRuleOf}
+use Rattle.lock_check.specs.Internal.Overriding.{AreInsideTold, AreItsRules, IsAmongRules, IsFound, IsInside, IsObject, IsRuleOf}
 use Rattle.lock_check.specs.Internal.Overriding.{OfPackage, below, whole}
 use Rattle.lock_check.specs.Lookups.{IsAt}
 use Rattle.lock_check.specs.Malformed.{AreRulesTold, HasFault, IsFault, IsRuleFault}
@@ -144,6 +144,10 @@ one_key key name range other also (x, a, m, u, n, t, r) (y, b, k, v, o, s, q) =
       n ∙ (ap₂ (λ c l. with_sign c (before_first is_at l)) one.0 one.1 ∙ sym o),
       r ∙ (ap (λ l. if is_empty l then codes "*" else l) middles ∙ sym q),
     )
+
+pub one-name : (key : List ℕ) (value : Data) (a b text other : List ℕ) → IsRuleFor key value a text → IsRuleFor key value b other
+    → a ≡ b
+one-name key value a b text other is so = (one_key key a is.range b so.range is.named so.named).0
 
 -- so it is no rule if the name is empty, or that range is not read, or gives no text with its value
 pub no_rule-textless : (key name range : List ℕ) (value : Data) → IsKey key name range → rule_text range value ≡ None
@@ -357,50 +361,3 @@ upto-all es faults n all_of all = λ found key value in_it has none. elim (insid
     told : (key : List ℕ) (value : Data) → HasKey (members_view es) key value → IsKeyTold faults key value
     told key value has = each-member (λ k v. k ≢ codes "." → IsKeyTold faults k v) es
         (λ i e lt at. all i (subst (λ m. i < m) (sym all_of) lt) e at) key value has.0 has.1
-
--- ---- what a rule puts in the place of a text
-
--- a rule for this name, by what it replaces
-abbrev pub HasRule : Option Package → List ℕ → Replacement → Type 0
-HasRule root name by = OfPackage root (λ fields. (text : List ℕ) × IsRule fields name text × IsReplacement text by)
-
-pub rule-for : (root : Option Package) (rules : List Rule) (r : Rule) (name : List ℕ) → AreItsRules root rules
-    → Contains rules r → true ≡ bytes_eq r.name.now name → HasRule root name r.replacement
-rule-for root rules r name all at same =
-    let of = All-contains (λ r. OfPackage root (λ fields. IsAmongRules fields r)) rules r all at in
-    let for : IsRule (view of.0.fields.now) name of.2.0 =
-    subst (λ n. IsRule (view of.0.fields.now) n of.2.0) ((bytes_eq-Decides r.name.now name).0 (sym same)) of.2.1 in
-    (of.0, of.1, (of.2.0, for, of.2.2))
-
-pub put-said : (root : Option Package) (name : List ℕ) (text : Bor (List ℕ)) → HasRule root name (Text text)
-    → OfPackage root (λ fields. IsInPlace fields name text.now)
-put-said root name text of =
-    let by : IsReplacement of.2.0 (Text text) = of.2.2 in
-    (of.0, of.1, subst (λ t. IsInPlace (view of.0.fields.now) name t) (sym by.0) (said of.2.0 of.2.1 by.1 by.2 by.3))
-
--- what the root project has for a name
-abbrev pub IsReferenced : Option Package → List ℕ → Option (List ℕ) → Type 0
-IsReferenced root other found = MatchOption root ⊤ (λ p. found ≡ referenced (view p.fields.now) other)
-
-pub put-referred : (root : Option Package) (name : List ℕ) (other : Bor (List ℕ)) (text : List ℕ)
-    → HasRule root name (Reference other) → IsReferenced root other.now (Some text)
-    → OfPackage root (λ fields. IsInPlace fields name text)
-put-referred root name other text of found = (
-  of.0,
-  of.1,
-  referred other.now text
-      (subst (λ t. IsRule (view of.0.fields.now) name t) of.2.2 of.2.1)
-      (sym (subst (λ p. IsReferenced p other.now (Some text)) of.1 found)),
-)
-
-pub lost : (root : Option Package) (name : List ℕ) (other : Bor (List ℕ)) → HasRule root name (Reference other)
-    → IsReferenced root other.now None → IsLost root name
-lost root name other of found = (
-  of.0,
-  of.1,
-  (
-    other.now,
-    subst (λ t. IsRule (view of.0.fields.now) name t) of.2.2 of.2.1,
-    sym (subst (λ p. IsReferenced p other.now None) of.1 found),
-  ),
-)

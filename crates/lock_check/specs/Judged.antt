@@ -6,7 +6,7 @@ use Rattle.lock_check.specs.Fields.{is_set}
 use Rattle.lock_check.specs.Lookups.{IsBehind, IsInstalled, IsNearest}
 use Rattle.lock_check.specs.Optional.{MayBeAbsent}
 use Rattle.lock_check.specs.Outcomes.{IsJudged, Locked}
-use Rattle.lock_check.specs.Overrides.{IsDependency, RefersToNothing}
+use Rattle.lock_check.specs.Overrides.{IsDeclared, IsDependency, RefersToNothing}
 use Rattle.lock_check.specs.Specifiers.{IsName}
 use Rattle.lock_check.specs.Workspaces.{AreRead}
 use Rattle.lock_check.specs.declared.check.Edge.{Edge}
@@ -57,7 +57,7 @@ IsOverride _ = ⊥
 
 -- what is found for a dependency for which that is locked
 pub data IsOutcome (lock : Lock) (d : Dependency) : Option Package → Outcome → Type 0 where
-  no_reference : (locked : Option Package) → RefersToNothing lock d.name.now
+  no_reference : (locked : Option Package) → RefersToNothing lock d
       → IsOutcome lock d locked outcome.NoReference
   conflict : (locked : Option Package) → d.package.folder.now ≡ [] → IsOverride d.wanted
       → IsOutcome lock d locked outcome.Conflict
@@ -69,7 +69,7 @@ pub data IsOutcome (lock : Lock) (d : Dependency) : Option Package → Outcome �
 
 -- a dependency, with what is locked for it
 abbrev pub IsEdge : Lock → Edge → Type 0
-IsEdge lock e = IsDependency lock e.dependency
+IsEdge lock e = IsDeclared lock e.dependency
     × IsNearest lock e.dependency.package.folder.now e.dependency.name.now e.locked
 
 -- a finding is that of its texts: a package of the lock file wants that, and it is what that says of

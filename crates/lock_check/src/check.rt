@@ -3,7 +3,7 @@
 ghost use Rattle.lock_check.specs.Internal.Collected.{AreAllFound, AreAllLinked, AreApartEdges};
 ghost use Rattle.lock_check.specs.Internal.Collected.{AreOwn, Extends, IsAmong, IsForDevelopment};
 ghost use Rattle.lock_check.specs.Internal.Collected.{IsOneOf, IsTaken};
-ghost use Rattle.lock_check.specs.Internal.Overriding.{AreItsRules};
+ghost use Rattle.lock_check.specs.Internal.Overriding.{AreChosen};
 ghost use Rattle.lock_check.specs.Internal.Patterns.{AreMeantFound, AreMeantLinked};
 ghost use Rattle.lock_check.specs.Complete.{AreAllJudged, AreSingle, AreWorkspacesJudged};
 ghost use Rattle.lock_check.specs.Complete.{is_locked_for_development};
@@ -11,7 +11,7 @@ ghost use Rattle.lock_check.specs.Judged.{IsEdge, IsFinding, IsLinkOfRoot, IsLoc
 ghost use Rattle.lock_check.specs.Judged.{IsOutcome, IsOwnPeer, as_wanted};
 ghost use Rattle.lock_check.specs.Lookups.{IsAt, IsPackage, packages_of};
 ghost use Rattle.lock_check.specs.Malformed.{AreAllTold, AreTextsTold, HasAllFaults, IsFault};
-ghost use Rattle.lock_check.specs.Overrides.{IsDependency, RefersToNothing};
+ghost use Rattle.lock_check.specs.Overrides.{IsDeclared, RefersToNothing};
 ghost use Rattle.lock_check.specs.Outcomes.{IsInstead, IsJudged, IsPlaceOutcome, IsRangeOutcome};
 ghost use Rattle.lock_check.specs.Outcomes.{IsRegistryOutcome, IsRepositoryOutcome};
 ghost use Rattle.lock_check.specs.Outcomes.{IsSpecifierOutcome, IsTagOutcome, IsTextOutcome};
@@ -110,7 +110,8 @@ fn findings_of<'a>(
 ) -> Result<Vec<Finding<'a>>, AllocError>
     ensures each { All (IsEdge lock.entry) edges.now
         → IsAt lock.entry [] scopes.now.overrides.root
-        → AreItsRules scopes.now.overrides.root scopes.now.overrides.rules.items
+        → AreChosen scopes.now.overrides.root scopes.now.overrides.rules.items edges.now
+        scopes.now.of_edges
         → IfOk result (λ found. All (IsFinding lock.entry) found.items) }
     ensures all { IfOk result (λ found. All (IsAmong found.items) edges.now) }
     ensures single { AreApartEdges edges.now → IfOk result (λ found. AreSingle found.items) }
@@ -163,7 +164,7 @@ fn dependencies<'a>(
     faults: &mut Vec<Fault<'a>>,
 ) -> Result<Dependencies<'a>, AllocError>
     ensures each { IsPackage lock.entry «package».entry
-        → IfOk result (λ found. All (IsDependency lock.entry) found.first.items) }
+        → IfOk result (λ found. All (IsDeclared lock.entry) found.first.items) }
     ensures all { IfOk result (λ found. AreAllFound «package».entry found.first.items) }
     ensures own { IfOk result (λ found. AreOwn «package».entry.folder.now found.first.items) }
     ensures workspaces { IfOk result (λ found. AreMeantFound lock.entry «package».entry
@@ -188,7 +189,7 @@ fn add_edges<'a>(
     dependencies: &[Dependency<'a>],
     edges: &mut Vec<Edge<'a>>,
 ) -> Result<(), AllocError>
-    ensures each { OnOk result (All (IsDependency lock.entry) dependencies.now
+    ensures each { OnOk result (All (IsDeclared lock.entry) dependencies.now
         → All (IsEdge lock.entry) edges.old.items → All (IsEdge lock.entry) edges.new.items) }
     ensures kept { OnOk result (Extends edges.old.items edges.new.items) }
     ensures all { OnOk result (All (IsTaken lock.entry edges.new.items) dependencies.now) }
@@ -239,7 +240,7 @@ fn finding<'a>(
     ensures dependency { IfOk result (λ f. f.dependency
         ≡ as_wanted edge.entry.dependency wanted.entry) }
     ensures outcome { (IsNone wanted.entry
-        → RefersToNothing lock.entry edge.entry.dependency.name.now)
+        → RefersToNothing lock.entry edge.entry.dependency)
         → IfOk result (λ f. IsOutcome lock.entry f.dependency edge.entry.locked f.outcome) }
 {
     let Edge { dependency, locked } = edge;

@@ -9,7 +9,7 @@ ghost use Rattle.lock_check.specs.Optional.{MayBeAbsent};
 ghost use Rattle.lock_check.specs.Fields.{is_set, member_of, text_of};
 ghost use Rattle.lock_check.specs.Judged.{IsOverride};
 ghost use Rattle.lock_check.specs.Lookups.{IsAt, IsBehind, IsClosest, IsNearest};
-ghost use Rattle.lock_check.specs.Overrides.{IsDependency};
+ghost use Rattle.lock_check.specs.Overrides.{IsDeclared};
 ghost use Rattle.lock_check.specs.Lookups.{IsPackage, field_name, installed, written_in};
 ghost use Rattle.lock_check.specs.Outcomes.{accepted_by};
 ghost use Rattle.lock_check.specs.Rows.{wanted_text};
@@ -260,9 +260,9 @@ impl<'a> Dependencies<'a> {
         ensures named { OnOk result (AreNamed self.old → AreNamed self.new) }
         ensures added { OnOk result (AreNamed self.old → self.new.first.items
             ≡ with_first self.old.first.items dependency.entry) }
-        ensures each { OnOk result ((lock : Lock) → IsDependency lock dependency.entry
-            → All (IsDependency lock) self.old.first.items
-            → All (IsDependency lock) self.new.first.items) }
+        ensures each { OnOk result ((lock : Lock) → IsDeclared lock dependency.entry
+            → All (IsDeclared lock) self.old.first.items
+            → All (IsDeclared lock) self.new.first.items) }
     {
         if self.names.insert(dependency.name)? {
             self.first.push(dependency)?;
@@ -381,8 +381,8 @@ pub(crate) fn add_dependencies<'a>(
     faults: &mut Vec<Fault<'a>>,
 ) -> Result<(), AllocError>
     ensures each { OnOk result ((lock : Lock) → IsPackage lock «package».entry
-        → All (IsDependency lock) found.old.first.items
-        → All (IsDependency lock) found.new.first.items) }
+        → All (IsDeclared lock) found.old.first.items
+        → All (IsDeclared lock) found.new.first.items) }
     ensures all { OnOk result (AreWorkspaces «package».entry found.old
         → AreAllFound «package».entry found.new.first.items) }
     ensures own { OnOk result (AreWorkspaces «package».entry found.old

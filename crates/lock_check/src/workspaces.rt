@@ -5,7 +5,7 @@ ghost use Rattle.lock_check.specs.Internal.Patterns.{AreMeantFound, Fits, HasWor
 ghost use Rattle.lock_check.specs.Internal.Patterns.{Keeps, Takes};
 ghost use Rattle.lock_check.specs.Lookups.{IsPackage};
 ghost use Rattle.lock_check.specs.Malformed.{AreTextsTold, IsFault};
-ghost use Rattle.lock_check.specs.Overrides.{IsDependency};
+ghost use Rattle.lock_check.specs.Overrides.{IsDeclared};
 ghost use Rattle.lock_check.specs.Workspaces.{AreFitting, AreRead, IsFitting, IsNoList};
 ghost use Rattle.lock_check.specs.Workspaces.{IsReadItem, IsWorkspace, IsWorkspaceName};
 ghost use Rattle.lock_check.specs.Workspaces.{is_unread, is_wildcard, parts, pattern_of, texts_in};
@@ -173,8 +173,8 @@ pub(crate) fn add_workspaces<'a>(
     faults: &mut Vec<Fault<'a>>,
 ) -> Result<(), AllocError>
     ensures each { OnOk result (IsPackage lock.entry root.entry
-        → All (IsDependency lock.entry) found.old.first.items
-        → All (IsDependency lock.entry) found.new.first.items) }
+        → All (IsDeclared lock.entry) found.old.first.items
+        → All (IsDeclared lock.entry) found.new.first.items) }
     ensures alone { OnOk result (AreWorkspaces root.entry found.old
         → AreWorkspaces root.entry found.new) }
     ensures all { OnOk result (AreWorkspaces root.entry found.old
@@ -226,8 +226,8 @@ fn add_workspace<'a>(
     ensures each { OnOk result (IsPackage lock.entry root.entry
         → root.entry.folder.now ≡ []
         → IsWorkspace (view root.entry.fields.now) lock.entry folder.now
-        → All (IsDependency lock.entry) found.old.first.items
-        → All (IsDependency lock.entry) found.new.first.items) }
+        → All (IsDeclared lock.entry) found.old.first.items
+        → All (IsDeclared lock.entry) found.new.first.items) }
     ensures alone { OnOk result (AreWorkspaces root.entry found.old
         → AreWorkspaces root.entry found.new) }
     ensures more { OnOk result (AreWorkspaces root.entry found.old

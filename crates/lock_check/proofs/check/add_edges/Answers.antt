@@ -5,7 +5,7 @@ use Rattle.lock_check.proofs.Completing.{extends-more, extends-same, taken-kept,
 use Rattle.lock_check.proofs.Single.{IsOneBefore, apart-push, before-all, before-more, before-push}
 use Rattle.lock_check.specs.Internal.Collected.{AreApartEdges, Extends, IsTaken}
 use Rattle.lock_check.specs.Judged.{IsEdge}
-use Rattle.lock_check.specs.Overrides.{IsDependency}
+use Rattle.lock_check.specs.Overrides.{IsDeclared}
 use Rattle.lock_check.specs.declared.check.Edge.{Edge}
 use Rattle.lock_check.proofs.check.add_edges.Goals.{then-not-is_of_development+in_ok-push, else-not-is_of_development}
 use Rattle.lock_check.proofs.check.add_edges.Goals as goal
@@ -32,8 +32,8 @@ loop-dependency-preserved c =
           let same : after ≡ before ++ edge ∷ [] = ap (λ v. v.items) w.edges-is ∙ w.in_ok-push.ensures.items in
           let longer : Extends before after = (edge ∷ [], same) in record {
             each = λ deps all.
-                let is = subst (λ d. IsDependency lock d) (sym c.dependency-item.is)
-                (All-get_or (IsDependency lock) c.args.dependencies.now i r (omega arith) deps) in
+                let is = subst (λ d. IsDeclared lock d) (sym c.dependency-item.is)
+                (All-get_or (IsDeclared lock) c.args.dependencies.now i r (omega arith) deps) in
                 All-same (IsEdge lock) after (before ++ edge ∷ []) same
                 (All-push (IsEdge lock) before edge (c.loop-dependency.invariant.each deps all) (is, c.in_ok-locked.ensures));
             kept = extends-more c.args.edges.now.items before after edge c.loop-dependency.invariant.kept same;

@@ -3,12 +3,12 @@ use Rattle.std.specs.List.{AllWithin}
 use Rattle.lock_check.proofs.Single.{IsOneBefore}
 use Rattle.lock_check.specs.Internal.Collected.{AreApartEdges, AreOwn, Extends, IsTaken}
 use Rattle.lock_check.specs.Judged.{IsEdge}
-use Rattle.lock_check.specs.Overrides.{IsDependency}
+use Rattle.lock_check.specs.Overrides.{IsDeclared}
 use Rattle.lock_check.proofs.check.add_edges.Given as goal
 
 abbrev pub invariant-loop-dependency : goal.invariant-loop-dependency
 invariant-loop-dependency l = record {
-  each : All (IsDependency l.lock) l.dependencies → All (IsEdge l.lock) l.fn.edges.items
+  each : All (IsDeclared l.lock) l.dependencies → All (IsEdge l.lock) l.fn.edges.items
       → All (IsEdge l.lock) l.edges.items;
   kept : Extends l.fn.edges.items l.edges.items;
   all : AllWithin (IsTaken l.lock l.edges.items) l.dependencies 0 l.dependency-index;

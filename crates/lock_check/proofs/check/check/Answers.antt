@@ -5,9 +5,11 @@ use Rattle.lock_check.proofs.Judging.{ruled}
 use Rattle.lock_check.specs.Internal.Collected.{AreAllLinked, AreApartEdges}
 use Rattle.serde_json.specs.Data.{Data}
 use Rattle.serde_json.specs.Find.{get}
+use Rattle.lock_check.specs.Internal.Overriding.{AreAllLaid, AreChosen}
+use Rattle.lock_check.specs.declared.lock.Package.{Package}
 use Rattle.lock_check.specs.Internal.Patterns.{AreMeantLinked}
 use Rattle.lock_check.specs.Judged.{IsEdge}
-use Rattle.std.proofs.Common.{◌≡◌, ◌∙◌, All, List, [], None, Some, ℕ, ap, not, refl, subst, sym}
+use Rattle.std.proofs.Common.{◌≡◌, ◌∙◌, All, List, [], None, Option, Some, ℕ, ap, not, refl, subst, sym}
 use Rattle.lock_check.proofs.Telling.{all-kept, fault-added, fault-kept, has-root, no-root}
 use Rattle.lock_check.proofs.Overriding.{all-added, all-none}
 use Rattle.lock_check.specs.Lookups.{IsAt, packages_of}
@@ -19,8 +21,12 @@ use Rattle.lock_check.proofs.check.check.Goals as goal
 
 pub returns-clause-each : goal.returns-clause-each
 returns-clause-each c =
-    let rules = ruled c.args.lock c.package-2.result c.in_ok-overrides.overrides c.in_ok-scopes.scopes.overrides
-    c.package-2.ensures c.in_ok-overrides.ensures.root c.in_ok-overrides.ensures.rules c.in_ok-scopes.ensures in
+    let chosen = subst (λ edges. (root : Option Package) → AreAllLaid root c.in_ok-overrides.overrides.rules.items
+    → AreChosen root c.in_ok-overrides.overrides.rules.items edges c.in_ok-scopes.scopes.of_edges)
+    (c.deref.ensures.value ∙ sym c.deref-2.ensures.value) c.in_ok-scopes.ensures.chosen in
+    let rules = ruled c.args.lock c.package-2.result c.in_ok-overrides.overrides c.in_ok-scopes.scopes.overrides c.deref-2.result.now
+    c.in_ok-scopes.scopes.of_edges c.package-2.ensures c.in_ok-overrides.ensures.root c.in_ok-overrides.ensures.laid chosen
+    c.in_ok-scopes.ensures.same in
     c.in_ok-of_dependencies.ensures.each
     (All-same (IsEdge c.args.lock) c.deref-2.result.now c.in_ok-edges.edges.items c.deref-2.ensures.value
     c.in_ok-edges.ensures.each) rules.0 rules.1

@@ -13,7 +13,7 @@ use Rattle.lock_check.proofs.Telling.{all-kept, texts-kept}
 use Rattle.lock_check.specs.Internal.Patterns.{AreMeantLinked}
 use Rattle.lock_check.specs.Malformed.{AreTextsTold, HasAllFaults}
 use Rattle.lock_check.specs.Lookups.{IsAt}
-use Rattle.lock_check.specs.Overrides.{IsDependency}
+use Rattle.lock_check.specs.Overrides.{IsDeclared}
 use Rattle.lock_check.proofs.check.edges.Goals as goal
 
 pub loop-folder-preserved-in-Some-package : goal.loop-folder-preserved-in-Some-package
@@ -39,7 +39,7 @@ loop-folder-preserved-in-Some-package c =
     let taken = All-same (IsTaken lock after) found c.as_slice.result.now (sym c.as_slice.ensures)
     c.in_ok-add_edges.ensures.all in record {
       each = c.in_ok-add_edges.ensures.each
-          (All-same (IsDependency lock) c.as_slice.result.now found c.as_slice.ensures each)
+          (All-same (IsDeclared lock) c.as_slice.result.now found c.as_slice.ensures each)
           c.loop-folder.invariant.each;
       all = subst (λ keys. AreEach lock keys now) (sym (map-append deref c.loop-folder.yielded (key ∷ [])))
           (each-more lock (map deref c.loop-folder.yielded) key.now (λ folder fields. AreAllLocked lock folder fields before) now

@@ -1,6 +1,7 @@
-use Rattle.std.proofs.Common.{◌+◌, ◌∷◌, ◌++◌, [], arith, get_or, subst, sym}
+use Rattle.std.proofs.Common.{◌+◌, ◌∷◌, ◌++◌, [], arith, get_or, refl, subst, sym}
 use Rattle.std.proofs.lemmas.List.Elements.{All-from_all_within, All-get_or, All-push, All-same, AllWithin-more}
 use Rattle.std.proofs.lemmas.List.Elements.{AllWithin-upto, at_read}
+use Rattle.std.proofs.lemmas.Option.{slice_get_read}
 use Rattle.std.specs.List.{AllWithin}
 use Rattle.lock_check.specs.Internal.Collected.{IsAmong}
 use Rattle.lock_check.specs.Judged.{IsEdge, IsFinding}
@@ -19,7 +20,8 @@ loop-number-preserved c =
       each = λ all at rules.
           let is = subst (λ d. IsEdge lock d) (sym c.index-edges-number.is)
           (All-get_or (IsEdge lock) c.args.edges.now c.loop-number.number e (omega arith) all) in
-          let ruled = c.wanted-wanted.ensures.put rules in
+          let ruled = c.wanted-wanted.ensures c.args.edges.now rules
+          (slice_get_read c.args.edges.now _ c.loop-number.number e refl (omega arith) c.index-edges-number.is) in
           All-same (IsFinding lock) c.push.new.self.items (before ++ f ∷ []) same
           (All-push (IsFinding lock) before f (c.loop-number.invariant.each all at rules)
           (finding-made lock c.args.scopes.now.overrides.root e c.wanted-wanted.result f at is ruled c.in_ok-finding.ensures.dependency

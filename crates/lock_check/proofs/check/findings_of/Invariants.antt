@@ -3,7 +3,7 @@ use Rattle.std.specs.List.{AllWithin}
 use Rattle.lock_check.proofs.Single.{IsAbout}
 use Rattle.lock_check.specs.Complete.{AreSingle}
 use Rattle.lock_check.specs.Internal.Collected.{AreApartEdges, IsAmong}
-use Rattle.lock_check.specs.Internal.Overriding.{AreItsRules}
+use Rattle.lock_check.specs.Internal.Overriding.{AreChosen}
 use Rattle.lock_check.specs.Judged.{IsEdge, IsFinding}
 use Rattle.lock_check.specs.Lookups.{IsAt}
 use Rattle.lock_check.proofs.check.findings_of.Given as goal
@@ -11,7 +11,8 @@ use Rattle.lock_check.proofs.check.findings_of.Given as goal
 abbrev pub invariant-loop-number : goal.invariant-loop-number
 invariant-loop-number l = record {
   each : All (IsEdge l.lock) l.edges → IsAt l.lock [] l.scopes.overrides.root
-      → AreItsRules l.scopes.overrides.root l.scopes.overrides.rules.items → All (IsFinding l.lock) l.findings.items;
+      → AreChosen l.scopes.overrides.root l.scopes.overrides.rules.items l.edges l.scopes.of_edges
+      → All (IsFinding l.lock) l.findings.items;
   all : AllWithin (IsAmong l.findings.items) l.edges 0 l.number;
   about : All (IsAbout l.edges l.number) l.findings.items;
   single : AreApartEdges l.edges → AreSingle l.findings.items;

@@ -3,14 +3,14 @@ use Rattle.std.specs.Map.Iter.{deref}
 use Rattle.lock_check.specs.Internal.Collected.{AreWorkspaces, Extends}
 use Rattle.lock_check.specs.Lookups.{IsPackage}
 use Rattle.lock_check.specs.Malformed.{IsFault}
-use Rattle.lock_check.specs.Overrides.{IsDependency}
+use Rattle.lock_check.specs.Overrides.{IsDeclared}
 use Rattle.lock_check.proofs.Items.{AreItemsFound, AreItemsTold, AreKeysFound}
 use Rattle.lock_check.proofs.workspaces.add_workspaces.Given as goal
 
 abbrev pub invariant-loop-item : goal.invariant-loop-item
 invariant-loop-item l = record {
-  each : IsPackage l.lock l.root → All (IsDependency l.lock) l.fn.found.first.items
-      → All (IsDependency l.lock) l.found.first.items;
+  each : IsPackage l.lock l.root → All (IsDeclared l.lock) l.fn.found.first.items
+      → All (IsDeclared l.lock) l.found.first.items;
   alone : AreWorkspaces l.root l.fn.found → AreWorkspaces l.root l.found;
   all : AreWorkspaces l.root l.fn.found
       → AreItemsFound l.lock l.root l.item-items l.item-index l.found.first.items;
@@ -21,8 +21,8 @@ invariant-loop-item l = record {
 
 abbrev pub invariant-loop-folder : goal.invariant-loop-folder
 invariant-loop-folder l = record {
-  each : IsPackage l.lock l.root → All (IsDependency l.lock) l.fn.found.first.items
-      → All (IsDependency l.lock) l.found.first.items;
+  each : IsPackage l.lock l.root → All (IsDeclared l.lock) l.fn.found.first.items
+      → All (IsDeclared l.lock) l.found.first.items;
   alone : AreWorkspaces l.root l.fn.found → AreWorkspaces l.root l.found;
   all : AreWorkspaces l.root l.fn.found
       → AreItemsFound l.lock l.root l.item-items l.item-index l.found.first.items;
