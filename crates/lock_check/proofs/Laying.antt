@@ -1,6 +1,6 @@
 -- The rules of `overrides` as they are laid out, and which of them is found.
 use Rattle.std.proofs.Common.{◌≡◌, ◌≢◌, ◌≤◌, ◌<◌, ◌+◌, ◌⊎◌, ◌∙◌, [], List, None, Option, Some, ap, arith, codes, false, inl, inr, length, refl}
-use Rattle.std.proofs.Common.{subst, suc, sym, true, unwrap_or, zero, ℕ}
+use Rattle.std.proofs.Common.{subst, suc, sym, true, unwrap_or, ℕ}
 use Rattle.std.proofs.Common.{◌∷◌, ◌++◌, Global, String, append_assoc, drop, length-append, string_bytes}
 use Rattle.std.proofs.Math.Seq.{drop-cons, get_or-append_seam}
 use Rattle.std.proofs.lemmas.Bool.{cases_lt, cases_order}
@@ -13,9 +13,9 @@ use Rattle.serde_json.specs.Data.{Data, Members, member, no_members}
 use Rattle.serde_json.specs.Find.{as_object}
 use Rattle.serde_json.specs.View.{members_view, view}
 use Rattle.serde_json.specs.declared.value.Value.{Value}
-use Rattle.lock_check.proofs.Completing.{extends-on}
-use Rattle.lock_check.specs.Internal.Collected.{Extends}
-use Rattle.lock_check.specs.Internal.Overriding.{AreAllLaid, AreLaid, IsAboutIf, IsClosed, IsFirstHit, IsFound, IsHit, IsMiss, IsMissedBy}
+use Rattle.lock_files.proofs.Added.{extends-on}
+use Rattle.lock_files.specs.Faults.{Extends}
+use Rattle.lock_check.specs.Internal.Overriding.{AreAllLaid, AreLaid, IsAboutIf, IsFirstHit, IsFound, IsHit, IsMiss, IsMissedBy}
 use Rattle.lock_check.specs.Internal.Overriding.{IsFoundScope, IsInnerScope, IsOwnRange, IsReachedBy, IsRuleAt, IsRuleOf, IsScopeOf}
 use Rattle.lock_check.specs.Internal.Overriding.AreLaid.{laid, nothing, passed}
 use Rattle.lock_check.specs.Internal.Overriding.IsScopeOf.{at_top, in_rule}
@@ -25,9 +25,9 @@ use Rattle.lock_check.specs.Overrides.{IsRuleFound as step}
 use Rattle.lock_check.specs.Overrides.IsMet.{any, reached}
 use Rattle.lock_check.specs.Overrides.IsNotAbout.{another, dot, no_rule, unmet}
 use Rattle.lock_check.specs.Overrides.Place.{rule, top}
-use Rattle.lock_check.specs.declared.lock.Dependency.{Dependency}
-use Rattle.lock_check.specs.declared.lock.Package.{Package}
-use Rattle.lock_check.specs.declared.lock.Wanted.{Wanted}
+use Rattle.lock_files.specs.declared.lock.Dependency.{Dependency}
+use Rattle.lock_files.specs.declared.lock.Package.{Package}
+use Rattle.lock_files.specs.declared.lock.Wanted.{Wanted}
 use Rattle.lock_check.specs.declared.overrides.Rule.{Rule}
 use Rattle.lock_check.specs.declared.overrides.Scope.{Scope}
 use Rattle.lock_check.specs.declared.overrides.Scope.TheVariants as scope

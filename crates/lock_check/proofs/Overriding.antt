@@ -1,50 +1,41 @@
 -- The rules of `overrides`.
-use Rattle.std.proofs.Common.{true≢false, length-append, ◌<◌, ◌+◌, ◌⊎◌, ◌∙◌, Bool, ap₂, arith, below_more, drop, append_assoc, codes, false, get_or, if◌then◌else◌, length, refl}
-use Rattle.std.proofs.Common.{◌≡◌, ◌∷◌, ◌++◌, [], All, Contains, Global, List, None, Option, Some, String, ap, inl, inr, string_bytes, subst, suc, sym, true, unwrap_or, zero, ℕ}
-use Rattle.std.proofs.lemmas.List.Elements.{All-contains, All-nil, All-push, All-same}
+use Rattle.std.proofs.Common.{true≢false, length-append, ◌<◌, ◌+◌, ◌⊎◌, ◌∙◌, Bool, ap₂, arith, below_more, drop, append_assoc, codes, encode_utf8, false, get_or, if◌then◌else◌, length, refl}
+use Rattle.std.proofs.Common.{◌≡◌, ◌∷◌, ◌++◌, [], Global, List, None, Option, Some, String, ap, inl, inr, string_bytes, subst, suc, sym, true, unwrap_or, zero, ℕ}
 use Rattle.std.proofs.lemmas.Bool.{eqb-true}
 use Rattle.std.proofs.lemmas.List.{append_cancel_right, drop_all, take_all}
 use Rattle.std.proofs.lemmas.List.Sums.{passes_at_first, split_at_first}
 use Rattle.std.proofs.lemmas.Slice.Eq.{bytes_eq-Decides}
+use Rattle.std.proofs.lemmas.Str.{encode_ascii}
 use Rattle.std.specs.List.{after_first, before_first, position_or_len}
 use Rattle.std.specs.Str.Pattern.{FindsCharSuffix, StripsSuffix}
 use Rattle.semver_core.specs.Lists.{is_empty}
 use Rattle.semver_core.specs.Text.Characters.{IsTrim}
-use Rattle.lock_check.specs.Specifiers.{IsUnsigned, with_sign}
-use Rattle.std.specs.Prelude.{⊤, ◌≢◌, IfNone, MatchOption, bytes_eq, slice_get}
+use Rattle.lock_files.specs.Specifiers.{IsUnsigned, with_sign}
+use Rattle.std.specs.Prelude.{◌≢◌, IfNone, MatchOption, bytes_eq, slice_get}
 use Rattle.std.specs.Borrow.{Bor}
 use Rattle.serde_json.specs.Data.{Data, Members, array, boolean, depth, member, members_depth, no_members, null, number, object}
 use Rattle.serde_json.specs.Data.{string}
 use Rattle.serde_json.specs.Find.{as_object}
 use Rattle.serde_json.specs.View.{members_view, view}
 use Rattle.serde_json.specs.declared.value.Value.{Value}
-use Rattle.lock_check.specs.Internal.Collected.{Extends}
-use Rattle.lock_check.specs.Internal.Overriding.{AreInsideTold, AreItsRules, IsAmongRules, IsFound, IsInside, IsObject, IsRuleOf}
-use Rattle.lock_check.specs.Internal.Overriding.{OfPackage, below, whole}
-use Rattle.lock_check.specs.Lookups.{IsAt}
-use Rattle.lock_check.specs.Malformed.{AreRulesTold, HasFault, IsFault, IsRuleFault}
-use Rattle.lock_check.specs.Overrides.{AreRules, HasKey, HasMember, IsInPlace, IsKey, IsNoRule, IsRule, IsRuleFor, inner, is_at}
-use Rattle.lock_check.specs.Overrides.{outermost, referenced, referred, rule_text, rules_in, said}
-use Rattle.lock_check.specs.declared.fault.Fault.{Fault}
-use Rattle.lock_check.specs.declared.fault.Fault.TheVariants as fault
-use Rattle.lock_check.specs.declared.lock.Lock.{Lock}
-use Rattle.lock_check.proofs.Telling.{fault-added, fault-kept}
+use Rattle.lock_files.specs.Faults.{Extends, HasFault}
+use Rattle.lock_check.specs.Internal.Overriding.{AreInsideTold, IsAmongRules, IsFound, IsInside}
+use Rattle.lock_check.specs.Internal.Overriding.{IsObject, IsRuleOf, OfPackage, below, whole}
+use Rattle.lock_files.specs.Lookups.{IsAt}
+use Rattle.lock_check.specs.Malformed.{AreRulesTold, IsFault, IsRuleFault}
+use Rattle.lock_check.specs.Overrides.{AreRules, HasKey, HasMember, IsKey, IsNoRule}
+use Rattle.lock_check.specs.Overrides.{IsRuleFor, inner, is_at, outermost, rule_text}
+use Rattle.lock_check.specs.Overrides.{rules_in}
+use Rattle.lock_files.specs.declared.fault.Fault.{Fault}
+use Rattle.lock_files.specs.declared.fault.Fault.TheVariants as fault
+use Rattle.lock_files.specs.declared.lock.Lock.{Lock}
+use Rattle.lock_files.proofs.Added.{fault-added, fault-kept}
+use Rattle.lock_files.proofs.Parts.{one_trim}
 use Rattle.npm_words.specs.Alternatives.{HasAlternativesIn}
-use Rattle.semver_core.proofs.Text.Trims.{middle_is_trim}
 use Rattle.semver_core.specs.Failures.{NoValue}
 use Rattle.semver_core.specs.declared.TheConstants.{MAX_SAFE_INTEGER}
-use Rattle.lock_check.specs.Replacements.{IsReplacement}
-use Rattle.lock_check.specs.declared.lock.Package.{Package}
-use Rattle.lock_check.specs.declared.overrides.Replacement.{Replacement}
-use Rattle.lock_check.specs.declared.overrides.Replacement.TheVariants.{Reference, Text}
+use Rattle.lock_files.specs.declared.lock.Package.{Package}
 use Rattle.lock_check.specs.declared.overrides.Rule.{Rule}
-
-pub all-none : {X : Type 0} (P : X → Type 0) (items : List X) → items ≡ [] → All P items
-all-none P items none = All-same P items [] none (All-nil P)
-
-pub all-added : {X : Type 0} (P : X → Type 0) (before items : List X) (x : X) → All P before
-    → items ≡ before ++ x ∷ [] → P x → All P items
-all-added P before items x all same here = All-same P items (before ++ x ∷ []) same (All-push P before x all here)
 
 -- ---- a name and a range in a key
 
@@ -133,9 +124,6 @@ one_unsigned key a b false false u v = (refl, sym u.whole ∙ v.whole)
 one_unsigned key a b true false u v = absurd (v.front refl a u.whole)
 one_unsigned key a b false true u v = absurd (u.front refl b v.whole)
 
-pub one_trim : (text middle other : List ℕ) → IsTrim text middle → IsTrim text other → middle ≡ other
-one_trim text middle other t u = middle_is_trim text middle t ∙ sym (middle_is_trim text other u)
-
 one_key : (key name range other also : List ℕ) → IsKey key name range → IsKey key other also
     → (name ≡ other) × (range ≡ also)
 one_key key name range other also (x, a, m, u, n, t, r) (y, b, k, v, o, s, q) =
@@ -206,7 +194,7 @@ pub fault-made : (lock : Lock) (root : Option Package) (rules : Members) (key : 
     → IsObject root rules → HasKey rules key.now value → IsNoRule key.now value → IsFault lock (fault.Override key)
 fault-made lock root rules key value at of has none =
     let found = subst (λ r. IsAt lock [] r) of.1 at in
-    (view of.0.fields.now, found.1, record { rules = rules; value = value; among = of.2; has = has; none = none })
+    inr (view of.0.fields.now, found.1, record { rules = rules; value = value; among = of.2; has = has; none = none })
 
 -- an entry of an object is a member of it
 pub has-key : (es : List (String Global × Value)) (n : ℕ) (key : String Global) (value : Value) (name : List ℕ)
@@ -361,3 +349,8 @@ upto-all es faults n all_of all = λ found key value in_it has none. elim (insid
     told : (key : List ℕ) (value : Data) → HasKey (members_view es) key value → IsKeyTold faults key value
     told key value has = each-member (λ k v. k ≢ codes "." → IsKeyTold faults k v) es
         (λ i e lt at. all i (subst (λ m. i < m) (sym all_of) lt) e at) key value has.0 has.1
+
+-- a text that does not begin with an encoded `$` does not begin with its byte
+pub no_dollar : (text : List ℕ) → ((rest : List ℕ) → text ≢ encode_utf8 36 ++ rest) → (name : List ℕ)
+    → text ≢ 36 ∷ name
+no_dollar text none name e = none name (e ∙ ap (λ t. t ++ name) (sym (encode_ascii 36 (omega arith))))

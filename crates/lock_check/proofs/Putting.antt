@@ -1,29 +1,29 @@
 -- What a rule puts in the place of what is wanted.
-use Rattle.std.proofs.Common.{◌≡◌, ◌∷◌, ◌∙◌, [], List, None, Option, Some, ap, codes, inl, inr, refl, subst, sym, unwrap_or, ℕ}
+use Rattle.std.proofs.Common.{◌≡◌, ◌∙◌, [], List, None, Option, Some, ap, inl, inr, refl, subst, sym, unwrap_or, ℕ}
 use Rattle.std.specs.Borrow.{Bor}
-use Rattle.std.specs.Prelude.{⊤, MatchOption, slice_get}
+use Rattle.std.specs.Prelude.{⊤, IfSome, MatchOption, slice_get}
 use Rattle.serde_json.specs.Data.{Data, Members, member, no_members}
 use Rattle.serde_json.specs.View.{view}
 use Rattle.lock_check.proofs.Laying.{rule-place, top-by-rule, top-place}
 use Rattle.lock_check.proofs.Overriding.{one-name}
-use Rattle.lock_check.specs.Internal.Overriding.{AreAllLaid, AreChosen, AreSomewhere, IsAfter, IsChosen, IsInnerScope, IsLed, IsRuleAt, IsRuleOf, IsScopeOf, IsSomewhere, OfPackage}
-use Rattle.lock_check.specs.Overrides.{HasMember, HasText, IsAbout, IsFirst, IsInPlace, IsKey, IsMeantIn, IsOverridden, IsPlace, IsPutBy, IsRuleFor}
+use Rattle.lock_check.specs.Internal.Overriding.{AreAllLaid, AreChosen, AreSomewhere, IsAfter, IsChosen, IsInnerScope, IsLed, IsRuleAt, IsScopeOf, IsSomewhere, OfPackage}
+use Rattle.lock_check.specs.Overrides.{HasMember, HasNoFile, HasText, IsAbout, IsFirst, IsInPlace, IsKey, IsMeantIn, IsOverridden, IsPlace, IsPutBy}
 use Rattle.lock_check.specs.Overrides.{IsRuleFound, Place, nested_in, referenced}
 use Rattle.lock_check.specs.Overrides.IsInPlace.{referred, said}
 use Rattle.lock_check.specs.Overrides.IsPlace.{at_top, in_rule}
-use Rattle.lock_check.specs.Overrides.IsPutBy.{kept, lost, nothing, put}
+use Rattle.lock_check.specs.Overrides.IsPutBy.{kept, lost, nothing}
 use Rattle.lock_check.specs.Overrides.IsRuleFound.{first, none, outside, own}
 use Rattle.lock_check.specs.Overrides.Place.{rule, top}
 use Rattle.lock_check.specs.Replacements.{IsReplacement}
-use Rattle.lock_check.specs.declared.lock.Dependency.{Dependency}
-use Rattle.lock_check.specs.declared.lock.Package.{Package}
-use Rattle.lock_check.specs.declared.lock.Wanted.{Wanted}
+use Rattle.lock_files.specs.declared.lock.Dependency.{Dependency}
+use Rattle.lock_files.specs.declared.lock.Package.{Package}
+use Rattle.lock_files.specs.declared.lock.Wanted.{Wanted}
 use Rattle.lock_check.specs.declared.overrides.Replacement.{Replacement}
 use Rattle.lock_check.specs.declared.overrides.Replacement.TheVariants.{Nothing, Reference, Text}
 use Rattle.lock_check.specs.declared.overrides.Rule.{Rule}
 use Rattle.lock_check.specs.declared.overrides.Scope.{Scope}
 use Rattle.lock_check.specs.declared.overrides.Scope.TheVariants as scope
-use Rattle.lock_check.specs.declared.check.Edge.{Edge}
+use Rattle.lock_files.specs.declared.edge.Edge.{Edge}
 use Rattle.std.proofs.lemmas.Map.Lookups.{exact_unsigned}
 use Rattle.std.specs.BTreeMap.{BTreeMap, Updates, get, is_at}
 use Rattle.std.specs.Cmp.Lexicographic.{slice_cmp}
@@ -172,18 +172,22 @@ at-top {rules} {root} s same = subst (IsSomewhere rules root) (sym same) (top, a
 pub after-made : (root : Option Package) (rules : List Rule) (edges : List Edge) (n : ℕ) (e : Edge) (s : Scope) (w : Option Wanted)
     → OfPackage root (λ fields. IsChosen rules fields edges n s) → slice_get edges n ≡ Some e
     → ((p : Package) (place : Place) → root ≡ Some p → IsScopeOf rules s place
-    → IsPutBy (view p.fields.now) place e.dependency w) → IsAfter root e.dependency w
-after-made root rules edges n e s w (p, is, (x, here, holds, (around, at, (place, scope', meant)))) same puts =
+    → IsPutBy (view p.fields.now) place e.dependency w)
+    → IfSome e.locked (λ p. HasNoFile (view p.fields.now)) → IsAfter root e w
+after-made root rules edges n e s w (p, is, (x, here, holds, (around, at, (place, is_scope, meant)))) same puts loose =
     let one : x ≡ e = ap (λ o. unwrap_or o x) (sym here ∙ same) in
     inr (
-      p,
-      is,
-      record {
-        holds = subst (λ y. IsOverridden y.dependency) one holds;
-        around = around;
-        is_place = at;
-        meant = place;
-        is_meant = subst (λ y. IsMeantIn (view p.fields.now) y.dependency around place) one meant;
-        puts = puts p place is scope';
-      },
+      loose,
+      (
+        p,
+        is,
+        record {
+          holds = subst (λ y. IsOverridden y.dependency) one holds;
+          around = around;
+          is_place = at;
+          meant = place;
+          is_meant = subst (λ y. IsMeantIn (view p.fields.now) y.dependency around place) one meant;
+          puts = puts p place is is_scope;
+        },
+      ),
     )

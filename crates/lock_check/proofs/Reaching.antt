@@ -1,5 +1,5 @@
 -- Which dependencies the range of a rule reaches.
-use Rattle.std.proofs.Common.{◌≡◌, ◌∙◌, Bool, IsUtf8, List, None, Option, Some, ap, false, inr, not, refl, subst, sym, true, ℕ}
+use Rattle.std.proofs.Common.{◌≡◌, ◌∙◌, Bool, IsUtf8, List, Some, ap, false, inr, not, refl, subst, sym, true, ℕ}
 use Rattle.std.specs.Prelude.{◌↔◌, IsTrue, is_some}
 use Rattle.nodejs_semver.specs.Cuts.{Span}
 use Rattle.nodejs_semver.specs.Ranges.Algebra.{intersection}
@@ -13,10 +13,11 @@ use Rattle.lock_check.specs.Overrides.MayBeIn.{range, tag}
 use Rattle.lock_check.specs.Readings.{IsNotWanted, IsUnknown, IsWanted}
 use Rattle.lock_check.specs.Readings.IsUnknown.{differs, great}
 use Rattle.lock_check.specs.Readings.IsWanted.{loose, strict}
-use Rattle.lock_check.specs.Specifiers.{IsTag, IsWantedAs}
-use Rattle.lock_check.specs.declared.lock.Dependency.{Dependency}
+use Rattle.lock_files.specs.Specifiers.{IsTag}
+use Rattle.lock_files.specs.Wanted.{IsWantedAs}
+use Rattle.lock_files.specs.declared.lock.Dependency.{Dependency}
 use Rattle.lock_check.specs.declared.overrides.Rule.{Rule}
-use Rattle.lock_check.specs.declared.specifier.Specifier.{Specifier}
+use Rattle.lock_files.specs.declared.specifier.Specifier.{Specifier}
 
 one-range : (l : Bool) (text : List ℕ) (a b : List (Span VersionValue)) → IsUtf8 text → IsRangeIn l MAX_SAFE_INTEGER false text a
     → IsRangeIn l MAX_SAFE_INTEGER false text b → a ≡ b

@@ -1,8 +1,10 @@
--- Statement: the whole report on a lock file.
-use Rattle.std.specs.Prelude.{◌≡◌, ◌<◌, ◌++◌, ℕ, Bool, true, false, List, [], All, filter, length, map}
+-- Statement: the whole report on a lock file and the `package.json` beside it.
+use Rattle.std.specs.Prelude.{◌≡◌, ◌<◌, ◌++◌, ℕ, Bool, true, false, List, [], Option, All, filter, length}
+use Rattle.std.specs.Prelude.{if◌then◌else◌, map, string_bytes}
 use Rattle.std.specs.BTreeMap.{btree_map_len}
-use Rattle.std.specs.Prelude.{if◌then◌else◌, string_bytes}
 use Rattle.std.specs.List.{flat_map}
+use Rattle.serde_json.specs.Data.{Data}
+use Rattle.lock_files.specs.Documents.{AreOf}
 use Rattle.lock_check.specs.Complete.{AreAllJudged, AreSingle, AreWorkspacesJudged}
 use Rattle.lock_check.specs.Findings.{AreSkips, count_of, is_told, kind_of}
 use Rattle.lock_check.specs.Judged.{IsFinding}
@@ -10,11 +12,11 @@ use Rattle.lock_check.specs.Malformed.{AreAllTold}
 use Rattle.lock_check.specs.Reports.{row_text}
 use Rattle.lock_check.specs.Rows.{told_fault, told_finding, told_row}
 use Rattle.lock_check.specs.Summary.{summary}
-use Rattle.lock_check.specs.declared.fault.Fault.{Fault}
+use Rattle.lock_files.specs.declared.fault.Fault.{Fault}
 use Rattle.lock_check.specs.declared.finding.Counts.{Counts}
 use Rattle.lock_check.specs.declared.finding.Finding.{Finding}
 use Rattle.lock_check.specs.declared.finding.Kind.TheVariants as kind
-use Rattle.lock_check.specs.declared.lock.Lock.{Lock}
+use Rattle.lock_files.specs.declared.lock.Lock.{Lock}
 use Rattle.lock_check.specs.declared.options.Format.{Format}
 use Rattle.lock_check.specs.declared.options.Format.TheVariants as format
 use Rattle.lock_check.specs.declared.report.Report.{Report}
@@ -61,3 +63,9 @@ pub record IsReport (lock : Lock) (file : List ℕ) (f : Format) (is_quiet : Boo
   pub printed : string_bytes r.output
       ≡ flat_map (row_text f file) rows ++ (if is_quiet then [] else summary (is_json f) counts)
   pub status : IsStatus counts r.status
+
+-- the report on the packages of both files
+abbrev pub IsReportOf : (file : Data) (manifest : Option Data) (name : List ℕ) → Format → Bool → Report
+    → Type 0
+IsReportOf file manifest name f is_quiet r =
+    (lock : Lock) × AreOf file manifest lock × IsReport lock name f is_quiet r

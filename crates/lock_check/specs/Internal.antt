@@ -1,3 +1,2 @@
-pub mod Collected
+pub mod Found
 pub mod Overriding
-pub mod Patterns

@@ -1,25 +1,24 @@
 -- Statement: what is found for a dependency of a lock file.
-use Rattle.std.specs.Prelude.{⊤, ◌≡◌, ◌≢◌, ℕ, true, false, List, [], ◌++◌, Option, Some, None}
+use Rattle.std.specs.Prelude.{◌≡◌, ◌≢◌, ℕ, true, false, List, [], ◌++◌, Option, Some, None}
 use Rattle.std.specs.Prelude.{codes}
 use Rattle.serde_json.specs.View.{view}
-use Rattle.lock_check.specs.Fields.{is_set}
-use Rattle.lock_check.specs.Lookups.{IsBehind, IsInstalled, IsNearest}
-use Rattle.lock_check.specs.Optional.{MayBeAbsent}
+use Rattle.lock_files.specs.Fields.{is_set}
+use Rattle.lock_files.specs.Lookups.{IsBehind, IsInstalled, IsNearest}
+use Rattle.lock_files.specs.Optional.{MayBeAbsent}
 use Rattle.lock_check.specs.Outcomes.{IsJudged, Locked}
-use Rattle.lock_check.specs.Overrides.{IsDeclared, IsDependency, RefersToNothing}
-use Rattle.lock_check.specs.Specifiers.{IsName}
-use Rattle.lock_check.specs.Workspaces.{AreRead}
-use Rattle.lock_check.specs.declared.check.Edge.{Edge}
+use Rattle.lock_check.specs.Overrides.{IsDependency, RefersToNothing}
+use Rattle.lock_files.specs.Specifiers.{IsName}
+use Rattle.lock_files.specs.Wanted.{IsOverride}
+use Rattle.lock_files.specs.Workspaces.{AreRead}
 use Rattle.lock_check.specs.declared.finding.Finding.{Finding}
 use Rattle.lock_check.specs.declared.finding.Outcome.{Outcome}
 use Rattle.lock_check.specs.declared.finding.Outcome.TheVariants as outcome
 use Rattle.lock_check.specs.declared.finding.Skip.TheVariants as skip
-use Rattle.lock_check.specs.declared.lock.Dependency.{Dependency}
-use Rattle.lock_check.specs.declared.lock.Field.TheVariants as field
-use Rattle.lock_check.specs.declared.lock.Lock.{Lock}
-use Rattle.lock_check.specs.declared.lock.Package.{Package}
-use Rattle.lock_check.specs.declared.lock.Wanted.{Wanted}
-use Rattle.lock_check.specs.declared.lock.Wanted.TheVariants as wanted
+use Rattle.lock_files.specs.declared.lock.Dependency.{Dependency}
+use Rattle.lock_files.specs.declared.lock.Field.TheVariants as field
+use Rattle.lock_files.specs.declared.lock.Lock.{Lock}
+use Rattle.lock_files.specs.declared.lock.Package.{Package}
+use Rattle.lock_files.specs.declared.lock.Wanted.{Wanted}
 
 -- a peer that stands inside the installed package that wants it
 pub record IsOwnPeer (d : Dependency) (locked : Package) : Type 0 where
@@ -51,10 +50,6 @@ pub data IsLockedOutcome (lock : Lock) (d : Dependency) (locked : Package) : Out
       → IsName d.name.now → ¬ (IsLinkOfRoot d locked) → IsJudged d (locked_as lock locked behind) found
       → IsLockedOutcome lock d locked found
 
-abbrev pub IsOverride : Wanted → Type 0
-IsOverride (wanted.Override text) = ⊤
-IsOverride _ = ⊥
-
 -- what is found for a dependency for which that is locked
 pub data IsOutcome (lock : Lock) (d : Dependency) : Option Package → Outcome → Type 0 where
   no_reference : (locked : Option Package) → RefersToNothing lock d
@@ -66,11 +61,6 @@ pub data IsOutcome (lock : Lock) (d : Dependency) : Option Package → Outcome �
   missing : MayBeAbsent (view d.package.fields.now) d.name.now d.field false
       → IsOutcome lock d None outcome.Missing
   locked : (p : Package) (found : Outcome) → IsLockedOutcome lock d p found → IsOutcome lock d (Some p) found
-
--- a dependency, with what is locked for it
-abbrev pub IsEdge : Lock → Edge → Type 0
-IsEdge lock e = IsDeclared lock e.dependency
-    × IsNearest lock e.dependency.package.folder.now e.dependency.name.now e.locked
 
 -- a finding is that of its texts: a package of the lock file wants that, and it is what that says of
 -- the package that is locked for it, or of none

@@ -1,14 +1,10 @@
 pub mod Answers
 pub mod Complete
-pub mod Documents
-pub mod Fields
 pub mod Findings
 pub mod Index
 pub mod Internal
 pub mod Judged
-pub mod Lookups
 pub mod Malformed
-pub mod Optional
 pub mod Outcomes
 pub mod Outlooks
 pub mod Overrides
@@ -17,8 +13,5 @@ pub mod Readings
 pub mod Replacements
 pub mod Reports
 pub mod Rows
-pub mod Shown
-pub mod Specifiers
 pub mod Summary
 pub mod Verdicts
-pub mod Workspaces

@@ -1,25 +1,26 @@
 -- Statement: what is found of a package that is locked for a dependency, by its texts and by what is wanted.
 use Rattle.std.specs.Prelude.{⊤, ◌≡◌, ◌≢◌, ◌⊎◌, ◌&&◌, ℕ, Bool, true, false, List, [], Option, Some, None}
-use Rattle.std.specs.Prelude.{codes, if◌then◌else◌, IsSomeAnd, unwrap_or, option_and_then, option_map}
+use Rattle.std.specs.Prelude.{codes, if◌then◌else◌, IsSomeAnd, unwrap_or, option_map}
 use Rattle.std.specs.Borrow.{Bor}
 use Rattle.serde_json.specs.Data.{Data}
-use Rattle.serde_json.specs.Find.{as_str}
 use Rattle.serde_json.specs.View.{view}
 use Rattle.nodejs_semver.specs.Versions.{VersionValue}
 use Rattle.semver_core.specs.Text.Characters.{IsTrim}
-use Rattle.lock_check.specs.Fields.{is_set, member_of, text_of}
+use Rattle.lock_files.specs.Dependencies.{accepted_by}
+use Rattle.lock_files.specs.Fields.{is_set, text_of}
 use Rattle.lock_check.specs.Findings.{is_same, kind_of}
-use Rattle.lock_check.specs.Specifiers.{IsSpecifier, IsTag, IsWantedAs}
+use Rattle.lock_files.specs.Specifiers.{IsSpecifier, IsTag}
+use Rattle.lock_files.specs.Wanted.{IsWantedAs}
 use Rattle.lock_check.specs.Verdicts.{IsJudgement}
 use Rattle.lock_check.specs.declared.check.Target.{Target}
 use Rattle.lock_check.specs.declared.finding.Kind.TheVariants as kind
 use Rattle.lock_check.specs.declared.finding.Outcome.{Outcome}
 use Rattle.lock_check.specs.declared.finding.Outcome.TheVariants as outcome
 use Rattle.lock_check.specs.declared.finding.Skip.TheVariants as skip
-use Rattle.lock_check.specs.declared.lock.Dependency.{Dependency}
-use Rattle.lock_check.specs.declared.lock.Wanted.{Wanted}
-use Rattle.lock_check.specs.declared.specifier.Specifier.{Specifier}
-use Rattle.lock_check.specs.declared.specifier.Specifier.TheVariants as specifier
+use Rattle.lock_files.specs.declared.lock.Dependency.{Dependency}
+use Rattle.lock_files.specs.declared.lock.Wanted.{Wanted}
+use Rattle.lock_files.specs.declared.specifier.Specifier.{Specifier}
+use Rattle.lock_files.specs.declared.specifier.Specifier.TheVariants as specifier
 use Rattle.lock_check.specs.declared.verdict.Judgement.{Judgement}
 use Rattle.lock_check.specs.declared.verdict.Judgement.TheVariants as judgement
 use Rattle.lock_check.specs.declared.verdict.Verdict.TheVariants as verdict
@@ -124,11 +125,6 @@ IsTextOutcome text l found = (s : Specifier) × IsSpecifier text s × IsSpecifie
 
 abbrev pub IsWantedOutcome : Wanted → Locked → Outcome → Type 0
 IsWantedOutcome w l found = (s : Specifier) × IsWantedAs w s × IsSpecifierOutcome s l found
-
--- the text that a package accepts in place of what it wants for a name
-abbrev pub accepted_by : Dependency → Option (List ℕ)
-accepted_by d = option_and_then as_str
-    (member_of (codes "acceptDependencies") d.name.now (view d.package.fields.now))
 
 abbrev pub is_satisfied : Outcome → Bool
 is_satisfied found = is_same kind.Satisfied (kind_of found)

@@ -9,7 +9,7 @@ use Rattle.serde_json.specs.Written.{compact_text}
 use Rattle.nodejs_semver.specs.Versions.{VersionValue}
 use Rattle.semver_core.specs.Printing.Text.{version_text}
 use Rattle.lock_check.specs.Reports.{json_line, text_or_null}
-use Rattle.lock_check.specs.Rows.{wanted_text}
+use Rattle.lock_files.specs.Wanted.{wanted_text}
 use Rattle.lock_check.specs.declared.outlook.Class.{Class}
 use Rattle.lock_check.specs.declared.outlook.Class.TheVariants as class
 use Rattle.lock_check.specs.declared.outlook.Outlook.{Outlook}

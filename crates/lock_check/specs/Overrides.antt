@@ -1,6 +1,6 @@
 -- Statement: what `overrides` of the root project puts in the place of what its packages want.
 use Rattle.std.specs.Prelude.{⊤, ◌≡◌, ◌≢◌, ◌⊎◌, ◌==◌, ℕ, Bool, false, true, if◌then◌else◌, List, [], ◌∷◌}
-use Rattle.std.specs.Prelude.{Option, Some, None, codes, is_some, option_and_then, unwrap_or}
+use Rattle.std.specs.Prelude.{Option, Some, None, IfSome, codes, is_some, option_and_then, unwrap_or}
 use Rattle.std.specs.Borrow.{Bor}
 use Rattle.std.specs.List.{after_first, before_first, starts_with}
 use Rattle.std.specs.Option.{option_or}
@@ -14,18 +14,20 @@ use Rattle.semver_core.specs.declared.TheConstants.{MAX_SAFE_INTEGER}
 use Rattle.serde_json.specs.Data.{Data, Members, member, no_members}
 use Rattle.serde_json.specs.Find.{as_object, as_str, get}
 use Rattle.serde_json.specs.View.{view}
-use Rattle.lock_check.specs.Lookups.{IsAt, IsPackage, written_in}
+use Rattle.lock_files.specs.Fields.{is_set}
+use Rattle.lock_files.specs.Lookups.{IsAt, IsNearest, IsPackage, written_in}
 use Rattle.lock_check.specs.Readings.{IsNotWanted, IsWanted}
-use Rattle.lock_check.specs.Specifiers.{IsTag, IsUnsigned, IsWantedAs, with_sign}
-use Rattle.lock_check.specs.Workspaces.{IsWorkspace, IsWorkspaceName}
-use Rattle.lock_check.specs.declared.lock.Dependency.{Dependency}
-use Rattle.lock_check.specs.declared.lock.Field.TheVariants as field
-use Rattle.lock_check.specs.declared.lock.Lock.{Lock}
-use Rattle.lock_check.specs.declared.lock.Package.{Package}
-use Rattle.lock_check.specs.declared.lock.Wanted.{Wanted}
-use Rattle.lock_check.specs.declared.lock.Wanted.TheVariants as wanted
-use Rattle.lock_check.specs.declared.specifier.Specifier.{Specifier}
-use Rattle.lock_check.specs.declared.specifier.Specifier.TheVariants as specifier
+use Rattle.lock_files.specs.Specifiers.{IsTag, IsUnsigned, with_sign}
+use Rattle.lock_files.specs.Wanted.{IsWantedAs}
+use Rattle.lock_files.specs.Dependencies.{IsWritten}
+use Rattle.lock_files.specs.declared.lock.Dependency.{Dependency}
+use Rattle.lock_files.specs.declared.lock.Field.TheVariants as field
+use Rattle.lock_files.specs.declared.lock.Lock.{Lock}
+use Rattle.lock_files.specs.declared.lock.Package.{Package}
+use Rattle.lock_files.specs.declared.lock.Wanted.{Wanted}
+use Rattle.lock_files.specs.declared.lock.Wanted.TheVariants as wanted
+use Rattle.lock_files.specs.declared.specifier.Specifier.{Specifier}
+use Rattle.lock_files.specs.declared.specifier.Specifier.TheVariants as specifier
 
 -- the object has this member
 abbrev pub HasMember : Members → List ℕ → Data → Type 0
@@ -204,16 +206,16 @@ abbrev pub HasText : Place → (name text : List ℕ) → Type 0
 HasText top name text = ⊥
 HasText (rule around key value) name text = IsRuleFor key value name text
 
--- what is put in the place of what is wanted of this name: the text of the rule of the place, but for one that
--- is empty or `*`; or what the root project writes for the name that stands behind a `$` there
+-- what is put in the place of what is wanted of this name: the text of the rule of the place, but for one
+-- that is empty or `*`; or what the root project writes for the name that stands behind a `$` there
 pub data IsInPlace (root : Data) (place : Place) (name : List ℕ) : List ℕ → Type 0 where
   said : (text : List ℕ) → HasText place name text → text ≢ [] → text ≢ codes "*"
       → ((other : List ℕ) → text ≢ 36 ∷ other) → IsInPlace root place name text
   referred : (other text : List ℕ) → HasText place name (36 ∷ other) → referenced root other ≡ Some text
       → IsInPlace root place name text
 
--- what a dependency wants whose package stands in this place: what it did before, where the rule of the place is
--- for another name or puts nothing in its place; or what that puts there; None is a reference to nothing
+-- what a dependency wants whose package stands in this place: what it did before, where the rule of the place
+-- is for another name or puts nothing in its place; or what that puts there; None is a reference to nothing
 pub data IsPutBy (root : Data) (place : Place) (d : Dependency) : Option Wanted → Type 0 where
   kept : ((text : List ℕ) → ¬ (HasText place d.name.now text)) → IsPutBy root place d (Some d.wanted)
   nothing : (text : List ℕ) → HasText place d.name.now text → (text ≡ []) ⊎ (text ≡ codes "*")
@@ -243,31 +245,24 @@ pub record IsOverriddenBy (root : Data) (d : Dependency) (w : Option Wanted) : T
 abbrev pub OfRoot : Lock → (Data → Type 0) → Type 0
 OfRoot lock P = (root : Package) × IsAt lock [] (Some root) × P (view root.fields.now)
 
+-- by its own fields a package neither comes packed in another one nor has a lock file of its own. That what
+-- is inside of one that has such a file is not overridden either, is not said
+abbrev pub HasNoFile : Data → Type 0
+HasNoFile fields =
+    (is_set (codes "inBundle") fields ≡ false) × (is_set (codes "hasShrinkwrap") fields ≡ false)
+
+-- so it is with what is locked for a dependency, if anything is
+abbrev pub IsUnpacked : Lock → Dependency → Type 0
+IsUnpacked lock d = (locked : Option Package) × IsNearest lock d.package.folder.now d.name.now locked
+    × IfSome locked (λ p. HasNoFile (view p.fields.now))
+
 -- the rule that applies refers to a name for which the root project writes nothing
 abbrev pub RefersToNothing : Lock → Dependency → Type 0
-RefersToNothing lock d = OfRoot lock (λ root. IsOverriddenBy root d None)
-
--- a workspace of the root project, by its name
-pub record IsWorkspaceOf (lock : Lock) (d : Dependency) (folder : List ℕ) : Type 0 where
-  pub by_field : d.field ≡ field.Workspaces
-  pub of_root : d.package.folder.now ≡ []
-  pub meant : IsWorkspace (view d.package.fields.now) lock folder
-  pub named : IsWorkspaceName lock folder d.name.now
-
--- what a package writes for the name in that field, or a workspace
-abbrev pub IsWritten : Lock → Dependency → Wanted → Type 0
-IsWritten lock d (wanted.Text text) =
-    written_in d.field d.name.now (view d.package.fields.now) ≡ Some text.now
-IsWritten lock d (wanted.Override text) = ⊥
-IsWritten lock d (wanted.Workspace folder) = IsWorkspaceOf lock d folder.now
-
--- a package of the lock file has the dependency, with what is written of it
-abbrev pub IsDeclared : Lock → Dependency → Type 0
-IsDeclared lock d = IsPackage lock d.package × IsWritten lock d d.wanted
+RefersToNothing lock d = IsUnpacked lock d × OfRoot lock (λ root. IsOverriddenBy root d None)
 
 -- what is wanted of a dependency: what is written, or what the rule that applies puts in the place of that
 abbrev pub IsRuled : Lock → Dependency → Wanted → Type 0
-IsRuled lock d (wanted.Override text) = (before : Wanted) × IsWritten lock d before
+IsRuled lock d (wanted.Override text) = (before : Wanted) × IsWritten lock d before × IsUnpacked lock d
     × OfRoot lock (λ root. IsOverriddenBy root (record d { wanted = before }) (Some (wanted.Override text)))
 IsRuled lock d w = IsWritten lock d w
 

@@ -2,8 +2,8 @@
 -- asks node-semver's loose reading of a range text, which has the same answer as the strict one
 -- wherever that has one. The loose reading here differs from node-semver's for a few texts. What
 -- npm reads in a text that may be one of them is unknown.
-use Rattle.std.specs.Prelude.{◌≡◌, ◌<◌, ◌⊎◌, not, nat_lt, ℕ, Bool, true, false, List, ◌++◌, codes, length}
-use Rattle.std.specs.Char.{encode_utf8, is_ascii_digit}
+use Rattle.std.specs.Prelude.{◌≡◌, ◌<◌, ◌⊎◌, not, nat_lt, ℕ, Bool, true, false, List, codes, length}
+use Rattle.std.specs.Char.{is_ascii_digit}
 use Rattle.std.specs.List.{list_any, slice_split}
 use Rattle.std.specs.Str.Iter.{HasSubslice}
 use Rattle.nodejs_semver.specs.Cuts.{Span}
@@ -54,8 +54,3 @@ abbrev pub IsNpmRange : List ℕ → NpmRange → Type 0
 IsNpmRange text (Read range) = IsWanted MAX_SAFE_INTEGER text range
 IsNpmRange text Rejected = IsNotWanted MAX_SAFE_INTEGER text
 IsNpmRange text Unsure = IsUnknown MAX_SAFE_INTEGER text
-
--- what follows a byte order mark, if one stands in front, and else the text
-pub data IsUnmarked (text : List ℕ) : List ℕ → Type 0 where
-  marked : (rest : List ℕ) → text ≡ encode_utf8 0xFEFF ++ rest → IsUnmarked text rest
-  plain : ((rest : List ℕ) → text ≡ encode_utf8 0xFEFF ++ rest → ⊥) → IsUnmarked text text

@@ -1,15 +1,14 @@
 -- Statement: what is told of a finding, in whichever format.
-use Rattle.std.specs.Prelude.{ℕ, List, [], Option, Some, None, option_map}
+use Rattle.std.specs.Prelude.{ℕ, List, Option, Some, None, option_map}
 use Rattle.lock_check.specs.Findings.{kind_of}
-use Rattle.lock_check.specs.declared.fault.Fault.{Fault}
-use Rattle.lock_check.specs.declared.fault.Fault.TheVariants as fault
+use Rattle.lock_files.specs.Faults.{fault_folder, fault_name}
+use Rattle.lock_files.specs.Wanted.{wanted_text}
+use Rattle.lock_files.specs.declared.fault.Fault.{Fault}
 use Rattle.lock_check.specs.declared.finding.Finding.{Finding}
 use Rattle.lock_check.specs.declared.finding.Kind.{Kind}
 use Rattle.lock_check.specs.declared.finding.Kind.TheVariants.{Malformed}
 use Rattle.lock_check.specs.declared.finding.Outcome.{Outcome}
 use Rattle.lock_check.specs.declared.finding.Outcome.TheVariants as outcome
-use Rattle.lock_check.specs.declared.lock.Wanted.{Wanted}
-use Rattle.lock_check.specs.declared.lock.Wanted.TheVariants as wanted
 use Rattle.lock_check.specs.declared.row.Row.{Row}
 
 -- how a finding is counted, the folder of the package that has the dependency, the name of that,
@@ -20,11 +19,6 @@ pub record Told : Type 0 where
   pub name : Option (List ℕ)
   pub need : Option (List ℕ)
   pub found : Option (List ℕ)
-
-abbrev pub wanted_text : Wanted → List ℕ
-wanted_text (wanted.Text t) = t.now
-wanted_text (wanted.Override t) = t.now
-wanted_text (wanted.Workspace folder) = folder.now
 
 abbrev pub rejected_version : Outcome → Option (List ℕ)
 rejected_version (outcome.Rejected version smallest) = Some version.now
@@ -39,17 +33,6 @@ told_finding f = record {
   need = Some (wanted_text f.dependency.wanted);
   found = rejected_version f.outcome;
 }
-
--- a field of the root project has no folder
-abbrev pub fault_folder : Fault → List ℕ
-fault_folder (fault.Field folder field) = folder.now
-fault_folder (fault.Range folder name) = folder.now
-fault_folder _ = []
-
-abbrev pub fault_name : Fault → Option (List ℕ)
-fault_name (fault.Range folder name) = Some name.now
-fault_name (fault.Override name) = Some name.now
-fault_name _ = None
 
 abbrev pub told_fault : Fault → Told
 told_fault f = record {

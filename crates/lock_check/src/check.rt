@@ -1,40 +1,30 @@
 // Compares each dependency of a lock file with the version that is locked for it.
 
-ghost use Rattle.lock_check.specs.Internal.Collected.{AreAllFound, AreAllLinked, AreApartEdges};
-ghost use Rattle.lock_check.specs.Internal.Collected.{AreOwn, Extends, IsAmong, IsForDevelopment};
-ghost use Rattle.lock_check.specs.Internal.Collected.{IsOneOf, IsTaken};
+ghost use Rattle.lock_check.specs.Internal.Found.{IsAmong};
 ghost use Rattle.lock_check.specs.Internal.Overriding.{AreChosen};
-ghost use Rattle.lock_check.specs.Internal.Patterns.{AreMeantFound, AreMeantLinked};
 ghost use Rattle.lock_check.specs.Complete.{AreAllJudged, AreSingle, AreWorkspacesJudged};
-ghost use Rattle.lock_check.specs.Complete.{is_locked_for_development};
-ghost use Rattle.lock_check.specs.Judged.{IsEdge, IsFinding, IsLinkOfRoot, IsLockedOutcome};
-ghost use Rattle.lock_check.specs.Judged.{IsOutcome, IsOwnPeer, as_wanted};
-ghost use Rattle.lock_check.specs.Lookups.{IsAt, IsPackage, packages_of};
-ghost use Rattle.lock_check.specs.Malformed.{AreAllTold, AreTextsTold, HasAllFaults, IsFault};
-ghost use Rattle.lock_check.specs.Overrides.{IsDeclared, RefersToNothing};
+ghost use Rattle.lock_check.specs.Judged.{IsFinding, IsLinkOfRoot, IsLockedOutcome, IsOutcome};
+ghost use Rattle.lock_check.specs.Judged.{IsOwnPeer, as_wanted};
+ghost use Rattle.lock_check.specs.Malformed.{AreAllTold};
+ghost use Rattle.lock_check.specs.Overrides.{RefersToNothing};
 ghost use Rattle.lock_check.specs.Outcomes.{IsInstead, IsJudged, IsPlaceOutcome, IsRangeOutcome};
 ghost use Rattle.lock_check.specs.Outcomes.{IsRegistryOutcome, IsRepositoryOutcome};
 ghost use Rattle.lock_check.specs.Outcomes.{IsSpecifierOutcome, IsTagOutcome, IsTextOutcome};
 ghost use Rattle.lock_check.specs.Outcomes.{IsToldOf, IsUnversioned, IsWantedOutcome, address_of};
 ghost use Rattle.lock_check.specs.Outcomes.{is_link, locked_in, version_text};
-ghost use Rattle.serde_json.specs.Data.{Data};
-ghost use Rattle.serde_json.specs.Find.{get};
-ghost use Rattle.serde_json.specs.View.{view};
-ghost use Rattle.std.specs.Prelude.{◌≡◌, ◌≢◌, ◌↔◌, [], All, IfOk, IsNone, IsTrue, OnOk, Some};
-ghost use Rattle.std.specs.Prelude.{List, option_map, ℕ};
+ghost use Rattle.lock_files.specs.Edges.{AreApartEdges, IsEdge};
+ghost use Rattle.lock_files.specs.Lookups.{IsAt};
+ghost use Rattle.std.specs.Prelude.{◌≡◌, ◌↔◌, [], All, IfOk, IsNone, IsTrue, Some, option_map};
 
-use crate::fault::Fault;
 use crate::finding::{Finding, Outcome, Skip};
-use crate::folder::{is_installed, joined};
-use crate::lock::{Dependencies, Dependency, Field, Lock, Package, Wanted, add_dependencies};
 use crate::overrides::Overrides;
-use crate::requirers::Requirers;
 use crate::scopes::Scopes;
-use crate::specifier::{Specifier, is_name, is_tag};
 use crate::verdict::{Judgement, Verdict, judge_texts};
-use crate::workspaces::{add_workspaces, are_read};
+use lock_files::{
+    Dependency, Edge, Fault, Field, Lock, Package, Requirers, Specifier, Wanted, are_read, edges,
+    is_installed, is_name, is_tag, joined,
+};
 use semver_core::scan::trim;
-use serde_json::Value;
 use std::alloc::{AllocError, Global};
 
 /// What is found in a lock file, in the order of the packages' folders.
@@ -46,13 +36,6 @@ pub struct Findings<'a> {
     pub faults: Vec<Fault<'a>>,
     /// Which packages ask for each, if a dependency is told of.
     pub requirers: Requirers<'a>,
-}
-
-/// A dependency, and the package that is locked for it.
-#[derive(Clone, Copy)]
-pub struct Edge<'a> {
-    pub dependency: Dependency<'a>,
-    pub locked: Option<Package<'a>>,
 }
 
 impl Findings<'_> {
@@ -122,112 +105,6 @@ fn findings_of<'a>(
         findings.push(finding(alloc, lock, *edge, wanted)?)?;
     }
     Ok(findings)
-}
-
-// All dependencies, with what is locked for them.
-fn edges<'a>(
-    alloc: Global,
-    lock: Lock<'a>,
-    faults: &mut Vec<Fault<'a>>,
-) -> Result<Vec<Edge<'a>>, AllocError>
-    ensures each { IfOk result (λ edges. All (IsEdge lock.entry) edges.items) }
-    ensures all { IfOk result (λ edges. AreAllLinked lock.entry edges.items) }
-    ensures apart { IfOk result (λ edges. AreApartEdges edges.items) }
-    ensures workspaces { IfOk result (λ edges. (folder : List ℕ) (fields : Data)
-        → get folder (packages_of lock.entry) ≡ Some fields
-        → AreMeantLinked lock.entry edges.items folder fields) }
-    ensures kept { OnOk result (Extends faults.old.items faults.new.items) }
-    ensures told { OnOk result ((folder : List ℕ) (fields : Data)
-        → get folder (packages_of lock.entry) ≡ Some fields
-        → HasAllFaults faults.new.items folder fields) }
-    ensures texts { OnOk result ((folder : List ℕ) (fields : Data)
-        → get folder (packages_of lock.entry) ≡ Some fields
-        → AreTextsTold faults.new.items folder fields) }
-    ensures wrong { OnOk result (All (IsFault lock.entry) faults.old.items
-        → All (IsFault lock.entry) faults.new.items) }
-{
-    let mut edges = Vec::new(alloc);
-    for folder in lock.packages.keys() {
-        if let Some(package) = lock.package(folder) {
-            let found = dependencies(alloc, lock, package, faults)?;
-            add_edges(alloc, lock, found.as_slice(), &mut edges)?;
-        }
-    }
-    Ok(edges)
-}
-
-// The dependencies of a package of the lock file.
-fn dependencies<'a>(
-    alloc: Global,
-    lock: Lock<'a>,
-    package: Package<'a>,
-    faults: &mut Vec<Fault<'a>>,
-) -> Result<Dependencies<'a>, AllocError>
-    ensures each { IsPackage lock.entry «package».entry
-        → IfOk result (λ found. All (IsDeclared lock.entry) found.first.items) }
-    ensures all { IfOk result (λ found. AreAllFound «package».entry found.first.items) }
-    ensures own { IfOk result (λ found. AreOwn «package».entry.folder.now found.first.items) }
-    ensures workspaces { IfOk result (λ found. AreMeantFound lock.entry «package».entry
-        found.first.items) }
-    ensures kept { OnOk result (Extends faults.old.items faults.new.items) }
-    ensures told { OnOk result (HasAllFaults faults.new.items «package».entry.folder.now
-        (view «package».entry.fields.now)) }
-    ensures texts { OnOk result (AreTextsTold faults.new.items «package».entry.folder.now
-        (view «package».entry.fields.now)) }
-    ensures wrong { OnOk result (IsPackage lock.entry «package».entry
-        → All (IsFault lock.entry) faults.old.items → All (IsFault lock.entry) faults.new.items) }
-{
-    let mut found = Dependencies::new(alloc);
-    add_workspaces(lock, package, &mut found, faults)?;
-    add_dependencies(package, &mut found, faults)?;
-    Ok(found)
-}
-
-fn add_edges<'a>(
-    alloc: Global,
-    lock: Lock<'a>,
-    dependencies: &[Dependency<'a>],
-    edges: &mut Vec<Edge<'a>>,
-) -> Result<(), AllocError>
-    ensures each { OnOk result (All (IsDeclared lock.entry) dependencies.now
-        → All (IsEdge lock.entry) edges.old.items → All (IsEdge lock.entry) edges.new.items) }
-    ensures kept { OnOk result (Extends edges.old.items edges.new.items) }
-    ensures all { OnOk result (All (IsTaken lock.entry edges.new.items) dependencies.now) }
-    ensures from { OnOk result (All (IsOneOf edges.old.items dependencies.now) edges.new.items) }
-    ensures apart { OnOk result ((folder : List ℕ) → AreOwn folder dependencies.now
-        → All (λ e. e.dependency.package.folder.now ≢ folder) edges.old.items
-        → AreApartEdges edges.old.items → AreApartEdges edges.new.items) }
-{
-    for &dependency in dependencies {
-        let locked = lock.nearest(alloc, dependency.package.folder, dependency.name)?;
-        let edge = Edge { dependency, locked };
-        if !is_of_development(edge) {
-            edges.push(edge)?;
-        }
-    }
-    Ok(())
-}
-
-// Whether npm takes a dependency in `requires` for one of development: it is locked as such, and
-// the package is not. npm reads no such dependencies of what is installed.
-fn is_of_development(edge: Edge<'_>) -> bool
-    ensures { IsTrue result ↔ IsForDevelopment edge.entry }
-{
-    let Dependency { package, field, .. } = edge.dependency;
-    match edge.locked {
-        Some(locked) if field == Field::Requires && is_installed(package.folder) => {
-            is_locked_for_development(package, locked)
-        }
-        _ => false,
-    }
-}
-
-// Whether a package is locked for development where the one that wants it is not.
-fn is_locked_for_development(package: Package<'_>, locked: Package<'_>) -> bool
-    ensures { result ≡ is_locked_for_development (view «package».entry.fields.now)
-        (view locked.entry.fields.now) }
-{
-    locked.is("dev") && !package.is("dev") && (!locked.is("optional") || package.is("optional"))
 }
 
 // What is found for a dependency that wants this.

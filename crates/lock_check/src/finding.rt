@@ -5,10 +5,9 @@ ghost use Rattle.lock_check.specs.Findings.{is_skipped_for, is_told, kind_of, sk
 ghost use Rattle.lock_check.specs.Reports.{kind_word};
 ghost use Rattle.lock_check.specs.Rows.{rejected_version};
 ghost use Rattle.lock_check.specs.Summary.{checked_text, counts_data, counts_text, found_text};
-ghost use Rattle.lock_check.specs.Summary.{named_skips};
-ghost use Rattle.lock_check.specs.Summary.{reason_text, reasons_text, separator, sizes_text};
-ghost use Rattle.lock_check.specs.Summary.{skip_words, skipped_text, skips_data, summary};
-ghost use Rattle.lock_check.specs.Summary.{unchecked_text, unlocked_text};
+ghost use Rattle.lock_check.specs.Summary.{named_skips, reason_text, reasons_text, separator};
+ghost use Rattle.lock_check.specs.Summary.{sizes_text, skip_words, skipped_text, skips_data};
+ghost use Rattle.lock_check.specs.Summary.{summary, unchecked_text, unlocked_text};
 ghost use Rattle.serde_json.specs.View.{view};
 ghost use Rattle.serde_json.specs.Written.{compact_text};
 ghost use Rattle.std.specs.BTreeMap.{btree_map_len};
@@ -16,8 +15,7 @@ ghost use Rattle.std.specs.Prelude.{◌≡◌, ◌<◌, ◌++◌, IfOk, OnOk, le
 
 use crate::check::Findings;
 use crate::json::write_line;
-use crate::lock::{Dependency, Lock, Wanted};
-use crate::shown::Shown;
+use lock_files::{Dependency, Lock, Shown};
 use nodejs_semver::Version;
 use nodejs_semver::diagnosis::version_flaw;
 use serde_json::{Map, Value, json, put};
@@ -256,24 +254,6 @@ impl Finding<'_> {
             Kind::Skipped => !is_quiet,
             Kind::Rejected | Kind::Missing | Kind::Malformed => true,
         }
-    }
-}
-
-impl fmt::Display for Wanted<'_> {
-    fn fmt<W: fmt::Write>(&self, f: &mut fmt::Formatter<W>) -> fmt::Result {
-        let (before, text, behind) = match *self {
-            Wanted::Text(text) => ("", text, ""),
-            Wanted::Override(text) => ("", text, " by overrides"),
-            Wanted::Workspace(folder) => ("file:", folder, ""),
-        };
-        write!(f, "{before}{}{behind}", Shown(text))
-    }
-}
-
-impl fmt::Display for Dependency<'_> {
-    fn fmt<W: fmt::Write>(&self, f: &mut fmt::Formatter<W>) -> fmt::Result {
-        let (folder, name) = (Shown::folder(self.package.folder), Shown(self.name));
-        write!(f, "{folder} needs {name} {}", self.wanted)
     }
 }
 

@@ -3,7 +3,7 @@
 ghost use Rattle.lock_check.specs.Index.{HasNoTab, package_in, version_in};
 ghost use Rattle.std.specs.Prelude.{◌≡◌, ◌↔◌, IfSome, None};
 
-use crate::shown::Shown;
+use lock_files::Shown;
 use nodejs_semver::{Failure, VersionRef};
 use npm_reading::{Reading, version_flaw};
 use std::alloc::{AllocError, Global};

@@ -27,58 +27,42 @@
 //! another range in its text than is found here, as in `>*1.2.3`.
 #![tactic(auto)]
 
-ghost use Rattle.lock_check.specs.Documents.{IsReportOf};
+ghost use Rattle.lock_check.specs.Answers.{IsReportOf};
 ghost use Rattle.serde_json.specs.View.{view};
 ghost use Rattle.std.specs.Prelude.{IfOk, option_map, string_bytes};
 
-mod alias;
 mod annotation;
 mod check;
-mod fault;
 mod finding;
-mod folder;
 mod help;
 mod index;
-mod input;
 mod json;
-mod lines;
-mod lock;
-mod nested;
 mod options;
 mod outlook;
 mod outlook_row;
 mod overrides;
-mod packages;
 mod raises;
 mod reading;
 mod report;
-mod requirers;
 mod row;
 mod scopes;
-mod shown;
-mod specifier;
 mod verdict;
-mod workspaces;
 
 use crate::check::check;
 use crate::help::{HELP, USAGE, VERSION};
 use crate::index::Index;
-use crate::input::{Input, LockFile, index_text, read};
-use crate::lines::Lines;
 use crate::options::{Format, Options, Request};
 use crate::outlook::{Totals, outlooks};
 use crate::outlook_row::{outlook_rows, write_outlooks, write_totals};
-use crate::packages::Packages;
-use crate::reading::unmarked;
 use crate::report::{Report, report_on, write_rows};
 use crate::row::fault_rows;
-use crate::shown::Shown;
-use anyhow::{Result, bail};
+use anyhow::{Context, Result, bail};
+use lock_files::{Input, Lines, LockFile, Packages, Shown, read, unmarked};
 use nodejs_semver::Failure;
 use std::alloc::Global;
-use std::env;
 use std::io::Write;
 use std::process::ExitCode;
+use std::{env, fs};
 
 // The exit status if the check could not be made, or is not whole.
 const TROUBLE: u8 = 2;
@@ -167,4 +151,10 @@ fn outdated(rt: &HostRuntime, input: Input, path: &str, options: Options<'_>) ->
         output,
         status: totals.exit_status(),
     })
+}
+
+// The text of the index at a path.
+fn index_text(rt: &HostRuntime, path: &str) -> Result<String> {
+    let text = fs::read_to_string(rt, path);
+    text.context(format_args!("{} cannot be read", Shown(path)))
 }

@@ -1,6 +1,6 @@
 // What the arguments ask for.
 
-use crate::shown::Shown;
+use lock_files::Shown;
 use std::fmt;
 
 /// How findings are written.

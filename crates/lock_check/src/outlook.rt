@@ -5,13 +5,10 @@ ghost use Rattle.lock_check.specs.Outlooks.{is_shown, latest_in, reason_words, w
 ghost use Rattle.std.specs.Option.{option_copied};
 ghost use Rattle.std.specs.Prelude.{◌≡◌, ◌<◌, length};
 
-use crate::alias::package_of;
 use crate::finding::Finding;
 use crate::index::Index;
-use crate::lock::{Dependency, Lock};
 use crate::raises::{Latest, Prospect, Raise, Reason, prospect_of};
-use crate::shown::Shown;
-use crate::specifier::Specifier;
+use lock_files::{Dependency, Lock, Shown, Specifier, package_of};
 use nodejs_semver::VersionRef;
 use std::alloc::{AllocError, Global};
 use std::fmt;

@@ -1,8 +1,7 @@
 // What is told of how dependencies stand to an index, in whichever format.
 
-ghost use Rattle.lock_check.specs.Outlooks.{class_of, is_shown, outlook_data};
-ghost use Rattle.lock_check.specs.Outlooks.{outlook_text, reason_words, told_outlook};
-ghost use Rattle.lock_check.specs.Outlooks.{told_outlook_row};
+ghost use Rattle.lock_check.specs.Outlooks.{class_of, is_shown, outlook_data, outlook_text};
+ghost use Rattle.lock_check.specs.Outlooks.{reason_words, told_outlook, told_outlook_row};
 ghost use Rattle.lock_check.specs.Reports.{text_or_null};
 ghost use Rattle.semver_core.specs.Printing.Text.{version_text};
 ghost use Rattle.serde_json.specs.View.{view};
@@ -12,9 +11,9 @@ ghost use Rattle.std.specs.Option.{option_copied};
 ghost use Rattle.std.specs.Prelude.{◌≡◌, ◌++◌, IfOk, OnOk, filter, map, option_map, string_bytes};
 
 use crate::json::{text_or_null, write_line};
-use crate::lines::Lines;
 use crate::outlook::{Class, Outlook, Totals};
 use crate::raises::Latest;
+use lock_files::Lines;
 use nodejs_semver::VersionRef;
 use serde_json::{Map, Value, json, put};
 use std::alloc::{AllocError, Global};

@@ -1,30 +1,29 @@
 // `overrides` of the root project, which changes what packages depend on.
 
-ghost use Rattle.lock_check.specs.Internal.Collected.{Extends};
+ghost use Rattle.lock_files.specs.Faults.{Extends};
 ghost use Rattle.lock_check.specs.Internal.Overriding.{AreAllLaid, AreInsideTold, AreItsRules};
 ghost use Rattle.lock_check.specs.Internal.Overriding.{AreLaid, IsAboutIf, IsFirstHit, IsFound};
 ghost use Rattle.lock_check.specs.Internal.Overriding.{IsFoundScope, IsInnerScope, IsObject};
 ghost use Rattle.lock_check.specs.Internal.Overriding.{IsRuleAt, IsRuleOf, IsScopeOf};
-ghost use Rattle.lock_check.specs.Lookups.{IsAt, written_in};
-ghost use Rattle.lock_check.specs.Malformed.{AreRulesTold, HasFault, HasOtherRules, IsFault};
-ghost use Rattle.lock_check.specs.Malformed.{IsFieldFault, OfFields};
+ghost use Rattle.lock_files.specs.Lookups.{IsAt, written_in};
+ghost use Rattle.lock_check.specs.Malformed.{AreRulesTold, HasOtherRules, IsFault};
+ghost use Rattle.lock_files.specs.Faults.{HasFault};
+ghost use Rattle.lock_files.specs.Faults.{IsFieldFault, OfFields};
 ghost use Rattle.lock_check.specs.Overrides.{IsKey, IsNoRule, IsPutBy, IsReached, MayBeIn, Place};
 ghost use Rattle.lock_check.specs.Overrides.{referenced, rule_text};
 ghost use Rattle.lock_check.specs.Overrides.{some_text};
 ghost use Rattle.lock_check.specs.Replacements.{IsReplacement};
-ghost use Rattle.lock_check.specs.declared.lock.Lock.{Lock};
+ghost use Rattle.lock_files.specs.declared.lock.Lock.{Lock};
 ghost use Rattle.semver_core.specs.Lists.{is_empty};
-ghost use Rattle.lock_check.specs.declared.lock.Package.{Package};
+ghost use Rattle.lock_files.specs.declared.lock.Package.{Package};
 ghost use Rattle.lock_check.specs.declared.overrides.Rule.{Rule};
 ghost use Rattle.serde_json.specs.View.{members_view, view};
 ghost use Rattle.std.specs.Prelude.{◌≡◌, ◌≢◌, ◌++◌, ◌∷◌, [], if◌then◌else◌, ⊤, ℕ};
 ghost use Rattle.std.specs.Prelude.{◌↔◌, All, IfNone, IfOk, IfSome, IsTrue, List};
 ghost use Rattle.std.specs.Prelude.{MatchOption, OnOk, Option, codes, length, option_map};
 
-use crate::fault::Fault;
-use crate::lock::{Dependency, Field, Package, Wanted};
 use crate::reading::{NpmRange, range, read_range};
-use crate::specifier::{Specifier, is_tag, unsigned};
+use lock_files::{Dependency, Fault, Field, Package, Specifier, Wanted, is_tag, unsigned};
 use nodejs_semver::RangeRef;
 use semver_core::scan::trim;
 use serde_json::{Map, Value};
@@ -327,7 +326,8 @@ impl<'a> Overrides<'a> {
         ensures { IfOk result (λ inner. (root : Package) (place : Place)
             → AreAllLaid (Some root) self.now.rules.items
             → IsScopeOf self.now.rules.items scope place
-            → IsInnerScope self.now.rules.items (view root.fields.now) dependency.entry place inner) }
+            → IsInnerScope self.now.rules.items (view root.fields.now) dependency.entry place
+            inner) }
     {
         match self.found(alloc, scope, dependency) {
             Ok(Some(inner)) => Ok(inner),
@@ -346,7 +346,8 @@ impl<'a> Overrides<'a> {
         ensures { IfOk result (λ found. (root : Package) (place : Place)
             → AreAllLaid (Some root) self.now.rules.items
             → IsScopeOf self.now.rules.items scope place
-            → IsFoundScope self.now.rules.items (view root.fields.now) dependency.entry place found) }
+            → IsFoundScope self.now.rules.items (view root.fields.now) dependency.entry place
+            found) }
     {
         let mut around = scope;
         for _ in 0..self.rules.len() {

@@ -5,8 +5,8 @@
 // one. A text that both reject is no range to npm. The loose reading here differs from
 // node-semver's for a few texts: what npm reads in a text that may be one of them is unknown.
 
-ghost use Rattle.lock_check.specs.Readings.{HasAlternatives, IsNpmRange, IsUnmarked, MayDiffer};
-ghost use Rattle.lock_check.specs.Readings.{has_great};
+ghost use Rattle.lock_check.specs.Readings.{HasAlternatives, IsNpmRange, MayDiffer, has_great};
+ghost use Rattle.lock_files.specs.Documents.{IsUnmarked};
 ghost use Rattle.nodejs_semver.specs.Failures.{NoValue};
 ghost use Rattle.npm_words.specs.Alternatives.{HasAlternativesIn};
 ghost use Rattle.npm_reading.specs.Ranges.{IsRangeIn};
@@ -97,15 +97,5 @@ pub fn version(text: &str) -> Option<VersionRef<'_>>
     match npm_reading::version(text, reading) {
         Ok(version) => Some(version),
         Err(_) => None,
-    }
-}
-
-/// What follows the byte order mark that some editors put at the front of a file.
-pub fn unmarked(text: &str) -> &str
-    ensures { IsUnmarked text.now result.now }
-{
-    match text.strip_prefix('\u{feff}') {
-        Some(rest) => rest,
-        None => text,
     }
 }

@@ -9,10 +9,9 @@ use crate::annotation::write_annotation;
 use crate::check::check;
 use crate::finding::Counts;
 use crate::json::write_row;
-use crate::lines::Lines;
-use crate::lock::Lock;
 use crate::options::{Format, Options};
 use crate::row::{Row, rows};
+use lock_files::{Lines, Lock};
 use std::alloc::{AllocError, Global};
 use std::fmt::Write;
 

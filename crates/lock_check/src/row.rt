@@ -5,11 +5,8 @@ ghost use Rattle.lock_check.specs.Rows.{told_fault, told_finding, told_row};
 ghost use Rattle.std.specs.Prelude.{◌≡◌, ◌++◌, IfOk, OnOk, filter, map};
 
 use crate::check::Findings;
-use crate::fault::Fault;
 use crate::finding::{Finding, Kind};
-use crate::lines::Lines;
-use crate::requirers::Requirers;
-use crate::shown::Shown;
+use lock_files::{Fault, Lines, Requirers, Shown};
 use std::alloc::{AllocError, Global};
 
 /// What is told of a finding.

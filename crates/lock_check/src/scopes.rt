@@ -1,14 +1,15 @@
 // Which rules of `overrides` hold for each dependency.
 
 ghost use Rattle.lock_check.specs.Internal.Overriding.{AreAllLaid, AreChosen, IsAfter};
-ghost use Rattle.lock_check.specs.Overrides.{IsOverridden};
-ghost use Rattle.lock_check.specs.declared.check.Edge.{Edge};
-ghost use Rattle.lock_check.specs.declared.lock.Package.{Package};
-ghost use Rattle.std.specs.Prelude.{◌≡◌, ◌↔◌, IfOk, IsTrue, List, Option, slice_get};
+ghost use Rattle.lock_check.specs.Overrides.{HasNoFile, IsOverridden};
+ghost use Rattle.lock_files.specs.declared.edge.Edge.{Edge};
+ghost use Rattle.lock_files.specs.declared.lock.Package.{Package};
+ghost use Rattle.serde_json.specs.View.{view};
+ghost use Rattle.std.specs.Prelude.{◌≡◌, ◌↔◌, IfOk, IfSome, IsTrue, List, Option};
+ghost use Rattle.std.specs.Prelude.{false, slice_get};
 
-use crate::check::Edge;
-use crate::lock::{Lock, Package, Wanted};
 use crate::overrides::{Overrides, Scope};
+use lock_files::{Edge, Lock, Package, Wanted};
 use std::alloc::{AllocError, Global};
 use std::collections::BTreeMap;
 
@@ -49,10 +50,10 @@ impl<'a> Scopes<'a> {
             → AreChosen self.now.overrides.root self.now.overrides.rules.items edges
             self.now.of_edges
             → slice_get edges number ≡ Some edge.entry
-            → IsAfter self.now.overrides.root edge.entry.dependency result }
+            → IsAfter self.now.overrides.root edge.entry result }
     {
         match self.of_edges.get(&number) {
-            Some(inner) if !edge.locked.is_some_and(|it| is_packed(lock, it)) => {
+            Some(inner) if !is_locked_packed(lock, edge) => {
                 self.overrides.wanted(*inner, edge.dependency)
             }
             _ => Some(edge.dependency.wanted),
@@ -122,8 +123,20 @@ fn is_overridden(edge: &Edge<'_>) -> bool
     folder.is_empty() || folder.starts_with("node_modules/")
 }
 
+// Whether what is locked for a dependency comes packed in another package.
+fn is_locked_packed(lock: Lock<'_>, edge: Edge<'_>) -> bool
+    ensures { result ≡ false → IfSome edge.entry.locked (λ p. HasNoFile (view p.fields.now)) }
+{
+    match edge.locked {
+        Some(locked) => is_packed(lock, locked),
+        None => false,
+    }
+}
+
 // Whether a package comes packed in another, or is locked by a file of another.
-fn is_packed(lock: Lock<'_>, package: Package<'_>) -> bool {
+fn is_packed(lock: Lock<'_>, package: Package<'_>) -> bool
+    ensures { result ≡ false → HasNoFile (view «package».entry.fields.now) }
+{
     if package.is("inBundle") || package.is("hasShrinkwrap") {
         return true;
     }

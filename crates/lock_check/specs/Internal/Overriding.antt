@@ -1,6 +1,6 @@
 -- For proofs and private contracts: the rules of `overrides` as they are kept.
-use Rattle.std.specs.Prelude.{⊤, ◌≡◌, ◌≢◌, ◌⊎◌, ◌<◌, ◌≤◌, ◌+◌, ◌∷◌, [], ℕ, All, Bool, List, MatchOption, None, Option}
-use Rattle.std.specs.Prelude.{Some, codes, false, length, slice_get, true, unwrap_or}
+use Rattle.std.specs.Prelude.{⊤, ◌≡◌, ◌≢◌, ◌⊎◌, ◌<◌, ◌≤◌, ◌+◌, [], ℕ, All, Bool, List, MatchOption, None, Option}
+use Rattle.std.specs.Prelude.{IfSome, Some, codes, false, length, slice_get, true, unwrap_or}
 use Rattle.nodejs_semver.specs.Cuts.{Span}
 use Rattle.nodejs_semver.specs.Versions.{VersionValue}
 use Rattle.npm_reading.specs.Ranges.{IsRangeIn}
@@ -8,26 +8,27 @@ use Rattle.semver_core.specs.declared.TheConstants.{MAX_SAFE_INTEGER}
 use Rattle.serde_json.specs.Data.{Data, Members, member, no_members}
 use Rattle.serde_json.specs.Find.{as_object}
 use Rattle.serde_json.specs.View.{view}
-use Rattle.lock_check.specs.Malformed.{HasFault, IsRuleFault}
+use Rattle.lock_files.specs.Faults.{HasFault}
+use Rattle.lock_check.specs.Malformed.{IsRuleFault}
 use Rattle.lock_check.specs.Overrides.{AreRules, HasKey, IsNoRule, IsRule, IsRuleFor}
-use Rattle.lock_check.specs.Overrides.{IsMeantIn, IsOverridden, IsOverriddenBy, IsPlace, IsReached, IsRuleFound}
+use Rattle.lock_check.specs.Overrides.{HasNoFile, IsMeantIn, IsOverridden, IsOverriddenBy, IsPlace, IsReached, IsRuleFound}
 use Rattle.lock_check.specs.Overrides.{Place, nested_in, rules_in}
-use Rattle.lock_check.specs.declared.check.Edge.{Edge}
+use Rattle.lock_files.specs.declared.edge.Edge.{Edge}
 use Rattle.std.specs.BTreeMap.{BTreeMap, get}
 use Rattle.std.specs.Borrow.{Bor}
 use Rattle.std.specs.Cmp.Lexicographic.{slice_cmp}
 use Rattle.std.specs.Ordering.{nat_cmp}
 use Rattle.lock_check.specs.Overrides.Place.{rule, top}
-use Rattle.lock_check.specs.Specifiers.{IsWantedAs}
+use Rattle.lock_files.specs.Wanted.{IsWantedAs}
 use Rattle.lock_check.specs.Replacements.{IsReplacement}
-use Rattle.lock_check.specs.declared.fault.Fault.{Fault}
-use Rattle.lock_check.specs.declared.lock.Dependency.{Dependency}
-use Rattle.lock_check.specs.declared.lock.Package.{Package}
-use Rattle.lock_check.specs.declared.lock.Wanted.{Wanted}
+use Rattle.lock_files.specs.declared.fault.Fault.{Fault}
+use Rattle.lock_files.specs.declared.lock.Dependency.{Dependency}
+use Rattle.lock_files.specs.declared.lock.Package.{Package}
+use Rattle.lock_files.specs.declared.lock.Wanted.{Wanted}
 use Rattle.lock_check.specs.declared.overrides.Rule.{Rule}
 use Rattle.lock_check.specs.declared.overrides.Scope.{Scope}
 use Rattle.lock_check.specs.declared.overrides.Scope.TheVariants as scope
-use Rattle.lock_check.specs.declared.specifier.Specifier.{Specifier}
+use Rattle.lock_files.specs.declared.specifier.Specifier.{Specifier}
 
 -- the package is there, and this holds of its fields
 abbrev pub OfPackage : Option Package → (Data → Type 0) → Type 0
@@ -171,5 +172,6 @@ AreSomewhere rules root found = (folder : Bor (List ℕ)) (s : Scope)
     → get (λ x y. slice_cmp nat_cmp x.now y.now) found folder ≡ Some s → IsSomewhere rules root s
 
 -- what a dependency wants after the overrides: the same, or what rules put in its place
-abbrev pub IsAfter : Option Package → Dependency → Option Wanted → Type 0
-IsAfter root d w = (w ≡ Some d.wanted) ⊎ OfPackage root (λ fields. IsOverriddenBy fields d w)
+abbrev pub IsAfter : Option Package → Edge → Option Wanted → Type 0
+IsAfter root e w = (w ≡ Some e.dependency.wanted) ⊎ (IfSome e.locked (λ p. HasNoFile (view p.fields.now))
+    × OfPackage root (λ fields. IsOverriddenBy fields e.dependency w))

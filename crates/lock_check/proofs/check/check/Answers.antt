@@ -1,22 +1,17 @@
-use Rattle.std.proofs.lemmas.List.Elements.{All-same}
-use Rattle.lock_check.proofs.Completing.{judged-all}
-use Rattle.lock_check.proofs.Items.{workspaces-judged}
-use Rattle.lock_check.proofs.Judging.{ruled}
-use Rattle.lock_check.specs.Internal.Collected.{AreAllLinked, AreApartEdges}
-use Rattle.serde_json.specs.Data.{Data}
-use Rattle.serde_json.specs.Find.{get}
-use Rattle.lock_check.specs.Internal.Overriding.{AreAllLaid, AreChosen}
-use Rattle.lock_check.specs.declared.lock.Package.{Package}
-use Rattle.lock_check.specs.Internal.Patterns.{AreMeantLinked}
-use Rattle.lock_check.specs.Judged.{IsEdge}
-use Rattle.std.proofs.Common.{◌≡◌, ◌∙◌, All, List, [], None, Option, Some, ℕ, ap, not, refl, subst, sym}
-use Rattle.lock_check.proofs.Telling.{all-kept, fault-added, fault-kept, has-root, no-root}
-use Rattle.lock_check.proofs.Overriding.{all-added, all-none}
-use Rattle.lock_check.specs.Lookups.{IsAt, packages_of}
-use Rattle.lock_check.specs.Malformed.{HasFault, IsFault}
-use Rattle.lock_check.specs.declared.fault.Fault.{Fault}
-use Rattle.lock_check.specs.declared.fault.Fault.TheVariants.{NoRoot, Workspaces}
+use Rattle.std.proofs.Common.{Option, ◌≡◌, ◌∙◌, All, [], None, ap, inl, not, refl, subst, sym}
+use Rattle.std.proofs.lemmas.List.Elements.{All-same, All-weaker}
+use Rattle.lock_check.proofs.Completing.{judged-all, workspaces-judged}
+use Rattle.lock_check.proofs.Judging.{has-root, no-root, ruled}
+use Rattle.lock_check.specs.Malformed.{IsFault}
+use Rattle.lock_files.proofs.Added.{all-added, all-none, fault-added, fault-kept, packages-kept}
+use Rattle.lock_files.specs.Edges.{AreAllCollected, AreApartEdges, AreWorkspacesCollected, IsEdge}
+use Rattle.lock_files.specs.Faults.{HasFault, IsPackageFault}
+use Rattle.lock_files.specs.Lookups.{IsAt}
+use Rattle.lock_files.specs.declared.fault.Fault.{Fault}
+use Rattle.lock_files.specs.declared.fault.Fault.TheVariants.{NoRoot}
 use Rattle.lock_check.proofs.check.check.Goals.{then-is_none+in_ok-push, else-is_none}
+use Rattle.lock_check.specs.Internal.Overriding.{AreAllLaid, AreChosen}
+use Rattle.lock_files.specs.declared.lock.Package.{Package}
 use Rattle.lock_check.proofs.check.check.Goals as goal
 
 pub returns-clause-each : goal.returns-clause-each
@@ -34,7 +29,7 @@ returns-clause-each c =
 pub returns-clause-all : goal.returns-clause-all
 returns-clause-all c =
     judged-all c.args.lock c.deref-2.result.now c.in_ok-of_dependencies.of_dependencies.items
-    (subst (AreAllLinked c.args.lock) (sym c.deref-2.ensures.value) c.in_ok-edges.ensures.all)
+    (subst (AreAllCollected c.args.lock) (sym c.deref-2.ensures.value) c.in_ok-edges.ensures.all)
     c.in_ok-of_dependencies.ensures.all
 
 pub returns-clause-single : goal.returns-clause-single
@@ -46,8 +41,7 @@ pub returns-clause-workspaces : goal.returns-clause-workspaces
 returns-clause-workspaces c =
     let lock = c.args.lock in
     workspaces-judged lock c.deref-2.result.now c.in_ok-of_dependencies.of_dependencies.items
-    (subst (λ edges. (folder : List ℕ) (fields : Data) → get folder (packages_of lock) ≡ Some fields
-    → AreMeantLinked lock edges folder fields) (sym c.deref-2.ensures.value) c.in_ok-edges.ensures.workspaces)
+    (subst (AreWorkspacesCollected lock) (sym c.deref-2.ensures.value) c.in_ok-edges.ensures.workspaces)
     c.in_ok-of_dependencies.ensures.all
 
 pub returns-clause-malformed : goal.returns-clause-malformed
@@ -62,20 +56,18 @@ returns-clause-malformed c =
           (fault-added c.new-faults.result.items w.push.new.self.items P NoRoot w.in_ok-push.ensures.items refl)
       | else-is_none w ↦ absurd (has-root lock c.package.result c.package.ensures (c.is_none.ensures ∙ ap not w.if-is_none.false) none)
     ] in
-    let none = all-none (IsFault lock) c.new-faults.result.items c.new-faults.ensures.items in
-    let real : All (IsFault lock) first = elim c.if-is_none.branch [
-      | then-is_none+in_ok-push w ↦ subst (λ fs. All (IsFault lock) fs.items) (sym w.faults-is)
-          (all-added (IsFault lock) c.new-faults.result.items w.push.new.self.items NoRoot none w.in_ok-push.ensures.items
+    let none = all-none (IsPackageFault lock) c.new-faults.result.items c.new-faults.ensures.items in
+    let real : All (IsPackageFault lock) first = elim c.if-is_none.branch [
+      | then-is_none+in_ok-push w ↦ subst (λ fs. All (IsPackageFault lock) fs.items) (sym w.faults-is)
+          (all-added (IsPackageFault lock) c.new-faults.result.items w.push.new.self.items NoRoot none w.in_ok-push.ensures.items
           (no-root lock c.package.result c.package.ensures (c.is_none.ensures ∙ ap not w.if-is_none.true)))
-      | else-is_none w ↦ subst (λ fs. All (IsFault lock) fs.items) (sym w.faults-is) none
+      | else-is_none w ↦ subst (λ fs. All (IsPackageFault lock) fs.items) (sym w.faults-is) none
     ] in
     record {
-      real = c.in_ok-overrides.ensures.wrong lock c.package-2.ensures (c.in_ok-edges.ensures.wrong real);
+      real = c.in_ok-overrides.ensures.wrong lock c.package-2.ensures
+          (All-weaker (IsPackageFault lock) (IsFault lock) (λ f is. inl is) middle (c.in_ok-edges.ensures.real real));
       rules = c.in_ok-overrides.ensures.told lock c.package-2.ensures;
       inside = c.in_ok-overrides.ensures.inside lock c.package-2.ensures;
       root = λ none. fault-kept middle last P c.in_ok-overrides.ensures.kept (fault-kept first middle P c.in_ok-edges.ensures.kept (root none));
-      workspaces = λ of. fault-kept middle last (λ f. f ≡ Workspaces) c.in_ok-overrides.ensures.kept
-          (c.in_ok-edges.ensures.texts [] of.0 of.1 refl of.2);
-      each = λ folder fields at. all-kept middle last c.in_ok-overrides.ensures.kept folder fields
-          (c.in_ok-edges.ensures.told folder fields at);
+      packages = packages-kept lock middle last c.in_ok-overrides.ensures.kept c.in_ok-edges.ensures.told;
     }

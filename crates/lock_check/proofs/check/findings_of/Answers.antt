@@ -3,11 +3,11 @@ use Rattle.std.proofs.lemmas.List.Elements.{All-from_all_within, All-get_or, All
 use Rattle.std.proofs.lemmas.List.Elements.{AllWithin-upto, at_read}
 use Rattle.std.proofs.lemmas.Option.{slice_get_read}
 use Rattle.std.specs.List.{AllWithin}
-use Rattle.lock_check.specs.Internal.Collected.{IsAmong}
-use Rattle.lock_check.specs.Judged.{IsEdge, IsFinding}
-use Rattle.lock_check.proofs.Completing.{among-more, among-push}
+use Rattle.lock_check.specs.Internal.Found.{IsAmong}
+use Rattle.lock_files.specs.Edges.{IsEdge}
+use Rattle.lock_check.specs.Judged.{IsFinding}
+use Rattle.lock_check.proofs.Completing.{among-more, among-push, about-push, single-push}
 use Rattle.lock_check.proofs.Judging.{finding-made, lost-refers}
-use Rattle.lock_check.proofs.Single.{about-push, single-push}
 use Rattle.lock_check.proofs.check.findings_of.Goals as goal
 
 pub loop-number-preserved : goal.loop-number-preserved
@@ -25,7 +25,7 @@ loop-number-preserved c =
           All-same (IsFinding lock) c.push.new.self.items (before ++ f ∷ []) same
           (All-push (IsFinding lock) before f (c.loop-number.invariant.each all at rules)
           (finding-made lock c.args.scopes.now.overrides.root e c.wanted-wanted.result f at is ruled c.in_ok-finding.ensures.dependency
-          (c.in_ok-finding.ensures.outcome (lost-refers lock c.args.scopes.now.overrides.root e.dependency c.wanted-wanted.result at ruled))));
+          (c.in_ok-finding.ensures.outcome (lost-refers lock c.args.scopes.now.overrides.root e c.wanted-wanted.result at is ruled))));
       all = subst (λ found. AllWithin (IsAmong found) c.args.edges.now 0 (c.loop-number.number + 1)) (sym same)
           (AllWithin-more (IsAmong (before ++ f ∷ [])) c.args.edges.now 0 c.loop-number.number
           (λ k d low high. among-more before f (get_or c.args.edges.now k d) (c.loop-number.invariant.all k d low high))

@@ -1,11 +1,12 @@
 use Rattle.std.proofs.Common.{[], All}
 use Rattle.std.specs.List.{AllWithin}
-use Rattle.lock_check.proofs.Single.{IsAbout}
+use Rattle.lock_check.proofs.Completing.{IsAbout}
 use Rattle.lock_check.specs.Complete.{AreSingle}
-use Rattle.lock_check.specs.Internal.Collected.{AreApartEdges, IsAmong}
+use Rattle.lock_files.specs.Edges.{AreApartEdges, IsEdge}
+use Rattle.lock_check.specs.Internal.Found.{IsAmong}
 use Rattle.lock_check.specs.Internal.Overriding.{AreChosen}
-use Rattle.lock_check.specs.Judged.{IsEdge, IsFinding}
-use Rattle.lock_check.specs.Lookups.{IsAt}
+use Rattle.lock_check.specs.Judged.{IsFinding}
+use Rattle.lock_files.specs.Lookups.{IsAt}
 use Rattle.lock_check.proofs.check.findings_of.Given as goal
 
 abbrev pub invariant-loop-number : goal.invariant-loop-number

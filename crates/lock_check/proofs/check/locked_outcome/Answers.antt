@@ -2,7 +2,7 @@ use Rattle.std.proofs.Common.{subst}
 use Rattle.std.proofs.lemmas.Bool.{iff_false}
 use Rattle.std.proofs.lemmas.Result.{IfOk-weaker}
 use Rattle.lock_check.specs.Judged.IsLockedOutcome.{judged, link, no_folder, own_peer, unnamed}
-use Rattle.lock_check.specs.Lookups.{IsBehind}
+use Rattle.lock_files.specs.Lookups.{IsBehind}
 use Rattle.lock_check.proofs.check.locked_outcome.Goals as goal
 
 pub returns-in_default : goal.returns-in_default

@@ -4,17 +4,16 @@ use Rattle.lock_check.proofs.Laying.{behind-none, behind-some, upto-end, upto-pa
 use Rattle.std.proofs.lemmas.Map.Iter.{iter_end, iter_turn}
 use Rattle.std.specs.Map.Iter.{deref_pair}
 use Rattle.serde_json.specs.View.{members_view, view}
-use Rattle.lock_check.specs.Internal.Collected.{Extends}
+use Rattle.lock_files.specs.Faults.{Extends}
 use Rattle.lock_check.specs.declared.overrides.Rule.{Rule}
 use Rattle.lock_check.specs.declared.overrides.Scope.TheVariants as scope
 use Rattle.lock_check.specs.Internal.Overriding.{AreInsideTold, AreLaid, IsAmongRules, IsRuleOf, OfPackage}
 use Rattle.lock_check.specs.Malformed.{IsFault}
 use Rattle.lock_check.specs.Overrides.{IsNoRule}
-use Rattle.lock_check.specs.declared.fault.Fault.TheVariants.{Override}
-use Rattle.lock_check.proofs.Completing.{extends-more, extends-on}
-use Rattle.lock_check.proofs.Overriding.{all-added, fault-made, has-key, is-dot, is-other, key-told, less-deep, no-rule}
+use Rattle.lock_files.specs.declared.fault.Fault.TheVariants.{Override}
+use Rattle.lock_files.proofs.Added.{extends-more, extends-on, all-added, as-before, one-more}
+use Rattle.lock_check.proofs.Overriding.{fault-made, has-key, is-dot, is-other, key-told, less-deep, no-rule}
 use Rattle.lock_check.proofs.Overriding.{object-made, rule-made, upto-all, upto-more}
-use Rattle.lock_check.proofs.Telling.{as-before, one-more}
 use Rattle.lock_check.proofs.overrides.+add_rules.Goals as goal
 
 pub loop-key-preserved-then-eq : goal.loop-key-preserved-then-eq

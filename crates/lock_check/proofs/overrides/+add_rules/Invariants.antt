@@ -1,10 +1,10 @@
 use Rattle.std.proofs.Common.{All, [], length}
-use Rattle.lock_check.specs.Internal.Collected.{Extends}
+use Rattle.lock_files.specs.Faults.{Extends}
 use Rattle.lock_check.specs.Internal.Overriding.{AreItsRules, IsObject}
-use Rattle.lock_check.specs.Lookups.{IsAt}
+use Rattle.lock_files.specs.Lookups.{IsAt}
 use Rattle.lock_check.specs.Malformed.{IsFault}
-use Rattle.lock_check.specs.declared.lock.Lock.{Lock}
-use Rattle.lock_check.specs.declared.lock.Package.{Package}
+use Rattle.lock_files.specs.declared.lock.Lock.{Lock}
+use Rattle.lock_files.specs.declared.lock.Package.{Package}
 use Rattle.lock_check.proofs.Laying.{IsLaidUpto}
 use Rattle.lock_check.proofs.Overriding.{AreToldUpto}
 use Rattle.serde_json.specs.Data.{members_depth}

@@ -1,6 +1,6 @@
 use Rattle.std.proofs.Common.{IfOk, IsTrue, ◌↔◌, subst, sym}
 use Rattle.lock_check.specs.Overrides.{IsReached}
-use Rattle.lock_check.specs.declared.specifier.Specifier.TheVariants.{Repository}
+use Rattle.lock_files.specs.declared.specifier.Specifier.TheVariants.{Repository}
 use Rattle.lock_check.proofs.overrides.is_reached.Goals as goal
 
 pub returns-in-Range : goal.returns-in-Range

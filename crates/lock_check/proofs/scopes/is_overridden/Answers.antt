@@ -1,6 +1,6 @@
 use Rattle.std.proofs.Common.{◌∙◌, codes, inl, inr, sym}
 use Rattle.std.proofs.lemmas.Str.Pattern.{starts_text}
-use Rattle.lock_check.proofs.Parts.{filled}
+use Rattle.lock_files.proofs.Parts.{filled}
 use Rattle.lock_check.proofs.scopes.is_overridden.Goals as goal
 
 pub returns-else-is_empty : goal.returns-else-is_empty

@@ -1,7 +1,7 @@
 use Rattle.std.proofs.Common.{Some}
 use Rattle.serde_json.specs.View.{view}
 use Rattle.lock_check.specs.Internal.Overriding.{AreAllLaid, AreChosen, AreSomewhere}
-use Rattle.lock_check.specs.declared.lock.Package.{Package}
+use Rattle.lock_files.specs.declared.lock.Package.{Package}
 use Rattle.lock_check.proofs.scopes.scopes_of.Given as goal
 
 abbrev pub invariant-loop-number : goal.invariant-loop-number

@@ -1,4 +1,4 @@
-use Rattle.std.proofs.Common.{◌≡◌, arith, option_map, subst}
+use Rattle.std.proofs.Common.{arith, option_map, subst}
 use Rattle.serde_json.specs.View.{view}
 use Rattle.lock_check.specs.Internal.Overriding.{IsAboutIf, IsFirstHit, IsRuleAt}
 use Rattle.lock_check.specs.declared.overrides.Scope.TheVariants.{Top}

@@ -2,7 +2,7 @@ use Rattle.std.proofs.Common.{Some}
 use Rattle.serde_json.specs.View.{view}
 use Rattle.lock_check.specs.Internal.Overriding.{AreAllLaid, IsScopeOf}
 use Rattle.lock_check.specs.Overrides.{Place}
-use Rattle.lock_check.specs.declared.lock.Package.{Package}
+use Rattle.lock_files.specs.declared.lock.Package.{Package}
 use Rattle.lock_check.proofs.Laying.{IsBefore}
 use Rattle.lock_check.proofs.overrides.Overrides.found.Given as goal
 

@@ -3,9 +3,8 @@ use Rattle.std.proofs.lemmas.List.{append-nil}
 use Rattle.lock_check.proofs.Laying.{laid-none, laid-some}
 use Rattle.serde_json.specs.View.{members_view}
 use Rattle.lock_check.specs.Internal.Overriding.{AreInsideTold, IsAmongRules, IsFound, OfPackage}
-use Rattle.lock_check.proofs.Completing.{extends-on}
-use Rattle.lock_check.proofs.Overriding.{all-none, found-object, found-told}
-use Rattle.lock_check.proofs.Telling.{fault-kept}
+use Rattle.lock_files.proofs.Added.{extends-on, all-none, fault-kept}
+use Rattle.lock_check.proofs.Overriding.{found-object, found-told}
 use Rattle.lock_check.proofs.overrides.Overrides.of.Goals as goal
 
 pub returns-in_default-clause-inside : goal.returns-in_default-clause-inside

@@ -1,5 +1,5 @@
 use Rattle.std.proofs.Common.{refl}
-use Rattle.lock_check.proofs.Parts.{no_dollar}
+use Rattle.lock_check.proofs.Overriding.{no_dollar}
 use Rattle.lock_check.proofs.overrides.Replacement.of.Goals.{in_default, in-empty, in-empty-2}
 use Rattle.lock_check.proofs.overrides.Replacement.of.Goals as goal
 

@@ -1,4 +1,4 @@
-use Rattle.std.proofs.Common.{◌≡◌, ◌∙◌, bytes_eq, not, sym, true}
+use Rattle.std.proofs.Common.{◌≡◌, ◌∙◌, bytes_eq, sym, true}
 use Rattle.std.proofs.lemmas.Result.{IfOk-weaker}
 use Rattle.std.proofs.lemmas.Slice.Eq.{bytes_eq-Decides}
 use Rattle.lock_check.proofs.Reaching.{about-if, not-false}

@@ -1,12 +1,13 @@
 use Rattle.std.proofs.Common.{◌∙◌, IfNone, IfSome, false, inl, inr, subst, sym}
 use Rattle.lock_check.specs.Internal.Overriding.{IsOwnRange}
 use Rattle.lock_check.proofs.Overriding.{no_rule-unread}
-use Rattle.lock_check.proofs.Parts.{filled}
+use Rattle.lock_files.proofs.Parts.{filled}
 use Rattle.npm_reading.specs.Ranges.{IsRangeIn}
 use Rattle.npm_words.specs.Alternatives.{HasAlternativesIn}
 use Rattle.semver_core.specs.Failures.{NoValue}
 use Rattle.semver_core.specs.declared.TheConstants.{MAX_SAFE_INTEGER}
-use Rattle.lock_check.proofs.overrides.Rule.of.Goals.{in-text, in_default-wanted+in_ok-range-in_default-wanted+in-Some-2}
+use Rattle.lock_check.proofs.overrides.Rule.of.Goals.{in-text}
+use Rattle.lock_check.proofs.overrides.Rule.of.Goals.{in_default-wanted+in_ok-range-in_default-wanted+in-Some-2}
 use Rattle.lock_check.proofs.overrides.Rule.of.Goals as goal
 
 pub returns-in-None-clause-none : goal.returns-in-None-clause-none

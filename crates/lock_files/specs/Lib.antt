@@ -1,0 +1,12 @@
+pub mod Dependencies
+pub mod Documents
+pub mod Edges
+pub mod Faults
+pub mod Fields
+pub mod Internal
+pub mod Lookups
+pub mod Optional
+pub mod Shown
+pub mod Specifiers
+pub mod Wanted
+pub mod Workspaces
