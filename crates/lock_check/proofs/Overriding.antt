@@ -1,7 +1,6 @@
 -- The rules of `overrides`.
 use Rattle.std.proofs.Common.{true≢false, length-append, ◌<◌, ◌+◌, ◌⊎◌, ◌∙◌, Bool, ap₂, arith, below_more, drop, append_assoc, codes, encode_utf8, false, get_or, if◌then◌else◌, length, refl}
-use Rattle.std.proofs.Common.{◌≡◌, ◌∷◌, ◌++◌, [], Contains, Global, List, None, Option, Some, String, ap, inl, inr, string_bytes, subst, suc, sym, true, unwrap_or, zero, ℕ}
-use Rattle.std.proofs.lemmas.List.Elements.{All-contains}
+use Rattle.std.proofs.Common.{◌≡◌, ◌∷◌, ◌++◌, [], Global, List, None, Option, Some, String, ap, inl, inr, string_bytes, subst, suc, sym, true, unwrap_or, zero, ℕ}
 use Rattle.std.proofs.lemmas.Bool.{eqb-true}
 use Rattle.std.proofs.lemmas.List.{append_cancel_right, drop_all, take_all}
 use Rattle.std.proofs.lemmas.List.Sums.{passes_at_first, split_at_first}
@@ -12,7 +11,7 @@ use Rattle.std.specs.Str.Pattern.{FindsCharSuffix, StripsSuffix}
 use Rattle.semver_core.specs.Lists.{is_empty}
 use Rattle.semver_core.specs.Text.Characters.{IsTrim}
 use Rattle.lock_files.specs.Specifiers.{IsUnsigned, with_sign}
-use Rattle.std.specs.Prelude.{⊤, ◌≢◌, IfNone, MatchOption, bytes_eq, slice_get}
+use Rattle.std.specs.Prelude.{◌≢◌, IfNone, MatchOption, bytes_eq, slice_get}
 use Rattle.std.specs.Borrow.{Bor}
 use Rattle.serde_json.specs.Data.{Data, Members, array, boolean, depth, member, members_depth, no_members, null, number, object}
 use Rattle.serde_json.specs.Data.{string}
@@ -20,13 +19,13 @@ use Rattle.serde_json.specs.Find.{as_object}
 use Rattle.serde_json.specs.View.{members_view, view}
 use Rattle.serde_json.specs.declared.value.Value.{Value}
 use Rattle.lock_files.specs.Faults.{Extends, HasFault}
-use Rattle.lock_check.specs.Internal.Overriding.{AreInsideTold, AreItsRules, IsAmongRules, IsFound, IsInside}
-use Rattle.lock_check.specs.Internal.Overriding.{IsLost, IsObject, IsRuleOf, OfPackage, below, whole}
+use Rattle.lock_check.specs.Internal.Overriding.{AreInsideTold, IsAmongRules, IsFound, IsInside}
+use Rattle.lock_check.specs.Internal.Overriding.{IsObject, IsRuleOf, OfPackage, below, whole}
 use Rattle.lock_files.specs.Lookups.{IsAt}
 use Rattle.lock_check.specs.Malformed.{AreRulesTold, IsFault, IsRuleFault}
-use Rattle.lock_check.specs.Overrides.{AreRules, HasKey, HasMember, IsInPlace, IsKey, IsNoRule, IsRule}
-use Rattle.lock_check.specs.Overrides.{IsRuleFor, inner, is_at, outermost, referenced, referred, rule_text}
-use Rattle.lock_check.specs.Overrides.{rules_in, said}
+use Rattle.lock_check.specs.Overrides.{AreRules, HasKey, HasMember, IsKey, IsNoRule}
+use Rattle.lock_check.specs.Overrides.{IsRuleFor, inner, is_at, outermost, rule_text}
+use Rattle.lock_check.specs.Overrides.{rules_in}
 use Rattle.lock_files.specs.declared.fault.Fault.{Fault}
 use Rattle.lock_files.specs.declared.fault.Fault.TheVariants as fault
 use Rattle.lock_files.specs.declared.lock.Lock.{Lock}
@@ -35,10 +34,7 @@ use Rattle.lock_files.proofs.Parts.{one_trim}
 use Rattle.npm_words.specs.Alternatives.{HasAlternativesIn}
 use Rattle.semver_core.specs.Failures.{NoValue}
 use Rattle.semver_core.specs.declared.TheConstants.{MAX_SAFE_INTEGER}
-use Rattle.lock_check.specs.Replacements.{IsReplacement}
 use Rattle.lock_files.specs.declared.lock.Package.{Package}
-use Rattle.lock_check.specs.declared.overrides.Replacement.{Replacement}
-use Rattle.lock_check.specs.declared.overrides.Replacement.TheVariants.{Reference, Text}
 use Rattle.lock_check.specs.declared.overrides.Rule.{Rule}
 
 -- ---- a name and a range in a key
@@ -136,6 +132,10 @@ one_key key name range other also (x, a, m, u, n, t, r) (y, b, k, v, o, s, q) =
       n ∙ (ap₂ (λ c l. with_sign c (before_first is_at l)) one.0 one.1 ∙ sym o),
       r ∙ (ap (λ l. if is_empty l then codes "*" else l) middles ∙ sym q),
     )
+
+pub one-name : (key : List ℕ) (value : Data) (a b text other : List ℕ) → IsRuleFor key value a text → IsRuleFor key value b other
+    → a ≡ b
+one-name key value a b text other is so = (one_key key a is.range b so.range is.named so.named).0
 
 -- so it is no rule if the name is empty, or that range is not read, or gives no text with its value
 pub no_rule-textless : (key name range : List ℕ) (value : Data) → IsKey key name range → rule_text range value ≡ None
@@ -350,54 +350,7 @@ upto-all es faults n all_of all = λ found key value in_it has none. elim (insid
     told key value has = each-member (λ k v. k ≢ codes "." → IsKeyTold faults k v) es
         (λ i e lt at. all i (subst (λ m. i < m) (sym all_of) lt) e at) key value has.0 has.1
 
--- ---- what a rule puts in the place of a text
-
 -- a text that does not begin with an encoded `$` does not begin with its byte
 pub no_dollar : (text : List ℕ) → ((rest : List ℕ) → text ≢ encode_utf8 36 ++ rest) → (name : List ℕ)
     → text ≢ 36 ∷ name
 no_dollar text none name e = none name (e ∙ ap (λ t. t ++ name) (sym (encode_ascii 36 (omega arith))))
-
--- a rule for this name, by what it replaces
-abbrev pub HasRule : Option Package → List ℕ → Replacement → Type 0
-HasRule root name by = OfPackage root (λ fields. (text : List ℕ) × IsRule fields name text × IsReplacement text by)
-
-pub rule-for : (root : Option Package) (rules : List Rule) (r : Rule) (name : List ℕ) → AreItsRules root rules
-    → Contains rules r → true ≡ bytes_eq r.name.now name → HasRule root name r.replacement
-rule-for root rules r name all at same =
-    let of = All-contains (λ r. OfPackage root (λ fields. IsAmongRules fields r)) rules r all at in
-    let for : IsRule (view of.0.fields.now) name of.2.0 =
-    subst (λ n. IsRule (view of.0.fields.now) n of.2.0) ((bytes_eq-Decides r.name.now name).0 (sym same)) of.2.1 in
-    (of.0, of.1, (of.2.0, for, of.2.2))
-
-pub put-said : (root : Option Package) (name : List ℕ) (text : Bor (List ℕ)) → HasRule root name (Text text)
-    → OfPackage root (λ fields. IsInPlace fields name text.now)
-put-said root name text of =
-    let by : IsReplacement of.2.0 (Text text) = of.2.2 in
-    (of.0, of.1, subst (λ t. IsInPlace (view of.0.fields.now) name t) (sym by.0) (said of.2.0 of.2.1 by.1 by.2 by.3))
-
--- what the root project has for a name
-abbrev pub IsReferenced : Option Package → List ℕ → Option (List ℕ) → Type 0
-IsReferenced root other found = MatchOption root ⊤ (λ p. found ≡ referenced (view p.fields.now) other)
-
-pub put-referred : (root : Option Package) (name : List ℕ) (other : Bor (List ℕ)) (text : List ℕ)
-    → HasRule root name (Reference other) → IsReferenced root other.now (Some text)
-    → OfPackage root (λ fields. IsInPlace fields name text)
-put-referred root name other text of found = (
-  of.0,
-  of.1,
-  referred other.now text
-      (subst (λ t. IsRule (view of.0.fields.now) name t) of.2.2 of.2.1)
-      (sym (subst (λ p. IsReferenced p other.now (Some text)) of.1 found)),
-)
-
-pub lost : (root : Option Package) (name : List ℕ) (other : Bor (List ℕ)) → HasRule root name (Reference other)
-    → IsReferenced root other.now None → IsLost root name
-lost root name other of found = (
-  of.0,
-  of.1,
-  (
-    other.now,
-    subst (λ t. IsRule (view of.0.fields.now) name t) of.2.2 of.2.1,
-    sym (subst (λ p. IsReferenced p other.now None) of.1 found),
-  ),
-)

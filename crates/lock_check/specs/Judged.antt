@@ -54,7 +54,7 @@ pub data IsLockedOutcome (lock : Lock) (d : Dependency) (locked : Package) : Out
 
 -- what is found for a dependency for which that is locked
 pub data IsOutcome (lock : Lock) (d : Dependency) : Option Package → Outcome → Type 0 where
-  no_reference : (locked : Option Package) → RefersToNothing lock d.name.now
+  no_reference : (locked : Option Package) → RefersToNothing lock d
       → IsOutcome lock d locked outcome.NoReference
   conflict : (locked : Option Package) → d.package.folder.now ≡ [] → IsOverride d.wanted
       → IsOutcome lock d locked outcome.Conflict

@@ -1,7 +1,7 @@
 // Compares each dependency of a lock file with the version that is locked for it.
 
 ghost use Rattle.lock_check.specs.Internal.Found.{IsAmong};
-ghost use Rattle.lock_check.specs.Internal.Overriding.{AreItsRules};
+ghost use Rattle.lock_check.specs.Internal.Overriding.{AreChosen};
 ghost use Rattle.lock_check.specs.Internal.Sources.{is_page, is_repository};
 ghost use Rattle.lock_check.specs.Complete.{AreAllJudged, AreSingle, AreWorkspacesJudged};
 ghost use Rattle.lock_check.specs.Judged.{IsFinding, IsLinkOfRoot, IsLockedOutcome, IsOutcome};
@@ -98,7 +98,8 @@ fn findings_of<'a>(
 ) -> Result<Vec<Finding<'a>>, AllocError>
     ensures each { All (IsEdge lock.entry) edges.now
         → IsAt lock.entry [] scopes.now.overrides.root
-        → AreItsRules scopes.now.overrides.root scopes.now.overrides.rules.items
+        → AreChosen scopes.now.overrides.root scopes.now.overrides.rules.items edges.now
+        scopes.now.of_edges
         → IfOk result (λ found. All (IsFinding lock.entry) found.items) }
     ensures all { IfOk result (λ found. All (IsAmong found.items) edges.now) }
     ensures single { AreApartEdges edges.now → IfOk result (λ found. AreSingle found.items) }
@@ -121,7 +122,7 @@ fn finding<'a>(
     ensures dependency { IfOk result (λ f. f.dependency
         ≡ as_wanted edge.entry.dependency wanted.entry) }
     ensures outcome { (IsNone wanted.entry
-        → RefersToNothing lock.entry edge.entry.dependency.name.now)
+        → RefersToNothing lock.entry edge.entry.dependency)
         → IfOk result (λ f. IsOutcome lock.entry f.dependency edge.entry.locked f.outcome) }
 {
     let Edge { dependency, locked } = edge;

@@ -1,19 +1,26 @@
 // `overrides` of the root project, which changes what packages depend on.
 
-ghost use Rattle.lock_files.specs.Faults.{Extends, HasFault, IsFieldFault, OfFields};
-ghost use Rattle.lock_check.specs.Internal.Overriding.{AreInsideTold, AreItsRules, IsFound, IsLost};
-ghost use Rattle.lock_check.specs.Internal.Overriding.{IsObject, IsPut, IsRuleOf};
+ghost use Rattle.lock_files.specs.Faults.{Extends};
+ghost use Rattle.lock_check.specs.Internal.Overriding.{AreAllLaid, AreInsideTold, AreItsRules};
+ghost use Rattle.lock_check.specs.Internal.Overriding.{AreLaid, IsAboutIf, IsFirstHit, IsFound};
+ghost use Rattle.lock_check.specs.Internal.Overriding.{IsFoundScope, IsInnerScope, IsObject};
+ghost use Rattle.lock_check.specs.Internal.Overriding.{IsRuleAt, IsRuleOf, IsScopeOf};
 ghost use Rattle.lock_files.specs.Lookups.{IsAt, written_in};
 ghost use Rattle.lock_check.specs.Malformed.{AreRulesTold, HasOtherRules, IsFault};
-ghost use Rattle.lock_check.specs.Overrides.{IsKey, IsNoRule, referenced, rule_text, some_text};
+ghost use Rattle.lock_files.specs.Faults.{HasFault};
+ghost use Rattle.lock_files.specs.Faults.{IsFieldFault, OfFields};
+ghost use Rattle.lock_check.specs.Overrides.{IsKey, IsNoRule, IsPutBy, IsReached, MayBeIn, Place};
+ghost use Rattle.lock_check.specs.Overrides.{referenced, rule_text};
+ghost use Rattle.lock_check.specs.Overrides.{some_text};
 ghost use Rattle.lock_check.specs.Replacements.{IsReplacement};
 ghost use Rattle.lock_files.specs.declared.lock.Lock.{Lock};
 ghost use Rattle.semver_core.specs.Lists.{is_empty};
 ghost use Rattle.lock_files.specs.declared.lock.Package.{Package};
+ghost use Rattle.lock_check.specs.declared.overrides.Rule.{Rule};
 ghost use Rattle.serde_json.specs.View.{members_view, view};
 ghost use Rattle.std.specs.Prelude.{◌≡◌, ◌≢◌, ◌++◌, ◌∷◌, [], if◌then◌else◌, ⊤, ℕ};
-ghost use Rattle.std.specs.Prelude.{All, Contains, IfNone, IfOk, IfSome, List};
-ghost use Rattle.std.specs.Prelude.{MatchOption, OnOk, Option, codes, option_map};
+ghost use Rattle.std.specs.Prelude.{◌↔◌, All, IfNone, IfOk, IfSome, IsTrue, List};
+ghost use Rattle.std.specs.Prelude.{MatchOption, OnOk, Option, codes, length, option_map};
 
 use crate::reading::{NpmRange, range, read_range};
 use lock_files::{Dependency, Fault, Field, Package, Specifier, Wanted, is_tag, unsigned};
@@ -60,6 +67,14 @@ pub struct Overrides<'a> {
     rules: Vec<Rule<'a>>,
 }
 
+impl Scope {
+    fn is(self, other: Scope) -> bool
+        ensures { IsTrue result ↔ (self ≡ other) }
+    {
+        self == other
+    }
+}
+
 impl<'a> Replacement<'a> {
     fn of(text: &'a str) -> Replacement<'a>
         ensures { IsReplacement text.now result }
@@ -82,6 +97,7 @@ impl<'a> Rule<'a> {
     ) -> Result<Option<Rule<'a>>, AllocError>
         ensures some { IfOk result (λ rule. IfSome rule (IsRuleOf key.now (view value.now))) }
         ensures none { IfOk result (λ rule. IfNone rule (IsNoRule key.now (view value.now))) }
+        ensures at { IfOk result (λ rule. IfSome rule (λ r. r.outer ≡ outer)) }
     {
         let (name, wanted) = split_key(key);
         let Some(text) = text_of(wanted, value) else {
@@ -109,25 +125,43 @@ impl<'a> Rule<'a> {
     // Whether the rule is about this dependency. Its range has to be one that has a version in
     // common with that of the rule; a tag or an address may be any version. A text that npm rejects
     // or may read otherwise stays as it is, and is judged so.
-    fn is_about(&self, alloc: Global, dependency: Dependency<'a>) -> Result<bool, AllocError> {
+    fn is_about(&self, alloc: Global, dependency: Dependency<'a>) -> Result<bool, AllocError>
+        ensures { IfOk result (IsAboutIf dependency.entry self.now) }
+    {
         if self.name != dependency.name {
             return Ok(false);
         }
-        let Some(own) = &self.range else {
-            return Ok(true);
-        };
-        match dependency.wanted.specifier() {
-            Specifier::Range(text) | Specifier::Repository(Some(text)) => {
-                Ok(match range(alloc, text)? {
-                    NpmRange::Read(wanted) => wanted.allows_any(own),
-                    NpmRange::Rejected => is_tag(text),
-                    NpmRange::Unsure => false,
-                })
-            }
-            Specifier::Repository(None) | Specifier::Unsupported => Ok(false),
-            Specifier::Folder(_) | Specifier::Packed(_) | Specifier::Page(_) => Ok(true),
+        match &self.range {
+            Some(own) => is_reached(alloc, own, dependency.wanted.specifier()),
+            None => Ok(true),
         }
     }
+}
+
+// Whether what is wanted may be in this range.
+fn is_reached(alloc: Global, own: &RangeRef<'_>, wanted: Specifier<'_>) -> Result<bool, AllocError>
+    ensures { IfOk result (λ is. IsTrue is ↔ IsReached own.now wanted.entry) }
+{
+    match wanted {
+        Specifier::Range(text) => may_be_in(alloc, own, text),
+        Specifier::Repository(range) => match range {
+            Some(text) => may_be_in(alloc, own, text),
+            None => Ok(false),
+        },
+        Specifier::Unsupported => Ok(false),
+        Specifier::Folder(_) | Specifier::Packed(_) | Specifier::Page(_) => Ok(true),
+    }
+}
+
+// Whether a text that npm may read as a range, or as a tag, may be in this range.
+fn may_be_in(alloc: Global, own: &RangeRef<'_>, text: &str) -> Result<bool, AllocError>
+    ensures { IfOk result (λ is. IsTrue is ↔ MayBeIn own.now text.now) }
+{
+    Ok(match range(alloc, text)? {
+        NpmRange::Read(wanted) => wanted.allows_any(own),
+        NpmRange::Rejected => is_tag(text),
+        NpmRange::Unsure => false,
+    })
 }
 
 // The name in a key, and the range behind it. A name may begin with an at sign of its own.
@@ -215,6 +249,10 @@ fn add_rules<'a>(
     ensures rules { OnOk result ((root : Option Package)
         → IsObject root (members_view object.now.entries)
         → AreItsRules root rules.old.items → AreItsRules root rules.new.items) }
+    ensures more { OnOk result (Extends rules.old.items rules.new.items) }
+    ensures laid { OnOk result ((all : List Rule) → Extends rules.new.items all
+        → AreLaid all outer (length rules.old.items) (length rules.new.items)
+        (members_view object.now.entries)) }
     ensures kept { OnOk result (Extends faults.old.items faults.new.items) }
     ensures told { OnOk result (AreInsideTold faults.new.items
         (members_view object.now.entries)) }
@@ -250,6 +288,8 @@ impl<'a> Overrides<'a> {
         ensures root { IfOk result (λ overrides. overrides.root ≡ root.entry) }
         ensures rules { IfOk result (λ overrides.
             AreItsRules root.entry overrides.rules.items) }
+        ensures laid { IfOk result (λ overrides.
+            AreAllLaid root.entry overrides.rules.items) }
         ensures kept { OnOk result (Extends faults.old.items faults.new.items) }
         ensures told { OnOk result ((lock : Lock) → IsAt lock [] root.entry
             → OfFields lock [] HasOtherRules
@@ -268,7 +308,9 @@ impl<'a> Overrides<'a> {
     }
 
     /// Whether there is no rule.
-    pub fn is_empty(&self) -> bool {
+    pub fn is_empty(&self) -> bool
+        ensures { IsTrue result ↔ (self.now.rules.items ≡ []) }
+    {
         self.rules.is_empty()
     }
 
@@ -280,29 +322,76 @@ impl<'a> Overrides<'a> {
         alloc: Global,
         scope: Scope,
         dependency: Dependency<'a>,
-    ) -> Result<Scope, AllocError> {
+    ) -> Result<Scope, AllocError>
+        ensures { IfOk result (λ inner. (root : Package) (place : Place)
+            → AreAllLaid (Some root) self.now.rules.items
+            → IsScopeOf self.now.rules.items scope place
+            → IsInnerScope self.now.rules.items (view root.fields.now) dependency.entry place
+            inner) }
+    {
+        match self.found(alloc, scope, dependency) {
+            Ok(Some(inner)) => Ok(inner),
+            Ok(None) => Ok(scope),
+            Err(error) => Err(error),
+        }
+    }
+
+    // The rule that is found for a dependency of a package in this scope.
+    fn found(
+        &self,
+        alloc: Global,
+        scope: Scope,
+        dependency: Dependency<'a>,
+    ) -> Result<Option<Scope>, AllocError>
+        ensures { IfOk result (λ found. (root : Package) (place : Place)
+            → AreAllLaid (Some root) self.now.rules.items
+            → IsScopeOf self.now.rules.items scope place
+            → IsFoundScope self.now.rules.items (view root.fields.now) dependency.entry place
+            found) }
+    {
         let mut around = scope;
-        for _ in 0..=self.rules.len() {
-            for (number, rule) in self.rules.iter().enumerate() {
-                if rule.outer == around && rule.is_about(alloc, dependency)? {
-                    return Ok(Scope::Rule(number));
-                }
+        for _ in 0..self.rules.len() {
+            let Some(rule) = self.rule(around) else {
+                break;
+            };
+            if let Some(number) = self.first_in(alloc, around, dependency)? {
+                return Ok(Some(Scope::Rule(number)));
             }
-            match self.rule(around) {
-                Some(rule) if rule.is_about(alloc, dependency)? => return Ok(around),
-                Some(rule) => around = rule.outer,
-                None => break,
+            if rule.is_about(alloc, dependency)? {
+                return Ok(Some(around));
+            }
+            around = rule.outer;
+        }
+        match self.first_in(alloc, Scope::Top, dependency) {
+            Ok(Some(number)) => Ok(Some(Scope::Rule(number))),
+            Ok(None) => Ok(None),
+            Err(error) => Err(error),
+        }
+    }
+
+    // The number of the first rule that is about a dependency, of those nested in this scope.
+    fn first_in(
+        &self,
+        alloc: Global,
+        scope: Scope,
+        dependency: Dependency<'a>,
+    ) -> Result<Option<usize>, AllocError>
+        ensures { IfOk result (IsFirstHit self.now.rules.items scope dependency.entry) }
+    {
+        for (number, rule) in self.rules.iter().enumerate() {
+            if rule.outer.is(scope) && rule.is_about(alloc, dependency)? {
+                return Ok(Some(number));
             }
         }
-        Ok(scope)
+        Ok(None)
     }
 
     /// What a dependency wants if the package that it means stands in this scope, or `None` if
     /// that is a reference to no dependency of the root project.
     pub(crate) fn wanted(&self, scope: Scope, dependency: Dependency<'a>) -> Option<Wanted<'a>>
-        ensures put { AreItsRules self.now.root self.now.rules.items → MatchOption result
-            (IsLost self.now.root dependency.entry.name.now)
-            (IsPut self.now.root dependency.entry) }
+        ensures { (root : Package) (place : Place) → self.now.root ≡ Some root
+            → IsScopeOf self.now.rules.items scope place
+            → IsPutBy (view root.fields.now) place dependency.entry result }
     {
         match self.rule(scope) {
             Some(rule) if rule.name == dependency.name => match rule.replacement {
@@ -330,7 +419,7 @@ impl<'a> Overrides<'a> {
     }
 
     fn rule(&self, scope: Scope) -> Option<&Rule<'a>>
-        ensures { IfSome result (λ rule. Contains self.now.rules.items rule.now) }
+        ensures { IsRuleAt self.now.rules.items scope (option_map (λ r. r.now) result) }
     {
         match scope {
             Scope::Top => None,

@@ -1,19 +1,34 @@
 -- For proofs and private contracts: the rules of `overrides` as they are kept.
-use Rattle.std.specs.Prelude.{◌≡◌, ◌⊎◌, ◌∷◌, ℕ, All, List, MatchOption, None, Option, Some}
-use Rattle.serde_json.specs.Data.{Data, Members}
+use Rattle.std.specs.Prelude.{⊤, ◌≡◌, ◌≢◌, ◌⊎◌, ◌<◌, ◌≤◌, ◌+◌, [], ℕ, All, Bool, List, MatchOption, None, Option}
+use Rattle.std.specs.Prelude.{IfSome, Some, codes, false, length, slice_get, true, unwrap_or}
+use Rattle.nodejs_semver.specs.Cuts.{Span}
+use Rattle.nodejs_semver.specs.Versions.{VersionValue}
+use Rattle.npm_reading.specs.Ranges.{IsRangeIn}
+use Rattle.semver_core.specs.declared.TheConstants.{MAX_SAFE_INTEGER}
+use Rattle.serde_json.specs.Data.{Data, Members, member, no_members}
 use Rattle.serde_json.specs.Find.{as_object}
 use Rattle.serde_json.specs.View.{view}
 use Rattle.lock_files.specs.Faults.{HasFault}
 use Rattle.lock_check.specs.Malformed.{IsRuleFault}
-use Rattle.lock_check.specs.Overrides.{AreRules, HasKey, IsInPlace, IsNoRule, IsRule, IsRuleFor, referenced}
-use Rattle.lock_check.specs.Overrides.{rules_in}
+use Rattle.lock_check.specs.Overrides.{AreRules, HasKey, IsNoRule, IsRule, IsRuleFor}
+use Rattle.lock_check.specs.Overrides.{HasNoFile, IsMeantIn, IsOverridden, IsOverriddenBy, IsPlace, IsReached, IsRuleFound}
+use Rattle.lock_check.specs.Overrides.{Place, nested_in, rules_in}
+use Rattle.lock_files.specs.declared.edge.Edge.{Edge}
+use Rattle.std.specs.BTreeMap.{BTreeMap, get}
+use Rattle.std.specs.Borrow.{Bor}
+use Rattle.std.specs.Cmp.Lexicographic.{slice_cmp}
+use Rattle.std.specs.Ordering.{nat_cmp}
+use Rattle.lock_check.specs.Overrides.Place.{rule, top}
+use Rattle.lock_files.specs.Wanted.{IsWantedAs}
 use Rattle.lock_check.specs.Replacements.{IsReplacement}
 use Rattle.lock_files.specs.declared.fault.Fault.{Fault}
 use Rattle.lock_files.specs.declared.lock.Dependency.{Dependency}
 use Rattle.lock_files.specs.declared.lock.Package.{Package}
 use Rattle.lock_files.specs.declared.lock.Wanted.{Wanted}
-use Rattle.lock_files.specs.declared.lock.Wanted.TheVariants as wanted
 use Rattle.lock_check.specs.declared.overrides.Rule.{Rule}
+use Rattle.lock_check.specs.declared.overrides.Scope.{Scope}
+use Rattle.lock_check.specs.declared.overrides.Scope.TheVariants as scope
+use Rattle.lock_files.specs.declared.specifier.Specifier.{Specifier}
 
 -- the package is there, and this holds of its fields
 abbrev pub OfPackage : Option Package → (Data → Type 0) → Type 0
@@ -27,9 +42,15 @@ IsObject root rules = OfPackage root (λ fields. AreRules fields rules)
 abbrev pub IsFound : Option Package → Option Members → Type 0
 IsFound root found = MatchOption root (found ≡ None) (λ p. found ≡ rules_in (view p.fields.now))
 
+-- the range that is read of a key, none if it is `*`
+abbrev pub IsOwnRange : List ℕ → Option (List (Span VersionValue)) → Type 0
+IsOwnRange range None = range ≡ codes "*"
+IsOwnRange range (Some own) = (range ≢ codes "*") × IsRangeIn false MAX_SAFE_INTEGER false range own
+
 -- the rule is that of a key and its value
 abbrev pub IsRuleOf : List ℕ → Data → Rule → Type 0
-IsRuleOf key value r = (text : List ℕ) × IsRuleFor key value r.name.now text × IsReplacement text r.replacement
+IsRuleOf key value r = (text : List ℕ) × (is : IsRuleFor key value r.name.now text)
+    × IsReplacement text r.replacement × IsOwnRange is.range r.range
 
 -- an object of rules is this one, or it stands inside
 pub data IsInside (rules : Members) : Members → Type 0 where
@@ -51,13 +72,106 @@ IsAmongRules root r = (text : List ℕ) × IsRule root r.name.now text × IsRepl
 abbrev pub AreItsRules : Option Package → List Rule → Type 0
 AreItsRules root rules = All (λ r. OfPackage root (λ fields. IsAmongRules fields r)) rules
 
--- what stands in the place of what the dependency wants: the same, or what a rule says
-abbrev pub IsPut : Option Package → Dependency → Wanted → Type 0
-IsPut root d (wanted.Override text) = (wanted.Override text ≡ d.wanted)
-    ⊎ OfPackage root (λ fields. IsInPlace fields d.name.now text.now)
-IsPut root d w = w ≡ d.wanted
+-- ---- which rules are about a dependency
 
--- a rule refers to nothing
-abbrev pub IsLost : Option Package → List ℕ → Type 0
-IsLost root name = OfPackage root (λ fields.
-    (other : List ℕ) × IsRule fields name (36 ∷ other) × (referenced fields other ≡ None))
+-- what is wanted is met by the range of a rule, if it has one
+abbrev pub IsReachedBy : Option (List (Span VersionValue)) → Wanted → Type 0
+IsReachedBy None w = ⊤
+IsReachedBy (Some own) w = (s : Specifier) × IsWantedAs w s × IsReached own s
+
+abbrev pub IsMissedBy : Option (List (Span VersionValue)) → Wanted → Type 0
+IsMissedBy None w = ⊥
+IsMissedBy (Some own) w = (s : Specifier) × IsWantedAs w s × ¬ (IsReached own s)
+
+-- whether a rule is about a dependency
+abbrev pub IsAboutIf : Dependency → Rule → Bool → Type 0
+IsAboutIf d r true = (r.name.now ≡ d.name.now) × IsReachedBy r.range d.wanted
+IsAboutIf d r false = (r.name.now ≢ d.name.now) ⊎ ((r.name.now ≡ d.name.now) × IsMissedBy r.range d.wanted)
+
+-- a rule stands in this scope and is about it
+abbrev pub IsHit : Scope → Dependency → Rule → Type 0
+IsHit s d r = (r.outer ≡ s) × IsAboutIf d r true
+
+abbrev pub IsMiss : Scope → Dependency → Rule → Type 0
+IsMiss s d r = (r.outer ≢ s) ⊎ IsAboutIf d r false
+
+-- the first of the rules that does, or there is none
+abbrev pub IsFirstHit : List Rule → Scope → Dependency → Option ℕ → Type 0
+IsFirstHit rules s d (Some n) = ((r : Rule) × (slice_get rules n ≡ Some r) × IsHit s d r)
+    × ((i : ℕ) (r : Rule) → i < n → slice_get rules i ≡ Some r → IsMiss s d r)
+IsFirstHit rules s d None = (i : ℕ) (r : Rule) → slice_get rules i ≡ Some r → IsMiss s d r
+
+-- ---- how the rules are laid out
+
+-- the rules of an object are laid out from one number to another: each before those nested in it, and these
+-- before the next
+pub data AreLaid (rules : List Rule) : Scope → (at end : ℕ) → Members → Type 0 where
+  nothing : (s : Scope) (at end : ℕ) → at ≡ end → AreLaid rules s at end no_members
+  passed : (s : Scope) (at end : ℕ) (key : List ℕ) (value : Data) (more : Members)
+      → (key ≡ codes ".") ⊎ IsNoRule key value → AreLaid rules s at end more
+      → AreLaid rules s at end (member key value more)
+  laid : (s : Scope) (at middle end : ℕ) (key : List ℕ) (value : Data) (more : Members) (r : Rule)
+      → slice_get rules at ≡ Some r → r.outer ≡ s → key ≢ codes "." → IsRuleOf key value r
+      → AreLaid rules (scope.Rule at) (at + 1) middle (unwrap_or (as_object value) no_members)
+      → AreLaid rules s middle end more → AreLaid rules s at end (member key value more)
+
+-- all rules of the root project are
+abbrev pub AreAllLaid : Option Package → List Rule → Type 0
+AreAllLaid None rules = rules ≡ []
+AreAllLaid (Some p) rules = AreLaid rules scope.Top 0 (length rules) (nested_in (view p.fields.now) top)
+
+-- no rule from the end on stands in one of those
+abbrev pub IsClosed : List Rule → (at end : ℕ) → Type 0
+IsClosed rules at end = (i j : ℕ) (r : Rule) → end ≤ i → slice_get rules i ≡ Some r → at ≤ j → j < end
+    → r.outer ≢ scope.Rule j
+
+-- a scope is a place in the rules
+pub data IsScopeOf (rules : List Rule) : Scope → Place → Type 0 where
+  at_top : IsScopeOf rules scope.Top top
+  in_rule : (n end : ℕ) (r : Rule) (around : Place) (key : List ℕ) (value : Data) → slice_get rules n ≡ Some r
+      → IsRuleOf key value r → key ≢ codes "." → IsScopeOf rules r.outer around
+      → AreLaid rules (scope.Rule n) (n + 1) end (unwrap_or (as_object value) no_members)
+      → IsClosed rules n end → IsScopeOf rules (scope.Rule n) (rule around key value)
+
+-- the rule of a scope
+abbrev pub IsRuleAt : List Rule → Scope → Option Rule → Type 0
+IsRuleAt rules scope.Top found = found ≡ None
+IsRuleAt rules (scope.Rule n) found = found ≡ slice_get rules n
+
+-- a scope is a place that is found so
+abbrev pub IsFoundScope : List Rule → Data → Dependency → Place → Option Scope → Type 0
+IsFoundScope rules root d place None = IsRuleFound root d place None
+IsFoundScope rules root d place (Some s) =
+    (inner : Place) × IsScopeOf rules s inner × IsRuleFound root d place (Some inner)
+
+abbrev pub IsInnerScope : List Rule → Data → Dependency → Place → Scope → Type 0
+IsInnerScope rules root d place s = (inner : Place) × IsScopeOf rules s inner × IsMeantIn root d place inner
+
+-- ---- where packages stand
+
+-- a scope that is a place of the root project
+abbrev pub IsSomewhere : List Rule → Data → Scope → Type 0
+IsSomewhere rules root s = (place : Place) × IsPlace root place × IsScopeOf rules s place
+
+-- a scope where a dependency leads from one
+abbrev pub IsLed : List Rule → Data → Dependency → Scope → Type 0
+IsLed rules root d s = (around : Place) × IsPlace root around × IsInnerScope rules root d around s
+
+-- the scope of each number is that to which the dependency of this number leads, for which rules hold
+abbrev pub IsChosen : List Rule → Data → List Edge → ℕ → Scope → Type 0
+IsChosen rules root edges n s = (e : Edge) × (slice_get edges n ≡ Some e) × IsOverridden e.dependency
+    × IsLed rules root e.dependency s
+
+abbrev pub AreChosen : Option Package → List Rule → List Edge → BTreeMap ℕ Scope → Type 0
+AreChosen root rules edges found = (n : ℕ) (s : Scope) → get nat_cmp found n ≡ Some s
+    → OfPackage root (λ fields. IsChosen rules fields edges n s)
+
+-- the same of packages, by their folders
+abbrev pub AreSomewhere : List Rule → Data → BTreeMap (Bor (List ℕ)) Scope → Type 0
+AreSomewhere rules root found = (folder : Bor (List ℕ)) (s : Scope)
+    → get (λ x y. slice_cmp nat_cmp x.now y.now) found folder ≡ Some s → IsSomewhere rules root s
+
+-- what a dependency wants after the overrides: the same, or what rules put in its place
+abbrev pub IsAfter : Option Package → Edge → Option Wanted → Type 0
+IsAfter root e w = (w ≡ Some e.dependency.wanted) ⊎ (IfSome e.locked (λ p. HasNoFile (view p.fields.now))
+    × OfPackage root (λ fields. IsOverriddenBy fields e.dependency w))

@@ -1,4 +1,4 @@
-use Rattle.std.proofs.Common.{◌≡◌, ◌∙◌, All, [], None, ap, inl, not, refl, subst, sym}
+use Rattle.std.proofs.Common.{Option, ◌≡◌, ◌∙◌, All, [], None, ap, inl, not, refl, subst, sym}
 use Rattle.std.proofs.lemmas.List.Elements.{All-same, All-weaker}
 use Rattle.lock_check.proofs.Completing.{judged-all, workspaces-judged}
 use Rattle.lock_check.proofs.Judging.{has-root, no-root, ruled}
@@ -10,12 +10,18 @@ use Rattle.lock_files.specs.Lookups.{IsAt}
 use Rattle.lock_files.specs.declared.fault.Fault.{Fault}
 use Rattle.lock_files.specs.declared.fault.Fault.TheVariants.{NoRoot}
 use Rattle.lock_check.proofs.check.check.Goals.{then-is_none+in_ok-push, else-is_none}
+use Rattle.lock_check.specs.Internal.Overriding.{AreAllLaid, AreChosen}
+use Rattle.lock_files.specs.declared.lock.Package.{Package}
 use Rattle.lock_check.proofs.check.check.Goals as goal
 
 pub returns-clause-each : goal.returns-clause-each
 returns-clause-each c =
-    let rules = ruled c.args.lock c.package-2.result c.in_ok-overrides.overrides c.in_ok-scopes.scopes.overrides
-    c.package-2.ensures c.in_ok-overrides.ensures.root c.in_ok-overrides.ensures.rules c.in_ok-scopes.ensures in
+    let chosen = subst (λ edges. (root : Option Package) → AreAllLaid root c.in_ok-overrides.overrides.rules.items
+    → AreChosen root c.in_ok-overrides.overrides.rules.items edges c.in_ok-scopes.scopes.of_edges)
+    (c.deref.ensures.value ∙ sym c.deref-2.ensures.value) c.in_ok-scopes.ensures.chosen in
+    let rules = ruled c.args.lock c.package-2.result c.in_ok-overrides.overrides c.in_ok-scopes.scopes.overrides c.deref-2.result.now
+    c.in_ok-scopes.scopes.of_edges c.package-2.ensures c.in_ok-overrides.ensures.root c.in_ok-overrides.ensures.laid chosen
+    c.in_ok-scopes.ensures.same in
     c.in_ok-of_dependencies.ensures.each
     (All-same (IsEdge c.args.lock) c.deref-2.result.now c.in_ok-edges.edges.items c.deref-2.ensures.value
     c.in_ok-edges.ensures.each) rules.0 rules.1

@@ -1,6 +1,7 @@
-use Rattle.std.proofs.Common.{◌+◌, ◌∷◌, ◌++◌, [], arith, get_or, subst, sym}
+use Rattle.std.proofs.Common.{◌+◌, ◌∷◌, ◌++◌, [], arith, get_or, refl, subst, sym}
 use Rattle.std.proofs.lemmas.List.Elements.{All-from_all_within, All-get_or, All-push, All-same, AllWithin-more}
 use Rattle.std.proofs.lemmas.List.Elements.{AllWithin-upto, at_read}
+use Rattle.std.proofs.lemmas.Option.{slice_get_read}
 use Rattle.std.specs.List.{AllWithin}
 use Rattle.lock_check.specs.Internal.Found.{IsAmong}
 use Rattle.lock_files.specs.Edges.{IsEdge}
@@ -19,11 +20,12 @@ loop-number-preserved c =
       each = λ all at rules.
           let is = subst (λ d. IsEdge lock d) (sym c.index-edges-number.is)
           (All-get_or (IsEdge lock) c.args.edges.now c.loop-number.number e (omega arith) all) in
-          let ruled = c.wanted-wanted.ensures.put rules in
+          let ruled = c.wanted-wanted.ensures c.args.edges.now rules
+          (slice_get_read c.args.edges.now _ c.loop-number.number e refl (omega arith) c.index-edges-number.is) in
           All-same (IsFinding lock) c.push.new.self.items (before ++ f ∷ []) same
           (All-push (IsFinding lock) before f (c.loop-number.invariant.each all at rules)
           (finding-made lock c.args.scopes.now.overrides.root e c.wanted-wanted.result f at is ruled c.in_ok-finding.ensures.dependency
-          (c.in_ok-finding.ensures.outcome (lost-refers lock c.args.scopes.now.overrides.root e.dependency c.wanted-wanted.result at ruled))));
+          (c.in_ok-finding.ensures.outcome (lost-refers lock c.args.scopes.now.overrides.root e c.wanted-wanted.result at is ruled))));
       all = subst (λ found. AllWithin (IsAmong found) c.args.edges.now 0 (c.loop-number.number + 1)) (sym same)
           (AllWithin-more (IsAmong (before ++ f ∷ [])) c.args.edges.now 0 c.loop-number.number
           (λ k d low high. among-more before f (get_or c.args.edges.now k d) (c.loop-number.invariant.all k d low high))

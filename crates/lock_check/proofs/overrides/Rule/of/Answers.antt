@@ -1,4 +1,5 @@
 use Rattle.std.proofs.Common.{◌∙◌, IfNone, IfSome, false, inl, inr, subst, sym}
+use Rattle.lock_check.specs.Internal.Overriding.{IsOwnRange}
 use Rattle.lock_check.proofs.Overriding.{no_rule-unread}
 use Rattle.lock_files.proofs.Parts.{filled}
 use Rattle.npm_reading.specs.Ranges.{IsRangeIn}
@@ -34,4 +35,13 @@ returns-clause-some c = (
     is = sym c.in-Some.ensures;
   },
   c.of-replacement.ensures,
+  elim c.match-wanted.branch [
+    | in-text w ↦ subst (IsOwnRange c.split_key.result.1.now) (sym w.range-is) w.in-text.is
+    | in_default-wanted+in_ok-range-in_default-wanted+in-Some-2 w ↦
+        subst (IsOwnRange c.split_key.result.1.now) (sym w.range-is) (
+          w.in_default-wanted.not-text,
+          subst (λ r. IfSome r (IsRangeIn false MAX_SAFE_INTEGER false c.split_key.result.1.now)) w.in-Some-2.is
+              w.in_ok-range-in_default-wanted.ensures.some,
+        )
+  ],
 )
