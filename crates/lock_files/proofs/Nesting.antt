@@ -12,8 +12,8 @@ use Rattle.serde_json.specs.Find.{get, get_member}
 use Rattle.serde_json.specs.View.{members_view, view}
 use Rattle.serde_json.specs.declared.value.Value.{Value}
 use Rattle.lock_files.proofs.Exact.{one_specifier}
-use Rattle.lock_files.specs.Specifiers.{IsSameAs}
-use Rattle.lock_files.specs.Nested.{IsSaid, SaysSource, is_range, is_repository}
+use Rattle.lock_files.specs.Specifiers.{IsSameAs, is_repository}
+use Rattle.lock_files.specs.Nested.{IsSaid, SaysSource, is_range}
 use Rattle.lock_files.specs.Nested.SaysSource.{alone, asked, checked, repository}
 use Rattle.lock_files.specs.Specifiers.{IsSpecifier}
 use Rattle.lock_files.specs.declared.specifier.Specifier.{Specifier}

@@ -1,9 +1,10 @@
 -- No name of a package is judged twice.
-use Rattle.std.proofs.Common.{◌≡◌, ◌≢◌, ◌<◌, ◌≤◌, ◌+◌, ◌⊎◌, ◌∷◌, ◌++◌, ◌∙◌, [], All, Contains, Global, Less}
+use Rattle.std.proofs.Common.{◌≡◌, ◌≢◌, ◌<◌, ◌≤◌, ◌+◌, ◌⊎◌, ◌∷◌, ◌++◌, ◌∙◌, [], All, Contains, Equal, Global, Greater, Less}
 use Rattle.std.proofs.Common.{List, String, ap, arith, get_or, inl, inr, is_eq, length, refl, string_bytes}
 use Rattle.std.proofs.Common.{ℕ, subst, sym, true}
 use Rattle.std.specs.Prelude.{bytes_eq}
 use Rattle.std.specs.List.{AllPairs}
+use Rattle.std.proofs.lemmas.Cmp.{nat_list_cmp_total, tied_itself}
 use Rattle.std.proofs.lemmas.List.{get_or_append_left, length-append}
 use Rattle.std.proofs.lemmas.List.Elements.{All-contains, All-get_or, All-push, All-weaker, Contains-append_left, Contains-push, at_read}
 use Rattle.std.proofs.lemmas.List.Quantifiers.{all_pairs_push}
@@ -14,7 +15,7 @@ use Rattle.std.proofs.Math.Seq.{get_or-append_seam}
 use Rattle.std.specs.List.Sorted.{IsStrictlySortedBy}
 use Rattle.std.specs.String.{string_cmp}
 use Rattle.lock_files.proofs.Collecting.{HasKey}
-use Rattle.lock_files.specs.Edges.{AreOfOne, AreApartEdges}
+use Rattle.lock_files.specs.Edges.{AreApartEdges, AreInOrder, AreOfOne, IsUpTo}
 use Rattle.lock_files.specs.Internal.Collected.{AreOwn, IsOneOf}
 use Rattle.lock_files.specs.declared.edge.Edge.{Edge}
 use Rattle.lock_files.specs.declared.lock.Dependency.{Dependency}
@@ -73,15 +74,38 @@ apart-push before edges after found i e folder low is same own others from apart
           (subst (AreOfOne (get_or edges k x).dependency) is one))
     ]))
 
+pub order-push : (before edges after : List Edge) (found : List Dependency) (i : ℕ) (e : Edge) (folder : List ℕ)
+    → i < length found → e.dependency ≡ get_or found i e.dependency → after ≡ edges ++ e ∷ [] → AreOwn folder found
+    → All (λ x. IsUpTo x.dependency.package.folder.now folder) before → All (IsOneBefore before found i) edges
+    → AreInOrder edges → AreInOrder after
+order-push before edges after found i e folder low is same own others from ordered =
+    let R = λ (x y : Edge). IsUpTo x.dependency.package.folder.now y.dependency.package.folder.now in
+    let here : e.dependency.package.folder.now ≡ folder =
+    subst (λ d. d.package.folder.now ≡ folder) (sym is)
+    (All-get_or (λ d. d.package.folder.now ≡ folder) found i e.dependency low own.each) in
+    subst (AllPairs R) (sym same) (all_pairs_push R edges e ordered (λ k x within.
+    subst (IsUpTo (get_or edges k x).dependency.package.folder.now) (sym here) (elim (from k x within) [
+      | inl old ↦
+          All-contains (λ y. IsUpTo y.dependency.package.folder.now folder) before (get_or edges k x) others old
+      | inr new ↦
+          subst (λ f. IsUpTo f folder)
+          (sym (subst (λ d. d.package.folder.now ≡ folder) (new.2 e.dependency)
+          (All-get_or (λ d. d.package.folder.now ≡ folder) found new.0 e.dependency (omega (arith, new.1)) own.each)))
+          (up-to-itself folder)
+    ])))
+  where
+    up-to-itself : (f : List ℕ) → IsUpTo f f
+    up-to-itself f is = let equal : Equal ≡ Greater = sym (tied_itself nat_list_cmp_total f) ∙ is in absurd (cc)
+
 -- ---- those of all packages
 
 abbrev pub IsKeyed : List (String Global) → Edge → Type 0
 IsKeyed keys e = HasKey keys e.dependency.package.folder.now
 
--- a key that comes later has another text
-later : (keys more all : List (String Global)) (key : String Global) → all ≡ keys ++ key ∷ more
-    → IsStrictlySortedBy string_cmp all → (folder : List ℕ) → HasKey keys folder → folder ≢ string_bytes key
-later keys more all key same sorted folder has is =
+-- a key that comes later is greater
+less : (keys more all : List (String Global)) (key : String Global) → all ≡ keys ++ key ∷ more
+    → IsStrictlySortedBy string_cmp all → (folder : List ℕ) → (has : HasKey keys folder) → string_cmp has.0 key ≡ Less
+less keys more all key same sorted folder has =
     let k = has.0 in
     let i = has.1.0 in
     let first : get_or all i k ≡ k =
@@ -90,13 +114,32 @@ later keys more all key same sorted folder has is =
     ap (λ ks. get_or ks (length keys) k) same ∙ get_or-append_seam keys key more k in
     let within : length keys < length all =
     subst (λ ks. length keys < length ks) (sym same) (omega (arith, length-append keys (key ∷ more))) in
-    let less : string_cmp k key ≡ Less =
     subst (λ l. string_cmp k l ≡ Less) last (subst (λ f. string_cmp f (get_or all (length keys) k) ≡ Less) first
-    (Less-from_sorted string_cmp all i (length keys) k sorted has.1.1 within)) in
+    (Less-from_sorted string_cmp all i (length keys) k sorted has.1.1 within))
+
+-- and has another text
+later : (keys more all : List (String Global)) (key : String Global) → all ≡ keys ++ key ∷ more
+    → IsStrictlySortedBy string_cmp all → (folder : List ℕ) → HasKey keys folder → folder ≢ string_bytes key
+later keys more all key same sorted folder has is =
+    let k = has.0 in
     let equal : bytes_eq (string_bytes k) (string_bytes key) ≡ true =
     (bytes_eq-Decides (string_bytes k) (string_bytes key)).1 (has.2 ∙ is) in
     let apart : is_eq Less ≡ bytes_eq (string_bytes k) (string_bytes key) =
-    sym (ap is_eq less) ∙ is_eq-slice_cmp (string_bytes k) (string_bytes key) in absurd (cc)
+    sym (ap is_eq (less keys more all key same sorted folder has)) ∙ is_eq-slice_cmp (string_bytes k) (string_bytes key) in
+    absurd (cc)
+
+up-to : (keys more all : List (String Global)) (key : String Global) → all ≡ keys ++ key ∷ more
+    → IsStrictlySortedBy string_cmp all → (folder : List ℕ) → HasKey keys folder → IsUpTo folder (string_bytes key)
+up-to keys more all key same sorted folder has =
+    subst (λ f. IsUpTo f (string_bytes key)) has.2
+    (λ is. let two : Less ≡ Greater = sym (less keys more all key same sorted folder has) ∙ is in absurd (cc))
+
+pub keyed-up-to : (keys more all : List (String Global)) (key : String Global) (edges : List Edge)
+    → all ≡ keys ++ key ∷ more → IsStrictlySortedBy string_cmp all → All (IsKeyed keys) edges
+    → All (λ e. IsUpTo e.dependency.package.folder.now (string_bytes key)) edges
+keyed-up-to keys more all key edges same sorted keyed =
+    All-weaker (IsKeyed keys) (λ e. IsUpTo e.dependency.package.folder.now (string_bytes key))
+    (λ e has. up-to keys more all key same sorted e.dependency.package.folder.now has) edges keyed
 
 pub keyed-apart : (keys more all : List (String Global)) (key : String Global) (edges : List Edge)
     → all ≡ keys ++ key ∷ more → IsStrictlySortedBy string_cmp all → All (IsKeyed keys) edges

@@ -1,6 +1,9 @@
 -- Statement: the dependencies of all packages of a lock file, each with what is locked for it.
-use Rattle.std.specs.Prelude.{◌≡◌, ◌⊎◌, ◌&&◌, ◌||◌, [], AllPairs, Bool, Contains, List, Some, codes, not}
+use Rattle.std.specs.Prelude.{◌≡◌, ◌≢◌, ◌⊎◌, ◌&&◌, ◌||◌, [], AllPairs, Bool, Contains, List, Some, codes, not}
 use Rattle.std.specs.Prelude.{true, ℕ}
+use Rattle.std.specs.Cmp.Lexicographic.{slice_cmp}
+use Rattle.std.specs.Ordering.{nat_cmp}
+use Rattle.std.specs.declared.cmp.Ordering.TheVariants.{Greater}
 use Rattle.serde_json.specs.Data.{Data}
 use Rattle.serde_json.specs.Find.{get}
 use Rattle.serde_json.specs.View.{view}
@@ -57,6 +60,14 @@ AreOfOne d e = (d.package.folder.now ≡ e.package.folder.now) × (d.name.now �
 -- no name of a package has two edges
 abbrev pub AreApartEdges : List Edge → Type 0
 AreApartEdges edges = AllPairs (λ d e. ¬ AreOfOne d.dependency e.dependency) edges
+
+-- those of earlier folders come first
+abbrev pub IsUpTo : (first last : List ℕ) → Type 0
+IsUpTo first last = slice_cmp nat_cmp first last ≢ Greater
+
+abbrev pub AreInOrder : List Edge → Type 0
+AreInOrder edges =
+    AllPairs (λ d e. IsUpTo d.dependency.package.folder.now e.dependency.package.folder.now) edges
 
 -- each workspace of the root project has one about its name
 abbrev pub AreWorkspacesCollected : Lock → List Edge → Type 0

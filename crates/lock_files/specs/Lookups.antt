@@ -69,6 +69,19 @@ abbrev pub IsBehind : Lock → Package → Option Package → Type 0
 IsBehind lock p found = ((is_set (codes "link") (view p.fields.now) ≡ false) × (found ≡ Some p))
     ⊎ ((is_set (codes "link") (view p.fields.now) ≡ true) × IsAt lock (link_target p) found)
 
+-- the package in a place has a lock file of its own, and what stands in the folder is installed in it
+abbrev pub LocksIn : Lock → (place folder : List ℕ) → Type 0
+LocksIn lock place folder = ((behind : List ℕ) × (folder ≡ place ++ (codes "/node_modules/" ++ behind)))
+    × ((p : Package) × IsAt lock place (Some p) × (is_set (codes "hasShrinkwrap") (view p.fields.now) ≡ true))
+
+abbrev pub IsInside : Lock → List ℕ → Type 0
+IsInside lock folder = (place : List ℕ) × LocksIn lock place folder
+
+-- a package comes packed in another one, or it or one around it has a lock file of its own
+abbrev pub IsPacked : Lock → Package → Type 0
+IsPacked lock p = (is_set (codes "inBundle") (view p.fields.now) ≡ true)
+    ⊎ ((is_set (codes "hasShrinkwrap") (view p.fields.now) ≡ true) ⊎ IsInside lock p.folder.now)
+
 abbrev pub field_name : Field → List ℕ
 field_name field.Development = codes "devDependencies"
 field_name field.Optional = codes "optionalDependencies"

@@ -8,7 +8,7 @@ use Rattle.serde_json.specs.Data.{Data, Members, boolean, member, no_members, ob
 use Rattle.serde_json.specs.Find.{as_object, get, get_member}
 use Rattle.lock_files.specs.Fields.{text_of}
 use Rattle.lock_files.specs.Paths.{joined}
-use Rattle.lock_files.specs.Specifiers.{IsSpecifier}
+use Rattle.lock_files.specs.Specifiers.{IsSpecifier, is_repository}
 use Rattle.lock_files.specs.declared.specifier.Specifier.{Specifier}
 use Rattle.lock_files.specs.declared.specifier.Specifier.TheVariants.{Folder, Packed, Page, Range, Repository}
 
@@ -16,10 +16,6 @@ use Rattle.lock_files.specs.declared.specifier.Specifier.TheVariants.{Folder, Pa
 abbrev pub IsSaid : (field : List ℕ) → Data → Option Specifier → Type 0
 IsSaid field entry (Some s) = (text : List ℕ) × (text_of field entry ≡ Some text) × IsSpecifier text s
 IsSaid field entry None = text_of field entry ≡ None
-
-abbrev pub is_repository : Specifier → Bool
-is_repository (Repository range) = true
-is_repository s = false
 
 abbrev pub is_range : Specifier → Bool
 is_range (Range range) = true

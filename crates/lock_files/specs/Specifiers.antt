@@ -290,3 +290,7 @@ IsSameAs (Page a) (Page b) = a.now ≡ b.now
 IsSameAs (Repository a) (Repository b) = option_map (λ t. t.now) a ≡ option_map (λ t. t.now) b
 IsSameAs Unsupported Unsupported = ⊤
 IsSameAs _ _ = ⊥
+
+abbrev pub is_repository : Specifier → Bool
+is_repository (Repository range) = true
+is_repository s = false

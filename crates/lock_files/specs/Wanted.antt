@@ -1,5 +1,5 @@
 -- Statement: what a dependency wants.
-use Rattle.std.specs.Prelude.{◌≡◌, ⊤, List, ℕ}
+use Rattle.std.specs.Prelude.{◌≡◌, ◌≢◌, ⊤, List, ℕ}
 use Rattle.lock_files.specs.Specifiers.{IsSpecifier}
 use Rattle.lock_files.specs.declared.lock.Wanted.{Wanted}
 use Rattle.lock_files.specs.declared.lock.Wanted.TheVariants as wanted
@@ -15,6 +15,11 @@ wanted_text (wanted.Workspace folder) = folder.now
 abbrev pub IsOverride : Wanted → Type 0
 IsOverride (wanted.Override text) = ⊤
 IsOverride _ = ⊥
+
+-- an override changes what is written: it is another text, or stands in place of a workspace
+abbrev pub IsOtherThan : (now before : Wanted) → Type 0
+IsOtherThan (wanted.Override text) (wanted.Text before) = text.now ≢ before.now
+IsOtherThan now before = IsOverride now
 
 abbrev pub IsFolder : List ℕ → Specifier → Type 0
 IsFolder folder (Folder path) = path.now ≡ folder

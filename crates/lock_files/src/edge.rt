@@ -2,7 +2,7 @@
 
 ghost use Rattle.lock_files.specs.Dependencies.{IsDeclared};
 ghost use Rattle.lock_files.specs.Edges.{AreAllCollected, AreApartEdges, AreWorkspacesCollected};
-ghost use Rattle.lock_files.specs.Edges.{IsEdge, is_locked_for_development};
+ghost use Rattle.lock_files.specs.Edges.{AreInOrder, IsEdge, IsUpTo, is_locked_for_development};
 ghost use Rattle.lock_files.specs.Faults.{ArePackagesTold, Extends, HasAllFaults, IsPackageFault};
 ghost use Rattle.lock_files.specs.Internal.Collected.{AreAllFound, AreOwn, AreTextsTold};
 ghost use Rattle.lock_files.specs.Internal.Collected.{IsForDevelopment, IsOneOf, IsTaken};
@@ -34,6 +34,7 @@ pub fn edges<'a>(
     ensures each { IfOk result (λ edges. All (IsEdge lock.entry) edges.items) }
     ensures all { IfOk result (λ edges. AreAllCollected lock.entry edges.items) }
     ensures apart { IfOk result (λ edges. AreApartEdges edges.items) }
+    ensures ordered { IfOk result (λ edges. AreInOrder edges.items) }
     ensures workspaces { IfOk result (λ edges. AreWorkspacesCollected lock.entry edges.items) }
     ensures kept { OnOk result (Extends faults.old.items faults.new.items) }
     ensures told { OnOk result (ArePackagesTold lock.entry faults.new.items) }
@@ -92,6 +93,9 @@ fn add_edges<'a>(
     ensures apart { OnOk result ((folder : List ℕ) → AreOwn folder dependencies.now
         → All (λ e. e.dependency.package.folder.now ≢ folder) edges.old.items
         → AreApartEdges edges.old.items → AreApartEdges edges.new.items) }
+    ensures ordered { OnOk result ((folder : List ℕ) → AreOwn folder dependencies.now
+        → All (λ e. IsUpTo e.dependency.package.folder.now folder) edges.old.items
+        → AreInOrder edges.old.items → AreInOrder edges.new.items) }
 {
     for &dependency in dependencies {
         let locked = lock.nearest(alloc, dependency.package.folder, dependency.name)?;

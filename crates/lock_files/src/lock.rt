@@ -8,13 +8,14 @@ ghost use Rattle.lock_files.specs.Internal.Patterns.{Keeps};
 ghost use Rattle.lock_files.specs.Dependencies.{IsRead, accepted_by, IsDeclared};
 ghost use Rattle.lock_files.specs.Optional.{MayBeAbsent};
 ghost use Rattle.lock_files.specs.Fields.{is_set, member_of, text_of};
-ghost use Rattle.lock_files.specs.Wanted.{IsOverride, wanted_text, IsWantedAs};
-ghost use Rattle.lock_files.specs.Lookups.{IsAt, IsBehind, IsClosest, IsNearest, IsPackage};
-ghost use Rattle.lock_files.specs.Lookups.{field_name, installed, written_in};
+ghost use Rattle.lock_files.specs.Wanted.{IsOtherThan, IsWantedAs, wanted_text};
+ghost use Rattle.lock_files.specs.Lookups.{IsAt, IsBehind, IsClosest, IsInside, IsNearest};
+ghost use Rattle.lock_files.specs.Lookups.{IsPackage};
+ghost use Rattle.lock_files.specs.Lookups.{IsPacked, LocksIn, field_name, installed, written_in};
 ghost use Rattle.lock_files.specs.declared.lock.Lock.{Lock};
 ghost use Rattle.serde_json.specs.View.{members_view, view};
-ghost use Rattle.std.specs.Prelude.{◌≡◌, ◌↔◌, ◌++◌, [], All, IfErr, IfNone, IfOk, IfSome};
-ghost use Rattle.std.specs.Prelude.{IsTrue, OnOk, codes, option_map};
+ghost use Rattle.std.specs.Prelude.{◌≡◌, ◌≢◌, ◌↔◌, ◌++◌, [], All, IfErr, IfNone, IfOk, IfSome};
+ghost use Rattle.std.specs.Prelude.{IsTrue, List, OnOk, Some, codes, option_map, true, ℕ};
 
 use crate::fault::Fault;
 use crate::folder::{is_installed, joined};
@@ -187,7 +188,7 @@ impl<'a> Package<'a> {
 impl<'a> Wanted<'a> {
     /// Whether an override changes what was wanted before.
     pub fn is_other_than(self, before: Wanted<'_>) -> bool
-        ensures { IsTrue result → IsOverride self.entry }
+        ensures { IsTrue result ↔ IsOtherThan self.entry before.entry }
     {
         match (self, before) {
             (Wanted::Override(text), Wanted::Text(before)) => text != before,
@@ -367,6 +368,51 @@ impl<'a> Lock<'a> {
         Ok(self.package(&key))
     }
 
+    /// Whether a package comes packed in another one, or it or one around it has a lock file of its
+    /// own.
+    pub fn is_packed(self, package: Package<'_>) -> bool
+        ensures { IsTrue result ↔ IsPacked self.entry «package».entry }
+    {
+        package.is("inBundle") || package.is("hasShrinkwrap") || self.is_inside(package.folder)
+    }
+
+    // Whether a package around this folder has a lock file of its own.
+    fn is_inside(self, folder: &str) -> bool
+        ensures { IsTrue result ↔ IsInside self.entry folder.now }
+    {
+        let mut place = folder;
+        loop {
+            if self.locks_in(place, folder) {
+                return true;
+            }
+            match place.rsplit_once('/') {
+                Some((above, _)) => place = above,
+                None => return false,
+            }
+        }
+    }
+
+    // Whether the package in a place has a lock file of its own, and the folder is installed in it.
+    fn locks_in(self, place: &str, folder: &str) -> bool
+        ensures { IsTrue result ↔ LocksIn self.entry place.now folder.now }
+    {
+        match behind_modules(place, folder) {
+            Some(_) => self.has_own_file(place),
+            None => false,
+        }
+    }
+
+    // Whether the package in this folder has a lock file of its own.
+    fn has_own_file(self, folder: &str) -> bool
+        ensures { IsTrue result ↔ ((p : Package) × IsAt self.entry folder.now (Some p)
+            × (is_set (codes "hasShrinkwrap") (view p.fields.now) ≡ true)) }
+    {
+        match self.package(folder) {
+            Some(package) => package.is("hasShrinkwrap"),
+            None => false,
+        }
+    }
+
     /// The package itself, or that to whose folder it is a link, if the lock file has it.
     pub fn behind(
         self,
@@ -381,6 +427,16 @@ impl<'a> Lock<'a> {
         let folder = joined(alloc, "", package.text("resolved").unwrap_or(""))?;
         Ok(self.package(&folder))
     }
+}
+
+// What stands behind a place and its `node_modules`, if the folder is of what is installed there.
+fn behind_modules<'a>(place: &str, folder: &'a str) -> Option<&'a str>
+    ensures some { IfSome result (λ behind.
+        folder.now ≡ place.now ++ (codes "/node_modules/" ++ behind.now)) }
+    ensures none { IfNone result ((behind : List ℕ)
+        → folder.now ≢ place.now ++ (codes "/node_modules/" ++ behind)) }
+{
+    folder.strip_prefix(place)?.strip_prefix("/node_modules/")
 }
 
 // Whether this field of a value is `true`.

@@ -5,7 +5,7 @@ ghost use Rattle.lock_files.specs.Internal.Nesting.{AddsAll, AddsEntry, AddsOwn,
 ghost use Rattle.lock_files.specs.Internal.Nesting.{with_link, with_target};
 ghost use Rattle.lock_files.specs.Nested.{AreConverted, HasFields, IsLastPart, IsNamedIn, IsSaid};
 ghost use Rattle.lock_files.specs.Nested.{IsPackedVersion, IsSource, IsVersion, SaysSource, below};
-ghost use Rattle.lock_files.specs.Nested.{address_of, is_range, is_repository, kept, link_to};
+ghost use Rattle.lock_files.specs.Nested.{address_of, is_range, kept, link_to};
 ghost use Rattle.lock_files.specs.Nested.{link_target, with_field};
 ghost use Rattle.lock_files.specs.Paths.{joined};
 ghost use Rattle.serde_json.specs.Data.{no_members, object, string};
@@ -185,19 +185,13 @@ fn source(entry: &Value) -> Option<Specifier<'_>>
 fn says_source(entry: &Value, version: Specifier<'_>) -> bool
     ensures { IsTrue result ↔ SaysSource (view entry.now) version.entry }
 {
-    if is_repository(version) || entry.get("integrity").is_some() {
+    if version.is_repository() || entry.get("integrity").is_some() {
         return true;
     }
     match specifier(entry, "from") {
         Some(from) => is_range(from),
         None => text(entry, "resolved").is_none(),
     }
-}
-
-fn is_repository(specifier: Specifier<'_>) -> bool
-    ensures { result ≡ is_repository specifier.entry }
-{
-    matches!(specifier, Specifier::Repository(_))
 }
 
 fn is_range(specifier: Specifier<'_>) -> bool

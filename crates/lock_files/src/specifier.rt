@@ -11,6 +11,7 @@ ghost use Rattle.lock_files.specs.Specifiers.{IsScopeAndName, IsSpecifier, IsTag
 ghost use Rattle.lock_files.specs.Specifiers.{IsWeb, IsWithoutScheme, before_hash, begins_path};
 ghost use Rattle.lock_files.specs.Specifiers.{behind_git, host_in, is_address, is_git};
 ghost use Rattle.lock_files.specs.Specifiers.{is_of_registry, is_packed, is_part, is_place};
+ghost use Rattle.lock_files.specs.Specifiers.{is_repository};
 ghost use Rattle.lock_files.specs.Specifiers.{is_plain, is_remote, is_unmarked, is_url_byte};
 ghost use Rattle.lock_files.specs.Specifiers.{is_word, scheme_of, target_of, without_www};
 ghost use Rattle.semver_core.specs.Text.Characters.{is_whitespace};
@@ -81,6 +82,13 @@ impl<'a> Specifier<'a> {
             Some(target) => alias(target),
             None => elsewhere(text),
         }
+    }
+
+    /// Whether it is a repository.
+    pub fn is_repository(self) -> bool
+        ensures { result ≡ is_repository self.entry }
+    {
+        matches!(self, Specifier::Repository(_))
     }
 }
 

@@ -3,8 +3,8 @@ use Rattle.std.proofs.lemmas.List.{append-nil, get_or_default}
 use Rattle.std.proofs.lemmas.List.Elements.{All-from_all_within, All-get_or, All-push, All-same, AllWithin-more, AllWithin-upto, at_read}
 use Rattle.lock_files.proofs.Added.{extends-more, extends-same}
 use Rattle.lock_files.proofs.Completing.{taken-kept, taken-out, taken-push}
-use Rattle.lock_files.proofs.Single.{IsOneBefore, apart-push, before-all, before-more, before-push}
-use Rattle.lock_files.specs.Edges.{AreApartEdges, IsEdge}
+use Rattle.lock_files.proofs.Single.{IsOneBefore, apart-push, before-all, before-more, before-push, order-push}
+use Rattle.lock_files.specs.Edges.{AreApartEdges, AreInOrder, IsEdge}
 use Rattle.lock_files.specs.Faults.{Extends}
 use Rattle.lock_files.specs.Internal.Collected.{IsTaken}
 use Rattle.lock_files.specs.Dependencies.{IsDeclared}
@@ -20,6 +20,7 @@ loop-dependency-init c = record {
   all = λ k d low high. absurd (omega arith);
   from = λ k e within. inl (k, within, get_or_default c.args.edges.now.items k (get_or c.args.edges.now.items k e) e within);
   apart = λ folder own others apart. apart;
+  ordered = λ folder own others ordered. ordered;
 }
 
 pub loop-dependency-preserved : goal.loop-dependency-preserved
@@ -49,6 +50,9 @@ loop-dependency-preserved c =
             apart = λ folder own others apart. apart-push c.args.edges.now.items before after c.args.dependencies.now i edge folder
                 (omega arith) c.dependency-item.is same own others c.loop-dependency.invariant.from
                 (c.loop-dependency.invariant.apart folder own others apart);
+            ordered = λ folder own others ordered. order-push c.args.edges.now.items before after c.args.dependencies.now i edge
+                folder (omega arith) c.dependency-item.is same own others c.loop-dependency.invariant.from
+                (c.loop-dependency.invariant.ordered folder own others ordered);
           }
       | else-not-is_of_development w ↦
           let after = c.if-not-is_of_development.edges.items in
@@ -65,6 +69,8 @@ loop-dependency-preserved c =
                 (before-more c.args.edges.now.items before c.args.dependencies.now i c.loop-dependency.invariant.from);
             apart = λ folder own others apart. subst AreApartEdges (sym same)
                 (c.loop-dependency.invariant.apart folder own others apart);
+            ordered = λ folder own others ordered. subst AreInOrder (sym same)
+                (c.loop-dependency.invariant.ordered folder own others ordered);
           }
     ]
 

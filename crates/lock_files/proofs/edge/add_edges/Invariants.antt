@@ -1,7 +1,7 @@
 use Rattle.std.proofs.Common.{◌≢◌, All, List, ℕ}
 use Rattle.std.specs.List.{AllWithin}
 use Rattle.lock_files.proofs.Single.{IsOneBefore}
-use Rattle.lock_files.specs.Edges.{AreApartEdges, IsEdge}
+use Rattle.lock_files.specs.Edges.{AreApartEdges, AreInOrder, IsEdge, IsUpTo}
 use Rattle.lock_files.specs.Internal.Collected.{AreOwn, IsTaken}
 use Rattle.lock_files.specs.Faults.{Extends}
 use Rattle.lock_files.specs.Dependencies.{IsDeclared}
@@ -17,4 +17,7 @@ invariant-loop-dependency l = record {
   apart : (folder : List ℕ) → AreOwn folder l.dependencies
       → All (λ e. e.dependency.package.folder.now ≢ folder) l.fn.edges.items
       → AreApartEdges l.fn.edges.items → AreApartEdges l.edges.items;
+  ordered : (folder : List ℕ) → AreOwn folder l.dependencies
+      → All (λ e. IsUpTo e.dependency.package.folder.now folder) l.fn.edges.items
+      → AreInOrder l.fn.edges.items → AreInOrder l.edges.items;
 }

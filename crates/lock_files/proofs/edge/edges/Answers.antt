@@ -9,7 +9,7 @@ use Rattle.std.specs.Map.Iter.{deref}
 use Rattle.lock_files.proofs.Completing.{AreEach, each-all, each-at, each-more, each-none, locked-all}
 use Rattle.lock_files.proofs.Completing.{locked-kept, package-at}
 use Rattle.lock_files.proofs.Added.{extends-on}
-use Rattle.lock_files.proofs.Single.{IsKeyed, keyed-apart, keyed-kept, keyed-more}
+use Rattle.lock_files.proofs.Single.{IsKeyed, keyed-apart, keyed-kept, keyed-more, keyed-up-to}
 use Rattle.lock_files.specs.Edges.{AreAllLocked}
 use Rattle.lock_files.specs.Internal.Collected.{AreOwn, IsTaken, AreTextsTold}
 use Rattle.lock_files.proofs.Items.{meant-kept, meant-linked}
@@ -54,6 +54,10 @@ loop-folder-preserved-in-Some-package c =
           (keyed-apart (map deref c.loop-folder.yielded) c.next.new.self (keys_of lock.packages.now.entries) key.now before
           so_far c.keys-folder-items.ensures.ordered c.loop-folder.invariant.keyed)
           c.loop-folder.invariant.apart;
+      ordered = c.in_ok-add_edges.ensures.ordered (string_bytes key.now) own_slice
+          (keyed-up-to (map deref c.loop-folder.yielded) c.next.new.self (keys_of lock.packages.now.entries) key.now before
+          so_far c.keys-folder-items.ensures.ordered c.loop-folder.invariant.keyed)
+          c.loop-folder.invariant.ordered;
       keyed = subst (λ keys. All (IsKeyed keys) after) (sym (map-append deref c.loop-folder.yielded (key ∷ [])))
           (keyed-more (map deref c.loop-folder.yielded) key.now before after c.as_slice.result.now own_slice
           c.in_ok-add_edges.ensures.from c.loop-folder.invariant.keyed);
@@ -91,6 +95,7 @@ loop-folder-preserved c =
           (each-more lock (map deref c.loop-folder.yielded) key.now now now (λ folder fields is. is)
           (each-none lock (string_bytes key.now) now at) c.loop-folder.invariant.all);
       apart = c.loop-folder.invariant.apart;
+      ordered = c.loop-folder.invariant.ordered;
       keyed = subst (λ keys. All (IsKeyed keys) c.loop-folder.edges.items) (sym (map-append deref c.loop-folder.yielded (key ∷ [])))
           (keyed-kept (map deref c.loop-folder.yielded) key.now c.loop-folder.edges.items c.loop-folder.invariant.keyed);
       workspaces = subst (λ keys. AreEach lock keys linked) (sym (map-append deref c.loop-folder.yielded (key ∷ [])))
