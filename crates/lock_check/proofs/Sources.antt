@@ -1,8 +1,8 @@
 -- What an address is that a package comes from.
 use Rattle.std.proofs.Common.{◌≡◌, List, Option, true, true≢false, sym, ℕ}
 use Rattle.std.specs.Borrow.{Bor}
-use Rattle.lock_check.specs.Internal.Sources.{is_page, is_repository}
-use Rattle.lock_files.specs.Specifiers.{IsSameAs, IsSpecifier}
+use Rattle.lock_check.specs.Internal.Sources.{is_page}
+use Rattle.lock_files.specs.Specifiers.{IsSameAs, IsSpecifier, is_repository}
 use Rattle.lock_files.specs.declared.specifier.Specifier.{Specifier}
 use Rattle.lock_files.specs.declared.specifier.Specifier.TheVariants.{Folder, Packed, Page, Range, Repository}
 use Rattle.lock_files.specs.declared.specifier.Specifier.TheVariants.{Unsupported}

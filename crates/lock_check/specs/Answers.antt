@@ -1,5 +1,5 @@
 -- Statement: the whole report on a lock file and the `package.json` beside it.
-use Rattle.std.specs.Prelude.{◌≡◌, ◌<◌, ◌++◌, ℕ, Bool, true, false, List, [], Option, All, filter, length}
+use Rattle.std.specs.Prelude.{◌≡◌, ◌<◌, ◌++◌, ℕ, Bool, true, false, List, [], Option, filter, length}
 use Rattle.std.specs.Prelude.{if◌then◌else◌, map, string_bytes}
 use Rattle.std.specs.BTreeMap.{btree_map_len}
 use Rattle.std.specs.List.{flat_map}
@@ -7,7 +7,7 @@ use Rattle.serde_json.specs.Data.{Data}
 use Rattle.lock_files.specs.Documents.{AreOf}
 use Rattle.lock_check.specs.Complete.{AreAllJudged, AreSingle, AreWorkspacesJudged}
 use Rattle.lock_check.specs.Findings.{AreSkips, count_of, is_told, kind_of}
-use Rattle.lock_check.specs.Judged.{IsFinding}
+use Rattle.lock_check.specs.Judged.{AreFindings}
 use Rattle.lock_check.specs.Malformed.{AreAllTold}
 use Rattle.lock_check.specs.Reports.{row_text}
 use Rattle.lock_check.specs.Rows.{told_fault, told_finding, told_row}
@@ -52,7 +52,7 @@ pub record IsReport (lock : Lock) (file : List ℕ) (f : Format) (is_quiet : Boo
   pub faults : List Fault
   pub rows : List Row
   pub counts : Counts
-  pub each : All (IsFinding lock) findings
+  pub each : AreFindings lock findings
   pub all : AreAllJudged lock findings
   pub single : AreSingle findings
   pub workspaces : AreWorkspacesJudged lock findings

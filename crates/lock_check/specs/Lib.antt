@@ -13,5 +13,6 @@ pub mod Readings
 pub mod Replacements
 pub mod Reports
 pub mod Rows
+pub mod Standing
 pub mod Summary
 pub mod Verdicts

@@ -1,6 +1,6 @@
 -- Statement: what `overrides` of the root project puts in the place of what its packages want.
 use Rattle.std.specs.Prelude.{⊤, ◌≡◌, ◌≢◌, ◌⊎◌, ◌==◌, ℕ, Bool, false, true, if◌then◌else◌, List, [], ◌∷◌}
-use Rattle.std.specs.Prelude.{Option, Some, None, IfSome, codes, is_some, option_and_then, unwrap_or}
+use Rattle.std.specs.Prelude.{Option, Some, None, codes, is_some, option_and_then, unwrap_or}
 use Rattle.std.specs.Borrow.{Bor}
 use Rattle.std.specs.List.{after_first, before_first, starts_with}
 use Rattle.std.specs.Option.{option_or}
@@ -13,17 +13,12 @@ use Rattle.semver_core.specs.Text.Characters.{IsTrim}
 use Rattle.semver_core.specs.declared.TheConstants.{MAX_SAFE_INTEGER}
 use Rattle.serde_json.specs.Data.{Data, Members, member, no_members}
 use Rattle.serde_json.specs.Find.{as_object, as_str, get}
-use Rattle.serde_json.specs.View.{view}
-use Rattle.lock_files.specs.Fields.{is_set}
-use Rattle.lock_files.specs.Lookups.{IsAt, IsNearest, IsPackage, written_in}
+use Rattle.lock_files.specs.Lookups.{written_in}
 use Rattle.lock_check.specs.Readings.{IsNotWanted, IsWanted}
 use Rattle.lock_files.specs.Specifiers.{IsTag, IsUnsigned, with_sign}
 use Rattle.lock_files.specs.Wanted.{IsWantedAs}
-use Rattle.lock_files.specs.Dependencies.{IsWritten}
 use Rattle.lock_files.specs.declared.lock.Dependency.{Dependency}
 use Rattle.lock_files.specs.declared.lock.Field.TheVariants as field
-use Rattle.lock_files.specs.declared.lock.Lock.{Lock}
-use Rattle.lock_files.specs.declared.lock.Package.{Package}
 use Rattle.lock_files.specs.declared.lock.Wanted.{Wanted}
 use Rattle.lock_files.specs.declared.lock.Wanted.TheVariants as wanted
 use Rattle.lock_files.specs.declared.specifier.Specifier.{Specifier}
@@ -162,13 +157,6 @@ abbrev pub nested_in : Data → Place → Members
 nested_in root top = unwrap_or (rules_in root) no_members
 nested_in root (rule around key value) = unwrap_or (as_object value) no_members
 
--- a place that there is
-pub data IsPlace (root : Data) : Place → Type 0 where
-  at_top : IsPlace root top
-  in_rule : (around : Place) (key : List ℕ) (value : Data) (name text : List ℕ) → IsPlace root around
-      → HasKey (nested_in root around) key value → IsRuleFor key value name text
-      → IsPlace root (rule around key value)
-
 -- the rule that is found for a dependency from a place: the first of those nested there, else the rule of
 -- the place itself, and else what is found from the place around it
 pub data IsRuleFound (root : Data) (d : Dependency) : Place → Option Place → Type 0 where
@@ -230,42 +218,3 @@ pub data IsPutBy (root : Data) (place : Place) (d : Dependency) : Option Wanted 
 abbrev pub IsOverridden : Dependency → Type 0
 IsOverridden d = (d.package.folder.now ≡ [])
     ⊎ (starts_with (λ a b. a == b) d.package.folder.now (codes "node_modules/") ≡ true)
-
--- what a dependency wants after the overrides, whose package stands in this place. In which place it does, of
--- those that there are, is not said
-pub record IsOverriddenBy (root : Data) (d : Dependency) (w : Option Wanted) : Type 0 where
-  pub holds : IsOverridden d
-  pub around : Place
-  pub is_place : IsPlace root around
-  pub meant : Place
-  pub is_meant : IsMeantIn root d around meant
-  pub puts : IsPutBy root meant d w
-
--- the root project has rules, and this holds of its fields
-abbrev pub OfRoot : Lock → (Data → Type 0) → Type 0
-OfRoot lock P = (root : Package) × IsAt lock [] (Some root) × P (view root.fields.now)
-
--- by its own fields a package neither comes packed in another one nor has a lock file of its own. That what
--- is inside of one that has such a file is not overridden either, is not said
-abbrev pub HasNoFile : Data → Type 0
-HasNoFile fields =
-    (is_set (codes "inBundle") fields ≡ false) × (is_set (codes "hasShrinkwrap") fields ≡ false)
-
--- so it is with what is locked for a dependency, if anything is
-abbrev pub IsUnpacked : Lock → Dependency → Type 0
-IsUnpacked lock d = (locked : Option Package) × IsNearest lock d.package.folder.now d.name.now locked
-    × IfSome locked (λ p. HasNoFile (view p.fields.now))
-
--- the rule that applies refers to a name for which the root project writes nothing
-abbrev pub RefersToNothing : Lock → Dependency → Type 0
-RefersToNothing lock d = IsUnpacked lock d × OfRoot lock (λ root. IsOverriddenBy root d None)
-
--- what is wanted of a dependency: what is written, or what the rule that applies puts in the place of that
-abbrev pub IsRuled : Lock → Dependency → Wanted → Type 0
-IsRuled lock d (wanted.Override text) = (before : Wanted) × IsWritten lock d before × IsUnpacked lock d
-    × OfRoot lock (λ root. IsOverriddenBy root (record d { wanted = before }) (Some (wanted.Override text)))
-IsRuled lock d w = IsWritten lock d w
-
--- a dependency of a package of the lock file, with what that wants
-abbrev pub IsDependency : Lock → Dependency → Type 0
-IsDependency lock d = IsPackage lock d.package × IsRuled lock d d.wanted

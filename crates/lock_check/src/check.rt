@@ -1,13 +1,13 @@
 // Compares each dependency of a lock file with the version that is locked for it.
 
 ghost use Rattle.lock_check.specs.Internal.Found.{IsAmong};
-ghost use Rattle.lock_check.specs.Internal.Overriding.{AreChosen};
-ghost use Rattle.lock_check.specs.Internal.Sources.{is_page, is_repository};
+ghost use Rattle.lock_check.specs.Internal.Overriding.{AreAllLaid, AreChosen};
+ghost use Rattle.lock_check.specs.Internal.Sources.{is_page};
 ghost use Rattle.lock_check.specs.Complete.{AreAllJudged, AreSingle, AreWorkspacesJudged};
-ghost use Rattle.lock_check.specs.Judged.{IsFinding, IsLinkOfRoot, IsLockedOutcome, IsOutcome};
+ghost use Rattle.lock_check.specs.Judged.{AreFindings, AreFindingsOf, IsConflict, IsFoundFor};
+ghost use Rattle.lock_check.specs.Judged.{IsLinkOfRoot, IsLockedOutcome, IsOutcome};
 ghost use Rattle.lock_check.specs.Judged.{IsOwnPeer, as_wanted};
 ghost use Rattle.lock_check.specs.Malformed.{AreAllTold};
-ghost use Rattle.lock_check.specs.Overrides.{RefersToNothing};
 ghost use Rattle.lock_check.specs.Outcomes.{IsFolderOutcome, IsFromFile, IsFromPage};
 ghost use Rattle.lock_check.specs.Outcomes.{IsFromRepository, IsInstead, IsJudged};
 ghost use Rattle.lock_check.specs.Outcomes.{IsPackedOutcome, IsPlaceOutcome, IsRangeOutcome};
@@ -16,9 +16,9 @@ ghost use Rattle.lock_check.specs.Outcomes.{IsRepositoryOutcome, IsSpecifierOutc
 ghost use Rattle.lock_check.specs.Outcomes.{IsTextOutcome, IsToldOf, IsUnversioned};
 ghost use Rattle.lock_check.specs.Outcomes.{IsWantedOutcome, address_of, base_by, base_of};
 ghost use Rattle.lock_check.specs.Outcomes.{is_file, is_link, locked_in, place_for, version_text};
-ghost use Rattle.lock_files.specs.Edges.{AreApartEdges, IsEdge};
+ghost use Rattle.lock_files.specs.Edges.{AreApartEdges};
 ghost use Rattle.lock_files.specs.Lookups.{IsAt};
-ghost use Rattle.std.specs.Prelude.{◌≡◌, ◌↔◌, [], All, IfOk, IsNone, IsTrue, List, MatchOption};
+ghost use Rattle.std.specs.Prelude.{◌≡◌, ◌↔◌, [], All, IfOk, IsTrue, List, MatchOption};
 ghost use Rattle.std.specs.Prelude.{Some, option_map, string_bytes, ℕ};
 
 use crate::finding::{Finding, Outcome, Skip};
@@ -62,7 +62,7 @@ fn is_any_told(findings: &[Finding<'_>]) -> bool {
 
 /// Judges each dependency of each package.
 pub fn check<'a>(alloc: Global, lock: Lock<'a>) -> Result<Findings<'a>, AllocError>
-    ensures each { IfOk result (λ found. All (IsFinding lock.entry) found.of_dependencies.items) }
+    ensures each { IfOk result (λ found. AreFindings lock.entry found.of_dependencies.items) }
     ensures all { IfOk result (λ found. AreAllJudged lock.entry found.of_dependencies.items) }
     ensures single { IfOk result (λ found. AreSingle found.of_dependencies.items) }
     ensures workspaces { IfOk result (λ found. AreWorkspacesJudged lock.entry
@@ -96,11 +96,11 @@ fn findings_of<'a>(
     scopes: &Scopes<'a>,
     edges: &[Edge<'a>],
 ) -> Result<Vec<Finding<'a>>, AllocError>
-    ensures each { All (IsEdge lock.entry) edges.now
-        → IsAt lock.entry [] scopes.now.overrides.root
+    ensures each { IsAt lock.entry [] scopes.now.overrides.root
+        → AreAllLaid scopes.now.overrides.root scopes.now.overrides.rules.items
         → AreChosen scopes.now.overrides.root scopes.now.overrides.rules.items edges.now
         scopes.now.of_edges
-        → IfOk result (λ found. All (IsFinding lock.entry) found.items) }
+        → IfOk result (λ found. AreFindingsOf lock.entry edges.now found.items) }
     ensures all { IfOk result (λ found. All (IsAmong found.items) edges.now) }
     ensures single { AreApartEdges edges.now → IfOk result (λ found. AreSingle found.items) }
 {
@@ -121,9 +121,7 @@ fn finding<'a>(
 ) -> Result<Finding<'a>, AllocError>
     ensures dependency { IfOk result (λ f. f.dependency
         ≡ as_wanted edge.entry.dependency wanted.entry) }
-    ensures outcome { (IsNone wanted.entry
-        → RefersToNothing lock.entry edge.entry.dependency)
-        → IfOk result (λ f. IsOutcome lock.entry f.dependency edge.entry.locked f.outcome) }
+    ensures outcome { IfOk result (λ f. IsFoundFor lock.entry edge.entry wanted.entry f.outcome) }
 {
     let Edge { dependency, locked } = edge;
     let Some(wanted) = wanted else {
@@ -152,9 +150,9 @@ fn outcome<'a>(
     dependency: Dependency<'a>,
     locked: Option<Package<'a>>,
 ) -> Result<Outcome<'a>, AllocError>
-    ensures { IfOk result (IsOutcome lock.entry dependency.entry locked.entry) }
+    ensures { IfOk result (IsOutcome lock.entry dependency.entry before.entry locked.entry) }
 {
-    if dependency.package.folder.is_empty() && dependency.wanted.is_other_than(before) {
+    if is_conflict(dependency, before) {
         return Ok(Outcome::Conflict);
     }
     match locked {
@@ -162,6 +160,13 @@ fn outcome<'a>(
         None => Ok(Outcome::Missing),
         Some(locked) => locked_outcome(alloc, lock, dependency, locked),
     }
+}
+
+// Whether the overrides change what the root project itself writes.
+fn is_conflict(dependency: Dependency<'_>, before: Wanted<'_>) -> bool
+    ensures { IsTrue result ↔ IsConflict dependency.entry before.entry }
+{
+    dependency.package.folder.is_empty() && dependency.wanted.is_other_than(before)
 }
 
 // What is found of a package that is locked for a dependency.
@@ -398,7 +403,7 @@ impl<'a> Target<'a> {
     {
         one_specifier();
         match self.resolved() {
-            Some(text) => is_repository(Specifier::of(text)),
+            Some(text) => Specifier::of(text).is_repository(),
             None => false,
         }
     }
@@ -495,12 +500,6 @@ fn is_page(specifier: Specifier<'_>) -> bool
     ensures { result ≡ is_page specifier.entry }
 {
     matches!(specifier, Specifier::Page(_))
-}
-
-fn is_repository(specifier: Specifier<'_>) -> bool
-    ensures { result ≡ is_repository specifier.entry }
-{
-    matches!(specifier, Specifier::Repository(_))
 }
 
 // The paths of an override lead from the root project, and others from the package that has them.

@@ -44,17 +44,13 @@ fn object(alloc: Global, row: &Row<'_>) -> Result<Value, AllocError>
         Some(path) => Some(path.as_str()),
         None => None,
     };
-    let name = text_or_null(alloc, row.name)?;
-    let need = text_or_null(alloc, row.need)?;
-    let found = text_or_null(alloc, row.found)?;
-    let path = text_or_null(alloc, path)?;
     json!(in alloc; {
         "kind": row.kind.word(),
         "folder": row.folder,
-        "dependency": name,
-        "need": need,
-        "found": found,
-        "path": path,
+        "dependency": text_or_null(alloc, row.name)?,
+        "need": text_or_null(alloc, row.need)?,
+        "found": text_or_null(alloc, row.found)?,
+        "path": text_or_null(alloc, path)?,
         "message": row.message.as_str(),
         "line": row.line
     })

@@ -48,18 +48,18 @@ mod row;
 mod scopes;
 mod verdict;
 
-use crate::check::check;
+use crate::check::{Findings, check};
 use crate::help::{HELP, USAGE, VERSION};
 use crate::index::Index;
 use crate::options::{Format, Options, Request};
-use crate::outlook::{Totals, outlooks};
+use crate::outlook::{Outlook, Totals, outlooks};
 use crate::outlook_row::{outlook_rows, write_outlooks, write_totals};
 use crate::report::{Report, report_on, write_rows};
 use crate::row::fault_rows;
-use anyhow::{Context, Result, bail};
-use lock_files::{Input, Lines, LockFile, Packages, Shown, read, unmarked};
+use anyhow::{Context, Result, anyhow};
+use lock_files::{Input, Lines, Lock, LockFile, Packages, Shown, read, unmarked};
 use nodejs_semver::Failure;
-use std::alloc::Global;
+use std::alloc::{AllocError, Global};
 use std::io::Write;
 use std::process::ExitCode;
 use std::{env, fs};
@@ -123,34 +123,90 @@ fn report_of(alloc: Global, input: Input, options: Options<'_>) -> Result<Report
 
 // What the locked versions may be raised to by the index at a path, and what is malformed.
 fn outdated(rt: &HostRuntime, input: Input, path: &str, options: Options<'_>) -> Result<Report> {
-    let alloc = rt.alloc();
     let Input { lock, manifest } = input;
     let LockFile { name, text, fields } = lock;
-    let packages = Packages::of(alloc, fields, manifest)?;
-    let lock = packages.lock();
-    let findings = check(alloc, lock)?;
+    let packages = Packages::of(rt.alloc(), fields, manifest)?;
     let index_text = index_text(rt, path)?;
-    let index = match Index::of(alloc, unmarked(&index_text)) {
-        Ok(index) => index,
-        Err(Failure::Refused(line)) => bail!("{}, {line}", Shown(path)),
-        Err(Failure::Memory(error)) => return Err(error.into()),
+    let index = index_in(rt.alloc(), unmarked(&index_text), path)?;
+    let file = Outlined {
+        name: &name,
+        text: unmarked(&text),
+        lock: packages.lock(),
     };
-    let outlooks = outlooks(alloc, lock, &index, &findings.of_dependencies)?;
-    let totals = Totals::of(lock, &outlooks, findings.faults.len());
-    let lines = Lines::of(alloc, unmarked(&text), lock.is_nested)?;
-    let is_json = options.format == Format::Json;
+    Ok(outlook_report(rt.alloc(), file, &index, options)?)
+}
+
+// A lock file with its name and its text.
+#[derive(Clone, Copy)]
+struct Outlined<'a> {
+    name: &'a str,
+    text: &'a str,
+    lock: Lock<'a>,
+}
+
+// The report on a lock file beside an index. Fails only if allocation fails.
+fn outlook_report(
+    alloc: Global,
+    file: Outlined<'_>,
+    index: &Index<'_>,
+    options: Options<'_>,
+) -> Result<Report, AllocError> {
+    let findings = check(alloc, file.lock)?;
+    let lines = Lines::of(alloc, file.text, file.lock.is_nested)?;
     let mut output = String::new(alloc);
-    let faults = fault_rows(alloc, &findings.faults, &lines)?;
-    write_rows(alloc, options.format, &name, &faults, &mut output)?;
-    let rows = outlook_rows(alloc, &outlooks, &lines, options.is_quiet)?;
-    write_outlooks(alloc, is_json, &name, &rows, &mut output)?;
+    write_faults(
+        alloc,
+        file.name,
+        &findings,
+        &lines,
+        options.format,
+        &mut output,
+    )?;
+    let outlooks = outlooks(alloc, file.lock, index, &findings.of_dependencies)?;
+    let totals = Totals::of(file.lock, &outlooks, findings.faults.len());
+    write_outlook_rows(alloc, file.name, &outlooks, &lines, options, &mut output)?;
     if !options.is_quiet {
-        write_totals(alloc, totals, is_json, &mut output)?;
+        write_totals(alloc, totals, options.format == Format::Json, &mut output)?;
     }
     Ok(Report {
         output,
         status: totals.exit_status(),
     })
+}
+
+// Writes what is malformed.
+fn write_faults(
+    alloc: Global,
+    name: &str,
+    findings: &Findings<'_>,
+    lines: &Lines,
+    format: Format,
+    output: &mut String,
+) -> Result<(), AllocError> {
+    let faults = fault_rows(alloc, &findings.faults, lines)?;
+    write_rows(alloc, format, name, &faults, output)
+}
+
+// Writes what is told of each dependency.
+fn write_outlook_rows(
+    alloc: Global,
+    name: &str,
+    outlooks: &[Outlook<'_, '_, '_>],
+    lines: &Lines,
+    options: Options<'_>,
+    output: &mut String,
+) -> Result<(), AllocError> {
+    let rows = outlook_rows(alloc, outlooks, lines, options.is_quiet)?;
+    write_outlooks(alloc, options.format == Format::Json, name, &rows, output)
+}
+
+// The index in a text. A line that it does not take is an error.
+fn index_in<'a>(alloc: Global, text: &'a str, path: &str) -> Result<Index<'a>> {
+    match Index::of(alloc, text) {
+        Ok(index) => Ok(index),
+        Err(Failure::Refused(line)) => Err(anyhow!("{}, {line}", Shown(path))),
+        Err(Failure::Memory(error)) => Err(error.into()),
+    }
 }
 
 // The text of the index at a path.

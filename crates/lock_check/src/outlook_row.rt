@@ -173,20 +173,16 @@ fn outlook_object_text(alloc: Global, row: &OutlookRow<'_>) -> Result<String, Al
 fn outlook_object(alloc: Global, row: &OutlookRow<'_>) -> Result<Value, AllocError>
     ensures { IfOk result (λ v. view v ≡ outlook_data row.now) }
 {
-    let locked = text_or_null(alloc, row.locked)?;
-    let wanted = string_or_null(alloc, &row.wanted)?;
-    let latest = string_or_null(alloc, &row.latest)?;
-    let reason = text_or_null(alloc, row.reason)?;
     json!(in alloc; {
         "kind": row.class.word(),
         "folder": row.folder,
         "dependency": row.name,
         "need": row.need,
         "package": row.package,
-        "locked": locked,
-        "wanted": wanted,
-        "latest": latest,
-        "reason": reason,
+        "locked": text_or_null(alloc, row.locked)?,
+        "wanted": string_or_null(alloc, &row.wanted)?,
+        "latest": string_or_null(alloc, &row.latest)?,
+        "reason": text_or_null(alloc, row.reason)?,
         "message": row.message.as_str(),
         "line": row.line
     })

@@ -1,15 +1,15 @@
 // Which rules of `overrides` hold for each dependency.
 
-ghost use Rattle.lock_check.specs.Internal.Overriding.{AreAllLaid, AreChosen, IsAfter};
-ghost use Rattle.lock_check.specs.Overrides.{HasNoFile, IsOverridden};
+ghost use Rattle.lock_check.specs.Internal.Overriding.{AreAllLaid, AreChosen, AreInTurn};
+ghost use Rattle.lock_check.specs.Overrides.{IsOverridden};
+ghost use Rattle.lock_check.specs.Standing.{IsAfter, IsLockedPacked, read_with};
+ghost use Rattle.lock_files.specs.Lookups.{IsAt};
 ghost use Rattle.lock_files.specs.declared.edge.Edge.{Edge};
 ghost use Rattle.lock_files.specs.declared.lock.Package.{Package};
-ghost use Rattle.serde_json.specs.View.{view};
-ghost use Rattle.std.specs.Prelude.{◌≡◌, ◌↔◌, IfOk, IfSome, IsTrue, List, Option};
-ghost use Rattle.std.specs.Prelude.{false, slice_get};
+ghost use Rattle.std.specs.Prelude.{◌≡◌, ◌↔◌, [], IfOk, IsTrue, List, Option, slice_get};
 
 use crate::overrides::{Overrides, Scope};
-use lock_files::{Edge, Lock, Package, Wanted};
+use lock_files::{Edge, Lock, Wanted};
 use std::alloc::{AllocError, Global};
 use std::collections::BTreeMap;
 
@@ -46,11 +46,12 @@ impl<'a> Scopes<'a> {
     /// What the dependency of this number wants, or `None` if that is a reference to no dependency
     /// of the root project. What is packed into another package is not overridden.
     pub(crate) fn wanted(&self, lock: Lock<'a>, number: usize, edge: Edge<'a>) -> Option<Wanted<'a>>
-        ensures { (edges : List Edge)
+        ensures { (edges : List Edge) → IsAt lock.entry [] self.now.overrides.root
+            → AreAllLaid self.now.overrides.root self.now.overrides.rules.items
             → AreChosen self.now.overrides.root self.now.overrides.rules.items edges
             self.now.of_edges
             → slice_get edges number ≡ Some edge.entry
-            → IsAfter self.now.overrides.root edge.entry result }
+            → IsAfter lock.entry edges number edge.entry result }
     {
         match self.of_edges.get(&number) {
             Some(inner) if !is_locked_packed(lock, edge) => {
@@ -76,8 +77,9 @@ fn scopes_of<'a>(
         return Ok(of_edges);
     }
     let mut of_packages: BTreeMap<&'a str, Scope> = BTreeMap::new(alloc);
-    for (_, _, number) in reading_order(alloc, edges)? {
-        let Some(edge) = edges.get(number) else {
+    let order = reading_order(alloc, edges)?;
+    for &(_, _, number) in &order {
+        let Some(&edge) = edges.get(number) else {
             continue;
         };
         if !is_overridden(edge) {
@@ -96,28 +98,38 @@ fn scopes_of<'a>(
     Ok(of_edges)
 }
 
-// The dependencies in the order in which npm reads them, each by the folder of the later one of its
-// packages, whether that is the one that depends on the other, and its number.
+// The dependencies in the order in which npm reads them, each by its turn and its number.
 fn reading_order<'a>(
     alloc: Global,
     edges: &[Edge<'a>],
-) -> Result<Vec<(&'a str, bool, usize)>, AllocError> {
+) -> Result<Vec<(&'a str, bool, usize)>, AllocError>
+    ensures { IfOk result (λ order. AreInTurn edges.now order.items) }
+{
     let mut order = Vec::new(alloc);
     for (number, edge) in edges.iter().enumerate() {
-        let from = edge.dependency.package.folder;
-        match edge.locked {
-            Some(locked) if from < locked.folder => order.push((locked.folder, false, number))?,
-            _ => order.push((from, true, number))?,
-        }
+        let (folder, is_own) = turn(*edge);
+        order.push((folder, is_own, number))?;
     }
     order.sort()?;
     Ok(order)
 }
 
+// The folder of the package with which a dependency is read, the later one of its two, and whether
+// that is the one that wants it.
+fn turn<'a>(edge: Edge<'a>) -> (&'a str, bool)
+    ensures { (result.0.now, result.1) ≡ read_with edge.entry }
+{
+    let from = edge.dependency.package.folder;
+    match edge.locked {
+        Some(locked) if from < locked.folder => (locked.folder, false),
+        _ => (from, true),
+    }
+}
+
 // Whether rules hold for a dependency: to npm, not for one of a workspace or another folder outside
 // `node_modules`, or of what is installed there.
-fn is_overridden(edge: &Edge<'_>) -> bool
-    ensures { IsTrue result ↔ IsOverridden edge.now.dependency }
+fn is_overridden(edge: Edge<'_>) -> bool
+    ensures { IsTrue result ↔ IsOverridden edge.entry.dependency }
 {
     let folder = edge.dependency.package.folder;
     folder.is_empty() || folder.starts_with("node_modules/")
@@ -125,30 +137,10 @@ fn is_overridden(edge: &Edge<'_>) -> bool
 
 // Whether what is locked for a dependency comes packed in another package.
 fn is_locked_packed(lock: Lock<'_>, edge: Edge<'_>) -> bool
-    ensures { result ≡ false → IfSome edge.entry.locked (λ p. HasNoFile (view p.fields.now)) }
+    ensures { IsTrue result ↔ IsLockedPacked lock.entry edge.entry }
 {
     match edge.locked {
-        Some(locked) => is_packed(lock, locked),
+        Some(locked) => lock.is_packed(locked),
         None => false,
     }
-}
-
-// Whether a package comes packed in another, or is locked by a file of another.
-fn is_packed(lock: Lock<'_>, package: Package<'_>) -> bool
-    ensures { result ≡ false → HasNoFile (view «package».entry.fields.now) }
-{
-    if package.is("inBundle") || package.is("hasShrinkwrap") {
-        return true;
-    }
-    let mut folder = package.folder;
-    for _ in 0..u64::MAX {
-        let Some((above, _)) = folder.rsplit_once("/node_modules/") else {
-            return false;
-        };
-        if lock.package(above).is_some_and(|it| it.is("hasShrinkwrap")) {
-            return true;
-        }
-        folder = above;
-    }
-    false
 }

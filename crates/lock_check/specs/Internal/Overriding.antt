@@ -1,6 +1,6 @@
 -- For proofs and private contracts: the rules of `overrides` as they are kept.
 use Rattle.std.specs.Prelude.{⊤, ◌≡◌, ◌≢◌, ◌⊎◌, ◌<◌, ◌≤◌, ◌+◌, [], ℕ, All, Bool, List, MatchOption, None, Option}
-use Rattle.std.specs.Prelude.{IfSome, Some, codes, false, length, slice_get, true, unwrap_or}
+use Rattle.std.specs.Prelude.{Some, codes, false, length, slice_get, true, unwrap_or}
 use Rattle.nodejs_semver.specs.Cuts.{Span}
 use Rattle.nodejs_semver.specs.Versions.{VersionValue}
 use Rattle.npm_reading.specs.Ranges.{IsRangeIn}
@@ -11,14 +11,14 @@ use Rattle.serde_json.specs.View.{view}
 use Rattle.lock_files.specs.Faults.{HasFault}
 use Rattle.lock_check.specs.Malformed.{IsRuleFault}
 use Rattle.lock_check.specs.Overrides.{AreRules, HasKey, IsNoRule, IsRule, IsRuleFor}
-use Rattle.lock_check.specs.Overrides.{HasNoFile, IsMeantIn, IsOverridden, IsOverriddenBy, IsPlace, IsReached, IsRuleFound}
+use Rattle.lock_check.specs.Overrides.{IsMeantIn, IsOverridden, IsReached, IsRuleFound}
 use Rattle.lock_check.specs.Overrides.{Place, nested_in, rules_in}
 use Rattle.lock_files.specs.declared.edge.Edge.{Edge}
 use Rattle.std.specs.BTreeMap.{BTreeMap, get}
 use Rattle.std.specs.Borrow.{Bor}
-use Rattle.std.specs.Cmp.Lexicographic.{slice_cmp}
 use Rattle.std.specs.Ordering.{nat_cmp}
 use Rattle.lock_check.specs.Overrides.Place.{rule, top}
+use Rattle.lock_check.specs.Standing.{IsReadBefore, StandsIn}
 use Rattle.lock_files.specs.Wanted.{IsWantedAs}
 use Rattle.lock_check.specs.Replacements.{IsReplacement}
 use Rattle.lock_files.specs.declared.fault.Fault.{Fault}
@@ -149,29 +149,29 @@ IsInnerScope rules root d place s = (inner : Place) × IsScopeOf rules s inner �
 
 -- ---- where packages stand
 
--- a scope that is a place of the root project
-abbrev pub IsSomewhere : List Rule → Data → Scope → Type 0
-IsSomewhere rules root s = (place : Place) × IsPlace root place × IsScopeOf rules s place
+-- the scope where the package stands that is meant by the dependency of this number
+abbrev pub IsLed : List Rule → Data → List Edge → ℕ → Dependency → Scope → Type 0
+IsLed rules root edges n d s = (around : Place) × StandsIn root edges n around × IsInnerScope rules root d around s
 
--- a scope where a dependency leads from one
-abbrev pub IsLed : List Rule → Data → Dependency → Scope → Type 0
-IsLed rules root d s = (around : Place) × IsPlace root around × IsInnerScope rules root d around s
-
--- the scope of each number is that to which the dependency of this number leads, for which rules hold
-abbrev pub IsChosen : List Rule → Data → List Edge → ℕ → Scope → Type 0
-IsChosen rules root edges n s = (e : Edge) × (slice_get edges n ≡ Some e) × IsOverridden e.dependency
-    × IsLed rules root e.dependency s
+-- of a dependency for which rules hold it is that, and of another one there is none
+abbrev pub IsChosen : List Rule → Data → List Edge → ℕ → Edge → Option Scope → Type 0
+IsChosen rules root edges n e None = ¬ (IsOverridden e.dependency)
+IsChosen rules root edges n e (Some s) = IsOverridden e.dependency × IsLed rules root edges n e.dependency s
 
 abbrev pub AreChosen : Option Package → List Rule → List Edge → BTreeMap ℕ Scope → Type 0
-AreChosen root rules edges found = (n : ℕ) (s : Scope) → get nat_cmp found n ≡ Some s
-    → OfPackage root (λ fields. IsChosen rules fields edges n s)
+AreChosen root rules edges found = (n : ℕ) (e : Edge) → slice_get edges n ≡ Some e
+    → ((rules ≡ []) × (get nat_cmp found n ≡ None))
+    ⊎ OfPackage root (λ fields. IsChosen rules fields edges n e (get nat_cmp found n))
 
--- the same of packages, by their folders
-abbrev pub AreSomewhere : List Rule → Data → BTreeMap (Bor (List ℕ)) Scope → Type 0
-AreSomewhere rules root found = (folder : Bor (List ℕ)) (s : Scope)
-    → get (λ x y. slice_cmp nat_cmp x.now y.now) found folder ≡ Some s → IsSomewhere rules root s
+-- a dependency's turn: the folder with which it is read, whether that is of the package that wants it, and its
+-- number
+abbrev pub Turn : Type 0
+Turn = Bor (List ℕ) × Bool × ℕ
 
--- what a dependency wants after the overrides: the same, or what rules put in its place
-abbrev pub IsAfter : Option Package → Edge → Option Wanted → Type 0
-IsAfter root e w = (w ≡ Some e.dependency.wanted) ⊎ (IfSome e.locked (λ p. HasNoFile (view p.fields.now))
-    × OfPackage root (λ fields. IsOverriddenBy fields e.dependency w))
+-- the dependencies in the order in which they are read, each once
+pub record AreInTurn (edges : List Edge) (order : List (Bor (List ℕ) × Bool × ℕ)) : Type 0 where
+  pub rises : (i j : ℕ) (s t : Turn) → i < j → slice_get order i ≡ Some s → slice_get order j ≡ Some t
+      → IsReadBefore edges s.2 t.2
+  pub each : (j : ℕ) (t : Turn) → slice_get order j ≡ Some t → (e : Edge) × (slice_get edges t.2 ≡ Some e)
+  pub all : (n : ℕ) (e : Edge) → slice_get edges n ≡ Some e
+      → (j : ℕ) × (t : Turn) × (slice_get order j ≡ Some t) × (t.2 ≡ n)

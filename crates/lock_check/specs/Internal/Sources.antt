@@ -1,12 +1,8 @@
 -- For private contracts: what an address is that a package comes from.
 use Rattle.std.specs.Prelude.{Bool, true, false}
 use Rattle.lock_files.specs.declared.specifier.Specifier.{Specifier}
-use Rattle.lock_files.specs.declared.specifier.Specifier.TheVariants.{Page, Repository}
+use Rattle.lock_files.specs.declared.specifier.Specifier.TheVariants.{Page}
 
 abbrev pub is_page : Specifier → Bool
 is_page (Page url) = true
 is_page _ = false
-
-abbrev pub is_repository : Specifier → Bool
-is_repository (Repository range) = true
-is_repository _ = false

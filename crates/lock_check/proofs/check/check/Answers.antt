@@ -1,10 +1,11 @@
 use Rattle.std.proofs.Common.{Option, ◌≡◌, ◌∙◌, All, [], None, ap, inl, not, refl, subst, sym}
-use Rattle.std.proofs.lemmas.List.Elements.{All-same, All-weaker}
+use Rattle.std.proofs.lemmas.List.Elements.{All-weaker}
 use Rattle.lock_check.proofs.Completing.{judged-all, workspaces-judged}
 use Rattle.lock_check.proofs.Judging.{has-root, no-root, ruled}
 use Rattle.lock_check.specs.Malformed.{IsFault}
 use Rattle.lock_files.proofs.Added.{all-added, all-none, fault-added, fault-kept, packages-kept}
-use Rattle.lock_files.specs.Edges.{AreAllCollected, AreApartEdges, AreWorkspacesCollected, IsEdge}
+use Rattle.lock_check.specs.Judged.{AreFindingsOf}
+use Rattle.lock_files.specs.Edges.{AreAllCollected, AreApartEdges, AreWorkspacesCollected}
 use Rattle.lock_files.specs.Faults.{HasFault, IsPackageFault}
 use Rattle.lock_files.specs.Lookups.{IsAt}
 use Rattle.lock_files.specs.declared.fault.Fault.{Fault}
@@ -22,9 +23,18 @@ returns-clause-each c =
     let rules = ruled c.args.lock c.package-2.result c.in_ok-overrides.overrides c.in_ok-scopes.scopes.overrides c.deref-2.result.now
     c.in_ok-scopes.scopes.of_edges c.package-2.ensures c.in_ok-overrides.ensures.root c.in_ok-overrides.ensures.laid chosen
     c.in_ok-scopes.ensures.same in
-    c.in_ok-of_dependencies.ensures.each
-    (All-same (IsEdge c.args.lock) c.deref-2.result.now c.in_ok-edges.edges.items c.deref-2.ensures.value
-    c.in_ok-edges.ensures.each) rules.0 rules.1
+    let same = c.deref-2.ensures.value in record {
+      edges = c.in_ok-edges.edges.items;
+      are = record {
+        each = c.in_ok-edges.ensures.each;
+        all = c.in_ok-edges.ensures.all;
+        apart = c.in_ok-edges.ensures.apart;
+        ordered = c.in_ok-edges.ensures.ordered;
+        workspaces = c.in_ok-edges.ensures.workspaces;
+      };
+      each = subst (λ edges. AreFindingsOf c.args.lock edges c.in_ok-of_dependencies.of_dependencies.items) same
+          (c.in_ok-of_dependencies.ensures.each rules.0 rules.1 rules.2);
+    }
 
 pub returns-clause-all : goal.returns-clause-all
 returns-clause-all c =

@@ -5,7 +5,7 @@ use Rattle.lock_check.proofs.scopes.is_overridden.Goals as goal
 
 pub returns-else-is_empty : goal.returns-else-is_empty
 returns-else-is_empty c =
-    let folder = c.args.edge.now.dependency.package.folder.now in
+    let folder = c.args.edge.dependency.package.folder.now in
     let begins = starts_text c.starts_with.result (codes "node_modules/") folder c.starts_with.ensures.cases in (
       λ on. inr (sym begins ∙ on),
       λ is. elim is [
