@@ -1,4 +1,4 @@
-// What the commands ask.
+// What the commands ask. Each returns the exit status, which tells whether there is an answer.
 
 use crate::input::Input;
 use crate::line::{key_of, refusal};
@@ -12,9 +12,10 @@ use sqlite::Connection;
 use std::alloc::Global;
 use std::fs::{self, File};
 use std::io::{BufRead, BufReader, BufWriter, Write};
+use std::process::ExitCode;
 
 /// Puts the lines of a file into the index, or those of standard input for `-`, in one transaction.
-pub fn load(rt: &HostRuntime, file: &str, lines: &str) -> Result<bool> {
+pub fn load(rt: &HostRuntime, file: &str, lines: &str) -> Result<ExitCode> {
     let name = if lines == "-" {
         "standard input"
     } else {
@@ -33,22 +34,20 @@ fn open(rt: &HostRuntime, lines: &str) -> Result<Input> {
     Ok(Input::File(input))
 }
 
-/// Prints the greatest version of a package that a range accepts, and returns whether there is one.
-pub fn best(rt: &HostRuntime, file: &str, package: &str, range: &str) -> Result<bool> {
+/// Prints the greatest version of a package that a range accepts.
+pub fn best(rt: &HostRuntime, file: &str, package: &str, range: &str) -> Result<ExitCode> {
     let spans = read_spans(rt.alloc(), range)?;
     answer_of_file(rt, file, Request::Best(package, &spans))
 }
 
-/// Prints all versions of a package that a range accepts, in ascending order, and returns whether
-/// there is one.
-pub fn all(rt: &HostRuntime, file: &str, package: &str, range: &str) -> Result<bool> {
+/// Prints all versions of a package that a range accepts, in ascending order.
+pub fn all(rt: &HostRuntime, file: &str, package: &str, range: &str) -> Result<ExitCode> {
     let spans = read_spans(rt.alloc(), range)?;
     answer_of_file(rt, file, Request::All(package, &spans))
 }
 
-/// Prints how many versions of a package are newer than one, and the newest, and returns whether
-/// the package has any version.
-pub fn behind(rt: &HostRuntime, file: &str, package: &str, version: &str) -> Result<bool> {
+/// Prints how many versions of a package are newer than one, and the newest, if it has a version.
+pub fn behind(rt: &HostRuntime, file: &str, package: &str, version: &str) -> Result<ExitCode> {
     match key_of(rt.alloc(), version)? {
         Some(key) => answer_of_file(rt, file, Request::Behind(package, &key)),
         None => Err(refusal(version)),
@@ -66,15 +65,15 @@ fn read_spans(alloc: Global, range: &str) -> Result<Vec<KeySpan>> {
 }
 
 // The answer of an index in a file that is there.
-fn answer_of_file(rt: &HostRuntime, file: &str, request: Request<'_>) -> Result<bool> {
+fn answer_of_file(rt: &HostRuntime, file: &str, request: Request<'_>) -> Result<ExitCode> {
     if !fs::exists(rt, file)? {
         bail!("{file:?}: no such file");
     }
     answer(rt, file, "", request)
 }
 
-// Prints what an index answers, and returns whether that is anything.
-fn answer(rt: &HostRuntime, file: &str, input: &str, request: Request<'_>) -> Result<bool> {
+// Prints what an index answers.
+fn answer(rt: &HostRuntime, file: &str, input: &str, request: Request<'_>) -> Result<ExitCode> {
     match open_and_ask(rt, file, request) {
         Ok(answer) => print(rt, &answer),
         Err(trouble) => Err(trouble.told(file, input)),
@@ -88,9 +87,9 @@ fn open_and_ask(rt: &HostRuntime, file: &str, request: Request<'_>) -> Result<An
     }
 }
 
-fn print(rt: &HostRuntime, answer: &Answer) -> Result<bool> {
+fn print(rt: &HostRuntime, answer: &Answer) -> Result<ExitCode> {
     let mut output = BufWriter::new(rt.alloc(), rt.stdout())?;
     answer.write(&mut output)?;
     output.flush()?;
-    Ok(answer.is_some())
+    Ok(answer.status())
 }

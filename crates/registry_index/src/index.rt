@@ -2,7 +2,7 @@
 
 ghost use Rattle.std.specs.Prelude.{◌≡◌, false, IsTrue, Ok, true, ℕ};
 ghost use Rattle.npm_words.specs.VersionText.{IsVersionText};
-ghost use Rattle.registry_index.specs.Bound.{IsRowOf, stored};
+ghost use Rattle.registry_index.specs.Bound.{IsRowOf};
 ghost use Rattle.semver_core.specs.Failures.{NoValue};
 ghost use Rattle.semver_core.specs.declared.TheConstants.{MAX_SAFE_INTEGER};
 ghost use Rattle.sqlite.specs.Held.{state};
@@ -39,24 +39,9 @@ pub fn add<S: Alter>(
     let Some(key) = key_of(alloc, line.version)? else {
         return Ok(false);
     };
-    insert(tx, insertion, line, &key)?;
-    Ok(true)
-}
-
-// Stores a line with a key.
-fn insert<S: Alter>(
-    tx: &mut Transaction<'_, S>,
-    insertion: &str,
-    line: Line<'_>,
-    key: &[u8],
-) -> Result<usize, Error>
-    ensures stored { HasCleanDisk (state S.Store tx.new.conn.now)
-        → IsTrue (state S.Store tx.old.conn.now).in_transaction
-        → ExecutesInside 0 insertion.now (stored line.entry key.now)
-        (state S.Store tx.old.conn.now) (state S.Store tx.new.conn.now) result }
-{
     tx.execute(
         insertion,
-        params![line.package, key, line.version, line.rest],
-    )
+        params![line.package, &key, line.version, line.rest],
+    )?;
+    Ok(true)
 }

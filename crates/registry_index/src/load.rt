@@ -20,17 +20,18 @@ pub fn load<S: Alter>(
     requires { conn.old.in_transaction ≡ false }
 {
     let mut tx = conn.transaction();
-    tx.execute_batch(TABLE)?;
     add_all(alloc, &mut tx, lines)?;
     tx.commit()?;
     Ok(())
 }
 
+// Makes the table, if it is not there yet, and puts the lines into it.
 fn add_all<S: Alter>(
     alloc: Global,
     tx: &mut Transaction<'_, S>,
     lines: &mut Lines<BufReader<Input>>,
 ) -> Result<(), Trouble> {
+    tx.execute_batch(TABLE)?;
     let mut number: u64 = 0;
     for line in lines {
         number = number.saturating_add(1);

@@ -40,17 +40,35 @@ fn main(rt: HostRuntime) -> Result<ExitCode> {
 }
 
 fn run(rt: &HostRuntime) -> Result<ExitCode> {
-    let arguments: Vec<String> = env::args(rt)?.skip(1).collect(rt.alloc())?;
-    let words: Vec<&str> = arguments.iter().map(String::as_str).collect(rt.alloc())?;
-    let is_found = match words.as_slice() {
-        [file, "load", lines] => command::load(rt, file, lines)?,
-        [file, "best", package, range] => command::best(rt, file, package, range)?,
-        [file, "all", package, range] => command::all(rt, file, package, range)?,
-        [file, "behind", package, version] => command::behind(rt, file, package, version)?,
-        _ => {
-            eprintln!(rt; "{USAGE}")?;
-            return Ok(ExitCode::from(TROUBLE));
-        }
-    };
-    Ok(ExitCode::from(if is_found { 0 } else { 1 }))
+    let arguments: Vec<String> = env::args(rt)?.collect(rt.alloc())?;
+    answer(rt, &arguments)
+}
+
+// Does what the arguments ask for, and returns the exit status. The first one names the program.
+fn answer(rt: &HostRuntime, arguments: &[String]) -> Result<ExitCode> {
+    match arguments {
+        [_, file, command, lines] if command.as_str() == "load" => command::load(rt, file, lines),
+        [_, file, command, package, asked] => question(rt, file, command, package, asked),
+        _ => usage(rt),
+    }
+}
+
+fn question(
+    rt: &HostRuntime,
+    file: &str,
+    command: &str,
+    package: &str,
+    asked: &str,
+) -> Result<ExitCode> {
+    match command {
+        "best" => command::best(rt, file, package, asked),
+        "all" => command::all(rt, file, package, asked),
+        "behind" => command::behind(rt, file, package, asked),
+        _ => usage(rt),
+    }
+}
+
+fn usage(rt: &HostRuntime) -> Result<ExitCode> {
+    eprintln!(rt; "{USAGE}")?;
+    Ok(ExitCode::from(TROUBLE))
 }

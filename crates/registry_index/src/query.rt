@@ -1,6 +1,6 @@
 // What is asked of the index.
 
-ghost use Rattle.std.specs.Prelude.{◌≡◌, ◌∷◌, [], false, IfNone, IfOk, IfSome};
+ghost use Rattle.std.specs.Prelude.{◌≡◌, false, IfNone, IfOk, IfSome};
 ghost use Rattle.npm_words.specs.Alternatives.{HasAlternativesIn};
 ghost use Rattle.npm_reading.specs.Ranges.{IsRangeIn};
 ghost use Rattle.registry_index.specs.Bound.{AreSpansOf, asked};
@@ -8,7 +8,6 @@ ghost use Rattle.semver_core.specs.Failures.{NoValue};
 ghost use Rattle.semver_core.specs.declared.TheConstants.{MAX_SAFE_INTEGER};
 ghost use Rattle.sqlite.specs.Held.{state};
 ghost use Rattle.sqlite.specs.State.{HasCleanDisk, Shown};
-ghost use Rattle.sqlite_value.specs.declared.value.Value.TheVariants.{Blob, Text};
 
 use key_spans::{KeySpan, key_spans};
 use nodejs_semver::{Failure, RangeRef};
@@ -75,32 +74,4 @@ pub fn rows_in<S: Alter>(
         query,
         params![name, &span.start, &span.stop, span.releases_only],
     )
-}
-
-/// The rows of an answer about a package and a key.
-pub fn rows_above<S: Alter>(
-    conn: &mut Connection<S>,
-    query: &str,
-    name: &str,
-    key: &[u8],
-) -> Result<Vec<Row>, Error>
-    ensures asked { HasCleanDisk (state S.Store conn.new) → IfOk result (λ rows. Shown query.now
-        (Text name.now ∷ Blob key.now ∷ []) (state S.Store conn.old) (state S.Store conn.new)
-        rows.items) }
-    ensures clean { HasCleanDisk (state S.Store conn.new) → HasCleanDisk (state S.Store conn.old) }
-{
-    conn.query_all(query, params![name, key])
-}
-
-/// The rows of an answer about a package.
-pub fn rows_of<S: Alter>(
-    conn: &mut Connection<S>,
-    query: &str,
-    name: &str,
-) -> Result<Vec<Row>, Error>
-    ensures asked { HasCleanDisk (state S.Store conn.new) → IfOk result (λ rows. Shown query.now
-        (Text name.now ∷ []) (state S.Store conn.old) (state S.Store conn.new) rows.items) }
-    ensures clean { HasCleanDisk (state S.Store conn.new) → HasCleanDisk (state S.Store conn.old) }
-{
-    conn.query_all(query, params![name])
 }

@@ -15,6 +15,7 @@ use sqlite::{Alter, Connection, FileStore};
 use sqlite_disk::Disk;
 use std::alloc::Global;
 use std::io::{self, BufReader, Lines, Write};
+use std::process::ExitCode;
 
 /// What is asked of an index.
 #[derive(Drop)]
@@ -81,21 +82,25 @@ impl Request<'_> {
 }
 
 impl Answer {
-    /// Whether there is what was asked for.
-    pub fn is_some(&self) -> bool {
-        match self {
+    /// The exit status, which tells whether there is what was asked for.
+    pub fn status(&self) -> ExitCode {
+        let is_some = match self {
             Answer::Best(None) | Answer::Behind(_, None) => false,
             Answer::All(found) => !found.is_empty(),
             _ => true,
-        }
+        };
+        ExitCode::from(if is_some { 0 } else { 1 })
     }
 
     /// Writes what was asked for.
     pub fn write(&self, output: &mut impl Write) -> io::Result<()> {
         match self {
-            Answer::Best(Some(best)) => writeln!(output, "{best}"),
+            Answer::Best(Some(best)) => best.write(output),
             Answer::All(found) => write_all(found, output),
-            Answer::Behind(count, Some(newest)) => writeln!(output, "{count}\t{newest}"),
+            Answer::Behind(count, Some(newest)) => {
+                write!(output, "{count}\t")?;
+                newest.write(output)
+            }
             _ => Ok(()),
         }
     }
@@ -103,7 +108,7 @@ impl Answer {
 
 fn write_all(found: &[Found], output: &mut impl Write) -> io::Result<()> {
     for it in found {
-        writeln!(output, "{it}")?;
+        it.write(output)?;
     }
     Ok(())
 }

@@ -7,11 +7,11 @@ ghost use Rattle.sqlite.specs.Held.{state};
 ghost use Rattle.sqlite.specs.State.{HasCleanDisk};
 ghost use Rattle.sqlite_value.specs.declared.value.Value.TheVariants.{Blob, Text};
 
-use crate::query::{rows_above, rows_in, rows_of};
+use crate::query::rows_in;
 use key_spans::KeySpan;
-use sqlite::{Alter, Connection, Error, Row};
+use sqlite::{Alter, Connection, Error, Row, params};
 use std::alloc::Global;
-use std::fmt;
+use std::io::{self, Write};
 
 /// A version of the index, in the order of its key and then its text.
 #[derive(PartialEq, Eq, PartialOrd, Ord, Drop)]
@@ -39,12 +39,10 @@ impl Found {
             None => Ok(None),
         }
     }
-}
 
-// The version, and what belongs to it behind a tab.
-impl fmt::Display for Found {
-    fn fmt<W: fmt::Write>(&self, f: &mut fmt::Formatter<W>) -> fmt::Result {
-        write!(f, "{}\t{}", self.version, self.rest)
+    /// Writes a line of the version, and what belongs to it behind a tab.
+    pub fn write(&self, output: &mut impl Write) -> io::Result<()> {
+        writeln!(output, "{}\t{}", self.version, self.rest)
     }
 }
 
@@ -104,7 +102,7 @@ pub fn count<S: Alter>(
         (Text name.now ∷ Blob key.now ∷ []) (state S.Store conn.old) (state S.Store conn.new)) }
     ensures clean { HasCleanDisk (state S.Store conn.new) → HasCleanDisk (state S.Store conn.old) }
 {
-    let rows = rows_above(conn, query, name, key)?;
+    let rows = conn.query_all(query, params![name, key])?;
     match rows.first() {
         Some(row) => row.get(0),
         None => Ok(0),
@@ -121,6 +119,6 @@ pub fn first<S: Alter>(
         (Text name.now ∷ []) (state S.Store conn.old) (state S.Store conn.new)) }
     ensures clean { HasCleanDisk (state S.Store conn.new) → HasCleanDisk (state S.Store conn.old) }
 {
-    let rows = rows_of(conn, query, name)?;
+    let rows = conn.query_all(query, params![name])?;
     Found::first_of(&rows)
 }

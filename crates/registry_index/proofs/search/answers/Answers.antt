@@ -1,4 +1,4 @@
-use Rattle.std.proofs.Common.{◌∷◌, ◌++◌, ◌∙◌, [], ap, rules, sym, take}
+use Rattle.std.proofs.Common.{◌≡◌, ◌∷◌, ◌++◌, ◌∙◌, [], ap, arith, rules, sym, take, take_all}
 use Rattle.std.proofs.lemmas.List.{take_more}
 use Rattle.registry_index.specs.Searches.AreTold.{next, none}
 use Rattle.registry_index.proofs.search.answers.Goals as goal
@@ -12,3 +12,8 @@ loop-span-preserved g c h =
     rw (take_more spans i span c.loop-span-test.true ∙ ap (λ s. take i spans ++ s ∷ []) (sym c.span-item.is))
     (next _ _ _ _ c.loop-span.found.items c.push_all.new.found.items c.in_ok-rows.rows.items (c.loop-span.invariant (c.in_ok-rows.ensures.clean h)) (c.in_ok-rows.ensures.asked h)
     (search rules))
+
+pub returns : goal.returns
+returns g c h =
+    let all : take c.loop-span.span-index c.args.spans.now ≡ c.args.spans.now = take_all _ _ (omega arith) in
+    rw all at (c.loop-span.invariant h)
