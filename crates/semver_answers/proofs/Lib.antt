@@ -2,4 +2,5 @@ pub mod Steps
 pub mod Firsts
 pub mod Behind
 pub mod Replies
+pub mod Growth
 pub mod Asked

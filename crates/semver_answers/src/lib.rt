@@ -10,6 +10,7 @@ mod fault;
 mod fields;
 mod names;
 mod parsed;
+mod parts;
 mod question;
 mod reply;
 pub mod run;

@@ -1,10 +1,14 @@
-// The replies to lines. What is printed is printed to `room`. The function of each kind of question
-// reads the fields of a line from the left, in place, and is not inlined, so that a line pays for
-// the locals of its own kind alone; what is said of the values that were read stands in the method
-// `reply`.
+// The replies to lines. What is printed is printed to `room`, save a large intersection or
+// difference: its text is appended to the output, and what is returned is the end of the reply,
+// behind that text.
+//
+// The function of each kind of question reads the fields of a line from the left, in place, and is
+// not inlined, so that a line pays for the locals of its own kind alone; what is said of the values
+// that were read stands in the method `reply`.
 
 ghost use Rattle.std.specs.Option.{option_copied};
-ghost use Rattle.std.specs.Prelude.{◌≡◌, ◌∷◌, ℕ, List, IfOk, IfSome, IsUtf8, Option, codes};
+ghost use Rattle.std.specs.Prelude.{◌≡◌, ◌++◌, ◌∷◌, ℕ, List, IfOk, IfSome, IsUtf8, Option, codes};
+ghost use Rattle.std.specs.Prelude.{string_bytes};
 ghost use Rattle.semver_core.specs.Increments.Table.{answer_of_inc};
 ghost use Rattle.semver_answers.specs.Answers.{IsAnswer};
 ghost use Rattle.semver_answers.specs.Commands.{BestReply, IsReply, Match, RangeReply, RangesReply};
@@ -12,6 +16,7 @@ ghost use Rattle.semver_answers.specs.Commands.{matches, version_reply, versions
 ghost use Rattle.semver_answers.specs.Internal.CommandWords.{command_word};
 ghost use Rattle.semver_answers.specs.Internal.KindWords.{IsTwo, best_word, range_word};
 ghost use Rattle.semver_answers.specs.Internal.KindWords.{match_word, ranges_word, versions_word};
+ghost use Rattle.semver_answers.specs.Internal.Parts.{Grows};
 ghost use Rattle.semver_answers.specs.Internal.Results.{AnswersFields, IsTold, ParsesRange};
 ghost use Rattle.semver_answers.specs.Internal.Results.{ParsesVersion, behind};
 ghost use Rattle.semver_answers.specs.Lines.{fields};
@@ -23,29 +28,31 @@ use crate::command::Command;
 use crate::fault::Fault;
 use crate::fields::{cut, version_field};
 use crate::names::{
-    borrowed_or_none, difference_word, next_text, order_word, printed, range_or_none, truth_word,
-    version_or_none,
+    borrowed_or_none, difference_word, next_text, order_word, printed, truth_word, version_or_none,
 };
 use crate::parsed::{Parsed, range_of, version_of};
+use crate::parts::{Combination, combined_text};
 use crate::question::{
     AboutBest, AboutMatch, AboutRange, AboutRanges, AboutVersion, AboutVersions,
 };
 use nodejs_semver::{Failure, IdentifierBase, RangeRef, SemverError, VersionRef};
 use std::alloc::{AllocError, Global};
 
-/// The reply to a line that is a text.
+/// The end of the reply to a line that is a text. What stands before it is appended to the output.
 #[inline(always)]
 pub(crate) fn reply<'a>(
     alloc: Global,
     text: &str,
     room: &'a mut String,
+    output: &mut String,
 ) -> Result<&'a str, Failure<Fault>>
-    ensures { IsTold result (IsAnswer text.now) }
+    ensures { Grows (string_bytes output.old) (string_bytes output.new) (λ begun.
+        IsTold result (λ end. IsAnswer text.now (begun ++ end))) }
 {
     let Some((command, rest)) = Command::of(text) else {
         return Err(Failure::Refused(Fault::BadLine));
     };
-    reply_to(alloc, command, rest, room)
+    reply_to(alloc, command, rest, room, output)
 }
 
 // The reply to a line with this command and these fields behind it.
@@ -55,8 +62,10 @@ fn reply_to<'a>(
     command: Command,
     rest: &str,
     room: &'a mut String,
+    output: &mut String,
 ) -> Result<&'a str, Failure<Fault>>
-    ensures { IsTold result (AnswersFields (command_word command ∷ fields rest.now)) }
+    ensures { Grows (string_bytes output.old) (string_bytes output.new) (λ begun. IsTold result
+        (λ end. AnswersFields (command_word command ∷ fields rest.now) (begun ++ end))) }
 {
     match command {
         Command::Cmp => on_versions(rest, AboutVersions::Cmp, room),
@@ -64,10 +73,10 @@ fn reply_to<'a>(
         Command::Diff => on_versions(rest, AboutVersions::Diff, room),
         Command::Inc => on_increment(alloc, rest, room),
         Command::Range => on_range(alloc, rest, AboutRange::Print, room),
-        Command::And => on_ranges(alloc, rest, AboutRanges::And, room),
-        Command::Minus => on_ranges(alloc, rest, AboutRanges::Minus, room),
+        Command::And => on_ranges(alloc, rest, AboutRanges::And, room, output),
+        Command::Minus => on_ranges(alloc, rest, AboutRanges::Minus, room, output),
         Command::Least => on_range(alloc, rest, AboutRange::Least, room),
-        Command::Beyond => on_ranges(alloc, rest, AboutRanges::Beyond, room),
+        Command::Beyond => on_ranges(alloc, rest, AboutRanges::Beyond, room, output),
         Command::Sat => on_match(alloc, rest, AboutMatch::Sat),
         Command::Pre => on_match(alloc, rest, AboutMatch::Pre),
         Command::Out => on_outside(alloc, rest),
@@ -170,8 +179,10 @@ fn on_ranges<'a>(
     texts: &str,
     asked: AboutRanges,
     room: &'a mut String,
+    output: &mut String,
 ) -> Result<&'a str, Failure<Fault>>
-    ensures { IsTold result (AnswersFields (ranges_word asked ∷ fields texts.now)) }
+    ensures { Grows (string_bytes output.old) (string_bytes output.new) (λ begun. IsTold result
+        (λ end. AnswersFields (ranges_word asked ∷ fields texts.now) (begun ++ end))) }
 {
     let (field, rest) = cut(texts);
     let Some(rest) = rest else {
@@ -182,7 +193,7 @@ fn on_ranges<'a>(
         return Err(Failure::Refused(Fault::BadLine));
     }
     let range = RangeRef::parse(alloc, field);
-    parsed_ranges(alloc, &range, other, asked, room)
+    parsed_ranges(alloc, &range, other, asked, room, output)
 }
 
 #[inline(always)]
@@ -192,14 +203,16 @@ fn parsed_ranges<'a, 't>(
     s: &'t str,
     asked: AboutRanges,
     room: &'a mut String,
+    output: &mut String,
 ) -> Result<&'a str, Failure<Fault>>
     ensures { (text : List ℕ) → ParsesRange text parsed.now
-        → IsTold result (On (IsRangeOf text)
-        (λ range. On (IsRangeOf s.now) (RangesReply asked range))) }
+        → Grows (string_bytes output.old) (string_bytes output.new) (λ begun. IsTold result
+        (λ end. On (IsRangeOf text)
+        (λ range. On (IsRangeOf s.now) (RangesReply asked range)) (begun ++ end))) }
 {
     let range = range_of(parsed)?;
     let other = RangeRef::parse(alloc, s);
-    beside_parsed(alloc, range, &other, asked, room)
+    beside_parsed(alloc, range, &other, asked, room, output)
 }
 
 // The reply about a range and another one that was parsed.
@@ -210,12 +223,14 @@ fn beside_parsed<'a, 't>(
     other: &Parsed<'t>,
     asked: AboutRanges,
     room: &'a mut String,
+    output: &mut String,
 ) -> Result<&'a str, Failure<Fault>>
     ensures { (text : List ℕ) → ParsesRange text other.now
-        → IsTold result (On (IsRangeOf text) (RangesReply asked range.now)) }
+        → Grows (string_bytes output.old) (string_bytes output.new) (λ begun. IsTold result
+        (λ end. On (IsRangeOf text) (RangesReply asked range.now) (begun ++ end))) }
 {
     let other = range_of(other)?;
-    Ok(asked.reply(alloc, range, other, room)?)
+    Ok(asked.reply(alloc, range, other, room, output)?)
 }
 
 #[inline(never)]
@@ -384,12 +399,18 @@ impl AboutRanges {
         r: &RangeRef<'t>,
         s: &RangeRef<'t>,
         room: &'a mut String,
+        output: &mut String,
     ) -> Result<&'a str, AllocError>
-        ensures { IfOk result (λ text. RangesReply self r.now s.now text.now) }
+        ensures { Grows (string_bytes output.old) (string_bytes output.new) (λ begun.
+            IfOk result (λ end. RangesReply self r.now s.now (begun ++ end.now))) }
     {
         match self {
-            AboutRanges::And => range_or_none(r.intersect(alloc, s), room),
-            AboutRanges::Minus => range_or_none(r.difference(alloc, s), room),
+            AboutRanges::And => {
+                combined_text(Combination::Intersection, alloc, r, s, room, output)
+            }
+            AboutRanges::Minus => {
+                combined_text(Combination::Difference, alloc, r, s, room, output)
+            }
             AboutRanges::Beyond => version_or_none(r.least_beyond(alloc, s), room),
         }
     }

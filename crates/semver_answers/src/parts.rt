@@ -1,0 +1,260 @@
+// The intersection and the difference of two ranges, printed. An intersection has an interval for
+// each pair of intervals that meet, and a difference up to as many, and as many more as the first
+// range has: these can be very many. A large one is never made as a whole, but part by part: what
+// comes of a few intervals of the first range is printed to `room` and appended to the output,
+// before the next few are looked at. So its text is there only once.
+
+ghost use Rattle.std.specs.Prelude.{◌≡◌, ◌++◌, ◌<◌, ◌||◌, [], codes, false, if◌then◌else◌};
+ghost use Rattle.std.specs.Prelude.{IfOk, OnOk, string_bytes};
+ghost use Rattle.std.specs.Option.{is_some};
+ghost use Rattle.semver_core.specs.declared.TheConstants.{MAX_SAFE_INTEGER};
+ghost use Rattle.nodejs_semver.specs.Printing.Text.{range_text};
+ghost use Rattle.nodejs_semver.specs.Ranges.View.{IsRange};
+ghost use Rattle.semver_answers.specs.Names.{or_none};
+ghost use Rattle.semver_answers.specs.Internal.Parts.{Grows, combined, text_behind};
+
+use crate::names::{printed, range_or_none};
+use nodejs_semver::cuts::{Bound, Interval};
+use nodejs_semver::{RangeRef, VersionRef};
+use std::alloc::{AllocError, Global};
+
+// How many pairs of intervals are looked at at once.
+const PAIRS: usize = 32768;
+
+// In how many parts a difference is made at most.
+const PARTS: usize = 32;
+
+// Behind a part whose text is shorter, the next part is of twice as many intervals.
+const SHORT: usize = 65536;
+
+/// What is made of two ranges.
+#[derive(Clone, Copy)]
+pub(crate) enum Combination {
+    /// What they have in common.
+    Intersection,
+    /// What the second one leaves of the first.
+    Difference,
+}
+
+/// The end of the text of an intersection or a difference, or `none`. What stands before the end,
+/// the text of a large one, is appended to the output.
+#[inline(always)]
+pub(crate) fn combined_text<'a, 't>(
+    asked: Combination,
+    alloc: Global,
+    r: &RangeRef<'t>,
+    s: &RangeRef<'t>,
+    room: &'a mut String,
+    output: &mut String,
+) -> Result<&'a str, AllocError>
+    ensures { Grows (string_bytes output.old) (string_bytes output.new) (λ begun.
+        IfOk result (λ end. begun ++ end.now ≡ or_none range_text (combined asked r.now s.now))) }
+{
+    if r.intervals().len() > 1 && may_be_large(asked, r, s) {
+        return text_in_parts(asked, alloc, r, s, room, output);
+    }
+    match asked {
+        Combination::Intersection => range_or_none(r.intersect(alloc, s), room),
+        Combination::Difference => range_or_none(r.difference(alloc, s), room),
+    }
+}
+
+// The same of a large one, which is appended to the output.
+#[inline(never)]
+fn text_in_parts<'t>(
+    asked: Combination,
+    alloc: Global,
+    r: &RangeRef<'t>,
+    s: &RangeRef<'t>,
+    room: &mut String,
+    output: &mut String,
+) -> Result<&'static str, AllocError>
+    ensures { Grows (string_bytes output.old) (string_bytes output.new) (λ begun.
+        IfOk result (λ end. begun ++ end.now ≡ or_none range_text (combined asked r.now s.now))) }
+{
+    if push_parts(asked, alloc, r.intervals(), s, room, output)? {
+        Ok("")
+    } else {
+        Ok("none")
+    }
+}
+
+// Whether there may be very many intervals. Both ways to print them give the same text.
+#[inline(always)]
+fn may_be_large(asked: Combination, r: &RangeRef<'_>, s: &RangeRef<'_>) -> bool {
+    r.intervals().len() > PAIRS / s.intervals().len() && !stand_along(asked, r, s)
+}
+
+// Whether the intervals of the first range, and of an intersection those of the second too, stand
+// in order along the line, without an overlap. Then few pairs meet, and they are found by search.
+#[inline(never)]
+fn stand_along(asked: Combination, r: &RangeRef<'_>, s: &RangeRef<'_>) -> bool {
+    let is_enough = matches!(asked, Combination::Difference);
+    are_along(r.intervals()) && (is_enough || are_along(s.intervals()))
+}
+
+fn are_along(intervals: &[Interval<VersionRef<'_>>]) -> bool {
+    intervals.is_sorted_by(|one, next| !one.reaches(next))
+}
+
+// How many of so many intervals are combined at once with so many others. Each part of a difference
+// takes as long as it takes to put the others in order, so there are not many parts.
+fn count_at_once(asked: Combination, count: usize, others: usize) -> usize
+    requires { 0 < others }
+    ensures { 0 < result }
+{
+    let few = (PAIRS / others).max(1);
+    match asked {
+        Combination::Intersection => few,
+        Combination::Difference => few.max(count / PARTS + 1),
+    }
+}
+
+// How many of all are combined at once behind a part of so many, whose text is so long. Where
+// little comes of them, fewer and larger parts take less time; they grow up to a quarter of all.
+fn count_behind(count: usize, len: usize, all: usize) -> usize
+    requires { 0 < count }
+    ensures { 0 < result }
+{
+    if len < SHORT && count < all / 8 {
+        count.saturating_mul(2)
+    } else {
+        count
+    }
+}
+
+// Appends what comes of the intervals of a range, some after others. Returns whether there is
+// anything.
+fn push_parts<'t>(
+    asked: Combination,
+    alloc: Global,
+    these: &[Interval<VersionRef<'t>>],
+    s: &RangeRef<'t>,
+    room: &mut String,
+    output: &mut String,
+) -> Result<bool, AllocError>
+    requires { IsRange MAX_SAFE_INTEGER these.now }
+    ensures grown { Grows (string_bytes output.old) (string_bytes output.new) (λ begun.
+        OnOk result (begun ≡ text_behind false (combined asked these.now s.now))) }
+    ensures any { IfOk result (λ any. any ≡ is_some (combined asked these.now s.now)) }
+{
+    let mut at_once = count_at_once(asked, these.len(), s.intervals().len());
+    let mut any = false;
+    let mut at = 0;
+    'parts: while at < these.len() {
+        let end = at + at_once.min(these.len() - at);
+        let begun = output.len();
+        any = push_part(asked, alloc, &these[at..end], s, any, room, output)?;
+        at_once = count_behind(at_once, output.len() - begun, these.len());
+        at = end;
+    }
+    Ok(any)
+}
+
+// Appends what comes of some intervals of a range, behind what there is already. Returns whether
+// there is anything.
+fn push_part<'t>(
+    asked: Combination,
+    alloc: Global,
+    some: &[Interval<VersionRef<'t>>],
+    s: &RangeRef<'t>,
+    any: bool,
+    room: &mut String,
+    output: &mut String,
+) -> Result<bool, AllocError>
+    requires { IsRange MAX_SAFE_INTEGER some.now }
+    ensures grown { Grows (string_bytes output.old) (string_bytes output.new) (λ begun.
+        OnOk result (begun ≡ text_behind any (combined asked some.now s.now))) }
+    ensures any { IfOk result (λ now. now ≡ (any || is_some (combined asked some.now s.now))) }
+{
+    let part = range_of_copies(alloc, some)?;
+    let found = combine(asked, alloc, &part, s)?;
+    push_found(&found, any, room, output)
+}
+
+fn combine<'t>(
+    asked: Combination,
+    alloc: Global,
+    r: &RangeRef<'t>,
+    s: &RangeRef<'t>,
+) -> Result<Option<RangeRef<'t>>, AllocError>
+    ensures { IfOk result (λ found. found ≡ combined asked r.now s.now) }
+{
+    match asked {
+        Combination::Intersection => r.intersect(alloc, s),
+        Combination::Difference => r.difference(alloc, s),
+    }
+}
+
+// The range of copies of some intervals of a range.
+fn range_of_copies<'t>(
+    alloc: Global,
+    some: &[Interval<VersionRef<'t>>],
+) -> Result<RangeRef<'t>, AllocError>
+    requires { IsRange MAX_SAFE_INTEGER some.now }
+    ensures { IfOk result (λ range. range ≡ some.now) }
+{
+    match RangeRef::from_intervals(copies_of(alloc, some)?) {
+        Ok(range) => Ok(range),
+        Err(_) => unreachable!(),
+    }
+}
+
+fn copies_of<'t>(
+    alloc: Global,
+    some: &[Interval<VersionRef<'t>>],
+) -> Result<Vec<Interval<VersionRef<'t>>>, AllocError>
+    ensures { IfOk result (λ copies. copies.items ≡ some.now) }
+{
+    let mut copies = Vec::with_capacity(alloc, some.len())?;
+    for interval in some {
+        let (lower, upper) = (copy_of(interval.lower()), copy_of(interval.upper()));
+        copies.push(Interval::of_ordered(lower, upper))?;
+    }
+    Ok(copies)
+}
+
+// A copy of a bound. By a call of `Interval::copy` here, that call in `difference` would no longer
+// be inlined, which costs each line `minus` some 30 instructions.
+fn copy_of<'t>(bound: &Bound<VersionRef<'t>>) -> Bound<VersionRef<'t>>
+    ensures { result ≡ bound.now }
+{
+    match bound {
+        Bound::Unbounded => Bound::Unbounded,
+        Bound::Before(version) => Bound::Before(version.copy()),
+        Bound::After(version) => Bound::After(version.copy()),
+    }
+}
+
+// Appends a range, if there is one, behind what there is already.
+fn push_found(
+    found: &Option<RangeRef<'_>>,
+    any: bool,
+    room: &mut String,
+    output: &mut String,
+) -> Result<bool, AllocError>
+    ensures grown { Grows (string_bytes output.old) (string_bytes output.new) (λ begun.
+        OnOk result (begun ≡ text_behind any found.now)) }
+    ensures any { IfOk result (λ now. now ≡ (any || is_some found.now)) }
+{
+    let Some(range) = found else {
+        return Ok(any);
+    };
+    push_text(separator(any), output)?;
+    push_text(printed(range, room)?, output)?;
+    Ok(true)
+}
+
+fn push_text(text: &str, output: &mut String) -> Result<(), AllocError>
+    ensures { Grows (string_bytes output.old) (string_bytes output.new) (λ begun.
+        OnOk result (begun ≡ text.now)) }
+{
+    output.push_str(text)
+}
+
+// What stands before a range, where there is something already.
+fn separator(any: bool) -> &'static str
+    ensures { result.now ≡ (if any then codes "||" else []) }
+{
+    if any { "||" } else { "" }
+}
