@@ -114,6 +114,45 @@ fn run_writes_a_long_answer(rt: HostRuntime) -> Result<(), Fail> {
     Ok(())
 }
 
+// The intersection of ranges of so many intervals is printed part by part: here each alternative of
+// the first range is a part. Nothing is in the first, a middle and the last one.
+#[test]
+fn run_writes_a_long_intersection(rt: HostRuntime) -> Result<(), Fail> {
+    let input = alternatives(rt.alloc(), "and;^2||^1||^3||<2||^4;", 17_000)?;
+    let output = alternatives(rt.alloc(), "", 34_001)?;
+    assert!(rt; tells(rt.alloc(), input.as_bytes(), output.as_bytes()));
+    Ok(())
+}
+
+// The same where no pair of many meets.
+#[test]
+fn run_tells_of_no_intersection(rt: HostRuntime) -> Result<(), Fail> {
+    let input = alternatives(rt.alloc(), "and;^2||^3;", 17_000)?;
+    assert!(rt; tells(rt.alloc(), input.as_bytes(), b"none\n"));
+    Ok(())
+}
+
+// A first range of a difference, which is printed in a part of 1 alternative and parts of 2.
+// Nothing is left of the first part, of some in the middle, and of the last ones.
+const PARTS: &str = "minus;1.2.3||^1||^3||1.2.3||1.2.3||1.2.3||1.2.3||<1||1.2.3||1.2.3||1.2.3||\
+1.2.3||1.2.3||1.2.3||1.2.3||1.2.3;";
+
+#[test]
+fn run_writes_a_difference_in_parts(rt: HostRuntime) -> Result<(), Fail> {
+    let input = alternatives(rt.alloc(), PARTS, 17_000)?;
+    let output = b">=1.0.0 <1.2.3||>1.2.3 <2.0.0-0||>=3.0.0 <4.0.0-0||<1.0.0\n";
+    assert!(rt; tells(rt.alloc(), input.as_bytes(), output));
+    Ok(())
+}
+
+// The same where nothing is left of any part.
+#[test]
+fn run_tells_of_no_difference(rt: HostRuntime) -> Result<(), Fail> {
+    let input = alternatives(rt.alloc(), "minus;1.2.3||1.2.3||1.2.3||1.2.3;", 17_000)?;
+    assert!(rt; tells(rt.alloc(), input.as_bytes(), b"none\n"));
+    Ok(())
+}
+
 // A line for each command but `pre`, `min` and `ver`, and two faults; the last one has no line
 // feed.
 const INPUT: &[u8] = b"cmp;1.0.0-alpha;1.0.0-alpha.1\n\
