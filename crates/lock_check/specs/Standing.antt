@@ -34,8 +34,8 @@ wanting e = e.dependency.package.folder.now
 abbrev pub folder_cmp : List ℕ → List ℕ → Ordering
 folder_cmp = slice_cmp nat_cmp
 
--- packages are read in the order of their folders, and a dependency with the later one of its two: with what
--- is locked for it, or with the package that wants it, of which it is an own one
+-- packages are read in the order of their folders, and a dependency with the later one of its two packages:
+-- with the one that is locked for it, or with the one that wants it, as one of that package's own (true)
 abbrev pub read_from : List ℕ → Option Package → List ℕ × Bool
 read_from folder None = (folder, true)
 read_from folder (Some p) =
