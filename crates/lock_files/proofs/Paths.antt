@@ -4,7 +4,7 @@ use Rattle.std.proofs.lemmas.Bool.{false_from_ne_true}
 use Rattle.std.proofs.lemmas.List.{append-nil, map-append, reverse-append, reverse-reverse}
 use Rattle.std.proofs.lemmas.Slice.Eq.{bytes_eq-Decides}
 use Rattle.std.specs.Borrow.{Bor}
-use Rattle.std.specs.List.{fold, join_by, join_with_byte}
+use Rattle.std.specs.List.{join_by, join_with_byte}
 use Rattle.std.specs.Prelude.{bytes_eq}
 use Rattle.lock_files.specs.Internal.Places.{place_of}
 use Rattle.lock_files.specs.Paths.{next_place}
@@ -33,9 +33,7 @@ place_of-push parts part =
     ap reverse (map-append (λ p. p.now) parts (part ∷ []))
     ∙ reverse-append (map (λ p. p.now) parts) (part.now ∷ [])
 
--- parts that were gone by lead to this place
-pub same_way : (parts yielded : List (Bor (List ℕ))) (all : List (List ℕ))
-    → place_of parts ≡ fold next_place [] (map (λ p. p.now) yielded) → map (λ p. p.now) yielded ≡ all
-    → map (λ p. p.now) parts ≡ reverse (fold next_place [] all)
-same_way parts yielded all gone same =
-    sym (reverse-reverse (map (λ p. p.now) parts)) ∙ ap reverse (gone ∙ ap (fold next_place []) same)
+-- the parts of a place, in the order of the folder
+pub way-back : (parts : List (Bor (List ℕ))) (place : List (List ℕ)) → place_of parts ≡ place
+    → map (λ p. p.now) parts ≡ reverse place
+way-back parts place is = sym (reverse-reverse (map (λ p. p.now) parts)) ∙ ap reverse is

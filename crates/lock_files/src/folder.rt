@@ -2,9 +2,10 @@
 
 ghost use Rattle.lock_files.specs.Internal.Places.{place_of};
 ghost use Rattle.lock_files.specs.Lookups.{IsInstalled};
-ghost use Rattle.lock_files.specs.Paths.{is_relative, is_url_sign, joined, next_place, place_above};
+ghost use Rattle.lock_files.specs.Paths.{is_relative, is_url_sign, joined, next_place, parts};
+ghost use Rattle.lock_files.specs.Paths.{place_above};
 ghost use Rattle.lock_files.specs.Workspaces.{IsNameOf};
-ghost use Rattle.std.specs.List.{list_any};
+ghost use Rattle.std.specs.List.{fold, list_any};
 ghost use Rattle.std.specs.Option.{MatchOption};
 ghost use Rattle.std.specs.Prelude.{◌↔◌, ◌≡◌, ◌≢◌, ◌∷◌, ◌++◌, IfOk, IsTrue, List, OnOk, ℕ};
 ghost use Rattle.std.specs.Prelude.{string_bytes};
@@ -17,10 +18,20 @@ pub fn joined(alloc: Global, from: &str, path: &str) -> Result<String, AllocErro
     ensures { IfOk result (λ folder. string_bytes folder ≡ joined from.now path.now) }
 {
     let mut parts: Vec<&str> = Vec::new(alloc);
-    for part in from.split('/').chain(path.split('/')) {
-        go_on(&mut parts, part)?;
-    }
+    go_along(&mut parts, from)?;
+    go_along(&mut parts, path)?;
     parts.as_slice().join(alloc, "/")
+}
+
+// Goes on by all parts of a path.
+fn go_along<'a>(place: &mut Vec<&'a str>, path: &'a str) -> Result<(), AllocError>
+    ensures { OnOk result (place_of place.new.items
+        ≡ fold next_place (place_of place.old.items) (parts path.now)) }
+{
+    for part in path.split('/') {
+        go_on(place, part)?;
+    }
+    Ok(())
 }
 
 // Goes on by one part.

@@ -1,25 +1,20 @@
-use Rattle.std.proofs.Common.{◌∷◌, ◌++◌, ◌∙◌, [], ap, arith}
-use Rattle.std.proofs.lemmas.Iterator.Consumers.{YieldsList-at, YieldsList-end, YieldsList-from_chain}
-use Rattle.std.proofs.lemmas.Iterator.Splits.{YieldsList-from_str_split}
+use Rattle.std.proofs.Common.{◌≡◌, ◌∷◌, ◌++◌, ◌∙◌, [], ap, sym}
+use Rattle.std.proofs.lemmas.Grind.{fold-append}
 use Rattle.std.proofs.lemmas.Result.{IfOk-weaker}
-use Rattle.std.specs.List.{join_by, join_with_byte}
-use Rattle.lock_files.specs.Paths.{parts}
-use Rattle.lock_files.proofs.Paths.{joined-slash, same_way}
+use Rattle.std.specs.List.{fold, join_by, join_with_byte}
+use Rattle.lock_files.specs.Internal.Places.{place_of}
+use Rattle.lock_files.specs.Paths.{next_place, parts}
+use Rattle.lock_files.proofs.Paths.{joined-slash, way-back}
 use Rattle.lock_files.proofs.folder.joined.Goals as goal
 
 pub returns : goal.returns
 returns c =
-    let from = c.args.from.now in
-    let path = c.args.path.now in
-    let made = c.chain-part-items.ensures in
-    let way = YieldsList-at c.into_iter-part-iterator.ensures.into_iter_gives
-    (YieldsList-from_chain
-    (YieldsList-at made.first
-    (YieldsList-from_str_split 47 from (omega arith) c.split.ensures.text c.split.ensures.has_more c.split.ensures.pattern))
-    (YieldsList-at made.second
-    (YieldsList-from_str_split 47 path (omega arith) c.split-2.ensures.text c.split-2.ensures.has_more c.split-2.ensures.pattern))
-    made.first_done made.second_done) in
-    let all = YieldsList-end way c.loop-part.yielded _ c.loop-part.yielded_by _ _ c.in-None.is c.next.ensures.steps in
+    let from = parts c.args.from.now in
+    let path = parts c.args.path.now in
+    let items = c.go_along-2.new.place.items in
+    let gone : place_of items ≡ fold next_place [] (from ++ path) =
+    c.in_ok-go_along-2.ensures ∙ ap (λ place. fold next_place place path)
+    (c.in_ok-go_along.ensures ∙ ap (λ items. fold next_place (place_of items) from) c.new-parts.ensures.items)
+    ∙ sym (fold-append next_place [] from path) in
     IfOk-weaker c.join.result _ _ (λ text is. is ∙ ap (join_by (λ p. p.now) (47 ∷ [])) c.as_slice.ensures.value
-    ∙ joined-slash c.loop-part.parts.items ∙ ap (join_with_byte 47) (same_way c.loop-part.parts.items c.loop-part.yielded
-    (parts from ++ parts path) c.loop-part.invariant all.0)) c.join.ensures.ok
+    ∙ joined-slash items ∙ ap (join_with_byte 47) (way-back items (fold next_place [] (from ++ path)) gone)) c.join.ensures.ok
