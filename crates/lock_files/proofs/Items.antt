@@ -17,7 +17,7 @@ use Rattle.lock_files.specs.Internal.Collected.{AreWorkspaces, IsTaken}
 use Rattle.lock_files.specs.Faults.{Extends, HasFault, IsPackageFault}
 use Rattle.lock_files.specs.Edges.{HasEdge}
 use Rattle.lock_files.specs.Internal.Patterns.{AreMeantFound, AreMeantLinked, Fits, HasWorkspace, IsPattern}
-use Rattle.lock_files.specs.Internal.Patterns.{Keeps}
+use Rattle.lock_files.specs.Internal.Patterns.{IsMeantFound, Keeps}
 use Rattle.lock_files.specs.Lookups.{IsPackage, packages_of}
 use Rattle.lock_files.specs.Specifiers.{has}
 use Rattle.lock_files.specs.Workspaces.{AreFitting, HasOtherTexts, IsMeant, IsNoList, IsProject, is_unread}
@@ -183,45 +183,39 @@ module _ (lock : Lock) (p : Package) where
       | inr last ↦ let e = is ∙ sym (subst (λ i. None ≡ as_str (view (get_or vs i d))) (sym last) (none d)) in absurd (cc)
     ]
 
-    module _ (own : List ℕ) (same : (d : Value) → Some own ≡ as_str (view (get_or vs n d))) where
-      -- a text, all whose folders are there
-      found-text : ((folder : List ℕ) → is_unread (pattern_of own) ≡ false → IsMeant lock (pattern_of own) folder
-          → HasWorkspace lock found p.folder.now folder)
-          → AreItemsFound lock p vs n found → AreItemsFound lock p vs (n + 1) found
-      found-text here all k d text folder h is read meant = elim (last-or k n h) [
-        | inl lower ↦ all k d text folder lower is read meant
-        | inr last ↦
-            let e : Some text ≡ Some own = is ∙ sym (subst (λ i. Some own ≡ as_str (view (get_or vs i d))) (sym last) (same d)) in
-            let one : text ≡ own = ap (λ o. unwrap_or o own) e in
-            here folder (subst (λ t. is_unread (pattern_of t) ≡ false) one read)
-            (subst (λ t. IsMeant lock (pattern_of t) folder) one meant)
-      ]
+    -- a text, all whose folders are there
+    pub found-text : (own : List ℕ) → ((d : Value) → Some own ≡ as_str (view (get_or vs n d)))
+        → IsMeantFound lock found p.folder.now own → AreItemsFound lock p vs n found → AreItemsFound lock p vs (n + 1) found
+    found-text own same here all k d text folder h is read meant = elim (last-or k n h) [
+      | inl lower ↦ all k d text folder lower is read meant
+      | inr last ↦
+          let e : Some text ≡ Some own = is ∙ sym (subst (λ i. Some own ≡ as_str (view (get_or vs i d))) (sym last) (same d)) in
+          let one : text ≡ own = ap (λ o. unwrap_or o own) e in
+          here folder (subst (λ t. is_unread (pattern_of t) ≡ false) one read)
+          (subst (λ t. IsMeant lock (pattern_of t) folder) one meant)
+    ]
 
-      -- its pattern has no star
-      pub found-alone : (folder : Bor (List ℕ)) → IsPattern own (pattern.Folder folder)
-          → HasWorkspace lock found p.folder.now folder.now → AreItemsFound lock p vs n found
-          → AreItemsFound lock p vs (n + 1) found
-      found-alone folder is there all = found-text (λ other read meant. by_case other meant) all
-        where
-          by_case : (other : List ℕ) → IsMeant lock (pattern_of own) other → HasWorkspace lock found p.folder.now other
-          by_case other (alone none same) = subst (HasWorkspace lock found p.folder.now) (is.0 ∙ sym same) there
-          by_case other (starred some project fits) =
-              let e = sym some ∙ ap (has 42) (sym is.0) ∙ is.2 in absurd (cc)
+  module _ (own : List ℕ) (found : List Dependency) where
+    -- its pattern has no star
+    pub found-alone : (folder : Bor (List ℕ)) → IsPattern own (pattern.Folder folder)
+        → HasWorkspace lock found p.folder.now folder.now → IsMeantFound lock found p.folder.now own
+    found-alone folder is there other read (alone none same) =
+        subst (HasWorkspace lock found p.folder.now) (is.0 ∙ sym same) there
+    found-alone folder is there other read (starred some project fits) =
+        let e = sym some ∙ ap (has 42) (sym is.0) ∙ is.2 in absurd (cc)
 
-      -- its pattern has stars, or is not read
-      pub found-stars : (own_pattern : Pattern) → IsPattern own own_pattern
-          → ((folder : Bor (List ℕ)) → own_pattern ≢ pattern.Folder folder)
-          → AreKeysFound lock p own_pattern (keys_of lock.packages.now.entries) found → AreItemsFound lock p vs n found
-          → AreItemsFound lock p vs (n + 1) found
-      found-stars (pattern.Folder folder) is other keys all = absurd (other folder refl)
-      found-stars pattern.Unread is other keys all = found-text (λ folder read meant. let e = sym read ∙ is in absurd (cc)) all
-      found-stars (pattern.Stars stars) is other keys all = found-text (λ folder read meant. by_case folder meant) all
-        where
-          by_case : (folder : List ℕ) → IsMeant lock (pattern_of own) folder → HasWorkspace lock found p.folder.now folder
-          by_case folder (alone none same) = let e = sym none ∙ ap (has 42) (sym is.0) ∙ is.2 in absurd (cc)
-          by_case folder (starred some project fits) =
-              keys folder (key-of folder lock.packages.now.entries project.0) project
-              (subst (λ t. AreFitting (parts t) (parts folder)) (sym is.0) fits)
+    -- its pattern has stars, or is not read
+    pub found-stars : (own_pattern : Pattern) → IsPattern own own_pattern
+        → ((folder : Bor (List ℕ)) → own_pattern ≢ pattern.Folder folder)
+        → AreKeysFound lock p own_pattern (keys_of lock.packages.now.entries) found
+        → IsMeantFound lock found p.folder.now own
+    found-stars (pattern.Folder folder) is other keys place read meant = absurd (other folder refl)
+    found-stars pattern.Unread is other keys place read meant = let e = sym read ∙ is in absurd (cc)
+    found-stars (pattern.Stars stars) is other keys place read (alone none same) =
+        let e = sym none ∙ ap (has 42) (sym is.0) ∙ is.2 in absurd (cc)
+    found-stars (pattern.Stars stars) is other keys place read (starred some project fits) =
+        keys place (key-of place lock.packages.now.entries project.0) project
+        (subst (λ t. AreFitting (parts t) (parts place)) (sym is.0) fits)
 
   module _ (vs : List Value) (some : texts_in (view p.fields.now) ≡ Some (array (items_view vs))) where
     -- all of them

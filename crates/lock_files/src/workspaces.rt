@@ -2,13 +2,13 @@
 
 ghost use Rattle.lock_files.specs.Internal.Collected.{AreWorkspaces, AreTextsTold};
 ghost use Rattle.lock_files.specs.Faults.{Extends, IsPackageFault};
-ghost use Rattle.lock_files.specs.Internal.Patterns.{AreMeantFound, Fits, HasWorkspace, IsPattern};
-ghost use Rattle.lock_files.specs.Internal.Patterns.{Keeps, Takes};
+ghost use Rattle.lock_files.specs.Internal.Patterns.{AreMeantFound, AreTextsOf, Fits, HasWorkspace};
+ghost use Rattle.lock_files.specs.Internal.Patterns.{IsMeantFound, IsPattern, IsRoot, Keeps, Takes};
 ghost use Rattle.lock_files.specs.Lookups.{IsPackage};
 ghost use Rattle.lock_files.specs.Dependencies.{IsDeclared};
-ghost use Rattle.lock_files.specs.Workspaces.{AreFitting, AreRead, IsFitting, IsNoList, IsReadItem};
-ghost use Rattle.lock_files.specs.Workspaces.{IsWorkspace, IsWorkspaceName, is_unread, is_wildcard};
-ghost use Rattle.lock_files.specs.Workspaces.{parts, pattern_of, texts_in};
+ghost use Rattle.lock_files.specs.Workspaces.{AreFitting, AreRead, HasText, IsFitting, IsNoList};
+ghost use Rattle.lock_files.specs.Workspaces.{IsReadItem, IsWorkspace, IsWorkspaceName, is_unread};
+ghost use Rattle.lock_files.specs.Workspaces.{is_wildcard, parts, pattern_of, texts_in};
 ghost use Rattle.serde_json.specs.Data.{array};
 ghost use Rattle.serde_json.specs.View.{items_view, view};
 ghost use Rattle.std.specs.List.{list_any};
@@ -189,29 +189,73 @@ pub(crate) fn add_workspaces<'a>(
     if !root.folder.is_empty() {
         return Ok(());
     }
-    let list = match patterns(root) {
-        Ok(Some(list)) => list,
-        Ok(None) => return Ok(()),
-        Err(fault) => {
-            faults.push(fault)?;
-            return Ok(());
-        }
-    };
+    match patterns(root) {
+        Ok(Some(list)) => add_items(lock, root, list, found, faults)?,
+        Ok(None) => {}
+        Err(fault) => faults.push(fault)?,
+    }
+    Ok(())
+}
+
+// Adds the workspaces that the items of this list mean.
+fn add_items<'a>(
+    lock: Lock<'a>,
+    root: Package<'a>,
+    list: &'a Vec<Value>,
+    found: &mut Dependencies<'a>,
+    faults: &mut Vec<Fault<'a>>,
+) -> Result<(), AllocError>
+    ensures each { OnOk result (AreTextsOf root.entry list.now.items → IsRoot lock.entry root.entry
+        → All (IsDeclared lock.entry) found.old.first.items
+        → All (IsDeclared lock.entry) found.new.first.items) }
+    ensures alone { OnOk result (AreWorkspaces root.entry found.old
+        → AreWorkspaces root.entry found.new) }
+    ensures all { OnOk result (AreTextsOf root.entry list.now.items
+        → AreWorkspaces root.entry found.old
+        → AreMeantFound lock.entry root.entry found.new.first.items) }
+    ensures kept { OnOk result (Extends faults.old.items faults.new.items) }
+    ensures told { OnOk result (AreTextsOf root.entry list.now.items
+        → AreTextsTold faults.new.items root.entry.folder.now (view root.entry.fields.now)) }
+    ensures wrong { OnOk result (AreTextsOf root.entry list.now.items
+        → IsRoot lock.entry root.entry
+        → All (IsPackageFault lock.entry) faults.old.items
+        → All (IsPackageFault lock.entry) faults.new.items) }
+{
     for item in list.iter() {
         let Some(text) = item.as_str() else {
             faults.push(Fault::Workspaces)?;
             continue;
         };
-        let pattern = Pattern::of(text);
-        if let Pattern::Folder(folder) = pattern {
-            add_workspace(lock, root, folder, found)?;
-            continue;
-        }
-        for folder in lock.packages.keys() {
-            let folder = folder.as_str();
-            if !pattern.takes(folder) {
-                continue;
-            }
+        add_meant(lock, root, text, found)?;
+    }
+    Ok(())
+}
+
+// Adds the workspaces that a text means.
+fn add_meant<'a>(
+    lock: Lock<'a>,
+    root: Package<'a>,
+    text: &'a str,
+    found: &mut Dependencies<'a>,
+) -> Result<(), AllocError>
+    ensures each { OnOk result (IsRoot lock.entry root.entry
+        → HasText (view root.entry.fields.now) text.now
+        → All (IsDeclared lock.entry) found.old.first.items
+        → All (IsDeclared lock.entry) found.new.first.items) }
+    ensures alone { OnOk result (AreWorkspaces root.entry found.old
+        → AreWorkspaces root.entry found.new) }
+    ensures more { OnOk result (AreWorkspaces root.entry found.old
+        → Keeps found.old.first.items found.new.first.items) }
+    ensures all { OnOk result (AreWorkspaces root.entry found.old
+        → IsMeantFound lock.entry found.new.first.items root.entry.folder.now text.now) }
+{
+    let pattern = Pattern::of(text);
+    if let Pattern::Folder(folder) = pattern {
+        return add_workspace(lock, root, folder, found);
+    }
+    for folder in lock.packages.keys() {
+        let folder = folder.as_str();
+        if pattern.takes(folder) {
             add_workspace(lock, root, folder, found)?;
         }
     }

@@ -1,13 +1,14 @@
 -- For proofs and private contracts: what a text in `workspaces` is, and which workspaces are collected.
-use Rattle.std.specs.Prelude.{◌≡◌, ◌≢◌, ℕ, true, false, List, [], Contains}
-use Rattle.serde_json.specs.Data.{Data}
-use Rattle.serde_json.specs.View.{view}
+use Rattle.std.specs.Prelude.{◌≡◌, ◌≢◌, ℕ, true, false, List, [], Some, Contains}
+use Rattle.serde_json.specs.Data.{Data, array}
+use Rattle.serde_json.specs.View.{items_view, view}
+use Rattle.serde_json.specs.declared.value.Value.{Value}
 use Rattle.lock_files.specs.Internal.Collected.{HasDependency}
 use Rattle.lock_files.specs.Edges.{HasEdge}
-use Rattle.lock_files.specs.Lookups.{IsInstalled}
+use Rattle.lock_files.specs.Lookups.{IsInstalled, IsPackage}
 use Rattle.lock_files.specs.Specifiers.{has}
-use Rattle.lock_files.specs.Workspaces.{AreFitting, IsWorkspace, IsWorkspaceName, is_unread, parts}
-use Rattle.lock_files.specs.Workspaces.{pattern_of}
+use Rattle.lock_files.specs.Workspaces.{AreFitting, IsMeant, IsWorkspace, IsWorkspaceName, is_unread, parts}
+use Rattle.lock_files.specs.Workspaces.{pattern_of, texts_in}
 use Rattle.lock_files.specs.declared.edge.Edge.{Edge}
 use Rattle.lock_files.specs.declared.lock.Dependency.{Dependency}
 use Rattle.lock_files.specs.declared.lock.Field.TheVariants as field
@@ -42,6 +43,19 @@ Keeps before after = (d : Dependency) → Contains before d → Contains after d
 abbrev pub HasWorkspace : Lock → List Dependency → (place folder : List ℕ) → Type 0
 HasWorkspace lock found place folder =
     (name : List ℕ) × IsWorkspaceName lock folder name × HasDependency found place field.Workspaces name
+
+-- the package is the root project of the lock file
+abbrev pub IsRoot : Lock → Package → Type 0
+IsRoot lock p = IsPackage lock p × (p.folder.now ≡ [])
+
+-- the texts of the package stand in this list
+abbrev pub AreTextsOf : Package → List Value → Type 0
+AreTextsOf p vs = texts_in (view p.fields.now) ≡ Some (array (items_view vs))
+
+-- so has each workspace that one text means
+abbrev pub IsMeantFound : Lock → List Dependency → (place text : List ℕ) → Type 0
+IsMeantFound lock found place text = (folder : List ℕ) → is_unread (pattern_of text) ≡ false
+    → IsMeant lock (pattern_of text) folder → HasWorkspace lock found place folder
 
 -- so has each workspace, if the package is the root project
 abbrev pub AreMeantFound : Lock → Package → List Dependency → Type 0
