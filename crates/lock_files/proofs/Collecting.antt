@@ -18,8 +18,8 @@ use Rattle.serde_json.specs.Data.{Data, array, boolean, null, number, object, st
 use Rattle.serde_json.specs.Find.{as_object, as_str, get, get_member}
 use Rattle.serde_json.specs.View.{members_view, view}
 use Rattle.serde_json.specs.declared.value.Value.{Value}
-use Rattle.lock_files.specs.Internal.Collected.{AreAllFound, AreApart, AreNamed, AreOwn, AreWorkspaces}
-use Rattle.lock_files.specs.Internal.Collected.{HasDependency, has_name, members_in, with_first}
+use Rattle.lock_files.specs.Internal.Collected.{AreAllFound, AreApart, AreNamed, AreOwn, AreUpto, AreWorkspaces}
+use Rattle.lock_files.specs.Internal.Collected.{HasDependency, IsOfRank, has_name, members_in, with_first}
 use Rattle.lock_files.specs.Edges.{AreOfOne}
 use Rattle.lock_files.specs.Dependencies.{IsRead, Writes, rank}
 use Rattle.lock_files.specs.Lookups.{field_name, written_in}
@@ -85,12 +85,8 @@ added-apart found d apart = by_test (has_name found d.name.now) refl
         let has : has_name found d.name.now ≡ true =
         list_any_at (λ y. bytes_eq y.name.now d.name.now) found k x within there in absurd (cc))
 
--- of the package in this folder, by a field with a rank up to this one
-abbrev pub IsUpto : List ℕ → ℕ → Dependency → Type 0
-IsUpto folder most d = (d.package.folder.now ≡ folder) × (rank d.field ≤ most)
-
 pub added-has : (folder : List ℕ) (f : Field) (found : List Dependency) (d : Dependency)
-    → d.package.folder.now ≡ folder → d.field ≡ f → All (IsUpto folder (rank f)) found
+    → d.package.folder.now ≡ folder → d.field ≡ f → All (IsOfRank folder (rank f)) found
     → HasDependency (with_first found d) folder f d.name.now
 added-has folder f found d in_folder in_field all = by_test (has_name found d.name.now) refl
   where
@@ -99,7 +95,7 @@ added-has folder f found d in_folder in_field all = by_test (has_name found d.na
     by_test true e =
         let a = Any-from_list_any (λ x. bytes_eq x.name.now d.name.now) found e in
         let upto = all a.0 a.1 a.2 in
-        let is : IsUpto folder (rank f) a.1 = subst (IsUpto folder (rank f)) a.3 upto in (
+        let is : IsOfRank folder (rank f) a.1 = subst (IsOfRank folder (rank f)) a.3 upto in (
           a.1,
           (a.0, a.2, a.3),
           record {
@@ -171,18 +167,10 @@ key-of name (e ∷ es) some = by_order (key-of name es) (slice_cmp nat_cmp name 
 
 -- ---- what a package writes, field by field
 
--- the fields up to this rank are read
-pub record AreUpto (p : Package) (most : ℕ) (found : Dependencies) : Type 0 where
-  pub named : AreNamed found
-  pub each : All (IsUpto p.folder.now most) found.first.items
-  pub apart : AreApart found.first.items
-  pub all : (f : Field) (name : List ℕ) → rank f ≤ most → Writes p.folder.now (view p.fields.now) f name
-      → HasDependency found.first.items p.folder.now f name
-
 -- those before this one are read, and of this one these names
 pub record AreUptoName (p : Package) (f : Field) (keys : List (String Global)) (found : Dependencies) : Type 0 where
   pub named : AreNamed found
-  pub each : All (IsUpto p.folder.now (rank f)) found.first.items
+  pub each : All (IsOfRank p.folder.now (rank f)) found.first.items
   pub apart : AreApart found.first.items
   pub before : (g : Field) (name : List ℕ) → rank g < rank f → Writes p.folder.now (view p.fields.now) g name
       → HasDependency found.first.items p.folder.now g name
@@ -248,48 +236,48 @@ written-key folder fields f name es is w =
     (subst (λ o. IsSome (option_and_then as_str o)) e w.has_text))
 
 module _ (p : Package) (found : Dependencies) where
-  pub upto-start : (i : ℕ) → i < 5 → AreUpto p i found → AreUptoName p (field_at i) [] found
-  upto-start i h u = let r = rank-at i h in record {
-    named = u.named;
-    each = All-weaker (IsUpto p.folder.now i) (IsUpto p.folder.now (rank (field_at i)))
-        (λ d is. (is.0, omega arith)) found.first.items u.each;
-    apart = u.apart;
-    before = λ g name lower w. u.all g name (omega arith) w;
-    so_far = λ name key w. absurd (omega (arith, key.1.1));
-  }
+  module _ (f : Field) (most : ℕ) (ranked_so : rank f ≡ most + 1) where
+    pub upto-start : AreUpto p most found → AreUptoName p f [] found
+    upto-start u = record {
+      named = u.named;
+      each = All-weaker (IsOfRank p.folder.now most) (IsOfRank p.folder.now (rank f)) (λ d is. (is.0, omega arith))
+          found.first.items u.each;
+      apart = u.apart;
+      before = λ g name lower w. u.all g name (omega arith) w;
+      so_far = λ name key w. absurd (omega (arith, key.1.1));
+    }
 
-  pub upto-none : (i : ℕ) → i < 5
-      → ((name : List ℕ) → Writes p.folder.now (view p.fields.now) (field_at i) name → ⊥) → AreUpto p i found
-      → AreUpto p (i + 1) found
-  upto-none i h none u = record {
-    named = u.named;
-    each = All-weaker (IsUpto p.folder.now i) (IsUpto p.folder.now (i + 1)) (λ d is. (is.0, omega arith))
-        found.first.items u.each;
-    apart = u.apart;
-    all = λ g name upto w. elim (last_or_before (rank g) i upto) [
-      | inl lower ↦ u.all g name lower w
-      | inr last ↦
-          let same : g ≡ field_at i = same-rank g (field_at i) (last ∙ sym (rank-at i h)) in
-          absurd (none name (subst (λ f. Writes p.folder.now (view p.fields.now) f name) same w))
-    ];
-  }
+    pub upto-none : ((name : List ℕ) → Writes p.folder.now (view p.fields.now) f name → ⊥) → AreUpto p most found
+        → AreUpto p (most + 1) found
+    upto-none none u = record {
+      named = u.named;
+      each = All-weaker (IsOfRank p.folder.now most) (IsOfRank p.folder.now (most + 1)) (λ d is. (is.0, omega arith))
+          found.first.items u.each;
+      apart = u.apart;
+      all = λ g name upto w. elim (last_or_before (rank g) most upto) [
+        | inl lower ↦ u.all g name lower w
+        | inr last ↦
+            let same : g ≡ f = same-rank g f (last ∙ sym ranked_so) in
+            absurd (none name (subst (λ h. Writes p.folder.now (view p.fields.now) h name) same w))
+      ];
+    }
 
-  pub upto-done : (i : ℕ) (keys : List (String Global)) → i < 5
-      → ((name : List ℕ) → Writes p.folder.now (view p.fields.now) (field_at i) name → HasKey keys name)
-      → AreUptoName p (field_at i) keys found → AreUpto p (i + 1) found
-  upto-done i keys h has u = let r = rank-at i h in record {
-    named = u.named;
-    each = All-weaker (IsUpto p.folder.now (rank (field_at i))) (IsUpto p.folder.now (i + 1))
-        (λ d is. (is.0, omega arith)) found.first.items u.each;
-    apart = u.apart;
-    all = λ g name upto w. elim (last_or_before (rank g) i upto) [
-      | inl lower ↦ u.before g name (omega arith) w
-      | inr last ↦
-          let same : g ≡ field_at i = same-rank g (field_at i) (last ∙ sym r) in
-          let w' = subst (λ f. Writes p.folder.now (view p.fields.now) f name) same w in
-          subst (λ f. HasDependency found.first.items p.folder.now f name) (sym same) (u.so_far name (has name w') w')
-    ];
-  }
+    pub upto-done : (keys : List (String Global))
+        → ((name : List ℕ) → Writes p.folder.now (view p.fields.now) f name → HasKey keys name)
+        → AreUptoName p f keys found → AreUpto p (most + 1) found
+    upto-done keys has u = record {
+      named = u.named;
+      each = All-weaker (IsOfRank p.folder.now (rank f)) (IsOfRank p.folder.now (most + 1)) (λ d is. (is.0, omega arith))
+          found.first.items u.each;
+      apart = u.apart;
+      all = λ g name upto w. elim (last_or_before (rank g) most upto) [
+        | inl lower ↦ u.before g name (omega arith) w
+        | inr last ↦
+            let same : g ≡ f = same-rank g f (last ∙ sym ranked_so) in
+            let w' = subst (λ h. Writes p.folder.now (view p.fields.now) h name) same w in
+            subst (λ h. HasDependency found.first.items p.folder.now h name) (sym same) (u.so_far name (has name w') w')
+      ];
+    }
 
   module _ (f : Field) (keys : List (String Global)) (k : String Global) where
     last_key : (name : List ℕ) → HasKey (keys ++ k ∷ []) name → HasKey keys name ⊎ (string_bytes k ≡ name)
@@ -321,8 +309,8 @@ module _ (p : Package) (found : Dependencies) where
         subst (λ ds. HasDependency ds p.folder.now g name) (sym added)
         (has-kept found.first.items d p.folder.now g name h) in record {
           named = named;
-          each = subst (All (IsUpto p.folder.now (rank f))) (sym added)
-              (added-all (IsUpto p.folder.now (rank f)) found.first.items d u.each
+          each = subst (All (IsOfRank p.folder.now (rank f))) (sym added)
+              (added-all (IsOfRank p.folder.now (rank f)) found.first.items d u.each
               (in_folder, subst (λ g. rank g ≤ rank f) (sym in_field) (omega arith)));
           apart = subst AreApart (sym added) (added-apart found.first.items d u.apart);
           before = λ g name lower w. kept g name (u.before g name lower w);
@@ -340,7 +328,7 @@ module _ (p : Package) (found : Dependencies) where
   upto-workspaces are = record {
     named = are.named;
     each = All-weaker (λ d. (d.package.folder.now ≡ p.folder.now) × (d.field ≡ field.Workspaces))
-        (IsUpto p.folder.now 0) (λ d is. (is.0, subst (λ g. rank g ≤ 0) (sym is.1) (omega arith)))
+        (IsOfRank p.folder.now 0) (λ d is. (is.0, subst (λ g. rank g ≤ 0) (sym is.1) (omega arith)))
         found.first.items are.each;
     apart = are.apart;
     all = λ g name upto w. absurd (no_lower g upto w.is_read);
@@ -367,7 +355,7 @@ module _ (p : Package) (found : Dependencies) where
 
   pub upto-own : (i : ℕ) → AreUpto p i found → AreOwn p.folder.now found.first.items
   upto-own i u = record {
-    each = All-weaker (IsUpto p.folder.now i) (λ d. d.package.folder.now ≡ p.folder.now) (λ d is. is.0) found.first.items u.each;
+    each = All-weaker (IsOfRank p.folder.now i) (λ d. d.package.folder.now ≡ p.folder.now) (λ d is. is.0) found.first.items u.each;
     apart = u.apart;
   }
 

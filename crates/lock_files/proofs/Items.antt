@@ -9,11 +9,11 @@ use Rattle.serde_json.specs.Data.{Data, array, boolean, null, number, object, st
 use Rattle.serde_json.specs.Find.{as_array, as_str, at, get, get_item}
 use Rattle.serde_json.specs.View.{items_view, view}
 use Rattle.serde_json.specs.declared.value.Value.{Value}
-use Rattle.lock_files.proofs.Collecting.{HasKey, IsUpto, key-of}
+use Rattle.lock_files.proofs.Collecting.{HasKey, key-of}
 use Rattle.lock_files.proofs.Patterns.{item-or}
 use Rattle.lock_files.proofs.Added.{fault-kept, extends-kept}
 use Rattle.lock_files.specs.Dependencies.{IsOf, rank}
-use Rattle.lock_files.specs.Internal.Collected.{AreWorkspaces, IsTaken}
+use Rattle.lock_files.specs.Internal.Collected.{AreWorkspaces, IsOfRank, IsTaken}
 use Rattle.lock_files.specs.Faults.{Extends, HasFault, IsPackageFault}
 use Rattle.lock_files.specs.Edges.{HasEdge}
 use Rattle.lock_files.specs.Internal.Patterns.{AreMeantFound, AreMeantLinked, Fits, HasWorkspace, IsPattern}
@@ -130,9 +130,9 @@ pub workspace-kept : (lock : Lock) (before after : List Dependency) (place folde
 workspace-kept lock before after place folder keeps (name, is, (d, at, of)) = (name, is, (d, keeps d at, of))
 
 pub workspaces-upto : (p : Package) (found : Dependencies) → AreWorkspaces p found
-    → All (IsUpto p.folder.now 0) found.first.items
+    → All (IsOfRank p.folder.now 0) found.first.items
 workspaces-upto p found are =
-    All-weaker (λ d. (d.package.folder.now ≡ p.folder.now) × (d.field ≡ field.Workspaces)) (IsUpto p.folder.now 0)
+    All-weaker (λ d. (d.package.folder.now ≡ p.folder.now) × (d.field ≡ field.Workspaces)) (IsOfRank p.folder.now 0)
     (λ d is. (is.0, subst (λ g. rank g ≤ 0) (sym is.1) (omega arith))) found.first.items are.each
 
 -- of the first items each pattern that is read has all that it means

@@ -76,12 +76,10 @@ abbrev pub AreToldUpto : Package → ℕ → List Fault → Type 0
 AreToldUpto p most faults = (f : Field) → rank f ≤ most → IsRead f p.folder.now
     → HasFaults p.folder.now (view p.fields.now) f faults
 
--- those before this one are read, and of this one these names
-pub record AreToldName (p : Package) (f : Field) (keys : List (String Global)) (faults : List Fault) : Type 0 where
-  pub before : (g : Field) → rank g < rank f → IsRead g p.folder.now
-      → HasFaults p.folder.now (view p.fields.now) g faults
-  pub so_far : (name : List ℕ) → HasKey keys name → IsNoText (view p.fields.now) f name
-      → HasFault faults (IsRangeFault p.folder.now name)
+-- of this field these names are read
+abbrev pub AreToldKeys : Package → Field → List (String Global) → List Fault → Type 0
+AreToldKeys p f keys faults = (name : List ℕ) → HasKey keys name → IsNoText (view p.fields.now) f name
+    → HasFault faults (IsRangeFault p.folder.now name)
 
 pub told-none : (p : Package) (faults : List Fault) → AreToldUpto p 0 faults
 told-none p faults field.Workspaces h read = absurd read
@@ -102,41 +100,29 @@ told-more p i before after h more here all = λ f upto read. elim (last_or_befor
       (here (subst (λ g. IsRead g p.folder.now) same read))
 ]
 
-pub told-start : (p : Package) (i : ℕ) (faults : List Fault) → i < 5 → AreToldUpto p i faults
-    → AreToldName p (field_at i) [] faults
-told-start p i faults h all = let r = rank-at i h in record {
-  before = λ g lower read. all g (omega arith) read;
-  so_far = λ name key wrong. absurd (omega (arith, key.1.1));
-}
+pub told-start : (p : Package) (f : Field) (faults : List Fault) → AreToldKeys p f [] faults
+told-start p f faults name key wrong = absurd (omega (arith, key.1.1))
 
 pub told-key : (p : Package) (f : Field) (keys : List (String Global)) (k : String Global) (before after : List Fault)
     → Extends before after
     → (IsNoText (view p.fields.now) f (string_bytes k) → HasFault after (IsRangeFault p.folder.now (string_bytes k)))
-    → AreToldName p f keys before → AreToldName p f (keys ++ k ∷ []) after
-told-key p f keys k before after more here all = record {
-  before = λ g lower read. faults-kept p.folder.now (view p.fields.now) g before after more (all.before g lower read);
-  so_far = λ name key wrong. elim (Contains-push_cases keys k key.0 key.1) [
-    | inl earlier ↦ fault-kept before after (IsRangeFault p.folder.now name) more (all.so_far name (key.0, earlier, key.2) wrong)
-    | inr same ↦
-        let is : string_bytes k ≡ name = ap string_bytes same ∙ key.2 in
-        subst (λ n. HasFault after (IsRangeFault p.folder.now n)) is
-        (here (subst (λ n. IsNoText (view p.fields.now) f n) (sym is) wrong))
-  ];
-}
-
-pub told-done : (p : Package) (i : ℕ) (es : List (String Global × Value)) (keys : List (String Global)) (faults : List Fault)
-    → i < 5 → members_in (field_at i) (view p.fields.now) ≡ Some (members_view es) → keys ≡ keys_of es
-    → AreToldName p (field_at i) keys faults → AreToldUpto p (i + 1) faults
-told-done p i es keys faults h is same all = λ f upto read. elim (last_or_before (rank f) i upto) [
-  | inl lower ↦ let r = rank-at i h in all.before f (omega arith) read
-  | inr last ↦
-      let own : f ≡ field_at i = same-rank f (field_at i) (last ∙ sym (rank-at i h)) in
-      subst (λ g. HasFaults p.folder.now (view p.fields.now) g faults) (sym own) (record {
-        object = λ wrong. absurd (some-in (view p.fields.now) (field_at i) es is wrong);
-        texts = λ name wrong. all.so_far name (subst (λ ks. HasKey ks name) (sym same)
-            (no-text-key (view p.fields.now) (field_at i) name es is wrong)) wrong;
-      })
+    → AreToldKeys p f keys before → AreToldKeys p f (keys ++ k ∷ []) after
+told-key p f keys k before after more here all name key wrong = elim (Contains-push_cases keys k key.0 key.1) [
+  | inl earlier ↦ fault-kept before after (IsRangeFault p.folder.now name) more (all name (key.0, earlier, key.2) wrong)
+  | inr same ↦
+      let is : string_bytes k ≡ name = ap string_bytes same ∙ key.2 in
+      subst (λ n. HasFault after (IsRangeFault p.folder.now n)) is
+      (here (subst (λ n. IsNoText (view p.fields.now) f n) (sym is) wrong))
 ]
+
+pub told-done : (p : Package) (f : Field) (es : List (String Global × Value)) (keys : List (String Global)) (faults : List Fault)
+    → members_in f (view p.fields.now) ≡ Some (members_view es) → keys ≡ keys_of es → AreToldKeys p f keys faults
+    → HasFaults p.folder.now (view p.fields.now) f faults
+told-done p f es keys faults is same all = record {
+  object = λ wrong. absurd (some-in (view p.fields.now) f es is wrong);
+  texts = λ name wrong. all name (subst (λ ks. HasKey ks name) (sym same) (no-text-key (view p.fields.now) f name es is wrong))
+      wrong;
+}
 
 pub told-all : (p : Package) (i : ℕ) (faults : List Fault) → 5 ≤ i → AreToldUpto p i faults
     → HasAllFaults faults p.folder.now (view p.fields.now)

@@ -1,11 +1,11 @@
 // The packages of a lock file, and what they depend on.
 
-ghost use Rattle.lock_files.specs.Internal.Collected.{AreAllFound, AreNamed, AreOwn, AreWorkspaces};
-ghost use Rattle.lock_files.specs.Internal.Collected.{members_in, with_first};
-ghost use Rattle.lock_files.specs.Faults.{Extends, HasAllFaults, IsFieldFault, IsNoObject};
+ghost use Rattle.lock_files.specs.Internal.Collected.{AreAllFound, AreNamed, AreOwn, AreUpto};
+ghost use Rattle.lock_files.specs.Internal.Collected.{AreWorkspaces, members_in, with_first};
+ghost use Rattle.lock_files.specs.Faults.{Extends, HasAllFaults, HasFaults, IsFieldFault, IsNoObject};
 ghost use Rattle.lock_files.specs.Faults.{IsPackageFault};
 ghost use Rattle.lock_files.specs.Internal.Patterns.{Keeps};
-ghost use Rattle.lock_files.specs.Dependencies.{IsRead, accepted_by, IsDeclared};
+ghost use Rattle.lock_files.specs.Dependencies.{IsRead, accepted_by, IsDeclared, rank};
 ghost use Rattle.lock_files.specs.Optional.{MayBeAbsent};
 ghost use Rattle.lock_files.specs.Fields.{is_set, member_of, text_of};
 ghost use Rattle.lock_files.specs.Wanted.{IsOtherThan, IsWantedAs, wanted_text};
@@ -14,7 +14,7 @@ ghost use Rattle.lock_files.specs.Lookups.{IsPackage};
 ghost use Rattle.lock_files.specs.Lookups.{IsPacked, LocksIn, field_name, installed, written_in};
 ghost use Rattle.lock_files.specs.declared.lock.Lock.{Lock};
 ghost use Rattle.serde_json.specs.View.{members_view, view};
-ghost use Rattle.std.specs.Prelude.{◌≡◌, ◌≢◌, ◌↔◌, ◌++◌, [], All, IfErr, IfNone, IfOk, IfSome};
+ghost use Rattle.std.specs.Prelude.{◌≡◌, ◌≢◌, ◌↔◌, ◌+◌, ◌++◌, [], All, IfErr, IfNone, IfOk, IfSome};
 ghost use Rattle.std.specs.Prelude.{IsTrue, List, OnOk, Some, codes, option_map, true, ℕ};
 
 use crate::fault::Fault;
@@ -469,29 +469,54 @@ pub(crate) fn add_dependencies<'a>(
         → All (IsPackageFault lock) faults.old.items → All (IsPackageFault lock) faults.new.items) }
 {
     for &field in FIELDS {
-        let ranges = match field.of(package) {
-            Ok(Some(ranges)) => ranges,
-            Ok(None) => continue,
-            Err(fault) => {
-                faults.push(fault)?;
-                continue;
-            }
-        };
-        for name in ranges.keys() {
-            let name = name.as_str();
-            let Some(range) = package.written(field, name) else {
-                let folder = package.folder;
-                faults.push(Fault::Range { folder, name })?;
-                continue;
-            };
-            let wanted = Wanted::Text(range);
-            found.add(Dependency {
-                package,
-                field,
-                name,
-                wanted,
-            })?;
+        add_field(package, field, found, faults)?;
+    }
+    Ok(())
+}
+
+// Adds the dependencies of one field.
+fn add_field<'a>(
+    package: Package<'a>,
+    field: Field,
+    found: &mut Dependencies<'a>,
+    faults: &mut Vec<Fault<'a>>,
+) -> Result<(), AllocError>
+    ensures each { OnOk result ((lock : Lock) → IsPackage lock «package».entry
+        → All (IsDeclared lock) found.old.first.items
+        → All (IsDeclared lock) found.new.first.items) }
+    ensures all { OnOk result ((most : ℕ) → rank field ≡ most + 1
+        → AreUpto «package».entry most found.old → AreUpto «package».entry (most + 1) found.new) }
+    ensures more { OnOk result (AreNamed found.old
+        → Keeps found.old.first.items found.new.first.items) }
+    ensures kept { OnOk result (Extends faults.old.items faults.new.items) }
+    ensures told { OnOk result (IsRead field «package».entry.folder.now
+        → HasFaults «package».entry.folder.now (view «package».entry.fields.now) field
+        faults.new.items) }
+    ensures wrong { OnOk result ((lock : Lock) → IsPackage lock «package».entry
+        → All (IsPackageFault lock) faults.old.items → All (IsPackageFault lock) faults.new.items) }
+{
+    let ranges = match field.of(package) {
+        Ok(Some(ranges)) => ranges,
+        Ok(None) => return Ok(()),
+        Err(fault) => {
+            faults.push(fault)?;
+            return Ok(());
         }
+    };
+    for name in ranges.keys() {
+        let name = name.as_str();
+        let Some(range) = package.written(field, name) else {
+            let folder = package.folder;
+            faults.push(Fault::Range { folder, name })?;
+            continue;
+        };
+        let wanted = Wanted::Text(range);
+        found.add(Dependency {
+            package,
+            field,
+            name,
+            wanted,
+        })?;
     }
     Ok(())
 }

@@ -1,5 +1,5 @@
 -- For proofs and private contracts: which dependencies of a package are collected, and what is told of it.
-use Rattle.std.specs.Prelude.{◌≡◌, ◌⊎◌, Bool, List, [], ◌∷◌, ◌++◌, Option, All, AllPairs, Contains, IsSomeAnd}
+use Rattle.std.specs.Prelude.{◌≡◌, ◌≤◌, ◌⊎◌, Bool, List, [], ◌∷◌, ◌++◌, Option, All, AllPairs, Contains, IsSomeAnd}
 use Rattle.std.specs.Prelude.{ℕ, if◌then◌else◌, bytes_eq, option_and_then}
 use Rattle.std.specs.Borrow.{Bor}
 use Rattle.std.specs.BTreeSet.{contains}
@@ -9,7 +9,7 @@ use Rattle.std.specs.Ordering.{nat_cmp}
 use Rattle.serde_json.specs.Data.{Data, Members}
 use Rattle.serde_json.specs.Find.{as_object, get}
 use Rattle.serde_json.specs.View.{view}
-use Rattle.lock_files.specs.Dependencies.{IsOf, Writes}
+use Rattle.lock_files.specs.Dependencies.{IsOf, Writes, rank}
 use Rattle.lock_files.specs.Edges.{AreOfOne, IsLeftOut, IsOfDevelopment}
 use Rattle.lock_files.specs.Faults.{HasFault}
 use Rattle.lock_files.specs.Lookups.{field_name}
@@ -67,6 +67,18 @@ HasDependency found folder f name = (d : Dependency) × Contains found d × IsOf
 abbrev pub AreAllFound : Package → List Dependency → Type 0
 AreAllFound p found = (f : Field) (name : List ℕ) → Writes p.folder.now (view p.fields.now) f name
     → HasDependency found p.folder.now f name
+
+-- of the package in this folder, by a field with a rank up to this one
+abbrev pub IsOfRank : List ℕ → ℕ → Dependency → Type 0
+IsOfRank folder most d = (d.package.folder.now ≡ folder) × (rank d.field ≤ most)
+
+-- all dependencies of the package by the fields up to this rank
+pub record AreUpto (p : Package) (most : ℕ) (found : Dependencies) : Type 0 where
+  pub named : AreNamed found
+  pub each : All (IsOfRank p.folder.now most) found.first.items
+  pub apart : AreApart found.first.items
+  pub all : (f : Field) (name : List ℕ) → rank f ≤ most → Writes p.folder.now (view p.fields.now) f name
+      → HasDependency found.first.items p.folder.now f name
 
 -- what is locked shows the dependency to be one of development
 abbrev pub IsForDevelopment : Edge → Type 0
