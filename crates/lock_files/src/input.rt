@@ -121,21 +121,18 @@ fn standard_input(rt: &HostRuntime) -> Result<LockFile>
 {
     let alloc = rt.alloc();
     let text = io::read_to_string(alloc, rt.stdin())?;
-    let file = json(alloc, INPUT, &text)?;
-    lock_of(alloc, INPUT, text, file)
+    lock_file(alloc, INPUT, text)
 }
 
 // The lock file of this name in a folder, if it is there.
 fn lock_in(rt: &HostRuntime, folder: &str, name: &str) -> Result<Option<LockFile>>
     ensures { IfOk result (λ file. IfSome file IsRead) }
 {
-    let alloc = rt.alloc();
     let path = inside(rt, folder, name)?;
-    let Some(text) = text_if_there(rt, &path)? else {
-        return Ok(None);
-    };
-    let file = json(alloc, &path, &text)?;
-    Ok(Some(lock_of(alloc, &path, text, file)?))
+    match text_if_there(rt, &path)? {
+        Some(text) => Ok(Some(lock_file(rt.alloc(), &path, text)?)),
+        None => Ok(None),
+    }
 }
 
 // The package.json of a folder, if it is there.
@@ -180,6 +177,14 @@ fn json(alloc: Global, name: &str, text: &str) -> Result<Value>
             None => Err(error).context(format_args!("{} is not JSON", Shown(name))),
         },
     }
+}
+
+// The lock file that a text is.
+fn lock_file(alloc: Global, path: &str, text: String) -> Result<LockFile>
+    ensures { IfOk result IsRead }
+{
+    let file = json(alloc, path, &text)?;
+    lock_of(alloc, path, text, file)
 }
 
 // A file, if it is a lock file of npm.
