@@ -1,7 +1,7 @@
 use Rattle.std.proofs.Common.{◌≡◌, [], ap, arith, length}
 use Rattle.serde_json.specs.View.{view}
 use Rattle.lock_files.proofs.Items.{workspace-kept}
-use Rattle.lock_files.proofs.Added.{texts-kept}
+use Rattle.lock_files.proofs.Added.{extends-on, texts-kept}
 use Rattle.lock_files.specs.Internal.Collected.{AreNamed, AreWorkspaces}
 use Rattle.lock_files.specs.declared.lock.Dependencies.{Dependencies}
 use Rattle.lock_files.specs.declared.lock.Package.{Package}
@@ -27,6 +27,14 @@ returns-clause-all c = c.in_ok-add_dependencies.ensures.all (c.in_ok-add_workspa
 pub returns-clause-own : goal.returns-clause-own
 returns-clause-own c = c.in_ok-add_dependencies.ensures.own (c.in_ok-add_workspaces.ensures.alone
     (none c.args.package c.new-found.result c.new-found.ensures.named c.new-found.ensures.empty))
+
+pub returns-clause-kept : goal.returns-clause-kept
+returns-clause-kept c =
+    extends-on c.args.faults.now.items c.add_workspaces.new.faults.items c.add_dependencies.new.faults.items
+    c.in_ok-add_workspaces.ensures.kept c.in_ok-add_dependencies.ensures.kept
+
+pub returns-clause-told : goal.returns-clause-told
+returns-clause-told c = c.in_ok-add_dependencies.ensures.told
 
 pub returns-clause-texts : goal.returns-clause-texts
 returns-clause-texts c =
