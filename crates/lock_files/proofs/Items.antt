@@ -196,14 +196,6 @@ module _ (lock : Lock) (p : Package) where
     ]
 
   module _ (own : List ℕ) (found : List Dependency) where
-    -- its pattern has no star
-    pub found-alone : (folder : Bor (List ℕ)) → IsPattern own (pattern.Folder folder)
-        → HasWorkspace lock found p.folder.now folder.now → IsMeantFound lock found p.folder.now own
-    found-alone folder is there other read (alone none same) =
-        subst (HasWorkspace lock found p.folder.now) (is.0 ∙ sym same) there
-    found-alone folder is there other read (starred some project fits) =
-        let e = sym some ∙ ap (has 42) (sym is.0) ∙ is.2 in absurd (cc)
-
     -- its pattern has stars, or is not read
     pub found-stars : (own_pattern : Pattern) → IsPattern own own_pattern
         → ((folder : Bor (List ℕ)) → own_pattern ≢ pattern.Folder folder)

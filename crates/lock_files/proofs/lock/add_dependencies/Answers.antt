@@ -1,4 +1,3 @@
-use Rattle.std.proofs.Common.{Contains}
 use Rattle.lock_files.proofs.Added.{as-before, extends-on}
 use Rattle.lock_files.proofs.Collecting.{rank-at, upto-all, upto-own, upto-workspaces}
 use Rattle.lock_files.proofs.Telling.{told-all, told-more, told-none}

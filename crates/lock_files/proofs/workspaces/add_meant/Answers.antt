@@ -1,12 +1,12 @@
-use Rattle.std.proofs.Common.{◌≡◌, ◌∷◌, ◌∙◌, [], length, map, refl, subst, sym}
+use Rattle.std.proofs.Common.{◌∷◌, ◌∙◌, [], length, map, subst, sym}
 use Rattle.std.proofs.lemmas.Bool.{iff_false}
 use Rattle.std.proofs.lemmas.List.{map-append}
 use Rattle.std.proofs.lemmas.Map.Iter.{iter_end, iter_turn}
 use Rattle.std.specs.Map.{keys_of}
 use Rattle.std.specs.Map.Iter.{deref}
 use Rattle.serde_json.specs.View.{view}
-use Rattle.lock_files.proofs.Items.{AreKeysFound, found-alone, found-stars, keys-more}
-use Rattle.lock_files.proofs.Patterns.{alone-is, fitting-is}
+use Rattle.lock_files.proofs.Items.{AreKeysFound, found-stars, keys-more}
+use Rattle.lock_files.proofs.Patterns.{fitting-is}
 use Rattle.lock_files.proofs.Telling.{key-some}
 use Rattle.lock_files.specs.Internal.Patterns.{HasWorkspace, Takes}
 use Rattle.lock_files.proofs.workspaces.add_meant.Goals as goal
