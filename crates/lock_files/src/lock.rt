@@ -2,8 +2,8 @@
 
 ghost use Rattle.lock_files.specs.Internal.Collected.{AreAllFound, AreNamed, AreOwn, AreUpto};
 ghost use Rattle.lock_files.specs.Internal.Collected.{AreWorkspaces, members_in, with_first};
-ghost use Rattle.lock_files.specs.Faults.{Extends, HasAllFaults, HasFaults, IsFieldFault, IsNoObject};
-ghost use Rattle.lock_files.specs.Faults.{IsPackageFault};
+ghost use Rattle.lock_files.specs.Faults.{Extends, HasAllFaults, HasFaults, IsFieldFault};
+ghost use Rattle.lock_files.specs.Faults.{IsNoObject, IsPackageFault};
 ghost use Rattle.lock_files.specs.Internal.Patterns.{Keeps};
 ghost use Rattle.lock_files.specs.Dependencies.{IsRead, accepted_by, IsDeclared, rank};
 ghost use Rattle.lock_files.specs.Optional.{MayBeAbsent};

@@ -1,6 +1,6 @@
 -- For proofs and private contracts: which dependencies of a package are collected, and what is told of it.
-use Rattle.std.specs.Prelude.{◌≡◌, ◌≤◌, ◌⊎◌, Bool, List, [], ◌∷◌, ◌++◌, Option, All, AllPairs, Contains, IsSomeAnd}
-use Rattle.std.specs.Prelude.{ℕ, if◌then◌else◌, bytes_eq, option_and_then}
+use Rattle.std.specs.Prelude.{◌≡◌, ◌≤◌, ◌⊎◌, Bool, List, [], ◌∷◌, ◌++◌, Option, All, AllPairs, Contains}
+use Rattle.std.specs.Prelude.{IsSomeAnd, ℕ, if◌then◌else◌, bytes_eq, option_and_then}
 use Rattle.std.specs.Borrow.{Bor}
 use Rattle.std.specs.BTreeSet.{contains}
 use Rattle.std.specs.Cmp.Lexicographic.{slice_cmp}
