@@ -4,7 +4,7 @@ ghost use Rattle.lock_check.specs.Reports.{ascii_text, hex_digit, in_ascii, json
 ghost use Rattle.lock_check.specs.Reports.{pair_text, row_data, text_or_null, unit_text};
 ghost use Rattle.serde_json.specs.View.{view};
 ghost use Rattle.serde_json.specs.Written.{compact_text};
-ghost use Rattle.std.specs.Prelude.{◌≡◌, ◌++◌, IfOk, OnOk, option_map, string_bytes};
+ghost use Rattle.std.specs.Prelude.{◌≡◌, ◌<◌, ◌++◌, IfOk, OnOk, option_map, string_bytes};
 
 use crate::row::Row;
 use serde_json::{Value, json};
@@ -99,7 +99,6 @@ fn write_pair(above: u32, output: &mut String) -> Result<(), AllocError>
 }
 
 // Writes a unit of UTF-16 by its number.
-#[tactic(auto, unfolding(crate::specs::Reports::unit_text))]
 fn write_unit(unit: u32, output: &mut String) -> Result<(), AllocError>
     ensures { OnOk result (string_bytes output.new ≡ string_bytes output.old ++ unit_text unit) }
 {
@@ -112,7 +111,8 @@ fn write_unit(unit: u32, output: &mut String) -> Result<(), AllocError>
 
 // The last hexadecimal digit of a number.
 fn hex_digit(number: u32) -> char
-    ensures { result ≡ hex_digit number }
+    ensures value { result ≡ hex_digit number }
+    ensures ascii { result < 128 }
 {
     let digit = (number % 16) as u8;
     let code = if digit < 10 {
