@@ -48,16 +48,21 @@ impl<'t> Index<'t> {
             of_packages: BTreeMap::new(alloc),
             none: Vec::new(alloc),
         };
+        index.add_lines(alloc, text)?;
+        Ok(index)
+    }
+
+    fn add_lines(&mut self, alloc: Global, text: &'t str) -> Result<(), Failure<BadLine<'t>>> {
         for (before, line) in text.lines().enumerate() {
             match read(line) {
-                Ok((package, version)) => index.add(alloc, package, version)?,
+                Ok((package, version)) => self.add(alloc, package, version)?,
                 Err(fault) => {
                     let number = before.saturating_add(1);
                     return Err(Failure::Refused(BadLine { number, fault }));
                 }
             }
         }
-        Ok(index)
+        Ok(())
     }
 
     fn add(
@@ -119,16 +124,19 @@ pub fn cut(line: &str) -> Option<Line<'_>>
 
 impl fmt::Display for BadLine<'_> {
     fn fmt<W: fmt::Write>(&self, f: &mut fmt::Formatter<W>) -> fmt::Result {
-        let number = self.number;
+        write!(f, "line {}: ", self.number)?;
         match self.fault {
-            LineFault::NoTab => write!(f, "line {number}: no tab behind the package"),
-            LineFault::NoVersion(text) => {
-                write!(f, "line {number}: {} is no version", Shown(text))?;
-                match version_flaw(text) {
-                    Some(flaw) => write!(f, ": {flaw}"),
-                    None => Ok(()),
-                }
-            }
+            LineFault::NoTab => f.write_str("no tab behind the package"),
+            LineFault::NoVersion(text) => write_no_version(f, text),
         }
+    }
+}
+
+// A text that is no version, and its flaw.
+fn write_no_version<W: fmt::Write>(f: &mut fmt::Formatter<W>, text: &str) -> fmt::Result {
+    write!(f, "{} is no version", Shown(text))?;
+    match version_flaw(text) {
+        Some(flaw) => write!(f, ": {flaw}"),
+        None => Ok(()),
     }
 }

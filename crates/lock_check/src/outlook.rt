@@ -8,7 +8,7 @@ ghost use Rattle.std.specs.Prelude.{◌≡◌, ◌<◌, length};
 use crate::finding::Finding;
 use crate::index::Index;
 use crate::raises::{Latest, Prospect, Raise, Reason, prospect_of};
-use lock_files::{Dependency, Lock, Shown, Specifier, package_of};
+use lock_files::{Dependency, Lock, Package, Shown, Specifier, package_of};
 use nodejs_semver::VersionRef;
 use std::alloc::{AllocError, Global};
 use std::fmt;
@@ -192,13 +192,11 @@ fn outlook_of<'a, 'i, 't>(
         None => None,
     };
     let standing = match (dependency.wanted.specifier(), nearest) {
+        (Specifier::Range(text), Some(nearest)) => {
+            let locked = locked.unwrap_or("");
+            standing_of(alloc, text, nearest, locked, index.versions(package))?
+        }
         (Specifier::Range(_), None) => Standing::Skipped(Omission::Missing),
-        (Specifier::Range(_), Some(nearest)) if nearest.is("link") => {
-            Standing::Skipped(Omission::Link)
-        }
-        (Specifier::Range(text), Some(_)) => {
-            standing_of(alloc, text, locked.unwrap_or(""), index.versions(package))?
-        }
         _ => Standing::Skipped(Omission::NoRange),
     };
     Ok(Outlook {
@@ -209,13 +207,18 @@ fn outlook_of<'a, 'i, 't>(
     })
 }
 
-// How a version that is locked by a text stands to these versions, by the range of another text.
+// How a package that is locked by the text of a version stands to these versions, by the range of
+// another text.
 fn standing_of<'i, 't>(
     alloc: Global,
     wanted: &str,
+    nearest: Package<'_>,
     locked: &str,
     versions: &'i [VersionRef<'t>],
 ) -> Result<Standing<'i, 't>, AllocError> {
+    if nearest.is("link") {
+        return Ok(Standing::Skipped(Omission::Link));
+    }
     Ok(match prospect_of(alloc, wanted, locked, versions)? {
         Prospect::NoRange => Standing::Skipped(Omission::NoRange),
         Prospect::Unsure => Standing::Skipped(Omission::Unsure),
