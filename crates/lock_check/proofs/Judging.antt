@@ -3,8 +3,10 @@ use Rattle.std.proofs.Common.{◌≡◌, ◌+◌, ◌∷◌, ◌++◌, ◌∙◌
 use Rattle.std.proofs.Common.{sym, true, true≢false, false, ℕ}
 use Rattle.lock_check.specs.Judged.{IsFinding}
 use Rattle.std.specs.BTreeMap.{BTreeMap}
-use Rattle.std.specs.Prelude.{is_some, slice_get}
+use Rattle.std.specs.Prelude.{All, Err, IfOk, Ok, OnOk, Result, is_some, slice_get}
 use Rattle.lock_check.specs.Internal.Overriding.{AreAllLaid, AreChosen}
+use Rattle.lock_files.specs.Edges.{AreAllCollected, AreApartEdges, AreInOrder, AreWorkspacesCollected, IsEdge}
+use Rattle.lock_check.specs.Standing.{AreEdges}
 use Rattle.lock_files.specs.Lookups.{IsAt}
 use Rattle.lock_files.specs.declared.edge.Edge.{Edge}
 use Rattle.lock_check.specs.declared.finding.Finding.{Finding}
@@ -31,6 +33,23 @@ first-more lock edges k before after f is same (long, all) = (
     | inr (last, own) ↦ subst (IsFinding lock edges n) own (subst (λ m. IsFinding lock edges m f) (sym (last ∙ long)) is)
   ],
 )
+
+-- what holds does so where a call returns
+pub on_ok : {T E P : Type 0} (r : Result T E) → P → OnOk r P
+on_ok (Ok t) p = p
+on_ok (Err e) p = tt
+
+pub edges-of : {T E : Type 0} (lock : Lock) (items : T → List Edge) (r : Result T E) → IfOk r (λ t. All (IsEdge lock) (items t))
+    → IfOk r (λ t. AreAllCollected lock (items t)) → IfOk r (λ t. AreApartEdges (items t)) → IfOk r (λ t. AreInOrder (items t))
+    → IfOk r (λ t. AreWorkspacesCollected lock (items t)) → IfOk r (λ t. AreEdges lock (items t))
+edges-of lock items (Ok t) each all apart ordered workspaces = record {
+  each = each;
+  all = all;
+  apart = apart;
+  ordered = ordered;
+  workspaces = workspaces;
+}
+edges-of lock items (Err e) each all apart ordered workspaces = tt
 
 -- the rules are those of the root project
 pub ruled : (lock : Lock) (root : Option Package) (o s : Overrides) (edges : List Edge) (found : BTreeMap ℕ Scope)

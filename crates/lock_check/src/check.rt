@@ -7,7 +7,7 @@ ghost use Rattle.lock_check.specs.Complete.{AreAllJudged, AreSingle, AreWorkspac
 ghost use Rattle.lock_check.specs.Judged.{AreFindings, AreFindingsOf, IsConflict, IsFoundFor};
 ghost use Rattle.lock_check.specs.Judged.{IsLinkOfRoot, IsLockedOutcome, IsOutcome};
 ghost use Rattle.lock_check.specs.Judged.{IsOwnPeer, as_wanted};
-ghost use Rattle.lock_check.specs.Malformed.{AreAllTold};
+ghost use Rattle.lock_check.specs.Malformed.{AreAllTold, AreRulesTold, HasOtherRules, IsFault};
 ghost use Rattle.lock_check.specs.Outcomes.{IsFolderOutcome, IsFromFile, IsFromPage};
 ghost use Rattle.lock_check.specs.Outcomes.{IsFromRepository, IsInstead, IsJudged};
 ghost use Rattle.lock_check.specs.Outcomes.{IsPackedOutcome, IsPlaceOutcome, IsRangeOutcome};
@@ -16,10 +16,13 @@ ghost use Rattle.lock_check.specs.Outcomes.{IsRepositoryOutcome, IsSpecifierOutc
 ghost use Rattle.lock_check.specs.Outcomes.{IsTextOutcome, IsToldOf, IsUnversioned};
 ghost use Rattle.lock_check.specs.Outcomes.{IsWantedOutcome, address_of, base_by, base_of};
 ghost use Rattle.lock_check.specs.Outcomes.{is_file, is_link, locked_in, place_for, version_text};
+ghost use Rattle.lock_check.specs.Standing.{AreEdges};
 ghost use Rattle.lock_files.specs.Edges.{AreApartEdges};
+ghost use Rattle.lock_files.specs.Faults.{ArePackagesTold, Extends, HasFault, IsFieldFault};
+ghost use Rattle.lock_files.specs.Faults.{IsPackageFault, OfFields};
 ghost use Rattle.lock_files.specs.Lookups.{IsAt};
 ghost use Rattle.std.specs.Prelude.{◌≡◌, ◌↔◌, [], All, IfOk, IsTrue, List, MatchOption};
-ghost use Rattle.std.specs.Prelude.{Some, option_map, string_bytes, ℕ};
+ghost use Rattle.std.specs.Prelude.{None, OnOk, Some, codes, option_map, string_bytes, ℕ};
 
 use crate::finding::{Finding, Outcome, Skip};
 use crate::overrides::Overrides;
@@ -70,23 +73,71 @@ pub fn check<'a>(alloc: Global, lock: Lock<'a>) -> Result<Findings<'a>, AllocErr
     ensures malformed { IfOk result (λ found. AreAllTold lock.entry found.faults.items) }
 {
     let mut faults = Vec::new(alloc);
-    if lock.package("").is_none() {
-        faults.push(Fault::NoRoot)?;
-    }
-    let edges = edges(alloc, lock, &mut faults)?;
-    let overrides = Overrides::of(alloc, lock.package(""), &mut faults)?;
-    let scopes = Scopes::of(alloc, overrides, &edges)?;
-    let of_dependencies = findings_of(alloc, lock, &scopes, &edges)?;
-    let requirers = if is_any_told(&of_dependencies) {
-        Requirers::of(alloc, lock, &edges)?
-    } else {
-        Requirers::none(alloc)
-    };
+    let edges = all_edges(alloc, lock, &mut faults)?;
+    let of_dependencies = judged(alloc, lock, &edges, &mut faults)?;
+    let requirers = requirers(alloc, lock, &edges, &of_dependencies)?;
     Ok(Findings {
         of_dependencies,
         faults,
         requirers,
     })
+}
+
+// The dependencies of all packages. What is malformed of these is added to `faults`, and before it
+// that there is no root project.
+fn all_edges<'a>(
+    alloc: Global,
+    lock: Lock<'a>,
+    faults: &mut Vec<Fault<'a>>,
+) -> Result<Vec<Edge<'a>>, AllocError>
+    ensures edges { IfOk result (λ edges. AreEdges lock.entry edges.items) }
+    ensures root { OnOk result (IsAt lock.entry [] None
+        → HasFault faults.new.items (λ f. f ≡ Fault.NoRoot)) }
+    ensures told { OnOk result (ArePackagesTold lock.entry faults.new.items) }
+    ensures real { OnOk result (All (IsPackageFault lock.entry) faults.old.items
+        → All (IsPackageFault lock.entry) faults.new.items) }
+{
+    if lock.package("").is_none() {
+        faults.push(Fault::NoRoot)?;
+    }
+    edges(alloc, lock, faults)
+}
+
+// What is found for each of these dependencies after `overrides`. What is malformed of those is
+// added to `faults`.
+fn judged<'a>(
+    alloc: Global,
+    lock: Lock<'a>,
+    edges: &[Edge<'a>],
+    faults: &mut Vec<Fault<'a>>,
+) -> Result<Vec<Finding<'a>>, AllocError>
+    ensures each { IfOk result (λ found. AreFindingsOf lock.entry edges.now found.items) }
+    ensures all { IfOk result (λ found. All (IsAmong found.items) edges.now) }
+    ensures single { AreApartEdges edges.now → IfOk result (λ found. AreSingle found.items) }
+    ensures kept { OnOk result (Extends faults.old.items faults.new.items) }
+    ensures told { OnOk result (OfFields lock.entry [] HasOtherRules
+        → HasFault faults.new.items (IsFieldFault [] (codes "overrides"))) }
+    ensures inside { OnOk result (AreRulesTold lock.entry faults.new.items) }
+    ensures wrong { OnOk result (All (IsFault lock.entry) faults.old.items
+        → All (IsFault lock.entry) faults.new.items) }
+{
+    let overrides = Overrides::of(alloc, lock.package(""), faults)?;
+    let scopes = Scopes::of(alloc, overrides, edges)?;
+    findings_of(alloc, lock, &scopes, edges)
+}
+
+// Which packages ask for each, if one of the findings is told.
+fn requirers<'a>(
+    alloc: Global,
+    lock: Lock<'a>,
+    edges: &[Edge<'a>],
+    findings: &[Finding<'_>],
+) -> Result<Requirers<'a>, AllocError> {
+    if is_any_told(findings) {
+        Requirers::of(alloc, lock, edges)
+    } else {
+        Ok(Requirers::none(alloc))
+    }
 }
 
 // What is found for each dependency.
