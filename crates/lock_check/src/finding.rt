@@ -8,17 +8,18 @@ ghost use Rattle.lock_check.specs.Summary.{checked_text, counts_data, counts_tex
 ghost use Rattle.lock_check.specs.Summary.{named_skips, reason_text, reasons_text, separator};
 ghost use Rattle.lock_check.specs.Summary.{sizes_text, skip_words, skipped_text, skips_data};
 ghost use Rattle.lock_check.specs.Summary.{summary, unchecked_text, unlocked_text};
-ghost use Rattle.serde_json.specs.View.{view};
+ghost use Rattle.serde_json.specs.Data.{no_members, object as object_data};
+ghost use Rattle.serde_json.specs.View.{members_view, view};
 ghost use Rattle.serde_json.specs.Written.{compact_text};
 ghost use Rattle.std.specs.BTreeMap.{btree_map_len};
 ghost use Rattle.std.specs.Prelude.{◌≡◌, ◌<◌, ◌++◌, IfOk, OnOk, length, option_map, string_bytes};
 
 use crate::check::Findings;
-use crate::json::write_line;
+use crate::json::{put_text, write_line};
 use lock_files::{Dependency, Lock, Shown};
 use nodejs_semver::Version;
 use nodejs_semver::diagnosis::version_flaw;
-use serde_json::{Map, Value, json, put};
+use serde_json::{Map, Value, put};
 use std::alloc::{AllocError, Global};
 use std::fmt;
 use std::fmt::Write;
@@ -298,42 +299,25 @@ impl Skips {
         }
     }
 
-    #[tactic(auto, unfolding(crate::specs::Summary::skips_data))]
     fn object(&self, alloc: Global) -> Result<Value, AllocError>
         ensures { IfOk result (λ v. view v ≡ skips_data self.now) }
     {
-        let mut object: Map<String, Value> = Map::new(alloc);
-        put(
-            &mut object,
-            alloc,
-            Skip::Unsure.words(),
-            Value::from(self.unsure),
-        )?;
-        put(
-            &mut object,
-            alloc,
-            Skip::Address.words(),
-            Value::from(self.address),
-        )?;
-        put(
-            &mut object,
-            alloc,
-            Skip::Link.words(),
-            Value::from(self.link),
-        )?;
-        put(
-            &mut object,
-            alloc,
-            Skip::Unlocked.words(),
-            Value::from(self.unlocked),
-        )?;
-        put(
-            &mut object,
-            alloc,
-            Skip::OwnPeer.words(),
-            Value::from(self.own_peer),
-        )?;
+        let mut object = Map::new(alloc);
+        self.put_all(alloc, &mut object)?;
         Ok(Value::Object(object))
+    }
+
+    // Puts them into an empty object.
+    #[tactic(auto, unfolding(crate::specs::Summary::skips_data))]
+    fn put_all(&self, alloc: Global, object: &mut Map<String, Value>) -> Result<(), AllocError>
+        ensures { members_view object.old.entries ≡ no_members
+            → OnOk result (object_data (members_view object.new.entries) ≡ skips_data self.now) }
+    {
+        put(object, alloc, Skip::Unsure.words(), Value::from(self.unsure))?;
+        put(object, alloc, Skip::Address.words(), Value::from(self.address))?;
+        put(object, alloc, Skip::Link.words(), Value::from(self.link))?;
+        put(object, alloc, Skip::Unlocked.words(), Value::from(self.unlocked))?;
+        put(object, alloc, Skip::OwnPeer.words(), Value::from(self.own_peer))
     }
 
     fn named(&self) -> [(Skip, usize); 5]
@@ -507,23 +491,31 @@ impl Counts {
         object.to_string(alloc)
     }
 
-    #[tactic(auto, unfolding(crate::specs::Summary::counts_data))]
     fn object(&self, alloc: Global) -> Result<Value, AllocError>
         ensures { IfOk result (λ v. view v ≡ counts_data self.now) }
     {
+        let mut object = Map::new(alloc);
+        self.put_all(alloc, &mut object)?;
+        Ok(Value::Object(object))
+    }
+
+    // Puts them into an empty object.
+    #[tactic(auto, unfolding(crate::specs::Summary::counts_data))]
+    fn put_all(&self, alloc: Global, object: &mut Map<String, Value>) -> Result<(), AllocError>
+        ensures { members_view object.old.entries ≡ no_members
+            → OnOk result (object_data (members_view object.new.entries) ≡ counts_data self.now) }
+    {
+        put_text(alloc, "kind", Some("summary"), object)?;
+        put(object, alloc, "packages", Value::from(self.packages))?;
+        put(object, alloc, "dependencies", Value::from(self.dependencies))?;
+        put(object, alloc, "satisfied", Value::from(self.satisfied))?;
+        put(object, alloc, "rejected", Value::from(self.rejected))?;
+        put(object, alloc, "missing", Value::from(self.missing))?;
+        put(object, alloc, "absent", Value::from(self.absent))?;
+        put(object, alloc, "skipped", Value::from(self.skipped))?;
+        put(object, alloc, "malformed", Value::from(self.malformed))?;
         let skips = self.skips.object(alloc)?;
-        json!(in alloc; {
-            "kind": "summary",
-            "packages": self.packages,
-            "dependencies": self.dependencies,
-            "satisfied": self.satisfied,
-            "rejected": self.rejected,
-            "missing": self.missing,
-            "absent": self.absent,
-            "skipped": self.skipped,
-            "malformed": self.malformed,
-            "skipped_for": skips
-        })
+        put(object, alloc, "skipped_for", skips)
     }
 
     /// The exit status.

@@ -2,12 +2,13 @@
 
 ghost use Rattle.lock_check.specs.Reports.{ascii_text, hex_digit, in_ascii, json_line, json_row};
 ghost use Rattle.lock_check.specs.Reports.{pair_text, row_data, text_or_null, unit_text};
-ghost use Rattle.serde_json.specs.View.{view};
+ghost use Rattle.serde_json.specs.Data.{no_members, object as object_data, put as with_member};
+ghost use Rattle.serde_json.specs.View.{members_view, view};
 ghost use Rattle.serde_json.specs.Written.{compact_text};
 ghost use Rattle.std.specs.Prelude.{◌≡◌, ◌<◌, ◌++◌, IfOk, OnOk, option_map, string_bytes};
 
 use crate::row::Row;
-use serde_json::{Value, json};
+use serde_json::{Map, Value, put};
 use std::alloc::{AllocError, Global};
 
 /// Writes the object of a row, and a line feed. Fails only if allocation fails.
@@ -36,24 +37,46 @@ fn object_text(alloc: Global, row: &Row<'_>) -> Result<String, AllocError>
 }
 
 // The object of a row.
-#[tactic(auto, unfolding(crate::specs::Reports::row_data))]
 fn object(alloc: Global, row: &Row<'_>) -> Result<Value, AllocError>
     ensures { IfOk result (λ v. view v ≡ row_data row.now) }
 {
-    let path = match &row.path {
-        Some(path) => Some(path.as_str()),
-        None => None,
-    };
-    json!(in alloc; {
-        "kind": row.kind.word(),
-        "folder": row.folder,
-        "dependency": text_or_null(alloc, row.name)?,
-        "need": text_or_null(alloc, row.need)?,
-        "found": text_or_null(alloc, row.found)?,
-        "path": text_or_null(alloc, path)?,
-        "message": row.message.as_str(),
-        "line": row.line
-    })
+    let mut object = Map::new(alloc);
+    put_row(alloc, row, &mut object)?;
+    Ok(Value::Object(object))
+}
+
+// Puts the members of a row into an empty object.
+#[tactic(auto, unfolding(crate::specs::Reports::row_data))]
+fn put_row(
+    alloc: Global,
+    row: &Row<'_>,
+    object: &mut Map<String, Value>,
+) -> Result<(), AllocError>
+    ensures { members_view object.old.entries ≡ no_members
+        → OnOk result (object_data (members_view object.new.entries) ≡ row_data row.now) }
+{
+    put_text(alloc, "kind", Some(row.kind.word()), object)?;
+    put_text(alloc, "folder", Some(row.folder), object)?;
+    put_text(alloc, "dependency", row.name, object)?;
+    put_text(alloc, "need", row.need, object)?;
+    put_text(alloc, "found", row.found, object)?;
+    put_text(alloc, "path", row.path.as_deref(), object)?;
+    put_text(alloc, "message", Some(row.message.as_str()), object)?;
+    put(object, alloc, "line", Value::from(row.line))
+}
+
+/// Puts a text, or `null`, into an object. Fails only if allocation fails.
+pub fn put_text(
+    alloc: Global,
+    name: &str,
+    text: Option<&str>,
+    object: &mut Map<String, Value>,
+) -> Result<(), AllocError>
+    ensures { OnOk result (members_view object.new.entries ≡ with_member name.now
+        (text_or_null (option_map (λ t. t.now) text.entry)) (members_view object.old.entries)) }
+{
+    let value = text_or_null(alloc, text)?;
+    put(object, alloc, name, value)
 }
 
 /// A text, or `null`.

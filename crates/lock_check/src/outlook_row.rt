@@ -2,20 +2,20 @@
 
 ghost use Rattle.lock_check.specs.Outlooks.{class_of, is_shown, outlook_data, outlook_text};
 ghost use Rattle.lock_check.specs.Outlooks.{reason_words, told_outlook, told_outlook_row};
-ghost use Rattle.lock_check.specs.Reports.{text_or_null};
 ghost use Rattle.semver_core.specs.Printing.Text.{version_text};
-ghost use Rattle.serde_json.specs.View.{view};
+ghost use Rattle.serde_json.specs.Data.{no_members, object as object_data};
+ghost use Rattle.serde_json.specs.View.{members_view, view};
 ghost use Rattle.serde_json.specs.Written.{compact_text};
 ghost use Rattle.std.specs.List.{flat_map};
 ghost use Rattle.std.specs.Option.{option_copied};
 ghost use Rattle.std.specs.Prelude.{◌≡◌, ◌++◌, IfOk, OnOk, filter, map, option_map, string_bytes};
 
-use crate::json::{text_or_null, write_line};
+use crate::json::{put_text, write_line};
 use crate::outlook::{Class, Outlook, Totals};
 use crate::raises::Latest;
 use lock_files::Lines;
 use nodejs_semver::VersionRef;
-use serde_json::{Map, Value, json, put};
+use serde_json::{Map, Value, put};
 use std::alloc::{AllocError, Global};
 use std::fmt::Write;
 
@@ -169,32 +169,35 @@ fn outlook_object_text(alloc: Global, row: &OutlookRow<'_>) -> Result<String, Al
 }
 
 // The object of a row.
-#[tactic(auto, unfolding(crate::specs::Outlooks::outlook_data))]
 fn outlook_object(alloc: Global, row: &OutlookRow<'_>) -> Result<Value, AllocError>
     ensures { IfOk result (λ v. view v ≡ outlook_data row.now) }
 {
-    json!(in alloc; {
-        "kind": row.class.word(),
-        "folder": row.folder,
-        "dependency": row.name,
-        "need": row.need,
-        "package": row.package,
-        "locked": text_or_null(alloc, row.locked)?,
-        "wanted": string_or_null(alloc, &row.wanted)?,
-        "latest": string_or_null(alloc, &row.latest)?,
-        "reason": text_or_null(alloc, row.reason)?,
-        "message": row.message.as_str(),
-        "line": row.line
-    })
+    let mut object = Map::new(alloc);
+    put_outlook(alloc, row, &mut object)?;
+    Ok(Value::Object(object))
 }
 
-fn string_or_null(alloc: Global, text: &Option<String>) -> Result<Value, AllocError>
-    ensures { IfOk result (λ v. view v ≡ text_or_null (option_map string_bytes text.now)) }
+// Puts the members of a row into an empty object.
+#[tactic(auto, unfolding(crate::specs::Outlooks::outlook_data))]
+fn put_outlook(
+    alloc: Global,
+    row: &OutlookRow<'_>,
+    object: &mut Map<String, Value>,
+) -> Result<(), AllocError>
+    ensures { members_view object.old.entries ≡ no_members
+        → OnOk result (object_data (members_view object.new.entries) ≡ outlook_data row.now) }
 {
-    match text {
-        Some(text) => Value::try_from_str(alloc, text.as_str()),
-        None => Ok(Value::Null),
-    }
+    put_text(alloc, "kind", Some(row.class.word()), object)?;
+    put_text(alloc, "folder", Some(row.folder), object)?;
+    put_text(alloc, "dependency", Some(row.name), object)?;
+    put_text(alloc, "need", Some(row.need), object)?;
+    put_text(alloc, "package", Some(row.package), object)?;
+    put_text(alloc, "locked", row.locked, object)?;
+    put_text(alloc, "wanted", row.wanted.as_deref(), object)?;
+    put_text(alloc, "latest", row.latest.as_deref(), object)?;
+    put_text(alloc, "reason", row.reason, object)?;
+    put_text(alloc, "message", Some(row.message.as_str()), object)?;
+    put(object, alloc, "line", Value::from(row.line))
 }
 
 /// Writes the totals as text, or as an object of JSON, on a line. Fails only if allocation fails.
@@ -213,11 +216,19 @@ pub fn write_totals(
 }
 
 fn totals_object(alloc: Global, totals: Totals) -> Result<Value, AllocError> {
-    let mut object: Map<String, Value> = Map::new(alloc);
-    let kind = Value::try_from_str(alloc, "summary")?;
-    put(&mut object, alloc, "kind", kind)?;
-    for (name, count) in totals.named() {
-        put(&mut object, alloc, name, Value::from(count))?;
-    }
+    let mut object = Map::new(alloc);
+    put_totals(alloc, totals, &mut object)?;
     Ok(Value::Object(object))
+}
+
+fn put_totals(
+    alloc: Global,
+    totals: Totals,
+    object: &mut Map<String, Value>,
+) -> Result<(), AllocError> {
+    put_text(alloc, "kind", Some("summary"), object)?;
+    for (name, count) in totals.named() {
+        put(object, alloc, name, Value::from(count))?;
+    }
+    Ok(())
 }
