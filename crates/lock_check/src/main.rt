@@ -51,7 +51,7 @@ mod verdict;
 use crate::check::{Findings, check};
 use crate::help::{HELP, USAGE, VERSION};
 use crate::index::Index;
-use crate::options::{Format, Options, Request};
+use crate::options::{Format, Misuse, Options, Request};
 use crate::outlook::{Outlook, Totals, outlooks};
 use crate::outlook_row::{outlook_rows, write_outlooks, write_totals};
 use crate::report::{Report, report_on, write_rows};
@@ -77,23 +77,39 @@ fn main(rt: HostRuntime) -> Result<ExitCode> {
 }
 
 fn run(rt: &HostRuntime) -> Result<ExitCode> {
+    let words = words(rt)?;
+    match Request::of(&words) {
+        Ok(request) => answer(rt, request),
+        Err(misuse) => refuse(rt, misuse),
+    }
+}
+
+// The arguments behind the name of the program.
+fn words(rt: &HostRuntime) -> Result<Vec<String>> {
     let mut words = Vec::new(rt.alloc());
     for word in env::args(rt)?.skip(1) {
         words.push(word)?;
     }
-    match Request::of(&words) {
-        Ok(Request::Help) => print!(rt; "{VERSION}{HELP}")?,
-        Ok(Request::Version) => print!(rt; "{VERSION}")?,
-        Ok(Request::Check(options)) => {
+    Ok(words)
+}
+
+// Prints what is asked for, and returns the exit status.
+fn answer(rt: &HostRuntime, request: Request<'_>) -> Result<ExitCode> {
+    match request {
+        Request::Help => print!(rt; "{VERSION}{HELP}")?,
+        Request::Version => print!(rt; "{VERSION}")?,
+        Request::Check(options) => {
             let input = read(rt, options.path)?;
             return tell(rt, input, options);
         }
-        Err(misuse) => {
-            eprintln!(rt; "Error: {misuse}\n{USAGE}")?;
-            return Ok(ExitCode::from(TROUBLE));
-        }
     }
     Ok(ExitCode::SUCCESS)
+}
+
+// Prints why nothing is asked for, and returns the exit status.
+fn refuse(rt: &HostRuntime, misuse: Misuse<'_>) -> Result<ExitCode> {
+    eprintln!(rt; "Error: {misuse}\n{USAGE}")?;
+    Ok(ExitCode::from(TROUBLE))
 }
 
 // Prints what is found, and returns the exit status.

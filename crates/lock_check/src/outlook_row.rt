@@ -51,12 +51,27 @@ pub fn outlook_rows<'a>(
         (filter (λ o. is_shown is_quiet (class_of o.standing)) outlooks.now)) }
 {
     let mut rows = Vec::new(alloc);
+    add_outlooks(alloc, outlooks, lines, is_quiet, &mut rows)?;
+    Ok(rows)
+}
+
+fn add_outlooks<'a>(
+    alloc: Global,
+    outlooks: &[Outlook<'a, '_, '_>],
+    lines: &Lines,
+    is_quiet: bool,
+    rows: &mut Vec<OutlookRow<'a>>,
+) -> Result<(), AllocError>
+    ensures { OnOk result (map told_outlook_row rows.new.items
+        ≡ map told_outlook_row rows.old.items ++ map told_outlook
+        (filter (λ o. is_shown is_quiet (class_of o.standing)) outlooks.now)) }
+{
     for outlook in outlooks {
         if outlook.standing.class().is_shown(is_quiet) {
             rows.push(row_of_outlook(alloc, *outlook, lines)?)?;
         }
     }
-    Ok(rows)
+    Ok(())
 }
 
 fn row_of_outlook<'a>(
