@@ -11,25 +11,25 @@ use Rattle.std.specs.Str.Pattern.{FindsCharSuffix, StripsSuffix}
 use Rattle.semver_core.specs.Lists.{is_empty}
 use Rattle.semver_core.specs.Text.Characters.{IsTrim}
 use Rattle.lock_files.specs.Specifiers.{IsUnsigned, with_sign}
-use Rattle.std.specs.Prelude.{◌≢◌, IfNone, MatchOption, bytes_eq, slice_get}
+use Rattle.std.specs.Prelude.{◌≢◌, All, IfNone, MatchOption, bytes_eq, is_some, not, option_map, slice_get}
 use Rattle.std.specs.Borrow.{Bor}
 use Rattle.serde_json.specs.Data.{Data, Members, array, boolean, depth, member, members_depth, no_members, null, number, object}
 use Rattle.serde_json.specs.Data.{string}
-use Rattle.serde_json.specs.Find.{as_object}
+use Rattle.serde_json.specs.Find.{as_object, get}
 use Rattle.serde_json.specs.View.{members_view, view}
 use Rattle.serde_json.specs.declared.value.Value.{Value}
-use Rattle.lock_files.specs.Faults.{Extends, HasFault}
+use Rattle.lock_files.specs.Faults.{Extends, HasFault, IsFieldFault, OfFields}
 use Rattle.lock_check.specs.Internal.Overriding.{AreInsideTold, IsAmongRules, IsFound, IsInside}
 use Rattle.lock_check.specs.Internal.Overriding.{IsObject, IsRuleOf, OfPackage, below, whole}
 use Rattle.lock_files.specs.Lookups.{IsAt}
-use Rattle.lock_check.specs.Malformed.{AreRulesTold, IsFault, IsRuleFault}
+use Rattle.lock_check.specs.Malformed.{AreRulesTold, HasOtherRules, IsFault, IsRuleFault}
 use Rattle.lock_check.specs.Overrides.{AreRules, HasKey, HasMember, IsKey, IsNoRule}
 use Rattle.lock_check.specs.Overrides.{IsRuleFor, inner, is_at, outermost, rule_text}
 use Rattle.lock_check.specs.Overrides.{rules_in}
 use Rattle.lock_files.specs.declared.fault.Fault.{Fault}
 use Rattle.lock_files.specs.declared.fault.Fault.TheVariants as fault
 use Rattle.lock_files.specs.declared.lock.Lock.{Lock}
-use Rattle.lock_files.proofs.Added.{fault-added, fault-kept}
+use Rattle.lock_files.proofs.Added.{all-added, fault-added, fault-kept}
 use Rattle.lock_files.proofs.Parts.{one_trim}
 use Rattle.npm_words.specs.Alternatives.{HasAlternativesIn}
 use Rattle.semver_core.specs.Failures.{NoValue}
@@ -246,6 +246,49 @@ inside-cases (below around key value name text within has is it) = elim (inside-
 pub found-object : (root : Option Package) (rules : Members) → IsFound root (Some rules) → IsObject root rules
 found-object None rules is = absurd (cc)
 found-object (Some p) rules is = (p, refl, outermost rules (sym is))
+
+-- what the root project has there and is no object is what is found there
+pub other-rules : (lock : Lock) (root : Option Package) (p : Package) (found : Option Data) → IsAt lock [] root → root ≡ Some p
+    → found ≡ get (codes "overrides") (view p.fields.now) → OfFields lock [] HasOtherRules
+    → (value : Data) × (found ≡ Some value) × (as_object value ≡ None)
+other-rules lock None p found at some is has = absurd (cc)
+other-rules lock (Some q) p found at some is has =
+    let same : p ≡ q = ap (λ o. unwrap_or o q) (sym some) in
+    let own : view q.fields.now ≡ has.0 = ap (λ o. unwrap_or o has.0) (sym at.1 ∙ has.1) in (
+      has.2.0,
+      is ∙ (ap (λ x. get (codes "overrides") (view x.fields.now)) same ∙ (ap (get (codes "overrides")) own ∙ has.2.1)),
+      has.2.2,
+    )
+
+-- and it is a fault that it is none
+others-fault : (lock : Lock) (root : Option Package) (p : Package) (value : Data) (f : Fault) → IsAt lock [] root
+    → root ≡ Some p → get (codes "overrides") (view p.fields.now) ≡ Some value → as_object value ≡ None
+    → IsFieldFault [] (codes "overrides") f → IsFault lock f
+others-fault lock root p value (fault.Field place own) at some is none named =
+    let there = subst (λ r. IsAt lock [] r) some at in
+    inr (named.0, named.1, (view p.fields.now, there.1, (value, is, none)))
+others-fault lock root p value (fault.Range place own) at some is none named = absurd named
+others-fault lock root p value fault.Workspaces at some is none named = absurd named
+others-fault lock root p value fault.NoRoot at some is none named = absurd named
+others-fault lock root p value (fault.Override key) at some is none named = absurd named
+
+pub others-added : (lock : Lock) (root : Option Package) (p : Package) (value : Data) (before after : List Fault) (f : Fault)
+    → All (IsFault lock) before → after ≡ before ++ f ∷ [] → IsFieldFault [] (codes "overrides") f → IsAt lock [] root
+    → root ≡ Some p → get (codes "overrides") (view p.fields.now) ≡ Some value → as_object value ≡ None
+    → All (IsFault lock) after
+others-added lock root p value before after f all more named at some is none =
+    all-added (IsFault lock) before after f all more (others-fault lock root p value f at some is none named)
+
+-- nor is an object found if none is there
+pub no-object : {A B : Type 0} (f : A → B) (r : Option A) (is : Option B) (is_none : Bool) → option_map f r ≡ is
+    → is_some r ≡ not is_none → is_none ≡ true → is ≡ None
+no-object f None is is_none e some none = sym e
+no-object f (Some a) is is_none e some none = absurd (true≢false (some ∙ ap not none))
+
+pub an-object : {A B : Type 0} (f : A → B) (r : Option A) (is : Option B) (is_none : Bool) → option_map f r ≡ is
+    → is_some r ≡ not is_none → is_none ≡ false → is ≢ None
+an-object f None is is_none e some none = λ _. true≢false (sym (some ∙ ap not none))
+an-object f (Some a) is is_none e some none = λ no. let two = e ∙ no in absurd (cc)
 
 rules-some : {root : Data} {rules : Members} → AreRules root rules → (outer : Members) × (rules_in root ≡ Some outer)
 rules-some (outermost rules at) = (rules, at)
