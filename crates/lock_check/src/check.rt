@@ -441,11 +441,10 @@ impl<'a> Target<'a> {
     fn ranged_outcome(self, alloc: Global, range: &str) -> Result<Outcome<'a>, AllocError>
         ensures { IfOk result (IsRangedOutcome (Some range.now) (locked_in self.entry)) }
     {
-        let outcome = self.range_outcome(alloc, range)?;
-        if outcome.is_satisfied() {
-            Ok(Outcome::Skipped(Skip::Address))
-        } else {
-            Ok(outcome)
+        match self.range_outcome(alloc, range) {
+            Ok(outcome) if !outcome.is_satisfied() => Ok(outcome),
+            Ok(_) => Ok(Outcome::Skipped(Skip::Address)),
+            Err(error) => Err(error),
         }
     }
 
