@@ -1,7 +1,7 @@
 use Rattle.std.proofs.Common.{◌∙◌, ◌++◌, ap, string_bytes, sym}
 use Rattle.std.proofs.lemmas.Iterator.{YieldsList-from_chars}
 use Rattle.std.proofs.lemmas.Iterator.Consumers.{YieldsList-end}
-use Rattle.std.proofs.lemmas.List.{map-id}
+use Rattle.std.proofs.lemmas.List.{flat_map_more, map-id}
 use Rattle.std.specs.List.{flat_map}
 use Rattle.lock_check.specs.Reports.{command_escaped}
 use Rattle.lock_check.proofs.annotation.write_text.Goals as goal
@@ -11,3 +11,8 @@ returns c =
     let t = YieldsList-end (YieldsList-from_chars c.args.text.now c.utf8.text cc) c.loop-letter.yielded _ c.loop-letter.yielded_by _ _
     c.in-None.is c.next.ensures.steps in
     c.loop-letter.invariant ∙ ap (λ letters. string_bytes c.args.output.now ++ flat_map (command_escaped c.args.is_property) letters) (sym (map-id c.loop-letter.yielded) ∙ t.0)
+
+pub loop-letter-preserved : goal.loop-letter-preserved
+loop-letter-preserved c =
+    c.in_ok-write_letter.ensures ∙ (ap (λ t. t ++ command_escaped c.args.is_property c.in-Some.letter) c.loop-letter.invariant
+    ∙ flat_map_more (command_escaped c.args.is_property) (string_bytes c.args.output.now) c.loop-letter.yielded c.in-Some.letter)
