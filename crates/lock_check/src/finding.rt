@@ -313,11 +313,31 @@ impl Skips {
         ensures { members_view object.old.entries ≡ no_members
             → OnOk result (object_data (members_view object.new.entries) ≡ skips_data self.now) }
     {
-        put(object, alloc, Skip::Unsure.words(), Value::from(self.unsure))?;
-        put(object, alloc, Skip::Address.words(), Value::from(self.address))?;
+        put(
+            object,
+            alloc,
+            Skip::Unsure.words(),
+            Value::from(self.unsure),
+        )?;
+        put(
+            object,
+            alloc,
+            Skip::Address.words(),
+            Value::from(self.address),
+        )?;
         put(object, alloc, Skip::Link.words(), Value::from(self.link))?;
-        put(object, alloc, Skip::Unlocked.words(), Value::from(self.unlocked))?;
-        put(object, alloc, Skip::OwnPeer.words(), Value::from(self.own_peer))
+        put(
+            object,
+            alloc,
+            Skip::Unlocked.words(),
+            Value::from(self.unlocked),
+        )?;
+        put(
+            object,
+            alloc,
+            Skip::OwnPeer.words(),
+            Value::from(self.own_peer),
+        )
     }
 
     fn named(&self) -> [(Skip, usize); 5]
@@ -507,7 +527,12 @@ impl Counts {
     {
         put_text(alloc, "kind", Some("summary"), object)?;
         put(object, alloc, "packages", Value::from(self.packages))?;
-        put(object, alloc, "dependencies", Value::from(self.dependencies))?;
+        put(
+            object,
+            alloc,
+            "dependencies",
+            Value::from(self.dependencies),
+        )?;
         put(object, alloc, "satisfied", Value::from(self.satisfied))?;
         put(object, alloc, "rejected", Value::from(self.rejected))?;
         put(object, alloc, "missing", Value::from(self.missing))?;

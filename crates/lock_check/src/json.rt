@@ -47,11 +47,7 @@ fn object(alloc: Global, row: &Row<'_>) -> Result<Value, AllocError>
 
 // Puts the members of a row into an empty object.
 #[tactic(auto, unfolding(crate::specs::Reports::row_data))]
-fn put_row(
-    alloc: Global,
-    row: &Row<'_>,
-    object: &mut Map<String, Value>,
-) -> Result<(), AllocError>
+fn put_row(alloc: Global, row: &Row<'_>, object: &mut Map<String, Value>) -> Result<(), AllocError>
     ensures { members_view object.old.entries ≡ no_members
         → OnOk result (object_data (members_view object.new.entries) ≡ row_data row.now) }
 {
