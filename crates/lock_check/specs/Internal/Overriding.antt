@@ -1,6 +1,6 @@
 -- For proofs and private contracts: the rules of `overrides` as they are kept.
-use Rattle.std.specs.Prelude.{⊤, ◌≡◌, ◌≢◌, ◌⊎◌, ◌<◌, ◌≤◌, ◌+◌, [], ℕ, All, Bool, List, MatchOption, None, Option}
-use Rattle.std.specs.Prelude.{Some, codes, false, length, slice_get, true, unwrap_or}
+use Rattle.std.specs.Prelude.{⊤, ◌≡◌, ◌≢◌, ◌⊎◌, ◌<◌, ◌≤◌, ◌+◌, [], ℕ, All, Bool, List, None, Option}
+use Rattle.std.specs.Prelude.{MatchOption, Some, codes, false, length, slice_get, true, unwrap_or}
 use Rattle.nodejs_semver.specs.Cuts.{Span}
 use Rattle.nodejs_semver.specs.Versions.{VersionValue}
 use Rattle.npm_reading.specs.Ranges.{IsRangeIn}
@@ -151,7 +151,8 @@ IsInnerScope rules root d place s = (inner : Place) × IsScopeOf rules s inner �
 
 -- the scope where the package stands that is meant by the dependency of this number
 abbrev pub IsLed : List Rule → Data → List Edge → ℕ → Dependency → Scope → Type 0
-IsLed rules root edges n d s = (around : Place) × StandsIn root edges n around × IsInnerScope rules root d around s
+IsLed rules root edges n d s =
+    (around : Place) × StandsIn root edges n around × IsInnerScope rules root d around s
 
 -- of a dependency for which rules hold it is that, and of another one there is none
 abbrev pub IsChosen : List Rule → Data → List Edge → ℕ → Edge → Option Scope → Type 0
@@ -163,8 +164,8 @@ AreChosen root rules edges found = (n : ℕ) (e : Edge) → slice_get edges n �
     → ((rules ≡ []) × (get nat_cmp found n ≡ None))
     ⊎ OfPackage root (λ fields. IsChosen rules fields edges n e (get nat_cmp found n))
 
--- a dependency's turn: the folder with which it is read, whether that is of the package that wants it, and its
--- number
+-- a dependency's turn: the folder with which it is read, whether that is of the package that wants it, and
+-- its number
 abbrev pub Turn : Type 0
 Turn = Bor (List ℕ) × Bool × ℕ
 
