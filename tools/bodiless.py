@@ -14,6 +14,7 @@ BODY = "let _ = crate::never(0);\n{}    unreachable!()"
 NAMED = re.compile(r"(?<!fn )\b\w+\(|^(?:pub(?:\([^)]*\))? )?use [^;]*;", re.M)
 GROUP = re.compile(r"((?:\w+(?:\.|::))+)\{([^{}]*)\}")
 TACTIC = re.compile(r"^ *#\[tactic\((?:[^\n]*|\n.*?\n *)\)\]\n", re.M | re.S)
+CYCLE = re.compile(r" *#\[cycle\((\w+)\)\]")
 NEVER = 'unsafe extern "C" {\n    pub(crate) safe fn never(x: u8) -> u8\n        ensures { ⊥ };\n}\n'
 
 
@@ -50,9 +51,10 @@ def without_bodies(text, crate, folder, file, kept, named=None):
             if place and place not in kept and not place.has_arguments:
                 places.append(place)
                 end, above = body[1], len(made) - 1
+                while above and made[above - 1]:
+                    above -= 1
+                made[above:] = [it for it in made[above:] if not CYCLE.fullmatch(it)]
                 if named is not None:
-                    while above and made[above - 1]:
-                        above -= 1
                     made[above:] = TACTIC.sub("", "\n".join(made[above:])).split("\n")
                 if named is None or heads[at][1] or "pub" in heads[at][0] or place.name in named:
                     indent, is_empty = heads[at][1], body[0] == body[1]
@@ -61,6 +63,15 @@ def without_bodies(text, crate, folder, file, kept, named=None):
                     # Its head goes, with its attributes and comment.
                     del made[above:]
     return "\n".join(made), places
+
+
+def cycles(text, crate, folder, file):
+    """Returns by their names the cycles of a file, functions that call each other and are proved together, each as the places of these."""
+    found = {}
+    for it in HEADER.finditer(text):
+        if name := CYCLE.search(text, text.rfind("\n\n", 0, it.start()) + 1, it.start()):
+            found.setdefault(name[1], []).append(Place(crate, folder, file, text[: it.end()]))
+    return found
 
 
 def root_of(folder):
@@ -75,11 +86,17 @@ def gone(folder, pattern):
 
 def bodiless(crate, folder, texts, kept):
     """Returns the texts of the files of a crate without the bodies of its functions, by their paths in it, but for those of the places in
-    kept; None for a file that goes. The given texts stand for those of their files."""
+    kept and of the functions of their cycles; None for a file that goes. The given texts stand for those of their files."""
     texts = dict(texts)
     for path in sorted(glob.glob(f"{folder}/src/**/*.rt", recursive=True)):
         file = os.path.relpath(path, folder)
-        texts[file], places = without_bodies(texts.get(file) or text_of(path), crate, folder, file, kept)
+        text, others = texts.get(file) or text_of(path), []
+        for name, members in cycles(text, crate, folder, file).items():
+            if any(it in kept for it in members):
+                others += members
+            else:
+                texts.update(gone(folder, f"proofs/**/+{name}"))
+        texts[file], places = without_bodies(text, crate, folder, file, [*kept, *others])
         for it in places:
             texts.update(gone(folder, f"proofs/{it.proofs()}"))
     texts[root_of(folder)] += NEVER
