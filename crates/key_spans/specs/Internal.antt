@@ -1,4 +1,5 @@
 pub mod Ends
+pub mod Kinds
 pub mod Pieces
 pub mod Places
 pub mod Sets

@@ -1,33 +1,66 @@
-// The parts of the keys of what intervals accept, as the intervals come.
+// The parts of the keys of what intervals accept.
 
-ghost use Rattle.std.specs.Prelude.{◌≡◌, ◌++◌, IfOk, OnOk};
+ghost use Rattle.std.specs.Prelude.{◌≡◌, ◌++◌, IfOk, map, OnOk};
+ghost use Rattle.key_spans.specs.Internal.Kinds.{start_place, stop_place, stretch};
+ghost use Rattle.key_spans.specs.Internal.Pieces.{IsCanonicalOf};
 ghost use Rattle.key_spans.specs.Internal.Places.{bound_stretch, greater, lesser, own_stretch};
-ghost use Rattle.key_spans.specs.Internal.Places.{pre_releases, pre_stretches, release_stretch};
-ghost use Rattle.key_spans.specs.Internal.Places.{releases, version_stretch, versions};
+ghost use Rattle.key_spans.specs.Internal.Places.{pre_releases, pre_stretch, pre_stretches};
 ghost use Rattle.nodejs_semver.specs.Internal.Shorthands.{spans_of};
 ghost use Rattle.nodejs_semver.specs.Ranges.View.{bound_of, span_of};
 
-use crate::canon::Part;
+use crate::canon::{Part, canonical};
 use crate::marks::{END, lowest_key, pre_place, release_key, release_place, version_place};
 use nodejs_semver::{VersionPoint, Versioned};
 use semver_core::cuts::{Bound, Interval};
 use std::alloc::{AllocError, Global};
 
-// The releases of an interval.
-fn release_part<V: VersionPoint>(alloc: Global, interval: &Interval<V>) -> Result<Part, AllocError>
-    ensures { IfOk result (λ part. part ≡ release_stretch (span_of V.value interval.now)) }
-{
-    let start = release_place(alloc, interval.lower(), &[0, 0, 0, 3])?;
-    let stop = release_place(alloc, interval.upper(), &END)?;
-    Ok(Part { start, stop })
+// Which versions of an interval are wanted.
+#[derive(Clone, Copy)]
+pub(crate) enum Kind {
+    Releases,
+    Versions,
 }
 
-// All versions of an interval.
-fn version_part<V: VersionPoint>(alloc: Global, interval: &Interval<V>) -> Result<Part, AllocError>
-    ensures { IfOk result (λ part. part ≡ version_stretch (span_of V.value interval.now)) }
+// Where those of an interval start.
+fn start_place<V: VersionPoint>(
+    alloc: Global,
+    kind: Kind,
+    lower: &Bound<V>,
+) -> Result<Vec<u8>, AllocError>
+    ensures { IfOk result (λ bytes.
+        bytes.items ≡ start_place kind (bound_of V.value lower.now)) }
 {
-    let start = version_place(alloc, interval.lower(), &[0, 0, 0, 1, 0, 0])?;
-    let stop = version_place(alloc, interval.upper(), &END)?;
+    match kind {
+        Kind::Releases => release_place(alloc, lower, &[0, 0, 0, 3]),
+        Kind::Versions => version_place(alloc, lower, &[0, 0, 0, 1, 0, 0]),
+    }
+}
+
+// Where they stop.
+fn stop_place<V: VersionPoint>(
+    alloc: Global,
+    kind: Kind,
+    upper: &Bound<V>,
+) -> Result<Vec<u8>, AllocError>
+    ensures { IfOk result (λ bytes.
+        bytes.items ≡ stop_place kind (bound_of V.value upper.now)) }
+{
+    match kind {
+        Kind::Releases => release_place(alloc, upper, &END),
+        Kind::Versions => version_place(alloc, upper, &END),
+    }
+}
+
+// The part of an interval.
+fn part_of<V: VersionPoint>(
+    alloc: Global,
+    kind: Kind,
+    interval: &Interval<V>,
+) -> Result<Part, AllocError>
+    ensures { IfOk result (λ part. part ≡ stretch kind (span_of V.value interval.now)) }
+{
+    let start = start_place(alloc, kind, interval.lower())?;
+    let stop = stop_place(alloc, kind, interval.upper())?;
     Ok(Part { start, stop })
 }
 
@@ -51,42 +84,49 @@ fn lesser_of(alloc: Global, first: &[u8], second: Vec<u8>) -> Result<Vec<u8>, Al
     Ok(second)
 }
 
-// Adds the pre-releases of a version's numbers between two places, if the version is one.
+// What lies between the bounds of an interval, with all pre-releases.
+fn pre_part<V: VersionPoint>(alloc: Global, interval: &Interval<V>) -> Result<Part, AllocError>
+    ensures { IfOk result (λ part. part ≡ pre_stretch (span_of V.value interval.now)) }
+{
+    let start = pre_place(alloc, interval.lower(), &[])?;
+    let stop = pre_place(alloc, interval.upper(), &END)?;
+    Ok(Part { start, stop })
+}
+
+// Adds the pre-releases of a version's numbers within a part, if the version is one.
 fn add_own<V: Versioned>(
     alloc: Global,
-    start: &[u8],
-    stop: &[u8],
+    within: &Part,
     version: &V,
     parts: &mut Vec<Part>,
 ) -> Result<(), AllocError>
-    ensures { OnOk result (parts.new.items
-        ≡ parts.old.items ++ own_stretch start.now stop.now (V.value version.now)) }
+    ensures { OnOk result (parts.new.items ≡ parts.old.items
+        ++ own_stretch within.now.start within.now.stop (V.value version.now)) }
 {
     if version.is_release() {
         return Ok(());
     }
-    let start = greater_of(alloc, start, lowest_key(alloc, version)?)?;
-    let stop = lesser_of(alloc, stop, release_key(alloc, version)?)?;
+    let (major, minor, patch) = (version.major(), version.minor(), version.patch());
+    let lowest = lowest_key(alloc, major, minor, patch)?;
+    let start = greater_of(alloc, &within.start, lowest)?;
+    let stop = lesser_of(alloc, &within.stop, release_key(alloc, version)?)?;
     parts.push(Part { start, stop })?;
     Ok(())
 }
 
-// Adds the pre-releases that a bound lets in.
+// Adds the pre-releases that a bound lets in within a part.
 fn add_bound<V: VersionPoint>(
     alloc: Global,
-    start: &[u8],
-    stop: &[u8],
+    within: &Part,
     bound: &Bound<V>,
     parts: &mut Vec<Part>,
 ) -> Result<(), AllocError>
-    ensures { OnOk result (parts.new.items
-        ≡ parts.old.items ++ bound_stretch start.now stop.now (bound_of V.value bound.now)) }
+    ensures { OnOk result (parts.new.items ≡ parts.old.items
+        ++ bound_stretch within.now.start within.now.stop (bound_of V.value bound.now)) }
 {
     match bound {
         Bound::Unbounded => Ok(()),
-        Bound::Before(version) | Bound::After(version) => add_own(
-            alloc, start, stop, version, parts,
-        ),
+        Bound::Before(version) | Bound::After(version) => add_own(alloc, within, version, parts),
     }
 }
 
@@ -99,51 +139,38 @@ fn add_pre<V: VersionPoint>(
     ensures { OnOk result (parts.new.items
         ≡ parts.old.items ++ pre_stretches (span_of V.value interval.now)) }
 {
-    let start = pre_place(alloc, interval.lower(), &[])?;
-    let stop = pre_place(alloc, interval.upper(), &END)?;
-    add_bound(alloc, &start, &stop, interval.lower(), parts)?;
-    add_bound(alloc, &start, &stop, interval.upper(), parts)
+    let within = pre_part(alloc, interval)?;
+    add_bound(alloc, &within, interval.lower(), parts)?;
+    add_bound(alloc, &within, interval.upper(), parts)
 }
 
-// The releases of intervals.
-pub(crate) fn release_parts<V: VersionPoint>(
+// The canonical list of the parts of intervals.
+pub(crate) fn parts_of<V: VersionPoint>(
     alloc: Global,
+    kind: Kind,
     intervals: &[Interval<V>],
 ) -> Result<Vec<Part>, AllocError>
-    ensures { IfOk result (λ parts. parts.items ≡ releases (spans_of V.value intervals.now)) }
+    ensures { IfOk result (λ parts.
+        IsCanonicalOf (map (stretch kind) (spans_of V.value intervals.now)) parts.items) }
 {
     let mut parts = Vec::new(alloc);
     for interval in intervals {
-        parts.push(release_part(alloc, interval)?)?;
+        parts.push(part_of(alloc, kind, interval)?)?;
     }
-    Ok(parts)
+    canonical(alloc, parts)
 }
 
-// The pre-releases of intervals that their bounds let in.
+// The canonical list of the pre-releases of intervals that their bounds let in.
 pub(crate) fn pre_parts<V: VersionPoint>(
     alloc: Global,
     intervals: &[Interval<V>],
 ) -> Result<Vec<Part>, AllocError>
     ensures { IfOk result (λ parts.
-        parts.items ≡ pre_releases (spans_of V.value intervals.now)) }
+        IsCanonicalOf (pre_releases (spans_of V.value intervals.now)) parts.items) }
 {
     let mut parts = Vec::new(alloc);
     for interval in intervals {
         add_pre(alloc, interval, &mut parts)?;
     }
-    Ok(parts)
-}
-
-// All versions of intervals.
-pub(crate) fn version_parts<V: VersionPoint>(
-    alloc: Global,
-    intervals: &[Interval<V>],
-) -> Result<Vec<Part>, AllocError>
-    ensures { IfOk result (λ parts. parts.items ≡ versions (spans_of V.value intervals.now)) }
-{
-    let mut parts = Vec::new(alloc);
-    for interval in intervals {
-        parts.push(version_part(alloc, interval)?)?;
-    }
-    Ok(parts)
+    canonical(alloc, parts)
 }

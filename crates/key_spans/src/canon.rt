@@ -25,6 +25,17 @@ impl Model for Part {
     ghost view = { λ p. record { start = p.start.items; stop = p.stop.items } };
 }
 
+impl Part {
+    // A part with copies of two places.
+    pub(crate) fn between(alloc: Global, start: &[u8], stop: &[u8]) -> Result<Part, AllocError>
+        ensures { IfOk result (λ part. part ≡ record { start = start.now; stop = stop.now }) }
+    {
+        let start = start.to_vec(alloc)?;
+        let stop = stop.to_vec(alloc)?;
+        Ok(Part { start, stop })
+    }
+}
+
 // Adds a part, if it is not empty.
 fn push_any(parts: &mut Vec<Part>, part: Part) -> Result<(), AllocError>
     ensures { OnOk result (parts.new.items ≡ parts.old.items ++ alone (slice_cmp nat_cmp) part) }
@@ -53,8 +64,7 @@ fn push_pair(parts: &mut Vec<Part>, last: Part, next: Part) -> Result<(), AllocE
 {
     if last.stop.as_slice().cmp(next.start.as_slice()).is_lt() {
         parts.push(last)?;
-        push_any(parts, next)?;
-        return Ok(());
+        return push_any(parts, next);
     }
     parts.push(Part {
         start: last.start,
@@ -68,10 +78,9 @@ fn join(parts: &mut Vec<Part>, part: Part) -> Result<(), AllocError>
     ensures { OnOk result (parts.new.items ≡ joined (slice_cmp nat_cmp) parts.old.items part) }
 {
     match parts.pop() {
-        None => push_any(parts, part)?,
-        Some(last) => push_pair(parts, last, part)?,
+        None => push_any(parts, part),
+        Some(last) => push_pair(parts, last, part),
     }
-    Ok(())
 }
 
 // The canonical list of the keys of some parts.

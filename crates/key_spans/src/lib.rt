@@ -32,8 +32,8 @@ ghost use Rattle.nodejs_semver.specs.Ranges.Gate.{accepts};
 ghost use Rattle.semver_core.specs.Keys.{key};
 ghost use Rattle.semver_core.specs.Values.Versions.{IsVersion, VersionValue};
 
-use crate::build::{pre_parts, release_parts, version_parts};
-use crate::canon::{Part, canonical};
+use crate::build::{Kind, parts_of, pre_parts};
+use crate::canon::Part;
 use nodejs_semver::{RangeOf, VersionPoint};
 use std::alloc::{AllocError, Global};
 
@@ -87,15 +87,16 @@ pub fn key_spans<V: VersionPoint>(
     ensures ends { IfOk result (λ spans. All (HasEnds include_prerelease) spans.items) }
     ensures few { IfOk result (λ spans. length spans.items ≤ 3 * length range.now) }
 {
+    let intervals = range.items();
     let mut spans = Vec::new(alloc);
     if include_prerelease {
-        let versions = canonical(alloc, version_parts(alloc, range.items())?)?;
+        let versions = parts_of(alloc, Kind::Versions, intervals)?;
         add_parts(versions, false, &mut spans)?;
         return Ok(spans);
     }
-    let releases = canonical(alloc, release_parts(alloc, range.items())?)?;
-    let pre_releases = canonical(alloc, pre_parts(alloc, range.items())?)?;
+    let releases = parts_of(alloc, Kind::Releases, intervals)?;
     add_parts(releases, true, &mut spans)?;
+    let pre_releases = pre_parts(alloc, intervals)?;
     add_parts(pre_releases, false, &mut spans)?;
     Ok(spans)
 }

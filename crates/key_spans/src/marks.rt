@@ -43,12 +43,15 @@ pub(crate) fn release_key<V: Versioned>(alloc: Global, version: &V) -> Result<Ve
     Version::from((version.major(), version.minor(), version.patch())).key(alloc)
 }
 
-// The key of the least pre-release of the three numbers.
-pub(crate) fn lowest_key<V: Versioned>(alloc: Global, version: &V) -> Result<Vec<u8>, AllocError>
-    ensures { IfOk result (λ bytes. bytes.items ≡ lowest_key (V.value version.now).major
-        (V.value version.now).minor (V.value version.now).patch) }
+// The key of the least pre-release of three numbers.
+pub(crate) fn lowest_key(
+    alloc: Global,
+    major: u64,
+    minor: u64,
+    patch: u64,
+) -> Result<Vec<u8>, AllocError>
+    ensures { IfOk result (λ bytes. bytes.items ≡ lowest_key major minor patch) }
 {
-    let (major, minor, patch) = (version.major(), version.minor(), version.patch());
     let lowest = Version::with_pre(alloc, major, minor, patch, 0)?;
     lowest.key(alloc)
 }
@@ -87,10 +90,7 @@ fn next_lowest<V: Versioned>(alloc: Global, version: &V) -> Result<Vec<u8>, Allo
 {
     match next_numbers(version) {
         None => END.to_vec(alloc),
-        Some((major, minor, patch)) => {
-            let lowest = Version::with_pre(alloc, major, minor, patch, 0)?;
-            lowest.key(alloc)
-        }
+        Some((major, minor, patch)) => lowest_key(alloc, major, minor, patch),
     }
 }
 

@@ -127,10 +127,10 @@ fn combined(
 {
     let (releases, others) = by_kind(first);
     let (second_releases, second_others) = by_kind(second);
-    let releases = swept(alloc, operation, releases, second_releases)?;
-    let others = swept(alloc, operation, others, second_others)?;
     let mut spans = Vec::new(alloc);
+    let releases = swept(alloc, operation, releases, second_releases)?;
     add_parts(releases, true, &mut spans)?;
+    let others = swept(alloc, operation, others, second_others)?;
     add_parts(others, false, &mut spans)?;
     Ok(spans)
 }
@@ -171,10 +171,10 @@ fn lesser<'s>(one: Option<&'s [u8]>, other: Option<&'s [u8]>) -> Option<&'s [u8]
     ensures { option_map (λ place. place.now) result ≡ least (slice_cmp nat_cmp)
         (option_map (λ place. place.now) one.entry) (option_map (λ place. place.now) other.entry) }
 {
-    match (one, other) {
-        (Some(place), Some(second)) if second.cmp(place).is_lt() => Some(second),
-        (Some(place), _) => Some(place),
-        (None, second) => second,
+    let Some(place) = one else { return other };
+    match other {
+        Some(second) if second.cmp(place).is_lt() => Some(second),
+        _ => Some(place),
     }
 }
 
@@ -279,10 +279,7 @@ impl<'s> Outline<'s> {
         match self.start {
             None if is_kept => self.start = Some(place),
             Some(start) if !is_kept => {
-                self.parts.push(Part {
-                    start: start.to_vec(alloc)?,
-                    stop: place.to_vec(alloc)?,
-                })?;
+                self.parts.push(Part::between(alloc, start, place)?)?;
                 self.start = None;
             }
             _ => {}

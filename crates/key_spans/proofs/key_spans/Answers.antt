@@ -27,8 +27,7 @@ bounded ss h = let small : MAX_SAFE_INTEGER + 1 < 2 ^ 64 = omega arith in range_
 -- ---- with pre-releases included
 
 canonical_all : (g : _) (c : goal.In_ok-add_parts g) → IsCanonicalOf (versions c.args.range.now) c.in_ok-versions.versions.items
-canonical_all g c = subst (λ l. IsCanonicalOf l c.in_ok-versions.versions.items)
-    (c.in_ok-version_parts.ensures ∙ ap versions c.items.ensures.value) c.in_ok-versions.ensures
+canonical_all g c = subst (λ l. IsCanonicalOf (versions l) c.in_ok-versions.versions.items) c.items-intervals.ensures.value c.in_ok-versions.ensures
 
 listed_all : (g : _) (c : goal.In_ok-add_parts g) → pieces c.add_parts.new.spans.items ≡ all_flagged false c.in_ok-versions.versions.items
 listed_all g c = c.in_ok-add_parts.ensures ∙ ap (λ l. pieces l ++ all_flagged false c.in_ok-versions.versions.items) c.new-spans.ensures.items
@@ -37,7 +36,7 @@ pub returns-then-include_prerelease-clause-exact : goal.returns-then-include_pre
 returns-then-include_prerelease-clause-exact g c = λ v h.
     in_spans-pieces c.add_parts.new.spans.items (key v)
     ∙ (ap (λ l. in_pieces l (key v)) (listed_all g c)
-    ∙ (all_exact c.args.range.now v (bounded c.args.range.now c.items.ensures.valid) h c.in_ok-versions.versions.items (canonical_all g c)
+    ∙ (all_exact c.args.range.now v (bounded c.args.range.now c.items-intervals.ensures.valid) h c.in_ok-versions.versions.items (canonical_all g c)
     ∙ ap (accepts c.args.range.now v) (sym c.if-include_prerelease.true)))
 
 pub returns-then-include_prerelease-clause-sorted : goal.returns-then-include_prerelease-clause-sorted
@@ -49,7 +48,7 @@ pub returns-then-include_prerelease-clause-ends : goal.returns-then-include_prer
 returns-then-include_prerelease-clause-ends g c =
     let vs : List (Stretch (List ℕ)) = c.in_ok-versions.versions.items in
     let fit : All AnyPlaced vs = placed (IsKeyOf IsAny) (LastEnd IsAny) (last_parted IsAny) (versions c.args.range.now) vs
-    (versions_fit c.args.range.now (bounded c.args.range.now c.items.ensures.valid)) (canonical_all g c) in
+    (versions_fit c.args.range.now (bounded c.args.range.now c.items-intervals.ensures.valid)) (canonical_all g c) in
     subst (λ b. All (HasEnds b) c.add_parts.new.spans.items) (sym c.if-include_prerelease.true)
     (unmapped true c.add_parts.new.spans.items (subst (All (PieceEnds true)) (sym (listed_all g c)) (all_any_ends vs fit)))
 
@@ -65,12 +64,11 @@ returns-then-include_prerelease-clause-few g c =
 -- ---- by the gate
 
 canonical_releases : (g : _) (c : goal.In_ok-add_parts-3 g) → IsCanonicalOf (releases c.args.range.now) c.in_ok-releases.releases.items
-canonical_releases g c = subst (λ l. IsCanonicalOf l c.in_ok-releases.releases.items)
-    (c.in_ok-release_parts.ensures ∙ ap releases c.items-2.ensures.value) c.in_ok-releases.ensures
+canonical_releases g c = subst (λ l. IsCanonicalOf (releases l) c.in_ok-releases.releases.items) c.items-intervals.ensures.value c.in_ok-releases.ensures
 
 canonical_pre : (g : _) (c : goal.In_ok-add_parts-3 g) → IsCanonicalOf (pre_releases c.args.range.now) c.in_ok-pre_releases.pre_releases.items
-canonical_pre g c = subst (λ l. IsCanonicalOf l c.in_ok-pre_releases.pre_releases.items)
-    (c.in_ok-pre_parts.ensures ∙ ap pre_releases c.items-3.ensures.value) c.in_ok-pre_releases.ensures
+canonical_pre g c = subst (λ l. IsCanonicalOf (pre_releases l) c.in_ok-pre_releases.pre_releases.items) c.items-intervals.ensures.value
+    c.in_ok-pre_releases.ensures
 
 listed_both : (g : _) (c : goal.In_ok-add_parts-3 g) → pieces c.add_parts-3.new.spans.items
     ≡ all_flagged true c.in_ok-releases.releases.items ++ all_flagged false c.in_ok-pre_releases.pre_releases.items
@@ -83,7 +81,7 @@ pub returns-clause-exact : goal.returns-clause-exact
 returns-clause-exact g c = λ v h.
     in_spans-pieces c.add_parts-3.new.spans.items (key v)
     ∙ (ap (λ l. in_pieces l (key v)) (listed_both g c)
-    ∙ (gate_exact c.args.range.now v (bounded c.args.range.now c.items-2.ensures.valid) h c.in_ok-releases.releases.items
+    ∙ (gate_exact c.args.range.now v (bounded c.args.range.now c.items-intervals.ensures.valid) h c.in_ok-releases.releases.items
     c.in_ok-pre_releases.pre_releases.items (canonical_releases g c) (canonical_pre g c)
     ∙ ap (accepts c.args.range.now v) (sym c.if-include_prerelease.false)))
 
@@ -97,7 +95,7 @@ pub returns-clause-ends : goal.returns-clause-ends
 returns-clause-ends g c =
     let rs : List (Stretch (List ℕ)) = c.in_ok-releases.releases.items in
     let ps : List (Stretch (List ℕ)) = c.in_ok-pre_releases.pre_releases.items in
-    let all : All IsSpan c.args.range.now = bounded c.args.range.now c.items-2.ensures.valid in
+    let all : All IsSpan c.args.range.now = bounded c.args.range.now c.items-intervals.ensures.valid in
     let first : All ReleasePlaced rs = placed (IsKeyOf IsRelease) (LastEnd IsRelease) (last_parted IsRelease) (releases c.args.range.now) rs
     (releases_fit c.args.range.now all) (canonical_releases g c) in
     let others : All PrePlaced ps = placed IsPreKey Ends parted (pre_releases c.args.range.now) ps

@@ -103,6 +103,10 @@ bound_stretch start stop Unbounded = []
 bound_stretch start stop (Before w) = own_stretch start stop w
 bound_stretch start stop (After w) = own_stretch start stop w
 
+-- all pre-releases between the two bounds
+abbrev pub pre_stretch : Span VersionValue → Stretch (List ℕ)
+pre_stretch s = record { start = pre_place s.lower []; stop = pre_place s.upper end_key }
+
 -- of each bound that is a pre-release, the pre-releases of its numbers between the two bounds
 abbrev pub pre_stretches : Span VersionValue → List (Stretch (List ℕ))
 pre_stretches s = let start = pre_place s.lower [] in let stop = pre_place s.upper end_key in

@@ -1,4 +1,5 @@
-use Rattle.std.proofs.Common.{◌≡◌, map-id, rules, sym, ◌∙◌, []}
+use Rattle.std.proofs.Common.{◌≡◌, arith, map-id, rules, sym, ◌∙◌, []}
+use Rattle.std.proofs.lemmas.Grind.{common_steps}
 use Rattle.std.proofs.lemmas.Iterator.Adapters.{YieldsList-from_vec}
 use Rattle.std.proofs.lemmas.Iterator.Consumers.{YieldsList-end}
 use Rattle.std.proofs.lemmas.List.Sorted.{answers_always, ranks_by}
@@ -30,3 +31,6 @@ returns c = record {
   few = swept_few (slice_cmp nat_cmp) c.args.parts.items c.sort_by.new.self.items c.loop-part.yielded c.loop-part.found.items (taken c)
       c.loop-part.invariant c.in_ok-sort_by.ensures.permutation;
 }
+
+pub loop-part-preserved : goal.loop-part-preserved
+loop-part-preserved c = grind (arith, common_steps)
