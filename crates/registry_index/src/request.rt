@@ -11,7 +11,7 @@ use crate::query::{ALL, BEST, NEWER, NEWEST};
 use crate::search::{Found, count, first, search};
 use crate::trouble::Trouble;
 use key_spans::KeySpan;
-use sqlite::{Alter, Connection, FileStore};
+use sqlite::{Alter, Connection, Error, FileStore};
 use sqlite_disk::Disk;
 use std::alloc::Global;
 use std::io::{self, BufReader, Lines, Write};
@@ -49,12 +49,19 @@ pub fn ask<D: Disk + Drop>(
     requires { conn.in_transaction ≡ false }
 {
     let answer = request.put(alloc, &mut conn);
-    let closed = conn.close();
-    if let Ok(Answer::Loaded) = answer {
+    after_close(answer, conn.close())
+}
+
+// What an index answers once it is closed.
+fn after_close(
+    answer: Result<Answer, Trouble>,
+    closed: Result<(), Error>,
+) -> Result<Answer, Trouble> {
+    match closed {
         // Only a load changes the file.
-        closed?;
+        Err(error) if matches!(answer, Ok(Answer::Loaded)) => Err(Trouble::Index(error)),
+        _ => answer,
     }
-    answer
 }
 
 impl Request<'_> {
