@@ -1,13 +1,15 @@
 -- Lines that ask no question.
-use Rattle.std.proofs.Common.{rules, ◌≡◌, ◌≢◌, ◌<◌, ◌∙◌, refl, ℕ, List, [], ◌∷◌, ◌++◌, false, codes, get_or, length, arith, sym, ap}
+use Rattle.std.proofs.Common.{rules, ◌≡◌, ◌≢◌, ◌<◌, ◌∙◌, refl, ℕ, List, [], ◌∷◌, ◌++◌, false, codes, get_or, length, arith, sym, ap, append_assoc, not, true}
 use Rattle.std.proofs.lemmas.Bool.{false≢true}
 use Rattle.std.proofs.lemmas.List.Splits.{join_with_byte-slice_split}
 use Rattle.std.proofs.lemmas.Slice.Eq.{bytes_eq-Decides}
-use Rattle.std.specs.List.{join_with_byte}
+use Rattle.std.specs.List.{All, join_with_byte, list_all}
 use Rattle.std.specs.Str.{bytes_eq}
 use Rattle.semver_answers.specs.Commands.{Asks, Question, Version, Versions, Range, Ranges, Match, Best}
 use Rattle.semver_answers.specs.Internal.CommandWords.{IsUnknown, command_word}
 use Rattle.semver_answers.specs.Internal.KindWords.{IsTwo, best_word, match_word, range_word, ranges_word, versions_word}
+use Rattle.memchr.specs.Find.{is_byte2}
+use Rattle.semver_answers.specs.Internal.Ahead.{HasFeed, behind_line, fields_ahead, first_line}
 use Rattle.semver_answers.specs.Lines.{fields}
 use Rattle.semver_answers.specs.declared.command.Command.{Command}
 use Rattle.semver_answers.specs.declared.command.Command.TheVariants as command
@@ -22,28 +24,31 @@ use Rattle.semver_answers.specs.declared.question.AboutRanges.TheVariants.{And, 
 use Rattle.semver_answers.specs.declared.question.AboutVersion.TheVariants.{Ver}
 use Rattle.semver_answers.specs.declared.question.AboutVersions.{AboutVersions}
 use Rattle.semver_answers.specs.declared.question.AboutVersions.TheVariants.{Cmp, Diff}
-use Rattle.semver_answers.proofs.Firsts.{some_field}
+use Rattle.semver_answers.proofs.Firsts.{all_fail, divided, some_field}
 
 -- a text that begins with no command asks nothing, since a question has a text behind its command
-asked_by : (t a : List ℕ) (rest : List (List ℕ)) → IsUnknown t → (c : Command) → fields t ≡ command_word c ∷ a ∷ rest → ⊥
-asked_by t a rest none c e =
-    none c (join_with_byte 59 (a ∷ rest)) (sym (join_with_byte-slice_split 59 t) ∙ ap (join_with_byte 59) e)
+asked_by : (t a : List ℕ) (rest : List (List ℕ)) → HasFeed t → IsUnknown t → (c : Command) → fields_ahead t ≡ command_word c ∷ a ∷ rest → ⊥
+asked_by t a rest feed none c e =
+    let line : first_line t ≡ command_word c ++ 59 ∷ join_with_byte 59 (a ∷ rest) =
+    sym (join_with_byte-slice_split 59 (first_line t)) ∙ ap (join_with_byte 59) e in
+    none c (join_with_byte 59 (a ∷ rest) ++ 10 ∷ behind_line t)
+    ((divided t feed).0 ∙ ap (λ l. l ++ 10 ∷ behind_line t) line ∙ append_assoc (command_word c) (59 ∷ join_with_byte 59 (a ∷ rest)) (10 ∷ behind_line t))
 
-pub unknown : (text : List ℕ) → IsUnknown text → (question : Question) → Asks (fields text) question → ⊥
-unknown text none (Version v Ver) asks = asked_by text _ _ none command.Ver asks.0
-unknown text none (Version v next) asks = asked_by text _ _ none command.Inc asks.0
-unknown text none (Versions texts Cmp) asks = asked_by text _ _ none command.Cmp asks.0
-unknown text none (Versions texts Diff) asks = asked_by text _ _ none command.Diff asks.0
-unknown text none (Range r Print) asks = asked_by text _ _ none command.Range asks.0
-unknown text none (Range r Least) asks = asked_by text _ _ none command.Least asks.0
-unknown text none (Ranges texts And) asks = asked_by text _ _ none command.And asks.0
-unknown text none (Ranges texts Minus) asks = asked_by text _ _ none command.Minus asks.0
-unknown text none (Ranges texts Beyond) asks = asked_by text _ _ none command.Beyond asks.0
-unknown text none (Match texts Sat) asks = asked_by text _ _ none command.Sat asks.0
-unknown text none (Match texts Pre) asks = asked_by text _ _ none command.Pre asks.0
-unknown text none (Match texts (Out side)) asks = asked_by text _ _ none command.Out asks.0
-unknown text none (Best texts Max) asks = asked_by text _ _ none command.Max asks.0
-unknown text none (Best texts Min) asks = asked_by text _ _ none command.Min asks.0
+pub unknown : (text : List ℕ) → HasFeed text → IsUnknown text → (question : Question) → Asks (fields_ahead text) question → ⊥
+unknown text feed none (Version v Ver) asks = asked_by text _ _ feed none command.Ver asks.0
+unknown text feed none (Version v next) asks = asked_by text _ _ feed none command.Inc asks.0
+unknown text feed none (Versions texts Cmp) asks = asked_by text _ _ feed none command.Cmp asks.0
+unknown text feed none (Versions texts Diff) asks = asked_by text _ _ feed none command.Diff asks.0
+unknown text feed none (Range r Print) asks = asked_by text _ _ feed none command.Range asks.0
+unknown text feed none (Range r Least) asks = asked_by text _ _ feed none command.Least asks.0
+unknown text feed none (Ranges texts And) asks = asked_by text _ _ feed none command.And asks.0
+unknown text feed none (Ranges texts Minus) asks = asked_by text _ _ feed none command.Minus asks.0
+unknown text feed none (Ranges texts Beyond) asks = asked_by text _ _ feed none command.Beyond asks.0
+unknown text feed none (Match texts Sat) asks = asked_by text _ _ feed none command.Sat asks.0
+unknown text feed none (Match texts Pre) asks = asked_by text _ _ feed none command.Pre asks.0
+unknown text feed none (Match texts (Out side)) asks = asked_by text _ _ feed none command.Out asks.0
+unknown text feed none (Best texts Max) asks = asked_by text _ _ feed none command.Max asks.0
+unknown text feed none (Best texts Min) asks = asked_by text _ _ feed none command.Min asks.0
 
 -- another command
 other : (word first : List ℕ) (texts others : List (List ℕ)) → bytes_eq word first ≡ false → word ∷ texts ≡ first ∷ others → ⊥
@@ -129,6 +134,17 @@ inc_none texts one = search rules
 pub out_none : (texts : List (List ℕ)) → length texts < 3 → (question : Question) → Asks (codes "out" ∷ texts) question → ⊥
 out_none texts few = search rules
 
--- the fields of a text that begins with a command
-pub known : (c : Command) (rest : List ℕ) → fields (command_word c ++ 59 ∷ rest) ≡ command_word c ∷ fields rest
-known c rest = search rules
+pub out_more : (r v : List ℕ) (texts : List (List ℕ)) → 1 < length texts → (question : Question)
+    → Asks (codes "out" ∷ r ∷ v ∷ texts) question → ⊥
+out_more r v texts more = search rules
+
+pub inc_more : (v : List ℕ) (texts : List (List ℕ)) → 3 < length texts → (question : Question)
+    → Asks (codes "inc" ∷ v ∷ texts) question → ⊥
+inc_more v texts more = search rules
+
+-- a text that begins with a command
+word_plain : (c : Command) → list_all (λ b. not (is_byte2 59 10 b)) (command_word c) ≡ true
+word_plain c = search rules
+
+pub word_has_no_mark : (c : Command) → All (λ b. is_byte2 59 10 b ≡ false) (command_word c)
+word_has_no_mark c = all_fail (is_byte2 59 10) (command_word c) (word_plain c)

@@ -1,48 +1,44 @@
--- What stands behind the first fields of a text.
-use Rattle.std.proofs.Common.{◌≡◌, ◌≢◌, ◌<◌, ◌∙◌, ℕ, true, false, List, [], ◌∷◌, Option, Some, None, length, ap, arith, refl}
+-- What stands behind the first fields of a line.
+use Rattle.std.proofs.Common.{◌≡◌, ◌≢◌, ◌<◌, ◌∙◌, ℕ, List, [], ◌∷◌, length, ap, arith, sym}
 use Rattle.std.specs.Borrow.{Bor}
-use Rattle.std.specs.Option.{is_some}
-use Rattle.semver_answers.specs.Internal.Results.{behind}
-use Rattle.semver_answers.specs.Lines.{fields}
-use Rattle.semver_answers.proofs.Firsts.{some_field}
+use Rattle.semver_answers.specs.Internal.Ahead.{Cuts, IsNext, fields_ahead}
+use Rattle.semver_answers.specs.declared.fields.Behind.{Behind}
+use Rattle.semver_answers.specs.declared.fields.Behind.TheVariants.{Fields, Lines}
+use Rattle.semver_answers.proofs.Firsts.{some_field_ahead}
 
--- nothing, or some fields
-pub only : (texts field : List ℕ) (rest : Option (Bor (List ℕ))) → fields texts ≡ field ∷ behind rest → rest ≡ None → fields texts ≡ field ∷ []
-only texts field rest e none = rw none at e
+-- the line ends there, or goes on with more fields
+pub single : (texts field : List ℕ) (behind : Behind) (next : Bor (List ℕ)) → Cuts texts field behind → behind ≡ Lines next
+    → fields_ahead texts ≡ field ∷ []
+single texts field behind next c e = rw e at c.first
 
-pub onward : (texts field : List ℕ) (rest : Option (Bor (List ℕ))) (next : Bor (List ℕ)) → fields texts ≡ field ∷ behind rest → rest ≡ Some next
-    → fields texts ≡ field ∷ fields next.now
-onward texts field rest next e some = rw some at e
+pub onward : (texts field : List ℕ) (behind : Behind) (rest : Bor (List ℕ)) → Cuts texts field behind → behind ≡ Fields rest
+    → fields_ahead texts ≡ field ∷ fields_ahead rest.now
+onward texts field behind rest c e = rw e at c.first
 
-pub nothing : (rest : Option (Bor (List ℕ))) → is_some rest ≡ false → behind rest ≡ []
-nothing None h = refl
-nothing (Some rest) h = cc h
+pub several : (texts field : List ℕ) (behind : Behind) (rest : Bor (List ℕ)) → Cuts texts field behind → behind ≡ Fields rest
+    → 1 < length (fields_ahead texts)
+several texts field behind rest c e = omega (arith, ap length (onward texts field behind rest c e), some_field_ahead rest.now)
 
-pub something : (rest : Option (Bor (List ℕ))) → is_some rest ≡ true → 0 < length (behind rest)
-something None h = cc h
-something (Some rest) h = some_field rest.now
+-- the text behind the line
+pub next_line : (texts field : List ℕ) (behind : Behind) (next : Bor (List ℕ)) → Cuts texts field behind → behind ≡ Lines next → IsNext texts next
+next_line texts field behind next c e = (sym (rw e at c.next), rw e at c.goes_on)
 
-pub single : (texts field : List ℕ) (rest : Option (Bor (List ℕ))) → fields texts ≡ field ∷ behind rest → is_some rest ≡ false
-    → fields texts ≡ field ∷ []
-single texts field rest e none = e ∙ ap (λ l. field ∷ l) (nothing rest none)
-
-pub several : (texts field : List ℕ) (rest : Option (Bor (List ℕ))) → fields texts ≡ field ∷ behind rest → is_some rest ≡ true
-    → 1 < length (fields texts)
-several texts field rest e some = omega (arith, ap length e, something rest some)
+pub line_behind : (texts field : List ℕ) (behind : Behind) (rest next : Bor (List ℕ)) → Cuts texts field behind → behind ≡ Fields rest
+    → IsNext rest.now next → IsNext texts next
+line_behind texts field behind rest next c e n = (n.0 ∙ sym (rw e at c.next), n.1)
 
 -- two fields, and what stands behind them
-pub second : (texts field other : List ℕ) (rest : Option (Bor (List ℕ))) (next : Bor (List ℕ)) (last : Option (Bor (List ℕ)))
-    → fields texts ≡ field ∷ behind rest → rest ≡ Some next → fields next.now ≡ other ∷ behind last
-    → fields texts ≡ field ∷ other ∷ behind last
-second texts field other rest next last e some f = onward texts field rest next e some ∙ ap (λ l. field ∷ l) f
+pub pair : (texts field other : List ℕ) (behind last : Behind) (rest next : Bor (List ℕ)) → Cuts texts field behind → behind ≡ Fields rest
+    → Cuts rest.now other last → last ≡ Lines next → fields_ahead texts ≡ field ∷ other ∷ []
+pair texts field other behind last rest next c e d f = onward texts field behind rest c e ∙ ap (λ l. field ∷ l) (single rest.now other last next d f)
 
-pub pair : (texts field other : List ℕ) (last : Option (Bor (List ℕ))) → fields texts ≡ field ∷ other ∷ behind last
-    → is_some last ≡ false → fields texts ≡ field ∷ other ∷ []
-pair texts field other last e none = e ∙ ap (λ l. field ∷ other ∷ l) (nothing last none)
+pub three : (texts field other : List ℕ) (behind last : Behind) (rest next : Bor (List ℕ)) → Cuts texts field behind → behind ≡ Fields rest
+    → Cuts rest.now other last → last ≡ Fields next → fields_ahead texts ≡ field ∷ other ∷ fields_ahead next.now
+three texts field other behind last rest next c e d f = onward texts field behind rest c e ∙ ap (λ l. field ∷ l) (onward rest.now other last next d f)
 
-pub one_is_not_two : (texts field : List ℕ) → fields texts ≡ field ∷ [] → length (fields texts) ≢ 2
+pub one_is_not_two : (texts field : List ℕ) → fields_ahead texts ≡ field ∷ [] → length (fields_ahead texts) ≢ 2
 one_is_not_two texts field e = λ two. omega (arith, ap length e, two)
 
-pub more_than_two : (texts field other : List ℕ) (last : Option (Bor (List ℕ))) → fields texts ≡ field ∷ other ∷ behind last
-    → is_some last ≡ true → length (fields texts) ≢ 2
-more_than_two texts field other last e some = λ two. omega (arith, ap length e, something last some, two)
+pub three_is_not_two : (texts field other next : List ℕ) → fields_ahead texts ≡ field ∷ other ∷ fields_ahead next
+    → length (fields_ahead texts) ≢ 2
+three_is_not_two texts field other next e = λ two. omega (arith, ap length e, some_field_ahead next, two)

@@ -1,17 +1,16 @@
--- The first `;` of a text, and the first line feed of an input.
-use Rattle.std.proofs.Common.{◌≡◌, ◌==◌, ◌<◌, ◌+◌, ◌∙◌, ◌++◌, ◌∷◌, ℕ, suc, true, false, not, List, [], Option, Some}
-use Rattle.std.proofs.Common.{None, IfSome, IfNone, length, take, drop, get_or, refl, ap, arith}
-use Rattle.memchr.specs.Find.{IsFirstByte, is_byte}
-use Rattle.std.proofs.Math.Seq.{get_or-append_seam, split_at}
-use Rattle.std.proofs.Common.{◌≤◌, inl, inr}
-use Rattle.std.proofs.Math.Seq.{drop-cons}
-use Rattle.std.proofs.lemmas.Bool.{cases_Bool, eqb-true, false_from_ne_true}
-use Rattle.std.proofs.lemmas.List.{get_or-take, length-append, length-take-le, take_all}
-use Rattle.std.proofs.lemmas.List.Elements.{All-from_get_or}
+-- The first field and the first line of a text, and what stands behind them.
+use Rattle.std.proofs.Common.{◌≡◌, ◌==◌, ◌<◌, ◌≤◌, ◌+◌, ◌∙◌, ◌++◌, ◌∷◌, ◌&&◌, ◌||◌, ℕ, Bool, suc, true, false, not, List, [], Some}
+use Rattle.std.proofs.Common.{None, append-nil, length, take, drop, get_or, refl, sym, ap, arith, inl, inr}
+use Rattle.memchr.specs.Find.{IsFirstByte, is_byte, is_byte2}
+use Rattle.std.proofs.Math.Seq.{get_or-append_seam, split_at, take-append_seam}
+use Rattle.std.proofs.lemmas.Bool.{cases_Bool, cases_lt, eqb-true, false_from_ne_true, false≢true}
+use Rattle.std.proofs.lemmas.List.{get_or-take, length-append, length-take-le, take-append-drop, take_all, take-append-le, take_more}
+use Rattle.std.proofs.lemmas.List.Elements.{All-from_get_or, All-head, All-tail}
+use Rattle.std.proofs.lemmas.List.Folds.{list_all-append}
 use Rattle.std.proofs.lemmas.List.Splits.{length-slice_split, slice_split_at, slice_split_none}
 use Rattle.std.proofs.lemmas.List.Sums.{AllPass-from_list_all, list_all-from_AllPass}
-use Rattle.std.proofs.lemmas.Str.{IsCharBoundary-after_ascii}
-use Rattle.std.specs.List.{All}
+use Rattle.std.proofs.lemmas.Str.{IsCharBoundary-after_ascii, IsCharBoundary-before_ascii, IsUtf8-append, IsUtf8-take}
+use Rattle.std.specs.List.{All, list_all}
 use Rattle.std.specs.Prelude.{IsCharBoundary, IsUtf8}
 use Rattle.semver_core.proofs.Text.Fronts.{common_plain}
 use Rattle.semver_core.specs.Internal.CommonReading.{is_plain}
@@ -19,41 +18,183 @@ use Rattle.semver_core.specs.Text.Common.{IsCommon}
 use Rattle.semver_core.specs.Text.Parsing.{Parses}
 use Rattle.semver_core.specs.Values.Versions.{VersionValue}
 use Rattle.semver_core.specs.declared.TheConstants.{MAX_LENGTH, MAX_SAFE_INTEGER}
-use Rattle.semver_answers.specs.Internal.Results.{ends_field}
+use Rattle.std.specs.Borrow.{Bor}
+use Rattle.semver_answers.specs.declared.fields.Behind.TheVariants.{Fields, Lines}
+use Rattle.semver_answers.specs.Internal.Ahead.{Cuts, HasFeed, behind_line, ends_whole, fields_ahead, first_line}
 use Rattle.semver_answers.specs.Lines.{fields, no_feed}
 
+abbrev is_feed : ℕ → Bool
+is_feed b = b == 10
+
+fails : (b : Bool) → not b ≡ true → b ≡ false
+fails true h = absurd (false≢true h)
+fails false h = refl
+
 -- a byte that is not found stands nowhere
-nowhere : (b : ℕ) (text : List ℕ) → IsFirstByte (is_byte b) text None → All (λ x. (x == b) ≡ false) text
-nowhere b text h = All-from_get_or (λ x. (x == b) ≡ false) text 0 (λ i k. false_from_ne_true _ (h i (omega arith) k))
+nowhere : (p : ℕ → Bool) (text : List ℕ) → IsFirstByte p text None → All (λ x. p x ≡ false) text
+nowhere p text h = All-from_get_or (λ x. p x ≡ false) text 0 (λ i k. false_from_ne_true _ (h i (omega arith) k))
+
+-- a text is cut at a place
+pub cut_at : (text : List ℕ) (n : ℕ) → n < length text → text ≡ take n text ++ get_or text n 0 ∷ drop (n + 1) text
+cut_at text n inside =
+    let next : suc n ≡ n + 1 = omega arith in
+    let split = split_at text n 0 inside in
+    rw next at split
 
 -- a byte that is found stands there, and nowhere before it
-found_at : (b : ℕ) (text : List ℕ) (at : ℕ) → IsFirstByte (is_byte b) text (Some at)
-    → (text ≡ take at text ++ b ∷ drop (at + 1) text) × All (λ x. (x == b) ≡ false) (take at text)
-found_at b text n h =
-    let next : suc n ≡ n + 1 = omega arith in
-    let split = split_at text n 0 h.0.high in
-    let before = All-from_get_or (λ x. (x == b) ≡ false) (take n text) 0 (λ i lt.
+pub nowhere_before : (p : ℕ → Bool) (text : List ℕ) (n : ℕ) → IsFirstByte p text (Some n) → All (λ x. p x ≡ false) (take n text)
+nowhere_before p text n h = All-from_get_or (λ x. p x ≡ false) (take n text) 0 (λ i lt.
     let here : i < n = omega (arith, length-take-le n text (omega (arith, h.0.high))) in
-    ap (λ x. x == b) (get_or-take n text i 0 here) ∙ false_from_ne_true _ (h.0.before i (omega arith) here)) in
-    (rw (eqb-true (get_or text n 0) b h.1, next) at split, before)
+    ap p (get_or-take n text i 0 here) ∙ false_from_ne_true _ (h.0.before i (omega arith) here))
+
+pub all_fail : (p : ℕ → Bool) (text : List ℕ) → list_all (λ b. not (p b)) text ≡ true → All (λ b. p b ≡ false) text
+all_fail p text h =
+    let each = AllPass-from_list_all (λ b. not (p b)) text h in
+    All-from_get_or (λ b. p b ≡ false) text 0 (λ i inside. fails (p (get_or text i 0)) (each i 0 inside))
+
+no_feed_by : (text : List ℕ) → All (λ b. (b == 10) ≡ false) text → no_feed text ≡ true
+no_feed_by text h = list_all-from_AllPass (λ b. not (b == 10)) text (λ k d inside. ap not (h k d inside))
+
+-- without a byte that is found there is no line feed
+pub none_found : (text : List ℕ) → IsFirstByte (is_byte 10) text None → no_feed text ≡ true
+none_found text h = no_feed_by text (nowhere (is_byte 10) text h)
+
+-- a byte that is no mark of a field
+plain_both : (b : ℕ) → is_byte2 59 10 b ≡ false → ((b == 59) ≡ false) × ((b == 10) ≡ false)
+plain_both b h = elim (cases_Bool (b == 59)) [
+  | inl mark ↦ absurd (false≢true (sym h ∙ ap (λ x. x || (b == 10)) mark))
+  | inr other ↦ (other, sym (ap (λ x. x || (b == 10)) other) ∙ h)
+]
+
+no_semicolon : (text : List ℕ) → All (λ b. is_byte2 59 10 b ≡ false) text → All (λ b. (b == 59) ≡ false) text
+no_semicolon text h k d inside = (plain_both _ (h k d inside)).0
+
+no_line_feed : (text : List ℕ) → All (λ b. is_byte2 59 10 b ≡ false) text → All (λ b. (b == 10) ≡ false) text
+no_line_feed text h k d inside = (plain_both _ (h k d inside)).1
+
+pub none_of_both : (text : List ℕ) → IsFirstByte (is_byte2 59 10) text None → no_feed text ≡ true
+none_of_both text h = no_feed_by text (no_line_feed text (nowhere (is_byte2 59 10) text h))
+
+-- ---- the first line
+
+-- a beginning without a line feed belongs to it
+ahead : (xs ys : List ℕ) → All (λ b. (b == 10) ≡ false) xs → (first_line (xs ++ ys) ≡ xs ++ first_line ys) × (behind_line (xs ++ ys) ≡ behind_line ys)
+ahead [] ys h = (refl, refl)
+ahead (x ∷ xs) ys h =
+    let here : (x == 10) ≡ false = All-head (λ b. (b == 10) ≡ false) x xs h in
+    let rest = ahead xs ys (All-tail (λ b. (b == 10) ≡ false) x xs h) in
+    (rw here (ap (λ l. x ∷ l) rest.0), rw here rest.1)
+
+-- a line feed ends it
+pub line_ends : (line rest : List ℕ) → All (λ b. (b == 10) ≡ false) line → (first_line (line ++ 10 ∷ rest) ≡ line) × (behind_line (line ++ 10 ∷ rest) ≡ rest)
+line_ends line rest h =
+    let a = ahead line (10 ∷ rest) h in
+    (a.0 ∙ append-nil line, a.1)
+
+-- the line that a line feed ends which is found
+pub line_cut : (text : List ℕ) (n : ℕ) → IsFirstByte (is_byte 10) text (Some n) → (first_line text ≡ take n text) × (behind_line text ≡ drop (n + 1) text)
+line_cut text n h =
+    let split = cut_at text n h.0.high in
+    let l = line_ends (take n text) (drop (n + 1) text) (nowhere_before (is_byte 10) text n h) in
+    let whole = rw (eqb-true (get_or text n 0) 10 h.1) at split in
+    (ap first_line whole ∙ l.0, ap behind_line whole ∙ l.1)
+
+feed_in : (xs ys : List ℕ) → All (λ b. (b == 10) ≡ false) xs → no_feed (xs ++ ys) ≡ no_feed ys
+feed_in xs ys h = list_all-append (λ b. not (b == 10)) xs ys ∙ ap (λ b. b && no_feed ys) (no_feed_by xs h)
+
+-- the same line with its line feed alone
+pub line_alone : (text : List ℕ) (n : ℕ) → IsFirstByte (is_byte 10) text (Some n) → (behind_line (take (n + 1) text) ≡ []) × HasFeed (take (n + 1) text)
+line_alone text n h =
+    let plain = nowhere_before (is_byte 10) text n h in
+    let whole : take (n + 1) text ≡ take n text ++ 10 ∷ [] = rw (take_more text n 0 h.0.high, eqb-true (get_or text n 0) 10 h.1) refl in
+    (ap behind_line whole ∙ (line_ends (take n text) [] plain).1, ap no_feed whole ∙ feed_in (take n text) (10 ∷ []) plain)
+
+-- a line that goes on
+pub longer : (begun end : List ℕ) → no_feed begun ≡ true → (first_line (begun ++ end) ≡ begun ++ first_line end) × (behind_line (begun ++ end) ≡ behind_line end)
+longer begun end h = ahead begun end (all_fail is_feed begun h)
+
+-- a text with a line feed is its first line, the line feed, and what stands behind it
+pub divided : (text : List ℕ) → HasFeed text → (text ≡ first_line text ++ 10 ∷ behind_line text) × (no_feed (first_line text) ≡ true)
+divided [] h = absurd (false≢true (sym h))
+divided (x ∷ xs) h = elim (cases_Bool (x == 10)) [
+  | inl feed ↦ rw (eqb-true x 10 feed) (refl, refl)
+  | inr other ↦
+      let more = divided xs (rw other at h) in
+      (rw other (ap (λ l. x ∷ l) more.0), rw other (rw other more.1))
+]
+
+-- and so its first line is a text
+pub line_utf8 : (text : List ℕ) → HasFeed text → IsUtf8 text → IsUtf8 (first_line text)
+line_utf8 text feed utf8 =
+    let split = (divided text feed).0 in
+    let line = first_line text in
+    let inside : length line < length text = omega (arith, ap length split, length-append line (10 ∷ behind_line text)) in
+    let mark : get_or text (length line) 0 ≡ 10 = ap (λ l. get_or l (length line) 0) split ∙ get_or-append_seam line 10 (behind_line text) 0 in
+    let cut = IsUtf8-take text (length line) utf8 (IsCharBoundary-before_ascii text (length line) inside (omega (arith, mark))) in
+    rw (ap (take (length line)) split ∙ take-append_seam line (10 ∷ behind_line text)) at cut
+
+pub whole_utf8 : (text : List ℕ) → HasFeed text → behind_line text ≡ [] → IsUtf8 (first_line text) → IsUtf8 text
+unfolding lib.Utf8.encode
+whole_utf8 text feed last utf8 =
+    let split = rw last at (divided text feed).0 in
+    rw split (IsUtf8-append (first_line text) (10 ∷ []) utf8 (10 ∷ [], (refl, refl)))
+
+-- ---- the first field
+
+-- a `;` ends it, and the next one goes on behind that
+pub field_ends : (text field rest : List ℕ) → text ≡ field ++ 59 ∷ rest → All (λ b. is_byte2 59 10 b ≡ false) field
+    → (fields_ahead text ≡ field ∷ fields_ahead rest) × (behind_line text ≡ behind_line rest) × (no_feed text ≡ no_feed rest)
+field_ends text field rest e plain =
+    let feedless = no_line_feed field plain in
+    let a = ahead field (59 ∷ rest) feedless in (
+      ap (λ l. fields (first_line l)) e ∙ ap fields a.0 ∙ slice_split_at (λ b. b == 59) field 59 (first_line rest) (no_semicolon field plain) refl,
+      ap behind_line e ∙ a.1,
+      ap no_feed e ∙ feed_in field (59 ∷ rest) feedless,
+    )
+
+-- a line feed ends it and the line
+pub last_field : (text field rest : List ℕ) → text ≡ field ++ 10 ∷ rest → All (λ b. is_byte2 59 10 b ≡ false) field
+    → (fields_ahead text ≡ field ∷ []) × (behind_line text ≡ rest)
+last_field text field rest e plain =
+    let l = line_ends field rest (no_line_feed field plain) in (
+      ap (λ l. fields (first_line l)) e ∙ ap fields l.0 ∙ slice_split_none (λ b. b == 59) field (no_semicolon field plain),
+      ap behind_line e ∙ l.1,
+    )
+
+-- what is cut at a place
+pub cuts_field : (text : List ℕ) (end : ℕ) (rest : Bor (List ℕ)) → end < length text → get_or text end 0 ≡ 59
+    → All (λ b. is_byte2 59 10 b ≡ false) (take end text) → HasFeed text → rest.now ≡ drop (end + 1) text → IsUtf8 rest.now
+    → Cuts text (take end text) (Fields rest)
+cuts_field text end rest inside mark plain feed e utf8 =
+    let split = cut_at text end inside in
+    let f = field_ends text (take end text) (drop (end + 1) text) (rw mark at split) plain in
+    record {
+      first = f.0 ∙ ap (λ l. take end text ∷ fields_ahead l) (sym e);
+      next = f.1 ∙ ap behind_line (sym e);
+      goes_on = (ap no_feed e ∙ sym f.2 ∙ feed, utf8);
+    }
+
+pub cuts_line : (text : List ℕ) (end : ℕ) (rest : Bor (List ℕ)) → end < length text → get_or text end 0 ≡ 10
+    → All (λ b. is_byte2 59 10 b ≡ false) (take end text) → rest.now ≡ drop (end + 1) text → IsUtf8 rest.now
+    → Cuts text (take end text) (Lines rest)
+cuts_line text end rest inside mark plain e utf8 =
+    let split = cut_at text end inside in
+    let f = last_field text (take end text) (drop (end + 1) text) (rw mark at split) plain in
+    record { first = f.0; next = f.1 ∙ sym e; goes_on = utf8 }
 
 -- a text has one field or more
 pub some_field : (text : List ℕ) → 0 < length (fields text)
 some_field text = omega (arith, length-slice_split (λ b. b == 59) text)
 
--- a text with no `;` is one field
-pub one_field : (text : List ℕ) → IsFirstByte (is_byte 59) text None → fields text ≡ text ∷ []
-one_field text h = slice_split_none (λ b. b == 59) text (nowhere 59 text h)
+pub some_field_ahead : (text : List ℕ) → 0 < length (fields_ahead text)
+some_field_ahead text = some_field (first_line text)
 
--- the first field ends before the first `;`
-pub first_field : (text : List ℕ) (at : ℕ) → IsFirstByte (is_byte 59) text (Some at) → fields text ≡ take at text ∷ fields (drop (at + 1) text)
-first_field text at h =
-    let found = found_at 59 text at h in
-    ap fields found.0 ∙ slice_split_at (λ b. b == 59) (take at text) 59 (drop (at + 1) text) found.1 refl
+-- a text may be cut behind an ASCII character
+pub low_boundary : (text : List ℕ) (n b : ℕ) → IsUtf8 text → n < length text → get_or text n 0 ≡ b → b < 128 → IsCharBoundary text (n + 1)
+low_boundary text n b utf8 inside e low = IsCharBoundary-after_ascii text n utf8 inside (omega (arith, e, low))
 
--- a text may be cut behind its first `;`
-pub mark_boundary : (text : List ℕ) (n : ℕ) → IsUtf8 text → IsFirstByte (is_byte 59) text (Some n) → IsCharBoundary text (n + 1)
-mark_boundary text n utf8 h = IsCharBoundary-after_ascii text n utf8 h.0.high (omega (arith, eqb-true (get_or text n 0) 59 h.1))
+pub feed_boundary : (text : List ℕ) (n : ℕ) → IsUtf8 text → n < length text → is_byte 10 (get_or text n 0) ≡ true → IsCharBoundary text (n + 1)
+feed_boundary text n utf8 inside h = IsCharBoundary-after_ascii text n utf8 inside (omega (arith, eqb-true (get_or text n 0) 10 h))
 
 -- and behind an ASCII character that follows a word
 pub behind_mark : (text word rest : List ℕ) (b end : ℕ) → IsUtf8 text → text ≡ word ++ b ∷ rest → b < 128 → end ≡ length word + 1
@@ -63,53 +204,89 @@ behind_mark text word rest b end utf8 split low e =
     let inside : length word < length text = omega (arith, ap length split, length-append word (b ∷ rest)) in
     rw e (IsCharBoundary-after_ascii text (length word) utf8 inside (omega (arith, mark, low)))
 
-no_feed_by : (text : List ℕ) → All (λ b. (b == 10) ≡ false) text → no_feed text ≡ true
-no_feed_by text h = list_all-from_AllPass (λ b. not (b == 10)) text (λ k d inside. ap not (h k d inside))
-
--- what a search for the first line feed says
-pub found_feed : (text : List ℕ) (r : Option ℕ) → IsFirstByte (is_byte 10) text r → IfSome r (λ n. n < length text)
-    × IfSome r (λ n. text ≡ take n text ++ 10 ∷ drop (n + 1) text) × IfSome r (λ n. no_feed (take n text) ≡ true)
-    × IfSome r (λ n. get_or text n 0 ≡ 10) × IfNone r (no_feed text ≡ true)
-found_feed text None h = (tt, tt, tt, tt, no_feed_by text (nowhere 10 text h))
-found_feed text (Some at) h =
-    let found = found_at 10 text at h in
-    (h.0.high, found.0, no_feed_by (take at text) found.1, eqb-true (get_or text at 0) 10 h.1, tt)
-
--- a field that ends at a place, without `;` before it: at the end of the text, or at a `;`
-pub last_field : (text : List ℕ) (end : ℕ) → length text ≤ end → All (λ b. (b == 59) ≡ false) (take end text) → fields text ≡ take end text ∷ []
-last_field text end le plain =
-    let all : take end text ≡ text = take_all end text le in
-    rw all (slice_split_none (λ b. b == 59) text (rw all at plain))
-
-pub mark_at : (text : List ℕ) (end : ℕ) → end < length text → ends_field (drop end text) ≡ true → get_or text end 0 ≡ 59
-mark_at text end inside ends = eqb-true (get_or text end 0) 59 (rw (drop-cons text end 0 inside) at ends)
-
-pub field_then : (text : List ℕ) (end : ℕ) → end < length text → ends_field (drop end text) ≡ true
-    → All (λ b. (b == 59) ≡ false) (take end text) → fields text ≡ take end text ∷ fields (drop (end + 1) text)
-field_then text end inside ends plain =
-    let next : suc end ≡ end + 1 = omega arith in
-    let split = split_at text end 0 inside in
-    ap fields (rw (mark_at text end inside ends, next) at split)
-    ∙ slice_split_at (λ b. b == 59) (take end text) 59 (drop (end + 1) text) plain refl
-
-pub behind_field : (text : List ℕ) (end : ℕ) → IsUtf8 text → end < length text → ends_field (drop end text) ≡ true → IsCharBoundary text (end + 1)
-behind_field text end utf8 inside ends =
-    IsCharBoundary-after_ascii text end utf8 inside (omega (arith, mark_at text end inside ends))
-
--- a common version text has no `;`
-no_mark : (c : ℕ) → is_plain c ≡ true → (c == 59) ≡ false
+-- a common version text has no mark
+no_mark : (c : ℕ) → is_plain c ≡ true → is_byte2 59 10 c ≡ false
 no_mark c h = elim (cases_Bool (c == 59)) [
-  | inr other ↦ other
   | inl mark ↦ cc (rw (eqb-true c 59 mark) at h)
+  | inr other ↦ rw other (elim (cases_Bool (c == 10)) [
+    | inl feed ↦ cc (rw (eqb-true c 10 feed) at h)
+    | inr neither ↦ neither
+  ])
 ]
 
-pub no_marks : (limit : ℕ) (text : List ℕ) (v : VersionValue) → IsCommon limit text v → All (λ b. (b == 59) ≡ false) text
+pub no_marks : (limit : ℕ) (text : List ℕ) (v : VersionValue) → IsCommon limit text v → All (λ b. is_byte2 59 10 b ≡ false) text
 no_marks limit text v h =
     let each = AllPass-from_list_all is_plain text (common_plain limit text v h) in
-    All-from_get_or (λ b. (b == 59) ≡ false) text 0 (λ i inside. no_mark (get_or text i 0) (each i 0 inside))
+    All-from_get_or (λ b. is_byte2 59 10 b ≡ false) text 0 (λ i inside. no_mark (get_or text i 0) (each i 0 inside))
 
 -- the version of a field that was read up to its end
 pub parsed_front : (text : List ℕ) (v : VersionValue) (end : ℕ) → end ≤ MAX_LENGTH → end ≤ length text
     → IsCommon MAX_SAFE_INTEGER (take end text) v → Parses MAX_SAFE_INTEGER (take end text) v
 parsed_front text v end short inside h =
     record { short = omega (arith, length-take-le end text inside); reads = h.0 }
+
+-- a version at the front of some lines ends before their end
+pub version_inside : (text : List ℕ) (end : ℕ) → HasFeed text → All (λ b. is_byte2 59 10 b ≡ false) (take end text) → end < length text
+version_inside text end feed plain = elim (cases_lt end (length text)) [
+  | inl inside ↦ inside
+  | inr over ↦ absurd (false≢true (sym feed ∙ no_feed_by text (no_line_feed text (rw (take_all end text over) at plain))))
+]
+
+-- ---- whole lines
+
+pub ends_none : ends_whole [] ≡ true
+unfolding ends_whole
+ends_none = refl
+
+ends_last : (xs : List ℕ) → ends_whole (xs ++ 10 ∷ []) ≡ true
+unfolding ends_whole
+ends_last [] = refl
+ends_last (x ∷ []) = refl
+ends_last (x ∷ y ∷ xs) = ends_last (y ∷ xs)
+
+pub ends_cut : (text : List ℕ) (n : ℕ) → n < length text → is_byte 10 (get_or text n 0) ≡ true → ends_whole (take (n + 1) text) ≡ true
+ends_cut text n inside feed = rw (take_more text n 0 inside, eqb-true (get_or text n 0) 10 feed) (ends_last (take n text))
+
+behind_part : (xs : List ℕ) (y : ℕ) (ys : List ℕ) → ends_whole (xs ++ y ∷ ys) ≡ true → ends_whole (y ∷ ys) ≡ true
+unfolding ends_whole
+behind_part [] y ys h = h
+behind_part (x ∷ []) y ys h = h
+behind_part (x ∷ x' ∷ xs) y ys h = behind_part (x' ∷ xs) y ys h
+
+behind_one : (y : ℕ) (ys : List ℕ) → ends_whole (y ∷ ys) ≡ true → ends_whole ys ≡ true
+unfolding ends_whole
+behind_one y [] h = refl
+behind_one y (z ∷ ys) h = h
+
+never : (a b : Bool) → b ≡ false → (a && b) ≡ false
+never true b h = h
+never false b h = refl
+
+-- some whole lines have a line feed, and behind the first of them there are whole lines again
+pub whole_feed : (c : ℕ) (rest : List ℕ) → ends_whole (c ∷ rest) ≡ true → HasFeed (c ∷ rest)
+unfolding ends_whole
+whole_feed c [] h = rw h refl
+whole_feed c (d ∷ rest) h = never (not (c == 10)) (no_feed (d ∷ rest)) (whole_feed d rest h)
+
+pub whole_has : (text : List ℕ) → ends_whole text ≡ true → 0 < length text → HasFeed text
+whole_has [] h some = absurd (omega (arith, some))
+whole_has (c ∷ rest) h some = whole_feed c rest h
+
+pub nothing_in : (text : List ℕ) → length text ≡ 0 → text ≡ []
+nothing_in [] h = refl
+nothing_in (c ∷ rest) h = absurd (omega (arith, h))
+
+-- and it is shorter
+pub behind_shorter : (text : List ℕ) → HasFeed text → length (behind_line text) < length text
+behind_shorter text feed =
+    omega (arith, ap length (divided text feed).0, length-append (first_line text) (10 ∷ behind_line text))
+
+-- bytes whose front is a text are cut where that is cut
+pub front_cut : (bytes text rest : List ℕ) (n : ℕ) → bytes ≡ text ++ rest → n ≤ length text → bytes ≡ take n text ++ drop n bytes
+front_cut bytes text rest n e le =
+    sym (take-append-drop n bytes) ∙ ap (λ l. l ++ drop n bytes) (ap (take n) e ∙ take-append-le n text rest le)
+
+pub whole_next : (text : List ℕ) → HasFeed text → ends_whole text ≡ true → ends_whole (behind_line text) ≡ true
+whole_next text feed h =
+    let split = (divided text feed).0 in
+    behind_one 10 (behind_line text) (behind_part (first_line text) 10 (behind_line text) (rw split at h))

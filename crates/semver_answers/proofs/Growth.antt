@@ -1,16 +1,13 @@
--- What is appended to the output, and the text of an intersection or a difference, part by part.
+-- The text of an intersection or a difference, part by part.
 use Rattle.std.proofs.Common.{◌≡◌, ◌<◌, ◌+◌, ◌∙◌, ◌++◌, ◌∷◌, ℕ, Bool, true, false, ◌&&◌, ◌||◌, List, [], Option, Some, None, length}
-use Rattle.std.proofs.Common.{append-nil, append_assoc, refl, sym, ap, ap₂, arith, if◌then◌else◌, take, drop, codes, Result, Ok, Err, IsErrAnd, OnOk, is_ok}
+use Rattle.std.proofs.Common.{append-nil, append_assoc, refl, sym, ap, ap₂, arith, if◌then◌else◌, take, drop, codes}
 use Rattle.std.proofs.Common.{length-drop, take-append-drop}
 use Rattle.std.proofs.lemmas.Bool.{false≢true}
 use Rattle.std.proofs.lemmas.Grind.{flat_map-append}
 use Rattle.std.proofs.lemmas.List.{drop-take, length-take, take-take}
 use Rattle.std.proofs.lemmas.List.Folds.{list_all-append}
-use Rattle.std.proofs.lemmas.Str.{IsCharBoundary-at_seam, IsUtf8-append}
 use Rattle.std.specs.List.{flat_map, join_by, list_all}
 use Rattle.std.specs.Option.{is_some}
-use Rattle.std.specs.Prelude.{IsCharBoundary, IsUtf8, ⊤}
-use Rattle.std.specs.declared.alloc.AllocError.{AllocError}
 use Rattle.semver_core.specs.Cuts.{Span}
 use Rattle.semver_core.specs.Lists.{if_any}
 use Rattle.semver_core.specs.Values.Order.{precedence}
@@ -19,50 +16,14 @@ use Rattle.nodejs_semver.specs.Internal.Sets.{is_range_span, minus}
 use Rattle.nodejs_semver.specs.Internal.Shorthands.{remainder}
 use Rattle.nodejs_semver.specs.Printing.Text.{bounds_text, range_text}
 use Rattle.nodejs_semver.specs.Ranges.View.{IsRange}
+use Rattle.semver_answers.specs.Lines.{ended}
 use Rattle.semver_answers.specs.Names.{or_none}
-use Rattle.semver_answers.specs.Internal.Parts.{Extends, Grows, combined, made_of, text_behind}
+use Rattle.semver_answers.specs.Internal.Parts.{combined, made_of, text_behind}
 use Rattle.semver_answers.specs.declared.parts.Combination.{Combination}
 use Rattle.semver_answers.specs.declared.parts.Combination.TheVariants.{Intersection, Difference}
 
--- nothing is appended, or a text, or one and then another
-pub unchanged : (output : List ℕ) (Said : List ℕ → Type 0) → Said [] → Grows output output Said
-unchanged output Said said = record { begun = []; grown = sym (append-nil output); utf8 = ([], (refl, refl)); said = said }
-
-pub kept : (old new : List ℕ) (Said : List ℕ → Type 0) → new ≡ old → Said [] → Grows old new Said
-kept old new Said e said = rw e (unchanged old Said said)
-
-pub pushed : (old new text : List ℕ) (Said : List ℕ → Type 0) → new ≡ old ++ text → IsUtf8 text → Said text → Grows old new Said
-pushed old new text Said e utf8 said = record { begun = text; grown = e; utf8 = utf8; said = said }
-
-pub grows_weaker : {old new : List ℕ} (P Q : List ℕ → Type 0) → ((begun : List ℕ) → P begun → Q begun) → Grows old new P → Grows old new Q
-grows_weaker P Q f g = record { begun = g.begun; grown = g.grown; utf8 = g.utf8; said = f g.begun g.said }
-
-pub grows_on : {old mid new : List ℕ} (P Q R : List ℕ → Type 0) → ((b e : List ℕ) → P b → Q e → R (b ++ e)) → Grows old mid P
-    → Grows mid new Q → Grows old new R
-grows_on {old} P Q R f g h = record {
-  begun = g.begun ++ h.begun;
-  grown = h.grown ∙ ap (λ l. l ++ h.begun) g.grown ∙ append_assoc old g.begun h.begun;
-  utf8 = IsUtf8-append g.begun h.begun g.utf8 h.utf8;
-  said = f g.begun h.begun g.said h.said;
-}
-
--- a text is appended, or an allocation failed
-pub pushed_or : (result : Result ⊤ AllocError) (old new text : List ℕ) → new ≡ (if is_ok result then old ++ text else old)
-    → IsUtf8 text → Grows old new (λ begun. OnOk result (begun ≡ text))
-pushed_or (Ok done) old new text e utf8 = pushed old new text _ e utf8 refl
-pushed_or (Err error) old new text e utf8 = kept old new _ e tt
-
--- of a failure nothing is said
-pub not_ok : {A E : Type 0} (P : Type 0) (Q : E → Type 0) (result : Result A E) → IsErrAnd result Q → OnOk result P
-not_ok P Q (Ok value) h = absurd h
-not_ok P Q (Err error) h = tt
-
--- what was appended can be cut off
-pub seam : (old new : List ℕ) (n : ℕ) → n ≡ length old → Extends old new → IsCharBoundary new n
-seam old new n e g = rw e (IsCharBoundary-at_seam new old g.begun g.grown g.utf8)
-
 -- a test that all of a list pass, all of its parts pass
-and_parts : (a b : Bool) → (a && b) ≡ true → (a ≡ true) × (b ≡ true)
+pub and_parts : (a b : Bool) → (a && b) ≡ true → (a ≡ true) × (b ≡ true)
 and_parts true b h = (refl, h)
 and_parts false b h = absurd (false≢true h)
 
@@ -141,3 +102,11 @@ pub whole_text : (found : Option (List (Span VersionValue))) (any : Bool) → an
     → text_behind false found ++ (if any then [] else codes "none") ≡ or_none range_text found
 whole_text None any e = rw e refl
 whole_text (Some ss) any e = rw e (append-nil (range_text ss))
+
+-- the text with its line feed
+pub ended_text : (old mid new : List ℕ) (found : Option (List (Span VersionValue))) (any : Bool) → mid ≡ old ++ text_behind false found
+    → any ≡ is_some found → new ≡ mid ++ ended (if any then [] else codes "none") → new ≡ old ++ ended (or_none range_text found)
+ended_text old mid new found any e h k =
+    let rest : List ℕ = if any then [] else codes "none" in
+    k ∙ ap (λ l. l ++ ended rest) e ∙ append_assoc old (text_behind false found) (ended rest)
+    ∙ ap (λ l. old ++ l) (sym (append_assoc (text_behind false found) rest (10 ∷ []))) ∙ ap (λ l. old ++ ended l) (whole_text found any h)

@@ -4,3 +4,4 @@ pub mod Behind
 pub mod Replies
 pub mod Growth
 pub mod Asked
+pub mod Bytes

@@ -1,8 +1,7 @@
 -- What is replied to a question, from what its texts were read as, and the versions of several texts.
 use Rattle.std.proofs.Common.{◌≡◌, ◌∷◌, ◌++◌, ℕ, List, [], Option, None, Result, Ok, Err}
-use Rattle.std.proofs.Common.{IfOk, IsErrAnd, ap, arith, length, length-append, refl, ◌∙◌}
+use Rattle.std.proofs.Common.{IfOk, IsErrAnd, OnErr, OnOk, ap, arith, length, length-append, refl, ◌∙◌}
 use Rattle.std.proofs.Math.Seq.{get_or-append_seam}
-use Rattle.std.specs.Borrow.{Bor}
 use Rattle.std.specs.Result.{IsOkAnd}
 use Rattle.semver_core.specs.Cuts.{Span}
 use Rattle.semver_core.specs.Printing.Text.{version_text}
@@ -11,35 +10,56 @@ use Rattle.semver_core.specs.Values.Versions.{VersionValue}
 use Rattle.semver_core.specs.declared.TheConstants.{MAX_SAFE_INTEGER}
 use Rattle.semver_core.specs.declared.error.Failure.{Failure}
 use Rattle.semver_core.specs.declared.error.Failure.TheVariants.{Refused, Memory}
-use Rattle.std.specs.Prelude.{IsUtf8}
+use Rattle.std.specs.Prelude.{IsUtf8, ⊤}
+use Rattle.std.specs.declared.alloc.AllocError.{AllocError}
 use Rattle.semver_answers.specs.Answers.{IsAnswer, no_question, replied}
-use Rattle.semver_answers.specs.Lines.{fields}
+use Rattle.semver_answers.specs.Internal.Puts.{Extends}
+use Rattle.semver_answers.specs.Lines.{ended, fields}
 use Rattle.semver_answers.specs.Commands.{Asks, BestReply, IsReply, Question}
 use Rattle.semver_answers.specs.Names.{fault_word, or_none}
 use Rattle.semver_answers.specs.Replies.{AreVersionsOf, IsVersionOf, On, SaysFound, fault, read}
-use Rattle.semver_answers.specs.Internal.Results.{AnswersFields, FindsBest, IsBestOf, IsFault, IsTold, answered, unasked}
+use Rattle.semver_answers.specs.Internal.Results.{AnswersFields, FindsBest, IsBestOf, IsFault, IsPut, IsTold, answered, as_told, unasked}
 use Rattle.semver_answers.specs.declared.fault.Fault.{Fault}
 use Rattle.semver_answers.specs.declared.question.AboutBest.{AboutBest}
 use Rattle.semver_answers.specs.declared.question.AboutBest.TheVariants.{Max, Min}
+use Rattle.semver_answers.proofs.Bytes.{as_it_was}
 use Rattle.semver_answers.proofs.Steps.{AllZip-append}
 
 -- a text is none, and a call's error that says so is the reply of its caller
-pub told_fault : {A : Type 0} (Reads : Result A Fault → Type 0) (Reply : A → List ℕ → Type 0) (error : Failure Fault)
-    (r : Result (Bor (List ℕ)) (Failure Fault)) → IsErrAnd r (λ e. e ≡ error) → IsFault error Reads → IsTold r (On Reads Reply)
-told_fault Reads Reply error (Ok text) is h = absurd is
-told_fault Reads Reply (Refused why) (Err e) is h = rw is (fault why h refl)
-told_fault Reads Reply (Memory error) (Err e) is h = rw is tt
+pub told_fault : {A B : Type 0} (Reads : Result A Fault → Type 0) (Reply : A → List ℕ → Type 0) (error : Failure Fault)
+    (r : Result B (Failure Fault)) (output : List ℕ) → IsErrAnd r (λ e. e ≡ error) → IsFault error Reads → IsTold r output output (On Reads Reply)
+told_fault Reads Reply error (Ok value) output is h = absurd is
+told_fault Reads Reply (Refused why) (Err e) output is h = rw is (refl, fault why h refl)
+told_fault Reads Reply (Memory error) (Err e) output is h = rw is (as_it_was output output refl)
 
 -- what is told implies what is weaker
-pub told_weaker : (P Q : List ℕ → Type 0) (result : Result (Bor (List ℕ)) (Failure Fault)) → ((text : List ℕ) → P text → Q text) → IsTold result P → IsTold result Q
-told_weaker P Q (Ok text) f h = f text.now h
-told_weaker P Q (Err (Refused why)) f h = f (fault_word why) h
-told_weaker P Q (Err (Memory error)) f h = tt
+pub told_weaker : {B : Type 0} (P Q : List ℕ → Type 0) (r : Result B (Failure Fault)) (old new : List ℕ) → ((text : List ℕ) → P text → Q text)
+    → IsTold r old new P → IsTold r old new Q
+told_weaker P Q (Ok value) old new f (reply, grown, h) = (reply, grown, f reply h)
+told_weaker P Q (Err (Refused why)) old new f (same, h) = (same, f (fault_word why) h)
+told_weaker P Q (Err (Memory error)) old new f h = h
 
 -- a reply to the question of a line
-pub told_asked : (line : List (List ℕ)) (question : Question) (r : Result (Bor (List ℕ)) (Failure Fault)) → Asks line question
-    → IsTold r (IsReply question) → IsTold r (AnswersFields line)
-told_asked line question r asks is = told_weaker (IsReply question) (AnswersFields line) r (λ text. answered question asks) is
+pub told_asked : {B : Type 0} (line : List (List ℕ)) (question : Question) (r : Result B (Failure Fault)) (old new : List ℕ) → Asks line question
+    → IsTold r old new (IsReply question) → IsTold r old new (AnswersFields line)
+told_asked line question r old new asks is =
+    told_weaker (IsReply question) (AnswersFields line) r old new (λ text. answered question asks) is
+
+-- what was put is a reply
+pub put_says : (r : Result ⊤ AllocError) (old new text : List ℕ) (Reply : List ℕ → Type 0) → OnOk r (new ≡ old ++ ended text)
+    → OnErr r (Extends old new) → Reply text → IsPut r old new Reply
+put_says (Ok done) old new text Reply grown extends said = (text, grown, said)
+put_says (Err error) old new text Reply grown extends said = extends
+
+pub told_put : {B : Type 0} (r : Result B (Failure Fault)) (put : Result ⊤ AllocError) (value : B) (old new : List ℕ) (Reply : List ℕ → Type 0)
+    → r ≡ as_told put value → IsPut put old new Reply → IsTold r old new Reply
+told_put r (Ok done) value old new Reply is h = rw is h
+told_put r (Err error) value old new Reply is h = rw is h
+
+pub told_says : {B : Type 0} (r : Result B (Failure Fault)) (put : Result ⊤ AllocError) (value : B) (old new text : List ℕ) (Reply : List ℕ → Type 0)
+    → r ≡ as_told put value → OnOk put (new ≡ old ++ ended text) → OnErr put (Extends old new) → Reply text → IsTold r old new Reply
+told_says r put value old new text Reply is grown extends said =
+    told_put r put value old new Reply is (put_says put old new text Reply grown extends said)
 
 -- the answer to a line, by its fields
 pub answers_line : (text : List ℕ) (line : List (List ℕ)) (answer : List ℕ) → IsUtf8 text → fields text ≡ line
@@ -48,11 +68,11 @@ answers_line text line answer utf8 e (answered question asks is) = replied quest
 answers_line text line answer utf8 e (unasked none is) = no_question (λ question asks. none question (rw e at asks.1)) is
 
 -- the first of two texts is read, and the second is none
-pub told_second : {A B : Type 0} (First : Result A Fault → Type 0) (Second : Result B Fault → Type 0)
-    (Reply : A → B → List ℕ → Type 0) (a : A) (error : Failure Fault) (r : Result (Bor (List ℕ)) (Failure Fault)) → First (Ok a)
-    → IsErrAnd r (λ e. e ≡ error) → IsFault error Second → IsTold r (On First (λ a. On Second (Reply a)))
-told_second First Second Reply a error r first is h =
-    told_weaker (On Second (Reply a)) _ r (λ text. read a first) (told_fault Second (Reply a) error r is h)
+pub told_second : {A B C : Type 0} (First : Result A Fault → Type 0) (Second : Result B Fault → Type 0)
+    (Reply : A → B → List ℕ → Type 0) (a : A) (error : Failure Fault) (r : Result C (Failure Fault)) (output : List ℕ) → First (Ok a)
+    → IsErrAnd r (λ e. e ≡ error) → IsFault error Second → IsTold r output output (On First (λ a. On Second (Reply a)))
+told_second First Second Reply a error r output first is h =
+    told_weaker (On Second (Reply a)) _ r output output (λ text. read a first) (told_fault Second (Reply a) error r output is h)
 
 -- one of the texts has none
 pub refused_one : (front : List (List ℕ)) (text : List ℕ) (back : List (List ℕ)) (error : Failure Fault)
@@ -77,15 +97,18 @@ finds_more asked r texts text best next v parses more f = record {
 }
 
 -- what a call found, printed
-pub says_found : {E : Type 0} (P Q : Option VersionValue → Type 0) (found : Result (Option VersionValue) E) (text : List ℕ)
-    → IfOk found P → IfOk found Q → IsOkAnd found (λ v. text ≡ or_none version_text v) → SaysFound (λ v. P v × Q v) text
-says_found P Q (Ok v) text p q printed = (v, (p, q), printed)
-says_found P Q (Err error) text p q printed = absurd printed
+pub put_found_says : {E : Type 0} (P Q : Option VersionValue → Type 0) (found : Result (Option VersionValue) E) (r : Result ⊤ AllocError)
+    (old new : List ℕ) → IfOk found P → IfOk found Q
+    → OnOk r (IsOkAnd found (λ v. new ≡ old ++ ended (or_none version_text v))) → OnErr r (Extends old new)
+    → IsPut r old new (SaysFound (λ v. P v × Q v))
+put_found_says P Q (Ok v) (Ok done) old new p q grown extends = (or_none version_text v, grown, (v, (p, q), refl))
+put_found_says P Q (Err error) (Ok done) old new p q grown extends = absurd grown
+put_found_says P Q found (Err error) old new p q grown extends = extends
 
-pub says_value : {A E : Type 0} (print : A → List ℕ) (value : Option A) (found : Result (Option A) E) (text : List ℕ)
-    → IfOk found (λ v. v ≡ value) → IsOkAnd found (λ v. text ≡ or_none print v) → text ≡ or_none print value
-says_value print value (Ok v) text is printed = printed ∙ ap (or_none print) is
-says_value print value (Err error) text is printed = absurd printed
+pub value_put : {A E : Type 0} (print : A → List ℕ) (value : Option A) (found : Result (Option A) E) (old new : List ℕ)
+    → IfOk found (λ v. v ≡ value) → IsOkAnd found (λ v. new ≡ old ++ ended (or_none print v)) → new ≡ old ++ ended (or_none print value)
+value_put print value (Ok v) old new is grown = grown ∙ ap (λ v. old ++ ended (or_none print v)) is
+value_put print value (Err error) old new is grown = absurd grown
 
 -- the best of the versions, printed
 pub best_reply : (asked : AboutBest) (r : List (Span VersionValue)) (vs : List VersionValue) (best : Option VersionValue)

@@ -116,6 +116,10 @@ lines_of : (bytes : List ℕ) → HasSomeLines bytes
 lines_of [] = ([], [], record { divided = refl; each = refl; last = refl })
 lines_of (b ∷ bytes) = one_more b bytes (lines_of bytes) (cases_Bool (b == 10))
 
+-- nothing of the chunk is cut yet
+pub taken_none : (p bytes output : List ℕ) → output ≡ [] → Taken p bytes p bytes output
+taken_none p bytes output e = record { lines = []; divided = refl; each = λ h. (refl, h); answers = ([], tt, e) }
+
 -- a line of the rest, which goes on from what waits
 pub taken_line : (p bytes waits rest old new line more after : List ℕ) → Taken p bytes waits rest old → rest ≡ line ++ 10 ∷ more
     → no_feed line ≡ true → GrowsByAnswer (waits ++ line) old new → after ≡ [] → Taken p bytes after more new

@@ -3,34 +3,38 @@
 ghost use Rattle.std.specs.Option.{option_copied};
 ghost use Rattle.std.specs.Prelude.{◌++◌, ◌∷◌, [], List, IfErr, IfOk, OnOk, Some, if◌then◌else◌, ℕ};
 ghost use Rattle.semver_core.specs.Values.Versions.{VersionValue};
-ghost use Rattle.semver_answers.specs.Lines.{fields};
+ghost use Rattle.semver_answers.specs.Internal.Ahead.{HasFeed, IsNext, fields_ahead};
 ghost use Rattle.semver_answers.specs.Replies.{AreVersionsOf, IsVersionOf};
 ghost use Rattle.semver_answers.specs.Internal.Results.{FindsBest, IsBestOf, IsFault};
 ghost use Rattle.semver_answers.specs.Internal.Results.{ParsesVersion};
 
 use crate::fault::Fault;
-use crate::fields::version_field;
+use crate::fields::{Behind, version_field};
 use crate::question::AboutBest;
 use nodejs_semver::{Failure, RangeRef, SemverError, VersionRef};
 
-/// The best of the versions of the fields of a text, of those that the range accepts.
+/// The best of the versions of the fields of a line, of those that the range accepts, and the text
+/// behind the line.
 pub(crate) fn best_of<'t>(
     asked: AboutBest,
     range: &RangeRef<'_>,
     texts: &'t str,
-) -> Result<Option<VersionRef<'t>>, Failure<Fault>>
-    ensures best { IfOk result (FindsBest asked range.now (fields texts.now)) }
-    ensures fault { IfErr result (λ error. IsFault error (AreVersionsOf (fields texts.now))) }
+) -> Result<(Option<VersionRef<'t>>, &'t str), Failure<Fault>>
+    requires { HasFeed texts.now }
+    ensures best { IfOk result (λ found.
+        FindsBest asked range.now (fields_ahead texts.now) found.0) }
+    ensures next { IfOk result (λ found. IsNext texts.now found.1) }
+    ensures fault { IfErr result (λ error. IsFault error (AreVersionsOf (fields_ahead texts.now))) }
 {
     let mut best = None;
     let mut rest = texts;
     'fields: loop {
         let (version, behind) = version_field(rest);
         keep_better(asked, range, version, &mut best)?;
-        let Some(behind) = behind else {
-            return Ok(best);
-        };
-        rest = behind;
+        match behind {
+            Behind::Lines(next) => return Ok((best, next)),
+            Behind::Fields(behind) => rest = behind,
+        }
     }
 }
 

@@ -22,14 +22,17 @@ pub(crate) enum Command {
 impl Command {
     ghost use Rattle.std.specs.Prelude.{◌≡◌, ◌≢◌, ◌++◌, ◌∷◌, ◌+◌, ℕ, List, []};
     ghost use Rattle.std.specs.Prelude.{length, drop, IfSome, IfNone};
-    ghost use Rattle.semver_answers.specs.Lines.{fields};
+    ghost use Rattle.semver_answers.specs.Internal.Ahead.{HasFeed, fields_ahead, behind_line};
     ghost use Rattle.semver_answers.specs.Internal.CommandWords.{command_word, IsUnknown};
 
     /// The command that a text begins with, and the text behind the `;` after it.
     #[inline(always)]
     pub(crate) fn of(text: &str) -> Option<(Command, &str)>
+        requires { HasFeed text.now }
         ensures some { IfSome result (λ cut.
-            fields text.now ≡ command_word cut.0 ∷ fields cut.1.now) }
+            fields_ahead text.now ≡ command_word cut.0 ∷ fields_ahead cut.1.now) }
+        ensures next { IfSome result (λ cut. behind_line text.now ≡ behind_line cut.1.now) }
+        ensures feed { IfSome result (λ cut. HasFeed cut.1.now) }
         ensures none { IfNone result (IsUnknown text.now) }
     {
         let (command, end) = Command::front(text.as_bytes())?;

@@ -14,16 +14,17 @@ pub(crate) enum Fault {
 
 impl Fault {
     ghost use Rattle.std.specs.Prelude.{◌≡◌};
+    ghost use Rattle.semver_answers.specs.Lines.{ended};
     ghost use Rattle.semver_answers.specs.Names.{fault_word};
 
-    /// The answer to the line.
-    pub(crate) fn word(self) -> &'static str
-        ensures { result.now ≡ fault_word self }
+    /// The answer to the line, with a line feed.
+    pub(crate) fn line(self) -> &'static [u8]
+        ensures { result.now ≡ ended (fault_word self) }
     {
         match self {
-            Fault::BadLine => "bad line",
-            Fault::BadVersion => "bad version",
-            Fault::BadRange => "bad range",
+            Fault::BadLine => b"bad line\n",
+            Fault::BadVersion => b"bad version\n",
+            Fault::BadRange => b"bad range\n",
         }
     }
 }

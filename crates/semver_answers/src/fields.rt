@@ -1,93 +1,79 @@
-// The fields of a line, which are cut at each `;`. They are read from the left.
+// The fields of the first line of a text, which are cut at each `;`. They are read from the left,
+// and the last one ends at the line feed.
 
-ghost use Rattle.std.specs.Prelude.{◌≡◌, ◌<◌, ◌≤◌, [], ◌∷◌, IfSome, IfNone, IsUtf8, drop, length};
-ghost use Rattle.std.specs.Prelude.{◌==◌, false, take, true};
+ghost use Rattle.std.specs.Prelude.{◌≡◌, ◌<◌, IfNone, IfSome, false, length, take};
+ghost use Rattle.std.specs.Prelude.{slice_index};
 ghost use Rattle.std.specs.List.{All};
-ghost use Rattle.memchr.specs.Find.{IsFirstByte, is_byte};
-ghost use Rattle.semver_answers.specs.Internal.Results.{ReadsVersion, behind, ends_field};
-ghost use Rattle.semver_answers.specs.Lines.{fields};
+ghost use Rattle.memchr.specs.Find.{IsFirstByte, is_byte, is_byte2};
+ghost use Rattle.semver_answers.specs.Internal.Ahead.{Cuts, HasFeed, IsNext};
+ghost use Rattle.semver_answers.specs.Internal.Results.{ReadsVersion};
 
-use memchr::memchr;
+use memchr::{memchr, memchr2};
 use nodejs_semver::{MAX_LENGTH, SemverError, VersionRef};
 
-// The place of the first `;`.
-#[inline(always)]
-fn semicolon(bytes: &[u8]) -> Option<usize>
-    ensures { IsFirstByte (is_byte 59) bytes.now result }
-{
-    memchr(b';', bytes)
+/// What stands behind a field.
+#[derive(Clone, Copy)]
+pub(crate) enum Behind<'t> {
+    /// The text behind its `;`, which begins with the line's next field.
+    Fields(&'t str),
+    /// The text behind its line, which the field ends.
+    Lines(&'t str),
 }
 
-/// The first field, and the text behind its `;`; `None` where the text is one field.
+// What stands behind a field that ends at a place; `None` where none ends there.
 #[inline(always)]
-pub(crate) fn first(text: &str) -> Option<(&str, &str)>
-    ensures some { IfSome result (λ cut. fields text.now ≡ cut.0.now ∷ fields cut.1.now) }
-    ensures none { IfNone result (fields text.now ≡ text.now ∷ []) }
-    ensures utf8 { IfSome result (λ cut. IsUtf8 cut.1.now) }
+fn mark_at(text: &str, end: usize) -> Option<Behind<'_>>
+    requires inside { end < length text.now }
+    requires plain { All (λ b. is_byte2 59 10 b ≡ false) (take end text.now) }
+    requires feed { HasFeed text.now }
+    ensures some { IfSome result (Cuts text.now (take end text.now)) }
+    ensures none { IfNone result (is_byte2 59 10 (slice_index text.now end) ≡ false) }
 {
-    let at = semicolon(text.as_bytes())?;
-    Some((&text[..at], &text[at + 1..]))
-}
-
-/// The field of a text that has just one.
-#[inline(always)]
-pub(crate) fn one(text: &str) -> Option<&str>
-    ensures some { IfSome result (λ field. fields text.now ≡ field.now ∷ []) }
-    ensures none { IfNone result (1 < length (fields text.now)) }
-{
-    match first(text) {
-        Some(_) => None,
-        None => Some(text),
+    match text.as_bytes()[end] {
+        b';' => Some(Behind::Fields(&text[end + 1..])),
+        b'\n' => Some(Behind::Lines(&text[end + 1..])),
+        _ => None,
     }
 }
 
-/// The first field, and the text behind its `;`, where there is one.
+/// The first field, and what stands behind it.
 #[inline(always)]
-pub(crate) fn cut(text: &str) -> (&str, Option<&str>)
-    ensures first { fields text.now ≡ result.0.now ∷ behind result.1 }
-    ensures utf8 { IfSome result.1 (λ rest. IsUtf8 rest.now) }
+pub(crate) fn cut(text: &str) -> (&str, Behind<'_>)
+    requires { HasFeed text.now }
+    ensures { Cuts text.now result.0.now result.1 }
 {
-    match first(text) {
-        Some((field, rest)) => (field, Some(rest)),
-        None => (text, None),
+    let Some(end) = memchr2(b';', b'\n', text.as_bytes()) else {
+        unreachable!()
+    };
+    match mark_at(text, end) {
+        Some(behind) => (&text[..end], behind),
+        None => unreachable!(),
     }
 }
 
-// Whether a field ends at a place.
-#[inline(always)]
-#[tactic(auto, using(std::proofs::lemmas::List::take_rest))]
-fn ends_at(text: &str, end: usize) -> bool
-    requires { end ≤ length text.now }
-    ensures { result ≡ ends_field (drop end text.now) }
+/// The text behind the first line.
+pub(crate) fn behind_line(text: &str) -> &str
+    requires { HasFeed text.now }
+    ensures { IsNext text.now result }
 {
-    matches!(&text.as_bytes()[end..], [] | [b';', ..])
-}
-
-// The text behind the `;` at a place, where it stands there.
-#[inline(always)]
-fn rest_at(text: &str, end: usize) -> Option<&str>
-    requires place { end ≤ length text.now }
-    requires ends { ends_field (drop end text.now) ≡ true }
-    requires plain { All (λ b. (b == 59) ≡ false) (take end text.now) }
-    ensures first { fields text.now ≡ take end text.now ∷ behind result }
-    ensures utf8 { IfSome result (λ rest. IsUtf8 rest.now) }
-{
-    if end == text.len() {
-        return None;
+    match memchr(b'\n', text.as_bytes()) {
+        Some(end) => &text[end + 1..],
+        None => unreachable!(),
     }
-    Some(&text[end + 1..])
 }
 
-/// The version of the first field, and the text behind its `;`, where there is one. The field is
-/// read once, unless it is no common version text.
+/// The version of the first field, and what stands behind it. The field is read once, unless it is
+/// no common version text.
 #[inline(always)]
-pub(crate) fn version_field(text: &str) -> (Result<VersionRef<'_>, SemverError>, Option<&str>)
-    ensures read { ReadsVersion text.now result.0 result.1 }
-    ensures utf8 { IfSome result.1 (λ rest. IsUtf8 rest.now) }
+pub(crate) fn version_field(text: &str) -> (Result<VersionRef<'_>, SemverError>, Behind<'_>)
+    requires { HasFeed text.now }
+    ensures { ReadsVersion text.now result.0 result.1 }
 {
     if let Some((version, end)) = VersionRef::front(text) {
-        if end <= MAX_LENGTH && ends_at(text, end) {
-            return (Ok(version), rest_at(text, end));
+        if end <= MAX_LENGTH {
+            if let Some(behind) = mark_at(text, end) {
+                return (Ok(version), behind);
+            }
         }
     }
     rare_version_field(text)
@@ -95,21 +81,21 @@ pub(crate) fn version_field(text: &str) -> (Result<VersionRef<'_>, SemverError>,
 
 // `whole_version_field`, inlined: room for what the call returns is made only where it is called.
 #[inline(always)]
-fn rare_version_field(text: &str) -> (Result<VersionRef<'_>, SemverError>, Option<&str>)
-    ensures read { ReadsVersion text.now result.0 result.1 }
-    ensures utf8 { IfSome result.1 (λ rest. IsUtf8 rest.now) }
+fn rare_version_field(text: &str) -> (Result<VersionRef<'_>, SemverError>, Behind<'_>)
+    requires { HasFeed text.now }
+    ensures { ReadsVersion text.now result.0 result.1 }
 {
-    let (version, rest) = whole_version_field(text);
-    (version, rest)
+    let (version, behind) = whole_version_field(text);
+    (version, behind)
 }
 
 // `version_field` where the end of the field is looked for first.
 #[cold]
 #[inline(never)]
-fn whole_version_field(text: &str) -> (Result<VersionRef<'_>, SemverError>, Option<&str>)
-    ensures read { ReadsVersion text.now result.0 result.1 }
-    ensures utf8 { IfSome result.1 (λ rest. IsUtf8 rest.now) }
+fn whole_version_field(text: &str) -> (Result<VersionRef<'_>, SemverError>, Behind<'_>)
+    requires { HasFeed text.now }
+    ensures { ReadsVersion text.now result.0 result.1 }
 {
-    let (field, rest) = cut(text);
-    (VersionRef::parse(field), rest)
+    let (field, behind) = cut(text);
+    (VersionRef::parse(field), behind)
 }

@@ -1,6 +1,6 @@
-// The words of the answers. What is printed is printed to `room`, which may hold an earlier answer.
+// The words and texts of the answers. Each is put behind the output, with a line feed.
 
-ghost use Rattle.std.specs.Prelude.{◌≡◌, IfOk, IfSome, Result};
+ghost use Rattle.std.specs.Prelude.{◌≡◌, ◌++◌, OnOk, OnErr, Result};
 ghost use Rattle.std.specs.Result.{IsOkAnd};
 ghost use Rattle.semver_core.specs.Difference.{kind_word};
 ghost use Rattle.semver_core.specs.Increments.Table as increment;
@@ -8,130 +8,165 @@ ghost use Rattle.semver_core.specs.Increments.View.{Returns, fault_of};
 ghost use Rattle.semver_core.specs.Printing.Text.{version_text};
 ghost use Rattle.semver_core.specs.Values.Versions.{VersionValue};
 ghost use Rattle.nodejs_semver.specs.Printing.Text.{range_text};
-ghost use Rattle.semver_answers.specs.Names.{next_text, or_none, order_word};
-ghost use Rattle.semver_answers.specs.Names.{truth_word};
+ghost use Rattle.semver_answers.specs.Lines.{ended};
+ghost use Rattle.semver_answers.specs.Names.{next_text, or_none, order_word, truth_word};
+ghost use Rattle.semver_answers.specs.Internal.Puts.{Extends};
 
-use nodejs_semver::{Failure, IncrementError, RangeRef, Version, VersionDiff, VersionRef};
+use crate::output::Output;
+use crate::put::put_version;
+use crate::put::ranges::put_range;
+use nodejs_semver::{
+    Failure, IncrementError, RangeRef, Version, VersionDiff, VersionRef, Versioned,
+};
 use std::alloc::AllocError;
 use std::cmp::Ordering;
-use std::fmt::Display;
 
 /// How one version compares to another.
 #[inline(always)]
-pub(crate) fn order_word(order: Ordering) -> &'static str
-    ensures { result.now ≡ order_word order }
+pub(crate) fn put_order(order: Ordering, output: &mut Output) -> Result<(), AllocError>
+    ensures ok { OnOk result
+        (output.new ≡ output.old ++ ended (order_word order)) }
+    ensures err { OnErr result (output.new ≡ output.old) }
 {
     match order {
-        Ordering::Less => "less",
-        Ordering::Equal => "equal",
-        Ordering::Greater => "greater",
+        Ordering::Less => output.put(b"less\n"),
+        Ordering::Equal => output.put(b"equal\n"),
+        Ordering::Greater => output.put(b"greater\n"),
     }
 }
 
 /// Whether it is so.
 #[inline(always)]
-pub(crate) fn truth_word(is_so: bool) -> &'static str
-    ensures { result.now ≡ truth_word is_so }
+pub(crate) fn put_truth(is_so: bool, output: &mut Output) -> Result<(), AllocError>
+    ensures ok { OnOk result (output.new ≡ output.old ++ ended (truth_word is_so)) }
+    ensures err { OnErr result (output.new ≡ output.old) }
 {
-    if is_so { "true" } else { "false" }
-}
-
-/// A value, printed.
-#[inline(always)]
-pub(crate) fn printed<'a, T: Display>(
-    value: &T,
-    room: &'a mut String,
-) -> Result<&'a str, AllocError>
-    ensures { IfOk result (λ text. IfSome (T.output value.now) (λ bytes. text.now ≡ bytes)) }
-{
-    room.clear();
-    write!(room, "{value}")?;
-    Ok(room.as_str())
+    if is_so {
+        output.put(b"true\n")
+    } else {
+        output.put(b"false\n")
+    }
 }
 
 /// The kind of a difference, or `none`.
 #[inline(always)]
-pub(crate) fn difference_word<'a>(
-    kind: Option<VersionDiff>,
-    room: &'a mut String,
-) -> Result<&'a str, AllocError>
-    ensures { IfOk result (λ text. text.now ≡ or_none kind_word kind) }
+pub(crate) fn difference_line(kind: Option<VersionDiff>) -> &'static [u8]
+    ensures { result.now ≡ ended (or_none kind_word kind) }
 {
     match kind {
-        Some(kind) => printed(&kind, room),
-        None => Ok("none"),
+        Some(VersionDiff::Major) => b"major\n",
+        Some(VersionDiff::Minor) => b"minor\n",
+        Some(VersionDiff::Patch) => b"patch\n",
+        Some(VersionDiff::PreMajor) => b"premajor\n",
+        Some(VersionDiff::PreMinor) => b"preminor\n",
+        Some(VersionDiff::PrePatch) => b"prepatch\n",
+        Some(VersionDiff::PreRelease) => b"prerelease\n",
+        None => b"none\n",
     }
 }
 
-/// What a call found, printed, or `none`. The functions that ask for it then own nothing.
+/// A version.
 #[inline(always)]
-pub(crate) fn version_or_none<'a>(
+#[tactic(auto, using(crate::proofs::Bytes::extended))]
+pub(crate) fn put_printed<V: Versioned>(version: &V, output: &mut Output) -> Result<(), AllocError>
+    ensures ok { OnOk result
+        (output.new ≡ output.old ++ ended (version_text (V.value version.now))) }
+    ensures err { OnErr result (Extends output.old output.new) }
+{
+    put_version(version, output)?;
+    output.push(b'\n')
+}
+
+/// What a call found, or `none`. The functions that ask for it then own nothing.
+#[inline(always)]
+#[tactic(auto, using(crate::proofs::Bytes::extended))]
+pub(crate) fn put_found(
     found: Result<Option<Version>, AllocError>,
-    room: &'a mut String,
-) -> Result<&'a str, AllocError>
-    ensures { IfOk result (λ text.
-        IsOkAnd found (λ version. text.now ≡ or_none version_text version)) }
+    output: &mut Output,
+) -> Result<(), AllocError>
+    ensures ok { OnOk result (IsOkAnd found (λ version.
+        output.new ≡ output.old ++ ended (or_none version_text version))) }
+    ensures err { OnErr result (Extends output.old output.new) }
 {
     match found {
-        Ok(Some(version)) => printed(&version, room),
-        Ok(None) => Ok("none"),
+        Ok(Some(version)) => put_printed(&version, output),
+        Ok(None) => output.put(b"none\n"),
         Err(error) => Err(error),
     }
 }
 
-/// A borrowed version, printed, or `none`.
+/// A borrowed version, or `none`.
 #[inline(always)]
-pub(crate) fn borrowed_or_none<'a>(
+#[tactic(auto, using(crate::proofs::Bytes::extended))]
+pub(crate) fn put_borrowed(
     version: Option<VersionRef<'_>>,
-    room: &'a mut String,
-) -> Result<&'a str, AllocError>
-    ensures { IfOk result (λ text. text.now ≡ or_none version_text version.entry) }
+    output: &mut Output,
+) -> Result<(), AllocError>
+    ensures ok { OnOk result
+        (output.new ≡ output.old ++ ended (or_none version_text version.entry)) }
+    ensures err { OnErr result (Extends output.old output.new) }
 {
     match version {
-        Some(version) => printed(&version, room),
-        None => Ok("none"),
+        Some(version) => put_printed(&version, output),
+        None => output.put(b"none\n"),
     }
 }
 
-/// The range that a call found, printed, or `none`.
+/// The range that a call found, or `none`.
 #[inline(always)]
-pub(crate) fn range_or_none<'a>(
+#[tactic(auto, using(crate::proofs::Bytes::extended))]
+pub(crate) fn put_range_found(
     found: Result<Option<RangeRef<'_>>, AllocError>,
-    room: &'a mut String,
-) -> Result<&'a str, AllocError>
-    ensures { IfOk result (λ text.
-        IsOkAnd found.entry (λ range. text.now ≡ or_none range_text range)) }
+    output: &mut Output,
+) -> Result<(), AllocError>
+    ensures ok { OnOk result (IsOkAnd found.entry (λ range.
+        output.new ≡ output.old ++ ended (or_none range_text range))) }
+    ensures err { OnErr result (Extends output.old output.new) }
 {
     match found {
-        Ok(Some(range)) => printed(&range, room),
-        Ok(None) => Ok("none"),
+        Ok(Some(range)) => put_range_line(&range, output),
+        Ok(None) => output.put(b"none\n"),
         Err(error) => Err(error),
     }
 }
 
-fn increment_fault_word(fault: &IncrementError) -> &'static str
-    ensures { result.now ≡ next_text (Err (fault_of fault.now)) }
+/// A range.
+#[inline(always)]
+#[tactic(auto, using(crate::proofs::Bytes::extended))]
+pub(crate) fn put_range_line(range: &RangeRef<'_>, output: &mut Output) -> Result<(), AllocError>
+    ensures ok { OnOk result
+        (output.new ≡ output.old ++ ended (range_text range.now)) }
+    ensures err { OnErr result (Extends output.old output.new) }
+{
+    put_range(range, output)?;
+    output.push(b'\n')
+}
+
+fn increment_fault_line(fault: &IncrementError) -> &'static [u8]
+    ensures { result.now ≡ ended (next_text (Err (fault_of fault.now))) }
 {
     match fault {
-        IncrementError::InvalidIncrementArgument(_) => "bad argument",
-        IncrementError::InvalidIdentifier(_) => "bad identifier",
-        IncrementError::NotAPrerelease(_) => "not a prerelease",
-        IncrementError::Overflow => "overflow",
+        IncrementError::InvalidIncrementArgument(_) => b"bad argument\n",
+        IncrementError::InvalidIdentifier(_) => b"bad identifier\n",
+        IncrementError::NotAPrerelease(_) => b"not a prerelease\n",
+        IncrementError::Overflow => b"overflow\n",
     }
 }
 
-/// The next version, printed, or why there is none.
+/// The next version, or why there is none.
 #[inline(always)]
-pub(crate) fn next_text<'a>(
+#[tactic(auto, using(crate::proofs::Bytes::extended))]
+pub(crate) fn put_next(
     next: &Result<Version, Failure<IncrementError>>,
-    room: &'a mut String,
-) -> Result<&'a str, AllocError>
-    ensures { (told : Result VersionValue increment.Fault) → Returns told next.now
-        → IfOk result (λ text. text.now ≡ next_text told) }
+    output: &mut Output,
+) -> Result<(), AllocError>
+    ensures ok { OnOk result ((told : Result VersionValue increment.Fault) → Returns told next.now
+        → output.new ≡ output.old ++ ended (next_text told)) }
+    ensures err { OnErr result (Extends output.old output.new) }
 {
     match next {
-        Ok(version) => printed(version, room),
-        Err(Failure::Refused(fault)) => Ok(increment_fault_word(fault)),
+        Ok(version) => put_printed(version, output),
+        Err(Failure::Refused(fault)) => output.put(increment_fault_line(fault)),
         Err(Failure::Memory(_)) => Err(AllocError),
     }
 }

@@ -1,19 +1,22 @@
 // The intersection and the difference of two ranges, printed. An intersection has an interval for
 // each pair of intervals that meet, and a difference up to as many, and as many more as the first
 // range has: these can be very many. A large one is never made as a whole, but part by part: what
-// comes of a few intervals of the first range is printed to `room` and appended to the output,
-// before the next few are looked at. So its text is there only once.
+// comes of a few intervals of the first range is put behind the output before the next few are
+// looked at.
 
-ghost use Rattle.std.specs.Prelude.{◌≡◌, ◌++◌, ◌<◌, ◌||◌, [], codes, false, if◌then◌else◌};
-ghost use Rattle.std.specs.Prelude.{IfOk, OnOk, string_bytes};
+ghost use Rattle.std.specs.Prelude.{◌≡◌, ◌++◌, ◌<◌, ◌||◌, false, IfOk, OnErr, OnOk};
 ghost use Rattle.std.specs.Option.{is_some};
 ghost use Rattle.semver_core.specs.declared.TheConstants.{MAX_SAFE_INTEGER};
 ghost use Rattle.nodejs_semver.specs.Printing.Text.{range_text};
 ghost use Rattle.nodejs_semver.specs.Ranges.View.{IsRange};
 ghost use Rattle.semver_answers.specs.Names.{or_none};
-ghost use Rattle.semver_answers.specs.Internal.Parts.{Grows, combined, text_behind};
+ghost use Rattle.semver_answers.specs.Internal.Parts.{combined, text_behind};
+ghost use Rattle.semver_answers.specs.Internal.Puts.{Extends};
+ghost use Rattle.semver_answers.specs.Lines.{ended};
 
-use crate::names::{printed, range_or_none};
+use crate::names::put_range_found;
+use crate::output::Output;
+use crate::put::ranges::put_range;
 use nodejs_semver::cuts::{Bound, Interval};
 use nodejs_semver::{RangeRef, VersionRef};
 use std::alloc::{AllocError, Global};
@@ -36,46 +39,46 @@ pub(crate) enum Combination {
     Difference,
 }
 
-/// The end of the text of an intersection or a difference, or `none`. What stands before the end,
-/// the text of a large one, is appended to the output.
+/// The text of an intersection or a difference, or `none`, with a line feed.
 #[inline(always)]
-pub(crate) fn combined_text<'a, 't>(
+pub(crate) fn put_combined<'t>(
     asked: Combination,
     alloc: Global,
     r: &RangeRef<'t>,
     s: &RangeRef<'t>,
-    room: &'a mut String,
-    output: &mut String,
-) -> Result<&'a str, AllocError>
-    ensures { Grows (string_bytes output.old) (string_bytes output.new) (λ begun.
-        IfOk result (λ end. begun ++ end.now ≡ or_none range_text (combined asked r.now s.now))) }
+    output: &mut Output,
+) -> Result<(), AllocError>
+    ensures ok { OnOk result (output.new
+        ≡ output.old ++ ended (or_none range_text (combined asked r.now s.now))) }
+    ensures err { OnErr result (Extends output.old output.new) }
 {
     if r.intervals().len() > 1 && may_be_large(asked, r, s) {
-        return text_in_parts(asked, alloc, r, s, room, output);
+        return put_in_parts(asked, alloc, r, s, output);
     }
     match asked {
-        Combination::Intersection => range_or_none(r.intersect(alloc, s), room),
-        Combination::Difference => range_or_none(r.difference(alloc, s), room),
+        Combination::Intersection => put_range_found(r.intersect(alloc, s), output),
+        Combination::Difference => put_range_found(r.difference(alloc, s), output),
     }
 }
 
-// The same of a large one, which is appended to the output.
+// The same of a large one.
 #[inline(never)]
-fn text_in_parts<'t>(
+#[tactic(auto, using(crate::proofs::Bytes::extended))]
+fn put_in_parts<'t>(
     asked: Combination,
     alloc: Global,
     r: &RangeRef<'t>,
     s: &RangeRef<'t>,
-    room: &mut String,
-    output: &mut String,
-) -> Result<&'static str, AllocError>
-    ensures { Grows (string_bytes output.old) (string_bytes output.new) (λ begun.
-        IfOk result (λ end. begun ++ end.now ≡ or_none range_text (combined asked r.now s.now))) }
+    output: &mut Output,
+) -> Result<(), AllocError>
+    ensures ok { OnOk result (output.new
+        ≡ output.old ++ ended (or_none range_text (combined asked r.now s.now))) }
+    ensures err { OnErr result (Extends output.old output.new) }
 {
-    if push_parts(asked, alloc, r.intervals(), s, room, output)? {
-        Ok("")
+    if put_parts(asked, alloc, r.intervals(), s, output)? {
+        output.put(b"\n")
     } else {
-        Ok("none")
+        output.put(b"none\n")
     }
 }
 
@@ -123,19 +126,19 @@ fn count_behind(count: usize, len: usize, all: usize) -> usize
     }
 }
 
-// Appends what comes of the intervals of a range, some after others. Returns whether there is
+// Puts what comes of the intervals of a range, some after others. Returns whether there is
 // anything.
-fn push_parts<'t>(
+fn put_parts<'t>(
     asked: Combination,
     alloc: Global,
     these: &[Interval<VersionRef<'t>>],
     s: &RangeRef<'t>,
-    room: &mut String,
-    output: &mut String,
+    output: &mut Output,
 ) -> Result<bool, AllocError>
     requires { IsRange MAX_SAFE_INTEGER these.now }
-    ensures grown { Grows (string_bytes output.old) (string_bytes output.new) (λ begun.
-        OnOk result (begun ≡ text_behind false (combined asked these.now s.now))) }
+    ensures ok { OnOk result (output.new
+        ≡ output.old ++ text_behind false (combined asked these.now s.now)) }
+    ensures err { OnErr result (Extends output.old output.new) }
     ensures any { IfOk result (λ any. any ≡ is_some (combined asked these.now s.now)) }
 {
     let mut at_once = count_at_once(asked, these.len(), s.intervals().len());
@@ -144,32 +147,32 @@ fn push_parts<'t>(
     'parts: while at < these.len() {
         let end = at + at_once.min(these.len() - at);
         let begun = output.len();
-        any = push_part(asked, alloc, &these[at..end], s, any, room, output)?;
+        any = put_part(asked, alloc, &these[at..end], s, any, output)?;
         at_once = count_behind(at_once, output.len() - begun, these.len());
         at = end;
     }
     Ok(any)
 }
 
-// Appends what comes of some intervals of a range, behind what there is already. Returns whether
-// there is anything.
-fn push_part<'t>(
+// Puts what comes of some intervals of a range, behind what there is already. Returns whether there
+// is anything.
+fn put_part<'t>(
     asked: Combination,
     alloc: Global,
     some: &[Interval<VersionRef<'t>>],
     s: &RangeRef<'t>,
     any: bool,
-    room: &mut String,
-    output: &mut String,
+    output: &mut Output,
 ) -> Result<bool, AllocError>
     requires { IsRange MAX_SAFE_INTEGER some.now }
-    ensures grown { Grows (string_bytes output.old) (string_bytes output.new) (λ begun.
-        OnOk result (begun ≡ text_behind any (combined asked some.now s.now))) }
+    ensures ok { OnOk result (output.new
+        ≡ output.old ++ text_behind any (combined asked some.now s.now)) }
+    ensures err { OnErr result (Extends output.old output.new) }
     ensures any { IfOk result (λ now. now ≡ (any || is_some (combined asked some.now s.now))) }
 {
     let part = range_of_copies(alloc, some)?;
     let found = combine(asked, alloc, &part, s)?;
-    push_found(&found, any, room, output)
+    put_behind(&found, any, output)
 }
 
 fn combine<'t>(
@@ -226,35 +229,24 @@ fn copy_of<'t>(bound: &Bound<VersionRef<'t>>) -> Bound<VersionRef<'t>>
     }
 }
 
-// Appends a range, if there is one, behind what there is already.
-fn push_found(
+// Puts a range, if there is one, behind what there is already.
+#[tactic(auto, using(crate::proofs::Bytes::extended))]
+fn put_behind(
     found: &Option<RangeRef<'_>>,
     any: bool,
-    room: &mut String,
-    output: &mut String,
+    output: &mut Output,
 ) -> Result<bool, AllocError>
-    ensures grown { Grows (string_bytes output.old) (string_bytes output.new) (λ begun.
-        OnOk result (begun ≡ text_behind any found.now)) }
+    ensures ok { OnOk result
+        (output.new ≡ output.old ++ text_behind any found.now) }
+    ensures err { OnErr result (Extends output.old output.new) }
     ensures any { IfOk result (λ now. now ≡ (any || is_some found.now)) }
 {
     let Some(range) = found else {
         return Ok(any);
     };
-    push_text(separator(any), output)?;
-    push_text(printed(range, room)?, output)?;
+    if any {
+        output.put(b"||")?;
+    }
+    put_range(range, output)?;
     Ok(true)
-}
-
-fn push_text(text: &str, output: &mut String) -> Result<(), AllocError>
-    ensures { Grows (string_bytes output.old) (string_bytes output.new) (λ begun.
-        OnOk result (begun ≡ text.now)) }
-{
-    output.push_str(text)
-}
-
-// What stands before a range, where there is something already.
-fn separator(any: bool) -> &'static str
-    ensures { result.now ≡ (if any then codes "||" else []) }
-{
-    if any { "||" } else { "" }
 }

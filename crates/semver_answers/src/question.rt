@@ -1,6 +1,6 @@
 // What lines ask about the versions and ranges of their fields.
 
-use crate::fields::{first, one};
+use crate::fields::{Behind, cut};
 use nodejs_semver::{IdentifierBase, OutsideDirection};
 
 /// What a line asks about a version V.
@@ -69,48 +69,64 @@ pub(crate) enum AboutBest {
 impl<'a> AboutVersion<'a> {
     ghost use Rattle.std.specs.Prelude.{◌∷◌, ℕ, List, codes, IfSome, IfNone};
     ghost use Rattle.semver_answers.specs.Commands.{Asks, Question, Version};
-    ghost use Rattle.semver_answers.specs.Lines.{fields};
+    ghost use Rattle.semver_answers.specs.Internal.Ahead.{HasFeed, IsNext, fields_ahead};
 
-    /// What a line `inc` with these fields behind its version asks.
+    /// What a line `inc` with these fields behind its version asks, and the text behind the line.
     #[inline(always)]
-    pub(crate) fn increment(rest: &'a str) -> Option<AboutVersion<'a>>
-        ensures some { IfSome result (λ asked. (v : List ℕ)
-            → Asks (codes "inc" ∷ v ∷ fields rest.now) (Version v asked)) }
+    pub(crate) fn increment(rest: &'a str) -> Option<(AboutVersion<'a>, &'a str)>
+        requires { HasFeed rest.now }
+        ensures some { IfSome result (λ found. (v : List ℕ)
+            → Asks (codes "inc" ∷ v ∷ fields_ahead rest.now) (Version v found.0)) }
+        ensures next { IfSome result (λ found. IsNext rest.now found.1) }
         ensures none { IfNone result ((v : List ℕ) (question : Question)
-            → Asks (codes "inc" ∷ v ∷ fields rest.now) question → ⊥) }
+            → Asks (codes "inc" ∷ v ∷ fields_ahead rest.now) question → ⊥) }
     {
-        let Some((word, rest)) = first(rest) else {
-            return Some(AboutVersion::Inc(rest));
+        let (word, behind) = cut(rest);
+        let rest = match behind {
+            Behind::Lines(next) => return Some((AboutVersion::Inc(word), next)),
+            Behind::Fields(rest) => rest,
         };
-        let Some((identifier, rest)) = first(rest) else {
-            return Some(AboutVersion::IncWith(word, rest));
+        let (identifier, behind) = cut(rest);
+        let rest = match behind {
+            Behind::Lines(next) => return Some((AboutVersion::IncWith(word, identifier), next)),
+            Behind::Fields(rest) => rest,
         };
-        let base = match one(rest)? {
+        let (text, behind) = cut(rest);
+        let Behind::Lines(next) = behind else {
+            return None;
+        };
+        let base = match text {
             "false" => IdentifierBase::False,
             "0" => IdentifierBase::Value(0),
             "1" => IdentifierBase::Value(1),
             _ => return None,
         };
-        Some(AboutVersion::IncFrom(word, identifier, base))
+        Some((AboutVersion::IncFrom(word, identifier, base), next))
     }
 }
 
 impl AboutMatch {
     ghost use Rattle.std.specs.Prelude.{◌∷◌, ℕ, List, codes, IfSome, IfNone};
     ghost use Rattle.semver_answers.specs.Commands.{Asks, Match, Question};
-    ghost use Rattle.semver_answers.specs.Lines.{fields};
+    ghost use Rattle.semver_answers.specs.Internal.Ahead.{HasFeed, IsNext, fields_ahead};
 
-    /// What a line `out` with these fields behind its version asks.
+    /// What a line `out` with these fields behind its version asks, and the text behind the line.
     #[inline(always)]
-    pub(crate) fn outside(rest: &str) -> Option<AboutMatch>
-        ensures some { IfSome result (λ asked. (r v : List ℕ)
-            → Asks (codes "out" ∷ r ∷ v ∷ fields rest.now) (Match (r, v) asked)) }
+    pub(crate) fn outside(rest: &str) -> Option<(AboutMatch, &str)>
+        requires { HasFeed rest.now }
+        ensures some { IfSome result (λ found. (r v : List ℕ)
+            → Asks (codes "out" ∷ r ∷ v ∷ fields_ahead rest.now) (Match (r, v) found.0)) }
+        ensures next { IfSome result (λ found. IsNext rest.now found.1) }
         ensures none { IfNone result ((r v : List ℕ) (question : Question)
-            → Asks (codes "out" ∷ r ∷ v ∷ fields rest.now) question → ⊥) }
+            → Asks (codes "out" ∷ r ∷ v ∷ fields_ahead rest.now) question → ⊥) }
     {
-        match one(rest)? {
-            ">" => Some(AboutMatch::Out(OutsideDirection::Higher)),
-            "<" => Some(AboutMatch::Out(OutsideDirection::Lower)),
+        let (side, behind) = cut(rest);
+        let Behind::Lines(next) = behind else {
+            return None;
+        };
+        match side {
+            ">" => Some((AboutMatch::Out(OutsideDirection::Higher), next)),
+            "<" => Some((AboutMatch::Out(OutsideDirection::Lower), next)),
             _ => None,
         }
     }

@@ -1,14 +1,11 @@
-// The replies to lines. What is printed is printed to `room`, save a large intersection or
-// difference: its text is appended to the output, and what is returned is the end of the reply,
-// behind that text.
+// The replies to lines, each put behind the output with a line feed.
 //
 // The function of each kind of question reads the fields of a line from the left, in place, and is
 // not inlined, so that a line pays for the locals of its own kind alone; what is said of the values
 // that were read stands in the method `reply`.
 
 ghost use Rattle.std.specs.Option.{option_copied};
-ghost use Rattle.std.specs.Prelude.{◌≡◌, ◌++◌, ◌∷◌, ℕ, List, IfOk, IfSome, IsUtf8, Option, codes};
-ghost use Rattle.std.specs.Prelude.{string_bytes};
+ghost use Rattle.std.specs.Prelude.{◌≡◌, ◌++◌, ◌∷◌, ℕ, List, IfOk, OnErr, OnOk, codes};
 ghost use Rattle.semver_core.specs.Increments.Table.{answer_of_inc};
 ghost use Rattle.semver_answers.specs.Answers.{IsAnswer};
 ghost use Rattle.semver_answers.specs.Commands.{BestReply, IsReply, Match, RangeReply, RangesReply};
@@ -16,376 +13,425 @@ ghost use Rattle.semver_answers.specs.Commands.{matches, version_reply, versions
 ghost use Rattle.semver_answers.specs.Internal.CommandWords.{command_word};
 ghost use Rattle.semver_answers.specs.Internal.KindWords.{IsTwo, best_word, range_word};
 ghost use Rattle.semver_answers.specs.Internal.KindWords.{match_word, ranges_word, versions_word};
-ghost use Rattle.semver_answers.specs.Internal.Parts.{Grows};
-ghost use Rattle.semver_answers.specs.Internal.Results.{AnswersFields, IsTold, ParsesRange};
-ghost use Rattle.semver_answers.specs.Internal.Results.{ParsesVersion, behind};
-ghost use Rattle.semver_answers.specs.Lines.{fields};
-ghost use Rattle.semver_answers.specs.Names.{next_text, truth_word};
+ghost use Rattle.semver_answers.specs.Internal.Puts.{Extends};
+ghost use Rattle.semver_answers.specs.Internal.Results.{AnswersFields, IsPut, IsTold, ParsesRange};
+ghost use Rattle.semver_answers.specs.Internal.Results.{ParsesVersion, as_told};
+ghost use Rattle.semver_answers.specs.Lines.{ended};
+ghost use Rattle.semver_answers.specs.Internal.Ahead.{HasFeed, IsNext, fields_ahead, first_line};
+ghost use Rattle.semver_answers.specs.Names.{next_text};
 ghost use Rattle.semver_answers.specs.Replies.{AreVersionsOf, IsRangeOf, On};
 
 use crate::best::best_of;
 use crate::command::Command;
 use crate::fault::Fault;
-use crate::fields::{cut, version_field};
+use crate::fields::{Behind, cut, version_field};
 use crate::names::{
-    borrowed_or_none, difference_word, next_text, order_word, printed, truth_word, version_or_none,
+    difference_line, put_borrowed, put_found, put_next, put_order, put_printed, put_range_line,
+    put_truth,
 };
+use crate::output::Output;
 use crate::parsed::{Parsed, range_of, version_of};
-use crate::parts::{Combination, combined_text};
+use crate::parts::{Combination, put_combined};
 use crate::question::{
     AboutBest, AboutMatch, AboutRange, AboutRanges, AboutVersion, AboutVersions,
 };
 use nodejs_semver::{Failure, IdentifierBase, RangeRef, SemverError, VersionRef};
 use std::alloc::{AllocError, Global};
 
-/// The end of the reply to a line that is a text. What stands before it is appended to the output.
+// The text behind the line, unless an allocation failed in putting the reply.
 #[inline(always)]
-pub(crate) fn reply<'a>(
+fn told<'t>(put: Result<(), AllocError>, next: &'t str) -> Result<&'t str, Failure<Fault>>
+    ensures { result ≡ as_told put next.entry }
+{
+    put?;
+    Ok(next)
+}
+
+/// Puts the reply to the first line of a text. Returns the text behind the line.
+#[inline(always)]
+pub(crate) fn reply<'t>(
     alloc: Global,
-    text: &str,
-    room: &'a mut String,
-    output: &mut String,
-) -> Result<&'a str, Failure<Fault>>
-    ensures { Grows (string_bytes output.old) (string_bytes output.new) (λ begun.
-        IsTold result (λ end. IsAnswer text.now (begun ++ end))) }
+    text: &'t str,
+    output: &mut Output,
+) -> Result<&'t str, Failure<Fault>>
+    requires { HasFeed text.now }
+    ensures told { IsTold result output.old output.new
+        (IsAnswer (first_line text.now)) }
+    ensures next { IfOk result (IsNext text.now) }
 {
     let Some((command, rest)) = Command::of(text) else {
         return Err(Failure::Refused(Fault::BadLine));
     };
-    reply_to(alloc, command, rest, room, output)
+    reply_to(alloc, command, rest, output)
 }
 
 // The reply to a line with this command and these fields behind it.
 #[inline(always)]
-fn reply_to<'a>(
+fn reply_to<'t>(
     alloc: Global,
     command: Command,
-    rest: &str,
-    room: &'a mut String,
-    output: &mut String,
-) -> Result<&'a str, Failure<Fault>>
-    ensures { Grows (string_bytes output.old) (string_bytes output.new) (λ begun. IsTold result
-        (λ end. AnswersFields (command_word command ∷ fields rest.now) (begun ++ end))) }
+    rest: &'t str,
+    output: &mut Output,
+) -> Result<&'t str, Failure<Fault>>
+    requires { HasFeed rest.now }
+    ensures told { IsTold result output.old output.new
+        (AnswersFields (command_word command ∷ fields_ahead rest.now)) }
+    ensures next { IfOk result (IsNext rest.now) }
 {
     match command {
-        Command::Cmp => on_versions(rest, AboutVersions::Cmp, room),
-        Command::Ver => on_version(alloc, rest, room),
-        Command::Diff => on_versions(rest, AboutVersions::Diff, room),
-        Command::Inc => on_increment(alloc, rest, room),
-        Command::Range => on_range(alloc, rest, AboutRange::Print, room),
-        Command::And => on_ranges(alloc, rest, AboutRanges::And, room, output),
-        Command::Minus => on_ranges(alloc, rest, AboutRanges::Minus, room, output),
-        Command::Least => on_range(alloc, rest, AboutRange::Least, room),
-        Command::Beyond => on_ranges(alloc, rest, AboutRanges::Beyond, room, output),
-        Command::Sat => on_match(alloc, rest, AboutMatch::Sat),
-        Command::Pre => on_match(alloc, rest, AboutMatch::Pre),
-        Command::Out => on_outside(alloc, rest),
-        Command::Max => on_best(alloc, rest, AboutBest::Max, room),
-        Command::Min => on_best(alloc, rest, AboutBest::Min, room),
+        Command::Cmp => on_versions(rest, AboutVersions::Cmp, output),
+        Command::Ver => on_version(alloc, rest, output),
+        Command::Diff => on_versions(rest, AboutVersions::Diff, output),
+        Command::Inc => on_increment(alloc, rest, output),
+        Command::Range => on_range(alloc, rest, AboutRange::Print, output),
+        Command::And => on_ranges(alloc, rest, AboutRanges::And, output),
+        Command::Minus => on_ranges(alloc, rest, AboutRanges::Minus, output),
+        Command::Least => on_range(alloc, rest, AboutRange::Least, output),
+        Command::Beyond => on_ranges(alloc, rest, AboutRanges::Beyond, output),
+        Command::Sat => on_match(alloc, rest, AboutMatch::Sat, output),
+        Command::Pre => on_match(alloc, rest, AboutMatch::Pre, output),
+        Command::Out => on_outside(alloc, rest, output),
+        Command::Max => on_best(alloc, rest, AboutBest::Max, output),
+        Command::Min => on_best(alloc, rest, AboutBest::Min, output),
     }
 }
 
 #[inline(never)]
-fn on_version<'a>(
+fn on_version<'t>(
     alloc: Global,
-    texts: &str,
-    room: &'a mut String,
-) -> Result<&'a str, Failure<Fault>>
-    ensures { IsTold result (AnswersFields (codes "ver" ∷ fields texts.now)) }
+    texts: &'t str,
+    output: &mut Output,
+) -> Result<&'t str, Failure<Fault>>
+    requires { HasFeed texts.now }
+    ensures told { IsTold result output.old output.new
+        (AnswersFields (codes "ver" ∷ fields_ahead texts.now)) }
+    ensures next { IfOk result (IsNext texts.now) }
 {
-    let (version, rest) = version_field(texts);
-    if rest.is_some() {
-        return Err(Failure::Refused(Fault::BadLine));
-    }
-    let version = version_of(&version)?;
-    Ok(AboutVersion::Ver.reply(alloc, version, room)?)
-}
-
-#[inline(never)]
-fn on_increment<'a>(
-    alloc: Global,
-    texts: &str,
-    room: &'a mut String,
-) -> Result<&'a str, Failure<Fault>>
-    ensures { IsTold result (AnswersFields (codes "inc" ∷ fields texts.now)) }
-{
-    let (version, rest) = version_field(texts);
-    let Some(rest) = rest else {
-        return Err(Failure::Refused(Fault::BadLine));
-    };
-    let Some(asked) = AboutVersion::increment(rest) else {
+    let (version, behind) = version_field(texts);
+    let Behind::Lines(next) = behind else {
         return Err(Failure::Refused(Fault::BadLine));
     };
     let version = version_of(&version)?;
-    Ok(asked.reply(alloc, version, room)?)
+    told(AboutVersion::Ver.reply(alloc, version, output), next)
 }
 
 #[inline(never)]
-fn on_versions<'a>(
-    texts: &str,
+fn on_increment<'t>(
+    alloc: Global,
+    texts: &'t str,
+    output: &mut Output,
+) -> Result<&'t str, Failure<Fault>>
+    requires { HasFeed texts.now }
+    ensures told { IsTold result output.old output.new
+        (AnswersFields (codes "inc" ∷ fields_ahead texts.now)) }
+    ensures next { IfOk result (IsNext texts.now) }
+{
+    let (version, behind) = version_field(texts);
+    let Behind::Fields(rest) = behind else {
+        return Err(Failure::Refused(Fault::BadLine));
+    };
+    let Some((asked, next)) = AboutVersion::increment(rest) else {
+        return Err(Failure::Refused(Fault::BadLine));
+    };
+    let version = version_of(&version)?;
+    told(asked.reply(alloc, version, output), next)
+}
+
+#[inline(never)]
+fn on_versions<'t>(
+    texts: &'t str,
     asked: AboutVersions,
-    room: &'a mut String,
-) -> Result<&'a str, Failure<Fault>>
-    ensures { IsTold result (AnswersFields (versions_word asked ∷ fields texts.now)) }
+    output: &mut Output,
+) -> Result<&'t str, Failure<Fault>>
+    requires { HasFeed texts.now }
+    ensures told { IsTold result output.old output.new
+        (AnswersFields (versions_word asked ∷ fields_ahead texts.now)) }
+    ensures next { IfOk result (IsNext texts.now) }
 {
-    let (version, rest) = version_field(texts);
-    let Some(rest) = rest else {
+    let (version, behind) = version_field(texts);
+    let Behind::Fields(rest) = behind else {
         return Err(Failure::Refused(Fault::BadLine));
     };
     let (other, behind) = version_field(rest);
-    if behind.is_some() {
+    let Behind::Lines(next) = behind else {
         return Err(Failure::Refused(Fault::BadLine));
-    }
+    };
     let version = version_of(&version)?;
     let other = version_of(&other)?;
-    Ok(asked.reply(version, other, room)?)
+    told(asked.reply(version, other, output), next)
 }
 
 #[inline(never)]
-fn on_range<'a>(
+fn on_range<'t>(
     alloc: Global,
-    texts: &str,
+    texts: &'t str,
     asked: AboutRange,
-    room: &'a mut String,
-) -> Result<&'a str, Failure<Fault>>
-    ensures { IsTold result (AnswersFields (range_word asked ∷ fields texts.now)) }
+    output: &mut Output,
+) -> Result<&'t str, Failure<Fault>>
+    requires { HasFeed texts.now }
+    ensures told { IsTold result output.old output.new
+        (AnswersFields (range_word asked ∷ fields_ahead texts.now)) }
+    ensures next { IfOk result (IsNext texts.now) }
 {
-    let (field, rest) = cut(texts);
-    if rest.is_some() {
+    let (field, behind) = cut(texts);
+    let Behind::Lines(next) = behind else {
         return Err(Failure::Refused(Fault::BadLine));
-    }
+    };
     let range = RangeRef::parse(alloc, field);
-    parsed_range(alloc, &range, asked, room)
+    parsed_range(alloc, &range, asked, next, output)
 }
 
 // The reply about a range that was parsed. Its exits drop no range.
 #[inline(always)]
-fn parsed_range<'a>(
+fn parsed_range<'t>(
     alloc: Global,
     parsed: &Parsed<'_>,
     asked: AboutRange,
-    room: &'a mut String,
-) -> Result<&'a str, Failure<Fault>>
-    ensures { (text : List ℕ) → ParsesRange text parsed.now
-        → IsTold result (On (IsRangeOf text) (RangeReply asked)) }
+    next: &'t str,
+    output: &mut Output,
+) -> Result<&'t str, Failure<Fault>>
+    ensures told { (text : List ℕ) → ParsesRange text parsed.now
+        → IsTold result output.old output.new (On (IsRangeOf text) (RangeReply asked)) }
+    ensures next { IfOk result (λ found. found.now ≡ next.now) }
 {
     let range = range_of(parsed)?;
-    Ok(asked.reply(alloc, range, room)?)
+    told(asked.reply(alloc, range, output), next)
 }
 
 #[inline(never)]
-fn on_ranges<'a>(
+fn on_ranges<'t>(
     alloc: Global,
-    texts: &str,
+    texts: &'t str,
     asked: AboutRanges,
-    room: &'a mut String,
-    output: &mut String,
-) -> Result<&'a str, Failure<Fault>>
-    ensures { Grows (string_bytes output.old) (string_bytes output.new) (λ begun. IsTold result
-        (λ end. AnswersFields (ranges_word asked ∷ fields texts.now) (begun ++ end))) }
+    output: &mut Output,
+) -> Result<&'t str, Failure<Fault>>
+    requires { HasFeed texts.now }
+    ensures told { IsTold result output.old output.new
+        (AnswersFields (ranges_word asked ∷ fields_ahead texts.now)) }
+    ensures next { IfOk result (IsNext texts.now) }
 {
-    let (field, rest) = cut(texts);
-    let Some(rest) = rest else {
+    let (field, behind) = cut(texts);
+    let Behind::Fields(rest) = behind else {
         return Err(Failure::Refused(Fault::BadLine));
     };
     let (other, behind) = cut(rest);
-    if behind.is_some() {
+    let Behind::Lines(next) = behind else {
         return Err(Failure::Refused(Fault::BadLine));
-    }
+    };
     let range = RangeRef::parse(alloc, field);
-    parsed_ranges(alloc, &range, other, asked, room, output)
+    parsed_ranges(alloc, &range, other, asked, next, output)
 }
 
 #[inline(always)]
-fn parsed_ranges<'a, 't>(
+fn parsed_ranges<'t>(
     alloc: Global,
     parsed: &Parsed<'t>,
     s: &'t str,
     asked: AboutRanges,
-    room: &'a mut String,
-    output: &mut String,
-) -> Result<&'a str, Failure<Fault>>
-    ensures { (text : List ℕ) → ParsesRange text parsed.now
-        → Grows (string_bytes output.old) (string_bytes output.new) (λ begun. IsTold result
-        (λ end. On (IsRangeOf text)
-        (λ range. On (IsRangeOf s.now) (RangesReply asked range)) (begun ++ end))) }
+    next: &'t str,
+    output: &mut Output,
+) -> Result<&'t str, Failure<Fault>>
+    ensures told { (text : List ℕ) → ParsesRange text parsed.now
+        → IsTold result output.old output.new
+        (On (IsRangeOf text) (λ range. On (IsRangeOf s.now) (RangesReply asked range))) }
+    ensures next { IfOk result (λ found. found.now ≡ next.now) }
 {
     let range = range_of(parsed)?;
     let other = RangeRef::parse(alloc, s);
-    beside_parsed(alloc, range, &other, asked, room, output)
+    beside_parsed(alloc, range, &other, asked, next, output)
 }
 
 // The reply about a range and another one that was parsed.
 #[inline(always)]
-fn beside_parsed<'a, 't>(
+fn beside_parsed<'t>(
     alloc: Global,
     range: &RangeRef<'t>,
     other: &Parsed<'t>,
     asked: AboutRanges,
-    room: &'a mut String,
-    output: &mut String,
-) -> Result<&'a str, Failure<Fault>>
-    ensures { (text : List ℕ) → ParsesRange text other.now
-        → Grows (string_bytes output.old) (string_bytes output.new) (λ begun. IsTold result
-        (λ end. On (IsRangeOf text) (RangesReply asked range.now) (begun ++ end))) }
+    next: &'t str,
+    output: &mut Output,
+) -> Result<&'t str, Failure<Fault>>
+    ensures told { (text : List ℕ) → ParsesRange text other.now
+        → IsTold result output.old output.new
+        (On (IsRangeOf text) (RangesReply asked range.now)) }
+    ensures next { IfOk result (λ found. found.now ≡ next.now) }
 {
     let other = range_of(other)?;
-    Ok(asked.reply(alloc, range, other, room, output)?)
+    told(asked.reply(alloc, range, other, output), next)
 }
 
 #[inline(never)]
-fn on_match(alloc: Global, texts: &str, asked: AboutMatch) -> Result<&'static str, Failure<Fault>>
-    requires { IsTwo asked }
-    ensures { IsTold result (AnswersFields (match_word asked ∷ fields texts.now)) }
+fn on_match<'t>(
+    alloc: Global,
+    texts: &'t str,
+    asked: AboutMatch,
+    output: &mut Output,
+) -> Result<&'t str, Failure<Fault>>
+    requires two { IsTwo asked }
+    requires feed { HasFeed texts.now }
+    ensures told { IsTold result output.old output.new
+        (AnswersFields (match_word asked ∷ fields_ahead texts.now)) }
+    ensures next { IfOk result (IsNext texts.now) }
 {
-    let (field, rest) = cut(texts);
-    let Some(rest) = rest else {
+    let (field, behind) = cut(texts);
+    let Behind::Fields(rest) = behind else {
         return Err(Failure::Refused(Fault::BadLine));
     };
     let (version, behind) = version_field(rest);
-    if behind.is_some() {
+    let Behind::Lines(next) = behind else {
         return Err(Failure::Refused(Fault::BadLine));
-    }
+    };
     let range = RangeRef::parse(alloc, field);
-    parsed_match(&range, &version, asked)
+    parsed_match(&range, &version, asked, next, output)
 }
 
 #[inline(never)]
-fn on_outside(alloc: Global, texts: &str) -> Result<&'static str, Failure<Fault>>
-    ensures { IsTold result (AnswersFields (codes "out" ∷ fields texts.now)) }
+fn on_outside<'t>(
+    alloc: Global,
+    texts: &'t str,
+    output: &mut Output,
+) -> Result<&'t str, Failure<Fault>>
+    requires { HasFeed texts.now }
+    ensures told { IsTold result output.old output.new
+        (AnswersFields (codes "out" ∷ fields_ahead texts.now)) }
+    ensures next { IfOk result (IsNext texts.now) }
 {
-    let (field, rest) = cut(texts);
-    let Some(rest) = rest else {
+    let (field, behind) = cut(texts);
+    let Behind::Fields(rest) = behind else {
         return Err(Failure::Refused(Fault::BadLine));
     };
     let (version, behind) = version_field(rest);
-    let Some(side) = behind else {
+    let Behind::Fields(side) = behind else {
         return Err(Failure::Refused(Fault::BadLine));
     };
-    let Some(asked) = AboutMatch::outside(side) else {
+    let Some((asked, next)) = AboutMatch::outside(side) else {
         return Err(Failure::Refused(Fault::BadLine));
     };
     let range = RangeRef::parse(alloc, field);
-    parsed_match(&range, &version, asked)
+    parsed_match(&range, &version, asked, next, output)
 }
 
 // The reply about a range and a version that were parsed.
 #[inline(always)]
-fn parsed_match(
+fn parsed_match<'t>(
     range: &Parsed<'_>,
     version: &Result<VersionRef<'_>, SemverError>,
     asked: AboutMatch,
-) -> Result<&'static str, Failure<Fault>>
-    ensures { (r v : List ℕ) → ParsesRange r range.now → ParsesVersion v version.now
-        → IsTold result (IsReply (Match (r, v) asked)) }
+    next: &'t str,
+    output: &mut Output,
+) -> Result<&'t str, Failure<Fault>>
+    ensures told { (r v : List ℕ) → ParsesRange r range.now → ParsesVersion v version.now
+        → IsTold result output.old output.new (IsReply (Match (r, v) asked)) }
+    ensures next { IfOk result (λ found. found.now ≡ next.now) }
 {
     let range = range_of(range)?;
     let version = version_of(version)?;
-    Ok(truth_word(asked.reply(range, version)))
+    told(put_truth(asked.reply(range, version), output), next)
 }
 
 #[inline(never)]
-fn on_best<'a>(
+fn on_best<'t>(
     alloc: Global,
-    texts: &str,
+    texts: &'t str,
     asked: AboutBest,
-    room: &'a mut String,
-) -> Result<&'a str, Failure<Fault>>
-    ensures { IsTold result (AnswersFields (best_word asked ∷ fields texts.now)) }
+    output: &mut Output,
+) -> Result<&'t str, Failure<Fault>>
+    requires { HasFeed texts.now }
+    ensures told { IsTold result output.old output.new
+        (AnswersFields (best_word asked ∷ fields_ahead texts.now)) }
+    ensures next { IfOk result (IsNext texts.now) }
 {
-    let (field, rest) = cut(texts);
-    let Some(versions) = rest else {
+    let (field, behind) = cut(texts);
+    let Behind::Fields(versions) = behind else {
         return Err(Failure::Refused(Fault::BadLine));
     };
     let range = RangeRef::parse(alloc, field);
-    parsed_best(&range, versions, asked, room)
+    parsed_best(&range, versions, asked, output)
 }
 
 #[inline(always)]
-fn parsed_best<'a>(
+fn parsed_best<'t>(
     parsed: &Parsed<'_>,
-    vs: &str,
+    vs: &'t str,
     asked: AboutBest,
-    room: &'a mut String,
-) -> Result<&'a str, Failure<Fault>>
-    ensures { (text : List ℕ) → ParsesRange text parsed.now
-        → IsTold result (On (IsRangeOf text)
-        (λ range. On (AreVersionsOf (fields vs.now)) (BestReply asked range))) }
+    output: &mut Output,
+) -> Result<&'t str, Failure<Fault>>
+    requires { HasFeed vs.now }
+    ensures told { (text : List ℕ) → ParsesRange text parsed.now
+        → IsTold result output.old output.new (On (IsRangeOf text)
+        (λ range. On (AreVersionsOf (fields_ahead vs.now)) (BestReply asked range))) }
+    ensures next { IfOk result (IsNext vs.now) }
 {
     let range = range_of(parsed)?;
-    let best = best_of(asked, range, vs)?;
-    Ok(borrowed_or_none(best, room)?)
+    let (best, next) = best_of(asked, range, vs)?;
+    told(put_borrowed(best, output), next)
 }
 
 impl AboutVersion<'_> {
     #[inline(always)]
-    fn reply<'a>(
-        self,
-        alloc: Global,
-        v: &VersionRef<'_>,
-        room: &'a mut String,
-    ) -> Result<&'a str, AllocError>
-        ensures { IfOk result (λ text. text.now ≡ version_reply self.entry v.now) }
+    fn reply(self, alloc: Global, v: &VersionRef<'_>, output: &mut Output) -> Result<(), AllocError>
+        ensures ok { OnOk result
+            (output.new ≡ output.old ++ ended (version_reply self.entry v.now)) }
+        ensures err { OnErr result (Extends output.old output.new) }
     {
         match self {
-            AboutVersion::Ver => printed(v, room),
-            AboutVersion::Inc(word) => next_of(alloc, v, word, None, None, room),
-            AboutVersion::IncWith(word, id) => next_of(alloc, v, word, Some(id), None, room),
+            AboutVersion::Ver => put_printed(v, output),
+            AboutVersion::Inc(word) => next_of(alloc, v, word, None, None, output),
+            AboutVersion::IncWith(word, id) => next_of(alloc, v, word, Some(id), None, output),
             AboutVersion::IncFrom(word, id, base) => {
-                next_of(alloc, v, word, Some(id), Some(base), room)
+                next_of(alloc, v, word, Some(id), Some(base), output)
             }
         }
     }
 }
 
-// The next version after a version, printed, or why there is none.
+// The next version after a version, or why there is none.
 #[inline(never)]
-fn next_of<'a>(
+fn next_of(
     alloc: Global,
     v: &VersionRef<'_>,
     word: &str,
     identifier: Option<&str>,
     base: Option<IdentifierBase>,
-    room: &'a mut String,
-) -> Result<&'a str, AllocError>
-    ensures { let told = answer_of_inc v.now word.now (option_copied identifier.entry) base in
-        IfOk result (λ text. text.now ≡ next_text told) }
+    output: &mut Output,
+) -> Result<(), AllocError>
+    ensures ok { let told = answer_of_inc v.now word.now (option_copied identifier.entry) base in
+        OnOk result (output.new ≡ output.old ++ ended (next_text told)) }
+    ensures err { OnErr result (Extends output.old output.new) }
 {
-    next_text(&v.inc(alloc, word, identifier, base), room)
+    put_next(&v.inc(alloc, word, identifier, base), output)
 }
 
 impl AboutVersions {
     #[inline(always)]
-    fn reply<'a>(
+    #[tactic(auto, using(crate::proofs::Bytes::extended))]
+    fn reply(
         self,
         v: &VersionRef<'_>,
         w: &VersionRef<'_>,
-        room: &'a mut String,
-    ) -> Result<&'a str, AllocError>
-        ensures { IfOk result (λ text. text.now ≡ versions_reply self v.now w.now) }
+        output: &mut Output,
+    ) -> Result<(), AllocError>
+        ensures ok { OnOk result
+            (output.new ≡ output.old ++ ended (versions_reply self v.now w.now)) }
+        ensures err { OnErr result (Extends output.old output.new) }
     {
         match self {
-            AboutVersions::Cmp => Ok(order_word(v.cmp(w))),
-            AboutVersions::Diff => difference_word(v.diff(w), room),
+            AboutVersions::Cmp => put_order(v.cmp(w), output),
+            AboutVersions::Diff => output.put(difference_line(v.diff(w))),
         }
     }
 }
 
 impl AboutRange {
     #[inline(always)]
-    fn reply<'a>(
-        self,
-        alloc: Global,
-        r: &RangeRef<'_>,
-        room: &'a mut String,
-    ) -> Result<&'a str, AllocError>
-        ensures { IfOk result (λ text. RangeReply self r.now text.now) }
+    fn reply(self, alloc: Global, r: &RangeRef<'_>, output: &mut Output) -> Result<(), AllocError>
+        ensures { IsPut result output.old output.new (RangeReply self r.now) }
     {
         match self {
-            AboutRange::Print => printed(r, room),
+            AboutRange::Print => put_range_line(r, output),
             AboutRange::Least => match r.least_start() {
-                Some(version) => printed(version, room),
-                None => version_or_none(r.min_version(alloc), room),
+                Some(version) => put_printed(version, output),
+                None => put_found(r.min_version(alloc), output),
             },
         }
     }
@@ -393,25 +439,19 @@ impl AboutRange {
 
 impl AboutRanges {
     #[inline(always)]
-    fn reply<'a, 't>(
+    fn reply<'t>(
         self,
         alloc: Global,
         r: &RangeRef<'t>,
         s: &RangeRef<'t>,
-        room: &'a mut String,
-        output: &mut String,
-    ) -> Result<&'a str, AllocError>
-        ensures { Grows (string_bytes output.old) (string_bytes output.new) (λ begun.
-            IfOk result (λ end. RangesReply self r.now s.now (begun ++ end.now))) }
+        output: &mut Output,
+    ) -> Result<(), AllocError>
+        ensures { IsPut result output.old output.new (RangesReply self r.now s.now) }
     {
         match self {
-            AboutRanges::And => {
-                combined_text(Combination::Intersection, alloc, r, s, room, output)
-            }
-            AboutRanges::Minus => {
-                combined_text(Combination::Difference, alloc, r, s, room, output)
-            }
-            AboutRanges::Beyond => version_or_none(r.least_beyond(alloc, s), room),
+            AboutRanges::And => put_combined(Combination::Intersection, alloc, r, s, output),
+            AboutRanges::Minus => put_combined(Combination::Difference, alloc, r, s, output),
+            AboutRanges::Beyond => put_found(r.least_beyond(alloc, s), output),
         }
     }
 }

@@ -1,17 +1,18 @@
 // Answers each line of an input.
 
-ghost use Rattle.std.specs.Prelude.{◌≡◌, ◌+◌, ◌<◌, ◌++◌, ◌∷◌, []};
-ghost use Rattle.std.specs.Prelude.{true, length, take, drop, string_bytes};
-ghost use Rattle.std.specs.Prelude.{slice_index, IfSome, IfNone, IsUtf8, IfOk, IfErr, OnOk, OnErr};
+ghost use Rattle.std.specs.Prelude.{◌≡◌, ◌<◌, ◌++◌, [], true, length, take};
+ghost use Rattle.std.specs.Prelude.{IfSome, IfNone, IsUtf8, IfOk, IfErr, OnOk, OnErr};
 ghost use Rattle.std.specs.Io.KnownBytes.{Appends, IsAtEnd};
 ghost use Rattle.semver_answers.specs.Answers.{Answers};
 ghost use Rattle.semver_answers.specs.Lines.{last_line, no_feed};
 ghost use Rattle.semver_answers.specs.Outcome.{Ran};
+ghost use Rattle.semver_answers.specs.Internal.Ahead.{HasFeed, behind_line, ends_whole, first_line};
 ghost use Rattle.semver_answers.specs.Internal.Steps.{Finished, GrowsByAnswer, Stopped, Took};
 ghost use Rattle.semver_answers.specs.Internal.Steps.{Turned, WritesFront};
 
 use crate::answer::{answer_line, answer_text};
-use memchr::memchr;
+use crate::output::Output;
+use memchr::{memchr, memrchr};
 use semver_core::scan::text_front;
 use std::alloc::{AllocError, Global};
 use std::io::{Read, Write};
@@ -35,10 +36,8 @@ const CHUNK: usize = 65536;
 struct Lines {
     // The line that has not ended yet, as far as it was read.
     pending: Vec<u8>,
-    // Room to print an answer in.
-    room: String,
     // The answers that wait to be written.
-    output: String,
+    output: Output,
 }
 
 impl Lines {
@@ -47,100 +46,91 @@ impl Lines {
     {
         Lines {
             pending: Vec::new(alloc),
-            room: String::new(alloc),
-            output: String::new(alloc),
+            output: Output::new(alloc),
         }
     }
 
-    // Answers the pending line, which goes on with these bytes and then ends.
-    fn end_line(&mut self, alloc: Global, bytes: &[u8]) -> Result<(), AllocError>
-        ensures ok { OnOk result (GrowsByAnswer (self.old.pending.items ++ bytes.now)
-            (string_bytes self.old.output) (string_bytes self.new.output)) }
+    // Answers the pending line, which goes on and ends with these bytes.
+    fn end_line(&mut self, alloc: Global, end: &[u8]) -> Result<(), AllocError>
+        requires pending { no_feed self.old.pending.items ≡ true }
+        requires feed { HasFeed end.now }
+        requires last { behind_line end.now ≡ [] }
+        ensures ok { OnOk result (GrowsByAnswer (self.old.pending.items ++ first_line end.now)
+            self.old.output self.new.output) }
         ensures ended { OnOk result (self.new.pending.items ≡ []) }
-        ensures err { OnErr result (string_bytes self.new.output ≡ string_bytes self.old.output) }
+        ensures err { OnErr result (self.new.output ≡ self.old.output) }
     {
         if self.pending.is_empty() {
-            return answer_line(alloc, bytes, &mut self.room, &mut self.output);
+            return answer_line(alloc, end, &mut self.output);
         }
-        self.pending.extend_from_slice(bytes)?;
+        self.pending.extend_from_slice(end)?;
         let line = self.pending.as_slice();
-        answer_line(alloc, line, &mut self.room, &mut self.output)?;
+        answer_line(alloc, line, &mut self.output)?;
         self.pending.clear();
         Ok(())
     }
 
     // Answers the lines that end in a chunk. What is left of it waits in `pending`.
     fn take(&mut self, alloc: Global, chunk: &[u8]) -> Result<(), AllocError>
+        requires { no_feed self.old.pending.items ≡ true }
         ensures { Took result self.old.pending.items chunk.now self.new.pending.items
-            (string_bytes self.new.output) }
+            self.new.output }
     {
         self.output.clear();
-        // The text at the front of what is left is checked to be UTF-8 once for all its lines.
+        // Lines at the front of what is left are checked to be UTF-8 all at once.
         let mut text = "";
         let mut rest = chunk;
         'lines: loop {
-            if let Some((line, behind)) = text_line(text) {
-                answer_text(alloc, line, &mut self.room, &mut self.output)?;
-                text = behind;
-            } else {
-                self.pending.extend_from_slice(text.as_bytes())?;
+            if text.is_empty() {
                 let Some((line, behind)) = first_line(rest) else {
                     return self.pending.extend_from_slice(rest);
                 };
                 self.end_line(alloc, line)?;
-                let (front, back) = front_text(behind);
+                let (front, back) = front_lines(behind);
                 text = front;
                 rest = back;
+            } else {
+                text = answer_text(alloc, text, &mut self.output)?;
             }
         }
     }
 
     // Answers a last line that has no line feed, if it is not empty.
     fn end(&mut self, alloc: Global) -> Result<(), AllocError>
+        requires { no_feed self.old.pending.items ≡ true }
         ensures { OnOk result
-            (Answers (last_line self.old.pending.items) (string_bytes self.new.output)) }
+            (Answers (last_line self.old.pending.items) self.new.output) }
     {
         self.output.clear();
         if self.pending.is_empty() {
             return Ok(());
         }
-        self.end_line(alloc, &[])
+        self.end_line(alloc, b"\n")
     }
 }
 
-// The place of the first line feed.
-fn first_feed(bytes: &[u8]) -> Option<usize>
-    ensures below { IfSome result (λ at. at < length bytes.now) }
-    ensures some { IfSome result (λ at.
-        bytes.now ≡ take at bytes.now ++ 10 ∷ drop (at + 1) bytes.now) }
-    ensures line { IfSome result (λ at. no_feed (take at bytes.now) ≡ true) }
-    ensures feed { IfSome result (λ at. slice_index bytes.now at ≡ 10) }
-    ensures none { IfNone result (no_feed bytes.now ≡ true) }
-{
-    memchr(b'\n', bytes)
-}
-
-// The first line, and what stands behind its line feed; `None` where there is none.
-#[inline(always)]
+// The first line with its line feed, and what stands behind it; `None` where there is none.
 fn first_line(bytes: &[u8]) -> Option<(&[u8], &[u8])>
-    ensures some { IfSome result (λ cut. bytes.now ≡ cut.0.now ++ 10 ∷ cut.1.now) }
-    ensures line { IfSome result (λ cut. no_feed cut.0.now ≡ true) }
+    ensures some { IfSome result (λ cut. bytes.now ≡ cut.0.now ++ cut.1.now) }
+    ensures feed { IfSome result (λ cut. HasFeed cut.0.now) }
+    ensures last { IfSome result (λ cut. behind_line cut.0.now ≡ []) }
     ensures none { IfNone result (no_feed bytes.now ≡ true) }
 {
-    let at = first_feed(bytes)?;
-    Some((&bytes[..at], &bytes[at + 1..]))
+    let at = memchr(b'\n', bytes)?;
+    Some((&bytes[..at + 1], &bytes[at + 1..]))
 }
 
-// The same of a text.
-#[inline(always)]
-fn text_line(text: &str) -> Option<(&str, &str)>
-    ensures some { IfSome result (λ cut. text.now ≡ cut.0.now ++ 10 ∷ cut.1.now) }
-    ensures line { IfSome result (λ cut. no_feed cut.0.now ≡ true) }
-    ensures utf8 { IfSome result (λ cut. IsUtf8 cut.1.now) }
-    ensures none { IfNone result (no_feed text.now ≡ true) }
+// The longest text at the front of some bytes that is whole lines, and what stands behind it.
+fn front_lines(bytes: &[u8]) -> (&str, &[u8])
+    ensures whole { bytes.now ≡ result.0.now ++ result.1.now }
+    ensures lines { ends_whole result.0.now ≡ true }
+    ensures utf8 { IsUtf8 result.0.now }
 {
-    let at = first_feed(text.as_bytes())?;
-    Some((&text[..at], &text[at + 1..]))
+    let (text, rest) = front_text(bytes);
+    match memrchr(b'\n', text.as_bytes()) {
+        Some(at) => (&text[..at + 1], &bytes[at + 1..]),
+        None => ("", bytes),
+    }
 }
 
 // The longest text at the front of some bytes, and what stands behind it.
@@ -186,6 +176,7 @@ fn turn<R: Read, W: Write>(
     buffer: &mut [u8],
     lines: &mut Lines,
 ) -> Result<usize, RunFault>
+    requires { no_feed lines.old.pending.items ≡ true }
     ensures ok { IfOk result (λ n.
         Turned Answers (R.remaining reader.old) (R.remaining reader.new) (W.contents writer.old)
         (W.contents writer.new)
@@ -200,7 +191,7 @@ fn turn<R: Read, W: Write>(
         return Err(RunFault::Read);
     };
     let taken = lines.take(alloc, &buffer[..n]);
-    write_out(writer, lines.output.as_bytes())?;
+    write_out(writer, lines.output.as_slice())?;
     match taken {
         Ok(()) => Ok(n),
         Err(_) => Err(RunFault::Memory),
@@ -209,11 +200,12 @@ fn turn<R: Read, W: Write>(
 
 // Answers a last line that has no line feed.
 fn finish<W: Write>(alloc: Global, writer: &mut W, lines: &mut Lines) -> Result<(), RunFault>
+    requires { no_feed lines.old.pending.items ≡ true }
     ensures { Finished (W.contents writer.old)
         (W.contents writer.new) lines.old.pending.items result }
 {
     match lines.end(alloc) {
-        Ok(()) => write_out(writer, lines.output.as_bytes()),
+        Ok(()) => write_out(writer, lines.output.as_slice()),
         Err(_) => Err(RunFault::Memory),
     }
 }

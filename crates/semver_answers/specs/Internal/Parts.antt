@@ -1,5 +1,5 @@
--- For proofs. What a function appends to the output, and the text of an intersection or a difference, part by part.
-use Rattle.std.specs.Prelude.{◌≡◌, ◌++◌, ℕ, Bool, List, [], Option, Some, None, codes, if◌then◌else◌, ⊤, IsUtf8}
+-- For proofs. The text of an intersection or a difference, part by part.
+use Rattle.std.specs.Prelude.{◌++◌, ℕ, Bool, List, [], Option, Some, None, codes, if◌then◌else◌}
 use Rattle.semver_core.specs.Cuts.{Span}
 use Rattle.semver_core.specs.Values.Versions.{VersionValue}
 use Rattle.semver_core.specs.Lists.{if_any}
@@ -8,17 +8,6 @@ use Rattle.nodejs_semver.specs.Internal.Sets.{meets_of, minus}
 use Rattle.nodejs_semver.specs.Printing.Text.{range_text}
 use Rattle.semver_answers.specs.declared.parts.Combination.{Combination}
 use Rattle.semver_answers.specs.declared.parts.Combination.TheVariants.{Intersection, Difference}
-
--- the output grew by a text, of which this is said
-pub record Grows (old new : List ℕ) (Said : List ℕ → Type 0) : Type 0 where
-  pub begun : List ℕ
-  pub grown : new ≡ old ++ begun
-  pub utf8 : IsUtf8 begun
-  pub said : Said begun
-
--- it grew by some text
-abbrev pub Extends : (old new : List ℕ) → Type 0
-Extends old new = Grows old new (λ begun. ⊤)
 
 -- the intervals that come of two ranges, and the range of them: their intersection or their difference
 abbrev pub made_of : Combination → (ss us : List (Span VersionValue)) → List (Span VersionValue)

@@ -1,8 +1,8 @@
 -- For proofs. What the results of reading a question's texts, and of replying to it, say.
-use Rattle.std.specs.Prelude.{◌≡◌, ◌==◌, ◌<◌, ℕ, Bool, List, [], ◌∷◌, length, Option, Some, None}
+use Rattle.std.specs.Prelude.{◌≡◌, ◌<◌, ◌++◌, ℕ, List, [], length, Option}
 use Rattle.std.specs.Prelude.{Result, Ok, Err, IfErr, IfOk}
-use Rattle.std.specs.Prelude.{false, true, ⊤}
-use Rattle.std.specs.Borrow.{Bor}
+use Rattle.std.specs.Prelude.{false, ⊤}
+use Rattle.std.specs.declared.alloc.AllocError.{AllocError}
 use Rattle.semver_core.specs.Cuts.{Span}
 use Rattle.semver_core.specs.Failures.{RefusedOnlyIf, NoValue}
 use Rattle.semver_core.specs.Text.Parsing.{Parses}
@@ -15,10 +15,13 @@ use Rattle.nodejs_semver.specs.Text.Meaning.{Means}
 use Rattle.semver_core.specs.declared.error.Failure.{Failure}
 use Rattle.semver_core.specs.declared.error.Failure.TheVariants.{Refused, Memory}
 use Rattle.semver_answers.specs.Commands.{Asks, IsReply, Question}
-use Rattle.semver_answers.specs.Lines.{fields}
+use Rattle.semver_answers.specs.Internal.Ahead.{Cuts}
+use Rattle.semver_answers.specs.Internal.Puts.{Extends}
+use Rattle.semver_answers.specs.Lines.{ended}
 use Rattle.semver_answers.specs.Names.{fault_word}
 use Rattle.semver_answers.specs.Replies.{AreVersionsOf}
 use Rattle.semver_answers.specs.declared.fault.Fault.{Fault}
+use Rattle.semver_answers.specs.declared.fields.Behind.{Behind}
 use Rattle.semver_answers.specs.declared.fault.Fault.TheVariants.{BadLine}
 use Rattle.semver_answers.specs.declared.question.AboutBest.{AboutBest}
 use Rattle.semver_answers.specs.declared.question.AboutBest.TheVariants.{Max, Min}
@@ -54,21 +57,11 @@ pub record FindsBest (asked : AboutBest) (r : List (Span VersionValue)) (texts :
   pub read : AreVersionsOf texts (Ok versions)
   pub is : IsBestOf asked r versions best
 
--- the fields behind a field, of the text behind its `;`
-abbrev pub behind : Option (Bor (List ℕ)) → List (List ℕ)
-behind None = []
-behind (Some rest) = fields rest.now
-
--- a field ends before this text
-abbrev pub ends_field : List ℕ → Bool
-ends_field [] = true
-ends_field (c ∷ rest) = c == 59
-
--- the first field of a text was read as a version, and what stands behind it is left
-pub record ReadsVersion (text : List ℕ) (version : Result VersionValue SemverError)
-    (rest : Option (Bor (List ℕ))) : Type 0 where
+-- the first field was read as a version, and what stands behind it is left
+pub record ReadsVersion (text : List ℕ) (version : Result VersionValue SemverError) (behind : Behind)
+    : Type 0 where
   pub field : List ℕ
-  pub first : fields text ≡ field ∷ behind rest
+  pub cuts : Cuts text field behind
   pub parsed : ParsesVersion field version
 
 -- the answer to a line of these fields
@@ -77,8 +70,18 @@ pub data AnswersFields (line : List (List ℕ)) (answer : List ℕ) : Type 0 whe
   unasked : ((question : Question) → Asks line question → ⊥) → answer ≡ fault_word BadLine
       → AnswersFields line answer
 
--- the text or the error is the reply, unless an allocation failed
-abbrev pub IsTold : Result (Bor (List ℕ)) (Failure Fault) → (List ℕ → Type 0) → Type 0
-IsTold (Ok text) Reply = Reply text.now
-IsTold (Err (Refused fault)) Reply = Reply (fault_word fault)
-IsTold (Err (Memory error)) Reply = ⊤
+-- a reply was put behind the output, with a line feed, unless an allocation failed
+abbrev pub IsPut : Result ⊤ AllocError → (old new : List ℕ) → (List ℕ → Type 0) → Type 0
+IsPut (Ok done) old new Reply = (reply : List ℕ) × (new ≡ old ++ ended reply) × Reply reply
+IsPut (Err error) old new Reply = Extends old new
+
+-- this value behind what was put, or the error of an allocation
+abbrev pub as_told : {A : Type 0} → Result ⊤ AllocError → A → Result A (Failure Fault)
+as_told (Ok done) value = Ok value
+as_told (Err error) value = Err (Memory error)
+
+-- a reply was put, or an error says what the reply is
+abbrev pub IsTold : {A : Type 0} → Result A (Failure Fault) → (old new : List ℕ) → (List ℕ → Type 0) → Type 0
+IsTold (Ok value) old new Reply = IsPut (Ok tt) old new Reply
+IsTold (Err (Refused fault)) old new Reply = (new ≡ old) × Reply (fault_word fault)
+IsTold (Err (Memory error)) old new Reply = Extends old new

@@ -1,8 +1,4 @@
 use Rattle.semver_answers.proofs.fields.whole_version_field.Goals as goal
 
-pub returns-clause-read : goal.returns-clause-read
-returns-clause-read c = record {
-  field = c.cut.result.0.now;
-  first = c.cut.ensures.first;
-  parsed = (c.parse.ensures.ok, c.parse.ensures.refused);
-}
+pub returns : goal.returns
+returns c = record { field = c.cut.result.0.now; cuts = c.cut.ensures; parsed = (c.parse.ensures.ok, c.parse.ensures.refused) }

@@ -1,33 +1,25 @@
-use Rattle.std.proofs.Common.{refl, sym, ◌∙◌}
+use Rattle.std.proofs.Common.{refl}
 use Rattle.semver_answers.specs.Commands.{Ranges}
-use Rattle.semver_answers.specs.Internal.Results.{answered, unasked}
+use Rattle.semver_answers.specs.Internal.Results.{unasked}
 use Rattle.semver_answers.proofs.Asked.{ranges_asked, ranges_none}
-use Rattle.semver_answers.proofs.Behind.{more_than_two, one_is_not_two, only, pair, second}
-use Rattle.semver_answers.proofs.Growth.{grows_weaker, unchanged}
-use Rattle.semver_answers.proofs.Replies.{told_weaker}
+use Rattle.semver_answers.proofs.Behind.{one_is_not_two, pair, single, three, three_is_not_two}
+use Rattle.semver_answers.proofs.Replies.{told_asked}
 use Rattle.semver_answers.proofs.reply.on_ranges.Goals as goal
 
-pub returns-in_default : goal.returns-in_default
-returns-in_default c =
-    let field = c.cut.result.0.now in
-    let e = only c.args.texts.now field c.cut.result.1 c.cut.ensures.first c.in_default.is in
-    unchanged _ _ (unasked (ranges_none c.args.asked _ (one_is_not_two c.args.texts.now field e)) refl)
+pub returns-in_default-clause-told : goal.returns-in_default-clause-told
+returns-in_default-clause-told c =
+    (refl, unasked (ranges_none c.args.asked _ (one_is_not_two c.args.texts.now c.cut.result.0.now (single _ _ _ _ c.cut.ensures c.in_default.is))) refl)
 
-pub returns-then-is_some : goal.returns-then-is_some
-returns-then-is_some c =
+pub returns-in_default-behind-clause-told : goal.returns-in_default-behind-clause-told
+returns-in_default-behind-clause-told c =
+    let e = three _ _ _ _ _ _ _ c.cut.ensures c.in-Fields.is c.cut-2.ensures c.in_default-behind.is in
+    (refl, unasked (ranges_none c.args.asked _ (three_is_not_two c.args.texts.now c.cut.result.0.now c.cut-2.result.0.now c.in_default-behind.field-0.now e)) refl)
+
+pub returns-clause-told : goal.returns-clause-told
+returns-clause-told c =
     let field = c.cut.result.0.now in
     let other = c.cut-2.result.0.now in
-    let e = second c.args.texts.now field other c.cut.result.1 c.in-Some.rest c.cut-2.result.1 c.cut.ensures.first c.in-Some.is c.cut-2.ensures.first in
-    unchanged _ _ (unasked (ranges_none c.args.asked _
-    (more_than_two c.args.texts.now field other c.cut-2.result.1 e (sym c.is_some.ensures ∙ c.if-is_some.true))) refl)
-
-pub returns : goal.returns
-returns c =
-    let field = c.cut.result.0.now in
-    let other = c.cut-2.result.0.now in
-    let e = second c.args.texts.now field other c.cut.result.1 c.in-Some.rest c.cut-2.result.1 c.cut.ensures.first c.in-Some.is c.cut-2.ensures.first in
-    let both = pair c.args.texts.now field other c.cut-2.result.1 e (sym c.is_some.ensures ∙ c.if-is_some.false) in
+    let both = pair _ _ _ _ _ _ _ c.cut.ensures c.in-Fields.is c.cut-2.ensures c.in-Lines.is in
     let r = c.parse-range.ensures in
-    let asks = ranges_asked c.args.asked field other _ both in
-    grows_weaker _ _ (λ begun. told_weaker _ _ c.parsed_ranges.result (λ end. answered (Ranges (field, other) c.args.asked) asks))
-    (c.parsed_ranges.ensures field (r.ok, r.some, r.refused))
+    told_asked _ (Ranges (field, other) c.args.asked) c.parsed_ranges.result _ _ (ranges_asked c.args.asked field other _ both)
+    (c.parsed_ranges.ensures.told field (r.ok, r.some, r.refused))

@@ -1,10 +1,21 @@
-use Rattle.std.proofs.Common.{◌++◌, [], take, arith}
+use Rattle.std.proofs.Common.{◌++◌, [], take, arith, refl}
 use Rattle.std.proofs.KnownBytes.{Keeps-refl}
 use Rattle.std.proofs.lemmas.Result.{err_from_is_err_and}
 use Rattle.semver_answers.specs.Answers.{Answers}
 use Rattle.semver_answers.specs.declared.run.RunFault.TheVariants.{Read}
 use Rattle.semver_answers.proofs.Steps.{Answers-append, finished_ran, stopped_ran, turned_on}
 use Rattle.semver_answers.proofs.run.run_turns.Goals as goal
+
+pub turn-requires : goal.turn-requires
+turn-requires g c =
+    let (full, (bytes, so_far)) = c.reads.invariant in
+    (so_far.told.has_lines refl).last
+
+pub finish-requires : goal.finish-requires
+finish-requires g c =
+    let (full, (bytes, so_far)) = c.reads.invariant in
+    let more = take c.in_ok-n.n c.turn.new.buffer in
+    ((turned_on Answers Answers-append _ _ _ _ _ _ [] c.reads.lines.pending.items _ bytes more so_far c.in_ok-n.ensures.ok).told.has_lines refl).last
 
 pub returns-in_err-n : goal.returns-in_err-n
 returns-in_err-n g c =

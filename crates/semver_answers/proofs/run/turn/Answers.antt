@@ -8,7 +8,7 @@ returns-in_err-write_out-clause-fault g c =
     let p = err_from_is_err_and c.from_residual.result c.from_residual.ensures.1 in
     rw (p.1, p.2, c.in_err-write_out.ensures.fault) (turn_torn _ _ _ _ c.args.lines.now.pending.items
     (take c.in-Ok.n c.read.new.buf) _ _ _ c.take-taken.result c.in-Ok.ensures.bytes.0 c.take-taken.ensures
-    c.as_bytes.ensures.value c.in_err-write_out.ensures.err)
+    c.as_slice.ensures c.in_err-write_out.ensures.err)
 
 pub returns-in_default-clause-fault : goal.returns-in_default-clause-fault
 returns-in_default-clause-fault g c = search rules

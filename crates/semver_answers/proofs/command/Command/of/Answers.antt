@@ -1,8 +1,7 @@
-use Rattle.std.proofs.Common.{drop, ap, arith, ◌∙◌}
+use Rattle.std.proofs.Common.{drop, arith, sym, ◌∙◌}
 use Rattle.semver_answers.specs.Internal.CommandWords.{command_word}
-use Rattle.semver_answers.specs.Lines.{fields}
-use Rattle.semver_answers.proofs.Asked.{known}
-use Rattle.semver_answers.proofs.Firsts.{behind_mark}
+use Rattle.semver_answers.proofs.Asked.{word_has_no_mark}
+use Rattle.semver_answers.proofs.Firsts.{behind_mark, field_ends}
 use Rattle.semver_answers.proofs.command.Command.of.Goals as goal
 
 pub range_from-requires : goal.range_from-requires
@@ -12,4 +11,21 @@ range_from-requires c =
 
 pub returns-clause-some : goal.returns-clause-some
 returns-clause-some c =
-    rw c.range_from.ensures.value (ap fields (rw c.as_bytes.ensures.value at c.in_ok-command.ensures.some) ∙ known c.in_ok-command.command (drop c.in_ok-command.end c.args.text.now))
+    let word = command_word c.in_ok-command.command in
+    let rest = drop c.in_ok-command.end c.args.text.now in
+    let split = rw c.as_bytes.ensures.value at c.in_ok-command.ensures.some in
+    rw c.range_from.ensures.value (field_ends c.args.text.now word rest split (word_has_no_mark c.in_ok-command.command)).0
+
+pub returns-clause-next : goal.returns-clause-next
+returns-clause-next c =
+    let word = command_word c.in_ok-command.command in
+    let rest = drop c.in_ok-command.end c.args.text.now in
+    let split = rw c.as_bytes.ensures.value at c.in_ok-command.ensures.some in
+    rw c.range_from.ensures.value (field_ends c.args.text.now word rest split (word_has_no_mark c.in_ok-command.command)).1
+
+pub returns-clause-feed : goal.returns-clause-feed
+returns-clause-feed c =
+    let word = command_word c.in_ok-command.command in
+    let rest = drop c.in_ok-command.end c.args.text.now in
+    let split = rw c.as_bytes.ensures.value at c.in_ok-command.ensures.some in
+    rw c.range_from.ensures.value (sym (field_ends c.args.text.now word rest split (word_has_no_mark c.in_ok-command.command)).2 ∙ c.requires)

@@ -1,16 +1,18 @@
-use Rattle.std.proofs.Common.{Some}
-use Rattle.std.proofs.lemmas.Result.{IfOk-weaker}
-use Rattle.semver_answers.proofs.Replies.{says_found}
+use Rattle.std.proofs.Common.{Some, refl}
+use Rattle.semver_answers.proofs.Replies.{put_found_says, put_says}
 use Rattle.semver_answers.proofs.question.AboutRange.reply.Goals as goal
+
+pub returns-in-Print : goal.returns-in-Print
+returns-in-Print c =
+    rw c.in-Print.is (put_says c.put_range_line.result _ _ _ _ c.put_range_line.ensures.ok c.put_range_line.ensures.err refl)
 
 pub returns-in-Some : goal.returns-in-Some
 returns-in-Some c =
     let m = c.in-Some.ensures in
-    rw c.in-Least.is (IfOk-weaker c.printed-in-Some.result _ _ (λ text e. (Some c.in-Some.version.now, (m.least, m.build), e))
-    c.printed-in-Some.ensures)
+    rw c.in-Least.is (put_says c.put_printed.result _ _ _ _ c.put_printed.ensures.ok c.put_printed.ensures.err
+    (Some c.in-Some.version.now, (m.least, m.build), refl))
 
 pub returns-in-None : goal.returns-in-None
 returns-in-None c =
     let m = c.min_version.ensures in
-    rw c.in-Least.is (IfOk-weaker c.version_or_none.result _ _ (λ text. says_found _ _ c.min_version.result text.now m.least m.build)
-    c.version_or_none.ensures)
+    rw c.in-Least.is (put_found_says _ _ c.min_version.result c.put_found.result _ _ m.least m.build c.put_found.ensures.ok c.put_found.ensures.err)

@@ -1,44 +1,80 @@
-use Rattle.std.proofs.Common.{◌∷◌, ◌∙◌, sym, ap, arith, length, length-append, append_assoc, ◌++◌}
+use Rattle.std.proofs.Common.{◌∷◌, ◌∙◌, ◌≡◌, ◌<◌, [], sym, ap, arith, length, append_assoc, ◌++◌, refl, rules}
 use Rattle.std.proofs.lemmas.Result.{err_from_is_err_and}
-use Rattle.semver_answers.proofs.Steps.{taken_line, taken_more, taken_stop, took_end}
+use Rattle.semver_answers.specs.Internal.Ahead.{behind_line, first_line}
+use Rattle.semver_answers.proofs.Firsts.{behind_shorter, divided, ends_none, nothing_in, whole_has, whole_next}
+use Rattle.semver_answers.proofs.Steps.{taken_line, taken_none, taken_stop, took_end}
 use Rattle.semver_answers.proofs.run.Lines.take.Goals as goal
 
-pub returns-in_err-answer_text : goal.returns-in_err-answer_text
-returns-in_err-answer_text c =
-    let p = err_from_is_err_and c.from_residual.result c.from_residual.ensures.1 in
-    rw (p.1, c.in_err-answer_text.ensures.err) (taken_stop _ _ _ _ _ c.lines.invariant.2)
+pub lines-init : goal.lines-init
+lines-init c = record {
+  utf8 = ([], (refl, refl));
+  whole = ends_none;
+  pending = c.requires;
+  empty = λ some. absurd (omega (arith, some));
+  taken = taken_none _ _ _ c.clear.ensures;
+}
 
-pub lines-preserved-in-Some : goal.lines-preserved-in-Some
-lines-preserved-in-Some c =
-    let (utf8, empty, t) = c.lines.invariant in
-    let cut = c.in-Some.ensures in
-    let line = c.in-Some.line.now in
-    let none = empty (omega (arith, ap length cut.some, length-append line (10 ∷ c.in-Some.behind.now))) in
-    let next = ap (λ l. l ++ c.lines.rest.now) cut.some ∙ append_assoc line (10 ∷ c.in-Some.behind.now) c.lines.rest.now in
-    (cut.utf8, λ _. none, taken_line _ _ _ _ _ _ line _ _ t next cut.line (rw none c.in_ok-answer_text.ensures.ok) none)
-
-pub returns-in_err-extend_from_slice : goal.returns-in_err-extend_from_slice
-returns-in_err-extend_from_slice c =
-    let r = c.from_residual-in_err-extend_from_slice in
-    rw (err_from_is_err_and r.result r.ensures.1).1 (taken_stop _ _ _ _ _ c.lines.invariant.2)
-
-pub returns-in_default-first_line : goal.returns-in_default-first_line
-returns-in_default-first_line c =
-    let more = taken_more _ _ _ c.lines.text.now c.lines.rest.now _ c.lines.invariant.2 c.in_default.ensures.none in
-    let last = c.extend_from_slice-in_default-first_line in
-    took_end last.result _ _ _ _ _ _ more c.in_default-first_line.ensures.none
-    (rw (c.in_ok-extend_from_slice.ensures.items, c.as_bytes.ensures.value) at last.ensures.items)
+pub returns-in_default : goal.returns-in_default
+returns-in_default c =
+    let empty : length c.lines.text.now ≡ 0 = search rules in
+    took_end c.extend_from_slice.result _ _ _ _ _ _ (rw (nothing_in c.lines.text.now empty) at c.lines.invariant.taken) c.in_default.ensures.none
+    c.extend_from_slice.ensures.items
 
 pub returns-in_err-end_line : goal.returns-in_err-end_line
 returns-in_err-end_line c =
-    let p = err_from_is_err_and c.from_residual-in_err-end_line.result c.from_residual-in_err-end_line.ensures.1 in
-    rw (p.1, c.in_err-end_line.ensures.err) (taken_stop _ _ _ _ _ c.lines.invariant.2)
+    let p = err_from_is_err_and c.from_residual.result c.from_residual.ensures.1 in
+    rw (p.1, c.in_err-end_line.ensures.err) (taken_stop _ _ _ _ _ c.lines.invariant.taken)
+
+pub lines-preserved-then-is_empty : goal.lines-preserved-then-is_empty
+lines-preserved-then-is_empty c =
+    let empty : length c.lines.text.now ≡ 0 = search rules in
+    let cut = c.in-Some.ensures in
+    let line = c.in-Some.line.now in
+    let split = divided line cut.feed in
+    let next : c.lines.rest.now ≡ first_line line ++ 10 ∷ c.in-Some.behind.now =
+    cut.some ∙ ap (λ l. l ++ c.in-Some.behind.now) (rw cut.last at split.0) ∙ append_assoc (first_line line) (10 ∷ []) c.in-Some.behind.now in
+    let before = rw (nothing_in c.lines.text.now empty) at c.lines.invariant.taken in
+    let ended = c.in_ok-end_line.ensures in
+    record {
+      utf8 = c.front_lines.ensures.utf8;
+      whole = c.front_lines.ensures.lines;
+      pending = rw ended.ended refl;
+      empty = λ some. ended.ended;
+      taken =
+          rw (sym c.front_lines.ensures.whole) (taken_line _ _ _ _ _ _ (first_line line) c.in-Some.behind.now _ before next split.1 ended.ok ended.ended);
+    }
+
+pub answer_text-requires : goal.answer_text-requires
+answer_text-requires c =
+    let some : 0 < length c.lines.text.now = search rules in
+    whole_has c.lines.text.now c.lines.invariant.whole some
+
+pub returns-in_err-text : goal.returns-in_err-text
+returns-in_err-text c =
+    let p = err_from_is_err_and c.from_residual-in_err-text.result c.from_residual-in_err-text.ensures.1 in
+    rw (p.1, c.in_err-text.ensures.err) (taken_stop _ _ _ _ _ c.lines.invariant.taken)
+
+pub lines-smaller : goal.lines-smaller
+lines-smaller c =
+    let some : 0 < length c.lines.text.now = search rules in
+    let shorter = behind_shorter c.lines.text.now (whole_has c.lines.text.now c.lines.invariant.whole some) in
+    omega (arith, ap length c.in_ok-text.ensures.next.0, shorter)
 
 pub lines-preserved : goal.lines-preserved
 lines-preserved c =
-    let more = taken_more _ _ _ c.lines.text.now c.lines.rest.now _ c.lines.invariant.2 c.in_default.ensures.none in
-    let cut = c.in-Some-first_line.ensures in
-    let ended = c.in_ok-end_line.ensures in
-    let grown = rw (c.in_ok-extend_from_slice.ensures.items, c.as_bytes.ensures.value) at ended.ok in
-    let taken = taken_line _ _ _ _ _ _ c.in-Some-first_line.line.now _ _ more cut.some cut.line grown ended.ended in
-    (c.front_text.ensures.utf8, λ _. ended.ended, rw (sym c.front_text.ensures.whole) taken)
+    let some : 0 < length c.lines.text.now = search rules in
+    let text = c.lines.text.now in
+    let feed = whole_has text c.lines.invariant.whole some in
+    let split = divided text feed in
+    let none = c.lines.invariant.empty some in
+    let n = c.in_ok-text.ensures.next in
+    let next : text ++ c.lines.rest.now ≡ first_line text ++ 10 ∷ (behind_line text ++ c.lines.rest.now) =
+    ap (λ l. l ++ c.lines.rest.now) split.0 ∙ append_assoc (first_line text) (10 ∷ behind_line text) c.lines.rest.now in
+    record {
+      utf8 = n.1;
+      whole = rw n.0 (whole_next text feed c.lines.invariant.whole);
+      pending = c.lines.invariant.pending;
+      empty = λ more. none;
+      taken = rw n.0 (taken_line _ _ _ _ _ _ (first_line text) (behind_line text ++ c.lines.rest.now) _ c.lines.invariant.taken next split.1
+          (rw none c.in_ok-text.ensures.ok) none);
+    }
