@@ -107,6 +107,9 @@ short_text a b c n len la lb lc e l le =
     let len_is : len ≡ length (release_text a b c) = l ∙ sym (release_length a b c) in
     rw (e, len_is) (low_bytes (release_text a b c) 8 (release_bytes a b c la lb lc) (omega (arith, len_is, le)))
 
+pub digits_text : (n k len : ℕ) → n < 100 → k ≡ le_value (decimal n) → len ≡ length (decimal n) → len ≤ 2 → take len (to_le_bytes w64 k) ≡ decimal n
+digits_text n k len lt e l le = rw (e, l) (low_bytes (decimal n) 8 (decimal_bytes n lt) (omega (arith, l, le)))
+
 -- what goes on with some bytes, goes on with them and more
 pub goes_on : (old mid new text : List ℕ) → mid ≡ old ++ text → Extends mid new → Extends old new
 goes_on old mid new text e (more, grown) = (text ++ more, grown ∙ ap (λ l. l ++ more) e ∙ append_assoc old text more)

@@ -102,11 +102,14 @@ fn put_short(major: u64, minor: u64, patch: u64, output: &mut Output) -> Result<
 }
 
 // Puts a number in decimal.
-#[tactic(auto, using(crate::proofs::Bytes::extended))]
+#[tactic(auto, using(crate::proofs::Bytes::extended, crate::proofs::Bytes::digits_text))]
 fn put_number(number: u64, output: &mut Output) -> Result<(), AllocError>
     ensures ok { OnOk result (output.new ≡ output.old ++ decimal number) }
     ensures err { OnErr result (Extends output.old output.new) }
 {
+    if number < 100 {
+        return output.put_front(digits(number).to_le_bytes(), width(number));
+    }
     output.put(Buffer::new().format(number).as_bytes())
 }
 
