@@ -9,7 +9,7 @@ ghost use Rattle.nodejs_semver.specs.Internal.Shorthands.{spans_of};
 ghost use Rattle.nodejs_semver.specs.Ranges.View.{bound_of, span_of};
 
 use crate::canon::{Part, canonical};
-use crate::marks::{END, lowest_key, pre_place, release_key, release_place, version_place};
+use crate::marks::{END, lowest, pre_place, release_key, release_place, version_place};
 use nodejs_semver::{VersionPoint, Versioned};
 use semver_core::cuts::{Bound, Interval};
 use std::alloc::{AllocError, Global};
@@ -64,24 +64,18 @@ fn part_of<V: VersionPoint>(
     Ok(Part { start, stop })
 }
 
-// The greater of two strings of bytes; on a tie, the second.
-fn greater_of(alloc: Global, first: &[u8], second: Vec<u8>) -> Result<Vec<u8>, AllocError>
-    ensures { IfOk result (λ bytes. bytes.items ≡ greater first.now second.items) }
+// The greater of two strings of bytes.
+fn greater_of<'s>(first: &'s [u8], second: &'s [u8]) -> &'s [u8]
+    ensures { result.now ≡ greater first.now second.now }
 {
-    if first.cmp(second.as_slice()).is_le() {
-        return Ok(second);
-    }
-    first.to_vec(alloc)
+    if first.cmp(second).is_le() { second } else { first }
 }
 
-// The lesser of two strings of bytes; on a tie, the first.
-fn lesser_of(alloc: Global, first: &[u8], second: Vec<u8>) -> Result<Vec<u8>, AllocError>
-    ensures { IfOk result (λ bytes. bytes.items ≡ lesser first.now second.items) }
+// The lesser of two strings of bytes.
+fn lesser_of<'s>(first: &'s [u8], second: &'s [u8]) -> &'s [u8]
+    ensures { result.now ≡ lesser first.now second.now }
 {
-    if first.cmp(second.as_slice()).is_le() {
-        return first.to_vec(alloc);
-    }
-    Ok(second)
+    if first.cmp(second).is_le() { first } else { second }
 }
 
 // What lies between the bounds of an interval, with all pre-releases.
@@ -107,10 +101,11 @@ fn add_own<V: Versioned>(
         return Ok(());
     }
     let (major, minor, patch) = (version.major(), version.minor(), version.patch());
-    let lowest = lowest_key(alloc, major, minor, patch)?;
-    let start = greater_of(alloc, &within.start, lowest)?;
-    let stop = lesser_of(alloc, &within.stop, release_key(alloc, version)?)?;
-    parts.push(Part { start, stop })?;
+    let lowest = lowest(major, minor, patch).key(alloc)?;
+    let release = release_key(alloc, version)?;
+    let start = greater_of(&within.start, &lowest);
+    let stop = lesser_of(&within.stop, &release);
+    parts.push(Part::between(alloc, start, stop)?)?;
     Ok(())
 }
 

@@ -6,9 +6,9 @@ ghost use Rattle.key_spans.specs.Internal.Places.{pre_place, release_key, releas
 ghost use Rattle.key_spans.specs.Internal.Places.{version_place};
 ghost use Rattle.nodejs_semver.specs.Ranges.View.{bound_of};
 ghost use Rattle.semver_core.specs.Keys.{key};
-ghost use Rattle.semver_core.specs.Values.Versions.{is_release};
+ghost use Rattle.semver_core.specs.Values.Versions.{is_release, lowest};
 
-use nodejs_semver::{Version, VersionPoint, Versioned};
+use nodejs_semver::{Version, VersionPoint, VersionRef, Versioned};
 use semver_core::cuts::Bound;
 use std::alloc::{AllocError, Global};
 
@@ -43,17 +43,11 @@ pub(crate) fn release_key<V: Versioned>(alloc: Global, version: &V) -> Result<Ve
     Version::from((version.major(), version.minor(), version.patch())).key(alloc)
 }
 
-// The key of the least pre-release of three numbers.
-pub(crate) fn lowest_key(
-    alloc: Global,
-    major: u64,
-    minor: u64,
-    patch: u64,
-) -> Result<Vec<u8>, AllocError>
-    ensures { IfOk result (λ bytes. bytes.items ≡ lowest_key major minor patch) }
+// The least pre-release of three numbers.
+pub(crate) fn lowest(major: u64, minor: u64, patch: u64) -> VersionRef<'static>
+    ensures { result ≡ lowest major minor patch }
 {
-    let lowest = Version::with_pre(alloc, major, minor, patch, 0)?;
-    lowest.key(alloc)
+    VersionRef::from_texts(major, minor, patch, b"0", b"")
 }
 
 // The three numbers after those of a version; none after the greatest.
@@ -90,7 +84,7 @@ fn next_lowest<V: Versioned>(alloc: Global, version: &V) -> Result<Vec<u8>, Allo
 {
     match next_numbers(version) {
         None => END.to_vec(alloc),
-        Some((major, minor, patch)) => lowest_key(alloc, major, minor, patch),
+        Some((major, minor, patch)) => lowest(major, minor, patch).key(alloc),
     }
 }
 

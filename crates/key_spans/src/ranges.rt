@@ -26,11 +26,12 @@ ghost use Rattle.nodejs_semver.specs.Ranges.View.{IsRange};
 ghost use Rattle.semver_core.specs.Cuts.{Span};
 ghost use Rattle.semver_core.specs.Values.Versions.{IsVersion, VersionValue};
 
-use crate::marks::END;
+use crate::marks::{END, lowest};
 use crate::{KeySpan, key_spans};
 use nodejs_semver::{MAX_SAFE_INTEGER, Range, RangeOf, Version, VersionPoint};
 use semver_core::cuts::{Bound, Interval};
 use std::alloc::{AllocError, Global};
+use nodejs_semver::Versioned;
 
 /// The range that accepts the versions of the spans: those whose keys lie in one of them. The list
 /// is such as `key_spans` returns, and pre-releases are included where they were included there.
@@ -86,15 +87,15 @@ fn interval_of(alloc: Global, span: &KeySpan) -> Result<Option<Interval<Version>
         return Ok(None);
     };
     if is_end(&span.stop) {
-        let lower = bound_at(alloc, first, only, true)?;
+        let lower = bound_at(first, only, true);
         return Ok(Interval::new(lower, Bound::Unbounded));
     }
     let Some(last) = Version::from_key(alloc, &span.stop)? else {
         return Ok(None);
     };
     let is_apart = !have_one_triple(&first, &last);
-    let lower = bound_at(alloc, first, only, is_apart)?;
-    let upper = bound_at(alloc, last, only, is_apart)?;
+    let lower = bound_at(first, only, is_apart);
+    let upper = bound_at(last, only, is_apart);
     Ok(Interval::new(lower, upper))
 }
 
@@ -113,23 +114,17 @@ fn have_one_triple(v: &Version, w: &Version) -> bool
 }
 
 // The bound at a version where a span begins or stops.
-fn bound_at(
-    alloc: Global,
-    version: Version,
-    releases_only: bool,
-    is_apart: bool,
-) -> Result<Bound<Version>, AllocError>
-    ensures value { IfOk result (λ bound.
-        bound ≡ bound_at (is_next releases_only is_apart version) version) }
+fn bound_at(version: Version, releases_only: bool, is_apart: bool) -> Bound<Version>
+    ensures value { result ≡ bound_at (is_next releases_only is_apart version) version }
     ensures valid { IsVersion version }
 {
     let (major, minor, patch) = (version.major(), version.minor(), version.patch());
-    let lowest = Version::with_pre(alloc, major, minor, patch, 0)?;
-    let is_next = releases_only || is_apart && version == lowest;
+    let is_lowest = version.cmp_precedence(&lowest(major, minor, patch)).is_eq();
+    let is_next = releases_only || is_apart && is_lowest;
     if is_next && patch > MAX_SAFE_INTEGER {
-        return Ok(Bound::After(Version::from((major, minor, patch - 1))));
+        return Bound::After(Version::from((major, minor, patch - 1)));
     }
-    Ok(Bound::Before(version))
+    Bound::Before(version)
 }
 
 /// The range of the spans of a range: it accepts the same versions, with pre-releases included or

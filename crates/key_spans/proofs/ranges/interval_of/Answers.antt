@@ -10,49 +10,49 @@ use Rattle.key_spans.proofs.ranges.interval_of.Goals as goal
 pub returns-then-is_end-clause-some : goal.returns-then-is_end-clause-some
 returns-then-is_end-clause-some c =
     let starts : IsKeyOf c.args.span.now.start.items c.in-Some.first = record {
-      is_version = c.in_ok-lower.ensures.valid;
+      is_version = c.bound_at-lower.ensures.valid;
       is_key = (rw c.in-Some.is at c.in_ok-first.ensures.some) ∙ c.deref.ensures.value;
       no_build = rw c.in-Some.is at c.in_ok-first.ensures.no_build;
     } in
     let ends : c.args.span.now.stop.items ≡ 255 ∷ [] = sym c.deref-2.ensures.value ∙ c.is_end.ensures.0 c.if-is_end.true in
-    let made : Span VersionValue = record { lower = c.in_ok-lower.lower; upper = Unbounded } in
+    let made : Span VersionValue = record { lower = c.bound_at-lower.result; upper = Unbounded } in
     let one : IsIntervalOf c.args.span.now made = record {
       first = c.in-Some.first;
       last = None;
       starts = starts;
       ends = ends;
-      value = λ j. record { lower = c.in_ok-lower.ensures.value j; upper = Unbounded };
+      value = λ j. record { lower = c.bound_at-lower.ensures.value j; upper = Unbounded };
     } in
     interval_some c.args.span.now made c.new.result c.new.ensures one
 
-one_of : (c : goal.After-new-2) → IsIntervalOf c.args.span.now (record { lower = c.in_ok-lower-2.lower; upper = c.in_ok-upper.upper })
+one_of : (c : goal.After-new-2) → IsIntervalOf c.args.span.now (record { lower = c.bound_at-lower-2.result; upper = c.bound_at-upper.result })
 one_of c = record {
   first = c.in-Some.first;
   last = Some c.in-Some-2.last;
   starts = record {
-    is_version = c.in_ok-lower-2.ensures.valid;
+    is_version = c.bound_at-lower-2.ensures.valid;
     is_key = (rw c.in-Some.is at c.in_ok-first.ensures.some) ∙ c.deref.ensures.value;
     no_build = rw c.in-Some.is at c.in_ok-first.ensures.no_build;
   };
   ends = record {
-    is_version = c.in_ok-upper.ensures.valid;
+    is_version = c.bound_at-upper.ensures.valid;
     is_key = (rw c.in-Some-2.is at c.in_ok-last.ensures.some) ∙ c.deref-3.ensures.value;
     no_build = rw c.in-Some-2.is at c.in_ok-last.ensures.no_build;
   };
   value = λ j. record {
-    lower = (c.in_ok-lower-2.ensures.value
+    lower = (c.bound_at-lower-2.ensures.value
         ∙ ap (λ b. bound_at (is_next c.args.span.now.releases_only (not b) c.in-Some.first) c.in-Some.first) c.have_one_triple-is_apart.ensures) j;
-    upper = (c.in_ok-upper.ensures.value
+    upper = (c.bound_at-upper.ensures.value
         ∙ ap (λ b. bound_at (is_next c.args.span.now.releases_only (not b) c.in-Some-2.last) c.in-Some-2.last) c.have_one_triple-is_apart.ensures) j;
   };
 }
 
 pub returns-clause-some : goal.returns-clause-some
-returns-clause-some c = interval_some c.args.span.now (record { lower = c.in_ok-lower-2.lower; upper = c.in_ok-upper.upper }) c.new-2.result
+returns-clause-some c = interval_some c.args.span.now (record { lower = c.bound_at-lower-2.result; upper = c.bound_at-upper.result }) c.new-2.result
     c.new-2.ensures (one_of c)
 
 pub returns-clause-none : goal.returns-clause-none
-returns-clause-none c = interval_none c.args.span.now (record { lower = c.in_ok-lower-2.lower; upper = c.in_ok-upper.upper }) c.new-2.result
+returns-clause-none c = interval_none c.args.span.now (record { lower = c.bound_at-lower-2.result; upper = c.bound_at-upper.result }) c.new-2.result
     c.new-2.ensures (one_of c)
 
 pub returns-in_default-2-clause-none : goal.returns-in_default-2-clause-none
