@@ -10,6 +10,7 @@ mod fault;
 mod fields;
 mod names;
 mod output;
+mod pair;
 mod parsed;
 mod parts;
 mod put;

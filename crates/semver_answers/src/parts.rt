@@ -16,6 +16,7 @@ ghost use Rattle.semver_answers.specs.Lines.{ended};
 
 use crate::names::put_range_found;
 use crate::output::Output;
+use crate::pair::{put_common, put_left};
 use crate::put::ranges::put_range;
 use nodejs_semver::cuts::{Bound, Interval};
 use nodejs_semver::{RangeRef, VersionRef};
@@ -52,7 +53,13 @@ pub(crate) fn put_combined<'t>(
         ≡ output.old ++ ended (or_none range_text (combined asked r.now s.now))) }
     ensures err { OnErr result (Extends output.old output.new) }
 {
-    if r.intervals().len() > 1 && may_be_large(asked, r, s) {
+    if let ([one], [other]) = (r.intervals(), s.intervals()) {
+        return match asked {
+            Combination::Intersection => put_common(one, other, output),
+            Combination::Difference => put_left(one, other, output),
+        };
+    }
+    if may_be_large(asked, r, s) {
         return put_in_parts(asked, alloc, r, s, output);
     }
     match asked {

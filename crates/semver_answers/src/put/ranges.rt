@@ -8,7 +8,7 @@ ghost use Rattle.semver_answers.specs.Internal.Puts.{Extends};
 
 use crate::output::Output;
 use crate::put::put_version;
-use nodejs_semver::cuts::{Bound, Interval};
+use nodejs_semver::cuts::Bound;
 use nodejs_semver::{RangeRef, VersionRef};
 use std::alloc::AllocError;
 
@@ -62,15 +62,17 @@ fn put_upper(bound: &Bound<VersionRef<'_>>, output: &mut Output) -> Result<(), A
     }
 }
 
-// Two bounds, or one version where they are `>=v` and `<=w` and v equals w.
+/// Two bounds, or one version where they are `>=v` and `<=w` and v equals w.
 #[inline(never)]
 #[tactic(auto, using(crate::proofs::Bytes::extended))]
-fn put_interval(interval: &Interval<VersionRef<'_>>, output: &mut Output) -> Result<(), AllocError>
-    ensures ok { OnOk result (output.new
-        ≡ output.old ++ bounds_text interval.now.lower interval.now.upper) }
+pub(crate) fn put_bounds(
+    lower: &Bound<VersionRef<'_>>,
+    upper: &Bound<VersionRef<'_>>,
+    output: &mut Output,
+) -> Result<(), AllocError>
+    ensures ok { OnOk result (output.new ≡ output.old ++ bounds_text lower.now upper.now) }
     ensures err { OnErr result (Extends output.old output.new) }
 {
-    let (lower, upper) = (interval.lower(), interval.upper());
     match (lower, upper) {
         (Bound::Unbounded, Bound::Unbounded) => output.put(b"*"),
         (Bound::Unbounded, _) => put_upper(upper, output),
@@ -93,10 +95,10 @@ pub(crate) fn put_range(range: &RangeRef<'_>, output: &mut Output) -> Result<(),
     let Some((first, others)) = range.intervals().split_first() else {
         return Ok(());
     };
-    put_interval(first, output)?;
+    put_bounds(first.lower(), first.upper(), output)?;
     for interval in others {
         output.put(b"||")?;
-        put_interval(interval, output)?;
+        put_bounds(interval.lower(), interval.upper(), output)?;
     }
     Ok(())
 }
