@@ -13,11 +13,31 @@ ghost use Rattle.semver_answers.specs.declared.parts.Combination.TheVariants.{Di
 ghost use Rattle.semver_answers.specs.declared.parts.Combination.TheVariants.{Intersection};
 
 use crate::output::Output;
+use crate::parts::Combination;
 use crate::put::ranges::put_bounds;
 use nodejs_semver::VersionRef;
 use nodejs_semver::cuts::{Bound, Interval};
 use std::alloc::AllocError;
 
+/// The intersection or the difference of two intervals, or `none`.
+#[inline(always)]
+pub(crate) fn put_of_two<'b, 't>(
+    asked: Combination,
+    one: &'b Interval<VersionRef<'t>>,
+    other: &'b Interval<VersionRef<'t>>,
+    output: &mut Output,
+) -> Result<(), AllocError>
+    ensures ok { OnOk result (output.new ≡ output.old
+        ++ ended (or_none range_text (combined asked (one.now ∷ []) (other.now ∷ [])))) }
+    ensures err { OnErr result (Extends output.old output.new) }
+{
+    match asked {
+        Combination::Intersection => put_common(one, other, output),
+        Combination::Difference => put_left(one, other, output),
+    }
+}
+
+// Two bounds, with a line feed.
 #[inline(always)]
 #[tactic(auto, using(crate::proofs::Bytes::extended))]
 fn put_line(
@@ -54,8 +74,8 @@ fn lesser_upper<'b, 't>(
     if one.cmp_upper(other).is_gt() { other } else { one }
 }
 
-/// What two intervals have in common, or `none`.
-pub(crate) fn put_common<'b, 't>(
+// What two intervals have in common, or `none`.
+fn put_common<'b, 't>(
     one: &'b Interval<VersionRef<'t>>,
     other: &'b Interval<VersionRef<'t>>,
     output: &mut Output,
@@ -72,8 +92,8 @@ pub(crate) fn put_common<'b, 't>(
     put_line(lower, upper, output)
 }
 
-/// What the second interval leaves of the first, or `none`.
-pub(crate) fn put_left(
+// What the second interval leaves of the first, or `none`.
+fn put_left(
     one: &Interval<VersionRef<'_>>,
     other: &Interval<VersionRef<'_>>,
     output: &mut Output,

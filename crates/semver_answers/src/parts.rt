@@ -16,7 +16,7 @@ ghost use Rattle.semver_answers.specs.Lines.{ended};
 
 use crate::names::put_range_found;
 use crate::output::Output;
-use crate::pair::{put_common, put_left};
+use crate::pair::put_of_two;
 use crate::put::ranges::put_range;
 use nodejs_semver::cuts::{Bound, Interval};
 use nodejs_semver::{RangeRef, VersionRef};
@@ -54,10 +54,7 @@ pub(crate) fn put_combined<'t>(
     ensures err { OnErr result (Extends output.old output.new) }
 {
     if let ([one], [other]) = (r.intervals(), s.intervals()) {
-        return match asked {
-            Combination::Intersection => put_common(one, other, output),
-            Combination::Difference => put_left(one, other, output),
-        };
+        return put_of_two(asked, one, other, output);
     }
     if may_be_large(asked, r, s) {
         return put_in_parts(asked, alloc, r, s, output);
