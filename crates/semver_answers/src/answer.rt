@@ -13,7 +13,9 @@ use std::alloc::{AllocError, Global};
 use std::str;
 
 /// Puts the answer to the first line of a text behind the output, with a line feed, all or nothing.
-/// Returns the text behind the line.
+/// Returns the text behind the line. It is inlined into the loop over the lines, so that none of
+/// them pays for a call and for what the call returns.
+#[inline(always)]
 #[tactic(auto, using(crate::proofs::Bytes::cut_back))]
 pub(crate) fn answer_text<'t>(
     alloc: Global,
@@ -41,6 +43,8 @@ pub(crate) fn answer_text<'t>(
 }
 
 /// Puts the answer to a line, which a line feed ends.
+#[cold]
+#[inline(never)]
 pub(crate) fn answer_line(alloc: Global, line: &[u8], output: &mut Output) -> Result<(), AllocError>
     requires feed { HasFeed line.now }
     requires last { behind_line line.now ≡ [] }
