@@ -60,7 +60,11 @@ fn greater_lower<'b, 't>(
 ) -> &'b Bound<VersionRef<'t>>
     ensures { result.now ≡ greater_lower precedence one.now other.now }
 {
-    if one.cmp_lower(other).is_gt() { one } else { other }
+    if one.cmp_lower(other).is_gt() {
+        one
+    } else {
+        other
+    }
 }
 
 // The upper bound that is further down, the first of equal ones.
@@ -71,7 +75,11 @@ fn lesser_upper<'b, 't>(
 ) -> &'b Bound<VersionRef<'t>>
     ensures { result.now ≡ lesser_upper precedence one.now other.now }
 {
-    if one.cmp_upper(other).is_gt() { other } else { one }
+    if one.cmp_upper(other).is_gt() {
+        other
+    } else {
+        one
+    }
 }
 
 // What two intervals have in common, or `none`.
