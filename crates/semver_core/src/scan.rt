@@ -13,6 +13,7 @@ ghost use Rattle.semver_core.specs.Words.{IsPieceAt, IsTrim, IsUtf8, IsWholeNumb
 ghost use Rattle.semver_core.specs.Words.{list_len, NoPieceAt, number_at, OnErr};
 ghost use Rattle.semver_core.specs.Words.{placed, prefix_len, run_from, take, true, utf8_valid_len};
 
+use crate::reach::{OfText, Reach};
 use crate::{Allocated, Identifier, MAX_SAFE_INTEGER};
 use std::alloc::{AllocError, Global};
 
@@ -121,23 +122,26 @@ pub fn number_in(bytes: &[u8], at: usize) -> Option<(u64, usize)>
         NoPieceAt (λ digits rest. IsWholeNumber MAX_SAFE_INTEGER digits rest n) bytes.now at) }
     ensures place { IfSome result (λ found. found.1 ≤ length bytes.now) }
 {
-    digits(bytes, at)
+    digits::<OfText>(bytes, at)
 }
 
 // The digit at a place, if one stands there.
 #[inline(always)]
 #[tactic(auto, using(crate::proofs::Text::Digits::digits_one))]
-fn digit(bytes: &[u8], at: usize) -> Option<u64>
-    requires { at ≤ length bytes.now }
+fn digit<R: Reach>(bytes: &[u8], at: usize) -> Option<u64>
+    requires { R.stands bytes.now at }
     ensures some { IfSome result (λ d. (v k : ℕ) → v * 10 + d ≤ MAX_SAFE_INTEGER
         → digits_from MAX_SAFE_INTEGER v k (drop at bytes.now)
         ≡ digits_from MAX_SAFE_INTEGER (v * 10 + d) (k + 1) (drop (at + 1) bytes.now)) }
+    ensures over { IfSome result (λ d. (v k : ℕ) → MAX_SAFE_INTEGER < v * 10 + d
+        → digits_from MAX_SAFE_INTEGER v k (drop at bytes.now) ≡ None) }
     ensures none { IfNone result ((v k : ℕ) →
         digits_from MAX_SAFE_INTEGER v k (drop at bytes.now) ≡ digits_end v k) }
     ensures small { IfSome result (λ d. d < 10) }
-    ensures place { IfSome result (λ d. at < length bytes.now) }
+    ensures inside { IfSome result (λ d. at < length bytes.now) }
+    ensures place { IfSome result (λ d. R.stands bytes.now (at + 1)) }
 {
-    if at < bytes.len() && bytes[at].is_ascii_digit() {
+    if R::inside(bytes, at) && bytes[at].is_ascii_digit() {
         Some(u64::from(bytes[at] - b'0'))
     } else {
         None
@@ -146,35 +150,38 @@ fn digit(bytes: &[u8], at: usize) -> Option<u64>
 
 // `number_in` as a function of the bytes. Most numbers have one digit or two.
 #[inline(always)]
-pub(crate) fn digits(bytes: &[u8], at: usize) -> Option<(u64, usize)>
-    requires { at ≤ length bytes.now }
+pub(crate) fn digits<R: Reach>(bytes: &[u8], at: usize) -> Option<(u64, usize)>
+    requires { R.stands bytes.now at }
     ensures found { result ≡ number_at MAX_SAFE_INTEGER bytes.now at }
-    ensures place { IfSome result (λ found. found.1 ≤ length bytes.now) }
+    ensures inside { IfSome result (λ found. found.1 ≤ length bytes.now) }
+    ensures place { IfSome result (λ found. R.stands bytes.now found.1) }
 {
-    let Some(first) = digit(bytes, at) else {
+    let Some(first) = digit::<R>(bytes, at) else {
         return None;
     };
-    let Some(second) = digit(bytes, at + 1) else {
+    let Some(second) = digit::<R>(bytes, at + 1) else {
         return Some((first, at + 1));
     };
     let value = first * 10 + second;
-    let Some(third) = digit(bytes, at + 2) else {
+    let Some(third) = digit::<R>(bytes, at + 2) else {
         return Some((value, at + 2));
     };
-    long_number(bytes, at, at + 3, value * 10 + third)
+    long_number::<R>(bytes, at, at + 3, value * 10 + third)
 }
 
 // `more_digits`, inlined: room for what the call returns is made only where it is called.
 #[inline(always)]
-fn long_number(bytes: &[u8], at: usize, next: usize, front: u64) -> Option<(u64, usize)>
+fn long_number<R: Reach>(bytes: &[u8], at: usize, next: usize, front: u64) -> Option<(u64, usize)>
     requires order { at < next }
     requires inside { next ≤ length bytes.now }
+    requires place { R.stands bytes.now next }
     requires small { front ≤ MAX_SAFE_INTEGER }
     ensures found { result ≡ placed at
         (digits_from MAX_SAFE_INTEGER front (next - at) (drop next bytes.now)) }
-    ensures place { IfSome result (λ found. found.1 ≤ length bytes.now) }
+    ensures inside { IfSome result (λ found. found.1 ≤ length bytes.now) }
+    ensures place { IfSome result (λ found. R.stands bytes.now found.1) }
 {
-    let Some((number, end)) = more_digits(bytes, at, next, front) else {
+    let Some((number, end)) = more_digits::<R>(bytes, at, next, front) else {
         return None;
     };
     Some((number, end))
@@ -182,18 +189,20 @@ fn long_number(bytes: &[u8], at: usize, next: usize, front: u64) -> Option<(u64,
 
 // The number at a place of which these digits were read, up to another place.
 #[inline(never)]
-fn more_digits(bytes: &[u8], at: usize, next: usize, front: u64) -> Option<(u64, usize)>
+fn more_digits<R: Reach>(bytes: &[u8], at: usize, next: usize, front: u64) -> Option<(u64, usize)>
     requires order { at < next }
     requires inside { next ≤ length bytes.now }
+    requires place { R.stands bytes.now next }
     requires small { front ≤ MAX_SAFE_INTEGER }
     ensures found { result ≡ placed at
         (digits_from MAX_SAFE_INTEGER front (next - at) (drop next bytes.now)) }
-    ensures place { IfSome result (λ found. found.1 ≤ length bytes.now) }
+    ensures inside { IfSome result (λ found. found.1 ≤ length bytes.now) }
+    ensures place { IfSome result (λ found. R.stands bytes.now found.1) }
 {
     let mut value = front;
     let mut end = next;
-    'digits: while end < bytes.len() && bytes[end].is_ascii_digit() {
-        value = value * 10 + u64::from(bytes[end] - b'0');
+    'digits: while let Some(digit) = digit::<R>(bytes, end) {
+        value = value * 10 + digit;
         if value > MAX_SAFE_INTEGER {
             return None;
         }
@@ -299,7 +308,7 @@ pub(crate) fn scan_run(bytes: &[u8], start: usize) -> (usize, Option<u64>)
     requires here { begins is_identifier_char (drop start bytes.now) ≡ true }
     ensures { result ≡ run_from (Some 0) start (drop start bytes.now) }
 {
-    match digits(bytes, start) {
+    match digits::<OfText>(bytes, start) {
         Some((number, end)) if !begins_identifier(&bytes[end..]) => (end, Some(number)),
         None if !bytes[start].is_ascii_digit() => (run_end(bytes, start + 1), None),
         _ => mixed_run(bytes, start),

@@ -5,6 +5,7 @@ ghost use Rattle.semver_core.specs.Words.{begins, IfSome, is_identifier_char, is
 ghost use Rattle.semver_core.specs.Words.{IsCommonFront, length, list_from, listed};
 ghost use Rattle.semver_core.specs.Words.{lists_at, NoValue, Parses, take, true, VersionValue};
 
+use crate::reach::{OfText, Reach};
 use crate::readers::{begins_lists, build_start, leading_numbers, numbers, pre_release_start};
 use crate::scan::list_len;
 use crate::{MAX_LENGTH, MAX_SAFE_INTEGER, SemverError, VersionRef};
@@ -107,7 +108,7 @@ impl<'a> VersionRef<'a> {
         ensures none { IfNone result ((v : VersionValue) (end : ℕ) →
             IsCommonFront MAX_SAFE_INTEGER text.now v end → ⊥) }
     {
-        let (major, minor, patch, end) = leading_numbers(text)?;
+        let (major, minor, patch, end) = leading_numbers::<OfText>(text)?;
         if !begins_lists(text, end) {
             return Some((VersionRef::from_texts(major, minor, patch, b"", b""), end));
         }

@@ -11,6 +11,7 @@ ghost use Rattle.semver_core.specs.Text.{Identifiers.goes_on, VersionText.Reads}
 ghost use Rattle.semver_core.specs.Text.Characters.{is_identifier_char, IsAfterBlank};
 ghost use Rattle.semver_core.specs.Values.{Versions.{VersionValue, HasIdentifiers}, Views.ids_view};
 
+use crate::reach::{OfText, Reach};
 use crate::readers::fast::numbers;
 use crate::version::lists::{Lists, Qualifier};
 use crate::{Allocated, Identifier, MAX_SAFE_INTEGER, Version, scan};
@@ -19,12 +20,13 @@ use std::alloc::{AllocError, Global};
 // Whether a mark stands at a place.
 #[inline(always)]
 #[tactic(auto, using(crate::proofs::Text::Digits::places))]
-pub(crate) fn stands_at(bytes: &[u8], at: usize, mark: u8) -> bool
-    requires { at ≤ length bytes.now }
+pub(crate) fn stands_at<R: Reach>(bytes: &[u8], at: usize, mark: u8) -> bool
+    requires { R.stands bytes.now at }
     ensures stands { result ≡ begins (λ b. b == mark) (drop at bytes.now) }
     ensures inside { IsTrue result → at < length bytes.now }
+    ensures place { IsTrue result → (mark == 10) ≡ false → R.stands bytes.now (at + 1) }
 {
-    matches!(&bytes[at..], [byte, ..] if *byte == mark)
+    R::inside(bytes, at) && bytes[at] == mark
 }
 
 // Whether a pre-release or a build may begin at a place: with a character of identifiers, which `-`
@@ -50,7 +52,7 @@ pub(crate) fn pre_release_start(text: &str, at: usize) -> Option<usize>
         begins is_identifier_char (drop start text.now) ≡ true) }
     ensures inside { IfSome result (λ start. start ≤ length text.now) }
 {
-    let start = at + usize::from(stands_at(text.as_bytes(), at, b'-'));
+    let start = at + usize::from(stands_at::<OfText>(text.as_bytes(), at, b'-'));
     if scan::begins_at(text, start) {
         Some(start)
     } else {
@@ -67,7 +69,7 @@ pub(crate) fn build_start(text: &str, at: usize) -> Option<usize>
         begins is_identifier_char (drop start text.now) ≡ true) }
     ensures inside { IfSome result (λ start. start ≤ length text.now) }
 {
-    let stands = stands_at(text.as_bytes(), at, b'+') && scan::begins_at(text, at + 1);
+    let stands = stands_at::<OfText>(text.as_bytes(), at, b'+') && scan::begins_at(text, at + 1);
     stands.then_some(at + 1)
 }
 
