@@ -9,8 +9,8 @@ ghost use Rattle.semver_core.specs.Words.{false, begins, digits_end, digits_from
 ghost use Rattle.semver_core.specs.Words.{goes_on, grown, Id, id_view, identifier_of, ids_view};
 ghost use Rattle.semver_core.specs.Words.{IfSome, is_identifier_char, is_whitespace, IsListAdded};
 ghost use Rattle.semver_core.specs.Words.{IsAfterBlank, IsCharBoundary, IsLongestIdentifiers};
-ghost use Rattle.semver_core.specs.Words.{IsPieceAt, IsTrim, IsUtf8, IsWholeNumber, length, List};
-ghost use Rattle.semver_core.specs.Words.{list_len, NoPieceAt, number_at, OnErr};
+ghost use Rattle.semver_core.specs.Words.{IsPieceAt, IsTrim, IsTrue, IsUtf8, IsWholeNumber, length};
+ghost use Rattle.semver_core.specs.Words.{List, list_len, NoPieceAt, number_at, OnErr};
 ghost use Rattle.semver_core.specs.Words.{placed, prefix_len, run_from, take, true, utf8_valid_len};
 
 use crate::reach::{OfText, Reach};
@@ -244,20 +244,48 @@ pub fn begins_identifier(text: &[u8]) -> bool
 pub fn goes_on(text: &[u8]) -> bool
     ensures { result ≡ goes_on text.now }
 {
-    match text {
-        [byte, rest @ ..] => is_identifier_char(*byte)
-            || (*byte == b'.' && begins_identifier(rest)),
-        [] => false,
-    }
+    list_goes_on::<OfText>(text, 0)
 }
 
+// Whether a character of identifiers stands at a place.
 #[inline(always)]
-#[tactic(auto, using(std::proofs::lemmas::List::take_rest))]
-pub(crate) fn begins_at(text: &str, at: usize) -> bool
-    requires { at ≤ length text.now }
-    ensures { result ≡ begins is_identifier_char (drop at text.now) }
+#[tactic(auto, using(crate::proofs::Text::Ends::goes_at))]
+pub(crate) fn begins_at<R: Reach>(bytes: &[u8], at: usize) -> bool
+    requires { R.stands bytes.now at }
+    ensures begins { result ≡ begins is_identifier_char (drop at bytes.now) }
+    ensures place { IsTrue result → R.stands bytes.now (at + 1) }
 {
-    begins_identifier(&text.as_bytes()[at..])
+    R::inside(bytes, at) && is_identifier_char(bytes[at])
+}
+
+// Whether an identifier list that ends before a place would go on there.
+#[inline(always)]
+#[tactic(auto, using(crate::proofs::Text::Ends::goes_at))]
+fn list_goes_on<R: Reach>(bytes: &[u8], at: usize) -> bool
+    requires { R.stands bytes.now at }
+    ensures goes { result ≡ goes_on (drop at bytes.now) }
+    ensures inside { IsTrue result → at < length bytes.now }
+    ensures place { IsTrue result → R.stands bytes.now (at + 1) }
+{
+    R::inside(bytes, at)
+        && (is_identifier_char(bytes[at]) || (bytes[at] == b'.' && begins_at::<R>(bytes, at + 1)))
+}
+
+// Where the identifiers end that begin at a place.
+#[inline(always)]
+#[tactic(auto, using(crate::proofs::Text::Ends::list_ends))]
+pub(crate) fn list_end<R: Reach>(bytes: &[u8], start: usize) -> usize
+    requires inside { start ≤ length bytes.now }
+    requires place { R.stands bytes.now start }
+    ensures exact { result ≡ start + list_len (drop start bytes.now) }
+    ensures inside { result ≤ length bytes.now }
+    ensures place { R.stands bytes.now result }
+{
+    let mut end = start;
+    'bytes: while list_goes_on::<R>(bytes, end) {
+        end += 1;
+    }
+    end
 }
 
 // Whether a list goes on at the end of a run, where no character of identifiers stands.
@@ -382,7 +410,7 @@ pub fn identifiers(
     // Allocation fails only where a list begins.
     ensures memory { OnErr result (begins is_identifier_char (drop at text.now) ≡ true) }
 {
-    if !begins_at(text, at) {
+    if !begins_at::<OfText>(text.as_bytes(), at) {
         return Ok(None);
     }
     let mut list = Vec::new(alloc);
@@ -439,15 +467,9 @@ pub(crate) fn read_from(
 /// How many bytes the identifiers at the front take: of `alpha.1+b` they are 7. This is for the
 /// crates of this repository.
 #[inline(always)]
-#[tactic(auto, using(crate::proofs::Text::Ends::list_ends))]
 pub fn list_len(text: &[u8]) -> usize
     ensures exact { result ≡ list_len text.now }
     ensures inside { result ≤ length text.now }
 {
-    'bytes: for len in 0..text.len() {
-        if !goes_on(&text[len..]) {
-            return len;
-        }
-    }
-    text.len()
+    list_end::<OfText>(text, 0)
 }

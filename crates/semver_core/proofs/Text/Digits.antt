@@ -44,7 +44,7 @@ pub ruleset digits_one = (digits_one_more, digits_over, digits_stop, digits_past
 
 -- ---- A line feed stands at a place or behind it.
 
-some_feed : (bytes : List ℕ) (at : ℕ) → HasFeed (drop at bytes) → at < length bytes
+pub some_feed : (bytes : List ℕ) (at : ℕ) → HasFeed (drop at bytes) → at < length bytes
 some_feed bytes at feed = elim (cases_lt at (length bytes)) [
   | inl inside ↦ inside
   | inr past ↦ cc (rw (drop_all at bytes past) at feed)

@@ -134,7 +134,7 @@ fn read(alloc: Global, text: &str) -> Result<Option<Version>, AllocError>
     if end == text.len() {
         return Ok(Some(Version::release(major, minor, patch)));
     }
-    if !begins_lists(text, end) {
+    if !begins_lists::<OfText>(text, end) {
         return Ok(None);
     }
     version_of_whole(alloc, text, major, minor, patch, end)
