@@ -138,7 +138,6 @@ fn digit<R: Reach>(bytes: &[u8], at: usize) -> Option<u64>
     ensures none { IfNone result ((v k : ℕ) →
         digits_from MAX_SAFE_INTEGER v k (drop at bytes.now) ≡ digits_end v k) }
     ensures small { IfSome result (λ d. d < 10) }
-    ensures inside { IfSome result (λ d. at < length bytes.now) }
     ensures place { IfSome result (λ d. R.stands bytes.now (at + 1)) }
 {
     if R::inside(bytes, at) && bytes[at].is_ascii_digit() {
@@ -153,7 +152,6 @@ fn digit<R: Reach>(bytes: &[u8], at: usize) -> Option<u64>
 pub(crate) fn digits<R: Reach>(bytes: &[u8], at: usize) -> Option<(u64, usize)>
     requires { R.stands bytes.now at }
     ensures found { result ≡ number_at MAX_SAFE_INTEGER bytes.now at }
-    ensures inside { IfSome result (λ found. found.1 ≤ length bytes.now) }
     ensures place { IfSome result (λ found. R.stands bytes.now found.1) }
 {
     let Some(first) = digit::<R>(bytes, at) else {
@@ -173,12 +171,10 @@ pub(crate) fn digits<R: Reach>(bytes: &[u8], at: usize) -> Option<(u64, usize)>
 #[inline(always)]
 fn long_number<R: Reach>(bytes: &[u8], at: usize, next: usize, front: u64) -> Option<(u64, usize)>
     requires order { at < next }
-    requires inside { next ≤ length bytes.now }
     requires place { R.stands bytes.now next }
     requires small { front ≤ MAX_SAFE_INTEGER }
     ensures found { result ≡ placed at
         (digits_from MAX_SAFE_INTEGER front (next - at) (drop next bytes.now)) }
-    ensures inside { IfSome result (λ found. found.1 ≤ length bytes.now) }
     ensures place { IfSome result (λ found. R.stands bytes.now found.1) }
 {
     let Some((number, end)) = more_digits::<R>(bytes, at, next, front) else {
@@ -191,12 +187,10 @@ fn long_number<R: Reach>(bytes: &[u8], at: usize, next: usize, front: u64) -> Op
 #[inline(never)]
 fn more_digits<R: Reach>(bytes: &[u8], at: usize, next: usize, front: u64) -> Option<(u64, usize)>
     requires order { at < next }
-    requires inside { next ≤ length bytes.now }
     requires place { R.stands bytes.now next }
     requires small { front ≤ MAX_SAFE_INTEGER }
     ensures found { result ≡ placed at
         (digits_from MAX_SAFE_INTEGER front (next - at) (drop next bytes.now)) }
-    ensures inside { IfSome result (λ found. found.1 ≤ length bytes.now) }
     ensures place { IfSome result (λ found. R.stands bytes.now found.1) }
 {
     let mut value = front;
@@ -275,10 +269,8 @@ fn list_goes_on<R: Reach>(bytes: &[u8], at: usize) -> bool
 #[inline(always)]
 #[tactic(auto, using(crate::proofs::Text::Ends::list_ends))]
 pub(crate) fn list_end<R: Reach>(bytes: &[u8], start: usize) -> usize
-    requires inside { start ≤ length bytes.now }
-    requires place { R.stands bytes.now start }
+    requires { R.stands bytes.now start }
     ensures exact { result ≡ start + list_len (drop start bytes.now) }
-    ensures inside { result ≤ length bytes.now }
     ensures place { R.stands bytes.now result }
 {
     let mut end = start;

@@ -15,15 +15,12 @@ use crate::{MAX_LENGTH, MAX_SAFE_INTEGER, SemverError, VersionRef};
 #[inline(always)]
 #[tactic(auto, using(crate::proofs::Text::Ends::lists_cut))]
 fn list_from<R: Reach>(text: &str, at: usize, start: Option<usize>) -> (&[u8], usize)
-    requires inside { at ≤ length text.now }
     requires place { R.stands text.now at }
-    requires start { IfSome start (λ start. start ≤ length text.now) }
-    requires start_place { IfSome start (λ start. R.stands text.now start) }
+    requires start { IfSome start (λ start. R.stands text.now start) }
     requires begins { IfSome start (λ start.
         begins is_identifier_char (drop start text.now) ≡ true) }
     ensures found { (listed result.0.now, result.1) ≡ list_from text.now at start }
     ensures listed { is_listed result.0.now ≡ true }
-    ensures inside { result.1 ≤ length text.now }
     ensures place { R.stands text.now result.1 }
 {
     let Some(start) = start else {
@@ -36,12 +33,10 @@ fn list_from<R: Reach>(text: &str, at: usize, start: Option<usize>) -> (&[u8], u
 // The texts of the pre-release and of the build at a place, and the place after them.
 #[inline(never)]
 fn lists_at<R: Reach>(text: &str, at: usize) -> (&[u8], &[u8], usize)
-    requires inside { at ≤ length text.now }
-    requires place { R.stands text.now at }
+    requires { R.stands text.now at }
     ensures found { (listed result.0.now, listed result.1.now, result.2) ≡ lists_at text.now at }
     ensures pre_release { is_listed result.0.now ≡ true }
     ensures build { is_listed result.1.now ≡ true }
-    ensures inside { result.2 ≤ length text.now }
     ensures place { R.stands text.now result.2 }
 {
     let (pre_release, next) = list_from::<R>(text, at, pre_release_start::<R>(text, at));
@@ -52,12 +47,10 @@ fn lists_at<R: Reach>(text: &str, at: usize) -> (&[u8], &[u8], usize)
 // `lists_at`, inlined: room for what the call returns is made only where it is called.
 #[inline(always)]
 fn some_lists<R: Reach>(text: &str, at: usize) -> (&[u8], &[u8], usize)
-    requires inside { at ≤ length text.now }
-    requires place { R.stands text.now at }
+    requires { R.stands text.now at }
     ensures found { (listed result.0.now, listed result.1.now, result.2) ≡ lists_at text.now at }
     ensures pre_release { is_listed result.0.now ≡ true }
     ensures build { is_listed result.1.now ≡ true }
-    ensures inside { result.2 ≤ length text.now }
     ensures place { R.stands text.now result.2 }
 {
     let (pre_release, build, end) = lists_at::<R>(text, at);

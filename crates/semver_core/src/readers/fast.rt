@@ -31,7 +31,6 @@ fn number_and_dot<R: Reach>(bytes: &[u8], at: usize) -> Option<(u64, usize)>
 fn three_numbers<R: Reach>(bytes: &[u8], at: usize) -> Option<(u64, u64, u64, usize)>
     requires { R.stands bytes.now at }
     ensures found { result ≡ triple_at MAX_SAFE_INTEGER bytes.now at }
-    ensures inside { IfSome result (λ found. found.3 ≤ length bytes.now) }
     ensures place { IfSome result (λ found. R.stands bytes.now found.3) }
 {
     let Some((major, second)) = number_and_dot::<R>(bytes, at) else {
@@ -62,7 +61,6 @@ fn small_len<R: Reach>(text: &str) -> usize
 pub(crate) fn leading_numbers<R: Reach>(text: &str) -> Option<(u64, u64, u64, usize)>
     requires { R.stands text.now 0 }
     ensures found { result ≡ triple_at MAX_SAFE_INTEGER text.now (small_len text.now) }
-    ensures inside { IfSome result (λ found. found.3 ≤ length text.now) }
     ensures place { IfSome result (λ found. R.stands text.now found.3) }
 {
     three_numbers::<R>(text.as_bytes(), small_len::<R>(text))

@@ -23,7 +23,6 @@ use std::alloc::{AllocError, Global};
 pub(crate) fn stands_at<R: Reach>(bytes: &[u8], at: usize, mark: u8) -> bool
     requires { R.stands bytes.now at }
     ensures stands { result ≡ begins (λ b. b == mark) (drop at bytes.now) }
-    ensures inside { IsTrue result → at < length bytes.now }
     ensures place { IsTrue result → (mark == 10) ≡ false → R.stands bytes.now (at + 1) }
 {
     R::inside(bytes, at) && bytes[at] == mark
@@ -49,7 +48,6 @@ pub(crate) fn pre_release_start<R: Reach>(text: &str, at: usize) -> Option<usize
     ensures some { OnSome result (0 < length (pre_release_at text.now at).0) }
     ensures begins { IfSome result (λ start.
         begins is_identifier_char (drop start text.now) ≡ true) }
-    ensures inside { IfSome result (λ start. start ≤ length text.now) }
     ensures place { IfSome result (λ start. R.stands text.now start) }
 {
     let start = at + usize::from(stands_at::<R>(text.as_bytes(), at, b'-'));
@@ -68,7 +66,6 @@ pub(crate) fn build_start<R: Reach>(text: &str, at: usize) -> Option<usize>
     ensures some { OnSome result (0 < length (build_at text.now at).0) }
     ensures begins { IfSome result (λ start.
         begins is_identifier_char (drop start text.now) ≡ true) }
-    ensures inside { IfSome result (λ start. start ≤ length text.now) }
     ensures place { IfSome result (λ start. R.stands text.now start) }
 {
     let bytes = text.as_bytes();

@@ -4,7 +4,6 @@ use Rattle.semver_core.proofs.scan.more_digits.Given as goal
 abbrev pub invariant-digits : goal.invariant-digits
 invariant-digits g l = record {
   from : l.at < l.end;
-  inside : l.end ≤ length l.bytes;
   place : g.R.Reach.stands l.bytes l.end;
   small : l.value ≤ MAX_SAFE_INTEGER;
   reads : digits_from MAX_SAFE_INTEGER l.front (l.next - l.at) (drop l.next l.bytes) ≡ digits_from MAX_SAFE_INTEGER l.value (l.end - l.at) (drop l.end l.bytes);

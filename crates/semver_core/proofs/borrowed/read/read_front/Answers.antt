@@ -17,7 +17,7 @@ unfolding listed
 returns-then-not-begins_lists-clause-some g c =
     let m = c.in_ok-major in
     front_found MAX_SAFE_INTEGER c.args.text.now m.major m.minor m.patch m.end [] [] m.end _ m.ensures.found
-    (sym (c.begins_lists.ensures c.if-not-begins_lists.true)) c.from_texts.ensures m.ensures.inside
+    (sym (c.begins_lists.ensures c.if-not-begins_lists.true)) c.from_texts.ensures (g.met.R.Reach.within c.args.text.now _ m.ensures.place)
 
 pub returns-then-not-begins_lists-clause-whole : goal.returns-then-not-begins_lists-clause-whole
 returns-then-not-begins_lists-clause-whole g c =
@@ -28,7 +28,7 @@ returns-clause-some g c =
     let m = c.in_ok-major in
     let l = c.some_lists-end in
     front_found MAX_SAFE_INTEGER c.args.text.now m.major m.minor m.patch m.end _ _ l.result.2 _ m.ensures.found
-    l.ensures.found c.from_texts-version.ensures l.ensures.inside
+    l.ensures.found c.from_texts-version.ensures (g.met.R.Reach.within c.args.text.now _ l.ensures.place)
 
 pub returns-clause-whole : goal.returns-clause-whole
 returns-clause-whole g c =
