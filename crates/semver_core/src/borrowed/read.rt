@@ -1,6 +1,6 @@
 // Reads versions that borrow their text.
 
-ghost use Rattle.std.specs.Prelude.{◌≡◌, ◌≤◌, ◌<◌, ℕ, drop, IfErr, IfNone, IfOk};
+ghost use Rattle.std.specs.Prelude.{◌≡◌, ◌<◌, ℕ, drop, IfErr, IfNone, IfOk};
 ghost use Rattle.semver_core.specs.Words.{begins, HasFeed, IfSome, is_identifier_char, is_listed};
 ghost use Rattle.semver_core.specs.Words.{IsCommon, IsCommonFront, length, list_from, listed};
 ghost use Rattle.semver_core.specs.Words.{lists_at, NoValue, Parses, take, true, VersionValue};
@@ -132,9 +132,8 @@ impl<'a> VersionRef<'a> {
         read_front::<OfText>(text)
     }
 
-    /// `VersionRef::front` for lines, as of a file that is read line by line. A version ends before
-    /// a line feed, so the call takes less time where one is sure to come: it looks for no other end
-    /// of the text.
+    /// `VersionRef::front` for a text in which a line feed stands, as lines of a file. A version
+    /// ends before a line feed, so no other end of the text is looked for, which takes less time.
     ///
     /// `VersionRef::front_of_lines("1.2.3-beta;1.3.0\n")` is 1.2.3-beta and the place 10.
     #[inline(always)]
