@@ -3,8 +3,8 @@ use Rattle.std.proofs.Common.{◌≡◌, ◌==◌, ◌<◌, ◌≤◌, ◌+◌, 
 use Rattle.std.proofs.Common.{None, append-nil, length, take, drop, get_or, refl, sym, ap, arith, inl, inr}
 use Rattle.memchr.specs.Find.{IsFirstByte, is_byte, is_byte2}
 use Rattle.std.proofs.Math.Seq.{get_or-append_seam, split_at, take-append_seam}
-use Rattle.std.proofs.lemmas.Bool.{cases_Bool, cases_lt, eqb-true, false_from_ne_true, false≢true}
-use Rattle.std.proofs.lemmas.List.{get_or-take, length-append, length-take-le, take-append-drop, take_all, take-append-le, take_more}
+use Rattle.std.proofs.lemmas.Bool.{cases_Bool, eqb-true, false_from_ne_true, false≢true}
+use Rattle.std.proofs.lemmas.List.{get_or-take, length-append, length-take-le, take-append-drop, take-append-le, take_more}
 use Rattle.std.proofs.lemmas.List.Elements.{All-from_get_or, All-head, All-tail}
 use Rattle.std.proofs.lemmas.List.Folds.{list_all-append}
 use Rattle.std.proofs.lemmas.List.Splits.{length-slice_split, slice_split_at, slice_split_none}
@@ -224,13 +224,6 @@ pub parsed_front : (text : List ℕ) (v : VersionValue) (end : ℕ) → end ≤ 
     → IsCommon MAX_SAFE_INTEGER (take end text) v → Parses MAX_SAFE_INTEGER (take end text) v
 parsed_front text v end short inside h =
     record { short = omega (arith, length-take-le end text inside); reads = h.0 }
-
--- a version at the front of some lines ends before their end
-pub version_inside : (text : List ℕ) (end : ℕ) → HasFeed text → All (λ b. is_byte2 59 10 b ≡ false) (take end text) → end < length text
-version_inside text end feed plain = elim (cases_lt end (length text)) [
-  | inl inside ↦ inside
-  | inr over ↦ absurd (false≢true (sym feed ∙ no_feed_by text (no_line_feed text (rw (take_all end text over) at plain))))
-]
 
 -- ---- whole lines
 

@@ -69,7 +69,7 @@ pub(crate) fn version_field(text: &str) -> (Result<VersionRef<'_>, SemverError>,
     requires { HasFeed text.now }
     ensures { ReadsVersion text.now result.0 result.1 }
 {
-    if let Some((version, end)) = VersionRef::front(text) {
+    if let Some((version, end)) = VersionRef::front_of_lines(text) {
         if end <= MAX_LENGTH {
             if let Some(behind) = mark_at(text, end) {
                 return (Ok(version), behind);

@@ -41,8 +41,8 @@ pub use Rattle.semver_core.specs.Internal.Views.{pair_view, part_view, rest_view
 pub use Rattle.semver_core.specs.Lists.{is_empty}
 pub use Rattle.semver_core.specs.Printing.RoundTrip.{is_normal, is_readable}
 pub use Rattle.semver_core.specs.Printing.Text.{id_text, marked_list, version_text}
-pub use Rattle.semver_core.specs.Text.Characters.{begins, is_identifier_char, is_whitespace, IsAfterBlank, IsPieceAt}
-pub use Rattle.semver_core.specs.Text.Characters.{IsTrim, NoPieceAt}
+pub use Rattle.semver_core.specs.Text.Characters.{begins, HasFeed, is_identifier_char, is_whitespace, IsAfterBlank}
+pub use Rattle.semver_core.specs.Text.Characters.{IsPieceAt, IsTrim, NoPieceAt}
 pub use Rattle.semver_core.specs.Text.Common.{IsCommon, IsCommonFront}
 pub use Rattle.semver_core.specs.Text.Identifiers.{goes_on, Id, identifier_of, is_identifier, is_listed}
 pub use Rattle.semver_core.specs.Text.Identifiers.{is_u64_text, IsLongestIdentifiers, listed, Numeric}

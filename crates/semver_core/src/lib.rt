@@ -12,6 +12,7 @@ mod increment;
 mod keys;
 pub mod laws;
 mod print;
+mod reach;
 pub mod readers;
 mod version;
 

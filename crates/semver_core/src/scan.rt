@@ -9,10 +9,11 @@ ghost use Rattle.semver_core.specs.Words.{false, begins, digits_end, digits_from
 ghost use Rattle.semver_core.specs.Words.{goes_on, grown, Id, id_view, identifier_of, ids_view};
 ghost use Rattle.semver_core.specs.Words.{IfSome, is_identifier_char, is_whitespace, IsListAdded};
 ghost use Rattle.semver_core.specs.Words.{IsAfterBlank, IsCharBoundary, IsLongestIdentifiers};
-ghost use Rattle.semver_core.specs.Words.{IsPieceAt, IsTrim, IsUtf8, IsWholeNumber, length, List};
-ghost use Rattle.semver_core.specs.Words.{list_len, NoPieceAt, number_at, OnErr};
+ghost use Rattle.semver_core.specs.Words.{IsPieceAt, IsTrim, IsTrue, IsUtf8, IsWholeNumber, length};
+ghost use Rattle.semver_core.specs.Words.{List, list_len, NoPieceAt, number_at, OnErr};
 ghost use Rattle.semver_core.specs.Words.{placed, prefix_len, run_from, take, true, utf8_valid_len};
 
+use crate::reach::{OfText, Reach};
 use crate::{Allocated, Identifier, MAX_SAFE_INTEGER};
 use std::alloc::{AllocError, Global};
 
@@ -121,23 +122,25 @@ pub fn number_in(bytes: &[u8], at: usize) -> Option<(u64, usize)>
         NoPieceAt (λ digits rest. IsWholeNumber MAX_SAFE_INTEGER digits rest n) bytes.now at) }
     ensures place { IfSome result (λ found. found.1 ≤ length bytes.now) }
 {
-    digits(bytes, at)
+    digits::<OfText>(bytes, at)
 }
 
 // The digit at a place, if one stands there.
 #[inline(always)]
 #[tactic(auto, using(crate::proofs::Text::Digits::digits_one))]
-fn digit(bytes: &[u8], at: usize) -> Option<u64>
-    requires { at ≤ length bytes.now }
+fn digit<R: Reach>(bytes: &[u8], at: usize) -> Option<u64>
+    requires { R.stands bytes.now at }
     ensures some { IfSome result (λ d. (v k : ℕ) → v * 10 + d ≤ MAX_SAFE_INTEGER
         → digits_from MAX_SAFE_INTEGER v k (drop at bytes.now)
         ≡ digits_from MAX_SAFE_INTEGER (v * 10 + d) (k + 1) (drop (at + 1) bytes.now)) }
+    ensures over { IfSome result (λ d. (v k : ℕ) → MAX_SAFE_INTEGER < v * 10 + d
+        → digits_from MAX_SAFE_INTEGER v k (drop at bytes.now) ≡ None) }
     ensures none { IfNone result ((v k : ℕ) →
         digits_from MAX_SAFE_INTEGER v k (drop at bytes.now) ≡ digits_end v k) }
     ensures small { IfSome result (λ d. d < 10) }
-    ensures place { IfSome result (λ d. at < length bytes.now) }
+    ensures place { IfSome result (λ d. R.stands bytes.now (at + 1)) }
 {
-    if at < bytes.len() && bytes[at].is_ascii_digit() {
+    if R::inside(bytes, at) && bytes[at].is_ascii_digit() {
         Some(u64::from(bytes[at] - b'0'))
     } else {
         None
@@ -146,35 +149,35 @@ fn digit(bytes: &[u8], at: usize) -> Option<u64>
 
 // `number_in` as a function of the bytes. Most numbers have one digit or two.
 #[inline(always)]
-pub(crate) fn digits(bytes: &[u8], at: usize) -> Option<(u64, usize)>
-    requires { at ≤ length bytes.now }
+pub(crate) fn digits<R: Reach>(bytes: &[u8], at: usize) -> Option<(u64, usize)>
+    requires { R.stands bytes.now at }
     ensures found { result ≡ number_at MAX_SAFE_INTEGER bytes.now at }
-    ensures place { IfSome result (λ found. found.1 ≤ length bytes.now) }
+    ensures place { IfSome result (λ found. R.stands bytes.now found.1) }
 {
-    let Some(first) = digit(bytes, at) else {
+    let Some(first) = digit::<R>(bytes, at) else {
         return None;
     };
-    let Some(second) = digit(bytes, at + 1) else {
+    let Some(second) = digit::<R>(bytes, at + 1) else {
         return Some((first, at + 1));
     };
     let value = first * 10 + second;
-    let Some(third) = digit(bytes, at + 2) else {
+    let Some(third) = digit::<R>(bytes, at + 2) else {
         return Some((value, at + 2));
     };
-    long_number(bytes, at, at + 3, value * 10 + third)
+    long_number::<R>(bytes, at, at + 3, value * 10 + third)
 }
 
 // `more_digits`, inlined: room for what the call returns is made only where it is called.
 #[inline(always)]
-fn long_number(bytes: &[u8], at: usize, next: usize, front: u64) -> Option<(u64, usize)>
+fn long_number<R: Reach>(bytes: &[u8], at: usize, next: usize, front: u64) -> Option<(u64, usize)>
     requires order { at < next }
-    requires inside { next ≤ length bytes.now }
+    requires place { R.stands bytes.now next }
     requires small { front ≤ MAX_SAFE_INTEGER }
     ensures found { result ≡ placed at
         (digits_from MAX_SAFE_INTEGER front (next - at) (drop next bytes.now)) }
-    ensures place { IfSome result (λ found. found.1 ≤ length bytes.now) }
+    ensures place { IfSome result (λ found. R.stands bytes.now found.1) }
 {
-    let Some((number, end)) = more_digits(bytes, at, next, front) else {
+    let Some((number, end)) = more_digits::<R>(bytes, at, next, front) else {
         return None;
     };
     Some((number, end))
@@ -182,18 +185,18 @@ fn long_number(bytes: &[u8], at: usize, next: usize, front: u64) -> Option<(u64,
 
 // The number at a place of which these digits were read, up to another place.
 #[inline(never)]
-fn more_digits(bytes: &[u8], at: usize, next: usize, front: u64) -> Option<(u64, usize)>
+fn more_digits<R: Reach>(bytes: &[u8], at: usize, next: usize, front: u64) -> Option<(u64, usize)>
     requires order { at < next }
-    requires inside { next ≤ length bytes.now }
+    requires place { R.stands bytes.now next }
     requires small { front ≤ MAX_SAFE_INTEGER }
     ensures found { result ≡ placed at
         (digits_from MAX_SAFE_INTEGER front (next - at) (drop next bytes.now)) }
-    ensures place { IfSome result (λ found. found.1 ≤ length bytes.now) }
+    ensures place { IfSome result (λ found. R.stands bytes.now found.1) }
 {
     let mut value = front;
     let mut end = next;
-    'digits: while end < bytes.len() && bytes[end].is_ascii_digit() {
-        value = value * 10 + u64::from(bytes[end] - b'0');
+    'digits: while let Some(digit) = digit::<R>(bytes, end) {
+        value = value * 10 + digit;
         if value > MAX_SAFE_INTEGER {
             return None;
         }
@@ -235,20 +238,46 @@ pub fn begins_identifier(text: &[u8]) -> bool
 pub fn goes_on(text: &[u8]) -> bool
     ensures { result ≡ goes_on text.now }
 {
-    match text {
-        [byte, rest @ ..] => is_identifier_char(*byte)
-            || (*byte == b'.' && begins_identifier(rest)),
-        [] => false,
-    }
+    list_goes_on::<OfText>(text, 0)
 }
 
+// Whether a character of identifiers stands at a place.
 #[inline(always)]
-#[tactic(auto, using(std::proofs::lemmas::List::take_rest))]
-pub(crate) fn begins_at(text: &str, at: usize) -> bool
-    requires { at ≤ length text.now }
-    ensures { result ≡ begins is_identifier_char (drop at text.now) }
+#[tactic(auto, using(crate::proofs::Text::Ends::goes_at))]
+pub(crate) fn begins_at<R: Reach>(bytes: &[u8], at: usize) -> bool
+    requires { R.stands bytes.now at }
+    ensures begins { result ≡ begins is_identifier_char (drop at bytes.now) }
+    ensures place { IsTrue result → R.stands bytes.now (at + 1) }
 {
-    begins_identifier(&text.as_bytes()[at..])
+    R::inside(bytes, at) && is_identifier_char(bytes[at])
+}
+
+// Whether an identifier list that ends before a place would go on there.
+#[inline(always)]
+#[tactic(auto, using(crate::proofs::Text::Ends::goes_at))]
+fn list_goes_on<R: Reach>(bytes: &[u8], at: usize) -> bool
+    requires { R.stands bytes.now at }
+    ensures goes { result ≡ goes_on (drop at bytes.now) }
+    ensures inside { IsTrue result → at < length bytes.now }
+    ensures place { IsTrue result → R.stands bytes.now (at + 1) }
+{
+    R::inside(bytes, at)
+        && (is_identifier_char(bytes[at]) || (bytes[at] == b'.' && begins_at::<R>(bytes, at + 1)))
+}
+
+// Where the identifiers end that begin at a place.
+#[inline(always)]
+#[tactic(auto, using(crate::proofs::Text::Ends::list_ends))]
+pub(crate) fn list_end<R: Reach>(bytes: &[u8], start: usize) -> usize
+    requires { R.stands bytes.now start }
+    ensures exact { result ≡ start + list_len (drop start bytes.now) }
+    ensures place { R.stands bytes.now result }
+{
+    let mut end = start;
+    'bytes: while list_goes_on::<R>(bytes, end) {
+        end += 1;
+    }
+    end
 }
 
 // Whether a list goes on at the end of a run, where no character of identifiers stands.
@@ -299,7 +328,7 @@ pub(crate) fn scan_run(bytes: &[u8], start: usize) -> (usize, Option<u64>)
     requires here { begins is_identifier_char (drop start bytes.now) ≡ true }
     ensures { result ≡ run_from (Some 0) start (drop start bytes.now) }
 {
-    match digits(bytes, start) {
+    match digits::<OfText>(bytes, start) {
         Some((number, end)) if !begins_identifier(&bytes[end..]) => (end, Some(number)),
         None if !bytes[start].is_ascii_digit() => (run_end(bytes, start + 1), None),
         _ => mixed_run(bytes, start),
@@ -373,7 +402,7 @@ pub fn identifiers(
     // Allocation fails only where a list begins.
     ensures memory { OnErr result (begins is_identifier_char (drop at text.now) ≡ true) }
 {
-    if !begins_at(text, at) {
+    if !begins_at::<OfText>(text.as_bytes(), at) {
         return Ok(None);
     }
     let mut list = Vec::new(alloc);
@@ -430,15 +459,9 @@ pub(crate) fn read_from(
 /// How many bytes the identifiers at the front take: of `alpha.1+b` they are 7. This is for the
 /// crates of this repository.
 #[inline(always)]
-#[tactic(auto, using(crate::proofs::Text::Ends::list_ends))]
 pub fn list_len(text: &[u8]) -> usize
     ensures exact { result ≡ list_len text.now }
     ensures inside { result ≤ length text.now }
 {
-    'bytes: for len in 0..text.len() {
-        if !goes_on(&text[len..]) {
-            return len;
-        }
-    }
-    text.len()
+    list_end::<OfText>(text, 0)
 }

@@ -111,6 +111,18 @@ fn the_version_at_the_front(rt: HostRuntime) {
 }
 
 #[test]
+fn the_version_at_the_front_of_lines(rt: HostRuntime) {
+    assert!(rt; matches!(VersionRef::front_of_lines("1.2.3\n"), Some((_, 5))));
+    assert!(rt;
+        matches!(
+            VersionRef::front_of_lines("v1.2.3-beta.10+b\n1.3.0\n"),
+            Some((_, 16))
+        )
+    );
+    assert!(rt; VersionRef::front_of_lines("1.2\n.3\n").is_none());
+}
+
+#[test]
 fn texts_without_a_version_are_rejected(rt: HostRuntime) {
     for text in REJECTED {
         assert!(rt; VersionRef::parse(text).is_err(), "{text}");

@@ -5,8 +5,8 @@ use Rattle.semver_core.proofs.Common.{digits_end, digits_from, placed, if◌then
 use Rattle.semver_core.proofs.Common.{IsWholeNumber, Option, sym, number_at, IsPieceAt, IfSome, IfNone, is_identifier_char}
 use Rattle.semver_core.proofs.Common.{AlphaNumeric, Numeric, identifier_of, [], add_comm, ap, take, ◌∙◌, ◌∷◌, cases_Bool}
 use Rattle.semver_core.proofs.Common.{length-drop, first_so, second_so, list_all, prefix_len, digits_value, number_of_run}
-use Rattle.semver_core.proofs.Common.{MAX_SAFE_INTEGER, ◌++◌, run_from, add-zero, ◌^◌, prefix_len-le-length, digits_value_after, ltb-true}
-use Rattle.semver_core.specs.{Internal.CommonReading.{grown, id_by}, Text.Characters.NoPieceAt}
+use Rattle.semver_core.proofs.Common.{MAX_SAFE_INTEGER, ◌++◌, run_from, add-zero, ◌^◌, prefix_len-le-length, digits_value_after, ltb-true, lt-ltb}
+use Rattle.semver_core.specs.{Internal.CommonReading.{grown, id_by}, Text.Characters.{HasFeed, NoPieceAt}}
 use Rattle.std.proofs.{Common.{ap₂, drop-drop}, lemmas.Option.{same_Some}}
 use Rattle.semver_core.proofs.Text.Runs.{prefix_ends}
 use Rattle.{std.proofs.lemmas.Str.digit_value_digit, semver_core.proofs.Text.Pieces.{number_sound, number_complete, digits_grow}}
@@ -30,9 +30,6 @@ pub digits_past : (limit : ℕ) (v k : ℕ) (xs : List ℕ) (i : ℕ) → length
 unfolding digits_from
 digits_past limit v k xs i le = rw (drop_all i xs le) refl
 
-pub digits_placed : (v at i : ℕ) → at ≤ i → placed at (digits_end v (i - at)) ≡ (if i == at then None else Some (v, i))
-digits_placed v at i le = grind (arith, nat_tests)
-
 pub digits_one_more : (limit : ℕ) (v k : ℕ) (xs : List ℕ) (i : ℕ) → i < length xs → is_ascii_digit (get_or xs i 0) ≡ true → v * 10 + (get_or xs i 0 - 48) ≤ limit
     → digits_from limit v k (drop i xs) ≡ digits_from limit (v * 10 + (get_or xs i 0 - 48)) (k + 1) (drop (i + 1) xs)
 unfolding digits_from
@@ -40,14 +37,21 @@ digits_one_more limit v k xs i lt d small =
     let fits : ltb limit (v * 10 + (get_or xs i 0 - 48)) ≡ false = grind (arith, nat_tests) in
     rw (drop-cons xs i 0, add-one i, d, digit_value-is (get_or xs i 0) d, fits) refl
 
-pub digits_step : (limit : ℕ) (v at : ℕ) (xs : List ℕ) (i : ℕ) → at ≤ i → i < length xs → is_ascii_digit (get_or xs i 0) ≡ true → v * 10 + (get_or xs i 0 - 48) ≤ limit
-    → digits_from limit v (i - at) (drop i xs) ≡ digits_from limit (v * 10 + (get_or xs i 0 - 48)) (i + 1 - at) (drop (i + 1) xs)
-digits_step limit v at xs i le lt d small =
-    let count : i + 1 - at ≡ i - at + 1 = omega arith in rw count (digits_one_more limit v (i - at) xs i lt d small)
+pub digit_other : (c : ℕ) → is_ascii_digit c ≡ true → (c == 10) ≡ false
+digit_other c d = grind (arith, nat_tests)
 
-pub ruleset digits_one = (digits_one_more, digits_stop, digits_past)
+pub ruleset digits_one = (digits_one_more, digits_over, digits_stop, digits_past, digit_other)
 
-pub ruleset digits_read = (digits_step, digits_over, digits_stop, digits_past, digits_placed)
+-- ---- A line feed stands at a place or behind it.
+
+pub some_feed : (bytes : List ℕ) (at : ℕ) → HasFeed (drop at bytes) → at < length bytes
+some_feed bytes at feed = elim (cases_lt at (length bytes)) [
+  | inl inside ↦ inside
+  | inr past ↦ cc (rw (drop_all at bytes past) at feed)
+]
+
+pub feed_inside : (bytes : List ℕ) (at : ℕ) → HasFeed (drop at bytes) → ltb at (length bytes) ≡ true
+feed_inside bytes at feed = lt-ltb at (length bytes) (some_feed bytes at feed)
 
 -- ---- Places in a text.
 

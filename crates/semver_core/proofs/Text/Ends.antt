@@ -2,7 +2,8 @@
 use Rattle.semver_core.proofs.Common.{NoValue, begins, is_identifier_char, goes_on, identifier_of, is_identifier, pieces}
 use Rattle.semver_core.proofs.Common.{is_listed, listed, Reads, VersionValue, HasIdentifiers, List, Some, [], add-one, arith}
 use Rattle.semver_core.proofs.Common.{drop, false, length, refl, take, true, ℕ, ◌+◌, ◌-◌, ◌<◌, ◌∷◌, ◌≡◌, ◌≤◌, drop-cons, drop_all}
-use Rattle.semver_core.proofs.Common.{list_all, list_from, list_len, Parses, map, take_rest, MAX_LENGTH}
+use Rattle.semver_core.proofs.Common.{list_all, list_from, list_len, Parses, map, take_rest, MAX_LENGTH, Id, ap, get_or, ◌==◌}
+use Rattle.semver_core.proofs.Common.{length-map, length-slice_split, nat_tests, ◌||◌, ◌&&◌}
 use Rattle.semver_core.proofs.Text.{Pieces.{begins_taken, begun_runs, taken_runs}, Runs.list_len_stop}
 
 -- the loop
@@ -17,7 +18,20 @@ pub end_past : (xs : List ℕ) (i : ℕ) → length xs ≤ i → list_len (drop 
 unfolding list_len
 end_past xs i le = rw (drop_all i xs le) refl
 
-pub ruleset list_ends = (end_step, list_len_stop, end_past, take_rest)
+pub ruleset list_ends = (end_step, list_len_stop)
+
+-- whether it goes on
+pub goes_here : (xs : List ℕ) (i : ℕ) → i < length xs
+    → goes_on (drop i xs) ≡ (is_identifier_char (get_or xs i 0) || (get_or xs i 0 == 46 && begins is_identifier_char (drop (i + 1) xs)))
+goes_here xs i lt = rw (drop-cons xs i 0 lt, add-one i) refl
+
+pub goes_past : (xs : List ℕ) (i : ℕ) → length xs ≤ i → goes_on (drop i xs) ≡ false
+goes_past xs i le = rw (drop_all i xs le) refl
+
+pub char_other : (c : ℕ) → is_identifier_char c ≡ true → (c == 10) ≡ false
+char_other c h = grind (arith, nat_tests)
+
+pub ruleset goes_at = (goes_here, goes_past, char_other)
 
 -- what stands there
 pub runs_taken : (t : List ℕ) → begins is_identifier_char t ≡ true → list_all is_identifier (pieces (take (list_len t) t)) ≡ true
@@ -45,6 +59,13 @@ pub cut_found : (text : List ℕ) (at start end : ℕ) → end ≡ start + list_
 cut_found text at start end e h =
     let n : end - start ≡ list_len (drop start text) = omega (arith, e) in
     rw (n, h, e, spelled (take (list_len (drop start text)) (drop start text)) (runs_taken (drop start text) h)) refl
+
+pub some_found : (text : List ℕ) (at start : ℕ) (found : List Id × ℕ) → begins is_identifier_char (drop start text) ≡ true
+    → found ≡ list_from text at (Some start) → 0 < length found.0
+some_found text at start found h e =
+    let list = take (list_len (drop start text)) (drop start text) in
+    let is : found.0 ≡ map identifier_of (pieces list) = rw (e, h) refl in
+    omega (arith, ap length is, length-map (pieces list) identifier_of, length-slice_split (λ c. c == 46) list)
 
 pub nothing_spelled : listed [] ≡ []
 unfolding listed

@@ -7,9 +7,9 @@ use Rattle.semver_core.proofs.Common.{take-append-drop, is_ascii_digit, list_all
 use Rattle.semver_core.proofs.Common.{IsCommon, IsBuild, IsMark, IsPreRelease, bare, capital_mark, dashed, no_build}
 use Rattle.semver_core.proofs.Common.{no_pre_release, plus, small_mark, NoValue, IsAfterBlank, IsBlank, is_identifier_char}
 use Rattle.semver_core.proofs.Common.{Reads, Option, ◌<◌, ◌||◌, drop-cons, drop_all, ◌==◌, common_of, HasOneReading}
-use Rattle.semver_core.proofs.Common.{mark_len, begins_build, release_value, IfSome, take_rest, IfNone}
+use Rattle.semver_core.proofs.Common.{mark_len, begins_build, release_value, IfSome, IfNone, get_or, suc}
 use Rattle.semver_core.specs.{Internal.CommonReading.{is_plain, at_end, whole_at}, Text.Common.IsCommonFront}
-use Rattle.{std.proofs.lemmas.List.{append_cancel_right, nil_from_length}, semver_core.proofs.Text.Listed.plain_runs}
+use Rattle.{std.proofs.lemmas.List.append_cancel_right, semver_core.proofs.Text.Listed.plain_runs}
 use Rattle.semver_core.proofs.Text.{Pieces.{runs_tail, some_inside}, Runs.all_more, Texts.{divided_at, number_begins, read_at}}
 use Rattle.semver_core.proofs.Text.Texts.{rest_of, bind_some, none_build, loose_none, loose_some, none_pre}
 
@@ -130,17 +130,16 @@ other_byte c rest h = grind (arith, nat_tests)
 nothing_at : (text : List ℕ) (at : ℕ) (r : List ℕ) → drop at text ≡ r → begins_pre_release r ≡ false → begins_build r ≡ false → lists_at text at ≡ ([], [], at)
 nothing_at text at r e pre meta = rw (none_pre text at r e pre, none_build text at r e meta) refl
 
-pub none_behind : (text : List ℕ) (at : ℕ) → length (drop at text) ≡ 0 → lists_at text at ≡ ([], [], at)
-none_behind text at e =
-    let none : drop at text ≡ [] = nil_from_length (drop at text) e in
-    nothing_at text at [] none refl refl
+pub none_begins : (text : List ℕ) (at : ℕ) → at < length text → is_identifier_char (get_or text at 0) ≡ false → (get_or text at 0 == 43) ≡ false
+    → lists_at text at ≡ ([], [], at)
+none_begins text at inside h k =
+    let other = other_byte (get_or text at 0) (drop (suc at) text) (rw (h, k) refl) in
+    nothing_at text at _ (drop-cons text at 0 inside) other.0 other.1
 
-pub none_begins : (text : List ℕ) (at c : ℕ) (rest : List ℕ) → drop at text ≡ c ∷ rest → (is_identifier_char c || c == 43) ≡ false → lists_at text at ≡ ([], [], at)
-none_begins text at c rest e h =
-    let other = other_byte c rest h in
-    nothing_at text at (c ∷ rest) e other.0 other.1
+pub none_past : (text : List ℕ) (at : ℕ) → length text ≤ at → lists_at text at ≡ ([], [], at)
+none_past text at past = nothing_at text at [] (drop_all at text past) refl refl
 
-pub ruleset no_lists = (none_behind, none_begins, take_rest)
+pub ruleset no_lists = (none_past, none_begins)
 
 pub ruleset read_common = (common_some, common_none)
 

@@ -5,21 +5,22 @@ ghost use Rattle.semver_core.specs.Words.{common_of, HasIdentifiers, IfOk, quali
 ghost use Rattle.semver_core.specs.Words.{IsCommon, NoValue, OnErr, small_len, triple_at, whole_at};
 ghost use Rattle.semver_core.specs.Words.{IfNone, IfSome, length, part_at, Reads};
 
+use crate::reach::{OfText, Reach};
 use crate::readers::loose::{begins_lists, front_of_numbers, lists_at, stands_at};
 use crate::{MAX_SAFE_INTEGER, Version, scan};
 use std::alloc::{AllocError, Global};
 
 // A number with a dot behind it, and the place behind the dot.
 #[inline(always)]
-fn number_and_dot(bytes: &[u8], at: usize) -> Option<(u64, usize)>
-    requires { at ≤ length bytes.now }
+fn number_and_dot<R: Reach>(bytes: &[u8], at: usize) -> Option<(u64, usize)>
+    requires { R.stands bytes.now at }
     ensures found { result ≡ part_at MAX_SAFE_INTEGER bytes.now at }
-    ensures place { IfSome result (λ found. found.1 ≤ length bytes.now) }
+    ensures place { IfSome result (λ found. R.stands bytes.now found.1) }
 {
-    let Some((number, end)) = scan::digits(bytes, at) else {
+    let Some((number, end)) = scan::digits::<R>(bytes, at) else {
         return None;
     };
-    if !stands_at(bytes, end, b'.') {
+    if !stands_at::<R>(bytes, end, b'.') {
         return None;
     }
     Some((number, end + 1))
@@ -27,18 +28,18 @@ fn number_and_dot(bytes: &[u8], at: usize) -> Option<(u64, usize)>
 
 // Three numbers with dots between them, and the place behind them.
 #[inline(always)]
-fn three_numbers(bytes: &[u8], at: usize) -> Option<(u64, u64, u64, usize)>
-    requires { at ≤ length bytes.now }
+fn three_numbers<R: Reach>(bytes: &[u8], at: usize) -> Option<(u64, u64, u64, usize)>
+    requires { R.stands bytes.now at }
     ensures found { result ≡ triple_at MAX_SAFE_INTEGER bytes.now at }
-    ensures place { IfSome result (λ found. found.3 ≤ length bytes.now) }
+    ensures place { IfSome result (λ found. R.stands bytes.now found.3) }
 {
-    let Some((major, second)) = number_and_dot(bytes, at) else {
+    let Some((major, second)) = number_and_dot::<R>(bytes, at) else {
         return None;
     };
-    let Some((minor, third)) = number_and_dot(bytes, second) else {
+    let Some((minor, third)) = number_and_dot::<R>(bytes, second) else {
         return None;
     };
-    let Some((patch, end)) = scan::digits(bytes, third) else {
+    let Some((patch, end)) = scan::digits::<R>(bytes, third) else {
         return None;
     };
     Some((major, minor, patch, end))
@@ -46,21 +47,23 @@ fn three_numbers(bytes: &[u8], at: usize) -> Option<(u64, u64, u64, usize)>
 
 // How many bytes a `v` at the front takes.
 #[inline(always)]
-fn small_len(text: &str) -> usize
+fn small_len<R: Reach>(text: &str) -> usize
+    requires { R.stands text.now 0 }
     ensures value { result ≡ small_len text.now }
-    ensures place { result ≤ length text.now }
+    ensures place { R.stands text.now result }
 {
-    usize::from(matches!(text.as_bytes(), [b'v', ..]))
+    usize::from(stands_at::<R>(text.as_bytes(), 0, b'v'))
 }
 
 // The three numbers of a text that begins with them, or with `v` and them, and the place behind
 // them.
 #[inline(always)]
-pub(crate) fn leading_numbers(text: &str) -> Option<(u64, u64, u64, usize)>
+pub(crate) fn leading_numbers<R: Reach>(text: &str) -> Option<(u64, u64, u64, usize)>
+    requires { R.stands text.now 0 }
     ensures found { result ≡ triple_at MAX_SAFE_INTEGER text.now (small_len text.now) }
-    ensures place { IfSome result (λ found. found.3 ≤ length text.now) }
+    ensures place { IfSome result (λ found. R.stands text.now found.3) }
 {
-    three_numbers(text.as_bytes(), small_len(text))
+    three_numbers::<R>(text.as_bytes(), small_len::<R>(text))
 }
 
 // The numbers of the version at the front of a text, and the place behind them.
@@ -71,7 +74,7 @@ pub(crate) fn numbers(text: &str) -> Option<(u64, u64, u64, usize)>
     ensures none { IfNone result (NoValue (Reads MAX_SAFE_INTEGER text.now)) }
     ensures place { IfSome result (λ found. found.3 ≤ length text.now) }
 {
-    match leading_numbers(text) {
+    match leading_numbers::<OfText>(text) {
         Some(found) => Some(found),
         None => loose_numbers(text),
     }
@@ -89,10 +92,10 @@ fn loose_numbers(text: &str) -> Option<(u64, u64, u64, usize)>
     ensures place { IfSome result (λ found. found.3 ≤ length text.now) }
 {
     let at = front_of_numbers(text);
-    if at == small_len(text) {
+    if at == small_len::<OfText>(text) {
         return None;
     }
-    three_numbers(text.as_bytes(), at)
+    three_numbers::<OfText>(text.as_bytes(), at)
 }
 
 // The version of three numbers and the qualifier that goes from a place to the end of the text.
@@ -123,13 +126,13 @@ fn read(alloc: Global, text: &str) -> Result<Option<Version>, AllocError>
     ensures memory { OnErr result
         ((v : VersionValue) × Reads MAX_SAFE_INTEGER text.now v × HasIdentifiers v) }
 {
-    let Some((major, minor, patch, end)) = leading_numbers(text) else {
+    let Some((major, minor, patch, end)) = leading_numbers::<OfText>(text) else {
         return Ok(None);
     };
     if end == text.len() {
         return Ok(Some(Version::release(major, minor, patch)));
     }
-    if !begins_lists(text, end) {
+    if !begins_lists::<OfText>(text, end) {
         return Ok(None);
     }
     version_of_whole(alloc, text, major, minor, patch, end)

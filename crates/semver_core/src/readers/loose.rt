@@ -11,6 +11,7 @@ ghost use Rattle.semver_core.specs.Text.{Identifiers.goes_on, VersionText.Reads}
 ghost use Rattle.semver_core.specs.Text.Characters.{is_identifier_char, IsAfterBlank};
 ghost use Rattle.semver_core.specs.Values.{Versions.{VersionValue, HasIdentifiers}, Views.ids_view};
 
+use crate::reach::{OfText, Reach};
 use crate::readers::fast::numbers;
 use crate::version::lists::{Lists, Qualifier};
 use crate::{Allocated, Identifier, MAX_SAFE_INTEGER, Version, scan};
@@ -19,39 +20,38 @@ use std::alloc::{AllocError, Global};
 // Whether a mark stands at a place.
 #[inline(always)]
 #[tactic(auto, using(crate::proofs::Text::Digits::places))]
-pub(crate) fn stands_at(bytes: &[u8], at: usize, mark: u8) -> bool
-    requires { at ≤ length bytes.now }
+pub(crate) fn stands_at<R: Reach>(bytes: &[u8], at: usize, mark: u8) -> bool
+    requires { R.stands bytes.now at }
     ensures stands { result ≡ begins (λ b. b == mark) (drop at bytes.now) }
-    ensures inside { IsTrue result → at < length bytes.now }
+    ensures place { IsTrue result → (mark == 10) ≡ false → R.stands bytes.now (at + 1) }
 {
-    matches!(&bytes[at..], [byte, ..] if *byte == mark)
+    R::inside(bytes, at) && bytes[at] == mark
 }
 
 // Whether a pre-release or a build may begin at a place: with a character of identifiers, which `-`
 // is too, or with `+`.
 #[inline(always)]
 #[tactic(auto, using(crate::proofs::Text::Fronts::no_lists))]
-pub(crate) fn begins_lists(text: &str, at: usize) -> bool
-    requires { at ≤ length text.now }
+pub(crate) fn begins_lists<R: Reach>(text: &str, at: usize) -> bool
+    requires { R.stands text.now at }
     ensures { IsFalse result → lists_at text.now at ≡ ([], [], at) }
 {
-    match &text.as_bytes()[at..] {
-        [byte, ..] => scan::is_identifier_char(*byte) || *byte == b'+',
-        [] => false,
-    }
+    let bytes = text.as_bytes();
+    R::inside(bytes, at) && (scan::is_identifier_char(bytes[at]) || bytes[at] == b'+')
 }
 
 // Where the identifiers of the pre-release at a place begin.
-pub(crate) fn pre_release_start(text: &str, at: usize) -> Option<usize>
-    requires { at ≤ length text.now }
+#[tactic(auto, using(crate::proofs::Text::Ends::some_found))]
+pub(crate) fn pre_release_start<R: Reach>(text: &str, at: usize) -> Option<usize>
+    requires { R.stands text.now at }
     ensures found { pre_release_at text.now at ≡ list_from text.now at result }
     ensures some { OnSome result (0 < length (pre_release_at text.now at).0) }
     ensures begins { IfSome result (λ start.
         begins is_identifier_char (drop start text.now) ≡ true) }
-    ensures inside { IfSome result (λ start. start ≤ length text.now) }
+    ensures place { IfSome result (λ start. R.stands text.now start) }
 {
-    let start = at + usize::from(stands_at(text.as_bytes(), at, b'-'));
-    if scan::begins_at(text, start) {
+    let start = at + usize::from(stands_at::<R>(text.as_bytes(), at, b'-'));
+    if scan::begins_at::<R>(text.as_bytes(), start) {
         Some(start)
     } else {
         None
@@ -59,16 +59,21 @@ pub(crate) fn pre_release_start(text: &str, at: usize) -> Option<usize>
 }
 
 // Where the identifiers of the build at a place begin.
-pub(crate) fn build_start(text: &str, at: usize) -> Option<usize>
-    requires { at ≤ length text.now }
+#[tactic(auto, using(crate::proofs::Text::Ends::some_found))]
+pub(crate) fn build_start<R: Reach>(text: &str, at: usize) -> Option<usize>
+    requires { R.stands text.now at }
     ensures found { build_at text.now at ≡ list_from text.now at result }
     ensures some { OnSome result (0 < length (build_at text.now at).0) }
     ensures begins { IfSome result (λ start.
         begins is_identifier_char (drop start text.now) ≡ true) }
-    ensures inside { IfSome result (λ start. start ≤ length text.now) }
+    ensures place { IfSome result (λ start. R.stands text.now start) }
 {
-    let stands = stands_at(text.as_bytes(), at, b'+') && scan::begins_at(text, at + 1);
-    stands.then_some(at + 1)
+    let bytes = text.as_bytes();
+    if stands_at::<R>(bytes, at, b'+') && scan::begins_at::<R>(bytes, at + 1) {
+        Some(at + 1)
+    } else {
+        None
+    }
 }
 
 // The pre-release and the build at a place, and the place after them; no box where there is one
@@ -83,12 +88,12 @@ pub(crate) fn lists_at(alloc: Global, text: &str, at: usize) -> Allocated<(Quali
     ensures memory { OnErr result ((0 < length (lists_at text.now at).0)
         ⊎ (0 < length (lists_at text.now at).1)) }
 {
-    let Some(first) = pre_release_start(text, at) else {
+    let Some(first) = pre_release_start::<OfText>(text, at) else {
         let (build, end) = build_behind(alloc, text, at, Vec::new(alloc))?;
         return Ok((build, end));
     };
     let run = scan::scan_run(text.as_bytes(), first);
-    if !scan::goes_on_at(text, run.0) && build_start(text, run.0).is_none() {
+    if !scan::goes_on_at(text, run.0) && build_start::<OfText>(text, run.0).is_none() {
         let id = scan::run_id(alloc, text, first, run)?;
         return Ok((Qualifier::One(id), run.0));
     }
@@ -116,7 +121,7 @@ fn build_behind(
 {
     let mut ids = pre_release;
     let pre_len = ids.len();
-    let Some(start) = build_start(text, at) else {
+    let Some(start) = build_start::<OfText>(text, at) else {
         return Ok((Qualifier::Lists(Lists { pre_len, ids }), at));
     };
     let end = scan::read_list(alloc, text, start, &mut ids)?;

@@ -1,15 +1,14 @@
-use Rattle.semver_core.proofs.Common.{Some, ap, arith, length, drop, length-drop, qualified, sym, ℕ, ◌∙◌, ◌≡◌}
-use Rattle.{std.proofs.lemmas.Result.on_err_weaker, semver_core.proofs.Text.Fronts.{front_read, lists_found, lists_left, none_behind}}
+use Rattle.semver_core.proofs.Common.{Some, ap, arith, qualified, sym, ℕ, ◌∙◌}
+use Rattle.{std.proofs.lemmas.Result.on_err_weaker, semver_core.proofs.Text.Fronts.{front_read, lists_found, lists_left, none_past}}
 use Rattle.semver_core.proofs.readers.fast.read.Goals as goal
 
 pub returns-then-end-text-clause-found : goal.returns-then-end-text-clause-found
 returns-then-end-text-clause-found c =
     let text = c.args.text.now in
     let m = c.in-Some in
-    let none : length (drop m.end text) ≡ 0 = omega (arith, length-drop m.end text) in
     rw (← m.ensures.found)
     (ap Some c.release.ensures
-    ∙ sym (lists_found text m.major m.minor m.patch m.end m.end _ _ (sym (none_behind text m.end none)) (omega arith)))
+    ∙ sym (lists_found text m.major m.minor m.patch m.end m.end _ _ (sym (none_past text m.end (omega arith))) (omega arith)))
 
 pub returns-then-not-begins_lists-clause-found : goal.returns-then-not-begins_lists-clause-found
 returns-then-not-begins_lists-clause-found c =

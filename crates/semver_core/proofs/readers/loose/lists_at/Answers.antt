@@ -23,11 +23,11 @@ goes_on_at-requires-clause-stop c =
 
 pub goes_on_at-requires-clause-place : goal.goes_on_at-requires-clause-place
 goes_on_at-requires-clause-place c =
-    (scan_fits c.args.text.now c.in-Some.first _ (rw c.as_bytes.ensures.value at c.scan_run-run.ensures) c.in-Some.ensures.inside).1
+    (scan_fits c.args.text.now c.in-Some.first _ (rw c.as_bytes.ensures.value at c.scan_run-run.ensures) c.in-Some.ensures.place).1
 
 pub build_start-requires : goal.build_start-requires
 build_start-requires c =
-    (scan_fits c.args.text.now c.in-Some.first _ (rw c.as_bytes.ensures.value at c.scan_run-run.ensures) c.in-Some.ensures.inside).1
+    (scan_fits c.args.text.now c.in-Some.first _ (rw c.as_bytes.ensures.value at c.scan_run-run.ensures) c.in-Some.ensures.place).1
 
 pub returns-then-is_none-clause-found : goal.returns-then-is_none-clause-found
 returns-then-is_none-clause-found c =
