@@ -4,4 +4,10 @@ use Rattle.semver_core.specs.declared.increment.next.NextVersion.TheInside.{Insi
 
 -- the five values of the version
 abbrev pub next_value : Inside → VersionValue
-next_value v = record { major = v.major; minor = v.minor; patch = v.patch; pre_release = v.pre_release; build = v.build }
+next_value v = record {
+  major = v.major;
+  minor = v.minor;
+  patch = v.patch;
+  pre_release = v.pre_release;
+  build = v.build;
+}
