@@ -37,8 +37,9 @@ pub use crate::range::best::newest_release;
 pub use crate::range::{OutsideDirection, Range, RangeError, RangeOf, RangeRef};
 pub use semver_core::{
     Accepts, AcceptsRef, Failure, Identifier, IdentifierBase, IdentifierRef, IdentifierRefs,
-    IncrementError, MAX_LENGTH, MAX_SAFE_INTEGER, NegativeNumber, ReleaseType, SemverError,
-    Version, VersionDiff, VersionParts, VersionPoint, VersionRef, Versioned, cmp_build, cuts,
+    IncrementError, MAX_LENGTH, MAX_SAFE_INTEGER, NegativeNumber, NextIds, NextVersion,
+    ReleaseType, SemverError, Version, VersionDiff, VersionParts, VersionPoint, VersionRef,
+    Versioned, cmp_build, cuts,
 };
 use std::alloc::AllocError;
 

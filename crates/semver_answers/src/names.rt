@@ -13,10 +13,10 @@ ghost use Rattle.semver_answers.specs.Names.{next_text, or_none, order_word, tru
 ghost use Rattle.semver_answers.specs.Internal.Puts.{Extends};
 
 use crate::output::Output;
-use crate::put::put_version;
 use crate::put::ranges::put_range;
+use crate::put::{put_next_version, put_version};
 use nodejs_semver::{
-    Failure, IncrementError, RangeRef, Version, VersionDiff, VersionRef, Versioned,
+    Failure, IncrementError, NextVersion, RangeRef, Version, VersionDiff, VersionRef, Versioned,
 };
 use std::alloc::AllocError;
 use std::cmp::Ordering;
@@ -157,7 +157,7 @@ fn increment_fault_line(fault: &IncrementError) -> &'static [u8]
 #[inline(always)]
 #[tactic(auto, using(crate::proofs::Bytes::extended))]
 pub(crate) fn put_next(
-    next: &Result<Version, Failure<IncrementError>>,
+    next: &Result<NextVersion<'_>, Failure<IncrementError>>,
     output: &mut Output,
 ) -> Result<(), AllocError>
     ensures ok { OnOk result ((told : Result VersionValue increment.Fault) → Returns told next.now
@@ -165,7 +165,10 @@ pub(crate) fn put_next(
     ensures err { OnErr result (Extends output.old output.new) }
 {
     match next {
-        Ok(version) => put_printed(version, output),
+        Ok(version) => {
+            put_next_version(version, output)?;
+            output.push(b'\n')
+        }
         Err(Failure::Refused(fault)) => output.put(increment_fault_line(fault)),
         Err(Failure::Memory(_)) => Err(AllocError),
     }

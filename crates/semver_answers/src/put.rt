@@ -1,7 +1,7 @@
 // Puts numbers, versions and ranges behind the output, as they print, without a formatter.
 
 ghost use Rattle.std.specs.Prelude.{◌≡◌, ◌≤◌, ◌<◌, ◌++◌, ◌∷◌, ◌^◌, [], ℕ, List, take, length};
-ghost use Rattle.std.specs.Prelude.{OnOk, OnErr};
+ghost use Rattle.std.specs.Prelude.{OnOk, OnErr, codes};
 ghost use Rattle.std.specs.Fmt.{decimal};
 ghost use Rattle.semver_core.specs.Printing.Text.{id_text, marked_list, version_text};
 ghost use Rattle.semver_core.specs.Values.Views.{lent_id_view};
@@ -11,7 +11,7 @@ pub(crate) mod ranges;
 
 use crate::output::Output;
 use itoa::Buffer;
-use semver_core::{IdentifierRef, IdentifierRefs, Versioned};
+use semver_core::{IdentifierRef, IdentifierRefs, NextIds, NextVersion, Versioned};
 use std::alloc::AllocError;
 
 // The digits of a number and a dot, as a number whose lowest byte is the first.
@@ -196,5 +196,42 @@ pub(crate) fn put_version<V: Versioned>(version: &V, output: &mut Output) -> Res
 {
     put_release(version.major(), version.minor(), version.patch(), output)?;
     put_list(b'-', version.pre_release(), output)?;
+    put_list(b'+', version.build(), output)
+}
+
+// Puts a hyphen and the identifiers of a next pre-release joined by dots, or nothing where there
+// are none.
+#[inline(never)]
+#[tactic(auto, using(crate::proofs::Bytes::extended))]
+fn put_next_ids(ids: NextIds<'_>, output: &mut Output) -> Result<(), AllocError>
+    ensures ok { OnOk result
+        (output.new ≡ output.old ++ marked_list (codes "-") ids.entry) }
+    ensures err { OnErr result (Extends output.old output.new) }
+{
+    let mut mark = b'-';
+    let mut others = ids;
+    'ids: while let Some(id) = others.next() {
+        output.push(mark)?;
+        put_id(id, output)?;
+        mark = b'.';
+    }
+    Ok(())
+}
+
+/// Puts a next version. Where an allocation fails, a part of it may be put.
+#[inline(always)]
+#[tactic(auto, using(crate::proofs::Bytes::extended))]
+pub(crate) fn put_next_version(
+    version: &NextVersion<'_>,
+    output: &mut Output,
+) -> Result<(), AllocError>
+    ensures ok { OnOk result (output.new ≡ output.old ++ version_text version.now) }
+    ensures err { OnErr result (Extends output.old output.new) }
+{
+    put_release(version.major(), version.minor(), version.patch(), output)?;
+    let pre_release = version.pre_release();
+    if !pre_release.is_empty() {
+        put_next_ids(pre_release, output)?;
+    }
     put_list(b'+', version.build(), output)
 }

@@ -399,7 +399,7 @@ fn next_of(
         OnOk result (output.new ≡ output.old ++ ended (next_text told)) }
     ensures err { OnErr result (Extends output.old output.new) }
 {
-    put_next(&v.inc(alloc, word, identifier, base), output)
+    put_next(&v.next(alloc, word, identifier, base), output)
 }
 
 impl AboutVersions {

@@ -26,8 +26,7 @@ pub use Rattle.semver_core.specs.Increments.{Least.{IsLeastOrOverflow, IsLeastVe
 pub use Rattle.semver_core.specs.Increments.Table.{one_more, raise_last, InvalidIdentifier, InvalidIncrementArgument}
 pub use Rattle.semver_core.specs.Increments.Table.{NotAPrerelease, Overflow, first_number, identify, is_false, is_kept, pre_step}
 pub use Rattle.semver_core.specs.{Increments.Table.◌>>=◌, Increments.View.Returns, Internal.CommonReading.{common_of, small_len}}
-pub use Rattle.semver_core.specs.Internal.IncrementSteps.{list_text, Tracks, can_rise, ends_at_max, incremented, stepped}
-pub use Rattle.semver_core.specs.Internal.{IncrementSteps.{FailsWith, MayAllocate}, OrderLaws.id_total}
+pub use Rattle.semver_core.specs.Internal.{IncrementSteps.{list_text, MayAllocate, Tracks, incremented}, OrderLaws.id_total}
 pub use Rattle.semver_core.specs.Internal.{OrderLaws.{precedence_total, same_key}, Reading.{list_at, list_of, qualified}}
 pub use Rattle.semver_core.specs.Internal.Reading.{triple_at, HasOneReading, build_at, digits_end, list_from, lists_at, mark_len}
 pub use Rattle.semver_core.specs.Internal.{Reading.{number_at, or_nothing, placed, pre_release_at}, Spaces.{drop_spaces, trim}}

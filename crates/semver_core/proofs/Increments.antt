@@ -1,3 +1,4 @@
 pub mod Laws
 pub mod LastNumber
 pub mod Memory
+pub mod Texts

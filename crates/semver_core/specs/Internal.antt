@@ -1,5 +1,7 @@
 pub mod Reading
 pub mod IncrementSteps
+pub mod NextIds
+pub mod NextValue
 pub mod Successors
 pub mod OrderLaws
 pub mod Spaces

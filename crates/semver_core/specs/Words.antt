@@ -10,6 +10,7 @@ pub use Rattle.std.specs.Ordering.{is_eq, is_le, is_lt}
 pub use Rattle.std.specs.Prelude.{[], ℕ, ⊤, Bool, codes, false, IfErr, IfNone, IfOk, IfSome, is_some, IsCharBoundary}
 pub use Rattle.std.specs.Prelude.{IsOk, IsOkAnd, IsTrue, IsUtf8, length, List, not, OnErr, OnOk, Option, refl, Some}
 pub use Rattle.std.specs.Prelude.{string_bytes, take, true, unwrap_or}
+pub use Rattle.std.specs.Str.{bytes_eq}
 pub use Rattle.std.specs.Str.Lossy.{utf8_valid_len}
 pub use Rattle.std.specs.Str.Parse.{digits_value}
 pub use Rattle.std.specs.declared.alloc.AllocError.{AllocError}
@@ -28,9 +29,8 @@ pub use Rattle.semver_core.specs.Internal.Boundaries.{is_boundary}
 pub use Rattle.semver_core.specs.Internal.CommonReading.{common_of, grown, number_of_run, run_from, small_len, whole_at}
 pub use Rattle.semver_core.specs.Internal.Fronts.{front_view}
 pub use Rattle.semver_core.specs.Internal.Hashes.{id_writes, version_writes}
-pub use Rattle.semver_core.specs.Internal.IncrementSteps.{begun, can_rise, FailsWith, list_text, MayAllocate}
-pub use Rattle.semver_core.specs.Internal.IncrementSteps.{parts_ref_value, RefusedWith, ReturnsParts, stepped, Steps}
-pub use Rattle.semver_core.specs.Internal.IncrementSteps.{Tracks}
+pub use Rattle.semver_core.specs.Internal.IncrementSteps.{begun, list_text, MayAllocate, parts_ref_value}
+pub use Rattle.semver_core.specs.Internal.IncrementSteps.{RefusedWith, ReturnsParts, Tracks}
 pub use Rattle.semver_core.specs.Internal.OrderLaws.{id_alike, id_total, numbers_cmp, precedence_total, version_alike}
 pub use Rattle.semver_core.specs.Internal.Parts.{parts}
 pub use Rattle.semver_core.specs.Internal.Reading.{digits_end, digits_from, IsListAdded, list_at, list_from, list_len, lists_at}

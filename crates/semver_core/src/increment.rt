@@ -9,12 +9,15 @@ ghost use Rattle.semver_core.specs.Increments.Table as spec;
 ghost use Rattle.semver_core.specs.Internal.IncrementSteps as steps;
 
 use crate::increment::levels::by_word;
+use crate::increment::next::NextVersion;
 use crate::increment::parts_ref::PartsRef;
 use crate::{Failure, Identifier, Version, VersionRef};
 use std::alloc::{AllocError, Global};
 use thiserror::Error;
 
 mod levels;
+pub mod next;
+pub mod next_ids;
 mod parts_ref;
 mod pre_release;
 
@@ -150,13 +153,13 @@ fn begins_pre(word: &str) -> bool
 
 // The checks of a word that begins with `pre`, and then the word. No identifier is an empty one,
 // and no base is `Value(0)`.
-fn increment(
+fn next_of<'a>(
     alloc: Global,
-    version: &PartsRef<'_>,
+    version: &PartsRef<'a>,
     word: &str,
-    identifier: Option<&str>,
+    identifier: Option<&'a str>,
     base: Option<IdentifierBase>,
-) -> Result<Version, Failure<IncrementError>>
+) -> Result<NextVersion<'a>, Failure<IncrementError>>
     ensures { steps.IsAnswer (spec.answer_of_inc (parts_ref_value version.now) word.now
         (option_copied identifier.entry) base) result }
 {
@@ -224,11 +227,40 @@ impl Version {
             (option_copied identifier.entry) base in
             MemoryOnlyIf result ((answer ≢ Err spec.Overflow) × IfOk answer HasIdentifiers) }
     {
-        increment(alloc, &PartsRef::of(self), word, identifier, base)
+        let next = next_of(alloc, &PartsRef::of(self), word, identifier, base)?;
+        Ok(next.to_version(alloc)?)
     }
 }
 
 impl<'a> VersionRef<'a> {
+    /// The next version by a word, as `Version::inc` returns it, its identifiers where they stand:
+    /// in the text of this version and in the asked identifier. Nothing is allocated, but for the
+    /// text that an error holds.
+    ///
+    /// ```rust
+    /// let candidate = VersionRef::parse("1.2.3-rc.1")?;
+    /// let next = candidate.next(alloc, "prerelease", None, None)?;
+    /// assert!(rt; next.to_version(alloc)? == Version::parse(alloc, "1.2.3-rc.2")?);
+    /// ```
+    #[inline(always)]
+    pub fn next(
+        &self,
+        alloc: Global,
+        word: &str,
+        identifier: Option<&'a str>,
+        base: Option<IdentifierBase>,
+    ) -> Result<NextVersion<'a>, Failure<IncrementError>>
+        // It returns what the table says; `laws::least_increments` says which versions these are.
+        ensures value { Returns
+            (spec.answer_of_inc self.now word.now (option_copied identifier.entry) base) result }
+        // Allocation fails only for an error that holds a text, and never in place of `Overflow`.
+        ensures memory { let answer = spec.answer_of_inc self.now word.now
+            (option_copied identifier.entry) base in
+            MemoryOnlyIf result ((answer ≢ Err spec.Overflow) × IfOk answer (λ next. ⊥)) }
+    {
+        next_of(alloc, &PartsRef::of_ref(self), word, identifier, base)
+    }
+
     /// The next version by a word, as `Version::inc` returns it. It has identifiers of its own.
     ///
     /// ```rust
@@ -252,6 +284,7 @@ impl<'a> VersionRef<'a> {
             (option_copied identifier.entry) base in
             MemoryOnlyIf result ((answer ≢ Err spec.Overflow) × IfOk answer HasIdentifiers) }
     {
-        increment(alloc, &PartsRef::of(self), word, identifier, base)
+        let next = next_of(alloc, &PartsRef::of_ref(self), word, identifier, base)?;
+        Ok(next.to_version(alloc)?)
     }
 }

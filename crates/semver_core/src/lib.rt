@@ -22,6 +22,8 @@ pub use crate::borrowed::identifiers::IdentifierRefs;
 pub use crate::difference::{ReleaseType, VersionDiff};
 pub use crate::error::{Failure, NegativeNumber, SemverError};
 pub use crate::identifier::Identifier;
+pub use crate::increment::next::NextVersion;
+pub use crate::increment::next_ids::NextIds;
 pub use crate::increment::{IdentifierBase, IncrementError};
 pub use crate::version::Version;
 pub use crate::version::accepts::{Accepts, AcceptsRef};

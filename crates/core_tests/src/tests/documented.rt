@@ -67,6 +67,15 @@ fn without_build(rt: HostRuntime) -> Result<(), Fail> {
 }
 
 #[test]
+fn version_ref_next(rt: HostRuntime) -> Result<(), Fail> {
+    let alloc = rt.alloc();
+    let candidate = VersionRef::parse("1.2.3-rc.1")?;
+    let next = candidate.next(alloc, "prerelease", None, None)?;
+    assert!(rt; next.to_version(alloc)? == Version::parse(alloc, "1.2.3-rc.2")?);
+    Ok(())
+}
+
+#[test]
 fn version_ref_inc(rt: HostRuntime) -> Result<(), Fail> {
     let alloc = rt.alloc();
     let release = VersionRef::parse("1.2.3")?;

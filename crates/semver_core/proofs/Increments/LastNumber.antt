@@ -1,32 +1,17 @@
 -- The last number of a list.
-use Rattle.semver_core.proofs.Common.{not-true, Fault, advance, has_numeric, one_more, raise_last, is_empty, AlphaNumeric}
-use Rattle.semver_core.proofs.Common.{Id, Numeric, id_cmp, id_view, ids_view, Identifier, IdentifierBase, List, None, Option}
-use Rattle.semver_core.proofs.Common.{Some, [], ap, append_assoc, arith, false, get_or, inl, inr, length, refl, sym}
+use Rattle.semver_core.proofs.Common.{Fault, advance, has_numeric, one_more, raise_last, is_empty, AlphaNumeric}
+use Rattle.semver_core.proofs.Common.{Id, Numeric, id_cmp, IdentifierBase, List, None, Option}
+use Rattle.semver_core.proofs.Common.{Some, [], ap, arith, false, inl, inr, length, refl, sym}
 use Rattle.semver_core.proofs.Common.{take, true, ℕ, ◌++◌, ◌+◌, ◌-◌, ◌<◌, ◌∙◌, ◌∷◌, ◌≡◌, ◌≤◌, nat_tests, cases_lt}
 use Rattle.semver_core.proofs.Common.{is_ascii_digit, tied_itself, list_all, ◌==◌, Err, Ok, Result, digits_value, bytes_eq}
-use Rattle.semver_core.proofs.Common.{Overflow, is_kept, ◌>>=◌, Tracks, id_total, set, ◌^◌, length-map}
-use Rattle.semver_core.proofs.Common.{length-take-le, take_all, and_parts, cases_Bool, first_number, is_false, can_rise, stepped, not}
-use Rattle.semver_core.specs.{Increments.Table.asked, Internal.IncrementSteps.{IsLastNumber, begun}, Internal.OrderLaws.id_same}
-use Rattle.std.proofs.lemmas.{List.{Folds.list_any-append, map-append, take_more}, Str.Parse.parse_digits}
+use Rattle.semver_core.proofs.Common.{Overflow, is_kept, ◌>>=◌, Tracks, id_total, ◌^◌}
+use Rattle.semver_core.proofs.Common.{drop, take-append-drop, drop-drop}
+use Rattle.semver_core.specs.{Increments.Table.asked, Internal.OrderLaws.id_same}
+use Rattle.semver_core.specs.declared.increment.next_ids.Counted.{Counted}
+use Rattle.std.proofs.lemmas.{List.{Folds.list_any-append}, Str.Parse.parse_digits}
 use Rattle.std.specs.{Cmp.Equal-is, Ordering.is_eq, Prelude.{◌↔◌, IsTrue}, Result.MatchResult}
-use Rattle.std.proofs.{Math.Seq.set-append_seam, lemmas.Map.Text.is_eq-slice_cmp}
+use Rattle.std.proofs.{lemmas.Map.Text.is_eq-slice_cmp}
 use Rattle.{std.specs.Str.Parse.ParsesUnsigned, semver_core.proofs.Text.Runs.numerals}
-
-no_more : (xs : List Id) (text : List ℕ) → has_numeric xs ≡ false → has_numeric (xs ++ AlphaNumeric text ∷ []) ≡ false
-no_more xs text h = rw (list_any-append, h) refl
-
-text_more : (xs : List Id) (last : Option (ℕ × ℕ)) (text : List ℕ) → Tracks xs last → Tracks (xs ++ AlphaNumeric text ∷ []) last
-text_more xs None text h = no_more xs text h
-text_more xs (Some p) text h = record {
-  front = h.front;
-  back = h.back ++ AlphaNumeric text ∷ [];
-  divided = ap (λ l. l ++ AlphaNumeric text ∷ []) h.divided ∙ append_assoc h.front (Numeric p.1 ∷ h.back) (AlphaNumeric text ∷ []);
-  place = h.place;
-  ended = no_more h.back text h.ended;
-}
-
-number_more : (xs : List Id) (i n : ℕ) → i ≡ length xs → Tracks (xs ++ Numeric n ∷ []) (Some (i, n))
-number_more xs i n e = record { front = xs; back = []; divided = refl; place = e; ended = refl }
 
 has_it : (front back : List Id) (n : ℕ) → has_numeric (front ++ Numeric n ∷ back) ≡ true
 has_it front back n = rw list_any-append (grind arith)
@@ -64,32 +49,6 @@ list_kept id list = (there list, back)
     back : ((n : ℕ) × (rest : List Id) × (list ≡ asked id ∷ Numeric n ∷ rest)) → IsTrue (is_kept id list)
     back p = rw p.2 (ap is_eq (tied_itself id_total (asked id)))
 
--- the last number rises where it stands
-raise_at : (xs : List Id) (i n : ℕ) → IsLastNumber xs i n → raise_last xs ≡ (one_more n >>= λ m. Ok (set xs i (Numeric m)))
-raise_at xs i n h = rw (h.divided, h.place) (raise_divided h.front h.back n h.ended ∙ sym (by (one_more n)))
-  where
-    by : (r : Result ℕ Fault) → (r >>= λ m. Ok (set (h.front ++ Numeric n ∷ h.back) (length h.front) (Numeric m))) ≡ (r >>= λ m. Ok (h.front ++ Numeric m ∷ h.back))
-    by (Ok m) = ap Ok (set-append_seam h.front (Numeric n) h.back (Numeric m))
-    by (Err e) = refl
-
-pub tracks_number : (xs : List Identifier) (i n : ℕ) (x : Identifier) → i < length xs → x ≡ get_or xs i x → id_view x ≡ Numeric n
-    → Tracks (ids_view (take (i + 1) xs)) (Some (i, n))
-tracks_number xs i n x lt at is =
-    let text : take (i + 1) xs ≡ take i xs ++ x ∷ [] = take_more xs i x lt ∙ ap (λ y. take i xs ++ y ∷ []) (sym at) in
-    rw (text, map-append id_view (take i xs) (x ∷ []), is) (number_more (ids_view (take i xs)) i n (sym (length-map (take i xs) id_view ∙ length-take-le i xs (omega (arith, lt)))))
-
-pub tracks_text : (xs : List Identifier) (i : ℕ) (last : Option (ℕ × ℕ)) (text : List ℕ) (x : Identifier) → i < length xs → x ≡ get_or xs i x → id_view x ≡ AlphaNumeric text
-    → Tracks (ids_view (take i xs)) last → Tracks (ids_view (take (i + 1) xs)) last
-tracks_text xs i last text x lt at is h =
-    let whole : take (i + 1) xs ≡ take i xs ++ x ∷ [] = take_more xs i x lt ∙ ap (λ y. take i xs ++ y ∷ []) (sym at) in
-    rw (whole, map-append id_view (take i xs) (x ∷ []), is) (text_more (ids_view (take i xs)) last text h)
-
-pub tracks_whole : (xs : List Identifier) (i : ℕ) (last : Option (ℕ × ℕ)) → length xs ≤ i → Tracks (ids_view (take i xs)) last → Tracks (ids_view xs) last
-tracks_whole xs i last le h = rw (take_all i xs le) at h
-
-number_there : (list : List Id) (i n : ℕ) → IsLastNumber list i n → has_numeric list ≡ true
-number_there list i n last = ap has_numeric last.divided ∙ has_it last.front last.back n
-
 by_raise : (list : List Id) (id : List ℕ) (base : IdentifierBase) → has_numeric list ≡ true → advance list id base ≡ raise_last list
 by_raise [] id base h = cc
 by_raise (x ∷ xs) id base h = rw h refl
@@ -122,46 +81,27 @@ asked_digits wanted text d = rw d refl
 pub ruleset asked_matches = (asked_number, asked_other, asked_text, asked_digits)
 
 -- a list with a last number goes on by raising it
-pub advance_at : (list : List Id) (id : List ℕ) (base : IdentifierBase) (i n : ℕ) → IsLastNumber list i n
-    → advance list id base ≡ (one_more n >>= λ m. Ok (set list i (Numeric m)))
-advance_at list id base i n last = by_raise list id base (number_there list i n last) ∙ raise_at list i n last
+pub advance_at : (list : List Id) (id : List ℕ) (base : IdentifierBase) (c : Counted) → Tracks list [] (Some c)
+    → advance list id base ≡ (one_more c.number >>= λ m. Ok (take c.len c.front ++ Numeric m ∷ c.back))
+advance_at list id base c last =
+    by_raise list id base (ap has_numeric last.0 ∙ has_it (take c.len c.front) c.back c.number)
+    ∙ ap raise_last last.0 ∙ raise_divided (take c.len c.front) c.back c.number last.1
 
-pub ruleset tracked = (tracks_number, tracks_text, tracks_whole)
+-- it is not empty
+pub some_counted : (front back : List Id) (x : Id) → false ≡ is_empty (front ++ x ∷ back)
+some_counted [] back x = refl
+some_counted (first ∷ front) back x = refl
 
--- ---- A list that the identifier of `inc` replaces, whatever the number at its end.
+-- one more identifier is looked at
+pub tracks_text : (list left rest : List Id) (last : Option Counted) (text : List ℕ) → left ≡ AlphaNumeric text ∷ rest
+    → Tracks list left last → Tracks list rest last
+tracks_text list left rest None text e h = h ∙ ap has_numeric e
+tracks_text list left rest (Some c) text e h = (h.0, h.1 ∙ ap has_numeric e)
 
--- a list of which no number is the largest one rises
-rises : (xs : List Id) → can_rise xs ≡ true → (ys : List Id) × (raise_last xs ≡ Ok ys)
-rises [] h = ([], refl)
-rises (AlphaNumeric text ∷ xs) h =
-    let r = rises xs h in
-    (AlphaNumeric text ∷ r.0, rw r.1 refl)
-rises (Numeric n ∷ xs) h =
-    let both = and_parts (not (n == 2 ^ 64 - 1)) (can_rise xs) h in
-    elim (cases_Bool (has_numeric xs)) [
-      | inl more ↦ let r = rises xs both.1 in (Numeric n ∷ r.0, rw (more, r.1) refl)
-      | inr last ↦ (Numeric (n + 1) ∷ xs, rw (last, not-true (n == 2 ^ 64 - 1) both.0) refl)
-    ]
+pub tracks_number : (list left rest : List Id) (c : Counted) → left ≡ Numeric c.number ∷ rest → left ≡ drop c.len list
+    → c.front ≡ list → c.back ≡ rest → Tracks list rest (Some c)
+tracks_number list left rest c e at front back =
+    (sym (rw (front, back, ← e, at) (take-append-drop c.len list)), ap has_numeric back)
 
--- what the first half of the pre step makes of it still begins with the same text
-advances : (text : List ℕ) (xs : List Id) (id : List ℕ) (base : IdentifierBase) → is_false base ≡ false → can_rise xs ≡ true
-    → (ys : List Id) × (advance (AlphaNumeric text ∷ xs) id base ≡ Ok (AlphaNumeric text ∷ ys))
-advances text xs id base some h = elim (cases_Bool (has_numeric xs)) [
-  | inl more ↦ let r = rises xs h in (r.0, rw (more, r.1) refl)
-  | inr none ↦ (xs ++ Numeric (first_number base) ∷ [], rw (none, some) refl)
-]
-
--- another text is not kept
-other : (text id : List ℕ) (ys : List Id) → bytes_eq text id ≡ false → is_kept id (AlphaNumeric text ∷ ys) ≡ false
-other text id [] differs = refl
-other text id (AlphaNumeric second ∷ ys) differs = refl
-other text id (Numeric n ∷ ys) differs = elim (cases_Bool (list_all is_ascii_digit id)) [
-  | inl digits ↦ asked_digits id text digits
-  | inr word ↦ asked_text id text word ∙ differs
-]
-
-pub text_replaced : (text : List ℕ) (xs list : List Id) (id : List ℕ) (base : IdentifierBase) → is_empty id ≡ false → is_false base ≡ false
-    → bytes_eq text id ≡ false → can_rise xs ≡ true → list ≡ AlphaNumeric text ∷ xs → stepped list id base ≡ Ok (begun id base)
-text_replaced text xs list id base some numbered differs h e =
-    let a = advances text xs id base numbered h in
-    rw (e, a.1, some, other text id a.0 differs) refl
+pub drop_next : (list : List Id) (i : ℕ) (left rest : List Id) (x : Id) → left ≡ drop i list → left ≡ x ∷ rest → rest ≡ drop (i + 1) list
+drop_next list i left rest x at e = ap (drop 1) (sym e ∙ at) ∙ drop-drop 1 i list

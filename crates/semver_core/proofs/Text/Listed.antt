@@ -1,16 +1,16 @@
 -- A text that spells a list of identifiers is its own longest list.
 use Rattle.semver_core.proofs.Common.{list_at, begins, is_identifier_char, Id, IsLongestIdentifiers, identifier_of}
 use Rattle.semver_core.proofs.Common.{is_identifier, pieces, is_listed, listed, id_view, ids_view, Identifier, List, Some}
-use Rattle.semver_core.proofs.Common.{[], ap, append-nil, arith, eqb, inl, inr, length, refl, sym, take, true, ℕ, ◌+◌, ◌<◌}
+use Rattle.semver_core.proofs.Common.{[], ap, append-nil, arith, eqb, false, inl, inr, length, refl, sym, take, true, ℕ, ◌+◌, ◌<◌, ◌≤◌}
 use Rattle.semver_core.proofs.Common.{◌∙◌, ◌∷◌, ◌≡◌, cases_Bool, eqb-true, list_all, onto_first, IsUtf8, ◌==◌, length-map}
 use Rattle.semver_core.proofs.Common.{length-slice_split, IsUtf8-from_ascii, IsAscii-cons, IsAscii-nil, IsAscii}
 use Rattle.semver_core.proofs.Common.{AlphaNumeric, Numeric, IsId, Bool, subst, ◌*◌, nat_tests, and_parts, digit_value}
 use Rattle.semver_core.proofs.Common.{is_ascii_digit, All, digits_value, is_u64_text, map, ◌^◌, All-cons, All-nil}
-use Rattle.semver_core.proofs.Common.{join_with_byte, digits_value_after}
+use Rattle.semver_core.proofs.Common.{join_with_byte, digits_value_after, if◌then◌else◌, zero-add}
 use Rattle.{semver_core.specs.Internal.CommonReading.is_plain, std.proofs.lemmas.List.Splits.join_with_byte-slice_split}
-use Rattle.{std.proofs.lemmas.Str.IsAscii-take, std.specs.List.count_by, semver_core.proofs.Text.Pieces.first_char}
+use Rattle.{std.proofs.lemmas.Str.IsAscii-take, std.specs.List.count_by, std.proofs.lemmas.List.Sums.{count_by-le-length, sum_by-cons}, semver_core.proofs.Text.Pieces.first_char}
 use Rattle.semver_core.proofs.Text.Pieces.{list_complete, runs_begin, runs_tail, some_inside, tail_onto, tail_runs, digits_grow}
-use Rattle.semver_core.proofs.Text.Runs.{ascii as small_char, of_digits}
+use Rattle.semver_core.proofs.Text.Runs.{ascii as small_char, not_dot, of_digits}
 
 pub plain_runs : (text : List ℕ) → tail_runs (pieces text) ≡ true → list_all is_plain text ≡ true
 plain_runs [] h = refl
@@ -72,6 +72,19 @@ some_listed text ids h e = rw (length-map ids id_view) at (rw (← e) at (listed
 pub ruleset listed_read = (listed_utf8, listed_begins, listed_none)
 
 pub ruleset listed_counts = (listed_count, listed_none)
+
+none_listed : length (listed []) ≡ 0
+unfolding listed
+none_listed = refl
+
+-- no more than the bytes, since the first of them is no dot
+pub listed_most : (text : List ℕ) → is_listed text ≡ true → length (listed text) ≤ length text
+listed_most [] h = omega (arith, none_listed)
+listed_most (c ∷ rest) h =
+    let dot : (c == 46) ≡ false = not_dot c (listed_begins (c ∷ rest) h (omega arith)) in
+    let more : count_by (λ b. b == 46) (c ∷ rest) ≡ count_by (λ b. b == 46) rest =
+    sum_by-cons (λ b. if b == 46 then 1 else 0) c rest ∙ rw dot (zero-add _) in
+    omega (arith, count_by-le-length (λ c. c == 46) rest, listed_count (c ∷ rest) (omega arith), more)
 
 -- ---- Which texts spell the number 0 alone, and that a text spells identifiers of versions.
 

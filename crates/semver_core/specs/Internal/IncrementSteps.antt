@@ -1,24 +1,25 @@
 -- For proofs and private contracts: what the steps of `inc` say to one another.
-use Rattle.std.specs.Prelude.{◌≡◌, ◌==◌, ◌&&◌, not, if◌then◌else◌, ℕ, List, [], ◌∷◌, ◌++◌, length}
-use Rattle.std.specs.Prelude.{map, Bool, Option, Some, None, Result, Ok, Err, ⊤, ◌-◌, ◌^◌, false}
-use Rattle.std.specs.Prelude.{true}
+use Rattle.std.specs.Prelude.{◌≡◌, ◌==◌, ◌&&◌, not, if◌then◌else◌, ℕ, List, [], ◌∷◌}
+use Rattle.std.specs.Prelude.{map, Bool, Option, Some, None, Result, Ok, Err, ⊤}
 use Rattle.std.specs.List.{join_with_byte, starts_with}
 use Rattle.std.specs.Prelude.{codes, nat_eq}
 use Rattle.semver_core.specs.Text.Identifiers.{Id, Numeric, AlphaNumeric}
-use Rattle.semver_core.specs.Increments.Table.{◌>>=◌, Fault, NotAPrerelease, Overflow, advance}
+use Rattle.semver_core.specs.Increments.Table.{◌>>=◌, Fault, NotAPrerelease, Overflow}
 use Rattle.semver_core.specs.Increments.Table.{first_number, has_numeric}
-use Rattle.semver_core.specs.Increments.Table.{by_word, checked, identify, is_false, next_major}
+use Rattle.semver_core.specs.Increments.Table.{by_word, checked, is_false, next_major}
 use Rattle.semver_core.specs.Increments.Table.{next_minor, next_patch, pre_step, release_of}
 use Rattle.semver_core.specs.Increments.View.{fault_of}
 use Rattle.semver_core.specs.Printing.Text.{id_text, version_text}
-use Rattle.semver_core.specs.Values.Versions.{HasIdentifiers, VersionValue, is_release}
+use Rattle.semver_core.specs.Values.Versions.{VersionValue, is_release}
 use Rattle.semver_core.specs.declared.error.Failure.{Failure}
 use Rattle.semver_core.specs.declared.error.Failure.TheVariants.{Refused, Memory}
 use Rattle.semver_core.specs.declared.increment.IdentifierBase.{IdentifierBase}
 use Rattle.semver_core.specs.declared.increment.IncrementError.{IncrementError}
 use Rattle.semver_core.specs.declared.increment.levels.Level.{Level}
 use Rattle.semver_core.specs.declared.increment.levels.Level.TheVariants.{Major, Minor, Patch}
+use Rattle.semver_core.specs.declared.increment.next_ids.Counted.{Counted}
 use Rattle.semver_core.specs.declared.increment.parts_ref.PartsRef.{PartsRef}
+use Rattle.semver_core.specs.Internal.NextIds.{counted_ids}
 
 -- the five values of a version whose identifiers stand elsewhere
 abbrev pub parts_ref_value : PartsRef → VersionValue
@@ -65,33 +66,15 @@ list_text list = join_with_byte 46 (map id_text list)
 abbrev pub begun : List ℕ → IdentifierBase → List Id
 begun id base = AlphaNumeric id ∷ (if is_false base then [] else Numeric (first_number base) ∷ [])
 
--- both halves of the pre step
-abbrev pub stepped : List Id → List ℕ → IdentifierBase → Result (List Id) Fault
-stepped list id base = advance list id base >>= λ next. Ok (identify id base next)
-
--- the call leaves this list or returns this error, unless an allocation fails
-abbrev pub Steps : Result (List Id) Fault → Result ⊤ (Failure IncrementError) → List Id → Type 0
-Steps expected (Ok done) list = expected ≡ Ok list
-Steps expected (Err (Refused e)) list = expected ≡ Err (fault_of e)
-Steps expected (Err (Memory e)) list = ⊤
-
 -- it is this error, unless an allocation fails
 abbrev pub RefusedWith : Fault → Failure IncrementError → Type 0
 RefusedWith fault (Refused e) = fault ≡ fault_of e
 RefusedWith fault (Memory e) = ⊤
 
--- the last number of a list
-pub record IsLastNumber (list : List Id) (i n : ℕ) : Type 0 where
-  pub front : List Id
-  pub back : List Id
-  pub divided : list ≡ front ++ Numeric n ∷ back
-  pub place : i ≡ length front
-  pub ended : has_numeric back ≡ false
-
--- the last number that was found in a list
-abbrev pub Tracks : List Id → Option (ℕ × ℕ) → Type 0
-Tracks list None = has_numeric list ≡ false
-Tracks list (Some p) = IsLastNumber list p.0 p.1
+-- the last number that was found in a list of which some identifiers are left
+abbrev pub Tracks : List Id → (left : List Id) → Option Counted → Type 0
+Tracks list left None = has_numeric list ≡ has_numeric left
+Tracks list left (Some c) = (list ≡ counted_ids c) × (has_numeric c.back ≡ has_numeric left)
 
 -- an allocation may fail where this is the answer: it is not `Overflow`, and P holds of its value
 abbrev pub MayAllocate : {A : Type 0} → (A → Type 0) → Result A Fault → Type 0
@@ -99,25 +82,8 @@ MayAllocate P (Ok value) = P value
 MayAllocate P (Err Overflow) = ⊥
 MayAllocate P (Err fault) = ⊤
 
--- the call returns this version or this error, or an allocation fails where one may
+-- the call returns this version or this error, or an allocation fails for the text of the error
 abbrev pub IsAnswer : Result VersionValue Fault → Result VersionValue (Failure IncrementError) → Type 0
 IsAnswer expected (Ok version) = expected ≡ Ok version
 IsAnswer expected (Err (Refused e)) = expected ≡ Err (fault_of e)
-IsAnswer expected (Err (Memory e)) = MayAllocate HasIdentifiers expected
-
--- it is the error of this answer, or an allocation failure and the answer is not `Overflow`
-abbrev pub FailsWith : {A : Type 0} → Result A Fault → Failure IncrementError → Type 0
-FailsWith answer (Refused e) = answer ≡ Err (fault_of e)
-FailsWith answer (Memory e) = MayAllocate (λ value. ⊤) answer
-
--- whether the last number of a list is the largest one; `before` for a list without a number
-abbrev pub ends_at_max : Bool → List Id → Bool
-ends_at_max before [] = before
-ends_at_max before (Numeric n ∷ rest) = ends_at_max (n == 2 ^ 64 - 1) rest
-ends_at_max before (AlphaNumeric text ∷ rest) = ends_at_max before rest
-
--- no number of a list is the largest one
-abbrev pub can_rise : List Id → Bool
-can_rise [] = true
-can_rise (Numeric n ∷ rest) = not (n == 2 ^ 64 - 1) && can_rise rest
-can_rise (AlphaNumeric text ∷ rest) = can_rise rest
+IsAnswer expected (Err (Memory e)) = MayAllocate (λ next. ⊥) expected

@@ -1,6 +1,6 @@
 // Lists of identifiers, one by one.
 
-ghost use Rattle.std.specs.Prelude.{◌≡◌, ◌∷◌, ◌++◌, ◌<◌, IfOk, OnErr};
+ghost use Rattle.std.specs.Prelude.{◌≡◌, ◌∷◌, ◌++◌, ◌<◌, ◌≤◌, IfOk, OnErr};
 ghost use Rattle.semver_core.specs.Words.{is_listed, item_count, lent_id_view, OnOk, YieldsFirstBy};
 ghost use Rattle.semver_core.specs.Words.{id_cmp, ids_of, ids_view, is_empty, IsSource, slice_cmp};
 ghost use Rattle.semver_core.specs.Words.{[], IfNone, IfSome, is_normal, length, list_all, listed};
@@ -88,6 +88,18 @@ impl<'a> IdentifierRefs<'a> {
         match self.source {
             Source::Items(items) => items.is_empty(),
             Source::Text(text) => text.is_empty(),
+        }
+    }
+
+    // A number that is not below that of the identifiers that are left.
+    #[inline(always)]
+    #[tactic(auto, using(crate::proofs::Text::Listed::listed_most))]
+    pub(crate) fn at_most(&self) -> usize
+        ensures { length self.now ≤ result }
+    {
+        match self.source {
+            Source::Items(items) => items.len(),
+            Source::Text(text) => text.len(),
         }
     }
 

@@ -1,36 +1,33 @@
 // The words of increments, a row each.
 
-ghost use Rattle.std.specs.Prelude.{◌≡◌, ◌<◌, ◌∷◌};
-ghost use Rattle.semver_core.specs.Words.{[], ⊤, begun, ids_view, IfOk, length, MayAllocate};
-ghost use Rattle.semver_core.specs.Words.{MemoryOnlyIf, Numeric, OnOk, parts_ref_value};
-ghost use Rattle.semver_core.specs.Words.{ReturnsParts, stepped, Steps};
+ghost use Rattle.std.specs.Prelude.{◌≡◌};
+ghost use Rattle.semver_core.specs.Words.{[], IfOk, parts_ref_value, ReturnsParts};
 ghost use Rattle.semver_core.specs.Increments.Table as spec;
 ghost use Rattle.semver_core.specs.Internal.IncrementSteps as steps;
 
+use crate::Failure;
+use crate::increment::next::NextVersion;
+use crate::increment::next_ids::NextIds;
 use crate::increment::parts_ref::PartsRef;
-use crate::increment::pre_release::{
-    advance, first_number, is_kept, is_replaced, new_list, unless_overflow,
-};
+use crate::increment::pre_release::{advance, is_kept};
 use crate::increment::{IdentifierBase, IncrementError, one_more, refused_argument};
-use crate::version::lists::{Lists, Qualifier};
-use crate::{Failure, Identifier, Version};
-use std::alloc::{AllocError, Global};
+use std::alloc::Global;
 
 // The row of a word.
-pub(super) fn by_word(
+pub(super) fn by_word<'a>(
     alloc: Global,
-    version: &PartsRef<'_>,
+    version: &PartsRef<'a>,
     word: &str,
-    id: &str,
+    id: &'a str,
     base: IdentifierBase,
-) -> Result<Version, Failure<IncrementError>>
+) -> Result<NextVersion<'a>, Failure<IncrementError>>
     ensures { steps.IsAnswer
         (spec.by_word word.now id.now base (parts_ref_value version.now)) result }
 {
     match word {
-        "major" => release_of(alloc, &release_after(version, Level::Major, true)?),
-        "minor" => release_of(alloc, &release_after(version, Level::Minor, true)?),
-        "patch" => release_of(alloc, &release_after(version, Level::Patch, true)?),
+        "major" => Ok(release_of(&release_after(version, Level::Major, true)?)),
+        "minor" => Ok(release_of(&release_after(version, Level::Minor, true)?)),
+        "patch" => Ok(release_of(&release_after(version, Level::Patch, true)?)),
         "premajor" => {
             pre_step(
                 alloc,
@@ -94,12 +91,12 @@ fn release_after<'a>(
     })
 }
 
-fn prerelease(
+fn prerelease<'a>(
     alloc: Global,
-    version: &PartsRef<'_>,
-    id: &str,
+    version: &PartsRef<'a>,
+    id: &'a str,
     base: IdentifierBase,
-) -> Result<Version, Failure<IncrementError>>
+) -> Result<NextVersion<'a>, Failure<IncrementError>>
     ensures { steps.IsAnswer
         (steps.by_prerelease id.now base (parts_ref_value version.now)) result }
 {
@@ -115,96 +112,40 @@ fn prerelease(
     }
 }
 
-fn release(alloc: Global, version: &PartsRef<'_>) -> Result<Version, Failure<IncrementError>>
+fn release<'a>(
+    alloc: Global,
+    version: &PartsRef<'a>,
+) -> Result<NextVersion<'a>, Failure<IncrementError>>
     ensures { steps.IsAnswer (steps.by_release (parts_ref_value version.now)) result }
 {
+    let release = release_of(version);
     if version.pre_release.is_empty() {
-        let text = release_of(alloc, version)?.to_string(alloc)?;
-        Err(Failure::Refused(IncrementError::NotAPrerelease(text)))
-    } else {
-        release_of(alloc, version)
+        let text = release.to_version(alloc)?.to_string(alloc)?;
+        return Err(Failure::Refused(IncrementError::NotAPrerelease(text)));
     }
+    Ok(release)
 }
 
-// The release of the same numbers. Its build has identifiers of its own.
-fn release_of(alloc: Global, version: &PartsRef<'_>) -> Result<Version, Failure<IncrementError>>
-    ensures { steps.IsAnswer (Ok (spec.release_of (parts_ref_value version.now))) result }
-{
-    if version.build.is_empty() {
-        return Ok(Version::release(version.major, version.minor, version.patch));
-    }
-    let lists = Qualifier::Lists(Lists::with_build(alloc, Vec::new(alloc), &version.build)?);
-    Ok(Version::from_parts(version.major, version.minor, version.patch, lists))
-}
-
-// The first pre-release of the numbers of a version without identifiers, which takes no memory.
+// The release of the same numbers.
 #[inline(always)]
-fn numbered(version: &PartsRef<'_>, base: IdentifierBase) -> Version
-    requires pre_release { version.now.pre_release ≡ [] }
-    requires build { version.now.build ≡ [] }
-    ensures { result ≡ record (parts_ref_value version.now) {
-      pre_release = Numeric (spec.first_number base) ∷ [];
-    } }
+fn release_of<'a>(version: &PartsRef<'a>) -> NextVersion<'a>
+    ensures { result ≡ spec.release_of (parts_ref_value version.now) }
 {
-    let one = Qualifier::One(Identifier::Numeric(first_number(base)));
-    Version::from_parts(version.major, version.minor, version.patch, one)
+    NextVersion::of(version, NextIds::none())
 }
 
-// The pre-release of the same numbers whose list an identifier begins.
-fn replaced(
+// The pre-release of the same numbers that comes next.
+fn pre_step<'a>(
     alloc: Global,
-    version: &PartsRef<'_>,
-    id: &str,
+    version: &PartsRef<'a>,
+    id: &'a str,
     base: IdentifierBase,
-) -> Result<Version, AllocError>
-    ensures { IfOk result (λ next.
-        next ≡ record (parts_ref_value version.now) { pre_release = begun id.now base }) }
-{
-    let mut list = Vec::new(alloc);
-    new_list(alloc, &mut list, id, base)?;
-    let lists = Qualifier::Lists(Lists::with_build(alloc, list, &version.build)?);
-    Ok(Version::from_parts(version.major, version.minor, version.patch, lists))
-}
-
-fn pre_step(
-    alloc: Global,
-    version: &PartsRef<'_>,
-    id: &str,
-    base: IdentifierBase,
-) -> Result<Version, Failure<IncrementError>>
+) -> Result<NextVersion<'a>, Failure<IncrementError>>
     ensures { steps.IsAnswer (spec.pre_step id.now base (parts_ref_value version.now)) result }
 {
-    if id.is_empty() && version.pre_release.is_empty() && version.build.is_empty() {
-        return Ok(numbered(version, base));
+    let mut ids = advance(alloc, &version.pre_release, id, base)?;
+    if !id.is_empty() && !is_kept(id, &ids) {
+        ids = NextIds::begun(id, base);
     }
-    if is_replaced(&version.pre_release, id, base) {
-        return Ok(replaced(alloc, version, id, base)?);
-    }
-    let mut list = Vec::new(alloc);
-    if let Err(error) = version.pre_release.copy_into(alloc, &mut list) {
-        return Err(unless_overflow(&version.pre_release, error));
-    }
-    step(alloc, &mut list, id, base)?;
-    let lists = Qualifier::Lists(Lists::with_build(alloc, list, &version.build)?);
-    Ok(Version::from_parts(version.major, version.minor, version.patch, lists))
-}
-
-// Turns a pre-release into the next one.
-fn step(
-    alloc: Global,
-    list: &mut Vec<Identifier>,
-    id: &str,
-    base: IdentifierBase,
-) -> Result<(), Failure<IncrementError>>
-    ensures value { Steps (stepped (ids_view list.old.items) id.now base) result
-        (ids_view list.new.items) }
-    ensures some { OnOk result (0 < length list.new.items) }
-    ensures memory { MemoryOnlyIf result (MayAllocate (λ list. ⊤)
-        (spec.advance (ids_view list.old.items) id.now base)) }
-{
-    advance(alloc, list, id, base)?;
-    if !id.is_empty() && !is_kept(id, list) {
-        new_list(alloc, list, id, base)?;
-    }
-    Ok(())
+    Ok(NextVersion::of(version, ids))
 }

@@ -3,7 +3,7 @@
 ghost use Rattle.std.specs.Prelude.{◌≡◌};
 ghost use Rattle.semver_core.specs.Words.{parts_ref_value, release_value};
 
-use crate::{IdentifierRefs, Versioned};
+use crate::{IdentifierRefs, Version, VersionRef};
 
 // The five values of a version, its identifiers where they stand.
 #[derive(Drop)]
@@ -17,8 +17,22 @@ pub(super) struct PartsRef<'a> {
 
 impl<'a> PartsRef<'a> {
     #[inline(always)]
-    pub(super) fn of<V: Versioned>(version: &'a V) -> PartsRef<'a>
-        ensures { parts_ref_value result ≡ V.value version.now }
+    pub(super) fn of(version: &'a Version) -> PartsRef<'a>
+        ensures { parts_ref_value result ≡ version.now }
+    {
+        PartsRef {
+            major: version.major(),
+            minor: version.minor(),
+            patch: version.patch(),
+            pre_release: IdentifierRefs::of_items(version.pre_release()),
+            build: IdentifierRefs::of_items(version.build()),
+        }
+    }
+
+    // Its identifiers stand in the text that the version borrows.
+    #[inline(always)]
+    pub(super) fn of_ref(version: &VersionRef<'a>) -> PartsRef<'a>
+        ensures { parts_ref_value result ≡ version.now }
     {
         PartsRef {
             major: version.major(),

@@ -1,8 +1,8 @@
 use Rattle.semver_core.proofs.Common.{[], arith, sym, ◌∙◌, ◌≡◌}
 use Rattle.semver_core.specs.{Words.option_copied, declared.increment.IdentifierBase.TheVariants.Value}
 use Rattle.std.{proofs.lemmas.Grind.common_steps, specs.Prelude.unwrap_or}
-use Rattle.semver_core.proofs.increment.increment.Goals as goal
-use Rattle.semver_core.proofs.increment.increment.Goals.{then-begins_pre+in_ok-check, else-begins_pre}
+use Rattle.semver_core.proofs.increment.next_of.Goals as goal
+use Rattle.semver_core.proofs.increment.next_of.Goals.{then-begins_pre+in_ok-check, else-begins_pre}
 
 pub returns : goal.returns
 returns c =
