@@ -23,10 +23,6 @@ several texts field behind rest c e = omega (arith, ap length (onward texts fiel
 pub next_line : (texts field : List ℕ) (behind : Behind) (next : Bor (List ℕ)) → Cuts texts field behind → behind ≡ Lines next → IsNext texts next
 next_line texts field behind next c e = (sym (rw e at c.next), rw e at c.goes_on)
 
-pub line_behind : (texts field : List ℕ) (behind : Behind) (rest next : Bor (List ℕ)) → Cuts texts field behind → behind ≡ Fields rest
-    → IsNext rest.now next → IsNext texts next
-line_behind texts field behind rest next c e n = (n.0 ∙ sym (rw e at c.next), n.1)
-
 -- two fields, and what stands behind them
 pub pair : (texts field other : List ℕ) (behind last : Behind) (rest next : Bor (List ℕ)) → Cuts texts field behind → behind ≡ Fields rest
     → Cuts rest.now other last → last ≡ Lines next → fields_ahead texts ≡ field ∷ other ∷ []

@@ -219,12 +219,6 @@ no_marks limit text v h =
     let each = AllPass-from_list_all is_plain text (common_plain limit text v h) in
     All-from_get_or (λ b. is_byte2 59 10 b ≡ false) text 0 (λ i inside. no_mark (get_or text i 0) (each i 0 inside))
 
--- the version of a field that was read up to its end
-pub parsed_front : (text : List ℕ) (v : VersionValue) (end : ℕ) → end ≤ MAX_LENGTH → end ≤ length text
-    → IsCommon MAX_SAFE_INTEGER (take end text) v → Parses MAX_SAFE_INTEGER (take end text) v
-parsed_front text v end short inside h =
-    record { short = omega (arith, length-take-le end text inside); reads = h.0 }
-
 -- ---- whole lines
 
 pub ends_none : ends_whole [] ≡ true

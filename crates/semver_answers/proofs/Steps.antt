@@ -130,16 +130,6 @@ taken_line p bytes waits rest old new line more after t next plain grown empty =
   answers = rw grown.grown (Answers-append t.lines _ old _ t.answers (Answers-one (waits ++ line) grown.answer grown.is_answer));
 })
 
--- a text of the rest that ends no line waits too
-pub taken_more : (p bytes waits text rest output : List ℕ) → Taken p bytes waits (text ++ rest) output → no_feed text ≡ true
-    → Taken p bytes (waits ++ text) rest output
-taken_more p bytes waits text rest output t plain = record {
-  lines = t.lines;
-  divided = t.divided ∙ rw append_assoc refl;
-  each = λ p_plain. ((t.each p_plain).0, rw (list_all-append, (t.each p_plain).1, plain) refl);
-  answers = t.answers;
-}
-
 -- a stop before the end of the chunk
 pub taken_stop : (p bytes waits rest out : List ℕ) → Taken p bytes waits rest out → (q : List ℕ) × Told AnswersFront p bytes q out
 taken_stop p bytes waits rest out t =

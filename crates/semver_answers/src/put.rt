@@ -86,21 +86,6 @@ fn short_release(major: u64, minor: u64, patch: u64) -> ([u8; 8], usize)
     (text.to_le_bytes(), len)
 }
 
-// Puts three short numbers with dots between them: one store of eight bytes.
-#[inline(always)]
-#[tactic(auto, using(crate::proofs::Bytes::extended))]
-fn put_short(major: u64, minor: u64, patch: u64, output: &mut Output) -> Result<(), AllocError>
-    requires major { major < 100 }
-    requires minor { minor < 100 }
-    requires patch { patch < 100 }
-    ensures ok { OnOk result
-        (output.new ≡ output.old ++ release_text major minor patch) }
-    ensures err { OnErr result (Extends output.old output.new) }
-{
-    let (text, len) = short_release(major, minor, patch);
-    output.put_front(text, len)
-}
-
 // Puts a number in decimal.
 #[tactic(auto, using(crate::proofs::Bytes::extended, crate::proofs::Bytes::digits_text))]
 fn put_number(number: u64, output: &mut Output) -> Result<(), AllocError>
@@ -127,7 +112,7 @@ fn put_long(major: u64, minor: u64, patch: u64, output: &mut Output) -> Result<(
     put_number(patch, output)
 }
 
-// Puts three numbers with dots between them.
+// Puts three numbers with dots between them; short ones by one store of eight bytes.
 #[inline(always)]
 #[tactic(auto, using(crate::proofs::Bytes::extended))]
 fn put_release(major: u64, minor: u64, patch: u64, output: &mut Output) -> Result<(), AllocError>
@@ -136,7 +121,8 @@ fn put_release(major: u64, minor: u64, patch: u64, output: &mut Output) -> Resul
     ensures err { OnErr result (Extends output.old output.new) }
 {
     if major < 100 && minor < 100 && patch < 100 {
-        return put_short(major, minor, patch, output);
+        let (text, len) = short_release(major, minor, patch);
+        return output.put_front(text, len);
     }
     put_long(major, minor, patch, output)
 }
