@@ -93,15 +93,17 @@ some_counted [] back x = refl
 some_counted (first ∷ front) back x = refl
 
 -- one more identifier is looked at
-pub tracks_text : (list left rest : List Id) (last : Option Counted) (text : List ℕ) → left ≡ AlphaNumeric text ∷ rest
-    → Tracks list left last → Tracks list rest last
-tracks_text list left rest None text e h = h ∙ ap has_numeric e
-tracks_text list left rest (Some c) text e h = (h.0, h.1 ∙ ap has_numeric e)
+pub tracks_text : (list rest : List Id) (last : Option Counted) (text : List ℕ) → Tracks list (AlphaNumeric text ∷ rest) last
+    → Tracks list rest last
+tracks_text list rest None text h = h
+tracks_text list rest (Some c) text h = h
 
-pub tracks_number : (list left rest : List Id) (c : Counted) → left ≡ Numeric c.number ∷ rest → left ≡ drop c.len list
-    → c.front ≡ list → c.back ≡ rest → Tracks list rest (Some c)
-tracks_number list left rest c e at front back =
-    (sym (rw (front, back, ← e, at) (take-append-drop c.len list)), ap has_numeric back)
+pub tracks_number : (list rest : List Id) (c : Counted) → drop c.len list ≡ Numeric c.number ∷ rest → c.front ≡ list → c.back ≡ rest
+    → Tracks list rest (Some c)
+tracks_number list rest c at front back =
+    (sym (rw (front, back, ← at) (take-append-drop c.len list)), ap has_numeric back)
 
-pub drop_next : (list : List Id) (i : ℕ) (left rest : List Id) (x : Id) → left ≡ drop i list → left ≡ x ∷ rest → rest ≡ drop (i + 1) list
-drop_next list i left rest x at e = ap (drop 1) (sym e ∙ at) ∙ drop-drop 1 i list
+pub ruleset tracked = (tracks_text, tracks_number)
+
+pub drop_next : (list : List Id) (i : ℕ) (rest : List Id) (x : Id) → drop i list ≡ x ∷ rest → rest ≡ drop (i + 1) list
+drop_next list i rest x e = ap (drop 1) (sym e) ∙ drop-drop 1 i list

@@ -1,6 +1,6 @@
 // The pre step: how the pre-release list goes on.
 
-ghost use Rattle.std.specs.Prelude.{◌≡◌, ◌<◌, ◌==◌};
+ghost use Rattle.std.specs.Prelude.{◌≡◌, ◌<◌, ◌==◌, ◌∷◌, drop};
 ghost use Rattle.semver_core.specs.Words.{[], bytes_eq, digits_value, false, has_numeric, id_cmp};
 ghost use Rattle.semver_core.specs.Words.{is_ascii_digit, is_eq, length, lent_id_view, list_all};
 ghost use Rattle.semver_core.specs.Words.{list_text, MayAllocate, MemoryOnlyIf, Returns, Tracks};
@@ -61,20 +61,34 @@ fn last_number<'a>(ids: &IdentifierRefs<'a>) -> Option<Counted<'a>>
         let Some(id) = others.next() else {
             break;
         };
-        match id {
-            IdentifierRef::Numeric(number) => {
-                let (front, back) = (ids.copy(), others.copy());
-                last = Some(Counted {
-                    front,
-                    len,
-                    number,
-                    back,
-                });
-            }
-            IdentifierRef::AlphaNumeric(_) => {}
-        }
+        last = last_after(last, id, ids, len, &others);
     }
     last
+}
+
+// The last number where one more identifier of a list was looked at, behind this many.
+#[inline(always)]
+#[tactic(auto, using(crate::proofs::Increments::LastNumber::tracked))]
+fn last_after<'a>(
+    last: Option<Counted<'a>>,
+    id: IdentifierRef<'_>,
+    ids: &IdentifierRefs<'a>,
+    len: usize,
+    others: &IdentifierRefs<'a>,
+) -> Option<Counted<'a>>
+    requires at { drop len ids.now ≡ lent_id_view id ∷ others.now }
+    requires last { Tracks ids.now (lent_id_view id ∷ others.now) last }
+    ensures { Tracks ids.now others.now result }
+{
+    match id {
+        IdentifierRef::Numeric(number) => Some(Counted {
+            front: ids.copy(),
+            len,
+            number,
+            back: others.copy(),
+        }),
+        IdentifierRef::AlphaNumeric(_) => last,
+    }
 }
 
 // Whether a text is that of a list without numbers, its identifiers joined by dots.
