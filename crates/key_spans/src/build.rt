@@ -68,14 +68,22 @@ fn part_of<V: VersionPoint>(
 fn greater_of<'s>(first: &'s [u8], second: &'s [u8]) -> &'s [u8]
     ensures { result.now ≡ greater first.now second.now }
 {
-    if first.cmp(second).is_le() { second } else { first }
+    if first.cmp(second).is_le() {
+        second
+    } else {
+        first
+    }
 }
 
 // The lesser of two strings of bytes.
 fn lesser_of<'s>(first: &'s [u8], second: &'s [u8]) -> &'s [u8]
     ensures { result.now ≡ lesser first.now second.now }
 {
-    if first.cmp(second).is_le() { first } else { second }
+    if first.cmp(second).is_le() {
+        first
+    } else {
+        second
+    }
 }
 
 // What lies between the bounds of an interval, with all pre-releases.

@@ -28,10 +28,9 @@ ghost use Rattle.semver_core.specs.Values.Versions.{IsVersion, VersionValue};
 
 use crate::marks::{END, lowest};
 use crate::{KeySpan, key_spans};
-use nodejs_semver::{MAX_SAFE_INTEGER, Range, RangeOf, Version, VersionPoint};
+use nodejs_semver::{MAX_SAFE_INTEGER, Range, RangeOf, Version, VersionPoint, Versioned};
 use semver_core::cuts::{Bound, Interval};
 use std::alloc::{AllocError, Global};
-use nodejs_semver::Versioned;
 
 /// The range that accepts the versions of the spans: those whose keys lie in one of them. The list
 /// is such as `key_spans` returns, and pre-releases are included where they were included there.
