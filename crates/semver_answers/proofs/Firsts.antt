@@ -15,9 +15,7 @@ use Rattle.std.specs.Prelude.{IsCharBoundary, IsUtf8}
 use Rattle.semver_core.proofs.Text.Fronts.{common_plain}
 use Rattle.semver_core.specs.Internal.CommonReading.{is_plain}
 use Rattle.semver_core.specs.Text.Common.{IsCommon}
-use Rattle.semver_core.specs.Text.Parsing.{Parses}
 use Rattle.semver_core.specs.Values.Versions.{VersionValue}
-use Rattle.semver_core.specs.declared.TheConstants.{MAX_LENGTH, MAX_SAFE_INTEGER}
 use Rattle.std.specs.Borrow.{Bor}
 use Rattle.semver_answers.specs.declared.fields.Behind.TheVariants.{Fields, Lines}
 use Rattle.semver_answers.specs.Internal.Ahead.{Cuts, HasFeed, behind_line, ends_whole, fields_ahead, first_line}
