@@ -1,7 +1,10 @@
 """What a crate sees of the crates below it: of the libraries of their contracts alone, each declaration whose name it says, and each whose
-name one of these says, and so on. Comments, imports and the lines that say how something is inlined do not count.
+name one of these says, and so on. Comments, imports and the lines that say how something is inlined do not count, and neither does a
+function that is not public, unless it is a constant one or a member of a trait: no crate above can call it. A type that is not public
+counts only where what is seen names it.
 
-So what is added to a crate below changes nothing for a crate that does not name it, and neither does a body or a proof there."""
+So what is added to a crate below changes nothing for a crate that does not name it, and neither does a body, a proof or the contract of a
+private function there."""
 import functools
 import re
 
@@ -15,6 +18,9 @@ IDLE = re.compile(r"^ *(?://|-- |--$|#\[(?:inline|cold)\b).*\n?", re.M)
 # A block of an impl or a trait: whether it is one of a trait, and the type.
 BLOCK = re.compile(r"(?:pub(?:\([^)]*\))? )?(impl|trait)\b(.*)")
 ITEM = re.compile(r"^(?: *)(?:pub(?:\([^)]*\))? )?(?:final )?(?:const )?(?:unsafe )?(?:extern \"C\" )?(?:fn|struct|enum|union|type|const|static|ghost) (\w+)", re.M)
+# A function that only its own crate can call; a constant one may stand in a type.
+PRIVATE = re.compile(r"^ *(?:pub\([^)]*\) )?(?:unsafe )?fn ", re.M)
+OWN_TYPE = re.compile(r"^(?:pub\([^)]*\) )?(?:struct|enum|union|type) ", re.M)
 DECLARED = re.compile(r"^ *(?:abbrev |unfoldable |opaque |pub |record |data |ruleset )*([^\W\d][\w'-]*)")
 VARIANT = re.compile(r"^  (?:pub )?((?:[^\W\d][\w'-]* )+)(?::|$)", re.M)
 SKIPPED = re.compile(r"(?:pub(?:\([^)]*\))? )?(?:ghost )?(?:use|mod)\b|#!\[|unsafe extern")
@@ -31,6 +37,8 @@ class Piece:
 
     def __init__(self, file, text, names=(), needs=()):
         self.file, self.text, self.names, self.needs = file, text, set(names), set(needs)
+        # A type that only its own crate can name.
+        self.is_own = OWN_TYPE.search(text) is not None
 
     def is_seen(self, said):
         return (not self.names or bool(self.names & said)) and self.needs <= said
@@ -46,12 +54,14 @@ def of_rust(file, text):
                 head = re.sub(r"<[^<>]*(?:<[^<>]*>[^<>]*)*>", "", block[2])
                 owner = WORD.findall(head.split(" for ")[-1].split("where")[0])[:1]
                 is_trait = block[1] == "trait" or " for " in head
+                if not is_trait and PRIVATE.search(part):
+                    # The first member stands right below the head.
+                    part = part.partition("{\n")[0]
                 found.append(Piece(file, part, owner))
                 continue
-            if SKIPPED.match(part):
-                continue
-            found.append(Piece(file, part, ITEM.findall(part)[:1]))
-        elif part.strip() != "}":
+            if not SKIPPED.match(part) and not PRIVATE.search(part):
+                found.append(Piece(file, part, ITEM.findall(part)[:1]))
+        elif part.strip() != "}" and (is_trait or not PRIVATE.search(part)):
             found.append(Piece(file, part, () if is_trait else ITEM.findall(part)[:1], owner or ()))
     return found
 
@@ -78,8 +88,9 @@ def pieces(crate):
 
 def seen(crate):
     """Returns what a crate sees of those below it, as (file, text)."""
-    said = {name for text in all_texts(f"{TOP}/crates/{crate}").values() for name in words(text)}
     waiting, taken, grows = [it for below in crates()[crate].below() for it in pieces(below.name)], set(), True
+    own, public = ({name for it in waiting if it.is_own == is_own for name in it.names} for is_own in (True, False))
+    said = {name for text in all_texts(f"{TOP}/crates/{crate}").values() for name in words(text)} - (own - public)
     while grows:
         now = [it for it in waiting if it not in taken and it.is_seen(said)]
         taken.update(now)
