@@ -14,7 +14,6 @@ use crate::answer::{answer_line, answer_text};
 use crate::output::Output;
 use memchr::{memchr, memrchr};
 use semver_core::scan::text_front;
-use simdutf8::basic::from_utf8;
 use std::alloc::{AllocError, Global};
 use std::io::{Read, Write};
 
@@ -134,15 +133,11 @@ fn front_lines(bytes: &[u8]) -> (&str, &[u8])
     }
 }
 
-// The longest text at the front of some bytes, and what stands behind it. Mostly it is all of them,
-// which is tested 64 bytes at a time.
+// The longest text at the front of some bytes, and what stands behind it.
 fn front_text(bytes: &[u8]) -> (&str, &[u8])
     ensures whole { bytes.now ≡ result.0.now ++ result.1.now }
     ensures utf8 { IsUtf8 result.0.now }
 {
-    if let Ok(text) = from_utf8(bytes) {
-        return (text, b"");
-    }
     let text = text_front(bytes);
     (text, &bytes[text.len()..])
 }
