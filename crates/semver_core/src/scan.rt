@@ -69,7 +69,30 @@ pub fn skip_whitespace(text: &str, at: usize) -> usize
 /// U+180E and U+200B are not whitespace.
 ///
 /// `trim(" \u{FEFF}1.x || 2 ")` is `"1.x || 2"`.
+#[inline]
 pub fn trim(text: &str) -> &str
+    ensures middle { IsTrim text.now result.now }
+{
+    if is_trimmed(text) {
+        text
+    } else {
+        trim_both(text)
+    }
+}
+
+// Whether a text is empty, or begins and ends with a visible character of ASCII. Most texts do.
+#[inline(always)]
+fn is_trimmed(text: &str) -> bool
+    ensures { IsTrue result → IsTrim text.now text.now }
+{
+    let bytes = text.as_bytes();
+    bytes.is_empty() || (bytes[0].is_ascii_graphic() && bytes[bytes.len() - 1].is_ascii_graphic())
+}
+
+// `trim`, character by character from both ends.
+#[cold]
+#[inline(never)]
+fn trim_both(text: &str) -> &str
     ensures middle { IsTrim text.now result.now }
 {
     let start = skip_whitespace(text, 0);

@@ -6,7 +6,9 @@ use Rattle.semver_core.proofs.Common.{len_utf8, encode_utf8, list_all, IsCharBou
 use Rattle.semver_core.proofs.Common.{drop_end_spaces, drop_spaces, space_len, trim, ◌%◌, ◌/◌, take-append_seam, le-ltb, drop_at}
 use Rattle.semver_core.proofs.Common.{drop_split, list_all-append, IsUtf8-drop, encode_ascii, encodes-append, len_utf8_bounds}
 use Rattle.semver_core.proofs.Common.{length-encode, IsTrim, and_from, reverse-append, length-reverse, IsCharBoundary-at_seam}
-use Rattle.semver_core.proofs.Common.{IsUtf8-encode, IsUtf8-take, IsScalar, reverse}
+use Rattle.semver_core.proofs.Common.{IsUtf8-encode, IsUtf8-take, IsScalar, reverse, get_or, nat_tests, drop-cons, drop_all, suc}
+use Rattle.semver_core.proofs.Common.{take-append-drop, ◌==◌}
+use Rattle.{std.proofs.lemmas.Str.{IsCharBoundary-before_ascii}, std.specs.Char.{is_ascii_graphic}}
 use Rattle.semver_core.proofs.Text.{Blanks.{Passed, passed_none, passed_more, passed_stop, passed_end}, SpaceLaw.space_len-white}
 use Rattle.semver_core.proofs.Text.{SpaceLaw.{space_len-dark, space_len-inside}, Spaces.{drop_spaces-more, drop_spaces-none}}
 
@@ -313,6 +315,51 @@ pub trim_in_two : (text rest middle : List ℕ) (start : ℕ) → IsUtf8 text �
 trim_in_two text rest middle start utf8 a r m =
     let value : middle ≡ trim text = m ∙ ap drop_end_spaces (r ∙ after_blank_drops_spaces text 0 start utf8 a) in
     subst (λ (t : List ℕ). IsTrim text t) (sym value) (trim_is_middle text utf8)
+
+-- a text that is empty, or begins and ends with a visible character of ASCII, is its own middle
+
+pub trimmed_none : (text : List ℕ) → (length text == 0) ≡ true → IsTrim text text
+trimmed_none [] h = record {
+  before = [];
+  characters = [];
+  after = [];
+  divided = refl;
+  middle_is = refl;
+  blank_before = refl;
+  blank_after = refl;
+  begins_dark = refl;
+  ends_dark = refl;
+}
+trimmed_none (b ∷ rest) h = absurd (grind (arith, nat_tests))
+
+visible_small : (b : ℕ) → is_ascii_graphic b ≡ true → b < 128
+visible_small b h = grind (arith, nat_tests)
+
+visible_dark : (b : ℕ) → is_ascii_graphic b ≡ true → is_whitespace b ≡ false
+visible_dark b h = grind (arith, nat_tests)
+
+kept_front : (text : List ℕ) → 0 < length text → is_ascii_graphic (get_or text 0 0) ≡ true → drop_spaces text ≡ text
+kept_front [] some h = absurd (omega arith)
+kept_front (b ∷ rest) some h = rw (encode_ascii b (visible_small b h)) at (drop_spaces-dark b rest (visible_dark b h))
+
+kept_end : (text : List ℕ) (at : ℕ) → IsUtf8 text → at + 1 ≡ length text → is_ascii_graphic (get_or text at 0) ≡ true
+    → drop_end_spaces text ≡ text
+kept_end text at utf8 last h =
+    let inside : at < length text = omega arith in
+    let b = get_or text at 0 in
+    let before = IsUtf8-take text at utf8 (IsCharBoundary-before_ascii text at inside (visible_small b h)) in
+    let behind : drop at text ≡ b ∷ [] = drop-cons text at 0 inside ∙ ap (λ t. b ∷ t) (drop_all (suc at) text (omega arith)) in
+    let spelled : text ≡ take at text ++ encode_utf8 b =
+    sym (take-append-drop at text) ∙ ap (λ t. take at text ++ t) (behind ∙ sym (encode_ascii b (visible_small b h))) in
+    drop_end-stop text (take at text) b before spelled (visible_dark b h)
+
+pub trimmed_visible : (text : List ℕ) → IsUtf8 text → (length text == 0) ≡ false → is_ascii_graphic (get_or text 0 0) ≡ true
+    → is_ascii_graphic (get_or text (length text - 1) 0) ≡ true → IsTrim text text
+trimmed_visible text utf8 some first last =
+    let more : 0 < length text = grind (arith, nat_tests) in
+    let end = kept_end text (length text - 1) utf8 (omega arith) last in
+    let value : trim text ≡ text = ap drop_end_spaces (kept_front text more first) ∙ end in
+    subst (λ (t : List ℕ). IsTrim text t) value (trim_is_middle text utf8)
 
 -- what is left of a text whose end is skipped, character by character
 pub record Shortened (text rest : List ℕ) : Type 0 where

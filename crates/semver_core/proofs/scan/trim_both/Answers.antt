@@ -1,5 +1,5 @@
 use Rattle.semver_core.proofs.{Common.IsCharBoundary-start, Text.Trims.trim_in_two}
-use Rattle.semver_core.proofs.scan.trim.Goals as goal
+use Rattle.semver_core.proofs.scan.trim_both.Goals as goal
 
 pub skip_whitespace-start-requires : goal.skip_whitespace-start-requires
 skip_whitespace-start-requires c = IsCharBoundary-start c.args.text.now c.utf8.text
