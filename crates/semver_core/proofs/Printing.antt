@@ -1,1 +1,2 @@
 pub mod Returns
+pub mod Padded

@@ -4,11 +4,11 @@ pub use Rattle.std.specs.Cmp.{eq_by_cmp_equiv, on_equiv, on_per, on_po, on_total
 pub use Rattle.std.specs.Cmp.Lexicographic.{slice_cmp}
 pub use Rattle.std.specs.Fmt.{decimal, DisplaysStyledOnOk}
 pub use Rattle.std.specs.Iterator.{item_count, YieldsFirstBy}
-pub use Rattle.std.specs.List.{fold, list_all, prefix_len}
+pub use Rattle.std.specs.List.{fold, join_with_byte, list_all, prefix_len}
 pub use Rattle.std.specs.Option.{option_copied}
 pub use Rattle.std.specs.Ordering.{is_eq, is_le, is_lt}
 pub use Rattle.std.specs.Prelude.{[], ℕ, ⊤, Bool, codes, false, IfErr, IfNone, IfOk, IfSome, is_some, IsCharBoundary}
-pub use Rattle.std.specs.Prelude.{IsOk, IsOkAnd, IsTrue, IsUtf8, length, List, not, OnErr, OnOk, Option, refl, Some}
+pub use Rattle.std.specs.Prelude.{IsOk, IsOkAnd, IsTrue, IsUtf8, length, List, map, not, OnErr, OnOk, Option, refl, Some}
 pub use Rattle.std.specs.Prelude.{string_bytes, take, true, unwrap_or}
 pub use Rattle.std.specs.Str.{bytes_eq}
 pub use Rattle.std.specs.Str.Lossy.{utf8_valid_len}
@@ -35,7 +35,7 @@ pub use Rattle.semver_core.specs.Internal.OrderLaws.{id_alike, id_total, numbers
 pub use Rattle.semver_core.specs.Internal.Parts.{parts}
 pub use Rattle.semver_core.specs.Internal.Reading.{digits_end, digits_from, IsListAdded, list_at, list_from, list_len, lists_at}
 pub use Rattle.semver_core.specs.Internal.Reading.{number_at, part_at, placed, qualified, triple_at}
-pub use Rattle.semver_core.specs.Internal.Sources.{ids_of, IsSource}
+pub use Rattle.semver_core.specs.Internal.Sources.{begins_padded, has_padded, ids_of, IsSource}
 pub use Rattle.semver_core.specs.Internal.Spaces.{drop_end_spaces, drop_spaces, goes_on_with, is_space_of_three, is_space_of_two, space_len}
 pub use Rattle.semver_core.specs.Internal.Views.{pair_view, part_view, rest_view}
 pub use Rattle.semver_core.specs.Lists.{is_empty}

@@ -4,6 +4,7 @@ ghost use Rattle.std.specs.Prelude.{◌≡◌, ◌∷◌, ◌++◌, ◌<◌, ◌
 ghost use Rattle.semver_core.specs.Words.{is_listed, item_count, lent_id_view, OnOk, YieldsFirstBy};
 ghost use Rattle.semver_core.specs.Words.{id_cmp, ids_of, ids_view, is_empty, IsSource, slice_cmp};
 ghost use Rattle.semver_core.specs.Words.{[], IfNone, IfSome, is_normal, length, list_all, listed};
+ghost use Rattle.semver_core.specs.Words.{begins_padded, has_padded, id_text, join_with_byte, map};
 ghost use Rattle.semver_core.specs.Words.{true};
 
 use crate::borrowed::dotted::{IdRef, cmp_texts, first_id};
@@ -103,6 +104,28 @@ impl<'a> IdentifierRefs<'a> {
         }
     }
 
+    /// The text that the identifiers that are left print as, joined by dots, where it stands in
+    /// memory as it is: mostly for those of a version that borrows its text.
+    ///
+    /// It returns `None` for those that stand as items, and where one of several characters begins
+    /// with a 0, since a number prints without leading zeros: of `1.2.3-01`, and of `1.2.3-0a` too.
+    #[inline(always)]
+    #[tactic(auto, using(crate::proofs::Printing::Padded::unpadded_prints))]
+    pub fn printed(&self) -> Option<&'a [u8]>
+        ensures some { IfSome result (λ text.
+            text.now ≡ join_with_byte 46 (map id_text self.now)) }
+    {
+        match self.source {
+            Source::Items(_) => None,
+            Source::Text(text) => {
+                if has_padded(text) {
+                    return None;
+                }
+                Some(text)
+            }
+        }
+    }
+
     /// The identifiers that are left, with texts of their own. Fails only if allocation fails,
     /// which never happens where none is left.
     pub fn to_list(&self, alloc: Global) -> Result<Vec<Identifier>, AllocError>
@@ -144,6 +167,31 @@ impl<'a> IdentifierRefs<'a> {
             }
         }
     }
+}
+
+// Whether a text begins with a 0 that no dot follows, but another byte.
+#[inline(always)]
+fn begins_padded(text: &[u8]) -> bool
+    ensures { result ≡ begins_padded text.now }
+{
+    matches!(text, [b'0', next, ..] if *next != b'.')
+}
+
+// Whether a piece of several bytes between the dots of a text begins with a 0.
+#[inline(always)]
+#[tactic(auto, using(crate::proofs::Printing::Padded::padded))]
+fn has_padded(text: &[u8]) -> bool
+    ensures { result ≡ has_padded text.now }
+{
+    if begins_padded(text) {
+        return true;
+    }
+    for at in 0..text.len() {
+        if text[at] == b'.' && begins_padded(&text[at + 1..]) {
+            return true;
+        }
+    }
+    false
 }
 
 // Adds copies of these identifiers to a list.
