@@ -1,8 +1,9 @@
 // Puts numbers, versions and ranges behind the output, as they print, without a formatter.
 
 ghost use Rattle.std.specs.Prelude.{◌≡◌, ◌≤◌, ◌<◌, ◌++◌, ◌∷◌, ◌^◌, [], ℕ, List, take, length};
-ghost use Rattle.std.specs.Prelude.{OnOk, OnErr, codes};
+ghost use Rattle.std.specs.Prelude.{OnOk, OnErr, codes, false};
 ghost use Rattle.std.specs.Fmt.{decimal};
+ghost use Rattle.semver_core.specs.Lists.{is_empty};
 ghost use Rattle.semver_core.specs.Printing.Text.{id_text, marked_list, version_text};
 ghost use Rattle.semver_core.specs.Values.Views.{lent_id_view};
 ghost use Rattle.semver_answers.specs.Internal.Puts.{Extends, le_value, part_text, release_text};
@@ -140,14 +141,19 @@ fn put_id(id: IdentifierRef<'_>, output: &mut Output) -> Result<(), AllocError>
     }
 }
 
-// Puts a mark and the identifiers joined by dots, or nothing where there are none.
+// Puts a mark and the identifiers joined by dots, of which there is one at least.
 #[inline(never)]
 #[tactic(auto, using(crate::proofs::Bytes::extended))]
 fn put_ids(mark: u8, ids: IdentifierRefs<'_>, output: &mut Output) -> Result<(), AllocError>
+    requires { is_empty ids ≡ false }
     ensures ok { OnOk result
         (output.new ≡ output.old ++ marked_list (mark ∷ []) ids.entry) }
     ensures err { OnErr result (Extends output.old output.new) }
 {
+    if let Some(text) = ids.printed() {
+        output.push(mark)?;
+        return output.put(text);
+    }
     let mut sign = mark;
     let mut others = ids;
     'ids: while let Some(id) = others.next() {
@@ -158,7 +164,7 @@ fn put_ids(mark: u8, ids: IdentifierRefs<'_>, output: &mut Output) -> Result<(),
     Ok(())
 }
 
-// The same, where there may be none.
+// Puts a mark and the identifiers joined by dots, or nothing where there are none.
 #[inline(always)]
 #[tactic(auto, using(crate::proofs::Bytes::extended))]
 fn put_list(mark: u8, ids: IdentifierRefs<'_>, output: &mut Output) -> Result<(), AllocError>
