@@ -25,6 +25,7 @@ use Rattle.std.specs.Borrow.{Bor}
 use Rattle.std.specs.Cmp.{tied_itself}
 use Rattle.std.specs.Cmp.Lexicographic.{slice_cmp}
 use Rattle.std.specs.Ordering.{is_eq, nat_cmp}
+use Rattle.std.specs.Prelude.{IfOk}
 use Rattle.std.specs.Str.Lines.{lines}
 use Rattle.std.specs.declared.cmp.Ordering.{Ordering}
 use Rattle.std.specs.declared.cmp.Ordering.TheVariants.{Less, Equal, Greater}
@@ -34,6 +35,11 @@ pub refused_by : {A E : Type 0} (r : Result A (Failure E)) (P Q : Type 0) → (P
 refused_by (Ok x) P Q f h = tt
 refused_by (Err (Refused e)) P Q f h = f h
 refused_by (Err (Memory e)) P Q f h = tt
+
+-- what holds of a value has a consequence
+pub ok_then : {A E : Type 0} (r : Result A E) (P Q : A → Type 0) → ((x : A) → P x → Q x) → IfOk r P → IfOk r Q
+ok_then (Ok x) P Q f h = f x h
+ok_then (Err e) P Q f h = tt
 
 -- ---- lines
 
@@ -93,24 +99,34 @@ abbrev decoded : {E : Type 0} → Result (List ℕ) E → List ℕ
 decoded (Ok bytes) = bytes
 decoded (Err error) = []
 
-pub no_version_read : (text bytes shown : List ℕ) (w : VersionValue) → decode_of text ≡ Ok bytes → key w ≡ bytes → w.build ≡ [] → IsVersion w
+pub no_version_read : (text shown : List ℕ) (w : VersionValue) → decode_of text ≡ Ok (key w) → w.build ≡ [] → IsVersion w
     → shown ≡ version_text w → (IsVersionText MAX_SAFE_INTEGER shown w → ⊥) → NoValue (HasVersion text)
-no_version_read text bytes shown w decodes is bare valid prints not value has =
-    let same : has.version ≡ w =
-    key_once has.version w has.is valid has.no_build bare (ap decoded (sym has.bytes ∙ decodes) ∙ sym is) in
+no_version_read text shown w decodes bare valid prints not value has =
+    let same : has.version ≡ w = key_once has.version w has.is valid has.no_build bare (ap decoded (sym has.bytes ∙ decodes)) in
     not (rw (prints ∙ ap version_text (sym same) ∙ sym has.printed, ← same) has.read)
+
+pub no_version_keyed : (text : List ℕ) → ((v : VersionValue) → IsVersion v → decode_of text ≡ Ok (key v) → ⊥) → NoValue (HasVersion text)
+no_version_keyed text none value has = none has.version has.is has.bytes
+
+pub not_decoded : {E : Type 0} (decoded : Result (List ℕ) E) (e : E) → decoded ≡ Err e → (v : VersionValue) → IsVersion v
+    → decoded ≡ Ok (key v) → ⊥
+not_decoded decoded e is v valid other = let bad : Err e ≡ Ok (key v) = sym is ∙ other in absurd (cc)
 
 -- ---- words
 
-pub keys_said : {X : Type 0} (xs : List X) (f : X → List ℕ) (found : List (List ℕ)) (out : List ℕ) (said : Said) → (length xs == 0) ≡ false
-    → found ≡ map f xs → AreLines HasKey found out → said ≡ say out None Yes → Answers (codes "key" ∷ map f xs) said
-keys_said [] f found out said filled is are says = absurd (grind arith)
-keys_said (x ∷ xs) f found out said filled is are says = rw says (Spec.keys (f x) (map f xs) out (rw is at are))
+-- the reply has a line for each
+abbrev HasLines : (List ℕ → List ℕ → Type 0) → List (List ℕ) → Said → Type 0
+HasLines Has texts said = (output : List ℕ) × AreLines Has texts output × (said ≡ say output None Yes)
 
-pub unkeys_said : {X : Type 0} (xs : List X) (f : X → List ℕ) (found : List (List ℕ)) (out : List ℕ) (said : Said) → (length xs == 0) ≡ false
-    → found ≡ map f xs → AreLines HasVersion found out → said ≡ say out None Yes → Answers (codes "unkey" ∷ map f xs) said
-unkeys_said [] f found out said filled is are says = absurd (grind arith)
-unkeys_said (x ∷ xs) f found out said filled is are says = rw says (Spec.unkeys (f x) (map f xs) out (rw is at are))
+pub keys_said : {X : Type 0} (xs : List X) (f : X → List ℕ) (said : Said) → (length xs == 0) ≡ false → HasLines HasKey (map f xs) said
+    → Answers (codes "key" ∷ map f xs) said
+keys_said [] f said filled has = absurd (grind arith)
+keys_said (x ∷ xs) f said filled has = rw has.2 (Spec.keys (f x) (map f xs) has.0 has.1)
+
+pub unkeys_said : {X : Type 0} (xs : List X) (f : X → List ℕ) (said : Said) → (length xs == 0) ≡ false
+    → HasLines HasVersion (map f xs) said → Answers (codes "unkey" ∷ map f xs) said
+unkeys_said [] f said filled has = absurd (grind arith)
+unkeys_said (x ∷ xs) f said filled has = rw has.2 (Spec.unkeys (f x) (map f xs) has.0 has.1)
 
 pub no_key_words : {X : Type 0} (xs : List X) (f : X → List ℕ) → (length xs == 0) ≡ true → NoValue (Answers (codes "key" ∷ map f xs))
 no_key_words [] f empty said answer = elim answer [ ]
@@ -120,15 +136,11 @@ pub no_unkey_words : {X : Type 0} (xs : List X) (f : X → List ℕ) → (length
 no_unkey_words [] f empty said answer = elim answer [ ]
 no_unkey_words (x ∷ xs) f empty said answer = absurd (grind arith)
 
-pub no_keys : (words found : List (List ℕ)) → found ≡ words → NoValue (AreLines HasKey found) → NoValue (Answers (codes "key" ∷ words))
-no_keys words found is none said (Spec.keys a ws out are) = none out (rw is are)
+pub no_keys : (words : List (List ℕ)) → NoValue (AreLines HasKey words) → NoValue (Answers (codes "key" ∷ words))
+no_keys words none said (Spec.keys a ws out are) = none out are
 
-pub no_unkeys : (words found : List (List ℕ)) → found ≡ words → NoValue (AreLines HasVersion found) → NoValue (Answers (codes "unkey" ∷ words))
-no_unkeys words found is none said (Spec.unkeys a ws out are) = none out (rw is are)
-
-pub ruleset key_words = (keys_said, no_key_words, no_keys)
-
-pub ruleset unkey_words = (unkeys_said, no_unkey_words, no_unkeys)
+pub no_unkeys : (words : List (List ℕ)) → NoValue (AreLines HasVersion words) → NoValue (Answers (codes "unkey" ∷ words))
+no_unkeys words none said (Spec.unkeys a ws out are) = none out are
 
 pub no_dash : {X : Type 0} (xs : List X) (f : X → List ℕ) → length xs ≢ 1 → is_dash (map f xs) ≡ false
 no_dash [] f other = refl

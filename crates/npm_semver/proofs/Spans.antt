@@ -32,8 +32,6 @@ spans_said a spans said are says = rw says (Spec.spans a spans are)
 pub no_spans : (a : List ℕ) → NoValue (IsRange a) → NoValue (Answers (codes "spans" ∷ a ∷ []))
 no_spans a none said (Spec.spans x spans are) = none are.range are.is
 
-pub ruleset listings = (spans_said, no_spans)
-
 -- ---- conditions
 
 pub sql_said : (a column : List ℕ) (words : List (List ℕ)) (dialect : Dialect) (spans : List KeySpan) (is : Bool) (said : Said)
@@ -54,8 +52,6 @@ no_sql_column a column words is tells off said (Spec.sql x c ws dialect spans ar
 pub no_sql_dialect : (a column : List ℕ) (words : List (List ℕ)) → NoValue (HasDialect words)
     → NoValue (Answers (codes "sql" ∷ a ∷ column ∷ words))
 no_sql_dialect a column words none said (Spec.sql x c ws dialect spans are is has) = none dialect has
-
-pub ruleset no_sql = (sql_said, no_sql_range, no_sql_column, no_sql_dialect)
 
 pub no_option : (option word : List ℕ) → option ≢ codes "--dialect" → NoValue (HasDialect (option ∷ word ∷ []))
 no_option option word other dialect (Spans.behind w d is) = other refl

@@ -1,11 +1,12 @@
 // The subcommands on keys: bytes that compare as versions do, in hexadecimal.
 
-ghost use Rattle.std.specs.Prelude.{◌≡◌, ◌++◌, ◌∷◌, ℕ, List, IfNone, IfOk, IfSome, None, OnOk};
+ghost use Rattle.std.specs.Prelude.{◌≡◌, ◌++◌, ◌∷◌, ℕ, List, IfNone, IfOk, IfSome, None};
 ghost use Rattle.std.specs.Prelude.{[], Ok, Some, codes, false, map, string_bytes, true};
 ghost use Rattle.std.specs.Str.Lines.{lines};
-ghost use Rattle.hex.specs.Hex.{decode_of, encode_lower};
+ghost use Rattle.hex.specs.Hex.{decode_of};
 ghost use Rattle.semver_core.specs.Failures.{NoValue, RefusedOnlyIf};
 ghost use Rattle.semver_core.specs.Keys.{key};
+ghost use Rattle.semver_core.specs.Values.Versions.{IsVersion, VersionValue};
 ghost use Rattle.semver_core.specs.declared.TheConstants.{MAX_SAFE_INTEGER};
 ghost use Rattle.npm_words.specs.VersionText.{IsVersionText};
 ghost use Rattle.npm_semver.specs.Responses.{line};
@@ -15,9 +16,9 @@ ghost use Rattle.npm_semver.specs.Internal.Asked.{texts};
 ghost use Rattle.npm_semver.specs.Internal.Said.{has_row, said};
 ghost use Rattle.npm_semver.specs.declared.subcommands.replies.Status.TheVariants.{Yes};
 
+use crate::caret::Marked;
 use crate::question::lines_of;
 use crate::subcommands::replies::{Reply, Trouble, answer};
-use crate::subcommands::versions::version;
 use hex::FromHexError;
 use nodejs_semver::{Failure, Version, VersionRef, Versioned};
 use npm_reading::Reading;
@@ -37,7 +38,6 @@ pub enum Row {
 
 /// `key V..` prints the key of each version in hexadecimal, on a line. Returns `Refused` exactly if
 /// there are no words, or one that is no version.
-#[tactic(auto, using(crate::proofs::Keyed::key_words))]
 pub fn key<'a>(alloc: Global, words: &'a [String]) -> Result<Reply<'a>, Failure<Trouble<'a>>>
     ensures ok { IfOk result (λ reply.
         Answers (codes "key" ∷ map string_bytes words.now) (said reply)) }
@@ -47,13 +47,11 @@ pub fn key<'a>(alloc: Global, words: &'a [String]) -> Result<Reply<'a>, Failure<
     if words.is_empty() {
         return Err(Failure::Refused(Trouble::Usage("key VERSION.. | key -")));
     }
-    let words = texts_of(alloc, words)?;
-    Ok(answer(true, rows(alloc, Row::Key, &words)?))
+    reply_to_words(alloc, Row::Key, words)
 }
 
 /// `unkey HEX..` prints the version of each key, on a line. Returns `Refused` exactly if there are
 /// no words, or one that is not the key of a version that npm reads.
-#[tactic(auto, using(crate::proofs::Keyed::unkey_words))]
 pub fn unkey<'a>(alloc: Global, words: &'a [String]) -> Result<Reply<'a>, Failure<Trouble<'a>>>
     ensures ok { IfOk result (λ reply.
         Answers (codes "unkey" ∷ map string_bytes words.now) (said reply)) }
@@ -63,8 +61,7 @@ pub fn unkey<'a>(alloc: Global, words: &'a [String]) -> Result<Reply<'a>, Failur
     if words.is_empty() {
         return Err(Failure::Refused(Trouble::Usage("unkey KEY..")));
     }
-    let words = texts_of(alloc, words)?;
-    Ok(answer(true, rows(alloc, Row::Version, &words)?))
+    reply_to_words(alloc, Row::Version, words)
 }
 
 /// `key -` prints, for each line of the input, the key of the version that it is, a tab and the
@@ -77,7 +74,23 @@ pub fn key_lines<'a>(alloc: Global, input: &'a str) -> Result<Reply<'a>, Failure
         (NoValue (AreLines HasKeyAndText (lines input.now))) }
 {
     let lines = lines_of(alloc, input)?;
-    Ok(answer(true, rows(alloc, Row::KeyAndText, &lines)?))
+    reply_to_lines(alloc, Row::KeyAndText, &lines)
+}
+
+// A line for each word.
+fn reply_to_words<'a>(
+    alloc: Global,
+    row: Row,
+    words: &'a [String],
+) -> Result<Reply<'a>, Failure<Trouble<'a>>>
+    ensures ok { IfOk result (λ reply. (output : List ℕ)
+        × AreLines (has_row row) (map string_bytes words.now) output
+        × (said reply ≡ say output None Yes)) }
+    ensures refused { RefusedOnlyIf result
+        (NoValue (AreLines (has_row row) (map string_bytes words.now))) }
+{
+    let texts = texts_of(alloc, words)?;
+    reply_to_lines(alloc, row, &texts)
 }
 
 fn texts_of(alloc: Global, words: &[String]) -> Result<Vec<&str>, AllocError>
@@ -91,122 +104,120 @@ fn texts_of(alloc: Global, words: &[String]) -> Result<Vec<&str>, AllocError>
 }
 
 // A line for each text.
-fn rows<'a>(alloc: Global, row: Row, lines: &[&'a str]) -> Result<String, Failure<Trouble<'a>>>
-    ensures ok { IfOk result (λ output.
-        AreLines (has_row row) (texts lines.now) (string_bytes output)) }
+fn reply_to_lines<'a>(
+    alloc: Global,
+    row: Row,
+    lines: &[&'a str],
+) -> Result<Reply<'a>, Failure<Trouble<'a>>>
+    ensures ok { IfOk result (λ reply. (output : List ℕ)
+        × AreLines (has_row row) (texts lines.now) output
+        × (said reply ≡ say output None Yes)) }
     ensures refused { RefusedOnlyIf result (NoValue (AreLines (has_row row) (texts lines.now))) }
 {
     let mut output = String::new(alloc);
-    for &line in lines {
-        push_row(alloc, row, line, &mut output)?;
+    for &text in lines {
+        match push_row(alloc, row, text, &mut output) {
+            Ok(true) => {}
+            Ok(false) => return Err(Failure::Refused(trouble(row, text))),
+            Err(error) => return Err(Failure::Memory(error)),
+        }
     }
-    Ok(output)
+    Ok(answer(true, output))
 }
 
-// Appends the line of a text.
-fn push_row<'a>(
-    alloc: Global,
-    row: Row,
-    text: &'a str,
-    output: &mut String,
-) -> Result<(), Failure<Trouble<'a>>>
-    ensures ok { OnOk result ((shown : List ℕ) × has_row row text.now shown
+// What is wrong with a text that has no line.
+fn trouble<'a>(row: Row, text: &'a str) -> Trouble<'a> {
+    match row {
+        Row::Key | Row::KeyAndText => Trouble::NoVersion(Marked::no_version(text)),
+        Row::Version => Trouble::NoKey(text),
+    }
+}
+
+// Appends the line of a text. Returns whether the text has one.
+fn push_row(alloc: Global, row: Row, text: &str, output: &mut String) -> Result<bool, AllocError>
+    ensures some { IfOk result (λ has. has ≡ true → (shown : List ℕ) × has_row row text.now shown
         × (string_bytes output.new ≡ string_bytes output.old ++ line shown)) }
-    ensures refused { RefusedOnlyIf result (NoValue (has_row row text.now)) }
+    ensures none { IfOk result (λ has. has ≡ false → NoValue (has_row row text.now)) }
+{
+    let Some(shown) = shown(alloc, row, text)? else {
+        return Ok(false);
+    };
+    output.push_str(&shown)?;
+    output.push('\n')?;
+    Ok(true)
+}
+
+// What the line of a text shows, or `None` if the text has no line.
+fn shown(alloc: Global, row: Row, text: &str) -> Result<Option<String>, AllocError>
+    ensures some { IfOk result (λ found.
+        IfSome found (λ shown. has_row row text.now (string_bytes shown))) }
+    ensures none { IfOk result (λ found. IfNone found (NoValue (has_row row text.now))) }
 {
     match row {
-        Row::Key => push_key(alloc, text, output),
-        Row::KeyAndText => push_key_and_text(alloc, text, output),
-        Row::Version => push_version(alloc, text, output),
+        Row::Key => key_of(alloc, text),
+        Row::KeyAndText => key_and_text(alloc, text),
+        Row::Version => version_of(alloc, text),
     }
 }
 
-fn push_key<'a>(
-    alloc: Global,
-    text: &'a str,
-    output: &mut String,
-) -> Result<(), Failure<Trouble<'a>>>
-    ensures ok { OnOk result ((shown : List ℕ) × HasKey text.now shown
-        × (string_bytes output.new ≡ string_bytes output.old ++ line shown)) }
-    ensures refused { RefusedOnlyIf result (NoValue (HasKey text.now)) }
+// The key of the version that a text is, in hexadecimal.
+fn key_of(alloc: Global, text: &str) -> Result<Option<String>, AllocError>
+    ensures some { IfOk result (λ found.
+        IfSome found (λ shown. HasKey text.now (string_bytes shown))) }
+    ensures none { IfOk result (λ found. IfNone found (NoValue (HasKey text.now))) }
 {
-    push_hex(alloc, text, output)?;
-    Ok(output.push('\n')?)
-}
-
-// Appends the key of the version that a text is.
-#[tactic(auto, using(crate::proofs::Keyed::no_key))]
-fn push_hex<'a>(
-    alloc: Global,
-    text: &'a str,
-    output: &mut String,
-) -> Result<(), Failure<Trouble<'a>>>
-    ensures ok { OnOk result ((shown : List ℕ) × HasKey text.now shown
-        × (string_bytes output.new ≡ string_bytes output.old ++ shown)) }
-    ensures refused { RefusedOnlyIf result (NoValue (HasKey text.now)) }
-{
-    let version = version(text)?;
-    Ok(write_key(alloc, &version, output)?)
-}
-
-// Appends the key of a version in hexadecimal.
-fn write_key(alloc: Global, version: &VersionRef<'_>, output: &mut String) -> Result<(), AllocError>
-    ensures { OnOk result (string_bytes output.new
-        ≡ string_bytes output.old ++ encode_lower (key version.now)) }
-{
-    let key = version.key(alloc)?;
-    let digits = hex::encode(alloc, key)?;
-    output.push_str(&digits)
-}
-
-#[tactic(auto, using(crate::proofs::Keyed::no_key_and_text))]
-fn push_key_and_text<'a>(
-    alloc: Global,
-    text: &'a str,
-    output: &mut String,
-) -> Result<(), Failure<Trouble<'a>>>
-    ensures ok { OnOk result ((shown : List ℕ) × HasKeyAndText text.now shown
-        × (string_bytes output.new ≡ string_bytes output.old ++ line shown)) }
-    ensures refused { RefusedOnlyIf result (NoValue (HasKeyAndText text.now)) }
-{
-    push_hex(alloc, text, output)?;
-    output.push('\t')?;
-    output.push_str(text)?;
-    Ok(output.push('\n')?)
-}
-
-// Appends the version whose key the text is.
-#[tactic(auto, using(crate::proofs::Keyed::no_version_read))]
-fn push_version<'a>(
-    alloc: Global,
-    text: &'a str,
-    output: &mut String,
-) -> Result<(), Failure<Trouble<'a>>>
-    ensures ok { OnOk result ((shown : List ℕ) × HasVersion text.now shown
-        × (string_bytes output.new ≡ string_bytes output.old ++ line shown)) }
-    ensures refused { RefusedOnlyIf result (NoValue (HasVersion text.now)) }
-{
-    let bytes = bytes_of(alloc, text)?;
-    let Some(version) = Version::from_key(alloc, &bytes)? else {
-        return Err(Failure::Refused(Trouble::NoKey(text)));
+    let strict = Reading {
+        loose: false,
+        include_prerelease: false,
     };
-    let shown = version.to_string(alloc)?;
-    if !is_read(&shown, &version) {
-        return Err(Failure::Refused(Trouble::NoKey(text)));
-    }
-    output.push_str(&shown)?;
-    Ok(output.push('\n')?)
+    let Ok(version) = npm_reading::version(text, strict) else {
+        return Ok(None);
+    };
+    let key = version.key(alloc)?;
+    Ok(Some(hex::encode(alloc, key)?))
 }
 
-// The bytes that a text is in hexadecimal.
-fn bytes_of<'a>(alloc: Global, text: &'a str) -> Result<Vec<u8>, Failure<Trouble<'a>>>
-    ensures ok { IfOk result (λ bytes. decode_of text.now ≡ Ok bytes.items) }
-    ensures refused { RefusedOnlyIf result (NoValue (λ bytes. decode_of text.now ≡ Ok bytes)) }
+// The same with the text behind it, after a tab.
+fn key_and_text(alloc: Global, text: &str) -> Result<Option<String>, AllocError>
+    ensures some { IfOk result (λ found.
+        IfSome found (λ shown. HasKeyAndText text.now (string_bytes shown))) }
+    ensures none { IfOk result (λ found. IfNone found (NoValue (HasKeyAndText text.now))) }
+{
+    let Some(mut shown) = key_of(alloc, text)? else {
+        return Ok(None);
+    };
+    shown.push('\t')?;
+    shown.push_str(text)?;
+    Ok(Some(shown))
+}
+
+// The text of the version whose key a text is, if npm reads it.
+fn version_of(alloc: Global, text: &str) -> Result<Option<String>, AllocError>
+    ensures some { IfOk result (λ found.
+        IfSome found (λ shown. HasVersion text.now (string_bytes shown))) }
+    ensures none { IfOk result (λ found. IfNone found (NoValue (HasVersion text.now))) }
+{
+    let Some(version) = read_key(alloc, text)? else {
+        return Ok(None);
+    };
+    let printed = version.to_string(alloc)?;
+    if !is_read(&printed, &version) {
+        return Ok(None);
+    }
+    Ok(Some(printed))
+}
+
+// The version whose key a text is in hexadecimal.
+fn read_key(alloc: Global, text: &str) -> Result<Option<Version>, AllocError>
+    ensures some { IfOk result (λ found. IfSome found (λ v. decode_of text.now ≡ Ok (key v))) }
+    ensures no_build { IfOk result (λ found. IfSome found (λ v. v.build ≡ [])) }
+    ensures none { IfOk result (λ found. IfNone found
+        ((v : VersionValue) → IsVersion v → ¬ (decode_of text.now ≡ Ok (key v)))) }
 {
     match hex::decode(alloc, text.as_bytes()) {
-        Ok(bytes) => Ok(bytes),
-        Err(FromHexError::OutOfMemory) => Err(Failure::Memory(AllocError)),
-        Err(_) => Err(Failure::Refused(Trouble::NoKey(text))),
+        Ok(bytes) => Version::from_key(alloc, &bytes),
+        Err(FromHexError::OutOfMemory) => Err(AllocError),
+        Err(_) => Ok(None),
     }
 }
 

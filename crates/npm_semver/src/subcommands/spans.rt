@@ -49,14 +49,15 @@ pub fn spans<'a>(alloc: Global, words: &'a [String]) -> Result<Reply<'a>, Failur
     }
 }
 
-#[tactic(auto, using(crate::proofs::Spans::listings))]
 fn spans_of<'a>(alloc: Global, text: &'a str) -> Result<Reply<'a>, Failure<Trouble<'a>>>
     ensures ok { IfOk result (λ reply. Answers (codes "spans" ∷ text.now ∷ []) (said reply)) }
     ensures refused { RefusedOnlyIf result
         (NoValue (Answers (codes "spans" ∷ text.now ∷ []))) }
 {
-    let spans = read_spans(alloc, text)?;
-    Ok(listed(alloc, &spans)?)
+    match read_spans(alloc, text) {
+        Ok(spans) => Ok(listed(alloc, &spans)?),
+        Err(failure) => Err(failure),
+    }
 }
 
 // The spans of the range that a text is.
@@ -65,8 +66,10 @@ fn read_spans<'a>(alloc: Global, text: &'a str) -> Result<Vec<KeySpan>, Failure<
     ensures ok { IfOk result (λ spans. AreSpansOf text.now spans.items) }
     ensures refused { RefusedOnlyIf result (NoValue (IsRange text.now)) }
 {
-    let range = read_range(alloc, text)?;
-    Ok(key_spans(alloc, &range, false)?)
+    match read_range(alloc, text) {
+        Ok(range) => Ok(key_spans(alloc, &range, false)?),
+        Err(failure) => Err(failure),
+    }
 }
 
 // A line for each span; no if there is none.
@@ -135,7 +138,6 @@ pub fn sql<'a>(alloc: Global, words: &'a [String]) -> Result<Reply<'a>, Failure<
     }
 }
 
-#[tactic(auto, using(crate::proofs::Spans::no_sql))]
 fn sql_of<'a>(
     alloc: Global,
     text: &'a str,
@@ -297,11 +299,27 @@ impl Dialect {
         ensures { OnOk result (string_bytes output.new
             ≡ string_bytes output.old ++ lies_in self column.now span.now) }
     {
-        write!(output, "{column} >= ")?;
-        self.write_literal(alloc, &span.start, output)?;
-        write!(output, " AND {column} < ")?;
-        self.write_literal(alloc, &span.stop, output)?;
+        self.write_bound(alloc, column, " >= ", &span.start, output)?;
+        output.push_str(" AND ")?;
+        self.write_bound(alloc, column, " < ", &span.stop, output)?;
         self.write_counted(column, span.releases_only, output)
+    }
+
+    // That a column compares so with bytes.
+    fn write_bound(
+        self,
+        alloc: Global,
+        column: &str,
+        sign: &str,
+        bytes: &[u8],
+        output: &mut String,
+    ) -> Result<(), AllocError>
+        ensures { OnOk result (string_bytes output.new
+            ≡ string_bytes output.old ++ column.now ++ sign.now ++ literal self bytes.now) }
+    {
+        output.push_str(column)?;
+        output.push_str(sign)?;
+        self.write_literal(alloc, bytes, output)
     }
 
     // That only releases count.

@@ -1,13 +1,15 @@
+use Rattle.std.proofs.Common.{arith, string_bytes}
+use Rattle.std.proofs.lemmas.Grind.{common_steps}
 use Rattle.npm_semver.proofs.subcommands.keys.push_row.Goals as goal
 
-pub returns-in-Key-clause-refused : goal.returns-in-Key-clause-refused
-returns-in-Key-clause-refused c = rw c.in-Key.is c.push_key.ensures.refused
+pub returns-in_default-clause-some : goal.returns-in_default-clause-some
+returns-in_default-clause-some c = λ e. absurd (cc)
 
-pub returns-in-KeyAndText-clause-refused : goal.returns-in-KeyAndText-clause-refused
-returns-in-KeyAndText-clause-refused c = rw c.in-KeyAndText.is c.push_key_and_text.ensures.refused
+pub returns-in_default-clause-none : goal.returns-in_default-clause-none
+returns-in_default-clause-none c = λ e. rw c.in_default.is at c.in_ok-shown.ensures.none
 
-pub returns-in-Version-clause-ok : goal.returns-in-Version-clause-ok
-returns-in-Version-clause-ok c = rw c.in-Version.is c.push_version.ensures.ok
+pub returns-clause-none : goal.returns-clause-none
+returns-clause-none c = λ e. absurd (cc)
 
-pub returns-in-Version-clause-refused : goal.returns-in-Version-clause-refused
-returns-in-Version-clause-refused c = rw c.in-Version.is c.push_version.ensures.refused
+pub returns-clause-some : goal.returns-clause-some
+returns-clause-some c = λ e. (string_bytes c.in-Some.shown, rw c.in-Some.is at c.in_ok-shown.ensures.some, grind (arith, common_steps))
