@@ -4,7 +4,7 @@ pub use Rattle.nodejs_semver.specs.Diagnosis.IgnoredWords.{IsWhollyIgnored}
 pub use Rattle.nodejs_semver.specs.Diagnosis.Messages.{flaw_text, word_text}
 pub use Rattle.nodejs_semver.specs.Diagnosis.VersionFlaws.{IsExact, IsFlaw}
 pub use Rattle.nodejs_semver.specs.Internal.Along.{IsAlong, IsNear}
-pub use Rattle.nodejs_semver.specs.Internal.CommonFronts.{common_range}
+pub use Rattle.nodejs_semver.specs.Internal.CommonFronts.{common_fronts, common_range}
 pub use Rattle.nodejs_semver.specs.Internal.CommonViews.{bounds_front_view, passed_view}
 pub use Rattle.nodejs_semver.specs.Internal.Denotes.{denotes, part_bounds, part_denotes, part_intervals}
 pub use Rattle.semver_core.specs.Internal.Fronts.{front_view, number_of}
@@ -41,7 +41,7 @@ pub use Rattle.semver_core.specs.Values.Gate.{lets_in}
 pub use Rattle.nodejs_semver.specs.Ranges.Least.{begins_with, IsLeastOf, least_build}
 pub use Rattle.nodejs_semver.specs.Ranges.View.{any_version, bound_of, IsRange, span_of, TakesMemory}
 pub use Rattle.semver_core.specs.Text.Bars.{has_bars, IsCutAtBars}
-pub use Rattle.nodejs_semver.specs.Text.Common.{AreCommonParts, IsCommonRange}
+pub use Rattle.nodejs_semver.specs.Text.Common.{AreCommonParts, ends_field, IsCommonRange}
 pub use Rattle.nodejs_semver.specs.Text.LongestText.{IsLongestPartial}
 pub use Rattle.nodejs_semver.specs.Text.Meaning.{AreWords, IsBlankText, Means}
 pub use Rattle.nodejs_semver.specs.Text.PartialText.{IsPartial, Partial}

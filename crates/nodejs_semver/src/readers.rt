@@ -1,7 +1,6 @@
 //! The readers of version and range texts. They have no limit of length.
 
 mod fast;
-mod found;
 mod intervals;
 mod kinds;
 mod loose;
@@ -11,9 +10,9 @@ mod table;
 mod words;
 
 pub use crate::readers::fast::range_fast;
-pub(crate) use crate::readers::fast::read_common;
-pub(crate) use crate::readers::found::Filled;
+pub(crate) use crate::readers::fast::{read_common, read_front};
 pub(crate) use crate::readers::kinds::ignored_front;
+pub(crate) use crate::readers::loose::read_any;
 pub use crate::readers::loose::{is_blank, range_loose};
 pub use semver_core::readers::{version_fast, version_loose};
 pub(crate) use semver_pieces::{

@@ -141,17 +141,6 @@ pub meant_so : (P : List (Span VersionValue) → Type 0) (limit : ℕ) (text : L
     → (list : List (Span VersionValue)) → Means limit text list → P list
 meant_so P limit text u p list h = subst P (one-meaning limit text list u h) p
 
--- where no interval takes memory by itself, it takes two
-several : (list : List (Span VersionValue)) → (1 < length list) ⊎ (list_any (λ s. false) list ≡ true) → 1 < length list
-several list (inl longer) = longer
-several [] (inr one) = cc one
-several (s ∷ list) (inr one) = omega (arith, several list (inr one))
-
-pub only_several : {A E : Type 0} (r : Result A (Failure E)) (Of : List (Span VersionValue) → Type 0)
-    → MemoryOnlyIf r ((list : List (Span VersionValue)) → Of list → (1 < length list) ⊎ (list_any (λ s. false) list ≡ true))
-    → MemoryOnlyIf r ((list : List (Span VersionValue)) → Of list → 1 < length list)
-only_several r Of h = grind (arith, several)
-
 -- the same of the list of a reader, where there may be none
 pub found_so : (P : List (Span VersionValue) → Type 0) (limit : ℕ) (text : List ℕ) (list : List (Span VersionValue))
     → IsUtf8 text → list ≡ denotes limit text → IsSomeAnd (if_any list) P
@@ -234,3 +223,8 @@ pub accepted_written : (limit : ℕ) (text : List ℕ) (list : List (Span Versio
     → (v : VersionValue) → IsTrue (accepts list v true) ↔ Writes limit text v
 accepted_written limit text list u h v =
     grind (arith, nat_tests, accepts-held list v, denotes_hold limit text v, written limit text v u)
+
+-- and so does a list that the text means
+pub written_of : (limit : ℕ) (text : List ℕ) (list : List (Span VersionValue)) → IsUtf8 text → Means limit text list
+    → (v : VersionValue) → IsTrue (accepts list v true) ↔ Writes limit text v
+written_of limit text list u h = accepted_written limit text list u (sym (one-meaning limit text list u h))

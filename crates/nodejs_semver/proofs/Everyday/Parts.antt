@@ -3,16 +3,22 @@ use Rattle.nodejs_semver.proofs.Common.{AreCommonParts, AreComponents, Bound, Co
 use Rattle.nodejs_semver.proofs.Common.{Span, Unbounded, VersionValue, Word, [], above, ap, append-nil, append_assoc, arith, at_most, begins}
 use Rattle.nodejs_semver.proofs.Common.{begins_second, below, bind_some, cases_Bool, common_steps, comparison_front, comparisons_front, drop}
 use Rattle.nodejs_semver.proofs.Common.{eqb-true, false, has_bars, hyphen, if_any, if◌then◌else◌, inl, inr, interval, is_empty, is_sign, length}
-use Rattle.nodejs_semver.proofs.Common.{length-append, meet, nat_tests, passed, plain, precedence, refl, same_Some, suc, table, tilde, tilde_sign}
+use Rattle.nodejs_semver.proofs.Common.{Bool, IsUtf8, all_weaker, list_all, list_all-append, list_any, or_cases, take, ◌-◌, ◌||◌}
+use Rattle.nodejs_semver.specs.Text.Common.{ends_field}
+use Rattle.std.proofs.{Math.Seq.take-append_seam, lemmas.Str.{Ascii.{IsAscii-cons, IsAscii-nil}, IsUtf8-from_ascii}}
+use Rattle.std.specs.Str.{IsAscii}
+use Rattle.nodejs_semver.proofs.Common.{length-append, meet, subst, sym, nat_tests, passed, plain, precedence, refl, same_Some, suc, table, tilde, tilde_sign}
 use Rattle.nodejs_semver.proofs.{Common.{true, word_read, zero, ℕ, ◌++◌, ◌<◌, ◌==◌, ◌↔◌, ◌∙◌, ◌∷◌, ◌≡◌, ◌≤◌, ◌⊎◌}, Everyday.Texts.list-some}
-use Rattle.nodejs_semver.proofs.{Everyday.{Texts.part-tidy, Words.{no-equal, no-greater, sign-begins}}, Reading.PartialLaw.components-begin}
+use Rattle.nodejs_semver.proofs.{Everyday.{Texts.part-tidy, Words.{is_part_byte, no-equal, no-greater, sign-begins}}, Reading.PartialLaw.{components-begin, components-open, is_open}}
 use Rattle.nodejs_semver.proofs.Reading.{PartialLaw.{components-read, components-then}, WordLaw.{Signed, sign-is, tilde-cases}}
-use Rattle.nodejs_semver.specs.Internal.CommonFronts.{bare_front, begins_dash, both_of, caret_front, common_parts, common_range, common_within, onto}
+use Rattle.nodejs_semver.specs.Internal.CommonFronts.{bare_front, begins_dash, both_of, caret_front, common_fronts, common_parts, common_range, fronts_within, onto, part_before}
 use Rattle.nodejs_semver.specs.Internal.{CommonFronts.{part_front, part_read, partials_front, tilde_front}, Words.comparator_at}
 use Rattle.nodejs_semver.specs.Text.Common.{IsCommonPart, IsCommonRange, IsCommonWord, IsComparison, IsGap, caret_word, compare_word, comparison}
 use Rattle.nodejs_semver.specs.Text.Common.{hyphen_word, more_parts, one_part, one_word, plain_word, tilde_greater_word, tilde_word, two_comparisons}
 use Rattle.{nodejs_semver.specs.Text.WordText.{above_sign, below_sign}, semver_core.proofs.Reading.Bytes.{Stop, begins-on, begins_component}}
 use Rattle.semver_core.{proofs.Reading.Bytes.{is_solid, quiet-before, stop-bar, stop-nil, stop-space}, specs.Failures.NoValue}
+unfoldable use Rattle.semver_core.specs.Internal.Reading.{list_len}
+unfoldable use Rattle.semver_core.specs.Internal.Fronts.{dotted_front}
 use Rattle.semver_core.specs.{Internal.{Fronts.after_byte, Parts.{after_bars, after_gap}, Reading.◌>>?◌}, Text.Comparators.at_least}
 
 -- it is read at the front
@@ -240,53 +246,113 @@ bars-exact before after next b a h = grind (arith, nat_tests)
 range-begins : (limit : ℕ) (text : List ℕ) (list : List (Span VersionValue)) → AreCommonParts limit text list → begins is_solid text ≡ true
 range-begins limit text list h = grind (arith, part-tidy)
 
+-- parts at the front, and what follows them
+abbrev pub Fronted : ℕ → List ℕ → List (Span VersionValue) × List ℕ → Type 0
+Fronted limit text f = (x : List ℕ) × (text ≡ x ++ f.1) × AreCommonParts limit x f.0
+
 -- the last part
 last-sound : (limit : ℕ) (text : List ℕ) (s : Span VersionValue) (more : List ℕ) → part_front limit text ≡ Some (s, more)
-    → is_empty more ≡ true → AreCommonParts limit text (s ∷ [])
-last-sound limit text s more h e = grind (arith, part-sound, append-nil, one_part)
+    → Fronted limit text (s ∷ [], more)
+last-sound limit text s more h =
+    let p = part-sound limit text (s, more) h in
+    (p.0, p.1, one_part p.0 s p.2)
 
 -- a part before others
-next-sound : (limit : ℕ) (text : List ℕ) (s : Span VersionValue) (more next : List ℕ) (list : List (Span VersionValue))
-    → part_front limit text ≡ Some (s, more) → after_bars more ≡ Some next → AreCommonParts limit next list
-    → AreCommonParts limit text (s ∷ list)
-next-sound limit text s more next list h k r =
+next-sound : (limit : ℕ) (text : List ℕ) (s : Span VersionValue) (more next : List ℕ) (f : List (Span VersionValue) × List ℕ)
+    → part_front limit text ≡ Some (s, more) → after_bars more ≡ Some next → Fronted limit next f
+    → Fronted limit text (s ∷ f.0, f.1)
+next-sound limit text s more next f h k r =
+    let p = part-sound limit text (s, more) h in
     let b = bars-sound more next k in
-    grind (arith, part-sound, more_parts)
+    let x = p.0 ++ (b.before ++ 124 ∷ (124 ∷ (b.after ++ r.0))) in
+    let whole : text ≡ x ++ f.1 = grind (arith, append_assoc) in
+    (x, whole, more_parts p.0 b.before b.after r.0 s f.0 p.2 b.is_before b.is_after r.2)
 
 -- less is left behind the bars
 pub next-shorter : (limit : ℕ) (text : List ℕ) (s : Span VersionValue) (more next : List ℕ) → part_front limit text ≡ Some (s, more) → after_bars more ≡ Some next
     → length next < length text
 next-shorter limit text s more next h k = grind (arith, nat_tests, length-append, bars-sound more next k, part-sound)
 
-gap-filled : (gap rest : List ℕ) → IsGap gap → is_empty (gap ++ 124 ∷ rest) ≡ false
-gap-filled gap rest h = grind arith
+-- what follows a part, and the parts behind it, which are read so
+behind-sound : (limit : ℕ) (text : List ℕ) (f : List (Span VersionValue) × List ℕ) (p : Span VersionValue × List ℕ) → part_front limit text ≡ Some p
+    → (o : Option (List ℕ)) (others : List ℕ → Front (List (Span VersionValue)))
+    → ((next : List ℕ) (more : List (Span VersionValue) × List ℕ) → others next ≡ Some more → Fronted limit next more)
+    → after_bars p.1 ≡ o → part_before p.0 p.1 o others ≡ Some f → Fronted limit text f
+behind-sound limit text f p h None others sound k e = rw (← same_Some _ _ e) (last-sound limit text p.0 p.1 h)
+behind-sound limit text f p h (Some next) others sound k e =
+    let more = bind_some (others next) (λ more. Some (onto p.0 more.0, more.1)) f e in
+    rw (← same_Some _ _ more.2) (next-sound limit text p.0 p.1 next more.0 h k (sound next more.0 more.1))
 
-within-sound : (limit n : ℕ) (text : List ℕ) (list : List (Span VersionValue)) → common_within limit n text ≡ Some list → AreCommonParts limit text list
-unfolding common_within
-within-sound limit zero text list h = cc h
-within-sound limit (suc n) text list h =
-    let p = bind_some (part_front limit text) _ list h in
-    elim (cases_Bool (is_empty p.0.1)) [
-      | inl none ↦
-          let e : p.0.0 ∷ [] ≡ list = same_Some _ _ (rw none at p.2) in
-          rw (← e) (last-sound limit text p.0.0 p.0.1 p.1 none)
-      | inr some ↦
-          let next = bind_some (after_bars p.0.1) (λ next. common_within limit n next >>? λ tail. Some (onto p.0.0 tail)) list
-          (rw some at p.2) in
-          let tail = bind_some (common_within limit n next.0) (λ tail. Some (onto p.0.0 tail)) list next.2 in
-          let e : p.0.0 ∷ tail.0 ≡ list = same_Some _ _ tail.2 in
-          rw (← e) (next-sound limit text p.0.0 p.0.1 next.0 tail.0 p.1 next.1 (within-sound limit n next.0 tail.0 tail.1))
-    ]
+fronts-sound : (limit n : ℕ) (text : List ℕ) (f : List (Span VersionValue) × List ℕ) → fronts_within limit n text ≡ Some f
+    → Fronted limit text f
+unfolding fronts_within
+fronts-sound limit zero text f h = cc h
+fronts-sound limit (suc n) text f h =
+    let p = bind_some (part_front limit text) _ f h in
+    behind-sound limit text f p.0 p.1 (after_bars p.0.1) (λ next. fronts_within limit n next)
+    (λ next more e. fronts-sound limit n next more e) refl p.2
 
-within-exact : (limit n : ℕ) (text : List ℕ) (list : List (Span VersionValue)) → length text ≤ n → AreCommonParts limit text list → common_within limit n text ≡ Some list
-unfolding common_within
-within-exact limit zero text list l h = grind (arith, range-begins)
-within-exact limit (suc n) text list l (one_part part s is) = grind (arith, part-exact limit part s [] is ends-nil, append-nil)
-within-exact limit (suc n) text list l (more_parts part before after rest s others is b a more) =
-    grind (arith, nat_tests, common_steps, part-exact, ends-behind, bars-exact, range-begins, next-shorter, gap-filled, within-exact limit n rest others)
+-- what follows the parts: not bars
+pub record EndsParts (more : List ℕ) : Type 0 where
+  pub ends : Ends more
+  pub bars : after_bars more ≡ None
+
+pub ends-text : EndsParts []
+unfolding after_bars
+ends-text = record { ends = ends-nil; bars = refl }
+
+fronts-exact : (limit n : ℕ) (x more : List ℕ) (list : List (Span VersionValue)) → length (x ++ more) ≤ n
+    → AreCommonParts limit x list → EndsParts more → fronts_within limit n (x ++ more) ≡ Some (list, more)
+unfolding fronts_within
+fronts-exact limit zero x more list l h e = grind (arith, range-begins, length-append)
+fronts-exact limit (suc n) x more list l (one_part part s is) e = grind (arith, part-exact limit part s more is e.ends)
+fronts-exact limit (suc n) x more list l (more_parts part before after rest s others is b a h) e =
+    grind (arith, nat_tests, common_steps, part-exact, ends-behind, bars-exact, range-begins, next-shorter, append_assoc, begins-on, fronts-exact limit n rest more others)
+
+-- the parts at the front are read, and all parts of a text
+pub fronts_are_read : (limit : ℕ) (x more : List ℕ) (list : List (Span VersionValue)) → AreCommonParts limit x list → EndsParts more
+    → common_fronts limit (x ++ more) ≡ Some (list, more)
+fronts_are_read limit x more list h e = fronts-exact limit (length (x ++ more)) x more list (omega arith) h e
+
+pub front_is_read : (limit : ℕ) (text : List ℕ) (f : List (Span VersionValue) × List ℕ) → common_fronts limit text ≡ Some f
+    → Fronted limit text f
+front_is_read limit text f h = fronts-sound limit (length text) text f h
+
+-- all parts of a text are read
+read-once : (limit : ℕ) (text : List ℕ) (list : List (Span VersionValue)) → AreCommonParts limit text list
+    → common_fronts limit text ≡ Some (list, [])
+read-once limit text list h =
+    let e = fronts_are_read limit text [] list h ends-text in
+    subst (λ (t : List ℕ). common_fronts limit t ≡ Some (list, [])) (append-nil text) e
+
+all-read : (limit : ℕ) (text : List ℕ) (list : List (Span VersionValue)) → common_parts limit text ≡ Some list → AreCommonParts limit text list
+all-read limit text list h =
+    let f = bind_some (common_fronts limit text) _ list h in
+    let r = front_is_read limit text f.0 f.1 in
+    grind (arith, append-nil)
 
 pub common_parts_are_read : (limit : ℕ) (text : List ℕ) (list : List (Span VersionValue)) → (common_parts limit text ≡ Some list) ↔ AreCommonParts limit text list
-common_parts_are_read limit text list = (within-sound limit (length text) text list, within-exact limit (length text) text list (omega arith))
+common_parts_are_read limit text list = (
+  all-read limit text list,
+  λ h. rw (read-once limit text list h) refl,
+)
+
+-- what was read at the front is the whole text exactly where nothing follows it
+pub whole-read : (limit : ℕ) (text : List ℕ) (list : List (Span VersionValue)) (rest : List ℕ) → common_fronts limit text ≡ Some (list, rest)
+    → length rest ≡ 0 → AreCommonParts limit text list
+whole-read limit text list [] h none =
+    let r = front_is_read limit text (list, []) h in
+    subst (λ (t : List ℕ). AreCommonParts limit t list) (sym (r.1 ∙ append-nil r.0)) r.2
+whole-read limit text list (b ∷ rest) h none = absurd (omega (arith, none))
+
+pub part-read : (limit : ℕ) (text : List ℕ) (list : List (Span VersionValue)) (rest : List ℕ) → common_fronts limit text ≡ Some (list, rest)
+    → 0 < length rest → NoValue (AreCommonParts limit text)
+part-read limit text list rest h some other is =
+    let e = same_Some _ _ (sym h ∙ read-once limit text other is) in
+    absurd (omega (arith, some, ap (λ (f : List (Span VersionValue) × List ℕ). length f.1) e))
+
+pub none-read : (limit : ℕ) (text : List ℕ) → common_fronts limit text ≡ None → NoValue (AreCommonParts limit text)
+none-read limit text h list is = cc (h, read-once limit text list is)
 
 pub common_ranges_are_read : (limit : ℕ) (text : List ℕ) (list : List (Span VersionValue)) → (common_range limit text ≡ Some list) ↔ IsCommonRange limit text list
 common_ranges_are_read limit text list = grind (arith, common_parts_are_read)
@@ -371,7 +437,7 @@ behind-bars (b ∷ front) rest h = grind (arith, behind-bars front rest h)
 pub record Reaches (limit : ℕ) (text : List ℕ) (found : List (Span VersionValue)) (rest : List ℕ) : Type 0 where
   pub bytes : ℕ
   pub room : length rest ≤ bytes
-  pub whole : (common_within limit bytes rest >>? λ tail. Some (found ++ tail)) ≡ common_parts limit text
+  pub whole : (fronts_within limit bytes rest >>? λ tail. Some (found ++ tail.0, tail.1)) ≡ common_fronts limit text
   pub some : (found ≡ []) ⊎ HasBars text
   pub within : HasBars rest → HasBars text
 
@@ -381,37 +447,24 @@ loop-starts limit text rest found e f = grind arith
 
 -- ---- one part
 
-stops-part : (limit n : ℕ) (rest : List ℕ) → part_front limit rest ≡ None → common_within limit n rest ≡ None
-unfolding common_within
+stops-part : (limit n : ℕ) (rest : List ℕ) → part_front limit rest ≡ None → fronts_within limit n rest ≡ None
+unfolding fronts_within
 stops-part limit n rest h = grind arith
 
-stops-bars : (limit n : ℕ) (rest left : List ℕ) (s : Span VersionValue) → part_front limit rest ≡ Some (s, left)
-    → is_empty left ≡ false → after_bars left ≡ None → common_within limit n rest ≡ None
-unfolding common_within
-stops-bars limit n rest left s h k m = grind arith
-
 ends-there : (limit n : ℕ) (rest left : List ℕ) (s : Span VersionValue) → length rest ≤ n → part_front limit rest ≡ Some (s, left)
-    → is_empty left ≡ true → common_within limit n rest ≡ Some (s ∷ [])
-unfolding common_within part_front
+    → after_bars left ≡ None → fronts_within limit n rest ≡ Some (s ∷ [], left)
+unfolding fronts_within part_front
 ends-there limit n rest left s h k m = grind arith
 
 goes-on : (limit n : ℕ) (rest left next : List ℕ) (s : Span VersionValue) → length rest ≤ n
-    → part_front limit rest ≡ Some (s, left) → is_empty left ≡ false → after_bars left ≡ Some next → (m : ℕ) × (length next ≤ m)
-    × (common_within limit n rest ≡ (common_within limit m next >>? λ list. Some (s ∷ list)))
-unfolding common_within part_front
-goes-on limit zero [] left next s l h e k = cc h
-goes-on limit zero (b ∷ rest) left next s l h e k = absurd (omega arith)
-goes-on limit (suc n) rest left next s l h e k = (n, omega (arith, next-shorter limit rest s left next h k), rw (h, e, k) refl)
+    → part_front limit rest ≡ Some (s, left) → after_bars left ≡ Some next → (m : ℕ) × (length next ≤ m)
+    × (fronts_within limit n rest ≡ (fronts_within limit m next >>? λ more. Some (s ∷ more.0, more.1)))
+unfolding fronts_within part_front
+goes-on limit zero [] left next s l h k = cc h
+goes-on limit zero (b ∷ rest) left next s l h k = absurd (omega arith)
+goes-on limit (suc n) rest left next s l h k = (n, omega (arith, next-shorter limit rest s left next h k), grind arith)
 
 -- ---- the steps of the loop
-
-filled-of : (text : List ℕ) → 0 < length text → is_empty text ≡ false
-filled-of text h = grind arith
-
--- no part, or no bars behind one: the text is no common one
-uncommon : (limit : ℕ) (text : List ℕ) (found : List (Span VersionValue)) (rest : List ℕ) (r : Reaches limit text found rest)
-    → common_within limit r.bytes rest ≡ None → NoValue (AreCommonParts limit text)
-uncommon limit text found rest r none = grind (arith, common_parts_are_read)
 
 -- the reader was at a place, and its next step added a part
 pub record Step (limit : ℕ) (found new : List (Span VersionValue)) (rest left : List ℕ) : Type 0 where
@@ -424,19 +477,15 @@ added-by : (limit : ℕ) (found new : List (Span VersionValue)) (rest left : Lis
 added-by limit found new rest left s = passed-some found new (part_front limit rest) s.after left s.added s.there
 
 pub loop-no_part : (limit : ℕ) (text : List ℕ) (found new : List (Span VersionValue)) (rest : List ℕ) (after : Option (List ℕ)) → behind after new ≡ passed found (part_front limit rest)
-    → after ≡ None → Reaches limit text found rest → NoValue (AreCommonParts limit text)
+    → after ≡ None → Reaches limit text found rest → common_fronts limit text ≡ None
 loop-no_part limit text found new rest after h e r =
-    uncommon limit text found rest r (stops-part limit r.bytes rest (passed-none found new (part_front limit rest) after h e))
+    grind (arith, stops-part limit r.bytes rest (passed-none found new (part_front limit rest) after h e))
 
-pub loop-no_bars : (limit : ℕ) (text : List ℕ) (found new : List (Span VersionValue)) (rest left : List ℕ) → Step limit found new rest left → 0 < length left → after_bars left ≡ None
-    → Reaches limit text found rest → NoValue (AreCommonParts limit text)
-loop-no_bars limit text found new rest left s some bars r =
-    grind (arith, added-by limit found new rest left s, uncommon limit text found rest r, stops-bars, filled-of)
-
-pub loop-ends : (limit : ℕ) (text : List ℕ) (found new : List (Span VersionValue)) (rest left : List ℕ) → Step limit found new rest left → length left ≡ 0
-    → Reaches limit text found rest → AreCommonParts limit text new
+pub loop-ends : (limit : ℕ) (text : List ℕ) (found new : List (Span VersionValue)) (rest left : List ℕ) → Step limit found new rest left
+    → after_bars left ≡ None → Reaches limit text found rest → common_fronts limit text ≡ Some (new, left)
 loop-ends limit text found new rest left s none r =
-    grind (arith, nat_tests, common_parts_are_read, ends-there, added-by limit found new rest left s)
+    let a = added-by limit found new rest left s in
+    grind (arith, ends-there limit r.bytes rest left a.interval_is r.room a.found none)
 
 -- bars stand behind a part
 bars-there : (limit : ℕ) (rest left next : List ℕ) (s : Span VersionValue) → part_front limit rest ≡ Some (s, left)
@@ -457,13 +506,97 @@ common_so P limit text [] is h = absurd (omega (arith, list-some limit text [] i
 common_so P limit text (s ∷ list) is h = (s ∷ list, is, h)
 
 pub loop-goes : (limit : ℕ) (text : List ℕ) (found new : List (Span VersionValue)) (rest left next : List ℕ)
-    → Step limit found new rest left → 0 < length left
+    → Step limit found new rest left
     → after_bars left ≡ Some next → Reaches limit text found rest → Reaches limit text new next
-loop-goes limit text found new rest left next s some bars r =
+loop-goes limit text found new rest left next s bars r =
     let a = added-by limit found new rest left s in
-    let g = goes-on limit r.bytes rest left next a.interval_is r.room a.found (filled-of left some) bars in
+    let g = goes-on limit r.bytes rest left next a.interval_is r.room a.found bars in
     let b = loop-bars limit text found new rest left next s bars r in
     grind (arith, append_assoc, b)
 
 pub loop-shorter : (limit : ℕ) (found new : List (Span VersionValue)) (rest left next : List ℕ) → Step limit found new rest left → after_bars left ≡ Some next → length next < length rest
 loop-shorter limit found new rest left next s bars = grind (arith, nat_tests, next-shorter, added-by limit found new rest left s)
+
+-- ---- a text at whose front parts stand
+
+ends-semicolon : (z : List ℕ) → EndsParts (59 ∷ z)
+unfolding list_len dotted_front after_bars
+ends-semicolon z =
+    let stop : Stop (59 ∷ z) = record { run = refl; dash = refl; plus = refl; identifier = refl; digit = refl; dot = λ limit. refl } in
+    record { ends = record { stop = stop; second = refl; dash = grind arith }; bars = refl }
+
+ends-feed : (z : List ℕ) → EndsParts (10 ∷ z)
+unfolding list_len dotted_front after_bars
+ends-feed z =
+    let stop : Stop (10 ∷ z) = record { run = refl; dash = refl; plus = refl; identifier = refl; digit = refl; dot = λ limit. refl } in
+    record { ends = record { stop = stop; second = refl; dash = grind arith }; bars = refl }
+
+-- nothing goes on where a field ends
+field-ends : (rest : List ℕ) → ends_field rest ≡ true → EndsParts rest
+field-ends [] h = ends-text
+field-ends (b ∷ rest) h = elim (or_cases (b == 59) (b == 10) h) [
+  | inl mark ↦ rw (eqb-true b 59 mark) (ends-semicolon rest)
+  | inr feed ↦ rw (eqb-true b 10 feed) (ends-feed rest)
+]
+
+-- the parts take the bytes that do not follow them
+taken-is : (text x rest : List ℕ) → text ≡ x ++ rest → take (length text - length rest) text ≡ x
+taken-is text x rest h =
+    let n : length text - length rest ≡ length x = omega (arith, ap length h, length-append x rest) in
+    rw (n, h) (take-append_seam x rest)
+
+pub front-taken : (limit : ℕ) (text : List ℕ) (list : List (Span VersionValue)) (rest : List ℕ) → common_fronts limit text ≡ Some (list, rest)
+    → (length rest ≤ length text) × AreCommonParts limit (take (length text - length rest) text) list
+front-taken limit text list rest h =
+    let r = front_is_read limit text (list, rest) h in
+    (omega (arith, ap length r.1, length-append r.0 rest), rw (taken-is text r.0 rest r.1) r.2)
+
+-- what stands before the end of a field is read
+pub field-read : (limit : ℕ) (text field rest : List ℕ) (r : List (Span VersionValue)) → text ≡ field ++ rest → AreCommonParts limit field r
+    → ends_field rest ≡ true → common_fronts limit text ≡ Some (r, rest)
+field-read limit text field rest r e is h = rw e (fronts_are_read limit field rest r is (field-ends rest h))
+
+-- the bytes of the parts
+abbrev is_range_byte : ℕ → Bool
+is_range_byte b = is_part_byte b || b == 124
+
+range-bytes : (limit : ℕ) (text : List ℕ) (list : List (Span VersionValue)) → AreCommonParts limit text list
+    → list_all is_range_byte text ≡ true
+range-bytes limit text list (one_part part s is) = grind (arith, all_weaker, part-tidy limit part s is)
+range-bytes limit text list (more_parts part before after rest s others is b a more) =
+    grind (arith, all_weaker, list_all-append, part-tidy limit part s is, range-bytes limit rest others more)
+
+sign-open : (c : Comparator) (sign : List ℕ) → IsSign c sign → list_all is_open sign ≡ true
+sign-open c sign is = grind arith
+
+comparison-open : (limit : ℕ) (x : List ℕ) (w : Word) → IsComparison limit x w → list_all is_open x ≡ true
+comparison-open limit x w (comparison c sign text p is h) =
+    grind (arith, list_all-append, sign-open c sign is, components-open limit text p h)
+
+word-open : (limit : ℕ) (x : List ℕ) (w : Word) → IsCommonWord limit x w → list_all is_open x ≡ true
+word-open limit x w h = grind (arith, list_all-append, components-open, comparison-open)
+
+part-open : (limit : ℕ) (x : List ℕ) (s : Span VersionValue) → IsCommonPart limit x s → list_all is_open x ≡ true
+part-open limit x s h = grind (arith, list_all-append, word-open, comparison-open)
+
+parts-open : (limit : ℕ) (text : List ℕ) (list : List (Span VersionValue)) → AreCommonParts limit text list
+    → list_all is_open text ≡ true
+parts-open limit text list (one_part part s is) = part-open limit part s is
+parts-open limit text list (more_parts part before after rest s others is b a more) =
+    grind (arith, list_all-append, part-open limit part s is, parts-open limit rest others more)
+
+plain-bytes : (text : List ℕ) → list_all is_range_byte text ≡ true → list_all is_open text ≡ true
+    → list_any (λ b. b == 59 || b == 10) text ≡ false
+plain-bytes [] h k = refl
+plain-bytes (b ∷ text) h k = grind (arith, nat_tests, plain-bytes text)
+
+pub parts-plain : (limit : ℕ) (text : List ℕ) (list : List (Span VersionValue)) → AreCommonParts limit text list
+    → list_any (λ b. b == 59 || b == 10) text ≡ false
+parts-plain limit text list h = plain-bytes text (range-bytes limit text list h) (parts-open limit text list h)
+
+bytes-ascii : (text : List ℕ) → list_all is_range_byte text ≡ true → IsAscii text
+bytes-ascii [] h = IsAscii-nil
+bytes-ascii (b ∷ text) h = grind (arith, nat_tests, IsAscii-cons, bytes-ascii text)
+
+pub parts-utf8 : (limit : ℕ) (text : List ℕ) (list : List (Span VersionValue)) → AreCommonParts limit text list → IsUtf8 text
+parts-utf8 limit text list h = IsUtf8-from_ascii text (bytes-ascii text (range-bytes limit text list h))

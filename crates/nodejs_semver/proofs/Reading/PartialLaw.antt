@@ -1,7 +1,7 @@
 -- The partial that is read at the front of a text is the longest one that is written there.
 use Rattle.nodejs_semver.proofs.Common.{AreComponents, Front, Id, IsBuild, IsCharBoundary-after_ascii, IsIdentifiers, IsNumber, IsPreRelease}
 use Rattle.nodejs_semver.proofs.Common.{IsUtf8, IsUtf8-drop, List, None, Option, Partial, Sign, Some, Word, [], all_weaker, ap}
-use Rattle.nodejs_semver.proofs.Common.{append-nil, append_assoc, arith, begins, bind_some, cases_Bool, common_steps}
+use Rattle.nodejs_semver.proofs.Common.{Bool, append-nil, append_assoc, arith, begins, bind_some, cases_Bool, common_steps, not}
 use Rattle.nodejs_semver.proofs.Common.{component_front, cond_some, drop, drop_at, drop_spaces, drop_spaces-blank, drop_spaces-none, encode_utf8_all}
 use Rattle.nodejs_semver.proofs.Common.{eqb-true, false, from_boundary, inl, inr, is_ascii_digit, is_boundary, is_whitespace, length}
 use Rattle.nodejs_semver.proofs.Common.{length-append, list_all, nat_lt, nat_tests, partial_front, pieces, refl, same_Some, sign_at}
@@ -200,6 +200,29 @@ build-solid b rest l h = grind (arith, list-solid)
 
 pub components-solid : (limit : ℕ) (x : List ℕ) (p : Partial) → AreComponents limit x p → list_all is_solid x ≡ true
 components-solid limit x p h = grind (arith, number-solid, all-join, pre-solid, build-solid)
+
+-- no `;` stands in a partial
+abbrev pub is_open : ℕ → Bool
+is_open b = not (b == 59)
+
+identifiers-open : (text : List ℕ) → tail_runs (pieces text) ≡ true → list_all is_open text ≡ true
+identifiers-open [] h = refl
+identifiers-open (b ∷ rest) h = grind (arith, nat_tests, common_steps, runs_tail, first_char, tail_onto, identifiers-open rest)
+
+list-open : (text : List ℕ) (l : List Id) → IsIdentifiers text l → list_all is_open text ≡ true
+list-open text l h = identifiers-open text (runs_tail (pieces text) h.runs)
+
+number-open : (limit : ℕ) (x : List ℕ) (v : Option ℕ) → IsComponent limit x v → list_all is_open x ≡ true
+number-open limit x v h = grind (arith, all_weaker)
+
+pre-open : (p rest : List ℕ) (l : List Id) → IsPreRelease p rest l → list_all is_open p ≡ true
+pre-open p rest l h = grind (arith, list-open)
+
+build-open : (b rest : List ℕ) (l : List Id) → IsBuild b rest l → list_all is_open b ≡ true
+build-open b rest l h = grind (arith, list-open)
+
+pub components-open : (limit : ℕ) (x : List ℕ) (p : Partial) → AreComponents limit x p → list_all is_open x ≡ true
+components-open limit x p h = grind (arith, number-open, all-join, pre-open, build-open)
 
 -- ---- each word takes a byte or more, so the list of words is a recursion
 

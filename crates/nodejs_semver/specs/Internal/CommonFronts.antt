@@ -101,13 +101,20 @@ passed list (Some p) = (Some p.1, list ++ p.0 ∷ [])
 abbrev pub onto : Span VersionValue → List (Span VersionValue) → List (Span VersionValue)
 onto s list = s ∷ list
 
--- the intervals of all parts, of which there are at most so many
-unfoldable pub common_within : ℕ → ℕ → List ℕ → Option (List (Span VersionValue))
-common_within limit zero text = None
-common_within limit (suc n) text =
-    part_front limit text >>? λ part.
-    if is_empty part.1 then Some (part.0 ∷ [])
-    else (after_bars part.1 >>? λ next. common_within limit n next >>? λ list. Some (onto part.0 list))
+-- the interval of a part and what follows the part, where nothing stands behind bars, and else others too
+abbrev pub part_before : Span VersionValue → List ℕ → Option (List ℕ) → (List ℕ → Front (List (Span VersionValue)))
+    → Front (List (Span VersionValue))
+part_before s left None others = Some (s ∷ [], left)
+part_before s left (Some next) others = others next >>? λ more. Some (onto s more.0, more.1)
+
+-- the intervals of the parts at the front, of which there are at most so many, and what follows them
+unfoldable pub fronts_within : ℕ → ℕ → List ℕ → Front (List (Span VersionValue))
+fronts_within limit zero text = None
+fronts_within limit (suc n) text =
+    part_front limit text >>? λ part. part_before part.0 part.1 (after_bars part.1) (λ next. fronts_within limit n next)
+
+abbrev pub common_fronts : ℕ → List ℕ → Front (List (Span VersionValue))
+common_fronts limit text = fronts_within limit (length text) text
 
 -- whether a `+` stands in a text
 abbrev pub has_plus : List ℕ → Bool
@@ -115,7 +122,7 @@ has_plus text = list_any (λ b. b == 43) text
 
 -- the intervals of common parts, and those of a common text, which has no build
 abbrev pub common_parts : ℕ → List ℕ → Option (List (Span VersionValue))
-common_parts limit text = common_within limit (length text) text
+common_parts limit text = common_fronts limit text >>? λ f. if is_empty f.1 then Some f.0 else None
 
 abbrev pub common_range : ℕ → List ℕ → Option (List (Span VersionValue))
 common_range limit text = if has_plus text then None else common_parts limit text

@@ -1,6 +1,6 @@
 -- Statement. The common range texts, which the fast reader reads, and the intervals that each of them means.
 -- Every piece of such a text is named as a whole.
-use Rattle.std.specs.Prelude.{◌≡◌, ◌⊎◌, ◌==◌, ℕ, true, false, List, [], ◌∷◌, ◌++◌, Some, codes}
+use Rattle.std.specs.Prelude.{◌≡◌, ◌⊎◌, ◌==◌, ◌||◌, ℕ, Bool, true, false, List, [], ◌∷◌, ◌++◌, Some, codes}
 use Rattle.std.specs.List.{list_any}
 use Rattle.semver_core.specs.Cuts.{Span, meet}
 use Rattle.semver_core.specs.Values.Order.{precedence}
@@ -51,3 +51,8 @@ pub data AreCommonParts (limit : ℕ) : List ℕ → List (Span VersionValue) �
 -- such parts of which no version has a build: with a `+` each build begins, and nothing else of these parts
 abbrev pub IsCommonRange : ℕ → List ℕ → List (Span VersionValue) → Type 0
 IsCommonRange limit text list = AreCommonParts limit text list × (list_any (λ b. b == 43) text ≡ false)
+
+-- a field ends before this text: it is empty, or begins with a `;` or a line feed, which stand in no such parts
+abbrev pub ends_field : List ℕ → Bool
+ends_field [] = true
+ends_field (b ∷ rest) = b == 59 || b == 10

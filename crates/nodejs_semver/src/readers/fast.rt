@@ -3,6 +3,7 @@
 ghost use Rattle.nodejs_semver.specs.Internal.CommonFronts as Spec;
 ghost use Rattle.std.specs.Prelude.{◌≡◌, ◌≤◌, ◌⊎◌, if◌then◌else◌, [], IfNone, IfOk, IfSome};
 ghost use Rattle.nodejs_semver.specs.Words.{AreCommonParts, bounds_front_view, bounds_view};
+ghost use Rattle.nodejs_semver.specs.Words.{common_fronts};
 ghost use Rattle.nodejs_semver.specs.Words.{has_bars, hyphen, is_interval, IsCommonRange, table};
 ghost use Rattle.nodejs_semver.specs.Words.{IsFalse, IsTrue, length, List, MAX_SAFE_INTEGER, Means};
 ghost use Rattle.nodejs_semver.specs.Words.{None, NoValue, OnErr, partial_front_view, partial_view};
@@ -229,6 +230,34 @@ fn push_part<'a, S: Found<'a>>(text: &'a [u8], found: &mut S) -> Allocated<Optio
     }
 }
 
+/// Adds the intervals of the common parts at the front to an empty list, one for each, and returns
+/// what follows them. It returns `None` exactly where no such parts stand there; then the list may
+/// hold some intervals. Its versions may have builds.
+#[inline(always)]
+pub(crate) fn read_front<'a, S: Found<'a>>(
+    text: &'a [u8],
+    found: &mut S,
+) -> Allocated<Option<&'a [u8]>>
+    requires { S.items found.old ≡ [] }
+    ensures some { IfOk result (λ rest. IfSome rest (λ rest.
+        common_fronts MAX_SAFE_INTEGER text.now ≡ Some (S.items found.new, rest.now))) }
+    ensures none { IfOk result (λ rest.
+        IfNone rest (common_fronts MAX_SAFE_INTEGER text.now ≡ None)) }
+    ensures memory { OnErr result ((S.room ≤ 0) ⊎ (has_bars text.now ≡ true)) }
+{
+    let mut rest = text;
+    'parts: loop {
+        let Some(behind) = push_part(rest, found)? else {
+            return Ok(None);
+        };
+        let Some(next) = after_bars(behind) else {
+            return Ok(Some(behind));
+        };
+        found.reserve_for(next)?;
+        rest = next;
+    }
+}
+
 /// Adds the intervals of common parts, one for each, to an empty list. It returns `false` exactly
 /// where the text is none; then the list may hold some of them. Its versions may have builds.
 #[inline(always)]
@@ -240,19 +269,9 @@ pub(crate) fn read_common<'a, S: Found<'a>>(text: &'a [u8], found: &mut S) -> Al
         → NoValue (AreCommonParts MAX_SAFE_INTEGER text.now)) }
     ensures memory { OnErr result ((S.room ≤ 0) ⊎ (has_bars text.now ≡ true)) }
 {
-    let mut rest = text;
-    'parts: loop {
-        let Some(behind) = push_part(rest, found)? else {
-            return Ok(false);
-        };
-        if behind.is_empty() {
-            return Ok(true);
-        }
-        let Some(next) = after_bars(behind) else {
-            return Ok(false);
-        };
-        found.reserve_for(next)?;
-        rest = next;
+    match read_front(text, found)? {
+        Some(rest) => Ok(rest.is_empty()),
+        None => Ok(false),
     }
 }
 

@@ -1,44 +1,16 @@
-use Rattle.nodejs_semver.proofs.Common.{arith, refl, sym, ap, ◌∙◌, inr, MAX_SAFE_INTEGER, rest_view, on_err}
-use Rattle.nodejs_semver.proofs.Everyday.Parts.{loop-bars, loop-ends, loop-goes, loop-no_bars, loop-no_part, loop-shorter, loop-starts}
+use Rattle.nodejs_semver.proofs.Common.{MAX_SAFE_INTEGER, arith, rules}
+use Rattle.nodejs_semver.proofs.Everyday.{Parts.{none-read, part-read, whole-read}, Whole.{if-some}}
 use Rattle.nodejs_semver.proofs.readers.fast.read_common.Goals as goal
 
-pub parts-init : goal.parts-init
-parts-init g c = loop-starts MAX_SAFE_INTEGER c.args.text.now c.args.text.now (g.S.Found.items c.args.found.now) refl c.requires
+pub returns-in-Some-clause-some : goal.returns-in-Some-clause-some
+returns-in-Some-clause-some g c = λ none.
+    whole-read MAX_SAFE_INTEGER c.args.text.now (g.S.Found.items c.read_front.new.found) c.in-Some.rest.now
+    (if-some _ c.in_ok-rest.field-0 c.in-Some.rest c.in-Some.is c.in_ok-rest.ensures.some) (grind arith)
 
-pub returns-in_default-clause-none : goal.returns-in_default-clause-none
-returns-in_default-clause-none g c = λ _.
-    loop-no_part MAX_SAFE_INTEGER c.args.text.now (g.S.Found.items c.parts.found)
-    (g.S.Found.items c.push_part.new.found) c.parts.rest.now (rest_view c.in_ok-behind.field-0)
-    c.in_ok-behind.ensures.added (ap rest_view c.in_default.is) c.parts.invariant
+pub returns-in-Some-clause-none : goal.returns-in-Some-clause-none
+returns-in-Some-clause-none g c = λ some.
+    part-read MAX_SAFE_INTEGER c.args.text.now (g.S.Found.items c.read_front.new.found) c.in-Some.rest.now
+    (if-some _ c.in_ok-rest.field-0 c.in-Some.rest c.in-Some.is c.in_ok-rest.ensures.some) (grind arith)
 
-pub returns-then-is_empty-clause-some : goal.returns-then-is_empty-clause-some
-returns-then-is_empty-clause-some g c = λ _.
-    loop-ends MAX_SAFE_INTEGER c.args.text.now (g.S.Found.items c.parts.found) (g.S.Found.items c.push_part.new.found) c.parts.rest.now c.in-Some.behind.now
-    (record { after = rest_view c.in_ok-behind.field-0; added = c.in_ok-behind.ensures.added; there = ap rest_view c.in-Some.is }) (grind arith) c.parts.invariant
-
-pub returns-in_default-after_bars-clause-none : goal.returns-in_default-after_bars-clause-none
-returns-in_default-after_bars-clause-none g c = λ _.
-    loop-no_bars MAX_SAFE_INTEGER c.args.text.now (g.S.Found.items c.parts.found) (g.S.Found.items c.push_part.new.found) c.parts.rest.now c.in-Some.behind.now
-    (record { after = rest_view c.in_ok-behind.field-0; added = c.in_ok-behind.ensures.added; there = ap rest_view c.in-Some.is })
-    (grind arith) (sym c.after_bars.ensures ∙ ap rest_view c.in_default-after_bars.is) c.parts.invariant
-
-pub parts-smaller : goal.parts-smaller
-parts-smaller g c =
-    loop-shorter MAX_SAFE_INTEGER (g.S.Found.items c.parts.found)
-    (g.S.Found.items c.push_part.new.found) c.parts.rest.now c.in-Some.behind.now c.in-Some-after_bars.next.now
-    (record { after = rest_view c.in_ok-behind.field-0; added = c.in_ok-behind.ensures.added; there = ap rest_view c.in-Some.is })
-    (sym c.after_bars.ensures ∙ ap rest_view c.in-Some-after_bars.is)
-
-pub parts-preserved : goal.parts-preserved
-parts-preserved g c = rw c.reserve_for.ensures
-    (loop-goes MAX_SAFE_INTEGER c.args.text.now (g.S.Found.items c.parts.found)
-    (g.S.Found.items c.push_part.new.found) c.parts.rest.now c.in-Some.behind.now c.in-Some-after_bars.next.now
-    (record { after = rest_view c.in_ok-behind.field-0; added = c.in_ok-behind.ensures.added; there = ap rest_view c.in-Some.is })
-    (grind arith) (sym c.after_bars.ensures ∙ ap rest_view c.in-Some-after_bars.is) c.parts.invariant)
-
-pub returns-in_err-reserve_for-clause-memory : goal.returns-in_err-reserve_for-clause-memory
-returns-in_err-reserve_for-clause-memory g c = on_err c.from_residual-in_err-reserve_for.result
-    (inr (loop-bars MAX_SAFE_INTEGER c.args.text.now (g.S.Found.items c.parts.found)
-    (g.S.Found.items c.push_part.new.found) c.parts.rest.now c.in-Some.behind.now c.in-Some-after_bars.next.now
-    (record { after = rest_view c.in_ok-behind.field-0; added = c.in_ok-behind.ensures.added; there = ap rest_view c.in-Some.is })
-    (sym c.after_bars.ensures ∙ ap rest_view c.in-Some-after_bars.is) c.parts.invariant))
+pub returns-in-None-clause-none : goal.returns-in-None-clause-none
+returns-in-None-clause-none g c = λ _. none-read MAX_SAFE_INTEGER c.args.text.now (search (rules, c.in-None.is, c.in_ok-rest.ensures.none))

@@ -1,6 +1,6 @@
 use Rattle.nodejs_semver.proofs.Common.{length, MAX_SAFE_INTEGER}
 use Rattle.nodejs_semver.proofs.Everyday.Parts.{Reaches}
-use Rattle.nodejs_semver.proofs.readers.fast.read_common.Given as goal
+use Rattle.nodejs_semver.proofs.readers.fast.read_front.Given as goal
 
 -- what was found, and what is read in the rest of the text, is what is read in the text
 abbrev pub invariant-parts : goal.invariant-parts
