@@ -2,15 +2,16 @@
 use Rattle.std.proofs.Common.{◌≡◌, ◌==◌, ◌<◌, ◌≤◌, ◌+◌, ◌∙◌, ◌++◌, ◌∷◌, ◌&&◌, ◌||◌, ℕ, Bool, suc, true, false, not, List, [], Some}
 use Rattle.std.proofs.Common.{None, append-nil, length, take, drop, get_or, refl, sym, ap, arith, inl, inr}
 use Rattle.memchr.specs.Find.{IsFirstByte, is_byte, is_byte2}
+use Rattle.std.proofs.Math.Nat.{eq-or-lt_of_le}
 use Rattle.std.proofs.Math.Seq.{get_or-append_seam, split_at, take-append_seam}
 use Rattle.std.proofs.lemmas.Bool.{cases_Bool, eqb-true, false_from_ne_true, false≢true}
-use Rattle.std.proofs.lemmas.List.{get_or-take, length-append, length-take-le, take-append-drop, take-append-le, take_more}
+use Rattle.std.proofs.lemmas.List.{get_or-take, length-append, length-take-le, take-append-drop, take-append-le, take_all, take_more}
 use Rattle.std.proofs.lemmas.List.Elements.{All-from_get_or, All-head, All-tail}
-use Rattle.std.proofs.lemmas.List.Folds.{list_all-append}
+use Rattle.std.proofs.lemmas.List.Folds.{list_all-append, list_any_at}
 use Rattle.std.proofs.lemmas.List.Splits.{length-slice_split, slice_split_at, slice_split_none}
 use Rattle.std.proofs.lemmas.List.Sums.{AllPass-from_list_all, list_all-from_AllPass}
 use Rattle.std.proofs.lemmas.Str.{IsCharBoundary-after_ascii, IsCharBoundary-before_ascii, IsUtf8-append, IsUtf8-take}
-use Rattle.std.specs.List.{All, list_all}
+use Rattle.std.specs.List.{All, list_all, list_any}
 use Rattle.std.specs.Prelude.{IsCharBoundary, IsUtf8}
 use Rattle.semver_core.proofs.Text.Fronts.{common_plain}
 use Rattle.semver_core.specs.Internal.CommonReading.{is_plain}
@@ -216,6 +217,21 @@ pub no_marks : (limit : ℕ) (text : List ℕ) (v : VersionValue) → IsCommon l
 no_marks limit text v h =
     let each = AllPass-from_list_all is_plain text (common_plain limit text v h) in
     All-from_get_or (λ b. is_byte2 59 10 b ≡ false) text 0 (λ i inside. no_mark (get_or text i 0) (each i 0 inside))
+
+-- a text in which no mark is found, and a place in a line that such a text ends at
+pub unmarked : (text : List ℕ) → list_any (is_byte2 59 10) text ≡ false → All (λ b. is_byte2 59 10 b ≡ false) text
+unmarked text h k d inside =
+    false_from_ne_true _ (λ mark. false≢true (sym h ∙ list_any_at (is_byte2 59 10) text k d inside mark))
+
+pub before_mark : (text : List ℕ) (n : ℕ) → HasFeed text → n ≤ length text → list_any (is_byte2 59 10) (take n text) ≡ false
+    → n < length text
+before_mark text n feed le h = elim (eq-or-lt_of_le le) [
+  | inl end ↦
+      let plain = unmarked (take n text) h in
+      let whole = take_all n text (omega (arith, end)) in
+      absurd (false≢true (sym feed ∙ no_feed_by text (no_line_feed text (rw whole at plain))))
+  | inr inside ↦ inside
+]
 
 -- ---- whole lines
 

@@ -7,7 +7,7 @@ ghost use Rattle.semver_answers.specs.Internal.Steps.{GrowsByAnswer};
 use crate::fault::Fault;
 use crate::fields::behind_line;
 use crate::output::Output;
-use crate::reply::reply;
+use crate::reply::{Scratch, reply};
 use nodejs_semver::Failure;
 use std::alloc::{AllocError, Global};
 use std::str;
@@ -20,6 +20,7 @@ use std::str;
 pub(crate) fn answer_text<'t>(
     alloc: Global,
     text: &'t str,
+    scratch: &mut Scratch<'t>,
     output: &mut Output,
 ) -> Result<&'t str, AllocError>
     requires { HasFeed text.now }
@@ -29,7 +30,7 @@ pub(crate) fn answer_text<'t>(
     ensures err { OnErr result (output.new ≡ output.old) }
 {
     let len = output.len();
-    match reply(alloc, text, output) {
+    match reply(alloc, text, scratch, output) {
         Ok(next) => Ok(next),
         Err(Failure::Refused(fault)) => {
             output.put(fault.line())?;
@@ -54,7 +55,7 @@ pub(crate) fn answer_line(alloc: Global, line: &[u8], output: &mut Output) -> Re
 {
     match str::from_utf8(line) {
         Ok(text) => {
-            answer_text(alloc, text, output)?;
+            answer_text(alloc, text, &mut Scratch::new(alloc), output)?;
             Ok(())
         }
         Err(_) => output.put(Fault::BadLine.line()),

@@ -4,12 +4,12 @@
 ghost use Rattle.std.specs.Prelude.{◌≡◌, ◌<◌, IfNone, IfSome, false, length, take};
 ghost use Rattle.std.specs.Prelude.{slice_index};
 ghost use Rattle.std.specs.List.{All};
-ghost use Rattle.memchr.specs.Find.{IsFirstByte, is_byte, is_byte2};
+ghost use Rattle.memchr.specs.Find.{is_byte2};
 ghost use Rattle.semver_answers.specs.Internal.Ahead.{Cuts, HasFeed, IsNext};
-ghost use Rattle.semver_answers.specs.Internal.Results.{ReadsVersion};
+ghost use Rattle.semver_answers.specs.Internal.Results.{ReadsRange, ReadsVersion};
 
 use memchr::{memchr, memchr2};
-use nodejs_semver::{MAX_LENGTH, SemverError, VersionRef};
+use nodejs_semver::{Failure, MAX_LENGTH, RangeRef, SemverError, VersionRef};
 
 /// What stands behind a field.
 #[derive(Clone, Copy)]
@@ -98,4 +98,36 @@ fn whole_version_field(text: &str) -> (Result<VersionRef<'_>, SemverError>, Behi
 {
     let (field, behind) = cut(text);
     (VersionRef::parse(field), behind)
+}
+
+/// Reads the range of the first field in place of this range. Returns whether there is one, and
+/// what stands behind the field. The field is read once, unless it is no common range text.
+#[inline(always)]
+pub(crate) fn range_field<'t>(
+    text: &'t str,
+    range: &mut RangeRef<'t>,
+) -> (Result<(), Failure<SemverError>>, Behind<'t>)
+    requires { HasFeed text.now }
+    ensures { ReadsRange text.now range.new result.0 result.1 }
+{
+    if let Ok(Some(end)) = range.read_front(text) {
+        if let Some(behind) = mark_at(text, end) {
+            return (Ok(()), behind);
+        }
+    }
+    whole_range_field(text, range)
+}
+
+// `range_field` where the end of the field is looked for first.
+#[cold]
+#[inline(never)]
+fn whole_range_field<'t>(
+    text: &'t str,
+    range: &mut RangeRef<'t>,
+) -> (Result<(), Failure<SemverError>>, Behind<'t>)
+    requires { HasFeed text.now }
+    ensures { ReadsRange text.now range.new result.0 result.1 }
+{
+    let (field, behind) = cut(text);
+    (range.read(field), behind)
 }

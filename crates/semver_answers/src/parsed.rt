@@ -22,17 +22,19 @@ pub(crate) fn version_of<'p, 'a>(
     }
 }
 
-/// A range that was parsed, or why there is none.
-pub(crate) type Parsed<'a> = Result<RangeRef<'a>, Failure<SemverError>>;
-
-/// The range that was parsed, where it stands.
+/// The range that was read, where it stands.
 #[inline(always)]
-pub(crate) fn range_of<'p, 'a>(parsed: &'p Parsed<'a>) -> Result<&'p RangeRef<'a>, Failure<Fault>>
-    ensures { (text : List ℕ) → ParsesRange text parsed.now
+pub(crate) fn range_of<'p, 'a>(
+    read: &Result<(), Failure<SemverError>>,
+    range: &'p RangeRef<'a>,
+) -> Result<&'p RangeRef<'a>, Failure<Fault>>
+    ensures { (text : List ℕ) → ParsesRange text range.now read.now
         → IsReadAs (λ r. r.now) result (IsRangeOf text) }
 {
-    match parsed {
-        Ok(range) => Ok(range),
+    // Proof helper: a range has an interval. The call has no effect at run time.
+    let _intervals = range.items();
+    match read {
+        Ok(()) => Ok(range),
         Err(Failure::Refused(_)) => Err(Failure::Refused(Fault::BadRange)),
         Err(Failure::Memory(_)) => Err(Failure::Memory(AllocError)),
     }

@@ -5,38 +5,53 @@
 // that were read stands in the method `reply`.
 
 ghost use Rattle.std.specs.Option.{option_copied};
-ghost use Rattle.std.specs.Prelude.{◌≡◌, ◌++◌, ◌∷◌, ℕ, List, IfOk, OnErr, OnOk, codes};
+ghost use Rattle.std.specs.Prelude.{◌≡◌, ◌++◌, ◌∷◌, IfOk, OnErr, OnOk, codes};
 ghost use Rattle.semver_core.specs.Increments.Table.{answer_of_inc};
 ghost use Rattle.semver_answers.specs.Answers.{IsAnswer};
-ghost use Rattle.semver_answers.specs.Commands.{BestReply, IsReply, Match, RangeReply, RangesReply};
+ghost use Rattle.semver_answers.specs.Commands.{RangeReply, RangesReply};
 ghost use Rattle.semver_answers.specs.Commands.{matches, version_reply, versions_reply};
 ghost use Rattle.semver_answers.specs.Internal.CommandWords.{command_word};
 ghost use Rattle.semver_answers.specs.Internal.KindWords.{IsTwo, best_word, range_word};
 ghost use Rattle.semver_answers.specs.Internal.KindWords.{match_word, ranges_word, versions_word};
 ghost use Rattle.semver_answers.specs.Internal.Puts.{Extends};
-ghost use Rattle.semver_answers.specs.Internal.Results.{AnswersFields, IsPut, IsTold, ParsesRange};
-ghost use Rattle.semver_answers.specs.Internal.Results.{ParsesVersion, as_told};
+ghost use Rattle.semver_answers.specs.Internal.Results.{AnswersFields, IsPut, IsTold, as_told};
 ghost use Rattle.semver_answers.specs.Lines.{ended};
 ghost use Rattle.semver_answers.specs.Internal.Ahead.{HasFeed, IsNext, fields_ahead, first_line};
 ghost use Rattle.semver_answers.specs.Names.{next_text};
-ghost use Rattle.semver_answers.specs.Replies.{AreVersionsOf, IsRangeOf, On};
 
 use crate::best::best_of;
 use crate::command::Command;
 use crate::fault::Fault;
-use crate::fields::{Behind, cut, version_field};
+use crate::fields::{Behind, range_field, version_field};
 use crate::names::{
     difference_line, put_borrowed, put_found, put_next, put_order, put_printed, put_range_line,
     put_truth,
 };
 use crate::output::Output;
-use crate::parsed::{Parsed, range_of, version_of};
+use crate::parsed::{range_of, version_of};
 use crate::parts::{Combination, put_combined};
 use crate::question::{
     AboutBest, AboutMatch, AboutRange, AboutRanges, AboutVersion, AboutVersions,
 };
-use nodejs_semver::{Failure, IdentifierBase, RangeRef, SemverError, VersionRef};
+use nodejs_semver::{Failure, IdentifierBase, RangeRef, VersionRef};
 use std::alloc::{AllocError, Global};
+
+/// The ranges of a line. The next line is read into the same ones, so that their memory is used
+/// again.
+#[derive(Drop)]
+pub(crate) struct Scratch<'t> {
+    range: RangeRef<'t>,
+    other: RangeRef<'t>,
+}
+
+impl<'t> Scratch<'t> {
+    pub(crate) fn new(alloc: Global) -> Scratch<'t> {
+        Scratch {
+            range: RangeRef::any(alloc),
+            other: RangeRef::any(alloc),
+        }
+    }
+}
 
 // The text behind the line, unless an allocation failed in putting the reply.
 #[inline(always)]
@@ -52,6 +67,7 @@ fn told<'t>(put: Result<(), AllocError>, next: &'t str) -> Result<&'t str, Failu
 pub(crate) fn reply<'t>(
     alloc: Global,
     text: &'t str,
+    scratch: &mut Scratch<'t>,
     output: &mut Output,
 ) -> Result<&'t str, Failure<Fault>>
     requires { HasFeed text.now }
@@ -62,7 +78,7 @@ pub(crate) fn reply<'t>(
     let Some((command, rest)) = Command::of(text) else {
         return Err(Failure::Refused(Fault::BadLine));
     };
-    reply_to(alloc, command, rest, output)
+    reply_to(alloc, command, rest, scratch, output)
 }
 
 // The reply to a line with this command and these fields behind it.
@@ -71,6 +87,7 @@ fn reply_to<'t>(
     alloc: Global,
     command: Command,
     rest: &'t str,
+    scratch: &mut Scratch<'t>,
     output: &mut Output,
 ) -> Result<&'t str, Failure<Fault>>
     requires { HasFeed rest.now }
@@ -78,21 +95,22 @@ fn reply_to<'t>(
         (AnswersFields (command_word command ∷ fields_ahead rest.now)) }
     ensures next { IfOk result (IsNext rest.now) }
 {
+    let Scratch { range, other } = scratch;
     match command {
         Command::Cmp => on_versions(rest, AboutVersions::Cmp, output),
         Command::Ver => on_version(alloc, rest, output),
         Command::Diff => on_versions(rest, AboutVersions::Diff, output),
         Command::Inc => on_increment(alloc, rest, output),
-        Command::Range => on_range(alloc, rest, AboutRange::Print, output),
-        Command::And => on_ranges(alloc, rest, AboutRanges::And, output),
-        Command::Minus => on_ranges(alloc, rest, AboutRanges::Minus, output),
-        Command::Least => on_range(alloc, rest, AboutRange::Least, output),
-        Command::Beyond => on_ranges(alloc, rest, AboutRanges::Beyond, output),
-        Command::Sat => on_match(alloc, rest, AboutMatch::Sat, output),
-        Command::Pre => on_match(alloc, rest, AboutMatch::Pre, output),
-        Command::Out => on_outside(alloc, rest, output),
-        Command::Max => on_best(alloc, rest, AboutBest::Max, output),
-        Command::Min => on_best(alloc, rest, AboutBest::Min, output),
+        Command::Range => on_range(alloc, rest, AboutRange::Print, range, output),
+        Command::And => on_ranges(alloc, rest, AboutRanges::And, range, other, output),
+        Command::Minus => on_ranges(alloc, rest, AboutRanges::Minus, range, other, output),
+        Command::Least => on_range(alloc, rest, AboutRange::Least, range, output),
+        Command::Beyond => on_ranges(alloc, rest, AboutRanges::Beyond, range, other, output),
+        Command::Sat => on_match(rest, AboutMatch::Sat, range, output),
+        Command::Pre => on_match(rest, AboutMatch::Pre, range, output),
+        Command::Out => on_outside(rest, range, output),
+        Command::Max => on_best(rest, AboutBest::Max, range, output),
+        Command::Min => on_best(rest, AboutBest::Min, range, output),
     }
 }
 
@@ -166,6 +184,7 @@ fn on_range<'t>(
     alloc: Global,
     texts: &'t str,
     asked: AboutRange,
+    range: &mut RangeRef<'t>,
     output: &mut Output,
 ) -> Result<&'t str, Failure<Fault>>
     requires { HasFeed texts.now }
@@ -173,28 +192,11 @@ fn on_range<'t>(
         (AnswersFields (range_word asked ∷ fields_ahead texts.now)) }
     ensures next { IfOk result (IsNext texts.now) }
 {
-    let (field, behind) = cut(texts);
+    let (read, behind) = range_field(texts, range);
     let Behind::Lines(next) = behind else {
         return Err(Failure::Refused(Fault::BadLine));
     };
-    let range = RangeRef::parse(alloc, field);
-    parsed_range(alloc, &range, asked, next, output)
-}
-
-// The reply about a range that was parsed. Its exits drop no range.
-#[inline(always)]
-fn parsed_range<'t>(
-    alloc: Global,
-    parsed: &Parsed<'_>,
-    asked: AboutRange,
-    next: &'t str,
-    output: &mut Output,
-) -> Result<&'t str, Failure<Fault>>
-    ensures told { (text : List ℕ) → ParsesRange text parsed.now
-        → IsTold result output.old output.new (On (IsRangeOf text) (RangeReply asked)) }
-    ensures next { IfOk result (λ found. found.now ≡ next.now) }
-{
-    let range = range_of(parsed)?;
+    let range = range_of(&read, range)?;
     told(asked.reply(alloc, range, output), next)
 }
 
@@ -203,6 +205,8 @@ fn on_ranges<'t>(
     alloc: Global,
     texts: &'t str,
     asked: AboutRanges,
+    range: &mut RangeRef<'t>,
+    other: &mut RangeRef<'t>,
     output: &mut Output,
 ) -> Result<&'t str, Failure<Fault>>
     requires { HasFeed texts.now }
@@ -210,61 +214,24 @@ fn on_ranges<'t>(
         (AnswersFields (ranges_word asked ∷ fields_ahead texts.now)) }
     ensures next { IfOk result (IsNext texts.now) }
 {
-    let (field, behind) = cut(texts);
+    let (read, behind) = range_field(texts, range);
     let Behind::Fields(rest) = behind else {
         return Err(Failure::Refused(Fault::BadLine));
     };
-    let (other, behind) = cut(rest);
+    let (other_read, behind) = range_field(rest, other);
     let Behind::Lines(next) = behind else {
         return Err(Failure::Refused(Fault::BadLine));
     };
-    let range = RangeRef::parse(alloc, field);
-    parsed_ranges(alloc, &range, other, asked, next, output)
-}
-
-#[inline(always)]
-fn parsed_ranges<'t>(
-    alloc: Global,
-    parsed: &Parsed<'t>,
-    s: &'t str,
-    asked: AboutRanges,
-    next: &'t str,
-    output: &mut Output,
-) -> Result<&'t str, Failure<Fault>>
-    ensures told { (text : List ℕ) → ParsesRange text parsed.now
-        → IsTold result output.old output.new
-        (On (IsRangeOf text) (λ range. On (IsRangeOf s.now) (RangesReply asked range))) }
-    ensures next { IfOk result (λ found. found.now ≡ next.now) }
-{
-    let range = range_of(parsed)?;
-    let other = RangeRef::parse(alloc, s);
-    beside_parsed(alloc, range, &other, asked, next, output)
-}
-
-// The reply about a range and another one that was parsed.
-#[inline(always)]
-fn beside_parsed<'t>(
-    alloc: Global,
-    range: &RangeRef<'t>,
-    other: &Parsed<'t>,
-    asked: AboutRanges,
-    next: &'t str,
-    output: &mut Output,
-) -> Result<&'t str, Failure<Fault>>
-    ensures told { (text : List ℕ) → ParsesRange text other.now
-        → IsTold result output.old output.new
-        (On (IsRangeOf text) (RangesReply asked range.now)) }
-    ensures next { IfOk result (λ found. found.now ≡ next.now) }
-{
-    let other = range_of(other)?;
+    let range = range_of(&read, range)?;
+    let other = range_of(&other_read, other)?;
     told(asked.reply(alloc, range, other, output), next)
 }
 
 #[inline(never)]
 fn on_match<'t>(
-    alloc: Global,
     texts: &'t str,
     asked: AboutMatch,
+    range: &mut RangeRef<'t>,
     output: &mut Output,
 ) -> Result<&'t str, Failure<Fault>>
     requires two { IsTwo asked }
@@ -273,7 +240,7 @@ fn on_match<'t>(
         (AnswersFields (match_word asked ∷ fields_ahead texts.now)) }
     ensures next { IfOk result (IsNext texts.now) }
 {
-    let (field, behind) = cut(texts);
+    let (read, behind) = range_field(texts, range);
     let Behind::Fields(rest) = behind else {
         return Err(Failure::Refused(Fault::BadLine));
     };
@@ -281,14 +248,15 @@ fn on_match<'t>(
     let Behind::Lines(next) = behind else {
         return Err(Failure::Refused(Fault::BadLine));
     };
-    let range = RangeRef::parse(alloc, field);
-    parsed_match(&range, &version, asked, next, output)
+    let range = range_of(&read, range)?;
+    let version = version_of(&version)?;
+    told(put_truth(asked.reply(range, version), output), next)
 }
 
 #[inline(never)]
 fn on_outside<'t>(
-    alloc: Global,
     texts: &'t str,
+    range: &mut RangeRef<'t>,
     output: &mut Output,
 ) -> Result<&'t str, Failure<Fault>>
     requires { HasFeed texts.now }
@@ -296,7 +264,7 @@ fn on_outside<'t>(
         (AnswersFields (codes "out" ∷ fields_ahead texts.now)) }
     ensures next { IfOk result (IsNext texts.now) }
 {
-    let (field, behind) = cut(texts);
+    let (read, behind) = range_field(texts, range);
     let Behind::Fields(rest) = behind else {
         return Err(Failure::Refused(Fault::BadLine));
     };
@@ -307,33 +275,16 @@ fn on_outside<'t>(
     let Some((asked, next)) = AboutMatch::outside(side) else {
         return Err(Failure::Refused(Fault::BadLine));
     };
-    let range = RangeRef::parse(alloc, field);
-    parsed_match(&range, &version, asked, next, output)
-}
-
-// The reply about a range and a version that were parsed.
-#[inline(always)]
-fn parsed_match<'t>(
-    range: &Parsed<'_>,
-    version: &Result<VersionRef<'_>, SemverError>,
-    asked: AboutMatch,
-    next: &'t str,
-    output: &mut Output,
-) -> Result<&'t str, Failure<Fault>>
-    ensures told { (r v : List ℕ) → ParsesRange r range.now → ParsesVersion v version.now
-        → IsTold result output.old output.new (IsReply (Match (r, v) asked)) }
-    ensures next { IfOk result (λ found. found.now ≡ next.now) }
-{
-    let range = range_of(range)?;
-    let version = version_of(version)?;
+    let range = range_of(&read, range)?;
+    let version = version_of(&version)?;
     told(put_truth(asked.reply(range, version), output), next)
 }
 
 #[inline(never)]
 fn on_best<'t>(
-    alloc: Global,
     texts: &'t str,
     asked: AboutBest,
+    range: &mut RangeRef<'t>,
     output: &mut Output,
 ) -> Result<&'t str, Failure<Fault>>
     requires { HasFeed texts.now }
@@ -341,29 +292,12 @@ fn on_best<'t>(
         (AnswersFields (best_word asked ∷ fields_ahead texts.now)) }
     ensures next { IfOk result (IsNext texts.now) }
 {
-    let (field, behind) = cut(texts);
+    let (read, behind) = range_field(texts, range);
     let Behind::Fields(versions) = behind else {
         return Err(Failure::Refused(Fault::BadLine));
     };
-    let range = RangeRef::parse(alloc, field);
-    parsed_best(&range, versions, asked, output)
-}
-
-#[inline(always)]
-fn parsed_best<'t>(
-    parsed: &Parsed<'_>,
-    vs: &'t str,
-    asked: AboutBest,
-    output: &mut Output,
-) -> Result<&'t str, Failure<Fault>>
-    requires { HasFeed vs.now }
-    ensures told { (text : List ℕ) → ParsesRange text parsed.now
-        → IsTold result output.old output.new (On (IsRangeOf text)
-        (λ range. On (AreVersionsOf (fields_ahead vs.now)) (BestReply asked range))) }
-    ensures next { IfOk result (IsNext vs.now) }
-{
-    let range = range_of(parsed)?;
-    let (best, next) = best_of(asked, range, vs)?;
+    let range = range_of(&read, range)?;
+    let (best, next) = best_of(asked, range, versions)?;
     told(put_borrowed(best, output), next)
 }
 

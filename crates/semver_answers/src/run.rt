@@ -12,6 +12,7 @@ ghost use Rattle.semver_answers.specs.Internal.Steps.{Turned, WritesFront};
 
 use crate::answer::{answer_line, answer_text};
 use crate::output::Output;
+use crate::reply::Scratch;
 use memchr::{memchr, memrchr};
 use semver_core::scan::text_front;
 use std::alloc::{AllocError, Global};
@@ -80,6 +81,7 @@ impl Lines {
         // Lines at the front of what is left are checked to be UTF-8 all at once.
         let mut text = "";
         let mut rest = chunk;
+        let mut scratch = Scratch::new(alloc);
         'lines: loop {
             if text.is_empty() {
                 let Some((line, behind)) = first_line(rest) else {
@@ -90,7 +92,7 @@ impl Lines {
                 text = front;
                 rest = back;
             } else {
-                text = answer_text(alloc, text, &mut self.output)?;
+                text = answer_text(alloc, text, &mut scratch, &mut self.output)?;
             }
         }
     }

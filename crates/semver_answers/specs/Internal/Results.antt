@@ -1,6 +1,6 @@
 -- For proofs. What the results of reading a question's texts, and of replying to it, say.
-use Rattle.std.specs.Prelude.{◌≡◌, ◌<◌, ◌++◌, ℕ, List, [], length, Option}
-use Rattle.std.specs.Prelude.{Result, Ok, Err, IfErr, IfOk}
+use Rattle.std.specs.Prelude.{◌≡◌, ◌++◌, ℕ, List, [], Option}
+use Rattle.std.specs.Prelude.{Result, Ok, Err, IfErr, IfOk, OnOk}
 use Rattle.std.specs.Prelude.{false, ⊤}
 use Rattle.std.specs.declared.alloc.AllocError.{AllocError}
 use Rattle.semver_core.specs.Cuts.{Span}
@@ -26,14 +26,14 @@ use Rattle.semver_answers.specs.declared.fault.Fault.TheVariants.{BadLine}
 use Rattle.semver_answers.specs.declared.question.AboutBest.{AboutBest}
 use Rattle.semver_answers.specs.declared.question.AboutBest.TheVariants.{Max, Min}
 
--- a text was parsed as a version, or as a range
+-- a text was parsed as a version, or as this range
 abbrev pub ParsesVersion : List ℕ → Result VersionValue SemverError → Type 0
 ParsesVersion text result =
     IfOk result (Parses MAX_SAFE_INTEGER text) × IfErr result (λ _. NoValue (Parses MAX_SAFE_INTEGER text))
 
-abbrev pub ParsesRange : List ℕ → Result (List (Span VersionValue)) (Failure SemverError) → Type 0
-ParsesRange text result = IfOk result (Means MAX_SAFE_INTEGER text) × IfOk result (λ ss. 0 < length ss)
-    × RefusedOnlyIf result (Means MAX_SAFE_INTEGER text [])
+abbrev pub ParsesRange : List ℕ → List (Span VersionValue) → Result ⊤ (Failure SemverError) → Type 0
+ParsesRange text range result =
+    OnOk result (Means MAX_SAFE_INTEGER text range) × RefusedOnlyIf result (Means MAX_SAFE_INTEGER text [])
 
 -- a text is none, by this error, unless an allocation failed
 abbrev pub IsFault : {B : Type 0} → Failure Fault → (Result B Fault → Type 0) → Type 0
@@ -63,6 +63,13 @@ pub record ReadsVersion (text : List ℕ) (version : Result VersionValue SemverE
   pub field : List ℕ
   pub cuts : Cuts text field behind
   pub parsed : ParsesVersion field version
+
+-- the first field was read as this range, and what stands behind it is left
+pub record ReadsRange (text : List ℕ) (range : List (Span VersionValue)) (result : Result ⊤ (Failure SemverError))
+    (behind : Behind) : Type 0 where
+  pub field : List ℕ
+  pub cuts : Cuts text field behind
+  pub parsed : ParsesRange field range result
 
 -- the answer to a line of these fields
 pub data AnswersFields (line : List (List ℕ)) (answer : List ℕ) : Type 0 where

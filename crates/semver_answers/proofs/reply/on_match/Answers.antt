@@ -1,26 +1,49 @@
-use Rattle.std.proofs.Common.{refl}
+use Rattle.std.proofs.Common.{ap, refl}
+use Rattle.std.proofs.lemmas.Result.{on_err_weaker}
 use Rattle.semver_answers.specs.Commands.{Match}
-use Rattle.semver_answers.specs.Internal.Results.{unasked}
+use Rattle.semver_answers.specs.Internal.Results.{answered, unasked}
+use Rattle.semver_answers.specs.Names.{truth_word}
+use Rattle.semver_answers.specs.Replies.{IsRangeOf, IsVersionOf, read}
 use Rattle.semver_answers.proofs.Asked.{match_asked, match_none}
 use Rattle.semver_answers.proofs.Behind.{one_is_not_two, pair, single, three, three_is_not_two}
-use Rattle.semver_answers.proofs.Replies.{told_asked}
+use Rattle.semver_answers.proofs.Bytes.{as_it_was}
+use Rattle.semver_answers.proofs.Replies.{told_asked, told_fault, told_says, told_second}
 use Rattle.semver_answers.proofs.reply.on_match.Goals as goal
 
 pub returns-in_default-clause-told : goal.returns-in_default-clause-told
 returns-in_default-clause-told c =
-    (refl, unasked (match_none c.args.asked c.requires.two _ (one_is_not_two c.args.texts.now c.cut.result.0.now (single _ _ _ _ c.cut.ensures c.in_default.is))) refl)
+    let r = c.range_field-read.ensures in
+    (refl, unasked (match_none c.args.asked c.requires.two _ (one_is_not_two c.args.texts.now r.field (single _ _ _ _ r.cuts c.in_default.is))) refl)
 
 pub returns-in_default-behind-clause-told : goal.returns-in_default-behind-clause-told
 returns-in_default-behind-clause-told c =
-    let e = three _ _ _ _ _ _ _ c.cut.ensures c.in-Fields.is c.version_field-version.ensures.cuts c.in_default-behind.is in
-    (refl, unasked (match_none c.args.asked c.requires.two _ (three_is_not_two c.args.texts.now c.cut.result.0.now c.version_field-version.ensures.field c.in_default-behind.field-0.now e)) refl)
+    let r = c.range_field-read.ensures in
+    let v = c.version_field-version.ensures in
+    let e = three _ _ _ _ _ _ _ r.cuts c.in-Fields.is v.cuts c.in_default-behind.is in
+    (refl, unasked (match_none c.args.asked c.requires.two _ (three_is_not_two c.args.texts.now r.field v.field c.in_default-behind.field-0.now e)) refl)
+
+pub returns-in_err-range-clause-told : goal.returns-in_err-range-clause-told
+returns-in_err-range-clause-told c =
+    let r = c.range_field-read.ensures in
+    let v = c.version_field-version.ensures in
+    let both = pair _ _ _ _ _ _ _ r.cuts c.in-Fields.is v.cuts c.in-Lines.is in
+    told_asked _ (Match (r.field, v.field) c.args.asked) _ _ _ (match_asked c.args.asked c.requires.two r.field v.field _ both)
+    (told_fault (IsRangeOf r.field) _ _ _ _ c.from_residual.ensures.1 (c.in_err-range.ensures r.field r.parsed))
+
+pub returns-in_err-version-clause-told : goal.returns-in_err-version-clause-told
+returns-in_err-version-clause-told c =
+    let r = c.range_field-read.ensures in
+    let v = c.version_field-version.ensures in
+    let both = pair _ _ _ _ _ _ _ r.cuts c.in-Fields.is v.cuts c.in-Lines.is in
+    told_asked _ (Match (r.field, v.field) c.args.asked) _ _ _ (match_asked c.args.asked c.requires.two r.field v.field _ both)
+    (told_second (IsRangeOf r.field) (IsVersionOf v.field) _ _ _ _ _ (c.in_ok-range.ensures r.field r.parsed)
+    c.from_residual-in_err-version.ensures.1 (c.in_err-version.ensures v.field v.parsed))
 
 pub returns-clause-told : goal.returns-clause-told
 returns-clause-told c =
-    let field = c.cut.result.0.now in
+    let r = c.range_field-read.ensures in
     let v = c.version_field-version.ensures in
-    let both = pair _ _ _ _ _ _ _ c.cut.ensures c.in-Fields.is v.cuts c.in-Lines.is in
-    let r = c.parse-range.ensures in
-    told_asked _ (Match (field, v.field) c.args.asked) c.parsed_match.result _ _
-    (match_asked c.args.asked c.requires.two field v.field _ both)
-    (c.parsed_match.ensures.told field v.field (r.ok, r.some, r.refused) v.parsed)
+    let both = pair _ _ _ _ _ _ _ r.cuts c.in-Fields.is v.cuts c.in-Lines.is in
+    told_says _ c.put_truth.result _ _ _ _ _ c.told.ensures c.put_truth.ensures.ok (on_err_weaker c.put_truth.result (as_it_was _ _) c.put_truth.ensures.err)
+    (answered (Match (r.field, v.field) c.args.asked) (match_asked c.args.asked c.requires.two r.field v.field _ both)
+    (read _ (c.in_ok-range.ensures r.field r.parsed) (read _ (c.in_ok-version.ensures v.field v.parsed) (ap truth_word c.reply.ensures))))

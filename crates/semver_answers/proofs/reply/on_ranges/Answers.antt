@@ -1,25 +1,46 @@
 use Rattle.std.proofs.Common.{refl}
 use Rattle.semver_answers.specs.Commands.{Ranges}
 use Rattle.semver_answers.specs.Internal.Results.{unasked}
+use Rattle.semver_answers.specs.Replies.{IsRangeOf, read}
 use Rattle.semver_answers.proofs.Asked.{ranges_asked, ranges_none}
 use Rattle.semver_answers.proofs.Behind.{one_is_not_two, pair, single, three, three_is_not_two}
-use Rattle.semver_answers.proofs.Replies.{told_asked}
+use Rattle.semver_answers.proofs.Replies.{told_asked, told_fault, told_put, told_second, told_weaker}
 use Rattle.semver_answers.proofs.reply.on_ranges.Goals as goal
 
 pub returns-in_default-clause-told : goal.returns-in_default-clause-told
 returns-in_default-clause-told c =
-    (refl, unasked (ranges_none c.args.asked _ (one_is_not_two c.args.texts.now c.cut.result.0.now (single _ _ _ _ c.cut.ensures c.in_default.is))) refl)
+    let r = c.range_field-read.ensures in
+    (refl, unasked (ranges_none c.args.asked _ (one_is_not_two c.args.texts.now r.field (single _ _ _ _ r.cuts c.in_default.is))) refl)
 
 pub returns-in_default-behind-clause-told : goal.returns-in_default-behind-clause-told
 returns-in_default-behind-clause-told c =
-    let e = three _ _ _ _ _ _ _ c.cut.ensures c.in-Fields.is c.cut-2.ensures c.in_default-behind.is in
-    (refl, unasked (ranges_none c.args.asked _ (three_is_not_two c.args.texts.now c.cut.result.0.now c.cut-2.result.0.now c.in_default-behind.field-0.now e)) refl)
+    let r = c.range_field-read.ensures in
+    let s = c.range_field-other_read.ensures in
+    let e = three _ _ _ _ _ _ _ r.cuts c.in-Fields.is s.cuts c.in_default-behind.is in
+    (refl, unasked (ranges_none c.args.asked _ (three_is_not_two c.args.texts.now r.field s.field c.in_default-behind.field-0.now e)) refl)
+
+pub returns-in_err-range-clause-told : goal.returns-in_err-range-clause-told
+returns-in_err-range-clause-told c =
+    let r = c.range_field-read.ensures in
+    let s = c.range_field-other_read.ensures in
+    let both = pair _ _ _ _ _ _ _ r.cuts c.in-Fields.is s.cuts c.in-Lines.is in
+    told_asked _ (Ranges (r.field, s.field) c.args.asked) _ _ _ (ranges_asked c.args.asked r.field s.field _ both)
+    (told_fault (IsRangeOf r.field) _ _ _ _ c.from_residual.ensures.1 (c.in_err-range.ensures r.field r.parsed))
+
+pub returns-in_err-other-clause-told : goal.returns-in_err-other-clause-told
+returns-in_err-other-clause-told c =
+    let r = c.range_field-read.ensures in
+    let s = c.range_field-other_read.ensures in
+    let both = pair _ _ _ _ _ _ _ r.cuts c.in-Fields.is s.cuts c.in-Lines.is in
+    told_asked _ (Ranges (r.field, s.field) c.args.asked) _ _ _ (ranges_asked c.args.asked r.field s.field _ both)
+    (told_second (IsRangeOf r.field) (IsRangeOf s.field) _ _ _ _ _ (c.in_ok-range.ensures r.field r.parsed)
+    c.from_residual-in_err-other.ensures.1 (c.in_err-other.ensures s.field s.parsed))
 
 pub returns-clause-told : goal.returns-clause-told
 returns-clause-told c =
-    let field = c.cut.result.0.now in
-    let other = c.cut-2.result.0.now in
-    let both = pair _ _ _ _ _ _ _ c.cut.ensures c.in-Fields.is c.cut-2.ensures c.in-Lines.is in
-    let r = c.parse-range.ensures in
-    told_asked _ (Ranges (field, other) c.args.asked) c.parsed_ranges.result _ _ (ranges_asked c.args.asked field other _ both)
-    (c.parsed_ranges.ensures.told field (r.ok, r.some, r.refused))
+    let r = c.range_field-read.ensures in
+    let s = c.range_field-other_read.ensures in
+    let both = pair _ _ _ _ _ _ _ r.cuts c.in-Fields.is s.cuts c.in-Lines.is in
+    told_asked _ (Ranges (r.field, s.field) c.args.asked) c.told.result _ _ (ranges_asked c.args.asked r.field s.field _ both)
+    (told_weaker _ _ c.told.result _ _ (λ reply h. read _ (c.in_ok-range.ensures r.field r.parsed) (read _ (c.in_ok-other.ensures s.field s.parsed) h))
+    (told_put _ c.reply.result _ _ _ _ c.told.ensures c.reply.ensures))
