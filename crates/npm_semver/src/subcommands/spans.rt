@@ -100,16 +100,19 @@ fn write_line(alloc: Global, span: &KeySpan, output: &mut String) -> Result<(), 
     write_hex(alloc, &span.start, output)?;
     output.push('\t')?;
     write_hex(alloc, &span.stop, output)?;
-    output.push('\t')?;
-    output.push_str(counted(span.releases_only))?;
-    output.push('\n')
+    output.push_str(counted(span.releases_only))
 }
 
-// Which versions count.
+// The end of the line of a span: which versions count, behind a tab.
 fn counted(releases_only: bool) -> &'static str
-    ensures { result.now ≡ (if releases_only then codes "releases" else codes "all") }
+    ensures { result.now
+        ≡ 9 ∷ line (if releases_only then codes "releases" else codes "all") }
 {
-    if releases_only { "releases" } else { "all" }
+    if releases_only {
+        "\treleases\n"
+    } else {
+        "\tall\n"
+    }
 }
 
 // Bytes in hexadecimal.
@@ -153,8 +156,10 @@ fn sql_of<'a>(
     if !is_column(column.as_bytes()) {
         return Err(Failure::Refused(Trouble::NoColumn(column)));
     }
-    let spans = read_spans(alloc, text)?;
-    Ok(printed(alloc, dialect, column, &spans)?)
+    match read_spans(alloc, text) {
+        Ok(spans) => Ok(printed(alloc, dialect, column, &spans)?),
+        Err(failure) => Err(failure),
+    }
 }
 
 // The dialect that is given.

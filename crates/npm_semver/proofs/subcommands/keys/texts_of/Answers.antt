@@ -4,3 +4,6 @@ use Rattle.npm_semver.proofs.subcommands.keys.texts_of.Goals as goal
 
 pub loop-word-preserved : goal.loop-word-preserved
 loop-word-preserved c = grind (arith, common_steps)
+
+pub returns : goal.returns
+returns c = grind (arith, common_steps)

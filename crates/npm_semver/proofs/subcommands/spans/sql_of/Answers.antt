@@ -14,16 +14,13 @@ returns-in_err-dialect-clause-refused c =
     let h = refused_by {A = ⊤} (Err c.in_err-dialect.field-0.0) _ _ (no_sql_dialect c.args.text.now c.args.column.now (map string_bytes c.args.options.now)) c.in_err-dialect.ensures.refused in
     search rules
 
-pub returns-in_err-spans-clause-refused : goal.returns-in_err-spans-clause-refused
-returns-in_err-spans-clause-refused c =
-    let e = c.from_residual-in_err-spans.ensures in
-    let h = refused_by {A = ⊤} (Err c.in_err-spans.field-0.0) _ _ (no_sql_range c.args.text.now c.args.column.now (map string_bytes c.args.options.now)) c.in_err-spans.ensures.refused in
-    search rules
+pub returns-in-Err-clause-refused : goal.returns-in-Err-clause-refused
+returns-in-Err-clause-refused c = refused_by {A = ⊤} (Err c.in-Err.failure) _ _ (no_sql_range c.args.text.now c.args.column.now (map string_bytes c.args.options.now)) c.in-Err.ensures.refused
 
 pub returns-then-not-is_column-clause-refused : goal.returns-then-not-is_column-clause-refused
 returns-then-not-is_column-clause-refused c = no_sql_column c.args.text.now c.args.column.now (map string_bytes c.args.options.now) false (grind (arith, common_steps)) refl
 
-pub returns-clause-ok : goal.returns-clause-ok
-returns-clause-ok c = sql_said c.args.text.now c.args.column.now (map string_bytes c.args.options.now) c.in_ok-dialect.dialect c.in_ok-spans.spans.items true _
-    c.in_ok-spans.ensures.ok (grind (arith, common_steps)) refl c.in_ok-dialect.ensures.ok
-    (subst (λ l. said c.in_ok-printed.field-0 ≡ reply true (Some (condition c.in_ok-dialect.dialect c.args.column.now l))) c.deref.ensures.value c.in_ok-printed.ensures)
+pub returns-in_ok-printed-in-Ok-clause-ok : goal.returns-in_ok-printed-in-Ok-clause-ok
+returns-in_ok-printed-in-Ok-clause-ok c = sql_said c.args.text.now c.args.column.now (map string_bytes c.args.options.now) c.in_ok-dialect.dialect c.in-Ok.spans.items true _
+    c.in-Ok.ensures.ok (grind (arith, common_steps)) refl c.in_ok-dialect.ensures.ok
+    (subst (λ l. said c.in_ok-printed-in-Ok.field-0 ≡ reply true (Some (condition c.in_ok-dialect.dialect c.args.column.now l))) c.deref.ensures.value c.in_ok-printed-in-Ok.ensures)
