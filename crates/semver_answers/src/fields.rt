@@ -110,24 +110,9 @@ pub(crate) fn range_field<'t>(
     requires { HasFeed text.now }
     ensures { ReadsRange text.now range.new result.0 result.1 }
 {
-    if let Ok(Some(end)) = range.read_front(text) {
-        if let Some(behind) = mark_at(text, end) {
-            return (Ok(()), behind);
-        }
+    let (read, end) = range.read_field(text);
+    match mark_at(text, end) {
+        Some(behind) => (read, behind),
+        None => unreachable!(),
     }
-    whole_range_field(text, range)
-}
-
-// `range_field` where the end of the field is looked for first.
-#[cold]
-#[inline(never)]
-fn whole_range_field<'t>(
-    text: &'t str,
-    range: &mut RangeRef<'t>,
-) -> (Result<(), Failure<SemverError>>, Behind<'t>)
-    requires { HasFeed text.now }
-    ensures { ReadsRange text.now range.new result.0 result.1 }
-{
-    let (field, behind) = cut(text);
-    (range.read(field), behind)
 }

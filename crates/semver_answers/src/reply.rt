@@ -47,8 +47,8 @@ pub(crate) struct Scratch<'t> {
 impl<'t> Scratch<'t> {
     pub(crate) fn new(alloc: Global) -> Scratch<'t> {
         Scratch {
-            range: RangeRef::any(alloc),
-            other: RangeRef::any(alloc),
+            range: RangeRef::unbounded(alloc),
+            other: RangeRef::unbounded(alloc),
         }
     }
 }

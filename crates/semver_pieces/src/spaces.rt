@@ -49,8 +49,21 @@ pub fn space_len(text: &[u8]) -> usize
     }
 }
 
-/// The text behind the whitespace at its front.
+/// The text behind the whitespace at its front. Mostly there is none, which one byte shows.
+#[inline(always)]
 pub fn skip_spaces(text: &[u8]) -> &[u8]
+    ensures { result.now ≡ drop_spaces text.now }
+{
+    match text {
+        [] => text,
+        [byte, ..] if byte.is_ascii_graphic() => text,
+        _ => skip_some(text),
+    }
+}
+
+// `skip_spaces` where there may be some.
+#[inline(never)]
+fn skip_some(text: &[u8]) -> &[u8]
     ensures { result.now ≡ drop_spaces text.now }
 {
     let mut left = text;

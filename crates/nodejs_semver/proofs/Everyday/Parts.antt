@@ -3,8 +3,7 @@ use Rattle.nodejs_semver.proofs.Common.{AreCommonParts, AreComponents, Bound, Co
 use Rattle.nodejs_semver.proofs.Common.{Span, Unbounded, VersionValue, Word, [], above, ap, append-nil, append_assoc, arith, at_most, begins}
 use Rattle.nodejs_semver.proofs.Common.{begins_second, below, bind_some, cases_Bool, common_steps, comparison_front, comparisons_front, drop}
 use Rattle.nodejs_semver.proofs.Common.{eqb-true, false, has_bars, hyphen, if_any, if◌then◌else◌, inl, inr, interval, is_empty, is_sign, length}
-use Rattle.nodejs_semver.proofs.Common.{Bool, IsUtf8, all_weaker, list_all, list_all-append, list_any, or_cases, take, ◌-◌, ◌||◌}
-use Rattle.nodejs_semver.specs.Text.Common.{ends_field}
+use Rattle.nodejs_semver.proofs.Common.{Bool, IsUtf8, all_weaker, list_all, list_all-append, list_any, take, ◌-◌, ◌||◌}
 use Rattle.std.proofs.{Math.Seq.take-append_seam, lemmas.Str.{Ascii.{IsAscii-cons, IsAscii-nil}, IsUtf8-from_ascii}}
 use Rattle.std.specs.Str.{IsAscii}
 use Rattle.nodejs_semver.proofs.Common.{length-append, meet, subst, sym, nat_tests, passed, plain, precedence, refl, same_Some, suc, table, tilde, tilde_sign}
@@ -17,8 +16,6 @@ use Rattle.nodejs_semver.specs.Text.Common.{IsCommonPart, IsCommonRange, IsCommo
 use Rattle.nodejs_semver.specs.Text.Common.{hyphen_word, more_parts, one_part, one_word, plain_word, tilde_greater_word, tilde_word, two_comparisons}
 use Rattle.{nodejs_semver.specs.Text.WordText.{above_sign, below_sign}, semver_core.proofs.Reading.Bytes.{Stop, begins-on, begins_component}}
 use Rattle.semver_core.{proofs.Reading.Bytes.{is_solid, quiet-before, stop-bar, stop-nil, stop-space}, specs.Failures.NoValue}
-unfoldable use Rattle.semver_core.specs.Internal.Reading.{list_len}
-unfoldable use Rattle.semver_core.specs.Internal.Fronts.{dotted_front}
 use Rattle.semver_core.specs.{Internal.{Fronts.after_byte, Parts.{after_bars, after_gap}, Reading.◌>>?◌}, Text.Comparators.at_least}
 
 -- it is read at the front
@@ -519,26 +516,6 @@ loop-shorter limit found new rest left next s bars = grind (arith, nat_tests, ne
 
 -- ---- a text at whose front parts stand
 
-ends-semicolon : (z : List ℕ) → EndsParts (59 ∷ z)
-unfolding list_len dotted_front after_bars
-ends-semicolon z =
-    let stop : Stop (59 ∷ z) = record { run = refl; dash = refl; plus = refl; identifier = refl; digit = refl; dot = λ limit. refl } in
-    record { ends = record { stop = stop; second = refl; dash = grind arith }; bars = refl }
-
-ends-feed : (z : List ℕ) → EndsParts (10 ∷ z)
-unfolding list_len dotted_front after_bars
-ends-feed z =
-    let stop : Stop (10 ∷ z) = record { run = refl; dash = refl; plus = refl; identifier = refl; digit = refl; dot = λ limit. refl } in
-    record { ends = record { stop = stop; second = refl; dash = grind arith }; bars = refl }
-
--- nothing goes on where a field ends
-field-ends : (rest : List ℕ) → ends_field rest ≡ true → EndsParts rest
-field-ends [] h = ends-text
-field-ends (b ∷ rest) h = elim (or_cases (b == 59) (b == 10) h) [
-  | inl mark ↦ rw (eqb-true b 59 mark) (ends-semicolon rest)
-  | inr feed ↦ rw (eqb-true b 10 feed) (ends-feed rest)
-]
-
 -- the parts take the bytes that do not follow them
 taken-is : (text x rest : List ℕ) → text ≡ x ++ rest → take (length text - length rest) text ≡ x
 taken-is text x rest h =
@@ -550,11 +527,6 @@ pub front-taken : (limit : ℕ) (text : List ℕ) (list : List (Span VersionValu
 front-taken limit text list rest h =
     let r = front_is_read limit text (list, rest) h in
     (omega (arith, ap length r.1, length-append r.0 rest), rw (taken-is text r.0 rest r.1) r.2)
-
--- what stands before the end of a field is read
-pub field-read : (limit : ℕ) (text field rest : List ℕ) (r : List (Span VersionValue)) → text ≡ field ++ rest → AreCommonParts limit field r
-    → ends_field rest ≡ true → common_fronts limit text ≡ Some (r, rest)
-field-read limit text field rest r e is h = rw e (fronts_are_read limit field rest r is (field-ends rest h))
 
 -- the bytes of the parts
 abbrev is_range_byte : ℕ → Bool

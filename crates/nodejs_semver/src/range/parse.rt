@@ -1,20 +1,21 @@
 // Ranges are read from their texts.
 
-ghost use Rattle.std.specs.Prelude.{◌++◌, ◌<◌, ◌==◌, ◌||◌, ◌↔◌, ◌≡◌, ◌≤◌, [], IfNone, IfOk, IfSome};
-ghost use Rattle.std.specs.Prelude.{IsTrue, Some, take, ℕ};
+ghost use Rattle.std.specs.Prelude.{◌<◌, ◌==◌, ◌||◌, ◌↔◌, ◌≡◌, ◌≤◌, [], drop, IfOk, IfSome, IsTrue};
+ghost use Rattle.std.specs.Prelude.{take};
 ghost use Rattle.nodejs_semver.specs.Words.{accepts, any_version, AreCommonParts, denotes, ends_field};
-ghost use Rattle.nodejs_semver.specs.Words.{false, has_bars, length, List, list_any, Means};
+ghost use Rattle.nodejs_semver.specs.Words.{false, IsRange, length, List, list_any, Means};
 ghost use Rattle.nodejs_semver.specs.Words.{MemoryOnlyIf, OnErr, OnOk, RefusedOnlyIf, Span};
 ghost use Rattle.nodejs_semver.specs.Words.{TakesMemory, true, VersionValue, Writes};
 
 use crate::range::owned::owned_intervals;
 use crate::readers::{read_any, read_common, read_front};
 use crate::{Range, RangeOf, RangeRef};
+use memchr::memchr2;
 use semver_core::cuts::Interval;
 use semver_core::{Failure, MAX_SAFE_INTEGER, SemverError, Version, VersionRef};
 use semver_pieces::Intervals;
 use smallvec::SmallVec;
-use std::alloc::{AllocError, Global};
+use std::alloc::Global;
 
 impl Range {
     /// Reads a range text of any length: parts separated by `||`, each of which is words such as
@@ -101,7 +102,7 @@ fn read_copies(text: &str, found: &mut Intervals<Version>) -> Result<(), Failure
 impl<'a> RangeRef<'a> {
     /// The range with one interval, which has no bounds, as `Range::any`. Nothing is allocated.
     #[inline(always)]
-    pub fn any(alloc: Global) -> RangeRef<'a>
+    pub fn unbounded(alloc: Global) -> RangeRef<'a>
         ensures { result ≡ any_version }
     {
         let mut intervals = SmallVec::new(alloc);
@@ -125,96 +126,128 @@ impl<'a> RangeRef<'a> {
         ensures set { IfOk result (λ range. (v : VersionValue) →
             IsTrue (accepts range v true) ↔ Writes MAX_SAFE_INTEGER text.now v) }
     {
-        let mut range = RangeRef::any(alloc);
-        if let Ok(Some(end)) = range.read_front(text) {
-            if end == text.len() {
-                return Ok(range);
-            }
-        }
-        range.read(text)?;
-        Ok(range)
+        let mut intervals = SmallVec::new(alloc);
+        read_text(text, &mut intervals)?;
+        Ok(RangeOf { intervals })
     }
 
-    /// Reads a range text in place of this range, as `parse` reads it. The range keeps the memory
-    /// that it has, so reading one text after another seldom allocates. Where there is an error,
-    /// the range is `any`.
-    #[cold]
-    #[inline(never)]
-    #[tactic(auto, using(crate::proofs::Values::spans_same))]
-    pub fn read(&mut self, text: &'a str) -> Result<(), Failure<SemverError>>
-        // The intervals are those that the text means, in order and with their builds.
-        ensures ok { OnOk result (Means MAX_SAFE_INTEGER text.now self.new) }
-        // The text is rejected only if it means none. The one other error is a failed allocation.
-        ensures refused { RefusedOnlyIf result (Means MAX_SAFE_INTEGER text.now []) }
-        // Allocation fails only if the text means two intervals or more.
-        ensures memory { MemoryOnlyIf result ((r : List (Span VersionValue)) →
-            Means MAX_SAFE_INTEGER text.now r → 1 < length r) }
-        ensures lost { OnErr result (self.new ≡ any_version) }
-    {
-        match read_any(text, &mut self.intervals) {
-            Ok(()) if !self.intervals.is_empty() => Ok(()),
-            Ok(()) => {
-                reset(&mut self.intervals);
-                Err(Failure::Refused(SemverError))
-            }
-            Err(error) => {
-                reset(&mut self.intervals);
-                Err(Failure::Memory(error))
-            }
-        }
-    }
-
-    /// Reads the common range text (see `range_fast`) at the front of a text in place of this
-    /// range, and returns where it ends, as in the fields of a line: of `^1.2.3;1.3.0` it is `^1.2.3`,
-    /// up to the place 6. Builds are read too. The range keeps the memory that it has.
+    /// Reads the range of the first field of a text, which ends before the first `;` or line feed
+    /// or with the text, in place of this range. Returns whether there is a range, as `parse` of the
+    /// field does, and the place where the field ends: of `^1.2.3;1.3.0` it is 6.
     ///
-    /// Returns `None` where no such text stands there; then the range is `any`. A common range text
-    /// that ends before a `;` or a line feed, or with the text, is always read. Fails only if
-    /// allocation fails, which happens only where `||` stands in the text; then too the range is
-    /// `any`.
-    #[inline(never)]
+    /// The range keeps the memory that it has, so that reading one field after another seldom
+    /// allocates. A common range text (see `range_fast`) is read once. Where there is an error, the
+    /// range is `unbounded`.
+    #[inline(always)]
     #[tactic(auto, using(crate::proofs::Values::spans_same))]
-    pub fn read_front(&mut self, text: &'a str) -> Result<Option<usize>, AllocError>
-        // The text up to the place is made of common parts, which have these intervals.
-        ensures some { IfOk result (λ found. IfSome found (λ end.
-            AreCommonParts MAX_SAFE_INTEGER (take end text.now) self.new)) }
-        ensures means { IfOk result (λ found. IfSome found (λ end.
-            Means MAX_SAFE_INTEGER (take end text.now) self.new)) }
-        // Neither a `;` nor a line feed stands in it.
-        ensures plain { IfOk result (λ found. IfSome found (λ end.
-            list_any (λ b. b == 59 || b == 10) (take end text.now) ≡ false)) }
-        ensures place { IfOk result (λ found. IfSome found (λ end. end ≤ length text.now)) }
-        // Such a text that ends before one of them is read.
-        ensures every { IfOk result (λ found.
-            (field rest : List ℕ) (r : List (Span VersionValue)) → text.now ≡ field ++ rest
-            → AreCommonParts MAX_SAFE_INTEGER field r → ends_field rest ≡ true
-            → found ≡ Some (length field)) }
-        ensures memory { OnErr result (has_bars text.now ≡ true) }
-        ensures none { IfOk result (λ found. IfNone found (self.new ≡ any_version)) }
-        ensures lost { OnErr result (self.new ≡ any_version) }
+    pub fn read_field(&mut self, text: &'a str) -> (Result<(), Failure<SemverError>>, usize)
+        // The field ends at the place.
+        ensures place { result.1 ≤ length text.now }
+        ensures plain { list_any (λ b. b == 59 || b == 10) (take result.1 text.now) ≡ false }
+        ensures ends { ends_field (drop result.1 text.now) ≡ true }
+        // The intervals are those that the field means, in order and with their builds.
+        ensures ok { OnOk result.0 (Means MAX_SAFE_INTEGER (take result.1 text.now) self.new) }
+        // The field is rejected only if it means none. The one other error is a failed allocation.
+        ensures refused { RefusedOnlyIf result.0 (Means MAX_SAFE_INTEGER (take result.1 text.now) []) }
+        // Allocation fails only if the field means two intervals or more.
+        ensures memory { MemoryOnlyIf result.0 ((r : List (Span VersionValue)) →
+            Means MAX_SAFE_INTEGER (take result.1 text.now) r → 1 < length r) }
+        ensures lost { OnErr result.0 (self.new ≡ any_version) }
     {
-        self.intervals.clear();
-        match read_front(text.as_bytes(), &mut self.intervals) {
-            Ok(Some(rest)) => Ok(Some(text.len() - rest.len())),
-            Ok(None) => {
-                reset(&mut self.intervals);
-                Ok(None)
-            }
-            Err(error) => {
-                reset(&mut self.intervals);
-                Err(error)
+        if let Some(end) = read_parts(text.as_bytes(), &mut self.intervals) {
+            if ends_field(text.as_bytes(), end) {
+                return (Ok(()), end);
             }
         }
+        read_whole_field(text, &mut self.intervals)
     }
 }
 
-// Leaves one interval, which has no bounds.
+// Reads the common parts at the front in place of what the list holds, and returns where they end;
+// `None` too where an allocation fails.
+#[inline(never)]
+fn read_parts<'a>(text: &'a [u8], found: &mut Intervals<VersionRef<'a>>) -> Option<usize>
+    ensures place { IfSome result (λ end. end ≤ length text.now) }
+    ensures some { IfSome result (λ end.
+        AreCommonParts MAX_SAFE_INTEGER (take end text.now) found.new.items) }
+{
+    found.clear();
+    match read_front(text, found) {
+        Ok(Some(rest)) => Some(text.len() - rest.len()),
+        Ok(None) | Err(_) => None,
+    }
+}
+
+// Reads the intervals of a text, one or more, in place of what the list holds.
+#[inline(always)]
+fn read_text<'a>(
+    text: &'a str,
+    found: &mut Intervals<VersionRef<'a>>,
+) -> Result<(), Failure<SemverError>>
+    ensures ok { OnOk result (Means MAX_SAFE_INTEGER text.now found.new.items) }
+    ensures range { OnOk result (IsRange MAX_SAFE_INTEGER found.new.items) }
+    ensures refused { RefusedOnlyIf result (Means MAX_SAFE_INTEGER text.now []) }
+    ensures memory { MemoryOnlyIf result ((r : List (Span VersionValue)) →
+        Means MAX_SAFE_INTEGER text.now r → 1 < length r) }
+{
+    match read_parts(text.as_bytes(), found) {
+        Some(end) if end == text.len() => Ok(()),
+        _ => read_loose(text, found),
+    }
+}
+
+// Whether a field ends at a place.
+#[inline(always)]
+fn ends_field(text: &[u8], end: usize) -> bool
+    requires { end ≤ length text.now }
+    ensures { result ≡ ends_field (drop end text.now) }
+{
+    matches!(&text[end..], [] | [b';' | b'\n', ..])
+}
+
+// `RangeRef::read_field` where the end of the field is looked for first.
 #[cold]
 #[inline(never)]
-fn reset(intervals: &mut Intervals<VersionRef<'_>>)
-    ensures { intervals.new.items ≡ any_version }
+fn read_whole_field<'a>(
+    text: &'a str,
+    found: &mut Intervals<VersionRef<'a>>,
+) -> (Result<(), Failure<SemverError>>, usize)
+    ensures place { result.1 ≤ length text.now }
+    ensures plain { list_any (λ b. b == 59 || b == 10) (take result.1 text.now) ≡ false }
+    ensures ends { ends_field (drop result.1 text.now) ≡ true }
+    ensures ok { OnOk result.0 (Means MAX_SAFE_INTEGER (take result.1 text.now) found.new.items) }
+    ensures range { OnOk result.0 (IsRange MAX_SAFE_INTEGER found.new.items) }
+    ensures refused { RefusedOnlyIf result.0 (Means MAX_SAFE_INTEGER (take result.1 text.now) []) }
+    ensures memory { MemoryOnlyIf result.0 ((r : List (Span VersionValue)) →
+        Means MAX_SAFE_INTEGER (take result.1 text.now) r → 1 < length r) }
+    ensures lost { OnErr result.0 (found.new.items ≡ any_version) }
 {
-    let alloc = *intervals.allocator();
-    *intervals = SmallVec::new(alloc);
-    intervals.push_reserved(Interval::default());
+    let end = memchr2(b';', b'\n', text.as_bytes()).unwrap_or(text.len());
+    let read = read_loose(&text[..end], found);
+    if read.is_err() {
+        let alloc = *found.allocator();
+        *found = SmallVec::new(alloc);
+        found.push_reserved(Interval::default());
+    }
+    (read, end)
+}
+
+// `read_text` where the text may have any form.
+#[cold]
+#[inline(never)]
+fn read_loose<'a>(
+    text: &'a str,
+    found: &mut Intervals<VersionRef<'a>>,
+) -> Result<(), Failure<SemverError>>
+    ensures ok { OnOk result (Means MAX_SAFE_INTEGER text.now found.new.items) }
+    ensures range { OnOk result (IsRange MAX_SAFE_INTEGER found.new.items) }
+    ensures refused { RefusedOnlyIf result (Means MAX_SAFE_INTEGER text.now []) }
+    ensures memory { MemoryOnlyIf result ((r : List (Span VersionValue)) →
+        Means MAX_SAFE_INTEGER text.now r → 1 < length r) }
+{
+    read_any(text, found)?;
+    if found.is_empty() {
+        return Err(Failure::Refused(SemverError));
+    }
+    Ok(())
 }

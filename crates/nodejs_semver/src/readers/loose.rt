@@ -86,7 +86,9 @@ pub(crate) fn read_any<'a>(text: &'a str, found: &mut Intervals<VersionRef<'a>>)
     ensures read { OnOk result (found.new.items ≡ denotes MAX_SAFE_INTEGER text.now) }
     ensures memory { OnErr result (1 < length (denotes MAX_SAFE_INTEGER text.now)) }
 {
-    found.clear();
+    if !found.is_empty() {
+        found.clear();
+    }
     let (part, rest) = next_part(text);
     if part.is_empty() && are_blank(rest) {
         return found.add(Interval::default());

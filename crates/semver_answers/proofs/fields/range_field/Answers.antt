@@ -4,10 +4,8 @@ use Rattle.semver_answers.proofs.fields.range_field.Goals as goal
 
 pub mark_at-requires-clause-inside : goal.mark_at-requires-clause-inside
 mark_at-requires-clause-inside c =
-    let found = c.in-Ok-Some.ensures in
-    let is = c.in-Ok-Some.field-0-is in
-    before_mark c.args.text.now c.in-Ok-Some.end c.requires (rw is at found.place) (rw is at found.plain)
+    before_mark c.args.text.now c.read_field.result.1 c.requires c.read_field.ensures.place c.read_field.ensures.plain
 
 pub mark_at-requires-clause-plain : goal.mark_at-requires-clause-plain
 mark_at-requires-clause-plain c =
-    unmarked (take c.in-Ok-Some.end c.args.text.now) (rw c.in-Ok-Some.field-0-is at c.in-Ok-Some.ensures.plain)
+    unmarked (take c.read_field.result.1 c.args.text.now) c.read_field.ensures.plain

@@ -1,10 +1,25 @@
-use Rattle.semver_core.proofs.Text.Spaces.{drop_spaces-more, drop_spaces-none}
-use Rattle.std.proofs.Common.{arith, sym, ◌∙◌}
-use Rattle.std.proofs.lemmas.List.{take_rest}
+use Rattle.semver_core.proofs.Text.Spaces.{drop_spaces-none}
+use Rattle.semver_core.specs.Internal.Spaces.{drop_spaces}
+unfoldable use Rattle.semver_core.specs.Internal.Spaces.{space_len}
+use Rattle.std.proofs.Common.{List, [], arith, get_or, length, refl, sym, true, ℕ, ◌<◌, ◌∷◌, ◌≡◌}
+use Rattle.std.proofs.lemmas.Bool.Decides.{nat_tests}
+use Rattle.std.specs.Char.{is_ascii_graphic}
 use Rattle.semver_pieces.proofs.spaces.skip_spaces.Goals as goal
 
-pub returns-then-len-eq0 : goal.returns-then-len-eq0
-returns-then-len-eq0 c = sym (drop_spaces-none c.spaces.left.now (omega arith)) ∙ c.spaces.invariant
+nothing : (text : List ℕ) → length text < 1 → text ≡ drop_spaces text
+unfolding space_len
+nothing [] h = sym (drop_spaces-none [] refl)
+nothing (b ∷ rest) h = absurd (omega arith)
 
-pub spaces-preserved : goal.spaces-preserved
-spaces-preserved c = grind (arith, take_rest, drop_spaces-more)
+visible : (text : List ℕ) → 0 < length text → is_ascii_graphic (get_or text 0 0) ≡ true → space_len text ≡ 0
+unfolding space_len
+visible [] some h = absurd (omega arith)
+visible (b ∷ rest) some h = grind (arith, nat_tests)
+
+pub returns-in-empty : goal.returns-in-empty
+returns-in-empty c = nothing c.args.text.now c.in-empty.len_below
+
+pub returns-in-len1-up : goal.returns-in-len1-up
+returns-in-len1-up c =
+    let dark : space_len c.args.text.now ≡ 0 = grind (arith, visible) in
+    sym (drop_spaces-none c.args.text.now dark)

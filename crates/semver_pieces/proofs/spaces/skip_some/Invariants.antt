@@ -1,6 +1,6 @@
 use Rattle.semver_core.specs.Internal.Spaces.{drop_spaces}
 use Rattle.std.proofs.Common.{length, ◌≡◌}
-use Rattle.semver_pieces.proofs.spaces.skip_spaces.Given as goal
+use Rattle.semver_pieces.proofs.spaces.skip_some.Given as goal
 
 abbrev pub invariant-spaces : goal.invariant-spaces
 invariant-spaces l = drop_spaces l.left ≡ drop_spaces l.text
