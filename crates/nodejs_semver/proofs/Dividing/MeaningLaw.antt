@@ -1,7 +1,7 @@
 -- What a text denotes is its one meaning, and the versions that are computed of it are those that it writes.
-use Rattle.nodejs_semver.proofs.{Algebra.{Accepting.accepts-held, Holds.denotes_hold}, Common.{AllByRecursion, Any, Bool, Failure, IfNone, IfSome}}
+use Rattle.nodejs_semver.proofs.{Algebra.{Accepting.accepts-held, Holds.denotes_hold}, Common.{AllByRecursion, Any, Bool, IfNone, IfSome}}
 use Rattle.nodejs_semver.proofs.Common.{IsBlank, IsCutAtBars, IsSomeAnd, IsTrim, IsTrue}
-use Rattle.nodejs_semver.proofs.Common.{IsUtf8, List, Means, MemoryOnlyIf, Option, Result, Run, Span, VersionValue, Word}
+use Rattle.nodejs_semver.proofs.Common.{IsUtf8, List, Means, Option, Run, Span, VersionValue, Word}
 use Rattle.nodejs_semver.proofs.Common.{[], accepts, and_from, ap, append-nil, arith, cases_Bool, common_steps, cut_bars, denotes}
 use Rattle.nodejs_semver.proofs.Common.{drop_spaces, empty_is, encode_utf8, encode_utf8_all, false, filter_map, flat_map, get_or, if_any, inl, inr}
 use Rattle.nodejs_semver.proofs.Common.{is_empty, len_utf8_bounds, length, length-append, length-encode, list_all, list_all-append, list_any}

@@ -52,7 +52,7 @@ pub data AreCommonParts (limit : ℕ) : List ℕ → List (Span VersionValue) �
 abbrev pub IsCommonRange : ℕ → List ℕ → List (Span VersionValue) → Type 0
 IsCommonRange limit text list = AreCommonParts limit text list × (list_any (λ b. b == 43) text ≡ false)
 
--- a field ends before this text: it is empty, or begins with a `;` or a line feed, which stand in no such parts
+-- a field ends before this text: it is empty, or begins with a `;` or a line feed; such parts have neither
 abbrev pub ends_field : List ℕ → Bool
 ends_field [] = true
 ends_field (b ∷ rest) = b == 59 || b == 10

@@ -2,7 +2,7 @@
 
 ghost use Rattle.std.specs.Prelude.{◌<◌, ◌==◌, ◌||◌, ◌↔◌, ◌≡◌, ◌≤◌, [], drop, IfOk, IfSome, IsTrue};
 ghost use Rattle.std.specs.Prelude.{take};
-ghost use Rattle.nodejs_semver.specs.Words.{accepts, any_version, AreCommonParts, denotes, ends_field};
+ghost use Rattle.nodejs_semver.specs.Words.{accepts, AreCommonParts, denotes, ends_field};
 ghost use Rattle.nodejs_semver.specs.Words.{false, IsRange, length, List, list_any, Means};
 ghost use Rattle.nodejs_semver.specs.Words.{MemoryOnlyIf, OnErr, OnOk, RefusedOnlyIf, Span};
 ghost use Rattle.nodejs_semver.specs.Words.{TakesMemory, true, VersionValue, Writes};
@@ -100,16 +100,6 @@ fn read_copies(text: &str, found: &mut Intervals<Version>) -> Result<(), Failure
 }
 
 impl<'a> RangeRef<'a> {
-    /// The range with one interval, which has no bounds, as `Range::any`. Nothing is allocated.
-    #[inline(always)]
-    pub fn unbounded(alloc: Global) -> RangeRef<'a>
-        ensures { result ≡ any_version }
-    {
-        let mut intervals = SmallVec::new(alloc);
-        intervals.push_reserved(Interval::default());
-        RangeOf { intervals }
-    }
-
     /// Reads a range text of any length, as `Range::parse` does. The range borrows the text. One
     /// interval stands inline, so that allocation fails only if the text means two or more.
     #[tactic(auto, using(crate::proofs::Values::spans_same))]
@@ -131,28 +121,20 @@ impl<'a> RangeRef<'a> {
         Ok(RangeOf { intervals })
     }
 
-    /// Reads the range of the first field of a text, which ends before the first `;` or line feed
-    /// or with the text, in place of this range. Returns whether there is a range, as `parse` of the
-    /// field does, and the place where the field ends: of `^1.2.3;1.3.0` it is 6.
-    ///
-    /// The range keeps the memory that it has, so that reading one field after another seldom
-    /// allocates. A common range text (see `range_fast`) is read once. Where there is an error, the
-    /// range is `unbounded`.
+    // `RangeReader::read_field` in place of this range. Where there is an error, the range has one
+    // interval without bounds.
     #[inline(always)]
     #[tactic(auto, using(crate::proofs::Values::spans_same))]
-    pub fn read_field(&mut self, text: &'a str) -> (Result<(), Failure<SemverError>>, usize)
-        // The field ends at the place.
+    fn read_field(&mut self, text: &'a str) -> (Result<(), Failure<SemverError>>, usize)
         ensures place { result.1 ≤ length text.now }
         ensures plain { list_any (λ b. b == 59 || b == 10) (take result.1 text.now) ≡ false }
         ensures ends { ends_field (drop result.1 text.now) ≡ true }
-        // The intervals are those that the field means, in order and with their builds.
         ensures ok { OnOk result.0 (Means MAX_SAFE_INTEGER (take result.1 text.now) self.new) }
-        // The field is rejected only if it means none. The one other error is a failed allocation.
-        ensures refused { RefusedOnlyIf result.0 (Means MAX_SAFE_INTEGER (take result.1 text.now) []) }
-        // Allocation fails only if the field means two intervals or more.
+        ensures some { 0 < length self.new }
+        ensures refused { RefusedOnlyIf result.0
+            (Means MAX_SAFE_INTEGER (take result.1 text.now) []) }
         ensures memory { MemoryOnlyIf result.0 ((r : List (Span VersionValue)) →
             Means MAX_SAFE_INTEGER (take result.1 text.now) r → 1 < length r) }
-        ensures lost { OnErr result.0 (self.new ≡ any_version) }
     {
         if let Some(end) = read_parts(text.as_bytes(), &mut self.intervals) {
             if ends_field(text.as_bytes(), end) {
@@ -160,6 +142,55 @@ impl<'a> RangeRef<'a> {
             }
         }
         read_whole_field(text, &mut self.intervals)
+    }
+}
+
+/// Memory that the ranges of fields are read into, one after another: it is kept from one range to
+/// the next, so that reading them seldom allocates.
+#[derive(Drop)]
+pub struct RangeReader<'a> {
+    range: RangeRef<'a>,
+}
+
+impl<'a> RangeReader<'a> {
+    /// A reader that has read nothing. Nothing is allocated.
+    pub fn new(alloc: Global) -> RangeReader<'a> {
+        let mut intervals = SmallVec::new(alloc);
+        intervals.push_reserved(Interval::default());
+        let range = RangeOf { intervals };
+        RangeReader { range }
+    }
+
+    /// Reads the range of the first field of a text, which ends before the first `;` or line feed
+    /// or with the text. Returns the range, as `RangeRef::parse` reads it of the field, and the
+    /// place where the field ends: of `^1.2.3;1.3.0` it is 6. The range stays until the next call.
+    ///
+    /// A common range text (see `range_fast`) is read once. One interval stands inline, so that
+    /// allocation fails only if the field means two or more.
+    #[inline(always)]
+    pub fn read_field(
+        &mut self,
+        text: &'a str,
+    ) -> (Result<&RangeRef<'a>, Failure<SemverError>>, usize)
+        // The field ends at the place.
+        ensures place { result.1 ≤ length text.now }
+        ensures plain { list_any (λ b. b == 59 || b == 10) (take result.1 text.now) ≡ false }
+        ensures ends { ends_field (drop result.1 text.now) ≡ true }
+        // The intervals are those that the field means, in order and with their builds.
+        ensures ok { IfOk result.0 (λ range.
+            Means MAX_SAFE_INTEGER (take result.1 text.now) range.now) }
+        ensures some { IfOk result.0 (λ range. 0 < length range.now) }
+        // The field is rejected only if it means none. The one other error is a failed allocation.
+        ensures refused { RefusedOnlyIf result.0
+            (Means MAX_SAFE_INTEGER (take result.1 text.now) []) }
+        // Allocation fails only if the field means two intervals or more.
+        ensures memory { MemoryOnlyIf result.0 ((r : List (Span VersionValue)) →
+            Means MAX_SAFE_INTEGER (take result.1 text.now) r → 1 < length r) }
+    {
+        match self.range.read_field(text) {
+            (Ok(()), end) => (Ok(&self.range), end),
+            (Err(error), end) => (Err(error), end),
+        }
     }
 }
 
@@ -205,7 +236,7 @@ fn ends_field(text: &[u8], end: usize) -> bool
     matches!(&text[end..], [] | [b';' | b'\n', ..])
 }
 
-// `RangeRef::read_field` where the end of the field is looked for first.
+// `RangeReader::read_field` where the end of the field is looked for first.
 #[cold]
 #[inline(never)]
 fn read_whole_field<'a>(
@@ -216,11 +247,11 @@ fn read_whole_field<'a>(
     ensures plain { list_any (λ b. b == 59 || b == 10) (take result.1 text.now) ≡ false }
     ensures ends { ends_field (drop result.1 text.now) ≡ true }
     ensures ok { OnOk result.0 (Means MAX_SAFE_INTEGER (take result.1 text.now) found.new.items) }
-    ensures range { OnOk result.0 (IsRange MAX_SAFE_INTEGER found.new.items) }
-    ensures refused { RefusedOnlyIf result.0 (Means MAX_SAFE_INTEGER (take result.1 text.now) []) }
+    ensures range { IsRange MAX_SAFE_INTEGER found.new.items }
+    ensures refused { RefusedOnlyIf result.0
+        (Means MAX_SAFE_INTEGER (take result.1 text.now) []) }
     ensures memory { MemoryOnlyIf result.0 ((r : List (Span VersionValue)) →
         Means MAX_SAFE_INTEGER (take result.1 text.now) r → 1 < length r) }
-    ensures lost { OnErr result.0 (found.new.items ≡ any_version) }
 {
     let end = memchr2(b';', b'\n', text.as_bytes()).unwrap_or(text.len());
     let read = read_loose(&text[..end], found);

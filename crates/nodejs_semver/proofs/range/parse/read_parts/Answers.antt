@@ -1,4 +1,4 @@
-use Rattle.nodejs_semver.proofs.Common.{AreCommonParts, List, MAX_SAFE_INTEGER, Some, arith, length, take, ◌-◌, ◌≡◌, ◌≤◌, ℕ}
+use Rattle.nodejs_semver.proofs.Common.{MAX_SAFE_INTEGER, Some, arith, ◌≡◌}
 use Rattle.nodejs_semver.proofs.Everyday.Parts.{front-taken}
 use Rattle.nodejs_semver.specs.Internal.CommonFronts.{common_fronts}
 use Rattle.nodejs_semver.proofs.range.parse.read_parts.Goals as goal

@@ -1,4 +1,4 @@
-use Rattle.nodejs_semver.proofs.Common.{AreCommonParts, List, MAX_SAFE_INTEGER, length, subst, take, take_all, ◌≡◌, ℕ, arith}
+use Rattle.nodejs_semver.proofs.Common.{AreCommonParts, List, MAX_SAFE_INTEGER, subst, take, take_all, ◌≡◌, ℕ, arith}
 use Rattle.nodejs_semver.proofs.Everyday.Whole.{common_is_meant, common_is_range}
 use Rattle.nodejs_semver.proofs.range.parse.read_text.Goals as goal
 use Rattle.nodejs_semver.proofs.range.parse.read_text.Goals.{Then-end-text}

@@ -1,4 +1,4 @@
-use Rattle.nodejs_semver.proofs.Common.{arith, refl, sym, ap, ◌∙◌, inr, MAX_SAFE_INTEGER, rest_view, on_err}
+use Rattle.nodejs_semver.proofs.Common.{refl, sym, ap, ◌∙◌, inr, MAX_SAFE_INTEGER, rest_view, on_err}
 use Rattle.nodejs_semver.proofs.Everyday.Parts.{loop-bars, loop-ends, loop-goes, loop-no_part, loop-shorter, loop-starts}
 use Rattle.nodejs_semver.proofs.readers.fast.read_front.Goals as goal
 

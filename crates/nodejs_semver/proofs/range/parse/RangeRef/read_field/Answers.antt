@@ -21,3 +21,10 @@ returns-then-ends_field-clause-ok c = rw spans_same
 
 pub returns-clause-ok : goal.returns-clause-ok
 returns-clause-ok c = rw spans_same c.read_whole_field.ensures.ok
+
+pub returns-then-ends_field-clause-some : goal.returns-then-ends_field-clause-some
+returns-then-ends_field-clause-some c = rw spans_same
+    (common_is_range MAX_SAFE_INTEGER (take c.in-Some.end c.args.text.now) c.read_parts.new.found.items (read c)).some
+
+pub returns-clause-some : goal.returns-clause-some
+returns-clause-some c = rw spans_same c.read_whole_field.ensures.range.some
