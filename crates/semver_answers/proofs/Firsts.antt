@@ -3,7 +3,7 @@ use Rattle.std.proofs.Common.{◌≡◌, ◌==◌, ◌<◌, ◌≤◌, ◌+◌, 
 use Rattle.std.proofs.Common.{None, append-nil, length, take, drop, get_or, refl, sym, ap, arith, inl, inr}
 use Rattle.memchr.specs.Find.{IsFirstByte, is_byte, is_byte2}
 use Rattle.std.proofs.Math.Nat.{eq-or-lt_of_le}
-use Rattle.std.proofs.Math.Seq.{get_or-append_seam, split_at, take-append_seam}
+use Rattle.std.proofs.Math.Seq.{drop-cons, get_or-append_seam, split_at, take-append_seam}
 use Rattle.std.proofs.lemmas.Bool.{cases_Bool, eqb-true, false_from_ne_true, false≢true}
 use Rattle.std.proofs.lemmas.List.{get_or-take, length-append, length-take-le, take-append-drop, take-append-le, take_all, take_more}
 use Rattle.std.proofs.lemmas.List.Elements.{All-from_get_or, All-head, All-tail}
@@ -20,6 +20,7 @@ use Rattle.semver_core.specs.Values.Versions.{VersionValue}
 use Rattle.std.specs.Borrow.{Bor}
 use Rattle.semver_answers.specs.declared.fields.Behind.TheVariants.{Fields, Lines}
 use Rattle.semver_answers.specs.Internal.Ahead.{Cuts, HasFeed, behind_line, ends_whole, fields_ahead, first_line}
+use Rattle.nodejs_semver.specs.Text.Common.{ends_field}
 use Rattle.semver_answers.specs.Lines.{fields, no_feed}
 
 abbrev is_feed : ℕ → Bool
@@ -232,6 +233,10 @@ before_mark text n feed le h = elim (eq-or-lt_of_le le) [
       absurd (false≢true (sym feed ∙ no_feed_by text (no_line_feed text (rw whole at plain))))
   | inr inside ↦ inside
 ]
+
+-- a mark stands where a field ends, unless it is the end of the text
+pub end_marked : (text : List ℕ) (n : ℕ) → n < length text → ends_field (drop n text) ≡ true → is_byte2 59 10 (get_or text n 0) ≡ true
+end_marked text n inside h = rw (drop-cons text n 0 inside) at h
 
 -- ---- whole lines
 

@@ -9,7 +9,7 @@ ghost use Rattle.semver_answers.specs.Internal.Ahead.{Cuts, HasFeed, IsNext};
 ghost use Rattle.semver_answers.specs.Internal.Results.{ReadsRange, ReadsVersion};
 
 use memchr::{memchr, memchr2};
-use nodejs_semver::{Failure, MAX_LENGTH, RangeRef, SemverError, VersionRef};
+use nodejs_semver::{Failure, MAX_LENGTH, RangeReader, RangeRef, SemverError, VersionRef};
 
 /// What stands behind a field.
 #[derive(Clone, Copy)]
@@ -100,19 +100,19 @@ fn whole_version_field(text: &str) -> (Result<VersionRef<'_>, SemverError>, Behi
     (VersionRef::parse(field), behind)
 }
 
-/// Reads the range of the first field in place of this range. Returns whether there is one, and
-/// what stands behind the field. The field is read once, unless it is no common range text.
+/// The range of the first field, or why there is none, and what stands behind the field. The field
+/// is read once, unless it is no common range text.
 #[inline(always)]
-pub(crate) fn range_field<'t>(
+pub(crate) fn range_field<'r, 't>(
     text: &'t str,
-    range: &mut RangeRef<'t>,
-) -> (Result<(), Failure<SemverError>>, Behind<'t>)
+    reader: &'r mut RangeReader<'t>,
+) -> (Result<&'r RangeRef<'t>, Failure<SemverError>>, Behind<'t>)
     requires { HasFeed text.now }
-    ensures { ReadsRange text.now range.new result.0 result.1 }
+    ensures { ReadsRange text.now result.0 result.1 }
 {
-    let (read, end) = range.read_field(text);
+    let (range, end) = reader.read_field(text);
     match mark_at(text, end) {
-        Some(behind) => (read, behind),
+        Some(behind) => (range, behind),
         None => unreachable!(),
     }
 }

@@ -25,16 +25,13 @@ pub(crate) fn version_of<'p, 'a>(
 /// The range that was read, where it stands.
 #[inline(always)]
 pub(crate) fn range_of<'p, 'a>(
-    read: &Result<(), Failure<SemverError>>,
-    range: &'p RangeRef<'a>,
+    parsed: &Result<&'p RangeRef<'a>, Failure<SemverError>>,
 ) -> Result<&'p RangeRef<'a>, Failure<Fault>>
-    ensures { (text : List ℕ) → ParsesRange text range.now read.now
+    ensures { (text : List ℕ) → ParsesRange text parsed.now
         → IsReadAs (λ r. r.now) result (IsRangeOf text) }
 {
-    // Proof helper: a range has an interval. The call has no effect at run time.
-    let _intervals = range.items();
-    match read {
-        Ok(()) => Ok(range),
+    match parsed {
+        Ok(range) => Ok(*range),
         Err(Failure::Refused(_)) => Err(Failure::Refused(Fault::BadRange)),
         Err(Failure::Memory(_)) => Err(Failure::Memory(AllocError)),
     }

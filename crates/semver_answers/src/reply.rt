@@ -33,22 +33,22 @@ use crate::parts::{Combination, put_combined};
 use crate::question::{
     AboutBest, AboutMatch, AboutRange, AboutRanges, AboutVersion, AboutVersions,
 };
-use nodejs_semver::{Failure, IdentifierBase, RangeRef, VersionRef};
+use nodejs_semver::{Failure, IdentifierBase, RangeReader, RangeRef, VersionRef};
 use std::alloc::{AllocError, Global};
 
 /// The ranges of a line. The next line is read into the same ones, so that their memory is used
 /// again.
 #[derive(Drop)]
 pub(crate) struct Scratch<'t> {
-    range: RangeRef<'t>,
-    other: RangeRef<'t>,
+    range: RangeReader<'t>,
+    other: RangeReader<'t>,
 }
 
 impl<'t> Scratch<'t> {
     pub(crate) fn new(alloc: Global) -> Scratch<'t> {
         Scratch {
-            range: RangeRef::unbounded(alloc),
-            other: RangeRef::unbounded(alloc),
+            range: RangeReader::new(alloc),
+            other: RangeReader::new(alloc),
         }
     }
 }
@@ -184,7 +184,7 @@ fn on_range<'t>(
     alloc: Global,
     texts: &'t str,
     asked: AboutRange,
-    range: &mut RangeRef<'t>,
+    range: &mut RangeReader<'t>,
     output: &mut Output,
 ) -> Result<&'t str, Failure<Fault>>
     requires { HasFeed texts.now }
@@ -196,7 +196,7 @@ fn on_range<'t>(
     let Behind::Lines(next) = behind else {
         return Err(Failure::Refused(Fault::BadLine));
     };
-    let range = range_of(&read, range)?;
+    let range = range_of(&read)?;
     told(asked.reply(alloc, range, output), next)
 }
 
@@ -205,8 +205,8 @@ fn on_ranges<'t>(
     alloc: Global,
     texts: &'t str,
     asked: AboutRanges,
-    range: &mut RangeRef<'t>,
-    other: &mut RangeRef<'t>,
+    range: &mut RangeReader<'t>,
+    other: &mut RangeReader<'t>,
     output: &mut Output,
 ) -> Result<&'t str, Failure<Fault>>
     requires { HasFeed texts.now }
@@ -222,8 +222,8 @@ fn on_ranges<'t>(
     let Behind::Lines(next) = behind else {
         return Err(Failure::Refused(Fault::BadLine));
     };
-    let range = range_of(&read, range)?;
-    let other = range_of(&other_read, other)?;
+    let range = range_of(&read)?;
+    let other = range_of(&other_read)?;
     told(asked.reply(alloc, range, other, output), next)
 }
 
@@ -231,7 +231,7 @@ fn on_ranges<'t>(
 fn on_match<'t>(
     texts: &'t str,
     asked: AboutMatch,
-    range: &mut RangeRef<'t>,
+    range: &mut RangeReader<'t>,
     output: &mut Output,
 ) -> Result<&'t str, Failure<Fault>>
     requires two { IsTwo asked }
@@ -248,7 +248,7 @@ fn on_match<'t>(
     let Behind::Lines(next) = behind else {
         return Err(Failure::Refused(Fault::BadLine));
     };
-    let range = range_of(&read, range)?;
+    let range = range_of(&read)?;
     let version = version_of(&version)?;
     told(put_truth(asked.reply(range, version), output), next)
 }
@@ -256,7 +256,7 @@ fn on_match<'t>(
 #[inline(never)]
 fn on_outside<'t>(
     texts: &'t str,
-    range: &mut RangeRef<'t>,
+    range: &mut RangeReader<'t>,
     output: &mut Output,
 ) -> Result<&'t str, Failure<Fault>>
     requires { HasFeed texts.now }
@@ -275,7 +275,7 @@ fn on_outside<'t>(
     let Some((asked, next)) = AboutMatch::outside(side) else {
         return Err(Failure::Refused(Fault::BadLine));
     };
-    let range = range_of(&read, range)?;
+    let range = range_of(&read)?;
     let version = version_of(&version)?;
     told(put_truth(asked.reply(range, version), output), next)
 }
@@ -284,7 +284,7 @@ fn on_outside<'t>(
 fn on_best<'t>(
     texts: &'t str,
     asked: AboutBest,
-    range: &mut RangeRef<'t>,
+    range: &mut RangeReader<'t>,
     output: &mut Output,
 ) -> Result<&'t str, Failure<Fault>>
     requires { HasFeed texts.now }
@@ -296,7 +296,7 @@ fn on_best<'t>(
     let Behind::Fields(versions) = behind else {
         return Err(Failure::Refused(Fault::BadLine));
     };
-    let range = range_of(&read, range)?;
+    let range = range_of(&read)?;
     let (best, next) = best_of(asked, range, versions)?;
     told(put_borrowed(best, output), next)
 }

@@ -1,7 +1,8 @@
 -- For proofs. What the results of reading a question's texts, and of replying to it, say.
-use Rattle.std.specs.Prelude.{◌≡◌, ◌++◌, ℕ, List, [], Option}
-use Rattle.std.specs.Prelude.{Result, Ok, Err, IfErr, IfOk, OnOk}
+use Rattle.std.specs.Prelude.{◌≡◌, ◌<◌, ◌++◌, ℕ, List, [], Option}
+use Rattle.std.specs.Prelude.{Result, Ok, Err, IfErr, IfOk, length}
 use Rattle.std.specs.Prelude.{false, ⊤}
+use Rattle.std.specs.Borrow.{Bor}
 use Rattle.std.specs.declared.alloc.AllocError.{AllocError}
 use Rattle.semver_core.specs.Cuts.{Span}
 use Rattle.semver_core.specs.Failures.{RefusedOnlyIf, NoValue}
@@ -31,9 +32,9 @@ abbrev pub ParsesVersion : List ℕ → Result VersionValue SemverError → Type
 ParsesVersion text result =
     IfOk result (Parses MAX_SAFE_INTEGER text) × IfErr result (λ _. NoValue (Parses MAX_SAFE_INTEGER text))
 
-abbrev pub ParsesRange : List ℕ → List (Span VersionValue) → Result ⊤ (Failure SemverError) → Type 0
-ParsesRange text range result =
-    OnOk result (Means MAX_SAFE_INTEGER text range) × RefusedOnlyIf result (Means MAX_SAFE_INTEGER text [])
+abbrev pub ParsesRange : List ℕ → Result (Bor (List (Span VersionValue))) (Failure SemverError) → Type 0
+ParsesRange text result = IfOk result (λ range. Means MAX_SAFE_INTEGER text range.now)
+    × IfOk result (λ range. 0 < length range.now) × RefusedOnlyIf result (Means MAX_SAFE_INTEGER text [])
 
 -- a text is none, by this error, unless an allocation failed
 abbrev pub IsFault : {B : Type 0} → Failure Fault → (Result B Fault → Type 0) → Type 0
@@ -65,11 +66,11 @@ pub record ReadsVersion (text : List ℕ) (version : Result VersionValue SemverE
   pub parsed : ParsesVersion field version
 
 -- the first field was read as this range, and what stands behind it is left
-pub record ReadsRange (text : List ℕ) (range : List (Span VersionValue)) (result : Result ⊤ (Failure SemverError))
+pub record ReadsRange (text : List ℕ) (range : Result (Bor (List (Span VersionValue))) (Failure SemverError))
     (behind : Behind) : Type 0 where
   pub field : List ℕ
   pub cuts : Cuts text field behind
-  pub parsed : ParsesRange field range result
+  pub parsed : ParsesRange field range
 
 -- the answer to a line of these fields
 pub data AnswersFields (line : List (List ℕ)) (answer : List ℕ) : Type 0 where

@@ -1,11 +1,17 @@
-use Rattle.std.proofs.Common.{take}
-use Rattle.semver_answers.proofs.Firsts.{before_mark, unmarked}
+use Rattle.std.proofs.Common.{sym, take, ◌∙◌}
+use Rattle.std.proofs.lemmas.Bool.{false≢true}
+use Rattle.semver_answers.proofs.Firsts.{before_mark, end_marked, unmarked}
 use Rattle.semver_answers.proofs.fields.range_field.Goals as goal
 
 pub mark_at-requires-clause-inside : goal.mark_at-requires-clause-inside
 mark_at-requires-clause-inside c =
-    before_mark c.args.text.now c.read_field.result.1 c.requires c.read_field.ensures.place c.read_field.ensures.plain
+    before_mark c.args.text.now c.read_field-end.result.1 c.requires c.read_field-end.ensures.place c.read_field-end.ensures.plain
 
 pub mark_at-requires-clause-plain : goal.mark_at-requires-clause-plain
 mark_at-requires-clause-plain c =
-    unmarked (take c.read_field.result.1 c.args.text.now) c.read_field.ensures.plain
+    unmarked (take c.read_field-end.result.1 c.args.text.now) c.read_field-end.ensures.plain
+
+pub unreachable-requires : goal.unreachable-requires
+unreachable-requires c =
+    let inside = before_mark c.args.text.now c.read_field-end.result.1 c.requires c.read_field-end.ensures.place c.read_field-end.ensures.plain in
+    false≢true (sym c.in-None.ensures.none ∙ end_marked c.args.text.now c.read_field-end.result.1 inside c.read_field-end.ensures.ends)

@@ -12,19 +12,19 @@ use Rattle.semver_answers.proofs.reply.on_match.Goals as goal
 
 pub returns-in_default-clause-told : goal.returns-in_default-clause-told
 returns-in_default-clause-told c =
-    let r = c.range_field-read.ensures in
+    let r = c.range_field.ensures in
     (refl, unasked (match_none c.args.asked c.requires.two _ (one_is_not_two c.args.texts.now r.field (single _ _ _ _ r.cuts c.in_default.is))) refl)
 
 pub returns-in_default-behind-clause-told : goal.returns-in_default-behind-clause-told
 returns-in_default-behind-clause-told c =
-    let r = c.range_field-read.ensures in
+    let r = c.range_field.ensures in
     let v = c.version_field-version.ensures in
     let e = three _ _ _ _ _ _ _ r.cuts c.in-Fields.is v.cuts c.in_default-behind.is in
     (refl, unasked (match_none c.args.asked c.requires.two _ (three_is_not_two c.args.texts.now r.field v.field c.in_default-behind.field-0.now e)) refl)
 
 pub returns-in_err-range-clause-told : goal.returns-in_err-range-clause-told
 returns-in_err-range-clause-told c =
-    let r = c.range_field-read.ensures in
+    let r = c.range_field.ensures in
     let v = c.version_field-version.ensures in
     let both = pair _ _ _ _ _ _ _ r.cuts c.in-Fields.is v.cuts c.in-Lines.is in
     told_asked _ (Match (r.field, v.field) c.args.asked) _ _ _ (match_asked c.args.asked c.requires.two r.field v.field _ both)
@@ -32,7 +32,7 @@ returns-in_err-range-clause-told c =
 
 pub returns-in_err-version-clause-told : goal.returns-in_err-version-clause-told
 returns-in_err-version-clause-told c =
-    let r = c.range_field-read.ensures in
+    let r = c.range_field.ensures in
     let v = c.version_field-version.ensures in
     let both = pair _ _ _ _ _ _ _ r.cuts c.in-Fields.is v.cuts c.in-Lines.is in
     told_asked _ (Match (r.field, v.field) c.args.asked) _ _ _ (match_asked c.args.asked c.requires.two r.field v.field _ both)
@@ -41,7 +41,7 @@ returns-in_err-version-clause-told c =
 
 pub returns-clause-told : goal.returns-clause-told
 returns-clause-told c =
-    let r = c.range_field-read.ensures in
+    let r = c.range_field.ensures in
     let v = c.version_field-version.ensures in
     let both = pair _ _ _ _ _ _ _ r.cuts c.in-Fields.is v.cuts c.in-Lines.is in
     told_says _ c.put_truth.result _ _ _ _ _ c.told.ensures c.put_truth.ensures.ok (on_err_weaker c.put_truth.result (as_it_was _ _) c.put_truth.ensures.err)
