@@ -1,14 +1,14 @@
-"""What a crate sees of the crates below it: of the libraries of their contracts alone, each declaration whose name it says, and each whose
-name one of these says, and so on. Comments, imports and the lines that say how something is inlined do not count, and neither does a
-function that is not public, unless it is a constant one or a member of a trait: no crate above can call it. A type that is not public
-counts only where what is seen names it.
+"""What a crate sees of the crates below it: of the libraries of their contracts alone, each declaration that it names, and each that one of
+these names, and so on. A definition or a lemma is named where it is imported, or in its own file; a name of Rust anywhere. Comments and the
+lines that say how something is inlined do not count, and neither does a function that is not public, unless it is a constant one or a
+member of a trait: no crate above can call it. A type that is not public counts only where what is seen names it.
 
 So what is added to a crate below changes nothing for a crate that does not name it, and neither does a body, a proof or the contract of a
 private function there."""
 import functools
 import re
 
-from bodiless import all_texts, contracts
+from bodiless import all_texts, contracts, ungrouped
 from libraries import crates
 from repository import TOP
 
@@ -20,6 +20,7 @@ BLOCK = re.compile(r"(?:pub(?:\([^)]*\))? )?(impl|trait)\b(.*)")
 ITEM = re.compile(r"^(?: *)(?:pub(?:\([^)]*\))? )?(?:final )?(?:const )?(?:unsafe )?(?:extern \"C\" )?(?:fn|struct|enum|union|type|const|static|ghost) (\w+)", re.M)
 # A function that only its own crate can call; a constant one may stand in a type.
 PRIVATE = re.compile(r"^ *(?:pub\([^)]*\) )?(?:unsafe )?fn ", re.M)
+OWN_TRAIT = re.compile(r"^(?:pub\([^)]*\) )?trait (\w+)", re.M)
 OWN_TYPE = re.compile(r"^(?:pub\([^)]*\) )?(?:struct|enum|union|type) ", re.M)
 DECLARED = re.compile(r"^ *(?:abbrev |unfoldable |opaque |pub |record |data |ruleset )*([^\W\d][\w'-]*)")
 VARIANT = re.compile(r"^  (?:pub )?((?:[^\W\d][\w'-]* )+)(?::|$)", re.M)
@@ -33,20 +34,22 @@ def words(text):
 
 
 class Piece:
-    """A declaration of a file: it is seen where one of its names is said, and all that it needs beside; without names it always is."""
+    """A declaration of a file: it is seen where one of its names is said, and all that it needs beside; without names it always is. A member
+    of a type is said where it stands behind a dot or a path."""
 
     def __init__(self, file, text, names=(), needs=()):
         self.file, self.text, self.names, self.needs = file, text, set(names), set(needs)
         # A type that only its own crate can name.
         self.is_own = OWN_TYPE.search(text) is not None
 
-    def is_seen(self, said):
-        return (not self.names or bool(self.names & said)) and self.needs <= said
+    def is_seen(self, said, called):
+        return (not self.names or bool(self.names & (called if self.needs else said))) and self.needs <= said
 
 
-def of_rust(file, text):
-    """Returns the pieces of a file of Rattle, in rt fmt's layout: a member of an impl block needs its type, and that of a trait's impl no name."""
-    found, owner, is_trait = [], None, False
+def of_rust(file, text, own=()):
+    """Returns the pieces of a file of Rattle, in rt fmt's layout: a member of an impl block needs its type, and that of a trait's impl no name.
+    The given traits are their crate's own, which no other crate can name; neither they nor their impls are pieces."""
+    found, owner, is_trait, is_hidden = [], None, False, False
     for part in filter(None, (it.strip("\n") for it in IDLE.sub("", text).split("\n\n"))):
         if not part.startswith((" ", "}")):
             owner = None
@@ -54,15 +57,19 @@ def of_rust(file, text):
                 head = re.sub(r"<[^<>]*(?:<[^<>]*>[^<>]*)*>", "", block[2])
                 owner = WORD.findall(head.split(" for ")[-1].split("where")[0])[:1]
                 is_trait = block[1] == "trait" or " for " in head
+                is_hidden = is_trait and bool({*own} & {*WORD.findall(head.split(" for ")[0])[:1]})
+                if is_hidden:
+                    continue
                 if not is_trait and PRIVATE.search(part):
                     # The first member stands right below the head.
                     part = part.partition("{\n")[0]
-                found.append(Piece(file, part, owner))
+                found.append(Piece(file, part.removesuffix("\n}"), owner))
                 continue
             if not SKIPPED.match(part) and not PRIVATE.search(part):
                 found.append(Piece(file, part, ITEM.findall(part)[:1]))
-        elif part.strip() != "}" and (is_trait or not PRIVATE.search(part)):
-            found.append(Piece(file, part, () if is_trait else ITEM.findall(part)[:1], owner or ()))
+        elif not is_hidden and part.strip() != "}" and (is_trait or not PRIVATE.search(part)):
+            # Which member is the last one of its block makes no difference.
+            found.append(Piece(file, part.removesuffix("\n}"), () if is_trait else ITEM.findall(part)[:1], owner or ()))
     return found
 
 
@@ -78,22 +85,102 @@ def of_antt(file, text):
     return found
 
 
+IMPORT = re.compile(r"^ *(?:pub )?(?:unfoldable )?(?:pub )?(?:ghost )?use (Rattle\.[^;\n]*)", re.M)
+PASSED_ON = re.compile(r"^ *(?:unfoldable )?pub use (Rattle\.[^\n]*)", re.M)
+CITED = re.compile(r"\b\w+(?:::\w+)*::proofs(?:::[\w'-]+)+|\b\w+(?:::\w+)*::specs(?:::[\w'-]+)+")
+COMMENT = re.compile(r"(?://|(?<!\S)--(?!\S)).*")
+
+
+def paths(lines):
+    """Returns what some lines import, each as its path and the name that it has there."""
+    items = [it.strip() for line in lines for it in ungrouped(line).split(",")]
+    return [(path.strip().removeprefix("Rattle."), (alias or path.rpartition(".")[2]).strip()) for it in items for path, _, alias in [it.partition(" as ")]]
+
+
+class Module:
+    """A file of a crate below, or of the crate itself: its text, what it declares and imports, and what it passes on."""
+
+    def __init__(self, file, text, declared=()):
+        self.declared, self.imported = {}, {}
+        for it in declared:
+            for name in it.names:
+                self.declared.setdefault(name, []).append(it)
+        cited = [(it.replace("::", "."), it.rpartition("::")[2]) for it in CITED.findall(text)] if file.endswith(".rt") else []
+        for path, name in paths(IMPORT.findall(text)) + cited:
+            self.imported.setdefault(name, set()).add(path)
+        self.passed_on = [(path, name) for path, name in paths(PASSED_ON.findall(text))]
+
+
+class Below:
+    """The definitions and lemmas of the crates below a crate, by the paths of their modules."""
+
+    def __init__(self, crate):
+        names = [below.name for below in crates()[crate].below()]
+        self.pieces = [it for name in names for it in pieces(name)]
+        declared = {}
+        for it in self.pieces:
+            declared.setdefault(it.file, []).append(it)
+        self.modules = {file: Module(file, text, declared.get(file, ())) for name in names for file, text in texts(name).items()}
+        self.at = {file.removesuffix(".antt").replace("/", "."): it for file, it in self.modules.items() if file.endswith(".antt")}
+
+    def found(self, path):
+        """Returns the pieces that a path names, through the modules that pass it on."""
+        module, _, name = path.rpartition(".")
+        it, found = self.at.get(module), []
+        if it:
+            found = list(it.declared.get(name, ()))
+            for passed, alias in it.passed_on:
+                found += self.found(passed) if alias == name and passed != path else []
+        return found
+
+    def named(self, module, text):
+        """Returns the pieces that a text of a module names, by what the module imports and declares."""
+        for word in set(WORD.findall(text)):
+            yield from module.declared.get(word, ())
+            for path in module.imported.get(word, ()):
+                yield from self.found(path)
+                if path in self.at:
+                    # A module with a name of its own.
+                    for name in set(re.findall(rf"(?<![\w.]){word}\.([^\W\d][\w'-]*)", text)):
+                        yield from self.found(f"{path}.{name}")
+
+
+@functools.lru_cache(maxsize=None)
+def texts(crate):
+    """Returns the texts of the library of a crate's contracts alone, by their paths with the crate's name."""
+    folder = f"{TOP}/crates/{crate}"
+    left = {**all_texts(folder), **contracts(crate, folder)}
+    return {f"{crate}/{file}": left[file] for file in sorted(left) if left[file] is not None}
+
+
 @functools.lru_cache(maxsize=None)
 def pieces(crate):
     """Returns the pieces of the library of a crate's contracts alone, in the order of its files."""
-    folder = f"{TOP}/crates/{crate}"
-    left = {**all_texts(folder), **contracts(crate, folder)}
-    return [it for file in sorted(left) if left[file] is not None for it in (of_rust if file.endswith(".rt") else of_antt)(f"{crate}/{file}", left[file])]
+    own = {name for text in texts(crate).values() for name in OWN_TRAIT.findall(text)}
+    return [it for file, text in texts(crate).items() for it in (of_rust(file, text, own) if file.endswith(".rt") else of_antt(file, text))]
+
+
+def called(file, text):
+    """Returns the names behind a dot or a path in a text of Rattle."""
+    return set(re.findall(r"(?:\.|::)([^\W\d]\w*)", text)) if file.endswith(".rt") else set()
 
 
 def seen(crate):
     """Returns what a crate sees of those below it, as (file, text)."""
-    waiting, taken, grows = [it for below in crates()[crate].below() for it in pieces(below.name)], set(), True
-    own, public = ({name for it in waiting if it.is_own == is_own for name in it.names} for is_own in (True, False))
-    said = {name for text in all_texts(f"{TOP}/crates/{crate}").values() for name in words(text)} - (own - public)
-    while grows:
-        now = [it for it in waiting if it not in taken and it.is_seen(said)]
-        taken.update(now)
-        said.update(name for it in now for name in words(it.text))
-        grows = bool(now)
-    return [(it.file, it.text) for it in waiting if it in taken]
+    below, own = Below(crate), {file: COMMENT.sub("", text) for file, text in all_texts(f"{TOP}/crates/{crate}").items()}
+    rust = [it for it in below.pieces if it.file.endswith(".rt")]
+    owned, public = ({name for it in rust if it.is_own == is_own for name in it.names} for is_own in (True, False))
+    said = {name for text in own.values() for name in words(text)} - (owned - public)
+    calls = {name for file, text in own.items() for name in called(file, text)}
+    # What is to be read: texts, each with the module that it is of.
+    taken, left = set(), [(Module(file, text), text) for file, text in own.items()]
+    now = {it for it in below.pieces if not it.names and not it.needs}
+    while now or left:
+        taken |= now
+        for it in now:
+            said |= words(it.text)
+            calls |= called(it.file, it.text)
+            left.append((below.modules[it.file], it.text))
+        now = {it for module, text in left for it in below.named(module, text)} | {it for it in rust if it.is_seen(said, calls)}
+        now, left = now - taken, []
+    return [(it.file, it.text) for it in below.pieces if it in taken]
