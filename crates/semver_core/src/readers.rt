@@ -3,7 +3,7 @@
 mod fast;
 mod loose;
 
-pub use crate::readers::fast::version_fast;
+pub use crate::readers::fast::{triple_front, version_fast};
 pub(crate) use crate::readers::fast::{leading_numbers, numbers};
 pub use crate::readers::loose::version_loose;
 pub(crate) use crate::readers::loose::{

@@ -18,6 +18,11 @@ use Rattle.{nodejs_semver.specs.Text.WordText.{above_sign, below_sign}, semver_c
 use Rattle.semver_core.{proofs.Reading.Bytes.{is_solid, quiet-before, stop-bar, stop-nil, stop-space}, specs.Failures.NoValue}
 use Rattle.semver_core.specs.{Internal.{Fronts.after_byte, Parts.{after_bars, after_gap}, Reading.◌>>?◌}, Text.Comparators.at_least}
 
+use Rattle.semver_core.proofs.Reading.Numbers.{number-read, number_first}
+use Rattle.semver_core.specs.Internal.Fronts.{component_front, dotted_front}
+use Rattle.semver_core.specs.Text.Numbers.{IsNumber, IsTriple}
+use Rattle.{nodejs_semver.specs.Internal.Fronts.patch_front, std.specs.Char.is_ascii_digit}
+
 -- it is read at the front
 pub bare-exact : (limit : ℕ) (x more : List ℕ) (p : Partial) → AreComponents limit x p → Stop more → bare_front limit (x ++ more) ≡ Some (p, more)
 unfolding bare_front
@@ -25,6 +30,25 @@ bare-exact limit x more p h stop =
     let a = components-then limit x more p h (quiet-before x more stop.digit) in rw (a.1, a.2.exact stop) refl
 
 -- and what is read there is one
+component_read : (limit : ℕ) (run more : List ℕ) (n : ℕ) → IsNumber limit run n → begins is_ascii_digit more ≡ false
+    → component_front limit (run ++ more) ≡ Some (Some n, more)
+component_read limit run more n is stop = number_first limit (run ++ more) more n (number-read limit run more n is stop)
+
+dotted_read : (limit : ℕ) (run more : List ℕ) (n : ℕ) → IsNumber limit run n → begins is_ascii_digit more ≡ false
+    → dotted_front limit (46 ∷ (run ++ more)) ≡ Some (Some n, more)
+unfolding dotted_front
+dotted_read limit run more n is stop = component_read limit run more n is stop
+
+-- a partial of three numbers
+pub bare_triple : (limit : ℕ) (text : List ℕ) (M m p : ℕ) (rest : List ℕ) → IsTriple limit text M m p rest
+    → Some (patch_front (Some M) (Some m) [] (Some (Some p, rest))) ≡ bare_front limit text
+unfolding bare_front
+bare_triple limit text M m p rest is =
+    let patched = is.patch ++ rest in
+    let minored = is.minor ++ 46 ∷ patched in
+    rw (is.divided, component_read limit is.major (46 ∷ minored) M is.major_is refl, dotted_read limit is.minor (46 ∷ patched) m is.minor_is refl,
+    dotted_read limit is.patch rest p is.patch_is.number is.patch_is.ended) refl
+
 pub bare-sound : (limit : ℕ) (text : List ℕ) (p : Partial) (more : List ℕ) → bare_front limit text ≡ Some (p, more) → (x : List ℕ)
     × (text ≡ x ++ more) × AreComponents limit x p
 unfolding bare_front

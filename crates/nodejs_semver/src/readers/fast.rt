@@ -16,17 +16,27 @@ use crate::readers::syntax::Partial;
 use crate::readers::{partial, table, words};
 use crate::{Allocated, Range, RangeRef};
 use semver_core::cuts::{Bound, Interval};
+use semver_core::readers::triple_front;
 use semver_core::{MAX_SAFE_INTEGER, VersionRef};
 use semver_pieces::{Bounds, Found, after_bars};
 use smallvec::SmallVec;
 use std::alloc::{AllocError, Global};
 
-// The partial at the front. Neither `v` nor whitespace is skipped before it.
+// The partial at the front. Neither `v` nor whitespace is skipped before it. Most have three
+// numbers.
 #[inline(always)]
 #[tactic(auto, unfolding(crate::specs::Internal::CommonFronts::bare_front))]
 fn bare_front(text: &[u8]) -> Option<(Partial<'_>, &[u8])>
     ensures { partial_front_view result ≡ Spec.bare_front MAX_SAFE_INTEGER text.now }
 {
+    if let Some((major, minor, patch, rest)) = triple_front(text) {
+        return Some(partial::qualified(
+            Some(major),
+            Some(minor),
+            Some(patch),
+            rest,
+        ));
+    }
     match partial::component_front(text) {
         Some((major, rest)) => Some(partial::minor_front(major, rest)),
         None => None,

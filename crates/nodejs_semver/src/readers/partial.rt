@@ -1,7 +1,7 @@
 // A partial: a version whose components may be absent or wildcards.
 
 ghost use Rattle.nodejs_semver.specs.Internal.Fronts as Spec;
-ghost use Rattle.std.specs.Prelude.{◌≡◌, ◌≤◌};
+ghost use Rattle.std.specs.Prelude.{◌≡◌, ◌≤◌, [], Some};
 ghost use Rattle.nodejs_semver.specs.Words.{ForSome, MAX_SAFE_INTEGER};
 ghost use Rattle.nodejs_semver.specs.Words.{partial_front_view, partial_pair_view};
 
@@ -9,6 +9,34 @@ use crate::readers::syntax::Partial;
 use semver_core::MAX_SAFE_INTEGER;
 pub(crate) use semver_pieces::component_front;
 use semver_pieces::{build_front, dotted_front, pre_release_front, skip_spaces};
+
+/// The partial of these components, with the qualifier that stands at the front.
+#[inline(always)]
+pub(crate) fn qualified<'a>(
+    major: Option<u64>,
+    minor: Option<u64>,
+    patch: Option<u64>,
+    text: &'a [u8],
+) -> (Partial<'a>, &'a [u8])
+    requires major_small { ForSome major (λ n. n ≤ MAX_SAFE_INTEGER) }
+    requires minor_small { ForSome minor (λ n. n ≤ MAX_SAFE_INTEGER) }
+    requires patch_small { ForSome patch (λ n. n ≤ MAX_SAFE_INTEGER) }
+    ensures { partial_pair_view result
+        ≡ Spec.patch_front major minor [] (Some (patch, text.now)) }
+{
+    let (pre_release, rest) = pre_release_front(false, text);
+    let (build, rest) = build_front(rest);
+    (
+        Partial {
+            major,
+            minor,
+            patch,
+            pre_release,
+            build,
+        },
+        rest,
+    )
+}
 
 // The partial at the front whose major and minor components were read.
 #[inline(always)]
@@ -31,18 +59,7 @@ fn patch_front(major: Option<u64>, minor: Option<u64>, text: &[u8]) -> (Partial<
             text,
         );
     };
-    let (pre_release, rest) = pre_release_front(false, rest);
-    let (build, rest) = build_front(rest);
-    (
-        Partial {
-            major,
-            minor,
-            patch,
-            pre_release,
-            build,
-        },
-        rest,
-    )
+    qualified(major, minor, patch, rest)
 }
 
 /// The partial at the front whose major component was read.

@@ -44,6 +44,10 @@ pub ruleset digits_one = (digits_one_more, digits_over, digits_stop, digits_past
 
 -- ---- A line feed stands at a place or behind it.
 
+pub last_feed : (front : List ℕ) → HasFeed (front ++ 10 ∷ [])
+last_feed [] = refl
+last_feed (b ∷ front) = grind (arith, last_feed front)
+
 pub some_feed : (bytes : List ℕ) (at : ℕ) → HasFeed (drop at bytes) → at < length bytes
 some_feed bytes at feed = elim (cases_lt at (length bytes)) [
   | inl inside ↦ inside

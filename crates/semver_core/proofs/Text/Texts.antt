@@ -8,8 +8,9 @@ use Rattle.semver_core.proofs.Common.{encode_utf8, first_so, second_so, list_all
 use Rattle.semver_core.proofs.Common.{HasOneReading, build_at, list_len, mark_len, number_at, or_nothing, pre_release_at}
 use Rattle.semver_core.proofs.Common.{IsPieceAt, IsBuild, IsMark, IsPreRelease, bare, begins_build, capital_mark, dashed}
 use Rattle.semver_core.proofs.Common.{no_build, no_pre_release, plus, small_mark, add-zero, slice_range, drop_split}
-use Rattle.semver_core.proofs.Common.{IsCharBoundary-after_ascii, IsCharBoundary-start, encode_same}
+use Rattle.semver_core.proofs.Common.{IsCharBoundary-after_ascii, IsCharBoundary-start, encode_same, take_rest, ◌-◌}
 use Rattle.{semver_core.specs.Internal.Reading.{◌>>?◌, part_at, past, version_at}, std.proofs.lemmas.Str.char_from_byte}
+use Rattle.semver_core.specs.Text.Numbers.{IsTriple}
 use Rattle.semver_core.proofs.Text.Pieces.{some_inside, rest_at, number_sound, number_complete, list_sound, list_complete}
 use Rattle.semver_core.proofs.Text.{Pieces.{list_none, runs_begin}, Runs.drop_next}
 use borrow.Author.Tests.{eq-eqb}
@@ -56,16 +57,8 @@ part_complete limit text at n digits rest e is =
     let dot = past_complete 46 text (at + length digits) rest a.1 in
     (rw (a.0, dot.0) refl, dot.1)
 
-record Triple (limit : ℕ) (text : List ℕ) (at M m p end : ℕ) : Type 0 where
-  major : List ℕ
-  minor : List ℕ
-  patch : List ℕ
-  divided : drop at text ≡ major ++ 46 ∷ (minor ++ 46 ∷ (patch ++ drop end text))
-  major_is : IsNumber limit major M
-  minor_is : IsNumber limit minor m
-  patch_is : IsWholeNumber limit patch (drop end text) p
-
-triple_sound : (limit : ℕ) (text : List ℕ) (at : ℕ) (t : ℕ × ℕ × ℕ × ℕ) → triple_at limit text at ≡ Some t → Triple limit text at t.0 t.1 t.2 t.3
+pub triple_sound : (limit : ℕ) (text : List ℕ) (at : ℕ) (t : ℕ × ℕ × ℕ × ℕ) → triple_at limit text at ≡ Some t
+    → IsTriple limit (drop at text) t.0 t.1 t.2 (drop t.3 text)
 triple_sound limit text at t e =
     let a = bind_some (part_at limit text at) _ t e in
     let b = bind_some (part_at limit text a.0.1) _ t a.2 in
@@ -83,6 +76,11 @@ triple_sound limit text at t e =
       patch_is = patch.2;
     })
 
+-- the clauses of `triple_front`
+pub triple_read : (limit : ℕ) (text : List ℕ) (t : ℕ × ℕ × ℕ × ℕ) → Some t ≡ triple_at limit text 0
+    → IsTriple limit text t.0 t.1 t.2 (take (length text - t.3) (drop t.3 text))
+triple_read limit text t e = rw (take_rest text t.3) (triple_sound limit text 0 t (sym e))
+
 pub triple_complete : (limit : ℕ) (text : List ℕ) (at M m p : ℕ) (major minor patch rest : List ℕ) → drop at text ≡ major ++ 46 ∷ (minor ++ 46 ∷ (patch ++ rest))
     → IsNumber limit major M → IsNumber limit minor m → IsWholeNumber limit patch rest p
     → (end : ℕ) × (triple_at limit text at ≡ Some (M, m, p, end)) × (drop end text ≡ rest)
@@ -91,6 +89,11 @@ triple_complete limit text at M m p major minor patch rest e f g h =
     let b = part_complete limit text (at + length major + 1) m minor (patch ++ rest) a.1 g in
     let c = number_complete limit text (at + length major + 1 + length minor + 1) p patch rest b.1 h in
     (at + length major + 1 + length minor + 1 + length patch, rw (a.0, b.0, c.0) refl, c.1)
+
+pub triple_none : (limit : ℕ) (text : List ℕ) → None ≡ triple_at limit text 0 → (M m p : ℕ) (rest : List ℕ) → IsTriple limit text M m p rest → ⊥
+triple_none limit text none M m p rest is =
+    let found = triple_complete limit text 0 M m p is.major is.minor is.patch rest is.divided is.major_is is.minor_is is.patch_is in
+    cc (none, found.1)
 
 no_front : (c : ℕ) (s r : List ℕ) → begins (λ b. b == c) (s ++ r) ≡ false → begins (λ b. b == c) s ≡ false
 no_front c [] r h = refl

@@ -1,11 +1,12 @@
 //! The reader of common version texts.
 
-ghost use Rattle.std.specs.Prelude.{◌≡◌, ◌≤◌};
+ghost use Rattle.std.specs.Prelude.{◌≡◌, ◌≤◌, ℕ, List};
+ghost use Rattle.semver_core.specs.Text.Numbers.{IsTriple};
 ghost use Rattle.semver_core.specs.Words.{common_of, HasIdentifiers, IfOk, qualified, VersionValue};
 ghost use Rattle.semver_core.specs.Words.{IsCommon, NoValue, OnErr, small_len, triple_at, whole_at};
 ghost use Rattle.semver_core.specs.Words.{IfNone, IfSome, length, part_at, Reads};
 
-use crate::reach::{OfText, Reach};
+use crate::reach::{OfLines, OfText, Reach};
 use crate::readers::loose::{begins_lists, front_of_numbers, lists_at, stands_at};
 use crate::{MAX_SAFE_INTEGER, Version, scan};
 use std::alloc::{AllocError, Global};
@@ -43,6 +44,34 @@ fn three_numbers<R: Reach>(bytes: &[u8], at: usize) -> Option<(u64, u64, u64, us
         return None;
     };
     Some((major, minor, patch, end))
+}
+
+// The numbers of `triple_front`, and the place behind them.
+#[inline(always)]
+#[tactic(auto, using(crate::proofs::Text::Digits::last_feed))]
+fn leading_triple(text: &[u8]) -> Option<(u64, u64, u64, usize)>
+    ensures found { result ≡ triple_at MAX_SAFE_INTEGER text.now 0 }
+    ensures place { IfSome result (λ found. found.3 ≤ length text.now) }
+{
+    match text {
+        [.., b'\n'] => three_numbers::<OfLines>(text, 0),
+        _ => three_numbers::<OfText>(text, 0),
+    }
+}
+
+/// Returns the three numbers joined by dots that a text begins with, and what follows them: of
+/// `1.2.3-beta` they are 1, 2, 3 and `-beta`. Lines of which the last one ends with a line feed are
+/// read with no test for their end. This is for the crates of this repository.
+#[inline(always)]
+pub fn triple_front(text: &[u8]) -> Option<(u64, u64, u64, &[u8])>
+    ensures some { IfSome result (λ found.
+        IsTriple MAX_SAFE_INTEGER text.now found.0 found.1 found.2 found.3.now) }
+    // Nothing is read only where no such numbers stand at the front.
+    ensures none { IfNone result ((M m p : ℕ) (rest : List ℕ) →
+        IsTriple MAX_SAFE_INTEGER text.now M m p rest → ⊥) }
+{
+    let (major, minor, patch, end) = leading_triple(text)?;
+    Some((major, minor, patch, &text[end..]))
 }
 
 // How many bytes a `v` at the front takes.

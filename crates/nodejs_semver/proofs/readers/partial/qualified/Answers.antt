@@ -1,5 +1,5 @@
 use Rattle.{nodejs_semver.proofs.Common.rules, semver_core.{proofs.Reading.IdentifierLists.short_lists, specs.Internal.Fronts.pre_release_with}}
-use Rattle.nodejs_semver.proofs.readers.partial.patch_front.Goals as goal
+use Rattle.nodejs_semver.proofs.readers.partial.qualified.Goals as goal
 
 pub returns : goal.returns
 unfolding pre_release_with
