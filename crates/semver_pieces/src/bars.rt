@@ -58,8 +58,8 @@ fn after_gap(text: &[u8]) -> &[u8]
 pub fn after_bars(text: &[u8]) -> Option<&[u8]>
     ensures { rest_view result ≡ Spec.after_bars text.now }
 {
-    match after_gap(text) {
-        [b'|', b'|', rest @ ..] => Some(after_gap(rest)),
+    match text {
+        [b' ', b'|', b'|', rest @ ..] | [b'|', b'|', rest @ ..] => Some(after_gap(rest)),
         _ => None,
     }
 }

@@ -17,7 +17,6 @@ use Rattle.nodejs_semver.specs.Text.Common.{hyphen_word, more_parts, one_part, o
 use Rattle.{nodejs_semver.specs.Text.WordText.{above_sign, below_sign}, semver_core.proofs.Reading.Bytes.{Stop, begins-on, begins_component}}
 use Rattle.semver_core.{proofs.Reading.Bytes.{is_solid, quiet-before, stop-bar, stop-nil, stop-space}, specs.Failures.NoValue}
 use Rattle.semver_core.specs.{Internal.{Fronts.after_byte, Parts.{after_bars, after_gap}, Reading.◌>>?◌}, Text.Comparators.at_least}
-
 use Rattle.semver_core.proofs.Reading.Numbers.{number-read, number_first}
 use Rattle.semver_core.specs.Internal.Fronts.{component_front, dotted_front}
 use Rattle.semver_core.specs.Text.Numbers.{IsNumber, IsTriple}
@@ -46,8 +45,12 @@ unfolding bare_front
 bare_triple limit text M m p rest is =
     let patched = is.patch ++ rest in
     let minored = is.minor ++ 46 ∷ patched in
-    rw (is.divided, component_read limit is.major (46 ∷ minored) M is.major_is refl, dotted_read limit is.minor (46 ∷ patched) m is.minor_is refl,
-    dotted_read limit is.patch rest p is.patch_is.number is.patch_is.ended) refl
+    rw (
+      is.divided,
+      component_read limit is.major (46 ∷ minored) M is.major_is refl,
+      dotted_read limit is.minor (46 ∷ patched) m is.minor_is refl,
+      dotted_read limit is.patch rest p is.patch_is.number is.patch_is.ended,
+    ) refl
 
 pub bare-sound : (limit : ℕ) (text : List ℕ) (p : Partial) (more : List ℕ) → bare_front limit text ≡ Some (p, more) → (x : List ℕ)
     × (text ≡ x ++ more) × AreComponents limit x p

@@ -202,7 +202,8 @@ fn read_parts<'a>(text: &'a [u8], found: &mut Intervals<VersionRef<'a>>) -> Opti
     ensures some { IfSome result (λ end.
         AreCommonParts MAX_SAFE_INTEGER (take end text.now) found.new.items) }
 {
-    found.clear();
+    found.truncate(1);
+    let _ = found.pop();
     match read_front(text, found) {
         Ok(Some(rest)) => Some(text.len() - rest.len()),
         Ok(None) | Err(_) => None,

@@ -30,12 +30,7 @@ fn bare_front(text: &[u8]) -> Option<(Partial<'_>, &[u8])>
     ensures { partial_front_view result ≡ Spec.bare_front MAX_SAFE_INTEGER text.now }
 {
     if let Some((major, minor, patch, rest)) = triple_front(text) {
-        return Some(partial::qualified(
-            Some(major),
-            Some(minor),
-            Some(patch),
-            rest,
-        ));
+        return Some(partial::qualified(Some(major), Some(minor), Some(patch), rest));
     }
     match partial::component_front(text) {
         Some((major, rest)) => Some(partial::minor_front(major, rest)),
