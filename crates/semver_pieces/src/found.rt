@@ -3,6 +3,7 @@
 ghost use Rattle.std.specs.Prelude.{◌++◌, ◌<◌, ◌∷◌, ◌≡◌, ◌≤◌};
 ghost use Rattle.semver_core.specs.Words.{[], has_bound, IfOk, length, List, OnErr, OnOk, passes};
 ghost use Rattle.semver_core.specs.Words.{Span, takes_memory, true, VersionValue, ℕ};
+ghost use Rattle.smallvec.specs.SmallVec.{HasRoomFor};
 
 use semver_core::cuts::{Bound, Interval, Point};
 use semver_core::{Version, VersionRef};
@@ -21,14 +22,24 @@ pub trait Found<'a> {
     /// How many intervals it holds without an allocation.
     ghost room: { ℕ };
 
+    /// Whether the list need not grow for one interval more.
+    ghost has_room: { Self → Type 0 };
+
     /// Adds an interval at the end.
     fn add(&mut self, interval: Interval<VersionRef<'a>>) -> Result<(), AllocError>
         ensures added { OnOk result (items self.new ≡ items self.old ++ interval.entry ∷ []) }
         ensures memory { OnErr result (room ≤ length (items self.old)) };
 
-    /// Makes room for the intervals of a text.
+    /// Adds an interval at the end of a list that need not grow.
+    fn add_reserved(&mut self, interval: Interval<VersionRef<'a>>) -> Result<(), AllocError>
+        requires { has_room self.old }
+        ensures added { OnOk result (items self.new ≡ items self.old ++ interval.entry ∷ []) }
+        ensures memory { OnErr result (room ≤ 0) };
+
+    /// Makes room for the intervals of a text, and for one at least.
     fn reserve_for(&mut self, text: &[u8]) -> Result<(), AllocError>
-        ensures { items self.new ≡ items self.old };
+        ensures same { items self.new ≡ items self.old }
+        ensures room { OnOk result (has_room self.new) };
 }
 
 // The bound with a version of its own.
@@ -78,7 +89,8 @@ fn push<V: Point>(interval: Interval<V>, found: &mut Intervals<V>) -> Result<(),
 // or more.
 #[inline(always)]
 fn make_room<V: Point>(text: &[u8], found: &mut Intervals<V>) -> Result<(), AllocError>
-    ensures { found.new.items ≡ found.old.items }
+    ensures same { found.new.items ≡ found.old.items }
+    ensures room { OnOk result (HasRoomFor found.new 1) }
 {
     if found.len() == found.capacity() {
         found.reserve((text.len() / 8).min(30) + 1)?;
@@ -92,9 +104,17 @@ impl<'a> Found<'a> for Intervals<VersionRef<'a>> {
 
     ghost room = { 1 };
 
+    ghost has_room = { λ found. HasRoomFor found 1 };
+
     #[inline(always)]
     fn add(&mut self, interval: Interval<VersionRef<'a>>) -> Result<(), AllocError> {
         push(interval, self)
+    }
+
+    #[inline(always)]
+    fn add_reserved(&mut self, interval: Interval<VersionRef<'a>>) -> Result<(), AllocError> {
+        self.push_reserved(interval);
+        Ok(())
     }
 
     #[inline(always)]
@@ -109,10 +129,19 @@ impl<'a> Found<'a> for Intervals<Version> {
 
     ghost room = { 0 };
 
+    ghost has_room = { λ found. HasRoomFor found 1 };
+
     #[inline(always)]
     fn add(&mut self, interval: Interval<VersionRef<'a>>) -> Result<(), AllocError> {
         let alloc = *self.allocator();
         push(owned_interval(alloc, &interval)?, self)
+    }
+
+    #[inline(always)]
+    fn add_reserved(&mut self, interval: Interval<VersionRef<'a>>) -> Result<(), AllocError> {
+        let alloc = *self.allocator();
+        self.push_reserved(owned_interval(alloc, &interval)?);
+        Ok(())
     }
 
     #[inline(always)]

@@ -6,6 +6,7 @@ ghost use Rattle.nodejs_semver.specs.Words.{accepts, AreCommonParts, denotes, en
 ghost use Rattle.nodejs_semver.specs.Words.{false, IsRange, length, List, list_any, Means};
 ghost use Rattle.nodejs_semver.specs.Words.{MemoryOnlyIf, OnErr, OnOk, RefusedOnlyIf, Span};
 ghost use Rattle.nodejs_semver.specs.Words.{TakesMemory, true, VersionValue, Writes};
+ghost use Rattle.smallvec.specs.SmallVec.{HasRoomFor};
 
 use crate::range::owned::owned_intervals;
 use crate::readers::{read_any, read_common, read_front};
@@ -13,7 +14,7 @@ use crate::{Range, RangeOf, RangeRef};
 use memchr::memchr2;
 use semver_core::cuts::Interval;
 use semver_core::{Failure, MAX_SAFE_INTEGER, SemverError, Version, VersionRef};
-use semver_pieces::Intervals;
+use semver_pieces::{Found, Intervals};
 use smallvec::SmallVec;
 use std::alloc::Global;
 
@@ -65,7 +66,8 @@ impl Range {
 // as `1.2.3||1.2.4_`. So the reader of all texts decides there too.
 #[inline(never)]
 fn read(text: &str, found: &mut Intervals<Version>) -> Result<(), Failure<SemverError>>
-    requires { found.old.items ≡ [] }
+    requires empty { found.old.items ≡ [] }
+    requires room { HasRoomFor found.old 1 }
     ensures read { OnOk result (found.new.items ≡ denotes MAX_SAFE_INTEGER text.now) }
     ensures some { OnOk result (0 < length found.new.items) }
     ensures refused { RefusedOnlyIf result (Means MAX_SAFE_INTEGER text.now []) }
@@ -204,6 +206,8 @@ fn read_parts<'a>(text: &'a [u8], found: &mut Intervals<VersionRef<'a>>) -> Opti
 {
     found.truncate(1);
     let _ = found.pop();
+    // One interval stands inline, so that this takes no memory.
+    found.reserve_for(b"").ok()?;
     match read_front(text, found) {
         Ok(Some(rest)) => Some(text.len() - rest.len()),
         Ok(None) | Err(_) => None,

@@ -67,14 +67,15 @@ fn push<'a, S: Found<'a>>(
     rest: &'a [u8],
     found: &mut S,
 ) -> Allocated<Option<&'a [u8]>>
+    requires { S.has_room found.old }
     ensures added { IfOk result (λ after. passed_view after (S.items found.new)
         ≡ Spec.passed (S.items found.old) (Spec.part_read rest.now interval.entry)) }
-    ensures full { OnErr result (S.room ≤ length (S.items found.old)) }
+    ensures full { OnErr result (S.room ≤ 0) }
 {
     let Some(interval) = interval else {
         return Ok(None);
     };
-    found.add(interval)?;
+    found.add_reserved(interval)?;
     Ok(Some(rest))
 }
 
@@ -86,9 +87,10 @@ fn push_rare<'a, S: Found<'a>>(
     rest: &'a [u8],
     found: &mut S,
 ) -> Allocated<Option<&'a [u8]>>
+    requires { S.has_room found.old }
     ensures added { IfOk result (λ after. passed_view after (S.items found.new)
         ≡ Spec.passed (S.items found.old) (Spec.part_read rest.now interval.entry)) }
-    ensures full { OnErr result (S.room ≤ length (S.items found.old)) }
+    ensures full { OnErr result (S.room ≤ 0) }
 {
     push(interval, rest, found)
 }
@@ -101,10 +103,11 @@ fn push_both<'a, S: Found<'a>>(
     rest: &'a [u8],
     found: &mut S,
 ) -> Allocated<Option<&'a [u8]>>
+    requires { S.has_room found.old }
     ensures added { let both = Spec.both_of (bounds_view one.entry) (bounds_view two.entry) in
         IfOk result (λ after. passed_view after (S.items found.new)
         ≡ Spec.passed (S.items found.old) (Spec.part_read rest.now both)) }
-    ensures full { OnErr result (S.room ≤ length (S.items found.old)) }
+    ensures full { OnErr result (S.room ≤ 0) }
 {
     match (&one.upper, &two.lower) {
         (Bound::Unbounded, Bound::Unbounded) => {
@@ -117,9 +120,10 @@ fn push_both<'a, S: Found<'a>>(
 // Adds the interval of one comparison, or of two, and returns what follows them.
 #[tactic(auto, unfolding(crate::specs::Internal::CommonFronts::comparisons_front))]
 fn push_comparisons<'a, S: Found<'a>>(text: &'a [u8], found: &mut S) -> Allocated<Option<&'a [u8]>>
+    requires { S.has_room found.old }
     ensures added { IfOk result (λ rest. passed_view rest (S.items found.new)
         ≡ Spec.passed (S.items found.old) (Spec.comparisons_front MAX_SAFE_INTEGER text.now)) }
-    ensures full { OnErr result (S.room ≤ length (S.items found.old)) }
+    ensures full { OnErr result (S.room ≤ 0) }
 {
     let Some((first, rest)) = comparison(text) else {
         return Ok(None);
@@ -141,25 +145,27 @@ fn push_word<'a, S: Found<'a>>(
     rest: &'a [u8],
     found: &mut S,
 ) -> Allocated<Option<&'a [u8]>>
-    requires { IfSome bounds (λ b. is_interval precedence (bounds_view b) ≡ true) }
+    requires room { S.has_room found.old }
+    requires bounds { IfSome bounds (λ b. is_interval precedence (bounds_view b) ≡ true) }
     ensures added { IfOk result (λ after. passed_view after (S.items found.new)
         ≡ Spec.passed (S.items found.old) (Spec.part_read rest.now (table_view bounds.entry))) }
-    ensures full { OnErr result (S.room ≤ length (S.items found.old)) }
+    ensures full { OnErr result (S.room ≤ 0) }
 {
     let Some(bounds) = bounds else {
         return Ok(None);
     };
-    found.add(ordered(bounds))?;
+    found.add_reserved(ordered(bounds))?;
     Ok(Some(rest))
 }
 
 // Adds the interval of what stands behind a tilde, and returns what follows it.
 #[tactic(auto, unfolding(crate::specs::Internal::CommonFronts::tilde_front))]
 fn push_tilde<'a, S: Found<'a>>(text: &'a [u8], found: &mut S) -> Allocated<Option<&'a [u8]>>
+    requires { S.has_room found.old }
     ensures added { IfOk result (λ rest. passed_view rest (S.items found.new)
         ≡ Spec.passed (S.items found.old)
         (Spec.word_read MAX_SAFE_INTEGER (Spec.tilde_front MAX_SAFE_INTEGER text.now))) }
-    ensures full { OnErr result (S.room ≤ length (S.items found.old)) }
+    ensures full { OnErr result (S.room ≤ 0) }
 {
     let (greater, rest) = words::tilde_sign(text);
     let Some((partial, rest)) = bare_front(rest) else {
@@ -171,10 +177,11 @@ fn push_tilde<'a, S: Found<'a>>(text: &'a [u8], found: &mut S) -> Allocated<Opti
 // Adds the interval of what stands behind a caret, and returns what follows it.
 #[tactic(auto, unfolding(crate::specs::Internal::CommonFronts::caret_front))]
 fn push_caret<'a, S: Found<'a>>(text: &'a [u8], found: &mut S) -> Allocated<Option<&'a [u8]>>
+    requires { S.has_room found.old }
     ensures added { IfOk result (λ rest. passed_view rest (S.items found.new)
         ≡ Spec.passed (S.items found.old)
         (Spec.word_read MAX_SAFE_INTEGER (Spec.caret_front MAX_SAFE_INTEGER text.now))) }
-    ensures full { OnErr result (S.room ≤ length (S.items found.old)) }
+    ensures full { OnErr result (S.room ≤ 0) }
 {
     let Some((partial, rest)) = bare_front(text) else {
         return Ok(None);
@@ -189,11 +196,12 @@ fn push_hyphen<'a, S: Found<'a>>(
     text: &'a [u8],
     found: &mut S,
 ) -> Allocated<Option<&'a [u8]>>
+    requires { S.has_room found.old }
     ensures added { IfOk result (λ rest. passed_view rest (S.items found.new)
         ≡ Spec.passed (S.items found.old)
         (Spec.word_read MAX_SAFE_INTEGER
         (Spec.upper_front MAX_SAFE_INTEGER (partial_view lower.entry) text.now))) }
-    ensures full { OnErr result (S.room ≤ length (S.items found.old)) }
+    ensures full { OnErr result (S.room ≤ 0) }
 {
     match bare_front(text) {
         Some((upper, rest)) => push(between(table::hyphen(&lower, &upper)), rest, found),
@@ -204,10 +212,11 @@ fn push_hyphen<'a, S: Found<'a>>(
 // Adds the interval of one partial, or of two with a dash between them, and returns what follows.
 #[tactic(auto, unfolding(crate::specs::Internal::CommonFronts::partials_front))]
 fn push_partials<'a, S: Found<'a>>(text: &'a [u8], found: &mut S) -> Allocated<Option<&'a [u8]>>
+    requires { S.has_room found.old }
     ensures added { IfOk result (λ rest. passed_view rest (S.items found.new)
         ≡ Spec.passed (S.items found.old)
         (Spec.word_read MAX_SAFE_INTEGER (Spec.partials_front MAX_SAFE_INTEGER text.now))) }
-    ensures full { OnErr result (S.room ≤ length (S.items found.old)) }
+    ensures full { OnErr result (S.room ≤ 0) }
 {
     let Some((partial, rest)) = bare_front(text) else {
         return Ok(None);
@@ -222,9 +231,10 @@ fn push_partials<'a, S: Found<'a>>(text: &'a [u8], found: &mut S) -> Allocated<O
 #[inline(always)]
 #[tactic(auto, unfolding(crate::specs::Internal::CommonFronts::part_front))]
 fn push_part<'a, S: Found<'a>>(text: &'a [u8], found: &mut S) -> Allocated<Option<&'a [u8]>>
+    requires { S.has_room found.old }
     ensures added { IfOk result (λ rest. passed_view rest (S.items found.new)
         ≡ Spec.passed (S.items found.old) (Spec.part_front MAX_SAFE_INTEGER text.now)) }
-    ensures full { OnErr result (S.room ≤ length (S.items found.old)) }
+    ensures full { OnErr result (S.room ≤ 0) }
 {
     match text {
         [] => Ok(None),
@@ -243,7 +253,8 @@ pub(crate) fn read_front<'a, S: Found<'a>>(
     text: &'a [u8],
     found: &mut S,
 ) -> Allocated<Option<&'a [u8]>>
-    requires { S.items found.old ≡ [] }
+    requires empty { S.items found.old ≡ [] }
+    requires room { S.has_room found.old }
     ensures some { IfOk result (λ rest. IfSome rest (λ rest.
         common_fronts MAX_SAFE_INTEGER text.now ≡ Some (S.items found.new, rest.now))) }
     ensures none { IfOk result (λ rest.
@@ -267,7 +278,8 @@ pub(crate) fn read_front<'a, S: Found<'a>>(
 /// where the text is none; then the list may hold some of them. Its versions may have builds.
 #[inline(always)]
 pub(crate) fn read_common<'a, S: Found<'a>>(text: &'a [u8], found: &mut S) -> Allocated<bool>
-    requires { S.items found.old ≡ [] }
+    requires empty { S.items found.old ≡ [] }
+    requires room { S.has_room found.old }
     ensures some { IfOk result (λ there. IsTrue there
         → AreCommonParts MAX_SAFE_INTEGER text.now (S.items found.new)) }
     ensures none { IfOk result (λ there. IsFalse there
