@@ -4,10 +4,11 @@ use Rattle.std.proofs.Common.{None, append-nil, length, take, drop, get_or, refl
 use Rattle.memchr.specs.Find.{IsFirstByte, is_byte, is_byte2}
 use Rattle.std.proofs.Math.Nat.{eq-or-lt_of_le}
 use Rattle.std.proofs.Math.Seq.{drop-cons, get_or-append_seam, split_at, take-append_seam}
+use Rattle.std.proofs.lemmas.Bool.Decides.{nat_tests}
 use Rattle.std.proofs.lemmas.Bool.{cases_Bool, eqb-true, false_from_ne_true, false≢true}
 use Rattle.std.proofs.lemmas.List.{get_or-take, length-append, length-take-le, take-append-drop, take-append-le, take_all, take_more}
 use Rattle.std.proofs.lemmas.List.Elements.{All-from_get_or, All-head, All-tail}
-use Rattle.std.proofs.lemmas.List.Folds.{list_all-append, list_any_at}
+use Rattle.std.proofs.lemmas.List.Folds.{list_all-append, list_any_at, list_any_more}
 use Rattle.std.proofs.lemmas.List.Splits.{length-slice_split, slice_split_at, slice_split_none}
 use Rattle.std.proofs.lemmas.List.Sums.{AllPass-from_list_all, list_all-from_AllPass}
 use Rattle.std.proofs.lemmas.Str.{IsCharBoundary-after_ascii, IsCharBoundary-before_ascii, IsUtf8-append, IsUtf8-take}
@@ -15,6 +16,7 @@ use Rattle.std.specs.List.{All, list_all, list_any}
 use Rattle.std.specs.Prelude.{IsCharBoundary, IsUtf8}
 use Rattle.semver_core.proofs.Text.Fronts.{common_plain}
 use Rattle.semver_core.specs.Internal.CommonReading.{is_plain}
+use Rattle.semver_core.specs.Text.Characters.{is_identifier_char}
 use Rattle.semver_core.specs.Text.Common.{IsCommon}
 use Rattle.semver_core.specs.Values.Versions.{VersionValue}
 use Rattle.std.specs.Borrow.{Bor}
@@ -233,6 +235,17 @@ before_mark text n feed le h = elim (eq-or-lt_of_le le) [
       absurd (false≢true (sym feed ∙ no_feed_by text (no_line_feed text (rw whole at plain))))
   | inr inside ↦ inside
 ]
+
+-- one more character of a word
+word_plain : (c : ℕ) → is_identifier_char c ≡ true → is_byte2 59 10 c ≡ false
+word_plain c h = grind (arith, nat_tests)
+
+pub word_grows : (text : List ℕ) (n : ℕ) → n < length text → is_identifier_char (get_or text n 0) ≡ true
+    → list_any (is_byte2 59 10) (take n text) ≡ false → list_any (is_byte2 59 10) (take (n + 1) text) ≡ false
+word_grows text n inside char plain =
+    rw (list_any_more (is_byte2 59 10) text n 0 inside, plain, word_plain (get_or text n 0) char) refl
+
+pub ruleset words = (before_mark, word_grows)
 
 -- a mark stands where a field ends, unless it is the end of the text
 pub end_marked : (text : List ℕ) (n : ℕ) → n < length text → ends_field (drop n text) ≡ true → is_byte2 59 10 (get_or text n 0) ≡ true

@@ -1,15 +1,16 @@
 // The fields of the first line of a text, which are cut at each `;`. They are read from the left,
 // and the last one ends at the line feed.
 
-ghost use Rattle.std.specs.Prelude.{◌≡◌, ◌<◌, IfNone, IfSome, false, length, take};
+ghost use Rattle.std.specs.Prelude.{◌≡◌, ◌<◌, ◌≤◌, IfNone, IfSome, false, length, take};
 ghost use Rattle.std.specs.Prelude.{slice_index};
-ghost use Rattle.std.specs.List.{All};
+ghost use Rattle.std.specs.List.{All, list_any};
 ghost use Rattle.memchr.specs.Find.{is_byte2};
 ghost use Rattle.semver_answers.specs.Internal.Ahead.{Cuts, HasFeed, IsNext};
 ghost use Rattle.semver_answers.specs.Internal.Results.{ReadsRange, ReadsVersion};
 
 use memchr::{memchr, memchr2};
 use nodejs_semver::{Failure, MAX_LENGTH, RangeReader, RangeRef, SemverError, VersionRef};
+use semver_core::scan::is_identifier_char;
 
 /// What stands behind a field.
 #[derive(Clone, Copy)]
@@ -27,6 +28,7 @@ fn mark_at(text: &str, end: usize) -> Option<Behind<'_>>
     requires plain { All (λ b. is_byte2 59 10 b ≡ false) (take end text.now) }
     requires feed { HasFeed text.now }
     ensures some { IfSome result (Cuts text.now (take end text.now)) }
+    ensures low { IfSome result (λ behind. slice_index text.now end < 128) }
     ensures none { IfNone result (is_byte2 59 10 (slice_index text.now end) ≡ false) }
 {
     match text.as_bytes()[end] {
@@ -48,6 +50,34 @@ pub(crate) fn cut(text: &str) -> (&str, Behind<'_>)
     match mark_at(text, end) {
         Some(behind) => (&text[..end], behind),
         None => unreachable!(),
+    }
+}
+
+// How many letters, digits and hyphens stand at the front of a text.
+#[inline(always)]
+#[tactic(auto, using(crate::proofs::Firsts::words))]
+fn word_len(text: &[u8]) -> usize
+    requires { HasFeed text.now }
+    ensures inside { result ≤ length text.now }
+    ensures plain { list_any (is_byte2 59 10) (take result text.now) ≡ false }
+{
+    let mut len = 0;
+    'bytes: while is_identifier_char(text[len]) {
+        len += 1;
+    }
+    len
+}
+
+/// `cut` for a field that is a short word mostly, so that no call searches it.
+#[inline(always)]
+pub(crate) fn cut_word(text: &str) -> (&str, Behind<'_>)
+    requires { HasFeed text.now }
+    ensures { Cuts text.now result.0.now result.1 }
+{
+    let end = word_len(text.as_bytes());
+    match mark_at(text, end) {
+        Some(behind) => (&text[..end], behind),
+        None => cut(text),
     }
 }
 

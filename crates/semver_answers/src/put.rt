@@ -193,7 +193,7 @@ pub(crate) fn put_version<V: Versioned>(version: &V, output: &mut Output) -> Res
 
 // Puts a hyphen and the identifiers of a next pre-release joined by dots, or nothing where there
 // are none.
-#[inline(never)]
+#[inline(always)]
 #[tactic(auto, using(crate::proofs::Bytes::extended))]
 fn put_next_ids(ids: NextIds<'_>, output: &mut Output) -> Result<(), AllocError>
     ensures ok { OnOk result
@@ -221,9 +221,6 @@ pub(crate) fn put_next_version(
     ensures err { OnErr result (Extends output.old output.new) }
 {
     put_release(version.major(), version.minor(), version.patch(), output)?;
-    let pre_release = version.pre_release();
-    if !pre_release.is_empty() {
-        put_next_ids(pre_release, output)?;
-    }
+    put_next_ids(version.pre_release(), output)?;
     put_list(b'+', version.build(), output)
 }

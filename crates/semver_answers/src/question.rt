@@ -1,6 +1,6 @@
 // What lines ask about the versions and ranges of their fields.
 
-use crate::fields::{Behind, cut};
+use crate::fields::{Behind, cut, cut_word};
 use nodejs_semver::{IdentifierBase, OutsideDirection};
 
 /// What a line asks about a version V.
@@ -81,17 +81,17 @@ impl<'a> AboutVersion<'a> {
         ensures none { IfNone result ((v : List ℕ) (question : Question)
             → Asks (codes "inc" ∷ v ∷ fields_ahead rest.now) question → ⊥) }
     {
-        let (word, behind) = cut(rest);
+        let (word, behind) = cut_word(rest);
         let rest = match behind {
             Behind::Lines(next) => return Some((AboutVersion::Inc(word), next)),
             Behind::Fields(rest) => rest,
         };
-        let (identifier, behind) = cut(rest);
+        let (identifier, behind) = cut_word(rest);
         let rest = match behind {
             Behind::Lines(next) => return Some((AboutVersion::IncWith(word, identifier), next)),
             Behind::Fields(rest) => rest,
         };
-        let (text, behind) = cut(rest);
+        let (text, behind) = cut_word(rest);
         let Behind::Lines(next) = behind else {
             return None;
         };

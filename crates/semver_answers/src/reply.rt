@@ -4,8 +4,7 @@
 // not inlined, so that a line pays for the locals of its own kind alone; what is said of the values
 // that were read stands in the method `reply`.
 
-ghost use Rattle.std.specs.Option.{option_copied};
-ghost use Rattle.std.specs.Prelude.{◌≡◌, ◌++◌, ◌∷◌, IfOk, OnErr, OnOk, codes};
+ghost use Rattle.std.specs.Prelude.{◌≡◌, ◌++◌, ◌∷◌, IfOk, OnErr, OnOk, Some, codes};
 ghost use Rattle.semver_core.specs.Increments.Table.{answer_of_inc};
 ghost use Rattle.semver_answers.specs.Answers.{IsAnswer};
 ghost use Rattle.semver_answers.specs.Commands.{RangeReply, RangesReply};
@@ -310,30 +309,33 @@ impl AboutVersion<'_> {
     {
         match self {
             AboutVersion::Ver => put_printed(v, output),
-            AboutVersion::Inc(word) => next_of(alloc, v, word, None, None, output),
-            AboutVersion::IncWith(word, id) => next_of(alloc, v, word, Some(id), None, output),
-            AboutVersion::IncFrom(word, id, base) => {
-                next_of(alloc, v, word, Some(id), Some(base), output)
+            AboutVersion::Inc(word) => {
+                next_of(alloc, v, word, "", IdentifierBase::Value(0), output)
             }
+            AboutVersion::IncWith(word, id) => {
+                next_of(alloc, v, word, id, IdentifierBase::Value(0), output)
+            }
+            AboutVersion::IncFrom(word, id, base) => next_of(alloc, v, word, id, base, output),
         }
     }
 }
 
-// The next version after a version, or why there is none.
+// The next version after a version, or why there is none. An empty identifier is none, and the base
+// `Value(0)` is that of a line without one.
 #[inline(never)]
 fn next_of(
     alloc: Global,
     v: &VersionRef<'_>,
     word: &str,
-    identifier: Option<&str>,
-    base: Option<IdentifierBase>,
+    id: &str,
+    base: IdentifierBase,
     output: &mut Output,
 ) -> Result<(), AllocError>
-    ensures ok { let told = answer_of_inc v.now word.now (option_copied identifier.entry) base in
+    ensures ok { let told = answer_of_inc v.now word.now (Some id.now) (Some base) in
         OnOk result (output.new ≡ output.old ++ ended (next_text told)) }
     ensures err { OnErr result (Extends output.old output.new) }
 {
-    put_next(&v.next(alloc, word, identifier, base), output)
+    put_next(&v.next(alloc, word, Some(id), Some(base)), output)
 }
 
 impl AboutVersions {

@@ -35,7 +35,7 @@ pub use Rattle.semver_core.specs.Internal.OrderLaws.{id_alike, id_total, numbers
 pub use Rattle.semver_core.specs.Internal.Parts.{parts}
 pub use Rattle.semver_core.specs.Internal.Reading.{digits_end, digits_from, IsListAdded, list_at, list_from, list_len, lists_at}
 pub use Rattle.semver_core.specs.Internal.Reading.{number_at, part_at, placed, qualified, triple_at}
-pub use Rattle.semver_core.specs.Internal.Sources.{begins_padded, has_padded, ids_of, IsSource}
+pub use Rattle.semver_core.specs.Internal.Sources.{begins_padded_run, has_padded}
 pub use Rattle.semver_core.specs.Internal.Spaces.{drop_end_spaces, drop_spaces, goes_on_with, is_space_of_three, is_space_of_two, space_len}
 pub use Rattle.semver_core.specs.Internal.Views.{pair_view, part_view, rest_view}
 pub use Rattle.semver_core.specs.Lists.{is_empty}

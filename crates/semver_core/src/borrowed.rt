@@ -4,7 +4,7 @@ ghost use Rattle.std.specs.Prelude.{◌≡◌, ◌↔◌, ◌<◌, ◌∷◌, []
 ghost use Rattle.semver_core.specs.Words.{false, HasIdentifiers, IfOk, is_listed, is_release, IsOk};
 ghost use Rattle.semver_core.specs.Words.{IsTrue, IsVersion, length, listed, Numeric, OnErr, true};
 
-mod dotted;
+pub mod dotted;
 pub mod identifier;
 pub mod identifiers;
 mod read;

@@ -53,11 +53,10 @@ impl Identifier {
 
     /// Whether a text spells a list of identifiers: it is empty, or runs of one or more ASCII
     /// letters, digits and `-` joined by dots, as `rc.1`. `Version::from_texts` requires it.
-    #[tactic(auto, unfolding(crate::specs::Text::Identifiers::is_listed))]
     pub fn is_list(text: &[u8]) -> bool
         ensures { result ≡ is_listed text.now }
     {
-        text.is_empty() || text.split(|byte| *byte == b'.').all(is_spelled)
+        text.is_empty() || (scan::begins_identifier(text) && scan::list_len(text) == text.len())
     }
 }
 

@@ -155,12 +155,12 @@ fn begins_pre(word: &str) -> bool
 // and no base is `Value(0)`.
 fn next_of<'a>(
     alloc: Global,
-    version: &PartsRef<'a>,
+    version: PartsRef<'a>,
     word: &str,
     identifier: Option<&'a str>,
     base: Option<IdentifierBase>,
 ) -> Result<NextVersion<'a>, Failure<IncrementError>>
-    ensures { steps.IsAnswer (spec.answer_of_inc (parts_ref_value version.now) word.now
+    ensures { steps.IsAnswer (spec.answer_of_inc (parts_ref_value version.entry) word.now
         (option_copied identifier.entry) base) result }
 {
     let id = identifier.unwrap_or("");
@@ -227,7 +227,7 @@ impl Version {
             (option_copied identifier.entry) base in
             MemoryOnlyIf result ((answer ≢ Err spec.Overflow) × IfOk answer HasIdentifiers) }
     {
-        let next = next_of(alloc, &PartsRef::of(self), word, identifier, base)?;
+        let next = next_of(alloc, PartsRef::of(self), word, identifier, base)?;
         Ok(next.to_version(alloc)?)
     }
 }
@@ -258,7 +258,7 @@ impl<'a> VersionRef<'a> {
             (option_copied identifier.entry) base in
             MemoryOnlyIf result ((answer ≢ Err spec.Overflow) × IfOk answer (λ next. ⊥)) }
     {
-        next_of(alloc, &PartsRef::of_ref(self), word, identifier, base)
+        next_of(alloc, PartsRef::of_ref(self), word, identifier, base)
     }
 
     /// The next version by a word, as `Version::inc` returns it. It has identifiers of its own.
@@ -284,7 +284,7 @@ impl<'a> VersionRef<'a> {
             (option_copied identifier.entry) base in
             MemoryOnlyIf result ((answer ≢ Err spec.Overflow) × IfOk answer HasIdentifiers) }
     {
-        let next = next_of(alloc, &PartsRef::of_ref(self), word, identifier, base)?;
+        let next = next_of(alloc, PartsRef::of_ref(self), word, identifier, base)?;
         Ok(next.to_version(alloc)?)
     }
 }

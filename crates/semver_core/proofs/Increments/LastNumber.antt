@@ -7,7 +7,7 @@ use Rattle.semver_core.proofs.Common.{is_ascii_digit, tied_itself, list_all, ◌
 use Rattle.semver_core.proofs.Common.{Overflow, is_kept, ◌>>=◌, Tracks, id_total, ◌^◌}
 use Rattle.semver_core.proofs.Common.{drop, take-append-drop, drop-drop}
 use Rattle.semver_core.specs.{Increments.Table.asked, Internal.OrderLaws.id_same}
-use Rattle.semver_core.specs.declared.increment.next_ids.Counted.{Counted}
+use Rattle.semver_core.specs.Internal.NextIds.{numbered}
 use Rattle.std.proofs.lemmas.{List.{Folds.list_any-append}, Str.Parse.parse_digits}
 use Rattle.std.specs.{Cmp.Equal-is, Ordering.is_eq, Prelude.{◌↔◌, IsTrue}, Result.MatchResult}
 use Rattle.std.proofs.{lemmas.Map.Text.is_eq-slice_cmp}
@@ -81,29 +81,32 @@ asked_digits wanted text d = rw d refl
 pub ruleset asked_matches = (asked_number, asked_other, asked_text, asked_digits)
 
 -- a list with a last number goes on by raising it
-pub advance_at : (list : List Id) (id : List ℕ) (base : IdentifierBase) (c : Counted) → Tracks list [] (Some c)
-    → advance list id base ≡ (one_more c.number >>= λ m. Ok (take c.len c.front ++ Numeric m ∷ c.back))
-advance_at list id base c last =
-    by_raise list id base (ap has_numeric last.0 ∙ has_it (take c.len c.front) c.back c.number)
-    ∙ ap raise_last last.0 ∙ raise_divided (take c.len c.front) c.back c.number last.1
+pub advance_at : (list : List Id) (id : List ℕ) (base : IdentifierBase) (at n : ℕ) → Tracks list [] (Some (at, n))
+    → advance list id base ≡ (one_more n >>= λ m. Ok (numbered list (Some m) at))
+advance_at list id base at n last =
+    by_raise list id base (ap has_numeric last.0 ∙ has_it (take at list) (drop (at + 1) list) n)
+    ∙ ap raise_last last.0 ∙ raise_divided (take at list) (drop (at + 1) list) n last.1
 
 -- it is not empty
-pub some_counted : (front back : List Id) (x : Id) → false ≡ is_empty (front ++ x ∷ back)
-some_counted [] back x = refl
-some_counted (first ∷ front) back x = refl
+some_behind : (front back : List Id) (x : Id) → false ≡ is_empty (front ++ x ∷ back)
+some_behind [] back x = refl
+some_behind (first ∷ front) back x = refl
+
+pub some_numbered : (list : List Id) (n before : ℕ) → false ≡ is_empty (numbered list (Some n) before)
+some_numbered list n before = some_behind (take before list) (drop (before + 1) list) (Numeric n)
 
 -- one more identifier is looked at
-pub tracks_text : (list rest : List Id) (last : Option Counted) (text : List ℕ) → Tracks list (AlphaNumeric text ∷ rest) last
+pub tracks_text : (list rest : List Id) (last : Option (ℕ × ℕ)) (text : List ℕ) → Tracks list (AlphaNumeric text ∷ rest) last
     → Tracks list rest last
 tracks_text list rest None text h = h
-tracks_text list rest (Some c) text h = h
-
-pub tracks_number : (list rest : List Id) (c : Counted) → drop c.len list ≡ Numeric c.number ∷ rest → c.front ≡ list → c.back ≡ rest
-    → Tracks list rest (Some c)
-tracks_number list rest c at front back =
-    (sym (rw (front, back, ← at) (take-append-drop c.len list)), ap has_numeric back)
-
-pub ruleset tracked = (tracks_text, tracks_number)
+tracks_text list rest (Some last) text h = h
 
 pub drop_next : (list : List Id) (i : ℕ) (rest : List Id) (x : Id) → drop i list ≡ x ∷ rest → rest ≡ drop (i + 1) list
 drop_next list i rest x e = ap (drop 1) (sym e) ∙ drop-drop 1 i list
+
+pub tracks_number : (list rest : List Id) (at n : ℕ) → drop at list ≡ Numeric n ∷ rest → Tracks list rest (Some (at, n))
+tracks_number list rest at n e =
+    let behind = drop_next list at rest (Numeric n) e in (
+      sym (take-append-drop at list) ∙ ap (λ r. take at list ++ r) (e ∙ ap (λ r. Numeric n ∷ r) behind),
+      ap has_numeric (sym behind),
+    )

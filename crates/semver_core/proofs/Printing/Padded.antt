@@ -4,7 +4,7 @@ use Rattle.semver_core.proofs.Common.{identifier_of, is_identifier, is_listed, i
 use Rattle.semver_core.proofs.Common.{onto_first, pieces, refl, sym, true, ℕ, ◌+◌, ◌<◌, ◌&&◌, ◌||◌, ◌∙◌, ◌∷◌, ◌≡◌, ◌==◌, ◌^◌, and_parts}
 use Rattle.semver_core.proofs.Common.{is_ascii_digit, list_all, digits_value, join_with_byte, drop-cons, suc, ◌≤◌, drop_all}
 use Rattle.semver_core.proofs.Text.Runs.{numerals}
-use Rattle.semver_core.specs.Internal.Sources.{begins_padded, has_padded, is_padded}
+use Rattle.semver_core.specs.Internal.Sources.{begins_padded_run, has_padded, is_padded}
 use Rattle.std.specs.List.{list_any}
 use Rattle.std.proofs.lemmas.{Fmt.decimal-digits_value, List.Splits.join_with_byte-slice_split}
 
@@ -45,7 +45,7 @@ unpadded_prints (c ∷ rest) h p =
 -- a run behind a dot of the text is padded
 unfoldable pub behind_padded : List ℕ → Bool
 behind_padded [] = false
-behind_padded (c ∷ rest) = (c == 46 && begins_padded rest) || behind_padded rest
+behind_padded (c ∷ rest) = (c == 46 && begins_padded_run rest) || behind_padded rest
 
 abbrev first_padded : List (List ℕ) → Bool
 first_padded [] = false
@@ -67,7 +67,7 @@ any_split : (runs : List (List ℕ)) → list_any is_padded runs ≡ (first_padd
 any_split [] = refl
 any_split (run ∷ runs) = refl
 
-first_is : (text : List ℕ) → first_padded (pieces text) ≡ begins_padded text
+first_is : (text : List ℕ) → first_padded (pieces text) ≡ begins_padded_run text
 first_is [] = refl
 first_is (c ∷ []) = elim (cases_Bool (c == 46)) [ inl dot ↦ rw dot refl | inr other ↦ rw other refl ]
 first_is (c ∷ d ∷ rest) = elim (cases_Bool (c == 46)) [
@@ -86,30 +86,30 @@ behind_is (c ∷ rest) = elim (cases_Bool (c == 46)) [
   | inr other ↦ rw other (ap (list_any is_padded) (onto_behind c (pieces rest)) ∙ behind_is rest)
 ]
 
-has_is : (text : List ℕ) → has_padded text ≡ (begins_padded text || behind_padded text)
+has_is : (text : List ℕ) → has_padded text ≡ (begins_padded_run text || behind_padded text)
 unfolding has_padded
 has_is text = any_split (pieces text) ∙ rw (first_is text, behind_is text) refl
 
-pub padded_first : (text : List ℕ) → begins_padded text ≡ true → has_padded text ≡ true
+pub padded_first : (text : List ℕ) → begins_padded_run text ≡ true → has_padded text ≡ true
 padded_first text h = has_is text ∙ rw h refl
 
-pub padded_behind : (text : List ℕ) → begins_padded text ≡ false → has_padded text ≡ behind_padded text
+pub padded_behind : (text : List ℕ) → begins_padded_run text ≡ false → has_padded text ≡ behind_padded text
 padded_behind text h = has_is text ∙ rw h refl
 
-behind_more : (c : ℕ) (rest : List ℕ) → behind_padded (c ∷ rest) ≡ ((c == 46 && begins_padded rest) || behind_padded rest)
+behind_more : (c : ℕ) (rest : List ℕ) → behind_padded (c ∷ rest) ≡ ((c == 46 && begins_padded_run rest) || behind_padded rest)
 unfolding behind_padded
 behind_more c rest = refl
 
 behind_at : (text : List ℕ) (at : ℕ) → at < length text
     → behind_padded (drop at text)
-    ≡ ((get_or text at 0 == 46 && begins_padded (drop (at + 1) text)) || behind_padded (drop (at + 1) text))
+    ≡ ((get_or text at 0 == 46 && begins_padded_run (drop (at + 1) text)) || behind_padded (drop (at + 1) text))
 behind_at text at lt = rw (add-one at, drop-cons text at 0 lt) (behind_more (get_or text at 0) (drop (suc at) text))
 
-pub behind_here : (text : List ℕ) (at : ℕ) → at < length text → get_or text at 0 ≡ 46 → begins_padded (drop (at + 1) text) ≡ true
+pub behind_here : (text : List ℕ) (at : ℕ) → at < length text → get_or text at 0 ≡ 46 → begins_padded_run (drop (at + 1) text) ≡ true
     → behind_padded (drop at text) ≡ true
 behind_here text at lt dot h = behind_at text at lt ∙ rw (dot, h) refl
 
-pub behind_dot : (text : List ℕ) (at : ℕ) → at < length text → begins_padded (drop (at + 1) text) ≡ false
+pub behind_dot : (text : List ℕ) (at : ℕ) → at < length text → begins_padded_run (drop (at + 1) text) ≡ false
     → behind_padded (drop at text) ≡ behind_padded (drop (at + 1) text)
 behind_dot text at lt h = behind_at text at lt ∙ rw h (none (get_or text at 0 == 46) (behind_padded (drop (at + 1) text)))
   where

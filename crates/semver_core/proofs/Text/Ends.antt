@@ -4,7 +4,9 @@ use Rattle.semver_core.proofs.Common.{is_listed, listed, Reads, VersionValue, Ha
 use Rattle.semver_core.proofs.Common.{drop, false, length, refl, take, true, ℕ, ◌+◌, ◌-◌, ◌<◌, ◌∷◌, ◌≡◌, ◌≤◌, drop-cons, drop_all}
 use Rattle.semver_core.proofs.Common.{list_all, list_from, list_len, Parses, map, take_rest, MAX_LENGTH, Id, ap, get_or, ◌==◌}
 use Rattle.semver_core.proofs.Common.{length-map, length-slice_split, nat_tests, ◌||◌, ◌&&◌}
-use Rattle.semver_core.proofs.Text.{Pieces.{begins_taken, begun_runs, taken_runs}, Runs.list_len_stop}
+use Rattle.semver_core.proofs.Common.{append-nil, cases_Bool, eqb-true, inl, inr, sym, take_all, ◌∙◌}
+use Rattle.semver_core.proofs.Text.Pieces.{begins_taken, begun_runs, list_len-append, runs_tail, taken_runs}
+use Rattle.semver_core.proofs.Text.{Listed.listed_begins, Runs.list_len_stop}
 
 -- the loop
 pub end_step : (xs : List ℕ) (i : ℕ) → i < length xs → goes_on (drop i xs) ≡ true
@@ -76,6 +78,41 @@ unfolding is_listed
 nothing_listed = refl
 
 pub ruleset lists_cut = (cut_listed, cut_found, take_rest, nothing_spelled, nothing_listed)
+
+-- a whole text spells a list
+listed_runs : (text : List ℕ) → 0 < length text → is_listed text ≡ list_all is_identifier (pieces text)
+unfolding is_listed
+listed_runs [] h = absurd (omega arith)
+listed_runs (c ∷ rest) h = refl
+
+begins_some : (text : List ℕ) → begins is_identifier_char text ≡ true → 0 < length text
+begins_some [] h = cc
+begins_some (c ∷ rest) h = omega arith
+
+whole_spelled : (text : List ℕ) → begins is_identifier_char text ≡ true → list_len text ≡ length text → is_listed text ≡ true
+whole_spelled text h e = rw (ap (λ n. take n text) e ∙ take_all (length text) text (omega arith)) at (is_spelled (take (list_len text) text) (runs_taken text h))
+
+pub none_listed : (text : List ℕ) → length text ≡ 0 → is_listed text ≡ true
+none_listed [] h = nothing_listed
+none_listed (c ∷ rest) h = absurd (omega arith)
+
+pub not_begun : (text : List ℕ) → 0 < length text → begins is_identifier_char text ≡ false → is_listed text ≡ false
+not_begun text some h = elim (cases_Bool (is_listed text)) [
+  | inl spelled ↦ cc (rw h at (listed_begins text spelled some))
+  | inr other ↦ other
+]
+
+pub whole_listed : (text : List ℕ) → begins is_identifier_char text ≡ true → (list_len text == length text) ≡ is_listed text
+whole_listed text h = elim (cases_Bool (is_listed text)) [
+  | inl spelled ↦
+      let runs = sym (listed_runs text (begins_some text h)) ∙ spelled in
+      let all = rw (append-nil text) at (list_len-append text [] (runs_tail (pieces text) runs)) in
+      rw (all, list_len_stop [] refl, spelled) (grind (arith, nat_tests))
+  | inr other ↦ elim (cases_Bool (list_len text == length text)) [
+    | inl same ↦ cc (rw other at (whole_spelled text h (eqb-true (list_len text) (length text) same)))
+    | inr less ↦ less ∙ sym other
+  ]
+]
 
 -- ---- the clauses of the readers
 

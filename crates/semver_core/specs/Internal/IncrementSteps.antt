@@ -1,6 +1,6 @@
 -- For proofs and private contracts: what the steps of `inc` say to one another.
 use Rattle.std.specs.Prelude.{◌≡◌, ◌==◌, ◌&&◌, not, if◌then◌else◌, ℕ, List, [], ◌∷◌}
-use Rattle.std.specs.Prelude.{map, Bool, Option, Some, None, Result, Ok, Err, ⊤}
+use Rattle.std.specs.Prelude.{◌+◌, drop, map, Bool, Option, Some, None, Result, Ok, Err, ⊤}
 use Rattle.std.specs.List.{join_with_byte, starts_with}
 use Rattle.std.specs.Prelude.{codes, nat_eq}
 use Rattle.semver_core.specs.Text.Identifiers.{Id, Numeric, AlphaNumeric}
@@ -17,9 +17,8 @@ use Rattle.semver_core.specs.declared.increment.IdentifierBase.{IdentifierBase}
 use Rattle.semver_core.specs.declared.increment.IncrementError.{IncrementError}
 use Rattle.semver_core.specs.declared.increment.levels.Level.{Level}
 use Rattle.semver_core.specs.declared.increment.levels.Level.TheVariants.{Major, Minor, Patch}
-use Rattle.semver_core.specs.declared.increment.next_ids.Counted.{Counted}
 use Rattle.semver_core.specs.declared.increment.parts_ref.PartsRef.{PartsRef}
-use Rattle.semver_core.specs.Internal.NextIds.{counted_ids}
+use Rattle.semver_core.specs.Internal.NextIds.{numbered}
 
 -- the five values of a version whose identifiers stand elsewhere
 abbrev pub parts_ref_value : PartsRef → VersionValue
@@ -71,10 +70,11 @@ abbrev pub RefusedWith : Fault → Failure IncrementError → Type 0
 RefusedWith fault (Refused e) = fault ≡ fault_of e
 RefusedWith fault (Memory e) = ⊤
 
--- the last number that was found in a list of which some identifiers are left
-abbrev pub Tracks : List Id → (left : List Id) → Option Counted → Type 0
+-- the place of the last number that was found in a list of which some identifiers are left, and the number
+abbrev pub Tracks : List Id → (left : List Id) → Option (ℕ × ℕ) → Type 0
 Tracks list left None = has_numeric list ≡ has_numeric left
-Tracks list left (Some c) = (list ≡ counted_ids c) × (has_numeric c.back ≡ has_numeric left)
+Tracks list left (Some last) = (list ≡ numbered list (Some last.1) last.0)
+    × (has_numeric (drop (last.0 + 1) list) ≡ has_numeric left)
 
 -- an allocation may fail where this is the answer: it is not `Overflow`, and P holds of its value
 abbrev pub MayAllocate : {A : Type 0} → (A → Type 0) → Result A Fault → Type 0

@@ -1,17 +1,17 @@
 -- For proofs and private contracts: which identifiers the next pre-release has.
-use Rattle.std.specs.Prelude.{List, [], ◌∷◌, ◌++◌, None, Some, take}
+use Rattle.std.specs.Prelude.{ℕ, List, ◌∷◌, ◌++◌, ◌+◌, Option, None, Some, drop, take}
 use Rattle.semver_core.specs.Text.Identifiers.{Id, Numeric, AlphaNumeric}
-use Rattle.semver_core.specs.declared.increment.next_ids.Counted.{Counted}
-use Rattle.semver_core.specs.declared.increment.next_ids.Form.{Form}
-use Rattle.semver_core.specs.declared.increment.next_ids.Form.TheVariants as form
+use Rattle.semver_core.specs.declared.increment.next_ids.NextIds.TheInside.{Inside}
 
--- the first identifiers of a list, a number, and other identifiers
-abbrev pub counted_ids : Counted → List Id
-counted_ids c = take c.len c.front ++ Numeric c.number ∷ c.back
+-- the identifiers of a list; a number stands in place of the one behind the first ones, or at the end where
+-- there is none
+abbrev pub numbered : List Id → Option ℕ → (before : ℕ) → List Id
+numbered ids None before = ids
+numbered ids (Some n) before = take before ids ++ Numeric n ∷ drop (before + 1) ids
 
 -- the identifiers of the next pre-release
-abbrev pub next_ids : Form → List Id
-next_ids (form.Rest ids) = ids
-next_ids (form.Counted ids) = counted_ids ids
-next_ids (form.Begun id number) = AlphaNumeric id.now ∷ elim number [ None ↦ [] | Some n ↦ Numeric n ∷ [] ]
-next_ids (form.Number n) = Numeric n ∷ []
+abbrev pub next_ids : Inside → List Id
+next_ids v = elim v.asked [
+  | None ↦ numbered v.ids v.number v.before
+  | Some id ↦ AlphaNumeric id.now ∷ numbered v.ids v.number v.before
+]

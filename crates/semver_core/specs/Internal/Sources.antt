@@ -26,7 +26,7 @@ unfoldable pub has_padded : List ℕ → Bool
 has_padded text = list_any is_padded (pieces text)
 
 -- the text begins with a 0 that no dot follows, but another byte
-abbrev pub begins_padded : List ℕ → Bool
-begins_padded [] = false
-begins_padded (c ∷ []) = false
-begins_padded (c ∷ d ∷ rest) = c == 48 && not (d == 46)
+abbrev pub begins_padded_run : List ℕ → Bool
+begins_padded_run [] = false
+begins_padded_run (c ∷ []) = false
+begins_padded_run (c ∷ d ∷ rest) = c == 48 && not (d == 46)

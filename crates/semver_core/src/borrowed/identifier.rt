@@ -41,7 +41,7 @@ impl Identifier {
 impl<'a> IdentifierRef<'a> {
     // The identifier with the bytes of its text.
     #[inline(always)]
-    fn bare(self) -> IdRef<'a>
+    pub(crate) fn bare(self) -> IdRef<'a>
         ensures { id_ref_view result ≡ lent_id_view self.entry }
     {
         match self {

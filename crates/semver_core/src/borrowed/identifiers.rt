@@ -2,10 +2,10 @@
 
 ghost use Rattle.std.specs.Prelude.{◌≡◌, ◌∷◌, ◌++◌, ◌<◌, ◌≤◌, IfOk, OnErr};
 ghost use Rattle.semver_core.specs.Words.{is_listed, item_count, lent_id_view, OnOk, YieldsFirstBy};
-ghost use Rattle.semver_core.specs.Words.{id_cmp, ids_of, ids_view, is_empty, IsSource, slice_cmp};
-ghost use Rattle.semver_core.specs.Words.{[], IfNone, IfSome, is_normal, length, list_all, listed};
-ghost use Rattle.semver_core.specs.Words.{begins_padded, has_padded, id_text, join_with_byte, map};
-ghost use Rattle.semver_core.specs.Words.{true};
+ghost use Rattle.semver_core.specs.Words.{id_cmp, id_ref_view, ids_view, is_empty, slice_cmp};
+ghost use Rattle.semver_core.specs.Words.{[], HasText, IfSome, is_normal, length, list_all, listed};
+ghost use Rattle.semver_core.specs.Words.{begins_padded_run, has_padded, id_text, join_with_byte};
+ghost use Rattle.semver_core.specs.Words.{map, true};
 
 use crate::borrowed::dotted::{IdRef, cmp_texts, first_id};
 use crate::{Allocated, Identifier, IdentifierRef, scan};
@@ -46,6 +46,16 @@ impl<'a> IdentifierRefs<'a> {
         ensures { result ≡ ids_view items.now }
     {
         let source = Source::Items(items);
+        IdentifierRefs { source }
+    }
+
+    // No identifier.
+    #[inline(always)]
+    #[tactic(auto, using(crate::proofs::Text::Ends::lists_cut))]
+    pub(crate) fn none() -> IdentifierRefs<'a>
+        ensures { result ≡ [] }
+    {
+        let source = Source::Text(b"");
         IdentifierRefs { source }
     }
 
@@ -139,6 +149,28 @@ impl<'a> IdentifierRefs<'a> {
         Ok(list)
     }
 
+    // `next` with the bytes of the identifier, which are not tested to be a text.
+    #[inline(always)]
+    #[tactic(auto, using(crate::proofs::Text::Listed::listed_none))]
+    pub(crate) fn next_bare(&mut self) -> Option<IdRef<'a>>
+        ensures first { YieldsFirstBy id_ref_view (λ ids. ids) self.old result self.new }
+        ensures text { IfSome result (λ id. HasText id) }
+    {
+        match self.source {
+            Source::Items(items) => {
+                let (first, others) = items.split_first()?;
+                self.source = Source::Items(others);
+                Some(first.as_ref().bare())
+            }
+            Source::Text([]) => None,
+            Source::Text(text) => {
+                let (first, others) = first_id(text);
+                self.source = Source::Text(others);
+                Some(first)
+            }
+        }
+    }
+
     // Whether its own text spells each identifier.
     pub(crate) fn are_normal(self) -> bool
         ensures { result ≡ list_all is_normal self.entry }
@@ -171,8 +203,8 @@ impl<'a> IdentifierRefs<'a> {
 
 // Whether a text begins with a 0 that no dot follows, but another byte.
 #[inline(always)]
-fn begins_padded(text: &[u8]) -> bool
-    ensures { result ≡ begins_padded text.now }
+fn begins_padded_run(text: &[u8]) -> bool
+    ensures { result ≡ begins_padded_run text.now }
 {
     matches!(text, [b'0', next, ..] if *next != b'.')
 }
@@ -183,11 +215,11 @@ fn begins_padded(text: &[u8]) -> bool
 fn has_padded(text: &[u8]) -> bool
     ensures { result ≡ has_padded text.now }
 {
-    if begins_padded(text) {
+    if begins_padded_run(text) {
         return true;
     }
     for at in 0..text.len() {
-        if text[at] == b'.' && begins_padded(&text[at + 1..]) {
+        if text[at] == b'.' && begins_padded_run(&text[at + 1..]) {
             return true;
         }
     }
@@ -205,35 +237,6 @@ fn push_copies(alloc: Global, items: &[Identifier], list: &mut Vec<Identifier>) 
     Ok(())
 }
 
-// The first identifier, and where the others stand.
-#[inline(always)]
-#[tactic(auto, using(crate::proofs::Text::Listed::listed_none))]
-fn split_first(source: Source<'_>) -> Option<(IdentifierRef<'_>, Source<'_>)>
-    requires { IsSource source }
-    ensures none { IfNone result (ids_of source.entry ≡ []) }
-    ensures some { IfSome result (λ found.
-        ids_of source.entry ≡ lent_id_view found.0 ∷ ids_of found.1) }
-    ensures listed { IfSome result (λ found. IsSource found.1) }
-{
-    match source {
-        Source::Items(items) => {
-            let (first, others) = items.split_first()?;
-            Some((first.as_ref(), Source::Items(others)))
-        }
-        Source::Text(text) => {
-            if text.is_empty() {
-                return None;
-            }
-            let (first, others) = first_id(text);
-            let first = match first {
-                IdRef::Numeric(number) => IdentifierRef::Numeric(number),
-                IdRef::AlphaNumeric(text) => IdentifierRef::AlphaNumeric(scan::text_front(text)),
-            };
-            Some((first, Source::Text(others)))
-        }
-    }
-}
-
 /// Each identifier once, in the order of the list.
 impl<'a> Iterator for IdentifierRefs<'a> {
     type Item = IdentifierRef<'a>;
@@ -244,9 +247,15 @@ impl<'a> Iterator for IdentifierRefs<'a> {
 
     #[inline(always)]
     fn next(&mut self) -> Option<IdentifierRef<'a>> {
-        let (first, others) = split_first(self.source)?;
-        self.source = others;
-        Some(first)
+        if let Source::Items(items) = self.source {
+            let (first, others) = items.split_first()?;
+            self.source = Source::Items(others);
+            return Some(first.as_ref());
+        }
+        Some(match self.next_bare()? {
+            IdRef::Numeric(number) => IdentifierRef::Numeric(number),
+            IdRef::AlphaNumeric(text) => IdentifierRef::AlphaNumeric(scan::text_front(text)),
+        })
     }
 }
 

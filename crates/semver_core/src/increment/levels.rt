@@ -5,58 +5,42 @@ ghost use Rattle.semver_core.specs.Words.{[], IfOk, parts_ref_value, ReturnsPart
 ghost use Rattle.semver_core.specs.Increments.Table as spec;
 ghost use Rattle.semver_core.specs.Internal.IncrementSteps as steps;
 
-use crate::Failure;
 use crate::increment::next::NextVersion;
 use crate::increment::next_ids::NextIds;
 use crate::increment::parts_ref::PartsRef;
 use crate::increment::pre_release::{advance, is_kept};
 use crate::increment::{IdentifierBase, IncrementError, one_more, refused_argument};
+use crate::{Failure, IdentifierRefs};
 use std::alloc::Global;
 
 // The row of a word.
 pub(super) fn by_word<'a>(
     alloc: Global,
-    version: &PartsRef<'a>,
+    version: PartsRef<'a>,
     word: &str,
     id: &'a str,
     base: IdentifierBase,
 ) -> Result<NextVersion<'a>, Failure<IncrementError>>
     ensures { steps.IsAnswer
-        (spec.by_word word.now id.now base (parts_ref_value version.now)) result }
+        (spec.by_word word.now id.now base (parts_ref_value version.entry)) result }
 {
-    match word {
-        "major" => Ok(release_of(&release_after(version, Level::Major, true)?)),
-        "minor" => Ok(release_of(&release_after(version, Level::Minor, true)?)),
-        "patch" => Ok(release_of(&release_after(version, Level::Patch, true)?)),
-        "premajor" => {
-            pre_step(
-                alloc,
-                &release_after(version, Level::Major, false)?,
-                id,
-                base,
-            )
-        }
-        "preminor" => {
-            pre_step(
-                alloc,
-                &release_after(version, Level::Minor, false)?,
-                id,
-                base,
-            )
-        }
-        "prepatch" => {
-            pre_step(
-                alloc,
-                &release_after(version, Level::Patch, false)?,
-                id,
-                base,
-            )
-        }
-        "prerelease" => prerelease(alloc, version, id, base),
-        "pre" => pre_step(alloc, version, id, base),
-        "release" => release(alloc, version),
-        _ => Err(refused_argument(alloc, word)),
-    }
+    let level = match word {
+        "major" => return Ok(release_of(release_after(&version, Level::Major, true)?)),
+        "minor" => return Ok(release_of(release_after(&version, Level::Minor, true)?)),
+        "patch" => return Ok(release_of(release_after(&version, Level::Patch, true)?)),
+        "premajor" => Some(Level::Major),
+        "preminor" => Some(Level::Minor),
+        "prepatch" => Some(Level::Patch),
+        "prerelease" if version.pre_release.is_empty() => Some(Level::Patch),
+        "prerelease" | "pre" => None,
+        "release" => return release(alloc, version),
+        _ => return Err(refused_argument(alloc, word)),
+    };
+    let start = match level {
+        Some(level) => release_after(&version, level, false)?,
+        None => version,
+    };
+    pre_step(alloc, start, id, base)
 }
 
 // A number that may rise.
@@ -91,35 +75,15 @@ fn release_after<'a>(
     })
 }
 
-fn prerelease<'a>(
-    alloc: Global,
-    version: &PartsRef<'a>,
-    id: &'a str,
-    base: IdentifierBase,
-) -> Result<NextVersion<'a>, Failure<IncrementError>>
-    ensures { steps.IsAnswer
-        (steps.by_prerelease id.now base (parts_ref_value version.now)) result }
-{
-    if version.pre_release.is_empty() {
-        pre_step(
-            alloc,
-            &release_after(version, Level::Patch, false)?,
-            id,
-            base,
-        )
-    } else {
-        pre_step(alloc, version, id, base)
-    }
-}
-
 fn release<'a>(
     alloc: Global,
-    version: &PartsRef<'a>,
+    version: PartsRef<'a>,
 ) -> Result<NextVersion<'a>, Failure<IncrementError>>
-    ensures { steps.IsAnswer (steps.by_release (parts_ref_value version.now)) result }
+    ensures { steps.IsAnswer (steps.by_release (parts_ref_value version.entry)) result }
 {
+    let is_release = version.pre_release.is_empty();
     let release = release_of(version);
-    if version.pre_release.is_empty() {
+    if is_release {
         let text = release.to_version(alloc)?.to_string(alloc)?;
         return Err(Failure::Refused(IncrementError::NotAPrerelease(text)));
     }
@@ -128,20 +92,20 @@ fn release<'a>(
 
 // The release of the same numbers.
 #[inline(always)]
-fn release_of<'a>(version: &PartsRef<'a>) -> NextVersion<'a>
-    ensures { result ≡ spec.release_of (parts_ref_value version.now) }
+fn release_of<'a>(version: PartsRef<'a>) -> NextVersion<'a>
+    ensures { result ≡ spec.release_of (parts_ref_value version.entry) }
 {
-    NextVersion::of(version, NextIds::none())
+    NextVersion::of(version, NextIds::of(IdentifierRefs::none(), None, 0))
 }
 
 // The pre-release of the same numbers that comes next.
 fn pre_step<'a>(
     alloc: Global,
-    version: &PartsRef<'a>,
+    version: PartsRef<'a>,
     id: &'a str,
     base: IdentifierBase,
 ) -> Result<NextVersion<'a>, Failure<IncrementError>>
-    ensures { steps.IsAnswer (spec.pre_step id.now base (parts_ref_value version.now)) result }
+    ensures { steps.IsAnswer (spec.pre_step id.now base (parts_ref_value version.entry)) result }
 {
     let mut ids = advance(alloc, &version.pre_release, id, base)?;
     if !id.is_empty() && !is_kept(id, &ids) {

@@ -38,16 +38,16 @@ impl<'a> Model for NextVersion<'a> {
 impl<'a> NextVersion<'a> {
     // The version of the same numbers and build with this pre-release.
     #[inline(always)]
-    pub(super) fn of(version: &PartsRef<'a>, pre_release: NextIds<'a>) -> NextVersion<'a>
-        ensures { result ≡ record (release_value version.now.major version.now.minor
-            version.now.patch) { pre_release = pre_release.entry; build = version.now.build } }
+    pub(super) fn of(version: PartsRef<'a>, pre_release: NextIds<'a>) -> NextVersion<'a>
+        ensures { result ≡ record (release_value version.entry.major version.entry.minor
+            version.entry.patch) { pre_release = pre_release.entry; build = version.entry.build } }
     {
         NextVersion {
             major: version.major,
             minor: version.minor,
             patch: version.patch,
             pre_release,
-            build: version.build.copy(),
+            build: version.build,
         }
     }
 

@@ -1,10 +1,10 @@
 // The identifiers of the next pre-release, where they stand.
 
-ghost use Rattle.std.specs.Prelude.{◌≡◌, ◌∷◌, ◌<◌, IfOk, OnErr};
+ghost use Rattle.std.specs.Prelude.{◌≡◌, ◌<◌, IfOk, OnErr};
 ghost use Rattle.semver_core.specs.Words.{[], begun, id_view, ids_view, is_empty, item_count};
-ghost use Rattle.semver_core.specs.Words.{length, lent_id_view, Numeric, YieldsFirstBy};
+ghost use Rattle.semver_core.specs.Words.{length, lent_id_view, YieldsFirstBy};
 ghost use Rattle.semver_core.specs.Internal.Inside.{build_of, IsFull, pre_release_of};
-ghost use Rattle.semver_core.specs.Internal.NextIds.{counted_ids};
+ghost use Rattle.semver_core.specs.Internal.NextIds.{numbered};
 
 use crate::increment::IdentifierBase;
 use crate::increment::pre_release::first_number;
@@ -13,47 +13,17 @@ use crate::{Allocated, Identifier, IdentifierRef, IdentifierRefs};
 use std::alloc::Global;
 use std::marker::Model;
 
-// The first identifiers of a list, as many as are counted, then a number and other identifiers.
-#[derive(Debug, Drop)]
-pub(super) struct Counted<'a> {
-    pub(super) front: IdentifierRefs<'a>,
-    pub(super) len: usize,
-    pub(super) number: u64,
-    pub(super) back: IdentifierRefs<'a>,
-}
-
-impl<'a> Counted<'a> {
-    #[inline(always)]
-    fn copy(&self) -> Counted<'a>
-        ensures { counted_ids result ≡ counted_ids self.now }
-    {
-        Counted {
-            front: self.front.copy(),
-            len: self.len,
-            number: self.number,
-            back: self.back.copy(),
-        }
-    }
-}
-
-// What the identifiers of the next pre-release are.
-#[derive(Debug, Drop)]
-enum Form<'a> {
-    // Those of a list.
-    Rest(IdentifierRefs<'a>),
-    // Those of a list in which the last number rose, or that got a number at its end.
-    Counted(Counted<'a>),
-    // An asked one, and perhaps a number.
-    Begun(&'a str, Option<u64>),
-    // A number alone.
-    Number(u64),
-}
-
 /// The identifiers of the next pre-release, one by one. In contracts it is the list of those that
 /// are left.
 #[derive(Debug, Drop)]
 pub struct NextIds<'a> {
-    form: Form<'a>,
+    // An asked one, which comes first.
+    asked: Option<&'a str>,
+    ids: IdentifierRefs<'a>,
+    // A number, and how many of the list come before it: it replaces the next one, and is the last
+    // where there is none.
+    number: Option<u64>,
+    before: usize,
 }
 
 /// In clauses, the identifiers are those that are left.
@@ -64,35 +34,21 @@ impl<'a> Model for NextIds<'a> {
 
     ghost Value = { List Id };
 
-    ghost view = { λ ids. next_ids ids.form };
+    ghost view = { next_ids };
 }
 
 impl<'a> NextIds<'a> {
-    // No identifier.
+    // Those of a list, where a number may replace the one behind the first ones.
     #[inline(always)]
-    pub(super) fn none() -> NextIds<'a>
-        ensures { result ≡ [] }
+    pub(super) fn of(ids: IdentifierRefs<'a>, number: Option<u64>, before: usize) -> NextIds<'a>
+        ensures { result ≡ numbered ids.entry number before }
     {
-        let form = Form::Rest(IdentifierRefs::of_items(&[]));
-        NextIds { form }
-    }
-
-    // A number alone.
-    #[inline(always)]
-    pub(super) fn number(number: u64) -> NextIds<'a>
-        ensures { result ≡ Numeric number ∷ [] }
-    {
-        let form = Form::Number(number);
-        NextIds { form }
-    }
-
-    // Some of a list, a number, and others.
-    #[inline(always)]
-    pub(super) fn counted(ids: Counted<'a>) -> NextIds<'a>
-        ensures { result ≡ counted_ids ids.entry }
-    {
-        let form = Form::Counted(ids);
-        NextIds { form }
+        NextIds {
+            asked: None,
+            ids,
+            number,
+            before,
+        }
     }
 
     // Those that an identifier begins.
@@ -100,12 +56,15 @@ impl<'a> NextIds<'a> {
     pub(super) fn begun(id: &'a str, base: IdentifierBase) -> NextIds<'a>
         ensures { result ≡ begun id.now base }
     {
-        let number = match base {
-            IdentifierBase::False => None,
-            IdentifierBase::Value(_) => Some(first_number(base)),
-        };
-        let form = Form::Begun(id, number);
-        NextIds { form }
+        NextIds {
+            asked: Some(id),
+            ids: IdentifierRefs::none(),
+            number: match base {
+                IdentifierBase::False => None,
+                IdentifierBase::Value(_) => Some(first_number(base)),
+            },
+            before: 0,
+        }
     }
 
     /// A copy: its identifiers stand where those of this one do.
@@ -113,24 +72,23 @@ impl<'a> NextIds<'a> {
     pub fn copy(&self) -> NextIds<'a>
         ensures { result ≡ self.now }
     {
-        let form = match &self.form {
-            Form::Rest(ids) => Form::Rest(ids.copy()),
-            Form::Counted(ids) => Form::Counted(ids.copy()),
-            Form::Begun(id, number) => Form::Begun(id, *number),
-            Form::Number(number) => Form::Number(*number),
-        };
-        NextIds { form }
+        NextIds {
+            asked: self.asked,
+            ids: self.ids.copy(),
+            number: self.number,
+            before: self.before,
+        }
     }
 
     /// Whether no identifier is left.
     #[inline(always)]
-    #[tactic(auto, using(crate::proofs::Increments::LastNumber::some_counted))]
+    #[tactic(auto, using(crate::proofs::Increments::LastNumber::some_numbered))]
     pub fn is_empty(&self) -> bool
         ensures { result ≡ is_empty self.now }
     {
-        match &self.form {
-            Form::Rest(ids) => ids.is_empty(),
-            Form::Counted(_) | Form::Begun(..) | Form::Number(_) => false,
+        match (self.asked, self.number) {
+            (None, None) => self.ids.is_empty(),
+            _ => false,
         }
     }
 
@@ -154,11 +112,11 @@ impl<'a> NextIds<'a> {
         ensures full { IfOk result (λ q. IsFull q) }
         ensures memory { OnErr result (0 < length self.now) }
     {
-        if self.is_empty() {
-            return Ok(Qualifier::Absent);
-        }
-        if let Form::Number(number) = self.form {
-            return Ok(Qualifier::One(Identifier::Numeric(number)));
+        if self.asked.is_none() && self.ids.is_empty() {
+            return Ok(match self.number {
+                Some(number) => Qualifier::One(Identifier::Numeric(number)),
+                None => Qualifier::Absent,
+            });
         }
         let ids = self.to_list(alloc)?;
         let pre_len = ids.len();
@@ -188,32 +146,19 @@ impl<'a> Iterator for NextIds<'a> {
 
     #[inline(always)]
     fn next(&mut self) -> Option<IdentifierRef<'a>> {
-        match &mut self.form {
-            Form::Rest(ids) => ids.next(),
-            Form::Counted(ids) => {
-                if ids.len > 0
-                    && let Some(first) = ids.front.next()
-                {
-                    ids.len -= 1;
-                    return Some(first);
-                }
-                let number = ids.number;
-                self.form = Form::Rest(ids.back.copy());
-                Some(IdentifierRef::Numeric(number))
-            }
-            Form::Begun(id, number) => {
-                let first = IdentifierRef::AlphaNumeric(id);
-                self.form = match *number {
-                    Some(number) => Form::Number(number),
-                    None => Form::Rest(IdentifierRefs::of_items(&[])),
-                };
-                Some(first)
-            }
-            Form::Number(number) => {
-                let first = IdentifierRef::Numeric(*number);
-                self.form = Form::Rest(IdentifierRefs::of_items(&[]));
-                Some(first)
-            }
+        if let Some(asked) = self.asked {
+            self.asked = None;
+            return Some(IdentifierRef::AlphaNumeric(asked));
         }
+        let id = self.ids.next();
+        let Some(number) = self.number else {
+            return id;
+        };
+        if self.before > 0 && id.is_some() {
+            self.before -= 1;
+            return id;
+        }
+        self.number = None;
+        Some(IdentifierRef::Numeric(number))
     }
 }

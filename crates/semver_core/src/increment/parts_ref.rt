@@ -53,7 +53,7 @@ impl<'a> PartsRef<'a> {
             major,
             minor,
             patch,
-            pre_release: IdentifierRefs::of_items(&[]),
+            pre_release: IdentifierRefs::none(),
             build: self.build.copy(),
         }
     }

@@ -1,14 +1,15 @@
 // The pre step: how the pre-release list goes on.
 
-ghost use Rattle.std.specs.Prelude.{◌≡◌, ◌<◌, ◌==◌, ◌∷◌, drop};
+ghost use Rattle.std.specs.Prelude.{◌≡◌, ◌<◌, ◌==◌};
 ghost use Rattle.semver_core.specs.Words.{[], bytes_eq, digits_value, false, has_numeric, id_cmp};
 ghost use Rattle.semver_core.specs.Words.{is_ascii_digit, is_eq, length, lent_id_view, list_all};
 ghost use Rattle.semver_core.specs.Words.{list_text, MayAllocate, MemoryOnlyIf, Returns, Tracks};
 ghost use Rattle.semver_core.specs.Words.{true};
 ghost use Rattle.semver_core.specs.Increments.Table as spec;
 
+use crate::borrowed::dotted::IdRef;
 use crate::identifier::are_digits;
-use crate::increment::next_ids::{Counted, NextIds};
+use crate::increment::next_ids::NextIds;
 use crate::increment::{IdentifierBase, IncrementError, one_more, refused_argument};
 use crate::{Failure, IdentifierRef, IdentifierRefs};
 use std::alloc::Global;
@@ -25,21 +26,15 @@ pub(super) fn advance<'a>(
         (spec.advance ids.now id.now base)) }
 {
     if ids.is_empty() {
-        return Ok(NextIds::number(first_number(base)));
+        return Ok(NextIds::of(ids.copy(), Some(first_number(base)), 0));
     }
-    if let Some(last) = last_number(ids) {
-        let number = one_more(last.number)?;
-        return Ok(NextIds::counted(Counted { number, ..last }));
+    if let Some((at, last)) = last_number(ids) {
+        return Ok(NextIds::of(ids.copy(), Some(one_more(last)?), at));
     }
     if matches!(base, IdentifierBase::False) && is_text_of(id, ids) {
         return Err(refused_argument(alloc, "identifier already exists"));
     }
-    Ok(NextIds::counted(Counted {
-        front: ids.copy(),
-        len: ids.at_most(),
-        number: first_number(base),
-        back: IdentifierRefs::of_items(&[]),
-    }))
+    Ok(NextIds::of(ids.copy(), Some(first_number(base)), ids.at_most()))
 }
 
 pub(super) fn first_number(base: IdentifierBase) -> u64
@@ -51,44 +46,22 @@ pub(super) fn first_number(base: IdentifierBase) -> u64
     }
 }
 
-// The last number of a list, and the identifiers on both sides of it.
-fn last_number<'a>(ids: &IdentifierRefs<'a>) -> Option<Counted<'a>>
+// The place of the last number of a list, and the number.
+fn last_number(ids: &IdentifierRefs<'_>) -> Option<(usize, u64)>
     ensures { Tracks ids.now [] result }
 {
     let mut last = None;
     let mut others = ids.copy();
-    'ids: for len in 0..ids.at_most() {
-        let Some(id) = others.next() else {
+    'ids: for at in 0..ids.at_most() {
+        let Some(id) = others.next_bare() else {
             break;
         };
-        last = last_after(last, id, ids, len, &others);
+        last = match id {
+            IdRef::Numeric(number) => Some((at, number)),
+            IdRef::AlphaNumeric(_) => last,
+        };
     }
     last
-}
-
-// The last number where one more identifier of a list was looked at, behind this many.
-#[inline(always)]
-#[tactic(auto, using(crate::proofs::Increments::LastNumber::tracked))]
-fn last_after<'a>(
-    last: Option<Counted<'a>>,
-    id: IdentifierRef<'_>,
-    ids: &IdentifierRefs<'a>,
-    len: usize,
-    others: &IdentifierRefs<'a>,
-) -> Option<Counted<'a>>
-    requires at { drop len ids.now ≡ lent_id_view id ∷ others.now }
-    requires last { Tracks ids.now (lent_id_view id ∷ others.now) last }
-    ensures { Tracks ids.now others.now result }
-{
-    match id {
-        IdentifierRef::Numeric(number) => Some(Counted {
-            front: ids.copy(),
-            len,
-            number,
-            back: others.copy(),
-        }),
-        IdentifierRef::AlphaNumeric(_) => last,
-    }
 }
 
 // Whether a text is that of a list without numbers, its identifiers joined by dots.
