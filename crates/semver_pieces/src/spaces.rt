@@ -49,7 +49,8 @@ pub fn space_len(text: &[u8]) -> usize
     }
 }
 
-/// The text behind the whitespace at its front. Mostly there is none, which one byte shows.
+/// The text behind the whitespace at its front. Mostly there is none, which one byte shows, or one
+/// space.
 #[inline(always)]
 pub fn skip_spaces(text: &[u8]) -> &[u8]
     ensures { result.now ≡ drop_spaces text.now }
@@ -57,6 +58,7 @@ pub fn skip_spaces(text: &[u8]) -> &[u8]
     match text {
         [] => text,
         [byte, ..] if byte.is_ascii_graphic() => text,
+        [b' ', byte, ..] if byte.is_ascii_graphic() => &text[1..],
         _ => skip_some(text),
     }
 }

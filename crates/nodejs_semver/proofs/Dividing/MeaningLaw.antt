@@ -1,6 +1,6 @@
 -- What a text denotes is its one meaning, and the versions that are computed of it are those that it writes.
 use Rattle.nodejs_semver.proofs.{Algebra.{Accepting.accepts-held, Holds.denotes_hold}, Common.{AllByRecursion, Any, Bool, IfNone, IfSome}}
-use Rattle.nodejs_semver.proofs.Common.{IsBlank, IsCutAtBars, IsSomeAnd, IsTrim, IsTrue}
+use Rattle.nodejs_semver.proofs.Common.{IsBlank, IsCutAtBars, IsSomeAnd, IsTrim, IsTrue, has_bars, part_intervals}
 use Rattle.nodejs_semver.proofs.Common.{IsUtf8, List, Means, Option, Run, Span, VersionValue, Word}
 use Rattle.nodejs_semver.proofs.Common.{[], accepts, and_from, ap, append-nil, arith, cases_Bool, common_steps, cut_bars, denotes}
 use Rattle.nodejs_semver.proofs.Common.{drop_spaces, empty_is, encode_utf8, encode_utf8_all, false, filter_map, flat_map, get_or, if_any, inl, inr}
@@ -15,6 +15,7 @@ use Rattle.{nodejs_semver.specs.Text.{Meaning.{no_piece, no_word}, WrittenSet.Wr
 use Rattle.semver_core.proofs.{Dividing.BarsDivide.bars_once, Reading.Boundaries.{skips-is, skips-of, skips-utf8, spaces-gone, spaces-le, trim-utf8}}
 use Rattle.{semver_core.proofs.{Reading.Bytes.trim-starts, Text.Trims.trim_parts}}
 use Rattle.std.proofs.lemmas.{Bool.false_from_ne_true, List.Folds.{Any-from_list_any, list_any-from_Any}}
+use Rattle.semver_core.specs.Text.Bars.{one_piece}
 pub use Rattle.semver_core.proofs.Dividing.BarsDivide.{pieces-utf8}
 
 -- ---- the words of a part
@@ -169,6 +170,16 @@ filled_text text u h = false_from_ne_true _ (λ blank. h ((blank_text text u).0 
 pub filled_denotes : (limit : ℕ) (text : List ℕ) (ps : List (List ℕ)) → IsUtf8 text → (IsBlankText text → ⊥) → ps ≡ parts text
     → flat_map (part_denotes limit) ps ≡ denotes limit text
 filled_denotes limit text ps u h e = rw (e, filled_text text u h) refl
+
+-- what a text means that has no bars: what its one part does
+pub one_part : (limit : ℕ) (text part : List ℕ) → has_bars text ≡ false → IsTrim text part → part_denotes limit part ≡ denotes limit text
+one_part limit text part none trimmed =
+    let cut : cut_bars false text ≡ text ∷ [] = sym (bars_once text (text ∷ []) (one_piece text none)) in
+    let same : part ≡ trim text = middle_is_trim text part trimmed in
+    rw (same, cut) (elim (cases_Bool (is_empty (trim text))) [
+      | inl empty ↦ rw empty refl
+      | inr some ↦ rw some (sym (append-nil (part_intervals limit (trim text))))
+    ])
 
 -- ---- what is computed of the versions that a text writes is what it writes
 

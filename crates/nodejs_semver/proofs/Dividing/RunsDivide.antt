@@ -164,6 +164,15 @@ pub part-step : (limit : ℕ) (text after : List ℕ) (o : Option (Span VersionV
     → joined precedence None (part_bounds limit text) ≡ joined precedence None (cons_option o (part_bounds limit after))
 part-step limit text after o some h e = grind (arith, nat_tests, common_steps, bounds-step)
 
+-- what the first interval of a part and those behind it add
+pub part-first : (limit : ℕ) (part text after : List ℕ) (first : Span VersionValue) (o : Option (Span VersionValue)) (found before : List (Span VersionValue))
+    → 0 < length text → space_len text ≡ 0 → Some first ≡ o → (o, after) ≡ next_at limit text → found ≡ before
+    → joined precedence None (part_bounds limit text) ≡ part_intervals limit part
+    → found ++ joined_from precedence first (part_bounds limit after) ≡ before ++ part_intervals limit part
+part-first limit part text after first o found before some h is e same whole =
+    let step = part-step limit text after (Some first) some h (read-is limit text after o (Some first) is e) in
+    rw same (ap (λ (l : List (Span VersionValue)). before ++ l) (sym step ∙ whole))
+
 -- no word is left
 pub part-last : (limit : ℕ) (rest : List ℕ) → length rest ≡ 0 → joined precedence None (part_bounds limit rest) ≡ []
 part-last limit rest none = rw (bounds-end limit rest none) refl

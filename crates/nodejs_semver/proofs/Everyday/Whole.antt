@@ -4,8 +4,8 @@ use Rattle.nodejs_semver.proofs.Common.{is_range_span, Span, if_any, VersionValu
 use Rattle.nodejs_semver.proofs.Common.{IsUtf8, IfNone}
 use Rattle.nodejs_semver.proofs.{Bounds.Table.{denotes-bounded}, Dividing.MeaningLaw.{meant, one_meaning}}
 use Rattle.nodejs_semver.proofs.Everyday.{Parts.{parts-utf8}, Texts.{common_parts_are_denoted, list-some}}
-use Rattle.nodejs_semver.proofs.Common.{Bool, None, false, list_any, refl, suc, take, zero, ◌∷◌}
-use Rattle.memchr.specs.Find.{IsFirstByte}
+use Rattle.nodejs_semver.proofs.Common.{Bool, None, false, has_bars, list_any, refl, suc, take, zero, ◌==◌, ◌∷◌, ◌||◌}
+use Rattle.memchr.specs.Find.{IsFirstByte, is_byte3}
 use Rattle.std.proofs.lemmas.Bool.{false_from_ne_true}
 use Rattle.std.specs.Prelude.{slice_index, unwrap_or}
 
@@ -52,3 +52,12 @@ pub before-first : (p : ℕ → Bool) (text : List ℕ) (r : Option ℕ) → IsF
     → list_any p (take (unwrap_or r (length text)) text) ≡ false
 before-first p text None h = none-below p text (length text) (λ k lt. h k (omega arith) lt)
 before-first p text (Some n) h = none-below p text n (λ k lt. h.0.before k (omega arith) lt)
+
+-- where neither a bar nor what ends a field stands
+pub no_end : (text : List ℕ) → list_any (is_byte3 124 59 10) text ≡ false → list_any (λ b. b == 59 || b == 10) text ≡ false
+no_end [] h = refl
+no_end (b ∷ rest) h = grind (arith, nat_tests, no_end rest)
+
+pub no_bars : (text : List ℕ) → list_any (is_byte3 124 59 10) text ≡ false → has_bars text ≡ false
+no_bars [] h = refl
+no_bars (b ∷ rest) h = grind (arith, nat_tests, no_bars rest)

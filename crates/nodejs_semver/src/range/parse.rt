@@ -3,15 +3,16 @@
 ghost use Rattle.std.specs.Prelude.{◌<◌, ◌==◌, ◌||◌, ◌↔◌, ◌≡◌, ◌≤◌, [], drop, IfOk, IfSome, IsTrue};
 ghost use Rattle.std.specs.Prelude.{take};
 ghost use Rattle.nodejs_semver.specs.Words.{accepts, AreCommonParts, denotes, ends_field};
-ghost use Rattle.nodejs_semver.specs.Words.{false, IsRange, length, List, list_any, Means};
-ghost use Rattle.nodejs_semver.specs.Words.{MemoryOnlyIf, OnErr, OnOk, RefusedOnlyIf, Span};
-ghost use Rattle.nodejs_semver.specs.Words.{TakesMemory, true, VersionValue, Writes};
+ghost use Rattle.nodejs_semver.specs.Words.{false, has_bars, IsFalse, IsRange, length, List};
+ghost use Rattle.nodejs_semver.specs.Words.{list_any, Means, MemoryOnlyIf, OnErr, OnOk};
+ghost use Rattle.nodejs_semver.specs.Words.{RefusedOnlyIf, Span, TakesMemory, true};
+ghost use Rattle.nodejs_semver.specs.Words.{VersionValue, Writes};
 ghost use Rattle.smallvec.specs.SmallVec.{HasRoomFor};
 
 use crate::range::owned::owned_intervals;
 use crate::readers::{read_any, read_common, read_front};
 use crate::{Range, RangeOf, RangeRef};
-use memchr::memchr2;
+use memchr::{memchr2, memchr3};
 use semver_core::cuts::Interval;
 use semver_core::{Failure, MAX_SAFE_INTEGER, SemverError, Version, VersionRef};
 use semver_pieces::{Found, Intervals};
@@ -93,10 +94,7 @@ fn read_copies(text: &str, found: &mut Intervals<Version>) -> Result<(), Failure
 {
     let alloc = *found.allocator();
     let mut borrowed = SmallVec::new(alloc);
-    read_any(text, &mut borrowed)?;
-    if borrowed.is_empty() {
-        return Err(Failure::Refused(SemverError));
-    }
+    read_loose(text, true, &mut borrowed)?;
     *found = owned_intervals(alloc, &borrowed)?;
     Ok(())
 }
@@ -228,7 +226,7 @@ fn read_text<'a>(
 {
     match read_parts(text.as_bytes(), found) {
         Some(end) if end == text.len() => Ok(()),
-        _ => read_loose(text, found),
+        _ => read_loose(text, true, found),
     }
 }
 
@@ -239,6 +237,21 @@ fn ends_field(text: &[u8], end: usize) -> bool
     ensures { result ≡ ends_field (drop end text.now) }
 {
     matches!(&text[end..], [] | [b';' | b'\n', ..])
+}
+
+// Where a field ends, and whether bars may stand in it. One search finds both for most fields.
+#[inline(always)]
+fn field_end(text: &[u8]) -> (usize, bool)
+    ensures place { result.0 ≤ length text.now }
+    ensures plain { list_any (λ b. b == 59 || b == 10) (take result.0 text.now) ≡ false }
+    ensures ends { ends_field (drop result.0 text.now) ≡ true }
+    ensures bars { IsFalse result.1 → has_bars (take result.0 text.now) ≡ false }
+{
+    let at = memchr3(b'|', b';', b'\n', text).unwrap_or(text.len());
+    if !matches!(&text[at..], [b'|', ..]) {
+        return (at, false);
+    }
+    (memchr2(b';', b'\n', text).unwrap_or(text.len()), true)
 }
 
 // `RangeReader::read_field` where the end of the field is looked for first.
@@ -258,8 +271,8 @@ fn read_whole_field<'a>(
     ensures memory { MemoryOnlyIf result.0 ((r : List (Span VersionValue)) →
         Means MAX_SAFE_INTEGER (take result.1 text.now) r → 1 < length r) }
 {
-    let end = memchr2(b';', b'\n', text.as_bytes()).unwrap_or(text.len());
-    let read = read_loose(&text[..end], found);
+    let (end, barred) = field_end(text.as_bytes());
+    let read = read_loose(&text[..end], barred, found);
     if read.is_err() {
         let alloc = *found.allocator();
         *found = SmallVec::new(alloc);
@@ -268,20 +281,21 @@ fn read_whole_field<'a>(
     (read, end)
 }
 
-// `read_text` where the text may have any form.
-#[cold]
-#[inline(never)]
+// `read_text` where the text may have any form, but bars only where it is `barred`.
+#[inline(always)]
 fn read_loose<'a>(
     text: &'a str,
+    barred: bool,
     found: &mut Intervals<VersionRef<'a>>,
 ) -> Result<(), Failure<SemverError>>
+    requires { IsFalse barred → has_bars text.now ≡ false }
     ensures ok { OnOk result (Means MAX_SAFE_INTEGER text.now found.new.items) }
     ensures range { OnOk result (IsRange MAX_SAFE_INTEGER found.new.items) }
     ensures refused { RefusedOnlyIf result (Means MAX_SAFE_INTEGER text.now []) }
     ensures memory { MemoryOnlyIf result ((r : List (Span VersionValue)) →
         Means MAX_SAFE_INTEGER text.now r → 1 < length r) }
 {
-    read_any(text, found)?;
+    read_any(text, barred, found)?;
     if found.is_empty() {
         return Err(Failure::Refused(SemverError));
     }

@@ -68,12 +68,20 @@ pub(crate) fn word_front(text: &[u8]) -> (Result<Interval<VersionRef<'_>>, Ignor
 
 // The interval of the word at the front, where it has one, and the text behind the word and its
 // whitespace.
-#[inline(never)]
+#[inline(always)]
 fn next_interval(text: &[u8]) -> (Option<Interval<VersionRef<'_>>>, &[u8])
     ensures { next_view result.0 result.1 ≡ next_at MAX_SAFE_INTEGER text.now }
 {
     let (word, rest) = word_front(text);
     (word.ok(), skip_spaces(rest))
+}
+
+// `next_interval` of a word that is not the first one of its part.
+#[inline(never)]
+fn later_interval(text: &[u8]) -> (Option<Interval<VersionRef<'_>>>, &[u8])
+    ensures { next_view result.0 result.1 ≡ next_at MAX_SAFE_INTEGER text.now }
+{
+    next_interval(text)
 }
 
 // The running interval with one more: the intersection of both, or the next one alone, and then the
@@ -110,6 +118,9 @@ pub(crate) fn read_part<'a>(part: &'a [u8], found: &mut Intervals<VersionRef<'a>
     'words: while !rest.is_empty() {
         let (next, after) = next_interval(rest);
         if let Some(first) = next {
+            if after.is_empty() {
+                return found.add(first);
+            }
             return read_words(first, after, found);
         }
         rest = after;
@@ -118,6 +129,7 @@ pub(crate) fn read_part<'a>(part: &'a [u8], found: &mut Intervals<VersionRef<'a>
 }
 
 // Adds the intervals of the words that follow the first one with an interval.
+#[inline(never)]
 fn read_words<'a>(
     first: Interval<VersionRef<'a>>,
     text: &'a [u8],
@@ -132,7 +144,7 @@ fn read_words<'a>(
     let mut running = first;
     let mut rest = text;
     'words: while !rest.is_empty() {
-        let (next, after) = next_interval(rest);
+        let (next, after) = later_interval(rest);
         rest = after;
         if let Some(next) = next {
             running = meet_or_finish(running, next, found)?;

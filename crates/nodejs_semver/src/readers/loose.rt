@@ -1,15 +1,17 @@
 // The reader of range texts, word by word.
 
 ghost use Rattle.std.specs.Prelude.{◌++◌, ◌<◌, ◌↔◌, ◌∷◌, ◌≡◌};
-ghost use Rattle.nodejs_semver.specs.Words.{[], denotes, flat_map, IfNone, IfOk, IfSome, is_empty};
-ghost use Rattle.nodejs_semver.specs.Words.{IsBlankText, IsTrue, later_parts, length, List};
-ghost use Rattle.nodejs_semver.specs.Words.{list_all, Means, OnErr, OnOk, part_denotes, rest_view};
-ghost use Rattle.nodejs_semver.specs.Words.{space_len, Span, TakesMemory, VersionValue};
+ghost use Rattle.nodejs_semver.specs.Words.{[], denotes, false, flat_map, has_bars, IfNone, IfOk};
+ghost use Rattle.nodejs_semver.specs.Words.{IfSome, is_empty, IsBlankText, IsFalse, IsTrue};
+ghost use Rattle.nodejs_semver.specs.Words.{later_parts, length, List, list_all, Means, OnErr};
+ghost use Rattle.nodejs_semver.specs.Words.{OnOk, part_denotes, rest_view, space_len};
+ghost use Rattle.nodejs_semver.specs.Words.{Span, TakesMemory, VersionValue};
 
 use crate::range::owned::owned_range;
 use crate::readers::intervals;
 use crate::{Allocated, Range, RangeRef};
 use semver_core::cuts::Interval;
+use semver_core::scan::trim;
 use semver_core::{MAX_SAFE_INTEGER, VersionRef};
 use semver_pieces::{Found, Intervals, next_part};
 use smallvec::SmallVec;
@@ -41,6 +43,7 @@ fn are_blank(text: Option<&str>) -> bool
 
 // Adds what a part means: one interval without bounds where it is empty, and else the intervals of
 // its words.
+#[inline(always)]
 fn add_part<'a>(part: &'a str, found: &mut Intervals<VersionRef<'a>>) -> Allocated<()>
     requires { space_len part.now ≡ 0 }
     ensures added { OnOk result (
@@ -78,22 +81,42 @@ fn add_parts<'a>(
     Ok(())
 }
 
-/// Reads the intervals of a range text of any length into a list, in place of what it holds. Fails
-/// only if allocation fails, and then the text has two intervals or more.
+// Adds to an empty list the intervals of a text that may have bars.
 #[cold]
 #[inline(never)]
-pub(crate) fn read_any<'a>(text: &'a str, found: &mut Intervals<VersionRef<'a>>) -> Allocated<()>
+fn add_all<'a>(text: &'a str, found: &mut Intervals<VersionRef<'a>>) -> Allocated<()>
+    requires { found.old.items ≡ [] }
+    ensures added { OnOk result (found.new.items ≡ denotes MAX_SAFE_INTEGER text.now) }
+    ensures memory { OnErr result (1 < length (denotes MAX_SAFE_INTEGER text.now)) }
+{
+    let (part, rest) = next_part(text);
+    if part.is_empty() && are_blank(rest) {
+        return found.add(Interval::default());
+    }
+    add_parts(part, rest, found)
+}
+
+/// Reads the intervals of a range text of any length into a list, in place of what it holds. Only a
+/// `barred` text is searched for bars: any other has none. Fails only if allocation fails, and then
+/// the text has two intervals or more.
+#[inline(always)]
+pub(crate) fn read_any<'a>(
+    text: &'a str,
+    barred: bool,
+    found: &mut Intervals<VersionRef<'a>>,
+) -> Allocated<()>
+    requires { IsFalse barred → has_bars text.now ≡ false }
     ensures read { OnOk result (found.new.items ≡ denotes MAX_SAFE_INTEGER text.now) }
     ensures memory { OnErr result (1 < length (denotes MAX_SAFE_INTEGER text.now)) }
 {
     if !found.is_empty() {
         found.clear();
     }
-    let (part, rest) = next_part(text);
-    if part.is_empty() && are_blank(rest) {
-        return found.add(Interval::default());
+    if barred {
+        add_all(text, found)
+    } else {
+        add_part(trim(text), found)
     }
-    add_parts(part, rest, found)
 }
 
 /// Reads a range text of any length. Returns `None` if no part has an interval; fails only if

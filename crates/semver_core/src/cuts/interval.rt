@@ -179,6 +179,7 @@ impl<V: Point> Interval<V> {
 
     /// The intersection, by moving the bounds of both intervals. It allocates nothing. Where
     /// `intersect` would return `None`, both intervals are returned to the caller.
+    #[inline(always)]
     pub fn into_intersection(self, other: Self) -> Result<Self, (Self, Self)>
         ensures common { IfOk result (λ r. Some r ≡ meet V.cmp self other) }
         ensures none { IfErr result (λ both. meet V.cmp self other ≡ None) }

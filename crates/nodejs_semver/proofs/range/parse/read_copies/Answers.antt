@@ -1,21 +1,18 @@
-use Rattle.nodejs_semver.proofs.Common.{MAX_SAFE_INTEGER, TakesMemory, [], arith, common_steps, denotes, inl, rules, sym, ◌≡◌}
-use Rattle.nodejs_semver.proofs.Dividing.MeaningLaw.{meant, meant_so}
+use Rattle.nodejs_semver.proofs.Common.{List, MAX_SAFE_INTEGER, Means, Span, TakesMemory, VersionValue, arith, common_steps, rules, subst, sym}
+use Rattle.nodejs_semver.proofs.Dividing.MeaningLaw.{one_meaning, same_meaning}
 use Rattle.nodejs_semver.proofs.range.parse.read_copies.Goals as goal
 
-pub returns-in_err-read_any-clause-memory : goal.returns-in_err-read_any-clause-memory
-returns-in_err-read_any-clause-memory c =
-    let e = c.from_residual.ensures in
-    let h = meant_so TakesMemory MAX_SAFE_INTEGER c.args.text.now c.utf8.text (inl c.in_err-read_any.ensures.memory) in
-    search rules
-
-pub returns-then-is_empty-clause-refused : goal.returns-then-is_empty-clause-refused
-returns-then-is_empty-clause-refused c =
-    let none : denotes MAX_SAFE_INTEGER c.args.text.now ≡ [] = grind (arith, common_steps) in
-    meant MAX_SAFE_INTEGER c.args.text.now [] c.utf8.text (sym none)
+pub returns-clause-read : goal.returns-clause-read
+returns-clause-read c =
+    let text = c.args.text.now in
+    let meant = sym ((one_meaning MAX_SAFE_INTEGER text c.read_loose.new.found.items c.utf8.text).1 c.in_ok-read_loose.ensures.ok) in
+    cc (meant, c.in_ok-found.ensures.whole, c.deref.ensures)
 
 pub returns-in_err-found-clause-memory : goal.returns-in_err-found-clause-memory
 returns-in_err-found-clause-memory c =
+    let text = c.args.text.now in
     let e = c.from_residual-in_err-found.ensures in
-    let takes : TakesMemory (denotes MAX_SAFE_INTEGER c.args.text.now) = grind (arith, common_steps) in
-    let h = meant_so TakesMemory MAX_SAFE_INTEGER c.args.text.now c.utf8.text takes in
+    let takes : TakesMemory c.read_loose.new.found.items = grind (arith, common_steps) in
+    let h : (r : List (Span VersionValue)) → Means MAX_SAFE_INTEGER text r → TakesMemory r =
+    λ r m. subst TakesMemory (same_meaning MAX_SAFE_INTEGER text c.read_loose.new.found.items r c.utf8.text c.in_ok-read_loose.ensures.ok m) takes in
     search rules
