@@ -3,8 +3,9 @@
 ghost use Rattle.std.specs.Prelude.{◌≡◌, ◌++◌, IfOk, map, OnOk};
 ghost use Rattle.key_spans.specs.Internal.Kinds.{start_place, stop_place, stretch};
 ghost use Rattle.key_spans.specs.Internal.Pieces.{IsCanonicalOf};
-ghost use Rattle.key_spans.specs.Internal.Places.{bound_stretch, greater, lesser, own_stretch};
-ghost use Rattle.key_spans.specs.Internal.Places.{pre_releases, pre_stretch, pre_stretches};
+ghost use Rattle.key_spans.specs.Internal.Places.{bound_stretch, greater, lesser, own_part};
+ghost use Rattle.key_spans.specs.Internal.Places.{own_stretch, pre_releases, pre_stretch};
+ghost use Rattle.key_spans.specs.Internal.Places.{pre_stretches};
 ghost use Rattle.nodejs_semver.specs.Internal.Shorthands.{spans_of};
 ghost use Rattle.nodejs_semver.specs.Ranges.View.{bound_of, span_of};
 
@@ -95,6 +96,19 @@ fn pre_part<V: VersionPoint>(alloc: Global, interval: &Interval<V>) -> Result<Pa
     Ok(Part { start, stop })
 }
 
+// The pre-releases of a version's numbers within a part.
+fn own_part<V: Versioned>(alloc: Global, within: &Part, version: &V) -> Result<Part, AllocError>
+    ensures { IfOk result (λ part.
+        part ≡ own_part within.now.start within.now.stop (V.value version.now)) }
+{
+    let (major, minor, patch) = (version.major(), version.minor(), version.patch());
+    let lowest = lowest(major, minor, patch).key(alloc)?;
+    let release = release_key(alloc, version)?;
+    let start = greater_of(&within.start, &lowest);
+    let stop = lesser_of(&within.stop, &release);
+    Part::between(alloc, start, stop)
+}
+
 // Adds the pre-releases of a version's numbers within a part, if the version is one.
 fn add_own<V: Versioned>(
     alloc: Global,
@@ -108,12 +122,7 @@ fn add_own<V: Versioned>(
     if version.is_release() {
         return Ok(());
     }
-    let (major, minor, patch) = (version.major(), version.minor(), version.patch());
-    let lowest = lowest(major, minor, patch).key(alloc)?;
-    let release = release_key(alloc, version)?;
-    let start = greater_of(&within.start, &lowest);
-    let stop = lesser_of(&within.stop, &release);
-    parts.push(Part::between(alloc, start, stop)?)?;
+    parts.push(own_part(alloc, within, version)?)?;
     Ok(())
 }
 

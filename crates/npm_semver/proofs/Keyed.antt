@@ -108,10 +108,6 @@ no_version_read text shown w decodes bare valid prints not value has =
 pub no_version_keyed : (text : List ℕ) → ((v : VersionValue) → IsVersion v → decode_of text ≡ Ok (key v) → ⊥) → NoValue (HasVersion text)
 no_version_keyed text none value has = none has.version has.is has.bytes
 
-pub not_decoded : {E : Type 0} (decoded : Result (List ℕ) E) (e : E) → decoded ≡ Err e → (v : VersionValue) → IsVersion v
-    → decoded ≡ Ok (key v) → ⊥
-not_decoded decoded e is v valid other = let bad : Err e ≡ Ok (key v) = sym is ∙ other in absurd (cc)
-
 -- ---- words
 
 -- the reply has a line for each

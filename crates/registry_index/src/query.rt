@@ -1,10 +1,14 @@
 // What is asked of the index.
 
-ghost use Rattle.std.specs.Prelude.{◌≡◌, false, IfNone, IfOk, IfSome};
+ghost use Rattle.std.specs.Prelude.{◌≡◌, false, IfNone, IfOk, IfSome, IsSomeAnd};
+ghost use Rattle.key_spans.specs.Spans.{in_spans};
+ghost use Rattle.nodejs_semver.specs.Ranges.Gate.{accepts};
 ghost use Rattle.npm_words.specs.Alternatives.{HasAlternativesIn};
 ghost use Rattle.npm_reading.specs.Ranges.{IsRangeIn};
 ghost use Rattle.registry_index.specs.Bound.{AreSpansOf, asked};
 ghost use Rattle.semver_core.specs.Failures.{NoValue};
+ghost use Rattle.semver_core.specs.Keys.{key};
+ghost use Rattle.semver_core.specs.Values.Versions.{IsVersion, VersionValue};
 ghost use Rattle.semver_core.specs.declared.TheConstants.{MAX_SAFE_INTEGER};
 ghost use Rattle.sqlite.specs.Held.{state};
 ghost use Rattle.sqlite.specs.State.{HasCleanDisk, Shown};
@@ -40,9 +44,17 @@ pub fn spans_of(alloc: Global, text: &str) -> Result<Option<Vec<KeySpan>>, Alloc
         (NoValue (HasAlternativesIn false MAX_SAFE_INTEGER false text.now))) }
 {
     match read_range(alloc, text)? {
-        Some(range) => Ok(Some(key_spans(alloc, &range, false)?)),
+        Some(range) => spans_in(alloc, &range),
         None => Ok(None),
     }
+}
+
+// The spans of a range.
+fn spans_in(alloc: Global, range: &RangeRef<'_>) -> Result<Option<Vec<KeySpan>>, AllocError>
+    ensures { IfOk result (λ r. IsSomeAnd r (λ spans. (v : VersionValue) → IsVersion v
+        → in_spans spans.items (key v) ≡ accepts range.now v false)) }
+{
+    Ok(Some(key_spans(alloc, range, false)?))
 }
 
 // The range that npm reads in a text, or `None` if it rejects the text.

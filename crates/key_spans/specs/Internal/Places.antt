@@ -91,12 +91,16 @@ greater a b = if is_le (slice_cmp nat_cmp a b) then b else a
 abbrev pub lesser : List ℕ → List ℕ → List ℕ
 lesser a b = if is_le (slice_cmp nat_cmp a b) then a else b
 
--- the pre-releases of the numbers of a version that lie between two places, if the version is one
-abbrev pub own_stretch : (start stop : List ℕ) → VersionValue → List (Stretch (List ℕ))
-own_stretch start stop w = if is_release w then [] else record {
+-- the pre-releases of the numbers of a version that lie between two places
+abbrev pub own_part : (start stop : List ℕ) → VersionValue → Stretch (List ℕ)
+own_part start stop w = record {
   start = greater start (lowest_key w.major w.minor w.patch);
   stop = lesser stop (release_key w.major w.minor w.patch);
-} ∷ []
+}
+
+-- the same, if the version is one
+abbrev pub own_stretch : (start stop : List ℕ) → VersionValue → List (Stretch (List ℕ))
+own_stretch start stop w = if is_release w then [] else own_part start stop w ∷ []
 
 abbrev pub bound_stretch : (start stop : List ℕ) → Bound VersionValue → List (Stretch (List ℕ))
 bound_stretch start stop Unbounded = []

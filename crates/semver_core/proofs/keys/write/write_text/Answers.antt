@@ -1,0 +1,50 @@
+use Rattle.std.proofs.Common.{◌≡◌, ◌<◌, ◌+◌, ◌++◌, ◌∷◌, [], ℕ, zero, suc, List, append_assoc, arith, drop, get_or, length, subst}
+use Rattle.std.proofs.lemmas.List.{drop_more}
+use Rattle.semver_core.specs.Keys.{text_key}
+use Rattle.semver_core.proofs.keys.write.write_text.Goals.{then-byte-eq0, else-byte-eq0}
+use Rattle.semver_core.proofs.keys.write.write_text.Goals as goal
+
+-- what is written of a text, and what is left of it
+zero_written : (out next more whole left rest : List ℕ) (c : ℕ) → c ≡ 0 → left ≡ c ∷ rest → out ++ text_key left ≡ whole
+    → next ≡ out ++ c ∷ [] → more ≡ next ++ 255 ∷ [] → more ++ text_key rest ≡ whole
+zero_written out next more whole left rest c z l e n m = rw (m, n, z, append_assoc, append_assoc) (rw (l, z) at e)
+
+other_written : (out next whole left rest : List ℕ) (c : ℕ) → 0 < c → left ≡ c ∷ rest → out ++ text_key left ≡ whole
+    → next ≡ out ++ c ∷ [] → next ++ text_key rest ≡ whole
+other_written out next whole left rest zero z l e n = absurd (omega arith)
+other_written out next whole left rest (suc c) z l e n = rw (n, append_assoc) (rw l at e)
+
+zero_longer : (left rest : List ℕ) (c : ℕ) → c ≡ 0 → left ≡ c ∷ rest → length (text_key left) ≡ length (text_key rest) + 2
+zero_longer left rest c z l = rw (l, z) (omega arith)
+
+other_longer : (left rest : List ℕ) (c : ℕ) → 0 < c → left ≡ c ∷ rest → length (text_key left) ≡ length (text_key rest) + 1
+other_longer left rest zero z l = absurd (omega arith)
+other_longer left rest (suc c) z l = rw l (omega arith)
+
+pub loop-byte-preserved : goal.loop-byte-preserved
+loop-byte-preserved c =
+    let i : ℕ = c.loop-byte.byte-index in
+    let bytes : List ℕ = c.as_bytes-byte-items.result.now in
+    let left : drop i c.args.text.now ≡ get_or bytes i 0 ∷ drop (i + 1) c.args.text.now =
+    subst (λ t. drop i t ≡ get_or bytes i 0 ∷ drop (i + 1) t) c.as_bytes-byte-items.ensures.value
+    (drop_more bytes i 0 c.loop-byte-test.true) in
+    elim c.if-byte-eq0.branch [
+      | then-byte-eq0 w ↦
+          let longer = zero_longer _ _ _ w.if-byte-eq0.true left in
+          rw w.bytes-is (record {
+            items = zero_written _ _ _ _ _ _ _ w.if-byte-eq0.true left c.loop-byte.invariant.items c.push_reserved.ensures.items
+                w.push_reserved-then-byte-eq0.ensures.items;
+            len = omega (arith, longer);
+            room = omega (arith, longer);
+            capacity = omega arith;
+          })
+      | else-byte-eq0 w ↦
+          let above : 0 < get_or bytes i 0 = omega (arith, w.if-byte-eq0.false) in
+          let longer = other_longer _ _ _ above left in
+          rw w.bytes-is (record {
+            items = other_written _ _ _ _ _ _ above left c.loop-byte.invariant.items c.push_reserved.ensures.items;
+            len = omega (arith, longer);
+            room = omega (arith, longer);
+            capacity = omega arith;
+          })
+    ]
