@@ -1,7 +1,8 @@
 """What a crate sees of the crates below it: of the libraries of their contracts alone, each declaration that it names, and each that one of
 these names, and so on. A definition or a lemma is named where it is imported, or in its own file; a name of Rust anywhere. Comments and the
 lines that say how something is inlined do not count, and neither does a function that is not public, unless it is a constant one or a
-member of a trait: no crate above can call it. A type that is not public counts only where what is seen names it.
+member of a trait: no crate above can call it. A type that is not public counts only where what is seen names it. Of a struct with a Model
+its private fields do not count, nor how its value is made of them: a crate above sees the value alone.
 
 So what is added to a crate below changes nothing for a crate that does not name it, and neither does a body, a proof or the contract of a
 private function there."""
@@ -20,8 +21,13 @@ BLOCK = re.compile(r"(?:pub(?:\([^)]*\))? )?(impl|trait)\b(.*)")
 ITEM = re.compile(r"^(?: *)(?:pub(?:\([^)]*\))? )?(?:final )?(?:const )?(?:unsafe )?(?:extern \"C\" )?(?:fn|struct|enum|union|type|const|static|ghost) (\w+)", re.M)
 # A function that only its own crate can call; a constant one may stand in a type.
 PRIVATE = re.compile(r"^ *(?:pub\([^)]*\) )?(?:unsafe )?fn ", re.M)
+TRAIT = re.compile(r"^pub trait (\w+)", re.M)
 OWN_TRAIT = re.compile(r"^(?:pub\([^)]*\) )?trait (\w+)", re.M)
 OWN_TYPE = re.compile(r"^(?:pub\([^)]*\) )?(?:struct|enum|union|type) ", re.M)
+# A struct with a Model, and what of the Model speaks of its private fields.
+MODELLED = re.compile(r"^impl\b[^{\n]*\bModel for (\w+)", re.M)
+FIELD = re.compile(r"^    (?:pub\([^)]*\) )?(?!pub\b)\w+: .*\n?", re.M)
+OF_FIELDS = re.compile(r"^    ghost (?:view|invariant|use)\b.*(?:\n {8}.*)*\n?", re.M)
 DECLARED = re.compile(r"^ *(?:abbrev |unfoldable |opaque |pub |record |data |ruleset )*([^\W\d][\w'-]*)")
 VARIANT = re.compile(r"^  (?:pub )?((?:[^\W\d][\w'-]* )+)(?::|$)", re.M)
 SKIPPED = re.compile(r"(?:pub(?:\([^)]*\))? )?(?:ghost )?(?:use|mod)\b|#!\[|unsafe extern")
@@ -33,6 +39,10 @@ def words(text):
     return found | {part for it in found for part in it.split("-")}
 
 
+def crate_of(file):
+    return file.partition("/")[0]
+
+
 class Piece:
     """A declaration of a file: it is seen where one of its names is said, and all that it needs beside; without names it always is. A member
     of a type is said where it stands behind a dot or a path."""
@@ -42,31 +52,49 @@ class Piece:
         # A type that only its own crate can name.
         self.is_own = OWN_TYPE.search(text) is not None
 
-    def is_seen(self, said, called):
-        return (not self.names or bool(self.names & (called if self.needs else said))) and self.needs <= said
+    def is_seen(self, said, called, by_crates):
+        """Whether these words name it: those of all that is seen, those behind a dot or a path, and those of each crate's own pieces."""
+        words_here = by_crates.get(crate_of(self.file), set()) if self.is_own else called if self.needs else said
+        return (not self.names or bool(self.names & words_here)) and self.needs <= said
 
 
-def of_rust(file, text, own=()):
+def without_fields(part):
+    """Returns the declaration of a struct without its private fields."""
+    head, brace, fields = part.partition("{\n")
+    return head + brace + FIELD.sub("", fields)
+
+
+def of_rust(file, text, own=(), modelled=(), traits=()):
     """Returns the pieces of a file of Rattle, in rt fmt's layout: a member of an impl block needs its type, and that of a trait's impl no name.
-    The given traits are their crate's own, which no other crate can name; neither they nor their impls are pieces."""
-    found, owner, is_trait, is_hidden = [], None, False, False
+    The given traits are their crate's own, which no other crate can name; neither they nor their impls are pieces. The structs that are
+    given have a Model. An impl of one of the last traits, which are the repository's, is seen only where its trait is named too."""
+    found, owner, is_trait, is_hidden, is_model = [], None, False, False, False
     for part in filter(None, (it.strip("\n") for it in IDLE.sub("", text).split("\n\n"))):
         if not part.startswith((" ", "}")):
-            owner = None
+            owner, is_model = None, MODELLED.match(part) is not None
             if block := BLOCK.match(part):
                 head = re.sub(r"<[^<>]*(?:<[^<>]*>[^<>]*)*>", "", block[2])
                 owner = WORD.findall(head.split(" for ")[-1].split("where")[0])[:1]
                 is_trait = block[1] == "trait" or " for " in head
-                is_hidden = is_trait and bool({*own} & {*WORD.findall(head.split(" for ")[0])[:1]})
+                of_trait = {*WORD.findall(head.split(" for ")[0])[:1]} if is_trait else set()
+                is_hidden = bool({*own} & of_trait)
                 if is_hidden:
+                    continue
+                if " for " in head and of_trait & {*traits}:
+                    owner = [*owner, *of_trait]
+                    found.append(Piece(file, part.removesuffix("\n}"), (), owner))
                     continue
                 if not is_trait and PRIVATE.search(part):
                     # The first member stands right below the head.
                     part = part.partition("{\n")[0]
+                part = OF_FIELDS.sub("", part) if is_model else part
                 found.append(Piece(file, part.removesuffix("\n}"), owner))
                 continue
             if not SKIPPED.match(part) and not PRIVATE.search(part):
-                found.append(Piece(file, part, ITEM.findall(part)[:1]))
+                name = ITEM.findall(part)[:1]
+                found.append(Piece(file, without_fields(part) if {*name} & {*modelled} else part, name))
+        elif is_model and OF_FIELDS.match(part):
+            continue
         elif not is_hidden and part.strip() != "}" and (is_trait or not PRIVATE.search(part)):
             # Which member is the last one of its block makes no difference.
             found.append(Piece(file, part.removesuffix("\n}"), () if is_trait else ITEM.findall(part)[:1], owner or ()))
@@ -156,8 +184,9 @@ def texts(crate):
 @functools.lru_cache(maxsize=None)
 def pieces(crate):
     """Returns the pieces of the library of a crate's contracts alone, in the order of its files."""
-    own = {name for text in texts(crate).values() for name in OWN_TRAIT.findall(text)}
-    return [it for file, text in texts(crate).items() for it in (of_rust(file, text, own) if file.endswith(".rt") else of_antt(file, text))]
+    own, modelled = ({name for text in texts(crate).values() for name in kind.findall(text)} for kind in (OWN_TRAIT, MODELLED))
+    traits = {name for it in [crates()[crate], *crates()[crate].below()] for text in texts(it.name).values() for name in TRAIT.findall(text)}
+    return [it for file, text in texts(crate).items() for it in (of_rust(file, text, own, modelled, traits) if file.endswith(".rt") else of_antt(file, text))]
 
 
 def called(file, text):
@@ -169,18 +198,20 @@ def seen(crate):
     """Returns what a crate sees of those below it, as (file, text)."""
     below, own = Below(crate), {file: COMMENT.sub("", text) for file, text in all_texts(f"{TOP}/crates/{crate}").items()}
     rust = [it for it in below.pieces if it.file.endswith(".rt")]
-    owned, public = ({name for it in rust if it.is_own == is_own for name in it.names} for is_own in (True, False))
-    said = {name for text in own.values() for name in words(text)} - (owned - public)
+    # The names of the crate's own modules are none of what is below.
+    modules = re.compile(rf"\b{crate}\.(?:specs|proofs)\.(?:[\w'-]+\.)*|^(?:pub )?mod \w+", re.M)
+    said = {name for text in own.values() for name in words(modules.sub("", text))}
     calls = {name for file, text in own.items() for name in called(file, text)}
     # What is to be read: texts, each with the module that it is of.
-    taken, left = set(), [(Module(file, text), text) for file, text in own.items()]
+    taken, left, by_crates = set(), [(Module(file, text), text) for file, text in own.items()], {}
     now = {it for it in below.pieces if not it.names and not it.needs}
     while now or left:
         taken |= now
         for it in now:
             said |= words(it.text)
+            by_crates.setdefault(crate_of(it.file), set()).update(words(it.text))
             calls |= called(it.file, it.text)
             left.append((below.modules[it.file], it.text))
-        now = {it for module, text in left for it in below.named(module, text)} | {it for it in rust if it.is_seen(said, calls)}
+        now = {it for module, text in left for it in below.named(module, text)} | {it for it in rust if it.is_seen(said, calls, by_crates)}
         now, left = now - taken, []
     return [(it.file, it.text) for it in below.pieces if it in taken]
