@@ -13,7 +13,7 @@ parts-smaller c =
     (sym c.after_bars.ensures ∙ ap rest_view c.in-Some-after_bars.is)).2
 
 pub parts-preserved : goal.parts-preserved
-parts-preserved c = rw c.reserve_for.ensures
+parts-preserved c = rw c.reserve_for.ensures.same
     (loop-goes c.args.include c.args.text.now c.parts.found.items c.push_part.new.found.items c.parts.rest.now c.in-Some.behind.now
     c.in-Some-after_bars.next.now c.parts.invariant (rw (ap rest_view c.in-Some.is) at c.in_ok-behind.ensures.added)
     (sym c.after_bars.ensures ∙ ap rest_view c.in-Some-after_bars.is)).0
