@@ -16,7 +16,6 @@ use Rattle.std.specs.List.{All, list_all, list_any}
 use Rattle.std.specs.Prelude.{IsCharBoundary, IsUtf8}
 use Rattle.semver_core.proofs.Text.Fronts.{common_plain}
 use Rattle.semver_core.specs.Internal.CommonReading.{is_plain}
-use Rattle.semver_core.specs.Text.Characters.{is_identifier_char}
 use Rattle.semver_core.specs.Text.Common.{IsCommon}
 use Rattle.semver_core.specs.Values.Versions.{VersionValue}
 use Rattle.std.specs.Borrow.{Bor}
@@ -237,10 +236,10 @@ before_mark text n feed le h = elim (eq-or-lt_of_le le) [
 ]
 
 -- one more character of a word
-word_plain : (c : ℕ) → is_identifier_char c ≡ true → is_byte2 59 10 c ≡ false
+word_plain : (c : ℕ) → 59 < c → is_byte2 59 10 c ≡ false
 word_plain c h = grind (arith, nat_tests)
 
-pub word_grows : (text : List ℕ) (n : ℕ) → n < length text → is_identifier_char (get_or text n 0) ≡ true
+pub word_grows : (text : List ℕ) (n : ℕ) → n < length text → 59 < get_or text n 0
     → list_any (is_byte2 59 10) (take n text) ≡ false → list_any (is_byte2 59 10) (take (n + 1) text) ≡ false
 word_grows text n inside char plain =
     rw (list_any_more (is_byte2 59 10) text n 0 inside, plain, word_plain (get_or text n 0) char) refl

@@ -10,7 +10,6 @@ ghost use Rattle.semver_answers.specs.Internal.Results.{ReadsRange, ReadsVersion
 
 use memchr::{memchr, memchr2};
 use nodejs_semver::{Failure, MAX_LENGTH, RangeReader, RangeRef, SemverError, VersionRef};
-use semver_core::scan::is_identifier_char;
 
 /// What stands behind a field.
 #[derive(Clone, Copy)]
@@ -53,7 +52,7 @@ pub(crate) fn cut(text: &str) -> (&str, Behind<'_>)
     }
 }
 
-// How many letters, digits and hyphens stand at the front of a text.
+// How many bytes above `;`, such as letters, stand at the front of a text.
 #[inline(always)]
 #[tactic(auto, using(crate::proofs::Firsts::words))]
 fn word_len(text: &[u8]) -> usize
@@ -62,7 +61,7 @@ fn word_len(text: &[u8]) -> usize
     ensures plain { list_any (is_byte2 59 10) (take result text.now) ≡ false }
 {
     let mut len = 0;
-    'bytes: while is_identifier_char(text[len]) {
+    'bytes: while text[len] > b';' {
         len += 1;
     }
     len

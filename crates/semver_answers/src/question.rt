@@ -120,7 +120,7 @@ impl AboutMatch {
         ensures none { IfNone result ((r v : List ℕ) (question : Question)
             → Asks (codes "out" ∷ r ∷ v ∷ fields_ahead rest.now) question → ⊥) }
     {
-        let (side, behind) = cut(rest);
+        let (side, behind) = cut_word(rest);
         let Behind::Lines(next) = behind else {
             return None;
         };

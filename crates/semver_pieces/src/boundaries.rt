@@ -7,7 +7,7 @@ ghost use Rattle.semver_core.specs.Words.{is_boundary, rest_view};
 use crate::spaces;
 
 /// Whether a word may end here.
-#[inline(always)]
+#[inline]
 #[tactic(auto, unfolding(semver_core::specs::Internal::Boundaries::is_boundary))]
 pub fn is_boundary(text: &[u8]) -> bool
     ensures { result ≡ is_boundary text.now }

@@ -2,7 +2,7 @@
 use Rattle.nodejs_semver.proofs.Common.{AreCommonParts, AreComponents, Bound, Comparator, Front, IsSign, IsSomeAnd, List, None, Option, Partial, Some}
 use Rattle.nodejs_semver.proofs.Common.{Span, Unbounded, VersionValue, Word, [], above, ap, append-nil, append_assoc, arith, at_most, begins}
 use Rattle.nodejs_semver.proofs.Common.{begins_second, below, bind_some, cases_Bool, common_steps, comparison_front, comparisons_front, drop}
-use Rattle.nodejs_semver.proofs.Common.{eqb-true, false, has_bars, hyphen, if_any, if◌then◌else◌, inl, inr, interval, is_sign, length}
+use Rattle.nodejs_semver.proofs.Common.{eqb-true, false, false≢true, has_bars, hyphen, if_any, if◌then◌else◌, inl, inr, interval, is_sign, length}
 use Rattle.nodejs_semver.proofs.Common.{Bool, IsUtf8, all_weaker, list_all, list_all-append, list_any, take, ◌-◌, ◌||◌}
 use Rattle.std.proofs.{Math.Seq.take-append_seam, lemmas.Str.{Ascii.{IsAscii-cons, IsAscii-nil}, IsUtf8-from_ascii}}
 use Rattle.std.specs.Str.{IsAscii}
@@ -18,7 +18,8 @@ use Rattle.{nodejs_semver.specs.Text.WordText.{above_sign, below_sign}, semver_c
 use Rattle.semver_core.{proofs.Reading.Bytes.{is_solid, quiet-before, stop-bar, stop-nil, stop-space}, specs.Failures.NoValue}
 use Rattle.semver_core.specs.{Internal.{Fronts.after_byte, Parts.{after_bars, after_gap}, Reading.◌>>?◌}, Text.Comparators.at_least}
 use Rattle.semver_core.proofs.Reading.Numbers.{number-read, number_first}
-use Rattle.semver_core.specs.Internal.Fronts.{component_front, dotted_front}
+use Rattle.nodejs_semver.specs.Internal.Fronts as Spec
+use Rattle.semver_core.specs.Internal.Fronts.{component_front, dotted_front, is_wildcard}
 use Rattle.semver_core.specs.Text.Numbers.{IsNumber, IsTriple}
 use Rattle.{nodejs_semver.specs.Internal.Fronts.patch_front, std.specs.Char.is_ascii_digit}
 
@@ -51,6 +52,17 @@ bare_triple limit text M m p rest is =
       dotted_read limit is.minor (46 ∷ patched) m is.minor_is refl,
       dotted_read limit is.patch rest p is.patch_is.number is.patch_is.ended,
     ) refl
+
+-- no partial begins otherwise
+pub bare_nothing : (limit : ℕ) (text : List ℕ) → begins (λ b. is_wildcard b || is_ascii_digit b) text ≡ false → None ≡ bare_front limit text
+unfolding bare_front component_front Spec.number_of
+bare_nothing limit [] h = refl
+bare_nothing limit (c ∷ rest) h = elim (cases_Bool (is_wildcard c)) [
+  | inl wild ↦ absurd (false≢true (sym h ∙ ap (λ b. b || is_ascii_digit c) wild))
+  | inr other ↦
+      let digit = rw other at h in
+      rw (other, digit) refl
+]
 
 pub bare-sound : (limit : ℕ) (text : List ℕ) (p : Partial) (more : List ℕ) → bare_front limit text ≡ Some (p, more) → (x : List ℕ)
     × (text ≡ x ++ more) × AreComponents limit x p

@@ -1,10 +1,12 @@
 // The reader of common range texts, in one pass from the left.
 
 ghost use Rattle.nodejs_semver.specs.Internal.CommonFronts as Spec;
-ghost use Rattle.std.specs.Prelude.{◌≡◌, ◌≤◌, ◌⊎◌, if◌then◌else◌, [], IfNone, IfOk, IfSome};
-ghost use Rattle.nodejs_semver.specs.Words.{AreCommonParts, bounds_front_view, bounds_view};
+ghost use Rattle.std.specs.Prelude.{◌≡◌, ◌≤◌, ◌||◌, ◌⊎◌, if◌then◌else◌, [], IfNone, IfOk, IfSome};
+ghost use Rattle.nodejs_semver.specs.Internal.Fronts.{is_wildcard};
+ghost use Rattle.nodejs_semver.specs.Words.{AreCommonParts, begins, bounds_front_view, bounds_view};
 ghost use Rattle.nodejs_semver.specs.Words.{common_fronts};
-ghost use Rattle.nodejs_semver.specs.Words.{has_bars, hyphen, is_interval, IsCommonRange, table};
+ghost use Rattle.nodejs_semver.specs.Words.{has_bars, hyphen, is_ascii_digit, is_interval};
+ghost use Rattle.nodejs_semver.specs.Words.{IsCommonRange, table};
 ghost use Rattle.nodejs_semver.specs.Words.{IsFalse, IsTrue, length, List, MAX_SAFE_INTEGER, Means};
 ghost use Rattle.nodejs_semver.specs.Words.{None, NoValue, OnErr, partial_front_view, partial_view};
 ghost use Rattle.nodejs_semver.specs.Words.{passed_view, precedence, Some, Span};
@@ -22,6 +24,35 @@ use semver_pieces::{Bounds, Found, after_bars};
 use smallvec::SmallVec;
 use std::alloc::{AllocError, Global};
 
+// `bare_front` of a text that does not begin with three numbers.
+#[inline(never)]
+#[tactic(auto, unfolding(crate::specs::Internal::CommonFronts::bare_front))]
+fn components_front(text: &[u8]) -> Option<(Partial<'_>, &[u8])>
+    ensures { partial_front_view result ≡ Spec.bare_front MAX_SAFE_INTEGER text.now }
+{
+    match partial::component_front(text) {
+        Some((major, rest)) => Some(partial::minor_front(major, rest)),
+        None => None,
+    }
+}
+
+// `components_front`, inlined: room for what the call returns is made only where it is called.
+#[inline(always)]
+fn rare_front(text: &[u8]) -> Option<(Partial<'_>, &[u8])>
+    ensures { partial_front_view result ≡ Spec.bare_front MAX_SAFE_INTEGER text.now }
+{
+    let (partial, rest) = components_front(text)?;
+    Some((partial, rest))
+}
+
+// Whether a text begins as a component does.
+#[inline(always)]
+fn begins_component(text: &[u8]) -> bool
+    ensures { result ≡ begins (λ b. is_wildcard b || is_ascii_digit b) text.now }
+{
+    matches!(text, [b'0'..=b'9' | b'*' | b'X' | b'x', ..])
+}
+
 // The partial at the front. Neither `v` nor whitespace is skipped before it. Most have three
 // numbers.
 #[inline(always)]
@@ -29,11 +60,14 @@ use std::alloc::{AllocError, Global};
 fn bare_front(text: &[u8]) -> Option<(Partial<'_>, &[u8])>
     ensures { partial_front_view result ≡ Spec.bare_front MAX_SAFE_INTEGER text.now }
 {
-    if let Some((major, minor, patch, rest)) = triple_front(text) {
-        return Some(partial::qualified(Some(major), Some(minor), Some(patch), rest));
-    }
-    match partial::component_front(text) {
-        Some((major, rest)) => Some(partial::minor_front(major, rest)),
+    match triple_front(text) {
+        Some((major, minor, patch, rest)) => Some(partial::qualified(
+            Some(major),
+            Some(minor),
+            Some(patch),
+            rest,
+        )),
+        None if begins_component(text) => rare_front(text),
         None => None,
     }
 }

@@ -73,15 +73,16 @@ pub(crate) fn tilde_sign(text: &[u8]) -> (bool, &[u8])
 pub(crate) fn sign_front(text: &[u8]) -> (Sign, &[u8])
     ensures { sign_pair_view result ≡ Spec.sign_at text.now }
 {
-    match text {
+    let (sign, rest) = match text {
         [b'~', rest @ ..] => {
             let (greater, rest) = tilde_sign(skip_spaces(rest));
-            (Sign::Tilde(greater), skip_spaces(rest))
+            (Sign::Tilde(greater), rest)
         }
-        [b'^', rest @ ..] => (Sign::Caret, skip_spaces(rest)),
+        [b'^', rest @ ..] => (Sign::Caret, rest),
         _ => match comparator_front(text) {
-            Some((comparator, rest)) => (Sign::Comparator(comparator), skip_spaces(rest)),
-            None => (Sign::Nothing, text),
+            Some((comparator, rest)) => (Sign::Comparator(comparator), rest),
+            None => return (Sign::Nothing, text),
         },
-    }
+    };
+    (sign, skip_spaces(rest))
 }

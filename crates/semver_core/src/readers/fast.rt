@@ -46,6 +46,15 @@ fn three_numbers<R: Reach>(bytes: &[u8], at: usize) -> Option<(u64, u64, u64, us
     Some((major, minor, patch, end))
 }
 
+// The numbers of `leading_triple` in a text that no line feed ends.
+#[inline(never)]
+fn text_triple(text: &[u8]) -> Option<(u64, u64, u64, usize)>
+    ensures found { result ≡ triple_at MAX_SAFE_INTEGER text.now 0 }
+    ensures place { IfSome result (λ found. found.3 ≤ length text.now) }
+{
+    three_numbers::<OfText>(text, 0)
+}
+
 // The numbers of `triple_front`, and the place behind them.
 #[inline(always)]
 #[tactic(auto, using(crate::proofs::Text::Digits::last_feed))]
@@ -55,7 +64,7 @@ fn leading_triple(text: &[u8]) -> Option<(u64, u64, u64, usize)>
 {
     match text {
         [.., b'\n'] => three_numbers::<OfLines>(text, 0),
-        _ => three_numbers::<OfText>(text, 0),
+        _ => text_triple(text),
     }
 }
 
