@@ -4,7 +4,6 @@ ghost use Rattle.std.specs.Prelude.{◌≡◌, false};
 
 use crate::index::{INSERT, TABLE, add};
 use crate::input::Input;
-use crate::line::{cut, refusal};
 use crate::trouble::Trouble;
 use anyhow::anyhow;
 use sqlite::{Alter, Connection, Transaction};
@@ -36,24 +35,11 @@ fn add_all<S: Alter>(
     for line in lines {
         number = number.saturating_add(1);
         match line {
-            Ok(line) => add_line(alloc, tx, number, &line)?,
+            Ok(line) => {
+                add(alloc, tx, INSERT, number, &line)?;
+            }
             Err(error) => return Err(Trouble::Line(number, anyhow!(error))),
         }
     }
     Ok(())
-}
-
-fn add_line<S: Alter>(
-    alloc: Global,
-    tx: &mut Transaction<'_, S>,
-    number: u64,
-    line: &str,
-) -> Result<(), Trouble> {
-    let Some(parts) = cut(line) else {
-        return Err(Trouble::Line(number, anyhow!("no tab behind the package")));
-    };
-    if add(alloc, tx, INSERT, parts)? {
-        return Ok(());
-    }
-    Err(Trouble::Line(number, refusal(parts.version)))
 }
