@@ -5,7 +5,7 @@ use crate::line::{key_of, refusal};
 use crate::query::spans_of;
 use crate::request::{Answer, Request, ask};
 use crate::trouble::Trouble;
-use anyhow::{Context, Result, anyhow, bail};
+use anyhow::{Context, Result, anyhow};
 use key_spans::KeySpan;
 use npm_reading::range_flaw;
 use sqlite::Connection;
@@ -66,10 +66,11 @@ fn read_spans(alloc: Global, range: &str) -> Result<Vec<KeySpan>> {
 
 // The answer of an index in a file that is there.
 fn answer_of_file(rt: &HostRuntime, file: &str, request: Request<'_>) -> Result<ExitCode> {
-    if !fs::exists(rt, file)? {
-        bail!("{file:?}: no such file");
+    if fs::exists(rt, file)? {
+        answer(rt, file, "", request)
+    } else {
+        Err(anyhow!("{file:?}: no such file"))
     }
-    answer(rt, file, "", request)
 }
 
 // Prints what an index answers.

@@ -1,9 +1,11 @@
 // Loading lines, all of them or none.
 
-ghost use Rattle.std.specs.Prelude.{◌≡◌, false};
+ghost use Rattle.std.specs.Prelude.{◌≡◌, false, IfOk};
+ghost use Rattle.registry_index.specs.declared.request.Answer.TheVariants.{Loaded};
 
 use crate::index::{INSERT, TABLE, add};
 use crate::input::Input;
+use crate::request::Answer;
 use crate::trouble::Trouble;
 use anyhow::anyhow;
 use sqlite::{Alter, Connection, Transaction};
@@ -15,13 +17,14 @@ pub fn load<S: Alter>(
     alloc: Global,
     conn: &mut Connection<S>,
     lines: &mut Lines<BufReader<Input>>,
-) -> Result<(), Trouble>
+) -> Result<Answer, Trouble>
     requires { conn.old.in_transaction ≡ false }
+    ensures { IfOk result (λ answer. answer ≡ Loaded) }
 {
     let mut tx = conn.transaction();
     add_all(alloc, &mut tx, lines)?;
     tx.commit()?;
-    Ok(())
+    Ok(Answer::Loaded)
 }
 
 // Makes the table, if it is not there yet, and puts the lines into it.

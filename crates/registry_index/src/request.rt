@@ -71,10 +71,7 @@ impl Request<'_> {
             (IsAnswer (state S.Store) self.entry conn.old conn.new) }
     {
         match self {
-            Request::Load(lines) => {
-                load(alloc, conn, lines)?;
-                Ok(Answer::Loaded)
-            }
+            Request::Load(lines) => load(alloc, conn, lines),
             Request::Best(name, spans) => {
                 let mut found = search(alloc, conn, BEST, name, spans)?;
                 Ok(Answer::Best(found.pop()))

@@ -1,7 +1,7 @@
 // Answers from the index.
 
 ghost use Rattle.std.specs.Prelude.{◌≡◌, ◌∷◌, ◌++◌, [], IfOk, OnOk, map, take};
-ghost use Rattle.registry_index.specs.Searches.{AreFound, AreTold, IsCount, IsFirst, first_told};
+ghost use Rattle.registry_index.specs.Searches.{AreFound, IsCount, IsFirst, first_told};
 ghost use Rattle.registry_index.specs.Searches.{row_of};
 ghost use Rattle.sqlite.specs.Held.{state};
 ghost use Rattle.sqlite.specs.State.{HasCleanDisk};
@@ -57,27 +57,12 @@ pub fn search<S: Alter>(
     ensures { HasCleanDisk (state S.Store conn.new) → IfOk result (λ found. AreFound
         (state S.Store) query.now name.now spans.now conn.old conn.new found.items) }
 {
-    let mut found = answers(alloc, conn, query, name, spans)?;
-    found.sort()?;
-    Ok(found)
-}
-
-// What the answers about the spans tell, one answer after the other.
-fn answers<S: Alter>(
-    alloc: Global,
-    conn: &mut Connection<S>,
-    query: &str,
-    name: &str,
-    spans: &[KeySpan],
-) -> Result<Vec<Found>, Error>
-    ensures { HasCleanDisk (state S.Store conn.new) → IfOk result (λ found. AreTold
-        (state S.Store) query.now name.now conn.old spans.now conn.new found.items) }
-{
     let mut found = Vec::new(alloc);
     for span in spans {
         let rows = rows_in(conn, query, name, span)?;
         push_all(&rows, &mut found)?;
     }
+    found.sort()?;
     Ok(found)
 }
 

@@ -1,7 +1,7 @@
 use Rattle.std.proofs.Common.{◌≡◌, ◌∷◌, ◌++◌, ◌∙◌, [], ap, arith, rules, sym, take, take_all}
 use Rattle.std.proofs.lemmas.List.{take_more}
 use Rattle.registry_index.specs.Searches.AreTold.{next, none}
-use Rattle.registry_index.proofs.search.answers.Goals as goal
+use Rattle.registry_index.proofs.search.search.Goals as goal
 
 pub loop-span-init : goal.loop-span-init
 loop-span-init g c h = rw (c.new-found.ensures.items) none
@@ -16,4 +16,4 @@ loop-span-preserved g c h =
 pub returns : goal.returns
 returns g c h =
     let all : take c.loop-span.span-index c.args.spans.now ≡ c.args.spans.now = take_all _ _ (omega arith) in
-    rw all at (c.loop-span.invariant h)
+    record { told = c.loop-span.found.items; asked = rw all at (c.loop-span.invariant h); all = search rules; sorted = search rules }
