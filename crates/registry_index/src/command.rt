@@ -16,22 +16,17 @@ use std::process::ExitCode;
 
 /// Puts the lines of a file into the index, or those of standard input for `-`, in one transaction.
 pub fn load(rt: &HostRuntime, file: &str, lines: &str) -> Result<ExitCode> {
-    let name = if lines == "-" {
-        "standard input"
-    } else {
-        lines
-    };
-    let input = BufReader::new(rt.alloc(), open(rt, lines)?)?;
-    let mut lines = input.lines(rt.alloc());
-    answer(rt, file, name, Request::Load(&mut lines))
-}
-
-fn open(rt: &HostRuntime, lines: &str) -> Result<Input> {
     if lines == "-" {
-        return Ok(Input::Standard(rt.stdin()));
+        return load_from(rt, file, "standard input", Input::Standard(rt.stdin()));
     }
     let input = File::open(rt, lines).context(format_args!("{lines:?} cannot be read"))?;
-    Ok(Input::File(input))
+    load_from(rt, file, lines, Input::File(input))
+}
+
+// Puts the lines of an input into the index, which is told by this name if one of them is refused.
+fn load_from(rt: &HostRuntime, file: &str, name: &str, input: Input) -> Result<ExitCode> {
+    let mut lines = BufReader::new(rt.alloc(), input)?.lines(rt.alloc());
+    answer(rt, file, name, Request::Load(&mut lines))
 }
 
 /// Prints the greatest version of a package that a range accepts.

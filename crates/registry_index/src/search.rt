@@ -7,7 +7,6 @@ ghost use Rattle.sqlite.specs.Held.{state};
 ghost use Rattle.sqlite.specs.State.{HasCleanDisk};
 ghost use Rattle.sqlite_value.specs.declared.value.Value.TheVariants.{Blob, Text};
 
-use crate::query::rows_in;
 use key_spans::KeySpan;
 use sqlite::{Alter, Connection, Error, Row, params};
 use std::alloc::Global;
@@ -59,7 +58,10 @@ pub fn search<S: Alter>(
 {
     let mut found = Vec::new(alloc);
     for span in spans {
-        let rows = rows_in(conn, query, name, span)?;
+        let rows = conn.query_all(
+            query,
+            params![name, &span.start, &span.stop, span.releases_only],
+        )?;
         push_all(&rows, &mut found)?;
     }
     found.sort()?;
