@@ -1,8 +1,8 @@
 // The table of the index, and how lines are put into it.
 
-ghost use Rattle.std.specs.Prelude.{◌≡◌, IfOk, IsTrue, Ok};
+ghost use Rattle.std.specs.Prelude.{◌≡◌, IfErr, IfOk, IsTrue, Ok};
 ghost use Rattle.registry_index.specs.Bound.{IsRowOf};
-ghost use Rattle.registry_index.specs.Lines.{IsKeyOf, package_in, rest_in, version_in};
+ghost use Rattle.registry_index.specs.Lines.{IsKeyOf, IsRefused, package_in, rest_in, version_in};
 ghost use Rattle.sqlite.specs.Held.{state};
 ghost use Rattle.sqlite.specs.State.{ExecutesInside, HasCleanDisk};
 ghost use Rattle.sqlite_value.specs.Order.{Row};
@@ -48,6 +48,7 @@ fn read(alloc: Global, number: u64, text: &str) -> Result<(Line<'_>, Vec<u8>), T
     ensures package { IfOk result (λ it. it.0.package.now ≡ package_in text.now) }
     ensures version { IfOk result (λ it. it.0.version.now ≡ version_in text.now) }
     ensures rest { IfOk result (λ it. it.0.rest.now ≡ rest_in text.now) }
+    ensures refused { IfErr result (IsRefused text.now) }
 {
     let Some(line) = cut(text) else {
         return Err(Trouble::Line(number, anyhow!("no tab behind the package")));

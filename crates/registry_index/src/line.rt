@@ -27,8 +27,13 @@ pub fn cut(line: &str) -> Option<Line<'_>>
     ensures version { IfSome result (λ it. it.version.now ≡ version_in line.now) }
     ensures rest { IfSome result (λ it. it.rest.now ≡ rest_in line.now) }
 {
-    let (package, behind) = line.split_once('\t')?;
-    let (version, rest) = behind.split_once('\t').unwrap_or((behind, ""));
+    let Some((package, behind)) = line.split_once('\t') else {
+        return None;
+    };
+    let (version, rest) = match behind.split_once('\t') {
+        Some(parts) => parts,
+        None => (behind, ""),
+    };
     Some(Line {
         package,
         version,
