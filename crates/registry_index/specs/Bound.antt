@@ -10,8 +10,7 @@ use Rattle.semver_core.specs.Values.Versions.{IsVersion, VersionValue}
 use Rattle.semver_core.specs.declared.TheConstants.{MAX_SAFE_INTEGER}
 use Rattle.sqlite_value.specs.Order.{Row}
 use Rattle.sqlite_value.specs.declared.value.Value.TheVariants.{Blob, Int, Text}
-use Rattle.registry_index.specs.Lines.{IsKeyOf}
-use Rattle.registry_index.specs.declared.line.Line.{Line}
+use Rattle.registry_index.specs.Lines.{IsKeyOf, package_in, rest_in, version_in}
 
 -- the spans hold the keys of exactly the versions that the range accepts which npm reads in the text
 abbrev pub AreSpansOf : List ℕ → List KeySpan → Type 0
@@ -24,9 +23,6 @@ asked name s = Text name ∷ Blob s.start.items ∷ Blob s.stop.items
     ∷ Int (if s.releases_only then pos 1 else pos 0) ∷ []
 
 -- what is stored of a line: its package, the key of its version, its version and the rest
-abbrev pub stored : Line → (key_bytes : List ℕ) → Row
-stored line key_bytes = Text line.package.now ∷ Blob key_bytes ∷ Text line.version.now
-    ∷ Text line.rest.now ∷ []
-
-abbrev pub IsRowOf : Line → Row → Type 0
-IsRowOf line row = (bytes : List ℕ) × IsKeyOf line.version.now bytes × (row ≡ stored line bytes)
+abbrev pub IsRowOf : (line : List ℕ) → Row → Type 0
+IsRowOf line row = (bytes : List ℕ) × IsKeyOf (version_in line) bytes
+    × (row ≡ Text (package_in line) ∷ Blob bytes ∷ Text (version_in line) ∷ Text (rest_in line) ∷ [])

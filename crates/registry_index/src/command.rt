@@ -5,7 +5,7 @@ use crate::line::{key_of, refusal};
 use crate::query::spans_of;
 use crate::request::{Answer, Request, ask};
 use crate::trouble::Trouble;
-use anyhow::{Context, Result, anyhow, bail};
+use anyhow::{Context, Result, anyhow};
 use key_spans::KeySpan;
 use npm_reading::range_flaw;
 use sqlite::Connection;
@@ -16,22 +16,17 @@ use std::process::ExitCode;
 
 /// Puts the lines of a file into the index, or those of standard input for `-`, in one transaction.
 pub fn load(rt: &HostRuntime, file: &str, lines: &str) -> Result<ExitCode> {
-    let name = if lines == "-" {
-        "standard input"
-    } else {
-        lines
-    };
-    let input = BufReader::new(rt.alloc(), open(rt, lines)?)?;
-    let mut lines = input.lines(rt.alloc());
-    answer(rt, file, name, Request::Load(&mut lines))
-}
-
-fn open(rt: &HostRuntime, lines: &str) -> Result<Input> {
     if lines == "-" {
-        return Ok(Input::Standard(rt.stdin()));
+        return load_from(rt, file, "standard input", Input::Standard(rt.stdin()));
     }
     let input = File::open(rt, lines).context(format_args!("{lines:?} cannot be read"))?;
-    Ok(Input::File(input))
+    load_from(rt, file, lines, Input::File(input))
+}
+
+// Puts the lines of an input into the index, which is told by this name if one of them is refused.
+fn load_from(rt: &HostRuntime, file: &str, name: &str, input: Input) -> Result<ExitCode> {
+    let mut lines = BufReader::new(rt.alloc(), input)?.lines(rt.alloc());
+    answer(rt, file, name, Request::Load(&mut lines))
 }
 
 /// Prints the greatest version of a package that a range accepts.
@@ -66,10 +61,11 @@ fn read_spans(alloc: Global, range: &str) -> Result<Vec<KeySpan>> {
 
 // The answer of an index in a file that is there.
 fn answer_of_file(rt: &HostRuntime, file: &str, request: Request<'_>) -> Result<ExitCode> {
-    if !fs::exists(rt, file)? {
-        bail!("{file:?}: no such file");
+    if fs::exists(rt, file)? {
+        answer(rt, file, "", request)
+    } else {
+        Err(anyhow!("{file:?}: no such file"))
     }
-    answer(rt, file, "", request)
 }
 
 // Prints what an index answers.

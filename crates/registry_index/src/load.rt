@@ -1,10 +1,11 @@
 // Loading lines, all of them or none.
 
-ghost use Rattle.std.specs.Prelude.{◌≡◌, false};
+ghost use Rattle.std.specs.Prelude.{◌≡◌, false, IfOk};
+ghost use Rattle.registry_index.specs.declared.request.Answer.TheVariants.{Loaded};
 
 use crate::index::{INSERT, TABLE, add};
 use crate::input::Input;
-use crate::line::{cut, refusal};
+use crate::request::Answer;
 use crate::trouble::Trouble;
 use anyhow::anyhow;
 use sqlite::{Alter, Connection, Transaction};
@@ -16,13 +17,14 @@ pub fn load<S: Alter>(
     alloc: Global,
     conn: &mut Connection<S>,
     lines: &mut Lines<BufReader<Input>>,
-) -> Result<(), Trouble>
+) -> Result<Answer, Trouble>
     requires { conn.old.in_transaction ≡ false }
+    ensures { IfOk result (λ answer. answer ≡ Loaded) }
 {
     let mut tx = conn.transaction();
     add_all(alloc, &mut tx, lines)?;
     tx.commit()?;
-    Ok(())
+    Ok(Answer::Loaded)
 }
 
 // Makes the table, if it is not there yet, and puts the lines into it.
@@ -36,24 +38,11 @@ fn add_all<S: Alter>(
     for line in lines {
         number = number.saturating_add(1);
         match line {
-            Ok(line) => add_line(alloc, tx, number, &line)?,
+            Ok(line) => {
+                add(alloc, tx, INSERT, number, &line)?;
+            }
             Err(error) => return Err(Trouble::Line(number, anyhow!(error))),
         }
     }
     Ok(())
-}
-
-fn add_line<S: Alter>(
-    alloc: Global,
-    tx: &mut Transaction<'_, S>,
-    number: u64,
-    line: &str,
-) -> Result<(), Trouble> {
-    let Some(parts) = cut(line) else {
-        return Err(Trouble::Line(number, anyhow!("no tab behind the package")));
-    };
-    if add(alloc, tx, INSERT, parts)? {
-        return Ok(());
-    }
-    Err(Trouble::Line(number, refusal(parts.version)))
 }

@@ -5,19 +5,16 @@ ghost use Rattle.key_spans.specs.Spans.{in_spans};
 ghost use Rattle.nodejs_semver.specs.Ranges.Gate.{accepts};
 ghost use Rattle.npm_words.specs.Alternatives.{HasAlternativesIn};
 ghost use Rattle.npm_reading.specs.Ranges.{IsRangeIn};
-ghost use Rattle.registry_index.specs.Bound.{AreSpansOf, asked};
+ghost use Rattle.registry_index.specs.Bound.{AreSpansOf};
 ghost use Rattle.semver_core.specs.Failures.{NoValue};
 ghost use Rattle.semver_core.specs.Keys.{key};
 ghost use Rattle.semver_core.specs.Values.Versions.{IsVersion, VersionValue};
 ghost use Rattle.semver_core.specs.declared.TheConstants.{MAX_SAFE_INTEGER};
-ghost use Rattle.sqlite.specs.Held.{state};
-ghost use Rattle.sqlite.specs.State.{HasCleanDisk, Shown};
 
 use key_spans::{KeySpan, key_spans};
 use nodejs_semver::{Failure, RangeRef};
 use npm_reading::Reading;
 use semver_core::MAX_SAFE_INTEGER;
-use sqlite::{Alter, Connection, Error, Row, params};
 use std::alloc::{AllocError, Global};
 
 /// All versions in a span.
@@ -69,21 +66,4 @@ fn read_range(alloc: Global, text: &str) -> Result<Option<RangeRef<'_>>, AllocEr
         include_prerelease: false,
     };
     Failure::refused_as_none(npm_reading::range(alloc, text, reading))
-}
-
-/// The rows of an answer about a package and a span.
-pub fn rows_in<S: Alter>(
-    conn: &mut Connection<S>,
-    query: &str,
-    name: &str,
-    span: &KeySpan,
-) -> Result<Vec<Row>, Error>
-    ensures asked { HasCleanDisk (state S.Store conn.new) → IfOk result (λ rows. Shown query.now
-        (asked name.now span.now) (state S.Store conn.old) (state S.Store conn.new) rows.items) }
-    ensures clean { HasCleanDisk (state S.Store conn.new) → HasCleanDisk (state S.Store conn.old) }
-{
-    conn.query_all(
-        query,
-        params![name, &span.start, &span.stop, span.releases_only],
-    )
 }

@@ -71,10 +71,7 @@ impl Request<'_> {
             (IsAnswer (state S.Store) self.entry conn.old conn.new) }
     {
         match self {
-            Request::Load(lines) => {
-                load(alloc, conn, lines)?;
-                Ok(Answer::Loaded)
-            }
+            Request::Load(lines) => load(alloc, conn, lines),
             Request::Best(name, spans) => {
                 let mut found = search(alloc, conn, BEST, name, spans)?;
                 Ok(Answer::Best(found.pop()))
@@ -103,7 +100,12 @@ impl Answer {
     pub fn write(&self, output: &mut impl Write) -> io::Result<()> {
         match self {
             Answer::Best(Some(best)) => best.write(output),
-            Answer::All(found) => write_all(found, output),
+            Answer::All(found) => {
+                for it in found {
+                    it.write(output)?;
+                }
+                Ok(())
+            }
             Answer::Behind(count, Some(newest)) => {
                 write!(output, "{count}\t")?;
                 newest.write(output)
@@ -111,11 +113,4 @@ impl Answer {
             _ => Ok(()),
         }
     }
-}
-
-fn write_all(found: &[Found], output: &mut impl Write) -> io::Result<()> {
-    for it in found {
-        it.write(output)?;
-    }
-    Ok(())
 }

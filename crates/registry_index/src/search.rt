@@ -1,13 +1,12 @@
 // Answers from the index.
 
 ghost use Rattle.std.specs.Prelude.{◌≡◌, ◌∷◌, ◌++◌, [], IfOk, OnOk, map, take};
-ghost use Rattle.registry_index.specs.Searches.{AreFound, AreTold, IsCount, IsFirst, first_told};
+ghost use Rattle.registry_index.specs.Searches.{AreFound, IsCount, IsFirst, first_told};
 ghost use Rattle.registry_index.specs.Searches.{row_of};
 ghost use Rattle.sqlite.specs.Held.{state};
 ghost use Rattle.sqlite.specs.State.{HasCleanDisk};
 ghost use Rattle.sqlite_value.specs.declared.value.Value.TheVariants.{Blob, Text};
 
-use crate::query::rows_in;
 use key_spans::KeySpan;
 use sqlite::{Alter, Connection, Error, Row, params};
 use std::alloc::Global;
@@ -57,27 +56,15 @@ pub fn search<S: Alter>(
     ensures { HasCleanDisk (state S.Store conn.new) → IfOk result (λ found. AreFound
         (state S.Store) query.now name.now spans.now conn.old conn.new found.items) }
 {
-    let mut found = answers(alloc, conn, query, name, spans)?;
-    found.sort()?;
-    Ok(found)
-}
-
-// What the answers about the spans tell, one answer after the other.
-fn answers<S: Alter>(
-    alloc: Global,
-    conn: &mut Connection<S>,
-    query: &str,
-    name: &str,
-    spans: &[KeySpan],
-) -> Result<Vec<Found>, Error>
-    ensures { HasCleanDisk (state S.Store conn.new) → IfOk result (λ found. AreTold
-        (state S.Store) query.now name.now conn.old spans.now conn.new found.items) }
-{
     let mut found = Vec::new(alloc);
     for span in spans {
-        let rows = rows_in(conn, query, name, span)?;
+        let rows = conn.query_all(
+            query,
+            params![name, &span.start, &span.stop, span.releases_only],
+        )?;
         push_all(&rows, &mut found)?;
     }
+    found.sort()?;
     Ok(found)
 }
 

@@ -2,7 +2,7 @@ use Rattle.std.proofs.Common.{take}
 use Rattle.sqlite.specs.Held.{state}
 use Rattle.sqlite.specs.State.{HasCleanDisk}
 use Rattle.registry_index.specs.Searches.{AreTold}
-use Rattle.registry_index.proofs.search.answers.Given as goal
+use Rattle.registry_index.proofs.search.search.Given as goal
 
 abbrev pub invariant-loop-span : goal.invariant-loop-span
 invariant-loop-span g l = HasCleanDisk (state g.S.Store l.conn)
