@@ -10,7 +10,7 @@ mod table;
 mod words;
 
 pub use crate::readers::fast::range_fast;
-pub(crate) use crate::readers::fast::{read_common, read_front};
+pub(crate) use crate::readers::fast::{Alone, InLines, Place, read_common, read_front};
 pub(crate) use crate::readers::kinds::ignored_front;
 pub(crate) use crate::readers::loose::read_any;
 pub use crate::readers::loose::{is_blank, range_loose};

@@ -10,7 +10,7 @@ ghost use Rattle.nodejs_semver.specs.Words.{VersionValue, Writes};
 ghost use Rattle.smallvec.specs.SmallVec.{HasRoomFor};
 
 use crate::range::owned::owned_intervals;
-use crate::readers::{read_any, read_common, read_front};
+use crate::readers::{Alone, InLines, Place, read_any, read_common, read_front};
 use crate::{Range, RangeOf, RangeRef};
 use memchr::{memchr2, memchr3};
 use semver_core::cuts::Interval;
@@ -75,7 +75,7 @@ fn read(text: &str, found: &mut Intervals<Version>) -> Result<(), Failure<Semver
     ensures memory { MemoryOnlyIf result ((r : List (Span VersionValue)) →
         Means MAX_SAFE_INTEGER text.now r → TakesMemory r) }
 {
-    match read_common(text.as_bytes(), found) {
+    match read_common::<Alone, _>(text.as_bytes(), found) {
         Ok(true) => Ok(()),
         Ok(false) | Err(_) => read_copies(text, found),
     }
@@ -136,7 +136,7 @@ impl<'a> RangeRef<'a> {
         ensures memory { MemoryOnlyIf result.0 ((r : List (Span VersionValue)) →
             Means MAX_SAFE_INTEGER (take result.1 text.now) r → 1 < length r) }
     {
-        if let Some(end) = read_parts(text.as_bytes(), &mut self.intervals) {
+        if let Some(end) = read_parts::<InLines>(text.as_bytes(), &mut self.intervals) {
             if ends_field(text.as_bytes(), end) {
                 return (Ok(()), end);
             }
@@ -197,7 +197,7 @@ impl<'a> RangeReader<'a> {
 // Reads the common parts at the front in place of what the list holds, and returns where they end;
 // `None` too where an allocation fails.
 #[inline(never)]
-fn read_parts<'a>(text: &'a [u8], found: &mut Intervals<VersionRef<'a>>) -> Option<usize>
+fn read_parts<'a, P: Place>(text: &'a [u8], found: &mut Intervals<VersionRef<'a>>) -> Option<usize>
     ensures place { IfSome result (λ end. end ≤ length text.now) }
     ensures some { IfSome result (λ end.
         AreCommonParts MAX_SAFE_INTEGER (take end text.now) found.new.items) }
@@ -206,7 +206,7 @@ fn read_parts<'a>(text: &'a [u8], found: &mut Intervals<VersionRef<'a>>) -> Opti
     let _ = found.pop();
     // One interval stands inline, so that this takes no memory.
     found.reserve_for(b"").ok()?;
-    match read_front(text, found) {
+    match read_front::<P, _>(text, found) {
         Ok(Some(rest)) => Some(text.len() - rest.len()),
         Ok(None) | Err(_) => None,
     }
@@ -224,7 +224,7 @@ fn read_text<'a>(
     ensures memory { MemoryOnlyIf result ((r : List (Span VersionValue)) →
         Means MAX_SAFE_INTEGER text.now r → 1 < length r) }
 {
-    match read_parts(text.as_bytes(), found) {
+    match read_parts::<Alone>(text.as_bytes(), found) {
         Some(end) if end == text.len() => Ok(()),
         _ => read_loose(text, true, found),
     }

@@ -24,16 +24,52 @@ use semver_pieces::{Bounds, Found, after_bars};
 use smallvec::SmallVec;
 use std::alloc::{AllocError, Global};
 
+/// Where a common text stands, which says how the partials in it are read.
+pub(crate) trait Place {
+    /// The partial at the front. Neither `v` nor whitespace is skipped before it.
+    fn bare_front(text: &[u8]) -> Option<(Partial<'_>, &[u8])>
+        ensures { partial_front_view result ≡ Spec.bare_front MAX_SAFE_INTEGER text.now };
+}
+
+/// The text is all that there is.
+pub(crate) struct Alone;
+
+impl Place for Alone {
+    #[inline(always)]
+    #[tactic(auto, unfolding(crate::specs::Internal::CommonFronts::bare_front))]
+    fn bare_front(text: &[u8]) -> Option<(Partial<'_>, &[u8])> {
+        let (major, rest) = partial::component_front(text)?;
+        Some(partial::minor_front(major, rest))
+    }
+}
+
+/// Lines follow the text, of which the last mostly ends with a line feed. Most partials have three
+/// numbers.
+pub(crate) struct InLines;
+
+impl Place for InLines {
+    #[inline(always)]
+    #[tactic(auto, unfolding(crate::specs::Internal::CommonFronts::bare_front))]
+    fn bare_front(text: &[u8]) -> Option<(Partial<'_>, &[u8])> {
+        match triple_front(text) {
+            Some((major, minor, patch, rest)) => Some(partial::qualified(
+                Some(major),
+                Some(minor),
+                Some(patch),
+                rest,
+            )),
+            None if begins_component(text) => rare_front(text),
+            None => None,
+        }
+    }
+}
+
 // `bare_front` of a text that does not begin with three numbers.
 #[inline(never)]
-#[tactic(auto, unfolding(crate::specs::Internal::CommonFronts::bare_front))]
 fn components_front(text: &[u8]) -> Option<(Partial<'_>, &[u8])>
     ensures { partial_front_view result ≡ Spec.bare_front MAX_SAFE_INTEGER text.now }
 {
-    match partial::component_front(text) {
-        Some((major, rest)) => Some(partial::minor_front(major, rest)),
-        None => None,
-    }
+    Alone::bare_front(text)
 }
 
 // `components_front`, inlined: room for what the call returns is made only where it is called.
@@ -53,34 +89,15 @@ fn begins_component(text: &[u8]) -> bool
     matches!(text, [b'0'..=b'9' | b'*' | b'X' | b'x', ..])
 }
 
-// The partial at the front. Neither `v` nor whitespace is skipped before it. Most have three
-// numbers.
-#[inline(always)]
-#[tactic(auto, unfolding(crate::specs::Internal::CommonFronts::bare_front))]
-fn bare_front(text: &[u8]) -> Option<(Partial<'_>, &[u8])>
-    ensures { partial_front_view result ≡ Spec.bare_front MAX_SAFE_INTEGER text.now }
-{
-    match triple_front(text) {
-        Some((major, minor, patch, rest)) => Some(partial::qualified(
-            Some(major),
-            Some(minor),
-            Some(patch),
-            rest,
-        )),
-        None if begins_component(text) => rare_front(text),
-        None => None,
-    }
-}
-
 // The bounds of a comparator and a partial.
 #[inline(always)]
 #[tactic(auto, unfolding(crate::specs::Internal::CommonFronts::comparison_front))]
-fn comparison(text: &[u8]) -> Option<(Bounds<'_>, &[u8])>
+fn comparison<P: Place>(text: &[u8]) -> Option<(Bounds<'_>, &[u8])>
     ensures { bounds_front_view result
         ≡ Spec.word_read MAX_SAFE_INTEGER (Spec.comparison_front MAX_SAFE_INTEGER text.now) }
 {
     let (comparator, rest) = words::comparator_front(text)?;
-    let (partial, rest) = bare_front(rest)?;
+    let (partial, rest) = P::bare_front(rest)?;
     let bounds = table::compare(comparator, &partial)?;
     Some((bounds, rest))
 }
@@ -153,19 +170,22 @@ fn push_both<'a, S: Found<'a>>(
 
 // Adds the interval of one comparison, or of two, and returns what follows them.
 #[tactic(auto, unfolding(crate::specs::Internal::CommonFronts::comparisons_front))]
-fn push_comparisons<'a, S: Found<'a>>(text: &'a [u8], found: &mut S) -> Allocated<Option<&'a [u8]>>
+fn push_comparisons<'a, P: Place, S: Found<'a>>(
+    text: &'a [u8],
+    found: &mut S,
+) -> Allocated<Option<&'a [u8]>>
     requires { S.has_room found.old }
     ensures added { IfOk result (λ rest. passed_view rest (S.items found.new)
         ≡ Spec.passed (S.items found.old) (Spec.comparisons_front MAX_SAFE_INTEGER text.now)) }
     ensures full { OnErr result (S.room ≤ 0) }
 {
-    let Some((first, rest)) = comparison(text) else {
+    let Some((first, rest)) = comparison::<P>(text) else {
         return Ok(None);
     };
     if !matches!(rest, [b' ', b'<' | b'=' | b'>', ..]) {
         return push(between(first), rest, found);
     }
-    match comparison(&rest[1..]) {
+    match comparison::<P>(&rest[1..]) {
         Some((second, rest)) => push_both(first, second, rest, found),
         None => Ok(None),
     }
@@ -194,7 +214,10 @@ fn push_word<'a, S: Found<'a>>(
 
 // Adds the interval of what stands behind a tilde, and returns what follows it.
 #[tactic(auto, unfolding(crate::specs::Internal::CommonFronts::tilde_front))]
-fn push_tilde<'a, S: Found<'a>>(text: &'a [u8], found: &mut S) -> Allocated<Option<&'a [u8]>>
+fn push_tilde<'a, P: Place, S: Found<'a>>(
+    text: &'a [u8],
+    found: &mut S,
+) -> Allocated<Option<&'a [u8]>>
     requires { S.has_room found.old }
     ensures added { IfOk result (λ rest. passed_view rest (S.items found.new)
         ≡ Spec.passed (S.items found.old)
@@ -202,7 +225,7 @@ fn push_tilde<'a, S: Found<'a>>(text: &'a [u8], found: &mut S) -> Allocated<Opti
     ensures full { OnErr result (S.room ≤ 0) }
 {
     let (greater, rest) = words::tilde_sign(text);
-    let Some((partial, rest)) = bare_front(rest) else {
+    let Some((partial, rest)) = P::bare_front(rest) else {
         return Ok(None);
     };
     push_word(table::tilde(greater, &partial), rest, found)
@@ -210,14 +233,17 @@ fn push_tilde<'a, S: Found<'a>>(text: &'a [u8], found: &mut S) -> Allocated<Opti
 
 // Adds the interval of what stands behind a caret, and returns what follows it.
 #[tactic(auto, unfolding(crate::specs::Internal::CommonFronts::caret_front))]
-fn push_caret<'a, S: Found<'a>>(text: &'a [u8], found: &mut S) -> Allocated<Option<&'a [u8]>>
+fn push_caret<'a, P: Place, S: Found<'a>>(
+    text: &'a [u8],
+    found: &mut S,
+) -> Allocated<Option<&'a [u8]>>
     requires { S.has_room found.old }
     ensures added { IfOk result (λ rest. passed_view rest (S.items found.new)
         ≡ Spec.passed (S.items found.old)
         (Spec.word_read MAX_SAFE_INTEGER (Spec.caret_front MAX_SAFE_INTEGER text.now))) }
     ensures full { OnErr result (S.room ≤ 0) }
 {
-    let Some((partial, rest)) = bare_front(text) else {
+    let Some((partial, rest)) = P::bare_front(text) else {
         return Ok(None);
     };
     push_word(table::caret(&partial), rest, found)
@@ -225,7 +251,7 @@ fn push_caret<'a, S: Found<'a>>(text: &'a [u8], found: &mut S) -> Allocated<Opti
 
 // Adds the interval from a partial to the one at the front, and returns what follows it.
 #[inline(never)]
-fn push_hyphen<'a, S: Found<'a>>(
+fn push_hyphen<'a, P: Place, S: Found<'a>>(
     lower: Partial<'a>,
     text: &'a [u8],
     found: &mut S,
@@ -237,7 +263,7 @@ fn push_hyphen<'a, S: Found<'a>>(
         (Spec.upper_front MAX_SAFE_INTEGER (partial_view lower.entry) text.now))) }
     ensures full { OnErr result (S.room ≤ 0) }
 {
-    match bare_front(text) {
+    match P::bare_front(text) {
         Some((upper, rest)) => push(between(table::hyphen(&lower, &upper)), rest, found),
         None => Ok(None),
     }
@@ -245,18 +271,21 @@ fn push_hyphen<'a, S: Found<'a>>(
 
 // Adds the interval of one partial, or of two with a dash between them, and returns what follows.
 #[tactic(auto, unfolding(crate::specs::Internal::CommonFronts::partials_front))]
-fn push_partials<'a, S: Found<'a>>(text: &'a [u8], found: &mut S) -> Allocated<Option<&'a [u8]>>
+fn push_partials<'a, P: Place, S: Found<'a>>(
+    text: &'a [u8],
+    found: &mut S,
+) -> Allocated<Option<&'a [u8]>>
     requires { S.has_room found.old }
     ensures added { IfOk result (λ rest. passed_view rest (S.items found.new)
         ≡ Spec.passed (S.items found.old)
         (Spec.word_read MAX_SAFE_INTEGER (Spec.partials_front MAX_SAFE_INTEGER text.now))) }
     ensures full { OnErr result (S.room ≤ 0) }
 {
-    let Some((partial, rest)) = bare_front(text) else {
+    let Some((partial, rest)) = P::bare_front(text) else {
         return Ok(None);
     };
     match rest {
-        [b' ', b'-', b' ', second @ ..] => push_hyphen(partial, second, found),
+        [b' ', b'-', b' ', second @ ..] => push_hyphen::<P, S>(partial, second, found),
         _ => push_word(table::plain(&partial), rest, found),
     }
 }
@@ -264,7 +293,10 @@ fn push_partials<'a, S: Found<'a>>(text: &'a [u8], found: &mut S) -> Allocated<O
 // Adds the interval of the part at the front, and returns what follows the part.
 #[inline(always)]
 #[tactic(auto, unfolding(crate::specs::Internal::CommonFronts::part_front))]
-fn push_part<'a, S: Found<'a>>(text: &'a [u8], found: &mut S) -> Allocated<Option<&'a [u8]>>
+fn push_part<'a, P: Place, S: Found<'a>>(
+    text: &'a [u8],
+    found: &mut S,
+) -> Allocated<Option<&'a [u8]>>
     requires { S.has_room found.old }
     ensures added { IfOk result (λ rest. passed_view rest (S.items found.new)
         ≡ Spec.passed (S.items found.old) (Spec.part_front MAX_SAFE_INTEGER text.now)) }
@@ -272,10 +304,10 @@ fn push_part<'a, S: Found<'a>>(text: &'a [u8], found: &mut S) -> Allocated<Optio
 {
     match text {
         [] => Ok(None),
-        [b'<' | b'=' | b'>', ..] => push_comparisons(text, found),
-        [b'~', rest @ ..] => push_tilde(rest, found),
-        [b'^', rest @ ..] => push_caret(rest, found),
-        _ => push_partials(text, found),
+        [b'<' | b'=' | b'>', ..] => push_comparisons::<P, S>(text, found),
+        [b'~', rest @ ..] => push_tilde::<P, S>(rest, found),
+        [b'^', rest @ ..] => push_caret::<P, S>(rest, found),
+        _ => push_partials::<P, S>(text, found),
     }
 }
 
@@ -283,7 +315,7 @@ fn push_part<'a, S: Found<'a>>(text: &'a [u8], found: &mut S) -> Allocated<Optio
 /// what follows them. It returns `None` exactly where no such parts stand there; then the list may
 /// hold some intervals. Its versions may have builds.
 #[inline(always)]
-pub(crate) fn read_front<'a, S: Found<'a>>(
+pub(crate) fn read_front<'a, P: Place, S: Found<'a>>(
     text: &'a [u8],
     found: &mut S,
 ) -> Allocated<Option<&'a [u8]>>
@@ -297,7 +329,7 @@ pub(crate) fn read_front<'a, S: Found<'a>>(
 {
     let mut rest = text;
     'parts: loop {
-        let Some(behind) = push_part(rest, found)? else {
+        let Some(behind) = push_part::<P, S>(rest, found)? else {
             return Ok(None);
         };
         let Some(next) = after_bars(behind) else {
@@ -311,7 +343,10 @@ pub(crate) fn read_front<'a, S: Found<'a>>(
 /// Adds the intervals of common parts, one for each, to an empty list. It returns `false` exactly
 /// where the text is none; then the list may hold some of them. Its versions may have builds.
 #[inline(always)]
-pub(crate) fn read_common<'a, S: Found<'a>>(text: &'a [u8], found: &mut S) -> Allocated<bool>
+pub(crate) fn read_common<'a, P: Place, S: Found<'a>>(
+    text: &'a [u8],
+    found: &mut S,
+) -> Allocated<bool>
     requires empty { S.items found.old ≡ [] }
     requires room { S.has_room found.old }
     ensures some { IfOk result (λ there. IsTrue there
@@ -320,7 +355,7 @@ pub(crate) fn read_common<'a, S: Found<'a>>(text: &'a [u8], found: &mut S) -> Al
         → NoValue (AreCommonParts MAX_SAFE_INTEGER text.now)) }
     ensures memory { OnErr result ((S.room ≤ 0) ⊎ (has_bars text.now ≡ true)) }
 {
-    match read_front(text, found)? {
+    match read_front::<P, S>(text, found)? {
         Some(rest) => Ok(rest.is_empty()),
         None => Ok(false),
     }
@@ -359,7 +394,7 @@ pub fn range_fast(alloc: Global, text: &str) -> Result<Option<Range>, AllocError
         return Ok(None);
     }
     let mut found = SmallVec::new(alloc);
-    if !read_common(text.as_bytes(), &mut found)? {
+    if !read_common::<Alone, _>(text.as_bytes(), &mut found)? {
         return Ok(None);
     }
     owned_range(alloc, RangeRef::of_intervals(found))

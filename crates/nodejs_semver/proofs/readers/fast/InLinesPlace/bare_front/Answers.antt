@@ -1,6 +1,6 @@
 use Rattle.nodejs_semver.proofs.Common.{MAX_SAFE_INTEGER, Some, ap, arith, ◌∙◌}
 use Rattle.nodejs_semver.proofs.Everyday.Parts.{bare_nothing, bare_triple}
-use Rattle.nodejs_semver.proofs.readers.fast.bare_front.Goals as goal
+use Rattle.nodejs_semver.proofs.readers.fast.InLinesPlace.bare_front.Goals as goal
 
 pub returns-in-Some : goal.returns-in-Some
 returns-in-Some c =
