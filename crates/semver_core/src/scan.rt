@@ -4,7 +4,7 @@
 //! A call on a `&str` takes a place in it, a byte index. A call on a `&[u8]` reads at the front of
 //! the bytes, save `number_in`, which takes a place.
 
-ghost use Rattle.std.specs.Prelude.{◌≡◌, ◌≤◌, ◌+◌, ◌-◌, ◌*◌, ◌<◌, ℕ, [], drop, IfNone, IfOk};
+ghost use Rattle.std.specs.Prelude.{◌≡◌, ◌≤◌, ◌+◌, ◌-◌, ◌*◌, ◌<◌, ℕ, drop, IfNone, IfOk};
 ghost use Rattle.semver_core.specs.Words.{false, begins, digits_end, digits_from, drop_end_spaces};
 ghost use Rattle.semver_core.specs.Words.{goes_on, grown, Id, id_view, identifier_of, ids_view};
 ghost use Rattle.semver_core.specs.Words.{IfSome, is_identifier_char, is_whitespace, IsListAdded};
@@ -73,20 +73,15 @@ pub fn skip_whitespace(text: &str, at: usize) -> usize
 pub fn trim(text: &str) -> &str
     ensures middle { IsTrim text.now result.now }
 {
-    if is_trimmed(text) {
-        text
-    } else {
-        trim_both(text)
-    }
-}
-
-// Whether a text is empty, or begins and ends with a visible character of ASCII. Most texts do.
-#[inline(always)]
-fn is_trimmed(text: &str) -> bool
-    ensures { IsTrue result → IsTrim text.now text.now }
-{
+    // Most texts are empty, or begin and end with a visible character of ASCII.
     let bytes = text.as_bytes();
-    bytes.is_empty() || (bytes[0].is_ascii_graphic() && bytes[bytes.len() - 1].is_ascii_graphic())
+    if bytes.is_empty() {
+        return text;
+    }
+    if bytes[0].is_ascii_graphic() && bytes[bytes.len() - 1].is_ascii_graphic() {
+        return text;
+    }
+    trim_both(text)
 }
 
 // `trim`, character by character from both ends.

@@ -193,21 +193,6 @@ fn read_ids(alloc: Global, bytes: &[u8]) -> Result<Option<Vec<Identifier>>, Allo
     }
 }
 
-// The identifiers of a pre-release, or none for the byte 3.
-fn read_pre(alloc: Global, bytes: &[u8]) -> Result<Option<Vec<Identifier>>, AllocError>
-    ensures complete { IfOk result (λ found. (list : List Id) → All IsId list
-        → bytes.now ≡ pre_key list → GivesIds found list) }
-    ensures memory { OnErr result (bytes.now ≡ pre_key [] → ⊥) }
-{
-    let Some((first, _)) = bytes.split_first() else {
-        return Ok(None);
-    };
-    if *first == 3 {
-        return Ok(Some(Vec::new(alloc)));
-    }
-    read_ids(alloc, bytes)
-}
-
 // The version of three numbers and of the key of a pre-release, or of its absence.
 pub(crate) fn read_version(
     alloc: Global,
@@ -222,7 +207,10 @@ pub(crate) fn read_version(
     ensures none { IfOk result (λ found. IfNone found ⊥) }
     ensures memory { OnErr result (bytes.now ≡ pre_key [] → ⊥) }
 {
-    let Some(pre_release) = read_pre(alloc, bytes)? else {
+    if bytes.starts_with(&[3]) {
+        return Ok(Some(Version::release(major, minor, patch)));
+    }
+    let Some(pre_release) = read_ids(alloc, bytes)? else {
         return Ok(None);
     };
     match Version::new(alloc, major, minor, patch, pre_release, Vec::new(alloc)) {
