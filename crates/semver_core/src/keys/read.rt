@@ -128,16 +128,6 @@ fn read_text(alloc: Global, bytes: &[u8]) -> Result<Option<(Vec<u8>, &[u8])>, Al
     }
 }
 
-// A numeric identifier.
-fn numeric(bytes: &[u8]) -> Option<(Identifier, &[u8])>
-    ensures complete { (n : ℕ) (rest : List ℕ) → n < 2 ^ 64 → bytes.now ≡ number_key n ++ rest
-        → GivesId result (id.Numeric n) rest }
-    ensures shorter { IfSome result (λ f. length f.1.now ≤ length bytes.now) }
-{
-    let (number, rest) = read_number(bytes)?;
-    Some((Identifier::Numeric(number), rest))
-}
-
 // An alphanumeric identifier.
 fn alphanumeric(alloc: Global, bytes: &[u8]) -> Result<Option<(Identifier, &[u8])>, AllocError>
     ensures complete { IfOk result (λ found. (text rest : List ℕ) → IsUtf8 text → IsLow rest
@@ -165,7 +155,12 @@ fn read_id(alloc: Global, bytes: &[u8]) -> Result<Option<(Identifier, &[u8])>, A
         return Ok(None);
     };
     match *first {
-        1 => Ok(numeric(tail)),
+        1 => {
+            let Some((number, rest)) = read_number(tail) else {
+                return Ok(None);
+            };
+            Ok(Some((Identifier::Numeric(number), rest)))
+        }
         2 => alphanumeric(alloc, tail),
         _ => Ok(None),
     }
