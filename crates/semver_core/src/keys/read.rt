@@ -6,10 +6,8 @@ ghost use Rattle.semver_core.specs.Keys.{id_key, ids_key, number_key, pre_key, t
 ghost use Rattle.semver_core.specs.Internal.KeyReading.{GivesId, GivesIds, GivesNumber};
 ghost use Rattle.semver_core.specs.Internal.KeyReading.{GivesNumbers, GivesText, IsLow, IsPre};
 ghost use Rattle.semver_core.specs.Internal.KeyReading.{numbers_key};
-ghost use Rattle.semver_core.specs.Text.Identifiers as id;
 ghost use Rattle.semver_core.specs.Values.Versions.{IsId};
-ghost use Rattle.semver_core.specs.Words.{[], IfNone, IfOk, IfSome, IsUtf8, length, List, OnErr};
-ghost use Rattle.semver_core.specs.Words.{Id};
+ghost use Rattle.semver_core.specs.Words.{[], Id, IfNone, IfOk, IfSome, length, List, OnErr};
 
 use crate::{Identifier, Version};
 use std::alloc::{AllocError, Global};
@@ -128,22 +126,6 @@ fn read_text(alloc: Global, bytes: &[u8]) -> Result<Option<(Vec<u8>, &[u8])>, Al
     }
 }
 
-// An alphanumeric identifier.
-fn alphanumeric(alloc: Global, bytes: &[u8]) -> Result<Option<(Identifier, &[u8])>, AllocError>
-    ensures complete { IfOk result (λ found. (text rest : List ℕ) → IsUtf8 text → IsLow rest
-        → bytes.now ≡ text_key text ++ rest → GivesId found (id.AlphaNumeric text) rest) }
-    ensures shorter { IfOk result (λ found. IfSome found (λ f.
-        length f.1.now ≤ length bytes.now)) }
-{
-    let Some((text, rest)) = read_text(alloc, bytes)? else {
-        return Ok(None);
-    };
-    let Ok(text) = String::from_utf8(text) else {
-        return Ok(None);
-    };
-    Ok(Some((Identifier::AlphaNumeric(text), rest)))
-}
-
 // The identifier at the front of bytes, and what follows.
 fn read_id(alloc: Global, bytes: &[u8]) -> Result<Option<(Identifier, &[u8])>, AllocError>
     ensures complete { IfOk result (λ found. (id : Id) (rest : List ℕ) → IsId id → IsLow rest
@@ -161,7 +143,15 @@ fn read_id(alloc: Global, bytes: &[u8]) -> Result<Option<(Identifier, &[u8])>, A
             };
             Ok(Some((Identifier::Numeric(number), rest)))
         }
-        2 => alphanumeric(alloc, tail),
+        2 => {
+            let Some((text, rest)) = read_text(alloc, tail)? else {
+                return Ok(None);
+            };
+            let Ok(text) = String::from_utf8(text) else {
+                return Ok(None);
+            };
+            Ok(Some((Identifier::AlphaNumeric(text), rest)))
+        }
         _ => Ok(None),
     }
 }
