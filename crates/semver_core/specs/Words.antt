@@ -7,7 +7,7 @@ pub use Rattle.std.specs.Iterator.{item_count, YieldsFirstBy}
 pub use Rattle.std.specs.List.{fold, join_with_byte, list_all, prefix_len}
 pub use Rattle.std.specs.Option.{option_copied}
 pub use Rattle.std.specs.Ordering.{is_eq, is_le, is_lt}
-pub use Rattle.std.specs.Prelude.{[], ℕ, ⊤, Bool, codes, false, IfErr, IfNone, IfOk, IfSome, is_some, IsCharBoundary}
+pub use Rattle.std.specs.Prelude.{[], ℕ, Bool, codes, false, IfErr, IfNone, IfOk, IfSome, is_some, IsCharBoundary}
 pub use Rattle.std.specs.Prelude.{IsOk, IsOkAnd, IsTrue, IsUtf8, length, List, map, not, OnErr, OnOk, Option, refl, Some}
 pub use Rattle.std.specs.Prelude.{string_bytes, take, true, unwrap_or}
 pub use Rattle.std.specs.Str.{bytes_eq}
@@ -33,7 +33,7 @@ pub use Rattle.semver_core.specs.Internal.IncrementSteps.{begun, list_text, MayA
 pub use Rattle.semver_core.specs.Internal.IncrementSteps.{RefusedWith, ReturnsParts, Tracks}
 pub use Rattle.semver_core.specs.Internal.OrderLaws.{id_alike, id_total, numbers_cmp, precedence_total, version_alike}
 pub use Rattle.semver_core.specs.Internal.Parts.{parts}
-pub use Rattle.semver_core.specs.Internal.Reading.{digits_end, digits_from, IsListAdded, list_at, list_from, list_len, lists_at}
+pub use Rattle.semver_core.specs.Internal.Reading.{digits_end, digits_from, IsListAdded, list_from, list_len, lists_at}
 pub use Rattle.semver_core.specs.Internal.Reading.{number_at, part_at, placed, qualified, triple_at}
 pub use Rattle.semver_core.specs.Internal.Sources.{begins_padded_run, has_padded}
 pub use Rattle.semver_core.specs.Internal.Spaces.{drop_end_spaces, drop_spaces, goes_on_with, is_space_of_three, is_space_of_two, space_len}
@@ -45,7 +45,7 @@ pub use Rattle.semver_core.specs.Text.Characters.{begins, HasFeed, is_identifier
 pub use Rattle.semver_core.specs.Text.Characters.{IsPieceAt, IsTrim, NoPieceAt}
 pub use Rattle.semver_core.specs.Text.Common.{IsCommon, IsCommonFront}
 pub use Rattle.semver_core.specs.Text.Identifiers.{goes_on, Id, identifier_of, is_identifier, is_listed}
-pub use Rattle.semver_core.specs.Text.Identifiers.{is_u64_text, IsLongestIdentifiers, listed, Numeric}
+pub use Rattle.semver_core.specs.Text.Identifiers.{IsLongestIdentifiers, listed, Numeric}
 pub use Rattle.semver_core.specs.Text.Numbers.{IsWholeNumber}
 pub use Rattle.semver_core.specs.Text.Parsing.{Parses}
 pub use Rattle.semver_core.specs.Text.VersionText.{Reads}

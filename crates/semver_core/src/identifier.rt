@@ -2,7 +2,7 @@
 
 ghost use Rattle.std.specs.Prelude.{◌≡◌, ◌≢◌, ◌<◌};
 ghost use Rattle.semver_core.specs.Words.{ℕ, eq_by_cmp_equiv, id_alike, id_cmp, id_total, id_view};
-ghost use Rattle.semver_core.specs.Words.{id_writes, ids_view, IfOk, is_eq, is_identifier};
+ghost use Rattle.semver_core.specs.Words.{id_writes, ids_view, IfOk, is_eq};
 ghost use Rattle.semver_core.specs.Words.{is_ascii_digit, is_identifier_char, is_listed, length};
 ghost use Rattle.semver_core.specs.Words.{list_all, Numeric};
 ghost use Rattle.semver_core.specs.Words.{on_equiv, on_per, on_po, on_total, OnErr};
@@ -60,15 +60,8 @@ impl Identifier {
     }
 }
 
-// Whether the text is one of an identifier.
-pub(crate) fn is_spelled(text: &[u8]) -> bool
-    ensures { result ≡ is_identifier text.now }
-{
-    !text.is_empty() && is_run(text)
-}
-
 // Whether each byte is a character of identifiers.
-fn is_run(text: &[u8]) -> bool
+pub(crate) fn is_run(text: &[u8]) -> bool
     ensures { result ≡ list_all is_identifier_char text.now }
 {
     text.iter().all(|byte| scan::is_identifier_char(*byte))

@@ -1,6 +1,6 @@
 // Keys of versions: bytes whose order, byte by byte, is the precedence of versions.
 
-ghost use Rattle.std.specs.Prelude.{◌≡◌, ◌<◌, ◌≤◌, ◌+◌, ◌++◌};
+ghost use Rattle.std.specs.Prelude.{◌≡◌, ◌<◌, ◌+◌, ◌++◌};
 ghost use Rattle.std.specs.Prelude.{vec_capacity, vec_len};
 ghost use Rattle.semver_core.specs.Keys.{key};
 ghost use Rattle.semver_core.specs.Words.{[], IfNone, IfOk, IfSome, IsVersion, length};

@@ -4,7 +4,7 @@
 //! A call on a `&str` takes a place in it, a byte index. A call on a `&[u8]` reads at the front of
 //! the bytes, save `number_in`, which takes a place.
 
-ghost use Rattle.std.specs.Prelude.{◌≡◌, ◌≤◌, ◌+◌, ◌-◌, ◌*◌, ◌<◌, ℕ, [], drop, IfNone, IfOk};
+ghost use Rattle.std.specs.Prelude.{◌≡◌, ◌≤◌, ◌+◌, ◌-◌, ◌*◌, ◌<◌, ℕ, drop, IfNone, IfOk};
 ghost use Rattle.semver_core.specs.Words.{false, begins, digits_end, digits_from, drop_end_spaces};
 ghost use Rattle.semver_core.specs.Words.{goes_on, grown, Id, id_view, identifier_of, ids_view};
 ghost use Rattle.semver_core.specs.Words.{IfSome, is_identifier_char, is_whitespace, IsListAdded};
@@ -73,20 +73,15 @@ pub fn skip_whitespace(text: &str, at: usize) -> usize
 pub fn trim(text: &str) -> &str
     ensures middle { IsTrim text.now result.now }
 {
-    if is_trimmed(text) {
-        text
-    } else {
-        trim_both(text)
-    }
-}
-
-// Whether a text is empty, or begins and ends with a visible character of ASCII. Most texts do.
-#[inline(always)]
-fn is_trimmed(text: &str) -> bool
-    ensures { IsTrue result → IsTrim text.now text.now }
-{
+    // Most texts are empty, or begin and end with a visible character of ASCII.
     let bytes = text.as_bytes();
-    bytes.is_empty() || (bytes[0].is_ascii_graphic() && bytes[bytes.len() - 1].is_ascii_graphic())
+    if bytes.is_empty() {
+        return text;
+    }
+    if bytes[0].is_ascii_graphic() && bytes[bytes.len() - 1].is_ascii_graphic() {
+        return text;
+    }
+    trim_both(text)
 }
 
 // `trim`, character by character from both ends.
@@ -187,20 +182,8 @@ pub(crate) fn digits<R: Reach>(bytes: &[u8], at: usize) -> Option<(u64, usize)>
     let Some(third) = digit::<R>(bytes, at + 2) else {
         return Some((value, at + 2));
     };
-    long_number::<R>(bytes, at, at + 3, value * 10 + third)
-}
-
-// `more_digits`, inlined: room for what the call returns is made only where it is called.
-#[inline(always)]
-fn long_number<R: Reach>(bytes: &[u8], at: usize, next: usize, front: u64) -> Option<(u64, usize)>
-    requires order { at < next }
-    requires place { R.stands bytes.now next }
-    requires small { front ≤ MAX_SAFE_INTEGER }
-    ensures found { result ≡ placed at
-        (digits_from MAX_SAFE_INTEGER front (next - at) (drop next bytes.now)) }
-    ensures place { IfSome result (λ found. R.stands bytes.now found.1) }
-{
-    let Some((number, end)) = more_digits::<R>(bytes, at, next, front) else {
+    // What the call returns is taken apart: so room for it is made only where it is called.
+    let Some((number, end)) = more_digits::<R>(bytes, at, at + 3, value * 10 + third) else {
         return None;
     };
     Some((number, end))

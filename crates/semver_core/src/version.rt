@@ -1,11 +1,11 @@
 // Versions: five values.
 
-ghost use Rattle.std.specs.Prelude.{All, IfOk, IsTrue, length, Some, ◌<◌, ◌↔◌, ◌≡◌, ◌≤◌};
+ghost use Rattle.std.specs.Prelude.{All, IfOk, IsTrue, length, Some, ◌<◌, ◌↔◌, ◌≡◌};
 ghost use Rattle.semver_core.specs.Failures.{MemoryOnlyIf, NoValue, RefusedOnlyIf};
 ghost use Rattle.semver_core.specs.Internal.Inside.{build_of, IsFull, pre_release_of};
 ghost use Rattle.semver_core.specs.Values.Versions.{HasIdentifiers, release_value, VersionValue};
 ghost use Rattle.semver_core.specs.Values.Versions.{is_release, IsId, IsVersion};
-ghost use Rattle.semver_core.specs.{Internal.Reading.qualified, Values.Views.{id_view, ids_view}};
+ghost use Rattle.semver_core.specs.Values.Views.{id_view, ids_view};
 ghost use Rattle.semver_core.specs.{Text.Parsing.Parses, Text.VersionText.Reads};
 
 pub mod accepts;

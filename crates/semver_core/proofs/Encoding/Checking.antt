@@ -156,10 +156,6 @@ pub no_ids_found : (others : List ℕ) → length others ≡ 0 → AreIds others
 no_ids_found [] e ids = nothing_keyed ids.0 ids.2
 no_ids_found (c ∷ others) e ids = omega arith
 
-pub ids_ended : (others tail : List ℕ) (c : ℕ) → others ≡ c ∷ tail → c ≡ 0 → length tail ≡ 0 → AreIds others
-ids_ended others [] c e f h = ([], All-nil IsId, e ∙ ap (λ d. d ∷ []) f)
-ids_ended others (d ∷ tail) c e f h = absurd (omega arith)
-
 ended_by : (u : List Id) (tail : List ℕ) → 0 ∷ tail ≡ ids_key u → length tail ≡ 0
 ended_by [] tail e = ap (λ k. length (behind k)) e
 ended_by (Numeric n ∷ u) tail e = absurd (omega (arith, ap first_of e))
@@ -204,17 +200,6 @@ pub next_id : (others tail : List ℕ) (c : ℕ) → others ≡ c ∷ tail → 0
 next_id others tail c e h ids = next_by ids.0 others tail c ids.1 e h ids.2
 
 -- ---- pre-releases
-
-pub release_found : (bytes tail : List ℕ) (c : ℕ) → bytes ≡ c ∷ tail → c ≡ 3 → length tail ≡ 0 → IsPre bytes
-release_found bytes [] c e f h = ([], All-nil IsId, e ∙ ap (λ d. d ∷ []) f)
-release_found bytes (d ∷ tail) c e f h = absurd (omega arith)
-
-pre_by : (u : List Id) (bytes tail : List ℕ) (c : ℕ) → All IsId u → bytes ≡ c ∷ tail → 0 < c → bytes ≡ ids_key u → IsPre bytes
-pre_by [] bytes tail c all e h f = absurd (omega (arith, ap first_of (sym e ∙ f)))
-pre_by (x ∷ u) bytes tail c all e h f = (x ∷ u, all, f)
-
-pub pre_found : (bytes tail : List ℕ) (c : ℕ) → bytes ≡ c ∷ tail → 0 < c → AreIds bytes → IsPre bytes
-pre_found bytes tail c e h ids = pre_by ids.0 bytes tail c ids.1 e h ids.2
 
 -- what a pre-release begins with
 pub data PreFront (bytes : List ℕ) : Type 0 where

@@ -28,9 +28,6 @@ cmp_below m n h = sym (nat_cmp_is m n Less h)
 pub cmp_above : (m n : ℕ) → n < m → nat_cmp m n ≡ Greater
 cmp_above m n h = sym (nat_cmp_is m n Greater h)
 
-pub cmp_same : (n : ℕ) → nat_cmp n n ≡ Equal
-cmp_same n = sym (nat_cmp_is n n Equal refl)
-
 -- one first byte and one number less than the other
 pub both_below : (x y m n : ℕ) (t u : Ordering) → x < y → m < n → ordering_then (nat_cmp x y) t ≡ ordering_then (nat_cmp m n) u
 both_below x y m n t u h k = rw (cmp_below x y h, cmp_below m n k) refl

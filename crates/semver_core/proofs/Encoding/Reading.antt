@@ -1,5 +1,5 @@
 -- What the bytes at the front of a key say.
-use Rattle.std.proofs.Common.{ℕ, ◌≡◌, ◌<◌, ◌≤◌, ◌^◌, ◌+◌, ◌++◌, ◌∷◌, List, [], refl, ap, arith, zero, suc, ◌∙◌, sym, length, drop, take, append-nil, append_assoc, subst}
+use Rattle.std.proofs.Common.{ℕ, ◌≡◌, ◌<◌, ◌^◌, ◌+◌, ◌++◌, ◌∷◌, List, [], refl, ap, arith, zero, suc, ◌∙◌, sym, length, drop, take, append-nil, append_assoc, subst}
 use Rattle.std.specs.Int.{from_be_bytes, to_be_bytes, w16, w32, w64}
 use Rattle.std.proofs.lemmas.List.{get_or_past, take-append-drop}
 use Rattle.std.proofs.lemmas.Nat.{be_bytes_2, be_bytes_4, be_bytes_8}
@@ -7,7 +7,7 @@ use Rattle.std.proofs.Math.ListN.{get_or}
 use Rattle.semver_core.proofs.Encoding.Numbers.{Form, eight, form, four, one, two}
 use Rattle.std.specs.Prelude.{All}
 use Rattle.std.proofs.lemmas.List.Elements.{All-head, All-tail}
-use Rattle.semver_core.specs.Keys.{id_key, ids_key, number_key, pre_key, text_key}
+use Rattle.semver_core.specs.Keys.{id_key, ids_key, number_key, text_key}
 use Rattle.semver_core.specs.Text.Identifiers.{AlphaNumeric, Id, Numeric}
 use Rattle.semver_core.specs.Values.Versions.{IsId}
 use Rattle.semver_core.specs.Internal.KeyReading.{IsLow, low}
@@ -33,51 +33,6 @@ first_of (c ∷ rest) = c
 abbrev pub behind : List ℕ → List ℕ
 behind [] = []
 behind (c ∷ rest) = rest
-
-small_by : (c n : ℕ) (tail k rest : List ℕ) → Form n k → c < 251 → c ∷ tail ≡ k ++ rest → (c ≡ n) × (tail ≡ rest)
-small_by c n tail _ rest (one g) h e = (ap first_of e, ap behind e)
-small_by c n tail _ rest (two f g) h e = absurd (omega (arith, ap first_of e))
-small_by c n tail _ rest (four f g) h e = absurd (omega (arith, ap first_of e))
-small_by c n tail _ rest (eight f g) h e = absurd (omega (arith, ap first_of e))
-
-pub small_number : (c n : ℕ) (tail rest : List ℕ) → n < 2 ^ 64 → c < 251 → c ∷ tail ≡ number_key n ++ rest → (c ≡ n) × (tail ≡ rest)
-small_number c n tail rest g = small_by c n tail _ rest (form n g)
-
-two_by : (n : ℕ) (tail k rest : List ℕ) → Form n k → 251 ∷ tail ≡ k ++ rest → (n < 2 ^ 16) × (tail ≡ to_be_bytes w16 n ++ rest)
-two_by n tail _ rest (one g) e = absurd (omega (arith, ap first_of e))
-two_by n tail _ rest (two f g) e = (g, ap behind e)
-two_by n tail _ rest (four f g) e = absurd (omega (arith, ap first_of e))
-two_by n tail _ rest (eight f g) e = absurd (omega (arith, ap first_of e))
-
-pub number_of_two : (n : ℕ) (tail rest : List ℕ) → n < 2 ^ 64 → 251 ∷ tail ≡ number_key n ++ rest → (n < 2 ^ 16) × (tail ≡ to_be_bytes w16 n ++ rest)
-number_of_two n tail rest g = two_by n tail _ rest (form n g)
-
-four_by : (n : ℕ) (tail k rest : List ℕ) → Form n k → 252 ∷ tail ≡ k ++ rest → (n < 2 ^ 32) × (tail ≡ to_be_bytes w32 n ++ rest)
-four_by n tail _ rest (one g) e = absurd (omega (arith, ap first_of e))
-four_by n tail _ rest (two f g) e = absurd (omega (arith, ap first_of e))
-four_by n tail _ rest (four f g) e = (g, ap behind e)
-four_by n tail _ rest (eight f g) e = absurd (omega (arith, ap first_of e))
-
-pub number_of_four : (n : ℕ) (tail rest : List ℕ) → n < 2 ^ 64 → 252 ∷ tail ≡ number_key n ++ rest → (n < 2 ^ 32) × (tail ≡ to_be_bytes w32 n ++ rest)
-number_of_four n tail rest g = four_by n tail _ rest (form n g)
-
-eight_by : (n : ℕ) (tail k rest : List ℕ) → Form n k → 253 ∷ tail ≡ k ++ rest → tail ≡ to_be_bytes w64 n ++ rest
-eight_by n tail _ rest (one g) e = absurd (omega (arith, ap first_of e))
-eight_by n tail _ rest (two f g) e = absurd (omega (arith, ap first_of e))
-eight_by n tail _ rest (four f g) e = absurd (omega (arith, ap first_of e))
-eight_by n tail _ rest (eight f g) e = ap behind e
-
-pub number_of_eight : (n : ℕ) (tail rest : List ℕ) → n < 2 ^ 64 → 253 ∷ tail ≡ number_key n ++ rest → tail ≡ to_be_bytes w64 n ++ rest
-number_of_eight n tail rest g = eight_by n tail _ rest (form n g)
-
-high_by : (c n : ℕ) (tail k rest : List ℕ) → Form n k → 254 ≤ c → c ∷ tail ≡ k ++ rest → ⊥
-high_by c n tail _ rest (one g) h e = omega (arith, ap first_of e)
-high_by c n tail _ rest (two f g) h e = omega (arith, ap first_of e)
-high_by c n tail _ rest (four f g) h e = omega (arith, ap first_of e)
-high_by c n tail _ rest (eight f g) h e = omega (arith, ap first_of e)
-
-pub no_high : (c n : ℕ) (tail rest : List ℕ) → n < 2 ^ 64 → 254 ≤ c → c ∷ tail ≡ number_key n ++ rest → ⊥
-no_high c n tail rest g = high_by c n tail _ rest (form n g)
 
 -- ---- texts
 
@@ -171,22 +126,6 @@ left_after whole so_far more others rest x next e f g = (
       ∙ ap (λ k. k ++ next.behind) (ap (λ y. so_far ++ y ∷ []) (sym f) ∙ sym e)),
   g,
 )
-
--- ---- versions
-
-pub pre_of_3 : (ids : List Id) (tail : List ℕ) (c : ℕ) → c ∷ tail ≡ pre_key ids → c ≡ 3 → [] ≡ ids
-pre_of_3 [] tail c e h = refl
-pre_of_3 (Numeric n ∷ ids) tail c e h = absurd (omega (arith, ap first_of e))
-pre_of_3 (AlphaNumeric t ∷ ids) tail c e h = absurd (omega (arith, ap first_of e))
-
-pub pre_of_others : (ids : List Id) (bytes tail : List ℕ) (c : ℕ) → bytes ≡ c ∷ tail → bytes ≡ pre_key ids → (c ≡ 3 → ⊥) → bytes ≡ ids_key ids
-pre_of_others [] bytes tail c e f h = absurd (h (ap first_of (sym e ∙ f)))
-pre_of_others (x ∷ ids) bytes tail c e f h = f
-
-pub pre_some : (ids : List Id) (bytes : List ℕ) → length bytes ≡ 0 → bytes ≡ pre_key ids → ⊥
-pre_some [] bytes e f = omega (arith, ap length f)
-pre_some (x ∷ ids) [] e f = no_ids (x ∷ ids) f
-pre_some (x ∷ ids) (c ∷ bytes) e f = omega arith
 
 -- ---- the bytes of numbers
 

@@ -7,7 +7,7 @@ use Rattle.semver_core.specs.Text.Identifiers.{Id, Numeric, AlphaNumeric}
 use Rattle.semver_core.specs.Increments.Table.{◌>>=◌, Fault, NotAPrerelease, Overflow}
 use Rattle.semver_core.specs.Increments.Table.{first_number, has_numeric}
 use Rattle.semver_core.specs.Increments.Table.{by_word, checked, is_false, next_major}
-use Rattle.semver_core.specs.Increments.Table.{next_minor, next_patch, pre_step, release_of}
+use Rattle.semver_core.specs.Increments.Table.{next_minor, next_patch, release_of}
 use Rattle.semver_core.specs.Increments.View.{fault_of}
 use Rattle.semver_core.specs.Printing.Text.{id_text, version_text}
 use Rattle.semver_core.specs.Values.Versions.{VersionValue, is_release}
@@ -50,9 +50,6 @@ abbrev pub release_after : Level → (own : Bool) → VersionValue → Result Ve
 release_after Major own v = if own then by_major v else next_major v
 release_after Minor own v = if own then by_minor v else next_minor v
 release_after Patch own v = if own then by_patch v else next_patch v
-
-abbrev pub by_prerelease : List ℕ → IdentifierBase → VersionValue → Result VersionValue Fault
-by_prerelease id base v = if is_release v then (next_patch v >>= pre_step id base) else pre_step id base v
 
 abbrev pub by_release : VersionValue → Result VersionValue Fault
 by_release v = if is_release v then Err (NotAPrerelease (version_text v)) else Ok (release_of v)

@@ -8,7 +8,7 @@ ghost use Rattle.semver_core.specs.Words.{partial_equiv_from_equiv, po, refl, So
 
 use crate::Identifier;
 use crate::borrowed::dotted::{IdRef, cmp_ids};
-use crate::identifier::{are_digits, is_spelled};
+use crate::identifier::{are_digits, is_run};
 use crate::print::write_number;
 use std::cmp::Ordering;
 use std::fmt;
@@ -60,7 +60,8 @@ impl<'a> IdentifierRef<'a> {
             IdentifierRef::Numeric(_) => true,
             IdentifierRef::AlphaNumeric(text) => {
                 let bytes = text.as_bytes();
-                is_spelled(bytes) && !(are_digits(bytes) && text.parse::<u64>().is_ok())
+                let spelled = !bytes.is_empty() && is_run(bytes);
+                spelled && !(are_digits(bytes) && text.parse::<u64>().is_ok())
             }
         }
     }

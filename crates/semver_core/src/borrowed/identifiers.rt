@@ -1,6 +1,6 @@
 // Lists of identifiers, one by one.
 
-ghost use Rattle.std.specs.Prelude.{◌≡◌, ◌∷◌, ◌++◌, ◌<◌, ◌≤◌, IfOk, OnErr};
+ghost use Rattle.std.specs.Prelude.{◌≡◌, ◌++◌, ◌<◌, ◌≤◌, IfOk, OnErr};
 ghost use Rattle.semver_core.specs.Words.{is_listed, item_count, lent_id_view, OnOk, YieldsFirstBy};
 ghost use Rattle.semver_core.specs.Words.{id_cmp, id_ref_view, ids_view, is_empty, slice_cmp};
 ghost use Rattle.semver_core.specs.Words.{[], HasText, IfSome, is_normal, length, list_all, listed};

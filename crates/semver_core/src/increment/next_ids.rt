@@ -1,7 +1,7 @@
 // The identifiers of the next pre-release, where they stand.
 
 ghost use Rattle.std.specs.Prelude.{◌≡◌, ◌<◌, IfOk, OnErr};
-ghost use Rattle.semver_core.specs.Words.{[], begun, id_view, ids_view, is_empty, item_count};
+ghost use Rattle.semver_core.specs.Words.{[], begun, ids_view, is_empty, item_count};
 ghost use Rattle.semver_core.specs.Words.{length, lent_id_view, YieldsFirstBy};
 ghost use Rattle.semver_core.specs.Internal.Inside.{build_of, IsFull, pre_release_of};
 ghost use Rattle.semver_core.specs.Internal.NextIds.{numbered};
@@ -99,7 +99,13 @@ impl<'a> NextIds<'a> {
         let mut list = Vec::new(alloc);
         let mut others = self.copy();
         'ids: while let Some(id) = others.next() {
-            list.push(owned(alloc, id)?)?;
+            let own = match id {
+                IdentifierRef::Numeric(number) => Identifier::Numeric(number),
+                IdentifierRef::AlphaNumeric(text) => {
+                    Identifier::AlphaNumeric(String::from_str(alloc, text)?)
+                }
+            };
+            list.push(own)?;
         }
         Ok(list)
     }
@@ -122,18 +128,6 @@ impl<'a> NextIds<'a> {
         let pre_len = ids.len();
         Ok(Qualifier::Lists(Lists { pre_len, ids }))
     }
-}
-
-// The identifier with a text of its own.
-fn owned(alloc: Global, id: IdentifierRef<'_>) -> Allocated<Identifier>
-    ensures { IfOk result (λ own. id_view own ≡ lent_id_view id.entry) }
-{
-    Ok(match id {
-        IdentifierRef::Numeric(number) => Identifier::Numeric(number),
-        IdentifierRef::AlphaNumeric(text) => {
-            Identifier::AlphaNumeric(String::from_str(alloc, text)?)
-        }
-    })
 }
 
 /// Each identifier once, in the order of the list.

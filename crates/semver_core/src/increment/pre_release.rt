@@ -1,10 +1,9 @@
 // The pre step: how the pre-release list goes on.
 
 ghost use Rattle.std.specs.Prelude.{◌≡◌, ◌<◌, ◌==◌};
-ghost use Rattle.semver_core.specs.Words.{[], bytes_eq, digits_value, false, has_numeric, id_cmp};
-ghost use Rattle.semver_core.specs.Words.{is_ascii_digit, is_eq, length, lent_id_view, list_all};
-ghost use Rattle.semver_core.specs.Words.{list_text, MayAllocate, MemoryOnlyIf, Returns, Tracks};
-ghost use Rattle.semver_core.specs.Words.{true};
+ghost use Rattle.semver_core.specs.Words.{[], bytes_eq, digits_value, false, has_numeric, length};
+ghost use Rattle.semver_core.specs.Words.{is_ascii_digit, list_all, list_text, MayAllocate};
+ghost use Rattle.semver_core.specs.Words.{MemoryOnlyIf, Returns, Tracks, true};
 ghost use Rattle.semver_core.specs.Increments.Table as spec;
 
 use crate::borrowed::dotted::IdRef;
@@ -90,29 +89,18 @@ fn is_text_of(text: &str, ids: &IdentifierRefs<'_>) -> bool
 }
 
 // Whether the identifiers begin with what the asked one matches, and then a number.
+#[tactic(auto, using(crate::proofs::Increments::LastNumber::asked_matches))]
 pub(super) fn is_kept(wanted: &str, ids: &NextIds<'_>) -> bool
     requires { 0 < length wanted.now }
     ensures { result ≡ spec.is_kept wanted.now ids.now }
 {
     let mut others = ids.copy();
-    match others.next() {
-        Some(first) if matches_id(wanted, first) => {
-            matches!(others.next(), Some(IdentifierRef::Numeric(_)))
-        }
-        _ => false,
-    }
-}
-
-// Whether the identifier is the one that the text spells.
-#[tactic(auto, using(crate::proofs::Increments::LastNumber::asked_matches))]
-fn matches_id(wanted: &str, id: IdentifierRef<'_>) -> bool
-    requires { 0 < length wanted.now }
-    ensures { result ≡ is_eq (id_cmp (lent_id_view id.entry) (spec.asked wanted.now)) }
-{
-    match id {
-        IdentifierRef::Numeric(n) => are_digits(wanted.as_bytes()) && has_value(wanted, n),
-        IdentifierRef::AlphaNumeric(text) => !are_digits(wanted.as_bytes()) && text == wanted,
-    }
+    let begins = match others.next() {
+        Some(IdentifierRef::Numeric(n)) => are_digits(wanted.as_bytes()) && has_value(wanted, n),
+        Some(IdentifierRef::AlphaNumeric(text)) => !are_digits(wanted.as_bytes()) && text == wanted,
+        None => false,
+    };
+    begins && matches!(others.next(), Some(IdentifierRef::Numeric(_)))
 }
 
 #[tactic(auto, using(crate::proofs::Increments::LastNumber::value_run))]

@@ -1,9 +1,8 @@
 // Which bytes are the key of a pre-release: nothing is allocated.
 
-ghost use Rattle.std.specs.Prelude.{◌≡◌, ◌==◌, ◌<◌, ◌≤◌, ◌^◌, ◌∷◌, ◌++◌, ℕ};
+ghost use Rattle.std.specs.Prelude.{◌≡◌, ◌==◌, ◌<◌, ◌∷◌, ◌++◌, ℕ};
 ghost use Rattle.semver_core.specs.Internal.KeyReading.{AreIds, GivesRest, IsIdFront, IsLow};
 ghost use Rattle.semver_core.specs.Internal.KeyReading.{IsPre, IsTextFront};
-ghost use Rattle.semver_core.specs.Keys.{number_key};
 ghost use Rattle.semver_core.specs.Words.{IfNone, IfSome, IsTrue, length, list_all, List};
 ghost use Rattle.semver_core.specs.Words.{not, true};
 
@@ -55,22 +54,10 @@ fn behind_id(bytes: &[u8]) -> Option<&[u8]>
 {
     let (first, tail) = bytes.split_first()?;
     match *first {
-        1 => behind_number(tail),
+        1 => Some(read_number(tail)?.1),
         2 => behind_text(tail),
         _ => None,
     }
-}
-
-// What follows the number at the front of bytes.
-fn behind_number(bytes: &[u8]) -> Option<&[u8]>
-    ensures sound { IfSome result (λ rest. (n : ℕ) × (n < 2 ^ 64)
-        × (bytes.now ≡ number_key n ++ rest.now)) }
-    ensures complete { (n : ℕ) (rest : List ℕ) → n < 2 ^ 64 → bytes.now ≡ number_key n ++ rest
-        → GivesRest result rest }
-    ensures shorter { IfSome result (λ rest. length rest.now ≤ length bytes.now) }
-{
-    let (_, rest) = read_number(bytes)?;
-    Some(rest)
 }
 
 // Whether the bytes are the key of a list of identifiers.

@@ -1,7 +1,7 @@
 // How long keys are.
 
 ghost use Rattle.std.specs.Prelude.{◌≡◌, ◌≤◌, ◌^◌};
-ghost use Rattle.semver_core.specs.Keys.{id_key, ids_key, key, number_key, pre_key, text_key};
+ghost use Rattle.semver_core.specs.Keys.{id_key, key, number_key, pre_key};
 ghost use Rattle.semver_core.specs.Words.{IfNone, IfSome, length, lent_id_view};
 
 use crate::{IdentifierRef, IdentifierRefs, Versioned};
@@ -22,17 +22,6 @@ fn number_len(number: u64) -> usize
     }
 }
 
-// How many bytes the key of a text has.
-fn text_len(text: &str) -> usize
-    ensures { result ≡ length (text_key text.now) }
-{
-    let mut len = 1;
-    for byte in text.as_bytes() {
-        len += if *byte == 0 { 2 } else { 1 };
-    }
-    len
-}
-
 // How many bytes the key of an identifier has, unless too many to be counted.
 fn id_len(id: IdentifierRef<'_>) -> Option<usize>
     ensures none { IfNone result (2 ^ 64 ≤ length (id_key (lent_id_view id.entry))) }
@@ -40,21 +29,14 @@ fn id_len(id: IdentifierRef<'_>) -> Option<usize>
 {
     match id {
         IdentifierRef::Numeric(number) => Some(1 + number_len(number)),
-        IdentifierRef::AlphaNumeric(text) => text_len(text).checked_add(1),
+        IdentifierRef::AlphaNumeric(text) => {
+            let mut len = 1usize;
+            for byte in text.as_bytes() {
+                len += if *byte == 0 { 2 } else { 1 };
+            }
+            len.checked_add(1)
+        }
     }
-}
-
-// How many bytes the keys of identifiers have, and 0.
-fn ids_len(ids: IdentifierRefs<'_>) -> Option<usize>
-    ensures none { IfNone result (2 ^ 64 ≤ length (ids_key ids.entry)) }
-    ensures some { IfSome result (λ len. len ≡ length (ids_key ids.entry)) }
-{
-    let mut others = ids;
-    let mut len = 0usize;
-    'ids: while let Some(id) = others.next() {
-        len = len.checked_add(id_len(id)?)?;
-    }
-    len.checked_add(1)
 }
 
 // How many bytes the key of a pre-release has.
@@ -65,7 +47,12 @@ fn pre_len(ids: IdentifierRefs<'_>) -> Option<usize>
     if ids.is_empty() {
         return Some(1);
     }
-    ids_len(ids)
+    let mut others = ids;
+    let mut len = 0usize;
+    'ids: while let Some(id) = others.next() {
+        len = len.checked_add(id_len(id)?)?;
+    }
+    len.checked_add(1)
 }
 
 // How many bytes the key of a version has.

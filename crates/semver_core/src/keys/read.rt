@@ -6,10 +6,8 @@ ghost use Rattle.semver_core.specs.Keys.{id_key, ids_key, number_key, pre_key, t
 ghost use Rattle.semver_core.specs.Internal.KeyReading.{GivesId, GivesIds, GivesNumber};
 ghost use Rattle.semver_core.specs.Internal.KeyReading.{GivesNumbers, GivesText, IsLow, IsPre};
 ghost use Rattle.semver_core.specs.Internal.KeyReading.{numbers_key};
-ghost use Rattle.semver_core.specs.Text.Identifiers as id;
 ghost use Rattle.semver_core.specs.Values.Versions.{IsId};
-ghost use Rattle.semver_core.specs.Words.{[], IfNone, IfOk, IfSome, IsUtf8, length, List, OnErr};
-ghost use Rattle.semver_core.specs.Words.{Id};
+ghost use Rattle.semver_core.specs.Words.{[], Id, IfNone, IfOk, IfSome, length, List, OnErr};
 
 use crate::{Identifier, Version};
 use std::alloc::{AllocError, Global};
@@ -128,32 +126,6 @@ fn read_text(alloc: Global, bytes: &[u8]) -> Result<Option<(Vec<u8>, &[u8])>, Al
     }
 }
 
-// A numeric identifier.
-fn numeric(bytes: &[u8]) -> Option<(Identifier, &[u8])>
-    ensures complete { (n : ℕ) (rest : List ℕ) → n < 2 ^ 64 → bytes.now ≡ number_key n ++ rest
-        → GivesId result (id.Numeric n) rest }
-    ensures shorter { IfSome result (λ f. length f.1.now ≤ length bytes.now) }
-{
-    let (number, rest) = read_number(bytes)?;
-    Some((Identifier::Numeric(number), rest))
-}
-
-// An alphanumeric identifier.
-fn alphanumeric(alloc: Global, bytes: &[u8]) -> Result<Option<(Identifier, &[u8])>, AllocError>
-    ensures complete { IfOk result (λ found. (text rest : List ℕ) → IsUtf8 text → IsLow rest
-        → bytes.now ≡ text_key text ++ rest → GivesId found (id.AlphaNumeric text) rest) }
-    ensures shorter { IfOk result (λ found. IfSome found (λ f.
-        length f.1.now ≤ length bytes.now)) }
-{
-    let Some((text, rest)) = read_text(alloc, bytes)? else {
-        return Ok(None);
-    };
-    let Ok(text) = String::from_utf8(text) else {
-        return Ok(None);
-    };
-    Ok(Some((Identifier::AlphaNumeric(text), rest)))
-}
-
 // The identifier at the front of bytes, and what follows.
 fn read_id(alloc: Global, bytes: &[u8]) -> Result<Option<(Identifier, &[u8])>, AllocError>
     ensures complete { IfOk result (λ found. (id : Id) (rest : List ℕ) → IsId id → IsLow rest
@@ -165,8 +137,21 @@ fn read_id(alloc: Global, bytes: &[u8]) -> Result<Option<(Identifier, &[u8])>, A
         return Ok(None);
     };
     match *first {
-        1 => Ok(numeric(tail)),
-        2 => alphanumeric(alloc, tail),
+        1 => {
+            let Some((number, rest)) = read_number(tail) else {
+                return Ok(None);
+            };
+            Ok(Some((Identifier::Numeric(number), rest)))
+        }
+        2 => {
+            let Some((text, rest)) = read_text(alloc, tail)? else {
+                return Ok(None);
+            };
+            let Ok(text) = String::from_utf8(text) else {
+                return Ok(None);
+            };
+            Ok(Some((Identifier::AlphaNumeric(text), rest)))
+        }
         _ => Ok(None),
     }
 }
@@ -193,21 +178,6 @@ fn read_ids(alloc: Global, bytes: &[u8]) -> Result<Option<Vec<Identifier>>, Allo
     }
 }
 
-// The identifiers of a pre-release, or none for the byte 3.
-fn read_pre(alloc: Global, bytes: &[u8]) -> Result<Option<Vec<Identifier>>, AllocError>
-    ensures complete { IfOk result (λ found. (list : List Id) → All IsId list
-        → bytes.now ≡ pre_key list → GivesIds found list) }
-    ensures memory { OnErr result (bytes.now ≡ pre_key [] → ⊥) }
-{
-    let Some((first, _)) = bytes.split_first() else {
-        return Ok(None);
-    };
-    if *first == 3 {
-        return Ok(Some(Vec::new(alloc)));
-    }
-    read_ids(alloc, bytes)
-}
-
 // The version of three numbers and of the key of a pre-release, or of its absence.
 pub(crate) fn read_version(
     alloc: Global,
@@ -222,7 +192,10 @@ pub(crate) fn read_version(
     ensures none { IfOk result (λ found. IfNone found ⊥) }
     ensures memory { OnErr result (bytes.now ≡ pre_key [] → ⊥) }
 {
-    let Some(pre_release) = read_pre(alloc, bytes)? else {
+    if bytes.starts_with(&[3]) {
+        return Ok(Some(Version::release(major, minor, patch)));
+    }
+    let Some(pre_release) = read_ids(alloc, bytes)? else {
         return Ok(None);
     };
     match Version::new(alloc, major, minor, patch, pre_release, Vec::new(alloc)) {

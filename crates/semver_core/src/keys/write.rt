@@ -1,7 +1,7 @@
 // Writing keys into room that is there.
 
 ghost use Rattle.std.specs.Prelude.{◌≡◌, ◌≤◌, ◌+◌, ◌++◌, vec_capacity, vec_len};
-ghost use Rattle.semver_core.specs.Keys.{id_key, ids_key, number_key, pre_key, text_key};
+ghost use Rattle.semver_core.specs.Keys.{id_key, number_key, pre_key, text_key};
 ghost use Rattle.semver_core.specs.Words.{length, lent_id_view};
 
 use crate::{IdentifierRef, IdentifierRefs};
@@ -62,20 +62,6 @@ fn write_id(id: IdentifierRef<'_>, key: &mut Vec<u8>)
     }
 }
 
-// Adds the keys of identifiers, and 0.
-fn write_ids(ids: IdentifierRefs<'_>, key: &mut Vec<u8>)
-    requires { vec_len key.old + length (ids_key ids) ≤ vec_capacity key.old }
-    ensures items { key.new.items ≡ key.old.items ++ ids_key ids.entry }
-    ensures len { vec_len key.new ≡ vec_len key.old + length (ids_key ids.entry) }
-    ensures capacity { vec_capacity key.old ≤ vec_capacity key.new }
-{
-    let mut others = ids;
-    'ids: while let Some(id) = others.next() {
-        write_id(id, key);
-    }
-    key.push_reserved(0);
-}
-
 // Adds the key of a pre-release; of a release that it has none.
 pub(crate) fn write_pre(ids: IdentifierRefs<'_>, key: &mut Vec<u8>)
     requires { vec_len key.old + length (pre_key ids) ≤ vec_capacity key.old }
@@ -84,7 +70,11 @@ pub(crate) fn write_pre(ids: IdentifierRefs<'_>, key: &mut Vec<u8>)
 {
     if ids.is_empty() {
         key.push_reserved(3);
-    } else {
-        write_ids(ids, key);
+        return;
     }
+    let mut others = ids;
+    'ids: while let Some(id) = others.next() {
+        write_id(id, key);
+    }
+    key.push_reserved(0);
 }

@@ -1,13 +1,13 @@
 //! The reader of version texts.
 
-ghost use Rattle.std.specs.{List.prefix_len, Prelude.{◌≡◌, ◌≤◌, ◌<◌, ◌+◌, ◌⊎◌, [], true, length}};
+ghost use Rattle.std.specs.Prelude.{◌≡◌, ◌≤◌, ◌<◌, ◌+◌, ◌⊎◌, [], true, length};
 ghost use Rattle.std.specs.Prelude.{drop, Some, IfOk, ◌==◌, IfSome, IfNone, IsFalse, IsTrue, OnErr};
 ghost use Rattle.std.specs.Prelude.{OnSome, false};
 ghost use Rattle.semver_core.specs.{Failures.NoValue, Internal.Inside.{IsFull, build_of}};
 ghost use Rattle.semver_core.specs.Text.Characters.{begins};
 ghost use Rattle.semver_core.specs.Internal.{Inside.pre_release_of, Reading.pre_release_at};
 ghost use Rattle.semver_core.specs.Internal.Reading.{build_at, list_from, lists_at, mark_len};
-ghost use Rattle.semver_core.specs.Text.{Identifiers.goes_on, VersionText.Reads};
+ghost use Rattle.semver_core.specs.Text.VersionText.{Reads};
 ghost use Rattle.semver_core.specs.Text.Characters.{is_identifier_char, IsAfterBlank};
 ghost use Rattle.semver_core.specs.Values.{Versions.{VersionValue, HasIdentifiers}, Views.ids_view};
 

@@ -1,8 +1,8 @@
 // Versions made of parts, taken apart and copied.
 
-ghost use Rattle.std.specs.Prelude.{IfErr, IfNone, IfSome, length, OnErr, vec_capacity, vec_len, ℕ};
-ghost use Rattle.std.specs.Prelude.{IfOk, IsOk, OnOk, true, ◌++◌, ◌+◌, ◌==◌, ◌∷◌, ◌≡◌, ◌≤◌, ◌⊎◌};
-ghost use Rattle.std.specs.{List.list_all, Prelude.{[], ◌<◌}};
+ghost use Rattle.std.specs.List.{list_all};
+ghost use Rattle.std.specs.Prelude.{[], IfErr, IfOk, IsOk, length, OnErr, true, ◌+◌, ◌<◌, ◌==◌, ◌∷◌};
+ghost use Rattle.std.specs.Prelude.{◌≡◌, ◌⊎◌};
 ghost use Rattle.semver_core.specs.Text.Identifiers as id;
 ghost use Rattle.semver_core.specs.Text.Identifiers.{is_listed, listed};
 ghost use Rattle.semver_core.specs.Values.Memory.{takes_memory};
@@ -11,7 +11,7 @@ ghost use Rattle.semver_core.specs.Values.Views.{ids_view, parts_value};
 
 use crate::cuts::Point;
 use crate::version::lists::{Lists, Qualifier};
-use crate::{Allocated, Identifier, IdentifierRefs, Version};
+use crate::{Identifier, IdentifierRefs, Version};
 use std::alloc::{AllocError, Global};
 
 /// The five values of a version, open to read and to change. Its equality counts all five, build
@@ -159,34 +159,12 @@ impl Version {
                 let zero = Qualifier::One(Identifier::Numeric(0));
                 Ok(Version::from_parts(major, minor, patch, zero))
             }
-            _ => Version::with_lists(alloc, major, minor, patch, pre_release, build),
+            _ => {
+                let pre_release = IdentifierRefs::of_text(pre_release);
+                let lists = Lists::copied(alloc, &pre_release, &IdentifierRefs::of_text(build))?;
+                Ok(Version::from_parts(major, minor, patch, Qualifier::Lists(lists)))
+            }
         }
-    }
-
-    // The version of three numbers and of lists of the identifiers that two texts spell. It is
-    // inlined: room for the lists is made only where there are some.
-    #[inline(always)]
-    fn with_lists(
-        alloc: Global,
-        major: u64,
-        minor: u64,
-        patch: u64,
-        pre_release: &[u8],
-        build: &[u8],
-    ) -> Allocated<Version>
-        requires pre_release { is_listed pre_release.now ≡ true }
-        requires build { is_listed build.now ≡ true }
-        ensures { IfOk result (λ v. v ≡ record {
-          major = major;
-          minor = minor;
-          patch = patch;
-          pre_release = listed pre_release.now;
-          build = listed build.now;
-        }) }
-    {
-        let pre_release = IdentifierRefs::of_text(pre_release);
-        let lists = Lists::copied(alloc, &pre_release, &IdentifierRefs::of_text(build))?;
-        Ok(Version::from_parts(major, minor, patch, Qualifier::Lists(lists)))
     }
 
     /// The five values of the version.

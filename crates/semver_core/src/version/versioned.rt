@@ -1,7 +1,7 @@
 // What versions of every kind have in common, and what is written once for all of them.
 
 ghost use Rattle.std.{proofs.Common.{sym, true≢false}, specs.Fmt.DisplaysStyledOnOk};
-ghost use Rattle.std.specs.Prelude.{◌≡◌, Bool, Some, refl, true};
+ghost use Rattle.std.specs.Prelude.{◌≡◌, Some, refl, true};
 ghost use Rattle.std.specs.Prelude.{◌<◌, ◌+◌, ◌++◌, length, OnErr, OnOk, vec_capacity, vec_len};
 ghost use Rattle.semver_core.specs.Keys.{key};
 ghost use Rattle.semver_core.specs.Printing.{RoundTrip.is_readable, Text.version_text};

@@ -10,7 +10,7 @@ returns-in_default-empty-clause-whole c =
     let none : listed c.args.build.now ≡ [] = listed_none c.args.build.now empty in
     rw (zero, none) c.from_parts.ensures
 
-pub returns-in_default-clause-zero : goal.returns-in_default-clause-zero
-returns-in_default-clause-zero c = λ zero none.
+pub returns-in_err-lists-in_default-clause-zero : goal.returns-in_err-lists-in_default-clause-zero
+returns-in_err-lists-in_default-clause-zero c = λ zero none.
     let z = listed_zeros c.args.pre_release.now zero in
     grind (arith, z, none)

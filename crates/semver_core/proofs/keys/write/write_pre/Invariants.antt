@@ -1,6 +1,6 @@
 use Rattle.std.proofs.Common.{◌≡◌, ◌≤◌, ◌+◌, ◌++◌, length, vec_capacity, vec_len}
 use Rattle.semver_core.specs.Keys.{ids_key}
-use Rattle.semver_core.proofs.keys.write.write_ids.Given as goal
+use Rattle.semver_core.proofs.keys.write.write_pre.Given as goal
 
 abbrev pub invariant-ids : goal.invariant-ids
 invariant-ids l = record {
