@@ -2,8 +2,8 @@
 
 ghost use Rattle.std.specs.Prelude.{◌++◌, ◌<◌, ◌||◌, ◌∷◌, ◌≡◌, ◌≤◌, ◌⊎◌};
 ghost use Rattle.nodejs_semver.specs.Words.{Bool, IfOk, OnErr, OnOk, TakesMemory};
-ghost use Rattle.nodejs_semver.specs.Words.{VersionValue, [], accepts, bound_of, covers, has_bound};
-ghost use Rattle.nodejs_semver.specs.Words.{length, lets_in, not, passes, precedence, span_of};
+ghost use Rattle.nodejs_semver.specs.Words.{VersionValue, [], accepts, bound_of, has_bound};
+ghost use Rattle.nodejs_semver.specs.Words.{length, lets_in, not, passes, span_of};
 ghost use Rattle.nodejs_semver.specs.{Words.{IfSome, spans_of, true}, Internal.Questions.is_said};
 ghost use Rattle.nodejs_semver.specs.Internal.Index.{IsIndexOf};
 ghost use Rattle.nodejs_semver.specs.Ranges.Unions.{says_all, union};
@@ -91,17 +91,9 @@ fn is_said<V: VersionPoint>(
 fn says_all<V: VersionPoint>(interval: &Interval<V>, other: &Interval<V>) -> bool
     ensures { result ≡ says_all (span_of V.value interval.now) (span_of V.value other.now) }
 {
-    covers(interval, other)
+    interval.covers(other)
         && !keeps_out(interval, other.lower())
         && !keeps_out(interval, other.upper())
-}
-
-// Whether the interval covers the other one.
-fn covers<V: VersionPoint>(interval: &Interval<V>, other: &Interval<V>) -> bool
-    ensures { result
-        ≡ covers precedence (span_of V.value interval.now) (span_of V.value other.now) }
-{
-    interval.covers(other)
 }
 
 // Whether the bound has a version that the interval does not let in.
