@@ -2,8 +2,8 @@
 
 ghost use Rattle.std.specs.Prelude.{◌+◌, ◌↔◌, ◌≡◌, ◌≤◌, drop, false, IfErr};
 ghost use Rattle.nodejs_semver.specs.Words.{begins, begins_dot, IfOk, IfSome, is_ascii_digit};
-ghost use Rattle.nodejs_semver.specs.Words.{IsAfterBlank, IsExact, IsFlaw, IsNumberAt, length};
-ghost use Rattle.nodejs_semver.specs.Words.{mark_len, MatchOption, MAX_SAFE_INTEGER, None, Some};
+ghost use Rattle.nodejs_semver.specs.Words.{IsExact, IsFlaw, IsNumberAt, length};
+ghost use Rattle.nodejs_semver.specs.Words.{MatchOption, MAX_SAFE_INTEGER, None, Some};
 ghost use Rattle.nodejs_semver.specs.Words.{Stuck, triple_at, true, ℕ};
 
 use crate::readers::{build_front, pre_release_front};
@@ -32,14 +32,6 @@ pub enum VersionFlaw {
     /// The text has a version at its front, which `Version::parse` returns. From this place on it
     /// is ignored.
     Ignored { at: usize },
-}
-
-// The place behind the mark and the whitespace at the front.
-fn front_of_numbers(text: &str) -> usize
-    ensures { IsAfterBlank text.now (mark_len text.now) result }
-{
-    let mark = usize::from(matches!(text.as_bytes(), [b'v' | b'V', ..]));
-    skip_whitespace(text, mark)
 }
 
 fn begins_digit(bytes: &[u8], at: usize) -> bool
@@ -106,7 +98,8 @@ fn flaw_within(text: &str) -> Option<VersionFlaw>
         IsFlaw MAX_SAFE_INTEGER text.now flaw × (IsExact MAX_SAFE_INTEGER text.now → ⊥)) }
 {
     let bytes = text.as_bytes();
-    let end = match numbers_end(bytes, front_of_numbers(text)) {
+    let mark = usize::from(matches!(bytes, [b'v' | b'V', ..]));
+    let end = match numbers_end(bytes, skip_whitespace(text, mark)) {
         Ok(end) => end,
         Err(flaw) => return Some(flaw),
     };

@@ -28,7 +28,13 @@ pub(crate) fn push_all_intersections<V: Point>(
 {
     let are_along = are_along(others);
     for interval in these {
-        push_intersections(alloc, found, interval, near(interval, others, are_along))?;
+        let near = near(interval, others, are_along);
+        for another in near {
+            // Most pairs do not meet.
+            if interval.meets(another) {
+                push_common(alloc, found, interval, another, near.len())?;
+            }
+        }
     }
     Ok(())
 }
@@ -122,27 +128,6 @@ fn near<'a, V: Point>(
     near
 }
 
-// Puts what one interval has in common with each of the others at the end. Most pairs do not meet.
-fn push_intersections<V: Point>(
-    alloc: Global,
-    found: &mut Intervals<V>,
-    interval: &Interval<V>,
-    others: &[Interval<V>],
-) -> Allocated<()>
-    ensures items { OnOk result (found.new.items
-        ≡ found.old.items
-        ++ flat_map (λ t. option_to_list (meet V.cmp interval.now t)) others.now) }
-    ensures memory { OnErr result
-        (0 < length (flat_map (λ t. option_to_list (meet V.cmp interval.now t)) others.now)) }
-{
-    for other in others {
-        if interval.meets(other) {
-            push_common(alloc, found, interval, other, others.len())?;
-        }
-    }
-    Ok(())
-}
-
 // Out of the loop over the pairs, which then keeps no interval of its own.
 #[inline(never)]
 fn push_common<V: Point>(
@@ -166,7 +151,12 @@ fn complement<V: Point>(alloc: Global, intervals: &[Interval<V>]) -> Allocated<I
         ≡ minus V.cmp (record { lower = Unbounded; upper = Unbounded } ∷ []) intervals.now) }
 {
     if intervals.len() < 4 {
-        return complement_of_few(alloc, intervals);
+        // Of three there are four pieces at most.
+        let mut left = SmallVec::from_buf(alloc, [Interval::default()]);
+        for interval in intervals {
+            left = remainders(alloc, &left, interval)?;
+        }
+        return Ok(left);
     }
     let (front, back) = intervals.split_at(intervals.len() / 2);
     let before = complement(alloc, front)?;
@@ -191,19 +181,6 @@ fn clipped<V: Point>(
     Ok(found)
 }
 
-// The complement of a few intervals, which are taken away one after another. Of three it has four
-// pieces at most.
-fn complement_of_few<V: Point>(alloc: Global, intervals: &[Interval<V>]) -> Allocated<Intervals<V>>
-    ensures { IfOk result (λ r. r.items
-        ≡ minus V.cmp (record { lower = Unbounded; upper = Unbounded } ∷ []) intervals.now) }
-{
-    let mut left = SmallVec::from_buf(alloc, [Interval::default()]);
-    for interval in intervals {
-        left = remainders(alloc, &left, interval)?;
-    }
-    Ok(left)
-}
-
 // What is left of each interval below and above one other.
 fn remainders<V: Point>(
     alloc: Global,
@@ -217,7 +194,12 @@ fn remainders<V: Point>(
 {
     let mut left = SmallVec::new(alloc);
     for interval in these {
-        push_remainder(alloc, &mut left, interval, other, these.len())?;
+        if interval.meets(other) {
+            push(interval.left_below(alloc, other), &mut left, these.len())?;
+            push(interval.left_above(alloc, other), &mut left, these.len())?;
+        } else {
+            push(interval.copy(alloc).map(Some), &mut left, these.len())?;
+        }
     }
     Ok(left)
 }
@@ -244,26 +226,6 @@ fn push_clipped<V: Point>(
         push(Ok(Some(part)), found, pieces.len())?;
     }
     Ok(())
-}
-
-// Puts what is left of the interval below and above the other at the end.
-#[inline(always)]
-fn push_remainder<V: Point>(
-    alloc: Global,
-    left: &mut Intervals<V>,
-    interval: &Interval<V>,
-    other: &Interval<V>,
-    room: usize,
-) -> Allocated<()>
-    ensures items { OnOk result (left.new.items
-        ≡ left.old.items ++ remainder V.cmp interval.now other.now) }
-    ensures memory { OnErr result (0 < length (remainder V.cmp interval.now other.now)) }
-{
-    if !interval.meets(other) {
-        return push(interval.copy(alloc).map(Some), left, room);
-    }
-    push(interval.left_below(alloc, other), left, room)?;
-    push(interval.left_above(alloc, other), left, room)
 }
 
 // Puts the interval at the end, if one was made. A list without room takes some for so many more,

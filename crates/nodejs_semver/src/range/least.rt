@@ -466,29 +466,6 @@ fn consider_named<S: Search, C: Versioned>(
     }
 }
 
-// Considers all that the intervals of a range bring which accepts the versions searched for.
-#[inline(always)]
-fn consider_range<S: Search, V: VersionPoint>(
-    alloc: Global,
-    search: &S,
-    best: &mut Option<Version>,
-    range: &RangeOf<V>,
-) -> Allocated<()>
-    requires { S.fits search.now }
-    ensures best { OnOk result (best.new
-        ≡ fold (spec.better_kept (S.copies search.now) (S.wanted search.now)) best.old
-        (flat_map spec.firsts (spec.list_marks range.now))) }
-    ensures memory { OnErr result (spec.Finds (S.copies search.now) (S.wanted search.now)
-        ⊎ spec.BeginsAfterPre range.now) }
-{
-    let intervals = range.items();
-    for interval in intervals {
-        consider_past(alloc, search, best, interval.lower())?;
-        consider_named(alloc, search, best, interval.upper())?;
-    }
-    Ok(())
-}
-
 // Considers all candidates.
 pub(crate) fn consider_all<S: Search, V: VersionPoint, W: VersionPoint>(
     alloc: Global,
@@ -507,7 +484,11 @@ pub(crate) fn consider_all<S: Search, V: VersionPoint, W: VersionPoint>(
 {
     consider(alloc, search, best, &release(0, 0, 0))?;
     for range in kept {
-        consider_range(alloc, search, best, range)?;
+        let intervals = range.items();
+        for interval in intervals {
+            consider_past(alloc, search, best, interval.lower())?;
+            consider_named(alloc, search, best, interval.upper())?;
+        }
     }
     for interval in removed {
         consider_past(alloc, search, best, interval.upper())?;

@@ -1,7 +1,7 @@
 // Ranges that are made of intervals.
 
 ghost use Rattle.std.specs.Prelude.{◌≡◌, ◌+◌, ◌↔◌, IfErr};
-ghost use Rattle.nodejs_semver.specs.Words.{bound_of, IfOk, is_range_span, IsOk, IsRange, list_all};
+ghost use Rattle.nodejs_semver.specs.Words.{bound_of, IfOk, is_range_span, IsOk, IsRange};
 ghost use Rattle.nodejs_semver.specs.Words.{map, MAX_SAFE_INTEGER, span_of};
 ghost use Rattle.semver_core.specs.Values.Gate.{is_range_bound};
 
@@ -36,20 +36,12 @@ impl<V: VersionPoint> RangeOf<V> {
         ensures exact { IsOk result
             ↔ IsRange MAX_SAFE_INTEGER (map (span_of V.value) intervals.items) }
     {
-        if intervals.is_empty() || !are_of_ranges(&intervals) {
+        if intervals.is_empty() || !intervals.iter().all(is_of_range) {
             return Err(intervals);
         }
         let intervals = SmallVec::from_vec(intervals);
         Ok(RangeOf { intervals })
     }
-}
-
-// Whether each of the intervals may be one of a range.
-fn are_of_ranges<V: VersionPoint>(intervals: &[Interval<V>]) -> bool
-    ensures { result ≡ list_all (λ s. is_range_span (MAX_SAFE_INTEGER + 1) (span_of V.value s))
-        intervals.now }
-{
-    intervals.iter().all(is_of_range)
 }
 
 // Whether the interval may be one of a range: its lower cut is below its upper one in any case.

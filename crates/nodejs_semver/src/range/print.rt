@@ -2,7 +2,7 @@
 
 ghost use Rattle.std.specs.Prelude.{◌++◌, ◌≡◌};
 ghost use Rattle.nodejs_semver.specs.Words.{bound_of, DisplaysStyledOnOk, is_eq, lower_text};
-ghost use Rattle.nodejs_semver.specs.Words.{range_text, Some, span_of, span_text, spans_of};
+ghost use Rattle.nodejs_semver.specs.Words.{range_text, Some, span_of, span_text};
 ghost use Rattle.nodejs_semver.specs.Words.{upper_text, version_text};
 
 use crate::RangeOf;
@@ -83,23 +83,6 @@ fn write_interval<V: VersionPoint, W: fmt::Write>(
     }
 }
 
-// Intervals joined by `||`.
-fn write_intervals<V: VersionPoint, W: fmt::Write>(
-    intervals: &[Interval<V>],
-    f: &mut fmt::Formatter<W>,
-) -> fmt::Result
-    ensures { DisplaysStyledOnOk W.write_str_gives f.old result
-        (Some (range_text (spans_of V.value intervals.now))) f.new }
-{
-    let mut separator = "";
-    for interval in intervals {
-        f.write_str(separator)?;
-        write_interval(interval, f)?;
-        separator = "||";
-    }
-    Ok(())
-}
-
 /// A range prints its intervals joined by `||`, as in `>=1.2.0 <2.0.0-0||>=3.0.0-rc`. An interval
 /// prints `*` without bounds, its bound where it has one, `v` where the bounds are `>=v` and `<=w`
 /// and v equals w (the build of v is shown), and else its two bounds with a space between them. It
@@ -117,6 +100,13 @@ impl<V: VersionPoint> fmt::Display for RangeOf<V> {
     ghost styled_output = { λ r _. Some (range_text r) };
 
     fn fmt<W: fmt::Write>(&self, f: &mut fmt::Formatter<W>) -> fmt::Result {
-        write_intervals(self.items(), f)
+        let intervals = self.items();
+        let mut separator = "";
+        for interval in intervals {
+            f.write_str(separator)?;
+            write_interval(interval, f)?;
+            separator = "||";
+        }
+        Ok(())
     }
 }

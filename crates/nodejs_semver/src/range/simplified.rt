@@ -1,12 +1,11 @@
 // A shorter range with the same answers about given versions.
 
-ghost use Rattle.std.specs.Prelude.{◌++◌, ◌≡◌, ◌≤◌, filter};
-ghost use Rattle.nodejs_semver.specs.Words.{All, AreTaking, IfOk, OnErr, OnOk, TakesMemory};
+ghost use Rattle.std.specs.Prelude.{◌≡◌, ◌≤◌};
+ghost use Rattle.nodejs_semver.specs.Words.{All, IfOk, OnErr, TakesMemory};
 ghost use Rattle.nodejs_semver.specs.Words.{accepts, false, length, map};
 ghost use Rattle.nodejs_semver.specs.{Internal.Questions.is_used, Ranges.Simple.simplified};
 
 use crate::RangeOf;
-use crate::range::Intervals;
 use crate::range::gate::accepts_one;
 use crate::range::unions::push_copy;
 use semver_core::cuts::Interval;
@@ -46,33 +45,17 @@ impl<V: VersionPoint> RangeOf<V> {
             (TakesMemory (simplified (map W.value versions.now) self.now)) }
     {
         let mut used = SmallVec::new(alloc);
-        push_used(alloc, &mut used, self.items(), versions)?;
+        let intervals = self.items();
+        for interval in intervals {
+            if is_used(interval, versions) {
+                push_copy(alloc, &mut used, interval)?;
+            }
+        }
         match RangeOf::of_intervals(used) {
             Some(range) => Ok(range),
             None => self.copy(alloc),
         }
     }
-}
-
-// Puts copies of the intervals that accept one of the versions at the end.
-fn push_used<V: VersionPoint, W: Versioned>(
-    alloc: Global,
-    found: &mut Intervals<V>,
-    intervals: &[Interval<V>],
-    versions: &[W],
-) -> Result<(), AllocError>
-    requires { 1 ≤ found.old.capacity }
-    ensures whole { OnOk result (found.new.items
-        ≡ found.old.items ++ filter (is_used V.value W.value versions.now) intervals.now) }
-    ensures memory { OnErr result (AreTaking V.takes
-        (found.old.items ++ filter (is_used V.value W.value versions.now) intervals.now)) }
-{
-    for interval in intervals {
-        if is_used(interval, versions) {
-            push_copy(alloc, found, interval)?;
-        }
-    }
-    Ok(())
 }
 
 // Whether the interval accepts one of the versions.

@@ -1,7 +1,7 @@
 // Whether one range is part of another, and whether two accept the same versions.
 
-ghost use Rattle.std.specs.Prelude.{◌<◌, ◌↔◌, ◌≡◌, ◌⊎◌};
-ghost use Rattle.nodejs_semver.specs.Words.{IfOk, IsTrue, OnErr, VersionValue, accepts, difference};
+ghost use Rattle.std.specs.Prelude.{◌<◌, ◌↔◌, ◌⊎◌};
+ghost use Rattle.nodejs_semver.specs.Words.{IfOk, IsTrue, OnErr, difference};
 ghost use Rattle.nodejs_semver.specs.Words.{false, is_some, length, true};
 ghost use Rattle.nodejs_semver.specs.Ranges.Subsets.{AcceptSame, IsSubset, MayTryOne};
 

@@ -1,9 +1,9 @@
 // The union of two ranges.
 
-ghost use Rattle.std.specs.Prelude.{◌++◌, ◌<◌, ◌||◌, ◌∷◌, ◌≡◌, ◌≤◌, ◌⊎◌, filter};
-ghost use Rattle.nodejs_semver.specs.Words.{AreTaking, Bool, IfOk, OnErr, OnOk, TakesMemory};
-ghost use Rattle.nodejs_semver.specs.Words.{VersionValue, [], accepts, bound_of, covers, has_bound};
-ghost use Rattle.nodejs_semver.specs.Words.{length, lets_in, not, passes, precedence, span_of};
+ghost use Rattle.std.specs.Prelude.{◌++◌, ◌<◌, ◌||◌, ◌∷◌, ◌≡◌, ◌≤◌, ◌⊎◌};
+ghost use Rattle.nodejs_semver.specs.Words.{Bool, IfOk, OnErr, OnOk, TakesMemory};
+ghost use Rattle.nodejs_semver.specs.Words.{VersionValue, [], accepts, bound_of, has_bound};
+ghost use Rattle.nodejs_semver.specs.Words.{length, lets_in, not, passes, span_of};
 ghost use Rattle.nodejs_semver.specs.{Words.{IfSome, spans_of, true}, Internal.Questions.is_said};
 ghost use Rattle.nodejs_semver.specs.Internal.Index.{IsIndexOf};
 ghost use Rattle.nodejs_semver.specs.Ranges.Unions.{says_all, union};
@@ -46,7 +46,11 @@ impl<V: VersionPoint> RangeOf<V> {
         let (these, others) = (self.items(), other.items());
         let mut intervals = copy_intervals(alloc, these)?;
         let index = Index::of_many(alloc, these);
-        push_others(alloc, &mut intervals, these, &index, others)?;
+        for interval in others {
+            if !is_said(these, &index, interval) {
+                push_copy(alloc, &mut intervals, interval)?;
+            }
+        }
         Ok(RangeOf::of_some(intervals))
     }
 }
@@ -64,29 +68,6 @@ pub(crate) fn push_copy<V: VersionPoint>(
         ((0 < length found.old.items) ⊎ (has_bound V.takes interval.now ≡ true)) }
 {
     Ok(found.push(interval.copy(alloc)?)?)
-}
-
-// Puts copies of the other intervals at the end, save those of which one of these says all.
-fn push_others<V: VersionPoint>(
-    alloc: Global,
-    found: &mut Intervals<V>,
-    these: &[Interval<V>],
-    index: &Option<Index<'_, V>>,
-    others: &[Interval<V>],
-) -> Result<(), AllocError>
-    requires room { 1 ≤ found.old.capacity }
-    requires index { IfSome index.now (IsIndexOf (spans_of V.value these.now)) }
-    ensures whole { OnOk result (found.new.items
-        ≡ found.old.items ++ filter (λ t. not (is_said V.value these.now t)) others.now) }
-    ensures memory { OnErr result (AreTaking V.takes
-        (found.old.items ++ filter (λ t. not (is_said V.value these.now t)) others.now)) }
-{
-    for other in others {
-        if !is_said(these, index, other) {
-            push_copy(alloc, found, other)?;
-        }
-    }
-    Ok(())
 }
 
 // Whether one of these intervals says all of the other.
@@ -110,17 +91,9 @@ fn is_said<V: VersionPoint>(
 fn says_all<V: VersionPoint>(interval: &Interval<V>, other: &Interval<V>) -> bool
     ensures { result ≡ says_all (span_of V.value interval.now) (span_of V.value other.now) }
 {
-    covers(interval, other)
+    interval.covers(other)
         && !keeps_out(interval, other.lower())
         && !keeps_out(interval, other.upper())
-}
-
-// Whether the interval covers the other one.
-fn covers<V: VersionPoint>(interval: &Interval<V>, other: &Interval<V>) -> bool
-    ensures { result
-        ≡ covers precedence (span_of V.value interval.now) (span_of V.value other.now) }
-{
-    interval.covers(other)
 }
 
 // Whether the bound has a version that the interval does not let in.

@@ -2,9 +2,9 @@
 
 ghost use Rattle.nodejs_semver.specs.Text.Table as Spec;
 ghost use Rattle.nodejs_semver.specs.Text.WordText as Words;
-ghost use Rattle.std.specs.Prelude.{◌+◌, ◌≡◌, ◌≤◌};
+ghost use Rattle.std.specs.Prelude.{◌+◌, ◌≡◌};
 ghost use Rattle.nodejs_semver.specs.Words.{bounds_view, partial_view, precedence, signed_word};
-ghost use Rattle.nodejs_semver.specs.Words.{comparator_view, MAX_SAFE_INTEGER, release_value, Some};
+ghost use Rattle.nodejs_semver.specs.Words.{comparator_view, MAX_SAFE_INTEGER, Some};
 ghost use Rattle.nodejs_semver.specs.Words.{interval, sign_view, table, table_view};
 
 use crate::readers::syntax::{Partial, Sign};

@@ -1,35 +1,54 @@
-use Rattle.nodejs_semver.proofs.{Common.{IfOk-weaker, arith, on_err, refl, sym, ◌∙◌}, Questions.Unions.{copy-same, copy-shorter, none-list}}
-use Rattle.nodejs_semver.proofs.{Questions.Unions.{some-list, some-same, some-shorter, used-taking, used-valid}, Values.taking-values}
+use Rattle.nodejs_semver.proofs.{Common.{IfOk-weaker, arith, on_err, refl, sym, take_all, ◌∙◌}, Questions.Unions.{copy-same, copy-shorter, goes_behind}}
+use Rattle.nodejs_semver.proofs.Questions.Unions.{none-list, some-list, some-same, some-shorter, stays_behind, taken_at, used-taking, used-valid}
+use Rattle.nodejs_semver.proofs.Values.{taking-values}
+use Rattle.nodejs_semver.proofs.range.RangeOf.simplify.Goals.{else-is_used, then-is_used+in_ok-push_copy}
 use Rattle.nodejs_semver.proofs.range.RangeOf.simplify.Goals as goal
 
-pub returns-in_err-push_used-clause-memory : goal.returns-in_err-push_used-clause-memory
-returns-in_err-push_used-clause-memory g c =
-    let memory = rw c.new-used.ensures.items at c.in_err-push_used.ensures.memory in
-    on_err c.from_residual.result (taking-values g.V.Point.takes g.V.Versioned.value g.met.V.VersionPoint.copied _ _
-    (used-taking g.V.Versioned.value g.W.Versioned.value c.args.versions.now _ _ _ c.items.ensures.value refl g.V.Point.takes memory)
+pub loop-interval-preserved : goal.loop-interval-preserved
+loop-interval-preserved g c = elim c.if-is_used.branch [
+  | then-is_used+in_ok-push_copy w ↦ rw w.used-is (
+    w.in_ok-push_copy.ensures.room,
+    stays_behind _ c.items-intervals.result.now _
+        c.interval-item.result c.new-used.result.items _ _ c.loop-interval-test.true c.interval-item.is (sym c.is_used.ensures ∙ w.if-is_used.true)
+        c.loop-interval.invariant.1 w.in_ok-push_copy.ensures.whole,
+  )
+  | else-is_used w ↦ rw w.used-is (
+    c.loop-interval.invariant.0,
+    goes_behind _ c.items-intervals.result.now _ c.interval-item.result
+        c.new-used.result.items _ c.loop-interval-test.true c.interval-item.is (sym c.is_used.ensures ∙ w.if-is_used.false) c.loop-interval.invariant.1,
+  )
+]
+
+pub returns-in_err-push_copy-clause-memory : goal.returns-in_err-push_copy-clause-memory
+returns-in_err-push_copy-clause-memory g c =
+    let memory = rw c.new-used.ensures.items at (taken_at _ _ _ _ _ _ _ c.loop-interval-test.true c.interval-item.is
+    (sym c.is_used.ensures ∙ c.if-is_used.true) c.loop-interval.invariant.1 c.in_err-push_copy.ensures.memory) in
+    on_err _ (taking-values g.V.Point.takes g.V.Versioned.value g.met.V.VersionPoint.copied _ _
+    (used-taking g.V.Versioned.value g.W.Versioned.value c.args.versions.now _ _ _ c.items-intervals.ensures.value refl g.V.Point.takes memory)
     memory)
 
 pub of_intervals-requires : goal.of_intervals-requires
 of_intervals-requires g c =
-    let valid = used-valid g.V.Versioned.value g.W.Versioned.value c.args.versions.now _ _ _ c.items.ensures.value
-    (rw c.new-used.ensures.items at c.in_ok-push_used.ensures.whole) _ c.items.ensures.valid in
+    let whole = rw (take_all _ c.items-intervals.result.now c.loop-interval-test.false, c.new-used.ensures.items) at c.loop-interval.invariant.1 in
+    let valid = used-valid g.V.Versioned.value g.W.Versioned.value c.args.versions.now _ _ _ c.items-intervals.ensures.value
+    whole _ c.items-intervals.ensures.valid in
     (omega arith, (omega arith, valid))
 
 pub returns-in-Some : goal.returns-in-Some
 returns-in-Some g c =
-    let items = rw c.new-used.ensures.items at c.in_ok-push_used.ensures.whole in
+    let items = rw (take_all _ c.items-intervals.result.now c.loop-interval-test.false, c.new-used.ensures.items) at c.loop-interval.invariant.1 in
     let v = g.V.Versioned.value in
     let w = g.W.Versioned.value in record {
-      list = some-list v w c.args.versions.now _ _ _ c.items.ensures.value items _ c.in-Some.ensures;
-      same = some-same v w c.args.versions.now _ _ _ c.items.ensures.value items _ c.in-Some.ensures;
-      shorter = some-shorter v w c.args.versions.now _ _ _ c.items.ensures.value items _ c.in-Some.ensures;
+      list = some-list v w c.args.versions.now _ _ _ c.items-intervals.ensures.value items _ c.in-Some.ensures;
+      same = some-same v w c.args.versions.now _ _ _ c.items-intervals.ensures.value items _ c.in-Some.ensures;
+      shorter = some-shorter v w c.args.versions.now _ _ _ c.items-intervals.ensures.value items _ c.in-Some.ensures;
       memory = tt;
     }
 
 pub returns-in-None : goal.returns-in-None
 returns-in-None g c =
-    let items = rw c.new-used.ensures.items at c.in_ok-push_used.ensures.whole in
-    let none = none-list g.V.Versioned.value g.W.Versioned.value c.args.versions.now _ _ _ c.items.ensures.value items c.in-None.ensures in
+    let items = rw (take_all _ c.items-intervals.result.now c.loop-interval-test.false, c.new-used.ensures.items) at c.loop-interval.invariant.1 in
+    let none = none-list g.V.Versioned.value g.W.Versioned.value c.args.versions.now _ _ _ c.items-intervals.ensures.value items c.in-None.ensures in
     record {
       list = IfOk-weaker c.copy.result _ _ (λ r e. e ∙ none) c.copy.ensures.whole;
       same = IfOk-weaker c.copy.result _ _ (λ r e. copy-same r c.args.self.now _ e) c.copy.ensures.whole;

@@ -3,7 +3,7 @@ use denote.Text.{Utf8}
 use denote.Shadow.{shadow}
 use Rattle.std.specs.Fmt.{HasWrittenStyled, IsFlush}
 use Rattle.nodejs_semver.proofs.Values.{bars_after, printed}
-use Rattle.nodejs_semver.proofs.range.print.write_intervals.Given as goal
+use Rattle.nodejs_semver.proofs.range.print.RangeOfDisplay.fmt.Given as goal
 
 abbrev pub invariant-loop-interval : goal.invariant-loop-interval
 invariant-loop-interval g l = (text : shadow (Utf8 l.separator)) × (separator : l.separator ≡ bars_after (take l.interval-index l.intervals))
