@@ -182,8 +182,20 @@ pub(crate) fn digits<R: Reach>(bytes: &[u8], at: usize) -> Option<(u64, usize)>
     let Some(third) = digit::<R>(bytes, at + 2) else {
         return Some((value, at + 2));
     };
-    // What the call returns is taken apart: so room for it is made only where it is called.
-    let Some((number, end)) = more_digits::<R>(bytes, at, at + 3, value * 10 + third) else {
+    long_number::<R>(bytes, at, at + 3, value * 10 + third)
+}
+
+// `more_digits`, inlined: room for what the call returns is made only where it is called.
+#[inline(always)]
+fn long_number<R: Reach>(bytes: &[u8], at: usize, next: usize, front: u64) -> Option<(u64, usize)>
+    requires order { at < next }
+    requires place { R.stands bytes.now next }
+    requires small { front ≤ MAX_SAFE_INTEGER }
+    ensures found { result ≡ placed at
+        (digits_from MAX_SAFE_INTEGER front (next - at) (drop next bytes.now)) }
+    ensures place { IfSome result (λ found. R.stands bytes.now found.1) }
+{
+    let Some((number, end)) = more_digits::<R>(bytes, at, next, front) else {
         return None;
     };
     Some((number, end))
