@@ -46,7 +46,6 @@ pub struct RangeFlaw {
 /// };
 /// assert!(rt; npm_reading::range_flaw("^1.2 || >=2.0.0, <3 || 4", false) == Some(flaw));
 /// ```
-#[tactic(auto, using(crate::proofs::FlawPlaces::Ranges::trimmed_fits))]
 pub fn range_flaw(text: &str, include_prerelease: bool) -> Option<RangeFlaw>
     // None exactly if the text has alternatives, as `range` reads them.
     ensures none { (result ≡ None) ↔ ((alternatives : List (List Comparison))
