@@ -180,22 +180,8 @@ fn push_between<'a>(bounds: Bounds<'a>, found: &mut Intervals<VersionRef<'a>>) -
     Ok(())
 }
 
-// Adds the interval of two bounds, where the lower cut is below the upper one. Mostly the numbers
-// say that it is.
-#[inline(always)]
-fn push<'a>(bounds: Bounds<'a>, found: &mut Intervals<VersionRef<'a>>) -> Allocated<()>
-    ensures added { let o = interval precedence (bounds_view bounds.entry) in
-        OnOk result (found.new.items ≡ found.old.items ++ option_to_list o) }
-    ensures memory { OnErr result (0 < length found.old.items) }
-{
-    if are_ordered(&bounds) {
-        found.add(Interval::of_ordered(bounds.lower, bounds.upper))
-    } else {
-        push_between(bounds, found)
-    }
-}
-
-// Adds the interval of a part that has these bounds, and returns what follows the part.
+// Adds the interval of a part that has these bounds, where the lower cut is below the upper one, and
+// returns what follows the part. Mostly the numbers say that it is.
 #[inline(always)]
 fn push_read<'a>(
     bounds: Option<Bounds<'a>>,
@@ -211,7 +197,11 @@ fn push_read<'a>(
     let Some(bounds) = bounds else {
         return Ok(None);
     };
-    push(bounds, found)?;
+    if are_ordered(&bounds) {
+        found.add(Interval::of_ordered(bounds.lower, bounds.upper))?;
+    } else {
+        push_between(bounds, found)?;
+    }
     Ok(Some(rest))
 }
 

@@ -1,10 +1,9 @@
 // Which part of a range text node-semver's strict reading rejects.
 
-ghost use Rattle.nodejs_semver.specs.Words.{IfSome, IsAfterBlank, IsTrim, List, MAX_SAFE_INTEGER};
-ghost use Rattle.nodejs_semver.specs.Words.{None, Some, false, length};
+ghost use Rattle.nodejs_semver.specs.Words.{IfSome, List, MAX_SAFE_INTEGER, None, Some, false};
 ghost use Rattle.npm_reading.specs.RangeFlaws.{IsRangeFlaw};
 ghost use Rattle.npm_words.specs.{Alternatives.HasAlternativesIn, Words.Comparison};
-ghost use Rattle.std.specs.Prelude.{◌+◌, ◌↔◌, ◌≡◌, ◌≤◌};
+ghost use Rattle.std.specs.Prelude.{◌↔◌, ◌≡◌};
 
 use crate::ranges::alternative;
 use npm_words::pieces::malformed_part;
@@ -23,16 +22,6 @@ pub struct RangeFlaw {
     pub word_start: usize,
     /// Where the word or the end ends.
     pub word_end: usize,
-}
-
-// Where a text begins without the whitespace around it, and that text.
-#[tactic(auto, using(crate::proofs::FlawPlaces::Ranges::trimmed_fits))]
-fn trimmed(text: &str) -> (usize, &str)
-    ensures start { IsAfterBlank text.now 0 result.0 }
-    ensures middle { IsTrim text.now result.1.now }
-    ensures fits { result.0 + length result.1.now ≤ length text.now }
-{
-    (scan::skip_whitespace(text, 0), scan::trim(text))
 }
 
 /// Returns the first alternative for which [`range`](crate::range) rejects a text, with what is
@@ -70,10 +59,10 @@ pub fn range_flaw(text: &str, include_prerelease: bool) -> Option<RangeFlaw>
     let mut rest = Some(text);
     'pieces: while let Some(left) = rest {
         let (piece, behind) = cut_part(left);
-        let (blank, part) = trimmed(piece);
+        let part = scan::trim(piece);
         let bytes = part.as_bytes();
         if alternative(false, include_prerelease, bytes).is_none() {
-            let start = text.len() - left.len() + blank;
+            let start = text.len() - left.len() + scan::skip_whitespace(piece, 0);
             let (word_start, word_end) = malformed_part(include_prerelease, bytes);
             return Some(RangeFlaw {
                 start,

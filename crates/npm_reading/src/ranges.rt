@@ -2,7 +2,7 @@
 
 ghost use Rattle.nodejs_semver.specs.Words.{IfOk, IsCutAtBars, IsRange, List, MAX_SAFE_INTEGER};
 ghost use Rattle.nodejs_semver.specs.Words.{MemoryOnlyIf, NoValue, None, OnOk, RefusedOnlyIf, Some};
-ghost use Rattle.nodejs_semver.specs.Words.{VersionValue, false, length, parts, true, ℕ};
+ghost use Rattle.nodejs_semver.specs.Words.{VersionValue, length, true, ℕ};
 ghost use Rattle.npm_reading.specs.Internal.Reads.{AddsPart, IsFound, IsStep, first_valid};
 ghost use Rattle.npm_reading.specs.{Internal.Reads.{valid_alternative, words_of}, Ranges.IsRangeIn};
 ghost use Rattle.{npm_reading.specs.Readings.OfAccepted, npm_words.specs.Internal.Parts.are_normal};
@@ -10,7 +10,7 @@ ghost use Rattle.npm_words.specs.Internal.{Parts.npm_partial_view, Reads.valid_o
 ghost use Rattle.npm_words.specs.Internal.Words.{hyphen_of, words_of_all};
 ghost use Rattle.npm_words.specs.Words.{HasAlternativesIn};
 ghost use Rattle.semver_core.specs.Internal.Reading.{◌>>?◌};
-ghost use Rattle.std.specs.Prelude.{[], ◌&&◌, ◌<◌, ◌≡◌};
+ghost use Rattle.std.specs.Prelude.{[], ◌<◌, ◌≡◌};
 ghost use Rattle.std.specs.Str.{IsUtf8};
 ghost use Rattle.nodejs_semver.specs.Ranges.Gate as Gate;
 
@@ -19,7 +19,7 @@ use crate::common::read_common;
 use nodejs_semver::RangeRef;
 use npm_words::Reading;
 use npm_words::pieces::{End, Side, behind_ignored, hyphen_ends, is_short, word_front};
-use semver_core::{Failure, MAX_SAFE_INTEGER, SemverError, VersionRef};
+use semver_core::{Failure, SemverError, VersionRef};
 use semver_pieces::{Found, Intervals, next_part, skip_spaces};
 use smallvec::SmallVec;
 use std::alloc::Global;
@@ -62,7 +62,9 @@ fn words(loose: bool, include: bool, text: &[u8]) -> Option<Alternative<'_>>
         is_last_ignored = is_ignored;
         rest = behind;
     }
-    Some(all.ended(is_last_ignored && word_front(loose, text).is_none()))
+    let are_ends_ignored = is_last_ignored && word_front(loose, text).is_none();
+    all.is_lost = all.is_bare && are_ends_ignored;
+    Some(all)
 }
 
 // The alternative between two ends of a hyphen range.

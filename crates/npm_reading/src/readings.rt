@@ -12,7 +12,7 @@ use crate::ranges::range;
 use nodejs_semver::RangeRef;
 use nodejs_semver::pieces::{greatest, least};
 use npm_words::Reading;
-use semver_core::{Failure, MAX_SAFE_INTEGER, SemverError, Versioned};
+use semver_core::{Failure, SemverError, Versioned};
 use std::alloc::Global;
 use std::marker::Model;
 

@@ -2,7 +2,7 @@
 
 ghost use Rattle.npm_words.specs.{Builds.IsBuildText, VersionText.IsVersionTextIn};
 ghost use Rattle.{npm_words.specs.Words.{MAX_SAFE_INTEGER, NoValue}, std.specs.Prelude.IfNone};
-ghost use Rattle.std.specs.Prelude.{IfSome, ◌==◌};
+ghost use Rattle.std.specs.Prelude.{IfSome};
 
 use crate::options::Reading;
 use crate::versions::version;

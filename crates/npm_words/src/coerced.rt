@@ -2,17 +2,17 @@
 
 ghost use Rattle.npm_words.specs.Coerced.{IsCoerced, IsCoercedBy, IsLeftmost, begins_identifier_in};
 ghost use Rattle.npm_words.specs.{Coerced.goes_on_in, Grammar.IsStrictNumber};
-ghost use Rattle.npm_words.specs.Internal.Tuples.{BeginsAfter, IsChosenPlace, IsFirstPlace};
+ghost use Rattle.npm_words.specs.Internal.Tuples.{BeginsAfter, IsChosenPlace};
 ghost use Rattle.npm_words.specs.{Internal.Tuples.{IsLastPlace, IsStretch}, Words.{Bool, IfNone}};
-ghost use Rattle.npm_words.specs.Words.{IfSome, List, MAX_SAFE_INTEGER, NoValue, begins};
+ghost use Rattle.npm_words.specs.Words.{IfSome, List, MAX_SAFE_INTEGER, NoValue};
 ghost use Rattle.npm_words.specs.Words.{front_view, is_ascii_digit, is_listed, length, pair_view};
 ghost use Rattle.{npm_words.specs.Words.{true, ℕ}, semver_core.specs.Text.Characters.ends};
-ghost use Rattle.std.specs.Prelude.{drop, false, take, ◌&&◌, ◌+◌, ◌<◌, ◌==◌, ◌≡◌, ◌≤◌};
+ghost use Rattle.std.specs.Prelude.{drop, false, take, ◌+◌, ◌≡◌, ◌≤◌};
 ghost use Rattle.npm_words.specs.Internal.Tuples as Spec;
 
 use crate::options::Coercion;
 use semver_core::scan::{begins_identifier, is_identifier_char};
-use semver_core::{MAX_LENGTH, MAX_SAFE_INTEGER, VersionRef};
+use semver_core::{MAX_LENGTH, VersionRef};
 use semver_pieces::{begins_padded, digits_len, number_front};
 
 // How long the run of 1 to 16 digits at the front is, and 0 where none stands there.
@@ -196,19 +196,6 @@ fn end_at(
     marked_end(included, false, b'+', text, end, builds)
 }
 
-// The place where the leftmost tuple begins.
-fn first_place(text: &[u8]) -> Option<usize>
-    ensures some { IfSome result (IsFirstPlace text.now) }
-    ensures none { IfNone result (BeginsAfter text.now (length text.now)) }
-{
-    'places: for at in 0..text.len() {
-        if tuple_len_at(text, at) > 0 {
-            return Some(at);
-        }
-    }
-    None
-}
-
 // The place where the tuple begins that ends last with what it goes on with.
 fn last_place(included: bool, text: &[u8]) -> Option<usize>
     ensures some { IfSome result (IsLastPlace included text.now) }
@@ -304,10 +291,14 @@ fn chosen_place(options: Coercion, text: &[u8]) -> Option<usize>
     ensures none { IfNone result (BeginsAfter text.now (length text.now)) }
 {
     if options.rtl {
-        last_place(options.include_prerelease, text)
-    } else {
-        first_place(text)
+        return last_place(options.include_prerelease, text);
     }
+    'places: for at in 0..text.len() {
+        if tuple_len_at(text, at) > 0 {
+            return Some(at);
+        }
+    }
+    None
 }
 
 /// Returns the version that a text has anywhere in it, as node-semver's `coerce` does: the leftmost

@@ -7,8 +7,8 @@ ghost use Rattle.npm_words.specs.Internal.{Meaning.{is_part, is_zero}, Parts.Are
 ghost use Rattle.npm_words.specs.Internal.Parts.{are_normal, is_padded, no_build, noted};
 ghost use Rattle.npm_words.specs.Internal.Parts.{npm_partial_view, npm_sign_view, within};
 ghost use Rattle.npm_words.specs.{Table.{first, from, table, written_zeros}, Words.Bool};
-ghost use Rattle.npm_words.specs.Words.{Comparison, List, MAX_SAFE_INTEGER, Some, [], bounds_view};
-ghost use Rattle.npm_words.specs.Words.{comparator_view, decimal, false, length, lent_id_view};
+ghost use Rattle.npm_words.specs.Words.{Comparison, List, MAX_SAFE_INTEGER, [], bounds_view};
+ghost use Rattle.npm_words.specs.Words.{comparator_view, decimal, length, lent_id_view};
 ghost use Rattle.npm_words.specs.Words.{true, version_text, ℕ};
 ghost use Rattle.semver_core.specs.{Printing.Text.id_text, Values.Versions.IsVersion};
 ghost use Rattle.{semver_core.specs.declared.TheConstants.MAX_LENGTH, std.specs.Prelude.nat_le};
@@ -19,7 +19,7 @@ ghost use Rattle.semver_core.specs.Text.Comparators as Words;
 use crate::partial::{Numbers, Partial, Sign, within, written_zeros};
 use itoa::Buffer;
 use semver_core::cuts::Bound;
-use semver_core::{IdentifierRef, IdentifierRefs, MAX_LENGTH, VersionRef};
+use semver_core::{IdentifierRef, MAX_LENGTH, VersionRef};
 use semver_pieces::{Bounds, Comparator, lowest, release};
 
 // How many characters a number prints.

@@ -8,7 +8,7 @@ ghost use Rattle.npm_words.specs.{Internal.Views.{hyphen_view, is_free_end}, Wor
 ghost use Rattle.npm_words.specs.Words.{comparator_view, length, list_all, pair_view, rest_view};
 ghost use Rattle.npm_words.specs.Words.{true};
 ghost use Rattle.semver_core.specs.Internal.Reading.{◌>>?◌};
-ghost use Rattle.std.specs.Prelude.{drop, option_map, ◌-◌, ◌||◌, ◌≡◌, ◌≤◌};
+ghost use Rattle.std.specs.Prelude.{drop, option_map, ◌-◌, ◌≡◌, ◌≤◌};
 ghost use Rattle.npm_words.specs.Internal.Ends as Ends;
 ghost use Rattle.npm_words.specs.Internal.Words as Spec;
 ghost use Rattle.npm_words.specs.Malformed as Malformed;
@@ -91,24 +91,17 @@ fn last_marks(marks: &[u8]) -> &[u8]
     &marks[start..]
 }
 
-// Whether any marks may stand before this end of a hyphen range.
-fn is_free(side: Side, partial: &Partial<'_>) -> bool
-    ensures { result ≡ is_free_end side (npm_partial_view partial.now) }
-{
-    match (side, partial) {
-        (Side::Lower, Partial::Whole(_)) => false,
-        (Side::Upper { include }, Partial::Whole(version)) => include || !version.is_release(),
-        _ => true,
-    }
-}
-
 impl<'a> End<'a> {
     /// Whether it is short enough, and its marks may stand there.
     pub fn is_right(&self, loose: bool, side: Side) -> bool
         ensures { result ≡ Spec.is_right loose (is_free_end side) (end_view self.now) }
     {
-        is_short(loose, self.text)
-            && (loose || is_free(side, &self.partial) || matches!(self.marks, [] | [b'v']))
+        let is_free = match (side, &self.partial) {
+            (Side::Lower, Partial::Whole(_)) => false,
+            (Side::Upper { include }, Partial::Whole(version)) => include || !version.is_release(),
+            _ => true,
+        };
+        is_short(loose, self.text) && (loose || is_free || matches!(self.marks, [] | [b'v']))
     }
 
     /// The bounds of it as the lower end, as `row` gives those of a word. With pre-releases

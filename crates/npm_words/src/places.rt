@@ -4,11 +4,10 @@
 
 ghost use Rattle.npm_words.specs.{Grammar.begins_undashed, Internal.Parts.npm_partial_view};
 ghost use Rattle.npm_words.specs.{Internal.Views.npm_front_view, Words.{MAX_SAFE_INTEGER, None}};
-ghost use Rattle.npm_words.specs.Words.{[], false, front_view, is_listed, not, pair_view, true};
-ghost use Rattle.semver_core.specs.Internal.Fronts.{begins_identifier, begins_padded};
-ghost use Rattle.semver_core.specs.Internal.Fronts.{begins_wildcard, number_front, number_with};
+ghost use Rattle.npm_words.specs.Words.{[], false, front_view, is_listed, pair_view, true};
+ghost use Rattle.semver_core.specs.Internal.Fronts.{begins_wildcard, number_with};
 ghost use Rattle.semver_core.specs.Text.Identifiers.{listed};
-ghost use Rattle.std.specs.Prelude.{◌&&◌, ◌==◌, ◌≡◌};
+ghost use Rattle.std.specs.Prelude.{◌≡◌};
 ghost use Rattle.npm_words.specs.Internal.Words as Spec;
 ghost use Rattle.npm_words.specs.Partials as Places;
 

@@ -13,7 +13,7 @@ use crate::options::Reading;
 use crate::places::pre_front;
 use crate::words::marks_len;
 use semver_core::scan::{number_in, trim};
-use semver_core::{MAX_LENGTH, MAX_SAFE_INTEGER, SemverError, VersionRef};
+use semver_core::{MAX_LENGTH, SemverError, VersionRef};
 use semver_pieces::{behind_dot, build_front, digits_len, number_front};
 
 // How many digits of the run at the front a patch number has that leaves the last one before a dot.
@@ -85,27 +85,18 @@ fn qualified(loose: bool, major: u64, minor: u64, patch: u64, text: &[u8]) -> Op
     }
 }
 
-// The text without the marks that may stand at its front.
-#[inline(always)]
-fn without_marks(loose: bool, text: &[u8]) -> &[u8]
-    ensures { result.now ≡ Whole.unmarked loose text.now }
-{
-    if loose {
-        return skip_marks(text);
-    }
-    match text {
-        [b'v', rest @ ..] => rest,
-        _ => text,
-    }
-}
-
 // The version that the whole text is.
 #[inline(always)]
 #[tactic(auto, unfolding(crate::specs::Internal::Versions::whole_version))]
 fn whole_version(loose: bool, text: &[u8]) -> Option<VersionRef<'_>>
     ensures { result ≡ Whole.whole_version loose MAX_SAFE_INTEGER text.now }
 {
-    let (major, rest) = number_front(loose, without_marks(loose, text))?;
+    let unmarked = match text {
+        _ if loose => skip_marks(text),
+        [b'v', rest @ ..] => rest,
+        _ => text,
+    };
+    let (major, rest) = number_front(loose, unmarked)?;
     let (minor, rest) = number_front(loose, behind_dot(rest)?)?;
     let (patch, rest) = patch_front(loose, behind_dot(rest)?)?;
     qualified(loose, major, minor, patch, rest)

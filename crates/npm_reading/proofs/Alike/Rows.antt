@@ -7,7 +7,7 @@ use Rattle.nodejs_semver.proofs.Common.{list_all, list_all-append, list_any, lis
 use Rattle.nodejs_semver.proofs.Common.{or_right, ordering_then, plain, pre_cmp, precedence, precedence_total, refl, same_triple, subst, suc, sym}
 use Rattle.nodejs_semver.proofs.Common.{table, tilde, true, upper_cut, version_of, zero, ℕ, ◌&&◌, ◌++◌, ◌+◌, ◌==◌, ◌||◌, ◌∙◌, ◌∷◌, ◌≡◌, ◌⊎◌}
 use Rattle.npm_reading.specs.Alike.{IsPlainPartial, IsPlainWord, bare, is_blunt, is_plain, may_have, npm_partial, signed, tilde_greater, version_in}
-use Rattle.{npm_reading.specs.Alike.word_of, npm_words.proofs.Common.{Comparison, Id, IsPlaces, Numbers, compared, counts, dotted_patch}}
+use Rattle.{npm_reading.specs.Alike.word_of, npm_words.proofs.Common.{Comparison, IsPlaces, Numbers, compared, counts, dotted_patch}}
 use Rattle.npm_words.proofs.Common.{dotted_place, from, hyphen_lower, hyphen_upper, is_valid, is_zero, meets, minor, patch_place, place_front}
 use Rattle.npm_words.proofs.{Common.{pre_front, qualified_partial, release, satisfies, under, version_text, whole}, Grammar.PartialLaw.places-read}
 use Rattle.npm_words.proofs.Grammar.{Printed.prints_zero, Zeros.{plain_changed, plain_table, rows-plain, strict-zeros, zeros-marked}}

@@ -1,7 +1,7 @@
 -- The malformed word of a range text, and its first alternative that is malformed.
-use Rattle.nodejs_semver.proofs.Common.{Bool, IsAfterBlank, IsTrim, IsUtf8, List, MAX_SAFE_INTEGER, None, Option, Some, [], after_blank-place, ap}
+use Rattle.nodejs_semver.proofs.Common.{Bool, IsAfterBlank, IsTrim, IsUtf8, List, MAX_SAFE_INTEGER, None, Option, Some, [], ap}
 use Rattle.nodejs_semver.proofs.Common.{append_assoc, arith, bind_some, cond_some, false, length, list_all, middle_is_trim, refl, sym, trim, ℕ, ◌++◌}
-use Rattle.nodejs_semver.proofs.{Common.{◌+◌, ◌-◌, ◌∙◌, ◌∷◌, ◌≡◌, ◌≤◌}, Diagnosing.IgnoredParts.{part_ends, part_fits, sizes_of}}
+use Rattle.nodejs_semver.proofs.{Common.{◌+◌, ◌-◌, ◌∙◌, ◌∷◌, ◌≡◌}, Diagnosing.IgnoredParts.sizes_of}
 use Rattle.npm_reading.{proofs.Grammar.RangeReads.found-some, specs.{Internal.Reads.{IsFound, valid_alternative}, RangeFlaws.IsRangeFlaw}}
 use Rattle.{npm_reading.specs.declared.{alternatives.Alternative.Alternative, range_flaws.RangeFlaw.RangeFlaw}, npm_words.proofs.Common.Comparison}
 use Rattle.npm_words.proofs.{Common.{HasAlternativesIn, alternative_of, is_valid, valid_one}, FlawPlaces.Ranges.{IsPiece, Passed}}
@@ -11,10 +11,6 @@ use Rattle.{npm_words.specs.{MalformedEnds.IsMalformedPart, RangeFlaws.{IsAltern
 use Rattle.semver_core.proofs.{Dividing.BarsDivide.{bars_once, pieces-utf8}, Reading.Boundaries.trim-utf8, Text.Trims.one_after_blank}
 use Rattle.{semver_core.specs.{Failures.NoValue, Internal.Parts.front_part}, std.proofs.lemmas.List.Elements.{All-from_recursion, All-push}}
 use Rattle.std.{proofs.lemmas.List.Elements.recursion_from_All, specs.Prelude.is_none}
-
-pub trimmed_fits : (text middle : List ℕ) (start : ℕ) → IsUtf8 text → IsAfterBlank text 0 start → IsTrim text middle → start + length middle ≤ length text
-trimmed_fits text middle start u a t =
-    omega (arith, part_ends 0 start text middle (after_blank-place text 0 start u a) (middle_is_trim text middle t), part_fits text 0)
 
 module _ (include : Bool) where
   piece_right : (piece part : List ℕ) (a : Alternative) → IsUtf8 piece → IsTrim piece part

@@ -1,13 +1,17 @@
 use Rattle.{nodejs_semver.proofs.Common.{None, arith, false, nat_tests, refl, rules, ◌≡◌}, npm_reading.proofs.FlawPlaces.Ranges.flawed-none}
-use Rattle.{npm_reading.proofs.FlawPlaces.Ranges.{one_range_flaw, right_here, wrong_here}, npm_words.proofs.FlawPlaces.Ranges.passed_all}
-use Rattle.std.specs.Prelude.{is_none}
+use Rattle.{npm_reading.proofs.FlawPlaces.Ranges.{one_range_flaw, right_here, wrong_here}, npm_words.proofs.FlawPlaces.Ranges.{next-utf8, passed_all}}
+use Rattle.std.{proofs.lemmas.Str.IsCharBoundary-start, specs.Prelude.is_none}
 use Rattle.npm_reading.proofs.range_flaws.range_flaw.Goals as goal
+
+pub skip_whitespace-requires : goal.skip_whitespace-requires
+skip_whitespace-requires c =
+    IsCharBoundary-start c.cut_part.result.0.now (next-utf8 _ _ _ _ (rw c.in-Some.is at c.pieces.invariant) c.cut_part.ensures c.utf8.text)
 
 pub returns-then-is_none-clause-flaw : goal.returns-then-is_none-clause-flaw
 returns-then-is_none-clause-flaw c =
     let empty : c.alternative.result ≡ None = grind (arith, nat_tests) in
-    wrong_here _ _ _ _ (rw c.in-Some.is at c.pieces.invariant) c.cut_part.ensures _ _ _ _ _ _ c.utf8.text c.trimmed-blank.ensures.start
-    c.trimmed-blank.ensures.middle c.as_bytes-bytes.ensures.value (rw empty at c.alternative.ensures) c.malformed_part-word_start.ensures.part
+    wrong_here _ _ _ _ (rw c.in-Some.is at c.pieces.invariant) c.cut_part.ensures _ _ _ _ _ _ c.utf8.text c.skip_whitespace.ensures
+    c.trim-part.ensures.middle c.as_bytes-bytes.ensures.value (rw empty at c.alternative.ensures) c.malformed_part-word_start.ensures.part
     refl refl refl refl
 
 pub returns-then-is_none-clause-none : goal.returns-then-is_none-clause-none
@@ -21,7 +25,7 @@ returns-then-is_none-clause-only c = λ g y.
 pub pieces-preserved : goal.pieces-preserved
 pieces-preserved c =
     let some : is_none c.alternative.result ≡ false = first_of (search rules, grind arith) in
-    right_here _ _ _ _ (rw c.in-Some.is at c.pieces.invariant) c.cut_part.ensures _ _ _ c.utf8.text c.trimmed-blank.ensures.middle
+    right_here _ _ _ _ (rw c.in-Some.is at c.pieces.invariant) c.cut_part.ensures _ _ _ c.utf8.text c.trim-part.ensures.middle
     c.as_bytes-bytes.ensures.value c.alternative.ensures some
 
 pub returns-clause-none : goal.returns-clause-none
