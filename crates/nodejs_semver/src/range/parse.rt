@@ -4,7 +4,7 @@ ghost use Rattle.std.specs.Prelude.{◌<◌, ◌==◌, ◌||◌, ◌↔◌, ◌�
 ghost use Rattle.std.specs.Prelude.{take};
 ghost use Rattle.nodejs_semver.specs.Words.{accepts, AreCommonParts, denotes, ends_field};
 ghost use Rattle.nodejs_semver.specs.Words.{false, has_bars, IsFalse, IsRange, length, List};
-ghost use Rattle.nodejs_semver.specs.Words.{list_any, Means, MemoryOnlyIf, OnErr, OnOk};
+ghost use Rattle.nodejs_semver.specs.Words.{list_any, Means, MemoryOnlyIf, OnOk};
 ghost use Rattle.nodejs_semver.specs.Words.{RefusedOnlyIf, Span, TakesMemory, true};
 ghost use Rattle.nodejs_semver.specs.Words.{VersionValue, Writes};
 ghost use Rattle.smallvec.specs.SmallVec.{HasRoomFor};

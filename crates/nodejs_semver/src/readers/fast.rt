@@ -1,13 +1,13 @@
 // The reader of common range texts, in one pass from the left.
 
 ghost use Rattle.nodejs_semver.specs.Internal.CommonFronts as Spec;
-ghost use Rattle.std.specs.Prelude.{◌≡◌, ◌≤◌, ◌||◌, ◌⊎◌, if◌then◌else◌, [], IfNone, IfOk, IfSome};
+ghost use Rattle.std.specs.Prelude.{◌≡◌, ◌≤◌, ◌||◌, ◌⊎◌, [], IfNone, IfOk, IfSome};
 ghost use Rattle.nodejs_semver.specs.Internal.Fronts.{is_wildcard};
 ghost use Rattle.nodejs_semver.specs.Words.{AreCommonParts, begins, bounds_front_view, bounds_view};
 ghost use Rattle.nodejs_semver.specs.Words.{common_fronts};
 ghost use Rattle.nodejs_semver.specs.Words.{has_bars, hyphen, is_ascii_digit, is_interval};
 ghost use Rattle.nodejs_semver.specs.Words.{IsCommonRange, table};
-ghost use Rattle.nodejs_semver.specs.Words.{IsFalse, IsTrue, length, List, MAX_SAFE_INTEGER, Means};
+ghost use Rattle.nodejs_semver.specs.Words.{IsFalse, IsTrue, List, MAX_SAFE_INTEGER, Means};
 ghost use Rattle.nodejs_semver.specs.Words.{None, NoValue, OnErr, partial_front_view, partial_view};
 ghost use Rattle.nodejs_semver.specs.Words.{passed_view, precedence, Some, Span};
 ghost use Rattle.nodejs_semver.specs.Words.{table_view, TakesMemory, true, VersionValue};
