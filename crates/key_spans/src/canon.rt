@@ -40,7 +40,7 @@ impl Part {
 fn push_any(parts: &mut Vec<Part>, part: Part) -> Result<(), AllocError>
     ensures { OnOk result (parts.new.items ≡ parts.old.items ++ alone (slice_cmp nat_cmp) part) }
 {
-    if part.start.as_slice().cmp(part.stop.as_slice()).is_lt() {
+    if part.start.cmp(&part.stop).is_lt() {
         parts.push(part)?;
     }
     Ok(())
@@ -50,7 +50,7 @@ fn push_any(parts: &mut Vec<Part>, part: Part) -> Result<(), AllocError>
 fn later_of(first: Vec<u8>, second: Vec<u8>) -> Vec<u8>
     ensures { result.items ≡ later (slice_cmp nat_cmp) first.items second.items }
 {
-    if first.as_slice().cmp(second.as_slice()).is_lt() {
+    if first.cmp(&second).is_lt() {
         second
     } else {
         first
@@ -62,7 +62,7 @@ fn push_pair(parts: &mut Vec<Part>, last: Part, next: Part) -> Result<(), AllocE
     ensures { OnOk result
         (parts.new.items ≡ parts.old.items ++ pair (slice_cmp nat_cmp) last next) }
 {
-    if last.stop.as_slice().cmp(next.start.as_slice()).is_lt() {
+    if last.stop.cmp(&next.start).is_lt() {
         parts.push(last)?;
         return push_any(parts, next);
     }
@@ -87,7 +87,7 @@ fn join(parts: &mut Vec<Part>, part: Part) -> Result<(), AllocError>
 pub(crate) fn canonical(alloc: Global, mut parts: Vec<Part>) -> Result<Vec<Part>, AllocError>
     ensures { IfOk result (λ found. IsCanonicalOf parts.items found.items) }
 {
-    parts.sort_by(|a, b| a.start.as_slice().cmp(b.start.as_slice()))?;
+    parts.sort_by(|a, b| a.start.cmp(&b.start))?;
     let mut found = Vec::new(alloc);
     for part in parts {
         join(&mut found, part)?;

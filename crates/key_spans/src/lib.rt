@@ -25,7 +25,7 @@ mod marks;
 pub mod ranges;
 pub mod sets;
 
-ghost use Rattle.std.specs.Prelude.{◌≡◌, ◌≤◌, ◌*◌, ◌++◌, All, IfOk, length, OnOk, true};
+ghost use Rattle.std.specs.Prelude.{◌≡◌, ◌≤◌, ◌*◌, ◌++◌, All, false, IfOk, length, OnOk, true};
 ghost use Rattle.key_spans.specs.Internal.Pieces.{all_flagged, pieces};
 ghost use Rattle.key_spans.specs.Spans.{HasEnds, in_spans, is_sorted};
 ghost use Rattle.nodejs_semver.specs.Ranges.Gate.{accepts};
@@ -88,16 +88,27 @@ pub fn key_spans<V: VersionPoint>(
     ensures few { IfOk result (λ spans. length spans.items ≤ 3 * length range.now) }
 {
     let intervals = range.items();
-    let mut spans = Vec::new(alloc);
     if include_prerelease {
         let versions = parts_of(alloc, Kind::Versions, intervals)?;
-        add_parts(versions, false, &mut spans)?;
-        return Ok(spans);
+        return spans_of(alloc, Vec::new(alloc), versions);
     }
     let releases = parts_of(alloc, Kind::Releases, intervals)?;
-    add_parts(releases, true, &mut spans)?;
     let pre_releases = pre_parts(alloc, intervals)?;
-    add_parts(pre_releases, false, &mut spans)?;
+    spans_of(alloc, releases, pre_releases)
+}
+
+// The spans of parts of releases, and then those of other parts.
+fn spans_of(
+    alloc: Global,
+    releases: Vec<Part>,
+    others: Vec<Part>,
+) -> Result<Vec<KeySpan>, AllocError>
+    ensures { IfOk result (λ spans. pieces spans.items
+        ≡ all_flagged true releases.items ++ all_flagged false others.items) }
+{
+    let mut spans = Vec::new(alloc);
+    add_parts(releases, true, &mut spans)?;
+    add_parts(others, false, &mut spans)?;
     Ok(spans)
 }
 

@@ -25,7 +25,7 @@ ghost use Rattle.key_spans.specs.Internal.Ends.{is_odd, keeps, least, turned};
 ghost use Rattle.key_spans.specs.Spans.{IsCombined};
 
 use crate::canon::Part;
-use crate::{KeySpan, add_parts};
+use crate::{KeySpan, spans_of};
 use std::alloc::{AllocError, Global};
 use std::marker::Model;
 
@@ -127,12 +127,9 @@ fn combined(
 {
     let (releases, others) = by_kind(first);
     let (second_releases, second_others) = by_kind(second);
-    let mut spans = Vec::new(alloc);
     let releases = swept(alloc, operation, releases, second_releases)?;
-    add_parts(releases, true, &mut spans)?;
     let others = swept(alloc, operation, others, second_others)?;
-    add_parts(others, false, &mut spans)?;
-    Ok(spans)
+    spans_of(alloc, releases, others)
 }
 
 // The spans of releases, and the others after them.

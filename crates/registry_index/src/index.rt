@@ -34,6 +34,7 @@ pub fn add<S: Alter>(
         → IsTrue (state S.Store tx.old.conn.now).in_transaction
         → IfOk result (λ n. (row : Row) × IsRowOf text.now row × ExecutesInside 0 insertion.now row
         (state S.Store tx.old.conn.now) (state S.Store tx.new.conn.now) (Ok n)) }
+    ensures refused { IfErr result (IsRefused text.now) }
 {
     let (line, key) = read(alloc, number, text)?;
     Ok(tx.execute(

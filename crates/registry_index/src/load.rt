@@ -8,11 +8,11 @@ use crate::input::Input;
 use crate::request::Answer;
 use crate::trouble::Trouble;
 use anyhow::anyhow;
-use sqlite::{Alter, Connection, Transaction};
+use sqlite::{Alter, Connection};
 use std::alloc::Global;
 use std::io::{BufReader, Lines};
 
-/// Puts lines into the index, in one transaction.
+/// Puts lines into the index, in one transaction, and makes the table if it is not there yet.
 pub fn load<S: Alter>(
     alloc: Global,
     conn: &mut Connection<S>,
@@ -22,27 +22,17 @@ pub fn load<S: Alter>(
     ensures { IfOk result (λ answer. answer ≡ Loaded) }
 {
     let mut tx = conn.transaction();
-    add_all(alloc, &mut tx, lines)?;
-    tx.commit()?;
-    Ok(Answer::Loaded)
-}
-
-// Makes the table, if it is not there yet, and puts the lines into it.
-fn add_all<S: Alter>(
-    alloc: Global,
-    tx: &mut Transaction<'_, S>,
-    lines: &mut Lines<BufReader<Input>>,
-) -> Result<(), Trouble> {
     tx.execute_batch(TABLE)?;
     let mut number: u64 = 0;
     for line in lines {
         number = number.saturating_add(1);
         match line {
             Ok(line) => {
-                add(alloc, tx, INSERT, number, &line)?;
+                add(alloc, &mut tx, INSERT, number, &line)?;
             }
             Err(error) => return Err(Trouble::Line(number, anyhow!(error))),
         }
     }
-    Ok(())
+    tx.commit()?;
+    Ok(Answer::Loaded)
 }

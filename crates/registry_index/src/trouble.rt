@@ -11,6 +11,11 @@ pub enum Trouble {
 }
 
 impl From<Error> for Trouble {
+    ghost use Rattle.std.specs.Prelude.{◌≡◌};
+    ghost use Rattle.registry_index.specs.declared.trouble.Trouble.TheVariants.{Index};
+
+    ghost from_gives = { λ error trouble. trouble ≡ Index error };
+
     fn from(error: Error) -> Trouble {
         Trouble::Index(error)
     }
