@@ -1,7 +1,7 @@
 -- The bytes of short texts as numbers, and what is put behind the output.
 use Rattle.std.proofs.Common.{◌≡◌, ◌<◌, ◌≤◌, ◌+◌, ◌*◌, ◌/◌, ◌%◌, ◌^◌, ◌++◌, ◌∷◌, ◌∙◌, ℕ, Bool, suc, zero, true, List, [], inl, inr, refl, ap, arith, take, length, length-append}
 use Rattle.std.proofs.Common.{append-nil, append_assoc, lt-ltb, ltb-true, w64, sym, Result, Ok, Err, OnErr}
-use Rattle.std.proofs.lemmas.{Bool.{cases_lt}, Fmt.{decimal_digit, decimal_step}}
+use Rattle.std.proofs.lemmas.{Bool.{and_parts, cases_lt}, Fmt.{decimal_digit, decimal_step}}
 use Rattle.std.proofs.lemmas.List.Folds.{list_all-append}
 use Rattle.std.proofs.Math.Seq.{take-append_seam}
 use Rattle.std.proofs.Math.Nat.{div-div-eq-div-mul}
@@ -9,7 +9,6 @@ use Rattle.std.specs.Fmt.{decimal}
 use Rattle.std.specs.List.{list_all}
 use Rattle.std.specs.Prelude.{nat_lt}
 use Rattle.std.specs.Int.{byte_at, bytes_low_first, to_le_bytes}
-use Rattle.semver_answers.proofs.Growth.{and_parts}
 use Rattle.semver_answers.specs.Internal.Puts.{Extends, le_value, part_text, release_text}
 
 -- the text of a number of one digit, and of two

@@ -1,6 +1,6 @@
 // Puts numbers, versions and ranges behind the output, as they print, without a formatter.
 
-ghost use Rattle.std.specs.Prelude.{◌≡◌, ◌≤◌, ◌<◌, ◌++◌, ◌∷◌, ◌^◌, [], ℕ, List, take, length};
+ghost use Rattle.std.specs.Prelude.{◌≡◌, ◌≤◌, ◌<◌, ◌++◌, ◌∷◌, ◌^◌, [], ℕ, List, length};
 ghost use Rattle.std.specs.Prelude.{OnOk, OnErr, codes, false};
 ghost use Rattle.std.specs.Fmt.{decimal};
 ghost use Rattle.semver_core.specs.Lists.{is_empty};
@@ -73,20 +73,6 @@ fn before(number: u64, rest: u64) -> u64
     }
 }
 
-// The text of three short numbers with dots between them, and its length.
-#[inline(always)]
-fn short_release(major: u64, minor: u64, patch: u64) -> ([u8; 8], usize)
-    requires major { major < 100 }
-    requires minor { minor < 100 }
-    requires patch { patch < 100 }
-    ensures text { take result.1 result.0 ≡ release_text major minor patch }
-    ensures len { result.1 ≤ 8 }
-{
-    let text = before(major, before(minor, digits(patch)));
-    let len = width(major) + width(minor) + width(patch) + 2;
-    (text.to_le_bytes(), len)
-}
-
 // Puts a number in decimal.
 #[tactic(auto, using(crate::proofs::Bytes::extended, crate::proofs::Bytes::digits_text))]
 fn put_number(number: u64, output: &mut Output) -> Result<(), AllocError>
@@ -122,8 +108,9 @@ fn put_release(major: u64, minor: u64, patch: u64, output: &mut Output) -> Resul
     ensures err { OnErr result (Extends output.old output.new) }
 {
     if major < 100 && minor < 100 && patch < 100 {
-        let (text, len) = short_release(major, minor, patch);
-        return output.put_front(text, len);
+        let text = before(major, before(minor, digits(patch)));
+        let len = width(major) + width(minor) + width(patch) + 2;
+        return output.put_front(text.to_le_bytes(), len);
     }
     put_long(major, minor, patch, output)
 }

@@ -4,7 +4,7 @@ ghost use Rattle.std.specs.Prelude.{◌≡◌, ◌<◌, ◌++◌, [], true, leng
 ghost use Rattle.std.specs.Prelude.{IfSome, IfNone, IsUtf8, IfOk, IfErr, OnOk, OnErr};
 ghost use Rattle.std.specs.Io.KnownBytes.{Appends, IsAtEnd};
 ghost use Rattle.semver_answers.specs.Answers.{Answers};
-ghost use Rattle.semver_answers.specs.Lines.{last_line, no_feed};
+ghost use Rattle.semver_answers.specs.Lines.{no_feed};
 ghost use Rattle.semver_answers.specs.Outcome.{Ran};
 ghost use Rattle.semver_answers.specs.Internal.Ahead.{HasFeed, behind_line, ends_whole, first_line};
 ghost use Rattle.semver_answers.specs.Internal.Steps.{Finished, GrowsByAnswer, Stopped, Took};
@@ -96,19 +96,6 @@ impl Lines {
             }
         }
     }
-
-    // Answers a last line that has no line feed, if it is not empty.
-    fn end(&mut self, alloc: Global) -> Result<(), AllocError>
-        requires { no_feed self.old.pending.items ≡ true }
-        ensures { OnOk result
-            (Answers (last_line self.old.pending.items) self.new.output) }
-    {
-        self.output.clear();
-        if self.pending.is_empty() {
-            return Ok(());
-        }
-        self.end_line(alloc, b"\n")
-    }
 }
 
 // The first line with its line feed, and what stands behind it; `None` where there is none.
@@ -123,25 +110,17 @@ fn first_line(bytes: &[u8]) -> Option<(&[u8], &[u8])>
 }
 
 // The longest text at the front of some bytes that is whole lines, and what stands behind it.
+#[tactic(auto, using(crate::proofs::Firsts::ends_none))]
 fn front_lines(bytes: &[u8]) -> (&str, &[u8])
     ensures whole { bytes.now ≡ result.0.now ++ result.1.now }
     ensures lines { ends_whole result.0.now ≡ true }
     ensures utf8 { IsUtf8 result.0.now }
 {
-    let (text, rest) = front_text(bytes);
+    let text = text_front(bytes);
     match memrchr(b'\n', text.as_bytes()) {
         Some(at) => (&text[..at + 1], &bytes[at + 1..]),
         None => ("", bytes),
     }
-}
-
-// The longest text at the front of some bytes, and what stands behind it.
-fn front_text(bytes: &[u8]) -> (&str, &[u8])
-    ensures whole { bytes.now ≡ result.0.now ++ result.1.now }
-    ensures utf8 { IsUtf8 result.0.now }
-{
-    let text = text_front(bytes);
-    (text, &bytes[text.len()..])
 }
 
 // Writes these bytes by calls of `write` alone. A call that accepts no byte is an error.
@@ -200,13 +179,17 @@ fn turn<R: Read, W: Write>(
     }
 }
 
-// Answers a last line that has no line feed.
+// Answers a last line that has no line feed, if it is not empty.
 fn finish<W: Write>(alloc: Global, writer: &mut W, lines: &mut Lines) -> Result<(), RunFault>
     requires { no_feed lines.old.pending.items ≡ true }
     ensures { Finished (W.contents writer.old)
         (W.contents writer.new) lines.old.pending.items result }
 {
-    match lines.end(alloc) {
+    lines.output.clear();
+    if lines.pending.is_empty() {
+        return Ok(());
+    }
+    match lines.end_line(alloc, b"\n") {
         Ok(()) => write_out(writer, lines.output.as_slice()),
         Err(_) => Err(RunFault::Memory),
     }
