@@ -1,7 +1,7 @@
 // Puts numbers, versions and ranges behind the output, as they print, without a formatter.
 
 ghost use Rattle.std.specs.Prelude.{◌≡◌, ◌≤◌, ◌<◌, ◌++◌, ◌∷◌, ◌^◌, [], ℕ, List, length};
-ghost use Rattle.std.specs.Prelude.{OnOk, OnErr, codes, false};
+ghost use Rattle.std.specs.Prelude.{OnOk, OnErr, false};
 ghost use Rattle.std.specs.Fmt.{decimal};
 ghost use Rattle.semver_core.specs.Lists.{is_empty};
 ghost use Rattle.semver_core.specs.Printing.Text.{id_text, marked_list, version_text};
@@ -12,7 +12,7 @@ pub(crate) mod ranges;
 
 use crate::output::Output;
 use itoa::Buffer;
-use semver_core::{IdentifierRef, IdentifierRefs, NextIds, NextVersion, Versioned};
+use semver_core::{IdentifierRef, IdentifierRefs, NextVersion, Versioned};
 use std::alloc::AllocError;
 
 // The digits of a number and a dot, as a number whose lowest byte is the first.
@@ -178,25 +178,6 @@ pub(crate) fn put_version<V: Versioned>(version: &V, output: &mut Output) -> Res
     put_list(b'+', version.build(), output)
 }
 
-// Puts a hyphen and the identifiers of a next pre-release joined by dots, or nothing where there
-// are none.
-#[inline(always)]
-#[tactic(auto, using(crate::proofs::Bytes::extended))]
-fn put_next_ids(ids: NextIds<'_>, output: &mut Output) -> Result<(), AllocError>
-    ensures ok { OnOk result
-        (output.new ≡ output.old ++ marked_list (codes "-") ids.entry) }
-    ensures err { OnErr result (Extends output.old output.new) }
-{
-    let mut mark = b'-';
-    let mut others = ids;
-    'ids: while let Some(id) = others.next() {
-        output.push(mark)?;
-        put_id(id, output)?;
-        mark = b'.';
-    }
-    Ok(())
-}
-
 /// Puts a next version. Where an allocation fails, a part of it may be put.
 #[inline(always)]
 #[tactic(auto, using(crate::proofs::Bytes::extended))]
@@ -208,6 +189,13 @@ pub(crate) fn put_next_version(
     ensures err { OnErr result (Extends output.old output.new) }
 {
     put_release(version.major(), version.minor(), version.patch(), output)?;
-    put_next_ids(version.pre_release(), output)?;
+    // A hyphen stands before the first identifier, and a dot before each other one.
+    let mut mark = b'-';
+    let mut ids = version.pre_release();
+    'ids: while let Some(id) = ids.next() {
+        output.push(mark)?;
+        put_id(id, output)?;
+        mark = b'.';
+    }
     put_list(b'+', version.build(), output)
 }

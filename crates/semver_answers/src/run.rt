@@ -42,15 +42,6 @@ struct Lines {
 }
 
 impl Lines {
-    fn new(alloc: Global) -> Lines
-        ensures { result.pending.items ≡ [] }
-    {
-        Lines {
-            pending: Vec::new(alloc),
-            output: Output::new(alloc),
-        }
-    }
-
     // Answers the pending line, which goes on and ends with these bytes.
     fn end_line(&mut self, alloc: Global, end: &[u8]) -> Result<(), AllocError>
         requires pending { no_feed self.old.pending.items ≡ true }
@@ -77,7 +68,7 @@ impl Lines {
         ensures { Took result self.old.pending.items chunk.now self.new.pending.items
             self.new.output }
     {
-        self.output.clear();
+        self.output.truncate(0);
         // Lines at the front of what is left are checked to be UTF-8 all at once.
         let mut text = "";
         let mut rest = chunk;
@@ -185,7 +176,7 @@ fn finish<W: Write>(alloc: Global, writer: &mut W, lines: &mut Lines) -> Result<
     ensures { Finished (W.contents writer.old)
         (W.contents writer.new) lines.old.pending.items result }
 {
-    lines.output.clear();
+    lines.output.truncate(0);
     if lines.pending.is_empty() {
         return Ok(());
     }
@@ -208,7 +199,10 @@ pub fn run<R: Read, W: Write>(alloc: Global, reader: &mut R, writer: &mut W) -> 
 {
     match read_buffer(alloc) {
         Ok(mut buffer) => {
-            let mut lines = Lines::new(alloc);
+            let mut lines = Lines {
+                pending: Vec::new(alloc),
+                output: Output::new(alloc),
+            };
             run_turns(alloc, reader, writer, buffer.as_mut_slice(), &mut lines)
         }
         Err(_) => Err(RunFault::Memory),

@@ -14,5 +14,5 @@ returns-in-Ok g c =
     let pending = c.args.lines.now.pending in
     let some = sym c.is_empty.ensures ∙ c.if-is_empty.false in
     let w = c.write_out.ensures in
-    finish_written _ _ pending.items _ _ c.write_out.result (last_answer pending.items _ _ _ c.clear.ensures pending.ok.0 some c.in-Ok.ensures.ok)
+    finish_written _ _ pending.items _ _ c.write_out.result (last_answer pending.items _ _ _ c.truncate.ensures pending.ok.0 some c.in-Ok.ensures.ok)
     c.as_slice.ensures w.ok w.err w.fault

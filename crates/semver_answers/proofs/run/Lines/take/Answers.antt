@@ -12,7 +12,7 @@ lines-init c = record {
   whole = ends_none;
   pending = c.requires;
   empty = λ some. absurd (omega (arith, some));
-  taken = taken_none _ _ _ c.clear.ensures;
+  taken = taken_none _ _ _ c.truncate.ensures;
 }
 
 pub returns-in_default : goal.returns-in_default
