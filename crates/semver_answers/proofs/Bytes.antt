@@ -1,7 +1,7 @@
 -- The bytes of short texts as numbers, and what is put behind the output.
 use Rattle.std.proofs.Common.{◌≡◌, ◌<◌, ◌≤◌, ◌+◌, ◌*◌, ◌/◌, ◌%◌, ◌^◌, ◌++◌, ◌∷◌, ◌∙◌, ℕ, Bool, suc, zero, true, List, [], inl, inr, refl, ap, arith, take, length, length-append}
 use Rattle.std.proofs.Common.{append-nil, append_assoc, lt-ltb, ltb-true, w64, sym, Result, Ok, Err, OnErr}
-use Rattle.std.proofs.lemmas.{Bool.{cases_lt}, Fmt.{decimal_digit, decimal_step}}
+use Rattle.std.proofs.lemmas.{Bool.{and_parts, cases_lt}, Fmt.{decimal_digit, decimal_step}}
 use Rattle.std.proofs.lemmas.List.Folds.{list_all-append}
 use Rattle.std.proofs.Math.Seq.{take-append_seam}
 use Rattle.std.proofs.Math.Nat.{div-div-eq-div-mul}
@@ -9,19 +9,15 @@ use Rattle.std.specs.Fmt.{decimal}
 use Rattle.std.specs.List.{list_all}
 use Rattle.std.specs.Prelude.{nat_lt}
 use Rattle.std.specs.Int.{byte_at, bytes_low_first, to_le_bytes}
-use Rattle.semver_answers.proofs.Growth.{and_parts}
 use Rattle.semver_answers.specs.Internal.Puts.{Extends, le_value, part_text, release_text}
 
--- the text of a number of one digit, and of two
-text_one : (n : ℕ) → n < 10 → decimal n ≡ (48 + n) ∷ []
-text_one n lt = decimal_digit n lt
-
+-- the text of a number of two digits
 text_two : (n : ℕ) → 10 ≤ n → n < 100 → decimal n ≡ (48 + n / 10) ∷ (48 + n % 10) ∷ []
 text_two n le lt = rw (decimal_step n le (omega arith), decimal_digit (n / 10) (omega arith)) refl
 
 pub digits_one : (n : ℕ) → n < 10 → 48 + n ≡ le_value (decimal n)
 unfolding le_value
-digits_one n lt = rw (text_one n lt) (omega arith)
+digits_one n lt = rw (decimal_digit n lt) (omega arith)
 
 pub digits_two : (n : ℕ) → 10 ≤ n → n < 100 → 48 + n / 10 + 256 * (48 + n % 10) ≡ le_value (decimal n)
 unfolding le_value
@@ -31,7 +27,7 @@ pub ruleset digits = (digits_one, digits_two)
 
 pub part_one : (n : ℕ) → n < 10 → 48 + n + 11776 ≡ le_value (part_text n)
 unfolding le_value
-part_one n lt = rw (text_one n lt) (omega arith)
+part_one n lt = rw (decimal_digit n lt) (omega arith)
 
 pub part_two : (n : ℕ) → 10 ≤ n → n < 100 → 48 + n / 10 + 256 * (48 + n % 10) + 3014656 ≡ le_value (part_text n)
 unfolding le_value
@@ -40,7 +36,7 @@ part_two n le lt = rw (text_two n le lt) (omega arith)
 pub ruleset part = (part_one, part_two)
 
 pub width_one : (n : ℕ) → n < 10 → 1 ≡ length (decimal n)
-width_one n lt = rw (text_one n lt) refl
+width_one n lt = rw (decimal_digit n lt) refl
 
 pub width_two : (n : ℕ) → 10 ≤ n → n < 100 → 2 ≡ length (decimal n)
 width_two n le lt = rw (text_two n le lt) refl
@@ -50,7 +46,7 @@ pub ruleset width = (width_one, width_two)
 -- the digits and a dot before more bytes
 pub before_one : (n p r : ℕ) (text : List ℕ) → n < 10 → p ≡ le_value (part_text n) → r ≡ le_value text → p + r * 65536 ≡ le_value (part_text n ++ text)
 unfolding le_value
-before_one n p r text lt e is = rw (e, is, text_one n lt) (omega arith)
+before_one n p r text lt e is = rw (e, is, decimal_digit n lt) (omega arith)
 
 pub before_two : (n p r : ℕ) (text : List ℕ) → 10 ≤ n → n < 100 → p ≡ le_value (part_text n) → r ≡ le_value text → p + r * 16777216 ≡ le_value (part_text n ++ text)
 unfolding le_value
@@ -87,7 +83,7 @@ decimal_bytes : (n : ℕ) → n < 100 → list_all is_byte (decimal n) ≡ true
 decimal_bytes n lt = elim (cases_lt n 10) [
   | inl small ↦
       let one : nat_lt (48 + n) 256 ≡ true = lt-ltb (48 + n) 256 (omega arith) in
-      rw (text_one n small, one) refl
+      rw (decimal_digit n small, one) refl
   | inr big ↦
       let one : nat_lt (48 + n / 10) 256 ≡ true = lt-ltb (48 + n / 10) 256 (omega arith) in
       let two : nat_lt (48 + n % 10) 256 ≡ true = lt-ltb (48 + n % 10) 256 (omega arith) in

@@ -5,8 +5,8 @@ use Rattle.memchr.specs.Find.{IsFirstByte, is_byte, is_byte2}
 use Rattle.std.proofs.Math.Nat.{eq-or-lt_of_le}
 use Rattle.std.proofs.Math.Seq.{drop-cons, get_or-append_seam, split_at, take-append_seam}
 use Rattle.std.proofs.lemmas.Bool.Decides.{nat_tests}
-use Rattle.std.proofs.lemmas.Bool.{cases_Bool, eqb-true, false_from_ne_true, false≢true}
-use Rattle.std.proofs.lemmas.List.{get_or-take, length-append, length-take-le, take-append-drop, take-append-le, take_all, take_more}
+use Rattle.std.proofs.lemmas.Bool.{and_right, cases_Bool, eqb-true, false_from_ne_true, false≢true, not-true}
+use Rattle.std.proofs.lemmas.List.{get_or-take, length-append, length-take, length-take-le, take-append-drop, take-take, take_all, take_more}
 use Rattle.std.proofs.lemmas.List.Elements.{All-from_get_or, All-head, All-tail}
 use Rattle.std.proofs.lemmas.List.Folds.{list_all-append, list_any_at, list_any_more}
 use Rattle.std.proofs.lemmas.List.Splits.{length-slice_split, slice_split_at, slice_split_none}
@@ -26,10 +26,6 @@ use Rattle.semver_answers.specs.Lines.{fields, no_feed}
 
 abbrev is_feed : ℕ → Bool
 is_feed b = b == 10
-
-fails : (b : Bool) → not b ≡ true → b ≡ false
-fails true h = absurd (false≢true h)
-fails false h = refl
 
 -- a byte that is not found stands nowhere
 nowhere : (p : ℕ → Bool) (text : List ℕ) → IsFirstByte p text None → All (λ x. p x ≡ false) text
@@ -51,7 +47,7 @@ nowhere_before p text n h = All-from_get_or (λ x. p x ≡ false) (take n text) 
 pub all_fail : (p : ℕ → Bool) (text : List ℕ) → list_all (λ b. not (p b)) text ≡ true → All (λ b. p b ≡ false) text
 all_fail p text h =
     let each = AllPass-from_list_all (λ b. not (p b)) text h in
-    All-from_get_or (λ b. p b ≡ false) text 0 (λ i inside. fails (p (get_or text i 0)) (each i 0 inside))
+    All-from_get_or (λ b. p b ≡ false) text 0 (λ i inside. not-true (p (get_or text i 0)) (each i 0 inside))
 
 no_feed_by : (text : List ℕ) → All (λ b. (b == 10) ≡ false) text → no_feed text ≡ true
 no_feed_by text h = list_all-from_AllPass (λ b. not (b == 10)) text (λ k d inside. ap not (h k d inside))
@@ -276,33 +272,24 @@ unfolding ends_whole
 behind_one y [] h = refl
 behind_one y (z ∷ ys) h = h
 
-never : (a b : Bool) → b ≡ false → (a && b) ≡ false
-never true b h = h
-never false b h = refl
-
 -- some whole lines have a line feed, and behind the first of them there are whole lines again
 pub whole_feed : (c : ℕ) (rest : List ℕ) → ends_whole (c ∷ rest) ≡ true → HasFeed (c ∷ rest)
 unfolding ends_whole
 whole_feed c [] h = rw h refl
-whole_feed c (d ∷ rest) h = never (not (c == 10)) (no_feed (d ∷ rest)) (whole_feed d rest h)
+whole_feed c (d ∷ rest) h = and_right (not (c == 10)) (no_feed (d ∷ rest)) (whole_feed d rest h)
 
 pub whole_has : (text : List ℕ) → ends_whole text ≡ true → 0 < length text → HasFeed text
 whole_has [] h some = absurd (omega (arith, some))
 whole_has (c ∷ rest) h some = whole_feed c rest h
-
-pub nothing_in : (text : List ℕ) → length text ≡ 0 → text ≡ []
-nothing_in [] h = refl
-nothing_in (c ∷ rest) h = absurd (omega (arith, h))
 
 -- and it is shorter
 pub behind_shorter : (text : List ℕ) → HasFeed text → length (behind_line text) < length text
 behind_shorter text feed =
     omega (arith, ap length (divided text feed).0, length-append (first_line text) (10 ∷ behind_line text))
 
--- bytes whose front is a text are cut where that is cut
-pub front_cut : (bytes text rest : List ℕ) (n : ℕ) → bytes ≡ text ++ rest → n ≤ length text → bytes ≡ take n text ++ drop n bytes
-front_cut bytes text rest n e le =
-    sym (take-append-drop n bytes) ∙ ap (λ l. l ++ drop n bytes) (ap (take n) e ∙ take-append-le n text rest le)
+-- bytes are cut where a front of them is cut
+pub front_cut : (bytes : List ℕ) (k n : ℕ) → n ≤ length (take k bytes) → bytes ≡ take n (take k bytes) ++ drop n bytes
+front_cut bytes k n le = rw (take-take n k bytes (omega (arith, le, length-take k bytes))) (sym (take-append-drop n bytes))
 
 pub whole_next : (text : List ℕ) → HasFeed text → ends_whole text ≡ true → ends_whole (behind_line text) ≡ true
 whole_next text feed h =

@@ -1,10 +1,11 @@
 -- The text of an intersection or a difference, part by part.
-use Rattle.std.proofs.Common.{◌≡◌, ◌<◌, ◌+◌, ◌∙◌, ◌++◌, ◌∷◌, ℕ, Bool, true, false, ◌&&◌, ◌||◌, List, [], Option, Some, None, length}
-use Rattle.std.proofs.Common.{append-nil, append_assoc, refl, sym, ap, ap₂, arith, if◌then◌else◌, take, drop, codes}
+use Rattle.std.proofs.Common.{◌≡◌, ◌<◌, ◌+◌, ◌∙◌, ◌++◌, ◌∷◌, ℕ, Bool, true, false, ◌||◌, List, [], Option, Some, None, length}
+use Rattle.std.proofs.Common.{append-nil, append_assoc, refl, sym, ap, arith, if◌then◌else◌, take, drop, codes}
 use Rattle.std.proofs.Common.{length-drop, take-append-drop}
-use Rattle.std.proofs.lemmas.Bool.{false≢true}
+use Rattle.std.proofs.lemmas.Bool.{and_parts}
 use Rattle.std.proofs.lemmas.Grind.{flat_map-append}
-use Rattle.std.proofs.lemmas.List.{drop-take, length-take, take-take}
+use Rattle.std.proofs.Math.Seq.{take-add}
+use Rattle.std.proofs.lemmas.List.{length-take}
 use Rattle.std.proofs.lemmas.List.Folds.{list_all-append}
 use Rattle.std.specs.List.{flat_map, join_by, list_all}
 use Rattle.std.specs.Option.{is_some}
@@ -23,10 +24,6 @@ use Rattle.semver_answers.specs.declared.parts.Combination.{Combination}
 use Rattle.semver_answers.specs.declared.parts.Combination.TheVariants.{Intersection, Difference}
 
 -- a test that all of a list pass, all of its parts pass
-pub and_parts : (a b : Bool) → (a && b) ≡ true → (a ≡ true) × (b ≡ true)
-and_parts true b h = (refl, h)
-and_parts false b h = absurd (false≢true h)
-
 pub parts_pass : {A : Type 0} (p : A → Bool) (front back all : List A) → all ≡ front ++ back → list_all p all ≡ true
     → (list_all p front ≡ true) × (list_all p back ≡ true)
 parts_pass p front back all e h = and_parts _ _ (sym (list_all-append p front back) ∙ ap (list_all p) (sym e) ∙ h)
@@ -85,8 +82,7 @@ combined_none asked us = ap if_any (made_none asked us)
 
 -- the intervals up to a place, and some more
 pub taken_on : {A : Type 0} (xs : List A) (i k n : ℕ) → n ≡ k → take (i + k) xs ≡ take i xs ++ take n (drop i xs)
-taken_on xs i k n e =
-    rw e (sym (take-append-drop i (take (i + k) xs)) ∙ ap₂ (λ a b. a ++ b) (take-take i (i + k) xs (omega arith)) (drop-take i k xs))
+taken_on xs i k n e = rw e (take-add i k xs)
 
 pub range_part : (limit : ℕ) (ss : List (Span VersionValue)) (at n : ℕ) → IsRange limit ss → at < length ss → 0 < n
     → IsRange limit (take n (drop at ss))

@@ -1,9 +1,9 @@
 // The fields of the first line of a text, which are cut at each `;`. They are read from the left,
 // and the last one ends at the line feed.
 
-ghost use Rattle.std.specs.Prelude.{◌≡◌, ◌<◌, ◌≤◌, IfNone, IfSome, false, length, take};
+ghost use Rattle.std.specs.Prelude.{◌≡◌, ◌<◌, IfNone, IfSome, false, length, take};
 ghost use Rattle.std.specs.Prelude.{slice_index};
-ghost use Rattle.std.specs.List.{All, list_any};
+ghost use Rattle.std.specs.List.{All};
 ghost use Rattle.memchr.specs.Find.{is_byte2};
 ghost use Rattle.semver_answers.specs.Internal.Ahead.{Cuts, HasFeed, IsNext};
 ghost use Rattle.semver_answers.specs.Internal.Results.{ReadsRange, ReadsVersion};
@@ -52,28 +52,19 @@ pub(crate) fn cut(text: &str) -> (&str, Behind<'_>)
     }
 }
 
-// How many bytes above `;`, such as letters, stand at the front of a text.
-#[inline(always)]
-#[tactic(auto, using(crate::proofs::Firsts::words))]
-fn word_len(text: &[u8]) -> usize
-    requires { HasFeed text.now }
-    ensures inside { result ≤ length text.now }
-    ensures plain { list_any (is_byte2 59 10) (take result text.now) ≡ false }
-{
-    let mut len = 0;
-    'bytes: while text[len] > b';' {
-        len += 1;
-    }
-    len
-}
-
 /// `cut` for a field that is a short word mostly, so that no call searches it.
 #[inline(always)]
+#[tactic(auto, using(crate::proofs::Firsts::words))]
 pub(crate) fn cut_word(text: &str) -> (&str, Behind<'_>)
     requires { HasFeed text.now }
     ensures { Cuts text.now result.0.now result.1 }
 {
-    let end = word_len(text.as_bytes());
+    // Bytes above `;`, such as letters, stand at the front.
+    let word = text.as_bytes();
+    let mut end = 0;
+    'bytes: while word[end] > b';' {
+        end += 1;
+    }
     match mark_at(text, end) {
         Some(behind) => (&text[..end], behind),
         None => cut(text),

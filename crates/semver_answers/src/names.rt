@@ -4,7 +4,7 @@ ghost use Rattle.std.specs.Prelude.{◌≡◌, ◌++◌, OnOk, OnErr, Result};
 ghost use Rattle.std.specs.Result.{IsOkAnd};
 ghost use Rattle.semver_core.specs.Difference.{kind_word};
 ghost use Rattle.semver_core.specs.Increments.Table as increment;
-ghost use Rattle.semver_core.specs.Increments.View.{Returns, fault_of};
+ghost use Rattle.semver_core.specs.Increments.View.{Returns};
 ghost use Rattle.semver_core.specs.Printing.Text.{version_text};
 ghost use Rattle.semver_core.specs.Values.Versions.{VersionValue};
 ghost use Rattle.nodejs_semver.specs.Printing.Text.{range_text};
@@ -142,17 +142,6 @@ pub(crate) fn put_range_line(range: &RangeRef<'_>, output: &mut Output) -> Resul
     output.push(b'\n')
 }
 
-fn increment_fault_line(fault: &IncrementError) -> &'static [u8]
-    ensures { result.now ≡ ended (next_text (Err (fault_of fault.now))) }
-{
-    match fault {
-        IncrementError::InvalidIncrementArgument(_) => b"bad argument\n",
-        IncrementError::InvalidIdentifier(_) => b"bad identifier\n",
-        IncrementError::NotAPrerelease(_) => b"not a prerelease\n",
-        IncrementError::Overflow => b"overflow\n",
-    }
-}
-
 /// The next version, or why there is none.
 #[inline(always)]
 #[tactic(auto, using(crate::proofs::Bytes::extended))]
@@ -169,7 +158,15 @@ pub(crate) fn put_next(
             put_next_version(version, output)?;
             output.push(b'\n')
         }
-        Err(Failure::Refused(fault)) => output.put(increment_fault_line(fault)),
+        Err(Failure::Refused(fault)) => {
+            let line: &[u8] = match fault {
+                IncrementError::InvalidIncrementArgument(_) => b"bad argument\n",
+                IncrementError::InvalidIdentifier(_) => b"bad identifier\n",
+                IncrementError::NotAPrerelease(_) => b"not a prerelease\n",
+                IncrementError::Overflow => b"overflow\n",
+            };
+            output.put(line)
+        }
         Err(Failure::Memory(_)) => Err(AllocError),
     }
 }

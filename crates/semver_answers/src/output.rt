@@ -72,12 +72,6 @@ impl Output {
         }
     }
 
-    pub(crate) fn clear(&mut self)
-        ensures { self.new ≡ [] }
-    {
-        self.len = 0;
-    }
-
     /// Puts some bytes, all or nothing.
     #[inline(always)]
     pub(crate) fn put(&mut self, text: &[u8]) -> Result<(), AllocError>

@@ -32,7 +32,12 @@ pub(crate) fn put_of_two<'b, 't>(
     ensures err { OnErr result (Extends output.old output.new) }
 {
     match asked {
-        Combination::Intersection => put_common(one, other, output),
+        Combination::Intersection if !one.meets(other) => output.put(b"none\n"),
+        Combination::Intersection => {
+            let lower = greater_lower(one.lower(), other.lower());
+            let upper = lesser_upper(one.upper(), other.upper());
+            put_line(lower, upper, output)
+        }
         Combination::Difference => put_left(one, other, output),
     }
 }
@@ -80,24 +85,6 @@ fn lesser_upper<'b, 't>(
     } else {
         one
     }
-}
-
-// What two intervals have in common, or `none`.
-fn put_common<'b, 't>(
-    one: &'b Interval<VersionRef<'t>>,
-    other: &'b Interval<VersionRef<'t>>,
-    output: &mut Output,
-) -> Result<(), AllocError>
-    ensures ok { OnOk result (output.new ≡ output.old
-        ++ ended (or_none range_text (combined Intersection (one.now ∷ []) (other.now ∷ [])))) }
-    ensures err { OnErr result (Extends output.old output.new) }
-{
-    if !one.meets(other) {
-        return output.put(b"none\n");
-    }
-    let lower = greater_lower(one.lower(), other.lower());
-    let upper = lesser_upper(one.upper(), other.upper());
-    put_line(lower, upper, output)
 }
 
 // What the second interval leaves of the first, or `none`.

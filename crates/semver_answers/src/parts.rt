@@ -56,7 +56,8 @@ pub(crate) fn put_combined<'t>(
     if let ([one], [other]) = (r.intervals(), s.intervals()) {
         return put_of_two(asked, one, other, output);
     }
-    if may_be_large(asked, r, s) {
+    // There may be very many intervals. Both ways to print them give the same text.
+    if r.intervals().len() > PAIRS / s.intervals().len() && !stand_along(asked, r, s) {
         return put_in_parts(asked, alloc, r, s, output);
     }
     match asked {
@@ -84,12 +85,6 @@ fn put_in_parts<'t>(
     } else {
         output.put(b"none\n")
     }
-}
-
-// Whether there may be very many intervals. Both ways to print them give the same text.
-#[inline(always)]
-fn may_be_large(asked: Combination, r: &RangeRef<'_>, s: &RangeRef<'_>) -> bool {
-    r.intervals().len() > PAIRS / s.intervals().len() && !stand_along(asked, r, s)
 }
 
 // Whether the intervals of the first range, and of an intersection those of the second too, stand
@@ -201,24 +196,15 @@ fn range_of_copies<'t>(
     requires { IsRange MAX_SAFE_INTEGER some.now }
     ensures { IfOk result (λ range. range ≡ some.now) }
 {
-    match RangeRef::from_intervals(copies_of(alloc, some)?) {
-        Ok(range) => Ok(range),
-        Err(_) => unreachable!(),
-    }
-}
-
-fn copies_of<'t>(
-    alloc: Global,
-    some: &[Interval<VersionRef<'t>>],
-) -> Result<Vec<Interval<VersionRef<'t>>>, AllocError>
-    ensures { IfOk result (λ copies. copies.items ≡ some.now) }
-{
     let mut copies = Vec::with_capacity(alloc, some.len())?;
     for interval in some {
         let (lower, upper) = (copy_of(interval.lower()), copy_of(interval.upper()));
         copies.push(Interval::of_ordered(lower, upper))?;
     }
-    Ok(copies)
+    match RangeRef::from_intervals(copies) {
+        Ok(range) => Ok(range),
+        Err(_) => unreachable!(),
+    }
 }
 
 // A copy of a bound. By a call of `Interval::copy` here, that call in `difference` would no longer

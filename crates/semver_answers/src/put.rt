@@ -1,7 +1,7 @@
 // Puts numbers, versions and ranges behind the output, as they print, without a formatter.
 
-ghost use Rattle.std.specs.Prelude.{◌≡◌, ◌≤◌, ◌<◌, ◌++◌, ◌∷◌, ◌^◌, [], ℕ, List, take, length};
-ghost use Rattle.std.specs.Prelude.{OnOk, OnErr, codes, false};
+ghost use Rattle.std.specs.Prelude.{◌≡◌, ◌≤◌, ◌<◌, ◌++◌, ◌∷◌, ◌^◌, [], ℕ, List, length};
+ghost use Rattle.std.specs.Prelude.{OnOk, OnErr, false};
 ghost use Rattle.std.specs.Fmt.{decimal};
 ghost use Rattle.semver_core.specs.Lists.{is_empty};
 ghost use Rattle.semver_core.specs.Printing.Text.{id_text, marked_list, version_text};
@@ -12,7 +12,7 @@ pub(crate) mod ranges;
 
 use crate::output::Output;
 use itoa::Buffer;
-use semver_core::{IdentifierRef, IdentifierRefs, NextIds, NextVersion, Versioned};
+use semver_core::{IdentifierRef, IdentifierRefs, NextVersion, Versioned};
 use std::alloc::AllocError;
 
 // The digits of a number and a dot, as a number whose lowest byte is the first.
@@ -73,20 +73,6 @@ fn before(number: u64, rest: u64) -> u64
     }
 }
 
-// The text of three short numbers with dots between them, and its length.
-#[inline(always)]
-fn short_release(major: u64, minor: u64, patch: u64) -> ([u8; 8], usize)
-    requires major { major < 100 }
-    requires minor { minor < 100 }
-    requires patch { patch < 100 }
-    ensures text { take result.1 result.0 ≡ release_text major minor patch }
-    ensures len { result.1 ≤ 8 }
-{
-    let text = before(major, before(minor, digits(patch)));
-    let len = width(major) + width(minor) + width(patch) + 2;
-    (text.to_le_bytes(), len)
-}
-
 // Puts a number in decimal.
 #[tactic(auto, using(crate::proofs::Bytes::extended, crate::proofs::Bytes::digits_text))]
 fn put_number(number: u64, output: &mut Output) -> Result<(), AllocError>
@@ -122,8 +108,9 @@ fn put_release(major: u64, minor: u64, patch: u64, output: &mut Output) -> Resul
     ensures err { OnErr result (Extends output.old output.new) }
 {
     if major < 100 && minor < 100 && patch < 100 {
-        let (text, len) = short_release(major, minor, patch);
-        return output.put_front(text, len);
+        let text = before(major, before(minor, digits(patch)));
+        let len = width(major) + width(minor) + width(patch) + 2;
+        return output.put_front(text.to_le_bytes(), len);
     }
     put_long(major, minor, patch, output)
 }
@@ -191,25 +178,6 @@ pub(crate) fn put_version<V: Versioned>(version: &V, output: &mut Output) -> Res
     put_list(b'+', version.build(), output)
 }
 
-// Puts a hyphen and the identifiers of a next pre-release joined by dots, or nothing where there
-// are none.
-#[inline(always)]
-#[tactic(auto, using(crate::proofs::Bytes::extended))]
-fn put_next_ids(ids: NextIds<'_>, output: &mut Output) -> Result<(), AllocError>
-    ensures ok { OnOk result
-        (output.new ≡ output.old ++ marked_list (codes "-") ids.entry) }
-    ensures err { OnErr result (Extends output.old output.new) }
-{
-    let mut mark = b'-';
-    let mut others = ids;
-    'ids: while let Some(id) = others.next() {
-        output.push(mark)?;
-        put_id(id, output)?;
-        mark = b'.';
-    }
-    Ok(())
-}
-
 /// Puts a next version. Where an allocation fails, a part of it may be put.
 #[inline(always)]
 #[tactic(auto, using(crate::proofs::Bytes::extended))]
@@ -221,6 +189,13 @@ pub(crate) fn put_next_version(
     ensures err { OnErr result (Extends output.old output.new) }
 {
     put_release(version.major(), version.minor(), version.patch(), output)?;
-    put_next_ids(version.pre_release(), output)?;
+    // A hyphen stands before the first identifier, and a dot before each other one.
+    let mut mark = b'-';
+    let mut ids = version.pre_release();
+    'ids: while let Some(id) = ids.next() {
+        output.push(mark)?;
+        put_id(id, output)?;
+        mark = b'.';
+    }
     put_list(b'+', version.build(), output)
 }

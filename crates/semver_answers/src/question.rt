@@ -1,6 +1,6 @@
 // What lines ask about the versions and ranges of their fields.
 
-use crate::fields::{Behind, cut, cut_word};
+use crate::fields::{Behind, cut_word};
 use nodejs_semver::{IdentifierBase, OutsideDirection};
 
 /// What a line asks about a version V.

@@ -4,7 +4,7 @@ ghost use Rattle.std.specs.Prelude.{◌≡◌, ◌<◌, ◌++◌, [], true, leng
 ghost use Rattle.std.specs.Prelude.{IfSome, IfNone, IsUtf8, IfOk, IfErr, OnOk, OnErr};
 ghost use Rattle.std.specs.Io.KnownBytes.{Appends, IsAtEnd};
 ghost use Rattle.semver_answers.specs.Answers.{Answers};
-ghost use Rattle.semver_answers.specs.Lines.{last_line, no_feed};
+ghost use Rattle.semver_answers.specs.Lines.{no_feed};
 ghost use Rattle.semver_answers.specs.Outcome.{Ran};
 ghost use Rattle.semver_answers.specs.Internal.Ahead.{HasFeed, behind_line, ends_whole, first_line};
 ghost use Rattle.semver_answers.specs.Internal.Steps.{Finished, GrowsByAnswer, Stopped, Took};
@@ -42,15 +42,6 @@ struct Lines {
 }
 
 impl Lines {
-    fn new(alloc: Global) -> Lines
-        ensures { result.pending.items ≡ [] }
-    {
-        Lines {
-            pending: Vec::new(alloc),
-            output: Output::new(alloc),
-        }
-    }
-
     // Answers the pending line, which goes on and ends with these bytes.
     fn end_line(&mut self, alloc: Global, end: &[u8]) -> Result<(), AllocError>
         requires pending { no_feed self.old.pending.items ≡ true }
@@ -77,7 +68,7 @@ impl Lines {
         ensures { Took result self.old.pending.items chunk.now self.new.pending.items
             self.new.output }
     {
-        self.output.clear();
+        self.output.truncate(0);
         // Lines at the front of what is left are checked to be UTF-8 all at once.
         let mut text = "";
         let mut rest = chunk;
@@ -96,19 +87,6 @@ impl Lines {
             }
         }
     }
-
-    // Answers a last line that has no line feed, if it is not empty.
-    fn end(&mut self, alloc: Global) -> Result<(), AllocError>
-        requires { no_feed self.old.pending.items ≡ true }
-        ensures { OnOk result
-            (Answers (last_line self.old.pending.items) self.new.output) }
-    {
-        self.output.clear();
-        if self.pending.is_empty() {
-            return Ok(());
-        }
-        self.end_line(alloc, b"\n")
-    }
 }
 
 // The first line with its line feed, and what stands behind it; `None` where there is none.
@@ -123,25 +101,17 @@ fn first_line(bytes: &[u8]) -> Option<(&[u8], &[u8])>
 }
 
 // The longest text at the front of some bytes that is whole lines, and what stands behind it.
+#[tactic(auto, using(crate::proofs::Firsts::ends_none))]
 fn front_lines(bytes: &[u8]) -> (&str, &[u8])
     ensures whole { bytes.now ≡ result.0.now ++ result.1.now }
     ensures lines { ends_whole result.0.now ≡ true }
     ensures utf8 { IsUtf8 result.0.now }
 {
-    let (text, rest) = front_text(bytes);
+    let text = text_front(bytes);
     match memrchr(b'\n', text.as_bytes()) {
         Some(at) => (&text[..at + 1], &bytes[at + 1..]),
         None => ("", bytes),
     }
-}
-
-// The longest text at the front of some bytes, and what stands behind it.
-fn front_text(bytes: &[u8]) -> (&str, &[u8])
-    ensures whole { bytes.now ≡ result.0.now ++ result.1.now }
-    ensures utf8 { IsUtf8 result.0.now }
-{
-    let text = text_front(bytes);
-    (text, &bytes[text.len()..])
 }
 
 // Writes these bytes by calls of `write` alone. A call that accepts no byte is an error.
@@ -200,13 +170,17 @@ fn turn<R: Read, W: Write>(
     }
 }
 
-// Answers a last line that has no line feed.
+// Answers a last line that has no line feed, if it is not empty.
 fn finish<W: Write>(alloc: Global, writer: &mut W, lines: &mut Lines) -> Result<(), RunFault>
     requires { no_feed lines.old.pending.items ≡ true }
     ensures { Finished (W.contents writer.old)
         (W.contents writer.new) lines.old.pending.items result }
 {
-    match lines.end(alloc) {
+    lines.output.truncate(0);
+    if lines.pending.is_empty() {
+        return Ok(());
+    }
+    match lines.end_line(alloc, b"\n") {
         Ok(()) => write_out(writer, lines.output.as_slice()),
         Err(_) => Err(RunFault::Memory),
     }
@@ -225,7 +199,10 @@ pub fn run<R: Read, W: Write>(alloc: Global, reader: &mut R, writer: &mut W) -> 
 {
     match read_buffer(alloc) {
         Ok(mut buffer) => {
-            let mut lines = Lines::new(alloc);
+            let mut lines = Lines {
+                pending: Vec::new(alloc),
+                output: Output::new(alloc),
+            };
             run_turns(alloc, reader, writer, buffer.as_mut_slice(), &mut lines)
         }
         Err(_) => Err(RunFault::Memory),

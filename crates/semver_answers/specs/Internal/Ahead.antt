@@ -1,7 +1,8 @@
 -- For proofs. The first line of a text that holds lines, and the fields of that line.
-use Rattle.std.specs.Prelude.{◌≡◌, ◌==◌, ℕ, Bool, true, false, if◌then◌else◌, List, [], ◌∷◌, IsUtf8}
+use Rattle.std.specs.Prelude.{◌≡◌, ◌==◌, ℕ, Bool, true, if◌then◌else◌, List, [], ◌∷◌, IsUtf8}
 use Rattle.std.specs.Borrow.{Bor}
-use Rattle.semver_answers.specs.Lines.{fields, no_feed}
+pub use Rattle.semver_core.specs.Words.{HasFeed}
+use Rattle.semver_answers.specs.Lines.{fields}
 use Rattle.semver_answers.specs.declared.fields.Behind.{Behind}
 use Rattle.semver_answers.specs.declared.fields.Behind.TheVariants.{Fields, Lines}
 
@@ -13,10 +14,6 @@ first_line (c ∷ rest) = if c == 10 then [] else c ∷ first_line rest
 abbrev pub behind_line : List ℕ → List ℕ
 behind_line [] = []
 behind_line (c ∷ rest) = if c == 10 then rest else behind_line rest
-
--- a line feed stands in the text
-abbrev pub HasFeed : List ℕ → Type 0
-HasFeed text = no_feed text ≡ false
 
 -- the fields of its first line
 abbrev pub fields_ahead : List ℕ → List (List ℕ)

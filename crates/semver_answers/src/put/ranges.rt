@@ -87,7 +87,7 @@ pub(crate) fn put_bounds(
 }
 
 /// Puts a range. Where an allocation fails, a part of it may be put.
-#[tactic(auto, using(crate::proofs::Bytes::extended))]
+#[tactic(auto, using(crate::proofs::Bytes::extended, crate::proofs::Bytes::onward))]
 pub(crate) fn put_range(range: &RangeRef<'_>, output: &mut Output) -> Result<(), AllocError>
     ensures ok { OnOk result (output.new ≡ output.old ++ range_text range.now) }
     ensures err { OnErr result (Extends output.old output.new) }

@@ -5,15 +5,15 @@ use Rattle.semver_answers.proofs.fields.cut_word.Goals as goal
 
 pub mark_at-requires-clause-inside : goal.mark_at-requires-clause-inside
 mark_at-requires-clause-inside c =
-    let word = rw c.as_bytes.ensures.value at c.word_len-end.ensures in
-    before_mark c.args.text.now c.word_len-end.result c.requires word.inside word.plain
+    let word = c.bytes.invariant in
+    before_mark c.args.text.now c.bytes.end c.requires word.0 word.1
 
 pub mark_at-requires-clause-plain : goal.mark_at-requires-clause-plain
 mark_at-requires-clause-plain c =
-    unmarked (take c.word_len-end.result c.args.text.now) (rw c.as_bytes.ensures.value at c.word_len-end.ensures.plain)
+    unmarked (take c.bytes.end c.args.text.now) c.bytes.invariant.1
 
 pub range-requires-clause-end_boundary : goal.range-requires-clause-end_boundary
 range-requires-clause-end_boundary c =
-    let word = rw c.as_bytes.ensures.value at c.word_len-end.ensures in
-    let inside = before_mark c.args.text.now c.word_len-end.result c.requires word.inside word.plain in
-    IsCharBoundary-before_ascii c.args.text.now c.word_len-end.result inside c.in-Some.ensures.low
+    let word = c.bytes.invariant in
+    let inside = before_mark c.args.text.now c.bytes.end c.requires word.0 word.1 in
+    IsCharBoundary-before_ascii c.args.text.now c.bytes.end inside c.in-Some.ensures.low

@@ -1,4 +1,4 @@
-use Rattle.std.proofs.Common.{rules, take}
+use Rattle.std.proofs.Common.{take}
 use Rattle.std.proofs.lemmas.Result.{err_from_is_err_and}
 use Rattle.semver_answers.proofs.Steps.{turn_torn}
 use Rattle.semver_answers.proofs.run.turn.Goals as goal
@@ -9,9 +9,3 @@ returns-in_err-write_out-clause-fault g c =
     rw (p.1, p.2, c.in_err-write_out.ensures.fault) (turn_torn _ _ _ _ c.args.lines.now.pending.items
     (take c.in-Ok.n c.read.new.buf) _ _ _ c.take-taken.result c.in-Ok.ensures.bytes.0 c.take-taken.ensures
     c.as_slice.ensures c.in_err-write_out.ensures.err)
-
-pub returns-in_default-clause-fault : goal.returns-in_default-clause-fault
-returns-in_default-clause-fault g c = search rules
-
-pub returns-in-Err-clause-ok : goal.returns-in-Err-clause-ok
-returns-in-Err-clause-ok g c = search rules

@@ -9,23 +9,9 @@ range_from-requires c =
     λ _. behind_mark c.args.text.now (command_word c.in_ok-command.command) _ 59 c.in_ok-command.end c.utf8.text
     (rw c.as_bytes.ensures.value at c.in_ok-command.ensures.some) (omega arith) c.in_ok-command.ensures.end
 
-pub returns-clause-some : goal.returns-clause-some
-returns-clause-some c =
-    let word = command_word c.in_ok-command.command in
-    let rest = drop c.in_ok-command.end c.args.text.now in
+pub returns : goal.returns
+returns c =
+    let command = c.in_ok-command.command in
     let split = rw c.as_bytes.ensures.value at c.in_ok-command.ensures.some in
-    rw c.range_from.ensures.value (field_ends c.args.text.now word rest split (word_has_no_mark c.in_ok-command.command)).0
-
-pub returns-clause-next : goal.returns-clause-next
-returns-clause-next c =
-    let word = command_word c.in_ok-command.command in
-    let rest = drop c.in_ok-command.end c.args.text.now in
-    let split = rw c.as_bytes.ensures.value at c.in_ok-command.ensures.some in
-    rw c.range_from.ensures.value (field_ends c.args.text.now word rest split (word_has_no_mark c.in_ok-command.command)).1
-
-pub returns-clause-feed : goal.returns-clause-feed
-returns-clause-feed c =
-    let word = command_word c.in_ok-command.command in
-    let rest = drop c.in_ok-command.end c.args.text.now in
-    let split = rw c.as_bytes.ensures.value at c.in_ok-command.ensures.some in
-    rw c.range_from.ensures.value (sym (field_ends c.args.text.now word rest split (word_has_no_mark c.in_ok-command.command)).2 ∙ c.requires)
+    let f = field_ends c.args.text.now (command_word command) (drop c.in_ok-command.end c.args.text.now) split (word_has_no_mark command) in
+    rw c.range_from.ensures.value (record { some = f.0; next = f.1; feed = sym f.2 ∙ c.requires; none = tt })

@@ -1,7 +1,8 @@
 use Rattle.std.proofs.Common.{◌∷◌, ◌∙◌, ◌≡◌, ◌<◌, [], sym, ap, arith, length, append_assoc, ◌++◌, refl, rules}
+use Rattle.std.proofs.lemmas.List.{nil_from_length}
 use Rattle.std.proofs.lemmas.Result.{err_from_is_err_and}
 use Rattle.semver_answers.specs.Internal.Ahead.{behind_line, first_line}
-use Rattle.semver_answers.proofs.Firsts.{behind_shorter, divided, ends_none, nothing_in, whole_has, whole_next}
+use Rattle.semver_answers.proofs.Firsts.{behind_shorter, divided, ends_none, whole_has, whole_next}
 use Rattle.semver_answers.proofs.Steps.{taken_line, taken_none, taken_stop, took_end}
 use Rattle.semver_answers.proofs.run.Lines.take.Goals as goal
 
@@ -11,13 +12,13 @@ lines-init c = record {
   whole = ends_none;
   pending = c.requires;
   empty = λ some. absurd (omega (arith, some));
-  taken = taken_none _ _ _ c.clear.ensures;
+  taken = taken_none _ _ _ c.truncate.ensures;
 }
 
 pub returns-in_default : goal.returns-in_default
 returns-in_default c =
     let empty : length c.lines.text.now ≡ 0 = search rules in
-    took_end c.extend_from_slice.result _ _ _ _ _ _ (rw (nothing_in c.lines.text.now empty) at c.lines.invariant.taken) c.in_default.ensures.none
+    took_end c.extend_from_slice.result _ _ _ _ _ _ (rw (nil_from_length c.lines.text.now empty) at c.lines.invariant.taken) c.in_default.ensures.none
     c.extend_from_slice.ensures.items
 
 pub returns-in_err-end_line : goal.returns-in_err-end_line
@@ -33,7 +34,7 @@ lines-preserved-then-is_empty c =
     let split = divided line cut.feed in
     let next : c.lines.rest.now ≡ first_line line ++ 10 ∷ c.in-Some.behind.now =
     cut.some ∙ ap (λ l. l ++ c.in-Some.behind.now) (rw cut.last at split.0) ∙ append_assoc (first_line line) (10 ∷ []) c.in-Some.behind.now in
-    let before = rw (nothing_in c.lines.text.now empty) at c.lines.invariant.taken in
+    let before = rw (nil_from_length c.lines.text.now empty) at c.lines.invariant.taken in
     let ended = c.in_ok-end_line.ensures in
     record {
       utf8 = c.front_lines.ensures.utf8;
