@@ -22,7 +22,7 @@ use std::alloc::Global;
 #[derive(Drop)]
 pub(crate) struct Alternative<'a> {
     pub(crate) interval: Option<Interval<VersionRef<'a>>>,
-    pub(crate) is_bare: bool,
+    is_bare: bool,
     pub(crate) is_lost: bool,
 }
 
@@ -101,6 +101,18 @@ impl<'a> Alternative<'a> {
             is_bare: self.is_bare && is_bare,
             is_lost: self.is_lost,
         })
+    }
+
+    /// The alternative at its end: lost if it is bare and its ends are ignored.
+    pub(crate) fn ended(self, are_ends_ignored: bool) -> Alternative<'a>
+        ensures interval { result.interval ≡ self.entry.interval }
+        ensures lost { result.is_lost ≡ (self.entry.is_bare && are_ends_ignored) }
+    {
+        Alternative {
+            interval: self.interval,
+            is_bare: self.is_bare,
+            is_lost: self.is_bare && are_ends_ignored,
+        }
     }
 }
 

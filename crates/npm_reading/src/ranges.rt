@@ -62,9 +62,7 @@ fn words(loose: bool, include: bool, text: &[u8]) -> Option<Alternative<'_>>
         is_last_ignored = is_ignored;
         rest = behind;
     }
-    let are_ends_ignored = is_last_ignored && word_front(loose, text).is_none();
-    all.is_lost = all.is_bare && are_ends_ignored;
-    Some(all)
+    Some(all.ended(is_last_ignored && word_front(loose, text).is_none()))
 }
 
 // The alternative between two ends of a hyphen range.

@@ -1,4 +1,4 @@
-use Rattle.{nodejs_semver.proofs.Common.{ap, arith, length, refl, rules, sym, ◌<◌, ◌∙◌}, npm_reading.proofs.Grammar.RangeReads.{view-none, word-next, word-none}}
+use Rattle.{nodejs_semver.proofs.Common.{ap, arith, length, sym, ◌<◌, ◌∙◌}, npm_reading.proofs.Grammar.RangeReads.{view-none, word-next, word-none}}
 use Rattle.npm_reading.proofs.{Grammar.{RangeReads.words-all, WordLoop.words-begin}, ranges.words.Goals.{else-is_last_ignored, then-is_last_ignored}}
 use Rattle.{npm_reading.specs.declared.alternatives.Alternative.Alternative, npm_words.proofs.Common.{capped_in, signed_word}}
 use Rattle.{npm_words.proofs.Grammar.{Characters.empty-length, PartialLaw.front-some}, std.specs.Prelude.is_none}
@@ -30,13 +30,13 @@ words-preserved c =
 pub returns : goal.returns
 returns c =
     let all : Alternative = record { interval = c.words.all.0; is_bare = c.words.all.1.0; is_lost = c.words.all.1.1.0 } in
-    words-all c.args.loose c.args.include c.args.text.now c.words.rest.now all _ c.words.invariant _ c.if-is_last_ignored.are_ends_ignored c.requires
-    (empty-length c.words.rest.now ∙ sym c.is_empty.ensures ∙ c.words-test.false) refl (search rules)
+    words-all c.args.loose c.args.include c.args.text.now c.words.rest.now all _ c.words.invariant c.ended.result c.if-is_last_ignored.ended c.requires
+    (empty-length c.words.rest.now ∙ sym c.is_empty.ensures ∙ c.words-test.false) c.ended.ensures.interval c.ended.ensures.lost
     (λ k. elim c.if-is_last_ignored.branch [
       | then-is_last_ignored w ↦ cc (k, w.if-is_last_ignored.true)
-      | else-is_last_ignored w ↦ w.are_ends_ignored-is ∙ k
+      | else-is_last_ignored w ↦ w.ended-is ∙ k
     ])
     (λ k. elim c.if-is_last_ignored.branch [
-      | then-is_last_ignored w ↦ w.are_ends_ignored-is ∙ view-none w.word_front.result w.is_none-are_ends_ignored.result w.is_none-are_ends_ignored.ensures ∙ ap is_none w.word_front.ensures ∙ front-some capped_in (signed_word c.args.loose c.args.text.now)
+      | then-is_last_ignored w ↦ w.ended-is ∙ view-none w.word_front.result w.is_none.result w.is_none.ensures ∙ ap is_none w.word_front.ensures ∙ front-some capped_in (signed_word c.args.loose c.args.text.now)
       | else-is_last_ignored w ↦ cc (k, w.if-is_last_ignored.false)
     ])
