@@ -1,8 +1,8 @@
 -- The alternatives of a range text, read one after another, and what their intervals accept.
 use Rattle.nodejs_semver.proofs.Common.{Bool, Bor, Err, Failure, IfSome, IsCutAtBars, IsRange, IsUtf8, List, MAX_SAFE_INTEGER, Memory, MemoryOnlyIf}
 use Rattle.nodejs_semver.proofs.Common.{None, Ok, Option, Refused, Result, Some, Span, VersionValue, [], accepts, and-false, and_parts, ap}
-use Rattle.nodejs_semver.proofs.Common.{append-nil, append_assoc, arith, cases_Bool, common_steps, cond_both, cond_some, drop_spaces, false, holds}
-use Rattle.nodejs_semver.proofs.Common.{if◌then◌else◌, inl, inr, interval, is_empty, is_interval, is_range_span, is_some, later_parts, length}
+use Rattle.nodejs_semver.proofs.Common.{append-nil, append_assoc, arith, cases_Bool, common_steps, cond_both, cond_some, drop_spaces, false}
+use Rattle.nodejs_semver.proofs.Common.{if◌then◌else◌, inl, inr, is_empty, is_interval, is_range_span, is_some, later_parts, length}
 use Rattle.nodejs_semver.proofs.Common.{length-append, list_all, list_all-append, nat_tests, not, not-true, option_to_list, parts, precedence, refl}
 use Rattle.nodejs_semver.proofs.Common.{same_Some, subst, sym, true, ℕ, ◌&&◌, ◌++◌, ◌+◌, ◌<◌, ◌∙◌, ◌∷◌, ◌≡◌, ◌≤◌}
 use Rattle.npm_reading.proofs.Grammar.{Intervals.{narrowed-interval, range_accepts, ranged-found}, WordLoop.{AreWordsTo, first-none, valid-found}}

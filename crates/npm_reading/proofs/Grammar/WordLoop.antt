@@ -1,7 +1,7 @@
 -- The words of an alternative whose comparators are valid, one after another.
 use Rattle.nodejs_semver.proofs.Common.{Bool, IsUtf8, List, MAX_SAFE_INTEGER, None, Option, Some, Span, VersionValue, [], ap, append-nil}
 use Rattle.nodejs_semver.proofs.Common.{append_assoc, arith, bind_some, common_steps, cond_some, false, is_empty, length, list_all, list_all-append}
-use Rattle.nodejs_semver.proofs.Common.{nat_lt, nat_tests, prefix_len, refl, same_Some, subst, sym, true, ℕ, ◌&&◌, ◌++◌, ◌-◌, ◌<◌, ◌∙◌, ◌∷◌, ◌≡◌}
+use Rattle.nodejs_semver.proofs.Common.{nat_lt, nat_tests, prefix_len, refl, same_Some, subst, sym, true, ℕ, ◌&&◌, ◌++◌, ◌<◌, ◌∙◌, ◌∷◌, ◌≡◌}
 use Rattle.npm_reading.specs.Internal.{Alternatives.NarrowedBy, Reads.{first_valid, valid_all, valid_first, words_of}}
 use Rattle.{npm_reading.specs.declared.alternatives.Alternative.Alternative, npm_words.proofs.Common.{Comparison, IsNarrowed, comparators_of}}
 use Rattle.npm_words.proofs.{Common.{first_word, is_valid, signed_word, words_within}, Grammar.{VersionLaw.empty-is, Words.{FirstAt, first-found}}}
