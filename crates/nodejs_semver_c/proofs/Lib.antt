@@ -12,5 +12,6 @@ mod Printing
 mod Putting
 mod Ranging
 mod Reading
+mod Releases
 mod Sorting
 mod Spanning

@@ -28,11 +28,8 @@ use Rattle.semver_core.specs.declared.TheConstants.{MAX_LENGTH, MAX_SAFE_INTEGER
 use Rattle.npm_words.proofs.Grammar.VersionLaw.{digits_printed}
 use Rattle.npm_words.specs.Grammar.{has_leading_zero, is_strict_list}
 use Rattle.npm_words.specs.Internal.Readings.{is_strict_identifier}
-use Rattle.nodejs_semver_c.specs.Answers.{IsVersionOf}
-use Rattle.nodejs_semver_c.specs.Internal.Common.{AreLists, IsCommonText}
-use Rattle.nodejs_semver_c.specs.Kept.{kept_value, list_text}
-use Rattle.nodejs_semver_c.specs.declared.kept.Version.{Version}
-use Rattle.nodejs_semver_c.specs.declared.TheConstants.{READING_PORT}
+use Rattle.nodejs_semver_c.specs.Internal.Common.{AreLists}
+use Rattle.nodejs_semver_c.specs.Kept.{list_text}
 
 -- ---- the lists
 
@@ -67,10 +64,10 @@ digits_ascii (d ∷ ds) h =
     let both = and_parts (is_ascii_digit d) (list_all is_ascii_digit ds) h in
     IsAscii-cons d ds (grind (arith, nat_tests, both.0)) (digits_ascii ds both.1)
 
-number_utf8 : (limit : ℕ) (ds : List ℕ) (n : ℕ) → IsNumber limit ds n → IsUtf8 ds
+pub number_utf8 : (limit : ℕ) (ds : List ℕ) (n : ℕ) → IsNumber limit ds n → IsUtf8 ds
 number_utf8 limit ds n h = IsUtf8-from_ascii ds (digits_ascii ds h.each)
 
-marked_utf8 : (c : ℕ) (text : List ℕ) → c < 128 → IsUtf8 text → IsUtf8 (c ∷ text)
+pub marked_utf8 : (c : ℕ) (text : List ℕ) → c < 128 → IsUtf8 text → IsUtf8 (c ∷ text)
 marked_utf8 c text small u =
     IsUtf8-append (c ∷ []) text (IsUtf8-from_ascii (c ∷ []) (IsAscii-cons c [] small IsAscii-nil)) u
 
@@ -172,10 +169,6 @@ list_printed [] h strict = refl
 list_printed (c ∷ rest) h strict =
     joined (map identifier_of (pieces (c ∷ rest))) ∙ ap (join_with_byte 46) (all_printed (pieces (c ∷ rest)) h strict)
     ∙ join_with_byte-slice_split 46 (c ∷ rest)
-
-pub common_version : (reading : ℕ) (text : List ℕ) (p : Version) → reading ≡ READING_PORT → IsCommonText text p
-    → IsVersionOf reading text (kept_value p)
-common_version reading text p e h = rw e (h.0, h.1)
 
 pub nothing_printed : (text : List ℕ) → text ≡ [] → list_text (listed text) ≡ text
 unfolding listed

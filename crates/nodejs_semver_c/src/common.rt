@@ -1,6 +1,6 @@
 // Common texts of versions, read from their bytes.
 
-ghost use Rattle.nodejs_semver_c.specs.Internal.Common.{AreLists, IsCommonText};
+ghost use Rattle.nodejs_semver_c.specs.Internal.Common.{AreLists, IsCommonText, IsReleaseText};
 ghost use Rattle.npm_words.specs.Grammar.{is_strict_list};
 ghost use Rattle.npm_words.specs.Internal.Readings.{is_strict_identifier};
 ghost use Rattle.std.specs.Char.{is_ascii_digit};
@@ -31,6 +31,30 @@ pub fn common(text: &[u8]) -> Option<Version<'_>>
         patch,
         pre_release,
         build,
+    })
+}
+
+/// The release that a whole text is, with no mark before it and without leading zeros: it is so in
+/// each reading, and prints as the text. `None` is returned for others, of which some are versions.
+#[inline(always)]
+pub fn release(text: &[u8]) -> Option<Version<'_>>
+    ensures { IfSome result (IsReleaseText text.now) }
+{
+    if text.len() > MAX_LENGTH {
+        return None;
+    }
+    let (major, rest) = number_front(false, text)?;
+    let (minor, rest) = dotted_number(false, rest)?;
+    let (patch, rest) = dotted_number(false, rest)?;
+    if !rest.is_empty() {
+        return None;
+    }
+    Some(Version {
+        major,
+        minor,
+        patch,
+        pre_release: b"",
+        build: b"",
     })
 }
 

@@ -16,13 +16,13 @@ ghost use Rattle.semver_core.specs.declared.difference.VersionDiff.TheVariants.{
 ghost use Rattle.std.specs.Prelude.{◌&&◌, ◌++◌, ◌<◌, ◌==◌, ◌^◌, ◌≡◌, ◌⊎◌, IfErr, IfOk, OnOk};
 ghost use Rattle.std.specs.Prelude.{if◌then◌else◌, length, not, true};
 
-use crate::common::{common, is_printed};
+use crate::common::is_printed;
 use crate::dotted::{cmp_lists, cmp_pre};
 use crate::pieces::{put_bytes, put_ids};
 use crate::print::{Printed, counted, print};
 use crate::read::{self, MOST_BYTES};
 use crate::versions::{kind_of, number_of};
-use crate::{BAD_VERSION, OK, READING_PORT, TOO_LONG, TOO_SMALL};
+use crate::{BAD_VERSION, OK, TOO_LONG, TOO_SMALL};
 use nodejs_semver::{IdentifierRefs, VersionDiff, VersionRef, Versioned};
 use semver_core::scan;
 use std::cmp::Ordering;
@@ -176,8 +176,7 @@ pub extern "C" fn nodejs_semver_version_read(
         OnVersion reading version.now result same (λ v.
         TellsVersion v parts.old parts.new out.old out.new result) }
 {
-    if reading == READING_PORT
-        && let Some(version) = common(version)
+    if let Some(version) = read::common_version(reading, version)
         && is_printed(version.pre_release)
         && is_printed(version.build)
     {

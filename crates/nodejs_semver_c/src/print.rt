@@ -6,7 +6,7 @@ ghost use Rattle.nodejs_semver_c.specs.Internal.Pieces.{Adds};
 ghost use Rattle.semver_core.specs.Printing.Text.{version_text};
 ghost use Rattle.std.specs.Prelude.{◌≡◌, ◌-◌, ◌^◌, ℕ, List, length, min};
 
-use crate::pieces::{put, put_range, put_version};
+use crate::pieces::{put, put_bytes, put_range, put_version};
 use crate::read::MOST_BYTES;
 use crate::{NOTHING, OK, TOO_LONG, TOO_SMALL};
 use nodejs_semver::{RangeRef, Version, VersionRef};
@@ -53,6 +53,19 @@ impl<'a> Printed for Text<'a> {
 
     fn put(&self, out: &mut [u8], len: &mut usize) {
         put(self.0, out, len);
+    }
+}
+
+/// Bytes that are printed as they are.
+#[derive(Drop)]
+pub struct Bytes<'a>(pub &'a [u8]);
+
+impl<'a> Printed for Bytes<'a> {
+    ghost text = { λ t. t.0.now };
+
+    #[inline(always)]
+    fn put(&self, out: &mut [u8], len: &mut usize) {
+        put_bytes(self.0, out, len);
     }
 }
 

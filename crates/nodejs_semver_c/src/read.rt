@@ -3,13 +3,17 @@
 ghost use Rattle.nodejs_semver_c.specs.Answers.{IsRangeOf, IsVersionOf};
 ghost use Rattle.nodejs_semver_c.specs.Answers.{RefusesRange, RefusesText, RefusesVersion};
 ghost use Rattle.nodejs_semver_c.specs.Internal.Failures.{IsFailure};
+ghost use Rattle.nodejs_semver_c.specs.Kept.{kept_value};
 ghost use Rattle.nodejs_semver_c.specs.Readings.{IsWide, Spells, SpellsNoRange, SpellsRange};
 ghost use Rattle.nodejs_semver_c.specs.Readings.{WantsMemory, reading_of};
 ghost use Rattle.semver_core.specs.Failures.{NoValue};
-ghost use Rattle.std.specs.Prelude.{◌≡◌, ◌⊎◌, IfErr, IfOk, IsTrue, IsUtf8, false};
+ghost use Rattle.semver_core.specs.Printing.Text.{version_text};
+ghost use Rattle.semver_core.specs.Text.Identifiers.{is_listed};
+ghost use Rattle.semver_core.specs.Values.Versions.{VersionValue};
+ghost use Rattle.std.specs.Prelude.{◌≡◌, ◌⊎◌, IfErr, IfOk, IfSome, IsTrue, IsUtf8, false, true};
 
-use crate::common::common;
-use crate::kept::lent;
+use crate::common::{common, release};
+use crate::kept::{Version, lent};
 use crate::{
     BAD_ARGUMENT, BAD_RANGE, BAD_VERSION, NO_MEMORY, NOT_UTF8, READING_NPM, READING_NPM_LOOSE,
     READING_PORT, TOO_LONG,
@@ -142,15 +146,35 @@ impl Grammar {
     }
 }
 
+/// The version of a text that most versions have, or `None`. What it is depends on the reading.
+#[inline(always)]
+pub fn common_version(reading: u32, bytes: &[u8]) -> Option<Version<'_>>
+    ensures { IfSome result (λ p. IsVersionOf reading bytes.now (kept_value p)
+        × (is_listed p.pre_release.now ≡ true) × (is_listed p.build.now ≡ true)) }
+{
+    match reading {
+        READING_PORT => common(bytes),
+        _ if reading <= READING_NPM_LOOSE => release(bytes),
+        _ => None,
+    }
+}
+
+/// Whether a text is one of a release that prints as the text.
+#[inline(always)]
+pub fn is_printed_release(reading: u32, bytes: &[u8]) -> bool
+    ensures { IsTrue result → (v : VersionValue) × IsVersionOf reading bytes.now v
+        × (version_text v ≡ bytes.now) }
+{
+    reading <= READING_NPM_LOOSE && release(bytes).is_some()
+}
+
 /// The version of a text, or the status that rejects it.
 #[inline(always)]
 pub fn version(reading: u32, bytes: &[u8]) -> Result<VersionRef<'_>, u32>
     ensures ok { IfOk result (IsVersionOf reading bytes.now) }
     ensures refused { IfErr result (RefusesVersion reading bytes.now) }
 {
-    if reading == READING_PORT
-        && let Some(version) = common(bytes)
-    {
+    if let Some(version) = common_version(reading, bytes) {
         return Ok(lent(&version));
     }
     let version = any_version(reading, bytes)?;

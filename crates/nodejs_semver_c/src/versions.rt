@@ -14,7 +14,7 @@ ghost use Rattle.std.specs.List.{starts_with};
 ghost use Rattle.std.specs.Prelude.{◌≡◌, ⊤, IfErr, IfNone, IfOk, IfSome, List, ℕ, Ok, Some, codes};
 ghost use Rattle.std.specs.Prelude.{nat_eq};
 
-use crate::print::print;
+use crate::print::{Bytes, print};
 use crate::{
     BAD_ARGUMENT, BAD_IDENTIFIER, BASE_NONE, BASE_ONE, BASE_ZERO, KIND_MAJOR, KIND_MINOR,
     KIND_NONE, KIND_PATCH, KIND_PREMAJOR, KIND_PREMINOR, KIND_PREPATCH, KIND_PRERELEASE, NO_MEMORY,
@@ -53,6 +53,9 @@ pub extern "C" fn nodejs_semver_version_print(
     ensures { OnVersion reading version.now result (Kept out.old out.new len.old len.new)
         (λ v. Prints (version_text v) out.old out.new len.old len.new result) }
 {
+    if read::is_printed_release(reading, version) {
+        return print(&Bytes(version), out, len);
+    }
     match read::version(reading, version) {
         Ok(version) => print(&version, out, len),
         Err(status) => status,

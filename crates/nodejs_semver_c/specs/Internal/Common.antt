@@ -1,11 +1,13 @@
 -- For proofs and private contracts. Common texts of versions.
-use Rattle.std.specs.Prelude.{◌≡◌, ◌++◌, IsUtf8, List, [], Ok, Some, ℕ, true}
+use Rattle.std.specs.Prelude.{◌≡◌, ◌++◌, Bool, IsUtf8, List, [], Ok, Some, ℕ, true}
 use Rattle.semver_core.specs.Increments.Table.{answer_of_inc}
+use Rattle.semver_core.specs.Printing.Text.{version_text}
 use Rattle.semver_core.specs.Text.Identifiers.{is_listed, listed}
 use Rattle.semver_core.specs.Text.Parsing.{Parses}
 use Rattle.semver_core.specs.Text.VersionText.{IsBuild, IsPreRelease}
 use Rattle.semver_core.specs.declared.increment.IdentifierBase.{IdentifierBase}
 use Rattle.semver_core.specs.declared.TheConstants.{MAX_SAFE_INTEGER}
+use Rattle.npm_words.specs.VersionText.{IsVersionTextIn}
 use Rattle.nodejs_semver_c.specs.Kept.{kept_value}
 use Rattle.nodejs_semver_c.specs.declared.kept.Version.{Version}
 
@@ -17,6 +19,12 @@ AreLists text pre build = (p b : List ℕ) × (text ≡ p ++ b) × IsPreRelease 
 -- the text is UTF-8 and read as this version, with nothing left over
 abbrev pub IsCommonText : List ℕ → Version → Type 0
 IsCommonText text p = IsUtf8 text × Parses MAX_SAFE_INTEGER text (kept_value p)
+    × (is_listed p.pre_release.now ≡ true) × (is_listed p.build.now ≡ true)
+
+-- the text is UTF-8, in each reading it is this version, and the version prints as it
+abbrev pub IsReleaseText : List ℕ → Version → Type 0
+IsReleaseText text p = IsUtf8 text × Parses MAX_SAFE_INTEGER text (kept_value p)
+    × ((loose : Bool) → IsVersionTextIn loose MAX_SAFE_INTEGER text (kept_value p)) × (version_text (kept_value p) ≡ text)
     × (is_listed p.pre_release.now ≡ true) × (is_listed p.build.now ≡ true)
 
 -- the word, and the next release by it, whatever the identifier and the base are
