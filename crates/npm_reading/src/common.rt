@@ -180,8 +180,8 @@ fn push_between<'a>(bounds: Bounds<'a>, found: &mut Intervals<VersionRef<'a>>) -
     Ok(())
 }
 
-// Adds the interval of a part that has these bounds, where the lower cut is below the upper one, and
-// returns what follows the part. Mostly the numbers say that it is.
+// Adds the interval of a part that has these bounds, where the lower cut is below the upper one,
+// and returns what follows the part. Mostly the numbers say that it is.
 #[inline(always)]
 fn push_read<'a>(
     bounds: Option<Bounds<'a>>,

@@ -1,8 +1,8 @@
 // Versions made of parts, taken apart and copied.
 
 ghost use Rattle.std.specs.List.{list_all};
-ghost use Rattle.std.specs.Prelude.{[], IfErr, IfOk, IsOk, length, OnErr, true, ◌+◌, ◌<◌, ◌==◌, ◌∷◌};
-ghost use Rattle.std.specs.Prelude.{◌≡◌, ◌⊎◌};
+ghost use Rattle.std.specs.Prelude.{[], IfErr, IfOk, IsOk, length, OnErr, true, ◌+◌, ◌<◌, ◌==◌};
+ghost use Rattle.std.specs.Prelude.{◌∷◌, ◌≡◌, ◌⊎◌};
 ghost use Rattle.semver_core.specs.Text.Identifiers as id;
 ghost use Rattle.semver_core.specs.Text.Identifiers.{is_listed, listed};
 ghost use Rattle.semver_core.specs.Values.Memory.{takes_memory};
