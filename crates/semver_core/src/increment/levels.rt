@@ -7,9 +7,8 @@ ghost use Rattle.semver_core.specs.Internal.IncrementSteps as steps;
 
 use crate::increment::next::NextVersion;
 use crate::increment::next_ids::NextIds;
-use crate::increment::parts_ref::PartsRef;
 use crate::increment::pre_release::{advance, is_kept};
-use crate::increment::{IdentifierBase, IncrementError, one_more, refused_argument};
+use crate::increment::{IdentifierBase, IncrementError, PartsRef, one_more, refused_argument};
 use crate::{Failure, IdentifierRefs};
 use std::alloc::Global;
 
@@ -65,13 +64,20 @@ fn release_after<'a>(
 {
     let (major, minor, patch) = (version.major, version.minor, version.patch);
     let stays = own && !version.pre_release.is_empty();
-    Ok(match level {
-        Level::Major if stays && minor == 0 && patch == 0 => version.with_numbers(major, 0, 0),
-        Level::Major => version.with_numbers(one_more(major)?, 0, 0),
-        Level::Minor if stays && patch == 0 => version.with_numbers(major, minor, 0),
-        Level::Minor => version.with_numbers(major, one_more(minor)?, 0),
-        Level::Patch if stays => version.with_numbers(major, minor, patch),
-        Level::Patch => version.with_numbers(major, minor, one_more(patch)?),
+    let (major, minor, patch) = match level {
+        Level::Major if stays && minor == 0 && patch == 0 => (major, 0, 0),
+        Level::Major => (one_more(major)?, 0, 0),
+        Level::Minor if stays && patch == 0 => (major, minor, 0),
+        Level::Minor => (major, one_more(minor)?, 0),
+        Level::Patch if stays => (major, minor, patch),
+        Level::Patch => (major, minor, one_more(patch)?),
+    };
+    Ok(PartsRef {
+        major,
+        minor,
+        patch,
+        pre_release: IdentifierRefs::of_items(&[]),
+        build: version.build.copy(),
     })
 }
 
@@ -95,7 +101,7 @@ fn release<'a>(
 fn release_of<'a>(version: PartsRef<'a>) -> NextVersion<'a>
     ensures { result ≡ spec.release_of (parts_ref_value version.entry) }
 {
-    NextVersion::of(version, NextIds::of(IdentifierRefs::none(), None, 0))
+    NextVersion::of(version, NextIds::of(IdentifierRefs::of_items(&[]), None, 0))
 }
 
 // The pre-release of the same numbers that comes next.

@@ -58,7 +58,7 @@ impl<'a> NextIds<'a> {
     {
         NextIds {
             asked: Some(id),
-            ids: IdentifierRefs::none(),
+            ids: IdentifierRefs::of_items(&[]),
             number: match base {
                 IdentifierBase::False => None,
                 IdentifierBase::Value(_) => Some(first_number(base)),
