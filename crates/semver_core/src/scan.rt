@@ -5,7 +5,7 @@
 //! the bytes, save `number_in`, which takes a place.
 
 ghost use Rattle.std.specs.Prelude.{◌≡◌, ◌≤◌, ◌+◌, ◌-◌, ◌*◌, ◌<◌, ℕ, drop, IfNone, IfOk};
-ghost use Rattle.semver_core.specs.Words.{false, begins, digits_end, digits_from, drop_end_spaces};
+ghost use Rattle.semver_core.specs.Words.{false, begins, digits_end, digits_from};
 ghost use Rattle.semver_core.specs.Words.{goes_on, grown, Id, id_view, identifier_of, ids_view};
 ghost use Rattle.semver_core.specs.Words.{IfSome, is_identifier_char, is_whitespace, IsListAdded};
 ghost use Rattle.semver_core.specs.Words.{IsAfterBlank, IsCharBoundary, IsLongestIdentifiers};
@@ -91,15 +91,8 @@ fn trim_both(text: &str) -> &str
     ensures middle { IsTrim text.now result.now }
 {
     let start = skip_whitespace(text, 0);
-    trim_end(&text[start..])
-}
-
-// The text without the whitespace at its end.
-fn trim_end(text: &str) -> &str
-    ensures { result.now ≡ drop_end_spaces text.now }
-{
-    let mut rest = text;
-    let mut before = text.chars();
+    let mut rest = &text[start..];
+    let mut before = rest.chars();
     'spaces: while let Some(character) = before.next_back() {
         if !is_whitespace_code(u32::from(character)) {
             return rest;

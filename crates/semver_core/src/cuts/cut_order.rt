@@ -42,17 +42,3 @@ pub(crate) fn lesser_upper<'b, V: Ord>(a: &'b Bound<V>, b: &'b Bound<V>) -> &'b 
 {
     if a.cmp_upper(b).is_gt() { b } else { a }
 }
-
-/// The lower bound that is further up; on a tie, the second. The other one is dropped.
-pub(crate) fn into_greater_lower<V: Ord + Drop>(a: Bound<V>, b: Bound<V>) -> Bound<V>
-    ensures { result ≡ greater_lower V.cmp a b }
-{
-    if a.cmp_lower(&b).is_gt() { a } else { b }
-}
-
-/// The upper bound that is further down; on a tie, the first. The other one is dropped.
-pub(crate) fn into_lesser_upper<V: Ord + Drop>(a: Bound<V>, b: Bound<V>) -> Bound<V>
-    ensures { result ≡ lesser_upper V.cmp a b }
-{
-    if a.cmp_upper(&b).is_gt() { b } else { a }
-}

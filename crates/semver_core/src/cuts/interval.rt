@@ -6,10 +6,9 @@ ghost use Rattle.semver_core.specs.Words.{left_above, left_below, lower_cut, mee
 ghost use Rattle.semver_core.specs.Words.{option_holds, remainders, true, upper_cut};
 
 use crate::cuts::bound::{Bound, Point};
-use crate::cuts::cut_order::{
-    greater_lower, into_greater_lower, into_lesser_upper, is_below, lesser_upper, lies_below,
-};
+use crate::cuts::cut_order::{greater_lower, is_below, lesser_upper, lies_below};
 use std::alloc::{AllocError, Global};
+use std::cmp;
 use std::marker::Model;
 
 /// The points between a lower and an upper bound. The cut of the lower bound is below that of the
@@ -188,8 +187,8 @@ impl<V: Point> Interval<V> {
         if !self.meets(&other) {
             return Err((self, other));
         }
-        let lower = into_greater_lower(self.lower, other.lower);
-        let upper = into_lesser_upper(self.upper, other.upper);
+        let lower = cmp::max_by(self.lower, other.lower, Bound::cmp_lower);
+        let upper = cmp::min_by(self.upper, other.upper, Bound::cmp_upper);
         Ok(Interval { lower, upper })
     }
 

@@ -32,7 +32,11 @@ pub(super) fn by_word<'a>(
         "prepatch" => Some(Level::Patch),
         "prerelease" if version.pre_release.is_empty() => Some(Level::Patch),
         "prerelease" | "pre" => None,
-        "release" => return release(alloc, version),
+        "release" if version.pre_release.is_empty() => {
+            let text = release_of(version).to_version(alloc)?.to_string(alloc)?;
+            return Err(Failure::Refused(IncrementError::NotAPrerelease(text)));
+        }
+        "release" => return Ok(release_of(version)),
         _ => return Err(refused_argument(alloc, word)),
     };
     let start = match level {
@@ -79,21 +83,6 @@ fn release_after<'a>(
         pre_release: IdentifierRefs::of_items(&[]),
         build: version.build.copy(),
     })
-}
-
-fn release<'a>(
-    alloc: Global,
-    version: PartsRef<'a>,
-) -> Result<NextVersion<'a>, Failure<IncrementError>>
-    ensures { steps.IsAnswer (steps.by_release (parts_ref_value version.entry)) result }
-{
-    let is_release = version.pre_release.is_empty();
-    let release = release_of(version);
-    if is_release {
-        let text = release.to_version(alloc)?.to_string(alloc)?;
-        return Err(Failure::Refused(IncrementError::NotAPrerelease(text)));
-    }
-    Ok(release)
 }
 
 // The release of the same numbers.

@@ -1,9 +1,0 @@
-use Rattle.semver_core.proofs.Common.{length, ◌≡◌}
-use Rattle.semver_core.proofs.Text.Trims.{Shortened}
-use Rattle.semver_core.proofs.scan.trim_end.Given as goal
-
-abbrev pub invariant-spaces : goal.invariant-spaces
-invariant-spaces l = record { shortened : Shortened l.text l.rest; left : l.before.rest.now ≡ l.rest }
-
-abbrev pub decreases-spaces : goal.decreases-spaces
-decreases-spaces l = length l.rest
