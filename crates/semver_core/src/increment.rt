@@ -1,7 +1,6 @@
 // Increments: the next version by a word, as release tools ask for it.
 
-ghost use Rattle.std.specs.Prelude.{◌≡◌, ◌≢◌, codes, if◌then◌else◌, nat_eq};
-ghost use Rattle.std.specs.List.{starts_with};
+ghost use Rattle.std.specs.Prelude.{◌≡◌, ◌≢◌, if◌then◌else◌};
 ghost use Rattle.semver_core.specs.Words.{False, fault_of, HasIdentifiers, IfOk, MayAllocate};
 ghost use Rattle.semver_core.specs.Words.{MemoryOnlyIf, OnErr, option_copied, parts_ref_value};
 ghost use Rattle.semver_core.specs.Words.{RefusedWith, Returns, Value};
@@ -141,14 +140,6 @@ fn check(alloc: Global, id: &str, base: IdentifierBase) -> Result<(), Failure<In
     }
 }
 
-// Whether a word begins with `pre`.
-#[inline(always)]
-fn begins_pre(word: &str) -> bool
-    ensures { result ≡ starts_with nat_eq word.now (codes "pre") }
-{
-    word.starts_with("pre")
-}
-
 // The version that a word is asked of: its five values, the identifiers where they stand.
 #[derive(Drop)]
 struct PartsRef<'a> {
@@ -188,7 +179,7 @@ fn next_of<'a>(
 {
     let id = identifier.unwrap_or("");
     let base = base.unwrap_or_default();
-    if begins_pre(word) {
+    if word.as_bytes().starts_with(b"pre") {
         check(alloc, id, base)?;
     }
     by_word(alloc, version, word, id, base)
