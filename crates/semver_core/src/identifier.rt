@@ -3,7 +3,7 @@
 ghost use Rattle.std.specs.Prelude.{◌≡◌, ◌≢◌, ◌<◌};
 ghost use Rattle.semver_core.specs.Words.{ℕ, eq_by_cmp_equiv, id_alike, id_cmp, id_total, id_view};
 ghost use Rattle.semver_core.specs.Words.{id_writes, ids_view, IfOk, is_eq};
-ghost use Rattle.semver_core.specs.Words.{is_ascii_digit, is_identifier_char, is_listed, length};
+ghost use Rattle.semver_core.specs.Words.{is_ascii_digit, is_listed, length};
 ghost use Rattle.semver_core.specs.Words.{list_all, Numeric};
 ghost use Rattle.semver_core.specs.Words.{on_equiv, on_per, on_po, on_total, OnErr};
 ghost use Rattle.semver_core.specs.Words.{partial_equiv_from_equiv, po, refl, Some};
@@ -58,13 +58,6 @@ impl Identifier {
     {
         text.is_empty() || (scan::begins_identifier(text) && scan::list_len(text) == text.len())
     }
-}
-
-// Whether each byte is a character of identifiers.
-pub(crate) fn is_run(text: &[u8]) -> bool
-    ensures { result ≡ list_all is_identifier_char text.now }
-{
-    text.iter().all(|byte| scan::is_identifier_char(*byte))
 }
 
 // Whether each byte is a digit.

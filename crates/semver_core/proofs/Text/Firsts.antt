@@ -3,7 +3,9 @@ use Rattle.semver_core.proofs.Common.{is_empty, Id, identifier_of, is_identifier
 use Rattle.semver_core.proofs.Common.{Some, [], add-one, add_comm, ap, arith, drop, eqb, false, inl, inr, length, refl, sym, take}
 use Rattle.semver_core.proofs.Common.{true, zero-add, ℕ, ◌+◌, ◌<◌, ◌∙◌, ◌∷◌, ◌≡◌, ◌≤◌, nat_tests, cases_Bool, eqb-true, drop-drop}
 use Rattle.semver_core.proofs.Common.{slice_cmp, list_all, onto_first, ◌==◌, Equal, Greater, Less, number_of_run, run_from, map}
-use Rattle.semver_core.{specs.Internal.CommonReading.run_len, proofs.Text.Digits.{scan_end, scan_fits}}
+use Rattle.semver_core.proofs.Common.{AlphaNumeric, None, begins, is_identifier_char, is_normal, is_u64_text, ltb, not, take_all, ◌&&◌}
+use Rattle.std.specs.Option.{is_none}
+use Rattle.semver_core.{specs.Internal.CommonReading.{id_by, run_len}, proofs.Text.Digits.{id_spelled, scan_end, scan_fits}}
 use Rattle.semver_core.proofs.Text.{Listed.{listed_none, listed_some}, Pieces.{first_char, runs_tail, tail_onto, tail_runs}}
 
 -- what stands behind the first run and its dot
@@ -110,3 +112,38 @@ spelled_release [] = refl
 spelled_release (c ∷ rest) =
     let some : (length (c ∷ rest) == 0) ≡ false = grind (arith, nat_tests) in
     rw (some, (spelled_some (c ∷ rest) some).1.1) refl
+
+-- ---- a text that spells itself
+
+whole_run : (text : List ℕ) → (run_len text == length text) ≡ list_all is_identifier_char text
+whole_run [] = refl
+whole_run (c ∷ rest) = elim (cases_Bool (is_identifier_char c)) [
+  | inl passes ↦ rw passes (grind (arith, nat_tests, whole_run rest))
+  | inr fails ↦ rw fails (grind (arith, nat_tests))
+]
+
+written : (n : Option ℕ) (text : List ℕ) → id_by n text ≡ identifier_of text → is_none n ≡ not (is_u64_text text)
+written None text e = elim (cases_Bool (is_u64_text text)) [
+  | inl number ↦ cc (rw number at e)
+  | inr other ↦ rw other refl
+]
+written (Some v) text e = elim (cases_Bool (is_u64_text text)) [
+  | inl number ↦ rw number refl
+  | inr other ↦ cc (rw other at e)
+]
+
+pub run_normal : (text : List ℕ) (r : ℕ × Option ℕ) → begins is_identifier_char text ≡ true → r ≡ run_from (Some 0) 0 (drop 0 text)
+    → is_normal (AlphaNumeric text) ≡ (r.0 == length text && is_none r.1)
+run_normal [] r begin e = cc begin
+run_normal (c ∷ rest) r begin e =
+    let text = c ∷ rest in
+    let some : ltb 0 (length text) ≡ true = grind (arith, nat_tests) in
+    elim (cases_Bool (list_all is_identifier_char text)) [
+      | inl whole ↦
+          let len : run_len text ≡ length text = eqb-true (run_len text) (length text) (whole_run text ∙ whole) in
+          let run : take (run_len text) text ≡ text = rw len (take_all (length text) text (omega arith)) in
+          let number : is_none r.1 ≡ not (is_u64_text text) =
+          rw (front_number text r e, run) (written (number_of_run (Some 0) text) text (id_spelled text)) in
+          rw (front_end text r e, whole_run text, whole, number, some) refl
+      | inr part ↦ rw (front_end text r e, whole_run text, part, some) refl
+    ]

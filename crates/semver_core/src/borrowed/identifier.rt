@@ -6,10 +6,9 @@ ghost use Rattle.semver_core.specs.Words.{id_total, id_view, id_writes, is_eq, l
 ghost use Rattle.semver_core.specs.Words.{is_normal, on_equiv, on_per, on_po, on_total};
 ghost use Rattle.semver_core.specs.Words.{partial_equiv_from_equiv, po, refl, Some};
 
-use crate::Identifier;
 use crate::borrowed::dotted::{IdRef, cmp_ids};
-use crate::identifier::{are_digits, is_run};
 use crate::print::write_number;
+use crate::{Identifier, scan};
 use std::cmp::Ordering;
 use std::fmt;
 use std::hash::{Hash, Hasher};
@@ -52,7 +51,6 @@ impl<'a> IdentifierRef<'a> {
 
     // Whether its own text spells the identifier. A text that is made by hand may hold other
     // characters, or be that of a number.
-    #[tactic(auto, using(crate::proofs::Increments::LastNumber::value_run))]
     pub(crate) fn is_normal(self) -> bool
         ensures { result ≡ is_normal (lent_id_view self.entry) }
     {
@@ -60,8 +58,11 @@ impl<'a> IdentifierRef<'a> {
             IdentifierRef::Numeric(_) => true,
             IdentifierRef::AlphaNumeric(text) => {
                 let bytes = text.as_bytes();
-                let spelled = !bytes.is_empty() && is_run(bytes);
-                spelled && !(are_digits(bytes) && text.parse::<u64>().is_ok())
+                if !scan::begins_identifier(bytes) {
+                    return false;
+                }
+                let (end, number) = scan::scan_run(bytes, 0);
+                end == bytes.len() && number.is_none()
             }
         }
     }
