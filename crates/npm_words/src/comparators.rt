@@ -8,9 +8,9 @@ ghost use Rattle.npm_words.specs.Internal.Parts.{are_normal, is_padded, no_build
 ghost use Rattle.npm_words.specs.Internal.Parts.{npm_partial_view, npm_sign_view, within};
 ghost use Rattle.npm_words.specs.{Table.{first, from, table, written_zeros}, Words.Bool};
 ghost use Rattle.npm_words.specs.Words.{Comparison, List, MAX_SAFE_INTEGER, [], bounds_view};
-ghost use Rattle.npm_words.specs.Words.{comparator_view, decimal, length, lent_id_view};
+ghost use Rattle.npm_words.specs.Words.{comparator_view, decimal, length};
 ghost use Rattle.npm_words.specs.Words.{true, version_text, ℕ};
-ghost use Rattle.semver_core.specs.{Printing.Text.id_text, Values.Versions.IsVersion};
+ghost use Rattle.semver_core.specs.{Values.Versions.IsVersion};
 ghost use Rattle.{semver_core.specs.declared.TheConstants.MAX_LENGTH, std.specs.Prelude.nat_le};
 ghost use Rattle.std.specs.Prelude.{◌+◌, ◌∷◌, ◌≡◌, ◌≤◌};
 ghost use Rattle.npm_words.specs.Table as Spec;
@@ -32,16 +32,6 @@ fn decimal_len(number: u64) -> usize
     Buffer::new().format(number).len()
 }
 
-// How many characters an identifier prints, with the mark before it.
-fn marked_len(id: IdentifierRef<'_>) -> usize
-    ensures { result ≡ 1 + length (id_text (lent_id_view id.entry)) }
-{
-    match id {
-        IdentifierRef::Numeric(number) => 1 + decimal_len(number),
-        IdentifierRef::AlphaNumeric(text) => 1 + text.len(),
-    }
-}
-
 // Whether a version prints at most as many characters as a version text may have, without its
 // build.
 #[inline(never)]
@@ -54,7 +44,10 @@ fn prints_within(version: VersionRef<'_>) -> bool
     let mut room = MAX_LENGTH - numbers;
     let mut ids = version.pre_release();
     'ids: while let Some(id) = ids.next() {
-        let taken = marked_len(id);
+        let taken = match id {
+            IdentifierRef::Numeric(number) => 1 + decimal_len(number),
+            IdentifierRef::AlphaNumeric(text) => 1 + text.len(),
+        };
         if taken > room {
             return false;
         }
