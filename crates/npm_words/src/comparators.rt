@@ -3,7 +3,7 @@
 //! This is for the crates of this repository.
 
 ghost use Rattle.npm_words.specs.{Alternatives.is_valid, Internal.Meaning.{AreRead, IsCommon}};
-ghost use Rattle.npm_words.specs.Internal.{Meaning.{is_part, is_zero}, Parts.AreZeros};
+ghost use Rattle.npm_words.specs.Internal.{Meaning.is_zero, Parts.AreZeros};
 ghost use Rattle.npm_words.specs.Internal.Parts.{are_normal, is_padded, no_build, noted};
 ghost use Rattle.npm_words.specs.Internal.Parts.{npm_partial_view, npm_sign_view, within};
 ghost use Rattle.npm_words.specs.{Table.{first, from, table, written_zeros}, Words.Bool};
@@ -236,32 +236,6 @@ pub fn tilde<'a>(include: bool, padded: bool, partial: &Partial<'a>) -> Option<B
     }
 }
 
-// A comparator, or none, before a partial of one number or two.
-#[inline(always)]
-fn part<'a>(
-    include: bool,
-    padded: bool,
-    comparator: Comparator,
-    partial: &Partial<'a>,
-) -> Option<Bounds<'a>>
-    requires part { is_part (npm_partial_view partial.now) ≡ true }
-    requires within { within (first (npm_partial_view partial.now)) ≡ true }
-    ensures { (text : List ℕ) → let s = Spec.compared (comparator_view comparator) in
-        padded ≡ is_padded (written_zeros text) (npm_partial_view partial.now) →
-        AreRead include (table include s (npm_partial_view partial.now) text) result }
-{
-    match comparator {
-        Comparator::Equal => until(
-            from_numbers(include, padded, partial.first()),
-            partial.next(),
-        ),
-        Comparator::AtLeast => from(include, padded, partial.first()),
-        Comparator::Above => from(include, false, partial.next()),
-        Comparator::Below => under(partial.first()),
-        Comparator::AtMost => under(partial.next()),
-    }
-}
-
 // A comparator, or none, before a whole version, which has this text. Without pre-releases
 // included, `>=0.0.0` is no comparator.
 #[inline(always)]
@@ -312,7 +286,16 @@ pub fn compared<'a>(
             Comparator::Below => under((0, 0, 0)),
             Comparator::AtLeast | Comparator::Equal | Comparator::AtMost => Some(open()),
         },
-        Partial::Major(_) | Partial::Minor(..) => part(include, padded, comparator, partial),
+        Partial::Major(_) | Partial::Minor(..) => match comparator {
+            Comparator::Equal => {
+                let lower = from_numbers(include, padded, partial.first());
+                until(lower, partial.next())
+            }
+            Comparator::AtLeast => from(include, padded, partial.first()),
+            Comparator::Above => from(include, false, partial.next()),
+            Comparator::Below => under(partial.first()),
+            Comparator::AtMost => under(partial.next()),
+        },
         Partial::Whole(version) => whole(include, comparator, version, text),
     }
 }

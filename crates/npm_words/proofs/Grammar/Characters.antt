@@ -76,6 +76,3 @@ pub last-byte : (p : ℕ → Bool) (x rest : List ℕ) (d : ℕ) → 0 < length 
 last-byte p [] rest d some = absurd (omega (arith, some))
 last-byte p (c ∷ []) rest d some = refl
 last-byte p (c ∷ e ∷ x) rest d some = grind (arith, last-byte p (e ∷ x) rest d (omega arith))
-
-pub last-is : (p : ℕ → Bool) (w : List ℕ) (d : ℕ) → 0 < length w → p (get_or w (length w - 1) d) ≡ ends p w
-last-is p w d h = rw append-nil at (last-byte p w [] d h)
