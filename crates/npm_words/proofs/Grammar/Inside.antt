@@ -36,14 +36,11 @@ from-front [] (c ∷ rest) h k = apart-off c rest (starts-apart c rest k)
 from-front (c ∷ front) rest h k =
     let p = and_parts (is_apart c) (list_all is_apart front) h in apart-on c (front ++ rest) p.0 ∙ from-front front rest p.1 k
 
-from-le : (text : List ℕ) → length (from_place text) ≤ length text
-from-le text = omega (arith, length-drop (prefix_len is_apart text) text)
-
 -- what is left is shorter
 less : (text : List ℕ) → is_empty (from_place text) ≡ false → length (behind_partial (from_place text)) < length text
 less text h = elim (from-starts text) [
   | inl nothing ↦ cc (ap is_empty nothing, h)
-  | inr place ↦ omega (arith, partial-less (from_place text) place, from-le text)
+  | inr place ↦ omega (arith, partial-less (from_place text) place, length-drop (prefix_len is_apart text) text)
 ]
 
 -- ---- the loop

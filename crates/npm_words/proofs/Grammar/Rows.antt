@@ -12,7 +12,7 @@ use Rattle.npm_words.specs.{Alternatives.satisfying, Internal.{Alternatives.met,
 use Rattle.npm_words.specs.{Internal.Parts.{is_padded, no_build, noted}, Table.{Partial, Sign, caret, lowest, next, table, tilde, unbuilt}}
 use Rattle.{npm_words.specs.Table.written_zeros, semver_core.proofs.CutLaws.{between, cut_total, gt_lt, is_past-greater_lower, is_past-lesser_upper}}
 use Rattle.semver_core.{proofs.{CutLaws.lt_trans, Gate.{both, lets_in-meet, lets_in_one}}, specs.{Cuts.{Cut, cut_cmp}, Values.Versions.IsVersion}}
-use Rattle.std.{proofs.lemmas.List.map-append, specs.Cmp.upto}
+use Rattle.std.{proofs.{Math.Bool.or-true, lemmas.List.map-append}, specs.Cmp.upto}
 use Rattle.semver_core.specs.Values.Spans as Spans
 
 -- ---- where a word has no comparators
@@ -157,9 +157,6 @@ module _ (include : Bool) (cs ds : List Comparison) where
     is = ap₂ met h.is k.is ∙ met-interval h.span k.span;
   }
 
-pub either_true : (a : Bool) → (a || true) ≡ true
-either_true a = grind arith
-
 zero_of : (v : VersionValue) → IsVersion v → bytes_eq (unbuilt at_least v).text (codes "0.0.0") ≡ is_zero (no_build v)
 zero_of v h = prints_zero (no_build v) h.major h.minor h.patch
 
@@ -194,7 +191,7 @@ pub noted_valid : (padded : Bool) (c : Comparison) → is_valid MAX_SAFE_INTEGER
 noted_valid padded c = grind (arith, nat_tests, common_steps, bytes_eq-Decides)
 
 pub under_common : (include : Bool) (n : Numbers) → within n ≡ true → IsCommon include (under n ∷ []) (Spans.< (lowest n))
-under_common include n w = one_common include below (lowest n) _ (whole_readable (lowest n) w refl) (either_true include)
+under_common include n w = one_common include below (lowest n) _ (whole_readable (lowest n) w refl) (or-true include)
 
 pub until_common : (include : Bool) (c : Comparison) (b : Bound VersionValue) (n : Numbers) → within n ≡ true
     → IsCommon include (c ∷ []) (record { lower = b; upper = Unbounded })
