@@ -278,9 +278,6 @@ none-counted : (cs : List Comparison) → is_bare cs ≡ true → filter (counts
 none-counted [] h = refl
 none-counted (c ∷ cs) h = grind (arith, nat_tests, common_steps, none-counted cs)
 
-bare-accepts : (v : VersionValue) → is_release v ≡ true → (cs : List Comparison) → is_bare cs ≡ true → alternative_accepts v cs ≡ true
-bare-accepts v r cs h = rw (none-counted cs h, r) refl
-
 -- and so does an empty one
 empty-bare : (limit : ℕ) (pre : Bool) (texts : List (List ℕ)) (list : List (Span VersionValue)) (all : List (List Comparison))
     → ArePlain limit pre texts list all → list_all is_empty texts ≡ true → 0 < length texts → list_any is_bare all ≡ true
@@ -306,7 +303,7 @@ plain-same text list all v h w = rw h.list_is (elim (cases_Bool (list_all is_emp
 
     opened : list_any is_bare all ≡ true → list_any (alternative_accepts v) all ≡ is_release v
     opened e = elim (cases_Bool (is_release v)) [
-      | inl r ↦ any_weaker is_bare (alternative_accepts v) (bare-accepts v r) all e ∙ sym r
+      | inl r ↦ any_weaker is_bare (alternative_accepts v) (λ cs h. rw (none-counted cs h, r) refl) all e ∙ sym r
       | inr r ↦
           let none : h.pre ≡ false = grind (arith, e, h.counted) in
           each-released v h.texts h.spans all w (subst (λ b. ArePlain MAX_SAFE_INTEGER b h.texts h.spans all) none h.each) h.valid r ∙ sym r
