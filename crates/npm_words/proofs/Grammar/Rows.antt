@@ -38,15 +38,12 @@ open_lower b = grind arith
 common-one : (s : Span VersionValue) → both s everything ≡ s
 common-one s = rw (open_upper s.lower, open_lower s.upper) refl
 
-counted-one : (include : Bool) (c : Comparison) → counts include c ≡ true → common_in include (c ∷ []) ≡ satisfying c
-counted-one include c h = rw h (common-one (satisfying c))
-
 -- the bounds are of that version, whose numbers may be greater by one
 pub one_common : (include : Bool) (c : Comparator) (w : VersionValue) (text : List ℕ)
     → is_readable MAX_SAFE_INTEGER w ≡ true → counts include (comparison c w text) ≡ true
     → IsCommon include (comparison c w text ∷ []) (satisfying (comparison c w text))
 one_common include c w text r h = record {
-  is = sym (counted-one include (comparison c w text) h);
+  is = rw h (sym (common-one (satisfying (comparison c w text))));
   lower = grind (arith, nat_tests, common_steps);
   upper = grind (arith, nat_tests, common_steps);
 }
@@ -112,11 +109,8 @@ lesser_of_three b c d = elim (cases_Bool (is_gt (cut_cmp precedence (upper_cut b
 both-both : (s t u : Span VersionValue) → both s (both t u) ≡ both (both s t) u
 both-both s t u = rw (greater_of_three s.lower t.lower u.lower, lesser_of_three s.upper t.upper u.upper) refl
 
-both-everything : (s : Span VersionValue) → both everything s ≡ s
-both-everything s = grind arith
-
 common-append : (ss ts : List (Span VersionValue)) → common (ss ++ ts) ≡ both (common ss) (common ts)
-common-append [] ts = sym (both-everything (common ts))
+common-append [] ts = grind arith
 common-append (s ∷ ss) ts = ap (λ u. both s u) (common-append ss ts) ∙ both-both s (common ss) (common ts)
 
 no_more : {A : Type 0} (x : A) (a b : Bool) → None ≡ (if (a && (b && false)) then Some x else None)
