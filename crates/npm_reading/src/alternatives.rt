@@ -1,7 +1,7 @@
 // What an alternative of a range text accepts: the interval that its comparators have in common.
 
 ghost use Rattle.nodejs_semver.specs.Words.{Bool, IfSome, List, None, [], false, interval};
-ghost use Rattle.nodejs_semver.specs.Words.{is_empty, list_any, true};
+ghost use Rattle.nodejs_semver.specs.Words.{is_empty, true};
 ghost use Rattle.npm_reading.specs.Internal.Alternatives.{NarrowedBy, ranged};
 ghost use Rattle.npm_words.specs.Internal.{Alternatives.met, Meaning.{AreRead, IsNarrowed}};
 ghost use Rattle.npm_words.specs.Internal.{Meaning.is_unbounded, Parts.are_normal};
@@ -37,17 +37,6 @@ fn common<'a>(
     first?.into_intersection(second?).ok()
 }
 
-// Whether a word of a sign and a partial has no comparators.
-#[inline(always)]
-fn has_no_comparators(sign: Sign, partial: &Partial<'_>) -> bool
-    ensures { result ≡ has_no_comparators (npm_sign_view sign) (npm_partial_view partial.now) }
-{
-    match sign {
-        Sign::Compared(Comparator::Above | Comparator::Below) => false,
-        _ => matches!(partial, Partial::Wildcard),
-    }
-}
-
 impl<'a> Alternative<'a> {
     /// No comparator was read yet.
     pub(crate) fn all() -> Alternative<'a>
@@ -78,8 +67,11 @@ impl<'a> Alternative<'a> {
             (table include (npm_sign_view sign) (npm_partial_view partial.now) text.now))) }
         ensures lost { IfSome result (λ a. a.is_lost ≡ self.entry.is_lost) }
     {
-        let read = row(include, sign, partial, text);
-        self.meet_read(read, has_no_comparators(sign, partial))
+        let has_no_comparators = match sign {
+            Sign::Compared(Comparator::Above | Comparator::Below) => false,
+            _ => matches!(partial, Partial::Wildcard),
+        };
+        self.meet_read(row(include, sign, partial, text), has_no_comparators)
     }
 
     /// The alternative with the bounds that were read of more comparators, or of none; none where
@@ -127,13 +119,6 @@ fn is_unbounded(interval: &Interval<VersionRef<'_>>) -> bool
     )
 }
 
-// Whether one of some intervals has no bounds.
-fn is_some_unbounded(intervals: &[Interval<VersionRef<'_>>]) -> bool
-    ensures { result ≡ list_any is_unbounded intervals.now }
-{
-    intervals.iter().any(is_unbounded)
-}
-
 // A list of one interval.
 #[inline(always)]
 fn one<'a>(alloc: Global, interval: Interval<VersionRef<'a>>) -> Intervals<VersionRef<'a>>
@@ -153,7 +138,7 @@ pub(crate) fn set_ranged<'a>(alloc: Global, found: &mut Intervals<VersionRef<'a>
     if found.len() == 1 {
         return;
     }
-    if is_some_unbounded(found) {
+    if found.iter().any(is_unbounded) {
         *found = one(alloc, Interval::default());
     } else if found.is_empty() {
         let least = Bound::Before(lowest(0, 0, 0));

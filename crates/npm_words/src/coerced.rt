@@ -3,11 +3,11 @@
 ghost use Rattle.npm_words.specs.Coerced.{IsCoerced, IsCoercedBy, IsLeftmost, begins_identifier_in};
 ghost use Rattle.npm_words.specs.{Coerced.goes_on_in, Grammar.IsStrictNumber};
 ghost use Rattle.npm_words.specs.Internal.Tuples.{BeginsAfter, IsChosenPlace};
-ghost use Rattle.npm_words.specs.{Internal.Tuples.{IsLastPlace, IsStretch}, Words.{Bool, IfNone}};
-ghost use Rattle.npm_words.specs.Words.{IfSome, List, MAX_SAFE_INTEGER, NoValue};
+ghost use Rattle.npm_words.specs.{Internal.Tuples.{IsLastPlace, IsStretch}, Words.IfNone};
+ghost use Rattle.npm_words.specs.Words.{IfSome, MAX_SAFE_INTEGER, NoValue};
 ghost use Rattle.npm_words.specs.Words.{front_view, is_ascii_digit, is_listed, length, pair_view};
-ghost use Rattle.{npm_words.specs.Words.{true, ℕ}, semver_core.specs.Text.Characters.ends};
-ghost use Rattle.std.specs.Prelude.{drop, false, take, ◌+◌, ◌≡◌, ◌≤◌};
+ghost use Rattle.npm_words.specs.Words.{true};
+ghost use Rattle.std.specs.Prelude.{drop, false, ◌+◌, ◌≡◌, ◌≤◌};
 ghost use Rattle.npm_words.specs.Internal.Tuples as Spec;
 
 use crate::options::Coercion;
@@ -56,22 +56,14 @@ fn tuple_len(text: &[u8]) -> usize
     major + minor + patch
 }
 
-// Whether a digit stands before a place.
-#[tactic(auto, using(crate::proofs::VersionTexts::Coerced::last_before))]
-fn follows_digit(text: &[u8], at: usize) -> bool
-    requires { at ≤ length text.now }
-    ensures { result ≡ ends is_ascii_digit (take at text.now) }
-{
-    at > 0 && text[at - 1].is_ascii_digit()
-}
-
 // How long the longest tuple at a place is, which begins with no digit of a run before it.
+#[tactic(auto, using(crate::proofs::VersionTexts::Coerced::last_before))]
 fn tuple_len_at(text: &[u8], at: usize) -> usize
     requires { at ≤ length text.now }
     ensures value { result ≡ Spec.tuple_len_at text.now at }
     ensures fits { at + result ≤ length text.now }
 {
-    if follows_digit(text, at) {
+    if at > 0 && text[at - 1].is_ascii_digit() {
         0
     } else {
         tuple_len(&text[at..])
@@ -124,11 +116,7 @@ struct Stretch {
 }
 
 impl Stretch {
-    fn empty() -> Stretch
-        ensures { (strict : Bool) (text : List ℕ) → IsStretch strict text result }
-    {
-        Stretch { from: 0, to: 0 }
-    }
+    const EMPTY: Stretch = Stretch { from: 0, to: 0 };
 
     // Where the list at a place ends. A place of the stretch is not searched again: if the places
     // that are asked for ascend, no character is passed twice.
@@ -203,8 +191,8 @@ fn last_place(included: bool, text: &[u8]) -> Option<usize>
 {
     let mut start = 0;
     let mut end = 0;
-    let mut pre_releases = Stretch::empty();
-    let mut builds = Stretch::empty();
+    let mut pre_releases = Stretch::EMPTY;
+    let mut builds = Stretch::EMPTY;
     'places: for at in 0..text.len() {
         let there = end_at(included, text, at, &mut pre_releases, &mut builds);
         if there > end {
@@ -255,7 +243,7 @@ fn marked_list(included: bool, strict: bool, mark: u8, text: &[u8]) -> (&[u8], &
     ensures listed { is_listed result.0.now ≡ true }
     ensures value { pair_view result ≡ Spec.marked_front included strict mark text.now }
 {
-    let len = marked_end(included, strict, mark, text, 0, &mut Stretch::empty());
+    let len = marked_end(included, strict, mark, text, 0, &mut Stretch::EMPTY);
     let (marked, rest) = text.split_at(len);
     match marked {
         [_, list @ ..] => (list, rest),

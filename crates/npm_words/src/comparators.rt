@@ -3,14 +3,14 @@
 //! This is for the crates of this repository.
 
 ghost use Rattle.npm_words.specs.{Alternatives.is_valid, Internal.Meaning.{AreRead, IsCommon}};
-ghost use Rattle.npm_words.specs.Internal.{Meaning.{is_part, is_zero}, Parts.AreZeros};
+ghost use Rattle.npm_words.specs.Internal.{Meaning.is_zero, Parts.AreZeros};
 ghost use Rattle.npm_words.specs.Internal.Parts.{are_normal, is_padded, no_build, noted};
 ghost use Rattle.npm_words.specs.Internal.Parts.{npm_partial_view, npm_sign_view, within};
 ghost use Rattle.npm_words.specs.{Table.{first, from, table, written_zeros}, Words.Bool};
 ghost use Rattle.npm_words.specs.Words.{Comparison, List, MAX_SAFE_INTEGER, [], bounds_view};
-ghost use Rattle.npm_words.specs.Words.{comparator_view, decimal, length, lent_id_view};
+ghost use Rattle.npm_words.specs.Words.{comparator_view, decimal, length};
 ghost use Rattle.npm_words.specs.Words.{true, version_text, ℕ};
-ghost use Rattle.semver_core.specs.{Printing.Text.id_text, Values.Versions.IsVersion};
+ghost use Rattle.semver_core.specs.{Values.Versions.IsVersion};
 ghost use Rattle.{semver_core.specs.declared.TheConstants.MAX_LENGTH, std.specs.Prelude.nat_le};
 ghost use Rattle.std.specs.Prelude.{◌+◌, ◌∷◌, ◌≡◌, ◌≤◌};
 ghost use Rattle.npm_words.specs.Table as Spec;
@@ -32,16 +32,6 @@ fn decimal_len(number: u64) -> usize
     Buffer::new().format(number).len()
 }
 
-// How many characters an identifier prints, with the mark before it.
-fn marked_len(id: IdentifierRef<'_>) -> usize
-    ensures { result ≡ 1 + length (id_text (lent_id_view id.entry)) }
-{
-    match id {
-        IdentifierRef::Numeric(number) => 1 + decimal_len(number),
-        IdentifierRef::AlphaNumeric(text) => 1 + text.len(),
-    }
-}
-
 // Whether a version prints at most as many characters as a version text may have, without its
 // build.
 #[inline(never)]
@@ -54,7 +44,10 @@ fn prints_within(version: VersionRef<'_>) -> bool
     let mut room = MAX_LENGTH - numbers;
     let mut ids = version.pre_release();
     'ids: while let Some(id) = ids.next() {
-        let taken = marked_len(id);
+        let taken = match id {
+            IdentifierRef::Numeric(number) => 1 + decimal_len(number),
+            IdentifierRef::AlphaNumeric(text) => 1 + text.len(),
+        };
         if taken > room {
             return false;
         }
@@ -243,32 +236,6 @@ pub fn tilde<'a>(include: bool, padded: bool, partial: &Partial<'a>) -> Option<B
     }
 }
 
-// A comparator, or none, before a partial of one number or two.
-#[inline(always)]
-fn part<'a>(
-    include: bool,
-    padded: bool,
-    comparator: Comparator,
-    partial: &Partial<'a>,
-) -> Option<Bounds<'a>>
-    requires part { is_part (npm_partial_view partial.now) ≡ true }
-    requires within { within (first (npm_partial_view partial.now)) ≡ true }
-    ensures { (text : List ℕ) → let s = Spec.compared (comparator_view comparator) in
-        padded ≡ is_padded (written_zeros text) (npm_partial_view partial.now) →
-        AreRead include (table include s (npm_partial_view partial.now) text) result }
-{
-    match comparator {
-        Comparator::Equal => until(
-            from_numbers(include, padded, partial.first()),
-            partial.next(),
-        ),
-        Comparator::AtLeast => from(include, padded, partial.first()),
-        Comparator::Above => from(include, false, partial.next()),
-        Comparator::Below => under(partial.first()),
-        Comparator::AtMost => under(partial.next()),
-    }
-}
-
 // A comparator, or none, before a whole version, which has this text. Without pre-releases
 // included, `>=0.0.0` is no comparator.
 #[inline(always)]
@@ -319,7 +286,16 @@ pub fn compared<'a>(
             Comparator::Below => under((0, 0, 0)),
             Comparator::AtLeast | Comparator::Equal | Comparator::AtMost => Some(open()),
         },
-        Partial::Major(_) | Partial::Minor(..) => part(include, padded, comparator, partial),
+        Partial::Major(_) | Partial::Minor(..) => match comparator {
+            Comparator::Equal => {
+                let lower = from_numbers(include, padded, partial.first());
+                until(lower, partial.next())
+            }
+            Comparator::AtLeast => from(include, padded, partial.first()),
+            Comparator::Above => from(include, false, partial.next()),
+            Comparator::Below => under(partial.first()),
+            Comparator::AtMost => under(partial.next()),
+        },
         Partial::Whole(version) => whole(include, comparator, version, text),
     }
 }

@@ -158,17 +158,6 @@ fn next(state: State, letter: char) -> Option<State>
     }
 }
 
-// Whether what is read is a version.
-fn is_whole(state: State) -> bool
-    ensures { result ≡ Spec.is_whole state }
-{
-    match state {
-        State::Number { left, .. } => left == 0,
-        State::Zero | State::PreRelease | State::Build | State::End => true,
-        _ => false,
-    }
-}
-
 // What is wrong where what is read does not go on with the next character, or with the end.
 #[tactic(auto, unfolding(crate::specs::Internal::States::wrong_at))]
 fn wrong_at(state: State, next: Option<char>) -> Wrong
@@ -208,10 +197,10 @@ fn stop(text: &str) -> Option<(Wrong, usize)>
         state = read;
         at += letter.len_utf8();
     }
-    if is_whole(state) {
-        None
-    } else {
-        Some((wrong_at(state, None), at))
+    match state {
+        State::Number { left: 0, .. } => None,
+        State::Zero | State::PreRelease | State::Build | State::End => None,
+        _ => Some((wrong_at(state, None), at)),
     }
 }
 

@@ -5,13 +5,12 @@
 ghost use Rattle.npm_words.specs.Internal.{Meaning.AreRead, Parts.{are_normal, npm_partial_view}};
 ghost use Rattle.npm_words.specs.Internal.Views.{end_front_view, end_some_view, end_view};
 ghost use Rattle.npm_words.specs.{Internal.Views.{hyphen_view, is_free_end}, Words.Some};
-ghost use Rattle.npm_words.specs.Words.{comparator_view, length, list_all, pair_view, rest_view};
+ghost use Rattle.npm_words.specs.Words.{comparator_view, length, pair_view, rest_view};
 ghost use Rattle.npm_words.specs.Words.{true};
 ghost use Rattle.semver_core.specs.Internal.Reading.{◌>>?◌};
 ghost use Rattle.std.specs.Prelude.{drop, option_map, ◌-◌, ◌≡◌, ◌≤◌};
 ghost use Rattle.npm_words.specs.Internal.Ends as Ends;
 ghost use Rattle.npm_words.specs.Internal.Words as Spec;
-ghost use Rattle.npm_words.specs.Malformed as Malformed;
 ghost use Rattle.npm_words.specs.RangeText as Text;
 
 use crate::comparators::{prints_short, row, under, whole};
@@ -64,28 +63,13 @@ pub fn skip_marks(text: &[u8]) -> &[u8]
     }
 }
 
-#[inline(always)]
-fn is_mark(byte: u8) -> bool
-    ensures { result ≡ Malformed.is_mark byte }
-{
-    matches!(byte, b'v' | b'=')
-}
-
-// Whether a text is marks alone.
-#[inline(always)]
-fn are_marks(text: &[u8]) -> bool
-    ensures { result ≡ list_all Malformed.is_mark text.now }
-{
-    text.iter().all(|byte| is_mark(*byte))
-}
-
 // The marks behind the last whitespace.
 fn last_marks(marks: &[u8]) -> &[u8]
     ensures value { result.now ≡ Text.last_marks marks.now }
     ensures fits { length result.now ≤ length marks.now }
 {
     let mut start = marks.len();
-    'marks: while start > 0 && is_mark(marks[start - 1]) {
+    'marks: while start > 0 && matches!(marks[start - 1], b'v' | b'=') {
         start -= 1;
     }
     &marks[start..]
@@ -166,7 +150,7 @@ impl<'a> End<'a> {
         ensures { comparator_view result
             ≡ Text.end_sign (comparator_view written) self.now.marks.now }
     {
-        if are_marks(self.marks) {
+        if self.marks.iter().all(|byte| matches!(byte, b'v' | b'=')) {
             written
         } else {
             Comparator::Equal
@@ -245,21 +229,13 @@ pub fn is_upper_end(include: bool, text: &[u8]) -> bool
     }
 }
 
-// What stands behind marks and whitespace and one word.
-fn behind_end(text: &[u8]) -> &[u8]
-    ensures value { result.now ≡ Ends.behind_end text.now }
-    ensures fits { length result.now ≤ length text.now }
-{
-    skip_to_boundary(skip_marks(text))
-}
-
 /// The texts where the ends would be of a text that has the form of a hyphen range.
 pub fn end_texts(text: &[u8]) -> Option<(&[u8], &[u8])>
     ensures { option_map pair_view result ≡ Ends.end_texts text.now }
 {
-    let before = behind_end(text);
+    let before = skip_to_boundary(skip_marks(text));
     let second = after_dash(before)?;
-    if !behind_end(second).is_empty() {
+    if !skip_to_boundary(skip_marks(second)).is_empty() {
         return None;
     }
     Some((&text[..text.len() - before.len()], second))

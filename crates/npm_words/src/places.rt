@@ -151,15 +151,6 @@ fn are_short_builds(text: &[u8]) -> bool
     text.split(|byte| *byte == b'.').all(|id| id.len() <= 250)
 }
 
-// Whether this pre-release and this build may be written.
-#[inline(always)]
-fn may_follow(loose: bool, pre_release: &[u8], build: &[u8]) -> bool
-    ensures { result ≡ Spec.may_follow loose pre_release.now build.now }
-{
-    (loose || is_strict_list(pre_release) && are_short_identifiers(pre_release))
-        && are_short_builds(build)
-}
-
 // Whether a text begins as a pre-release may without `-`, behind a wildcard or not.
 #[inline(always)]
 fn begins_undashed(wild: bool, text: &[u8]) -> bool
@@ -214,7 +205,10 @@ fn qualified_partial(
     }
     let (pre_release, rest) = pre_front(loose, patch.is_none(), text);
     let (build, rest) = build_front(rest);
-    if !may_follow(loose, pre_release, build) {
+    if !(loose || is_strict_list(pre_release) && are_short_identifiers(pre_release)) {
+        return None;
+    }
+    if !are_short_builds(build) {
         return None;
     }
     Some((long_partial(major, minor, patch, pre_release, build), rest))

@@ -2,8 +2,7 @@
 
 ghost use Rattle.npm_words.specs.{Grammar.is_strict_list, Internal.Readings.is_strict_identifier};
 ghost use Rattle.npm_words.specs.{VersionText.{IsClean, IsVersionTextIn}, Words.{IfOk, IsTrue}};
-ghost use Rattle.npm_words.specs.Words.{MAX_SAFE_INTEGER, NoValue, front_view, is_ascii_digit};
-ghost use Rattle.npm_words.specs.Words.{length, list_all};
+ghost use Rattle.npm_words.specs.Words.{MAX_SAFE_INTEGER, NoValue, front_view, length};
 ghost use Rattle.std.specs.Prelude.{IfErr, ◌↔◌, ◌≡◌};
 ghost use Rattle.std.specs.{Prelude.◌≤◌, Str.chars};
 ghost use Rattle.npm_words.specs.Internal.Versions as Whole;
@@ -44,20 +43,14 @@ fn patch_front(loose: bool, text: &[u8]) -> Option<(u64, &[u8])>
     Some((number, &text[len..]))
 }
 
-#[inline(always)]
-pub fn is_digits(text: &[u8]) -> bool
-    ensures { result ≡ list_all is_ascii_digit text.now }
-{
-    text.iter().all(|byte| byte.is_ascii_digit())
-}
-
 // Whether an identifier is a text, or a number without leading zeros.
 #[inline(always)]
+#[tactic(auto, using(crate::proofs::Grammar::PartialLaw::digits_all))]
 fn is_strict_identifier(text: &[u8]) -> bool
     ensures { result ≡ is_strict_identifier text.now }
 {
     match text {
-        [b'0', _, ..] => !is_digits(text),
+        [b'0', _, ..] => digits_len(text) < text.len(),
         _ => true,
     }
 }

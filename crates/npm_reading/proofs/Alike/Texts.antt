@@ -1,7 +1,7 @@
 -- Plain texts: what they mean here, their alternatives to node-semver, and that both accept the same versions.
 use Rattle.nodejs_semver.proofs.{Bounds.TableRows.table-interval, Common.{Bool, Comparator, IsBlank, IsCutAtBars, IsTrim, IsUtf8, List}}
 use Rattle.nodejs_semver.proofs.Common.{MAX_SAFE_INTEGER, Means, None, Option, Partial, Run, Some, Span, VersionValue, Word, [], above, accepts}
-use Rattle.nodejs_semver.proofs.Common.{and_parts, any_weaker, ap, append-nil, append_assoc, ap₂, arith, at_most, begins, cases_Bool, codes}
+use Rattle.nodejs_semver.proofs.Common.{and-false, and_parts, any_weaker, ap, append-nil, append_assoc, ap₂, arith, at_most, begins, cases_Bool, codes}
 use Rattle.nodejs_semver.proofs.Common.{common_steps, drop_spaces, drop_spaces-none, encode_utf8, encode_utf8_all, equal, false, filter, filter_map}
 use Rattle.nodejs_semver.proofs.Common.{first_so, flat_map, hyphen, if◌then◌else◌, inl, inr, is_boundary, is_empty, is_release, is_whitespace, length}
 use Rattle.nodejs_semver.proofs.Common.{length-append, list_all, list_any, map, middle_is_trim, nat_tests, not, or_right, part_bounds, part_denotes}
@@ -92,9 +92,6 @@ plain-read text list all u h = (
 
 -- ---- to node-semver
 
-no_mark : (a : Bool) → (a && false) ≡ false
-no_mark a = grind arith
-
 -- one `v` or none, before a partial
 record Marked (text rest : List ℕ) : Type 0 where
   mark : List ℕ
@@ -110,9 +107,9 @@ may_stand v s p = grind (arith, nat_tests, common_steps)
 
 marked : (text rest : List ℕ) → (text ≡ rest) ⊎ (text ≡ codes "v" ++ rest) → Marked text rest
 unfolding encode_utf8
-marked text rest (inl e) = record { mark = []; divided = e; any = ([], refl, refl); may = may_stand false; begins = no_mark; sign = λ c. refl; last = sym e }
+marked text rest (inl e) = record { mark = []; divided = e; any = ([], refl, refl); may = may_stand false; begins = and-false; sign = λ c. refl; last = sym e }
 marked text rest (inr e) =
-    record { mark = codes "v"; divided = e; any = (118 ∷ [], refl, refl); may = may_stand true; begins = no_mark; sign = λ c. refl; last = sym e }
+    record { mark = codes "v"; divided = e; any = (118 ∷ [], refl, refl); may = may_stand true; begins = and-false; sign = λ c. refl; last = sym e }
 
 module _ {limit : ℕ} {pre : Bool} where
   -- a word behind its sign, with the text of its partial
@@ -281,9 +278,6 @@ none-counted : (cs : List Comparison) → is_bare cs ≡ true → filter (counts
 none-counted [] h = refl
 none-counted (c ∷ cs) h = grind (arith, nat_tests, common_steps, none-counted cs)
 
-bare-accepts : (v : VersionValue) → is_release v ≡ true → (cs : List Comparison) → is_bare cs ≡ true → alternative_accepts v cs ≡ true
-bare-accepts v r cs h = rw (none-counted cs h, r) refl
-
 -- and so does an empty one
 empty-bare : (limit : ℕ) (pre : Bool) (texts : List (List ℕ)) (list : List (Span VersionValue)) (all : List (List Comparison))
     → ArePlain limit pre texts list all → list_all is_empty texts ≡ true → 0 < length texts → list_any is_bare all ≡ true
@@ -309,7 +303,7 @@ plain-same text list all v h w = rw h.list_is (elim (cases_Bool (list_all is_emp
 
     opened : list_any is_bare all ≡ true → list_any (alternative_accepts v) all ≡ is_release v
     opened e = elim (cases_Bool (is_release v)) [
-      | inl r ↦ any_weaker is_bare (alternative_accepts v) (bare-accepts v r) all e ∙ sym r
+      | inl r ↦ any_weaker is_bare (alternative_accepts v) (λ cs h. rw (none-counted cs h, r) refl) all e ∙ sym r
       | inr r ↦
           let none : h.pre ≡ false = grind (arith, e, h.counted) in
           each-released v h.texts h.spans all w (subst (λ b. ArePlain MAX_SAFE_INTEGER b h.texts h.spans all) none h.each) h.valid r ∙ sym r

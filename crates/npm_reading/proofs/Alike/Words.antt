@@ -86,10 +86,7 @@ module _ (limit : ℕ) (pre : Bool) (x : List ℕ) (p : Partial) (h : IsPlainPar
   opened = components-begin limit h.rest p h.here
 
   pub partial-begins : begins is_front_byte x ≡ true
-  partial-begins = elim h.marked [ inl e ↦ rw e (weaker h.rest opened) | inr e ↦ rw e refl ]
-    where
-      weaker : (text : List ℕ) → begins_component text ≡ true → begins is_front_byte text ≡ true
-      weaker text e = grind arith
+  partial-begins = elim h.marked [ inl e ↦ rw e (let some = opened in grind arith) | inr e ↦ rw e refl ]
 
   partial-dark : (more : List ℕ) → space_len (x ++ more) ≡ 0
   partial-dark more = word-dark (x ++ more) (begins-word x more partial-begins)

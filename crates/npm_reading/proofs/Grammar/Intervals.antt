@@ -76,9 +76,6 @@ one_accepts include v cs = shared_accepts include v (counted include cs)
 
 -- ---- an alternative without bounds
 
-one-bound : (c : Comparator) (w : VersionValue) (text : List ℕ) → is_unbounded (satisfying (comparison c w text)) ≡ false
-one-bound c w text = grind arith
-
 opened : (b c : Bound VersionValue) → (is_open (greater_lower precedence b c) ≡ (is_open b && is_open c))
     × (is_open (lesser_upper precedence b c) ≡ (is_open b && is_open c))
 opened b c = (grind arith, grind arith)
@@ -93,7 +90,7 @@ shared_open : (cs : List Comparison) → list_any is_unbounded (option_to_list (
 shared_open [] = refl
 shared_open (c ∷ cs) =
     let s = shared (c ∷ cs) in
-    let bound = both-bound (satisfying c) (shared cs) (one-bound c.sign c.version c.text) in
+    let bound = both-bound (satisfying c) (shared cs) (grind arith) in
     cond_both (is_interval precedence s) (Some s) None (λ o. list_any is_unbounded (option_to_list o) ≡ false) (λ _. rw bound refl) (λ _. refl)
 
 counted-none : (include : Bool) (cs : List Comparison) → is_empty (counted include cs) ≡ not (list_any (counts include) cs)

@@ -4,8 +4,8 @@ use Rattle.nodejs_semver.proofs.Common.{append_assoc, arith, bind_some, common_s
 use Rattle.nodejs_semver.proofs.Common.{nat_lt, nat_tests, prefix_len, refl, same_Some, subst, sym, true, ℕ, ◌&&◌, ◌++◌, ◌<◌, ◌∙◌, ◌∷◌, ◌≡◌}
 use Rattle.npm_reading.specs.Internal.{Alternatives.NarrowedBy, Reads.{first_valid, valid_all, valid_first, words_of}}
 use Rattle.{npm_reading.specs.declared.alternatives.Alternative.Alternative, npm_words.proofs.Common.{Comparison, IsNarrowed, comparators_of}}
-use Rattle.npm_words.proofs.{Common.{first_word, is_valid, signed_word, words_within}, Grammar.{VersionLaw.empty-is, Words.{FirstAt, first-found}}}
-use Rattle.{npm_words.proofs.Grammar.Words.words-enough, semver_core.specs.Internal.Reading.◌>>?◌, std.proofs.lemmas.Grind.flat_map-append}
+use Rattle.npm_words.proofs.{Common.{first_word, is_valid, signed_word, words_within}, Grammar.Words.{FirstAt, first-found}}
+use Rattle.{npm_words.proofs.Grammar.Words.words-enough, semver_core.{proofs.FlatMaps.empty_is, specs.Internal.Reading.◌>>?◌}, std.proofs.lemmas.Grind.flat_map-append}
 use Rattle.std.{proofs.lemmas.List.reverse-append, specs.{List.suffix_len, Option.unwrap_or, Prelude.{is_none, reverse}}}
 
 first-then : (w : Option (List Comparison) × List ℕ) (f : List ℕ → Option (List (Option (List Comparison))))
@@ -96,7 +96,7 @@ module _ (loose include : Bool) (text rest : List ℕ) (all : Option (Span Versi
   -- nothing left
   pub words-end : is_empty rest ≡ true → words_of loose include text ≡ Some h.read
   unfolding words_within
-  words-end e = grind (arith, empty-is, append-nil)
+  words-end e = grind (arith, empty_is, append-nil)
 
 -- the first word is ignored where none is found
 pub first-none : (loose include : Bool) (text : List ℕ) (all : List (Option (List Comparison))) → IsUtf8 text → words_of loose include text ≡ Some all

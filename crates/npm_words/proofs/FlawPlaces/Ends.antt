@@ -7,7 +7,7 @@ use Rattle.npm_words.proofs.Common.{list_all, lower_of, lt-ltb, nat_lt, nat_test
 use Rattle.npm_words.proofs.Common.{take_at, true, upper_of, zero, ℕ, ◌++◌, ◌+◌, ◌-◌, ◌==◌, ◌>>?◌, ◌∙◌, ◌∷◌, ◌≡◌, ◌≤◌}
 use Rattle.npm_words.proofs.{FlawPlaces.Ranges.one_malformed_word, Grammar.Hyphens.{end-found, end-normal, end-read, ends-found, ends-read}}
 use Rattle.npm_words.proofs.Grammar.{Hyphens.{free-capped, front-is, normal-capped, right-end}, Printed.{capped-valid, lower-invalid, upper-invalid}}
-use Rattle.npm_words.{proofs.Grammar.VersionLaw.empty-is, specs.Internal.{Ends.{behind_end, is_lower, is_right_one, is_upper}, Words.after_dash}}
+use Rattle.npm_words.{proofs.Common.empty_is, specs.Internal.{Ends.{behind_end, is_lower, is_right_one, is_upper}, Words.after_dash}}
 use Rattle.npm_words.specs.{Internal.Words.end_len, MalformedEnds.{HasEnds, IsEndPlace, IsLower, IsMalformedPart, IsRightEnd, IsUpper, IsWrongEnd}}
 use Rattle.npm_words.specs.{MalformedEnds.{SkipsDash, SkipsMarks, a_word, an_end, lower, upper}, Table.Partial}
 use Rattle.semver_core.proofs.Reading.Boundaries.{blank-len, boundary-utf8, byte-is, first-is, skips-of, skips-utf8, some_space-is, tail-utf8}
@@ -105,7 +105,7 @@ form-found text e u h =
     let p = place-is text u in
     let split = place-split text (behind_end text) p in
     let d = dash-is split.0 (behind_end text) q.0 (rw split.1 at u) q.1 in
-    let whole = empty-is (behind_end q.0) c.0 in
+    let whole = empty_is (behind_end q.0) c.0 in
     let front = front-is text split.0 (behind_end text) split.1 in (
       record {
         first = split.0;

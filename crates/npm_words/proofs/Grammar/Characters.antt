@@ -1,6 +1,6 @@
 -- The characters of words, of their partials and signs, and of the whitespace between them.
 use Rattle.npm_words.proofs.Common.{Bool, Id, IsBlank, IsIdentifiers, IsPlace, IsPlaces, IsSignText, IsStrictBuild, List, Option, [], all_weaker}
-use Rattle.npm_words.proofs.Common.{and_parts, append-nil, arith, caret_equal, common_steps, compared, encode_ascii, encode_utf8, encode_utf8_all}
+use Rattle.npm_words.proofs.Common.{and_parts, arith, caret_equal, common_steps, compared, encode_ascii, encode_utf8, encode_utf8_all}
 use Rattle.npm_words.proofs.Common.{ends, get_or, is_ascii_digit, is_empty, is_identifier_char, is_whitespace, late_above, late_below, le-ltb, length}
 use Rattle.npm_words.proofs.Common.{list_all, lt-ltb, nat_le, nat_tests, no_sign, not, pieces, refl, runs_tail, sign, spelling, tilde_twice, true, ℕ}
 use Rattle.npm_words.{proofs.Common.{◌&&◌, ◌++◌, ◌-◌, ◌<◌, ◌==◌, ◌||◌, ◌∷◌, ◌≡◌, ◌≤◌}, specs.{Grammar.IsPreRelease, RangeText.tilde_sign}}
@@ -76,6 +76,3 @@ pub last-byte : (p : ℕ → Bool) (x rest : List ℕ) (d : ℕ) → 0 < length 
 last-byte p [] rest d some = absurd (omega (arith, some))
 last-byte p (c ∷ []) rest d some = refl
 last-byte p (c ∷ e ∷ x) rest d some = grind (arith, last-byte p (e ∷ x) rest d (omega arith))
-
-pub last-is : (p : ℕ → Bool) (w : List ℕ) (d : ℕ) → 0 < length w → p (get_or w (length w - 1) d) ≡ ends p w
-last-is p w d h = rw append-nil at (last-byte p w [] d h)

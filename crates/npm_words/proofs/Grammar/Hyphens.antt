@@ -1,6 +1,6 @@
 -- Hyphen ranges of node-semver's range texts: the functions that read them find exactly what the statement has, and the code those whose
 -- numbers that count are up to the limit.
-use Rattle.npm_words.proofs.Common.{AreMarks, AreWords, Bool, Comparison, Ended, Id, IsEnd, IsHyphen, IsPlaces, IsStrictBuild, IsUtf8, IsWord, List}
+use Rattle.npm_words.proofs.Common.{AreMarks, AreWords, Bool, Comparison, Ended, Id, IsEnd, IsHyphen, IsPlaces, IsStrictBuild, IsUtf8, IsWord, List, empty_is}
 use Rattle.npm_words.proofs.Common.{MAX_SAFE_INTEGER, None, Option, Some, VersionValue, [], after_byte, after_ends, all_weaker, and_parts, ap}
 use Rattle.npm_words.proofs.Common.{append_assoc, ap₂, are_marks, are_normal, are_whole_marks, arith, begins, bind_some, capped_in, capped_partial}
 use Rattle.npm_words.proofs.Common.{cases_Bool, common_steps, compared, cond_some, drop, drop_at, drop_ends, drop_spaces, encode_utf8}
@@ -10,8 +10,8 @@ use Rattle.npm_words.proofs.Common.{is_valid, is_whitespace, last_end, last_mark
 use Rattle.npm_words.proofs.Common.{length-drop, length-encode, list_all, list_all-append, lower_of, lt-ltb, nat_tests, no_build, not, plus}
 use Rattle.npm_words.proofs.Common.{prefix_len, refl, same_Some, space_len, space_len-nil, subst, suc, sym, take, true, upper_of, zero, ℕ, ◌&&◌, ◌++◌}
 use Rattle.npm_words.proofs.{Common.{◌+◌, ◌-◌, ◌<◌, ◌==◌, ◌>>?◌, ◌||◌, ◌∙◌, ◌∷◌, ◌≡◌, ◌≤◌}, Grammar.Characters.{is_signal, sign-signal}}
-use Rattle.npm_words.proofs.Grammar.{PartialLaw.{boundary-quiet, front-text, places-found, places-read}, Printed.{capped-valid, lower-invalid}}
-use Rattle.npm_words.proofs.Grammar.{Printed.{upper-invalid, valid-same}, Signs.marks-all, VersionLaw.empty-is, Words.{marks-dropped, places-begin}}
+use Rattle.npm_words.proofs.Grammar.{InsideIds.run-exact, PartialLaw.{boundary-quiet, front-text, places-found, places-read}, Printed.{capped-valid, lower-invalid}}
+use Rattle.npm_words.proofs.Grammar.{Printed.{upper-invalid, valid-same}, Signs.marks-all, Words.{marks-dropped, places-begin}}
 use Rattle.npm_words.specs.{Grammar.IsPreRelease, Internal.{Reads.valid_one, Words.{after_dash, end_len, places_front}}, RangeText.{formed, ignored}}
 use Rattle.{npm_words.specs.{RangeText.more, Table.{Partial, whole}}, semver_core.proofs.{Normal.identifiers-normal, Reading.Boundaries.blank-len}}
 use Rattle.semver_core.proofs.Reading.Boundaries.{boundary-of, boundary-utf8, byte-is, front-dark, skips-of, skips-utf8, some_space-is, tail-utf8}
@@ -155,7 +155,7 @@ hyphen-found loose text e u h =
     let dash = byte-is 45 sign.0 g.0 g.1 in
     let w = tail-utf8 45 g.0 (omega arith) (rw dash at (skips-utf8 a.0.1 sign.0 s.2 s.0)) in
     let t = some_space-is [] g.0 q.0 w g.2 in
-    let up = subst (λ (r : List ℕ). EndRead loose q.0 (l.0.0, r)) (empty-is l.0.1 ended.0) (end-found loose q.0 l.0 (skips-utf8 g.0 q.0 t.2 w) l.1) in (
+    let up = subst (λ (r : List ℕ). EndRead loose q.0 (l.0.0, r)) (empty_is l.0.1 ended.0) (end-found loose q.0 l.0 (skips-utf8 g.0 q.0 t.2 w) l.1) in (
       record { before = a.0.1; second = q.0; lower = low.0; dash = (g.0, s.1, rw dash at s.2, t.1, t.2); upper = up.0 },
       sym (same_Some (a.0.0, b.0) e b.2) ∙ ap₂ (λ (x y : Ended). (x, y)) low.1 (sym ended.1 ∙ up.1),
     )
@@ -284,12 +284,6 @@ unfolding encode_utf8
 marks-front [] h = refl
 marks-front (c ∷ cs) h = grind (arith, nat_tests, common_steps, and_parts, all-join, le-ltb, lt-ltb, high-front, marks-front cs)
 
-place-at : (p : ℕ → Bool) (a u : List ℕ) → list_all p a ≡ true → begins p u ≡ false → drop (prefix_len p (a ++ u)) (a ++ u) ≡ u
-place-at p [] u h k = grind arith
-place-at p (b ∷ a) u h k =
-    let both = and_parts (p b) (list_all p a) h in
-    let n : 1 + prefix_len p (a ++ u) ≡ suc (prefix_len p (a ++ u)) = omega arith in rw (both.0, n) (place-at p a u both.1 k)
-
 -- the partial there, and what stands behind it
 abbrev pub WordFront : List ℕ → List ℕ → Type 0
 WordFront text behind = (x : List ℕ) × (p : Partial) × IsPlaces false x p × (drop (prefix_len is_front text) text ≡ x ++ behind)
@@ -299,7 +293,7 @@ front-first u h = grind arith
 
 front-of : (text front x behind : List ℕ) (p : Partial) → text ≡ front ++ (x ++ behind) → list_all is_front front ≡ true → IsPlaces false x p
     → WordFront text behind
-front-of text front x behind p e h k = (x, p, k, rw e (place-at is_front front _ h (front-first (x ++ behind) (places-begin false x behind p k))))
+front-of text front x behind p e h k = (x, p, k, rw e (run-exact is_front front _ h (front-first (x ++ behind) (places-begin false x behind p k))))
 
 end-at : (text before : List ℕ) → IsEnd false text before → WordFront text before
 end-at text before h = front-of text h.marks h.places before h.partial h.divided (rw h.are.1 (marks-front h.are.0 h.are.2)) h.is

@@ -4,7 +4,7 @@ use Rattle.npm_words.proofs.Common.{from_boundary, if◌then◌else◌, inl, inr
 use Rattle.npm_words.proofs.Common.{length-take-le, nat_lt, nat_tests, refl, space_len, subst, suc, sym, take, true, zero, ℕ, ◌++◌, ◌-◌, ◌<◌, ◌∙◌}
 use Rattle.npm_words.proofs.{Common.{◌∷◌, ◌≡◌, ◌≤◌}, Grammar.{Inside.{not-taken, taken-found, taken-not, taken-read}, PartialLaw.front-text}}
 use Rattle.npm_words.{proofs.Grammar.Signs.{blank-at, blank-nil}, specs.{Internal.Words.takes_on, Malformed.{goes_on, stops}}}
-use Rattle.semver_core.proofs.Reading.Boundaries.{boundary-utf8, first-is, first-of, skips-is, skips-of, skips-utf8, spaces-gone, spaces-le}
+use Rattle.semver_core.proofs.Reading.Boundaries.{boundary-le, boundary-utf8, first-is, first-of, skips-is, skips-of, skips-utf8, spaces-gone, spaces-le}
 use Rattle.semver_core.specs.Text.{Boundaries.{IsBoundary, IsFirstBoundary, SkipsBlank}, Characters.BeginsBlank}
 
 nil-of : (text : List ℕ) → length text ≤ 0 → text ≡ []
@@ -48,14 +48,6 @@ ignored-read (suc n) text end u (goes_on t behind rest e f s h more) le =
     rw (first-of t behind u f, skips-of behind rest v.0 s, piece-is t behind f, on) (ignored-read n rest e v.1 more (omega (arith, less, le)))
 
 -- ---- what is left behind a boundary and whitespace
-
-pub boundary-le : (text : List ℕ) → length (from_boundary text) ≤ length text
-unfolding from_boundary
-boundary-le [] = omega arith
-boundary-le (b ∷ text) = elim (cases_Bool (is_boundary (b ∷ text))) [
-  | inl here ↦ grind (arith, here)
-  | inr on ↦ grind (arith, on, boundary-le text)
-]
 
 -- whitespace is some characters
 pub blank-some : (text blank : List ℕ) → text ≡ blank ++ drop_spaces text → 0 < space_len text → 0 < length blank

@@ -1,8 +1,8 @@
 -- The partials inside a malformed word, in front of a `=`: the functions find them exactly where the statement has them.
-use Rattle.npm_words.proofs.Common.{List, None, Option, Some, [], and_parts, ap, arith, cases_Bool, codes, common_steps, drop, drop_at, false}
+use Rattle.npm_words.proofs.Common.{List, None, Option, Some, [], and_parts, ap, arith, cases_Bool, codes, common_steps, drop, drop_at, empty_is, false}
 use Rattle.npm_words.proofs.Common.{if◌then◌else◌, inl, inr, is_ascii_digit, is_empty, length, length-append, length-drop, list_all, nat_tests}
 use Rattle.npm_words.proofs.Common.{prefix_len, refl, subst, suc, sym, take, take-append-drop, take_at, take_rest, takes, true, zero, ℕ, ◌&&◌, ◌++◌}
-use Rattle.npm_words.proofs.{Common.{◌+◌, ◌-◌, ◌<◌, ◌==◌, ◌||◌, ◌∙◌, ◌∷◌, ◌≡◌, ◌≤◌, ◌⊎◌}, Grammar.InsideParts.{inside-starts, partial-found}}
+use Rattle.npm_words.proofs.{Common.{◌+◌, ◌-◌, ◌<◌, ◌==◌, ◌||◌, ◌∙◌, ◌∷◌, ◌≡◌, ◌≤◌, ◌⊎◌}, Grammar.{Characters.empty-length, InsideParts.{inside-starts, partial-found}}}
 use Rattle.npm_words.{proofs.Grammar.{InsideParts.{partial-less, partial-max, starts_place}, PartialLaw.prefix-all}, specs.Internal.Inside.are_inside}
 use Rattle.npm_words.specs.{Internal.{Inside.{behind_partial, from_place, is_apart}, Words.takes_on}, Malformed.{AreInside, IsInside, IsTaken}}
 use Rattle.{npm_words.specs.Malformed.{begins_place, more, none}, std.{proofs.Math.Bool.or-true, specs.{Cmp.Lexicographic.pointwise, List.ends_with}}}
@@ -36,14 +36,11 @@ from-front [] (c ∷ rest) h k = apart-off c rest (starts-apart c rest k)
 from-front (c ∷ front) rest h k =
     let p = and_parts (is_apart c) (list_all is_apart front) h in apart-on c (front ++ rest) p.0 ∙ from-front front rest p.1 k
 
-from-le : (text : List ℕ) → length (from_place text) ≤ length text
-from-le text = omega (arith, length-drop (prefix_len is_apart text) text)
-
 -- what is left is shorter
 less : (text : List ℕ) → is_empty (from_place text) ≡ false → length (behind_partial (from_place text)) < length text
 less text h = elim (from-starts text) [
   | inl nothing ↦ cc (ap is_empty nothing, h)
-  | inr place ↦ omega (arith, partial-less (from_place text) place, from-le text)
+  | inr place ↦ omega (arith, partial-less (from_place text) place, length-drop (prefix_len is_apart text) text)
 ]
 
 -- ---- the loop
@@ -92,11 +89,7 @@ module _ (text : List ℕ) where
   once = enough (length text) (suc (length text)) text (omega arith) (omega arith) ∙ step (length text) text
 
   pub inside-stops : first_place text ≡ None → (length text == 0) ≡ are_inside (length text) text
-  inside-stops h = empty-is text ∙ sym (once ∙ rw (first-none text h) refl)
-    where
-      empty-is : (text : List ℕ) → (length text == 0) ≡ is_empty text
-      empty-is [] = refl
-      empty-is (c ∷ text) = grind (arith, nat_tests)
+  inside-stops h = sym (empty-length text) ∙ sym (once ∙ rw (first-none text h) refl)
 
   module _ (at : ℕ) (h : first_place text ≡ Some at) (next : List ℕ) (f : next ≡ behind_partial (take (length text - at) (drop at text))) where
     same : next ≡ behind_partial (from_place text)
@@ -116,7 +109,7 @@ unfolding are_inside
 inside-found zero [] k h = none
 inside-found zero (c ∷ text) k h = cc h
 inside-found (suc n) text k h = elim (cases_Bool (is_empty (from_place text))) [
-  | inl stop ↦ subst AreInside (sym (nil-of text (rw stop at h))) none
+  | inl stop ↦ subst AreInside (sym (empty_is text (rw stop at h))) none
   | inr on ↦
       let first = from_place text in
       let rest = behind_partial first in
@@ -128,10 +121,6 @@ inside-found (suc n) text k h = elim (cases_Bool (is_empty (from_place text))) [
       (λ y z e i. longest-of first f.piece rest y z (f.split ∙ e) f.split refl i) each)
 ]
   where
-    nil-of : (text : List ℕ) → is_empty text ≡ true → text ≡ []
-    nil-of [] h = refl
-    nil-of (c ∷ text) h = cc h
-
     starts : (text : List ℕ) → is_empty (from_place text) ≡ false → starts_place (from_place text) ≡ true
     starts text h = elim (from-starts text) [ inl nothing ↦ cc (ap is_empty nothing, h) | inr place ↦ place ]
 

@@ -5,7 +5,7 @@ use Rattle.npm_words.proofs.Common.{and-false, and_parts, ap, append-nil, append
 use Rattle.npm_words.proofs.Common.{bind_some, build_front, capped_one, capped_partial, cases_Bool, common_steps, digits_value, dotted_patch}
 use Rattle.npm_words.proofs.Common.{dotted_place, drop, drop-append-add, drop_at, false, first_as, has_leading_zero, if◌then◌else◌, inl, inr}
 use Rattle.npm_words.proofs.Common.{is_ascii_digit, is_boundary, is_empty, is_none, is_spelled, length, length-append, length-prefix_len, list_all}
-use Rattle.npm_words.proofs.Common.{listed, may_stand, nat_le, nat_tests, not, number_front, number_of, number_with, one, partial_of, patch_place}
+use Rattle.npm_words.proofs.Common.{listed, may_stand, nat_le, nat_lt, nat_tests, not, number_front, number_of, number_with, one, partial_of, patch_place}
 use Rattle.npm_words.proofs.Common.{place_front, pre_front, pre_release_with, prefix_len, qualified_partial, refl, run_place, same_Some, subst, suc}
 use Rattle.npm_words.proofs.Common.{sym, take, take-append-drop, take_at, take_rest, take_while, three, true, two, zero, ℕ, ◌&&◌, ◌++◌, ◌+◌, ◌-◌, ◌<◌}
 use Rattle.npm_words.proofs.{Common.{◌>>?◌, ◌||◌, ◌∙◌, ◌∷◌, ◌≡◌, ◌≤◌}, Grammar.VersionLaw.{At, Ends, Follows, build-ends, build-found, build-taken}}
@@ -35,6 +35,10 @@ prefix-all p text = prefix-of p (prefix_len p text) text (omega arith)
 
 pub digits-of : (k : ℕ) (text : List ℕ) → k ≤ prefix_len is_ascii_digit text → list_all is_ascii_digit (take k text) ≡ true
 digits-of k text h = prefix-of is_ascii_digit k text h
+
+pub digits_all : (text : List ℕ) → nat_lt (prefix_len is_ascii_digit text) (length text) ≡ not (list_all is_ascii_digit text)
+digits_all [] = refl
+digits_all (c ∷ text) = grind (arith, nat_tests, common_steps, digits_all text)
 
 pub digits-many_on : (digits rest : List ℕ) → list_all is_ascii_digit digits ≡ true
     → prefix_len is_ascii_digit (digits ++ rest) ≡ length digits + prefix_len is_ascii_digit rest

@@ -12,7 +12,7 @@ use Rattle.npm_words.specs.{Alternatives.satisfying, Internal.{Alternatives.met,
 use Rattle.npm_words.specs.{Internal.Parts.{is_padded, no_build, noted}, Table.{Partial, Sign, caret, lowest, next, table, tilde, unbuilt}}
 use Rattle.{npm_words.specs.Table.written_zeros, semver_core.proofs.CutLaws.{between, cut_total, gt_lt, is_past-greater_lower, is_past-lesser_upper}}
 use Rattle.semver_core.{proofs.{CutLaws.lt_trans, Gate.{both, lets_in-meet, lets_in_one}}, specs.{Cuts.{Cut, cut_cmp}, Values.Versions.IsVersion}}
-use Rattle.std.{proofs.lemmas.List.map-append, specs.Cmp.upto}
+use Rattle.std.{proofs.{Math.Bool.or-true, lemmas.List.map-append}, specs.Cmp.upto}
 use Rattle.semver_core.specs.Values.Spans as Spans
 
 -- ---- where a word has no comparators
@@ -38,15 +38,12 @@ open_lower b = grind arith
 common-one : (s : Span VersionValue) → both s everything ≡ s
 common-one s = rw (open_upper s.lower, open_lower s.upper) refl
 
-counted-one : (include : Bool) (c : Comparison) → counts include c ≡ true → common_in include (c ∷ []) ≡ satisfying c
-counted-one include c h = rw h (common-one (satisfying c))
-
 -- the bounds are of that version, whose numbers may be greater by one
 pub one_common : (include : Bool) (c : Comparator) (w : VersionValue) (text : List ℕ)
     → is_readable MAX_SAFE_INTEGER w ≡ true → counts include (comparison c w text) ≡ true
     → IsCommon include (comparison c w text ∷ []) (satisfying (comparison c w text))
 one_common include c w text r h = record {
-  is = sym (counted-one include (comparison c w text) h);
+  is = rw h (sym (common-one (satisfying (comparison c w text))));
   lower = grind (arith, nat_tests, common_steps);
   upper = grind (arith, nat_tests, common_steps);
 }
@@ -112,11 +109,8 @@ lesser_of_three b c d = elim (cases_Bool (is_gt (cut_cmp precedence (upper_cut b
 both-both : (s t u : Span VersionValue) → both s (both t u) ≡ both (both s t) u
 both-both s t u = rw (greater_of_three s.lower t.lower u.lower, lesser_of_three s.upper t.upper u.upper) refl
 
-both-everything : (s : Span VersionValue) → both everything s ≡ s
-both-everything s = grind arith
-
 common-append : (ss ts : List (Span VersionValue)) → common (ss ++ ts) ≡ both (common ss) (common ts)
-common-append [] ts = sym (both-everything (common ts))
+common-append [] ts = grind arith
 common-append (s ∷ ss) ts = ap (λ u. both s u) (common-append ss ts) ∙ both-both s (common ss) (common ts)
 
 no_more : {A : Type 0} (x : A) (a b : Bool) → None ≡ (if (a && (b && false)) then Some x else None)
@@ -157,9 +151,6 @@ module _ (include : Bool) (cs ds : List Comparison) where
     is = ap₂ met h.is k.is ∙ met-interval h.span k.span;
   }
 
-pub either_true : (a : Bool) → (a || true) ≡ true
-either_true a = grind arith
-
 zero_of : (v : VersionValue) → IsVersion v → bytes_eq (unbuilt at_least v).text (codes "0.0.0") ≡ is_zero (no_build v)
 zero_of v h = prints_zero (no_build v) h.major h.minor h.patch
 
@@ -194,7 +185,7 @@ pub noted_valid : (padded : Bool) (c : Comparison) → is_valid MAX_SAFE_INTEGER
 noted_valid padded c = grind (arith, nat_tests, common_steps, bytes_eq-Decides)
 
 pub under_common : (include : Bool) (n : Numbers) → within n ≡ true → IsCommon include (under n ∷ []) (Spans.< (lowest n))
-under_common include n w = one_common include below (lowest n) _ (whole_readable (lowest n) w refl) (either_true include)
+under_common include n w = one_common include below (lowest n) _ (whole_readable (lowest n) w refl) (or-true include)
 
 pub until_common : (include : Bool) (c : Comparison) (b : Bound VersionValue) (n : Numbers) → within n ≡ true
     → IsCommon include (c ∷ []) (record { lower = b; upper = Unbounded })

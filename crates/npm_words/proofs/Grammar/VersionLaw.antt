@@ -1,6 +1,6 @@
 -- Version texts of the strict reading: numbers without leading zeros, pre-releases, builds and whole texts. What is read is written, and what is
 -- written is read.
-use Rattle.npm_words.proofs.Common.{Bool, Id, IsIdentifiers, IsPieceAt, IsStrictBuild, IsStrictNumber, IsUtf8, IsWholeNumber, List, MAX_SAFE_INTEGER}
+use Rattle.npm_words.proofs.Common.{Bool, Id, IsIdentifiers, IsPieceAt, IsStrictBuild, IsStrictNumber, IsUtf8, IsWholeNumber, List, MAX_SAFE_INTEGER, empty_is}
 use Rattle.npm_words.proofs.Common.{None, Some, [], after_byte, and-false, and_from, and_parts, append-nil, arith, bare, begins, begins_byte}
 use Rattle.npm_words.proofs.Common.{begins_identifier, begins_padded, begins_undashed, bind_some, build_front, cases_Bool, chars, chars_from_encodes}
 use Rattle.npm_words.proofs.Common.{common_steps, dashed, decimal, digits_value, drop, false, goes_on, has_leading_zero, if◌then◌else◌, inl, inr}
@@ -177,9 +177,6 @@ pre-taken loose wild fits p behind l none (bare t list h s x) e =
 
 -- ---- what is read is written
 
-pub empty-is : (t : List ℕ) → is_empty t ≡ true → t ≡ []
-empty-is t h = grind (arith, nat_tests, common_steps)
-
 -- the text behind a mark and three numbers is a pre-release and a build
 pub ended-found : (Marks : List ℕ → Type 0) (Number : List ℕ → ℕ → Type 0) (loose : Bool) (fits : List ℕ → Bool) (mark x y z text : List ℕ)
     (a b c : ℕ) (pre : List ℕ × List ℕ) → Marks mark → Number x a → Number y b → Number z c → PreFound loose false fits text pre.0 pre.1
@@ -187,7 +184,7 @@ pub ended-found : (Marks : List ℕ → Type 0) (Number : List ℕ → ℕ → T
     (record { major = a; minor = b; patch = c; pre_release = listed pre.0; build = listed (build_front pre.1).0 })
 ended-found Marks Number loose fits mark x y z text a b c pre m i j k p whole =
     let q = build-found pre.1 in
-    let split : text ≡ p.0 ++ q.0 = cc (p.1, q.1, empty-is (build_front pre.1).1 whole, append-nil q.0) in
+    let split : text ≡ p.0 ++ q.0 = cc (p.1, q.1, empty_is (build_front pre.1).1 whole, append-nil q.0) in
     rw split (written mark x y z p.0 q.0 _ m i j k p.2 q.2)
 
 -- ---- a text has no more characters than bytes, and as many as its iterator counts

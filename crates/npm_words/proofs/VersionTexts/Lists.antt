@@ -214,6 +214,9 @@ marked_listed included strict mark text len e = rw e (marked-found included stri
 
 -- ---- a stretch
 
+pub stretch_none : (strict : Bool) (text : List ℕ) → IsStretch strict text (record { from = 0; to = 0 })
+stretch_none strict text = record { fits = omega arith; each = λ i past before. absurd (omega arith) }
+
 pub stretch_new : (strict : Bool) (text : List ℕ) (at to : ℕ) → at ≤ length text → to ≡ at + list_len_in strict (drop at text)
     → IsStretch strict text (record { from = at; to = to })
 stretch_new strict text at to inside e = record {

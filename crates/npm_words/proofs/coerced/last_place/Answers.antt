@@ -1,12 +1,12 @@
-use Rattle.npm_words.proofs.{Common.{false, true}, VersionTexts.Coerced.{last_begin, last_kept, last_taken}, coerced.last_place.Goals.else-there-end}
+use Rattle.npm_words.proofs.{Common.{false, true}, VersionTexts.{Coerced.{last_begin, last_kept, last_taken}, Lists.stretch_none}, coerced.last_place.Goals.else-there-end}
 use Rattle.npm_words.proofs.coerced.last_place.Goals.{then-there-end}
 use Rattle.npm_words.proofs.coerced.last_place.Goals as goal
 
 pub places-init : goal.places-init
 places-init c = record {
   last = last_begin c.args.included c.args.text.now;
-  pre_releases = c.empty-pre_releases.ensures true c.args.text.now;
-  builds = c.empty-builds.ensures false c.args.text.now;
+  pre_releases = stretch_none true c.args.text.now;
+  builds = stretch_none false c.args.text.now;
 }
 
 pub places-preserved : goal.places-preserved

@@ -1,8 +1,8 @@
-use Rattle.{npm_words.proofs.{Common.{[], arith, take_rest, ◌≡◌}, VersionTexts.Lists.marked_listed}, semver_core.proofs.Text.Ends.nothing_listed}
+use Rattle.{npm_words.proofs.{Common.{[], arith, take_rest, ◌≡◌}, VersionTexts.Lists.{marked_listed, stretch_none}}, semver_core.proofs.Text.Ends.nothing_listed}
 use Rattle.npm_words.proofs.coerced.marked_list.Goals as goal
 
 pub marked_end-len-requires-clause-known : goal.marked_end-len-requires-clause-known
-marked_end-len-requires-clause-known c = c.empty.ensures c.args.strict c.args.text.now
+marked_end-len-requires-clause-known c = stretch_none c.args.strict c.args.text.now
 
 pub returns-in-empty-clause-listed : goal.returns-in-empty-clause-listed
 returns-in-empty-clause-listed c = let none : c.split_at.result.0.now ≡ [] = grind (arith, c.in-empty.len_below) in rw none nothing_listed

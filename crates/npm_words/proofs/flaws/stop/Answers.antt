@@ -1,4 +1,4 @@
-use Rattle.npm_words.proofs.{Common.{MAX_SAFE_INTEGER, None, next, rules, sym, ◌∙◌, ◌≡◌}, FlawPlaces.Stops.{passed_end, passed_more, passed_none}}
+use Rattle.npm_words.proofs.{Common.{MAX_SAFE_INTEGER, arith, None, next, rules, sym, ◌∙◌, ◌≡◌}, FlawPlaces.Stops.{passed_end, passed_more, passed_none}}
 use Rattle.npm_words.proofs.FlawPlaces.Stops.{passed_stop, passed_whole}
 use Rattle.npm_words.proofs.flaws.stop.Goals as goal
 
@@ -16,10 +16,11 @@ pub letters-preserved : goal.letters-preserved
 letters-preserved c =
     passed_more _ _ _ _ _ c.letters.invariant _ _ _ _ c.in-Some.ensures.steps.0 c.len_utf8-at.ensures.value (sym c.in-Some-next.ensures)
 
-pub returns-then-is_whole : goal.returns-then-is_whole
-returns-then-is_whole c = passed_whole _ _ _ _ _ c.letters.invariant c.in-None.ensures.steps.0.0 (sym c.is_whole.ensures ∙ c.if-is_whole.true)
+pub returns-in-Number-eq0-default : goal.returns-in-Number-eq0-default
+returns-in-Number-eq0-default c = passed_whole _ _ _ _ _ c.letters.invariant c.in-None.ensures.steps.0.0 (grind arith)
 
-pub returns-else-is_whole : goal.returns-else-is_whole
-returns-else-is_whole c =
-    passed_end _ _ _ _ _ c.letters.invariant _ c.in-None.ensures.steps.0.0
-    (sym c.is_whole.ensures ∙ c.if-is_whole.false) c.wrong_at-else-is_whole.ensures
+pub returns-in-Zero : goal.returns-in-Zero
+returns-in-Zero c = passed_whole _ _ _ _ _ c.letters.invariant c.in-None.ensures.steps.0.0 (grind arith)
+
+pub returns-in_default-state : goal.returns-in_default-state
+returns-in_default-state c = passed_end _ _ _ _ _ c.letters.invariant _ c.in-None.ensures.steps.0.0 (grind arith) c.wrong_at-in_default-state.ensures

@@ -1,4 +1,5 @@
-use Rattle.npm_words.proofs.{Common.{ap, arith, length, sym, ◌∙◌}, Grammar.Ignored.{boundary-le, piece-goes, piece-less, piece-stops}}
+use Rattle.npm_words.proofs.{Common.{ap, arith, length, sym, ◌∙◌}, Grammar.Ignored.{piece-goes, piece-less, piece-stops}}
+use Rattle.semver_core.proofs.Reading.Boundaries.{boundary-le}
 use Rattle.npm_words.proofs.ignored.behind_ignored.Goals as goal
 
 pub overflow_sub-len : goal.overflow_sub-len

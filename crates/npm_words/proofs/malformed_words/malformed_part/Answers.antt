@@ -1,4 +1,4 @@
-use Rattle.{npm_words.proofs.{Common.{[], ap, arith, length}, Grammar.Ignored.boundary-le}, semver_core.proofs.Reading.Boundaries.first-is}
+use Rattle.{npm_words.proofs.Common.{[], ap, arith, length}, semver_core.proofs.Reading.Boundaries.{boundary-le, first-is}}
 use Rattle.npm_words.specs.MalformedEnds.{a_word, an_end}
 use Rattle.npm_words.proofs.malformed_words.malformed_part.Goals as goal
 

@@ -1,4 +1,4 @@
-use Rattle.npm_words.proofs.Common.{sym, true, ◌∙◌}
+use Rattle.npm_words.proofs.Common.{sym, ◌∙◌}
 use Rattle.npm_words.proofs.hyphens.End.upper_bounds.Goals as goal
 
 pub returns-then-include : goal.returns-then-include
