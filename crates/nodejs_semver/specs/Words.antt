@@ -34,7 +34,7 @@ pub use Rattle.nodejs_semver.specs.Json.{json_string, ReadsString}
 pub use Rattle.nodejs_semver.specs.Printing.RoundTrip.{bounds_back, is_printable}
 pub use Rattle.nodejs_semver.specs.Printing.Text.{lower_text, range_text, upper_text}
 pub use Rattle.nodejs_semver.specs.Ranges.Algebra.{covers_one, difference, intersection, list_holds}
-pub use Rattle.nodejs_semver.specs.Ranges.Best.{IsMax, IsMaxOf, IsMin, IsMinOf, replaces}
+pub use Rattle.nodejs_semver.specs.Ranges.Best.{IsMax, IsMaxOf, IsMin, replaces}
 pub use Rattle.nodejs_semver.specs.Ranges.Equality.{range_eq}
 pub use Rattle.nodejs_semver.specs.Ranges.Gate.{accepts}
 pub use Rattle.semver_core.specs.Values.Gate.{lets_in}

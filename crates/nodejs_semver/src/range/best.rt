@@ -2,7 +2,8 @@
 
 ghost use Rattle.std.specs.Prelude.{◌++◌, ◌∷◌, ◌≡◌, if◌then◌else◌, [], All, Contains, false};
 ghost use Rattle.nodejs_semver.specs.Words.{accepts, IfNone, IfSome, is_le, is_lt, is_release};
-ghost use Rattle.nodejs_semver.specs.Words.{IsMax, IsMaxOf, IsMin, IsMinOf, List, list_all, map};
+ghost use Rattle.nodejs_semver.specs.Ranges.Best.{IsMinOf};
+ghost use Rattle.nodejs_semver.specs.Words.{IsMax, IsMaxOf, IsMin, List, list_all, map};
 ghost use Rattle.nodejs_semver.specs.Words.{option_copied, option_map, precedence, replaces, Some};
 ghost use Rattle.nodejs_semver.specs.Words.{spans_of, true, VersionValue};
 
