@@ -10,7 +10,7 @@ use Rattle.semver_core.specs.declared.TheConstants.{MAX_SAFE_INTEGER}
 use Rattle.semver_core.specs.declared.cuts.bound.Bound as cuts
 use Rattle.semver_core.specs.declared.cuts.bound.Bound.TheVariants.{Unbounded, Before, After}
 use Rattle.nodejs_semver.specs.Ranges.Gate.{accepts}
-use Rattle.nodejs_semver.specs.Ranges.Least.{IsLeastOf, least_build}
+use Rattle.nodejs_semver.specs.Ranges.Least.{IsLeastOf, least_build, names_identifiers}
 use Rattle.nodejs_semver.specs.Ranges.View.{IsRange}
 use Rattle.nodejs_semver_c.specs.Answers.{NoMemoryOnlyIf}
 use Rattle.nodejs_semver_c.specs.Kept.{ComesBack, PutsVersion, RefusesKept, kept_texts, kept_value, parts_of}
@@ -135,6 +135,6 @@ abbrev pub TellsLeast : List (Span VersionValue) → (told_old told_new : Parts)
 TellsLeast r told_old told_new old new status =
     ((found : Option VersionValue) × IsLeastOf (λ v. accepts r v false) found
     × IfSome found (λ v. v.build ≡ least_build r v) × PutsFound found told_old told_new old new status)
-    ⊎ NoMemoryOnlyIf status ((told_new ≡ told_old) × (new ≡ old))
-    (((v : VersionValue) × (accepts r v false ≡ true))
-    ⊎ Any (λ s. (v : VersionValue) × (s.lower ≡ After v) × (is_release v ≡ false)) r)
+    ⊎ NoMemoryOnlyIf status ((told_new ≡ told_old) × (new ≡ old)) ((names_identifiers r ≡ true)
+    × (((v : VersionValue) × (accepts r v false ≡ true))
+    ⊎ Any (λ s. (v : VersionValue) × (s.lower ≡ After v) × (is_release v ≡ false)) r))

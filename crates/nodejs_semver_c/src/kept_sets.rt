@@ -8,7 +8,7 @@ ghost use Rattle.nodejs_semver.specs.Ranges.View.{TakesMemory};
 ghost use Rattle.nodejs_semver_c.specs.Answers.{NoMemoryOnlyIf};
 ghost use Rattle.nodejs_semver_c.specs.KeptRanges.{OnKeptRange, RangeKept, TellsRange};
 ghost use Rattle.nodejs_semver_c.specs.KeptSets.{TellsBeyond, TellsFoundRange};
-ghost use Rattle.nodejs_semver_c.specs.Subsets.{MayTake, shows_no_subset};
+ghost use Rattle.nodejs_semver_c.specs.Subsets.{MayTake, MayTry, shows_no_subset};
 ghost use Rattle.std.specs.Prelude.{◌≡◌, ◌⊎◌, ◌<◌, ◌↔◌, [], IfOk, IfSome, IsTrue, OnErr, is_some};
 ghost use Rattle.std.specs.Prelude.{length, true};
 
@@ -214,7 +214,7 @@ pub extern "C" fn nodejs_semver_is_subset<'t>(
     ensures { let same = answer.new ≡ answer.old in
         OnKeptRange range.now result same (λ r. OnKeptRange other.now result same (λ s.
         ((result ≡ OK) × (IsTrue answer.new ↔ IsSubset include_prerelease r s))
-        ⊎ NoMemoryOnlyIf result same (MayTake include_prerelease r s))) }
+        ⊎ NoMemoryOnlyIf result same (MayTry include_prerelease r s))) }
 {
     let range = ok_or_return!(kept_range(alloc, range));
     let other = ok_or_return!(kept_range(alloc, other));

@@ -2,7 +2,7 @@
 
 ghost use Rattle.nodejs_semver.specs.Printing.Text.{range_text};
 ghost use Rattle.nodejs_semver.specs.Ranges.Gate.{accepts};
-ghost use Rattle.nodejs_semver.specs.Ranges.Least.{IsLeastOf, least_build};
+ghost use Rattle.nodejs_semver.specs.Ranges.Least.{IsLeastOf, least_build, names_identifiers};
 ghost use Rattle.nodejs_semver.specs.Ranges.Outside.{is_outside};
 ghost use Rattle.nodejs_semver_c.specs.Answers.{Kept, NoMemoryOnlyIf, OnRange, OnVersion};
 ghost use Rattle.nodejs_semver_c.specs.Answers.{Prints, PrintsFound};
@@ -107,8 +107,9 @@ pub extern "C" fn nodejs_semver_range_min_version(
         ((found : Option VersionValue) × IsLeastOf (λ v. accepts r v false) found
         × IfSome found (λ v. v.build ≡ least_build r v)
         × PrintsFound version_text found out.old out.new len.old len.new result)
-        ⊎ NoMemoryOnlyIf result kept (((v : VersionValue) × (accepts r v false ≡ true))
-        ⊎ Any (λ s. (v : VersionValue) × (s.lower ≡ After v) × (is_release v ≡ false)) r)) }
+        ⊎ NoMemoryOnlyIf result kept ((names_identifiers r ≡ true)
+        × (((v : VersionValue) × (accepts r v false ≡ true))
+        ⊎ Any (λ s. (v : VersionValue) × (s.lower ≡ After v) × (is_release v ≡ false)) r))) }
 {
     match read::range(alloc, reading, false, range) {
         Ok(range) => match range.min_version(alloc) {

@@ -5,7 +5,7 @@ ghost use Rattle.nodejs_semver.specs.Ranges.Subsets.{AcceptSame, IsSubset};
 ghost use Rattle.nodejs_semver.specs.Ranges.Unions.{union};
 ghost use Rattle.nodejs_semver.specs.Ranges.View.{TakesMemory};
 ghost use Rattle.nodejs_semver_c.specs.Answers.{Kept, NoMemoryOnlyIf, OnRange, Prints};
-ghost use Rattle.nodejs_semver_c.specs.Subsets.{MayTake};
+ghost use Rattle.nodejs_semver_c.specs.Subsets.{MayTry};
 ghost use Rattle.std.specs.Prelude.{◌≡◌, ◌↔◌, ◌⊎◌, IfOk, IsTrue, OnErr, false};
 
 use crate::print::print;
@@ -55,7 +55,7 @@ pub extern "C" fn nodejs_semver_range_is_subset(
         OnRange reading include_prerelease range.now result kept (λ r.
         OnRange reading include_prerelease other.now result kept (λ s.
         ((result ≡ OK) × (IsTrue answer.new ↔ IsSubset include_prerelease r s))
-        ⊎ NoMemoryOnlyIf result kept (MayTake include_prerelease r s))) }
+        ⊎ NoMemoryOnlyIf result kept (MayTry include_prerelease r s))) }
 {
     let range = ok_or_return!(read::range(alloc, reading, include_prerelease, range));
     let other = ok_or_return!(read::range(alloc, reading, include_prerelease, other));
@@ -77,7 +77,7 @@ pub fn is_subset<'t>(
 ) -> Result<bool, AllocError>
     ensures subset { IfOk result (λ found.
         IsTrue found ↔ IsSubset include_prerelease range.now other.now) }
-    ensures memory { OnErr result (MayTake include_prerelease range.now other.now) }
+    ensures memory { OnErr result (MayTry include_prerelease range.now other.now) }
 {
     if include_prerelease {
         range.is_subset_with_prerelease(alloc, other)
@@ -103,7 +103,7 @@ pub extern "C" fn nodejs_semver_range_accepts_same(
         OnRange reading include_prerelease other.now result kept (λ s.
         ((result ≡ OK) × (IsTrue answer.new ↔ AcceptSame include_prerelease r s))
         ⊎ NoMemoryOnlyIf result kept
-        (MayTake include_prerelease r s ⊎ MayTake include_prerelease s r))) }
+        (MayTry include_prerelease r s ⊎ MayTry include_prerelease s r))) }
 {
     let range = ok_or_return!(read::range(alloc, reading, include_prerelease, range));
     let other = ok_or_return!(read::range(alloc, reading, include_prerelease, other));
@@ -124,8 +124,8 @@ fn accepts_same<'t>(
 ) -> Result<bool, AllocError>
     ensures same { IfOk result (λ found.
         IsTrue found ↔ AcceptSame include_prerelease range.now other.now) }
-    ensures memory { OnErr result (MayTake include_prerelease range.now other.now
-        ⊎ MayTake include_prerelease other.now range.now) }
+    ensures memory { OnErr result (MayTry include_prerelease range.now other.now
+        ⊎ MayTry include_prerelease other.now range.now) }
 {
     if include_prerelease {
         range.accepts_same_with_prerelease(alloc, other)

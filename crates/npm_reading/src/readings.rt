@@ -1,8 +1,10 @@
 // Ranges with how they were read, by which they are asked.
 
-ghost use Rattle.nodejs_semver.specs.Words.{IfOk, IsCutAtBars, IsMax, IsMin, List};
-ghost use Rattle.nodejs_semver.specs.Words.{MAX_SAFE_INTEGER, MemoryOnlyIf, NoValue, RefusedOnlyIf};
-ghost use Rattle.nodejs_semver.specs.Words.{VersionValue, length, map, option_map, ℕ};
+ghost use Rattle.nodejs_semver.specs.Ranges.Best.{IsMinOf};
+ghost use Rattle.nodejs_semver.specs.Words.{IfOk, IsCutAtBars, IsMax, IsMaxOf, IsMin};
+ghost use Rattle.nodejs_semver.specs.Words.{List, MAX_SAFE_INTEGER, MemoryOnlyIf, NoValue};
+ghost use Rattle.nodejs_semver.specs.Words.{RefusedOnlyIf, VersionValue, length, map};
+ghost use Rattle.nodejs_semver.specs.Words.{option_copied, option_map, ℕ};
 ghost use Rattle.npm_reading.specs.{Ranges.IsRangeIn, Readings.{HasAlternativesAs, OfAccepted}};
 ghost use Rattle.npm_words.specs.Words.{Comparison};
 ghost use Rattle.std.specs.Prelude.{◌<◌, ◌≡◌};
@@ -116,8 +118,10 @@ impl<'a> ReadRange<'a> {
     /// The greatest of the versions that the range accepts by `satisfies`. Returns `None` exactly
     /// where it accepts none. Of equal versions it is the last.
     pub fn max_satisfying<'v, W: Versioned>(&self, versions: &'v [W]) -> Option<&'v W>
-        ensures { OfAccepted MAX_SAFE_INTEGER self.now (λ accepted. IsMax accepted
+        ensures best { OfAccepted MAX_SAFE_INTEGER self.now (λ accepted. IsMax accepted
             (map W.value versions.now) (option_map (λ v. W.value v.now) result)) }
+        ensures element { OfAccepted MAX_SAFE_INTEGER self.now (λ accepted.
+            IsMaxOf W.value accepted versions.now (option_copied result)) }
     {
         let include = self.reading.include_prerelease;
         greatest(self.range.items(), include, versions)
@@ -126,8 +130,10 @@ impl<'a> ReadRange<'a> {
     /// The smallest of the versions that the range accepts by `satisfies`. Returns `None` exactly
     /// where it accepts none. Of equal versions it is the first.
     pub fn min_satisfying<'v, W: Versioned>(&self, versions: &'v [W]) -> Option<&'v W>
-        ensures { OfAccepted MAX_SAFE_INTEGER self.now (λ accepted. IsMin accepted
+        ensures best { OfAccepted MAX_SAFE_INTEGER self.now (λ accepted. IsMin accepted
             (map W.value versions.now) (option_map (λ v. W.value v.now) result)) }
+        ensures element { OfAccepted MAX_SAFE_INTEGER self.now (λ accepted.
+            IsMinOf W.value accepted versions.now (option_copied result)) }
     {
         let include = self.reading.include_prerelease;
         least(self.range.items(), include, versions)

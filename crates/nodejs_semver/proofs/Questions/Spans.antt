@@ -8,7 +8,12 @@ use Rattle.nodejs_semver.proofs.Common.{is_range_span, least_build, length, leng
 use Rattle.nodejs_semver.proofs.Common.{map-append, nat_tests, not, not_if, option_map, or-false, or_cases, precedence, precedence_total, refl}
 use Rattle.nodejs_semver.proofs.Common.{removed_marks, span_of, spans_of, subst, sym, take, take_next, tells, tied_itself, true, ℕ, ◌&&◌, ◌++◌, ◌+◌}
 use Rattle.nodejs_semver.{proofs.{Common.{◌-◌, ◌<◌, ◌^◌, ◌||◌, ◌∙◌, ◌∷◌, ◌≡◌, ◌⊎◌}, Values.map-further}, specs.Internal.Candidates.{EndsAfterPre, Finds}}
-use Rattle.nodejs_semver.specs.Internal.Candidates.{IsLeastBuilt, MayAllocate, StartsWith, first_past, lesser, zero}
+use Rattle.nodejs_semver.specs.Internal.Candidates.{IsLeastBuilt, MayAllocate, StartsWith, first_past, has_build, lesser, zero}
+use Rattle.nodejs_semver.proofs.Common.{After, Before, Err, Ok, Result, Unbounded, build_by, option_and_then}
+use Rattle.std.specs.Result.{IsOkAnd, MatchResult, OnErr}
+use Rattle.nodejs_semver.specs.Ranges.Least.{begins_with, names_identifiers}
+use Rattle.semver_core.specs.{Cuts.{has_bound, passes}, Lists.is_empty, Values.Versions.{HasIdentifiers, is_release}}
+use Rattle.std.proofs.{Math.Bool.or-true, lemmas.List.Folds.list_any_at}
 use Rattle.{semver_core.proofs.Gate.{le_of_lt, le_trans, lt_is, lt_le, past_order}, std.specs.Option.option_or}
 
 -- the patch of a bound of a range can be raised
@@ -200,3 +205,102 @@ trying_allocates ks ls h = grind (arith, nat_tests, common_steps, Any-one)
 pub held_allocates : (ks : List (Span VersionValue)) → Finds true (λ v. accepts ks v true) ⊎ BeginsAfterPre ks
     → ((v : VersionValue) × (accepts ks v true ≡ true)) ⊎ BeginsAfterPre ks
 held_allocates ks h = elim h [ inl found ↦ inl (found.1, found.2) | inr begins ↦ inr begins ]
+
+-- ---- where no bound has identifiers, nothing is allocated
+
+abbrev named : VersionValue → Bool
+named w = not (is_release w && is_empty w.build)
+
+passes-weaker : (test other : VersionValue → Bool) (b : Bound VersionValue) → ((w : VersionValue) → test w ≡ true → other w ≡ true)
+    → passes test b ≡ true → passes other b ≡ true
+passes-weaker test other Unbounded weaker h = h
+passes-weaker test other (Before w) weaker h = weaker w h
+passes-weaker test other (After w) weaker h = weaker w h
+
+has_bound-weaker : (test other : VersionValue → Bool) (s : Span VersionValue) → ((w : VersionValue) → test w ≡ true → other w ≡ true)
+    → has_bound test s ≡ true → has_bound other s ≡ true
+has_bound-weaker test other s weaker h = grind (
+  arith,
+  or_cases (passes test s.lower) (passes test s.upper) h,
+  passes-weaker test other s.lower weaker,
+  passes-weaker test other s.upper weaker,
+)
+
+let_in_names : (s : Span VersionValue) (v : VersionValue) → lets_in s v ≡ true → is_release v ≡ false → has_bound named s ≡ true
+let_in_names s v h k = has_bound-weaker _ named s (λ w e. grind (arith, e)) (rw k at h)
+
+pub accepted_names : (ss : List (Span VersionValue)) (v : VersionValue) → accepts ss v false ≡ true → is_release v ≡ false
+    → names_identifiers ss ≡ true
+accepted_names [] v h k = absurd (false≢true h)
+accepted_names (s ∷ ss) v h k = elim (or_cases (holds precedence s v && lets_in s v) (accepts ss v false) h) [
+  | inl here ↦ rw (let_in_names s v (and_parts (holds precedence s v) (lets_in s v) here).1 k) refl
+  | inr there ↦ rw (accepted_names ss v there k, or-true (has_bound named s)) refl
+]
+
+after_names : (b : Bound VersionValue) → IsAfterPre b → passes named b ≡ true
+after_names b (v, e, k) = rw e (grind (arith, k))
+
+pub begins_names : (ss : List (Span VersionValue)) → BeginsAfterPre ss → names_identifiers ss ≡ true
+begins_names ss (i, s, within, at, h) = list_any_at (has_bound named) ss i s within (rw (at, after_names s.lower h) refl)
+
+pub ends_names : (ss : List (Span VersionValue)) → EndsAfterPre ss → names_identifiers ss ≡ true
+ends_names ss (i, s, within, at, h) = list_any_at (has_bound named) ss i s within
+    (rw (at, after_names s.upper h, or-true (passes named s.lower)) refl)
+
+built_names : (b : Bound VersionValue) → has_build b ≡ true → passes named b ≡ true
+built_names b h = passes-weaker (λ w. not (is_empty w.build)) named b (λ w e. grind (arith, e)) h
+
+-- the version of the first span that passes a test, where it has build metadata
+pub first_names : (p : Span VersionValue → Bool) (ss : List (Span VersionValue)) (s : Span VersionValue) → find p ss ≡ Some s
+    → has_build s.lower ≡ true → names_identifiers ss ≡ true
+first_names p [] s e h = absurd (grind (arith, e))
+first_names p (x ∷ ss) s e h = grind (arith, built_names s.lower h, first_names p ss s)
+
+begins_built : (b : Bound VersionValue) (x : VersionValue) → begins_with b ≡ Some x → 0 < length x.build → has_build b ≡ true
+begins_built Unbounded x e h = absurd (grind (arith, e))
+begins_built (Before w) x e h = grind (arith, e, h)
+begins_built (After w) x e h = grind (arith, e, h)
+
+pub build_names : (ss : List (Span VersionValue)) (v : VersionValue) → 0 < length (least_build ss v) → names_identifiers ss ≡ true
+build_names ss v h = of_first (find first ss) refl h
+  where
+    first : Span VersionValue → Bool
+    first s = holds precedence s v && lets_in s v
+
+    of_start : (s : Span VersionValue) → find first ss ≡ Some s → (x : Option VersionValue) → begins_with s.lower ≡ x
+        → 0 < length (build_by x v) → names_identifiers ss ≡ true
+    of_start s e None b h = absurd (omega (arith, h))
+    of_start s e (Some x) b h = first_names first ss s e (begins_built s.lower x b (grind (arith, h)))
+
+    of_first : (r : Option (Span VersionValue)) → find first ss ≡ r
+        → 0 < length (build_by (option_and_then (λ s. begins_with s.lower) r) v)
+        → names_identifiers ss ≡ true
+    of_first None e h = absurd (omega (arith, h))
+    of_first (Some s) e h = of_start s e (begins_with s.lower) refl h
+
+-- the search for a least version
+pub one_names : (ks ls : List (Span VersionValue)) → MayAllocate true (ks ∷ []) ls
+    → (names_identifiers ks ≡ true) ⊎ (names_identifiers ls ≡ true)
+one_names ks ls h = elim h [
+  | inl (c, v, w, k) ↦ inl (accepted_names ks v (grind (arith, common_steps, w)) k)
+  | inr (inl b) ↦ inl (begins_names ks (Any-one BeginsAfterPre ks b))
+  | inr (inr e) ↦ inr (ends_names ls e)
+]
+
+pub alone_names : (ks : List (Span VersionValue)) → MayAllocate true (ks ∷ []) [] → names_identifiers ks ≡ true
+alone_names ks h = elim (one_names ks [] h) [ inl k ↦ k | inr l ↦ absurd (false≢true l) ]
+
+-- a version that is accepted, with the build of its bound
+pub least_names : (ss : List (Span VersionValue)) (v : VersionValue) → accepts ss v false ≡ true → v.build ≡ least_build ss v
+    → HasIdentifiers v → names_identifiers ss ≡ true
+least_names ss v h e has = elim has [
+  | inl pre ↦ accepted_names ss v h (grind (arith, pre))
+  | inr build ↦ build_names ss v (rw e at build)
+]
+
+-- what `map(Some)` returns of an error
+pub err-map : {A E : Type 0} (P : Type 0) (r : Result A E) (part : Result (Option A) E) → OnErr r P
+    → MatchResult r (λ y. IsOkAnd part (λ p. p ≡ Some y)) (λ e. part ≡ Err e) → OnErr part P
+err-map P (Ok y) (Ok p) h k = tt
+err-map P (Ok y) (Err e) h k = absurd k
+err-map P (Err e) part h k = rw k h

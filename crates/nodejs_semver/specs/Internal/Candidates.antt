@@ -4,7 +4,8 @@ use Rattle.std.specs.Prelude.{Option, Some, None, fold, ⊤, ◌<◌, ◌^◌, �
 use Rattle.std.specs.List.{Any, flat_map, list_all}
 use Rattle.std.specs.Ordering.{is_le}
 use Rattle.semver_core.specs.Internal.Sides.{Near, Far}
-use Rattle.semver_core.specs.Cuts.{Span, Cut, Start, Beside, End, holds}
+use Rattle.semver_core.specs.Cuts.{Span, Cut, Start, Beside, End, holds, passes}
+use Rattle.semver_core.specs.Lists.{is_empty}
 use Rattle.semver_core.specs.Text.Identifiers.{Numeric}
 use Rattle.semver_core.specs.Values.Order.{precedence}
 use Rattle.semver_core.specs.Values.Versions.{VersionValue, is_release}
@@ -148,9 +149,13 @@ abbrev pub lesser : Option VersionValue → VersionValue → VersionValue
 lesser None next = next
 lesser (Some best) next = if is_le (precedence best next) then best else next
 
--- there is a version in the set, and it is copied
+-- there is a pre-release in the set, and it is copied
 abbrev pub Finds : Bool → (VersionValue → Bool) → Type 0
-Finds copies set = (copies ≡ true) × (v : VersionValue) × (set v ≡ true)
+Finds copies set = (copies ≡ true) × (v : VersionValue) × (set v ≡ true) × (is_release v ≡ false)
+
+-- the version of the bound has build metadata
+abbrev pub has_build : Bound VersionValue → Bool
+has_build = passes (λ w. not (is_empty w.build))
 
 -- the bound is `>v` of a pre-release v: the version after v is made before it is known to be in the set
 abbrev pub IsAfterPre : Bound VersionValue → Type 0

@@ -2,7 +2,9 @@
 -- least that several accept.
 use Rattle.std.specs.Prelude.{◌≡◌, ◌+◌, Bool, true, false, ◌&&◌, not, List, [], ◌∷◌, ◌++◌, if◌then◌else◌}
 use Rattle.std.specs.Prelude.{Option, Some, None, find, option_and_then}
-use Rattle.semver_core.specs.Cuts.{Span, holds}
+use Rattle.std.specs.List.{list_any}
+use Rattle.semver_core.specs.Cuts.{Span, has_bound, holds}
+use Rattle.semver_core.specs.Lists.{is_empty}
 use Rattle.semver_core.specs.Increments.Least.{IsLeast}
 use Rattle.semver_core.specs.Text.Identifiers.{Id, Numeric}
 use Rattle.semver_core.specs.Values.Order.{precedence, version_eq}
@@ -35,3 +37,7 @@ abbrev pub least_build : List (Span VersionValue) → VersionValue → List Id
 least_build ss v =
     elim (option_and_then (λ s. begins_with s.lower) (find (λ s. holds precedence s v && lets_in s v) ss))
     [ None ↦ [] | Some x ↦ if version_eq x v then x.build else [] ]
+
+-- a bound of the list names a pre-release, or a version with build metadata
+abbrev pub names_identifiers : List (Span VersionValue) → Bool
+names_identifiers ss = list_any (has_bound (λ w. not (is_release w && is_empty w.build))) ss

@@ -2,6 +2,7 @@
 
 ghost use Rattle.std.specs.Prelude.{◌++◌, ◌∷◌, ◌≡◌, if◌then◌else◌, [], All, Contains, false};
 ghost use Rattle.nodejs_semver.specs.Words.{accepts, IfNone, IfSome, is_le, is_lt, is_release};
+ghost use Rattle.nodejs_semver.specs.Ranges.Best.{IsMinOf};
 ghost use Rattle.nodejs_semver.specs.Words.{IsMax, IsMaxOf, IsMin, List, list_all, map};
 ghost use Rattle.nodejs_semver.specs.Words.{option_copied, option_map, precedence, replaces, Some};
 ghost use Rattle.nodejs_semver.specs.Words.{spans_of, true, VersionValue};
@@ -227,8 +228,10 @@ pub fn greatest<'v, V: VersionPoint, W: Versioned>(
     include: bool,
     versions: &'v [W],
 ) -> Option<&'v W>
-    ensures { IsMax (λ v. accepts (spans_of V.value intervals.now) v include)
+    ensures best { IsMax (λ v. accepts (spans_of V.value intervals.now) v include)
         (map W.value versions.now) (option_map (λ v. W.value v.now) result) }
+    ensures element { IsMaxOf W.value (λ v. accepts (spans_of V.value intervals.now) v include)
+        versions.now (option_copied result) }
 {
     let mut best = None;
     for version in versions {
@@ -247,8 +250,10 @@ pub fn least<'v, V: VersionPoint, W: Versioned>(
     include: bool,
     versions: &'v [W],
 ) -> Option<&'v W>
-    ensures { IsMin (λ v. accepts (spans_of V.value intervals.now) v include)
+    ensures best { IsMin (λ v. accepts (spans_of V.value intervals.now) v include)
         (map W.value versions.now) (option_map (λ v. W.value v.now) result) }
+    ensures element { IsMinOf W.value (λ v. accepts (spans_of V.value intervals.now) v include)
+        versions.now (option_copied result) }
 {
     let mut best = None;
     for version in versions {

@@ -63,9 +63,10 @@ impl<V: VersionPoint> RangeOf<V> {
     /// The smallest version that the range accepts by `satisfies`. Returns `None` exactly where it
     /// accepts no version at all, as `>1.0.0 <1.0.1-0`.
     ///
-    /// Fails only if allocation fails, which happens only where the range accepts a version, or
-    /// where it has a lower bound `>v` of a pre-release v: then v with one more identifier is made
-    /// before it is known to be accepted.
+    /// Fails only if allocation fails, which happens only where a bound of the range has a
+    /// pre-release or build metadata, and then only where the range accepts a version, or where it
+    /// has a lower bound `>v` of a pre-release v: then v with one more identifier is made before it
+    /// is known to be accepted.
     ///
     /// A result that comes from a lower bound has that bound's build: from `>=v` it is v itself,
     /// from `>v` the next patch where v is a release, and else v with one more identifier, the
@@ -87,6 +88,7 @@ impl<V: VersionPoint> RangeOf<V> {
         ensures memory { OnErr result (((v : VersionValue) × (accepts self.now v false ≡ true))
             ⊎ Any (λ s. (v : VersionValue) × (s.lower ≡ After v) × (is_release v ≡ false))
             self.now) }
+        ensures bare { OnErr result (stated.names_identifiers self.now ≡ true) }
     {
         if let Some(version) = self.least_start() {
             return owned(alloc, version).map(Some);
@@ -100,9 +102,10 @@ impl<V: VersionPoint> RangeOf<V> {
     /// The smallest version that this range accepts by `satisfies` and the other does not, without
     /// a build. Returns `None` exactly where the other accepts every version that this one accepts.
     ///
-    /// Fails only if allocation fails, which happens only where there is such a version, or where
-    /// this range has a lower bound `>v` of a pre-release v, or the other an upper bound `<=v` of
-    /// one: then v with one more identifier is made before it is known to be such a version.
+    /// Fails only if allocation fails, which happens only where a bound of one of them has a
+    /// pre-release or build metadata, and then only where there is such a version, or where this
+    /// range has a lower bound `>v` of a pre-release v, or the other an upper bound `<=v` of one:
+    /// then v with one more identifier is made before it is known to be such a version.
     ///
     /// It is not the smallest version of the difference of the two: `>=1.2.3-a` beyond `>=1.0.0` is
     /// 1.2.3-a, which the second range holds and does not accept.
@@ -129,6 +132,8 @@ impl<V: VersionPoint> RangeOf<V> {
             ⊎ Any (λ s. (v : VersionValue) × (s.lower ≡ After v) × (is_release v ≡ false)) self.now
             ⊎ Any (λ s. (v : VersionValue) × (s.upper ≡ After v) × (is_release v ≡ false))
             other.now) }
+        ensures bare { OnErr result ((stated.names_identifiers self.now ≡ true)
+            ⊎ (stated.names_identifiers other.now ≡ true)) }
     {
         least_among(alloc, from_ref(self), other.items())
     }

@@ -2,9 +2,10 @@
 
 ghost use Rattle.nodejs_semver.specs.Internal.Candidates as spec;
 ghost use Rattle.nodejs_semver.specs.Ranges.Least as stated;
-ghost use Rattle.std.specs.Prelude.{◌&&◌, ◌-◌, ◌<◌, ◌^◌, ◌≡◌, [], All, find};
+ghost use Rattle.semver_core.specs.Values.Versions.{HasIdentifiers};
+ghost use Rattle.std.specs.Prelude.{◌&&◌, ◌-◌, ◌<◌, ◌^◌, ◌≡◌, ◌⊎◌, [], All, false, find, true};
 ghost use Rattle.nodejs_semver.specs.Words.{After, bound_of, build_by, holds, ids_view, IfOk};
-ghost use Rattle.nodejs_semver.specs.Words.{IfSome, lets_in};
+ghost use Rattle.nodejs_semver.specs.Words.{IfSome, is_release, length, lets_in, OnErr};
 ghost use Rattle.nodejs_semver.specs.Words.{option_map, precedence, Some, span_of, spans_of};
 
 use crate::Allocated;
@@ -63,7 +64,8 @@ fn following<V: Versioned>(alloc: Global, version: &V) -> Allocated<Version>
 
 // The version without its build.
 pub(crate) fn bare<V: Versioned>(alloc: Global, version: &V) -> Allocated<Version>
-    ensures { IfOk result (λ v. v ≡ spec.bare (V.value version.now)) }
+    ensures value { IfOk result (λ v. v ≡ spec.bare (V.value version.now)) }
+    ensures memory { OnErr result (is_release (V.value version.now) ≡ false) }
 {
     if version.is_release() {
         return bare_release(version).to_version(alloc);
@@ -78,7 +80,8 @@ pub(crate) fn bare<V: Versioned>(alloc: Global, version: &V) -> Allocated<Versio
 
 // The whole version.
 pub(crate) fn owned<V: Versioned>(alloc: Global, version: &V) -> Allocated<Version>
-    ensures { IfOk result (λ v. v ≡ V.value version.now) }
+    ensures value { IfOk result (λ v. v ≡ V.value version.now) }
+    ensures memory { OnErr result (HasIdentifiers (V.value version.now)) }
 {
     let pre_release = version.pre_release().to_list(alloc)?;
     let build = version.build().to_list(alloc)?;
@@ -88,7 +91,8 @@ pub(crate) fn owned<V: Versioned>(alloc: Global, version: &V) -> Allocated<Versi
 // A version that has no build, with this one.
 fn with_build(alloc: Global, version: Version, build: IdentifierRefs<'_>) -> Allocated<Version>
     requires { version.build ≡ [] }
-    ensures { IfOk result (λ v. v ≡ record version { build = build.entry }) }
+    ensures value { IfOk result (λ v. v ≡ record version { build = build.entry }) }
+    ensures memory { OnErr result (0 < length build.entry) }
 {
     if build.is_empty() {
         return Ok(version);
@@ -106,10 +110,12 @@ fn with_lists<V: Versioned>(
     pre_release: Vec<Identifier>,
     build: Vec<Identifier>,
 ) -> Allocated<Version>
-    ensures { IfOk result (λ v. v ≡ record (V.value version.now) {
+    ensures value { IfOk result (λ v. v ≡ record (V.value version.now) {
       pre_release = ids_view pre_release.items;
       build = ids_view build.items;
     }) }
+    ensures memory { OnErr result
+        ((0 < length pre_release.items) ⊎ (0 < length build.items)) }
 {
     let (major, minor, patch) = (version.major(), version.minor(), version.patch());
     match Version::new(alloc, major, minor, patch, pre_release, build) {
@@ -126,9 +132,10 @@ fn with_build_by<V: Versioned>(
 ) -> Allocated<Version>
     requires raisable { spec.Raisable (bound_of V.value bound.now) }
     requires bare { version.build ≡ [] }
-    ensures { IfOk result (λ v. v ≡ record version {
+    ensures value { IfOk result (λ v. v ≡ record version {
       build = build_by (stated.begins_with (bound_of V.value bound.now)) version;
     }) }
+    ensures memory { OnErr result (spec.has_build (bound_of V.value bound.now) ≡ true) }
 {
     match bound {
         Bound::Before(first) if first.cmp_precedence(&version).is_eq() => {
@@ -166,9 +173,11 @@ pub(crate) fn with_least_build<V: VersionPoint>(
 ) -> Allocated<Version>
     requires raisable { All spec.IsRaisable (spans_of V.value intervals.now) }
     requires bare { version.build ≡ [] }
-    ensures { IfOk result (λ v. v ≡ record version {
+    ensures value { IfOk result (λ v. v ≡ record version {
       build = stated.least_build (spans_of V.value intervals.now) version;
     }) }
+    ensures memory { OnErr result
+        (stated.names_identifiers (spans_of V.value intervals.now) ≡ true) }
 {
     match first_accepting(intervals, &version) {
         Some(interval) => with_build_by(alloc, version, interval.lower()),

@@ -3,13 +3,14 @@
 ghost use Rattle.nodejs_semver.specs.{Ranges.Gate.accepts, Text.Meaning.Means};
 ghost use Rattle.npm_reading.specs.Alike.{IsPlainText};
 ghost use Rattle.npm_words.specs.{Alternatives.HasAlternativesIn, Table.Comparison};
-ghost use Rattle.semver_core.specs.{Cuts.Span, Failures.{NoValue, RefusedOnlyIf}};
+ghost use Rattle.semver_core.specs.{Cuts.Span, Failures.{MemoryOnlyIf, NoValue, RefusedOnlyIf}};
+ghost use Rattle.semver_core.specs.Text.Bars.{IsCutAtBars};
 ghost use Rattle.semver_core.specs.{Printing.RoundTrip.is_within, Values.Versions.VersionValue};
 ghost use Rattle.{semver_core.specs.declared.TheConstants.MAX_SAFE_INTEGER, std.specs.Prelude.IfOk};
 ghost use Rattle.std.specs.{Prelude.{List, [], false, length, true, ℕ, ◌<◌, ◌≡◌, ◌⊎◌}, Str.IsUtf8};
 ghost use Rattle.npm_words.specs.Alternatives as Npm;
 
-use nodejs_semver::Range;
+use nodejs_semver::RangeRef;
 use npm_words::Reading;
 use semver_core::{Failure, SemverError, Version};
 use std::alloc::Global;
@@ -40,7 +41,7 @@ pub fn npm_reads_alike()
         → accepts list v false ≡ Npm.accepts false alternatives v }
 {}
 
-/// Whether the range that `Range::parse` reads in the text satisfies the version, and whether the
+/// Whether the range that `RangeRef::parse` reads in the text satisfies the version, and whether the
 /// one that `npm_reading::range` reads does.
 ///
 /// - `here`: the first says whether the intervals that the text means accept the version.
@@ -64,8 +65,13 @@ pub fn satisfied_alike(
     // The one other error is a failed allocation. Of a text that is read alike, neither holds.
     ensures refused { RefusedOnlyIf result (Means MAX_SAFE_INTEGER text.now []
         ⊎ NoValue (HasAlternativesIn false MAX_SAFE_INTEGER false text.now)) }
+    // Allocation fails only if the text means two intervals or more, or has two alternatives.
+    ensures memory { MemoryOnlyIf result
+        (((list : List (Span VersionValue)) → Means MAX_SAFE_INTEGER text.now list
+        → 1 < length list)
+        ⊎ ((pieces : List (List ℕ)) → IsCutAtBars text.now pieces → 1 < length pieces)) }
 {
-    let here = Range::parse(alloc, text)?;
+    let here = RangeRef::parse(alloc, text)?;
     let strict = Reading {
         loose: false,
         include_prerelease: false,

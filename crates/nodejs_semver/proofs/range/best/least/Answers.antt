@@ -11,5 +11,10 @@ loop-version-preserved g c = min_further g.W.Versioned.value (λ v. accepts (spa
     ]) c.is_new_min.ensures c.loop-version.invariant
 
 pub returns : goal.returns
-returns g c = min_version g.W.Versioned.value (λ v. accepts (spans_of g.V.Versioned.value c.args.intervals.now) v c.args.include)
-    c.args.versions.now _ (rw (take_all _ c.args.versions.now c.loop-version-test.false) at c.loop-version.invariant)
+returns g c =
+    let element = rw (take_all _ c.args.versions.now c.loop-version-test.false) at c.loop-version.invariant in
+    record {
+      best = min_version g.W.Versioned.value (λ v. accepts (spans_of g.V.Versioned.value c.args.intervals.now) v c.args.include)
+          c.args.versions.now _ element;
+      element = element;
+    }

@@ -10,5 +10,5 @@ returns-else-not-is_reached-clause-best g c =
 pub returns-in_err-bare-clause-memory : goal.returns-in_err-bare-clause-memory
 returns-in_err-bare-clause-memory g c =
     let found : Finds (g.S.Search.copies c.args.search.now) (g.S.Search.wanted c.args.search.now) =
-    (sym c.copies.ensures ∙ c.if-copies.true, bare (g.C.Versioned.value c.args.version.now), grind arith) in
+    (sym c.copies.ensures ∙ c.if-copies.true, bare (g.C.Versioned.value c.args.version.now), grind arith, c.in_err-bare.ensures.memory) in
     on_err _ found
