@@ -10,7 +10,7 @@ pub use Rattle.nodejs_semver.specs.Internal.Denotes.{denotes, part_bounds, part_
 pub use Rattle.semver_core.specs.Internal.Fronts.{front_view, number_of}
 pub use Rattle.nodejs_semver.specs.Internal.Fronts.{partial_front}
 pub use Rattle.nodejs_semver.specs.Internal.Hashes.{range_writes}
-pub use Rattle.nodejs_semver.specs.Internal.Ignored.{ignored_behind, kind_at, kind_view, left_list, left_size}
+pub use Rattle.nodejs_semver.specs.Internal.Ignored.{ignored_behind, left_list, left_size}
 pub use Rattle.nodejs_semver.specs.Internal.Ignored.{option_list, read_at, word_view}
 pub use Rattle.nodejs_semver.specs.Internal.Meets.{joined_from, next_at}
 pub use Rattle.semver_core.specs.Internal.Parts.{later_parts, cut_bars, parts}
