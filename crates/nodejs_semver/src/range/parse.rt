@@ -120,29 +120,6 @@ impl<'a> RangeRef<'a> {
         read_text(text, &mut intervals)?;
         Ok(RangeOf { intervals })
     }
-
-    // `RangeReader::read_field` in place of this range. Where there is an error, the range has one
-    // interval without bounds.
-    #[inline(always)]
-    #[tactic(auto, using(crate::proofs::Values::spans_same))]
-    fn read_field(&mut self, text: &'a str) -> (Result<(), Failure<SemverError>>, usize)
-        ensures place { result.1 ≤ length text.now }
-        ensures plain { list_any (λ b. b == 59 || b == 10) (take result.1 text.now) ≡ false }
-        ensures ends { ends_field (drop result.1 text.now) ≡ true }
-        ensures ok { OnOk result.0 (Means MAX_SAFE_INTEGER (take result.1 text.now) self.new) }
-        ensures some { 0 < length self.new }
-        ensures refused { RefusedOnlyIf result.0
-            (Means MAX_SAFE_INTEGER (take result.1 text.now) []) }
-        ensures memory { MemoryOnlyIf result.0 ((r : List (Span VersionValue)) →
-            Means MAX_SAFE_INTEGER (take result.1 text.now) r → 1 < length r) }
-    {
-        if let Some(end) = read_parts::<InLines>(text.as_bytes(), &mut self.intervals) {
-            if ends_field(text.as_bytes(), end) {
-                return (Ok(()), end);
-            }
-        }
-        read_whole_field(text, &mut self.intervals)
-    }
 }
 
 /// Memory that the ranges of fields are read into, one after another: it is kept from one range to
@@ -187,9 +164,17 @@ impl<'a> RangeReader<'a> {
         ensures memory { MemoryOnlyIf result.0 ((r : List (Span VersionValue)) →
             Means MAX_SAFE_INTEGER (take result.1 text.now) r → 1 < length r) }
     {
-        match self.range.read_field(text) {
-            (Ok(()), end) => (Ok(&self.range), end),
-            (Err(error), end) => (Err(error), end),
+        let bytes = text.as_bytes();
+        if let Some(end) = read_parts::<InLines>(bytes, &mut self.range.intervals) {
+            if matches!(&bytes[end..], [] | [b';' | b'\n', ..]) {
+                return (Ok(&self.range), end);
+            }
+        }
+        let (read, end) = read_whole_field(text, &mut self.range.intervals);
+        let range = &self.range;
+        match read {
+            Ok(()) => (Ok(range), end),
+            Err(error) => (Err(error), end),
         }
     }
 }
@@ -230,15 +215,6 @@ fn read_text<'a>(
     }
 }
 
-// Whether a field ends at a place.
-#[inline(always)]
-fn ends_field(text: &[u8], end: usize) -> bool
-    requires { end ≤ length text.now }
-    ensures { result ≡ ends_field (drop end text.now) }
-{
-    matches!(&text[end..], [] | [b';' | b'\n', ..])
-}
-
 // Where a field ends, and whether bars may stand in it. One search finds both for most fields.
 #[inline(always)]
 fn field_end(text: &[u8]) -> (usize, bool)
@@ -254,7 +230,8 @@ fn field_end(text: &[u8]) -> (usize, bool)
     (memchr2(b';', b'\n', text).unwrap_or(text.len()), true)
 }
 
-// `RangeReader::read_field` where the end of the field is looked for first.
+// `RangeReader::read_field` in place of what the list holds, where the end of the field is looked
+// for first. Where there is an error, the list has one interval without bounds.
 #[cold]
 #[inline(never)]
 fn read_whole_field<'a>(
