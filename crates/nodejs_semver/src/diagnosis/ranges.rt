@@ -1,8 +1,8 @@
 // The words of a range text that mean nothing.
 
 ghost use Rattle.std.specs.Prelude.{◌++◌, ◌+◌, ◌-◌, ◌<◌, ◌↔◌, ◌≡◌, ◌≤◌};
-ghost use Rattle.nodejs_semver.specs.Words.{[], AreIgnored, if_ignored, ignored_behind, length};
-ghost use Rattle.nodejs_semver.specs.Words.{IsWhollyBounded, item_count, left_list, left_size};
+ghost use Rattle.nodejs_semver.specs.Words.{[], AreIgnored, ignored_behind, IsWhollyBounded};
+ghost use Rattle.nodejs_semver.specs.Words.{item_count, left_list, left_size, length};
 ghost use Rattle.nodejs_semver.specs.Words.{MAX_SAFE_INTEGER, option_list, Some, YieldsFirst};
 
 use crate::diagnosis::unread::Unread;

@@ -117,7 +117,10 @@ impl<'a> RangeRef<'a> {
             IsTrue (accepts range v true) ↔ Writes MAX_SAFE_INTEGER text.now v) }
     {
         let mut intervals = SmallVec::new(alloc);
-        read_text(text, &mut intervals)?;
+        let end = read_parts::<Alone>(text.as_bytes(), &mut intervals);
+        if end != Some(text.len()) {
+            read_loose(text, true, &mut intervals)?;
+        }
         Ok(RangeOf { intervals })
     }
 }
@@ -197,24 +200,6 @@ fn read_parts<'a, P: Place>(text: &'a [u8], found: &mut Intervals<VersionRef<'a>
     }
 }
 
-// Reads the intervals of a text, one or more, in place of what the list holds.
-#[inline(always)]
-fn read_text<'a>(
-    text: &'a str,
-    found: &mut Intervals<VersionRef<'a>>,
-) -> Result<(), Failure<SemverError>>
-    ensures ok { OnOk result (Means MAX_SAFE_INTEGER text.now found.new.items) }
-    ensures range { OnOk result (IsRange MAX_SAFE_INTEGER found.new.items) }
-    ensures refused { RefusedOnlyIf result (Means MAX_SAFE_INTEGER text.now []) }
-    ensures memory { MemoryOnlyIf result ((r : List (Span VersionValue)) →
-        Means MAX_SAFE_INTEGER text.now r → 1 < length r) }
-{
-    match read_parts::<Alone>(text.as_bytes(), found) {
-        Some(end) if end == text.len() => Ok(()),
-        _ => read_loose(text, true, found),
-    }
-}
-
 // Where a field ends, and whether bars may stand in it. One search finds both for most fields.
 #[inline(always)]
 fn field_end(text: &[u8]) -> (usize, bool)
@@ -258,7 +243,8 @@ fn read_whole_field<'a>(
     (read, end)
 }
 
-// `read_text` where the text may have any form, but bars only where it is `barred`.
+// Reads the intervals of a text of any form, one or more, in place of what the list holds. It has
+// bars only where it is `barred`.
 #[inline(always)]
 fn read_loose<'a>(
     text: &'a str,

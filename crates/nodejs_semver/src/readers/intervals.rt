@@ -3,13 +3,11 @@
 ghost use Rattle.std.specs.Prelude.{◌++◌, ◌<◌, ◌∷◌, ◌≡◌, IfOk, length, List};
 ghost use Rattle.nodejs_semver.specs.Words.{bounds_view, interval, is_interval};
 ghost use Rattle.nodejs_semver.specs.Words.{joined_from, MAX_SAFE_INTEGER, next_at, next_view};
-ghost use Rattle.nodejs_semver.specs.Words.{OnErr, OnOk, part_bounds, part_intervals, partial_view};
-ghost use Rattle.nodejs_semver.specs.Words.{precedence, read_at, sign_view, signed_word, space_len};
-ghost use Rattle.nodejs_semver.specs.Words.{Span, table, true, VersionValue, word_view};
+ghost use Rattle.nodejs_semver.specs.Words.{OnErr, OnOk, part_bounds, part_intervals, precedence};
+ghost use Rattle.nodejs_semver.specs.Words.{read_at, space_len, Span, true, VersionValue, word_view};
 
 use crate::Allocated;
 use crate::diagnosis::IgnoredKind;
-use crate::readers::syntax::{Partial, Sign};
 use crate::readers::{partial, table, words};
 use semver_core::VersionRef;
 use semver_core::cuts::Interval;
