@@ -25,24 +25,6 @@ fn version_of<'a>(partial: &Partial<'a>) -> VersionRef<'a>
     )
 }
 
-// `=1.2.3`
-#[inline(always)]
-#[tactic(auto, unfolding(crate::specs::Text::Table::table))]
-fn equal<'a>(partial: &Partial<'a>) -> Option<Bounds<'a>>
-    ensures { table_view result
-        ≡ table MAX_SAFE_INTEGER (Words.compare Words.equal (partial_view partial.now)) }
-{
-    match (partial.major, partial.minor, partial.patch) {
-        (Some(_), Some(_), Some(_)) => {
-            let unbuilt = version_of(partial).without_build();
-            Some(Bounds::through(unbuilt.copy(), unbuilt))
-        }
-        (Some(major), Some(minor), None) => Some(Bounds::whole_minor(major, minor)),
-        (Some(major), None, _) => Some(Bounds::whole_major(major)),
-        (None, _, _) => None,
-    }
-}
-
 /// `1.2.3`
 #[inline(always)]
 #[tactic(auto, unfolding(crate::specs::Text::Table::table))]
@@ -136,7 +118,13 @@ pub(crate) fn compare<'a>(comparator: Comparator, partial: &Partial<'a>) -> Opti
             (Some(major), None, None) => Some(Bounds::at_least(release(major + 1, 0, 0))),
             _ => Some(Bounds::above(version_of(partial))),
         },
-        Comparator::Equal => equal(partial),
+        // As the partial alone, where it has a number, and without the build.
+        Comparator::Equal => {
+            partial.major?;
+            let mut unbuilt = *partial;
+            unbuilt.build = b"";
+            plain(&unbuilt)
+        }
         Comparator::AtMost => {
             let major = partial.major.unwrap_or(0);
             match (partial.minor, partial.patch) {
