@@ -91,6 +91,7 @@ impl<'a> Iterator for IgnoredWords<'a> {
 
     ghost remaining = { item_count (λ words. words) };
 
+    #[tactic(auto, using(crate::proofs::Diagnosing::IgnoredParts::part_over))]
     fn next(&mut self) -> Option<IgnoredWord> {
         'words: loop {
             if self.left.part.is_empty() {
