@@ -4,7 +4,8 @@ ghost use Rattle.std.specs.Prelude.{◌++◌, ◌<◌, ◌∷◌, ◌≡◌, IfO
 ghost use Rattle.nodejs_semver.specs.Words.{bounds_view, interval, is_interval};
 ghost use Rattle.nodejs_semver.specs.Words.{joined_from, MAX_SAFE_INTEGER, next_at, next_view};
 ghost use Rattle.nodejs_semver.specs.Words.{OnErr, OnOk, part_bounds, part_intervals, precedence};
-ghost use Rattle.nodejs_semver.specs.Words.{read_at, space_len, Span, true, VersionValue, word_view};
+ghost use Rattle.nodejs_semver.specs.Words.{read_at, space_len, Span, true, VersionValue};
+ghost use Rattle.nodejs_semver.specs.Words.{word_view};
 
 use crate::Allocated;
 use crate::diagnosis::IgnoredKind;
